@@ -1,0 +1,35 @@
+//! What holds of every spelling, whatever reads it.
+
+ghost use Rattle.std.specs.Prelude.{◌≡◌, ℕ, List, ◌++◌, length};
+ghost use Rattle.amqp_frame.specs.declared.frame.Frame.{Frame};
+ghost use Rattle.amqp_frame.specs.declared.frame.Read.TheVariants as read;
+ghost use Rattle.amqp_frame.specs.Frames.{FrameOf, encoding, Writable};
+ghost use Rattle.amqp_types.specs.Forms.{IsOctets};
+ghost use Rattle.amqp_frame.specs.declared.frame.Read.{Read};
+ghost use Rattle.amqp_frame.specs.Fronts.{IsWithin, IsFront};
+ghost use Rattle.amqp_frame.specs.FrameReading.{front};
+
+/// Each spelling of a frame is read as that frame, whatever follows it.
+pub fn spelled_is_read()
+    ensures { (frame : Frame) (text rest : List ℕ) (limit : ℕ) → FrameOf frame text → IsWithin limit (length text) frame
+        → front (text ++ rest) limit ≡ read.Whole frame (length text) }
+{}
+
+/// What is written is read again, whatever follows it.
+pub fn written_is_read()
+    ensures { (frame : Frame) (rest : List ℕ) (limit : ℕ) → Writable frame → IsWithin limit (length (encoding frame)) frame
+        → front (encoding frame ++ rest) limit ≡ read.Whole frame (length (encoding frame)) }
+{}
+
+/// No octets spell two frames, and no spelling of a frame begins another.
+pub fn one_frame()
+    ensures { (first second : Frame) (a b x y : List ℕ) → FrameOf first a → FrameOf second b → a ++ x ≡ b ++ y
+        → (first ≡ second) × (a ≡ b) }
+{}
+
+/// Exactly one answer holds at the front of octets, and `front` is it.
+pub fn exactly_one_answer()
+    ensures holds { (bytes : List ℕ) (limit : ℕ) → IsOctets bytes → IsFront bytes limit (front bytes limit) }
+    ensures only { (bytes : List ℕ) (limit : ℕ) (answer : Read) → IsOctets bytes → IsFront bytes limit answer
+        → front bytes limit ≡ answer }
+{}
