@@ -9,8 +9,8 @@ use Rattle.amqp_types.specs.Value.{Pair}
 use Rattle.amqp_types.specs.Reading.{Reader, ◌>>=◌, octet_at, octets_at, number_at, short_string_at, long_string_at, table_at, ◌⊗◌, read_map}
 use Rattle.amqp_types.proofs.Readers.{IsReader, FirstOf, IsOctets-rest, some_is, bind_some, octet_reader, octets_reader, number16_reader, number32_reader, then_again, then_takes, joined, both_reader, map_again, map_takes, short_string_reader, long_string_reader}
 use Rattle.amqp_types.proofs.FieldReaders.{table_at_reader}
-use Rattle.amqp_frame.specs.declared.frame.Method.{Method}
-use Rattle.amqp_frame.specs.declared.frame.Method.TheVariants as m
+use Rattle.amqp_frame.specs.declared.method.Method.{Method}
+use Rattle.amqp_frame.specs.declared.method.Method.TheVariants as m
 use Rattle.amqp_frame.specs.Methods.{class_of, number_of, AnyShortString, AnyLongString, AnyOctet, BitOf, ArgumentsOf, MethodOf}
 use Rattle.amqp_frame.specs.FrameReading.{start_at, start_ok_at, numbers_at, tune_at, tune_ok_at, open_at, reasons_at, close_at, channel_close_at, update_secret_at, done_at, connection_at, channel_at, exactly}
 

@@ -12,8 +12,8 @@ use Rattle.amqp_frame.specs.declared.frame.Frame.{Frame}
 use Rattle.amqp_frame.specs.declared.frame.Frame.TheVariants as f
 use Rattle.amqp_frame.specs.declared.frame.Read.{Read}
 use Rattle.amqp_frame.specs.declared.frame.Read.TheVariants.{Whole, More, TooLarge, BadHeartbeat, Bad, NoMemory}
-use Rattle.amqp_frame.specs.Frames.{Framed, FrameOf}
-use Rattle.amqp_frame.specs.Fronts.{IsTypeOctet, Anything, Names, IsWithin, IsWhole, IsBadHeartbeat, IsTooLarge, BeginsHeader, IsShort, IsUnfinished, IsMore, IsBad, IsFront}
+use Rattle.amqp_frame.specs.Frames.{Anything, Framed, FrameOf}
+use Rattle.amqp_frame.specs.Fronts.{IsTypeOctet, Names, IsWithin, IsWhole, IsBadHeartbeat, IsTooLarge, BeginsHeader, IsShort, IsUnfinished, IsMore, IsBad, IsFront}
 use Rattle.amqp_frame.specs.FrameReading.{content, ended, sized, framed, expect, version, header, is_type_octet, front}
 use Rattle.amqp_frame.proofs.FrontLaws.{front_again, framed_again, within_all, not_eqb}
 use Rattle.amqp_frame.proofs.MethodTakes.{Makes, content_makes}

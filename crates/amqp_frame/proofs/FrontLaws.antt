@@ -7,8 +7,8 @@ use Rattle.std.specs.Int.{w16, w32, to_be_bytes}
 use Rattle.amqp_types.specs.Forms.{Form, IsOctets, Nothing, ◌▸◌, OctetOf, NumberOf, OctetsOf, ShortStringOf, LongStringOf}
 use Rattle.amqp_types.specs.Reading.{Reader, ◌>>=◌, octet_at, octets_at, number_at, ◌⊗◌, read_map}
 use Rattle.amqp_types.proofs.Readers.{IsReader, octet_reader, octets_reader, number16_reader, number32_reader, both_reader}
-use Rattle.amqp_frame.specs.declared.frame.Method.{Method}
-use Rattle.amqp_frame.specs.declared.frame.Method.TheVariants as m
+use Rattle.amqp_frame.specs.declared.method.Method.{Method}
+use Rattle.amqp_frame.specs.declared.method.Method.TheVariants as m
 use Rattle.amqp_frame.specs.declared.frame.Frame.{Frame}
 use Rattle.amqp_frame.specs.declared.frame.Frame.TheVariants as f
 use Rattle.amqp_frame.specs.declared.frame.RawKind.{RawKind}

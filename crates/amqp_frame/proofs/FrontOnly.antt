@@ -12,8 +12,8 @@ use Rattle.amqp_frame.specs.declared.frame.Frame.{Frame}
 use Rattle.amqp_frame.specs.declared.frame.Frame.TheVariants as f
 use Rattle.amqp_frame.specs.declared.frame.Read.{Read}
 use Rattle.amqp_frame.specs.declared.frame.Read.TheVariants.{Whole, More, TooLarge, BadHeartbeat, Bad, NoMemory}
-use Rattle.amqp_frame.specs.Frames.{FrameOf}
-use Rattle.amqp_frame.specs.Fronts.{IsTypeOctet, Anything, Names, IsWithin, IsWhole, IsBadHeartbeat, IsTooLarge, BeginsHeader, IsShort, IsUnfinished, IsMore, IsBad, IsFront}
+use Rattle.amqp_frame.specs.Frames.{Anything, FrameOf}
+use Rattle.amqp_frame.specs.Fronts.{IsTypeOctet, Names, IsWithin, IsWhole, IsBadHeartbeat, IsTooLarge, BeginsHeader, IsShort, IsUnfinished, IsMore, IsBad, IsFront}
 use Rattle.amqp_frame.specs.FrameReading.{content, ended, sized, framed, expect, version, header, front, Answers}
 use Rattle.amqp_frame.proofs.FrontLaws.{front_again, framed_again, framed_is, not_eqb}
 use Rattle.amqp_frame.proofs.FrontExact.{then_octet, with_number, then_number, Sound, front_sound}

@@ -8,8 +8,8 @@ use Rattle.amqp_types.specs.Forms.{Form, IsOctets, Nothing, ◌▸◌, OctetOf, 
 use Rattle.amqp_types.specs.Spelling.{SpellsTable}
 use Rattle.amqp_types.specs.Reading.{Reader, ◌>>=◌, octet_at, number_at, short_string_at, long_string_at, table_at, ◌⊗◌, read_map}
 use Rattle.amqp_types.proofs.Readers.{IsReader, FirstOf, IsOctets-rest, some_is, bind_some, octet_reader, number16_reader, then_takes, joined, map_takes, short_string_reader, long_string_reader}
-use Rattle.amqp_frame.specs.declared.frame.Method.{Method}
-use Rattle.amqp_frame.specs.declared.frame.Method.TheVariants as m
+use Rattle.amqp_frame.specs.declared.method.Method.{Method}
+use Rattle.amqp_frame.specs.declared.method.Method.TheVariants as m
 use Rattle.amqp_frame.specs.declared.frame.Frame.{Frame}
 use Rattle.amqp_frame.specs.declared.frame.Frame.TheVariants as f
 use Rattle.amqp_frame.specs.declared.frame.RawKind.TheVariants.{RawMethod, Header, Body}

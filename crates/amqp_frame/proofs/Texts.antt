@@ -2,7 +2,7 @@
 use Rattle.std.proofs.Common.{◌≡◌, ℕ, zero, suc, ◌+◌, ◌^◌, ◌<◌, ◌≤◌, min, List, [], ◌∷◌, ◌++◌, length, map, drop, get_or, refl, sym, ap, ap₂, subst, ◌∙◌, append_assoc, arith}
 use Rattle.std.proofs.lemmas.List.{length-append, drop_all, drop_more, length-map}
 use Rattle.std.specs.Int.{w16, w32, to_be_bytes}
-use Rattle.amqp_frame.specs.declared.frame.Method.{Method}
+use Rattle.amqp_frame.specs.declared.method.Method.{Method}
 use Rattle.amqp_frame.specs.Methods.{class_of, number_of, spell_arguments, spell_method}
 use Rattle.amqp_frame.specs.Frames.{spell_framed}
 use Rattle.amqp_types.specs.Value.{FieldValue, Pair, array, table, values_from, pairs_from}
@@ -83,13 +83,14 @@ four_texts r0 r1 r2 r3 r4 a b c d p q r s = s ∙ ap (λ (t : List ℕ). t ++ d)
 
 -- how long a frame is, by its payload
 pub length-spell_framed : (type channel : ℕ) (payload : List ℕ) → length (spell_framed type channel payload) ≡ length payload + 8
-length-spell_framed type channel payload = omega (arith, length-append (to_be_bytes w16 channel) (spell_long_string payload ++ 206 ∷ []), length-append (spell_long_string payload) (206 ∷ []), length-append (to_be_bytes w32 (length payload)) payload)
+length-spell_framed type channel payload = omega (arith, length-append (to_be_bytes w16 channel ++ to_be_bytes w32 (length payload)) (payload ++ 206 ∷ []), length-append (to_be_bytes w16 channel) (to_be_bytes w32 (length payload)), length-append payload (206 ∷ []))
 
 pub length-spell_method : (m : Method) → length (spell_method m) ≡ length (spell_arguments m) + 4
 length-spell_method m = omega (arith, length-append (to_be_bytes w16 (class_of m)) (to_be_bytes w16 (number_of m) ++ spell_arguments m), length-append (to_be_bytes w16 (number_of m)) (spell_arguments m))
 
 pub ruleset frame_lengths = (length-spell_framed, length-spell_method)
 
-pub seven_texts : (r0 r1 r2 r3 r4 r5 r6 r7 a b c d e f g : List ℕ) → r1 ≡ r0 ++ a → r2 ≡ r1 ++ b → r3 ≡ r2 ++ c → r4 ≡ r3 ++ d → r5 ≡ r4 ++ e → r6 ≡ r5 ++ f → r7 ≡ r6 ++ g → r7 ≡ r0 ++ (a ++ (b ++ ((c ++ (d ++ (e ++ f))) ++ g)))
-seven_texts r0 r1 r2 r3 r4 r5 r6 r7 a b c d e f g p1 p2 p3 p4 p5 p6 p7 =
-    p7 ∙ ap (λ (t : List ℕ). t ++ g) (p6 ∙ ap (λ (t : List ℕ). t ++ f) (p5 ∙ ap (λ (t : List ℕ). t ++ e) (p4 ∙ ap (λ (t : List ℕ). t ++ d) (p3 ∙ ap (λ (t : List ℕ). t ++ c) (p2 ∙ ap (λ (t : List ℕ). t ++ b) p1))))) ∙ simp append_assoc
+-- a header, a class, a method, arguments and an end
+pub five_texts : (r0 r1 r2 r3 r4 r5 a b c d e : List ℕ) → r1 ≡ r0 ++ a → r2 ≡ r1 ++ b → r3 ≡ r2 ++ c → r4 ≡ r3 ++ d → r5 ≡ r4 ++ e → r5 ≡ r0 ++ (a ++ ((b ++ (c ++ d)) ++ e))
+five_texts r0 r1 r2 r3 r4 r5 a b c d e p1 p2 p3 p4 p5 =
+    p5 ∙ ap (λ (t : List ℕ). t ++ e) (p4 ∙ ap (λ (t : List ℕ). t ++ d) (p3 ∙ ap (λ (t : List ℕ). t ++ c) (p2 ∙ ap (λ (t : List ℕ). t ++ b) p1))) ∙ simp append_assoc

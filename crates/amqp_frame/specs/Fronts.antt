@@ -1,5 +1,5 @@
--- What stands at the front of octets, given the greatest length that a frame may have: exactly one of five answers.
-use Rattle.std.specs.Prelude.{◌≡◌, ◌≢◌, ◌⊎◌, ℕ, ◌+◌, ◌<◌, ◌≤◌, List, [], ◌∷◌, ◌++◌, length, ⊤}
+-- What stands at the front of octets (AMQP 0-9-1, 4.2.3), given the limit, the greatest length that a frame may have: exactly one of five answers.
+use Rattle.std.specs.Prelude.{◌≡◌, ◌≢◌, ◌⊎◌, ℕ, ◌+◌, ◌<◌, ◌≤◌, List, [], ◌∷◌, ◌++◌, length}
 use Rattle.std.specs.Int.{w16, w32, to_be_bytes}
 use Rattle.amqp_types.specs.Forms.{Form, ◌▸◌, OctetOf, NumberOf}
 use Rattle.amqp_types.specs.declared.version.ProtocolVersion.{ProtocolVersion}
@@ -7,32 +7,32 @@ use Rattle.amqp_frame.specs.declared.frame.Frame.{Frame}
 use Rattle.amqp_frame.specs.declared.frame.Frame.TheVariants.{ProtocolHeader, Method, Raw, Heartbeat}
 use Rattle.amqp_frame.specs.declared.frame.Read.{Read}
 use Rattle.amqp_frame.specs.declared.frame.Read.TheVariants.{Whole, More, TooLarge, BadHeartbeat, Bad, NoMemory}
-use Rattle.amqp_frame.specs.Frames.{FrameOf}
+use Rattle.amqp_frame.specs.Frames.{Anything, FrameOf}
 
--- method, header, body, heartbeat
+-- a method, a content header, a content body, or a heartbeat
 abbrev pub IsTypeOctet : ℕ → Type 0
 IsTypeOctet n = (n ≡ 1) ⊎ ((n ≡ 2) ⊎ ((n ≡ 3) ⊎ (n ≡ 8)))
 
-abbrev pub Anything : Form
-Anything rest = ⊤
-
--- the octets begin as a frame of a type does that has a size
+-- the octets begin with a type, a channel and a size
 abbrev pub Names : ℕ → ℕ → Form
 Names type size = OctetOf type ▸ (λ channel. length channel ≡ 2) ▸ NumberOf w32 size ▸ Anything
 
+-- a protocol header is not held to the limit
 abbrev pub IsWithin : ℕ → ℕ → Frame → Type 0
 IsWithin limit n (ProtocolHeader v) = Unit {0}
 IsWithin limit n (Method channel m) = n ≤ limit
 IsWithin limit n (Raw channel kind payload) = n ≤ limit
 IsWithin limit n Heartbeat = n ≤ limit
 
+-- the first n octets spell the frame
 abbrev pub IsWhole : List ℕ → ℕ → Frame → ℕ → Type 0
 IsWhole bytes limit f n = (text : List ℕ) × (rest : List ℕ) × (bytes ≡ text ++ rest) × (length text ≡ n) × FrameOf f text × IsWithin limit n f
 
--- a heartbeat on a channel of its own
+-- a heartbeat on another channel than 0
 abbrev pub IsBadHeartbeat : List ℕ → ℕ → ℕ → Type 0
 IsBadHeartbeat bytes limit channel = (OctetOf 8 ▸ NumberOf w16 channel ▸ NumberOf w32 0 ▸ OctetOf 206 ▸ Anything) bytes × (channel ≢ 0) × (8 ≤ limit)
 
+-- the size is that of a frame above the limit
 abbrev pub IsTooLarge : List ℕ → ℕ → ℕ → Type 0
 IsTooLarge bytes limit size = (type : ℕ) × IsTypeOctet type × Names type size bytes × (limit < size + 8)
 
@@ -40,14 +40,15 @@ IsTooLarge bytes limit size = (type : ℕ) × IsTypeOctet type × Names type siz
 abbrev pub BeginsHeader : List ℕ → Type 0
 BeginsHeader bytes = (more : List ℕ) × (v : ProtocolVersion) × (bytes ≢ []) × (more ≢ []) × FrameOf (ProtocolHeader v) (bytes ++ more)
 
--- less than a type octet, a channel and a size
+-- a type octet, and less than a channel and a size behind it
 abbrev pub IsShort : List ℕ → Type 0
 IsShort bytes = (type : ℕ) × (rest : List ℕ) × (bytes ≡ type ∷ rest) × IsTypeOctet type × (length bytes < 7)
 
--- less than the size names, which can be the size of a frame of its type
+-- less than a frame of the size that they name, which is within the limit, and 0 for a heartbeat
 abbrev pub IsUnfinished : List ℕ → ℕ → Type 0
 IsUnfinished bytes limit = (type : ℕ) × (size : ℕ) × IsTypeOctet type × Names type size bytes × (size + 8 ≤ limit) × (length bytes < size + 8) × (type ≡ 8 → size ≡ 0)
 
+-- nothing can be said before more octets come
 abbrev pub IsMore : List ℕ → ℕ → Type 0
 IsMore bytes limit = (bytes ≡ []) ⊎ (BeginsHeader bytes ⊎ (IsShort bytes ⊎ IsUnfinished bytes limit))
 
@@ -58,7 +59,7 @@ pub record IsBad (bytes : List ℕ) (limit : ℕ) : Type 0 where
   pub not_large : (size : ℕ) → IsTooLarge bytes limit size → ⊥
   pub not_more : IsMore bytes limit → ⊥
 
--- what stands at the front
+-- the answer holds at the front
 abbrev pub IsFront : List ℕ → ℕ → Read → Type 0
 IsFront bytes limit (Whole f n) = IsWhole bytes limit f n
 IsFront bytes limit More = IsMore bytes limit

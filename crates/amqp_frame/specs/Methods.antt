@@ -1,11 +1,12 @@
--- The methods of the connection class (10) and the channel class (20), AMQP 0-9-1, 1.4 and 1.5.
+-- How the methods of the connection class (10) and the channel class (20) are spelled (AMQP 0-9-1, 4.2.4 and the class reference).
 use Rattle.std.specs.Prelude.{◌≡◌, ℕ, ◌%◌, Bool, List, [], ◌∷◌, ◌++◌, length, ◌==◌, if◌then◌else◌}
 use Rattle.std.specs.Int.{w16, w32, to_be_bytes}
 use Rattle.amqp_types.specs.Forms.{Form, Nothing, ◌▸◌, OctetOf, NumberOf, ShortStringOf, LongStringOf, spell_short_string, spell_long_string}
 use Rattle.amqp_types.specs.Spelling.{SpellsTable, spell_table}
-use Rattle.amqp_frame.specs.declared.frame.Method.{Method}
-use Rattle.amqp_frame.specs.declared.frame.Method.TheVariants.{Start, StartOk, Secure, SecureOk, Tune, TuneOk, Open, OpenOk, Close, CloseOk, Blocked, Unblocked, UpdateSecret, UpdateSecretOk, ChannelOpen, ChannelOpenOk, ChannelFlow, ChannelFlowOk, ChannelClose, ChannelCloseOk}
+use Rattle.amqp_frame.specs.declared.method.Method.{Method}
+use Rattle.amqp_frame.specs.declared.method.Method.TheVariants.{Start, StartOk, Secure, SecureOk, Tune, TuneOk, Open, OpenOk, Close, CloseOk, Blocked, Unblocked, UpdateSecret, UpdateSecretOk, ChannelOpen, ChannelOpenOk, ChannelFlow, ChannelFlowOk, ChannelClose, ChannelCloseOk}
 
+-- the number of a method's class
 abbrev pub class_of : Method → ℕ
 class_of (Start major minor properties mechanisms locales) = 10
 class_of (StartOk properties mechanism response locale) = 10
@@ -28,6 +29,7 @@ class_of (ChannelFlowOk active) = 20
 class_of (ChannelClose code text class method) = 20
 class_of ChannelCloseOk = 20
 
+-- the number of a method in its class
 abbrev pub number_of : Method → ℕ
 number_of (Start major minor properties mechanisms locales) = 10
 number_of (StartOk properties mechanism response locale) = 11
@@ -50,7 +52,8 @@ number_of (ChannelFlowOk active) = 21
 number_of (ChannelClose code text class method) = 40
 number_of ChannelCloseOk = 41
 
--- reserved arguments, which can be anything
+-- ---- reserved arguments, whose value is forgotten
+
 abbrev pub AnyShortString : Form
 AnyShortString bytes = (content : List ℕ) × ShortStringOf content bytes
 
@@ -64,6 +67,7 @@ AnyOctet bytes = (n : ℕ) × OctetOf n bytes
 abbrev pub BitOf : Bool → Form
 BitOf b bytes = (n : ℕ) × (b ≡ (n % 2 == 1)) × OctetOf n bytes
 
+-- the octets spell the arguments of the method, in the order of the class reference
 abbrev pub ArgumentsOf : Method → Form
 ArgumentsOf (Start major minor properties mechanisms locales) = OctetOf major ▸ OctetOf minor ▸ SpellsTable properties ▸ LongStringOf mechanisms ▸ LongStringOf locales
 ArgumentsOf (StartOk properties mechanism response locale) = SpellsTable properties ▸ ShortStringOf mechanism ▸ LongStringOf response ▸ ShortStringOf locale
@@ -98,6 +102,7 @@ spell_close code text class method = to_be_bytes w16 code ++ (spell_short_string
 abbrev pub spell_tune : ℕ → ℕ → ℕ → List ℕ
 spell_tune channel_max frame_max heartbeat = to_be_bytes w16 channel_max ++ (to_be_bytes w32 frame_max ++ to_be_bytes w16 heartbeat)
 
+-- the one written spelling of a method's arguments
 abbrev pub spell_arguments : Method → List ℕ
 spell_arguments (Start major minor properties mechanisms locales) = (major ∷ minor ∷ []) ++ (spell_table properties ++ (spell_long_string mechanisms ++ spell_long_string locales))
 spell_arguments (StartOk properties mechanism response locale) = spell_table properties ++ (spell_short_string mechanism ++ (spell_long_string response ++ spell_short_string locale))

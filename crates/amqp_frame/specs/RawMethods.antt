@@ -1,0 +1,12 @@
+-- Methods of classes that are passed through (AMQP 0-9-1, 4.2.4): a class, a method, and arguments that are not read.
+use Rattle.std.specs.Prelude.{ℕ, List, ◌++◌}
+use Rattle.std.specs.Int.{w16, to_be_bytes}
+
+pub record OtherMethod : Type 0 where
+  pub class : ℕ
+  pub method : ℕ
+  pub arguments : List ℕ
+
+-- the payload of its frame
+abbrev pub spell_raw_method : OtherMethod → List ℕ
+spell_raw_method m = to_be_bytes w16 m.class ++ (to_be_bytes w16 m.method ++ m.arguments)

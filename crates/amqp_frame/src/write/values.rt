@@ -1,0 +1,157 @@
+//! Putting of values into a room.
+
+ghost use Rattle.std.specs.Prelude.{◌≡◌, ◌+◌, ◌^◌, ◌<◌, ◌≤◌, ◌++◌, ◌∷◌, [], length};
+ghost use Rattle.std.specs.Int.{w16, w32, to_be_bytes};
+ghost use Rattle.amqp_types.specs.Forms.{spell_short_string, spell_long_string};
+ghost use Rattle.amqp_types.specs.Spelling.{spell, spell_table};
+ghost use Rattle.amqp_types.specs.View.{value_of, pair_of};
+ghost use Rattle.amqp_frame.specs.Lengths.{spell_list, spell_pair_list, spell_pair};
+
+use crate::write::lengths::{pairs_len, values_len};
+use crate::room::Room;
+use amqp_types::{AMQPValue, Entry, FieldTable, Values};
+
+pub fn put_octet<R: Room>(octet: u8, room: &mut R)
+    requires { 1 ≤ R.free room.old }
+    ensures bytes { R.put_so_far room.new ≡ R.put_so_far room.old ++ octet ∷ [] }
+    ensures space { R.free room.new + 1 ≡ R.free room.old }
+{
+    room.put(&[octet]);
+}
+
+pub fn put_number16<R: Room>(number: u16, room: &mut R)
+    requires { 2 ≤ R.free room.old }
+    ensures bytes { R.put_so_far room.new ≡ R.put_so_far room.old ++ to_be_bytes w16 number }
+    ensures space { R.free room.new + 2 ≡ R.free room.old }
+{
+    room.put(&number.to_be_bytes());
+}
+
+pub fn put_number32<R: Room>(number: u32, room: &mut R)
+    requires { 4 ≤ R.free room.old }
+    ensures bytes { R.put_so_far room.new ≡ R.put_so_far room.old ++ to_be_bytes w32 number }
+    ensures space { R.free room.new + 4 ≡ R.free room.old }
+{
+    room.put(&number.to_be_bytes());
+}
+
+/// An octet of length, and the octets.
+pub fn put_short<R: Room>(content: &[u8], room: &mut R)
+    requires short { length content.now < 256 }
+    requires fits { length content.now + 1 ≤ R.free room.old }
+    ensures bytes { R.put_so_far room.new ≡ R.put_so_far room.old ++ spell_short_string content.now }
+    ensures space { R.free room.new + (length content.now + 1) ≡ R.free room.old }
+{
+    put_octet(content.len() as u8, room);
+    room.put(content);
+}
+
+/// Four octets of length, and the octets.
+pub fn put_long<R: Room>(content: &[u8], room: &mut R)
+    requires long { length content.now < 2 ^ 32 }
+    requires fits { length content.now + 4 ≤ R.free room.old }
+    ensures bytes { R.put_so_far room.new ≡ R.put_so_far room.old ++ spell_long_string content.now }
+    ensures space { R.free room.new + (length content.now + 4) ≡ R.free room.old }
+{
+    room.put(&(content.len() as u32).to_be_bytes());
+    room.put(content);
+}
+
+// A tag, and octets.
+fn put_tagged<R: Room>(tag: u8, content: &[u8], room: &mut R)
+    requires { length content.now + 1 ≤ R.free room.old }
+    ensures bytes { R.put_so_far room.new ≡ R.put_so_far room.old ++ tag ∷ content.now }
+    ensures space { R.free room.new + (length content.now + 1) ≡ R.free room.old }
+{
+    put_octet(tag, room);
+    room.put(content);
+}
+
+// A tag, and a long string.
+fn put_tagged_long<R: Room>(tag: u8, content: &[u8], room: &mut R)
+    requires long { length content.now < 2 ^ 32 }
+    requires fits { length content.now + 5 ≤ R.free room.old }
+    ensures bytes { R.put_so_far room.new ≡ R.put_so_far room.old ++ tag ∷ spell_long_string content.now }
+    ensures space { R.free room.new + (length content.now + 5) ≡ R.free room.old }
+{
+    put_octet(tag, room);
+    put_long(content, room);
+}
+
+/// A tagged value.
+#[cycle(put)]
+pub fn put_value<R: Room>(value: &AMQPValue, room: &mut R)
+    requires small { length (spell (value_of value.now)) < 2 ^ 32 }
+    requires fits { length (spell (value_of value.now)) ≤ R.free room.old }
+    ensures bytes { R.put_so_far room.new ≡ R.put_so_far room.old ++ spell (value_of value.now) }
+    ensures space { R.free room.new + length (spell (value_of value.now)) ≡ R.free room.old }
+{
+    match value {
+        AMQPValue::Boolean(truth) => put_tagged(b't', &[u8::from(*truth)], room),
+        AMQPValue::ShortShortInt(number) => put_tagged(b'b', &[number.cast_unsigned()], room),
+        AMQPValue::ShortShortUInt(number) => put_tagged(b'B', &[*number], room),
+        AMQPValue::ShortInt(number) => put_tagged(b's', &number.to_be_bytes(), room),
+        AMQPValue::ShortUInt(number) => put_tagged(b'u', &number.to_be_bytes(), room),
+        AMQPValue::LongInt(number) => put_tagged(b'I', &number.to_be_bytes(), room),
+        AMQPValue::LongUInt(number) => put_tagged(b'i', &number.to_be_bytes(), room),
+        AMQPValue::LongLongInt(number) => put_tagged(b'l', &number.to_be_bytes(), room),
+        AMQPValue::Float(octets) => put_tagged(b'f', octets, room),
+        AMQPValue::Double(octets) => put_tagged(b'd', octets, room),
+        AMQPValue::DecimalValue(scale, number) => {
+            put_tagged(b'D', &[*scale], room);
+            room.put(&number.to_be_bytes());
+        }
+        AMQPValue::LongString(content) => put_tagged_long(b'S', content.as_bytes(), room),
+        AMQPValue::ByteArray(content) => put_tagged_long(b'x', content.as_bytes(), room),
+        AMQPValue::FieldArray(values) => {
+            put_octet(b'A', room);
+            put_array(values, room);
+        }
+        AMQPValue::FieldTable(table) => {
+            put_octet(b'F', room);
+            put_table(table, room);
+        }
+        AMQPValue::Timestamp(number) => put_tagged(b'T', &number.to_be_bytes(), room),
+        AMQPValue::Void => put_octet(b'V', room),
+    }
+}
+
+// An array without its tag.
+#[cycle(put)]
+fn put_array<R: Room>(values: &Values, room: &mut R)
+    requires small { length (spell_list values.now) + 4 < 2 ^ 32 }
+    requires fits { length (spell_list values.now) + 4 ≤ R.free room.old }
+    ensures bytes { R.put_so_far room.new ≡ R.put_so_far room.old ++ spell_long_string (spell_list values.now) }
+    ensures space { R.free room.new + (length (spell_list values.now) + 4) ≡ R.free room.old }
+{
+    room.put(&(values_len(values) as u32).to_be_bytes());
+    for value in values.as_slice() {
+        put_value(value, room);
+    }
+}
+
+/// A table without a tag.
+#[cycle(put)]
+pub fn put_table<R: Room>(table: &FieldTable, room: &mut R)
+    requires small { length (spell_pair_list table.now) + 4 < 2 ^ 32 }
+    requires fits { length (spell_pair_list table.now) + 4 ≤ R.free room.old }
+    ensures bytes { R.put_so_far room.new ≡ R.put_so_far room.old ++ spell_long_string (spell_pair_list table.now) }
+    ensures space { R.free room.new + (length (spell_pair_list table.now) + 4) ≡ R.free room.old }
+{
+    room.put(&(pairs_len(table) as u32).to_be_bytes());
+    for entry in table.entries() {
+        put_entry(entry, room);
+    }
+}
+
+// A name and its value.
+#[cycle(put)]
+fn put_entry<R: Room>(entry: &Entry, room: &mut R)
+    requires small { length (spell_pair (pair_of entry.now)) < 2 ^ 32 }
+    requires fits { length (spell_pair (pair_of entry.now)) ≤ R.free room.old }
+    ensures bytes { R.put_so_far room.new ≡ R.put_so_far room.old ++ spell_pair (pair_of entry.now) }
+    ensures space { R.free room.new + length (spell_pair (pair_of entry.now)) ≡ R.free room.old }
+{
+    put_short(entry.name.as_bytes(), room);
+    put_value(&entry.value, room);
+}
