@@ -39,12 +39,7 @@ fn set_flag(alloc: Global, table: &mut FieldTable, name: &[u8]) -> Result<(), No
 }
 
 // Sets a name to a text.
-fn set_text(
-    alloc: Global,
-    table: &mut FieldTable,
-    name: &[u8],
-    text: &[u8],
-) -> Result<(), NoMemory>
+fn set_text(alloc: Global, table: &mut FieldTable, name: &[u8], text: &[u8]) -> Result<(), NoMemory>
     requires name { length name.now < 256 }
     requires text { length text.now < 256 }
     ensures { OnOk result (table.new ≡ put table.old name.now (words text.now)) }

@@ -21,6 +21,11 @@ impl Model for Lanes {
 
     ghost Value = { Outgoing };
 
+    ghost use Rattle.std.specs.Coded.{codes};
+    ghost use Rattle.amqp_types.specs.ValueCode.{value_code};
+
+    ghost coded = { Prim.hlevel (codes, value_code) };
+
     ghost view = { λ l. record { control = l.control.items; closes = l.closes.items } };
 }
 

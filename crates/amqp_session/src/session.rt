@@ -48,6 +48,11 @@ impl Model for Session {
 
     ghost Value = { Talk };
 
+    ghost use Rattle.std.specs.Coded.{codes};
+    ghost use Rattle.amqp_types.specs.ValueCode.{value_code};
+
+    ghost coded = { Prim.hlevel (codes, value_code) };
+
     ghost view = { λ s. record {
       state = s.state;
       phase = s.phase;

@@ -42,9 +42,7 @@ impl Session {
         ensures { result ≡ rejection (end_of self.now) }
     {
         match self.end()? {
-            Ok(()) => Some(Err(
-                ErrorKind::InvalidConnectionState(ConnectionState::Closed).into(),
-            )),
+            Ok(()) => Some(Err(ErrorKind::InvalidConnectionState(ConnectionState::Closed).into())),
             Err(error) => Some(Err(error)),
         }
     }

@@ -37,9 +37,8 @@ impl Session {
         ensures err { OnErr result (self.new ≡ self.old) }
     {
         match (self.state, self.phase, frame) {
-            (ConnectionState::Connecting, Phase::AwaitStart, Frame::Method(0, Method::Start(..))) => {
-                self.on_start()
-            }
+            (ConnectionState::Connecting, Phase::AwaitStart, Frame::Method(0, Method::Start(..))) =>
+                { self.on_start() }
             (
                 ConnectionState::Connecting,
                 Phase::AwaitTune,

@@ -2,9 +2,10 @@
 
 ghost use Rattle.std.specs.Prelude.{◌≡◌, ◌+◌, ◌≤◌};
 ghost use Rattle.amqp_session.specs.Rules.{present_at};
-ghost use Rattle.amqp_session.specs.Writing.{next_within, commit, unsent, taken};
+ghost use Rattle.amqp_session.specs.Writing.{next_within, commit, unsent, first_sent, after_first, taken};
 
 use super::{CAPACITY, Session};
+use crate::committed::Mark;
 use amqp_frame::{Frame, encoded_len};
 
 impl Session {
@@ -36,8 +37,17 @@ impl Session {
         }
         self.last_write = self.present;
         let mut left = n;
-        while let Some(mark) = self.committed.take_first(left) {
+        while let Some(mark) = self.take_first(left) {
             left -= mark.left;
         }
+    }
+
+    // Takes out the first committed frame, where its last byte is among the next n. Else these n
+    // are taken from it.
+    fn take_first(&mut self, n: u64) -> Option<Mark>
+        ensures first { result ≡ first_sent n self.old.committed }
+        ensures rest { self.new ≡ record self.old { committed = after_first n self.old.committed } }
+    {
+        self.committed.take_first(n)
     }
 }
