@@ -1,0 +1,59 @@
+-- What a client says to open a connection (AMQP 0-9-1, 2.2.4): header, start-ok, tune-ok, open.
+use Rattle.std.specs.Prelude.{ℕ, true, List, [], ◌∷◌, ◌++◌, codes}
+use Rattle.amqp_types.specs.Value.{FieldValue, Pair, scalar, table, boolean, long_string, pairs_from}
+use Rattle.amqp_frame.specs.declared.frame.Frame.{Frame}
+use Rattle.amqp_frame.specs.declared.frame.Frame.TheVariants.{ProtocolHeader, Method}
+use Rattle.amqp_frame.specs.declared.frame.Method.TheVariants.{StartOk, TuneOk, Open, Close}
+use Rattle.amqp_session.specs.declared.configuration.Configuration.{Configuration}
+
+abbrev pub protocol_header : Frame
+protocol_header = ProtocolHeader (record { major = 0; minor = 9; revision = 1 })
+
+abbrev pub yes : FieldValue
+yes = scalar (boolean true)
+
+abbrev pub words : List ℕ → FieldValue
+words content = scalar (long_string content)
+
+-- what this client can do, each under its name
+abbrev pub capabilities : List Pair
+capabilities =
+    (codes "authentication_failure_close", yes)
+    ∷ (codes "basic.nack", yes)
+    ∷ (codes "connection.blocked", yes)
+    ∷ (codes "consumer_cancel_notify", yes)
+    ∷ (codes "consumer_priorities", yes)
+    ∷ (codes "direct_reply_to", yes)
+    ∷ (codes "exchange_exchange_bindings", yes)
+    ∷ (codes "per_consumer_qos", yes)
+    ∷ (codes "publisher_confirms", yes)
+    ∷ []
+
+-- what this client says of itself, in the byte order of the names
+abbrev pub client_properties : List Pair
+client_properties =
+    (codes "capabilities", table (pairs_from capabilities))
+    ∷ (codes "platform", words (codes "rust"))
+    ∷ (codes "product", words (codes "lapin"))
+    ∷ (codes "version", words (codes "4.4.0"))
+    ∷ []
+
+-- the response of the mechanism PLAIN (RFC 4616): no authorisation identity, the user, the password
+abbrev pub plain_response : List ℕ → List ℕ → List ℕ
+plain_response user password = 0 ∷ user ++ 0 ∷ password
+
+-- user and password are `guest`
+abbrev pub start_ok : Frame
+start_ok = Method 0 (StartOk client_properties (codes "PLAIN") (plain_response (codes "guest") (codes "guest")) (codes "en_US"))
+
+-- the agreed numbers
+abbrev pub tune_ok : Configuration → Frame
+tune_ok agreed = Method 0 (TuneOk agreed.channel_max agreed.frame_max agreed.heartbeat)
+
+-- the virtual host is `/`
+abbrev pub open_vhost : Frame
+open_vhost = Method 0 (Open (codes "/"))
+
+-- a close of ours names no method that caused it
+abbrev pub our_close : ℕ → List ℕ → Frame
+our_close code text = Method 0 (Close code text 0 0)

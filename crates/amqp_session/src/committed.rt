@@ -1,0 +1,91 @@
+//! The committed frames that are not wholly sent.
+
+ghost use Rattle.std.specs.Prelude.{◌≡◌, ◌+◌, ◌<◌, ◌≤◌, ◌^◌, ◌++◌, ◌∷◌, [], length, OnOk};
+ghost use Rattle.std.specs.VecDeque.{deque_capacity};
+ghost use Rattle.amqp_session.specs.Writing.{left_in, first_sent, after_first};
+
+use amqp_types::NoMemory;
+use std::alloc::Global;
+use std::collections::VecDeque;
+
+/// A committed frame.
+#[derive(Clone, Copy, Debug, PartialEq, Eq)]
+pub struct Mark {
+    /// How many of its bytes are unsent.
+    pub left: u64,
+}
+
+/// The committed frames, in order, and how many of their bytes are unsent.
+#[derive(Debug, Drop)]
+pub struct Committed {
+    marks: VecDeque<Mark>,
+    unsent: u64,
+    ghost counted: { unsent ≡ left_in marks.items },
+}
+
+impl Committed {
+    pub fn new(alloc: Global) -> Committed
+        ensures { result.marks.items ≡ [] }
+    {
+        Committed {
+            marks: VecDeque::new(alloc),
+            unsent: 0,
+        }
+    }
+
+    /// Makes places for so many frames more.
+    pub fn reserve(&mut self, frames: usize) -> Result<(), NoMemory>
+        ensures marks { self.new.marks.items ≡ self.old.marks.items }
+        ensures kept { deque_capacity self.old.marks ≤ deque_capacity self.new.marks }
+        ensures ok { OnOk result (length self.old.marks.items + frames ≤ deque_capacity self.new.marks) }
+    {
+        self.marks.reserve(frames)?;
+        Ok(())
+    }
+
+    /// A frame of so many bytes goes last.
+    pub fn push(&mut self, size: u64)
+        requires place { length self.old.marks.items < deque_capacity self.old.marks }
+        requires small { left_in self.old.marks.items + size < 2 ^ 64 }
+        ensures marks { self.new.marks.items ≡ self.old.marks.items ++ record { left = size } ∷ [] }
+        ensures kept { deque_capacity self.new.marks ≡ deque_capacity self.old.marks }
+    {
+        self.marks.push_back_reserved(Mark { left: size });
+        self.unsent += size;
+    }
+
+    /// Takes out the first frame, where its last byte is among the next n. Else these n are taken
+    /// from it.
+    pub fn take_first(&mut self, n: u64) -> Option<Mark>
+        ensures first { result ≡ first_sent n self.old.marks.items }
+        ensures rest { self.new.marks.items ≡ after_first n self.old.marks.items }
+        ensures kept { deque_capacity self.new.marks ≡ deque_capacity self.old.marks }
+    {
+        let mark = *self.marks.front()?;
+        if mark.left <= n {
+            self.unsent -= mark.left;
+            return self.marks.pop_front();
+        }
+        if let Some(first) = self.marks.front_mut() {
+            first.left -= n;
+            self.unsent -= n;
+        }
+        None
+    }
+
+    /// Forgets all frames.
+    pub fn clear(&mut self)
+        ensures marks { self.new.marks.items ≡ [] }
+        ensures kept { deque_capacity self.new.marks ≡ deque_capacity self.old.marks }
+    {
+        self.marks.clear();
+        self.unsent = 0;
+    }
+
+    /// How many bytes are unsent.
+    pub fn unsent(&self) -> u64
+        ensures { result ≡ left_in self.now.marks.items }
+    {
+        self.unsent
+    }
+}

@@ -1,0 +1,92 @@
+//! The numbers of a connection, and how both peers agree on them.
+
+ghost use Rattle.std.specs.Prelude.{◌≡◌};
+ghost use Rattle.amqp_session.specs.Negotiation.{lesser_wish, wish_or, tune};
+
+use amqp_frame::ChannelId;
+
+/// The size of a frame, in octets.
+type FrameSize = u32;
+
+/// The interval of heartbeats, in seconds.
+type Heartbeat = u16;
+
+/// The least `frame_max` that a peer may have (frame-min-size).
+const FRAME_MIN_SIZE: FrameSize = 4096;
+
+/// The numbers of a connection, where 0 is no limit and no heartbeat.
+#[derive(Clone, Copy, Debug, PartialEq, Eq)]
+pub struct Configuration {
+    pub channel_max: ChannelId,
+    pub frame_max: FrameSize,
+    pub heartbeat: Heartbeat,
+}
+
+impl Configuration {
+    /// The greatest number of a channel.
+    pub fn channel_max(&self) -> ChannelId
+        ensures { result ≡ self.now.channel_max }
+    {
+        self.channel_max
+    }
+
+    /// The greatest size of a frame, in octets.
+    pub fn frame_max(&self) -> FrameSize
+        ensures { result ≡ self.now.frame_max }
+    {
+        self.frame_max
+    }
+
+    /// The interval of heartbeats, in seconds.
+    pub fn heartbeat(&self) -> Heartbeat
+        ensures { result ≡ self.now.heartbeat }
+    {
+        self.heartbeat
+    }
+}
+
+/// The numbers that hold after the server's tune.
+pub fn tune(own: Configuration, server: Configuration) -> Configuration
+    ensures { result ≡ tune own server }
+{
+    let channel_max = lesser_short(own.channel_max, server.channel_max);
+    let frame_max = lesser_long(own.frame_max, server.frame_max);
+    Configuration {
+        channel_max: if channel_max == 0 {
+            ChannelId::MAX
+        } else {
+            channel_max
+        },
+        frame_max: if frame_max == 0 {
+            FrameSize::MAX
+        } else {
+            frame_max.max(FRAME_MIN_SIZE)
+        },
+        heartbeat: lesser_short(own.heartbeat, server.heartbeat),
+    }
+}
+
+// The lesser of two wishes, where 0 is none.
+fn lesser_short(own: u16, server: u16) -> u16
+    ensures { result ≡ lesser_wish own server }
+{
+    if own == 0 {
+        return server;
+    }
+    if server == 0 {
+        return own;
+    }
+    own.min(server)
+}
+
+fn lesser_long(own: u32, server: u32) -> u32
+    ensures { result ≡ lesser_wish own server }
+{
+    if own == 0 {
+        return server;
+    }
+    if server == 0 {
+        return own;
+    }
+    own.min(server)
+}

@@ -1,0 +1,117 @@
+//! The frames that open and close a connection.
+
+ghost use Rattle.std.specs.Prelude.{◌≡◌, ◌<◌, length, IfOk, OnOk};
+ghost use Rattle.amqp_types.specs.Table.{put};
+ghost use Rattle.amqp_session.specs.Handshake.{protocol_header, yes, words, capabilities, client_properties, start_ok, tune_ok, open_vhost, our_close};
+
+use crate::configuration::Configuration;
+use amqp_frame::{Frame, Method};
+use amqp_types::{AMQPValue, FieldTable, LongString, NoMemory, ProtocolVersion, ShortString};
+use std::alloc::Global;
+
+pub fn protocol_header() -> Frame
+    ensures { result ≡ protocol_header }
+{
+    Frame::ProtocolHeader(ProtocolVersion::amqp_0_9_1())
+}
+
+fn short(alloc: Global, content: &[u8]) -> Result<ShortString, NoMemory>
+    requires { length content.now < 256 }
+    ensures { IfOk result (λ s. s ≡ content.now) }
+{
+    Ok(ShortString::from_vec(Vec::from_slice(alloc, content)?))
+}
+
+fn long(alloc: Global, content: &[u8]) -> Result<LongString, NoMemory>
+    requires { length content.now < 256 }
+    ensures { IfOk result (λ s. s ≡ content.now) }
+{
+    Ok(LongString::from_vec(Vec::from_slice(alloc, content)?))
+}
+
+// Sets a name to true.
+fn set_flag(alloc: Global, table: &mut FieldTable, name: &[u8]) -> Result<(), NoMemory>
+    requires { length name.now < 256 }
+    ensures { OnOk result (table.new ≡ put table.old name.now yes) }
+{
+    table.insert(short(alloc, name)?, AMQPValue::Boolean(true))?;
+    Ok(())
+}
+
+// Sets a name to a text.
+fn set_text(alloc: Global, table: &mut FieldTable, name: &[u8], text: &[u8]) -> Result<(), NoMemory>
+    requires name { length name.now < 256 }
+    requires text { length text.now < 256 }
+    ensures { OnOk result (table.new ≡ put table.old name.now (words text.now)) }
+{
+    let value = AMQPValue::LongString(long(alloc, text)?);
+    table.insert(short(alloc, name)?, value)?;
+    Ok(())
+}
+
+fn capabilities(alloc: Global) -> Result<FieldTable, NoMemory>
+    ensures { IfOk result (λ t. t ≡ capabilities) }
+{
+    let mut table = FieldTable::new(alloc);
+    set_flag(alloc, &mut table, b"authentication_failure_close")?;
+    set_flag(alloc, &mut table, b"basic.nack")?;
+    set_flag(alloc, &mut table, b"connection.blocked")?;
+    set_flag(alloc, &mut table, b"consumer_cancel_notify")?;
+    set_flag(alloc, &mut table, b"consumer_priorities")?;
+    set_flag(alloc, &mut table, b"direct_reply_to")?;
+    set_flag(alloc, &mut table, b"exchange_exchange_bindings")?;
+    set_flag(alloc, &mut table, b"per_consumer_qos")?;
+    set_flag(alloc, &mut table, b"publisher_confirms")?;
+    Ok(table)
+}
+
+fn client_properties(alloc: Global) -> Result<FieldTable, NoMemory>
+    ensures { IfOk result (λ t. t ≡ client_properties) }
+{
+    let mut table = FieldTable::new(alloc);
+    let abilities = AMQPValue::FieldTable(capabilities(alloc)?);
+    table.insert(short(alloc, b"capabilities")?, abilities)?;
+    set_text(alloc, &mut table, b"platform", b"rust")?;
+    set_text(alloc, &mut table, b"product", b"lapin")?;
+    set_text(alloc, &mut table, b"version", b"4.4.0")?;
+    Ok(table)
+}
+
+/// The client's answer to start.
+pub fn start_ok(alloc: Global) -> Result<Frame, NoMemory>
+    ensures { IfOk result (λ f. f ≡ start_ok) }
+{
+    Ok(Frame::Method(
+        0,
+        Method::StartOk(
+            client_properties(alloc)?,
+            short(alloc, b"PLAIN")?,
+            long(alloc, b"\0guest\0guest")?,
+            short(alloc, b"en_US")?,
+        ),
+    ))
+}
+
+/// The client's answer to tune.
+pub fn tune_ok(agreed: Configuration) -> Frame
+    ensures { result ≡ tune_ok agreed }
+{
+    Frame::Method(
+        0,
+        Method::TuneOk(agreed.channel_max, agreed.frame_max, agreed.heartbeat),
+    )
+}
+
+/// Opens the virtual host.
+pub fn open_vhost(alloc: Global) -> Result<Frame, NoMemory>
+    ensures { IfOk result (λ f. f ≡ open_vhost) }
+{
+    Ok(Frame::Method(0, Method::Open(short(alloc, b"/")?)))
+}
+
+/// Our close of the connection.
+pub fn our_close(code: u16, text: ShortString) -> Frame
+    ensures { result ≡ our_close code text }
+{
+    Frame::Method(0, Method::Close(code, text, 0, 0))
+}

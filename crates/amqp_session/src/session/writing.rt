@@ -1,0 +1,53 @@
+//! The frames that are written.
+
+ghost use Rattle.std.specs.Prelude.{◌≡◌, ◌+◌, ◌≤◌};
+ghost use Rattle.amqp_session.specs.Rules.{present_at};
+ghost use Rattle.amqp_session.specs.Writing.{next_within, commit, unsent, first_sent, after_first, taken};
+
+use super::{CAPACITY, Session};
+use crate::committed::Mark;
+use amqp_frame::{Frame, encoded_len};
+
+impl Session {
+    /// Commits the next frame, where it is at most so many bytes long. It takes no memory.
+    pub fn next_frame(&mut self, space: u64) -> Option<Frame>
+        requires { space + unsent self.old ≤ CAPACITY }
+        ensures frame { result ≡ next_within space self.old }
+        ensures commit { self.new ≡ commit space self.old }
+    {
+        if !self.is_open() {
+            return None;
+        }
+        let size = encoded_len(self.lanes.front()?);
+        if size > space {
+            return None;
+        }
+        self.committed.push(size);
+        self.lanes.next()
+    }
+
+    /// So many of the unsent bytes were taken.
+    pub fn taken(&mut self, n: u64, at: u64)
+        requires { n ≤ unsent self.old }
+        ensures { self.new ≡ taken n (present_at at self.old) }
+    {
+        self.advance(at);
+        if n == 0 || !self.is_open() {
+            return;
+        }
+        self.last_write = self.present;
+        let mut left = n;
+        while let Some(mark) = self.take_first(left) {
+            left -= mark.left;
+        }
+    }
+
+    // Takes out the first committed frame, where its last byte is among the next n. Else these n
+    // are taken from it.
+    fn take_first(&mut self, n: u64) -> Option<Mark>
+        ensures first { result ≡ first_sent n self.old.committed }
+        ensures rest { self.new ≡ record self.old { committed = after_first n self.old.committed } }
+    {
+        self.committed.take_first(n)
+    }
+}
