@@ -3,7 +3,7 @@ use Rattle.std.specs.Prelude.{ℕ, true, List, [], ◌∷◌, ◌++◌, codes}
 use Rattle.amqp_types.specs.Value.{FieldValue, Pair, scalar, table, boolean, long_string, pairs_from}
 use Rattle.amqp_frame.specs.declared.frame.Frame.{Frame}
 use Rattle.amqp_frame.specs.declared.frame.Frame.TheVariants.{ProtocolHeader, Method}
-use Rattle.amqp_frame.specs.declared.frame.Method.TheVariants.{StartOk, TuneOk, Open, Close}
+use Rattle.amqp_frame.specs.declared.method.Method.TheVariants.{StartOk, TuneOk, Open, Close}
 use Rattle.amqp_session.specs.declared.configuration.Configuration.{Configuration}
 
 abbrev pub protocol_header : Frame

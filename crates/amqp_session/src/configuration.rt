@@ -3,7 +3,7 @@
 ghost use Rattle.std.specs.Prelude.{◌≡◌};
 ghost use Rattle.amqp_session.specs.Negotiation.{lesser_wish, wish_or, tune};
 
-use amqp_frame::ChannelId;
+use amqp_types::ChannelId;
 
 /// The size of a frame, in octets.
 type FrameSize = u32;
