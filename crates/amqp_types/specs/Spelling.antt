@@ -1,5 +1,5 @@
 -- How field values and tables are spelled (AMQP 0-9-1, 4.2.5.5, with the tags that RabbitMQ uses): every spelling, as a relation, and the one that is written.
-use Rattle.std.specs.Prelude.{◌≡◌, ℕ, zero, suc, Bool, not, List, [], ◌∷◌, ◌++◌, ◌==◌, if◌then◌else◌}
+use Rattle.std.specs.Prelude.{◌≡◌, ℕ, zero, suc, ◌-◌, Bool, not, List, [], ◌∷◌, ◌++◌, ◌==◌, if◌then◌else◌}
 use Rattle.std.specs.Int.{w8, w16, w32, w64, to_be_bytes, cast_unsigned, cast_signed}
 use Rattle.amqp_types.specs.Value.{Scalar, boolean, short_short_int, short_short_uint, short_int, short_uint, long_int, long_uint, long_long_int, float, double, decimal, long_string, byte_array, timestamp, void, FieldValue, scalar, array, table, FieldValues, no_values, value, FieldPairs, no_pairs, pair, Pair, list_of, pairs_of, pairs_from}
 use Rattle.amqp_types.specs.Forms.{Form, Nothing, ◌▸◌, OctetOf, NumberOf, SignedOf, OctetsOf, ShortStringOf, Row, spell_short_string, spell_long_string}
@@ -72,9 +72,9 @@ abbrev pub Spells : ℕ → FieldValue → Form
 Spells zero = Tagged (λ vs bytes. ⊥) (λ ps bytes. ⊥)
 Spells (suc depth) = Tagged (ArrayOf (Spells depth)) (TableOf (Spells depth))
 
--- a table that stands alone, as an argument of a method
+-- a table that stands alone, as an argument of a method: of the depth, the table itself is the first
 abbrev pub SpellsTable : List Pair → Form
-SpellsTable = TableOf (Spells 127)
+SpellsTable = TableOf (Spells (max_depth - 1))
 
 -- ---- the written spelling: Booleans 0 or 1, names once each and in byte order
 
