@@ -1,10 +1,10 @@
 -- The readers of methods and of what frames hold: what is spelled is read, and what is read is spelled.
-use Rattle.std.proofs.Common.{◌≡◌, ◌≢◌, ◌⊎◌, ℕ, zero, suc, ◌+◌, ◌%◌, ◌<◌, ◌≤◌, Bool, true, false, not, cond, eqb, ltb, List, [], ◌∷◌, ◌++◌, length, take, drop, Option, Some, None, option_map, refl, sym, ap, subst, ◌∙◌, append_assoc, arith, inl, inr}
+use Rattle.std.proofs.Common.{◌≡◌, ◌≢◌, ◌⊎◌, ℕ, zero, suc, ◌+◌, ◌-◌, ◌%◌, ◌<◌, ◌≤◌, Bool, true, false, not, cond, eqb, ltb, List, [], ◌∷◌, ◌++◌, length, take, drop, Option, Some, None, option_map, refl, sym, ap, subst, ◌∙◌, append_assoc, arith, inl, inr}
 use Rattle.std.proofs.lemmas.Bool.{eqb-true}
 use Rattle.std.proofs.lemmas.List.{append-nil, nil_from_length}
 use Rattle.std.specs.Int.{w16, w32}
 use Rattle.amqp_types.specs.Forms.{Form, IsOctets, Nothing, ◌▸◌, OctetOf, NumberOf, OctetsOf, ShortStringOf, LongStringOf}
-use Rattle.amqp_types.specs.Spelling.{TableOf, Spells, SpellsTable}
+use Rattle.amqp_types.specs.Spelling.{max_depth, TableOf, Spells, SpellsTable}
 use Rattle.amqp_types.specs.Value.{Pair}
 use Rattle.amqp_types.specs.Reading.{Reader, ◌>>=◌, octet_at, octets_at, number_at, short_string_at, long_string_at, table_at, ◌⊗◌, read_map}
 use Rattle.amqp_types.proofs.Readers.{IsReader, FirstOf, IsOctets-rest, some_is, bind_some, octet_reader, octets_reader, number16_reader, number32_reader, then_again, then_takes, joined, both_reader, map_again, map_takes, short_string_reader, long_string_reader}
@@ -14,13 +14,13 @@ use Rattle.amqp_frame.specs.declared.method.Method.TheVariants as m
 use Rattle.amqp_frame.specs.Methods.{class_of, number_of, AnyShortString, AnyLongString, AnyOctet, BitOf, ArgumentsOf, MethodOf}
 use Rattle.amqp_frame.specs.FrameReading.{start_at, start_ok_at, numbers_at, tune_at, tune_ok_at, open_at, reasons_at, close_at, channel_close_at, update_secret_at, done_at, connection_at, channel_at, exactly}
 
-tables : IsReader SpellsTable (table_at 128)
-tables = table_at_reader 127
+tables : IsReader SpellsTable (table_at max_depth)
+tables = table_at_reader (max_depth - 1)
 
-pub start_args : IsReader (λ a. OctetOf a.0 ▸ OctetOf a.1.0 ▸ SpellsTable a.1.1.0 ▸ LongStringOf a.1.1.1.0 ▸ LongStringOf a.1.1.1.1) (octet_at ⊗ octet_at ⊗ table_at 128 ⊗ long_string_at ⊗ long_string_at)
+pub start_args : IsReader (λ a. OctetOf a.0 ▸ OctetOf a.1.0 ▸ SpellsTable a.1.1.0 ▸ LongStringOf a.1.1.1.0 ▸ LongStringOf a.1.1.1.1) (octet_at ⊗ octet_at ⊗ table_at max_depth ⊗ long_string_at ⊗ long_string_at)
 start_args = both_reader octet_reader (both_reader octet_reader (both_reader tables (both_reader long_string_reader long_string_reader)))
 
-pub start_ok_args : IsReader (λ a. SpellsTable a.0 ▸ ShortStringOf a.1.0 ▸ LongStringOf a.1.1.0 ▸ ShortStringOf a.1.1.1) (table_at 128 ⊗ short_string_at ⊗ long_string_at ⊗ short_string_at)
+pub start_ok_args : IsReader (λ a. SpellsTable a.0 ▸ ShortStringOf a.1.0 ▸ LongStringOf a.1.1.0 ▸ ShortStringOf a.1.1.1) (table_at max_depth ⊗ short_string_at ⊗ long_string_at ⊗ short_string_at)
 start_ok_args = both_reader tables (both_reader short_string_reader (both_reader long_string_reader short_string_reader))
 
 pub numbers : IsReader (λ a. NumberOf w16 a.0 ▸ NumberOf w32 a.1.0 ▸ NumberOf w16 a.1.1) numbers_at

@@ -10,7 +10,8 @@ use crate::read::values::table;
 use crate::view::View;
 use std::alloc::Global;
 
-// The depth of tables and arrays, the outermost table included.
+// How deep tables and arrays may stand in one another, the outermost table included: the limit of
+// this project (`max_depth` of amqp_types).
 const MAX_DEPTH: u8 = 128;
 
 #[tactic(auto, unfolding(crate::specs::FrameReading::start_at))]

@@ -1,16 +1,15 @@
 //! Reading of field values, arrays and tables.
 
-ghost use Rattle.std.specs.Prelude.{◌≡◌, length, option_map, OnOk};
+ghost use Rattle.std.specs.Prelude.{◌≡◌, length, map};
 ghost use Rattle.std.specs.Int.{w32};
 ghost use Rattle.amqp_types.specs.Reading.{octet_at, number_at, long_string_at, ◌⊗◌, scalar_at, value_at, array_at, table_at, read_map, row_at, pair_with};
 ghost use Rattle.amqp_types.specs.Value.{scalar as scalar_value, decimal as decimal_value};
-ghost use Rattle.amqp_types.specs.Table.{map_of, put as put_pair};
-ghost use Rattle.amqp_types.specs.View.{value_of};
+ghost use Rattle.amqp_types.specs.View.{value_of, pair_of};
 ghost use Rattle.amqp_frame.specs.Reads.{Reads, Gives};
 
 use crate::read::cursor::{Cursor, Fault};
 use crate::view::View;
-use amqp_types::{AMQPValue, FieldTable, NoMemory, Payload, ShortString, Values};
+use amqp_types::{AMQPValue, Entry, FieldTable, Payload, Values};
 use std::alloc::Global;
 
 fn decimal<V: View>(cursor: &mut Cursor<'_, V>) -> Result<AMQPValue, Fault>
@@ -95,7 +94,7 @@ fn values<V: View>(alloc: Global, depth: u8, body: &mut Cursor<'_, V>) -> Result
     Ok(values)
 }
 
-/// A table, which counts for the depth.
+/// A table, which counts for the depth. Of equal names the last counts.
 #[cycle(value)]
 pub fn table<V: View>(
     alloc: Global,
@@ -109,27 +108,19 @@ pub fn table<V: View>(
     }
     let mut body = cursor.long_split()?;
     let found = pairs(alloc, depth - 1, &mut body)?;
-    Ok(found)
+    Ok(FieldTable::from_entries(alloc, found)?)
 }
 
-// Pairs to the end of the octets. Of equal names the last counts.
+// Pairs to the end of the octets.
 #[cycle(value)]
-fn pairs<V: View>(alloc: Global, depth: u8, body: &mut Cursor<'_, V>) -> Result<FieldTable, Fault>
-    ensures { Gives (λ t. t) result (option_map map_of (row_at (pair_with (value_at depth)) (length body.old) body.old)) }
+fn pairs<V: View>(alloc: Global, depth: u8, body: &mut Cursor<'_, V>) -> Result<Vec<Entry>, Fault>
+    ensures { Gives (λ v. map pair_of v.items) result (row_at (pair_with (value_at depth)) (length body.old) body.old) }
 {
-    let mut table = FieldTable::new(alloc);
+    let mut entries = Vec::new(alloc);
     while !body.is_empty() {
         let name = body.short_string(alloc)?;
         let value = value(alloc, depth, body)?;
-        put(&mut table, name, value)?;
+        entries.push(Entry { name, value })?;
     }
-    Ok(table)
-}
-
-// Sets the value of a name.
-fn put(table: &mut FieldTable, name: ShortString, value: AMQPValue) -> Result<(), NoMemory>
-    ensures { OnOk result (table.new ≡ put_pair table.old name (value_of value)) }
-{
-    table.insert(name, value)?;
-    Ok(())
+    Ok(entries)
 }

@@ -1,14 +1,14 @@
-use Rattle.std.proofs.Common.{◌≡◌, ℕ, suc, ◌-◌, ◌<◌, ◌≤◌, List, [], ◌∷◌, ◌++◌, length, Some, None, option_map, refl, sym, ap, ◌∙◌, arith, rules}
+use Rattle.std.proofs.Common.{◌≡◌, ℕ, suc, ◌-◌, ◌<◌, ◌≤◌, List, [], ◌∷◌, ◌++◌, length, map, Some, None, refl, sym, ap, ◌∙◌, arith, rules}
 use Rattle.std.proofs.lemmas.Grind.{common_steps}
 use Rattle.std.proofs.lemmas.Result.{err_from_is_err_and}
 use Rattle.std.proofs.lemmas.List.{append-nil}
 use Rattle.amqp_types.specs.Value.{FieldValue, Pair}
-use Rattle.amqp_types.specs.View.{value_of}
-use Rattle.amqp_types.specs.Table.{put, map_of}
+use Rattle.amqp_types.specs.View.{value_of, pair_of}
+use Rattle.amqp_types.specs.declared.value.Entry.{Entry}
 use Rattle.amqp_types.specs.Reading.{value_at, array_at, table_at, row_at, pair_with, short_string_at, long_string_at}
 use Rattle.amqp_types.proofs.FieldReaders.{value_at_is, array_at_zero, table_at_zero, array_at_is, table_at_is}
 use Rattle.amqp_types.proofs.Shorter.{value_shorter, pair_shorter, row_step, row_fails, row_done}
-use Rattle.amqp_frame.proofs.Rows.{put_all, fails_with, bind_none, bind_is, append_more, append_none, unmapped_none, unmapped_some, pair_is, no_pair_name, no_pair_value}
+use Rattle.amqp_frame.proofs.Rows.{fails_with, bind_none, bind_is, append_more, append_none, entries_more, pair_is, no_pair_name, no_pair_value}
 use Rattle.amqp_frame.proofs.read.values.+value.Goals as goal
 
 -- ---- a value
@@ -59,13 +59,11 @@ table-returns-in_err-body g t c =
 pub table-returns-in_err-found : goal.table-returns-in_err-found
 table-returns-in_err-found g t c =
     let p = err_from_is_err_and c.from_residual-in_err-found.result c.from_residual-in_err-found.ensures.1 in
-    let below = c.args.depth - 1 in
-    rw (p.1, p.2) (fails_with c.in_err-found.field-0.0 (option_map map_of (row_at (pair_with (value_at (c.args.depth - 1))) (length c.in_ok-body.body) c.in_ok-body.body)) (table_at c.args.depth c.args.cursor.now) c.in_err-found.ensures (λ none. table_at_is c.args.depth (c.args.depth - 1) c.args.cursor.now (omega arith) ∙ bind_is _ _ (c.in_ok-body.body, c.long_split.new.self) _ c.in_ok-body.ensures (bind_none _ _ (unmapped_none map_of _ none))))
+    rw (p.1, p.2) (fails_with c.in_err-found.field-0.0 (row_at (pair_with (value_at (c.args.depth - 1))) (length c.in_ok-body.body) c.in_ok-body.body) (table_at c.args.depth c.args.cursor.now) c.in_err-found.ensures (λ none. table_at_is c.args.depth (c.args.depth - 1) c.args.cursor.now (omega arith) ∙ bind_is _ _ (c.in_ok-body.body, c.long_split.new.self) _ c.in_ok-body.ensures (bind_none _ _ none)))
 
 pub table-returns : goal.table-returns
 table-returns g t c =
-    let some = unmapped_some map_of _ c.in_ok-found.found c.in_ok-found.ensures in
-    table_at_is c.args.depth (c.args.depth - 1) c.args.cursor.now (omega arith) ∙ bind_is _ _ (c.in_ok-body.body, c.long_split.new.self) _ c.in_ok-body.ensures (bind_is _ _ some.0 _ some.1 (ap (λ (ps : List Pair). Some (ps, c.long_split.new.self)) some.2))
+    table_at_is c.args.depth (c.args.depth - 1) c.args.cursor.now (omega arith) ∙ bind_is _ _ (c.in_ok-body.body, c.long_split.new.self) _ c.in_ok-body.ensures (bind_is _ _ (map pair_of c.in_ok-found.found.items) _ c.in_ok-found.ensures (ap (λ (ps : List Pair). Some (ps, c.long_split.new.self)) (sym c.in_ok-from_entries.ensures.last_counts)))
 
 -- ---- the values of an array
 pub values-loop-alloc-init : goal.values-loop-alloc-init
@@ -97,14 +95,14 @@ values-returns g t c =
 
 -- ---- the pairs of a table
 pub pairs-loop-alloc-init : goal.pairs-loop-alloc-init
-pairs-loop-alloc-init g t c = (length c.args.body.now, omega arith, rw c.new-table.ensures refl)
+pairs-loop-alloc-init g t c = (length c.args.body.now, omega arith, rw c.new-entries.ensures.items (append_none (row_at (pair_with (value_at c.args.depth)) (length c.args.body.now) c.args.body.now)))
 
 pub pairs-returns-in_err-name : goal.pairs-returns-in_err-name
 pairs-returns-in_err-name g t c =
     let p = err_from_is_err_and c.from_residual.result c.from_residual.ensures.1 in
     let l = c.loop-alloc in
     let some_left : l.body ≡ [] → ⊥ = grind arith in
-    rw (p.1, p.2) (fails_with c.in_err-name.field-0.0 (short_string_at l.body) _ c.in_err-name.ensures (λ none. row_fails (pair_with (value_at c.args.depth)) (put_all l.table) l.invariant.0 l.body _ l.invariant.2 some_left l.invariant.1 (no_pair_name c.args.depth l.body none)))
+    rw (p.1, p.2) (fails_with c.in_err-name.field-0.0 (short_string_at l.body) _ c.in_err-name.ensures (λ none. row_fails (pair_with (value_at c.args.depth)) (λ ps. map pair_of l.entries.items ++ ps) l.invariant.0 l.body _ l.invariant.2 some_left l.invariant.1 (no_pair_name c.args.depth l.body none)))
 
 pub pairs-returns-in_err-value : goal.pairs-returns-in_err-value
 pairs-returns-in_err-value g t c =
@@ -112,7 +110,7 @@ pairs-returns-in_err-value g t c =
     let l = c.loop-alloc in
     let some_left : l.body ≡ [] → ⊥ = grind arith in
     let middle = c.short_string.new.self in
-    rw (p.1, p.2) (fails_with c.in_err-value.field-0.0 (value_at c.args.depth middle) _ c.in_err-value.ensures (λ none. row_fails (pair_with (value_at c.args.depth)) (put_all l.table) l.invariant.0 l.body _ l.invariant.2 some_left l.invariant.1 (no_pair_value c.args.depth l.body middle c.in_ok-name.name c.in_ok-name.ensures none)))
+    rw (p.1, p.2) (fails_with c.in_err-value.field-0.0 (value_at c.args.depth middle) _ c.in_err-value.ensures (λ none. row_fails (pair_with (value_at c.args.depth)) (λ ps. map pair_of l.entries.items ++ ps) l.invariant.0 l.body _ l.invariant.2 some_left l.invariant.1 (no_pair_value c.args.depth l.body middle c.in_ok-name.name c.in_ok-name.ensures none)))
 
 pub pairs-loop-alloc-smaller : goal.pairs-loop-alloc-smaller
 pairs-loop-alloc-smaller g t c =
@@ -123,14 +121,14 @@ pub pairs-loop-alloc-preserved : goal.pairs-loop-alloc-preserved
 pairs-loop-alloc-preserved g t c =
     let l = c.loop-alloc in
     let some_left : l.body ≡ [] → ⊥ = grind arith in
-    let found : Pair = (c.in_ok-name.name, value_of c.in_ok-value.value) in
+    let entry : Entry = record { name = c.in_ok-name.name; value = c.in_ok-value.value } in
     let read = pair_is c.args.depth l.body c.short_string.new.self c.value.new.cursor c.in_ok-name.name (value_of c.in_ok-value.value) c.in_ok-name.ensures c.in_ok-value.ensures in
-    let shorter = pair_shorter c.args.depth l.body found c.value.new.cursor read in
-    let step = row_step (pair_with (value_at c.args.depth)) (put_all l.table) l.invariant.0 l.body _ l.invariant.2 some_left l.invariant.1 (put_all (put l.table c.in_ok-name.name (value_of c.in_ok-value.value))) found c.value.new.cursor (λ ps. refl) read in
-    (l.invariant.0 - 1, omega (arith, shorter, l.invariant.1), rw c.in_ok-put.ensures step)
+    let shorter = pair_shorter c.args.depth l.body (pair_of entry) c.value.new.cursor read in
+    let step = row_step (pair_with (value_at c.args.depth)) (λ ps. map pair_of l.entries.items ++ ps) l.invariant.0 l.body _ l.invariant.2 some_left l.invariant.1 (λ ps. map pair_of (l.entries.items ++ entry ∷ []) ++ ps) (pair_of entry) c.value.new.cursor (entries_more l.entries.items entry) read in
+    (l.invariant.0 - 1, omega (arith, shorter, l.invariant.1), rw c.in_ok-push.ensures.items step)
 
 pub pairs-returns : goal.pairs-returns
 pairs-returns g t c =
     let l = c.loop-alloc in
     let none_left : l.body ≡ [] = grind arith in
-    row_done (pair_with (value_at c.args.depth)) (put_all l.table) l.invariant.0 l.body _ l.invariant.2 none_left
+    row_done (pair_with (value_at c.args.depth)) (λ ps. map pair_of l.entries.items ++ ps) l.invariant.0 l.body _ l.invariant.2 none_left ∙ ap Some (append-nil (map pair_of l.entries.items))

@@ -1,7 +1,6 @@
-use Rattle.std.proofs.Common.{◌≡◌, ℕ, ◌+◌, ◌*◌, ◌≤◌, ◌++◌, length, option_map}
+use Rattle.std.proofs.Common.{◌≡◌, ℕ, ◌+◌, ◌*◌, ◌≤◌, ◌++◌, length, map, option_map}
 use Rattle.amqp_types.specs.Reading.{value_at, row_at, pair_with}
-use Rattle.amqp_types.specs.Table.{map_of}
-use Rattle.amqp_frame.proofs.Rows.{put_all}
+use Rattle.amqp_types.specs.View.{pair_of}
 use Rattle.amqp_frame.proofs.read.values.+value.Given as goal
 
 abbrev pub decreases-value : goal.decreases-value
@@ -26,7 +25,7 @@ abbrev pub decreases-values-loop-alloc : goal.decreases-values-loop-alloc
 decreases-values-loop-alloc g l = length l.body
 
 abbrev pub invariant-pairs-loop-alloc : goal.invariant-pairs-loop-alloc
-invariant-pairs-loop-alloc g l = (n : ℕ) × (length l.body ≤ n) × (option_map (put_all l.table) (row_at (pair_with (value_at l.depth)) n l.body) ≡ option_map map_of (row_at (pair_with (value_at l.depth)) (length l.fn.body) l.fn.body))
+invariant-pairs-loop-alloc g l = (n : ℕ) × (length l.body ≤ n) × (option_map (λ ps. map pair_of l.entries.items ++ ps) (row_at (pair_with (value_at l.depth)) n l.body) ≡ row_at (pair_with (value_at l.depth)) (length l.fn.body) l.fn.body)
 
 abbrev pub decreases-pairs-loop-alloc : goal.decreases-pairs-loop-alloc
 decreases-pairs-loop-alloc g l = length l.body
