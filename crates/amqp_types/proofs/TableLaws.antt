@@ -1,19 +1,18 @@
 -- Tables as maps: what a name has after another was put, and what it has in a table made of pairs.
-use Rattle.std.proofs.Common.{◌≡◌, ℕ, Bool, true, false, cond, List, [], ◌∷◌, ◌++◌, map, fold, Option, Some, None, nat_eq, refl, sym, ap, ◌∙◌, subst, inl, inr, append_assoc, append-nil}
+use Rattle.std.proofs.Common.{◌≡◌, ℕ, ◌-◌, Bool, true, false, cond, List, [], ◌∷◌, ◌++◌, map, fold, Some, nat_eq, refl, sym, ap, ◌∙◌, subst, inl, inr, append_assoc, append-nil}
 use Rattle.std.specs.Ordering.{is_eq, match_ordering}
 use Rattle.std.specs.Cmp.{Equal-is}
 use Rattle.std.specs.Cmp.Lexicographic.{pointwise, texts_ties}
 use Rattle.std.specs.BTreeMap.{insert_entry}
-use Rattle.std.specs.declared.cmp.Ordering.{Ordering}
 use Rattle.std.specs.declared.cmp.Ordering.TheVariants.{Less, Equal, Greater}
 use Rattle.std.proofs.lemmas.Map.Lookups.{exact_bytes}
 use Rattle.std.proofs.lemmas.Grind.{fold-append}
 use Rattle.amqp_types.specs.declared.value.AMQPValue.{AMQPValue}
 use Rattle.amqp_types.specs.Value.{FieldValue, Pair}
 use Rattle.amqp_types.specs.View.{value_of, named}
-use Rattle.amqp_types.specs.Table.{name_cmp, IsBelowFirst, IsInOrder, get, put, map_of, last_value}
+use Rattle.amqp_types.specs.Table.{name_cmp, IsInOrder, get, put, map_of, last_value}
+use Rattle.amqp_types.specs.Spelling.{max_depth}
 use Rattle.amqp_types.specs.Laws.{LastPairCounts, NamesStandOnce, PutSetsOneName}
-use Rattle.amqp_types.proofs.Readers.{IsReader}
 use Rattle.amqp_types.proofs.FieldReaders.{table_at_reader}
 use Rattle.amqp_types.proofs.Tables.{names_total, turned_back, put_less, put_equal, put_greater, split_order, put_in_order}
 
@@ -71,7 +70,7 @@ pub names_stand_once : NamesStandOnce
 names_stand_once pairs = in_order_after [] pairs tt
 
 pub last_pair_counts : LastPairCounts
-last_pair_counts pairs body text rest row string = (map_of pairs, (table_at_reader 127).again (map_of pairs) text rest (body, pairs, refl, row, string), get_map_of pairs)
+last_pair_counts pairs body text rest row string = (map_of pairs, (table_at_reader (max_depth - 1)).again (map_of pairs) text rest (body, pairs, refl, row, string), get_map_of pairs)
 
 pub map_of_push : (pairs : List Pair) (p : Pair) → map_of (pairs ++ p ∷ []) ≡ put (map_of pairs) p.0 p.1
 map_of_push pairs p = fold-append (λ t p. put t p.0 p.1) [] pairs (p ∷ [])

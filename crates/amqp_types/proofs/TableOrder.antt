@@ -1,5 +1,5 @@
 -- A table's order, place by place, and what a binary search of it finds.
-use Rattle.std.proofs.Common.{◌≡◌, ℕ, zero, suc, ◌+◌, ◌<◌, ◌≤◌, Bool, true, false, List, [], ◌∷◌, ◌++◌, length, get_or, drop, map, Result, MatchResult, Ok, Err, refl, sym, ap, ◌∙◌, subst, inl, inr, arith}
+use Rattle.std.proofs.Common.{◌≡◌, ℕ, zero, suc, ◌+◌, ◌<◌, ◌≤◌, Bool, true, false, List, [], ◌∷◌, length, get_or, map, Err, refl, sym, ap, ◌∙◌, subst, inl, inr, arith}
 use Rattle.std.specs.Bool.{Decides}
 use Rattle.std.specs.Ordering.{is_lt}
 use Rattle.std.specs.List.{HoldsAt, IsAllAdjacentAnswer}
@@ -14,7 +14,7 @@ use Rattle.amqp_types.specs.declared.value.AMQPValue.TheVariants.{Void}
 use Rattle.amqp_types.specs.declared.value.Entry.{Entry}
 use Rattle.amqp_types.specs.View.{pair_of}
 use Rattle.amqp_types.specs.Value.{Pair}
-use Rattle.amqp_types.specs.Table.{name_cmp, IsBelowFirst, IsInOrder, HasNameAt, HasGapAt}
+use Rattle.amqp_types.specs.Table.{name_cmp, IsInOrder, HasNameAt, HasGapAt}
 use Rattle.amqp_types.proofs.Tables.{names_total, no_pair, name_at, turned, turned_back, IsAboveBefore, found_at, gap_at, below_from, below_end}
 
 -- each name is below the next, by places

@@ -6,10 +6,11 @@ use Rattle.amqp_types.specs.Forms.{Form, Nothing, ◌▸◌, OctetOf, NumberOf, 
 use Rattle.amqp_types.specs.Forms as form
 use Rattle.amqp_types.specs.Table.{map_of}
 
--- how deep tables and arrays may stand in one another, the outermost table included
+-- how many tables and arrays may stand in one another, the outermost table included; a limit of our own
 abbrev pub max_depth : ℕ
 max_depth = 128
 
+-- the octet that stands before a value and names its kind
 abbrev pub tag_of : Scalar → ℕ
 tag_of (boolean b) = 116  -- t
 tag_of (short_short_int z) = 98  -- b
@@ -31,7 +32,7 @@ tag_of void = 86  -- V
 abbrev pub BooleanOf : Bool → Form
 BooleanOf b bytes = (n : ℕ) × (b ≡ not (n == 0)) × OctetOf n bytes
 
--- what stands behind the tag
+-- the text behind the tag of a value that holds no other
 abbrev pub ScalarOf : Scalar → Form
 ScalarOf (boolean b) = BooleanOf b
 ScalarOf (short_short_int z) = λ bytes. (n : ℕ) × (z ≡ cast_signed w8 n) × OctetOf n bytes
@@ -49,19 +50,19 @@ ScalarOf (byte_array bytes) = form.LongStringOf bytes
 ScalarOf (timestamp n) = NumberOf w64 n
 ScalarOf void = Nothing
 
--- four octets of length, and values that use them exactly
+-- an array: four octets of length, and values that use that length exactly
 abbrev pub ArrayOf : (FieldValue → Form) → List FieldValue → Form
 ArrayOf F values bytes = (body : List ℕ) × Row F values body × form.LongStringOf body bytes
 
--- a name and a tagged value
+-- a name as a short string, and a tagged value
 abbrev pub PairOf : (FieldValue → Form) → Pair → Form
 PairOf F p = ShortStringOf p.0 ▸ F p.1
 
--- four octets of length, and pairs that use them exactly; each name has the value of its last pair
+-- a table: four octets of length, and pairs that use that length exactly; each name has the value of its last pair
 abbrev pub TableOf : (FieldValue → Form) → List Pair → Form
 TableOf F entries bytes = (body : List ℕ) × (pairs : List Pair) × (entries ≡ map_of pairs) × Row (PairOf F) pairs body × form.LongStringOf body bytes
 
--- a tag, and what stands behind it
+-- a tagged value: its tag, and what stands behind it
 abbrev pub Tagged : (List FieldValue → Form) → (List Pair → Form) → FieldValue → Form
 Tagged Array Table (scalar s) = OctetOf (tag_of s) ▸ ScalarOf s
 Tagged Array Table (array vs) = OctetOf 65 ▸ Array (list_of vs)  -- A
@@ -72,12 +73,13 @@ abbrev pub Spells : ℕ → FieldValue → Form
 Spells zero = Tagged (λ vs bytes. ⊥) (λ ps bytes. ⊥)
 Spells (suc depth) = Tagged (ArrayOf (Spells depth)) (TableOf (Spells depth))
 
--- a table that stands alone, as an argument of a method: of the depth, the table itself is the first
+-- a table that stands alone, as an argument of a method: it is the first of those that stand in one another
 abbrev pub SpellsTable : List Pair → Form
 SpellsTable = TableOf (Spells (max_depth - 1))
 
 -- ---- the written spelling: Booleans 0 or 1, names once each and in byte order
 
+-- the written text behind the tag of a value that holds no other
 abbrev pub spell_scalar : Scalar → List ℕ
 spell_scalar (boolean b) = (if b then 1 else 0) ∷ []
 spell_scalar (short_short_int z) = cast_unsigned w8 z ∷ []
@@ -95,6 +97,7 @@ spell_scalar (byte_array bytes) = spell_long_string bytes
 spell_scalar (timestamp n) = to_be_bytes w64 n
 spell_scalar void = []
 
+-- the written text of a tagged value, of values and of pairs
 abbrev mutual
   pub spell : FieldValue → List ℕ
   spell (scalar s) = tag_of s ∷ spell_scalar s
@@ -109,5 +112,6 @@ abbrev mutual
   spell_pairs no_pairs = []
   spell_pairs (pair name v ps) = spell_short_string name ++ spell v ++ spell_pairs ps
 
+-- the written text of a table that stands alone
 abbrev pub spell_table : List Pair → List ℕ
 spell_table pairs = spell_long_string (spell_pairs (pairs_from pairs))

@@ -37,7 +37,7 @@ pub(crate) fn copy_of(alloc: Global, value: &AMQPValue) -> Result<AMQPValue, NoM
 pub(crate) fn copy_of_values(alloc: Global, values: &Values) -> Result<Values, NoMemory>
     ensures { IfOk result (λ v. v ≡ values.now) }
 {
-    let mut items = Vec::new(alloc);
+    let mut items = Vec::with_capacity(alloc, values.len())?;
     for value in values.as_slice() {
         items.push(copy_of(alloc, value)?)?;
     }
@@ -49,7 +49,7 @@ pub(crate) fn copy_of_values(alloc: Global, values: &Values) -> Result<Values, N
 pub(crate) fn copy_of_table(alloc: Global, table: &FieldTable) -> Result<FieldTable, NoMemory>
     ensures { IfOk result (λ t. t ≡ table.now) }
 {
-    let mut entries = Vec::new(alloc);
+    let mut entries = Vec::with_capacity(alloc, table.len())?;
     for entry in table.entries() {
         entries.push(Entry {
             name: entry.name.try_clone(alloc)?,

@@ -1,4 +1,4 @@
-use Rattle.std.proofs.Common.{◌≡◌, map, sym, ◌∙◌, subst, rules}
+use Rattle.std.proofs.Common.{map, sym, ◌∙◌, subst, rules}
 use Rattle.amqp_types.specs.View.{pair_of}
 use Rattle.amqp_types.specs.Table.{IsInOrder}
 use Rattle.amqp_types.proofs.TableLaws.{map_of_ordered, names_stand_once}
