@@ -2,11 +2,12 @@
 //! broker's own bytes, never in what this crate gave.
 
 use super::*;
-use crate::handshake::start_ok;
 use amqp_frame::{FixedRoom, Frame, Method, encoded_len, write_frame};
-use amqp_types::{FieldTable, LongString, ProtocolVersion, ShortString};
+use amqp_types::{FieldTable, LongString, ShortString};
 use std::alloc::Global;
 use std::test::Fail;
+
+const HEADER: &[u8] = b"AMQP\x00\x00\x09\x01";
 
 // The start-ok that the client lapin 4.4.0 sends for user and password `guest`.
 const START_OK: &[u8] = b"\x01\x00\x00\x00\x00\x01\x33\x00\x0a\x00\x0b\x00\x00\x01\x0f\
@@ -24,6 +25,14 @@ const START_OK: &[u8] = b"\x01\x00\x00\x00\x00\x01\x33\x00\x0a\x00\x0b\x00\x00\x
     \x07productS\x00\x00\x00\x05lapin\
     \x07versionS\x00\x00\x00\x054.4.0\
     \x05PLAIN\x00\x00\x00\x0c\x00guest\x00guest\x05en_US\xce";
+
+const TUNE_OK: &[u8] =
+    b"\x01\x00\x00\x00\x00\x00\x0c\x00\x0a\x00\x1f\x07\xff\x00\x02\x00\x00\x00\x3c\xce";
+
+const OPEN: &[u8] = b"\x01\x00\x00\x00\x00\x00\x08\x00\x0a\x00\x28\x01/\x00\x00\xce";
+
+const CLOSE: &[u8] =
+    b"\x01\x00\x00\x00\x00\x00\x0d\x00\x0a\x00\x32\x00\xc8\x02OK\x00\x00\x00\x00\xce";
 
 fn start(alloc: Global) -> std::result::Result<Frame, Fail> {
     Ok(Frame::Method(
@@ -79,59 +88,78 @@ fn send_all(session: &mut Session) {
     session.taken(session.unsent(), 0);
 }
 
-// The next frame, where the capacity has room for it.
-fn next(session: &mut Session) -> Option<Frame> {
-    session.next_frame(CAPACITY - session.unsent())
+// Whether the next frame is spelled by these octets.
+fn writes(alloc: Global, session: &mut Session, octets: &[u8]) -> std::result::Result<bool, Fail> {
+    let Some(frame) = session.next_frame(CAPACITY - session.unsent()) else {
+        return Ok(false);
+    };
+    if encoded_len(&frame) > 4_294_967_295 {
+        return Ok(false);
+    }
+    let mut room = FixedRoom::new(alloc, octets.len())?;
+    Ok(write_frame(&frame, &mut room).is_ok() && room.as_slice() == octets)
+}
+
+// Whether there is nothing to be written.
+fn is_silent(session: &mut Session) -> bool {
+    session.next_frame(CAPACITY - session.unsent()).is_none()
+}
+
+fn refused_in(state: ConnectionState) -> Option<Result<Answer>> {
+    Some(Err(ErrorKind::InvalidConnectionState(state).into()))
 }
 
 #[test]
-fn start_ok_is_spelled_as_lapin_spells_it(rt: HostRuntime) -> std::result::Result<(), Fail> {
-    let alloc = rt.alloc();
-    let frame = start_ok(alloc)?;
-    assert_eq!(rt; START_OK.len(), 315);
-    let mut room = FixedRoom::new(alloc, 315)?;
-    assert!(rt; encoded_len(&frame) <= 4_294_967_295);
-    assert!(rt; write_frame(&frame, &mut room).is_ok());
-    assert!(rt; room.as_slice() == START_OK);
+fn a_link_is_wanted_and_asked_for_once(rt: HostRuntime) -> std::result::Result<(), Fail> {
+    let mut session = Session::new(rt.alloc())?;
+    assert!(rt; session.state() == ConnectionState::Initial);
+    assert!(rt; session.wants_link() && !session.is_asked());
+    session.asked();
+    assert!(rt; session.wants_link() && session.is_asked());
+    session.linked(0)?;
+    assert!(rt; session.is_open() && !session.wants_link() && !session.is_asked());
+    assert!(rt; session.state() == ConnectionState::Connecting);
     Ok(())
 }
 
 #[test]
-fn a_handshake_opens_the_connection(rt: HostRuntime) -> std::result::Result<(), Fail> {
+fn header_and_start_ok_are_spelled_as_lapin_spells_them(
+    rt: HostRuntime,
+) -> std::result::Result<(), Fail> {
     let alloc = rt.alloc();
-    let mut session = Session::new(alloc)?;
-    assert!(rt; session.state() == ConnectionState::Initial);
-    assert!(rt; session.wants_link() && !session.is_asked());
-    assert!(rt; session.promises() == 1);
-    session.asked();
-    assert!(rt; session.wants_link() && session.is_asked());
-    session.linked(5)?;
-    assert!(rt; session.is_open() && !session.wants_link());
-    assert!(rt; session.state() == ConnectionState::Connecting);
-    assert!(rt; session.waiting() == 1);
-    let header = Frame::ProtocolHeader(ProtocolVersion::amqp_0_9_1());
-    assert!(rt; next(&mut session) == Some(header));
-    assert!(rt; session.unsent() == 8);
-    session.taken(session.unsent(), 6);
-    session.piece(7);
-    session.frame(start(alloc)?, 0, 7)?;
-    assert!(rt; next(&mut session) == Some(start_ok(alloc)?));
-    session.frame(tune_of(2047, 131_072, 60), 105, 8)?;
-    let tune_ok = Frame::Method(0, Method::TuneOk(2047, 131_072, 60));
-    assert!(rt; next(&mut session) == Some(tune_ok));
-    let open = Frame::Method(0, Method::Open(ShortString::new(alloc, b"/")?));
-    assert!(rt; next(&mut session) == Some(open));
-    assert!(rt; next(&mut session).is_none());
-    assert!(rt; session.unsent() == 315 + 20 + 16);
-    assert!(rt; session.answer(0).is_none());
-    session.frame(open_ok(), 125, 9)?;
+    let mut session = linked(alloc)?;
+    assert!(rt; START_OK.len() == 315);
+    assert!(rt; writes(alloc, &mut session, HEADER)?);
+    assert!(rt; is_silent(&mut session));
+    session.piece(0);
+    session.frame(start(alloc)?, 0, 0)?;
+    assert!(rt; writes(alloc, &mut session, START_OK)?);
+    Ok(())
+}
+
+#[test]
+fn tune_is_answered_by_tune_ok_and_open(rt: HostRuntime) -> std::result::Result<(), Fail> {
+    let alloc = rt.alloc();
+    let mut session = linked(alloc)?;
+    session.frame(start(alloc)?, 0, 0)?;
+    send_all(&mut session);
+    session.frame(tune_of(2047, 131_072, 60), 105, 0)?;
+    assert!(rt; session.waiting() == 2);
+    assert!(rt; writes(alloc, &mut session, TUNE_OK)?);
+    assert!(rt; writes(alloc, &mut session, OPEN)?);
+    assert!(rt; session.unsent() == 36);
+    Ok(())
+}
+
+#[test]
+fn open_ok_opens_the_connection(rt: HostRuntime) -> std::result::Result<(), Fail> {
+    let mut session = connected(rt.alloc())?;
     assert!(rt; session.state() == ConnectionState::Connected);
     assert!(rt; session.configuration().channel_max() == 2047);
     assert!(rt; session.configuration().frame_max() == 131_072);
     assert!(rt; session.configuration().heartbeat() == 60);
     assert!(rt; session.answer(0) == Some(Ok(Answer::Connected)));
     assert!(rt; session.answer(0).is_none());
-    assert!(rt; session.end().is_none());
     Ok(())
 }
 
@@ -141,22 +169,26 @@ fn our_close_ends_closed(rt: HostRuntime) -> std::result::Result<(), Fail> {
     let mut session = connected(alloc)?;
     assert!(rt; session.command(our_close(alloc)?)? == Some(1));
     assert!(rt; session.state() == ConnectionState::Closing);
-    let text = ShortString::new(alloc, b"OK")?;
-    let close = Frame::Method(0, Method::Close(200, text, 0, 0));
-    assert!(rt; next(&mut session) == Some(close));
-    assert!(rt; session.command(our_close(alloc)?)? == Some(2));
-    assert!(rt; session.answer(1).is_none());
-    let closing = ErrorKind::InvalidConnectionState(ConnectionState::Closing);
-    assert!(rt; session.answer(2) == Some(Err(closing.into())));
+    assert!(rt; writes(alloc, &mut session, CLOSE)?);
+    assert!(rt; session.answer(1).is_none() && session.end().is_none());
     session.frame(close_ok(), 138, 0)?;
     assert!(rt; session.state() == ConnectionState::Closed);
-    assert!(rt; session.has_ended() && !session.is_open());
-    assert!(rt; session.end() == Some(Ok(())));
     assert!(rt; session.answer(1) == Some(Ok(Answer::Done)));
+    assert!(rt; session.end() == Some(Ok(())));
+    Ok(())
+}
+
+#[test]
+fn a_second_close_is_refused(rt: HostRuntime) -> std::result::Result<(), Fail> {
+    let alloc = rt.alloc();
+    let mut session = connected(alloc)?;
+    session.command(our_close(alloc)?)?;
+    assert!(rt; session.command(our_close(alloc)?)? == Some(2));
+    assert!(rt; session.answer(2) == refused_in(ConnectionState::Closing));
+    session.frame(close_ok(), 138, 0)?;
     assert!(rt; session.command(our_close(alloc)?)? == Some(3));
-    let closed = ErrorKind::InvalidConnectionState(ConnectionState::Closed);
-    assert!(rt; session.answer(3) == Some(Err(closed.into())));
-    assert!(rt; session.promises() == 4);
+    assert!(rt; session.answer(3) == refused_in(ConnectionState::Closed));
+    assert!(rt; session.promises() == 4 && session.has_ended());
     Ok(())
 }
 
@@ -167,8 +199,7 @@ fn a_close_before_the_connection_is_open_is_refused(
     let alloc = rt.alloc();
     let mut session = linked(alloc)?;
     assert!(rt; session.command(our_close(alloc)?)? == Some(1));
-    let connecting = ErrorKind::InvalidConnectionState(ConnectionState::Connecting);
-    assert!(rt; session.answer(1) == Some(Err(connecting.into())));
+    assert!(rt; session.answer(1) == refused_in(ConnectionState::Connecting));
     assert!(rt; session.answer(0).is_none());
     assert!(rt; session.state() == ConnectionState::Connecting);
     assert!(rt; session.waiting() == 1);
@@ -183,7 +214,7 @@ fn a_heartbeat_first_is_not_built(rt: HostRuntime) -> std::result::Result<(), Fa
     assert!(rt; session.state() == ConnectionState::Error);
     assert!(rt; session.end() == Some(Err(ErrorKind::Unbuilt(0).into())));
     assert!(rt; session.answer(0) == Some(Err(ErrorKind::Unbuilt(0).into())));
-    assert!(rt; next(&mut session).is_none());
+    assert!(rt; is_silent(&mut session));
     Ok(())
 }
 
@@ -241,17 +272,24 @@ fn frames_are_sent_when_their_last_byte_is_taken(rt: HostRuntime) -> std::result
     let alloc = rt.alloc();
     let mut session = linked(alloc)?;
     session.frame(start(alloc)?, 0, 0)?;
-    assert!(rt; session.next_frame(7).is_none());
-    assert!(rt; next(&mut session).is_some());
+    assert!(rt; writes(alloc, &mut session, HEADER)?);
     assert!(rt; session.unsent() == 8);
     session.taken(3, 0);
     assert!(rt; session.unsent() == 5);
-    assert!(rt; next(&mut session).is_some());
+    assert!(rt; writes(alloc, &mut session, START_OK)?);
     assert!(rt; session.unsent() == 320);
     session.taken(6, 0);
     assert!(rt; session.unsent() == 314);
-    session.taken(0, 0);
-    assert!(rt; session.unsent() == 314);
+    Ok(())
+}
+
+#[test]
+fn a_frame_waits_for_its_room(rt: HostRuntime) -> std::result::Result<(), Fail> {
+    let mut session = linked(rt.alloc())?;
+    assert!(rt; session.unsent() == 0);
+    assert!(rt; session.next_frame(7).is_none());
+    assert!(rt; session.waiting() == 1 && session.unsent() == 0);
+    assert!(rt; session.next_frame(8).is_some());
     Ok(())
 }
 
