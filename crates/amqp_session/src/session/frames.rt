@@ -8,7 +8,8 @@ use crate::command::Answer;
 use crate::configuration::{Configuration, tune};
 use crate::error::{self, ErrorKind};
 use crate::handshake::{open_vhost, start_ok, tune_ok};
-use crate::state::{ConnectionState, Phase};
+use crate::state::ConnectionState::{Closing, Connected, Connecting};
+use crate::state::Phase::{AwaitOpenOk, AwaitStart, AwaitTune};
 use amqp_frame::{Frame, Method};
 use amqp_types::NoMemory;
 
@@ -37,22 +38,23 @@ impl Session {
         ensures err { OnErr result (self.new ≡ self.old) }
     {
         match (self.state, self.phase, frame) {
-            (ConnectionState::Connecting, Phase::AwaitStart, Frame::Method(0, Method::Start(..))) =>
-                { self.on_start() }
+            (Connecting, AwaitStart, Frame::Method(0, Method::Start(..))) => self.on_start(),
             (
-                ConnectionState::Connecting,
-                Phase::AwaitTune,
+                Connecting,
+                AwaitTune,
                 Frame::Method(0, Method::Tune(channel_max, frame_max, heartbeat)),
-            ) => self.on_tune(Configuration {
-                channel_max: *channel_max,
-                frame_max: *frame_max,
-                heartbeat: *heartbeat,
-            }),
-            (ConnectionState::Connecting, Phase::AwaitOpenOk, Frame::Method(0, Method::OpenOk)) => {
+            ) => {
+                self.on_tune(Configuration {
+                    channel_max: *channel_max,
+                    frame_max: *frame_max,
+                    heartbeat: *heartbeat,
+                })
+            }
+            (Connecting, AwaitOpenOk, Frame::Method(0, Method::OpenOk)) => {
                 self.on_open_ok();
                 Ok(())
             }
-            (ConnectionState::Closing, _, Frame::Method(0, Method::CloseOk)) => {
+            (Closing, _, Frame::Method(0, Method::CloseOk)) => {
                 self.on_connection_close_ok(place);
                 Ok(())
             }
@@ -70,7 +72,7 @@ impl Session {
         let frame = start_ok(self.alloc)?;
         self.committed.reserve(self.lanes.len() + 1)?;
         self.lanes.queue(frame)?;
-        self.phase = Phase::AwaitTune;
+        self.phase = AwaitTune;
         Ok(())
     }
 
@@ -83,7 +85,7 @@ impl Session {
         self.committed.reserve(self.lanes.len() + 2)?;
         self.lanes.queue_both(tune_ok(agreed), open)?;
         self.configuration = agreed;
-        self.phase = Phase::AwaitOpenOk;
+        self.phase = AwaitOpenOk;
         Ok(())
     }
 
@@ -91,7 +93,7 @@ impl Session {
         ensures { self.new ≡ on_open_ok self.old }
     {
         self.give(0, Ok(Answer::Connected));
-        self.state = ConnectionState::Connected;
+        self.state = Connected;
     }
 
     fn on_connection_close_ok(&mut self, place: u64)
