@@ -1,0 +1,1 @@
+//! Runs over ports in memory.
