@@ -12,8 +12,8 @@ protocol_header = ProtocolHeader (record { major = 0; minor = 9; revision = 1 })
 abbrev pub yes : FieldValue
 yes = scalar (boolean true)
 
-abbrev pub words : List ℕ → FieldValue
-words content = scalar (long_string content)
+abbrev pub text_value : List ℕ → FieldValue
+text_value content = scalar (long_string content)
 
 -- what this client can do, each under its name
 abbrev pub capabilities : List Pair
@@ -33,9 +33,9 @@ capabilities =
 abbrev pub client_properties : List Pair
 client_properties =
     (codes "capabilities", table (pairs_from capabilities))
-    ∷ (codes "platform", words (codes "rust"))
-    ∷ (codes "product", words (codes "lapin"))
-    ∷ (codes "version", words (codes "4.4.0"))
+    ∷ (codes "platform", text_value (codes "rust"))
+    ∷ (codes "product", text_value (codes "lapin"))
+    ∷ (codes "version", text_value (codes "4.4.0"))
     ∷ []
 
 -- the response of the mechanism PLAIN (RFC 4616): no authorisation identity, the user, the password

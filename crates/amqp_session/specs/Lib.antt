@@ -6,3 +6,4 @@ pub mod Outgoing
 pub mod Rules
 pub mod Writing
 pub mod Answers
+pub mod Laws

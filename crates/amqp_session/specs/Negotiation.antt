@@ -1,5 +1,6 @@
 -- The numbers of a connection, as the wishes of both peers decide them (AMQP 0-9-1, connection.tune).
 use Rattle.std.specs.Prelude.{ℕ, ◌==◌, if◌then◌else◌, min, max}
+use Rattle.amqp_session.specs.declared.session.TheConstants.{CAPACITY}
 use Rattle.amqp_session.specs.declared.configuration.Configuration.{Configuration}
 
 -- the lesser of two wishes, where 0 is none
@@ -22,3 +23,7 @@ tune own server =
       frame_max = max frame_min_size (wish_or 4294967295 (lesser_wish own.frame_max server.frame_max));
       heartbeat = lesser_wish own.heartbeat server.heartbeat;
     }
+
+-- the greatest number of octets that a frame may have that is read: as agreed, and within the buffer
+abbrev pub frame_limit : Configuration → ℕ
+frame_limit c = min CAPACITY (wish_or CAPACITY c.frame_max)

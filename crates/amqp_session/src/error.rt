@@ -1,12 +1,24 @@
 //! The errors of a session.
 
-ghost use Rattle.std.specs.Prelude.{◌≡◌, IfOk};
+ghost use Rattle.std.specs.Prelude.{◌≡◌, ◌≤◌, ◌+◌, ◌++◌, length, IfOk};
+ghost use Rattle.std.specs.Fmt.{decimal};
+ghost use Rattle.amqp_session.specs.Errors.{text_of};
 
 use crate::state::ConnectionState;
+use amqp_frame::Room;
 use amqp_types::NoMemory;
-use std::alloc::{AllocError, Global};
+use itoa::Buffer;
+use std::alloc::Global;
 use std::fmt;
 use std::marker::Model;
+
+const INVALID_STATE: &str = "invalid connection state: ";
+
+const OUT_OF_TURNS: &str = "the given turns were all taken";
+
+const NO_MEMORY: &str = "memory was refused";
+
+const UNBUILT: &str = "not built: frame at byte ";
 
 /// What went wrong.
 #[derive(Debug, PartialEq, Eq, Drop)]
@@ -67,6 +79,38 @@ impl Error {
         Ok(self.copied())
     }
 
+    /// How many bytes its text takes.
+    pub fn text_len(&self) -> usize
+        ensures { result ≡ length (text_of self.now) }
+    {
+        match &self.kind {
+            ErrorKind::InvalidConnectionState(held) => INVALID_STATE.len() + held.name().len(),
+            ErrorKind::OutOfTurns => OUT_OF_TURNS.len(),
+            ErrorKind::NoMemory => NO_MEMORY.len(),
+            ErrorKind::Unbuilt(place) => UNBUILT.len() + Buffer::new().format(*place).len(),
+        }
+    }
+
+    /// Puts its text, which takes no memory.
+    pub fn put_text<R: Room>(&self, room: &mut R)
+        requires { length (text_of self.now) ≤ R.free room.old }
+        ensures bytes { R.put_so_far room.new ≡ R.put_so_far room.old ++ text_of self.now }
+        ensures space { R.free room.new + length (text_of self.now) ≡ R.free room.old }
+    {
+        match &self.kind {
+            ErrorKind::InvalidConnectionState(held) => {
+                room.put(INVALID_STATE.as_bytes());
+                room.put(held.name().as_bytes());
+            }
+            ErrorKind::OutOfTurns => room.put(OUT_OF_TURNS.as_bytes()),
+            ErrorKind::NoMemory => room.put(NO_MEMORY.as_bytes()),
+            ErrorKind::Unbuilt(place) => {
+                room.put(UNBUILT.as_bytes());
+                put_number(*place, room);
+            }
+        }
+    }
+
     // An equal error, which takes no memory as long as no kind holds a text.
     pub(crate) fn copied(&self) -> Error
         ensures { result ≡ self.now }
@@ -75,6 +119,15 @@ impl Error {
             kind: self.kind.copied(),
         }
     }
+}
+
+// Puts the decimal digits of a number.
+fn put_number<R: Room>(number: u64, room: &mut R)
+    requires { length (decimal number) ≤ R.free room.old }
+    ensures bytes { R.put_so_far room.new ≡ R.put_so_far room.old ++ decimal number }
+    ensures space { R.free room.new + length (decimal number) ≡ R.free room.old }
+{
+    room.put(Buffer::new().format(number).as_bytes());
 }
 
 impl From<ErrorKind> for Error {
@@ -108,12 +161,10 @@ impl fmt::Display for Error {
 
     fn fmt<W: fmt::Write>(&self, f: &mut fmt::Formatter<W>) -> fmt::Result {
         match &self.kind {
-            ErrorKind::InvalidConnectionState(held) => {
-                write!(f, "invalid connection state: {held}")
-            }
-            ErrorKind::OutOfTurns => f.write_str("the given turns were all taken"),
-            ErrorKind::NoMemory => f.write_str("memory was refused"),
-            ErrorKind::Unbuilt(place) => write!(f, "not built: frame at byte {place}"),
+            ErrorKind::InvalidConnectionState(held) => { write!(f, "{INVALID_STATE}{held}") }
+            ErrorKind::OutOfTurns => f.write_str(OUT_OF_TURNS),
+            ErrorKind::NoMemory => f.write_str(NO_MEMORY),
+            ErrorKind::Unbuilt(place) => write!(f, "{UNBUILT}{place}"),
         }
     }
 }

@@ -2,7 +2,7 @@
 
 ghost use Rattle.std.specs.Prelude.{◌≡◌, ◌<◌, length, IfOk, OnOk};
 ghost use Rattle.amqp_types.specs.Table.{put};
-ghost use Rattle.amqp_session.specs.Handshake.{protocol_header, yes, words, capabilities, client_properties, start_ok, tune_ok, open_vhost, our_close};
+ghost use Rattle.amqp_session.specs.Handshake.{protocol_header, yes, text_value, capabilities, client_properties, start_ok, tune_ok, open_vhost, our_close};
 
 use crate::configuration::Configuration;
 use amqp_frame::{Frame, Method};
@@ -42,7 +42,7 @@ fn set_flag(alloc: Global, table: &mut FieldTable, name: &[u8]) -> Result<(), No
 fn set_text(alloc: Global, table: &mut FieldTable, name: &[u8], text: &[u8]) -> Result<(), NoMemory>
     requires name { length name.now < 256 }
     requires text { length text.now < 256 }
-    ensures { OnOk result (table.new ≡ put table.old name.now (words text.now)) }
+    ensures { OnOk result (table.new ≡ put table.old name.now (text_value text.now)) }
 {
     let value = AMQPValue::LongString(long(alloc, text)?);
     table.insert(short(alloc, name)?, value)?;

@@ -11,6 +11,7 @@ mod configuration;
 mod error;
 mod handshake;
 mod lanes;
+mod laws;
 mod promises;
 mod session;
 mod state;
@@ -18,5 +19,12 @@ mod state;
 pub use command::{Answer, Cmd};
 pub use configuration::{Configuration, tune};
 pub use error::{Error, ErrorKind, Result};
+pub use laws::{
+    a_refusal_changes_promises_alone, an_answer_is_taken_once, an_end_is_kept,
+    negotiation_leaves_room, unsent_bytes_are_counted,
+};
 pub use session::{CAPACITY, Session};
 pub use state::ConnectionState;
+
+#[cfg(test)]
+mod tests;

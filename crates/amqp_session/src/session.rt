@@ -1,9 +1,10 @@
 //! The session, and its calls on links, moments and ends.
 
-ghost use Rattle.std.specs.Prelude.{◌≡◌, ◌+◌, ◌<◌, ◌^◌, length, IfOk, IfErr, OnOk, OnErr, IsTrue};
+ghost use Rattle.std.specs.Prelude.{◌≡◌, ◌+◌, ◌<◌, ◌≤◌, ◌^◌, length, IfOk, IfErr, OnOk, OnErr, IsTrue};
 ghost use Rattle.amqp_session.specs.Talk.{start, wants_link, is_asked, is_open, has_ended, end_of};
 ghost use Rattle.amqp_session.specs.Rules.{present_at, asked, linked, piece, misread, starve, fail, finish, give};
 ghost use Rattle.amqp_session.specs.Writing.{unsent};
+ghost use Rattle.amqp_session.specs.Negotiation.{frame_limit};
 
 mod answers;
 mod commands;
@@ -67,8 +68,12 @@ impl Model for Session {
       last_write = s.last_write;
     } };
 
-    // Each frame that will be committed has its place already.
-    ghost invariant = { λ s. length s.committed.marks.items + length s.lanes.control ≤ deque_capacity s.committed.marks };
+    ghost use Rattle.amqp_session.specs.Writing.{left_in};
+    ghost use Rattle.amqp_session.specs.declared.session.TheConstants.{CAPACITY};
+
+    // Each frame that will be committed has its place already, and what is unsent fits the capacity.
+    ghost invariant = { λ s. (length s.committed.marks.items + length s.lanes.control ≤ deque_capacity s.committed.marks)
+        × (left_in s.committed.marks.items ≤ CAPACITY) };
 }
 
 impl Session {
@@ -115,6 +120,16 @@ impl Session {
         ensures { result ≡ self.now.configuration }
     {
         self.configuration
+    }
+
+    /// The greatest number of octets that a frame may have that is read.
+    pub fn frame_limit(&self) -> u64
+        ensures { result ≡ frame_limit self.now.configuration }
+    {
+        match self.configuration.frame_max {
+            0 => CAPACITY,
+            frame_max => CAPACITY.min(frame_max as u64),
+        }
     }
 
     /// Whether a link is wanted. It is asked for once.
@@ -172,7 +187,8 @@ impl Session {
 
     /// How many bytes of the committed frames are unsent.
     pub fn unsent(&self) -> u64
-        ensures { result ≡ unsent self.now }
+        ensures bytes { result ≡ unsent self.now }
+        ensures within { result ≤ CAPACITY }
     {
         self.committed.unsent()
     }
@@ -205,7 +221,7 @@ impl Session {
         if !self.is_asked() {
             return Ok(());
         }
-        match self.open() {
+        match self.open_link() {
             Ok(()) => Ok(()),
             Err(refused) => {
                 self.fail(ErrorKind::NoMemory);
@@ -214,7 +230,7 @@ impl Session {
         }
     }
 
-    fn open(&mut self) -> Result<(), NoMemory>
+    fn open_link(&mut self) -> Result<(), NoMemory>
         requires { IsTrue (is_asked self.old) }
         ensures ok { OnOk result (self.new ≡ linked self.old) }
         ensures err { OnErr result (self.new ≡ self.old) }

@@ -1,5 +1,8 @@
 //! Where a connection stands.
 
+ghost use Rattle.std.specs.Prelude.{◌≡◌};
+ghost use Rattle.amqp_session.specs.Errors.{state_name};
+
 use crate::error;
 use std::fmt;
 
@@ -16,14 +19,11 @@ pub enum ConnectionState {
     Error,
 }
 
-impl fmt::Display for ConnectionState {
-    ghost use Rattle.std.specs.Prelude.{Some};
-    ghost use Rattle.amqp_session.specs.Errors.{state_name};
-
-    ghost output = { λ s. Some (state_name s) };
-
-    fn fmt<W: fmt::Write>(&self, f: &mut fmt::Formatter<W>) -> fmt::Result {
-        f.write_str(match self {
+impl ConnectionState {
+    pub(crate) fn name(self) -> &'static str
+        ensures { result.now ≡ state_name self }
+    {
+        match self {
             ConnectionState::Initial => "Initial",
             ConnectionState::Connecting => "Connecting",
             ConnectionState::Connected => "Connected",
@@ -31,7 +31,18 @@ impl fmt::Display for ConnectionState {
             ConnectionState::Closed => "Closed",
             ConnectionState::Reconnecting => "Reconnecting",
             ConnectionState::Error => "Error",
-        })
+        }
+    }
+}
+
+impl fmt::Display for ConnectionState {
+    ghost use Rattle.std.specs.Prelude.{Some};
+    ghost use Rattle.amqp_session.specs.Errors.{state_name};
+
+    ghost output = { λ s. Some (state_name s) };
+
+    fn fmt<W: fmt::Write>(&self, f: &mut fmt::Formatter<W>) -> fmt::Result {
+        f.write_str(self.name())
     }
 }
 

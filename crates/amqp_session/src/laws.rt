@@ -1,0 +1,44 @@
+//! What the rules keep.
+
+ghost use Rattle.std.specs.Prelude.{◌≡◌, ◌≢◌, ◌≤◌, ℕ, ◌+◌, length, Some, None, IsTrue};
+ghost use Rattle.amqp_frame.specs.declared.frame.Frame.{Frame};
+ghost use Rattle.amqp_frame.specs.Frames.{encoding};
+ghost use Rattle.amqp_session.specs.declared.command.Cmd.{Cmd};
+ghost use Rattle.amqp_session.specs.declared.configuration.Configuration.{Configuration};
+ghost use Rattle.amqp_session.specs.declared.error.ErrorKind.TheVariants.{InvalidConnectionState};
+ghost use Rattle.amqp_session.specs.declared.state.ConnectionState.TheVariants.{Connected};
+ghost use Rattle.amqp_session.specs.Talk.{Talk, has_ended, is_open};
+ghost use Rattle.amqp_session.specs.Negotiation.{tune};
+ghost use Rattle.amqp_session.specs.Rules.{command};
+ghost use Rattle.amqp_session.specs.Writing.{next_within, commit, taken, unsent};
+ghost use Rattle.amqp_session.specs.Answers.{answer_of, take_answer};
+ghost use Rattle.amqp_session.specs.Laws.{IsOver, IsRefused};
+
+/// Negotiation leaves a channel to open, and frames of at least 4,096 octets.
+pub fn negotiation_leaves_room()
+    ensures channels { (own server : Configuration) → 1 ≤ (tune own server).channel_max }
+    ensures frames { (own server : Configuration) → 4096 ≤ (tune own server).frame_max }
+{}
+
+/// A command out of the state Connected is refused, and a refused command changes nothing but the
+/// promises.
+pub fn a_refusal_changes_promises_alone()
+    ensures { (cmd : Cmd) (t : Talk) → t.state ≢ Connected → IsRefused (InvalidConnectionState t.state) t (command cmd t) }
+{}
+
+/// An ended session stays as it ended.
+pub fn an_end_is_kept()
+    ensures { (t : Talk) → IsTrue (has_ended t) → IsOver t }
+{}
+
+/// An answer is taken once.
+pub fn an_answer_is_taken_once()
+    ensures { (number : ℕ) (t : Talk) → answer_of number (take_answer number t) ≡ None }
+{}
+
+/// What is committed is unsent, and what is taken is no longer so.
+pub fn unsent_bytes_are_counted()
+    ensures committed { (space : ℕ) (t : Talk) (f : Frame) → next_within space t ≡ Some f
+        → unsent (commit space t) ≡ unsent t + length (encoding f) }
+    ensures taken { (n : ℕ) (t : Talk) → IsTrue (is_open t) → n ≤ unsent t → unsent (taken n t) + n ≡ unsent t }
+{}
