@@ -1,11 +1,12 @@
 //! What holds of all turns.
 
-ghost use Rattle.std.specs.Prelude.{◌≡◌, ℕ, ◌+◌, [], false, List, Option, All, map};
+ghost use Rattle.std.specs.Prelude.{◌≡◌, ℕ, ◌+◌, [], false, List, Option, map};
+ghost use Rattle.std.specs.List.{AllByRecursion};
 ghost use Rattle.amqp_session.specs.Talk.{has_ended};
 ghost use Rattle.amqp_engine.specs.Log.{Log};
 ghost use Rattle.amqp_engine.specs.Engine.{Engine, begin};
 ghost use Rattle.amqp_engine.specs.Turn.{Turn, turn, IsTurn, AreTurns};
-ghost use Rattle.amqp_engine.specs.Tell.{Runs, log_turns};
+ghost use Rattle.amqp_engine.specs.Tell.{Runs, PlaysTurns, log_turns};
 ghost use Rattle.amqp_engine.specs.Sending.{sendings, link_bytes, SendsInOrder};
 ghost use Rattle.amqp_engine.specs.Unread.{IsRead};
 
@@ -20,9 +21,9 @@ pub fn a_run_goes_on()
 /// the frames that were committed on each, as many as were taken: the spellings of the frames that
 /// were sent, in order, and then a part of the next one.
 pub fn a_link_has_the_frames_sent()
-    ensures told { (us : List Turn) (log : Log) → AreTurns us begin → log.links ≡ [] → log.asked ≡ false
+    ensures told { (us : List Turn) (log : Log) → AreTurns us begin → PlaysTurns us begin log → log.links ≡ [] → log.asked ≡ false
         → (log_turns us begin log).links ≡ map link_bytes (sendings us) }
-    ensures order { (us : List Turn) → AreTurns us begin → All SendsInOrder (sendings us) }
+    ensures order { (us : List Turn) → AreTurns us begin → AllByRecursion SendsInOrder (sendings us) }
 {}
 
 /// While a link is open, no turn leaves a whole frame unread.

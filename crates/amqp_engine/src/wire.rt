@@ -31,9 +31,8 @@ pub struct Wire {
 }
 
 impl Model for Wire {
-    ghost use Rattle.std.specs.Prelude.{◌≤◌, length};
-    ghost use Rattle.amqp_session.specs.declared.session.TheConstants.{CAPACITY};
-    ghost use Rattle.amqp_session.specs.Writing.{unsent};
+    ghost use Rattle.std.specs.Prelude.{◌≡◌, length};
+    ghost use Rattle.amqp_session.specs.Writing.{left_in};
     ghost use Rattle.amqp_engine.specs.Engine.{Engine};
 
     ghost Value = { Engine };
@@ -52,9 +51,7 @@ impl Model for Wire {
     } };
 
     // The session counts the bytes that are unsent.
-    ghost use Rattle.std.specs.Prelude.{◌≡◌};
-
-    ghost invariant = { λ w. length w.unsent ≡ unsent w.session };
+    ghost invariant = { λ w. length w.unsent ≡ left_in w.session.committed };
 }
 
 /// What came of an offer.
@@ -348,7 +345,7 @@ impl Wire {
         ensures some { result ≡ is_some (fitting_next self.old) }
         ensures commit { self.new ≡ commit_one self.old }
     {
-        let space = CAPACITY - self.unsent.as_slice().len() as u64;
+        let space = CAPACITY - self.session.unsent();
         match self.session.next_frame(space) {
             Some(frame) => {
                 // There is room for it.
