@@ -17,7 +17,7 @@ use Rattle.amqp_engine.specs.Engine.{Engine, commits, commit_one, commit_all, fi
 use Rattle.amqp_engine.specs.Turn.{offered, answered}
 use Rattle.amqp_engine.specs.Sending.{Sending, encodings, link_bytes, frames_sent, committed_in, committed_before, waiting_to_be_sent, offer_sending, nothing_sent, IsBegun, SendsInOrder}
 use Rattle.amqp_engine.proofs.Cases.{if-true, if-false, and-left}
-use Rattle.amqp_engine.proofs.Keeping.{left_after, taken-is, present-keeps}
+use Rattle.amqp_engine.proofs.Keeping.{left_after, committed-taken}
 use Rattle.amqp_engine.proofs.Commits.{with_frame, commit_one-is, commits-keep}
 use Rattle.amqp_engine.proofs.Sent.{mark_of, marks_of, begun-none, Advances, advance, advance-none}
 
@@ -167,23 +167,6 @@ agrees-advance e e' s n a v hu =
       left = v.left ∙ ap (λ x. v.part ++ x) (sym hu);
       marks = v.marks;
     }
-
-committed-taken : (b : Bool) (at n : ℕ) (t : Talk) → is_open t ≡ true → (n == 0) ≡ b
-    → (taken n (present_at at t)).committed ≡ (if b then t.committed else left_after t.committed n)
-committed-taken b at n t opened zero_is =
-    let x = present_at at t in
-    let same : x.committed ≡ t.committed = present-keeps (λ y. y.committed) at t (λ k. refl) in
-    let is_open_x : is_open x ≡ true = present-keeps is_open at t (λ k. refl) ∙ opened in
-    ap (λ (y : Talk). y.committed) (taken-is n x)
-    ∙ ap (λ (c : Bool). (if c && not (n == 0) then record x { last_write = x.present; committed = left_after x.committed n } else x).committed) is_open_x
-    ∙ ap (λ (c : Bool). (if true && not c then record x { last_write = x.present; committed = left_after x.committed n } else x).committed) zero_is
-    ∙ chosen b x same
-    where
-      chosen : (c : Bool) (x : Talk) → x.committed ≡ t.committed
-          → (if true && not c then record x { last_write = x.present; committed = left_after x.committed n } else x).committed
-          ≡ (if c then t.committed else left_after t.committed n)
-      chosen true x same = same
-      chosen false x same = ap (λ ms. left_after ms n) same
 
 advances-taken : (b : Bool) (at n : ℕ) (e : Engine) (s : Sending) (a : Agrees e s) → is_open e.talk ≡ true → n ≤ length e.unsent → (n == 0) ≡ b
     → Advances a.part a.rest e.unsent n (taken n (present_at at e.talk)).committed

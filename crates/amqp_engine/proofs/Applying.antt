@@ -7,7 +7,7 @@ use Rattle.amqp_engine.specs.declared.port.Wrote.{Wrote}
 use Rattle.amqp_engine.specs.Log.{Log}
 use Rattle.amqp_engine.specs.Engine.{Engine, step_engine, starve_at, rule_at}
 use Rattle.amqp_engine.specs.Turn.{Progress, begun, goes, reading, is_part, is_piece, step_part, part, read, drain, AreAnswers, IsCut, starved_after}
-use Rattle.amqp_engine.specs.Making.{making, Allows, Writes}
+use Rattle.amqp_engine.specs.Making.{making, parts_of, Allows, Writes}
 use Rattle.amqp_engine.specs.Tell.{Applies, TellsOffers, offers_from, turn_of}
 use Rattle.amqp_engine.proofs.Cases.{if-true, if-false, is_before-Allows}
 use Rattle.amqp_engine.proofs.Keeping.{starve-twice}
@@ -17,10 +17,6 @@ use Rattle.amqp_engine.proofs.Reading.{reads-cut}
 pub starve_at-twice : (at j : ℕ) (e : Engine) → starve_at at j (rule_at at starve e) ≡ starve_at at j e
 starve_at-twice at j e =
     ap (λ (t : Talk). record e { talk = t; unread = []; place = 0; starved = Some j }) (starve-twice at e.talk)
-
--- how many parts a step is
-abbrev pub parts_of : Bool → ℕ
-parts_of b = if b then 1 else 0
 
 -- the step's part is done, where it is one
 pub step-done : (at : ℕ) (cut : Option ℕ) (step : Step) (bytes : List ℕ) (e : Engine) (b : Bool)

@@ -1,5 +1,5 @@
 -- Small facts by cases.
-use Rattle.std.proofs.Common.{◌≡◌, ◌≤◌, ◌<◌, ℕ, ◌+◌, Bool, true, false, ◌&&◌, if◌then◌else◌, IsTrue, IsFalse, nat_lt, Option, Some, None, is_some, refl, arith, rules}
+use Rattle.std.proofs.Common.{◌≡◌, ◌≤◌, ◌<◌, ℕ, ◌+◌, Bool, true, false, not, ◌&&◌, if◌then◌else◌, IsTrue, IsFalse, nat_lt, Option, Some, None, is_some, Result, Ok, Err, is_err, OnOk, refl, arith, rules}
 use Rattle.std.proofs.lemmas.Bool.Decides.{nat_tests}
 use Rattle.amqp_engine.specs.Turn.{is_before}
 use Rattle.amqp_engine.specs.Making.{Allows}
@@ -60,3 +60,15 @@ none-unsent false n h = search rules
 pub some-unsent : (b : Bool) (n : ℕ) → IsTrue (b && nat_lt 0 n) → 0 < n
 some-unsent true n h = grind (arith, nat_tests)
 some-unsent false n h = cc
+
+pub ok-given : {A E : Type 0} (r : Result A E) (P : Type 0) → is_err r ≡ false → OnOk r P → P
+ok-given (Ok x) P h k = k
+ok-given (Err e) P h k = cc
+
+pub from-not-false : (b : Bool) → not b ≡ false → b ≡ true
+from-not-false true h = refl
+from-not-false false h = cc
+
+pub from-not-true : (b : Bool) → not b ≡ true → b ≡ false
+from-not-true true h = cc
+from-not-true false h = refl

@@ -1,5 +1,5 @@
 -- What the rules of the session leave as it is.
-use Rattle.std.proofs.Common.{◌≡◌, ◌≤◌, ◌⊎◌, inl, inr, ℕ, zero, suc, ◌+◌, ◌-◌, ◌==◌, ◌&&◌, not, nat_le, max, Bool, true, false, if◌then◌else◌, List, [], ◌∷◌, Option, Some, None, refl, ap, sym, ◌∙◌, arith}
+use Rattle.std.proofs.Common.{◌≡◌, ◌≤◌, ◌⊎◌, inl, inr, ℕ, zero, suc, ◌+◌, ◌-◌, ◌==◌, ◌&&◌, not, nat_le, max, Bool, true, false, if◌then◌else◌, List, [], ◌∷◌, length, drop, length-drop, Option, Some, None, refl, ap, sym, ◌∙◌, arith}
 use Rattle.std.proofs.lemmas.List.Sums.{sum_by-cons}
 use Rattle.std.proofs.lemmas.Bool.Decides.{nat_tests}
 use Rattle.amqp_frame.specs.declared.frame.Frame.{Frame}
@@ -80,6 +80,10 @@ keeps-frame f place t =
     if_case (λ (x : Talk). Keeps t x) (is_open t) (frame_row t.state t.phase f place t) t (keeps-row t.state t.phase f place t)
     (record { committed = refl; link = inl refl })
 
+-- a frame that is read commits nothing
+pub frame-committed : (f : Frame) (place at : ℕ) (t : Talk) → (on_frame f place (present_at at t)).committed ≡ t.committed
+frame-committed f place at t = (keeps-frame f place (present_at at t)).committed ∙ present-keeps (λ x. x.committed) at t (λ n. refl)
+
 pub keeps-misread : (place : ℕ) (t : Talk) → Keeps t (misread place t)
 keeps-misread place t =
     if_case (λ (x : Talk). Keeps t x) (is_open t) (fail (Unbuilt place) t) t (record { committed = refl; link = inr refl })
@@ -134,3 +138,32 @@ pub left_in-left_after : (ms : List Mark) (n : ℕ) → left_in (left_after ms n
 left_in-left_after [] n = omega arith
 left_in-left_after (m ∷ ms) n =
     grind (arith, nat_tests, left_in-cons m ms, left_in-cons (record m { left = m.left - n }) ms, left_in-left_after ms (n - m.left))
+
+pub committed-taken : (b : Bool) (at n : ℕ) (t : Talk) → is_open t ≡ true → (n == 0) ≡ b
+    → (taken n (present_at at t)).committed ≡ (if b then t.committed else left_after t.committed n)
+committed-taken b at n t opened zero_is =
+    let x = present_at at t in
+    let same : x.committed ≡ t.committed = present-keeps (λ y. y.committed) at t (λ k. refl) in
+    let is_open_x : is_open x ≡ true = present-keeps is_open at t (λ k. refl) ∙ opened in
+    ap (λ (y : Talk). y.committed) (taken-is n x)
+    ∙ ap (λ (c : Bool). (if c && not (n == 0) then record x { last_write = x.present; committed = left_after x.committed n } else x).committed) is_open_x
+    ∙ ap (λ (c : Bool). (if true && not c then record x { last_write = x.present; committed = left_after x.committed n } else x).committed) zero_is
+    ∙ chosen b x same
+    where
+      chosen : (c : Bool) (x : Talk) → x.committed ≡ t.committed
+          → (if true && not c then record x { last_write = x.present; committed = left_after x.committed n } else x).committed
+          ≡ (if c then t.committed else left_after t.committed n)
+      chosen true x same = same
+      chosen false x same = ap (λ ms. left_after ms n) same
+
+left_in-taken : (b : Bool) (at n : ℕ) (t : Talk) → is_open t ≡ true → (n == 0) ≡ b → left_in (taken n (present_at at t)).committed ≡ left_in t.committed - n
+left_in-taken true at n t opened h =
+    let none : n ≡ 0 = grind (arith, nat_tests) in
+    omega (arith, ap left_in (committed-taken true at n t opened h), none)
+left_in-taken false at n t opened h = ap left_in (committed-taken false at n t opened h) ∙ left_in-left_after t.committed n
+
+-- the unsent bytes are counted after some were taken
+pub counted-taken : (at n : ℕ) (t : Talk) (bytes : List ℕ) → is_open t ≡ true → length bytes ≡ left_in t.committed
+    → length (drop n bytes) ≡ left_in (taken n (present_at at t)).committed
+counted-taken at n t bytes opened h =
+    omega (arith, h, length-drop n bytes, left_in-taken (n == 0) at n t opened refl)

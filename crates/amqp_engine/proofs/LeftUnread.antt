@@ -15,7 +15,8 @@ use Rattle.amqp_engine.specs.declared.port.Step.TheVariants.{Linked, Piece, Room
 use Rattle.amqp_engine.specs.declared.port.Wrote.{Wrote}
 use Rattle.amqp_engine.specs.Engine.{Engine, front_of, is_more, can_read, read_one, rule_at, with_talk, step_engine, wrote, taken_by, commits, starve_at}
 use Rattle.amqp_engine.specs.Turn.{Progress, Turn, asks, wants_ask, goes, reads, read_part, reading, is_piece, step_part, part, is_part, begun, drain, offer_part, offered, answered, read, written, applied, turn, starved_after, IsTurn}
-use Rattle.amqp_engine.specs.Tell.{Applies}
+use Rattle.amqp_engine.specs.Log.{Log}
+use Rattle.amqp_engine.specs.Tell.{Applies, Turns, turn_of}
 use Rattle.amqp_engine.specs.Unread.{IsRead}
 use Rattle.amqp_engine.proofs.Cases.{if_case, and-false, and-right}
 use Rattle.amqp_engine.proofs.Keeping.{present-keeps, command-keeps, taken-keeps, starve-ends}
@@ -62,10 +63,10 @@ cannot-read e h opened = open-more (is_open e.talk) (front_of e) h opened
 
 pub same-read : (e e' : Engine) → is_open e'.talk ≡ is_open e.talk → e'.unread ≡ e.unread → e'.talk.configuration ≡ e.talk.configuration
     → IsRead e → IsRead e'
-same-read e e' opened unread configuration h yes =
+same-read e e' opened unread configuration h now =
     let P : Bool → Type 0 = λ b. IsTrue b in
     ap (λ bytes. front bytes (frame_limit e'.talk.configuration)) unread ∙ ap (λ c. front e.unread (frame_limit c)) configuration
-    ∙ h (subst P opened yes)
+    ∙ h (subst P opened now)
 
 closed-read : (e : Engine) → is_open e.talk ≡ false → IsRead e
 closed-read e h opened =
@@ -183,3 +184,11 @@ applied-read u e h =
 
 pub turn-read : (u : Turn) (e : Engine) → IsRead e → IsRead (turn u e)
 turn-read u e h = applied-read u (asks e) (asks-read e h)
+
+-- what is known of an application, and of a turn
+pub Applies-read : (at : ℕ) (step : Step) (bytes : List ℕ) (e e' : Engine) (log log' : Option Log) → Applies at step bytes e e' log log' → IsRead e → IsRead e'
+Applies-read at step bytes e e' log log' f h =
+    subst IsRead f.leaves (applied-read (turn_of at step bytes f.notes) e h)
+
+pub Turns-read : (e e' : Engine) (log log' : Option Log) → Turns e e' log log' → IsRead e → IsRead e'
+Turns-read e e' log log' f h = subst IsRead f.leaves (turn-read f.u e h)

@@ -11,3 +11,4 @@ pub mod LeftUnread
 pub mod Sent
 pub mod Agreeing
 pub mod Links
+pub mod Bytes

@@ -76,29 +76,28 @@ sends-same : (e e' : Engine) (ss : List Sending) → (is_open e'.talk ≡ true �
 sends-same e e' ss opened hm hu h =
     record {
       all = h.all;
-      last = λ yes.
-          let l = h.last (opened yes) in
+      last = λ now.
+          let l = h.last (opened now) in
           (l.0, l.1, l.2, agrees-same e l.1 l.3 e' hm hu);
     }
 
 sends-closed : (e e' : Engine) (ss : List Sending) → (is_open e'.talk ≡ true → ⊥) → Sends e ss → Sends e' ss
-sends-closed e e' ss closed h = record { all = h.all; last = λ yes. absurd (closed yes) }
+sends-closed e e' ss closed h = record { all = h.all; last = λ now. absurd (closed now) }
 
 sends-moment : (at : ℕ) (e : Engine) (ss : List Sending) → Sends e ss → Sends (rule_at at (λ t. t) e) ss
 sends-moment at e ss h =
-    sends-same e (rule_at at (λ t. t) e) ss (λ yes. sym (present-keeps is_open at e.talk (λ n. refl)) ∙ yes)
+    sends-same e (rule_at at (λ t. t) e) ss (λ now. sym (present-keeps is_open at e.talk (λ n. refl)) ∙ now)
     (present-keeps (λ t. t.committed) at e.talk (λ n. refl)) refl h
 
 sends-asks : (e : Engine) (ss : List Sending) → Sends e ss → Sends (asks e) ss
 sends-asks e ss h =
     if_case (λ (x : Engine). Sends x ss) (wants_ask e) (with_talk asked e) e
-    (sends-same e (with_talk asked e) ss (λ yes. sym (asked-open e.talk.link) ∙ yes) refl refl h) h
+    (sends-same e (with_talk asked e) ss (λ now. sym (asked-open e.talk.link) ∙ now) refl refl h) h
 
 -- ---- the step
 
-linked-open : (b : Bool) (t : Talk) → is_asked t ≡ b → b ≡ true → ((linked t).committed ≡ [])
-linked-open true t h yes = rw h refl
-linked-open false t h yes = cc
+linked-committed : (t : Talk) → is_asked t ≡ true → (linked t).committed ≡ []
+linked-committed t h = ap (λ (x : Talk). x.committed) (if-true (is_asked t) _ t h)
 
 sends-linked : (b : Bool) (cut : Option ℕ) (at : ℕ) (bytes : List ℕ) (e : Engine) (ss : List Sending) → is_asked e.talk ≡ b → Sends e ss
     → Sends (step_part Linked bytes (begun at cut e)).engine (if b then ss ++ nothing_sent ∷ [] else ss)
@@ -110,13 +109,13 @@ sends-linked true cut at bytes e ss h k =
     if-true (is_asked e.talk) (if goes p then part (step_linked at e) p else p) (record p { engine = step_linked at e }) h in
     let all : AllByRecursion SendsInOrder (ss ++ nothing_sent ∷ []) =
     all-push SendsInOrder ss nothing_sent k.all (agrees-order begin nothing_sent (agrees-none begin refl refl)) in
-    let committed : x.talk.committed ≡ [] = linked-open true (present_at at e.talk) (present-keeps is_asked at e.talk (λ n. refl) ∙ h) refl in
+    let committed : x.talk.committed ≡ [] = linked-committed (present_at at e.talk) (present-keeps is_asked at e.talk (λ n. refl) ∙ h) in
     let P : Progress → Type 0 = λ y. Sends y.engine (ss ++ nothing_sent ∷ []) in
     let Q : Engine → Type 0 = λ y. Sends y (ss ++ nothing_sent ∷ []) in
     subst P (sym is)
     (if_case P (goes p) (part (step_linked at e) p) p
-    (subst Q (sym here) (record { all = all; last = λ yes. (ss, nothing_sent, refl, agrees-none x committed refl) }))
-    (record { all = all; last = λ yes. absurd (asked-not-open e.talk.link h yes) }))
+    (subst Q (sym here) (record { all = all; last = λ now. (ss, nothing_sent, refl, agrees-none x committed refl) }))
+    (record { all = all; last = λ now. absurd (asked-not-open e.talk.link h now) }))
 sends-linked false cut at bytes e ss h k =
     let p = begun at cut e in
     let x : Engine = record { talk = linked (present_at at e.talk); unread = []; place = 0; unsent = []; starved = e.starved } in
@@ -147,7 +146,7 @@ sends-piece at bytes e ss h =
     let t = present_at at e.talk in
     let x : Engine = record e { talk = piece t; unread = e.unread ++ bytes } in
     if_case (λ (y : Engine). Sends y ss) (is_open e.talk) x (rule_at at (λ t. t) e)
-    (sends-same e x ss (λ yes. sym (ap is_open_link (piece-link t) ∙ present-keeps is_open at e.talk (λ n. refl)) ∙ yes)
+    (sends-same e x ss (λ now. sym (ap is_open_link (piece-link t) ∙ present-keeps is_open at e.talk (λ n. refl)) ∙ now)
     (piece-committed t ∙ present-keeps (λ y. y.committed) at e.talk (λ n. refl)) refl h)
     (sends-moment at e ss h)
 
@@ -155,7 +154,7 @@ sends-command : (at : ℕ) (c : Cmd) (e : Engine) (ss : List Sending) → Sends 
 sends-command at c e ss h =
     let t = present_at at e.talk in
     sends-same e (rule_at at (command c) e) ss
-    (λ yes. sym (command-keeps is_open c t (λ x l m k. ap is_open_link l) ∙ present-keeps is_open at e.talk (λ n. refl)) ∙ yes)
+    (λ now. sym (command-keeps is_open c t (λ x l m k. ap is_open_link l) ∙ present-keeps is_open at e.talk (λ n. refl)) ∙ now)
     (command-keeps (λ y. y.committed) c t (λ x l m k. m) ∙ present-keeps (λ y. y.committed) at e.talk (λ n. refl)) refl h
 
 sends-step : (step : Step) (cut : Option ℕ) (at : ℕ) (bytes : List ℕ) (e : Engine) (ss : List Sending) → Sends e ss
@@ -175,7 +174,7 @@ pub record Leaves (e e' : Engine) : Type 0 where
   pub unsent : e'.unsent ≡ e.unsent
 
 leaves-open : (e e' : Engine) → Leaves e e' → is_open e'.talk ≡ true → is_open e.talk ≡ true
-leaves-open e e' l yes = elim l.link [ inl same ↦ ap is_open_link (sym same) ∙ yes | inr ended ↦ absurd (open-not-ended e'.talk.link yes ended) ]
+leaves-open e e' l now = elim l.link [ inl same ↦ ap is_open_link (sym same) ∙ now | inr ended ↦ absurd (open-not-ended e'.talk.link now ended) ]
 
 leaves-settle : (e x : Engine) → Leaves e x → Leaves e (settle x)
 leaves-settle e x l = if_case (λ (y : Engine). Leaves e y) (has_ended x.talk) (record x { unread = []; place = 0 }) x (record { link = l.link; committed = l.committed; unsent = l.unsent }) l
@@ -246,7 +245,7 @@ sends-offer w p ss can fits h =
     (let P : List Sending → Type 0 = λ x. AllByRecursion SendsInOrder x in all-front SendsInOrder l.0 (l.1 ∷ []) (subst P l.2 h.all)) in
     let Q : List Sending → Type 0 = λ x. Sends (answered p.at w e) x in
     subst Q (sym (offer-last p.at w e ss l))
-    (record { all = all-push SendsInOrder l.0 s' front (agrees-order (answered p.at w e) s' agrees); last = λ yes. (l.0, s', refl, agrees) })
+    (record { all = all-push SendsInOrder l.0 s' front (agrees-order (answered p.at w e) s' agrees); last = λ now. (l.0, s', refl, agrees) })
 
 all-rest : (b : Bool) (ws : List Wrote) (p : Progress) (A : Type 0) → MatchBool b A (ws ≡ []) → (A → AreAnswers ws p) → (ws ≡ []) ⊎ AreAnswers ws p
 all-rest true ws p A h f = inr (f h)
@@ -268,7 +267,7 @@ sends-drain (w ∷ ws) p ss h k =
 sends-starved : (s : Option ℕ) (at : ℕ) (e : Engine) (ss : List Sending) → Sends e ss → Sends (starved_after s at e) ss
 sends-starved None at e ss h = h
 sends-starved (Some j) at e ss h =
-    sends-closed e (starve_at at j e) ss (λ yes. open-not-ended (starve_at at j e).talk.link yes (starve-ends (present_at at e.talk))) h
+    sends-closed e (starve_at at j e) ss (λ now. open-not-ended (starve_at at j e).talk.link now (starve-ends (present_at at e.talk))) h
 
 -- the answers are at the turn's own moment
 reads-at : (n : ℕ) (p : Progress) → (reads n p).at ≡ p.at
@@ -298,7 +297,7 @@ sends-turns [] e ss may h = h
 sends-turns (u ∷ us) e ss may h = sends-turns us (turn u e) (turn_sending u e ss) may.1 (sends-turn u e ss may.0 h)
 
 sends-begin : Sends begin []
-sends-begin = record { all = tt; last = λ yes. cc }
+sends-begin = record { all = tt; last = λ now. cc }
 
 pub order : (us : List Turn) → AreTurns us begin → AllByRecursion SendsInOrder (sendings us)
 order us may = (sends-turns us begin [] may sends-begin).all
@@ -313,16 +312,16 @@ told-offer w p ss a can fits h links =
     let l = h.last (and-left (is_open e.talk) _ can) in
     let s' = offer_sending p.at w e l.1 in
     let after : link_bytes s' ≡ link_bytes l.1 ++ take (taken_by w) (offered e) = offer-bytes p.at w e l.1 l.3 can fits in
-    let now : a.links ≡ map link_bytes l.0 ++ link_bytes l.1 ∷ [] = links ∙ ap (map link_bytes) l.2 ∙ map-append link_bytes l.0 (l.1 ∷ []) in
+    let before : a.links ≡ map link_bytes l.0 ++ link_bytes l.1 ∷ [] = links ∙ ap (map link_bytes) l.2 ∙ map-append link_bytes l.0 (l.1 ∷ []) in
     let goal : map link_bytes (on_last (offer_sending p.at w e) ss) ≡ map link_bytes l.0 ++ (link_bytes l.1 ++ take (taken_by w) (offered e)) ∷ [] =
     ap (map link_bytes) (offer-last p.at w e ss l) ∙ map-append link_bytes l.0 (s' ∷ []) ∙ ap (λ x. map link_bytes l.0 ++ x ∷ []) after in
-    written_as w now goal
+    written_as w (map link_bytes l.0) (link_bytes l.1) (map link_bytes (on_last (offer_sending p.at w e) ss)) before goal
     where
-      written_as : (w : Wrote) → {xs : List (List ℕ)} {x : List ℕ} {ys : List (List ℕ)} → a.links ≡ xs ++ x ∷ []
+      written_as : (w : Wrote) (xs : List (List ℕ)) (x : List ℕ) (ys : List (List ℕ)) → a.links ≡ xs ++ x ∷ []
           → ys ≡ xs ++ (x ++ take (taken_by w) (offered p.engine)) ∷ [] → (log_write (offered p.engine) w a).links ≡ ys
-      written_as (Took k) {xs = xs} {x = x} now goal =
-          ap (on_last (λ link. link ++ take k (offered p.engine))) now ∙ on_last-append (λ link. link ++ take k (offered p.engine)) xs x ∙ sym goal
-      written_as NoMemory {xs = xs} {x = x} now goal = now ∙ ap (λ y. xs ++ y ∷ []) (sym (append_nil x)) ∙ sym goal
+      written_as (Took k) xs x ys before goal =
+          ap (on_last (λ link. link ++ take k (offered p.engine))) before ∙ on_last-append (λ link. link ++ take k (offered p.engine)) xs x ∙ sym goal
+      written_as NoMemory xs x ys before goal = before ∙ ap (λ y. xs ++ y ∷ []) (sym (append_nil x)) ∙ sym goal
 
 told-drain : (ws : List Wrote) (p : Progress) (ss : List Sending) (a : Log) → AreAnswers ws p → Sends p.engine ss → a.links ≡ map link_bytes ss
     → (log_offers (offers_from p.at ws p.engine) a).links ≡ map link_bytes (offers_sending p.at ws p.engine ss)
@@ -460,7 +459,7 @@ not-both false h k = cc
 
 synced-starved : (s : Option ℕ) (at : ℕ) (e : Engine) (a : Log) → (s ≡ None → IsSynced e a) → IsSynced (starved_after s at e) a
 synced-starved None at e a h = h refl
-synced-starved (Some j) at e a h running = absurd (not-both _ (starve-ends (present_at at e.talk)) running)
+synced-starved (Some j) at e a h = λ running. absurd (not-both _ (starve-ends (present_at at e.talk)) running)
 
 told-turn : (u : Turn) (e : Engine) (ss : List Sending) (a : Log) → IsTurn u e → PlaysTurn u e a → Sends e ss → IsSynced e a → a.links ≡ map link_bytes ss
     → ((log_turn u e a).links ≡ map link_bytes (turn_sending u e ss)) × IsSynced (turn u e) (log_turn u e a)

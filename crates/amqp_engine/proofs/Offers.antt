@@ -15,7 +15,7 @@ use Rattle.amqp_engine.specs.Play.{waiting}
 use Rattle.amqp_engine.proofs.Cases.{and-true, is_before-Allows}
 use Rattle.amqp_engine.proofs.Keeping.{present-keeps, taken-keeps}
 use Rattle.amqp_engine.proofs.Telling.{tells-then}
-use Rattle.amqp_engine.proofs.Commits.{waiting-commits}
+use Rattle.amqp_engine.proofs.Commits.{commits-keep, waiting-commits}
 
 -- what is taken was queued no longer
 control-wrote : (at : ℕ) (w : Wrote) (e : Engine) → (wrote at w e).talk.control ≡ e.talk.control
@@ -94,3 +94,7 @@ tells-more at w ws e e' log mid last he hm plays t =
     let os = offers_from at ws (answered at w e) in
     tells-then (log_write (offered e) w) (log_offers os) (PlansWrite (length (offered e)) w) (PlaysOffers os) log mid last
     (record { told = hm; plays = plays }) (subst P he t)
+
+-- an offer starves nobody
+pub answered-starved : (at : ℕ) (w : Wrote) (e : Engine) → (answered at w e).starved ≡ e.starved
+answered-starved at w e = commits-keep (λ (x : Engine). x.starved) (λ x fs ms bytes. refl) (length e.talk.control) e

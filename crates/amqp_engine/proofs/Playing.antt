@@ -187,3 +187,9 @@ Runs-played n e e' a log r planned whole =
       engine = ap (λ us. turns us e) (sym is) ∙ r.leads.leaves;
       told = r.tells.told ∙ ap (λ us. Some (log_turns us e a)) is;
     }
+
+-- the same over a port that may tell nothing
+pub runs-played : (n : ℕ) (e e' : Engine) (log log' : Option Log) → Runs n e e' log log'
+    → IfSome log (λ a. IsSome a.plan → e'.starved ≡ None → IsPlayed n e e' a log')
+runs-played n e e' None log' r = tt
+runs-played n e e' (Some a) log' r = Runs-played n e e' a log' r

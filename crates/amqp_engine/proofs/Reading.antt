@@ -169,3 +169,18 @@ read_one-worth at e can =
     let some = and-right (is_open e.talk) (not (is_more (front_of e))) can in
     row-worth at (front_of e) e refl some (and-left (is_open e.talk) (not (is_more (front_of e))) can)
     (front-some e.unread (frame_limit e.talk.configuration) some)
+
+-- reading starves nobody
+settle-starved : (e : Engine) → (settle e).starved ≡ e.starved
+settle-starved e = if_case (λ (x : Engine). x.starved ≡ e.starved) (has_ended e.talk) (record e { unread = []; place = 0 }) e refl refl
+
+row-starved : (at : ℕ) (r : Read) (e : Engine) → (read_row at r e).starved ≡ e.starved
+row-starved at (Whole f n) e = settle-starved _
+row-starved at More e = refl
+row-starved at (TooLarge n) e = settle-starved (rule_at at (misread e.place) e)
+row-starved at (BadHeartbeat n) e = settle-starved (rule_at at (misread e.place) e)
+row-starved at Bad e = settle-starved (rule_at at (misread e.place) e)
+row-starved at NoMemory e = settle-starved (rule_at at (misread e.place) e)
+
+pub read_one-starved : (at : ℕ) (e : Engine) → (read_one at e).starved ≡ e.starved
+read_one-starved at e = row-starved at (front_of e) e

@@ -103,3 +103,11 @@ take-written new old len n m h1 h2 h3 =
     let none : drop (length new) old ≡ [] = grind (arith, common_steps) in
     let all : take len (new ++ drop (length new) old) ≡ new = grind (arith, common_steps) in
     ap (take n) all ∙ ap (λ k. take k new) h3
+
+-- and how long it is
+pub length-written : (new old : List ℕ) (len : ℕ) → length new ≡ length old → len ≡ length old
+    → length (take len (new ++ drop (length new) old)) ≡ length old
+length-written new old len h1 h2 =
+    let none : drop (length new) old ≡ [] = grind (arith, common_steps) in
+    let all : take len (new ++ drop (length new) old) ≡ new = grind (arith, common_steps) in
+    ap length all ∙ h1

@@ -8,7 +8,7 @@ use Rattle.std.proofs.Math.Seq.{take-append_seam, take-append-add, drop-append_s
 use Rattle.amqp_frame.specs.declared.frame.Frame.{Frame}
 use Rattle.amqp_frame.specs.Frames.{encoding}
 use Rattle.amqp_session.specs.declared.committed.Mark.{Mark}
-use Rattle.amqp_engine.specs.Log.{on_last}
+use Rattle.amqp_engine.specs.Log.{last_set, on_last}
 use Rattle.amqp_engine.specs.Sending.{Sending, encodings, link_bytes, frames_sent, IsBegun, SendsInOrder}
 use Rattle.amqp_engine.proofs.Cases.{if-true, if-false}
 use Rattle.amqp_engine.proofs.Keeping.{left_after}
@@ -20,15 +20,12 @@ get-seam : {A : Type 0} (xs : List A) (x : A) → slice_get (xs ++ x ∷ []) (le
 get-seam [] x = refl
 get-seam (y ∷ xs) x = get-seam xs x
 
-abbrev pub last_set_at : {A : Type 0} → ℕ → Option A → (A → A) → List A → List A
-last_set_at n None f xs = xs
-last_set_at n (Some x) f xs = slice_set xs n (f x)
-
 pub on_last-append : {A : Type 0} (f : A → A) (xs : List A) (x : A) → on_last f (xs ++ x ∷ []) ≡ xs ++ f x ∷ []
 on_last-append f xs x =
     let ys = xs ++ x ∷ [] in
     let place : length ys - 1 ≡ length xs = omega (arith, length-append xs (x ∷ [])) in
-    ap (λ n. last_set_at n (slice_get ys n) f ys) place ∙ ap (λ o. last_set_at (length xs) o f ys) (get-seam xs x) ∙ set-append_seam xs x [] (f x)
+    let last : slice_get ys (length ys - 1) ≡ Some x = ap (slice_get ys) place ∙ get-seam xs x in
+    ap (λ o. last_set o f ys) last ∙ ap (λ n. slice_set ys n (f x)) place ∙ set-append_seam xs x [] (f x)
 
 -- ---- the frames that wait, and what is left of them
 

@@ -9,7 +9,7 @@ ghost use Rattle.amqp_engine.specs.Engine.{Engine, begin, with_talk, rule_at, st
 ghost use Rattle.amqp_engine.specs.Turn.{asks, is_part, reading, offered, answered, is_all};
 ghost use Rattle.amqp_engine.specs.Tell.{Applies, TellsOffers, offers_from, log_asks};
 ghost use Rattle.amqp_engine.specs.Play.{waiting};
-ghost use Rattle.amqp_engine.specs.Making.{making, Allows, Writes};
+ghost use Rattle.amqp_engine.specs.Making.{making, parts_of, Allows, Writes};
 
 use crate::buffer::Buffer;
 use crate::port::{Port, Step, Told, Wrote};
@@ -55,6 +55,7 @@ impl Model for Wire {
 }
 
 /// What came of an offer.
+#[derive(Clone, Copy)]
 struct Offered {
     answer: Wrote,
     // whether all of it was taken
@@ -127,26 +128,26 @@ impl Wire {
     {
         let Told { at, step } = told;
         let piece = step.is_piece();
-        let mut parts = 0;
-        match self.take_step(at, step, bytes) {
-            Ok(true) => parts += 1,
-            Ok(false) => {}
-            Err(_) => return Err(self.cut(at, parts)),
+        let Ok(mut parts) = self.take_step(at, step, bytes) else {
+            self.cut(at, 0);
+            return Err(NoMemory);
+        };
+        if let Err(refused) = self.read_all(at, piece, &mut parts) {
+            self.cut(at, parts);
+            return Err(refused);
         }
-        if self.read_all(at, piece, &mut parts).is_err() {
-            return Err(self.cut(at, parts));
-        }
-        if self.write_all(at, port, &mut parts).is_err() {
-            return Err(self.cut(at, parts));
+        if let Err(refused) = self.write_all(at, port, &mut parts) {
+            self.cut(at, parts);
+            return Err(refused);
         }
         Ok(())
     }
 
-    // The rule of a step. Says whether it is a part of the turn. Where memory is refused, the
-    // session has ended, and nothing else is done.
-    fn take_step(&mut self, at: u64, step: Step, bytes: &[u8]) -> Result<bool, NoMemory>
+    // The rule of a step. Says how many parts of the turn it is, one or none. Where memory is
+    // refused, the session has ended, and nothing else is done.
+    fn take_step(&mut self, at: u64, step: Step, bytes: &[u8]) -> Result<u64, NoMemory>
         ensures ok { OnOk result (self.new ≡ step_engine at step bytes.now self.old) }
-        ensures part { IfOk result (λ b. b ≡ is_part step self.old) }
+        ensures parts { IfOk result (λ n. n ≡ parts_of (is_part step self.old)) }
         ensures err { OnErr result (self.new ≡ rule_at at starve self.old) }
         ensures refused { OnErr result (is_part step self.old ≡ true) }
     {
@@ -155,25 +156,25 @@ impl Wire {
             Step::Piece(_) => self.take_piece(at, bytes),
             Step::Room => {
                 self.session.advance(at);
-                Ok(false)
+                Ok(0)
             }
             Step::Tick => {
                 self.session.advance(at);
-                Ok(true)
+                Ok(1)
             }
             Step::Command(command) => self.take_command(at, command),
         }
     }
 
-    fn take_link(&mut self, at: u64) -> Result<bool, NoMemory>
+    fn take_link(&mut self, at: u64) -> Result<u64, NoMemory>
         ensures ok { OnOk result (self.new ≡ step_linked at self.old) }
-        ensures part { IfOk result (λ b. b ≡ is_asked self.old.talk) }
+        ensures parts { IfOk result (λ n. n ≡ parts_of (is_asked self.old.talk)) }
         ensures err { OnErr result (self.new ≡ rule_at at starve self.old) }
         ensures refused { OnErr result (is_asked self.old.talk ≡ true) }
     {
         if !self.session.is_asked() {
             self.session.advance(at);
-            return Ok(false);
+            return Ok(0);
         }
         if self.session.linked(at).is_err() {
             return Err(NoMemory);
@@ -181,30 +182,30 @@ impl Wire {
         self.unread.clear();
         self.place = 0;
         self.unsent.clear();
-        Ok(true)
+        Ok(1)
     }
 
-    fn take_piece(&mut self, at: u64, bytes: &[u8]) -> Result<bool, NoMemory>
+    fn take_piece(&mut self, at: u64, bytes: &[u8]) -> Result<u64, NoMemory>
         ensures ok { OnOk result (self.new ≡ step_piece at bytes.now self.old) }
-        ensures part { IfOk result (λ b. b ≡ is_open self.old.talk) }
+        ensures parts { IfOk result (λ n. n ≡ parts_of (is_open self.old.talk)) }
         ensures err { OnErr result (self.new ≡ rule_at at starve self.old) }
         ensures refused { OnErr result (is_open self.old.talk ≡ true) }
     {
         if !self.session.is_open() {
             self.session.advance(at);
-            return Ok(false);
+            return Ok(0);
         }
         if self.unread.append(bytes).is_err() {
             self.session.starve(at);
             return Err(NoMemory);
         }
         self.session.piece(at);
-        Ok(true)
+        Ok(1)
     }
 
-    fn take_command(&mut self, at: u64, command: Cmd) -> Result<bool, NoMemory>
+    fn take_command(&mut self, at: u64, command: Cmd) -> Result<u64, NoMemory>
         ensures ok { OnOk result (self.new ≡ rule_at at (command_rule command) self.old) }
-        ensures part { IfOk result (λ b. b ≡ true) }
+        ensures parts { IfOk result (λ n. n ≡ 1) }
         ensures err { OnErr result (self.new ≡ rule_at at starve self.old) }
     {
         self.session.advance(at);
@@ -212,7 +213,7 @@ impl Wire {
             self.session.starve(at);
             return Err(NoMemory);
         }
-        Ok(true)
+        Ok(1)
     }
 
     // Reads frames while there is one, where a piece came, and counts them as parts.
@@ -291,12 +292,12 @@ impl Wire {
         ensures faults { P.faults port.old ≤ P.faults port.new }
     {
         let _waiting = self.session.waiting();
-        'writes: while let Some(Offered { answer, all }) = self.offer(at, port) {
+        'writes: while let Some(offered) = self.offer(at, port) {
             *parts += 1;
-            if let Wrote::NoMemory = answer {
+            if let Wrote::NoMemory = offered.answer {
                 return Err(NoMemory);
             }
-            if !all {
+            if !offered.all {
                 return Ok(());
             }
         }
@@ -357,13 +358,12 @@ impl Wire {
     }
 
     // Memory was refused after so many parts of a turn.
-    fn cut(&mut self, at: u64, parts: u64) -> NoMemory
+    fn cut(&mut self, at: u64, parts: u64)
         ensures { self.new ≡ starve_at at parts self.old }
     {
         self.session.starve(at);
         self.unread.clear();
         self.place = 0;
         self.starved = Some(parts);
-        NoMemory
     }
 }
