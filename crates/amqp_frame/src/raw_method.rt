@@ -34,12 +34,7 @@ impl Model for RawMethod {
 
 impl RawMethod {
     /// The method `method` of the class `class`, whose arguments are copied once.
-    pub fn new(
-        alloc: Global,
-        class: u16,
-        method: u16,
-        args: &[u8],
-    ) -> Result<RawMethod, NoMemory>
+    pub fn new(alloc: Global, class: u16, method: u16, args: &[u8]) -> Result<RawMethod, NoMemory>
         requires connection { class ≢ 10 }
         requires channel { class ≢ 20 }
         ensures { IfOk result (λ m. m ≡ record { class = class; method = method; arguments = args.now }) }

@@ -55,7 +55,15 @@ fn put_header<R: Room>(kind: u8, channel: ChannelId, size: u32, room: &mut R)
 {
     let [channel_high, channel_low] = channel.to_be_bytes();
     let [first, second, third, fourth] = size.to_be_bytes();
-    room.put(&[kind, channel_high, channel_low, first, second, third, fourth]);
+    room.put(&[
+        kind,
+        channel_high,
+        channel_low,
+        first,
+        second,
+        third,
+        fourth,
+    ]);
 }
 
 // A method frame.

@@ -4,8 +4,8 @@ ghost use Rattle.std.specs.Prelude.{◌≡◌};
 ghost use Rattle.amqp_frame.specs.Reads.{Reads};
 ghost use Rattle.amqp_frame.specs.FrameReading.{connection_at, channel_at, start_at, start_ok_at, tune_at, tune_ok_at, open_at, close_at, channel_close_at, update_secret_at};
 
-use crate::read::cursor::{Cursor, Fault};
 use crate::method::Method;
+use crate::read::cursor::{Cursor, Fault};
 use crate::read::values::table;
 use crate::view::View;
 use std::alloc::Global;

@@ -7,8 +7,8 @@ ghost use Rattle.amqp_types.specs.Spelling.{spell, spell_table};
 ghost use Rattle.amqp_types.specs.View.{value_of, pair_of};
 ghost use Rattle.amqp_frame.specs.Lengths.{spell_list, spell_pair_list, spell_pair};
 
-use crate::write::lengths::{pairs_len, values_len};
 use crate::room::Room;
+use crate::write::lengths::{pairs_len, values_len};
 use amqp_types::{AMQPValue, Entry, FieldTable, Values};
 
 pub fn put_octet<R: Room>(octet: u8, room: &mut R)

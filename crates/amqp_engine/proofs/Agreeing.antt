@@ -1,0 +1,214 @@
+-- What was sent on the opened link agrees with what the session and the engine hold of it.
+use Rattle.std.proofs.Common.{◌≡◌, ◌≢◌, ◌≤◌, ◌<◌, ℕ, zero, suc, ◌+◌, ◌-◌, ◌==◌, ◌&&◌, not, nat_lt, Bool, true, false, if◌then◌else◌, List, [], ◌∷◌, ◌++◌, length, take, drop, map, Option, Some, None, option_to_list, refl, ap, sym, ◌∙◌, subst, arith, append_assoc, length-append}
+use Rattle.std.proofs.lemmas.Grind.{common_steps, flat_map-append}
+use Rattle.std.proofs.lemmas.Bool.Decides.{nat_tests}
+use Rattle.std.proofs.lemmas.List.{take-append-le, map-append}
+use Rattle.std.proofs.Math.Seq.{take-append_seam, take-append-add, drop-append_seam}
+use Rattle.amqp_frame.specs.declared.frame.Frame.{Frame}
+use Rattle.amqp_frame.specs.Frames.{encoding}
+use Rattle.amqp_session.specs.declared.committed.Mark.{Mark}
+use Rattle.amqp_session.specs.Talk.{Talk, is_open}
+use Rattle.amqp_session.specs.Rules.{present_at}
+use Rattle.amqp_session.specs.Writing.{taken}
+use Rattle.amqp_engine.specs.declared.port.Wrote.{Wrote}
+use Rattle.amqp_engine.specs.declared.port.Wrote.TheVariants.{Took, NoMemory}
+use Rattle.amqp_engine.specs.Log.{IsWithin}
+use Rattle.amqp_engine.specs.Engine.{Engine, commits, commit_one, commit_all, fitting_next, taken_by, wrote, can_write}
+use Rattle.amqp_engine.specs.Turn.{offered, answered}
+use Rattle.amqp_engine.specs.Sending.{Sending, encodings, link_bytes, frames_sent, committed_in, committed_before, waiting_to_be_sent, offer_sending, nothing_sent, IsBegun, SendsInOrder}
+use Rattle.amqp_engine.proofs.Cases.{if-true, if-false, and-left}
+use Rattle.amqp_engine.proofs.Keeping.{left_after, committed-taken}
+use Rattle.amqp_engine.proofs.Commits.{with_frame, commit_one-is, commits-keep}
+use Rattle.amqp_engine.proofs.Sent.{mark_of, marks_of, begun-none, Advances, advance, advance-none}
+
+pub record Agrees (e : Engine) (s : Sending) : Type 0 where
+  -- the frames that were sent, those that were not yet sent whole, and what was taken of the first of these
+  pub done : List Frame
+  pub rest : List Frame
+  pub part : List ℕ
+  pub committed : s.committed ≡ done ++ rest
+  pub sent : s.sent ≡ length done
+  pub taken : s.taken ≡ length (encodings done ++ part)
+  pub begun : IsBegun part rest
+  pub left : encodings rest ≡ part ++ e.unsent
+  pub marks : e.talk.committed ≡ marks_of part rest
+
+append_nil : (xs : List ℕ) → xs ++ [] ≡ xs
+append_nil [] = refl
+append_nil (x ∷ xs) = ap (λ ys. x ∷ ys) (append_nil xs)
+
+frames_nil : (fs : List Frame) → fs ++ [] ≡ fs
+frames_nil [] = refl
+frames_nil (x ∷ xs) = ap (λ ys. x ∷ ys) (frames_nil xs)
+
+-- on a new link nothing was sent
+pub agrees-none : (e : Engine) → e.talk.committed ≡ [] → e.unsent ≡ [] → Agrees e nothing_sent
+agrees-none e hm hu =
+    record {
+      done = [];
+      rest = [];
+      part = [];
+      committed = refl;
+      sent = refl;
+      taken = refl;
+      begun = refl;
+      left = sym hu;
+      marks = hm;
+    }
+
+module _ (e : Engine) (s : Sending) (a : Agrees e s) where
+  -- all that was committed, and the part of it that was taken
+  pub agrees-all : encodings s.committed ≡ (encodings a.done ++ a.part) ++ e.unsent
+  agrees-all =
+      ap encodings a.committed ∙ flat_map-append encoding a.done a.rest ∙ ap (λ x. encodings a.done ++ x) a.left
+      ∙ sym (append_assoc (encodings a.done) a.part e.unsent)
+
+  pub agrees-bytes : link_bytes s ≡ encodings a.done ++ a.part
+  agrees-bytes =
+      ap (take s.taken) agrees-all ∙ ap (λ n. take n ((encodings a.done ++ a.part) ++ e.unsent)) a.taken
+      ∙ take-append_seam (encodings a.done ++ a.part) e.unsent
+
+  pub agrees-order : SendsInOrder s
+  agrees-order =
+      let sent : frames_sent s ≡ a.done = ap (λ n. take n s.committed) a.sent ∙ ap (take (length a.done)) a.committed ∙ take-append_seam a.done a.rest in
+      let rest : drop s.sent s.committed ≡ a.rest = ap (λ n. drop n s.committed) a.sent ∙ ap (drop (length a.done)) a.committed ∙ drop-append_seam a.done a.rest in
+      let P : List Frame → Type 0 = λ fs. IsBegun a.part fs in
+      record { last = a.part; begun = subst P (sym rest) a.begun; bytes = agrees-bytes ∙ ap (λ fs. encodings fs ++ a.part) (sym sent) }
+
+  -- the same of what has the same frames and bytes
+  pub agrees-same : (e' : Engine) → e'.talk.committed ≡ e.talk.committed → e'.unsent ≡ e.unsent → Agrees e' s
+  agrees-same e' hm hu =
+      record {
+        done = a.done;
+        rest = a.rest;
+        part = a.part;
+        committed = a.committed;
+        sent = a.sent;
+        taken = a.taken;
+        begun = a.begun;
+        left = a.left ∙ ap (λ x. a.part ++ x) (sym hu);
+        marks = hm ∙ a.marks;
+      }
+
+-- ---- commits
+
+begun-snoc : (fs : List Frame) (part : List ℕ) (f : Frame) → IsBegun part fs → IsBegun part (fs ++ f ∷ [])
+begun-snoc [] part f h =
+    let P : List ℕ → Type 0 = λ x. IsBegun x (f ∷ []) in
+    subst P (sym h) (begun-none (f ∷ []))
+begun-snoc (g ∷ gs) part f h = h
+
+marks-snoc : (fs : List Frame) (part : List ℕ) (f : Frame) → IsBegun part fs → marks_of part (fs ++ f ∷ []) ≡ marks_of part fs ++ mark_of f ∷ []
+marks-snoc [] part f h =
+    let same : length (encoding f) - length part ≡ length (encoding f) = omega (arith, ap length h) in
+    ap (λ (n : ℕ). record { left = n } ∷ []) same
+marks-snoc (g ∷ gs) part f h = ap (λ ms. record { left = length (encoding g) - length part } ∷ ms) (map-append mark_of gs (f ∷ []))
+
+agrees-frame : (e : Engine) (s : Sending) (f : Frame) → Agrees e s → Agrees (with_frame (Some f) e) (record s { committed = s.committed ++ f ∷ [] })
+agrees-frame e s f a =
+    record {
+      done = a.done;
+      rest = a.rest ++ f ∷ [];
+      part = a.part;
+      committed = ap (λ x. x ++ f ∷ []) a.committed ∙ append_assoc a.done a.rest (f ∷ []);
+      sent = a.sent;
+      taken = a.taken;
+      begun = begun-snoc a.rest a.part f a.begun;
+      left =
+        flat_map-append encoding a.rest (f ∷ []) ∙ ap (λ x. encodings a.rest ++ x) (append_nil (encoding f)) ∙ ap (λ x. x ++ encoding f) a.left
+            ∙ append_assoc a.part e.unsent (encoding f);
+      marks = ap (λ x. x ++ mark_of f ∷ []) a.marks ∙ sym (marks-snoc a.rest a.part f a.begun);
+    }
+
+agrees-one : (o : Option Frame) (e : Engine) (s : Sending) → Agrees e s → Agrees (with_frame o e) (record s { committed = s.committed ++ option_to_list o })
+agrees-one None e s a =
+    let P : List Frame → Type 0 = λ fs. Agrees e (record s { committed = fs }) in
+    subst P (sym (frames_nil s.committed)) a
+agrees-one (Some f) e s a = agrees-frame e s f a
+
+pub agrees-commits : (n : ℕ) (e : Engine) (s : Sending) → Agrees e s → Agrees (commits n e) (record s { committed = s.committed ++ committed_in n e })
+agrees-commits zero e s a =
+    let P : List Frame → Type 0 = λ fs. Agrees e (record s { committed = fs }) in
+    subst P (sym (frames_nil s.committed)) a
+agrees-commits (suc n) e s a =
+    let o = fitting_next e in
+    let x : Sending = record s { committed = s.committed ++ option_to_list o } in
+    let P : Engine → Type 0 = λ y. Agrees y x in
+    let Q : List Frame → Type 0 = λ fs. Agrees (commits n (commit_one e)) (record s { committed = fs }) in
+    subst Q (append_assoc s.committed (option_to_list o) (committed_in n (commit_one e)))
+    (agrees-commits n (commit_one e) x (subst P (sym (commit_one-is e)) (agrees-one o e s a)))
+
+-- ---- what is taken
+
+length-marks : (part : List ℕ) (fs : List Frame) → length (marks_of part fs) ≡ length fs
+length-marks part [] = refl
+length-marks part (f ∷ fs) = ap suc (size fs) where
+  size : (gs : List Frame) → length (map mark_of gs) ≡ length gs
+  size [] = refl
+  size (g ∷ gs) = ap suc (size gs)
+
+agrees-advance : (e e' : Engine) (s : Sending) (n : ℕ) (a : Agrees e s) → Advances a.part a.rest e.unsent n e'.talk.committed → e'.unsent ≡ drop n e.unsent
+    → Agrees e' (record s { sent = s.sent + (length e.talk.committed - length e'.talk.committed); taken = s.taken + n })
+agrees-advance e e' s n a v hu =
+    let before : length e.talk.committed ≡ length a.rest = ap length a.marks ∙ length-marks a.part a.rest in
+    let after : length e'.talk.committed ≡ length v.rest = ap length v.marks ∙ length-marks v.part v.rest in
+    let frames : length a.rest ≡ length v.sent + length v.rest = ap length v.frames ∙ length-append v.sent v.rest in
+    let joined : encodings (a.done ++ v.sent) ≡ encodings a.done ++ encodings v.sent = flat_map-append encoding a.done v.sent in
+    record {
+      done = a.done ++ v.sent;
+      rest = v.rest;
+      part = v.part;
+      committed = a.committed ∙ ap (λ x. a.done ++ x) v.frames ∙ sym (append_assoc a.done v.sent v.rest);
+      sent = omega (arith, a.sent, before, after, frames, length-append a.done v.sent);
+      taken =
+        omega (arith, a.taken, v.count, ap length joined, length-append (encodings a.done) a.part, length-append (encodings a.done) (encodings v.sent),
+        length-append (encodings v.sent) v.part, length-append (encodings (a.done ++ v.sent)) v.part);
+      begun = v.begun;
+      left = v.left ∙ ap (λ x. v.part ++ x) (sym hu);
+      marks = v.marks;
+    }
+
+advances-taken : (b : Bool) (at n : ℕ) (e : Engine) (s : Sending) (a : Agrees e s) → is_open e.talk ≡ true → n ≤ length e.unsent → (n == 0) ≡ b
+    → Advances a.part a.rest e.unsent n (taken n (present_at at e.talk)).committed
+advances-taken true at n e s a opened le zero_is =
+    let none : n ≡ 0 = grind (arith, nat_tests) in
+    let P : ℕ → Type 0 = λ k. Advances a.part a.rest e.unsent k (taken n (present_at at e.talk)).committed in
+    let Q : List Mark → Type 0 = λ ms. Advances a.part a.rest e.unsent 0 ms in
+    subst P (sym none) (subst Q (sym (committed-taken true at n e.talk opened zero_is ∙ a.marks)) (advance-none a.rest a.part e.unsent a.begun a.left))
+advances-taken false at n e s a opened le zero_is =
+    let Q : List Mark → Type 0 = λ ms. Advances a.part a.rest e.unsent n ms in
+    subst Q (sym (committed-taken false at n e.talk opened zero_is ∙ ap (λ ms. left_after ms n) a.marks)) (advance a.rest a.part e.unsent n a.begun a.left le)
+
+within-taken : (n : ℕ) (w : Wrote) → IsWithin n w → taken_by w ≤ n
+within-taken n (Took k) h = h
+within-taken n NoMemory h = omega arith
+
+-- ---- an offer
+
+module _ (at : ℕ) (w : Wrote) (e : Engine) (s : Sending) (a : Agrees e s) (can : can_write e ≡ true) (fits : IsWithin (length (offered e)) w) where
+  commits-agree : Agrees (commit_all e) (record s { committed = s.committed ++ committed_before e })
+  commits-agree = agrees-commits (length e.talk.control) e s a
+
+  still-open : is_open (commit_all e).talk ≡ true
+  still-open = commits-keep (λ (y : Engine). is_open y.talk) (λ y fs ms bytes. refl) (length e.talk.control) e
+      ∙ and-left (is_open e.talk) (nat_lt 0 (length (offered e))) can
+
+  pub agrees-offer : Agrees (answered at w e) (offer_sending at w e s)
+  agrees-offer =
+      let x : Sending = record s { committed = s.committed ++ committed_before e } in
+      agrees-advance (commit_all e) (answered at w e) x (taken_by w) commits-agree
+      (advances-taken (taken_by w == 0) at (taken_by w) (commit_all e) x commits-agree still-open (within-taken (length (offered e)) w fits) refl) refl
+
+  pub offer-bytes : link_bytes (offer_sending at w e s) ≡ link_bytes s ++ take (taken_by w) (offered e)
+  offer-bytes =
+      let x : Sending = record s { committed = s.committed ++ committed_before e } in
+      let b = commits-agree in
+      let front : List ℕ = encodings b.done ++ b.part in
+      let fits_front : s.taken ≤ length (encodings s.committed) =
+      omega (arith, a.taken, ap length (agrees-all e s a), length-append (encodings a.done ++ a.part) e.unsent) in
+      let before : link_bytes x ≡ link_bytes s =
+      ap (take s.taken) (flat_map-append encoding s.committed (committed_before e)) ∙ take-append-le s.taken (encodings s.committed) (encodings (committed_before e)) fits_front in
+      ap (λ bytes. take (s.taken + taken_by w) bytes) (agrees-all (commit_all e) x b)
+      ∙ ap (λ n. take (n + taken_by w) (front ++ offered e)) b.taken
+      ∙ take-append-add front (offered e) (taken_by w)
+      ∙ ap (λ bytes. bytes ++ take (taken_by w) (offered e)) (sym (agrees-bytes (commit_all e) x b) ∙ before)

@@ -1,0 +1,74 @@
+-- A turn from its step on, out of the contracts of its parts.
+use Rattle.std.proofs.Common.{◌≡◌, ℕ, ◌+◌, if◌then◌else◌, Bool, true, false, List, [], Option, Some, refl, ap, sym, ◌∙◌, subst}
+use Rattle.amqp_session.specs.Talk.{Talk}
+use Rattle.amqp_session.specs.Rules.{starve}
+use Rattle.amqp_engine.specs.declared.port.Step.{Step}
+use Rattle.amqp_engine.specs.declared.port.Wrote.{Wrote}
+use Rattle.amqp_engine.specs.Log.{Log}
+use Rattle.amqp_engine.specs.Engine.{Engine, step_engine, starve_at, rule_at}
+use Rattle.amqp_engine.specs.Turn.{Progress, begun, goes, reading, is_part, is_piece, step_part, part, read, drain, AreAnswers, IsCut, starved_after}
+use Rattle.amqp_engine.specs.Making.{making, parts_of, Allows, Writes}
+use Rattle.amqp_engine.specs.Tell.{Applies, TellsOffers, offers_from, turn_of}
+use Rattle.amqp_engine.proofs.Cases.{if-true, if-false, is_before-Allows}
+use Rattle.amqp_engine.proofs.Keeping.{starve-twice}
+use Rattle.amqp_engine.proofs.Reading.{reads-cut}
+
+-- memory that is refused twice was refused once
+pub starve_at-twice : (at j : ℕ) (e : Engine) → starve_at at j (rule_at at starve e) ≡ starve_at at j e
+starve_at-twice at j e =
+    ap (λ (t : Talk). record e { talk = t; unread = []; place = 0; starved = Some j }) (starve-twice at e.talk)
+
+-- the step's part is done, where it is one
+pub step-done : (at : ℕ) (cut : Option ℕ) (step : Step) (bytes : List ℕ) (e : Engine) (b : Bool)
+    → is_part step e ≡ b → Allows cut (parts_of b)
+    → step_part step bytes (begun at cut e) ≡ making at cut (step_engine at step bytes e) (parts_of b)
+step-done at cut step bytes e true h allows =
+    let p = begun at cut e in
+    if-true (is_part step e) (if goes p then part (step_engine at step bytes e) p else p) (making at cut (step_engine at step bytes e) 0) h
+    ∙ if-true (goes p) (part (step_engine at step bytes e) p) p (is_before-Allows cut 0 allows)
+step-done at cut step bytes e false h allows =
+    let p = begun at cut e in
+    if-false (is_part step e) (if goes p then part (step_engine at step bytes e) p else p) (making at cut (step_engine at step bytes e) 0) h
+
+-- the step, and the frames that are read
+pub read-is : (at : ℕ) (cut : Option ℕ) (ws : List Wrote) (step : Step) (bytes : List ℕ) (piece b : Bool) (e e1 e2 : Engine) (m n : ℕ)
+    → piece ≡ is_piece step → is_part step e ≡ b → m ≡ parts_of b → e1 ≡ step_engine at step bytes e → Allows cut m
+    → reading piece (making at cut e1 m) ≡ making at cut e2 n
+    → read (turn_of at step bytes (record { answers = ws; starved = cut })) e ≡ making at cut e2 n
+read-is at cut ws step bytes piece b e e1 e2 m n hp hb hm h1 allows h2 =
+    let P : ℕ → Type 0 = λ x. Allows cut x in
+    ap (reading (is_piece step)) (step-done at cut step bytes e b hb (subst P hm allows)
+    ∙ ap (λ x. making at cut (step_engine at step bytes e) x) (sym hm) ∙ ap (λ x. making at cut x m) (sym h1))
+    ∙ ap (λ x. reading x (making at cut e1 m)) (sym hp) ∙ h2
+
+reading-cut : (b : Bool) (p : Progress) → goes p ≡ false → reading b p ≡ p
+reading-cut true p h = reads-cut _ p h
+reading-cut false p h = refl
+
+-- memory was refused at the step itself
+pub read-none : (at : ℕ) (ws : List Wrote) (step : Step) (bytes : List ℕ) (e : Engine) → is_part step e ≡ true
+    → read (turn_of at step bytes (record { answers = ws; starved = Some 0 })) e ≡ making at (Some 0) e 0
+read-none at ws step bytes e h =
+    let p = begun at (Some 0) e in
+    let same : step_part step bytes p ≡ p =
+    if-true (is_part step e) (if goes p then part (step_engine at step bytes e) p else p) (making at (Some 0) (step_engine at step bytes e) 0) h in
+    ap (reading (is_piece step)) same ∙ reading-cut (is_piece step) p refl
+
+-- a turn from what was read, what was written and what was told
+pub applies-of : (at : ℕ) (step : Step) (bytes : List ℕ) (e e' : Engine) (log log' : Option Log) (ws : List Wrote) (cut : Option ℕ) (p p' : Progress)
+    → read (turn_of at step bytes (record { answers = ws; starved = cut })) e ≡ p
+    → Writes ws p p' → IsCut cut p'.done → starved_after cut at p'.engine ≡ e'
+    → TellsOffers (offers_from at ws p.engine) log log'
+    → Applies at step bytes e e' log log'
+applies-of at step bytes e e' log log' ws cut p p' hr hw hc ha ht =
+    let leads : drain ws (read (turn_of at step bytes (record { answers = ws; starved = cut })) e) ≡ p' =
+    ap (drain ws) hr ∙ hw.leaves in
+    let P : Progress → Type 0 = λ x. AreAnswers ws x in
+    let Q : Progress → Type 0 = λ x. IsCut cut x.done in
+    let R : Progress → Type 0 = λ x. TellsOffers (offers_from at ws x.engine) log log' in
+    record {
+      notes = record { answers = ws; starved = cut };
+      may = record { answers = subst P (sym hr) hw.answers; cut = subst Q (sym leads) hc };
+      leaves = ap (λ (x : Progress). starved_after cut at x.engine) leads ∙ ha;
+      tells = subst R (sym hr) ht;
+    }

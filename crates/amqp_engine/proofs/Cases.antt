@@ -1,0 +1,74 @@
+-- Small facts by cases.
+use Rattle.std.proofs.Common.{◌≡◌, ◌≤◌, ◌<◌, ℕ, ◌+◌, Bool, true, false, not, ◌&&◌, if◌then◌else◌, IsTrue, IsFalse, nat_lt, Option, Some, None, is_some, Result, Ok, Err, is_err, OnOk, refl, arith, rules}
+use Rattle.std.proofs.lemmas.Bool.Decides.{nat_tests}
+use Rattle.amqp_engine.specs.Turn.{is_before}
+use Rattle.amqp_engine.specs.Making.{Allows}
+
+pub if_case : {A : Type 0} (P : A → Type 0) (b : Bool) (x y : A) → P x → P y → P (if b then x else y)
+if_case P true x y px py = px
+if_case P false x y px py = py
+
+pub if-true : {A : Type 0} (b : Bool) (x y : A) → b ≡ true → (if b then x else y) ≡ x
+if-true true x y h = refl
+if-true false x y h = cc
+
+pub if-false : {A : Type 0} (b : Bool) (x y : A) → b ≡ false → (if b then x else y) ≡ y
+if-false true x y h = cc
+if-false false x y h = refl
+
+pub and-true : (a b : Bool) → a ≡ true → b ≡ true → (a && b) ≡ true
+and-true true b g h = h
+and-true false b g h = cc
+
+pub and-false : (a b : Bool) → b ≡ false → (a && b) ≡ false
+and-false true b h = h
+and-false false b h = refl
+
+pub and-left : (a b : Bool) → (a && b) ≡ true → a ≡ true
+and-left true b h = refl
+and-left false b h = h
+
+pub and-right : (a b : Bool) → (a && b) ≡ true → b ≡ true
+and-right true b h = h
+and-right false b h = cc
+
+pub and-other : (a b : Bool) → a ≡ true → (a && b) ≡ false → b ≡ false
+and-other true b g h = h
+and-other false b g h = cc
+
+pub none-from : {A : Type 0} (o : Option A) → is_some o ≡ false → o ≡ None
+none-from None h = refl
+none-from (Some x) h = cc
+
+-- what is allowed after one part more may be done before it
+pub is_before-Allows : (cut : Option ℕ) (n : ℕ) → Allows cut (n + 1) → is_before cut n ≡ true
+is_before-Allows None n h = refl
+is_before-Allows (Some j) n h = grind (arith, nat_tests)
+
+pub Allows-less : (cut : Option ℕ) (m n : ℕ) → m ≤ n → Allows cut n → Allows cut m
+Allows-less None m n le h = tt
+Allows-less (Some j) m n le h = omega arith
+
+-- a turn is cut at its own number of parts
+pub is_before-cut : (n : ℕ) → is_before (Some n) n ≡ false
+is_before-cut n = grind (arith, nat_tests)
+
+pub none-unsent : (b : Bool) (n : ℕ) → n ≡ 0 → IsFalse (b && nat_lt 0 n)
+none-unsent true n h = grind (arith, nat_tests)
+none-unsent false n h = search rules
+
+pub some-unsent : (b : Bool) (n : ℕ) → IsTrue (b && nat_lt 0 n) → 0 < n
+some-unsent true n h = grind (arith, nat_tests)
+some-unsent false n h = cc
+
+pub ok-given : {A E : Type 0} (r : Result A E) (P : Type 0) → is_err r ≡ false → OnOk r P → P
+ok-given (Ok x) P h k = k
+ok-given (Err e) P h k = cc
+
+pub from-not-false : (b : Bool) → not b ≡ false → b ≡ true
+from-not-false true h = refl
+from-not-false false h = cc
+
+pub from-not-true : (b : Bool) → not b ≡ true → b ≡ false
+from-not-true true h = cc
+from-not-true false h = refl

@@ -1,0 +1,194 @@
+-- No turn leaves a whole frame unread.
+use Rattle.std.proofs.Common.{◌≡◌, ◌≤◌, ℕ, zero, suc, ◌&&◌, ◌==◌, not, if◌then◌else◌, Bool, true, false, IsTrue, List, [], ◌∷◌, length, Option, Some, None, is_some, refl, ap, sym, ◌∙◌, subst, arith, rules}
+use Rattle.amqp_frame.specs.declared.frame.Read.{Read}
+use Rattle.amqp_frame.specs.declared.frame.Read.TheVariants.{Whole, More, TooLarge, BadHeartbeat, Bad, NoMemory}
+use Rattle.amqp_frame.specs.FrameReading.{front}
+use Rattle.amqp_session.specs.declared.state.Link.{Link}
+use Rattle.amqp_session.specs.declared.state.Link.TheVariants.{Wanted, Asked, Open, Ended}
+use Rattle.amqp_session.specs.Talk.{Talk, is_open, is_open_link, is_asked, has_ended, end_of_link}
+use Rattle.amqp_session.specs.Negotiation.{frame_limit}
+use Rattle.amqp_session.specs.Rules.{present_at, asked, asked_link, linked, command, starve}
+use Rattle.amqp_session.specs.Answers.{answer_of, take_answer}
+use Rattle.amqp_session.specs.declared.command.Cmd.{Cmd}
+use Rattle.amqp_engine.specs.declared.port.Step.{Step}
+use Rattle.amqp_engine.specs.declared.port.Step.TheVariants.{Linked, Piece, Room, Tick, Command}
+use Rattle.amqp_engine.specs.declared.port.Wrote.{Wrote}
+use Rattle.amqp_engine.specs.Engine.{Engine, front_of, is_more, can_read, read_one, rule_at, with_talk, step_engine, wrote, taken_by, commits, starve_at}
+use Rattle.amqp_engine.specs.Turn.{Progress, Turn, asks, wants_ask, goes, reads, read_part, reading, is_piece, step_part, part, is_part, begun, drain, offer_part, offered, answered, read, written, applied, turn, starved_after, IsTurn}
+use Rattle.amqp_engine.specs.Log.{Log}
+use Rattle.amqp_engine.specs.Tell.{Applies, Turns, turn_of}
+use Rattle.amqp_engine.specs.Unread.{IsRead}
+use Rattle.amqp_engine.proofs.Cases.{if_case, and-false, and-right}
+use Rattle.amqp_engine.proofs.Keeping.{present-keeps, command-keeps, taken-keeps, starve-ends}
+use Rattle.amqp_engine.proofs.Commits.{commits-keep}
+use Rattle.amqp_engine.proofs.Reading.{reads-rest, read_one-worth, front-none}
+
+-- ---- reading goes on to the end
+
+no-bytes : (xs : List ℕ) (limit : ℕ) → length xs ≤ 0 → not (is_more (front xs limit)) ≡ false
+no-bytes [] limit h = ap (λ (r : Read). not (is_more r)) (front-none limit)
+no-bytes (x ∷ xs) limit h = absurd (omega arith)
+
+if-done : (b : Bool) (n : ℕ) (p : Progress) → (goes p && can_read p.engine) ≡ b → length p.engine.unread ≤ suc n
+    → ((x : Progress) → length x.engine.unread ≤ n → (goes (reads n x) && can_read (reads n x).engine) ≡ false)
+    → (goes (if b then reads n (read_part p) else p) && can_read (if b then reads n (read_part p) else p).engine) ≡ false
+if-done true n p h le ih =
+    let can : can_read p.engine ≡ true = and-right (goes p) (can_read p.engine) h in
+    ih (read_part p) (omega (arith, read_one-worth p.at p.engine can))
+if-done false n p h le ih = h
+
+-- after the parts that read, the turn was cut, or nothing is left to be read
+reads-done : (n : ℕ) (p : Progress) → length p.engine.unread ≤ n → (goes (reads n p) && can_read (reads n p).engine) ≡ false
+reads-done zero p le =
+    and-false (goes p) (can_read p.engine)
+    (and-false (is_open p.engine.talk) (not (is_more (front_of p.engine))) (no-bytes p.engine.unread (frame_limit p.engine.talk.configuration) le))
+reads-done (suc n) p le = if-done (goes p && can_read p.engine) n p refl le (λ x h. reads-done n x h)
+
+more-is : (r : Read) → not (is_more r) ≡ false → r ≡ More
+more-is More h = refl
+more-is (Whole f n) h = cc
+more-is (TooLarge n) h = cc
+more-is (BadHeartbeat c) h = cc
+more-is Bad h = cc
+more-is NoMemory h = cc
+
+open-more : (b : Bool) (r : Read) → (b && not (is_more r)) ≡ false → IsTrue b → r ≡ More
+open-more true r h opened = more-is r h
+open-more false r h opened = absurd (search rules)
+
+cannot-read : (e : Engine) → can_read e ≡ false → IsRead e
+cannot-read e h opened = open-more (is_open e.talk) (front_of e) h opened
+
+-- ---- what leaves it as it was
+
+pub same-read : (e e' : Engine) → is_open e'.talk ≡ is_open e.talk → e'.unread ≡ e.unread → e'.talk.configuration ≡ e.talk.configuration
+    → IsRead e → IsRead e'
+same-read e e' opened unread configuration h now =
+    let P : Bool → Type 0 = λ b. IsTrue b in
+    ap (λ bytes. front bytes (frame_limit e'.talk.configuration)) unread ∙ ap (λ c. front e.unread (frame_limit c)) configuration
+    ∙ h (subst P opened now)
+
+closed-read : (e : Engine) → is_open e.talk ≡ false → IsRead e
+closed-read e h opened =
+    let P : Bool → Type 0 = λ b. IsTrue b in
+    absurd (let no : IsTrue false = subst P h opened in search rules)
+
+asked-open : (l : Link) → is_open_link (asked_link l) ≡ is_open_link l
+asked-open Wanted = refl
+asked-open Asked = refl
+asked-open Open = refl
+asked-open (Ended r) = refl
+
+pub asks-read : (e : Engine) → IsRead e → IsRead (asks e)
+asks-read e h =
+    if_case IsRead (wants_ask e) (with_talk asked e) e (same-read e (with_talk asked e) (asked-open e.talk.link) refl refl h) h
+
+-- a moment leaves it as it was
+moment-read : (at : ℕ) (e : Engine) → IsRead e → IsRead (rule_at at (λ t. t) e)
+moment-read at e h =
+    same-read e (rule_at at (λ t. t) e) (present-keeps is_open at e.talk (λ n. refl)) refl (present-keeps (λ t. t.configuration) at e.talk (λ n. refl)) h
+
+-- a command too
+pub command-read : (c : Cmd) (e : Engine) → IsRead e → IsRead (with_talk (command c) e)
+command-read c e h =
+    same-read e (with_talk (command c) e) (command-keeps is_open c e.talk (λ x l m k. ap is_open_link l)) refl
+    (command-keeps (λ t. t.configuration) c e.talk (λ x l m k. k)) h
+
+-- an answer that is taken too
+pub answer-read : (number : ℕ) (e : Engine) → IsRead e → IsRead (with_talk (take_answer number) e)
+answer-read number e h =
+    let t = e.talk in
+    same-read e (with_talk (take_answer number) e)
+    (if_case (λ (x : Talk). is_open x ≡ is_open t) _ (record t { promises = _ }) t refl refl) refl
+    (if_case (λ (x : Talk). x.configuration ≡ t.configuration) _ (record t { promises = _ }) t refl refl) h
+
+linked-read : (at : ℕ) (e : Engine) → IsRead e → IsRead (step_engine at Linked [] e)
+linked-read at e h =
+    if_case IsRead (is_asked e.talk)
+    (record { talk = linked (present_at at e.talk); unread = []; place = 0; unsent = []; starved = e.starved }) (rule_at at (λ t. t) e)
+    (λ opened. front-none (frame_limit (linked (present_at at e.talk)).configuration)) (moment-read at e h)
+
+step-read : (at : ℕ) (step : Step) (bytes : List ℕ) (e : Engine) → is_piece step ≡ false → IsRead e → IsRead (step_engine at step bytes e)
+step-read at Linked bytes e piece h = linked-read at e h
+step-read at (Piece n) bytes e piece h = cc
+step-read at Room bytes e piece h = moment-read at e h
+step-read at Tick bytes e piece h = moment-read at e h
+step-read at (Command c) bytes e piece h = command-read c (rule_at at (λ t. t) e) (moment-read at e h)
+
+answered-read : (at : ℕ) (w : Wrote) (e : Engine) → IsRead e → IsRead (answered at w e)
+answered-read at w e h =
+    let n = length e.talk.control in
+    let x = commits n e in
+    same-read e (answered at w e)
+    (taken-keeps is_open (taken_by w) (present_at at x.talk) (λ k ms. refl) ∙ present-keeps is_open at x.talk (λ k. refl)
+    ∙ commits-keep (λ (y : Engine). is_open y.talk) (λ y fs ms bytes. refl) n e)
+    (commits-keep (λ (y : Engine). y.unread) (λ y fs ms bytes. refl) n e)
+    (taken-keeps (λ t. t.configuration) (taken_by w) (present_at at x.talk) (λ k ms. refl) ∙ present-keeps (λ t. t.configuration) at x.talk (λ k. refl)
+    ∙ commits-keep (λ (y : Engine). y.talk.configuration) (λ y fs ms bytes. refl) n e) h
+
+drain-read : (ws : List Wrote) (p : Progress) → IsRead p.engine → IsRead (drain ws p).engine
+drain-read [] p h = h
+drain-read (w ∷ ws) p h = drain-read ws (offer_part w p) (answered-read p.at w p.engine h)
+
+-- ---- a turn
+
+reading-read : (b : Bool) (p : Progress) → goes p ≡ true → goes (reads (length p.engine.unread) p) ≡ true → (b ≡ false → IsRead p.engine) → IsRead (reading b p).engine
+reading-read true p go goes_on h =
+    let q = reads (length p.engine.unread) p in
+    let done : (goes q && can_read q.engine) ≡ false = reads-done (length p.engine.unread) p (omega arith) in
+    let cannot : can_read q.engine ≡ false = sym (ap (λ (b : Bool). b && can_read q.engine) goes_on) ∙ done in
+    cannot-read q.engine cannot
+reading-read false p go goes_on h = h refl
+
+uncut-reads : (n : ℕ) (p : Progress) → p.cut ≡ None → goes (reads n p) ≡ true
+uncut-reads zero p h = rw h refl
+uncut-reads (suc n) p h =
+    if_case (λ (x : Progress). goes x ≡ true) (goes p && can_read p.engine) (reads n (read_part p)) p (uncut-reads n (read_part p) h) (rw h refl)
+
+step_part-engine : (b : Bool) (step : Step) (bytes : List ℕ) (at : ℕ) (e : Engine) → is_part step e ≡ b
+    → (step_part step bytes (begun at None e)).engine ≡ step_engine at step bytes e
+step_part-engine true step bytes at e h = rw h refl
+step_part-engine false step bytes at e h = rw h refl
+
+step_part-cut : (b : Bool) (step : Step) (bytes : List ℕ) (at : ℕ) (e : Engine) → is_part step e ≡ b
+    → (step_part step bytes (begun at None e)).cut ≡ None
+step_part-cut true step bytes at e h = rw h refl
+step_part-cut false step bytes at e h = rw h refl
+
+uncut-read : (u : Turn) (e : Engine) → u.notes.starved ≡ None → IsRead e → IsRead (read u e).engine
+uncut-read u e whole h =
+    let at = u.at in
+    let s = step_part u.step u.bytes (begun at None e) in
+    let same : step_part u.step u.bytes (begun at u.notes.starved e) ≡ s = ap (λ (x : Option ℕ). step_part u.step u.bytes (begun at x e)) whole in
+    let cut : s.cut ≡ None = step_part-cut (is_part u.step e) u.step u.bytes at e refl in
+    let engine : s.engine ≡ step_engine at u.step u.bytes e = step_part-engine (is_part u.step e) u.step u.bytes at e refl in
+    let P : Progress → Type 0 = λ x. IsRead (reading (is_piece u.step) x).engine in
+    subst P (sym same)
+    (reading-read (is_piece u.step) s (uncut-reads 0 s cut) (uncut-reads (length s.engine.unread) s cut)
+    (λ piece. subst IsRead (sym engine) (step-read at u.step u.bytes e piece h)))
+
+ended-closed : (l : Link) (b : Bool) → is_some (end_of_link l) ≡ true → is_open_link l ≡ false
+ended-closed Wanted b h = cc
+ended-closed Asked b h = cc
+ended-closed Open b h = cc
+ended-closed (Ended r) b h = refl
+
+starved-read : (s : Option ℕ) (at : ℕ) (e : Engine) → (s ≡ None → IsRead e) → IsRead (starved_after s at e)
+starved-read None at e h = h refl
+starved-read (Some j) at e h =
+    closed-read (starve_at at j e) (ended-closed (starve (present_at at e.talk)).link true (starve-ends (present_at at e.talk)))
+
+pub applied-read : (u : Turn) (e : Engine) → IsRead e → IsRead (applied u e)
+applied-read u e h =
+    starved-read u.notes.starved u.at (written u e).engine (λ whole. drain-read u.notes.answers (read u e) (uncut-read u e whole h))
+
+pub turn-read : (u : Turn) (e : Engine) → IsRead e → IsRead (turn u e)
+turn-read u e h = applied-read u (asks e) (asks-read e h)
+
+-- what is known of an application, and of a turn
+pub Applies-read : (at : ℕ) (step : Step) (bytes : List ℕ) (e e' : Engine) (log log' : Option Log) → Applies at step bytes e e' log log' → IsRead e → IsRead e'
+Applies-read at step bytes e e' log log' f h =
+    subst IsRead f.leaves (applied-read (turn_of at step bytes f.notes) e h)
+
+pub Turns-read : (e e' : Engine) (log log' : Option Log) → Turns e e' log log' → IsRead e → IsRead e'
+Turns-read e e' log log' f h = subst IsRead f.leaves (turn-read f.u e h)

@@ -1,0 +1,14 @@
+pub mod Cases
+pub mod Keeping
+pub mod Commits
+pub mod Reading
+pub mod Telling
+pub mod Offers
+pub mod Applying
+pub mod Running
+pub mod Playing
+pub mod LeftUnread
+pub mod Sent
+pub mod Agreeing
+pub mod Links
+pub mod Bytes

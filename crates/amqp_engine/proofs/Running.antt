@@ -1,0 +1,113 @@
+-- Turns one after another.
+use Rattle.std.proofs.Common.{◌≡◌, ◌≤◌, ℕ, ◌+◌, false, List, [], ◌∷◌, ◌++◌, length, take, drop, Option, IfSome, option_map, refl, ap, sym, ◌∙◌, subst, arith, length-append}
+use Rattle.std.proofs.lemmas.Grind.{common_steps}
+use Rattle.amqp_session.specs.Talk.{has_ended}
+use Rattle.amqp_engine.specs.declared.port.Step.{Step}
+use Rattle.amqp_engine.specs.Log.{Log, log_step, PlansStep}
+use Rattle.amqp_engine.specs.Engine.{Engine}
+use Rattle.amqp_engine.specs.Turn.{Turn, asks, turn, turns, IsTurn, AreTurns, Leads}
+use Rattle.amqp_engine.specs.Tell.{Tells, turn_of, log_asks, log_offers, log_turn, log_turns, offers_of, PlaysOffers, PlaysTurn, PlaysTurns, TellsOffers, TellsTurn, TellsTurns, Applies, Turns, Runs}
+use Rattle.amqp_engine.proofs.Telling.{tells-then, tells-as, tells-freely}
+
+-- turns after turns
+turns-append : (us vs : List Turn) (e : Engine) → turns (us ++ vs) e ≡ turns vs (turns us e)
+turns-append [] vs e = refl
+turns-append (u ∷ us) vs e = turns-append us vs (turn u e)
+
+are-append : (us vs : List Turn) (e : Engine) → AreTurns us e → AreTurns vs (turns us e) → AreTurns (us ++ vs) e
+are-append [] vs e h k = k
+are-append (u ∷ us) vs e h k = (h.0, are-append us vs (turn u e) h.1 k)
+
+Leads-append : (us vs : List Turn) (a b c : Engine) → Leads us a b → Leads vs b c → Leads (us ++ vs) a c
+Leads-append us vs a b c l m =
+    let P : Engine → Type 0 = λ x. AreTurns vs x in
+    record {
+      may = are-append us vs a l.may (subst P (sym l.leaves) m.may);
+      leaves = turns-append us vs a ∙ ap (turns vs) l.leaves ∙ m.leaves;
+    }
+
+log-append : (us vs : List Turn) (e : Engine) (a : Log) → log_turns (us ++ vs) e a ≡ log_turns vs (turns us e) (log_turns us e a)
+log-append [] vs e a = refl
+log-append (u ∷ us) vs e a = log-append us vs (turn u e) (log_turn u e a)
+
+plays-append : (us vs : List Turn) (e : Engine) (a : Log) → PlaysTurns us e a → PlaysTurns vs (turns us e) (log_turns us e a)
+    → PlaysTurns (us ++ vs) e a
+plays-append [] vs e a h k = k
+plays-append (u ∷ us) vs e a h k = (h.0, plays-append us vs (turn u e) (log_turn u e a) h.1 k)
+
+tells-append : (us vs : List Turn) (e b : Engine) (log mid last : Option Log) → turns us e ≡ b
+    → TellsTurns us e log mid → TellsTurns vs b mid last → TellsTurns (us ++ vs) e log last
+tells-append us vs e b log mid last h t s =
+    let P : Engine → Type 0 = λ x. TellsTurns vs x mid last in
+    let f = turns us e in
+    tells-as (λ a. log_turns vs f (log_turns us e a)) (log_turns (us ++ vs) e)
+    (λ a. PlaysTurns us e a × PlaysTurns vs f (log_turns us e a)) (PlaysTurns (us ++ vs) e) log last
+    (λ a. sym (log-append us vs e a)) (λ a p. plays-append us vs e a p.0 p.1)
+    (tells-then (log_turns us e) (log_turns vs f) (PlaysTurns us e) (PlaysTurns vs f) log mid last t (subst P (sym h) s))
+
+-- one turn alone
+tells-single : (u : Turn) (e : Engine) (x y : Option Log) → TellsTurn u e x y → TellsTurns (u ∷ []) e x y
+tells-single u e x y t = tells-as (log_turn u e) (log_turns (u ∷ []) e) (PlaysTurn u e) (PlaysTurns (u ∷ []) e) x y (λ a. refl) (λ a p. (p, tt)) t
+
+-- one turn more at the end
+pub Leads-push : (us : List Turn) (u : Turn) (a b c : Engine) → Leads us a b → IsTurn u b → turn u b ≡ c → Leads (us ++ u ∷ []) a c
+Leads-push us u a b c l may leaves = Leads-append us (u ∷ []) a b c l (record { may = (may, tt); leaves = leaves })
+
+pub tells-push : (us : List Turn) (u : Turn) (e b : Engine) (log mid last : Option Log) → turns us e ≡ b
+    → TellsTurns us e log mid → TellsTurn u b mid last → TellsTurns (us ++ u ∷ []) e log last
+tells-push us u e b log mid last h t l = tells-append us (u ∷ []) e b log mid last h t (tells-single u b mid last l)
+
+-- a run after one that took all its turns goes on
+pub Runs-append : (m n : ℕ) (a b c : Engine) (x y z : Option Log) → Runs m a b x y → has_ended b.talk ≡ false → Runs n b c y z → Runs (m + n) a c x z
+Runs-append m n a b c x y z r running s =
+    record {
+      us = r.us ++ s.us;
+      leads = Leads-append r.us s.us a b c r.leads s.leads;
+      tells = tells-append r.us s.us a b x y z r.leads.leaves r.tells s.tells;
+      within = omega (arith, length-append r.us s.us, r.within, s.within);
+      all = λ h. omega (arith, length-append r.us s.us, r.all running, s.all h);
+    }
+
+-- a turn is told: its asking, its step and its offers
+tells-turn : (u : Turn) (e : Engine) (log asked stepped last : Option Log) → asked ≡ option_map (log_asks e) log
+    → stepped ≡ option_map (log_step u.at u.step u.bytes) asked → IfSome asked (PlansStep u.at u.step u.bytes)
+    → TellsOffers (offers_of u (asks e)) stepped last → TellsTurn u e log last
+tells-turn u e log asked stepped last ha hs plays t =
+    let os = offers_of u (asks e) in
+    let P : Log → Type 0 = PlansStep u.at u.step u.bytes in
+    let step : Tells (log_step u.at u.step u.bytes) P asked stepped = record { told = hs; plays = plays } in
+    let later = tells-then (log_step u.at u.step u.bytes) (log_offers os) P (PlaysOffers os) asked stepped last step t in
+    let whole = tells-then (log_asks e) (λ a. log_offers os (log_step u.at u.step u.bytes a)) (λ a. Unit {0})
+    (λ a. P a × PlaysOffers os (log_step u.at u.step u.bytes a)) log asked last (tells-freely (log_asks e) log asked ha) later in
+    tells-as _ (log_turn u e) _ (PlaysTurn u e) log last (λ a. refl) (λ a p. p.1) whole
+
+-- a turn from its asking, its step and what is applied
+pub turns-of : (e e1 e' : Engine) (log asked stepped last : Option Log) (at : ℕ) (step : Step) (bytes bytes' : List ℕ)
+    → has_ended e.talk ≡ false → e1 ≡ asks e → asked ≡ option_map (log_asks e) log → stepped ≡ option_map (log_step at step bytes) asked
+    → bytes' ≡ bytes → IfSome asked (PlansStep at step bytes) → Applies at step bytes' e1 e' stepped last → Turns e e' log last
+turns-of e e1 e' log asked stepped last at step bytes bytes' running he ha hs hb plays applies =
+    let A : List ℕ → Type 0 = λ x. Applies at step x e1 e' stepped last in
+    let B : Engine → Type 0 = λ x. Applies at step bytes x e' stepped last in
+    let f = subst B he (subst A hb applies) in
+    record {
+      u = turn_of at step bytes f.notes;
+      may = record { running = running; applied = f.may };
+      leaves = f.leaves;
+      tells = tells-turn (turn_of at step bytes f.notes) e log asked stepped last ha hs plays f.tells;
+    }
+
+-- what stands in a vector after its slice was written
+pub take-written : (new old : List ℕ) (len n m : ℕ) → length new ≡ length old → len ≡ length old → n ≡ m
+    → take n (take len (new ++ drop (length new) old)) ≡ take m new
+take-written new old len n m h1 h2 h3 =
+    let none : drop (length new) old ≡ [] = grind (arith, common_steps) in
+    let all : take len (new ++ drop (length new) old) ≡ new = grind (arith, common_steps) in
+    ap (take n) all ∙ ap (λ k. take k new) h3
+
+-- and how long it is
+pub length-written : (new old : List ℕ) (len : ℕ) → length new ≡ length old → len ≡ length old
+    → length (take len (new ++ drop (length new) old)) ≡ length old
+length-written new old len h1 h2 =
+    let none : drop (length new) old ≡ [] = grind (arith, common_steps) in
+    let all : take len (new ++ drop (length new) old) ≡ new = grind (arith, common_steps) in
+    ap length all ∙ h1

@@ -1,0 +1,162 @@
+-- The frames of a link, as their bytes are taken.
+use Rattle.std.proofs.Common.{◌≡◌, ◌≢◌, ◌≤◌, ◌<◌, ℕ, zero, suc, ◌+◌, ◌-◌, ◌==◌, ◌&&◌, not, nat_le, Bool, true, false, if◌then◌else◌, List, [], ◌∷◌, ◌++◌, length, take, drop, map, Option, Some, None, slice_get, slice_set, refl, ap, sym, ◌∙◌, subst, arith, append_assoc, length-append}
+use Rattle.std.specs.List.{flat_map}
+use Rattle.std.proofs.lemmas.Grind.{common_steps, flat_map-append}
+use Rattle.std.proofs.lemmas.Bool.Decides.{nat_tests}
+use Rattle.std.proofs.lemmas.List.{take-append-drop, take-append-le, drop-append-le, length-take-le, length-drop}
+use Rattle.std.proofs.Math.Seq.{take-append_seam, take-append-add, drop-append_seam, drop-append-add, set-append_seam}
+use Rattle.amqp_frame.specs.declared.frame.Frame.{Frame}
+use Rattle.amqp_frame.specs.Frames.{encoding}
+use Rattle.amqp_session.specs.declared.committed.Mark.{Mark}
+use Rattle.amqp_engine.specs.Log.{last_set, on_last}
+use Rattle.amqp_engine.specs.Sending.{Sending, encodings, link_bytes, frames_sent, IsBegun, SendsInOrder}
+use Rattle.amqp_engine.proofs.Cases.{if-true, if-false}
+use Rattle.amqp_engine.proofs.Keeping.{left_after}
+use Rattle.amqp_engine.proofs.Commits.{encoding-some}
+
+-- ---- the last of a list
+
+get-seam : {A : Type 0} (xs : List A) (x : A) → slice_get (xs ++ x ∷ []) (length xs) ≡ Some x
+get-seam [] x = refl
+get-seam (y ∷ xs) x = get-seam xs x
+
+pub on_last-append : {A : Type 0} (f : A → A) (xs : List A) (x : A) → on_last f (xs ++ x ∷ []) ≡ xs ++ f x ∷ []
+on_last-append f xs x =
+    let ys = xs ++ x ∷ [] in
+    let place : length ys - 1 ≡ length xs = omega (arith, length-append xs (x ∷ [])) in
+    let last : slice_get ys (length ys - 1) ≡ Some x = ap (slice_get ys) place ∙ get-seam xs x in
+    ap (λ o. last_set o f ys) last ∙ ap (λ n. slice_set ys n (f x)) place ∙ set-append_seam xs x [] (f x)
+
+-- ---- the frames that wait, and what is left of them
+
+abbrev pub mark_of : Frame → Mark
+mark_of f = record { left = length (encoding f) }
+
+-- the first one lacks the bytes that were taken
+abbrev pub marks_of : List ℕ → List Frame → List Mark
+marks_of last [] = []
+marks_of last (f ∷ fs) = record { left = length (encoding f) - length last } ∷ map mark_of fs
+
+pub marks-none : (fs : List Frame) → marks_of [] fs ≡ map mark_of fs
+marks-none [] = refl
+marks-none (f ∷ fs) =
+    let same : length (encoding f) - 0 ≡ length (encoding f) = omega arith in
+    ap (λ (n : ℕ). record { left = n } ∷ map mark_of fs) same
+
+some-list : (xs : List ℕ) → 0 < length xs → xs ≢ []
+some-list [] h is = absurd (omega arith)
+some-list (x ∷ xs) h is = cc
+
+pub begun-none : (fs : List Frame) → IsBegun [] fs
+begun-none [] = refl
+begun-none (f ∷ fs) = (encoding f, some-list (encoding f) (encoding-some f), refl)
+
+-- so many bytes more are taken: some frames are sent, and of the next one a part
+pub record Advances (last : List ℕ) (fs : List Frame) (bytes : List ℕ) (n : ℕ) (after : List Mark) : Type 0 where
+  pub sent : List Frame
+  pub rest : List Frame
+  pub part : List ℕ
+  pub frames : fs ≡ sent ++ rest
+  pub begun : IsBegun part rest
+  pub marks : after ≡ marks_of part rest
+  pub left : encodings rest ≡ part ++ drop n bytes
+  pub count : length last + n ≡ length (encodings sent ++ part)
+
+no-list : (xs : List ℕ) → length xs ≤ 0 → xs ≡ []
+no-list [] h = refl
+no-list (x ∷ xs) h = absurd (omega arith)
+
+length-some : (xs : List ℕ) → xs ≢ [] → 0 < length xs
+length-some [] h = absurd (h refl)
+length-some (x ∷ xs) h = omega arith
+
+-- what is the same after a common front
+cancel : (xs ys zs : List ℕ) → xs ++ ys ≡ xs ++ zs → ys ≡ zs
+cancel xs ys zs h = sym (drop-append_seam xs ys) ∙ ap (drop (length xs)) h ∙ drop-append_seam xs zs
+
+-- what is unsent begins with the rest of the first frame
+rest-is : (last rest bytes : List ℕ) (f : Frame) (fs : List Frame) → encoding f ≡ last ++ rest → encodings (f ∷ fs) ≡ last ++ bytes
+    → bytes ≡ rest ++ encodings fs
+rest-is last rest bytes f fs he h =
+    cancel last bytes (rest ++ encodings fs) (sym h ∙ ap (λ x. x ++ encodings fs) he ∙ append_assoc last rest (encodings fs))
+
+-- the first frame is sent, or a part more of it is taken
+advance-first : (b : Bool) (f : Frame) (fs : List Frame) (last bytes : List ℕ) (n : ℕ) (begun : IsBegun last (f ∷ fs)) → encodings (f ∷ fs) ≡ last ++ bytes → n ≤ length bytes
+    → ((k : ℕ) → k ≤ length (encodings fs) → Advances [] fs (encodings fs) k (left_after (marks_of [] fs) k))
+    → nat_le (length (encoding f) - length last) n ≡ b
+    → Advances last (f ∷ fs) bytes n (left_after (marks_of last (f ∷ fs)) n)
+advance-first true f fs last bytes n begun h le later whole =
+    let rest : List ℕ = begun.0 in
+    let is : bytes ≡ rest ++ encodings fs = rest-is last rest bytes f fs begun.2 h in
+    let size : length (encoding f) ≡ length last + length rest = ap length begun.2 ∙ length-append last rest in
+    let total : length bytes ≡ length rest + length (encodings fs) = ap length is ∙ length-append rest (encodings fs) in
+    let k : ℕ = n - length rest in
+    let over : length (encoding f) - length last ≤ n = grind (arith, nat_tests) in
+    let sum : n ≡ length rest + k = omega arith in
+    let next : Advances [] fs (encodings fs) k (left_after (marks_of [] fs) k) = later k (omega arith) in
+    let gone : drop n bytes ≡ drop k (encodings fs) =
+    ap (drop n) is ∙ ap (λ m. drop m (rest ++ encodings fs)) sum ∙ drop-append-add rest (encodings fs) k in
+    let less : n - (length (encoding f) - length last) ≡ k = omega arith in
+    record {
+      sent = f ∷ next.sent;
+      rest = next.rest;
+      part = next.part;
+      frames = ap (λ x. f ∷ x) next.frames;
+      begun = next.begun;
+      marks =
+        if-true (nat_le (length (encoding f) - length last) n) (left_after (map mark_of fs) (n - (length (encoding f) - length last)))
+            (record { left = length (encoding f) - length last - n } ∷ map mark_of fs) whole
+            ∙ ap (left_after (map mark_of fs)) less ∙ ap (λ x. left_after x k) (sym (marks-none fs)) ∙ next.marks;
+      left = next.left ∙ ap (λ x. next.part ++ x) (sym gone);
+      count =
+        omega (arith, next.count, length-append (encoding f) (encodings next.sent), length-append (encoding f ++ encodings next.sent) next.part, length-append (encodings next.sent) next.part);
+    }
+advance-first false f fs last bytes n begun h le later cut =
+    let rest : List ℕ = begun.0 in
+    let is : bytes ≡ rest ++ encodings fs = rest-is last rest bytes f fs begun.2 h in
+    let size : length (encoding f) ≡ length last + length rest = ap length begun.2 ∙ length-append last rest in
+    let short : n < length (encoding f) - length last = grind (arith, nat_tests) in
+    let under : n < length rest = omega arith in
+    let part : List ℕ = last ++ take n rest in
+    let taken : length (take n rest) ≡ n = length-take-le n rest (omega arith) in
+    let count : length part ≡ length last + n = omega (arith, length-append last (take n rest)) in
+    let whole : part ++ drop n rest ≡ last ++ rest = append_assoc last (take n rest) (drop n rest) ∙ ap (λ x. last ++ x) (take-append-drop n rest) in
+    let gone : drop n bytes ≡ drop n rest ++ encodings fs = ap (drop n) is ∙ drop-append-le n rest (encodings fs) (omega arith) in
+    let some : 0 < length (drop n rest) = omega (arith, length-drop n rest) in
+    let less : length (encoding f) - length last - n ≡ length (encoding f) - length part = omega arith in
+    record {
+      sent = [];
+      rest = f ∷ fs;
+      part = part;
+      frames = refl;
+      begun = (drop n rest, some-list (drop n rest) some, begun.2 ∙ sym whole);
+      marks =
+        if-false (nat_le (length (encoding f) - length last) n) (left_after (map mark_of fs) (n - (length (encoding f) - length last)))
+            (record { left = length (encoding f) - length last - n } ∷ map mark_of fs) cut
+            ∙ ap (λ (m : ℕ). record { left = m } ∷ map mark_of fs) less;
+      left = ap (λ x. x ++ encodings fs) (begun.2 ∙ sym whole) ∙ append_assoc part (drop n rest) (encodings fs) ∙ ap (λ x. part ++ x) (sym gone);
+      count = sym count;
+    }
+
+pub advance : (fs : List Frame) (last bytes : List ℕ) (n : ℕ) → IsBegun last fs → encodings fs ≡ last ++ bytes → n ≤ length bytes
+    → Advances last fs bytes n (left_after (marks_of last fs) n)
+advance [] last bytes n begun h le =
+    let none : length bytes ≤ 0 = omega (arith, ap length h, length-append last bytes) in
+    let gone : drop n bytes ≡ [] = grind (arith, common_steps) in
+    record {
+      sent = [];
+      rest = [];
+      part = [];
+      frames = refl;
+      begun = refl;
+      marks = refl;
+      left = sym gone;
+      count = omega (arith, ap length begun);
+    }
+advance (f ∷ fs) last bytes n begun h le =
+    advance-first (nat_le (length (encoding f) - length last) n) f fs last bytes n begun h le (λ k within. advance fs [] (encodings fs) k (begun-none fs) refl within) refl
+
+-- no byte is taken
+pub advance-none : (fs : List Frame) (last bytes : List ℕ) → IsBegun last fs → encodings fs ≡ last ++ bytes → Advances last fs bytes 0 (marks_of last fs)
+advance-none fs last bytes begun h =
+    record { sent = []; rest = fs; part = last; frames = refl; begun = begun; marks = refl; left = h; count = omega arith }

@@ -1,0 +1,34 @@
+use Rattle.std.proofs.Common.{◌≡◌, ◌∙◌, option_map, length, take, ap, sym, subst, arith}
+use Rattle.amqp_engine.specs.Log.{piece_bytes, piece_len}
+use Rattle.amqp_engine.specs.Engine.{Engine}
+use Rattle.amqp_engine.specs.Turn.{asks}
+use Rattle.amqp_engine.specs.Tell.{log_asks}
+use Rattle.amqp_engine.specs.Unread.{IsRead}
+use Rattle.amqp_engine.proofs.LeftUnread.{asks-read, Applies-read}
+use Rattle.amqp_engine.proofs.Running.{turns-of, take-written, length-written}
+use Rattle.amqp_engine.proofs.io_loop.IoLoop.turn.Goals as goal
+
+pub returns-clause-turn : goal.returns-clause-turn
+returns-clause-turn g c =
+    let told = c.next-told.result in
+    let space = c.next-told.new.space in
+    let old = c.self.inside.scratch.items in
+    let n = c.piece_len-n.result in
+    let sized : length space ≡ length old = omega (arith, c.next-told.auto.space, ap length c.deref_mut.ensures.value) in
+    let bytes : take n c.deref.result.now ≡ piece_bytes told.step space =
+    ap (take n) c.deref.ensures.value
+    ∙ take-written space old c.self.inside.scratch.len n (piece_len told.step) sized (omega arith) c.piece_len-n.ensures in
+    turns-of c.args.self.now c.ask.new.self _ (g.P.Port.log c.args.port.now) (g.P.Port.log c.ask.new.port) (g.P.Port.log c.next-told.new.self)
+    _ told.at told.step (piece_bytes told.step space) (take n c.deref.result.now)
+    c.requires
+    (c.ask.ensures.engine ∙ ap asks c.self.view_is)
+    (c.ask.ensures.told ∙ ap (λ (m : Engine). option_map (log_asks m) (g.P.Port.log c.args.port.now)) c.self.view_is)
+    c.next-told.ensures.told bytes c.next-told.ensures.plays c.apply.ensures.turn
+
+pub invariant_of-self : goal.invariant_of-self
+invariant_of-self g c =
+    let space = c.next-told.new.space in
+    let old = c.self.inside.scratch.items in
+    let sized : length space ≡ length old = omega (arith, c.next-told.auto.space, ap length c.deref_mut.ensures.value) in
+    let asked : IsRead c.ask.new.self = subst IsRead (sym c.ask.ensures.engine) (asks-read c.self.inside.wire c.self.invariant.1) in
+    (length-written space old c.self.inside.scratch.len sized (omega arith) ∙ c.self.invariant.0, Applies-read _ _ _ _ _ _ _ c.apply.ensures.turn asked)

@@ -1,0 +1,62 @@
+use Rattle.std.proofs.Common.{◌≡◌, ◌∙◌, [], Some, None, length, ap, sym, refl, arith}
+use Rattle.amqp_engine.specs.Engine.{Engine, starve_at}
+use Rattle.amqp_engine.specs.Turn.{is_part}
+use Rattle.amqp_engine.specs.Making.{making}
+use Rattle.amqp_engine.proofs.Offers.{writes-cut}
+use Rattle.amqp_engine.proofs.Applying.{starve_at-twice, read-is, read-none, applies-of}
+use Rattle.amqp_engine.proofs.Telling.{tells-none}
+use Rattle.amqp_engine.proofs.Cases.{is_before-cut}
+use Rattle.amqp_engine.proofs.wire.Wire.apply.Goals as goal
+
+pub returns-in_default-clause-turn : goal.returns-in_default-clause-turn
+returns-in_default-clause-turn g c =
+    let e = c.args.self.now in
+    let at = c.args.told.at in
+    let p = making at (Some 0) e 0 in
+    let same : starve_at at 0 e ≡ c.cut.new.self =
+    sym (c.cut.ensures ∙ ap (starve_at at 0) c.in_default.ensures.err ∙ starve_at-twice at 0 e) in
+    applies-of at c.args.told.step c.args.bytes.now e _ _ _ [] (Some 0) p p
+    (read-none at [] c.args.told.step c.args.bytes.now e c.in_default.ensures.refused) (writes-cut p refl) refl same (tells-none _ _ refl)
+
+pub returns-in-Err-clause-turn : goal.returns-in-Err-clause-turn
+returns-in-Err-clause-turn g c =
+    let e = c.args.self.now in
+    let at = c.args.told.at in
+    let n = c.read_all.new.parts in
+    let x = c.in-Err.ensures.err.0 in
+    let p = making at (Some n) x n in
+    let same : starve_at at n x ≡ c.cut-in-Err.new.self =
+    sym (c.cut-in-Err.ensures ∙ ap (starve_at at n) c.in-Err.ensures.err.1 ∙ starve_at-twice at n x) in
+    applies-of at c.args.told.step c.args.bytes.now e _ _ _ [] (Some n) p p
+    (read-is at (Some n) [] c.args.told.step c.args.bytes.now c.is_piece-piece.result (is_part c.args.told.step e) e c.take_step.new.self x c.in-Ok.parts n
+    c.is_piece-piece.ensures refl c.in-Ok.ensures.parts c.in-Ok.ensures.ok c.in-Err.ensures.grows c.in-Err.ensures.err.2)
+    (writes-cut p (is_before-cut n)) refl same (tells-none _ _ refl)
+
+pub returns-in-Err-write_all-clause-turn : goal.returns-in-Err-write_all-clause-turn
+returns-in-Err-write_all-clause-turn g c =
+    let e = c.args.self.now in
+    let at = c.args.told.at in
+    let n = c.read_all.new.parts in
+    let m = c.write_all.new.parts in
+    let f = c.in-Err-write_all.ensures in
+    let p = making at (Some m) c.read_all.new.self n in
+    let p' = making at (Some m) c.write_all.new.self m in
+    applies-of at c.args.told.step c.args.bytes.now e _ _ _ f.err.0 (Some m) p p'
+    (read-is at (Some m) f.err.0 c.args.told.step c.args.bytes.now c.is_piece-piece.result (is_part c.args.told.step e) e c.take_step.new.self c.read_all.new.self c.in-Ok.parts n
+    c.is_piece-piece.ensures refl c.in-Ok.ensures.parts c.in-Ok.ensures.ok (omega (arith, c.in_default-read_all.ensures.grows, f.grows))
+    (c.in_default-read_all.ensures.ok (Some m) f.grows))
+    f.err.1 refl (sym c.cut-in-Err-write_all.ensures) f.err.2
+
+pub returns-clause-turn : goal.returns-clause-turn
+returns-clause-turn g c =
+    let e = c.args.self.now in
+    let at = c.args.told.at in
+    let n = c.read_all.new.parts in
+    let m = c.write_all.new.parts in
+    let f = c.in_default-write_all.ensures in
+    let p = making at None c.read_all.new.self n in
+    let p' = making at None c.write_all.new.self m in
+    applies-of at c.args.told.step c.args.bytes.now e _ _ _ f.ok.0 None p p'
+    (read-is at None f.ok.0 c.args.told.step c.args.bytes.now c.is_piece-piece.result (is_part c.args.told.step e) e c.take_step.new.self c.read_all.new.self c.in-Ok.parts n
+    c.is_piece-piece.ensures refl c.in-Ok.ensures.parts c.in-Ok.ensures.ok tt (c.in_default-read_all.ensures.ok None tt))
+    (f.ok.1 None tt) tt refl f.ok.2

@@ -1,0 +1,10 @@
+-- What is still to be committed leads where the whole does.
+use Rattle.std.proofs.Common.{◌≡◌, length}
+use Rattle.amqp_engine.specs.Engine.{commit_all}
+use Rattle.amqp_engine.proofs.wire.Wire.commit_all.Given as goal
+
+abbrev pub invariant-commits : goal.invariant-commits
+invariant-commits l = commit_all l.self ≡ commit_all l.initial.self
+
+abbrev pub decreases-commits : goal.decreases-commits
+decreases-commits l = length l.self.talk.control

@@ -1,0 +1,139 @@
+-- The engine: the session, with the bytes of its link that are not yet read, and those that are not yet taken.
+use Rattle.std.specs.Prelude.{ℕ, zero, suc, ◌+◌, ◌-◌, ◌^◌, min, not, ◌&&◌, if◌then◌else◌, nat_lt, Bool, true, false, List, [], ◌++◌, length, drop, Option, Some, None}
+use Rattle.amqp_frame.specs.declared.frame.Frame.{Frame}
+use Rattle.amqp_frame.specs.declared.frame.Read.{Read}
+use Rattle.amqp_frame.specs.declared.frame.Read.TheVariants.{Whole, More}
+use Rattle.amqp_frame.specs.FrameReading.{front}
+use Rattle.amqp_frame.specs.Frames.{encoding}
+use Rattle.amqp_session.specs.declared.session.TheConstants.{CAPACITY}
+use Rattle.amqp_session.specs.Talk.{Talk, start, is_open, is_asked, has_ended}
+use Rattle.amqp_session.specs.Negotiation.{frame_limit}
+use Rattle.amqp_session.specs.Rules.{present_at, linked, piece, on_frame, misread, command, starve}
+use Rattle.amqp_session.specs.Writing.{next_within, commit, taken}
+use Rattle.amqp_engine.specs.declared.port.Step.{Step}
+use Rattle.amqp_engine.specs.declared.port.Step.TheVariants.{Linked, Piece, Room, Tick, Command}
+use Rattle.amqp_engine.specs.declared.port.Wrote.{Wrote}
+use Rattle.amqp_engine.specs.declared.port.Wrote.TheVariants.{Took, NoMemory}
+use Rattle.amqp_engine.specs.Plan.{at_most_64}
+
+pub record Engine : Type 0 where
+  -- the state of the session
+  pub talk : Talk
+  -- the bytes that were received on the open link and not yet read
+  pub unread : List ℕ
+  -- how many bytes of the link were received before them, a number that stays at the greatest of 64 bits
+  pub place : ℕ
+  -- the bytes of the committed frames that are not yet taken
+  pub unsent : List ℕ
+  -- how many parts of a turn were done when memory was refused, where it was
+  pub starved : Option ℕ
+
+-- the engine at the beginning
+abbrev pub begin : Engine
+begin = record { talk = start; unread = []; place = 0; unsent = []; starved = None }
+
+-- a change of the session alone
+abbrev pub with_talk : (Talk → Talk) → Engine → Engine
+with_talk f e = record e { talk = f e.talk }
+
+-- a rule of the session at a moment, which the present follows
+abbrev pub rule_at : ℕ → (Talk → Talk) → Engine → Engine
+rule_at at f e = with_talk (λ t. f (present_at at t)) e
+
+-- ---- the step
+
+-- the link that was asked for is there, and nothing was received or committed on it
+abbrev pub step_linked : ℕ → Engine → Engine
+step_linked at e =
+    if is_asked e.talk
+    then record { talk = linked (present_at at e.talk); unread = []; place = 0; unsent = []; starved = e.starved }
+    else rule_at at (λ t. t) e
+
+-- a piece joins the unread bytes of the open link
+abbrev pub step_piece : ℕ → List ℕ → Engine → Engine
+step_piece at bytes e =
+    if is_open e.talk
+    then record e { talk = piece (present_at at e.talk); unread = e.unread ++ bytes }
+    else rule_at at (λ t. t) e
+
+-- the rule of a step; until heartbeats are built, a tick changes the present alone
+abbrev pub step_engine : ℕ → Step → List ℕ → Engine → Engine
+step_engine at Linked bytes e = step_linked at e
+step_engine at (Piece n) bytes e = step_piece at bytes e
+step_engine at Room bytes e = rule_at at (λ t. t) e
+step_engine at Tick bytes e = rule_at at (λ t. t) e
+step_engine at (Command c) bytes e = rule_at at (command c) e
+
+-- ---- reading
+
+-- what stands at the front of the unread bytes
+abbrev pub front_of : Engine → Read
+front_of e = front e.unread (frame_limit e.talk.configuration)
+
+abbrev pub is_more : Read → Bool
+is_more More = true
+is_more _ = false
+
+-- there is a frame to be read, or what can be none
+abbrev pub can_read : Engine → Bool
+can_read e = is_open e.talk && not (is_more (front_of e))
+
+-- at the end of the session the unread bytes go
+abbrev pub settle : Engine → Engine
+settle e = if has_ended e.talk then record e { unread = []; place = 0 } else e
+
+-- what stood at the front is read
+abbrev pub read_row : ℕ → Read → Engine → Engine
+read_row at (Whole f n) e =
+    settle (record e {
+      talk = on_frame f e.place (present_at at e.talk);
+      unread = drop n e.unread;
+      place = at_most_64 (e.place + n);
+    })
+read_row at More e = e
+read_row at _ e = settle (rule_at at (misread e.place) e)
+
+abbrev pub read_one : ℕ → Engine → Engine
+read_one at e = read_row at (front_of e) e
+
+-- ---- writing
+
+-- the next frame, where it and the unsent bytes together fit the capacity
+abbrev pub fitting_next : Engine → Option Frame
+fitting_next e = next_within (CAPACITY - length e.unsent) e.talk
+
+abbrev pub committed_as : Option Frame → Engine → Engine
+committed_as None e = e
+committed_as (Some f) e =
+    record e { talk = commit (CAPACITY - length e.unsent) e.talk; unsent = e.unsent ++ encoding f }
+
+-- the next frame is committed, where it fits
+abbrev pub commit_one : Engine → Engine
+commit_one e = committed_as (fitting_next e) e
+
+abbrev pub commits : ℕ → Engine → Engine
+commits zero e = e
+commits (suc n) e = commits n (commit_one e)
+
+-- frames are committed while there is one that fits
+abbrev pub commit_all : Engine → Engine
+commit_all e = commits (length e.talk.control) e
+
+-- something is to be written
+abbrev pub can_write : Engine → Bool
+can_write e = is_open e.talk && nat_lt 0 (length (commit_all e).unsent)
+
+-- how many bytes an answer takes
+abbrev pub taken_by : Wrote → ℕ
+taken_by (Took k) = k
+taken_by NoMemory = 0
+
+-- a write was answered
+abbrev pub wrote : ℕ → Wrote → Engine → Engine
+wrote at w e = record e { talk = taken (taken_by w) (present_at at e.talk); unsent = drop (taken_by w) e.unsent }
+
+-- ---- want of memory
+
+-- memory was refused when so many parts of the turn were done, and the session ends
+abbrev pub starve_at : ℕ → ℕ → Engine → Engine
+starve_at at j e = record e { talk = starve (present_at at e.talk); unread = []; place = 0; starved = Some j }

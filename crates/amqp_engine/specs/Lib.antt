@@ -1,0 +1,14 @@
+-- What a port is given and tells.
+pub mod Plan
+pub mod Log
+-- What a turn does to the engine, and what a port tells of it.
+pub mod Engine
+pub mod Turn
+pub mod Tell
+-- What went out on each link, and what is left unread.
+pub mod Sending
+pub mod Unread
+-- The turns of a script that is played.
+pub mod Play
+-- What the contracts of private calls are stated with.
+pub mod Making

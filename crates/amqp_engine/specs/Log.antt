@@ -1,0 +1,102 @@
+-- What a port tells of itself: its steps, the writes to it, the bytes of its links, and the script that it plays.
+use Rattle.std.specs.Prelude.{◌≡◌, ◌≤◌, ℕ, ◌+◌, ◌-◌, if◌then◌else◌, Bool, true, false, List, [], ◌∷◌, ◌++◌, length, take, slice_get, slice_set, Option, Some, None, IfSome, option_map}
+use Rattle.amqp_engine.specs.declared.port.Step.{Step}
+use Rattle.amqp_engine.specs.declared.port.Step.TheVariants.{Linked, Piece}
+use Rattle.amqp_engine.specs.declared.port.Wrote.{Wrote}
+use Rattle.amqp_engine.specs.declared.port.Wrote.TheVariants.{Took, NoMemory}
+use Rattle.amqp_engine.specs.declared.port.Happening.{Happening}
+use Rattle.amqp_engine.specs.declared.port.Write.{Write}
+use Rattle.amqp_engine.specs.declared.given.Given.{Given}
+use Rattle.amqp_engine.specs.Plan.{Plan, plan_of, plan_step, plan_write, is_none_left, next_happening, PlanAnswers}
+
+pub record Log : Type 0 where
+  -- the steps that were told, in order, but for the ticks after a script
+  pub steps : List Happening
+  -- the writes, in order
+  pub writes : List Write
+  -- the bytes taken on each link, in order
+  pub links : List (List ℕ)
+  -- whether a link is asked for
+  pub asked : Bool
+  -- the script that is played, where one is
+  pub plan : Option Plan
+
+-- a script is loaded: there is no link, and nothing was told
+abbrev pub loaded : List Given → Log
+loaded gs = record { steps = []; writes = []; links = []; asked = false; plan = Some (plan_of gs) }
+
+-- a link is asked for
+abbrev pub log_ask : Log → Log
+log_ask a = record a { asked = true }
+
+-- ---- a step
+
+abbrev pub piece_len : Step → ℕ
+piece_len (Piece n) = n
+piece_len _ = 0
+
+-- the bytes of a step, where they stand at the front of a space
+abbrev pub piece_bytes : Step → List ℕ → List ℕ
+piece_bytes step space = take (piece_len step) space
+
+-- a piece has 1 to 4096 bytes
+abbrev pub IsPiece : Step → Type 0
+IsPiece (Piece n) = (1 ≤ n) × (n ≤ 4096)
+IsPiece _ = Unit {0}
+
+-- a link that was asked for begins with no bytes
+abbrev pub links_after : Step → Bool → List (List ℕ) → List (List ℕ)
+links_after Linked asked links = if asked then links ++ [] ∷ [] else links
+links_after _ asked links = links
+
+abbrev pub asked_after : Step → Bool → Bool
+asked_after Linked asked = false
+asked_after _ asked = asked
+
+abbrev pub is_played : Option Plan → Bool
+is_played None = false
+is_played (Some p) = is_none_left p.rest
+
+-- a step is told; the ticks after a script are counted alone
+abbrev pub log_step : ℕ → Step → List ℕ → Log → Log
+log_step at step bytes a =
+    if is_played a.plan
+    then record a { plan = option_map (plan_step a.asked) a.plan }
+    else record a {
+      steps = a.steps ++ record { at = at; step = step; bytes = bytes } ∷ [];
+      links = links_after step a.asked a.links;
+      asked = asked_after step a.asked;
+      plan = option_map (plan_step a.asked) a.plan;
+    }
+
+-- a port that plays a script tells its next step
+abbrev pub PlansStep : ℕ → Step → List ℕ → Log → Type 0
+PlansStep at step bytes a = IfSome a.plan (λ p. next_happening p ≡ record { at = at; step = step; bytes = bytes })
+
+-- ---- a write
+
+abbrev pub IsWithin : ℕ → Wrote → Type 0
+IsWithin offered (Took k) = k ≤ offered
+IsWithin offered NoMemory = Unit {0}
+
+abbrev pub last_set : {A : Type 0} → Option A → (A → A) → List A → List A
+last_set None f xs = xs
+last_set (Some x) f xs = slice_set xs (length xs - 1) (f x)
+
+-- the last of a list, where there is one, is changed
+abbrev pub on_last : {A : Type 0} → (A → A) → List A → List A
+on_last f xs = last_set (slice_get xs (length xs - 1)) f xs
+
+-- the first so many of the bytes offered are taken on the last link; a write that found no memory is not told
+abbrev pub log_write : List ℕ → Wrote → Log → Log
+log_write bytes (Took k) a =
+    record a {
+      writes = a.writes ++ record { before = length a.steps; offered = length bytes; answer = Took k } ∷ [];
+      links = on_last (λ link. link ++ take k bytes) a.links;
+      plan = option_map (plan_write k) a.plan;
+    }
+log_write bytes NoMemory a = a
+
+-- a port that plays a script takes what it has room for
+abbrev pub PlansWrite : ℕ → Wrote → Log → Type 0
+PlansWrite offered answer a = IfSome a.plan (λ p. PlanAnswers p offered answer)

@@ -1,0 +1,106 @@
+-- A script that a port plays: what is told at each step, and how much is taken of what is offered.
+use Rattle.std.specs.Prelude.{◌≡◌, ◌≤◌, ℕ, ◌+◌, ◌-◌, ◌^◌, min, if◌then◌else◌, Bool, true, false, List, [], ◌∷◌, length, Option, Some, None}
+use Rattle.amqp_engine.specs.declared.port.Step.{Step}
+use Rattle.amqp_engine.specs.declared.port.Step.TheVariants.{Linked, Piece, Room, Tick, Command}
+use Rattle.amqp_engine.specs.declared.port.Wrote.{Wrote}
+use Rattle.amqp_engine.specs.declared.port.Wrote.TheVariants.{Took, NoMemory}
+use Rattle.amqp_engine.specs.declared.port.Happening.{Happening}
+use Rattle.amqp_engine.specs.declared.given.Given.{Given}
+use Rattle.amqp_engine.specs.declared.given.GivenStep.{GivenStep}
+use Rattle.amqp_engine.specs.declared.given.GivenStep.TheVariants.{Link, Bytes, Room as GivenRoom, Tick as GivenTick, Command as GivenCommand}
+
+pub record Plan : Type 0 where
+  -- the given steps that are left, in order
+  pub rest : List Given
+  -- how many bytes the link still takes, or none where it takes all
+  pub room : Option ℕ
+  -- the moment of the last given step
+  pub moment : ℕ
+  -- how many ticks were told after the last given step
+  pub idle : ℕ
+
+-- a script at its beginning; there is no link yet, and so no room
+abbrev pub plan_of : List Given → Plan
+plan_of gs = record { rest = gs; room = Some 0; moment = 0; idle = 0 }
+
+-- a number of 64 bits that stays at the greatest one
+abbrev pub at_most_64 : ℕ → ℕ
+at_most_64 n = min n (2 ^ 64 - 1)
+
+-- ---- the steps
+
+-- the step that is told of a given one
+abbrev pub step_of : GivenStep → Step
+step_of (Link room) = Linked
+step_of (Bytes bytes) = Piece (length bytes)
+step_of (GivenRoom n) = Room
+step_of GivenTick = Tick
+step_of (GivenCommand c) = Command c
+
+abbrev pub bytes_of : GivenStep → List ℕ
+bytes_of (Bytes bytes) = bytes
+bytes_of _ = []
+
+abbrev pub happening_of : Given → Happening
+happening_of g = record { at = g.at; step = step_of g.what; bytes = bytes_of g.what }
+
+abbrev pub happening_next : List Given → ℕ → Happening
+happening_next [] last = record { at = last; step = Tick; bytes = [] }
+happening_next (g ∷ gs) last = happening_of g
+
+-- what is told next: the next given step, or a tick of the last moment
+abbrev pub next_happening : Plan → Happening
+next_happening p = happening_next p.rest p.moment
+
+abbrev pub more_room : ℕ → Option ℕ → Option ℕ
+more_room n None = None
+more_room n (Some left) = Some (at_most_64 (left + n))
+
+-- the room after a given step: a link that was asked for comes with its own
+abbrev pub room_after : Bool → GivenStep → Option ℕ → Option ℕ
+room_after asked (Link given_room) room = if asked then given_room else room
+room_after asked (GivenRoom n) room = more_room n room
+room_after asked _ room = room
+
+abbrev pub plan_from : List Given → Bool → Plan → Plan
+plan_from [] asked p = record p { idle = at_most_64 (p.idle + 1) }
+plan_from (g ∷ gs) asked p = record p { rest = gs; room = room_after asked g.what p.room; moment = g.at }
+
+-- a step is told, where a link is asked for or not
+abbrev pub plan_step : Bool → Plan → Plan
+plan_step asked p = plan_from p.rest asked p
+
+abbrev pub is_none_left : List Given → Bool
+is_none_left [] = true
+is_none_left (g ∷ gs) = false
+
+-- ---- the writes
+
+-- the lesser of what is offered and the room
+abbrev pub room_for : Option ℕ → ℕ → ℕ
+room_for None offered = offered
+room_for (Some left) offered = min left offered
+
+abbrev pub less_room : ℕ → Option ℕ → Option ℕ
+less_room k None = None
+less_room k (Some left) = Some (left - k)
+
+-- so many bytes were taken
+abbrev pub plan_write : ℕ → Plan → Plan
+plan_write k p = record p { room = less_room k p.room }
+
+-- the answer to an offer of so many bytes; memory may be refused
+abbrev pub PlanAnswers : Plan → ℕ → Wrote → Type 0
+PlanAnswers p offered (Took k) = k ≡ room_for p.room offered
+PlanAnswers p offered NoMemory = Unit {0}
+
+-- ---- the pieces
+
+-- a piece has 1 to 4096 bytes
+abbrev pub IsGivenPiece : GivenStep → Type 0
+IsGivenPiece (Bytes bytes) = (1 ≤ length bytes) × (length bytes ≤ 4096)
+IsGivenPiece _ = Unit {0}
+
+abbrev pub ArePieces : List Given → Type 0
+ArePieces [] = Unit {0}
+ArePieces (g ∷ gs) = IsGivenPiece g.what × ArePieces gs

@@ -1,0 +1,98 @@
+-- What a port tells of turns: a second fold over them, and what a port that plays a script does.
+use Rattle.std.specs.Prelude.{◌≡◌, ℕ, ◌≤◌, if◌then◌else◌, Bool, false, List, [], ◌∷◌, length, Option, IfSome, option_map}
+use Rattle.amqp_session.specs.Talk.{has_ended}
+use Rattle.amqp_engine.specs.declared.port.Step.{Step}
+use Rattle.amqp_engine.specs.declared.port.Wrote.{Wrote}
+use Rattle.amqp_engine.specs.Log.{Log, log_ask, log_step, log_write, PlansStep, PlansWrite}
+use Rattle.amqp_engine.specs.Engine.{Engine}
+use Rattle.amqp_engine.specs.Turn.{Turn, Notes, asks, wants_ask, offered, answered, read, turn, applied, IsApplied, IsTurn, Leads}
+
+-- ---- what is told
+
+-- the bytes of an offer, and its answer
+pub record Offer : Type 0 where
+  pub bytes : List ℕ
+  pub answer : Wrote
+
+-- the offers that these answers answer
+abbrev pub offers_from : ℕ → List Wrote → Engine → List Offer
+offers_from at [] e = []
+offers_from at (w ∷ ws) e = record { bytes = offered e; answer = w } ∷ offers_from at ws (answered at w e)
+
+-- the offers of a turn, from its step on
+abbrev pub offers_of : Turn → Engine → List Offer
+offers_of u e = offers_from u.at u.notes.answers (read u e).engine
+
+abbrev pub log_offers : List Offer → Log → Log
+log_offers [] a = a
+log_offers (o ∷ os) a = log_offers os (log_write o.bytes o.answer a)
+
+abbrev pub log_asks : Engine → Log → Log
+log_asks e a = if wants_ask e then log_ask a else a
+
+-- a turn is told up to its offers
+abbrev pub log_stepped : Turn → Engine → Log → Log
+log_stepped u e a = log_step u.at u.step u.bytes (log_asks e a)
+
+-- a turn is told
+abbrev pub log_turn : Turn → Engine → Log → Log
+log_turn u e a = log_offers (offers_of u (asks e)) (log_stepped u e a)
+
+abbrev pub log_turns : List Turn → Engine → Log → Log
+log_turns [] e a = a
+log_turns (u ∷ us) e a = log_turns us (turn u e) (log_turn u e a)
+
+-- ---- what a port does that plays a script
+
+abbrev pub PlaysOffers : List Offer → Log → Type 0
+PlaysOffers [] a = Unit {0}
+PlaysOffers (o ∷ os) a = PlansWrite (length o.bytes) o.answer a × PlaysOffers os (log_write o.bytes o.answer a)
+
+-- a port that plays a script tells this step, and answers these writes so
+abbrev pub PlaysTurn : Turn → Engine → Log → Type 0
+PlaysTurn u e a = PlansStep u.at u.step u.bytes (log_asks e a) × PlaysOffers (offers_of u (asks e)) (log_stepped u e a)
+
+abbrev pub PlaysTurns : List Turn → Engine → Log → Type 0
+PlaysTurns [] e a = Unit {0}
+PlaysTurns (u ∷ us) e a = PlaysTurn u e a × PlaysTurns us (turn u e) (log_turn u e a)
+
+-- ---- both, of a port that may tell
+
+-- a port that tells tells this, and where it plays a script, it may
+pub record Tells (f : Log → Log) (P : Log → Type 0) (before after : Option Log) : Type 0 where
+  pub told : after ≡ option_map f before
+  pub plays : IfSome before P
+
+abbrev pub TellsOffers : List Offer → Option Log → Option Log → Type 0
+TellsOffers os before after = Tells (log_offers os) (PlaysOffers os) before after
+
+abbrev pub TellsTurn : Turn → Engine → Option Log → Option Log → Type 0
+TellsTurn u e before after = Tells (log_turn u e) (PlaysTurn u e) before after
+
+abbrev pub TellsTurns : List Turn → Engine → Option Log → Option Log → Type 0
+TellsTurns us e before after = Tells (log_turns us e) (PlaysTurns us e) before after
+
+abbrev pub turn_of : ℕ → Step → List ℕ → Notes → Turn
+turn_of at step bytes notes = record { at = at; step = step; bytes = bytes; notes = notes }
+
+-- some turn of this step, from it on, leads from here to there, and its offers are told
+pub record Applies (at : ℕ) (step : Step) (bytes : List ℕ) (e e' : Engine) (log log' : Option Log) : Type 0 where
+  pub notes : Notes
+  pub may : IsApplied (turn_of at step bytes notes) e
+  pub leaves : applied (turn_of at step bytes notes) e ≡ e'
+  pub tells : TellsOffers (offers_of (turn_of at step bytes notes) e) log log'
+
+-- some one turn leads from here to there, and is told
+pub record Turns (e e' : Engine) (log log' : Option Log) : Type 0 where
+  pub u : Turn
+  pub may : IsTurn u e
+  pub leaves : turn u e ≡ e'
+  pub tells : TellsTurn u e log log'
+
+-- some turns lead from here to there and are told: as many as are allowed, or fewer where the session ended
+pub record Runs (allowed : ℕ) (e e' : Engine) (log log' : Option Log) : Type 0 where
+  pub us : List Turn
+  pub leads : Leads us e e'
+  pub tells : TellsTurns us e log log'
+  pub within : length us ≤ allowed
+  pub all : has_ended e'.talk ≡ false → length us ≡ allowed

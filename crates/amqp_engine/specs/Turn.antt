@@ -1,0 +1,179 @@
+-- A turn: one step that was taken, with all that follows it. The engine is a fold of its turns, whatever its port tells.
+use Rattle.std.specs.Prelude.{◌≡◌, ℕ, zero, suc, ◌+◌, ◌≤◌, not, ◌&&◌, ◌==◌, if◌then◌else◌, nat_lt, Bool, true, false, IsTrue, IsFalse, MatchBool, List, [], ◌∷◌, length, Option, Some, None, unwrap_or, Result, Err}
+use Rattle.amqp_session.specs.declared.error.ErrorKind.{ErrorKind}
+use Rattle.amqp_session.specs.declared.error.ErrorKind.TheVariants.{OutOfTurns}
+use Rattle.amqp_session.specs.Talk.{Talk, wants_link, is_asked, is_open, has_ended, end_of}
+use Rattle.amqp_session.specs.Rules.{asked}
+use Rattle.amqp_engine.specs.declared.port.Step.{Step}
+use Rattle.amqp_engine.specs.declared.port.Step.TheVariants.{Linked, Piece, Room, Tick, Command}
+use Rattle.amqp_engine.specs.declared.port.Wrote.{Wrote}
+use Rattle.amqp_engine.specs.declared.port.Wrote.TheVariants.{Took, NoMemory}
+use Rattle.amqp_engine.specs.Log.{IsWithin}
+use Rattle.amqp_engine.specs.Engine.{Engine, begin, with_talk, step_engine, read_one, can_read, commit_all, can_write, wrote, starve_at}
+
+-- what is noted of a turn: the port's answers to its writes, and where memory was refused how many of its parts were done
+pub record Notes : Type 0 where
+  pub answers : List Wrote
+  pub starved : Option ℕ
+
+-- a step that was taken at a moment, with the bytes of its piece
+pub record Turn : Type 0 where
+  pub at : ℕ
+  pub step : Step
+  pub bytes : List ℕ
+  pub notes : Notes
+
+-- ---- before the step
+
+abbrev pub wants_ask : Engine → Bool
+wants_ask e = wants_link e.talk && not (is_asked e.talk)
+
+-- a link is asked for where one is wanted and was not yet asked for
+abbrev pub asks : Engine → Engine
+asks e = if wants_ask e then with_talk asked e else e
+
+-- ---- the parts of a turn
+
+-- a turn in the making: its moment, after how many parts it is cut, the engine so far, and how many parts are done
+pub record Progress : Type 0 where
+  pub at : ℕ
+  pub cut : Option ℕ
+  pub engine : Engine
+  pub done : ℕ
+
+abbrev pub begun : ℕ → Option ℕ → Engine → Progress
+begun at cut e = record { at = at; cut = cut; engine = e; done = 0 }
+
+abbrev pub is_before : Option ℕ → ℕ → Bool
+is_before None n = true
+is_before (Some j) n = nat_lt n j
+
+-- the next part may be done: the turn is not cut before it
+abbrev pub goes : Progress → Bool
+goes p = is_before p.cut p.done
+
+-- one part more is done
+abbrev pub part : Engine → Progress → Progress
+part e p = record p { engine = e; done = p.done + 1 }
+
+-- whether a step is a part: the reading of a piece, a link that was asked for, a command, or the rules of a tick; what changes the present alone is none
+abbrev pub is_part : Step → Engine → Bool
+is_part Linked e = is_asked e.talk
+is_part (Piece n) e = is_open e.talk
+is_part Room e = false
+is_part Tick e = true
+is_part (Command c) e = true
+
+abbrev pub step_part : Step → List ℕ → Progress → Progress
+step_part step bytes p =
+    if is_part step p.engine
+    then (if goes p then part (step_engine p.at step bytes p.engine) p else p)
+    else record p { engine = step_engine p.at step bytes p.engine }
+
+-- a frame that is read is a part
+abbrev pub read_part : Progress → Progress
+read_part p = part (read_one p.at p.engine) p
+
+-- frames are read while there is one, and at most so many
+abbrev pub reads : ℕ → Progress → Progress
+reads zero p = p
+reads (suc most) p = if goes p && can_read p.engine then reads most (read_part p) else p
+
+abbrev pub is_piece : Step → Bool
+is_piece (Piece n) = true
+is_piece _ = false
+
+-- after a piece frames are read
+abbrev pub reading : Bool → Progress → Progress
+reading piece p = if piece then reads (length p.engine.unread) p else p
+
+-- what is offered: all that is unsent when frames were committed while they fit
+abbrev pub offered : Engine → List ℕ
+offered e = (commit_all e).unsent
+
+abbrev pub answered : ℕ → Wrote → Engine → Engine
+answered at w e = wrote at w (commit_all e)
+
+-- an offer, with the commits before it, is a part
+abbrev pub offer_part : Wrote → Progress → Progress
+offer_part w p = part (answered p.at w p.engine) p
+
+-- frames are committed and their bytes offered, with these answers
+abbrev pub drain : List Wrote → Progress → Progress
+drain [] p = p
+drain (w ∷ ws) p = drain ws (offer_part w p)
+
+abbrev pub is_all : Wrote → ℕ → Bool
+is_all (Took k) n = k == n
+is_all NoMemory n = false
+
+-- where the port found no memory, the turn is cut right after the offer
+abbrev pub CutsAfter : Wrote → Progress → Type 0
+CutsAfter NoMemory p = p.cut ≡ Some (p.done + 1)
+CutsAfter _ p = Unit {0}
+
+-- these are the answers to the offers that are due, and to no others: one is due while something is to be written, and all was taken of what was offered before
+abbrev pub AreAnswers : List Wrote → Progress → Type 0
+AreAnswers [] p = IsFalse (goes p && can_write p.engine)
+AreAnswers (w ∷ ws) p =
+    IsTrue (goes p && can_write p.engine)
+    × IsWithin (length (offered p.engine)) w
+    × CutsAfter w p
+    × MatchBool (is_all w (length (offered p.engine))) (AreAnswers ws (offer_part w p)) (ws ≡ [])
+
+-- ---- a turn
+
+-- up to its writes: the step, and the frames that are read
+abbrev pub read : Turn → Engine → Progress
+read u e = reading (is_piece u.step) (step_part u.step u.bytes (begun u.at u.notes.starved e))
+
+abbrev pub written : Turn → Engine → Progress
+written u e = drain u.notes.answers (read u e)
+
+abbrev pub starved_after : Option ℕ → ℕ → Engine → Engine
+starved_after None at e = e
+starved_after (Some j) at e = starve_at at j e
+
+-- a turn from its step on; where it was cut, the session ends for want of memory
+abbrev pub applied : Turn → Engine → Engine
+applied u e = starved_after u.notes.starved u.at (written u e).engine
+
+abbrev pub turn : Turn → Engine → Engine
+turn u e = applied u (asks e)
+
+abbrev pub turns : List Turn → Engine → Engine
+turns [] e = e
+turns (u ∷ us) e = turns us (turn u e)
+
+-- the state of the session that these turns lead to
+abbrev pub talk : List Turn → Talk
+talk us = (turns us begin).talk
+
+-- ---- which turns there may be
+
+abbrev pub IsCut : Option ℕ → ℕ → Type 0
+IsCut None n = Unit {0}
+IsCut (Some j) n = n ≡ j
+
+-- the writes are those that are due, and where the turn was cut, so many of its parts were done
+pub record IsApplied (u : Turn) (e : Engine) : Type 0 where
+  pub answers : AreAnswers u.notes.answers (read u e)
+  pub cut : IsCut u.notes.starved (written u e).done
+
+-- a turn is one of a session that has not ended
+pub record IsTurn (u : Turn) (e : Engine) : Type 0 where
+  pub running : has_ended e.talk ≡ false
+  pub applied : IsApplied u (asks e)
+
+abbrev pub AreTurns : List Turn → Engine → Type 0
+AreTurns [] e = Unit {0}
+AreTurns (u ∷ us) e = IsTurn u e × AreTurns us (turn u e)
+
+-- these turns lead from here to there
+pub record Leads (us : List Turn) (before after : Engine) : Type 0 where
+  pub may : AreTurns us before
+  pub leaves : turns us before ≡ after
+
+-- what a run answers: as the session ended, or that all its turns were taken
+abbrev pub run_answer : Engine → Result (Unit {0}) ErrorKind
+run_answer e = unwrap_or (end_of e.talk) (Err OutOfTurns)

@@ -1,0 +1,163 @@
+//! The loop of an engine over a port.
+
+ghost use Rattle.std.specs.Prelude.{◌≡◌, ◌≤◌, Some, None, false, IfOk, IfErr, IfSome, OnOk, OnErr, MatchResult, IsSome, IsTrue, length, option_map};
+ghost use Rattle.amqp_session.specs.Talk.{has_ended};
+ghost use Rattle.amqp_session.specs.Rules.{command as command_rule};
+ghost use Rattle.amqp_session.specs.Answers.{answer_of, take_answer};
+ghost use Rattle.amqp_engine.specs.Engine.{Engine, begin, with_talk};
+ghost use Rattle.amqp_engine.specs.Turn.{asks, run_answer};
+ghost use Rattle.amqp_engine.specs.Tell.{Applies, Turns, Runs, log_asks};
+ghost use Rattle.amqp_engine.specs.Unread.{IsRead};
+ghost use Rattle.amqp_engine.specs.Play.{IsPlayed};
+
+use crate::port::{Port, Told};
+use crate::wire::Wire;
+use amqp_session::{Answer, Cmd, ErrorKind, Result, Session};
+use amqp_types::NoMemory;
+use std::alloc::Global;
+use std::marker::Model;
+
+/// The greatest number of bytes of a piece.
+const PIECE: usize = 4096;
+
+/// A session with the bytes of its link, which runs over a port.
+#[derive(Debug, Drop)]
+pub struct IoLoop {
+    wire: Wire,
+    // where the port puts its pieces
+    scratch: Vec<u8>,
+}
+
+impl Model for IoLoop {
+    ghost use Rattle.std.specs.Prelude.{◌≡◌, length};
+    ghost use Rattle.amqp_engine.specs.Engine.{Engine};
+    ghost use Rattle.amqp_engine.specs.Unread.{IsRead};
+
+    ghost Value = { Engine };
+
+    ghost use Rattle.std.specs.Coded.{codes};
+    ghost use Rattle.amqp_types.specs.ValueCode.{value_code};
+
+    ghost coded = { Prim.hlevel (codes, value_code) };
+
+    ghost view = { λ l. l.wire };
+
+    ghost invariant = { λ l. (length l.scratch.items ≡ 4096) × IsRead l.wire };
+}
+
+impl IoLoop {
+    /// A loop that wants a link. It takes the memory of both buffers and of the scratch.
+    pub fn new(alloc: Global) -> Result<IoLoop>
+        ensures ok { IfOk result (λ l. l ≡ begin) }
+        ensures err { IfErr result (λ e. e ≡ ErrorKind.NoMemory) }
+    {
+        Ok(IoLoop::make(alloc)?)
+    }
+
+    fn make(alloc: Global) -> std::result::Result<IoLoop, NoMemory>
+        ensures { IfOk result (λ l. l ≡ begin) }
+    {
+        Ok(IoLoop {
+            wire: Wire::new(alloc)?,
+            scratch: vec![in alloc; 0; PIECE]?,
+        })
+    }
+
+    /// Takes so many turns, or fewer where the session ends. Where it had ended, it takes none.
+    /// Answers as the session ended, or `OutOfTurns`; it can then run again, and goes on.
+    pub fn run<P: Port>(&mut self, port: &mut P, turns: u64) -> Result<()>
+        ensures turns { Runs turns self.old self.new (P.log port.old) (P.log port.new) }
+        ensures answer { result ≡ run_answer self.new }
+        ensures played { IfSome (P.log port.old) (λ log. IsSome log.plan → self.new.starved ≡ None
+            → IsPlayed turns self.old self.new log (P.log port.new)) }
+        ensures read { IsRead self.new }
+        ensures faults { P.faults port.old ≤ P.faults port.new }
+    {
+        self.take_turns(port, turns);
+        match self.wire.session().end() {
+            Some(end) => end,
+            None => Err(ErrorKind::OutOfTurns.into()),
+        }
+    }
+
+    fn take_turns<P: Port>(&mut self, port: &mut P, turns: u64)
+        ensures turns { Runs turns self.old self.new (P.log port.old) (P.log port.new) }
+        ensures faults { P.faults port.old ≤ P.faults port.new }
+    {
+        'turns: for _ in 0..turns {
+            if self.wire.session().has_ended() {
+                break;
+            }
+            // Where memory was refused, the session has ended.
+            let _ = self.turn(port);
+        }
+    }
+
+    // One turn: a link is asked for where one is wanted, a step is taken, and what may go out is
+    // written.
+    fn turn<P: Port>(&mut self, port: &mut P) -> std::result::Result<(), NoMemory>
+        requires { has_ended self.old.talk ≡ false }
+        ensures turn { Turns self.old self.new (P.log port.old) (P.log port.new) }
+        ensures ended { OnErr result (IsTrue (has_ended self.new.talk)) }
+        ensures faults { P.faults port.old ≤ P.faults port.new }
+    {
+        self.wire.ask(port);
+        let told = port.next(&mut self.scratch);
+        let n = told.step.piece_len();
+        self.wire.apply(told, &self.scratch[..n], port)
+    }
+
+    /// Asks for a link where one is wanted and was not yet asked for.
+    pub fn ask<P: Port>(&mut self, port: &mut P)
+        ensures engine { self.new ≡ asks self.old }
+        ensures told { P.log port.new ≡ option_map (log_asks self.old) (P.log port.old) }
+        ensures faults { P.faults port.old ≤ P.faults port.new }
+    {
+        self.wire.ask(port);
+    }
+
+    /// One turn after its step was taken; the bytes are those of its piece. Where memory is
+    /// refused, the session has ended.
+    pub fn apply<P: Port>(&mut self, told: Told, bytes: &[u8], port: &mut P) -> Result<()>
+        ensures turn { Applies told.at told.step bytes.now self.old self.new (P.log port.old) (P.log port.new) }
+        ensures starved { MatchResult result (λ _. self.new.starved ≡ self.old.starved) (λ _. IsSome self.new.starved) }
+        ensures ended { OnErr result (IsTrue (has_ended self.new.talk)) }
+        ensures only { IfErr result (λ e. e ≡ ErrorKind.NoMemory) }
+        ensures read { IsRead self.new }
+        ensures faults { P.faults port.old ≤ P.faults port.new }
+    {
+        Ok(self.wire.apply(told, bytes, port)?)
+    }
+
+    /// Tells the session to do something, and gives the number of the promise that will be
+    /// answered.
+    pub fn command(&mut self, command: Cmd) -> Result<Option<u64>>
+        ensures ok { OnOk result (self.new ≡ with_talk (command_rule command) self.old) }
+        ensures number { IfOk result (λ number. number ≡ Some (length self.old.talk.promises)) }
+        ensures err { OnErr result (self.new ≡ self.old) }
+        ensures only { IfErr result (λ e. e ≡ ErrorKind.NoMemory) }
+    {
+        self.wire.command(command)
+    }
+
+    /// Takes the answer to a promise, where there is one that was not taken.
+    pub fn answer(&mut self, number: u64) -> Option<Result<Answer>>
+        ensures answer { result ≡ answer_of number self.old.talk }
+        ensures taken { self.new ≡ with_talk (take_answer number) self.old }
+    {
+        self.wire.answer(number)
+    }
+
+    pub fn session(&self) -> &Session
+        ensures { result.now ≡ self.now.talk }
+    {
+        self.wire.session()
+    }
+
+    /// How many parts of a turn were done when memory was refused, where it was.
+    pub fn starved(&self) -> Option<u64>
+        ensures { result ≡ self.now.starved }
+    {
+        self.wire.starved()
+    }
+}

@@ -1,0 +1,33 @@
+//! What holds of all turns.
+
+ghost use Rattle.std.specs.Prelude.{◌≡◌, ℕ, ◌+◌, [], false, List, Option, map};
+ghost use Rattle.std.specs.List.{AllByRecursion};
+ghost use Rattle.amqp_session.specs.Talk.{has_ended};
+ghost use Rattle.amqp_engine.specs.Log.{Log};
+ghost use Rattle.amqp_engine.specs.Engine.{Engine, begin};
+ghost use Rattle.amqp_engine.specs.Turn.{Turn, turn, IsTurn, AreTurns};
+ghost use Rattle.amqp_engine.specs.Tell.{Runs, PlaysTurns, log_turns};
+ghost use Rattle.amqp_engine.specs.Sending.{sendings, link_bytes, SendsInOrder};
+ghost use Rattle.amqp_engine.specs.Unread.{IsRead};
+
+/// A run that follows one that took all its turns goes on: both together are one run.
+pub fn a_run_goes_on()
+    ensures { (m n : ℕ) (first middle last : Engine) (before between after : Option Log)
+        → Runs m first middle before between → has_ended middle.talk ≡ false → Runs n middle last between after
+        → Runs (m + n) first last before after }
+{}
+
+/// What a port tells of its links, which had none before a new engine ran over it, are the bytes of
+/// the frames that were committed on each, as many as were taken: the spellings of the frames that
+/// were sent, in order, and then a part of the next one.
+pub fn a_link_has_the_frames_sent()
+    ensures told { (us : List Turn) (log : Log) → AreTurns us begin → PlaysTurns us begin log → log.links ≡ [] → log.asked ≡ false
+        → (log_turns us begin log).links ≡ map link_bytes (sendings us) }
+    ensures order { (us : List Turn) → AreTurns us begin → AllByRecursion SendsInOrder (sendings us) }
+{}
+
+/// While a link is open, no turn leaves a whole frame unread.
+pub fn nothing_whole_is_left_unread()
+    ensures begin { IsRead begin }
+    ensures turn { (u : Turn) (e : Engine) → IsRead e → IsTurn u e → IsRead (turn u e) }
+{}

@@ -1,0 +1,28 @@
+//! The engine of an AMQP 0-9-1 connection: a session with the bytes of its link, over a port.
+//!
+//! A `Port` gives one step at a time, as a piece of bytes or a command, and takes bytes. `IoLoop`
+//! takes the steps of a port in turns: it tells them to its session, reads the frames of a piece,
+//! and writes the frames that the session has to say. What a turn does is the fold of
+//! `specs/Turn.antt`, and what a port tells of turns that of `specs/Tell.antt`. A `MemoryPort` is a
+//! port over given steps.
+#![tactic(auto)]
+
+mod buffer;
+mod given;
+mod io_loop;
+mod laws;
+mod memory_port;
+mod port;
+mod taken_bytes;
+mod wire;
+
+pub use given::{Given, GivenStep};
+pub use io_loop::IoLoop;
+pub use laws::{
+    a_link_has_the_frames_sent, a_run_goes_on, nothing_whole_is_left_unread,
+};
+pub use memory_port::MemoryPort;
+pub use port::{Happening, Port, ScriptedPort, Step, Told, Write, Wrote};
+
+#[cfg(test)]
+mod tests;

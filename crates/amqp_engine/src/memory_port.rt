@@ -1,0 +1,278 @@
+//! A port over given steps, which always tells.
+
+ghost use Rattle.std.specs.Prelude.{◌≡◌, ◌≤◌, ◌<◌, ◌+◌, ◌++◌, Some, IfOk, OnOk, OnErr, refl, length, map, take, vec_len, vec_capacity};
+ghost use Rattle.amqp_engine.specs.Plan.{happening_of, step_of, bytes_of, room_after, room_for, less_room, more_room, IsGivenPiece, ArePieces};
+ghost use Rattle.amqp_engine.specs.Log.{Log, loaded, on_last, piece_len, links_after, asked_after};
+
+use crate::given::{Given, GivenStep};
+use crate::port::{Happening, Port, ScriptedPort, Step, Told, Write, Wrote};
+use crate::taken_bytes::TakenBytes;
+use amqp_types::{NoMemory, Payload};
+use std::alloc::Global;
+use std::collections::VecDeque;
+use std::marker::Model;
+
+/// A port that plays a script, and keeps what it took. After the last given step it gives ticks of
+/// the last moment.
+#[derive(Debug, Drop)]
+pub struct MemoryPort {
+    alloc: Global,
+    told: Vec<Happening>,
+    // what is still to be given, and the same to be told
+    rest: VecDeque<Given>,
+    coming: VecDeque<Happening>,
+    // how many bytes the link still takes, or none where it takes all
+    room: Option<u64>,
+    moment: u64,
+    // the ticks after the last given step
+    idle: u64,
+    asked: bool,
+    links: Vec<TakenBytes>,
+    writes: Vec<Write>,
+}
+
+impl Model for MemoryPort {
+    ghost use Rattle.std.specs.Prelude.{◌≡◌, ◌≤◌, ◌+◌, Some, length, map, vec_capacity, vec_len};
+    ghost use Rattle.amqp_engine.specs.Plan.{happening_of, ArePieces};
+    ghost use Rattle.amqp_engine.specs.Log.{Log};
+
+    ghost Value = { Log };
+
+    ghost view = { λ p. record {
+      steps = p.told.items;
+      writes = p.writes.items;
+      links = p.links.items;
+      asked = p.asked;
+      plan = Some (record { rest = p.rest.items; room = p.room; moment = p.moment; idle = p.idle });
+    } };
+
+    // Each step that is left has its copy, and its places among the steps and the links.
+    ghost invariant = { λ p. (map happening_of p.rest.items ≡ p.coming.items)
+        × (vec_len p.told + length p.rest.items ≤ vec_capacity p.told)
+        × (vec_len p.links + length p.rest.items ≤ vec_capacity p.links)
+        × ArePieces p.rest.items };
+}
+
+impl MemoryPort {
+    /// A port that plays these steps. A copy of each step and a place for it are made at once, so
+    /// that giving them takes no memory.
+    pub fn new(alloc: Global, steps: Vec<Given>) -> Result<MemoryPort, NoMemory>
+        requires { ArePieces steps.items }
+        ensures { IfOk result (λ p. p ≡ loaded steps.items) }
+    {
+        let mut port = MemoryPort {
+            alloc,
+            told: Vec::new(alloc),
+            rest: VecDeque::new(alloc),
+            coming: VecDeque::new(alloc),
+            room: Some(0),
+            moment: 0,
+            idle: 0,
+            asked: false,
+            links: Vec::new(alloc),
+            writes: Vec::new(alloc),
+        };
+        port.load(steps)?;
+        Ok(port)
+    }
+}
+
+impl Port for MemoryPort {
+    ghost log = { λ p. Some p };
+
+    ghost faults = { λ p. 0 };
+
+    fn connect(&mut self) {
+        self.asked = true;
+    }
+
+    fn next(&mut self, space: &mut [u8]) -> Told {
+        let Some(Given { at, what }) = self.rest.pop_front() else {
+            self.idle = self.idle.saturating_add(1);
+            return Told {
+                at: self.moment,
+                step: Step::Tick,
+            };
+        };
+        if let Some(happening) = self.coming.pop_front() {
+            self.told.push_reserved(happening);
+        }
+        self.moment = at;
+        let step = give(
+            self.alloc,
+            what,
+            &mut self.links,
+            &mut self.asked,
+            &mut self.room,
+            space,
+        );
+        Told { at, step }
+    }
+
+    fn write(&mut self, first: &[u8], second: &[u8]) -> Wrote {
+        let offered = first.len() + second.len();
+        let n = fitting(self.room, offered);
+        if self.writes.reserve(1).is_err() {
+            return Wrote::NoMemory;
+        }
+        if append_last(&mut self.links, first, second, n).is_err() {
+            return Wrote::NoMemory;
+        }
+        if let Some(left) = self.room {
+            self.room = Some(left - n as u64);
+        }
+        self.writes.push_reserved(Write {
+            before: self.told.len() as u64,
+            offered,
+            answer: Wrote::Took(n),
+        });
+        Wrote::Took(n)
+    }
+}
+
+impl ScriptedPort for MemoryPort {
+    ghost links_taken = { λ p. p.links };
+
+    ghost ties = { λ p. refl };
+
+    fn load(&mut self, steps: Vec<Given>) -> Result<(), NoMemory> {
+        let coming = told_all(self.alloc, &steps)?;
+        let mut told = Vec::new(self.alloc);
+        told.reserve(steps.len())?;
+        let mut links = Vec::new(self.alloc);
+        links.reserve(steps.len())?;
+        self.rest = VecDeque::from_vec(steps);
+        self.coming = coming;
+        self.told = told;
+        self.links = links;
+        self.room = Some(0);
+        self.moment = 0;
+        self.idle = 0;
+        self.asked = false;
+        self.writes.clear();
+        Ok(())
+    }
+
+    fn links(&self) -> usize {
+        self.links.len()
+    }
+
+    fn link(&self, k: usize) -> &[u8] {
+        self.links[k].as_bytes()
+    }
+}
+
+// The steps of a script, as they will be told.
+fn told_all(alloc: Global, steps: &[Given]) -> Result<VecDeque<Happening>, NoMemory>
+    ensures { IfOk result (λ coming. coming.items ≡ map happening_of steps.now) }
+{
+    let mut coming = VecDeque::new(alloc);
+    'steps: for given in steps {
+        coming.push_back(told_of(alloc, given)?)?;
+    }
+    Ok(coming)
+}
+
+// A step, as it will be told.
+fn told_of(alloc: Global, given: &Given) -> Result<Happening, NoMemory>
+    ensures { IfOk result (λ h. h ≡ happening_of given.now) }
+{
+    let bytes = match &given.what {
+        GivenStep::Bytes(bytes) => bytes.try_clone(alloc)?,
+        _ => Payload::empty(alloc),
+    };
+    let step = match &given.what {
+        GivenStep::Link(_) => Step::Linked,
+        GivenStep::Bytes(bytes) => Step::Piece(bytes.len()),
+        GivenStep::Room(_) => Step::Room,
+        GivenStep::Tick => Step::Tick,
+        GivenStep::Command(command) => Step::Command(command.try_clone(alloc)?),
+    };
+    Ok(Happening {
+        at: given.at,
+        step,
+        bytes,
+    })
+}
+
+// What a given step does to the port, and the step that is told of it.
+fn give(
+    alloc: Global,
+    what: GivenStep,
+    links: &mut Vec<TakenBytes>,
+    asked: &mut bool,
+    room: &mut Option<u64>,
+    space: &mut [u8],
+) -> Step
+    requires piece { IsGivenPiece what }
+    requires space { 4096 ≤ length space.old }
+    requires place { vec_len links.old < vec_capacity links.old }
+    ensures step { result ≡ step_of what }
+    ensures bytes { take (piece_len (step_of what)) space.new ≡ bytes_of what }
+    ensures links { links.new.items ≡ links_after (step_of what) asked.old links.old.items }
+    ensures asked { asked.new ≡ asked_after (step_of what) asked.old }
+    ensures room { room.new ≡ room_after asked.old what room.old }
+    ensures capacity { vec_capacity links.new ≡ vec_capacity links.old }
+{
+    match what {
+        GivenStep::Link(given_room) => {
+            if *asked {
+                links.push_reserved(TakenBytes::new(alloc));
+                *room = given_room;
+            }
+            *asked = false;
+            Step::Linked
+        }
+        GivenStep::Bytes(bytes) => {
+            put(space, bytes.as_bytes());
+            Step::Piece(bytes.len())
+        }
+        GivenStep::Room(more) => {
+            if let Some(left) = *room {
+                *room = Some(left.saturating_add(more));
+            }
+            Step::Room
+        }
+        GivenStep::Tick => Step::Tick,
+        GivenStep::Command(command) => Step::Command(command),
+    }
+}
+
+// Puts a piece at the front of the space.
+fn put(space: &mut [u8], bytes: &[u8])
+    requires { length bytes.now ≤ length space.old }
+    ensures { take (length bytes.now) space.new ≡ bytes.now }
+{
+    let n = bytes.len();
+    space[..n].copy_from_slice(bytes);
+}
+
+// The lesser of what is offered and the room.
+fn fitting(room: Option<u64>, offered: usize) -> usize
+    ensures fits { result ≡ room_for room offered }
+    ensures within { result ≤ offered }
+{
+    match room {
+        Some(left) if left < offered as u64 => left as usize,
+        _ => offered,
+    }
+}
+
+// The first n bytes of both slices together go last on the last link, if there is one.
+fn append_last(
+    links: &mut Vec<TakenBytes>,
+    first: &[u8],
+    second: &[u8],
+    n: usize,
+) -> Result<(), NoMemory>
+    requires { n ≤ length first.now + length second.now }
+    ensures ok { OnOk result (links.new.items ≡ on_last (λ link. link ++ take n (first.now ++ second.now)) links.old.items) }
+    ensures err { OnErr result (links.new.items ≡ links.old.items) }
+    ensures capacity { vec_capacity links.new ≡ vec_capacity links.old }
+{
+    let count = links.len();
+    if count == 0 {
+        return Ok(());
+    }
+    links[count - 1].append(first, second, n)
+}

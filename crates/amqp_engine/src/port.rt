@@ -1,0 +1,159 @@
+//! Ports, over which an engine runs.
+
+ghost use Rattle.std.specs.Prelude.{◌≡◌, ◌≤◌, ◌<◌, ◌++◌, ℕ, List, Option, Some, IfOk, IfSome, OnOk, OnErr, length, slice_get, option_map};
+ghost use Rattle.amqp_engine.specs.Plan.{ArePieces};
+ghost use Rattle.amqp_engine.specs.Log.{Log, loaded, log_ask, log_step, log_write, piece_len, piece_bytes, IsPiece, IsWithin, PlansStep, PlansWrite};
+
+use crate::given::Given;
+use amqp_session::Cmd;
+use amqp_types::{NoMemory, Payload};
+use std::alloc::Global;
+
+/// What happened at a port.
+#[derive(Debug, PartialEq, Eq, Drop)]
+pub enum Step {
+    /// A link is there.
+    Linked,
+    /// So many bytes were received, which stand at the front of the space.
+    Piece(usize),
+    /// There may be room again for bytes to be written.
+    Room,
+    /// Nothing happened but that time passed.
+    Tick,
+    /// The session is told to do something.
+    Command(Cmd),
+}
+
+impl Step {
+    ghost use Rattle.amqp_engine.specs.Turn.{is_piece};
+
+    /// An equal step.
+    pub fn try_clone(&self, alloc: Global) -> Result<Step, NoMemory>
+        ensures { IfOk result (λ s. s ≡ self.now) }
+    {
+        match self {
+            Step::Linked => Ok(Step::Linked),
+            Step::Piece(n) => Ok(Step::Piece(*n)),
+            Step::Room => Ok(Step::Room),
+            Step::Tick => Ok(Step::Tick),
+            Step::Command(command) => Ok(Step::Command(command.try_clone(alloc)?)),
+        }
+    }
+
+    pub(crate) fn is_piece(&self) -> bool
+        ensures { result ≡ is_piece self.now }
+    {
+        matches!(self, Step::Piece(_))
+    }
+
+    pub(crate) fn piece_len(&self) -> usize
+        ensures { result ≡ piece_len self.now }
+    {
+        match self {
+            Step::Piece(n) => *n,
+            _ => 0,
+        }
+    }
+}
+
+/// A step, and its moment in milliseconds.
+#[derive(Debug, PartialEq, Eq, Drop)]
+pub struct Told {
+    pub at: u64,
+    pub step: Step,
+}
+
+/// What a port answers to a write.
+#[derive(Clone, Copy, Debug, PartialEq, Eq)]
+pub enum Wrote {
+    /// So many bytes were taken. 0 is none yet.
+    Took(usize),
+    /// The port found no memory to keep the write, and took nothing.
+    NoMemory,
+}
+
+impl Wrote {
+    ghost use Rattle.amqp_engine.specs.Engine.{taken_by};
+
+    // How many bytes were taken.
+    pub(crate) fn taken(self) -> usize
+        ensures { result ≡ taken_by self }
+    {
+        match self {
+            Wrote::Took(n) => n,
+            Wrote::NoMemory => 0,
+        }
+    }
+}
+
+/// A step that was told, with the bytes of its piece.
+#[derive(Debug, PartialEq, Eq, Drop)]
+pub struct Happening {
+    pub at: u64,
+    pub step: Step,
+    pub bytes: Payload,
+}
+
+/// A write that was told: how many steps came before it, how many bytes were offered, and the
+/// answer.
+#[derive(Clone, Copy, Debug, PartialEq, Eq)]
+pub struct Write {
+    pub before: u64,
+    pub offered: usize,
+    pub answer: Wrote,
+}
+
+/// The outside of an engine: it gives steps one by one, and takes bytes.
+pub trait Port {
+    /// What the port tells of itself, if it does.
+    ghost log: { Self → Option Log };
+
+    /// How often the port has failed, a count that never falls.
+    ghost faults: { Self → ℕ };
+
+    /// Asks for a link.
+    fn connect(&mut self)
+        ensures told { log self.new ≡ option_map log_ask (log self.old) }
+        ensures faults { faults self.old ≤ faults self.new };
+
+    /// Gives one step. The bytes of a piece stand at the front of the space.
+    fn next(&mut self, space: &mut [u8]) -> Told
+        requires { 4096 ≤ length space.old }
+        ensures piece { IsPiece result.step }
+        ensures told { log self.new
+            ≡ option_map (log_step result.at result.step (piece_bytes result.step space.new)) (log self.old) }
+        ensures plays { IfSome (log self.old) (PlansStep result.at result.step (piece_bytes result.step space.new)) }
+        ensures faults { faults self.old ≤ faults self.new };
+
+    /// Takes the first of the bytes of both slices together onto the last link.
+    fn write(&mut self, first: &[u8], second: &[u8]) -> Wrote
+        ensures within { IsWithin (length (first.now ++ second.now)) result }
+        ensures told { log self.new ≡ option_map (log_write (first.now ++ second.now) result) (log self.old) }
+        ensures plays { IfSome (log self.old) (PlansWrite (length (first.now ++ second.now)) result) }
+        ensures faults { faults self.old ≤ faults self.new };
+}
+
+/// A port that plays a script, and keeps what it took.
+pub trait ScriptedPort: Port {
+    /// The bytes taken, link by link.
+    ghost links_taken: { Self → List (List ℕ) };
+
+    /// Plays these steps from now on, with no link and nothing told.
+    fn load(&mut self, steps: Vec<Given>) -> Result<(), NoMemory>
+        requires { ArePieces steps.items }
+        ensures told { OnOk result (Self.log self.new ≡ Some (loaded steps.items)) }
+        ensures err { OnErr result (self.new ≡ self.old) }
+        ensures faults { Self.faults self.new ≡ Self.faults self.old };
+
+    /// How many links there were.
+    fn links(&self) -> usize
+        ensures { result ≡ length (links_taken self.now) };
+
+    /// The bytes taken on a link, the links being counted from 0.
+    fn link(&self, k: usize) -> &[u8]
+        requires { k < length (links_taken self.now) }
+        ensures { slice_get (links_taken self.now) k ≡ Some result.now };
+
+    /// The links are those that the port tells.
+    ghost ties: { (p : Self) → IfSome (Self.log p) (λ a. a.links ≡ links_taken p) };
+}

@@ -1,0 +1,369 @@
+//! The session with the bytes of its link.
+
+ghost use Rattle.std.specs.Prelude.{◌≡◌, ◌≤◌, ◌<◌, ◌+◌, ◌*◌, ◌^◌, ℕ, List, Option, Some, true, if◌then◌else◌, IfOk, IfErr, IfNone, IfSome, OnOk, OnErr, MatchResult, IsSome, IsTrue, IsFalse, option_map, length, is_some};
+ghost use Rattle.amqp_session.specs.Talk.{is_open, is_asked, has_ended};
+ghost use Rattle.amqp_session.specs.Rules.{starve, command as command_rule};
+ghost use Rattle.amqp_session.specs.Answers.{answer_of, take_answer};
+ghost use Rattle.amqp_engine.specs.Log.{log_write, IsWithin, PlansWrite};
+ghost use Rattle.amqp_engine.specs.Engine.{Engine, begin, with_talk, rule_at, step_linked, step_piece, step_engine, can_read, read_one, settle, fitting_next, commit_one, commit_all, can_write, starve_at};
+ghost use Rattle.amqp_engine.specs.Turn.{asks, is_part, reading, offered, answered, is_all};
+ghost use Rattle.amqp_engine.specs.Tell.{Applies, TellsOffers, offers_from, log_asks};
+ghost use Rattle.amqp_engine.specs.Play.{waiting};
+ghost use Rattle.amqp_engine.specs.Making.{making, parts_of, Allows, Writes};
+
+use crate::buffer::Buffer;
+use crate::port::{Port, Step, Told, Wrote};
+use amqp_frame::{Read, read_frame, write_frame};
+use amqp_session::{Answer, CAPACITY, Cmd, ErrorKind, Session};
+use amqp_types::NoMemory;
+use std::alloc::Global;
+use std::marker::Model;
+
+/// A session, the bytes that it has not yet read, and those that its link has not yet taken.
+#[derive(Debug, Drop)]
+pub struct Wire {
+    alloc: Global,
+    session: Session,
+    unread: Buffer,
+    place: u64,
+    unsent: Buffer,
+    starved: Option<u64>,
+}
+
+impl Model for Wire {
+    ghost use Rattle.std.specs.Prelude.{◌≡◌, length};
+    ghost use Rattle.amqp_session.specs.Writing.{left_in};
+    ghost use Rattle.amqp_engine.specs.Engine.{Engine};
+
+    ghost Value = { Engine };
+
+    ghost use Rattle.std.specs.Coded.{codes};
+    ghost use Rattle.amqp_types.specs.ValueCode.{value_code};
+
+    ghost coded = { Prim.hlevel (codes, value_code) };
+
+    ghost view = { λ w. record {
+      talk = w.session;
+      unread = w.unread;
+      place = w.place;
+      unsent = w.unsent;
+      starved = w.starved;
+    } };
+
+    // The session counts the bytes that are unsent.
+    ghost invariant = { λ w. length w.unsent ≡ left_in w.session.committed };
+}
+
+/// What came of an offer.
+#[derive(Clone, Copy)]
+struct Offered {
+    answer: Wrote,
+    // whether all of it was taken
+    all: bool,
+}
+
+impl Wire {
+    pub fn new(alloc: Global) -> Result<Wire, NoMemory>
+        ensures { IfOk result (λ w. w ≡ begin) }
+    {
+        let Ok(session) = Session::new(alloc) else {
+            return Err(NoMemory);
+        };
+        Ok(Wire {
+            alloc,
+            session,
+            unread: Buffer::new(alloc)?,
+            place: 0,
+            unsent: Buffer::new(alloc)?,
+            starved: None,
+        })
+    }
+
+    pub fn session(&self) -> &Session
+        ensures { result.now ≡ self.now.talk }
+    {
+        &self.session
+    }
+
+    pub fn starved(&self) -> Option<u64>
+        ensures { result ≡ self.now.starved }
+    {
+        self.starved
+    }
+
+    pub fn command(&mut self, command: Cmd) -> amqp_session::Result<Option<u64>>
+        ensures ok { OnOk result (self.new ≡ with_talk (command_rule command) self.old) }
+        ensures number { IfOk result (λ number. number ≡ Some (length self.old.talk.promises)) }
+        ensures err { OnErr result (self.new ≡ self.old) }
+        ensures only { IfErr result (λ e. e ≡ ErrorKind.NoMemory) }
+    {
+        self.session.command(command)
+    }
+
+    pub fn answer(&mut self, number: u64) -> Option<amqp_session::Result<Answer>>
+        ensures answer { result ≡ answer_of number self.old.talk }
+        ensures taken { self.new ≡ with_talk (take_answer number) self.old }
+    {
+        self.session.answer(number)
+    }
+
+    /// Asks for a link where one is wanted and was not yet asked for.
+    pub fn ask<P: Port>(&mut self, port: &mut P)
+        ensures engine { self.new ≡ asks self.old }
+        ensures told { P.log port.new ≡ option_map (log_asks self.old) (P.log port.old) }
+        ensures faults { P.faults port.old ≤ P.faults port.new }
+    {
+        if self.session.wants_link() && !self.session.is_asked() {
+            port.connect();
+            self.session.asked();
+        }
+    }
+
+    /// A turn from its step on.
+    pub fn apply<P: Port>(&mut self, told: Told, bytes: &[u8], port: &mut P) -> Result<(), NoMemory>
+        ensures turn { Applies told.at told.step bytes.now self.old self.new (P.log port.old) (P.log port.new) }
+        ensures starved { MatchResult result (λ _. self.new.starved ≡ self.old.starved) (λ _. IsSome self.new.starved) }
+        ensures ended { OnErr result (IsTrue (has_ended self.new.talk)) }
+        ensures faults { P.faults port.old ≤ P.faults port.new }
+    {
+        let Told { at, step } = told;
+        let piece = step.is_piece();
+        let Ok(mut parts) = self.take_step(at, step, bytes) else {
+            self.cut(at, 0);
+            return Err(NoMemory);
+        };
+        if let Err(refused) = self.read_all(at, piece, &mut parts) {
+            self.cut(at, parts);
+            return Err(refused);
+        }
+        if let Err(refused) = self.write_all(at, port, &mut parts) {
+            self.cut(at, parts);
+            return Err(refused);
+        }
+        Ok(())
+    }
+
+    // The rule of a step. Says how many parts of the turn it is, one or none. Where memory is
+    // refused, the session has ended, and nothing else is done.
+    fn take_step(&mut self, at: u64, step: Step, bytes: &[u8]) -> Result<u64, NoMemory>
+        ensures ok { OnOk result (self.new ≡ step_engine at step bytes.now self.old) }
+        ensures parts { IfOk result (λ n. n ≡ parts_of (is_part step self.old)) }
+        ensures err { OnErr result (self.new ≡ rule_at at starve self.old) }
+        ensures refused { OnErr result (is_part step self.old ≡ true) }
+    {
+        match step {
+            Step::Linked => self.take_link(at),
+            Step::Piece(_) => self.take_piece(at, bytes),
+            Step::Room => {
+                self.session.advance(at);
+                Ok(0)
+            }
+            Step::Tick => {
+                self.session.advance(at);
+                Ok(1)
+            }
+            Step::Command(command) => self.take_command(at, command),
+        }
+    }
+
+    fn take_link(&mut self, at: u64) -> Result<u64, NoMemory>
+        ensures ok { OnOk result (self.new ≡ step_linked at self.old) }
+        ensures parts { IfOk result (λ n. n ≡ parts_of (is_asked self.old.talk)) }
+        ensures err { OnErr result (self.new ≡ rule_at at starve self.old) }
+        ensures refused { OnErr result (is_asked self.old.talk ≡ true) }
+    {
+        if !self.session.is_asked() {
+            self.session.advance(at);
+            return Ok(0);
+        }
+        if self.session.linked(at).is_err() {
+            return Err(NoMemory);
+        }
+        self.unread.clear();
+        self.place = 0;
+        self.unsent.clear();
+        Ok(1)
+    }
+
+    fn take_piece(&mut self, at: u64, bytes: &[u8]) -> Result<u64, NoMemory>
+        ensures ok { OnOk result (self.new ≡ step_piece at bytes.now self.old) }
+        ensures parts { IfOk result (λ n. n ≡ parts_of (is_open self.old.talk)) }
+        ensures err { OnErr result (self.new ≡ rule_at at starve self.old) }
+        ensures refused { OnErr result (is_open self.old.talk ≡ true) }
+    {
+        if !self.session.is_open() {
+            self.session.advance(at);
+            return Ok(0);
+        }
+        if self.unread.append(bytes).is_err() {
+            self.session.starve(at);
+            return Err(NoMemory);
+        }
+        self.session.piece(at);
+        Ok(1)
+    }
+
+    fn take_command(&mut self, at: u64, command: Cmd) -> Result<u64, NoMemory>
+        ensures ok { OnOk result (self.new ≡ rule_at at (command_rule command) self.old) }
+        ensures parts { IfOk result (λ n. n ≡ 1) }
+        ensures err { OnErr result (self.new ≡ rule_at at starve self.old) }
+    {
+        self.session.advance(at);
+        if self.session.command(command).is_err() {
+            self.session.starve(at);
+            return Err(NoMemory);
+        }
+        Ok(1)
+    }
+
+    // Reads frames while there is one, where a piece came, and counts them as parts.
+    fn read_all(&mut self, at: u64, piece: bool, parts: &mut u64) -> Result<(), NoMemory>
+        requires { parts.old ≤ 1 }
+        ensures ok { OnOk result ((cut : Option ℕ) → Allows cut parts.new
+            → reading piece (making at cut self.old parts.old) ≡ making at cut self.new parts.new) }
+        ensures err { OnErr result ((e : Engine) × (self.new ≡ rule_at at starve e)
+            × (reading piece (making at (Some parts.new) self.old parts.old) ≡ making at (Some parts.new) e parts.new)) }
+        ensures bound { 2 * parts.new < 2 ^ 63 + 4 }
+        ensures grows { parts.old ≤ parts.new }
+        ensures starved { self.new.starved ≡ self.old.starved }
+    {
+        if !piece {
+            return Ok(());
+        }
+        let most = self.unread.as_slice().len();
+        'frames: for _ in 0..most {
+            if !self.read_next(at)? {
+                return Ok(());
+            }
+            *parts += 1;
+        }
+        Ok(())
+    }
+
+    // Reads a frame, or what can be none, and says whether there was one.
+    fn read_next(&mut self, at: u64) -> Result<bool, NoMemory>
+        ensures some { IfOk result (λ b. b ≡ can_read self.old) }
+        ensures ok { IfOk result (λ b. self.new ≡ (if b then read_one at self.old else self.old)) }
+        ensures err { OnErr result (self.new ≡ rule_at at starve self.old) }
+    {
+        if !self.session.is_open() {
+            return Ok(false);
+        }
+        match read_frame(self.alloc, &self.unread, self.session.frame_limit() as u32) {
+            Read::More => return Ok(false),
+            Read::NoMemory => {
+                self.session.starve(at);
+                return Err(NoMemory);
+            }
+            Read::Whole(frame, n) => {
+                if self.session.frame(frame, self.place, at).is_err() {
+                    return Err(NoMemory);
+                }
+                self.unread.consume(n);
+                self.place = self.place.saturating_add(n as u64);
+            }
+            _ => self.session.misread(self.place, at),
+        }
+        self.settle();
+        Ok(true)
+    }
+
+    // At the end of the session the unread bytes go.
+    fn settle(&mut self)
+        ensures { self.new ≡ settle self.old }
+    {
+        if self.session.has_ended() {
+            self.unread.clear();
+            self.place = 0;
+        }
+    }
+
+    // Writes while all that is offered is taken, and counts the offers as parts.
+    fn write_all<P: Port>(&mut self, at: u64, port: &mut P, parts: &mut u64) -> Result<(), NoMemory>
+        requires { 2 * parts.old < 2 ^ 63 + 4 }
+        ensures ok { OnOk result ((ws : List Wrote)
+            × ((cut : Option ℕ) → Allows cut parts.new → Writes ws (making at cut self.old parts.old) (making at cut self.new parts.new))
+            × TellsOffers (offers_from at ws self.old) (P.log port.old) (P.log port.new)) }
+        ensures err { OnErr result ((ws : List Wrote)
+            × Writes ws (making at (Some parts.new) self.old parts.old) (making at (Some parts.new) self.new parts.new)
+            × TellsOffers (offers_from at ws self.old) (P.log port.old) (P.log port.new)) }
+        ensures grows { parts.old ≤ parts.new }
+        ensures starved { self.new.starved ≡ self.old.starved }
+        ensures faults { P.faults port.old ≤ P.faults port.new }
+    {
+        let _waiting = self.session.waiting();
+        'writes: while let Some(offered) = self.offer(at, port) {
+            *parts += 1;
+            if let Wrote::NoMemory = offered.answer {
+                return Err(NoMemory);
+            }
+            if !offered.all {
+                return Ok(());
+            }
+        }
+        Ok(())
+    }
+
+    // One offer, with the commits before it, where something is to be written.
+    fn offer<P: Port>(&mut self, at: u64, port: &mut P) -> Option<Offered>
+        ensures none { IfNone result (IsFalse (can_write self.old) × (self.new ≡ self.old) × (P.log port.new ≡ P.log port.old)) }
+        ensures due { IfSome result (λ r. IsTrue (can_write self.old)) }
+        ensures within { IfSome result (λ r. IsWithin (length (offered self.old)) r.answer) }
+        ensures plays { IfSome result (λ r. IfSome (P.log port.old) (PlansWrite (length (offered self.old)) r.answer)) }
+        ensures all { IfSome result (λ r. r.all ≡ is_all r.answer (length (offered self.old))) }
+        ensures engine { IfSome result (λ r. self.new ≡ answered at r.answer self.old) }
+        ensures told { IfSome result (λ r. P.log port.new
+            ≡ option_map (log_write (offered self.old) r.answer) (P.log port.old)) }
+        ensures faults { P.faults port.old ≤ P.faults port.new }
+    {
+        if !self.session.is_open() {
+            return None;
+        }
+        self.commit_all();
+        let offered = self.unsent.as_slice().len();
+        if offered == 0 {
+            return None;
+        }
+        let answer = port.write(self.unsent.as_slice(), &[]);
+        let taken = answer.taken();
+        self.session.taken(taken as u64, at);
+        self.unsent.consume(taken);
+        Some(Offered {
+            answer,
+            all: taken == offered,
+        })
+    }
+
+    // Commits frames while there is one that fits.
+    fn commit_all(&mut self)
+        ensures { self.new ≡ commit_all self.old }
+    {
+        'commits: while self.commit_next() {}
+    }
+
+    // Commits the next frame where it fits, and says whether one did.
+    fn commit_next(&mut self) -> bool
+        ensures some { result ≡ is_some (fitting_next self.old) }
+        ensures commit { self.new ≡ commit_one self.old }
+    {
+        let space = CAPACITY - self.session.unsent();
+        match self.session.next_frame(space) {
+            Some(frame) => {
+                // There is room for it.
+                let _ = write_frame(&frame, &mut self.unsent);
+                true
+            }
+            None => false,
+        }
+    }
+
+    // Memory was refused after so many parts of a turn.
+    fn cut(&mut self, at: u64, parts: u64)
+        ensures { self.new ≡ starve_at at parts self.old }
+    {
+        self.session.starve(at);
+        self.unread.clear();
+        self.place = 0;
+        self.starved = Some(parts);
+    }
+}
