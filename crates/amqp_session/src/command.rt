@@ -2,14 +2,14 @@
 
 ghost use Rattle.std.specs.Prelude.{◌≡◌, IfOk};
 
-use amqp_types::{NoMemory, ShortString};
+use amqp_types::{NoMemory, ReplyCode, ShortString};
 use std::alloc::Global;
 
 /// A command.
 #[derive(Debug, PartialEq, Eq, Drop)]
 pub enum Cmd {
     /// Closes the connection, with a reply code and a text.
-    CloseConnection(u16, ShortString),
+    CloseConnection(ReplyCode, ShortString),
 }
 
 impl Cmd {

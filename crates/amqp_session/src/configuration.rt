@@ -3,13 +3,7 @@
 ghost use Rattle.std.specs.Prelude.{◌≡◌};
 ghost use Rattle.amqp_session.specs.Negotiation.{lesser_wish, wish_or, tune};
 
-use amqp_types::ChannelId;
-
-/// The size of a frame, in octets.
-type FrameSize = u32;
-
-/// The interval of heartbeats, in seconds.
-type Heartbeat = u16;
+use amqp_types::{ChannelId, FrameSize, Heartbeat};
 
 /// The least `frame_max` that a peer may have (frame-min-size).
 const FRAME_MIN_SIZE: FrameSize = 4096;

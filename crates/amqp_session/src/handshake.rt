@@ -6,7 +6,9 @@ ghost use Rattle.amqp_session.specs.Handshake.{protocol_header, yes, text_value,
 
 use crate::configuration::Configuration;
 use amqp_frame::{Frame, Method};
-use amqp_types::{AMQPValue, FieldTable, LongString, NoMemory, ProtocolVersion, ShortString};
+use amqp_types::{
+    AMQPValue, FieldTable, LongString, NoMemory, ProtocolVersion, ReplyCode, ShortString,
+};
 use std::alloc::Global;
 
 pub fn protocol_header() -> Frame
@@ -110,7 +112,7 @@ pub fn open_vhost(alloc: Global) -> Result<Frame, NoMemory>
 }
 
 /// Our close of the connection.
-pub fn our_close(code: u16, text: ShortString) -> Frame
+pub fn our_close(code: ReplyCode, text: ShortString) -> Frame
     ensures { result ≡ our_close code text }
 {
     Frame::Method(0, Method::Close(code, text, 0, 0))

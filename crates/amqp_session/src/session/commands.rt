@@ -9,7 +9,7 @@ use crate::error::{self, ErrorKind};
 use crate::handshake::our_close;
 use crate::promises::Slot;
 use crate::state::ConnectionState;
-use amqp_types::{NoMemory, ShortString};
+use amqp_types::{NoMemory, ReplyCode, ShortString};
 
 impl Session {
     /// Does what it is told or refuses it, and gives the number of the promise that will be answered.
@@ -44,7 +44,7 @@ impl Session {
         Ok(())
     }
 
-    fn close_connection(&mut self, code: u16, text: ShortString) -> Result<(), NoMemory>
+    fn close_connection(&mut self, code: ReplyCode, text: ShortString) -> Result<(), NoMemory>
         ensures ok { OnOk result (self.new ≡ close_connection code text self.old) }
         ensures err { OnErr result (self.new ≡ self.old) }
     {
