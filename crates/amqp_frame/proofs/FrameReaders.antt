@@ -1,18 +1,15 @@
 -- The readers of methods and of what frames hold: what is spelled is read, and what is read is spelled.
-use Rattle.std.proofs.Common.{◌≡◌, ◌≢◌, ◌⊎◌, ℕ, zero, suc, ◌+◌, ◌-◌, ◌%◌, ◌<◌, ◌≤◌, Bool, true, false, not, cond, eqb, ltb, List, [], ◌∷◌, ◌++◌, length, take, drop, Option, Some, None, option_map, refl, sym, ap, subst, ◌∙◌, append_assoc, arith, inl, inr}
-use Rattle.std.proofs.lemmas.Bool.{eqb-true}
-use Rattle.std.proofs.lemmas.List.{append-nil, nil_from_length}
+use Rattle.std.proofs.Common.{◌≡◌, ℕ, ◌-◌, ◌%◌, Bool, cond, eqb, List, ◌++◌, Some, sym, ap, ◌∙◌}
 use Rattle.std.specs.Int.{w16, w32}
-use Rattle.amqp_types.specs.Forms.{Form, IsOctets, Nothing, ◌▸◌, OctetOf, NumberOf, OctetsOf, ShortStringOf, LongStringOf}
-use Rattle.amqp_types.specs.Spelling.{max_depth, TableOf, Spells, SpellsTable}
-use Rattle.amqp_types.specs.Value.{Pair}
-use Rattle.amqp_types.specs.Reading.{Reader, ◌>>=◌, octet_at, octets_at, number_at, short_string_at, long_string_at, table_at, ◌⊗◌, read_map}
-use Rattle.amqp_types.proofs.Readers.{IsReader, FirstOf, IsOctets-rest, some_is, bind_some, octet_reader, octets_reader, number16_reader, number32_reader, then_again, then_takes, joined, both_reader, map_again, map_takes, short_string_reader, long_string_reader}
+use Rattle.amqp_types.specs.Forms.{◌▸◌, OctetOf, NumberOf, ShortStringOf, LongStringOf}
+use Rattle.amqp_types.specs.Spelling.{max_depth, SpellsTable}
+use Rattle.amqp_types.specs.Reading.{Reader, octet_at, short_string_at, long_string_at, table_at, ◌⊗◌}
+use Rattle.amqp_types.proofs.Readers.{IsReader, octet_reader, number16_reader, number32_reader, both_reader, map_again, short_string_reader, long_string_reader}
 use Rattle.amqp_types.proofs.FieldReaders.{table_at_reader}
 use Rattle.amqp_frame.specs.declared.method.Method.{Method}
 use Rattle.amqp_frame.specs.declared.method.Method.TheVariants as m
-use Rattle.amqp_frame.specs.Methods.{class_of, number_of, AnyShortString, AnyLongString, AnyOctet, BitOf, ArgumentsOf, MethodOf}
-use Rattle.amqp_frame.specs.FrameReading.{start_at, start_ok_at, numbers_at, tune_at, tune_ok_at, open_at, reasons_at, close_at, channel_close_at, update_secret_at, done_at, connection_at, channel_at, exactly}
+use Rattle.amqp_frame.specs.Methods.{class_of, number_of, ArgumentsOf}
+use Rattle.amqp_frame.specs.FrameReading.{start_at, start_ok_at, numbers_at, tune_at, tune_ok_at, open_at, reasons_at, close_at, channel_close_at, update_secret_at, connection_at, channel_at}
 
 tables : IsReader SpellsTable (table_at max_depth)
 tables = table_at_reader (max_depth - 1)

@@ -1,22 +1,22 @@
 -- The answer at the front is the one that holds there, and no other does.
-use Rattle.std.proofs.Common.{eq-eqb, ◌||◌, ◌≡◌, ◌≢◌, ◌⊎◌, ℕ, zero, suc, ◌+◌, ◌^◌, ◌<◌, ◌≤◌, Bool, true, false, not, cond, eqb, ltb, ◌&&◌, List, [], ◌∷◌, ◌++◌, length, take, drop, Option, Some, None, option_map, refl, sym, ap, ap₂, subst, ◌∙◌, append_assoc, arith, inl, inr}
+use Rattle.std.proofs.Common.{eq-eqb, ◌||◌, ◌≡◌, ◌≢◌, ◌⊎◌, ℕ, zero, suc, ◌+◌, ◌<◌, ◌≤◌, Bool, true, false, not, cond, eqb, ltb, ◌&&◌, List, [], ◌∷◌, ◌++◌, length, take, drop, Option, Some, None, refl, sym, ap, ap₂, subst, ◌∙◌, append_assoc, arith, inl, inr}
 use Rattle.std.specs.Option.{option_map_or}
-use Rattle.std.proofs.lemmas.Bool.{eqb-true, ltb-true, ltb-false, le-ltb, lt-ltb}
-use Rattle.std.proofs.lemmas.List.{append-nil, length-append, length-drop, take_at, drop_at, take-append-drop, length-take, nil_from_length}
-use Rattle.std.specs.Int.{w16, w32, byte_len, from_be_bytes, to_be_bytes}
+use Rattle.std.proofs.lemmas.Bool.{eqb-true, ltb-true, ltb-false}
+use Rattle.std.proofs.lemmas.List.{append-nil, length-append, length-drop, nil_from_length}
+use Rattle.std.specs.Int.{w16, w32, from_be_bytes, to_be_bytes}
 use mathlib.Core.Bool.{false≢true}
-use Rattle.amqp_types.specs.Forms.{Form, IsOctets, ◌▸◌, OctetOf, NumberOf, OctetsOf, LongStringOf}
-use Rattle.amqp_types.specs.Reading.{Reader, ◌>>=◌, octet_at, octets_at, number_at, ◌⊗◌, read_map}
-use Rattle.amqp_types.proofs.Readers.{IsReader, IsOctets-rest, IsOctets-first, some_is, bind_some, octet_reader, octets_reader, number16_reader, number32_reader, both_reader}
+use Rattle.amqp_types.specs.Forms.{IsOctets, ◌▸◌, OctetOf, NumberOf}
+use Rattle.amqp_types.specs.Reading.{◌>>=◌, octet_at, octets_at, number_at, ◌⊗◌}
+use Rattle.amqp_types.proofs.Readers.{IsOctets-rest, IsOctets-first, some_is, octet_reader, octets_reader, number16_reader, number32_reader, both_reader}
 use Rattle.amqp_frame.specs.declared.frame.Frame.{Frame}
 use Rattle.amqp_frame.specs.declared.frame.Frame.TheVariants as f
 use Rattle.amqp_frame.specs.declared.frame.Read.{Read}
-use Rattle.amqp_frame.specs.declared.frame.Read.TheVariants.{Whole, More, TooLarge, BadHeartbeat, Bad, NoMemory}
+use Rattle.amqp_frame.specs.declared.frame.Read.TheVariants.{Whole, More, TooLarge, BadHeartbeat, Bad}
 use Rattle.amqp_frame.specs.Frames.{Anything, Framed, FrameOf}
-use Rattle.amqp_frame.specs.Fronts.{IsTypeOctet, Names, IsWithin, IsWhole, IsBadHeartbeat, IsTooLarge, BeginsHeader, IsShort, IsUnfinished, IsMore, IsBad, IsFront}
+use Rattle.amqp_frame.specs.Fronts.{IsTypeOctet, Names, IsFront}
 use Rattle.amqp_frame.specs.FrameReading.{content, ended, sized, framed, expect, version, header, is_type_octet, front}
-use Rattle.amqp_frame.proofs.FrontLaws.{front_again, framed_again, within_all, not_eqb}
-use Rattle.amqp_frame.proofs.MethodTakes.{Makes, content_makes}
+use Rattle.amqp_frame.proofs.FrontLaws.{within_all, not_eqb}
+use Rattle.amqp_frame.proofs.MethodTakes.{content_makes}
 
 -- ---- behind a type octet, every answer but Bad is the one that holds
 abbrev pub Sound : List ℕ → ℕ → Read → Type 0

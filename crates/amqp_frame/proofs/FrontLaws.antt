@@ -1,24 +1,23 @@
 -- A frame that is spelled at the front is read there.
-use Rattle.std.proofs.Common.{◌≡◌, ◌≢◌, ◌⊎◌, ℕ, zero, suc, ◌+◌, ◌<◌, ◌≤◌, Bool, true, false, not, cond, eqb, ltb, ◌&&◌, List, [], ◌∷◌, ◌++◌, length, take, drop, Option, Some, None, option_map, refl, sym, ap, ap₂, subst, ◌∙◌, append_assoc, arith, inl, inr}
+use Rattle.std.proofs.Common.{◌≡◌, ◌≢◌, ◌⊎◌, ℕ, suc, ◌+◌, ◌<◌, ◌≤◌, Bool, true, false, not, cond, eqb, ltb, ◌&&◌, List, [], ◌∷◌, ◌++◌, length, take, Option, Some, None, option_map, refl, sym, ap, ap₂, ◌∙◌, append_assoc, arith, inl, inr}
 use Rattle.std.specs.Option.{option_map_or}
-use Rattle.std.proofs.lemmas.Bool.{eqb-true, ltb-false, le-ltb}
+use Rattle.std.proofs.lemmas.Bool.{eqb-true, le-ltb}
 use Rattle.std.proofs.lemmas.List.{append-nil, length-append, take_at}
-use Rattle.std.specs.Int.{w16, w32, to_be_bytes}
-use Rattle.amqp_types.specs.Forms.{Form, IsOctets, Nothing, ◌▸◌, OctetOf, NumberOf, OctetsOf, ShortStringOf, LongStringOf}
-use Rattle.amqp_types.specs.Reading.{Reader, ◌>>=◌, octet_at, octets_at, number_at, ◌⊗◌, read_map}
-use Rattle.amqp_types.proofs.Readers.{IsReader, octet_reader, octets_reader, number16_reader, number32_reader, both_reader}
+use Rattle.std.specs.Int.{w16, w32}
+use Rattle.amqp_types.specs.Forms.{Form, ◌▸◌, OctetOf, NumberOf, LongStringOf}
+use Rattle.amqp_types.specs.Reading.{◌>>=◌, octet_at, octets_at, number_at, ◌⊗◌, read_map}
+use Rattle.amqp_types.proofs.Readers.{octet_reader, octets_reader, number16_reader, number32_reader, both_reader}
 use Rattle.amqp_frame.specs.declared.method.Method.{Method}
 use Rattle.amqp_frame.specs.declared.method.Method.TheVariants as m
 use Rattle.amqp_frame.specs.declared.frame.Frame.{Frame}
 use Rattle.amqp_frame.specs.declared.frame.Frame.TheVariants as f
 use Rattle.amqp_frame.specs.declared.frame.RawKind.{RawKind}
 use Rattle.amqp_frame.specs.declared.frame.RawKind.TheVariants.{RawMethod, Header, Body}
-use Rattle.amqp_frame.specs.declared.frame.Read.{Read}
-use Rattle.amqp_frame.specs.declared.frame.Read.TheVariants.{Whole, More, TooLarge, BadHeartbeat, Bad}
+use Rattle.amqp_frame.specs.declared.frame.Read.TheVariants.{Whole, More}
 use Rattle.amqp_frame.specs.Methods.{class_of, number_of, ArgumentsOf, MethodOf}
-use Rattle.amqp_frame.specs.Frames.{signature, spell_heartbeat, type_of, Framed, IsOtherMethod, RawPayload, FrameOf}
+use Rattle.amqp_frame.specs.Frames.{spell_heartbeat, type_of, Framed, RawPayload, FrameOf}
 use Rattle.amqp_frame.specs.Fronts.{IsWithin}
-use Rattle.amqp_frame.specs.FrameReading.{connection_at, channel_at, exactly, method_content, method_payload, content, ended, sized, framed, expect, version, header, front}
+use Rattle.amqp_frame.specs.FrameReading.{exactly, method_content, method_payload, content, ended, sized, framed, version, header, front}
 use Rattle.amqp_frame.proofs.FrameReaders.{arguments_at, arguments_again}
 
 -- ---- one level of each answer

@@ -1,22 +1,19 @@
 -- Each answer that holds at the front is the one that is read.
-use Rattle.std.proofs.Common.{eq-eqb, ◌≡◌, ◌≢◌, ◌⊎◌, ℕ, zero, suc, ◌+◌, ◌^◌, ◌<◌, ◌≤◌, Bool, true, false, not, cond, eqb, ltb, ◌&&◌, List, [], ◌∷◌, ◌++◌, length, take, drop, Option, Some, None, option_map, refl, sym, ap, ap₂, subst, ◌∙◌, append_assoc, arith, inl, inr}
-use mathlib.Core.Bool.{false≢true}
+use Rattle.std.proofs.Common.{eq-eqb, ◌≡◌, ◌≢◌, ℕ, ◌+◌, ◌<◌, Bool, true, false, not, cond, eqb, ltb, ◌&&◌, List, [], ◌∷◌, ◌++◌, length, take, drop, Option, Some, None, refl, sym, ap, ap₂, subst, ◌∙◌, append_assoc, arith, inl, inr}
 use Rattle.std.specs.Option.{option_map_or}
-use Rattle.std.proofs.lemmas.Bool.{eqb-true, ltb-true, ltb-false, le-ltb}
+use Rattle.std.proofs.lemmas.Bool.{eqb-true, ltb-false, le-ltb}
 use Rattle.std.proofs.lemmas.List.{append-nil, length-append, length-drop, take_at, drop_at, nil_from_length}
-use Rattle.std.specs.Int.{w16, w32, byte_len, from_be_bytes, to_be_bytes}
-use Rattle.amqp_types.specs.Forms.{Form, IsOctets, ◌▸◌, OctetOf, NumberOf, OctetsOf, LongStringOf}
-use Rattle.amqp_types.specs.Reading.{Reader, ◌>>=◌, octet_at, octets_at, number_at, ◌⊗◌}
-use Rattle.amqp_types.proofs.Readers.{IsReader, octets_reader, number32_reader}
+use Rattle.std.specs.Int.{w16, w32, from_be_bytes}
+use Rattle.amqp_types.specs.Forms.{IsOctets, ◌▸◌, OctetOf, NumberOf, LongStringOf}
+use Rattle.amqp_types.specs.Reading.{octet_at, octets_at, number_at, ◌⊗◌}
+use Rattle.amqp_types.proofs.Readers.{number32_reader}
 use Rattle.amqp_frame.specs.declared.frame.Frame.{Frame}
-use Rattle.amqp_frame.specs.declared.frame.Frame.TheVariants as f
 use Rattle.amqp_frame.specs.declared.frame.Read.{Read}
 use Rattle.amqp_frame.specs.declared.frame.Read.TheVariants.{Whole, More, TooLarge, BadHeartbeat, Bad, NoMemory}
-use Rattle.amqp_frame.specs.Frames.{Anything, FrameOf}
 use Rattle.amqp_frame.specs.Fronts.{IsTypeOctet, Names, IsWithin, IsWhole, IsBadHeartbeat, IsTooLarge, BeginsHeader, IsShort, IsUnfinished, IsMore, IsBad, IsFront}
-use Rattle.amqp_frame.specs.FrameReading.{content, ended, sized, framed, expect, version, header, front, Answers}
+use Rattle.amqp_frame.specs.FrameReading.{ended, sized, framed, expect, version, header, front, Answers}
 use Rattle.amqp_frame.proofs.FrontLaws.{front_again, framed_again, framed_is, not_eqb}
-use Rattle.amqp_frame.proofs.FrontExact.{then_octet, with_number, then_number, Sound, front_sound}
+use Rattle.amqp_frame.proofs.FrontExact.{then_octet, with_number, then_number, front_sound}
 
 -- behind a type octet
 type_is_front : (type limit : ℕ) (rest : List ℕ) → IsTypeOctet type → front (type ∷ rest) limit ≡ framed type limit rest

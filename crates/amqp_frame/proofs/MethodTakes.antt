@@ -1,21 +1,20 @@
 -- What is read of a method or a payload is spelled so.
-use Rattle.std.proofs.Common.{eq-eqb, ◌≡◌, ◌≢◌, ◌⊎◌, ℕ, zero, suc, ◌+◌, ◌%◌, ◌<◌, ◌≤◌, Bool, true, false, not, cond, eqb, ltb, List, [], ◌∷◌, ◌++◌, length, take, drop, Option, Some, None, option_map, refl, sym, ap, ap₂, subst, ◌∙◌, append_assoc, arith, inl, inr}
+use Rattle.std.proofs.Common.{eq-eqb, ◌≡◌, ◌≢◌, ◌⊎◌, ℕ, ◌%◌, Bool, true, false, cond, eqb, ltb, List, [], ◌++◌, length, Option, Some, None, option_map, refl, sym, ap, subst, ◌∙◌, inl, inr}
 use mathlib.Core.Bool.{false≢true}
 use Rattle.std.proofs.lemmas.Bool.{eqb-true, ltb-false}
 use Rattle.std.proofs.lemmas.List.{append-nil, nil_from_length}
-use Rattle.std.specs.Int.{w16, w32}
-use Rattle.amqp_types.specs.Forms.{Form, IsOctets, Nothing, ◌▸◌, OctetOf, NumberOf, OctetsOf, ShortStringOf, LongStringOf}
-use Rattle.amqp_types.specs.Spelling.{SpellsTable}
-use Rattle.amqp_types.specs.Reading.{Reader, ◌>>=◌, octet_at, number_at, short_string_at, long_string_at, table_at, ◌⊗◌, read_map}
-use Rattle.amqp_types.proofs.Readers.{IsReader, FirstOf, IsOctets-rest, some_is, bind_some, octet_reader, number16_reader, then_takes, joined, map_takes, short_string_reader, long_string_reader}
+use Rattle.std.specs.Int.{w16}
+use Rattle.amqp_types.specs.Forms.{Form, IsOctets, NumberOf}
+use Rattle.amqp_types.specs.Reading.{Reader, ◌>>=◌, number_at, read_map}
+use Rattle.amqp_types.proofs.Readers.{IsReader, IsOctets-rest, some_is, bind_some, octet_reader, number16_reader, map_takes, short_string_reader, long_string_reader}
 use Rattle.amqp_frame.specs.declared.method.Method.{Method}
 use Rattle.amqp_frame.specs.declared.method.Method.TheVariants as m
 use Rattle.amqp_frame.specs.declared.frame.Frame.{Frame}
 use Rattle.amqp_frame.specs.declared.frame.Frame.TheVariants as f
 use Rattle.amqp_frame.specs.declared.frame.RawKind.TheVariants.{RawMethod, Header, Body}
-use Rattle.amqp_frame.specs.Methods.{class_of, number_of, AnyShortString, AnyLongString, AnyOctet, BitOf, ArgumentsOf, MethodOf}
-use Rattle.amqp_frame.specs.Frames.{Framed, IsOtherMethod, RawPayload, FrameOf}
-use Rattle.amqp_frame.specs.FrameReading.{start_at, start_ok_at, numbers_at, tune_at, tune_ok_at, open_at, reasons_at, close_at, channel_close_at, update_secret_at, done_at, connection_at, channel_at, exactly, method_content, method_payload, content}
+use Rattle.amqp_frame.specs.Methods.{class_of, number_of, ArgumentsOf, MethodOf}
+use Rattle.amqp_frame.specs.Frames.{Framed, FrameOf}
+use Rattle.amqp_frame.specs.FrameReading.{start_at, start_ok_at, tune_at, tune_ok_at, open_at, close_at, channel_close_at, update_secret_at, done_at, connection_at, channel_at, exactly, method_content, method_payload, content}
 use Rattle.amqp_frame.proofs.FrameReaders.{start_args, start_ok_args, numbers, open_args, reasons, secret_args}
 
 -- the method that was taken, with its class and its number

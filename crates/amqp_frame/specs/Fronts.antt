@@ -1,6 +1,6 @@
 -- What stands at the front of octets (AMQP 0-9-1, 4.2.3), given the limit, the greatest length that a frame may have: exactly one of five answers.
 use Rattle.std.specs.Prelude.{◌≡◌, ◌≢◌, ◌⊎◌, ℕ, ◌+◌, ◌<◌, ◌≤◌, List, [], ◌∷◌, ◌++◌, length}
-use Rattle.std.specs.Int.{w16, w32, to_be_bytes}
+use Rattle.std.specs.Int.{w16, w32}
 use Rattle.amqp_types.specs.Forms.{Form, ◌▸◌, OctetOf, NumberOf}
 use Rattle.amqp_types.specs.declared.version.ProtocolVersion.{ProtocolVersion}
 use Rattle.amqp_frame.specs.declared.frame.Frame.{Frame}

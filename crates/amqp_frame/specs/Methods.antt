@@ -1,5 +1,5 @@
 -- How the methods of the connection class (10) and the channel class (20) are spelled (AMQP 0-9-1, 4.2.4 and the class reference).
-use Rattle.std.specs.Prelude.{◌≡◌, ℕ, ◌%◌, Bool, List, [], ◌∷◌, ◌++◌, length, ◌==◌, if◌then◌else◌}
+use Rattle.std.specs.Prelude.{◌≡◌, ℕ, ◌%◌, Bool, List, [], ◌∷◌, ◌++◌, ◌==◌, if◌then◌else◌}
 use Rattle.std.specs.Int.{w16, w32, to_be_bytes}
 use Rattle.amqp_types.specs.Forms.{Form, Nothing, ◌▸◌, OctetOf, NumberOf, ShortStringOf, LongStringOf, spell_short_string, spell_long_string}
 use Rattle.amqp_types.specs.Spelling.{SpellsTable, spell_table}

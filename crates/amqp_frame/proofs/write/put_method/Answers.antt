@@ -1,4 +1,4 @@
-use Rattle.std.proofs.Common.{◌≡◌, ℕ, ◌+◌, List, [], ◌∷◌, ◌++◌, length, sym, ap, ◌∙◌, arith}
+use Rattle.std.proofs.Common.{◌≡◌, ℕ, ◌+◌, [], ◌∷◌, ◌++◌, length, ap, ◌∙◌, arith}
 use Rattle.std.specs.Int.{w16, to_be_bytes}
 use Rattle.amqp_frame.specs.Frames.{spell_header}
 use Rattle.amqp_frame.specs.Methods.{class_of, number_of, spell_arguments, spell_method}

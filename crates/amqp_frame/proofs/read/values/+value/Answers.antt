@@ -1,8 +1,8 @@
-use Rattle.std.proofs.Common.{◌≡◌, ℕ, suc, ◌-◌, ◌<◌, ◌≤◌, List, [], ◌∷◌, ◌++◌, length, map, Some, None, refl, sym, ap, ◌∙◌, arith, rules}
+use Rattle.std.proofs.Common.{◌≡◌, ◌-◌, List, [], ◌∷◌, ◌++◌, length, map, Some, refl, sym, ap, ◌∙◌, arith}
 use Rattle.std.proofs.lemmas.Grind.{common_steps}
 use Rattle.std.proofs.lemmas.Result.{err_from_is_err_and}
 use Rattle.std.proofs.lemmas.List.{append-nil}
-use Rattle.amqp_types.specs.Value.{FieldValue, Pair}
+use Rattle.amqp_types.specs.Value.{Pair}
 use Rattle.amqp_types.specs.View.{value_of, pair_of}
 use Rattle.amqp_types.specs.declared.value.Entry.{Entry}
 use Rattle.amqp_types.specs.Reading.{value_at, array_at, table_at, row_at, pair_with, short_string_at, long_string_at}

@@ -1,4 +1,4 @@
-use Rattle.std.proofs.Common.{◌≡◌, ℕ, List, [], ◌∷◌, ◌++◌, sym, ap, ◌∙◌}
+use Rattle.std.proofs.Common.{ℕ, List, [], ◌∷◌, ◌++◌, sym, ap, ◌∙◌}
 use Rattle.amqp_types.specs.Forms.{spell_short_string, spell_long_string}
 use Rattle.amqp_types.specs.Spelling.{spell_table}
 use Rattle.amqp_frame.proofs.Texts.{spell_table-is, four_texts}

@@ -1,8 +1,8 @@
-use Rattle.std.proofs.Common.{◌≡◌, ℕ, ◌+◌, ◌*◌, ◌^◌, ◌<◌, ◌≤◌, [], ◌∷◌, ◌++◌, length, map, drop, sym, ap, ◌∙◌, subst, arith}
+use Rattle.std.proofs.Common.{◌≡◌, ◌+◌, ◌*◌, ◌<◌, length, map, drop, ap, ◌∙◌, arith}
 use Rattle.std.proofs.lemmas.List.{length-append}
 use Rattle.amqp_types.specs.View.{value_of, pair_of}
 use Rattle.amqp_types.specs.Spelling.{spell, spell_values, spell_pairs}
-use Rattle.amqp_types.specs.Value.{array, table, values_from, pairs_from}
+use Rattle.amqp_types.specs.Value.{values_from, pairs_from}
 use Rattle.amqp_types.specs.TableSize.{value_size, values_size, pairs_size}
 use Rattle.amqp_frame.specs.Lengths.{spell_list, spell_pair_list, spell_pair}
 use Rattle.amqp_frame.proofs.Texts.{spell_values-is, spell_pairs-is, length-array, length-table, value_in, pair_in, next_value, next_pair, tagged_text}

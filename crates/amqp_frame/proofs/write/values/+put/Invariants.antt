@@ -1,5 +1,4 @@
-use Rattle.std.proofs.Common.{◌≡◌, ◌+◌, ◌*◌, ◌^◌, ◌<◌, ◌≤◌, ◌++◌, length, drop, map}
-use Rattle.std.specs.Int.{w32, to_be_bytes}
+use Rattle.std.proofs.Common.{◌+◌, ◌*◌, ◌++◌, length, drop, map}
 use Rattle.amqp_types.specs.View.{value_of, pair_of}
 use Rattle.amqp_types.specs.TableSize.{value_size, values_size, pairs_size}
 use Rattle.amqp_frame.specs.Lengths.{spell_list, spell_pair_list}

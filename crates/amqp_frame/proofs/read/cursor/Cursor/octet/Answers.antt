@@ -1,5 +1,5 @@
 use Rattle.std.proofs.Common.{sym, ap, ◌∙◌, arith}
-use Rattle.std.proofs.Common.{◌≡◌, ◌+◌, Some, ℕ}
+use Rattle.std.proofs.Common.{◌+◌, Some, ℕ}
 use Rattle.amqp_types.specs.Reading.{octet_at}
 use Rattle.amqp_frame.proofs.Windows.{window, window_next}
 use Rattle.amqp_frame.proofs.read.cursor.Cursor.octet.Goals as goal
