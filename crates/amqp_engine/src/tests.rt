@@ -146,8 +146,8 @@ fn took(alloc: Global, port: &MemoryPort, frames: &[&str]) -> Result<bool, Fail>
 }
 
 // Whether a run took all its turns.
-fn goes_on(result: amqp_session::Result<()>) -> bool {
-    match result {
+fn goes_on(end: amqp_session::Result<()>) -> bool {
+    match end {
         Ok(()) => false,
         Err(error) => matches!(error.kind(), ErrorKind::OutOfTurns),
     }
@@ -234,6 +234,7 @@ fn what_is_not_built_ends_the_session(rt: HostRuntime) -> Result<(), Fail> {
 }
 
 /// A port that gives the steps of a script, takes nothing, and refuses memory at its last write.
+#[derive(Drop)]
 struct Refusing {
     script: MemoryPort,
     writes_left: u64,
@@ -271,7 +272,6 @@ fn starved_after(alloc: Global, lines: &[Line], writes: u64) -> Result<Option<u6
     let mut engine = IoLoop::new(alloc)?;
     let end = engine.run(&mut port, 10);
     let starved = engine.starved();
-    let Refusing { .. } = port;
     match end {
         Ok(()) => Ok(None),
         Err(error) if matches!(error.kind(), ErrorKind::NoMemory) => Ok(starved),
