@@ -1,22 +1,22 @@
 -- What was sent on the opened link agrees with what the session and the engine hold of it.
-use Rattle.std.proofs.Common.{◌≡◌, ◌≢◌, ◌≤◌, ◌<◌, ℕ, zero, suc, ◌+◌, ◌-◌, ◌==◌, ◌&&◌, not, nat_lt, Bool, true, false, if◌then◌else◌, List, [], ◌∷◌, ◌++◌, length, take, drop, map, Option, Some, None, option_to_list, refl, ap, sym, ◌∙◌, subst, arith, append_assoc, length-append}
-use Rattle.std.proofs.lemmas.Grind.{common_steps, flat_map-append}
+use Rattle.std.proofs.Common.{◌≡◌, ◌≤◌, ℕ, zero, suc, ◌+◌, ◌-◌, ◌==◌, nat_lt, Bool, true, false, List, [], ◌∷◌, ◌++◌, length, take, drop, map, Option, Some, None, option_to_list, refl, ap, sym, ◌∙◌, subst, arith, append_assoc, length-append}
+use Rattle.std.proofs.lemmas.Grind.{flat_map-append}
 use Rattle.std.proofs.lemmas.Bool.Decides.{nat_tests}
 use Rattle.std.proofs.lemmas.List.{take-append-le, map-append}
 use Rattle.std.proofs.Math.Seq.{take-append_seam, take-append-add, drop-append_seam}
 use Rattle.amqp_frame.specs.declared.frame.Frame.{Frame}
 use Rattle.amqp_frame.specs.Frames.{encoding}
 use Rattle.amqp_session.specs.declared.committed.Mark.{Mark}
-use Rattle.amqp_session.specs.Talk.{Talk, is_open}
+use Rattle.amqp_session.specs.Talk.{is_open}
 use Rattle.amqp_session.specs.Rules.{present_at}
 use Rattle.amqp_session.specs.Writing.{taken}
 use Rattle.amqp_engine.specs.declared.port.Wrote.{Wrote}
 use Rattle.amqp_engine.specs.declared.port.Wrote.TheVariants.{Took, NoMemory}
 use Rattle.amqp_engine.specs.Log.{IsWithin}
-use Rattle.amqp_engine.specs.Engine.{Engine, commits, commit_one, commit_all, fitting_next, taken_by, wrote, can_write}
+use Rattle.amqp_engine.specs.Engine.{Engine, commits, commit_one, commit_all, fitting_next, taken_by, can_write}
 use Rattle.amqp_engine.specs.Turn.{offered, answered}
-use Rattle.amqp_engine.specs.Sending.{Sending, encodings, link_bytes, frames_sent, committed_in, committed_before, waiting_to_be_sent, offer_sending, nothing_sent, IsBegun, SendsInOrder}
-use Rattle.amqp_engine.proofs.Cases.{if-true, if-false, and-left}
+use Rattle.amqp_engine.specs.Sending.{Sending, encodings, link_bytes, frames_sent, committed_in, committed_before, offer_sending, nothing_sent, IsBegun, SendsInOrder}
+use Rattle.amqp_engine.proofs.Cases.{and-left}
 use Rattle.amqp_engine.proofs.Keeping.{left_after, committed-taken}
 use Rattle.amqp_engine.proofs.Commits.{with_frame, commit_one-is, commits-keep}
 use Rattle.amqp_engine.proofs.Sent.{mark_of, marks_of, begun-none, Advances, advance, advance-none}
@@ -115,8 +115,8 @@ agrees-frame e s f a =
       taken = a.taken;
       begun = begun-snoc a.rest a.part f a.begun;
       left =
-        flat_map-append encoding a.rest (f ∷ []) ∙ ap (λ x. encodings a.rest ++ x) (append_nil (encoding f)) ∙ ap (λ x. x ++ encoding f) a.left
-            ∙ append_assoc a.part e.unsent (encoding f);
+          flat_map-append encoding a.rest (f ∷ []) ∙ ap (λ x. encodings a.rest ++ x) (append_nil (encoding f)) ∙ ap (λ x. x ++ encoding f) a.left
+          ∙ append_assoc a.part e.unsent (encoding f);
       marks = ap (λ x. x ++ mark_of f ∷ []) a.marks ∙ sym (marks-snoc a.rest a.part f a.begun);
     }
 
@@ -161,8 +161,16 @@ agrees-advance e e' s n a v hu =
       committed = a.committed ∙ ap (λ x. a.done ++ x) v.frames ∙ sym (append_assoc a.done v.sent v.rest);
       sent = omega (arith, a.sent, before, after, frames, length-append a.done v.sent);
       taken =
-        omega (arith, a.taken, v.count, ap length joined, length-append (encodings a.done) a.part, length-append (encodings a.done) (encodings v.sent),
-        length-append (encodings v.sent) v.part, length-append (encodings (a.done ++ v.sent)) v.part);
+          omega (
+            arith,
+            a.taken,
+            v.count,
+            ap length joined,
+            length-append (encodings a.done) a.part,
+            length-append (encodings a.done) (encodings v.sent),
+            length-append (encodings v.sent) v.part,
+            length-append (encodings (a.done ++ v.sent)) v.part,
+          );
       begun = v.begun;
       left = v.left ∙ ap (λ x. v.part ++ x) (sym hu);
       marks = v.marks;

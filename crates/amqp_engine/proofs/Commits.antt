@@ -1,14 +1,14 @@
 -- Committing frames one by one.
-use Rattle.std.proofs.Common.{◌≡◌, ◌≤◌, ◌<◌, ℕ, zero, suc, ◌+◌, ◌-◌, ◌++◌, Bool, true, false, if◌then◌else◌, List, [], ◌∷◌, length, drop, Option, Some, None, refl, ap, sym, ◌∙◌, arith, length-append}
+use Rattle.std.proofs.Common.{◌≡◌, ◌≤◌, ◌<◌, ℕ, zero, suc, ◌-◌, ◌++◌, Bool, true, false, if◌then◌else◌, List, [], ◌∷◌, length, drop, Option, Some, None, refl, ap, sym, ◌∙◌, arith, length-append}
 use Rattle.amqp_frame.specs.declared.frame.Frame.{Frame}
 use Rattle.amqp_frame.specs.declared.frame.Frame.TheVariants.{ProtocolHeader, Method, Raw, Heartbeat}
 use Rattle.amqp_frame.specs.Frames.{encoding}
 use Rattle.amqp_session.specs.declared.committed.Mark.{Mark}
 use Rattle.amqp_session.specs.declared.session.TheConstants.{CAPACITY}
-use Rattle.amqp_session.specs.Talk.{Talk, is_open}
+use Rattle.amqp_session.specs.Talk.{is_open}
 use Rattle.amqp_session.specs.Writing as writing
 use Rattle.amqp_session.specs.Writing.{head, fitting}
-use Rattle.amqp_engine.specs.Engine.{Engine, commit_one, committed_as, commits, commit_all, fitting_next}
+use Rattle.amqp_engine.specs.Engine.{Engine, commit_one, committed_as, commits, fitting_next}
 use Rattle.amqp_engine.specs.Play.{waiting}
 
 -- where no frame fits, nothing more is committed

@@ -1,5 +1,5 @@
 -- What the rules of the session leave as it is.
-use Rattle.std.proofs.Common.{◌≡◌, ◌≤◌, ◌⊎◌, inl, inr, ℕ, zero, suc, ◌+◌, ◌-◌, ◌==◌, ◌&&◌, not, nat_le, max, Bool, true, false, if◌then◌else◌, List, [], ◌∷◌, length, drop, length-drop, Option, Some, None, refl, ap, sym, ◌∙◌, arith}
+use Rattle.std.proofs.Common.{◌≡◌, ◌⊎◌, inl, inr, ℕ, zero, ◌+◌, ◌-◌, ◌==◌, ◌&&◌, not, nat_le, max, Bool, true, false, if◌then◌else◌, List, [], ◌∷◌, length, drop, length-drop, refl, ap, sym, ◌∙◌, arith}
 use Rattle.std.proofs.lemmas.List.Sums.{sum_by-cons}
 use Rattle.std.proofs.lemmas.Bool.Decides.{nat_tests}
 use Rattle.amqp_frame.specs.declared.frame.Frame.{Frame}
@@ -14,7 +14,7 @@ use Rattle.amqp_session.specs.declared.command.Cmd.{Cmd}
 use Rattle.amqp_session.specs.declared.command.Cmd.TheVariants.{CloseConnection}
 use Rattle.amqp_session.specs.declared.error.ErrorKind.TheVariants.{Unbuilt, NoMemory}
 use Rattle.amqp_session.specs.Talk.{Talk, has_ended, is_open}
-use Rattle.amqp_session.specs.Rules.{present_at, on_frame, frame_row, on_connection_close_ok, misread, fail, starve, command, command_row, piece}
+use Rattle.amqp_session.specs.Rules.{present_at, on_frame, frame_row, on_connection_close_ok, misread, fail, starve, command, command_row}
 use Rattle.amqp_session.specs.Writing.{left_in, sent, sent_among, taken}
 use Rattle.amqp_engine.proofs.Cases.{if_case, if-true, if-false}
 
@@ -149,12 +149,12 @@ committed-taken b at n t opened zero_is =
     ∙ ap (λ (c : Bool). (if c && not (n == 0) then record x { last_write = x.present; committed = left_after x.committed n } else x).committed) is_open_x
     ∙ ap (λ (c : Bool). (if true && not c then record x { last_write = x.present; committed = left_after x.committed n } else x).committed) zero_is
     ∙ chosen b x same
-    where
-      chosen : (c : Bool) (x : Talk) → x.committed ≡ t.committed
-          → (if true && not c then record x { last_write = x.present; committed = left_after x.committed n } else x).committed
-          ≡ (if c then t.committed else left_after t.committed n)
-      chosen true x same = same
-      chosen false x same = ap (λ ms. left_after ms n) same
+  where
+    chosen : (c : Bool) (x : Talk) → x.committed ≡ t.committed
+        → (if true && not c then record x { last_write = x.present; committed = left_after x.committed n } else x).committed
+        ≡ (if c then t.committed else left_after t.committed n)
+    chosen true x same = same
+    chosen false x same = ap (λ ms. left_after ms n) same
 
 left_in-taken : (b : Bool) (at n : ℕ) (t : Talk) → is_open t ≡ true → (n == 0) ≡ b → left_in (taken n (present_at at t)).committed ≡ left_in t.committed - n
 left_in-taken true at n t opened h =

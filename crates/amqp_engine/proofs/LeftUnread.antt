@@ -1,27 +1,27 @@
 -- No turn leaves a whole frame unread.
-use Rattle.std.proofs.Common.{◌≡◌, ◌≤◌, ℕ, zero, suc, ◌&&◌, ◌==◌, not, if◌then◌else◌, Bool, true, false, IsTrue, List, [], ◌∷◌, length, Option, Some, None, is_some, refl, ap, sym, ◌∙◌, subst, arith, rules}
+use Rattle.std.proofs.Common.{◌≡◌, ◌≤◌, ℕ, zero, suc, ◌&&◌, not, if◌then◌else◌, Bool, true, false, IsTrue, List, [], ◌∷◌, length, Option, Some, None, is_some, refl, ap, sym, ◌∙◌, subst, arith, rules}
 use Rattle.amqp_frame.specs.declared.frame.Read.{Read}
 use Rattle.amqp_frame.specs.declared.frame.Read.TheVariants.{Whole, More, TooLarge, BadHeartbeat, Bad, NoMemory}
 use Rattle.amqp_frame.specs.FrameReading.{front}
 use Rattle.amqp_session.specs.declared.state.Link.{Link}
 use Rattle.amqp_session.specs.declared.state.Link.TheVariants.{Wanted, Asked, Open, Ended}
-use Rattle.amqp_session.specs.Talk.{Talk, is_open, is_open_link, is_asked, has_ended, end_of_link}
+use Rattle.amqp_session.specs.Talk.{Talk, is_open, is_open_link, is_asked, end_of_link}
 use Rattle.amqp_session.specs.Negotiation.{frame_limit}
 use Rattle.amqp_session.specs.Rules.{present_at, asked, asked_link, linked, command, starve}
-use Rattle.amqp_session.specs.Answers.{answer_of, take_answer}
+use Rattle.amqp_session.specs.Answers.{take_answer}
 use Rattle.amqp_session.specs.declared.command.Cmd.{Cmd}
 use Rattle.amqp_engine.specs.declared.port.Step.{Step}
 use Rattle.amqp_engine.specs.declared.port.Step.TheVariants.{Linked, Piece, Room, Tick, Command}
 use Rattle.amqp_engine.specs.declared.port.Wrote.{Wrote}
-use Rattle.amqp_engine.specs.Engine.{Engine, front_of, is_more, can_read, read_one, rule_at, with_talk, step_engine, wrote, taken_by, commits, starve_at}
-use Rattle.amqp_engine.specs.Turn.{Progress, Turn, asks, wants_ask, goes, reads, read_part, reading, is_piece, step_part, part, is_part, begun, drain, offer_part, offered, answered, read, written, applied, turn, starved_after, IsTurn}
+use Rattle.amqp_engine.specs.Engine.{Engine, front_of, is_more, can_read, rule_at, with_talk, step_engine, taken_by, commits, starve_at}
+use Rattle.amqp_engine.specs.Turn.{Progress, Turn, asks, wants_ask, goes, reads, read_part, reading, is_piece, step_part, is_part, begun, drain, offer_part, answered, read, written, applied, turn, starved_after}
 use Rattle.amqp_engine.specs.Log.{Log}
 use Rattle.amqp_engine.specs.Tell.{Applies, Turns, turn_of}
 use Rattle.amqp_engine.specs.Unread.{IsRead}
 use Rattle.amqp_engine.proofs.Cases.{if_case, and-false, and-right}
 use Rattle.amqp_engine.proofs.Keeping.{present-keeps, command-keeps, taken-keeps, starve-ends}
 use Rattle.amqp_engine.proofs.Commits.{commits-keep}
-use Rattle.amqp_engine.proofs.Reading.{reads-rest, read_one-worth, front-none}
+use Rattle.amqp_engine.proofs.Reading.{read_one-worth, front-none}
 
 -- ---- reading goes on to the end
 

@@ -12,3 +12,4 @@ pub mod Sent
 pub mod Agreeing
 pub mod Links
 pub mod Bytes
+pub mod Pieces

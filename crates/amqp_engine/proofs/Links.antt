@@ -1,5 +1,5 @@
 -- What was sent on each link, turn by turn, and what a port tells of it.
-use Rattle.std.proofs.Common.{◌≡◌, ◌≤◌, ℕ, zero, suc, ◌&&◌, not, if◌then◌else◌, Bool, true, false, IsTrue, IsFalse, MatchBool, List, [], ◌∷◌, ◌++◌, length, take, map, Option, Some, None, IfSome, is_some, option_map, ◌⊎◌, inl, inr, refl, ap, sym, ◌∙◌, subst, arith, rules}
+use Rattle.std.proofs.Common.{◌≡◌, ℕ, zero, suc, ◌&&◌, not, if◌then◌else◌, Bool, true, false, IsTrue, MatchBool, List, [], ◌∷◌, ◌++◌, length, take, map, Option, Some, None, IfSome, is_some, ◌⊎◌, inl, inr, refl, ap, sym, ◌∙◌, subst}
 use Rattle.std.specs.List.{AllByRecursion}
 use Rattle.std.proofs.lemmas.List.{map-append}
 use Rattle.amqp_frame.specs.declared.frame.Read.{Read}
@@ -7,8 +7,8 @@ use Rattle.amqp_frame.specs.declared.frame.Read.TheVariants.{Whole, More, TooLar
 use Rattle.amqp_session.specs.declared.state.Link.{Link}
 use Rattle.amqp_session.specs.declared.state.Link.TheVariants.{Wanted, Asked, Open, Ended}
 use Rattle.amqp_session.specs.declared.command.Cmd.{Cmd}
-use Rattle.amqp_session.specs.Talk.{Talk, is_open, is_open_link, is_asked, is_asked_link, is_wanted_link, wants_link, has_ended, end_of_link}
-use Rattle.amqp_session.specs.Rules.{present_at, asked, asked_link, linked, piece, command, on_frame, misread, starve}
+use Rattle.amqp_session.specs.Talk.{Talk, is_open, is_open_link, is_asked, is_asked_link, is_wanted_link, has_ended, end_of_link}
+use Rattle.amqp_session.specs.Rules.{present_at, asked, asked_link, linked, piece, command, on_frame, misread}
 use Rattle.amqp_engine.specs.declared.port.Step.{Step}
 use Rattle.amqp_engine.specs.declared.port.Step.TheVariants.{Linked, Piece, Room, Tick, Command}
 use Rattle.amqp_engine.specs.declared.port.Wrote.{Wrote}
@@ -17,8 +17,8 @@ use Rattle.amqp_engine.specs.declared.port.Happening.{Happening}
 use Rattle.amqp_engine.specs.declared.given.Given.{Given}
 use Rattle.amqp_engine.specs.Plan.{Plan, next_happening, happening_next, is_none_left}
 use Rattle.amqp_engine.specs.Log.{Log, on_last, log_ask, log_step, log_write, links_after, asked_after, is_played, PlansStep, IsWithin}
-use Rattle.amqp_engine.specs.Engine.{Engine, begin, with_talk, rule_at, step_engine, step_linked, step_piece, front_of, is_more, can_read, read_one, read_row, settle, can_write, wrote, taken_by, commits, starve_at}
-use Rattle.amqp_engine.specs.Turn.{Turn, Progress, asks, wants_ask, begun, goes, part, is_part, is_piece, step_part, reads, read_part, reading, drain, offer_part, offered, answered, is_all, AreAnswers, read, written, applied, turn, turns, starved_after, IsTurn, AreTurns}
+use Rattle.amqp_engine.specs.Engine.{Engine, begin, with_talk, rule_at, step_engine, step_linked, step_piece, front_of, is_more, can_read, read_one, read_row, settle, can_write, taken_by, commits, starve_at}
+use Rattle.amqp_engine.specs.Turn.{Turn, Progress, asks, wants_ask, begun, goes, part, is_part, is_piece, step_part, reads, read_part, drain, offer_part, offered, answered, is_all, AreAnswers, read, written, turn, turns, starved_after, IsTurn, AreTurns}
 use Rattle.amqp_engine.specs.Tell.{Offer, offers_from, offers_of, log_asks, log_stepped, log_offers, log_turn, log_turns, PlaysTurn, PlaysTurns}
 use Rattle.amqp_engine.specs.Sending.{Sending, nothing_sent, link_bytes, offer_sending, offers_sending, step_sending, turn_sending, sendings_from, sendings, SendsInOrder}
 use Rattle.amqp_engine.proofs.Cases.{if_case, if-true, if-false, and-left, and-right}
@@ -316,12 +316,12 @@ told-offer w p ss a can fits h links =
     let goal : map link_bytes (on_last (offer_sending p.at w e) ss) ≡ map link_bytes l.0 ++ (link_bytes l.1 ++ take (taken_by w) (offered e)) ∷ [] =
     ap (map link_bytes) (offer-last p.at w e ss l) ∙ map-append link_bytes l.0 (s' ∷ []) ∙ ap (λ x. map link_bytes l.0 ++ x ∷ []) after in
     written_as w (map link_bytes l.0) (link_bytes l.1) (map link_bytes (on_last (offer_sending p.at w e) ss)) before goal
-    where
-      written_as : (w : Wrote) (xs : List (List ℕ)) (x : List ℕ) (ys : List (List ℕ)) → a.links ≡ xs ++ x ∷ []
-          → ys ≡ xs ++ (x ++ take (taken_by w) (offered p.engine)) ∷ [] → (log_write (offered p.engine) w a).links ≡ ys
-      written_as (Took k) xs x ys before goal =
-          ap (on_last (λ link. link ++ take k (offered p.engine))) before ∙ on_last-append (λ link. link ++ take k (offered p.engine)) xs x ∙ sym goal
-      written_as NoMemory xs x ys before goal = before ∙ ap (λ y. xs ++ y ∷ []) (sym (append_nil x)) ∙ sym goal
+  where
+    written_as : (w : Wrote) (xs : List (List ℕ)) (x : List ℕ) (ys : List (List ℕ)) → a.links ≡ xs ++ x ∷ []
+        → ys ≡ xs ++ (x ++ take (taken_by w) (offered p.engine)) ∷ [] → (log_write (offered p.engine) w a).links ≡ ys
+    written_as (Took k) xs x ys before goal =
+        ap (on_last (λ link. link ++ take k (offered p.engine))) before ∙ on_last-append (λ link. link ++ take k (offered p.engine)) xs x ∙ sym goal
+    written_as NoMemory xs x ys before goal = before ∙ ap (λ y. xs ++ y ∷ []) (sym (append_nil x)) ∙ sym goal
 
 told-drain : (ws : List Wrote) (p : Progress) (ss : List Sending) (a : Log) → AreAnswers ws p → Sends p.engine ss → a.links ≡ map link_bytes ss
     → (log_offers (offers_from p.at ws p.engine) a).links ≡ map link_bytes (offers_sending p.at ws p.engine ss)
@@ -420,9 +420,9 @@ reads-link zero p = inl refl
 reads-link (suc n) p =
     if_case (λ (x : Progress). (x.engine.talk.link ≡ p.engine.talk.link) ⊎ (has_ended x.engine.talk ≡ true)) (goes p && can_read p.engine) (reads n (read_part p)) p
     (elim (leaves-row p.at (front_of p.engine) p.engine).link [
-      inl same ↦ elim (reads-link n (read_part p)) [ inl later ↦ inl (later ∙ same) | inr ended ↦ inr ended ]
+      | inl same ↦ elim (reads-link n (read_part p)) [ inl later ↦ inl (later ∙ same) | inr ended ↦ inr ended ]
       | inr ended ↦ inr (ap (λ (x : Progress). has_ended x.engine.talk) (reads-rest n (read_part p)
-      (ap (λ (b : Bool). b && not (is_more (front_of (read_one p.at p.engine)))) (ended-closed (read_one p.at p.engine).talk.link ended))) ∙ ended)
+          (ap (λ (b : Bool). b && not (is_more (front_of (read_one p.at p.engine)))) (ended-closed (read_one p.at p.engine).talk.link ended))) ∙ ended)
     ])
     (inl refl)
 
@@ -475,13 +475,15 @@ told-turn u e ss a may plays h synced links =
     let P : ℕ → Type 0 = λ at. (log_offers (offers_from at u.notes.answers p.engine) c).links ≡ map link_bytes (offers_sending at u.notes.answers p.engine ss') in
     let drained = subst P (read-at u f) (told-drain u.notes.answers p ss' c may.applied.answers (sends-read u f ss (sends-asks e ss h)) step.0) in
     let after : (log_turn u e a).asked ≡ is_asked (step_engine u.at u.step u.bytes f).talk =
-    offers-asked (offers_of u f) c ∙ step.1 ∙ ap (asked_after u.step) asked ∙ sym (step-asked u.at u.step u.bytes f) in
-    (drained, synced-starved u.notes.starved u.at (written u f).engine (log_turn u e a) (λ whole running.
-    let link = drain-link u.notes.answers p in
-    elim (read-link u f whole) [
-      inl same ↦ after ∙ sym (ap is_asked_link (link ∙ same))
-      | inr ended ↦ absurd (not-both (has_ended (written u f).engine.talk) (ap (λ l. is_some (end_of_link l)) link ∙ ended) running)
-    ]))
+    offers-asked (offers_of u f) c ∙ step.1 ∙ ap (asked_after u.step) asked ∙ sym (step-asked u.at u.step u.bytes f) in (
+      drained,
+      synced-starved u.notes.starved u.at (written u f).engine (log_turn u e a) (λ whole running.
+          let link = drain-link u.notes.answers p in
+          elim (read-link u f whole) [
+            | inl same ↦ after ∙ sym (ap is_asked_link (link ∙ same))
+            | inr ended ↦ absurd (not-both (has_ended (written u f).engine.talk) (ap (λ l. is_some (end_of_link l)) link ∙ ended) running)
+          ]),
+    )
 
 told-turns : (us : List Turn) (e : Engine) (ss : List Sending) (a : Log) → AreTurns us e → PlaysTurns us e a → Sends e ss → IsSynced e a → a.links ≡ map link_bytes ss
     → (log_turns us e a).links ≡ map link_bytes (sendings_from us e ss)

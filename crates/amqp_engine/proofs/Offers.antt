@@ -1,18 +1,16 @@
 -- Offers one by one.
-use Rattle.std.proofs.Common.{◌≡◌, ◌<◌, ℕ, ◌+◌, ◌&&◌, nat_lt, Bool, true, false, IsTrue, IsFalse, MatchBool, IfSome, List, [], ◌∷◌, length, Option, option_map, refl, ap, sym, ◌∙◌, subst, arith, rules, length-drop}
+use Rattle.std.proofs.Common.{◌≡◌, ◌<◌, ℕ, ◌+◌, ◌&&◌, Bool, true, false, IsTrue, IsFalse, MatchBool, IfSome, List, [], ◌∷◌, length, Option, option_map, refl, ap, sym, ◌∙◌, subst, arith, rules, length-drop}
 use Rattle.std.proofs.lemmas.Bool.Decides.{nat_tests}
-use Rattle.amqp_session.specs.Talk.{Talk}
 use Rattle.amqp_session.specs.Rules.{present_at}
-use Rattle.amqp_session.specs.Writing.{taken}
 use Rattle.amqp_engine.specs.declared.port.Wrote.{Wrote}
 use Rattle.amqp_engine.specs.declared.port.Wrote.TheVariants.{Took, NoMemory}
 use Rattle.amqp_engine.specs.Log.{Log, log_write, IsWithin, PlansWrite}
 use Rattle.amqp_engine.specs.Engine.{Engine, can_write, commit_all, taken_by, wrote}
-use Rattle.amqp_engine.specs.Turn.{Progress, goes, is_before, offer_part, offered, answered, is_all, AreAnswers, CutsAfter}
+use Rattle.amqp_engine.specs.Turn.{Progress, goes, offer_part, offered, answered, is_all, AreAnswers, CutsAfter}
 use Rattle.amqp_engine.specs.Making.{making, Allows, Writes}
 use Rattle.amqp_engine.specs.Tell.{offers_from, log_offers, PlaysOffers, TellsOffers}
 use Rattle.amqp_engine.specs.Play.{waiting}
-use Rattle.amqp_engine.proofs.Cases.{and-true, is_before-Allows}
+use Rattle.amqp_engine.proofs.Cases.{is_before-Allows}
 use Rattle.amqp_engine.proofs.Keeping.{present-keeps, taken-keeps}
 use Rattle.amqp_engine.proofs.Telling.{tells-then}
 use Rattle.amqp_engine.proofs.Commits.{commits-keep, waiting-commits}

@@ -1,5 +1,5 @@
 -- Turns one after another.
-use Rattle.std.proofs.Common.{◌≡◌, ◌≤◌, ℕ, ◌+◌, false, List, [], ◌∷◌, ◌++◌, length, take, drop, Option, IfSome, option_map, refl, ap, sym, ◌∙◌, subst, arith, length-append}
+use Rattle.std.proofs.Common.{◌≡◌, ◌≤◌, ℕ, ◌+◌, false, true, List, [], ◌∷◌, ◌++◌, length, take, drop, Option, Some, None, IfSome, option_map, refl, ap, sym, ◌∙◌, subst, arith, length-append}
 use Rattle.std.proofs.lemmas.Grind.{common_steps}
 use Rattle.amqp_session.specs.Talk.{has_ended}
 use Rattle.amqp_engine.specs.declared.port.Step.{Step}
@@ -67,6 +67,31 @@ Runs-append m n a b c x y z r running s =
       within = omega (arith, length-append r.us s.us, r.within, s.within);
       all = λ h. omega (arith, length-append r.us s.us, r.all running, s.all h);
     }
+
+-- a run that takes no turn touches nothing
+told-none : (log : Option Log) (e : Engine) → option_map (log_turns [] e) log ≡ log
+told-none None e = refl
+told-none (Some a) e = refl
+
+untouched : (us : List Turn) (e e' : Engine) (log log' : Option Log) → us ≡ [] → Leads us e e' → TellsTurns us e log log' → (e' ≡ e) × (log' ≡ log)
+untouched us e e' log log' none leads tells =
+    (sym leads.leaves ∙ ap (λ vs. turns vs e) none, tells.told ∙ ap (λ vs. option_map (log_turns vs e) log) none ∙ told-none log e)
+
+no-turns : (us : List Turn) → length us ≤ 0 → us ≡ []
+no-turns [] h = refl
+no-turns (u ∷ us) h = absurd (omega arith)
+
+over-turns : (us : List Turn) (e : Engine) → has_ended e.talk ≡ true → AreTurns us e → us ≡ []
+over-turns [] e over may = refl
+over-turns (u ∷ us) e over may =
+    let running : has_ended e.talk ≡ false = may.0.running in
+    cc
+
+pub Runs-none : (e e' : Engine) (log log' : Option Log) → Runs 0 e e' log log' → (e' ≡ e) × (log' ≡ log)
+Runs-none e e' log log' r = untouched r.us e e' log log' (no-turns r.us r.within) r.leads r.tells
+
+pub Runs-over : (n : ℕ) (e e' : Engine) (log log' : Option Log) → has_ended e.talk ≡ true → Runs n e e' log log' → (e' ≡ e) × (log' ≡ log)
+Runs-over n e e' log log' over r = untouched r.us e e' log log' (over-turns r.us e over r.leads.may) r.leads r.tells
 
 -- a turn is told: its asking, its step and its offers
 tells-turn : (u : Turn) (e : Engine) (log asked stepped last : Option Log) → asked ≡ option_map (log_asks e) log

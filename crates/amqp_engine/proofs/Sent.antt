@@ -1,15 +1,14 @@
 -- The frames of a link, as their bytes are taken.
-use Rattle.std.proofs.Common.{◌≡◌, ◌≢◌, ◌≤◌, ◌<◌, ℕ, zero, suc, ◌+◌, ◌-◌, ◌==◌, ◌&&◌, not, nat_le, Bool, true, false, if◌then◌else◌, List, [], ◌∷◌, ◌++◌, length, take, drop, map, Option, Some, None, slice_get, slice_set, refl, ap, sym, ◌∙◌, subst, arith, append_assoc, length-append}
-use Rattle.std.specs.List.{flat_map}
-use Rattle.std.proofs.lemmas.Grind.{common_steps, flat_map-append}
+use Rattle.std.proofs.Common.{◌≡◌, ◌≢◌, ◌≤◌, ◌<◌, ℕ, ◌+◌, ◌-◌, nat_le, Bool, true, false, List, [], ◌∷◌, ◌++◌, length, take, drop, map, Some, slice_get, slice_set, refl, ap, sym, ◌∙◌, arith, append_assoc, length-append}
+use Rattle.std.proofs.lemmas.Grind.{common_steps}
 use Rattle.std.proofs.lemmas.Bool.Decides.{nat_tests}
-use Rattle.std.proofs.lemmas.List.{take-append-drop, take-append-le, drop-append-le, length-take-le, length-drop}
-use Rattle.std.proofs.Math.Seq.{take-append_seam, take-append-add, drop-append_seam, drop-append-add, set-append_seam}
+use Rattle.std.proofs.lemmas.List.{take-append-drop, drop-append-le, length-take-le, length-drop}
+use Rattle.std.proofs.Math.Seq.{drop-append_seam, drop-append-add, set-append_seam}
 use Rattle.amqp_frame.specs.declared.frame.Frame.{Frame}
 use Rattle.amqp_frame.specs.Frames.{encoding}
 use Rattle.amqp_session.specs.declared.committed.Mark.{Mark}
 use Rattle.amqp_engine.specs.Log.{last_set, on_last}
-use Rattle.amqp_engine.specs.Sending.{Sending, encodings, link_bytes, frames_sent, IsBegun, SendsInOrder}
+use Rattle.amqp_engine.specs.Sending.{encodings, IsBegun}
 use Rattle.amqp_engine.proofs.Cases.{if-true, if-false}
 use Rattle.amqp_engine.proofs.Keeping.{left_after}
 use Rattle.amqp_engine.proofs.Commits.{encoding-some}
@@ -104,12 +103,12 @@ advance-first true f fs last bytes n begun h le later whole =
       frames = ap (λ x. f ∷ x) next.frames;
       begun = next.begun;
       marks =
-        if-true (nat_le (length (encoding f) - length last) n) (left_after (map mark_of fs) (n - (length (encoding f) - length last)))
-            (record { left = length (encoding f) - length last - n } ∷ map mark_of fs) whole
-            ∙ ap (left_after (map mark_of fs)) less ∙ ap (λ x. left_after x k) (sym (marks-none fs)) ∙ next.marks;
+          if-true (nat_le (length (encoding f) - length last) n) (left_after (map mark_of fs) (n - (length (encoding f) - length last)))
+          (record { left = length (encoding f) - length last - n } ∷ map mark_of fs) whole
+          ∙ ap (left_after (map mark_of fs)) less ∙ ap (λ x. left_after x k) (sym (marks-none fs)) ∙ next.marks;
       left = next.left ∙ ap (λ x. next.part ++ x) (sym gone);
       count =
-        omega (arith, next.count, length-append (encoding f) (encodings next.sent), length-append (encoding f ++ encodings next.sent) next.part, length-append (encodings next.sent) next.part);
+          omega (arith, next.count, length-append (encoding f) (encodings next.sent), length-append (encoding f ++ encodings next.sent) next.part, length-append (encodings next.sent) next.part);
     }
 advance-first false f fs last bytes n begun h le later cut =
     let rest : List ℕ = begun.0 in
@@ -131,9 +130,9 @@ advance-first false f fs last bytes n begun h le later cut =
       frames = refl;
       begun = (drop n rest, some-list (drop n rest) some, begun.2 ∙ sym whole);
       marks =
-        if-false (nat_le (length (encoding f) - length last) n) (left_after (map mark_of fs) (n - (length (encoding f) - length last)))
-            (record { left = length (encoding f) - length last - n } ∷ map mark_of fs) cut
-            ∙ ap (λ (m : ℕ). record { left = m } ∷ map mark_of fs) less;
+          if-false (nat_le (length (encoding f) - length last) n) (left_after (map mark_of fs) (n - (length (encoding f) - length last)))
+          (record { left = length (encoding f) - length last - n } ∷ map mark_of fs) cut
+          ∙ ap (λ (m : ℕ). record { left = m } ∷ map mark_of fs) less;
       left = ap (λ x. x ++ encodings fs) (begun.2 ∙ sym whole) ∙ append_assoc part (drop n rest) (encodings fs) ∙ ap (λ x. part ++ x) (sym gone);
       count = sym count;
     }

@@ -1,5 +1,5 @@
 -- A script that is played: what its port answers is determined, and so are the turns.
-use Rattle.std.specs.Prelude.{◌≡◌, ℕ, zero, suc, ◌+◌, min, if◌then◌else◌, List, [], ◌∷◌, length, Option, Some, None, IsSome}
+use Rattle.std.specs.Prelude.{◌≡◌, ℕ, zero, suc, ◌+◌, min, if◌then◌else◌, List, [], ◌∷◌, length, Option, Some, None}
 use Rattle.amqp_session.specs.Talk.{has_ended}
 use Rattle.amqp_engine.specs.declared.port.Step.TheVariants.{Tick}
 use Rattle.amqp_engine.specs.declared.port.Wrote.{Wrote}

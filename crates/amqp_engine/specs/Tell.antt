@@ -1,5 +1,5 @@
 -- What a port tells of turns: a second fold over them, and what a port that plays a script does.
-use Rattle.std.specs.Prelude.{◌≡◌, ℕ, ◌≤◌, if◌then◌else◌, Bool, false, List, [], ◌∷◌, length, Option, IfSome, option_map}
+use Rattle.std.specs.Prelude.{◌≡◌, ℕ, ◌≤◌, if◌then◌else◌, false, List, [], ◌∷◌, length, Option, IfSome, option_map}
 use Rattle.amqp_session.specs.Talk.{has_ended}
 use Rattle.amqp_engine.specs.declared.port.Step.{Step}
 use Rattle.amqp_engine.specs.declared.port.Wrote.{Wrote}

@@ -1,6 +1,6 @@
 //! What holds of all turns.
 
-ghost use Rattle.std.specs.Prelude.{◌≡◌, ℕ, ◌+◌, [], false, List, Option, map};
+ghost use Rattle.std.specs.Prelude.{◌≡◌, ℕ, ◌+◌, [], false, true, List, Option, map};
 ghost use Rattle.std.specs.List.{AllByRecursion};
 ghost use Rattle.amqp_session.specs.Talk.{has_ended};
 ghost use Rattle.amqp_engine.specs.Log.{Log};
@@ -9,6 +9,14 @@ ghost use Rattle.amqp_engine.specs.Turn.{Turn, turn, IsTurn, AreTurns};
 ghost use Rattle.amqp_engine.specs.Tell.{Runs, PlaysTurns, log_turns};
 ghost use Rattle.amqp_engine.specs.Sending.{sendings, link_bytes, SendsInOrder};
 ghost use Rattle.amqp_engine.specs.Unread.{IsRead};
+
+/// A run that may take no turn, and one of a session that had ended, take no step and write
+/// nothing.
+pub fn a_run_without_turns_touches_nothing()
+    ensures allowed { (e e' : Engine) (log log' : Option Log) → Runs 0 e e' log log' → (e' ≡ e) × (log' ≡ log) }
+    ensures ended { (allowed : ℕ) (e e' : Engine) (log log' : Option Log) → has_ended e.talk ≡ true → Runs allowed e e' log log'
+        → (e' ≡ e) × (log' ≡ log) }
+{}
 
 /// A run that follows one that took all its turns goes on: both together are one run.
 pub fn a_run_goes_on()

@@ -146,8 +146,8 @@ fn took(alloc: Global, port: &MemoryPort, frames: &[&str]) -> Result<bool, Fail>
 }
 
 // Whether a run took all its turns.
-fn goes_on(result: amqp_session::Result<()>) -> bool {
-    match result {
+fn goes_on(end: amqp_session::Result<()>) -> bool {
+    match end {
         Ok(()) => false,
         Err(error) => matches!(error.kind(), ErrorKind::OutOfTurns),
     }
@@ -159,12 +159,14 @@ fn is_opened_and_closed(alloc: Global, lines: &[Line], turns: u64) -> Result<boo
     let mut engine = IoLoop::new(alloc)?;
     let end = engine.run(&mut port, turns);
     let frames = [HEADER, START_OK, TUNE_OK, OPEN, CLOSE];
-    Ok(end.is_ok()
-        && took(alloc, &port, &frames)?
-        && matches!(engine.answer(0), Some(Ok(Answer::Connected)))
-        && matches!(engine.answer(1), Some(Ok(Answer::Done)))
-        && engine.answer(2).is_none()
-        && engine.starved().is_none())
+    Ok(
+        end.is_ok()
+            && took(alloc, &port, &frames)?
+            && matches!(engine.answer(0), Some(Ok(Answer::Connected)))
+            && matches!(engine.answer(1), Some(Ok(Answer::Done)))
+            && engine.answer(2).is_none()
+            && engine.starved().is_none(),
+    )
 }
 
 #[test]
@@ -234,6 +236,7 @@ fn what_is_not_built_ends_the_session(rt: HostRuntime) -> Result<(), Fail> {
 }
 
 /// A port that gives the steps of a script, takes nothing, and refuses memory at its last write.
+#[derive(Drop)]
 struct Refusing {
     script: MemoryPort,
     writes_left: u64,
@@ -271,7 +274,6 @@ fn starved_after(alloc: Global, lines: &[Line], writes: u64) -> Result<Option<u6
     let mut engine = IoLoop::new(alloc)?;
     let end = engine.run(&mut port, 10);
     let starved = engine.starved();
-    let Refusing { .. } = port;
     match end {
         Ok(()) => Ok(None),
         Err(error) if matches!(error.kind(), ErrorKind::NoMemory) => Ok(starved),
@@ -285,15 +287,33 @@ fn parts_are_counted(rt: HostRuntime) -> Result<(), Fail> {
     // The link and the offer.
     assert_eq!(rt; starved_after(alloc, &[Line::Link(None)], 1)?, Some(2));
     // Room is no part, a tick is one, and so is a command.
-    assert_eq!(rt; starved_after(alloc, &[Line::Link(None), Line::Room(1)], 2)?, Some(1));
-    assert_eq!(rt; starved_after(alloc, &[Line::Link(None), Line::Tick], 2)?, Some(2));
-    assert_eq!(rt; starved_after(alloc, &[Line::Link(None), Line::Shut], 2)?, Some(2));
+    assert_eq!(rt;
+        starved_after(alloc, &[Line::Link(None), Line::Room(1)], 2)?,
+        Some(1)
+    );
+    assert_eq!(rt;
+        starved_after(alloc, &[Line::Link(None), Line::Tick], 2)?,
+        Some(2)
+    );
+    assert_eq!(rt;
+        starved_after(alloc, &[Line::Link(None), Line::Shut], 2)?,
+        Some(2)
+    );
     // A link that was not asked for is none.
-    assert_eq!(rt; starved_after(alloc, &[Line::Link(None), Line::Link(None)], 2)?, Some(1));
+    assert_eq!(rt;
+        starved_after(alloc, &[Line::Link(None), Line::Link(None)], 2)?,
+        Some(1)
+    );
     // The piece, the frame and the offer.
-    assert_eq!(rt; starved_after(alloc, &[Line::Link(None), Line::Bytes(START)], 2)?, Some(3));
+    assert_eq!(rt;
+        starved_after(alloc, &[Line::Link(None), Line::Bytes(START)], 2)?,
+        Some(3)
+    );
     // A piece that holds no whole frame.
-    assert_eq!(rt; starved_after(alloc, &[Line::Link(None), Line::Bytes("01")], 2)?, Some(2));
+    assert_eq!(rt;
+        starved_after(alloc, &[Line::Link(None), Line::Bytes("01")], 2)?,
+        Some(2)
+    );
     Ok(())
 }
 
@@ -310,7 +330,9 @@ fn turns_by_hand(rt: HostRuntime) -> Result<(), Fail> {
     assert!(rt; took(alloc, &port, &[HEADER])?);
     assert!(rt; matches!(engine.command(shut(alloc)?), Ok(Some(1))));
     match engine.answer(1) {
-        Some(Err(error)) => assert!(rt; matches!(error.kind(), ErrorKind::InvalidConnectionState(_))),
+        Some(Err(error)) => assert!(rt;
+            matches!(error.kind(), ErrorKind::InvalidConnectionState(_))
+        ),
         _ => assert!(rt; false),
     }
     Ok(())

@@ -1,4 +1,4 @@
-use Rattle.std.proofs.Common.{◌≡◌, ◌++◌, ◌-◌, min, length, take, append_assoc, arith}
+use Rattle.std.proofs.Common.{append_assoc, arith}
 use Rattle.std.proofs.lemmas.Grind.{common_steps}
 use Rattle.amqp_engine.proofs.Bytes.{take-both}
 use Rattle.amqp_engine.proofs.taken_bytes.TakenBytes.append.Goals as goal

@@ -1,5 +1,5 @@
-use Rattle.std.proofs.Common.{◌≡◌, ◌∙◌, [], Some, None, length, ap, sym, refl, arith}
-use Rattle.amqp_engine.specs.Engine.{Engine, starve_at}
+use Rattle.std.proofs.Common.{◌≡◌, ◌∙◌, [], Some, None, ap, sym, refl, arith}
+use Rattle.amqp_engine.specs.Engine.{starve_at}
 use Rattle.amqp_engine.specs.Turn.{is_part}
 use Rattle.amqp_engine.specs.Making.{making}
 use Rattle.amqp_engine.proofs.Offers.{writes-cut}

@@ -1,4 +1,4 @@
-use Rattle.std.proofs.Common.{◌≡◌, length, arith}
+use Rattle.std.proofs.Common.{arith}
 use Rattle.std.proofs.lemmas.Grind.{common_steps}
 use Rattle.amqp_engine.proofs.Keeping.{frame-committed}
 use Rattle.amqp_engine.proofs.wire.Wire.read_next.Goals as goal
