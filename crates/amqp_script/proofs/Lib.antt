@@ -1,0 +1,11 @@
+pub mod Cuts
+pub mod LineLemmas
+pub mod NumberLemmas
+pub mod DataLemmas
+pub mod Steps
+pub mod Pieces
+pub mod Reports
+pub mod Streams
+pub mod Replaying
+pub mod Statuses
+pub mod Lone

@@ -1,0 +1,16 @@
+//! How long a script and its parts may be.
+
+/// The most bytes of a script.
+pub const SCRIPT_BYTES: usize = 8_388_608;
+
+/// As much as is read of a source: one byte more shows that there are too many.
+pub const MOST_READ: usize = SCRIPT_BYTES + 1;
+
+/// The most lines of a script.
+pub const SCRIPT_LINES: u64 = 100_000;
+
+/// The most bytes of one piece.
+pub const PIECE_BYTES: usize = 4096;
+
+/// The most bytes of the text of a close.
+pub const TEXT_BYTES: usize = 255;
