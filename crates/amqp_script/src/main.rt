@@ -57,3 +57,6 @@ fn run(rt: &HostRuntime) -> Result<u8, NoMemory> {
 fn main(rt: HostRuntime) -> ExitCode {
     ExitCode::from(run(&rt).unwrap_or(NO_MEMORY))
 }
+
+#[cfg(test)]
+mod tests;
