@@ -1,5 +1,5 @@
 -- The bytes of parts, part by part.
-use Rattle.std.proofs.Common.{◌≡◌, ◌+◌, ◌==◌, ℕ, suc, List, [], ◌∷◌, ◌++◌, length, Option, Some, None, refl, sym, ap, ◌∙◌, append_assoc}
+use Rattle.std.proofs.Common.{◌≡◌, ◌+◌, ℕ, List, [], ◌++◌, length, Option, Some, None, refl, sym, ap, ◌∙◌, append_assoc}
 use Rattle.std.specs.List.{slice_split}
 use Rattle.amqp_script.specs.Data.{is_plus, joined, part_bytes, parts_bytes}
 use Rattle.amqp_script.specs.Words.{before_byte, after_byte}

@@ -3,6 +3,7 @@ pub mod LineLemmas
 pub mod NumberLemmas
 pub mod DataLemmas
 pub mod Steps
+pub mod MostRead
 pub mod Pieces
 pub mod Reports
 pub mod Streams

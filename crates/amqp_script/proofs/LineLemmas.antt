@@ -1,6 +1,6 @@
 -- The lines of a text, taken off one by one.
-use Rattle.std.proofs.Common.{◌≡◌, ◌<◌, ◌+◌, ◌*◌, ◌==◌, ℕ, suc, List, [], ◌∷◌, length, drop, slice_get, Option, Some, None, refl, sym, ap, ◌∙◌, arith}
-use Rattle.std.specs.List.{slice_split, count_by}
+use Rattle.std.proofs.Common.{◌≡◌, ◌<◌, ◌+◌, ℕ, List, [], ◌∷◌, length, drop, slice_get, Some, None, refl, sym, ap, ◌∙◌, arith}
+use Rattle.std.specs.List.{slice_split}
 use Rattle.std.specs.Str.Lines.{strip_carriage_return}
 use Rattle.std.proofs.lemmas.List.Splits.{length-slice_split}
 use Rattle.amqp_script.specs.Lines.{Line, is_line_feed, last_line, lines_of_parts, lines_from}
@@ -12,13 +12,13 @@ abbrev pub fed_line : ℕ → ℕ → List ℕ → Line
 fed_line number before part =
     record { number = number; content = strip_carriage_return part; end = before + length part + 1 }
 
-first_of_parts : (number before : ℕ) (part : List ℕ) (parts : List (List ℕ)) → 0 < length parts
+pub first_of_parts : (number before : ℕ) (part : List ℕ) (parts : List (List ℕ)) → 0 < length parts
     → lines_of_parts number before (part ∷ parts)
     ≡ fed_line number before part ∷ lines_of_parts (number + 1) (before + length part + 1) parts
 first_of_parts number before part [] some = absurd (omega arith)
 first_of_parts number before part (next ∷ parts) some = refl
 
-some_part : (text : List ℕ) → 0 < length (slice_split is_line_feed text)
+pub some_part : (text : List ℕ) → 0 < length (slice_split is_line_feed text)
 some_part text = omega (arith, length-slice_split is_line_feed text)
 
 -- a line feed follows the first line

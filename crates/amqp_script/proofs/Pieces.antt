@@ -5,7 +5,6 @@ use Rattle.std.specs.Str.{bytes_eq}
 use Rattle.std.proofs.lemmas.Bool.Decides.{nat_tests}
 use Rattle.amqp_session.specs.declared.command.Cmd.TheVariants.{CloseConnection}
 use Rattle.amqp_engine.specs.declared.given.Given.{Given}
-use Rattle.amqp_engine.specs.declared.given.GivenStep.{GivenStep}
 use Rattle.amqp_engine.specs.declared.given.GivenStep.TheVariants.{Link, Bytes, Room, Command}
 use Rattle.amqp_engine.specs.Plan.{IsGivenPiece, ArePieces}
 use Rattle.amqp_script.specs.declared.grammar.Said.{Said}

@@ -1,5 +1,5 @@
 -- A replay, from the contracts of the port and the engine.
-use Rattle.std.proofs.Common.{◌≡◌, ◌∙◌, ℕ, List, false, Option, Some, None, is_some, option_map, IfSome, length, ap, sym, subst, refl}
+use Rattle.std.proofs.Common.{◌≡◌, ℕ, List, false, Option, Some, None, is_some, option_map, IfSome, length, ap, sym, subst, refl}
 use Rattle.std.specs.Prelude.{IsSome}
 use Rattle.amqp_session.specs.Talk.{Talk}
 use Rattle.amqp_engine.specs.declared.given.Given.{Given}

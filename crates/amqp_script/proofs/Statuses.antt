@@ -1,5 +1,5 @@
 -- Which statuses a printout has.
-use Rattle.std.proofs.Common.{◌≡◌, ◌≢◌, ◌⊎◌, inl, inr, ◌++◌, ℕ, List, take, Option, Some, None, IfSome, Result, Ok, Err, ap, sym, ◌∙◌, subst, arith, refl}
+use Rattle.std.proofs.Common.{◌≡◌, ◌≢◌, ◌⊎◌, inl, inr, ℕ, List, take, Option, Some, None, IfSome, Result, Ok, Err, ap, ◌∙◌, subst, arith}
 use Rattle.amqp_session.specs.declared.error.ErrorKind.{ErrorKind}
 use Rattle.amqp_session.specs.Talk.{end_of}
 use Rattle.amqp_engine.specs.declared.given.Given.{Given}
@@ -9,8 +9,8 @@ use Rattle.amqp_engine.specs.Play.{replayed}
 use Rattle.amqp_script.specs.declared.limits.TheConstants.{MOST_READ}
 use Rattle.amqp_script.specs.declared.status.TheConstants.{USAGE, SOURCE_FAILED, SINK_FAILED, NO_MEMORY}
 use Rattle.amqp_script.specs.Grammar.{parsed}
-use Rattle.amqp_script.specs.Report.{Printout}
-use Rattle.amqp_script.specs.Top.{end_status, printout, Prints, AnswersScript, Answers, IsSilent, IsStatus}
+use Rattle.amqp_script.proofs.MostRead.{parsed-most}
+use Rattle.amqp_script.specs.Top.{end_status, printout, TellsLinks, Prints, Answers, AnswersSome, IsSilent, IsStatus}
 
 -- a status with which something is printed, though nothing failed
 pub record IsLoud (status : ℕ) : Type 0 where
@@ -28,9 +28,34 @@ pub printout-IsLoud : (script : Result (List Given) ℕ) → IsLoud (printout sc
 printout-IsLoud (Err number) = record { known = λ h. omega (arith, h); read = λ h. omega (arith, h); written = λ h. omega (arith, h); memory = λ h. omega (arith, h) }
 printout-IsLoud (Ok gs) = loud_end (end_of (talk (replayed gs)))
 
--- a script that was read and answered
-pub Answers-read : (left : Option (List ℕ)) (log : Option Log) (before after : Option (List ℕ)) (status : ℕ) (script : List ℕ)
-    → IfSome left (λ all. script ≡ take MOST_READ all) → IsSilent status ⊎ AnswersScript script log before after status
-    → IsSilent status ⊎ Answers left log before after status
-Answers-read left log before after status script read (inl silent) = inl silent
-Answers-read left log before after status script read (inr answers) = inr (record { script = script; read = read; answers = answers })
+-- ---- a script that was read and answered
+
+pub AnswersSome-read : (left : Option (List ℕ)) (log : Option Log) (before after : Option (List ℕ)) (status : ℕ) (script : List ℕ)
+    → IfSome left (λ all. script ≡ take MOST_READ all) → IsSilent status ⊎ Answers script log before after status
+    → IsSilent status ⊎ AnswersSome left log before after status
+AnswersSome-read left log before after status script read (inl silent) = inl silent
+AnswersSome-read left log before after status script read (inr answers) =
+    inr (record { script = script; read = read; answers = answers })
+
+-- where the source told all that it had, all of it was answered
+pub Answers-told : (left : Option (List ℕ)) (log : Option Log) (before after : Option (List ℕ)) (status : ℕ) (script : List ℕ)
+    → IfSome left (λ all. script ≡ take MOST_READ all) → IsSilent status ⊎ Answers script log before after status
+    → IfSome left (λ all. IsSilent status ⊎ Answers all log before after status)
+Answers-told None log before after status script read outcome = tt
+Answers-told (Some all) log before after status script read (inl silent) = inl silent
+Answers-told (Some all) log before after status script read (inr answers) =
+    let same : parsed script ≡ parsed all = ap parsed read ∙ parsed-most all in
+    let P : Result (List Given) ℕ → Type 0 = λ r. TellsLinks r log in
+    let Q : Result (List Given) ℕ → Type 0 = λ r. Prints (printout r) before after status in
+    inr (record { links = subst P same answers.links; prints = subst Q same answers.prints })
+
+of_prints : (script : List ℕ) (before after : Option (List ℕ)) (status : ℕ) → Prints (printout (parsed script)) before after status
+    → IsStatus script status
+of_prints script before after status (inl whole) = inr (inr whole.0)
+of_prints script before after status (inr front) = inr (inl front.0)
+
+pub IsStatus-told : (left : Option (List ℕ)) (log : Option Log) (before after : Option (List ℕ)) (status : ℕ)
+    → IfSome left (λ all. IsSilent status ⊎ Answers all log before after status) → IfSome left (λ all. IsStatus all status)
+IsStatus-told None log before after status outcome = tt
+IsStatus-told (Some all) log before after status (inl silent) = inl silent
+IsStatus-told (Some all) log before after status (inr answers) = of_prints all before after status answers.prints

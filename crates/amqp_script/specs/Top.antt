@@ -55,16 +55,16 @@ Prints p before after status =
 
 -- ---- what the program did
 
--- a script was answered: the sink has what is printed of it, and the port the links
-pub record AnswersScript (script : List ℕ) (log : Option Log) (before after : Option (List ℕ)) (status : ℕ) : Type 0 where
+-- a script was answered: the sink took what is printed of it, and the port tells the links
+pub record Answers (script : List ℕ) (log : Option Log) (before after : Option (List ℕ)) (status : ℕ) : Type 0 where
   pub links : TellsLinks (parsed script) log
   pub prints : Prints (printout (parsed script)) before after status
 
--- a script was read, which is all that the source had, or as much of it as is ever read, and was answered
-pub record Answers (left : Option (List ℕ)) (log : Option Log) (before after : Option (List ℕ)) (status : ℕ) : Type 0 where
+-- some script was answered, which is all that the source had, or as much of it as is ever read
+pub record AnswersSome (left : Option (List ℕ)) (log : Option Log) (before after : Option (List ℕ)) (status : ℕ) : Type 0 where
   pub script : List ℕ
   pub read : IfSome left (λ all. script ≡ take MOST_READ all)
-  pub answers : AnswersScript script log before after status
+  pub answers : Answers script log before after status
 
 -- wrong words, a source that failed, and want of memory print nothing
 abbrev pub IsSilent : ℕ → Type 0

@@ -1,13 +1,12 @@
 //! The program, over what is handed to it.
 
-ghost use Rattle.std.specs.Prelude.{◌≡◌, ◌≢◌, ◌⊎◌, ◌↔◌, [], ◌∷◌, Ok, IfOk, IfSome, OnOk, IsTrue, take, codes};
+ghost use Rattle.std.specs.Prelude.{◌≡◌, ◌≢◌, ◌⊎◌, ◌↔◌, [], ◌∷◌, Ok, IfOk, IfSome, OnOk, IsTrue, codes};
 ghost use Rattle.amqp_engine.specs.Plan.{ArePieces};
 ghost use Rattle.amqp_script.specs.Ends.{Rose};
 ghost use Rattle.amqp_script.specs.Grammar.{parsed};
-ghost use Rattle.amqp_script.specs.Top.{printout, end_status, TellsLinks, AnswersScript, Answers, IsSilent, IsStatus};
+ghost use Rattle.amqp_script.specs.Top.{printout, end_status, TellsLinks, Answers, AnswersSome, IsSilent, IsStatus};
 
 use crate::ends::{Sink, Source};
-use crate::limits::MOST_READ;
 use crate::report::{Printout, refusal, report};
 use crate::script::{Script, parse};
 use crate::status::{
@@ -31,9 +30,11 @@ pub fn top<S: Source, K: Sink, P: ScriptedPort>(
     ensures source_failed { result ≡ SOURCE_FAILED → Rose (S.faults source.old) (S.faults source.new) }
     ensures sink_failed { result ≡ SINK_FAILED → Rose (K.faults sink.old) (K.faults sink.new) }
     ensures silent { IsSilent result → K.held sink.new ≡ K.held sink.old }
-    ensures status { IfSome (S.left source.old) (λ all. IsStatus (take MOST_READ all) result) }
-    ensures outcome { IsSilent result
-        ⊎ Answers (S.left source.old) (P.log port.new) (K.held sink.old) (K.held sink.new) result }
+    ensures status { IfSome (S.left source.old) (λ script. IsStatus script result) }
+    ensures outcome { IfSome (S.left source.old) (λ script. IsSilent result
+        ⊎ Answers script (P.log port.new) (K.held sink.old) (K.held sink.new) result) }
+    ensures some_script { IsSilent result
+        ⊎ AnswersSome (S.left source.old) (P.log port.new) (K.held sink.old) (K.held sink.new) result }
 {
     if !is_replay(words) {
         return USAGE;
@@ -60,7 +61,7 @@ fn answer<K: Sink, P: ScriptedPort>(alloc: Global, script: &[u8], sink: &mut K, 
     ensures sink_failed { result ≡ SINK_FAILED → Rose (K.faults sink.old) (K.faults sink.new) }
     ensures silent { IsSilent result → K.held sink.new ≡ K.held sink.old }
     ensures outcome { IsSilent result
-        ⊎ AnswersScript script.now (P.log port.new) (K.held sink.old) (K.held sink.new) result }
+        ⊎ Answers script.now (P.log port.new) (K.held sink.old) (K.held sink.new) result }
 {
     match print(alloc, script, port) {
         Ok(printout) => match write_all(sink, printout.as_bytes()) {

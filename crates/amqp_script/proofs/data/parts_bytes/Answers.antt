@@ -1,4 +1,4 @@
-use Rattle.std.proofs.Common.{◌≡◌, ◌∙◌, ◌++◌, ℕ, List, Option, Some, None, ap, sym}
+use Rattle.std.proofs.Common.{◌∙◌, ◌++◌, ℕ, List, Option, Some, ap, sym}
 use Rattle.std.specs.Option.{option_copied}
 use Rattle.amqp_script.specs.Data.{joined}
 use Rattle.amqp_script.proofs.DataLemmas.{rest_bytes, parts_bytes-cut, joined-none, joined-more}

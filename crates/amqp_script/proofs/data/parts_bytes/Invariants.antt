@@ -1,5 +1,5 @@
 -- The bytes so far, before those of the parts that are left, are those of all parts.
-use Rattle.std.proofs.Common.{◌≡◌, ℕ, Some}
+use Rattle.std.proofs.Common.{◌≡◌, Some}
 use Rattle.std.specs.List.{slice_split}
 use Rattle.std.specs.Option.{option_copied}
 use Rattle.amqp_script.specs.Data.{joined, parts_bytes, is_plus}

@@ -1,4 +1,4 @@
-use Rattle.std.proofs.Common.{◌≡◌, ◌∙◌, ◌+◌, ◌-◌, ◌++◌, ℕ, List, ap, sym, subst, append_assoc, arith}
+use Rattle.std.proofs.Common.{◌∙◌, ◌+◌, ◌-◌, ◌++◌, ℕ, List, ap, sym, subst, append_assoc, arith}
 use Rattle.std.specs.String.{string_bytes}
 use Rattle.amqp_session.specs.Talk.{Talk}
 use Rattle.amqp_script.specs.Report.{answer_line}

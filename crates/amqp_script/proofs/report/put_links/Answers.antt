@@ -1,4 +1,4 @@
-use Rattle.std.proofs.Common.{◌≡◌, ◌∙◌, ◌+◌, ◌++◌, ℕ, List, ap, sym, append_assoc}
+use Rattle.std.proofs.Common.{◌∙◌, ◌+◌, ◌++◌, ℕ, List, ap, sym, append_assoc}
 use Rattle.std.specs.String.{string_bytes}
 use Rattle.amqp_script.specs.Report.{link_line}
 use Rattle.amqp_script.proofs.Reports.{links_from, links_from-step}

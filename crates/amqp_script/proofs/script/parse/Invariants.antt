@@ -1,5 +1,5 @@
 -- The steps so far, before those of the lines that are left, are those of the text.
-use Rattle.std.proofs.Common.{◌≡◌, ℕ, length}
+use Rattle.std.proofs.Common.{◌≡◌, length}
 use Rattle.amqp_engine.specs.Plan.{ArePieces}
 use Rattle.amqp_script.specs.Grammar.{parsed, steps_of}
 use Rattle.amqp_script.proofs.Steps.{steps_before}

@@ -1,4 +1,3 @@
-use Rattle.std.proofs.Common.{◌∙◌, sym}
 use Rattle.amqp_script.proofs.Lone.{is_lone}
 use Rattle.amqp_script.proofs.top.is_replay.Goals as goal
 

@@ -1,4 +1,4 @@
-use Rattle.std.proofs.Common.{◌≡◌, ◌-◌, ◌++◌, ℕ, List, Option, take, drop, length, option_map, arith, subst}
+use Rattle.std.proofs.Common.{◌≡◌, ◌-◌, ◌++◌, ℕ, List, take, drop, length, option_map, arith, subst}
 use Rattle.std.proofs.lemmas.Grind.{common_steps}
 use Rattle.amqp_script.proofs.Streams.{TookAll-more}
 use Rattle.amqp_script.proofs.transfer.write_all.Goals as goal
