@@ -1,22 +1,55 @@
 -- The texts of errors.
 use Rattle.std.specs.Prelude.{ℕ, List, ◌++◌, codes}
 use Rattle.std.specs.Fmt.{decimal}
+use Rattle.amqp_types.specs.Words.{text_of as word_text}
 use Rattle.amqp_session.specs.declared.state.ConnectionState.{ConnectionState}
-use Rattle.amqp_session.specs.declared.state.ConnectionState.TheVariants.{Initial, Connecting, Connected, Closing, Closed, Reconnecting, Error}
+use Rattle.amqp_session.specs.declared.state.ConnectionState.TheVariants as connection
+use Rattle.amqp_session.specs.declared.state.ChannelState.{ChannelState}
+use Rattle.amqp_session.specs.declared.state.ChannelState.TheVariants as channel
+use Rattle.amqp_session.specs.declared.io_fault.IoFault.{IoFault}
+use Rattle.amqp_session.specs.declared.io_fault.IoFault.TheVariants.{Aborted, Refused, Reset, BrokenPipe, WouldBlock, Interrupted, Other}
 use Rattle.amqp_session.specs.declared.error.ErrorKind.{ErrorKind}
-use Rattle.amqp_session.specs.declared.error.ErrorKind.TheVariants.{InvalidConnectionState, OutOfTurns, NoMemory, Unbuilt}
+use Rattle.amqp_session.specs.declared.error.ErrorKind.TheVariants.{ChannelsLimitReached, InvalidProtocolVersion, InvalidChannel, InvalidChannelState, InvalidConnectionState, IOError, ParsingError, ProtocolError, SerialisationError, OutOfTurns, NoMemory, Unbuilt}
+use Rattle.amqp_session.specs.Shown.{shown}
 
 abbrev pub state_name : ConnectionState → List ℕ
-state_name Initial = codes "Initial"
-state_name Connecting = codes "Connecting"
-state_name Connected = codes "Connected"
-state_name Closing = codes "Closing"
-state_name Closed = codes "Closed"
-state_name Reconnecting = codes "Reconnecting"
-state_name Error = codes "Error"
+state_name connection.Initial = codes "Initial"
+state_name connection.Connecting = codes "Connecting"
+state_name connection.Connected = codes "Connected"
+state_name connection.Closing = codes "Closing"
+state_name connection.Closed = codes "Closed"
+state_name connection.Reconnecting = codes "Reconnecting"
+state_name connection.Error = codes "Error"
+
+abbrev pub channel_state_name : ChannelState → List ℕ
+channel_state_name channel.Initial = codes "Initial"
+channel_state_name channel.Reconnecting = codes "Reconnecting"
+channel_state_name channel.Connected = codes "Connected"
+channel_state_name channel.Closing = codes "Closing"
+channel_state_name channel.Closed = codes "Closed"
+channel_state_name channel.Error = codes "Error"
+
+abbrev pub fault_text : IoFault → List ℕ
+fault_text Aborted = codes "connection aborted"
+fault_text Refused = codes "connection refused"
+fault_text Reset = codes "connection reset"
+fault_text BrokenPipe = codes "broken pipe"
+fault_text WouldBlock = codes "operation would block"
+fault_text Interrupted = codes "operation interrupted"
+fault_text (Other word) = word_text word
 
 abbrev pub text_of : ErrorKind → List ℕ
+text_of ChannelsLimitReached = codes "the maximum number of channels for this connection has been reached"
+text_of (InvalidProtocolVersion v) =
+    codes "the server only supports AMQP " ++ decimal v.major ++ codes "-" ++ decimal v.minor ++ codes "-" ++ decimal v.revision
+text_of (InvalidChannel n) = codes "invalid channel: " ++ decimal n
+text_of (InvalidChannelState held word) =
+    codes "invalid channel state: " ++ channel_state_name held ++ codes " (" ++ word_text word ++ codes ")"
 text_of (InvalidConnectionState held) = codes "invalid connection state: " ++ state_name held
+text_of (IOError fault) = codes "IO error: " ++ fault_text fault
+text_of (ParsingError place) = codes "failed to parse: frame at byte " ++ decimal place
+text_of (ProtocolError e) = codes "protocol error: " ++ decimal e.code ++ codes " " ++ shown e.message
+text_of (SerialisationError size) = codes "failed to serialise: frame of " ++ decimal size ++ codes " bytes"
 text_of OutOfTurns = codes "the given turns were all taken"
 text_of NoMemory = codes "memory was refused"
 text_of (Unbuilt place) = codes "not built: frame at byte " ++ decimal place

@@ -1,9 +1,9 @@
--- What a client says to open a connection (AMQP 0-9-1, 2.2.4): header, start-ok, tune-ok, open.
+-- What a client says to open and close a connection and its channels (AMQP 0-9-1, 2.2.4 and 2.2.5).
 use Rattle.std.specs.Prelude.{ℕ, true, List, [], ◌∷◌, ◌++◌, codes}
 use Rattle.amqp_types.specs.Value.{FieldValue, Pair, scalar, table, boolean, long_string, pairs_from}
 use Rattle.amqp_frame.specs.declared.frame.Frame.{Frame}
 use Rattle.amqp_frame.specs.declared.frame.Frame.TheVariants.{ProtocolHeader, Method}
-use Rattle.amqp_frame.specs.declared.method.Method.TheVariants.{StartOk, TuneOk, Open, Close}
+use Rattle.amqp_frame.specs.declared.method.Method.TheVariants.{StartOk, TuneOk, Open, Close, CloseOk, ChannelOpen, ChannelClose}
 use Rattle.amqp_session.specs.declared.configuration.Configuration.{Configuration}
 
 abbrev pub protocol_header : Frame
@@ -57,3 +57,14 @@ open_vhost = Method 0 (Open (codes "/"))
 -- a close of ours names no method that caused it
 abbrev pub our_close : ℕ → List ℕ → Frame
 our_close code text = Method 0 (Close code text 0 0)
+
+-- our answer to the server's close
+abbrev pub close_ok : Frame
+close_ok = Method 0 CloseOk
+
+abbrev pub channel_open : ℕ → Frame
+channel_open n = Method n ChannelOpen
+
+-- a close of ours names no method that caused it
+abbrev pub our_channel_close : ℕ → ℕ → List ℕ → Frame
+our_channel_close n code text = Method n (ChannelClose code text 0 0)

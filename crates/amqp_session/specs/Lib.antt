@@ -1,9 +1,24 @@
+-- The state of a session.
+pub mod Listed
 pub mod Talk
+-- What is agreed, and what the client says to open and close.
 pub mod Negotiation
+pub mod Numbering
 pub mod Handshake
+-- What goes wrong, and its texts.
+pub mod Shown
 pub mod Errors
+pub mod Violations
+-- The rules: what each happening does to the state.
 pub mod Outgoing
-pub mod Rules
+pub mod Changes
+pub mod Links
+pub mod Connections
+pub mod Channels
+pub mod Frames
+pub mod Commands
 pub mod Writing
 pub mod Answers
+pub mod Queries
+-- What the rules keep.
 pub mod Laws

@@ -1,9 +1,32 @@
 -- What a session still has to say, and to be answered.
-use Rattle.std.specs.Prelude.{ℕ, List}
-use Rattle.amqp_frame.specs.declared.frame.Frame.{Frame}
+use Rattle.std.specs.Prelude.{ℕ, Bool, true, false, ◌==◌, ◌&&◌, List, [], ◌∷◌, if◌then◌else◌, Option, find}
+use Rattle.amqp_session.specs.declared.lanes.Item.{Item}
+use Rattle.amqp_session.specs.declared.lanes.Awaited.{Awaited}
+use Rattle.amqp_session.specs.declared.lanes.Reply.{Reply}
+use Rattle.amqp_session.specs.declared.lanes.Reply.TheVariants.{ChannelOpened, ChannelClosed, ConnectionClosed}
 
 pub record Outgoing : Type 0 where
   -- the frames that wait to be committed, in order
-  pub control : List Frame
-  -- the promises of our closes whose close-ok is awaited, in order
-  pub closes : List ℕ
+  pub control : List Item
+  -- the replies that are awaited, in order
+  pub awaited : List Awaited
+
+abbrev pub is_same_reply : Reply → Reply → Bool
+is_same_reply ChannelOpened ChannelOpened = true
+is_same_reply ChannelClosed ChannelClosed = true
+is_same_reply ConnectionClosed ConnectionClosed = true
+is_same_reply _ _ = false
+
+-- what awaits this reply on this channel
+abbrev pub is_of : ℕ → Reply → Awaited → Bool
+is_of channel reply a = a.channel == channel && is_same_reply a.reply reply
+
+-- the first that awaits a reply on a channel
+abbrev pub first_awaited : ℕ → Reply → List Awaited → Option Awaited
+first_awaited channel reply awaited = find (is_of channel reply) awaited
+
+-- the others
+abbrev pub without_first : ℕ → Reply → List Awaited → List Awaited
+without_first channel reply [] = []
+without_first channel reply (a ∷ awaited) =
+    if is_of channel reply a then awaited else a ∷ without_first channel reply awaited

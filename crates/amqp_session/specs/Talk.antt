@@ -1,14 +1,19 @@
--- The plain state of a session, in enums, numbers and lists.
+-- The plain state of a session, in enums, numbers, lists and finite maps.
 use Rattle.std.specs.Prelude.{ℕ, Bool, false, true, List, [], ◌∷◌, Option, Some, None, Result, is_some}
-use Rattle.amqp_frame.specs.declared.frame.Frame.{Frame}
 use Rattle.amqp_session.specs.declared.state.ConnectionState.{ConnectionState}
 use Rattle.amqp_session.specs.declared.state.ConnectionState.TheVariants.{Initial}
 use Rattle.amqp_session.specs.declared.state.Phase.{Phase}
 use Rattle.amqp_session.specs.declared.state.Phase.TheVariants.{AwaitStart}
 use Rattle.amqp_session.specs.declared.state.Link.{Link}
 use Rattle.amqp_session.specs.declared.state.Link.TheVariants.{Wanted, Asked, Open, Ended}
+use Rattle.amqp_session.specs.declared.state.Input.{Input}
+use Rattle.amqp_session.specs.declared.state.Input.TheVariants.{Acting, Closed, Dropped}
 use Rattle.amqp_session.specs.declared.configuration.Configuration.{Configuration}
+use Rattle.amqp_session.specs.declared.channels.Channel.{Channel}
+use Rattle.amqp_session.specs.declared.lanes.Item.{Item}
+use Rattle.amqp_session.specs.declared.lanes.Awaited.{Awaited}
 use Rattle.amqp_session.specs.declared.committed.Mark.{Mark}
+use Rattle.amqp_session.specs.declared.handed.Handed.{Handed}
 use Rattle.amqp_session.specs.declared.promises.Slot.{Slot}
 use Rattle.amqp_session.specs.declared.promises.Slot.TheVariants.{Waiting}
 use Rattle.amqp_session.specs.declared.error.ErrorKind.{ErrorKind}
@@ -19,16 +24,26 @@ pub record Talk : Type 0 where
   pub phase : Phase
   -- where the session stands with its link, and how it ended
   pub link : Link
+  -- what is done with the frames that come on the open link
+  pub input : Input
   -- the numbers of the connection, 0 where nothing is wished or agreed
   pub configuration : Configuration
+  -- the listed channels, by their numbers
+  pub channels : List (ℕ × Channel)
+  -- the number of a channel to be drawn next, where 0 is the first
+  pub cursor : ℕ
   -- the frames that wait to be committed, in order
-  pub control : List Frame
+  pub control : List Item
   -- the committed frames that are not wholly sent, in order
   pub committed : List Mark
-  -- the promises of our closes whose close-ok is awaited, in order
-  pub closes : List ℕ
+  -- the replies that are awaited, in order
+  pub awaited : List Awaited
+  -- the frames handed out and not yet taken, in order, by the promise that opened their channel
+  pub handed : List (ℕ × List Handed)
   -- what has become of each promise, from 0 on
   pub promises : List Slot
+  -- why the server closed the connection, once it did
+  pub close_error : Option ErrorKind
   -- the moments of the last happening, of the last reading and of the last writing, in milliseconds
   pub present : ℕ
   pub last_read : ℕ
@@ -41,11 +56,16 @@ start =
       state = Initial;
       phase = AwaitStart;
       link = Wanted;
+      input = Acting;
       configuration = record { channel_max = 0; frame_max = 0; heartbeat = 0 };
+      channels = [];
+      cursor = 0;
       control = [];
       committed = [];
-      closes = [];
+      awaited = [];
+      handed = [];
       promises = Waiting ∷ [];
+      close_error = None;
       present = 0;
       last_read = 0;
       last_write = 0;
@@ -88,3 +108,11 @@ end_of t = end_of_link t.link
 
 abbrev pub has_ended : Talk → Bool
 has_ended t = is_some (end_of t)
+
+abbrev pub is_dropped_input : Input → Bool
+is_dropped_input Dropped = true
+is_dropped_input _ = false
+
+-- no more of the open link's input is read
+abbrev pub drops_input : Talk → Bool
+drops_input t = is_dropped_input t.input

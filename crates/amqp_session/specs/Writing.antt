@@ -1,33 +1,41 @@
 -- Writing: which frame goes out next, and what becomes of the bytes of those that went.
-use Rattle.std.specs.Prelude.{ℕ, ◌-◌, ◌==◌, ◌&&◌, not, nat_le, if◌then◌else◌, List, [], ◌∷◌, ◌++◌, drop, length, sum_by, Option, Some, None}
+use Rattle.std.specs.Prelude.{ℕ, ◌-◌, ◌==◌, ◌&&◌, not, nat_le, if◌then◌else◌, List, [], ◌∷◌, ◌++◌, drop, length, sum_by, Option, Some, None, option_map, Ok}
 use Rattle.amqp_frame.specs.declared.frame.Frame.{Frame}
 use Rattle.amqp_frame.specs.Frames.{encoding}
+use Rattle.amqp_session.specs.declared.lanes.Item.{Item}
 use Rattle.amqp_session.specs.declared.committed.Mark.{Mark}
+use Rattle.amqp_session.specs.declared.committed.Then.{Then}
+use Rattle.amqp_session.specs.declared.committed.Then.TheVariants.{Nothing, Answer, Finish}
+use Rattle.amqp_session.specs.declared.command.Answer.TheVariants.{Sent}
 use Rattle.amqp_session.specs.Talk.{Talk, is_open}
+use Rattle.amqp_session.specs.Changes.{give, finish}
 
-abbrev pub head : List Frame → Option Frame
+abbrev pub head : List Item → Option Item
 head [] = None
-head (f ∷ fs) = Some f
+head (item ∷ items) = Some item
 
--- the next frame to go out
-abbrev pub next : Talk → Option Frame
-next t = if is_open t then head t.control else None
+-- the next frame to go out, with what follows once it was sent
+abbrev pub next_item : Talk → Option Item
+next_item t = if is_open t then head t.control else None
 
-abbrev pub fitting : ℕ → Option Frame → Option Frame
+abbrev pub size_of : Item → ℕ
+size_of item = length (encoding item.frame)
+
+abbrev pub fitting : ℕ → Option Item → Option Item
 fitting space None = None
-fitting space (Some f) = if nat_le (length (encoding f)) space then Some f else None
+fitting space (Some item) = if nat_le (size_of item) space then Some item else None
 
 -- the next frame, where it is at most so many bytes long
-abbrev pub next_within : ℕ → Talk → Option Frame
-next_within space t = fitting space (next t)
+abbrev pub next_within : ℕ → Talk → Option Item
+next_within space t = fitting space (next_item t)
 
-abbrev pub committed_as : Option Frame → Talk → Talk
+-- a frame as it is committed
+abbrev pub mark_of : Item → Mark
+mark_of item = record { left = size_of item; then = item.then }
+
+abbrev pub committed_as : Option Item → Talk → Talk
 committed_as None t = t
-committed_as (Some f) t =
-    record t {
-      control = drop 1 t.control;
-      committed = t.committed ++ record { left = length (encoding f) } ∷ [];
-    }
+committed_as (Some item) t = record t { control = drop 1 t.control; committed = t.committed ++ mark_of item ∷ [] }
 
 -- the next frame is committed, where it is at most so many bytes long
 abbrev pub commit : ℕ → Talk → Talk
@@ -40,16 +48,22 @@ left_in marks = sum_by (λ (m : Mark). m.left) marks
 abbrev pub unsent : Talk → ℕ
 unsent t = left_in t.committed
 
+-- what follows once a frame was sent whole: its promise is answered, or the session finishes after the server's close
+abbrev pub follow : Then → Talk → Talk
+follow Nothing t = t
+follow (Answer number) t = give number (Ok Sent) t
+follow Finish t = finish t
+
 -- the first committed frame was sent whole
-abbrev pub sent : Talk → Talk
-sent t = record t { committed = drop 1 t.committed }
+abbrev pub sent : Mark → Talk → Talk
+sent m t = follow m.then (record t { committed = drop 1 t.committed })
 
 -- the frames whose last byte is among so many bytes are sent, in order
 abbrev pub sent_among : List Mark → ℕ → Talk → Talk
 sent_among [] n t = t
 sent_among (m ∷ ms) n t =
     if nat_le m.left n
-    then sent_among ms (n - m.left) (sent t)
+    then sent_among ms (n - m.left) (sent m t)
     else record t { committed = record m { left = m.left - n } ∷ ms }
 
 -- so many of the unsent bytes were taken by the open link

@@ -2,14 +2,28 @@
 
 ghost use Rattle.std.specs.Prelude.{◌≡◌, IfOk};
 
-use amqp_types::{NoMemory, ReplyCode, ShortString};
+use amqp_frame::RawMethod;
+use amqp_types::{ChannelId, NoMemory, ReplyCode, ShortString};
 use std::alloc::Global;
+
+/// Names a listed channel by its number and, where it is given, by the promise that opened it.
+#[derive(Clone, Copy, Debug, PartialEq, Eq)]
+pub struct ChanRef {
+    pub id: ChannelId,
+    pub opened: Option<u64>,
+}
 
 /// A command.
 #[derive(Debug, PartialEq, Eq, Drop)]
 pub enum Cmd {
+    /// Opens a channel, whose number is drawn.
+    OpenChannel,
+    /// Closes a channel, with a reply code and a text.
+    CloseChannel(ChanRef, ReplyCode, ShortString),
     /// Closes the connection, with a reply code and a text.
     CloseConnection(ReplyCode, ShortString),
+    /// Sends a method on a channel.
+    Send(ChanRef, RawMethod),
 }
 
 impl Cmd {
@@ -18,9 +32,14 @@ impl Cmd {
         ensures { IfOk result (λ c. c ≡ self.now) }
     {
         match self {
+            Cmd::OpenChannel => Ok(Cmd::OpenChannel),
+            Cmd::CloseChannel(channel, code, text) => {
+                Ok(Cmd::CloseChannel(*channel, *code, text.try_clone(alloc)?))
+            }
             Cmd::CloseConnection(code, text) => {
                 Ok(Cmd::CloseConnection(*code, text.try_clone(alloc)?))
             }
+            Cmd::Send(channel, method) => Ok(Cmd::Send(*channel, method.try_clone(alloc)?)),
         }
     }
 }
@@ -30,6 +49,10 @@ impl Cmd {
 pub enum Answer {
     /// The connection is open.
     Connected,
+    /// A channel is open, which has this number and was opened by this promise.
+    Channel(ChannelId, u64),
     /// The server did as it was told.
     Done,
+    /// All was sent.
+    Sent,
 }

@@ -8,11 +8,22 @@ use amqp_types::NoMemory;
 use std::alloc::Global;
 use std::collections::VecDeque;
 
+/// What follows once a frame was sent whole.
+#[derive(Clone, Copy, Debug, PartialEq, Eq)]
+pub enum Then {
+    Nothing,
+    /// This promise is answered.
+    Answer(u64),
+    /// The session finishes, as the server closed it.
+    Finish,
+}
+
 /// A committed frame.
 #[derive(Clone, Copy, Debug, PartialEq, Eq)]
 pub struct Mark {
     /// How many of its bytes are unsent.
     pub left: u64,
+    pub then: Then,
 }
 
 /// The committed frames, in order, and how many of their bytes are unsent.
@@ -43,15 +54,15 @@ impl Committed {
         Ok(())
     }
 
-    /// A frame of so many bytes goes last.
-    pub fn push(&mut self, size: u64)
+    /// A frame goes last.
+    pub fn push(&mut self, mark: Mark)
         requires place { length self.old.marks.items < deque_capacity self.old.marks }
-        requires small { left_in self.old.marks.items + size < 2 ^ 64 }
-        ensures marks { self.new.marks.items ≡ self.old.marks.items ++ record { left = size } ∷ [] }
+        requires small { left_in self.old.marks.items + mark.left < 2 ^ 64 }
+        ensures marks { self.new.marks.items ≡ self.old.marks.items ++ mark ∷ [] }
         ensures kept { deque_capacity self.new.marks ≡ deque_capacity self.old.marks }
     {
-        self.marks.push_back_reserved(Mark { left: size });
-        self.unsent += size;
+        self.unsent += mark.left;
+        self.marks.push_back_reserved(mark);
     }
 
     /// Takes out the first frame, where its last byte is among the next n. Else these n are taken

@@ -1,30 +1,37 @@
 //! The errors of a session.
 
-ghost use Rattle.std.specs.Prelude.{◌≡◌, ◌≤◌, ◌+◌, ◌++◌, length, IfOk};
-ghost use Rattle.std.specs.Fmt.{decimal};
+ghost use Rattle.std.specs.Prelude.{◌≡◌, IfOk};
 ghost use Rattle.amqp_session.specs.Errors.{text_of};
 
-use crate::state::ConnectionState;
-use amqp_frame::Room;
-use amqp_types::NoMemory;
-use itoa::Buffer;
+use crate::io_fault::IoFault;
+use crate::shown::Shown;
+use crate::state::{ChannelState, ConnectionState};
+use amqp_types::{AMQPError, ChannelId, NoMemory, ProtocolVersion, Word};
 use std::alloc::Global;
 use std::fmt;
 use std::marker::Model;
 
-const INVALID_STATE: &str = "invalid connection state: ";
-
-const OUT_OF_TURNS: &str = "the given turns were all taken";
-
-const NO_MEMORY: &str = "memory was refused";
-
-const UNBUILT: &str = "not built: frame at byte ";
-
 /// What went wrong.
 #[derive(Debug, PartialEq, Eq, Drop)]
 pub enum ErrorKind {
+    /// Every number of a channel is listed.
+    ChannelsLimitReached,
+    /// The server answered with a protocol header, which names the version that it speaks.
+    InvalidProtocolVersion(ProtocolVersion),
+    /// No such channel is listed.
+    InvalidChannel(ChannelId),
+    /// The state in which a channel was found, and what it did not allow, or what closed it.
+    InvalidChannelState(ChannelState, Word),
     /// The state in which the connection was found, and which does not allow what was asked.
     InvalidConnectionState(ConnectionState),
+    /// The link failed.
+    IOError(IoFault),
+    /// The place, in the received bytes of its link, of what is no frame.
+    ParsingError(u64),
+    /// The server broke the protocol, or closed with an error.
+    ProtocolError(AMQPError),
+    /// The length of a frame that is longer than the whole capacity.
+    SerialisationError(u64),
     /// A run took all its turns.
     OutOfTurns,
     /// An allocation was refused.
@@ -53,15 +60,27 @@ impl Model for Error {
 
 impl ErrorKind {
     // An equal kind.
-    fn copied(&self) -> ErrorKind
-        ensures { result ≡ self.now }
+    fn try_clone(&self, alloc: Global) -> std::result::Result<ErrorKind, NoMemory>
+        ensures { IfOk result (λ kind. kind ≡ self.now) }
     {
-        match self {
+        Ok(match self {
+            ErrorKind::ChannelsLimitReached => ErrorKind::ChannelsLimitReached,
+            ErrorKind::InvalidProtocolVersion(version) => {
+                ErrorKind::InvalidProtocolVersion(*version)
+            }
+            ErrorKind::InvalidChannel(id) => ErrorKind::InvalidChannel(*id),
+            ErrorKind::InvalidChannelState(held, word) => {
+                ErrorKind::InvalidChannelState(*held, *word)
+            }
             ErrorKind::InvalidConnectionState(held) => ErrorKind::InvalidConnectionState(*held),
+            ErrorKind::IOError(fault) => ErrorKind::IOError(*fault),
+            ErrorKind::ParsingError(place) => ErrorKind::ParsingError(*place),
+            ErrorKind::ProtocolError(error) => ErrorKind::ProtocolError(error.try_clone(alloc)?),
+            ErrorKind::SerialisationError(size) => ErrorKind::SerialisationError(*size),
             ErrorKind::OutOfTurns => ErrorKind::OutOfTurns,
             ErrorKind::NoMemory => ErrorKind::NoMemory,
             ErrorKind::Unbuilt(place) => ErrorKind::Unbuilt(*place),
-        }
+        })
     }
 }
 
@@ -73,61 +92,13 @@ impl Error {
     }
 
     /// An equal error.
-    pub fn try_clone(&self, _alloc: Global) -> std::result::Result<Error, NoMemory>
+    pub fn try_clone(&self, alloc: Global) -> std::result::Result<Error, NoMemory>
         ensures { IfOk result (λ e. e ≡ self.now) }
     {
-        Ok(self.copied())
+        Ok(Error {
+            kind: self.kind.try_clone(alloc)?,
+        })
     }
-
-    /// How many bytes its text takes.
-    pub fn text_len(&self) -> usize
-        ensures { result ≡ length (text_of self.now) }
-    {
-        match &self.kind {
-            ErrorKind::InvalidConnectionState(held) => INVALID_STATE.len() + held.name().len(),
-            ErrorKind::OutOfTurns => OUT_OF_TURNS.len(),
-            ErrorKind::NoMemory => NO_MEMORY.len(),
-            ErrorKind::Unbuilt(place) => UNBUILT.len() + Buffer::new().format(*place).len(),
-        }
-    }
-
-    /// Puts its text, which takes no memory.
-    pub fn put_text<R: Room>(&self, room: &mut R)
-        requires { length (text_of self.now) ≤ R.free room.old }
-        ensures bytes { R.put_so_far room.new ≡ R.put_so_far room.old ++ text_of self.now }
-        ensures space { R.free room.new + length (text_of self.now) ≡ R.free room.old }
-    {
-        match &self.kind {
-            ErrorKind::InvalidConnectionState(held) => {
-                room.put(INVALID_STATE.as_bytes());
-                room.put(held.name().as_bytes());
-            }
-            ErrorKind::OutOfTurns => room.put(OUT_OF_TURNS.as_bytes()),
-            ErrorKind::NoMemory => room.put(NO_MEMORY.as_bytes()),
-            ErrorKind::Unbuilt(place) => {
-                room.put(UNBUILT.as_bytes());
-                put_number(*place, room);
-            }
-        }
-    }
-
-    // An equal error, which takes no memory as long as no kind holds a text.
-    pub(crate) fn copied(&self) -> Error
-        ensures { result ≡ self.now }
-    {
-        Error {
-            kind: self.kind.copied(),
-        }
-    }
-}
-
-// Puts the decimal digits of a number.
-fn put_number<R: Room>(number: u64, room: &mut R)
-    requires { length (decimal number) ≤ R.free room.old }
-    ensures bytes { R.put_so_far room.new ≡ R.put_so_far room.old ++ decimal number }
-    ensures space { R.free room.new + length (decimal number) ≡ R.free room.old }
-{
-    room.put(Buffer::new().format(number).as_bytes());
 }
 
 impl From<ErrorKind> for Error {
@@ -161,10 +132,39 @@ impl fmt::Display for Error {
 
     fn fmt<W: fmt::Write>(&self, f: &mut fmt::Formatter<W>) -> fmt::Result {
         match &self.kind {
-            ErrorKind::InvalidConnectionState(held) => { write!(f, "{INVALID_STATE}{held}") }
-            ErrorKind::OutOfTurns => f.write_str(OUT_OF_TURNS),
-            ErrorKind::NoMemory => f.write_str(NO_MEMORY),
-            ErrorKind::Unbuilt(place) => write!(f, "{UNBUILT}{place}"),
+            ErrorKind::ChannelsLimitReached => {
+                f.write_str("the maximum number of channels for this connection has been reached")
+            }
+            ErrorKind::InvalidProtocolVersion(version) => write!(
+                f,
+                "the server only supports AMQP {}-{}-{}",
+                version.major, version.minor, version.revision
+            ),
+            ErrorKind::InvalidChannel(id) => write!(f, "invalid channel: {id}"),
+            ErrorKind::InvalidChannelState(held, word) => {
+                write!(f, "invalid channel state: {} ({})", held.name(), word.text())
+            }
+            ErrorKind::InvalidConnectionState(held) => {
+                write!(f, "invalid connection state: {}", held.name())
+            }
+            ErrorKind::IOError(fault) => write!(f, "IO error: {}", fault.text()),
+            ErrorKind::ParsingError(place) => {
+                write!(f, "failed to parse: frame at byte {place}")
+            }
+            ErrorKind::ProtocolError(error) => write!(
+                f,
+                "protocol error: {} {}",
+                error.get_id(),
+                Shown {
+                    octets: error.get_message().as_bytes()
+                }
+            ),
+            ErrorKind::SerialisationError(size) => {
+                write!(f, "failed to serialise: frame of {size} bytes")
+            }
+            ErrorKind::OutOfTurns => f.write_str("the given turns were all taken"),
+            ErrorKind::NoMemory => f.write_str("memory was refused"),
+            ErrorKind::Unbuilt(place) => write!(f, "not built: frame at byte {place}"),
         }
     }
 }

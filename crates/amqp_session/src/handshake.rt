@@ -1,13 +1,13 @@
-//! The frames that open and close a connection.
+//! The frames that open and close a connection and its channels.
 
 ghost use Rattle.std.specs.Prelude.{◌≡◌, ◌<◌, length, IfOk, OnOk};
 ghost use Rattle.amqp_types.specs.Table.{put};
-ghost use Rattle.amqp_session.specs.Handshake.{protocol_header, yes, text_value, capabilities, client_properties, start_ok, tune_ok, open_vhost, our_close};
+ghost use Rattle.amqp_session.specs.Handshake.{protocol_header, yes, text_value, capabilities, client_properties, start_ok, tune_ok, open_vhost, our_close, close_ok, channel_open, our_channel_close};
 
 use crate::configuration::Configuration;
 use amqp_frame::{Frame, Method};
 use amqp_types::{
-    AMQPValue, FieldTable, LongString, NoMemory, ProtocolVersion, ReplyCode, ShortString,
+    AMQPValue, ChannelId, FieldTable, LongString, NoMemory, ProtocolVersion, ReplyCode, ShortString,
 };
 use std::alloc::Global;
 
@@ -116,4 +116,25 @@ pub fn our_close(code: ReplyCode, text: ShortString) -> Frame
     ensures { result ≡ our_close code text }
 {
     Frame::Method(0, Method::Close(code, text, 0, 0))
+}
+
+/// Our answer to the server's close.
+pub fn close_ok() -> Frame
+    ensures { result ≡ close_ok }
+{
+    Frame::Method(0, Method::CloseOk)
+}
+
+/// Opens a channel.
+pub fn channel_open(id: ChannelId) -> Frame
+    ensures { result ≡ channel_open id }
+{
+    Frame::Method(id, Method::ChannelOpen)
+}
+
+/// Our close of a channel.
+pub fn our_channel_close(id: ChannelId, code: ReplyCode, text: ShortString) -> Frame
+    ensures { result ≡ our_channel_close id code text }
+{
+    Frame::Method(id, Method::ChannelClose(code, text, 0, 0))
 }

@@ -1,15 +1,15 @@
 //! What the rules keep.
 
 ghost use Rattle.std.specs.Prelude.{◌≡◌, ◌≢◌, ◌≤◌, ℕ, ◌+◌, length, Some, None, IsTrue};
-ghost use Rattle.amqp_frame.specs.declared.frame.Frame.{Frame};
 ghost use Rattle.amqp_frame.specs.Frames.{encoding};
+ghost use Rattle.amqp_session.specs.declared.lanes.Item.{Item};
 ghost use Rattle.amqp_session.specs.declared.command.Cmd.{Cmd};
 ghost use Rattle.amqp_session.specs.declared.configuration.Configuration.{Configuration};
 ghost use Rattle.amqp_session.specs.declared.error.ErrorKind.TheVariants.{InvalidConnectionState};
 ghost use Rattle.amqp_session.specs.declared.state.ConnectionState.TheVariants.{Connected};
 ghost use Rattle.amqp_session.specs.Talk.{Talk, has_ended, is_open};
 ghost use Rattle.amqp_session.specs.Negotiation.{tune};
-ghost use Rattle.amqp_session.specs.Rules.{command};
+ghost use Rattle.amqp_session.specs.Commands.{command};
 ghost use Rattle.amqp_session.specs.Writing.{next_within, commit, taken, unsent};
 ghost use Rattle.amqp_session.specs.Answers.{answer_of, take_answer};
 ghost use Rattle.amqp_session.specs.Laws.{IsOver, IsRefused};
@@ -38,7 +38,7 @@ pub fn an_answer_is_taken_once()
 
 /// What is committed is unsent, and what is taken is no longer so.
 pub fn unsent_bytes_are_counted()
-    ensures committed { (space : ℕ) (t : Talk) (f : Frame) → next_within space t ≡ Some f
-        → unsent (commit space t) ≡ unsent t + length (encoding f) }
+    ensures committed { (space : ℕ) (t : Talk) (item : Item) → next_within space t ≡ Some item
+        → unsent (commit space t) ≡ unsent t + length (encoding item.frame) }
     ensures taken { (n : ℕ) (t : Talk) → IsTrue (is_open t) → n ≤ unsent t → unsent (taken n t) + n ≡ unsent t }
 {}

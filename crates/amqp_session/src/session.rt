@@ -1,25 +1,31 @@
-//! The session, and its calls on links, moments and ends.
+//! The session, and its queries.
 
-ghost use Rattle.std.specs.Prelude.{◌≡◌, ◌+◌, ◌<◌, ◌≤◌, ◌^◌, length, IfOk, IfErr, OnOk, OnErr, IsTrue};
-ghost use Rattle.amqp_session.specs.Talk.{start, wants_link, is_asked, is_open, has_ended, end_of};
-ghost use Rattle.amqp_session.specs.Rules.{present_at, asked, linked, piece, misread, starve, fail, finish, give};
+ghost use Rattle.std.specs.Prelude.{◌≡◌, ◌+◌, ◌<◌, ◌≤◌, ◌^◌, length, IfOk, IfErr, Some, None};
+ghost use Rattle.amqp_session.specs.Talk.{start, wants_link, is_asked, is_open, has_ended, end_of, drops_input};
+ghost use Rattle.amqp_session.specs.Changes.{present_at, starve, fail, lose, close, finish, give, give_to};
 ghost use Rattle.amqp_session.specs.Writing.{unsent};
 ghost use Rattle.amqp_session.specs.Negotiation.{frame_limit};
+ghost use Rattle.amqp_session.specs.Answers.{HandsOut};
 
 mod answers;
+mod channel_methods;
 mod commands;
+mod connection_methods;
 mod frames;
+mod links;
+mod queries;
 mod writing;
 
+use crate::channels::Channels;
 use crate::command::Answer;
 use crate::committed::Committed;
 use crate::configuration::Configuration;
-use crate::error::{self, Error, ErrorKind};
-use crate::handshake::protocol_header;
+use crate::error::{self, ErrorKind};
+use crate::handed::Backlog;
 use crate::lanes::Lanes;
 use crate::promises::{Slot, settle};
-use crate::state::{ConnectionState, Link, Phase};
-use amqp_types::NoMemory;
+use crate::state::{ConnectionState, Input, Link, Phase};
+use amqp_types::{ChannelId, NoMemory};
 use std::alloc::Global;
 use std::marker::Model;
 
@@ -33,10 +39,15 @@ pub struct Session {
     state: ConnectionState,
     phase: Phase,
     link: Link,
+    input: Input,
     configuration: Configuration,
+    channels: Channels,
+    cursor: ChannelId,
     lanes: Lanes,
     committed: Committed,
+    backlog: Backlog,
     promises: Vec<Slot>,
+    close_error: Option<ErrorKind>,
     present: u64,
     last_read: u64,
     last_write: u64,
@@ -58,11 +69,16 @@ impl Model for Session {
       state = s.state;
       phase = s.phase;
       link = s.link;
+      input = s.input;
       configuration = s.configuration;
+      channels = s.channels;
+      cursor = s.cursor;
       control = s.lanes.control;
       committed = s.committed.marks.items;
-      closes = s.lanes.closes;
+      awaited = s.lanes.awaited;
+      handed = s.backlog;
       promises = s.promises.items;
+      close_error = s.close_error;
       present = s.present;
       last_read = s.last_read;
       last_write = s.last_write;
@@ -95,102 +111,23 @@ impl Session {
             state: ConnectionState::Initial,
             phase: Phase::AwaitStart,
             link: Link::Wanted,
+            input: Input::Acting,
             configuration: Configuration {
                 channel_max: 0,
                 frame_max: 0,
                 heartbeat: 0,
             },
+            channels: Channels::new(alloc),
+            cursor: 0,
             lanes: Lanes::new(alloc),
             committed: Committed::new(alloc),
+            backlog: Backlog::new(alloc),
             promises,
+            close_error: None,
             present: 0,
             last_read: 0,
             last_write: 0,
         })
-    }
-
-    pub fn state(&self) -> ConnectionState
-        ensures { result ≡ self.now.state }
-    {
-        self.state
-    }
-
-    /// The numbers of the connection, 0 where nothing is wished or agreed.
-    pub fn configuration(&self) -> Configuration
-        ensures { result ≡ self.now.configuration }
-    {
-        self.configuration
-    }
-
-    /// The greatest number of octets that a frame may have that is read.
-    pub fn frame_limit(&self) -> u64
-        ensures { result ≡ frame_limit self.now.configuration }
-    {
-        match self.configuration.frame_max {
-            0 => CAPACITY,
-            frame_max => CAPACITY.min(frame_max as u64),
-        }
-    }
-
-    /// Whether a link is wanted. It is asked for once.
-    pub fn wants_link(&self) -> bool
-        ensures { result ≡ wants_link self.now }
-    {
-        matches!(self.link, Link::Wanted | Link::Asked)
-    }
-
-    /// Whether a link is asked for.
-    pub fn is_asked(&self) -> bool
-        ensures { result ≡ is_asked self.now }
-    {
-        matches!(self.link, Link::Asked)
-    }
-
-    /// Whether a link is open.
-    pub fn is_open(&self) -> bool
-        ensures { result ≡ is_open self.now }
-    {
-        matches!(self.link, Link::Open)
-    }
-
-    pub fn has_ended(&self) -> bool
-        ensures { result ≡ has_ended self.now }
-    {
-        matches!(self.link, Link::Ended(_))
-    }
-
-    /// The end: Ok where the session ended Closed, else the error with which it ended.
-    pub fn end(&self) -> Option<error::Result<()>>
-        ensures { result ≡ end_of self.now }
-    {
-        match &self.link {
-            Link::Ended(Ok(())) => Some(Ok(())),
-            Link::Ended(Err(error)) => Some(Err(error.copied())),
-            _ => None,
-        }
-    }
-
-    /// How many promises were made.
-    pub fn promises(&self) -> u64
-        ensures { result ≡ length self.now.promises }
-    {
-        self.promises.len() as u64
-    }
-
-    /// How many frames wait to be committed.
-    pub fn waiting(&self) -> u64
-        ensures frames { result ≡ length self.now.control }
-        ensures small { result < 2 ^ 63 }
-    {
-        self.lanes.len() as u64
-    }
-
-    /// How many bytes of the committed frames are unsent.
-    pub fn unsent(&self) -> u64
-        ensures bytes { result ≡ unsent self.now }
-        ensures within { result ≤ CAPACITY }
-    {
-        self.committed.unsent()
     }
 
     /// The present follows a moment, in milliseconds.
@@ -199,70 +136,6 @@ impl Session {
     {
         if !self.has_ended() {
             self.present = self.present.max(at);
-        }
-    }
-
-    /// The link that is wanted was asked for.
-    pub fn asked(&mut self)
-        ensures { self.new ≡ asked self.old }
-    {
-        if let Link::Wanted = self.link {
-            self.link = Link::Asked;
-        }
-    }
-
-    /// The link that was asked for is there.
-    pub fn linked(&mut self, at: u64) -> error::Result<()>
-        ensures ok { OnOk result (self.new ≡ linked (present_at at self.old)) }
-        ensures err { OnErr result (self.new ≡ starve (present_at at self.old)) }
-        ensures only { IfErr result (λ e. e ≡ ErrorKind.NoMemory) }
-    {
-        self.advance(at);
-        if !self.is_asked() {
-            return Ok(());
-        }
-        match self.open_link() {
-            Ok(()) => Ok(()),
-            Err(refused) => {
-                self.fail(ErrorKind::NoMemory);
-                Err(refused.into())
-            }
-        }
-    }
-
-    fn open_link(&mut self) -> Result<(), NoMemory>
-        requires { IsTrue (is_asked self.old) }
-        ensures ok { OnOk result (self.new ≡ linked self.old) }
-        ensures err { OnErr result (self.new ≡ self.old) }
-    {
-        self.committed.reserve(1)?;
-        self.lanes.restart(protocol_header())?;
-        self.committed.clear();
-        self.state = ConnectionState::Connecting;
-        self.phase = Phase::AwaitStart;
-        self.link = Link::Open;
-        self.last_read = self.present;
-        self.last_write = self.present;
-        Ok(())
-    }
-
-    /// Bytes were read.
-    pub fn piece(&mut self, at: u64)
-        ensures { self.new ≡ piece (present_at at self.old) }
-    {
-        self.advance(at);
-        if self.is_open() {
-            self.last_read = self.present;
-        }
-    }
-
-    /// What stood at a place of the link's received bytes is no frame.
-    pub fn misread(&mut self, place: u64, at: u64)
-        ensures { self.new ≡ misread place (present_at at self.old) }
-    {
-        self.advance(at);
-        if self.is_open() {
-            self.fail(ErrorKind::Unbuilt(place));
         }
     }
 
@@ -281,18 +154,45 @@ impl Session {
     {
         self.state = ConnectionState::Error;
         self.link = Link::Ended(Err(kind.into()));
+        self.channels.clear();
     }
 
-    fn finish(&mut self)
-        ensures { self.new ≡ finish self.old }
+    // The link is lost, and without recovery the session ends.
+    fn lose(&mut self, kind: ErrorKind)
+        ensures { self.new ≡ lose kind self.old }
+    {
+        self.fail(kind);
+    }
+
+    fn close(&mut self)
+        ensures { self.new ≡ close self.old }
     {
         self.state = ConnectionState::Closed;
         self.link = Link::Ended(Ok(()));
+        self.channels.clear();
+    }
+
+    // The end after the server's close.
+    fn finish(&mut self)
+        ensures { self.new ≡ finish self.old }
+    {
+        match self.close_error.take() {
+            None | Some(ErrorKind::InvalidConnectionState(ConnectionState::Closed)) => self.close(),
+            Some(kind) => self.lose(kind),
+        }
     }
 
     fn give(&mut self, number: u64, answer: error::Result<Answer>)
         ensures { self.new ≡ give number answer self.old }
     {
         settle(&mut self.promises, number, answer);
+    }
+
+    fn give_to(&mut self, promise: Option<u64>, answer: error::Result<Answer>)
+        ensures { self.new ≡ give_to promise answer self.old }
+    {
+        if let Some(number) = promise {
+            self.give(number, answer);
+        }
     }
 }

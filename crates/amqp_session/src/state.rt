@@ -1,7 +1,7 @@
 //! Where a connection stands.
 
 ghost use Rattle.std.specs.Prelude.{◌≡◌};
-ghost use Rattle.amqp_session.specs.Errors.{state_name};
+ghost use Rattle.amqp_session.specs.Errors.{state_name, channel_state_name};
 
 use crate::error;
 use std::fmt;
@@ -46,12 +46,61 @@ impl fmt::Display for ConnectionState {
     }
 }
 
+/// The state of a channel.
+#[derive(Clone, Copy, Debug, Default, PartialEq, Eq)]
+pub enum ChannelState {
+    #[default]
+    Initial,
+    Reconnecting,
+    Connected,
+    Closing,
+    Closed,
+    Error,
+}
+
+impl ChannelState {
+    pub(crate) fn name(self) -> &'static str
+        ensures { result.now ≡ channel_state_name self }
+    {
+        match self {
+            ChannelState::Initial => "Initial",
+            ChannelState::Reconnecting => "Reconnecting",
+            ChannelState::Connected => "Connected",
+            ChannelState::Closing => "Closing",
+            ChannelState::Closed => "Closed",
+            ChannelState::Error => "Error",
+        }
+    }
+}
+
+impl fmt::Display for ChannelState {
+    ghost use Rattle.std.specs.Prelude.{Some};
+    ghost use Rattle.amqp_session.specs.Errors.{channel_state_name};
+
+    ghost output = { λ s. Some (channel_state_name s) };
+
+    fn fmt<W: fmt::Write>(&self, f: &mut fmt::Formatter<W>) -> fmt::Result {
+        f.write_str(self.name())
+    }
+}
+
 /// What the handshake awaits.
 #[derive(Clone, Copy, Debug, PartialEq, Eq)]
 pub enum Phase {
     AwaitStart,
     AwaitTune,
     AwaitOpenOk,
+}
+
+/// What is done with the frames that come on a link.
+#[derive(Clone, Copy, Debug, PartialEq, Eq)]
+pub enum Input {
+    /// They act.
+    Acting,
+    /// The server closed the connection, and they are read and dropped.
+    Closed,
+    /// After that came what is no frame, and nothing more is read.
+    Dropped,
 }
 
 /// Where a session stands with its link. At its end it has none.

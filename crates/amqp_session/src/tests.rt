@@ -2,8 +2,10 @@
 //! broker's own bytes, never in what this crate gave.
 
 use super::*;
-use amqp_frame::{FixedRoom, Frame, Method, encoded_len, write_frame};
-use amqp_types::{FieldTable, LongString, ShortString};
+use amqp_frame::{FixedRoom, Frame, Method, RawKind, RawMethod, encoded_len, write_frame};
+use amqp_types::{
+    AMQPError, FieldTable, LongString, Payload, ProtocolVersion, ShortString, Word,
+};
 use std::alloc::Global;
 use std::test::Fail;
 
@@ -206,42 +208,194 @@ fn a_close_before_the_connection_is_open_is_refused(
     Ok(())
 }
 
+// ---- frames out of their place
+
+// The texts of the ends that single frames and what is no frame lead to.
+
+fn text_of_end(alloc: Global, session: &Session) -> std::result::Result<String, Fail> {
+    match session.end() {
+        Some(Err(error)) => Ok(error.to_string(alloc)?),
+        Some(Ok(())) => Ok(String::from_str(alloc, "closed")?),
+        None => Ok(String::from_str(alloc, "running")?),
+    }
+}
+
+// How a session ends that reads this frame.
+fn ends_with(
+    alloc: Global,
+    mut session: Session,
+    frame: Frame,
+    text: &str,
+) -> std::result::Result<bool, Fail> {
+    session.frame(frame, 138, 0)?;
+    Ok(text_of_end(alloc, &session)?.as_str() == text)
+}
+
+// A frame that is passed through, with this payload.
+fn raw(
+    alloc: Global,
+    id: u16,
+    kind: RawKind,
+    bytes: &[u8],
+) -> std::result::Result<Frame, Fail> {
+    Ok(Frame::Raw(id, kind, Payload::new(alloc, bytes)?))
+}
+
 #[test]
-fn a_heartbeat_first_is_not_built(rt: HostRuntime) -> std::result::Result<(), Fail> {
+fn a_heartbeat_changes_nothing(rt: HostRuntime) -> std::result::Result<(), Fail> {
     let alloc = rt.alloc();
     let mut session = linked(alloc)?;
     session.frame(Frame::Heartbeat, 0, 0)?;
+    assert!(rt; session.state() == ConnectionState::Connecting);
+    assert!(rt; session.end().is_none() && session.answer(0).is_none());
+    Ok(())
+}
+
+#[test]
+fn connection_methods_out_of_their_state_are_fatal(
+    rt: HostRuntime,
+) -> std::result::Result<(), Fail> {
+    let alloc = rt.alloc();
+    let connecting = "invalid connection state: Connecting";
+    let open = "invalid connection state: Connected";
+    assert!(rt; ends_with(alloc, linked(alloc)?, open_ok(), connecting)?);
+    assert!(rt; ends_with(alloc, linked(alloc)?, tune_of(1, 4096, 0), connecting)?);
+    assert!(rt; ends_with(alloc, connected(alloc)?, close_ok(), open)?);
+    assert!(rt; ends_with(alloc, connected(alloc)?, start(alloc)?, open)?);
+    Ok(())
+}
+
+#[test]
+fn misplaced_frames_are_fatal(rt: HostRuntime) -> std::result::Result<(), Fail> {
+    let alloc = rt.alloc();
+    let off_0 = "protocol error: 503 connection frame received on channel 7";
+    let method = "protocol error: 504 method frame received on channel 0";
+    let header = "protocol error: 504 content header frame received on channel 0";
+    let body = "protocol error: 504 body frame received on channel 0";
+    let off = |method: Method| Frame::Method(7, method);
+    assert!(rt; ends_with(alloc, connected(alloc)?, off(Method::CloseOk), off_0)?);
+    assert!(rt; ends_with(alloc, linked(alloc)?, off(Method::OpenOk), off_0)?);
+    let on_0 = Frame::Method(0, Method::ChannelOpenOk);
+    assert!(rt; ends_with(alloc, connected(alloc)?, on_0, method)?);
+    let raw_method = raw(alloc, 0, RawKind::RawMethod, &[0, 60, 0, 40])?;
+    assert!(rt; ends_with(alloc, connected(alloc)?, raw_method, method)?);
+    let raw_header = raw(alloc, 0, RawKind::Header, &[0; 14])?;
+    assert!(rt; ends_with(alloc, connected(alloc)?, raw_header, header)?);
+    assert!(rt; ends_with(alloc, connected(alloc)?, raw(alloc, 0, RawKind::Body, &[])?, body)?);
+    Ok(())
+}
+
+#[test]
+fn frames_on_channels_that_are_not_listed_are_fatal(
+    rt: HostRuntime,
+) -> std::result::Result<(), Fail> {
+    let alloc = rt.alloc();
+    let text = "invalid channel: 3";
+    let opened = || Frame::Method(3, Method::ChannelOpenOk);
+    assert!(rt; ends_with(alloc, connected(alloc)?, opened(), text)?);
+    assert!(rt; ends_with(alloc, linked(alloc)?, opened(), text)?);
+    assert!(rt; ends_with(alloc, connected(alloc)?, raw(alloc, 3, RawKind::Body, &[])?, text)?);
+    assert!(rt; ends_with(alloc, linked(alloc)?, raw(alloc, 3, RawKind::Body, &[])?, text)?);
+    Ok(())
+}
+
+#[test]
+fn methods_that_are_not_built_end_the_session(rt: HostRuntime) -> std::result::Result<(), Fail> {
+    let alloc = rt.alloc();
+    let text = "not built: frame at byte 138";
+    let blocked = Method::Blocked(ShortString::new(alloc, b"low")?);
+    assert!(rt; ends_with(alloc, connected(alloc)?, Frame::Method(0, blocked), text)?);
+    let flow = Frame::Method(1, Method::ChannelFlow(true));
+    assert!(rt; ends_with(alloc, with_channel(alloc)?, flow, text)?);
+    Ok(())
+}
+
+#[test]
+fn a_protocol_header_is_fatal(rt: HostRuntime) -> std::result::Result<(), Fail> {
+    let alloc = rt.alloc();
+    let version = ProtocolVersion {
+        major: 0,
+        minor: 8,
+        revision: 0,
+    };
+    let header = Frame::ProtocolHeader(version);
+    let text = "the server only supports AMQP 0-8-0";
+    assert!(rt; ends_with(alloc, linked(alloc)?, header, text)?);
+    Ok(())
+}
+
+// How a session ends that reads what is no frame.
+fn misread_ends_with(alloc: Global, why: Misread, text: &str) -> std::result::Result<bool, Fail> {
+    let mut session = linked(alloc)?;
+    session.misread(why, 0)?;
+    Ok(text_of_end(alloc, &session)?.as_str() == text)
+}
+
+#[test]
+fn what_is_no_frame_is_fatal(rt: HostRuntime) -> std::result::Result<(), Fail> {
+    let alloc = rt.alloc();
+    let large = "protocol error: 501 frame too large: 4097 bytes";
+    let largest = "protocol error: 501 frame too large: 4294967303 bytes";
+    let heartbeat = "protocol error: 501 heartbeat frame received on channel 1";
+    let bad = "failed to parse: frame at byte 7";
+    assert!(rt; misread_ends_with(alloc, Misread::TooLarge(4089), large)?);
+    assert!(rt; misread_ends_with(alloc, Misread::TooLarge(u32::MAX), largest)?);
+    assert!(rt; misread_ends_with(alloc, Misread::BadHeartbeat(1), heartbeat)?);
+    assert!(rt; misread_ends_with(alloc, Misread::Bad(7), bad)?);
+    Ok(())
+}
+
+// ---- ends
+
+fn server_close(alloc: Global, code: u16, text: &[u8]) -> std::result::Result<Frame, Fail> {
+    let text = ShortString::new(alloc, text)?;
+    Ok(Frame::Method(0, Method::Close(code, text, 0, 0)))
+}
+
+const CLOSE_OK: &[u8] = b"\x01\x00\x00\x00\x00\x00\x04\x00\x0a\x00\x33\xce";
+
+#[test]
+fn the_server_closes_with_an_error(rt: HostRuntime) -> std::result::Result<(), Fail> {
+    let alloc = rt.alloc();
+    let mut session = connected(alloc)?;
+    session.frame(server_close(alloc, 320, b"CONNECTION_FORCED")?, 138, 0)?;
+    assert!(rt; session.state() == ConnectionState::Closing && session.end().is_none());
+    session.frame(close_ok(), 166, 0)?;
+    session.misread(Misread::Bad(178), 0)?;
+    assert!(rt; session.end().is_none() && session.drops_input());
+    assert!(rt; writes(alloc, &mut session, CLOSE_OK)?);
+    session.taken(11, 0);
+    assert!(rt; session.end().is_none());
+    session.taken(1, 0);
+    let text = text_of_end(alloc, &session)?;
+    assert!(rt; text.as_str() == "protocol error: 320 CONNECTION_FORCED");
     assert!(rt; session.state() == ConnectionState::Error);
-    assert!(rt; session.end() == Some(Err(ErrorKind::Unbuilt(0).into())));
-    assert!(rt; session.answer(0) == Some(Err(ErrorKind::Unbuilt(0).into())));
-    assert!(rt; is_silent(&mut session));
     Ok(())
 }
 
 #[test]
-fn a_close_ok_without_our_close_is_not_built(rt: HostRuntime) -> std::result::Result<(), Fail> {
+fn the_server_closes_without_an_error(rt: HostRuntime) -> std::result::Result<(), Fail> {
     let alloc = rt.alloc();
     let mut session = connected(alloc)?;
-    session.frame(close_ok(), 138, 0)?;
-    assert!(rt; session.end() == Some(Err(ErrorKind::Unbuilt(138).into())));
+    session.frame(server_close(alloc, 200, b"OK")?, 138, 0)?;
+    session.lost(IoFault::Aborted, 0);
+    assert!(rt; session.end() == Some(Ok(())));
+    assert!(rt; session.state() == ConnectionState::Closed);
     Ok(())
 }
 
 #[test]
-fn a_handshake_off_channel_0_is_not_built(rt: HostRuntime) -> std::result::Result<(), Fail> {
+fn a_link_that_is_lost_ends_the_session(rt: HostRuntime) -> std::result::Result<(), Fail> {
     let alloc = rt.alloc();
     let mut session = connected(alloc)?;
-    session.command(our_close(alloc)?)?;
-    session.frame(Frame::Method(1, Method::CloseOk), 138, 0)?;
-    assert!(rt; session.end() == Some(Err(ErrorKind::Unbuilt(138).into())));
-    Ok(())
-}
-
-#[test]
-fn what_is_no_frame_ends_the_session(rt: HostRuntime) -> std::result::Result<(), Fail> {
-    let mut session = linked(rt.alloc())?;
-    session.misread(7, 0);
-    assert!(rt; session.end() == Some(Err(ErrorKind::Unbuilt(7).into())));
+    session.lost(IoFault::Reset, 0);
+    assert!(rt; text_of_end(alloc, &session)?.as_str() == "IO error: connection reset");
+    let mut refused = Session::new(alloc)?;
+    refused.link_failed(0);
+    assert!(rt; refused.end().is_none());
+    refused.asked();
+    refused.link_failed(0);
+    assert!(rt; text_of_end(alloc, &refused)?.as_str() == "IO error: connection refused");
     Ok(())
 }
 
@@ -252,7 +406,7 @@ fn want_of_memory_ends_the_session(rt: HostRuntime) -> std::result::Result<(), F
     session.advance(4);
     assert!(rt; session.end() == Some(Err(ErrorKind::NoMemory.into())));
     assert!(rt; session.answer(0) == Some(Err(ErrorKind::NoMemory.into())));
-    session.misread(7, 5);
+    session.misread(Misread::Bad(7), 5)?;
     assert!(rt; session.end() == Some(Err(ErrorKind::NoMemory.into())));
     Ok(())
 }
@@ -319,12 +473,8 @@ fn frames_are_read_up_to_the_agreed_size(rt: HostRuntime) -> std::result::Result
     Ok(())
 }
 
-// An error's text, by both ways to write it.
 fn shows(alloc: Global, kind: ErrorKind, text: &str) -> std::result::Result<bool, Fail> {
-    let error = Error::from(kind);
-    let mut room = FixedRoom::new(alloc, error.text_len())?;
-    error.put_text(&mut room);
-    Ok(error.to_string(alloc)?.as_str() == text && room.as_slice() == text.as_bytes())
+    Ok(Error::from(kind).to_string(alloc)?.as_str() == text)
 }
 
 #[test]
@@ -354,6 +504,31 @@ fn errors_have_their_texts(rt: HostRuntime) -> std::result::Result<(), Fail> {
 }
 
 #[test]
+fn errors_of_channels_and_links_have_their_texts(
+    rt: HostRuntime,
+) -> std::result::Result<(), Fail> {
+    let alloc = rt.alloc();
+    let limit = "the maximum number of channels for this connection has been reached";
+    let state = "invalid channel state: Closing (channel.close)";
+    let size = "failed to serialise: frame of 131073 bytes";
+    let shown = "protocol error: 404 a\\x5cb\\x00\\xff~";
+    assert!(rt; shows(alloc, ErrorKind::ChannelsLimitReached, limit)?);
+    let closing = ErrorKind::InvalidChannelState(ChannelState::Closing, Word::ChannelClose);
+    assert!(rt; shows(alloc, closing, state)?);
+    assert!(rt; shows(alloc, ErrorKind::SerialisationError(131_073), size)?);
+    let broken = ErrorKind::IOError(IoFault::BrokenPipe);
+    assert!(rt; shows(alloc, broken, "IO error: broken pipe")?);
+    let other = ErrorKind::IOError(IoFault::Other(Word::NoLoop));
+    assert!(rt; shows(alloc, other, "IO error: no loop")?);
+    let message = ShortString::new(alloc, b"a\\b\x00\xff~")?;
+    let Some(error) = AMQPError::from_code(404, message)? else {
+        return Ok(());
+    };
+    assert!(rt; shows(alloc, ErrorKind::ProtocolError(error), shown)?);
+    Ok(())
+}
+
+#[test]
 fn copies_are_equal(rt: HostRuntime) -> std::result::Result<(), Fail> {
     let alloc = rt.alloc();
     let cmd = our_close(alloc)?;
@@ -363,5 +538,191 @@ fn copies_are_equal(rt: HostRuntime) -> std::result::Result<(), Fail> {
     assert!(rt; *error.kind() == ErrorKind::Unbuilt(9));
     assert!(rt; error != Error::from(ErrorKind::OutOfTurns));
     assert!(rt; ConnectionState::default() == ConnectionState::Initial);
+    Ok(())
+}
+
+// ---- channels
+
+fn open_ok_on(id: u16) -> Frame {
+    Frame::Method(id, Method::ChannelOpenOk)
+}
+
+fn close_ok_on(id: u16) -> Frame {
+    Frame::Method(id, Method::ChannelCloseOk)
+}
+
+fn named(id: u16, opened: u64) -> ChanRef {
+    ChanRef {
+        id,
+        opened: Some(opened),
+    }
+}
+
+fn numbered(id: u16) -> ChanRef {
+    ChanRef { id, opened: None }
+}
+
+fn close_of(alloc: Global, channel: ChanRef) -> std::result::Result<Cmd, Fail> {
+    let text = ShortString::new(alloc, b"OK")?;
+    Ok(Cmd::CloseChannel(channel, 200, text))
+}
+
+// A connection with at most two channels.
+fn connected_for_two(alloc: Global) -> std::result::Result<Session, Fail> {
+    let mut session = linked(alloc)?;
+    session.frame(start(alloc)?, 0, 0)?;
+    session.frame(tune_of(2, 4096, 0), 105, 0)?;
+    session.frame(open_ok(), 125, 0)?;
+    send_all(&mut session);
+    Ok(session)
+}
+
+// A connection with channel 1 open, which promise 1 opened.
+fn with_channel(alloc: Global) -> std::result::Result<Session, Fail> {
+    let mut session = connected(alloc)?;
+    session.command(Cmd::OpenChannel)?;
+    session.frame(open_ok_on(1), 138, 0)?;
+    send_all(&mut session);
+    Ok(session)
+}
+
+#[test]
+fn a_channel_opens(rt: HostRuntime) -> std::result::Result<(), Fail> {
+    let alloc = rt.alloc();
+    let mut session = connected(alloc)?;
+    assert!(rt; session.command(Cmd::OpenChannel)? == Some(1));
+    assert!(rt; writes(alloc, &mut session, b"\x01\x00\x01\x00\x00\x00\x05\x00\x14\x00\x0a\x00\xce")?);
+    assert!(rt; session.channel_state(named(1, 1)) == ChannelState::Initial);
+    assert!(rt; session.answer(1).is_none() && session.listed() == 1);
+    session.frame(open_ok_on(1), 138, 0)?;
+    assert!(rt; session.answer(1) == Some(Ok(Answer::Channel(1, 1))));
+    assert!(rt; session.channel_state(numbered(1)) == ChannelState::Connected);
+    assert!(rt; session.opening(1) == Some(1) && session.opening(2).is_none());
+    assert!(rt; !session.confirm(named(1, 1)));
+    Ok(())
+}
+
+#[test]
+fn numbers_are_drawn_in_a_cycle(rt: HostRuntime) -> std::result::Result<(), Fail> {
+    let alloc = rt.alloc();
+    let mut session = connected_for_two(alloc)?;
+    let limit = Some(Err(ErrorKind::ChannelsLimitReached.into()));
+    session.command(Cmd::OpenChannel)?;
+    session.command(Cmd::OpenChannel)?;
+    session.command(Cmd::OpenChannel)?;
+    assert!(rt; session.opening(1) == Some(1) && session.opening(2) == Some(2));
+    assert!(rt; session.answer(3) == limit);
+    session.frame(open_ok_on(1), 138, 0)?;
+    session.frame(open_ok_on(2), 151, 0)?;
+    session.command(close_of(alloc, numbered(1))?)?;
+    session.frame(close_ok_on(1), 164, 0)?;
+    session.command(close_of(alloc, numbered(2))?)?;
+    session.frame(close_ok_on(2), 176, 0)?;
+    assert!(rt; session.listed() == 0);
+    session.command(Cmd::OpenChannel)?;
+    assert!(rt; session.opening(6) == Some(2));
+    Ok(())
+}
+
+#[test]
+fn a_channel_closes(rt: HostRuntime) -> std::result::Result<(), Fail> {
+    let alloc = rt.alloc();
+    let mut session = with_channel(alloc)?;
+    session.command(close_of(alloc, named(1, 1))?)?;
+    assert!(rt; session.channel_state(named(1, 1)) == ChannelState::Closing);
+    assert!(rt; writes(alloc, &mut session, b"\x01\x00\x01\x00\x00\x00\x0d\x00\x14\x00\x28\x00\xc8\x02OK\x00\x00\x00\x00\xce")?);
+    session.frame(close_ok_on(1), 151, 0)?;
+    assert!(rt; session.answer(2) == Some(Ok(Answer::Done)));
+    assert!(rt; session.channel_state(named(1, 1)) == ChannelState::Closed);
+    assert!(rt; session.listed() == 0 && session.end().is_none());
+    Ok(())
+}
+
+#[test]
+fn commands_on_channels_are_refused(rt: HostRuntime) -> std::result::Result<(), Fail> {
+    let alloc = rt.alloc();
+    let mut session = with_channel(alloc)?;
+    session.command(close_of(alloc, numbered(2))?)?;
+    assert!(rt; session.answer(2) == Some(Err(ErrorKind::InvalidChannel(2).into())));
+    session.command(close_of(alloc, named(1, 2))?)?;
+    assert!(rt; session.answer(3) == Some(Err(ErrorKind::InvalidChannel(1).into())));
+    session.command(close_of(alloc, named(1, 1))?)?;
+    session.command(close_of(alloc, named(1, 1))?)?;
+    let held = ErrorKind::InvalidChannelState(ChannelState::Closing, Word::ChannelClose);
+    assert!(rt; session.answer(5) == Some(Err(held.into())));
+    let method = RawMethod::new(alloc, 60, 40, &[])?;
+    session.command(Cmd::Send(named(1, 1), method))?;
+    let held = ErrorKind::InvalidChannelState(ChannelState::Closing, Word::Send);
+    assert!(rt; session.answer(6) == Some(Err(held.into())));
+    Ok(())
+}
+
+#[test]
+fn a_method_is_sent(rt: HostRuntime) -> std::result::Result<(), Fail> {
+    let alloc = rt.alloc();
+    let mut session = with_channel(alloc)?;
+    let method = RawMethod::new(alloc, 60, 40, b"abc")?;
+    assert!(rt; session.command(Cmd::Send(named(1, 1), method))? == Some(2));
+    assert!(rt; writes(alloc, &mut session, b"\x01\x00\x01\x00\x00\x00\x07\x00\x3c\x00\x28abc\xce")?);
+    session.taken(14, 0);
+    assert!(rt; session.answer(2).is_none());
+    session.taken(1, 0);
+    assert!(rt; session.answer(2) == Some(Ok(Answer::Sent)));
+    Ok(())
+}
+
+#[test]
+fn a_frame_longer_than_the_capacity_is_refused(rt: HostRuntime) -> std::result::Result<(), Fail> {
+    let alloc = rt.alloc();
+    let mut session = with_channel(alloc)?;
+    let args = vec![in alloc; 0u8; 131_061]?;
+    let longest = RawMethod::new(alloc, 60, 40, &args[..131_060])?;
+    session.command(Cmd::Send(named(1, 1), longest))?;
+    session.command(Cmd::Send(named(1, 1), RawMethod::new(alloc, 60, 40, &args)?))?;
+    assert!(rt; session.waiting() == 1 && session.answer(2).is_none());
+    let refused = ErrorKind::SerialisationError(131_073);
+    assert!(rt; session.answer(3) == Some(Err(refused.into())));
+    Ok(())
+}
+
+#[test]
+fn frames_are_handed_out_once(rt: HostRuntime) -> std::result::Result<(), Fail> {
+    let alloc = rt.alloc();
+    let mut session = with_channel(alloc)?;
+    session.frame(raw(alloc, 1, RawKind::RawMethod, &[0, 85, 0, 11])?, 151, 0)?;
+    session.frame(raw(alloc, 1, RawKind::Body, b"x")?, 163, 0)?;
+    assert!(rt; session.confirm(named(1, 1)));
+    let frames = session.take_frames(1)?;
+    assert!(rt; frames.len() == 2);
+    assert!(rt; frames[0].channel == 1 && frames[0].kind == RawKind::RawMethod);
+    assert!(rt; frames[0].bytes.as_bytes() == [0, 85, 0, 11].as_slice());
+    assert!(rt; frames[1].kind == RawKind::Body && frames[1].bytes.as_bytes() == b"x".as_slice());
+    assert!(rt; session.take_frames(1)?.is_empty() && session.take_frames(7)?.is_empty());
+    Ok(())
+}
+
+#[test]
+fn closing_takes_the_channels_with_it(rt: HostRuntime) -> std::result::Result<(), Fail> {
+    let alloc = rt.alloc();
+    let mut session = with_channel(alloc)?;
+    session.command(our_close(alloc)?)?;
+    assert!(rt; session.channel_state(named(1, 1)) == ChannelState::Closing);
+    session.frame(raw(alloc, 1, RawKind::Body, b"x")?, 151, 0)?;
+    session.frame(open_ok_on(1), 160, 0)?;
+    session.frame(Frame::Method(5, Method::CloseOk), 173, 0)?;
+    assert!(rt; session.end().is_none() && session.take_frames(1)?.len() == 1);
+    session.frame(close_ok(), 185, 0)?;
+    assert!(rt; session.listed() == 0 && session.end() == Some(Ok(())));
+    assert!(rt; session.channel_state(named(1, 1)) == ChannelState::Closed);
+    Ok(())
+}
+
+#[test]
+fn unawaited_channel_methods_are_fatal(rt: HostRuntime) -> std::result::Result<(), Fail> {
+    let alloc = rt.alloc();
+    let open = "protocol error: 505 unexpected channel.open-ok received on channel 1";
+    let close = "protocol error: 505 unexpected channel.close-ok received on channel 1";
+    assert!(rt; ends_with(alloc, with_channel(alloc)?, open_ok_on(1), open)?);
+    assert!(rt; ends_with(alloc, with_channel(alloc)?, close_ok_on(1), close)?);
     Ok(())
 }

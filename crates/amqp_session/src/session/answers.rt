@@ -1,49 +1,73 @@
-//! The answers to promises.
+//! The answers to promises, and the frames handed out.
 
-ghost use Rattle.std.specs.Prelude.{◌≡◌};
+ghost use Rattle.std.specs.Prelude.{◌≡◌, IfOk, OnErr, IsOk};
 ghost use Rattle.amqp_session.specs.Talk.{end_of};
-ghost use Rattle.amqp_session.specs.Answers.{rejection, answer_of, take_answer};
+ghost use Rattle.amqp_session.specs.Channels.{frames_of};
+ghost use Rattle.amqp_session.specs.Answers.{rejection, answer_of, take_answer, take_frames, Takes, IsRejected};
 
 use super::Session;
 use crate::command::Answer;
 use crate::error::{self, ErrorKind};
+use crate::handed::Handed;
 use crate::promises::Slot;
 use crate::state::{ConnectionState, Link};
+use amqp_types::NoMemory;
 
 impl Session {
-    /// Takes the answer to a promise, where there is one that was not taken.
+    /// Takes the answer to a promise, where there is one that was not taken. Where it is an error and
+    /// memory for its copy is refused, that is told in its place, and the answer can still be taken.
     pub fn answer(&mut self, number: u64) -> Option<error::Result<Answer>>
-        ensures answer { result ≡ answer_of number self.old }
-        ensures taken { self.new ≡ take_answer number self.old }
+        ensures { Takes number result self.old self.new }
     {
-        let answer = self.untaken(number);
-        if answer.is_some() {
-            self.promises[number as usize] = Slot::Taken;
+        match self.untaken(number) {
+            Ok(answer) => {
+                if answer.is_some() {
+                    self.promises[number as usize] = Slot::Taken;
+                }
+                answer
+            }
+            Err(refused) => Some(Err(refused.into())),
         }
-        answer
     }
 
-    fn untaken(&self, number: u64) -> Option<error::Result<Answer>>
-        ensures { result ≡ answer_of number self.now }
+    // The untaken answer to a promise; an Err where memory for an error's copy was refused.
+    fn untaken(&self, number: u64) -> Result<Option<error::Result<Answer>>, NoMemory>
+        ensures answer { IfOk result (λ answer. answer ≡ answer_of number self.now) }
+        ensures refused { OnErr result (IsRejected (answer_of number self.now)) }
     {
         if number >= self.promises() {
-            return None;
+            return Ok(None);
         }
-        match &self.promises[number as usize] {
-            Slot::Waiting => self.rejection(),
+        Ok(match &self.promises[number as usize] {
+            Slot::Waiting => self.rejection()?,
             Slot::Answered(Ok(answer)) => Some(Ok(*answer)),
-            Slot::Answered(Err(error)) => Some(Err(error.copied())),
+            Slot::Answered(Err(error)) => Some(Err(error.try_clone(self.alloc)?)),
             Slot::Taken => None,
-        }
+        })
     }
 
     // How the end answers a promise that still waits.
-    fn rejection(&self) -> Option<error::Result<Answer>>
-        ensures { result ≡ rejection (end_of self.now) }
+    fn rejection(&self) -> Result<Option<error::Result<Answer>>, NoMemory>
+        ensures answer { IfOk result (λ answer. answer ≡ rejection (end_of self.now)) }
+        ensures refused { OnErr result (IsRejected (rejection (end_of self.now))) }
     {
-        match self.end()? {
-            Ok(()) => Some(Err(ErrorKind::InvalidConnectionState(ConnectionState::Closed).into())),
-            Err(error) => Some(Err(error)),
+        match &self.link {
+            Link::Ended(Ok(())) => {
+                let closed = ErrorKind::InvalidConnectionState(ConnectionState::Closed);
+                Ok(Some(Err(closed.into())))
+            }
+            Link::Ended(Err(error)) => Ok(Some(Err(error.try_clone(self.alloc)?))),
+            _ => Ok(None),
         }
+    }
+
+    /// Takes the frames handed out of the channel that a promise opened, in order, as many as were
+    /// not yet taken. They are moved out, and no memory is taken.
+    pub fn take_frames(&mut self, opened: u64) -> Result<Vec<Handed>, NoMemory>
+        ensures frames { IfOk result (λ frames. frames.items ≡ frames_of opened self.old) }
+        ensures taken { self.new ≡ take_frames opened self.old }
+        ensures takes_no_memory { IsOk result }
+    {
+        Ok(self.backlog.take(opened))
     }
 }

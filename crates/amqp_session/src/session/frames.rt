@@ -1,17 +1,17 @@
 //! The frames that are read.
 
 ghost use Rattle.std.specs.Prelude.{◌≡◌, IfErr, OnOk, OnErr};
-ghost use Rattle.amqp_session.specs.Rules.{present_at, starve, queue, on_start, on_tune, on_open_ok, on_connection_close_ok, frame_row, on_frame};
+ghost use Rattle.amqp_session.specs.Changes.{present_at, starve};
+ghost use Rattle.amqp_session.specs.Channels.{channel_method};
+ghost use Rattle.amqp_session.specs.Connections.{connection_row};
+ghost use Rattle.amqp_session.specs.Frames.{is_unbuilt, is_of_a_channel, misplaced, method_on_0, method_on, built_method, frame_row, on_frame};
 
 use super::Session;
-use crate::command::Answer;
-use crate::configuration::{Configuration, tune};
 use crate::error::{self, ErrorKind};
-use crate::handshake::{open_vhost, start_ok, tune_ok};
-use crate::state::ConnectionState::{Closing, Connected, Connecting};
-use crate::state::Phase::{AwaitOpenOk, AwaitStart, AwaitTune};
-use amqp_frame::{Frame, Method};
-use amqp_types::NoMemory;
+use crate::state::{ConnectionState, Input};
+use crate::violations::{connection_method_on, on_channel_0};
+use amqp_frame::{Frame, Method, RawKind};
+use amqp_types::{ChannelId, NoMemory};
 
 impl Session {
     /// A frame was read, which stood at a place of the link's received bytes.
@@ -21,10 +21,10 @@ impl Session {
         ensures only { IfErr result (λ e. e ≡ ErrorKind.NoMemory) }
     {
         self.advance(at);
-        if !self.is_open() {
+        if !self.is_open() || self.input != Input::Acting {
             return Ok(());
         }
-        match self.react(&frame, place) {
+        match self.react(frame, place) {
             Ok(()) => Ok(()),
             Err(refused) => {
                 self.fail(ErrorKind::NoMemory);
@@ -33,78 +33,97 @@ impl Session {
         }
     }
 
-    fn react(&mut self, frame: &Frame, place: u64) -> Result<(), NoMemory>
-        ensures ok { OnOk result (self.new ≡ frame_row self.old.state self.old.phase frame.now place self.old) }
+    fn react(&mut self, frame: Frame, place: u64) -> Result<(), NoMemory>
+        ensures ok { OnOk result (self.new ≡ frame_row frame place self.old) }
         ensures err { OnErr result (self.new ≡ self.old) }
     {
-        match (self.state, self.phase, frame) {
-            (Connecting, AwaitStart, Frame::Method(0, Method::Start(..))) => self.on_start(),
-            (
-                Connecting,
-                AwaitTune,
-                Frame::Method(0, Method::Tune(channel_max, frame_max, heartbeat)),
-            ) => {
-                self.on_tune(Configuration {
-                    channel_max: *channel_max,
-                    frame_max: *frame_max,
-                    heartbeat: *heartbeat,
-                })
-            }
-            (Connecting, AwaitOpenOk, Frame::Method(0, Method::OpenOk)) => {
-                self.on_open_ok();
+        match frame {
+            Frame::ProtocolHeader(version) => {
+                self.lose(ErrorKind::InvalidProtocolVersion(version));
                 Ok(())
             }
-            (Closing, _, Frame::Method(0, Method::CloseOk)) => {
-                self.on_connection_close_ok(place);
-                Ok(())
-            }
-            _ => {
-                self.fail(ErrorKind::Unbuilt(place));
-                Ok(())
-            }
+            Frame::Heartbeat => Ok(()),
+            Frame::Method(id, method) => self.on_method(id, method, place),
+            Frame::Raw(0, kind, _) => self.frame_on_channel_0(kind),
+            Frame::Raw(id, kind, bytes) => self.raw_frame(id, kind, bytes),
         }
     }
 
-    fn on_start(&mut self) -> Result<(), NoMemory>
-        ensures ok { OnOk result (self.new ≡ on_start self.old) }
+    fn on_method(&mut self, id: ChannelId, method: Method, place: u64) -> Result<(), NoMemory>
+        ensures ok { OnOk result (self.new ≡ frame_row (Frame.Method id method) place self.old) }
         ensures err { OnErr result (self.new ≡ self.old) }
     {
-        let frame = start_ok(self.alloc)?;
-        self.committed.reserve(self.lanes.len() + 1)?;
-        self.lanes.queue(frame)?;
-        self.phase = AwaitTune;
-        Ok(())
+        if is_unbuilt(&method) {
+            self.fail(ErrorKind::Unbuilt(place));
+            return Ok(());
+        }
+        self.built_method(id, method)
     }
 
-    fn on_tune(&mut self, server: Configuration) -> Result<(), NoMemory>
-        ensures ok { OnOk result (self.new ≡ on_tune server self.old) }
+    fn built_method(&mut self, id: ChannelId, method: Method) -> Result<(), NoMemory>
+        ensures ok { OnOk result (self.new ≡ built_method id method self.old) }
         ensures err { OnErr result (self.new ≡ self.old) }
     {
-        let agreed = tune(self.configuration, server);
-        let open = open_vhost(self.alloc)?;
-        self.committed.reserve(self.lanes.len() + 2)?;
-        self.lanes.queue_both(tune_ok(agreed), open)?;
-        self.configuration = agreed;
-        self.phase = AwaitOpenOk;
-        Ok(())
-    }
-
-    fn on_open_ok(&mut self)
-        ensures { self.new ≡ on_open_ok self.old }
-    {
-        self.give(0, Ok(Answer::Connected));
-        self.state = Connected;
-    }
-
-    fn on_connection_close_ok(&mut self, place: u64)
-        ensures { self.new ≡ on_connection_close_ok self.old.closes place self.old }
-    {
-        match self.lanes.close_answered() {
-            None => self.fail(ErrorKind::Unbuilt(place)),
-            Some(number) => {
-                self.give(number, Ok(Answer::Done));
-                self.finish();
-            }
+        match (id, is_of_a_channel(&method)) {
+            (0, true) => self.frame_on_channel_0(RawKind::RawMethod),
+            (0, false) => self.connection_method(method),
+            (_, true) => self.channel_method(id, &method),
+            (_, false) => self.connection_method_off_channel_0(id),
         }
     }
+
+    // A frame of a channel does not stand on channel 0.
+    fn frame_on_channel_0(&mut self, kind: RawKind) -> Result<(), NoMemory>
+        ensures ok { OnOk result (self.new ≡ misplaced (on_channel_0 kind) self.old) }
+        ensures err { OnErr result (self.new ≡ self.old) }
+    {
+        if self.state != ConnectionState::Closing {
+            let error = on_channel_0(self.alloc, kind)?;
+            self.lose(error);
+        }
+        Ok(())
+    }
+
+    // A method of the connection class stands on channel 0 alone.
+    fn connection_method_off_channel_0(&mut self, id: ChannelId) -> Result<(), NoMemory>
+        ensures ok { OnOk result (self.new ≡ misplaced (connection_method_on id) self.old) }
+        ensures err { OnErr result (self.new ≡ self.old) }
+    {
+        if self.state != ConnectionState::Closing {
+            let error = connection_method_on(self.alloc, id)?;
+            self.lose(error);
+        }
+        Ok(())
+    }
+}
+
+// The methods that no rule takes yet.
+fn is_unbuilt(method: &Method) -> bool
+    ensures { result ≡ is_unbuilt method.now }
+{
+    matches!(
+        method,
+        Method::Secure(_)
+            | Method::Blocked(_)
+            | Method::Unblocked
+            | Method::UpdateSecretOk
+            | Method::ChannelFlow(_)
+            | Method::ChannelFlowOk(_)
+            | Method::ChannelClose(..)
+    )
+}
+
+// The methods of the channel class.
+fn is_of_a_channel(method: &Method) -> bool
+    ensures { result ≡ is_of_a_channel method.now }
+{
+    matches!(
+        method,
+        Method::ChannelOpen
+            | Method::ChannelOpenOk
+            | Method::ChannelFlow(_)
+            | Method::ChannelFlowOk(_)
+            | Method::ChannelClose(..)
+            | Method::ChannelCloseOk
+    )
 }

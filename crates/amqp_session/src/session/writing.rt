@@ -1,29 +1,37 @@
 //! The frames that are written.
 
-ghost use Rattle.std.specs.Prelude.{◌≡◌, ◌+◌, ◌≤◌};
-ghost use Rattle.amqp_session.specs.Rules.{present_at};
-ghost use Rattle.amqp_session.specs.Writing.{next_within, commit, unsent, first_sent, after_first, taken};
+ghost use Rattle.std.specs.Prelude.{◌≡◌, ◌+◌, ◌≤◌, option_map};
+ghost use Rattle.amqp_session.specs.declared.lanes.Item.{Item};
+ghost use Rattle.amqp_session.specs.Changes.{present_at};
+ghost use Rattle.amqp_session.specs.Writing.{next_within, commit, unsent, first_sent, after_first, follow, taken};
 
 use super::{CAPACITY, Session};
-use crate::committed::Mark;
+use crate::command::Answer;
+use crate::committed::{Mark, Then};
+use crate::lanes::Item;
 use amqp_frame::{Frame, encoded_len};
 
 impl Session {
     /// Commits the next frame, where it is at most so many bytes long. It takes no memory.
     pub fn next_frame(&mut self, space: u64) -> Option<Frame>
         requires { space + unsent self.old ≤ CAPACITY }
-        ensures frame { result ≡ next_within space self.old }
+        ensures frame { result ≡ option_map (λ (item : Item). item.frame) (next_within space self.old) }
         ensures commit { self.new ≡ commit space self.old }
     {
         if !self.is_open() {
             return None;
         }
-        let size = encoded_len(self.lanes.front()?);
-        if size > space {
+        let front = self.lanes.front()?;
+        let mark = Mark {
+            left: encoded_len(&front.frame),
+            then: front.then,
+        };
+        if mark.left > space {
             return None;
         }
-        self.committed.push(size);
-        self.lanes.next()
+        self.committed.push(mark);
+        let Item { frame, then: _ } = self.lanes.next()?;
+        Some(frame)
     }
 
     /// So many of the unsent bytes were taken.
@@ -39,6 +47,7 @@ impl Session {
         let mut left = n;
         while let Some(mark) = self.take_first(left) {
             left -= mark.left;
+            self.follow(mark.then);
         }
     }
 
@@ -49,5 +58,16 @@ impl Session {
         ensures rest { self.new ≡ record self.old { committed = after_first n self.old.committed } }
     {
         self.committed.take_first(n)
+    }
+
+    // What follows once a frame was sent whole.
+    fn follow(&mut self, then: Then)
+        ensures { self.new ≡ follow then self.old }
+    {
+        match then {
+            Then::Nothing => {}
+            Then::Answer(number) => self.give(number, Ok(Answer::Sent)),
+            Then::Finish => self.finish(),
+        }
     }
 }

@@ -1,0 +1,137 @@
+-- Commands: what a session is told to do. Each takes the next promise; a refused one is answered at once.
+use Rattle.std.specs.Prelude.{◌≡◌, ℕ, ◌==◌, nat_lt, if◌then◌else◌, Bool, true, false, List, [], ◌∷◌, ◌++◌, length, Option, Some, None}
+use Rattle.amqp_frame.specs.declared.frame.Frame.{Frame}
+use Rattle.amqp_frame.specs.declared.frame.Frame.TheVariants.{Raw}
+use Rattle.amqp_frame.specs.declared.frame.RawKind.TheVariants.{RawMethod}
+use Rattle.amqp_frame.specs.RawMethods.{OtherMethod, spell_raw_method}
+use Rattle.amqp_frame.specs.Frames.{encoding}
+use Rattle.amqp_types.specs.declared.word.Word.{Word}
+use Rattle.amqp_types.specs.declared.word.Word.TheVariants as word
+use Rattle.amqp_session.specs.declared.state.ConnectionState.{ConnectionState}
+use Rattle.amqp_session.specs.declared.state.ConnectionState.TheVariants.{Connected, Closing}
+use Rattle.amqp_session.specs.declared.state.ChannelState.{ChannelState}
+use Rattle.amqp_session.specs.declared.state.ChannelState.TheVariants as channel
+use Rattle.amqp_session.specs.declared.session.TheConstants.{CAPACITY}
+use Rattle.amqp_session.specs.declared.channels.Channel.{Channel}
+use Rattle.amqp_session.specs.declared.lanes.Reply.TheVariants.{ChannelOpened, ChannelClosed, ConnectionClosed}
+use Rattle.amqp_session.specs.declared.committed.Then.TheVariants.{Answer as AnswerThen}
+use Rattle.amqp_session.specs.declared.command.ChanRef.{ChanRef}
+use Rattle.amqp_session.specs.declared.command.Cmd.{Cmd}
+use Rattle.amqp_session.specs.declared.command.Cmd.TheVariants.{OpenChannel, CloseChannel, CloseConnection, Send}
+use Rattle.amqp_session.specs.declared.error.ErrorKind.{ErrorKind}
+use Rattle.amqp_session.specs.declared.error.ErrorKind.TheVariants.{ChannelsLimitReached, InvalidChannel, InvalidChannelState, InvalidConnectionState, SerialisationError}
+use Rattle.amqp_session.specs.Listed.{put, map_values}
+use Rattle.amqp_session.specs.Talk.{Talk}
+use Rattle.amqp_session.specs.Numbering.{first_number, after, drawn}
+use Rattle.amqp_session.specs.Handshake.{our_close, channel_open, our_channel_close}
+use Rattle.amqp_session.specs.Changes.{queue, queue_item, await, next_promise, promise, refuse}
+use Rattle.amqp_session.specs.Channels.{channel_at, set_channel}
+
+-- ---- opening a channel
+
+-- a channel whose opening a promise waits for
+abbrev pub new_channel : ℕ → Channel
+new_channel opened = record { state = channel.Initial; flow = true; confirm = false; opened = opened }
+
+-- the channel of a number is listed, its opening is queued, and its promise waits for the open-ok; the cursor goes on
+abbrev pub open_as : ℕ → Talk → Talk
+open_as n t =
+    let number = next_promise t in
+    let listed = record (set_channel n (new_channel number) t) { cursor = after t.configuration.channel_max n } in
+    promise (await n ChannelOpened (Some number) (queue (channel_open n) listed))
+
+-- every number is listed, and the opening is refused; the cursor goes on all the same
+abbrev pub open_none : ℕ → Talk → Talk
+open_none first t = record (refuse ChannelsLimitReached t) { cursor = after t.configuration.channel_max first }
+
+abbrev pub open_drawn : Option ℕ → ℕ → Talk → Talk
+open_drawn None first t = open_none first t
+open_drawn (Some n) first t = open_as n t
+
+-- the first number of the cycle that is not listed is drawn
+abbrev pub open_channel : Talk → Talk
+open_channel t =
+    let first = first_number t.configuration.channel_max t.cursor in
+    open_drawn (drawn t.configuration.channel_max first t.channels) first t
+
+-- ---- what is told of a channel
+
+abbrev pub is_opening : Option ℕ → ℕ → Bool
+is_opening None opened = true
+is_opening (Some number) opened = number == opened
+
+abbrev pub named_in : Option ℕ → Option Channel → Option Channel
+named_in opened None = None
+named_in opened (Some c) = if is_opening opened c.opened then Some c else None
+
+-- the listed channel that is named, by its number and, where the promise that opened it is named, by that
+abbrev pub named : ChanRef → Talk → Option Channel
+named r t = named_in r.opened (channel_at r.id t)
+
+abbrev pub in_state : ChannelState → Word → (Talk → Talk) → Talk → Talk
+in_state channel.Connected word f t = f t
+in_state held word f t = refuse (InvalidChannelState held word) t
+
+abbrev pub on_channel : ℕ → Word → (Channel → Talk → Talk) → Option Channel → Talk → Talk
+on_channel n word f None t = refuse (InvalidChannel n) t
+on_channel n word f (Some c) t = in_state c.state word (f c) t
+
+-- what is told of a channel is done where the channel is listed and open, and else refused
+abbrev pub on_open_channel : ChanRef → Word → (Channel → Talk → Talk) → Talk → Talk
+on_open_channel r word f t = on_channel r.id word f (named r t) t
+
+-- this is the named channel, and it is open
+pub record IsOpenNamed (r : ChanRef) (c : Channel) (t : Talk) : Type 0 where
+  pub named : named r t ≡ Some c
+  pub listed : channel_at r.id t ≡ Some c
+  pub open_state : c.state ≡ channel.Connected
+
+-- what is told of the named channel is refused so, whatever it is
+abbrev pub Refuses : ChanRef → Word → ErrorKind → Talk → Type 0
+Refuses r word e t = (f : Channel → Talk → Talk) → on_open_channel r word f t ≡ refuse e t
+
+-- ---- closing a channel
+
+-- our close of the channel is queued, and its promise waits for the close-ok
+abbrev pub close_channel : ℕ → ℕ → List ℕ → Channel → Talk → Talk
+close_channel n code text c t =
+    let closing = set_channel n (record c { state = channel.Closing }) t in
+    promise (await n ChannelClosed (Some (next_promise t)) (queue (our_channel_close n code text) closing))
+
+-- ---- sending
+
+abbrev pub method_frame : ℕ → OtherMethod → Frame
+method_frame n method = Raw n RawMethod (spell_raw_method method)
+
+-- the frame is queued, and its promise waits until its last byte is sent; a frame longer than the capacity is refused
+abbrev pub send : ℕ → OtherMethod → Talk → Talk
+send n method t =
+    let frame = method_frame n method in
+    if nat_lt CAPACITY (length (encoding frame))
+    then refuse (SerialisationError (length (encoding frame))) t
+    else promise (queue_item (record { frame = frame; then = AnswerThen (next_promise t) }) t)
+
+-- ---- closing the connection
+
+abbrev pub closing : Channel → Channel
+closing c = record c { state = channel.Closing }
+
+-- our close is queued, all channels are closing, and its promise waits for the close-ok
+abbrev pub close_connection : ℕ → List ℕ → Talk → Talk
+close_connection code text t =
+    let all_closing = record t { state = Closing; channels = map_values closing t.channels } in
+    promise (await 0 ConnectionClosed (Some (next_promise t)) (queue (our_close code text) all_closing))
+
+-- ---- the table
+
+-- the rule for a command, by state
+abbrev pub command_row : ConnectionState → Cmd → Talk → Talk
+command_row Connected OpenChannel t = open_channel t
+command_row Connected (CloseChannel r code text) t = on_open_channel r word.ChannelClose (close_channel r.id code text) t
+command_row Connected (CloseConnection code text) t = close_connection code text t
+command_row Connected (Send r method) t = on_open_channel r word.Send (λ c. send r.id method) t
+command_row held _ t = refuse (InvalidConnectionState held) t
+
+-- a command is told
+abbrev pub command : Cmd → Talk → Talk
+command c t = command_row t.state c t

@@ -1,0 +1,64 @@
+-- Links: that one is asked for, comes or does not come, gives bytes, and ends.
+use Rattle.std.specs.Prelude.{ℕ, if◌then◌else◌, Bool, true, false, List, [], ◌∷◌}
+use Rattle.amqp_session.specs.declared.state.ConnectionState.TheVariants.{Connecting}
+use Rattle.amqp_session.specs.declared.state.Phase.TheVariants.{AwaitStart}
+use Rattle.amqp_session.specs.declared.state.Link.{Link}
+use Rattle.amqp_session.specs.declared.state.Link.TheVariants.{Wanted, Asked, Open}
+use Rattle.amqp_session.specs.declared.state.Input.{Input}
+use Rattle.amqp_session.specs.declared.state.Input.TheVariants.{Acting, Closed, Dropped}
+use Rattle.amqp_session.specs.declared.io_fault.IoFault.{IoFault}
+use Rattle.amqp_session.specs.declared.io_fault.IoFault.TheVariants.{Refused}
+use Rattle.amqp_session.specs.declared.error.ErrorKind.TheVariants.{IOError}
+use Rattle.amqp_session.specs.declared.misread.Misread.{Misread}
+use Rattle.amqp_session.specs.Talk.{Talk, is_asked, is_open}
+use Rattle.amqp_session.specs.Handshake.{protocol_header}
+use Rattle.amqp_session.specs.Violations.{misread_error}
+use Rattle.amqp_session.specs.Changes.{plain, fail, lose, finish}
+
+abbrev pub asked_link : Link → Link
+asked_link Wanted = Asked
+asked_link link = link
+
+-- the link that is wanted is asked for
+abbrev pub asked : Talk → Talk
+asked t = record t { link = asked_link t.link }
+
+-- the link that was asked for is there: nothing but the protocol header is to be written on it, and its frames act
+abbrev pub linked : Talk → Talk
+linked t =
+    if is_asked t
+    then record t {
+      state = Connecting;
+      phase = AwaitStart;
+      link = Open;
+      input = Acting;
+      control = plain protocol_header ∷ [];
+      committed = [];
+      last_read = t.present;
+      last_write = t.present;
+    }
+    else t
+
+-- the link that was asked for is refused
+abbrev pub link_failed : Talk → Talk
+link_failed t = if is_asked t then fail (IOError Refused) t else t
+
+-- bytes were read on the open link
+abbrev pub piece : Talk → Talk
+piece t = if is_open t then record t { last_read = t.present } else t
+
+abbrev pub misread_by : Input → Misread → Talk → Talk
+misread_by Acting why t = lose (misread_error why) t
+misread_by _ why t = record t { input = Dropped }
+
+-- what was read on the open link is no frame: it is fatal, but after the server's close no more of the link is read
+abbrev pub misread : Misread → Talk → Talk
+misread why t = if is_open t then misread_by t.input why t else t
+
+abbrev pub lost_by : Input → IoFault → Talk → Talk
+lost_by Acting fault t = lose (IOError fault) t
+lost_by _ fault t = finish t
+
+-- the open link is lost: after the server's close that is its end, and else a fault
+abbrev pub lost : IoFault → Talk → Talk
+lost fault t = if is_open t then lost_by t.input fault t else t

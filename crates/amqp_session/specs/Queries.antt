@@ -1,0 +1,34 @@
+-- What is told of a channel.
+use Rattle.std.specs.Prelude.{ℕ, ◌==◌, Bool, false, Option, Some, None, option_map, find}
+use Rattle.amqp_session.specs.declared.state.ConnectionState.{ConnectionState}
+use Rattle.amqp_session.specs.declared.state.ConnectionState.TheVariants.{Error}
+use Rattle.amqp_session.specs.declared.state.ChannelState.{ChannelState}
+use Rattle.amqp_session.specs.declared.state.ChannelState.TheVariants as channel
+use Rattle.amqp_session.specs.declared.channels.Channel.{Channel}
+use Rattle.amqp_session.specs.declared.command.ChanRef.{ChanRef}
+use Rattle.amqp_session.specs.Talk.{Talk}
+use Rattle.amqp_session.specs.Commands.{named}
+
+abbrev pub gone_in : ConnectionState → ChannelState
+gone_in Error = channel.Error
+gone_in _ = channel.Closed
+
+abbrev pub state_of : Option Channel → Talk → ChannelState
+state_of None t = gone_in t.state
+state_of (Some c) t = c.state
+
+-- the state of a channel, also of one that is gone
+abbrev pub channel_state : ChanRef → Talk → ChannelState
+channel_state r t = state_of (named r t) t
+
+abbrev pub confirm_of : Option Channel → Bool
+confirm_of None = false
+confirm_of (Some c) = c.confirm
+
+-- whether what is published on a channel is confirmed
+abbrev pub confirm : ChanRef → Talk → Bool
+confirm r t = confirm_of (named r t)
+
+-- the number of the listed channel that a promise opened
+abbrev pub opening : ℕ → Talk → Option ℕ
+opening opened t = option_map (λ e. e.0) (find (λ e. (e.1).opened == opened) t.channels)

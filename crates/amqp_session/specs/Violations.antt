@@ -1,0 +1,61 @@
+-- What a server does that it may not do: the error, by code and text, that each such frame is answered with (AMQP 0-9-1, 4.8.2 and the reply codes of its reference).
+use Rattle.std.specs.Prelude.{ℕ, ◌+◌, List, ◌++◌, codes, Option, Some, None, is_some, if◌then◌else◌}
+use Rattle.std.specs.Fmt.{decimal}
+use Rattle.amqp_types.specs.Codes.{kind_of}
+use Rattle.amqp_frame.specs.declared.frame.RawKind.{RawKind}
+use Rattle.amqp_frame.specs.declared.frame.RawKind.TheVariants.{RawMethod, Header, Body}
+use Rattle.amqp_frame.specs.declared.method.Method.{Method}
+use Rattle.amqp_frame.specs.declared.method.Method.TheVariants.{ChannelOpen, ChannelOpenOk, ChannelFlow, ChannelFlowOk, ChannelClose}
+use Rattle.amqp_session.specs.declared.state.ConnectionState.TheVariants.{Closed}
+use Rattle.amqp_session.specs.declared.error.ErrorKind.{ErrorKind}
+use Rattle.amqp_session.specs.declared.error.ErrorKind.TheVariants.{InvalidConnectionState, ParsingError, ProtocolError}
+use Rattle.amqp_session.specs.declared.misread.Misread.{Misread}
+use Rattle.amqp_session.specs.declared.misread.Misread.TheVariants.{TooLarge, BadHeartbeat, Bad}
+
+abbrev pub protocol_error : ℕ → List ℕ → ErrorKind
+protocol_error code text = ProtocolError (record { code = code; message = text })
+
+-- 501, frame-error: a frame larger than was agreed, of so many octets of payload
+abbrev pub frame_too_large : ℕ → ErrorKind
+frame_too_large size = protocol_error 501 (codes "frame too large: " ++ decimal (size + 8) ++ codes " bytes")
+
+-- 501, frame-error: a heartbeat stands on channel 0
+abbrev pub heartbeat_on : ℕ → ErrorKind
+heartbeat_on channel = protocol_error 501 (codes "heartbeat frame received on channel " ++ decimal channel)
+
+-- what is no frame
+abbrev pub misread_error : Misread → ErrorKind
+misread_error (TooLarge size) = frame_too_large size
+misread_error (BadHeartbeat channel) = heartbeat_on channel
+misread_error (Bad place) = ParsingError place
+
+-- 503, command-invalid: a method of the connection class stands on channel 0
+abbrev pub connection_method_on : ℕ → ErrorKind
+connection_method_on channel = protocol_error 503 (codes "connection frame received on channel " ++ decimal channel)
+
+abbrev pub raw_name : RawKind → List ℕ
+raw_name RawMethod = codes "method"
+raw_name Header = codes "content header"
+raw_name Body = codes "body"
+
+-- 504, channel-error: what belongs to a channel does not stand on channel 0
+abbrev pub on_channel_0 : RawKind → ErrorKind
+on_channel_0 kind = protocol_error 504 (raw_name kind ++ codes " frame received on channel 0")
+
+-- the name of a method of the channel class
+abbrev pub method_name : Method → List ℕ
+method_name ChannelOpen = codes "open"
+method_name ChannelOpenOk = codes "open-ok"
+method_name (ChannelFlow active) = codes "flow"
+method_name (ChannelFlowOk active) = codes "flow-ok"
+method_name (ChannelClose code text class method) = codes "close"
+method_name _ = codes "close-ok"
+
+-- 505, unexpected-frame: a method of the channel class that nothing awaits
+abbrev pub unawaited : Method → ℕ → ErrorKind
+unawaited method channel =
+    protocol_error 505 (codes "unexpected channel." ++ method_name method ++ codes " received on channel " ++ decimal channel)
+
+-- what the server's close tells, by its code: an error, or that the connection is closed
+abbrev pub close_error : ℕ → List ℕ → ErrorKind
+close_error code text = if is_some (kind_of code) then protocol_error code text else InvalidConnectionState Closed

@@ -1,0 +1,182 @@
+//! The listed channels.
+
+ghost use Rattle.std.specs.Prelude.{◌≡◌, ◌==◌, ◌+◌, ◌-◌, ◌≤◌, ◌<◌, ◌^◌, not, [], IfSome, IfOk, OnOk, OnErr, IsSome, option_map, length, find, is_some};
+ghost use Rattle.std.specs.List.{range_with_len};
+ghost use Rattle.amqp_session.specs.Listed.{at, put, without, map_values, has};
+ghost use Rattle.amqp_session.specs.Numbering.{first_number, after, drawn};
+ghost use Rattle.amqp_session.specs.Commands.{closing, new_channel};
+
+use crate::state::ChannelState;
+use amqp_types::{ChannelId, NoMemory};
+use std::alloc::Global;
+use std::collections::BTreeMap;
+use std::marker::Model;
+
+/// A listed channel.
+#[derive(Clone, Copy, Debug, PartialEq, Eq)]
+pub struct Channel {
+    pub state: ChannelState,
+    /// Whether the server lets content be published on it.
+    pub flow: bool,
+    /// Whether the server confirms what is published on it.
+    pub confirm: bool,
+    /// The promise that opened it.
+    pub opened: u64,
+}
+
+impl Channel {
+    /// A channel that a promise opens.
+    pub fn opened_by(opened: u64) -> Channel
+        ensures { result ≡ new_channel opened }
+    {
+        Channel {
+            state: ChannelState::Initial,
+            flow: true,
+            confirm: false,
+            opened,
+        }
+    }
+}
+
+/// The listed channels, by their numbers.
+#[derive(Debug, Drop)]
+pub struct Channels {
+    listed: BTreeMap<ChannelId, Channel>,
+}
+
+impl Model for Channels {
+    ghost use Rattle.std.specs.Prelude.{ℕ, List};
+    ghost use Rattle.amqp_session.specs.declared.channels.Channel.{Channel};
+
+    ghost Value = { List (ℕ × Channel) };
+
+    ghost view = { λ c. c.listed.entries };
+}
+
+impl Channels {
+    pub fn new(alloc: Global) -> Channels
+        ensures { result ≡ [] }
+    {
+        Channels {
+            listed: BTreeMap::new(alloc),
+        }
+    }
+
+    /// How many channels are listed.
+    pub fn len(&self) -> u64
+        ensures { result ≡ length self.now }
+    {
+        self.listed.len() as u64
+    }
+
+    /// The channel of a number.
+    pub fn get(&self, id: ChannelId) -> Option<Channel>
+        ensures { result ≡ at id self.now }
+    {
+        self.listed.get(&id).copied()
+    }
+
+    fn has(&self, id: ChannelId) -> bool
+        ensures { result ≡ has id self.now }
+    {
+        self.listed.contains_key(&id)
+    }
+
+    /// Lists a channel.
+    pub fn list(&mut self, id: ChannelId, channel: Channel) -> Result<(), NoMemory>
+        ensures ok { OnOk result (self.new ≡ put id channel self.old) }
+        ensures err { OnErr result (self.new ≡ self.old) }
+    {
+        self.listed.insert(id, channel)?;
+        Ok(())
+    }
+
+    /// Changes a channel that is listed.
+    pub fn set(&mut self, id: ChannelId, channel: Channel)
+        requires { IsSome (at id self.old) }
+        ensures { self.new ≡ put id channel self.old }
+    {
+        // Its place is there, so that nothing is asked for and nothing refused.
+        let _ = self.listed.insert(id, channel);
+    }
+
+    /// A channel goes.
+    pub fn remove(&mut self, id: ChannelId)
+        ensures { self.new ≡ without id self.old }
+    {
+        self.listed.remove(&id);
+    }
+
+    /// All channels go.
+    pub fn clear(&mut self)
+        ensures { self.new ≡ [] }
+    {
+        self.listed.clear();
+    }
+
+    /// All channels are closing.
+    pub fn close_all(&mut self)
+        ensures { self.new ≡ map_values closing self.old }
+    {
+        self.listed.retain(|_, channel| {
+            channel.state = ChannelState::Closing;
+            true
+        });
+    }
+
+    /// The number of the channel that a promise opened.
+    pub fn opened_by(&self, opened: u64) -> Option<ChannelId>
+        ensures { result ≡ option_map (λ e. e.0) (find (λ e. (e.1).opened == opened) self.now) }
+    {
+        for (id, channel) in &self.listed {
+            if channel.opened == opened {
+                return Some(*id);
+            }
+        }
+        None
+    }
+
+    /// The first number in the cycle from a first one that is not listed.
+    pub fn draw(&self, channel_max: ChannelId, first: ChannelId) -> Option<ChannelId>
+        requires { 1 ≤ first }
+        ensures { result ≡ drawn channel_max first self.now }
+    {
+        let until = channel_max as u32 + 1;
+        match self.first_unlisted(first as u32, until) {
+            Some(id) => Some(id),
+            None => self.first_unlisted(1, first as u32),
+        }
+    }
+
+    // The first number from one on and below another that is not listed.
+    fn first_unlisted(&self, from: u32, until: u32) -> Option<ChannelId>
+        requires { until ≤ 2 ^ 16 }
+        ensures { result ≡ find (λ n. not (has n self.now)) (range_with_len from (until - from)) }
+    {
+        'numbers: for n in from..until {
+            if !self.has(n as ChannelId) {
+                return Some(n as ChannelId);
+            }
+        }
+        None
+    }
+}
+
+/// The cursor, which counts as 1 where it is 0 or above the greatest number.
+pub fn first_number(channel_max: ChannelId, cursor: ChannelId) -> ChannelId
+    ensures number { result ≡ first_number channel_max cursor }
+    ensures positive { 1 ≤ result }
+{
+    if cursor == 0 || cursor > channel_max {
+        1
+    } else {
+        cursor
+    }
+}
+
+/// The number after another in the cycle.
+pub fn after(channel_max: ChannelId, id: ChannelId) -> ChannelId
+    ensures { result ≡ after channel_max id }
+{
+    if id < channel_max { id + 1 } else { 1 }
+}

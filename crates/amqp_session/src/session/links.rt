@@ -1,0 +1,130 @@
+//! Links: that one is asked for, comes or does not come, gives bytes, and ends.
+
+ghost use Rattle.std.specs.Prelude.{◌≡◌, IfErr, OnOk, OnErr, IsTrue};
+ghost use Rattle.amqp_session.specs.Talk.{is_asked};
+ghost use Rattle.amqp_session.specs.Changes.{present_at, starve};
+ghost use Rattle.amqp_session.specs.Links.{asked, linked, link_failed, piece, misread_by, misread, lost};
+
+use super::Session;
+use crate::error::{self, ErrorKind};
+use crate::handshake::protocol_header;
+use crate::io_fault::IoFault;
+use crate::lanes::Item;
+use crate::misread::Misread;
+use crate::state::{ConnectionState, Input, Link, Phase};
+use crate::violations::misread_error;
+use amqp_types::NoMemory;
+
+impl Session {
+    /// The link that is wanted was asked for.
+    pub fn asked(&mut self)
+        ensures { self.new ≡ asked self.old }
+    {
+        if let Link::Wanted = self.link {
+            self.link = Link::Asked;
+        }
+    }
+
+    /// The link that was asked for is there.
+    pub fn linked(&mut self, at: u64) -> error::Result<()>
+        ensures ok { OnOk result (self.new ≡ linked (present_at at self.old)) }
+        ensures err { OnErr result (self.new ≡ starve (present_at at self.old)) }
+        ensures only { IfErr result (λ e. e ≡ ErrorKind.NoMemory) }
+    {
+        self.advance(at);
+        if !self.is_asked() {
+            return Ok(());
+        }
+        match self.open_link() {
+            Ok(()) => Ok(()),
+            Err(refused) => {
+                self.fail(ErrorKind::NoMemory);
+                Err(refused.into())
+            }
+        }
+    }
+
+    fn open_link(&mut self) -> Result<(), NoMemory>
+        requires { IsTrue (is_asked self.old) }
+        ensures ok { OnOk result (self.new ≡ linked self.old) }
+        ensures err { OnErr result (self.new ≡ self.old) }
+    {
+        self.committed.reserve(1)?;
+        self.lanes.restart(Item::plain(protocol_header()))?;
+        self.committed.clear();
+        self.state = ConnectionState::Connecting;
+        self.phase = Phase::AwaitStart;
+        self.link = Link::Open;
+        self.input = Input::Acting;
+        self.last_read = self.present;
+        self.last_write = self.present;
+        Ok(())
+    }
+
+    /// The link that was asked for is refused.
+    pub fn link_failed(&mut self, at: u64)
+        ensures { self.new ≡ link_failed (present_at at self.old) }
+    {
+        self.advance(at);
+        if self.is_asked() {
+            self.fail(ErrorKind::IOError(IoFault::Refused));
+        }
+    }
+
+    /// Bytes were read.
+    pub fn piece(&mut self, at: u64)
+        ensures { self.new ≡ piece (present_at at self.old) }
+    {
+        self.advance(at);
+        if self.is_open() {
+            self.last_read = self.present;
+        }
+    }
+
+    /// What was read is no frame.
+    pub fn misread(&mut self, why: Misread, at: u64) -> error::Result<()>
+        ensures ok { OnOk result (self.new ≡ misread why (present_at at self.old)) }
+        ensures err { OnErr result (self.new ≡ starve (present_at at self.old)) }
+        ensures only { IfErr result (λ e. e ≡ ErrorKind.NoMemory) }
+    {
+        self.advance(at);
+        if !self.is_open() {
+            return Ok(());
+        }
+        match self.refuse_input(why) {
+            Ok(()) => Ok(()),
+            Err(refused) => {
+                self.fail(ErrorKind::NoMemory);
+                Err(refused.into())
+            }
+        }
+    }
+
+    fn refuse_input(&mut self, why: Misread) -> Result<(), NoMemory>
+        ensures ok { OnOk result (self.new ≡ misread_by self.old.input why self.old) }
+        ensures err { OnErr result (self.new ≡ self.old) }
+    {
+        match self.input {
+            Input::Acting => {
+                let error = misread_error(self.alloc, why)?;
+                self.lose(error);
+            }
+            Input::Closed | Input::Dropped => self.input = Input::Dropped,
+        }
+        Ok(())
+    }
+
+    /// The open link is lost: its input ended, or reading or writing failed.
+    pub fn lost(&mut self, fault: IoFault, at: u64)
+        ensures { self.new ≡ lost fault (present_at at self.old) }
+    {
+        self.advance(at);
+        if !self.is_open() {
+            return;
+        }
+        match self.input {
+            Input::Acting => self.lose(ErrorKind::IOError(fault)),
+            Input::Closed | Input::Dropped => self.finish(),
+        }
+    }
+}

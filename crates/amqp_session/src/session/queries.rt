@@ -1,0 +1,148 @@
+//! What a session tells of itself.
+
+ghost use Rattle.std.specs.Prelude.{◌≡◌, ◌<◌, ◌≤◌, ◌^◌, length};
+ghost use Rattle.amqp_session.specs.Talk.{wants_link, is_asked, is_open, has_ended, end_of, drops_input};
+ghost use Rattle.amqp_session.specs.Negotiation.{frame_limit};
+ghost use Rattle.amqp_session.specs.Writing.{unsent};
+ghost use Rattle.amqp_session.specs.Answers.{HandsOut};
+ghost use Rattle.amqp_session.specs.Queries.{channel_state, confirm, opening};
+
+use super::{CAPACITY, Session};
+use crate::command::ChanRef;
+use crate::configuration::Configuration;
+use crate::error;
+use crate::state::{ChannelState, ConnectionState, Input, Link};
+use amqp_types::ChannelId;
+
+impl Session {
+    pub fn state(&self) -> ConnectionState
+        ensures { result ≡ self.now.state }
+    {
+        self.state
+    }
+
+    /// The numbers of the connection, 0 where nothing is wished or agreed.
+    pub fn configuration(&self) -> Configuration
+        ensures { result ≡ self.now.configuration }
+    {
+        self.configuration
+    }
+
+    /// The greatest number of octets that a frame may have that is read.
+    pub fn frame_limit(&self) -> u64
+        ensures { result ≡ frame_limit self.now.configuration }
+    {
+        match self.configuration.frame_max {
+            0 => CAPACITY,
+            frame_max => CAPACITY.min(frame_max as u64),
+        }
+    }
+
+    /// Whether a link is wanted. It is asked for once.
+    pub fn wants_link(&self) -> bool
+        ensures { result ≡ wants_link self.now }
+    {
+        matches!(self.link, Link::Wanted | Link::Asked)
+    }
+
+    /// Whether a link is asked for.
+    pub fn is_asked(&self) -> bool
+        ensures { result ≡ is_asked self.now }
+    {
+        matches!(self.link, Link::Asked)
+    }
+
+    /// Whether a link is open.
+    pub fn is_open(&self) -> bool
+        ensures { result ≡ is_open self.now }
+    {
+        matches!(self.link, Link::Open)
+    }
+
+    /// Whether no more of the open link's input is read.
+    pub fn drops_input(&self) -> bool
+        ensures { result ≡ drops_input self.now }
+    {
+        matches!(self.input, Input::Dropped)
+    }
+
+    pub fn has_ended(&self) -> bool
+        ensures { result ≡ has_ended self.now }
+    {
+        matches!(self.link, Link::Ended(_))
+    }
+
+    /// The end: Ok where the session ended Closed, else the error with which it ended. Where memory
+    /// for the error's copy is refused, that is told in its place.
+    pub fn end(&self) -> Option<error::Result<()>>
+        ensures { HandsOut (end_of self.now) result }
+    {
+        match &self.link {
+            Link::Ended(Ok(())) => Some(Ok(())),
+            Link::Ended(Err(error)) => Some(Err(match error.try_clone(self.alloc) {
+                Ok(copy) => copy,
+                Err(refused) => refused.into(),
+            })),
+            _ => None,
+        }
+    }
+
+    /// How many promises were made.
+    pub fn promises(&self) -> u64
+        ensures { result ≡ length self.now.promises }
+    {
+        self.promises.len() as u64
+    }
+
+    /// How many frames wait to be committed.
+    pub fn waiting(&self) -> u64
+        ensures frames { result ≡ length self.now.control }
+        ensures small { result < 2 ^ 63 }
+    {
+        self.lanes.len() as u64
+    }
+
+    /// How many bytes of the committed frames are unsent.
+    pub fn unsent(&self) -> u64
+        ensures bytes { result ≡ unsent self.now }
+        ensures within { result ≤ CAPACITY }
+    {
+        self.committed.unsent()
+    }
+
+    /// How many channels are listed.
+    pub fn listed(&self) -> u64
+        ensures { result ≡ length self.now.channels }
+    {
+        self.channels.len()
+    }
+
+    /// The state of a channel. One that is gone reads as Closed, or as Error where the session ended
+    /// with an error.
+    pub fn channel_state(&self, channel: ChanRef) -> ChannelState
+        ensures { result ≡ channel_state channel self.now }
+    {
+        match self.named(channel) {
+            Some(listed) => listed.state,
+            None if self.state == ConnectionState::Error => ChannelState::Error,
+            None => ChannelState::Closed,
+        }
+    }
+
+    /// Whether the server confirms what is published on a channel.
+    pub fn confirm(&self, channel: ChanRef) -> bool
+        ensures { result ≡ confirm channel self.now }
+    {
+        match self.named(channel) {
+            Some(listed) => listed.confirm,
+            None => false,
+        }
+    }
+
+    /// The number of the listed channel that a promise opened.
+    pub fn opening(&self, opened: u64) -> Option<ChannelId>
+        ensures { result ≡ opening opened self.now }
+    {
+        self.channels.opened_by(opened)
+    }
+}

@@ -1,0 +1,123 @@
+//! The errors by which a server is told what it may not do.
+
+ghost use Rattle.std.specs.Prelude.{◌≡◌, ◌≤◌, Some, IfOk, length};
+ghost use Rattle.std.specs.String.{string_bytes};
+ghost use Rattle.amqp_types.specs.Codes.{kind_of};
+ghost use Rattle.amqp_types.specs.declared.error.AMQPErrorKind.TheVariants.{Hard};
+ghost use Rattle.amqp_session.specs.Violations.{protocol_error, frame_too_large, heartbeat_on, misread_error, connection_method_on, raw_name, on_channel_0, method_name, unawaited, close_error};
+
+use crate::error::ErrorKind;
+use crate::misread::Misread;
+use crate::state::ConnectionState;
+use amqp_frame::{Method, RawKind};
+use amqp_types::{AMQPError, ChannelId, NoMemory, ReplyCode, ShortString};
+use std::alloc::Global;
+
+/// What was read and is no frame.
+pub fn misread_error(alloc: Global, why: Misread) -> Result<ErrorKind, NoMemory>
+    ensures { IfOk result (λ kind. kind ≡ misread_error why) }
+{
+    match why {
+        Misread::TooLarge(size) => frame_too_large(alloc, size),
+        Misread::BadHeartbeat(channel) => heartbeat_on(alloc, channel),
+        Misread::Bad(place) => Ok(ErrorKind::ParsingError(place)),
+    }
+}
+
+fn frame_too_large(alloc: Global, size: u32) -> Result<ErrorKind, NoMemory>
+    ensures { IfOk result (λ kind. kind ≡ frame_too_large size) }
+{
+    let weight = size as u64 + 8;
+    hard_error(501, format!(in alloc; "frame too large: {weight} bytes")?)
+}
+
+fn heartbeat_on(alloc: Global, channel: ChannelId) -> Result<ErrorKind, NoMemory>
+    ensures { IfOk result (λ kind. kind ≡ heartbeat_on channel) }
+{
+    hard_error(
+        501,
+        format!(in alloc; "heartbeat frame received on channel {channel}")?,
+    )
+}
+
+/// A method of the connection class on another channel than 0.
+pub fn connection_method_on(alloc: Global, channel: ChannelId) -> Result<ErrorKind, NoMemory>
+    ensures { IfOk result (λ kind. kind ≡ connection_method_on channel) }
+{
+    hard_error(
+        503,
+        format!(in alloc; "connection frame received on channel {channel}")?,
+    )
+}
+
+/// A frame of a channel on channel 0.
+pub fn on_channel_0(alloc: Global, kind: RawKind) -> Result<ErrorKind, NoMemory>
+    ensures { IfOk result (λ e. e ≡ on_channel_0 kind) }
+{
+    let name = raw_name(kind);
+    hard_error(
+        504,
+        format!(in alloc; "{name} frame received on channel 0")?,
+    )
+}
+
+fn raw_name(kind: RawKind) -> &'static str
+    ensures { result.now ≡ raw_name kind }
+{
+    match kind {
+        RawKind::RawMethod => "method",
+        RawKind::Header => "content header",
+        RawKind::Body => "body",
+    }
+}
+
+/// A method of the channel class that nothing awaits.
+pub fn unawaited(
+    alloc: Global,
+    method: &Method,
+    channel: ChannelId,
+) -> Result<ErrorKind, NoMemory>
+    ensures { IfOk result (λ kind. kind ≡ unawaited method.now channel) }
+{
+    let name = method_name(method);
+    hard_error(
+        505,
+        format!(in alloc; "unexpected channel.{name} received on channel {channel}")?,
+    )
+}
+
+fn method_name(method: &Method) -> &'static str
+    ensures { result.now ≡ method_name method.now }
+{
+    match method {
+        Method::ChannelOpen => "open",
+        Method::ChannelOpenOk => "open-ok",
+        Method::ChannelFlow(_) => "flow",
+        Method::ChannelFlowOk(_) => "flow-ok",
+        Method::ChannelClose(..) => "close",
+        _ => "close-ok",
+    }
+}
+
+// The error of a code that closes the connection.
+fn hard_error(code: ReplyCode, text: String) -> Result<ErrorKind, NoMemory>
+    requires code { kind_of code ≡ Some Hard }
+    requires text { length (string_bytes text) ≤ 255 }
+    ensures { IfOk result (λ kind. kind ≡ protocol_error code (string_bytes text)) }
+{
+    let message = ShortString::from_vec(text.into_bytes());
+    match AMQPError::from_code(code, message)? {
+        Some(error) => Ok(ErrorKind::ProtocolError(error)),
+        None => unreachable!(),
+    }
+}
+
+/// What the server's close tells.
+pub fn close_error(code: ReplyCode, text: ShortString) -> Result<ErrorKind, NoMemory>
+    ensures { IfOk result (λ kind. kind ≡ close_error code text) }
+{
+    match AMQPError::from_code(code, text)? {
+        Some(error) => Ok(ErrorKind::ProtocolError(error)),
+        None => Ok(ErrorKind::InvalidConnectionState(ConnectionState::Closed)),
+    }
+}
