@@ -1,19 +1,26 @@
 -- The engine: the session, with the bytes of its link that are not yet read, and those that are not yet taken.
-use Rattle.std.specs.Prelude.{ℕ, zero, suc, ◌+◌, ◌-◌, not, ◌&&◌, if◌then◌else◌, nat_lt, Bool, true, false, List, [], ◌++◌, length, drop, Option, Some, None}
+use Rattle.std.specs.Prelude.{ℕ, zero, suc, ◌+◌, ◌-◌, not, ◌&&◌, ◌||◌, if◌then◌else◌, nat_lt, Bool, true, false, List, [], ◌++◌, length, drop, Option, Some, None, option_map}
 use Rattle.amqp_frame.specs.declared.frame.Frame.{Frame}
 use Rattle.amqp_frame.specs.declared.frame.Read.{Read}
-use Rattle.amqp_frame.specs.declared.frame.Read.TheVariants.{Whole, More}
+use Rattle.amqp_frame.specs.declared.frame.Read.TheVariants as reading
 use Rattle.amqp_frame.specs.FrameReading.{front}
 use Rattle.amqp_frame.specs.Frames.{encoding}
 use Rattle.amqp_session.specs.declared.session.TheConstants.{CAPACITY}
-use Rattle.amqp_session.specs.Talk.{Talk, start, is_open, is_asked, has_ended}
+use Rattle.amqp_session.specs.declared.io_fault.IoFault.TheVariants.{Aborted, Reset, BrokenPipe}
+use Rattle.amqp_session.specs.declared.lanes.Item.{Item}
+use Rattle.amqp_session.specs.declared.misread.Misread.{Misread}
+use Rattle.amqp_session.specs.declared.misread.Misread.TheVariants.{TooLarge, BadHeartbeat, Bad}
+use Rattle.amqp_session.specs.Talk.{Talk, start, is_open, is_asked, has_ended, drops_input}
 use Rattle.amqp_session.specs.Negotiation.{frame_limit}
-use Rattle.amqp_session.specs.Rules.{present_at, linked, piece, on_frame, misread, command, starve}
+use Rattle.amqp_session.specs.Changes.{present_at, starve}
+use Rattle.amqp_session.specs.Links.{linked, link_failed, piece, misread, lost}
+use Rattle.amqp_session.specs.Frames.{on_frame}
+use Rattle.amqp_session.specs.Commands.{command}
 use Rattle.amqp_session.specs.Writing.{next_within, commit, taken}
 use Rattle.amqp_engine.specs.declared.port.Step.{Step}
-use Rattle.amqp_engine.specs.declared.port.Step.TheVariants.{Linked, Piece, Room, Tick, Command}
+use Rattle.amqp_engine.specs.declared.port.Step.TheVariants.{Linked, LinkFailed, Piece, End, Fault, Room, Tick, Command}
 use Rattle.amqp_engine.specs.declared.port.Wrote.{Wrote}
-use Rattle.amqp_engine.specs.declared.port.Wrote.TheVariants.{Took, NoMemory}
+use Rattle.amqp_engine.specs.declared.port.Wrote.TheVariants.{Took, Failed, NoMemory}
 use Rattle.amqp_engine.specs.Plan.{at_most_64}
 
 pub record Engine : Type 0 where
@@ -40,6 +47,10 @@ with_talk f e = record e { talk = f e.talk }
 abbrev pub rule_at : ℕ → (Talk → Talk) → Engine → Engine
 rule_at at f e = with_talk (λ t. f (present_at at t)) e
 
+-- where the session has ended, and where no more of the input is read, the unread bytes go
+abbrev pub settle : Engine → Engine
+settle e = if has_ended e.talk || drops_input e.talk then record e { unread = []; place = 0 } else e
+
 -- ---- the step
 
 -- the link that was asked for is there, and nothing was received or committed on it
@@ -49,17 +60,20 @@ step_linked at e =
     then record { talk = linked (present_at at e.talk); unread = []; place = 0; unsent = []; starved = e.starved }
     else rule_at at (λ t. t) e
 
--- a piece joins the unread bytes of the open link
+-- a piece joins the unread bytes of the open link, unless its input is dropped
 abbrev pub step_piece : ℕ → List ℕ → Engine → Engine
 step_piece at bytes e =
     if is_open e.talk
-    then record e { talk = piece (present_at at e.talk); unread = e.unread ++ bytes }
+    then settle (record e { talk = piece (present_at at e.talk); unread = e.unread ++ bytes })
     else rule_at at (λ t. t) e
 
 -- the rule of a step; until heartbeats are built, a tick changes the present alone
 abbrev pub step_engine : ℕ → Step → List ℕ → Engine → Engine
 step_engine at Linked bytes e = step_linked at e
+step_engine at LinkFailed bytes e = settle (rule_at at link_failed e)
 step_engine at (Piece n) bytes e = step_piece at bytes e
+step_engine at End bytes e = settle (rule_at at (lost Aborted) e)
+step_engine at Fault bytes e = settle (rule_at at (lost Reset) e)
 step_engine at Room bytes e = rule_at at (λ t. t) e
 step_engine at Tick bytes e = rule_at at (λ t. t) e
 step_engine at (Command c) bytes e = rule_at at (command c) e
@@ -71,27 +85,29 @@ abbrev pub front_of : Engine → Read
 front_of e = front e.unread (frame_limit e.talk.configuration)
 
 abbrev pub is_more : Read → Bool
-is_more More = true
+is_more reading.More = true
 is_more _ = false
 
 -- there is a frame to be read, or what can be none
 abbrev pub can_read : Engine → Bool
 can_read e = is_open e.talk && not (is_more (front_of e))
 
--- at the end of the session the unread bytes go
-abbrev pub settle : Engine → Engine
-settle e = if has_ended e.talk then record e { unread = []; place = 0 } else e
+-- what is no frame
+abbrev pub read_badly : ℕ → Misread → Engine → Engine
+read_badly at why e = settle (rule_at at (misread why) e)
 
 -- what stood at the front is read
 abbrev pub read_row : ℕ → Read → Engine → Engine
-read_row at (Whole f n) e =
+read_row at (reading.Whole f n) e =
     settle (record e {
       talk = on_frame f e.place (present_at at e.talk);
       unread = drop n e.unread;
       place = at_most_64 (e.place + n);
     })
-read_row at More e = e
-read_row at _ e = settle (rule_at at (misread e.place) e)
+read_row at (reading.TooLarge size) e = read_badly at (TooLarge size) e
+read_row at (reading.BadHeartbeat channel) e = read_badly at (BadHeartbeat channel) e
+read_row at reading.Bad e = read_badly at (Bad e.place) e
+read_row at _ e = e
 
 abbrev pub read_one : ℕ → Engine → Engine
 read_one at e = read_row at (front_of e) e
@@ -99,13 +115,13 @@ read_one at e = read_row at (front_of e) e
 -- ---- writing
 
 -- the next frame, where it and the unsent bytes together fit the capacity
-abbrev pub fitting_next : Engine → Option Frame
+abbrev pub fitting_next : Engine → Option Item
 fitting_next e = next_within (CAPACITY - length e.unsent) e.talk
 
-abbrev pub committed_as : Option Frame → Engine → Engine
+abbrev pub committed_as : Option Item → Engine → Engine
 committed_as None e = e
-committed_as (Some f) e =
-    record e { talk = commit (CAPACITY - length e.unsent) e.talk; unsent = e.unsent ++ encoding f }
+committed_as (Some item) e =
+    record e { talk = commit (CAPACITY - length e.unsent) e.talk; unsent = e.unsent ++ encoding item.frame }
 
 -- the next frame is committed, where it fits
 abbrev pub commit_one : Engine → Engine
@@ -126,11 +142,18 @@ can_write e = is_open e.talk && nat_lt 0 (length (commit_all e).unsent)
 -- how many bytes an answer takes
 abbrev pub taken_by : Wrote → ℕ
 taken_by (Took k) = k
+taken_by Failed = 0
 taken_by NoMemory = 0
 
--- a write was answered
+-- bytes were taken
+abbrev pub took : ℕ → ℕ → Engine → Engine
+took at k e = settle (record e { talk = taken k (present_at at e.talk); unsent = drop k e.unsent })
+
+-- a write was answered: bytes were taken, or it failed, and the link is lost
 abbrev pub wrote : ℕ → Wrote → Engine → Engine
-wrote at w e = record e { talk = taken (taken_by w) (present_at at e.talk); unsent = drop (taken_by w) e.unsent }
+wrote at Failed e = settle (rule_at at (lost BrokenPipe) e)
+wrote at (Took k) e = took at k e
+wrote at NoMemory e = took at 0 e
 
 -- ---- want of memory
 

@@ -1,4 +1,5 @@
 -- What a port is given and tells.
+pub mod Counts
 pub mod Plan
 pub mod Log
 -- What a turn does to the engine, and what a port tells of it.

@@ -1,13 +1,13 @@
 -- What a port tells of itself: its steps, the writes to it, the bytes of its links, and the script that it plays.
 use Rattle.std.specs.Prelude.{◌≡◌, ◌≤◌, ℕ, ◌-◌, if◌then◌else◌, Bool, true, false, List, [], ◌∷◌, ◌++◌, length, take, slice_get, slice_set, Option, Some, None, IfSome, option_map}
 use Rattle.amqp_engine.specs.declared.port.Step.{Step}
-use Rattle.amqp_engine.specs.declared.port.Step.TheVariants.{Linked, Piece}
+use Rattle.amqp_engine.specs.declared.port.Step.TheVariants.{Linked, LinkFailed, Piece}
 use Rattle.amqp_engine.specs.declared.port.Wrote.{Wrote}
-use Rattle.amqp_engine.specs.declared.port.Wrote.TheVariants.{Took, NoMemory}
+use Rattle.amqp_engine.specs.declared.port.Wrote.TheVariants.{Took, Failed, NoMemory}
 use Rattle.amqp_engine.specs.declared.port.Happening.{Happening}
 use Rattle.amqp_engine.specs.declared.port.Write.{Write}
 use Rattle.amqp_engine.specs.declared.given.Given.{Given}
-use Rattle.amqp_engine.specs.Plan.{Plan, plan_of, plan_step, plan_write, is_none_left, next_happening, PlanAnswers}
+use Rattle.amqp_engine.specs.Plan.{Plan, plan_of, plan_step, plan_write, plan_failure, is_none_left, next_happening, PlanAnswers}
 
 pub record Log : Type 0 where
   -- the steps that were told, in order, but for the ticks after a script
@@ -51,6 +51,7 @@ links_after _ asked links = links
 
 abbrev pub asked_after : Step → Bool → Bool
 asked_after Linked asked = false
+asked_after LinkFailed asked = false
 asked_after _ asked = asked
 
 abbrev pub is_played : Option Plan → Bool
@@ -77,7 +78,7 @@ PlansStep at step bytes a = IfSome a.plan (λ p. next_happening p ≡ record { a
 
 abbrev pub IsWithin : ℕ → Wrote → Type 0
 IsWithin offered (Took k) = k ≤ offered
-IsWithin offered NoMemory = Unit {0}
+IsWithin offered _ = Unit {0}
 
 abbrev pub last_set : {A : Type 0} → Option A → (A → A) → List A → List A
 last_set None f xs = xs
@@ -87,7 +88,7 @@ last_set (Some x) f xs = slice_set xs (length xs - 1) (f x)
 abbrev pub on_last : {A : Type 0} → (A → A) → List A → List A
 on_last f xs = last_set (slice_get xs (length xs - 1)) f xs
 
--- the first so many of the bytes offered are taken on the last link; a write that found no memory is not told
+-- the first so many of the bytes offered are taken on the last link, or none where the write failed; a write that found no memory is not told
 abbrev pub log_write : List ℕ → Wrote → Log → Log
 log_write bytes (Took k) a =
     record a {
@@ -95,8 +96,18 @@ log_write bytes (Took k) a =
       links = on_last (λ link. link ++ take k bytes) a.links;
       plan = option_map (plan_write k) a.plan;
     }
+log_write bytes Failed a =
+    record a {
+      writes = a.writes ++ record { before = length a.steps; offered = length bytes; answer = Failed } ∷ [];
+      plan = option_map plan_failure a.plan;
+    }
 log_write bytes NoMemory a = a
 
 -- a port that plays a script takes what it has room for
 abbrev pub PlansWrite : ℕ → Wrote → Log → Type 0
 PlansWrite offered answer a = IfSome a.plan (λ p. PlanAnswers p offered answer)
+
+-- what a port in memory keeps: what it tells, and how often it failed
+pub record Kept : Type 0 where
+  pub log : Log
+  pub faults : ℕ

@@ -1,9 +1,9 @@
 -- A script that is played: what its port answers is determined, and so are the turns.
-use Rattle.std.specs.Prelude.{◌≡◌, ℕ, zero, suc, ◌+◌, min, if◌then◌else◌, List, [], ◌∷◌, length, Option, Some, None}
+use Rattle.std.specs.Prelude.{◌≡◌, ℕ, zero, suc, ◌+◌, min, Bool, false, if◌then◌else◌, List, [], ◌∷◌, length, Option, Some, None}
 use Rattle.amqp_session.specs.Talk.{has_ended}
 use Rattle.amqp_engine.specs.declared.port.Step.TheVariants.{Tick}
 use Rattle.amqp_engine.specs.declared.port.Wrote.{Wrote}
-use Rattle.amqp_engine.specs.declared.port.Wrote.TheVariants.{Took}
+use Rattle.amqp_engine.specs.declared.port.Wrote.TheVariants.{Took, Failed}
 use Rattle.amqp_engine.specs.declared.port.Happening.{Happening}
 use Rattle.amqp_engine.specs.declared.given.Given.{Given}
 use Rattle.amqp_engine.specs.Plan.{Plan, next_happening, room_for}
@@ -18,8 +18,12 @@ abbrev pub room_of : Option Plan → ℕ → ℕ
 room_of None n = n
 room_of (Some p) n = room_for p.room n
 
+abbrev pub fails_of : Option Plan → Bool
+fails_of None = false
+fails_of (Some p) = p.fails
+
 abbrev pub played_answer : Engine → Log → Wrote
-played_answer e a = Took (room_of a.plan (length (offered e)))
+played_answer e a = if fails_of a.plan then Failed else Took (room_of a.plan (length (offered e)))
 
 -- how many offers may still come: one for each frame that waits, and one for what is unsent
 abbrev pub waiting : Engine → ℕ

@@ -1,6 +1,7 @@
 -- What went out on each link: a third fold over turns.
-use Rattle.std.specs.Prelude.{◌≡◌, ◌≢◌, ℕ, zero, suc, ◌+◌, ◌-◌, if◌then◌else◌, List, [], ◌∷◌, ◌++◌, length, take, drop, option_to_list}
+use Rattle.std.specs.Prelude.{◌≡◌, ◌≢◌, ℕ, zero, suc, ◌+◌, ◌-◌, if◌then◌else◌, List, [], ◌∷◌, ◌++◌, length, take, drop, option_to_list, option_map}
 use Rattle.std.specs.List.{flat_map}
+use Rattle.amqp_session.specs.declared.lanes.Item.{Item}
 use Rattle.amqp_frame.specs.declared.frame.Frame.{Frame}
 use Rattle.amqp_frame.specs.Frames.{encoding}
 use Rattle.amqp_session.specs.Talk.{is_asked}
@@ -38,7 +39,7 @@ link_bytes s = take s.taken (encodings s.committed)
 
 abbrev pub committed_in : ℕ → Engine → List Frame
 committed_in zero e = []
-committed_in (suc n) e = option_to_list (fitting_next e) ++ committed_in n (commit_one e)
+committed_in (suc n) e = option_to_list (option_map (λ (item : Item). item.frame) (fitting_next e)) ++ committed_in n (commit_one e)
 
 -- the frames that are committed before an offer
 abbrev pub committed_before : Engine → List Frame

@@ -1,13 +1,11 @@
 -- A turn: one step that was taken, with all that follows it. The engine is a fold of its turns, whatever its port tells.
-use Rattle.std.specs.Prelude.{◌≡◌, ℕ, zero, suc, ◌+◌, not, ◌&&◌, ◌==◌, if◌then◌else◌, nat_lt, Bool, true, false, IsTrue, IsFalse, MatchBool, List, [], ◌∷◌, length, Option, Some, None, unwrap_or, Result, Err}
-use Rattle.amqp_session.specs.declared.error.ErrorKind.{ErrorKind}
-use Rattle.amqp_session.specs.declared.error.ErrorKind.TheVariants.{OutOfTurns}
-use Rattle.amqp_session.specs.Talk.{Talk, wants_link, is_asked, is_open, has_ended, end_of}
-use Rattle.amqp_session.specs.Rules.{asked}
+use Rattle.std.specs.Prelude.{◌≡◌, ℕ, zero, suc, ◌+◌, not, ◌&&◌, ◌==◌, if◌then◌else◌, nat_lt, Bool, true, false, IsTrue, IsFalse, MatchBool, List, [], ◌∷◌, length, Option, Some, None}
+use Rattle.amqp_session.specs.Talk.{Talk, wants_link, is_asked, is_open, has_ended}
+use Rattle.amqp_session.specs.Links.{asked}
 use Rattle.amqp_engine.specs.declared.port.Step.{Step}
-use Rattle.amqp_engine.specs.declared.port.Step.TheVariants.{Linked, Piece, Room, Tick, Command}
+use Rattle.amqp_engine.specs.declared.port.Step.TheVariants.{Linked, LinkFailed, Piece, End, Fault, Room, Tick, Command}
 use Rattle.amqp_engine.specs.declared.port.Wrote.{Wrote}
-use Rattle.amqp_engine.specs.declared.port.Wrote.TheVariants.{Took, NoMemory}
+use Rattle.amqp_engine.specs.declared.port.Wrote.TheVariants.{Took, Failed, NoMemory}
 use Rattle.amqp_engine.specs.Log.{IsWithin}
 use Rattle.amqp_engine.specs.Engine.{Engine, begin, with_talk, step_engine, read_one, can_read, commit_all, can_write, wrote, starve_at}
 
@@ -56,10 +54,13 @@ goes p = is_before p.cut p.done
 abbrev pub part : Engine → Progress → Progress
 part e p = record p { engine = e; done = p.done + 1 }
 
--- whether a step is a part: the reading of a piece, a link that was asked for, a command, or the rules of a tick; what changes the present alone is none
+-- whether a step is a part: the reading of a piece, a link that was asked for or its refusal, the loss of an open link, a command, or the rules of a tick; what changes the present alone is none
 abbrev pub is_part : Step → Engine → Bool
 is_part Linked e = is_asked e.talk
+is_part LinkFailed e = is_asked e.talk
 is_part (Piece n) e = is_open e.talk
+is_part End e = is_open e.talk
+is_part Fault e = is_open e.talk
 is_part Room e = false
 is_part Tick e = true
 is_part (Command c) e = true
@@ -105,6 +106,7 @@ drain (w ∷ ws) p = drain ws (offer_part w p)
 
 abbrev pub is_all : Wrote → ℕ → Bool
 is_all (Took k) n = k == n
+is_all Failed n = false
 is_all NoMemory n = false
 
 -- where the port found no memory, the turn is cut right after the offer
@@ -173,7 +175,3 @@ AreTurns (u ∷ us) e = IsTurn u e × AreTurns us (turn u e)
 pub record Leads (us : List Turn) (before after : Engine) : Type 0 where
   pub may : AreTurns us before
   pub leaves : turns us before ≡ after
-
--- what a run answers: as the session ended, or that all its turns were taken
-abbrev pub run_answer : Engine → Result (Unit {0}) ErrorKind
-run_answer e = unwrap_or (end_of e.talk) (Err OutOfTurns)

@@ -11,10 +11,18 @@ use std::alloc::Global;
 pub enum GivenStep {
     /// A link is there, with room for so many bytes or for all.
     Link(Option<u64>),
+    /// The link is refused.
+    Refuse,
     /// A piece of 1 to 4,096 bytes is received.
     Bytes(Payload),
+    /// The input of the link ends.
+    End,
+    /// Reading fails.
+    Fault,
     /// So many bytes more are taken.
     Room(u64),
+    /// The next write fails.
+    WriteFail,
     Tick,
     Command(Cmd),
 }
@@ -33,8 +41,12 @@ impl GivenStep {
     {
         match self {
             GivenStep::Link(room) => Ok(GivenStep::Link(*room)),
+            GivenStep::Refuse => Ok(GivenStep::Refuse),
             GivenStep::Bytes(bytes) => Ok(GivenStep::Bytes(bytes.try_clone(alloc)?)),
+            GivenStep::End => Ok(GivenStep::End),
+            GivenStep::Fault => Ok(GivenStep::Fault),
             GivenStep::Room(more) => Ok(GivenStep::Room(*more)),
+            GivenStep::WriteFail => Ok(GivenStep::WriteFail),
             GivenStep::Tick => Ok(GivenStep::Tick),
             GivenStep::Command(command) => Ok(GivenStep::Command(command.try_clone(alloc)?)),
         }

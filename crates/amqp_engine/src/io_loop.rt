@@ -1,18 +1,19 @@
 //! The loop of an engine over a port.
 
-ghost use Rattle.std.specs.Prelude.{◌≡◌, ◌≤◌, Some, None, false, IfOk, IfErr, IfSome, OnOk, OnErr, MatchResult, IsSome, IsTrue, length, option_map};
-ghost use Rattle.amqp_session.specs.Talk.{has_ended};
-ghost use Rattle.amqp_session.specs.Rules.{command as command_rule};
-ghost use Rattle.amqp_session.specs.Answers.{answer_of, take_answer};
+ghost use Rattle.std.specs.Prelude.{◌≡◌, ◌≤◌, Some, None, Err, false, IfOk, IfErr, IfSome, IsOk, OnOk, OnErr, MatchResult, IsSome, IsTrue, length, option_map};
+ghost use Rattle.amqp_session.specs.Talk.{has_ended, end_of};
+ghost use Rattle.amqp_session.specs.Channels.{frames_of};
+ghost use Rattle.amqp_session.specs.Commands.{command as command_rule};
+ghost use Rattle.amqp_session.specs.Answers.{HandsOut, Takes, take_frames};
 ghost use Rattle.amqp_engine.specs.Engine.{Engine, begin, with_talk};
-ghost use Rattle.amqp_engine.specs.Turn.{asks, run_answer};
+ghost use Rattle.amqp_engine.specs.Turn.{asks};
 ghost use Rattle.amqp_engine.specs.Tell.{Applies, Turns, Runs, log_asks};
 ghost use Rattle.amqp_engine.specs.Unread.{IsRead};
 ghost use Rattle.amqp_engine.specs.Play.{IsPlayed};
 
 use crate::port::{Port, Told};
 use crate::wire::Wire;
-use amqp_session::{Answer, Cmd, ErrorKind, Result, Session};
+use amqp_session::{Answer, Cmd, ErrorKind, Handed, Result, Session};
 use amqp_types::NoMemory;
 use std::alloc::Global;
 use std::marker::Model;
@@ -64,10 +65,12 @@ impl IoLoop {
     }
 
     /// Takes so many turns, or fewer where the session ends. Where it had ended, it takes none.
-    /// Answers as the session ended, or `OutOfTurns`; it can then run again, and goes on.
+    /// Answers as the session ended, or `OutOfTurns`; it can then run again, and goes on. Where memory
+    /// for the copy of the error is refused, that is told in its place.
     pub fn run<P: Port>(&mut self, port: &mut P, turns: u64) -> Result<()>
         ensures turns { Runs turns self.old self.new (P.log port.old) (P.log port.new) }
-        ensures answer { result ≡ run_answer self.new }
+        ensures ended { IfSome (end_of self.new.talk) (λ end. HandsOut (Some end) (Some result)) }
+        ensures out_of_turns { has_ended self.new.talk ≡ false → result ≡ Err ErrorKind.OutOfTurns }
         ensures played { IfSome (P.log port.old) (λ log. IsSome log.plan → self.new.starved ≡ None
             → IsPlayed turns self.old self.new log (P.log port.new)) }
         ensures read { IsRead self.new }
@@ -140,12 +143,23 @@ impl IoLoop {
         self.wire.command(command)
     }
 
-    /// Takes the answer to a promise, where there is one that was not taken.
+    /// Takes the answer to a promise, where there is one that was not taken. Where it is an error and
+    /// memory for its copy is refused, that is told in its place, and the answer can still be taken.
     pub fn answer(&mut self, number: u64) -> Option<Result<Answer>>
-        ensures answer { result ≡ answer_of number self.old.talk }
-        ensures taken { self.new ≡ with_talk (take_answer number) self.old }
+        ensures taken { Takes number result self.old.talk self.new.talk }
+        ensures rest { self.new ≡ record self.old { talk = self.new.talk } }
     {
         self.wire.answer(number)
+    }
+
+    /// Takes the frames handed out of the channel that a promise opened, in order, as many as were
+    /// not yet taken. They are moved out, and no memory is taken.
+    pub fn take_frames(&mut self, opened: u64) -> std::result::Result<Vec<Handed>, NoMemory>
+        ensures frames { IfOk result (λ frames. frames.items ≡ frames_of opened self.old.talk) }
+        ensures taken { self.new ≡ with_talk (take_frames opened) self.old }
+        ensures takes_no_memory { IsOk result }
+    {
+        self.wire.take_frames(opened)
     }
 
     pub fn session(&self) -> &Session

@@ -1,7 +1,7 @@
 //! A port over given steps, which always tells.
 
 ghost use Rattle.std.specs.Prelude.{◌≡◌, ◌≤◌, ◌<◌, ◌+◌, ◌++◌, Some, IfOk, OnOk, OnErr, refl, length, map, take, vec_len, vec_capacity};
-ghost use Rattle.amqp_engine.specs.Plan.{happening_of, step_of, bytes_of, room_after, room_for, less_room, more_room, IsGivenPiece, ArePieces};
+ghost use Rattle.amqp_engine.specs.Plan.{happening_of, step_of, bytes_of, room_after, fails_after, room_for, less_room, more_room, IsGivenPiece, ArePieces};
 ghost use Rattle.amqp_engine.specs.Log.{Log, loaded, on_last, piece_len, links_after, asked_after};
 
 use crate::given::{Given, GivenStep};
@@ -23,27 +23,34 @@ pub struct MemoryPort {
     coming: VecDeque<Happening>,
     // how many bytes the link still takes, or none where it takes all
     room: Option<u64>,
+    // whether the next write fails
+    fails: bool,
     moment: u64,
     // the ticks after the last given step
     idle: u64,
     asked: bool,
     links: Vec<TakenBytes>,
     writes: Vec<Write>,
+    // how often it failed
+    faults: u64,
 }
 
 impl Model for MemoryPort {
     ghost use Rattle.std.specs.Prelude.{◌≡◌, ◌≤◌, ◌+◌, Some, length, map, vec_capacity, vec_len};
     ghost use Rattle.amqp_engine.specs.Plan.{happening_of, ArePieces};
-    ghost use Rattle.amqp_engine.specs.Log.{Log};
+    ghost use Rattle.amqp_engine.specs.Log.{Kept};
 
-    ghost Value = { Log };
+    ghost Value = { Kept };
 
     ghost view = { λ p. record {
-      steps = p.told.items;
-      writes = p.writes.items;
-      links = p.links.items;
-      asked = p.asked;
-      plan = Some (record { rest = p.rest.items; room = p.room; moment = p.moment; idle = p.idle });
+      log = record {
+        steps = p.told.items;
+        writes = p.writes.items;
+        links = p.links.items;
+        asked = p.asked;
+        plan = Some (record { rest = p.rest.items; room = p.room; fails = p.fails; moment = p.moment; idle = p.idle });
+      };
+      faults = p.faults;
     } };
 
     // Each step that is left has its copy, and its places among the steps and the links.
@@ -58,7 +65,7 @@ impl MemoryPort {
     /// that giving them takes no memory.
     pub fn new(alloc: Global, steps: Vec<Given>) -> Result<MemoryPort, NoMemory>
         requires { ArePieces steps.items }
-        ensures { IfOk result (λ p. p ≡ loaded steps.items) }
+        ensures { IfOk result (λ p. p ≡ record { log = loaded steps.items; faults = 0 }) }
     {
         let mut port = MemoryPort {
             alloc,
@@ -66,11 +73,13 @@ impl MemoryPort {
             rest: VecDeque::new(alloc),
             coming: VecDeque::new(alloc),
             room: Some(0),
+            fails: false,
             moment: 0,
             idle: 0,
             asked: false,
             links: Vec::new(alloc),
             writes: Vec::new(alloc),
+            faults: 0,
         };
         port.load(steps)?;
         Ok(port)
@@ -78,9 +87,9 @@ impl MemoryPort {
 }
 
 impl Port for MemoryPort {
-    ghost log = { λ p. Some p };
+    ghost log = { λ p. Some p.log };
 
-    ghost faults = { λ p. 0 };
+    ghost faults = { λ p. p.faults };
 
     fn connect(&mut self) {
         self.asked = true;
@@ -98,6 +107,7 @@ impl Port for MemoryPort {
             self.told.push_reserved(happening);
         }
         self.moment = at;
+        self.fails = fails_after(&what, self.fails);
         let step = give(
             self.alloc,
             what,
@@ -106,6 +116,9 @@ impl Port for MemoryPort {
             &mut self.room,
             space,
         );
+        if step.is_fault() {
+            self.faults = self.faults.saturating_add(1);
+        }
         Told { at, step }
     }
 
@@ -114,6 +127,16 @@ impl Port for MemoryPort {
         let n = fitting(self.room, offered);
         if self.writes.reserve(1).is_err() {
             return Wrote::NoMemory;
+        }
+        if self.fails {
+            self.fails = false;
+            self.faults = self.faults.saturating_add(1);
+            self.writes.push_reserved(Write {
+                before: self.told.len() as u64,
+                offered,
+                answer: Wrote::Failed,
+            });
+            return Wrote::Failed;
         }
         if append_last(&mut self.links, first, second, n).is_err() {
             return Wrote::NoMemory;
@@ -131,7 +154,7 @@ impl Port for MemoryPort {
 }
 
 impl ScriptedPort for MemoryPort {
-    ghost links_taken = { λ p. p.links };
+    ghost links_taken = { λ p. p.log.links };
 
     ghost ties = { λ p. refl };
 
@@ -146,6 +169,7 @@ impl ScriptedPort for MemoryPort {
         self.told = told;
         self.links = links;
         self.room = Some(0);
+        self.fails = false;
         self.moment = 0;
         self.idle = 0;
         self.asked = false;
@@ -183,8 +207,11 @@ fn told_of(alloc: Global, given: &Given) -> Result<Happening, NoMemory>
     };
     let step = match &given.what {
         GivenStep::Link(_) => Step::Linked,
+        GivenStep::Refuse => Step::LinkFailed,
         GivenStep::Bytes(bytes) => Step::Piece(bytes.len()),
-        GivenStep::Room(_) => Step::Room,
+        GivenStep::End => Step::End,
+        GivenStep::Fault => Step::Fault,
+        GivenStep::Room(_) | GivenStep::WriteFail => Step::Room,
         GivenStep::Tick => Step::Tick,
         GivenStep::Command(command) => Step::Command(command.try_clone(alloc)?),
     };
@@ -223,19 +250,33 @@ fn give(
             *asked = false;
             Step::Linked
         }
+        GivenStep::Refuse => {
+            *asked = false;
+            Step::LinkFailed
+        }
         GivenStep::Bytes(bytes) => {
             put(space, bytes.as_bytes());
             Step::Piece(bytes.len())
         }
+        GivenStep::End => Step::End,
+        GivenStep::Fault => Step::Fault,
         GivenStep::Room(more) => {
             if let Some(left) = *room {
                 *room = Some(left.saturating_add(more));
             }
             Step::Room
         }
+        GivenStep::WriteFail => Step::Room,
         GivenStep::Tick => Step::Tick,
         GivenStep::Command(command) => Step::Command(command),
     }
+}
+
+// Whether the next write fails after a given step.
+fn fails_after(what: &GivenStep, fails: bool) -> bool
+    ensures { result ≡ fails_after what.now fails }
+{
+    fails || matches!(what, GivenStep::WriteFail)
 }
 
 // Puts a piece at the front of the space.

@@ -1,6 +1,7 @@
 //! Ports, over which an engine runs.
 
 ghost use Rattle.std.specs.Prelude.{◌≡◌, ◌≤◌, ◌<◌, ◌++◌, ℕ, List, Option, Some, IfOk, IfSome, OnOk, OnErr, length, slice_get, option_map};
+ghost use Rattle.amqp_engine.specs.Counts.{Rose, HasCause};
 ghost use Rattle.amqp_engine.specs.Plan.{ArePieces};
 ghost use Rattle.amqp_engine.specs.Log.{Log, loaded, log_ask, log_step, log_write, piece_len, piece_bytes, IsPiece, IsWithin, PlansStep, PlansWrite};
 
@@ -14,8 +15,14 @@ use std::alloc::Global;
 pub enum Step {
     /// A link is there.
     Linked,
+    /// A link is refused.
+    LinkFailed,
     /// So many bytes were received, which stand at the front of the space.
     Piece(usize),
+    /// The input of the link ended.
+    End,
+    /// Reading failed.
+    Fault,
     /// There may be room again for bytes to be written.
     Room,
     /// Nothing happened but that time passed.
@@ -25,6 +32,7 @@ pub enum Step {
 }
 
 impl Step {
+    ghost use Rattle.amqp_engine.specs.Counts.{is_fault};
     ghost use Rattle.amqp_engine.specs.Turn.{is_piece};
 
     /// An equal step.
@@ -33,7 +41,10 @@ impl Step {
     {
         match self {
             Step::Linked => Ok(Step::Linked),
+            Step::LinkFailed => Ok(Step::LinkFailed),
             Step::Piece(n) => Ok(Step::Piece(*n)),
+            Step::End => Ok(Step::End),
+            Step::Fault => Ok(Step::Fault),
             Step::Room => Ok(Step::Room),
             Step::Tick => Ok(Step::Tick),
             Step::Command(command) => Ok(Step::Command(command.try_clone(alloc)?)),
@@ -44,6 +55,13 @@ impl Step {
         ensures { result ≡ is_piece self.now }
     {
         matches!(self, Step::Piece(_))
+    }
+
+    // Whether the port failed, which its count tells.
+    pub(crate) fn is_fault(&self) -> bool
+        ensures { result ≡ is_fault self.now }
+    {
+        matches!(self, Step::LinkFailed | Step::Fault)
     }
 
     pub(crate) fn piece_len(&self) -> usize
@@ -68,12 +86,15 @@ pub struct Told {
 pub enum Wrote {
     /// So many bytes were taken. 0 is none yet.
     Took(usize),
+    /// Writing failed, and nothing was taken.
+    Failed,
     /// The port found no memory to keep the write, and took nothing.
     NoMemory,
 }
 
 impl Wrote {
     ghost use Rattle.amqp_engine.specs.Engine.{taken_by};
+    ghost use Rattle.amqp_engine.specs.Turn.{is_all};
 
     // How many bytes were taken.
     pub(crate) fn taken(self) -> usize
@@ -81,8 +102,15 @@ impl Wrote {
     {
         match self {
             Wrote::Took(n) => n,
-            Wrote::NoMemory => 0,
+            Wrote::Failed | Wrote::NoMemory => 0,
         }
+    }
+
+    // Whether all of so many bytes were taken.
+    pub(crate) fn is_all(self, offered: usize) -> bool
+        ensures { result ≡ is_all self offered }
+    {
+        matches!(self, Wrote::Took(n) if n == offered)
     }
 }
 
@@ -123,6 +151,7 @@ pub trait Port {
         ensures told { log self.new
             ≡ option_map (log_step result.at result.step (piece_bytes result.step space.new)) (log self.old) }
         ensures plays { IfSome (log self.old) (PlansStep result.at result.step (piece_bytes result.step space.new)) }
+        ensures cause { HasCause result.step (faults self.old) (faults self.new) }
         ensures faults { faults self.old ≤ faults self.new };
 
     /// Takes the first of the bytes of both slices together onto the last link.
@@ -130,6 +159,7 @@ pub trait Port {
         ensures within { IsWithin (length (first.now ++ second.now)) result }
         ensures told { log self.new ≡ option_map (log_write (first.now ++ second.now) result) (log self.old) }
         ensures plays { IfSome (log self.old) (PlansWrite (length (first.now ++ second.now)) result) }
+        ensures cause { result ≡ Wrote.Failed → Rose (faults self.old) (faults self.new) }
         ensures faults { faults self.old ≤ faults self.new };
 }
 

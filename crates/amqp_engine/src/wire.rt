@@ -1,11 +1,15 @@
 //! The session with the bytes of its link.
 
-ghost use Rattle.std.specs.Prelude.{◌≡◌, ◌≤◌, ◌<◌, ◌+◌, ◌*◌, ◌^◌, ℕ, List, Option, Some, true, if◌then◌else◌, IfOk, IfErr, IfNone, IfSome, OnOk, OnErr, MatchResult, IsSome, IsTrue, IsFalse, option_map, length, is_some};
+ghost use Rattle.std.specs.Prelude.{◌≡◌, ◌≤◌, ◌<◌, ◌+◌, ◌*◌, ◌^◌, ℕ, List, Option, Some, true, if◌then◌else◌, IfOk, IfErr, IfNone, IsOk, IfSome, OnOk, OnErr, MatchResult, IsSome, IsTrue, IsFalse, option_map, length, is_some};
 ghost use Rattle.amqp_session.specs.Talk.{is_open, is_asked, has_ended};
-ghost use Rattle.amqp_session.specs.Rules.{starve, command as command_rule};
-ghost use Rattle.amqp_session.specs.Answers.{answer_of, take_answer};
+ghost use Rattle.amqp_session.specs.declared.io_fault.IoFault.{IoFault};
+ghost use Rattle.amqp_session.specs.Changes.{starve};
+ghost use Rattle.amqp_session.specs.Links.{link_failed, lost};
+ghost use Rattle.amqp_session.specs.Commands.{command as command_rule};
+ghost use Rattle.amqp_session.specs.Channels.{frames_of};
+ghost use Rattle.amqp_session.specs.Answers.{Takes, take_frames};
 ghost use Rattle.amqp_engine.specs.Log.{log_write, IsWithin, PlansWrite};
-ghost use Rattle.amqp_engine.specs.Engine.{Engine, begin, with_talk, rule_at, step_linked, step_piece, step_engine, can_read, read_one, settle, fitting_next, commit_one, commit_all, can_write, starve_at};
+ghost use Rattle.amqp_engine.specs.Engine.{Engine, begin, with_talk, rule_at, step_linked, step_piece, step_engine, can_read, read_one, settle, read_badly, taken_by, wrote, fitting_next, commit_one, commit_all, can_write, starve_at};
 ghost use Rattle.amqp_engine.specs.Turn.{asks, is_part, reading, offered, answered, is_all};
 ghost use Rattle.amqp_engine.specs.Tell.{Applies, TellsOffers, offers_from, log_asks};
 ghost use Rattle.amqp_engine.specs.Play.{waiting};
@@ -14,7 +18,7 @@ ghost use Rattle.amqp_engine.specs.Making.{making, parts_of, Allows, Writes};
 use crate::buffer::Buffer;
 use crate::port::{Port, Step, Told, Wrote};
 use amqp_frame::{Read, read_frame, write_frame};
-use amqp_session::{Answer, CAPACITY, Cmd, ErrorKind, Session};
+use amqp_session::{Answer, CAPACITY, Cmd, ErrorKind, Handed, IoFault, Misread, Session};
 use amqp_types::NoMemory;
 use std::alloc::Global;
 use std::marker::Model;
@@ -101,10 +105,18 @@ impl Wire {
     }
 
     pub fn answer(&mut self, number: u64) -> Option<amqp_session::Result<Answer>>
-        ensures answer { result ≡ answer_of number self.old.talk }
-        ensures taken { self.new ≡ with_talk (take_answer number) self.old }
+        ensures taken { Takes number result self.old.talk self.new.talk }
+        ensures rest { self.new ≡ record self.old { talk = self.new.talk } }
     {
         self.session.answer(number)
+    }
+
+    pub fn take_frames(&mut self, opened: u64) -> Result<Vec<Handed>, NoMemory>
+        ensures frames { IfOk result (λ frames. frames.items ≡ frames_of opened self.old.talk) }
+        ensures taken { self.new ≡ with_talk (take_frames opened) self.old }
+        ensures takes_no_memory { IsOk result }
+    {
+        self.session.take_frames(opened)
     }
 
     /// Asks for a link where one is wanted and was not yet asked for.
@@ -153,7 +165,10 @@ impl Wire {
     {
         match step {
             Step::Linked => self.take_link(at),
+            Step::LinkFailed => Ok(self.take_refusal(at)),
             Step::Piece(_) => self.take_piece(at, bytes),
+            Step::End => Ok(self.take_loss(at, IoFault::Aborted)),
+            Step::Fault => Ok(self.take_loss(at, IoFault::Reset)),
             Step::Room => {
                 self.session.advance(at);
                 Ok(0)
@@ -200,7 +215,30 @@ impl Wire {
             return Err(NoMemory);
         }
         self.session.piece(at);
+        self.settle();
         Ok(1)
+    }
+
+    // The link that was asked for is refused.
+    fn take_refusal(&mut self, at: u64) -> u64
+        ensures engine { self.new ≡ settle (rule_at at link_failed self.old) }
+        ensures parts { result ≡ parts_of (is_asked self.old.talk) }
+    {
+        let asked = self.session.is_asked();
+        self.session.link_failed(at);
+        self.settle();
+        asked as u64
+    }
+
+    // The open link is lost.
+    fn take_loss(&mut self, at: u64, fault: IoFault) -> u64
+        ensures engine { self.new ≡ settle (rule_at at (lost fault) self.old) }
+        ensures parts { result ≡ parts_of (is_open self.old.talk) }
+    {
+        let open = self.session.is_open();
+        self.session.lost(fault, at);
+        self.settle();
+        open as u64
     }
 
     fn take_command(&mut self, at: u64, command: Cmd) -> Result<u64, NoMemory>
@@ -261,18 +299,32 @@ impl Wire {
                 }
                 self.unread.consume(n);
                 self.place = self.place.saturating_add(n as u64);
+                self.settle();
             }
-            _ => self.session.misread(self.place, at),
+            Read::TooLarge(size) => self.read_badly(at, Misread::TooLarge(size))?,
+            Read::BadHeartbeat(id) => self.read_badly(at, Misread::BadHeartbeat(id))?,
+            Read::Bad => self.read_badly(at, Misread::Bad(self.place))?,
         }
-        self.settle();
         Ok(true)
     }
 
-    // At the end of the session the unread bytes go.
+    // What was read is no frame.
+    fn read_badly(&mut self, at: u64, why: Misread) -> Result<(), NoMemory>
+        ensures ok { OnOk result (self.new ≡ read_badly at why self.old) }
+        ensures err { OnErr result (self.new ≡ rule_at at starve self.old) }
+    {
+        if self.session.misread(why, at).is_err() {
+            return Err(NoMemory);
+        }
+        self.settle();
+        Ok(())
+    }
+
+    // Where the session has ended, and where no more of the input is read, the unread bytes go.
     fn settle(&mut self)
         ensures { self.new ≡ settle self.old }
     {
-        if self.session.has_ended() {
+        if self.session.has_ended() || self.session.drops_input() {
             self.unread.clear();
             self.place = 0;
         }
@@ -325,13 +377,27 @@ impl Wire {
             return None;
         }
         let answer = port.write(self.unsent.as_slice(), &[]);
-        let taken = answer.taken();
-        self.session.taken(taken as u64, at);
-        self.unsent.consume(taken);
+        self.wrote(at, answer);
         Some(Offered {
             answer,
-            all: taken == offered,
+            all: answer.is_all(offered),
         })
+    }
+
+    // A write was answered.
+    fn wrote(&mut self, at: u64, answer: Wrote)
+        requires { taken_by answer ≤ length self.old.unsent }
+        ensures { self.new ≡ wrote at answer self.old }
+    {
+        match answer {
+            Wrote::Failed => self.session.lost(IoFault::BrokenPipe, at),
+            Wrote::Took(_) | Wrote::NoMemory => {
+                let taken = answer.taken();
+                self.session.taken(taken as u64, at);
+                self.unsent.consume(taken);
+            }
+        }
+        self.settle();
     }
 
     // Commits frames while there is one that fits.

@@ -1,5 +1,5 @@
--- What a source gives and a sink takes, and their counts of faults.
-use Rattle.std.specs.Prelude.{ℕ, ◌+◌, ◌-◌, ◌^◌, ◌≤◌, min}
+-- What a source gives and a sink takes.
+use Rattle.std.specs.Prelude.{ℕ}
 use Rattle.amqp_script.specs.declared.ends.Gave.{Gave}
 use Rattle.amqp_script.specs.declared.ends.Gave.TheVariants.{Got, Failed as GaveNothing}
 use Rattle.amqp_script.specs.declared.ends.Put.{Put}
@@ -14,7 +14,3 @@ given GaveNothing = 0
 abbrev pub taken : Put → ℕ
 taken (Took n) = n
 taken TookNothing = 0
-
--- a count of faults rose, or it stands at the greatest number of 64 bits, where it stays
-abbrev pub Rose : ℕ → ℕ → Type 0
-Rose before now = min (before + 1) (2 ^ 64 - 1) ≤ now

@@ -7,6 +7,9 @@ pub mod Numbers
 pub mod Data
 pub mod Grammar
 pub mod Scripts
+-- What the contracts of private calls are stated with.
+pub mod Budgets
+pub mod Reasons
 -- What is printed.
 pub mod Report
 -- What the program promises.

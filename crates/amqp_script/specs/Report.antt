@@ -4,10 +4,14 @@ use Rattle.std.specs.List.{flat_map, enumerate_from, range_with_len}
 use Rattle.std.specs.Fmt.{decimal}
 use Rattle.hex.specs.Hex.{encode_lower}
 use Rattle.amqp_session.specs.declared.command.Answer.{Answer}
-use Rattle.amqp_session.specs.declared.command.Answer.TheVariants.{Connected, Done}
+use Rattle.amqp_session.specs.declared.command.Answer.TheVariants.{Connected, Channel, Done, Sent}
+use Rattle.amqp_frame.specs.declared.frame.RawKind.{RawKind}
+use Rattle.amqp_frame.specs.declared.frame.RawKind.TheVariants.{RawMethod, Header, Body}
+use Rattle.amqp_session.specs.declared.handed.Handed.{Handed}
 use Rattle.amqp_session.specs.declared.error.ErrorKind.{ErrorKind}
 use Rattle.amqp_session.specs.Talk.{Talk, end_of}
 use Rattle.amqp_session.specs.Errors.{text_of}
+use Rattle.amqp_session.specs.Channels.{frames_of}
 use Rattle.amqp_session.specs.Answers.{answer_of}
 
 -- bytes as two lower-case digits each, or `-` for none
@@ -21,7 +25,9 @@ link_line (k, bytes) = codes "link " ++ decimal k ++ codes " " ++ hexadecimal by
 
 abbrev pub value_text : Answer → List ℕ
 value_text Connected = codes "connected"
+value_text (Channel n opened) = codes "channel " ++ decimal n
 value_text Done = codes "done"
+value_text Sent = codes "sent"
 
 abbrev pub answer_text : Option (Result Answer ErrorKind) → List ℕ
 answer_text None = codes "pending"
@@ -32,6 +38,15 @@ answer_text (Some (Err e)) = codes "err " ++ text_of e
 abbrev pub answer_line : ℕ → Option (Result Answer ErrorKind) → List ℕ
 answer_line number answer =
     codes "answer " ++ decimal number ++ codes " " ++ answer_text answer ++ codes "\n"
+
+abbrev pub kind_text : RawKind → List ℕ
+kind_text RawMethod = codes "method"
+kind_text Header = codes "header"
+kind_text Body = codes "body"
+
+-- a frame that was handed out
+abbrev pub frame_line : Handed → List ℕ
+frame_line h = codes "frame " ++ decimal h.channel ++ codes " " ++ kind_text h.kind ++ codes " " ++ hexadecimal h.bytes ++ codes "\n"
 
 abbrev pub end_text : Option (Result (Unit {0}) ErrorKind) → List ℕ
 end_text None = codes "running"
@@ -51,9 +66,14 @@ abbrev pub answer_lines : Talk → List ℕ
 answer_lines talk =
     flat_map (λ number. answer_line number (answer_of number talk)) (range_with_len 0 (length talk.promises))
 
--- the bytes of each link, the answer to each promise, and the end
+-- the frames handed out, in order, of the channel that each promise opened
+abbrev pub frame_lines : Talk → List ℕ
+frame_lines talk =
+    flat_map (λ number. flat_map frame_line (frames_of number talk)) (range_with_len 0 (length talk.promises))
+
+-- the bytes of each link, the answer to each promise, the frames handed out, and the end
 abbrev pub report : List (List ℕ) → Talk → List ℕ
-report links talk = link_lines links ++ answer_lines talk ++ end_line (end_of talk)
+report links talk = link_lines links ++ answer_lines talk ++ frame_lines talk ++ end_line (end_of talk)
 
 -- what is printed of a script with a refused line
 abbrev pub refusal : ℕ → List ℕ

@@ -1,53 +1,129 @@
 //! Bytes as a script spells them.
 
-ghost use Rattle.std.specs.Prelude.{◌≡◌, IfOk};
+ghost use Rattle.std.specs.Prelude.{◌≡◌, ◌≤◌, IfOk, IfSome, option_map};
 ghost use Rattle.std.specs.List.{slice_split};
-ghost use Rattle.amqp_script.specs.Data.{data_bytes, part_bytes, parts_bytes, is_plus};
+ghost use Rattle.amqp_script.specs.Data.{spelled, part, parts, zeros_of, is_plus};
+ghost use Rattle.amqp_script.specs.Numbers.{number_64};
+ghost use Rattle.amqp_script.specs.Budgets.{affordable, Appends};
 
+use crate::numbers::number;
 use crate::words::{cut, is};
 use amqp_types::{NoMemory, Payload};
 use hex::FromHexError;
 use std::alloc::Global;
+use std::marker::Model;
 
-/// The bytes that a text spells, where it spells any.
-pub fn data_bytes(alloc: Global, text: &[u8]) -> Result<Option<Payload>, NoMemory>
-    ensures { IfOk result (λ bytes. bytes ≡ data_bytes text.now) }
-{
-    if is(text, b"-") {
-        return Ok(Some(Payload::empty(alloc)));
-    }
-    Ok(parts_bytes(alloc, text)?)
+/// Bytes, and how many of them are zeros that a number spells.
+#[derive(Debug, Drop)]
+pub struct Spelled {
+    bytes: Payload,
+    zeros: u64,
 }
 
-// The bytes of parts that are joined by `+`. Those of a lone part are moved, and not copied.
-fn parts_bytes(alloc: Global, text: &[u8]) -> Result<Option<Payload>, NoMemory>
-    ensures { IfOk result (λ bytes. bytes ≡ parts_bytes (slice_split is_plus text.now)) }
+impl Model for Spelled {
+    ghost use Rattle.amqp_script.specs.Data.{Spelled};
+
+    ghost Value = { Spelled };
+
+    ghost view = { λ s. record { bytes = s.bytes; zeros = s.zeros } };
+}
+
+impl Spelled {
+    pub fn zeros(&self) -> u64
+        ensures { result ≡ self.now.zeros }
+    {
+        self.zeros
+    }
+
+    pub fn bytes(&self) -> &Payload
+        ensures { result.now ≡ self.now.bytes }
+    {
+        &self.bytes
+    }
+
+    pub fn into_bytes(self) -> Payload
+        ensures { result ≡ self.bytes }
+    {
+        self.bytes
+    }
+}
+
+/// The bytes that a text spells, where it spells any and where no more than so many of them are
+/// zeros that a number spells.
+pub fn read_data(alloc: Global, text: &[u8], most: u64) -> Result<Option<Spelled>, NoMemory>
+    ensures { IfOk result (λ data. data ≡ affordable most (spelled text.now)) }
+{
+    if is(text, b"-") {
+        return Ok(Some(Spelled {
+            bytes: Payload::empty(alloc),
+            zeros: 0,
+        }));
+    }
+    Ok(parts(alloc, text, most)?)
+}
+
+// The bytes of parts that are joined by `+`.
+fn parts(alloc: Global, text: &[u8], most: u64) -> Result<Option<Spelled>, NoMemory>
+    ensures { IfOk result (λ data. data ≡ affordable most (parts (slice_split is_plus text.now))) }
 {
     let (first, mut rest) = cut(text, b'+');
-    let Some(first) = part_bytes(alloc, first)? else {
+    let mut bytes = Vec::new(alloc);
+    let Some(mut zeros) = append_part(alloc, &mut bytes, first, most)? else {
         return Ok(None);
     };
-    let mut bytes = first.into_vec();
     'parts: while let Some(more) = rest {
         let (part, after) = cut(more, b'+');
-        match part_bytes(alloc, part)? {
+        match append_part(alloc, &mut bytes, part, most - zeros)? {
             None => return Ok(None),
-            Some(next) => bytes.extend_from_slice(next.as_bytes())?,
+            Some(more_zeros) => zeros += more_zeros,
         }
         rest = after;
     }
-    Ok(Some(Payload::from_vec(bytes)))
+    Ok(Some(Spelled {
+        bytes: Payload::from_vec(bytes),
+        zeros,
+    }))
 }
 
-fn part_bytes(alloc: Global, digits: &[u8]) -> Result<Option<Payload>, NoMemory>
-    ensures { IfOk result (λ bytes. bytes ≡ part_bytes digits.now) }
+// Appends the bytes of one part, and says how many are zeros that a number spells.
+fn append_part(
+    alloc: Global,
+    bytes: &mut Vec<u8>,
+    text: &[u8],
+    most: u64,
+) -> Result<Option<u64>, NoMemory>
+    ensures appended { IfOk result (λ zeros. Appends most (part text.now) bytes.old.items bytes.new.items zeros) }
+    ensures within { IfOk result (λ zeros. IfSome zeros (λ n. n ≤ most)) }
 {
-    if digits.is_empty() {
+    let Some(first) = text.first() else {
         return Ok(None);
+    };
+    if *first == b'z' {
+        return Ok(append_zeros(bytes, &text[1..], most)?);
     }
-    match hex::decode(alloc, digits) {
-        Ok(bytes) => Ok(Some(Payload::from_vec(bytes))),
+    match hex::decode(alloc, text) {
+        Ok(part) => {
+            bytes.extend_from_slice(&part)?;
+            Ok(Some(0))
+        }
         Err(FromHexError::OutOfMemory) => Err(NoMemory),
         Err(_) => Ok(None),
+    }
+}
+
+// Appends so many zeros as the digits say.
+fn append_zeros(bytes: &mut Vec<u8>, digits: &[u8], most: u64) -> Result<Option<u64>, NoMemory>
+    ensures appended { IfOk result (λ zeros. Appends most (option_map zeros_of (number_64 digits.now)) bytes.old.items bytes.new.items zeros) }
+    ensures within { IfOk result (λ zeros. IfSome zeros (λ n. n ≤ most)) }
+{
+    match number(digits, u64::MAX) {
+        Some(n) if n <= most => {
+            let Some(len) = bytes.len().checked_add(n as usize) else {
+                return Err(NoMemory);
+            };
+            bytes.resize(len, 0)?;
+            Ok(Some(n))
+        }
+        _ => Ok(None),
     }
 }

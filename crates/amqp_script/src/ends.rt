@@ -1,7 +1,8 @@
 //! Where a script comes from, and where a report goes.
 
 ghost use Rattle.std.specs.Prelude.{◌≡◌, ◌≤◌, ◌<◌, ◌++◌, [], ℕ, List, Option, IfSome, length, take, drop, option_map};
-ghost use Rattle.amqp_script.specs.Ends.{Rose, given, taken};
+ghost use Rattle.amqp_engine.specs.Counts.{Rose};
+ghost use Rattle.amqp_script.specs.Ends.{given, taken};
 
 /// What a source answers.
 #[derive(Clone, Copy, Debug, PartialEq, Eq)]

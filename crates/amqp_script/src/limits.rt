@@ -14,3 +14,6 @@ pub const PIECE_BYTES: usize = 4096;
 
 /// The most bytes of the text of a close.
 pub const TEXT_BYTES: usize = 255;
+
+/// The most zero bytes that all the `zN` parts of a script spell together.
+pub const ZERO_BYTES: u64 = 67_108_864;

@@ -1,13 +1,15 @@
 //! The report of a replay.
 
-ghost use Rattle.std.specs.Prelude.{◌≡◌, ◌++◌, ◌+◌, ◌<◌, ◌^◌, Some, OnOk, IfOk, slice_get, length};
+ghost use Rattle.std.specs.Prelude.{◌≡◌, ◌++◌, ◌+◌, ◌<◌, ◌^◌, ◌↔◌, Some, Err, OnOk, IfOk, IsTrue, slice_get, length};
+ghost use Rattle.std.specs.List.{flat_map};
 ghost use Rattle.std.specs.String.{string_bytes};
 ghost use Rattle.amqp_session.specs.Talk.{end_of};
 ghost use Rattle.amqp_session.specs.Answers.{answer_of};
-ghost use Rattle.amqp_script.specs.Report.{link_line, link_lines, answer_line, answer_lines, end_line, report, refusal};
+ghost use Rattle.amqp_script.specs.Report.{link_line, link_lines, answer_line, answer_lines, kind_text, frame_line, frame_lines, end_line, report, refusal};
 
 use amqp_engine::{IoLoop, ScriptedPort};
-use amqp_session::Answer;
+use amqp_frame::RawKind;
+use amqp_session::{Answer, ErrorKind, Handed};
 use amqp_types::NoMemory;
 use std::alloc::Global;
 use std::marker::Model;
@@ -59,7 +61,8 @@ pub fn report<P: ScriptedPort>(
     let mut out = String::new(alloc);
     put_links(alloc, &mut out, port)?;
     put_answers(&mut out, engine)?;
-    put_end(&mut out, engine.session().end())?;
+    put_frames(alloc, &mut out, engine)?;
+    put_end(&mut out, ended(engine)?)?;
     Ok(out)
 }
 
@@ -79,9 +82,34 @@ fn put_answers(out: &mut String, engine: &mut IoLoop) -> Result<(), NoMemory>
 {
     let count = engine.session().promises();
     'answers: for number in 0..count {
-        put_answer(out, number, engine.answer(number))?;
+        let answer = engine.answer(number);
+        if is_refused(&answer) {
+            return Err(NoMemory);
+        }
+        put_answer(out, number, answer)?;
     }
     Ok(())
+}
+
+// Whether memory was refused for the copy of an error.
+fn is_refused<T>(answer: &Option<amqp_session::Result<T>>) -> bool
+    ensures { IsTrue result ↔ (answer.now ≡ Some (Err ErrorKind.NoMemory)) }
+{
+    match answer {
+        Some(Err(error)) => *error.kind() == ErrorKind::NoMemory,
+        _ => false,
+    }
+}
+
+/// How the session ended.
+pub fn ended(engine: &IoLoop) -> Result<Option<amqp_session::Result<()>>, NoMemory>
+    ensures { IfOk result (λ end. end ≡ end_of engine.now.talk) }
+{
+    let end = engine.session().end();
+    if is_refused(&end) {
+        return Err(NoMemory);
+    }
+    Ok(end)
 }
 
 // The line of a link.
@@ -108,10 +136,59 @@ fn put_answer(
     match answer {
         None => write!(out, "answer {number} pending\n")?,
         Some(Ok(Answer::Connected)) => write!(out, "answer {number} ok connected\n")?,
+        Some(Ok(Answer::Channel(id, _))) => write!(out, "answer {number} ok channel {id}\n")?,
         Some(Ok(Answer::Done)) => write!(out, "answer {number} ok done\n")?,
+        Some(Ok(Answer::Sent)) => write!(out, "answer {number} ok sent\n")?,
         Some(Err(error)) => write!(out, "answer {number} err {error}\n")?,
     }
     Ok(())
+}
+
+// The frames handed out, of the channel that each promise opened.
+fn put_frames(alloc: Global, out: &mut String, engine: &mut IoLoop) -> Result<(), NoMemory>
+    ensures frames { OnOk result (string_bytes out.new ≡ string_bytes out.old ++ frame_lines engine.old.talk) }
+    ensures end { end_of engine.new.talk ≡ end_of engine.old.talk }
+{
+    let count = engine.session().promises();
+    'openings: for number in 0..count {
+        let frames = engine.take_frames(number)?;
+        put_each(alloc, out, &frames)?;
+    }
+    Ok(())
+}
+
+// Frames of one channel.
+fn put_each(alloc: Global, out: &mut String, frames: &[Handed]) -> Result<(), NoMemory>
+    ensures { OnOk result (string_bytes out.new ≡ string_bytes out.old ++ flat_map frame_line frames.now) }
+{
+    'frames: for frame in frames {
+        put_frame(alloc, out, frame)?;
+    }
+    Ok(())
+}
+
+// The line of a frame.
+fn put_frame(alloc: Global, out: &mut String, frame: &Handed) -> Result<(), NoMemory>
+    ensures { OnOk result (string_bytes out.new ≡ string_bytes out.old ++ frame_line frame.now) }
+{
+    let (id, kind) = (frame.channel, kind_text(frame.kind));
+    if frame.bytes.is_empty() {
+        write!(out, "frame {id} {kind} -\n")?;
+        return Ok(());
+    }
+    let digits = hex::encode(alloc, frame.bytes.as_bytes())?;
+    write!(out, "frame {id} {kind} {digits}\n")?;
+    Ok(())
+}
+
+fn kind_text(kind: RawKind) -> &'static str
+    ensures { result.now ≡ kind_text kind }
+{
+    match kind {
+        RawKind::RawMethod => "method",
+        RawKind::Header => "header",
+        RawKind::Body => "body",
+    }
 }
 
 // The last line.

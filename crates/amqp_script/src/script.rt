@@ -6,6 +6,7 @@ ghost use Rattle.amqp_script.specs.Grammar.{parsed};
 ghost use Rattle.amqp_script.specs.Scripts.{script_read, ScriptArePieces};
 
 use crate::grammar::{Said, says};
+use crate::limits::ZERO_BYTES;
 use crate::lines::Lines;
 use amqp_engine::Given;
 use amqp_types::NoMemory;
@@ -26,11 +27,16 @@ pub fn parse(alloc: Global, text: &[u8]) -> Result<Script, NoMemory>
 {
     let mut steps = Vec::new(alloc);
     let mut lines = Lines::new(text);
+    // how many zeros may still be spelled by numbers
+    let mut left = ZERO_BYTES;
     'lines: while let Some(line) = lines.take_line() {
-        match says(alloc, &line)? {
+        match says(alloc, &line, left)? {
             Said::Nothing => {}
             Said::Refused => return Ok(Script::Refused(line.number)),
-            Said::Step(what) => steps.push(Given { at: 0, what })?,
+            Said::Step(what, zeros) => {
+                steps.push(Given { at: 0, what })?;
+                left -= zeros;
+            }
         }
     }
     Ok(Script::Steps(steps))

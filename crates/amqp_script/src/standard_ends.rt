@@ -1,7 +1,7 @@
 //! Standard input and output as a source and a sink. They tell nothing.
 
 ghost use Rattle.std.specs.Prelude.{◌≡◌, ◌≤◌, None};
-ghost use Rattle.amqp_script.specs.Ends.{Rose};
+ghost use Rattle.amqp_engine.specs.Counts.{Rose};
 
 use crate::ends::{Gave, Put, Sink, Source};
 use std::io::{Read, Write};

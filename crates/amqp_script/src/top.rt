@@ -2,12 +2,12 @@
 
 ghost use Rattle.std.specs.Prelude.{◌≡◌, ◌≢◌, ◌⊎◌, ◌↔◌, [], ◌∷◌, Ok, IfOk, IfSome, OnOk, IsTrue, codes};
 ghost use Rattle.amqp_engine.specs.Plan.{ArePieces};
-ghost use Rattle.amqp_script.specs.Ends.{Rose};
+ghost use Rattle.amqp_engine.specs.Counts.{Rose};
 ghost use Rattle.amqp_script.specs.Grammar.{parsed};
 ghost use Rattle.amqp_script.specs.Top.{printout, end_status, TellsLinks, Answers, AnswersSome, IsSilent, IsStatus};
 
 use crate::ends::{Sink, Source};
-use crate::report::{Printout, refusal, report};
+use crate::report::{Printout, ended, refusal, report};
 use crate::script::{Script, parse};
 use crate::status::{
     CLOSED, FAILED, NO_MEMORY, REFUSED, RUNNING, SINK_FAILED, SOURCE_FAILED, USAGE,
@@ -113,6 +113,6 @@ fn replay<P: ScriptedPort>(
     if engine.starved().is_some() {
         return Err(NoMemory);
     }
-    let status = end_status(engine.session().end());
+    let status = end_status(ended(&engine)?);
     Ok(Printout::new(status, report(alloc, &mut engine, port)?))
 }

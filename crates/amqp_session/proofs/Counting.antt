@@ -1,18 +1,35 @@
 -- The bytes that are unsent, counted.
-use Rattle.std.proofs.Common.{◌≡◌, ℕ, ◌+◌, ◌-◌, ◌≤◌, List, [], ◌∷◌, arith, refl}
+use Rattle.std.proofs.Common.{◌≡◌, ◌∙◌, ap, ℕ, ◌+◌, ◌-◌, ◌≤◌, List, [], ◌∷◌, arith, refl, Bool, true, false, if◌then◌else◌, Option, Some, None}
 use Rattle.std.proofs.lemmas.List.Sums.{sum_by-cons}
 use Rattle.std.specs.Prelude.{IsTrue}
+use Rattle.amqp_session.specs.declared.error.ErrorKind.{ErrorKind}
 use Rattle.amqp_session.specs.declared.committed.Mark.{Mark}
+use Rattle.amqp_session.specs.declared.committed.Then.{Then}
+use Rattle.amqp_session.specs.declared.committed.Then.TheVariants.{Nothing, Answer, Finish}
 use Rattle.amqp_session.specs.Talk.{Talk, is_open}
-use Rattle.amqp_session.specs.Writing.{left_in, sent, sent_among, taken, unsent}
+use Rattle.amqp_session.specs.Changes.{close, is_closed, lose, finish, finish_by}
+use Rattle.amqp_session.specs.Writing.{follow, left_in, sent, sent_among, taken, unsent}
 
 pub left_in-cons : (m : Mark) (ms : List Mark) → left_in (m ∷ ms) ≡ m.left + left_in ms
 left_in-cons m ms = sum_by-cons (λ (m : Mark). m.left) m ms
 
+-- an end leaves the committed frames as they are
+finish_by-committed : (e : Option ErrorKind) (t : Talk) → (finish_by e t).committed ≡ t.committed
+finish_by-committed None t = refl
+finish_by-committed (Some e) t =
+    elim (is_closed e) as (λ (b : Bool). (if b then close t else lose e t).committed ≡ t.committed) [ true ↦ refl | false ↦ refl ]
+
+-- what follows a frame leaves the committed frames as they are
+pub follow-committed : (then : Then) (t : Talk) → (follow then t).committed ≡ t.committed
+follow-committed Nothing t = refl
+follow-committed (Answer number) t = refl
+follow-committed Finish t = finish_by-committed t.close_error (record t { close_error = None })
+
 pub left_in-sent_among : (ms : List Mark) (n : ℕ) (t : Talk) → t.committed ≡ ms → n ≤ left_in ms → left_in (sent_among ms n t).committed + n ≡ left_in ms
 left_in-sent_among [] n t is within = grind arith
 left_in-sent_among (m ∷ ms) n t is within =
-    grind (arith, left_in-cons m ms, left_in-cons (record m { left = m.left - n }) ms, left_in-sent_among ms (n - m.left) (sent t))
+    let rest : (sent m t).committed ≡ ms = follow-committed m.then _ ∙ grind (is) in
+    grind (arith, left_in-cons m ms, left_in-cons (record m { left = m.left - n }) ms, left_in-sent_among ms (n - m.left) (sent m t) rest)
 
 -- what is taken is no longer unsent
 pub unsent-taken : (n : ℕ) (t : Talk) → IsTrue (is_open t) → n ≤ unsent t → unsent (taken n t) + n ≡ unsent t

@@ -1,5 +1,5 @@
 -- The small changes of the state that the rules are made of.
-use Rattle.std.specs.Prelude.{ℕ, max, if◌then◌else◌, List, [], ◌∷◌, ◌++◌, length, slice_get, slice_set, Option, Some, None, Result, Ok, Err}
+use Rattle.std.specs.Prelude.{ℕ, max, if◌then◌else◌, Bool, true, false, List, [], ◌∷◌, ◌++◌, length, slice_get, slice_set, Option, Some, None, Result, Ok, Err}
 use Rattle.amqp_frame.specs.declared.frame.Frame.{Frame}
 use Rattle.amqp_session.specs.declared.state.ConnectionState.TheVariants.{Closed, Error}
 use Rattle.amqp_session.specs.declared.state.Link.TheVariants.{Ended}
@@ -80,10 +80,13 @@ fail e t = record t { state = Error; link = Ended (Err e); channels = [] }
 abbrev pub lose : ErrorKind → Talk → Talk
 lose e t = fail e t
 
+abbrev pub is_closed : ErrorKind → Bool
+is_closed (InvalidConnectionState Closed) = true
+is_closed _ = false
+
 abbrev pub finish_by : Option ErrorKind → Talk → Talk
 finish_by None t = close t
-finish_by (Some (InvalidConnectionState Closed)) t = close t
-finish_by (Some e) t = lose e t
+finish_by (Some e) t = if is_closed e then close t else lose e t
 
 -- the end after the server's close: Closed where its code was none of an error
 abbrev pub finish : Talk → Talk

@@ -1,7 +1,7 @@
 //! The promises of a session, by number.
 
 ghost use Rattle.std.specs.Prelude.{◌≡◌, length};
-ghost use Rattle.amqp_session.specs.Rules.{settled};
+ghost use Rattle.amqp_session.specs.Changes.{settled};
 
 use crate::command::Answer;
 use crate::error;

@@ -2,7 +2,7 @@
 
 ghost use Rattle.std.specs.Prelude.{◌≡◌, ◌+◌, ◌<◌, ◌≤◌, ◌^◌, length, IfOk, IfErr, Some, None};
 ghost use Rattle.amqp_session.specs.Talk.{start, wants_link, is_asked, is_open, has_ended, end_of, drops_input};
-ghost use Rattle.amqp_session.specs.Changes.{present_at, starve, fail, lose, close, finish, give, give_to};
+ghost use Rattle.amqp_session.specs.Changes.{present_at, starve, fail, lose, close, is_closed, finish, give, give_to};
 ghost use Rattle.amqp_session.specs.Writing.{unsent};
 ghost use Rattle.amqp_session.specs.Negotiation.{frame_limit};
 ghost use Rattle.amqp_session.specs.Answers.{HandsOut};
@@ -177,8 +177,8 @@ impl Session {
         ensures { self.new ≡ finish self.old }
     {
         match self.close_error.take() {
-            None | Some(ErrorKind::InvalidConnectionState(ConnectionState::Closed)) => self.close(),
-            Some(kind) => self.lose(kind),
+            Some(kind) if !is_closed(&kind) => self.lose(kind),
+            _ => self.close(),
         }
     }
 
@@ -195,4 +195,14 @@ impl Session {
             self.give(number, answer);
         }
     }
+}
+
+// Whether an error tells no more than that the connection is closed.
+fn is_closed(kind: &ErrorKind) -> bool
+    ensures { result ≡ is_closed kind.now }
+{
+    matches!(
+        kind,
+        ErrorKind::InvalidConnectionState(ConnectionState::Closed)
+    )
 }

@@ -1,7 +1,7 @@
 //! What comes on a channel.
 
-ghost use Rattle.std.specs.Prelude.{◌≡◌, Some, IsSome, OnOk, OnErr};
-ghost use Rattle.amqp_session.specs.Channels.{channel_at, set_channel, unawaited_channel_method, on_channel_open_ok, on_channel_close_ok, channel_row, channel_method, listed_channel_method, is_select_ok, pass_through, raw_on, raw_frame};
+ghost use Rattle.std.specs.Prelude.{◌≡◌, Some, OnOk, OnErr};
+ghost use Rattle.amqp_session.specs.Channels.{channel_at, unawaited_channel_method, on_channel_open_ok, on_channel_close_ok, channel_method, listed_channel_method, is_select_ok, pass_through, unlisted, raw_frame};
 
 use super::Session;
 use crate::channels::Channel;
@@ -101,17 +101,25 @@ impl Session {
         ensures ok { OnOk result (self.new ≡ raw_frame id kind bytes self.old) }
         ensures err { OnErr result (self.new ≡ self.old) }
     {
-        match (self.state, self.channels.get(id)) {
-            (ConnectionState::Connecting, _) => {
-                self.lose(ErrorKind::InvalidChannel(id));
+        if self.state == ConnectionState::Connecting {
+            self.lose(ErrorKind::InvalidChannel(id));
+            return Ok(());
+        }
+        match self.channels.get(id) {
+            Some(channel) => self.pass_through(id, channel, kind, bytes),
+            None => {
+                self.unlisted(id);
                 Ok(())
             }
-            (_, Some(channel)) => self.pass_through(id, channel, kind, bytes),
-            (ConnectionState::Closing, None) => Ok(()),
-            (_, None) => {
-                self.lose(ErrorKind::InvalidChannel(id));
-                Ok(())
-            }
+        }
+    }
+
+    // A frame on a channel that is not listed.
+    fn unlisted(&mut self, id: ChannelId)
+        ensures { self.new ≡ unlisted self.old.state id self.old }
+    {
+        if self.state != ConnectionState::Closing {
+            self.lose(ErrorKind::InvalidChannel(id));
         }
     }
 

@@ -2,9 +2,8 @@
 
 ghost use Rattle.std.specs.Prelude.{◌≡◌, IfErr, OnOk, OnErr};
 ghost use Rattle.amqp_session.specs.Changes.{present_at, starve};
-ghost use Rattle.amqp_session.specs.Channels.{channel_method};
-ghost use Rattle.amqp_session.specs.Connections.{connection_row};
-ghost use Rattle.amqp_session.specs.Frames.{is_unbuilt, is_of_a_channel, misplaced, method_on_0, method_on, built_method, frame_row, on_frame};
+ghost use Rattle.amqp_session.specs.Violations.{connection_method_on, on_channel_0};
+ghost use Rattle.amqp_session.specs.Frames.{is_unbuilt, is_of_a_channel, misplaced, built_method, frame_row, on_frame};
 
 use super::Session;
 use crate::error::{self, ErrorKind};
