@@ -16,6 +16,10 @@ pub if-false : {A : Type 0} (b : Bool) (x y : A) → b ≡ false → (if b then 
 if-false true x y h = cc
 if-false false x y h = refl
 
+pub if-both : {A B : Type 0} (f : A → B) (b : Bool) (x y : A) (u v : B) → f x ≡ u → f y ≡ v → f (if b then x else y) ≡ (if b then u else v)
+if-both f true x y u v h k = h
+if-both f false x y u v h k = k
+
 pub and-true : (a b : Bool) → a ≡ true → b ≡ true → (a && b) ≡ true
 and-true true b g h = h
 and-true false b g h = cc

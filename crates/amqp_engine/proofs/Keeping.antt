@@ -1,22 +1,51 @@
 -- What the rules of the session leave as it is.
-use Rattle.std.proofs.Common.{◌≡◌, ◌⊎◌, inl, inr, ℕ, zero, ◌+◌, ◌-◌, ◌==◌, ◌&&◌, not, nat_le, max, Bool, true, false, if◌then◌else◌, List, [], ◌∷◌, length, drop, length-drop, refl, ap, sym, ◌∙◌, arith}
+use Rattle.std.proofs.Common.{◌≡◌, ◌⊎◌, inl, inr, ℕ, zero, suc, ◌+◌, ◌-◌, ◌==◌, ◌&&◌, not, nat_le, nat_lt, max, Bool, true, false, if◌then◌else◌, List, [], ◌∷◌, length, drop, length-drop, Option, Some, None, Result, Ok, Err, is_some, refl, ap, sym, ◌∙◌, arith}
 use Rattle.std.proofs.lemmas.List.Sums.{sum_by-cons}
 use Rattle.std.proofs.lemmas.Bool.Decides.{nat_tests}
 use Rattle.amqp_frame.specs.declared.frame.Frame.{Frame}
-use Rattle.amqp_frame.specs.declared.frame.Frame.TheVariants.{Method}
-use Rattle.amqp_frame.specs.declared.method.Method.TheVariants.{Start, Tune, OpenOk, CloseOk}
+use Rattle.amqp_frame.specs.declared.frame.Frame.TheVariants.{ProtocolHeader, Method, Raw, Heartbeat}
+use Rattle.amqp_frame.specs.declared.frame.RawKind.{RawKind}
+use Rattle.amqp_frame.specs.declared.method.Method.{Method as AnyMethod}
+use Rattle.amqp_frame.specs.declared.method.Method.TheVariants.{Start, Tune, OpenOk, Close, CloseOk, ChannelOpenOk, ChannelCloseOk}
+use Rattle.amqp_session.specs.declared.channels.Channel.{Channel}
 use Rattle.amqp_session.specs.declared.committed.Mark.{Mark}
+use Rattle.amqp_session.specs.declared.committed.Then.{Then}
+use Rattle.amqp_session.specs.declared.committed.Then.TheVariants.{Nothing, Answer, Finish}
+use Rattle.amqp_session.specs.declared.lanes.Awaited.{Awaited}
+use Rattle.amqp_session.specs.declared.promises.Slot.{Slot}
 use Rattle.amqp_session.specs.declared.state.ConnectionState.{ConnectionState}
 use Rattle.amqp_session.specs.declared.state.ConnectionState.TheVariants.{Connecting, Connected, Closing}
+use Rattle.amqp_session.specs.declared.state.ChannelState.{ChannelState}
+use Rattle.amqp_session.specs.declared.state.ChannelState.TheVariants as channel
 use Rattle.amqp_session.specs.declared.state.Phase.{Phase}
 use Rattle.amqp_session.specs.declared.state.Phase.TheVariants.{AwaitStart, AwaitTune, AwaitOpenOk}
+use Rattle.amqp_session.specs.declared.state.Link.{Link}
+use Rattle.amqp_session.specs.declared.state.Input.{Input}
+use Rattle.amqp_session.specs.declared.state.Input.TheVariants.{Acting, Closed, Dropped}
+use Rattle.amqp_session.specs.declared.io_fault.IoFault.{IoFault}
+use Rattle.amqp_session.specs.declared.io_fault.IoFault.TheVariants.{Refused, BrokenPipe}
+use Rattle.amqp_session.specs.declared.misread.Misread.{Misread}
 use Rattle.amqp_session.specs.declared.command.Cmd.{Cmd}
-use Rattle.amqp_session.specs.declared.command.Cmd.TheVariants.{CloseConnection}
-use Rattle.amqp_session.specs.declared.error.ErrorKind.TheVariants.{Unbuilt, NoMemory}
-use Rattle.amqp_session.specs.Talk.{Talk, has_ended, is_open}
-use Rattle.amqp_session.specs.Rules.{present_at, on_frame, frame_row, on_connection_close_ok, misread, fail, starve, command, command_row}
-use Rattle.amqp_session.specs.Writing.{left_in, sent, sent_among, taken}
-use Rattle.amqp_engine.proofs.Cases.{if_case, if-true, if-false}
+use Rattle.amqp_session.specs.declared.command.Cmd.TheVariants.{OpenChannel, CloseChannel, CloseConnection, Send}
+use Rattle.amqp_session.specs.declared.error.ErrorKind.{ErrorKind}
+use Rattle.amqp_session.specs.declared.error.ErrorKind.TheVariants.{NoMemory, IOError}
+use Rattle.amqp_frame.specs.RawMethods.{OtherMethod}
+use Rattle.amqp_types.specs.declared.word.Word.{Word}
+use Rattle.amqp_session.specs.declared.lanes.Reply.TheVariants.{ChannelOpened, ChannelClosed, ConnectionClosed}
+use Rattle.amqp_session.specs.declared.command.Answer.{Answer as AnyAnswer}
+use Rattle.amqp_session.specs.declared.misread.Misread.TheVariants.{TooLarge, BadHeartbeat, Bad}
+use Rattle.amqp_session.specs.Talk.{Talk, has_ended, is_open, end_of_link}
+use Rattle.amqp_session.specs.Changes.{present_at, give, give_to, fail, lose, close, finish, finish_by, is_closed, starve}
+use Rattle.amqp_session.specs.Links.{link_failed, lost, lost_by, misread, misread_by}
+use Rattle.amqp_session.specs.Violations.{close_error, misread_error}
+use Rattle.amqp_session.specs.Connections.{connection_row, on_connection_close_ok, promise_of}
+use Rattle.amqp_session.specs.Channels.{unawaited_channel_method, channel_opened, channel_closed, channel_row, listed_channel_method, channel_method, hand_out, confirmed, is_select_ok, pass_through, unlisted, raw_on, channel_at}
+use Rattle.amqp_session.specs.Outgoing.{first_awaited, without_first}
+use Rattle.amqp_session.specs.Frames.{misplaced_in, misplaced, is_unbuilt, is_of_a_channel, method_on_0, method_on, built_method, frame_row, frame_by, on_frame}
+use Rattle.amqp_session.specs.Commands.{open_drawn, in_state, on_channel, on_open_channel, send, command, command_row, named}
+use Rattle.amqp_session.specs.Writing.{left_in, follow, sent, sent_among, taken}
+use Rattle.amqp_engine.specs.Causes.{fault_in, fault_of, IsTold}
+use Rattle.amqp_engine.proofs.Cases.{if_case, if-true, if-false, if-both, and-true, and-false}
 
 -- ---- the present
 
@@ -37,7 +66,7 @@ present-again false at t h =
 pub present-twice : (at : ℕ) (t : Talk) → present_at at (present_at at t) ≡ present_at at t
 present-twice at t = present-again (has_ended t) at t refl
 
--- ---- ends
+-- ---- want of memory
 
 starve-over : (b : Bool) (t : Talk) → has_ended t ≡ b → has_ended (starve t) ≡ true
 starve-over true t h = ap has_ended (if-true (has_ended t) t (fail NoMemory t) h) ∙ h
@@ -57,48 +86,223 @@ starve-twice at t =
 pub starve-committed : (t : Talk) → (starve t).committed ≡ t.committed
 starve-committed t = if_case (λ (x : Talk). x.committed ≡ t.committed) (has_ended t) t (fail NoMemory t) refl refl
 
--- ---- frames
+-- ---- what a rule keeps
 
--- a rule that commits nothing, and leaves the link as it is unless the session ends
+-- a rule that commits nothing, leaves the link as it is unless the session ends, and brings no fault
 pub record Keeps (t t' : Talk) : Type 0 where
   pub committed : t'.committed ≡ t.committed
   pub link : (t'.link ≡ t.link) ⊎ (has_ended t' ≡ true)
+  pub told : IsTold t → IsTold t'
+  pub faultless : fault_of t ≡ None → fault_of t' ≡ None
 
-keeps-close : (closes : List ℕ) (place : ℕ) (t : Talk) → Keeps t (on_connection_close_ok closes place t)
-keeps-close [] place t = record { committed = refl; link = inr refl }
-keeps-close (n ∷ rest) place t = record { committed = refl; link = inr refl }
+pub keeps-none : (t : Talk) → Keeps t t
+keeps-none t = record { committed = refl; link = inl refl; told = λ h. h; faultless = λ h. h }
 
-keeps-row : (s : ConnectionState) (p : Phase) (f : Frame) (place : ℕ) (t : Talk) → Keeps t (frame_row s p f place t)
-keeps-row Connecting AwaitStart (Method zero (Start a b c d e)) place t = record { committed = refl; link = inl refl }
-keeps-row Connecting AwaitTune (Method zero (Tune a b c)) place t = record { committed = refl; link = inl refl }
-keeps-row Connecting AwaitOpenOk (Method zero OpenOk) place t = record { committed = refl; link = inl refl }
-keeps-row Closing _ (Method zero CloseOk) place t = keeps-close t.closes place t
-keeps-row _ _ _ place t = record { committed = refl; link = inr refl }
+keeps-lose : (e : ErrorKind) (t : Talk) → fault_in e ≡ None → Keeps t (lose e t)
+keeps-lose e t none = record { committed = refl; link = inr refl; told = λ h. h; faultless = λ h. none }
+
+keeps-give_to : (promise : Option ℕ) (answer : Result AnyAnswer ErrorKind) (t u : Talk) → Keeps t u → Keeps t (give_to promise answer u)
+keeps-give_to None answer t u k = k
+keeps-give_to (Some n) answer t u k = record { committed = k.committed; link = k.link; told = k.told; faultless = k.faultless }
+
+keeps-close : (t u : Talk) → Keeps t u → Keeps t (close u)
+keeps-close t u k = record { committed = k.committed; link = inr refl; told = k.told; faultless = λ h. refl }
+
+-- ---- frames
+
+close-told : (code : ℕ) (text : List ℕ) → fault_in (close_error code text) ≡ None
+close-told code text = if_case (λ (e : ErrorKind). fault_in e ≡ None) _ _ _ refl refl
+
+keeps-close-ok : (t : Talk) → Keeps t (on_connection_close_ok t)
+keeps-close-ok t =
+    keeps-close t _ (keeps-give_to (promise_of (first_awaited 0 ConnectionClosed t.awaited)) _ t
+    (record t { awaited = without_first 0 ConnectionClosed t.awaited }) (record { committed = refl; link = inl refl; told = λ h. h; faultless = λ h. h }))
+
+keeps-connection : (s : ConnectionState) (p : Phase) (m : AnyMethod) (t : Talk) → Keeps t (connection_row s p m t)
+keeps-connection s p (Close code text class method) t =
+    record { committed = refl; link = inl refl; told = λ h. close-told code text; faultless = λ h. h }
+keeps-connection Closing p CloseOk t = keeps-close-ok t
+keeps-connection Closing p m t = keeps-none t
+keeps-connection Connecting AwaitStart (Start a b c d e) t = record { committed = refl; link = inl refl; told = λ h. h; faultless = λ h. h }
+keeps-connection Connecting AwaitTune (Tune a b c) t = record { committed = refl; link = inl refl; told = λ h. h; faultless = λ h. h }
+keeps-connection Connecting AwaitOpenOk OpenOk t = record { committed = refl; link = inl refl; told = λ h. h; faultless = λ h. h }
+keeps-connection held p m t = keeps-lose _ t refl
+
+keeps-unawaited : (n : ℕ) (s : ChannelState) (m : AnyMethod) (t : Talk) → Keeps t (unawaited_channel_method n s m t)
+keeps-unawaited n channel.Closing m t = keeps-none t
+keeps-unawaited n _ m t = keeps-lose _ t refl
+
+keeps-opened : (n : ℕ) (c : Channel) (a : Option Awaited) (t : Talk) → Keeps t (channel_opened n c a t)
+keeps-opened n c None t = keeps-unawaited n c.state ChannelOpenOk t
+keeps-opened n c (Some a) t = keeps-give_to a.promise _ t _ (record { committed = refl; link = inl refl; told = λ h. h; faultless = λ h. h })
+
+keeps-closed : (n : ℕ) (c : Channel) (a : Option Awaited) (t : Talk) → Keeps t (channel_closed n c a t)
+keeps-closed n c None t = keeps-unawaited n c.state ChannelCloseOk t
+keeps-closed n c (Some a) t = keeps-give_to a.promise _ t _ (record { committed = refl; link = inl refl; told = λ h. h; faultless = λ h. h })
+
+keeps-channel : (n : ℕ) (c : Channel) (m : AnyMethod) (t : Talk) → Keeps t (channel_row n c m t)
+keeps-channel n c ChannelOpenOk t = keeps-opened n c (first_awaited n ChannelOpened t.awaited) t
+keeps-channel n c ChannelCloseOk t = keeps-closed n c (first_awaited n ChannelClosed t.awaited) t
+keeps-channel n c m t = keeps-unawaited n c.state m t
+
+keeps-listed : (n : ℕ) (o : Option Channel) (m : AnyMethod) (t : Talk) → Keeps t (listed_channel_method n o m t)
+keeps-listed n None m t = keeps-lose _ t refl
+keeps-listed n (Some c) m t = keeps-channel n c m t
+
+keeps-channel-method : (s : ConnectionState) (n : ℕ) (m : AnyMethod) (t : Talk) → Keeps t (channel_method s n m t)
+keeps-channel-method Closing n m t = keeps-none t
+keeps-channel-method Connecting n m t = keeps-lose _ t refl
+keeps-channel-method _ n m t = keeps-listed n (channel_at n t) m t
+
+keeps-pass : (n : ℕ) (c : Channel) (kind : RawKind) (bytes : List ℕ) (t : Talk) → Keeps t (pass_through n c kind bytes t)
+keeps-pass n c kind bytes t =
+    if_case (λ (x : Talk). Keeps t (hand_out c.opened (record { channel = n; kind = kind; bytes = bytes }) x)) (is_select_ok kind bytes) (confirmed n c t) t
+    (record { committed = refl; link = inl refl; told = λ h. h; faultless = λ h. h })
+    (record { committed = refl; link = inl refl; told = λ h. h; faultless = λ h. h })
+
+keeps-unlisted : (s : ConnectionState) (n : ℕ) (t : Talk) → Keeps t (unlisted s n t)
+keeps-unlisted Closing n t = keeps-none t
+keeps-unlisted _ n t = keeps-lose _ t refl
+
+keeps-raw : (s : ConnectionState) (n : ℕ) (o : Option Channel) (kind : RawKind) (bytes : List ℕ) (t : Talk) → Keeps t (raw_on s n o kind bytes t)
+keeps-raw Connecting n o kind bytes t = keeps-lose _ t refl
+keeps-raw s n None kind bytes t = keeps-unlisted s n t
+keeps-raw s n (Some c) kind bytes t = keeps-pass n c kind bytes t
+
+keeps-misplaced : (s : ConnectionState) (e : ErrorKind) (t : Talk) → fault_in e ≡ None → Keeps t (misplaced_in s e t)
+keeps-misplaced Closing e t none = keeps-none t
+keeps-misplaced _ e t none = keeps-lose e t none
+
+keeps-method : (n : ℕ) (m : AnyMethod) (t : Talk) → Keeps t (built_method n m t)
+keeps-method zero m t =
+    if_case (Keeps t) (is_of_a_channel m) (misplaced _ t) (connection_row t.state t.phase m t)
+    (keeps-misplaced t.state _ t refl) (keeps-connection t.state t.phase m t)
+keeps-method (suc n) m t =
+    if_case (Keeps t) (is_of_a_channel m) (channel_method t.state (suc n) m t) (misplaced _ t)
+    (keeps-channel-method t.state (suc n) m t) (keeps-misplaced t.state _ t refl)
+
+keeps-row : (f : Frame) (place : ℕ) (t : Talk) → Keeps t (frame_row f place t)
+keeps-row (ProtocolHeader version) place t = keeps-lose _ t refl
+keeps-row Heartbeat place t = keeps-none t
+keeps-row (Method n m) place t = if_case (Keeps t) (is_unbuilt m) (fail _ t) (built_method n m t) (keeps-lose _ t refl) (keeps-method n m t)
+keeps-row (Raw zero kind bytes) place t = keeps-misplaced t.state _ t refl
+keeps-row (Raw (suc n) kind bytes) place t = keeps-raw t.state (suc n) (channel_at (suc n) t) kind bytes t
+
+keeps-input : (i : Input) (f : Frame) (place : ℕ) (t : Talk) → Keeps t (frame_by i f place t)
+keeps-input Acting f place t = keeps-row f place t
+keeps-input Closed f place t = keeps-none t
+keeps-input Dropped f place t = keeps-none t
 
 pub keeps-frame : (f : Frame) (place : ℕ) (t : Talk) → Keeps t (on_frame f place t)
-keeps-frame f place t =
-    if_case (λ (x : Talk). Keeps t x) (is_open t) (frame_row t.state t.phase f place t) t (keeps-row t.state t.phase f place t)
-    (record { committed = refl; link = inl refl })
+keeps-frame f place t = if_case (Keeps t) (is_open t) (frame_by t.input f place t) t (keeps-input t.input f place t) (keeps-none t)
 
 -- a frame that is read commits nothing
 pub frame-committed : (f : Frame) (place at : ℕ) (t : Talk) → (on_frame f place (present_at at t)).committed ≡ t.committed
 frame-committed f place at t = (keeps-frame f place (present_at at t)).committed ∙ present-keeps (λ x. x.committed) at t (λ n. refl)
 
-pub keeps-misread : (place : ℕ) (t : Talk) → Keeps t (misread place t)
-keeps-misread place t =
-    if_case (λ (x : Talk). Keeps t x) (is_open t) (fail (Unbuilt place) t) t (record { committed = refl; link = inr refl })
-    (record { committed = refl; link = inl refl })
+misread-told : (why : Misread) → fault_in (misread_error why) ≡ None
+misread-told (TooLarge size) = refl
+misread-told (BadHeartbeat channel) = refl
+misread-told (Bad place) = refl
+
+keeps-misread-by : (i : Input) (why : Misread) (t : Talk) → Keeps t (misread_by i why t)
+keeps-misread-by Acting why t = keeps-lose _ t (misread-told why)
+keeps-misread-by Closed why t = record { committed = refl; link = inl refl; told = λ h. h; faultless = λ h. h }
+keeps-misread-by Dropped why t = record { committed = refl; link = inl refl; told = λ h. h; faultless = λ h. h }
+
+pub keeps-misread : (why : Misread) (t : Talk) → Keeps t (misread why t)
+keeps-misread why t = if_case (Keeps t) (is_open t) (misread_by t.input why t) t (keeps-misread-by t.input why t) (keeps-none t)
+
+pub misread-committed : (why : Misread) (at : ℕ) (t : Talk) → (misread why (present_at at t)).committed ≡ t.committed
+misread-committed why at t = (keeps-misread why (present_at at t)).committed ∙ present-keeps (λ x. x.committed) at t (λ n. refl)
 
 -- ---- commands
 
--- what is neither the state nor the promises nor what is queued stays
-pub command-keeps : {A : Type 0} (f : Talk → A) (c : Cmd) (t : Talk)
-    → ((x : Talk) → (x.link ≡ t.link) → (x.committed ≡ t.committed) → (x.configuration ≡ t.configuration) → f x ≡ f t) → f (command c t) ≡ f t
-command-keeps f c t h = row t.state c h where
-  row : (s : ConnectionState) (c : Cmd)
-      → ((x : Talk) → (x.link ≡ t.link) → (x.committed ≡ t.committed) → (x.configuration ≡ t.configuration) → f x ≡ f t) → f (command_row s c t) ≡ f t
-  row Connected (CloseConnection code text) h = h _ refl refl refl
-  row _ (CloseConnection code text) h = h _ refl refl refl
+-- the link and what is agreed stay, and what is committed
+pub record Stays (t t' : Talk) : Type 0 where
+  pub link : t'.link ≡ t.link
+  pub committed : t'.committed ≡ t.committed
+  pub configuration : t'.configuration ≡ t.configuration
+  pub close_error : t'.close_error ≡ t.close_error
+
+stays-drawn : (o : Option ℕ) (first : ℕ) (t : Talk) → Stays t (open_drawn o first t)
+stays-drawn None first t = record { link = refl; committed = refl; configuration = refl; close_error = refl }
+stays-drawn (Some n) first t = record { link = refl; committed = refl; configuration = refl; close_error = refl }
+
+stays-state : (s : ChannelState) (word : Word) (f : Talk → Talk) (t : Talk) → Stays t (f t) → Stays t (in_state s word f t)
+stays-state channel.Connected word f t k = k
+stays-state _ word f t k = record { link = refl; committed = refl; configuration = refl; close_error = refl }
+
+stays-channel : (n : ℕ) (word : Word) (f : Channel → Talk → Talk) (o : Option Channel) (t : Talk) → ((c : Channel) → Stays t (f c t)) → Stays t (on_channel n word f o t)
+stays-channel n word f None t k = record { link = refl; committed = refl; configuration = refl; close_error = refl }
+stays-channel n word f (Some c) t k = stays-state c.state word (f c) t (k c)
+
+stays-send : (n : ℕ) (m : OtherMethod) (t : Talk) → Stays t (send n m t)
+stays-send n m t =
+    if_case (Stays t) _ _ _ (record { link = refl; committed = refl; configuration = refl; close_error = refl })
+    (record { link = refl; committed = refl; configuration = refl; close_error = refl })
+
+stays-row : (s : ConnectionState) (c : Cmd) (t : Talk) → Stays t (command_row s c t)
+stays-row Connected OpenChannel t = stays-drawn _ _ t
+stays-row Connected (CloseChannel r code text) t =
+    stays-channel r.id _ _ (named r t) t (λ c. record { link = refl; committed = refl; configuration = refl; close_error = refl })
+stays-row Connected (CloseConnection code text) t = record { link = refl; committed = refl; configuration = refl; close_error = refl }
+stays-row Connected (Send r method) t = stays-channel r.id _ _ (named r t) t (λ c. stays-send r.id method t)
+stays-row _ c t = record { link = refl; committed = refl; configuration = refl; close_error = refl }
+
+pub stays-command : (c : Cmd) (t : Talk) → Stays t (command c t)
+stays-command c t = stays-row t.state c t
+
+-- ---- ends
+
+-- what looks at none of what an end or an answer changes
+abbrev pub OverlooksEnds : {A : Type 0} → (Talk → A) → Type 0
+OverlooksEnds f =
+    (t : Talk) (s : ConnectionState) (l : Link) (cs : List (ℕ × Channel)) (e : Option ErrorKind) (ps : List Slot)
+    → f (record t { state = s; link = l; channels = cs; close_error = e; promises = ps }) ≡ f t
+
+-- the same of what writing changes, and of a moment
+pub record Overlooks {A : Type 0} (f : Talk → A) : Type 0 where
+  pub ends : OverlooksEnds f
+  pub writes : (t : Talk) (w : ℕ) (ms : List Mark) → f (record t { last_write = w; committed = ms }) ≡ f t
+  pub moments : (t : Talk) (n : ℕ) → f (record t { present = n }) ≡ f t
+
+finish-keeps : {A : Type 0} (f : Talk → A) → OverlooksEnds f → (o : Option ErrorKind) (t : Talk)
+    → f (finish_by o (record t { close_error = None })) ≡ f t
+finish-keeps f h None t = h t _ _ _ _ _
+finish-keeps f h (Some e) t =
+    let u : Talk = record t { close_error = None } in
+    if_case (λ (x : Talk). f x ≡ f t) (is_closed e) (close u) (lose e u) (h t _ _ _ _ _) (h t _ _ _ _ _)
+
+lost-by-keeps : {A : Type 0} (f : Talk → A) → OverlooksEnds f → (i : Input) (fault : IoFault) (t : Talk) → f (lost_by i fault t) ≡ f t
+lost-by-keeps f h Acting fault t = h t _ _ _ _ _
+lost-by-keeps f h Closed fault t = finish-keeps f h t.close_error t
+lost-by-keeps f h Dropped fault t = finish-keeps f h t.close_error t
+
+-- a lost link leaves it as it was
+pub lost-keeps : {A : Type 0} (f : Talk → A) → OverlooksEnds f → (fault : IoFault) (t : Talk) → f (lost fault t) ≡ f t
+lost-keeps f h fault t = if_case (λ (x : Talk). f x ≡ f t) (is_open t) (lost_by t.input fault t) t (lost-by-keeps f h t.input fault t) refl
+
+finish-ends : (o : Option ErrorKind) (t : Talk) → has_ended (finish_by o t) ≡ true
+finish-ends None t = refl
+finish-ends (Some e) t = if_case (λ (x : Talk). has_ended x ≡ true) (is_closed e) (close t) (lose e t) refl refl
+
+lost-by-ends : (i : Input) (fault : IoFault) (t : Talk) → has_ended (lost_by i fault t) ≡ true
+lost-by-ends Acting fault t = refl
+lost-by-ends Closed fault t = finish-ends t.close_error _
+lost-by-ends Dropped fault t = finish-ends t.close_error _
+
+-- the link stays, or the session ended
+abbrev pub LinkKept : Talk → Talk → Type 0
+LinkKept t t' = (t'.link ≡ t.link) ⊎ (has_ended t' ≡ true)
+
+pub lost-link : (fault : IoFault) (t : Talk) → LinkKept t (lost fault t)
+lost-link fault t = if_case (LinkKept t) (is_open t) (lost_by t.input fault t) t (inr (lost-by-ends t.input fault t)) (inl refl)
+
+pub link-then : (a b c : Talk) → LinkKept a b → LinkKept b c → LinkKept a c
+link-then a b c (inl h) (inl k) = inl (k ∙ h)
+link-then a b c (inr h) (inl k) = inr (ap (λ (l : Link). is_some (end_of_link l)) k ∙ h)
+link-then a b c h (inr k) = inr k
 
 -- ---- writing
 
@@ -107,28 +311,51 @@ abbrev pub left_after : List Mark → ℕ → List Mark
 left_after [] n = []
 left_after (m ∷ ms) n = if nat_le m.left n then left_after ms (n - m.left) else record m { left = m.left - n } ∷ ms
 
-if-record : (b : Bool) (t x : Talk) (xs ys : List Mark) → x ≡ record t { committed = xs }
-    → (if b then x else record t { committed = ys }) ≡ record t { committed = (if b then xs else ys) }
-if-record true t x xs ys h = h
-if-record false t x xs ys h = refl
+follow-keeps : {A : Type 0} (f : Talk → A) → OverlooksEnds f → (th : Then) (t : Talk) → f (follow th t) ≡ f t
+follow-keeps f h Nothing t = refl
+follow-keeps f h (Answer n) t = h t t.state t.link t.channels t.close_error _
+follow-keeps f h Finish t = finish-keeps f h t.close_error t
 
--- the frames whose last byte was taken are no longer committed, and nothing else changes
-pub sent_among-is : (ms : List Mark) (n : ℕ) (t : Talk) → sent_among ms n (record t { committed = ms }) ≡ record t { committed = left_after ms n }
-sent_among-is [] n t = refl
-sent_among-is (m ∷ ms) n t =
-    if-record (nat_le m.left n) t (sent_among ms (n - m.left) (sent (record t { committed = m ∷ ms })))
-    (left_after ms (n - m.left)) (record m { left = m.left - n } ∷ ms) (sent_among-is ms (n - m.left) t)
+follow-link : (th : Then) (t : Talk) → LinkKept t (follow th t)
+follow-link Nothing t = inl refl
+follow-link (Answer n) t = inl refl
+follow-link Finish t = inr (finish-ends t.close_error _)
 
-pub taken-is : (n : ℕ) (t : Talk) → taken n t ≡ (if is_open t && not (n == 0) then record t { last_write = t.present; committed = left_after t.committed n } else t)
-taken-is n t =
-    ap (λ (x : Talk). if is_open t && not (n == 0) then x else t) (sent_among-is t.committed n (record t { last_write = t.present }))
+sent_among-keeps : {A : Type 0} (f : Talk → A) → Overlooks f → (ms : List Mark) (n : ℕ) (t : Talk) → f (sent_among ms n t) ≡ f t
+sent_among-keeps f h [] n t = refl
+sent_among-keeps f h (m ∷ ms) n t =
+    if_case (λ (x : Talk). f x ≡ f t) (nat_le m.left n) (sent_among ms (n - m.left) (sent m t)) (record t { committed = record m { left = m.left - n } ∷ ms })
+    (sent_among-keeps f h ms (n - m.left) (sent m t) ∙ follow-keeps f h.ends m.then (record t { committed = drop 1 t.committed })
+    ∙ h.writes t t.last_write (drop 1 t.committed))
+    (h.writes t t.last_write (record m { left = m.left - n } ∷ ms))
 
-pub taken-keeps : {A : Type 0} (f : Talk → A) (n : ℕ) (t : Talk)
-    → ((w : ℕ) (ms : List Mark) → f (record t { last_write = w; committed = ms }) ≡ f t) → f (taken n t) ≡ f t
-taken-keeps f n t h =
-    ap f (taken-is n t)
-    ∙ if_case (λ (x : Talk). f x ≡ f t) (is_open t && not (n == 0)) (record t { last_write = t.present; committed = left_after t.committed n }) t
-    (h t.present (left_after t.committed n)) refl
+sent_among-link : (ms : List Mark) (n : ℕ) (t : Talk) → LinkKept t (sent_among ms n t)
+sent_among-link [] n t = inl refl
+sent_among-link (m ∷ ms) n t =
+    if_case (LinkKept t) (nat_le m.left n) (sent_among ms (n - m.left) (sent m t)) (record t { committed = record m { left = m.left - n } ∷ ms })
+    (link-then t (sent m t) (sent_among ms (n - m.left) (sent m t)) (follow-link m.then (record t { committed = drop 1 t.committed }))
+    (sent_among-link ms (n - m.left) (sent m t))) (inl refl)
+
+-- the frames whose last byte was taken are no longer committed
+sent_among-committed : (ms : List Mark) (n : ℕ) (t : Talk) → t.committed ≡ ms → (sent_among ms n t).committed ≡ left_after ms n
+sent_among-committed [] n t h = h
+sent_among-committed (m ∷ ms) n t h =
+    if-both (λ (x : Talk). x.committed) (nat_le m.left n) (sent_among ms (n - m.left) (sent m t)) (record t { committed = record m { left = m.left - n } ∷ ms })
+    (left_after ms (n - m.left)) (record m { left = m.left - n } ∷ ms)
+    (sent_among-committed ms (n - m.left) (sent m t)
+    (follow-keeps (λ (x : Talk). x.committed) (λ t s l cs e ps. refl) m.then (record t { committed = drop 1 t.committed }) ∙ ap (drop 1) h))
+    refl
+
+pub taken-keeps : {A : Type 0} (f : Talk → A) → Overlooks f → (n : ℕ) (t : Talk) → f (taken n t) ≡ f t
+taken-keeps f h n t =
+    let u : Talk = record t { last_write = t.present } in
+    if_case (λ (x : Talk). f x ≡ f t) (is_open t && not (n == 0)) (sent_among t.committed n u) t
+    (sent_among-keeps f h t.committed n u ∙ h.writes t t.present t.committed) refl
+
+pub taken-link : (n : ℕ) (t : Talk) → LinkKept t (taken n t)
+taken-link n t =
+    let u : Talk = record t { last_write = t.present } in
+    if_case (LinkKept t) (is_open t && not (n == 0)) (sent_among t.committed n u) t (sent_among-link t.committed n u) (inl refl)
 
 pub left_in-cons : (m : Mark) (ms : List Mark) → left_in (m ∷ ms) ≡ m.left + left_in ms
 left_in-cons m ms = sum_by-cons (λ (m : Mark). m.left) m ms
@@ -141,20 +368,17 @@ left_in-left_after (m ∷ ms) n =
 
 pub committed-taken : (b : Bool) (at n : ℕ) (t : Talk) → is_open t ≡ true → (n == 0) ≡ b
     → (taken n (present_at at t)).committed ≡ (if b then t.committed else left_after t.committed n)
-committed-taken b at n t opened zero_is =
+committed-taken true at n t opened zero_is =
     let x = present_at at t in
-    let same : x.committed ≡ t.committed = present-keeps (λ y. y.committed) at t (λ k. refl) in
-    let is_open_x : is_open x ≡ true = present-keeps is_open at t (λ k. refl) ∙ opened in
-    ap (λ (y : Talk). y.committed) (taken-is n x)
-    ∙ ap (λ (c : Bool). (if c && not (n == 0) then record x { last_write = x.present; committed = left_after x.committed n } else x).committed) is_open_x
-    ∙ ap (λ (c : Bool). (if true && not c then record x { last_write = x.present; committed = left_after x.committed n } else x).committed) zero_is
-    ∙ chosen b x same
-  where
-    chosen : (c : Bool) (x : Talk) → x.committed ≡ t.committed
-        → (if true && not c then record x { last_write = x.present; committed = left_after x.committed n } else x).committed
-        ≡ (if c then t.committed else left_after t.committed n)
-    chosen true x same = same
-    chosen false x same = ap (λ ms. left_after ms n) same
+    ap (λ (y : Talk). y.committed) (if-false (is_open x && not (n == 0)) (sent_among x.committed n (record x { last_write = x.present })) x
+    (and-false (is_open x) (not (n == 0)) (ap not zero_is)))
+    ∙ present-keeps (λ y. y.committed) at t (λ k. refl)
+committed-taken false at n t opened zero_is =
+    let x = present_at at t in
+    ap (λ (y : Talk). y.committed) (if-true (is_open x && not (n == 0)) (sent_among x.committed n (record x { last_write = x.present })) x
+    (and-true (is_open x) (not (n == 0)) (present-keeps is_open at t (λ k. refl) ∙ opened) (ap not zero_is)))
+    ∙ sent_among-committed x.committed n (record x { last_write = x.present }) refl
+    ∙ ap (λ ms. left_after ms n) (present-keeps (λ y. y.committed) at t (λ k. refl))
 
 left_in-taken : (b : Bool) (at n : ℕ) (t : Talk) → is_open t ≡ true → (n == 0) ≡ b → left_in (taken n (present_at at t)).committed ≡ left_in t.committed - n
 left_in-taken true at n t opened h =

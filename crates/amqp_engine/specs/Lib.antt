@@ -6,6 +6,7 @@ pub mod Log
 pub mod Engine
 pub mod Turn
 pub mod Tell
+pub mod Causes
 -- What went out on each link, and what is left unread.
 pub mod Sending
 pub mod Unread
