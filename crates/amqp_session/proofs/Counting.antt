@@ -1,5 +1,5 @@
 -- The bytes that are unsent, counted.
-use Rattle.std.proofs.Common.{◌≡◌, ◌∙◌, ap, ℕ, ◌+◌, ◌-◌, ◌≤◌, List, [], ◌∷◌, arith, refl, Bool, true, false, if◌then◌else◌, Option, Some, None}
+use Rattle.std.proofs.Common.{◌≡◌, ◌∙◌, ap, drop, ℕ, ◌+◌, ◌-◌, ◌≤◌, List, [], ◌∷◌, arith, refl, Bool, true, false, if◌then◌else◌, Option, Some, None}
 use Rattle.std.proofs.lemmas.List.Sums.{sum_by-cons}
 use Rattle.std.specs.Prelude.{IsTrue}
 use Rattle.amqp_session.specs.declared.error.ErrorKind.{ErrorKind}
@@ -20,7 +20,7 @@ finish_by-committed (Some e) t =
     elim (is_closed e) as (λ (b : Bool). (if b then close t else lose e t).committed ≡ t.committed) [ true ↦ refl | false ↦ refl ]
 
 -- what follows a frame leaves the committed frames as they are
-pub follow-committed : (then : Then) (t : Talk) → (follow then t).committed ≡ t.committed
+pub follow-committed : (follows : Then) (t : Talk) → (follow follows t).committed ≡ t.committed
 follow-committed Nothing t = refl
 follow-committed (Answer number) t = refl
 follow-committed Finish t = finish_by-committed t.close_error (record t { close_error = None })
@@ -28,7 +28,7 @@ follow-committed Finish t = finish_by-committed t.close_error (record t { close_
 pub left_in-sent_among : (ms : List Mark) (n : ℕ) (t : Talk) → t.committed ≡ ms → n ≤ left_in ms → left_in (sent_among ms n t).committed + n ≡ left_in ms
 left_in-sent_among [] n t is within = grind arith
 left_in-sent_among (m ∷ ms) n t is within =
-    let rest : (sent m t).committed ≡ ms = follow-committed m.then _ ∙ grind (is) in
+    let rest : (sent m t).committed ≡ ms = follow-committed m.then (record t { committed = drop 1 t.committed }) ∙ ap (drop 1) is in
     grind (arith, left_in-cons m ms, left_in-cons (record m { left = m.left - n }) ms, left_in-sent_among ms (n - m.left) (sent m t) rest)
 
 -- what is taken is no longer unsent

@@ -1,5 +1,6 @@
 -- What a session still has to say, and to be answered.
-use Rattle.std.specs.Prelude.{ℕ, Bool, true, false, ◌==◌, ◌&&◌, List, [], ◌∷◌, if◌then◌else◌, Option, find}
+use Rattle.std.specs.Prelude.{ℕ, Bool, true, false, ◌==◌, ◌&&◌, List, Option, find}
+use Rattle.std.specs.List.{position_or_len, remove}
 use Rattle.amqp_session.specs.declared.lanes.Item.{Item}
 use Rattle.amqp_session.specs.declared.lanes.Awaited.{Awaited}
 use Rattle.amqp_session.specs.declared.lanes.Reply.{Reply}
@@ -25,8 +26,6 @@ is_of channel reply a = a.channel == channel && is_same_reply a.reply reply
 abbrev pub first_awaited : ℕ → Reply → List Awaited → Option Awaited
 first_awaited channel reply awaited = find (is_of channel reply) awaited
 
--- the others
+-- all but that one
 abbrev pub without_first : ℕ → Reply → List Awaited → List Awaited
-without_first channel reply [] = []
-without_first channel reply (a ∷ awaited) =
-    if is_of channel reply a then awaited else a ∷ without_first channel reply awaited
+without_first channel reply awaited = remove awaited (position_or_len (is_of channel reply) awaited)

@@ -1,6 +1,6 @@
 //! The listed channels.
 
-ghost use Rattle.std.specs.Prelude.{◌≡◌, ◌==◌, ◌+◌, ◌-◌, ◌≤◌, ◌<◌, ◌^◌, not, [], IfSome, IfOk, OnOk, OnErr, IsSome, option_map, length, find, is_some};
+ghost use Rattle.std.specs.Prelude.{◌≡◌, ◌==◌, ◌+◌, ◌-◌, ◌≤◌, ◌<◌, ◌^◌, not, [], false, None, IfSome, OnOk, OnErr, IsSome, option_map, length, find};
 ghost use Rattle.std.specs.List.{range_with_len};
 ghost use Rattle.amqp_session.specs.Listed.{at, put, without, map_values, has};
 ghost use Rattle.amqp_session.specs.Numbering.{first_number, after, drawn};
@@ -77,7 +77,8 @@ impl Channels {
     }
 
     fn has(&self, id: ChannelId) -> bool
-        ensures { result ≡ has id self.now }
+        ensures has { result ≡ has id self.now }
+        ensures none { result ≡ false → at id self.now ≡ None }
     {
         self.listed.contains_key(&id)
     }
@@ -139,7 +140,8 @@ impl Channels {
     /// The first number in the cycle from a first one that is not listed.
     pub fn draw(&self, channel_max: ChannelId, first: ChannelId) -> Option<ChannelId>
         requires { 1 ≤ first }
-        ensures { result ≡ drawn channel_max first self.now }
+        ensures drawn { result ≡ drawn channel_max first self.now }
+        ensures unlisted { IfSome result (λ id. at id self.now ≡ None) }
     {
         let until = channel_max as u32 + 1;
         match self.first_unlisted(first as u32, until) {
@@ -151,7 +153,8 @@ impl Channels {
     // The first number from one on and below another that is not listed.
     fn first_unlisted(&self, from: u32, until: u32) -> Option<ChannelId>
         requires { until ≤ 2 ^ 16 }
-        ensures { result ≡ find (λ n. not (has n self.now)) (range_with_len from (until - from)) }
+        ensures first { result ≡ find (λ n. not (has n self.now)) (range_with_len from (until - from)) }
+        ensures unlisted { IfSome result (λ id. at id self.now ≡ None) }
     {
         'numbers: for n in from..until {
             if !self.has(n as ChannelId) {

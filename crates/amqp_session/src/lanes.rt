@@ -1,6 +1,6 @@
 //! The frames that wait to be committed, and the replies that are awaited.
 
-ghost use Rattle.std.specs.Prelude.{◌≡◌, ◌++◌, ◌∷◌, [], ◌<◌, ◌^◌, drop, length, option_copied, OnOk, OnErr};
+ghost use Rattle.std.specs.Prelude.{◌≡◌, ◌++◌, ◌∷◌, [], ◌<◌, ◌^◌, drop, length, position, option_copied, IfNone, OnOk, OnErr};
 ghost use Rattle.amqp_session.specs.Outgoing.{is_of, is_same_reply, first_awaited, without_first};
 ghost use Rattle.amqp_session.specs.Writing.{head};
 
@@ -176,8 +176,15 @@ impl Lanes {
     pub fn answered(&mut self, channel: ChannelId, reply: Reply) -> Option<Awaited>
         ensures first { result ≡ first_awaited channel reply self.old.awaited }
         ensures rest { self.new ≡ record self.old { awaited = without_first channel reply self.old.awaited } }
+        ensures none { IfNone result (self.new ≡ self.old) }
     {
-        let place = self.awaited.iter().position(|a| a.is_of(channel, reply))?;
+        let place = self.place_of(channel, reply)?;
         self.awaited.remove(place)
+    }
+
+    fn place_of(&self, channel: ChannelId, reply: Reply) -> Option<usize>
+        ensures { result ≡ position (is_of channel reply) self.now.awaited }
+    {
+        self.awaited.iter().position(|a| a.is_of(channel, reply))
     }
 }

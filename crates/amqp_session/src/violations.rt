@@ -87,7 +87,8 @@ pub fn unawaited(
 }
 
 fn method_name(method: &Method) -> &'static str
-    ensures { result.now ≡ method_name method.now }
+    ensures name { result.now ≡ method_name method.now }
+    ensures short { length result.now ≤ 8 }
 {
     match method {
         Method::ChannelOpen => "open",

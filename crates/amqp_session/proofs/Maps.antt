@@ -1,0 +1,71 @@
+-- Maps as lists of their entries.
+use Rattle.std.proofs.Common.{◌≡◌, ◌∙◌, ap, sym, refl, ℕ, Bool, true, false, cond, List, [], ◌∷◌, Option, Some, None}
+use Rattle.std.specs.declared.cmp.Ordering.{Ordering}
+use Rattle.std.specs.declared.cmp.Ordering.TheVariants.{Less, Equal, Greater}
+use Rattle.std.specs.Ordering.{nat_cmp, is_eq, match_ordering}
+use Rattle.std.specs.Cmp.{nat_cmp_total, nat_cmp_is}
+use Rattle.std.specs.List.Sorted.{IsStrictlySortedBy}
+use Rattle.std.specs.Map.{lookup, remove_entry, set_value, keys_of}
+use Rattle.std.specs.BTreeMap.{insert_entry, is_at}
+use Rattle.std.proofs.lemmas.Map.{lookup-none}
+use Rattle.std.proofs.lemmas.Map.Entries.{none_below_head}
+use Rattle.std.proofs.lemmas.Map.Keys.{sorted_tail}
+use Rattle.amqp_session.specs.Listed.{at, put, without}
+
+nat_cmp_self : (n : ℕ) → nat_cmp n n ≡ Equal
+nat_cmp_self n = sym (nat_cmp_is n n Equal refl)
+
+module _ {X : Type 0} (n : ℕ) (v : X) where
+  -- the first entry, by whether it is at the number
+  same_head : (b : Bool) (e : ℕ × X) (es : List (ℕ × X)) → cond b (Some e.1) (at n es) ≡ Some v
+      → (at n es ≡ Some v → set_value (is_at (nat_cmp n)) es v ≡ es)
+      → cond b ((e.0, v) ∷ es) (e ∷ set_value (is_at (nat_cmp n)) es v) ≡ e ∷ es
+  same_head true e es h rest = let k : e.1 ≡ v = cc in ap (λ x. (e.0, x) ∷ es) (sym k)
+  same_head false e es h rest = ap (λ xs. e ∷ xs) (rest h)
+
+  -- a value that is set to what it was leaves the map as it was
+  pub set_value-same : (es : List (ℕ × X)) → at n es ≡ Some v → set_value (is_at (nat_cmp n)) es v ≡ es
+  set_value-same [] h = absurd cc
+  set_value-same (e ∷ es) h = same_head (is_at (nat_cmp n) e.0) e es h (set_value-same es)
+
+module _ {X : Type 0} (n : ℕ) (v old : X) where
+  -- the first entry, by how the number compares to it
+  put_head : (o : Ordering) (e : ℕ × X) (es : List (ℕ × X)) → nat_cmp n e.0 ≡ o → at n (e ∷ es) ≡ Some old
+      → IsStrictlySortedBy nat_cmp (keys_of (e ∷ es)) → (at n es ≡ Some old → put n v es ≡ set_value (is_at (nat_cmp n)) es v)
+      → put n v (e ∷ es) ≡ set_value (is_at (nat_cmp n)) (e ∷ es) v
+  put_head Less e es k h sorted rest =
+      let none : at n (e ∷ es) ≡ None = lookup-none (is_at (nat_cmp n)) (e ∷ es) (none_below_head nat_cmp_total n e es sorted k) in absurd cc
+  put_head Equal e es k h sorted rest =
+      ap (λ o. match_ordering o ((n, v) ∷ e ∷ es) ((e.0, v) ∷ es) (e ∷ put n v es)) k
+      ∙ sym (ap (λ o. cond (is_eq o) ((e.0, v) ∷ es) (e ∷ set_value (is_at (nat_cmp n)) es v)) k)
+  put_head Greater e es k h sorted rest =
+      let later : at n es ≡ Some old = sym (ap (λ o. cond (is_eq o) (Some e.1) (at n es)) k) ∙ h in
+      ap (λ o. match_ordering o ((n, v) ∷ e ∷ es) ((e.0, v) ∷ es) (e ∷ put n v es)) k
+      ∙ ap (λ xs. e ∷ xs) (rest later)
+      ∙ sym (ap (λ o. cond (is_eq o) ((e.0, v) ∷ es) (e ∷ set_value (is_at (nat_cmp n)) es v)) k)
+
+  -- a number that a map has is put in its place
+  pub put-present : (es : List (ℕ × X)) → at n es ≡ Some old → IsStrictlySortedBy nat_cmp (keys_of es) → put n v es ≡ set_value (is_at (nat_cmp n)) es v
+  put-present [] h sorted = absurd cc
+  put-present (e ∷ es) h sorted =
+      put_head (nat_cmp n e.0) e es refl h sorted (λ later. put-present es later (sorted_tail nat_cmp e.0 (keys_of es) sorted))
+
+module _ {X : Type 0} (n : ℕ) (v : X) where
+  -- the first entry, by how the number compares to it
+  without_head : (o : Ordering) (e : ℕ × X) (es : List (ℕ × X)) → nat_cmp n e.0 ≡ o → at n (e ∷ es) ≡ None
+      → (at n es ≡ None → without n (put n v es) ≡ es) → without n (put n v (e ∷ es)) ≡ e ∷ es
+  without_head Less e es k h rest =
+      ap (without n) (ap (λ o. match_ordering o ((n, v) ∷ e ∷ es) ((e.0, v) ∷ es) (e ∷ put n v es)) k)
+      ∙ ap (λ o. cond (is_eq o) (e ∷ es) ((n, v) ∷ without n (e ∷ es))) (nat_cmp_self n)
+  without_head Equal e es k h rest =
+      let some : at n (e ∷ es) ≡ Some e.1 = ap (λ o. cond (is_eq o) (Some e.1) (at n es)) k in absurd cc
+  without_head Greater e es k h rest =
+      let later : at n es ≡ None = sym (ap (λ o. cond (is_eq o) (Some e.1) (at n es)) k) ∙ h in
+      ap (without n) (ap (λ o. match_ordering o ((n, v) ∷ e ∷ es) ((e.0, v) ∷ es) (e ∷ put n v es)) k)
+      ∙ ap (λ o. cond (is_eq o) (put n v es) (e ∷ without n (put n v es))) k
+      ∙ ap (λ xs. e ∷ xs) (rest later)
+
+  -- a number that a map had not is put and taken out again
+  pub without-put : (es : List (ℕ × X)) → at n es ≡ None → without n (put n v es) ≡ es
+  without-put [] h = ap (λ o. cond (is_eq o) [] ((n, v) ∷ [])) (nat_cmp_self n)
+  without-put (e ∷ es) h = without_head (nat_cmp n e.0) e es refl h (without-put es)
