@@ -1,5 +1,5 @@
 -- The first element of a list that passes a test, by its place.
-use Rattle.std.proofs.Common.{◌≡◌, ◌∙◌, ap, sym, refl, ℕ, ◌<◌, ◌≤◌, suc, Bool, true, false, cond, List, length, take, drop, ◌++◌, Option, Some, None, IsSome, IfSome, OnSome, ◌↔◌, arith, rules}
+use Rattle.std.proofs.Common.{◌≡◌, ◌∙◌, ap, sym, refl, ℕ, ◌<◌, ◌≤◌, Bool, true, false, cond, List, length, Option, Some, None, IsSome, IfSome, OnSome, ◌↔◌, arith}
 use Rattle.std.proofs.lemmas.Grind.{common_steps}
 use Rattle.std.proofs.lemmas.Bool.Decides.{nat_tests}
 use Rattle.std.specs.Prelude.{find, position, slice_get, slice_index_or, nat_lt}

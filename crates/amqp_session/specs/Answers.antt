@@ -1,5 +1,5 @@
 -- Answers: what a promise gives, and that it gives it once.
-use Rattle.std.specs.Prelude.{◌≡◌, ◌⊎◌, ℕ, if◌then◌else◌, slice_get, slice_set, List, [], Option, Some, None, is_some, Result, Ok, Err}
+use Rattle.std.specs.Prelude.{◌≡◌, ◌⊎◌, ℕ, if◌then◌else◌, slice_get, slice_set, Option, Some, None, is_some, Result, Ok, Err}
 use Rattle.amqp_session.specs.declared.state.ConnectionState.TheVariants.{Closed}
 use Rattle.amqp_session.specs.declared.promises.Slot.{Slot}
 use Rattle.amqp_session.specs.declared.promises.Slot.TheVariants.{Waiting, Answered, Taken}

@@ -1,17 +1,18 @@
 -- The small changes of the state that the rules are made of.
-use Rattle.std.specs.Prelude.{ℕ, max, if◌then◌else◌, Bool, true, false, List, [], ◌∷◌, ◌++◌, length, slice_get, slice_set, Option, Some, None, Result, Ok, Err}
+use Rattle.std.specs.Prelude.{ℕ, max, if◌then◌else◌, List, [], ◌∷◌, ◌++◌, length, slice_get, slice_set, Option, Some, None, Result, Ok, Err}
 use Rattle.amqp_frame.specs.declared.frame.Frame.{Frame}
 use Rattle.amqp_session.specs.declared.state.ConnectionState.TheVariants.{Closed, Error}
 use Rattle.amqp_session.specs.declared.state.Link.TheVariants.{Ended}
 use Rattle.amqp_session.specs.declared.lanes.Item.{Item}
 use Rattle.amqp_session.specs.declared.lanes.Reply.{Reply}
-use Rattle.amqp_session.specs.declared.committed.Then.{Then}
 use Rattle.amqp_session.specs.declared.committed.Then.TheVariants.{Nothing}
 use Rattle.amqp_session.specs.declared.promises.Slot.{Slot}
 use Rattle.amqp_session.specs.declared.promises.Slot.TheVariants.{Waiting, Answered}
 use Rattle.amqp_session.specs.declared.command.Answer.{Answer}
+use Rattle.amqp_session.specs.declared.server_close.ServerClose.{ServerClose}
+use Rattle.amqp_session.specs.declared.server_close.ServerClose.TheVariants.{WithError}
 use Rattle.amqp_session.specs.declared.error.ErrorKind.{ErrorKind}
-use Rattle.amqp_session.specs.declared.error.ErrorKind.TheVariants.{InvalidConnectionState, NoMemory}
+use Rattle.amqp_session.specs.declared.error.ErrorKind.TheVariants.{ProtocolError, NoMemory}
 use Rattle.amqp_session.specs.Talk.{Talk, has_ended}
 
 -- the present is the greatest moment so far
@@ -80,17 +81,13 @@ fail e t = record t { state = Error; link = Ended (Err e); channels = [] }
 abbrev pub lose : ErrorKind → Talk → Talk
 lose e t = fail e t
 
-abbrev pub is_closed : ErrorKind → Bool
-is_closed (InvalidConnectionState Closed) = true
-is_closed _ = false
-
-abbrev pub finish_by : Option ErrorKind → Talk → Talk
-finish_by None t = close t
-finish_by (Some e) t = if is_closed e then close t else lose e t
+abbrev pub finish_by : Option ServerClose → Talk → Talk
+finish_by (Some (WithError e)) t = lose (ProtocolError e) t
+finish_by _ t = close t
 
 -- the end after the server's close: Closed where its code was none of an error
 abbrev pub finish : Talk → Talk
-finish t = finish_by t.close_error (record t { close_error = None })
+finish t = finish_by t.server_close (record t { server_close = None })
 
 -- memory was refused
 abbrev pub starve : Talk → Talk

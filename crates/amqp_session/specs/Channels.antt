@@ -1,5 +1,5 @@
 -- What comes on a channel: methods of the channel class (AMQP 0-9-1, 1.5 of its reference), and frames that are passed through.
-use Rattle.std.specs.Prelude.{ℕ, ◌&&◌, if◌then◌else◌, Bool, true, false, List, [], ◌∷◌, ◌++◌, take, Option, Some, None, Ok, unwrap_or}
+use Rattle.std.specs.Prelude.{ℕ, if◌then◌else◌, Bool, true, false, List, [], ◌∷◌, ◌++◌, take, Option, Some, None, Ok, unwrap_or}
 use Rattle.std.specs.Str.{bytes_eq}
 use Rattle.amqp_frame.specs.declared.frame.RawKind.{RawKind}
 use Rattle.amqp_frame.specs.declared.frame.RawKind.TheVariants.{RawMethod}
@@ -17,7 +17,7 @@ use Rattle.amqp_session.specs.declared.command.Answer.TheVariants.{Channel as An
 use Rattle.amqp_session.specs.declared.error.ErrorKind.TheVariants.{InvalidChannel}
 use Rattle.amqp_session.specs.Listed.{at, put, without}
 use Rattle.amqp_session.specs.Talk.{Talk}
-use Rattle.amqp_session.specs.Violations.{unawaited, on_channel_0}
+use Rattle.amqp_session.specs.Violations.{unawaited}
 use Rattle.amqp_session.specs.Outgoing.{first_awaited, without_first}
 use Rattle.amqp_session.specs.Changes.{give_to, lose}
 
@@ -94,7 +94,7 @@ confirmed n c t = set_channel n (record c { confirm = true }) t
 abbrev pub pass_through : ℕ → Channel → RawKind → List ℕ → Talk → Talk
 pass_through n c kind bytes t =
     hand_out c.opened (record { channel = n; kind = kind; bytes = bytes })
-      (if is_select_ok kind bytes then confirmed n c t else t)
+    (if is_select_ok kind bytes then confirmed n c t else t)
 
 -- a frame on a channel that is not listed: after our close of the connection it is dropped, and else it is fatal
 abbrev pub unlisted : ConnectionState → ℕ → Talk → Talk

@@ -16,7 +16,7 @@ use Rattle.amqp_session.specs.declared.error.ErrorKind.TheVariants.{InvalidConne
 use Rattle.amqp_session.specs.Talk.{Talk}
 use Rattle.amqp_session.specs.Negotiation.{tune}
 use Rattle.amqp_session.specs.Handshake.{start_ok, tune_ok, open_vhost, close_ok}
-use Rattle.amqp_session.specs.Violations.{close_error}
+use Rattle.amqp_session.specs.Violations.{server_close}
 use Rattle.amqp_session.specs.Outgoing.{first_awaited, without_first}
 use Rattle.amqp_session.specs.Changes.{queue, give, give_to, close, lose}
 
@@ -44,7 +44,7 @@ on_connection_close code text t =
     record t {
       state = Closing;
       input = input.Closed;
-      close_error = Some (close_error code text);
+      server_close = Some (server_close code text);
       control = record { frame = close_ok; then = Finish } ∷ [];
       awaited = [];
     }

@@ -7,7 +7,7 @@ use Rattle.amqp_session.specs.declared.state.Phase.TheVariants.{AwaitStart}
 use Rattle.amqp_session.specs.declared.state.Link.{Link}
 use Rattle.amqp_session.specs.declared.state.Link.TheVariants.{Wanted, Asked, Open, Ended}
 use Rattle.amqp_session.specs.declared.state.Input.{Input}
-use Rattle.amqp_session.specs.declared.state.Input.TheVariants.{Acting, Closed, Dropped}
+use Rattle.amqp_session.specs.declared.state.Input.TheVariants.{Acting, Dropped}
 use Rattle.amqp_session.specs.declared.configuration.Configuration.{Configuration}
 use Rattle.amqp_session.specs.declared.channels.Channel.{Channel}
 use Rattle.amqp_session.specs.declared.lanes.Item.{Item}
@@ -16,6 +16,7 @@ use Rattle.amqp_session.specs.declared.committed.Mark.{Mark}
 use Rattle.amqp_session.specs.declared.handed.Handed.{Handed}
 use Rattle.amqp_session.specs.declared.promises.Slot.{Slot}
 use Rattle.amqp_session.specs.declared.promises.Slot.TheVariants.{Waiting}
+use Rattle.amqp_session.specs.declared.server_close.ServerClose.{ServerClose}
 use Rattle.amqp_session.specs.declared.error.ErrorKind.{ErrorKind}
 
 pub record Talk : Type 0 where
@@ -42,8 +43,8 @@ pub record Talk : Type 0 where
   pub handed : List (ℕ × List Handed)
   -- what has become of each promise, from 0 on
   pub promises : List Slot
-  -- why the server closed the connection, once it did
-  pub close_error : Option ErrorKind
+  -- how the server closed the connection, once it did
+  pub server_close : Option ServerClose
   -- the moments of the last happening, of the last reading and of the last writing, in milliseconds
   pub present : ℕ
   pub last_read : ℕ
@@ -65,7 +66,7 @@ start =
       awaited = [];
       handed = [];
       promises = Waiting ∷ [];
-      close_error = None;
+      server_close = None;
       present = 0;
       last_read = 0;
       last_write = 0;

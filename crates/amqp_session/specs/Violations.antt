@@ -1,14 +1,15 @@
 -- What a server does that it may not do: the error, by code and text, that each such frame is answered with (AMQP 0-9-1, 4.8.2 and the reply codes of its reference).
-use Rattle.std.specs.Prelude.{ℕ, ◌+◌, List, ◌++◌, codes, Option, Some, None, is_some, if◌then◌else◌}
+use Rattle.std.specs.Prelude.{ℕ, ◌+◌, List, ◌++◌, codes, is_some, if◌then◌else◌}
 use Rattle.std.specs.Fmt.{decimal}
 use Rattle.amqp_types.specs.Codes.{kind_of}
 use Rattle.amqp_frame.specs.declared.frame.RawKind.{RawKind}
 use Rattle.amqp_frame.specs.declared.frame.RawKind.TheVariants.{RawMethod, Header, Body}
 use Rattle.amqp_frame.specs.declared.method.Method.{Method}
 use Rattle.amqp_frame.specs.declared.method.Method.TheVariants.{ChannelOpen, ChannelOpenOk, ChannelFlow, ChannelFlowOk, ChannelClose}
-use Rattle.amqp_session.specs.declared.state.ConnectionState.TheVariants.{Closed}
 use Rattle.amqp_session.specs.declared.error.ErrorKind.{ErrorKind}
-use Rattle.amqp_session.specs.declared.error.ErrorKind.TheVariants.{InvalidConnectionState, ParsingError, ProtocolError}
+use Rattle.amqp_session.specs.declared.error.ErrorKind.TheVariants.{ParsingError, ProtocolError}
+use Rattle.amqp_session.specs.declared.server_close.ServerClose.{ServerClose}
+use Rattle.amqp_session.specs.declared.server_close.ServerClose.TheVariants.{WithoutError, WithError}
 use Rattle.amqp_session.specs.declared.misread.Misread.{Misread}
 use Rattle.amqp_session.specs.declared.misread.Misread.TheVariants.{TooLarge, BadHeartbeat, Bad}
 
@@ -57,5 +58,5 @@ unawaited method channel =
     protocol_error 505 (codes "unexpected channel." ++ method_name method ++ codes " received on channel " ++ decimal channel)
 
 -- what the server's close tells, by its code: an error, or that the connection is closed
-abbrev pub close_error : ℕ → List ℕ → ErrorKind
-close_error code text = if is_some (kind_of code) then protocol_error code text else InvalidConnectionState Closed
+abbrev pub server_close : ℕ → List ℕ → ServerClose
+server_close code text = if is_some (kind_of code) then WithError (record { code = code; message = text }) else WithoutError

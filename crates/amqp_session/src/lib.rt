@@ -18,6 +18,7 @@ mod lanes;
 mod laws;
 mod misread;
 mod promises;
+mod server_close;
 mod session;
 mod shown;
 mod state;

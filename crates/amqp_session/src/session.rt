@@ -2,7 +2,7 @@
 
 ghost use Rattle.std.specs.Prelude.{◌≡◌, ◌+◌, ◌<◌, ◌≤◌, ◌^◌, length, IfOk, IfErr, Some, None};
 ghost use Rattle.amqp_session.specs.Talk.{start, wants_link, is_asked, is_open, has_ended, end_of, drops_input};
-ghost use Rattle.amqp_session.specs.Changes.{present_at, starve, fail, lose, close, is_closed, finish, give, give_to};
+ghost use Rattle.amqp_session.specs.Changes.{present_at, starve, fail, lose, close, finish, give, give_to};
 ghost use Rattle.amqp_session.specs.Writing.{unsent};
 ghost use Rattle.amqp_session.specs.Negotiation.{frame_limit};
 ghost use Rattle.amqp_session.specs.Answers.{HandsOut};
@@ -24,6 +24,7 @@ use crate::error::{self, ErrorKind};
 use crate::handed::Backlog;
 use crate::lanes::Lanes;
 use crate::promises::{Slot, settle};
+use crate::server_close::ServerClose;
 use crate::state::{ConnectionState, Input, Link, Phase};
 use amqp_types::{ChannelId, NoMemory};
 use std::alloc::Global;
@@ -47,7 +48,7 @@ pub struct Session {
     committed: Committed,
     backlog: Backlog,
     promises: Vec<Slot>,
-    close_error: Option<ErrorKind>,
+    server_close: Option<ServerClose>,
     present: u64,
     last_read: u64,
     last_write: u64,
@@ -78,7 +79,7 @@ impl Model for Session {
       awaited = s.lanes.awaited;
       handed = s.backlog;
       promises = s.promises.items;
-      close_error = s.close_error;
+      server_close = s.server_close;
       present = s.present;
       last_read = s.last_read;
       last_write = s.last_write;
@@ -123,7 +124,7 @@ impl Session {
             committed: Committed::new(alloc),
             backlog: Backlog::new(alloc),
             promises,
-            close_error: None,
+            server_close: None,
             present: 0,
             last_read: 0,
             last_write: 0,
@@ -176,9 +177,9 @@ impl Session {
     fn finish(&mut self)
         ensures { self.new ≡ finish self.old }
     {
-        match self.close_error.take() {
-            Some(kind) if !is_closed(&kind) => self.lose(kind),
-            _ => self.close(),
+        match self.server_close.take() {
+            Some(ServerClose::WithError(error)) => self.lose(ErrorKind::ProtocolError(error)),
+            Some(ServerClose::WithoutError) | None => self.close(),
         }
     }
 
@@ -195,14 +196,4 @@ impl Session {
             self.give(number, answer);
         }
     }
-}
-
-// Whether an error tells no more than that the connection is closed.
-fn is_closed(kind: &ErrorKind) -> bool
-    ensures { result ≡ is_closed kind.now }
-{
-    matches!(
-        kind,
-        ErrorKind::InvalidConnectionState(ConnectionState::Closed)
-    )
 }

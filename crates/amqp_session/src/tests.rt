@@ -3,9 +3,7 @@
 
 use super::*;
 use amqp_frame::{FixedRoom, Frame, Method, RawKind, RawMethod, encoded_len, write_frame};
-use amqp_types::{
-    AMQPError, FieldTable, LongString, Payload, ProtocolVersion, ShortString, Word,
-};
+use amqp_types::{AMQPError, FieldTable, LongString, Payload, ProtocolVersion, ShortString, Word};
 use std::alloc::Global;
 use std::test::Fail;
 
@@ -232,12 +230,7 @@ fn ends_with(
 }
 
 // A frame that is passed through, with this payload.
-fn raw(
-    alloc: Global,
-    id: u16,
-    kind: RawKind,
-    bytes: &[u8],
-) -> std::result::Result<Frame, Fail> {
+fn raw(alloc: Global, id: u16, kind: RawKind, bytes: &[u8]) -> std::result::Result<Frame, Fail> {
     Ok(Frame::Raw(id, kind, Payload::new(alloc, bytes)?))
 }
 
@@ -281,7 +274,14 @@ fn misplaced_frames_are_fatal(rt: HostRuntime) -> std::result::Result<(), Fail> 
     assert!(rt; ends_with(alloc, connected(alloc)?, raw_method, method)?);
     let raw_header = raw(alloc, 0, RawKind::Header, &[0; 14])?;
     assert!(rt; ends_with(alloc, connected(alloc)?, raw_header, header)?);
-    assert!(rt; ends_with(alloc, connected(alloc)?, raw(alloc, 0, RawKind::Body, &[])?, body)?);
+    assert!(rt;
+        ends_with(
+            alloc,
+            connected(alloc)?,
+            raw(alloc, 0, RawKind::Body, &[])?,
+            body
+        )?
+    );
     Ok(())
 }
 
@@ -294,8 +294,22 @@ fn frames_on_channels_that_are_not_listed_are_fatal(
     let opened = || Frame::Method(3, Method::ChannelOpenOk);
     assert!(rt; ends_with(alloc, connected(alloc)?, opened(), text)?);
     assert!(rt; ends_with(alloc, linked(alloc)?, opened(), text)?);
-    assert!(rt; ends_with(alloc, connected(alloc)?, raw(alloc, 3, RawKind::Body, &[])?, text)?);
-    assert!(rt; ends_with(alloc, linked(alloc)?, raw(alloc, 3, RawKind::Body, &[])?, text)?);
+    assert!(rt;
+        ends_with(
+            alloc,
+            connected(alloc)?,
+            raw(alloc, 3, RawKind::Body, &[])?,
+            text
+        )?
+    );
+    assert!(rt;
+        ends_with(
+            alloc,
+            linked(alloc)?,
+            raw(alloc, 3, RawKind::Body, &[])?,
+            text
+        )?
+    );
     Ok(())
 }
 
@@ -504,9 +518,7 @@ fn errors_have_their_texts(rt: HostRuntime) -> std::result::Result<(), Fail> {
 }
 
 #[test]
-fn errors_of_channels_and_links_have_their_texts(
-    rt: HostRuntime,
-) -> std::result::Result<(), Fail> {
+fn errors_of_channels_and_links_have_their_texts(rt: HostRuntime) -> std::result::Result<(), Fail> {
     let alloc = rt.alloc();
     let limit = "the maximum number of channels for this connection has been reached";
     let state = "invalid channel state: Closing (channel.close)";
@@ -591,7 +603,13 @@ fn a_channel_opens(rt: HostRuntime) -> std::result::Result<(), Fail> {
     let alloc = rt.alloc();
     let mut session = connected(alloc)?;
     assert!(rt; session.command(Cmd::OpenChannel)? == Some(1));
-    assert!(rt; writes(alloc, &mut session, b"\x01\x00\x01\x00\x00\x00\x05\x00\x14\x00\x0a\x00\xce")?);
+    assert!(rt;
+        writes(
+            alloc,
+            &mut session,
+            b"\x01\x00\x01\x00\x00\x00\x05\x00\x14\x00\x0a\x00\xce"
+        )?
+    );
     assert!(rt; session.channel_state(named(1, 1)) == ChannelState::Initial);
     assert!(rt; session.answer(1).is_none() && session.listed() == 1);
     session.frame(open_ok_on(1), 138, 0)?;
@@ -630,7 +648,13 @@ fn a_channel_closes(rt: HostRuntime) -> std::result::Result<(), Fail> {
     let mut session = with_channel(alloc)?;
     session.command(close_of(alloc, named(1, 1))?)?;
     assert!(rt; session.channel_state(named(1, 1)) == ChannelState::Closing);
-    assert!(rt; writes(alloc, &mut session, b"\x01\x00\x01\x00\x00\x00\x0d\x00\x14\x00\x28\x00\xc8\x02OK\x00\x00\x00\x00\xce")?);
+    assert!(rt;
+        writes(
+            alloc,
+            &mut session,
+            b"\x01\x00\x01\x00\x00\x00\x0d\x00\x14\x00\x28\x00\xc8\x02OK\x00\x00\x00\x00\xce"
+        )?
+    );
     session.frame(close_ok_on(1), 151, 0)?;
     assert!(rt; session.answer(2) == Some(Ok(Answer::Done)));
     assert!(rt; session.channel_state(named(1, 1)) == ChannelState::Closed);
@@ -663,7 +687,13 @@ fn a_method_is_sent(rt: HostRuntime) -> std::result::Result<(), Fail> {
     let mut session = with_channel(alloc)?;
     let method = RawMethod::new(alloc, 60, 40, b"abc")?;
     assert!(rt; session.command(Cmd::Send(named(1, 1), method))? == Some(2));
-    assert!(rt; writes(alloc, &mut session, b"\x01\x00\x01\x00\x00\x00\x07\x00\x3c\x00\x28abc\xce")?);
+    assert!(rt;
+        writes(
+            alloc,
+            &mut session,
+            b"\x01\x00\x01\x00\x00\x00\x07\x00\x3c\x00\x28abc\xce"
+        )?
+    );
     session.taken(14, 0);
     assert!(rt; session.answer(2).is_none());
     session.taken(1, 0);

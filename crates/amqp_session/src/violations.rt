@@ -4,11 +4,11 @@ ghost use Rattle.std.specs.Prelude.{◌≡◌, ◌≤◌, Some, IfOk, length};
 ghost use Rattle.std.specs.String.{string_bytes};
 ghost use Rattle.amqp_types.specs.Codes.{kind_of};
 ghost use Rattle.amqp_types.specs.declared.error.AMQPErrorKind.TheVariants.{Hard};
-ghost use Rattle.amqp_session.specs.Violations.{protocol_error, frame_too_large, heartbeat_on, misread_error, connection_method_on, raw_name, on_channel_0, method_name, unawaited, close_error};
+ghost use Rattle.amqp_session.specs.Violations.{protocol_error, frame_too_large, heartbeat_on, misread_error, connection_method_on, raw_name, on_channel_0, method_name, unawaited, server_close};
 
 use crate::error::ErrorKind;
 use crate::misread::Misread;
-use crate::state::ConnectionState;
+use crate::server_close::ServerClose;
 use amqp_frame::{Method, RawKind};
 use amqp_types::{AMQPError, ChannelId, NoMemory, ReplyCode, ShortString};
 use std::alloc::Global;
@@ -72,11 +72,7 @@ fn raw_name(kind: RawKind) -> &'static str
 }
 
 /// A method of the channel class that nothing awaits.
-pub fn unawaited(
-    alloc: Global,
-    method: &Method,
-    channel: ChannelId,
-) -> Result<ErrorKind, NoMemory>
+pub fn unawaited(alloc: Global, method: &Method, channel: ChannelId) -> Result<ErrorKind, NoMemory>
     ensures { IfOk result (λ kind. kind ≡ unawaited method.now channel) }
 {
     let name = method_name(method);
@@ -114,11 +110,11 @@ fn hard_error(code: ReplyCode, text: String) -> Result<ErrorKind, NoMemory>
 }
 
 /// What the server's close tells.
-pub fn close_error(code: ReplyCode, text: ShortString) -> Result<ErrorKind, NoMemory>
-    ensures { IfOk result (λ kind. kind ≡ close_error code text) }
+pub fn server_close(code: ReplyCode, text: ShortString) -> Result<ServerClose, NoMemory>
+    ensures { IfOk result (λ told. told ≡ server_close code text) }
 {
     match AMQPError::from_code(code, text)? {
-        Some(error) => Ok(ErrorKind::ProtocolError(error)),
-        None => Ok(ErrorKind::InvalidConnectionState(ConnectionState::Closed)),
+        Some(error) => Ok(ServerClose::WithError(error)),
+        None => Ok(ServerClose::WithoutError),
     }
 }

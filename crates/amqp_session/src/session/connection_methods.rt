@@ -13,7 +13,7 @@ use crate::lanes::{Item, Reply};
 use crate::state::ConnectionState::{Closing, Connected, Connecting};
 use crate::state::Input;
 use crate::state::Phase::{AwaitOpenOk, AwaitStart, AwaitTune};
-use crate::violations::close_error;
+use crate::violations::server_close;
 use amqp_frame::Method;
 use amqp_types::{NoMemory, ReplyCode, ShortString};
 
@@ -85,14 +85,14 @@ impl Session {
         ensures ok { OnOk result (self.new ≡ on_connection_close code text self.old) }
         ensures err { OnErr result (self.new ≡ self.old) }
     {
-        let error = close_error(code, text)?;
+        let told = server_close(code, text)?;
         self.committed.reserve(1)?;
         self.lanes.restart(Item {
             frame: close_ok(),
             then: Then::Finish,
         })?;
         self.lanes.expect_nothing();
-        self.close_error = Some(error);
+        self.server_close = Some(told);
         self.state = Closing;
         self.input = Input::Closed;
         Ok(())

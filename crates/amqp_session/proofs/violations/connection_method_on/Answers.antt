@@ -1,4 +1,4 @@
-use Rattle.std.proofs.Common.{◌≤◌, ◌+◌, length, length-append, lit<, arith}
+use Rattle.std.proofs.Common.{◌≤◌, length, length-append, lit<, arith}
 use Rattle.std.specs.Fmt.{decimal}
 use Rattle.std.proofs.lemmas.Fmt.{length-decimal-le}
 use Rattle.amqp_session.proofs.violations.connection_method_on.Goals as goal

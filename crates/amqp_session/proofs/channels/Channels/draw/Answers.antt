@@ -1,4 +1,4 @@
-use Rattle.std.proofs.Common.{◌≡◌, ◌∙◌, sym, ap, not, ◌+◌, ◌-◌, ℕ}
+use Rattle.std.proofs.Common.{◌∙◌, sym, ap, not, ◌+◌, ◌-◌, ℕ}
 use Rattle.std.specs.Prelude.{find}
 use Rattle.std.specs.Option.{option_or}
 use Rattle.std.specs.List.{range_with_len}

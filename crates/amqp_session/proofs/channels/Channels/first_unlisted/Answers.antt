@@ -1,4 +1,4 @@
-use Rattle.std.proofs.Common.{◌≡◌, ◌∙◌, sym, ap, not, false, rules}
+use Rattle.std.proofs.Common.{◌≡◌, ◌∙◌, sym, not, false, rules}
 use Rattle.amqp_session.specs.Listed.{has}
 use Rattle.amqp_session.proofs.Drawing.{find-on}
 use Rattle.amqp_session.proofs.channels.Channels.first_unlisted.Goals as goal
