@@ -3,11 +3,12 @@ use Rattle.std.proofs.Common.{◌≡◌, ◌≤◌, ◌<◌, ℕ, zero, suc, ◌
 use Rattle.amqp_frame.specs.declared.frame.Frame.{Frame}
 use Rattle.amqp_frame.specs.declared.frame.Frame.TheVariants.{ProtocolHeader, Method, Raw, Heartbeat}
 use Rattle.amqp_frame.specs.Frames.{encoding}
+use Rattle.amqp_session.specs.declared.lanes.Item.{Item}
 use Rattle.amqp_session.specs.declared.committed.Mark.{Mark}
 use Rattle.amqp_session.specs.declared.session.TheConstants.{CAPACITY}
 use Rattle.amqp_session.specs.Talk.{is_open}
 use Rattle.amqp_session.specs.Writing as writing
-use Rattle.amqp_session.specs.Writing.{head, fitting}
+use Rattle.amqp_session.specs.Writing.{head, fitting, mark_of}
 use Rattle.amqp_engine.specs.Engine.{Engine, commit_one, committed_as, commits, fitting_next}
 use Rattle.amqp_engine.specs.Play.{waiting}
 
@@ -26,9 +27,9 @@ encoding-some (Raw channel kind payload) = omega arith
 encoding-some Heartbeat = omega arith
 
 -- where nothing is unsent afterwards, nothing was committed
-pub committed-none : (o : Option Frame) (e : Engine) → length (committed_as o e).unsent ≡ 0 → committed_as o e ≡ e
+pub committed-none : (o : Option Item) (e : Engine) → length (committed_as o e).unsent ≡ 0 → committed_as o e ≡ e
 committed-none None e h = refl
-committed-none (Some f) e h = absurd (omega (arith, encoding-some f, length-append e.unsent (encoding f)))
+committed-none (Some item) e h = absurd (omega (arith, encoding-some item.frame, length-append e.unsent (encoding item.frame)))
 
 pub commits-none : (n : ℕ) (e : Engine) → length (commits n e).unsent ≡ 0 → commits n e ≡ e
 commits-none zero e h = refl
@@ -38,32 +39,32 @@ commits-none (suc n) e h =
     later ∙ committed-none (fitting_next e) e none
 
 -- what committing a frame does
-abbrev pub with_frame : Option Frame → Engine → Engine
+abbrev pub with_frame : Option Item → Engine → Engine
 with_frame None e = e
-with_frame (Some f) e =
+with_frame (Some item) e =
     record e {
-      talk = record e.talk { control = drop 1 e.talk.control; committed = e.talk.committed ++ record { left = length (encoding f) } ∷ [] };
-      unsent = e.unsent ++ encoding f;
+      talk = record e.talk { control = drop 1 e.talk.control; committed = e.talk.committed ++ mark_of item ∷ [] };
+      unsent = e.unsent ++ encoding item.frame;
     }
 
-committed_as-is : (o : Option Frame) (e : Engine) → fitting_next e ≡ o → committed_as o e ≡ with_frame o e
+committed_as-is : (o : Option Item) (e : Engine) → fitting_next e ≡ o → committed_as o e ≡ with_frame o e
 committed_as-is None e h = refl
-committed_as-is (Some f) e h =
-    ap (λ (x : Option Frame). record e { talk = writing.committed_as x e.talk; unsent = e.unsent ++ encoding f }) h
+committed_as-is (Some item) e h =
+    ap (λ (x : Option Item). record e { talk = writing.committed_as x e.talk; unsent = e.unsent ++ encoding item.frame }) h
 
 pub commit_one-is : (e : Engine) → commit_one e ≡ with_frame (fitting_next e) e
 commit_one-is e = committed_as-is (fitting_next e) e refl
 
 -- what is neither queued nor committed nor unsent stays
 with_frame-keeps : {A : Type 0} (f : Engine → A)
-    → ((e : Engine) (fs : List Frame) (ms : List Mark) (bytes : List ℕ)
+    → ((e : Engine) (fs : List Item) (ms : List Mark) (bytes : List ℕ)
     → f (record e { talk = record e.talk { control = fs; committed = ms }; unsent = bytes }) ≡ f e)
-    → (o : Option Frame) (e : Engine) → f (with_frame o e) ≡ f e
+    → (o : Option Item) (e : Engine) → f (with_frame o e) ≡ f e
 with_frame-keeps f h None e = refl
 with_frame-keeps f h (Some x) e = h e _ _ _
 
 pub commits-keep : {A : Type 0} (f : Engine → A)
-    → ((e : Engine) (fs : List Frame) (ms : List Mark) (bytes : List ℕ)
+    → ((e : Engine) (fs : List Item) (ms : List Mark) (bytes : List ℕ)
     → f (record e { talk = record e.talk { control = fs; committed = ms }; unsent = bytes }) ≡ f e)
     → (n : ℕ) (e : Engine) → f (commits n e) ≡ f e
 commits-keep f h zero e = refl
@@ -71,13 +72,13 @@ commits-keep f h (suc n) e =
     commits-keep f h n (commit_one e) ∙ ap f (commit_one-is e) ∙ with_frame-keeps f h (fitting_next e) e
 
 -- a committed frame was the head of what waited
-pub fitting-control : (space : ℕ) (b : Bool) (control : List Frame) (f : Frame)
+pub fitting-control : (space : ℕ) (b : Bool) (control : List Item) (f : Item)
     → fitting space (if b then head control else None) ≡ Some f → length control ≡ suc (length (drop 1 control))
 fitting-control space true [] f h = cc
 fitting-control space true (x ∷ control) f h = refl
 fitting-control space false control f h = cc
 
-waiting-with_frame : (o : Option Frame) (e : Engine) → fitting_next e ≡ o → waiting (with_frame o e) ≤ waiting e
+waiting-with_frame : (o : Option Item) (e : Engine) → fitting_next e ≡ o → waiting (with_frame o e) ≤ waiting e
 waiting-with_frame None e h = omega arith
 waiting-with_frame (Some f) e h =
     let control : length e.talk.control ≡ suc (length (drop 1 e.talk.control)) =

@@ -24,6 +24,8 @@ use Rattle.amqp_session.specs.declared.state.Input.{Input}
 use Rattle.amqp_session.specs.declared.state.Input.TheVariants.{Acting, Closed, Dropped}
 use Rattle.amqp_session.specs.declared.io_fault.IoFault.{IoFault}
 use Rattle.amqp_session.specs.declared.io_fault.IoFault.TheVariants.{Refused, BrokenPipe}
+use Rattle.amqp_session.specs.declared.server_close.ServerClose.{ServerClose}
+use Rattle.amqp_session.specs.declared.server_close.ServerClose.TheVariants.{WithoutError, WithError}
 use Rattle.amqp_session.specs.declared.misread.Misread.{Misread}
 use Rattle.amqp_session.specs.declared.command.Cmd.{Cmd}
 use Rattle.amqp_session.specs.declared.command.Cmd.TheVariants.{OpenChannel, CloseChannel, CloseConnection, Send}
@@ -35,16 +37,16 @@ use Rattle.amqp_session.specs.declared.lanes.Reply.TheVariants.{ChannelOpened, C
 use Rattle.amqp_session.specs.declared.command.Answer.{Answer as AnyAnswer}
 use Rattle.amqp_session.specs.declared.misread.Misread.TheVariants.{TooLarge, BadHeartbeat, Bad}
 use Rattle.amqp_session.specs.Talk.{Talk, has_ended, is_open, end_of_link}
-use Rattle.amqp_session.specs.Changes.{present_at, give, give_to, fail, lose, close, finish, finish_by, is_closed, starve}
+use Rattle.amqp_session.specs.Changes.{present_at, give, give_to, fail, lose, close, finish, finish_by, starve}
 use Rattle.amqp_session.specs.Links.{link_failed, lost, lost_by, misread, misread_by}
-use Rattle.amqp_session.specs.Violations.{close_error, misread_error}
+use Rattle.amqp_session.specs.Violations.{misread_error}
 use Rattle.amqp_session.specs.Connections.{connection_row, on_connection_close_ok, promise_of}
 use Rattle.amqp_session.specs.Channels.{unawaited_channel_method, channel_opened, channel_closed, channel_row, listed_channel_method, channel_method, hand_out, confirmed, is_select_ok, pass_through, unlisted, raw_on, channel_at}
 use Rattle.amqp_session.specs.Outgoing.{first_awaited, without_first}
 use Rattle.amqp_session.specs.Frames.{misplaced_in, misplaced, is_unbuilt, is_of_a_channel, method_on_0, method_on, built_method, frame_row, frame_by, on_frame}
 use Rattle.amqp_session.specs.Commands.{open_drawn, in_state, on_channel, on_open_channel, send, command, command_row, named}
 use Rattle.amqp_session.specs.Writing.{left_in, follow, sent, sent_among, taken}
-use Rattle.amqp_engine.specs.Causes.{fault_in, fault_of, IsTold}
+use Rattle.amqp_engine.specs.Causes.{fault_in, fault_of}
 use Rattle.amqp_engine.proofs.Cases.{if_case, if-true, if-false, if-both, and-true, and-false}
 
 -- ---- the present
@@ -92,40 +94,36 @@ starve-committed t = if_case (λ (x : Talk). x.committed ≡ t.committed) (has_e
 pub record Keeps (t t' : Talk) : Type 0 where
   pub committed : t'.committed ≡ t.committed
   pub link : (t'.link ≡ t.link) ⊎ (has_ended t' ≡ true)
-  pub told : IsTold t → IsTold t'
   pub faultless : fault_of t ≡ None → fault_of t' ≡ None
 
 pub keeps-none : (t : Talk) → Keeps t t
-keeps-none t = record { committed = refl; link = inl refl; told = λ h. h; faultless = λ h. h }
+keeps-none t = record { committed = refl; link = inl refl; faultless = λ h. h }
 
 keeps-lose : (e : ErrorKind) (t : Talk) → fault_in e ≡ None → Keeps t (lose e t)
-keeps-lose e t none = record { committed = refl; link = inr refl; told = λ h. h; faultless = λ h. none }
+keeps-lose e t none = record { committed = refl; link = inr refl; faultless = λ h. none }
 
 keeps-give_to : (promise : Option ℕ) (answer : Result AnyAnswer ErrorKind) (t u : Talk) → Keeps t u → Keeps t (give_to promise answer u)
 keeps-give_to None answer t u k = k
-keeps-give_to (Some n) answer t u k = record { committed = k.committed; link = k.link; told = k.told; faultless = k.faultless }
+keeps-give_to (Some n) answer t u k = record { committed = k.committed; link = k.link; faultless = k.faultless }
 
 keeps-close : (t u : Talk) → Keeps t u → Keeps t (close u)
-keeps-close t u k = record { committed = k.committed; link = inr refl; told = k.told; faultless = λ h. refl }
+keeps-close t u k = record { committed = k.committed; link = inr refl; faultless = λ h. refl }
 
 -- ---- frames
-
-close-told : (code : ℕ) (text : List ℕ) → fault_in (close_error code text) ≡ None
-close-told code text = if_case (λ (e : ErrorKind). fault_in e ≡ None) _ _ _ refl refl
 
 keeps-close-ok : (t : Talk) → Keeps t (on_connection_close_ok t)
 keeps-close-ok t =
     keeps-close t _ (keeps-give_to (promise_of (first_awaited 0 ConnectionClosed t.awaited)) _ t
-    (record t { awaited = without_first 0 ConnectionClosed t.awaited }) (record { committed = refl; link = inl refl; told = λ h. h; faultless = λ h. h }))
+    (record t { awaited = without_first 0 ConnectionClosed t.awaited }) (record { committed = refl; link = inl refl; faultless = λ h. h }))
 
 keeps-connection : (s : ConnectionState) (p : Phase) (m : AnyMethod) (t : Talk) → Keeps t (connection_row s p m t)
 keeps-connection s p (Close code text class method) t =
-    record { committed = refl; link = inl refl; told = λ h. close-told code text; faultless = λ h. h }
+    record { committed = refl; link = inl refl; faultless = λ h. h }
 keeps-connection Closing p CloseOk t = keeps-close-ok t
 keeps-connection Closing p m t = keeps-none t
-keeps-connection Connecting AwaitStart (Start a b c d e) t = record { committed = refl; link = inl refl; told = λ h. h; faultless = λ h. h }
-keeps-connection Connecting AwaitTune (Tune a b c) t = record { committed = refl; link = inl refl; told = λ h. h; faultless = λ h. h }
-keeps-connection Connecting AwaitOpenOk OpenOk t = record { committed = refl; link = inl refl; told = λ h. h; faultless = λ h. h }
+keeps-connection Connecting AwaitStart (Start a b c d e) t = record { committed = refl; link = inl refl; faultless = λ h. h }
+keeps-connection Connecting AwaitTune (Tune a b c) t = record { committed = refl; link = inl refl; faultless = λ h. h }
+keeps-connection Connecting AwaitOpenOk OpenOk t = record { committed = refl; link = inl refl; faultless = λ h. h }
 keeps-connection held p m t = keeps-lose _ t refl
 
 keeps-unawaited : (n : ℕ) (s : ChannelState) (m : AnyMethod) (t : Talk) → Keeps t (unawaited_channel_method n s m t)
@@ -134,11 +132,11 @@ keeps-unawaited n _ m t = keeps-lose _ t refl
 
 keeps-opened : (n : ℕ) (c : Channel) (a : Option Awaited) (t : Talk) → Keeps t (channel_opened n c a t)
 keeps-opened n c None t = keeps-unawaited n c.state ChannelOpenOk t
-keeps-opened n c (Some a) t = keeps-give_to a.promise _ t _ (record { committed = refl; link = inl refl; told = λ h. h; faultless = λ h. h })
+keeps-opened n c (Some a) t = keeps-give_to a.promise _ t _ (record { committed = refl; link = inl refl; faultless = λ h. h })
 
 keeps-closed : (n : ℕ) (c : Channel) (a : Option Awaited) (t : Talk) → Keeps t (channel_closed n c a t)
 keeps-closed n c None t = keeps-unawaited n c.state ChannelCloseOk t
-keeps-closed n c (Some a) t = keeps-give_to a.promise _ t _ (record { committed = refl; link = inl refl; told = λ h. h; faultless = λ h. h })
+keeps-closed n c (Some a) t = keeps-give_to a.promise _ t _ (record { committed = refl; link = inl refl; faultless = λ h. h })
 
 keeps-channel : (n : ℕ) (c : Channel) (m : AnyMethod) (t : Talk) → Keeps t (channel_row n c m t)
 keeps-channel n c ChannelOpenOk t = keeps-opened n c (first_awaited n ChannelOpened t.awaited) t
@@ -157,8 +155,8 @@ keeps-channel-method _ n m t = keeps-listed n (channel_at n t) m t
 keeps-pass : (n : ℕ) (c : Channel) (kind : RawKind) (bytes : List ℕ) (t : Talk) → Keeps t (pass_through n c kind bytes t)
 keeps-pass n c kind bytes t =
     if_case (λ (x : Talk). Keeps t (hand_out c.opened (record { channel = n; kind = kind; bytes = bytes }) x)) (is_select_ok kind bytes) (confirmed n c t) t
-    (record { committed = refl; link = inl refl; told = λ h. h; faultless = λ h. h })
-    (record { committed = refl; link = inl refl; told = λ h. h; faultless = λ h. h })
+    (record { committed = refl; link = inl refl; faultless = λ h. h })
+    (record { committed = refl; link = inl refl; faultless = λ h. h })
 
 keeps-unlisted : (s : ConnectionState) (n : ℕ) (t : Talk) → Keeps t (unlisted s n t)
 keeps-unlisted Closing n t = keeps-none t
@@ -207,8 +205,8 @@ misread-told (Bad place) = refl
 
 keeps-misread-by : (i : Input) (why : Misread) (t : Talk) → Keeps t (misread_by i why t)
 keeps-misread-by Acting why t = keeps-lose _ t (misread-told why)
-keeps-misread-by Closed why t = record { committed = refl; link = inl refl; told = λ h. h; faultless = λ h. h }
-keeps-misread-by Dropped why t = record { committed = refl; link = inl refl; told = λ h. h; faultless = λ h. h }
+keeps-misread-by Closed why t = record { committed = refl; link = inl refl; faultless = λ h. h }
+keeps-misread-by Dropped why t = record { committed = refl; link = inl refl; faultless = λ h. h }
 
 pub keeps-misread : (why : Misread) (t : Talk) → Keeps t (misread why t)
 keeps-misread why t = if_case (Keeps t) (is_open t) (misread_by t.input why t) t (keeps-misread-by t.input why t) (keeps-none t)
@@ -223,32 +221,32 @@ pub record Stays (t t' : Talk) : Type 0 where
   pub link : t'.link ≡ t.link
   pub committed : t'.committed ≡ t.committed
   pub configuration : t'.configuration ≡ t.configuration
-  pub close_error : t'.close_error ≡ t.close_error
+  pub server_close : t'.server_close ≡ t.server_close
 
 stays-drawn : (o : Option ℕ) (first : ℕ) (t : Talk) → Stays t (open_drawn o first t)
-stays-drawn None first t = record { link = refl; committed = refl; configuration = refl; close_error = refl }
-stays-drawn (Some n) first t = record { link = refl; committed = refl; configuration = refl; close_error = refl }
+stays-drawn None first t = record { link = refl; committed = refl; configuration = refl; server_close = refl }
+stays-drawn (Some n) first t = record { link = refl; committed = refl; configuration = refl; server_close = refl }
 
 stays-state : (s : ChannelState) (word : Word) (f : Talk → Talk) (t : Talk) → Stays t (f t) → Stays t (in_state s word f t)
 stays-state channel.Connected word f t k = k
-stays-state _ word f t k = record { link = refl; committed = refl; configuration = refl; close_error = refl }
+stays-state _ word f t k = record { link = refl; committed = refl; configuration = refl; server_close = refl }
 
 stays-channel : (n : ℕ) (word : Word) (f : Channel → Talk → Talk) (o : Option Channel) (t : Talk) → ((c : Channel) → Stays t (f c t)) → Stays t (on_channel n word f o t)
-stays-channel n word f None t k = record { link = refl; committed = refl; configuration = refl; close_error = refl }
+stays-channel n word f None t k = record { link = refl; committed = refl; configuration = refl; server_close = refl }
 stays-channel n word f (Some c) t k = stays-state c.state word (f c) t (k c)
 
 stays-send : (n : ℕ) (m : OtherMethod) (t : Talk) → Stays t (send n m t)
 stays-send n m t =
-    if_case (Stays t) _ _ _ (record { link = refl; committed = refl; configuration = refl; close_error = refl })
-    (record { link = refl; committed = refl; configuration = refl; close_error = refl })
+    if_case (Stays t) _ _ _ (record { link = refl; committed = refl; configuration = refl; server_close = refl })
+    (record { link = refl; committed = refl; configuration = refl; server_close = refl })
 
 stays-row : (s : ConnectionState) (c : Cmd) (t : Talk) → Stays t (command_row s c t)
 stays-row Connected OpenChannel t = stays-drawn _ _ t
 stays-row Connected (CloseChannel r code text) t =
-    stays-channel r.id _ _ (named r t) t (λ c. record { link = refl; committed = refl; configuration = refl; close_error = refl })
-stays-row Connected (CloseConnection code text) t = record { link = refl; committed = refl; configuration = refl; close_error = refl }
+    stays-channel r.id _ _ (named r t) t (λ c. record { link = refl; committed = refl; configuration = refl; server_close = refl })
+stays-row Connected (CloseConnection code text) t = record { link = refl; committed = refl; configuration = refl; server_close = refl }
 stays-row Connected (Send r method) t = stays-channel r.id _ _ (named r t) t (λ c. stays-send r.id method t)
-stays-row _ c t = record { link = refl; committed = refl; configuration = refl; close_error = refl }
+stays-row _ c t = record { link = refl; committed = refl; configuration = refl; server_close = refl }
 
 pub stays-command : (c : Cmd) (t : Talk) → Stays t (command c t)
 stays-command c t = stays-row t.state c t
@@ -258,8 +256,8 @@ stays-command c t = stays-row t.state c t
 -- what looks at none of what an end or an answer changes
 abbrev pub OverlooksEnds : {A : Type 0} → (Talk → A) → Type 0
 OverlooksEnds f =
-    (t : Talk) (s : ConnectionState) (l : Link) (cs : List (ℕ × Channel)) (e : Option ErrorKind) (ps : List Slot)
-    → f (record t { state = s; link = l; channels = cs; close_error = e; promises = ps }) ≡ f t
+    (t : Talk) (s : ConnectionState) (l : Link) (cs : List (ℕ × Channel)) (e : Option ServerClose) (ps : List Slot)
+    → f (record t { state = s; link = l; channels = cs; server_close = e; promises = ps }) ≡ f t
 
 -- the same of what writing changes, and of a moment
 pub record Overlooks {A : Type 0} (f : Talk → A) : Type 0 where
@@ -267,30 +265,30 @@ pub record Overlooks {A : Type 0} (f : Talk → A) : Type 0 where
   pub writes : (t : Talk) (w : ℕ) (ms : List Mark) → f (record t { last_write = w; committed = ms }) ≡ f t
   pub moments : (t : Talk) (n : ℕ) → f (record t { present = n }) ≡ f t
 
-finish-keeps : {A : Type 0} (f : Talk → A) → OverlooksEnds f → (o : Option ErrorKind) (t : Talk)
-    → f (finish_by o (record t { close_error = None })) ≡ f t
+finish-keeps : {A : Type 0} (f : Talk → A) → OverlooksEnds f → (o : Option ServerClose) (t : Talk)
+    → f (finish_by o (record t { server_close = None })) ≡ f t
 finish-keeps f h None t = h t _ _ _ _ _
-finish-keeps f h (Some e) t =
-    let u : Talk = record t { close_error = None } in
-    if_case (λ (x : Talk). f x ≡ f t) (is_closed e) (close u) (lose e u) (h t _ _ _ _ _) (h t _ _ _ _ _)
+finish-keeps f h (Some WithoutError) t = h t _ _ _ _ _
+finish-keeps f h (Some (WithError e)) t = h t _ _ _ _ _
 
 lost-by-keeps : {A : Type 0} (f : Talk → A) → OverlooksEnds f → (i : Input) (fault : IoFault) (t : Talk) → f (lost_by i fault t) ≡ f t
 lost-by-keeps f h Acting fault t = h t _ _ _ _ _
-lost-by-keeps f h Closed fault t = finish-keeps f h t.close_error t
-lost-by-keeps f h Dropped fault t = finish-keeps f h t.close_error t
+lost-by-keeps f h Closed fault t = finish-keeps f h t.server_close t
+lost-by-keeps f h Dropped fault t = finish-keeps f h t.server_close t
 
 -- a lost link leaves it as it was
 pub lost-keeps : {A : Type 0} (f : Talk → A) → OverlooksEnds f → (fault : IoFault) (t : Talk) → f (lost fault t) ≡ f t
 lost-keeps f h fault t = if_case (λ (x : Talk). f x ≡ f t) (is_open t) (lost_by t.input fault t) t (lost-by-keeps f h t.input fault t) refl
 
-finish-ends : (o : Option ErrorKind) (t : Talk) → has_ended (finish_by o t) ≡ true
+finish-ends : (o : Option ServerClose) (t : Talk) → has_ended (finish_by o t) ≡ true
 finish-ends None t = refl
-finish-ends (Some e) t = if_case (λ (x : Talk). has_ended x ≡ true) (is_closed e) (close t) (lose e t) refl refl
+finish-ends (Some WithoutError) t = refl
+finish-ends (Some (WithError e)) t = refl
 
 lost-by-ends : (i : Input) (fault : IoFault) (t : Talk) → has_ended (lost_by i fault t) ≡ true
 lost-by-ends Acting fault t = refl
-lost-by-ends Closed fault t = finish-ends t.close_error _
-lost-by-ends Dropped fault t = finish-ends t.close_error _
+lost-by-ends Closed fault t = finish-ends t.server_close _
+lost-by-ends Dropped fault t = finish-ends t.server_close _
 
 -- the link stays, or the session ended
 abbrev pub LinkKept : Talk → Talk → Type 0
@@ -313,13 +311,13 @@ left_after (m ∷ ms) n = if nat_le m.left n then left_after ms (n - m.left) els
 
 follow-keeps : {A : Type 0} (f : Talk → A) → OverlooksEnds f → (th : Then) (t : Talk) → f (follow th t) ≡ f t
 follow-keeps f h Nothing t = refl
-follow-keeps f h (Answer n) t = h t t.state t.link t.channels t.close_error _
-follow-keeps f h Finish t = finish-keeps f h t.close_error t
+follow-keeps f h (Answer n) t = h t t.state t.link t.channels t.server_close _
+follow-keeps f h Finish t = finish-keeps f h t.server_close t
 
 follow-link : (th : Then) (t : Talk) → LinkKept t (follow th t)
 follow-link Nothing t = inl refl
 follow-link (Answer n) t = inl refl
-follow-link Finish t = inr (finish-ends t.close_error _)
+follow-link Finish t = inr (finish-ends t.server_close _)
 
 sent_among-keeps : {A : Type 0} (f : Talk → A) → Overlooks f → (ms : List Mark) (n : ℕ) (t : Talk) → f (sent_among ms n t) ≡ f t
 sent_among-keeps f h [] n t = refl

@@ -1,4 +1,5 @@
 pub mod Cases
+pub mod Settling
 pub mod Keeping
 pub mod Commits
 pub mod Reading

@@ -29,10 +29,6 @@ fault_at _ = None
 abbrev pub fault_of : Talk → Option IoFault
 fault_of t = fault_at (end_of t)
 
--- why the server closed the connection is no fault of the link
-abbrev pub IsTold : Talk → Type 0
-IsTold t = IfSome t.close_error (λ e. fault_in e ≡ None)
-
 -- ---- their causes
 
 -- the fault that a step brings: to the link that was asked for, or to the open one
