@@ -8,7 +8,7 @@ use Rattle.amqp_frame.specs.declared.frame.Frame.{Frame}
 use Rattle.amqp_frame.specs.Frames.{encoding}
 use Rattle.amqp_session.specs.declared.committed.Mark.{Mark}
 use Rattle.amqp_session.specs.Talk.{is_open}
-use Rattle.amqp_session.specs.Rules.{present_at}
+use Rattle.amqp_session.specs.Changes.{present_at}
 use Rattle.amqp_session.specs.Writing.{taken}
 use Rattle.amqp_engine.specs.declared.port.Wrote.{Wrote}
 use Rattle.amqp_engine.specs.declared.port.Wrote.TheVariants.{Took, NoMemory}

@@ -1,7 +1,7 @@
 -- A turn from its step on, out of the contracts of its parts.
 use Rattle.std.proofs.Common.{◌≡◌, ℕ, if◌then◌else◌, Bool, true, false, List, [], Option, Some, refl, ap, sym, ◌∙◌, subst}
 use Rattle.amqp_session.specs.Talk.{Talk}
-use Rattle.amqp_session.specs.Rules.{starve}
+use Rattle.amqp_session.specs.Changes.{starve}
 use Rattle.amqp_engine.specs.declared.port.Step.{Step}
 use Rattle.amqp_engine.specs.declared.port.Wrote.{Wrote}
 use Rattle.amqp_engine.specs.Log.{Log}

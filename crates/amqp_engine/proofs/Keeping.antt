@@ -30,21 +30,23 @@ use Rattle.amqp_session.specs.declared.misread.Misread.{Misread}
 use Rattle.amqp_session.specs.declared.command.Cmd.{Cmd}
 use Rattle.amqp_session.specs.declared.command.Cmd.TheVariants.{OpenChannel, CloseChannel, CloseConnection, Send}
 use Rattle.amqp_session.specs.declared.error.ErrorKind.{ErrorKind}
-use Rattle.amqp_session.specs.declared.error.ErrorKind.TheVariants.{NoMemory, IOError}
+use Rattle.amqp_session.specs.declared.error.ErrorKind.TheVariants.{NoMemory, SerialisationError}
 use Rattle.amqp_frame.specs.RawMethods.{OtherMethod}
+use Rattle.amqp_frame.specs.Frames.{encoding}
+use Rattle.amqp_session.specs.declared.session.TheConstants.{CAPACITY}
 use Rattle.amqp_types.specs.declared.word.Word.{Word}
 use Rattle.amqp_session.specs.declared.lanes.Reply.TheVariants.{ChannelOpened, ChannelClosed, ConnectionClosed}
 use Rattle.amqp_session.specs.declared.command.Answer.{Answer as AnyAnswer}
 use Rattle.amqp_session.specs.declared.misread.Misread.TheVariants.{TooLarge, BadHeartbeat, Bad}
 use Rattle.amqp_session.specs.Talk.{Talk, has_ended, is_open, end_of_link}
-use Rattle.amqp_session.specs.Changes.{present_at, give, give_to, fail, lose, close, finish, finish_by, starve}
+use Rattle.amqp_session.specs.Changes.{present_at, refuse, promise, queue_item, next_promise, give, give_to, fail, lose, close, finish, finish_by, starve}
 use Rattle.amqp_session.specs.Links.{link_failed, lost, lost_by, misread, misread_by}
 use Rattle.amqp_session.specs.Violations.{misread_error}
 use Rattle.amqp_session.specs.Connections.{connection_row, on_connection_close_ok, promise_of}
 use Rattle.amqp_session.specs.Channels.{unawaited_channel_method, channel_opened, channel_closed, channel_row, listed_channel_method, channel_method, hand_out, confirmed, is_select_ok, pass_through, unlisted, raw_on, channel_at}
 use Rattle.amqp_session.specs.Outgoing.{first_awaited, without_first}
 use Rattle.amqp_session.specs.Frames.{misplaced_in, misplaced, is_unbuilt, is_of_a_channel, method_on_0, method_on, built_method, frame_row, frame_by, on_frame}
-use Rattle.amqp_session.specs.Commands.{open_drawn, in_state, on_channel, on_open_channel, send, command, command_row, named}
+use Rattle.amqp_session.specs.Commands.{open_drawn, in_state, on_channel, on_open_channel, method_frame, send, command, command_row, named}
 use Rattle.amqp_session.specs.Writing.{left_in, follow, sent, sent_among, taken}
 use Rattle.amqp_engine.specs.Causes.{fault_in, fault_of}
 use Rattle.amqp_engine.proofs.Cases.{if_case, if-true, if-false, if-both, and-true, and-false}
@@ -237,7 +239,10 @@ stays-channel n word f (Some c) t k = stays-state c.state word (f c) t (k c)
 
 stays-send : (n : ℕ) (m : OtherMethod) (t : Talk) → Stays t (send n m t)
 stays-send n m t =
-    if_case (Stays t) _ _ _ (record { link = refl; committed = refl; configuration = refl; server_close = refl })
+    let frame = method_frame n m in
+    if_case (Stays t) (nat_lt CAPACITY (length (encoding frame))) (refuse (SerialisationError (length (encoding frame))) t)
+    (promise (queue_item (record { frame = frame; then = Answer (next_promise t) }) t))
+    (record { link = refl; committed = refl; configuration = refl; server_close = refl })
     (record { link = refl; committed = refl; configuration = refl; server_close = refl })
 
 stays-row : (s : ConnectionState) (c : Cmd) (t : Talk) → Stays t (command_row s c t)
@@ -289,6 +294,10 @@ lost-by-ends : (i : Input) (fault : IoFault) (t : Talk) → has_ended (lost_by i
 lost-by-ends Acting fault t = refl
 lost-by-ends Closed fault t = finish-ends t.server_close _
 lost-by-ends Dropped fault t = finish-ends t.server_close _
+
+-- a link that is lost ends the session, where there is one
+pub lost-stays : (fault : IoFault) (t : Talk) → (lost fault t ≡ t) ⊎ (has_ended (lost fault t) ≡ true)
+lost-stays fault t = if_case (λ (x : Talk). (x ≡ t) ⊎ (has_ended x ≡ true)) (is_open t) (lost_by t.input fault t) t (inr (lost-by-ends t.input fault t)) (inl refl)
 
 -- the link stays, or the session ended
 abbrev pub LinkKept : Talk → Talk → Type 0

@@ -1,25 +1,33 @@
 -- No turn leaves a whole frame unread.
-use Rattle.std.proofs.Common.{◌≡◌, ◌≤◌, ℕ, zero, suc, ◌&&◌, not, if◌then◌else◌, Bool, true, false, IsTrue, List, [], ◌∷◌, length, Option, Some, None, is_some, refl, ap, sym, ◌∙◌, subst, arith, rules}
+use Rattle.std.proofs.Common.{◌≡◌, ◌≤◌, ℕ, zero, suc, ◌&&◌, ◌||◌, not, if◌then◌else◌, Bool, true, false, IsTrue, List, [], ◌∷◌, length, drop, Option, Some, None, Result, is_some, ◌⊎◌, inl, inr, refl, ap, sym, ◌∙◌, subst, arith, rules}
 use Rattle.amqp_frame.specs.declared.frame.Read.{Read}
 use Rattle.amqp_frame.specs.declared.frame.Read.TheVariants.{Whole, More, TooLarge, BadHeartbeat, Bad, NoMemory}
 use Rattle.amqp_frame.specs.FrameReading.{front}
 use Rattle.amqp_session.specs.declared.state.Link.{Link}
 use Rattle.amqp_session.specs.declared.state.Link.TheVariants.{Wanted, Asked, Open, Ended}
-use Rattle.amqp_session.specs.Talk.{Talk, is_open, is_open_link, is_asked, end_of_link}
+use Rattle.amqp_session.specs.declared.io_fault.IoFault.{IoFault}
+use Rattle.amqp_session.specs.declared.io_fault.IoFault.TheVariants.{Aborted, Reset, BrokenPipe}
+use Rattle.amqp_session.specs.declared.command.Answer.{Answer}
+use Rattle.amqp_session.specs.declared.error.ErrorKind.{ErrorKind}
+use Rattle.amqp_session.specs.Talk.{Talk, is_open, is_open_link, is_asked, has_ended, drops_input, end_of_link}
 use Rattle.amqp_session.specs.Negotiation.{frame_limit}
-use Rattle.amqp_session.specs.Rules.{present_at, asked, asked_link, linked, command, starve}
-use Rattle.amqp_session.specs.Answers.{take_answer}
+use Rattle.amqp_session.specs.Changes.{present_at, fail, starve}
+use Rattle.amqp_session.specs.Links.{asked, asked_link, linked, link_failed, lost}
+use Rattle.amqp_session.specs.Commands.{command}
+use Rattle.amqp_session.specs.Writing.{taken}
+use Rattle.amqp_session.specs.Answers.{take_answer, take_frames, Takes}
 use Rattle.amqp_session.specs.declared.command.Cmd.{Cmd}
 use Rattle.amqp_engine.specs.declared.port.Step.{Step}
-use Rattle.amqp_engine.specs.declared.port.Step.TheVariants.{Linked, Piece, Room, Tick, Command}
+use Rattle.amqp_engine.specs.declared.port.Step.TheVariants.{Linked, LinkFailed, Piece, End, Fault, Room, Tick, Command}
 use Rattle.amqp_engine.specs.declared.port.Wrote.{Wrote}
-use Rattle.amqp_engine.specs.Engine.{Engine, front_of, is_more, can_read, rule_at, with_talk, step_engine, taken_by, commits, starve_at}
+use Rattle.amqp_engine.specs.declared.port.Wrote.TheVariants.{Took, Failed, NoMemory as WroteNoMemory}
+use Rattle.amqp_engine.specs.Engine.{Engine, front_of, is_more, can_read, rule_at, with_talk, step_engine, settle, took, wrote, commit_all, commits, starve_at}
 use Rattle.amqp_engine.specs.Turn.{Progress, Turn, asks, wants_ask, goes, reads, read_part, reading, is_piece, step_part, is_part, begun, drain, offer_part, answered, read, written, applied, turn, starved_after}
 use Rattle.amqp_engine.specs.Log.{Log}
 use Rattle.amqp_engine.specs.Tell.{Applies, Turns, turn_of}
 use Rattle.amqp_engine.specs.Unread.{IsRead}
-use Rattle.amqp_engine.proofs.Cases.{if_case, and-false, and-right}
-use Rattle.amqp_engine.proofs.Keeping.{present-keeps, command-keeps, taken-keeps, starve-ends}
+use Rattle.amqp_engine.proofs.Cases.{if_case, if-true, if-false, and-false, and-right}
+use Rattle.amqp_engine.proofs.Keeping.{Overlooks, present-keeps, stays-command, taken-keeps, taken-link, lost-stays, starve-ends}
 use Rattle.amqp_engine.proofs.Commits.{commits-keep}
 use Rattle.amqp_engine.proofs.Reading.{read_one-worth, front-none}
 
@@ -91,8 +99,8 @@ moment-read at e h =
 -- a command too
 pub command-read : (c : Cmd) (e : Engine) → IsRead e → IsRead (with_talk (command c) e)
 command-read c e h =
-    same-read e (with_talk (command c) e) (command-keeps is_open c e.talk (λ x l m k. ap is_open_link l)) refl
-    (command-keeps (λ t. t.configuration) c e.talk (λ x l m k. k)) h
+    let stays = stays-command c e.talk in
+    same-read e (with_talk (command c) e) (ap is_open_link stays.link) refl stays.configuration h
 
 -- an answer that is taken too
 pub answer-read : (number : ℕ) (e : Engine) → IsRead e → IsRead (with_talk (take_answer number) e)
@@ -102,6 +110,57 @@ answer-read number e h =
     (if_case (λ (x : Talk). is_open x ≡ is_open t) _ (record t { promises = _ }) t refl refl) refl
     (if_case (λ (x : Talk). x.configuration ≡ t.configuration) _ (record t { promises = _ }) t refl refl) h
 
+-- the same of an answer whose copy may be refused
+pub taken-read : (number : ℕ) (given : Option (Result Answer ErrorKind)) (e e' : Engine) → Takes number given e.talk e'.talk
+    → e' ≡ record e { talk = e'.talk } → IsRead e → IsRead e'
+taken-read number given e e' takes rest h =
+    let P : Talk → Type 0 = λ t. IsRead (record e { talk = t }) in
+    subst IsRead (sym rest)
+    (elim takes [
+      | inl took ↦ subst P (sym took.1) (answer-read number e h)
+      | inr refused ↦ subst P (sym refused.2) h
+    ])
+
+-- and of frames that are taken
+pub frames-read : (opened : ℕ) (e : Engine) → IsRead e → IsRead (with_talk (take_frames opened) e)
+frames-read opened e h = same-read e (with_talk (take_frames opened) e) refl refl refl h
+
+-- where the unread bytes go, nothing is left of them
+settled-read : (b c : Bool) (x : Engine) → has_ended x.talk ≡ b → drops_input x.talk ≡ c
+    → (has_ended x.talk ≡ false → IsRead x) → IsRead (settle x)
+settled-read true c x hb hc h =
+    let gone : settle x ≡ record x { unread = []; place = 0 } =
+    if-true (has_ended x.talk || drops_input x.talk) (record x { unread = []; place = 0 }) x (ap (λ d. d || drops_input x.talk) hb) in
+    subst IsRead (sym gone) (λ opened. front-none (frame_limit x.talk.configuration))
+settled-read false true x hb hc h =
+    let gone : settle x ≡ record x { unread = []; place = 0 } =
+    if-true (has_ended x.talk || drops_input x.talk) (record x { unread = []; place = 0 }) x (ap (λ d. d || drops_input x.talk) hb ∙ hc) in
+    subst IsRead (sym gone) (λ opened. front-none (frame_limit x.talk.configuration))
+settled-read false false x hb hc h =
+    let stays : settle x ≡ x =
+    if-false (has_ended x.talk || drops_input x.talk) (record x { unread = []; place = 0 }) x (ap (λ d. d || drops_input x.talk) hb ∙ hc) in
+    subst IsRead (sym stays) (h hb)
+
+settle-read : (x : Engine) → (has_ended x.talk ≡ false → IsRead x) → IsRead (settle x)
+settle-read x h = settled-read (has_ended x.talk) (drops_input x.talk) x refl refl h
+
+both : (b : Bool) → b ≡ true → b ≡ false → ⊥
+both true h k = cc
+both false h k = cc
+
+-- a rule that does nothing or ends the session
+rule-read : (at : ℕ) (f : Talk → Talk) → ((t : Talk) → (f t ≡ t) ⊎ (has_ended (f t) ≡ true)) → (e : Engine) → IsRead e → IsRead (settle (rule_at at f e))
+rule-read at f h e k =
+    let t = present_at at e.talk in
+    let P : Talk → Type 0 = λ x. IsRead (record e { talk = x }) in
+    settle-read (rule_at at f e) (λ running. elim (h t) [
+      | inl same ↦ subst P (sym same) (moment-read at e k)
+      | inr ended ↦ absurd (both (has_ended (f t)) ended running)
+    ])
+
+link_failed-stays : (t : Talk) → (link_failed t ≡ t) ⊎ (has_ended (link_failed t) ≡ true)
+link_failed-stays t = if_case (λ (x : Talk). (x ≡ t) ⊎ (has_ended x ≡ true)) (is_asked t) (fail _ t) t (inr refl) (inl refl)
+
 linked-read : (at : ℕ) (e : Engine) → IsRead e → IsRead (step_engine at Linked [] e)
 linked-read at e h =
     if_case IsRead (is_asked e.talk)
@@ -110,21 +169,40 @@ linked-read at e h =
 
 step-read : (at : ℕ) (step : Step) (bytes : List ℕ) (e : Engine) → is_piece step ≡ false → IsRead e → IsRead (step_engine at step bytes e)
 step-read at Linked bytes e piece h = linked-read at e h
+step-read at LinkFailed bytes e piece h = rule-read at link_failed link_failed-stays e h
 step-read at (Piece n) bytes e piece h = cc
+step-read at End bytes e piece h = rule-read at (lost Aborted) (lost-stays Aborted) e h
+step-read at Fault bytes e piece h = rule-read at (lost Reset) (lost-stays Reset) e h
 step-read at Room bytes e piece h = moment-read at e h
 step-read at Tick bytes e piece h = moment-read at e h
 step-read at (Command c) bytes e piece h = command-read c (rule_at at (λ t. t) e) (moment-read at e h)
 
-answered-read : (at : ℕ) (w : Wrote) (e : Engine) → IsRead e → IsRead (answered at w e)
-answered-read at w e h =
-    let n = length e.talk.control in
-    let x = commits n e in
-    same-read e (answered at w e)
-    (taken-keeps is_open (taken_by w) (present_at at x.talk) (λ k ms. refl) ∙ present-keeps is_open at x.talk (λ k. refl)
-    ∙ commits-keep (λ (y : Engine). is_open y.talk) (λ y fs ms bytes. refl) n e)
+took-read : (at k : ℕ) (e : Engine) → IsRead e → IsRead (took at k e)
+took-read at k e h =
+    let t = present_at at e.talk in
+    let x : Engine = record e { talk = taken k t; unsent = drop k e.unsent } in
+    let here : Engine = rule_at at (λ y. y) e in
+    let configuration : x.talk.configuration ≡ t.configuration =
+    taken-keeps (λ y. y.configuration) (record { ends = λ y s l cs o ps. refl; writes = λ y w ms. refl; moments = λ y n. refl }) k t in
+    settle-read x (λ running. elim (taken-link k t) [
+      | inl same ↦ same-read here x (ap is_open_link same) refl configuration (moment-read at e h)
+      | inr ended ↦ absurd (both (has_ended x.talk) ended running)
+    ])
+
+wrote-read : (at : ℕ) (w : Wrote) (e : Engine) → IsRead e → IsRead (wrote at w e)
+wrote-read at (Took k) e h = took-read at k e h
+wrote-read at WroteNoMemory e h = took-read at 0 e h
+wrote-read at Failed e h = rule-read at (lost BrokenPipe) (lost-stays BrokenPipe) e h
+
+commits-read : (n : ℕ) (e : Engine) → IsRead e → IsRead (commits n e)
+commits-read n e h =
+    same-read e (commits n e)
+    (commits-keep (λ (y : Engine). is_open y.talk) (λ y fs ms bytes. refl) n e)
     (commits-keep (λ (y : Engine). y.unread) (λ y fs ms bytes. refl) n e)
-    (taken-keeps (λ t. t.configuration) (taken_by w) (present_at at x.talk) (λ k ms. refl) ∙ present-keeps (λ t. t.configuration) at x.talk (λ k. refl)
-    ∙ commits-keep (λ (y : Engine). y.talk.configuration) (λ y fs ms bytes. refl) n e) h
+    (commits-keep (λ (y : Engine). y.talk.configuration) (λ y fs ms bytes. refl) n e) h
+
+answered-read : (at : ℕ) (w : Wrote) (e : Engine) → IsRead e → IsRead (answered at w e)
+answered-read at w e h = wrote-read at w (commit_all e) (commits-read (length e.talk.control) e h)
 
 drain-read : (ws : List Wrote) (p : Progress) → IsRead p.engine → IsRead (drain ws p).engine
 drain-read [] p h = h

@@ -1,7 +1,7 @@
 -- The turns of a script that is played are determined.
 use Rattle.std.proofs.Common.{◌≡◌, ◌≤◌, ◌<◌, ℕ, zero, suc, ◌&&◌, if◌then◌else◌, Bool, true, false, MatchBool, List, [], ◌∷◌, ◌++◌, length, Option, Some, None, IfSome, IsSome, is_some, option_map, refl, ap, sym, ◌∙◌, subst, arith}
 use Rattle.amqp_session.specs.Talk.{has_ended, is_open}
-use Rattle.amqp_session.specs.Rules.{starve, present_at}
+use Rattle.amqp_session.specs.Changes.{starve, present_at}
 use Rattle.amqp_engine.specs.declared.port.Step.{Step}
 use Rattle.amqp_engine.specs.declared.port.Wrote.{Wrote}
 use Rattle.amqp_engine.specs.declared.port.Wrote.TheVariants.{Took, NoMemory}

@@ -1,5 +1,5 @@
 -- Reading frames one by one.
-use Rattle.std.proofs.Common.{◌≡◌, ◌≤◌, ℕ, zero, suc, ◌+◌, ◌==◌, ◌&&◌, min, not, if◌then◌else◌, nat_lt, Bool, true, false, List, [], ◌∷◌, length, drop, Option, Some, None, refl, ap, ◌∙◌, arith, length-drop}
+use Rattle.std.proofs.Common.{◌≡◌, ◌≤◌, ℕ, zero, suc, ◌+◌, ◌==◌, ◌&&◌, ◌||◌, min, not, if◌then◌else◌, nat_lt, Bool, true, false, List, [], ◌∷◌, length, drop, Option, Some, None, refl, ap, ◌∙◌, arith, length-drop}
 use Rattle.std.specs.Option.{option_map_or}
 use Rattle.std.specs.Int.{w16, w32}
 use Rattle.amqp_types.specs.Reading.{octet_at, octets_at, number_at, ◌⊗◌}
@@ -8,15 +8,21 @@ use Rattle.amqp_frame.specs.declared.frame.Frame.TheVariants.{ProtocolHeader, He
 use Rattle.amqp_frame.specs.declared.frame.Read.{Read}
 use Rattle.amqp_frame.specs.declared.frame.Read.TheVariants.{Whole, More, TooLarge, BadHeartbeat, Bad, NoMemory}
 use Rattle.amqp_frame.specs.FrameReading.{front, header, version, expect, framed, sized, ended, content, is_type_octet}
-use Rattle.amqp_session.specs.declared.error.ErrorKind.TheVariants.{Unbuilt}
-use Rattle.amqp_session.specs.Talk.{Talk, is_open, has_ended}
-use Rattle.amqp_session.specs.Rules.{present_at, misread, fail, on_frame}
+use Rattle.amqp_session.specs.declared.state.Input.{Input}
+use Rattle.amqp_session.specs.declared.state.Input.TheVariants.{Acting, Closed, Dropped}
+use Rattle.amqp_session.specs.declared.misread.Misread.{Misread}
+use Rattle.amqp_session.specs.declared.misread.Misread.TheVariants as why
+use Rattle.amqp_session.specs.Talk.{Talk, is_open, has_ended, drops_input}
+use Rattle.amqp_session.specs.Changes.{present_at}
+use Rattle.amqp_session.specs.Links.{misread, misread_by}
+use Rattle.amqp_session.specs.Frames.{on_frame}
 use Rattle.amqp_session.specs.Negotiation.{frame_limit}
 use Rattle.amqp_engine.specs.Plan.{at_most_64}
-use Rattle.amqp_engine.specs.Engine.{Engine, front_of, can_read, is_more, read_one, read_row, settle, rule_at}
+use Rattle.amqp_engine.specs.Engine.{Engine, front_of, can_read, is_more, read_one, read_row, read_badly, settle, rule_at}
 use Rattle.amqp_engine.specs.Turn.{Progress, reads, goes, read_part, is_before}
 use Rattle.amqp_engine.specs.Making.{making, Allows}
-use Rattle.amqp_engine.proofs.Cases.{if_case, if-true, if-false, and-true, and-false, and-left, and-right, is_before-Allows}
+use Rattle.amqp_engine.proofs.Cases.{if-true, if-false, or-true, and-true, and-false, and-left, and-right, is_before-Allows}
+use Rattle.amqp_engine.proofs.Settling.{settle-unread, settle-starved}
 use Rattle.amqp_engine.proofs.Keeping.{present-keeps}
 
 -- where nothing can be read, reading is over
@@ -130,17 +136,26 @@ front-some [] limit h =
     cc
 front-some (o ∷ rest) limit h = omega arith
 
-pub misread-ends : (at place : ℕ) (t : Talk) → is_open t ≡ true → has_ended (misread place (present_at at t)) ≡ true
-misread-ends at place t opened =
-    ap has_ended (if-true (is_open (present_at at t)) (fail (Unbuilt place) (present_at at t)) (present_at at t)
-    (present-keeps is_open at t (λ n. refl) ∙ opened))
+misread-over-by : (i : Input) (why : Misread) (t : Talk) → (has_ended (misread_by i why t) || drops_input (misread_by i why t)) ≡ true
+misread-over-by Acting why t = refl
+misread-over-by Closed why t = or-true (has_ended (misread_by Closed why t))
+misread-over-by Dropped why t = or-true (has_ended (misread_by Dropped why t))
 
-misread-worth : (at : ℕ) (e : Engine) → is_open e.talk ≡ true → 1 ≤ length e.unread
-    → worth (settle (rule_at at (misread e.place) e)) + 2 ≤ worth e
-misread-worth at e opened some =
-    let gone : (settle (rule_at at (misread e.place) e)).unread ≡ [] =
-    ap (λ (x : Engine). x.unread) (if-true (has_ended (misread e.place (present_at at e.talk)))
-    (record (rule_at at (misread e.place) e) { unread = []; place = 0 }) (rule_at at (misread e.place) e) (misread-ends at e.place e.talk opened)) in
+-- after what is no frame nothing more is read
+misread-over : (at : ℕ) (why : Misread) (t : Talk) → is_open t ≡ true
+    → (has_ended (misread why (present_at at t)) || drops_input (misread why (present_at at t))) ≡ true
+misread-over at why t opened =
+    let x = present_at at t in
+    let same : misread why x ≡ misread_by x.input why x =
+    if-true (is_open x) (misread_by x.input why x) x (present-keeps is_open at t (λ n. refl) ∙ opened) in
+    ap (λ (y : Talk). has_ended y || drops_input y) same ∙ misread-over-by x.input why x
+
+misread-worth : (at : ℕ) (why : Misread) (e : Engine) → is_open e.talk ≡ true → 1 ≤ length e.unread
+    → worth (read_badly at why e) + 2 ≤ worth e
+misread-worth at why e opened some =
+    let x : Engine = rule_at at (misread why) e in
+    let gone : (read_badly at why e).unread ≡ [] =
+    settle-unread x ∙ if-true (has_ended x.talk || drops_input x.talk) [] x.unread (misread-over at why e.talk opened) in
     omega (arith, ap length gone)
 
 whole-worth : (b : Bool) (bytes : List ℕ) (n : ℕ) → 8 ≤ n → 1 ≤ length bytes
@@ -148,21 +163,18 @@ whole-worth : (b : Bool) (bytes : List ℕ) (n : ℕ) → 8 ≤ n → 1 ≤ leng
 whole-worth true bytes n size some = omega arith
 whole-worth false bytes n size some = omega (arith, length-drop n bytes)
 
-settle-unread : (b : Bool) (e : Engine) → (if b then record e { unread = []; place = 0 } else e).unread ≡ (if b then [] else e.unread)
-settle-unread true e = refl
-settle-unread false e = refl
-
 row-worth : (at : ℕ) (r : Read) (e : Engine) → front_of e ≡ r → not (is_more r) ≡ true → is_open e.talk ≡ true → 1 ≤ length e.unread
     → worth (read_row at r e) + 2 ≤ worth e
 row-worth at (Whole f n) e is some opened bytes =
     let x : Engine = record e { talk = on_frame f e.place (present_at at e.talk); unread = drop n e.unread; place = at_most_64 (e.place + n) } in
-    let after : (settle x).unread ≡ (if has_ended x.talk then [] else drop n e.unread) = settle-unread (has_ended x.talk) x in
-    rw after (whole-worth (has_ended x.talk) e.unread n (front-size e.unread (frame_limit e.talk.configuration) f n is) bytes)
+    let over : Bool = has_ended x.talk || drops_input x.talk in
+    let after : (settle x).unread ≡ (if over then [] else drop n e.unread) = settle-unread x in
+    rw after (whole-worth over e.unread n (front-size e.unread (frame_limit e.talk.configuration) f n is) bytes)
 row-worth at More e is some opened bytes = cc
-row-worth at (TooLarge n) e is some opened bytes = misread-worth at e opened bytes
-row-worth at (BadHeartbeat n) e is some opened bytes = misread-worth at e opened bytes
-row-worth at Bad e is some opened bytes = misread-worth at e opened bytes
-row-worth at NoMemory e is some opened bytes = misread-worth at e opened bytes
+row-worth at (TooLarge n) e is some opened bytes = misread-worth at (why.TooLarge n) e opened bytes
+row-worth at (BadHeartbeat n) e is some opened bytes = misread-worth at (why.BadHeartbeat n) e opened bytes
+row-worth at Bad e is some opened bytes = misread-worth at (why.Bad e.place) e opened bytes
+row-worth at NoMemory e is some opened bytes = misread-worth at (why.Bad e.place) e opened bytes
 
 pub read_one-worth : (at : ℕ) (e : Engine) → can_read e ≡ true → worth (read_one at e) + 2 ≤ worth e
 read_one-worth at e can =
@@ -171,16 +183,13 @@ read_one-worth at e can =
     (front-some e.unread (frame_limit e.talk.configuration) some)
 
 -- reading starves nobody
-settle-starved : (e : Engine) → (settle e).starved ≡ e.starved
-settle-starved e = if_case (λ (x : Engine). x.starved ≡ e.starved) (has_ended e.talk) (record e { unread = []; place = 0 }) e refl refl
-
 row-starved : (at : ℕ) (r : Read) (e : Engine) → (read_row at r e).starved ≡ e.starved
 row-starved at (Whole f n) e = settle-starved _
 row-starved at More e = refl
-row-starved at (TooLarge n) e = settle-starved (rule_at at (misread e.place) e)
-row-starved at (BadHeartbeat n) e = settle-starved (rule_at at (misread e.place) e)
-row-starved at Bad e = settle-starved (rule_at at (misread e.place) e)
-row-starved at NoMemory e = settle-starved (rule_at at (misread e.place) e)
+row-starved at (TooLarge n) e = settle-starved _
+row-starved at (BadHeartbeat n) e = settle-starved _
+row-starved at Bad e = settle-starved _
+row-starved at NoMemory e = settle-starved _
 
 pub read_one-starved : (at : ℕ) (e : Engine) → (read_one at e).starved ≡ e.starved
 read_one-starved at e = row-starved at (front_of e) e

@@ -51,10 +51,6 @@ has_failed (w ∷ ws) = is_failed w || has_failed ws
 abbrev pub IsCause : IoFault → Turn → Engine → Type 0
 IsCause fault u e = (brought u.step (asks e).talk ≡ Some fault) ⊎ ((fault ≡ BrokenPipe) × IsTrue (has_failed u.notes.answers))
 
--- the same, where it is known that the port failed when a write did
-abbrev pub IsCaused : IoFault → Step → Talk → Type 0 → Type 0
-IsCaused fault step t Failed = (brought step t ≡ Some fault) ⊎ ((fault ≡ BrokenPipe) × Failed)
-
 -- some turns lead from here to there and are told, and the last of them brings about this fault
 pub record Faults (fault : IoFault) (e e' : Engine) (log log' : Option Log) : Type 0 where
   pub us : List Turn

@@ -106,8 +106,8 @@ read_row at (reading.Whole f n) e =
     })
 read_row at (reading.TooLarge size) e = read_badly at (TooLarge size) e
 read_row at (reading.BadHeartbeat channel) e = read_badly at (BadHeartbeat channel) e
-read_row at reading.Bad e = read_badly at (Bad e.place) e
-read_row at _ e = e
+read_row at reading.More e = e
+read_row at _ e = read_badly at (Bad e.place) e
 
 abbrev pub read_one : ℕ → Engine → Engine
 read_one at e = read_row at (front_of e) e

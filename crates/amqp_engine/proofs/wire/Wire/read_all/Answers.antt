@@ -1,5 +1,5 @@
 use Rattle.std.proofs.Common.{◌≡◌, ◌∙◌, ◌+◌, ◌-◌, ◌≤◌, suc, length, Bool, true, false, if◌then◌else◌, Some, ap, sym, arith, rules}
-use Rattle.amqp_session.specs.Rules.{starve}
+use Rattle.amqp_session.specs.Changes.{starve}
 use Rattle.amqp_engine.specs.Engine.{Engine, can_read, read_one, rule_at}
 use Rattle.amqp_engine.specs.Turn.{Progress, reads, reading}
 use Rattle.amqp_engine.specs.Making.{making}
