@@ -1,15 +1,18 @@
 -- A turn from its step on, out of the contracts of its parts.
-use Rattle.std.proofs.Common.{◌≡◌, ℕ, if◌then◌else◌, Bool, true, false, List, [], Option, Some, refl, ap, sym, ◌∙◌, subst}
-use Rattle.amqp_session.specs.Talk.{Talk}
-use Rattle.amqp_session.specs.Changes.{starve}
+use Rattle.std.proofs.Common.{◌≡◌, ℕ, if◌then◌else◌, Bool, true, false, List, [], ◌++◌, Option, Some, refl, ap, sym, ◌∙◌, subst}
+use Rattle.amqp_session.specs.Talk.{Talk, is_asked, is_open}
+use Rattle.amqp_session.specs.Changes.{present_at, starve}
+use Rattle.amqp_session.specs.Links.{linked, piece}
 use Rattle.amqp_engine.specs.declared.port.Step.{Step}
+use Rattle.amqp_engine.specs.declared.port.Step.TheVariants.{Linked, LinkFailed, Piece, End, Fault, Room, Tick, Command}
 use Rattle.amqp_engine.specs.declared.port.Wrote.{Wrote}
 use Rattle.amqp_engine.specs.Log.{Log}
-use Rattle.amqp_engine.specs.Engine.{Engine, step_engine, starve_at, rule_at}
+use Rattle.amqp_engine.specs.Engine.{Engine, step_engine, settle, starve_at, rule_at}
 use Rattle.amqp_engine.specs.Turn.{Progress, begun, goes, reading, is_part, is_piece, step_part, part, read, drain, AreAnswers, IsCut, starved_after}
 use Rattle.amqp_engine.specs.Making.{making, parts_of, Allows, Writes}
 use Rattle.amqp_engine.specs.Tell.{Applies, TellsOffers, offers_from, turn_of}
-use Rattle.amqp_engine.proofs.Cases.{if-true, if-false, is_before-Allows}
+use Rattle.amqp_engine.proofs.Cases.{if_case, if-true, if-false, is_before-Allows}
+use Rattle.amqp_engine.proofs.Settling.{settle-starved}
 use Rattle.amqp_engine.proofs.Keeping.{starve-twice}
 use Rattle.amqp_engine.proofs.Reading.{reads-cut}
 
@@ -72,3 +75,18 @@ applies-of at step bytes e e' log log' ws cut p p' hr hw hc ha ht =
       leaves = ap (λ (x : Progress). starved_after cut at x.engine) leads ∙ ha;
       tells = subst R (sym hr) ht;
     }
+
+-- a step starves nobody
+pub step-starved : (at : ℕ) (step : Step) (bytes : List ℕ) (e : Engine) → (step_engine at step bytes e).starved ≡ e.starved
+step-starved at Linked bytes e =
+    if_case (λ (x : Engine). x.starved ≡ e.starved) (is_asked e.talk)
+    (record { talk = linked (present_at at e.talk); unread = []; place = 0; unsent = []; starved = e.starved }) (rule_at at (λ t. t) e) refl refl
+step-starved at LinkFailed bytes e = settle-starved _
+step-starved at (Piece n) bytes e =
+    if_case (λ (x : Engine). x.starved ≡ e.starved) (is_open e.talk)
+    (settle (record e { talk = piece (present_at at e.talk); unread = e.unread ++ bytes })) (rule_at at (λ t. t) e) (settle-starved _) refl
+step-starved at End bytes e = settle-starved _
+step-starved at Fault bytes e = settle-starved _
+step-starved at Room bytes e = refl
+step-starved at Tick bytes e = refl
+step-starved at (Command c) bytes e = refl

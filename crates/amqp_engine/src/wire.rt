@@ -386,7 +386,8 @@ impl Wire {
 
     // A write was answered.
     fn wrote(&mut self, at: u64, answer: Wrote)
-        requires { taken_by answer ≤ length self.old.unsent }
+        requires open { IsTrue (is_open self.old.talk) }
+        requires within { taken_by answer ≤ length self.old.unsent }
         ensures { self.new ≡ wrote at answer self.old }
     {
         match answer {

@@ -1,9 +1,9 @@
 use Rattle.std.proofs.Common.{◌≡◌, ◌∙◌, [], Some, None, ap, sym, refl, arith}
-use Rattle.amqp_engine.specs.Engine.{starve_at}
+use Rattle.amqp_engine.specs.Engine.{Engine, starve_at}
 use Rattle.amqp_engine.specs.Turn.{is_part}
 use Rattle.amqp_engine.specs.Making.{making}
 use Rattle.amqp_engine.proofs.Offers.{writes-cut}
-use Rattle.amqp_engine.proofs.Applying.{starve_at-twice, read-is, read-none, applies-of}
+use Rattle.amqp_engine.proofs.Applying.{starve_at-twice, read-is, read-none, applies-of, step-starved}
 use Rattle.amqp_engine.proofs.Telling.{tells-none}
 use Rattle.amqp_engine.proofs.Cases.{is_before-cut}
 use Rattle.amqp_engine.proofs.wire.Wire.apply.Goals as goal
@@ -60,3 +60,8 @@ returns-clause-turn g c =
     (read-is at None f.ok.0 c.args.told.step c.args.bytes.now c.is_piece-piece.result (is_part c.args.told.step e) e c.take_step.new.self c.read_all.new.self c.in-Ok.parts n
     c.is_piece-piece.ensures refl c.in-Ok.ensures.parts c.in-Ok.ensures.ok tt (c.in_default-read_all.ensures.ok None tt))
     (f.ok.1 None tt) tt refl f.ok.2
+
+pub returns-clause-starved : goal.returns-clause-starved
+returns-clause-starved g c =
+    c.in_default-write_all.ensures.starved ∙ c.in_default-read_all.ensures.starved ∙ ap (λ (x : Engine). x.starved) c.in-Ok.ensures.ok
+    ∙ step-starved c.args.told.at c.args.told.step c.args.bytes.now c.args.self.now

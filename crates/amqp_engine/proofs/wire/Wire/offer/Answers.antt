@@ -1,10 +1,8 @@
 use Rattle.std.proofs.Common.{◌≡◌, ◌∙◌, true, length, ap, sym, refl, arith}
-use Rattle.amqp_session.specs.Talk.{Talk, is_open}
-use Rattle.amqp_session.specs.Writing.{left_in}
+use Rattle.amqp_session.specs.Talk.{is_open}
 use Rattle.amqp_engine.specs.Engine.{Engine, commit_all}
 use Rattle.amqp_engine.proofs.Cases.{none-unsent}
 use Rattle.amqp_engine.proofs.Commits.{commits-none, commits-keep}
-use Rattle.amqp_engine.proofs.Keeping.{counted-taken}
 use Rattle.amqp_engine.proofs.wire.Wire.offer.Goals as goal
 
 pub returns-then-offered-eq0-clause-none : goal.returns-then-offered-eq0-clause-none
@@ -16,13 +14,8 @@ returns-then-offered-eq0-clause-none g c =
     let none : length (commit_all e).unsent ≡ 0 = sym after ∙ empty in
     (none-unsent (is_open e.talk) (length (commit_all e).unsent) none, c.commit_all.ensures ∙ commits-none (length e.talk.control) e none, refl)
 
-pub invariant_of-self : goal.invariant_of-self
-invariant_of-self g c =
+pub wrote-requires-clause-open : goal.wrote-requires-clause-open
+wrote-requires-clause-open g c =
     let e = c.args.self.now in
-    let inside = c.self-2.inside in
     let before : is_open e.talk ≡ true = ap (λ (x : Engine). is_open x.talk) (sym c.self.view_is) ∙ sym c.is_open.ensures ∙ c.if-not-is_open.false in
-    let opened : is_open inside.session ≡ true =
-    ap (λ (x : Engine). is_open x.talk) (c.self-2.view_is ∙ c.commit_all.ensures)
-    ∙ commits-keep (λ (x : Engine). is_open x.talk) (λ x fs ms bytes. refl) (length e.talk.control) e ∙ before in
-    let counted = counted-taken c.args.at c.taken-taken.result inside.session inside.unsent opened c.self-2.invariant in
-    omega (arith, counted, ap length c.consume.ensures, ap (λ (t : Talk). left_in t.committed) c.taken.ensures)
+    ?
