@@ -1,5 +1,5 @@
 -- What the rules of the session leave as it is.
-use Rattle.std.proofs.Common.{◌≡◌, ◌⊎◌, inl, inr, ℕ, zero, suc, ◌+◌, ◌-◌, ◌==◌, ◌&&◌, not, nat_le, nat_lt, max, Bool, true, false, if◌then◌else◌, List, [], ◌∷◌, length, drop, length-drop, Option, Some, None, Result, Ok, Err, is_some, refl, ap, sym, ◌∙◌, arith}
+use Rattle.std.proofs.Common.{◌≡◌, ◌⊎◌, inl, inr, ℕ, zero, suc, ◌+◌, ◌-◌, ◌==◌, ◌&&◌, not, nat_le, nat_lt, max, Bool, true, false, if◌then◌else◌, List, [], ◌∷◌, length, drop, length-drop, Option, Some, None, Result, is_some, refl, ap, sym, ◌∙◌, arith}
 use Rattle.std.proofs.lemmas.List.Sums.{sum_by-cons}
 use Rattle.std.proofs.lemmas.Bool.Decides.{nat_tests}
 use Rattle.amqp_frame.specs.declared.frame.Frame.{Frame}
@@ -23,7 +23,6 @@ use Rattle.amqp_session.specs.declared.state.Link.{Link}
 use Rattle.amqp_session.specs.declared.state.Input.{Input}
 use Rattle.amqp_session.specs.declared.state.Input.TheVariants.{Acting, Closed, Dropped}
 use Rattle.amqp_session.specs.declared.io_fault.IoFault.{IoFault}
-use Rattle.amqp_session.specs.declared.io_fault.IoFault.TheVariants.{Refused, BrokenPipe}
 use Rattle.amqp_session.specs.declared.server_close.ServerClose.{ServerClose}
 use Rattle.amqp_session.specs.declared.server_close.ServerClose.TheVariants.{WithoutError, WithError}
 use Rattle.amqp_session.specs.declared.misread.Misread.{Misread}
@@ -39,14 +38,14 @@ use Rattle.amqp_session.specs.declared.lanes.Reply.TheVariants.{ChannelOpened, C
 use Rattle.amqp_session.specs.declared.command.Answer.{Answer as AnyAnswer}
 use Rattle.amqp_session.specs.declared.misread.Misread.TheVariants.{TooLarge, BadHeartbeat, Bad}
 use Rattle.amqp_session.specs.Talk.{Talk, has_ended, is_open, end_of_link}
-use Rattle.amqp_session.specs.Changes.{present_at, refuse, promise, queue_item, next_promise, give, give_to, fail, lose, close, finish, finish_by, starve}
-use Rattle.amqp_session.specs.Links.{link_failed, lost, lost_by, misread, misread_by}
+use Rattle.amqp_session.specs.Changes.{present_at, refuse, promise, queue_item, next_promise, give_to, fail, lose, close, finish_by, starve}
+use Rattle.amqp_session.specs.Links.{lost, lost_by, misread, misread_by}
 use Rattle.amqp_session.specs.Violations.{misread_error}
 use Rattle.amqp_session.specs.Connections.{connection_row, on_connection_close_ok, promise_of}
 use Rattle.amqp_session.specs.Channels.{unawaited_channel_method, channel_opened, channel_closed, channel_row, listed_channel_method, channel_method, hand_out, confirmed, is_select_ok, pass_through, unlisted, raw_on, channel_at}
 use Rattle.amqp_session.specs.Outgoing.{first_awaited, without_first}
-use Rattle.amqp_session.specs.Frames.{misplaced_in, misplaced, is_unbuilt, is_of_a_channel, method_on_0, method_on, built_method, frame_row, frame_by, on_frame}
-use Rattle.amqp_session.specs.Commands.{open_drawn, in_state, on_channel, on_open_channel, method_frame, send, command, command_row, named}
+use Rattle.amqp_session.specs.Frames.{misplaced_in, misplaced, is_unbuilt, is_of_a_channel, built_method, frame_row, frame_by, on_frame}
+use Rattle.amqp_session.specs.Commands.{open_drawn, in_state, on_channel, method_frame, send, command, command_row, named}
 use Rattle.amqp_session.specs.Writing.{left_in, follow, sent, sent_among, taken}
 use Rattle.amqp_engine.specs.Causes.{fault_in, fault_of}
 use Rattle.amqp_engine.proofs.Cases.{if_case, if-true, if-false, if-both, and-true, and-false}

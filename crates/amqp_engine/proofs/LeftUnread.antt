@@ -5,7 +5,6 @@ use Rattle.amqp_frame.specs.declared.frame.Read.TheVariants.{Whole, More, TooLar
 use Rattle.amqp_frame.specs.FrameReading.{front}
 use Rattle.amqp_session.specs.declared.state.Link.{Link}
 use Rattle.amqp_session.specs.declared.state.Link.TheVariants.{Wanted, Asked, Open, Ended}
-use Rattle.amqp_session.specs.declared.io_fault.IoFault.{IoFault}
 use Rattle.amqp_session.specs.declared.io_fault.IoFault.TheVariants.{Aborted, Reset, BrokenPipe}
 use Rattle.amqp_session.specs.declared.command.Answer.{Answer}
 use Rattle.amqp_session.specs.declared.error.ErrorKind.{ErrorKind}
@@ -27,7 +26,7 @@ use Rattle.amqp_engine.specs.Log.{Log}
 use Rattle.amqp_engine.specs.Tell.{Applies, Turns, turn_of}
 use Rattle.amqp_engine.specs.Unread.{IsRead}
 use Rattle.amqp_engine.proofs.Cases.{if_case, if-true, if-false, and-false, and-right}
-use Rattle.amqp_engine.proofs.Keeping.{Overlooks, present-keeps, stays-command, taken-keeps, taken-link, lost-stays, starve-ends}
+use Rattle.amqp_engine.proofs.Keeping.{present-keeps, stays-command, taken-keeps, taken-link, lost-stays, starve-ends}
 use Rattle.amqp_engine.proofs.Commits.{commits-keep}
 use Rattle.amqp_engine.proofs.Reading.{read_one-worth, front-none}
 

@@ -8,23 +8,31 @@ use Rattle.amqp_session.specs.declared.state.Link.{Link}
 use Rattle.amqp_session.specs.declared.state.Link.TheVariants.{Wanted, Asked, Open, Ended}
 use Rattle.amqp_session.specs.declared.command.Cmd.{Cmd}
 use Rattle.amqp_session.specs.Talk.{Talk, is_open, is_open_link, is_asked, is_asked_link, is_wanted_link, has_ended, end_of_link}
-use Rattle.amqp_session.specs.Rules.{present_at, asked, asked_link, linked, piece, command, on_frame, misread}
+use Rattle.amqp_session.specs.declared.error.ErrorKind.TheVariants.{IOError}
+use Rattle.amqp_session.specs.declared.io_fault.IoFault.{IoFault}
+use Rattle.amqp_session.specs.declared.io_fault.IoFault.TheVariants.{Aborted, Refused, Reset, BrokenPipe}
+use Rattle.amqp_session.specs.declared.misread.Misread.{Misread}
+use Rattle.amqp_session.specs.declared.misread.Misread.TheVariants as misreads
+use Rattle.amqp_session.specs.Changes.{present_at, fail}
+use Rattle.amqp_session.specs.Links.{asked, asked_link, linked, link_failed, piece, misread, lost}
+use Rattle.amqp_session.specs.Commands.{command}
+use Rattle.amqp_session.specs.Writing.{taken}
 use Rattle.amqp_engine.specs.declared.port.Step.{Step}
-use Rattle.amqp_engine.specs.declared.port.Step.TheVariants.{Linked, Piece, Room, Tick, Command}
+use Rattle.amqp_engine.specs.declared.port.Step.TheVariants.{Linked, LinkFailed, Piece, End, Fault, Room, Tick, Command}
 use Rattle.amqp_engine.specs.declared.port.Wrote.{Wrote}
-use Rattle.amqp_engine.specs.declared.port.Wrote.TheVariants.{Took, NoMemory}
+use Rattle.amqp_engine.specs.declared.port.Wrote.TheVariants.{Took, Failed, NoMemory}
 use Rattle.amqp_engine.specs.declared.port.Happening.{Happening}
 use Rattle.amqp_engine.specs.declared.given.Given.{Given}
 use Rattle.amqp_engine.specs.Plan.{Plan, next_happening, happening_next, is_none_left}
 use Rattle.amqp_engine.specs.Log.{Log, on_last, log_ask, log_step, log_write, links_after, asked_after, is_played, PlansStep, IsWithin}
-use Rattle.amqp_engine.specs.Engine.{Engine, begin, with_talk, rule_at, step_engine, step_linked, step_piece, front_of, is_more, can_read, read_one, read_row, settle, can_write, taken_by, commits, starve_at}
+use Rattle.amqp_engine.specs.Engine.{Engine, begin, with_talk, rule_at, step_engine, step_linked, step_piece, front_of, can_read, read_one, read_badly, read_row, settle, can_write, took, wrote, taken_by, commit_all, starve_at}
 use Rattle.amqp_engine.specs.Turn.{Turn, Progress, asks, wants_ask, begun, goes, part, is_part, is_piece, step_part, reads, read_part, drain, offer_part, offered, answered, is_all, AreAnswers, read, written, turn, turns, starved_after, IsTurn, AreTurns}
 use Rattle.amqp_engine.specs.Tell.{Offer, offers_from, offers_of, log_asks, log_stepped, log_offers, log_turn, log_turns, PlaysTurn, PlaysTurns}
 use Rattle.amqp_engine.specs.Sending.{Sending, nothing_sent, link_bytes, offer_sending, offers_sending, step_sending, turn_sending, sendings_from, sendings, SendsInOrder}
 use Rattle.amqp_engine.proofs.Cases.{if_case, if-true, if-false, and-left, and-right}
-use Rattle.amqp_engine.proofs.Keeping.{Keeps, keeps-frame, keeps-misread, present-keeps, command-keeps, taken-keeps, starve-ends}
+use Rattle.amqp_engine.proofs.Keeping.{Keeps, keeps-frame, keeps-misread, LinkKept, link-then, present-keeps, stays-command, taken-link, lost-keeps, lost-link, starve-ends}
+use Rattle.amqp_engine.proofs.Settling.{settle-talk, settle-unsent}
 use Rattle.amqp_engine.proofs.Commits.{commits-keep}
-use Rattle.amqp_engine.proofs.Reading.{reads-rest}
 use Rattle.amqp_engine.proofs.Sent.{on_last-append}
 use Rattle.amqp_engine.proofs.Agreeing.{Agrees, agrees-none, agrees-order, agrees-same, agrees-offer, offer-bytes}
 
@@ -55,6 +63,19 @@ asked-not-open Open h k = cc
 asked-not-open Wanted h k = cc
 asked-not-open Asked h k = cc
 asked-not-open (Ended r) h k = cc
+
+-- the link stays, or the session ended; so no link is opened
+kept-open : (t t' : Talk) → LinkKept t t' → is_open t' ≡ true → is_open t ≡ true
+kept-open t t' (inl same) now = ap is_open_link (sym same) ∙ now
+kept-open t t' (inr ended) now = absurd (open-not-ended t'.link now ended)
+
+kept-present : (at : ℕ) (t : Talk) → LinkKept t (present_at at t)
+kept-present at t = inl (present-keeps (λ y. y.link) at t (λ n. refl))
+
+kept-settle : (t : Talk) (e : Engine) → LinkKept t e.talk → LinkKept t (settle e).talk
+kept-settle t e k =
+    let P : Talk → Type 0 = λ y. LinkKept t y in
+    subst P (sym (settle-talk e)) k
 
 asked-open : (l : Link) → is_open_link (asked_link l) ≡ is_open_link l
 asked-open Wanted = refl
@@ -141,25 +162,56 @@ piece-link t = if_case (λ (x : Talk). x.link ≡ t.link) (is_open t) (record t 
 piece-committed : (t : Talk) → (piece t).committed ≡ t.committed
 piece-committed t = if_case (λ (x : Talk). x.committed ≡ t.committed) (is_open t) (record t { last_read = t.present }) t refl refl
 
+sends-settle : (e : Engine) (ss : List Sending) → Sends e ss → Sends (settle e) ss
+sends-settle e ss h =
+    sends-same e (settle e) ss (λ now. sym (ap is_open (settle-talk e)) ∙ now) (ap (λ (t : Talk). t.committed) (settle-talk e)) (settle-unsent e) h
+
+-- a rule that commits nothing and opens no link
+sends-rule : (at : ℕ) (f : Talk → Talk) (e : Engine) (ss : List Sending) → LinkKept (present_at at e.talk) (f (present_at at e.talk))
+    → (f (present_at at e.talk)).committed ≡ (present_at at e.talk).committed → Sends e ss → Sends (rule_at at f e) ss
+sends-rule at f e ss k hm h =
+    let t = present_at at e.talk in
+    sends-same e (rule_at at f e) ss (kept-open e.talk (f t) (link-then e.talk t (f t) (kept-present at e.talk) k))
+    (hm ∙ present-keeps (λ y. y.committed) at e.talk (λ n. refl)) refl h
+
 sends-piece : (at : ℕ) (bytes : List ℕ) (e : Engine) (ss : List Sending) → Sends e ss → Sends (step_piece at bytes e) ss
 sends-piece at bytes e ss h =
     let t = present_at at e.talk in
     let x : Engine = record e { talk = piece t; unread = e.unread ++ bytes } in
-    if_case (λ (y : Engine). Sends y ss) (is_open e.talk) x (rule_at at (λ t. t) e)
+    if_case (λ (y : Engine). Sends y ss) (is_open e.talk) (settle x) (rule_at at (λ t. t) e)
+    (sends-settle x ss
     (sends-same e x ss (λ now. sym (ap is_open_link (piece-link t) ∙ present-keeps is_open at e.talk (λ n. refl)) ∙ now)
-    (piece-committed t ∙ present-keeps (λ y. y.committed) at e.talk (λ n. refl)) refl h)
+    (piece-committed t ∙ present-keeps (λ y. y.committed) at e.talk (λ n. refl)) refl h))
     (sends-moment at e ss h)
 
 sends-command : (at : ℕ) (c : Cmd) (e : Engine) (ss : List Sending) → Sends e ss → Sends (rule_at at (command c) e) ss
 sends-command at c e ss h =
+    let k = stays-command c (present_at at e.talk) in
+    sends-rule at (command c) e ss (inl k.link) k.committed h
+
+failed-link : (t : Talk) → LinkKept t (link_failed t)
+failed-link t = if_case (LinkKept t) (is_asked t) (fail (IOError Refused) t) t (inr refl) (inl refl)
+
+failed-committed : (t : Talk) → (link_failed t).committed ≡ t.committed
+failed-committed t = if_case (λ (x : Talk). x.committed ≡ t.committed) (is_asked t) (fail (IOError Refused) t) t refl refl
+
+sends-failed : (at : ℕ) (e : Engine) (ss : List Sending) → Sends e ss → Sends (settle (rule_at at link_failed e)) ss
+sends-failed at e ss h =
     let t = present_at at e.talk in
-    sends-same e (rule_at at (command c) e) ss
-    (λ now. sym (command-keeps is_open c t (λ x l m k. ap is_open_link l) ∙ present-keeps is_open at e.talk (λ n. refl)) ∙ now)
-    (command-keeps (λ y. y.committed) c t (λ x l m k. m) ∙ present-keeps (λ y. y.committed) at e.talk (λ n. refl)) refl h
+    sends-settle (rule_at at link_failed e) ss (sends-rule at link_failed e ss (failed-link t) (failed-committed t) h)
+
+sends-lost : (at : ℕ) (fault : IoFault) (e : Engine) (ss : List Sending) → Sends e ss → Sends (settle (rule_at at (lost fault) e)) ss
+sends-lost at fault e ss h =
+    let t = present_at at e.talk in
+    sends-settle (rule_at at (lost fault) e) ss
+    (sends-rule at (lost fault) e ss (lost-link fault t) (lost-keeps (λ y. y.committed) (λ t s l cs x ps. refl) fault t) h)
 
 sends-step : (step : Step) (cut : Option ℕ) (at : ℕ) (bytes : List ℕ) (e : Engine) (ss : List Sending) → Sends e ss
     → Sends (step_part step bytes (begun at cut e)).engine (step_sending step e ss)
 sends-step Linked cut at bytes e ss h = sends-linked (is_asked e.talk) cut at bytes e ss refl h
+sends-step LinkFailed cut at bytes e ss h = sends-kept LinkFailed cut at bytes e ss h (sends-failed at e ss h)
+sends-step End cut at bytes e ss h = sends-kept End cut at bytes e ss h (sends-lost at Aborted e ss h)
+sends-step Fault cut at bytes e ss h = sends-kept Fault cut at bytes e ss h (sends-lost at Reset e ss h)
 sends-step (Piece n) cut at bytes e ss h = sends-kept (Piece n) cut at bytes e ss h (sends-piece at bytes e ss h)
 sends-step Room cut at bytes e ss h = sends-kept Room cut at bytes e ss h (sends-moment at e ss h)
 sends-step Tick cut at bytes e ss h = sends-kept Tick cut at bytes e ss h (sends-moment at e ss h)
@@ -169,39 +221,41 @@ sends-step (Command c) cut at bytes e ss h = sends-kept (Command c) cut at bytes
 
 -- what reading leaves of the link
 pub record Leaves (e e' : Engine) : Type 0 where
-  pub link : (e'.talk.link ≡ e.talk.link) ⊎ (has_ended e'.talk ≡ true)
+  pub link : LinkKept e.talk e'.talk
   pub committed : e'.talk.committed ≡ e.talk.committed
   pub unsent : e'.unsent ≡ e.unsent
 
-leaves-open : (e e' : Engine) → Leaves e e' → is_open e'.talk ≡ true → is_open e.talk ≡ true
-leaves-open e e' l now = elim l.link [ inl same ↦ ap is_open_link (sym same) ∙ now | inr ended ↦ absurd (open-not-ended e'.talk.link now ended) ]
-
 leaves-settle : (e x : Engine) → Leaves e x → Leaves e (settle x)
-leaves-settle e x l = if_case (λ (y : Engine). Leaves e y) (has_ended x.talk) (record x { unread = []; place = 0 }) x (record { link = l.link; committed = l.committed; unsent = l.unsent }) l
-
-leaves-rule : (at : ℕ) (e x : Engine) (t : Talk) → Keeps (present_at at e.talk) t → x.talk ≡ t → x.unsent ≡ e.unsent → Leaves e x
-leaves-rule at e x t k ht hu =
-    let link : (present_at at e.talk).link ≡ e.talk.link = present-keeps (λ y. y.link) at e.talk (λ n. refl) in
+leaves-settle e x l =
     record {
-      link = elim k.link [ inl same ↦ inl (ap (λ (y : Talk). y.link) ht ∙ same ∙ link) | inr ended ↦ inr (ap has_ended ht ∙ ended) ];
-      committed = ap (λ (y : Talk). y.committed) ht ∙ k.committed ∙ present-keeps (λ y. y.committed) at e.talk (λ n. refl);
+      link = kept-settle e.talk x l.link;
+      committed = ap (λ (t : Talk). t.committed) (settle-talk x) ∙ l.committed;
+      unsent = settle-unsent x ∙ l.unsent;
+    }
+
+leaves-rule : (at : ℕ) (e x : Engine) → Keeps (present_at at e.talk) x.talk → x.unsent ≡ e.unsent → Leaves e x
+leaves-rule at e x k hu =
+    record {
+      link = link-then e.talk (present_at at e.talk) x.talk (kept-present at e.talk) k.link;
+      committed = k.committed ∙ present-keeps (λ y. y.committed) at e.talk (λ n. refl);
       unsent = hu;
     }
 
-leaves-misread : (at : ℕ) (e : Engine) → Leaves e (settle (rule_at at (misread e.place) e))
-leaves-misread at e =
-    let t = present_at at e.talk in
-    leaves-settle e (rule_at at (misread e.place) e) (leaves-rule at e (rule_at at (misread e.place) e) (misread e.place t) (keeps-misread e.place t) refl refl)
+leaves-misread : (at : ℕ) (why : Misread) (e : Engine) → Leaves e (read_badly at why e)
+leaves-misread at why e =
+    let x = rule_at at (misread why) e in
+    leaves-settle e x (leaves-rule at e x (keeps-misread why (present_at at e.talk)) refl)
+
+leaves-none : (e : Engine) → Leaves e e
+leaves-none e = record { link = inl refl; committed = refl; unsent = refl }
 
 leaves-row : (at : ℕ) (r : Read) (e : Engine) → Leaves e (read_row at r e)
-leaves-row at (Whole f n) e =
-    let t = present_at at e.talk in
-    leaves-settle e _ (leaves-rule at e _ (on_frame f e.place t) (keeps-frame f e.place t) refl refl)
-leaves-row at More e = record { link = inl refl; committed = refl; unsent = refl }
-leaves-row at (TooLarge n) e = leaves-misread at e
-leaves-row at (BadHeartbeat c) e = leaves-misread at e
-leaves-row at Bad e = leaves-misread at e
-leaves-row at ReadNoMemory e = leaves-misread at e
+leaves-row at (Whole f n) e = leaves-settle e _ (leaves-rule at e _ (keeps-frame f e.place (present_at at e.talk)) refl)
+leaves-row at More e = leaves-none e
+leaves-row at (TooLarge n) e = leaves-misread at (misreads.TooLarge n) e
+leaves-row at (BadHeartbeat c) e = leaves-misread at (misreads.BadHeartbeat c) e
+leaves-row at Bad e = leaves-misread at (misreads.Bad e.place) e
+leaves-row at ReadNoMemory e = leaves-misread at (misreads.Bad e.place) e
 
 sends-reads : (n : ℕ) (p : Progress) (ss : List Sending) → Sends p.engine ss → Sends (reads n p).engine ss
 sends-reads zero p ss h = h
@@ -209,7 +263,7 @@ sends-reads (suc n) p ss h =
     let l = leaves-row p.at (front_of p.engine) p.engine in
     let x = read_one p.at p.engine in
     if_case (λ (y : Progress). Sends y.engine ss) (goes p && can_read p.engine) (reads n (read_part p)) p
-    (sends-reads n (read_part p) ss (sends-same p.engine x ss (leaves-open p.engine x l) l.committed l.unsent h)) h
+    (sends-reads n (read_part p) ss (sends-same p.engine x ss (kept-open p.engine.talk x.talk l.link) l.committed l.unsent h)) h
 
 sends-read : (u : Turn) (e : Engine) (ss : List Sending) → Sends e ss → Sends (read u e).engine (step_sending u.step e ss)
 sends-read u e ss h =
@@ -220,12 +274,24 @@ sends-read u e ss h =
 
 -- ---- writing
 
-answered-open : (at : ℕ) (w : Wrote) (e : Engine) → (answered at w e).talk.link ≡ e.talk.link
-answered-open at w e =
-    let n = length e.talk.control in
-    let x = commits n e in
-    taken-keeps (λ t. t.link) (taken_by w) (present_at at x.talk) (λ k ms. refl) ∙ present-keeps (λ t. t.link) at x.talk (λ k. refl)
-    ∙ commits-keep (λ (y : Engine). y.talk.link) (λ y fs ms bytes. refl) n e
+took-link : (at k : ℕ) (e : Engine) → LinkKept e.talk (took at k e).talk
+took-link at k e =
+    let t = present_at at e.talk in
+    kept-settle e.talk _ (link-then e.talk t (taken k t) (kept-present at e.talk) (taken-link k t))
+
+wrote-link : (at : ℕ) (w : Wrote) (e : Engine) → LinkKept e.talk (wrote at w e).talk
+wrote-link at (Took k) e = took-link at k e
+wrote-link at Failed e =
+    let t = present_at at e.talk in
+    kept-settle e.talk _ (link-then e.talk t (lost BrokenPipe t) (kept-present at e.talk) (lost-link BrokenPipe t))
+wrote-link at NoMemory e = took-link at 0 e
+
+-- an offer leaves the link as it was, unless the session ended
+answered-link : (at : ℕ) (w : Wrote) (e : Engine) → LinkKept e.talk (answered at w e).talk
+answered-link at w e =
+    let x = commit_all e in
+    link-then e.talk x.talk (answered at w e).talk (inl (commits-keep (λ (y : Engine). y.talk.link) (λ y fs ms bytes. refl) (length e.talk.control) e))
+    (wrote-link at w x)
 
 offer-last : (at : ℕ) (w : Wrote) (e : Engine) (ss : List Sending) (l : IsLast e ss) → on_last (offer_sending at w e) ss ≡ l.0 ++ offer_sending at w e l.1 ∷ []
 offer-last at w e ss l = ap (on_last (offer_sending at w e)) l.2 ∙ on_last-append (offer_sending at w e) l.0 l.1
@@ -321,6 +387,7 @@ told-offer w p ss a can fits h links =
         → ys ≡ xs ++ (x ++ take (taken_by w) (offered p.engine)) ∷ [] → (log_write (offered p.engine) w a).links ≡ ys
     written_as (Took k) xs x ys before goal =
         ap (on_last (λ link. link ++ take k (offered p.engine))) before ∙ on_last-append (λ link. link ++ take k (offered p.engine)) xs x ∙ sym goal
+    written_as Failed xs x ys before goal = before ∙ ap (λ y. xs ++ y ∷ []) (sym (append_nil x)) ∙ sym goal
     written_as NoMemory xs x ys before goal = before ∙ ap (λ y. xs ++ y ∷ []) (sym (append_nil x)) ∙ sym goal
 
 told-drain : (ws : List Wrote) (p : Progress) (ss : List Sending) (a : Log) → AreAnswers ws p → Sends p.engine ss → a.links ≡ map link_bytes ss
@@ -353,7 +420,10 @@ told-links Linked e ss a asked links = linked-links (is_asked e.talk) asked wher
   linked-links : (b : Bool) → a.asked ≡ b → (if a.asked then a.links ++ [] ∷ [] else a.links) ≡ map link_bytes (if b then ss ++ nothing_sent ∷ [] else ss)
   linked-links true h = if-true a.asked (a.links ++ [] ∷ []) a.links h ∙ ap (λ x. x ++ [] ∷ []) links ∙ sym (map-append link_bytes ss (nothing_sent ∷ []))
   linked-links false h = if-false a.asked (a.links ++ [] ∷ []) a.links h ∙ links
+told-links LinkFailed e ss a asked links = links
 told-links (Piece n) e ss a asked links = links
+told-links End e ss a asked links = links
+told-links Fault e ss a asked links = links
 told-links Room e ss a asked links = links
 told-links Tick e ss a asked links = links
 told-links (Command c) e ss a asked links = links
@@ -397,44 +467,76 @@ linked-asked true at e h =
 linked-asked false at e h =
     ap (λ (y : Engine). is_asked y.talk) (if-false (is_asked e.talk) _ (rule_at at (λ t. t) e) h) ∙ present-keeps is_asked at e.talk (λ n. refl) ∙ h
 
+-- a link that is asked for and refused is asked for no more
+failed-asked : (b : Bool) (t : Talk) → is_asked t ≡ b → is_asked (link_failed t) ≡ false
+failed-asked true t h = ap is_asked (if-true (is_asked t) (fail (IOError Refused) t) t h)
+failed-asked false t h = ap is_asked (if-false (is_asked t) (fail (IOError Refused) t) t h) ∙ h
+
+open-unasked : (l : Link) → is_open_link l ≡ true → is_asked_link l ≡ false
+open-unasked Open h = refl
+open-unasked Wanted h = cc
+open-unasked Asked h = cc
+open-unasked (Ended r) h = cc
+
+ended-unasked : (l : Link) → is_some (end_of_link l) ≡ true → is_asked_link l ≡ false
+ended-unasked Wanted h = cc
+ended-unasked Asked h = cc
+ended-unasked Open h = cc
+ended-unasked (Ended r) h = refl
+
+lost-asked : (b : Bool) (fault : IoFault) (t : Talk) → is_open t ≡ b → is_asked (lost fault t) ≡ is_asked t
+lost-asked true fault t h =
+    elim (lost-link fault t) [
+      | inl same ↦ ap is_asked_link same
+      | inr ended ↦ ended-unasked (lost fault t).link ended ∙ sym (open-unasked t.link h)
+    ]
+lost-asked false fault t h = ap is_asked (if-false (is_open t) _ t h)
+
+faulted-asked : (at : ℕ) (fault : IoFault) (e : Engine) → is_asked (settle (rule_at at (lost fault) e)).talk ≡ is_asked e.talk
+faulted-asked at fault e =
+    let t = present_at at e.talk in
+    ap is_asked (settle-talk (rule_at at (lost fault) e)) ∙ lost-asked (is_open t) fault t refl ∙ present-keeps is_asked at e.talk (λ n. refl)
+
 step-asked : (at : ℕ) (step : Step) (bytes : List ℕ) (e : Engine) → is_asked (step_engine at step bytes e).talk ≡ asked_after step (is_asked e.talk)
 step-asked at Linked bytes e = linked-asked (is_asked e.talk) at e refl
+step-asked at LinkFailed bytes e =
+    let t = present_at at e.talk in
+    ap is_asked (settle-talk (rule_at at link_failed e)) ∙ failed-asked (is_asked t) t refl
 step-asked at (Piece n) bytes e =
     let t = present_at at e.talk in
-    if_case (λ (x : Engine). is_asked x.talk ≡ is_asked e.talk) (is_open e.talk) (record e { talk = piece t; unread = e.unread ++ bytes }) (rule_at at (λ t. t) e)
-    (ap is_asked_link (piece-link t) ∙ present-keeps is_asked at e.talk (λ n. refl)) (present-keeps is_asked at e.talk (λ n. refl))
+    let x : Engine = record e { talk = piece t; unread = e.unread ++ bytes } in
+    if_case (λ (x : Engine). is_asked x.talk ≡ is_asked e.talk) (is_open e.talk) (settle x) (rule_at at (λ t. t) e)
+    (ap is_asked (settle-talk x) ∙ ap is_asked_link (piece-link t) ∙ present-keeps is_asked at e.talk (λ n. refl)) (present-keeps is_asked at e.talk (λ n. refl))
+step-asked at End bytes e = faulted-asked at Aborted e
+step-asked at Fault bytes e = faulted-asked at Reset e
 step-asked at Room bytes e = present-keeps is_asked at e.talk (λ n. refl)
 step-asked at Tick bytes e = present-keeps is_asked at e.talk (λ n. refl)
 step-asked at (Command c) bytes e =
-    command-keeps is_asked c (present_at at e.talk) (λ x l m k. ap is_asked_link l) ∙ present-keeps is_asked at e.talk (λ n. refl)
-
-ended-closed : (l : Link) → is_some (end_of_link l) ≡ true → is_open_link l ≡ false
-ended-closed Wanted h = cc
-ended-closed Asked h = cc
-ended-closed Open h = cc
-ended-closed (Ended r) h = refl
+    ap is_asked_link (stays-command c (present_at at e.talk)).link ∙ present-keeps is_asked at e.talk (λ n. refl)
 
 -- reading leaves the link as it was, unless the session ended
-reads-link : (n : ℕ) (p : Progress) → ((reads n p).engine.talk.link ≡ p.engine.talk.link) ⊎ (has_ended (reads n p).engine.talk ≡ true)
+reads-link : (n : ℕ) (p : Progress) → LinkKept p.engine.talk (reads n p).engine.talk
 reads-link zero p = inl refl
 reads-link (suc n) p =
-    if_case (λ (x : Progress). (x.engine.talk.link ≡ p.engine.talk.link) ⊎ (has_ended x.engine.talk ≡ true)) (goes p && can_read p.engine) (reads n (read_part p)) p
-    (elim (leaves-row p.at (front_of p.engine) p.engine).link [
-      | inl same ↦ elim (reads-link n (read_part p)) [ inl later ↦ inl (later ∙ same) | inr ended ↦ inr ended ]
-      | inr ended ↦ inr (ap (λ (x : Progress). has_ended x.engine.talk) (reads-rest n (read_part p)
-          (ap (λ (b : Bool). b && not (is_more (front_of (read_one p.at p.engine)))) (ended-closed (read_one p.at p.engine).talk.link ended))) ∙ ended)
-    ])
+    let e = p.engine in
+    let x = read_one p.at e in
+    if_case (λ (y : Progress). LinkKept e.talk y.engine.talk) (goes p && can_read e) (reads n (read_part p)) p
+    (link-then e.talk x.talk (reads n (read_part p)).engine.talk (leaves-row p.at (front_of e) e).link (reads-link n (read_part p)))
     (inl refl)
 
-drain-link : (ws : List Wrote) (p : Progress) → (drain ws p).engine.talk.link ≡ p.engine.talk.link
-drain-link [] p = refl
-drain-link (w ∷ ws) p = drain-link ws (offer_part w p) ∙ answered-open p.at w p.engine
+-- and so does writing
+drain-link : (ws : List Wrote) (p : Progress) → LinkKept p.engine.talk (drain ws p).engine.talk
+drain-link [] p = inl refl
+drain-link (w ∷ ws) p =
+    let q = offer_part w p in
+    link-then p.engine.talk q.engine.talk (drain ws q).engine.talk (answered-link p.at w p.engine) (drain-link ws q)
 
 offers-asked : (os : List Offer) (a : Log) → (log_offers os a).asked ≡ a.asked
 offers-asked [] a = refl
 offers-asked (o ∷ os) a = offers-asked os (log_write o.bytes o.answer a) ∙ write-asked o.bytes o.answer a where
   write-asked : (bytes : List ℕ) (w : Wrote) (a : Log) → (log_write bytes w a).asked ≡ a.asked
   write-asked bytes (Took k) a = refl
+  write-asked bytes Failed a = refl
   write-asked bytes NoMemory a = refl
 
 step_part-uncut : (b : Bool) (step : Step) (bytes : List ℕ) (at : ℕ) (e : Engine) → is_part step e ≡ b
@@ -442,16 +544,15 @@ step_part-uncut : (b : Bool) (step : Step) (bytes : List ℕ) (at : ℕ) (e : En
 step_part-uncut true step bytes at e h = rw h refl
 step_part-uncut false step bytes at e h = rw h refl
 
-read-link : (u : Turn) (e : Engine) → u.notes.starved ≡ None
-    → ((read u e).engine.talk.link ≡ (step_engine u.at u.step u.bytes e).talk.link) ⊎ (has_ended (read u e).engine.talk ≡ true)
+read-link : (u : Turn) (e : Engine) → u.notes.starved ≡ None → LinkKept (step_engine u.at u.step u.bytes e).talk (read u e).engine.talk
 read-link u e whole =
     let s = step_part u.step u.bytes (begun u.at u.notes.starved e) in
     let here : s.engine ≡ step_engine u.at u.step u.bytes e =
     ap (λ (x : Option ℕ). (step_part u.step u.bytes (begun u.at x e)).engine) whole ∙ step_part-uncut (is_part u.step e) u.step u.bytes u.at e refl in
-    let link : s.engine.talk.link ≡ (step_engine u.at u.step u.bytes e).talk.link = ap (λ (x : Engine). x.talk.link) here in
-    if_case (λ (x : Progress). (x.engine.talk.link ≡ (step_engine u.at u.step u.bytes e).talk.link) ⊎ (has_ended x.engine.talk ≡ true)) (is_piece u.step)
-    (reads (length s.engine.unread) s) s
-    (elim (reads-link (length s.engine.unread) s) [ inl same ↦ inl (same ∙ link) | inr ended ↦ inr ended ]) (inl link)
+    let P : Engine → Type 0 = λ x. LinkKept x.talk (read u e).engine.talk in
+    subst P here
+    (if_case (λ (x : Progress). LinkKept s.engine.talk x.engine.talk) (is_piece u.step) (reads (length s.engine.unread) s) s
+    (reads-link (length s.engine.unread) s) (inl refl))
 
 not-both : (b : Bool) → b ≡ true → b ≡ false → ⊥
 not-both true h k = cc
@@ -478,10 +579,10 @@ told-turn u e ss a may plays h synced links =
     offers-asked (offers_of u f) c ∙ step.1 ∙ ap (asked_after u.step) asked ∙ sym (step-asked u.at u.step u.bytes f) in (
       drained,
       synced-starved u.notes.starved u.at (written u f).engine (log_turn u e a) (λ whole running.
-          let link = drain-link u.notes.answers p in
-          elim (read-link u f whole) [
-            | inl same ↦ after ∙ sym (ap is_asked_link (link ∙ same))
-            | inr ended ↦ absurd (not-both (has_ended (written u f).engine.talk) (ap (λ l. is_some (end_of_link l)) link ∙ ended) running)
+          let last = (written u f).engine.talk in
+          elim (link-then (step_engine u.at u.step u.bytes f).talk p.engine.talk last (read-link u f whole) (drain-link u.notes.answers p)) [
+            | inl same ↦ after ∙ sym (ap is_asked_link same)
+            | inr ended ↦ absurd (not-both (has_ended last) ended running)
           ]),
     )
 

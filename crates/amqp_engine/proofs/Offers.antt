@@ -4,6 +4,7 @@ use Rattle.std.proofs.lemmas.Bool.Decides.{nat_tests}
 use Rattle.amqp_session.specs.declared.io_fault.IoFault.TheVariants.{BrokenPipe}
 use Rattle.amqp_session.specs.Talk.{Talk}
 use Rattle.amqp_session.specs.Changes.{present_at}
+use Rattle.amqp_session.specs.Writing.{taken}
 use Rattle.amqp_engine.specs.declared.port.Wrote.{Wrote}
 use Rattle.amqp_engine.specs.declared.port.Wrote.TheVariants.{Took, Failed, NoMemory}
 use Rattle.amqp_engine.specs.Log.{Log, log_write, IsWithin, PlansWrite}
@@ -39,7 +40,8 @@ waiting-wrote at (Took k) e some all =
     let same : k ≡ length (offered e) = grind (arith, nat_tests) in
     let control : length (answered at (Took k) e).talk.control ≡ length (commit_all e).talk.control =
     ap length (control-wrote at (Took k) (commit_all e)) in
-    let unsent : (answered at (Took k) e).unsent ≡ drop k (offered e) = settle-unsent _ in
+    let unsent : (answered at (Took k) e).unsent ≡ drop k (offered e) =
+    settle-unsent (record (commit_all e) { talk = taken k (present_at at (commit_all e).talk); unsent = drop k (offered e) }) in
     omega (arith, control, ap length unsent, length-drop k (offered e), waiting-commits (length e.talk.control) e)
 waiting-wrote at Failed e some all = cc
 waiting-wrote at NoMemory e some all = cc

@@ -4,15 +4,15 @@ use Rattle.amqp_session.specs.Talk.{has_ended, is_open}
 use Rattle.amqp_session.specs.Changes.{starve, present_at}
 use Rattle.amqp_engine.specs.declared.port.Step.{Step}
 use Rattle.amqp_engine.specs.declared.port.Wrote.{Wrote}
-use Rattle.amqp_engine.specs.declared.port.Wrote.TheVariants.{Took, NoMemory}
+use Rattle.amqp_engine.specs.declared.port.Wrote.TheVariants.{Took, Failed, NoMemory}
 use Rattle.amqp_engine.specs.declared.port.Happening.{Happening}
-use Rattle.amqp_engine.specs.Plan.{Plan, plan_write, plan_step, PlanAnswers, next_happening}
+use Rattle.amqp_engine.specs.Plan.{Plan, plan_write, plan_failure, plan_step, PlanAnswers, room_for, next_happening}
 use Rattle.amqp_engine.specs.Log.{Log, is_played, links_after, asked_after, log_ask, log_step, log_write}
 use Rattle.amqp_engine.specs.Engine.{Engine, can_write, can_read, commit_all, step_engine}
 use Rattle.amqp_engine.specs.Turn.{is_before, Progress, Turn, asks, wants_ask, goes, part, read_part, reads, step_part, is_part, is_piece, begun, offer_part, offered, answered, is_all, AreAnswers, CutsAfter, read, written, turn, turns, starved_after, IsTurn, AreTurns}
 use Rattle.amqp_engine.specs.Tell.{Offer, offers_from, offers_of, turn_of, log_asks, log_stepped, log_offers, log_turn, log_turns, PlaysOffers, PlaysTurn, PlaysTurns, Runs}
-use Rattle.amqp_engine.specs.Play.{waiting, room_of, played_answer, played_answers, played_happening, played_notes, played_turn_of, played_turn, played_turns, no_notes, IsPlayed}
-use Rattle.amqp_engine.proofs.Cases.{if_case, and-right, and-other, some-unsent}
+use Rattle.amqp_engine.specs.Play.{waiting, room_of, fails_of, played_answer, played_answers, played_happening, played_notes, played_turn_of, played_turn, played_turns, no_notes, IsPlayed}
+use Rattle.amqp_engine.proofs.Cases.{if_case, if-true, if-false, and-right, and-other, some-unsent}
 use Rattle.amqp_engine.proofs.Keeping.{starve-ends}
 use Rattle.amqp_engine.proofs.Commits.{waiting-commits}
 use Rattle.amqp_engine.proofs.Offers.{waiting-wrote}
@@ -24,6 +24,7 @@ planned-map f (Some p) = refl
 -- a plan stays
 planned-write : (bytes : List ℕ) (w : Wrote) (a : Log) → is_some (log_write bytes w a).plan ≡ is_some a.plan
 planned-write bytes (Took k) a = planned-map (plan_write k) a.plan
+planned-write bytes Failed a = planned-map plan_failure a.plan
 planned-write bytes NoMemory a = refl
 
 planned-step : (at : ℕ) (s : Step) (bytes : List ℕ) (a : Log) → is_some (log_step at s bytes a).plan ≡ is_some a.plan
@@ -75,11 +76,14 @@ due-waiting e h =
 -- what a port that plays a script may answer
 not-refused : (w : Wrote) (p : Progress) → p.cut ≡ None → CutsAfter w p → w ≡ NoMemory → ⊥
 not-refused (Took k) p cut cuts is = cc
+not-refused Failed p cut cuts is = cc
 not-refused NoMemory p cut cuts is = cc
 
-answer-plan : (w : Wrote) (p : Option Plan) (n : ℕ) → is_some p ≡ true → IfSome p (λ q. PlanAnswers q n w) → (w ≡ NoMemory → ⊥) → w ≡ Took (room_of p n)
+answer-plan : (w : Wrote) (p : Option Plan) (n : ℕ) → is_some p ≡ true → IfSome p (λ q. PlanAnswers q n w) → (w ≡ NoMemory → ⊥)
+    → w ≡ (if fails_of p then Failed else Took (room_of p n))
 answer-plan w None n planned plays other = cc
-answer-plan (Took k) (Some p) n planned plays other = ap Took plays
+answer-plan (Took k) (Some p) n planned plays other = ap Took plays.1 ∙ sym (if-false p.fails Failed (Took (room_for p.room n)) plays.0)
+answer-plan Failed (Some p) n planned plays other = sym (if-true p.fails Failed (Took (room_for p.room n)) plays)
 answer-plan NoMemory (Some p) n planned plays other = absurd (other refl)
 
 goes-on : (p : Progress) → p.cut ≡ None → goes p ≡ true

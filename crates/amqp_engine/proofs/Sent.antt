@@ -1,5 +1,5 @@
 -- The frames of a link, as their bytes are taken.
-use Rattle.std.proofs.Common.{◌≡◌, ◌≢◌, ◌≤◌, ◌<◌, ℕ, ◌+◌, ◌-◌, nat_le, Bool, true, false, List, [], ◌∷◌, ◌++◌, length, take, drop, map, Some, slice_get, slice_set, refl, ap, sym, ◌∙◌, arith, append_assoc, length-append}
+use Rattle.std.proofs.Common.{◌≡◌, ◌≢◌, ◌≤◌, ◌<◌, ℕ, ◌+◌, ◌-◌, nat_le, if◌then◌else◌, Bool, true, false, List, [], ◌∷◌, ◌++◌, length, take, drop, map, Some, slice_get, slice_set, refl, ap, sym, ◌∙◌, arith, append_assoc, length-append}
 use Rattle.std.proofs.lemmas.Grind.{common_steps}
 use Rattle.std.proofs.lemmas.Bool.Decides.{nat_tests}
 use Rattle.std.proofs.lemmas.List.{take-append-drop, drop-append-le, length-take-le, length-drop}
@@ -9,7 +9,7 @@ use Rattle.amqp_frame.specs.Frames.{encoding}
 use Rattle.amqp_session.specs.declared.committed.Mark.{Mark}
 use Rattle.amqp_engine.specs.Log.{last_set, on_last}
 use Rattle.amqp_engine.specs.Sending.{encodings, IsBegun}
-use Rattle.amqp_engine.proofs.Cases.{if-true, if-false}
+use Rattle.amqp_engine.proofs.Cases.{if-true, if-false, if-both}
 use Rattle.amqp_engine.proofs.Keeping.{left_after}
 use Rattle.amqp_engine.proofs.Commits.{encoding-some}
 
@@ -28,19 +28,34 @@ on_last-append f xs x =
 
 -- ---- the frames that wait, and what is left of them
 
-abbrev pub mark_of : Frame → Mark
-mark_of f = record { left = length (encoding f) }
+abbrev pub size_of : Frame → ℕ
+size_of f = length (encoding f)
 
--- the first one lacks the bytes that were taken
-abbrev pub marks_of : List ℕ → List Frame → List Mark
-marks_of last [] = []
-marks_of last (f ∷ fs) = record { left = length (encoding f) - length last } ∷ map mark_of fs
+-- how many bytes are left of each of these; the first one lacks the bytes that were taken
+abbrev pub lefts_of : List ℕ → List Frame → List ℕ
+lefts_of last [] = []
+lefts_of last (f ∷ fs) = (size_of f - length last) ∷ map size_of fs
 
-pub marks-none : (fs : List Frame) → marks_of [] fs ≡ map mark_of fs
-marks-none [] = refl
-marks-none (f ∷ fs) =
-    let same : length (encoding f) - 0 ≡ length (encoding f) = omega arith in
-    ap (λ (n : ℕ). record { left = n } ∷ map mark_of fs) same
+pub lefts-none : (fs : List Frame) → lefts_of [] fs ≡ map size_of fs
+lefts-none [] = refl
+lefts-none (f ∷ fs) =
+    let same : size_of f - 0 ≡ size_of f = omega arith in
+    ap (λ (n : ℕ). n ∷ map size_of fs) same
+
+-- how many bytes are left of each committed frame
+abbrev pub lefts : List Mark → List ℕ
+lefts ms = map (λ (m : Mark). m.left) ms
+
+-- and once so many were taken
+abbrev pub lefts_after : List ℕ → ℕ → List ℕ
+lefts_after [] n = []
+lefts_after (m ∷ ms) n = if nat_le m n then lefts_after ms (n - m) else (m - n) ∷ ms
+
+pub lefts-left_after : (ms : List Mark) (n : ℕ) → lefts (left_after ms n) ≡ lefts_after (lefts ms) n
+lefts-left_after [] n = refl
+lefts-left_after (m ∷ ms) n =
+    if-both lefts (nat_le m.left n) (left_after ms (n - m.left)) (record m { left = m.left - n } ∷ ms) (lefts_after (lefts ms) (n - m.left)) ((m.left - n) ∷ lefts ms)
+    (lefts-left_after ms (n - m.left)) refl
 
 some-list : (xs : List ℕ) → 0 < length xs → xs ≢ []
 some-list [] h is = absurd (omega arith)
@@ -51,13 +66,13 @@ begun-none [] = refl
 begun-none (f ∷ fs) = (encoding f, some-list (encoding f) (encoding-some f), refl)
 
 -- so many bytes more are taken: some frames are sent, and of the next one a part
-pub record Advances (last : List ℕ) (fs : List Frame) (bytes : List ℕ) (n : ℕ) (after : List Mark) : Type 0 where
+pub record Advances (last : List ℕ) (fs : List Frame) (bytes : List ℕ) (n : ℕ) (after : List ℕ) : Type 0 where
   pub sent : List Frame
   pub rest : List Frame
   pub part : List ℕ
   pub frames : fs ≡ sent ++ rest
   pub begun : IsBegun part rest
-  pub marks : after ≡ marks_of part rest
+  pub marks : after ≡ lefts_of part rest
   pub left : encodings rest ≡ part ++ drop n bytes
   pub count : length last + n ≡ length (encodings sent ++ part)
 
@@ -81,9 +96,9 @@ rest-is last rest bytes f fs he h =
 
 -- the first frame is sent, or a part more of it is taken
 advance-first : (b : Bool) (f : Frame) (fs : List Frame) (last bytes : List ℕ) (n : ℕ) (begun : IsBegun last (f ∷ fs)) → encodings (f ∷ fs) ≡ last ++ bytes → n ≤ length bytes
-    → ((k : ℕ) → k ≤ length (encodings fs) → Advances [] fs (encodings fs) k (left_after (marks_of [] fs) k))
+    → ((k : ℕ) → k ≤ length (encodings fs) → Advances [] fs (encodings fs) k (lefts_after (lefts_of [] fs) k))
     → nat_le (length (encoding f) - length last) n ≡ b
-    → Advances last (f ∷ fs) bytes n (left_after (marks_of last (f ∷ fs)) n)
+    → Advances last (f ∷ fs) bytes n (lefts_after (lefts_of last (f ∷ fs)) n)
 advance-first true f fs last bytes n begun h le later whole =
     let rest : List ℕ = begun.0 in
     let is : bytes ≡ rest ++ encodings fs = rest-is last rest bytes f fs begun.2 h in
@@ -92,7 +107,7 @@ advance-first true f fs last bytes n begun h le later whole =
     let k : ℕ = n - length rest in
     let over : length (encoding f) - length last ≤ n = grind (arith, nat_tests) in
     let sum : n ≡ length rest + k = omega arith in
-    let next : Advances [] fs (encodings fs) k (left_after (marks_of [] fs) k) = later k (omega arith) in
+    let next : Advances [] fs (encodings fs) k (lefts_after (lefts_of [] fs) k) = later k (omega arith) in
     let gone : drop n bytes ≡ drop k (encodings fs) =
     ap (drop n) is ∙ ap (λ m. drop m (rest ++ encodings fs)) sum ∙ drop-append-add rest (encodings fs) k in
     let less : n - (length (encoding f) - length last) ≡ k = omega arith in
@@ -103,9 +118,9 @@ advance-first true f fs last bytes n begun h le later whole =
       frames = ap (λ x. f ∷ x) next.frames;
       begun = next.begun;
       marks =
-          if-true (nat_le (length (encoding f) - length last) n) (left_after (map mark_of fs) (n - (length (encoding f) - length last)))
-          (record { left = length (encoding f) - length last - n } ∷ map mark_of fs) whole
-          ∙ ap (left_after (map mark_of fs)) less ∙ ap (λ x. left_after x k) (sym (marks-none fs)) ∙ next.marks;
+          if-true (nat_le (length (encoding f) - length last) n) (lefts_after (map size_of fs) (n - (length (encoding f) - length last)))
+          ((size_of f - length last - n) ∷ map size_of fs) whole
+          ∙ ap (lefts_after (map size_of fs)) less ∙ ap (λ x. lefts_after x k) (sym (lefts-none fs)) ∙ next.marks;
       left = next.left ∙ ap (λ x. next.part ++ x) (sym gone);
       count =
           omega (arith, next.count, length-append (encoding f) (encodings next.sent), length-append (encoding f ++ encodings next.sent) next.part, length-append (encodings next.sent) next.part);
@@ -130,15 +145,15 @@ advance-first false f fs last bytes n begun h le later cut =
       frames = refl;
       begun = (drop n rest, some-list (drop n rest) some, begun.2 ∙ sym whole);
       marks =
-          if-false (nat_le (length (encoding f) - length last) n) (left_after (map mark_of fs) (n - (length (encoding f) - length last)))
-          (record { left = length (encoding f) - length last - n } ∷ map mark_of fs) cut
-          ∙ ap (λ (m : ℕ). record { left = m } ∷ map mark_of fs) less;
+          if-false (nat_le (length (encoding f) - length last) n) (lefts_after (map size_of fs) (n - (length (encoding f) - length last)))
+          ((size_of f - length last - n) ∷ map size_of fs) cut
+          ∙ ap (λ (m : ℕ). m ∷ map size_of fs) less;
       left = ap (λ x. x ++ encodings fs) (begun.2 ∙ sym whole) ∙ append_assoc part (drop n rest) (encodings fs) ∙ ap (λ x. part ++ x) (sym gone);
       count = sym count;
     }
 
 pub advance : (fs : List Frame) (last bytes : List ℕ) (n : ℕ) → IsBegun last fs → encodings fs ≡ last ++ bytes → n ≤ length bytes
-    → Advances last fs bytes n (left_after (marks_of last fs) n)
+    → Advances last fs bytes n (lefts_after (lefts_of last fs) n)
 advance [] last bytes n begun h le =
     let none : length bytes ≤ 0 = omega (arith, ap length h, length-append last bytes) in
     let gone : drop n bytes ≡ [] = grind (arith, common_steps) in
@@ -156,6 +171,6 @@ advance (f ∷ fs) last bytes n begun h le =
     advance-first (nat_le (length (encoding f) - length last) n) f fs last bytes n begun h le (λ k within. advance fs [] (encodings fs) k (begun-none fs) refl within) refl
 
 -- no byte is taken
-pub advance-none : (fs : List Frame) (last bytes : List ℕ) → IsBegun last fs → encodings fs ≡ last ++ bytes → Advances last fs bytes 0 (marks_of last fs)
+pub advance-none : (fs : List Frame) (last bytes : List ℕ) → IsBegun last fs → encodings fs ≡ last ++ bytes → Advances last fs bytes 0 (lefts_of last fs)
 advance-none fs last bytes begun h =
     record { sent = []; rest = fs; part = last; frames = refl; begun = begun; marks = refl; left = h; count = omega arith }

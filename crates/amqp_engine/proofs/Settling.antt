@@ -1,8 +1,8 @@
 -- What the going of the unread bytes leaves as it is.
-use Rattle.std.proofs.Common.{◌≡◌, ℕ, ◌||◌, if◌then◌else◌, Bool, true, false, List, [], length, refl, ap, sym, ◌∙◌}
-use Rattle.amqp_session.specs.Talk.{Talk, has_ended, drops_input}
+use Rattle.std.proofs.Common.{◌≡◌, ◌||◌, if◌then◌else◌, Bool, true, false, [], refl}
+use Rattle.amqp_session.specs.Talk.{has_ended, drops_input}
 use Rattle.amqp_engine.specs.Engine.{Engine, settle}
-use Rattle.amqp_engine.proofs.Cases.{if_case, if-true, if-false}
+use Rattle.amqp_engine.proofs.Cases.{if_case}
 
 -- what is not looked at is what stays
 settle-keeps : {A : Type 0} (f : Engine → A) → ((e : Engine) → f (record e { unread = []; place = 0 }) ≡ f e) → (e : Engine) → f (settle e) ≡ f e

@@ -18,4 +18,5 @@ pub wrote-requires-clause-open : goal.wrote-requires-clause-open
 wrote-requires-clause-open g c =
     let e = c.args.self.now in
     let before : is_open e.talk ≡ true = ap (λ (x : Engine). is_open x.talk) (sym c.self.view_is) ∙ sym c.is_open.ensures ∙ c.if-not-is_open.false in
-    ?
+    ap (λ (x : Engine). is_open x.talk) c.commit_all.ensures
+    ∙ commits-keep (λ (x : Engine). is_open x.talk) (λ x fs ms bytes. refl) (length e.talk.control) e ∙ before
