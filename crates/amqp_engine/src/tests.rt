@@ -7,13 +7,14 @@ ghost use Rattle.std.specs.Prelude.{◌≤◌, length, IfOk, OnOk, None};
 ghost use Rattle.amqp_engine.specs.Plan.{IsGivenPiece, ArePieces};
 
 use super::*;
-use amqp_session::{Answer, Cmd, ErrorKind};
+use amqp_session::{Answer, Cmd, ErrorKind, IoFault};
 use amqp_types::{NoMemory, Payload, ShortString};
 use std::alloc::Global;
 use std::test::Fail;
 use vectors::*;
 
 /// A line of a script.
+#[derive(Drop)]
 enum Line {
     Link(Option<u64>),
     /// A piece, which is a text in hexadecimal.
@@ -24,6 +25,11 @@ enum Line {
     /// Room for one byte, so many times.
     EachRoom(u64),
     Tick,
+    Refuse,
+    End,
+    Fault,
+    WriteFail,
+    Open,
     Shut,
 }
 
@@ -115,6 +121,11 @@ fn push_line(alloc: Global, steps: &mut Vec<Given>, line: &Line) -> Result<(), F
         Line::Room(more) => push(steps, GivenStep::Room(*more)),
         Line::EachRoom(count) => push_rooms(steps, *count),
         Line::Tick => push(steps, GivenStep::Tick),
+        Line::Refuse => push(steps, GivenStep::Refuse),
+        Line::End => push(steps, GivenStep::End),
+        Line::Fault => push(steps, GivenStep::Fault),
+        Line::WriteFail => push(steps, GivenStep::WriteFail),
+        Line::Open => push(steps, GivenStep::Command(Cmd::OpenChannel)),
         Line::Shut => push(steps, GivenStep::Command(shut(alloc)?)),
     }
 }
@@ -226,12 +237,111 @@ fn room_for_seven_bytes(rt: HostRuntime) -> Result<(), Fail> {
 #[test]
 fn what_is_not_built_ends_the_session(rt: HostRuntime) -> Result<(), Fail> {
     let alloc = rt.alloc();
-    let mut port = port(alloc, &[Line::Link(None), Line::Bytes(HEARTBEAT)])?;
+    let lines = [Line::Link(None), Line::Bytes(BLOCKED)];
+    assert!(rt; ends_with(alloc, &lines, ErrorKind::Unbuilt(0))?);
+    Ok(())
+}
+
+// Whether a run over these lines ends with this error, which answers the connection's promise too.
+fn ends_with(alloc: Global, lines: &[Line], kind: ErrorKind) -> Result<bool, Fail> {
+    let mut port = port(alloc, lines)?;
     let mut engine = IoLoop::new(alloc)?;
-    match engine.run(&mut port, 2) {
-        Ok(()) => assert!(rt; false),
-        Err(error) => assert!(rt; matches!(error.kind(), ErrorKind::Unbuilt(0))),
+    let end = engine.run(&mut port, lines.len() as u64);
+    Ok(is_error(end, &kind) && match engine.answer(0) {
+        Some(Err(error)) => *error.kind() == kind,
+        _ => false,
+    })
+}
+
+fn is_error(end: amqp_session::Result<()>, kind: &ErrorKind) -> bool {
+    match end {
+        Ok(()) => false,
+        Err(error) => *error.kind() == *kind,
     }
+}
+
+#[test]
+fn the_end_of_input_aborts(rt: HostRuntime) -> Result<(), Fail> {
+    let alloc = rt.alloc();
+    let aborted = || ErrorKind::IOError(IoFault::Aborted);
+    assert!(rt; ends_with(alloc, &[Line::Link(None), Line::End], aborted())?);
+    let cut = [Line::Link(None), Line::Bytes("01 0000 00000061"), Line::End];
+    assert!(rt; ends_with(alloc, &cut, aborted())?);
+    Ok(())
+}
+
+#[test]
+fn a_refused_link_ends_the_session(rt: HostRuntime) -> Result<(), Fail> {
+    let refused = ErrorKind::IOError(IoFault::Refused);
+    assert!(rt; ends_with(rt.alloc(), &[Line::Refuse], refused)?);
+    Ok(())
+}
+
+#[test]
+fn reading_that_fails_resets(rt: HostRuntime) -> Result<(), Fail> {
+    let alloc = rt.alloc();
+    let reset = || ErrorKind::IOError(IoFault::Reset);
+    assert!(rt; ends_with(alloc, &[Line::Link(None), Line::Fault], reset())?);
+    let later = [Line::Link(None), Line::Bytes(START), Line::Fault];
+    assert!(rt; ends_with(alloc, &later, reset())?);
+    Ok(())
+}
+
+#[test]
+fn writing_that_fails_breaks_the_pipe(rt: HostRuntime) -> Result<(), Fail> {
+    let alloc = rt.alloc();
+    let broken = || ErrorKind::IOError(IoFault::BrokenPipe);
+    let first = [Line::WriteFail, Line::WriteFail, Line::Link(None)];
+    assert!(rt; ends_with(alloc, &first, broken())?);
+    let second = [Line::Link(None), Line::WriteFail, Line::Bytes(START)];
+    assert!(rt; ends_with(alloc, &second, broken())?);
+    Ok(())
+}
+
+const OPENED_WITH_CHANNEL: [Line; 7] = [
+    Line::Link(None),
+    Line::Bytes(START),
+    Line::Bytes(TUNE),
+    Line::Bytes(OPEN_OK),
+    Line::Open,
+    Line::Bytes(CHANNEL_OPEN_OK_1),
+    Line::Bytes(BODY_1),
+];
+
+const CLOSED_BY_THE_SERVER: [Line; 5] = [
+    Line::Link(None),
+    Line::Bytes(START),
+    Line::Bytes(TUNE),
+    Line::Bytes(OPEN_OK),
+    Line::Bytes(CLOSE_320),
+];
+
+#[test]
+fn the_servers_close_is_answered(rt: HostRuntime) -> Result<(), Fail> {
+    let alloc = rt.alloc();
+    let mut port = port(alloc, &CLOSED_BY_THE_SERVER)?;
+    let mut engine = IoLoop::new(alloc)?;
+    match engine.run(&mut port, 9) {
+        Ok(()) => assert!(rt; false),
+        Err(error) => assert!(rt;
+            matches!(error.kind(), ErrorKind::ProtocolError(told) if told.get_id() == 320)
+        ),
+    }
+    assert!(rt; took(alloc, &port, &[HEADER, START_OK, TUNE_OK, OPEN, CLOSE_OK])?);
+    Ok(())
+}
+
+#[test]
+fn frames_are_handed_out(rt: HostRuntime) -> Result<(), Fail> {
+    let alloc = rt.alloc();
+    let mut port = port(alloc, &OPENED_WITH_CHANNEL)?;
+    let mut engine = IoLoop::new(alloc)?;
+    assert!(rt; goes_on(engine.run(&mut port, 7)));
+    assert!(rt; took(alloc, &port, &[HEADER, START_OK, TUNE_OK, OPEN, CHANNEL_OPEN_1])?);
+    assert!(rt; matches!(engine.answer(1), Some(Ok(Answer::Channel(1, 1)))));
+    let frames = engine.take_frames(1)?;
+    assert!(rt; frames.len() == 1 && frames[0].bytes.as_bytes() == b"abc".as_slice());
+    assert!(rt; engine.take_frames(1)?.is_empty());
     Ok(())
 }
 

@@ -38,7 +38,16 @@ pub const CLOSE: &str = "01 0000 0000000d 000a0032 00c8 024f4b 0000 0000 ce";
 
 pub const CLOSE_OK: &str = "01 0000 00000004 000a0033 ce";
 
-pub const HEARTBEAT: &str = "08 0000 00000000 ce";
+pub const BLOCKED: &str = "01 0000 00000008 000a003c 036c6f77 ce";
+
+pub const CLOSE_320: &str = "01 0000 0000001c 000a0032 0140
+    11 434f4e4e454354494f4e5f464f52434544 0000 0000 ce";
+
+pub const CHANNEL_OPEN_1: &str = "01 0001 00000005 0014000a 00 ce";
+
+pub const CHANNEL_OPEN_OK_1: &str = "01 0001 00000008 0014000b 00000000 ce";
+
+pub const BODY_1: &str = "03 0001 00000003 616263 ce";
 
 // The value of a hexadecimal digit; nothing for a blank or a line feed.
 fn digit(byte: u8) -> Option<u8> {
