@@ -1,5 +1,5 @@
 -- Answers: what a promise gives, and that it gives it once.
-use Rattle.std.specs.Prelude.{◌≡◌, ◌⊎◌, ℕ, if◌then◌else◌, slice_get, slice_set, List, [], Option, Some, None, is_some, Result, Ok, Err}
+use Rattle.std.specs.Prelude.{◌≡◌, ◌⊎◌, ℕ, if◌then◌else◌, slice_get, slice_set, Option, Some, None, is_some, Result, Ok, Err}
 use Rattle.amqp_session.specs.declared.state.ConnectionState.TheVariants.{Closed}
 use Rattle.amqp_session.specs.declared.promises.Slot.{Slot}
 use Rattle.amqp_session.specs.declared.promises.Slot.TheVariants.{Waiting, Answered, Taken}
@@ -15,6 +15,7 @@ rejection None = None
 rejection (Some (Ok closed)) = Some (Err (InvalidConnectionState Closed))
 rejection (Some (Err e)) = Some (Err e)
 
+-- the untaken answer of a promise, as it stands, or as the end gives it
 abbrev pub answer_in : Option (Result (Unit {0}) ErrorKind) → Option Slot → Option (Result Answer ErrorKind)
 answer_in ended None = None
 answer_in ended (Some Waiting) = rejection ended

@@ -5,7 +5,6 @@ use Rattle.amqp_session.specs.declared.state.ConnectionState.TheVariants.{Closed
 use Rattle.amqp_session.specs.declared.state.Link.TheVariants.{Ended}
 use Rattle.amqp_session.specs.declared.lanes.Item.{Item}
 use Rattle.amqp_session.specs.declared.lanes.Reply.{Reply}
-use Rattle.amqp_session.specs.declared.committed.Then.{Then}
 use Rattle.amqp_session.specs.declared.committed.Then.TheVariants.{Nothing}
 use Rattle.amqp_session.specs.declared.promises.Slot.{Slot}
 use Rattle.amqp_session.specs.declared.promises.Slot.TheVariants.{Waiting, Answered}
@@ -28,6 +27,7 @@ plain f = record { frame = f; then = Nothing }
 abbrev pub queue_item : Item → Talk → Talk
 queue_item item t = record t { control = t.control ++ item ∷ [] }
 
+-- a frame that nothing follows goes last into the control lane
 abbrev pub queue : Frame → Talk → Talk
 queue f t = queue_item (plain f) t
 
@@ -42,10 +42,11 @@ abbrev pub settled_by : Option Slot → ℕ → Result Answer ErrorKind → List
 settled_by (Some Waiting) number answer slots = slice_set slots number (Answered answer)
 settled_by _ number answer slots = slots
 
--- a promise that waits gets this answer
+-- the promises, once that of a number got an answer: one that was answered before keeps its own
 abbrev pub settled : ℕ → Result Answer ErrorKind → List Slot → List Slot
 settled number answer slots = settled_by (slice_get slots number) number answer slots
 
+-- the promise of a number gets this answer, where it waits
 abbrev pub give : ℕ → Result Answer ErrorKind → Talk → Talk
 give number answer t = record t { promises = settled number answer t.promises }
 
@@ -76,10 +77,11 @@ close t = record t { state = Closed; link = Ended (Ok tt); channels = [] }
 abbrev pub fail : ErrorKind → Talk → Talk
 fail e t = record t { state = Error; link = Ended (Err e); channels = [] }
 
--- the link is lost, and without recovery the session ends
+-- the link is of no more use, for this error, and the session, which does not recover, ends with it
 abbrev pub lose : ErrorKind → Talk → Talk
 lose e t = fail e t
 
+-- an error that tells no more than that the connection is closed
 abbrev pub is_closed : ErrorKind → Bool
 is_closed (InvalidConnectionState Closed) = true
 is_closed _ = false
@@ -92,6 +94,6 @@ finish_by (Some e) t = if is_closed e then close t else lose e t
 abbrev pub finish : Talk → Talk
 finish t = finish_by t.close_error (record t { close_error = None })
 
--- memory was refused
+-- memory was refused, which ends a session that has not ended
 abbrev pub starve : Talk → Talk
 starve t = if has_ended t then t else fail NoMemory t

@@ -1,6 +1,5 @@
 -- Writing: which frame goes out next, and what becomes of the bytes of those that went.
-use Rattle.std.specs.Prelude.{ℕ, ◌-◌, ◌==◌, ◌&&◌, not, nat_le, if◌then◌else◌, List, [], ◌∷◌, ◌++◌, drop, length, sum_by, Option, Some, None, option_map, Ok}
-use Rattle.amqp_frame.specs.declared.frame.Frame.{Frame}
+use Rattle.std.specs.Prelude.{ℕ, ◌-◌, ◌==◌, ◌&&◌, not, nat_le, if◌then◌else◌, List, [], ◌∷◌, ◌++◌, drop, length, sum_by, Option, Some, None, Ok}
 use Rattle.amqp_frame.specs.Frames.{encoding}
 use Rattle.amqp_session.specs.declared.lanes.Item.{Item}
 use Rattle.amqp_session.specs.declared.committed.Mark.{Mark}
@@ -18,6 +17,7 @@ head (item ∷ items) = Some item
 abbrev pub next_item : Talk → Option Item
 next_item t = if is_open t then head t.control else None
 
+-- how many bytes spell a frame
 abbrev pub size_of : Item → ℕ
 size_of item = length (encoding item.frame)
 
