@@ -15,6 +15,7 @@ rejection None = None
 rejection (Some (Ok closed)) = Some (Err (InvalidConnectionState Closed))
 rejection (Some (Err e)) = Some (Err e)
 
+-- the untaken answer of a promise, as it stands, or as the end gives it
 abbrev pub answer_in : Option (Result (Unit {0}) ErrorKind) → Option Slot → Option (Result Answer ErrorKind)
 answer_in ended None = None
 answer_in ended (Some Waiting) = rejection ended

@@ -29,6 +29,7 @@ plain f = record { frame = f; then = Nothing }
 abbrev pub queue_item : Item → Talk → Talk
 queue_item item t = record t { control = t.control ++ item ∷ [] }
 
+-- a frame that nothing follows goes last into the control lane
 abbrev pub queue : Frame → Talk → Talk
 queue f t = queue_item (plain f) t
 
@@ -43,10 +44,11 @@ abbrev pub settled_by : Option Slot → ℕ → Result Answer ErrorKind → List
 settled_by (Some Waiting) number answer slots = slice_set slots number (Answered answer)
 settled_by _ number answer slots = slots
 
--- a promise that waits gets this answer
+-- the promises, once that of a number got an answer: one that was answered before keeps its own
 abbrev pub settled : ℕ → Result Answer ErrorKind → List Slot → List Slot
 settled number answer slots = settled_by (slice_get slots number) number answer slots
 
+-- the promise of a number gets this answer, where it waits
 abbrev pub give : ℕ → Result Answer ErrorKind → Talk → Talk
 give number answer t = record t { promises = settled number answer t.promises }
 
@@ -77,18 +79,29 @@ close t = record t { state = Closed; link = Ended (Ok tt); channels = [] }
 abbrev pub fail : ErrorKind → Talk → Talk
 fail e t = record t { state = Error; link = Ended (Err e); channels = [] }
 
--- the link is lost, and without recovery the session ends
+-- the link is of no more use, for this error, and the session, which does not recover, ends with it
 abbrev pub lose : ErrorKind → Talk → Talk
 lose e t = fail e t
 
+<<<<<<< HEAD
 abbrev pub finish_by : Option ServerClose → Talk → Talk
 finish_by (Some (WithError e)) t = lose (ProtocolError e) t
 finish_by _ t = close t
+=======
+-- an error that tells no more than that the connection is closed
+abbrev pub is_closed : ErrorKind → Bool
+is_closed (InvalidConnectionState Closed) = true
+is_closed _ = false
+
+abbrev pub finish_by : Option ErrorKind → Talk → Talk
+finish_by None t = close t
+finish_by (Some e) t = if is_closed e then close t else lose e t
+>>>>>>> df822b9ee9a9aeb6194a72dc63d61d1396909ff7
 
 -- the end after the server's close: Closed where its code was none of an error
 abbrev pub finish : Talk → Talk
 finish t = finish_by t.server_close (record t { server_close = None })
 
--- memory was refused
+-- memory was refused, which ends a session that has not ended
 abbrev pub starve : Talk → Talk
 starve t = if has_ended t then t else fail NoMemory t

@@ -61,6 +61,7 @@ channel_row n c ChannelOpenOk t = on_channel_open_ok n c t
 channel_row n c ChannelCloseOk t = on_channel_close_ok n c t
 channel_row n c method t = unawaited_channel_method n c.state method t
 
+-- a method of the channel class, on a listed channel or another
 abbrev pub listed_channel_method : ℕ → Option Channel → Method → Talk → Talk
 listed_channel_method n None method t = lose (InvalidChannel n) t
 listed_channel_method n (Some c) method t = channel_row n c method t
@@ -86,11 +87,11 @@ frames_of opened t = unwrap_or (at opened t.handed) []
 abbrev pub hand_out : ℕ → Handed → Talk → Talk
 hand_out opened h t = record t { handed = put opened (frames_of opened t ++ h ∷ []) t.handed }
 
--- the mode of confirms is on
+-- the channel is in confirm mode
 abbrev pub confirmed : ℕ → Channel → Talk → Talk
 confirmed n c t = set_channel n (record c { confirm = true }) t
 
--- a frame of a listed channel is handed out
+-- a frame of a listed channel is handed out; where it is confirm.select-ok, the channel is in confirm mode from then on
 abbrev pub pass_through : ℕ → Channel → RawKind → List ℕ → Talk → Talk
 pass_through n c kind bytes t =
     hand_out c.opened (record { channel = n; kind = kind; bytes = bytes })

@@ -40,7 +40,7 @@ open_as n t =
     let listed = record (set_channel n (new_channel number) t) { cursor = after t.configuration.channel_max n } in
     promise (await n ChannelOpened (Some number) (queue (channel_open n) listed))
 
--- every number is listed, and the opening is refused; the cursor goes on all the same
+-- every number is listed, and the opening is refused; the cursor goes on by one all the same
 abbrev pub open_none : ℕ → Talk → Talk
 open_none first t = record (refuse ChannelsLimitReached t) { cursor = after t.configuration.channel_max first }
 
@@ -68,6 +68,7 @@ named_in opened (Some c) = if is_opening opened c.opened then Some c else None
 abbrev pub named : ChanRef → Talk → Option Channel
 named r t = named_in r.opened (channel_at r.id t)
 
+-- what an open channel allows is done, and else refused, with the state that the channel is in
 abbrev pub in_state : ChannelState → Word → (Talk → Talk) → Talk → Talk
 in_state channel.Connected word f t = f t
 in_state held word f t = refuse (InvalidChannelState held word) t
@@ -100,6 +101,7 @@ close_channel n code text c t =
 
 -- ---- sending
 
+-- the frame of a method that is passed through
 abbrev pub method_frame : ℕ → OtherMethod → Frame
 method_frame n method = Raw n RawMethod (spell_raw_method method)
 
@@ -113,6 +115,7 @@ send n method t =
 
 -- ---- closing the connection
 
+-- a channel that is closing
 abbrev pub closing : Channel → Channel
 closing c = record c { state = channel.Closing }
 

@@ -22,7 +22,7 @@ use Rattle.amqp_session.specs.Changes.{queue, give, give_to, close, lose}
 
 -- ---- the handshake
 
--- start: the client names itself
+-- start: the client names itself, whatever the server offers
 abbrev pub on_start : Talk → Talk
 on_start t = record (queue start_ok t) { phase = AwaitTune }
 

@@ -12,6 +12,7 @@ use Rattle.amqp_session.specs.declared.error.ErrorKind.{ErrorKind}
 use Rattle.amqp_session.specs.declared.error.ErrorKind.TheVariants.{ChannelsLimitReached, InvalidProtocolVersion, InvalidChannel, InvalidChannelState, InvalidConnectionState, IOError, ParsingError, ProtocolError, SerialisationError, OutOfTurns, NoMemory, Unbuilt}
 use Rattle.amqp_session.specs.Shown.{shown}
 
+-- the states of a connection, by their names
 abbrev pub state_name : ConnectionState → List ℕ
 state_name connection.Initial = codes "Initial"
 state_name connection.Connecting = codes "Connecting"
@@ -21,6 +22,7 @@ state_name connection.Closed = codes "Closed"
 state_name connection.Reconnecting = codes "Reconnecting"
 state_name connection.Error = codes "Error"
 
+-- the states of a channel, by their names
 abbrev pub channel_state_name : ChannelState → List ℕ
 channel_state_name channel.Initial = codes "Initial"
 channel_state_name channel.Reconnecting = codes "Reconnecting"
@@ -29,6 +31,7 @@ channel_state_name channel.Closing = codes "Closing"
 channel_state_name channel.Closed = codes "Closed"
 channel_state_name channel.Error = codes "Error"
 
+-- the faults of a link
 abbrev pub fault_text : IoFault → List ℕ
 fault_text Aborted = codes "connection aborted"
 fault_text Refused = codes "connection refused"
@@ -38,6 +41,7 @@ fault_text WouldBlock = codes "operation would block"
 fault_text Interrupted = codes "operation interrupted"
 fault_text (Other word) = word_text word
 
+-- the text of an error
 abbrev pub text_of : ErrorKind → List ℕ
 text_of ChannelsLimitReached = codes "the maximum number of channels for this connection has been reached"
 text_of (InvalidProtocolVersion v) =

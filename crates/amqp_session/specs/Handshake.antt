@@ -6,12 +6,15 @@ use Rattle.amqp_frame.specs.declared.frame.Frame.TheVariants.{ProtocolHeader, Me
 use Rattle.amqp_frame.specs.declared.method.Method.TheVariants.{StartOk, TuneOk, Open, Close, CloseOk, ChannelOpen, ChannelClose}
 use Rattle.amqp_session.specs.declared.configuration.Configuration.{Configuration}
 
+-- the header that asks for AMQP 0-9-1
 abbrev pub protocol_header : Frame
 protocol_header = ProtocolHeader (record { major = 0; minor = 9; revision = 1 })
 
+-- the value true
 abbrev pub yes : FieldValue
 yes = scalar (boolean true)
 
+-- a text as a value
 abbrev pub text_value : List ℕ → FieldValue
 text_value content = scalar (long_string content)
 
@@ -42,19 +45,19 @@ client_properties =
 abbrev pub plain_response : List ℕ → List ℕ → List ℕ
 plain_response user password = 0 ∷ user ++ 0 ∷ password
 
--- user and password are `guest`
+-- the answer to start, by which the client names itself: user and password are `guest`
 abbrev pub start_ok : Frame
 start_ok = Method 0 (StartOk client_properties (codes "PLAIN") (plain_response (codes "guest") (codes "guest")) (codes "en_US"))
 
--- the agreed numbers
+-- the answer to tune: the agreed numbers
 abbrev pub tune_ok : Configuration → Frame
 tune_ok agreed = Method 0 (TuneOk agreed.channel_max agreed.frame_max agreed.heartbeat)
 
--- the virtual host is `/`
+-- the virtual host `/` is opened
 abbrev pub open_vhost : Frame
 open_vhost = Method 0 (Open (codes "/"))
 
--- a close of ours names no method that caused it
+-- our close of the connection, which names no method that caused it
 abbrev pub our_close : ℕ → List ℕ → Frame
 our_close code text = Method 0 (Close code text 0 0)
 
@@ -62,9 +65,10 @@ our_close code text = Method 0 (Close code text 0 0)
 abbrev pub close_ok : Frame
 close_ok = Method 0 CloseOk
 
+-- a channel is opened
 abbrev pub channel_open : ℕ → Frame
 channel_open n = Method n ChannelOpen
 
--- a close of ours names no method that caused it
+-- our close of a channel, which names no method that caused it
 abbrev pub our_channel_close : ℕ → ℕ → List ℕ → Frame
 our_channel_close n code text = Method n (ChannelClose code text 0 0)

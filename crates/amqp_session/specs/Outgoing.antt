@@ -12,6 +12,7 @@ pub record Outgoing : Type 0 where
   -- the replies that are awaited, in order
   pub awaited : List Awaited
 
+-- two replies are of one kind
 abbrev pub is_same_reply : Reply → Reply → Bool
 is_same_reply ChannelOpened ChannelOpened = true
 is_same_reply ChannelClosed ChannelClosed = true

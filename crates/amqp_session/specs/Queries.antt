@@ -9,6 +9,7 @@ use Rattle.amqp_session.specs.declared.command.ChanRef.{ChanRef}
 use Rattle.amqp_session.specs.Talk.{Talk}
 use Rattle.amqp_session.specs.Commands.{named}
 
+-- the state of a channel that is gone: Error where the session ended with an error, and else Closed
 abbrev pub gone_in : ConnectionState → ChannelState
 gone_in Error = channel.Error
 gone_in _ = channel.Closed

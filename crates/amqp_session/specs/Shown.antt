@@ -14,5 +14,6 @@ hexadecimal_digit n = if nat_lt n 10 then 48 + n else 87 + n
 abbrev pub shown_octet : ℕ → List ℕ
 shown_octet b = if is_plain b then b ∷ [] else 92 ∷ 120 ∷ hexadecimal_digit (b / 16) ∷ hexadecimal_digit (b % 16) ∷ []
 
+-- all of them
 abbrev pub shown : List ℕ → List ℕ
 shown octets = flat_map shown_octet octets

@@ -1,4 +1,9 @@
+<<<<<<< HEAD
 -- What a server does that it may not do: the error, by code and text, that each such frame is answered with (AMQP 0-9-1, 4.8.2 and the reply codes of its reference).
+=======
+-- What a server may not do, and the error, by reply code and text, with which the session then ends (AMQP 0-9-1, 4.8.2 and the reply codes of its reference).
+-- The server is not told: no close is written.
+>>>>>>> df822b9ee9a9aeb6194a72dc63d61d1396909ff7
 use Rattle.std.specs.Prelude.{ℕ, ◌+◌, List, ◌++◌, codes, is_some, if◌then◌else◌}
 use Rattle.std.specs.Fmt.{decimal}
 use Rattle.amqp_types.specs.Codes.{kind_of}
@@ -13,33 +18,35 @@ use Rattle.amqp_session.specs.declared.server_close.ServerClose.TheVariants.{Wit
 use Rattle.amqp_session.specs.declared.misread.Misread.{Misread}
 use Rattle.amqp_session.specs.declared.misread.Misread.TheVariants.{TooLarge, BadHeartbeat, Bad}
 
+-- a reply code with its text
 abbrev pub protocol_error : ℕ → List ℕ → ErrorKind
 protocol_error code text = ProtocolError (record { code = code; message = text })
 
--- 501, frame-error: a frame larger than was agreed, of so many octets of payload
+-- 501, frame-error: a frame larger than was agreed, of so many octets of payload and 8 around it
 abbrev pub frame_too_large : ℕ → ErrorKind
 frame_too_large size = protocol_error 501 (codes "frame too large: " ++ decimal (size + 8) ++ codes " bytes")
 
--- 501, frame-error: a heartbeat stands on channel 0
+-- 501, frame-error: a heartbeat on another channel than 0
 abbrev pub heartbeat_on : ℕ → ErrorKind
 heartbeat_on channel = protocol_error 501 (codes "heartbeat frame received on channel " ++ decimal channel)
 
--- what is no frame
+-- what was read and is no frame
 abbrev pub misread_error : Misread → ErrorKind
 misread_error (TooLarge size) = frame_too_large size
 misread_error (BadHeartbeat channel) = heartbeat_on channel
 misread_error (Bad place) = ParsingError place
 
--- 503, command-invalid: a method of the connection class stands on channel 0
+-- 503, command-invalid: a method of the connection class on another channel than 0
 abbrev pub connection_method_on : ℕ → ErrorKind
 connection_method_on channel = protocol_error 503 (codes "connection frame received on channel " ++ decimal channel)
 
+-- what a frame that is passed through is called
 abbrev pub raw_name : RawKind → List ℕ
 raw_name RawMethod = codes "method"
 raw_name Header = codes "content header"
 raw_name Body = codes "body"
 
--- 504, channel-error: what belongs to a channel does not stand on channel 0
+-- 504, channel-error: a frame of a channel on channel 0
 abbrev pub on_channel_0 : RawKind → ErrorKind
 on_channel_0 kind = protocol_error 504 (raw_name kind ++ codes " frame received on channel 0")
 

@@ -17,6 +17,7 @@ head (item ∷ items) = Some item
 abbrev pub next_item : Talk → Option Item
 next_item t = if is_open t then head t.control else None
 
+-- how many bytes spell a frame
 abbrev pub size_of : Item → ℕ
 size_of item = length (encoding item.frame)
 

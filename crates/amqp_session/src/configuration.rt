@@ -1,7 +1,7 @@
 //! The numbers of a connection, and how both peers agree on them.
 
 ghost use Rattle.std.specs.Prelude.{◌≡◌};
-ghost use Rattle.amqp_session.specs.Negotiation.{lesser_wish, wish_or, tune};
+ghost use Rattle.amqp_session.specs.Negotiation.{lesser_wish, tune};
 
 use amqp_types::{ChannelId, FrameSize, Heartbeat};
 

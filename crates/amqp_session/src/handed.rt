@@ -1,6 +1,6 @@
 //! The frames that are handed out.
 
-ghost use Rattle.std.specs.Prelude.{◌≡◌, ◌++◌, ◌∷◌, [], IfSome, IfOk, OnOk, OnErr, unwrap_or};
+ghost use Rattle.std.specs.Prelude.{◌≡◌, ◌++◌, ◌∷◌, [], IfOk, OnOk, OnErr, unwrap_or};
 ghost use Rattle.amqp_session.specs.Listed.{at, put, without};
 
 use amqp_frame::RawKind;

@@ -1,6 +1,6 @@
 //! The promises of a session, by number.
 
-ghost use Rattle.std.specs.Prelude.{◌≡◌, length};
+ghost use Rattle.std.specs.Prelude.{◌≡◌};
 ghost use Rattle.amqp_session.specs.Changes.{settled};
 
 use crate::command::Answer;

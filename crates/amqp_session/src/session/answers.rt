@@ -3,7 +3,7 @@
 ghost use Rattle.std.specs.Prelude.{◌≡◌, IfOk, OnErr, IsOk};
 ghost use Rattle.amqp_session.specs.Talk.{end_of};
 ghost use Rattle.amqp_session.specs.Channels.{frames_of};
-ghost use Rattle.amqp_session.specs.Answers.{rejection, answer_of, take_answer, take_frames, Takes, IsRejected};
+ghost use Rattle.amqp_session.specs.Answers.{rejection, answer_of, take_frames, Takes, IsRejected};
 
 use super::Session;
 use crate::command::Answer;
