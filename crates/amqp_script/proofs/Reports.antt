@@ -1,12 +1,15 @@
 -- The lines of a report, one by one.
-use Rattle.std.proofs.Common.{◌≡◌, ◌≤◌, ◌<◌, ◌+◌, ◌-◌, ℕ, zero, suc, Bool, true, false, if◌then◌else◌, is_some, List, [], ◌∷◌, ◌++◌, length, drop, slice_get, slice_set, Some, refl, ap, ◌∙◌, arith, get_or, add-one}
+use Rattle.std.proofs.Common.{◌≡◌, ◌≤◌, ◌<◌, ◌+◌, ◌-◌, ℕ, zero, suc, Bool, true, false, if◌then◌else◌, is_some, List, [], ◌∷◌, ◌++◌, length, drop, slice_get, slice_set, Option, Some, Result, Err, inl, inr, refl, ap, ◌∙◌, arith, get_or, add-one}
 use Rattle.std.proofs.Math.Seq.{drop-cons}
 use Rattle.std.proofs.lemmas.Option.{slice_get_within, get_or_from_slice_get}
 use Rattle.std.specs.List.{flat_map, enumerate_from, range_with_len}
 use Rattle.amqp_session.specs.declared.promises.Slot.{Slot}
 use Rattle.amqp_session.specs.declared.promises.Slot.TheVariants.{Taken}
+use Rattle.amqp_session.specs.declared.command.Answer.{Answer}
+use Rattle.amqp_session.specs.declared.error.ErrorKind.{ErrorKind}
+use Rattle.amqp_session.specs.declared.error.ErrorKind.TheVariants.{NoMemory}
 use Rattle.amqp_session.specs.Talk.{Talk, end_of}
-use Rattle.amqp_session.specs.Answers.{answer_in, answer_of, take_answer}
+use Rattle.amqp_session.specs.Answers.{answer_in, answer_of, take_answer, Takes}
 use Rattle.amqp_script.specs.Report.{link_line, answer_line}
 
 -- ---- links
@@ -54,6 +57,12 @@ answers_from-step t number count h =
 pub record Keeps (number : ℕ) (before now : Talk) : Type 0 where
   pub answers : (k : ℕ) → number ≤ k → answer_of k now ≡ answer_of k before
   pub end : end_of now ≡ end_of before
+
+-- an answer that is not a refusal of memory was taken as it was kept
+pub Takes-told : (number : ℕ) (given : Option (Result Answer ErrorKind)) (before after : Talk) → (given ≡ Some (Err NoMemory) → ⊥)
+    → Takes number given before after → (given ≡ answer_of number before) × (after ≡ take_answer number before)
+Takes-told number given before after told (inl takes) = takes
+Takes-told number given before after told (inr refused) = absurd (told refused.1)
 
 get-set_other : (slots : List Slot) (n k : ℕ) (slot : Slot) → n < k → slice_get (slice_set slots n slot) k ≡ slice_get slots k
 get-set_other [] n k slot h = refl

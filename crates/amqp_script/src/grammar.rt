@@ -279,11 +279,11 @@ fn sends(
     id: u16,
     class: u16,
     method: u16,
-    data: Option<Spelled>,
+    arguments: Option<Spelled>,
 ) -> Result<Said, NoMemory>
-    ensures { IfOk result (λ said. said ≡ sends_data id class method data) }
+    ensures { IfOk result (λ said. said ≡ sends_data id class method arguments) }
 {
-    let Some(data) = data else {
+    let Some(data) = arguments else {
         return Ok(Said::Refused);
     };
     if class == 10 || class == 20 {
