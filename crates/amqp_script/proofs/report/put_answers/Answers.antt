@@ -1,8 +1,8 @@
-use Rattle.std.proofs.Common.{◌∙◌, ◌+◌, ◌-◌, ◌++◌, ℕ, Bool, IsTrue, List, ap, sym, subst, append_assoc, arith}
+use Rattle.std.proofs.Common.{◌∙◌, ◌+◌, ◌-◌, ◌++◌, ℕ, List, ap, sym, subst, append_assoc, arith}
 use Rattle.std.specs.String.{string_bytes}
 use Rattle.amqp_session.specs.Talk.{Talk}
 use Rattle.amqp_script.specs.Report.{answer_line}
-use Rattle.amqp_script.proofs.Reports.{answers_from, answers_from-step, line_of, Keeps, Keeps-step, Takes-told}
+use Rattle.amqp_script.proofs.Reports.{answers_from, answers_from-step, line_of, Keeps, Keeps-step, Takes-told, absurd_of}
 use Rattle.amqp_script.proofs.report.put_answers.Goals as goal
 
 pub answers-preserved : goal.answers-preserved
@@ -13,9 +13,8 @@ answers-preserved c =
     let k = c.answers.number in
     let count = c.promises-count.result in
     let rest = answers_from t (k + 1) (count - (k + 1)) in
-    let A : Bool → Type 0 = λ b. IsTrue b in
     let takes = Takes-told k c.answer-answer.result now c.answer-answer.new.self.talk
-    (λ h. subst A c.if-is_refused.false (c.is_refused.ensures.1 h)) c.answer-answer.ensures.taken in
+    (λ h. absurd_of c.is_refused.result c.if-is_refused.false (c.is_refused.ensures.1 h)) c.answer-answer.ensures.taken in
     let same = takes.0 ∙ c.answers.invariant.keeps.answers k (omega arith) in
     let P : Talk → Type 0 = λ x. Keeps (k + 1) t x in
     record {
