@@ -789,9 +789,9 @@ struct Refusing {
 }
 
 impl Port for Refusing {
-    ghost log = { λ p. Some p.script };
+    ghost log = { λ p. Some p.script.log };
 
-    ghost faults = { λ p. 0 };
+    ghost faults = { λ p. p.script.faults };
 
     fn connect(&mut self) {
         self.script.connect();
@@ -813,7 +813,7 @@ impl Port for Refusing {
 impl ScriptedPort for Refusing {
     ghost use Rattle.std.specs.Prelude.{refl};
 
-    ghost links_taken = { λ p. p.script.links };
+    ghost links_taken = { λ p. p.script.log.links };
 
     ghost ties = { λ p. refl };
 
@@ -857,8 +857,7 @@ fn a_port_without_memory_prints_nothing(rt: HostRuntime) -> Result<(), Fail> {
 }
 
 fn push_zeros(text: &mut Vec<u8>, count: usize) -> Result<(), Fail> {
-    let len = text.len() + count;
-    text.resize(len, b'0')?;
+    text.resize(text.len().saturating_add(count), b'0')?;
     Ok(())
 }
 
