@@ -1,11 +1,8 @@
 -- The bytes of parts, part by part.
-use Rattle.std.proofs.Common.{◌≡◌, ◌≤◌, ◌<◌, ◌+◌, ◌-◌, ◌==◌, nat_le, if◌then◌else◌, ℕ, Bool, true, false, List, [], ◌∷◌, ◌++◌, length, drop, Option, Some, None, option_map, refl, sym, ap, ◌∙◌, append_assoc, append-nil, add_assoc, add-zero, arith, subst}
+use Rattle.std.proofs.Common.{◌≡◌, ◌≤◌, ◌<◌, ◌+◌, ◌-◌, nat_le, if◌then◌else◌, ℕ, Bool, true, false, List, [], ◌++◌, length, Option, Some, None, refl, sym, ap, ◌∙◌, append_assoc, append-nil, add_assoc, add-zero, arith}
 use Rattle.std.specs.List.{slice_split}
-use Rattle.std.specs.Result.{result_ok}
 use Rattle.std.proofs.lemmas.Bool.Decides.{nat_tests}
-use Rattle.hex.specs.Hex.{decode_of}
-use Rattle.amqp_script.specs.Numbers.{number_64}
-use Rattle.amqp_script.specs.Data.{Spelled, nothing, zeros_of, digits, is_plus, joined, part, parts}
+use Rattle.amqp_script.specs.Data.{Spelled, nothing, is_plus, joined, part, parts}
 use Rattle.amqp_script.specs.Budgets.{affordable, AppendsSpelled, Appends}
 use Rattle.amqp_script.specs.Words.{before_byte, after_byte}
 use Rattle.amqp_script.proofs.Cuts.{parts_from, slice_split-cut_at}

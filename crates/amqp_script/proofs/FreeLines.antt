@@ -1,17 +1,15 @@
 -- Lines without zeros that a number spells, and lines whose zeros are limited where they are read.
-use Rattle.std.proofs.Common.{◌≡◌, ◌&&◌, ℕ, nat_le, if◌then◌else◌, Bool, true, false, List, [], length, Option, Some, None, unwrap_or, refl, ap, ◌∙◌, sym, arith, codes}
-use Rattle.std.specs.Str.{bytes_eq}
+use Rattle.std.proofs.Common.{◌≡◌, ℕ, nat_le, if◌then◌else◌, Bool, true, false, List, [], length, Option, Some, None, unwrap_or, refl, ap, arith}
 use Rattle.std.proofs.lemmas.Bool.Decides.{nat_tests}
 use Rattle.amqp_session.specs.declared.command.Cmd.{Cmd}
 use Rattle.amqp_session.specs.declared.command.Cmd.TheVariants.{CloseChannel, CloseConnection}
 use Rattle.amqp_engine.specs.declared.given.GivenStep.{GivenStep}
 use Rattle.amqp_engine.specs.declared.given.GivenStep.TheVariants.{Command}
-use Rattle.amqp_script.specs.declared.grammar.Said.{Said}
 use Rattle.amqp_script.specs.declared.grammar.Said.TheVariants.{Refused, Step}
 use Rattle.amqp_script.specs.declared.limits.TheConstants.{TEXT_BYTES}
 use Rattle.amqp_script.specs.Words.{first_word, after_word}
 use Rattle.amqp_script.specs.Numbers.{number_16}
-use Rattle.amqp_script.specs.Grammar.{limited, closes_by, closes, shut_line, numbered, close_of, close_line, command_of_words}
+use Rattle.amqp_script.specs.Grammar.{limited, closes_by, closes, shut_line, numbered, close_of, close_line}
 
 -- a step without such zeros is always within the limit
 free_step : (left : ℕ) (what : GivenStep) → limited left (Step what 0) ≡ Step what 0

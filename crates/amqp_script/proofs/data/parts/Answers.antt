@@ -1,4 +1,4 @@
-use Rattle.std.proofs.Common.{◌∙◌, ◌≤◌, ◌-◌, ℕ, List, Option, Some, IfSome, ap, sym, subst, arith}
+use Rattle.std.proofs.Common.{◌∙◌, ◌≤◌, ◌-◌, ℕ, Option, Some, IfSome, ap, sym, subst, arith}
 use Rattle.std.specs.Option.{option_copied}
 use Rattle.amqp_script.specs.Data.{part, joined}
 use Rattle.amqp_script.specs.Budgets.{affordable, Appends}

@@ -1,6 +1,5 @@
-use Rattle.std.proofs.Common.{◌∙◌, ap, sym}
 use Rattle.std.proofs.lemmas.Grind.{common_steps}
-use Rattle.std.proofs.Common.{rules, arith}
+use Rattle.std.proofs.Common.{arith}
 use Rattle.std.specs.Option.{option_copied}
 use Rattle.amqp_script.proofs.FreeLines.{limited-close_line, limited-shut_line}
 use Rattle.amqp_script.proofs.grammar.command.Goals as goal

@@ -1,6 +1,5 @@
-use Rattle.std.proofs.Common.{◌∙◌, ap}
+use Rattle.std.proofs.Common.{◌∙◌}
 use Rattle.std.specs.String.{string_bytes}
-use Rattle.amqp_session.specs.Talk.{Talk, end_of}
 use Rattle.amqp_script.specs.Report.{frame_lines}
 use Rattle.amqp_script.proofs.Reports.{report-parts}
 use Rattle.amqp_script.proofs.report.report.Goals as goal
