@@ -1,5 +1,5 @@
 -- A script: which step each line says, and which line is refused.
-use Rattle.std.specs.Prelude.{ℕ, ◌==◌, ◌-◌, ◌&&◌, ◌||◌, not, nat_le, if◌then◌else◌, Bool, true, false, List, [], ◌∷◌, length, Option, Some, None, option_map, unwrap_or, Result, Ok, Err, codes}
+use Rattle.std.specs.Prelude.{ℕ, ◌==◌, ◌-◌, ◌&&◌, ◌||◌, not, nat_le, if◌then◌else◌, Bool, true, List, [], ◌∷◌, length, Option, Some, None, option_map, unwrap_or, Result, Ok, Err, codes}
 use Rattle.std.specs.List.{list_all}
 use Rattle.std.specs.Str.{bytes_eq}
 use Rattle.amqp_session.specs.declared.command.ChanRef.{ChanRef}
@@ -40,9 +40,9 @@ room_line (Some digits) = step_or_refused (option_map Room (number_64 digits))
 
 abbrev pub piece : Option Spelled → Said
 piece None = Refused
-piece (Some data) =
-    if nat_le 1 (length data.bytes) && nat_le (length data.bytes) PIECE_BYTES
-    then Step (Bytes data.bytes) data.zeros
+piece (Some found) =
+    if nat_le 1 (length found.bytes) && nat_le (length found.bytes) PIECE_BYTES
+    then Step (Bytes found.bytes) found.zeros
     else Refused
 
 -- `bytes DATA`
@@ -91,9 +91,9 @@ is_passed_through class = not (class == 10 || class == 20)
 
 abbrev pub sends_data : ℕ → ℕ → ℕ → Option Spelled → Said
 sends_data n class method None = Refused
-sends_data n class method (Some data) =
+sends_data n class method (Some found) =
     if is_passed_through class
-    then Step (Command (Send (numbered n) (record { class = class; method = method; arguments = data.bytes }))) data.zeros
+    then Step (Command (Send (numbered n) (record { class = class; method = method; arguments = found.bytes }))) found.zeros
     else Refused
 
 abbrev pub data_in : Option (List ℕ) → Option Spelled
@@ -101,8 +101,8 @@ data_in None = None
 data_in (Some text) = spelled text
 
 abbrev pub sends : Option ℕ → Option ℕ → Option ℕ → Option Spelled → Said
-sends (Some n) (Some class) (Some method) data = sends_data n class method data
-sends _ _ _ data = Refused
+sends (Some n) (Some class) (Some method) arguments = sends_data n class method arguments
+sends _ _ _ arguments = Refused
 
 -- `send CH CLASS METHOD DATA`, of a class that is passed through
 abbrev pub send_line : Option (List ℕ) → Said
@@ -155,7 +155,7 @@ says line = if is_within_limits line then content_says line.content else Refused
 
 -- what it says where so many zeros may still be spelled by numbers
 abbrev pub limited : ℕ → Said → Said
-limited left (Step what zeros) = if nat_le zeros left then Step what zeros else Refused
+limited left (Step what n) = if nat_le n left then Step what n else Refused
 limited left said = said
 
 -- ---- scripts
@@ -165,7 +165,7 @@ abbrev pub given : GivenStep → Given
 given what = record { at = 0; what = what }
 
 abbrev pub zeros_in : Said → ℕ
-zeros_in (Step what zeros) = zeros
+zeros_in (Step what n) = n
 zeros_in _ = 0
 
 abbrev pub first : GivenStep → Result (List Given) ℕ → Result (List Given) ℕ
@@ -176,7 +176,7 @@ first what (Err number) = Err number
 abbrev pub before : Said → ℕ → Result (List Given) ℕ → Result (List Given) ℕ
 before Nothing number rest = rest
 before Refused number rest = Err number
-before (Step what zeros) number rest = first what rest
+before (Step what n) number rest = first what rest
 
 -- the steps that these lines say, or the number of the first one that is refused, where so many zeros may still be spelled by numbers
 abbrev pub steps_of : ℕ → List Line → Result (List Given) ℕ

@@ -51,7 +51,7 @@ impl Spelled {
 /// The bytes that a text spells, where it spells any and where no more than so many of them are
 /// zeros that a number spells.
 pub fn read_data(alloc: Global, text: &[u8], most: u64) -> Result<Option<Spelled>, NoMemory>
-    ensures { IfOk result (λ data. data ≡ affordable most (spelled text.now)) }
+    ensures { IfOk result (λ found. found ≡ affordable most (spelled text.now)) }
 {
     if is(text, b"-") {
         return Ok(Some(Spelled {
@@ -64,13 +64,11 @@ pub fn read_data(alloc: Global, text: &[u8], most: u64) -> Result<Option<Spelled
 
 // The bytes of parts that are joined by `+`.
 fn parts(alloc: Global, text: &[u8], most: u64) -> Result<Option<Spelled>, NoMemory>
-    ensures { IfOk result (λ data. data ≡ affordable most (parts (slice_split is_plus text.now))) }
+    ensures { IfOk result (λ found. found ≡ affordable most (parts (slice_split is_plus text.now))) }
 {
-    let (first, mut rest) = cut(text, b'+');
     let mut bytes = Vec::new(alloc);
-    let Some(mut zeros) = append_part(alloc, &mut bytes, first, most)? else {
-        return Ok(None);
-    };
+    let mut zeros = 0;
+    let mut rest = Some(text);
     'parts: while let Some(more) = rest {
         let (part, after) = cut(more, b'+');
         match append_part(alloc, &mut bytes, part, most - zeros)? {

@@ -66,12 +66,7 @@ fn is_ignored(content: &[u8]) -> bool
 }
 
 // What a line says that begins with this word.
-fn words_say(
-    alloc: Global,
-    word: &[u8],
-    rest: Option<&[u8]>,
-    left: u64,
-) -> Result<Said, NoMemory>
+fn words_say(alloc: Global, word: &[u8], rest: Option<&[u8]>, left: u64) -> Result<Said, NoMemory>
     ensures { IfOk result (λ said. said ≡ limited left (line_of_words word.now (option_copied rest.entry))) }
 {
     if is(word, b"link") {
@@ -279,11 +274,11 @@ fn sends(
     id: u16,
     class: u16,
     method: u16,
-    data: Option<Spelled>,
+    arguments: Option<Spelled>,
 ) -> Result<Said, NoMemory>
-    ensures { IfOk result (λ said. said ≡ sends_data id class method data) }
+    ensures { IfOk result (λ said. said ≡ sends_data id class method arguments) }
 {
-    let Some(data) = data else {
+    let Some(data) = arguments else {
         return Ok(Said::Refused);
     };
     if class == 10 || class == 20 {

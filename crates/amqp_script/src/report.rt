@@ -78,6 +78,7 @@ fn put_links<P: ScriptedPort>(alloc: Global, out: &mut String, port: &P) -> Resu
 
 fn put_answers(out: &mut String, engine: &mut IoLoop) -> Result<(), NoMemory>
     ensures answers { OnOk result (string_bytes out.new ≡ string_bytes out.old ++ answer_lines engine.old.talk) }
+    ensures frames { frame_lines engine.new.talk ≡ frame_lines engine.old.talk }
     ensures end { end_of engine.new.talk ≡ end_of engine.old.talk }
 {
     let count = engine.session().promises();

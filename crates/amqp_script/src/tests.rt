@@ -22,6 +22,8 @@ enum Line {
     Says(&'static str),
     /// A line `bytes` of a frame.
     Bytes(&'static str),
+    /// A line `bytes` of a frame whose last byte is replaced.
+    Ending(&'static str, &'static str),
     /// A line `bytes` for each byte of a frame.
     EachByte(&'static str),
     /// So many lines `room 1`.
@@ -91,6 +93,12 @@ fn push_line(alloc: Global, text: &mut Vec<u8>, line: &Line) -> Result<(), Fail>
         Line::Bytes(frame) => {
             text.extend_from_slice(b"bytes ")?;
             push_digits(text, frame)?;
+        }
+        Line::Ending(frame, last) => {
+            text.extend_from_slice(b"bytes ")?;
+            push_digits(text, frame)?;
+            text.truncate(text.len().saturating_sub(2));
+            text.extend_from_slice(last.as_bytes())?;
         }
         Line::EachByte(frame) => return push_each(alloc, text, frame),
         Line::Rooms(count) => {
@@ -199,7 +207,7 @@ fn the_link_has_380_bytes(rt: HostRuntime) -> Result<(), Fail> {
 }
 
 // Scripts with what they print, and the status.
-const SMALL: [(&str, u8, &str); 22] = [
+const SMALL: [(&str, u8, &str); 21] = [
     ("", RUNNING, "answer 0 pending\nend running\n"),
     (
         "link 7\n",
@@ -238,8 +246,8 @@ const SMALL: [(&str, u8, &str); 22] = [
     ),
     (
         "link\nbytes 0800000000+0000ce\n",
-        FAILED,
-        "link 1 414d515000000901\nanswer 0 err not built: frame at byte 0\nend error not built: frame at byte 0\n",
+        RUNNING,
+        "link 1 414d515000000901\nanswer 0 pending\nend running\n",
     ),
     ("link\nbytes 0\n", REFUSED, "script line 2 refused\n"),
     ("link \n", REFUSED, "script line 1 refused\n"),
@@ -250,7 +258,6 @@ const SMALL: [(&str, u8, &str); 22] = [
     ("bytes -\n", REFUSED, "script line 1 refused\n"),
     ("bytes 00+\n", REFUSED, "script line 1 refused\n"),
     ("bytes 00 \n", REFUSED, "script line 1 refused\n"),
-    ("bytes z1\n", REFUSED, "script line 1 refused\n"),
     (
         "room 18446744073709551616\n",
         REFUSED,
@@ -264,14 +271,103 @@ const SMALL: [(&str, u8, &str); 22] = [
     ),
 ];
 
+// Lines of the channels, and faults, before a connection is open.
+const SMALL_CHANNELS: [(&str, u8, &str); 14] = [
+    (
+        "open\nclose 1 200\nclose 00001 0200 OK\nsend 1 60 40 -\n",
+        RUNNING,
+        "answer 0 pending\nanswer 1 err invalid connection state: Initial\nanswer 2 err invalid connection state: Initial\nanswer 3 err invalid connection state: Initial\nanswer 4 err invalid connection state: Initial\nend running\n",
+    ),
+    (
+        "link\nopen\nclose 1 200 OK\n",
+        RUNNING,
+        "link 1 414d515000000901\nanswer 0 pending\nanswer 1 err invalid connection state: Connecting\nanswer 2 err invalid connection state: Connecting\nend running\n",
+    ),
+    ("open \n", REFUSED, "script line 1 refused\n"),
+    ("close\n", REFUSED, "script line 1 refused\n"),
+    ("close 1\n", REFUSED, "script line 1 refused\n"),
+    ("close 65536 200\n", REFUSED, "script line 1 refused\n"),
+    ("send 1 60 40\n", REFUSED, "script line 1 refused\n"),
+    ("send 1 60  -\n", REFUSED, "script line 1 refused\n"),
+    ("send 1 10 40 -\n", REFUSED, "script line 1 refused\n"),
+    ("send 1 0020 40 -\n", REFUSED, "script line 1 refused\n"),
+    ("send 1 60 40 - x\n", REFUSED, "script line 1 refused\n"),
+    (
+        "refuse\n",
+        FAILED,
+        "answer 0 err IO error: connection refused\nend error IO error: connection refused\n",
+    ),
+    (
+        "writefail\nwritefail\nlink\nlink\n",
+        FAILED,
+        "link 1 -\nanswer 0 err IO error: broken pipe\nend error IO error: broken pipe\n",
+    ),
+    (
+        "room 9\nlink 3\nlink 100\nroom 2\n",
+        RUNNING,
+        "link 1 414d515000\nanswer 0 pending\nend running\n",
+    ),
+];
+
+// Bytes as they are spelled.
+const SMALL_BYTES: [(&str, u8, &str); 11] = [
+    (
+        "link\nbytes 41+z0+4d\n",
+        RUNNING,
+        "link 1 414d515000000901\nanswer 0 pending\nend running\n",
+    ),
+    (
+        "link\nbytes 414d5150+z00002+0800\n",
+        FAILED,
+        "link 1 414d515000000901\nanswer 0 err the server only supports AMQP 0-8-0\nend error the server only supports AMQP 0-8-0\n",
+    ),
+    (
+        "bytes 00+z4095\n",
+        RUNNING,
+        "answer 0 pending\nend running\n",
+    ),
+    ("bytes 00+z4096\n", REFUSED, "script line 1 refused\n"),
+    ("bytes z0\n", REFUSED, "script line 1 refused\n"),
+    ("bytes z\n", REFUSED, "script line 1 refused\n"),
+    ("bytes Z1\n", REFUSED, "script line 1 refused\n"),
+    ("bytes z1+\n", REFUSED, "script line 1 refused\n"),
+    ("bytes z1z1\n", REFUSED, "script line 1 refused\n"),
+    ("bytes -+z1\n", REFUSED, "script line 1 refused\n"),
+    (
+        "bytes z18446744073709551616\n",
+        REFUSED,
+        "script line 1 refused\n",
+    ),
+];
+
+// The first script that prints something else, or with another status.
+fn first_wrong(
+    alloc: Global,
+    rows: &[(&'static str, u8, &'static str)],
+) -> Result<Option<&'static str>, Fail> {
+    for (script, status, printed) in rows {
+        if !prints(alloc, script.as_bytes(), *status, printed.as_bytes())? {
+            return Ok(Some(script));
+        }
+    }
+    Ok(None)
+}
+
 #[test]
 fn small_scripts(rt: HostRuntime) -> Result<(), Fail> {
-    for (script, status, printed) in &SMALL {
-        assert!(rt;
-            prints(rt.alloc(), script.as_bytes(), *status, printed.as_bytes())?,
-            "at {script}"
-        );
-    }
+    assert_eq!(rt; first_wrong(rt.alloc(), &SMALL)?, None);
+    Ok(())
+}
+
+#[test]
+fn small_scripts_of_channels(rt: HostRuntime) -> Result<(), Fail> {
+    assert_eq!(rt; first_wrong(rt.alloc(), &SMALL_CHANNELS)?, None);
+    Ok(())
+}
+
+#[test]
+fn small_scripts_of_bytes(rt: HostRuntime) -> Result<(), Fail> {
+    assert_eq!(rt; first_wrong(rt.alloc(), &SMALL_BYTES)?, None);
     Ok(())
 }
 
@@ -289,19 +385,229 @@ fn a_comment_is_printable_too(rt: HostRuntime) -> Result<(), Fail> {
     Ok(())
 }
 
+/// How a script begins, and what it sends by that.
+#[derive(Drop)]
+struct Beginning {
+    lines: &'static [Line],
+    sent: &'static [&'static str],
+}
+
+const LINKED: Beginning = Beginning {
+    lines: &[Line::Says("link")],
+    sent: &[HEADER],
+};
+
+const CONNECTED: Beginning = Beginning {
+    lines: &[
+        Line::Says("link"),
+        Line::Bytes(START),
+        Line::Bytes(TUNE),
+        Line::Bytes(OPEN_OK),
+    ],
+    sent: &[HEADER, START_OK, TUNE_OK, OPEN],
+};
+
+const NARROW: Beginning = Beginning {
+    lines: &[
+        Line::Says("link"),
+        Line::Bytes(START),
+        Line::Bytes(NARROW_TUNE),
+        Line::Bytes(OPEN_OK),
+    ],
+    sent: &[HEADER, START_OK, NARROW_TUNE_OK, OPEN],
+};
+
+/// How a script goes on: its lines, the frames that it sends, what is printed after its link, and
+/// the status.
+#[derive(Drop)]
+struct Row {
+    lines: &'static [Line],
+    sent: &'static [&'static str],
+    rest: &'static str,
+    status: u8,
+}
+
+fn row_holds(alloc: Global, beginning: &Beginning, row: &Row) -> Result<bool, Fail> {
+    let mut text = script(alloc, beginning.lines)?;
+    text.extend_from_slice(&script(alloc, row.lines)?)?;
+    let mut sent = Vec::new(alloc);
+    sent.extend_from_slice(beginning.sent)?;
+    sent.extend_from_slice(row.sent)?;
+    prints(alloc, &text, row.status, &report(alloc, &sent, row.rest)?)
+}
+
+// What should be printed last of the first row that does not hold.
+fn first_broken(
+    alloc: Global,
+    beginning: &Beginning,
+    rows: &[Row],
+) -> Result<Option<&'static str>, Fail> {
+    for row in rows {
+        if !row_holds(alloc, beginning, row)? {
+            return Ok(Some(row.rest));
+        }
+    }
+    Ok(None)
+}
+
+const ON_A_LINK: [Row; 4] = [
+    Row {
+        lines: &[Line::Bytes(BLOCKED)],
+        sent: &[],
+        rest: "answer 0 err not built: frame at byte 0\nend error not built: frame at byte 0\n",
+        status: FAILED,
+    },
+    Row {
+        lines: &[Line::Ending(START, ""), Line::Says("end")],
+        sent: &[],
+        rest: "answer 0 err IO error: connection aborted\nend error IO error: connection aborted\n",
+        status: FAILED,
+    },
+    Row {
+        lines: &[Line::Ending(START, "cf")],
+        sent: &[],
+        rest: "answer 0 err failed to parse: frame at byte 0\nend error failed to parse: frame at byte 0\n",
+        status: FAILED,
+    },
+    Row {
+        lines: &[Line::Says("bytes 414d515000000800")],
+        sent: &[],
+        rest: "answer 0 err the server only supports AMQP 0-8-0\nend error the server only supports AMQP 0-8-0\n",
+        status: FAILED,
+    },
+];
+
 #[test]
-fn a_heartbeat_is_not_built(rt: HostRuntime) -> Result<(), Fail> {
-    let alloc = rt.alloc();
-    let lines = [Line::Says("link"), Line::Bytes(HEARTBEAT)];
-    let rest = "answer 0 err not built: frame at byte 0\nend error not built: frame at byte 0\n";
-    assert!(rt;
-        prints(
-            alloc,
-            &script(alloc, &lines)?,
-            FAILED,
-            &report(alloc, &[HEADER], rest)?
-        )?
+fn what_comes_on_a_link(rt: HostRuntime) -> Result<(), Fail> {
+    assert_eq!(rt; first_broken(rt.alloc(), &LINKED, &ON_A_LINK)?, None);
+    Ok(())
+}
+
+const WHERE_CONNECTED: [Row; 3] = [
+    Row {
+        lines: &[Line::Bytes(HEARTBEAT)],
+        sent: &[],
+        rest: "answer 0 ok connected\nend running\n",
+        status: RUNNING,
+    },
+    Row {
+        lines: &[Line::Bytes(HEARTBEAT_1)],
+        sent: &[],
+        rest: "answer 0 ok connected\nend error protocol error: 501 heartbeat frame received on channel 1\n",
+        status: FAILED,
+    },
+    Row {
+        lines: &[Line::Bytes(CLOSE_OF_SERVER)],
+        sent: &[CLOSE_OK],
+        rest: "answer 0 ok connected\nend error protocol error: 320 CONNECTION_FORCED\n",
+        status: FAILED,
+    },
+];
+
+#[test]
+fn what_comes_where_connected(rt: HostRuntime) -> Result<(), Fail> {
+    assert_eq!(rt;
+        first_broken(rt.alloc(), &CONNECTED, &WHERE_CONNECTED)?,
+        None
     );
+    Ok(())
+}
+
+const TWO_CHANNELS: [Row; 7] = [
+    // A third is refused, and the cursor goes on all the same.
+    Row {
+        lines: &[
+            Line::Says("open"),
+            Line::Bytes(OPEN_OK_1),
+            Line::Says("open"),
+            Line::Bytes(OPEN_OK_2),
+            Line::Says("open"),
+            Line::Says("close 1 200 OK"),
+            Line::Bytes(CLOSE_OK_1),
+            Line::Says("close 2 200 OK"),
+            Line::Bytes(CLOSE_OK_2),
+            Line::Says("open"),
+            Line::Bytes(OPEN_OK_2),
+        ],
+        sent: &[OPEN_1, OPEN_2, CLOSE_1, CLOSE_2, OPEN_2],
+        rest: "answer 0 ok connected\nanswer 1 ok channel 1\nanswer 2 ok channel 2\nanswer 3 err the maximum number of channels for this connection has been reached\nanswer 4 ok done\nanswer 5 ok done\nanswer 6 ok channel 2\nend running\n",
+        status: RUNNING,
+    },
+    // The numbers go round.
+    Row {
+        lines: &[
+            Line::Says("open"),
+            Line::Bytes(OPEN_OK_1),
+            Line::Says("open"),
+            Line::Bytes(OPEN_OK_2),
+            Line::Says("close 1 200 OK"),
+            Line::Bytes(CLOSE_OK_1),
+            Line::Says("close 2 200 OK"),
+            Line::Bytes(CLOSE_OK_2),
+            Line::Says("open"),
+            Line::Bytes(OPEN_OK_1),
+        ],
+        sent: &[OPEN_1, OPEN_2, CLOSE_1, CLOSE_2, OPEN_1],
+        rest: "answer 0 ok connected\nanswer 1 ok channel 1\nanswer 2 ok channel 2\nanswer 3 ok done\nanswer 4 ok done\nanswer 5 ok channel 1\nend running\n",
+        status: RUNNING,
+    },
+    Row {
+        lines: &[
+            Line::Says("open"),
+            Line::Bytes(OPEN_OK_1),
+            Line::Bytes(SELECT_OK_1),
+        ],
+        sent: &[OPEN_1],
+        rest: "answer 0 ok connected\nanswer 1 ok channel 1\nframe 1 method 0055000b\nend running\n",
+        status: RUNNING,
+    },
+    Row {
+        lines: &[
+            Line::Says("open"),
+            Line::Bytes(OPEN_OK_1),
+            Line::Bytes(SELECT_OK_2),
+        ],
+        sent: &[OPEN_1],
+        rest: "answer 0 ok connected\nanswer 1 ok channel 1\nend error invalid channel: 2\n",
+        status: FAILED,
+    },
+    // Frames are printed by the promise that opened their channel.
+    Row {
+        lines: &[
+            Line::Says("open"),
+            Line::Bytes(OPEN_OK_1),
+            Line::Says("open"),
+            Line::Bytes(OPEN_OK_2),
+            Line::Bytes(BODY_2),
+            Line::Bytes(HEADER_1),
+            Line::Bytes(EMPTY_BODY_2),
+        ],
+        sent: &[OPEN_1, OPEN_2],
+        rest: "answer 0 ok connected\nanswer 1 ok channel 1\nanswer 2 ok channel 2\nframe 1 header 003c000000000000000000020000\nframe 2 body 6869\nframe 2 body -\nend running\n",
+        status: RUNNING,
+    },
+    Row {
+        lines: &[Line::Says("close 2 200 OK")],
+        sent: &[],
+        rest: "answer 0 ok connected\nanswer 1 err invalid channel: 2\nend running\n",
+        status: RUNNING,
+    },
+    Row {
+        lines: &[
+            Line::Says("open"),
+            Line::Bytes(OPEN_OK_1),
+            Line::Says("close 1 200 OK"),
+            Line::Says("close 1 200 OK"),
+        ],
+        sent: &[OPEN_1, CLOSE_1],
+        rest: "answer 0 ok connected\nanswer 1 ok channel 1\nanswer 2 pending\nanswer 3 err invalid channel state: Closing (channel.close)\nend running\n",
+        status: RUNNING,
+    },
+];
+
+#[test]
+fn two_channels(rt: HostRuntime) -> Result<(), Fail> {
+    assert_eq!(rt; first_broken(rt.alloc(), &NARROW, &TWO_CHANNELS)?, None);
     Ok(())
 }
 
@@ -483,9 +789,9 @@ struct Refusing {
 }
 
 impl Port for Refusing {
-    ghost log = { λ p. Some p.script };
+    ghost log = { λ p. Some p.script.log };
 
-    ghost faults = { λ p. 0 };
+    ghost faults = { λ p. p.script.faults };
 
     fn connect(&mut self) {
         self.script.connect();
@@ -507,7 +813,7 @@ impl Port for Refusing {
 impl ScriptedPort for Refusing {
     ghost use Rattle.std.specs.Prelude.{refl};
 
-    ghost links_taken = { λ p. p.script.links };
+    ghost links_taken = { λ p. p.script.log.links };
 
     ghost ties = { λ p. refl };
 
@@ -547,5 +853,123 @@ fn a_port_without_memory_prints_nothing(rt: HostRuntime) -> Result<(), Fail> {
             "at write {write}"
         );
     }
+    Ok(())
+}
+
+fn push_zeros(text: &mut Vec<u8>, count: usize) -> Result<(), Fail> {
+    text.resize(text.len().saturating_add(count), b'0')?;
+    Ok(())
+}
+
+// The script of a channel at the least frame size, up to these lines.
+fn narrow_script(alloc: Global, lines: &str) -> Result<Vec<u8>, Fail> {
+    let mut text = script(alloc, NARROW.lines)?;
+    text.extend_from_slice(b"open\n")?;
+    push_line(alloc, &mut text, &Line::Bytes(OPEN_OK_1))?;
+    text.extend_from_slice(lines.as_bytes())?;
+    Ok(text)
+}
+
+// The link of that script, up to what these lines send.
+fn narrow_link(alloc: Global) -> Result<Vec<u8>, Fail> {
+    let mut text = Vec::from_slice(alloc, b"link 1 ")?;
+    for frame in NARROW.sent {
+        push_digits(&mut text, frame)?;
+    }
+    push_digits(&mut text, OPEN_1)?;
+    Ok(text)
+}
+
+// A report of the greatest body, and what follows it.
+fn body_report(alloc: Global, rest: &str) -> Result<Vec<u8>, Fail> {
+    let mut text = narrow_link(alloc)?;
+    text.extend_from_slice(b"\nanswer 0 ok connected\nanswer 1 ok channel 1\nframe 1 body ")?;
+    push_zeros(&mut text, 8176)?;
+    text.extend_from_slice(rest.as_bytes())?;
+    Ok(text)
+}
+
+#[test]
+fn a_body_of_the_greatest_size(rt: HostRuntime) -> Result<(), Fail> {
+    let alloc = rt.alloc();
+    let text = narrow_script(alloc, "bytes 03000100000ff8+z4088+ce\n")?;
+    assert!(rt;
+        prints(
+            alloc,
+            &text,
+            RUNNING,
+            &body_report(alloc, "\nend running\n")?
+        )?
+    );
+    Ok(())
+}
+
+#[test]
+fn a_frame_that_is_too_large(rt: HostRuntime) -> Result<(), Fail> {
+    let alloc = rt.alloc();
+    let text = narrow_script(
+        alloc,
+        "bytes 03000100000ff8+z4088+ce\nbytes 03000100000ff9\n",
+    )?;
+    let rest = "\nend error protocol error: 501 frame too large: 4097 bytes\n";
+    assert!(rt; prints(alloc, &text, FAILED, &body_report(alloc, rest)?)?);
+    Ok(())
+}
+
+// A report of a method of the greatest length that is sent.
+fn sent_report(alloc: Global) -> Result<Vec<u8>, Fail> {
+    let mut text = narrow_link(alloc)?;
+    push_digits(&mut text, "01 0001 0001fff8 003c 0028")?;
+    push_zeros(&mut text, 262_120)?;
+    text.extend_from_slice(b"ce\nanswer 0 ok connected\nanswer 1 ok channel 1\n")?;
+    text.extend_from_slice(b"answer 2 ok sent\n")?;
+    text.extend_from_slice(b"answer 3 err failed to serialise: frame of 131073 bytes\n")?;
+    text.extend_from_slice(b"end running\n")?;
+    Ok(text)
+}
+
+#[test]
+fn a_frame_longer_than_the_capacity(rt: HostRuntime) -> Result<(), Fail> {
+    let alloc = rt.alloc();
+    let text = narrow_script(alloc, "send 1 60 40 z131060\nsend 1 60 40 z131061\n")?;
+    assert!(rt; prints(alloc, &text, RUNNING, &sent_report(alloc)?)?);
+    Ok(())
+}
+
+#[test]
+fn hexadecimal_digits_in_upper_case(rt: HostRuntime) -> Result<(), Fail> {
+    let alloc = rt.alloc();
+    let mut text = Vec::from_slice(alloc, b"link 0008\nbytes ")?;
+    let mut digits = Vec::new(alloc);
+    push_digits(&mut digits, START)?;
+    digits.make_ascii_uppercase();
+    text.extend_from_slice(&digits)?;
+    let printed = b"link 1 414d515000000901\nanswer 0 pending\nend running\n";
+    assert!(rt; prints(alloc, &text, RUNNING, printed)?);
+    Ok(())
+}
+
+// Scripts that spell as many zeros as may be, and one more.
+const MANY_ZEROS: [(&str, u8, &str); 3] = [
+    (
+        "send 1 60 40 z67108863+z01\n",
+        RUNNING,
+        "answer 0 pending\nanswer 1 err invalid connection state: Initial\nend running\n",
+    ),
+    (
+        "send 1 60 40 z67108863+z2\n",
+        REFUSED,
+        "script line 1 refused\n",
+    ),
+    (
+        "bytes z64\nsend 1 60 40 z67108800\nbytes z1\n",
+        REFUSED,
+        "script line 3 refused\n",
+    ),
+];
+
+#[test]
+fn zeros_have_a_limit(rt: HostRuntime) -> Result<(), Fail> {
+    assert_eq!(rt; first_wrong(rt.alloc(), &MANY_ZEROS)?, None);
     Ok(())
 }

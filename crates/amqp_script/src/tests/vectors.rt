@@ -36,3 +36,41 @@ pub const CLOSE: &str = "01 0000 0000000d 000a0032 00c8 024f4b 0000 0000 ce";
 pub const CLOSE_OK: &str = "01 0000 00000004 000a0033 ce";
 
 pub const HEARTBEAT: &str = "08 0000 00000000 ce";
+
+/// At most 2 channels, frames of 4096 bytes, no heartbeats.
+pub const NARROW_TUNE: &str = "01 0000 0000000c 000a001e 0002 00001000 0000 ce";
+
+pub const NARROW_TUNE_OK: &str = "01 0000 0000000c 000a001f 0002 00001000 0000 ce";
+
+pub const BLOCKED: &str = "01 0000 00000008 000a003c 036c6f77 ce";
+
+pub const CLOSE_OF_SERVER: &str = "01 0000 0000001c 000a0032 0140
+    11 434f4e4e454354494f4e5f464f52434544 0000 0000 ce";
+
+pub const OPEN_1: &str = "01 0001 00000005 0014000a 00 ce";
+
+pub const OPEN_2: &str = "01 0002 00000005 0014000a 00 ce";
+
+pub const OPEN_OK_1: &str = "01 0001 00000008 0014000b 00000000 ce";
+
+pub const OPEN_OK_2: &str = "01 0002 00000008 0014000b 00000000 ce";
+
+pub const CLOSE_1: &str = "01 0001 0000000d 00140028 00c8 024f4b 0000 0000 ce";
+
+pub const CLOSE_2: &str = "01 0002 0000000d 00140028 00c8 024f4b 0000 0000 ce";
+
+pub const CLOSE_OK_1: &str = "01 0001 00000004 00140029 ce";
+
+pub const CLOSE_OK_2: &str = "01 0002 00000004 00140029 ce";
+
+pub const SELECT_OK_1: &str = "01 0001 00000004 0055000b ce";
+
+pub const SELECT_OK_2: &str = "01 0002 00000004 0055000b ce";
+
+pub const HEARTBEAT_1: &str = "08 0001 00000000 ce";
+
+pub const HEADER_1: &str = "02 0001 0000000e 003c 0000 0000000000000002 0000 ce";
+
+pub const BODY_2: &str = "03 0002 00000002 6869 ce";
+
+pub const EMPTY_BODY_2: &str = "03 0002 00000000 ce";

@@ -16,7 +16,7 @@ returns-clause-printout g c =
     count c.in-Ok.ensures.ok c.in_ok-load.ensures.told c.run.ensures.played whole (g.met.P.ScriptedPort.ties c.run.new.port) in
     let ended : Talk → ℕ = λ t. end_status (end_of t) in
     let status : c.end_status-status.result ≡ ended c.run.new.self.talk =
-    c.end_status-status.ensures ∙ ap end_status c.end.ensures ∙ ap ended c.session.ensures in
+    c.end_status-status.ensures ∙ ap end_status c.in_ok-ended.ensures in
     let made : ℕ → List ℕ → Printout = λ s x. record { status = s; text = x } in
     c.new-2.ensures
     ∙ ap (λ (s : ℕ). made s (string_bytes c.in_ok-report.field-0)) (status ∙ ap ended is.talk_is)
