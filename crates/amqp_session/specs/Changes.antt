@@ -83,20 +83,9 @@ fail e t = record t { state = Error; link = Ended (Err e); channels = [] }
 abbrev pub lose : ErrorKind → Talk → Talk
 lose e t = fail e t
 
-<<<<<<< HEAD
 abbrev pub finish_by : Option ServerClose → Talk → Talk
 finish_by (Some (WithError e)) t = lose (ProtocolError e) t
 finish_by _ t = close t
-=======
--- an error that tells no more than that the connection is closed
-abbrev pub is_closed : ErrorKind → Bool
-is_closed (InvalidConnectionState Closed) = true
-is_closed _ = false
-
-abbrev pub finish_by : Option ErrorKind → Talk → Talk
-finish_by None t = close t
-finish_by (Some e) t = if is_closed e then close t else lose e t
->>>>>>> df822b9ee9a9aeb6194a72dc63d61d1396909ff7
 
 -- the end after the server's close: Closed where its code was none of an error
 abbrev pub finish : Talk → Talk

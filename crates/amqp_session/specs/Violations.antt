@@ -1,9 +1,5 @@
-<<<<<<< HEAD
--- What a server does that it may not do: the error, by code and text, that each such frame is answered with (AMQP 0-9-1, 4.8.2 and the reply codes of its reference).
-=======
 -- What a server may not do, and the error, by reply code and text, with which the session then ends (AMQP 0-9-1, 4.8.2 and the reply codes of its reference).
 -- The server is not told: no close is written.
->>>>>>> df822b9ee9a9aeb6194a72dc63d61d1396909ff7
 use Rattle.std.specs.Prelude.{ℕ, ◌+◌, List, ◌++◌, codes, is_some, if◌then◌else◌}
 use Rattle.std.specs.Fmt.{decimal}
 use Rattle.amqp_types.specs.Codes.{kind_of}

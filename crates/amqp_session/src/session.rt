@@ -1,17 +1,8 @@
 //! The session, and its queries.
 
-<<<<<<< HEAD
-ghost use Rattle.std.specs.Prelude.{◌≡◌, ◌+◌, ◌<◌, ◌≤◌, ◌^◌, length, IfOk, IfErr, Some, None};
-ghost use Rattle.amqp_session.specs.Talk.{start, wants_link, is_asked, is_open, has_ended, end_of, drops_input};
-ghost use Rattle.amqp_session.specs.Changes.{present_at, starve, fail, lose, close, finish, give, give_to};
-ghost use Rattle.amqp_session.specs.Writing.{unsent};
-ghost use Rattle.amqp_session.specs.Negotiation.{frame_limit};
-ghost use Rattle.amqp_session.specs.Answers.{HandsOut};
-=======
 ghost use Rattle.std.specs.Prelude.{◌≡◌, IfOk, IfErr};
 ghost use Rattle.amqp_session.specs.Talk.{start};
-ghost use Rattle.amqp_session.specs.Changes.{present_at, starve, fail, lose, close, is_closed, finish, give, give_to};
->>>>>>> df822b9ee9a9aeb6194a72dc63d61d1396909ff7
+ghost use Rattle.amqp_session.specs.Changes.{present_at, starve, fail, lose, close, finish, give, give_to};
 
 mod answers;
 mod channel_methods;
