@@ -21,3 +21,13 @@ returns-clause-printout g c =
     c.new-2.ensures
     ∙ ap (λ (s : ℕ). made s (string_bytes c.in_ok-report.field-0)) (status ∙ ap ended is.talk_is)
     ∙ ap (made _) (c.in_ok-report.ensures ∙ ap (λ (x : List (List ℕ)). report x c.run.new.self.talk) is.links_are ∙ ap (report (replayed_links gs)) is.talk_is)
+
+pub returns-clause-links : goal.returns-clause-links
+returns-clause-links g c =
+    let gs = c.args.steps.items in
+    let count : c.len-turns.result ≡ length gs = omega (arith, c.len-turns.ensures, c.args.steps.ok) in
+    let links = g.P.ScriptedPort.links_taken c.run.new.port in
+    let whole = none_from c.run.new.self.starved (ap is_some (sym c.starved.ensures) ∙ sym c.is_some.ensures ∙ c.if-is_some.false) in
+    let is = IsReplayed-run gs c.len-turns.result c.in-Ok.engine c.run.new.self (g.P.Port.log c.load.new.self) (g.P.Port.log c.run.new.port) links
+    count c.in-Ok.ensures.ok c.in_ok-load.ensures.told c.run.ensures.played whole (g.met.P.ScriptedPort.ties c.run.new.port) in
+    is.told
