@@ -483,7 +483,7 @@ fn what_comes_on_a_link(rt: HostRuntime) -> Result<(), Fail> {
     Ok(())
 }
 
-const WHERE_CONNECTED: [Row; 3] = [
+const WHERE_CONNECTED: [Row; 7] = [
     Row {
         lines: &[Line::Bytes(HEARTBEAT)],
         sent: &[],
@@ -502,12 +502,176 @@ const WHERE_CONNECTED: [Row; 3] = [
         rest: "answer 0 ok connected\nend error protocol error: 320 CONNECTION_FORCED\n",
         status: FAILED,
     },
+    Row {
+        lines: &[Line::Bytes(CLOSE_OK_ON_1)],
+        sent: &[],
+        rest: "answer 0 ok connected\nend error protocol error: 503 connection frame received on channel 1\n",
+        status: FAILED,
+    },
+    Row {
+        lines: &[Line::Bytes(SELECT_OK_0)],
+        sent: &[],
+        rest: "answer 0 ok connected\nend error protocol error: 504 method frame received on channel 0\n",
+        status: FAILED,
+    },
+    Row {
+        lines: &[Line::Bytes(BODY_0)],
+        sent: &[],
+        rest: "answer 0 ok connected\nend error protocol error: 504 body frame received on channel 0\n",
+        status: FAILED,
+    },
+    Row {
+        lines: &[
+            Line::Says("open"),
+            Line::Bytes(OPEN_OK_1),
+            Line::Bytes(OPEN_OK_1),
+        ],
+        sent: &[OPEN_1],
+        rest: "answer 0 ok connected\nanswer 1 ok channel 1\nend error protocol error: 505 unexpected channel.open-ok received on channel 1\n",
+        status: FAILED,
+    },
 ];
 
 #[test]
 fn what_comes_where_connected(rt: HostRuntime) -> Result<(), Fail> {
     assert_eq!(rt;
         first_broken(rt.alloc(), &CONNECTED, &WHERE_CONNECTED)?,
+        None
+    );
+    Ok(())
+}
+
+// A read or a write fails at each step of the handshake.
+const FAULTS: [Row; 9] = [
+    Row {
+        lines: &[
+            Line::Says("writefail"),
+            Line::Bytes(START),
+            Line::Bytes(TUNE),
+        ],
+        sent: &[],
+        rest: "answer 0 err IO error: broken pipe\nend error IO error: broken pipe\n",
+        status: FAILED,
+    },
+    Row {
+        lines: &[
+            Line::Bytes(START),
+            Line::Says("writefail"),
+            Line::Bytes(TUNE),
+            Line::Bytes(OPEN_OK),
+        ],
+        sent: &[START_OK],
+        rest: "answer 0 err IO error: broken pipe\nend error IO error: broken pipe\n",
+        status: FAILED,
+    },
+    Row {
+        lines: &[
+            Line::Bytes(START),
+            Line::Bytes(TUNE),
+            Line::Says("writefail"),
+            Line::Bytes(OPEN_OK),
+        ],
+        sent: &[START_OK, TUNE_OK, OPEN],
+        rest: "answer 0 ok connected\nend running\n",
+        status: RUNNING,
+    },
+    Row {
+        lines: &[
+            Line::Bytes(START),
+            Line::Bytes(TUNE),
+            Line::Says("writefail"),
+            Line::Bytes(OPEN_OK),
+            Line::Says("shut 200 OK"),
+            Line::Bytes(CLOSE_OK),
+        ],
+        sent: &[START_OK, TUNE_OK, OPEN],
+        rest: "answer 0 ok connected\nanswer 1 err IO error: broken pipe\nend error IO error: broken pipe\n",
+        status: FAILED,
+    },
+    Row {
+        lines: &[Line::Says("fault"), Line::Bytes(START)],
+        sent: &[],
+        rest: "answer 0 err IO error: connection reset\nend error IO error: connection reset\n",
+        status: FAILED,
+    },
+    Row {
+        lines: &[Line::Bytes(START), Line::Says("fault")],
+        sent: &[START_OK],
+        rest: "answer 0 err IO error: connection reset\nend error IO error: connection reset\n",
+        status: FAILED,
+    },
+    Row {
+        lines: &[Line::Bytes(START), Line::Bytes(TUNE), Line::Says("fault")],
+        sent: &[START_OK, TUNE_OK, OPEN],
+        rest: "answer 0 err IO error: connection reset\nend error IO error: connection reset\n",
+        status: FAILED,
+    },
+    Row {
+        lines: &[
+            Line::Bytes(START),
+            Line::Bytes(TUNE),
+            Line::Bytes(OPEN_OK),
+            Line::Says("shut 200 OK"),
+            Line::Says("fault"),
+        ],
+        sent: &[START_OK, TUNE_OK, OPEN, CLOSE],
+        rest: "answer 0 ok connected\nanswer 1 err IO error: connection reset\nend error IO error: connection reset\n",
+        status: FAILED,
+    },
+    Row {
+        lines: &[Line::Bytes(START), Line::Says("end")],
+        sent: &[START_OK],
+        rest: "answer 0 err IO error: connection aborted\nend error IO error: connection aborted\n",
+        status: FAILED,
+    },
+];
+
+#[test]
+fn reads_and_writes_that_fail(rt: HostRuntime) -> Result<(), Fail> {
+    assert_eq!(rt; first_broken(rt.alloc(), &LINKED, &FAULTS)?, None);
+    Ok(())
+}
+
+// A link that has room for all but the last byte of a method.
+const ALL_BUT_A_BYTE: Beginning = Beginning {
+    lines: &[
+        Line::Says("link 383"),
+        Line::Bytes(START),
+        Line::Bytes(NARROW_TUNE),
+        Line::Bytes(OPEN_OK),
+        Line::Says("open"),
+        Line::Bytes(OPEN_OK_1),
+        Line::Says("send 1 60 40 -"),
+    ],
+    sent: &[
+        HEADER,
+        START_OK,
+        NARROW_TUNE_OK,
+        OPEN,
+        OPEN_1,
+        ALL_BUT_AN_END,
+    ],
+};
+
+const SENT_WITH_ITS_LAST_BYTE: [Row; 2] = [
+    Row {
+        lines: &[],
+        sent: &[],
+        rest: "answer 0 ok connected\nanswer 1 ok channel 1\nanswer 2 pending\nend running\n",
+        status: RUNNING,
+    },
+    Row {
+        lines: &[Line::Says("room 1")],
+        sent: &["ce"],
+        rest: "answer 0 ok connected\nanswer 1 ok channel 1\nanswer 2 ok sent\nend running\n",
+        status: RUNNING,
+    },
+];
+
+#[test]
+fn sent_with_its_last_byte(rt: HostRuntime) -> Result<(), Fail> {
+    assert_eq!(rt;
+        first_broken(rt.alloc(), &ALL_BUT_A_BYTE, &SENT_WITH_ITS_LAST_BYTE)?,
         None
     );
     Ok(())

@@ -74,3 +74,12 @@ pub const HEADER_1: &str = "02 0001 0000000e 003c 0000 0000000000000002 0000 ce"
 pub const BODY_2: &str = "03 0002 00000002 6869 ce";
 
 pub const EMPTY_BODY_2: &str = "03 0002 00000000 ce";
+
+pub const CLOSE_OK_ON_1: &str = "01 0001 00000004 000a0033 ce";
+
+pub const SELECT_OK_0: &str = "01 0000 00000004 0055000b ce";
+
+pub const BODY_0: &str = "03 0000 00000002 6869 ce";
+
+/// A method without arguments, up to its last byte.
+pub const ALL_BUT_AN_END: &str = "01 0001 00000004 003c0028";
