@@ -95,7 +95,7 @@ confirmed n c t = set_channel n (record c { confirm = true }) t
 abbrev pub pass_through : ℕ → Channel → RawKind → List ℕ → Talk → Talk
 pass_through n c kind bytes t =
     hand_out c.opened (record { channel = n; kind = kind; bytes = bytes })
-      (if is_select_ok kind bytes then confirmed n c t else t)
+    (if is_select_ok kind bytes then confirmed n c t else t)
 
 -- a frame on a channel that is not listed: after our close of the connection it is dropped, and else it is fatal
 abbrev pub unlisted : ConnectionState → ℕ → Talk → Talk

@@ -142,7 +142,12 @@ impl fmt::Display for Error {
             ),
             ErrorKind::InvalidChannel(id) => write!(f, "invalid channel: {id}"),
             ErrorKind::InvalidChannelState(held, word) => {
-                write!(f, "invalid channel state: {} ({})", held.name(), word.text())
+                write!(
+                    f,
+                    "invalid channel state: {} ({})",
+                    held.name(),
+                    word.text()
+                )
             }
             ErrorKind::InvalidConnectionState(held) => {
                 write!(f, "invalid connection state: {}", held.name())

@@ -72,11 +72,7 @@ fn raw_name(kind: RawKind) -> &'static str
 }
 
 /// A method of the channel class that nothing awaits.
-pub fn unawaited(
-    alloc: Global,
-    method: &Method,
-    channel: ChannelId,
-) -> Result<ErrorKind, NoMemory>
+pub fn unawaited(alloc: Global, method: &Method, channel: ChannelId) -> Result<ErrorKind, NoMemory>
     ensures { IfOk result (λ kind. kind ≡ unawaited method.now channel) }
 {
     let name = method_name(method);

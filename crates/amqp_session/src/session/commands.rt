@@ -94,7 +94,10 @@ impl Session {
         self.committed.reserve(self.lanes.len() + 1)?;
         self.channels.list(id, Channel::opened_by(number))?;
         let open = Item::plain(channel_open(id));
-        if let Err(refused) = self.lanes.ask(open, awaits(id, Reply::ChannelOpened, number)) {
+        if let Err(refused) = self
+            .lanes
+            .ask(open, awaits(id, Reply::ChannelOpened, number))
+        {
             self.channels.remove(id);
             return Err(refused);
         }
