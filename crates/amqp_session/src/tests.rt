@@ -63,6 +63,26 @@ fn our_close(alloc: Global) -> std::result::Result<Cmd, Fail> {
     Ok(Cmd::CloseConnection(200, ShortString::new(alloc, b"OK")?))
 }
 
+// Reads a frame.
+fn read(session: &mut Session, frame: Frame) {
+    let _ = session.frame(frame, 138, 0);
+}
+
+// Tells a command, and gives its promise.
+fn told(session: &mut Session, cmd: Cmd) -> Option<u64> {
+    session.command(cmd).unwrap_or(None)
+}
+
+// Whether this is the answer to a promise.
+fn gives(session: &mut Session, number: u64, wanted: Option<Result<Answer>>) -> bool {
+    session.answer(number) == wanted
+}
+
+// Takes so many of the unsent bytes.
+fn take(session: &mut Session, n: u64) {
+    session.taken(n.min(session.unsent()), 0);
+}
+
 // A session whose link is open.
 fn linked(alloc: Global) -> std::result::Result<Session, Fail> {
     let mut session = Session::new(alloc)?;
@@ -74,9 +94,9 @@ fn linked(alloc: Global) -> std::result::Result<Session, Fail> {
 // A session whose connection is open, and whose frames so far were sent.
 fn connected(alloc: Global) -> std::result::Result<Session, Fail> {
     let mut session = linked(alloc)?;
-    session.frame(start(alloc)?, 0, 0)?;
-    session.frame(tune_of(2047, 131_072, 60), 105, 0)?;
-    session.frame(open_ok(), 125, 0)?;
+    read(&mut session, start(alloc)?);
+    read(&mut session, tune_of(2047, 131_072, 60));
+    read(&mut session, open_ok());
     send_all(&mut session);
     Ok(session)
 }
@@ -132,7 +152,7 @@ fn header_and_start_ok_are_spelled_as_lapin_spells_them(
     assert!(rt; writes(alloc, &mut session, HEADER)?);
     assert!(rt; is_silent(&mut session));
     session.piece(0);
-    session.frame(start(alloc)?, 0, 0)?;
+    read(&mut session, start(alloc)?);
     assert!(rt; writes(alloc, &mut session, START_OK)?);
     Ok(())
 }
@@ -141,9 +161,9 @@ fn header_and_start_ok_are_spelled_as_lapin_spells_them(
 fn tune_is_answered_by_tune_ok_and_open(rt: HostRuntime) -> std::result::Result<(), Fail> {
     let alloc = rt.alloc();
     let mut session = linked(alloc)?;
-    session.frame(start(alloc)?, 0, 0)?;
+    read(&mut session, start(alloc)?);
     send_all(&mut session);
-    session.frame(tune_of(2047, 131_072, 60), 105, 0)?;
+    read(&mut session, tune_of(2047, 131_072, 60));
     assert!(rt; session.waiting() == 2);
     assert!(rt; writes(alloc, &mut session, TUNE_OK)?);
     assert!(rt; writes(alloc, &mut session, OPEN)?);
@@ -158,7 +178,7 @@ fn open_ok_opens_the_connection(rt: HostRuntime) -> std::result::Result<(), Fail
     assert!(rt; session.configuration().channel_max() == 2047);
     assert!(rt; session.configuration().frame_max() == 131_072);
     assert!(rt; session.configuration().heartbeat() == 60);
-    assert!(rt; session.answer(0) == Some(Ok(Answer::Connected)));
+    assert!(rt; gives(&mut session, 0, Some(Ok(Answer::Connected))));
     assert!(rt; session.answer(0).is_none());
     Ok(())
 }
@@ -167,13 +187,13 @@ fn open_ok_opens_the_connection(rt: HostRuntime) -> std::result::Result<(), Fail
 fn our_close_ends_closed(rt: HostRuntime) -> std::result::Result<(), Fail> {
     let alloc = rt.alloc();
     let mut session = connected(alloc)?;
-    assert!(rt; session.command(our_close(alloc)?)? == Some(1));
+    assert!(rt; told(&mut session, our_close(alloc)?) == Some(1));
     assert!(rt; session.state() == ConnectionState::Closing);
     assert!(rt; writes(alloc, &mut session, CLOSE)?);
     assert!(rt; session.answer(1).is_none() && session.end().is_none());
-    session.frame(close_ok(), 138, 0)?;
+    read(&mut session, close_ok());
     assert!(rt; session.state() == ConnectionState::Closed);
-    assert!(rt; session.answer(1) == Some(Ok(Answer::Done)));
+    assert!(rt; gives(&mut session, 1, Some(Ok(Answer::Done))));
     assert!(rt; session.end() == Some(Ok(())));
     Ok(())
 }
@@ -182,12 +202,12 @@ fn our_close_ends_closed(rt: HostRuntime) -> std::result::Result<(), Fail> {
 fn a_second_close_is_refused(rt: HostRuntime) -> std::result::Result<(), Fail> {
     let alloc = rt.alloc();
     let mut session = connected(alloc)?;
-    session.command(our_close(alloc)?)?;
-    assert!(rt; session.command(our_close(alloc)?)? == Some(2));
-    assert!(rt; session.answer(2) == refused_in(ConnectionState::Closing));
-    session.frame(close_ok(), 138, 0)?;
-    assert!(rt; session.command(our_close(alloc)?)? == Some(3));
-    assert!(rt; session.answer(3) == refused_in(ConnectionState::Closed));
+    told(&mut session, our_close(alloc)?);
+    assert!(rt; told(&mut session, our_close(alloc)?) == Some(2));
+    assert!(rt; gives(&mut session, 2, refused_in(ConnectionState::Closing)));
+    read(&mut session, close_ok());
+    assert!(rt; told(&mut session, our_close(alloc)?) == Some(3));
+    assert!(rt; gives(&mut session, 3, refused_in(ConnectionState::Closed)));
     assert!(rt; session.promises() == 4 && session.has_ended());
     Ok(())
 }
@@ -198,8 +218,8 @@ fn a_close_before_the_connection_is_open_is_refused(
 ) -> std::result::Result<(), Fail> {
     let alloc = rt.alloc();
     let mut session = linked(alloc)?;
-    assert!(rt; session.command(our_close(alloc)?)? == Some(1));
-    assert!(rt; session.answer(1) == refused_in(ConnectionState::Connecting));
+    assert!(rt; told(&mut session, our_close(alloc)?) == Some(1));
+    assert!(rt; gives(&mut session, 1, refused_in(ConnectionState::Connecting)));
     assert!(rt; session.answer(0).is_none());
     assert!(rt; session.state() == ConnectionState::Connecting);
     assert!(rt; session.waiting() == 1);
@@ -225,7 +245,7 @@ fn ends_with(
     frame: Frame,
     text: &str,
 ) -> std::result::Result<bool, Fail> {
-    session.frame(frame, 138, 0)?;
+    read(&mut session, frame);
     Ok(text_of_end(alloc, &session)?.as_str() == text)
 }
 
@@ -238,7 +258,7 @@ fn raw(alloc: Global, id: u16, kind: RawKind, bytes: &[u8]) -> std::result::Resu
 fn a_heartbeat_changes_nothing(rt: HostRuntime) -> std::result::Result<(), Fail> {
     let alloc = rt.alloc();
     let mut session = linked(alloc)?;
-    session.frame(Frame::Heartbeat, 0, 0)?;
+    read(&mut session, Frame::Heartbeat);
     assert!(rt; session.state() == ConnectionState::Connecting);
     assert!(rt; session.end().is_none() && session.answer(0).is_none());
     Ok(())
@@ -372,15 +392,18 @@ const CLOSE_OK: &[u8] = b"\x01\x00\x00\x00\x00\x00\x04\x00\x0a\x00\x33\xce";
 fn the_server_closes_with_an_error(rt: HostRuntime) -> std::result::Result<(), Fail> {
     let alloc = rt.alloc();
     let mut session = connected(alloc)?;
-    session.frame(server_close(alloc, 320, b"CONNECTION_FORCED")?, 138, 0)?;
+    read(
+        &mut session,
+        server_close(alloc, 320, b"CONNECTION_FORCED")?,
+    );
     assert!(rt; session.state() == ConnectionState::Closing && session.end().is_none());
-    session.frame(close_ok(), 166, 0)?;
+    read(&mut session, close_ok());
     session.misread(Misread::Bad(178), 0)?;
     assert!(rt; session.end().is_none() && session.drops_input());
     assert!(rt; writes(alloc, &mut session, CLOSE_OK)?);
-    session.taken(11, 0);
+    take(&mut session, 11);
     assert!(rt; session.end().is_none());
-    session.taken(1, 0);
+    take(&mut session, 1);
     let text = text_of_end(alloc, &session)?;
     assert!(rt; text.as_str() == "protocol error: 320 CONNECTION_FORCED");
     assert!(rt; session.state() == ConnectionState::Error);
@@ -391,7 +414,7 @@ fn the_server_closes_with_an_error(rt: HostRuntime) -> std::result::Result<(), F
 fn the_server_closes_without_an_error(rt: HostRuntime) -> std::result::Result<(), Fail> {
     let alloc = rt.alloc();
     let mut session = connected(alloc)?;
-    session.frame(server_close(alloc, 200, b"OK")?, 138, 0)?;
+    read(&mut session, server_close(alloc, 200, b"OK")?);
     session.lost(IoFault::Aborted, 0);
     assert!(rt; session.end() == Some(Ok(())));
     assert!(rt; session.state() == ConnectionState::Closed);
@@ -419,7 +442,7 @@ fn want_of_memory_ends_the_session(rt: HostRuntime) -> std::result::Result<(), F
     session.starve(3);
     session.advance(4);
     assert!(rt; session.end() == Some(Err(ErrorKind::NoMemory.into())));
-    assert!(rt; session.answer(0) == Some(Err(ErrorKind::NoMemory.into())));
+    assert!(rt; gives(&mut session, 0, Some(Err(ErrorKind::NoMemory.into()))));
     session.misread(Misread::Bad(7), 5)?;
     assert!(rt; session.end() == Some(Err(ErrorKind::NoMemory.into())));
     Ok(())
@@ -439,14 +462,14 @@ fn a_link_that_is_not_asked_for_changes_nothing(rt: HostRuntime) -> std::result:
 fn frames_are_sent_when_their_last_byte_is_taken(rt: HostRuntime) -> std::result::Result<(), Fail> {
     let alloc = rt.alloc();
     let mut session = linked(alloc)?;
-    session.frame(start(alloc)?, 0, 0)?;
+    read(&mut session, start(alloc)?);
     assert!(rt; writes(alloc, &mut session, HEADER)?);
     assert!(rt; session.unsent() == 8);
-    session.taken(3, 0);
+    take(&mut session, 3);
     assert!(rt; session.unsent() == 5);
     assert!(rt; writes(alloc, &mut session, START_OK)?);
     assert!(rt; session.unsent() == 320);
-    session.taken(6, 0);
+    take(&mut session, 6);
     assert!(rt; session.unsent() == 314);
     Ok(())
 }
@@ -481,8 +504,8 @@ fn frames_are_read_up_to_the_agreed_size(rt: HostRuntime) -> std::result::Result
     let alloc = rt.alloc();
     let mut session = linked(alloc)?;
     assert!(rt; session.frame_limit() == 131_072);
-    session.frame(start(alloc)?, 0, 0)?;
-    session.frame(tune_of(2, 4096, 0), 105, 0)?;
+    read(&mut session, start(alloc)?);
+    read(&mut session, tune_of(2, 4096, 0));
     assert!(rt; session.frame_limit() == 4096);
     Ok(())
 }
@@ -582,9 +605,9 @@ fn close_of(alloc: Global, channel: ChanRef) -> std::result::Result<Cmd, Fail> {
 // A connection with at most two channels.
 fn connected_for_two(alloc: Global) -> std::result::Result<Session, Fail> {
     let mut session = linked(alloc)?;
-    session.frame(start(alloc)?, 0, 0)?;
-    session.frame(tune_of(2, 4096, 0), 105, 0)?;
-    session.frame(open_ok(), 125, 0)?;
+    read(&mut session, start(alloc)?);
+    read(&mut session, tune_of(2, 4096, 0));
+    read(&mut session, open_ok());
     send_all(&mut session);
     Ok(session)
 }
@@ -592,8 +615,8 @@ fn connected_for_two(alloc: Global) -> std::result::Result<Session, Fail> {
 // A connection with channel 1 open, which promise 1 opened.
 fn with_channel(alloc: Global) -> std::result::Result<Session, Fail> {
     let mut session = connected(alloc)?;
-    session.command(Cmd::OpenChannel)?;
-    session.frame(open_ok_on(1), 138, 0)?;
+    told(&mut session, Cmd::OpenChannel);
+    read(&mut session, open_ok_on(1));
     send_all(&mut session);
     Ok(session)
 }
@@ -602,7 +625,7 @@ fn with_channel(alloc: Global) -> std::result::Result<Session, Fail> {
 fn a_channel_opens(rt: HostRuntime) -> std::result::Result<(), Fail> {
     let alloc = rt.alloc();
     let mut session = connected(alloc)?;
-    assert!(rt; session.command(Cmd::OpenChannel)? == Some(1));
+    assert!(rt; told(&mut session, Cmd::OpenChannel) == Some(1));
     assert!(rt;
         writes(
             alloc,
@@ -612,11 +635,18 @@ fn a_channel_opens(rt: HostRuntime) -> std::result::Result<(), Fail> {
     );
     assert!(rt; session.channel_state(named(1, 1)) == ChannelState::Initial);
     assert!(rt; session.answer(1).is_none() && session.listed() == 1);
-    session.frame(open_ok_on(1), 138, 0)?;
-    assert!(rt; session.answer(1) == Some(Ok(Answer::Channel(1, 1))));
+    read(&mut session, open_ok_on(1));
+    assert!(rt; gives(&mut session, 1, Some(Ok(Answer::Channel(1, 1)))));
     assert!(rt; session.channel_state(numbered(1)) == ChannelState::Connected);
     assert!(rt; session.opening(1) == Some(1) && session.opening(2).is_none());
     assert!(rt; !session.confirm(named(1, 1)));
+    Ok(())
+}
+
+// Closes a channel, and the server agrees.
+fn close_whole(alloc: Global, session: &mut Session, id: u16) -> std::result::Result<(), Fail> {
+    told(session, close_of(alloc, numbered(id))?);
+    read(session, close_ok_on(id));
     Ok(())
 }
 
@@ -624,20 +654,23 @@ fn a_channel_opens(rt: HostRuntime) -> std::result::Result<(), Fail> {
 fn numbers_are_drawn_in_a_cycle(rt: HostRuntime) -> std::result::Result<(), Fail> {
     let alloc = rt.alloc();
     let mut session = connected_for_two(alloc)?;
-    let limit = Some(Err(ErrorKind::ChannelsLimitReached.into()));
-    session.command(Cmd::OpenChannel)?;
-    session.command(Cmd::OpenChannel)?;
-    session.command(Cmd::OpenChannel)?;
+    for _ in 0..3 {
+        told(&mut session, Cmd::OpenChannel);
+    }
     assert!(rt; session.opening(1) == Some(1) && session.opening(2) == Some(2));
-    assert!(rt; session.answer(3) == limit);
-    session.frame(open_ok_on(1), 138, 0)?;
-    session.frame(open_ok_on(2), 151, 0)?;
-    session.command(close_of(alloc, numbered(1))?)?;
-    session.frame(close_ok_on(1), 164, 0)?;
-    session.command(close_of(alloc, numbered(2))?)?;
-    session.frame(close_ok_on(2), 176, 0)?;
+    assert!(rt;
+        gives(
+            &mut session,
+            3,
+            Some(Err(ErrorKind::ChannelsLimitReached.into()))
+        )
+    );
+    read(&mut session, open_ok_on(1));
+    read(&mut session, open_ok_on(2));
+    close_whole(alloc, &mut session, 1)?;
+    close_whole(alloc, &mut session, 2)?;
     assert!(rt; session.listed() == 0);
-    session.command(Cmd::OpenChannel)?;
+    told(&mut session, Cmd::OpenChannel);
     assert!(rt; session.opening(6) == Some(2));
     Ok(())
 }
@@ -646,7 +679,7 @@ fn numbers_are_drawn_in_a_cycle(rt: HostRuntime) -> std::result::Result<(), Fail
 fn a_channel_closes(rt: HostRuntime) -> std::result::Result<(), Fail> {
     let alloc = rt.alloc();
     let mut session = with_channel(alloc)?;
-    session.command(close_of(alloc, named(1, 1))?)?;
+    told(&mut session, close_of(alloc, named(1, 1))?);
     assert!(rt; session.channel_state(named(1, 1)) == ChannelState::Closing);
     assert!(rt;
         writes(
@@ -655,29 +688,42 @@ fn a_channel_closes(rt: HostRuntime) -> std::result::Result<(), Fail> {
             b"\x01\x00\x01\x00\x00\x00\x0d\x00\x14\x00\x28\x00\xc8\x02OK\x00\x00\x00\x00\xce"
         )?
     );
-    session.frame(close_ok_on(1), 151, 0)?;
-    assert!(rt; session.answer(2) == Some(Ok(Answer::Done)));
+    read(&mut session, close_ok_on(1));
+    assert!(rt; gives(&mut session, 2, Some(Ok(Answer::Done))));
     assert!(rt; session.channel_state(named(1, 1)) == ChannelState::Closed);
     assert!(rt; session.listed() == 0 && session.end().is_none());
     Ok(())
+}
+
+// Whether a close of a channel, told as this promise, is refused so.
+fn refuses_close(
+    alloc: Global,
+    session: &mut Session,
+    channel: ChanRef,
+    number: u64,
+    why: ErrorKind,
+) -> std::result::Result<bool, Fail> {
+    let told = told(session, close_of(alloc, channel)?);
+    Ok(told == Some(number) && gives(session, number, Some(Err(why.into()))))
 }
 
 #[test]
 fn commands_on_channels_are_refused(rt: HostRuntime) -> std::result::Result<(), Fail> {
     let alloc = rt.alloc();
     let mut session = with_channel(alloc)?;
-    session.command(close_of(alloc, numbered(2))?)?;
-    assert!(rt; session.answer(2) == Some(Err(ErrorKind::InvalidChannel(2).into())));
-    session.command(close_of(alloc, named(1, 2))?)?;
-    assert!(rt; session.answer(3) == Some(Err(ErrorKind::InvalidChannel(1).into())));
-    session.command(close_of(alloc, named(1, 1))?)?;
-    session.command(close_of(alloc, named(1, 1))?)?;
-    let held = ErrorKind::InvalidChannelState(ChannelState::Closing, Word::ChannelClose);
-    assert!(rt; session.answer(5) == Some(Err(held.into())));
-    let method = RawMethod::new(alloc, 60, 40, &[])?;
-    session.command(Cmd::Send(named(1, 1), method))?;
-    let held = ErrorKind::InvalidChannelState(ChannelState::Closing, Word::Send);
-    assert!(rt; session.answer(6) == Some(Err(held.into())));
+    let other = ErrorKind::InvalidChannel(2);
+    assert!(rt; refuses_close(alloc, &mut session, numbered(2), 2, other)?);
+    let newer = ErrorKind::InvalidChannel(1);
+    assert!(rt; refuses_close(alloc, &mut session, named(1, 2), 3, newer)?);
+    told(&mut session, close_of(alloc, named(1, 1))?);
+    let closing = ErrorKind::InvalidChannelState(ChannelState::Closing, Word::ChannelClose);
+    assert!(rt; refuses_close(alloc, &mut session, named(1, 1), 5, closing)?);
+    told(
+        &mut session,
+        Cmd::Send(named(1, 1), RawMethod::new(alloc, 60, 40, &[])?),
+    );
+    let closing = ErrorKind::InvalidChannelState(ChannelState::Closing, Word::Send);
+    assert!(rt; gives(&mut session, 6, Some(Err(closing.into()))));
     Ok(())
 }
 
@@ -686,7 +732,7 @@ fn a_method_is_sent(rt: HostRuntime) -> std::result::Result<(), Fail> {
     let alloc = rt.alloc();
     let mut session = with_channel(alloc)?;
     let method = RawMethod::new(alloc, 60, 40, b"abc")?;
-    assert!(rt; session.command(Cmd::Send(named(1, 1), method))? == Some(2));
+    assert!(rt; told(&mut session, Cmd::Send(named(1, 1), method)) == Some(2));
     assert!(rt;
         writes(
             alloc,
@@ -694,39 +740,56 @@ fn a_method_is_sent(rt: HostRuntime) -> std::result::Result<(), Fail> {
             b"\x01\x00\x01\x00\x00\x00\x07\x00\x3c\x00\x28abc\xce"
         )?
     );
-    session.taken(14, 0);
+    take(&mut session, 14);
     assert!(rt; session.answer(2).is_none());
-    session.taken(1, 0);
-    assert!(rt; session.answer(2) == Some(Ok(Answer::Sent)));
+    take(&mut session, 1);
+    assert!(rt; gives(&mut session, 2, Some(Ok(Answer::Sent))));
     Ok(())
+}
+
+// A method whose frame has 12 octets more than its arguments.
+fn method_of(alloc: Global, args: usize) -> std::result::Result<RawMethod, Fail> {
+    let args = vec![in alloc; 0u8; args]?;
+    Ok(RawMethod::new(alloc, 60, 40, &args)?)
 }
 
 #[test]
 fn a_frame_longer_than_the_capacity_is_refused(rt: HostRuntime) -> std::result::Result<(), Fail> {
     let alloc = rt.alloc();
     let mut session = with_channel(alloc)?;
-    let args = vec![in alloc; 0u8; 131_061]?;
-    let longest = RawMethod::new(alloc, 60, 40, &args[..131_060])?;
-    session.command(Cmd::Send(named(1, 1), longest))?;
-    session.command(Cmd::Send(named(1, 1), RawMethod::new(alloc, 60, 40, &args)?))?;
+    told(
+        &mut session,
+        Cmd::Send(named(1, 1), method_of(alloc, 131_060)?),
+    );
+    told(
+        &mut session,
+        Cmd::Send(named(1, 1), method_of(alloc, 131_061)?),
+    );
     assert!(rt; session.waiting() == 1 && session.answer(2).is_none());
     let refused = ErrorKind::SerialisationError(131_073);
-    assert!(rt; session.answer(3) == Some(Err(refused.into())));
+    assert!(rt; gives(&mut session, 3, Some(Err(refused.into()))));
     Ok(())
+}
+
+// Whether this frame of channel 1 was handed out.
+fn is_handed(frame: &Handed, kind: RawKind, bytes: &[u8]) -> bool {
+    frame.channel == 1 && frame.kind == kind && frame.bytes.as_bytes() == bytes
 }
 
 #[test]
 fn frames_are_handed_out_once(rt: HostRuntime) -> std::result::Result<(), Fail> {
     let alloc = rt.alloc();
     let mut session = with_channel(alloc)?;
-    session.frame(raw(alloc, 1, RawKind::RawMethod, &[0, 85, 0, 11])?, 151, 0)?;
-    session.frame(raw(alloc, 1, RawKind::Body, b"x")?, 163, 0)?;
+    read(
+        &mut session,
+        raw(alloc, 1, RawKind::RawMethod, &[0, 85, 0, 11])?,
+    );
+    read(&mut session, raw(alloc, 1, RawKind::Body, b"x")?);
     assert!(rt; session.confirm(named(1, 1)));
     let frames = session.take_frames(1)?;
     assert!(rt; frames.len() == 2);
-    assert!(rt; frames[0].channel == 1 && frames[0].kind == RawKind::RawMethod);
-    assert!(rt; frames[0].bytes.as_bytes() == [0, 85, 0, 11].as_slice());
-    assert!(rt; frames[1].kind == RawKind::Body && frames[1].bytes.as_bytes() == b"x".as_slice());
+    assert!(rt; is_handed(&frames[0], RawKind::RawMethod, &[0, 85, 0, 11]));
+    assert!(rt; is_handed(&frames[1], RawKind::Body, b"x"));
     assert!(rt; session.take_frames(1)?.is_empty() && session.take_frames(7)?.is_empty());
     Ok(())
 }
@@ -735,13 +798,13 @@ fn frames_are_handed_out_once(rt: HostRuntime) -> std::result::Result<(), Fail> 
 fn closing_takes_the_channels_with_it(rt: HostRuntime) -> std::result::Result<(), Fail> {
     let alloc = rt.alloc();
     let mut session = with_channel(alloc)?;
-    session.command(our_close(alloc)?)?;
+    told(&mut session, our_close(alloc)?);
     assert!(rt; session.channel_state(named(1, 1)) == ChannelState::Closing);
-    session.frame(raw(alloc, 1, RawKind::Body, b"x")?, 151, 0)?;
-    session.frame(open_ok_on(1), 160, 0)?;
-    session.frame(Frame::Method(5, Method::CloseOk), 173, 0)?;
+    read(&mut session, raw(alloc, 1, RawKind::Body, b"x")?);
+    read(&mut session, open_ok_on(1));
+    read(&mut session, Frame::Method(5, Method::CloseOk));
     assert!(rt; session.end().is_none() && session.take_frames(1)?.len() == 1);
-    session.frame(close_ok(), 185, 0)?;
+    read(&mut session, close_ok());
     assert!(rt; session.listed() == 0 && session.end() == Some(Ok(())));
     assert!(rt; session.channel_state(named(1, 1)) == ChannelState::Closed);
     Ok(())
