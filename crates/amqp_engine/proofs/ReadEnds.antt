@@ -156,7 +156,7 @@ ends-read-one at x = ends-read-row at (front_of x) x (front-none x.unread (frame
 pub record Comes (p : Progress) (k : ErrorKind) : Type 0 where
   pub before : ℕ
   pub goes_on : IsTrue (goes (reads before p))
-  pub something : IsTrue (can_read (reads before p).engine)
+  pub readable : IsTrue (can_read (reads before p).engine)
   pub error_read : IsReadError k (front_of (reads before p).engine) (reads before p).engine
 
 comes-later : (p : Progress) (k : ErrorKind) → (goes p && can_read p.engine) ≡ true → Comes (read_part p) k → Comes p k
@@ -168,7 +168,7 @@ comes-later p k h c =
     record {
       before = suc c.before;
       goes_on = subst G (sym same) c.goes_on;
-      something = subst P (sym same) c.something;
+      readable = subst P (sym same) c.readable;
       error_read = subst Q (sym same) c.error_read;
     }
 
@@ -181,6 +181,6 @@ ends-reads (suc n) p =
     if_by (λ (y : Progress). Ends P t y.engine.talk) (goes p && can_read p.engine) (reads n x) p
     (λ h. ends-then P t x.engine.talk (reads n x).engine.talk
     (ends-as (λ k. IsReadError k (front_of p.engine) p.engine) P t x.engine.talk
-    (λ k e. record { before = zero; goes_on = and-left (goes p) (can_read p.engine) h; something = and-right (goes p) (can_read p.engine) h; error_read = e }) (ends-read-one p.at p.engine))
+    (λ k e. record { before = zero; goes_on = and-left (goes p) (can_read p.engine) h; readable = and-right (goes p) (can_read p.engine) h; error_read = e }) (ends-read-one p.at p.engine))
     (ends-as (Comes x) P x.engine.talk (reads n x).engine.talk (λ k c. comes-later p k h c) (ends-reads n x)))
     (λ h. ends-kept P t t refl)

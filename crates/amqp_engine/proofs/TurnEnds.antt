@@ -146,7 +146,7 @@ ends-read u x =
     if_by (λ (y : Progress). Ends P x.talk y.engine.talk) (is_piece u.step) (reads n p) p
     (λ h. ends-then P x.talk p.engine.talk (reads n p).engine.talk e
     (ends-as (Comes p) P p.engine.talk (reads n p).engine.talk
-    (λ k c. inr (record { piece = h; before = c.before; goes_on = c.goes_on; something = c.something; error_read = c.error_read })) (ends-reads n p)))
+    (λ k c. inr (record { piece = h; before = c.before; goes_on = c.goes_on; readable = c.readable; error_read = c.error_read })) (ends-reads n p)))
     (λ h. e)
 
 -- ---- writes

@@ -39,6 +39,7 @@ abbrev pub fault_in : ErrorKind → Option IoFault
 fault_in (IOError fault) = Some fault
 fault_in _ = None
 
+-- the same of an end
 abbrev pub fault_at : Option (Result (Unit {0}) ErrorKind) → Option IoFault
 fault_at (Some (Err e)) = fault_in e
 fault_at _ = None
@@ -59,6 +60,7 @@ brought End t = if is_open t then Some Aborted else None
 brought Fault t = if is_open t then Some Reset else None
 brought _ t = None
 
+-- a write failed
 abbrev pub is_failed : Wrote → Bool
 is_failed Failed = true
 is_failed _ = false
@@ -124,18 +126,23 @@ after_frames n u e = reads n (step_part u.step u.bytes (begun u.at u.notes.starv
 -- a turn reads what brings this error
 pub record Misreads (error : ErrorKind) (u : Turn) (e : Engine) : Type 0 where
   pub piece : IsTrue (is_piece u.step)
+  -- so many frames of the piece are read before
   pub before : ℕ
+  -- then the turn is not cut
   pub goes_on : IsTrue (goes (after_frames before u e))
-  pub something : IsTrue (can_read (after_frames before u e).engine)
+  -- the link is open, and there is what can be read
+  pub readable : IsTrue (can_read (after_frames before u e).engine)
+  -- and it brings the error
   pub error_read : IsReadError error (front_of (after_frames before u e).engine) (after_frames before u e).engine
 
 -- ---- the server's close
 
+-- close-ok was sent, and the session finishes
 abbrev pub is_finish : Then → Bool
 is_finish Finish = true
 is_finish _ = false
 
--- close-ok is among the committed frames whose last byte is among so many
+-- close-ok is among the committed frames whose last byte is among so many bytes
 abbrev pub sends_close_ok : ℕ → List Mark → Bool
 sends_close_ok n [] = false
 sends_close_ok n (m ∷ ms) = nat_le m.left n && (is_finish m.«then» || sends_close_ok (n - m.left) ms)
@@ -146,6 +153,7 @@ is_last Failed x = true
 is_last (Took k) x = sends_close_ok k x.talk.committed
 is_last WroteNoMemory x = false
 
+-- a step that loses an open link
 abbrev pub is_loss : Step → Bool
 is_loss End = true
 is_loss Fault = true
@@ -159,6 +167,7 @@ pub record LosesClosed (error : AMQPError) (step : Step) (e : Engine) : Type 0 w
 
 -- the server closed with this error, and a write of the turn is the last
 pub record WritesLast (error : AMQPError) (u : Turn) (e : Engine) : Type 0 where
+  -- the answers to the writes before, to this one, and to those after it
   pub before : List Wrote
   pub answer : Wrote
   pub after : List Wrote
@@ -177,6 +186,7 @@ IsCause k u e = Misreads k u e
 
 -- some turns lead from here to there and are told, and the last of them brings about this error
 pub record Brings (k : ErrorKind) (e e' : Engine) (log log' : Option Log) : Type 0 where
+  -- the turns before the last, and the last
   pub us : List Turn
   pub u : Turn
   pub leads : Leads (us ++ u ∷ []) e e'

@@ -1,6 +1,9 @@
 //! The loop of an engine over a port.
 
-ghost use Rattle.std.specs.Prelude.{◌≡◌, ◌≤◌, ◌⊎◌, Some, None, Err, false, IfOk, IfErr, IfSome, IsOk, OnOk, OnErr, MatchResult, IsSome, IsTrue, length, option_map};
+ghost use Rattle.std.specs.Prelude.{◌≡◌, ◌≤◌, ◌⊎◌, ℕ, Some, None, Err, false, IfOk, IfErr, IfSome, IsOk, OnOk, OnErr, MatchResult, IsSome, IsTrue, length, option_map};
+ghost use Rattle.amqp_types.specs.declared.error.AMQPError.{AMQPError};
+ghost use Rattle.amqp_types.specs.declared.version.ProtocolVersion.{ProtocolVersion};
+ghost use Rattle.amqp_session.specs.declared.state.ConnectionState.{ConnectionState};
 ghost use Rattle.amqp_session.specs.declared.io_fault.IoFault.{IoFault};
 ghost use Rattle.amqp_session.specs.Talk.{has_ended, end_of};
 ghost use Rattle.amqp_session.specs.Channels.{frames_of};
@@ -10,7 +13,7 @@ ghost use Rattle.amqp_engine.specs.Engine.{Engine, begin, with_talk};
 ghost use Rattle.amqp_engine.specs.Turn.{asks};
 ghost use Rattle.amqp_engine.specs.Tell.{Applies, Turns, Runs, log_asks};
 ghost use Rattle.amqp_engine.specs.Unread.{IsRead};
-ghost use Rattle.amqp_engine.specs.Causes.{Faults, brought, fault_of, is_counted};
+ghost use Rattle.amqp_engine.specs.Causes.{Brings, Faults, brought, fault_of, is_counted};
 ghost use Rattle.amqp_engine.specs.Counts.{Rose};
 ghost use Rattle.amqp_engine.specs.Play.{IsPlayed};
 
@@ -82,6 +85,16 @@ impl IoLoop {
             → IsTrue (is_counted fault) → Rose (P.faults port.old) (P.faults port.new) }
         ensures io_error { (fault : IoFault) → has_ended self.old.talk ≡ false → fault_of self.new.talk ≡ Some fault
             → Faults fault self.old self.new (P.log port.old) (P.log port.new) }
+        ensures parsing_error { (place : ℕ) → has_ended self.old.talk ≡ false → end_of self.new.talk ≡ Some (Err (ErrorKind.ParsingError place))
+            → Brings (ErrorKind.ParsingError place) self.old self.new (P.log port.old) (P.log port.new) }
+        ensures invalid_protocol_version { (version : ProtocolVersion) → has_ended self.old.talk ≡ false → end_of self.new.talk ≡ Some (Err (ErrorKind.InvalidProtocolVersion version))
+            → Brings (ErrorKind.InvalidProtocolVersion version) self.old self.new (P.log port.old) (P.log port.new) }
+        ensures invalid_connection_state { (state : ConnectionState) → has_ended self.old.talk ≡ false → end_of self.new.talk ≡ Some (Err (ErrorKind.InvalidConnectionState state))
+            → Brings (ErrorKind.InvalidConnectionState state) self.old self.new (P.log port.old) (P.log port.new) }
+        ensures invalid_channel { (channel : ℕ) → has_ended self.old.talk ≡ false → end_of self.new.talk ≡ Some (Err (ErrorKind.InvalidChannel channel))
+            → Brings (ErrorKind.InvalidChannel channel) self.old self.new (P.log port.old) (P.log port.new) }
+        ensures protocol_error { (error : AMQPError) → has_ended self.old.talk ≡ false → end_of self.new.talk ≡ Some (Err (ErrorKind.ProtocolError error))
+            → Brings (ErrorKind.ProtocolError error) self.old self.new (P.log port.old) (P.log port.new) }
     {
         self.take_turns(port, turns);
         match self.wire.session().end() {
