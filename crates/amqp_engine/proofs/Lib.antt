@@ -14,3 +14,8 @@ pub mod Agreeing
 pub mod Links
 pub mod Bytes
 pub mod Pieces
+pub mod Ends
+pub mod FrameEnds
+pub mod ReadEnds
+pub mod TurnEnds
+pub mod Faults

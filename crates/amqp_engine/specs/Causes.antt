@@ -1,17 +1,35 @@
--- What brings about that a session ends by a fault of its link.
-use Rattle.std.specs.Prelude.{◌≡◌, ◌⊎◌, if◌then◌else◌, ◌||◌, Bool, true, false, IsTrue, List, [], ◌∷◌, ◌++◌, Option, Some, None, Result, Err}
+-- What brings about that a session ends with an error.
+use Rattle.std.specs.Prelude.{◌≡◌, ◌⊎◌, ℕ, zero, ◌-◌, nat_le, if◌then◌else◌, ◌||◌, ◌&&◌, Bool, true, false, IsTrue, IsFalse, List, [], ◌∷◌, ◌++◌, Option, Some, None, is_some, Result, Err}
+use Rattle.amqp_types.specs.declared.error.AMQPError.{AMQPError}
+use Rattle.amqp_frame.specs.declared.frame.Frame.{Frame}
+use Rattle.amqp_frame.specs.declared.frame.Frame.TheVariants.{ProtocolHeader, Method, Raw}
+use Rattle.amqp_frame.specs.declared.frame.RawKind.TheVariants.{RawMethod}
+use Rattle.amqp_frame.specs.declared.frame.Read.{Read}
+use Rattle.amqp_frame.specs.declared.frame.Read.TheVariants as reading
+use Rattle.amqp_frame.specs.declared.method.Method.{Method as AnyMethod}
+use Rattle.amqp_frame.specs.declared.method.Method.TheVariants.{ChannelOpenOk, ChannelCloseOk}
+use Rattle.amqp_session.specs.declared.committed.Mark.{Mark}
+use Rattle.amqp_session.specs.declared.committed.Then.{Then}
+use Rattle.amqp_session.specs.declared.committed.Then.TheVariants.{Finish}
 use Rattle.amqp_session.specs.declared.io_fault.IoFault.{IoFault}
 use Rattle.amqp_session.specs.declared.io_fault.IoFault.TheVariants.{Aborted, Refused, Reset, BrokenPipe}
+use Rattle.amqp_session.specs.declared.lanes.Reply.TheVariants.{ChannelOpened, ChannelClosed}
+use Rattle.amqp_session.specs.declared.server_close.ServerClose.TheVariants.{WithError}
+use Rattle.amqp_session.specs.declared.state.ConnectionState.TheVariants.{Connecting}
 use Rattle.amqp_session.specs.declared.error.ErrorKind.{ErrorKind}
-use Rattle.amqp_session.specs.declared.error.ErrorKind.TheVariants.{IOError}
+use Rattle.amqp_session.specs.declared.error.ErrorKind.TheVariants.{IOError, NoMemory, ParsingError, ProtocolError, InvalidProtocolVersion, InvalidConnectionState, InvalidChannel, Unbuilt}
 use Rattle.amqp_session.specs.Talk.{Talk, is_asked, is_open, end_of}
+use Rattle.amqp_session.specs.Channels.{channel_at}
+use Rattle.amqp_session.specs.Outgoing.{first_awaited}
+use Rattle.amqp_session.specs.Frames.{is_of_a_channel, is_unbuilt}
+use Rattle.amqp_session.specs.Violations.{frame_too_large, heartbeat_on, on_channel_0, connection_method_on, unawaited}
 use Rattle.amqp_engine.specs.declared.port.Step.{Step}
 use Rattle.amqp_engine.specs.declared.port.Step.TheVariants.{LinkFailed, End, Fault}
 use Rattle.amqp_engine.specs.declared.port.Wrote.{Wrote}
-use Rattle.amqp_engine.specs.declared.port.Wrote.TheVariants.{Failed}
+use Rattle.amqp_engine.specs.declared.port.Wrote.TheVariants.{Took, Failed, NoMemory as WroteNoMemory}
 use Rattle.amqp_engine.specs.Log.{Log}
-use Rattle.amqp_engine.specs.Engine.{Engine}
-use Rattle.amqp_engine.specs.Turn.{Turn, asks, turns, Leads}
+use Rattle.amqp_engine.specs.Engine.{Engine, front_of, can_read, commit_all}
+use Rattle.amqp_engine.specs.Turn.{Turn, Progress, asks, begun, drain, goes, is_piece, read, reads, step_part, turns, Leads}
 use Rattle.amqp_engine.specs.Tell.{TellsTurns}
 
 -- ---- faults
@@ -21,6 +39,7 @@ abbrev pub fault_in : ErrorKind → Option IoFault
 fault_in (IOError fault) = Some fault
 fault_in _ = None
 
+-- the same of an end
 abbrev pub fault_at : Option (Result (Unit {0}) ErrorKind) → Option IoFault
 fault_at (Some (Err e)) = fault_in e
 fault_at _ = None
@@ -29,7 +48,10 @@ fault_at _ = None
 abbrev pub fault_of : Talk → Option IoFault
 fault_of t = fault_at (end_of t)
 
--- ---- their causes
+-- a port counts a fault of its link, but that its input ended
+abbrev pub is_counted : IoFault → Bool
+is_counted Aborted = false
+is_counted _ = true
 
 -- the fault that a step brings: to the link that was asked for, or to the open one
 abbrev pub brought : Step → Talk → Option IoFault
@@ -38,6 +60,7 @@ brought End t = if is_open t then Some Aborted else None
 brought Fault t = if is_open t then Some Reset else None
 brought _ t = None
 
+-- a write failed
 abbrev pub is_failed : Wrote → Bool
 is_failed Failed = true
 is_failed _ = false
@@ -48,18 +71,128 @@ has_failed [] = false
 has_failed (w ∷ ws) = is_failed w || has_failed ws
 
 -- a turn brings about a fault: its step brings it, or one of its writes failed
-abbrev pub IsCause : IoFault → Turn → Engine → Type 0
-IsCause fault u e = (brought u.step (asks e).talk ≡ Some fault) ⊎ ((fault ≡ BrokenPipe) × IsTrue (has_failed u.notes.answers))
+abbrev pub IsFaultOf : IoFault → Turn → Engine → Type 0
+IsFaultOf fault u e = (brought u.step e.talk ≡ Some fault) ⊎ ((fault ≡ BrokenPipe) × IsTrue (has_failed u.notes.answers))
 
--- some turns lead from here to there and are told, and the last of them brings about this fault
-pub record Faults (fault : IoFault) (e e' : Engine) (log log' : Option Log) : Type 0 where
+-- ---- what is read
+
+-- a frame that belongs to this channel
+abbrev pub IsOfChannel : ℕ → Frame → Type 0
+IsOfChannel n (Method m method) = (m ≡ n) × IsTrue (is_of_a_channel method)
+IsOfChannel n (Raw m kind bytes) = m ≡ n
+IsOfChannel n _ = ⊥
+
+-- 504 for what belongs to a channel and came on channel 0, and 503 for a method of the connection class that came on another
+abbrev pub IsMisplaced : ErrorKind → Frame → Type 0
+IsMisplaced e (Method zero m) = IsTrue (is_of_a_channel m) × (e ≡ on_channel_0 RawMethod)
+IsMisplaced e (Method n m) = IsFalse (is_of_a_channel m) × (e ≡ connection_method_on n)
+IsMisplaced e (Raw zero kind bytes) = e ≡ on_channel_0 kind
+IsMisplaced e _ = ⊥
+
+-- a reply is awaited that this method is
+abbrev pub is_awaited : AnyMethod → ℕ → Talk → Bool
+is_awaited ChannelOpenOk n t = is_some (first_awaited n ChannelOpened t.awaited)
+is_awaited ChannelCloseOk n t = is_some (first_awaited n ChannelClosed t.awaited)
+is_awaited _ n t = false
+
+-- 505 for a method of the channel class, on a listed channel, that nothing awaits
+abbrev pub IsUnawaited : ErrorKind → Frame → Talk → Type 0
+IsUnawaited e (Method n m) t =
+    IsTrue (is_of_a_channel m) × IsTrue (is_some (channel_at n t)) × IsFalse (is_awaited m n t) × (e ≡ unawaited m n)
+IsUnawaited e _ t = ⊥
+
+-- what a server may not send, by the error that it brings; 501 for a frame that is too large, and for a heartbeat on another channel than 0
+abbrev pub IsViolation : ErrorKind → Read → Talk → Type 0
+IsViolation e (reading.TooLarge size) t = e ≡ frame_too_large size
+IsViolation e (reading.BadHeartbeat channel) t = e ≡ heartbeat_on channel
+IsViolation e (reading.Whole f n) t = IsMisplaced e f ⊎ IsUnawaited e f t
+IsViolation e _ t = ⊥
+
+-- the error that is brought by what stands at the front of the unread bytes
+abbrev pub IsReadError : ErrorKind → Read → Engine → Type 0
+IsReadError (ParsingError place) reading.Bad x = x.place ≡ place
+IsReadError (InvalidProtocolVersion version) (reading.Whole (ProtocolHeader v) n) x = v ≡ version
+IsReadError (InvalidConnectionState state) (reading.Whole (Method zero m) n) x = IsFalse (is_of_a_channel m) × (x.talk.state ≡ state)
+IsReadError (InvalidChannel channel) (reading.Whole f n) x =
+    IsOfChannel channel f × ((channel_at channel x.talk ≡ None) ⊎ (x.talk.state ≡ Connecting))
+IsReadError (Unbuilt place) (reading.Whole (Method channel m) n) x = IsTrue (is_unbuilt m) × (x.place ≡ place)
+IsReadError (ProtocolError e) r x = IsViolation (ProtocolError e) r x.talk
+IsReadError _ r x = ⊥
+
+-- a turn when so many frames of its piece were read
+abbrev pub after_frames : ℕ → Turn → Engine → Progress
+after_frames n u e = reads n (step_part u.step u.bytes (begun u.at u.notes.starved e))
+
+-- a turn reads what brings this error
+pub record Misreads (error : ErrorKind) (u : Turn) (e : Engine) : Type 0 where
+  pub piece : IsTrue (is_piece u.step)
+  -- so many frames of the piece are read before
+  pub before : ℕ
+  -- then the turn is not cut
+  pub goes_on : IsTrue (goes (after_frames before u e))
+  -- the link is open, and there is what can be read
+  pub readable : IsTrue (can_read (after_frames before u e).engine)
+  -- and it brings the error
+  pub error_read : IsReadError error (front_of (after_frames before u e).engine) (after_frames before u e).engine
+
+-- ---- the server's close
+
+-- close-ok was sent, and the session finishes
+abbrev pub is_finish : Then → Bool
+is_finish Finish = true
+is_finish _ = false
+
+-- close-ok is among the committed frames whose last byte is among so many bytes
+abbrev pub sends_close_ok : ℕ → List Mark → Bool
+sends_close_ok n [] = false
+sends_close_ok n (m ∷ ms) = nat_le m.left n && (is_finish m.«then» || sends_close_ok (n - m.left) ms)
+
+-- a write that is answered so is the last: it sends close-ok, or the link is lost
+abbrev pub is_last : Wrote → Engine → Bool
+is_last Failed x = true
+is_last (Took k) x = sends_close_ok k x.talk.committed
+is_last WroteNoMemory x = false
+
+-- a step that loses an open link
+abbrev pub is_loss : Step → Bool
+is_loss End = true
+is_loss Fault = true
+is_loss _ = false
+
+-- the server closed with this error, and the step loses the link
+pub record LosesClosed (error : AMQPError) (step : Step) (e : Engine) : Type 0 where
+  pub loss : IsTrue (is_loss step)
+  pub opened : IsTrue (is_open e.talk)
+  pub closed : e.talk.server_close ≡ Some (WithError error)
+
+-- the server closed with this error, and a write of the turn is the last
+pub record WritesLast (error : AMQPError) (u : Turn) (e : Engine) : Type 0 where
+  -- the answers to the writes before, to this one, and to those after it
+  pub before : List Wrote
+  pub answer : Wrote
+  pub after : List Wrote
+  pub answers : u.notes.answers ≡ before ++ answer ∷ after
+  pub last : IsTrue (is_last answer (commit_all (drain before (read u e)).engine))
+  pub closed : (drain before (read u e)).engine.talk.server_close ≡ Some (WithError error)
+
+-- ---- the turn that ends a session
+
+-- a turn brings about this error, from its step on
+abbrev pub IsCause : ErrorKind → Turn → Engine → Type 0
+IsCause (IOError fault) u e = IsFaultOf fault u e
+IsCause (ProtocolError error) u e = Misreads (ProtocolError error) u e ⊎ LosesClosed error u.step e ⊎ WritesLast error u e
+IsCause NoMemory u e = IsTrue (is_some u.notes.starved)
+IsCause k u e = Misreads k u e
+
+-- some turns lead from here to there and are told, and the last of them brings about this error
+pub record Brings (k : ErrorKind) (e e' : Engine) (log log' : Option Log) : Type 0 where
+  -- the turns before the last, and the last
   pub us : List Turn
   pub u : Turn
   pub leads : Leads (us ++ u ∷ []) e e'
   pub tells : TellsTurns (us ++ u ∷ []) e log log'
-  pub cause : IsCause fault u (turns us e)
+  pub cause : IsCause k u (asks (turns us e))
 
--- a port counts a fault of its link, but that its input ended
-abbrev pub is_counted : IoFault → Bool
-is_counted Aborted = false
-is_counted _ = true
+-- the same of a fault
+abbrev pub Faults : IoFault → Engine → Engine → Option Log → Option Log → Type 0
+Faults fault e e' log log' = Brings (IOError fault) e e' log log'

@@ -1,8 +1,13 @@
 -- A turn in the making, as the code counts its parts.
-use Rattle.std.specs.Prelude.{◌≡◌, ◌≤◌, ℕ, if◌then◌else◌, Bool, List, Option, Some, None}
+use Rattle.std.specs.Prelude.{◌≡◌, ◌≤◌, ◌⊎◌, ℕ, if◌then◌else◌, Bool, List, Option, Some, None}
+use Rattle.amqp_session.specs.declared.io_fault.IoFault.{IoFault}
+use Rattle.amqp_session.specs.declared.io_fault.IoFault.TheVariants.{BrokenPipe}
+use Rattle.amqp_session.specs.Talk.{Talk}
 use Rattle.amqp_engine.specs.declared.port.Wrote.{Wrote}
+use Rattle.amqp_engine.specs.Counts.{Rose}
 use Rattle.amqp_engine.specs.Engine.{Engine}
 use Rattle.amqp_engine.specs.Turn.{Progress, AreAnswers, drain}
+use Rattle.amqp_engine.specs.Causes.{fault_of}
 
 abbrev pub making : ℕ → Option ℕ → Engine → ℕ → Progress
 making at cut e n = record { at = at; cut = cut; engine = e; done = n }
@@ -20,3 +25,11 @@ Allows (Some j) n = n ≤ j
 pub record Writes (ws : List Wrote) (before after : Progress) : Type 0 where
   pub answers : AreAnswers ws before
   pub leaves : drain ws before ≡ after
+
+-- no fault is brought
+pub record BringsNone (t t' : Talk) : Type 0 where
+  pub before : (fault : IoFault) → fault_of t' ≡ Some fault → fault_of t ≡ Some fault
+
+-- none is brought but by a write that failed, which the port counted
+pub record BreaksPipe (t t' : Talk) (count count' : ℕ) : Type 0 where
+  pub cause : (fault : IoFault) → fault_of t' ≡ Some fault → (fault_of t ≡ Some fault) ⊎ ((fault ≡ BrokenPipe) × Rose count count')

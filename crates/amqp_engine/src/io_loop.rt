@@ -1,6 +1,10 @@
 //! The loop of an engine over a port.
 
-ghost use Rattle.std.specs.Prelude.{◌≡◌, ◌≤◌, Some, None, Err, false, IfOk, IfErr, IfSome, IsOk, OnOk, OnErr, MatchResult, IsSome, IsTrue, length, option_map};
+ghost use Rattle.std.specs.Prelude.{◌≡◌, ◌≤◌, ◌⊎◌, ℕ, Some, None, Err, false, IfOk, IfErr, IfSome, IsOk, OnOk, OnErr, MatchResult, IsSome, IsTrue, length, option_map};
+ghost use Rattle.amqp_types.specs.declared.error.AMQPError.{AMQPError};
+ghost use Rattle.amqp_types.specs.declared.version.ProtocolVersion.{ProtocolVersion};
+ghost use Rattle.amqp_session.specs.declared.state.ConnectionState.{ConnectionState};
+ghost use Rattle.amqp_session.specs.declared.io_fault.IoFault.{IoFault};
 ghost use Rattle.amqp_session.specs.Talk.{has_ended, end_of};
 ghost use Rattle.amqp_session.specs.Channels.{frames_of};
 ghost use Rattle.amqp_session.specs.Commands.{command as command_rule};
@@ -9,11 +13,13 @@ ghost use Rattle.amqp_engine.specs.Engine.{Engine, begin, with_talk};
 ghost use Rattle.amqp_engine.specs.Turn.{asks};
 ghost use Rattle.amqp_engine.specs.Tell.{Applies, Turns, Runs, log_asks};
 ghost use Rattle.amqp_engine.specs.Unread.{IsRead};
+ghost use Rattle.amqp_engine.specs.Causes.{Brings, Faults, brought, fault_of, is_counted};
+ghost use Rattle.amqp_engine.specs.Counts.{Rose};
 ghost use Rattle.amqp_engine.specs.Play.{IsPlayed};
 
 use crate::port::{Port, Told};
 use crate::wire::Wire;
-use amqp_session::{Answer, Cmd, ErrorKind, Handed, Result, Session};
+use amqp_session::{Answer, Cmd, ErrorKind, Handed, IoFault, Result, Session};
 use amqp_types::NoMemory;
 use std::alloc::Global;
 use std::marker::Model;
@@ -75,6 +81,20 @@ impl IoLoop {
             → IsPlayed turns self.old self.new log (P.log port.new)) }
         ensures read { IsRead self.new }
         ensures faults { P.faults port.old ≤ P.faults port.new }
+        ensures io_error_counted { (fault : IoFault) → has_ended self.old.talk ≡ false → fault_of self.new.talk ≡ Some fault
+            → IsTrue (is_counted fault) → Rose (P.faults port.old) (P.faults port.new) }
+        ensures io_error { (fault : IoFault) → has_ended self.old.talk ≡ false → fault_of self.new.talk ≡ Some fault
+            → Faults fault self.old self.new (P.log port.old) (P.log port.new) }
+        ensures parsing_error { (place : ℕ) → has_ended self.old.talk ≡ false → end_of self.new.talk ≡ Some (Err (ErrorKind.ParsingError place))
+            → Brings (ErrorKind.ParsingError place) self.old self.new (P.log port.old) (P.log port.new) }
+        ensures invalid_protocol_version { (version : ProtocolVersion) → has_ended self.old.talk ≡ false → end_of self.new.talk ≡ Some (Err (ErrorKind.InvalidProtocolVersion version))
+            → Brings (ErrorKind.InvalidProtocolVersion version) self.old self.new (P.log port.old) (P.log port.new) }
+        ensures invalid_connection_state { (state : ConnectionState) → has_ended self.old.talk ≡ false → end_of self.new.talk ≡ Some (Err (ErrorKind.InvalidConnectionState state))
+            → Brings (ErrorKind.InvalidConnectionState state) self.old self.new (P.log port.old) (P.log port.new) }
+        ensures invalid_channel { (channel : ℕ) → has_ended self.old.talk ≡ false → end_of self.new.talk ≡ Some (Err (ErrorKind.InvalidChannel channel))
+            → Brings (ErrorKind.InvalidChannel channel) self.old self.new (P.log port.old) (P.log port.new) }
+        ensures protocol_error { (error : AMQPError) → has_ended self.old.talk ≡ false → end_of self.new.talk ≡ Some (Err (ErrorKind.ProtocolError error))
+            → Brings (ErrorKind.ProtocolError error) self.old self.new (P.log port.old) (P.log port.new) }
     {
         self.take_turns(port, turns);
         match self.wire.session().end() {
@@ -86,6 +106,8 @@ impl IoLoop {
     fn take_turns<P: Port>(&mut self, port: &mut P, turns: u64)
         ensures turns { Runs turns self.old self.new (P.log port.old) (P.log port.new) }
         ensures faults { P.faults port.old ≤ P.faults port.new }
+        ensures io_error_counted { (fault : IoFault) → has_ended self.old.talk ≡ false → fault_of self.new.talk ≡ Some fault
+            → IsTrue (is_counted fault) → Rose (P.faults port.old) (P.faults port.new) }
     {
         'turns: for _ in 0..turns {
             if self.wire.session().has_ended() {
@@ -103,6 +125,8 @@ impl IoLoop {
         ensures turn { Turns self.old self.new (P.log port.old) (P.log port.new) }
         ensures ended { OnErr result (IsTrue (has_ended self.new.talk)) }
         ensures faults { P.faults port.old ≤ P.faults port.new }
+        ensures io_error_counted { (fault : IoFault) → fault_of self.new.talk ≡ Some fault
+            → IsTrue (is_counted fault) → Rose (P.faults port.old) (P.faults port.new) }
     {
         self.wire.ask(port);
         let told = port.next(&mut self.scratch);
@@ -128,6 +152,8 @@ impl IoLoop {
         ensures only { IfErr result (λ e. e ≡ ErrorKind.NoMemory) }
         ensures read { IsRead self.new }
         ensures faults { P.faults port.old ≤ P.faults port.new }
+        ensures io_error { (fault : IoFault) → has_ended self.old.talk ≡ false → fault_of self.new.talk ≡ Some fault
+            → (brought told.step self.old.talk ≡ Some fault) ⊎ ((fault ≡ IoFault.BrokenPipe) × Rose (P.faults port.old) (P.faults port.new)) }
     {
         Ok(self.wire.apply(told, bytes, port)?)
     }

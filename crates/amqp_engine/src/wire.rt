@@ -1,6 +1,6 @@
 //! The session with the bytes of its link.
 
-ghost use Rattle.std.specs.Prelude.{◌≡◌, ◌≤◌, ◌<◌, ◌+◌, ◌*◌, ◌^◌, ℕ, List, Option, Some, true, if◌then◌else◌, IfOk, IfErr, IfNone, IsOk, IfSome, OnOk, OnErr, MatchResult, IsSome, IsTrue, IsFalse, option_map, length, is_some};
+ghost use Rattle.std.specs.Prelude.{◌≡◌, ◌≤◌, ◌<◌, ◌⊎◌, ◌+◌, ◌*◌, ◌^◌, ℕ, List, Option, Some, true, false, if◌then◌else◌, IfOk, IfErr, IfNone, IsOk, IfSome, OnOk, OnErr, MatchResult, IsSome, IsTrue, IsFalse, option_map, length, is_some};
 ghost use Rattle.amqp_session.specs.Talk.{is_open, is_asked, has_ended};
 ghost use Rattle.amqp_session.specs.declared.io_fault.IoFault.{IoFault};
 ghost use Rattle.amqp_session.specs.Changes.{starve};
@@ -13,7 +13,9 @@ ghost use Rattle.amqp_engine.specs.Engine.{Engine, begin, with_talk, rule_at, st
 ghost use Rattle.amqp_engine.specs.Turn.{asks, is_part, reading, offered, answered, is_all};
 ghost use Rattle.amqp_engine.specs.Tell.{Applies, TellsOffers, offers_from, log_asks};
 ghost use Rattle.amqp_engine.specs.Play.{waiting};
-ghost use Rattle.amqp_engine.specs.Making.{making, parts_of, Allows, Writes};
+ghost use Rattle.amqp_engine.specs.Making.{making, parts_of, Allows, Writes, BringsNone, BreaksPipe};
+ghost use Rattle.amqp_engine.specs.Counts.{Rose};
+ghost use Rattle.amqp_engine.specs.Causes.{fault_of, brought};
 
 use crate::buffer::Buffer;
 use crate::port::{Port, Step, Told, Wrote};
@@ -137,6 +139,8 @@ impl Wire {
         ensures starved { MatchResult result (λ _. self.new.starved ≡ self.old.starved) (λ _. IsSome self.new.starved) }
         ensures ended { OnErr result (IsTrue (has_ended self.new.talk)) }
         ensures faults { P.faults port.old ≤ P.faults port.new }
+        ensures io_error { (fault : IoFault) → has_ended self.old.talk ≡ false → fault_of self.new.talk ≡ Some fault
+            → (brought told.step self.old.talk ≡ Some fault) ⊎ ((fault ≡ IoFault.BrokenPipe) × Rose (P.faults port.old) (P.faults port.new)) }
     {
         let Told { at, step } = told;
         let piece = step.is_piece();
@@ -264,6 +268,7 @@ impl Wire {
         ensures bound { 2 * parts.new < 2 ^ 63 + 4 }
         ensures grows { parts.old ≤ parts.new }
         ensures starved { self.new.starved ≡ self.old.starved }
+        ensures faultless { BringsNone self.old.talk self.new.talk }
     {
         if !piece {
             return Ok(());
@@ -342,6 +347,7 @@ impl Wire {
         ensures grows { parts.old ≤ parts.new }
         ensures starved { self.new.starved ≡ self.old.starved }
         ensures faults { P.faults port.old ≤ P.faults port.new }
+        ensures failed { BreaksPipe self.old.talk self.new.talk (P.faults port.old) (P.faults port.new) }
     {
         let _waiting = self.session.waiting();
         'writes: while let Some(offered) = self.offer(at, port) {
@@ -366,6 +372,7 @@ impl Wire {
         ensures engine { IfSome result (λ r. self.new ≡ answered at r.answer self.old) }
         ensures told { IfSome result (λ r. P.log port.new
             ≡ option_map (log_write (offered self.old) r.answer) (P.log port.old)) }
+        ensures cause { IfSome result (λ r. r.answer ≡ Wrote.Failed → Rose (P.faults port.old) (P.faults port.new)) }
         ensures faults { P.faults port.old ≤ P.faults port.new }
     {
         if !self.session.is_open() {

@@ -14,4 +14,5 @@ turns-preserved g c =
         tells-push us f.u _ _ _ _ _ c.turns.invariant.turns.2.leaves c.turns.invariant.turns.3 f.tells,
       );
       faults = omega (arith, c.turn.ensures.faults, c.turns.invariant.faults);
+      io_error_counted = λ fault running h counted. omega (arith, c.turn.ensures.io_error_counted fault h counted, c.turns.invariant.faults);
     }

@@ -1,4 +1,5 @@
-use Rattle.std.proofs.Common.{◌≡◌, ◌∙◌, option_map, length, take, ap, sym, subst, arith}
+use Rattle.std.proofs.Common.{◌≡◌, ◌∙◌, false, option_map, length, take, ap, sym, subst, arith}
+use Rattle.amqp_session.specs.Talk.{has_ended}
 use Rattle.amqp_engine.specs.Log.{piece_bytes, piece_len}
 use Rattle.amqp_engine.specs.Engine.{Engine}
 use Rattle.amqp_engine.specs.Turn.{asks}
@@ -6,6 +7,7 @@ use Rattle.amqp_engine.specs.Tell.{log_asks}
 use Rattle.amqp_engine.specs.Unread.{IsRead}
 use Rattle.amqp_engine.proofs.LeftUnread.{asks-read, Applies-read}
 use Rattle.amqp_engine.proofs.Running.{turns-of, take-written, length-written}
+use Rattle.amqp_engine.proofs.Faults.{asks-running, counted-rose}
 use Rattle.amqp_engine.proofs.io_loop.IoLoop.turn.Goals as goal
 
 pub returns-clause-turn : goal.returns-clause-turn
@@ -32,3 +34,10 @@ invariant_of-self g c =
     let sized : length space ≡ length old = omega (arith, c.next-told.auto.space, ap length c.deref_mut.ensures.value) in
     let asked : IsRead c.ask.new.self = subst IsRead (sym c.ask.ensures.engine) (asks-read c.self.inside.wire c.self.invariant.1) in
     (length-written space old c.self.inside.scratch.len sized (omega arith) ∙ c.self.invariant.0, Applies-read _ _ _ _ _ _ _ c.apply.ensures.turn asked)
+
+pub returns-clause-io_error_counted : goal.returns-clause-io_error_counted
+returns-clause-io_error_counted g c fault h counted =
+    let asked = c.ask.ensures.engine ∙ ap asks c.self.view_is in
+    let running : has_ended c.ask.new.self.talk ≡ false = ap (λ (x : Engine). has_ended x.talk) asked ∙ asks-running c.args.self.now c.requires in
+    counted-rose c.next-told.result.step c.ask.new.self.talk fault _ _ _ _ c.ask.ensures.faults c.next-told.ensures.faults c.apply.ensures.faults
+    c.next-told.ensures.cause (c.apply.ensures.io_error fault running h) counted

@@ -6,6 +6,7 @@ use Rattle.amqp_engine.proofs.Offers.{writes-cut}
 use Rattle.amqp_engine.proofs.Applying.{starve_at-twice, read-is, read-none, applies-of, step-starved}
 use Rattle.amqp_engine.proofs.Telling.{tells-none}
 use Rattle.amqp_engine.proofs.Cases.{is_before-cut}
+use Rattle.amqp_engine.proofs.Faults.{applied-fault, breaks-same, none-at-all, none-to, no-fault, starve-fault}
 use Rattle.amqp_engine.proofs.wire.Wire.apply.Goals as goal
 
 pub returns-in_default-clause-turn : goal.returns-in_default-clause-turn
@@ -65,3 +66,32 @@ pub returns-clause-starved : goal.returns-clause-starved
 returns-clause-starved g c =
     c.in_default-write_all.ensures.starved ∙ c.in_default-read_all.ensures.starved ∙ ap (λ (x : Engine). x.starved) c.in-Ok.ensures.ok
     ∙ step-starved c.args.told.at c.args.told.step c.args.bytes.now c.args.self.now
+
+pub returns-in_default-clause-io_error : goal.returns-in_default-clause-io_error
+returns-in_default-clause-io_error g c fault running h =
+    let e = c.args.self.now in
+    let at = c.args.told.at in
+    let same : c.cut.new.self ≡ starve_at at 0 e = c.cut.ensures ∙ ap (starve_at at 0) c.in_default.ensures.err ∙ starve_at-twice at 0 e in
+    no-fault e.talk fault running ((none-to e.talk (starve_at at 0 e) c.cut.new.self same (starve-fault at e.talk)).before fault h)
+
+pub returns-in-Err-clause-io_error : goal.returns-in-Err-clause-io_error
+returns-in-Err-clause-io_error g c fault running h =
+    let at = c.args.told.at in
+    let x = c.read_all.new.self in
+    applied-fault at c.args.told.step c.args.bytes.now c.args.self.now c.take_step.new.self c.cut-in-Err.new.self x.talk x.talk _ _ fault
+    c.in-Ok.ensures.ok c.in-Err.ensures.faultless (breaks-same x x _ _ refl)
+    (none-to x.talk (starve_at at c.read_all.new.parts x) c.cut-in-Err.new.self c.cut-in-Err.ensures (starve-fault at x.talk)) running h
+
+pub returns-in-Err-write_all-clause-io_error : goal.returns-in-Err-write_all-clause-io_error
+returns-in-Err-write_all-clause-io_error g c fault running h =
+    let at = c.args.told.at in
+    let x = c.write_all.new.self in
+    applied-fault at c.args.told.step c.args.bytes.now c.args.self.now c.take_step.new.self c.cut-in-Err-write_all.new.self c.read_all.new.self.talk x.talk _ _ fault
+    c.in-Ok.ensures.ok c.in_default-read_all.ensures.faultless c.in-Err-write_all.ensures.failed
+    (none-to x.talk (starve_at at c.write_all.new.parts x) c.cut-in-Err-write_all.new.self c.cut-in-Err-write_all.ensures (starve-fault at x.talk)) running h
+
+pub returns-clause-io_error : goal.returns-clause-io_error
+returns-clause-io_error g c fault running h =
+    let x = c.write_all.new.self in
+    applied-fault c.args.told.at c.args.told.step c.args.bytes.now c.args.self.now c.take_step.new.self x c.read_all.new.self.talk x.talk _ _ fault
+    c.in-Ok.ensures.ok c.in_default-read_all.ensures.faultless c.in_default-write_all.ensures.failed (none-at-all x.talk) running h

@@ -7,6 +7,7 @@ use Rattle.amqp_engine.specs.Tell.{TellsOffers, offers_from}
 use Rattle.amqp_engine.specs.Play.{waiting}
 use Rattle.amqp_engine.proofs.Cases.{Allows-less, some-unsent, from-not-false, from-not-true}
 use Rattle.amqp_engine.proofs.Offers.{writes-more, writes-last, cuts-other, writes-none, tells-more, waiting-wrote, answered-starved}
+use Rattle.amqp_engine.proofs.Faults.{breaks-then, breaks-offer, breaks-same}
 use Rattle.amqp_engine.proofs.Telling.{tells-none}
 use Rattle.amqp_engine.proofs.wire.Wire.write_all.Goals as goal
 
@@ -40,6 +41,7 @@ writes-preserved g c =
       grows = omega (arith, c.writes.invariant.grows);
       starved = ap (λ (x : Engine). x.starved) f.engine ∙ answered-starved c.args.at w e ∙ c.writes.invariant.starved;
       faults = omega (arith, f.faults, c.writes.invariant.faults);
+      failed = breaks-then _ _ _ _ _ _ c.writes.invariant.faults f.faults c.writes.invariant.failed (breaks-offer c.args.at w e c.offer.new.self _ _ f.engine f.cause);
     }
 
 pub writes-smaller : goal.writes-smaller
@@ -75,6 +77,7 @@ returns-then-not-offered g c =
       grows = omega (arith, c.writes.invariant.grows);
       starved = ap (λ (x : Engine). x.starved) f.engine ∙ answered-starved c.args.at w e ∙ c.writes.invariant.starved;
       faults = omega (arith, f.faults, c.writes.invariant.faults);
+      failed = breaks-then _ _ _ _ _ _ c.writes.invariant.faults f.faults c.writes.invariant.failed (breaks-offer c.args.at w e c.offer.new.self _ _ f.engine f.cause);
     }
 
 pub returns-in-NoMemory-clause-err : goal.returns-in-NoMemory-clause-err
@@ -100,6 +103,18 @@ pub returns-in-NoMemory-clause-starved : goal.returns-in-NoMemory-clause-starved
 returns-in-NoMemory-clause-starved g c =
     let f = c.in-Some.ensures in
     ap (λ (x : Engine). x.starved) f.engine ∙ answered-starved c.args.at c.in-Some.offered.answer c.writes.self ∙ c.writes.invariant.starved
+
+pub returns-in-NoMemory-clause-failed : goal.returns-in-NoMemory-clause-failed
+returns-in-NoMemory-clause-failed g c =
+    let f = c.in-Some.ensures in
+    breaks-then _ _ _ _ _ _ c.writes.invariant.faults f.faults c.writes.invariant.failed
+    (breaks-offer c.args.at c.in-Some.offered.answer c.writes.self c.offer.new.self _ _ f.engine f.cause)
+
+pub returns-clause-failed : goal.returns-clause-failed
+returns-clause-failed g c =
+    let f = c.in_default.ensures in
+    breaks-then _ _ _ _ _ _ c.writes.invariant.faults f.faults c.writes.invariant.failed
+    (breaks-same c.writes.self c.offer.new.self _ _ f.none.1)
 
 pub returns-clause-ok : goal.returns-clause-ok
 returns-clause-ok g c =

@@ -3,7 +3,7 @@ use Rattle.std.proofs.Common.{◌≡◌, ◌+◌, ◌≤◌, ◌++◌, ℕ, List
 use Rattle.amqp_engine.specs.declared.port.Wrote.{Wrote}
 use Rattle.amqp_engine.specs.Log.{Log}
 use Rattle.amqp_engine.specs.Turn.{Progress}
-use Rattle.amqp_engine.specs.Making.{making, Allows, Writes}
+use Rattle.amqp_engine.specs.Making.{making, Allows, Writes, BreaksPipe}
 use Rattle.amqp_engine.specs.Tell.{TellsOffers, offers_from}
 use Rattle.amqp_engine.specs.Play.{waiting}
 use Rattle.amqp_engine.proofs.wire.Wire.write_all.Given as goal
@@ -18,6 +18,7 @@ invariant-writes g l = record {
   grows : l.fn.parts ≤ l.parts;
   starved : l.self.starved ≡ l.fn.self.starved;
   faults : g.P.Port.faults l.fn.port ≤ g.P.Port.faults l.port;
+  failed : BreaksPipe l.fn.self.talk l.self.talk (g.P.Port.faults l.fn.port) (g.P.Port.faults l.port);
 }
 
 abbrev pub decreases-writes : goal.decreases-writes

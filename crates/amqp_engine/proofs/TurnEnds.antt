@@ -1,0 +1,391 @@
+-- How a turn, and a run of turns, may end a session.
+use Rattle.std.proofs.Common.{◌≡◌, ◌⊎◌, inl, inr, ℕ, ◌-◌, ◌==◌, ◌&&◌, ◌||◌, not, nat_le, Bool, true, false, if◌then◌else◌, IsTrue, List, [], ◌∷◌, ◌++◌, length, drop, Option, Some, None, Err, is_some, refl, ap, sym, ◌∙◌, subst}
+use Rattle.amqp_types.specs.declared.error.AMQPError.{AMQPError}
+use Rattle.amqp_session.specs.declared.committed.Mark.{Mark}
+use Rattle.amqp_session.specs.declared.committed.Then.{Then}
+use Rattle.amqp_session.specs.declared.committed.Then.TheVariants.{Nothing, Answer, Finish}
+use Rattle.amqp_session.specs.declared.state.Input.{Input}
+use Rattle.amqp_session.specs.declared.state.Input.TheVariants.{Acting, Closed, Dropped}
+use Rattle.amqp_session.specs.declared.state.Link.{Link}
+use Rattle.amqp_session.specs.declared.state.Link.TheVariants.{Wanted, Asked, Open, Ended}
+use Rattle.amqp_session.specs.declared.io_fault.IoFault.{IoFault}
+use Rattle.amqp_session.specs.declared.io_fault.IoFault.TheVariants.{Aborted, Refused, Reset, BrokenPipe}
+use Rattle.amqp_session.specs.declared.server_close.ServerClose.{ServerClose}
+use Rattle.amqp_session.specs.declared.server_close.ServerClose.TheVariants.{WithoutError, WithError}
+use Rattle.amqp_session.specs.declared.error.ErrorKind.{ErrorKind}
+use Rattle.amqp_session.specs.declared.error.ErrorKind.TheVariants.{IOError, ProtocolError, NoMemory}
+use Rattle.amqp_session.specs.Talk.{Talk, has_ended, is_open, is_asked, end_of, end_of_link}
+use Rattle.amqp_session.specs.Changes.{present_at, fail, finish_by, starve}
+use Rattle.amqp_session.specs.Links.{asked, asked_link, linked, link_failed, piece, lost, lost_by}
+use Rattle.amqp_session.specs.Commands.{command}
+use Rattle.amqp_session.specs.Writing.{follow, sent, sent_among, taken}
+use Rattle.amqp_engine.specs.declared.port.Step.{Step}
+use Rattle.amqp_engine.specs.declared.port.Step.TheVariants.{Linked, LinkFailed, Piece, End, Fault, Room, Tick, Command}
+use Rattle.amqp_engine.specs.declared.port.Wrote.{Wrote}
+use Rattle.amqp_engine.specs.declared.port.Wrote.TheVariants.{Took, Failed, NoMemory as WroteNoMemory}
+use Rattle.amqp_engine.specs.Log.{Log}
+use Rattle.amqp_engine.specs.Engine.{Engine, settle, rule_at, with_talk, step_engine, took, wrote, commit_all}
+use Rattle.amqp_engine.specs.Turn.{Turn, Progress, asks, wants_ask, goes, reads, part, is_piece, step_part, is_part, begun, drain, offer_part, answered, read, written, applied, turn, turns, starved_after, AreTurns, Leads}
+use Rattle.amqp_engine.specs.Tell.{TellsTurns, Runs}
+use Rattle.amqp_engine.specs.Causes.{Misreads, LosesClosed, IsCause, Brings, brought, has_failed, is_failed, is_last, sends_close_ok, is_finish}
+use Rattle.amqp_engine.proofs.Cases.{if_case, if-true, if-false, and-true, and-false, none-from}
+use Rattle.amqp_engine.proofs.Keeping.{present-keeps, stays-command}
+use Rattle.amqp_engine.proofs.Commits.{commits-keep}
+use Rattle.amqp_engine.proofs.Ends.{Ends, ends-kept, ends-lose, ends-close, ends-as, ends-then, ends-present, ends-moment, ends-settled, if_by}
+use Rattle.amqp_engine.proofs.ReadEnds.{Comes, ends-reads}
+
+-- ---- steps
+
+-- the link is lost, by this fault or after the server's close
+abbrev LostError : IoFault → Talk → ErrorKind → Type 0
+LostError fault t (IOError f) = IsTrue (is_open t) × (f ≡ fault)
+LostError fault t (ProtocolError e) = IsTrue (is_open t) × (t.server_close ≡ Some (WithError e))
+LostError fault t _ = ⊥
+
+ends-finish : (P : ErrorKind → Type 0) (o : Option ServerClose) (t u : Talk) → ((e : AMQPError) → o ≡ Some (WithError e) → P (ProtocolError e)) → Ends P t (finish_by o u)
+ends-finish P None t u p = ends-close P t u
+ends-finish P (Some WithoutError) t u p = ends-close P t u
+ends-finish P (Some (WithError e)) t u p = ends-lose P (ProtocolError e) t u (p e refl)
+
+ends-lost-by : (i : Input) (fault : IoFault) (t : Talk) → is_open t ≡ true → Ends (LostError fault t) t (lost_by i fault t)
+ends-lost-by Acting fault t opened = ends-lose (LostError fault t) (IOError fault) t t (opened, refl)
+ends-lost-by Closed fault t opened = ends-finish (LostError fault t) t.server_close t _ (λ e h. (opened, h))
+ends-lost-by Dropped fault t opened = ends-finish (LostError fault t) t.server_close t _ (λ e h. (opened, h))
+
+ends-lost : (fault : IoFault) (t : Talk) → Ends (LostError fault t) t (lost fault t)
+ends-lost fault t =
+    if_by (Ends (LostError fault t) t) (is_open t) (lost_by t.input fault t) t (ends-lost-by t.input fault t) (λ h. ends-kept (LostError fault t) t t refl)
+
+present-lost : (at : ℕ) (fault : IoFault) (t : Talk) (k : ErrorKind) → LostError fault (present_at at t) k → LostError fault t k
+present-lost at fault t (IOError f) h = (sym (present-keeps is_open at t (λ n. refl)) ∙ h.0, h.1)
+present-lost at fault t (ProtocolError e) h =
+    (sym (present-keeps is_open at t (λ n. refl)) ∙ h.0, sym (present-keeps (λ x. x.server_close) at t (λ n. refl)) ∙ h.1)
+present-lost at fault t _ h = h
+
+ends-lost-at : (at : ℕ) (fault : IoFault) (x : Engine) → Ends (LostError fault x.talk) x.talk (settle (rule_at at (lost fault) x)).talk
+ends-lost-at at fault x =
+    let P : ErrorKind → Type 0 = LostError fault x.talk in
+    let t = present_at at x.talk in
+    ends-settled P x.talk (rule_at at (lost fault) x)
+    (ends-present P at x.talk (lost fault t) (ends-as (LostError fault t) P t (lost fault t) (present-lost at fault x.talk) (ends-lost fault t)))
+
+-- the error that a step brings
+abbrev pub StepError : Step → Engine → ErrorKind → Type 0
+StepError step x (IOError fault) = brought step x.talk ≡ Some fault
+StepError step x (ProtocolError e) = LosesClosed e step x
+StepError step x _ = ⊥
+
+end-lost : (x : Engine) (k : ErrorKind) → LostError Aborted x.talk k → StepError End x k
+end-lost x (IOError fault) h = if-true (is_open x.talk) (Some Aborted) None h.0 ∙ ap Some (sym h.1)
+end-lost x (ProtocolError e) h = record { loss = refl; opened = h.0; closed = h.1 }
+end-lost x _ h = h
+
+fault-lost : (x : Engine) (k : ErrorKind) → LostError Reset x.talk k → StepError Fault x k
+fault-lost x (IOError fault) h = if-true (is_open x.talk) (Some Reset) None h.0 ∙ ap Some (sym h.1)
+fault-lost x (ProtocolError e) h = record { loss = refl; opened = h.0; closed = h.1 }
+fault-lost x _ h = h
+
+not-ended : {A : Type 0} (k : ErrorKind) → end_of_link Open ≡ Some (Err k) → A
+not-ended k h = cc
+
+ends-linked : (P : ErrorKind → Type 0) (t : Talk) → Ends P t (linked t)
+ends-linked P t = if_case (Ends P t) (is_asked t) _ t (record { by = λ k h. not-ended k h }) (ends-kept P t t refl)
+
+ends-refused : (P : ErrorKind → Type 0) (t : Talk) → (is_asked t ≡ true → P (IOError Refused)) → Ends P t (link_failed t)
+ends-refused P t p =
+    if_by (Ends P t) (is_asked t) (fail (IOError Refused) t) t (λ h. ends-lose P (IOError Refused) t t (p h)) (λ h. ends-kept P t t refl)
+
+ends-piece : (P : ErrorKind → Type 0) (t : Talk) → Ends P t (piece t)
+ends-piece P t = if_case (Ends P t) (is_open t) (record t { last_read = t.present }) t (ends-kept P t _ refl) (ends-kept P t t refl)
+
+pub ends-step : (at : ℕ) (step : Step) (bytes : List ℕ) (x : Engine) → Ends (StepError step x) x.talk (step_engine at step bytes x).talk
+ends-step at Linked bytes x =
+    let P : ErrorKind → Type 0 = StepError Linked x in
+    if_case (λ (y : Engine). Ends P x.talk y.talk) (is_asked x.talk)
+    (record { talk = linked (present_at at x.talk); unread = []; place = 0; unsent = []; starved = x.starved }) (rule_at at (λ t. t) x)
+    (ends-present P at x.talk (linked (present_at at x.talk)) (ends-linked P (present_at at x.talk))) (ends-moment P at x.talk)
+ends-step at LinkFailed bytes x =
+    let P : ErrorKind → Type 0 = StepError LinkFailed x in
+    ends-settled P x.talk (rule_at at link_failed x)
+    (ends-present P at x.talk (link_failed (present_at at x.talk)) (ends-refused P (present_at at x.talk)
+    (λ h. if-true (is_asked x.talk) (Some Refused) None (sym (present-keeps is_asked at x.talk (λ n. refl)) ∙ h))))
+ends-step at (Piece n) bytes x =
+    let P : ErrorKind → Type 0 = StepError (Piece n) x in
+    let after : Engine = record x { talk = piece (present_at at x.talk); unread = x.unread ++ bytes } in
+    if_case (λ (y : Engine). Ends P x.talk y.talk) (is_open x.talk) (settle after) (rule_at at (λ t. t) x)
+    (ends-settled P x.talk after (ends-present P at x.talk after.talk (ends-piece P (present_at at x.talk)))) (ends-moment P at x.talk)
+ends-step at End bytes x = ends-as (LostError Aborted x.talk) (StepError End x) x.talk _ (end-lost x) (ends-lost-at at Aborted x)
+ends-step at Fault bytes x = ends-as (LostError Reset x.talk) (StepError Fault x) x.talk _ (fault-lost x) (ends-lost-at at Reset x)
+ends-step at Room bytes x = ends-moment _ at x.talk
+ends-step at Tick bytes x = ends-moment _ at x.talk
+ends-step at (Command c) bytes x =
+    let P : ErrorKind → Type 0 = StepError (Command c) x in
+    let t = present_at at x.talk in
+    ends-present P at x.talk (command c t) (ends-kept P t (command c t) (ap end_of_link (stays-command c t).link))
+
+ends-part : (u : Turn) (x : Engine) → Ends (StepError u.step x) x.talk (step_part u.step u.bytes (begun u.at u.notes.starved x)).engine.talk
+ends-part u x =
+    let P : ErrorKind → Type 0 = StepError u.step x in
+    let p = begun u.at u.notes.starved x in
+    let after = step_engine u.at u.step u.bytes x in
+    let e : Ends P x.talk after.talk = ends-step u.at u.step u.bytes x in
+    let Q : Progress → Type 0 = λ y. Ends P x.talk y.engine.talk in
+    if_case Q (is_part u.step x) (if goes p then part after p else p) (record p { engine = after })
+    (if_case Q (goes p) (part after p) p e (ends-kept P x.talk x.talk refl)) e
+
+-- up to the writes of a turn
+abbrev EarlyError : Turn → Engine → ErrorKind → Type 0
+EarlyError u x k = StepError u.step x k ⊎ Misreads k u x
+
+ends-read : (u : Turn) (x : Engine) → Ends (EarlyError u x) x.talk (read u x).engine.talk
+ends-read u x =
+    let P : ErrorKind → Type 0 = EarlyError u x in
+    let p = step_part u.step u.bytes (begun u.at u.notes.starved x) in
+    let e : Ends P x.talk p.engine.talk = ends-as (StepError u.step x) P x.talk p.engine.talk (λ k h. inl h) (ends-part u x) in
+    let n = length p.engine.unread in
+    if_by (λ (y : Progress). Ends P x.talk y.engine.talk) (is_piece u.step) (reads n p) p
+    (λ h. ends-then P x.talk p.engine.talk (reads n p).engine.talk e
+    (ends-as (Comes p) P p.engine.talk (reads n p).engine.talk
+    (λ k c. inr (record { piece = h; before = c.before; goes_on = c.goes_on; readable = c.readable; error_read = c.error_read })) (ends-reads n p)))
+    (λ h. e)
+
+-- ---- writes
+
+or-left : (a b : Bool) → a ≡ true → (a || b) ≡ true
+or-left true b h = refl
+or-left false b h = cc
+
+or-right : (a b : Bool) → b ≡ true → (a || b) ≡ true
+or-right true b h = refl
+or-right false b h = h
+
+-- close-ok was sent after a close with this error
+abbrev SentError : Bool → Talk → ErrorKind → Type 0
+SentError is_sent t (ProtocolError e) = IsTrue is_sent × (t.server_close ≡ Some (WithError e))
+SentError is_sent t _ = ⊥
+
+ends-follow : (th : Then) (t : Talk) → Ends (SentError (is_finish th) t) t (follow th t)
+ends-follow Nothing t = ends-kept _ t t refl
+ends-follow (Answer n) t = ends-kept _ t _ refl
+ends-follow Finish t = ends-finish _ t.server_close t _ (λ e h. (refl, h))
+
+finish-forgets : (o : Option ServerClose) (t : Talk) → (finish_by o (record t { server_close = None })).server_close ≡ None
+finish-forgets None t = refl
+finish-forgets (Some WithoutError) t = refl
+finish-forgets (Some (WithError e)) t = refl
+
+follow-closed : (th : Then) (t : Talk) (e : AMQPError) → (follow th t).server_close ≡ Some (WithError e) → t.server_close ≡ Some (WithError e)
+follow-closed Nothing t e h = h
+follow-closed (Answer n) t e h = h
+follow-closed Finish t e h =
+    let none = finish-forgets t.server_close t in
+    cc
+
+sent-first : (m : Mark) (ms : List Mark) (n : ℕ) (t : Talk) → nat_le m.left n ≡ true → (k : ErrorKind)
+    → SentError (is_finish m.«then») (record t { committed = drop 1 t.committed }) k → SentError (sends_close_ok n (m ∷ ms)) t k
+sent-first m ms n t le (ProtocolError e) h =
+    (and-true (nat_le m.left n) _ le (or-left (is_finish m.«then») (sends_close_ok (n - m.left) ms) h.0), h.1)
+sent-first m ms n t le _ h = h
+
+sent-later : (m : Mark) (ms : List Mark) (n : ℕ) (t : Talk) → nat_le m.left n ≡ true → (k : ErrorKind)
+    → SentError (sends_close_ok (n - m.left) ms) (sent m t) k → SentError (sends_close_ok n (m ∷ ms)) t k
+sent-later m ms n t le (ProtocolError e) h = (
+  and-true (nat_le m.left n) _ le (or-right (is_finish m.«then») (sends_close_ok (n - m.left) ms) h.0),
+  follow-closed m.«then» (record t { committed = drop 1 t.committed }) e h.1,
+)
+sent-later m ms n t le _ h = h
+
+ends-sent : (ms : List Mark) (n : ℕ) (t : Talk) → Ends (SentError (sends_close_ok n ms) t) t (sent_among ms n t)
+ends-sent [] n t = ends-kept _ t t refl
+ends-sent (m ∷ ms) n t =
+    let P : ErrorKind → Type 0 = SentError (sends_close_ok n (m ∷ ms)) t in
+    let x = sent m t in
+    let first : Talk = record t { committed = drop 1 t.committed } in
+    let last = sent_among ms (n - m.left) x in
+    if_by (Ends P t) (nat_le m.left n) last (record t { committed = record m { left = m.left - n } ∷ ms })
+    (λ h. ends-then P t x last (ends-then P t first x (ends-kept P t first refl)
+    (ends-as (SentError (is_finish m.«then») first) P first x (sent-first m ms n t h) (ends-follow m.«then» first)))
+    (ends-as (SentError (sends_close_ok (n - m.left) ms) x) P x last (sent-later m ms n t h) (ends-sent ms (n - m.left) x)))
+    (λ h. ends-kept P t _ refl)
+
+-- the error of a write that is answered so
+abbrev WroteError : Wrote → Engine → ErrorKind → Type 0
+WroteError w x (IOError fault) = (fault ≡ BrokenPipe) × IsTrue (is_failed w)
+WroteError w x (ProtocolError e) = IsTrue (is_last w x) × (x.talk.server_close ≡ Some (WithError e))
+WroteError w x _ = ⊥
+
+failed-lost : (x : Engine) (k : ErrorKind) → LostError BrokenPipe x.talk k → WroteError Failed x k
+failed-lost x (IOError fault) h = (h.1, refl)
+failed-lost x (ProtocolError e) h = (refl, h.1)
+failed-lost x _ h = h
+
+took-sent : (at n : ℕ) (x : Engine) (k : ErrorKind)
+    → SentError (sends_close_ok n (present_at at x.talk).committed) (present_at at x.talk) k → WroteError (Took n) x k
+took-sent at n x (ProtocolError e) h = (
+  ap (sends_close_ok n) (sym (present-keeps (λ t. t.committed) at x.talk (λ m. refl))) ∙ h.0,
+  sym (present-keeps (λ t. t.server_close) at x.talk (λ m. refl)) ∙ h.1,
+)
+took-sent at n x _ h = absurd h
+
+ends-taken : (n : ℕ) (t : Talk) → Ends (SentError (sends_close_ok n t.committed) t) t (taken n t)
+ends-taken n t =
+    let P : ErrorKind → Type 0 = SentError (sends_close_ok n t.committed) t in
+    let u : Talk = record t { last_write = t.present } in
+    let Q : ErrorKind → Type 0 = SentError (sends_close_ok n t.committed) u in
+    let e : Ends Q u (sent_among t.committed n u) = ends-sent t.committed n u in
+    if_case (Ends P t) (is_open t && not (n == 0)) (sent_among t.committed n u) t
+    (ends-then P t u (sent_among t.committed n u) (ends-kept P t u refl) (ends-as Q P u (sent_among t.committed n u) (moved t.committed) e)) (ends-kept P t t refl)
+  where
+    moved : (ms : List Mark) (k : ErrorKind) → SentError (sends_close_ok n ms) (record t { last_write = t.present }) k → SentError (sends_close_ok n ms) t k
+    moved ms (ProtocolError e) h = h
+    moved ms _ h = h
+
+ends-took : (P : ErrorKind → Type 0) (at n : ℕ) (x : Engine)
+    → ((k : ErrorKind) → SentError (sends_close_ok n (present_at at x.talk).committed) (present_at at x.talk) k → P k) → Ends P x.talk (took at n x).talk
+ends-took P at n x f =
+    let t = present_at at x.talk in
+    let after : Engine = record x { talk = taken n t; unsent = drop n x.unsent } in
+    ends-settled P x.talk after
+    (ends-present P at x.talk (taken n t) (ends-as (SentError (sends_close_ok n t.committed) t) P t (taken n t) f (ends-taken n t)))
+
+taken-none : (t : Talk) → taken 0 t ≡ t
+taken-none t = if-false (is_open t && not (0 == 0)) (sent_among t.committed 0 (record t { last_write = t.present })) t (and-false (is_open t) (not (0 == 0)) refl)
+
+ends-wrote : (at : ℕ) (w : Wrote) (x : Engine) → Ends (WroteError w x) x.talk (wrote at w x).talk
+ends-wrote at Failed x = ends-as (LostError BrokenPipe x.talk) (WroteError Failed x) x.talk _ (failed-lost x) (ends-lost-at at BrokenPipe x)
+ends-wrote at (Took n) x = ends-took (WroteError (Took n) x) at n x (took-sent at n x)
+ends-wrote at WroteNoMemory x =
+    let P : ErrorKind → Type 0 = WroteError WroteNoMemory x in
+    let t = present_at at x.talk in
+    let after : Engine = record x { talk = taken 0 t; unsent = drop 0 x.unsent } in
+    ends-settled P x.talk after (ends-present P at x.talk (taken 0 t) (ends-kept P t (taken 0 t) (ap end_of (taken-none t))))
+
+-- the error of an offer that is answered so
+abbrev pub OfferError : Wrote → Engine → ErrorKind → Type 0
+OfferError w x (IOError fault) = (fault ≡ BrokenPipe) × IsTrue (is_failed w)
+OfferError w x (ProtocolError e) = IsTrue (is_last w (commit_all x)) × (x.talk.server_close ≡ Some (WithError e))
+OfferError w x _ = ⊥
+
+offer-wrote : (w : Wrote) (x : Engine) (k : ErrorKind) → WroteError w (commit_all x) k → OfferError w x k
+offer-wrote w x (IOError fault) h = h
+offer-wrote w x (ProtocolError e) h =
+    (h.0, sym (commits-keep (λ (y : Engine). y.talk.server_close) (λ y fs ms bytes. refl) (length x.talk.control) x) ∙ h.1)
+offer-wrote w x _ h = h
+
+pub ends-answered : (at : ℕ) (w : Wrote) (x : Engine) → Ends (OfferError w x) x.talk (answered at w x).talk
+ends-answered at w x =
+    let P : ErrorKind → Type 0 = OfferError w x in
+    let c = commit_all x in
+    let same : end_of c.talk ≡ end_of x.talk = commits-keep (λ (y : Engine). end_of y.talk) (λ y fs ms bytes. refl) (length x.talk.control) x in
+    ends-then P x.talk c.talk (answered at w x).talk (ends-kept P x.talk c.talk same)
+    (ends-as (WroteError w c) P c.talk (answered at w x).talk (offer-wrote w x) (ends-wrote at w c))
+
+-- among these writes is the last, after a close with this error
+record Closes (error : AMQPError) (ws : List Wrote) (p : Progress) : Type 0 where
+  before : List Wrote
+  answer : Wrote
+  after : List Wrote
+  answers : ws ≡ before ++ answer ∷ after
+  last : IsTrue (is_last answer (commit_all (drain before p).engine))
+  closed : (drain before p).engine.talk.server_close ≡ Some (WithError error)
+
+-- the error of these writes
+abbrev WritesError : List Wrote → Progress → ErrorKind → Type 0
+WritesError ws p (IOError fault) = (fault ≡ BrokenPipe) × IsTrue (has_failed ws)
+WritesError ws p (ProtocolError e) = Closes e ws p
+WritesError ws p _ = ⊥
+
+writes-first : (w : Wrote) (ws : List Wrote) (p : Progress) (k : ErrorKind) → OfferError w p.engine k → WritesError (w ∷ ws) p k
+writes-first w ws p (IOError fault) h = (h.0, or-left (is_failed w) (has_failed ws) h.1)
+writes-first w ws p (ProtocolError e) h = record { before = []; answer = w; after = ws; answers = refl; last = h.0; closed = h.1 }
+writes-first w ws p _ h = h
+
+writes-later : (w : Wrote) (ws : List Wrote) (p : Progress) (k : ErrorKind) → WritesError ws (offer_part w p) k → WritesError (w ∷ ws) p k
+writes-later w ws p (IOError fault) h = (h.0, or-right (is_failed w) (has_failed ws) h.1)
+writes-later w ws p (ProtocolError e) h =
+    record { before = w ∷ h.before; answer = h.answer; after = h.after; answers = ap (λ vs. w ∷ vs) h.answers; last = h.last; closed = h.closed }
+writes-later w ws p _ h = h
+
+ends-drain : (ws : List Wrote) (p : Progress) → Ends (WritesError ws p) p.engine.talk (drain ws p).engine.talk
+ends-drain [] p = ends-kept (WritesError [] p) p.engine.talk p.engine.talk refl
+ends-drain (w ∷ ws) p =
+    let P : ErrorKind → Type 0 = WritesError (w ∷ ws) p in
+    let x = offer_part w p in
+    let last = drain ws x in
+    ends-then P p.engine.talk x.engine.talk last.engine.talk
+    (ends-as (OfferError w p.engine) P p.engine.talk x.engine.talk (writes-first w ws p) (ends-answered p.at w p.engine))
+    (ends-as (WritesError ws x) P x.engine.talk last.engine.talk (writes-later w ws p) (ends-drain ws x))
+
+-- ---- a turn
+
+early-cause : (u : Turn) (x : Engine) (k : ErrorKind) → EarlyError u x k → IsCause k u x
+early-cause u x (IOError fault) h = elim h [ inl e ↦ inl e | inr r ↦ absurd r.error_read ]
+early-cause u x (ProtocolError e) h = elim h [ inl l ↦ inr (inl l) | inr r ↦ inl r ]
+early-cause u x NoMemory h = elim h [ inl e ↦ absurd e | inr r ↦ absurd r.error_read ]
+early-cause u x _ h = elim h [ inl e ↦ absurd e | inr r ↦ r ]
+
+writes-cause : (u : Turn) (x : Engine) (k : ErrorKind) → WritesError u.notes.answers (read u x) k → IsCause k u x
+writes-cause u x (IOError fault) h = inr h
+writes-cause u x (ProtocolError e) h =
+    inr (inr (record { before = h.before; answer = h.answer; after = h.after; answers = h.answers; last = h.last; closed = h.closed }))
+writes-cause u x _ h = absurd h
+
+starved-cause : (P : ErrorKind → Type 0) (cut : Option ℕ) (at : ℕ) (x : Engine) → (is_some cut ≡ true → P NoMemory) → Ends P x.talk (starved_after cut at x).talk
+starved-cause P None at x p = ends-kept P x.talk x.talk refl
+starved-cause P (Some j) at x p =
+    let t = present_at at x.talk in
+    ends-present P at x.talk (starve t) (if_case (Ends P t) (has_ended t) t (fail NoMemory t) (ends-kept P t t refl) (ends-lose P NoMemory t t (p refl)))
+
+ends-applied : (u : Turn) (x : Engine) → Ends (λ k. IsCause k u x) x.talk (applied u x).talk
+ends-applied u x =
+    let P : ErrorKind → Type 0 = λ k. IsCause k u x in
+    let r = read u x in
+    let w = written u x in
+    ends-then P x.talk w.engine.talk (applied u x).talk
+    (ends-then P x.talk r.engine.talk w.engine.talk
+    (ends-as (EarlyError u x) P x.talk r.engine.talk (early-cause u x) (ends-read u x))
+    (ends-as (WritesError u.notes.answers r) P r.engine.talk w.engine.talk (writes-cause u x) (ends-drain u.notes.answers r)))
+    (starved-cause P u.notes.starved u.at w.engine (λ h. h))
+
+asked-end : (l : Link) → end_of_link (asked_link l) ≡ end_of_link l
+asked-end Wanted = refl
+asked-end Asked = refl
+asked-end Open = refl
+asked-end (Ended r) = refl
+
+pub asks-end : (e : Engine) → end_of (asks e).talk ≡ end_of e.talk
+asks-end e = if_case (λ (x : Engine). end_of x.talk ≡ end_of e.talk) (wants_ask e) (with_talk asked e) e (asked-end e.talk.link) refl
+
+not-before : {A : Type 0} (k : ErrorKind) (t : Talk) → has_ended t ≡ false → end_of t ≡ Some (Err k) → A
+not-before k t running h =
+    let none : end_of t ≡ None = none-from (end_of t) running in
+    cc
+
+turn-cause : (u : Turn) (e : Engine) (k : ErrorKind) → has_ended e.talk ≡ false → end_of (turn u e).talk ≡ Some (Err k) → IsCause k u (asks e)
+turn-cause u e k running h =
+    elim ((ends-applied u (asks e)).by k h) [ inl before ↦ not-before k e.talk running (sym (asks-end e) ∙ before) | inr cause ↦ cause ]
+
+-- ---- turns
+
+-- these turns have a last one, which brings about this error
+record HasLast (us : List Turn) (e : Engine) (k : ErrorKind) : Type 0 where
+  before : List Turn
+  u : Turn
+  split : us ≡ before ++ u ∷ []
+  cause : IsCause k u (asks (turns before e))
+
+has-last : (us : List Turn) (e : Engine) (k : ErrorKind) → has_ended e.talk ≡ false → AreTurns us e → end_of (turns us e).talk ≡ Some (Err k) → HasLast us e k
+has-last [] e k running may h = not-before k e.talk running h
+has-last (u ∷ []) e k running may h = record { before = []; u = u; split = refl; cause = turn-cause u e k running h }
+has-last (u ∷ (v ∷ vs)) e k running may h =
+    let later = has-last (v ∷ vs) (turn u e) k may.1.0.running may.1 h in
+    record { before = u ∷ later.before; u = later.u; split = ap (λ ws. u ∷ ws) later.split; cause = later.cause }
+
+-- a run that ends the session with an error has a last turn that brings it about
+pub runs-bring : (n : ℕ) (e e' : Engine) (log log' : Option Log) (k : ErrorKind) → Runs n e e' log log' → has_ended e.talk ≡ false
+    → end_of e'.talk ≡ Some (Err k) → Brings k e e' log log'
+runs-bring n e e' log log' k r running h =
+    let last = has-last r.us e k running r.leads.may (ap (λ (x : Engine). end_of x.talk) r.leads.leaves ∙ h) in
+    let P : List Turn → Type 0 = λ us. Leads us e e' in
+    let Q : List Turn → Type 0 = λ us. TellsTurns us e log log' in
+    record { us = last.before; u = last.u; leads = subst P last.split r.leads; tells = subst Q last.split r.tells; cause = last.cause }
