@@ -247,10 +247,13 @@ fn ends_with(alloc: Global, lines: &[Line], kind: ErrorKind) -> Result<bool, Fai
     let mut port = port(alloc, lines)?;
     let mut engine = IoLoop::new(alloc)?;
     let end = engine.run(&mut port, lines.len() as u64);
-    Ok(is_error(end, &kind) && match engine.answer(0) {
-        Some(Err(error)) => *error.kind() == kind,
-        _ => false,
-    })
+    Ok(
+        is_error(end, &kind)
+            && match engine.answer(0) {
+                Some(Err(error)) => *error.kind() == kind,
+                _ => false,
+            },
+    )
 }
 
 fn is_error(end: amqp_session::Result<()>, kind: &ErrorKind) -> bool {
@@ -337,7 +340,13 @@ fn frames_are_handed_out(rt: HostRuntime) -> Result<(), Fail> {
     let mut port = port(alloc, &OPENED_WITH_CHANNEL)?;
     let mut engine = IoLoop::new(alloc)?;
     assert!(rt; goes_on(engine.run(&mut port, 7)));
-    assert!(rt; took(alloc, &port, &[HEADER, START_OK, TUNE_OK, OPEN, CHANNEL_OPEN_1])?);
+    assert!(rt;
+        took(
+            alloc,
+            &port,
+            &[HEADER, START_OK, TUNE_OK, OPEN, CHANNEL_OPEN_1]
+        )?
+    );
     assert!(rt; matches!(engine.answer(1), Some(Ok(Answer::Channel(1, 1)))));
     let frames = engine.take_frames(1)?;
     assert!(rt; frames.len() == 1 && frames[0].bytes.as_bytes() == b"abc".as_slice());
