@@ -364,7 +364,7 @@ struct Refusing {
 impl Port for Refusing {
     ghost log = { λ p. None };
 
-    ghost faults = { λ p. 0 };
+    ghost faults = { λ p. p.script.faults };
 
     fn connect(&mut self) {
         self.script.connect();
