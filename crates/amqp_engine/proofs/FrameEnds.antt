@@ -28,7 +28,7 @@ use Rattle.amqp_session.specs.Links.{misread, misread_by}
 use Rattle.amqp_session.specs.Violations.{misread_error, on_channel_0, connection_method_on, unawaited}
 use Rattle.amqp_session.specs.Connections.{connection_row}
 use Rattle.amqp_session.specs.Channels.{unawaited_channel_method, channel_opened, channel_closed, channel_row, listed_channel_method, channel_method, hand_out, confirmed, is_select_ok, pass_through, unlisted, raw_on, channel_at}
-use Rattle.amqp_session.specs.Outgoing.{first_awaited}
+use Rattle.amqp_session.specs.Replies.{first_awaited}
 use Rattle.amqp_session.specs.Frames.{misplaced_in, misplaced, is_unbuilt, is_of_a_channel, built_method, frame_row, frame_by, on_frame}
 use Rattle.amqp_engine.specs.Engine.{Engine}
 use Rattle.amqp_engine.specs.Causes.{IsReadError, is_awaited}

@@ -43,7 +43,7 @@ use Rattle.amqp_session.specs.Links.{lost, lost_by, misread, misread_by}
 use Rattle.amqp_session.specs.Violations.{misread_error}
 use Rattle.amqp_session.specs.Connections.{connection_row, on_connection_close_ok, promise_of}
 use Rattle.amqp_session.specs.Channels.{unawaited_channel_method, channel_opened, channel_closed, channel_row, listed_channel_method, channel_method, hand_out, confirmed, is_select_ok, pass_through, unlisted, raw_on, channel_at}
-use Rattle.amqp_session.specs.Outgoing.{first_awaited, without_first}
+use Rattle.amqp_session.specs.Replies.{first_awaited, without_first}
 use Rattle.amqp_session.specs.Frames.{misplaced_in, misplaced, is_unbuilt, is_of_a_channel, built_method, frame_row, frame_by, on_frame}
 use Rattle.amqp_session.specs.Commands.{open_drawn, in_state, on_channel, method_frame, send, command, command_row, named}
 use Rattle.amqp_session.specs.Writing.{left_in, follow, sent, sent_among, taken}

@@ -20,7 +20,7 @@ use Rattle.amqp_session.specs.declared.error.ErrorKind.{ErrorKind}
 use Rattle.amqp_session.specs.declared.error.ErrorKind.TheVariants.{IOError, NoMemory, ParsingError, ProtocolError, InvalidProtocolVersion, InvalidConnectionState, InvalidChannel, Unbuilt}
 use Rattle.amqp_session.specs.Talk.{Talk, is_asked, is_open, end_of}
 use Rattle.amqp_session.specs.Channels.{channel_at}
-use Rattle.amqp_session.specs.Outgoing.{first_awaited}
+use Rattle.amqp_session.specs.Replies.{first_awaited}
 use Rattle.amqp_session.specs.Frames.{is_of_a_channel, is_unbuilt}
 use Rattle.amqp_session.specs.Violations.{frame_too_large, heartbeat_on, on_channel_0, connection_method_on, unawaited}
 use Rattle.amqp_engine.specs.declared.port.Step.{Step}

@@ -1,6 +1,7 @@
 //! Scripts through the program. What is expected stands in the standard and in worked rows that were
 //! made by hand, never in what this program printed.
 
+mod computed;
 mod vectors;
 
 ghost use Rattle.std.specs.Prelude.{Some};

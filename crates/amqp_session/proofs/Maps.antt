@@ -1,5 +1,5 @@
 -- Maps as lists of their entries.
-use Rattle.std.proofs.Common.{◌≡◌, ◌∙◌, ap, sym, refl, ℕ, Bool, true, false, cond, List, [], ◌∷◌, Some, None}
+use Rattle.std.proofs.Common.{◌≡◌, ◌∙◌, ap, sym, refl, ℕ, Bool, true, false, cond, List, [], ◌∷◌, Option, Some, None, is_some}
 use Rattle.std.specs.declared.cmp.Ordering.{Ordering}
 use Rattle.std.specs.declared.cmp.Ordering.TheVariants.{Less, Equal, Greater}
 use Rattle.std.specs.Ordering.{nat_cmp, is_eq, match_ordering}
@@ -10,7 +10,7 @@ use Rattle.std.specs.BTreeMap.{is_at}
 use Rattle.std.proofs.lemmas.Map.{lookup-none}
 use Rattle.std.proofs.lemmas.Map.Entries.{none_below_head}
 use Rattle.std.proofs.lemmas.Map.Keys.{sorted_tail}
-use Rattle.amqp_session.specs.Listed.{at, put, without}
+use Rattle.amqp_session.specs.Listed.{at, put, without, has, map_values}
 
 nat_cmp_self : (n : ℕ) → nat_cmp n n ≡ Equal
 nat_cmp_self n = sym (nat_cmp_is n n Equal refl)
@@ -69,3 +69,23 @@ module _ {X : Type 0} (n : ℕ) (v : X) where
   pub without-put : (es : List (ℕ × X)) → at n es ≡ None → without n (put n v es) ≡ es
   without-put [] h = ap (λ o. cond (is_eq o) [] ((n, v) ∷ [])) (nat_cmp_self n)
   without-put (e ∷ es) h = without_head (nat_cmp n e.0) e es refl h (without-put es)
+
+module _ {X : Type 0} (n : ℕ) (f : X → X) where
+  same_test : (b : Bool) (e : ℕ × X) (es : List (ℕ × X)) → is_some (at n (map_values f es)) ≡ is_some (at n es)
+      → is_some (cond b (Some (f e.1)) (at n (map_values f es))) ≡ is_some (cond b (Some e.1) (at n es))
+  same_test true e es rest = refl
+  same_test false e es rest = rest
+
+  -- a map whose values are changed has the same numbers
+  pub has-map_values : (es : List (ℕ × X)) → has n (map_values f es) ≡ has n es
+  has-map_values [] = refl
+  has-map_values (e ∷ es) = same_test (is_at (nat_cmp n) e.0) e es (has-map_values es)
+
+module _ {X : Type 0} where
+  none_from : (o : Option X) → is_some o ≡ false → o ≡ None
+  none_from None h = refl
+  none_from (Some x) h = absurd cc
+
+  -- a number that a map has not
+  pub at-absent : (n : ℕ) (es : List (ℕ × X)) → has n es ≡ false → at n es ≡ None
+  at-absent n es h = none_from (at n es) h

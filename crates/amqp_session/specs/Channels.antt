@@ -18,7 +18,7 @@ use Rattle.amqp_session.specs.declared.error.ErrorKind.TheVariants.{InvalidChann
 use Rattle.amqp_session.specs.Listed.{at, put, without}
 use Rattle.amqp_session.specs.Talk.{Talk}
 use Rattle.amqp_session.specs.Violations.{unawaited}
-use Rattle.amqp_session.specs.Outgoing.{first_awaited, without_first}
+use Rattle.amqp_session.specs.Replies.{first_awaited, without_first}
 use Rattle.amqp_session.specs.Changes.{give_to, lose}
 
 -- the listed channel of a number

@@ -1,5 +1,5 @@
 -- Commands: what a session is told to do. Each takes the next promise; a refused one is answered at once.
-use Rattle.std.specs.Prelude.{◌≡◌, ℕ, ◌==◌, nat_lt, if◌then◌else◌, Bool, true, false, List, length, Option, Some, None}
+use Rattle.std.specs.Prelude.{ℕ, ◌==◌, nat_lt, if◌then◌else◌, Bool, true, false, List, length, Option, Some, None}
 use Rattle.amqp_frame.specs.declared.frame.Frame.{Frame}
 use Rattle.amqp_frame.specs.declared.frame.Frame.TheVariants.{Raw}
 use Rattle.amqp_frame.specs.declared.frame.RawKind.TheVariants.{RawMethod}
@@ -18,7 +18,6 @@ use Rattle.amqp_session.specs.declared.committed.Then.TheVariants.{Answer as Ans
 use Rattle.amqp_session.specs.declared.command.ChanRef.{ChanRef}
 use Rattle.amqp_session.specs.declared.command.Cmd.{Cmd}
 use Rattle.amqp_session.specs.declared.command.Cmd.TheVariants.{OpenChannel, CloseChannel, CloseConnection, Send}
-use Rattle.amqp_session.specs.declared.error.ErrorKind.{ErrorKind}
 use Rattle.amqp_session.specs.declared.error.ErrorKind.TheVariants.{ChannelsLimitReached, InvalidChannel, InvalidChannelState, InvalidConnectionState, SerialisationError}
 use Rattle.amqp_session.specs.Listed.{map_values}
 use Rattle.amqp_session.specs.Talk.{Talk}
@@ -80,16 +79,6 @@ on_channel n word f (Some c) t = in_state c.state word (f c) t
 -- what is told of a channel is done where the channel is listed and open, and else refused
 abbrev pub on_open_channel : ChanRef → Word → (Channel → Talk → Talk) → Talk → Talk
 on_open_channel r word f t = on_channel r.id word f (named r t) t
-
--- this is the named channel, and it is open
-pub record IsOpenNamed (r : ChanRef) (c : Channel) (t : Talk) : Type 0 where
-  pub named : named r t ≡ Some c
-  pub listed : channel_at r.id t ≡ Some c
-  pub open_state : c.state ≡ channel.Connected
-
--- what is told of the named channel is refused so, whatever it is
-abbrev pub Refuses : ChanRef → Word → ErrorKind → Talk → Type 0
-Refuses r word e t = (f : Channel → Talk → Talk) → on_open_channel r word f t ≡ refuse e t
 
 -- ---- closing a channel
 

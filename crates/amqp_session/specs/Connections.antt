@@ -17,7 +17,7 @@ use Rattle.amqp_session.specs.Talk.{Talk}
 use Rattle.amqp_session.specs.Negotiation.{tune}
 use Rattle.amqp_session.specs.Handshake.{start_ok, tune_ok, open_vhost, close_ok}
 use Rattle.amqp_session.specs.Violations.{server_close}
-use Rattle.amqp_session.specs.Outgoing.{first_awaited, without_first}
+use Rattle.amqp_session.specs.Replies.{first_awaited, without_first}
 use Rattle.amqp_session.specs.Changes.{queue, give, give_to, close, lose}
 
 -- ---- the handshake

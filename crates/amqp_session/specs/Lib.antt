@@ -10,7 +10,7 @@ pub mod Shown
 pub mod Errors
 pub mod Violations
 -- The rules: what each happening does to the state.
-pub mod Outgoing
+pub mod Replies
 pub mod Changes
 pub mod Links
 pub mod Connections
@@ -22,3 +22,6 @@ pub mod Answers
 pub mod Queries
 -- What the rules keep.
 pub mod Laws
+-- What the contracts of private calls are stated with.
+pub mod Parts
+pub mod NumberSet

@@ -72,15 +72,3 @@ taken n t =
     if is_open t && not (n == 0)
     then sent_among t.committed n (record t { last_write = t.present })
     else t
-
--- ---- one frame at a time, as the code takes them
-
--- the first committed frame, where its last byte is among the next n
-abbrev pub first_sent : ℕ → List Mark → Option Mark
-first_sent n [] = None
-first_sent n (m ∷ ms) = if nat_le m.left n then Some m else None
-
--- what is then left of the committed frames
-abbrev pub after_first : ℕ → List Mark → List Mark
-after_first n [] = []
-after_first n (m ∷ ms) = if nat_le m.left n then ms else record m { left = m.left - n } ∷ ms

@@ -1,11 +1,11 @@
 //! The listed channels.
 
-ghost use Rattle.std.specs.Prelude.{◌≡◌, ◌==◌, ◌+◌, ◌-◌, ◌≤◌, ◌<◌, ◌^◌, not, [], false, None, IfSome, OnOk, OnErr, IsSome, option_map, length, find};
-ghost use Rattle.std.specs.List.{range_with_len};
-ghost use Rattle.amqp_session.specs.Listed.{at, put, without, map_values, has};
+ghost use Rattle.std.specs.Prelude.{◌≡◌, ◌==◌, ◌≤◌, ◌<◌, [], None, IfSome, OnOk, OnErr, IsSome, option_map, length, find};
+ghost use Rattle.amqp_session.specs.Listed.{at, put, without, map_values};
 ghost use Rattle.amqp_session.specs.Numbering.{first_number, after, drawn};
 ghost use Rattle.amqp_session.specs.Commands.{closing, new_channel};
 
+use crate::numbers::Numbers;
 use crate::state::ChannelState;
 use amqp_types::{ChannelId, NoMemory};
 use std::alloc::Global;
@@ -42,6 +42,7 @@ impl Channel {
 #[derive(Debug, Drop)]
 pub struct Channels {
     listed: BTreeMap<ChannelId, Channel>,
+    numbers: Numbers,
 }
 
 impl Model for Channels {
@@ -51,6 +52,13 @@ impl Model for Channels {
     ghost Value = { List (ℕ × Channel) };
 
     ghost view = { λ c. c.listed.entries };
+
+    ghost use Rattle.std.specs.Prelude.{◌≡◌};
+    ghost use Rattle.amqp_session.specs.Listed.{has};
+    ghost use Rattle.amqp_session.specs.NumberSet.{is_member};
+
+    // The set of numbers has those of the listed channels.
+    ghost invariant = { λ c. (n : ℕ) → is_member c.numbers n ≡ has n c.listed.entries };
 }
 
 impl Channels {
@@ -59,6 +67,7 @@ impl Channels {
     {
         Channels {
             listed: BTreeMap::new(alloc),
+            numbers: Numbers::new(alloc),
         }
     }
 
@@ -76,19 +85,14 @@ impl Channels {
         self.listed.get(&id).copied()
     }
 
-    fn has(&self, id: ChannelId) -> bool
-        ensures has { result ≡ has id self.now }
-        ensures none { result ≡ false → at id self.now ≡ None }
-    {
-        self.listed.contains_key(&id)
-    }
-
     /// Lists a channel.
     pub fn list(&mut self, id: ChannelId, channel: Channel) -> Result<(), NoMemory>
         ensures ok { OnOk result (self.new ≡ put id channel self.old) }
         ensures err { OnErr result (self.new ≡ self.old) }
     {
+        self.numbers.reserve(id)?;
         self.listed.insert(id, channel)?;
+        self.numbers.insert(id);
         Ok(())
     }
 
@@ -106,6 +110,7 @@ impl Channels {
         ensures { self.new ≡ without id self.old }
     {
         self.listed.remove(&id);
+        self.numbers.remove(id);
     }
 
     /// All channels go.
@@ -113,6 +118,7 @@ impl Channels {
         ensures { self.new ≡ [] }
     {
         self.listed.clear();
+        self.numbers.clear();
     }
 
     /// All channels are closing.
@@ -144,24 +150,10 @@ impl Channels {
         ensures unlisted { IfSome result (λ id. at id self.now ≡ None) }
     {
         let until = channel_max as u32 + 1;
-        match self.first_unlisted(first as u32, until) {
+        match self.numbers.first_absent(first as u32, until) {
             Some(id) => Some(id),
-            None => self.first_unlisted(1, first as u32),
+            None => self.numbers.first_absent(1, first as u32),
         }
-    }
-
-    // The first number from one on and below another that is not listed.
-    fn first_unlisted(&self, from: u32, until: u32) -> Option<ChannelId>
-        requires { until ≤ 2 ^ 16 }
-        ensures first { result ≡ find (λ n. not (has n self.now)) (range_with_len from (until - from)) }
-        ensures unlisted { IfSome result (λ id. at id self.now ≡ None) }
-    {
-        'numbers: for n in from..until {
-            if !self.has(n as ChannelId) {
-                return Some(n as ChannelId);
-            }
-        }
-        None
     }
 }
 

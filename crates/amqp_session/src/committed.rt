@@ -2,7 +2,8 @@
 
 ghost use Rattle.std.specs.Prelude.{◌≡◌, ◌+◌, ◌<◌, ◌≤◌, ◌^◌, ◌++◌, ◌∷◌, [], length, OnOk};
 ghost use Rattle.std.specs.VecDeque.{deque_capacity};
-ghost use Rattle.amqp_session.specs.Writing.{left_in, first_sent, after_first};
+ghost use Rattle.amqp_session.specs.Writing.{left_in};
+ghost use Rattle.amqp_session.specs.Parts.{first_sent, after_first};
 
 use amqp_types::NoMemory;
 use std::alloc::Global;

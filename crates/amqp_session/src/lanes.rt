@@ -1,7 +1,7 @@
 //! The frames that wait to be committed, and the replies that are awaited.
 
 ghost use Rattle.std.specs.Prelude.{◌≡◌, ◌++◌, ◌∷◌, [], ◌<◌, ◌^◌, drop, length, position, option_copied, IfNone, OnOk, OnErr};
-ghost use Rattle.amqp_session.specs.Outgoing.{is_of, is_same_reply, first_awaited, without_first};
+ghost use Rattle.amqp_session.specs.Replies.{is_of, is_same_reply, first_awaited, without_first};
 ghost use Rattle.amqp_session.specs.Writing.{head};
 
 use crate::committed::Then;
@@ -78,7 +78,7 @@ pub struct Lanes {
 }
 
 impl Model for Lanes {
-    ghost use Rattle.amqp_session.specs.Outgoing.{Outgoing};
+    ghost use Rattle.amqp_session.specs.Parts.{Outgoing};
 
     ghost Value = { Outgoing };
 

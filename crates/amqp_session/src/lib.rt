@@ -17,6 +17,7 @@ mod io_fault;
 mod lanes;
 mod laws;
 mod misread;
+mod numbers;
 mod promises;
 mod server_close;
 mod session;

@@ -2,6 +2,7 @@
 //! broker's own bytes, never in what this crate gave.
 
 use super::*;
+use crate::channels::{Channel, Channels};
 use amqp_frame::{FixedRoom, Frame, Method, RawKind, RawMethod, encoded_len, write_frame};
 use amqp_types::{AMQPError, FieldTable, LongString, Payload, ProtocolVersion, ShortString, Word};
 use std::alloc::Global;
@@ -817,5 +818,25 @@ fn unawaited_channel_methods_are_fatal(rt: HostRuntime) -> std::result::Result<(
     let close = "protocol error: 505 unexpected channel.close-ok received on channel 1";
     assert!(rt; ends_with(alloc, with_channel(alloc)?, open_ok_on(1), open)?);
     assert!(rt; ends_with(alloc, with_channel(alloc)?, close_ok_on(1), close)?);
+    Ok(())
+}
+
+#[test]
+fn numbers_are_drawn_where_nearly_all_are_listed(rt: HostRuntime) -> std::result::Result<(), Fail> {
+    let mut channels = Channels::new(rt.alloc());
+    for id in 1..201u16 {
+        channels.list(id, Channel::opened_by(id as u64))?;
+    }
+    assert_eq!(rt; channels.draw(200, 5), None);
+    assert_eq!(rt; channels.draw(201, 5), Some(201));
+    channels.remove(128);
+    assert_eq!(rt; channels.draw(200, 5), Some(128));
+    assert_eq!(rt; channels.draw(200, 129), Some(128));
+    assert_eq!(rt; channels.draw(127, 1), None);
+    channels.remove(1);
+    assert_eq!(rt; channels.draw(200, 129), Some(1));
+    assert_eq!(rt; channels.draw(200, 2), Some(128));
+    channels.clear();
+    assert_eq!(rt; channels.draw(200, 200), Some(200));
     Ok(())
 }

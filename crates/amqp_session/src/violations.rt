@@ -1,4 +1,4 @@
-//! The errors by which a server is told what it may not do.
+//! The errors with which a session ends where a server does what it may not.
 
 ghost use Rattle.std.specs.Prelude.{◌≡◌, ◌≤◌, Some, IfOk, length};
 ghost use Rattle.std.specs.String.{string_bytes};

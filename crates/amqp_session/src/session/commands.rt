@@ -4,7 +4,8 @@ ghost use Rattle.std.specs.Prelude.{◌≡◌, Some, None, length, IfOk, IfErr, 
 ghost use Rattle.amqp_types.specs.declared.word.Word.TheVariants as word;
 ghost use Rattle.amqp_session.specs.Channels.{channel_at};
 ghost use Rattle.amqp_session.specs.Changes.{refuse};
-ghost use Rattle.amqp_session.specs.Commands.{open_channel, open_as, named, on_open_channel, close_channel, send, close_connection, command, IsOpenNamed, Refuses};
+ghost use Rattle.amqp_session.specs.Commands.{open_channel, open_as, named, on_open_channel, close_channel, send, close_connection, command};
+ghost use Rattle.amqp_session.specs.Parts.{IsOpenNamed, Refuses};
 
 use super::{CAPACITY, Session};
 use crate::channels::{Channel, after, first_number};

@@ -3,7 +3,8 @@
 ghost use Rattle.std.specs.Prelude.{◌≡◌, ◌+◌, ◌≤◌, option_map};
 ghost use Rattle.amqp_session.specs.declared.lanes.Item.{Item};
 ghost use Rattle.amqp_session.specs.Changes.{present_at};
-ghost use Rattle.amqp_session.specs.Writing.{next_within, commit, unsent, first_sent, after_first, follow, taken};
+ghost use Rattle.amqp_session.specs.Writing.{next_within, commit, unsent, follow, taken};
+ghost use Rattle.amqp_session.specs.Parts.{first_sent, after_first};
 
 use super::{CAPACITY, Session};
 use crate::command::Answer;

@@ -1,7 +1,8 @@
 use Rattle.std.proofs.Common.{◌≡◌, ◌∙◌, ap, sym, List, Some, None}
 use Rattle.std.specs.Prelude.{position}
 use Rattle.amqp_session.specs.declared.lanes.Awaited.{Awaited}
-use Rattle.amqp_session.specs.Outgoing.{Outgoing, is_of, first_awaited, without_first}
+use Rattle.amqp_session.specs.Parts.{Outgoing}
+use Rattle.amqp_session.specs.Replies.{is_of, first_awaited, without_first}
 use Rattle.amqp_session.proofs.Searches.{none-found, none-removed, removed-found, removed-rest}
 use Rattle.amqp_session.proofs.lanes.Lanes.answered.Goals as goal
 

@@ -1,16 +1,9 @@
--- What a session still has to say, and to be answered.
+-- The replies that are awaited.
 use Rattle.std.specs.Prelude.{ℕ, Bool, true, false, ◌==◌, ◌&&◌, List, Option, find}
 use Rattle.std.specs.List.{position_or_len, remove}
-use Rattle.amqp_session.specs.declared.lanes.Item.{Item}
 use Rattle.amqp_session.specs.declared.lanes.Awaited.{Awaited}
 use Rattle.amqp_session.specs.declared.lanes.Reply.{Reply}
 use Rattle.amqp_session.specs.declared.lanes.Reply.TheVariants.{ChannelOpened, ChannelClosed, ConnectionClosed}
-
-pub record Outgoing : Type 0 where
-  -- the frames that wait to be committed, in order
-  pub control : List Item
-  -- the replies that are awaited, in order
-  pub awaited : List Awaited
 
 -- two replies are of one kind
 abbrev pub is_same_reply : Reply → Reply → Bool

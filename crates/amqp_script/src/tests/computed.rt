@@ -1,0 +1,35 @@
+//! Vectors and whole rows, computed from the definitions.
+
+ghost use Rattle.std.specs.Prelude.{◌≡◌, [], ◌∷◌, Ok, Err, codes};
+ghost use Rattle.amqp_frame.specs.declared.frame.Frame.TheVariants as frame;
+ghost use Rattle.amqp_frame.specs.declared.method.Method.TheVariants as method;
+ghost use Rattle.amqp_frame.specs.Frames.{encoding};
+ghost use Rattle.amqp_session.specs.Handshake.{protocol_header, start_ok, tune_ok, open_vhost, our_close, close_ok, channel_open, our_channel_close};
+ghost use Rattle.amqp_script.specs.Grammar.{parsed};
+ghost use Rattle.amqp_script.specs.Report.{hexadecimal};
+ghost use Rattle.amqp_script.specs.Top.{printout};
+
+// What a client says, octet by octet.
+fn what_is_said_is_spelled_so()
+    ensures header { hexadecimal (encoding protocol_header) ≡ codes "414d515000000901" }
+    ensures start_ok { hexadecimal (encoding start_ok) ≡ codes "01000000000133000a000b0000010f0c6361706162696c697469657346000000c71c61757468656e7469636174696f6e5f6661696c7572655f636c6f736574010a62617369632e6e61636b740112636f6e6e656374696f6e2e626c6f636b6564740116636f6e73756d65725f63616e63656c5f6e6f74696679740113636f6e73756d65725f7072696f72697469657374010f6469726563745f7265706c795f746f74011a65786368616e67655f65786368616e67655f62696e64696e67737401107065725f636f6e73756d65725f716f737401127075626c69736865725f636f6e6669726d73740108706c6174666f726d5300000004727573740770726f6475637453000000056c6170696e0776657273696f6e5300000005342e342e3005504c41494e0000000c00677565737400677565737405656e5f5553ce" }
+    ensures tune_ok { hexadecimal (encoding (tune_ok (record { channel_max = 2047; frame_max = 131072; heartbeat = 60 }))) ≡ codes "0100000000000c000a001f07ff00020000003cce" }
+    ensures open { hexadecimal (encoding open_vhost) ≡ codes "01000000000008000a0028012f0000ce" }
+    ensures close { hexadecimal (encoding (our_close 200 (codes "OK"))) ≡ codes "0100000000000d000a003200c8024f4b00000000ce" }
+    ensures close_ok { hexadecimal (encoding close_ok) ≡ codes "01000000000004000a0033ce" }
+    ensures channel_open { hexadecimal (encoding (channel_open 1)) ≡ codes "010001000000050014000a00ce" }
+    ensures channel_close { hexadecimal (encoding (our_channel_close 1 200 (codes "OK"))) ≡ codes "0100010000000d0014002800c8024f4b00000000ce" }
+{
+}
+
+// A header of another version.
+fn another_version_is_replayed_so()
+    ensures { printout (parsed (codes "link\nbytes 414d515000000800\n")) ≡ record { status = 5; text = codes "link 1 414d515000000901\nanswer 0 err the server only supports AMQP 0-8-0\nend error the server only supports AMQP 0-8-0\n" } }
+{
+}
+
+// The handshake, and our close.
+fn the_handshake_is_replayed_so()
+    ensures { printout (parsed (codes "link\nbytes 01000000000061000a000a00090000003c0c6361706162696c69746965734600000015127075626c69736865725f636f6e6669726d7374010770726f6475637453000000085261626269744d510000000e504c41494e20414d51504c41494e00000005656e5f5553ce\nbytes 0100000000000c000a001e07ff00020000003cce\nbytes 01000000000005000a002900ce\nshut 200 OK\nbytes 01000000000004000a0033ce\n")) ≡ record { status = 0; text = codes "link 1 414d51500000090101000000000133000a000b0000010f0c6361706162696c697469657346000000c71c61757468656e7469636174696f6e5f6661696c7572655f636c6f736574010a62617369632e6e61636b740112636f6e6e656374696f6e2e626c6f636b6564740116636f6e73756d65725f63616e63656c5f6e6f74696679740113636f6e73756d65725f7072696f72697469657374010f6469726563745f7265706c795f746f74011a65786368616e67655f65786368616e67655f62696e64696e67737401107065725f636f6e73756d65725f716f737401127075626c69736865725f636f6e6669726d73740108706c6174666f726d5300000004727573740770726f6475637453000000056c6170696e0776657273696f6e5300000005342e342e3005504c41494e0000000c00677565737400677565737405656e5f5553ce0100000000000c000a001f07ff00020000003cce01000000000008000a0028012f0000ce0100000000000d000a003200c8024f4b00000000ce\nanswer 0 ok connected\nanswer 1 ok done\nend closed\n" } }
+{
+}
