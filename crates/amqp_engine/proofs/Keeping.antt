@@ -36,18 +36,15 @@ use Rattle.amqp_session.specs.declared.session.TheConstants.{CAPACITY}
 use Rattle.amqp_types.specs.declared.word.Word.{Word}
 use Rattle.amqp_session.specs.declared.lanes.Reply.TheVariants.{ChannelOpened, ChannelClosed, ConnectionClosed}
 use Rattle.amqp_session.specs.declared.command.Answer.{Answer as AnyAnswer}
-use Rattle.amqp_session.specs.declared.misread.Misread.TheVariants.{TooLarge, BadHeartbeat, Bad}
 use Rattle.amqp_session.specs.Talk.{Talk, has_ended, is_open, end_of_link}
 use Rattle.amqp_session.specs.Changes.{present_at, refuse, promise, queue_item, next_promise, give_to, fail, lose, close, finish_by, starve}
 use Rattle.amqp_session.specs.Links.{lost, lost_by, misread, misread_by}
-use Rattle.amqp_session.specs.Violations.{misread_error}
 use Rattle.amqp_session.specs.Connections.{connection_row, on_connection_close_ok, promise_of}
 use Rattle.amqp_session.specs.Channels.{unawaited_channel_method, channel_opened, channel_closed, channel_row, listed_channel_method, channel_method, hand_out, confirmed, is_select_ok, pass_through, unlisted, raw_on, channel_at}
 use Rattle.amqp_session.specs.Replies.{first_awaited, without_first}
 use Rattle.amqp_session.specs.Frames.{misplaced_in, misplaced, is_unbuilt, is_of_a_channel, built_method, frame_row, frame_by, on_frame}
 use Rattle.amqp_session.specs.Commands.{open_drawn, in_state, on_channel, method_frame, send, command, command_row, named}
 use Rattle.amqp_session.specs.Writing.{left_in, follow, sent, sent_among, taken}
-use Rattle.amqp_engine.specs.Causes.{fault_in, fault_of}
 use Rattle.amqp_engine.proofs.Cases.{if_case, if-true, if-false, if-both, and-true, and-false}
 
 -- ---- the present
@@ -91,53 +88,52 @@ starve-committed t = if_case (λ (x : Talk). x.committed ≡ t.committed) (has_e
 
 -- ---- what a rule keeps
 
--- a rule that commits nothing, leaves the link as it is unless the session ends, and brings no fault
+-- a rule that commits nothing, and leaves the link as it is unless the session ends
 pub record Keeps (t t' : Talk) : Type 0 where
   pub committed : t'.committed ≡ t.committed
   pub link : (t'.link ≡ t.link) ⊎ (has_ended t' ≡ true)
-  pub faultless : fault_of t ≡ None → fault_of t' ≡ None
 
 pub keeps-none : (t : Talk) → Keeps t t
-keeps-none t = record { committed = refl; link = inl refl; faultless = λ h. h }
+keeps-none t = record { committed = refl; link = inl refl }
 
-keeps-lose : (e : ErrorKind) (t : Talk) → fault_in e ≡ None → Keeps t (lose e t)
-keeps-lose e t none = record { committed = refl; link = inr refl; faultless = λ h. none }
+keeps-lose : (e : ErrorKind) (t : Talk) → Keeps t (lose e t)
+keeps-lose e t = record { committed = refl; link = inr refl }
 
 keeps-give_to : (promise : Option ℕ) (answer : Result AnyAnswer ErrorKind) (t u : Talk) → Keeps t u → Keeps t (give_to promise answer u)
 keeps-give_to None answer t u k = k
-keeps-give_to (Some n) answer t u k = record { committed = k.committed; link = k.link; faultless = k.faultless }
+keeps-give_to (Some n) answer t u k = record { committed = k.committed; link = k.link }
 
 keeps-close : (t u : Talk) → Keeps t u → Keeps t (close u)
-keeps-close t u k = record { committed = k.committed; link = inr refl; faultless = λ h. refl }
+keeps-close t u k = record { committed = k.committed; link = inr refl }
 
 -- ---- frames
 
 keeps-close-ok : (t : Talk) → Keeps t (on_connection_close_ok t)
 keeps-close-ok t =
     keeps-close t _ (keeps-give_to (promise_of (first_awaited 0 ConnectionClosed t.awaited)) _ t
-    (record t { awaited = without_first 0 ConnectionClosed t.awaited }) (record { committed = refl; link = inl refl; faultless = λ h. h }))
+    (record t { awaited = without_first 0 ConnectionClosed t.awaited }) (record { committed = refl; link = inl refl }))
 
 keeps-connection : (s : ConnectionState) (p : Phase) (m : AnyMethod) (t : Talk) → Keeps t (connection_row s p m t)
 keeps-connection s p (Close code text class method) t =
-    record { committed = refl; link = inl refl; faultless = λ h. h }
+    record { committed = refl; link = inl refl }
 keeps-connection Closing p CloseOk t = keeps-close-ok t
 keeps-connection Closing p m t = keeps-none t
-keeps-connection Connecting AwaitStart (Start a b c d e) t = record { committed = refl; link = inl refl; faultless = λ h. h }
-keeps-connection Connecting AwaitTune (Tune a b c) t = record { committed = refl; link = inl refl; faultless = λ h. h }
-keeps-connection Connecting AwaitOpenOk OpenOk t = record { committed = refl; link = inl refl; faultless = λ h. h }
-keeps-connection held p m t = keeps-lose _ t refl
+keeps-connection Connecting AwaitStart (Start a b c d e) t = record { committed = refl; link = inl refl }
+keeps-connection Connecting AwaitTune (Tune a b c) t = record { committed = refl; link = inl refl }
+keeps-connection Connecting AwaitOpenOk OpenOk t = record { committed = refl; link = inl refl }
+keeps-connection held p m t = keeps-lose _ t
 
 keeps-unawaited : (n : ℕ) (s : ChannelState) (m : AnyMethod) (t : Talk) → Keeps t (unawaited_channel_method n s m t)
 keeps-unawaited n channel.Closing m t = keeps-none t
-keeps-unawaited n _ m t = keeps-lose _ t refl
+keeps-unawaited n _ m t = keeps-lose _ t
 
 keeps-opened : (n : ℕ) (c : Channel) (a : Option Awaited) (t : Talk) → Keeps t (channel_opened n c a t)
 keeps-opened n c None t = keeps-unawaited n c.state ChannelOpenOk t
-keeps-opened n c (Some a) t = keeps-give_to a.promise _ t _ (record { committed = refl; link = inl refl; faultless = λ h. h })
+keeps-opened n c (Some a) t = keeps-give_to a.promise _ t _ (record { committed = refl; link = inl refl })
 
 keeps-closed : (n : ℕ) (c : Channel) (a : Option Awaited) (t : Talk) → Keeps t (channel_closed n c a t)
 keeps-closed n c None t = keeps-unawaited n c.state ChannelCloseOk t
-keeps-closed n c (Some a) t = keeps-give_to a.promise _ t _ (record { committed = refl; link = inl refl; faultless = λ h. h })
+keeps-closed n c (Some a) t = keeps-give_to a.promise _ t _ (record { committed = refl; link = inl refl })
 
 keeps-channel : (n : ℕ) (c : Channel) (m : AnyMethod) (t : Talk) → Keeps t (channel_row n c m t)
 keeps-channel n c ChannelOpenOk t = keeps-opened n c (first_awaited n ChannelOpened t.awaited) t
@@ -145,46 +141,46 @@ keeps-channel n c ChannelCloseOk t = keeps-closed n c (first_awaited n ChannelCl
 keeps-channel n c m t = keeps-unawaited n c.state m t
 
 keeps-listed : (n : ℕ) (o : Option Channel) (m : AnyMethod) (t : Talk) → Keeps t (listed_channel_method n o m t)
-keeps-listed n None m t = keeps-lose _ t refl
+keeps-listed n None m t = keeps-lose _ t
 keeps-listed n (Some c) m t = keeps-channel n c m t
 
 keeps-channel-method : (s : ConnectionState) (n : ℕ) (m : AnyMethod) (t : Talk) → Keeps t (channel_method s n m t)
 keeps-channel-method Closing n m t = keeps-none t
-keeps-channel-method Connecting n m t = keeps-lose _ t refl
+keeps-channel-method Connecting n m t = keeps-lose _ t
 keeps-channel-method _ n m t = keeps-listed n (channel_at n t) m t
 
 keeps-pass : (n : ℕ) (c : Channel) (kind : RawKind) (bytes : List ℕ) (t : Talk) → Keeps t (pass_through n c kind bytes t)
 keeps-pass n c kind bytes t =
     if_case (λ (x : Talk). Keeps t (hand_out c.opened (record { channel = n; kind = kind; bytes = bytes }) x)) (is_select_ok kind bytes) (confirmed n c t) t
-    (record { committed = refl; link = inl refl; faultless = λ h. h })
-    (record { committed = refl; link = inl refl; faultless = λ h. h })
+    (record { committed = refl; link = inl refl })
+    (record { committed = refl; link = inl refl })
 
 keeps-unlisted : (s : ConnectionState) (n : ℕ) (t : Talk) → Keeps t (unlisted s n t)
 keeps-unlisted Closing n t = keeps-none t
-keeps-unlisted _ n t = keeps-lose _ t refl
+keeps-unlisted _ n t = keeps-lose _ t
 
 keeps-raw : (s : ConnectionState) (n : ℕ) (o : Option Channel) (kind : RawKind) (bytes : List ℕ) (t : Talk) → Keeps t (raw_on s n o kind bytes t)
-keeps-raw Connecting n o kind bytes t = keeps-lose _ t refl
+keeps-raw Connecting n o kind bytes t = keeps-lose _ t
 keeps-raw s n None kind bytes t = keeps-unlisted s n t
 keeps-raw s n (Some c) kind bytes t = keeps-pass n c kind bytes t
 
-keeps-misplaced : (s : ConnectionState) (e : ErrorKind) (t : Talk) → fault_in e ≡ None → Keeps t (misplaced_in s e t)
-keeps-misplaced Closing e t none = keeps-none t
-keeps-misplaced _ e t none = keeps-lose e t none
+keeps-misplaced : (s : ConnectionState) (e : ErrorKind) (t : Talk) → Keeps t (misplaced_in s e t)
+keeps-misplaced Closing e t = keeps-none t
+keeps-misplaced _ e t = keeps-lose e t
 
 keeps-method : (n : ℕ) (m : AnyMethod) (t : Talk) → Keeps t (built_method n m t)
 keeps-method zero m t =
     if_case (Keeps t) (is_of_a_channel m) (misplaced _ t) (connection_row t.state t.phase m t)
-    (keeps-misplaced t.state _ t refl) (keeps-connection t.state t.phase m t)
+    (keeps-misplaced t.state _ t) (keeps-connection t.state t.phase m t)
 keeps-method (suc n) m t =
     if_case (Keeps t) (is_of_a_channel m) (channel_method t.state (suc n) m t) (misplaced _ t)
-    (keeps-channel-method t.state (suc n) m t) (keeps-misplaced t.state _ t refl)
+    (keeps-channel-method t.state (suc n) m t) (keeps-misplaced t.state _ t)
 
 keeps-row : (f : Frame) (place : ℕ) (t : Talk) → Keeps t (frame_row f place t)
-keeps-row (ProtocolHeader version) place t = keeps-lose _ t refl
+keeps-row (ProtocolHeader version) place t = keeps-lose _ t
 keeps-row Heartbeat place t = keeps-none t
-keeps-row (Method n m) place t = if_case (Keeps t) (is_unbuilt m) (fail _ t) (built_method n m t) (keeps-lose _ t refl) (keeps-method n m t)
-keeps-row (Raw zero kind bytes) place t = keeps-misplaced t.state _ t refl
+keeps-row (Method n m) place t = if_case (Keeps t) (is_unbuilt m) (fail _ t) (built_method n m t) (keeps-lose _ t) (keeps-method n m t)
+keeps-row (Raw zero kind bytes) place t = keeps-misplaced t.state _ t
 keeps-row (Raw (suc n) kind bytes) place t = keeps-raw t.state (suc n) (channel_at (suc n) t) kind bytes t
 
 keeps-input : (i : Input) (f : Frame) (place : ℕ) (t : Talk) → Keeps t (frame_by i f place t)
@@ -199,15 +195,10 @@ keeps-frame f place t = if_case (Keeps t) (is_open t) (frame_by t.input f place 
 pub frame-committed : (f : Frame) (place at : ℕ) (t : Talk) → (on_frame f place (present_at at t)).committed ≡ t.committed
 frame-committed f place at t = (keeps-frame f place (present_at at t)).committed ∙ present-keeps (λ x. x.committed) at t (λ n. refl)
 
-misread-told : (why : Misread) → fault_in (misread_error why) ≡ None
-misread-told (TooLarge size) = refl
-misread-told (BadHeartbeat channel) = refl
-misread-told (Bad place) = refl
-
 keeps-misread-by : (i : Input) (why : Misread) (t : Talk) → Keeps t (misread_by i why t)
-keeps-misread-by Acting why t = keeps-lose _ t (misread-told why)
-keeps-misread-by Closed why t = record { committed = refl; link = inl refl; faultless = λ h. h }
-keeps-misread-by Dropped why t = record { committed = refl; link = inl refl; faultless = λ h. h }
+keeps-misread-by Acting why t = keeps-lose _ t
+keeps-misread-by Closed why t = record { committed = refl; link = inl refl }
+keeps-misread-by Dropped why t = record { committed = refl; link = inl refl }
 
 pub keeps-misread : (why : Misread) (t : Talk) → Keeps t (misread why t)
 keeps-misread why t = if_case (Keeps t) (is_open t) (misread_by t.input why t) t (keeps-misread-by t.input why t) (keeps-none t)
