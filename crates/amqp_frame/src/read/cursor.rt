@@ -168,7 +168,8 @@ impl<'a, V: View> Cursor<'a, V> {
     }
 
     pub fn octets8(&mut self) -> Result<[u8; 8], Fault>
-        ensures { Reads (λ a. a) result self.new (octets_at 8 self.old) }
+        ensures reads { Reads (λ a. a) result self.new (octets_at 8 self.old) }
+        ensures takes_no_memory { IfErr result (λ e. e ≡ Fault.Bad) }
     {
         if self.end - self.at < 8 {
             return Err(Fault::Bad);
@@ -202,7 +203,8 @@ impl<'a, V: View> Cursor<'a, V> {
     }
 
     pub fn number64(&mut self) -> Result<u64, Fault>
-        ensures { Reads (λ n. n) result self.new (number_at w64 self.old) }
+        ensures reads { Reads (λ n. n) result self.new (number_at w64 self.old) }
+        ensures takes_no_memory { IfErr result (λ e. e ≡ Fault.Bad) }
     {
         Ok(u64::from_be_bytes(self.octets8()?))
     }
