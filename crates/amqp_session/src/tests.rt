@@ -36,16 +36,10 @@ const CLOSE: &[u8] =
     b"\x01\x00\x00\x00\x00\x00\x0d\x00\x0a\x00\x32\x00\xc8\x02OK\x00\x00\x00\x00\xce";
 
 fn start(alloc: Global) -> std::result::Result<Frame, Fail> {
-    Ok(Frame::Method(
-        0,
-        Method::Start(
-            0,
-            9,
-            FieldTable::new(alloc),
-            LongString::new(alloc, b"PLAIN AMQPLAIN")?,
-            LongString::new(alloc, b"en_US")?,
-        ),
-    ))
+    let mechanisms = LongString::new(alloc, b"PLAIN AMQPLAIN")?;
+    let locales = LongString::new(alloc, b"en_US")?;
+    let properties = FieldTable::new(alloc);
+    Ok(Frame::Method(0, Method::Start(0, 9, properties, mechanisms, locales)))
 }
 
 fn tune_of(channel_max: u16, frame_max: u32, heartbeat: u16) -> Frame {
@@ -61,7 +55,8 @@ fn open_ok() -> Frame {
 }
 
 fn our_close(alloc: Global) -> std::result::Result<Cmd, Fail> {
-    Ok(Cmd::CloseConnection(200, ShortString::new(alloc, b"OK")?))
+    let text = ShortString::new(alloc, b"OK")?;
+    Ok(Cmd::CloseConnection(200, text))
 }
 
 // Reads a frame.
@@ -72,6 +67,19 @@ fn read(session: &mut Session, frame: Frame) {
 // Tells a command, and gives its promise.
 fn told(session: &mut Session, cmd: Cmd) -> Option<u64> {
     session.command(cmd).unwrap_or(None)
+}
+
+// Reads start.
+fn read_start(alloc: Global, session: &mut Session) -> std::result::Result<(), Fail> {
+    let frame = start(alloc)?;
+    read(session, frame);
+    Ok(())
+}
+
+// Tells our close of the connection, and gives its promise.
+fn shut(alloc: Global, session: &mut Session) -> std::result::Result<Option<u64>, Fail> {
+    let close = our_close(alloc)?;
+    Ok(told(session, close))
 }
 
 // Whether this is the answer to a promise.
@@ -95,7 +103,7 @@ fn linked(alloc: Global) -> std::result::Result<Session, Fail> {
 // A session whose connection is open, and whose frames so far were sent.
 fn connected(alloc: Global) -> std::result::Result<Session, Fail> {
     let mut session = linked(alloc)?;
-    read(&mut session, start(alloc)?);
+    read_start(alloc, &mut session)?;
     read(&mut session, tune_of(2047, 131_072, 60));
     read(&mut session, open_ok());
     send_all(&mut session);
@@ -153,7 +161,7 @@ fn header_and_start_ok_are_spelled_as_lapin_spells_them(
     assert!(rt; writes(alloc, &mut session, HEADER)?);
     assert!(rt; is_silent(&mut session));
     session.piece(0);
-    read(&mut session, start(alloc)?);
+    read_start(alloc, &mut session)?;
     assert!(rt; writes(alloc, &mut session, START_OK)?);
     Ok(())
 }
@@ -162,7 +170,7 @@ fn header_and_start_ok_are_spelled_as_lapin_spells_them(
 fn tune_is_answered_by_tune_ok_and_open(rt: HostRuntime) -> std::result::Result<(), Fail> {
     let alloc = rt.alloc();
     let mut session = linked(alloc)?;
-    read(&mut session, start(alloc)?);
+    read_start(alloc, &mut session)?;
     send_all(&mut session);
     read(&mut session, tune_of(2047, 131_072, 60));
     assert!(rt; session.waiting() == 2);
@@ -188,7 +196,7 @@ fn open_ok_opens_the_connection(rt: HostRuntime) -> std::result::Result<(), Fail
 fn our_close_ends_closed(rt: HostRuntime) -> std::result::Result<(), Fail> {
     let alloc = rt.alloc();
     let mut session = connected(alloc)?;
-    assert!(rt; told(&mut session, our_close(alloc)?) == Some(1));
+    assert!(rt; shut(alloc, &mut session)? == Some(1));
     assert!(rt; session.state() == ConnectionState::Closing);
     assert!(rt; writes(alloc, &mut session, CLOSE)?);
     assert!(rt; session.answer(1).is_none() && session.end().is_none());
@@ -203,11 +211,11 @@ fn our_close_ends_closed(rt: HostRuntime) -> std::result::Result<(), Fail> {
 fn a_second_close_is_refused(rt: HostRuntime) -> std::result::Result<(), Fail> {
     let alloc = rt.alloc();
     let mut session = connected(alloc)?;
-    told(&mut session, our_close(alloc)?);
-    assert!(rt; told(&mut session, our_close(alloc)?) == Some(2));
+    shut(alloc, &mut session)?;
+    assert!(rt; shut(alloc, &mut session)? == Some(2));
     assert!(rt; gives(&mut session, 2, refused_in(ConnectionState::Closing)));
     read(&mut session, close_ok());
-    assert!(rt; told(&mut session, our_close(alloc)?) == Some(3));
+    assert!(rt; shut(alloc, &mut session)? == Some(3));
     assert!(rt; gives(&mut session, 3, refused_in(ConnectionState::Closed)));
     assert!(rt; session.promises() == 4 && session.has_ended());
     Ok(())
@@ -219,7 +227,7 @@ fn a_close_before_the_connection_is_open_is_refused(
 ) -> std::result::Result<(), Fail> {
     let alloc = rt.alloc();
     let mut session = linked(alloc)?;
-    assert!(rt; told(&mut session, our_close(alloc)?) == Some(1));
+    assert!(rt; shut(alloc, &mut session)? == Some(1));
     assert!(rt; gives(&mut session, 1, refused_in(ConnectionState::Connecting)));
     assert!(rt; session.answer(0).is_none());
     assert!(rt; session.state() == ConnectionState::Connecting);
@@ -239,20 +247,34 @@ fn text_of_end(alloc: Global, session: &Session) -> std::result::Result<String, 
     }
 }
 
-// How a session ends that reads this frame.
-fn ends_with(
-    alloc: Global,
-    mut session: Session,
-    frame: Frame,
-    text: &str,
-) -> std::result::Result<bool, Fail> {
+// Where a session stands that reads a frame.
+#[derive(Clone, Copy)]
+enum At {
+    Linked,
+    Connected,
+    WithChannel,
+}
+
+fn session_at(alloc: Global, at: At) -> std::result::Result<Session, Fail> {
+    match at {
+        At::Linked => linked(alloc),
+        At::Connected => connected(alloc),
+        At::WithChannel => with_channel(alloc),
+    }
+}
+
+// Whether a session that reads this frame ends so.
+fn ends_with(alloc: Global, at: At, frame: Frame, text: &str) -> std::result::Result<bool, Fail> {
+    let mut session = session_at(alloc, at)?;
     read(&mut session, frame);
-    Ok(text_of_end(alloc, &session)?.as_str() == text)
+    let end = text_of_end(alloc, &session)?;
+    Ok(end.as_str() == text)
 }
 
 // A frame that is passed through, with this payload.
 fn raw(alloc: Global, id: u16, kind: RawKind, bytes: &[u8]) -> std::result::Result<Frame, Fail> {
-    Ok(Frame::Raw(id, kind, Payload::new(alloc, bytes)?))
+    let payload = Payload::new(alloc, bytes)?;
+    Ok(Frame::Raw(id, kind, payload))
 }
 
 #[test]
@@ -272,10 +294,11 @@ fn connection_methods_out_of_their_state_are_fatal(
     let alloc = rt.alloc();
     let connecting = "invalid connection state: Connecting";
     let open = "invalid connection state: Connected";
-    assert!(rt; ends_with(alloc, linked(alloc)?, open_ok(), connecting)?);
-    assert!(rt; ends_with(alloc, linked(alloc)?, tune_of(1, 4096, 0), connecting)?);
-    assert!(rt; ends_with(alloc, connected(alloc)?, close_ok(), open)?);
-    assert!(rt; ends_with(alloc, connected(alloc)?, start(alloc)?, open)?);
+    assert!(rt; ends_with(alloc, At::Linked, open_ok(), connecting)?);
+    assert!(rt; ends_with(alloc, At::Linked, tune_of(1, 4096, 0), connecting)?);
+    assert!(rt; ends_with(alloc, At::Connected, close_ok(), open)?);
+    let again = start(alloc)?;
+    assert!(rt; ends_with(alloc, At::Connected, again, open)?);
     Ok(())
 }
 
@@ -287,22 +310,16 @@ fn misplaced_frames_are_fatal(rt: HostRuntime) -> std::result::Result<(), Fail> 
     let header = "protocol error: 504 content header frame received on channel 0";
     let body = "protocol error: 504 body frame received on channel 0";
     let off = |method: Method| Frame::Method(7, method);
-    assert!(rt; ends_with(alloc, connected(alloc)?, off(Method::CloseOk), off_0)?);
-    assert!(rt; ends_with(alloc, linked(alloc)?, off(Method::OpenOk), off_0)?);
+    assert!(rt; ends_with(alloc, At::Connected, off(Method::CloseOk), off_0)?);
+    assert!(rt; ends_with(alloc, At::Linked, off(Method::OpenOk), off_0)?);
     let on_0 = Frame::Method(0, Method::ChannelOpenOk);
-    assert!(rt; ends_with(alloc, connected(alloc)?, on_0, method)?);
+    assert!(rt; ends_with(alloc, At::Connected, on_0, method)?);
     let raw_method = raw(alloc, 0, RawKind::RawMethod, &[0, 60, 0, 40])?;
-    assert!(rt; ends_with(alloc, connected(alloc)?, raw_method, method)?);
+    assert!(rt; ends_with(alloc, At::Connected, raw_method, method)?);
     let raw_header = raw(alloc, 0, RawKind::Header, &[0; 14])?;
-    assert!(rt; ends_with(alloc, connected(alloc)?, raw_header, header)?);
-    assert!(rt;
-        ends_with(
-            alloc,
-            connected(alloc)?,
-            raw(alloc, 0, RawKind::Body, &[])?,
-            body
-        )?
-    );
+    assert!(rt; ends_with(alloc, At::Connected, raw_header, header)?);
+    let empty = raw(alloc, 0, RawKind::Body, &[])?;
+    assert!(rt; ends_with(alloc, At::Connected, empty, body)?);
     Ok(())
 }
 
@@ -313,24 +330,12 @@ fn frames_on_channels_that_are_not_listed_are_fatal(
     let alloc = rt.alloc();
     let text = "invalid channel: 3";
     let opened = || Frame::Method(3, Method::ChannelOpenOk);
-    assert!(rt; ends_with(alloc, connected(alloc)?, opened(), text)?);
-    assert!(rt; ends_with(alloc, linked(alloc)?, opened(), text)?);
-    assert!(rt;
-        ends_with(
-            alloc,
-            connected(alloc)?,
-            raw(alloc, 3, RawKind::Body, &[])?,
-            text
-        )?
-    );
-    assert!(rt;
-        ends_with(
-            alloc,
-            linked(alloc)?,
-            raw(alloc, 3, RawKind::Body, &[])?,
-            text
-        )?
-    );
+    assert!(rt; ends_with(alloc, At::Connected, opened(), text)?);
+    assert!(rt; ends_with(alloc, At::Linked, opened(), text)?);
+    let empty = raw(alloc, 3, RawKind::Body, &[])?;
+    assert!(rt; ends_with(alloc, At::Connected, empty, text)?);
+    let empty = raw(alloc, 3, RawKind::Body, &[])?;
+    assert!(rt; ends_with(alloc, At::Linked, empty, text)?);
     Ok(())
 }
 
@@ -338,10 +343,11 @@ fn frames_on_channels_that_are_not_listed_are_fatal(
 fn methods_that_are_not_built_end_the_session(rt: HostRuntime) -> std::result::Result<(), Fail> {
     let alloc = rt.alloc();
     let text = "not built: frame at byte 138";
-    let blocked = Method::Blocked(ShortString::new(alloc, b"low")?);
-    assert!(rt; ends_with(alloc, connected(alloc)?, Frame::Method(0, blocked), text)?);
+    let reason = ShortString::new(alloc, b"low")?;
+    let blocked = Method::Blocked(reason);
+    assert!(rt; ends_with(alloc, At::Connected, Frame::Method(0, blocked), text)?);
     let flow = Frame::Method(1, Method::ChannelFlow(true));
-    assert!(rt; ends_with(alloc, with_channel(alloc)?, flow, text)?);
+    assert!(rt; ends_with(alloc, At::WithChannel, flow, text)?);
     Ok(())
 }
 
@@ -355,7 +361,7 @@ fn a_protocol_header_is_fatal(rt: HostRuntime) -> std::result::Result<(), Fail> 
     };
     let header = Frame::ProtocolHeader(version);
     let text = "the server only supports AMQP 0-8-0";
-    assert!(rt; ends_with(alloc, linked(alloc)?, header, text)?);
+    assert!(rt; ends_with(alloc, At::Linked, header, text)?);
     Ok(())
 }
 
@@ -363,7 +369,8 @@ fn a_protocol_header_is_fatal(rt: HostRuntime) -> std::result::Result<(), Fail> 
 fn misread_ends_with(alloc: Global, why: Misread, text: &str) -> std::result::Result<bool, Fail> {
     let mut session = linked(alloc)?;
     session.misread(why, 0)?;
-    Ok(text_of_end(alloc, &session)?.as_str() == text)
+    let end = text_of_end(alloc, &session)?;
+    Ok(end.as_str() == text)
 }
 
 #[test]
@@ -393,10 +400,8 @@ const CLOSE_OK: &[u8] = b"\x01\x00\x00\x00\x00\x00\x04\x00\x0a\x00\x33\xce";
 fn the_server_closes_with_an_error(rt: HostRuntime) -> std::result::Result<(), Fail> {
     let alloc = rt.alloc();
     let mut session = connected(alloc)?;
-    read(
-        &mut session,
-        server_close(alloc, 320, b"CONNECTION_FORCED")?,
-    );
+    let close = server_close(alloc, 320, b"CONNECTION_FORCED")?;
+    read(&mut session, close);
     assert!(rt; session.state() == ConnectionState::Closing && session.end().is_none());
     read(&mut session, close_ok());
     session.misread(Misread::Bad(178), 0)?;
@@ -415,7 +420,8 @@ fn the_server_closes_with_an_error(rt: HostRuntime) -> std::result::Result<(), F
 fn the_server_closes_without_an_error(rt: HostRuntime) -> std::result::Result<(), Fail> {
     let alloc = rt.alloc();
     let mut session = connected(alloc)?;
-    read(&mut session, server_close(alloc, 200, b"OK")?);
+    let close = server_close(alloc, 200, b"OK")?;
+    read(&mut session, close);
     session.lost(IoFault::Aborted, 0);
     assert!(rt; session.end() == Some(Ok(())));
     assert!(rt; session.state() == ConnectionState::Closed);
@@ -427,13 +433,15 @@ fn a_link_that_is_lost_ends_the_session(rt: HostRuntime) -> std::result::Result<
     let alloc = rt.alloc();
     let mut session = connected(alloc)?;
     session.lost(IoFault::Reset, 0);
-    assert!(rt; text_of_end(alloc, &session)?.as_str() == "IO error: connection reset");
+    let text = text_of_end(alloc, &session)?;
+    assert!(rt; text.as_str() == "IO error: connection reset");
     let mut refused = Session::new(alloc)?;
     refused.link_failed(0);
     assert!(rt; refused.end().is_none());
     refused.asked();
     refused.link_failed(0);
-    assert!(rt; text_of_end(alloc, &refused)?.as_str() == "IO error: connection refused");
+    let text = text_of_end(alloc, &refused)?;
+    assert!(rt; text.as_str() == "IO error: connection refused");
     Ok(())
 }
 
@@ -463,7 +471,7 @@ fn a_link_that_is_not_asked_for_changes_nothing(rt: HostRuntime) -> std::result:
 fn frames_are_sent_when_their_last_byte_is_taken(rt: HostRuntime) -> std::result::Result<(), Fail> {
     let alloc = rt.alloc();
     let mut session = linked(alloc)?;
-    read(&mut session, start(alloc)?);
+    read_start(alloc, &mut session)?;
     assert!(rt; writes(alloc, &mut session, HEADER)?);
     assert!(rt; session.unsent() == 8);
     take(&mut session, 3);
@@ -505,14 +513,15 @@ fn frames_are_read_up_to_the_agreed_size(rt: HostRuntime) -> std::result::Result
     let alloc = rt.alloc();
     let mut session = linked(alloc)?;
     assert!(rt; session.frame_limit() == 131_072);
-    read(&mut session, start(alloc)?);
+    read_start(alloc, &mut session)?;
     read(&mut session, tune_of(2, 4096, 0));
     assert!(rt; session.frame_limit() == 4096);
     Ok(())
 }
 
 fn shows(alloc: Global, kind: ErrorKind, text: &str) -> std::result::Result<bool, Fail> {
-    Ok(Error::from(kind).to_string(alloc)?.as_str() == text)
+    let shown = Error::from(kind).to_string(alloc)?;
+    Ok(shown.as_str() == text)
 }
 
 #[test]
@@ -606,7 +615,7 @@ fn close_of(alloc: Global, channel: ChanRef) -> std::result::Result<Cmd, Fail> {
 // A connection with at most two channels.
 fn connected_for_two(alloc: Global) -> std::result::Result<Session, Fail> {
     let mut session = linked(alloc)?;
-    read(&mut session, start(alloc)?);
+    read_start(alloc, &mut session)?;
     read(&mut session, tune_of(2, 4096, 0));
     read(&mut session, open_ok());
     send_all(&mut session);
@@ -646,7 +655,8 @@ fn a_channel_opens(rt: HostRuntime) -> std::result::Result<(), Fail> {
 
 // Closes a channel, and the server agrees.
 fn close_whole(alloc: Global, session: &mut Session, id: u16) -> std::result::Result<(), Fail> {
-    told(session, close_of(alloc, numbered(id))?);
+    let close = close_of(alloc, numbered(id))?;
+    told(session, close);
     read(session, close_ok_on(id));
     Ok(())
 }
@@ -680,7 +690,8 @@ fn numbers_are_drawn_in_a_cycle(rt: HostRuntime) -> std::result::Result<(), Fail
 fn a_channel_closes(rt: HostRuntime) -> std::result::Result<(), Fail> {
     let alloc = rt.alloc();
     let mut session = with_channel(alloc)?;
-    told(&mut session, close_of(alloc, named(1, 1))?);
+    let close = close_of(alloc, named(1, 1))?;
+    told(&mut session, close);
     assert!(rt; session.channel_state(named(1, 1)) == ChannelState::Closing);
     assert!(rt;
         writes(
@@ -704,7 +715,8 @@ fn refuses_close(
     number: u64,
     why: ErrorKind,
 ) -> std::result::Result<bool, Fail> {
-    let told = told(session, close_of(alloc, channel)?);
+    let close = close_of(alloc, channel)?;
+    let told = told(session, close);
     Ok(told == Some(number) && gives(session, number, Some(Err(why.into()))))
 }
 
@@ -716,13 +728,12 @@ fn commands_on_channels_are_refused(rt: HostRuntime) -> std::result::Result<(), 
     assert!(rt; refuses_close(alloc, &mut session, numbered(2), 2, other)?);
     let newer = ErrorKind::InvalidChannel(1);
     assert!(rt; refuses_close(alloc, &mut session, named(1, 2), 3, newer)?);
-    told(&mut session, close_of(alloc, named(1, 1))?);
+    let close = close_of(alloc, named(1, 1))?;
+    told(&mut session, close);
     let closing = ErrorKind::InvalidChannelState(ChannelState::Closing, Word::ChannelClose);
     assert!(rt; refuses_close(alloc, &mut session, named(1, 1), 5, closing)?);
-    told(
-        &mut session,
-        Cmd::Send(named(1, 1), RawMethod::new(alloc, 60, 40, &[])?),
-    );
+    let method = RawMethod::new(alloc, 60, 40, &[])?;
+    told(&mut session, Cmd::Send(named(1, 1), method));
     let closing = ErrorKind::InvalidChannelState(ChannelState::Closing, Word::Send);
     assert!(rt; gives(&mut session, 6, Some(Err(closing.into()))));
     Ok(())
@@ -751,21 +762,18 @@ fn a_method_is_sent(rt: HostRuntime) -> std::result::Result<(), Fail> {
 // A method whose frame has 12 octets more than its arguments.
 fn method_of(alloc: Global, args: usize) -> std::result::Result<RawMethod, Fail> {
     let args = vec![in alloc; 0u8; args]?;
-    Ok(RawMethod::new(alloc, 60, 40, &args)?)
+    let method = RawMethod::new(alloc, 60, 40, &args)?;
+    Ok(method)
 }
 
 #[test]
 fn a_frame_longer_than_the_capacity_is_refused(rt: HostRuntime) -> std::result::Result<(), Fail> {
     let alloc = rt.alloc();
     let mut session = with_channel(alloc)?;
-    told(
-        &mut session,
-        Cmd::Send(named(1, 1), method_of(alloc, 131_060)?),
-    );
-    told(
-        &mut session,
-        Cmd::Send(named(1, 1), method_of(alloc, 131_061)?),
-    );
+    let method = method_of(alloc, 131_060)?;
+    told(&mut session, Cmd::Send(named(1, 1), method));
+    let method = method_of(alloc, 131_061)?;
+    told(&mut session, Cmd::Send(named(1, 1), method));
     assert!(rt; session.waiting() == 1 && session.answer(2).is_none());
     let refused = ErrorKind::SerialisationError(131_073);
     assert!(rt; gives(&mut session, 3, Some(Err(refused.into()))));
@@ -781,17 +789,18 @@ fn is_handed(frame: &Handed, kind: RawKind, bytes: &[u8]) -> bool {
 fn frames_are_handed_out_once(rt: HostRuntime) -> std::result::Result<(), Fail> {
     let alloc = rt.alloc();
     let mut session = with_channel(alloc)?;
-    read(
-        &mut session,
-        raw(alloc, 1, RawKind::RawMethod, &[0, 85, 0, 11])?,
-    );
-    read(&mut session, raw(alloc, 1, RawKind::Body, b"x")?);
+    let select_ok = raw(alloc, 1, RawKind::RawMethod, &[0, 85, 0, 11])?;
+    read(&mut session, select_ok);
+    let body = raw(alloc, 1, RawKind::Body, b"x")?;
+    read(&mut session, body);
     assert!(rt; session.confirm(named(1, 1)));
     let frames = session.take_frames(1)?;
     assert!(rt; frames.len() == 2);
     assert!(rt; is_handed(&frames[0], RawKind::RawMethod, &[0, 85, 0, 11]));
     assert!(rt; is_handed(&frames[1], RawKind::Body, b"x"));
-    assert!(rt; session.take_frames(1)?.is_empty() && session.take_frames(7)?.is_empty());
+    let again = session.take_frames(1)?;
+    let others = session.take_frames(7)?;
+    assert!(rt; again.is_empty() && others.is_empty());
     Ok(())
 }
 
@@ -799,12 +808,14 @@ fn frames_are_handed_out_once(rt: HostRuntime) -> std::result::Result<(), Fail> 
 fn closing_takes_the_channels_with_it(rt: HostRuntime) -> std::result::Result<(), Fail> {
     let alloc = rt.alloc();
     let mut session = with_channel(alloc)?;
-    told(&mut session, our_close(alloc)?);
+    shut(alloc, &mut session)?;
     assert!(rt; session.channel_state(named(1, 1)) == ChannelState::Closing);
-    read(&mut session, raw(alloc, 1, RawKind::Body, b"x")?);
+    let body = raw(alloc, 1, RawKind::Body, b"x")?;
+    read(&mut session, body);
     read(&mut session, open_ok_on(1));
     read(&mut session, Frame::Method(5, Method::CloseOk));
-    assert!(rt; session.end().is_none() && session.take_frames(1)?.len() == 1);
+    let frames = session.take_frames(1)?;
+    assert!(rt; session.end().is_none() && frames.len() == 1);
     read(&mut session, close_ok());
     assert!(rt; session.listed() == 0 && session.end() == Some(Ok(())));
     assert!(rt; session.channel_state(named(1, 1)) == ChannelState::Closed);
@@ -816,8 +827,8 @@ fn unawaited_channel_methods_are_fatal(rt: HostRuntime) -> std::result::Result<(
     let alloc = rt.alloc();
     let open = "protocol error: 505 unexpected channel.open-ok received on channel 1";
     let close = "protocol error: 505 unexpected channel.close-ok received on channel 1";
-    assert!(rt; ends_with(alloc, with_channel(alloc)?, open_ok_on(1), open)?);
-    assert!(rt; ends_with(alloc, with_channel(alloc)?, close_ok_on(1), close)?);
+    assert!(rt; ends_with(alloc, At::WithChannel, open_ok_on(1), open)?);
+    assert!(rt; ends_with(alloc, At::WithChannel, close_ok_on(1), close)?);
     Ok(())
 }
 
