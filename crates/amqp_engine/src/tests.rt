@@ -65,7 +65,8 @@ const HANDSHAKE_WITH_LITTLE_ROOM: [Line; 10] = [
 ];
 
 fn shut(alloc: Global) -> Result<Cmd, Fail> {
-    Ok(Cmd::CloseConnection(200, ShortString::new(alloc, b"OK")?))
+    let text = ShortString::new(alloc, b"OK")?;
+    Ok(Cmd::CloseConnection(200, text))
 }
 
 // A step goes last.
@@ -86,7 +87,8 @@ fn push_piece(alloc: Global, steps: &mut Vec<Given>, bytes: &[u8]) -> Result<(),
     if bytes.is_empty() || bytes.len() > 4096 {
         return Err("no piece")?;
     }
-    push(steps, GivenStep::Bytes(Payload::new(alloc, bytes)?))
+    let payload = Payload::new(alloc, bytes)?;
+    push(steps, GivenStep::Bytes(payload))
 }
 
 // A piece for each byte.
@@ -116,8 +118,14 @@ fn push_line(alloc: Global, steps: &mut Vec<Given>, line: &Line) -> Result<(), F
 {
     match line {
         Line::Link(room) => push(steps, GivenStep::Link(*room)),
-        Line::Bytes(text) => push_piece(alloc, steps, &octets(alloc, text)?),
-        Line::EachByte(text) => push_each(alloc, steps, &octets(alloc, text)?),
+        Line::Bytes(text) => {
+            let bytes = octets(alloc, text)?;
+            push_piece(alloc, steps, &bytes)
+        }
+        Line::EachByte(text) => {
+            let bytes = octets(alloc, text)?;
+            push_each(alloc, steps, &bytes)
+        }
         Line::Room(more) => push(steps, GivenStep::Room(*more)),
         Line::EachRoom(count) => push_rooms(steps, *count),
         Line::Tick => push(steps, GivenStep::Tick),
@@ -126,7 +134,10 @@ fn push_line(alloc: Global, steps: &mut Vec<Given>, line: &Line) -> Result<(), F
         Line::Fault => push(steps, GivenStep::Fault),
         Line::WriteFail => push(steps, GivenStep::WriteFail),
         Line::Open => push(steps, GivenStep::Command(Cmd::OpenChannel)),
-        Line::Shut => push(steps, GivenStep::Command(shut(alloc)?)),
+        Line::Shut => {
+            let close = shut(alloc)?;
+            push(steps, GivenStep::Command(close))
+        }
     }
 }
 
@@ -141,7 +152,8 @@ fn script(alloc: Global, lines: &[Line]) -> Result<Vec<Given>, Fail>
 }
 
 fn port(alloc: Global, lines: &[Line]) -> Result<MemoryPort, Fail> {
-    Ok(MemoryPort::new(alloc, script(alloc, lines)?)?)
+    let steps = script(alloc, lines)?;
+    Ok(MemoryPort::new(alloc, steps)?)
 }
 
 // Whether the port had one link, which took these frames.
@@ -151,7 +163,8 @@ fn took(alloc: Global, port: &MemoryPort, frames: &[&str]) -> Result<bool, Fail>
     }
     let mut expected: Vec<u8> = Vec::new(alloc);
     for frame in frames {
-        expected.extend_from_slice(&octets(alloc, frame)?)?;
+        let bytes = octets(alloc, frame)?;
+        expected.extend_from_slice(&bytes)?;
     }
     Ok(port.link(0) == expected.as_slice())
 }
@@ -386,8 +399,9 @@ impl Port for Refusing {
 
 // After how many parts the turn is cut in which such a port refuses memory.
 fn starved_after(alloc: Global, lines: &[Line], writes: u64) -> Result<Option<u64>, Fail> {
+    let script = port(alloc, lines)?;
     let mut port = Refusing {
-        script: port(alloc, lines)?,
+        script,
         writes_left: writes,
     };
     let mut engine = IoLoop::new(alloc)?;
@@ -447,7 +461,8 @@ fn turns_by_hand(rt: HostRuntime) -> Result<(), Fail> {
     let told = port.next(&mut space);
     engine.apply(told, &[], &mut port)?;
     assert!(rt; took(alloc, &port, &[HEADER])?);
-    assert!(rt; matches!(engine.command(shut(alloc)?), Ok(Some(1))));
+    let close = shut(alloc)?;
+    assert!(rt; matches!(engine.command(close), Ok(Some(1))));
     match engine.answer(1) {
         Some(Err(error)) => assert!(rt;
             matches!(error.kind(), ErrorKind::InvalidConnectionState(_))
@@ -463,7 +478,8 @@ fn a_loaded_port_begins_anew(rt: HostRuntime) -> Result<(), Fail> {
     let mut port = port(alloc, &HANDSHAKE)?;
     let mut engine = IoLoop::new(alloc)?;
     assert!(rt; engine.run(&mut port, 6).is_ok());
-    port.load(script(alloc, &[Line::Link(None)])?)?;
+    let steps = script(alloc, &[Line::Link(None)])?;
+    port.load(steps)?;
     assert!(rt; port.links() == 0);
     let mut other = IoLoop::new(alloc)?;
     assert!(rt; goes_on(other.run(&mut port, 3)));
@@ -474,12 +490,18 @@ fn a_loaded_port_begins_anew(rt: HostRuntime) -> Result<(), Fail> {
 #[test]
 fn copies_are_equal(rt: HostRuntime) -> Result<(), Fail> {
     let alloc = rt.alloc();
-    for given in &script(alloc, &HANDSHAKE)? {
-        assert!(rt; given.try_clone(alloc)? == *given);
-        assert!(rt; given.what.try_clone(alloc)? == given.what);
+    let steps = script(alloc, &HANDSHAKE)?;
+    for given in &steps {
+        let copy = given.try_clone(alloc)?;
+        assert!(rt; copy == *given);
+        let copy = given.what.try_clone(alloc)?;
+        assert!(rt; copy == given.what);
     }
-    let step = Step::Command(shut(alloc)?);
-    assert!(rt; step.try_clone(alloc)? == step);
-    assert!(rt; Step::Room.try_clone(alloc)? == Step::Room);
+    let close = shut(alloc)?;
+    let step = Step::Command(close);
+    let copy = step.try_clone(alloc)?;
+    assert!(rt; copy == step);
+    let copy = Step::Room.try_clone(alloc)?;
+    assert!(rt; copy == Step::Room);
     Ok(())
 }

@@ -159,7 +159,8 @@ fn answers(
 ) -> Result<bool, Fail> {
     let mut texts = Vec::new(alloc);
     for word in words {
-        texts.push(Text::new(alloc, word)?)?;
+        let text = Text::new(alloc, word)?;
+        texts.push(text)?;
     }
     let mut source = MemorySource::new(script, ends.source_fails);
     let mut sink = MemorySink::new(alloc, ends.most, ends.sink_fails);
@@ -175,7 +176,8 @@ fn prints(alloc: Global, script: &[u8], status: u8, printed: &[u8]) -> Result<bo
 
 fn opens_and_closes(alloc: Global, lines: &[Line]) -> Result<bool, Fail> {
     let report = report(alloc, &SENT, OPENED_AND_CLOSED)?;
-    prints(alloc, &script(alloc, lines)?, CLOSED, &report)
+    let script = script(alloc, lines)?;
+    prints(alloc, &script, CLOSED, &report)
 }
 
 #[test]
@@ -430,11 +432,13 @@ struct Row {
 
 fn row_holds(alloc: Global, beginning: &Beginning, row: &Row) -> Result<bool, Fail> {
     let mut text = script(alloc, beginning.lines)?;
-    text.extend_from_slice(&script(alloc, row.lines)?)?;
+    let rest = script(alloc, row.lines)?;
+    text.extend_from_slice(&rest)?;
     let mut sent = Vec::new(alloc);
     sent.extend_from_slice(beginning.sent)?;
     sent.extend_from_slice(row.sent)?;
-    prints(alloc, &text, row.status, &report(alloc, &sent, row.rest)?)
+    let report = report(alloc, &sent, row.rest)?;
+    prints(alloc, &text, row.status, &report)
 }
 
 // What should be printed last of the first row that does not hold.
