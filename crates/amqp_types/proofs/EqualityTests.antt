@@ -10,7 +10,7 @@ use Rattle.std.specs.Ordering.{int_eq}
 use Rattle.std.specs.Cmp.{booleans_Decides, unsigned_Decides, signed_Decides}
 use Rattle.std.specs.Cmp.Lexicographic.{pointwise, pointwise_decides, bytes_decides}
 use mathlib.Core.Path.{sym, ap, ap₂, subst, ◌∙◌}
-use mathlib.Core.Bool.{true≢false}
+use Rattle.std.proofs.lemmas.Bool.{true≢false, and_parts}
 use mathlib.Core.Logic.{◌⊎◌, inl, inr}
 use denote.Struct.Field.{Field}
 use denote.Struct.Values.{Values}
@@ -21,14 +21,6 @@ use denote.Enum.Bare.{Bare, sameb, same_true, true_same}
 pub record Test (A : Type 0) : Type 0 where
   pub same : A → A → Bool
   pub tells : (x y : A) → Decides (same x y) (x ≡ y)
-
-first : (s t : Bool) → (s && t) ≡ true → s ≡ true
-first true t h = refl
-first false t h = h
-
-second : (s t : Bool) → (s && t) ≡ true → t ≡ true
-second true t h = h
-second false t h = absurd (true≢false (sym h))
 
 -- ---- fields
 abbrev pub number : Test ℕ
@@ -67,7 +59,10 @@ abbrev pub last : {A : Type 0} → Test A → Test (A × Unit {0})
 last t = record { same = λ x y. t.same x.0 y.0; tells = λ x y. (λ h. ap (λ a. (a, tt)) ((t.tells x.0 y.0).0 h), λ e. (t.tells x.0 y.0).1 (ap (λ p. p.0) e)) }
 
 pub next_tells : {A B : Type 0} (t : Test A) (u : Test B) (x y : A × B) → Decides (t.same x.0 y.0 && u.same x.1 y.1) (x ≡ y)
-next_tells t u x y = (λ h. ap₂ (λ a b. (a, b)) ((t.tells x.0 y.0).0 (first _ (u.same x.1 y.1) h)) ((u.tells x.1 y.1).0 (second (t.same x.0 y.0) _ h)), λ e. ap₂ (λ a b. a && b) ((t.tells x.0 y.0).1 (ap (λ p. p.0) e)) ((u.tells x.1 y.1).1 (ap (λ p. p.1) e)))
+next_tells t u x y =
+    ( λ h. let parts = and_parts (t.same x.0 y.0) (u.same x.1 y.1) h in
+        ap₂ (λ a b. (a, b)) ((t.tells x.0 y.0).0 parts.0) ((u.tells x.1 y.1).0 parts.1)
+    , λ e. ap₂ (λ a b. a && b) ((t.tells x.0 y.0).1 (ap (λ p. p.0) e)) ((u.tells x.1 y.1).1 (ap (λ p. p.1) e)))
 
 abbrev pub next : {A B : Type 0} → Test A → Test B → Test (A × B)
 next t u = record { same = λ x y. t.same x.0 y.0 && u.same x.1 y.1; tells = next_tells t u }

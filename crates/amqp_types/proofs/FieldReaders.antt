@@ -34,7 +34,7 @@ abbrev pub TakesScalar : ℕ → List ℕ → Scalar → List ℕ → Type 0
 TakesScalar tag bytes s rest = (tag ≡ tag_of s) × (text : List ℕ) × (bytes ≡ text ++ rest) × ScalarOf s text
 
 -- one test of a chain
-pick : {A X : Type 0} (tag k : ℕ) (this next : Option A) (y : A) → cond (eqb tag k) this next ≡ Some y → (tag ≡ k → this ≡ Some y → X) → (next ≡ Some y → X) → X
+pub pick : {A X : Type 0} (tag k : ℕ) (this next : Option A) (y : A) → cond (eqb tag k) this next ≡ Some y → (tag ≡ k → this ≡ Some y → X) → (next ≡ Some y → X) → X
 pick {A} {X} tag k this next y e here there = by (eqb tag k) refl e
   where
     by : (b : Bool) → eqb tag k ≡ b → cond b this next ≡ Some y → X

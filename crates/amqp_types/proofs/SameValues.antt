@@ -4,7 +4,8 @@ use Rattle.std.specs.Bool.{Decides}
 use mathlib.Core.Path.{sym, ap, ◌∙◌}
 use Rattle.amqp_types.specs.Value.{FieldValue, scalar, array, table, list_of, pairs_of}
 use Rattle.amqp_types.specs.Value as spec
-use Rattle.amqp_types.specs.Equality.{same_value, same_list, same_table, value_decides, list_decides, table_decides, list_back, pairs_back}
+use Rattle.amqp_types.specs.Equality.{same_value, same_list, same_table}
+use Rattle.amqp_types.specs.EqualityLaws.{value_decides, list_decides, table_decides, list_back, pairs_back}
 use Rattle.amqp_types.proofs.EqualityTests.{Test}
 use Rattle.amqp_types.specs.declared.value.AMQPValue.{AMQPValue}
 use Rattle.amqp_types.specs.declared.value.AMQPValue.TheVariants.{Boolean, ShortShortInt, ShortShortUInt, ShortInt, ShortUInt, LongInt, LongUInt, LongLongInt, Float, Double, DecimalValue, LongString, ByteArray, FieldArray, FieldTable, Timestamp, Void}

@@ -12,7 +12,7 @@ use Rattle.amqp_types.specs.Value.{FieldValue, Pair}
 use Rattle.amqp_types.specs.View.{value_of, named}
 use Rattle.amqp_types.specs.Table.{name_cmp, IsInOrder, get, put, map_of, last_value}
 use Rattle.amqp_types.specs.Spelling.{max_depth}
-use Rattle.amqp_types.specs.Laws.{LastPairCounts, NamesStandOnce, PutSetsOneName}
+use Rattle.amqp_types.specs.Laws.{LastOfEqualNamesCounts, LastPairCounts, NamesStandOnce, PutSetsOneName}
 use Rattle.amqp_types.proofs.FieldReaders.{table_at_reader}
 use Rattle.amqp_types.proofs.Tables.{names_total, turned_back, put_less, put_equal, put_greater, split_order, put_in_order}
 
@@ -59,8 +59,8 @@ get_after table (p ∷ ps) name =
     get_after (put table p.0 p.1) ps name
     ∙ ap (λ o. fold (λ found p. cond (pointwise nat_eq name p.0) (Some p.1) found) o ps) (put_sets_one_name table p.0 p.1 name)
 
-pub get_map_of : (pairs : List Pair) (name : List ℕ) → get (map_of pairs) name ≡ last_value pairs name
-get_map_of pairs name = get_after [] pairs name
+pub last_of_equal_names_counts : LastOfEqualNamesCounts
+last_of_equal_names_counts pairs name = get_after [] pairs name
 
 in_order_after : (table : List Pair) (pairs : List Pair) → IsInOrder table → IsInOrder (fold (λ t p. put t p.0 p.1) table pairs)
 in_order_after table [] h = h
@@ -70,7 +70,9 @@ pub names_stand_once : NamesStandOnce
 names_stand_once pairs = in_order_after [] pairs tt
 
 pub last_pair_counts : LastPairCounts
-last_pair_counts pairs body text rest row string = (map_of pairs, (table_at_reader (max_depth - 1)).again (map_of pairs) text rest (body, pairs, refl, row, string), get_map_of pairs)
+last_pair_counts pairs body text rest row string =
+    let read = (table_at_reader (max_depth - 1)).again (map_of pairs) text rest (body, pairs, refl, row, string) in
+    (map_of pairs, read, last_of_equal_names_counts pairs)
 
 pub map_of_push : (pairs : List Pair) (p : Pair) → map_of (pairs ++ p ∷ []) ≡ put (map_of pairs) p.0 p.1
 map_of_push pairs p = fold-append (λ t p. put t p.0 p.1) [] pairs (p ∷ [])

@@ -14,7 +14,8 @@ use Rattle.amqp_types.specs.declared.value.AMQPValue.TheVariants.{Void}
 use Rattle.amqp_types.specs.declared.value.Entry.{Entry}
 use Rattle.amqp_types.specs.View.{pair_of}
 use Rattle.amqp_types.specs.Value.{Pair}
-use Rattle.amqp_types.specs.Table.{name_cmp, IsInOrder, HasNameAt, HasGapAt}
+use Rattle.amqp_types.specs.Table.{name_cmp, IsInOrder}
+use Rattle.amqp_types.specs.Places.{HasNameAt, HasGapAt}
 use Rattle.amqp_types.proofs.Tables.{names_total, no_pair, name_at, turned, turned_back, IsAboveBefore, found_at, gap_at, below_from, below_end}
 
 -- each name is below the next, by places

@@ -1,8 +1,9 @@
 -- The forms of octets of which all spellings are made (AMQP 0-9-1, 4.2.5): numbers, strings, one after another.
 use Rattle.std.specs.Prelude.{◌≡◌, ℕ, ◌<◌, ◌^◌, ℤ, List, [], ◌∷◌, ◌++◌, length, slice_index}
-use Rattle.std.specs.Int.{Width, w32, byte_len, to_be_bytes, cast_signed}
+use Rattle.std.specs.Int.{Width, w8, w32, byte_len, to_be_bytes, cast_signed}
 
--- a form: the set of its texts, each a list of octets
+-- a form: the set of its texts, each a list of numbers. Most forms have texts of octets alone; one that holds a
+-- content as it stands (`OctetsOf`) asks nothing of its numbers, and where they must be octets `IsOctets` says so
 abbrev pub Form : Type 1
 Form = List ℕ → Type 0
 
@@ -27,11 +28,15 @@ OctetOf n bytes = (n < 256) × (bytes ≡ n ∷ [])
 abbrev pub NumberOf : Width → ℕ → Form
 NumberOf w n bytes = (n < 256 ^ byte_len w) × (bytes ≡ to_be_bytes w n)
 
--- a signed number, in two's complement
+-- a signed number in one octet, in two's complement
+abbrev pub SignedOctetOf : ℤ → Form
+SignedOctetOf z bytes = (n : ℕ) × (z ≡ cast_signed w8 n) × OctetOf n bytes
+
+-- a signed number in the octets of a width, in two's complement
 abbrev pub SignedOf : Width → ℤ → Form
 SignedOf w z bytes = (n : ℕ) × (z ≡ cast_signed w n) × NumberOf w n bytes
 
--- these octets, of which there are so many
+-- this content, of which there is so much
 abbrev pub OctetsOf : ℕ → List ℕ → Form
 OctetsOf n content bytes = (length content ≡ n) × (bytes ≡ content)
 

@@ -1,8 +1,9 @@
--- How field values and tables are spelled (AMQP 0-9-1, 4.2.5.5, with the tags that RabbitMQ uses): every spelling, as a relation, and the one that is written.
+-- How field values and tables are spelled (AMQP 0-9-1, 4.2.5.5, with the tags that RabbitMQ uses): every spelling,
+-- as a relation, and the one that is written.
 use Rattle.std.specs.Prelude.{◌≡◌, ℕ, zero, suc, ◌-◌, Bool, not, List, [], ◌∷◌, ◌++◌, ◌==◌, if◌then◌else◌}
 use Rattle.std.specs.Int.{w8, w16, w32, w64, to_be_bytes, cast_unsigned, cast_signed}
 use Rattle.amqp_types.specs.Value.{Scalar, boolean, short_short_int, short_short_uint, short_int, short_uint, long_int, long_uint, long_long_int, float, double, decimal, long_string, byte_array, timestamp, void, FieldValue, scalar, array, table, FieldValues, no_values, value, FieldPairs, no_pairs, pair, Pair, list_of, pairs_of, pairs_from}
-use Rattle.amqp_types.specs.Forms.{Form, Nothing, ◌▸◌, OctetOf, NumberOf, SignedOf, OctetsOf, ShortStringOf, Row, spell_short_string, spell_long_string}
+use Rattle.amqp_types.specs.Forms.{Form, Nothing, ◌▸◌, OctetOf, NumberOf, SignedOctetOf, SignedOf, OctetsOf, ShortStringOf, Row, spell_short_string, spell_long_string}
 use Rattle.amqp_types.specs.Forms as form
 use Rattle.amqp_types.specs.Table.{map_of}
 
@@ -35,7 +36,7 @@ BooleanOf b bytes = (n : ℕ) × (b ≡ not (n == 0)) × OctetOf n bytes
 -- the text behind the tag of a value that holds no other
 abbrev pub ScalarOf : Scalar → Form
 ScalarOf (boolean b) = BooleanOf b
-ScalarOf (short_short_int z) = λ bytes. (n : ℕ) × (z ≡ cast_signed w8 n) × OctetOf n bytes
+ScalarOf (short_short_int z) = SignedOctetOf z
 ScalarOf (short_short_uint n) = OctetOf n
 ScalarOf (short_int z) = SignedOf w16 z
 ScalarOf (short_uint n) = NumberOf w16 n
@@ -58,9 +59,12 @@ ArrayOf F values bytes = (body : List ℕ) × Row F values body × form.LongStri
 abbrev pub PairOf : (FieldValue → Form) → Pair → Form
 PairOf F p = ShortStringOf p.0 ▸ F p.1
 
--- a table: four octets of length, and pairs that use that length exactly; each name has the value of its last pair
+-- a table: four octets of length, and pairs that use that length exactly;
+-- each name has the value of its last pair
 abbrev pub TableOf : (FieldValue → Form) → List Pair → Form
-TableOf F entries bytes = (body : List ℕ) × (pairs : List Pair) × (entries ≡ map_of pairs) × Row (PairOf F) pairs body × form.LongStringOf body bytes
+TableOf F entries bytes =
+    (body : List ℕ) × (pairs : List Pair) × (entries ≡ map_of pairs) ×
+    Row (PairOf F) pairs body × form.LongStringOf body bytes
 
 -- a tagged value: its tag, and what stands behind it
 abbrev pub Tagged : (List FieldValue → Form) → (List Pair → Form) → FieldValue → Form

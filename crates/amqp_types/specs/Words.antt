@@ -3,6 +3,7 @@ use Rattle.std.specs.Prelude.{ℕ, List, codes}
 use Rattle.amqp_types.specs.declared.word.Word.{Word}
 use Rattle.amqp_types.specs.declared.word.Word.TheVariants.{FrameMax, ChannelMax, Heartbeat, ChannelClose, ChannelCloseOkSent, ChannelCloseOkReceived, ChannelFlow, Send, Publish, NotAnAmqpUri, AmqpsIsNotSupported, VirtualHostTooLong, BadNumberInUri, BadMechanismInUri, NoLoop, NoUriGiven}
 
+-- the octets of a word's text
 abbrev pub text_of : Word → List ℕ
 text_of FrameMax = codes "frame_max"
 text_of ChannelMax = codes "channel_max"

@@ -10,7 +10,8 @@ impl PartialEq for AMQPValue {
     ghost use Rattle.std.specs.Prelude.{◌≡◌, ◌↔◌, IsTrue};
     ghost use Rattle.std.specs.Cmp.{partial_equiv_from_equiv, on_equiv};
     ghost use Rattle.amqp_types.specs.View.{value_of};
-    ghost use Rattle.amqp_types.specs.Equality.{same_value, value_equiv};
+    ghost use Rattle.amqp_types.specs.Equality.{same_value};
+    ghost use Rattle.amqp_types.specs.EqualityLaws.{value_equiv};
 
     ghost eq = { λ x y. same_value (value_of x) (value_of y) };
 
@@ -27,7 +28,7 @@ impl PartialEq for AMQPValue {
 impl Eq for AMQPValue {
     ghost use Rattle.std.specs.Cmp.{on_equiv};
     ghost use Rattle.amqp_types.specs.View.{value_of};
-    ghost use Rattle.amqp_types.specs.Equality.{value_equiv};
+    ghost use Rattle.amqp_types.specs.EqualityLaws.{value_equiv};
 
     ghost laws = { on_equiv value_of value_equiv };
 }
@@ -35,7 +36,8 @@ impl Eq for AMQPValue {
 impl PartialEq for Values {
     ghost use Rattle.std.specs.Prelude.{◌≡◌, ◌↔◌, IsTrue};
     ghost use Rattle.std.specs.Cmp.{partial_equiv_from_equiv};
-    ghost use Rattle.amqp_types.specs.Equality.{same_list, list_equiv};
+    ghost use Rattle.amqp_types.specs.Equality.{same_list};
+    ghost use Rattle.amqp_types.specs.EqualityLaws.{list_equiv};
 
     ghost eq = { same_list };
 
@@ -50,7 +52,7 @@ impl PartialEq for Values {
 }
 
 impl Eq for Values {
-    ghost use Rattle.amqp_types.specs.Equality.{list_equiv};
+    ghost use Rattle.amqp_types.specs.EqualityLaws.{list_equiv};
 
     ghost laws = { list_equiv };
 }
@@ -58,7 +60,8 @@ impl Eq for Values {
 impl PartialEq for FieldTable {
     ghost use Rattle.std.specs.Prelude.{◌≡◌, ◌↔◌, IsTrue};
     ghost use Rattle.std.specs.Cmp.{partial_equiv_from_equiv};
-    ghost use Rattle.amqp_types.specs.Equality.{same_table, table_equiv};
+    ghost use Rattle.amqp_types.specs.Equality.{same_table};
+    ghost use Rattle.amqp_types.specs.EqualityLaws.{table_equiv};
 
     ghost eq = { same_table };
 
@@ -73,7 +76,7 @@ impl PartialEq for FieldTable {
 }
 
 impl Eq for FieldTable {
-    ghost use Rattle.amqp_types.specs.Equality.{table_equiv};
+    ghost use Rattle.amqp_types.specs.EqualityLaws.{table_equiv};
 
     ghost laws = { table_equiv };
 }

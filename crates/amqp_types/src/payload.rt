@@ -114,7 +114,7 @@ pub struct Payload64 {
 impl Model for Payload64 {
     ghost use Rattle.std.specs.Prelude.{ℕ, List, ◌+◌, ◌≤◌, length};
     ghost use Rattle.std.specs.Vec.{vec_len, vec_capacity};
-    ghost use Rattle.amqp_types.specs.Numbers.{Numbers};
+    ghost use Rattle.amqp_types.specs.Payload64.{Numbers};
 
     ghost Value = { Numbers };
 

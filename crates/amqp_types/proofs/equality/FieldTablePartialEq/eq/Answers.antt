@@ -1,4 +1,4 @@
-use Rattle.amqp_types.specs.Equality.{table_decides}
+use Rattle.amqp_types.specs.EqualityLaws.{table_decides}
 use Rattle.amqp_types.proofs.equality.FieldTablePartialEq.eq.Goals as goal
 
 pub returns-clause-equal : goal.returns-clause-equal

@@ -1,4 +1,4 @@
-use Rattle.amqp_types.specs.Equality.{list_decides}
+use Rattle.amqp_types.specs.EqualityLaws.{list_decides}
 use Rattle.amqp_types.proofs.equality.ValuesPartialEq.eq.Goals as goal
 
 pub returns-clause-equal : goal.returns-clause-equal
