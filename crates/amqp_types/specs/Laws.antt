@@ -14,7 +14,8 @@ LastOfEqualNamesCounts = (pairs : List Pair) (name : List ℕ) → get (map_of p
 -- a table that is read from any of its spellings has the value of each name's last pair
 abbrev pub LastPairCounts : Type 0
 LastPairCounts =
-    (pairs : List Pair) (body text rest : List ℕ) → Row (PairOf (Spells (max_depth - 1))) pairs body → LongStringOf body text →
+    (pairs : List Pair) (body text rest : List ℕ) →
+    Row (PairOf (Spells (max_depth - 1))) pairs body → LongStringOf body text →
     (found : List Pair) × (table_at max_depth (text ++ rest) ≡ Some (found, rest)) ×
     ((name : List ℕ) → get found name ≡ last_value pairs name)
 

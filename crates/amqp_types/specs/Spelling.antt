@@ -101,17 +101,19 @@ spell_scalar (byte_array bytes) = spell_long_string bytes
 spell_scalar (timestamp n) = to_be_bytes w64 n
 spell_scalar void = []
 
--- the written text of a tagged value, of values and of pairs
 abbrev mutual
+  -- the written text of a tagged value
   pub spell : FieldValue → List ℕ
   spell (scalar s) = tag_of s ∷ spell_scalar s
   spell (array vs) = 65 ∷ spell_long_string (spell_values vs)
   spell (table ps) = 70 ∷ spell_long_string (spell_pairs ps)
 
+  -- the written text of an array's values, one after another
   pub spell_values : FieldValues → List ℕ
   spell_values no_values = []
   spell_values (value v vs) = spell v ++ spell_values vs
 
+  -- the written text of a table's pairs, one after another
   pub spell_pairs : FieldPairs → List ℕ
   spell_pairs no_pairs = []
   spell_pairs (pair name v ps) = spell_short_string name ++ spell v ++ spell_pairs ps

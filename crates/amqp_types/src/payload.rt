@@ -199,7 +199,7 @@ impl Payload64 {
         ensures spare { self.old.spare ≡ self.new.spare + 1 }
     {
         // There is a place, so that nothing is asked for and nothing refused.
-        let _ = self.numbers.push(number);
+        drop(self.numbers.push(number));
         self.spare -= 1;
     }
 

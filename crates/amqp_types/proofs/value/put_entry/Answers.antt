@@ -4,4 +4,4 @@ use Rattle.amqp_types.proofs.TableLaws.{named_insert}
 use Rattle.amqp_types.proofs.value.put_entry.Goals as goal
 
 pub returns : goal.returns
-returns c = ap (map named) c.in_ok-insert.ensures.entries ∙ named_insert c.args.last.now.entries c.args.entry.name c.args.entry.value
+returns c = ap (map named) c.in_ok-had.ensures.entries ∙ named_insert c.args.last.now.entries c.args.entry.name c.args.entry.value
