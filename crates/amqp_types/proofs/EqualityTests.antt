@@ -58,11 +58,13 @@ no_field = record { same = λ x y. true; tells = λ x y. (λ h. refl, λ e. refl
 abbrev pub last : {A : Type 0} → Test A → Test (A × Unit {0})
 last t = record { same = λ x y. t.same x.0 y.0; tells = λ x y. (λ h. ap (λ a. (a, tt)) ((t.tells x.0 y.0).0 h), λ e. (t.tells x.0 y.0).1 (ap (λ p. p.0) e)) }
 
-pub next_tells : {A B : Type 0} (t : Test A) (u : Test B) (x y : A × B) → Decides (t.same x.0 y.0 && u.same x.1 y.1) (x ≡ y)
-next_tells t u x y =
-    ( λ h. let parts = and_parts (t.same x.0 y.0) (u.same x.1 y.1) h in
-        ap₂ (λ a b. (a, b)) ((t.tells x.0 y.0).0 parts.0) ((u.tells x.1 y.1).0 parts.1)
-    , λ e. ap₂ (λ a b. a && b) ((t.tells x.0 y.0).1 (ap (λ p. p.0) e)) ((u.tells x.1 y.1).1 (ap (λ p. p.1) e)))
+pub next_tells :
+    {A B : Type 0} (t : Test A) (u : Test B) (x y : A × B) → Decides (t.same x.0 y.0 && u.same x.1 y.1) (x ≡ y)
+next_tells t u x y = (
+  λ h. let parts = and_parts (t.same x.0 y.0) (u.same x.1 y.1) h in
+      ap₂ (λ a b. (a, b)) ((t.tells x.0 y.0).0 parts.0) ((u.tells x.1 y.1).0 parts.1),
+  λ e. ap₂ (λ a b. a && b) ((t.tells x.0 y.0).1 (ap (λ p. p.0) e)) ((u.tells x.1 y.1).1 (ap (λ p. p.1) e)),
+)
 
 abbrev pub next : {A B : Type 0} → Test A → Test B → Test (A × B)
 next t u = record { same = λ x y. t.same x.0 y.0 && u.same x.1 y.1; tells = next_tells t u }
@@ -80,14 +82,20 @@ abbrev IsLeft : {A B : Type 0} → A ⊎ B → Type 0
 IsLeft (inl x) = Unit {0}
 IsLeft (inr y) = ⊥
 
-choice_tells : (Fss : List (List Field)) (ts : Tests Fss) (c d : Choice Fss) → Decides (by false false Fss (sames Fss ts) c d) (c ≡ d)
+choice_tells :
+    (Fss : List (List Field)) (ts : Tests Fss) (c d : Choice Fss) →
+    Decides (by false false Fss (sames Fss ts) c d) (c ≡ d)
 choice_tells [] ts c d = absurd c
-choice_tells (Fs ∷ Fss) ts (inl x) (inl y) = (λ h. ap inl ((ts.0.tells x y).0 h), λ e. (ts.0.tells x y).1 (ap (left_or x) e))
+choice_tells (Fs ∷ Fss) ts (inl x) (inl y) =
+    (λ h. ap inl ((ts.0.tells x y).0 h), λ e. (ts.0.tells x y).1 (ap (left_or x) e))
 choice_tells (Fs ∷ Fss) ts (inl x) (inr y) = (λ h. absurd (true≢false (sym h)), λ e. absurd (subst IsLeft e tt))
 choice_tells (Fs ∷ Fss) ts (inr x) (inl y) = (λ h. absurd (true≢false (sym h)), λ e. absurd (subst IsLeft (sym e) tt))
-choice_tells (Fs ∷ Fss) ts (inr x) (inr y) = (λ h. ap inr ((choice_tells Fss ts.1 x y).0 h), λ e. (choice_tells Fss ts.1 x y).1 (ap (right_or x) e))
+choice_tells (Fs ∷ Fss) ts (inr x) (inr y) =
+    (λ h. ap inr ((choice_tells Fss ts.1 x y).0 h), λ e. (choice_tells Fss ts.1 x y).1 (ap (right_or x) e))
 
-pub enum_tells : (N : Record) (ts : Tests N.parts) (x y : N.D) → Decides (by false false N.parts (sames N.parts ts) (N.as_values x) (N.as_values y)) (x ≡ y)
+pub enum_tells :
+    (N : Record) (ts : Tests N.parts) (x y : N.D) →
+    Decides (by false false N.parts (sames N.parts ts) (N.as_values x) (N.as_values y)) (x ≡ y)
 enum_tells N ts x y = (λ h. values_one N x y ((choice_tells N.parts ts (N.as_values x) (N.as_values y)).0 h), λ e. (choice_tells N.parts ts (N.as_values x) (N.as_values y)).1 (ap N.as_values e))
 
 abbrev pub enum_test : (N : Record) → Tests N.parts → Test N.D

@@ -11,19 +11,31 @@ use Rattle.amqp_types.specs.Reading.{Reader, ◌>>=◌, octet_at, short_string_a
 use Rattle.amqp_types.proofs.Readers.{IsReader, some_is, bind_some, octet_reader, octets_reader, number16_reader, number32_reader, number64_reader, then_again, then_takes, joined, inner_fits, both_reader, map_again, map_takes, short_string_reader, long_string_reader, row_again, row_takes}
 
 -- ---- values that hold no other
-pub scalar_again : (s : Scalar) (text rest : List ℕ) → ScalarOf s text → scalar_at (tag_of s) (text ++ rest) ≡ Some (s, rest)
+pub scalar_again :
+    (s : Scalar) (text rest : List ℕ) → ScalarOf s text → scalar_at (tag_of s) (text ++ rest) ≡ Some (s, rest)
 unfolding scalar_at
-scalar_again (boolean b) text rest f = map_again octet_reader (λ n. boolean (not (eqb n 0))) f.0 text rest f.2 ∙ ap (λ (c : Bool). Some (boolean c, rest)) (sym f.1)
-scalar_again (short_short_int z) text rest f = map_again octet_reader (λ n. short_short_int (cast_signed w8 n)) f.0 text rest f.2 ∙ ap (λ (c : ℤ). Some (short_short_int c, rest)) (sym f.1)
+scalar_again (boolean b) text rest f =
+    map_again octet_reader (λ n. boolean (not (eqb n 0))) f.0 text rest f.2
+    ∙ ap (λ (c : Bool). Some (boolean c, rest)) (sym f.1)
+scalar_again (short_short_int z) text rest f =
+    map_again octet_reader (λ n. short_short_int (cast_signed w8 n)) f.0 text rest f.2
+    ∙ ap (λ (c : ℤ). Some (short_short_int c, rest)) (sym f.1)
 scalar_again (short_short_uint n) text rest f = map_again octet_reader short_short_uint n text rest f
-scalar_again (short_int z) text rest f = map_again number16_reader (λ n. short_int (cast_signed w16 n)) f.0 text rest f.2 ∙ ap (λ (c : ℤ). Some (short_int c, rest)) (sym f.1)
+scalar_again (short_int z) text rest f =
+    map_again number16_reader (λ n. short_int (cast_signed w16 n)) f.0 text rest f.2
+    ∙ ap (λ (c : ℤ). Some (short_int c, rest)) (sym f.1)
 scalar_again (short_uint n) text rest f = map_again number16_reader short_uint n text rest f
-scalar_again (long_int z) text rest f = map_again number32_reader (λ n. long_int (cast_signed w32 n)) f.0 text rest f.2 ∙ ap (λ (c : ℤ). Some (long_int c, rest)) (sym f.1)
+scalar_again (long_int z) text rest f =
+    map_again number32_reader (λ n. long_int (cast_signed w32 n)) f.0 text rest f.2
+    ∙ ap (λ (c : ℤ). Some (long_int c, rest)) (sym f.1)
 scalar_again (long_uint n) text rest f = map_again number32_reader long_uint n text rest f
-scalar_again (long_long_int z) text rest f = map_again number64_reader (λ n. long_long_int (cast_signed w64 n)) f.0 text rest f.2 ∙ ap (λ (c : ℤ). Some (long_long_int c, rest)) (sym f.1)
+scalar_again (long_long_int z) text rest f =
+    map_again number64_reader (λ n. long_long_int (cast_signed w64 n)) f.0 text rest f.2
+    ∙ ap (λ (c : ℤ). Some (long_long_int c, rest)) (sym f.1)
 scalar_again (float bytes) text rest f = map_again (octets_reader 4) float bytes text rest f
 scalar_again (double bytes) text rest f = map_again (octets_reader 8) double bytes text rest f
-scalar_again (decimal scale n) text rest f = map_again (both_reader octet_reader number32_reader) (λ p. decimal p.0 p.1) (scale, n) text rest f
+scalar_again (decimal scale n) text rest f =
+    map_again (both_reader octet_reader number32_reader) (λ p. decimal p.0 p.1) (scale, n) text rest f
 scalar_again (long_string bytes) text rest f = map_again long_string_reader long_string bytes text rest f
 scalar_again (byte_array bytes) text rest f = map_again long_string_reader byte_array bytes text rest f
 scalar_again (timestamp n) text rest f = map_again number64_reader timestamp n text rest f
@@ -34,7 +46,9 @@ abbrev pub TakesScalar : ℕ → List ℕ → Scalar → List ℕ → Type 0
 TakesScalar tag bytes s rest = (tag ≡ tag_of s) × (text : List ℕ) × (bytes ≡ text ++ rest) × ScalarOf s text
 
 -- one test of a chain
-pub pick : {A X : Type 0} (tag k : ℕ) (this next : Option A) (y : A) → cond (eqb tag k) this next ≡ Some y → (tag ≡ k → this ≡ Some y → X) → (next ≡ Some y → X) → X
+pub pick :
+    {A X : Type 0} (tag k : ℕ) (this next : Option A) (y : A) → cond (eqb tag k) this next ≡ Some y →
+    (tag ≡ k → this ≡ Some y → X) → (next ≡ Some y → X) → X
 pick {A} {X} tag k this next y e here there = by (eqb tag k) refl e
   where
     by : (b : Bool) → eqb tag k ≡ b → cond b this next ≡ Some y → X
@@ -42,7 +56,10 @@ pick {A} {X} tag k this next y e here there = by (eqb tag k) refl e
     by false is e = there e
 
 module _ (tag : ℕ) (bytes : List ℕ) (s : Scalar) (rest : List ℕ) (fits : IsOctets bytes) where
-  by_map : {A : Type 0} {F : A → Form} {read : Reader A} → IsReader F read → (f : A → Scalar) (k : ℕ) → ((x : A) → k ≡ tag_of (f x)) → ((x : A) (text : List ℕ) → F x text → ScalarOf (f x) text) → tag ≡ k → read_map f read bytes ≡ Some (s, rest) → TakesScalar tag bytes s rest
+  by_map :
+      {A : Type 0} {F : A → Form} {read : Reader A} → IsReader F read → (f : A → Scalar) (k : ℕ) →
+      ((x : A) → k ≡ tag_of (f x)) → ((x : A) (text : List ℕ) → F x text → ScalarOf (f x) text) → tag ≡ k →
+      read_map f read bytes ≡ Some (s, rest) → TakesScalar tag bytes s rest
   by_map r f k tags content is e =
       let t = map_takes r f bytes s rest fits e in
       subst (λ (z : Scalar). TakesScalar tag bytes z rest) t.2 (is ∙ tags t.0, t.1, t.3, content t.0 t.1 t.4)
@@ -161,7 +178,9 @@ not_table (timestamp n) = refl
 not_table void = refl
 
 module _ {Array : List FieldValue → Form} {Table : List Pair → Form} {array_read : Reader (List FieldValue)} {table_read : Reader (List Pair)} (arrays : IsReader Array array_read) (tables : IsReader Table table_read) where
-  tagged_again : (v : FieldValue) (text rest : List ℕ) → Tagged Array Table v text → value_with array_read table_read (text ++ rest) ≡ Some (v, rest)
+  tagged_again :
+      (v : FieldValue) (text rest : List ℕ) → Tagged Array Table v text →
+      value_with array_read table_read (text ++ rest) ≡ Some (v, rest)
   tagged_again (scalar s) text rest f =
       then_again OctetOf octet_at octet_reader (tagged_with array_read table_read) (tag_of s) (scalar s) (ScalarOf s) (λ text' rest' g. rw (not_array s, not_table s) (ap (option_map (λ (y : Scalar × List ℕ). (scalar y.0, y.1))) (scalar_again s text' rest' g))) text rest f
   tagged_again (array vs) text rest f =
@@ -169,7 +188,10 @@ module _ {Array : List FieldValue → Form} {Table : List Pair → Form} {array_
   tagged_again (table ps) text rest f =
       then_again OctetOf octet_at octet_reader (tagged_with array_read table_read) 70 (table ps) (Table (pairs_of ps)) (λ text' rest' g. map_again tables (λ qs. table (pairs_from qs)) (pairs_of ps) text' rest' g ∙ ap (λ (qs : FieldPairs). Some (table qs, rest')) (pairs_from-pairs_of ps)) text rest f
 
-  tagged_takes : (bytes : List ℕ) (v : FieldValue) (rest : List ℕ) → IsOctets bytes → value_with array_read table_read bytes ≡ Some (v, rest) → (text : List ℕ) × (bytes ≡ text ++ rest) × Tagged Array Table v text
+  tagged_takes :
+      (bytes : List ℕ) (v : FieldValue) (rest : List ℕ) → IsOctets bytes →
+      value_with array_read table_read bytes ≡ Some (v, rest) →
+      (text : List ℕ) × (bytes ≡ text ++ rest) × Tagged Array Table v text
   tagged_takes bytes v rest fits e =
       let t = then_takes OctetOf octet_at octet_reader (tagged_with array_read table_read) bytes v rest fits e in
       pick t.x 65 _ _ _ t.second (λ is e.
@@ -185,10 +207,16 @@ module _ {Array : List FieldValue → Form} {Table : List Pair → Form} {array_
       let form : Tagged Array Table (scalar m.0) (t.text ++ u.1) = (t.text, u.1, refl, subst (λ (n : ℕ). OctetOf n t.text) u.0 t.form, u.3) in
       (t.text ++ u.1, joined bytes t.text t.middle u.1 rest t.parts u.2, subst (λ (w : FieldValue). Tagged Array Table w (t.text ++ u.1)) m.2 form)))
     where
-      scalars : (tag : ℕ) (bytes : List ℕ) (v : FieldValue) (rest : List ℕ) → read_map scalar (scalar_at tag) bytes ≡ Some (v, rest) → (s : Scalar) × (scalar_at tag bytes ≡ Some (s, rest)) × (scalar s ≡ v)
+      scalars :
+          (tag : ℕ) (bytes : List ℕ) (v : FieldValue) (rest : List ℕ) →
+          read_map scalar (scalar_at tag) bytes ≡ Some (v, rest) →
+          (s : Scalar) × (scalar_at tag bytes ≡ Some (s, rest)) × (scalar s ≡ v)
       scalars tag bytes v rest e = mapped (scalar_at tag bytes) v rest e
         where
-          mapped : (o : Option (Scalar × List ℕ)) (v : FieldValue) (rest : List ℕ) → option_map {U = FieldValue × List ℕ} (λ (z : Scalar × List ℕ). (scalar z.0, z.1)) o ≡ Some (v, rest) → (s : Scalar) × (o ≡ Some (s, rest)) × (scalar s ≡ v)
+          mapped :
+              (o : Option (Scalar × List ℕ)) (v : FieldValue) (rest : List ℕ) →
+              option_map {U = FieldValue × List ℕ} (λ (z : Scalar × List ℕ). (scalar z.0, z.1)) o ≡ Some (v, rest) →
+              (s : Scalar) × (o ≡ Some (s, rest)) × (scalar s ≡ v)
           mapped None v rest e = absurd cc
           mapped (Some z) v rest e =
               let is : ◌≡◌ {A = FieldValue × List ℕ} (scalar z.0, z.1) (v, rest) = some_is (scalar z.0, z.1) (v, rest) e in
@@ -217,7 +245,8 @@ unfolding table_at
 table_at_reader depth = table_reader (value_reader depth) (value_something depth)
 
 -- ---- one level of the readers
-pub value_at_is : (depth : ℕ) (bytes : List ℕ) → value_at depth bytes ≡ value_with (array_at depth) (table_at depth) bytes
+pub value_at_is :
+    (depth : ℕ) (bytes : List ℕ) → value_at depth bytes ≡ value_with (array_at depth) (table_at depth) bytes
 unfolding value_at array_at table_at
 value_at_is zero bytes = refl
 value_at_is (suc depth) bytes = refl
@@ -233,12 +262,18 @@ table_at_zero zero bytes e = refl
 table_at_zero (suc depth) bytes e = absurd (omega arith)
 
 -- the body that a length announces, and what is made of it
-pub array_at_is : (depth below : ℕ) (bytes : List ℕ) → depth ≡ suc below → array_at depth bytes ≡ (long_string_at bytes >>= λ body. row_at (value_at below) (length body.0) body.0 >>= λ values. Some (values, body.1))
+pub array_at_is :
+    (depth below : ℕ) (bytes : List ℕ) → depth ≡ suc below →
+    array_at depth bytes ≡ (long_string_at bytes >>= λ body. row_at (value_at below) (length body.0) body.0 >>= λ values. Some (values, body.1))
 unfolding array_at array_with
 array_at_is zero below bytes e = absurd (omega arith)
-array_at_is (suc depth) below bytes e = let same : depth ≡ below = omega arith in ap (λ (d : ℕ). array_with (value_at d) bytes) same
+array_at_is (suc depth) below bytes e =
+    let same : depth ≡ below = omega arith in ap (λ (d : ℕ). array_with (value_at d) bytes) same
 
-pub table_at_is : (depth below : ℕ) (bytes : List ℕ) → depth ≡ suc below → table_at depth bytes ≡ (long_string_at bytes >>= λ body. row_at (pair_with (value_at below)) (length body.0) body.0 >>= λ pairs. Some (map_of pairs, body.1))
+pub table_at_is :
+    (depth below : ℕ) (bytes : List ℕ) → depth ≡ suc below →
+    table_at depth bytes ≡ (long_string_at bytes >>= λ body. row_at (pair_with (value_at below)) (length body.0) body.0 >>= λ pairs. Some (map_of pairs, body.1))
 unfolding table_at table_with
 table_at_is zero below bytes e = absurd (omega arith)
-table_at_is (suc depth) below bytes e = let same : depth ≡ below = omega arith in ap (λ (d : ℕ). table_with (value_at d) bytes) same
+table_at_is (suc depth) below bytes e =
+    let same : depth ≡ below = omega arith in ap (λ (d : ℕ). table_with (value_at d) bytes) same

@@ -11,7 +11,9 @@ pub record IsReader {A : Type 0} (F : A → Form) (read : Reader A) : Type 0 whe
   -- what is spelled is read
   pub again : (x : A) (text rest : List ℕ) → F x text → read (text ++ rest) ≡ Some (x, rest)
   -- what is read is spelled
-  pub takes : (bytes : List ℕ) (x : A) (rest : List ℕ) → IsOctets bytes → read bytes ≡ Some (x, rest) → (text : List ℕ) × (bytes ≡ text ++ rest) × F x text
+  pub takes :
+      (bytes : List ℕ) (x : A) (rest : List ℕ) → IsOctets bytes → read bytes ≡ Some (x, rest) →
+      (text : List ℕ) × (bytes ≡ text ++ rest) × F x text
 
 -- ---- octets
 pub IsOctets-drop : (n : ℕ) (bytes : List ℕ) → IsOctets bytes → IsOctets (drop n bytes)
@@ -38,7 +40,9 @@ IsOctets-rest bytes text rest e h = IsOctets-second text rest (subst IsOctets e 
 pub some_is : {A : Type 0} (x y : A) → Some x ≡ Some y → x ≡ y
 some_is x y e = cc
 
-pub bind_some : {A B : Type 0} (o : Option A) (f : A → Option B) (y : B) → (o >>= f) ≡ Some y → (x : A) × (o ≡ Some x) × (f x ≡ Some y)
+pub bind_some :
+    {A B : Type 0} (o : Option A) (f : A → Option B) (y : B) → (o >>= f) ≡ Some y →
+    (x : A) × (o ≡ Some x) × (f x ≡ Some y)
 bind_some (Some x) f y e = (x, refl, e)
 bind_some None f y e = absurd cc
 
@@ -53,7 +57,9 @@ octet_reader = record {
   takes = λ bytes n rest fits e. octet_takes bytes n rest fits e;
 }
   where
-    octet_takes : (bytes : List ℕ) (n : ℕ) (rest : List ℕ) → IsOctets bytes → octet_at bytes ≡ Some (n, rest) → (text : List ℕ) × (bytes ≡ text ++ rest) × OctetOf n text
+    octet_takes :
+        (bytes : List ℕ) (n : ℕ) (rest : List ℕ) → IsOctets bytes → octet_at bytes ≡ Some (n, rest) →
+        (text : List ℕ) × (bytes ≡ text ++ rest) × OctetOf n text
     octet_takes [] n rest fits e = absurd cc
     octet_takes (o ∷ bytes) n rest fits e =
         let both : ◌≡◌ {A = ℕ × List ℕ} (o, bytes) (n, rest) = some_is (o, bytes) (n, rest) e in
@@ -149,20 +155,27 @@ module _ {A B : Type 0} (F : A → Form) (read : Reader A) (first : IsReader F r
     pub second : next x middle ≡ Some (y, rest)
 
   -- the second may go by what the first gave
-  pub then_again : (next : A → Reader B) (x : A) (y : B) (G : Form) → ((text rest : List ℕ) → G text → next x (text ++ rest) ≡ Some (y, rest)) → (text rest : List ℕ) → (F x ▸ G) text → (read (text ++ rest) >>= λ p. next p.0 p.1) ≡ Some (y, rest)
+  pub then_again :
+      (next : A → Reader B) (x : A) (y : B) (G : Form) →
+      ((text rest : List ℕ) → G text → next x (text ++ rest) ≡ Some (y, rest)) → (text rest : List ℕ) →
+      (F x ▸ G) text → (read (text ++ rest) >>= λ p. next p.0 p.1) ≡ Some (y, rest)
   then_again next x y G second text rest f =
       let whole : text ++ rest ≡ f.0 ++ (f.1 ++ rest) = ap (λ (t : List ℕ). t ++ rest) f.2 ∙ append_assoc f.0 f.1 rest in
       ap (λ (t : List ℕ). read t >>= λ p. next p.0 p.1) whole ∙ ap (λ (o : Option (A × List ℕ)). o >>= λ p. next p.0 p.1) (first.again x f.0 (f.1 ++ rest) f.3) ∙ second f.1 rest f.4
 
   -- what the first gave, and what is left for the second
-  pub then_takes : (next : A → Reader B) (bytes : List ℕ) (y : B) (rest : List ℕ) → IsOctets bytes → (read bytes >>= λ p. next p.0 p.1) ≡ Some (y, rest) → FirstOf next bytes y rest
+  pub then_takes :
+      (next : A → Reader B) (bytes : List ℕ) (y : B) (rest : List ℕ) → IsOctets bytes →
+      (read bytes >>= λ p. next p.0 p.1) ≡ Some (y, rest) → FirstOf next bytes y rest
   then_takes next bytes y rest fits e =
       let b = bind_some (read bytes) (λ p. next p.0 p.1) (y, rest) e in
       let t = first.takes bytes b.0.0 b.0.1 fits b.1 in
       record { x = b.0.0; text = t.0; middle = b.0.1; parts = t.1; form = t.2; fits = IsOctets-rest bytes t.0 b.0.1 t.1 fits; second = b.2 }
 
 -- what two readers took, one after the other
-pub joined : (bytes text middle text' rest : List ℕ) → bytes ≡ text ++ middle → middle ≡ text' ++ rest → bytes ≡ (text ++ text') ++ rest
+pub joined :
+    (bytes text middle text' rest : List ℕ) → bytes ≡ text ++ middle → middle ≡ text' ++ rest →
+    bytes ≡ (text ++ text') ++ rest
 joined bytes text middle text' rest p q = p ∙ ap (λ (t : List ℕ). text ++ t) q ∙ sym (append_assoc text text' rest)
 
 module _ {A B : Type 0} {F : A → Form} {G : B → Form} {read : Reader A} {read' : Reader B} (first : IsReader F read) (second : IsReader G read') where
@@ -170,7 +183,9 @@ module _ {A B : Type 0} {F : A → Form} {G : B → Form} {read : Reader A} {rea
   both_again x text rest f =
       then_again F read first (λ a bytes. read' bytes >>= λ y. Some ((a, y.0), y.1)) x.0 x (G x.1) (λ text' rest' g. ap (λ (o : Option (B × List ℕ)). o >>= λ y. Some ((x.0, y.0), y.1)) (second.again x.1 text' rest' g)) text rest f
 
-  both_takes : (bytes : List ℕ) (x : A × B) (rest : List ℕ) → IsOctets bytes → (read ⊗ read') bytes ≡ Some (x, rest) → (text : List ℕ) × (bytes ≡ text ++ rest) × (F x.0 ▸ G x.1) text
+  both_takes :
+      (bytes : List ℕ) (x : A × B) (rest : List ℕ) → IsOctets bytes → (read ⊗ read') bytes ≡ Some (x, rest) →
+      (text : List ℕ) × (bytes ≡ text ++ rest) × (F x.0 ▸ G x.1) text
   both_takes bytes x rest fits e =
       let t = then_takes F read first (λ a bytes. read' bytes >>= λ y. Some ((a, y.0), y.1)) bytes x rest fits e in
       let b = bind_some (read' t.middle) (λ y. Some ((t.x, y.0), y.1)) (x, rest) t.second in
@@ -185,13 +200,18 @@ module _ {A B : Type 0} {F : A → Form} {read : Reader A} (first : IsReader F r
   pub map_again : (x : A) (text rest : List ℕ) → F x text → read_map f read (text ++ rest) ≡ Some (f x, rest)
   map_again x text rest g = ap (option_map (λ (y : A × List ℕ). (f y.0, y.1))) (first.again x text rest g)
 
-  pub map_takes : (bytes : List ℕ) (y : B) (rest : List ℕ) → IsOctets bytes → read_map f read bytes ≡ Some (y, rest) → (x : A) × (text : List ℕ) × (f x ≡ y) × (bytes ≡ text ++ rest) × F x text
+  pub map_takes :
+      (bytes : List ℕ) (y : B) (rest : List ℕ) → IsOctets bytes → read_map f read bytes ≡ Some (y, rest) →
+      (x : A) × (text : List ℕ) × (f x ≡ y) × (bytes ≡ text ++ rest) × F x text
   map_takes bytes y rest fits e =
       let b = mapped (read bytes) y rest e in
       let t = first.takes bytes b.0 rest fits b.1 in
       (b.0, t.0, b.2, t.1, t.2)
     where
-      mapped : (o : Option (A × List ℕ)) (y : B) (rest : List ℕ) → option_map {U = B × List ℕ} (λ (z : A × List ℕ). (f z.0, z.1)) o ≡ Some (y, rest) → (x : A) × (o ≡ Some (x, rest)) × (f x ≡ y)
+      mapped :
+          (o : Option (A × List ℕ)) (y : B) (rest : List ℕ) →
+          option_map {U = B × List ℕ} (λ (z : A × List ℕ). (f z.0, z.1)) o ≡ Some (y, rest) →
+          (x : A) × (o ≡ Some (x, rest)) × (f x ≡ y)
       mapped None y rest e = absurd cc
       mapped (Some z) y rest e =
           let is : ◌≡◌ {A = B × List ℕ} (f z.0, z.1) (y, rest) = some_is (f z.0, z.1) (y, rest) e in
@@ -200,10 +220,15 @@ module _ {A B : Type 0} {F : A → Form} {read : Reader A} (first : IsReader F r
 -- ---- strings
 -- a number, and so many octets
 module _ (N : ℕ → Form) (read : Reader ℕ) (first : IsReader N read) where
-  counted_again : (content : List ℕ) (text rest : List ℕ) → (N (length content) ▸ OctetsOf (length content) content) text → (read (text ++ rest) >>= λ n. octets_at n.0 n.1) ≡ Some (content, rest)
+  counted_again :
+      (content : List ℕ) (text rest : List ℕ) → (N (length content) ▸ OctetsOf (length content) content) text →
+      (read (text ++ rest) >>= λ n. octets_at n.0 n.1) ≡ Some (content, rest)
   counted_again content = then_again N read first octets_at (length content) content (OctetsOf (length content) content) ((octets_reader (length content)).again content)
 
-  counted_takes : (bytes content rest : List ℕ) → IsOctets bytes → (read bytes >>= λ n. octets_at n.0 n.1) ≡ Some (content, rest) → (text : List ℕ) × (bytes ≡ text ++ rest) × (N (length content) ▸ OctetsOf (length content) content) text
+  counted_takes :
+      (bytes content rest : List ℕ) → IsOctets bytes →
+      (read bytes >>= λ n. octets_at n.0 n.1) ≡ Some (content, rest) →
+      (text : List ℕ) × (bytes ≡ text ++ rest) × (N (length content) ▸ OctetsOf (length content) content) text
   counted_takes bytes content rest fits e =
       let t = then_takes N read first octets_at bytes content rest fits e in
       let u = (octets_reader t.x).takes t.middle content rest t.fits t.second in
@@ -214,7 +239,9 @@ unfolding short_string_at
 short_string_reader = record { again = counted_again OctetOf octet_at octet_reader; takes = counted_takes OctetOf octet_at octet_reader }
 
 -- what a string holds are octets
-pub inner_fits : (content text rest bytes : List ℕ) → bytes ≡ text ++ rest → LongStringOf content text → IsOctets bytes → IsOctets content
+pub inner_fits :
+    (content text rest bytes : List ℕ) → bytes ≡ text ++ rest → LongStringOf content text → IsOctets bytes →
+    IsOctets content
 inner_fits content text rest bytes e f fits =
     let text_fits = IsOctets-first text rest (subst IsOctets e fits) in
     subst IsOctets f.4.1 (IsOctets-second f.0 f.1 (subst IsOctets f.2 text_fits))
@@ -229,7 +256,10 @@ module _ {A : Type 0} {F : A → Form} {read : Reader A} (each : IsReader F read
   not_empty : (x : A) → F x [] → ⊥
   not_empty x f = let e : read [] ≡ Some (x, []) = each.again x [] [] f in absurd cc
 
-  row_step : (n : ℕ) (x : A) (xs : List A) (text rest whole : List ℕ) → whole ≡ text ++ rest → length whole ≤ suc n → F x text → ((m : ℕ) → length rest ≤ m → row_at read m rest ≡ Some xs) → row_at read (suc n) whole ≡ Some (x ∷ xs)
+  row_step :
+      (n : ℕ) (x : A) (xs : List A) (text rest whole : List ℕ) → whole ≡ text ++ rest → length whole ≤ suc n →
+      F x text → ((m : ℕ) → length rest ≤ m → row_at read m rest ≡ Some xs) →
+      row_at read (suc n) whole ≡ Some (x ∷ xs)
   unfolding row_at
   row_step n x xs [] rest whole is le f others = absurd (not_empty x f)
   row_step n x xs (o ∷ text) rest whole is le f others =
@@ -237,7 +267,8 @@ module _ {A : Type 0} {F : A → Form} {read : Reader A} (each : IsReader F read
       let one : read ((o ∷ text) ++ rest) ≡ Some (x, rest) = each.again x (o ∷ text) rest f in
       ap (row_at read (suc n)) is ∙ ap (λ (p : Option (A × List ℕ)). p >>= λ first. row_at read n first.1 >>= λ others. Some (first.0 ∷ others)) one ∙ ap (λ (p : Option (List A)). p >>= λ others. Some (x ∷ others)) (others n short)
 
-  pub row_again : (xs : List A) (n : ℕ) (text : List ℕ) → length text ≤ n → Row F xs text → row_at read n text ≡ Some xs
+  pub row_again :
+      (xs : List A) (n : ℕ) (text : List ℕ) → length text ≤ n → Row F xs text → row_at read n text ≡ Some xs
   unfolding row_at
   row_again [] n text le f = rw f refl
   row_again (x ∷ xs) zero text le f = absurd (no_room x xs text le f)
@@ -246,9 +277,11 @@ module _ {A : Type 0} {F : A → Form} {read : Reader A} (each : IsReader F read
       no_room x xs text le f =
           let none : f.0 ≡ [] = nil_from_length f.0 (omega (arith, ap length f.2, length-append f.0 f.1)) in
           not_empty x (subst (F x) none f.3)
-  row_again (x ∷ xs) (suc n) text le f = row_step n x xs f.0 f.1 text f.2 le f.3 (λ m short. row_again xs m f.1 short f.4)
+  row_again (x ∷ xs) (suc n) text le f =
+      row_step n x xs f.0 f.1 text f.2 le f.3 (λ m short. row_again xs m f.1 short f.4)
 
-  pub row_takes : (n : ℕ) (bytes : List ℕ) (xs : List A) → IsOctets bytes → row_at read n bytes ≡ Some xs → Row F xs bytes
+  pub row_takes :
+      (n : ℕ) (bytes : List ℕ) (xs : List A) → IsOctets bytes → row_at read n bytes ≡ Some xs → Row F xs bytes
   unfolding row_at
   row_takes n [] xs fits e = subst (λ (ys : List A). Row F ys []) (some_is [] xs e) refl
   row_takes zero (o ∷ bytes) xs fits e = absurd cc

@@ -31,7 +31,8 @@ ascending_from_order (p ∷ q ∷ ps) h (suc k) lt = ascending_from_order (q ∷
 pub order_from_ascending : (ps : List Pair) → IsAscending ps → IsInOrder ps
 order_from_ascending [] h = tt
 order_from_ascending (p ∷ []) h = (tt, tt)
-order_from_ascending (p ∷ q ∷ ps) h = (h 0 (omega arith), order_from_ascending (q ∷ ps) (λ k lt. h (suc k) (omega arith)))
+order_from_ascending (p ∷ q ∷ ps) h =
+    (h 0 (omega arith), order_from_ascending (q ∷ ps) (λ k lt. h (suc k) (omega arith)))
 
 -- an entry, for the places past a table's end
 abbrev pub no_entry : Entry
@@ -42,13 +43,17 @@ pub name_of : (es : List Entry) (k : ℕ) (d : Entry) → k < length es → name
 name_of es k d lt = ap (λ p. p.0) (get_or-map pair_of es k d no_pair lt)
 
 -- every name but the first is above the first
-first_below : (p : Pair) (ps : List Pair) (k : ℕ) → IsInOrder (p ∷ ps) → k < length ps → name_cmp p.0 (name_at ps k) ≡ Less
+first_below :
+    (p : Pair) (ps : List Pair) (k : ℕ) → IsInOrder (p ∷ ps) → k < length ps → name_cmp p.0 (name_at ps k) ≡ Less
 first_below p [] k h lt = absurd (omega arith)
 first_below p (q ∷ ps) zero h lt = h.0
-first_below p (q ∷ ps) (suc k) h lt = names_total.trans p.0 q.0 (name_at ps k) h.0 (first_below q ps k h.1 (omega arith))
+first_below p (q ∷ ps) (suc k) h lt =
+    names_total.trans p.0 q.0 (name_at ps k) h.0 (first_below q ps k h.1 (omega arith))
 
 -- a name that stands at a place is above all before it
-above_at : (ps : List Pair) (at k : ℕ) → IsInOrder ps → at < length ps → k < at → name_cmp (name_at ps at) (name_at ps k) ≡ Greater
+above_at :
+    (ps : List Pair) (at k : ℕ) → IsInOrder ps → at < length ps → k < at →
+    name_cmp (name_at ps at) (name_at ps k) ≡ Greater
 above_at [] at k h lt below = absurd (omega arith)
 above_at (p ∷ ps) zero k h lt below = absurd (omega arith)
 above_at (p ∷ ps) (suc at) zero h lt below = turned_back p.0 (name_at ps at) (first_below p ps at h (omega arith))
@@ -56,7 +61,9 @@ above_at (p ∷ ps) (suc at) (suc k) h lt below = above_at ps at k h.1 (omega ar
 
 -- ---- a binary search
 -- the names of an entry and the next, at `k + 1` as code has it
-pub below_next : (es : List Entry) (k : ℕ) (d : Entry) → IsInOrder (map pair_of es) → k + 1 < length es → name_cmp (get_or es k d).name (get_or es (k + 1) d).name ≡ Less
+pub below_next :
+    (es : List Entry) (k : ℕ) (d : Entry) → IsInOrder (map pair_of es) → k + 1 < length es →
+    name_cmp (get_or es k d).name (get_or es (k + 1) d).name ≡ Less
 below_next es k d h lt =
     let len : length (map pair_of es) ≡ length es = length-map es pair_of in
     let step : k + 1 ≡ suc k = omega arith in
@@ -65,20 +72,25 @@ below_next es k d h lt =
     ap (λ (i : ℕ). name_cmp (get_or es k d).name (get_or es i d).name) step ∙ rw (← here, ← next) (ascending_from_order (map pair_of es) h k (omega arith))
 
 sorted : (es : List Entry) → IsInOrder (map pair_of es) → IsSortedBy (λ a b. is_lt (name_cmp a.name b.name)) es
-sorted es h k d low lt = ap is_lt (turned_back (get_or es k d).name (get_or es (k + 1) d).name (below_next es k d h lt))
+sorted es h k d low lt =
+    ap is_lt (turned_back (get_or es k d).name (get_or es (k + 1) d).name (below_next es k d h lt))
 
 -- what the search answers by
 abbrev pub compared : List ℕ → Entry → Ordering
 compared name e = name_cmp e.name name
 
-pub searched_found : (es : List Entry) (name : List ℕ) (at : ℕ) → IsInOrder (map pair_of es) → at < length es → HoldsAt (λ e. compared name e ≡ Equal) es at → HasNameAt (map pair_of es) name at
+pub searched_found :
+    (es : List Entry) (name : List ℕ) (at : ℕ) → IsInOrder (map pair_of es) → at < length es →
+    HoldsAt (λ e. compared name e ≡ Equal) es at → HasNameAt (map pair_of es) name at
 searched_found es name at h lt holds =
     let len : length (map pair_of es) ≡ length es = length-map es pair_of in
     let same : name_at (map pair_of es) at ≡ name = name_of es at no_entry lt ∙ exact_bytes _ _ (holds no_entry) in
     let equal : name_cmp name (name_at (map pair_of es) at) ≡ Equal = ap (name_cmp name) (name_of es at no_entry lt) ∙ subst (λ n. name_cmp n (get_or es at no_entry).name ≡ Equal) (exact_bytes _ _ (holds no_entry)) (subst (λ n. name_cmp (get_or es at no_entry).name n ≡ Equal) (sym (exact_bytes _ _ (holds no_entry))) (holds no_entry)) in
     found_at (map pair_of es) name at (omega arith) (λ k below. subst (λ n. name_cmp n (name_at (map pair_of es) k) ≡ Greater) same (above_at (map pair_of es) at k h (omega arith) below)) equal
 
-pub searched_gap : (es : List Entry) (name : List ℕ) (at : ℕ) → IsInOrder (map pair_of es) → at ≤ length es → IsBinarySearchResult (compared name) es (Err at) → HasGapAt (map pair_of es) name at
+pub searched_gap :
+    (es : List Entry) (name : List ℕ) (at : ℕ) → IsInOrder (map pair_of es) → at ≤ length es →
+    IsBinarySearchResult (compared name) es (Err at) → HasGapAt (map pair_of es) name at
 searched_gap es name at h le result =
     let len : length (map pair_of es) ≡ length es = length-map es pair_of in
     let parted : IsPartitionPoint (λ e. compared name e ≡ Less) (λ e. compared name e ≡ Greater) es at = result (searchable_from_sorted names_total (λ (e : Entry). e.name) es name (sorted es h)) in
@@ -95,7 +107,9 @@ below_told Less e = refl
 below_told Equal e = absurd cc
 below_told Greater e = absurd cc
 
-pub tested_order : (es : List Entry) (result : Bool) → IsAllAdjacentAnswer (λ x y b. b ≡ is_lt (name_cmp x.name y.name)) es result → Decides result (IsInOrder (map pair_of es))
+pub tested_order :
+    (es : List Entry) (result : Bool) → IsAllAdjacentAnswer (λ x y b. b ≡ is_lt (name_cmp x.name y.name)) es result →
+    Decides result (IsInOrder (map pair_of es))
 tested_order es true answer =
     let len : length (map pair_of es) ≡ length es = length-map es pair_of in
     let ascending : IsAscending (map pair_of es) = λ k lt.
@@ -106,5 +120,8 @@ tested_order es true answer =
     let told : name_cmp (get_or es k no_entry).name (get_or es (k + 1) no_entry).name ≡ Less = below_told (name_cmp (get_or es k no_entry).name (get_or es (k + 1) no_entry).name) (answer k no_entry (omega arith)) in
     rw (here, next) (subst (λ (i : ℕ). name_cmp (get_or es k no_entry).name (get_or es i no_entry).name ≡ Less) step told) in
     (λ e. order_from_ascending (map pair_of es) ascending, λ h. refl)
-tested_order es false answer =
-    (λ e. absurd cc, λ h. let wrong : false ≡ true = answer.2 no_entry ∙ ap is_lt (below_next es answer.0 no_entry h answer.1) in absurd cc)
+tested_order es false answer = (
+  λ e. absurd cc,
+  λ h. let wrong : false ≡ true =
+      answer.2 no_entry ∙ ap is_lt (below_next es answer.0 no_entry h answer.1) in absurd cc,
+)

@@ -111,15 +111,17 @@ pairs_back (x ∷ xs) = ap (λ l. x ∷ l) (pairs_back xs)
 
 -- the test of two arrays holds exactly of equal ones
 pub list_decides : (xs ys : List FieldValue) → Decides (same_list xs ys) (xs ≡ ys)
-list_decides xs ys =
-    ( λ h. sym (list_back xs) ∙ ap list_of (values_equal (values_from xs) (values_from ys) h) ∙ list_back ys
-    , λ e. subst (λ z. same_list xs z ≡ true) e (values_itself (values_from xs)))
+list_decides xs ys = (
+  λ h. sym (list_back xs) ∙ ap list_of (values_equal (values_from xs) (values_from ys) h) ∙ list_back ys,
+  λ e. subst (λ z. same_list xs z ≡ true) e (values_itself (values_from xs)),
+)
 
 -- the test of two tables holds exactly of equal ones
 pub table_decides : (xs ys : List Pair) → Decides (same_table xs ys) (xs ≡ ys)
-table_decides xs ys =
-    ( λ h. sym (pairs_back xs) ∙ ap pairs_of (pairs_equal (pairs_from xs) (pairs_from ys) h) ∙ pairs_back ys
-    , λ e. subst (λ z. same_table xs z ≡ true) e (pairs_itself (pairs_from xs)))
+table_decides xs ys = (
+  λ h. sym (pairs_back xs) ∙ ap pairs_of (pairs_equal (pairs_from xs) (pairs_from ys) h) ∙ pairs_back ys,
+  λ e. subst (λ z. same_table xs z ≡ true) e (pairs_itself (pairs_from xs)),
+)
 
 -- so the test of values is an equivalence, as `Eq` wants
 pub value_equiv : IsEquivalence same_value

@@ -21,7 +21,7 @@ pub copy_of_values-loop-value-preserved : goal.copy_of_values-loop-value-preserv
 copy_of_values-loop-value-preserved t c =
     c.in_ok-push.ensures.items
     ∙ one_more c.as_slice-value-items.result.now c.loop-value.items.items c.loop-value.value-index c.value-item.result c.in_ok-copy_of.field-0
-        c.loop-value-test.true c.loop-value.invariant c.value-item.is c.in_ok-copy_of.ensures
+    c.loop-value-test.true c.loop-value.invariant c.value-item.is c.in_ok-copy_of.ensures
 
 pub copy_of_values-returns : goal.copy_of_values-returns
 copy_of_values-returns t c =
@@ -41,7 +41,7 @@ copy_of_table-loop-entry-preserved t c =
     let same : copy ≡ c.entry-item.result = ap₂ (λ n v. record { name = n; value = v }) c.in_ok-try_clone.ensures c.in_ok-copy_of.ensures in
     c.in_ok-push.ensures.items
     ∙ one_more c.entries-entry-items.result.now c.loop-entry.entries.items c.loop-entry.entry-index c.entry-item.result copy
-        c.loop-entry-test.true c.loop-entry.invariant c.entry-item.is same
+    c.loop-entry-test.true c.loop-entry.invariant c.entry-item.is same
 
 pub copy_of_table-returns : goal.copy_of_table-returns
 copy_of_table-returns t c =

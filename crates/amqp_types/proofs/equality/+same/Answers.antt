@@ -27,13 +27,13 @@ pub same_values_of-loop-i-preserved : goal.same_values_of-loop-i-preserved
 same_values_of-loop-i-preserved t c =
     c.loop-i.invariant
     ∙ values_told c.as_slice-left.result.now c.as_slice-right.result.now c.if-left-right.false c.loop-i.i c.index-left-i.result c.index-right-i.result true
-        c.loop-i-test.true c.index-left-i.is c.index-right-i.is (sym c.same.ensures ∙ c.if-not-same.false)
+    c.loop-i-test.true c.index-left-i.is c.index-right-i.is (sym c.same.ensures ∙ c.if-not-same.false)
 
 pub same_values_of-returns-then-not-same : goal.same_values_of-returns-then-not-same
 same_values_of-returns-then-not-same t c =
     sym (c.loop-i.invariant
     ∙ values_told c.as_slice-left.result.now c.as_slice-right.result.now c.if-left-right.false c.loop-i.i c.index-left-i.result c.index-right-i.result false
-        c.loop-i-test.true c.index-left-i.is c.index-right-i.is (sym c.same.ensures ∙ c.if-not-same.true))
+    c.loop-i-test.true c.index-left-i.is c.index-right-i.is (sym c.same.ensures ∙ c.if-not-same.true))
 
 pub same_values_of-returns : goal.same_values_of-returns
 same_values_of-returns t c =
@@ -43,19 +43,19 @@ pub same_entries-loop-i-preserved : goal.same_entries-loop-i-preserved
 same_entries-loop-i-preserved t c =
     c.loop-i.invariant
     ∙ entries_told c.entries-left.result.now c.entries-right.result.now c.if-left-right.false c.loop-i.i c.index-left-i.result c.index-right-i.result true true
-        c.loop-i-test.true c.index-left-i.is c.index-right-i.is (not-false _ (sym c.ne.ensures ∙ c.if-ne.false)) (sym c.same.ensures ∙ c.if-not-same.false)
+    c.loop-i-test.true c.index-left-i.is c.index-right-i.is (not-false _ (sym c.ne.ensures ∙ c.if-ne.false)) (sym c.same.ensures ∙ c.if-not-same.false)
 
 pub same_entries-returns-then-ne : goal.same_entries-returns-then-ne
 same_entries-returns-then-ne t c =
     sym (c.loop-i.invariant
     ∙ entries_told c.entries-left.result.now c.entries-right.result.now c.if-left-right.false c.loop-i.i c.index-left-i.result c.index-right-i.result false _
-        c.loop-i-test.true c.index-left-i.is c.index-right-i.is (not-true _ (sym c.ne.ensures ∙ c.if-ne.true)) refl)
+    c.loop-i-test.true c.index-left-i.is c.index-right-i.is (not-true _ (sym c.ne.ensures ∙ c.if-ne.true)) refl)
 
 pub same_entries-returns-then-not-same : goal.same_entries-returns-then-not-same
 same_entries-returns-then-not-same t c =
     sym (c.loop-i.invariant
     ∙ entries_told c.entries-left.result.now c.entries-right.result.now c.if-left-right.false c.loop-i.i c.index-left-i.result c.index-right-i.result true false
-        c.loop-i-test.true c.index-left-i.is c.index-right-i.is (not-false _ (sym c.ne.ensures ∙ c.if-ne.false)) (sym c.same.ensures ∙ c.if-not-same.true))
+    c.loop-i-test.true c.index-left-i.is c.index-right-i.is (not-false _ (sym c.ne.ensures ∙ c.if-ne.false)) (sym c.same.ensures ∙ c.if-not-same.true))
 
 pub same_entries-returns : goal.same_entries-returns
 same_entries-returns t c =
