@@ -19,7 +19,8 @@ copy_of_values-copy_of-requires t c =
 
 pub copy_of_values-loop-value-preserved : goal.copy_of_values-loop-value-preserved
 copy_of_values-loop-value-preserved t c =
-    c.in_ok-push.ensures.items
+    let pushed : c.push.new.self.items ≡ (c.loop-value.items.items ++ c.in_ok-copy_of.field-0 ∷ []) = c.in_ok-push.ensures.items in
+    pushed
     ∙ one_more c.as_slice-value-items.result.now c.loop-value.items.items c.loop-value.value-index c.value-item.result c.in_ok-copy_of.field-0
     c.loop-value-test.true c.loop-value.invariant c.value-item.is c.in_ok-copy_of.ensures
 
@@ -39,7 +40,8 @@ pub copy_of_table-loop-entry-preserved : goal.copy_of_table-loop-entry-preserved
 copy_of_table-loop-entry-preserved t c =
     let copy : Entry = record { name = c.in_ok-try_clone.field-0; value = c.in_ok-copy_of.field-0 } in
     let same : copy ≡ c.entry-item.result = ap₂ (λ n v. record { name = n; value = v }) c.in_ok-try_clone.ensures c.in_ok-copy_of.ensures in
-    c.in_ok-push.ensures.items
+    let pushed : c.push.new.self.items ≡ (c.loop-entry.entries.items ++ copy ∷ []) = c.in_ok-push.ensures.items in
+    pushed
     ∙ one_more c.entries-entry-items.result.now c.loop-entry.entries.items c.loop-entry.entry-index c.entry-item.result copy
     c.loop-entry-test.true c.loop-entry.invariant c.entry-item.is same
 
