@@ -192,7 +192,7 @@ module _ {A B : Type 0} {F : A → Form} {G : B → Form} {read : Reader A} {rea
       let u = second.takes t.middle b.0.0 b.0.1 t.fits b.1 in
       let is : ◌≡◌ {A = (A × B) × List ℕ} ((t.x, b.0.0), b.0.1) (x, rest) = some_is ((t.x, b.0.0), b.0.1) (x, rest) b.2 in
       subst (λ (p : (A × B) × List ℕ). (text : List ℕ) × (bytes ≡ text ++ p.1) × (F p.0.0 ▸ G p.0.1) text) is
-          (t.text ++ u.0, joined bytes t.text t.middle u.0 b.0.1 t.parts u.1, (t.text, u.0, refl {a = t.text ++ u.0}, t.form, u.2))
+      (t.text ++ u.0, joined bytes t.text t.middle u.0 b.0.1 t.parts u.1, (t.text, u.0, refl {a = t.text ++ u.0}, t.form, u.2))
 
   pub both_reader : IsReader (λ x. F x.0 ▸ G x.1) (read ⊗ read')
   both_reader = record { again = both_again; takes = both_takes }

@@ -10,7 +10,7 @@ use Rattle.std.proofs.lemmas.Grind.{fold-append}
 use Rattle.amqp_types.specs.declared.value.AMQPValue.{AMQPValue}
 use Rattle.amqp_types.specs.Value.{FieldValue, Pair}
 use Rattle.amqp_types.specs.View.{value_of, named}
-use Rattle.amqp_types.specs.Table.{name_cmp, IsInOrder, get, put, map_of, last_value}
+use Rattle.amqp_types.specs.Table.{name_cmp, IsInOrder, get, put, map_of}
 use Rattle.amqp_types.specs.Spelling.{max_depth}
 use Rattle.amqp_types.specs.Laws.{LastOfEqualNamesCounts, LastPairCounts, NamesStandOnce, PutSetsOneName}
 use Rattle.amqp_types.proofs.FieldReaders.{table_at_reader}

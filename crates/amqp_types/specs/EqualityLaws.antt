@@ -1,5 +1,5 @@
 -- That the test of equality holds of equal field values alone: the laws that `==` of the types rests on.
-use Rattle.std.specs.Prelude.{◌≡◌, Bool, true, false, ◌&&◌, List, [], ◌∷◌, nat_eq, refl}
+use Rattle.std.specs.Prelude.{◌≡◌, true, ◌&&◌, List, [], ◌∷◌, nat_eq, refl}
 use Rattle.std.specs.Bool.{Decides}
 use Rattle.std.specs.Cmp.{IsEquivalence, decided, booleans_Decides, unsigned_Decides, signed_Decides}
 use Rattle.std.specs.Cmp.Lexicographic.{pointwise, bytes_decides}
