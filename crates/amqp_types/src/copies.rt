@@ -1,4 +1,4 @@
-//! Copies of values, arrays and tables.
+//! Copies of values, arrays and tables, which hold one another.
 
 ghost use Rattle.std.specs.Prelude.{◌≡◌, IfOk};
 
@@ -6,55 +6,61 @@ use crate::memory::NoMemory;
 use crate::value::{AMQPValue, Entry, FieldTable, Values};
 use std::alloc::Global;
 
-// Another value that is equal.
-#[cycle(copy)]
-pub(crate) fn copy_of(alloc: Global, value: &AMQPValue) -> Result<AMQPValue, NoMemory>
-    ensures { IfOk result (λ v. v ≡ value.now) }
-{
-    match value {
-        AMQPValue::Boolean(b) => Ok(AMQPValue::Boolean(*b)),
-        AMQPValue::ShortShortInt(n) => Ok(AMQPValue::ShortShortInt(*n)),
-        AMQPValue::ShortShortUInt(n) => Ok(AMQPValue::ShortShortUInt(*n)),
-        AMQPValue::ShortInt(n) => Ok(AMQPValue::ShortInt(*n)),
-        AMQPValue::ShortUInt(n) => Ok(AMQPValue::ShortUInt(*n)),
-        AMQPValue::LongInt(n) => Ok(AMQPValue::LongInt(*n)),
-        AMQPValue::LongUInt(n) => Ok(AMQPValue::LongUInt(*n)),
-        AMQPValue::LongLongInt(n) => Ok(AMQPValue::LongLongInt(*n)),
-        AMQPValue::Float(octets) => Ok(AMQPValue::Float(*octets)),
-        AMQPValue::Double(octets) => Ok(AMQPValue::Double(*octets)),
-        AMQPValue::DecimalValue(scale, n) => Ok(AMQPValue::DecimalValue(*scale, *n)),
-        AMQPValue::LongString(text) => Ok(AMQPValue::LongString(text.try_clone(alloc)?)),
-        AMQPValue::ByteArray(octets) => Ok(AMQPValue::ByteArray(octets.try_clone(alloc)?)),
-        AMQPValue::FieldArray(values) => Ok(AMQPValue::FieldArray(copy_of_values(alloc, values)?)),
-        AMQPValue::FieldTable(table) => Ok(AMQPValue::FieldTable(copy_of_table(alloc, table)?)),
-        AMQPValue::Timestamp(n) => Ok(AMQPValue::Timestamp(*n)),
-        AMQPValue::Void => Ok(AMQPValue::Void),
+impl AMQPValue {
+    /// Another value that is equal.
+    #[cycle(copy)]
+    pub fn try_clone(&self, alloc: Global) -> Result<AMQPValue, NoMemory>
+        ensures { IfOk result (λ v. v ≡ self.now) }
+    {
+        match self {
+            AMQPValue::Boolean(b) => Ok(AMQPValue::Boolean(*b)),
+            AMQPValue::ShortShortInt(n) => Ok(AMQPValue::ShortShortInt(*n)),
+            AMQPValue::ShortShortUInt(n) => Ok(AMQPValue::ShortShortUInt(*n)),
+            AMQPValue::ShortInt(n) => Ok(AMQPValue::ShortInt(*n)),
+            AMQPValue::ShortUInt(n) => Ok(AMQPValue::ShortUInt(*n)),
+            AMQPValue::LongInt(n) => Ok(AMQPValue::LongInt(*n)),
+            AMQPValue::LongUInt(n) => Ok(AMQPValue::LongUInt(*n)),
+            AMQPValue::LongLongInt(n) => Ok(AMQPValue::LongLongInt(*n)),
+            AMQPValue::Float(octets) => Ok(AMQPValue::Float(*octets)),
+            AMQPValue::Double(octets) => Ok(AMQPValue::Double(*octets)),
+            AMQPValue::DecimalValue(scale, n) => Ok(AMQPValue::DecimalValue(*scale, *n)),
+            AMQPValue::LongString(text) => Ok(AMQPValue::LongString(text.try_clone(alloc)?)),
+            AMQPValue::ByteArray(octets) => Ok(AMQPValue::ByteArray(octets.try_clone(alloc)?)),
+            AMQPValue::FieldArray(values) => Ok(AMQPValue::FieldArray(values.try_clone(alloc)?)),
+            AMQPValue::FieldTable(table) => Ok(AMQPValue::FieldTable(table.try_clone(alloc)?)),
+            AMQPValue::Timestamp(n) => Ok(AMQPValue::Timestamp(*n)),
+            AMQPValue::Void => Ok(AMQPValue::Void),
+        }
     }
 }
 
-// Another array of equal values.
-#[cycle(copy)]
-pub(crate) fn copy_of_values(alloc: Global, values: &Values) -> Result<Values, NoMemory>
-    ensures { IfOk result (λ v. v ≡ values.now) }
-{
-    let mut items = Vec::with_capacity(alloc, values.len())?;
-    for value in values.as_slice() {
-        items.push(copy_of(alloc, value)?)?;
+impl Values {
+    /// Another array of equal values.
+    #[cycle(copy)]
+    pub fn try_clone(&self, alloc: Global) -> Result<Values, NoMemory>
+        ensures { IfOk result (λ v. v ≡ self.now) }
+    {
+        let mut items = Vec::with_capacity(alloc, self.len())?;
+        for value in self.as_slice() {
+            items.push(value.try_clone(alloc)?)?;
+        }
+        Ok(Values::from_vec(items))
     }
-    Ok(Values::from_vec(items))
 }
 
-// Another table of the same names with equal values.
-#[cycle(copy)]
-pub(crate) fn copy_of_table(alloc: Global, table: &FieldTable) -> Result<FieldTable, NoMemory>
-    ensures { IfOk result (λ t. t ≡ table.now) }
-{
-    let mut entries = Vec::with_capacity(alloc, table.len())?;
-    for entry in table.entries() {
-        entries.push(Entry {
-            name: entry.name.try_clone(alloc)?,
-            value: copy_of(alloc, &entry.value)?,
-        })?;
+impl FieldTable {
+    /// Another table of the same names with equal values.
+    #[cycle(copy)]
+    pub fn try_clone(&self, alloc: Global) -> Result<FieldTable, NoMemory>
+        ensures { IfOk result (λ t. t ≡ self.now) }
+    {
+        let mut entries = Vec::with_capacity(alloc, self.len())?;
+        for entry in self.entries() {
+            entries.push(Entry {
+                name: entry.name.try_clone(alloc)?,
+                value: entry.value.try_clone(alloc)?,
+            })?;
+        }
+        Ok(FieldTable::from_ordered(entries))
     }
-    Ok(FieldTable::from_ordered(entries))
 }
