@@ -9,7 +9,7 @@ use Rattle.amqp_types.proofs.FieldReaders.{table_at_reader}
 use Rattle.amqp_frame.specs.declared.method.Method.{Method}
 use Rattle.amqp_frame.specs.declared.method.Method.TheVariants as m
 use Rattle.amqp_frame.specs.Methods.{class_of, number_of, ArgumentsOf}
-use Rattle.amqp_frame.specs.FrameReading.{start_at, start_ok_at, numbers_at, tune_at, tune_ok_at, open_at, reasons_at, close_at, channel_close_at, update_secret_at, connection_at, channel_at}
+use Rattle.amqp_frame.specs.FrameReading.{start_at, start_ok_at, numbers_at, tune_at, tune_ok_at, open_at, reasons_at, close_at, channel_close_at, update_secret_at, connection_arguments_at, channel_arguments_at}
 
 tables : IsReader SpellsTable (table_at max_depth)
 tables = table_at_reader (max_depth - 1)
@@ -34,11 +34,11 @@ secret_args = both_reader long_string_reader short_string_reader
 
 -- the arguments by class and number
 abbrev pub arguments_at : ℕ → ℕ → Reader Method
-arguments_at class number bytes = cond (eqb class 10) (connection_at number bytes) (channel_at number bytes)
+arguments_at class number bytes = cond (eqb class 10) (connection_arguments_at number bytes) (channel_arguments_at number bytes)
 
 -- what is spelled is read
 pub arguments_again : (method : Method) (text rest : List ℕ) → ArgumentsOf method text → arguments_at (class_of method) (number_of method) (text ++ rest) ≡ Some (method, rest)
-unfolding connection_at channel_at start_at start_ok_at tune_at tune_ok_at open_at close_at channel_close_at update_secret_at
+unfolding connection_arguments_at channel_arguments_at start_at start_ok_at tune_at tune_ok_at open_at close_at channel_close_at update_secret_at
 arguments_again (m.Start major minor properties mechanisms locales) text rest f = map_again start_args (λ a. m.Start a.0 a.1.0 a.1.1.0 a.1.1.1.0 a.1.1.1.1) (major, (minor, (properties, (mechanisms, locales)))) text rest f
 arguments_again (m.StartOk properties mechanism response locale) text rest f = map_again start_ok_args (λ a. m.StartOk a.0 a.1.0 a.1.1.0 a.1.1.1) (properties, (mechanism, (response, locale))) text rest f
 arguments_again (m.Secure challenge) text rest f = map_again long_string_reader m.Secure challenge text rest f

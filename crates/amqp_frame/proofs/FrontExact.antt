@@ -111,7 +111,7 @@ version_sound (o ∷ a ∷ []) limit fits = begins (65 ∷ 77 ∷ 81 ∷ 80 ∷ 
 version_sound (o ∷ a ∷ b ∷ []) limit fits = begins (65 ∷ 77 ∷ 81 ∷ 80 ∷ o ∷ a ∷ b ∷ []) (0 ∷ []) o a b 0 (fits 0) (fits 1) (fits 2) (omega arith) (not_nil _ _) (not_nil _ _) refl limit
 version_sound (o ∷ a ∷ b ∷ c ∷ rest) limit fits = inr (65 ∷ 77 ∷ 81 ∷ 80 ∷ o ∷ a ∷ b ∷ c ∷ [], rest, refl, refl, header_form o a b c (fits 0) (fits 1) (fits 2) (fits 3), tt)
 
-IsOctets-tail : (o : ℕ) (bytes : List ℕ) → IsOctets (o ∷ bytes) → IsOctets bytes
+pub IsOctets-tail : (o : ℕ) (bytes : List ℕ) → IsOctets (o ∷ bytes) → IsOctets bytes
 IsOctets-tail o bytes h i = h (suc i)
 
 header_sound : (bytes : List ℕ) (limit : ℕ) → IsOctets bytes → Sound (65 ∷ bytes) limit (header bytes)
@@ -126,7 +126,7 @@ header_sound bytes limit fits =
     (λ rest3 is3. version_sound rest3 limit (IsOctets-tail 80 rest3 (subst IsOctets is3 (IsOctets-tail 81 rest2 (subst IsOctets is2 (IsOctets-tail 77 rest1 (subst IsOctets is1 fits)))))))))
 
 -- ---- behind a type octet
-type_small : (type : ℕ) → IsTypeOctet type → type < 256
+pub type_small : (type : ℕ) → IsTypeOctet type → type < 256
 type_small type (inl e) = omega arith
 type_small type (inr (inl e)) = omega arith
 type_small type (inr (inr (inl e))) = omega arith
@@ -139,13 +139,13 @@ other_type type (inr (inr (inl e))) other = inr (inr e)
 other_type type (inr (inr (inr e))) other = absurd (false≢true (sym other ∙ eq-eqb type 8 e))
 
 -- a type octet, a channel, a size, a payload and an end
-abbrev own : ℕ → List ℕ → List ℕ → List ℕ → List ℕ
+abbrev pub own : ℕ → List ℕ → List ℕ → List ℕ → List ℕ
 own type a b payload = type ∷ (a ++ (b ++ (payload ++ 206 ∷ [])))
 
-own_then : (type : ℕ) (a b payload rest : List ℕ) → type ∷ (a ++ (b ++ (payload ++ 206 ∷ rest))) ≡ own type a b payload ++ rest
+pub own_then : (type : ℕ) (a b payload rest : List ℕ) → type ∷ (a ++ (b ++ (payload ++ 206 ∷ rest))) ≡ own type a b payload ++ rest
 own_then type a b payload rest = sym (simp append_assoc)
 
-own_framed : (type channel : ℕ) (a b payload : List ℕ) → type < 256 → NumberOf w16 channel a → NumberOf w32 (length payload) b → Framed type channel payload (own type a b payload)
+pub own_framed : (type channel : ℕ) (a b payload : List ℕ) → type < 256 → NumberOf w16 channel a → NumberOf w32 (length payload) b → Framed type channel payload (own type a b payload)
 own_framed type channel a b payload small chan num =
     (type ∷ [], a ++ (b ++ (payload ++ 206 ∷ [])), refl, (small, refl), (a, b ++ (payload ++ 206 ∷ []), refl, chan, (b ++ payload, 206 ∷ [], sym (append_assoc b payload (206 ∷ [])), (b, payload, refl, num, (refl, refl)), (omega arith, refl))))
 
@@ -256,7 +256,7 @@ framed_sound type limit rest types fits = by ((number_at w16 ⊗ number_at w32) 
         subst (λ (r : List ℕ). Sound (type ∷ r) limit (sized type limit p.0.0 p.0.1 p.1)) (sym text_is)
         (sized_sound type limit p.0.0 p.0.1 t.2.0 t.2.1 p.1 types t.2.3 t.2.4 (IsOctets-rest rest t.0 p.1 t.1 fits))
 
-types_of : (n : ℕ) → is_type_octet n ≡ true → IsTypeOctet n
+pub types_of : (n : ℕ) → is_type_octet n ≡ true → IsTypeOctet n
 types_of n e = by1 (eqb n 1) refl e
   where
     by8 : (t : Bool) → eqb n 8 ≡ t → t ≡ true → IsTypeOctet n

@@ -11,7 +11,7 @@ use Rattle.amqp_frame.specs.declared.frame.Frame.{Frame}
 use Rattle.amqp_frame.specs.declared.frame.Read.{Read}
 use Rattle.amqp_frame.specs.declared.frame.Read.TheVariants.{Whole, More, TooLarge, BadHeartbeat, Bad, NoMemory}
 use Rattle.amqp_frame.specs.Fronts.{IsTypeOctet, Names, IsWithin, IsWhole, IsBadHeartbeat, IsTooLarge, BeginsHeader, IsShort, IsUnfinished, IsMore, IsBad, IsFront}
-use Rattle.amqp_frame.specs.FrameReading.{ended, sized, framed, expect, version, header, front, Answers}
+use Rattle.amqp_frame.specs.FrameReading.{ended, sized, framed, expect, version, header, front, Yields}
 use Rattle.amqp_frame.proofs.FrontLaws.{front_again, framed_again, framed_is, not_eqb}
 use Rattle.amqp_frame.proofs.FrontExact.{then_octet, with_number, then_number, front_sound}
 
@@ -202,7 +202,7 @@ front_only bytes limit Bad fits h = bad_only bytes limit (front bytes limit) h (
 front_only bytes limit NoMemory fits h = absurd h
 
 -- the answer that was given holds
-pub answer_holds : (bytes : List ℕ) (limit : ℕ) (r answer : Read) → IsFront bytes limit answer → Answers r answer → r ≢ NoMemory → IsFront bytes limit r
+pub answer_holds : (bytes : List ℕ) (limit : ℕ) (r answer : Read) → IsFront bytes limit answer → Yields r answer → r ≢ NoMemory → IsFront bytes limit r
 answer_holds bytes limit (Whole frame n) answer h given real = subst (IsFront bytes limit) given h
 answer_holds bytes limit More answer h given real = subst (IsFront bytes limit) given h
 answer_holds bytes limit (TooLarge size) answer h given real = subst (IsFront bytes limit) given h

@@ -14,7 +14,7 @@ use Rattle.amqp_frame.specs.declared.frame.Frame.TheVariants as f
 use Rattle.amqp_frame.specs.declared.frame.RawKind.TheVariants.{RawMethod, Header, Body}
 use Rattle.amqp_frame.specs.Methods.{class_of, number_of, ArgumentsOf, MethodOf}
 use Rattle.amqp_frame.specs.Frames.{Framed, FrameOf}
-use Rattle.amqp_frame.specs.FrameReading.{start_at, start_ok_at, tune_at, tune_ok_at, open_at, close_at, channel_close_at, update_secret_at, done_at, connection_at, channel_at, exactly, method_content, method_payload, content}
+use Rattle.amqp_frame.specs.FrameReading.{start_at, start_ok_at, tune_at, tune_ok_at, open_at, close_at, channel_close_at, update_secret_at, done_at, connection_arguments_at, channel_arguments_at, exactly, method_content, method_payload, content}
 use Rattle.amqp_frame.proofs.FrameReaders.{start_args, start_ok_args, numbers, open_args, reasons, secret_args}
 
 -- the method that was taken, with its class and its number
@@ -39,8 +39,8 @@ module _ (class id : ℕ) (bytes : List ℕ) (mm : Method) (rest : List ℕ) (fi
       let same : ◌≡◌ {A = Method × List ℕ} (method, bytes) (mm, rest) = some_is (method, bytes) (mm, rest) e in
       subst (λ (p : Method × List ℕ). TakesMethod class id bytes p.0 p.1) same (class_is, number_is ∙ sym is, [], refl, spelled)
 
-pub connection_takes : (id : ℕ) (bytes : List ℕ) (mm : Method) (rest : List ℕ) → IsOctets bytes → connection_at id bytes ≡ Some (mm, rest) → TakesMethod 10 id bytes mm rest
-unfolding connection_at start_at start_ok_at tune_at tune_ok_at open_at close_at update_secret_at
+pub connection_takes : (id : ℕ) (bytes : List ℕ) (mm : Method) (rest : List ℕ) → IsOctets bytes → connection_arguments_at id bytes ≡ Some (mm, rest) → TakesMethod 10 id bytes mm rest
+unfolding connection_arguments_at start_at start_ok_at tune_at tune_ok_at open_at close_at update_secret_at
 connection_takes id bytes mm rest fits e =
     pick id 10 _ _ _ e (by_map 10 id bytes mm rest fits start_args (λ a. m.Start a.0 a.1.0 a.1.1.0 a.1.1.1.0 a.1.1.1.1) 10 (λ a. refl) (λ a. refl) (λ a text p. p)) (λ e.
     pick id 11 _ _ _ e (by_map 10 id bytes mm rest fits start_ok_args (λ a. m.StartOk a.0 a.1.0 a.1.1.0 a.1.1.1) 11 (λ a. refl) (λ a. refl) (λ a text p. p)) (λ e.
@@ -57,8 +57,8 @@ connection_takes id bytes mm rest fits e =
     pick id 70 _ _ _ e (by_map 10 id bytes mm rest fits secret_args (λ a. m.UpdateSecret a.0 a.1) 70 (λ a. refl) (λ a. refl) (λ a text p. p)) (λ e.
     pick id 71 _ _ _ e (by_none 10 id bytes mm rest fits m.UpdateSecretOk 71 refl refl refl) (λ e. absurd (cc)))))))))))))))
 
-pub channel_takes : (id : ℕ) (bytes : List ℕ) (mm : Method) (rest : List ℕ) → IsOctets bytes → channel_at id bytes ≡ Some (mm, rest) → TakesMethod 20 id bytes mm rest
-unfolding channel_at channel_close_at
+pub channel_takes : (id : ℕ) (bytes : List ℕ) (mm : Method) (rest : List ℕ) → IsOctets bytes → channel_arguments_at id bytes ≡ Some (mm, rest) → TakesMethod 20 id bytes mm rest
+unfolding channel_arguments_at channel_close_at
 channel_takes id bytes mm rest fits e =
     pick id 10 _ _ _ e (by_map 20 id bytes mm rest fits short_string_reader (λ a. m.ChannelOpen) 10 (λ a. refl) (λ a. refl) (λ a text p. (a, p))) (λ e.
     pick id 11 _ _ _ e (by_map 20 id bytes mm rest fits long_string_reader (λ a. m.ChannelOpenOk) 11 (λ a. refl) (λ a. refl) (λ a text p. (a, p))) (λ e.
@@ -116,17 +116,17 @@ payload_makes channel payload frame fits e =
         spells : (mm : Method) → class_of mm ≡ class → number_of mm ≡ id → ArgumentsOf mm last → MethodOf mm payload
         spells mm c n a = (first, middle, p1, subst (λ (k : ℕ). NumberOf w16 k first) (sym c) n1, (second, last, p2, subst (λ (k : ℕ). NumberOf w16 k second) (sym n) n2, a))
 
-        by20 : (t : Bool) → eqb class 10 ≡ false → eqb class 20 ≡ t → cond t (exactly (read_map (f.Method channel) (channel_at id)) last) (Some (f.Raw channel RawMethod payload)) ≡ Some frame → Makes 1 channel payload frame
+        by20 : (t : Bool) → eqb class 10 ≡ false → eqb class 20 ≡ t → cond t (exactly (read_map (f.Method channel) (channel_arguments_at id)) last) (Some (f.Raw channel RawMethod payload)) ≡ Some frame → Makes 1 channel payload frame
         by20 true not10 is e =
-            let x = exact_takes channel 20 id (channel_at id) last frame (λ mm rest h. channel_takes id last mm rest fits2 h) e in
+            let x = exact_takes channel 20 id (channel_arguments_at id) last frame (λ mm rest h. channel_takes id last mm rest fits2 h) e in
             method_makes channel payload frame x.0 x.1 (spells x.0 (x.2 ∙ sym (eqb-true class 20 is)) x.3 x.4)
         by20 false not10 is e = λ text framed.
             subst (λ (z : Frame). FrameOf z text) (some_is (f.Raw channel RawMethod payload) frame e)
             ((class, id, differs class 10 not10, differs class 20 is, (first, middle, p1, n1, (second, last, p2, n2, tt))), framed)
 
-        by10 : (t : Bool) → eqb class 10 ≡ t → cond t (exactly (read_map (f.Method channel) (connection_at id)) last) (cond (eqb class 20) (exactly (read_map (f.Method channel) (channel_at id)) last) (Some (f.Raw channel RawMethod payload))) ≡ Some frame → Makes 1 channel payload frame
+        by10 : (t : Bool) → eqb class 10 ≡ t → cond t (exactly (read_map (f.Method channel) (connection_arguments_at id)) last) (cond (eqb class 20) (exactly (read_map (f.Method channel) (channel_arguments_at id)) last) (Some (f.Raw channel RawMethod payload))) ≡ Some frame → Makes 1 channel payload frame
         by10 true is e =
-            let x = exact_takes channel 10 id (connection_at id) last frame (λ mm rest h. connection_takes id last mm rest fits2 h) e in
+            let x = exact_takes channel 10 id (connection_arguments_at id) last frame (λ mm rest h. connection_takes id last mm rest fits2 h) e in
             method_makes channel payload frame x.0 x.1 (spells x.0 (x.2 ∙ sym (eqb-true class 10 is)) x.3 x.4)
         by10 false is e = by20 (eqb class 20) is refl e
 

@@ -10,15 +10,12 @@ ghost use Rattle.amqp_frame.specs.Lengths.{capped};
 ghost use Rattle.amqp_frame.specs.Methods.{spell_arguments, class_of, number_of, spell_method, spell_close, spell_tune};
 ghost use Rattle.amqp_frame.specs.Frames.{encoding, spell_header, spell_framed, type_of};
 
-use crate::frame::{Frame, RawKind};
+use crate::frame::{FRAME_END, Frame, RawKind};
 use crate::method::Method;
 use crate::room::Room;
 use crate::write::methods::{arguments_len, put_arguments};
 use crate::write::values::{put_number16, put_octet};
 use amqp_types::ChannelId;
-
-/// The octet that ends a frame.
-const FRAME_END: u8 = 0xce;
 
 /// There was too little space.
 #[derive(Clone, Copy, Debug, PartialEq, Eq)]
@@ -48,15 +45,15 @@ fn type_octet(kind: RawKind) -> u8
 }
 
 // The type, the channel and the size of a frame.
-fn put_header<R: Room>(kind: u8, channel: ChannelId, size: u32, room: &mut R)
+fn put_header<R: Room>(frame_type: u8, channel: ChannelId, size: u32, room: &mut R)
     requires { 7 ≤ R.free room.old }
-    ensures bytes { R.put_so_far room.new ≡ R.put_so_far room.old ++ spell_header kind channel size }
+    ensures bytes { R.put_so_far room.new ≡ R.put_so_far room.old ++ spell_header frame_type channel size }
     ensures space { R.free room.new + 7 ≡ R.free room.old }
 {
     let [channel_high, channel_low] = channel.to_be_bytes();
     let [first, second, third, fourth] = size.to_be_bytes();
     room.put(&[
-        kind,
+        frame_type,
         channel_high,
         channel_low,
         first,

@@ -2,7 +2,7 @@
 
 ghost use Rattle.std.specs.Prelude.{◌≡◌};
 ghost use Rattle.amqp_frame.specs.Reads.{Reads};
-ghost use Rattle.amqp_frame.specs.FrameReading.{connection_at, channel_at, start_at, start_ok_at, tune_at, tune_ok_at, open_at, close_at, channel_close_at, update_secret_at};
+ghost use Rattle.amqp_frame.specs.FrameReading.{connection_arguments_at, channel_arguments_at, start_at, start_ok_at, tune_at, tune_ok_at, open_at, close_at, channel_close_at, update_secret_at};
 
 use crate::method::Method;
 use crate::read::cursor::{Cursor, Fault};
@@ -99,13 +99,13 @@ fn update_secret<V: View>(alloc: Global, cursor: &mut Cursor<'_, V>) -> Result<M
 }
 
 /// The arguments of a method of the connection class.
-#[tactic(auto, unfolding(crate::specs::FrameReading::connection_at))]
-pub fn connection<V: View>(
+#[tactic(auto, unfolding(crate::specs::FrameReading::connection_arguments_at))]
+pub fn connection_method<V: View>(
     alloc: Global,
     number: u16,
     cursor: &mut Cursor<'_, V>,
 ) -> Result<Method, Fault>
-    ensures { Reads (λ m. m) result cursor.new (connection_at number cursor.old) }
+    ensures { Reads (λ m. m) result cursor.new (connection_arguments_at number cursor.old) }
 {
     match number {
         10 => start(alloc, cursor),
@@ -130,13 +130,13 @@ pub fn connection<V: View>(
 }
 
 /// The arguments of a method of the channel class.
-#[tactic(auto, unfolding(crate::specs::FrameReading::channel_at))]
-pub fn channel<V: View>(
+#[tactic(auto, unfolding(crate::specs::FrameReading::channel_arguments_at))]
+pub fn channel_method<V: View>(
     alloc: Global,
     number: u16,
     cursor: &mut Cursor<'_, V>,
 ) -> Result<Method, Fault>
-    ensures { Reads (λ m. m) result cursor.new (channel_at number cursor.old) }
+    ensures { Reads (λ m. m) result cursor.new (channel_arguments_at number cursor.old) }
 {
     match number {
         10 => {
