@@ -78,6 +78,7 @@ impl RawMethod {
         ensures payload { result.now ≡ spell_raw_method self.now }
         ensures passed_through { IsOtherMethod result.now }
     {
+        // Read for their ranges alone, by which the clauses are shown.
         let (_class, _method) = (self.class, self.method);
         &self.payload
     }

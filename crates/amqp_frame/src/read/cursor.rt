@@ -132,7 +132,7 @@ impl<'a, V: View> Cursor<'a, V> {
     }
 
     /// The octets that are left.
-    pub fn to_vec(&self, alloc: Global) -> Result<Vec<u8>, AllocError>
+    pub fn to_vec(&self, alloc: Global) -> Result<Vec<u8>, NoMemory>
         ensures { IfOk result (λ v. v.items ≡ self.now) }
     {
         self.view.copy_range(alloc, self.at, self.end)
