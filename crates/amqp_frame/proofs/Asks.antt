@@ -70,7 +70,10 @@ module _ (type limit channel size : ℕ) (a b rest : List ℕ) (types : IsTypeOc
     where
       by :
           (t : Bool) → ltb limit (size + 8) ≡ t →
-          cond t false (option_map_or (λ p. cond (eqb p.0.1 206) (ended_asks type p.0.0) false) ((octets_at size ⊗ octet_at) rest) false) ≡ true →
+          cond t false
+          (option_map_or (λ p. cond (eqb p.0.1 206) (ended_asks type p.0.0) false) ((octets_at size ⊗ octet_at) rest)
+           false)
+          ≡ true →
           Asked
       by true is e = absurd (false≢true e)
       by false is e = by_body ((octets_at size ⊗ octet_at) rest) refl (ltb-false _ _ is) e

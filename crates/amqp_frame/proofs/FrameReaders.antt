@@ -14,28 +14,32 @@ use Rattle.amqp_frame.specs.FrameReading.{start_at, start_ok_at, numbers_at, tun
 tables : IsReader SpellsTable (table_at max_depth)
 tables = table_at_reader (max_depth - 1)
 
-pub start_args : IsReader
-(λ a. OctetOf a.0 ▸ OctetOf a.1.0 ▸ SpellsTable a.1.1.0 ▸ LongStringOf a.1.1.1.0 ▸ LongStringOf a.1.1.1.1)
-(octet_at ⊗ octet_at ⊗ table_at max_depth ⊗ long_string_at ⊗ long_string_at)
+pub start_args :
+    IsReader
+    (λ a. OctetOf a.0 ▸ OctetOf a.1.0 ▸ SpellsTable a.1.1.0 ▸ LongStringOf a.1.1.1.0 ▸ LongStringOf a.1.1.1.1)
+    (octet_at ⊗ octet_at ⊗ table_at max_depth ⊗ long_string_at ⊗ long_string_at)
 start_args =
     both_reader octet_reader
     (both_reader octet_reader (both_reader tables (both_reader long_string_reader long_string_reader)))
 
-pub start_ok_args : IsReader
-(λ a. SpellsTable a.0 ▸ ShortStringOf a.1.0 ▸ LongStringOf a.1.1.0 ▸ ShortStringOf a.1.1.1)
-(table_at max_depth ⊗ short_string_at ⊗ long_string_at ⊗ short_string_at)
+pub start_ok_args :
+    IsReader
+    (λ a. SpellsTable a.0 ▸ ShortStringOf a.1.0 ▸ LongStringOf a.1.1.0 ▸ ShortStringOf a.1.1.1)
+    (table_at max_depth ⊗ short_string_at ⊗ long_string_at ⊗ short_string_at)
 start_ok_args =
     both_reader tables (both_reader short_string_reader (both_reader long_string_reader short_string_reader))
 
 pub numbers : IsReader (λ a. NumberOf w16 a.0 ▸ NumberOf w32 a.1.0 ▸ NumberOf w16 a.1.1) numbers_at
 numbers = both_reader number16_reader (both_reader number32_reader number16_reader)
 
-pub open_args : IsReader (λ a. ShortStringOf a.0 ▸ ShortStringOf a.1.0 ▸ OctetOf a.1.1)
-(short_string_at ⊗ short_string_at ⊗ octet_at)
+pub open_args :
+    IsReader (λ a. ShortStringOf a.0 ▸ ShortStringOf a.1.0 ▸ OctetOf a.1.1)
+    (short_string_at ⊗ short_string_at ⊗ octet_at)
 open_args = both_reader short_string_reader (both_reader short_string_reader octet_reader)
 
-pub reasons : IsReader (λ a. NumberOf w16 a.0 ▸ ShortStringOf a.1.0 ▸ NumberOf w16 a.1.1.0 ▸ NumberOf w16 a.1.1.1)
-reasons_at
+pub reasons :
+    IsReader (λ a. NumberOf w16 a.0 ▸ ShortStringOf a.1.0 ▸ NumberOf w16 a.1.1.0 ▸ NumberOf w16 a.1.1.1)
+    reasons_at
 reasons = both_reader number16_reader (both_reader short_string_reader (both_reader number16_reader number16_reader))
 
 pub secret_args : IsReader (λ a. LongStringOf a.0 ▸ ShortStringOf a.1) (long_string_at ⊗ short_string_at)
@@ -50,8 +54,7 @@ arguments_at class number bytes =
 pub arguments_again :
     (method : Method) (text rest : List ℕ) → ArgumentsOf method text →
     arguments_at (class_of method) (number_of method) (text ++ rest) ≡ Some (method, rest)
-unfolding connection_arguments_at channel_arguments_at start_at start_ok_at tune_at tune_ok_at open_at close_at
-channel_close_at update_secret_at
+unfolding connection_arguments_at channel_arguments_at start_at start_ok_at tune_at tune_ok_at open_at close_at channel_close_at update_secret_at
 arguments_again (m.Start major minor properties mechanisms locales) text rest f =
     map_again start_args (λ a. m.Start a.0 a.1.0 a.1.1.0 a.1.1.1.0 a.1.1.1.1)
     (major, (minor, (properties, (mechanisms, locales)))) text rest f

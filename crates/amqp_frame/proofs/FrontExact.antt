@@ -90,7 +90,8 @@ numbers_none bytes e = by (ltb (length bytes) 2) refl e
       where
         go :
             (t : Bool) → ltb (length (drop 2 bytes)) 4 ≡ t →
-            with_number (from_be_bytes w16 (take 2 bytes)) (cond t None (Some (from_be_bytes w32 (take 4 (drop 2 bytes)), drop 4 (drop 2 bytes)))) ≡ None →
+            with_number (from_be_bytes w16 (take 2 bytes))
+            (cond t None (Some (from_be_bytes w32 (take 4 (drop 2 bytes)), drop 4 (drop 2 bytes)))) ≡ None →
             length bytes < 6
         go true short e = omega (arith, ltb-true _ _ short, length-drop 2 bytes)
         go false long e = absurd cc
@@ -101,7 +102,8 @@ header_form :
     FrameOf (f.ProtocolHeader (record { major = a; minor = b; revision = c })) (65 ∷ 77 ∷ 81 ∷ 80 ∷ o ∷ a ∷ b ∷ c ∷ [])
 header_form o a b c lo la lb lc =
     (65 ∷ 77 ∷ 81 ∷ 80 ∷ [], o ∷ a ∷ b ∷ c ∷ [], refl, refl,
-     (o ∷ [], a ∷ b ∷ c ∷ [], refl, (o, (lo, refl)), (a ∷ [], b ∷ c ∷ [], refl, (la, refl), (b ∷ [], c ∷ [], refl, (lb, refl), (lc, refl)))))
+     (o ∷ [], a ∷ b ∷ c ∷ [], refl, (o, (lo, refl)),
+      (a ∷ [], b ∷ c ∷ [], refl, (la, refl), (b ∷ [], c ∷ [], refl, (lb, refl), (lc, refl)))))
 
 -- an octet of the signature
 expect_sound :
@@ -124,7 +126,10 @@ begins :
     bytes ++ more ≡ 65 ∷ 77 ∷ 81 ∷ 80 ∷ o ∷ a ∷ b ∷ c ∷ [] → (limit : ℕ) → Sound bytes limit More
 begins bytes more o a b c lo la lb lc some left is limit =
     inr
-    (inr (inl (more, record { major = a; minor = b; revision = c }, some, left, subst (FrameOf (f.ProtocolHeader (record { major = a; minor = b; revision = c }))) (sym is) (header_form o a b c lo la lb lc))))
+    (inr
+     (inl
+      (more, record { major = a; minor = b; revision = c }, some, left,
+       subst (FrameOf (f.ProtocolHeader (record { major = a; minor = b; revision = c }))) (sym is) (header_form o a b c lo la lb lc))))
 
 not_nil : (x : ℕ) (xs : List ℕ) → (x ∷ xs) ≢ []
 not_nil x xs e = absurd cc
@@ -145,7 +150,8 @@ version_sound (o ∷ a ∷ b ∷ []) limit fits =
     (not_nil _ _) (not_nil _ _) refl limit
 version_sound (o ∷ a ∷ b ∷ c ∷ rest) limit fits =
     inr
-    (65 ∷ 77 ∷ 81 ∷ 80 ∷ o ∷ a ∷ b ∷ c ∷ [], rest, refl, refl, header_form o a b c (fits 0) (fits 1) (fits 2) (fits 3), tt)
+    (65 ∷ 77 ∷ 81 ∷ 80 ∷ o ∷ a ∷ b ∷ c ∷ [], rest, refl, refl,
+     header_form o a b c (fits 0) (fits 1) (fits 2) (fits 3), tt)
 
 pub IsOctets-tail : (o : ℕ) (bytes : List ℕ) → IsOctets (o ∷ bytes) → IsOctets bytes
 IsOctets-tail o bytes h i = h (suc i)
@@ -154,12 +160,19 @@ header_sound : (bytes : List ℕ) (limit : ℕ) → IsOctets bytes → Sound (65
 unfolding header
 header_sound bytes limit fits =
     expect_sound 77 (expect 81 (expect 80 version)) (65 ∷ []) bytes limit
-    (begins (65 ∷ []) (77 ∷ 81 ∷ 80 ∷ 0 ∷ 0 ∷ 0 ∷ 0 ∷ []) 0 0 0 0 (omega arith) (omega arith) (omega arith) (omega arith) (not_nil _ _) (not_nil _ _) refl limit)
+    (begins (65 ∷ []) (77 ∷ 81 ∷ 80 ∷ 0 ∷ 0 ∷ 0 ∷ 0 ∷ []) 0 0 0 0 (omega arith) (omega arith) (omega arith)
+     (omega arith) (not_nil _ _) (not_nil _ _) refl limit)
     (λ rest1 is1. expect_sound 81 (expect 80 version) (65 ∷ 77 ∷ []) rest1 limit
-    (begins (65 ∷ 77 ∷ []) (81 ∷ 80 ∷ 0 ∷ 0 ∷ 0 ∷ 0 ∷ []) 0 0 0 0 (omega arith) (omega arith) (omega arith) (omega arith) (not_nil _ _) (not_nil _ _) refl limit)
+    (begins (65 ∷ 77 ∷ []) (81 ∷ 80 ∷ 0 ∷ 0 ∷ 0 ∷ 0 ∷ []) 0 0 0 0 (omega arith) (omega arith) (omega arith)
+     (omega arith) (not_nil _ _) (not_nil _ _) refl limit)
     (λ rest2 is2. expect_sound 80 version (65 ∷ 77 ∷ 81 ∷ []) rest2 limit
-    (begins (65 ∷ 77 ∷ 81 ∷ []) (80 ∷ 0 ∷ 0 ∷ 0 ∷ 0 ∷ []) 0 0 0 0 (omega arith) (omega arith) (omega arith) (omega arith) (not_nil _ _) (not_nil _ _) refl limit)
-    (λ rest3 is3. version_sound rest3 limit (IsOctets-tail 80 rest3 (subst IsOctets is3 (IsOctets-tail 81 rest2 (subst IsOctets is2 (IsOctets-tail 77 rest1 (subst IsOctets is1 fits)))))))))
+    (begins (65 ∷ 77 ∷ 81 ∷ []) (80 ∷ 0 ∷ 0 ∷ 0 ∷ 0 ∷ []) 0 0 0 0 (omega arith) (omega arith) (omega arith)
+     (omega arith) (not_nil _ _) (not_nil _ _) refl limit)
+    (λ rest3 is3.
+     version_sound rest3 limit
+     (IsOctets-tail 80 rest3
+      (subst IsOctets is3
+       (IsOctets-tail 81 rest2 (subst IsOctets is2 (IsOctets-tail 77 rest1 (subst IsOctets is1 fits)))))))))
 
 -- ---- behind a type octet
 pub type_small : (type : ℕ) → IsTypeOctet type → type < 256
@@ -188,7 +201,9 @@ pub own_framed :
     NumberOf w32 (length payload) b → Framed type channel payload (own type a b payload)
 own_framed type channel a b payload small chan num =
     (type ∷ [], a ++ (b ++ (payload ++ 206 ∷ [])), refl, (small, refl),
-     (a, b ++ (payload ++ 206 ∷ []), refl, chan, (b ++ payload, 206 ∷ [], sym (append_assoc b payload (206 ∷ [])), (b, payload, refl, num, (refl, refl)), (omega arith, refl))))
+     (a, b ++ (payload ++ 206 ∷ []), refl, chan,
+      (b ++ payload, 206 ∷ [], sym (append_assoc b payload (206 ∷ [])), (b, payload, refl, num, (refl, refl)),
+       (omega arith, refl))))
 
 length-own :
     (type channel size : ℕ) (a b payload : List ℕ) → NumberOf w16 channel a → NumberOf w32 size b →
@@ -197,7 +212,8 @@ length-own type channel size a b payload chan num len =
     let two : length a ≡ 2 = ap length chan.1 in
     let four : length b ≡ 4 = ap length num.1 in
     omega
-    (arith, length-append a (b ++ (payload ++ 206 ∷ [])), length-append b (payload ++ 206 ∷ []), length-append payload (206 ∷ []))
+    (arith, length-append a (b ++ (payload ++ 206 ∷ [])), length-append b (payload ++ 206 ∷ []),
+     length-append payload (206 ∷ []))
 
 heartbeat_form :
     (channel : ℕ) (a b rest : List ℕ) → NumberOf w16 channel a → NumberOf w32 0 b →
@@ -223,19 +239,24 @@ module _ (type limit channel size : ℕ) (a b payload rest : List ℕ) (types : 
           Sound (type ∷ (a ++ (b ++ (payload ++ 206 ∷ rest)))) limit (Whole frame (size + 8))
       whole frame spelled =
           inr
-          (own type a b payload, rest, own_then type a b payload rest, length-own type channel size a b payload chan num len, spelled, within_all frame (size + 8) limit within)
+          (own type a b payload, rest, own_then type a b payload rest,
+           length-own type channel size a b payload chan num len, spelled, within_all frame (size + 8) limit within)
 
       held :
           (o : Option Frame) → content type channel payload ≡ o → eqb type 8 ≡ false →
-          Sound (type ∷ (a ++ (b ++ (payload ++ 206 ∷ rest)))) limit (option_map_or (λ frame. Whole frame (size + 8)) o Bad)
+          Sound (type ∷ (a ++ (b ++ (payload ++ 206 ∷ rest)))) limit
+          (option_map_or (λ frame. Whole frame (size + 8)) o Bad)
       held None is other = inl refl
       held (Some frame) is other =
           whole frame
-          (content_makes type channel payload frame (other_type type types other) fits is (own type a b payload) (own_framed type channel a b payload (type_small type types) chan (subst (λ (k : ℕ). NumberOf w32 k b) (sym len) num)))
+          (content_makes type channel payload frame (other_type type types other) fits is (own type a b payload)
+           (own_framed type channel a b payload (type_small type types) chan
+            (subst (λ (k : ℕ). NumberOf w32 k b) (sym len) num)))
 
       by_channel :
           (t : Bool) → eqb channel 0 ≡ t → eqb type 8 ≡ true →
-          Sound (type ∷ (a ++ (b ++ (payload ++ 206 ∷ rest)))) limit (cond t (Whole f.Heartbeat 8) (BadHeartbeat channel))
+          Sound (type ∷ (a ++ (b ++ (payload ++ 206 ∷ rest)))) limit
+          (cond t (Whole f.Heartbeat 8) (BadHeartbeat channel))
       by_channel true is eight =
           let zero_size : size ≡ 0 = no_size type size eight empty in
           let type_is : type ≡ 8 = eqb-true type 8 eight in
@@ -256,11 +277,14 @@ module _ (type limit channel size : ℕ) (a b payload rest : List ℕ) (types : 
           rw (type_is, payload_is) refl in
           let form = heartbeat_form channel a b rest chan (subst (λ (k : ℕ). NumberOf w32 k b) zero_size num) in
           inr
-          (subst (OctetOf 8 ▸ NumberOf w16 channel ▸ NumberOf w32 0 ▸ OctetOf 206 ▸ Anything) (sym text_is) form, (λ same. false≢true (sym is ∙ eq-eqb channel 0 same)), omega arith)
+          (subst (OctetOf 8 ▸ NumberOf w16 channel ▸ NumberOf w32 0 ▸ OctetOf 206 ▸ Anything) (sym text_is) form,
+           (λ same. false≢true (sym is ∙ eq-eqb channel 0 same)), omega arith)
 
       by8 :
           (t : Bool) → eqb type 8 ≡ t →
-          Sound (type ∷ (a ++ (b ++ (payload ++ 206 ∷ rest)))) limit (cond t (cond (eqb channel 0) (Whole f.Heartbeat 8) (BadHeartbeat channel)) (option_map_or (λ frame. Whole frame (size + 8)) (content type channel payload) Bad))
+          Sound (type ∷ (a ++ (b ++ (payload ++ 206 ∷ rest)))) limit
+          (cond t (cond (eqb channel 0) (Whole f.Heartbeat 8) (BadHeartbeat channel))
+           (option_map_or (λ frame. Whole frame (size + 8)) (content type channel payload) Bad))
       by8 true is = by_channel (eqb channel 0) refl is
       by8 false is = held (content type channel payload) refl is
 
@@ -299,7 +323,8 @@ sized_sound type limit channel size a b rest types chan num fits = by_limit (ltb
     by_body :
         (o : Option ((List ℕ × ℕ) × List ℕ)) → (octets_at size ⊗ octet_at) rest ≡ o → size + 8 ≤ limit →
         (eqb type 8 && not (eqb size 0)) ≡ false →
-        Sound (type ∷ (a ++ (b ++ rest))) limit (option_map_or (λ p. cond (eqb p.0.1 206) (ended type channel size p.0.0) Bad) o More)
+        Sound (type ∷ (a ++ (b ++ rest))) limit
+        (option_map_or (λ p. cond (eqb p.0.1 206) (ended type channel size p.0.0) Bad) o More)
     by_body None is within empty =
         let two : length a ≡ 2 = ap length chan.1 in
         let four : length b ≡ 4 = ap length num.1 in
@@ -318,13 +343,19 @@ sized_sound type limit channel size a b rest types chan num fits = by_limit (ltb
 
     by_empty :
         (t : Bool) → (eqb type 8 && not (eqb size 0)) ≡ t → size + 8 ≤ limit →
-        Sound (type ∷ (a ++ (b ++ rest))) limit (cond t Bad (option_map_or (λ p. cond (eqb p.0.1 206) (ended type channel size p.0.0) Bad) ((octets_at size ⊗ octet_at) rest) More))
+        Sound (type ∷ (a ++ (b ++ rest))) limit
+        (cond t Bad
+         (option_map_or (λ p. cond (eqb p.0.1 206) (ended type channel size p.0.0) Bad)
+          ((octets_at size ⊗ octet_at) rest) More))
     by_empty true is within = inl refl
     by_empty false is within = by_body ((octets_at size ⊗ octet_at) rest) refl within is
 
     by_limit :
         (t : Bool) → ltb limit (size + 8) ≡ t →
-        Sound (type ∷ (a ++ (b ++ rest))) limit (cond t (TooLarge size) (cond (eqb type 8 && not (eqb size 0)) Bad (option_map_or (λ p. cond (eqb p.0.1 206) (ended type channel size p.0.0) Bad) ((octets_at size ⊗ octet_at) rest) More)))
+        Sound (type ∷ (a ++ (b ++ rest))) limit
+        (cond t (TooLarge size)
+         (cond (eqb type 8 && not (eqb size 0)) Bad
+          (option_map_or (λ p. cond (eqb p.0.1 206) (ended type channel size p.0.0) Bad) ((octets_at size ⊗ octet_at) rest) More)))
     by_limit true is = inr (type, types, names, ltb-true _ _ is)
     by_limit false is = by_empty (eqb type 8 && not (eqb size 0)) refl (ltb-false _ _ is)
 

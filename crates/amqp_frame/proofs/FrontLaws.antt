@@ -70,7 +70,8 @@ length_framed channel payload text f =
     let c : length f.4.3.1 ≡ length payload = ap length f.4.3.4.1 in
     let d : length f.4.1 ≡ 1 = ap length f.4.4.1 in
     omega
-    (arith, ap length f.2, ap length f.4.2, ap length f.4.3.2, length-append f.0 f.1, length-append f.4.0 f.4.1, length-append f.4.3.0 f.4.3.1)
+    (arith, ap length f.2, ap length f.4.2, ap length f.4.3.2, length-append f.0 f.1, length-append f.4.0 f.4.1,
+     length-append f.4.3.0 f.4.3.1)
 
 -- a whole frame of a type other than a heartbeat
 whole_again :
@@ -109,13 +110,15 @@ class_cases m.ChannelCloseOk = inr refl
 
 exactly_again :
     (method : Method) (channel : ℕ) (text : List ℕ) → ArgumentsOf method text →
-    exactly (read_map (f.Method channel) (arguments_at (class_of method) (number_of method))) text ≡ Some (f.Method channel method)
+    exactly (read_map (f.Method channel) (arguments_at (class_of method) (number_of method))) text ≡ Some
+    (f.Method channel method)
 exactly_again method channel text a =
     let read : arguments_at (class_of method) (number_of method) text ≡ Some (method, []) =
     ap (arguments_at (class_of method) (number_of method)) (sym (append-nil text))
     ∙ arguments_again method text [] a in
     ap
-    (λ (o : Option (Method × List ℕ)). option_map {U = Frame × List ℕ} (λ (x : Method × List ℕ). (f.Method channel x.0, x.1)) o >>= λ x. cond (eqb (length x.1) 0) (Some x.0) None)
+    (λ (o : Option (Method × List ℕ)).
+     option_map {U = Frame × List ℕ} (λ (x : Method × List ℕ). (f.Method channel x.0, x.1)) o >>= λ x. cond (eqb (length x.1) 0) (Some x.0) None)
     read
 
 content_method :
@@ -128,13 +131,15 @@ content_method method channel payload text a = elim (class_cases method) [
   where
     by10 :
         (class : ℕ) → class ≡ 10 →
-        exactly (read_map (f.Method channel) (arguments_at class (number_of method))) text ≡ Some (f.Method channel method) →
+        exactly (read_map (f.Method channel) (arguments_at class (number_of method))) text ≡ Some
+        (f.Method channel method) →
         method_content channel payload class (number_of method) text ≡ Some (f.Method channel method)
     by10 class e h = rw e (rw e at h)
 
     by20 :
         (class : ℕ) → class ≡ 20 →
-        exactly (read_map (f.Method channel) (arguments_at class (number_of method))) text ≡ Some (f.Method channel method) →
+        exactly (read_map (f.Method channel) (arguments_at class (number_of method))) text ≡ Some
+        (f.Method channel method) →
         method_content channel payload class (number_of method) text ≡ Some (f.Method channel method)
     by20 class e h = rw e (rw e at h)
 
@@ -214,7 +219,8 @@ framed_front type limit channel payload text rest frame types other p within hol
 
 header_front :
     (o a b c : ℕ) (rest : List ℕ) (limit : ℕ) →
-    front ((65 ∷ 77 ∷ 81 ∷ 80 ∷ o ∷ a ∷ b ∷ c ∷ []) ++ rest) limit ≡ Whole (f.ProtocolHeader (record { major = a; minor = b; revision = c })) 8
+    front ((65 ∷ 77 ∷ 81 ∷ 80 ∷ o ∷ a ∷ b ∷ c ∷ []) ++ rest) limit ≡ Whole
+    (f.ProtocolHeader (record { major = a; minor = b; revision = c })) 8
 unfolding front header version
 header_front o a b c rest limit = refl
 
@@ -222,7 +228,9 @@ heartbeat_front : (limit : ℕ) (rest : List ℕ) → 8 ≤ limit → front (spe
 unfolding front ended
 heartbeat_front limit rest within =
     let body : (NumberOf w16 0 ▸ LongStringOf [] ▸ OctetOf 206) (0 ∷ 0 ∷ 0 ∷ 0 ∷ 0 ∷ 0 ∷ 206 ∷ []) =
-    (0 ∷ 0 ∷ [], 0 ∷ 0 ∷ 0 ∷ 0 ∷ 206 ∷ [], refl, (omega arith, refl), (0 ∷ 0 ∷ 0 ∷ 0 ∷ [], 206 ∷ [], refl, (0 ∷ 0 ∷ 0 ∷ 0 ∷ [], [], refl, (omega arith, refl), (refl, refl)), (omega arith, refl)))
+    (0 ∷ 0 ∷ [], 0 ∷ 0 ∷ 0 ∷ 0 ∷ 206 ∷ [], refl, (omega arith, refl),
+     (0 ∷ 0 ∷ 0 ∷ 0 ∷ [], 206 ∷ [], refl, (0 ∷ 0 ∷ 0 ∷ 0 ∷ [], [], refl, (omega arith, refl), (refl, refl)),
+      (omega arith, refl)))
     in
     framed_again 8 limit 0 [] (0 ∷ 0 ∷ 0 ∷ 0 ∷ 0 ∷ 0 ∷ 206 ∷ []) rest body within refl
 

@@ -56,10 +56,12 @@ pub connection_takes :
 unfolding connection_arguments_at start_at start_ok_at tune_at tune_ok_at open_at close_at update_secret_at
 connection_takes id bytes mm rest fits e =
     pick id 10 _ _ _ e
-    (by_map 10 id bytes mm rest fits start_args (λ a. m.Start a.0 a.1.0 a.1.1.0 a.1.1.1.0 a.1.1.1.1) 10 (λ a. refl) (λ a. refl) (λ a text p. p))
+    (by_map 10 id bytes mm rest fits start_args (λ a. m.Start a.0 a.1.0 a.1.1.0 a.1.1.1.0 a.1.1.1.1) 10 (λ a. refl)
+     (λ a. refl) (λ a text p. p))
     (λ e.
     pick id 11 _ _ _ e
-    (by_map 10 id bytes mm rest fits start_ok_args (λ a. m.StartOk a.0 a.1.0 a.1.1.0 a.1.1.1) 11 (λ a. refl) (λ a. refl) (λ a text p. p))
+    (by_map 10 id bytes mm rest fits start_ok_args (λ a. m.StartOk a.0 a.1.0 a.1.1.0 a.1.1.1) 11 (λ a. refl)
+     (λ a. refl) (λ a text p. p))
     (λ e.
     pick id 20 _ _ _ e
     (by_map 10 id bytes mm rest fits long_string_reader m.Secure 20 (λ a. refl) (λ a. refl) (λ a text p. p)) (λ e.
@@ -69,23 +71,28 @@ connection_takes id bytes mm rest fits e =
     (by_map 10 id bytes mm rest fits numbers (λ a. m.Tune a.0 a.1.0 a.1.1) 30 (λ a. refl) (λ a. refl) (λ a text p. p))
     (λ e.
     pick id 31 _ _ _ e
-    (by_map 10 id bytes mm rest fits numbers (λ a. m.TuneOk a.0 a.1.0 a.1.1) 31 (λ a. refl) (λ a. refl) (λ a text p. p))
+    (by_map 10 id bytes mm rest fits numbers (λ a. m.TuneOk a.0 a.1.0 a.1.1) 31 (λ a. refl) (λ a. refl)
+     (λ a text p. p))
     (λ e.
     pick id 40 _ _ _ e
-    (by_map 10 id bytes mm rest fits open_args (λ a. m.Open a.0) 40 (λ a. refl) (λ a. refl) (λ a text p. (p.0, p.1, p.2, p.3, (p.4.0, p.4.1, p.4.2, (a.1.0, p.4.3), (a.1.1, p.4.4)))))
+    (by_map 10 id bytes mm rest fits open_args (λ a. m.Open a.0) 40 (λ a. refl) (λ a. refl)
+     (λ a text p. (p.0, p.1, p.2, p.3, (p.4.0, p.4.1, p.4.2, (a.1.0, p.4.3), (a.1.1, p.4.4)))))
     (λ e.
     pick id 41 _ _ _ e
-    (by_map 10 id bytes mm rest fits short_string_reader (λ a. m.OpenOk) 41 (λ a. refl) (λ a. refl) (λ a text p. (a, p)))
+    (by_map 10 id bytes mm rest fits short_string_reader (λ a. m.OpenOk) 41 (λ a. refl) (λ a. refl)
+     (λ a text p. (a, p)))
     (λ e.
     pick id 50 _ _ _ e
-    (by_map 10 id bytes mm rest fits reasons (λ a. m.Close a.0 a.1.0 a.1.1.0 a.1.1.1) 50 (λ a. refl) (λ a. refl) (λ a text p. p))
+    (by_map 10 id bytes mm rest fits reasons (λ a. m.Close a.0 a.1.0 a.1.1.0 a.1.1.1) 50 (λ a. refl) (λ a. refl)
+     (λ a text p. p))
     (λ e.
     pick id 51 _ _ _ e (by_none 10 id bytes mm rest fits m.CloseOk 51 refl refl refl) (λ e.
     pick id 60 _ _ _ e
     (by_map 10 id bytes mm rest fits short_string_reader m.Blocked 60 (λ a. refl) (λ a. refl) (λ a text p. p)) (λ e.
     pick id 61 _ _ _ e (by_none 10 id bytes mm rest fits m.Unblocked 61 refl refl refl) (λ e.
     pick id 70 _ _ _ e
-    (by_map 10 id bytes mm rest fits secret_args (λ a. m.UpdateSecret a.0 a.1) 70 (λ a. refl) (λ a. refl) (λ a text p. p))
+    (by_map 10 id bytes mm rest fits secret_args (λ a. m.UpdateSecret a.0 a.1) 70 (λ a. refl) (λ a. refl)
+     (λ a text p. p))
     (λ e.
     pick id 71 _ _ _ e (by_none 10 id bytes mm rest fits m.UpdateSecretOk 71 refl refl refl)
     (λ e. absurd (cc)))))))))))))))
@@ -96,19 +103,24 @@ pub channel_takes :
 unfolding channel_arguments_at channel_close_at
 channel_takes id bytes mm rest fits e =
     pick id 10 _ _ _ e
-    (by_map 20 id bytes mm rest fits short_string_reader (λ a. m.ChannelOpen) 10 (λ a. refl) (λ a. refl) (λ a text p. (a, p)))
+    (by_map 20 id bytes mm rest fits short_string_reader (λ a. m.ChannelOpen) 10 (λ a. refl) (λ a. refl)
+     (λ a text p. (a, p)))
     (λ e.
     pick id 11 _ _ _ e
-    (by_map 20 id bytes mm rest fits long_string_reader (λ a. m.ChannelOpenOk) 11 (λ a. refl) (λ a. refl) (λ a text p. (a, p)))
+    (by_map 20 id bytes mm rest fits long_string_reader (λ a. m.ChannelOpenOk) 11 (λ a. refl) (λ a. refl)
+     (λ a text p. (a, p)))
     (λ e.
     pick id 20 _ _ _ e
-    (by_map 20 id bytes mm rest fits octet_reader (λ n. m.ChannelFlow (eqb (n % 2) 1)) 20 (λ a. refl) (λ a. refl) (λ n text p. (n, refl, p)))
+    (by_map 20 id bytes mm rest fits octet_reader (λ n. m.ChannelFlow (eqb (n % 2) 1)) 20 (λ a. refl) (λ a. refl)
+     (λ n text p. (n, refl, p)))
     (λ e.
     pick id 21 _ _ _ e
-    (by_map 20 id bytes mm rest fits octet_reader (λ n. m.ChannelFlowOk (eqb (n % 2) 1)) 21 (λ a. refl) (λ a. refl) (λ n text p. (n, refl, p)))
+    (by_map 20 id bytes mm rest fits octet_reader (λ n. m.ChannelFlowOk (eqb (n % 2) 1)) 21 (λ a. refl) (λ a. refl)
+     (λ n text p. (n, refl, p)))
     (λ e.
     pick id 40 _ _ _ e
-    (by_map 20 id bytes mm rest fits reasons (λ a. m.ChannelClose a.0 a.1.0 a.1.1.0 a.1.1.1) 40 (λ a. refl) (λ a. refl) (λ a text p. p))
+    (by_map 20 id bytes mm rest fits reasons (λ a. m.ChannelClose a.0 a.1.0 a.1.1.0 a.1.1.1) 40 (λ a. refl)
+     (λ a. refl) (λ a text p. p))
     (λ e.
     pick id 41 _ _ _ e (by_none 20 id bytes mm rest fits m.ChannelCloseOk 41 refl refl refl) (λ e. absurd (cc)))))))
 
@@ -183,7 +195,8 @@ payload_makes channel payload frame fits e =
 
         by20 :
             (t : Bool) → eqb class 10 ≡ false → eqb class 20 ≡ t →
-            cond t (exactly (read_map (f.Method channel) (channel_arguments_at id)) last) (Some (f.Raw channel RawMethod payload)) ≡ Some frame →
+            cond t (exactly (read_map (f.Method channel) (channel_arguments_at id)) last)
+            (Some (f.Raw channel RawMethod payload)) ≡ Some frame →
             Makes 1 channel payload frame
         by20 true not10 is e =
             let x =
@@ -197,7 +210,10 @@ payload_makes channel payload frame fits e =
 
         by10 :
             (t : Bool) → eqb class 10 ≡ t →
-            cond t (exactly (read_map (f.Method channel) (connection_arguments_at id)) last) (cond (eqb class 20) (exactly (read_map (f.Method channel) (channel_arguments_at id)) last) (Some (f.Raw channel RawMethod payload))) ≡ Some frame →
+            cond t (exactly (read_map (f.Method channel) (connection_arguments_at id)) last)
+            (cond (eqb class 20) (exactly (read_map (f.Method channel) (channel_arguments_at id)) last)
+             (Some (f.Raw channel RawMethod payload)))
+            ≡ Some frame →
             Makes 1 channel payload frame
         by10 true is e =
             let x =

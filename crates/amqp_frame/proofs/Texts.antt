@@ -69,7 +69,8 @@ next_value vs i v lt is =
 
 pub next_pair :
     (es : List Entry) (i : ℕ) (e : Entry) → i < length es → e ≡ get_or es i e →
-    spell_pair_list (map pair_of (drop i es)) ≡ spell_pair (pair_of e) ++ spell_pair_list (map pair_of (drop (i + 1) es))
+    spell_pair_list (map pair_of (drop i es)) ≡ spell_pair (pair_of e) ++ spell_pair_list
+    (map pair_of (drop (i + 1) es))
 next_pair es i e lt is =
     ap (λ fs. spell_pair_list (map pair_of fs)) (drop_more es i e lt)
     ∙ ap (λ f. spell_pair (pair_of f) ++ spell_pair_list (map pair_of (drop (i + 1) es))) (sym is)
@@ -87,7 +88,8 @@ tagged_text old middle new tag body body' first second same =
 pub length-spell_table : (ps : List Pair) → length (spell_table ps) ≡ length (spell_pair_list ps) + 4
 length-spell_table ps =
     omega
-    (arith, length-append (to_be_bytes w32 (length (spell_pairs (pairs_from ps)))) (spell_pairs (pairs_from ps)), ap length (spell_pairs-is ps))
+    (arith, length-append (to_be_bytes w32 (length (spell_pairs (pairs_from ps)))) (spell_pairs (pairs_from ps)),
+     ap length (spell_pairs-is ps))
 
 pub spell_table-is : (ps : List Pair) → spell_table ps ≡ spell_long_string (spell_pair_list ps)
 spell_table-is ps = ap spell_long_string (spell_pairs-is ps)
@@ -111,12 +113,14 @@ pub length-spell_framed :
     (type channel : ℕ) (payload : List ℕ) → length (spell_framed type channel payload) ≡ length payload + 8
 length-spell_framed type channel payload =
     omega
-    (arith, length-append (to_be_bytes w16 channel ++ to_be_bytes w32 (length payload)) (payload ++ 206 ∷ []), length-append (to_be_bytes w16 channel) (to_be_bytes w32 (length payload)), length-append payload (206 ∷ []))
+    (arith, length-append (to_be_bytes w16 channel ++ to_be_bytes w32 (length payload)) (payload ++ 206 ∷ []),
+     length-append (to_be_bytes w16 channel) (to_be_bytes w32 (length payload)), length-append payload (206 ∷ []))
 
 pub length-spell_method : (m : Method) → length (spell_method m) ≡ length (spell_arguments m) + 4
 length-spell_method m =
     omega
-    (arith, length-append (to_be_bytes w16 (class_of m)) (to_be_bytes w16 (number_of m) ++ spell_arguments m), length-append (to_be_bytes w16 (number_of m)) (spell_arguments m))
+    (arith, length-append (to_be_bytes w16 (class_of m)) (to_be_bytes w16 (number_of m) ++ spell_arguments m),
+     length-append (to_be_bytes w16 (number_of m)) (spell_arguments m))
 
 pub ruleset frame_lengths = (length-spell_framed, length-spell_method)
 

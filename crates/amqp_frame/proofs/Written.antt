@@ -108,7 +108,8 @@ mutual
       let body : length (spell_pairs ps) < 2 ^ 32 =
       second_part (to_be_bytes w32 (length (spell_pairs ps))) (spell_pairs ps) long in
       (70 ∷ [], spell_long_string (spell_pairs ps), refl, (omega arith, refl),
-       (spell_pairs ps, pairs_of ps, sym (map_of_ordered (pairs_of ps) k.0), pairs_written depth ps k.1 (omega arith) body, long_written (spell_pairs ps) long))
+       (spell_pairs ps, pairs_of ps, sym (map_of_ordered (pairs_of ps) k.0),
+        pairs_written depth ps k.1 (omega arith) body, long_written (spell_pairs ps) long))
 
   values_written :
       (depth : ℕ) (vs : FieldValues) → KeepsValues vs → values_depth vs ≤ depth → length (spell_values vs) < 2 ^ 32 →
@@ -127,7 +128,8 @@ mutual
       let front : List ℕ = spell_short_string name ++ spell v in
       let short : length front < 2 ^ 32 = first_part front (spell_pairs ps) lt in
       (front, spell_pairs ps, refl,
-       (spell_short_string name, spell v, refl, short_written name k.0, value_written depth v k.1 (omega arith) (second_part (spell_short_string name) (spell v) short)),
+       (spell_short_string name, spell v, refl, short_written name k.0,
+        value_written depth v k.1 (omega arith) (second_part (spell_short_string name) (spell v) short)),
        pairs_written depth ps k.2 (omega arith) (second_part front (spell_pairs ps) lt))
 
 table_written : (ps : List Pair) → KeepsTable ps → length (spell_table ps) < 2 ^ 32 → SpellsTable ps (spell_table ps)
@@ -149,7 +151,8 @@ close_written :
     (code : ℕ) (text : List ℕ) (class method : ℕ) → code < 2 ^ 16 → length text < 2 ^ 8 → class < 2 ^ 16 →
     method < 2 ^ 16 → ArgumentsOf (m.Close code text class method) (spell_close code text class method)
 close_written code text class method a b c d =
-    (to_be_bytes w16 code, spell_short_string text ++ (to_be_bytes w16 class ++ to_be_bytes w16 method), refl, (a, refl),
+    (to_be_bytes w16 code, spell_short_string text ++ (to_be_bytes w16 class ++ to_be_bytes w16 method), refl,
+     (a, refl),
      (spell_short_string text, to_be_bytes w16 class ++ to_be_bytes w16 method, refl, short_written text b,
       (to_be_bytes w16 class, to_be_bytes w16 method, refl, (c, refl), (d, refl))))
 
@@ -166,8 +169,11 @@ start_written major minor properties mechanisms locales a b k lt =
     let behind : length strings < 2 ^ 32 = second_part (spell_table properties) strings tables in
     (major ∷ [], minor ∷ (spell_table properties ++ strings), refl, (a, refl),
      (minor ∷ [], spell_table properties ++ strings, refl, (b, refl),
-      (spell_table properties, strings, refl, table_written properties k (first_part (spell_table properties) strings tables),
-       (spell_long_string mechanisms, spell_long_string locales, refl, long_written mechanisms (first_part (spell_long_string mechanisms) (spell_long_string locales) behind), long_written locales (second_part (spell_long_string mechanisms) (spell_long_string locales) behind)))))
+      (spell_table properties, strings, refl,
+       table_written properties k (first_part (spell_table properties) strings tables),
+       (spell_long_string mechanisms, spell_long_string locales, refl,
+        long_written mechanisms (first_part (spell_long_string mechanisms) (spell_long_string locales) behind),
+        long_written locales (second_part (spell_long_string mechanisms) (spell_long_string locales) behind)))))
 
 start_ok_written :
     (properties : List Pair) (mechanism response locale : List ℕ) → KeepsTable properties → length mechanism < 2 ^ 8 →
@@ -180,9 +186,12 @@ start_ok_written properties mechanism response locale k a b lt =
     let strings = spell_short_string mechanism ++ answer in
     let behind : length strings < 2 ^ 32 = second_part (spell_table properties) strings lt in
     let last : length answer < 2 ^ 32 = second_part (spell_short_string mechanism) answer behind in
-    (spell_table properties, strings, refl, table_written properties k (first_part (spell_table properties) strings lt),
+    (spell_table properties, strings, refl,
+     table_written properties k (first_part (spell_table properties) strings lt),
      (spell_short_string mechanism, answer, refl, short_written mechanism a,
-      (spell_long_string response, spell_short_string locale, refl, long_written response (first_part (spell_long_string response) (spell_short_string locale) last), short_written locale b)))
+      (spell_long_string response, spell_short_string locale, refl,
+       long_written response (first_part (spell_long_string response) (spell_short_string locale) last),
+       short_written locale b)))
 
 -- an empty short string and an empty long string
 no_short : ShortStringOf [] (0 ∷ [])
@@ -257,7 +266,8 @@ method_written method k lt =
     second_part class (number ++ spell_arguments method) lt in
     let ids = ids_fit method in
     (class, number ++ spell_arguments method, refl, (ids.0, refl),
-     (number, spell_arguments method, refl, (ids.1, refl), arguments_written method k (second_part number (spell_arguments method) behind)))
+     (number, spell_arguments method, refl, (ids.1, refl),
+      arguments_written method k (second_part number (spell_arguments method) behind)))
 
 -- ---- frames
 framed_written :
@@ -270,7 +280,8 @@ framed_written type channel payload a b c =
     let last : 206 < 256 = omega arith in
     (type ∷ [], (number ++ size) ++ (payload ++ end), refl, (a, refl),
      (number, size ++ (payload ++ end), append_assoc number size (payload ++ end), (b, refl),
-      (size ++ payload, end, sym (append_assoc size payload end), (size, payload, refl, (c, refl), (refl, refl)), (last, refl))))
+      (size ++ payload, end, sym (append_assoc size payload end), (size, payload, refl, (c, refl), (refl, refl)),
+       (last, refl))))
 
 framed_payload :
     (type channel : ℕ) (payload : List ℕ) → length (spell_framed type channel payload) < 2 ^ 32 →
@@ -296,5 +307,6 @@ frame_written (f.Method channel method) k lt =
      framed_written 1 channel (spell_method method) (omega arith) k.0 payload)
 frame_written (f.Raw channel kind payload) k lt =
     (k.1,
-     framed_written (type_of kind) channel payload (type_fits kind) k.0 (framed_payload (type_of kind) channel payload lt))
+     framed_written (type_of kind) channel payload (type_fits kind) k.0
+     (framed_payload (type_of kind) channel payload lt))
 frame_written f.Heartbeat k lt = refl
