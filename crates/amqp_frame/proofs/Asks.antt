@@ -29,7 +29,9 @@ payload_asked type payload (inr (inr (inl three))) e = inr (inr three)
 payload_asked type payload (inr (inr (inr eight))) e = absurd (false≢true (rw eight at e))
 
 -- behind a size
-module _ (type limit channel size : ℕ) (a b rest : List ℕ) (types : IsTypeOctet type) (chan : NumberOf w16 channel a) (num : NumberOf w32 size b) (fits : IsOctets rest) where
+module _
+    (type limit channel size : ℕ) (a b rest : List ℕ) (types : IsTypeOctet type) (chan : NumberOf w16 channel a)
+    (num : NumberOf w32 size b) (fits : IsOctets rest) where
   abbrev Asked : Type 0
   Asked = HoldsPayload (type ∷ (a ++ (b ++ rest))) limit
 

@@ -129,7 +129,8 @@ begins bytes more o a b c lo la lb lc some left is limit =
     (inr
      (inl
       (more, record { major = a; minor = b; revision = c }, some, left,
-       subst (FrameOf (f.ProtocolHeader (record { major = a; minor = b; revision = c }))) (sym is) (header_form o a b c lo la lb lc))))
+       subst (FrameOf (f.ProtocolHeader (record { major = a; minor = b; revision = c }))) (sym is)
+       (header_form o a b c lo la lb lc))))
 
 not_nil : (x : ℕ) (xs : List ℕ) → (x ∷ xs) ≢ []
 not_nil x xs e = absurd cc
@@ -229,7 +230,10 @@ no_size type (suc size) is e =
     absurd (false≢true (sym (rw (is, above) at e)))
 
 -- a frame that ends where it is to end
-module _ (type limit channel size : ℕ) (a b payload rest : List ℕ) (types : IsTypeOctet type) (chan : NumberOf w16 channel a) (num : NumberOf w32 size b) (len : length payload ≡ size) (fits : IsOctets payload) (within : size + 8 ≤ limit) (empty : (eqb type 8 && not (eqb size 0)) ≡ false) where
+module _
+    (type limit channel size : ℕ) (a b payload rest : List ℕ) (types : IsTypeOctet type) (chan : NumberOf w16 channel a)
+    (num : NumberOf w32 size b) (len : length payload ≡ size) (fits : IsOctets payload) (within : size + 8 ≤ limit)
+    (empty : (eqb type 8 && not (eqb size 0)) ≡ false) where
   ended_sound : Sound (type ∷ (a ++ (b ++ (payload ++ 206 ∷ rest)))) limit (ended type channel size payload)
   unfolding ended
   ended_sound = by8 (eqb type 8) refl
@@ -355,7 +359,8 @@ sized_sound type limit channel size a b rest types chan num fits = by_limit (ltb
         Sound (type ∷ (a ++ (b ++ rest))) limit
         (cond t (TooLarge size)
          (cond (eqb type 8 && not (eqb size 0)) Bad
-          (option_map_or (λ p. cond (eqb p.0.1 206) (ended type channel size p.0.0) Bad) ((octets_at size ⊗ octet_at) rest) More)))
+          (option_map_or (λ p. cond (eqb p.0.1 206) (ended type channel size p.0.0) Bad)
+           ((octets_at size ⊗ octet_at) rest) More)))
     by_limit true is = inr (type, types, names, ltb-true _ _ is)
     by_limit false is = by_empty (eqb type 8 && not (eqb size 0)) refl (ltb-false _ _ is)
 

@@ -43,7 +43,10 @@ framed_is type limit channel size bytes rest e =
     ap (λ (o : Option ((ℕ × ℕ) × List ℕ)). option_map_or (λ p. sized type limit p.0.0 p.0.1 p.1) o More) e
 
 -- a frame of a type, with its channel, its size, its payload and its end
-module _ (type limit channel : ℕ) (payload text rest : List ℕ) (f : (NumberOf w16 channel ▸ LongStringOf payload ▸ OctetOf 206) text) (within : length payload + 8 ≤ limit) (fits : (eqb type 8 && not (eqb (length payload) 0)) ≡ false) where
+module _
+    (type limit channel : ℕ) (payload text rest : List ℕ)
+    (f : (NumberOf w16 channel ▸ LongStringOf payload ▸ OctetOf 206) text) (within : length payload + 8 ≤ limit)
+    (fits : (eqb type 8 && not (eqb (length payload) 0)) ≡ false) where
   pub framed_again : framed type limit (text ++ rest) ≡ ended type channel (length payload) payload
   framed_again =
       let head : List ℕ = f.0 ++ f.4.3.0 in
@@ -118,7 +121,8 @@ exactly_again method channel text a =
     ∙ arguments_again method text [] a in
     ap
     (λ (o : Option (Method × List ℕ)).
-     option_map {U = Frame × List ℕ} (λ (x : Method × List ℕ). (f.Method channel x.0, x.1)) o >>= λ x. cond (eqb (length x.1) 0) (Some x.0) None)
+     option_map {U = Frame × List ℕ} (λ (x : Method × List ℕ). (f.Method channel x.0, x.1)) o
+     >>= λ x. cond (eqb (length x.1) 0) (Some x.0) None)
     read
 
 content_method :

@@ -237,7 +237,9 @@ content_makes type channel payload frame (inr (inl is)) fits e =
         Makes type channel payload frame
     by true short e = absurd cc
     by false long e =
-        λ text framed. subst (λ (z : Frame). FrameOf z text) (some_is (f.Raw channel Header payload) frame e) (ltb-false _ _ long, subst (λ (k : ℕ). Framed k channel payload text) is framed)
+        λ text framed.
+        subst (λ (z : Frame). FrameOf z text) (some_is (f.Raw channel Header payload) frame e)
+        (ltb-false _ _ long, subst (λ (k : ℕ). Framed k channel payload text) is framed)
 content_makes type channel payload frame (inr (inr is)) fits e = λ text framed.
     subst (λ (z : Frame). FrameOf z text)
     (some_is (f.Raw channel Body payload) frame (ap (λ (k : ℕ). content k channel payload) (sym is) ∙ e))

@@ -5,4 +5,5 @@ use Rattle.amqp_frame.proofs.Written.{frame_written}
 use Rattle.amqp_frame.proofs.laws.written_is_read.Goals as goal
 
 pub returns : goal.returns
-returns c frame rest limit keeps short within = front_again frame (encoding frame) rest limit (frame_written frame keeps (omega arith)) within
+returns c frame rest limit keeps short within =
+    front_again frame (encoding frame) rest limit (frame_written frame keeps (omega arith)) within

@@ -7,5 +7,8 @@ loop-index-preserved g c =
     let bytes = g.Self.View.bytes c.args.self.now in
     c.in_ok-push.ensures.items
     ∙ ap (λ (copy : List ℕ). copy ++ c.at.result ∷ []) c.loop-index.invariant
-    ∙ ap (λ (octet : ℕ). window (g.Self.View.bytes c.args.self.now) c.args.start c.loop-index.index ++ octet ∷ []) c.at.ensures
-    ∙ sym (window_more (g.Self.View.bytes c.args.self.now) c.args.start c.loop-index.index (omega (arith, c.loop-index.auto.index)) (omega (arith, c.loop-index-test.true, c.requires.within)))
+    ∙ ap (λ (octet : ℕ). window (g.Self.View.bytes c.args.self.now) c.args.start c.loop-index.index ++ octet ∷ [])
+    c.at.ensures
+    ∙ sym
+    (window_more (g.Self.View.bytes c.args.self.now) c.args.start c.loop-index.index
+     (omega (arith, c.loop-index.auto.index)) (omega (arith, c.loop-index-test.true, c.requires.within)))
