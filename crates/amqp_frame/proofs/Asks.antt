@@ -42,9 +42,14 @@ module _
       let text : type ∷ (a ++ (b ++ rest)) ≡ own type a b payload ++ last =
       ap (λ (r : List ℕ). type ∷ (a ++ (b ++ r))) is ∙ own_then type a b payload last in
       let number : NumberOf w32 (length payload) b = subst (λ (k : ℕ). NumberOf w32 k b) (sym len) num in
-      let form = own_framed type channel a b payload (type_small type types) chan number in
-      (type, channel, payload, payload_asked type payload types e, omega arith,
-       (own type a b payload, last, text, form, tt))
+      let form = own_framed type channel a b payload (type_small type types) chan number in (
+        type,
+        channel,
+        payload,
+        payload_asked type payload types e,
+        omega arith,
+        (own type a b payload, last, text, form, tt),
+      )
 
   by_end :
       (payload last : List ℕ) (end : ℕ) → size + 8 ≤ limit → length payload ≡ size → rest ≡ payload ++ end ∷ last →
@@ -74,7 +79,7 @@ module _
           (t : Bool) → ltb limit (size + 8) ≡ t →
           cond t false
           (option_map_or (λ p. cond (eqb p.0.1 206) (ended_asks type p.0.0) false) ((octets_at size ⊗ octet_at) rest)
-           false)
+          false)
           ≡ true →
           Asked
       by true is e = absurd (false≢true e)

@@ -100,10 +100,19 @@ numbers_none bytes e = by (ltb (length bytes) 2) refl e
 header_form :
     (o a b c : ℕ) → o < 256 → a < 256 → b < 256 → c < 256 →
     FrameOf (f.ProtocolHeader (record { major = a; minor = b; revision = c })) (65 ∷ 77 ∷ 81 ∷ 80 ∷ o ∷ a ∷ b ∷ c ∷ [])
-header_form o a b c lo la lb lc =
-    (65 ∷ 77 ∷ 81 ∷ 80 ∷ [], o ∷ a ∷ b ∷ c ∷ [], refl, refl,
-     (o ∷ [], a ∷ b ∷ c ∷ [], refl, (o, (lo, refl)),
-      (a ∷ [], b ∷ c ∷ [], refl, (la, refl), (b ∷ [], c ∷ [], refl, (lb, refl), (lc, refl)))))
+header_form o a b c lo la lb lc = (
+  65 ∷ 77 ∷ 81 ∷ 80 ∷ [],
+  o ∷ a ∷ b ∷ c ∷ [],
+  refl,
+  refl,
+  (
+    o ∷ [],
+    a ∷ b ∷ c ∷ [],
+    refl,
+    (o, (lo, refl)),
+    (a ∷ [], b ∷ c ∷ [], refl, (la, refl), (b ∷ [], c ∷ [], refl, (lb, refl), (lc, refl))),
+  ),
+)
 
 -- an octet of the signature
 expect_sound :
@@ -127,10 +136,14 @@ begins :
 begins bytes more o a b c lo la lb lc some left is limit =
     inr
     (inr
-     (inl
-      (more, record { major = a; minor = b; revision = c }, some, left,
-       subst (FrameOf (f.ProtocolHeader (record { major = a; minor = b; revision = c }))) (sym is)
-       (header_form o a b c lo la lb lc))))
+    (inl (
+      more,
+      record { major = a; minor = b; revision = c },
+      some,
+      left,
+      subst (FrameOf (f.ProtocolHeader (record { major = a; minor = b; revision = c }))) (sym is)
+          (header_form o a b c lo la lb lc),
+    )))
 
 not_nil : (x : ℕ) (xs : List ℕ) → (x ∷ xs) ≢ []
 not_nil x xs e = absurd cc
@@ -150,9 +163,14 @@ version_sound (o ∷ a ∷ b ∷ []) limit fits =
     begins (65 ∷ 77 ∷ 81 ∷ 80 ∷ o ∷ a ∷ b ∷ []) (0 ∷ []) o a b 0 (fits 0) (fits 1) (fits 2) (omega arith)
     (not_nil _ _) (not_nil _ _) refl limit
 version_sound (o ∷ a ∷ b ∷ c ∷ rest) limit fits =
-    inr
-    (65 ∷ 77 ∷ 81 ∷ 80 ∷ o ∷ a ∷ b ∷ c ∷ [], rest, refl, refl,
-     header_form o a b c (fits 0) (fits 1) (fits 2) (fits 3), tt)
+    inr (
+      65 ∷ 77 ∷ 81 ∷ 80 ∷ o ∷ a ∷ b ∷ c ∷ [],
+      rest,
+      refl,
+      refl,
+      header_form o a b c (fits 0) (fits 1) (fits 2) (fits 3),
+      tt,
+    )
 
 pub IsOctets-tail : (o : ℕ) (bytes : List ℕ) → IsOctets (o ∷ bytes) → IsOctets bytes
 IsOctets-tail o bytes h i = h (suc i)
@@ -162,18 +180,18 @@ unfolding header
 header_sound bytes limit fits =
     expect_sound 77 (expect 81 (expect 80 version)) (65 ∷ []) bytes limit
     (begins (65 ∷ []) (77 ∷ 81 ∷ 80 ∷ 0 ∷ 0 ∷ 0 ∷ 0 ∷ []) 0 0 0 0 (omega arith) (omega arith) (omega arith)
-     (omega arith) (not_nil _ _) (not_nil _ _) refl limit)
+    (omega arith) (not_nil _ _) (not_nil _ _) refl limit)
     (λ rest1 is1. expect_sound 81 (expect 80 version) (65 ∷ 77 ∷ []) rest1 limit
     (begins (65 ∷ 77 ∷ []) (81 ∷ 80 ∷ 0 ∷ 0 ∷ 0 ∷ 0 ∷ []) 0 0 0 0 (omega arith) (omega arith) (omega arith)
-     (omega arith) (not_nil _ _) (not_nil _ _) refl limit)
+    (omega arith) (not_nil _ _) (not_nil _ _) refl limit)
     (λ rest2 is2. expect_sound 80 version (65 ∷ 77 ∷ 81 ∷ []) rest2 limit
     (begins (65 ∷ 77 ∷ 81 ∷ []) (80 ∷ 0 ∷ 0 ∷ 0 ∷ 0 ∷ []) 0 0 0 0 (omega arith) (omega arith) (omega arith)
-     (omega arith) (not_nil _ _) (not_nil _ _) refl limit)
+    (omega arith) (not_nil _ _) (not_nil _ _) refl limit)
     (λ rest3 is3.
-     version_sound rest3 limit
-     (IsOctets-tail 80 rest3
-      (subst IsOctets is3
-       (IsOctets-tail 81 rest2 (subst IsOctets is2 (IsOctets-tail 77 rest1 (subst IsOctets is1 fits)))))))))
+    version_sound rest3 limit
+    (IsOctets-tail 80 rest3
+    (subst IsOctets is3
+    (IsOctets-tail 81 rest2 (subst IsOctets is2 (IsOctets-tail 77 rest1 (subst IsOctets is1 fits)))))))))
 
 -- ---- behind a type octet
 pub type_small : (type : ℕ) → IsTypeOctet type → type < 256
@@ -200,11 +218,25 @@ own_then type a b payload rest = sym (simp append_assoc)
 pub own_framed :
     (type channel : ℕ) (a b payload : List ℕ) → type < 256 → NumberOf w16 channel a →
     NumberOf w32 (length payload) b → Framed type channel payload (own type a b payload)
-own_framed type channel a b payload small chan num =
-    (type ∷ [], a ++ (b ++ (payload ++ 206 ∷ [])), refl, (small, refl),
-     (a, b ++ (payload ++ 206 ∷ []), refl, chan,
-      (b ++ payload, 206 ∷ [], sym (append_assoc b payload (206 ∷ [])), (b, payload, refl, num, (refl, refl)),
-       (omega arith, refl))))
+own_framed type channel a b payload small chan num = (
+  type ∷ [],
+  a ++ (b ++ (payload ++ 206 ∷ [])),
+  refl,
+  (small, refl),
+  (
+    a,
+    b ++ (payload ++ 206 ∷ []),
+    refl,
+    chan,
+    (
+      b ++ payload,
+      206 ∷ [],
+      sym (append_assoc b payload (206 ∷ [])),
+      (b, payload, refl, num, (refl, refl)),
+      (omega arith, refl),
+    ),
+  ),
+)
 
 length-own :
     (type channel size : ℕ) (a b payload : List ℕ) → NumberOf w16 channel a → NumberOf w32 size b →
@@ -212,16 +244,23 @@ length-own :
 length-own type channel size a b payload chan num len =
     let two : length a ≡ 2 = ap length chan.1 in
     let four : length b ≡ 4 = ap length num.1 in
-    omega
-    (arith, length-append a (b ++ (payload ++ 206 ∷ [])), length-append b (payload ++ 206 ∷ []),
-     length-append payload (206 ∷ []))
+    omega (
+      arith,
+      length-append a (b ++ (payload ++ 206 ∷ [])),
+      length-append b (payload ++ 206 ∷ []),
+      length-append payload (206 ∷ []),
+    )
 
 heartbeat_form :
     (channel : ℕ) (a b rest : List ℕ) → NumberOf w16 channel a → NumberOf w32 0 b →
     (OctetOf 8 ▸ NumberOf w16 channel ▸ NumberOf w32 0 ▸ OctetOf 206 ▸ Anything) (8 ∷ (a ++ (b ++ 206 ∷ rest)))
-heartbeat_form channel a b rest chan num =
-    (8 ∷ [], a ++ (b ++ 206 ∷ rest), refl, (omega arith, refl),
-     (a, b ++ 206 ∷ rest, refl, chan, (b, 206 ∷ rest, refl, num, (206 ∷ [], rest, refl, (omega arith, refl), tt))))
+heartbeat_form channel a b rest chan num = (
+  8 ∷ [],
+  a ++ (b ++ 206 ∷ rest),
+  refl,
+  (omega arith, refl),
+  (a, b ++ 206 ∷ rest, refl, chan, (b, 206 ∷ rest, refl, num, (206 ∷ [], rest, refl, (omega arith, refl), tt))),
+)
 
 no_size : (type size : ℕ) → eqb type 8 ≡ true → (eqb type 8 && not (eqb size 0)) ≡ false → size ≡ 0
 no_size type zero is e = refl
@@ -242,9 +281,14 @@ module _
           (frame : Frame) → FrameOf frame (own type a b payload) →
           Sound (type ∷ (a ++ (b ++ (payload ++ 206 ∷ rest)))) limit (Whole frame (size + 8))
       whole frame spelled =
-          inr
-          (own type a b payload, rest, own_then type a b payload rest,
-           length-own type channel size a b payload chan num len, spelled, within_all frame (size + 8) limit within)
+          inr (
+            own type a b payload,
+            rest,
+            own_then type a b payload rest,
+            length-own type channel size a b payload chan num len,
+            spelled,
+            within_all frame (size + 8) limit within,
+          )
 
       held :
           (o : Option Frame) → content type channel payload ≡ o → eqb type 8 ≡ false →
@@ -254,8 +298,8 @@ module _
       held (Some frame) is other =
           whole frame
           (content_makes type channel payload frame (other_type type types other) fits is (own type a b payload)
-           (own_framed type channel a b payload (type_small type types) chan
-            (subst (λ (k : ℕ). NumberOf w32 k b) (sym len) num)))
+          (own_framed type channel a b payload (type_small type types) chan
+          (subst (λ (k : ℕ). NumberOf w32 k b) (sym len) num)))
 
       by_channel :
           (t : Bool) → eqb channel 0 ≡ t → eqb type 8 ≡ true →
@@ -280,24 +324,30 @@ module _
           let text_is : type ∷ (a ++ (b ++ (payload ++ 206 ∷ rest))) ≡ 8 ∷ (a ++ (b ++ 206 ∷ rest)) =
           rw (type_is, payload_is) refl in
           let form = heartbeat_form channel a b rest chan (subst (λ (k : ℕ). NumberOf w32 k b) zero_size num) in
-          inr
-          (subst (OctetOf 8 ▸ NumberOf w16 channel ▸ NumberOf w32 0 ▸ OctetOf 206 ▸ Anything) (sym text_is) form,
-           (λ same. false≢true (sym is ∙ eq-eqb channel 0 same)), omega arith)
+          inr (
+            subst (OctetOf 8 ▸ NumberOf w16 channel ▸ NumberOf w32 0 ▸ OctetOf 206 ▸ Anything) (sym text_is) form,
+            (λ same. false≢true (sym is ∙ eq-eqb channel 0 same)),
+            omega arith,
+          )
 
       by8 :
           (t : Bool) → eqb type 8 ≡ t →
           Sound (type ∷ (a ++ (b ++ (payload ++ 206 ∷ rest)))) limit
           (cond t (cond (eqb channel 0) (Whole f.Heartbeat 8) (BadHeartbeat channel))
-           (option_map_or (λ frame. Whole frame (size + 8)) (content type channel payload) Bad))
+          (option_map_or (λ frame. Whole frame (size + 8)) (content type channel payload) Bad))
       by8 true is = by_channel (eqb channel 0) refl is
       by8 false is = held (content type channel payload) refl is
 
 names_form :
     (type channel size : ℕ) (a b rest : List ℕ) → IsTypeOctet type → NumberOf w16 channel a → NumberOf w32 size b →
     Names type size (type ∷ (a ++ (b ++ rest)))
-names_form type channel size a b rest types chan num =
-    (type ∷ [], a ++ (b ++ rest), refl, (type_small type types, refl),
-     (a, b ++ rest, refl, ap length chan.1, (b, rest, refl, num, tt)))
+names_form type channel size a b rest types chan num = (
+  type ∷ [],
+  a ++ (b ++ rest),
+  refl,
+  (type_small type types, refl),
+  (a, b ++ rest, refl, ap length chan.1, (b, rest, refl, num, tt)),
+)
 
 only_zero : (type size : ℕ) → (eqb type 8 && not (eqb size 0)) ≡ false → type ≡ 8 → size ≡ 0
 only_zero type size e is = no_size type size (eq-eqb type 8 is) e
@@ -349,8 +399,8 @@ sized_sound type limit channel size a b rest types chan num fits = by_limit (ltb
         (t : Bool) → (eqb type 8 && not (eqb size 0)) ≡ t → size + 8 ≤ limit →
         Sound (type ∷ (a ++ (b ++ rest))) limit
         (cond t Bad
-         (option_map_or (λ p. cond (eqb p.0.1 206) (ended type channel size p.0.0) Bad)
-          ((octets_at size ⊗ octet_at) rest) More))
+        (option_map_or (λ p. cond (eqb p.0.1 206) (ended type channel size p.0.0) Bad)
+        ((octets_at size ⊗ octet_at) rest) More))
     by_empty true is within = inl refl
     by_empty false is within = by_body ((octets_at size ⊗ octet_at) rest) refl within is
 
@@ -358,9 +408,9 @@ sized_sound type limit channel size a b rest types chan num fits = by_limit (ltb
         (t : Bool) → ltb limit (size + 8) ≡ t →
         Sound (type ∷ (a ++ (b ++ rest))) limit
         (cond t (TooLarge size)
-         (cond (eqb type 8 && not (eqb size 0)) Bad
-          (option_map_or (λ p. cond (eqb p.0.1 206) (ended type channel size p.0.0) Bad)
-           ((octets_at size ⊗ octet_at) rest) More)))
+        (cond (eqb type 8 && not (eqb size 0)) Bad
+        (option_map_or (λ p. cond (eqb p.0.1 206) (ended type channel size p.0.0) Bad)
+        ((octets_at size ⊗ octet_at) rest) More)))
     by_limit true is = inr (type, types, names, ltb-true _ _ is)
     by_limit false is = by_empty (eqb type 8 && not (eqb size 0)) refl (ltb-false _ _ is)
 

@@ -53,7 +53,8 @@ module _
       let tail : List ℕ = f.4.3.1 ++ f.4.1 in
       let whole : text ++ rest ≡ (f.0 ++ f.4.3.0) ++ ((f.4.3.1 ++ f.4.1) ++ rest) =
       rw (f.2, f.4.2, f.4.3.2) (simp append_assoc) in
-      let numbers : (number_at w16 ⊗ number_at w32) (text ++ rest) ≡ Some ((channel, length payload), (f.4.3.1 ++ f.4.1) ++ rest) =
+      let behind : List ℕ = (f.4.3.1 ++ f.4.1) ++ rest in
+      let numbers : (number_at w16 ⊗ number_at w32) (text ++ rest) ≡ Some ((channel, length payload), behind) =
       ap (number_at w16 ⊗ number_at w32) whole
       ∙ (both_reader number16_reader number32_reader).again (channel, length payload) (f.0 ++ f.4.3.0)
       ((f.4.3.1 ++ f.4.1) ++ rest) (f.0, f.4.3.0, refl, f.3, f.4.3.3) in
@@ -72,9 +73,15 @@ length_framed channel payload text f =
     let b : length f.4.3.0 ≡ 4 = ap length f.4.3.3.1 in
     let c : length f.4.3.1 ≡ length payload = ap length f.4.3.4.1 in
     let d : length f.4.1 ≡ 1 = ap length f.4.4.1 in
-    omega
-    (arith, ap length f.2, ap length f.4.2, ap length f.4.3.2, length-append f.0 f.1, length-append f.4.0 f.4.1,
-     length-append f.4.3.0 f.4.3.1)
+    omega (
+      arith,
+      ap length f.2,
+      ap length f.4.2,
+      ap length f.4.3.2,
+      length-append f.0 f.1,
+      length-append f.4.0 f.4.1,
+      length-append f.4.3.0 f.4.3.1,
+    )
 
 -- a whole frame of a type other than a heartbeat
 whole_again :
@@ -121,8 +128,8 @@ exactly_again method channel text a =
     ∙ arguments_again method text [] a in
     ap
     (λ (o : Option (Method × List ℕ)).
-     option_map {U = Frame × List ℕ} (λ (x : Method × List ℕ). (f.Method channel x.0, x.1)) o
-     >>= λ x. cond (eqb (length x.1) 0) (Some x.0) None)
+    option_map {U = Frame × List ℕ} (λ (x : Method × List ℕ). (f.Method channel x.0, x.1)) o
+    >>= λ x. cond (eqb (length x.1) 0) (Some x.0) None)
     read
 
 content_method :
@@ -231,10 +238,19 @@ header_front o a b c rest limit = refl
 heartbeat_front : (limit : ℕ) (rest : List ℕ) → 8 ≤ limit → front (spell_heartbeat ++ rest) limit ≡ Whole f.Heartbeat 8
 unfolding front ended
 heartbeat_front limit rest within =
-    let body : (NumberOf w16 0 ▸ LongStringOf [] ▸ OctetOf 206) (0 ∷ 0 ∷ 0 ∷ 0 ∷ 0 ∷ 0 ∷ 206 ∷ []) =
-    (0 ∷ 0 ∷ [], 0 ∷ 0 ∷ 0 ∷ 0 ∷ 206 ∷ [], refl, (omega arith, refl),
-     (0 ∷ 0 ∷ 0 ∷ 0 ∷ [], 206 ∷ [], refl, (0 ∷ 0 ∷ 0 ∷ 0 ∷ [], [], refl, (omega arith, refl), (refl, refl)),
-      (omega arith, refl)))
+    let body : (NumberOf w16 0 ▸ LongStringOf [] ▸ OctetOf 206) (0 ∷ 0 ∷ 0 ∷ 0 ∷ 0 ∷ 0 ∷ 206 ∷ []) = (
+      0 ∷ 0 ∷ [],
+      0 ∷ 0 ∷ 0 ∷ 0 ∷ 206 ∷ [],
+      refl,
+      (omega arith, refl),
+      (
+        0 ∷ 0 ∷ 0 ∷ 0 ∷ [],
+        206 ∷ [],
+        refl,
+        (0 ∷ 0 ∷ 0 ∷ 0 ∷ [], [], refl, (omega arith, refl), (refl, refl)),
+        (omega arith, refl),
+      ),
+    )
     in
     framed_again 8 limit 0 [] (0 ∷ 0 ∷ 0 ∷ 0 ∷ 0 ∷ 0 ∷ 206 ∷ []) rest body within refl
 

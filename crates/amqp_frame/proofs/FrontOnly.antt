@@ -46,7 +46,8 @@ named type size limit bytes types n =
     n.2 ∙ ap₂ (λ (x y : List ℕ). x ++ y) n.3.1 (n.4.2 ∙ ap (λ (x : List ℕ). n.4.0 ++ x) n.4.4.2) in
     let one = number16_any n.4.0 (n.4.4.0 ++ n.4.4.1) n.4.3 in
     let two = number32_reader.again size n.4.4.0 n.4.4.1 n.4.4.3 in
-    let both : (number_at w16 ⊗ number_at w32) (n.4.0 ++ (n.4.4.0 ++ n.4.4.1)) ≡ Some ((from_be_bytes w16 n.4.0, size), n.4.4.1) =
+    let behind : List ℕ = n.4.4.0 ++ n.4.4.1 in
+    let both : (number_at w16 ⊗ number_at w32) (n.4.0 ++ behind) ≡ Some ((from_be_bytes w16 n.4.0, size), n.4.4.1) =
     ap then_number one ∙ ap (with_number (from_be_bytes w16 n.4.0)) two in
     ap (λ (x : List ℕ). front x limit) bytes_is
     ∙ type_is_front type limit (n.4.0 ++ (n.4.4.0 ++ n.4.4.1)) types
@@ -77,9 +78,13 @@ heartbeat_only bytes limit channel h =
     ∙ ap₂ (λ (x y : List ℕ). x ++ y) n.3.1
     (n.4.2 ∙ ap (λ (x : List ℕ). n.4.0 ++ x) (n.4.4.2 ∙ ap (λ (x : List ℕ). n.4.4.0 ++ x) n.4.4.4.2))
     ∙ ap (λ (x : List ℕ). 8 ∷ x) (simp append_assoc) in
-    let form : (NumberOf w16 channel ▸ LongStringOf [] ▸ OctetOf 206) (n.4.0 ++ (n.4.4.0 ++ n.4.4.4.0)) =
-    (n.4.0, n.4.4.0 ++ n.4.4.4.0, refl, n.4.3,
-     (n.4.4.0, n.4.4.4.0, refl, (n.4.4.0, [], sym (append-nil n.4.4.0), n.4.4.3, (refl, refl)), n.4.4.4.3))
+    let form : (NumberOf w16 channel ▸ LongStringOf [] ▸ OctetOf 206) (n.4.0 ++ (n.4.4.0 ++ n.4.4.4.0)) = (
+      n.4.0,
+      n.4.4.0 ++ n.4.4.4.0,
+      refl,
+      n.4.3,
+      (n.4.4.0, n.4.4.4.0, refl, (n.4.4.0, [], sym (append-nil n.4.4.0), n.4.4.3, (refl, refl)), n.4.4.4.3),
+    )
     in
     ap (λ (x : List ℕ). front x limit) bytes_is
     ∙ type_is_front 8 limit ((n.4.0 ++ (n.4.4.0 ++ n.4.4.4.0)) ++ n.4.4.4.1) (inr (inr (inr refl)))
@@ -183,9 +188,16 @@ unfinished_only bytes limit h =
     let one : length n.0 ≡ 1 = ap length n.3.1 in
     let four : length n.4.4.0 ≡ 4 = ap length n.4.4.3.1 in
     let short : length n.4.4.1 < h.1 + 1 =
-    omega
-    (arith, h.5, ap length n.2, length-append n.0 n.1, ap length n.4.2, length-append n.4.0 n.4.1, ap length n.4.4.2,
-     length-append n.4.4.0 n.4.4.1)
+    omega (
+      arith,
+      h.5,
+      ap length n.2,
+      length-append n.0 n.1,
+      ap length n.4.2,
+      length-append n.4.0 n.4.1,
+      ap length n.4.4.2,
+      length-append n.4.4.0 n.4.4.1,
+    )
     in
     named h.0 h.1 limit bytes h.2 h.3
     ∙ sized_more h.0 limit (from_be_bytes w16 n.4.0) h.1 n.4.4.1 (le-ltb _ _ h.4) (empty_enough h.0 h.1 h.6)

@@ -7,6 +7,7 @@ use Rattle.std.specs.Int.{w16}
 use Rattle.amqp_types.specs.Forms.{Form, IsOctets, NumberOf}
 use Rattle.amqp_types.specs.Reading.{Reader, ◌>>=◌, number_at, read_map}
 use Rattle.amqp_types.proofs.Readers.{IsReader, IsOctets-rest, some_is, bind_some, octet_reader, number16_reader, map_takes, short_string_reader, long_string_reader}
+use Rattle.amqp_types.proofs.FieldReaders.{pick}
 use Rattle.amqp_frame.specs.declared.method.Method.{Method}
 use Rattle.amqp_frame.specs.declared.method.Method.TheVariants as m
 use Rattle.amqp_frame.specs.declared.frame.Frame.{Frame}
@@ -21,15 +22,6 @@ use Rattle.amqp_frame.proofs.FrameReaders.{start_args, start_ok_args, numbers, o
 abbrev pub TakesMethod : ℕ → ℕ → List ℕ → Method → List ℕ → Type 0
 TakesMethod class number bytes mm rest =
     (class_of mm ≡ class) × (number_of mm ≡ number) × (text : List ℕ) × (bytes ≡ text ++ rest) × ArgumentsOf mm text
-
-pick :
-    {A X : Type 0} (tag k : ℕ) (this next : Option A) (y : A) → cond (eqb tag k) this next ≡ Some y →
-    (tag ≡ k → this ≡ Some y → X) → (next ≡ Some y → X) → X
-pick {A} {X} tag k this next y e here there = by (eqb tag k) refl e
-  where
-    by : (b : Bool) → eqb tag k ≡ b → cond b this next ≡ Some y → X
-    by true is e = here (eqb-true tag k is) e
-    by false is e = there e
 
 module _ (class id : ℕ) (bytes : List ℕ) (mm : Method) (rest : List ℕ) (fits : IsOctets bytes) where
   by_map :
@@ -57,11 +49,11 @@ unfolding connection_arguments_at start_at start_ok_at tune_at tune_ok_at open_a
 connection_takes id bytes mm rest fits e =
     pick id 10 _ _ _ e
     (by_map 10 id bytes mm rest fits start_args (λ a. m.Start a.0 a.1.0 a.1.1.0 a.1.1.1.0 a.1.1.1.1) 10 (λ a. refl)
-     (λ a. refl) (λ a text p. p))
+    (λ a. refl) (λ a text p. p))
     (λ e.
     pick id 11 _ _ _ e
     (by_map 10 id bytes mm rest fits start_ok_args (λ a. m.StartOk a.0 a.1.0 a.1.1.0 a.1.1.1) 11 (λ a. refl)
-     (λ a. refl) (λ a text p. p))
+    (λ a. refl) (λ a text p. p))
     (λ e.
     pick id 20 _ _ _ e
     (by_map 10 id bytes mm rest fits long_string_reader m.Secure 20 (λ a. refl) (λ a. refl) (λ a text p. p)) (λ e.
@@ -72,19 +64,19 @@ connection_takes id bytes mm rest fits e =
     (λ e.
     pick id 31 _ _ _ e
     (by_map 10 id bytes mm rest fits numbers (λ a. m.TuneOk a.0 a.1.0 a.1.1) 31 (λ a. refl) (λ a. refl)
-     (λ a text p. p))
+    (λ a text p. p))
     (λ e.
     pick id 40 _ _ _ e
     (by_map 10 id bytes mm rest fits open_args (λ a. m.Open a.0) 40 (λ a. refl) (λ a. refl)
-     (λ a text p. (p.0, p.1, p.2, p.3, (p.4.0, p.4.1, p.4.2, (a.1.0, p.4.3), (a.1.1, p.4.4)))))
+    (λ a text p. (p.0, p.1, p.2, p.3, (p.4.0, p.4.1, p.4.2, (a.1.0, p.4.3), (a.1.1, p.4.4)))))
     (λ e.
     pick id 41 _ _ _ e
     (by_map 10 id bytes mm rest fits short_string_reader (λ a. m.OpenOk) 41 (λ a. refl) (λ a. refl)
-     (λ a text p. (a, p)))
+    (λ a text p. (a, p)))
     (λ e.
     pick id 50 _ _ _ e
     (by_map 10 id bytes mm rest fits reasons (λ a. m.Close a.0 a.1.0 a.1.1.0 a.1.1.1) 50 (λ a. refl) (λ a. refl)
-     (λ a text p. p))
+    (λ a text p. p))
     (λ e.
     pick id 51 _ _ _ e (by_none 10 id bytes mm rest fits m.CloseOk 51 refl refl refl) (λ e.
     pick id 60 _ _ _ e
@@ -92,7 +84,7 @@ connection_takes id bytes mm rest fits e =
     pick id 61 _ _ _ e (by_none 10 id bytes mm rest fits m.Unblocked 61 refl refl refl) (λ e.
     pick id 70 _ _ _ e
     (by_map 10 id bytes mm rest fits secret_args (λ a. m.UpdateSecret a.0 a.1) 70 (λ a. refl) (λ a. refl)
-     (λ a text p. p))
+    (λ a text p. p))
     (λ e.
     pick id 71 _ _ _ e (by_none 10 id bytes mm rest fits m.UpdateSecretOk 71 refl refl refl)
     (λ e. absurd (cc)))))))))))))))
@@ -104,23 +96,23 @@ unfolding channel_arguments_at channel_close_at
 channel_takes id bytes mm rest fits e =
     pick id 10 _ _ _ e
     (by_map 20 id bytes mm rest fits short_string_reader (λ a. m.ChannelOpen) 10 (λ a. refl) (λ a. refl)
-     (λ a text p. (a, p)))
+    (λ a text p. (a, p)))
     (λ e.
     pick id 11 _ _ _ e
     (by_map 20 id bytes mm rest fits long_string_reader (λ a. m.ChannelOpenOk) 11 (λ a. refl) (λ a. refl)
-     (λ a text p. (a, p)))
+    (λ a text p. (a, p)))
     (λ e.
     pick id 20 _ _ _ e
     (by_map 20 id bytes mm rest fits octet_reader (λ n. m.ChannelFlow (eqb (n % 2) 1)) 20 (λ a. refl) (λ a. refl)
-     (λ n text p. (n, refl, p)))
+    (λ n text p. (n, refl, p)))
     (λ e.
     pick id 21 _ _ _ e
     (by_map 20 id bytes mm rest fits octet_reader (λ n. m.ChannelFlowOk (eqb (n % 2) 1)) 21 (λ a. refl) (λ a. refl)
-     (λ n text p. (n, refl, p)))
+    (λ n text p. (n, refl, p)))
     (λ e.
     pick id 40 _ _ _ e
     (by_map 20 id bytes mm rest fits reasons (λ a. m.ChannelClose a.0 a.1.0 a.1.1.0 a.1.1.1) 40 (λ a. refl)
-     (λ a. refl) (λ a text p. p))
+    (λ a. refl) (λ a text p. p))
     (λ e.
     pick id 41 _ _ _ e (by_none 20 id bytes mm rest fits m.ChannelCloseOk 41 refl refl refl) (λ e. absurd (cc)))))))
 
@@ -189,9 +181,13 @@ payload_makes channel payload frame fits e =
     by_class class id middle last first second p1 n1 p2 n2 fits2 e = by10 (eqb class 10) refl e
       where
         spells : (mm : Method) → class_of mm ≡ class → number_of mm ≡ id → ArgumentsOf mm last → MethodOf mm payload
-        spells mm c n a =
-            (first, middle, p1, subst (λ (k : ℕ). NumberOf w16 k first) (sym c) n1,
-             (second, last, p2, subst (λ (k : ℕ). NumberOf w16 k second) (sym n) n2, a))
+        spells mm c n a = (
+          first,
+          middle,
+          p1,
+          subst (λ (k : ℕ). NumberOf w16 k first) (sym c) n1,
+          (second, last, p2, subst (λ (k : ℕ). NumberOf w16 k second) (sym n) n2, a),
+        )
 
         by20 :
             (t : Bool) → eqb class 10 ≡ false → eqb class 20 ≡ t →
@@ -204,15 +200,22 @@ payload_makes channel payload frame fits e =
             (λ mm rest h. channel_takes id last mm rest fits2 h) e in
             method_makes channel payload frame x.0 x.1 (spells x.0 (x.2 ∙ sym (eqb-true class 20 is)) x.3 x.4)
         by20 false not10 is e = λ text framed.
-            subst (λ (z : Frame). FrameOf z text) (some_is (f.Raw channel RawMethod payload) frame e)
-            ((class, id, differs class 10 not10, differs class 20 is, (first, middle, p1, n1, (second, last, p2, n2, tt))),
-             framed)
+            subst (λ (z : Frame). FrameOf z text) (some_is (f.Raw channel RawMethod payload) frame e) (
+              (
+                class,
+                id,
+                differs class 10 not10,
+                differs class 20 is,
+                (first, middle, p1, n1, (second, last, p2, n2, tt)),
+              ),
+              framed,
+            )
 
         by10 :
             (t : Bool) → eqb class 10 ≡ t →
             cond t (exactly (read_map (f.Method channel) (connection_arguments_at id)) last)
             (cond (eqb class 20) (exactly (read_map (f.Method channel) (channel_arguments_at id)) last)
-             (Some (f.Raw channel RawMethod payload)))
+            (Some (f.Raw channel RawMethod payload)))
             ≡ Some frame →
             Makes 1 channel payload frame
         by10 true is e =

@@ -37,21 +37,6 @@ length-array vs =
 pub length-table : (ps : List Pair) → length (spell (table (pairs_from ps))) ≡ length (spell_pair_list ps) + 5
 length-table ps = length-long 70 (spell_pairs (pairs_from ps)) ∙ ap (λ (t : List ℕ). length t + 5) (spell_pairs-is ps)
 
--- ---- what is in a list is smaller
-pub value_in :
-    (vs : List AMQPValue) (i : ℕ) (v : AMQPValue) → i < length vs → v ≡ get_or vs i v →
-    value_size (value_of v) < values_size (map value_of vs)
-value_in [] i v lt is = absurd (omega arith)
-value_in (x ∷ vs) zero v lt is = omega (arith, ap (λ y. value_size (value_of y)) is)
-value_in (x ∷ vs) (suc i) v lt is = omega (arith, value_in vs i v (omega arith) is)
-
-pub pair_in :
-    (es : List Entry) (i : ℕ) (e : Entry) → i < length es → e ≡ get_or es i e →
-    value_size (value_of e.value) < pairs_size (map pair_of es)
-pair_in [] i e lt is = absurd (omega arith)
-pair_in (x ∷ es) zero e lt is = omega (arith, ap (λ y. value_size (value_of y.value)) is)
-pair_in (x ∷ es) (suc i) e lt is = omega (arith, pair_in es i e (omega arith) is)
-
 -- what is still to put of a text of some length, which ends as whole where it began with so much space
 pub record Rest (left now : List ℕ) (free : ℕ) (whole : List ℕ) (space len : ℕ) : Type 0 where
   pub bytes : now ++ left ≡ whole
@@ -87,9 +72,11 @@ tagged_text old middle new tag body body' first second same =
 
 pub length-spell_table : (ps : List Pair) → length (spell_table ps) ≡ length (spell_pair_list ps) + 4
 length-spell_table ps =
-    omega
-    (arith, length-append (to_be_bytes w32 (length (spell_pairs (pairs_from ps)))) (spell_pairs (pairs_from ps)),
-     ap length (spell_pairs-is ps))
+    omega (
+      arith,
+      length-append (to_be_bytes w32 (length (spell_pairs (pairs_from ps)))) (spell_pairs (pairs_from ps)),
+      ap length (spell_pairs-is ps),
+    )
 
 pub spell_table-is : (ps : List Pair) → spell_table ps ≡ spell_long_string (spell_pair_list ps)
 spell_table-is ps = ap spell_long_string (spell_pairs-is ps)
@@ -112,15 +99,20 @@ four_texts r0 r1 r2 r3 r4 a b c d p q r s =
 pub length-spell_framed :
     (type channel : ℕ) (payload : List ℕ) → length (spell_framed type channel payload) ≡ length payload + 8
 length-spell_framed type channel payload =
-    omega
-    (arith, length-append (to_be_bytes w16 channel ++ to_be_bytes w32 (length payload)) (payload ++ 206 ∷ []),
-     length-append (to_be_bytes w16 channel) (to_be_bytes w32 (length payload)), length-append payload (206 ∷ []))
+    omega (
+      arith,
+      length-append (to_be_bytes w16 channel ++ to_be_bytes w32 (length payload)) (payload ++ 206 ∷ []),
+      length-append (to_be_bytes w16 channel) (to_be_bytes w32 (length payload)),
+      length-append payload (206 ∷ []),
+    )
 
 pub length-spell_method : (m : Method) → length (spell_method m) ≡ length (spell_arguments m) + 4
 length-spell_method m =
-    omega
-    (arith, length-append (to_be_bytes w16 (class_of m)) (to_be_bytes w16 (number_of m) ++ spell_arguments m),
-     length-append (to_be_bytes w16 (number_of m)) (spell_arguments m))
+    omega (
+      arith,
+      length-append (to_be_bytes w16 (class_of m)) (to_be_bytes w16 (number_of m) ++ spell_arguments m),
+      length-append (to_be_bytes w16 (number_of m)) (spell_arguments m),
+    )
 
 pub ruleset frame_lengths = (length-spell_framed, length-spell_method)
 

@@ -1,4 +1,5 @@
--- What a frame keeps whose written spelling is one of its spellings, but for its length: numbers in their range, short strings in their length, tables in order and not too deep, and a payload of its kind.
+-- What a frame keeps whose written spelling is one of its spellings, but for its length: numbers in their range, short
+-- strings in their length, tables in order and not too deep, and a payload of its kind.
 use Rattle.std.specs.Prelude.{◌≡◌, ℕ, suc, ◌<◌, ◌^◌, max, List, length, ⊤, FitsSigned}
 use Rattle.std.specs.Int.{w8, w16, w32, w64}
 use Rattle.amqp_types.specs.Value.{Scalar, boolean, short_short_int, short_short_uint, short_int, short_uint, long_int, long_uint, long_long_int, float, double, decimal, long_string, byte_array, timestamp, void, FieldValue, scalar, array, table, FieldValues, no_values, value, FieldPairs, no_pairs, pair, Pair, pairs_of, pairs_from}
@@ -64,15 +65,20 @@ KeepsTable pairs = IsInOrder pairs × KeepsPairs (pairs_from pairs) × (pairs_de
 
 -- the arguments of a method are numbers in their range, short strings in their length, and such tables
 abbrev pub KeepsArguments : AnyMethod → Type 0
-KeepsArguments (Start major minor properties mechanisms locales) = (major < 2 ^ 8) × (minor < 2 ^ 8) × KeepsTable properties
-KeepsArguments (StartOk properties mechanism response locale) = KeepsTable properties × (length mechanism < 2 ^ 8) × (length locale < 2 ^ 8)
+KeepsArguments (Start major minor properties mechanisms locales) =
+    (major < 2 ^ 8) × (minor < 2 ^ 8) × KeepsTable properties
+KeepsArguments (StartOk properties mechanism response locale) =
+    KeepsTable properties × (length mechanism < 2 ^ 8) × (length locale < 2 ^ 8)
 KeepsArguments (Secure challenge) = ⊤
 KeepsArguments (SecureOk response) = ⊤
-KeepsArguments (Tune channel_max frame_max heartbeat) = (channel_max < 2 ^ 16) × (frame_max < 2 ^ 32) × (heartbeat < 2 ^ 16)
-KeepsArguments (TuneOk channel_max frame_max heartbeat) = (channel_max < 2 ^ 16) × (frame_max < 2 ^ 32) × (heartbeat < 2 ^ 16)
+KeepsArguments (Tune channel_max frame_max heartbeat) =
+    (channel_max < 2 ^ 16) × (frame_max < 2 ^ 32) × (heartbeat < 2 ^ 16)
+KeepsArguments (TuneOk channel_max frame_max heartbeat) =
+    (channel_max < 2 ^ 16) × (frame_max < 2 ^ 32) × (heartbeat < 2 ^ 16)
 KeepsArguments (Open vhost) = length vhost < 2 ^ 8
 KeepsArguments OpenOk = ⊤
-KeepsArguments (Close code text class method) = (code < 2 ^ 16) × (length text < 2 ^ 8) × (class < 2 ^ 16) × (method < 2 ^ 16)
+KeepsArguments (Close code text class method) =
+    (code < 2 ^ 16) × (length text < 2 ^ 8) × (class < 2 ^ 16) × (method < 2 ^ 16)
 KeepsArguments CloseOk = ⊤
 KeepsArguments (Blocked reason) = length reason < 2 ^ 8
 KeepsArguments Unblocked = ⊤
@@ -82,7 +88,8 @@ KeepsArguments ChannelOpen = ⊤
 KeepsArguments ChannelOpenOk = ⊤
 KeepsArguments (ChannelFlow active) = ⊤
 KeepsArguments (ChannelFlowOk active) = ⊤
-KeepsArguments (ChannelClose code text class method) = (code < 2 ^ 16) × (length text < 2 ^ 8) × (class < 2 ^ 16) × (method < 2 ^ 16)
+KeepsArguments (ChannelClose code text class method) =
+    (code < 2 ^ 16) × (length text < 2 ^ 8) × (class < 2 ^ 16) × (method < 2 ^ 16)
 KeepsArguments ChannelCloseOk = ⊤
 
 -- the frame keeps the rules of numbers, strings, tables and payloads

@@ -119,7 +119,8 @@ pub fn write_frame<R: Room>(frame: &Frame, room: &mut R) -> Result<(), Full>
     ensures full { IsErr result ↔ (R.free room.old < length (encoding frame.now)) }
     ensures bytes { OnOk result (R.put_so_far room.new ≡ R.put_so_far room.old ++ encoding frame.now) }
     ensures space { OnOk result (R.free room.new + length (encoding frame.now) ≡ R.free room.old) }
-    ensures unchanged { OnErr result ((R.put_so_far room.new ≡ R.put_so_far room.old) × (R.free room.new ≡ R.free room.old)) }
+    ensures unchanged { OnErr result
+        ((R.put_so_far room.new ≡ R.put_so_far room.old) × (R.free room.new ≡ R.free room.old)) }
 {
     if (room.space() as u64) < encoded_len(frame) {
         return Err(Full);

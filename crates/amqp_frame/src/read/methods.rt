@@ -1,6 +1,6 @@
 //! Reading of methods.
 
-ghost use Rattle.std.specs.Prelude.{◌≡◌};
+ghost use Rattle.std.specs.Prelude.{◌≡◌, ◌%◌, ◌==◌};
 ghost use Rattle.std.specs.Int.{w16};
 ghost use Rattle.amqp_types.specs.Reading.{octet_at, number_at, short_string_at, long_string_at, ◌⊗◌, read_map};
 ghost use Rattle.amqp_frame.specs.Reads.{Reads};
@@ -92,7 +92,8 @@ fn login<V: View>(
     alloc: Global,
     cursor: &mut Cursor<'_, V>,
 ) -> Result<(ShortString, LongString, ShortString), Fault>
-    ensures { Reads (λ t. (t.0, (t.1, t.2))) result cursor.new ((short_string_at ⊗ long_string_at ⊗ short_string_at) cursor.old) }
+    ensures { Reads (λ t. (t.0, (t.1, t.2))) result cursor.new
+        ((short_string_at ⊗ long_string_at ⊗ short_string_at) cursor.old) }
 {
     let mechanism = cursor.short_string(alloc)?;
     match long_and_short(alloc, cursor) {
@@ -232,6 +233,13 @@ pub fn connection_method<V: View>(
     }
 }
 
+// An octet of which the lowest bit counts.
+fn bit<V: View>(cursor: &mut Cursor<'_, V>) -> Result<bool, Fault>
+    ensures { Reads (λ b. b) result cursor.new (read_map (λ n. n % 2 == 1) octet_at cursor.old) }
+{
+    Ok(cursor.octet()? % 2 == 1)
+}
+
 /// The arguments of a method of the channel class.
 #[tactic(auto, unfolding(crate::specs::FrameReading::channel_arguments_at))]
 pub fn channel_method<V: View>(
@@ -244,8 +252,8 @@ pub fn channel_method<V: View>(
     match number {
         10 => cursor.short_split().map(|_| Method::ChannelOpen),
         11 => cursor.long_split().map(|_| Method::ChannelOpenOk),
-        20 => cursor.octet().map(|octet| Method::ChannelFlow(octet % 2 == 1)),
-        21 => cursor.octet().map(|octet| Method::ChannelFlowOk(octet % 2 == 1)),
+        20 => bit(cursor).map(Method::ChannelFlow),
+        21 => bit(cursor).map(Method::ChannelFlowOk),
         40 => channel_close(alloc, cursor),
         41 => Ok(Method::ChannelCloseOk),
         _ => Err(Fault::Bad),

@@ -68,7 +68,8 @@ fn number64_value<V: View>(tag: u8, cursor: &mut Cursor<'_, V>) -> Result<AMQPVa
 
 // A scale and a number.
 fn decimal<V: View>(cursor: &mut Cursor<'_, V>) -> Result<AMQPValue, Fault>
-    ensures { Reads value_of result cursor.new (read_map (λ p. scalar_value (decimal_value p.0 p.1)) (octet_at ⊗ number_at w32) cursor.old) }
+    ensures { Reads value_of result cursor.new
+        (read_map (λ p. scalar_value (decimal_value p.0 p.1)) (octet_at ⊗ number_at w32) cursor.old) }
 {
     let scale = cursor.octet()?;
     let number = cursor.number32()?;

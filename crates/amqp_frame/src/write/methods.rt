@@ -78,7 +78,8 @@ fn put_start<R: Room>(
     room: &mut R,
 )
     requires small { length (spell_arguments (m.Start major minor properties.now mechanisms.now locales.now)) < 2 ^ 32 }
-    requires fits { length (spell_arguments (m.Start major minor properties.now mechanisms.now locales.now)) ≤ R.free room.old }
+    requires fits { length (spell_arguments (m.Start major minor properties.now mechanisms.now locales.now))
+        ≤ R.free room.old }
     ensures bytes { R.put_so_far room.new ≡ R.put_so_far room.old
         ++ spell_arguments (m.Start major minor properties.now mechanisms.now locales.now) }
     ensures space { R.free room.new
@@ -99,8 +100,10 @@ fn put_start_ok<R: Room>(
     locale: &ShortString,
     room: &mut R,
 )
-    requires small { length (spell_arguments (m.StartOk properties.now mechanism.now response.now locale.now)) < 2 ^ 32 }
-    requires fits { length (spell_arguments (m.StartOk properties.now mechanism.now response.now locale.now)) ≤ R.free room.old }
+    requires small { length (spell_arguments (m.StartOk properties.now mechanism.now response.now locale.now))
+        < 2 ^ 32 }
+    requires fits { length (spell_arguments (m.StartOk properties.now mechanism.now response.now locale.now))
+        ≤ R.free room.old }
     ensures bytes { R.put_so_far room.new ≡ R.put_so_far room.old
         ++ spell_arguments (m.StartOk properties.now mechanism.now response.now locale.now) }
     ensures space { R.free room.new
@@ -127,7 +130,8 @@ fn put_open<R: Room>(vhost: &ShortString, room: &mut R)
 fn put_update_secret<R: Room>(secret: &LongString, reason: &ShortString, room: &mut R)
     requires small { length secret.now < 2 ^ 32 }
     requires fits { length secret.now + length reason.now + 5 ≤ R.free room.old }
-    ensures bytes { R.put_so_far room.new ≡ R.put_so_far room.old ++ spell_arguments (m.UpdateSecret secret.now reason.now) }
+    ensures bytes { R.put_so_far room.new ≡ R.put_so_far room.old
+        ++ spell_arguments (m.UpdateSecret secret.now reason.now) }
     ensures space { R.free room.new + (length secret.now + length reason.now + 5) ≡ R.free room.old }
 {
     put_long(secret.as_bytes(), room);
@@ -168,9 +172,6 @@ pub fn put_arguments<R: Room>(method: &Method, room: &mut R)
         Method::ChannelClose(code, text, class, method) => {
             put_close(*code, text, *class, *method, room)
         }
-        Method::CloseOk
-        | Method::Unblocked
-        | Method::UpdateSecretOk
-        | Method::ChannelCloseOk => {}
+        Method::CloseOk | Method::Unblocked | Method::UpdateSecretOk | Method::ChannelCloseOk => {}
     }
 }

@@ -39,19 +39,19 @@ array-returns-in_err-body g t c =
     let p = err_from_is_err_and c.from_residual.result c.from_residual.ensures.1 in
     rw (p.1, p.2)
     (fails_with c.in_err-body.field-0.0 (long_string_at c.args.cursor.now) (array_at c.args.depth c.args.cursor.now)
-     c.in_err-body.ensures
-     (λ none. array_at_is c.args.depth (c.args.depth - 1) c.args.cursor.now (omega arith) ∙ bind_none _ _ none))
+    c.in_err-body.ensures
+    (λ none. array_at_is c.args.depth (c.args.depth - 1) c.args.cursor.now (omega arith) ∙ bind_none _ _ none))
 
 pub array-returns-in_err-found : goal.array-returns-in_err-found
 array-returns-in_err-found g t c =
     let p = err_from_is_err_and c.from_residual-in_err-found.result c.from_residual-in_err-found.ensures.1 in
     rw (p.1, p.2)
     (fails_with c.in_err-found.field-0.0
-     (row_at (value_at (c.args.depth - 1)) (length c.in_ok-body.body) c.in_ok-body.body)
-     (array_at c.args.depth c.args.cursor.now) c.in_err-found.ensures
-     (λ none.
-      array_at_is c.args.depth (c.args.depth - 1) c.args.cursor.now (omega arith)
-      ∙ bind_is _ _ (c.in_ok-body.body, c.long_split.new.self) _ c.in_ok-body.ensures (bind_none _ _ none)))
+    (row_at (value_at (c.args.depth - 1)) (length c.in_ok-body.body) c.in_ok-body.body)
+    (array_at c.args.depth c.args.cursor.now) c.in_err-found.ensures
+    (λ none.
+    array_at_is c.args.depth (c.args.depth - 1) c.args.cursor.now (omega arith)
+    ∙ bind_is _ _ (c.in_ok-body.body, c.long_split.new.self) _ c.in_ok-body.ensures (bind_none _ _ none)))
 
 pub array-returns : goal.array-returns
 array-returns g t c =
@@ -68,32 +68,34 @@ table-returns-in_err-body g t c =
     let p = err_from_is_err_and c.from_residual.result c.from_residual.ensures.1 in
     rw (p.1, p.2)
     (fails_with c.in_err-body.field-0.0 (long_string_at c.args.cursor.now) (table_at c.args.depth c.args.cursor.now)
-     c.in_err-body.ensures
-     (λ none. table_at_is c.args.depth (c.args.depth - 1) c.args.cursor.now (omega arith) ∙ bind_none _ _ none))
+    c.in_err-body.ensures
+    (λ none. table_at_is c.args.depth (c.args.depth - 1) c.args.cursor.now (omega arith) ∙ bind_none _ _ none))
 
 pub table-returns-in_err-found : goal.table-returns-in_err-found
 table-returns-in_err-found g t c =
     let p = err_from_is_err_and c.from_residual-in_err-found.result c.from_residual-in_err-found.ensures.1 in
     rw (p.1, p.2)
     (fails_with c.in_err-found.field-0.0
-     (row_at (pair_with (value_at (c.args.depth - 1))) (length c.in_ok-body.body) c.in_ok-body.body)
-     (table_at c.args.depth c.args.cursor.now) c.in_err-found.ensures
-     (λ none.
-      table_at_is c.args.depth (c.args.depth - 1) c.args.cursor.now (omega arith)
-      ∙ bind_is _ _ (c.in_ok-body.body, c.long_split.new.self) _ c.in_ok-body.ensures (bind_none _ _ none)))
+    (row_at (pair_with (value_at (c.args.depth - 1))) (length c.in_ok-body.body) c.in_ok-body.body)
+    (table_at c.args.depth c.args.cursor.now) c.in_err-found.ensures
+    (λ none.
+    table_at_is c.args.depth (c.args.depth - 1) c.args.cursor.now (omega arith)
+    ∙ bind_is _ _ (c.in_ok-body.body, c.long_split.new.self) _ c.in_ok-body.ensures (bind_none _ _ none)))
 
 pub table-returns : goal.table-returns
 table-returns g t c =
     table_at_is c.args.depth (c.args.depth - 1) c.args.cursor.now (omega arith)
     ∙ bind_is _ _ (c.in_ok-body.body, c.long_split.new.self) _ c.in_ok-body.ensures
     (bind_is _ _ (map pair_of c.in_ok-found.found.items) _ c.in_ok-found.ensures
-     (ap (λ (ps : List Pair). Some (ps, c.long_split.new.self)) (sym c.in_ok-from_entries.ensures.last_counts)))
+    (ap (λ (ps : List Pair). Some (ps, c.long_split.new.self)) (sym c.in_ok-from_entries.ensures.last_counts)))
 
 -- ---- the values of an array
 pub values-loop-alloc-init : goal.values-loop-alloc-init
-values-loop-alloc-init g t c =
-    (length c.args.body.now, omega arith,
-     rw c.new-values.ensures (append_none (row_at (value_at c.args.depth) (length c.args.body.now) c.args.body.now)))
+values-loop-alloc-init g t c = (
+  length c.args.body.now,
+  omega arith,
+  rw c.new-values.ensures (append_none (row_at (value_at c.args.depth) (length c.args.body.now) c.args.body.now)),
+)
 
 pub values-returns-in_err-value : goal.values-returns-in_err-value
 values-returns-in_err-value g t c =
@@ -102,8 +104,8 @@ values-returns-in_err-value g t c =
     let some_left : l.body ≡ [] → ⊥ = grind arith in
     rw (p.1, p.2)
     (fails_with c.in_err-value.field-0.0 (value_at c.args.depth l.body) _ c.in_err-value.ensures
-     (row_fails (value_at c.args.depth) (λ vs. l.values ++ vs) l.invariant.0 l.body _ l.invariant.2 some_left
-      l.invariant.1))
+    (row_fails (value_at c.args.depth) (λ vs. l.values ++ vs) l.invariant.0 l.body _ l.invariant.2 some_left
+    l.invariant.1))
 
 pub values-loop-alloc-smaller : goal.values-loop-alloc-smaller
 values-loop-alloc-smaller g t c =
@@ -131,10 +133,12 @@ values-returns g t c =
 
 -- ---- the pairs of a table
 pub pairs-loop-alloc-init : goal.pairs-loop-alloc-init
-pairs-loop-alloc-init g t c =
-    (length c.args.body.now, omega arith,
-     rw c.new-entries.ensures.items
-     (append_none (row_at (pair_with (value_at c.args.depth)) (length c.args.body.now) c.args.body.now)))
+pairs-loop-alloc-init g t c = (
+  length c.args.body.now,
+  omega arith,
+  rw c.new-entries.ensures.items
+      (append_none (row_at (pair_with (value_at c.args.depth)) (length c.args.body.now) c.args.body.now)),
+)
 
 pub pairs-returns-in_err-name : goal.pairs-returns-in_err-name
 pairs-returns-in_err-name g t c =
@@ -143,9 +147,9 @@ pairs-returns-in_err-name g t c =
     let some_left : l.body ≡ [] → ⊥ = grind arith in
     rw (p.1, p.2)
     (fails_with c.in_err-name.field-0.0 (short_string_at l.body) _ c.in_err-name.ensures
-     (λ none.
-      row_fails (pair_with (value_at c.args.depth)) (λ ps. map pair_of l.entries.items ++ ps) l.invariant.0 l.body _
-      l.invariant.2 some_left l.invariant.1 (no_pair_name c.args.depth l.body none)))
+    (λ none.
+    row_fails (pair_with (value_at c.args.depth)) (λ ps. map pair_of l.entries.items ++ ps) l.invariant.0 l.body _
+    l.invariant.2 some_left l.invariant.1 (no_pair_name c.args.depth l.body none)))
 
 pub pairs-returns-in_err-value : goal.pairs-returns-in_err-value
 pairs-returns-in_err-value g t c =
@@ -155,10 +159,10 @@ pairs-returns-in_err-value g t c =
     let middle = c.short_string.new.self in
     rw (p.1, p.2)
     (fails_with c.in_err-value.field-0.0 (value_at c.args.depth middle) _ c.in_err-value.ensures
-     (λ none.
-      row_fails (pair_with (value_at c.args.depth)) (λ ps. map pair_of l.entries.items ++ ps) l.invariant.0 l.body _
-      l.invariant.2 some_left l.invariant.1
-      (no_pair_value c.args.depth l.body middle c.in_ok-name.name c.in_ok-name.ensures none)))
+    (λ none.
+    row_fails (pair_with (value_at c.args.depth)) (λ ps. map pair_of l.entries.items ++ ps) l.invariant.0 l.body _
+    l.invariant.2 some_left l.invariant.1
+    (no_pair_value c.args.depth l.body middle c.in_ok-name.name c.in_ok-name.ensures none)))
 
 pub pairs-loop-alloc-smaller : goal.pairs-loop-alloc-smaller
 pairs-loop-alloc-smaller g t c =

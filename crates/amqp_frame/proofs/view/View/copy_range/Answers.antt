@@ -11,4 +11,4 @@ loop-index-preserved g c =
     c.at.ensures
     ∙ sym
     (window_more (g.Self.View.bytes c.args.self.now) c.args.start c.loop-index.index
-     (omega (arith, c.loop-index.auto.index)) (omega (arith, c.loop-index-test.true, c.requires.within)))
+    (omega (arith, c.loop-index.auto.index)) (omega (arith, c.loop-index-test.true, c.requires.within)))

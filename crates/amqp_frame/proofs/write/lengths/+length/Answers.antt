@@ -3,7 +3,8 @@ use Rattle.std.proofs.lemmas.List.{drop_all}
 use Rattle.amqp_types.specs.View.{value_of, pair_of}
 use Rattle.amqp_types.specs.TableSize.{value_size, values_size, pairs_size}
 use Rattle.amqp_frame.specs.Lengths.{spell_list, spell_pair_list}
-use Rattle.amqp_frame.proofs.Texts.{length-array, length-table, value_in, pair_in}
+use Rattle.amqp_types.proofs.Sameness.{value_in, pair_in}
+use Rattle.amqp_frame.proofs.Texts.{length-array, length-table}
 use Rattle.amqp_frame.proofs.write.lengths.+length.Goals as goal
 
 pub value_len-returns-in-FieldArray : goal.value_len-returns-in-FieldArray

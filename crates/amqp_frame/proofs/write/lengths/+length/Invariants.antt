@@ -17,10 +17,10 @@ abbrev pub invariant-values_len-loop-value : goal.invariant-values_len-loop-valu
 invariant-values_len-loop-value l =
     (l.total < 2 ^ 64) ×
     (capped (l.total + length (spell_list (map value_of (drop l.value-index l.value-items)))) ≡ capped
-     (length (spell_list l.fn.values)))
+    (length (spell_list l.fn.values)))
 
 abbrev pub invariant-pairs_len-loop-entry : goal.invariant-pairs_len-loop-entry
 invariant-pairs_len-loop-entry l =
     (l.total < 2 ^ 64) ×
     (capped (l.total + length (spell_pair_list (map pair_of (drop l.entry-index l.entry-items)))) ≡ capped
-     (length (spell_pair_list l.fn.table)))
+    (length (spell_pair_list l.fn.table)))
