@@ -31,30 +31,36 @@ IsInRange void = ⊤
 
 -- the same of all that stands in a value, with names that are short strings and tables in the order of their names
 abbrev mutual
+  -- of a value
   pub KeepsValue : FieldValue → Type 0
   KeepsValue (scalar s) = IsInRange s
   KeepsValue (array vs) = KeepsValues vs
   KeepsValue (table ps) = IsInOrder (pairs_of ps) × KeepsPairs ps
 
+  -- of the values of an array
   pub KeepsValues : FieldValues → Type 0
   KeepsValues no_values = ⊤
   KeepsValues (value v vs) = KeepsValue v × KeepsValues vs
 
+  -- of the pairs of a table
   pub KeepsPairs : FieldPairs → Type 0
   KeepsPairs no_pairs = ⊤
   KeepsPairs (pair name v ps) = (length name < 2 ^ 8) × KeepsValue v × KeepsPairs ps
 
--- how many tables and arrays stand in one another in a value, in values and in pairs
+-- how many tables and arrays stand in one another at most
 abbrev mutual
+  -- in a value, itself included
   pub value_depth : FieldValue → ℕ
   value_depth (scalar s) = 0
   value_depth (array vs) = suc (values_depth vs)
   value_depth (table ps) = suc (pairs_depth ps)
 
+  -- in the values of an array
   pub values_depth : FieldValues → ℕ
   values_depth no_values = 0
   values_depth (value v vs) = max (value_depth v) (values_depth vs)
 
+  -- in the pairs of a table
   pub pairs_depth : FieldPairs → ℕ
   pairs_depth no_pairs = 0
   pairs_depth (pair name v ps) = max (value_depth v) (pairs_depth ps)

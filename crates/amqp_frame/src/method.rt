@@ -156,7 +156,7 @@ fn clone_two_long(
     }
 }
 
-// An equal long string with an equal short string behind it.
+// An equal long string and an equal short string.
 fn clone_long_and_short(
     alloc: Global,
     first: &LongString,
@@ -174,6 +174,7 @@ fn clone_long_and_short(
     }
 }
 
+// An equal connection.start.
 fn clone_start(
     alloc: Global,
     major: u8,
@@ -196,6 +197,7 @@ fn clone_start(
     }
 }
 
+// An equal mechanism, response and locale.
 fn clone_login(
     alloc: Global,
     mechanism: &ShortString,
@@ -214,6 +216,7 @@ fn clone_login(
     }
 }
 
+// An equal connection.start-ok.
 fn clone_start_ok(
     alloc: Global,
     properties: &FieldTable,
@@ -235,6 +238,7 @@ fn clone_start_ok(
     }
 }
 
+// An equal connection.update-secret.
 fn clone_update_secret(
     alloc: Global,
     secret: &LongString,

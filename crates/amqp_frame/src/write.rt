@@ -34,6 +34,7 @@ pub fn encoded_len(frame: &Frame) -> u64
     }
 }
 
+// The octet by which a frame that is passed through names its type.
 fn type_octet(kind: RawKind) -> u8
     ensures { result ≡ type_of kind }
 {
@@ -89,6 +90,7 @@ fn put_raw<R: Room>(channel: ChannelId, kind: RawKind, payload: &[u8], room: &mu
     put_octet(FRAME_END, room);
 }
 
+// A frame for which there is space.
 #[tactic(auto, using(crate::proofs::Texts::frame_lengths))]
 fn put_frame<R: Room>(frame: &Frame, room: &mut R)
     requires small { length (encoding frame.now) < 2 ^ 32 }

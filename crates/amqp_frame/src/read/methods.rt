@@ -19,7 +19,7 @@ use std::alloc::Global;
 // amqp_types.
 const MAX_DEPTH: u8 = 128;
 
-// Two long strings.
+// Two long strings, one after the other.
 fn two_long<V: View>(
     alloc: Global,
     cursor: &mut Cursor<'_, V>,
@@ -36,7 +36,7 @@ fn two_long<V: View>(
     }
 }
 
-// A long string and a short string.
+// A long string, and a short string behind it.
 fn long_and_short<V: View>(
     alloc: Global,
     cursor: &mut Cursor<'_, V>,
@@ -53,6 +53,7 @@ fn long_and_short<V: View>(
     }
 }
 
+// connection.start.
 #[tactic(auto, unfolding(crate::specs::FrameReading::start_at))]
 fn start<V: View>(alloc: Global, cursor: &mut Cursor<'_, V>) -> Result<Method, Fault>
     ensures { Reads (λ m. m) result cursor.new (start_at cursor.old) }
@@ -71,6 +72,7 @@ fn start<V: View>(alloc: Global, cursor: &mut Cursor<'_, V>) -> Result<Method, F
     }
 }
 
+// connection.start-ok.
 #[tactic(auto, unfolding(crate::specs::FrameReading::start_ok_at))]
 fn start_ok<V: View>(alloc: Global, cursor: &mut Cursor<'_, V>) -> Result<Method, Fault>
     ensures { Reads (λ m. m) result cursor.new (start_ok_at cursor.old) }
@@ -115,6 +117,7 @@ fn numbers<V: View>(cursor: &mut Cursor<'_, V>) -> Result<(u16, u32, u16), Fault
     Ok((channel_max, frame_max, heartbeat))
 }
 
+// connection.tune.
 #[tactic(auto, unfolding(crate::specs::FrameReading::tune_at))]
 fn tune<V: View>(cursor: &mut Cursor<'_, V>) -> Result<Method, Fault>
     ensures { Reads (λ m. m) result cursor.new (tune_at cursor.old) }
@@ -123,6 +126,7 @@ fn tune<V: View>(cursor: &mut Cursor<'_, V>) -> Result<Method, Fault>
     Ok(Method::Tune(channel_max, frame_max, heartbeat))
 }
 
+// connection.tune-ok.
 #[tactic(auto, unfolding(crate::specs::FrameReading::tune_ok_at))]
 fn tune_ok<V: View>(cursor: &mut Cursor<'_, V>) -> Result<Method, Fault>
     ensures { Reads (λ m. m) result cursor.new (tune_ok_at cursor.old) }
@@ -140,6 +144,7 @@ fn reserved<V: View>(cursor: &mut Cursor<'_, V>) -> Result<(), Fault>
     Ok(())
 }
 
+// connection.open.
 #[tactic(auto, unfolding(crate::specs::FrameReading::open_at))]
 fn open<V: View>(alloc: Global, cursor: &mut Cursor<'_, V>) -> Result<Method, Fault>
     ensures { Reads (λ m. m) result cursor.new (open_at cursor.old) }
@@ -181,6 +186,7 @@ fn reasons<V: View>(
     }
 }
 
+// connection.close.
 #[tactic(auto, unfolding(crate::specs::FrameReading::close_at))]
 fn close<V: View>(alloc: Global, cursor: &mut Cursor<'_, V>) -> Result<Method, Fault>
     ensures { Reads (λ m. m) result cursor.new (close_at cursor.old) }
@@ -189,6 +195,7 @@ fn close<V: View>(alloc: Global, cursor: &mut Cursor<'_, V>) -> Result<Method, F
     Ok(Method::Close(code, text, class, method))
 }
 
+// channel.close.
 #[tactic(auto, unfolding(crate::specs::FrameReading::channel_close_at))]
 fn channel_close<V: View>(alloc: Global, cursor: &mut Cursor<'_, V>) -> Result<Method, Fault>
     ensures { Reads (λ m. m) result cursor.new (channel_close_at cursor.old) }
@@ -197,6 +204,7 @@ fn channel_close<V: View>(alloc: Global, cursor: &mut Cursor<'_, V>) -> Result<M
     Ok(Method::ChannelClose(code, text, class, method))
 }
 
+// connection.update-secret.
 #[tactic(auto, unfolding(crate::specs::FrameReading::update_secret_at))]
 fn update_secret<V: View>(alloc: Global, cursor: &mut Cursor<'_, V>) -> Result<Method, Fault>
     ensures { Reads (λ m. m) result cursor.new (update_secret_at cursor.old) }
