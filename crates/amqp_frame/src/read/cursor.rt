@@ -11,7 +11,7 @@ use std::alloc::{AllocFailed, Global};
 use std::marker::Model;
 
 /// Why nothing could be read.
-#[derive(Clone, Copy, Debug, PartialEq, Eq)]
+#[derive(Clone, Copy)]
 pub enum Fault {
     /// No front of the octets spells what was looked for.
     Bad,
