@@ -1,6 +1,6 @@
 //! Reading of field values, arrays and tables.
 
-ghost use Rattle.std.specs.Prelude.{◌≡◌, ◌⊎◌, length, map};
+ghost use Rattle.std.specs.Prelude.{◌≡◌, length, map};
 ghost use Rattle.std.specs.Int.{w32};
 ghost use Rattle.amqp_types.specs.Reading.{octet_at, number_at, long_string_at, ◌⊗◌, scalar_at, read_map};
 ghost use Rattle.amqp_types.specs.Reading.{value_at, array_at, table_at, row_at, pair_with};
@@ -12,59 +12,6 @@ use crate::read::cursor::{Cursor, Fault};
 use crate::view::View;
 use amqp_types::{AMQPValue, Entry, FieldTable, Payload, Values};
 use std::alloc::Global;
-
-// A Boolean or a number of one octet.
-#[tactic(auto, unfolding(amqp_types::specs::Reading::scalar_at))]
-fn octet_value<V: View>(tag: u8, cursor: &mut Cursor<'_, V>) -> Result<AMQPValue, Fault>
-    requires { (tag ≡ 116) ⊎ ((tag ≡ 98) ⊎ (tag ≡ 66)) }
-    ensures { Reads value_of result cursor.new (read_map scalar_value (scalar_at tag) cursor.old) }
-{
-    let octet = cursor.octet()?;
-    Ok(match tag {
-        b't' => AMQPValue::Boolean(octet != 0),
-        b'b' => AMQPValue::ShortShortInt(octet.cast_signed()),
-        _ => AMQPValue::ShortShortUInt(octet),
-    })
-}
-
-// A number of 16 bits.
-#[tactic(auto, unfolding(amqp_types::specs::Reading::scalar_at))]
-fn number16_value<V: View>(tag: u8, cursor: &mut Cursor<'_, V>) -> Result<AMQPValue, Fault>
-    requires { (tag ≡ 115) ⊎ (tag ≡ 117) }
-    ensures { Reads value_of result cursor.new (read_map scalar_value (scalar_at tag) cursor.old) }
-{
-    let number = cursor.number16()?;
-    Ok(match tag {
-        b's' => AMQPValue::ShortInt(number.cast_signed()),
-        _ => AMQPValue::ShortUInt(number),
-    })
-}
-
-// A number of 32 bits.
-#[tactic(auto, unfolding(amqp_types::specs::Reading::scalar_at))]
-fn number32_value<V: View>(tag: u8, cursor: &mut Cursor<'_, V>) -> Result<AMQPValue, Fault>
-    requires { (tag ≡ 73) ⊎ (tag ≡ 105) }
-    ensures { Reads value_of result cursor.new (read_map scalar_value (scalar_at tag) cursor.old) }
-{
-    let number = cursor.number32()?;
-    Ok(match tag {
-        b'I' => AMQPValue::LongInt(number.cast_signed()),
-        _ => AMQPValue::LongUInt(number),
-    })
-}
-
-// A number of 64 bits, or a timestamp.
-#[tactic(auto, unfolding(amqp_types::specs::Reading::scalar_at))]
-fn number64_value<V: View>(tag: u8, cursor: &mut Cursor<'_, V>) -> Result<AMQPValue, Fault>
-    requires { (tag ≡ 108) ⊎ (tag ≡ 84) }
-    ensures { Reads value_of result cursor.new (read_map scalar_value (scalar_at tag) cursor.old) }
-{
-    let number = cursor.number64()?;
-    Ok(match tag {
-        b'l' => AMQPValue::LongLongInt(number.cast_signed()),
-        _ => AMQPValue::Timestamp(number),
-    })
-}
 
 // A scale and a number.
 fn decimal<V: View>(cursor: &mut Cursor<'_, V>) -> Result<AMQPValue, Fault>
@@ -90,15 +37,28 @@ fn scalar<V: View>(alloc: Global, tag: u8, cursor: &mut Cursor<'_, V>) -> Result
     ensures { Reads value_of result cursor.new (read_map scalar_value (scalar_at tag) cursor.old) }
 {
     match tag {
-        b't' | b'b' | b'B' => octet_value(tag, cursor),
-        b's' | b'u' => number16_value(tag, cursor),
-        b'I' | b'i' => number32_value(tag, cursor),
-        b'l' | b'T' => number64_value(tag, cursor),
+        b't' => cursor.octet().map(|octet| AMQPValue::Boolean(octet != 0)),
+        b'b' => cursor
+            .octet()
+            .map(|octet| AMQPValue::ShortShortInt(octet.cast_signed())),
+        b'B' => cursor.octet().map(AMQPValue::ShortShortUInt),
+        b's' => cursor
+            .number16()
+            .map(|number| AMQPValue::ShortInt(number.cast_signed())),
+        b'u' => cursor.number16().map(AMQPValue::ShortUInt),
+        b'I' => cursor
+            .number32()
+            .map(|number| AMQPValue::LongInt(number.cast_signed())),
+        b'i' => cursor.number32().map(AMQPValue::LongUInt),
+        b'l' => cursor
+            .number64()
+            .map(|number| AMQPValue::LongLongInt(number.cast_signed())),
         b'f' => cursor.octets4().map(AMQPValue::Float),
         b'd' => cursor.octets8().map(AMQPValue::Double),
         b'D' => decimal(cursor),
         b'S' => cursor.long_string(alloc).map(AMQPValue::LongString),
         b'x' => byte_array(alloc, cursor).map(AMQPValue::ByteArray),
+        b'T' => cursor.number64().map(AMQPValue::Timestamp),
         b'V' => Ok(AMQPValue::Void),
         _ => Err(Fault::Bad),
     }
