@@ -1,5 +1,5 @@
 -- Memory is asked for a payload that is copied, of a frame that is all there.
-use Rattle.std.proofs.Common.{◌≡◌, ◌⊎◌, ℕ, ◌+◌, ◌<◌, ◌≤◌, Bool, true, false, not, cond, eqb, ltb, List, [], ◌∷◌, ◌++◌, length, Option, Some, None, refl, sym, ap, ap₂, subst, ◌∙◌, append_assoc, arith, inl, inr}
+use Rattle.std.proofs.Common.{◌≡◌, ℕ, ◌+◌, ◌≤◌, Bool, true, false, not, cond, eqb, ltb, List, [], ◌∷◌, ◌++◌, length, Option, Some, None, refl, sym, ap, ap₂, subst, ◌∙◌, append_assoc, arith, inl, inr}
 use Rattle.std.specs.Option.{option_map_or}
 use Rattle.std.proofs.lemmas.Bool.{eqb-true, ltb-false}
 use Rattle.std.specs.Int.{w16, w32}
@@ -7,7 +7,6 @@ use mathlib.Core.Bool.{false≢true}
 use Rattle.amqp_types.specs.Forms.{IsOctets, NumberOf}
 use Rattle.amqp_types.specs.Reading.{octet_at, octets_at, number_at, ◌⊗◌}
 use Rattle.amqp_types.proofs.Readers.{IsOctets-rest, octet_reader, octets_reader, number16_reader, number32_reader, both_reader}
-use Rattle.amqp_frame.specs.Frames.{end_octet}
 use Rattle.amqp_frame.specs.Fronts.{IsTypeOctet, IsCopied, HoldsPayload}
 use Rattle.amqp_frame.specs.FrameReading.{is_type_octet}
 use Rattle.amqp_frame.specs.Asking.{payload_asks, ended_asks, sized_asks, framed_asks, front_asks}

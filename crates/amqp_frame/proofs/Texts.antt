@@ -1,5 +1,5 @@
 -- The texts of arrays and tables as texts one after another, and how long they are.
-use Rattle.std.proofs.Common.{◌≡◌, ℕ, zero, suc, ◌+◌, ◌^◌, ◌<◌, ◌≤◌, List, [], ◌∷◌, ◌++◌, length, map, drop, get_or, refl, sym, ap, ◌∙◌, append_assoc, arith}
+use Rattle.std.proofs.Common.{◌≡◌, ℕ, ◌+◌, ◌^◌, ◌<◌, ◌≤◌, List, [], ◌∷◌, ◌++◌, length, map, drop, get_or, refl, sym, ap, ◌∙◌, append_assoc, arith}
 use Rattle.std.proofs.lemmas.List.{length-append, drop_more}
 use Rattle.std.specs.Int.{w16, w32, to_be_bytes}
 use Rattle.amqp_frame.specs.declared.method.Method.{Method}
@@ -8,7 +8,6 @@ use Rattle.amqp_frame.specs.Frames.{spell_framed}
 use Rattle.amqp_types.specs.Value.{FieldValue, Pair, array, table, values_from, pairs_from}
 use Rattle.amqp_types.specs.Forms.{spell_long_string}
 use Rattle.amqp_types.specs.Spelling.{spell, spell_values, spell_pairs, spell_table}
-use Rattle.amqp_types.specs.TableSize.{value_size, values_size, pairs_size}
 use Rattle.amqp_types.specs.View.{value_of, pair_of}
 use Rattle.amqp_types.specs.declared.value.AMQPValue.{AMQPValue}
 use Rattle.amqp_types.specs.declared.value.Entry.{Entry}

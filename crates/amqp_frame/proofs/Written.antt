@@ -1,13 +1,12 @@
 -- What is written of a frame that keeps the rules is a spelling of it.
-use Rattle.std.proofs.Common.{◌≡◌, ℕ, ℤ, zero, suc, ◌+◌, ◌<◌, ◌≤◌, ◌^◌, true, false, List, [], ◌∷◌, ◌++◌, length, refl, sym, ap, subst, ◌∙◌, append_assoc, arith}
+use Rattle.std.proofs.Common.{ℕ, ℤ, zero, suc, ◌<◌, ◌≤◌, ◌^◌, true, false, List, [], ◌∷◌, ◌++◌, length, refl, sym, subst, append_assoc, arith}
 use Rattle.std.proofs.lemmas.List.{length-append}
 use Rattle.std.specs.Int.{Width, w8, w16, w32, w64, w128, to_be_bytes, cast_unsigned}
 use Rattle.std.specs.Prelude.{FitsSigned}
 use mir.Facts.{to_z-of_z}
 use mir.ValLaws.{of_z_fits}
 use Rattle.amqp_types.specs.Value.{Scalar, boolean, short_short_int, short_short_uint, short_int, short_uint, long_int, long_uint, long_long_int, float, double, decimal, long_string, byte_array, timestamp, void, FieldValue, scalar, array, table, FieldValues, no_values, value, FieldPairs, no_pairs, pair, Pair, list_of, pairs_of, pairs_from}
-use Rattle.amqp_types.specs.Forms.{OctetOf, NumberOf, SignedOf, ShortStringOf, LongStringOf, Row, spell_short_string, spell_long_string}
-use Rattle.amqp_types.specs.Table.{IsInOrder}
+use Rattle.amqp_types.specs.Forms.{OctetOf, SignedOf, ShortStringOf, LongStringOf, Row, spell_short_string, spell_long_string}
 use Rattle.amqp_types.specs.Spelling.{tag_of, ScalarOf, PairOf, Spells, SpellsTable, spell_scalar, spell, spell_values, spell_pairs, spell_table}
 use Rattle.amqp_types.proofs.TableLaws.{map_of_ordered}
 use Rattle.amqp_types.proofs.FieldReaders.{pairs_of-pairs_from}

@@ -5,7 +5,7 @@ use Rattle.std.specs.Int.{w16, w32}
 use Rattle.amqp_types.specs.Forms.{Form, ◌▸◌, OctetOf, NumberOf}
 use Rattle.amqp_types.specs.declared.version.ProtocolVersion.{ProtocolVersion}
 use Rattle.amqp_frame.specs.declared.frame.Frame.{Frame}
-use Rattle.amqp_frame.specs.declared.frame.Frame.TheVariants.{ProtocolHeader, Method, Raw, Heartbeat}
+use Rattle.amqp_frame.specs.declared.frame.Frame.TheVariants.{ProtocolHeader}
 use Rattle.amqp_frame.specs.declared.frame.Read.{Read}
 use Rattle.amqp_frame.specs.declared.frame.Read.TheVariants.{Whole, More, TooLarge, BadHeartbeat, Bad, NoMemory}
 use Rattle.amqp_frame.specs.Frames.{end_octet, Framed, Anything, FrameOf}
