@@ -11,12 +11,13 @@ use Rattle.amqp_frame.specs.declared.frame.Frame.{Frame}
 use Rattle.amqp_frame.specs.declared.frame.Read.{Read}
 use Rattle.amqp_frame.specs.declared.frame.Read.TheVariants.{Whole, More, TooLarge, BadHeartbeat, Bad, NoMemory}
 use Rattle.amqp_frame.specs.Fronts.{IsTypeOctet, Names, IsWithin, IsWhole, IsBadHeartbeat, IsTooLarge, BeginsHeader, IsShort, IsUnfinished, IsMore, IsBad, IsFront}
-use Rattle.amqp_frame.specs.FrameReading.{ended, sized, framed, expect, version, header, front, Answers}
+use Rattle.amqp_frame.specs.FrameReading.{ended, sized, framed, expect, version, header, front, Yields}
 use Rattle.amqp_frame.proofs.FrontLaws.{front_again, framed_again, framed_is, not_eqb}
 use Rattle.amqp_frame.proofs.FrontExact.{then_octet, with_number, then_number, front_sound}
 
 -- behind a type octet
-type_is_front : (type limit : ℕ) (rest : List ℕ) → IsTypeOctet type → front (type ∷ rest) limit ≡ framed type limit rest
+type_is_front :
+    (type limit : ℕ) (rest : List ℕ) → IsTypeOctet type → front (type ∷ rest) limit ≡ framed type limit rest
 unfolding front
 type_is_front type limit rest (inl e) = rw e refl
 type_is_front type limit rest (inr (inl e)) = rw e refl
@@ -36,35 +37,55 @@ number16_any c rest len =
     rw (long, take_at c rest 2 len, drop_at c rest 2 len) refl
 
 -- the channel and the size that a frame names
-named : (type size limit : ℕ) (bytes : List ℕ) → IsTypeOctet type → (n : Names type size bytes) → front bytes limit ≡ sized type limit (from_be_bytes w16 n.4.0) size n.4.4.1
+named :
+    (type size limit : ℕ) (bytes : List ℕ) → IsTypeOctet type → (n : Names type size bytes) →
+    front bytes limit ≡ sized type limit (from_be_bytes w16 n.4.0) size n.4.4.1
 named type size limit bytes types n =
     let c = n.4.0 in
-    let bytes_is : bytes ≡ type ∷ (n.4.0 ++ (n.4.4.0 ++ n.4.4.1)) = n.2 ∙ ap₂ (λ (x y : List ℕ). x ++ y) n.3.1 (n.4.2 ∙ ap (λ (x : List ℕ). n.4.0 ++ x) n.4.4.2) in
+    let bytes_is : bytes ≡ type ∷ (n.4.0 ++ (n.4.4.0 ++ n.4.4.1)) =
+    n.2 ∙ ap₂ (λ (x y : List ℕ). x ++ y) n.3.1 (n.4.2 ∙ ap (λ (x : List ℕ). n.4.0 ++ x) n.4.4.2) in
     let one = number16_any n.4.0 (n.4.4.0 ++ n.4.4.1) n.4.3 in
     let two = number32_reader.again size n.4.4.0 n.4.4.1 n.4.4.3 in
-    let both : (number_at w16 ⊗ number_at w32) (n.4.0 ++ (n.4.4.0 ++ n.4.4.1)) ≡ Some ((from_be_bytes w16 n.4.0, size), n.4.4.1) =
+    let behind : List ℕ = n.4.4.0 ++ n.4.4.1 in
+    let both : (number_at w16 ⊗ number_at w32) (n.4.0 ++ behind) ≡ Some ((from_be_bytes w16 n.4.0, size), n.4.4.1) =
     ap then_number one ∙ ap (with_number (from_be_bytes w16 n.4.0)) two in
-    ap (λ (x : List ℕ). front x limit) bytes_is ∙ type_is_front type limit (n.4.0 ++ (n.4.4.0 ++ n.4.4.1)) types ∙ framed_is type limit (from_be_bytes w16 n.4.0) size (n.4.0 ++ (n.4.4.0 ++ n.4.4.1)) n.4.4.1 both
+    ap (λ (x : List ℕ). front x limit) bytes_is
+    ∙ type_is_front type limit (n.4.0 ++ (n.4.4.0 ++ n.4.4.1)) types
+    ∙ framed_is type limit (from_be_bytes w16 n.4.0) size (n.4.0 ++ (n.4.4.0 ++ n.4.4.1)) n.4.4.1 both
 
-too_large : (type limit channel size : ℕ) (rest : List ℕ) → limit < size + 8 → sized type limit channel size rest ≡ TooLarge size
+too_large :
+    (type limit channel size : ℕ) (rest : List ℕ) → limit < size + 8 →
+    sized type limit channel size rest ≡ TooLarge size
 unfolding sized
 too_large type limit channel size rest lt = let above : ltb limit (size + 8) ≡ true = lt-true _ _ lt in rw above refl
 
 large_only : (bytes : List ℕ) (limit size : ℕ) → IsTooLarge bytes limit size → front bytes limit ≡ TooLarge size
-large_only bytes limit size h = named h.0 size limit bytes h.1 h.2 ∙ too_large h.0 limit (from_be_bytes w16 h.2.4.0) size h.2.4.4.1 h.3
+large_only bytes limit size h =
+    named h.0 size limit bytes h.1 h.2 ∙ too_large h.0 limit (from_be_bytes w16 h.2.4.0) size h.2.4.4.1 h.3
 
 ended_heartbeat : (channel : ℕ) → channel ≢ 0 → ended 8 channel 0 [] ≡ BadHeartbeat channel
 unfolding ended
 ended_heartbeat channel ne = rw (not_eqb channel 0 ne) refl
 
-heartbeat_only : (bytes : List ℕ) (limit channel : ℕ) → IsBadHeartbeat bytes limit channel → front bytes limit ≡ BadHeartbeat channel
+heartbeat_only :
+    (bytes : List ℕ) (limit channel : ℕ) → IsBadHeartbeat bytes limit channel →
+    front bytes limit ≡ BadHeartbeat channel
 heartbeat_only bytes limit channel h =
     let n = h.0 in
     let text = n.4.0 ++ (n.4.4.0 ++ n.4.4.4.0) in
     let bytes_is : bytes ≡ 8 ∷ ((n.4.0 ++ (n.4.4.0 ++ n.4.4.4.0)) ++ n.4.4.4.1) =
-    n.2 ∙ ap₂ (λ (x y : List ℕ). x ++ y) n.3.1 (n.4.2 ∙ ap (λ (x : List ℕ). n.4.0 ++ x) (n.4.4.2 ∙ ap (λ (x : List ℕ). n.4.4.0 ++ x) n.4.4.4.2)) ∙ ap (λ (x : List ℕ). 8 ∷ x) (simp append_assoc) in
-    let form : (NumberOf w16 channel ▸ LongStringOf [] ▸ OctetOf 206) (n.4.0 ++ (n.4.4.0 ++ n.4.4.4.0)) =
-    (n.4.0, n.4.4.0 ++ n.4.4.4.0, refl, n.4.3, (n.4.4.0, n.4.4.4.0, refl, (n.4.4.0, [], sym (append-nil n.4.4.0), n.4.4.3, (refl, refl)), n.4.4.4.3)) in
+    n.2
+    ∙ ap₂ (λ (x y : List ℕ). x ++ y) n.3.1
+    (n.4.2 ∙ ap (λ (x : List ℕ). n.4.0 ++ x) (n.4.4.2 ∙ ap (λ (x : List ℕ). n.4.4.0 ++ x) n.4.4.4.2))
+    ∙ ap (λ (x : List ℕ). 8 ∷ x) (simp append_assoc) in
+    let form : (NumberOf w16 channel ▸ LongStringOf [] ▸ OctetOf 206) (n.4.0 ++ (n.4.4.0 ++ n.4.4.4.0)) = (
+      n.4.0,
+      n.4.4.0 ++ n.4.4.4.0,
+      refl,
+      n.4.3,
+      (n.4.4.0, n.4.4.4.0, refl, (n.4.4.0, [], sym (append-nil n.4.4.0), n.4.4.3, (refl, refl)), n.4.4.4.3),
+    )
+    in
     ap (λ (x : List ℕ). front x limit) bytes_is
     ∙ type_is_front 8 limit ((n.4.0 ++ (n.4.4.0 ++ n.4.4.4.0)) ++ n.4.4.4.1) (inr (inr (inr refl)))
     ∙ framed_again 8 limit channel [] (n.4.0 ++ (n.4.4.0 ++ n.4.4.4.0)) n.4.4.4.1 form h.2 refl
@@ -74,22 +95,28 @@ heartbeat_only bytes limit channel h =
 head_is : (x y : ℕ) (xs ys : List ℕ) → x ∷ xs ≡ y ∷ ys → (x ≡ y) × (xs ≡ ys)
 head_is x y xs ys e = (cc, cc)
 
-expect_more : (n : ℕ) (next : List ℕ → Read) (bytes more tail : List ℕ) → bytes ++ more ≡ n ∷ tail → ((rest : List ℕ) → rest ++ more ≡ tail → next rest ≡ More) → expect n next bytes ≡ More
+expect_more :
+    (n : ℕ) (next : List ℕ → Read) (bytes more tail : List ℕ) → bytes ++ more ≡ n ∷ tail →
+    ((rest : List ℕ) → rest ++ more ≡ tail → next rest ≡ More) → expect n next bytes ≡ More
 expect_more n next [] more tail e h = refl
 expect_more n next (x ∷ bytes) more tail e h =
     let both = head_is x n (bytes ++ more) tail e in
     let same : eqb x n ≡ true = eq-eqb x n both.0 in
     rw same (h bytes both.1)
 
-version_more : (bytes more : List ℕ) (o a b c : ℕ) → more ≢ [] → bytes ++ more ≡ o ∷ a ∷ b ∷ c ∷ [] → version bytes ≡ More
+version_more :
+    (bytes more : List ℕ) (o a b c : ℕ) → more ≢ [] → bytes ++ more ≡ o ∷ a ∷ b ∷ c ∷ [] → version bytes ≡ More
 unfolding version
 version_more [] more o a b c left e = refl
 version_more (x ∷ []) more o a b c left e = refl
 version_more (x ∷ y ∷ []) more o a b c left e = refl
 version_more (x ∷ y ∷ z ∷ []) more o a b c left e = refl
-version_more (x ∷ y ∷ z ∷ w ∷ bytes) more o a b c left e = absurd (left (nil_from_length more (omega (arith, ap length e, length-append bytes more))))
+version_more (x ∷ y ∷ z ∷ w ∷ bytes) more o a b c left e =
+    absurd (left (nil_from_length more (omega (arith, ap length e, length-append bytes more))))
 
-header_more : (bytes more : List ℕ) (o a b c limit : ℕ) → more ≢ [] → bytes ++ more ≡ 77 ∷ 81 ∷ 80 ∷ o ∷ a ∷ b ∷ c ∷ [] → front (65 ∷ bytes) limit ≡ More
+header_more :
+    (bytes more : List ℕ) (o a b c limit : ℕ) → more ≢ [] → bytes ++ more ≡ 77 ∷ 81 ∷ 80 ∷ o ∷ a ∷ b ∷ c ∷ [] →
+    front (65 ∷ bytes) limit ≡ More
 unfolding front header
 header_more bytes more o a b c limit left e =
     expect_more 77 (expect 81 (expect 80 version)) bytes more (81 ∷ 80 ∷ o ∷ a ∷ b ∷ c ∷ []) e (λ rest1 e1.
@@ -100,17 +127,22 @@ begins_only : (bytes : List ℕ) (limit : ℕ) → BeginsHeader bytes → front 
 begins_only [] limit h = absurd (h.2 refl)
 begins_only (x ∷ bytes) limit h =
     let p = h.4 in
-    let is : x ∷ (bytes ++ h.0) ≡ 65 ∷ 77 ∷ 81 ∷ 80 ∷ p.4.3.0 ∷ h.1.major ∷ h.1.minor ∷ h.1.revision ∷ [] = p.2 ∙ rw (p.3, p.4.2, p.4.3.1.1, p.4.4.2, p.4.4.3.1, p.4.4.4.2, p.4.4.4.3.1, p.4.4.4.4.1) refl in
+    let is : x ∷ (bytes ++ h.0) ≡ 65 ∷ 77 ∷ 81 ∷ 80 ∷ p.4.3.0 ∷ h.1.major ∷ h.1.minor ∷ h.1.revision ∷ [] =
+    p.2 ∙ rw (p.3, p.4.2, p.4.3.1.1, p.4.4.2, p.4.4.3.1, p.4.4.4.2, p.4.4.4.3.1, p.4.4.4.4.1) refl in
     let both = head_is x 65 (bytes ++ h.0) (77 ∷ 81 ∷ 80 ∷ p.4.3.0 ∷ h.1.major ∷ h.1.minor ∷ h.1.revision ∷ []) is in
-    ap (λ (k : ℕ). front (k ∷ bytes) limit) both.0 ∙ header_more bytes h.0 p.4.3.0 h.1.major h.1.minor h.1.revision limit h.3 both.1
+    ap (λ (k : ℕ). front (k ∷ bytes) limit) both.0
+    ∙ header_more bytes h.0 p.4.3.0 h.1.major h.1.minor h.1.revision limit h.3 both.1
 
 numbers_short : (bytes : List ℕ) → length bytes < 6 → (number_at w16 ⊗ number_at w32) bytes ≡ None
 numbers_short bytes lt = by (ltb (length bytes) 2) refl
   where
-    by : (t : Bool) → ltb (length bytes) 2 ≡ t → then_number (cond t None (Some (from_be_bytes w16 (take 2 bytes), drop 2 bytes))) ≡ None
+    by :
+        (t : Bool) → ltb (length bytes) 2 ≡ t →
+        then_number (cond t None (Some (from_be_bytes w16 (take 2 bytes), drop 2 bytes))) ≡ None
     by true is = refl
     by false is =
-        let short : ltb (length (drop 2 bytes)) 4 ≡ true = lt-true _ _ (omega (arith, length-drop 2 bytes, ltb-false _ _ is)) in
+        let short : ltb (length (drop 2 bytes)) 4 ≡ true =
+        lt-true _ _ (omega (arith, length-drop 2 bytes, ltb-false _ _ is)) in
         rw short refl
 
 body_short : (n : ℕ) (bytes : List ℕ) → length bytes < n + 1 → (octets_at n ⊗ octet_at) bytes ≡ None
@@ -119,16 +151,21 @@ body_short n bytes lt = by (ltb (length bytes) n) refl
     by : (t : Bool) → ltb (length bytes) n ≡ t → then_octet (cond t None (Some (take n bytes, drop n bytes))) ≡ None
     by true is = refl
     by false is =
-        let none : drop n bytes ≡ [] = nil_from_length (drop n bytes) (omega (arith, length-drop n bytes, ltb-false _ _ is)) in
+        let none : drop n bytes ≡ [] =
+        nil_from_length (drop n bytes) (omega (arith, length-drop n bytes, ltb-false _ _ is)) in
         ap (λ (r : List ℕ). then_octet (Some (take n bytes, r))) none
 
-framed_more : (type limit : ℕ) (rest : List ℕ) → (number_at w16 ⊗ number_at w32) rest ≡ None → framed type limit rest ≡ More
+framed_more :
+    (type limit : ℕ) (rest : List ℕ) → (number_at w16 ⊗ number_at w32) rest ≡ None → framed type limit rest ≡ More
 unfolding framed
-framed_more type limit rest e = ap (λ (o : Option ((ℕ × ℕ) × List ℕ)). option_map_or (λ p. sized type limit p.0.0 p.0.1 p.1) o More) e
+framed_more type limit rest e =
+    ap (λ (o : Option ((ℕ × ℕ) × List ℕ)). option_map_or (λ p. sized type limit p.0.0 p.0.1 p.1) o More) e
 
 short_only : (bytes : List ℕ) (limit : ℕ) → IsShort bytes → front bytes limit ≡ More
 short_only bytes limit h =
-    ap (λ (x : List ℕ). front x limit) h.2 ∙ type_is_front h.0 limit h.1 h.3 ∙ framed_more h.0 limit h.1 (numbers_short h.1 (omega (arith, h.4, ap length h.2)))
+    ap (λ (x : List ℕ). front x limit) h.2
+    ∙ type_is_front h.0 limit h.1 h.3
+    ∙ framed_more h.0 limit h.1 (numbers_short h.1 (omega (arith, h.4, ap length h.2)))
 
 empty_enough : (type size : ℕ) → (type ≡ 8 → size ≡ 0) → (eqb type 8 && not (eqb size 0)) ≡ false
 empty_enough type size h = by (eqb type 8) refl
@@ -137,7 +174,10 @@ empty_enough type size h = by (eqb type 8) refl
     by true is = let zero_size : size ≡ 0 = h (eqb-true type 8 is) in rw zero_size refl
     by false is = refl
 
-sized_more : (type limit channel size : ℕ) (rest : List ℕ) → ltb limit (size + 8) ≡ false → (eqb type 8 && not (eqb size 0)) ≡ false → (octets_at size ⊗ octet_at) rest ≡ None → sized type limit channel size rest ≡ More
+sized_more :
+    (type limit channel size : ℕ) (rest : List ℕ) → ltb limit (size + 8) ≡ false →
+    (eqb type 8 && not (eqb size 0)) ≡ false → (octets_at size ⊗ octet_at) rest ≡ None →
+    sized type limit channel size rest ≡ More
 unfolding sized
 sized_more type limit channel size rest a b c = rw (a, b, c) refl
 
@@ -147,8 +187,21 @@ unfinished_only bytes limit h =
     let two : length n.4.0 ≡ 2 = n.4.3 in
     let one : length n.0 ≡ 1 = ap length n.3.1 in
     let four : length n.4.4.0 ≡ 4 = ap length n.4.4.3.1 in
-    let short : length n.4.4.1 < h.1 + 1 = omega (arith, h.5, ap length n.2, length-append n.0 n.1, ap length n.4.2, length-append n.4.0 n.4.1, ap length n.4.4.2, length-append n.4.4.0 n.4.4.1) in
-    named h.0 h.1 limit bytes h.2 h.3 ∙ sized_more h.0 limit (from_be_bytes w16 n.4.0) h.1 n.4.4.1 (le-ltb _ _ h.4) (empty_enough h.0 h.1 h.6) (body_short h.1 n.4.4.1 short)
+    let short : length n.4.4.1 < h.1 + 1 =
+    omega (
+      arith,
+      h.5,
+      ap length n.2,
+      length-append n.0 n.1,
+      ap length n.4.2,
+      length-append n.4.0 n.4.1,
+      ap length n.4.4.2,
+      length-append n.4.4.0 n.4.4.1,
+    )
+    in
+    named h.0 h.1 limit bytes h.2 h.3
+    ∙ sized_more h.0 limit (from_be_bytes w16 n.4.0) h.1 n.4.4.1 (le-ltb _ _ h.4) (empty_enough h.0 h.1 h.6)
+    (body_short h.1 n.4.4.1 short)
 
 more_only : (bytes : List ℕ) (limit : ℕ) → IsMore bytes limit → front bytes limit ≡ More
 unfolding front
@@ -157,9 +210,13 @@ more_only bytes limit (inr (inl h)) = begins_only bytes limit h
 more_only bytes limit (inr (inr (inl h))) = short_only bytes limit h
 more_only bytes limit (inr (inr (inr h))) = unfinished_only bytes limit h
 
-whole_only : (bytes : List ℕ) (limit : ℕ) (frame : Frame) (n : ℕ) → IsWhole bytes limit frame n → front bytes limit ≡ Whole frame n
+whole_only :
+    (bytes : List ℕ) (limit : ℕ) (frame : Frame) (n : ℕ) → IsWhole bytes limit frame n →
+    front bytes limit ≡ Whole frame n
 whole_only bytes limit frame n h =
-    ap (λ (x : List ℕ). front x limit) h.2 ∙ front_again frame h.0 h.1 limit h.4 (subst (λ (k : ℕ). IsWithin limit k frame) (sym h.3) h.5) ∙ ap (Whole frame) h.3
+    ap (λ (x : List ℕ). front x limit) h.2
+    ∙ front_again frame h.0 h.1 limit h.4 (subst (λ (k : ℕ). IsWithin limit k frame) (sym h.3) h.5)
+    ∙ ap (Whole frame) h.3
 
 -- ---- exactly one answer
 pub front_holds : (bytes : List ℕ) (limit : ℕ) → IsOctets bytes → IsFront bytes limit (front bytes limit)
@@ -193,7 +250,9 @@ bad_only bytes limit (BadHeartbeat channel) bad h = absurd (bad.not_heartbeat ch
 bad_only bytes limit Bad bad h = refl
 bad_only bytes limit NoMemory bad h = absurd h
 
-pub front_only : (bytes : List ℕ) (limit : ℕ) (answer : Read) → IsOctets bytes → IsFront bytes limit answer → front bytes limit ≡ answer
+pub front_only :
+    (bytes : List ℕ) (limit : ℕ) (answer : Read) → IsOctets bytes → IsFront bytes limit answer →
+    front bytes limit ≡ answer
 front_only bytes limit (Whole frame n) fits h = whole_only bytes limit frame n h
 front_only bytes limit More fits h = more_only bytes limit h
 front_only bytes limit (TooLarge size) fits h = large_only bytes limit size h
@@ -202,7 +261,9 @@ front_only bytes limit Bad fits h = bad_only bytes limit (front bytes limit) h (
 front_only bytes limit NoMemory fits h = absurd h
 
 -- the answer that was given holds
-pub answer_holds : (bytes : List ℕ) (limit : ℕ) (r answer : Read) → IsFront bytes limit answer → Answers r answer → r ≢ NoMemory → IsFront bytes limit r
+pub answer_holds :
+    (bytes : List ℕ) (limit : ℕ) (r answer : Read) → IsFront bytes limit answer → Yields r answer → r ≢ NoMemory →
+    IsFront bytes limit r
 answer_holds bytes limit (Whole frame n) answer h given real = subst (IsFront bytes limit) given h
 answer_holds bytes limit More answer h given real = subst (IsFront bytes limit) given h
 answer_holds bytes limit (TooLarge size) answer h given real = subst (IsFront bytes limit) given h

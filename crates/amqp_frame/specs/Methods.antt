@@ -1,4 +1,5 @@
--- How the methods of the connection class (10) and the channel class (20) are spelled (AMQP 0-9-1, 4.2.4 and the class reference).
+-- How the methods of the connection class (10) and the channel class (20) are spelled (AMQP 0-9-1, 4.2.4 and the class
+-- reference).
 use Rattle.std.specs.Prelude.{◌≡◌, ℕ, ◌%◌, Bool, List, [], ◌∷◌, ◌++◌, ◌==◌, if◌then◌else◌}
 use Rattle.std.specs.Int.{w16, w32, to_be_bytes}
 use Rattle.amqp_types.specs.Forms.{Form, Nothing, ◌▸◌, OctetOf, NumberOf, ShortStringOf, LongStringOf, spell_short_string, spell_long_string}
@@ -54,12 +55,15 @@ number_of ChannelCloseOk = 41
 
 -- ---- reserved arguments, whose value is forgotten
 
+-- a reserved short string
 abbrev pub AnyShortString : Form
 AnyShortString bytes = (content : List ℕ) × ShortStringOf content bytes
 
+-- a reserved long string
 abbrev pub AnyLongString : Form
 AnyLongString bytes = (content : List ℕ) × LongStringOf content bytes
 
+-- a reserved octet
 abbrev pub AnyOctet : Form
 AnyOctet bytes = (n : ℕ) × OctetOf n bytes
 
@@ -69,15 +73,20 @@ BitOf b bytes = (n : ℕ) × (b ≡ (n % 2 == 1)) × OctetOf n bytes
 
 -- the octets spell the arguments of the method, in the order of the class reference
 abbrev pub ArgumentsOf : Method → Form
-ArgumentsOf (Start major minor properties mechanisms locales) = OctetOf major ▸ OctetOf minor ▸ SpellsTable properties ▸ LongStringOf mechanisms ▸ LongStringOf locales
-ArgumentsOf (StartOk properties mechanism response locale) = SpellsTable properties ▸ ShortStringOf mechanism ▸ LongStringOf response ▸ ShortStringOf locale
+ArgumentsOf (Start major minor properties mechanisms locales) =
+    OctetOf major ▸ OctetOf minor ▸ SpellsTable properties ▸ LongStringOf mechanisms ▸ LongStringOf locales
+ArgumentsOf (StartOk properties mechanism response locale) =
+    SpellsTable properties ▸ ShortStringOf mechanism ▸ LongStringOf response ▸ ShortStringOf locale
 ArgumentsOf (Secure challenge) = LongStringOf challenge
 ArgumentsOf (SecureOk response) = LongStringOf response
-ArgumentsOf (Tune channel_max frame_max heartbeat) = NumberOf w16 channel_max ▸ NumberOf w32 frame_max ▸ NumberOf w16 heartbeat
-ArgumentsOf (TuneOk channel_max frame_max heartbeat) = NumberOf w16 channel_max ▸ NumberOf w32 frame_max ▸ NumberOf w16 heartbeat
+ArgumentsOf (Tune channel_max frame_max heartbeat) =
+    NumberOf w16 channel_max ▸ NumberOf w32 frame_max ▸ NumberOf w16 heartbeat
+ArgumentsOf (TuneOk channel_max frame_max heartbeat) =
+    NumberOf w16 channel_max ▸ NumberOf w32 frame_max ▸ NumberOf w16 heartbeat
 ArgumentsOf (Open vhost) = ShortStringOf vhost ▸ AnyShortString ▸ AnyOctet
 ArgumentsOf OpenOk = AnyShortString
-ArgumentsOf (Close code text class method) = NumberOf w16 code ▸ ShortStringOf text ▸ NumberOf w16 class ▸ NumberOf w16 method
+ArgumentsOf (Close code text class method) =
+    NumberOf w16 code ▸ ShortStringOf text ▸ NumberOf w16 class ▸ NumberOf w16 method
 ArgumentsOf CloseOk = Nothing
 ArgumentsOf (Blocked reason) = ShortStringOf reason
 ArgumentsOf Unblocked = Nothing
@@ -87,7 +96,8 @@ ArgumentsOf ChannelOpen = AnyShortString
 ArgumentsOf ChannelOpenOk = AnyLongString
 ArgumentsOf (ChannelFlow active) = BitOf active
 ArgumentsOf (ChannelFlowOk active) = BitOf active
-ArgumentsOf (ChannelClose code text class method) = NumberOf w16 code ▸ ShortStringOf text ▸ NumberOf w16 class ▸ NumberOf w16 method
+ArgumentsOf (ChannelClose code text class method) =
+    NumberOf w16 code ▸ ShortStringOf text ▸ NumberOf w16 class ▸ NumberOf w16 method
 ArgumentsOf ChannelCloseOk = Nothing
 
 -- the payload of a method frame: its class, its number in the class, and its arguments
@@ -96,16 +106,23 @@ MethodOf m = NumberOf w16 (class_of m) ▸ NumberOf w16 (number_of m) ▸ Argume
 
 -- ---- the written payload: reserved arguments empty or 0, other bits 0
 
+-- why something is closed: a code, a text, and the class and the method that it is about
 abbrev pub spell_close : ℕ → List ℕ → ℕ → ℕ → List ℕ
-spell_close code text class method = to_be_bytes w16 code ++ (spell_short_string text ++ (to_be_bytes w16 class ++ to_be_bytes w16 method))
+spell_close code text class method =
+    to_be_bytes w16 code ++ (spell_short_string text ++ (to_be_bytes w16 class ++ to_be_bytes w16 method))
 
+-- the three numbers that are tuned
 abbrev pub spell_tune : ℕ → ℕ → ℕ → List ℕ
-spell_tune channel_max frame_max heartbeat = to_be_bytes w16 channel_max ++ (to_be_bytes w32 frame_max ++ to_be_bytes w16 heartbeat)
+spell_tune channel_max frame_max heartbeat =
+    to_be_bytes w16 channel_max ++ (to_be_bytes w32 frame_max ++ to_be_bytes w16 heartbeat)
 
 -- the one written spelling of a method's arguments
 abbrev pub spell_arguments : Method → List ℕ
-spell_arguments (Start major minor properties mechanisms locales) = (major ∷ minor ∷ []) ++ (spell_table properties ++ (spell_long_string mechanisms ++ spell_long_string locales))
-spell_arguments (StartOk properties mechanism response locale) = spell_table properties ++ (spell_short_string mechanism ++ (spell_long_string response ++ spell_short_string locale))
+spell_arguments (Start major minor properties mechanisms locales) =
+    (major ∷ minor ∷ []) ++ (spell_table properties ++ (spell_long_string mechanisms ++ spell_long_string locales))
+spell_arguments (StartOk properties mechanism response locale) =
+    spell_table properties ++ (spell_short_string mechanism ++ (spell_long_string response
+    ++ spell_short_string locale))
 spell_arguments (Secure challenge) = spell_long_string challenge
 spell_arguments (SecureOk response) = spell_long_string response
 spell_arguments (Tune channel_max frame_max heartbeat) = spell_tune channel_max frame_max heartbeat
@@ -125,5 +142,6 @@ spell_arguments (ChannelFlowOk active) = (if active then 1 else 0) ∷ []
 spell_arguments (ChannelClose code text class method) = spell_close code text class method
 spell_arguments ChannelCloseOk = []
 
+-- the one written payload: the class, the number in the class, and the arguments
 abbrev pub spell_method : Method → List ℕ
 spell_method m = to_be_bytes w16 (class_of m) ++ (to_be_bytes w16 (number_of m) ++ spell_arguments m)

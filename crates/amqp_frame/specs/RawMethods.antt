@@ -2,6 +2,7 @@
 use Rattle.std.specs.Prelude.{ℕ, List, ◌++◌}
 use Rattle.std.specs.Int.{w16, to_be_bytes}
 
+-- a method that is passed through
 pub record OtherMethod : Type 0 where
   pub class : ℕ
   pub method : ℕ

@@ -1,9 +1,10 @@
 //! What holds of every spelling, whatever reads it.
 
-ghost use Rattle.std.specs.Prelude.{◌≡◌, ℕ, List, ◌++◌, length};
+ghost use Rattle.std.specs.Prelude.{◌≡◌, ℕ, ◌≤◌, List, ◌++◌, length};
 ghost use Rattle.amqp_frame.specs.declared.frame.Frame.{Frame};
 ghost use Rattle.amqp_frame.specs.declared.frame.Read.TheVariants as read;
 ghost use Rattle.amqp_frame.specs.Frames.{FrameOf, encoding, Writable};
+ghost use Rattle.amqp_frame.specs.Rules.{KeepsRules};
 ghost use Rattle.amqp_types.specs.Forms.{IsOctets};
 ghost use Rattle.amqp_frame.specs.declared.frame.Read.{Read};
 ghost use Rattle.amqp_frame.specs.Fronts.{IsWithin, IsFront};
@@ -15,9 +16,16 @@ pub fn spelled_is_read()
         → front (text ++ rest) limit ≡ read.Whole frame (length text) }
 {}
 
+/// What is written of a frame that keeps the rules is one of its spellings, where four octets can
+/// hold the length.
+pub fn what_is_writable()
+    ensures { (frame : Frame) → KeepsRules frame → length (encoding frame) ≤ 4294967295 → Writable frame }
+{}
+
 /// What is written is read again, whatever follows it.
 pub fn written_is_read()
-    ensures { (frame : Frame) (rest : List ℕ) (limit : ℕ) → Writable frame → IsWithin limit (length (encoding frame)) frame
+    ensures { (frame : Frame) (rest : List ℕ) (limit : ℕ) → KeepsRules frame → length (encoding frame) ≤ 4294967295
+        → IsWithin limit (length (encoding frame)) frame
         → front (encoding frame ++ rest) limit ≡ read.Whole frame (length (encoding frame)) }
 {}
 

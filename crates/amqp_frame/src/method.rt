@@ -1,6 +1,7 @@
 //! Methods of the connection class and of the channel class.
 
 ghost use Rattle.std.specs.Prelude.{◌≡◌, IfOk};
+ghost use Rattle.amqp_frame.specs.declared.method.Method.TheVariants as methods;
 
 use amqp_types::{FieldTable, LongString, NoMemory, ReplyCode, ShortString};
 use std::alloc::Global;
@@ -62,26 +63,13 @@ impl Method {
         ensures { result ≡ class_of self.now }
     {
         match self {
-            Method::Start(_, _, _, _, _) => 10,
-            Method::StartOk(_, _, _, _) => 10,
-            Method::Secure(_) => 10,
-            Method::SecureOk(_) => 10,
-            Method::Tune(_, _, _) => 10,
-            Method::TuneOk(_, _, _) => 10,
-            Method::Open(_) => 10,
-            Method::OpenOk => 10,
-            Method::Close(_, _, _, _) => 10,
-            Method::CloseOk => 10,
-            Method::Blocked(_) => 10,
-            Method::Unblocked => 10,
-            Method::UpdateSecret(_, _) => 10,
-            Method::UpdateSecretOk => 10,
-            Method::ChannelOpen => 20,
-            Method::ChannelOpenOk => 20,
-            Method::ChannelFlow(_) => 20,
-            Method::ChannelFlowOk(_) => 20,
-            Method::ChannelClose(_, _, _, _) => 20,
-            Method::ChannelCloseOk => 20,
+            Method::ChannelOpen
+            | Method::ChannelOpenOk
+            | Method::ChannelFlow(_)
+            | Method::ChannelFlowOk(_)
+            | Method::ChannelClose(..)
+            | Method::ChannelCloseOk => 20,
+            _ => 10,
         }
     }
 
@@ -90,26 +78,20 @@ impl Method {
         ensures { result ≡ number_of self.now }
     {
         match self {
-            Method::Start(_, _, _, _, _) => 10,
-            Method::StartOk(_, _, _, _) => 11,
-            Method::Secure(_) => 20,
-            Method::SecureOk(_) => 21,
-            Method::Tune(_, _, _) => 30,
-            Method::TuneOk(_, _, _) => 31,
-            Method::Open(_) => 40,
-            Method::OpenOk => 41,
-            Method::Close(_, _, _, _) => 50,
+            Method::Start(..) | Method::ChannelOpen => 10,
+            Method::StartOk(..) | Method::ChannelOpenOk => 11,
+            Method::Secure(_) | Method::ChannelFlow(_) => 20,
+            Method::SecureOk(_) | Method::ChannelFlowOk(_) => 21,
+            Method::Tune(..) => 30,
+            Method::TuneOk(..) => 31,
+            Method::Open(_) | Method::ChannelClose(..) => 40,
+            Method::OpenOk | Method::ChannelCloseOk => 41,
+            Method::Close(..) => 50,
             Method::CloseOk => 51,
             Method::Blocked(_) => 60,
             Method::Unblocked => 61,
-            Method::UpdateSecret(_, _) => 70,
+            Method::UpdateSecret(..) => 70,
             Method::UpdateSecretOk => 71,
-            Method::ChannelOpen => 10,
-            Method::ChannelOpenOk => 11,
-            Method::ChannelFlow(_) => 20,
-            Method::ChannelFlowOk(_) => 21,
-            Method::ChannelClose(_, _, _, _) => 40,
-            Method::ChannelCloseOk => 41,
         }
     }
 
@@ -118,54 +100,152 @@ impl Method {
         ensures { IfOk result (λ m. m ≡ self.now) }
     {
         match self {
-            Method::Start(major, minor, properties, mechanisms, locales) => Ok(Method::Start(
-                *major,
-                *minor,
-                properties.try_clone(alloc)?,
-                mechanisms.try_clone(alloc)?,
-                locales.try_clone(alloc)?,
-            )),
-            Method::StartOk(properties, mechanism, response, locale) => Ok(Method::StartOk(
-                properties.try_clone(alloc)?,
-                mechanism.try_clone(alloc)?,
-                response.try_clone(alloc)?,
-                locale.try_clone(alloc)?,
-            )),
-            Method::Secure(challenge) => Ok(Method::Secure(challenge.try_clone(alloc)?)),
-            Method::SecureOk(response) => Ok(Method::SecureOk(response.try_clone(alloc)?)),
+            Method::Start(major, minor, properties, mechanisms, locales) => {
+                clone_start(alloc, *major, *minor, properties, mechanisms, locales)
+            }
+            Method::StartOk(properties, mechanism, response, locale) => {
+                clone_start_ok(alloc, properties, mechanism, response, locale)
+            }
+            Method::Secure(challenge) => challenge.try_clone(alloc).map(Method::Secure),
+            Method::SecureOk(response) => response.try_clone(alloc).map(Method::SecureOk),
             Method::Tune(channels, frame, heartbeat) => {
                 Ok(Method::Tune(*channels, *frame, *heartbeat))
             }
             Method::TuneOk(channels, frame, heartbeat) => {
                 Ok(Method::TuneOk(*channels, *frame, *heartbeat))
             }
-            Method::Open(host) => Ok(Method::Open(host.try_clone(alloc)?)),
+            Method::Open(host) => host.try_clone(alloc).map(Method::Open),
             Method::OpenOk => Ok(Method::OpenOk),
-            Method::Close(code, text, class, method) => Ok(Method::Close(
-                *code,
-                text.try_clone(alloc)?,
-                *class,
-                *method,
-            )),
+            Method::Close(code, text, class, method) => {
+                let text = text.try_clone(alloc)?;
+                Ok(Method::Close(*code, text, *class, *method))
+            }
             Method::CloseOk => Ok(Method::CloseOk),
-            Method::Blocked(reason) => Ok(Method::Blocked(reason.try_clone(alloc)?)),
+            Method::Blocked(reason) => reason.try_clone(alloc).map(Method::Blocked),
             Method::Unblocked => Ok(Method::Unblocked),
-            Method::UpdateSecret(secret, reason) => Ok(Method::UpdateSecret(
-                secret.try_clone(alloc)?,
-                reason.try_clone(alloc)?,
-            )),
+            Method::UpdateSecret(secret, reason) => clone_update_secret(alloc, secret, reason),
             Method::UpdateSecretOk => Ok(Method::UpdateSecretOk),
             Method::ChannelOpen => Ok(Method::ChannelOpen),
             Method::ChannelOpenOk => Ok(Method::ChannelOpenOk),
             Method::ChannelFlow(active) => Ok(Method::ChannelFlow(*active)),
             Method::ChannelFlowOk(active) => Ok(Method::ChannelFlowOk(*active)),
-            Method::ChannelClose(code, text, class, method) => Ok(Method::ChannelClose(
-                *code,
-                text.try_clone(alloc)?,
-                *class,
-                *method,
-            )),
+            Method::ChannelClose(code, text, class, method) => {
+                let text = text.try_clone(alloc)?;
+                Ok(Method::ChannelClose(*code, text, *class, *method))
+            }
             Method::ChannelCloseOk => Ok(Method::ChannelCloseOk),
         }
     }
+}
+
+// Two equal long strings.
+fn clone_two_long(
+    alloc: Global,
+    first: &LongString,
+    second: &LongString,
+) -> Result<(LongString, LongString), NoMemory>
+    ensures { IfOk result (λ t. (t.0 ≡ first.now) × (t.1 ≡ second.now)) }
+{
+    let first = first.try_clone(alloc)?;
+    match second.try_clone(alloc) {
+        Ok(second) => Ok((first, second)),
+        Err(refused) => {
+            drop(first);
+            Err(refused)
+        }
+    }
+}
+
+// An equal long string and an equal short string.
+fn clone_long_and_short(
+    alloc: Global,
+    first: &LongString,
+    second: &ShortString,
+) -> Result<(LongString, ShortString), NoMemory>
+    ensures { IfOk result (λ t. (t.0 ≡ first.now) × (t.1 ≡ second.now)) }
+{
+    let first = first.try_clone(alloc)?;
+    match second.try_clone(alloc) {
+        Ok(second) => Ok((first, second)),
+        Err(refused) => {
+            drop(first);
+            Err(refused)
+        }
+    }
+}
+
+// An equal connection.start.
+fn clone_start(
+    alloc: Global,
+    major: u8,
+    minor: u8,
+    properties: &FieldTable,
+    mechanisms: &LongString,
+    locales: &LongString,
+) -> Result<Method, NoMemory>
+    ensures { IfOk result (λ m. m ≡ methods.Start major minor properties.now mechanisms.now locales.now) }
+{
+    let properties = properties.try_clone(alloc)?;
+    match clone_two_long(alloc, mechanisms, locales) {
+        Ok((mechanisms, locales)) => {
+            Ok(Method::Start(major, minor, properties, mechanisms, locales))
+        }
+        Err(refused) => {
+            drop(properties);
+            Err(refused)
+        }
+    }
+}
+
+// An equal mechanism, response and locale.
+fn clone_login(
+    alloc: Global,
+    mechanism: &ShortString,
+    response: &LongString,
+    locale: &ShortString,
+) -> Result<(ShortString, LongString, ShortString), NoMemory>
+    ensures { IfOk result (λ t. (t.0 ≡ mechanism.now) × (t.1 ≡ response.now) × (t.2 ≡ locale.now)) }
+{
+    let mechanism = mechanism.try_clone(alloc)?;
+    match clone_long_and_short(alloc, response, locale) {
+        Ok((response, locale)) => Ok((mechanism, response, locale)),
+        Err(refused) => {
+            drop(mechanism);
+            Err(refused)
+        }
+    }
+}
+
+// An equal connection.start-ok.
+fn clone_start_ok(
+    alloc: Global,
+    properties: &FieldTable,
+    mechanism: &ShortString,
+    response: &LongString,
+    locale: &ShortString,
+) -> Result<Method, NoMemory>
+    ensures { IfOk result (λ m. m ≡ methods.StartOk properties.now mechanism.now response.now locale.now) }
+{
+    let properties = properties.try_clone(alloc)?;
+    match clone_login(alloc, mechanism, response, locale) {
+        Ok((mechanism, response, locale)) => {
+            Ok(Method::StartOk(properties, mechanism, response, locale))
+        }
+        Err(refused) => {
+            drop(properties);
+            Err(refused)
+        }
+    }
+}
+
+// An equal connection.update-secret.
+fn clone_update_secret(
+    alloc: Global,
+    secret: &LongString,
+    reason: &ShortString,
+) -> Result<Method, NoMemory>
+    ensures { IfOk result (λ m. m ≡ methods.UpdateSecret secret.now reason.now) }
+{
+    let (secret, reason) = clone_long_and_short(alloc, secret, reason)?;
+    Ok(Method::UpdateSecret(secret, reason))
 }

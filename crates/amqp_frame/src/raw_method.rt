@@ -29,7 +29,8 @@ impl Model for RawMethod {
     ghost view = { λ m. record { class = m.class; method = m.method; arguments = drop 4 m.payload } };
 
     ghost invariant = { λ m. (m.class ≢ 10) × (m.class ≢ 20)
-        × (m.payload ≡ spell_raw_method (record { class = m.class; method = m.method; arguments = drop 4 m.payload })) };
+        × (m.payload ≡ spell_raw_method
+        (record { class = m.class; method = m.method; arguments = drop 4 m.payload })) };
 }
 
 impl RawMethod {
@@ -78,6 +79,7 @@ impl RawMethod {
         ensures payload { result.now ≡ spell_raw_method self.now }
         ensures passed_through { IsOtherMethod result.now }
     {
+        // Read for their ranges alone, by which the clauses are shown.
         let (_class, _method) = (self.class, self.method);
         &self.payload
     }
@@ -103,7 +105,8 @@ impl RawMethod {
 }
 
 impl PartialEq for RawMethod {
-    ghost eq = { λ x y. nat_eq x.class y.class && (nat_eq x.method y.method && pointwise nat_eq x.arguments y.arguments) };
+    ghost eq = { λ x y. nat_eq x.class y.class
+        && (nat_eq x.method y.method && pointwise nat_eq x.arguments y.arguments) };
 
     ghost laws = { Prim.search (comparing, rules) };
 

@@ -10,15 +10,12 @@ ghost use Rattle.amqp_frame.specs.Lengths.{capped};
 ghost use Rattle.amqp_frame.specs.Methods.{spell_arguments, class_of, number_of, spell_method, spell_close, spell_tune};
 ghost use Rattle.amqp_frame.specs.Frames.{encoding, spell_header, spell_framed, type_of};
 
-use crate::frame::{Frame, RawKind};
+use crate::frame::{FRAME_END, Frame, RawKind};
 use crate::method::Method;
 use crate::room::Room;
 use crate::write::methods::{arguments_len, put_arguments};
 use crate::write::values::{put_number16, put_octet};
 use amqp_types::ChannelId;
-
-/// The octet that ends a frame.
-const FRAME_END: u8 = 0xce;
 
 /// There was too little space.
 #[derive(Clone, Copy, Debug, PartialEq, Eq)]
@@ -37,6 +34,7 @@ pub fn encoded_len(frame: &Frame) -> u64
     }
 }
 
+// The octet by which a frame that is passed through names its type.
 fn type_octet(kind: RawKind) -> u8
     ensures { result ≡ type_of kind }
 {
@@ -48,15 +46,15 @@ fn type_octet(kind: RawKind) -> u8
 }
 
 // The type, the channel and the size of a frame.
-fn put_header<R: Room>(kind: u8, channel: ChannelId, size: u32, room: &mut R)
+fn put_header<R: Room>(frame_type: u8, channel: ChannelId, size: u32, room: &mut R)
     requires { 7 ≤ R.free room.old }
-    ensures bytes { R.put_so_far room.new ≡ R.put_so_far room.old ++ spell_header kind channel size }
+    ensures bytes { R.put_so_far room.new ≡ R.put_so_far room.old ++ spell_header frame_type channel size }
     ensures space { R.free room.new + 7 ≡ R.free room.old }
 {
     let [channel_high, channel_low] = channel.to_be_bytes();
     let [first, second, third, fourth] = size.to_be_bytes();
     room.put(&[
-        kind,
+        frame_type,
         channel_high,
         channel_low,
         first,
@@ -92,6 +90,7 @@ fn put_raw<R: Room>(channel: ChannelId, kind: RawKind, payload: &[u8], room: &mu
     put_octet(FRAME_END, room);
 }
 
+// A frame for which there is space.
 #[tactic(auto, using(crate::proofs::Texts::frame_lengths))]
 fn put_frame<R: Room>(frame: &Frame, room: &mut R)
     requires small { length (encoding frame.now) < 2 ^ 32 }
@@ -122,7 +121,8 @@ pub fn write_frame<R: Room>(frame: &Frame, room: &mut R) -> Result<(), Full>
     ensures full { IsErr result ↔ (R.free room.old < length (encoding frame.now)) }
     ensures bytes { OnOk result (R.put_so_far room.new ≡ R.put_so_far room.old ++ encoding frame.now) }
     ensures space { OnOk result (R.free room.new + length (encoding frame.now) ≡ R.free room.old) }
-    ensures unchanged { OnErr result ((R.put_so_far room.new ≡ R.put_so_far room.old) × (R.free room.new ≡ R.free room.old)) }
+    ensures unchanged { OnErr result
+        ((R.put_so_far room.new ≡ R.put_so_far room.old) × (R.free room.new ≡ R.free room.old)) }
 {
     if (room.space() as u64) < encoded_len(frame) {
         return Err(Full);

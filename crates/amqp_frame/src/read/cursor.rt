@@ -7,26 +7,16 @@ ghost use Rattle.amqp_frame.specs.Reads.{Reads};
 
 use crate::view::View;
 use amqp_types::{LongString, NoMemory, ShortString};
-use std::alloc::{AllocError, AllocFailed, Global};
+use std::alloc::{AllocFailed, Global};
 use std::marker::Model;
 
 /// Why nothing could be read.
-#[derive(Clone, Copy, Debug, PartialEq, Eq)]
+#[derive(Clone, Copy)]
 pub enum Fault {
     /// No front of the octets spells what was looked for.
     Bad,
+    /// Memory was refused.
     NoMemory,
-}
-
-impl From<AllocError> for Fault {
-    ghost use Rattle.std.specs.Prelude.{◌≡◌};
-    ghost use Rattle.amqp_frame.specs.declared.read.cursor.Fault.TheVariants as faults;
-
-    ghost from_gives = { λ _ e. e ≡ faults.NoMemory };
-
-    fn from(_e: AllocError) -> Fault {
-        Fault::NoMemory
-    }
 }
 
 impl From<NoMemory> for Fault {
@@ -96,12 +86,14 @@ impl<'a, V: View> Cursor<'a, V> {
         self.end - self.at
     }
 
+    /// Whether none is left.
     pub fn is_empty(&self) -> bool
         ensures { IsTrue result ↔ (self.now ≡ []) }
     {
         self.at == self.end
     }
 
+    /// One octet.
     pub fn octet(&mut self) -> Result<u8, Fault>
         ensures reads { Reads (λ n. n) result self.new (octet_at self.old) }
         ensures takes_no_memory { IfErr result (λ e. e ≡ Fault.Bad) }
@@ -132,12 +124,13 @@ impl<'a, V: View> Cursor<'a, V> {
     }
 
     /// The octets that are left.
-    pub fn to_vec(&self, alloc: Global) -> Result<Vec<u8>, AllocError>
+    pub fn to_vec(&self, alloc: Global) -> Result<Vec<u8>, NoMemory>
         ensures { IfOk result (λ v. v.items ≡ self.now) }
     {
         self.view.copy_range(alloc, self.at, self.end)
     }
 
+    /// Two octets.
     pub fn octets2(&mut self) -> Result<[u8; 2], Fault>
         ensures reads { Reads (λ a. a) result self.new (octets_at 2 self.old) }
         ensures takes_no_memory { IfErr result (λ e. e ≡ Fault.Bad) }
@@ -150,6 +143,7 @@ impl<'a, V: View> Cursor<'a, V> {
         Ok(octets)
     }
 
+    /// Four octets.
     pub fn octets4(&mut self) -> Result<[u8; 4], Fault>
         ensures reads { Reads (λ a. a) result self.new (octets_at 4 self.old) }
         ensures takes_no_memory { IfErr result (λ e. e ≡ Fault.Bad) }
@@ -167,6 +161,7 @@ impl<'a, V: View> Cursor<'a, V> {
         Ok(octets)
     }
 
+    /// Eight octets.
     pub fn octets8(&mut self) -> Result<[u8; 8], Fault>
         ensures reads { Reads (λ a. a) result self.new (octets_at 8 self.old) }
         ensures takes_no_memory { IfErr result (λ e. e ≡ Fault.Bad) }
@@ -188,6 +183,7 @@ impl<'a, V: View> Cursor<'a, V> {
         Ok(octets)
     }
 
+    /// A number of 16 bits, the highest octet first.
     pub fn number16(&mut self) -> Result<u16, Fault>
         ensures reads { Reads (λ n. n) result self.new (number_at w16 self.old) }
         ensures takes_no_memory { IfErr result (λ e. e ≡ Fault.Bad) }
@@ -195,6 +191,7 @@ impl<'a, V: View> Cursor<'a, V> {
         Ok(u16::from_be_bytes(self.octets2()?))
     }
 
+    /// A number of 32 bits, the highest octet first.
     pub fn number32(&mut self) -> Result<u32, Fault>
         ensures reads { Reads (λ n. n) result self.new (number_at w32 self.old) }
         ensures takes_no_memory { IfErr result (λ e. e ≡ Fault.Bad) }
@@ -202,6 +199,7 @@ impl<'a, V: View> Cursor<'a, V> {
         Ok(u32::from_be_bytes(self.octets4()?))
     }
 
+    /// A number of 64 bits, the highest octet first.
     pub fn number64(&mut self) -> Result<u64, Fault>
         ensures reads { Reads (λ n. n) result self.new (number_at w64 self.old) }
         ensures takes_no_memory { IfErr result (λ e. e ≡ Fault.Bad) }
@@ -209,6 +207,7 @@ impl<'a, V: View> Cursor<'a, V> {
         Ok(u64::from_be_bytes(self.octets8()?))
     }
 
+    /// A short string.
     #[tactic(auto, unfolding(amqp_types::specs::Reading::short_string_at))]
     pub fn short_string(&mut self, alloc: Global) -> Result<ShortString, Fault>
         ensures { Reads (λ s. s) result self.new (short_string_at self.old) }
@@ -218,6 +217,7 @@ impl<'a, V: View> Cursor<'a, V> {
         Ok(ShortString::from_vec(content.to_vec(alloc)?))
     }
 
+    /// A long string.
     #[tactic(auto, unfolding(amqp_types::specs::Reading::long_string_at))]
     pub fn long_string(&mut self, alloc: Global) -> Result<LongString, Fault>
         ensures { Reads (λ s. s) result self.new (long_string_at self.old) }

@@ -2,7 +2,8 @@
 
 ghost use Rattle.std.specs.Prelude.{◌≡◌, length, map};
 ghost use Rattle.std.specs.Int.{w32};
-ghost use Rattle.amqp_types.specs.Reading.{octet_at, number_at, long_string_at, ◌⊗◌, scalar_at, value_at, array_at, table_at, read_map, row_at, pair_with};
+ghost use Rattle.amqp_types.specs.Reading.{octet_at, number_at, long_string_at, ◌⊗◌, scalar_at, read_map};
+ghost use Rattle.amqp_types.specs.Reading.{value_at, array_at, table_at, row_at, pair_with};
 ghost use Rattle.amqp_types.specs.Value.{scalar as scalar_value, decimal as decimal_value};
 ghost use Rattle.amqp_types.specs.View.{value_of, pair_of};
 ghost use Rattle.amqp_frame.specs.Reads.{Reads, Gives};
@@ -12,14 +13,17 @@ use crate::view::View;
 use amqp_types::{AMQPValue, Entry, FieldTable, Payload, Values};
 use std::alloc::Global;
 
+// A scale and a number.
 fn decimal<V: View>(cursor: &mut Cursor<'_, V>) -> Result<AMQPValue, Fault>
-    ensures { Reads value_of result cursor.new (read_map (λ p. scalar_value (decimal_value p.0 p.1)) (octet_at ⊗ number_at w32) cursor.old) }
+    ensures { Reads value_of result cursor.new
+        (read_map (λ p. scalar_value (decimal_value p.0 p.1)) (octet_at ⊗ number_at w32) cursor.old) }
 {
     let scale = cursor.octet()?;
     let number = cursor.number32()?;
     Ok(AMQPValue::DecimalValue(scale, number))
 }
 
+// A long string of octets.
 fn byte_array<V: View>(alloc: Global, cursor: &mut Cursor<'_, V>) -> Result<Payload, Fault>
     ensures { Reads (λ p. p) result cursor.new (long_string_at cursor.old) }
 {
@@ -33,20 +37,28 @@ fn scalar<V: View>(alloc: Global, tag: u8, cursor: &mut Cursor<'_, V>) -> Result
     ensures { Reads value_of result cursor.new (read_map scalar_value (scalar_at tag) cursor.old) }
 {
     match tag {
-        b't' => Ok(AMQPValue::Boolean(cursor.octet()? != 0)),
-        b'b' => Ok(AMQPValue::ShortShortInt(cursor.octet()?.cast_signed())),
-        b'B' => Ok(AMQPValue::ShortShortUInt(cursor.octet()?)),
-        b's' => Ok(AMQPValue::ShortInt(cursor.number16()?.cast_signed())),
-        b'u' => Ok(AMQPValue::ShortUInt(cursor.number16()?)),
-        b'I' => Ok(AMQPValue::LongInt(cursor.number32()?.cast_signed())),
-        b'i' => Ok(AMQPValue::LongUInt(cursor.number32()?)),
-        b'l' => Ok(AMQPValue::LongLongInt(cursor.number64()?.cast_signed())),
-        b'f' => Ok(AMQPValue::Float(cursor.octets4()?)),
-        b'd' => Ok(AMQPValue::Double(cursor.octets8()?)),
+        b't' => cursor.octet().map(|octet| AMQPValue::Boolean(octet != 0)),
+        b'b' => cursor
+            .octet()
+            .map(|octet| AMQPValue::ShortShortInt(octet.cast_signed())),
+        b'B' => cursor.octet().map(AMQPValue::ShortShortUInt),
+        b's' => cursor
+            .number16()
+            .map(|number| AMQPValue::ShortInt(number.cast_signed())),
+        b'u' => cursor.number16().map(AMQPValue::ShortUInt),
+        b'I' => cursor
+            .number32()
+            .map(|number| AMQPValue::LongInt(number.cast_signed())),
+        b'i' => cursor.number32().map(AMQPValue::LongUInt),
+        b'l' => cursor
+            .number64()
+            .map(|number| AMQPValue::LongLongInt(number.cast_signed())),
+        b'f' => cursor.octets4().map(AMQPValue::Float),
+        b'd' => cursor.octets8().map(AMQPValue::Double),
         b'D' => decimal(cursor),
-        b'S' => Ok(AMQPValue::LongString(cursor.long_string(alloc)?)),
-        b'x' => Ok(AMQPValue::ByteArray(byte_array(alloc, cursor)?)),
-        b'T' => Ok(AMQPValue::Timestamp(cursor.number64()?)),
+        b'S' => cursor.long_string(alloc).map(AMQPValue::LongString),
+        b'x' => byte_array(alloc, cursor).map(AMQPValue::ByteArray),
+        b'T' => cursor.number64().map(AMQPValue::Timestamp),
         b'V' => Ok(AMQPValue::Void),
         _ => Err(Fault::Bad),
     }

@@ -1,7 +1,7 @@
 //! Putting of values into a room.
 
 ghost use Rattle.std.specs.Prelude.{◌≡◌, ◌+◌, ◌^◌, ◌<◌, ◌≤◌, ◌++◌, ◌∷◌, [], length};
-ghost use Rattle.std.specs.Int.{w16, w32, to_be_bytes};
+ghost use Rattle.std.specs.Int.{w16, w32, w64, to_be_bytes};
 ghost use Rattle.amqp_types.specs.Forms.{spell_short_string, spell_long_string};
 ghost use Rattle.amqp_types.specs.Spelling.{spell, spell_table};
 ghost use Rattle.amqp_types.specs.View.{value_of, pair_of};
@@ -11,6 +11,7 @@ use crate::room::Room;
 use crate::write::lengths::{pairs_len, values_len};
 use amqp_types::{AMQPValue, Entry, FieldTable, Values};
 
+/// One octet.
 pub fn put_octet<R: Room>(octet: u8, room: &mut R)
     requires { 1 ≤ R.free room.old }
     ensures bytes { R.put_so_far room.new ≡ R.put_so_far room.old ++ octet ∷ [] }
@@ -19,6 +20,7 @@ pub fn put_octet<R: Room>(octet: u8, room: &mut R)
     room.put(&[octet]);
 }
 
+/// A number of 16 bits, the highest octet first.
 pub fn put_number16<R: Room>(number: u16, room: &mut R)
     requires { 2 ≤ R.free room.old }
     ensures bytes { R.put_so_far room.new ≡ R.put_so_far room.old ++ to_be_bytes w16 number }
@@ -27,6 +29,7 @@ pub fn put_number16<R: Room>(number: u16, room: &mut R)
     room.put(&number.to_be_bytes());
 }
 
+/// A number of 32 bits, the highest octet first.
 pub fn put_number32<R: Room>(number: u32, room: &mut R)
     requires { 4 ≤ R.free room.old }
     ensures bytes { R.put_so_far room.new ≡ R.put_so_far room.old ++ to_be_bytes w32 number }
@@ -67,6 +70,52 @@ fn put_tagged<R: Room>(tag: u8, content: &[u8], room: &mut R)
     room.put(content);
 }
 
+// A tag, and an octet.
+fn put_tagged8<R: Room>(tag: u8, octet: u8, room: &mut R)
+    requires { 2 ≤ R.free room.old }
+    ensures bytes { R.put_so_far room.new ≡ R.put_so_far room.old ++ tag ∷ octet ∷ [] }
+    ensures space { R.free room.new + 2 ≡ R.free room.old }
+{
+    room.put(&[tag, octet]);
+}
+
+// A tag, and a number of 16 bits.
+fn put_tagged16<R: Room>(tag: u8, number: u16, room: &mut R)
+    requires { 3 ≤ R.free room.old }
+    ensures bytes { R.put_so_far room.new ≡ R.put_so_far room.old ++ tag ∷ to_be_bytes w16 number }
+    ensures space { R.free room.new + 3 ≡ R.free room.old }
+{
+    put_tagged(tag, &number.to_be_bytes(), room);
+}
+
+// A tag, and a number of 32 bits.
+fn put_tagged32<R: Room>(tag: u8, number: u32, room: &mut R)
+    requires { 5 ≤ R.free room.old }
+    ensures bytes { R.put_so_far room.new ≡ R.put_so_far room.old ++ tag ∷ to_be_bytes w32 number }
+    ensures space { R.free room.new + 5 ≡ R.free room.old }
+{
+    put_tagged(tag, &number.to_be_bytes(), room);
+}
+
+// A tag, and a number of 64 bits.
+fn put_tagged64<R: Room>(tag: u8, number: u64, room: &mut R)
+    requires { 9 ≤ R.free room.old }
+    ensures bytes { R.put_so_far room.new ≡ R.put_so_far room.old ++ tag ∷ to_be_bytes w64 number }
+    ensures space { R.free room.new + 9 ≡ R.free room.old }
+{
+    put_tagged(tag, &number.to_be_bytes(), room);
+}
+
+// A decimal: its scale, and the number without its point.
+fn put_decimal<R: Room>(scale: u8, number: u32, room: &mut R)
+    requires { 6 ≤ R.free room.old }
+    ensures bytes { R.put_so_far room.new ≡ R.put_so_far room.old ++ 68 ∷ scale ∷ to_be_bytes w32 number }
+    ensures space { R.free room.new + 6 ≡ R.free room.old }
+{
+    put_tagged8(b'D', scale, room);
+    put_number32(number, room);
+}
+
 // A tag, and a long string.
 fn put_tagged_long<R: Room>(tag: u8, content: &[u8], room: &mut R)
     requires long { length content.now < 2 ^ 32 }
@@ -87,20 +136,17 @@ pub fn put_value<R: Room>(value: &AMQPValue, room: &mut R)
     ensures space { R.free room.new + length (spell (value_of value.now)) ≡ R.free room.old }
 {
     match value {
-        AMQPValue::Boolean(truth) => put_tagged(b't', &[u8::from(*truth)], room),
-        AMQPValue::ShortShortInt(number) => put_tagged(b'b', &[number.cast_unsigned()], room),
-        AMQPValue::ShortShortUInt(number) => put_tagged(b'B', &[*number], room),
-        AMQPValue::ShortInt(number) => put_tagged(b's', &number.to_be_bytes(), room),
-        AMQPValue::ShortUInt(number) => put_tagged(b'u', &number.to_be_bytes(), room),
-        AMQPValue::LongInt(number) => put_tagged(b'I', &number.to_be_bytes(), room),
-        AMQPValue::LongUInt(number) => put_tagged(b'i', &number.to_be_bytes(), room),
-        AMQPValue::LongLongInt(number) => put_tagged(b'l', &number.to_be_bytes(), room),
+        AMQPValue::Boolean(truth) => put_tagged8(b't', u8::from(*truth), room),
+        AMQPValue::ShortShortInt(number) => put_tagged8(b'b', number.cast_unsigned(), room),
+        AMQPValue::ShortShortUInt(number) => put_tagged8(b'B', *number, room),
+        AMQPValue::ShortInt(number) => put_tagged16(b's', number.cast_unsigned(), room),
+        AMQPValue::ShortUInt(number) => put_tagged16(b'u', *number, room),
+        AMQPValue::LongInt(number) => put_tagged32(b'I', number.cast_unsigned(), room),
+        AMQPValue::LongUInt(number) => put_tagged32(b'i', *number, room),
+        AMQPValue::LongLongInt(number) => put_tagged64(b'l', number.cast_unsigned(), room),
         AMQPValue::Float(octets) => put_tagged(b'f', octets, room),
         AMQPValue::Double(octets) => put_tagged(b'd', octets, room),
-        AMQPValue::DecimalValue(scale, number) => {
-            put_tagged(b'D', &[*scale], room);
-            room.put(&number.to_be_bytes());
-        }
+        AMQPValue::DecimalValue(scale, number) => put_decimal(*scale, *number, room),
         AMQPValue::LongString(content) => put_tagged_long(b'S', content.as_bytes(), room),
         AMQPValue::ByteArray(content) => put_tagged_long(b'x', content.as_bytes(), room),
         AMQPValue::FieldArray(values) => {
@@ -111,7 +157,7 @@ pub fn put_value<R: Room>(value: &AMQPValue, room: &mut R)
             put_octet(b'F', room);
             put_table(table, room);
         }
-        AMQPValue::Timestamp(number) => put_tagged(b'T', &number.to_be_bytes(), room),
+        AMQPValue::Timestamp(number) => put_tagged64(b'T', *number, room),
         AMQPValue::Void => put_octet(b'V', room),
     }
 }

@@ -14,7 +14,13 @@ abbrev pub decreases-pairs_len : goal.decreases-pairs_len
 decreases-pairs_len l = 2 * pairs_size l.table.now + 1
 
 abbrev pub invariant-values_len-loop-value : goal.invariant-values_len-loop-value
-invariant-values_len-loop-value l = (l.total < 2 ^ 64) × (capped (l.total + length (spell_list (map value_of (drop l.value-index l.value-items)))) ≡ capped (length (spell_list l.fn.values)))
+invariant-values_len-loop-value l =
+    (l.total < 2 ^ 64) ×
+    (capped (l.total + length (spell_list (map value_of (drop l.value-index l.value-items)))) ≡ capped
+    (length (spell_list l.fn.values)))
 
 abbrev pub invariant-pairs_len-loop-entry : goal.invariant-pairs_len-loop-entry
-invariant-pairs_len-loop-entry l = (l.total < 2 ^ 64) × (capped (l.total + length (spell_pair_list (map pair_of (drop l.entry-index l.entry-items)))) ≡ capped (length (spell_pair_list l.fn.table)))
+invariant-pairs_len-loop-entry l =
+    (l.total < 2 ^ 64) ×
+    (capped (l.total + length (spell_pair_list (map pair_of (drop l.entry-index l.entry-items)))) ≡ capped
+    (length (spell_pair_list l.fn.table)))

@@ -18,7 +18,13 @@ abbrev pub decreases-put_table : goal.decreases-put_table
 decreases-put_table g l = 3 * pairs_size l.table.now + 2
 
 abbrev pub invariant-put_array-loop-value : goal.invariant-put_array-loop-value
-invariant-put_array-loop-value g l = Rest (spell_list (map value_of (drop l.value-index l.value-items))) (g.R.Room.put_so_far l.room) (g.R.Room.free l.room) (g.R.Room.put_so_far l.initial.room ++ spell_list l.fn.values) (g.R.Room.free l.initial.room) (length (spell_list l.fn.values))
+invariant-put_array-loop-value g l =
+    Rest (spell_list (map value_of (drop l.value-index l.value-items))) (g.R.Room.put_so_far l.room)
+    (g.R.Room.free l.room) (g.R.Room.put_so_far l.initial.room ++ spell_list l.fn.values)
+    (g.R.Room.free l.initial.room) (length (spell_list l.fn.values))
 
 abbrev pub invariant-put_table-loop-entry : goal.invariant-put_table-loop-entry
-invariant-put_table-loop-entry g l = Rest (spell_pair_list (map pair_of (drop l.entry-index l.entry-items))) (g.R.Room.put_so_far l.room) (g.R.Room.free l.room) (g.R.Room.put_so_far l.initial.room ++ spell_pair_list l.fn.table) (g.R.Room.free l.initial.room) (length (spell_pair_list l.fn.table))
+invariant-put_table-loop-entry g l =
+    Rest (spell_pair_list (map pair_of (drop l.entry-index l.entry-items))) (g.R.Room.put_so_far l.room)
+    (g.R.Room.free l.room) (g.R.Room.put_so_far l.initial.room ++ spell_pair_list l.fn.table)
+    (g.R.Room.free l.initial.room) (length (spell_pair_list l.fn.table))
