@@ -72,6 +72,6 @@ encoding (Method channel m) = spell_framed 1 channel (spell_method m)
 encoding (Raw channel kind payload) = spell_framed (type_of kind) channel payload
 encoding Heartbeat = spell_heartbeat
 
--- the frame has a written spelling, whose length four octets can hold: so it is where `KeepsRules` holds (`Rules`)
+-- the frame has a written spelling, whose length four octets can hold: each frame has that keeps the rules (`Rules`)
 abbrev pub Writable : Frame → Type 0
 Writable f = FrameOf f (encoding f) × (length (encoding f) ≤ 4294967295)

@@ -77,7 +77,7 @@ IsFront bytes limit NoMemory = ⊥
 
 -- ---- want of memory
 
--- a payload that is copied: a class, a method and what follows; a content header; a content body
+-- a payload for which memory may be asked: a class, a method and what follows; a content header; a content body
 abbrev pub IsCopied : ℕ → List ℕ → Type 0
 IsCopied type payload =
     ((type ≡ 1) × (4 ≤ length payload)) ⊎ (((type ≡ 2) × (14 ≤ length payload)) ⊎ (type ≡ 3))

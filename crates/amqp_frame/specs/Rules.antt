@@ -1,5 +1,5 @@
--- What a frame keeps whose written spelling is one of its spellings, but for its length: numbers in their range, short
--- strings in their length, tables in order and not too deep, and a payload of its kind.
+-- What is enough for the written spelling of a frame to be one of its spellings, but for its length: numbers in their
+-- range, short strings in their length, tables in order and not too deep, and a payload of its kind.
 use Rattle.std.specs.Prelude.{◌≡◌, ℕ, suc, ◌<◌, ◌^◌, max, List, length, ⊤, FitsSigned}
 use Rattle.std.specs.Int.{w8, w16, w32, w64}
 use Rattle.amqp_types.specs.Value.{Scalar, boolean, short_short_int, short_short_uint, short_int, short_uint, long_int, long_uint, long_long_int, float, double, decimal, long_string, byte_array, timestamp, void, FieldValue, scalar, array, table, FieldValues, no_values, value, FieldPairs, no_pairs, pair, Pair, pairs_of, pairs_from}

@@ -22,10 +22,14 @@ pub fn what_is_writable()
     ensures { (frame : Frame) → KeepsRules frame → length (encoding frame) ≤ 4294967295 → Writable frame }
 {}
 
-/// What is written is read again, whatever follows it.
+/// What is written is read again, whatever follows it: of every writable frame, and so of each that
+/// keeps the rules.
 pub fn written_is_read()
-    ensures { (frame : Frame) (rest : List ℕ) (limit : ℕ) → KeepsRules frame → length (encoding frame) ≤ 4294967295
+    ensures writable { (frame : Frame) (rest : List ℕ) (limit : ℕ) → Writable frame
         → IsWithin limit (length (encoding frame)) frame
+        → front (encoding frame ++ rest) limit ≡ read.Whole frame (length (encoding frame)) }
+    ensures rules { (frame : Frame) (rest : List ℕ) (limit : ℕ) → KeepsRules frame
+        → length (encoding frame) ≤ 4294967295 → IsWithin limit (length (encoding frame)) frame
         → front (encoding frame ++ rest) limit ≡ read.Whole frame (length (encoding frame)) }
 {}
 
