@@ -179,11 +179,18 @@ impl Session {
         let frame = Frame::Raw(id, RawKind::RawMethod, method.into_payload());
         let size = encoded_len(&frame);
         if size > CAPACITY {
+            drop(frame);
             return self.refuse(ErrorKind::SerialisationError(size));
         }
         let then = Then::Answer(self.promises());
-        self.promises.reserve(1)?;
-        self.committed.reserve(self.lanes.len() + 1)?;
+        if let Err(refused) = self.promises.reserve(1) {
+            drop(frame);
+            return Err(refused.into());
+        }
+        if let Err(refused) = self.committed.reserve(self.lanes.len() + 1) {
+            drop(frame);
+            return Err(refused);
+        }
         self.lanes.queue(Item { frame, then })?;
         self.promises.push_reserved(Slot::Waiting);
         Ok(())

@@ -53,8 +53,8 @@ impl Session {
         ensures ok { OnOk result (self.new ≡ on_start self.old) }
         ensures err { OnErr result (self.new ≡ self.old) }
     {
-        let frame = start_ok(self.alloc)?;
         self.committed.reserve(self.lanes.len() + 1)?;
+        let frame = start_ok(self.alloc)?;
         self.lanes.queue(Item::plain(frame))?;
         self.phase = AwaitTune;
         Ok(())
@@ -65,8 +65,8 @@ impl Session {
         ensures err { OnErr result (self.new ≡ self.old) }
     {
         let agreed = tune(self.configuration, server);
-        let open = open_vhost(self.alloc)?;
         self.committed.reserve(self.lanes.len() + 2)?;
+        let open = open_vhost(self.alloc)?;
         self.lanes
             .queue_both(Item::plain(tune_ok(agreed)), Item::plain(open))?;
         self.configuration = agreed;

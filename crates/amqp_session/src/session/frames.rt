@@ -64,10 +64,20 @@ impl Session {
         ensures err { OnErr result (self.new ≡ self.old) }
     {
         match (id, is_of_a_channel(&method)) {
-            (0, true) => self.frame_on_channel_0(RawKind::RawMethod),
+            (0, true) => {
+                drop(method);
+                self.frame_on_channel_0(RawKind::RawMethod)
+            }
             (0, false) => self.connection_method(method),
-            (_, true) => self.channel_method(id, &method),
-            (_, false) => self.connection_method_off_channel_0(id),
+            (_, true) => {
+                let done = self.channel_method(id, &method);
+                drop(method);
+                done
+            }
+            (_, false) => {
+                drop(method);
+                self.connection_method_off_channel_0(id)
+            }
         }
     }
 
