@@ -1,13 +1,13 @@
 -- What the rules keep.
-use Rattle.std.specs.Prelude.{◌≡◌, ℕ, ◌++◌, [], ◌∷◌, Err}
+use Rattle.std.specs.Prelude.{◌≡◌, ℕ}
 use Rattle.amqp_frame.specs.declared.frame.Frame.{Frame}
 use Rattle.amqp_session.specs.declared.command.Cmd.{Cmd}
-use Rattle.amqp_session.specs.declared.promises.Slot.TheVariants.{Answered}
 use Rattle.amqp_session.specs.declared.error.ErrorKind.{ErrorKind}
 use Rattle.amqp_session.specs.Talk.{Talk, end_of}
 use Rattle.amqp_session.specs.declared.misread.Misread.{Misread}
 use Rattle.amqp_session.specs.declared.io_fault.IoFault.{IoFault}
 use Rattle.amqp_session.specs.Changes as change
+use Rattle.amqp_session.specs.Changes.{refuse}
 use Rattle.amqp_session.specs.Links as link
 use Rattle.amqp_session.specs.Frames.{on_frame}
 use Rattle.amqp_session.specs.Commands as told
@@ -33,4 +33,4 @@ pub record IsOver (t : Talk) : Type 0 where
 
 -- the promises alone change: there is one more, which is answered with this error
 abbrev pub IsRefused : ErrorKind → Talk → Talk → Type 0
-IsRefused e before after = after ≡ record before { promises = before.promises ++ Answered (Err e) ∷ [] }
+IsRefused e before after = after ≡ refuse e before

@@ -1,20 +1,21 @@
 -- The state of a session.
 pub mod Listed
 pub mod Talk
+pub mod Replies
 -- What is agreed, and what the client says to open and close.
 pub mod Negotiation
-pub mod Numbering
 pub mod Handshake
 -- What goes wrong, and its texts.
 pub mod Shown
 pub mod Errors
 pub mod Violations
 -- The rules: what each happening does to the state.
-pub mod Replies
 pub mod Changes
 pub mod Links
-pub mod Connections
+pub mod ConnectionMethods
+pub mod Numbering
 pub mod Channels
+pub mod ChannelMethods
 pub mod Frames
 pub mod Commands
 pub mod Writing

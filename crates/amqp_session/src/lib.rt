@@ -6,6 +6,7 @@
 //! `Lib.antt` gives in reading order.
 #![tactic(auto)]
 
+mod awaiting;
 mod channels;
 mod command;
 mod committed;
@@ -35,7 +36,7 @@ pub use laws::{
     negotiation_leaves_room, unsent_bytes_are_counted,
 };
 pub use misread::Misread;
-pub use session::{CAPACITY, Session};
+pub use session::{INITIAL_CAPACITY, Session};
 pub use state::{ChannelState, ConnectionState};
 
 #[cfg(test)]

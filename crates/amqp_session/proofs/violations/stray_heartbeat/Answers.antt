@@ -1,7 +1,7 @@
 use Rattle.std.proofs.Common.{◌≤◌, length, length-append, lit<, arith}
 use Rattle.std.specs.Fmt.{decimal}
 use Rattle.std.proofs.lemmas.Fmt.{length-decimal-le}
-use Rattle.amqp_session.proofs.violations.connection_method_on.Goals as goal
+use Rattle.amqp_session.proofs.violations.stray_heartbeat.Goals as goal
 
 pub hard_error-requires-clause-text : goal.hard_error-requires-clause-text
 hard_error-requires-clause-text c =
