@@ -22,6 +22,7 @@ pub mod Writing
 pub mod Answers
 pub mod Queries
 -- What the rules keep.
+pub mod Causes
 pub mod Laws
 -- What the contracts of private calls are stated with.
 pub mod Parts

@@ -26,15 +26,16 @@ abbrev pub seen : {X Y : Type 0} → (Y → Option X) → List (ℕ × Y) → Li
 seen f [] = []
 seen f (e ∷ es) = seen_first e.0 (f e.1) (seen f es)
 
+-- what is seen of an entry, where there is one
+abbrev pub seen_at : {X Y : Type 0} → (Y → Option X) → Option Y → Option X
+seen_at f None = None
+seen_at f (Some y) = f y
+
 -- a promise as it is seen: a place that is made for one is none
 abbrev pub slot_seen : Slot → Option (Option (Result Answer ErrorKind))
 slot_seen Place = None
 slot_seen Waiting = Some None
 slot_seen (Answered answer) = Some (Some answer)
-
-abbrev pub slot_at : Option Slot → Option (Option (Result Answer ErrorKind))
-slot_at None = None
-slot_at (Some slot) = slot_seen slot
 
 -- a promise, once it got an answer: where it waits
 abbrev pub slot_settled : Result Answer ErrorKind → Slot → Slot

@@ -1,6 +1,6 @@
 //! The replies that are awaited.
 
-ghost use Rattle.std.specs.Prelude.{◌≡◌, ◌++◌, ◌∷◌, [], position, IfOk, IfNone, IsSome, OnOk, OnErr, OnSome, find, is_empty};
+ghost use Rattle.std.specs.Prelude.{◌≡◌, ◌++◌, ◌∷◌, [], position, IfOk, IfNone, IsSome, OnOk, OnErr, OnSome, find, length, ◌==◌};
 ghost use Rattle.amqp_session.specs.Replies.{is_of, is_same_reply, expected, first_awaited, without_reply, without_first};
 
 use amqp_types::{ChannelId, NoMemory};
@@ -73,9 +73,9 @@ impl Replies {
     }
 
     fn is_empty(&self) -> bool
-        ensures { result ≡ is_empty self.now }
+        ensures { result ≡ (length self.now == 0) }
     {
-        self.items.is_empty()
+        self.items.len() == 0
     }
 
     // Takes out the first that awaits this reply.

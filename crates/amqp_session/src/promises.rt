@@ -3,7 +3,7 @@
 ghost use Rattle.std.specs.Prelude.{◌≡◌, ◌+◌, ◌<◌, ◌^◌, [], None, Some, Err, IsSome, OnOk, OnErr, option_copied};
 ghost use Rattle.amqp_session.specs.Listed.{at, put, without};
 ghost use Rattle.amqp_session.specs.Changes.{settled};
-ghost use Rattle.amqp_session.specs.Parts.{seen, slot_seen, slot_at, slot_settled};
+ghost use Rattle.amqp_session.specs.Parts.{seen, seen_at, slot_seen, slot_settled};
 
 use crate::command::Answer;
 use crate::error::{self, ErrorKind};
@@ -104,7 +104,7 @@ impl Promises {
     /// What has become of a promise, where its answer was not taken.
     pub fn get(&self, number: u64) -> Option<&Slot>
         ensures slot { option_copied result ≡ at number self.now.slots.entries }
-        ensures seen { at number (seen slot_seen self.now.slots.entries) ≡ slot_at (at number self.now.slots.entries) }
+        ensures seen { at number (seen slot_seen self.now.slots.entries) ≡ seen_at slot_seen (at number self.now.slots.entries) }
     {
         self.slots.get(&number)
     }

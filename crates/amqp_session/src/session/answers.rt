@@ -2,7 +2,7 @@
 
 ghost use Rattle.std.specs.Prelude.{◌≡◌, IfOk, OnErr, IsOk, IsErr};
 ghost use Rattle.amqp_session.specs.Talk.{end_of};
-ghost use Rattle.amqp_session.specs.Channels.{frames_of};
+ghost use Rattle.amqp_session.specs.ChannelMethods.{frames_of};
 ghost use Rattle.amqp_session.specs.Answers.{rejection, answer_of, take_frames, Takes, IsRejected, IsFailed};
 ghost use Rattle.amqp_session.specs.Parts.{ended_by};
 
