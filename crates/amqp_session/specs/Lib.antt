@@ -23,6 +23,7 @@ pub mod Answers
 pub mod Queries
 -- What the rules keep.
 pub mod Causes
+pub mod Sound
 pub mod Laws
 -- What the contracts of private calls are stated with.
 pub mod Parts
