@@ -186,7 +186,9 @@ sound-connection Closing p CloseOk t hs hp opened s = sound-connection-closed (f
 sound-connection Closing p m t hs hp opened s = s
 sound-connection Connecting AwaitStart (Start a b c d e) t hs hp opened s =
     record {
-      link = s.link; listed = s.listed; promises = s.promises;
+      link = s.link;
+      listed = s.listed;
+      promises = s.promises;
       room = λ h. (let k : is_agreed Connecting AwaitTune ≡ true = subst (λ x. is_agreed x AwaitTune ≡ true) hs h in absurd cc);
     }
 sound-connection Connecting AwaitTune (Tune a b c) t hs hp opened s =
@@ -196,7 +198,8 @@ sound-connection Connecting AwaitOpenOk OpenOk t hs hp opened s =
     record {
       link = opened-fits t.link (subst (λ x. fits_link x t.link ≡ true) hs s.link);
       room = λ h. s.room (ap (λ x. is_agreed x t.phase) hs ∙ ap (is_agreed Connecting) hp);
-      listed = s.listed; promises = given.promises;
+      listed = s.listed;
+      promises = given.promises;
     }
 sound-connection held p m t hs hp opened s = sound-fail _ t s
 
@@ -290,7 +293,8 @@ sound-drawn None first t some s =
     record { link = r.link; room = r.room; listed = r.listed; promises = r.promises }
 sound-drawn (Some n) first t some s =
     record {
-      link = s.link; room = s.room;
+      link = s.link;
+      room = s.room;
       listed = put-from n _ 0 t.channels (some n refl) s.listed;
       promises = put-ascends t.made None t.promises s.promises;
     }
@@ -300,7 +304,8 @@ sound-close-target : (r : Result Channel ErrorKind) (n code : ℕ) (text : List 
 sound-close-target (Err e) n code text t some s = sound-refuse e t s
 sound-close-target (Ok c) n code text t some s =
     record {
-      link = s.link; room = s.room;
+      link = s.link;
+      room = s.room;
       listed = put-from n _ 0 t.channels (some c refl) s.listed;
       promises = put-ascends t.made None t.promises s.promises;
     }
