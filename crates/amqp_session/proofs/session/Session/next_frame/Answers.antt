@@ -12,9 +12,9 @@ returns-clause-frame c =
     let opened : is_open c.args.self.now ≡ true = sym c.is_open.ensures ∙ c.if-not-is_open.false in
     let first : head c.args.self.now.control ≡ Some item =
     ap (λ (t : Talk). head t.control) (sym c.self.view_is) ∙ sym c.next.ensures.item ∙ c.in_ok-frame.was in
-    let lent : Some c.in_ok-front.front.now ≡ Some item =
+    let lent : Some c.in_ok-front.field-0.now ≡ Some item =
     sym (ap option_copied c.in_ok-front.was) ∙ c.front.ensures ∙ sym c.next.ensures.item ∙ c.in_ok-frame.was in
-    let front : c.in_ok-front.front.now ≡ item = cc in
+    let front : c.in_ok-front.field-0.now ≡ item = cc in
     let mark : c.in_ok-mark.mark ≡ mark_of item = c.in_ok-mark.ensures.fits.0 ∙ ap mark_of front in
     let fits : size_of item ≤ c.args.space = subst (λ (i : Item). size_of i ≤ c.args.space) front c.in_ok-mark.ensures.fits.1 in
     ap (option_map (λ (i : Item). i.frame)) (sym (next-fits c.args.space c.args.self.now item opened first fits))
@@ -25,9 +25,9 @@ returns-clause-commit c =
     let opened : is_open c.args.self.now ≡ true = sym c.is_open.ensures ∙ c.if-not-is_open.false in
     let first : head c.args.self.now.control ≡ Some item =
     ap (λ (t : Talk). head t.control) (sym c.self.view_is) ∙ sym c.next.ensures.item ∙ c.in_ok-frame.was in
-    let lent : Some c.in_ok-front.front.now ≡ Some item =
+    let lent : Some c.in_ok-front.field-0.now ≡ Some item =
     sym (ap option_copied c.in_ok-front.was) ∙ c.front.ensures ∙ sym c.next.ensures.item ∙ c.in_ok-frame.was in
-    let front : c.in_ok-front.front.now ≡ item = cc in
+    let front : c.in_ok-front.field-0.now ≡ item = cc in
     let mark : c.in_ok-mark.mark ≡ mark_of item = c.in_ok-mark.ensures.fits.0 ∙ ap mark_of front in
     let fits : size_of item ≤ c.args.space = subst (λ (i : Item). size_of i ≤ c.args.space) front c.in_ok-mark.ensures.fits.1 in
     rw (c.next.ensures.rest, c.push.ensures.marks, mark)
