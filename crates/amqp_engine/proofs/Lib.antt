@@ -1,6 +1,5 @@
 pub mod Cases
 pub mod Settling
-pub mod Keeping
 pub mod Commits
 pub mod Reading
 pub mod Over
@@ -18,8 +17,6 @@ pub mod Sends
 pub mod LinkTold
 pub mod Bytes
 pub mod Pieces
-pub mod Ends
-pub mod FrameEnds
 pub mod ReadEnds
 pub mod TurnEnds
 pub mod Faults
