@@ -1,5 +1,5 @@
 -- No turn leaves a whole frame unread.
-use Rattle.std.proofs.Common.{◌≡◌, ℕ, ◌&&◌, not, if◌then◌else◌, Bool, true, false, IsTrue, List, [], drop, Option, Result, ◌⊎◌, inl, inr, refl, ap, sym, ◌∙◌, subst, rules}
+use Rattle.std.proofs.Common.{◌≡◌, ℕ, ◌&&◌, not, if◌then◌else◌, Bool, true, false, IsTrue, List, [], drop, Option, Result, ◌⊎◌, inl, inr, refl, ap, sym, ◌∙◌, subst, rules, min}
 use Rattle.amqp_frame.specs.declared.frame.Read.{Read}
 use Rattle.amqp_frame.specs.declared.frame.Read.TheVariants.{Whole, More, TooLarge, BadHeartbeat, Bad, NoMemory}
 use Rattle.amqp_frame.specs.FrameReading.{front}

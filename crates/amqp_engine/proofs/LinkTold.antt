@@ -7,8 +7,8 @@ use Rattle.amqp_session.specs.declared.state.Link.TheVariants.{Wanted, Asked, Op
 use Rattle.amqp_session.specs.declared.error.ErrorKind.TheVariants.{IOError}
 use Rattle.amqp_session.specs.declared.io_fault.IoFault.{IoFault}
 use Rattle.amqp_session.specs.declared.io_fault.IoFault.TheVariants.{Aborted, Refused, Reset}
-use Rattle.amqp_session.specs.Talk.{Talk, start, is_open, is_open_link, is_asked, is_asked_link, is_wanted_link, has_ended, end_of_link}
-use Rattle.amqp_session.specs.Changes.{present_at, fail}
+use Rattle.amqp_session.specs.Talk.{Talk, start, acts, is_acting, is_open, is_open_link, is_asked, is_asked_link, is_wanted_link, has_ended, end_of_link}
+use Rattle.amqp_session.specs.Changes.{present_at, fail, lose, finish}
 use Rattle.amqp_session.specs.Links.{asked, asked_link, linked, link_failed, piece, lost}
 use Rattle.amqp_engine.specs.declared.port.Step.{Step}
 use Rattle.amqp_engine.specs.declared.port.Step.TheVariants.{Linked, LinkFailed, Piece, End, Fault, Room, Tick, Command}
@@ -81,7 +81,13 @@ lost-asked true fault t h =
       | inl same ↦ ap is_asked_link same
       | inr ended ↦ ended-unasked (lost fault t).link ended ∙ sym (open-unasked t.link h)
     ]
-lost-asked false fault t h = ap is_asked (if-false (is_open t) _ t h)
+lost-asked false fault t h =
+    ap is_asked (if-false (acts t) (lose (IOError fault) t) (if is_open t then finish t else t) (idle (is_open t) (is_acting t.input) h)
+    ∙ if-false (is_open t) (finish t) t h)
+  where
+    idle : (a b : Bool) → a ≡ false → (a && b) ≡ false
+    idle true b h = cc
+    idle false b h = refl
 
 faulted-asked : (at : ℕ) (fault : IoFault) (e : Engine) → is_asked (settle (rule_at at (lost fault) e)).talk ≡ is_asked e.talk
 faulted-asked at fault e =
