@@ -1,25 +1,32 @@
 -- A turn from its step on, out of the contracts of its parts.
-use Rattle.std.proofs.Common.{◌≡◌, ℕ, if◌then◌else◌, Bool, true, false, List, [], ◌++◌, Option, Some, refl, ap, sym, ◌∙◌, subst}
-use Rattle.amqp_session.specs.Talk.{Talk, is_asked, is_open}
+use Rattle.std.proofs.Common.{◌≡◌, ℕ, if◌then◌else◌, Bool, true, false, IsFalse, List, [], ◌++◌, Option, Some, None, refl, ap, sym, ◌∙◌, subst}
+use Rattle.amqp_session.specs.Talk.{Talk, is_asked, is_open, has_ended}
+use Rattle.amqp_session.specs.declared.io_fault.IoFault.TheVariants.{Aborted, Reset}
 use Rattle.amqp_session.specs.Changes.{present_at, starve}
-use Rattle.amqp_session.specs.Links.{linked, piece}
+use Rattle.amqp_session.specs.Links.{linked, link_failed, piece, lost}
 use Rattle.amqp_engine.specs.declared.port.Step.{Step}
 use Rattle.amqp_engine.specs.declared.port.Step.TheVariants.{Linked, LinkFailed, Piece, End, Fault, Room, Tick, Command}
 use Rattle.amqp_engine.specs.declared.port.Wrote.{Wrote}
 use Rattle.amqp_engine.specs.Log.{Log}
-use Rattle.amqp_engine.specs.Engine.{Engine, step_engine, settle, starve_at, rule_at}
+use Rattle.amqp_engine.specs.Engine.{Engine, step_engine, settle, starve_at, rule_at, can_write}
 use Rattle.amqp_engine.specs.Turn.{Progress, begun, goes, reading, is_part, is_piece, step_part, part, read, drain, AreAnswers, IsCut, starved_after}
-use Rattle.amqp_engine.specs.Making.{making, parts_of, Allows, Writes}
-use Rattle.amqp_engine.specs.Tell.{Applies, TellsOffers, offers_from, turn_of}
-use Rattle.amqp_engine.proofs.Cases.{if_case, if-true, if-false, is_before-Allows}
+use Rattle.amqp_engine.specs.Making.{making, parts_of, Allows, Writes, AppliesCounted}
+use Rattle.amqp_engine.specs.Counts.{Rose}
+use Rattle.amqp_engine.specs.Causes.{has_failed}
+use Rattle.amqp_engine.specs.Tell.{TellsOffers, offers_from, turn_of}
+use Rattle.amqp_session.proofs.Cases.{if_case, if-true, if-false}
+use Rattle.amqp_engine.proofs.Cases.{is_before-Allows}
 use Rattle.amqp_engine.proofs.Settling.{settle-starved}
-use Rattle.amqp_engine.proofs.Keeping.{starve-twice}
-use Rattle.amqp_engine.proofs.Reading.{reads-cut}
+use Rattle.amqp_session.proofs.Keeping.{starve-twice}
+use Rattle.amqp_engine.proofs.Reading.{reading-cut}
+use Rattle.amqp_engine.proofs.Offers.{writes-none, writes-cut}
+use Rattle.amqp_engine.proofs.Over.{step-ended, over-reads, over-writes}
+use Rattle.amqp_engine.proofs.Telling.{tells-none}
 
 -- memory that is refused twice was refused once
 pub starve_at-twice : (at j : ℕ) (e : Engine) → starve_at at j (rule_at at starve e) ≡ starve_at at j e
 starve_at-twice at j e =
-    ap (λ (t : Talk). record e { talk = t; unread = []; place = 0; starved = Some j }) (starve-twice at e.talk)
+    ap (λ (t : Talk). record e { talk = t; unread = []; place = 0; unsent = []; starved = Some j }) (starve-twice at e.talk)
 
 -- the step's part is done, where it is one
 pub step-done : (at : ℕ) (cut : Option ℕ) (step : Step) (bytes : List ℕ) (e : Engine) (b : Bool)
@@ -44,10 +51,6 @@ read-is at cut ws step bytes piece b e e1 e2 m n hp hb hm h1 allows h2 =
     ∙ ap (λ x. making at cut (step_engine at step bytes e) x) (sym hm) ∙ ap (λ x. making at cut x m) (sym h1))
     ∙ ap (λ x. reading x (making at cut e1 m)) (sym hp) ∙ h2
 
-reading-cut : (b : Bool) (p : Progress) → goes p ≡ false → reading b p ≡ p
-reading-cut true p h = reads-cut _ p h
-reading-cut false p h = refl
-
 -- memory was refused at the step itself
 pub read-none : (at : ℕ) (ws : List Wrote) (step : Step) (bytes : List ℕ) (e : Engine) → is_part step e ≡ true
     → read (turn_of at step bytes (record { answers = ws; starved = Some 0 })) e ≡ making at (Some 0) e 0
@@ -58,35 +61,64 @@ read-none at ws step bytes e h =
     ap (reading (is_piece step)) same ∙ reading-cut (is_piece step) p refl
 
 -- a turn from what was read, what was written and what was told
-pub applies-of : (at : ℕ) (step : Step) (bytes : List ℕ) (e e' : Engine) (log log' : Option Log) (ws : List Wrote) (cut : Option ℕ) (p p' : Progress)
+pub applies-of : (at : ℕ) (step : Step) (bytes : List ℕ) (e e' : Engine) (log log' : Option Log) (m n : ℕ) (ws : List Wrote) (cut : Option ℕ) (p p' : Progress)
     → read (turn_of at step bytes (record { answers = ws; starved = cut })) e ≡ p
-    → Writes ws p p' → IsCut cut p'.done → starved_after cut at p'.engine ≡ e'
-    → TellsOffers (offers_from at ws p.engine) log log'
-    → Applies at step bytes e e' log log'
-applies-of at step bytes e e' log log' ws cut p p' hr hw hc ha ht =
+    → Writes ws p p' → IsCut cut p'.done → (if has_ended e.talk then p'.engine else starved_after cut at p'.engine) ≡ e'
+    → TellsOffers (offers_from at ws p.engine) log log' → (has_failed ws ≡ true → Rose m n)
+    → AppliesCounted at step bytes e e' log log' m n
+applies-of at step bytes e e' log log' m n ws cut p p' hr hw hc ha ht counted =
     let leads : drain ws (read (turn_of at step bytes (record { answers = ws; starved = cut })) e) ≡ p' =
     ap (drain ws) hr ∙ hw.leaves in
     let P : Progress → Type 0 = λ x. AreAnswers ws x in
     let Q : Progress → Type 0 = λ x. IsCut cut x.done in
     let R : Progress → Type 0 = λ x. TellsOffers (offers_from at ws x.engine) log log' in
     record {
-      notes = record { answers = ws; starved = cut };
-      may = record { answers = subst P (sym hr) hw.answers; cut = subst Q (sym leads) hc };
-      leaves = ap (λ (x : Progress). starved_after cut at x.engine) leads ∙ ha;
-      tells = subst R (sym hr) ht;
+      applies = record {
+        notes = record { answers = ws; starved = cut };
+        may = record { answers = subst P (sym hr) hw.answers; cut = subst Q (sym leads) hc };
+        leaves = ap (λ (x : Progress). if has_ended e.talk then x.engine else starved_after cut at x.engine) leads ∙ ha;
+        tells = subst R (sym hr) ht;
+      };
+      counted = counted;
     }
+
+-- where there was no write, none failed
+pub none-failed : {A : Type 0} → false ≡ true → A
+none-failed h = cc
+
+-- a session that had ended takes the step alone
+pub applies-over : (at : ℕ) (step : Step) (bytes : List ℕ) (e e' : Engine) (log log' : Option Log) (m n : ℕ) → has_ended e.talk ≡ true
+    → e' ≡ step_engine at step bytes e → log' ≡ log → AppliesCounted at step bytes e e' log log' m n
+applies-over at step bytes e e' log log' m n h same told =
+    let k = parts_of (is_part step e) in
+    let p = making at None e' k in
+    let over : has_ended e'.talk ≡ true = ap (λ (x : Engine). has_ended x.talk) same ∙ step-ended at step bytes e h in
+    let none : IsFalse (can_write e') = over-writes e' over in
+    applies-of at step bytes e e' log log' m n [] None p p
+    (read-is at None [] step bytes (is_piece step) (is_part step e) e e' e' k k refl refl refl same tt (over-reads (is_piece step) p over))
+    (writes-none p none) tt (if_case (λ (x : Engine). x ≡ e') (has_ended e.talk) e' e' refl refl) (tells-none log log' told) none-failed
+
+-- and where memory is refused, nothing
+pub refused-over : (at : ℕ) (step : Step) (bytes : List ℕ) (e e' : Engine) (log log' : Option Log) (m n : ℕ) → has_ended e.talk ≡ true → is_part step e ≡ true
+    → e' ≡ e → log' ≡ log → AppliesCounted at step bytes e e' log log' m n
+refused-over at step bytes e e' log log' m n h is same told =
+    let p = making at (Some 0) e 0 in
+    applies-of at step bytes e e' log log' m n [] (Some 0) p p
+    (read-none at [] step bytes e is) (writes-cut p refl) refl
+    (if-true (has_ended e.talk) e (starved_after (Some 0) at e) h ∙ sym same) (tells-none log log' told) none-failed
 
 -- a step starves nobody
 pub step-starved : (at : ℕ) (step : Step) (bytes : List ℕ) (e : Engine) → (step_engine at step bytes e).starved ≡ e.starved
 step-starved at Linked bytes e =
     if_case (λ (x : Engine). x.starved ≡ e.starved) (is_asked e.talk)
     (record { talk = linked (present_at at e.talk); unread = []; place = 0; unsent = []; starved = e.starved }) (rule_at at (λ t. t) e) refl refl
-step-starved at LinkFailed bytes e = settle-starved _
+step-starved at LinkFailed bytes e = settle-starved (rule_at at link_failed e)
 step-starved at (Piece n) bytes e =
+    let x : Engine = record e { talk = piece (present_at at e.talk); unread = e.unread ++ bytes } in
     if_case (λ (x : Engine). x.starved ≡ e.starved) (is_open e.talk)
-    (settle (record e { talk = piece (present_at at e.talk); unread = e.unread ++ bytes })) (rule_at at (λ t. t) e) (settle-starved _) refl
-step-starved at End bytes e = settle-starved _
-step-starved at Fault bytes e = settle-starved _
+    (settle x) (rule_at at (λ t. t) e) (settle-starved x) refl
+step-starved at End bytes e = settle-starved (rule_at at (lost Aborted) e)
+step-starved at Fault bytes e = settle-starved (rule_at at (lost Reset) e)
 step-starved at Room bytes e = refl
 step-starved at Tick bytes e = refl
 step-starved at (Command c) bytes e = refl

@@ -1,5 +1,5 @@
 -- No turn leaves a whole frame unread.
-use Rattle.std.proofs.Common.{◌≡◌, ◌≤◌, ℕ, zero, suc, ◌&&◌, ◌||◌, not, if◌then◌else◌, Bool, true, false, IsTrue, List, [], ◌∷◌, length, drop, Option, Some, None, Result, is_some, ◌⊎◌, inl, inr, refl, ap, sym, ◌∙◌, subst, arith, rules}
+use Rattle.std.proofs.Common.{◌≡◌, ℕ, ◌&&◌, not, if◌then◌else◌, Bool, true, false, IsTrue, List, [], drop, Option, Result, ◌⊎◌, inl, inr, refl, ap, sym, ◌∙◌, subst, rules, min}
 use Rattle.amqp_frame.specs.declared.frame.Read.{Read}
 use Rattle.amqp_frame.specs.declared.frame.Read.TheVariants.{Whole, More, TooLarge, BadHeartbeat, Bad, NoMemory}
 use Rattle.amqp_frame.specs.FrameReading.{front}
@@ -8,8 +8,9 @@ use Rattle.amqp_session.specs.declared.state.Link.TheVariants.{Wanted, Asked, Op
 use Rattle.amqp_session.specs.declared.io_fault.IoFault.TheVariants.{Aborted, Reset, BrokenPipe}
 use Rattle.amqp_session.specs.declared.command.Answer.{Answer}
 use Rattle.amqp_session.specs.declared.error.ErrorKind.{ErrorKind}
-use Rattle.amqp_session.specs.Talk.{Talk, is_open, is_open_link, is_asked, has_ended, drops_input, end_of_link}
-use Rattle.amqp_session.specs.Negotiation.{frame_limit}
+use Rattle.amqp_session.specs.Talk.{Talk, is_open, is_open_link, is_asked, has_ended, drops_input}
+use Rattle.amqp_session.specs.declared.configuration.Configuration.{Configuration}
+use Rattle.amqp_session.specs.Negotiation.{frame_limit, wish_or}
 use Rattle.amqp_session.specs.Changes.{present_at, fail, starve}
 use Rattle.amqp_session.specs.Links.{asked, asked_link, linked, link_failed, lost}
 use Rattle.amqp_session.specs.Commands.{command}
@@ -21,35 +22,19 @@ use Rattle.amqp_engine.specs.declared.port.Step.TheVariants.{Linked, LinkFailed,
 use Rattle.amqp_engine.specs.declared.port.Wrote.{Wrote}
 use Rattle.amqp_engine.specs.declared.port.Wrote.TheVariants.{Took, Failed, NoMemory as WroteNoMemory}
 use Rattle.amqp_engine.specs.Engine.{Engine, front_of, is_more, can_read, rule_at, with_talk, step_engine, settle, took, wrote, commit_all, commits, starve_at}
-use Rattle.amqp_engine.specs.Turn.{Progress, Turn, asks, wants_ask, goes, reads, read_part, reading, is_piece, step_part, is_part, begun, drain, offer_part, answered, read, written, applied, turn, starved_after}
+use Rattle.amqp_session.specs.Writing.{frames_waiting}
+use Rattle.amqp_engine.specs.Turn.{Turn, asks, wants_ask, is_piece, answered, applied, turn, IsApplied, IsTurn}
 use Rattle.amqp_engine.specs.Log.{Log}
-use Rattle.amqp_engine.specs.Tell.{Applies, Turns, turn_of}
+use Rattle.amqp_engine.specs.Tell.{Applies, TakesTurn, turn_of}
 use Rattle.amqp_engine.specs.Unread.{IsRead}
-use Rattle.amqp_engine.proofs.Cases.{if_case, if-true, if-false, and-false, and-right}
-use Rattle.amqp_engine.proofs.Keeping.{present-keeps, stays-command, taken-keeps, taken-link, lost-stays, starve-ends}
+use Rattle.amqp_session.proofs.Cases.{if_case, if_by}
+use Rattle.amqp_session.proofs.Keeping.{present-keeps, stays-command, taken-keeps, taken-link, lost-stays, starve-ends}
 use Rattle.amqp_engine.proofs.Commits.{commits-keep}
-use Rattle.amqp_engine.proofs.Reading.{read_one-worth, front-none}
+use Rattle.amqp_engine.proofs.Reading.{front-none}
+use Rattle.amqp_engine.proofs.Over.{ended-closed, applied-ended}
+use Rattle.amqp_engine.proofs.Lifting as lifting
 
 -- ---- reading goes on to the end
-
-no-bytes : (xs : List ℕ) (limit : ℕ) → length xs ≤ 0 → not (is_more (front xs limit)) ≡ false
-no-bytes [] limit h = ap (λ (r : Read). not (is_more r)) (front-none limit)
-no-bytes (x ∷ xs) limit h = absurd (omega arith)
-
-if-done : (b : Bool) (n : ℕ) (p : Progress) → (goes p && can_read p.engine) ≡ b → length p.engine.unread ≤ suc n
-    → ((x : Progress) → length x.engine.unread ≤ n → (goes (reads n x) && can_read (reads n x).engine) ≡ false)
-    → (goes (if b then reads n (read_part p) else p) && can_read (if b then reads n (read_part p) else p).engine) ≡ false
-if-done true n p h le ih =
-    let can : can_read p.engine ≡ true = and-right (goes p) (can_read p.engine) h in
-    ih (read_part p) (omega (arith, read_one-worth p.at p.engine can))
-if-done false n p h le ih = h
-
--- after the parts that read, the turn was cut, or nothing is left to be read
-reads-done : (n : ℕ) (p : Progress) → length p.engine.unread ≤ n → (goes (reads n p) && can_read (reads n p).engine) ≡ false
-reads-done zero p le =
-    and-false (goes p) (can_read p.engine)
-    (and-false (is_open p.engine.talk) (not (is_more (front_of p.engine))) (no-bytes p.engine.unread (frame_limit p.engine.talk.configuration) le))
-reads-done (suc n) p le = if-done (goes p && can_read p.engine) n p refl le (λ x h. reads-done n x h)
 
 more-is : (r : Read) → not (is_more r) ≡ false → r ≡ More
 more-is More h = refl
@@ -68,19 +53,18 @@ cannot-read e h opened = open-more (is_open e.talk) (front_of e) h opened
 
 -- ---- what leaves it as it was
 
-pub same-read : (e e' : Engine) → is_open e'.talk ≡ is_open e.talk → e'.unread ≡ e.unread → e'.talk.configuration ≡ e.talk.configuration
+pub same-read : (e e' : Engine) → is_open e'.talk ≡ is_open e.talk → e'.unread ≡ e.unread → frame_limit e'.talk ≡ frame_limit e.talk
     → IsRead e → IsRead e'
-same-read e e' opened unread configuration h now =
+same-read e e' opened unread limit h now =
     let P : Bool → Type 0 = λ b. IsTrue b in
-    ap (λ bytes. front bytes (frame_limit e'.talk.configuration)) unread ∙ ap (λ c. front e.unread (frame_limit c)) configuration
-    ∙ h (subst P opened now)
+    ap (λ bytes. front bytes (frame_limit e'.talk)) unread ∙ ap (front e.unread) limit ∙ h (subst P opened now)
 
 closed-read : (e : Engine) → is_open e.talk ≡ false → IsRead e
 closed-read e h opened =
     let P : Bool → Type 0 = λ b. IsTrue b in
     absurd (let no : IsTrue false = subst P h opened in search rules)
 
-asked-open : (l : Link) → is_open_link (asked_link l) ≡ is_open_link l
+asked-open : (l : Link ErrorKind) → is_open_link (asked_link l) ≡ is_open_link l
 asked-open Wanted = refl
 asked-open Asked = refl
 asked-open Open = refl
@@ -93,13 +77,18 @@ asks-read e h =
 -- a moment leaves it as it was
 moment-read : (at : ℕ) (e : Engine) → IsRead e → IsRead (rule_at at (λ t. t) e)
 moment-read at e h =
-    same-read e (rule_at at (λ t. t) e) (present-keeps is_open at e.talk (λ n. refl)) refl (present-keeps (λ t. t.configuration) at e.talk (λ n. refl)) h
+    same-read e (rule_at at (λ t. t) e) (present-keeps is_open at e.talk (λ n. refl)) refl (present-keeps frame_limit at e.talk (λ n. refl)) h
 
 -- a command too
 pub command-read : (c : Cmd) (e : Engine) → IsRead e → IsRead (with_talk (command c) e)
 command-read c e h =
-    let stays = stays-command c e.talk in
-    same-read e (with_talk (command c) e) (ap is_open_link stays.link) refl stays.configuration h
+    let t = e.talk in
+    let t' : Talk = command c t in
+    let stays = stays-command c t in
+    let limit : frame_limit t' ≡ frame_limit t =
+    ap (λ (x : Configuration). min t'.capacity (wish_or t'.capacity x.frame_max)) stays.configuration
+    ∙ ap (λ (n : ℕ). min n (wish_or n t.configuration.frame_max)) stays.capacity in
+    same-read e (with_talk (command c) e) (ap is_open_link stays.link) refl limit h
 
 -- an answer that is taken too
 pub answer-read : (number : ℕ) (e : Engine) → IsRead e → IsRead (with_talk (take_answer number) e)
@@ -107,7 +96,7 @@ answer-read number e h =
     let t = e.talk in
     same-read e (with_talk (take_answer number) e)
     (if_case (λ (x : Talk). is_open x ≡ is_open t) _ (record t { promises = _ }) t refl refl) refl
-    (if_case (λ (x : Talk). x.configuration ≡ t.configuration) _ (record t { promises = _ }) t refl refl) h
+    (if_case (λ (x : Talk). frame_limit x ≡ frame_limit t) _ (record t { promises = _ }) t refl refl) h
 
 -- the same of an answer whose copy may be refused
 pub taken-read : (number : ℕ) (given : Option (Result Answer ErrorKind)) (e e' : Engine) → Takes number given e.talk e'.talk
@@ -125,36 +114,20 @@ pub frames-read : (opened : ℕ) (e : Engine) → IsRead e → IsRead (with_talk
 frames-read opened e h = same-read e (with_talk (take_frames opened) e) refl refl refl h
 
 -- where the unread bytes go, nothing is left of them
-settled-read : (b c : Bool) (x : Engine) → has_ended x.talk ≡ b → drops_input x.talk ≡ c
-    → (has_ended x.talk ≡ false → IsRead x) → IsRead (settle x)
-settled-read true c x hb hc h =
-    let gone : settle x ≡ record x { unread = []; place = 0 } =
-    if-true (has_ended x.talk || drops_input x.talk) (record x { unread = []; place = 0 }) x (ap (λ d. d || drops_input x.talk) hb) in
-    subst IsRead (sym gone) (λ opened. front-none (frame_limit x.talk.configuration))
-settled-read false true x hb hc h =
-    let gone : settle x ≡ record x { unread = []; place = 0 } =
-    if-true (has_ended x.talk || drops_input x.talk) (record x { unread = []; place = 0 }) x (ap (λ d. d || drops_input x.talk) hb ∙ hc) in
-    subst IsRead (sym gone) (λ opened. front-none (frame_limit x.talk.configuration))
-settled-read false false x hb hc h =
-    let stays : settle x ≡ x =
-    if-false (has_ended x.talk || drops_input x.talk) (record x { unread = []; place = 0 }) x (ap (λ d. d || drops_input x.talk) hb ∙ hc) in
-    subst IsRead (sym stays) (h hb)
-
-settle-read : (x : Engine) → (has_ended x.talk ≡ false → IsRead x) → IsRead (settle x)
-settle-read x h = settled-read (has_ended x.talk) (drops_input x.talk) x refl refl h
-
-both : (b : Bool) → b ≡ true → b ≡ false → ⊥
-both true h k = cc
-both false h k = cc
+settle-read : (x : Engine) → IsRead x → IsRead (settle x)
+settle-read x h =
+    if_by IsRead (is_open x.talk) (if drops_input x.talk then record x { unread = []; place = 0 } else x) (record x { unread = []; place = 0; unsent = [] })
+    (λ opened. if_case IsRead (drops_input x.talk) (record x { unread = []; place = 0 }) x (λ now. front-none (frame_limit x.talk)) h)
+    (λ closed. closed-read (record x { unread = []; place = 0; unsent = [] }) closed)
 
 -- a rule that does nothing or ends the session
 rule-read : (at : ℕ) (f : Talk → Talk) → ((t : Talk) → (f t ≡ t) ⊎ (has_ended (f t) ≡ true)) → (e : Engine) → IsRead e → IsRead (settle (rule_at at f e))
 rule-read at f h e k =
     let t = present_at at e.talk in
     let P : Talk → Type 0 = λ x. IsRead (record e { talk = x }) in
-    settle-read (rule_at at f e) (λ running. elim (h t) [
+    settle-read (rule_at at f e) (elim (h t) [
       | inl same ↦ subst P (sym same) (moment-read at e k)
-      | inr ended ↦ absurd (both (has_ended (f t)) ended running)
+      | inr ended ↦ closed-read (rule_at at f e) (ended-closed (f t).link ended)
     ])
 
 link_failed-stays : (t : Talk) → (link_failed t ≡ t) ⊎ (has_ended (link_failed t) ≡ true)
@@ -164,7 +137,7 @@ linked-read : (at : ℕ) (e : Engine) → IsRead e → IsRead (step_engine at Li
 linked-read at e h =
     if_case IsRead (is_asked e.talk)
     (record { talk = linked (present_at at e.talk); unread = []; place = 0; unsent = []; starved = e.starved }) (rule_at at (λ t. t) e)
-    (λ opened. front-none (frame_limit (linked (present_at at e.talk)).configuration)) (moment-read at e h)
+    (λ opened. front-none (frame_limit (linked (present_at at e.talk)))) (moment-read at e h)
 
 step-read : (at : ℕ) (step : Step) (bytes : List ℕ) (e : Engine) → is_piece step ≡ false → IsRead e → IsRead (step_engine at step bytes e)
 step-read at Linked bytes e piece h = linked-read at e h
@@ -181,11 +154,11 @@ took-read at k e h =
     let t = present_at at e.talk in
     let x : Engine = record e { talk = taken k t; unsent = drop k e.unsent } in
     let here : Engine = rule_at at (λ y. y) e in
-    let configuration : x.talk.configuration ≡ t.configuration =
-    taken-keeps (λ y. y.configuration) (record { ends = λ y s l cs o ps. refl; writes = λ y w ms. refl; moments = λ y n. refl }) k t in
-    settle-read x (λ running. elim (taken-link k t) [
-      | inl same ↦ same-read here x (ap is_open_link same) refl configuration (moment-read at e h)
-      | inr ended ↦ absurd (both (has_ended x.talk) ended running)
+    let limit : frame_limit x.talk ≡ frame_limit t =
+    taken-keeps frame_limit (record { ends = λ y s l cs ps. refl; writes = λ y w ms. refl; moments = λ y n. refl }) k t in
+    settle-read x (elim (taken-link k t) [
+      | inl same ↦ same-read here x (ap is_open_link same) refl limit (moment-read at e h)
+      | inr ended ↦ closed-read x (ended-closed x.talk.link ended)
     ])
 
 wrote-read : (at : ℕ) (w : Wrote) (e : Engine) → IsRead e → IsRead (wrote at w e)
@@ -198,74 +171,65 @@ commits-read n e h =
     same-read e (commits n e)
     (commits-keep (λ (y : Engine). is_open y.talk) (λ y fs ms bytes. refl) n e)
     (commits-keep (λ (y : Engine). y.unread) (λ y fs ms bytes. refl) n e)
-    (commits-keep (λ (y : Engine). y.talk.configuration) (λ y fs ms bytes. refl) n e) h
+    (commits-keep (λ (y : Engine). frame_limit y.talk) (λ y fs ms bytes. refl) n e) h
 
 answered-read : (at : ℕ) (w : Wrote) (e : Engine) → IsRead e → IsRead (answered at w e)
-answered-read at w e h = wrote-read at w (commit_all e) (commits-read (length e.talk.control) e h)
-
-drain-read : (ws : List Wrote) (p : Progress) → IsRead p.engine → IsRead (drain ws p).engine
-drain-read [] p h = h
-drain-read (w ∷ ws) p h = drain-read ws (offer_part w p) (answered-read p.at w p.engine h)
+answered-read at w e h = wrote-read at w (commit_all e) (commits-read (frames_waiting e.talk) e h)
 
 -- ---- a turn
 
-reading-read : (b : Bool) (p : Progress) → goes p ≡ true → goes (reads (length p.engine.unread) p) ≡ true → (b ≡ false → IsRead p.engine) → IsRead (reading b p).engine
-reading-read true p go goes_on h =
-    let q = reads (length p.engine.unread) p in
-    let done : (goes q && can_read q.engine) ≡ false = reads-done (length p.engine.unread) p (omega arith) in
-    let cannot : can_read q.engine ≡ false = sym (ap (λ (b : Bool). b && can_read q.engine) goes_on) ∙ done in
-    cannot-read q.engine cannot
-reading-read false p go goes_on h = h refl
+asking : Engine → Unit {0} → Unit {0}
+asking e x = tt
 
-uncut-reads : (n : ℕ) (p : Progress) → p.cut ≡ None → goes (reads n p) ≡ true
-uncut-reads zero p h = rw h refl
-uncut-reads (suc n) p h =
-    if_case (λ (x : Progress). goes x ≡ true) (goes p && can_read p.engine) (reads n (read_part p)) p (uncut-reads n (read_part p) h) (rw h refl)
+stepping : ℕ → Step → List ℕ → Engine → Unit {0} → Unit {0}
+stepping at step bytes e x = tt
 
-step_part-engine : (b : Bool) (step : Step) (bytes : List ℕ) (at : ℕ) (e : Engine) → is_part step e ≡ b
-    → (step_part step bytes (begun at None e)).engine ≡ step_engine at step bytes e
-step_part-engine true step bytes at e h = rw h refl
-step_part-engine false step bytes at e h = rw h refl
+offering : ℕ → Wrote → Engine → Unit {0} → Unit {0}
+offering at w e x = tt
 
-step_part-cut : (b : Bool) (step : Step) (bytes : List ℕ) (at : ℕ) (e : Engine) → is_part step e ≡ b
-    → (step_part step bytes (begun at None e)).cut ≡ None
-step_part-cut true step bytes at e h = rw h refl
-step_part-cut false step bytes at e h = rw h refl
+-- while frames are read nothing is known
+abbrev While : Engine → Unit {0} → Type 0
+While e x = Unit {0}
 
-uncut-read : (u : Turn) (e : Engine) → u.notes.starved ≡ None → IsRead e → IsRead (read u e).engine
-uncut-read u e whole h =
-    let at = u.at in
-    let s = step_part u.step u.bytes (begun at None e) in
-    let same : step_part u.step u.bytes (begun at u.notes.starved e) ≡ s = ap (λ (x : Option ℕ). step_part u.step u.bytes (begun at x e)) whole in
-    let cut : s.cut ≡ None = step_part-cut (is_part u.step e) u.step u.bytes at e refl in
-    let engine : s.engine ≡ step_engine at u.step u.bytes e = step_part-engine (is_part u.step e) u.step u.bytes at e refl in
-    let P : Progress → Type 0 = λ x. IsRead (reading (is_piece u.step) x).engine in
-    subst P (sym same)
-    (reading-read (is_piece u.step) s (uncut-reads 0 s cut) (uncut-reads (length s.engine.unread) s cut)
-    (λ piece. subst IsRead (sym engine) (step-read at u.step u.bytes e piece h)))
+abbrev Before : Bool → Engine → Unit {0} → Type 0
+Before on e x = on ≡ true → IsRead e
 
-ended-closed : (l : Link) (b : Bool) → is_some (end_of_link l) ≡ true → is_open_link l ≡ false
-ended-closed Wanted b h = cc
-ended-closed Asked b h = cc
-ended-closed Open b h = cc
-ended-closed (Ended r) b h = refl
+abbrev Between : Engine → Unit {0} → Type 0
+Between e x = IsRead e
 
-starved-read : (s : Option ℕ) (at : ℕ) (e : Engine) → (s ≡ None → IsRead e) → IsRead (starved_after s at e)
-starved-read None at e h = h refl
-starved-read (Some j) at e h =
-    closed-read (starve_at at j e) (ended-closed (starve (present_at at e.talk)).link true (starve-ends (present_at at e.talk)))
+starved-read : (at j : ℕ) (e : Engine) → IsRead (starve_at at j e)
+starved-read at j e =
+    closed-read (starve_at at j e) (ended-closed (starve (present_at at e.talk)).link (starve-ends (present_at at e.talk)))
 
-pub applied-read : (u : Turn) (e : Engine) → IsRead e → IsRead (applied u e)
-applied-read u e h =
-    starved-read u.notes.starved u.at (written u e).engine (λ whole. drain-read u.notes.answers (read u e) (uncut-read u e whole h))
+small : lifting.Small (Unit {0}) asking stepping offering While Before Between
+small =
+    record {
+      asked = λ e x h. asks-read e h;
+      step = λ at step bytes e x other running h b on. step-read at step bytes e other h;
+      piece = λ at n bytes e x running h. tt;
+      read = λ at e x can h. tt;
+      heard = λ b e x done h on. cannot-read e (done on);
+      offer = λ at w e x can fits h. answered-read at w e (h refl);
+      rest = λ e x can h. h refl;
+      less = λ b e x h on. h;
+      starve = λ b at j e x h. starved-read at j e;
+      cut = λ at step bytes e x running part h. starved-read at 0 e;
+    }
 
-pub turn-read : (u : Turn) (e : Engine) → IsRead e → IsRead (turn u e)
-turn-read u e h = applied-read u (asks e) (asks-read e h)
+pub applied-read : (u : Turn) (e : Engine) → IsApplied u e → IsRead e → IsRead (applied u e)
+applied-read u e may h = by (has_ended e.talk) refl
+  where
+    by : (b : Bool) → has_ended e.talk ≡ b → IsRead (applied u e)
+    by true over = closed-read (applied u e) (ended-closed (applied u e).talk.link (applied-ended u e over may.answers))
+    by false running = lifting.lift-applied (Unit {0}) asking stepping offering While Before Between small u e tt running may h
+
+pub turn-read : (u : Turn) (e : Engine) → IsTurn u e → IsRead e → IsRead (turn u e)
+turn-read u e may h = applied-read u (asks e) may.applied (asks-read e h)
 
 -- what is known of an application, and of a turn
 pub Applies-read : (at : ℕ) (step : Step) (bytes : List ℕ) (e e' : Engine) (log log' : Option Log) → Applies at step bytes e e' log log' → IsRead e → IsRead e'
 Applies-read at step bytes e e' log log' f h =
-    subst IsRead f.leaves (applied-read (turn_of at step bytes f.notes) e h)
+    subst IsRead f.leaves (applied-read (turn_of at step bytes f.notes) e f.may h)
 
-pub Turns-read : (e e' : Engine) (log log' : Option Log) → Turns e e' log log' → IsRead e → IsRead e'
-Turns-read e e' log log' f h = subst IsRead f.leaves (turn-read f.u e h)
+pub TakesTurn-read : (e e' : Engine) (log log' : Option Log) → TakesTurn e e' log log' → IsRead e → IsRead e'
+TakesTurn-read e e' log log' f h = subst IsRead f.leaves (turn-read f.u e f.may h)

@@ -1,5 +1,5 @@
 -- Reading frames one by one.
-use Rattle.std.proofs.Common.{◌≡◌, ◌≤◌, ℕ, zero, suc, ◌+◌, ◌==◌, ◌&&◌, ◌||◌, min, not, if◌then◌else◌, nat_lt, Bool, true, false, List, [], ◌∷◌, length, drop, Option, Some, None, refl, ap, ◌∙◌, arith, length-drop}
+use Rattle.std.proofs.Common.{◌≡◌, ◌≤◌, ℕ, zero, suc, ◌+◌, ◌==◌, ◌&&◌, min, not, if◌then◌else◌, nat_lt, Bool, true, false, List, [], ◌∷◌, length, drop, Option, Some, None, refl, ap, ◌∙◌, arith, length-drop}
 use Rattle.std.specs.Option.{option_map_or}
 use Rattle.std.specs.Int.{w16, w32}
 use Rattle.amqp_types.specs.Reading.{octet_at, octets_at, number_at, ◌⊗◌}
@@ -12,18 +12,20 @@ use Rattle.amqp_session.specs.declared.state.Input.{Input}
 use Rattle.amqp_session.specs.declared.state.Input.TheVariants.{Acting, Closed, Dropped}
 use Rattle.amqp_session.specs.declared.misread.Misread.{Misread}
 use Rattle.amqp_session.specs.declared.misread.Misread.TheVariants as why
-use Rattle.amqp_session.specs.Talk.{Talk, is_open, has_ended, drops_input}
-use Rattle.amqp_session.specs.Changes.{present_at}
-use Rattle.amqp_session.specs.Links.{misread, misread_by}
+use Rattle.amqp_session.specs.Talk.{Talk, is_open, is_acting, acts, is_dropped_input}
+use Rattle.amqp_session.specs.Changes.{present_at, lose}
+use Rattle.amqp_session.specs.Links.{misread, dropped}
+use Rattle.amqp_session.specs.Violations.{misread_error}
 use Rattle.amqp_session.specs.Frames.{on_frame}
 use Rattle.amqp_session.specs.Negotiation.{frame_limit}
 use Rattle.amqp_engine.specs.Plan.{at_most_64}
 use Rattle.amqp_engine.specs.Engine.{Engine, front_of, can_read, is_more, read_one, read_row, read_badly, settle, rule_at}
-use Rattle.amqp_engine.specs.Turn.{Progress, reads, goes, read_part, is_before}
+use Rattle.amqp_engine.specs.Turn.{Progress, reads, reading, goes, read_part, is_before}
 use Rattle.amqp_engine.specs.Making.{making, Allows}
-use Rattle.amqp_engine.proofs.Cases.{if-true, if-false, or-true, and-true, and-false, and-left, and-right, is_before-Allows}
-use Rattle.amqp_engine.proofs.Settling.{settle-unread, settle-starved}
-use Rattle.amqp_engine.proofs.Keeping.{present-keeps}
+use Rattle.amqp_session.proofs.Cases.{if_by, if-true, if-false, and-true, and-false}
+use Rattle.amqp_engine.proofs.Cases.{and-left, and-right, is_before-Allows}
+use Rattle.amqp_engine.proofs.Settling.{keeps_unread, settle-unread, settle-starved}
+use Rattle.amqp_session.proofs.Keeping.{present-keeps}
 
 -- where nothing can be read, reading is over
 pub reads-rest : (n : ℕ) (p : Progress) → can_read p.engine ≡ false → reads n p ≡ p
@@ -136,40 +138,44 @@ front-some [] limit h =
     cc
 front-some (o ∷ rest) limit h = omega arith
 
-misread-over-by : (i : Input) (why : Misread) (t : Talk) → (has_ended (misread_by i why t) || drops_input (misread_by i why t)) ≡ true
-misread-over-by Acting why t = refl
-misread-over-by Closed why t = or-true (has_ended (misread_by Closed why t))
-misread-over-by Dropped why t = or-true (has_ended (misread_by Dropped why t))
+-- after the server's close the input is dropped
+dropped-over : (b : Bool) (i : Input) → b ≡ true → (b && is_acting i) ≡ false → (b && not (is_dropped_input (dropped i))) ≡ false
+dropped-over true Acting h idle = cc
+dropped-over true (Closed crossed) h idle = refl
+dropped-over true (Dropped crossed) h idle = refl
+dropped-over false i h idle = cc
 
 -- after what is no frame nothing more is read
 misread-over : (at : ℕ) (why : Misread) (t : Talk) → is_open t ≡ true
-    → (has_ended (misread why (present_at at t)) || drops_input (misread why (present_at at t))) ≡ true
+    → keeps_unread (misread why (present_at at t)) ≡ false
 misread-over at why t opened =
     let x = present_at at t in
-    let same : misread why x ≡ misread_by x.input why x =
-    if-true (is_open x) (misread_by x.input why x) x (present-keeps is_open at t (λ n. refl) ∙ opened) in
-    ap (λ (y : Talk). has_ended y || drops_input y) same ∙ misread-over-by x.input why x
+    let still : is_open x ≡ true = present-keeps is_open at t (λ n. refl) ∙ opened in
+    let gone : Talk = record x { input = dropped x.input } in
+    let P : Talk → Type 0 = λ y. keeps_unread y ≡ false in
+    if_by P (acts x) (lose (misread_error why) x) (if is_open x then gone else x) (λ acting. refl)
+    (λ idle. if_by P (is_open x) gone x (λ on. dropped-over (is_open x) x.input on idle) (λ closed. absurd cc))
 
 misread-worth : (at : ℕ) (why : Misread) (e : Engine) → is_open e.talk ≡ true → 1 ≤ length e.unread
     → worth (read_badly at why e) + 2 ≤ worth e
 misread-worth at why e opened some =
     let x : Engine = rule_at at (misread why) e in
     let gone : (read_badly at why e).unread ≡ [] =
-    settle-unread x ∙ if-true (has_ended x.talk || drops_input x.talk) [] x.unread (misread-over at why e.talk opened) in
+    settle-unread x ∙ if-false (keeps_unread x.talk) x.unread [] (misread-over at why e.talk opened) in
     omega (arith, ap length gone)
 
 whole-worth : (b : Bool) (bytes : List ℕ) (n : ℕ) → 8 ≤ n → 1 ≤ length bytes
-    → length (if b then [] else drop n bytes) + min 1 (length (if b then [] else drop n bytes)) + 2 ≤ length bytes + min 1 (length bytes)
-whole-worth true bytes n size some = omega arith
-whole-worth false bytes n size some = omega (arith, length-drop n bytes)
+    → length (if b then drop n bytes else []) + min 1 (length (if b then drop n bytes else [])) + 2 ≤ length bytes + min 1 (length bytes)
+whole-worth true bytes n size some = omega (arith, length-drop n bytes)
+whole-worth false bytes n size some = omega arith
 
 row-worth : (at : ℕ) (r : Read) (e : Engine) → front_of e ≡ r → not (is_more r) ≡ true → is_open e.talk ≡ true → 1 ≤ length e.unread
     → worth (read_row at r e) + 2 ≤ worth e
 row-worth at (Whole f n) e is some opened bytes =
     let x : Engine = record e { talk = on_frame f e.place (present_at at e.talk); unread = drop n e.unread; place = at_most_64 (e.place + n) } in
-    let over : Bool = has_ended x.talk || drops_input x.talk in
-    let after : (settle x).unread ≡ (if over then [] else drop n e.unread) = settle-unread x in
-    rw after (whole-worth over e.unread n (front-size e.unread (frame_limit e.talk.configuration) f n is) bytes)
+    let kept : Bool = keeps_unread x.talk in
+    let after : (settle x).unread ≡ (if kept then drop n e.unread else []) = settle-unread x in
+    rw after (whole-worth kept e.unread n (front-size e.unread (frame_limit e.talk) f n is) bytes)
 row-worth at More e is some opened bytes = cc
 row-worth at (TooLarge n) e is some opened bytes = misread-worth at (why.TooLarge n) e opened bytes
 row-worth at (BadHeartbeat n) e is some opened bytes = misread-worth at (why.BadHeartbeat n) e opened bytes
@@ -180,16 +186,43 @@ pub read_one-worth : (at : ℕ) (e : Engine) → can_read e ≡ true → worth (
 read_one-worth at e can =
     let some = and-right (is_open e.talk) (not (is_more (front_of e))) can in
     row-worth at (front_of e) e refl some (and-left (is_open e.talk) (not (is_more (front_of e))) can)
-    (front-some e.unread (frame_limit e.talk.configuration) some)
+    (front-some e.unread (frame_limit e.talk) some)
 
 -- reading starves nobody
 row-starved : (at : ℕ) (r : Read) (e : Engine) → (read_row at r e).starved ≡ e.starved
-row-starved at (Whole f n) e = settle-starved _
+row-starved at (Whole f n) e =
+    settle-starved (record e { talk = on_frame f e.place (present_at at e.talk); unread = drop n e.unread; place = at_most_64 (e.place + n) })
 row-starved at More e = refl
-row-starved at (TooLarge n) e = settle-starved _
-row-starved at (BadHeartbeat n) e = settle-starved _
-row-starved at Bad e = settle-starved _
-row-starved at NoMemory e = settle-starved _
+row-starved at (TooLarge n) e = settle-starved (rule_at at (misread (why.TooLarge n)) e)
+row-starved at (BadHeartbeat n) e = settle-starved (rule_at at (misread (why.BadHeartbeat n)) e)
+row-starved at Bad e = settle-starved (rule_at at (misread (why.Bad e.place)) e)
+row-starved at NoMemory e = settle-starved (rule_at at (misread (why.Bad e.place)) e)
 
 pub read_one-starved : (at : ℕ) (e : Engine) → (read_one at e).starved ≡ e.starved
 read_one-starved at e = row-starved at (front_of e) e
+
+-- ---- reading goes on to the end
+
+no-bytes : (xs : List ℕ) (limit : ℕ) → length xs ≤ 0 → not (is_more (front xs limit)) ≡ false
+no-bytes [] limit h = ap (λ (r : Read). not (is_more r)) (front-none limit)
+no-bytes (x ∷ xs) limit h = absurd (omega arith)
+
+if-done : (b : Bool) (n : ℕ) (p : Progress) → (goes p && can_read p.engine) ≡ b → length p.engine.unread ≤ suc n
+    → ((x : Progress) → length x.engine.unread ≤ n → (goes (reads n x) && can_read (reads n x).engine) ≡ false)
+    → (goes (if b then reads n (read_part p) else p) && can_read (if b then reads n (read_part p) else p).engine) ≡ false
+if-done true n p h le ih =
+    let can : can_read p.engine ≡ true = and-right (goes p) (can_read p.engine) h in
+    ih (read_part p) (omega (arith, read_one-worth p.at p.engine can))
+if-done false n p h le ih = h
+
+-- after the parts that read, the turn was cut, or nothing is left to be read
+pub reads-done : (n : ℕ) (p : Progress) → length p.engine.unread ≤ n → (goes (reads n p) && can_read (reads n p).engine) ≡ false
+reads-done zero p le =
+    and-false (goes p) (can_read p.engine)
+    (and-false (is_open p.engine.talk) (not (is_more (front_of p.engine))) (no-bytes p.engine.unread (frame_limit p.engine.talk) le))
+reads-done (suc n) p le = if-done (goes p && can_read p.engine) n p refl le (λ x h. reads-done n x h)
+
+-- or where the turn is cut
+pub reading-cut : (b : Bool) (p : Progress) → goes p ≡ false → reading b p ≡ p
+reading-cut true p h = reads-cut _ p h
+reading-cut false p h = refl

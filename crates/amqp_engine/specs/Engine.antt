@@ -1,21 +1,20 @@
 -- The engine: the session, with the bytes of its link that are not yet read, and those that are not yet taken.
-use Rattle.std.specs.Prelude.{ℕ, zero, suc, ◌+◌, ◌-◌, not, ◌&&◌, ◌||◌, if◌then◌else◌, nat_lt, Bool, true, false, List, [], ◌++◌, length, drop, Option, Some, None}
+use Rattle.std.specs.Prelude.{ℕ, zero, suc, ◌+◌, ◌-◌, not, ◌&&◌, if◌then◌else◌, nat_lt, Bool, true, false, List, [], ◌++◌, length, drop, Option, Some, None}
 use Rattle.amqp_frame.specs.declared.frame.Read.{Read}
 use Rattle.amqp_frame.specs.declared.frame.Read.TheVariants as reading
 use Rattle.amqp_frame.specs.FrameReading.{front}
 use Rattle.amqp_frame.specs.Frames.{encoding}
-use Rattle.amqp_session.specs.declared.session.TheConstants.{CAPACITY}
 use Rattle.amqp_session.specs.declared.io_fault.IoFault.TheVariants.{Aborted, Reset, BrokenPipe}
 use Rattle.amqp_session.specs.declared.lanes.Item.{Item}
 use Rattle.amqp_session.specs.declared.misread.Misread.{Misread}
 use Rattle.amqp_session.specs.declared.misread.Misread.TheVariants.{TooLarge, BadHeartbeat, Bad}
-use Rattle.amqp_session.specs.Talk.{Talk, start, is_open, is_asked, has_ended, drops_input}
+use Rattle.amqp_session.specs.Talk.{Talk, is_open, is_asked, drops_input}
 use Rattle.amqp_session.specs.Negotiation.{frame_limit}
 use Rattle.amqp_session.specs.Changes.{present_at, starve}
 use Rattle.amqp_session.specs.Links.{linked, link_failed, piece, misread, lost}
 use Rattle.amqp_session.specs.Frames.{on_frame}
 use Rattle.amqp_session.specs.Commands.{command}
-use Rattle.amqp_session.specs.Writing.{next_within, commit, taken}
+use Rattle.amqp_session.specs.Writing.{frames_waiting, next_within, commit, taken}
 use Rattle.amqp_engine.specs.declared.port.Step.{Step}
 use Rattle.amqp_engine.specs.declared.port.Step.TheVariants.{Linked, LinkFailed, Piece, End, Fault, Room, Tick, Command}
 use Rattle.amqp_engine.specs.declared.port.Wrote.{Wrote}
@@ -34,9 +33,9 @@ pub record Engine : Type 0 where
   -- how many parts of a turn were done when memory was refused, where it was
   pub starved : Option ℕ
 
--- the engine at the beginning
-abbrev pub begin : Engine
-begin = record { talk = start; unread = []; place = 0; unsent = []; starved = None }
+-- a new engine of a session
+abbrev pub begin : Talk → Engine
+begin t = record { talk = t; unread = []; place = 0; unsent = []; starved = None }
 
 -- a change of the session alone
 abbrev pub with_talk : (Talk → Talk) → Engine → Engine
@@ -46,9 +45,12 @@ with_talk f e = record e { talk = f e.talk }
 abbrev pub rule_at : ℕ → (Talk → Talk) → Engine → Engine
 rule_at at f e = with_talk (λ t. f (present_at at t)) e
 
--- where the session has ended, and where no more of the input is read, the unread bytes go
+-- where the link is not open, nothing is left of what was received on it or is unsent; and where its input is dropped, nothing is unread
 abbrev pub settle : Engine → Engine
-settle e = if has_ended e.talk || drops_input e.talk then record e { unread = []; place = 0 } else e
+settle e =
+    if is_open e.talk
+    then (if drops_input e.talk then record e { unread = []; place = 0 } else e)
+    else record e { unread = []; place = 0; unsent = [] }
 
 -- ---- the step
 
@@ -81,7 +83,7 @@ step_engine at (Command c) bytes e = rule_at at (command c) e
 
 -- what stands at the front of the unread bytes
 abbrev pub front_of : Engine → Read
-front_of e = front e.unread (frame_limit e.talk.configuration)
+front_of e = front e.unread (frame_limit e.talk)
 
 abbrev pub is_more : Read → Bool
 is_more reading.More = true
@@ -95,7 +97,7 @@ can_read e = is_open e.talk && not (is_more (front_of e))
 abbrev pub read_badly : ℕ → Misread → Engine → Engine
 read_badly at why e = settle (rule_at at (misread why) e)
 
--- what stood at the front is read
+-- what stood at the front is read; that memory was refused is never what stands there
 abbrev pub read_row : ℕ → Read → Engine → Engine
 read_row at (reading.Whole f n) e =
     settle (record e {
@@ -115,12 +117,12 @@ read_one at e = read_row at (front_of e) e
 
 -- the next frame, where it and the unsent bytes together fit the capacity
 abbrev pub fitting_next : Engine → Option Item
-fitting_next e = next_within (CAPACITY - length e.unsent) e.talk
+fitting_next e = next_within (e.talk.capacity - length e.unsent) e.talk
 
 abbrev pub committed_as : Option Item → Engine → Engine
 committed_as None e = e
 committed_as (Some item) e =
-    record e { talk = commit (CAPACITY - length e.unsent) e.talk; unsent = e.unsent ++ encoding item.frame }
+    record e { talk = commit (e.talk.capacity - length e.unsent) e.talk; unsent = e.unsent ++ encoding item.frame }
 
 -- the next frame is committed, where it fits
 abbrev pub commit_one : Engine → Engine
@@ -132,7 +134,7 @@ commits (suc n) e = commits n (commit_one e)
 
 -- frames are committed while there is one that fits
 abbrev pub commit_all : Engine → Engine
-commit_all e = commits (length e.talk.control) e
+commit_all e = commits (frames_waiting e.talk) e
 
 -- something is to be written
 abbrev pub can_write : Engine → Bool
@@ -158,4 +160,4 @@ wrote at NoMemory e = took at 0 e
 
 -- memory was refused when so many parts of the turn were done, and the session ends
 abbrev pub starve_at : ℕ → ℕ → Engine → Engine
-starve_at at j e = record e { talk = starve (present_at at e.talk); unread = []; place = 0; starved = Some j }
+starve_at at j e = record e { talk = starve (present_at at e.talk); unread = []; place = 0; unsent = []; starved = Some j }

@@ -1,13 +1,19 @@
 -- A turn in the making, as the code counts its parts.
-use Rattle.std.specs.Prelude.{◌≡◌, ◌≤◌, ◌⊎◌, ℕ, if◌then◌else◌, Bool, List, Option, Some, None}
-use Rattle.amqp_session.specs.declared.io_fault.IoFault.{IoFault}
-use Rattle.amqp_session.specs.declared.io_fault.IoFault.TheVariants.{BrokenPipe}
-use Rattle.amqp_session.specs.Talk.{Talk}
+use Rattle.std.specs.Prelude.{◌≡◌, ◌≤◌, ◌<◌, ◌+◌, ◌*◌, ◌^◌, ℕ, if◌then◌else◌, Bool, true, false, List, Option, Some, None}
+use Rattle.amqp_frame.specs.declared.frame.Read.{Read}
+use Rattle.amqp_frame.specs.declared.frame.Read.TheVariants.{Whole}
+use Rattle.amqp_engine.specs.declared.port.Step.{Step}
+use Rattle.amqp_engine.specs.declared.port.Step.TheVariants.{Command}
+use Rattle.amqp_engine.specs.declared.port.Happening.{Happening}
 use Rattle.amqp_engine.specs.declared.port.Wrote.{Wrote}
+use Rattle.amqp_engine.specs.declared.given.Given.{Given}
+use Rattle.amqp_engine.specs.Plan.{step_of, bytes_of}
 use Rattle.amqp_engine.specs.Counts.{Rose}
 use Rattle.amqp_engine.specs.Engine.{Engine}
 use Rattle.amqp_engine.specs.Turn.{Progress, AreAnswers, drain}
-use Rattle.amqp_engine.specs.Causes.{fault_of}
+use Rattle.amqp_engine.specs.Log.{Log}
+use Rattle.amqp_engine.specs.Tell.{Applies}
+use Rattle.amqp_engine.specs.Causes.{has_failed}
 
 abbrev pub making : ℕ → Option ℕ → Engine → ℕ → Progress
 making at cut e n = record { at = at; cut = cut; engine = e; done = n }
@@ -15,6 +21,18 @@ making at cut e n = record { at = at; cut = cut; engine = e; done = n }
 -- how many parts a step is
 abbrev pub parts_of : Bool → ℕ
 parts_of b = if b then 1 else 0
+
+abbrev pub is_command : Step → Bool
+is_command (Command c) = true
+is_command _ = false
+
+abbrev pub is_whole : Read → Bool
+is_whole (Whole f n) = true
+is_whole _ = false
+
+-- few enough parts to be counted with one more offer for each frame that waits
+abbrev pub FewParts : ℕ → Type 0
+FewParts n = 2 * n < 2 ^ 63 + 4
 
 -- a cut that comes after so many parts, or later, or never
 abbrev pub Allows : Option ℕ → ℕ → Type 0
@@ -26,10 +44,11 @@ pub record Writes (ws : List Wrote) (before after : Progress) : Type 0 where
   pub answers : AreAnswers ws before
   pub leaves : drain ws before ≡ after
 
--- no fault is brought
-pub record BringsNone (t t' : Talk) : Type 0 where
-  pub before : (fault : IoFault) → fault_of t' ≡ Some fault → fault_of t ≡ Some fault
+-- a turn is applied, and where one of its writes failed, the port's count of faults rose
+pub record AppliesCounted (at : ℕ) (step : Step) (bytes : List ℕ) (e e' : Engine) (log log' : Option Log) (count count' : ℕ) : Type 0 where
+  pub applies : Applies at step bytes e e' log log'
+  pub counted : has_failed applies.notes.answers ≡ true → Rose count count'
 
--- none is brought but by a write that failed, which the port counted
-pub record BreaksPipe (t t' : Talk) (count count' : ℕ) : Type 0 where
-  pub cause : (fault : IoFault) → fault_of t' ≡ Some fault → (fault_of t ≡ Some fault) ⊎ ((fault ≡ BrokenPipe) × Rose count count')
+-- a given step as a port in memory keeps it, until it is told how many came before
+abbrev pub happening_of : Given → Happening
+happening_of g = record { before = 0; at = g.at; step = step_of g.what; bytes = bytes_of g.what }
