@@ -110,13 +110,14 @@ closed-over control item g fs s is r h =
     let q = committed-said control g fs s r in
     let goes_on : q.now.stage ≢ CloseOkSaid = λ over. h (over-stays q.now s (frames_in control) over q.rest) in
     let last : say_all (Some q.now) (item.frame ∷ []) ≡ Some (record q.now { stage = CloseOkSaid }) =
-    ap (λ f. say_all (Some q.now) (f ∷ [])) is ∙ ap (λ o. say_all o []) (close-said q.now.stage q.now goes_on) in
-    (record q.now { stage = CloseOkSaid },
-    record {
-      said = fs ++ item.frame ∷ [];
-      frames = ap (λ f. f ∷ fs ++ item.frame ∷ []) q.header;
-      may = say-append (Some greeted) fs (item.frame ∷ []) ∙ ap (λ o. say_all o (item.frame ∷ [])) q.may ∙ last;
-    })
+    ap (λ f. say_all (Some q.now) (f ∷ [])) is ∙ ap (λ o. say_all o []) (close-said q.now.stage q.now goes_on) in (
+      record q.now { stage = CloseOkSaid },
+      record {
+        said = fs ++ item.frame ∷ [];
+        frames = ap (λ f. f ∷ fs ++ item.frame ∷ []) q.header;
+        may = say-append (Some greeted) fs (item.frame ∷ []) ∙ ap (λ o. say_all o (item.frame ∷ [])) q.may ∙ last;
+      },
+    )
 
 -- what was committed is legal
 pub committed-legal : (t : Talk) (fs : List Frame) → IsTied t fs → is_legal fs ≡ true
@@ -221,13 +222,14 @@ now-misread why t fs h =
     let x : Talk = record t { input = dropped t.input } in
     if_by Q (acts t) (lose (misread_error why) t) (if is_open t then x else t) (λ acting. now-lose (misread_error why) t fs)
     (λ idle. if_by Q (is_open t) x t
-      (λ o. (let said = h.0 o in
-        now-open x fs o
-        (record {
-          later = said.later; leads = said.leads;
-          ties = ties-dropped t.input t.state t.phase t.channels t.awaited said.later (not-acting (is_open t) (is_acting t.input) o idle) said.ties;
-        })))
-      (λ closed. h))
+    (λ o. (let said = h.0 o in
+    now-open x fs o
+    (record {
+      later = said.later;
+      leads = said.leads;
+      ties = ties-dropped t.input t.state t.phase t.channels t.awaited said.later (not-acting (is_open t) (is_acting t.input) o idle) said.ties;
+    })))
+    (λ closed. h))
 
 -- ---- frames of the connection
 
@@ -453,13 +455,16 @@ pub now-frame : (f : Frame) (place : ℕ) (t : Talk) (g : Frame) (fs : List Fram
 now-frame f place t g fs now =
     if_by (λ (x : Talk). Now x (g ∷ fs)) (acts t) (frame_rule f place t) t
     (λ acting.
-      (let k = both (is_open t) (is_acting t.input) acting in
-      let is = acting-input t.input k.1 in
-      now-rule f place t g fs
-      (record {
-        opened = k.0; acting = is; state = refl; now = now;
-        tied = speaks-as t.state t.state t.phase t.phase t.input input.Acting t.control t.channels t.awaited (g ∷ fs) refl refl is (now.0 k.0);
-      })))
+    (let k = both (is_open t) (is_acting t.input) acting in
+    let is = acting-input t.input k.1 in
+    now-rule f place t g fs
+    (record {
+      opened = k.0;
+      acting = is;
+      state = refl;
+      now = now;
+      tied = speaks-as t.state t.state t.phase t.phase t.input input.Acting t.control t.channels t.awaited (g ∷ fs) refl refl is (now.0 k.0);
+    })))
     (λ idle. now)
 
 -- ---- commands
@@ -473,14 +478,15 @@ talking (input.Dropped crossed) p cs ws v h = absurd h
 -- what is told while the connection is open, and leaves the link as it is
 now-told : (t t' : Talk) (fs : List Frame) → t.state ≡ Connected → t'.link ≡ t.link → Now t fs
     → (is_open t' ≡ true → t.input ≡ input.Acting → (v : Speech) → LeadsTo t.control fs v → TiesChannels t.channels t.awaited v → Now t' fs) → Now t' fs
-now-told t t' fs hs link h next =
-    ((λ o.
-        let said : IsTied t fs = h.0 (ap is_open_link (sym link) ∙ o) in
-        let s : Speaks Connected t.phase t.input t.control t.channels t.awaited fs =
-        speaks-as t.state Connected t.phase t.phase t.input t.input t.control t.channels t.awaited fs hs refl refl said in
-        let k = talking t.input t.phase t.channels t.awaited s.later s.ties in
-        (next o k.0 s.later s.leads k.1).0 o),
-    λ w. absurd (no-wait (sym (h.1 (ap is_wanted_link (sym link) ∙ w)).0 ∙ hs)))
+now-told t t' fs hs link h next = (
+  (λ o.
+      let said : IsTied t fs = h.0 (ap is_open_link (sym link) ∙ o) in
+      let s : Speaks Connected t.phase t.input t.control t.channels t.awaited fs =
+      speaks-as t.state Connected t.phase t.phase t.input t.input t.control t.channels t.awaited fs hs refl refl said in
+      let k = talking t.input t.phase t.channels t.awaited s.later s.ties in
+      (next o k.0 s.later s.leads k.1).0 o),
+  λ w. absurd (no-wait (sym (h.1 (ap is_wanted_link (sym link) ∙ w)).0 ∙ hs)),
+)
   where
     no-wait : Initial ≡ Connected → ⊥
     no-wait k = cc
@@ -493,8 +499,8 @@ now-drawn (Some n) t fs hs is h =
     let item : Item = plain n (channel_open n) in
     now-told t (open_as n t) fs hs refl h
     (λ o hi v r ties.
-        let k = on-open n t.channels t.awaited v (next_promise t) free.1 free.0 ties in
-        now-ties t (open_as n t) fs (now_on n InUse v) o hi refl hs (queued t.control item fs v (now_on n InUse v) r k.may) k.ties)
+    let k = on-open n t.channels t.awaited v (next_promise t) free.1 free.0 ties in
+    now-ties t (open_as n t) fs (now_on n InUse v) o hi refl hs (queued t.control item fs v (now_on n InUse v) r k.may) k.ties)
 
 named-listed : (r : ChanRef) (o : Option Channel) (c : Channel) → named_in r.opened o ≡ Some c → o ≡ Some c
 named-listed r None c h = cc
@@ -530,8 +536,8 @@ now-close-target (Ok c) r code text t fs hs is h =
     let item : Item = plain n (our_channel_close n code text) in
     now-told t x fs hs refl h
     (λ o hi v l ties.
-        let k = on-close n t.channels t.awaited v c code text (Some (next_promise t)) at.listed at.open_state ties in
-        now-ties t x fs (now_on n Left v) o hi refl hs (queued t.control item fs v (now_on n Left v) l k.may) k.ties)
+    let k = on-close n t.channels t.awaited v c code text (Some (next_promise t)) at.listed at.open_state ties in
+    now-ties t x fs (now_on n Left v) o hi refl hs (queued t.control item fs v (now_on n Left v) l k.may) k.ties)
 
 -- what is told may be sent: its class is neither connection (10) nor channel (20), and two octets hold it
 abbrev pub IsSendable : Cmd → Type 0
@@ -558,8 +564,8 @@ now-send r m c t fs told hs at h =
     if_case (λ (y : Talk). Now y fs) (nat_lt t.capacity (length (encoding f))) (refuse (SerialisationError (length (encoding f))) t) x h
     (now-told t x fs hs refl h
     (λ o hi v l ties.
-        let k = on-send n t.channels t.awaited v c (spell_raw_method m) (passed-through m told.0 told.1 told.2) at.listed at.open_state ties in
-        now-ties t x fs _ o hi refl hs (queued t.control item fs v _ l k.may) k.ties))
+    let k = on-send n t.channels t.awaited v c (spell_raw_method m) (passed-through m told.0 told.1 told.2) at.listed at.open_state ties in
+    now-ties t x fs _ o hi refl hs (queued t.control item fs v _ l k.may) k.ties))
 
 now-send-target : (o : Result Channel ErrorKind) (r : ChanRef) (m : OtherMethod) (t : Talk) (fs : List Frame) → IsSendable (Send r m) → t.state ≡ Connected → target r word.Send t ≡ o
     → Now t fs → Now (send_target o r.id m t) fs
@@ -572,10 +578,10 @@ now-close-connection code text t fs hs h =
     let item : Item = plain 0 (our_close code text) in
     now-told t x fs hs refl h
     (λ o hi v r ties.
-        let v' : Speech = record v { stage = CloseSaid; content = NoContent } in
-        now-open x fs o
-        (speaks-as Closing Closing t.phase t.phase input.Acting t.input x.control x.channels x.awaited fs refl refl (sym hi)
-        (record { later = v'; leads = queued t.control item fs v v' r (say-our-close code text 0 0 v ties.speaking ties.complete); ties = refl })))
+    let v' : Speech = record v { stage = CloseSaid; content = NoContent } in
+    now-open x fs o
+    (speaks-as Closing Closing t.phase t.phase input.Acting t.input x.control x.channels x.awaited fs refl refl (sym hi)
+    (record { later = v'; leads = queued t.control item fs v v' r (say-our-close code text 0 0 v ties.speaking ties.complete); ties = refl })))
 
 now-command-rule : (s : ConnectionState) (c : Cmd) (t : Talk) (fs : List Frame) → IsSendable c → t.state ≡ s → Now t fs → Now (command_rule s c t) fs
 now-command-rule Connected OpenChannel t fs told hs h = now-drawn _ t fs hs refl h
@@ -597,7 +603,14 @@ start-silent = (refl, record { no_channels = refl; none_awaited = refl })
 pub tied-linked : (t : Talk) → is_asked t ≡ true → IsSilent t → IsTied (linked t) []
 tied-linked t asked_t h =
     let x : Talk = record t {
-      state = Connecting; phase = AwaitStart; link = Open; input = input.Acting; control = plain 0 protocol_header ∷ []; committed = []; last_read = t.present; last_write = t.present
+      state = Connecting;
+      phase = AwaitStart;
+      link = Open;
+      input = input.Acting;
+      control = plain 0 protocol_header ∷ [];
+      committed = [];
+      last_read = t.present;
+      last_write = t.present;
     } in
     let is : linked t ≡ x = if-true (is_asked t) x t asked_t in
     let Q : Talk → Type 0 = λ y. IsTied y [] in

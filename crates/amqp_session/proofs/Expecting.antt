@@ -10,7 +10,6 @@ use Rattle.amqp_session.specs.Replies.{is_same_reply, is_of, awaited_on, expecte
 use Rattle.amqp_session.proofs.Numbered.{Ascend, put-same, put-other, put-ascend, without-same, without-other, without-ascend}
 use Rattle.amqp_session.proofs.Ties.{replies_on}
 
-
 -- ---- one more is awaited
 
 pub expected-same : (n : ℕ) (a : Awaited) (ws : List (ℕ × List Awaited)) → replies_on n (expected n a ws) ≡ replies_on n ws ++ a.reply ∷ []

@@ -57,7 +57,10 @@ on-change : (n : ℕ) (cs cs' : Listed) (ws ws' : Replies) (v v' : Speech) → n
 on-change n cs cs' ws ws' v v' some h speaking complete here others =
     let zero_other : 0 ≢ n = λ is. some (sym is) in
     record {
-      speaking = speaking; complete = complete; sorted = others.sorted; awaited_sorted = others.awaited_sorted;
+      speaking = speaking;
+      complete = complete;
+      sorted = others.sorted;
+      awaited_sorted = others.awaited_sorted;
       none = others.listed 0 zero_other ∙ h.none;
       each = λ m.
           (let Q : ℕ → Type 0 = λ k. TiesOn (at k cs') (replies_on k ws') (v'.usage k) in
@@ -110,7 +113,8 @@ on-open n cs ws v number some absent h =
           (ties-as (Some c) (at n (put n c cs)) (ChannelOpened ∷ []) (replies_on n (expected n a ws)) InUse ((now_on n InUse v).usage n)
           (put-same n c cs) replies (used-same n InUse v) (refl, refl))
           (record {
-            sorted = put-ascend n c cs h.sorted; awaited_sorted = expected-ascend n a ws h.awaited_sorted;
+            sorted = put-ascend n c cs h.sorted;
+            awaited_sorted = expected-ascend n a ws h.awaited_sorted;
             listed = λ m ne. put-other m n c cs ne;
             awaited = λ m ne. expected-other m n a ws ne;
             used = λ m ne. used-other n InUse v m ne;
@@ -155,8 +159,11 @@ on-close n cs ws v c code text promise listed is h =
           (ties-as (Some c') (at n (put n c' cs)) (ChannelClosed ∷ []) (replies_on n (expected n a ws)) Left ((now_on n Left v).usage n)
           (put-same n c' cs) replies (used-same n Left v) (refl, refl))
           (record {
-            sorted = put-ascend n c' cs h.sorted; awaited_sorted = expected-ascend n a ws h.awaited_sorted;
-            listed = λ m ne. put-other m n c' cs ne; awaited = λ m ne. expected-other m n a ws ne; used = λ m ne. used-other n Left v m ne;
+            sorted = put-ascend n c' cs h.sorted;
+            awaited_sorted = expected-ascend n a ws h.awaited_sorted;
+            listed = λ m ne. put-other m n c' cs ne;
+            awaited = λ m ne. expected-other m n a ws ne;
+            used = λ m ne. used-other n Left v m ne;
           });
     }
 
@@ -186,8 +193,11 @@ on-same n cs ws v c c' listed is h =
     on-change n cs (put n c' cs) ws ws v v (listed-some n cs ws v c listed h) h h.speaking h.complete
     (ties-as (Some c') (at n (put n c' cs)) (replies_on n ws) (replies_on n ws) (v.usage n) (v.usage n) (put-same n c' cs) refl refl ties)
     (record {
-      sorted = put-ascend n c' cs h.sorted; awaited_sorted = h.awaited_sorted;
-      listed = λ m ne. put-other m n c' cs ne; awaited = λ m ne. refl; used = λ m ne. refl;
+      sorted = put-ascend n c' cs h.sorted;
+      awaited_sorted = h.awaited_sorted;
+      listed = λ m ne. put-other m n c' cs ne;
+      awaited = λ m ne. refl;
+      used = λ m ne. refl;
     })
 
 -- what an awaited reply tells of a channel's state
@@ -218,8 +228,11 @@ on-opened n cs ws v c a listed first h =
     on-change n cs (put n c' cs) ws ws' v v (listed-some n cs ws v c listed h) h h.speaking h.complete
     (ties-as (Some c') (at n (put n c' cs)) [] (replies_on n ws') InUse (v.usage n) (put-same n c' cs) k.0 k.1 (refl, refl))
     (record {
-      sorted = put-ascend n c' cs h.sorted; awaited_sorted = first-ascend n ChannelOpened ws h.awaited_sorted;
-      listed = λ m ne. put-other m n c' cs ne; awaited = λ m ne. first-other m n ChannelOpened ws ne; used = λ m ne. refl;
+      sorted = put-ascend n c' cs h.sorted;
+      awaited_sorted = first-ascend n ChannelOpened ws h.awaited_sorted;
+      listed = λ m ne. put-other m n c' cs ne;
+      awaited = λ m ne. first-other m n ChannelOpened ws ne;
+      used = λ m ne. refl;
     })
 
 pub on-closed : (n : ℕ) (cs : Listed) (ws : Replies) (v : Speech) (c : Channel) (a : Awaited) → at n cs ≡ Some c → first_awaited n ChannelClosed ws ≡ Some a
@@ -230,8 +243,11 @@ on-closed n cs ws v c a listed first h =
     on-change n cs (without n cs) ws ws' v v (listed-some n cs ws v c listed h) h h.speaking h.complete
     (ties-as None (at n (without n cs)) [] (replies_on n ws') Left (v.usage n) (without-same n cs h.sorted) k.0 k.1 (refl, left))
     (record {
-      sorted = without-ascend n cs h.sorted; awaited_sorted = first-ascend n ChannelClosed ws h.awaited_sorted;
-      listed = λ m ne. without-other m n cs ne; awaited = λ m ne. first-other m n ChannelClosed ws ne; used = λ m ne. refl;
+      sorted = without-ascend n cs h.sorted;
+      awaited_sorted = first-ascend n ChannelClosed ws h.awaited_sorted;
+      listed = λ m ne. without-other m n cs ne;
+      awaited = λ m ne. first-other m n ChannelClosed ws ne;
+      used = λ m ne. refl;
     })
   where
     left : Left ≡ InUse → ⊥

@@ -89,7 +89,7 @@ Ties _ state phase channels awaited s = IsClosing state
 
 -- the same by the parts of a session that count: a rule that changes none of them keeps it as it is
 pub record Speaks (state : ConnectionState) (phase : Phase) (input : Input) (control : List Item) (channels : List (ℕ × Channel))
-  (awaited : List (ℕ × List Awaited)) (committed : List Frame) : Type 0 where
+    (awaited : List (ℕ × List Awaited)) (committed : List Frame) : Type 0 where
   pub later : Speech
   pub leads : LeadsTo control committed later
   pub ties : Ties input state phase channels awaited later
