@@ -57,6 +57,7 @@ use Rattle.amqp_session.specs.Listed.{without}
 use Rattle.amqp_session.specs.Numbering.{first_number, drawn}
 use Rattle.amqp_session.specs.Replies.{first_awaited, without_first}
 use Rattle.amqp_session.specs.Octets.{class_in}
+use Rattle.amqp_session.specs.Sendable.{IsSendable}
 use Rattle.amqp_session.specs.Legal.{amqp_header, IsPassedThrough}
 use Rattle.amqp_session.specs.Decider.{Speech, HeaderSaid, StartOkSaid, TuneOkSaid, OpenSaid, CloseSaid, CloseOkSaid, Shut, InUse, Left, NoContent, now_on, greeted, say, say_all, is_amqp_header, is_legal}
 use Rattle.amqp_session.proofs.Cases.{if_case, if_by, if-true, and-true}
@@ -539,11 +540,6 @@ now-close-target (Ok c) r code text t fs hs is h =
     let k = on-close n t.channels t.awaited v c code text (Some (next_promise t)) at.listed at.open_state ties in
     now-ties t x fs (now_on n Left v) o hi refl hs (queued t.control item fs v (now_on n Left v) l k.may) k.ties)
 
--- what is told may be sent: its class is neither connection (10) nor channel (20), and two octets hold it
-abbrev pub IsSendable : Cmd → Type 0
-IsSendable (Send r method) = (method.class ≢ 10) × (method.class ≢ 20) × (method.class < 65536)
-IsSendable _ = Unit {0}
-
 class-spelled : (m : OtherMethod) → m.class < 65536 → class_in (spell_raw_method m) ≡ m.class
 class-spelled m h = from_be_bytes-to_be_bytes_2 m.class h
 
@@ -564,7 +560,7 @@ now-send r m c t fs told hs at h =
     if_case (λ (y : Talk). Now y fs) (nat_lt t.capacity (length (encoding f))) (refuse (SerialisationError (length (encoding f))) t) x h
     (now-told t x fs hs refl h
     (λ o hi v l ties.
-    let k = on-send n t.channels t.awaited v c (spell_raw_method m) (passed-through m told.0 told.1 told.2) at.listed at.open_state ties in
+    let k = on-send n t.channels t.awaited v c (spell_raw_method m) (passed-through m told.1 told.2 told.0) at.listed at.open_state ties in
     now-ties t x fs _ o hi refl hs (queued t.control item fs v _ l k.may) k.ties))
 
 now-send-target : (o : Result Channel ErrorKind) (r : ChanRef) (m : OtherMethod) (t : Talk) (fs : List Frame) → IsSendable (Send r m) → t.state ≡ Connected → target r word.Send t ≡ o
@@ -597,7 +593,7 @@ now-command c t fs told h = now-command-rule t.state c t fs told refl h
 
 -- a new session is silent
 pub start-silent : IsSilent start
-start-silent = (refl, record { no_channels = refl; none_awaited = refl })
+start-silent = (refl, record { no_channels = refl; none_awaited = refl }, omega arith)
 
 -- on a new link nothing was committed, and the header waits
 pub tied-linked : (t : Talk) → is_asked t ≡ true → IsSilent t → IsTied (linked t) []
@@ -615,6 +611,10 @@ tied-linked t asked_t h =
     let is : linked t ≡ x = if-true (is_asked t) x t asked_t in
     let Q : Talk → Type 0 = λ y. IsTied y [] in
     subst Q (sym is) (record { later = greeted; leads = record { said = []; frames = refl; may = refl }; ties = (refl, h.1) })
+
+-- a new link has room for the header
+pub silent-room : (t : Talk) → IsSilent t → 8 ≤ t.capacity
+silent-room t h = h.2
 
 -- the next frame stands first in the lane
 next-first : (b : Bool) (control : List Item) (item : Item) → (if b then head control else None) ≡ Some item → control ≡ item ∷ drop 1 control

@@ -1,5 +1,7 @@
 -- The entries of a map that are seen, as a map.
-use Rattle.std.proofs.Common.{◌≡◌, ◌∙◌, ap, sym, refl, ℕ, Bool, true, false, cond, List, [], ◌∷◌, Option, Some, None, Result, Ok, Err}
+use Rattle.std.proofs.Common.{◌≡◌, ◌∙◌, ap, sym, refl, ℕ, Bool, true, false, cond, length, ◌==◌, ◌<◌, arith, List, [], ◌∷◌, Option, Some, None, Result, Ok, Err}
+use Rattle.std.proofs.lemmas.Bool.Decides.{nat_tests}
+use Rattle.std.specs.Prelude.{find, unwrap_or, ◌++◌}
 use Rattle.std.specs.declared.cmp.Ordering.{Ordering}
 use Rattle.std.specs.declared.cmp.Ordering.TheVariants.{Less, Equal, Greater}
 use Rattle.std.specs.Ordering.{nat_cmp, is_eq, match_ordering}
@@ -7,6 +9,7 @@ use Rattle.std.specs.Cmp.{nat_cmp_total}
 use Rattle.std.specs.List.{AllByRecursion}
 use Rattle.std.specs.List.Sorted.{IsStrictlySortedBy}
 use Rattle.std.specs.Map.{keys_of, set_value}
+use Rattle.std.specs.VecDeque.{deque_capacity}
 use Rattle.std.specs.BTreeMap.{is_at}
 use Rattle.std.proofs.lemmas.Map.Keys.{sorted_head, sorted_tail}
 use Rattle.std.proofs.lemmas.Map.Lookups.{exact_unsigned}
@@ -14,10 +17,14 @@ use Rattle.amqp_session.specs.declared.command.Answer.{Answer}
 use Rattle.amqp_session.specs.declared.error.ErrorKind.{ErrorKind}
 use Rattle.amqp_session.specs.declared.promises.Slot.{Slot}
 use Rattle.amqp_session.specs.declared.promises.Slot.TheVariants.{Place, Waiting, Answered}
+use Rattle.amqp_session.specs.declared.awaiting.Awaited.{Awaited}
+use Rattle.amqp_session.specs.declared.awaiting.Reply.{Reply}
+use Rattle.amqp_session.specs.declared.awaiting.Replies.{Replies}
+use Rattle.amqp_session.specs.Replies.{is_of, awaited_on, expected, first_awaited, without_reply, left_on, without_first}
 use Rattle.amqp_session.specs.Listed.{at, put, without}
 use Rattle.amqp_session.specs.Changes.{settled, settled_by}
-use Rattle.amqp_session.specs.Parts.{seen, seen_at, seen_first, slot_seen, slot_settled}
-use Rattle.amqp_session.proofs.Maps.{set_value-same, put-present}
+use Rattle.amqp_session.specs.Parts.{placed, seen, seen_at, seen_first, slot_seen, slot_settled, some_awaited, list_seen, HasPlace}
+use Rattle.amqp_session.proofs.Maps.{nat_cmp_self, set_value-same, put-present}
 
 -- all numbers of a list are above a number
 abbrev Above : ℕ → List ℕ → Type 0
@@ -149,6 +156,168 @@ module _ {X Y : Type 0} (f : Y → Option X) (n : ℕ) where
     put-unseen [] unseen none = ap (λ p. seen_first n p []) unseen
     put-unseen (e ∷ es) unseen none = place-head (nat_cmp n e.0) e es unseen none (put-unseen es unseen)
 
+-- ---- entries that change
+
+module _ {X : Type 0} (n : ℕ) where
+  absent-first : (b : Bool) (e : ℕ × X) (es : List (ℕ × X)) → cond b (Some e.1) (at n es) ≡ None
+      → (at n es ≡ None → without n es ≡ es) → cond b es (e ∷ without n es) ≡ e ∷ es
+  absent-first true e es h rest = absurd cc
+  absent-first false e es h rest = ap (λ xs. e ∷ xs) (rest h)
+
+  -- a number that a map has not goes without a change
+  pub without-absent : (es : List (ℕ × X)) → at n es ≡ None → without n es ≡ es
+  without-absent [] h = refl
+  without-absent (e ∷ es) h = absent-first (is_at (nat_cmp n) e.0) e es h (without-absent es)
+
+  set-first : (w v : X) (b : Bool) (e : ℕ × X) (es : List (ℕ × X)) → cond b (Some e.1) (at n es) ≡ Some v
+      → (at n es ≡ Some v → at n (set_value (is_at (nat_cmp n)) es w) ≡ Some w)
+      → is_at (nat_cmp n) e.0 ≡ b → at n (cond b ((e.0, w) ∷ es) (e ∷ set_value (is_at (nat_cmp n)) es w)) ≡ Some w
+  set-first w v true e es h rest is = ap (λ b. cond b (Some w) (at n es)) is
+  set-first w v false e es h rest is = ap (λ b. cond b (Some e.1) (at n (set_value (is_at (nat_cmp n)) es w))) is ∙ rest h
+
+  -- a value that is set is there
+  pub at-set_value : (w v : X) (es : List (ℕ × X)) → at n es ≡ Some v → at n (set_value (is_at (nat_cmp n)) es w) ≡ Some w
+  at-set_value w v [] h = absurd cc
+  at-set_value w v (e ∷ es) h = set-first w v (is_at (nat_cmp n) e.0) e es h (at-set_value w v es) refl
+
+module _ {X : Type 0} (n : ℕ) (v : X) where
+  there-first : (r : Ordering) (e : ℕ × X) (es : List (ℕ × X)) → nat_cmp n e.0 ≡ r → at n (put n v es) ≡ Some v
+      → at n (match_ordering r ((n, v) ∷ e ∷ es) ((e.0, v) ∷ es) (e ∷ put n v es)) ≡ Some v
+  there-first Less e es h rest = ap (λ r. cond (is_eq r) (Some v) (at n (e ∷ es))) (nat_cmp_self n)
+  there-first Equal e es h rest = ap (λ r. cond (is_eq r) (Some v) (at n es)) h
+  there-first Greater e es h rest = ap (λ r. cond (is_eq r) (Some e.1) (at n (put n v es))) h ∙ rest
+
+  -- a value that is put is there
+  pub at-put : (es : List (ℕ × X)) → at n (put n v es) ≡ Some v
+  at-put [] = ap (λ r. cond (is_eq r) (Some v) None) (nat_cmp_self n)
+  at-put (e ∷ es) = there-first (nat_cmp n e.0) e es refl (at-put es)
+
+module _ {X Y : Type 0} (f : Y → Option X) (n : ℕ) (y y' : Y) where
+  same-first : (b : Bool) (e : ℕ × Y) (es : List (ℕ × Y)) → f y' ≡ f y → cond b (Some e.1) (at n es) ≡ Some y
+      → (at n es ≡ Some y → seen f (set_value (is_at (nat_cmp n)) es y') ≡ seen f es)
+      → seen f (cond b ((e.0, y') ∷ es) (e ∷ set_value (is_at (nat_cmp n)) es y')) ≡ seen_first e.0 (f e.1) (seen f es)
+  same-first true e es alike h rest =
+      let is : e.1 ≡ y = cc in ap (λ o. seen_first e.0 o (seen f es)) (alike ∙ ap f (sym is))
+  same-first false e es alike h rest = ap (λ xs. seen_first e.0 (f e.1) xs) (rest h)
+
+  -- a value that changes unseen
+  pub set-alike : (es : List (ℕ × Y)) → f y' ≡ f y → at n es ≡ Some y → seen f (set_value (is_at (nat_cmp n)) es y') ≡ seen f es
+  set-alike [] alike h = absurd cc
+  set-alike (e ∷ es) alike h = same-first (is_at (nat_cmp n) e.0) e es alike h (set-alike es alike)
+
+  -- a value that is seen from then on
+  pub set-seen : (x : X) (es : List (ℕ × Y)) → f y' ≡ Some x → at n es ≡ Some y → Sorted (keys_of es)
+      → seen f (set_value (is_at (nat_cmp n)) es y') ≡ put n x (seen f es)
+  set-seen x es given h sorted = ap (seen f) (sym (put-present n y' y es h sorted)) ∙ put-seen f n y' x es given sorted
+
+  gone-first : (r : Ordering) (e : ℕ × Y) (es : List (ℕ × Y)) (o : Option X) → nat_cmp n e.0 ≡ r → f e.1 ≡ o → f y' ≡ None
+      → Sorted (keys_of (e ∷ es)) → cond (is_eq r) (Some e.1) (at n es) ≡ Some y
+      → (at n es ≡ Some y → seen f (set_value (is_at (nat_cmp n)) es y') ≡ without n (seen f es))
+      → seen f (cond (is_eq r) ((e.0, y') ∷ es) (e ∷ set_value (is_at (nat_cmp n)) es y')) ≡ without n (seen_first e.0 o (seen f es))
+  gone-first Equal e es None k is none sorted h rest =
+      ap (λ o. seen_first e.0 o (seen f es)) none
+      ∙ sym (without-above f n es (above-equal n e.0 (keys_of es) k (sorted_head nat_cmp e.0 (keys_of es) sorted)))
+  gone-first Equal e es (Some x) k is none sorted h rest =
+      ap (λ o. seen_first e.0 o (seen f es)) none
+      ∙ sym (ap (λ r. cond (is_eq r) (seen f es) ((e.0, x) ∷ without n (seen f es))) k)
+  gone-first Less e es None k is none sorted h rest = ap (λ o. seen_first e.0 o (seen f (set_value (is_at (nat_cmp n)) es y'))) is ∙ rest h
+  gone-first Less e es (Some x) k is none sorted h rest =
+      ap (λ o. seen_first e.0 o (seen f (set_value (is_at (nat_cmp n)) es y'))) is ∙ ap (λ xs. (e.0, x) ∷ xs) (rest h)
+      ∙ sym (ap (λ r. cond (is_eq r) (seen f es) ((e.0, x) ∷ without n (seen f es))) k)
+  gone-first Greater e es None k is none sorted h rest = ap (λ o. seen_first e.0 o (seen f (set_value (is_at (nat_cmp n)) es y'))) is ∙ rest h
+  gone-first Greater e es (Some x) k is none sorted h rest =
+      ap (λ o. seen_first e.0 o (seen f (set_value (is_at (nat_cmp n)) es y'))) is ∙ ap (λ xs. (e.0, x) ∷ xs) (rest h)
+      ∙ sym (ap (λ r. cond (is_eq r) (seen f es) ((e.0, x) ∷ without n (seen f es))) k)
+
+  -- a value that is no longer seen
+  pub set-unseen : (es : List (ℕ × Y)) → f y' ≡ None → at n es ≡ Some y → Sorted (keys_of es)
+      → seen f (set_value (is_at (nat_cmp n)) es y') ≡ without n (seen f es)
+  set-unseen [] none h sorted = absurd cc
+  set-unseen (e ∷ es) none h sorted =
+      gone-first (nat_cmp n e.0) e es (f e.1) refl refl none sorted h
+      (λ later. set-unseen es none later (sorted_tail nat_cmp e.0 (keys_of es) sorted))
+
+  placed-as : (o : Option X) (es : List (ℕ × Y)) → f y' ≡ o → at n es ≡ Some y → Sorted (keys_of es)
+      → seen f (set_value (is_at (nat_cmp n)) es y') ≡ placed n o (seen f es)
+  placed-as None es is h sorted = set-unseen es is h sorted
+  placed-as (Some x) es is h sorted = set-seen x es is h sorted
+
+  -- a value that is set, as it is seen
+  pub set-placed : (es : List (ℕ × Y)) → at n es ≡ Some y → Sorted (keys_of es)
+      → seen f (set_value (is_at (nat_cmp n)) es y') ≡ placed n (f y') (seen f es)
+  set-placed es h sorted = placed-as (f y') es refl h sorted
+
+-- ---- what is awaited
+
+shown-awaited : (list : List Awaited) → unwrap_or (some_awaited list) [] ≡ list
+shown-awaited [] = refl
+shown-awaited (a ∷ list) = refl
+
+same-from : (a b : ℕ) → (a == b) ≡ true → a ≡ b
+same-from a b h = grind (arith, nat_tests)
+
+empty-awaited : (list : List Awaited) → (length list == 0) ≡ true → some_awaited list ≡ None
+empty-awaited [] h = refl
+empty-awaited (a ∷ list) h = let none : length (a ∷ list) ≡ 0 = same-from (length (a ∷ list)) 0 h in absurd (omega arith)
+
+some-appended : (list : List Awaited) (a : Awaited) → some_awaited (list ++ a ∷ []) ≡ Some (list ++ a ∷ [])
+some-appended [] a = refl
+some-appended (b ∷ list) a = refl
+
+module _ (n : ℕ) (es : List (ℕ × Replies)) (sorted : Sorted (keys_of es)) (r : Replies) (there : at n es ≡ Some r) where
+  -- what is awaited on a channel that has a list
+  pub awaited-seen : awaited_on n (seen list_seen es) ≡ r.items.items
+  awaited-seen = ap (λ o. unwrap_or o []) (at-seen list_seen n es sorted ∙ ap (seen_at list_seen) there) ∙ shown-awaited r.items.items
+
+  -- one more is awaited
+  pub expect-seen : (r' : Replies) (a : Awaited) → r'.items.items ≡ r.items.items ++ a ∷ []
+      → seen list_seen (set_value (is_at (nat_cmp n)) es r') ≡ expected n a (seen list_seen es)
+  expect-seen r' a is =
+      set-seen list_seen n r r' (r.items.items ++ a ∷ []) es (ap some_awaited is ∙ some-appended r.items.items a) there sorted
+      ∙ ap (λ list. put n (list ++ a ∷ []) (seen list_seen es)) (sym awaited-seen)
+
+  -- some are left
+  left-seen : (r' : Replies) (list : List Awaited) → r'.items.items ≡ list
+      → seen list_seen (set_value (is_at (nat_cmp n)) es r') ≡ left_on n list (seen list_seen es)
+  left-seen r' [] is = set-unseen list_seen n r r' es (ap some_awaited is) there sorted
+  left-seen r' (a ∷ list) is = set-seen list_seen n r r' (a ∷ list) es (ap some_awaited is) there sorted
+
+  -- one is taken out
+  pub take-seen : (r' : Replies) (reply : Reply) → r'.items.items ≡ without_reply reply r.items.items
+      → seen list_seen (set_value (is_at (nat_cmp n)) es r') ≡ without_first n reply (seen list_seen es)
+  take-seen r' reply is =
+      left-seen r' (without_reply reply r.items.items) is
+      ∙ ap (λ list. left_on n (without_reply reply list) (seen list_seen es)) (sym awaited-seen)
+
+  -- none is taken out
+  pub keep-seen : (r' : Replies) → r'.items.items ≡ r.items.items → seen list_seen (set_value (is_at (nat_cmp n)) es r') ≡ seen list_seen es
+  keep-seen r' is = set-alike list_seen n r r' es (ap some_awaited is) there
+
+  pub first-seen : (reply : Reply) → find (is_of reply) r.items.items ≡ first_awaited n reply (seen list_seen es)
+  first-seen reply = ap (find (is_of reply)) (sym awaited-seen)
+
+-- on a channel that has no list nothing is awaited
+pub none-awaited : (n : ℕ) (es : List (ℕ × Replies)) → Sorted (keys_of es) → at n es ≡ None → (reply : Reply) → first_awaited n reply (seen list_seen es) ≡ None
+none-awaited n es sorted none reply =
+    ap (λ o. find (is_of reply) (unwrap_or o [])) (at-seen list_seen n es sorted ∙ ap (seen_at list_seen) none)
+
+-- a list that is empty is not seen
+pub empty-seen : (n : ℕ) (es : List (ℕ × Replies)) (r : Replies) → at n es ≡ Some r → (length r.items.items == 0) ≡ true → seen_at list_seen (at n es) ≡ None
+empty-seen n es r there empty = ap (seen_at list_seen) there ∙ empty-awaited r.items.items empty
+
+-- a list with a place
+pub has-place : (n : ℕ) (es : List (ℕ × Replies)) (r r' : Replies) → at n es ≡ Some r → length r'.items.items < deque_capacity r'.items
+    → HasPlace n (set_value (is_at (nat_cmp n)) es r')
+has-place n es r r' there place = (r', at-set_value n r' r es there, place)
+
+pub has-new-place : (n : ℕ) (es : List (ℕ × Replies)) (r : Replies) → length r.items.items < deque_capacity r.items → HasPlace n (put n r es)
+has-new-place n es r place = (r, at-put n r es, place)
+
+-- a number that is not seen goes without a change
+pub without-unseen : {X Y : Type 0} (f : Y → Option X) (n : ℕ) (es : List (ℕ × Y)) → Sorted (keys_of es) → seen_at f (at n es) ≡ None
+    → seen f (without n es) ≡ seen f es
+without-unseen f n es sorted none = without-seen f n es sorted ∙ without-absent n (seen f es) (at-seen f n es sorted ∙ none)
+
 -- ---- promises
 
 module _ (n : ℕ) (answer : Result Answer ErrorKind) (es : List (ℕ × Slot)) (sorted : Sorted (keys_of es)) where
@@ -170,3 +339,21 @@ module _ (n : ℕ) (answer : Result Answer ErrorKind) (es : List (ℕ × Slot)) 
   -- one that has none gets none
   pub settle-none : at n es ≡ None → seen slot_seen es ≡ settled n answer (seen slot_seen es)
   settle-none h = sym (ap (λ o. settled_by o n answer (seen slot_seen es)) (at-seen slot_seen n es sorted ∙ ap (seen_at slot_seen) h))
+
+-- ---- a number that went
+
+module _ {X : Type 0} (n : ℕ) where
+  none-above : (es : List (ℕ × X)) → Above n (keys_of es) → at n es ≡ None
+  none-above [] above = refl
+  none-above (e ∷ es) above = ap (λ r. cond (is_eq r) (Some e.1) (at n es)) above.0 ∙ none-above es above.1
+
+  gone-head : (r : Ordering) (e : ℕ × X) (es : List (ℕ × X)) → nat_cmp n e.0 ≡ r → Sorted (keys_of (e ∷ es)) → at n (without n es) ≡ None
+      → at n (cond (is_eq r) es (e ∷ without n es)) ≡ None
+  gone-head Less e es h sorted rest = ap (λ r. cond (is_eq r) (Some e.1) (at n (without n es))) h ∙ rest
+  gone-head Equal e es h sorted rest = none-above es (above-equal n e.0 (keys_of es) h (sorted_head nat_cmp e.0 (keys_of es) sorted))
+  gone-head Greater e es h sorted rest = ap (λ r. cond (is_eq r) (Some e.1) (at n (without n es))) h ∙ rest
+
+  -- a number that went is no longer there
+  pub at-gone : (es : List (ℕ × X)) → Sorted (keys_of es) → at n (without n es) ≡ None
+  at-gone [] sorted = refl
+  at-gone (e ∷ es) sorted = gone-head (nat_cmp n e.0) e es refl sorted (at-gone es (sorted_tail nat_cmp e.0 (keys_of es) sorted))

@@ -1,5 +1,5 @@
 -- What ties a session to what was said: the frames committed on the open link, and behind them those that wait, lead to where the session is.
-use Rattle.std.specs.Prelude.{◌≡◌, ◌≢◌, ℕ, List, [], ◌∷◌, ◌++◌, map, Option, Some, None}
+use Rattle.std.specs.Prelude.{◌≡◌, ◌≢◌, ◌≤◌, ℕ, List, [], ◌∷◌, ◌++◌, map, Option, Some, None}
 use Rattle.amqp_frame.specs.declared.frame.Frame.{Frame}
 use Rattle.amqp_session.specs.declared.lanes.Item.{Item}
 use Rattle.amqp_session.specs.declared.awaiting.Awaited.{Awaited}
@@ -98,6 +98,6 @@ pub record Speaks (state : ConnectionState) (phase : Phase) (input : Input) (con
 abbrev pub IsTied : Talk → List Frame → Type 0
 IsTied t committed = Speaks t.state t.phase t.input t.control t.channels t.awaited committed
 
--- a session that wants a link is new
+-- a session that wants a link is new, and the header will fit
 abbrev pub IsSilent : Talk → Type 0
-IsSilent t = (t.state ≡ Initial) × IsNew t.channels t.awaited
+IsSilent t = (t.state ≡ Initial) × IsNew t.channels t.awaited × (8 ≤ t.capacity)

@@ -3,7 +3,7 @@
 ghost use Rattle.std.specs.Prelude.{◌≡◌, ◌+◌, ◌<◌, ◌^◌, [], None, Some, Err, IsSome, OnOk, OnErr, option_copied};
 ghost use Rattle.amqp_session.specs.Listed.{at, put, without};
 ghost use Rattle.amqp_session.specs.Changes.{settled};
-ghost use Rattle.amqp_session.specs.Parts.{seen, seen_at, slot_seen, slot_settled};
+ghost use Rattle.amqp_session.specs.Parts.{seen, placed, seen_at, slot_seen, slot_settled};
 
 use crate::command::Answer;
 use crate::error::{self, ErrorKind};
@@ -55,9 +55,10 @@ impl Promises {
         if self.made == u64::MAX {
             return Err(NoMemory);
         }
-        if !self.slots.contains_key(&self.made) {
-            self.slots.insert(self.made, Slot::Place)?;
+        if self.slots.contains_key(&self.made) {
+            return Ok(());
         }
+        drop(self.slots.insert(self.made, Slot::Place)?);
         Ok(())
     }
 
@@ -68,9 +69,7 @@ impl Promises {
         ensures made { self.new.made ≡ self.old.made + 1 }
         ensures slots { seen slot_seen self.new.slots.entries ≡ put self.old.made None (seen slot_seen self.old.slots.entries) }
     {
-        // Its place is there, so that nothing is asked for and nothing refused.
-        let _ = self.slots.insert(self.made, Slot::Waiting);
-        self.made += 1;
+        self.make(Slot::Waiting);
     }
 
     /// One more is made, which is answered at once with an error.
@@ -80,14 +79,27 @@ impl Promises {
         ensures same { OnErr result (self.new.made ≡ self.old.made) }
         ensures err { OnErr result (seen slot_seen self.new.slots.entries ≡ seen slot_seen self.old.slots.entries) }
     {
-        if self.made == u64::MAX {
+        if let Err(refused) = self.reserve() {
             drop(kind);
-            return Err(NoMemory);
+            return Err(refused);
         }
-        self.slots
-            .insert(self.made, Slot::Answered(Err(kind.into())))?;
-        self.made += 1;
+        self.make(Slot::Answered(Err(kind.into())));
         Ok(())
+    }
+
+    // One more is made, at its place.
+    fn make(&mut self, slot: Slot)
+        requires place { IsSome (at self.old.made self.old.slots.entries) }
+        requires count { self.old.made + 1 < 2 ^ 64 }
+        ensures made { self.new.made ≡ self.old.made + 1 }
+        ensures slots { seen slot_seen self.new.slots.entries ≡ placed self.old.made (slot_seen slot) (seen slot_seen self.old.slots.entries) }
+    {
+        let number = self.made;
+        self.made += 1;
+        match self.slots.get_mut(&number) {
+            Some(place) => place.set(slot),
+            None => drop(slot),
+        }
     }
 
     /// A promise that waits gets this answer.
@@ -106,6 +118,8 @@ impl Promises {
         ensures slot { option_copied result ≡ at number self.now.slots.entries }
         ensures seen { at number (seen slot_seen self.now.slots.entries) ≡ seen_at slot_seen (at number self.now.slots.entries) }
     {
+        // Its clause tells that the numbers ascend.
+        let _ = self.slots.len();
         self.slots.get(&number)
     }
 
@@ -114,11 +128,18 @@ impl Promises {
         ensures made { self.new.made ≡ self.old.made }
         ensures slots { seen slot_seen self.new.slots.entries ≡ without number (seen slot_seen self.old.slots.entries) }
     {
-        self.slots.remove(&number);
+        let _ = self.slots.len();
+        drop(self.slots.remove(&number));
     }
 }
 
 impl Slot {
+    fn set(&mut self, slot: Slot)
+        ensures { self.new ≡ slot }
+    {
+        *self = slot;
+    }
+
     // Where it waits it gets this answer.
     fn settle(&mut self, answer: error::Result<Answer>)
         ensures { self.new ≡ slot_settled answer self.old }

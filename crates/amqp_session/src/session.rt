@@ -58,7 +58,7 @@ impl Model for Session {
     ghost use Rattle.std.specs.Prelude.{◌≤◌, ◌+◌, length};
     ghost use Rattle.std.specs.VecDeque.{deque_capacity};
     ghost use Rattle.amqp_session.specs.Talk.{Talk};
-    ghost use Rattle.amqp_session.specs.Parts.{link_seen, seen, slot_seen};
+    ghost use Rattle.amqp_session.specs.Parts.{link_seen, seen, slot_seen, list_seen};
 
     ghost Value = { Talk };
 
@@ -78,7 +78,7 @@ impl Model for Session {
       cursor = s.channels.cursor;
       control = s.lanes.control.items;
       committed = s.committed.marks.items;
-      awaited = s.awaiting;
+      awaited = seen list_seen s.awaiting.lists.entries;
       handed = s.backlog;
       made = s.promises.made;
       promises = seen slot_seen s.promises.slots.entries;

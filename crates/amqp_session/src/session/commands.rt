@@ -7,8 +7,8 @@ ghost use Rattle.amqp_session.specs.Changes.{await, next_promise, promise, queue
 ghost use Rattle.amqp_session.specs.Commands.{open_channel, open_as, named, target, close_channel, close_target, send, send_target, close_connection, command};
 
 use super::Session;
-use super::places::{expect_reply, reserve_promised};
-use crate::awaiting::Reply;
+use super::places::{reserve_promised, reserve_reply};
+use crate::awaiting::{Awaited, Reply};
 use crate::channels::{Channel, after, first_number};
 use crate::command::{ChanRef, Cmd};
 use crate::error::{self, ErrorKind};
@@ -88,14 +88,21 @@ impl Session {
         ensures ok { OnOk result (self.new ≡ open_as id self.old) }
         ensures err { OnErr result (self.new ≡ self.old) }
     {
+        reserve_reply(
+            &mut self.lanes,
+            &mut self.committed,
+            &mut self.promises,
+            &mut self.awaiting,
+            id,
+        )?;
+        let number = self.promises.made();
+        self.channels.list(id, Channel::opened_by(number))?;
         let cursor = after(self.configuration.channel_max, id);
-        let channel = Channel::opened_by(self.promises());
-        self.channels.list(id, channel)?;
-        if let Err(refused) = self.ask(id, channel_open(id), Reply::ChannelOpened) {
-            self.channels.remove(id);
-            return Err(refused);
-        }
         self.channels.set_cursor(cursor);
+        self.lanes.push_reserved(Item::plain(id, channel_open(id)));
+        self.awaiting
+            .expect_reserved(id, Awaited::by(Reply::ChannelOpened, number));
+        self.promises.promise_reserved();
         Ok(())
     }
 
@@ -104,18 +111,20 @@ impl Session {
         ensures ok { OnOk result (self.new ≡ promise (await id reply (Some (next_promise self.old)) (queue id frame self.old))) }
         ensures err { OnErr result (self.new ≡ self.old) }
     {
-        if let Err(refused) = expect_reply(
+        if let Err(refused) = reserve_reply(
             &mut self.lanes,
             &mut self.committed,
             &mut self.promises,
             &mut self.awaiting,
             id,
-            reply,
         ) {
             drop(frame);
             return Err(refused);
         }
+        let number = self.promises.made();
         self.lanes.push_reserved(Item::plain(id, frame));
+        self.awaiting
+            .expect_reserved(id, Awaited::by(reply, number));
         self.promises.promise_reserved();
         Ok(())
     }

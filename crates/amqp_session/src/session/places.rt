@@ -1,12 +1,11 @@
 //! The places for what a rule adds, which are all made before anything is changed.
 
-ghost use Rattle.std.specs.Prelude.{◌≡◌, ◌+◌, ◌<◌, ◌≤◌, ◌^◌, Some, IsSome, length, OnOk, OnErr};
+ghost use Rattle.std.specs.Prelude.{◌≡◌, ◌+◌, ◌<◌, ◌≤◌, ◌^◌, IsSome, length, OnOk};
 ghost use Rattle.std.specs.VecDeque.{deque_capacity};
 ghost use Rattle.amqp_session.specs.Listed.{at};
-ghost use Rattle.amqp_session.specs.Parts.{seen, slot_seen};
-ghost use Rattle.amqp_session.specs.Replies.{expected};
+ghost use Rattle.amqp_session.specs.Parts.{seen, slot_seen, list_seen, HasPlace};
 
-use crate::awaiting::{Awaited, Awaiting, Reply};
+use crate::awaiting::Awaiting;
 use crate::committed::Committed;
 use crate::lanes::Lanes;
 use crate::promises::Promises;
@@ -49,14 +48,13 @@ pub fn reserve_promised(
     promises.reserve()
 }
 
-/// Makes places for a frame and a promise more, and awaits the reply that will answer it.
-pub fn expect_reply(
+/// Makes places for a frame, a promise and a reply on a channel more.
+pub fn reserve_reply(
     lanes: &mut Lanes,
     committed: &mut Committed,
     promises: &mut Promises,
     awaiting: &mut Awaiting,
     channel: ChannelId,
-    reply: Reply,
 ) -> Result<(), NoMemory>
     ensures items { lanes.new.control.items ≡ lanes.old.control.items }
     ensures marks { committed.new.marks.items ≡ committed.old.marks.items }
@@ -67,10 +65,9 @@ pub fn expect_reply(
     ensures slots { seen slot_seen promises.new.slots.entries ≡ seen slot_seen promises.old.slots.entries }
     ensures place { OnOk result (IsSome (at promises.new.made promises.new.slots.entries)) }
     ensures count { OnOk result (promises.new.made + 1 < 2 ^ 64) }
-    ensures awaited { OnOk result (awaiting.new ≡ expected channel (record { reply = reply; promise = Some promises.old.made }) awaiting.old) }
-    ensures err { OnErr result (awaiting.new ≡ awaiting.old) }
+    ensures awaited { seen list_seen awaiting.new.lists.entries ≡ seen list_seen awaiting.old.lists.entries }
+    ensures reply { OnOk result (HasPlace channel awaiting.new.lists.entries) }
 {
     reserve_promised(lanes, committed, promises)?;
-    let promise = Some(promises.made());
-    awaiting.expect(channel, Awaited { reply, promise })
+    awaiting.reserve(channel)
 }
