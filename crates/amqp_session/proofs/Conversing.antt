@@ -1,5 +1,5 @@
 -- The rules keep a session tied to what was said.
-use Rattle.std.proofs.Common.{◌≡◌, ◌≢◌, ◌<◌, ◌≤◌, ℕ, zero, suc, ◌-◌, ◌&&◌, ◌==◌, not, nat_le, nat_lt, max, if◌then◌else◌, Bool, true, false, List, [], ◌∷◌, ◌++◌, length, drop, Option, Some, None, is_some, Result, Ok, Err, inl, inr, refl, ap, sym, ◌∙◌, subst, append_assoc, arith}
+use Rattle.std.proofs.Common.{◌≡◌, ◌≢◌, ◌<◌, ◌≤◌, ◌^◌, ℕ, zero, suc, ◌-◌, ◌&&◌, ◌==◌, not, nat_le, nat_lt, max, if◌then◌else◌, Bool, true, false, List, [], ◌∷◌, ◌++◌, length, drop, Option, Some, None, is_some, Result, Ok, Err, inl, inr, refl, ap, sym, ◌∙◌, subst, append_assoc, arith}
 use Rattle.std.proofs.lemmas.List.{map-append}
 use Rattle.std.proofs.lemmas.Nat.{from_be_bytes-to_be_bytes_2}
 use Rattle.amqp_types.specs.declared.word.Word.{Word}
@@ -57,13 +57,12 @@ use Rattle.amqp_session.specs.Listed.{without}
 use Rattle.amqp_session.specs.Numbering.{first_number, drawn}
 use Rattle.amqp_session.specs.Replies.{first_awaited, without_first}
 use Rattle.amqp_session.specs.Octets.{class_in}
-use Rattle.amqp_session.specs.Sendable.{IsSendable}
 use Rattle.amqp_session.specs.Legal.{amqp_header, IsPassedThrough}
 use Rattle.amqp_session.specs.Decider.{Speech, HeaderSaid, StartOkSaid, TuneOkSaid, OpenSaid, CloseSaid, CloseOkSaid, Shut, InUse, Left, NoContent, now_on, greeted, say, say_all, is_amqp_header, is_legal}
 use Rattle.amqp_session.proofs.Cases.{if_case, if_by, if-true, and-true}
 use Rattle.amqp_session.proofs.Keeping.{starve-ends, finish-ends, lost-stays}
 use Rattle.amqp_session.proofs.Sayable.{say-append, front-said, over-stays, close-said, say-our-close}
-use Rattle.amqp_session.proofs.Ties.{frames_in, LeadsTo, TiesChannels, IsNew, TiesPhase, TiesActing, Ties, Speaks, IsTied, IsSilent}
+use Rattle.amqp_session.proofs.Ties.{frames_in, LeadsTo, TiesChannels, IsNew, TiesPhase, TiesActing, Ties, Speaks, IsTied, IsSilent, IsSendable}
 use Rattle.amqp_session.proofs.OnChannels.{Listed, Replies, on-open, on-close, on-send, on-same, on-opened, on-closed, drawn-free}
 
 -- what is known of a session: while a link is open, and while one is wanted
@@ -540,13 +539,13 @@ now-close-target (Ok c) r code text t fs hs is h =
     let k = on-close n t.channels t.awaited v c code text (Some (next_promise t)) at.listed at.open_state ties in
     now-ties t x fs (now_on n Left v) o hi refl hs (queued t.control item fs v (now_on n Left v) l k.may) k.ties)
 
-class-spelled : (m : OtherMethod) → m.class < 65536 → class_in (spell_raw_method m) ≡ m.class
+class-spelled : (m : OtherMethod) → m.class < 2 ^ 16 → class_in (spell_raw_method m) ≡ m.class
 class-spelled m h = from_be_bytes-to_be_bytes_2 m.class h
 
 spelled-length : (m : OtherMethod) → 4 ≤ length (spell_raw_method m)
 spelled-length m = omega arith
 
-passed-through : (m : OtherMethod) → m.class ≢ 10 → m.class ≢ 20 → m.class < 65536 → IsPassedThrough (spell_raw_method m)
+passed-through : (m : OtherMethod) → m.class ≢ 10 → m.class ≢ 20 → m.class < 2 ^ 16 → IsPassedThrough (spell_raw_method m)
 passed-through m connection channel small =
     let is = class-spelled m small in
     record { whole = spelled-length m; not_connection = λ h. connection (sym is ∙ h); not_channel = λ h. channel (sym is ∙ h) }
@@ -560,7 +559,7 @@ now-send r m c t fs told hs at h =
     if_case (λ (y : Talk). Now y fs) (nat_lt t.capacity (length (encoding f))) (refuse (SerialisationError (length (encoding f))) t) x h
     (now-told t x fs hs refl h
     (λ o hi v l ties.
-    let k = on-send n t.channels t.awaited v c (spell_raw_method m) (passed-through m told.1 told.2 told.0) at.listed at.open_state ties in
+    let k = on-send n t.channels t.awaited v c (spell_raw_method m) (passed-through m told.0 told.1 told.2) at.listed at.open_state ties in
     now-ties t x fs _ o hi refl hs (queued t.control item fs v _ l k.may) k.ties))
 
 now-send-target : (o : Result Channel ErrorKind) (r : ChanRef) (m : OtherMethod) (t : Talk) (fs : List Frame) → IsSendable (Send r m) → t.state ≡ Connected → target r word.Send t ≡ o

@@ -1,10 +1,12 @@
 -- What ties a session to what was said: the frames committed on the open link, and behind them those that wait, lead to where the session is.
-use Rattle.std.specs.Prelude.{◌≡◌, ◌≢◌, ◌≤◌, ℕ, List, [], ◌∷◌, ◌++◌, map, Option, Some, None}
+use Rattle.std.specs.Prelude.{◌≡◌, ◌≢◌, ◌≤◌, ◌<◌, ◌^◌, ℕ, List, [], ◌∷◌, ◌++◌, map, Option, Some, None}
 use Rattle.amqp_frame.specs.declared.frame.Frame.{Frame}
 use Rattle.amqp_session.specs.declared.lanes.Item.{Item}
 use Rattle.amqp_session.specs.declared.awaiting.Awaited.{Awaited}
 use Rattle.amqp_session.specs.declared.awaiting.Reply.{Reply}
 use Rattle.amqp_session.specs.declared.awaiting.Reply.TheVariants.{ChannelOpened, ChannelClosed}
+use Rattle.amqp_session.specs.declared.command.Cmd.{Cmd}
+use Rattle.amqp_session.specs.declared.command.Cmd.TheVariants.{Send}
 use Rattle.amqp_session.specs.declared.channels.Channel.{Channel}
 use Rattle.amqp_session.specs.declared.state.ChannelState.{ChannelState}
 use Rattle.amqp_session.specs.declared.state.ChannelState.TheVariants as channel
@@ -101,3 +103,10 @@ IsTied t committed = Speaks t.state t.phase t.input t.control t.channels t.await
 -- a session that wants a link is new, and the header will fit
 abbrev pub IsSilent : Talk → Type 0
 IsSilent t = (t.state ≡ Initial) × IsNew t.channels t.awaited × (8 ≤ t.capacity)
+
+-- ---- what may be told
+
+-- a method that is sent has a class that two octets hold, and that is neither connection (10) nor channel (20)
+abbrev pub IsSendable : Cmd → Type 0
+IsSendable (Send channel method) = (method.class ≢ 10) × (method.class ≢ 20) × (method.class < 2 ^ 16)
+IsSendable _ = Unit {0}

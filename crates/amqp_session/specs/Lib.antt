@@ -28,7 +28,6 @@ pub mod Laws
 pub mod Octets
 pub mod Legal
 pub mod Decider
-pub mod Sendable
 -- What the contracts of private calls are stated with.
 pub mod Parts
 pub mod NumberSet
