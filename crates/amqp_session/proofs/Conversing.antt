@@ -308,7 +308,7 @@ now-tune server t fs o hi hs h =
 new-ties : (cs : Listed) (ws : Replies) (v : Speech) → v ≡ record greeted { stage = OpenSaid } → IsNew cs ws → TiesChannels cs ws v
 new-ties cs ws v is new =
     let x : Speech = record greeted { stage = OpenSaid } in
-    let none : TiesChannels [] [] x = record { speaking = refl; complete = tt; sorted = tt; awaited_sorted = tt; none = refl; each = λ n. (refl, shut) } in
+    let none : TiesChannels [] [] x = record { speaking = refl; complete = tt; sorted = tt; awaited_sorted = tt; each = λ n. (refl, shut) } in
     let A : Speech → Type 0 = λ y. TiesChannels cs ws y in
     let B : Listed → Type 0 = λ y. TiesChannels y ws x in
     let C : Replies → Type 0 = λ y. TiesChannels [] y x in

@@ -1,11 +1,14 @@
 -- The bytes that are unsent, counted.
-use Rattle.std.proofs.Common.{◌≡◌, ◌∙◌, ap, sym, ℕ, ◌+◌, ◌-◌, ◌≤◌, ◌==◌, ◌&&◌, not, true, false, Bool, arith, refl}
+use Rattle.std.proofs.Common.{◌≡◌, ◌∙◌, ap, sym, ℕ, ◌+◌, ◌-◌, ◌≤◌, ◌==◌, ◌&&◌, not, true, false, nat_le, Bool, suc, List, [], ◌∷◌, ◌++◌, drop, length, Some, None, arith, refl}
 use Rattle.std.proofs.lemmas.Bool.Decides.{nat_tests}
 use Rattle.std.specs.Prelude.{IsTrue}
+use Rattle.amqp_session.specs.declared.committed.Mark.{Mark}
+use Rattle.amqp_session.specs.declared.lanes.Item.{Item}
 use Rattle.amqp_session.specs.Talk.{Talk, is_open}
-use Rattle.amqp_session.specs.Writing.{left_in, sent_among, taken, unsent}
-use Rattle.amqp_session.proofs.Cases.{if-true, if-false}
-use Rattle.amqp_session.proofs.Keeping.{left_in-left_after, sent_among-committed}
+use Rattle.amqp_session.specs.Writing.{left_in, sent_among, taken, unsent, head, size_of, fitting, next_within, mark_of, committed_as, commit}
+use Rattle.amqp_session.specs.Parts.{after_first}
+use Rattle.amqp_session.proofs.Cases.{if_case, if-true, if-false}
+use Rattle.amqp_session.proofs.Keeping.{left_in-cons, left_in-left_after, sent_among-committed}
 
 other-false : (b c : Bool) → b ≡ true → (b && not c) ≡ false → c ≡ true
 other-false true true g h = refl
@@ -34,3 +37,29 @@ module _ (n : ℕ) (t : Talk) (within : n ≤ unsent t) where
 -- what is taken is no longer unsent, where the link is still open
 pub unsent-taken : (n : ℕ) (t : Talk) → IsTrue (is_open (taken n t)) → n ≤ unsent t → unsent (taken n t) + n ≡ unsent t
 unsent-taken n t still within = counted n t within (is_open t && not (n == 0)) refl still
+
+-- ---- the next frame
+
+module _ (space : ℕ) (t : Talk) (item : Item) (opened : is_open t ≡ true) (first : head t.control ≡ Some item) (fits : size_of item ≤ space) where
+  -- it goes out where it fits
+  pub next-fits : next_within space t ≡ Some item
+  next-fits =
+      let enough : nat_le (size_of item) space ≡ true = grind (arith, nat_tests) in
+      ap (fitting space) (if-true (is_open t) (head t.control) None opened ∙ first)
+      ∙ if-true (nat_le (size_of item) space) (Some item) None enough
+
+  pub commit-fits : commit space t ≡ record t { control = drop 1 t.control; committed = t.committed ++ mark_of item ∷ [] }
+  commit-fits = ap (λ o. committed_as o t) next-fits
+
+-- ---- one committed frame
+
+pub after_first-shorter : (n : ℕ) (ms : List Mark) → length (after_first n ms) ≤ length ms
+after_first-shorter n [] = omega arith
+after_first-shorter n (m ∷ ms) =
+    if_case (λ (x : List Mark). length x ≤ suc (length ms)) (nat_le m.left n) ms (record m { left = m.left - n } ∷ ms) (omega arith) (omega arith)
+
+pub after_first-less : (n : ℕ) (ms : List Mark) → left_in (after_first n ms) ≤ left_in ms
+after_first-less n [] = omega arith
+after_first-less n (m ∷ ms) =
+    if_case (λ (x : List Mark). left_in x ≤ left_in (m ∷ ms)) (nat_le m.left n) ms (record m { left = m.left - n } ∷ ms)
+    (omega (arith, left_in-cons m ms)) (omega (arith, left_in-cons m ms, left_in-cons (record m { left = m.left - n }) ms))

@@ -1,13 +1,16 @@
 -- The replies that are awaited on a channel, once one more is, and once the first came.
 use Rattle.std.proofs.Common.{◌≡◌, ◌≢◌, ◌∙◌, ap, sym, refl, ℕ, ◌+◌, not, Bool, true, false, if◌then◌else◌, List, [], ◌∷◌, ◌++◌, map, Some, None}
 use Rattle.std.proofs.lemmas.List.{map-append}
+use Rattle.std.specs.Map.{keys_of}
 use Rattle.std.specs.Prelude.{find, unwrap_or}
 use Rattle.std.specs.List.{position_or_len, remove}
 use Rattle.amqp_session.specs.declared.awaiting.Awaited.{Awaited}
 use Rattle.amqp_session.specs.declared.awaiting.Reply.{Reply}
 use Rattle.amqp_session.specs.declared.awaiting.Reply.TheVariants.{ChannelOpened, ChannelClosed, ConnectionClosed}
 use Rattle.amqp_session.specs.Replies.{is_same_reply, is_of, awaited_on, expected, first_awaited, without_reply, left_on, without_first}
-use Rattle.amqp_session.proofs.Numbered.{Ascend, put-same, put-other, put-ascend, without-same, without-other, without-ascend}
+use Rattle.amqp_session.specs.Sound.{Ascend}
+use Rattle.amqp_session.proofs.Ascending.{put-ascends, without-ascends, at-gone}
+use Rattle.amqp_session.proofs.Numbered.{put-same, put-other, without-other}
 use Rattle.amqp_session.proofs.Ties.{replies_on}
 
 -- ---- one more is awaited
@@ -21,24 +24,24 @@ pub expected-other : (m n : ℕ) (a : Awaited) (ws : List (ℕ × List Awaited))
 expected-other m n a ws ne =
     ap (λ o. map (λ (x : Awaited). x.reply) (unwrap_or o [])) (put-other m n (awaited_on n ws ++ a ∷ []) ws ne)
 
-pub expected-ascend : (n : ℕ) (a : Awaited) (ws : List (ℕ × List Awaited)) → Ascend ws → Ascend (expected n a ws)
-expected-ascend n a ws h = put-ascend n (awaited_on n ws ++ a ∷ []) ws h
+pub expected-ascend : (n : ℕ) (a : Awaited) (ws : List (ℕ × List Awaited)) → Ascend (keys_of ws) → Ascend (keys_of (expected n a ws))
+expected-ascend n a ws h = put-ascends n (awaited_on n ws ++ a ∷ []) ws h
 
 -- ---- the first came
 
-left-same : (n : ℕ) (list : List Awaited) (ws : List (ℕ × List Awaited)) → Ascend ws → replies_on n (left_on n list ws) ≡ map (λ (x : Awaited). x.reply) list
-left-same n [] ws h = ap (λ o. map (λ (x : Awaited). x.reply) (unwrap_or o [])) (without-same n ws h)
+left-same : (n : ℕ) (list : List Awaited) (ws : List (ℕ × List Awaited)) → Ascend (keys_of ws) → replies_on n (left_on n list ws) ≡ map (λ (x : Awaited). x.reply) list
+left-same n [] ws h = ap (λ o. map (λ (x : Awaited). x.reply) (unwrap_or o [])) (at-gone n ws h)
 left-same n (a ∷ list) ws h = ap (λ o. map (λ (x : Awaited). x.reply) (unwrap_or o [])) (put-same n (a ∷ list) ws)
 
 left-other : (m n : ℕ) (list : List Awaited) (ws : List (ℕ × List Awaited)) → m ≢ n → replies_on m (left_on n list ws) ≡ replies_on m ws
 left-other m n [] ws ne = ap (λ o. map (λ (x : Awaited). x.reply) (unwrap_or o [])) (without-other m n ws ne)
 left-other m n (a ∷ list) ws ne = ap (λ o. map (λ (x : Awaited). x.reply) (unwrap_or o [])) (put-other m n (a ∷ list) ws ne)
 
-left-ascend : (n : ℕ) (list : List Awaited) (ws : List (ℕ × List Awaited)) → Ascend ws → Ascend (left_on n list ws)
-left-ascend n [] ws h = without-ascend n ws h
-left-ascend n (a ∷ list) ws h = put-ascend n (a ∷ list) ws h
+left-ascend : (n : ℕ) (list : List Awaited) (ws : List (ℕ × List Awaited)) → Ascend (keys_of ws) → Ascend (keys_of (left_on n list ws))
+left-ascend n [] ws h = without-ascends n ws h
+left-ascend n (a ∷ list) ws h = put-ascends n (a ∷ list) ws h
 
-pub first-ascend : (n : ℕ) (r : Reply) (ws : List (ℕ × List Awaited)) → Ascend ws → Ascend (without_first n r ws)
+pub first-ascend : (n : ℕ) (r : Reply) (ws : List (ℕ × List Awaited)) → Ascend (keys_of ws) → Ascend (keys_of (without_first n r ws))
 first-ascend n r ws h = left-ascend n (without_reply r (awaited_on n ws)) ws h
 
 pub first-other : (m n : ℕ) (r : Reply) (ws : List (ℕ × List Awaited)) → m ≢ n → replies_on m (without_first n r ws) ≡ replies_on m ws
@@ -73,7 +76,7 @@ first-only r only [] a first is = absurd cc
 first-only r only (x ∷ []) a first is = first-by (is_of r x) r only x a refl first cc
 first-only r only (x ∷ y ∷ list) a first is = absurd cc
 
-pub one-answered : (n : ℕ) (r only : Reply) (ws : List (ℕ × List Awaited)) (a : Awaited) → Ascend ws → first_awaited n r ws ≡ Some a → replies_on n ws ≡ only ∷ []
+pub one-answered : (n : ℕ) (r only : Reply) (ws : List (ℕ × List Awaited)) (a : Awaited) → Ascend (keys_of ws) → first_awaited n r ws ≡ Some a → replies_on n ws ≡ only ∷ []
     → IsAnswered n r only ws
 one-answered n r only ws a h first is =
     let k = first-only r only (awaited_on n ws) a first is in

@@ -326,31 +326,36 @@ sent_among-closed : (ms : List Mark) (n : ℕ) (t : Talk) → is_open t ≡ fals
 sent_among-closed [] n t h = refl
 sent_among-closed (m ∷ ms) n t h = if-false (is_open t) _ t h
 
+module _ (m : Mark) (ms : List Mark) (n : ℕ) (t : Talk)
+    (later : is_open (sent_among ms (n - m.left) (sent m t)) ≡ true → (sent_among ms (n - m.left) (sent m t)).committed ≡ left_after ms (n - m.left)) where
+  abbrev left_here : Talk
+  left_here = record t { committed = record m { left = m.left - n } ∷ ms }
+
+  abbrev gone_on : Talk
+  gone_on = sent_among ms (n - m.left) (sent m t)
+
+  inner : (b : Bool) → is_open (if b then gone_on else left_here) ≡ true
+      → (if b then gone_on else left_here).committed ≡ (if b then left_after ms (n - m.left) else record m { left = m.left - n } ∷ ms)
+  inner true k = later k
+  inner false k = refl
+
+  outer : (b : Bool) → is_open t ≡ b → is_open (sent_among (m ∷ ms) n t) ≡ true → (sent_among (m ∷ ms) n t).committed ≡ left_after (m ∷ ms) n
+  outer true k opened =
+      let same : sent_among (m ∷ ms) n t ≡ (if nat_le m.left n then gone_on else left_here) =
+      if-true (is_open t) (if nat_le m.left n then gone_on else left_here) t k in
+      ap (λ (x : Talk). x.committed) same ∙ inner (nat_le m.left n) (ap is_open (sym same) ∙ opened)
+  outer false k opened =
+      let shut : is_open (sent_among (m ∷ ms) n t) ≡ false = ap is_open (sent_among-closed (m ∷ ms) n t k) ∙ k in absurd cc
+
 -- while the link is open, the frames whose last byte was taken are no longer committed
 pub sent_among-committed : (ms : List Mark) (n : ℕ) (t : Talk) → t.committed ≡ ms → is_open (sent_among ms n t) ≡ true
     → (sent_among ms n t).committed ≡ left_after ms n
 sent_among-committed [] n t h opened = h
-sent_among-committed (m ∷ ms) n t h opened = by (is_open t) refl
-  where
-    rest : Talk
-    rest = record t { committed = record m { left = m.left - n } ∷ ms }
-
-    on : Talk
-    on = sent_among ms (n - m.left) (sent m t)
-
-    inner : (b : Bool) → is_open (if b then on else rest) ≡ true
-        → (if b then on else rest).committed ≡ (if b then left_after ms (n - m.left) else record m { left = m.left - n } ∷ ms)
-    inner true k =
-        sent_among-committed ms (n - m.left) (sent m t)
-        (follow-keeps (λ (x : Talk). x.committed) (λ t s l cs ps. refl) m.then (record t { committed = drop 1 t.committed }) ∙ ap (drop 1) h) k
-    inner false k = refl
-
-    by : (b : Bool) → is_open t ≡ b → (sent_among (m ∷ ms) n t).committed ≡ left_after (m ∷ ms) n
-    by true k =
-        let same : sent_among (m ∷ ms) n t ≡ (if nat_le m.left n then on else rest) = if-true (is_open t) (if nat_le m.left n then on else rest) t k in
-        ap (λ (x : Talk). x.committed) same ∙ inner (nat_le m.left n) (ap is_open (sym same) ∙ opened)
-    by false k =
-        let shut : is_open (sent_among (m ∷ ms) n t) ≡ false = ap is_open (sent_among-closed (m ∷ ms) n t k) ∙ k in absurd cc
+sent_among-committed (m ∷ ms) n t h opened =
+    outer m ms n t
+    (sent_among-committed ms (n - m.left) (sent m t)
+    (follow-keeps (λ (x : Talk). x.committed) (λ t s l cs ps. refl) m.then (record t { committed = drop 1 t.committed }) ∙ ap (drop 1) h))
+    (is_open t) refl opened
 
 pub taken-keeps : {A : Type 0} (f : Talk → A) → Overlooks f → (n : ℕ) (t : Talk) → f (taken n t) ≡ f t
 taken-keeps f h n t =

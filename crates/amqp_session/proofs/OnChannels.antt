@@ -1,7 +1,8 @@
 -- What is said and heard on channels keeps what ties them to the conversation.
-use Rattle.std.proofs.Common.{◌≡◌, ◌≢◌, ◌≤◌, ℕ, zero, suc, ◌+◌, ◌-◌, ◌==◌, ◌||◌, nat_lt, not, if◌then◌else◌, Bool, true, false, List, [], ◌∷◌, ◌++◌, Option, Some, None, is_some, inl, inr, refl, ap, sym, ◌∙◌, subst, arith}
+use Rattle.std.proofs.Common.{◌≡◌, ◌≢◌, ◌<◌, ◌≤◌, ℕ, zero, suc, ◌+◌, ◌-◌, ◌==◌, ◌||◌, nat_lt, not, if◌then◌else◌, Bool, true, false, List, [], ◌∷◌, ◌++◌, Option, Some, None, is_some, inl, inr, refl, ap, sym, ◌∙◌, subst, arith}
 use Rattle.std.proofs.lemmas.Bool.{cases_eq}
 use Rattle.std.proofs.lemmas.Bool.Decides.{nat_tests}
+use Rattle.std.specs.Map.{keys_of}
 use Rattle.std.specs.Prelude.{find}
 use Rattle.std.specs.List.{AllByRecursion, range_with_len}
 use Rattle.amqp_frame.specs.declared.frame.Frame.TheVariants.{Method, Raw}
@@ -24,7 +25,9 @@ use Rattle.amqp_session.specs.Decider.{Speech, Usage, Shut, InUse, Left, OpenSai
 use Rattle.amqp_session.specs.Legal.{IsPassedThrough}
 use Rattle.amqp_session.proofs.Truths.{same-number, other-number}
 use Rattle.amqp_session.proofs.Sayable.{IsComplete, say-on, say-raw}
-use Rattle.amqp_session.proofs.Numbered.{Ascend, put-same, put-other, put-ascend, without-same, without-other, without-ascend}
+use Rattle.amqp_session.specs.Sound.{AscendFrom, Ascend}
+use Rattle.amqp_session.proofs.Ascending.{put-from, without-from, at-gone, none-below}
+use Rattle.amqp_session.proofs.Numbered.{put-same, put-other, without-other}
 use Rattle.amqp_session.proofs.Ties.{replies_on, TiesState, TiesOn, TiesChannels}
 use Rattle.amqp_session.proofs.Expecting.{expected-same, expected-other, expected-ascend, first-other, first-ascend, none-awaited, one-answered}
 
@@ -37,6 +40,14 @@ Listed = List (ℕ × Channel)
 
 -- ---- what changes on one channel
 
+above-zero : (n : ℕ) → n ≢ 0 → 0 < n
+above-zero zero some = absurd (some refl)
+above-zero (suc n) some = omega arith
+
+ascends : (cs : Listed) → AscendFrom 0 (keys_of cs) → Ascend (keys_of cs)
+ascends [] h = tt
+ascends (c ∷ cs) h = h.1
+
 ties-as : (o o' : Option Channel) (rs rs' : List Reply) (u u' : Usage) → o' ≡ o → rs' ≡ rs → u' ≡ u → TiesOn o rs u → TiesOn o' rs' u'
 ties-as o o' rs rs' u u' ho hr hu h =
     let A : Option Channel → Type 0 = λ x. TiesOn x rs u in
@@ -46,8 +57,8 @@ ties-as o o' rs rs' u u' ho hr hu h =
 
 -- another channel than this one is as it was
 pub record Others (n : ℕ) (cs cs' : Listed) (ws ws' : Replies) (v v' : Speech) : Type 0 where
-  pub sorted : Ascend cs'
-  pub awaited_sorted : Ascend ws'
+  pub sorted : AscendFrom 0 (keys_of cs')
+  pub awaited_sorted : Ascend (keys_of ws')
   pub listed : (m : ℕ) → m ≢ n → at m cs' ≡ at m cs
   pub awaited : (m : ℕ) → m ≢ n → replies_on m ws' ≡ replies_on m ws
   pub used : (m : ℕ) → m ≢ n → v'.usage m ≡ v.usage m
@@ -55,13 +66,11 @@ pub record Others (n : ℕ) (cs cs' : Listed) (ws ws' : Replies) (v v' : Speech)
 on-change : (n : ℕ) (cs cs' : Listed) (ws ws' : Replies) (v v' : Speech) → n ≢ 0 → TiesChannels cs ws v → v'.stage ≡ OpenSaid → IsComplete v'.content
     → TiesOn (at n cs') (replies_on n ws') (v'.usage n) → Others n cs cs' ws ws' v v' → TiesChannels cs' ws' v'
 on-change n cs cs' ws ws' v v' some h speaking complete here others =
-    let zero_other : 0 ≢ n = λ is. some (sym is) in
     record {
       speaking = speaking;
       complete = complete;
       sorted = others.sorted;
       awaited_sorted = others.awaited_sorted;
-      none = others.listed 0 zero_other ∙ h.none;
       each = λ m.
           (let Q : ℕ → Type 0 = λ k. TiesOn (at k cs') (replies_on k ws') (v'.usage k) in
           elim (cases_eq m n) [
@@ -113,7 +122,7 @@ on-open n cs ws v number some absent h =
           (ties-as (Some c) (at n (put n c cs)) (ChannelOpened ∷ []) (replies_on n (expected n a ws)) InUse ((now_on n InUse v).usage n)
           (put-same n c cs) replies (used-same n InUse v) (refl, refl))
           (record {
-            sorted = put-ascend n c cs h.sorted;
+            sorted = put-from n c 0 cs (above-zero n some) h.sorted;
             awaited_sorted = expected-ascend n a ws h.awaited_sorted;
             listed = λ m ne. put-other m n c cs ne;
             awaited = λ m ne. expected-other m n a ws ne;
@@ -131,7 +140,7 @@ ties-of n cs ws v c s listed is h =
 
 -- a listed channel is no channel 0
 pub listed-some : (n : ℕ) (cs : Listed) (ws : Replies) (v : Speech) (c : Channel) → at n cs ≡ Some c → TiesChannels cs ws v → n ≢ 0
-listed-some n cs ws v c listed h is = clash (at 0 cs) c h.none (ap (λ k. at k cs) (sym is) ∙ listed) where
+listed-some n cs ws v c listed h is = clash (at 0 cs) c (none-below 0 cs h.sorted) (ap (λ k. at k cs) (sym is) ∙ listed) where
   clash : (o : Option Channel) (c : Channel) → o ≡ None → o ≡ Some c → ⊥
   clash o c g k = cc
 
@@ -159,7 +168,7 @@ on-close n cs ws v c code text promise listed is h =
           (ties-as (Some c') (at n (put n c' cs)) (ChannelClosed ∷ []) (replies_on n (expected n a ws)) Left ((now_on n Left v).usage n)
           (put-same n c' cs) replies (used-same n Left v) (refl, refl))
           (record {
-            sorted = put-ascend n c' cs h.sorted;
+            sorted = put-from n c' 0 cs (above-zero n some) h.sorted;
             awaited_sorted = expected-ascend n a ws h.awaited_sorted;
             listed = λ m ne. put-other m n c' cs ne;
             awaited = λ m ne. expected-other m n a ws ne;
@@ -183,7 +192,7 @@ on-send n cs ws v c method passed listed is h =
     subst Q (sym k.1) (say-raw k.0 method v passed h.speaking h.complete)) in
     record {
       may = said ∙ ap (λ u. say_use u (MethodSaid n (class_in method)) v) ties.1;
-      ties = record { speaking = h.speaking; complete = tt; sorted = h.sorted; awaited_sorted = h.awaited_sorted; none = h.none; each = h.each };
+      ties = record { speaking = h.speaking; complete = tt; sorted = h.sorted; awaited_sorted = h.awaited_sorted; each = h.each };
     }
 
 -- a listed channel changes in what does not tie it
@@ -193,7 +202,7 @@ on-same n cs ws v c c' listed is h =
     on-change n cs (put n c' cs) ws ws v v (listed-some n cs ws v c listed h) h h.speaking h.complete
     (ties-as (Some c') (at n (put n c' cs)) (replies_on n ws) (replies_on n ws) (v.usage n) (v.usage n) (put-same n c' cs) refl refl ties)
     (record {
-      sorted = put-ascend n c' cs h.sorted;
+      sorted = put-from n c' 0 cs (above-zero n (listed-some n cs ws v c listed h)) h.sorted;
       awaited_sorted = h.awaited_sorted;
       listed = λ m ne. put-other m n c' cs ne;
       awaited = λ m ne. refl;
@@ -201,7 +210,7 @@ on-same n cs ws v c c' listed is h =
     })
 
 -- what an awaited reply tells of a channel's state
-opened-state : (s : ChannelState) (n : ℕ) (ws : Replies) (u : Usage) (a : Awaited) → Ascend ws → first_awaited n ChannelOpened ws ≡ Some a → TiesState s (replies_on n ws) u
+opened-state : (s : ChannelState) (n : ℕ) (ws : Replies) (u : Usage) (a : Awaited) → Ascend (keys_of ws) → first_awaited n ChannelOpened ws ≡ Some a → TiesState s (replies_on n ws) u
     → (replies_on n (without_first n ChannelOpened ws) ≡ []) × (u ≡ InUse)
 opened-state channel.Initial n ws u a sorted first h = ((one-answered n ChannelOpened ChannelOpened ws a sorted first h.0).none, h.1)
 opened-state channel.Connected n ws u a sorted first h = absurd (none-awaited n ChannelOpened ws a first h.0)
@@ -210,7 +219,7 @@ opened-state channel.Closing n ws u a sorted first h = absurd (differ (one-answe
   differ k = cc
 opened-state _ n ws u a sorted first h = absurd h
 
-closed-state : (s : ChannelState) (n : ℕ) (ws : Replies) (u : Usage) (a : Awaited) → Ascend ws → first_awaited n ChannelClosed ws ≡ Some a → TiesState s (replies_on n ws) u
+closed-state : (s : ChannelState) (n : ℕ) (ws : Replies) (u : Usage) (a : Awaited) → Ascend (keys_of ws) → first_awaited n ChannelClosed ws ≡ Some a → TiesState s (replies_on n ws) u
     → (replies_on n (without_first n ChannelClosed ws) ≡ []) × (u ≡ Left)
 closed-state channel.Closing n ws u a sorted first h = ((one-answered n ChannelClosed ChannelClosed ws a sorted first h.0).none, h.1)
 closed-state channel.Connected n ws u a sorted first h = absurd (none-awaited n ChannelClosed ws a first h.0)
@@ -228,7 +237,7 @@ on-opened n cs ws v c a listed first h =
     on-change n cs (put n c' cs) ws ws' v v (listed-some n cs ws v c listed h) h h.speaking h.complete
     (ties-as (Some c') (at n (put n c' cs)) [] (replies_on n ws') InUse (v.usage n) (put-same n c' cs) k.0 k.1 (refl, refl))
     (record {
-      sorted = put-ascend n c' cs h.sorted;
+      sorted = put-from n c' 0 cs (above-zero n (listed-some n cs ws v c listed h)) h.sorted;
       awaited_sorted = first-ascend n ChannelOpened ws h.awaited_sorted;
       listed = λ m ne. put-other m n c' cs ne;
       awaited = λ m ne. first-other m n ChannelOpened ws ne;
@@ -241,9 +250,9 @@ on-closed n cs ws v c a listed first h =
     let ws' = without_first n ChannelClosed ws in
     let k = closed-state c.state n ws (v.usage n) a h.awaited_sorted first (ties-of n cs ws v c c.state listed refl h) in
     on-change n cs (without n cs) ws ws' v v (listed-some n cs ws v c listed h) h h.speaking h.complete
-    (ties-as None (at n (without n cs)) [] (replies_on n ws') Left (v.usage n) (without-same n cs h.sorted) k.0 k.1 (refl, left))
+    (ties-as None (at n (without n cs)) [] (replies_on n ws') Left (v.usage n) (at-gone n cs (ascends cs h.sorted)) k.0 k.1 (refl, left))
     (record {
-      sorted = without-ascend n cs h.sorted;
+      sorted = without-from n 0 cs h.sorted;
       awaited_sorted = first-ascend n ChannelClosed ws h.awaited_sorted;
       listed = λ m ne. without-other m n cs ne;
       awaited = λ m ne. first-other m n ChannelClosed ws ne;

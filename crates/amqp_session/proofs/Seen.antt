@@ -339,21 +339,3 @@ module _ (n : ℕ) (answer : Result Answer ErrorKind) (es : List (ℕ × Slot)) 
   -- one that has none gets none
   pub settle-none : at n es ≡ None → seen slot_seen es ≡ settled n answer (seen slot_seen es)
   settle-none h = sym (ap (λ o. settled_by o n answer (seen slot_seen es)) (at-seen slot_seen n es sorted ∙ ap (seen_at slot_seen) h))
-
--- ---- a number that went
-
-module _ {X : Type 0} (n : ℕ) where
-  none-above : (es : List (ℕ × X)) → Above n (keys_of es) → at n es ≡ None
-  none-above [] above = refl
-  none-above (e ∷ es) above = ap (λ r. cond (is_eq r) (Some e.1) (at n es)) above.0 ∙ none-above es above.1
-
-  gone-head : (r : Ordering) (e : ℕ × X) (es : List (ℕ × X)) → nat_cmp n e.0 ≡ r → Sorted (keys_of (e ∷ es)) → at n (without n es) ≡ None
-      → at n (cond (is_eq r) es (e ∷ without n es)) ≡ None
-  gone-head Less e es h sorted rest = ap (λ r. cond (is_eq r) (Some e.1) (at n (without n es))) h ∙ rest
-  gone-head Equal e es h sorted rest = none-above es (above-equal n e.0 (keys_of es) h (sorted_head nat_cmp e.0 (keys_of es) sorted))
-  gone-head Greater e es h sorted rest = ap (λ r. cond (is_eq r) (Some e.1) (at n (without n es))) h ∙ rest
-
-  -- a number that went is no longer there
-  pub at-gone : (es : List (ℕ × X)) → Sorted (keys_of es) → at n (without n es) ≡ None
-  at-gone [] sorted = refl
-  at-gone (e ∷ es) sorted = gone-head (nat_cmp n e.0) e es refl sorted (at-gone es (sorted_tail nat_cmp e.0 (keys_of es) sorted))

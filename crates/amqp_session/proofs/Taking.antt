@@ -1,19 +1,18 @@
 -- Answers are taken once.
 use Rattle.std.proofs.Common.{◌≡◌, ◌∙◌, ap, refl, ℕ, Bool, true, false, if◌then◌else◌, Option, Some, None, is_some}
-use Rattle.std.specs.Ordering.{nat_cmp}
-use Rattle.std.specs.List.Sorted.{IsStrictlySortedBy}
 use Rattle.std.specs.Map.{keys_of}
 use Rattle.amqp_session.specs.Listed.{without}
 use Rattle.amqp_session.specs.Talk.{Talk, end_of}
 use Rattle.amqp_session.specs.Answers.{answer_in, answer_of, take_answer}
+use Rattle.amqp_session.specs.Sound.{Ascend}
 use Rattle.amqp_session.proofs.Cases.{if-true, if-false}
-use Rattle.amqp_session.proofs.Seen.{at-gone}
+use Rattle.amqp_session.proofs.Ascending.{at-gone}
 
 none-from : {A : Type 0} (o : Option A) → is_some o ≡ false → o ≡ None
 none-from None h = refl
 none-from (Some x) h = absurd cc
 
-pub taken-once : (number : ℕ) (t : Talk) → IsStrictlySortedBy nat_cmp (keys_of t.promises) → answer_of number (take_answer number t) ≡ None
+pub taken-once : (number : ℕ) (t : Talk) → Ascend (keys_of t.promises) → answer_of number (take_answer number t) ≡ None
 taken-once number t sorted = by (is_some (answer_of number t)) refl
   where
     rest : Talk

@@ -1,5 +1,6 @@
 -- What ties a session to what was said: the frames committed on the open link, and behind them those that wait, lead to where the session is.
 use Rattle.std.specs.Prelude.{◌≡◌, ◌≢◌, ◌≤◌, ◌<◌, ◌^◌, ℕ, List, [], ◌∷◌, ◌++◌, map, Option, Some, None}
+use Rattle.std.specs.Map.{keys_of}
 use Rattle.amqp_frame.specs.declared.frame.Frame.{Frame}
 use Rattle.amqp_session.specs.declared.lanes.Item.{Item}
 use Rattle.amqp_session.specs.declared.awaiting.Awaited.{Awaited}
@@ -18,11 +19,11 @@ use Rattle.amqp_session.specs.declared.state.Input.{Input}
 use Rattle.amqp_session.specs.declared.state.Input.TheVariants.{Acting}
 use Rattle.amqp_session.specs.Talk.{Talk}
 use Rattle.amqp_session.specs.Listed.{at}
+use Rattle.amqp_session.specs.Sound.{AscendFrom, Ascend}
 use Rattle.amqp_session.specs.Replies.{awaited_on}
 use Rattle.amqp_session.specs.Legal.{amqp_header}
 use Rattle.amqp_session.specs.Decider.{Speech, Usage, InUse, Left, StartOkSaid, OpenSaid, CloseSaid, greeted, say_all}
 use Rattle.amqp_session.proofs.Sayable.{IsComplete}
-use Rattle.amqp_session.proofs.Numbered.{Ascend}
 
 -- the frames that wait
 abbrev pub frames_in : List Item → List Frame
@@ -56,9 +57,8 @@ TiesOn (Some c) replies u = TiesState c.state replies u
 pub record TiesChannels (channels : List (ℕ × Channel)) (awaited : List (ℕ × List Awaited)) (s : Speech) : Type 0 where
   pub speaking : s.stage ≡ OpenSaid
   pub complete : IsComplete s.content
-  pub sorted : Ascend channels
-  pub awaited_sorted : Ascend awaited
-  pub none : at 0 channels ≡ None
+  pub sorted : AscendFrom 0 (keys_of channels)
+  pub awaited_sorted : Ascend (keys_of awaited)
   pub each : (n : ℕ) → TiesOn (at n channels) (replies_on n awaited) (s.usage n)
 
 -- ---- the connection

@@ -17,6 +17,7 @@ use Rattle.amqp_session.specs.Frames.{on_frame}
 use Rattle.amqp_session.specs.Commands as told
 use Rattle.amqp_session.specs.Writing as writing
 use Rattle.amqp_session.specs.Answers.{take_answer, take_frames}
+use Rattle.amqp_session.specs.Sound.{IsSound}
 
 -- the states in which a session ends
 abbrev pub is_end : ConnectionState → Bool
@@ -57,3 +58,20 @@ IsAnsweredAtOnce e before after = at (next_promise before) after.promises ≡ So
 abbrev pub IsRefusal : ErrorKind → Talk → Talk → Type 0
 IsRefusal ChannelsLimitReached before after = after ≡ record (refuse ChannelsLimitReached before) { cursor = after.cursor }
 IsRefusal e before after = IsRefused e before after
+
+-- each rule leads to a sound state
+pub record StaysSound (t : Talk) : Type 0 where
+  pub moment : (at : ℕ) → IsSound (change.present_at at t)
+  pub asked : IsSound (link.asked t)
+  pub linked : IsSound (link.linked t)
+  pub link_failed : IsSound (link.link_failed t)
+  pub piece : IsSound (link.piece t)
+  pub frame : (f : Frame) (place : ℕ) → IsSound (on_frame f place t)
+  pub misread : (why : Misread) → IsSound (link.misread why t)
+  pub lost : (fault : IoFault) → IsSound (link.lost fault t)
+  pub commit : (space : ℕ) → IsSound (writing.commit space t)
+  pub taken : (n : ℕ) → IsSound (writing.taken n t)
+  pub starve : IsSound (change.starve t)
+  pub command : (cmd : Cmd) → IsSound (told.command cmd t)
+  pub answer : (number : ℕ) → IsSound (take_answer number t)
+  pub frames : (opened : ℕ) → IsSound (take_frames opened t)

@@ -23,6 +23,7 @@ pub mod Answers
 pub mod Queries
 -- What the rules keep.
 pub mod Causes
+pub mod Sound
 pub mod Laws
 -- Legal conversations, by a grammar, and decided frame by frame.
 pub mod Octets

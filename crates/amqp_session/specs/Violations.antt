@@ -6,7 +6,7 @@ use Rattle.amqp_types.specs.Codes.{kind_of}
 use Rattle.amqp_frame.specs.declared.frame.RawKind.{RawKind}
 use Rattle.amqp_frame.specs.declared.frame.RawKind.TheVariants.{RawMethod, Header, Body}
 use Rattle.amqp_frame.specs.declared.method.Method.{Method}
-use Rattle.amqp_frame.specs.declared.method.Method.TheVariants.{ChannelOpen, ChannelOpenOk, ChannelFlow, ChannelFlowOk, ChannelClose, ChannelCloseOk}
+use Rattle.amqp_frame.specs.declared.method.Method.TheVariants.{ChannelOpen, ChannelOpenOk, ChannelFlow, ChannelFlowOk, ChannelClose}
 use Rattle.amqp_session.specs.declared.error.ErrorKind.{ErrorKind}
 use Rattle.amqp_session.specs.declared.error.ErrorKind.TheVariants.{ParsingError, ProtocolError}
 use Rattle.amqp_session.specs.declared.server_close.ServerClose.{ServerClose}
@@ -53,8 +53,7 @@ method_name ChannelOpenOk = codes "open-ok"
 method_name (ChannelFlow active) = codes "flow"
 method_name (ChannelFlowOk active) = codes "flow-ok"
 method_name (ChannelClose code text class method) = codes "close"
-method_name ChannelCloseOk = codes "close-ok"
-method_name _ = codes ""
+method_name _ = codes "close-ok"
 
 -- 505, unexpected-frame: a method of the channel class that nothing awaits
 abbrev pub unawaited : Method → ℕ → ErrorKind

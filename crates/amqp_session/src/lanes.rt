@@ -3,10 +3,10 @@
 ghost use Rattle.std.specs.Prelude.{◌≡◌, ◌+◌, ◌++◌, ◌∷◌, [], ◌<◌, ◌≤◌, ◌^◌, None, drop, length, option_copied, OnOk};
 ghost use Rattle.std.specs.VecDeque.{deque_capacity};
 ghost use Rattle.amqp_session.specs.Changes.{plain};
-ghost use Rattle.amqp_session.specs.Writing.{head, is_close_ok, answers, then_of};
+ghost use Rattle.amqp_session.specs.Writing.{head, is_close_ok, then_of, mark_of};
 
-use crate::committed::Then;
-use amqp_frame::{Frame, Method};
+use crate::committed::{Mark, Then};
+use amqp_frame::{Frame, Method, encoded_len};
 use amqp_types::{ChannelId, NoMemory};
 use std::alloc::Global;
 use std::collections::VecDeque;
@@ -31,8 +31,18 @@ impl Item {
         }
     }
 
-    /// What follows once it was sent whole.
-    pub fn then(&self) -> Then
+    /// The mark of it once it is committed.
+    pub fn mark(&self) -> Mark
+        ensures { result ≡ mark_of self.now }
+    {
+        Mark {
+            left: encoded_len(&self.frame),
+            then: self.then(),
+        }
+    }
+
+    // What follows once it was sent whole.
+    fn then(&self) -> Then
         ensures { result ≡ then_of self.now }
     {
         if is_close_ok(&self.frame) {

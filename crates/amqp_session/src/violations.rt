@@ -92,8 +92,7 @@ fn method_name(method: &Method) -> &'static str
         Method::ChannelFlow(_) => "flow",
         Method::ChannelFlowOk(_) => "flow-ok",
         Method::ChannelClose(..) => "close",
-        Method::ChannelCloseOk => "close-ok",
-        _ => "",
+        _ => "close-ok",
     }
 }
 

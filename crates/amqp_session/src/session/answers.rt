@@ -1,10 +1,9 @@
 //! The answers to promises, and the frames handed out.
 
-ghost use Rattle.std.specs.Prelude.{◌≡◌, IfOk, OnErr, IsOk, IsErr};
+ghost use Rattle.std.specs.Prelude.{◌≡◌, IfOk, OnErr, IsOk};
 ghost use Rattle.amqp_session.specs.Talk.{end_of};
 ghost use Rattle.amqp_session.specs.ChannelMethods.{frames_of};
 ghost use Rattle.amqp_session.specs.Answers.{rejection, answer_of, take_frames, Takes, IsRejected, IsFailed};
-ghost use Rattle.amqp_session.specs.Parts.{ended_by};
 
 use super::Session;
 use crate::command::Answer;
@@ -68,22 +67,14 @@ impl Session {
         match &self.link {
             Link::Ended(Ok(())) => Ok(Some(Ok(()))),
             Link::Ended(Err(End::Failed(error))) => Ok(Some(Err(error.try_clone(self.alloc)?))),
-            Link::Ended(Err(End::ByServer)) => Ok(Some(self.ended_by_server()?)),
+            Link::Ended(Err(End::ByServer)) => match &self.server_close {
+                Some(ServerClose::WithError(error)) => {
+                    let copy = error.try_clone(self.alloc)?;
+                    Ok(Some(Err(ErrorKind::ProtocolError(copy).into())))
+                }
+                _ => Ok(Some(Ok(()))),
+            },
             _ => Ok(None),
-        }
-    }
-
-    // The end by the server's close.
-    fn ended_by_server(&self) -> Result<error::Result<()>, NoMemory>
-        ensures end { IfOk result (λ end. end ≡ ended_by self.now.server_close) }
-        ensures refused { OnErr result (IsErr (ended_by self.now.server_close)) }
-    {
-        match &self.server_close {
-            Some(ServerClose::WithError(error)) => {
-                let copy = error.try_clone(self.alloc)?;
-                Ok(Err(ErrorKind::ProtocolError(copy).into()))
-            }
-            _ => Ok(Ok(())),
         }
     }
 

@@ -10,7 +10,7 @@ use super::Session;
 use crate::command::Answer;
 use crate::committed::{Mark, Then};
 use crate::lanes::Item;
-use amqp_frame::{Frame, encoded_len};
+use amqp_frame::Frame;
 
 impl Session {
     /// Commits the next frame, where it is at most so many bytes long. It takes no memory.
@@ -23,10 +23,7 @@ impl Session {
             return None;
         }
         let front = self.lanes.front()?;
-        let mark = Mark {
-            left: encoded_len(&front.frame),
-            then: front.then(),
-        };
+        let mark = front.mark();
         if mark.left > space {
             return None;
         }
