@@ -25,7 +25,7 @@ module _ {X : Type 0} (n : ℕ) (v : X) where
   put-head : (r : Ordering) (m : ℕ) (e : ℕ × X) (es : List (ℕ × X)) → nat_cmp n e.0 ≡ r → m < n → AscendFrom m (keys_of (e ∷ es))
       → (e.0 < n → AscendFrom e.0 (keys_of (put n v es)))
       → AscendFrom m (keys_of (match_ordering r ((n, v) ∷ e ∷ es) ((e.0, v) ∷ es) (e ∷ put n v es)))
-  put-head Less m e es h low s rest = (low, ranked n e.0 Less h, s.1)
+  put-head Less m e es h low s rest = (low, (ranked n e.0 Less h, s.1))
   put-head Equal m e es h low s rest = s
   put-head Greater m e es h low s rest = (s.0, rest (ranked n e.0 Greater h))
 

@@ -192,7 +192,7 @@ sound-connection Connecting AwaitStart (Start a b c d e) t hs hp opened s =
       room = λ h. (let k : is_agreed Connecting AwaitTune ≡ true = subst (λ x. is_agreed x AwaitTune ≡ true) hs h in absurd cc);
     }
 sound-connection Connecting AwaitTune (Tune a b c) t hs hp opened s =
-    record { link = s.link; room = λ h. tune-room t.configuration _; listed = s.listed; promises = s.promises }
+    record { link = s.link; room = λ h. tune-room t.configuration (record { channel_max = a; frame_max = b; heartbeat = c }); listed = s.listed; promises = s.promises }
 sound-connection Connecting AwaitOpenOk OpenOk t hs hp opened s =
     let given : IsSound (give 0 (Ok AnswerConnected) t) = sound-give 0 (Ok AnswerConnected) t s in
     record {

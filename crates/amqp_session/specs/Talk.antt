@@ -8,7 +8,7 @@ use Rattle.amqp_session.specs.declared.state.Link.{Link}
 use Rattle.amqp_session.specs.declared.state.Link.TheVariants.{Wanted, Asked, Open, Ended}
 use Rattle.amqp_session.specs.declared.state.Input.{Input}
 use Rattle.amqp_session.specs.declared.state.Input.TheVariants.{Acting, Dropped}
-use Rattle.amqp_session.specs.declared.session.TheConstants.{INITIAL_CAPACITY}
+use Rattle.amqp_session.specs.declared.capacity.TheConstants.{INITIAL_CAPACITY}
 use Rattle.amqp_session.specs.declared.configuration.Configuration.{Configuration}
 use Rattle.amqp_session.specs.declared.channels.Channel.{Channel}
 use Rattle.amqp_session.specs.declared.lanes.Item.{Item}

@@ -1,9 +1,9 @@
 //! The frames that wait to be committed.
 
-ghost use Rattle.std.specs.Prelude.{◌≡◌, ◌+◌, ◌++◌, ◌∷◌, [], ◌<◌, ◌≤◌, ◌^◌, None, drop, length, option_copied, OnOk};
+ghost use Rattle.std.specs.Prelude.{◌≡◌, ◌+◌, ◌++◌, ◌∷◌, [], ◌<◌, ◌≤◌, ◌^◌, drop, length, option_copied, IfSome, IfNone, OnOk};
 ghost use Rattle.std.specs.VecDeque.{deque_capacity};
 ghost use Rattle.amqp_session.specs.Changes.{plain};
-ghost use Rattle.amqp_session.specs.Writing.{head, is_close_ok, then_of, mark_of};
+ghost use Rattle.amqp_session.specs.Writing.{head, is_close_ok, then_of, mark_of, size_of};
 
 use crate::committed::{Mark, Then};
 use amqp_frame::{Frame, Method, encoded_len};
@@ -31,14 +31,18 @@ impl Item {
         }
     }
 
-    /// The mark of it once it is committed.
-    pub fn mark(&self) -> Mark
-        ensures { result ≡ mark_of self.now }
+    /// The mark of it once it is committed, where it is at most so many bytes long.
+    pub fn mark_within(&self, space: u64) -> Option<Mark>
+        requires { space < 2 ^ 63 }
+        ensures fits { IfSome result (λ m. (m ≡ mark_of self.now) × (size_of self.now ≤ space)) }
+        ensures long { IfNone result (space < size_of self.now) }
     {
-        Mark {
-            left: encoded_len(&self.frame),
-            then: self.then(),
+        let left = encoded_len(&self.frame);
+        if left > space {
+            return None;
         }
+        let then = self.then();
+        Some(Mark { left, then })
     }
 
     // What follows once it was sent whole.

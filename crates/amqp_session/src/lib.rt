@@ -7,6 +7,7 @@
 #![tactic(auto)]
 
 mod awaiting;
+mod capacity;
 mod channels;
 mod command;
 mod committed;
@@ -26,6 +27,7 @@ mod shown;
 mod state;
 mod violations;
 
+pub use capacity::INITIAL_CAPACITY;
 pub use command::{Answer, ChanRef, Cmd};
 pub use configuration::{Configuration, tune};
 pub use error::{Error, ErrorKind, Result};
@@ -37,7 +39,7 @@ pub use laws::{
     unsent_bytes_are_counted,
 };
 pub use misread::Misread;
-pub use session::{INITIAL_CAPACITY, Session};
+pub use session::Session;
 pub use state::{ChannelState, ConnectionState};
 
 #[cfg(test)]

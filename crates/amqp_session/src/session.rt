@@ -15,6 +15,7 @@ mod queries;
 mod writing;
 
 use crate::awaiting::Awaiting;
+use crate::capacity::Capacity;
 use crate::channels::Channels;
 use crate::command::Answer;
 use crate::committed::Committed;
@@ -29,9 +30,6 @@ use amqp_types::NoMemory;
 use std::alloc::Global;
 use std::marker::Model;
 
-/// How many bytes can be unsent at the beginning.
-pub const INITIAL_CAPACITY: u64 = 131_072;
-
 /// The client's side of a connection.
 #[derive(Debug, Drop)]
 pub struct Session {
@@ -41,7 +39,7 @@ pub struct Session {
     link: Link<End>,
     input: Input,
     configuration: Configuration,
-    capacity: u64,
+    capacity: Capacity,
     channels: Channels,
     lanes: Lanes,
     committed: Committed,
@@ -73,7 +71,7 @@ impl Model for Session {
       link = link_seen s.server_close s.link;
       input = s.input;
       configuration = s.configuration;
-      capacity = s.capacity;
+      capacity = s.capacity.octets;
       channels = s.channels.listed;
       cursor = s.channels.cursor;
       control = s.lanes.control.items;
@@ -92,7 +90,7 @@ impl Model for Session {
 
     // Each frame that will be committed has its place already, and what is unsent fits the capacity.
     ghost invariant = { λ s. (length s.committed.marks.items + length s.lanes.control.items ≤ deque_capacity s.committed.marks)
-        × (left_in s.committed.marks.items ≤ s.capacity) };
+        × (left_in s.committed.marks.items ≤ s.capacity.octets) };
 }
 
 impl Session {
@@ -121,7 +119,7 @@ impl Session {
                 frame_max: 0,
                 heartbeat: 0,
             },
-            capacity: INITIAL_CAPACITY,
+            capacity: Capacity::initial(),
             channels: Channels::new(alloc),
             lanes: Lanes::new(alloc),
             committed: Committed::new(alloc),

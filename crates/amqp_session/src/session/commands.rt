@@ -200,7 +200,7 @@ impl Session {
     {
         let frame = Frame::Raw(id, RawKind::RawMethod, method.into_payload());
         let size = encoded_len(&frame);
-        if size > self.capacity {
+        if size > self.capacity.octets() {
             drop(frame);
             return self.refuse(ErrorKind::SerialisationError(size));
         }

@@ -35,8 +35,8 @@ impl Session {
         ensures { result ≡ frame_limit self.now }
     {
         match self.configuration.frame_max {
-            0 => self.capacity,
-            frame_max => self.capacity.min(frame_max as u64),
+            0 => self.capacity.octets(),
+            frame_max => self.capacity.octets().min(frame_max as u64),
         }
     }
 
@@ -112,7 +112,7 @@ impl Session {
     pub fn capacity(&self) -> u64
         ensures { result ≡ self.now.capacity }
     {
-        self.capacity
+        self.capacity.octets()
     }
 
     /// How many bytes of the committed frames are unsent.

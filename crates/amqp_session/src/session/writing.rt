@@ -22,11 +22,9 @@ impl Session {
         if !self.is_open() {
             return None;
         }
-        let front = self.lanes.front()?;
-        let mark = front.mark();
-        if mark.left > space {
-            return None;
-        }
+        // The space is within a capacity, which is small.
+        let _ = self.capacity.octets();
+        let mark = self.lanes.front()?.mark_within(space)?;
         self.committed.push(mark);
         let Item {
             channel: _,
