@@ -1,0 +1,89 @@
+//! Whole frames at a limit, and one octet past it.
+
+use crate::support::{LEAST, USUAL, are_equal, comes_back, length_octets, octets};
+use amqp_frame::{Read, read_frame};
+use std::alloc::Global;
+use std::test::Fail;
+
+// A frame of channel 1 of this type, with a payload of this front and zeros behind it.
+fn frame_of(alloc: Global, kind: u8, front: &[u8], zeros: usize) -> Result<Vec<u8>, Fail> {
+    let mut payload = Vec::new(alloc);
+    payload.extend_from_slice(front)?;
+    for _ in 0..zeros {
+        payload.push(0)?;
+    }
+    let mut bytes = Vec::new(alloc);
+    bytes.extend_from_slice(&[kind, 0, 1])?;
+    bytes.extend_from_slice(&length_octets(payload.as_slice()))?;
+    bytes.extend_from_slice(payload.as_slice())?;
+    bytes.push(0xce)?;
+    Ok(bytes)
+}
+
+// Whether a read is of a whole frame of so many octets. It takes the read.
+fn is_whole(read: Read, wanted: usize) -> bool {
+    let whole = matches!(&read, Read::Whole(_, length) if *length == wanted);
+    drop(read);
+    whole
+}
+
+// Whether a frame of these octets is whole within its own length, and too large within one less.
+fn is_held(alloc: Global, bytes: &[u8], limit: u32) -> bool {
+    let whole = is_whole(read_frame(alloc, &bytes, limit), bytes.len());
+    let size = limit.saturating_sub(8);
+    let large = read_frame(alloc, &bytes, limit.saturating_sub(1));
+    whole && are_equal(large, Read::TooLarge(size))
+}
+
+// Whether a frame of this type that is as long as the limit is held to it.
+fn ends_at(alloc: Global, kind: u8, front: &[u8], limit: u32) -> Result<bool, Fail> {
+    let zeros = (limit as usize)
+        .saturating_sub(front.len())
+        .saturating_sub(8);
+    let bytes = frame_of(alloc, kind, front, zeros)?;
+    Ok(bytes.len() == limit as usize && is_held(alloc, bytes.as_slice(), limit))
+}
+
+#[test]
+fn a_frame_as_long_as_the_limit_is_whole_and_one_octet_more_is_too_large(
+    rt: HostRuntime,
+) -> Result<(), Fail> {
+    let rows: [(&str, u8, &[u8], u32); 7] = [
+        ("a body without octets", 3, b"", 8),
+        ("a body of 4088 octets", 3, b"", LEAST),
+        ("a body of 131064 octets", 3, b"", USUAL),
+        ("a content header of 14 octets", 2, b"\x00\x3c", 22),
+        ("a content header of 4088 octets", 2, b"\x00\x3c", LEAST),
+        ("a method without arguments", 1, b"\x00\x3c\x00\x28", 12),
+        ("a method of 4088 octets", 1, b"\x00\x3c\x00\x28", LEAST),
+    ];
+    for (name, kind, front, limit) in rows {
+        assert!(rt; ends_at(rt.alloc(), kind, front, limit)?, "{name}");
+    }
+    Ok(())
+}
+
+// An open frame of a virtual host with so many octets.
+fn open_of(alloc: Global, length: u8) -> Result<Vec<u8>, Fail> {
+    let mut payload = octets(alloc, "000a0028")?;
+    payload.push(length)?;
+    for _ in 0..length {
+        payload.push(b'v')?;
+    }
+    payload.extend_from_slice(&[0, 0])?;
+    let mut bytes = Vec::new(alloc);
+    bytes.extend_from_slice(&[1, 0, 0])?;
+    bytes.extend_from_slice(&length_octets(payload.as_slice()))?;
+    bytes.extend_from_slice(payload.as_slice())?;
+    bytes.push(0xce)?;
+    Ok(bytes)
+}
+
+#[test]
+fn a_virtual_host_has_up_to_255_octets(rt: HostRuntime) -> Result<(), Fail> {
+    for length in [0, 1, 254, 255] {
+        let bytes = open_of(rt.alloc(), length)?;
+        assert!(rt; comes_back(rt.alloc(), bytes.as_slice())?, "{length}");
+    }
+    Ok(())
+}

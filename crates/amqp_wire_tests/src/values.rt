@@ -1,0 +1,382 @@
+//! Values and arrays, and tables as maps.
+
+use crate::support::{long, short};
+use amqp_types::{AMQPValue, Entry, FieldTable, NoMemory, Payload, Payload64, ShortString, Values};
+use std::alloc::Global;
+use std::test::Fail;
+
+// ---- arrays
+
+// Whether an array holds true and Void, in this order.
+fn holds_both(values: &[AMQPValue]) -> bool {
+    values.len() == 2
+        && matches!(values[0], AMQPValue::Boolean(true))
+        && matches!(values[1], AMQPValue::Void)
+}
+
+// Whether a copy of an array is equal to it.
+fn is_copied(alloc: Global, values: &Values) -> Result<bool, Fail> {
+    let copy = values.try_clone(alloc)?;
+    let same = copy == *values;
+    drop(copy);
+    Ok(same)
+}
+
+#[test]
+fn a_pushed_value_stands_last(rt: HostRuntime) -> Result<(), Fail> {
+    let mut values = Values::new(rt.alloc());
+    assert!(rt; values.is_empty());
+    values.push(AMQPValue::Boolean(true))?;
+    values.push(AMQPValue::Void)?;
+    assert_eq!(rt; values.len(), 2);
+    assert!(rt; holds_both(values.as_slice()));
+    assert!(rt; is_copied(rt.alloc(), &values)?);
+    let again = Values::from_vec(values.into_vec());
+    assert!(rt; holds_both(again.as_slice()));
+    Ok(())
+}
+
+// ---- copies
+
+// A value of each kind that owns nothing, by its place among the kinds.
+fn plain(kind: usize) -> AMQPValue {
+    match kind {
+        0 => AMQPValue::Boolean(true),
+        1 => AMQPValue::ShortShortInt(-1),
+        2 => AMQPValue::ShortShortUInt(255),
+        3 => AMQPValue::ShortInt(-2),
+        4 => AMQPValue::ShortUInt(65_535),
+        5 => AMQPValue::LongInt(-3),
+        6 => AMQPValue::LongUInt(4_294_967_295),
+        7 => AMQPValue::LongLongInt(-4),
+        8 => AMQPValue::Float([1, 2, 3, 4]),
+        9 => AMQPValue::Double([1, 2, 3, 4, 5, 6, 7, 8]),
+        10 => AMQPValue::DecimalValue(2, 314),
+        11 => AMQPValue::Timestamp(1_700_000_000),
+        _ => AMQPValue::Void,
+    }
+}
+
+// A table of one name.
+fn table_with(alloc: Global, name: &str, value: AMQPValue) -> Result<FieldTable, Fail> {
+    let name = match short(alloc, name) {
+        Ok(name) => name,
+        Err(e) => {
+            drop(value);
+            return Err(e);
+        }
+    };
+    let mut table = FieldTable::new(alloc);
+    table.insert(name, value)?;
+    Ok(table)
+}
+
+// An array of Void alone.
+fn array_of_void(alloc: Global) -> Result<Values, Fail> {
+    let mut values = Values::new(alloc);
+    values.push(AMQPValue::Void)?;
+    Ok(values)
+}
+
+// Pushes a value of each kind that owns octets or values.
+fn push_owners(alloc: Global, values: &mut Values) -> Result<(), Fail> {
+    let text = long(alloc, "xy")?;
+    values.push(AMQPValue::LongString(text))?;
+    let octets = Payload::new(alloc, &[0, 1])?;
+    values.push(AMQPValue::ByteArray(octets))?;
+    let array = array_of_void(alloc)?;
+    values.push(AMQPValue::FieldArray(array))?;
+    let table = table_with(alloc, "a", AMQPValue::Boolean(true))?;
+    values.push(AMQPValue::FieldTable(table))?;
+    Ok(())
+}
+
+// A value of each kind.
+fn each_kind(alloc: Global) -> Result<Values, Fail> {
+    let mut values = Values::new(alloc);
+    for kind in 0..13 {
+        values.push(plain(kind))?;
+    }
+    push_owners(alloc, &mut values)?;
+    Ok(values)
+}
+
+// Whether the values of two lists are equal exactly where their places are.
+fn are_equal_in_place(these: &[AMQPValue], those: &[AMQPValue]) -> bool {
+    for (this, i) in these.iter().zip(0..17) {
+        for (that, j) in those.iter().zip(0..17) {
+            if (this == that) != (i == j) {
+                return false;
+            }
+        }
+    }
+    true
+}
+
+// Whether a copy of each value is equal to it.
+fn are_copied(alloc: Global, values: &[AMQPValue]) -> Result<bool, Fail> {
+    for value in values {
+        let copy = value.try_clone(alloc)?;
+        let same = copy == *value;
+        drop(copy);
+        if !same {
+            return Ok(false);
+        }
+    }
+    Ok(true)
+}
+
+#[test]
+fn every_kind_of_value_is_copied(rt: HostRuntime) -> Result<(), Fail> {
+    let values = each_kind(rt.alloc())?;
+    assert!(rt; are_copied(rt.alloc(), values.as_slice())?);
+    let copies = values.try_clone(rt.alloc())?;
+    assert_eq!(rt; copies.len(), 17);
+    assert!(rt; are_equal_in_place(copies.as_slice(), values.as_slice()));
+    Ok(())
+}
+
+// ---- tables
+
+// Inserts a number, and gives the number that the name had.
+fn insert(table: &mut FieldTable, name: ShortString, number: u32) -> Result<Option<u32>, NoMemory> {
+    let had = table.insert(name, AMQPValue::LongUInt(number))?;
+    let number = match &had {
+        Some(AMQPValue::LongUInt(number)) => Some(*number),
+        _ => None,
+    };
+    drop(had);
+    Ok(number)
+}
+
+// The number that stands under a name.
+fn number_at(table: &FieldTable, name: &[u8]) -> Option<u32> {
+    match table.get(name) {
+        Some(AMQPValue::LongUInt(number)) => Some(*number),
+        _ => None,
+    }
+}
+
+#[test]
+fn a_name_keeps_the_value_that_was_inserted_last(rt: HostRuntime) -> Result<(), Fail> {
+    let alloc = rt.alloc();
+    let mut table = FieldTable::new(alloc);
+    assert!(rt; table.is_empty());
+    let name = short(alloc, "a")?;
+    assert!(rt; insert(&mut table, name, 1)? == None);
+    let name = short(alloc, "a")?;
+    assert!(rt; insert(&mut table, name, 2)? == Some(1));
+    assert_eq!(rt; table.len(), 1);
+    assert!(rt; number_at(&table, b"a") == Some(2));
+    assert!(rt; table.contains_key(b"a"));
+    assert!(rt; !table.contains_key(b"b"));
+    assert!(rt; number_at(&table, b"b") == None);
+    Ok(())
+}
+
+// The place of the i-th of 40 names. 7 and 40 have no common divisor, so each place comes once.
+fn place(i: u32) -> u8 {
+    (i % 40 * 7 % 40) as u8
+}
+
+// A table of 40 names of one octet.
+fn forty(alloc: Global) -> Result<FieldTable, Fail> {
+    let mut table = FieldTable::new(alloc);
+    for i in 0..40 {
+        let name = ShortString::new(alloc, &[place(i)])?;
+        insert(&mut table, name, i)?;
+    }
+    Ok(table)
+}
+
+// Whether names of one octet stand in order from 0 on.
+fn stand_in_order(entries: &[Entry]) -> bool {
+    entries.iter().zip(0..=255u8).all(|(entry, place)| entry.name.as_bytes() == [place].as_slice())
+}
+
+#[test]
+fn names_are_found_among_many(rt: HostRuntime) -> Result<(), Fail> {
+    let table = forty(rt.alloc())?;
+    assert_eq!(rt; table.len(), 40);
+    for i in 0..40 {
+        assert!(rt; number_at(&table, &[place(i)]) == Some(i), "{i}");
+    }
+    assert!(rt; stand_in_order(table.entries()));
+    assert!(rt; !table.contains_key(&[40]));
+    assert!(rt; !table.contains_key(b""));
+    Ok(())
+}
+
+// Entries of these names and numbers.
+fn entries_of(alloc: Global, pairs: &[(&str, u32)]) -> Result<Vec<Entry>, Fail> {
+    let mut entries = Vec::new(alloc);
+    for (name, number) in pairs {
+        let name = short(alloc, *name)?;
+        let value = AMQPValue::LongUInt(*number);
+        entries.push(Entry { name, value })?;
+    }
+    Ok(entries)
+}
+
+// Whether entries have these names and numbers, in this order.
+fn have(entries: &[Entry], pairs: &[(&str, u32)]) -> bool {
+    entries.len() == pairs.len()
+        && entries.iter().zip(pairs).all(|(entry, pair)| {
+            entry.name.as_bytes() == pair.0.as_bytes()
+                && matches!(entry.value, AMQPValue::LongUInt(number) if number == pair.1)
+        })
+}
+
+// Whether the table of some entries has others.
+fn has(alloc: Global, given: &[(&str, u32)], wanted: &[(&str, u32)]) -> Result<bool, Fail> {
+    let entries = entries_of(alloc, given)?;
+    let table = FieldTable::from_entries(alloc, entries)?;
+    let told = have(table.entries(), wanted);
+    drop(table);
+    Ok(told)
+}
+
+#[test]
+fn of_equal_names_the_last_counts(rt: HostRuntime) -> Result<(), Fail> {
+    let given = [("b", 1), ("c", 2), ("a", 3), ("b", 4)];
+    assert!(rt; has(rt.alloc(), &given, &[("a", 3), ("b", 4), ("c", 2)])?);
+    assert!(rt; has(rt.alloc(), &[("a", 1), ("a", 2), ("a", 3)], &[("a", 3)])?);
+    Ok(())
+}
+
+#[test]
+fn entries_in_order_are_taken_as_they_stand(rt: HostRuntime) -> Result<(), Fail> {
+    let given = [("", 1), ("a", 2), ("b", 3)];
+    assert!(rt; has(rt.alloc(), &given, &given)?);
+    Ok(())
+}
+
+// The table of a nested array under `b`, and this number under `a`.
+fn nested(alloc: Global, number: AMQPValue) -> Result<FieldTable, Fail> {
+    let mut table = table_with(alloc, "a", number)?;
+    let mut inner = Values::new(alloc);
+    inner.push(AMQPValue::Float([1, 2, 3, 4]))?;
+    let text = long(alloc, "xy")?;
+    inner.push(AMQPValue::LongString(text))?;
+    let name = short(alloc, "b")?;
+    table.insert(name, AMQPValue::FieldArray(inner))?;
+    Ok(table)
+}
+
+// Whether two tables of a nested array are equal, as tables and as values.
+fn are_equal(alloc: Global, this: AMQPValue, that: AMQPValue) -> Result<bool, Fail> {
+    let this = match nested(alloc, this) {
+        Ok(table) => table,
+        Err(e) => {
+            drop(that);
+            return Err(e);
+        }
+    };
+    let that = nested(alloc, that)?;
+    let same = this == that;
+    let value = AMQPValue::FieldTable(this);
+    let other = AMQPValue::FieldTable(that);
+    let equal = (value == other) == same && value != AMQPValue::Void;
+    drop(value);
+    drop(other);
+    Ok(same && equal)
+}
+
+#[test]
+fn nested_values_are_compared(rt: HostRuntime) -> Result<(), Fail> {
+    let alloc = rt.alloc();
+    assert!(rt; are_equal(alloc, AMQPValue::LongInt(-1), AMQPValue::LongInt(-1))?);
+    assert!(rt; !are_equal(alloc, AMQPValue::LongInt(-1), AMQPValue::LongInt(1))?);
+    assert!(rt; !are_equal(alloc, AMQPValue::LongInt(1), AMQPValue::LongUInt(1))?);
+    Ok(())
+}
+
+// Whether a copy of a table is equal to it, and is not once a value was changed.
+fn is_copied_apart(alloc: Global) -> Result<bool, Fail> {
+    let table = nested(alloc, AMQPValue::LongInt(-1))?;
+    let mut other = table.try_clone(alloc)?;
+    let same = table == other;
+    let name = short(alloc, "a")?;
+    insert(&mut other, name, 1)?;
+    Ok(same && table != other)
+}
+
+#[test]
+fn a_copy_of_a_table_is_another_table(rt: HostRuntime) -> Result<(), Fail> {
+    assert!(rt; is_copied_apart(rt.alloc())?);
+    Ok(())
+}
+
+// ---- want of memory
+
+// Whether a number was inserted under a name of one octet, or memory was refused.
+fn inserts(alloc: Global, table: &mut FieldTable, octet: u8) -> bool {
+    match ShortString::new(alloc, &[octet]) {
+        Ok(name) => insert(table, name, u32::from(octet)).is_ok(),
+        Err(_) => false,
+    }
+}
+
+// Inserts a number, once more where memory was refused, which has to leave the table as it was.
+fn insert_again(alloc: Global, table: &mut FieldTable, octet: u8) -> Result<bool, Fail> {
+    let had = table.len();
+    let kept = inserts(alloc, table, octet)
+        || table.len() == had && !table.contains_key(&[octet]) && inserts(alloc, table, octet);
+    Ok(kept && number_at(table, &[octet]) == Some(u32::from(octet)))
+}
+
+// To be run with each allocation failing in turn: what was refused once is tried again.
+#[test]
+fn a_refused_insertion_changes_nothing(rt: HostRuntime) -> Result<(), Fail> {
+    let alloc = rt.alloc();
+    let mut table = FieldTable::new(alloc);
+    for octet in 0..5 {
+        assert!(rt; insert_again(alloc, &mut table, octet)?);
+    }
+    assert_eq!(rt; table.len(), 5);
+    Ok(())
+}
+
+// Pushes a value, once more where memory was refused, which has to leave the array as it was.
+fn push_again(values: &mut Values, octet: u8) -> Result<bool, Fail> {
+    let had = values.len();
+    if values.push(AMQPValue::ShortShortUInt(octet)).is_err() {
+        if values.len() != had {
+            return Ok(false);
+        }
+        values.push(AMQPValue::ShortShortUInt(octet))?;
+    }
+    Ok(values.len() == had + 1)
+}
+
+#[test]
+fn a_refused_push_changes_nothing(rt: HostRuntime) -> Result<(), Fail> {
+    let mut values = Values::new(rt.alloc());
+    for octet in 0..5 {
+        assert!(rt; push_again(&mut values, octet)?);
+    }
+    Ok(())
+}
+
+// Reserves a place, once more where memory was refused, which has to leave the list as it was.
+fn reserve_again(numbers: &mut Payload64, number: u64) -> Result<bool, Fail> {
+    let had = numbers.len();
+    if numbers.reserve().is_err() {
+        if numbers.len() != had {
+            return Ok(false);
+        }
+        numbers.reserve()?;
+    }
+    numbers.push(number);
+    Ok(true)
+}
+
+#[test]
+fn a_refused_place_changes_nothing(rt: HostRuntime) -> Result<(), Fail> {
+    let mut numbers = Payload64::empty(rt.alloc());
+    for number in 0..5 {
+        assert!(rt; reserve_again(&mut numbers, number)?);
+    }
+    assert!(rt; numbers.as_slice() == [0, 1, 2, 3, 4].as_slice());
+    Ok(())
+}
