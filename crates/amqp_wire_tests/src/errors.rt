@@ -17,37 +17,43 @@ fn kind_of(alloc: Global, code: ReplyCode) -> Result<Option<AMQPErrorKind>, Fail
     Ok(kind)
 }
 
-// Whether the error of a code closes this.
-fn closes(alloc: Global, code: ReplyCode, wanted: Option<AMQPErrorKind>) -> Result<bool, Fail> {
-    Ok(kind_of(alloc, code)? == wanted)
-}
+/// Seven codes close a channel, eleven the connection, and any other is without error.
+const CODES: [(Option<AMQPErrorKind>, &[ReplyCode]); 3] = [
+    (
+        Some(AMQPErrorKind::Soft),
+        &[311, 312, 313, 403, 404, 405, 406],
+    ),
+    (
+        Some(AMQPErrorKind::Hard),
+        &[320, 402, 501, 502, 503, 504, 505, 506, 530, 540, 541],
+    ),
+    (
+        None,
+        &[0, 200, 310, 314, 321, 401, 407, 500, 507, 531, 542, 65535],
+    ),
+];
 
-#[test]
-fn seven_codes_close_a_channel(rt: HostRuntime) -> Result<(), Fail> {
-    for code in [311, 312, 313, 403, 404, 405, 406] {
-        assert!(rt;
-            closes(rt.alloc(), code, Some(AMQPErrorKind::Soft))?,
-            "{code}"
-        );
+// The first code whose error closes another thing than this.
+fn first_other(
+    alloc: Global,
+    codes: &[ReplyCode],
+    wanted: Option<AMQPErrorKind>,
+) -> Result<Option<ReplyCode>, Fail> {
+    for code in codes {
+        if kind_of(alloc, *code)? != wanted {
+            return Ok(Some(*code));
+        }
     }
-    Ok(())
+    Ok(None)
 }
 
 #[test]
-fn eleven_codes_close_the_connection(rt: HostRuntime) -> Result<(), Fail> {
-    for code in [320, 402, 501, 502, 503, 504, 505, 506, 530, 540, 541] {
+fn codes_close_a_channel_or_the_connection_or_nothing(rt: HostRuntime) -> Result<(), Fail> {
+    for (wanted, codes) in CODES {
         assert!(rt;
-            closes(rt.alloc(), code, Some(AMQPErrorKind::Hard))?,
-            "{code}"
+            first_other(rt.alloc(), codes, wanted)? == None,
+            "{wanted:?}"
         );
-    }
-    Ok(())
-}
-
-#[test]
-fn other_codes_are_without_error(rt: HostRuntime) -> Result<(), Fail> {
-    for code in [0, 200, 310, 314, 321, 401, 407, 500, 507, 531, 542, 65535] {
-        assert!(rt; closes(rt.alloc(), code, None)?, "{code}");
     }
     Ok(())
 }
@@ -91,20 +97,31 @@ fn are_equal(alloc: Global, code: ReplyCode, this: &str, that: &str) -> Result<b
 
 #[test]
 fn an_error_keeps_its_code_and_message(rt: HostRuntime) -> Result<(), Fail> {
-    let alloc = rt.alloc();
-    assert!(rt; keeps(alloc, 404, "no queue")?);
-    assert!(rt; keeps(alloc, 541, "")?);
-    assert!(rt; are_equal(alloc, 404, "no queue", "no queue")?);
-    assert!(rt; !are_equal(alloc, 404, "no queue", "no exchange")?);
+    for (code, message) in [(404, "no queue"), (541, "")] {
+        assert!(rt; keeps(rt.alloc(), code, message)?, "{code}");
+    }
+    Ok(())
+}
+
+#[test]
+fn errors_are_equal_by_their_messages(rt: HostRuntime) -> Result<(), Fail> {
+    for (message, same) in [("no queue", true), ("no exchange", false)] {
+        assert!(rt;
+            are_equal(rt.alloc(), 404, "no queue", message)? == same,
+            "{message}"
+        );
+    }
     Ok(())
 }
 
 #[test]
 fn the_version_is_0_9_1(rt: HostRuntime) -> Result<(), Fail> {
-    let version = ProtocolVersion::amqp_0_9_1();
-    assert_eq!(rt; version.major, 0);
-    assert_eq!(rt; version.minor, 9);
-    assert_eq!(rt; version.revision, 1);
+    let version = ProtocolVersion {
+        major: 0,
+        minor: 9,
+        revision: 1,
+    };
+    assert!(rt; ProtocolVersion::amqp_0_9_1() == version);
     Ok(())
 }
 

@@ -1,23 +1,15 @@
 //! Whole frames at a limit, and one octet past it.
 
-use crate::support::{LEAST, USUAL, are_equal, comes_back, length_octets, octets};
+use crate::support::{LEAST, USUAL, are_equal, comes_back, framed, joined};
 use amqp_frame::{Read, read_frame};
 use std::alloc::Global;
 use std::test::Fail;
 
 // A frame of channel 1 of this type, with a payload of this front and zeros behind it.
 fn frame_of(alloc: Global, kind: u8, front: &[u8], zeros: usize) -> Result<Vec<u8>, Fail> {
-    let mut payload = Vec::new(alloc);
-    payload.extend_from_slice(front)?;
-    for _ in 0..zeros {
-        payload.push(0)?;
-    }
-    let mut bytes = Vec::new(alloc);
-    bytes.extend_from_slice(&[kind, 0, 1])?;
-    bytes.extend_from_slice(&length_octets(payload.as_slice()))?;
-    bytes.extend_from_slice(payload.as_slice())?;
-    bytes.push(0xce)?;
-    Ok(bytes)
+    let zeros = vec![in alloc; 0; zeros]?;
+    let payload = joined(alloc, &[front, zeros.as_slice()])?;
+    framed(alloc, kind, 1, payload.as_slice())
 }
 
 // Whether a read is of a whole frame of so many octets. It takes the read.
@@ -65,18 +57,10 @@ fn a_frame_as_long_as_the_limit_is_whole_and_one_octet_more_is_too_large(
 
 // An open frame of a virtual host with so many octets.
 fn open_of(alloc: Global, length: u8) -> Result<Vec<u8>, Fail> {
-    let mut payload = octets(alloc, "000a0028")?;
-    payload.push(length)?;
-    for _ in 0..length {
-        payload.push(b'v')?;
-    }
-    payload.extend_from_slice(&[0, 0])?;
-    let mut bytes = Vec::new(alloc);
-    bytes.extend_from_slice(&[1, 0, 0])?;
-    bytes.extend_from_slice(&length_octets(payload.as_slice()))?;
-    bytes.extend_from_slice(payload.as_slice())?;
-    bytes.push(0xce)?;
-    Ok(bytes)
+    let host = vec![in alloc; b'v'; length as usize]?;
+    let parts: [&[u8]; 4] = [b"\x00\x0a\x00\x28", &[length], host.as_slice(), b"\x00\x00"];
+    let payload = joined(alloc, &parts)?;
+    framed(alloc, 1, 0, payload.as_slice())
 }
 
 #[test]

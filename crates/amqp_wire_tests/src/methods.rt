@@ -3,9 +3,7 @@
 use crate::support::{long, octets, short, spells};
 use amqp_frame::{Frame, Method};
 use amqp_types::{AMQPValue, FieldTable};
-use amqp_vectors::{
-    CHANNEL_CLOSE_406_1, CLOSE_540, SECRET, START, START_OK, TUNE_OK, octets as said,
-};
+use amqp_vectors::{CHANNEL_CLOSE_406_1, CLOSE_540, SECRET, START, TUNE_OK, octets as said};
 use std::alloc::Global;
 use std::test::Fail;
 
@@ -101,8 +99,6 @@ fn start_ok(alloc: Global) -> Result<Frame, Fail> {
 fn start_ok_has_its_four_fields(rt: HostRuntime) -> Result<(), Fail> {
     let frame = start_ok(rt.alloc())?;
     assert!(rt; spells(rt.alloc(), said::START_OK, frame)?);
-    let bytes = octets(rt.alloc(), START_OK)?;
-    assert_eq!(rt; bytes.len(), 315);
     Ok(())
 }
 
@@ -127,6 +123,11 @@ fn numbers_of_a_tune_ok_are_told_apart(rt: HostRuntime) -> Result<(), Fail> {
 fn class_and_method_of_a_close_are_told_apart(rt: HostRuntime) -> Result<(), Fail> {
     let text = short(rt.alloc(), "NO")?;
     assert!(rt; is_method(rt.alloc(), CLOSE_540, 0, Method::Close(540, text, 60, 40))?);
+    Ok(())
+}
+
+#[test]
+fn class_and_method_of_a_channels_close_are_told_apart(rt: HostRuntime) -> Result<(), Fail> {
     let text = short(rt.alloc(), "NO")?;
     let close = Method::ChannelClose(406, text, 60, 40);
     assert!(rt; is_method(rt.alloc(), CHANNEL_CLOSE_406_1, 1, close)?);

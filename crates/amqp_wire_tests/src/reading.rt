@@ -1,6 +1,6 @@
 //! What stands at the front of octets.
 
-use crate::support::{USUAL, comes_back, octets};
+use crate::support::{USUAL, comes_back, joined, octets};
 use amqp_frame::{Frame, Read, read_frame};
 use amqp_vectors::*;
 use std::alloc::Global;
@@ -82,7 +82,6 @@ fn each_front_of_a_frame_asks_for_more(rt: HostRuntime) -> Result<(), Fail> {
     for (name, text) in FRAMES {
         assert!(rt; asks_for_more(rt.alloc(), text)?, "{name}");
     }
-    assert!(rt; asks_for_more(rt.alloc(), RABBITMQ_START)?);
     Ok(())
 }
 
@@ -121,9 +120,9 @@ fn each_method_has_its_class_and_number(rt: HostRuntime) -> Result<(), Fail> {
 
 // How many octets are used of a frame with another behind it.
 fn used_of_two(alloc: Global, first: &str, second: &str) -> Result<Option<usize>, Fail> {
-    let mut bytes = octets(alloc, first)?;
-    let behind = octets(alloc, second)?;
-    bytes.extend_from_slice(behind.as_slice())?;
+    let first = octets(alloc, first)?;
+    let second = octets(alloc, second)?;
+    let bytes = joined(alloc, &[first.as_slice(), second.as_slice()])?;
     let read = read_frame(alloc, &bytes.as_slice(), USUAL);
     let used = match &read {
         Read::Whole(_, used) => Some(*used),
@@ -135,8 +134,16 @@ fn used_of_two(alloc: Global, first: &str, second: &str) -> Result<Option<usize>
 
 #[test]
 fn what_follows_a_frame_is_left(rt: HostRuntime) -> Result<(), Fail> {
-    assert!(rt; used_of_two(rt.alloc(), START, TUNE)? == Some(105));
-    assert!(rt; used_of_two(rt.alloc(), RABBITMQ_START, HEARTBEAT)? == Some(509));
-    assert!(rt; used_of_two(rt.alloc(), BODY_1, "00")? == Some(11));
+    let rows = [
+        (START, TUNE, 105),
+        (RABBITMQ_START, HEARTBEAT, 509),
+        (BODY_1, "00", 11),
+    ];
+    for (first, second, used) in rows {
+        assert!(rt;
+            used_of_two(rt.alloc(), first, second)? == Some(used),
+            "{first}"
+        );
+    }
     Ok(())
 }

@@ -32,10 +32,10 @@ fn is_short(alloc: Global, octets: &[u8]) -> Result<bool, Fail> {
 
 #[test]
 fn a_short_string_holds_255_octets(rt: HostRuntime) -> Result<(), Fail> {
-    let octets = [7u8; 255];
-    assert!(rt; is_short(rt.alloc(), b"")?);
-    assert!(rt; is_short(rt.alloc(), b"\x00\xff")?);
-    assert!(rt; is_short(rt.alloc(), &octets)?);
+    let rows: [&[u8]; 3] = [b"", b"\x00\xff", &[7; 255]];
+    for octets in rows {
+        assert!(rt; is_short(rt.alloc(), octets)?, "{octets:?}");
+    }
     Ok(())
 }
 
@@ -53,8 +53,13 @@ fn fault_of_short(alloc: Global, octets: &[u8]) -> Option<TypeFault> {
 #[test]
 fn a_short_string_of_256_octets_is_too_long(rt: HostRuntime) -> Result<(), Fail> {
     let octets = [7u8; 300];
-    assert!(rt; fault_of_short(rt.alloc(), &octets[..256]) == Some(TypeFault::TooLong(256)));
-    assert!(rt; fault_of_short(rt.alloc(), &octets) == Some(TypeFault::TooLong(300)));
+    for length in [256, 300] {
+        let fault = fault_of_short(rt.alloc(), &octets[..length]);
+        assert!(rt;
+            fault == Some(TypeFault::TooLong(length as u64)),
+            "{length}"
+        );
+    }
     Ok(())
 }
 
@@ -103,35 +108,53 @@ fn are_equal(alloc: Global, this: &[u8], that: &[u8]) -> Result<bool, Fail> {
 
 #[test]
 fn a_long_string_holds_its_octets(rt: HostRuntime) -> Result<(), Fail> {
-    let octets = [7u8; 300];
-    assert!(rt; is_long(rt.alloc(), b"")?);
-    assert!(rt; is_long(rt.alloc(), b"xy")?);
-    assert!(rt; is_long(rt.alloc(), &octets)?);
-    assert!(rt; are_equal(rt.alloc(), b"xy", b"xy")?);
-    assert!(rt; !are_equal(rt.alloc(), b"xy", b"xz")?);
+    let rows: [&[u8]; 3] = [b"", b"xy", &[7; 300]];
+    for octets in rows {
+        assert!(rt; is_long(rt.alloc(), octets)?, "{octets:?}");
+    }
+    Ok(())
+}
+
+#[test]
+fn long_strings_are_equal_by_their_octets(rt: HostRuntime) -> Result<(), Fail> {
+    let rows: [(&[u8], bool); 3] = [(b"xy", true), (b"xz", false), (b"x", false)];
+    for (octets, same) in rows {
+        assert!(rt; are_equal(rt.alloc(), b"xy", octets)? == same, "{octets:?}");
+    }
     Ok(())
 }
 
 // ---- texts
 
-// Whether two texts are equal, and the first reads as given and has an equal copy.
-fn reads_as(alloc: Global, this: &str, that: &str) -> Result<bool, Fail> {
-    let text = Text::new(alloc, this)?;
+// Whether a text reads as given, and a copy of it is equal.
+fn reads_as_given(alloc: Global, given: &str) -> Result<bool, Fail> {
+    let text = Text::new(alloc, given)?;
     let copy = text.try_clone()?;
-    let kept = text == copy && text.as_str() == this;
+    let same = text == copy && text.as_str() == given;
     drop(copy);
-    let other = Text::new(alloc, that)?;
-    let same = text == other;
-    drop(other);
     drop(text);
-    Ok(kept && same)
+    Ok(same)
+}
+
+// Whether two texts are equal.
+fn are_equal_texts(alloc: Global, this: &str, that: &str) -> Result<bool, Fail> {
+    let this = Text::new(alloc, this)?;
+    let that = Text::new(alloc, that)?;
+    let same = this == that;
+    drop(this);
+    drop(that);
+    Ok(same)
 }
 
 #[test]
 fn a_text_reads_as_given(rt: HostRuntime) -> Result<(), Fail> {
-    assert!(rt; reads_as(rt.alloc(), "a", "a")?);
-    assert!(rt; reads_as(rt.alloc(), "", "")?);
-    assert!(rt; !reads_as(rt.alloc(), "a", "b")?);
+    for given in ["", "a"] {
+        assert!(rt; reads_as_given(rt.alloc(), given)?, "{given}");
+        assert!(rt;
+            are_equal_texts(rt.alloc(), given, "b")? == (given == "b"),
+            "{given}"
+        );
+    }
     Ok(())
 }
 
@@ -161,10 +184,14 @@ fn is_the_empty_one(alloc: Global, octets: &[u8]) -> Result<bool, Fail> {
 
 #[test]
 fn a_payload_holds_its_octets(rt: HostRuntime) -> Result<(), Fail> {
-    assert!(rt; is_payload(rt.alloc(), &[1, 2])?);
-    assert!(rt; is_payload(rt.alloc(), &[])?);
-    assert!(rt; is_the_empty_one(rt.alloc(), &[])?);
-    assert!(rt; !is_the_empty_one(rt.alloc(), &[1, 2])?);
+    let rows: [&[u8]; 2] = [b"", b"\x01\x02"];
+    for octets in rows {
+        assert!(rt; is_payload(rt.alloc(), octets)?, "{octets:?}");
+        assert!(rt;
+            is_the_empty_one(rt.alloc(), octets)? == octets.is_empty(),
+            "{octets:?}"
+        );
+    }
     Ok(())
 }
 
@@ -200,9 +227,9 @@ fn has_squares(alloc: Global, numbers: &mut Payload64, count: usize) -> Result<b
 #[test]
 fn many_numbers_are_pushed(rt: HostRuntime) -> Result<(), Fail> {
     let mut numbers = Payload64::empty(rt.alloc());
-    assert!(rt; numbers.is_empty());
+    let empty = numbers.is_empty();
     push_squares(&mut numbers, 1000)?;
-    assert!(rt; has_squares(rt.alloc(), &mut numbers, 1000)?);
+    assert!(rt; empty && has_squares(rt.alloc(), &mut numbers, 1000)?);
     Ok(())
 }
 

@@ -133,7 +133,30 @@ pub fn spells(alloc: Global, bytes: &[u8], frame: Frame) -> Result<bool, Fail> {
     Ok(spelled && written)
 }
 
+/// These octets one after another.
+pub fn joined(alloc: Global, parts: &[&[u8]]) -> Result<Vec<u8>, Fail> {
+    let mut bytes = Vec::new(alloc);
+    for part in parts {
+        bytes.extend_from_slice(*part)?;
+    }
+    Ok(bytes)
+}
+
 /// Four octets of a length.
 pub fn length_octets(bytes: &[u8]) -> [u8; 4] {
     u32::try_from(bytes.len()).unwrap_or(0).to_be_bytes()
+}
+
+/// A frame of a type octet, a channel and a payload.
+pub fn framed(alloc: Global, kind: u8, channel: u8, payload: &[u8]) -> Result<Vec<u8>, Fail> {
+    let front = [kind, 0, channel];
+    joined(
+        alloc,
+        &[
+            front.as_slice(),
+            length_octets(payload).as_slice(),
+            payload,
+            b"\xce",
+        ],
+    )
 }

@@ -1,6 +1,6 @@
 //! Tables as they stand in frames: how deep, and how they are found again.
 
-use crate::support::{LEAST, comes_back, length_octets, octets, stands_at};
+use crate::support::{LEAST, comes_back, framed, joined, length_octets, octets, stands_at};
 use amqp_frame::{Frame, Method, Read, read_frame};
 use amqp_types::{AMQPValue, FieldTable};
 use amqp_vectors::RABBITMQ_START;
@@ -71,26 +71,17 @@ fn the_properties_of_rabbitmq_are_found(rt: HostRuntime) -> Result<(), Fail> {
 
 // A start frame whose table has this body.
 fn start_with(alloc: Global, body: &[u8]) -> Result<Vec<u8>, Fail> {
-    let mut payload = Vec::new(alloc);
-    payload.extend_from_slice(&[0, 10, 0, 10, 0, 9])?;
-    payload.extend_from_slice(&length_octets(body))?;
-    payload.extend_from_slice(body)?;
-    payload.extend_from_slice(&[0; 8])?;
-    let mut bytes = Vec::new(alloc);
-    bytes.extend_from_slice(&[1, 0, 0])?;
-    bytes.extend_from_slice(&length_octets(payload.as_slice()))?;
-    bytes.extend_from_slice(payload.as_slice())?;
-    bytes.push(0xce)?;
-    Ok(bytes)
+    let numbers: &[u8] = b"\x00\x0a\x00\x0a\x00\x09";
+    let payload = joined(
+        alloc,
+        &[numbers, length_octets(body).as_slice(), body, &[0; 8]],
+    )?;
+    framed(alloc, 1, 0, payload.as_slice())
 }
 
 // These octets, and behind them a length and a body.
 fn sized(alloc: Global, front: &[u8], body: &[u8]) -> Result<Vec<u8>, Fail> {
-    let mut bytes = Vec::new(alloc);
-    bytes.extend_from_slice(front)?;
-    bytes.extend_from_slice(&length_octets(body))?;
-    bytes.extend_from_slice(body)?;
-    Ok(bytes)
+    joined(alloc, &[front, length_octets(body).as_slice(), body])
 }
 
 /// The name `a` and the tag of a table.
@@ -126,41 +117,56 @@ fn is_no_table(alloc: Global, body: &[u8]) -> Result<bool, Fail> {
     Ok(stands_at(alloc, bytes.as_slice(), LEAST, Read::Bad))
 }
 
-#[test]
-fn tables_stand_128_deep_and_no_deeper(rt: HostRuntime) -> Result<(), Fail> {
-    let deepest = tables(rt.alloc(), 128)?;
-    assert!(rt; table_comes_back(rt.alloc(), deepest.as_slice())?);
-    let deeper = tables(rt.alloc(), 129)?;
-    assert!(rt; is_no_table(rt.alloc(), deeper.as_slice())?);
-    Ok(())
+/// What stands one inside another.
+#[derive(Clone, Copy)]
+enum Nest {
+    Tables,
+    Arrays,
+}
+
+// The body of a table in which they stand so deep.
+fn body_of(alloc: Global, nest: Nest, depth: usize) -> Result<Vec<u8>, Fail> {
+    match nest {
+        Nest::Tables => tables(alloc, depth),
+        Nest::Arrays => arrays(alloc, depth),
+    }
+}
+
+// Whether they stand 128 deep, and no deeper.
+fn stand_128_deep(alloc: Global, nest: Nest) -> Result<bool, Fail> {
+    let deepest = body_of(alloc, nest, 128)?;
+    let whole = table_comes_back(alloc, deepest.as_slice())?;
+    let deeper = body_of(alloc, nest, 129)?;
+    Ok(whole && is_no_table(alloc, deeper.as_slice())?)
 }
 
 #[test]
-fn arrays_stand_128_deep_and_no_deeper(rt: HostRuntime) -> Result<(), Fail> {
-    let deepest = arrays(rt.alloc(), 128)?;
-    assert!(rt; table_comes_back(rt.alloc(), deepest.as_slice())?);
-    let deeper = arrays(rt.alloc(), 129)?;
-    assert!(rt; is_no_table(rt.alloc(), deeper.as_slice())?);
+fn tables_and_arrays_stand_128_deep_and_no_deeper(rt: HostRuntime) -> Result<(), Fail> {
+    for (name, nest) in [("tables", Nest::Tables), ("arrays", Nest::Arrays)] {
+        assert!(rt; stand_128_deep(rt.alloc(), nest)?, "{name}");
+    }
     Ok(())
 }
 
 // Whether a table is none whose last pair overrides the one pair of this body.
 fn is_none_when_overridden(alloc: Global, body: &[u8]) -> Result<bool, Fail> {
-    let mut pairs = Vec::new(alloc);
-    pairs.extend_from_slice(body)?;
-    pairs.extend_from_slice(b"\x01aV")?;
+    let pairs = joined(alloc, &[body, b"\x01aV"])?;
     is_no_table(alloc, pairs.as_slice())
+}
+
+// Whether they are no table so deep, though a later pair overrides them.
+fn is_none_so_deep(alloc: Global, nest: Nest, depth: usize) -> Result<bool, Fail> {
+    let body = body_of(alloc, nest, depth)?;
+    is_none_when_overridden(alloc, body.as_slice())
 }
 
 #[test]
 fn what_is_too_deep_is_no_table_though_a_later_pair_overrides_it(
     rt: HostRuntime,
 ) -> Result<(), Fail> {
-    let deepest = tables(rt.alloc(), 128)?;
-    assert!(rt; !is_none_when_overridden(rt.alloc(), deepest.as_slice())?);
-    let deeper = tables(rt.alloc(), 129)?;
-    assert!(rt; is_none_when_overridden(rt.alloc(), deeper.as_slice())?);
-    let deeper = arrays(rt.alloc(), 129)?;
-    assert!(rt; is_none_when_overridden(rt.alloc(), deeper.as_slice())?);
+    for (name, nest) in [("tables", Nest::Tables), ("arrays", Nest::Arrays)] {
+        assert!(rt; is_none_so_deep(rt.alloc(), nest, 129)?, "{name}");
+    }
+    assert!(rt; !is_none_so_deep(rt.alloc(), Nest::Tables, 128)?);
     Ok(())
 }
