@@ -22,14 +22,14 @@ fn body_of(alloc: Global, size: u32) -> Option<Frame> {
 }
 
 // Writes a frame that is no longer than the room, which is cleared where it has too little space.
-fn put_again(frame: &Frame, length: usize, room: &mut FixedRoom) -> u64
+fn put_again(frame: &Frame, octets: u64, room: &mut FixedRoom) -> u64
     requires { length (encoding frame.now) ≤ 4294967295 }
 {
-    if room.space() < length {
+    if (room.space() as u64) < octets {
         room.clear();
     }
     match write_frame(frame, room) {
-        Ok(()) => length as u64,
+        Ok(()) => octets,
         Err(_) => 0,
     }
 }
@@ -42,7 +42,7 @@ fn write_again(frame: &Frame, room: &mut FixedRoom, count: u64) -> u64 {
     }
     let mut octets = 0u64;
     for _ in 0..count {
-        octets = octets.saturating_add(put_again(frame, length as usize, room));
+        octets = octets.saturating_add(put_again(frame, length, room));
     }
     octets
 }

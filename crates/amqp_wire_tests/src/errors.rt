@@ -1,12 +1,11 @@
 //! The errors of codes, the version, and the fixed texts.
 
 use crate::support::short;
-use amqp_types::{AMQPError, AMQPErrorKind, ProtocolVersion, ReplyCode, Word};
+use amqp_types::{AMQPError, AMQPErrorKind, ProtocolVersion, ReplyCode, TypeFault, Word};
 use std::alloc::Global;
-use std::test::Fail;
 
 // What the error of a code closes; none for a code without error.
-fn kind_of(alloc: Global, code: ReplyCode) -> Result<Option<AMQPErrorKind>, Fail> {
+fn kind_of(alloc: Global, code: ReplyCode) -> Result<Option<AMQPErrorKind>, TypeFault> {
     let text = short(alloc, "why")?;
     let error = AMQPError::from_code(code, text)?;
     let kind = match &error {
@@ -38,7 +37,7 @@ fn first_other(
     alloc: Global,
     codes: &[ReplyCode],
     wanted: Option<AMQPErrorKind>,
-) -> Result<Option<ReplyCode>, Fail> {
+) -> Result<Option<ReplyCode>, TypeFault> {
     for code in codes {
         if kind_of(alloc, *code)? != wanted {
             return Ok(Some(*code));
@@ -48,7 +47,7 @@ fn first_other(
 }
 
 #[test]
-fn codes_close_a_channel_or_the_connection_or_nothing(rt: HostRuntime) -> Result<(), Fail> {
+fn codes_close_a_channel_or_the_connection_or_nothing(rt: HostRuntime) -> Result<(), TypeFault> {
     for (wanted, codes) in CODES {
         assert!(rt;
             first_other(rt.alloc(), codes, wanted)? == None,
@@ -64,7 +63,7 @@ fn is_error(
     error: &AMQPError,
     code: ReplyCode,
     message: &str,
-) -> Result<bool, Fail> {
+) -> Result<bool, TypeFault> {
     let copy = error.try_clone(alloc)?;
     let same = copy == *error;
     drop(copy);
@@ -72,7 +71,7 @@ fn is_error(
 }
 
 // Whether the error of a code keeps it and its message.
-fn keeps(alloc: Global, code: ReplyCode, message: &str) -> Result<bool, Fail> {
+fn keeps(alloc: Global, code: ReplyCode, message: &str) -> Result<bool, TypeFault> {
     let text = short(alloc, message)?;
     let error = AMQPError::from_code(code, text)?;
     let told = match &error {
@@ -84,7 +83,7 @@ fn keeps(alloc: Global, code: ReplyCode, message: &str) -> Result<bool, Fail> {
 }
 
 // Whether the errors of a code with two messages are equal.
-fn are_equal(alloc: Global, code: ReplyCode, this: &str, that: &str) -> Result<bool, Fail> {
+fn are_equal(alloc: Global, code: ReplyCode, this: &str, that: &str) -> Result<bool, TypeFault> {
     let this = short(alloc, this)?;
     let that = short(alloc, that)?;
     let this = AMQPError::from_code(code, this)?;
@@ -96,7 +95,7 @@ fn are_equal(alloc: Global, code: ReplyCode, this: &str, that: &str) -> Result<b
 }
 
 #[test]
-fn an_error_keeps_its_code_and_message(rt: HostRuntime) -> Result<(), Fail> {
+fn an_error_keeps_its_code_and_message(rt: HostRuntime) -> Result<(), TypeFault> {
     for (code, message) in [(404, "no queue"), (541, "")] {
         assert!(rt; keeps(rt.alloc(), code, message)?, "{code}");
     }
@@ -104,7 +103,7 @@ fn an_error_keeps_its_code_and_message(rt: HostRuntime) -> Result<(), Fail> {
 }
 
 #[test]
-fn errors_are_equal_by_their_messages(rt: HostRuntime) -> Result<(), Fail> {
+fn errors_are_equal_by_their_messages(rt: HostRuntime) -> Result<(), TypeFault> {
     for (message, same) in [("no queue", true), ("no exchange", false)] {
         assert!(rt;
             are_equal(rt.alloc(), 404, "no queue", message)? == same,
@@ -115,7 +114,7 @@ fn errors_are_equal_by_their_messages(rt: HostRuntime) -> Result<(), Fail> {
 }
 
 #[test]
-fn the_version_is_0_9_1(rt: HostRuntime) -> Result<(), Fail> {
+fn the_version_is_0_9_1(rt: HostRuntime) -> Result<(), TypeFault> {
     let version = ProtocolVersion {
         major: 0,
         minor: 9,
@@ -125,27 +124,29 @@ fn the_version_is_0_9_1(rt: HostRuntime) -> Result<(), Fail> {
     Ok(())
 }
 
+/// The fixed texts.
+const WORDS: [(Word, &str); 16] = [
+    (Word::FrameMax, "frame_max"),
+    (Word::ChannelMax, "channel_max"),
+    (Word::Heartbeat, "heartbeat"),
+    (Word::ChannelClose, "channel.close"),
+    (Word::ChannelCloseOkSent, "channel.close-ok sent"),
+    (Word::ChannelCloseOkReceived, "channel.close-ok received"),
+    (Word::ChannelFlow, "channel.flow"),
+    (Word::Send, "send"),
+    (Word::Publish, "publish"),
+    (Word::NotAnAmqpUri, "not an AMQP URI"),
+    (Word::AmqpsIsNotSupported, "amqps is not supported"),
+    (Word::VirtualHostTooLong, "virtual host too long"),
+    (Word::BadNumberInUri, "bad number in URI"),
+    (Word::BadMechanismInUri, "bad mechanism in URI"),
+    (Word::NoLoop, "no loop"),
+    (Word::NoUriGiven, "No AMQPUri given to ConnectionBuilder"),
+];
+
 #[test]
-fn words_have_their_texts(rt: HostRuntime) -> Result<(), Fail> {
-    let texts = [
-        (Word::FrameMax, "frame_max"),
-        (Word::ChannelMax, "channel_max"),
-        (Word::Heartbeat, "heartbeat"),
-        (Word::ChannelClose, "channel.close"),
-        (Word::ChannelCloseOkSent, "channel.close-ok sent"),
-        (Word::ChannelCloseOkReceived, "channel.close-ok received"),
-        (Word::ChannelFlow, "channel.flow"),
-        (Word::Send, "send"),
-        (Word::Publish, "publish"),
-        (Word::NotAnAmqpUri, "not an AMQP URI"),
-        (Word::AmqpsIsNotSupported, "amqps is not supported"),
-        (Word::VirtualHostTooLong, "virtual host too long"),
-        (Word::BadNumberInUri, "bad number in URI"),
-        (Word::BadMechanismInUri, "bad mechanism in URI"),
-        (Word::NoLoop, "no loop"),
-        (Word::NoUriGiven, "No AMQPUri given to ConnectionBuilder"),
-    ];
-    for (word, text) in texts {
+fn words_have_their_texts(rt: HostRuntime) -> Result<(), TypeFault> {
+    for (word, text) in WORDS {
         assert!(rt; word.text() == text, "{text}");
     }
     Ok(())

@@ -2,13 +2,17 @@
 
 use crate::support::{long, octets, short, spells};
 use amqp_frame::{Frame, Method};
-use amqp_types::{AMQPValue, FieldTable};
+use amqp_types::{AMQPValue, FieldTable, NoMemory, TypeFault};
 use amqp_vectors::{CHANNEL_CLOSE_406_1, CLOSE_540, SECRET, START, TUNE_OK, octets as said};
 use std::alloc::Global;
-use std::test::Fail;
 
 // Inserts a value that takes no memory of its own.
-fn set(alloc: Global, table: &mut FieldTable, name: &str, value: AMQPValue) -> Result<(), Fail> {
+fn set(
+    alloc: Global,
+    table: &mut FieldTable,
+    name: &str,
+    value: AMQPValue,
+) -> Result<(), TypeFault> {
     match short(alloc, name) {
         Ok(name) => {
             table.insert(name, value)?;
@@ -22,13 +26,18 @@ fn set(alloc: Global, table: &mut FieldTable, name: &str, value: AMQPValue) -> R
 }
 
 // Inserts a long string.
-fn set_text(alloc: Global, table: &mut FieldTable, name: &str, text: &str) -> Result<(), Fail> {
+fn set_text(
+    alloc: Global,
+    table: &mut FieldTable,
+    name: &str,
+    text: &str,
+) -> Result<(), TypeFault> {
     let text = long(alloc, text)?;
     set(alloc, table, name, AMQPValue::LongString(text))
 }
 
 // A table of names that are all true.
-fn capabilities(alloc: Global, names: &[&str]) -> Result<FieldTable, Fail> {
+fn capabilities(alloc: Global, names: &[&str]) -> Result<FieldTable, TypeFault> {
     let mut table = FieldTable::new(alloc);
     for name in names {
         set(alloc, &mut table, *name, AMQPValue::Boolean(true))?;
@@ -37,7 +46,11 @@ fn capabilities(alloc: Global, names: &[&str]) -> Result<FieldTable, Fail> {
 }
 
 // Properties with these capabilities and these texts.
-fn properties(alloc: Global, names: &[&str], texts: &[(&str, &str)]) -> Result<FieldTable, Fail> {
+fn properties(
+    alloc: Global,
+    names: &[&str],
+    texts: &[(&str, &str)],
+) -> Result<FieldTable, TypeFault> {
     let mut table = FieldTable::new(alloc);
     let capabilities = capabilities(alloc, names)?;
     set(
@@ -53,7 +66,7 @@ fn properties(alloc: Global, names: &[&str], texts: &[(&str, &str)]) -> Result<F
 }
 
 // The frame that `START` spells.
-fn start(alloc: Global) -> Result<Frame, Fail> {
+fn start(alloc: Global) -> Result<Frame, TypeFault> {
     let mechanisms = long(alloc, "PLAIN AMQPLAIN")?;
     let locales = long(alloc, "en_US")?;
     let properties = properties(alloc, &["publisher_confirms"], &[("product", "RabbitMQ")])?;
@@ -61,7 +74,7 @@ fn start(alloc: Global) -> Result<Frame, Fail> {
 }
 
 #[test]
-fn start_has_its_five_fields(rt: HostRuntime) -> Result<(), Fail> {
+fn start_has_its_five_fields(rt: HostRuntime) -> Result<(), TypeFault> {
     let bytes = octets(rt.alloc(), START)?;
     let frame = start(rt.alloc())?;
     assert!(rt; spells(rt.alloc(), bytes.as_slice(), frame)?);
@@ -82,7 +95,7 @@ const CAPABILITIES: [&str; 9] = [
 ];
 
 // The frame that `START_OK` spells.
-fn start_ok(alloc: Global) -> Result<Frame, Fail> {
+fn start_ok(alloc: Global) -> Result<Frame, TypeFault> {
     let mechanism = short(alloc, "PLAIN")?;
     let response = long(alloc, "\0guest\0guest")?;
     let locale = short(alloc, "en_US")?;
@@ -96,14 +109,14 @@ fn start_ok(alloc: Global) -> Result<Frame, Fail> {
 }
 
 #[test]
-fn start_ok_has_its_four_fields(rt: HostRuntime) -> Result<(), Fail> {
+fn start_ok_has_its_four_fields(rt: HostRuntime) -> Result<(), TypeFault> {
     let frame = start_ok(rt.alloc())?;
     assert!(rt; spells(rt.alloc(), said::START_OK, frame)?);
     Ok(())
 }
 
 // Whether a text spells this one method, and it is written so.
-fn is_method(alloc: Global, text: &str, channel: u16, method: Method) -> Result<bool, Fail> {
+fn is_method(alloc: Global, text: &str, channel: u16, method: Method) -> Result<bool, NoMemory> {
     match octets(alloc, text) {
         Ok(bytes) => spells(alloc, bytes.as_slice(), Frame::Method(channel, method)),
         Err(e) => {
@@ -114,20 +127,20 @@ fn is_method(alloc: Global, text: &str, channel: u16, method: Method) -> Result<
 }
 
 #[test]
-fn numbers_of_a_tune_ok_are_told_apart(rt: HostRuntime) -> Result<(), Fail> {
+fn numbers_of_a_tune_ok_are_told_apart(rt: HostRuntime) -> Result<(), TypeFault> {
     assert!(rt; is_method(rt.alloc(), TUNE_OK, 0, Method::TuneOk(2047, 131_072, 60))?);
     Ok(())
 }
 
 #[test]
-fn class_and_method_of_a_close_are_told_apart(rt: HostRuntime) -> Result<(), Fail> {
+fn class_and_method_of_a_close_are_told_apart(rt: HostRuntime) -> Result<(), TypeFault> {
     let text = short(rt.alloc(), "NO")?;
     assert!(rt; is_method(rt.alloc(), CLOSE_540, 0, Method::Close(540, text, 60, 40))?);
     Ok(())
 }
 
 #[test]
-fn class_and_method_of_a_channels_close_are_told_apart(rt: HostRuntime) -> Result<(), Fail> {
+fn class_and_method_of_a_channels_close_are_told_apart(rt: HostRuntime) -> Result<(), TypeFault> {
     let text = short(rt.alloc(), "NO")?;
     let close = Method::ChannelClose(406, text, 60, 40);
     assert!(rt; is_method(rt.alloc(), CHANNEL_CLOSE_406_1, 1, close)?);
@@ -135,7 +148,7 @@ fn class_and_method_of_a_channels_close_are_told_apart(rt: HostRuntime) -> Resul
 }
 
 #[test]
-fn secret_and_reason_are_told_apart(rt: HostRuntime) -> Result<(), Fail> {
+fn secret_and_reason_are_told_apart(rt: HostRuntime) -> Result<(), TypeFault> {
     let secret = long(rt.alloc(), "my new valid token")?;
     let reason = short(rt.alloc(), "Automatic periodical refresh")?;
     assert!(rt; is_method(rt.alloc(), SECRET, 0, Method::UpdateSecret(secret, reason))?);

@@ -2,9 +2,9 @@
 
 use crate::support::{USUAL, comes_back, joined, octets};
 use amqp_frame::{Frame, Read, read_frame};
+use amqp_types::NoMemory;
 use amqp_vectors::*;
 use std::alloc::Global;
-use std::test::Fail;
 
 /// Frames of brokers and of clients, each the written spelling of what it spells.
 const FRAMES: [(&str, &str); 36] = [
@@ -47,13 +47,13 @@ const FRAMES: [(&str, &str); 36] = [
 ];
 
 // Whether the frame of a text comes back, and has an equal copy.
-fn text_comes_back(alloc: Global, text: &str) -> Result<bool, Fail> {
+fn text_comes_back(alloc: Global, text: &str) -> Result<bool, NoMemory> {
     let bytes = octets(alloc, text)?;
     comes_back(alloc, bytes.as_slice())
 }
 
 #[test]
-fn each_frame_comes_back(rt: HostRuntime) -> Result<(), Fail> {
+fn each_frame_comes_back(rt: HostRuntime) -> Result<(), NoMemory> {
     for (name, text) in FRAMES {
         assert!(rt; text_comes_back(rt.alloc(), text)?, "{name}");
     }
@@ -67,7 +67,7 @@ fn is_more(read: Read) -> bool {
 }
 
 // Whether each proper front of a text's octets asks for more.
-fn asks_for_more(alloc: Global, text: &str) -> Result<bool, Fail> {
+fn asks_for_more(alloc: Global, text: &str) -> Result<bool, NoMemory> {
     let bytes = octets(alloc, text)?;
     for end in 0..bytes.len() {
         if !is_more(read_frame(alloc, &&bytes[..end], USUAL)) {
@@ -78,7 +78,7 @@ fn asks_for_more(alloc: Global, text: &str) -> Result<bool, Fail> {
 }
 
 #[test]
-fn each_front_of_a_frame_asks_for_more(rt: HostRuntime) -> Result<(), Fail> {
+fn each_front_of_a_frame_asks_for_more(rt: HostRuntime) -> Result<(), NoMemory> {
     for (name, text) in FRAMES {
         assert!(rt; asks_for_more(rt.alloc(), text)?, "{name}");
     }
@@ -99,7 +99,7 @@ fn numbers_in(read: &Read) -> Option<[u8; 4]> {
 
 // Whether the octets are no method of the connection or of a channel, or one whose class and number
 // are those that stand in its payload.
-fn has_its_numbers(alloc: Global, text: &str) -> Result<bool, Fail> {
+fn has_its_numbers(alloc: Global, text: &str) -> Result<bool, NoMemory> {
     let bytes = octets(alloc, text)?;
     let read = read_frame(alloc, &bytes.as_slice(), USUAL);
     let told = match numbers_in(&read) {
@@ -111,7 +111,7 @@ fn has_its_numbers(alloc: Global, text: &str) -> Result<bool, Fail> {
 }
 
 #[test]
-fn each_method_has_its_class_and_number(rt: HostRuntime) -> Result<(), Fail> {
+fn each_method_has_its_class_and_number(rt: HostRuntime) -> Result<(), NoMemory> {
     for (name, text) in FRAMES {
         assert!(rt; has_its_numbers(rt.alloc(), text)?, "{name}");
     }
@@ -119,7 +119,7 @@ fn each_method_has_its_class_and_number(rt: HostRuntime) -> Result<(), Fail> {
 }
 
 // How many octets are used of a frame with another behind it.
-fn used_of_two(alloc: Global, first: &str, second: &str) -> Result<Option<usize>, Fail> {
+fn used_of_two(alloc: Global, first: &str, second: &str) -> Result<Option<usize>, NoMemory> {
     let first = octets(alloc, first)?;
     let second = octets(alloc, second)?;
     let bytes = joined(alloc, &[first.as_slice(), second.as_slice()])?;
@@ -133,7 +133,7 @@ fn used_of_two(alloc: Global, first: &str, second: &str) -> Result<Option<usize>
 }
 
 #[test]
-fn what_follows_a_frame_is_left(rt: HostRuntime) -> Result<(), Fail> {
+fn what_follows_a_frame_is_left(rt: HostRuntime) -> Result<(), NoMemory> {
     let rows = [
         (START, TUNE, 105),
         (RABBITMQ_START, HEARTBEAT, 509),

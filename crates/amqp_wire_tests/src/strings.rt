@@ -2,12 +2,11 @@
 
 use amqp_types::{LongString, Payload, Payload64, ShortString, Text, TypeFault};
 use std::alloc::Global;
-use std::test::Fail;
 
 // ---- short strings
 
 // Whether a string has these octets, and an equal copy.
-fn holds(alloc: Global, string: &ShortString, octets: &[u8]) -> Result<bool, Fail> {
+fn holds(alloc: Global, string: &ShortString, octets: &[u8]) -> Result<bool, TypeFault> {
     let copy = string.try_clone(alloc)?;
     let same = copy == *string;
     drop(copy);
@@ -23,7 +22,7 @@ fn is_made_again(string: ShortString, octets: &[u8]) -> bool {
 }
 
 // Whether a short string of these octets holds them.
-fn is_short(alloc: Global, octets: &[u8]) -> Result<bool, Fail> {
+fn is_short(alloc: Global, octets: &[u8]) -> Result<bool, TypeFault> {
     let string = ShortString::new(alloc, octets)?;
     let told = holds(alloc, &string, octets);
     let again = is_made_again(string, octets);
@@ -31,7 +30,7 @@ fn is_short(alloc: Global, octets: &[u8]) -> Result<bool, Fail> {
 }
 
 #[test]
-fn a_short_string_holds_255_octets(rt: HostRuntime) -> Result<(), Fail> {
+fn a_short_string_holds_255_octets(rt: HostRuntime) -> Result<(), TypeFault> {
     let rows: [&[u8]; 3] = [b"", b"\x00\xff", &[7; 255]];
     for octets in rows {
         assert!(rt; is_short(rt.alloc(), octets)?, "{octets:?}");
@@ -51,7 +50,7 @@ fn fault_of_short(alloc: Global, octets: &[u8]) -> Option<TypeFault> {
 }
 
 #[test]
-fn a_short_string_of_256_octets_is_too_long(rt: HostRuntime) -> Result<(), Fail> {
+fn a_short_string_of_256_octets_is_too_long(rt: HostRuntime) -> Result<(), TypeFault> {
     let octets = [7u8; 300];
     for length in [256, 300] {
         let fault = fault_of_short(rt.alloc(), &octets[..length]);
@@ -64,7 +63,7 @@ fn a_short_string_of_256_octets_is_too_long(rt: HostRuntime) -> Result<(), Fail>
 }
 
 // Whether one string is below another, and so not equal to it.
-fn is_below(alloc: Global, this: &[u8], next: &[u8]) -> Result<bool, Fail> {
+fn is_below(alloc: Global, this: &[u8], next: &[u8]) -> Result<bool, TypeFault> {
     let this = ShortString::new(alloc, this)?;
     let next = ShortString::new(alloc, next)?;
     let below = this < next && next > this && this != next;
@@ -74,7 +73,7 @@ fn is_below(alloc: Global, this: &[u8], next: &[u8]) -> Result<bool, Fail> {
 }
 
 #[test]
-fn short_strings_are_in_byte_order(rt: HostRuntime) -> Result<(), Fail> {
+fn short_strings_are_in_byte_order(rt: HostRuntime) -> Result<(), TypeFault> {
     let ordered: [&[u8]; 6] = [b"", b"Z", b"a", b"ab", b"b", b"\xff"];
     for i in 1..ordered.len() {
         assert!(rt; is_below(rt.alloc(), ordered[i - 1], ordered[i])?, "{i}");
@@ -85,7 +84,7 @@ fn short_strings_are_in_byte_order(rt: HostRuntime) -> Result<(), Fail> {
 // ---- long strings
 
 // Whether a long string of these octets holds them, and has an equal copy.
-fn is_long(alloc: Global, octets: &[u8]) -> Result<bool, Fail> {
+fn is_long(alloc: Global, octets: &[u8]) -> Result<bool, TypeFault> {
     let string = LongString::new(alloc, octets)?;
     let copy = string.try_clone(alloc)?;
     let same = copy == string && string.as_bytes() == octets && string.len() == octets.len();
@@ -97,7 +96,7 @@ fn is_long(alloc: Global, octets: &[u8]) -> Result<bool, Fail> {
 }
 
 // Whether two long strings are equal.
-fn are_equal(alloc: Global, this: &[u8], that: &[u8]) -> Result<bool, Fail> {
+fn are_equal(alloc: Global, this: &[u8], that: &[u8]) -> Result<bool, TypeFault> {
     let this = LongString::new(alloc, this)?;
     let that = LongString::new(alloc, that)?;
     let same = this == that;
@@ -107,7 +106,7 @@ fn are_equal(alloc: Global, this: &[u8], that: &[u8]) -> Result<bool, Fail> {
 }
 
 #[test]
-fn a_long_string_holds_its_octets(rt: HostRuntime) -> Result<(), Fail> {
+fn a_long_string_holds_its_octets(rt: HostRuntime) -> Result<(), TypeFault> {
     let rows: [&[u8]; 3] = [b"", b"xy", &[7; 300]];
     for octets in rows {
         assert!(rt; is_long(rt.alloc(), octets)?, "{octets:?}");
@@ -116,7 +115,7 @@ fn a_long_string_holds_its_octets(rt: HostRuntime) -> Result<(), Fail> {
 }
 
 #[test]
-fn long_strings_are_equal_by_their_octets(rt: HostRuntime) -> Result<(), Fail> {
+fn long_strings_are_equal_by_their_octets(rt: HostRuntime) -> Result<(), TypeFault> {
     let rows: [(&[u8], bool); 3] = [(b"xy", true), (b"xz", false), (b"x", false)];
     for (octets, same) in rows {
         assert!(rt; are_equal(rt.alloc(), b"xy", octets)? == same, "{octets:?}");
@@ -127,7 +126,7 @@ fn long_strings_are_equal_by_their_octets(rt: HostRuntime) -> Result<(), Fail> {
 // ---- texts
 
 // Whether a text reads as given, and a copy of it is equal.
-fn reads_as_given(alloc: Global, given: &str) -> Result<bool, Fail> {
+fn reads_as_given(alloc: Global, given: &str) -> Result<bool, TypeFault> {
     let text = Text::new(alloc, given)?;
     let copy = text.try_clone()?;
     let same = text == copy && text.as_str() == given;
@@ -137,7 +136,7 @@ fn reads_as_given(alloc: Global, given: &str) -> Result<bool, Fail> {
 }
 
 // Whether two texts are equal.
-fn are_equal_texts(alloc: Global, this: &str, that: &str) -> Result<bool, Fail> {
+fn are_equal_texts(alloc: Global, this: &str, that: &str) -> Result<bool, TypeFault> {
     let this = Text::new(alloc, this)?;
     let that = Text::new(alloc, that)?;
     let same = this == that;
@@ -147,7 +146,7 @@ fn are_equal_texts(alloc: Global, this: &str, that: &str) -> Result<bool, Fail> 
 }
 
 #[test]
-fn a_text_reads_as_given(rt: HostRuntime) -> Result<(), Fail> {
+fn a_text_reads_as_given(rt: HostRuntime) -> Result<(), TypeFault> {
     for given in ["", "a"] {
         assert!(rt; reads_as_given(rt.alloc(), given)?, "{given}");
         assert!(rt;
@@ -161,7 +160,7 @@ fn a_text_reads_as_given(rt: HostRuntime) -> Result<(), Fail> {
 // ---- payloads
 
 // Whether a payload of these octets holds them, and has an equal copy.
-fn is_payload(alloc: Global, octets: &[u8]) -> Result<bool, Fail> {
+fn is_payload(alloc: Global, octets: &[u8]) -> Result<bool, TypeFault> {
     let payload = Payload::new(alloc, octets)?;
     let copy = payload.try_clone(alloc)?;
     let same = copy == payload && payload.as_bytes() == octets && payload.len() == octets.len();
@@ -173,7 +172,7 @@ fn is_payload(alloc: Global, octets: &[u8]) -> Result<bool, Fail> {
 }
 
 // Whether a payload of these octets is the empty one.
-fn is_the_empty_one(alloc: Global, octets: &[u8]) -> Result<bool, Fail> {
+fn is_the_empty_one(alloc: Global, octets: &[u8]) -> Result<bool, TypeFault> {
     let payload = Payload::new(alloc, octets)?;
     let empty = Payload::empty(alloc);
     let same = payload == empty && empty.is_empty();
@@ -183,7 +182,7 @@ fn is_the_empty_one(alloc: Global, octets: &[u8]) -> Result<bool, Fail> {
 }
 
 #[test]
-fn a_payload_holds_its_octets(rt: HostRuntime) -> Result<(), Fail> {
+fn a_payload_holds_its_octets(rt: HostRuntime) -> Result<(), TypeFault> {
     let rows: [&[u8]; 2] = [b"", b"\x01\x02"];
     for octets in rows {
         assert!(rt; is_payload(rt.alloc(), octets)?, "{octets:?}");
@@ -198,7 +197,7 @@ fn a_payload_holds_its_octets(rt: HostRuntime) -> Result<(), Fail> {
 // ---- lists of numbers
 
 // Pushes the squares of the numbers below this one.
-fn push_squares(numbers: &mut Payload64, below: u64) -> Result<(), Fail> {
+fn push_squares(numbers: &mut Payload64, below: u64) -> Result<(), TypeFault> {
     for i in 0..below {
         numbers.reserve()?;
         numbers.push(i.wrapping_mul(i));
@@ -215,7 +214,7 @@ fn are_squares(numbers: &[u64]) -> bool {
 }
 
 // Whether a list has as many squares, and an equal copy, also once a place is reserved.
-fn has_squares(alloc: Global, numbers: &mut Payload64, count: usize) -> Result<bool, Fail> {
+fn has_squares(alloc: Global, numbers: &mut Payload64, count: usize) -> Result<bool, TypeFault> {
     let copy = numbers.try_clone(alloc)?;
     let same = *numbers == copy;
     numbers.reserve()?;
@@ -225,7 +224,7 @@ fn has_squares(alloc: Global, numbers: &mut Payload64, count: usize) -> Result<b
 }
 
 #[test]
-fn many_numbers_are_pushed(rt: HostRuntime) -> Result<(), Fail> {
+fn many_numbers_are_pushed(rt: HostRuntime) -> Result<(), TypeFault> {
     let mut numbers = Payload64::empty(rt.alloc());
     let empty = numbers.is_empty();
     push_squares(&mut numbers, 1000)?;
@@ -234,7 +233,7 @@ fn many_numbers_are_pushed(rt: HostRuntime) -> Result<(), Fail> {
 }
 
 // Whether the list of three numbers holds them, also once they are moved out and in.
-fn holds_three(alloc: Global, three: &[u64]) -> Result<bool, Fail> {
+fn holds_three(alloc: Global, three: &[u64]) -> Result<bool, TypeFault> {
     let numbers = Payload64::new(alloc, three)?;
     let held = numbers.as_slice() == three;
     let again = Payload64::from_vec(numbers.into_vec());
@@ -246,7 +245,7 @@ fn holds_three(alloc: Global, three: &[u64]) -> Result<bool, Fail> {
 }
 
 #[test]
-fn a_list_of_numbers_holds_them(rt: HostRuntime) -> Result<(), Fail> {
+fn a_list_of_numbers_holds_them(rt: HostRuntime) -> Result<(), TypeFault> {
     assert!(rt; holds_three(rt.alloc(), &[0, 1, 4])?);
     Ok(())
 }

@@ -3,10 +3,9 @@
 //! A frame is let go by a call of `drop`, and never where a scope ends or a `?` returns: at such a
 //! place the check goes through each variant of the frame, which takes it some 5 seconds.
 
-use amqp_frame::{FixedRoom, Frame, Full, Read, encoded_len, read_frame, write_frame};
-use amqp_types::{LongString, ShortString};
+use amqp_frame::{FixedRoom, Frame, Read, encoded_len, read_frame, write_frame};
+use amqp_types::{LongString, NoMemory, ShortString, TypeFault};
 use std::alloc::Global;
-use std::test::Fail;
 
 /// The least limit of a frame that a client may ask for.
 pub const LEAST: u32 = 4096;
@@ -24,7 +23,7 @@ fn digit(byte: u8) -> Option<u8> {
 }
 
 /// The octets of a text in hexadecimal.
-pub fn octets(alloc: Global, text: &str) -> Result<Vec<u8>, Fail> {
+pub fn octets(alloc: Global, text: &str) -> Result<Vec<u8>, NoMemory> {
     let mut bytes = Vec::new(alloc);
     let mut high: Option<u8> = None;
     for byte in text.as_bytes() {
@@ -42,13 +41,13 @@ pub fn octets(alloc: Global, text: &str) -> Result<Vec<u8>, Fail> {
 }
 
 /// A short string of a text.
-pub fn short(alloc: Global, text: &str) -> Result<ShortString, Fail> {
-    Ok(ShortString::new(alloc, text.as_bytes())?)
+pub fn short(alloc: Global, text: &str) -> Result<ShortString, TypeFault> {
+    ShortString::new(alloc, text.as_bytes())
 }
 
 /// A long string of a text.
-pub fn long(alloc: Global, text: &str) -> Result<LongString, Fail> {
-    Ok(LongString::new(alloc, text.as_bytes())?)
+pub fn long(alloc: Global, text: &str) -> Result<LongString, TypeFault> {
+    LongString::new(alloc, text.as_bytes())
 }
 
 /// Whether two answers are equal. It takes both.
@@ -64,27 +63,18 @@ pub fn stands_at(alloc: Global, bytes: &[u8], limit: u32, wanted: Read) -> bool 
     are_equal(read_frame(alloc, &bytes, limit), wanted)
 }
 
-/// The written spelling of a frame.
-pub fn spelling_of(alloc: Global, frame: &Frame) -> Result<Vec<u8>, Fail> {
+/// Whether a frame is written as these octets, and is as long as they are.
+pub fn is_written(alloc: Global, frame: &Frame, bytes: &[u8]) -> Result<bool, NoMemory> {
     let length = encoded_len(frame);
-    if length > 4_294_967_295 {
-        return Err("too long")?;
+    if length > 4_294_967_295 || length != bytes.len() as u64 {
+        return Ok(false);
     }
-    let mut room = FixedRoom::new(alloc, length as usize)?;
-    match write_frame(frame, &mut room) {
-        Ok(()) => Ok(room.into_vec()),
-        Err(Full) => Err("full")?,
-    }
-}
-
-/// Whether a frame is written as these octets.
-pub fn is_written(alloc: Global, frame: &Frame, bytes: &[u8]) -> Result<bool, Fail> {
-    let written = spelling_of(alloc, frame)?;
-    Ok(written.as_slice() == bytes)
+    let mut room = FixedRoom::new(alloc, bytes.len())?;
+    Ok(write_frame(frame, &mut room).is_ok() && room.as_slice() == bytes)
 }
 
 // Whether a copy of the frame is equal to it.
-fn is_copied(alloc: Global, frame: &Frame) -> Result<bool, Fail> {
+fn is_copied(alloc: Global, frame: &Frame) -> Result<bool, NoMemory> {
     let copy = frame.try_clone(alloc)?;
     let same = copy == *frame;
     drop(copy);
@@ -93,7 +83,7 @@ fn is_copied(alloc: Global, frame: &Frame) -> Result<bool, Fail> {
 
 // Whether what was read is a frame of all the octets, whose written spelling they are, and whose
 // copy is equal.
-fn is_kept(alloc: Global, read: &Read, bytes: &[u8]) -> Result<bool, Fail> {
+fn is_kept(alloc: Global, read: &Read, bytes: &[u8]) -> Result<bool, NoMemory> {
     match read {
         Read::Whole(frame, length) => {
             if *length != bytes.len() || !is_copied(alloc, frame)? {
@@ -106,7 +96,7 @@ fn is_kept(alloc: Global, read: &Read, bytes: &[u8]) -> Result<bool, Fail> {
 }
 
 /// Whether octets are one frame, whose written spelling they are, and whose copy is equal.
-pub fn comes_back(alloc: Global, bytes: &[u8]) -> Result<bool, Fail> {
+pub fn comes_back(alloc: Global, bytes: &[u8]) -> Result<bool, NoMemory> {
     let read = read_frame(alloc, &bytes, USUAL);
     let told = is_kept(alloc, &read, bytes);
     drop(read);
@@ -125,7 +115,7 @@ fn is_spelled_by(alloc: Global, bytes: &[u8], frame: &Frame) -> bool {
 }
 
 /// Whether octets spell this one frame, and the frame is written as they stand. It takes the frame.
-pub fn spells(alloc: Global, bytes: &[u8], frame: Frame) -> Result<bool, Fail> {
+pub fn spells(alloc: Global, bytes: &[u8], frame: Frame) -> Result<bool, NoMemory> {
     let spelled = is_spelled_by(alloc, bytes, &frame);
     let told = is_written(alloc, &frame, bytes);
     drop(frame);
@@ -134,7 +124,7 @@ pub fn spells(alloc: Global, bytes: &[u8], frame: Frame) -> Result<bool, Fail> {
 }
 
 /// These octets one after another.
-pub fn joined(alloc: Global, parts: &[&[u8]]) -> Result<Vec<u8>, Fail> {
+pub fn joined(alloc: Global, parts: &[&[u8]]) -> Result<Vec<u8>, NoMemory> {
     let mut bytes = Vec::new(alloc);
     for part in parts {
         bytes.extend_from_slice(*part)?;
@@ -148,7 +138,7 @@ pub fn length_octets(bytes: &[u8]) -> [u8; 4] {
 }
 
 /// A frame of a type octet, a channel and a payload.
-pub fn framed(alloc: Global, kind: u8, channel: u8, payload: &[u8]) -> Result<Vec<u8>, Fail> {
+pub fn framed(alloc: Global, kind: u8, channel: u8, payload: &[u8]) -> Result<Vec<u8>, NoMemory> {
     let front = [kind, 0, channel];
     joined(
         alloc,

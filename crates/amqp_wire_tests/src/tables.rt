@@ -2,10 +2,9 @@
 
 use crate::support::{LEAST, comes_back, framed, joined, length_octets, octets, stands_at};
 use amqp_frame::{Frame, Method, Read, read_frame};
-use amqp_types::{AMQPValue, FieldTable};
+use amqp_types::{AMQPValue, FieldTable, NoMemory};
 use amqp_vectors::RABBITMQ_START;
 use std::alloc::Global;
-use std::test::Fail;
 
 // ---- a start frame of RabbitMQ
 
@@ -58,7 +57,7 @@ fn are_of_rabbitmq(properties: &FieldTable) -> bool {
 }
 
 #[test]
-fn the_properties_of_rabbitmq_are_found(rt: HostRuntime) -> Result<(), Fail> {
+fn the_properties_of_rabbitmq_are_found(rt: HostRuntime) -> Result<(), NoMemory> {
     let bytes = octets(rt.alloc(), RABBITMQ_START)?;
     let read = read_frame(rt.alloc(), &bytes.as_slice(), LEAST);
     let told = properties_in(&read, 509).is_some_and(are_of_rabbitmq);
@@ -70,7 +69,7 @@ fn the_properties_of_rabbitmq_are_found(rt: HostRuntime) -> Result<(), Fail> {
 // ---- depth
 
 // A start frame whose table has this body.
-fn start_with(alloc: Global, body: &[u8]) -> Result<Vec<u8>, Fail> {
+fn start_with(alloc: Global, body: &[u8]) -> Result<Vec<u8>, NoMemory> {
     let numbers: &[u8] = b"\x00\x0a\x00\x0a\x00\x09";
     let payload = joined(
         alloc,
@@ -80,7 +79,7 @@ fn start_with(alloc: Global, body: &[u8]) -> Result<Vec<u8>, Fail> {
 }
 
 // These octets, and behind them a length and a body.
-fn sized(alloc: Global, front: &[u8], body: &[u8]) -> Result<Vec<u8>, Fail> {
+fn sized(alloc: Global, front: &[u8], body: &[u8]) -> Result<Vec<u8>, NoMemory> {
     joined(alloc, &[front, length_octets(body).as_slice(), body])
 }
 
@@ -88,7 +87,7 @@ fn sized(alloc: Global, front: &[u8], body: &[u8]) -> Result<Vec<u8>, Fail> {
 const TABLE: &[u8] = b"\x01aF";
 
 // The body of a table that holds tables one inside another under the name `a`, so many in all.
-fn tables(alloc: Global, depth: usize) -> Result<Vec<u8>, Fail> {
+fn tables(alloc: Global, depth: usize) -> Result<Vec<u8>, NoMemory> {
     let mut body = Vec::new(alloc);
     for _ in 1..depth {
         body = sized(alloc, TABLE, body.as_slice())?;
@@ -97,7 +96,7 @@ fn tables(alloc: Global, depth: usize) -> Result<Vec<u8>, Fail> {
 }
 
 // The body of a table that holds arrays one inside another, so deep with the table.
-fn arrays(alloc: Global, depth: usize) -> Result<Vec<u8>, Fail> {
+fn arrays(alloc: Global, depth: usize) -> Result<Vec<u8>, NoMemory> {
     let mut body = Vec::new(alloc);
     for _ in 2..depth {
         body = sized(alloc, b"A", body.as_slice())?;
@@ -106,13 +105,13 @@ fn arrays(alloc: Global, depth: usize) -> Result<Vec<u8>, Fail> {
 }
 
 // Whether a table of this body comes back.
-fn table_comes_back(alloc: Global, body: &[u8]) -> Result<bool, Fail> {
+fn table_comes_back(alloc: Global, body: &[u8]) -> Result<bool, NoMemory> {
     let bytes = start_with(alloc, body)?;
     comes_back(alloc, bytes.as_slice())
 }
 
 // Whether a table of this body is none.
-fn is_no_table(alloc: Global, body: &[u8]) -> Result<bool, Fail> {
+fn is_no_table(alloc: Global, body: &[u8]) -> Result<bool, NoMemory> {
     let bytes = start_with(alloc, body)?;
     Ok(stands_at(alloc, bytes.as_slice(), LEAST, Read::Bad))
 }
@@ -125,7 +124,7 @@ enum Nest {
 }
 
 // The body of a table in which they stand so deep.
-fn body_of(alloc: Global, nest: Nest, depth: usize) -> Result<Vec<u8>, Fail> {
+fn body_of(alloc: Global, nest: Nest, depth: usize) -> Result<Vec<u8>, NoMemory> {
     match nest {
         Nest::Tables => tables(alloc, depth),
         Nest::Arrays => arrays(alloc, depth),
@@ -133,7 +132,7 @@ fn body_of(alloc: Global, nest: Nest, depth: usize) -> Result<Vec<u8>, Fail> {
 }
 
 // Whether they stand 128 deep, and no deeper.
-fn stand_128_deep(alloc: Global, nest: Nest) -> Result<bool, Fail> {
+fn stand_128_deep(alloc: Global, nest: Nest) -> Result<bool, NoMemory> {
     let deepest = body_of(alloc, nest, 128)?;
     let whole = table_comes_back(alloc, deepest.as_slice())?;
     let deeper = body_of(alloc, nest, 129)?;
@@ -141,7 +140,7 @@ fn stand_128_deep(alloc: Global, nest: Nest) -> Result<bool, Fail> {
 }
 
 #[test]
-fn tables_and_arrays_stand_128_deep_and_no_deeper(rt: HostRuntime) -> Result<(), Fail> {
+fn tables_and_arrays_stand_128_deep_and_no_deeper(rt: HostRuntime) -> Result<(), NoMemory> {
     for (name, nest) in [("tables", Nest::Tables), ("arrays", Nest::Arrays)] {
         assert!(rt; stand_128_deep(rt.alloc(), nest)?, "{name}");
     }
@@ -149,13 +148,13 @@ fn tables_and_arrays_stand_128_deep_and_no_deeper(rt: HostRuntime) -> Result<(),
 }
 
 // Whether a table is none whose last pair overrides the one pair of this body.
-fn is_none_when_overridden(alloc: Global, body: &[u8]) -> Result<bool, Fail> {
+fn is_none_when_overridden(alloc: Global, body: &[u8]) -> Result<bool, NoMemory> {
     let pairs = joined(alloc, &[body, b"\x01aV"])?;
     is_no_table(alloc, pairs.as_slice())
 }
 
 // Whether they are no table so deep, though a later pair overrides them.
-fn is_none_so_deep(alloc: Global, nest: Nest, depth: usize) -> Result<bool, Fail> {
+fn is_none_so_deep(alloc: Global, nest: Nest, depth: usize) -> Result<bool, NoMemory> {
     let body = body_of(alloc, nest, depth)?;
     is_none_when_overridden(alloc, body.as_slice())
 }
@@ -163,7 +162,7 @@ fn is_none_so_deep(alloc: Global, nest: Nest, depth: usize) -> Result<bool, Fail
 #[test]
 fn what_is_too_deep_is_no_table_though_a_later_pair_overrides_it(
     rt: HostRuntime,
-) -> Result<(), Fail> {
+) -> Result<(), NoMemory> {
     for (name, nest) in [("tables", Nest::Tables), ("arrays", Nest::Arrays)] {
         assert!(rt; is_none_so_deep(rt.alloc(), nest, 129)?, "{name}");
     }

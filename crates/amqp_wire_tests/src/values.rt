@@ -1,9 +1,10 @@
 //! Values and arrays, and tables as maps.
 
 use crate::support::{long, short};
-use amqp_types::{AMQPValue, Entry, FieldTable, NoMemory, Payload, Payload64, ShortString, Values};
+use amqp_types::{
+    AMQPValue, Entry, FieldTable, NoMemory, Payload, Payload64, ShortString, TypeFault, Values,
+};
 use std::alloc::Global;
-use std::test::Fail;
 
 // ---- arrays
 
@@ -15,7 +16,7 @@ fn holds_both(values: &[AMQPValue]) -> bool {
 }
 
 // Whether a copy of an array is equal to it.
-fn is_copied(alloc: Global, values: &Values) -> Result<bool, Fail> {
+fn is_copied(alloc: Global, values: &Values) -> Result<bool, TypeFault> {
     let copy = values.try_clone(alloc)?;
     let same = copy == *values;
     drop(copy);
@@ -23,7 +24,7 @@ fn is_copied(alloc: Global, values: &Values) -> Result<bool, Fail> {
 }
 
 // An array of true and Void.
-fn both(alloc: Global) -> Result<Values, Fail> {
+fn both(alloc: Global) -> Result<Values, TypeFault> {
     let mut values = Values::new(alloc);
     values.push(AMQPValue::Boolean(true))?;
     values.push(AMQPValue::Void)?;
@@ -31,7 +32,7 @@ fn both(alloc: Global) -> Result<Values, Fail> {
 }
 
 #[test]
-fn a_pushed_value_stands_last(rt: HostRuntime) -> Result<(), Fail> {
+fn a_pushed_value_stands_last(rt: HostRuntime) -> Result<(), TypeFault> {
     let values = both(rt.alloc())?;
     let kept = holds_both(values.as_slice()) && is_copied(rt.alloc(), &values)?;
     let again = Values::from_vec(values.into_vec());
@@ -61,7 +62,7 @@ fn plain(kind: usize) -> AMQPValue {
 }
 
 // A table of one name.
-fn table_with(alloc: Global, name: &str, value: AMQPValue) -> Result<FieldTable, Fail> {
+fn table_with(alloc: Global, name: &str, value: AMQPValue) -> Result<FieldTable, TypeFault> {
     let name = match short(alloc, name) {
         Ok(name) => name,
         Err(e) => {
@@ -75,14 +76,14 @@ fn table_with(alloc: Global, name: &str, value: AMQPValue) -> Result<FieldTable,
 }
 
 // An array of Void alone.
-fn array_of_void(alloc: Global) -> Result<Values, Fail> {
+fn array_of_void(alloc: Global) -> Result<Values, TypeFault> {
     let mut values = Values::new(alloc);
     values.push(AMQPValue::Void)?;
     Ok(values)
 }
 
 // Pushes a value of each kind that owns octets or values.
-fn push_owners(alloc: Global, values: &mut Values) -> Result<(), Fail> {
+fn push_owners(alloc: Global, values: &mut Values) -> Result<(), TypeFault> {
     let text = long(alloc, "xy")?;
     values.push(AMQPValue::LongString(text))?;
     let octets = Payload::new(alloc, &[0, 1])?;
@@ -95,7 +96,7 @@ fn push_owners(alloc: Global, values: &mut Values) -> Result<(), Fail> {
 }
 
 // A value of each kind.
-fn each_kind(alloc: Global) -> Result<Values, Fail> {
+fn each_kind(alloc: Global) -> Result<Values, TypeFault> {
     let mut values = Values::new(alloc);
     for kind in 0..13 {
         values.push(plain(kind))?;
@@ -125,7 +126,7 @@ fn are_equal_in_place(these: &[AMQPValue], those: &[AMQPValue]) -> bool {
 }
 
 // Whether a copy of each value is equal to it.
-fn are_copied(alloc: Global, values: &[AMQPValue]) -> Result<bool, Fail> {
+fn are_copied(alloc: Global, values: &[AMQPValue]) -> Result<bool, TypeFault> {
     for value in values {
         let copy = value.try_clone(alloc)?;
         let same = copy == *value;
@@ -138,7 +139,7 @@ fn are_copied(alloc: Global, values: &[AMQPValue]) -> Result<bool, Fail> {
 }
 
 #[test]
-fn every_kind_of_value_is_copied(rt: HostRuntime) -> Result<(), Fail> {
+fn every_kind_of_value_is_copied(rt: HostRuntime) -> Result<(), TypeFault> {
     let values = each_kind(rt.alloc())?;
     let copied = are_copied(rt.alloc(), values.as_slice())?;
     let copies = values.try_clone(rt.alloc())?;
@@ -174,13 +175,13 @@ fn had(
     table: &mut FieldTable,
     number: u32,
     wanted: Option<u32>,
-) -> Result<bool, Fail> {
+) -> Result<bool, TypeFault> {
     let name = short(alloc, "a")?;
     Ok(insert(table, name, number)? == wanted)
 }
 
 #[test]
-fn a_name_keeps_the_value_that_was_inserted_last(rt: HostRuntime) -> Result<(), Fail> {
+fn a_name_keeps_the_value_that_was_inserted_last(rt: HostRuntime) -> Result<(), TypeFault> {
     let mut table = FieldTable::new(rt.alloc());
     let empty = table.is_empty();
     assert!(rt; empty && had(rt.alloc(), &mut table, 1, None)?);
@@ -197,7 +198,7 @@ fn place(i: u32) -> u8 {
 }
 
 // A table of 40 names of one octet.
-fn forty(alloc: Global) -> Result<FieldTable, Fail> {
+fn forty(alloc: Global) -> Result<FieldTable, TypeFault> {
     let mut table = FieldTable::new(alloc);
     for i in 0..40 {
         let name = ShortString::new(alloc, &[place(i)])?;
@@ -212,7 +213,7 @@ fn stand_in_order(entries: &[Entry]) -> bool {
 }
 
 #[test]
-fn names_are_found_among_many(rt: HostRuntime) -> Result<(), Fail> {
+fn names_are_found_among_many(rt: HostRuntime) -> Result<(), TypeFault> {
     let table = forty(rt.alloc())?;
     for i in 0..40 {
         assert!(rt; number_at(&table, &[place(i)]) == Some(i), "{i}");
@@ -222,13 +223,18 @@ fn names_are_found_among_many(rt: HostRuntime) -> Result<(), Fail> {
     Ok(())
 }
 
+fn push(entries: &mut Vec<Entry>, entry: Entry) -> Result<(), NoMemory> {
+    entries.push(entry)?;
+    Ok(())
+}
+
 // Entries of these names and numbers.
-fn entries_of(alloc: Global, pairs: &[(&str, u32)]) -> Result<Vec<Entry>, Fail> {
+fn entries_of(alloc: Global, pairs: &[(&str, u32)]) -> Result<Vec<Entry>, TypeFault> {
     let mut entries = Vec::new(alloc);
     for (name, number) in pairs {
         let name = short(alloc, *name)?;
         let value = AMQPValue::LongUInt(*number);
-        entries.push(Entry { name, value })?;
+        push(&mut entries, Entry { name, value })?;
     }
     Ok(entries)
 }
@@ -243,7 +249,7 @@ fn have(entries: &[Entry], pairs: &[(&str, u32)]) -> bool {
 }
 
 // Whether the table of some entries has others.
-fn has(alloc: Global, given: &[(&str, u32)], wanted: &[(&str, u32)]) -> Result<bool, Fail> {
+fn has(alloc: Global, given: &[(&str, u32)], wanted: &[(&str, u32)]) -> Result<bool, TypeFault> {
     let entries = entries_of(alloc, given)?;
     let table = FieldTable::from_entries(alloc, entries)?;
     let told = have(table.entries(), wanted);
@@ -252,21 +258,21 @@ fn has(alloc: Global, given: &[(&str, u32)], wanted: &[(&str, u32)]) -> Result<b
 }
 
 #[test]
-fn of_equal_names_the_last_counts(rt: HostRuntime) -> Result<(), Fail> {
+fn of_equal_names_the_last_counts(rt: HostRuntime) -> Result<(), TypeFault> {
     let given = [("b", 1), ("c", 2), ("a", 3), ("b", 4)];
     assert!(rt; has(rt.alloc(), &given, &[("a", 3), ("b", 4), ("c", 2)])?);
     Ok(())
 }
 
 #[test]
-fn entries_in_order_are_taken_as_they_stand(rt: HostRuntime) -> Result<(), Fail> {
+fn entries_in_order_are_taken_as_they_stand(rt: HostRuntime) -> Result<(), TypeFault> {
     let given = [("", 1), ("a", 2), ("b", 3)];
     assert!(rt; has(rt.alloc(), &given, &given)?);
     Ok(())
 }
 
 // An array of a number's octets and a string.
-fn inner(alloc: Global) -> Result<Values, Fail> {
+fn inner(alloc: Global) -> Result<Values, TypeFault> {
     let text = long(alloc, "xy")?;
     let mut values = Values::new(alloc);
     values.push(AMQPValue::LongString(text))?;
@@ -275,7 +281,7 @@ fn inner(alloc: Global) -> Result<Values, Fail> {
 }
 
 // The table of an array under `b`, and this value under `a`.
-fn nested(alloc: Global, value: AMQPValue) -> Result<FieldTable, Fail> {
+fn nested(alloc: Global, value: AMQPValue) -> Result<FieldTable, TypeFault> {
     let mut table = table_with(alloc, "a", value)?;
     let values = inner(alloc)?;
     let name = short(alloc, "b")?;
@@ -298,7 +304,7 @@ fn value_of(small: Small) -> AMQPValue {
 }
 
 // Whether two tables of an array and a number are equal, as tables and as values.
-fn are_equal(alloc: Global, this: Small, that: Small) -> Result<bool, Fail> {
+fn are_equal(alloc: Global, this: Small, that: Small) -> Result<bool, TypeFault> {
     let this = nested(alloc, value_of(this))?;
     let that = nested(alloc, value_of(that))?;
     let same = this == that;
@@ -311,7 +317,7 @@ fn are_equal(alloc: Global, this: Small, that: Small) -> Result<bool, Fail> {
 }
 
 #[test]
-fn nested_values_are_compared(rt: HostRuntime) -> Result<(), Fail> {
+fn nested_values_are_compared(rt: HostRuntime) -> Result<(), TypeFault> {
     let rows = [
         ("the same", Small::Signed(-1), Small::Signed(-1), true),
         ("another number", Small::Signed(-1), Small::Signed(1), false),
@@ -325,7 +331,7 @@ fn nested_values_are_compared(rt: HostRuntime) -> Result<(), Fail> {
 
 // Whether a table is no longer equal to its copy once a value of the copy was changed, and is once
 // it was changed back. It takes the table.
-fn is_another(alloc: Global, table: FieldTable, mut copy: FieldTable) -> Result<bool, Fail> {
+fn is_another(alloc: Global, table: FieldTable, mut copy: FieldTable) -> Result<bool, TypeFault> {
     let same = table == copy;
     let name = short(alloc, "a")?;
     insert(&mut copy, name, 2)?;
@@ -336,7 +342,7 @@ fn is_another(alloc: Global, table: FieldTable, mut copy: FieldTable) -> Result<
 }
 
 #[test]
-fn a_copy_of_a_table_is_another_table(rt: HostRuntime) -> Result<(), Fail> {
+fn a_copy_of_a_table_is_another_table(rt: HostRuntime) -> Result<(), TypeFault> {
     let table = nested(rt.alloc(), AMQPValue::LongUInt(1))?;
     let copy = table.try_clone(rt.alloc())?;
     assert!(rt; is_another(rt.alloc(), table, copy)?);
@@ -354,7 +360,7 @@ fn inserts(alloc: Global, table: &mut FieldTable, octet: u8) -> bool {
 }
 
 // Inserts a number, once more where memory was refused, which has to leave the table as it was.
-fn insert_again(alloc: Global, table: &mut FieldTable, octet: u8) -> Result<bool, Fail> {
+fn insert_again(alloc: Global, table: &mut FieldTable, octet: u8) -> Result<bool, TypeFault> {
     let had = table.len();
     let kept = inserts(alloc, table, octet)
         || table.len() == had && !table.contains_key(&[octet]) && inserts(alloc, table, octet);
@@ -363,7 +369,7 @@ fn insert_again(alloc: Global, table: &mut FieldTable, octet: u8) -> Result<bool
 
 // To be run with each allocation failing in turn: what was refused once is tried again.
 #[test]
-fn a_refused_insertion_changes_nothing(rt: HostRuntime) -> Result<(), Fail> {
+fn a_refused_insertion_changes_nothing(rt: HostRuntime) -> Result<(), TypeFault> {
     let alloc = rt.alloc();
     let mut table = FieldTable::new(alloc);
     for octet in 0..5 {
@@ -374,7 +380,7 @@ fn a_refused_insertion_changes_nothing(rt: HostRuntime) -> Result<(), Fail> {
 }
 
 // Pushes a value, once more where memory was refused, which has to leave the array as it was.
-fn push_again(values: &mut Values, octet: u8) -> Result<bool, Fail> {
+fn push_again(values: &mut Values, octet: u8) -> Result<bool, TypeFault> {
     let had = values.len();
     if values.push(AMQPValue::ShortShortUInt(octet)).is_err() {
         if values.len() != had {
@@ -386,7 +392,7 @@ fn push_again(values: &mut Values, octet: u8) -> Result<bool, Fail> {
 }
 
 #[test]
-fn a_refused_push_changes_nothing(rt: HostRuntime) -> Result<(), Fail> {
+fn a_refused_push_changes_nothing(rt: HostRuntime) -> Result<(), TypeFault> {
     let mut values = Values::new(rt.alloc());
     for octet in 0..5 {
         assert!(rt; push_again(&mut values, octet)?);
@@ -395,7 +401,7 @@ fn a_refused_push_changes_nothing(rt: HostRuntime) -> Result<(), Fail> {
 }
 
 // Reserves a place, once more where memory was refused, which has to leave the list as it was.
-fn reserve_again(numbers: &mut Payload64, number: u64) -> Result<bool, Fail> {
+fn reserve_again(numbers: &mut Payload64, number: u64) -> Result<bool, TypeFault> {
     let had = numbers.len();
     if numbers.reserve().is_err() {
         if numbers.len() != had {
@@ -408,7 +414,7 @@ fn reserve_again(numbers: &mut Payload64, number: u64) -> Result<bool, Fail> {
 }
 
 #[test]
-fn a_refused_place_changes_nothing(rt: HostRuntime) -> Result<(), Fail> {
+fn a_refused_place_changes_nothing(rt: HostRuntime) -> Result<(), TypeFault> {
     let mut numbers = Payload64::empty(rt.alloc());
     for number in 0..5 {
         assert!(rt; reserve_again(&mut numbers, number)?);
