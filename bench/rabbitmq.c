@@ -14,7 +14,7 @@
 #include <string.h>
 #include <sys/socket.h>
 
-enum { LIMIT = 131072, ROOM = 1048576 };
+enum { LIMIT = 131072 };
 
 static uint64_t octets;
 
@@ -53,10 +53,10 @@ static void write_frames(size_t size, uint64_t count) {
     if (amqp_send_frame(state, &frame) != AMQP_STATUS_OK) stop("not written");
 }
 
-/* As many frames one after another as the room takes. How many octets it is. */
+/* As many frames one after another as LIMIT octets take. How many octets it is. */
 static size_t fill(unsigned char *room, size_t size) {
   size_t length = 0;
-  for (; length + size + 8 <= ROOM; length += size + 8) {
+  for (; length + size + 8 <= LIMIT; length += size + 8) {
     unsigned char front[7] = {3, 0, 1, size >> 24, size >> 16, size >> 8, size};
     memcpy(room + length, front, 7);
     memset(room + length + 7, 'x', size);
@@ -81,7 +81,7 @@ static size_t read_frame(amqp_connection_state_t state, amqp_bytes_t bytes) {
 
 static void read_frames(size_t size, uint64_t count) {
   amqp_connection_state_t state = connection();
-  unsigned char *room = malloc(ROOM);
+  unsigned char *room = malloc(LIMIT);
   size_t length = fill(room, size), at = 0;
   for (uint64_t i = 0; i < count; i++) {
     if (at == length) at = 0;

@@ -10,8 +10,8 @@ use std::alloc::Global;
 /// The limit of a frame.
 const LIMIT: u32 = 131_072;
 
-/// How many octets the room has that is filled again and again.
-const ROOM: usize = 1_048_576;
+/// How many octets the room has that is filled again and again: as many as a frame may have.
+const ROOM: usize = 131_072;
 
 // A body frame of so many octets.
 fn body_of(alloc: Global, size: u32) -> Option<Frame> {
