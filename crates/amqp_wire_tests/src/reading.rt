@@ -1,7 +1,7 @@
-//! What stands at the front of octets.
+//! Frames that are read, copied and written again.
 
-use crate::support::{USUAL, comes_back, joined, octets};
-use amqp_frame::{Frame, Read, read_frame};
+use crate::support::{USUAL, is_written, octets};
+use amqp_frame::{Frame, Read, View, read_frame};
 use amqp_types::NoMemory;
 use amqp_vectors::*;
 use std::alloc::Global;
@@ -46,41 +46,32 @@ const FRAMES: [(&str, &str); 36] = [
     ("a body without octets", EMPTY_BODY_2),
 ];
 
-// Whether the frame of a text comes back, and has an equal copy.
-fn text_comes_back(alloc: Global, text: &str) -> Result<bool, NoMemory> {
+// Whether a frame is written as these octets, and a copy of it is equal.
+fn is_kept(alloc: Global, frame: &Frame, bytes: &[u8]) -> Result<bool, NoMemory> {
+    let copy = frame.try_clone(alloc)?;
+    let same = copy == *frame;
+    drop(copy);
+    Ok(same && is_written(alloc, frame, bytes)?)
+}
+
+// Whether a text is one frame, whose written spelling it is, and whose copy is equal.
+fn comes_back(alloc: Global, text: &str) -> Result<bool, NoMemory> {
     let bytes = octets(alloc, text)?;
-    comes_back(alloc, bytes.as_slice())
+    let read = read_frame(alloc, &bytes.as_slice(), USUAL);
+    let told = match &read {
+        Read::Whole(frame, length) if *length == bytes.len() => {
+            is_kept(alloc, frame, bytes.as_slice())
+        }
+        _ => Ok(false),
+    };
+    drop(read);
+    told
 }
 
 #[test]
 fn each_frame_comes_back(rt: HostRuntime) -> Result<(), NoMemory> {
     for (name, text) in FRAMES {
-        assert!(rt; text_comes_back(rt.alloc(), text)?, "{name}");
-    }
-    Ok(())
-}
-
-fn is_more(read: Read) -> bool {
-    let more = matches!(read, Read::More);
-    drop(read);
-    more
-}
-
-// Whether each proper front of a text's octets asks for more.
-fn asks_for_more(alloc: Global, text: &str) -> Result<bool, NoMemory> {
-    let bytes = octets(alloc, text)?;
-    for end in 0..bytes.len() {
-        if !is_more(read_frame(alloc, &&bytes[..end], USUAL)) {
-            return Ok(false);
-        }
-    }
-    Ok(true)
-}
-
-#[test]
-fn each_front_of_a_frame_asks_for_more(rt: HostRuntime) -> Result<(), NoMemory> {
-    for (name, text) in FRAMES {
-        assert!(rt; asks_for_more(rt.alloc(), text)?, "{name}");
+        assert!(rt; comes_back(rt.alloc(), text)?, "{name}");
     }
     Ok(())
 }
@@ -118,32 +109,42 @@ fn each_method_has_its_class_and_number(rt: HostRuntime) -> Result<(), NoMemory>
     Ok(())
 }
 
-// How many octets are used of a frame with another behind it.
-fn used_of_two(alloc: Global, first: &str, second: &str) -> Result<Option<usize>, NoMemory> {
-    let first = octets(alloc, first)?;
-    let second = octets(alloc, second)?;
-    let bytes = joined(alloc, &[first.as_slice(), second.as_slice()])?;
-    let read = read_frame(alloc, &bytes.as_slice(), USUAL);
-    let used = match &read {
-        Read::Whole(_, used) => Some(*used),
-        _ => None,
-    };
+// ---- a view
+
+/// A view that is made of the two calls that a view needs.
+#[derive(Clone, Copy)]
+struct Plain<'a> {
+    octets: &'a [u8],
+}
+
+impl<'a> View for Plain<'a> {
+    ghost bytes = { λ v. v.octets.now };
+
+    fn len(&self) -> usize {
+        self.octets.len()
+    }
+
+    fn at(&self, index: usize) -> u8 {
+        self.octets[index]
+    }
+}
+
+// Whether a text reads by such a view as by a slice.
+fn reads_the_same(alloc: Global, text: &str) -> Result<bool, NoMemory> {
+    let bytes = octets(alloc, text)?;
+    let octets = bytes.as_slice();
+    let read = read_frame(alloc, &octets, USUAL);
+    let other = read_frame(alloc, &Plain { octets }, USUAL);
+    let same = read == other;
     drop(read);
-    Ok(used)
+    drop(other);
+    Ok(same)
 }
 
 #[test]
-fn what_follows_a_frame_is_left(rt: HostRuntime) -> Result<(), NoMemory> {
-    let rows = [
-        (START, TUNE, 105),
-        (RABBITMQ_START, HEARTBEAT, 509),
-        (BODY_1, "00", 11),
-    ];
-    for (first, second, used) in rows {
-        assert!(rt;
-            used_of_two(rt.alloc(), first, second)? == Some(used),
-            "{first}"
-        );
+fn a_view_needs_two_calls(rt: HostRuntime) -> Result<(), NoMemory> {
+    for (name, text) in FRAMES {
+        assert!(rt; reads_the_same(rt.alloc(), text)?, "{name}");
     }
     Ok(())
 }

@@ -1,32 +1,20 @@
 //! Strings, texts, payloads and lists of numbers.
 
-use amqp_types::{LongString, Payload, Payload64, ShortString, Text, TypeFault};
+use amqp_types::{LongString, NoMemory, Payload, Payload64, ShortString, Text, TypeFault};
 use std::alloc::Global;
 
 // ---- short strings
 
-// Whether a string has these octets, and an equal copy.
-fn holds(alloc: Global, string: &ShortString, octets: &[u8]) -> Result<bool, TypeFault> {
-    let copy = string.try_clone(alloc)?;
-    let same = copy == *string;
-    drop(copy);
-    Ok(same && string.as_bytes() == octets && string.len() == octets.len())
-}
-
-// Whether the string of octets that are moved out is the same. It takes the string.
-fn is_made_again(string: ShortString, octets: &[u8]) -> bool {
-    let again = ShortString::from_vec(string.into_vec());
-    let same = again.as_bytes() == octets && again.is_empty() == octets.is_empty();
-    drop(again);
-    same
-}
-
-// Whether a short string of these octets holds them.
+// Whether a short string of these octets holds them, also in a copy and once they were moved out.
 fn is_short(alloc: Global, octets: &[u8]) -> Result<bool, TypeFault> {
     let string = ShortString::new(alloc, octets)?;
-    let told = holds(alloc, &string, octets);
-    let again = is_made_again(string, octets);
-    Ok(told? && again)
+    let copy = string.try_clone(alloc)?;
+    let same = copy == string && copy.as_bytes() == octets && copy.len() == octets.len();
+    drop(copy);
+    let again = ShortString::from_vec(string.into_vec());
+    let kept = again.as_bytes() == octets && again.is_empty() == octets.is_empty();
+    drop(again);
+    Ok(same && kept)
 }
 
 #[test]
@@ -50,7 +38,7 @@ fn fault_of_short(alloc: Global, octets: &[u8]) -> Option<TypeFault> {
 }
 
 #[test]
-fn a_short_string_of_256_octets_is_too_long(rt: HostRuntime) -> Result<(), TypeFault> {
+fn a_short_string_of_256_octets_is_too_long(rt: HostRuntime) {
     let octets = [7u8; 300];
     for length in [256, 300] {
         let fault = fault_of_short(rt.alloc(), &octets[..length]);
@@ -59,7 +47,6 @@ fn a_short_string_of_256_octets_is_too_long(rt: HostRuntime) -> Result<(), TypeF
             "{length}"
         );
     }
-    Ok(())
 }
 
 // Whether one string is below another, and so not equal to it.
@@ -83,26 +70,16 @@ fn short_strings_are_in_byte_order(rt: HostRuntime) -> Result<(), TypeFault> {
 
 // ---- long strings
 
-// Whether a long string of these octets holds them, and has an equal copy.
+// Whether a long string of these octets holds them, also in a copy and once they were moved out.
 fn is_long(alloc: Global, octets: &[u8]) -> Result<bool, TypeFault> {
     let string = LongString::new(alloc, octets)?;
     let copy = string.try_clone(alloc)?;
-    let same = copy == string && string.as_bytes() == octets && string.len() == octets.len();
+    let same = copy == string && copy.as_bytes() == octets && copy.len() == octets.len();
     drop(copy);
     let again = LongString::from_vec(string.into_vec());
     let kept = again.as_bytes() == octets && again.is_empty() == octets.is_empty();
     drop(again);
     Ok(same && kept)
-}
-
-// Whether two long strings are equal.
-fn are_equal(alloc: Global, this: &[u8], that: &[u8]) -> Result<bool, TypeFault> {
-    let this = LongString::new(alloc, this)?;
-    let that = LongString::new(alloc, that)?;
-    let same = this == that;
-    drop(this);
-    drop(that);
-    Ok(same)
 }
 
 #[test]
@@ -114,82 +91,50 @@ fn a_long_string_holds_its_octets(rt: HostRuntime) -> Result<(), TypeFault> {
     Ok(())
 }
 
-#[test]
-fn long_strings_are_equal_by_their_octets(rt: HostRuntime) -> Result<(), TypeFault> {
-    let rows: [(&[u8], bool); 3] = [(b"xy", true), (b"xz", false), (b"x", false)];
-    for (octets, same) in rows {
-        assert!(rt; are_equal(rt.alloc(), b"xy", octets)? == same, "{octets:?}");
-    }
-    Ok(())
-}
-
 // ---- texts
 
-// Whether a text reads as given, and a copy of it is equal.
-fn reads_as_given(alloc: Global, given: &str) -> Result<bool, TypeFault> {
+// Whether a text reads as given, is equal to a copy, and to another text exactly where that is given.
+fn reads_as_given(alloc: Global, given: &str, other: &str) -> Result<bool, NoMemory> {
     let text = Text::new(alloc, given)?;
     let copy = text.try_clone()?;
-    let same = text == copy && text.as_str() == given;
+    let same = text == copy && copy.as_str() == given;
     drop(copy);
+    let other_text = Text::new(alloc, other)?;
+    let told = (text == other_text) == (given == other);
+    drop(other_text);
     drop(text);
-    Ok(same)
-}
-
-// Whether two texts are equal.
-fn are_equal_texts(alloc: Global, this: &str, that: &str) -> Result<bool, TypeFault> {
-    let this = Text::new(alloc, this)?;
-    let that = Text::new(alloc, that)?;
-    let same = this == that;
-    drop(this);
-    drop(that);
-    Ok(same)
+    Ok(same && told)
 }
 
 #[test]
-fn a_text_reads_as_given(rt: HostRuntime) -> Result<(), TypeFault> {
-    for given in ["", "a"] {
-        assert!(rt; reads_as_given(rt.alloc(), given)?, "{given}");
-        assert!(rt;
-            are_equal_texts(rt.alloc(), given, "b")? == (given == "b"),
-            "{given}"
-        );
+fn a_text_reads_as_given(rt: HostRuntime) -> Result<(), NoMemory> {
+    for given in ["", "a", "b"] {
+        assert!(rt; reads_as_given(rt.alloc(), given, "b")?, "{given}");
     }
     Ok(())
 }
 
 // ---- payloads
 
-// Whether a payload of these octets holds them, and has an equal copy.
-fn is_payload(alloc: Global, octets: &[u8]) -> Result<bool, TypeFault> {
+// Whether a payload of these octets holds them, also in a copy and once they were moved out, and is
+// the empty one exactly where there are none.
+fn is_payload(alloc: Global, octets: &[u8]) -> Result<bool, NoMemory> {
     let payload = Payload::new(alloc, octets)?;
     let copy = payload.try_clone(alloc)?;
-    let same = copy == payload && payload.as_bytes() == octets && payload.len() == octets.len();
+    let same = copy == payload && copy.as_bytes() == octets && copy.len() == octets.len();
     drop(copy);
     let again = Payload::from_vec(payload.into_vec());
-    let kept = again.as_bytes() == octets && again.is_empty() == octets.is_empty();
+    let empty = again.is_empty() == octets.is_empty()
+        && (again == Payload::empty(alloc)) == octets.is_empty();
     drop(again);
-    Ok(same && kept)
-}
-
-// Whether a payload of these octets is the empty one.
-fn is_the_empty_one(alloc: Global, octets: &[u8]) -> Result<bool, TypeFault> {
-    let payload = Payload::new(alloc, octets)?;
-    let empty = Payload::empty(alloc);
-    let same = payload == empty && empty.is_empty();
-    drop(payload);
-    drop(empty);
-    Ok(same)
+    Ok(same && empty)
 }
 
 #[test]
-fn a_payload_holds_its_octets(rt: HostRuntime) -> Result<(), TypeFault> {
+fn a_payload_holds_its_octets(rt: HostRuntime) -> Result<(), NoMemory> {
     let rows: [&[u8]; 2] = [b"", b"\x01\x02"];
     for octets in rows {
         assert!(rt; is_payload(rt.alloc(), octets)?, "{octets:?}");
-        assert!(rt;
-            is_the_empty_one(rt.alloc(), octets)? == octets.is_empty(),
-            "{octets:?}"
-        );
     }
     Ok(())
 }
@@ -197,7 +142,7 @@ fn a_payload_holds_its_octets(rt: HostRuntime) -> Result<(), TypeFault> {
 // ---- lists of numbers
 
 // Pushes the squares of the numbers below this one.
-fn push_squares(numbers: &mut Payload64, below: u64) -> Result<(), TypeFault> {
+fn push_squares(numbers: &mut Payload64, below: u64) -> Result<(), NoMemory> {
     for i in 0..below {
         numbers.reserve()?;
         numbers.push(i.wrapping_mul(i));
@@ -207,45 +152,38 @@ fn push_squares(numbers: &mut Payload64, below: u64) -> Result<(), TypeFault> {
 
 // Whether these are the squares of the numbers from 0 on.
 fn are_squares(numbers: &[u64]) -> bool {
-    numbers
-        .iter()
-        .zip(0..u64::MAX)
-        .all(|(number, i)| *number == i.wrapping_mul(i))
+    for (number, i) in numbers.iter().zip(0..u64::MAX) {
+        if *number != i.wrapping_mul(i) {
+            return false;
+        }
+    }
+    true
 }
 
-// Whether a list has as many squares, and an equal copy, also once a place is reserved.
-fn has_squares(alloc: Global, numbers: &mut Payload64, count: usize) -> Result<bool, TypeFault> {
+// Whether a list is equal to a copy, also once a place is reserved.
+fn is_equal_to_a_copy(alloc: Global, numbers: &mut Payload64) -> Result<bool, NoMemory> {
     let copy = numbers.try_clone(alloc)?;
     let same = *numbers == copy;
     numbers.reserve()?;
     let kept = *numbers == copy;
     drop(copy);
-    Ok(same && kept && numbers.len() == count && are_squares(numbers.as_slice()))
+    Ok(same && kept)
 }
 
 #[test]
-fn many_numbers_are_pushed(rt: HostRuntime) -> Result<(), TypeFault> {
+fn many_numbers_are_pushed(rt: HostRuntime) -> Result<(), NoMemory> {
     let mut numbers = Payload64::empty(rt.alloc());
     let empty = numbers.is_empty();
     push_squares(&mut numbers, 1000)?;
-    assert!(rt; empty && has_squares(rt.alloc(), &mut numbers, 1000)?);
+    assert!(rt; empty && is_equal_to_a_copy(rt.alloc(), &mut numbers)?);
+    assert!(rt; numbers.len() == 1000 && are_squares(numbers.as_slice()));
     Ok(())
 }
 
-// Whether the list of three numbers holds them, also once they are moved out and in.
-fn holds_three(alloc: Global, three: &[u64]) -> Result<bool, TypeFault> {
-    let numbers = Payload64::new(alloc, three)?;
-    let held = numbers.as_slice() == three;
-    let again = Payload64::from_vec(numbers.into_vec());
-    let other = Payload64::new(alloc, &[0, 1])?;
-    let same = again.as_slice() == three && again != other;
-    drop(again);
-    drop(other);
-    Ok(held && same)
-}
-
 #[test]
-fn a_list_of_numbers_holds_them(rt: HostRuntime) -> Result<(), TypeFault> {
-    assert!(rt; holds_three(rt.alloc(), &[0, 1, 4])?);
+fn a_list_of_numbers_is_made_of_them(rt: HostRuntime) -> Result<(), NoMemory> {
+    let numbers = Payload64::new(rt.alloc(), &[0, 1, 4])?;
+    let again = Payload64::from_vec(numbers.into_vec());
+    assert!(rt; again.len() == 3 && are_squares(again.as_slice()));
     Ok(())
 }

@@ -6,40 +6,6 @@ use amqp_types::{
 };
 use std::alloc::Global;
 
-// ---- arrays
-
-// Whether an array holds true and Void, in this order.
-fn holds_both(values: &[AMQPValue]) -> bool {
-    values.len() == 2
-        && matches!(values[0], AMQPValue::Boolean(true))
-        && matches!(values[1], AMQPValue::Void)
-}
-
-// Whether a copy of an array is equal to it.
-fn is_copied(alloc: Global, values: &Values) -> Result<bool, TypeFault> {
-    let copy = values.try_clone(alloc)?;
-    let same = copy == *values;
-    drop(copy);
-    Ok(same)
-}
-
-// An array of true and Void.
-fn both(alloc: Global) -> Result<Values, TypeFault> {
-    let mut values = Values::new(alloc);
-    values.push(AMQPValue::Boolean(true))?;
-    values.push(AMQPValue::Void)?;
-    Ok(values)
-}
-
-#[test]
-fn a_pushed_value_stands_last(rt: HostRuntime) -> Result<(), TypeFault> {
-    let values = both(rt.alloc())?;
-    let kept = holds_both(values.as_slice()) && is_copied(rt.alloc(), &values)?;
-    let again = Values::from_vec(values.into_vec());
-    assert!(rt; kept && holds_both(again.as_slice()));
-    Ok(())
-}
-
 // ---- copies
 
 // A value of each kind that owns nothing, by its place among the kinds.
@@ -126,7 +92,7 @@ fn are_equal_in_place(these: &[AMQPValue], those: &[AMQPValue]) -> bool {
 }
 
 // Whether a copy of each value is equal to it.
-fn are_copied(alloc: Global, values: &[AMQPValue]) -> Result<bool, TypeFault> {
+fn are_copied(alloc: Global, values: &[AMQPValue]) -> Result<bool, NoMemory> {
     for value in values {
         let copy = value.try_clone(alloc)?;
         let same = copy == *value;
@@ -143,8 +109,9 @@ fn every_kind_of_value_is_copied(rt: HostRuntime) -> Result<(), TypeFault> {
     let values = each_kind(rt.alloc())?;
     let copied = are_copied(rt.alloc(), values.as_slice())?;
     let copies = values.try_clone(rt.alloc())?;
-    let all = copies.len() == 17;
-    assert!(rt; copied && all && are_equal_in_place(copies.as_slice(), values.as_slice()));
+    let same = copies == values && copies.len() == 17 && !copies.is_empty();
+    let again = Values::from_vec(copies.into_vec());
+    assert!(rt; copied && same && are_equal_in_place(again.as_slice(), values.as_slice()));
     Ok(())
 }
 
@@ -209,7 +176,12 @@ fn forty(alloc: Global) -> Result<FieldTable, TypeFault> {
 
 // Whether names of one octet stand in order from 0 on.
 fn stand_in_order(entries: &[Entry]) -> bool {
-    entries.iter().zip(0..=255u8).all(|(entry, place)| entry.name.as_bytes() == [place].as_slice())
+    for (entry, place) in entries.iter().zip(0..=255u8) {
+        if entry.name.as_bytes() != [place].as_slice() {
+            return false;
+        }
+    }
+    true
 }
 
 #[test]
@@ -239,13 +211,20 @@ fn entries_of(alloc: Global, pairs: &[(&str, u32)]) -> Result<Vec<Entry>, TypeFa
     Ok(entries)
 }
 
+// Whether an entry has this name and this number.
+fn is_pair(entry: &Entry, name: &str, number: u32) -> bool {
+    entry.name.as_bytes() == name.as_bytes()
+        && matches!(entry.value, AMQPValue::LongUInt(it) if it == number)
+}
+
 // Whether entries have these names and numbers, in this order.
 fn have(entries: &[Entry], pairs: &[(&str, u32)]) -> bool {
+    for (entry, (name, number)) in entries.iter().zip(pairs) {
+        if !is_pair(entry, *name, *number) {
+            return false;
+        }
+    }
     entries.len() == pairs.len()
-        && entries.iter().zip(pairs).all(|(entry, pair)| {
-            entry.name.as_bytes() == pair.0.as_bytes()
-                && matches!(entry.value, AMQPValue::LongUInt(number) if number == pair.1)
-        })
 }
 
 // Whether the table of some entries has others.
@@ -264,88 +243,24 @@ fn of_equal_names_the_last_counts(rt: HostRuntime) -> Result<(), TypeFault> {
     Ok(())
 }
 
-#[test]
-fn entries_in_order_are_taken_as_they_stand(rt: HostRuntime) -> Result<(), TypeFault> {
-    let given = [("", 1), ("a", 2), ("b", 3)];
-    assert!(rt; has(rt.alloc(), &given, &given)?);
-    Ok(())
-}
-
-// An array of a number's octets and a string.
-fn inner(alloc: Global) -> Result<Values, TypeFault> {
-    let text = long(alloc, "xy")?;
-    let mut values = Values::new(alloc);
-    values.push(AMQPValue::LongString(text))?;
-    values.push(AMQPValue::Float([1, 2, 3, 4]))?;
-    Ok(values)
-}
-
-// The table of an array under `b`, and this value under `a`.
-fn nested(alloc: Global, value: AMQPValue) -> Result<FieldTable, TypeFault> {
-    let mut table = table_with(alloc, "a", value)?;
-    let values = inner(alloc)?;
-    let name = short(alloc, "b")?;
-    table.insert(name, AMQPValue::FieldArray(values))?;
-    Ok(table)
-}
-
-/// Values that take no memory.
-#[derive(Clone, Copy)]
-enum Small {
-    Signed(i32),
-    Unsigned(u32),
-}
-
-fn value_of(small: Small) -> AMQPValue {
-    match small {
-        Small::Signed(number) => AMQPValue::LongInt(number),
-        Small::Unsigned(number) => AMQPValue::LongUInt(number),
-    }
-}
-
-// Whether two tables of an array and a number are equal, as tables and as values.
-fn are_equal(alloc: Global, this: Small, that: Small) -> Result<bool, TypeFault> {
-    let this = nested(alloc, value_of(this))?;
-    let that = nested(alloc, value_of(that))?;
-    let same = this == that;
-    let value = AMQPValue::FieldTable(this);
-    let other = AMQPValue::FieldTable(that);
-    let equal = value == other && value != AMQPValue::Void;
-    drop(value);
-    drop(other);
-    Ok(same && equal)
+// Whether a table gives back these entries, which are in order, also in a copy.
+fn gives_back(alloc: Global, pairs: &[(&str, u32)]) -> Result<bool, TypeFault> {
+    let entries = entries_of(alloc, pairs)?;
+    let table = FieldTable::from_entries(alloc, entries)?;
+    let copy = table.try_clone(alloc)?;
+    let same = copy == table;
+    drop(table);
+    let entries = copy.into_entries();
+    let told = have(entries.as_slice(), pairs);
+    drop(entries);
+    Ok(same && told)
 }
 
 #[test]
-fn nested_values_are_compared(rt: HostRuntime) -> Result<(), TypeFault> {
-    let rows = [
-        ("the same", Small::Signed(-1), Small::Signed(-1), true),
-        ("another number", Small::Signed(-1), Small::Signed(1), false),
-        ("another kind", Small::Signed(1), Small::Unsigned(1), false),
-    ];
-    for (name, this, that, same) in rows {
-        assert!(rt; are_equal(rt.alloc(), this, that)? == same, "{name}");
-    }
-    Ok(())
-}
-
-// Whether a table is no longer equal to its copy once a value of the copy was changed, and is once
-// it was changed back. It takes the table.
-fn is_another(alloc: Global, table: FieldTable, mut copy: FieldTable) -> Result<bool, TypeFault> {
-    let same = table == copy;
-    let name = short(alloc, "a")?;
-    insert(&mut copy, name, 2)?;
-    let other = table != copy;
-    let name = short(alloc, "a")?;
-    insert(&mut copy, name, 1)?;
-    Ok(same && other && table == copy)
-}
-
-#[test]
-fn a_copy_of_a_table_is_another_table(rt: HostRuntime) -> Result<(), TypeFault> {
-    let table = nested(rt.alloc(), AMQPValue::LongUInt(1))?;
-    let copy = table.try_clone(rt.alloc())?;
-    assert!(rt; is_another(rt.alloc(), table, copy)?);
+fn entries_in_order_are_taken_as_they_stand_and_given_back(
+    rt: HostRuntime,
+) -> Result<(), TypeFault> {
+    assert!(rt; gives_back(rt.alloc(), &[("", 1), ("a", 2), ("b", 3)])?);
     Ok(())
 }
 
@@ -360,27 +275,15 @@ fn inserts(alloc: Global, table: &mut FieldTable, octet: u8) -> bool {
 }
 
 // Inserts a number, once more where memory was refused, which has to leave the table as it was.
-fn insert_again(alloc: Global, table: &mut FieldTable, octet: u8) -> Result<bool, TypeFault> {
+fn insert_again(alloc: Global, table: &mut FieldTable, octet: u8) -> bool {
     let had = table.len();
     let kept = inserts(alloc, table, octet)
         || table.len() == had && !table.contains_key(&[octet]) && inserts(alloc, table, octet);
-    Ok(kept && number_at(table, &[octet]) == Some(u32::from(octet)))
-}
-
-// To be run with each allocation failing in turn: what was refused once is tried again.
-#[test]
-fn a_refused_insertion_changes_nothing(rt: HostRuntime) -> Result<(), TypeFault> {
-    let alloc = rt.alloc();
-    let mut table = FieldTable::new(alloc);
-    for octet in 0..5 {
-        assert!(rt; insert_again(alloc, &mut table, octet)?);
-    }
-    assert!(rt; table.len() == 5);
-    Ok(())
+    kept && number_at(table, &[octet]) == Some(u32::from(octet))
 }
 
 // Pushes a value, once more where memory was refused, which has to leave the array as it was.
-fn push_again(values: &mut Values, octet: u8) -> Result<bool, TypeFault> {
+fn push_again(values: &mut Values, octet: u8) -> Result<bool, NoMemory> {
     let had = values.len();
     if values.push(AMQPValue::ShortShortUInt(octet)).is_err() {
         if values.len() != had {
@@ -391,17 +294,8 @@ fn push_again(values: &mut Values, octet: u8) -> Result<bool, TypeFault> {
     Ok(values.len() == had + 1)
 }
 
-#[test]
-fn a_refused_push_changes_nothing(rt: HostRuntime) -> Result<(), TypeFault> {
-    let mut values = Values::new(rt.alloc());
-    for octet in 0..5 {
-        assert!(rt; push_again(&mut values, octet)?);
-    }
-    Ok(())
-}
-
 // Reserves a place, once more where memory was refused, which has to leave the list as it was.
-fn reserve_again(numbers: &mut Payload64, number: u64) -> Result<bool, TypeFault> {
+fn reserve_again(numbers: &mut Payload64, number: u64) -> Result<bool, NoMemory> {
     let had = numbers.len();
     if numbers.reserve().is_err() {
         if numbers.len() != had {
@@ -413,11 +307,17 @@ fn reserve_again(numbers: &mut Payload64, number: u64) -> Result<bool, TypeFault
     Ok(true)
 }
 
+// To be run with each allocation failing in turn: what was refused once is tried again.
 #[test]
-fn a_refused_place_changes_nothing(rt: HostRuntime) -> Result<(), TypeFault> {
-    let mut numbers = Payload64::empty(rt.alloc());
-    for number in 0..5 {
-        assert!(rt; reserve_again(&mut numbers, number)?);
+fn a_refusal_changes_nothing(rt: HostRuntime) -> Result<(), NoMemory> {
+    let alloc = rt.alloc();
+    let mut table = FieldTable::new(alloc);
+    let mut values = Values::new(alloc);
+    let mut numbers = Payload64::empty(alloc);
+    for octet in 0..5 {
+        assert!(rt; insert_again(alloc, &mut table, octet), "{octet}");
+        assert!(rt; push_again(&mut values, octet)?, "{octet}");
+        assert!(rt; reserve_again(&mut numbers, u64::from(octet))?, "{octet}");
     }
     assert!(rt; numbers.as_slice() == [0, 1, 2, 3, 4].as_slice());
     Ok(())

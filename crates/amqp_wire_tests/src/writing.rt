@@ -1,7 +1,7 @@
 //! Frames that are written into a room.
 
-use crate::support::{joined, octets, spells};
-use amqp_frame::{FixedRoom, Frame, Method, RawKind, RawMethod, Room, encoded_len, write_frame};
+use crate::support::octets;
+use amqp_frame::{FixedRoom, Frame, Method, RawMethod, Room, encoded_len, write_frame};
 use amqp_types::NoMemory;
 use amqp_vectors::{CHANNEL_OPEN_1, octets as said};
 use std::alloc::Global;
@@ -24,39 +24,25 @@ fn is_room(room: &FixedRoom, octets: &[u8], space: usize) -> bool {
     room.as_slice() == octets && room.space() == space
 }
 
+/// Two times channel.open of channel 1.
+const TWO_OPENS: &[u8] = b"\x01\x00\x01\x00\x00\x00\x05\x00\x14\x00\x0a\x00\xce\
+    \x01\x00\x01\x00\x00\x00\x05\x00\x14\x00\x0a\x00\xce";
+
 #[test]
-fn a_written_frame_needs_its_whole_length(rt: HostRuntime) -> Result<(), NoMemory> {
-    let mut narrow = FixedRoom::new(rt.alloc(), 12)?;
-    assert!(rt; puts_open(&mut narrow) == Some(false) && is_room(&narrow, &[], 12));
+fn a_frame_is_written_whole_or_not_at_all(rt: HostRuntime) -> Result<(), NoMemory> {
+    let mut room = FixedRoom::new(rt.alloc(), 38)?;
+    let both = puts_open(&mut room) == Some(true) && puts_open(&mut room) == Some(true);
+    assert!(rt; both && is_room(&room, TWO_OPENS, 12));
+    assert!(rt; puts_open(&mut room) == Some(false) && is_room(&room, TWO_OPENS, 12));
+    room.clear();
+    assert!(rt; is_room(&room, &[], 38));
     Ok(())
 }
 
 #[test]
-fn a_room_is_filled_and_cleared(rt: HostRuntime) -> Result<(), NoMemory> {
+fn a_frame_fills_a_room_of_its_length(rt: HostRuntime) -> Result<(), NoMemory> {
     let mut room = FixedRoom::new(rt.alloc(), 13)?;
     assert!(rt; puts_open(&mut room) == Some(true) && is_room(&room, said::CHANNEL_OPEN_1, 0));
-    assert!(rt; puts_open(&mut room) == Some(false) && is_room(&room, said::CHANNEL_OPEN_1, 0));
-    room.clear();
-    assert!(rt; is_room(&room, &[], 13));
-    Ok(())
-}
-
-// How many frames of 13 octets a room takes.
-fn taken_by(room: &mut FixedRoom) -> usize {
-    for count in 0..100 {
-        if puts_open(room) != Some(true) {
-            return count;
-        }
-    }
-    100
-}
-
-#[test]
-fn frames_are_written_one_after_another(rt: HostRuntime) -> Result<(), NoMemory> {
-    let mut room = FixedRoom::new(rt.alloc(), 30)?;
-    let count = taken_by(&mut room);
-    let twice = joined(rt.alloc(), &[said::CHANNEL_OPEN_1, said::CHANNEL_OPEN_1])?;
-    assert!(rt; count == 2 && is_room(&room, twice.as_slice(), 4));
     Ok(())
 }
 
@@ -75,46 +61,12 @@ fn is_raw_method(alloc: Global, method: &RawMethod) -> Result<bool, NoMemory> {
     )
 }
 
-// Whether a text spells the frame of a raw method. It takes the method.
-fn is_frame_of(alloc: Global, text: &str, method: RawMethod) -> Result<bool, NoMemory> {
-    let frame = Frame::Raw(1, RawKind::RawMethod, method.into_payload());
-    match octets(alloc, text) {
-        Ok(bytes) => spells(alloc, bytes.as_slice(), frame),
-        Err(e) => {
-            drop(frame);
-            Err(e)
-        }
-    }
-}
-
 #[test]
 fn a_raw_method_keeps_its_parts(rt: HostRuntime) -> Result<(), NoMemory> {
     let method = RawMethod::new(rt.alloc(), 60, 40, b"\x00\x01")?;
     let kept = is_raw_method(rt.alloc(), &method)?;
-    let text = "01 0001 00000006 003c0028 0001 ce";
-    assert!(rt; kept && is_frame_of(rt.alloc(), text, method)?);
-    Ok(())
-}
-
-// Whether raw methods of these arguments are equal.
-fn are_equal(alloc: Global, this: &[u8], that: &[u8]) -> Result<bool, NoMemory> {
-    let this = RawMethod::new(alloc, 60, 40, this)?;
-    let that = RawMethod::new(alloc, 60, 40, that)?;
-    let same = this == that;
-    drop(this);
-    drop(that);
-    Ok(same)
-}
-
-#[test]
-fn raw_methods_are_equal_by_their_arguments(rt: HostRuntime) -> Result<(), NoMemory> {
-    let rows: [(&[u8], bool); 2] = [(b"", true), (b"\x00", false)];
-    for (arguments, same) in rows {
-        assert!(rt;
-            are_equal(rt.alloc(), b"", arguments)? == same,
-            "{arguments:?}"
-        );
-    }
+    let payload = method.into_payload();
+    assert!(rt; kept && payload.as_bytes() == b"\x00\x3c\x00\x28\x00\x01".as_slice());
     Ok(())
 }
 
