@@ -121,7 +121,7 @@ impl<'a> View for Plain<'a> {
     ghost bytes = { λ v. v.octets.now };
 
     fn len(&self) -> usize {
-        self.octets.len()
+        View::len(&self.octets)
     }
 
     fn at(&self, index: usize) -> u8 {
