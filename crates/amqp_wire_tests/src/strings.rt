@@ -70,7 +70,8 @@ fn short_strings_are_in_byte_order(rt: HostRuntime) -> Result<(), TypeFault> {
 
 // ---- long strings
 
-// Whether a long string of these octets holds them, also in a copy and once they were moved out.
+// Whether a long string of these octets holds them, also in a copy and once they were moved out, and
+// is `xy` exactly where they are.
 fn is_long(alloc: Global, octets: &[u8]) -> Result<bool, TypeFault> {
     let string = LongString::new(alloc, octets)?;
     let copy = string.try_clone(alloc)?;
@@ -78,13 +79,16 @@ fn is_long(alloc: Global, octets: &[u8]) -> Result<bool, TypeFault> {
     drop(copy);
     let again = LongString::from_vec(string.into_vec());
     let kept = again.as_bytes() == octets && again.is_empty() == octets.is_empty();
+    let other = LongString::new(alloc, b"xy")?;
+    let told = (again == other) == (octets == b"xy".as_slice());
+    drop(other);
     drop(again);
-    Ok(same && kept)
+    Ok(same && kept && told)
 }
 
 #[test]
 fn a_long_string_holds_its_octets(rt: HostRuntime) -> Result<(), TypeFault> {
-    let rows: [&[u8]; 3] = [b"", b"xy", &[7; 300]];
+    let rows: [&[u8]; 4] = [b"", b"xy", b"xz", &[7; 300]];
     for octets in rows {
         assert!(rt; is_long(rt.alloc(), octets)?, "{octets:?}");
     }
@@ -184,6 +188,7 @@ fn many_numbers_are_pushed(rt: HostRuntime) -> Result<(), NoMemory> {
 fn a_list_of_numbers_is_made_of_them(rt: HostRuntime) -> Result<(), NoMemory> {
     let numbers = Payload64::new(rt.alloc(), &[0, 1, 4])?;
     let again = Payload64::from_vec(numbers.into_vec());
-    assert!(rt; again.len() == 3 && are_squares(again.as_slice()));
+    let shorter = Payload64::new(rt.alloc(), &[0, 1])?;
+    assert!(rt; again.len() == 3 && are_squares(again.as_slice()) && again != shorter);
     Ok(())
 }

@@ -112,6 +112,7 @@ fn every_kind_of_value_is_copied(rt: HostRuntime) -> Result<(), TypeFault> {
     let same = copies == values && copies.len() == 17 && !copies.is_empty();
     let again = Values::from_vec(copies.into_vec());
     assert!(rt; copied && same && are_equal_in_place(again.as_slice(), values.as_slice()));
+    assert!(rt; Values::new(rt.alloc()).is_empty());
     Ok(())
 }
 
@@ -261,6 +262,50 @@ fn entries_in_order_are_taken_as_they_stand_and_given_back(
     rt: HostRuntime,
 ) -> Result<(), TypeFault> {
     assert!(rt; gives_back(rt.alloc(), &[("", 1), ("a", 2), ("b", 3)])?);
+    Ok(())
+}
+
+// A table of this value under `a`, and of an array under `b`.
+fn nested(alloc: Global, value: AMQPValue) -> Result<FieldTable, TypeFault> {
+    let mut table = table_with(alloc, "a", value)?;
+    let array = array_of_void(alloc)?;
+    let name = short(alloc, "b")?;
+    table.insert(name, AMQPValue::FieldArray(array))?;
+    Ok(table)
+}
+
+// A number with a sign or without, by its place among some.
+fn number(place: usize) -> AMQPValue {
+    match place {
+        0 => AMQPValue::LongInt(-1),
+        1 => AMQPValue::LongInt(1),
+        _ => AMQPValue::LongUInt(1),
+    }
+}
+
+// Whether the tables of two numbers are equal, as tables and as values.
+fn are_equal(alloc: Global, this: usize, that: usize) -> Result<bool, TypeFault> {
+    let this = nested(alloc, number(this))?;
+    let that = nested(alloc, number(that))?;
+    let same = this == that;
+    let this = AMQPValue::FieldTable(this);
+    let that = AMQPValue::FieldTable(that);
+    let equal = this == that;
+    drop(this);
+    drop(that);
+    Ok(same && equal)
+}
+
+#[test]
+fn nested_values_are_compared(rt: HostRuntime) -> Result<(), TypeFault> {
+    let rows = [
+        ("the same number", 0, 0, true),
+        ("another number", 0, 1, false),
+        ("the same number without a sign", 1, 2, false),
+    ];
+    for (name, this, that, same) in rows {
+        assert!(rt; are_equal(rt.alloc(), this, that)? == same, "{name}");
+    }
     Ok(())
 }
 
