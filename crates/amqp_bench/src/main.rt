@@ -1,0 +1,58 @@
+//! Does one kind of work so many times, for whoever times it: writes or reads body frames in memory,
+//! or sends over a session that is driven call by call.
+//!
+//! It says what it did, and no time: `bench/run` times it.
+#![tactic(auto)]
+
+mod job;
+mod sends;
+mod wire;
+
+use job::{Job, job_of};
+use std::io::ErrorKind;
+use std::process::ExitCode;
+use std::{env, io};
+
+const USAGE: &str = "usage: amqp_bench write SIZE COUNT | read SIZE COUNT | sends COUNT";
+
+// The job that the words after the program's name tell.
+fn job_given(rt: &HostRuntime) -> io::Result<Option<Job>> {
+    let mut words = env::args(rt)?.skip(1);
+    let kind = words.next();
+    let first = words.next();
+    let second = words.next();
+    Ok(job_of(kind, first, second))
+}
+
+// What was done, in octets or in answers; nothing where memory was refused.
+fn done_of(rt: &HostRuntime, job: Job) -> Option<u64> {
+    match job {
+        Job::Write { size, count } => wire::write(rt.alloc(), size, count),
+        Job::Read { size, count } => wire::read(rt.alloc(), size, count),
+        Job::Sends { count } => sends::sends(rt.alloc(), count),
+    }
+}
+
+fn run(rt: &HostRuntime) -> io::Result<ExitCode> {
+    let Some(job) = job_given(rt)? else {
+        rt.eprintln(USAGE)?;
+        return Ok(ExitCode::from(2));
+    };
+    let Some(done) = done_of(rt, job) else {
+        return Err(ErrorKind::OutOfMemory.into());
+    };
+    match job {
+        Job::Write { size, count } => {
+            println!(rt; "wrote {count} frames of {size} octets: {done} octets in all")?
+        }
+        Job::Read { size, count } => {
+            println!(rt; "read {count} frames of {size} octets: {done} octets in all")?
+        }
+        Job::Sends { count } => println!(rt; "sent {count} methods: {done} answers taken")?,
+    }
+    Ok(ExitCode::SUCCESS)
+}
+
+fn main(rt: HostRuntime) -> ExitCode {
+    run(&rt).unwrap_or(ExitCode::FAILURE)
+}
