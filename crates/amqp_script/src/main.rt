@@ -1,29 +1,16 @@
 //! Replays a script of a connection over a port in memory, and prints a report.
 #![tactic(auto)]
 
-mod data;
-mod ends;
-mod grammar;
-mod limits;
-mod lines;
-mod memory_ends;
-mod numbers;
-mod report;
-mod script;
 mod standard_ends;
-mod status;
-mod top;
-mod transfer;
-mod words;
 
 use amqp_engine::MemoryPort;
+use amqp_replay::status::{NO_MEMORY, USAGE};
+use amqp_replay::top::top;
 use amqp_types::{NoMemory, Text};
 use standard_ends::{Reading, Writing};
-use status::{NO_MEMORY, USAGE};
 use std::env;
 use std::io::ErrorKind;
 use std::process::ExitCode;
-use top::top;
 
 // The words after the program's name. One that is no text makes none of them known.
 fn words_given(rt: &HostRuntime) -> Result<Vec<Text>, NoMemory> {
@@ -57,6 +44,3 @@ fn run(rt: &HostRuntime) -> Result<u8, NoMemory> {
 fn main(rt: HostRuntime) -> ExitCode {
     ExitCode::from(run(&rt).unwrap_or(NO_MEMORY))
 }
-
-#[cfg(test)]
-mod tests;

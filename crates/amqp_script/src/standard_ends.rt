@@ -3,7 +3,7 @@
 ghost use Rattle.std.specs.Prelude.{◌≡◌, ◌≤◌, None};
 ghost use Rattle.amqp_engine.specs.Counts.{Rose};
 
-use crate::ends::{Gave, Put, Sink, Source};
+use amqp_replay::{Gave, Put, Sink, Source};
 use std::io::{Read, Write};
 
 /// A reader, with a count of its failures.

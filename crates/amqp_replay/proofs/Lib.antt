@@ -1,0 +1,14 @@
+pub mod Cuts
+pub mod LineLemmas
+pub mod DecimalLemmas
+pub mod DataLemmas
+pub mod FreeLines
+pub mod Steps
+pub mod MostRead
+pub mod Pieces
+pub mod Reports
+pub mod FrameLines
+pub mod Streams
+pub mod Replaying
+pub mod Statuses
+pub mod Lone

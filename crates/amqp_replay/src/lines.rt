@@ -1,0 +1,104 @@
+//! The lines of a text.
+
+ghost use Rattle.std.specs.Prelude.{◌≡◌, slice_get, drop};
+ghost use Rattle.std.specs.Str.Lines.{strip_carriage_return};
+ghost use Rattle.amqp_replay.specs.Lines.{lines};
+
+use crate::words::cut;
+use std::marker::Model;
+
+/// A line.
+#[derive(Drop)]
+pub struct Line<'a> {
+    /// The lines are counted from 1.
+    pub number: u64,
+    /// Its bytes, without its end.
+    pub content: &'a [u8],
+    /// How many bytes of the text there are up to its end.
+    pub end: usize,
+}
+
+impl<'a> Model for Line<'a> {
+    ghost use Rattle.amqp_replay.specs.Lines.{Line};
+
+    ghost Value = { Line };
+
+    ghost view = { λ l. record { number = l.number; content = l.content.now; end = l.end } };
+}
+
+/// The lines of a text that are left.
+#[derive(Drop)]
+pub struct Lines<'a> {
+    rest: &'a [u8],
+    // the number of the next line
+    number: u64,
+    // how many bytes came before
+    before: usize,
+}
+
+impl<'a> Model for Lines<'a> {
+    ghost use Rattle.std.specs.Prelude.{◌<◌, ◌≤◌, ◌+◌, ◌^◌, List, length};
+    ghost use Rattle.amqp_replay.specs.Lines.{Line, lines_from};
+
+    ghost Value = { List Line };
+
+    ghost view = { λ l. lines_from l.number l.before l.rest.now };
+
+    ghost invariant = { λ l. (l.number ≤ l.before + 1) × (l.before + length l.rest.now < 2 ^ 63) };
+}
+
+impl<'a> Lines<'a> {
+    pub fn new(text: &'a [u8]) -> Lines<'a>
+        ensures { result ≡ lines text.now }
+    {
+        Lines {
+            rest: text,
+            number: 1,
+            before: 0,
+        }
+    }
+
+    /// Takes the first line.
+    pub fn take_line(&mut self) -> Option<Line<'a>>
+        ensures first { result ≡ slice_get self.old 0 }
+        ensures rest { self.new ≡ drop 1 self.old }
+    {
+        let (part, after) = cut(self.rest, b'\n');
+        let number = self.number;
+        match after {
+            Some(rest) => {
+                let end = self.before + part.len() + 1;
+                self.rest = rest;
+                self.number += 1;
+                self.before = end;
+                Some(Line {
+                    number,
+                    content: without_carriage_return(part),
+                    end,
+                })
+            }
+            None => {
+                let end = self.before + part.len();
+                self.rest = &[];
+                self.before = end;
+                if part.is_empty() {
+                    return None;
+                }
+                Some(Line {
+                    number,
+                    content: part,
+                    end,
+                })
+            }
+        }
+    }
+}
+
+fn without_carriage_return(part: &[u8]) -> &[u8]
+    ensures { result.now ≡ strip_carriage_return part.now }
+{
+    match part {
+        [front @ .., b'\r'] => front,
+        _ => part,
+    }
+}

@@ -1,0 +1,212 @@
+//! The report of a replay.
+
+ghost use Rattle.std.specs.Prelude.{◌≡◌, ◌++◌, ◌+◌, ◌<◌, ◌^◌, ◌↔◌, Some, Err, OnOk, IfOk, IsTrue, slice_get, length};
+ghost use Rattle.std.specs.List.{flat_map};
+ghost use Rattle.std.specs.String.{string_bytes};
+ghost use Rattle.amqp_session.specs.Talk.{end_of};
+ghost use Rattle.amqp_session.specs.Answers.{answer_of};
+ghost use Rattle.amqp_replay.specs.Report.{link_line, link_lines, answer_line, answer_lines, kind_text, frame_line, frame_lines, end_line, report, refusal};
+
+use amqp_engine::{IoLoop, ScriptedPort};
+use amqp_frame::RawKind;
+use amqp_session::{Answer, ErrorKind, Handed};
+use amqp_types::NoMemory;
+use std::alloc::Global;
+use std::marker::Model;
+
+/// What is printed, and the status that goes with it.
+#[derive(Debug, Drop)]
+pub struct Printout {
+    status: u8,
+    text: String,
+}
+
+impl Model for Printout {
+    ghost use Rattle.std.specs.String.{string_bytes};
+    ghost use Rattle.amqp_replay.specs.Report.{Printout};
+
+    ghost Value = { Printout };
+
+    ghost view = { λ p. record { status = p.status; text = string_bytes p.text } };
+}
+
+impl Printout {
+    pub fn new(status: u8, text: String) -> Printout
+        ensures { result ≡ record { status = status; text = string_bytes text } }
+    {
+        Printout { status, text }
+    }
+
+    pub fn status(&self) -> u8
+        ensures { result ≡ self.now.status }
+    {
+        self.status
+    }
+
+    pub fn as_bytes(&self) -> &[u8]
+        ensures { result.now ≡ self.now.text }
+    {
+        self.text.as_bytes()
+    }
+}
+
+/// The report of an engine over its port. It takes the answers to the promises.
+pub fn report<P: ScriptedPort>(
+    alloc: Global,
+    engine: &mut IoLoop,
+    port: &P,
+) -> Result<String, NoMemory>
+    ensures { IfOk result (λ text. string_bytes text ≡ report (P.links_taken port.now) engine.old.talk) }
+{
+    let mut out = String::new(alloc);
+    put_links(alloc, &mut out, port)?;
+    put_answers(&mut out, engine)?;
+    put_frames(alloc, &mut out, engine)?;
+    put_end(&mut out, ended(engine)?)?;
+    Ok(out)
+}
+
+fn put_links<P: ScriptedPort>(alloc: Global, out: &mut String, port: &P) -> Result<(), NoMemory>
+    ensures { OnOk result (string_bytes out.new ≡ string_bytes out.old ++ link_lines (P.links_taken port.now)) }
+{
+    let count = port.links();
+    'links: for k in 0..count {
+        put_link(alloc, out, k as u64 + 1, port.link(k))?;
+    }
+    Ok(())
+}
+
+fn put_answers(out: &mut String, engine: &mut IoLoop) -> Result<(), NoMemory>
+    ensures answers { OnOk result (string_bytes out.new ≡ string_bytes out.old ++ answer_lines engine.old.talk) }
+    ensures frames { frame_lines engine.new.talk ≡ frame_lines engine.old.talk }
+    ensures end { end_of engine.new.talk ≡ end_of engine.old.talk }
+{
+    let count = engine.session().promises();
+    'answers: for number in 0..count {
+        let answer = engine.answer(number);
+        if is_refused(&answer) {
+            return Err(NoMemory);
+        }
+        put_answer(out, number, answer)?;
+    }
+    Ok(())
+}
+
+// Whether memory was refused for the copy of an error.
+fn is_refused<T>(answer: &Option<amqp_session::Result<T>>) -> bool
+    ensures { IsTrue result ↔ (answer.now ≡ Some (Err ErrorKind.NoMemory)) }
+{
+    match answer {
+        Some(Err(error)) => *error.kind() == ErrorKind::NoMemory,
+        _ => false,
+    }
+}
+
+/// How the session ended.
+pub fn ended(engine: &IoLoop) -> Result<Option<amqp_session::Result<()>>, NoMemory>
+    ensures { IfOk result (λ end. end ≡ end_of engine.now.talk) }
+{
+    let end = engine.session().end();
+    if is_refused(&end) {
+        return Err(NoMemory);
+    }
+    Ok(end)
+}
+
+// The line of a link.
+fn put_link(alloc: Global, out: &mut String, number: u64, bytes: &[u8]) -> Result<(), NoMemory>
+    ensures { OnOk result (string_bytes out.new ≡ string_bytes out.old ++ link_line (number, bytes.now)) }
+{
+    if bytes.is_empty() {
+        write!(out, "link {number} -\n")?;
+        return Ok(());
+    }
+    let digits = hex::encode(alloc, bytes)?;
+    write!(out, "link {number} {digits}\n")?;
+    Ok(())
+}
+
+// The line of a promise.
+fn put_answer(
+    out: &mut String,
+    number: u64,
+    answer: Option<amqp_session::Result<Answer>>,
+) -> Result<(), NoMemory>
+    ensures { OnOk result (string_bytes out.new ≡ string_bytes out.old ++ answer_line number answer) }
+{
+    match answer {
+        None => write!(out, "answer {number} pending\n")?,
+        Some(Ok(Answer::Connected)) => write!(out, "answer {number} ok connected\n")?,
+        Some(Ok(Answer::Channel(id, _))) => write!(out, "answer {number} ok channel {id}\n")?,
+        Some(Ok(Answer::Done)) => write!(out, "answer {number} ok done\n")?,
+        Some(Ok(Answer::Sent)) => write!(out, "answer {number} ok sent\n")?,
+        Some(Err(error)) => write!(out, "answer {number} err {error}\n")?,
+    }
+    Ok(())
+}
+
+// The frames handed out, of the channel that each promise opened.
+fn put_frames(alloc: Global, out: &mut String, engine: &mut IoLoop) -> Result<(), NoMemory>
+    ensures frames { OnOk result (string_bytes out.new ≡ string_bytes out.old ++ frame_lines engine.old.talk) }
+    ensures end { end_of engine.new.talk ≡ end_of engine.old.talk }
+{
+    let count = engine.session().promises();
+    'openings: for number in 0..count {
+        let frames = engine.take_frames(number)?;
+        put_each(alloc, out, &frames)?;
+    }
+    Ok(())
+}
+
+// Frames of one channel.
+fn put_each(alloc: Global, out: &mut String, frames: &[Handed]) -> Result<(), NoMemory>
+    ensures { OnOk result (string_bytes out.new ≡ string_bytes out.old ++ flat_map frame_line frames.now) }
+{
+    'frames: for frame in frames {
+        put_frame(alloc, out, frame)?;
+    }
+    Ok(())
+}
+
+// The line of a frame.
+fn put_frame(alloc: Global, out: &mut String, frame: &Handed) -> Result<(), NoMemory>
+    ensures { OnOk result (string_bytes out.new ≡ string_bytes out.old ++ frame_line frame.now) }
+{
+    let (id, kind) = (frame.channel, kind_text(frame.kind));
+    if frame.bytes.is_empty() {
+        write!(out, "frame {id} {kind} -\n")?;
+        return Ok(());
+    }
+    let digits = hex::encode(alloc, frame.bytes.as_bytes())?;
+    write!(out, "frame {id} {kind} {digits}\n")?;
+    Ok(())
+}
+
+fn kind_text(kind: RawKind) -> &'static str
+    ensures { result.now ≡ kind_text kind }
+{
+    match kind {
+        RawKind::RawMethod => "method",
+        RawKind::Header => "header",
+        RawKind::Body => "body",
+    }
+}
+
+// The last line.
+fn put_end(out: &mut String, end: Option<amqp_session::Result<()>>) -> Result<(), NoMemory>
+    ensures { OnOk result (string_bytes out.new ≡ string_bytes out.old ++ end_line end) }
+{
+    match end {
+        None => out.push_str("end running\n")?,
+        Some(Ok(())) => out.push_str("end closed\n")?,
+        Some(Err(error)) => write!(out, "end error {error}\n")?,
+    }
+    Ok(())
+}
+
+/// What is printed of a script with a line that is refused.
+pub fn refusal(alloc: Global, number: u64) -> Result<String, NoMemory>
+    ensures { IfOk result (λ text. string_bytes text ≡ refusal number) }
+{
+    Ok(format!(in alloc; "script line {number} refused\n")?)
+}
