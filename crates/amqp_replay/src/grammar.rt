@@ -59,7 +59,8 @@ fn is_printable(content: &[u8]) -> bool
     content.iter().all(|b| 0x20 <= *b && *b <= 0x7e)
 }
 
-fn is_ignored(content: &[u8]) -> bool
+/// Whether a line is empty or a comment.
+pub fn is_ignored(content: &[u8]) -> bool
     ensures { result ≡ is_ignored content.now }
 {
     content.is_empty() || content[0] == b'#'

@@ -5,6 +5,7 @@
 //! answered. What it promises is stated in `specs/Top.antt`.
 #![tactic(auto)]
 
+mod counted_port;
 mod data;
 mod decimals;
 mod ends;
@@ -15,9 +16,13 @@ mod memory_ends;
 mod report;
 mod script;
 pub mod status;
+mod stream_ends;
 pub mod top;
 mod transfer;
 mod words;
 
+pub use counted_port::CountedPort;
 pub use ends::{Gave, Put, Sink, Source};
 pub use memory_ends::{MemorySink, MemorySource};
+pub use script::line_of_step;
+pub use stream_ends::{Reading, Writing};

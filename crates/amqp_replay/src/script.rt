@@ -3,9 +3,10 @@
 ghost use Rattle.std.specs.Prelude.{◌≡◌, IfOk};
 ghost use Rattle.amqp_engine.specs.Plan.{ArePieces};
 ghost use Rattle.amqp_replay.specs.Grammar.{parsed};
-ghost use Rattle.amqp_replay.specs.Scripts.{script_read, ScriptArePieces};
+ghost use Rattle.amqp_replay.specs.Lines.{lines};
+ghost use Rattle.amqp_replay.specs.Scripts.{script_read, ScriptArePieces, line_of_step};
 
-use crate::grammar::{Said, says};
+use crate::grammar::{Said, is_ignored, says};
 use crate::limits::ZERO_BYTES;
 use crate::lines::Lines;
 use amqp_engine::Given;
@@ -40,4 +41,23 @@ pub fn parse(alloc: Global, text: &[u8]) -> Result<Script, NoMemory>
         }
     }
     Ok(Script::Steps(steps))
+}
+
+/// The number of the line that says a step, the steps of a script being counted from 1.
+pub fn line_of_step(text: &[u8], step: u64) -> Option<u64>
+    ensures { result ≡ line_of_step step (lines text.now) }
+{
+    let mut lines = Lines::new(text);
+    // the steps up to that one
+    let mut left = step;
+    'lines: while let Some(line) = lines.take_line() {
+        if is_ignored(line.content) {
+            continue;
+        }
+        if left <= 1 {
+            return Some(line.number);
+        }
+        left -= 1;
+    }
+    None
 }
