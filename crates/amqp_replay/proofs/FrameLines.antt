@@ -1,8 +1,7 @@
 -- The lines of the frames handed out, opening by opening.
 use Rattle.std.proofs.Common.{◌≡◌, ◌≢◌, ◌≤◌, ◌<◌, ◌+◌, ◌-◌, ◌==◌, ℕ, suc, Bool, true, false, List, [], ◌∷◌, ◌++◌, length, drop, get_or, unwrap_or, Some, refl, ap, sym, ◌∙◌, cond, arith, add-one}
-use Rattle.std.proofs.Math.Seq.{drop-cons}
 use Rattle.std.proofs.lemmas.Bool.Decides.{nat_tests}
-use Rattle.std.specs.List.{flat_map, range_with_len}
+use Rattle.std.specs.List.{flat_map}
 use Rattle.std.specs.Ordering.{nat_cmp}
 use Rattle.std.specs.BTreeMap.{is_at}
 use Rattle.std.specs.Cmp.{unsigned_tied}
@@ -12,6 +11,7 @@ use Rattle.amqp_session.specs.Talk.{Talk, end_of}
 use Rattle.amqp_session.specs.Channels.{frames_of}
 use Rattle.amqp_session.specs.Answers.{take_frames}
 use Rattle.amqp_replay.specs.Report.{frame_line}
+use Rattle.amqp_replay.proofs.Reports.{drop_from, lines_from}
 
 -- ---- the frames of one opening
 
@@ -21,10 +21,7 @@ frames_after k frames = flat_map frame_line (drop k frames)
 
 pub frames_after-step : (k : ℕ) (frames : List Handed) (h : Handed) → k < length frames → h ≡ get_or frames k h
     → frames_after k frames ≡ frame_line h ++ frames_after (k + 1) frames
-frames_after-step k frames h there same =
-    let split : drop k frames ≡ h ∷ drop (k + 1) frames =
-    rw (add-one, drop-cons frames k h there) (ap (λ (x : Handed). x ∷ drop (suc k) frames) (sym same)) in
-    ap (flat_map frame_line) split
+frames_after-step k frames h there same = ap (flat_map frame_line) (drop_from k frames h there same)
 
 -- ---- opening by opening
 
@@ -33,13 +30,7 @@ lines_of_opening t number = flat_map frame_line (frames_of number t)
 
 -- the lines of so many openings from one on
 abbrev pub frames_from : Talk → ℕ → ℕ → List ℕ
-frames_from t number count = flat_map (lines_of_opening t) (range_with_len number count)
-
-pub frames_from-step : (t : Talk) (number count : ℕ) → number < count
-    → frames_from t number (count - number) ≡ lines_of_opening t number ++ frames_from t (number + 1) (count - (number + 1))
-frames_from-step t number count h =
-    let more : count - number ≡ suc (count - (number + 1)) = omega arith in
-    ap (frames_from t number) more
+frames_from t number count = lines_from (lines_of_opening t) number count
 
 -- the frames of the openings from one on are those of before, and so is the end
 pub record KeepsFrames (number : ℕ) (before now : Talk) : Type 0 where

@@ -1,14 +1,13 @@
 -- A replay, from the contracts of the port and the engine.
-use Rattle.std.proofs.Common.{◌≡◌, ℕ, List, false, Option, Some, None, is_some, option_map, IfSome, length, ap, sym, subst, refl}
+use Rattle.std.proofs.Common.{◌≡◌, ℕ, List, false, Option, Some, None, is_some, IfSome, length, ap, sym, subst, refl}
 use Rattle.std.specs.Prelude.{IsSome}
 use Rattle.amqp_session.specs.Talk.{Talk}
 use Rattle.amqp_engine.specs.declared.given.Given.{Given}
 use Rattle.amqp_engine.specs.Log.{Log, loaded}
 use Rattle.amqp_engine.specs.Engine.{Engine, begin}
 use Rattle.amqp_engine.specs.Turn.{talk}
-use Rattle.amqp_engine.specs.Tell.{log_turns}
 use Rattle.amqp_engine.specs.Play.{replayed, IsPlayed}
-use Rattle.amqp_replay.specs.Top.{replayed_links}
+use Rattle.amqp_replay.specs.Top.{replayed_log, replayed_links}
 
 -- a run of a loaded script, where memory was not refused
 abbrev pub Plays : ℕ → Engine → Engine → Option Log → Option Log → Type 0
@@ -18,7 +17,7 @@ Plays n e e' before after = IfSome before (λ log. IsSome log.plan → e'.starve
 pub record IsReplayed (gs : List Given) (t : Talk) (log : Option Log) (links : List (List ℕ)) : Type 0 where
   pub talk_is : t ≡ talk (replayed gs)
   pub links_are : links ≡ replayed_links gs
-  pub told : option_map (λ (a : Log). a.links) log ≡ Some (replayed_links gs)
+  pub told : log ≡ Some (replayed_log gs)
 
 ties_at : (log : Option Log) (a : Log) (links : List (List ℕ)) → log ≡ Some a → IfSome log (λ x. x.links ≡ links) → a.links ≡ links
 ties_at log a links h ties =
@@ -35,8 +34,8 @@ IsReplayed-run gs n e e' before after links count new loads plays whole ties =
     let played : IsPlayed (length gs) begin e' (loaded gs) after = subst C loads (subst B new (subst A count plays)) refl whole in
     record {
       talk_is = sym (ap (λ (x : Engine). x.talk) played.engine);
-      links_are = sym (ties_at after (log_turns (replayed gs) begin (loaded gs)) links played.told ties);
-      told = ap (option_map (λ (a : Log). a.links)) played.told;
+      links_are = sym (ties_at after (replayed_log gs) links played.told ties);
+      told = played.told;
     }
 
 pub none_from : {A : Type 0} (o : Option A) → is_some o ≡ false → o ≡ None

@@ -1,5 +1,5 @@
 -- The lines of a report, one by one.
-use Rattle.std.proofs.Common.{◌≡◌, ◌≤◌, ◌<◌, ◌+◌, ◌-◌, ℕ, zero, suc, Bool, true, false, if◌then◌else◌, is_some, IsTrue, List, [], ◌∷◌, ◌++◌, length, drop, slice_get, slice_set, Option, Some, Result, Err, inl, inr, refl, ap, ◌∙◌, arith, get_or, add-one}
+use Rattle.std.proofs.Common.{◌≡◌, ◌≤◌, ◌<◌, ◌+◌, ◌-◌, ℕ, zero, suc, Bool, true, false, if◌then◌else◌, is_some, IsTrue, List, [], ◌∷◌, ◌++◌, length, drop, slice_get, slice_set, Option, Some, Result, Err, inl, inr, refl, ap, sym, ◌∙◌, append_assoc, arith, get_or, add-one}
 use Rattle.std.proofs.Math.Seq.{drop-cons}
 use Rattle.std.proofs.lemmas.Option.{slice_get_within, get_or_from_slice_get}
 use Rattle.std.specs.List.{flat_map, enumerate_from, range_with_len}
@@ -13,22 +13,34 @@ use Rattle.amqp_session.specs.Answers.{answer_in, answer_of, take_answer, Takes}
 use Rattle.amqp_session.specs.Channels.{frames_of}
 use Rattle.amqp_replay.specs.Report.{link_line, link_lines, answer_line, answer_lines, frame_line, frame_lines, end_line, report}
 
+-- ---- lists, one by one
+
+-- the elements from one on
+pub drop_from : {A : Type 0} (k : ℕ) (xs : List A) (x : A) → k < length xs → x ≡ get_or xs k x → drop k xs ≡ x ∷ drop (k + 1) xs
+drop_from k xs x there same = rw (add-one, drop-cons xs k x there) (ap (λ y. y ∷ drop (suc k) xs) (sym same))
+
+-- the lines of so many numbers from one on
+abbrev pub lines_from : (ℕ → List ℕ) → ℕ → ℕ → List ℕ
+lines_from line number count = flat_map line (range_with_len number count)
+
+pub lines_from-step : (line : ℕ → List ℕ) (number count : ℕ) → number < count
+    → lines_from line number (count - number) ≡ line number ++ lines_from line (number + 1) (count - (number + 1))
+lines_from-step line number count h =
+    let more : count - number ≡ suc (count - (number + 1)) = omega arith in
+    ap (lines_from line number) more
+
 -- ---- links
 
 -- the lines of the links from one on
 abbrev pub links_from : ℕ → List (List ℕ) → List ℕ
 links_from k links = flat_map link_line (enumerate_from (k + 1) (drop k links))
 
-drop_at : (links : List (List ℕ)) (k : ℕ) (link : List ℕ) → slice_get links k ≡ Some link → drop k links ≡ link ∷ drop (k + 1) links
-drop_at links k link h =
-    let there : k < length links = slice_get_within links k link h in
-    let same : get_or links k link ≡ link = get_or_from_slice_get links k link link h in
-    rw (add-one, drop-cons links k link there) (ap (λ (x : List ℕ). x ∷ drop (suc k) links) same)
-
 pub links_from-step : (k : ℕ) (links : List (List ℕ)) (link : List ℕ) → slice_get links k ≡ Some link
     → links_from k links ≡ link_line (k + 1, link) ++ links_from (k + 1) links
 links_from-step k links link h =
-    ap (λ (x : List (List ℕ)). flat_map link_line (enumerate_from (k + 1) x)) (drop_at links k link h)
+    let there : k < length links = slice_get_within links k link h in
+    let same : get_or links k link ≡ link = get_or_from_slice_get links k link link h in
+    ap (λ (x : List (List ℕ)). flat_map link_line (enumerate_from (k + 1) x)) (drop_from k links link there (sym same))
 
 drop_all : (links : List (List ℕ)) (k : ℕ) → length links ≤ k → drop k links ≡ []
 drop_all [] zero h = refl
@@ -46,22 +58,13 @@ line_of t number = answer_line number (answer_of number t)
 
 -- the lines of so many promises from one on
 abbrev pub answers_from : Talk → ℕ → ℕ → List ℕ
-answers_from t number count = flat_map (line_of t) (range_with_len number count)
-
-pub answers_from-step : (t : Talk) (number count : ℕ) → number < count
-    → answers_from t number (count - number) ≡ line_of t number ++ answers_from t (number + 1) (count - (number + 1))
-answers_from-step t number count h =
-    let more : count - number ≡ suc (count - (number + 1)) = omega arith in
-    ap (answers_from t number) more
+answers_from t number count = lines_from (line_of t) number count
 
 -- the answers from a promise on are those of before, and so are all frames and the end
 pub record Keeps (number : ℕ) (before now : Talk) : Type 0 where
   pub answers : (k : ℕ) → number ≤ k → answer_of k now ≡ answer_of k before
   pub frames : frame_lines now ≡ frame_lines before
   pub end : end_of now ≡ end_of before
-
-pub absurd_of : (b : Bool) → b ≡ false → IsTrue b → ⊥
-absurd_of b h is = cc
 
 -- an answer that is not a refusal of memory was taken as it was kept
 pub Takes-told : (number : ℕ) (given : Option (Result Answer ErrorKind)) (before after : Talk) → (given ≡ Some (Err NoMemory) → ⊥)
@@ -111,14 +114,18 @@ Keeps-step number before now keeps =
 -- ---- the whole report
 
 -- the parts, written one after another
-pub report-parts : (links : List (List ℕ)) (t : Talk) (empty with_links with_answers with_frames whole frames : List ℕ)
+pub report-parts : (links : List (List ℕ)) (t : Talk) (out with_links with_answers with_frames whole frames : List ℕ)
     (end : Option (Result (Unit {0}) ErrorKind))
-    → empty ≡ [] → with_links ≡ empty ++ link_lines links → with_answers ≡ with_links ++ answer_lines t
+    → with_links ≡ out ++ link_lines links → with_answers ≡ with_links ++ answer_lines t
     → frames ≡ frame_lines t → with_frames ≡ with_answers ++ frames → end ≡ end_of t → whole ≡ with_frames ++ end_line end
-    → whole ≡ report links t
-report-parts links t empty with_links with_answers with_frames whole frames end none first second same third ended last =
-    last
-    ∙ ap (λ x. with_frames ++ end_line x) ended
-    ∙ ap (λ (x : List ℕ). x ++ end_line (end_of t)) (third ∙ ap (λ (x : List ℕ). with_answers ++ x) same
-    ∙ ap (λ (x : List ℕ). x ++ frame_lines t) (second ∙ ap (λ (x : List ℕ). x ++ answer_lines t)
-    (first ∙ ap (λ (x : List ℕ). x ++ link_lines links) none)))
+    → whole ≡ out ++ report links t
+report-parts links t out with_links with_answers with_frames whole frames end first second same third ended last =
+    let two = link_lines links ++ answer_lines t in
+    let three = two ++ frame_lines t in
+    let answered : with_answers ≡ out ++ two =
+    second ∙ ap (λ (x : List ℕ). x ++ answer_lines t) first ∙ append_assoc out (link_lines links) (answer_lines t) in
+    let framed : with_frames ≡ out ++ three =
+    third ∙ ap (λ (x : List ℕ). with_answers ++ x) same ∙ ap (λ (x : List ℕ). x ++ frame_lines t) answered
+    ∙ append_assoc out two (frame_lines t) in
+    last ∙ ap (λ x. with_frames ++ end_line x) ended ∙ ap (λ (x : List ℕ). x ++ end_line (end_of t)) framed
+    ∙ append_assoc out three (end_line (end_of t))

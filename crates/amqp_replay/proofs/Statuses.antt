@@ -10,7 +10,7 @@ use Rattle.amqp_replay.specs.declared.limits.TheConstants.{MOST_READ}
 use Rattle.amqp_replay.specs.declared.status.TheConstants.{USAGE, SOURCE_FAILED, SINK_FAILED, NO_MEMORY}
 use Rattle.amqp_replay.specs.Grammar.{parsed}
 use Rattle.amqp_replay.proofs.MostRead.{parsed-most}
-use Rattle.amqp_replay.specs.Top.{end_status, printout, TellsLinks, Prints, Replays, ReplaysSome, IsSilent, IsStatus}
+use Rattle.amqp_replay.specs.Top.{end_status, printout, TellsReplay, Prints, Replays, ReplaysSome, IsSilent, IsStatus}
 
 -- a status with which something is printed, though nothing failed
 pub record IsLoud (status : ℕ) : Type 0 where
@@ -35,7 +35,7 @@ pub ReplaysSome-read : (left : Option (List ℕ)) (log : Option Log) (before aft
     → IsSilent status ⊎ ReplaysSome left log before after status
 ReplaysSome-read left log before after status script read (inl silent) = inl silent
 ReplaysSome-read left log before after status script read (inr answers) =
-    inr (record { script = script; read = read; replays = replays })
+    inr (record { script = script; read = read; replays = answers })
 
 -- where the source told all that it had, all of it was answered
 pub Replays-told : (left : Option (List ℕ)) (log : Option Log) (before after : Option (List ℕ)) (status : ℕ) (script : List ℕ)
@@ -45,9 +45,9 @@ Replays-told None log before after status script read outcome = tt
 Replays-told (Some all) log before after status script read (inl silent) = inl silent
 Replays-told (Some all) log before after status script read (inr answers) =
     let same : parsed script ≡ parsed all = ap parsed read ∙ parsed-most all in
-    let P : Result (List Given) ℕ → Type 0 = λ r. TellsLinks r log in
+    let P : Result (List Given) ℕ → Type 0 = λ r. TellsReplay r log in
     let Q : Result (List Given) ℕ → Type 0 = λ r. Prints (printout r) before after status in
-    inr (record { links = subst P same answers.links; prints = subst Q same answers.prints })
+    inr (record { told = subst P same answers.told; prints = subst Q same answers.prints })
 
 of_prints : (script : List ℕ) (before after : Option (List ℕ)) (status : ℕ) → Prints (printout (parsed script)) before after status
     → IsStatus script status

@@ -1,5 +1,5 @@
 -- The lines of a text. A line feed ends a line and belongs to it; the last line may lack it.
-use Rattle.std.specs.Prelude.{ℕ, ◌+◌, ◌==◌, Bool, List, [], ◌∷◌, length}
+use Rattle.std.specs.Prelude.{◌≡◌, ℕ, ◌+◌, ◌==◌, Bool, List, [], ◌∷◌, length}
 use Rattle.std.specs.List.{slice_split}
 use Rattle.std.specs.Str.Lines.{strip_carriage_return}
 
@@ -35,3 +35,13 @@ lines_from number before rest = lines_of_parts number before (slice_split is_lin
 -- the lines of a text
 abbrev pub lines : List ℕ → List Line
 lines text = lines_from 1 0 text
+
+-- a text begins with a line of this content, which has so many bytes with its end, and this follows
+abbrev pub BeginsWith : List ℕ → ℕ → List ℕ → List ℕ → Type 0
+BeginsWith content len rest text =
+    (number before : ℕ) → lines_from number before text
+    ≡ record { number = number; content = content; end = before + len } ∷ lines_from (number + 1) (before + len) rest
+
+-- a text without a line
+abbrev pub HasNoLine : List ℕ → Type 0
+HasNoLine text = (number before : ℕ) → lines_from number before text ≡ []

@@ -1,4 +1,4 @@
--- What the program promises: the status, what is printed, and the links of the port.
+-- What the program promises: the status, what is printed, and what the port tells.
 use Rattle.std.specs.Prelude.{◌≡◌, ◌⊎◌, ◌++◌, ℕ, List, take, Option, Some, None, IfSome, option_map, Result, Ok, Err}
 use Rattle.amqp_session.specs.declared.error.ErrorKind.{ErrorKind}
 use Rattle.amqp_session.specs.Talk.{end_of}
@@ -15,9 +15,13 @@ use Rattle.amqp_replay.specs.Report.{Printout, report, refusal}
 
 -- ---- a replay, as a function of its steps
 
+-- what the port tells
+abbrev pub replayed_log : List Given → Log
+replayed_log gs = log_turns (replayed gs) begin (loaded gs)
+
 -- the bytes of each link
 abbrev pub replayed_links : List Given → List (List ℕ)
-replayed_links gs = (log_turns (replayed gs) begin (loaded gs)).links
+replayed_links gs = (replayed_log gs).links
 
 abbrev pub replayed_report : List Given → List ℕ
 replayed_report gs = report (replayed_links gs) (talk (replayed gs))
@@ -33,10 +37,10 @@ abbrev pub printout : Result (List Given) ℕ → Printout
 printout (Err number) = record { status = REFUSED; text = refusal number }
 printout (Ok gs) = record { status = end_status (end_of (talk (replayed gs))); text = replayed_report gs }
 
--- the port tells the links that are printed
-abbrev pub TellsLinks : Result (List Given) ℕ → Option Log → Type 0
-TellsLinks (Err number) log = Unit {0}
-TellsLinks (Ok gs) log = option_map (λ (a : Log). a.links) log ≡ Some (replayed_links gs)
+-- the port tells of the run: its steps, the writes to it and their answers, and the bytes of the links, which are printed
+abbrev pub TellsReplay : Result (List Given) ℕ → Option Log → Type 0
+TellsReplay (Err number) log = Unit {0}
+TellsReplay (Ok gs) log = log ≡ Some (replayed_log gs)
 
 -- ---- what happened to a sink
 
@@ -55,9 +59,9 @@ Prints p before after status =
 
 -- ---- what the program did
 
--- a script was answered: the sink took what is printed of it, and the port tells the links
+-- a script was answered: the sink took what is printed of it, and the port tells of its run
 pub record Replays (script : List ℕ) (log : Option Log) (before after : Option (List ℕ)) (status : ℕ) : Type 0 where
-  pub links : TellsLinks (parsed script) log
+  pub told : TellsReplay (parsed script) log
   pub prints : Prints (printout (parsed script)) before after status
 
 -- some script was answered, which is all that the source had, or as much of it as is ever read

@@ -101,7 +101,9 @@ fn append_part(
     }
     match hex::decode(alloc, text) {
         Ok(part) => {
-            bytes.extend_from_slice(&part)?;
+            let appended = bytes.extend_from_slice(&part);
+            drop(part);
+            appended?;
             Ok(Some(0))
         }
         Err(FromHexError::OutOfMemory) => Err(NoMemory),

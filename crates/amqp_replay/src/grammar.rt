@@ -119,7 +119,10 @@ fn lone(what: GivenStep, rest: Option<&[u8]>) -> Said
 {
     match rest {
         None => Said::Step(what, 0),
-        Some(_) => Said::Refused,
+        Some(_) => {
+            drop(what);
+            Said::Refused
+        }
     }
 }
 
@@ -161,6 +164,7 @@ fn bytes(alloc: Global, rest: Option<&[u8]>, left: u64) -> Result<Said, NoMemory
     };
     let len = data.bytes().len();
     if len == 0 || len > PIECE_BYTES {
+        drop(data);
         return Ok(Said::Refused);
     }
     let zeros = data.zeros();
@@ -283,9 +287,12 @@ fn sends(
         return Ok(Said::Refused);
     };
     if class == 10 || class == 20 {
+        drop(data);
         return Ok(Said::Refused);
     }
-    let method = RawMethod::new(alloc, class, method, data.bytes().as_bytes())?;
-    let command = Cmd::Send(numbered(id), method);
-    Ok(Said::Step(GivenStep::Command(command), data.zeros()))
+    let zeros = data.zeros();
+    let method = RawMethod::new(alloc, class, method, data.bytes().as_bytes());
+    drop(data);
+    let command = Cmd::Send(numbered(id), method?);
+    Ok(Said::Step(GivenStep::Command(command), zeros))
 }

@@ -1,8 +1,8 @@
 //! The lines of a text.
 
-ghost use Rattle.std.specs.Prelude.{◌≡◌, slice_get, drop};
+ghost use Rattle.std.specs.Prelude.{◌≡◌, ◌≤◌, ◌+◌, length, slice_get, drop, IfSome, IfNone};
 ghost use Rattle.std.specs.Str.Lines.{strip_carriage_return};
-ghost use Rattle.amqp_replay.specs.Lines.{lines};
+ghost use Rattle.amqp_replay.specs.Lines.{lines, BeginsWith, HasNoLine};
 
 use crate::words::cut;
 use std::marker::Model;
@@ -63,34 +63,48 @@ impl<'a> Lines<'a> {
         ensures first { result ≡ slice_get self.old 0 }
         ensures rest { self.new ≡ drop 1 self.old }
     {
-        let (part, after) = cut(self.rest, b'\n');
+        let first = first_line(self.rest)?;
         let number = self.number;
-        match after {
-            Some(rest) => {
-                let end = self.before + part.len() + 1;
-                self.rest = rest;
-                self.number += 1;
-                self.before = end;
-                Some(Line {
-                    number,
-                    content: without_carriage_return(part),
-                    end,
-                })
-            }
-            None => {
-                let end = self.before + part.len();
-                self.rest = &[];
-                self.before = end;
-                if part.is_empty() {
-                    return None;
-                }
-                Some(Line {
-                    number,
-                    content: part,
-                    end,
-                })
-            }
-        }
+        let end = self.before + first.len;
+        self.rest = first.rest;
+        self.number += 1;
+        self.before = end;
+        Some(Line {
+            number,
+            content: first.content,
+            end,
+        })
+    }
+}
+
+// The first line of a text.
+#[derive(Drop)]
+struct First<'a> {
+    content: &'a [u8],
+    // how many bytes it has with its end
+    len: usize,
+    rest: &'a [u8],
+}
+
+// The first line of a text, where there is one.
+fn first_line(text: &[u8]) -> Option<First<'_>>
+    ensures begins { IfSome result (λ f. BeginsWith f.content.now f.len f.rest.now text.now) }
+    ensures size { IfSome result (λ f. (1 ≤ f.len) × (f.len + length f.rest.now ≡ length text.now)) }
+    ensures none { IfNone result (HasNoLine text.now) }
+{
+    let (part, after) = cut(text, b'\n');
+    match after {
+        Some(rest) => Some(First {
+            content: without_carriage_return(part),
+            len: part.len() + 1,
+            rest,
+        }),
+        None if part.is_empty() => None,
+        None => Some(First {
+            content: part,
+            len: part.len(),
+            rest: &[],
+        }),
     }
 }
 

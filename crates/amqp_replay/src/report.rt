@@ -1,11 +1,11 @@
 //! The report of a replay.
 
-ghost use Rattle.std.specs.Prelude.{◌≡◌, ◌++◌, ◌+◌, ◌<◌, ◌^◌, ◌↔◌, Some, Err, OnOk, IfOk, IsTrue, slice_get, length};
+ghost use Rattle.std.specs.Prelude.{◌≡◌, ◌≢◌, ◌++◌, ◌+◌, ◌<◌, ◌^◌, ◌↔◌, Some, Ok, Err, OnOk, IfOk, IsTrue, slice_get, length};
 ghost use Rattle.std.specs.List.{flat_map};
 ghost use Rattle.std.specs.String.{string_bytes};
 ghost use Rattle.amqp_session.specs.Talk.{end_of};
 ghost use Rattle.amqp_session.specs.Answers.{answer_of};
-ghost use Rattle.amqp_replay.specs.Report.{link_line, link_lines, answer_line, answer_lines, kind_text, frame_line, frame_lines, end_line, report, refusal};
+ghost use Rattle.amqp_replay.specs.Report.{link_line, link_lines, answer_line, answer_lines, kind_text, frame_line, frame_lines, hexadecimal, end_line, report, refusal};
 
 use amqp_engine::{IoLoop, ScriptedPort};
 use amqp_frame::RawKind;
@@ -59,11 +59,32 @@ pub fn report<P: ScriptedPort>(
     ensures { IfOk result (λ text. string_bytes text ≡ report (P.links_taken port.now) engine.old.talk) }
 {
     let mut out = String::new(alloc);
-    put_links(alloc, &mut out, port)?;
-    put_answers(&mut out, engine)?;
-    put_frames(alloc, &mut out, engine)?;
-    put_end(&mut out, ended(engine)?)?;
-    Ok(out)
+    match put_report(alloc, &mut out, engine, port) {
+        Ok(()) => Ok(out),
+        Err(e) => {
+            drop(out);
+            Err(e)
+        }
+    }
+}
+
+fn put_report<P: ScriptedPort>(
+    alloc: Global,
+    out: &mut String,
+    engine: &mut IoLoop,
+    port: &P,
+) -> Result<(), NoMemory>
+    ensures { OnOk result (string_bytes out.new
+        ≡ string_bytes out.old ++ report (P.links_taken port.now) engine.old.talk) }
+{
+    put_links(alloc, out, port)?;
+    put_answers(out, engine)?;
+    put_frames(alloc, out, engine)?;
+    let end = ended(engine)?;
+    let put = put_end(out, &end);
+    drop(end);
+    put?;
+    Ok(())
 }
 
 fn put_links<P: ScriptedPort>(alloc: Global, out: &mut String, port: &P) -> Result<(), NoMemory>
@@ -84,10 +105,9 @@ fn put_answers(out: &mut String, engine: &mut IoLoop) -> Result<(), NoMemory>
     let count = engine.session().promises();
     'answers: for number in 0..count {
         let answer = engine.answer(number);
-        if is_refused(&answer) {
-            return Err(NoMemory);
-        }
-        put_answer(out, number, answer)?;
+        let put = put_answer(out, number, &answer);
+        drop(answer);
+        put?;
     }
     Ok(())
 }
@@ -108,6 +128,7 @@ pub fn ended(engine: &IoLoop) -> Result<Option<amqp_session::Result<()>>, NoMemo
 {
     let end = engine.session().end();
     if is_refused(&end) {
+        drop(end);
         return Err(NoMemory);
     }
     Ok(end)
@@ -117,30 +138,56 @@ pub fn ended(engine: &IoLoop) -> Result<Option<amqp_session::Result<()>>, NoMemo
 fn put_link(alloc: Global, out: &mut String, number: u64, bytes: &[u8]) -> Result<(), NoMemory>
     ensures { OnOk result (string_bytes out.new ≡ string_bytes out.old ++ link_line (number, bytes.now)) }
 {
-    if bytes.is_empty() {
-        write!(out, "link {number} -\n")?;
-        return Ok(());
-    }
-    let digits = hex::encode(alloc, bytes)?;
-    write!(out, "link {number} {digits}\n")?;
+    write!(out, "link {number} ")?;
+    put_digits(alloc, out, bytes)?;
+    out.push_str("\n")?;
     Ok(())
 }
 
-// The line of a promise.
+// Bytes in hexadecimal.
+fn put_digits(alloc: Global, out: &mut String, bytes: &[u8]) -> Result<(), NoMemory>
+    ensures { OnOk result (string_bytes out.new ≡ string_bytes out.old ++ hexadecimal bytes.now) }
+{
+    if bytes.is_empty() {
+        out.push_str("-")?;
+        return Ok(());
+    }
+    let digits = hex::encode(alloc, bytes)?;
+    let put = out.push_str(&digits);
+    drop(digits);
+    put?;
+    Ok(())
+}
+
+// The line of a promise, unless memory was refused for the copy of its error.
 fn put_answer(
     out: &mut String,
     number: u64,
-    answer: Option<amqp_session::Result<Answer>>,
+    answer: &Option<amqp_session::Result<Answer>>,
 ) -> Result<(), NoMemory>
-    ensures { OnOk result (string_bytes out.new ≡ string_bytes out.old ++ answer_line number answer) }
+    ensures line { OnOk result (string_bytes out.new ≡ string_bytes out.old ++ answer_line number answer.now) }
+    ensures whole { OnOk result (answer.now ≢ Some (Err ErrorKind.NoMemory)) }
 {
+    if is_refused(answer) {
+        return Err(NoMemory);
+    }
     match answer {
         None => write!(out, "answer {number} pending\n")?,
-        Some(Ok(Answer::Connected)) => write!(out, "answer {number} ok connected\n")?,
-        Some(Ok(Answer::Channel(id, _))) => write!(out, "answer {number} ok channel {id}\n")?,
-        Some(Ok(Answer::Done)) => write!(out, "answer {number} ok done\n")?,
-        Some(Ok(Answer::Sent)) => write!(out, "answer {number} ok sent\n")?,
+        Some(Ok(value)) => put_value(out, number, *value)?,
         Some(Err(error)) => write!(out, "answer {number} err {error}\n")?,
+    }
+    Ok(())
+}
+
+// The line of a promise that was answered well.
+fn put_value(out: &mut String, number: u64, value: Answer) -> Result<(), NoMemory>
+    ensures { OnOk result (string_bytes out.new ≡ string_bytes out.old ++ answer_line number (Some (Ok value))) }
+{
+    match value {
+        Answer::Connected => write!(out, "answer {number} ok connected\n")?,
+        Answer::Channel(id, _) => write!(out, "answer {number} ok channel {id}\n")?,
+        Answer::Done => write!(out, "answer {number} ok done\n")?,
+        Answer::Sent => write!(out, "answer {number} ok sent\n")?,
     }
     Ok(())
 }
@@ -173,12 +220,9 @@ fn put_frame(alloc: Global, out: &mut String, frame: &Handed) -> Result<(), NoMe
     ensures { OnOk result (string_bytes out.new ≡ string_bytes out.old ++ frame_line frame.now) }
 {
     let (id, kind) = (frame.channel, kind_text(frame.kind));
-    if frame.bytes.is_empty() {
-        write!(out, "frame {id} {kind} -\n")?;
-        return Ok(());
-    }
-    let digits = hex::encode(alloc, frame.bytes.as_bytes())?;
-    write!(out, "frame {id} {kind} {digits}\n")?;
+    write!(out, "frame {id} {kind} ")?;
+    put_digits(alloc, out, frame.bytes.as_bytes())?;
+    out.push_str("\n")?;
     Ok(())
 }
 
@@ -193,8 +237,8 @@ fn kind_text(kind: RawKind) -> &'static str
 }
 
 // The last line.
-fn put_end(out: &mut String, end: Option<amqp_session::Result<()>>) -> Result<(), NoMemory>
-    ensures { OnOk result (string_bytes out.new ≡ string_bytes out.old ++ end_line end) }
+fn put_end(out: &mut String, end: &Option<amqp_session::Result<()>>) -> Result<(), NoMemory>
+    ensures { OnOk result (string_bytes out.new ≡ string_bytes out.old ++ end_line end.now) }
 {
     match end {
         None => out.push_str("end running\n")?,

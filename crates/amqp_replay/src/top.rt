@@ -1,10 +1,13 @@
 //! The program, over what is handed to it.
 
-ghost use Rattle.std.specs.Prelude.{◌≡◌, ◌≢◌, ◌⊎◌, ◌↔◌, [], ◌∷◌, Ok, IfOk, IfSome, OnOk, IsTrue, codes};
+ghost use Rattle.std.specs.Prelude.{◌≡◌, ◌≢◌, ◌⊎◌, ◌↔◌, [], ◌∷◌, List, length, Some, Ok, IfOk, IfSome, OnOk, IsTrue, codes};
+ghost use Rattle.amqp_engine.specs.declared.given.Given.{Given};
+ghost use Rattle.amqp_engine.specs.Log.{loaded};
+ghost use Rattle.amqp_engine.specs.Engine.{begin};
 ghost use Rattle.amqp_engine.specs.Plan.{ArePieces};
 ghost use Rattle.amqp_engine.specs.Counts.{Rose};
 ghost use Rattle.amqp_replay.specs.Grammar.{parsed};
-ghost use Rattle.amqp_replay.specs.Top.{printout, end_status, TellsLinks, Replays, ReplaysSome, IsSilent, IsStatus};
+ghost use Rattle.amqp_replay.specs.Top.{printout, end_status, TellsReplay, Replays, ReplaysSome, IsSilent, IsStatus};
 
 use crate::ends::{Sink, Source};
 use crate::report::{Printout, ended, refusal, report};
@@ -63,19 +66,22 @@ fn answer<K: Sink, P: ScriptedPort>(alloc: Global, script: &[u8], sink: &mut K, 
     ensures outcome { IsSilent result
         ⊎ Replays script.now (P.log port.new) (K.held sink.old) (K.held sink.new) result }
 {
-    match print(alloc, script, port) {
-        Ok(printout) => match write_all(sink, printout.as_bytes()) {
-            Ok(()) => printout.status(),
-            Err(SinkFailed) => SINK_FAILED,
-        },
-        Err(NoMemory) => NO_MEMORY,
+    let Ok(printout) = print(alloc, script, port) else {
+        return NO_MEMORY;
+    };
+    let status = printout.status();
+    let written = write_all(sink, printout.as_bytes());
+    drop(printout);
+    match written {
+        Ok(()) => status,
+        Err(SinkFailed) => SINK_FAILED,
     }
 }
 
 // What is printed of a script.
 fn print<P: ScriptedPort>(alloc: Global, script: &[u8], port: &mut P) -> Result<Printout, NoMemory>
     ensures printout { IfOk result (λ p. p ≡ printout (parsed script.now)) }
-    ensures links { OnOk result (TellsLinks (parsed script.now) (P.log port.new)) }
+    ensures told { OnOk result (TellsReplay (parsed script.now) (P.log port.new)) }
 {
     match parse(alloc, script)? {
         Script::Refused(number) => Ok(Printout::new(REFUSED, refusal(alloc, number)?)),
@@ -83,8 +89,8 @@ fn print<P: ScriptedPort>(alloc: Global, script: &[u8], port: &mut P) -> Result<
     }
 }
 
-fn end_status(end: Option<amqp_session::Result<()>>) -> u8
-    ensures { result ≡ end_status end }
+fn end_status(end: &Option<amqp_session::Result<()>>) -> u8
+    ensures { result ≡ end_status end.now }
 {
     match end {
         None => RUNNING,
@@ -101,18 +107,43 @@ fn replay<P: ScriptedPort>(
 ) -> Result<Printout, NoMemory>
     requires { ArePieces steps.items }
     ensures printout { IfOk result (λ p. p ≡ printout (Ok steps.items)) }
-    ensures links { OnOk result (TellsLinks (Ok steps.items) (P.log port.new)) }
+    ensures told { OnOk result (TellsReplay (Ok steps.items) (P.log port.new)) }
 {
     let turns = steps.len() as u64;
     port.load(steps)?;
-    let Ok(mut engine) = IoLoop::new(alloc) else {
-        return Err(NoMemory);
-    };
+    match IoLoop::new(alloc) {
+        Ok(mut engine) => {
+            let printout = run(alloc, &mut engine, port, turns);
+            drop(engine);
+            printout
+        }
+        Err(e) => {
+            drop(e);
+            Err(NoMemory)
+        }
+    }
+}
+
+// Runs a new engine over a port that was loaded with as many steps as there are turns.
+fn run<P: ScriptedPort>(
+    alloc: Global,
+    engine: &mut IoLoop,
+    port: &mut P,
+    turns: u64,
+) -> Result<Printout, NoMemory>
+    requires { engine.old ≡ begin }
+    ensures printout { (gs : List Given) → turns ≡ length gs → P.log port.old ≡ Some (loaded gs)
+        → IfOk result (λ p. p ≡ printout (Ok gs)) }
+    ensures told { (gs : List Given) → turns ≡ length gs → P.log port.old ≡ Some (loaded gs)
+        → OnOk result (TellsReplay (Ok gs) (P.log port.new)) }
+{
     // The report tells how the session ended.
-    let _ = engine.run(port, turns);
+    drop(engine.run(port, turns));
     if engine.starved().is_some() {
         return Err(NoMemory);
     }
-    let status = end_status(ended(&engine)?);
-    Ok(Printout::new(status, report(alloc, &mut engine, port)?))
+    let end = ended(engine)?;
+    let status = end_status(&end);
+    drop(end);
+    Ok(Printout::new(status, report(alloc, engine, port)?))
 }

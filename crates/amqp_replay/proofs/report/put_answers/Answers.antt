@@ -2,7 +2,7 @@ use Rattle.std.proofs.Common.{◌∙◌, ◌+◌, ◌-◌, ◌++◌, ℕ, List, 
 use Rattle.std.specs.String.{string_bytes}
 use Rattle.amqp_session.specs.Talk.{Talk}
 use Rattle.amqp_replay.specs.Report.{answer_line}
-use Rattle.amqp_replay.proofs.Reports.{answers_from, answers_from-step, line_of, Keeps, Keeps-step, Takes-told, absurd_of}
+use Rattle.amqp_replay.proofs.Reports.{answers_from, lines_from-step, line_of, Keeps, Keeps-step, Takes-told}
 use Rattle.amqp_replay.proofs.report.put_answers.Goals as goal
 
 pub answers-preserved : goal.answers-preserved
@@ -14,13 +14,13 @@ answers-preserved c =
     let count = c.promises-count.result in
     let rest = answers_from t (k + 1) (count - (k + 1)) in
     let takes = Takes-told k c.answer-answer.result now c.answer-answer.new.self.talk
-    (λ h. absurd_of c.is_refused.result c.if-is_refused.false (c.is_refused.ensures.1 h)) c.answer-answer.ensures.taken in
+    c.in_ok-put.ensures.whole c.answer-answer.ensures.taken in
     let same = takes.0 ∙ c.answers.invariant.keeps.answers k (omega arith) in
     let P : Talk → Type 0 = λ x. Keeps (k + 1) t x in
     record {
-      whole = ap (λ (x : List ℕ). x ++ rest) (c.in_ok-put_answer.ensures ∙ ap (λ a. out ++ answer_line k a) same)
+      whole = ap (λ (x : List ℕ). x ++ rest) (c.in_ok-put.ensures.line ∙ ap (λ a. out ++ answer_line k a) same)
           ∙ append_assoc out (line_of t k) rest
-          ∙ ap (λ (x : List ℕ). out ++ x) (sym (answers_from-step t k count c.answers-test.true))
+          ∙ ap (λ (x : List ℕ). out ++ x) (sym (lines_from-step (line_of t) k count c.answers-test.true))
           ∙ c.answers.invariant.whole;
       count = c.answers.invariant.count;
       keeps = subst P (sym takes.1) (Keeps-step k t now c.answers.invariant.keeps);

@@ -5,7 +5,8 @@ use Rattle.amqp_session.specs.declared.handed.Handed.{Handed}
 use Rattle.amqp_session.specs.Talk.{Talk}
 use Rattle.amqp_session.specs.Channels.{frames_of}
 use Rattle.amqp_replay.specs.Report.{frame_line}
-use Rattle.amqp_replay.proofs.FrameLines.{frames_from, frames_from-step, lines_of_opening, KeepsFrames, KeepsFrames-step}
+use Rattle.amqp_replay.proofs.FrameLines.{frames_from, lines_of_opening, KeepsFrames, KeepsFrames-step}
+use Rattle.amqp_replay.proofs.Reports.{lines_from-step}
 use Rattle.amqp_replay.proofs.report.put_frames.Goals as goal
 
 pub openings-preserved : goal.openings-preserved
@@ -22,7 +23,7 @@ openings-preserved c =
     record {
       whole = ap (λ (x : List ℕ). x ++ rest) (c.in_ok-put_each.ensures ∙ ap (λ (x : List Handed). out ++ flat_map frame_line x) same)
           ∙ append_assoc out (lines_of_opening t k) rest
-          ∙ ap (λ (x : List ℕ). out ++ x) (sym (frames_from-step t k count c.openings-test.true))
+          ∙ ap (λ (x : List ℕ). out ++ x) (sym (lines_from-step (lines_of_opening t) k count c.openings-test.true))
           ∙ c.openings.invariant.whole;
       count = c.openings.invariant.count;
       keeps = subst P (sym (ap (λ e. e.talk) c.in_ok-frames.ensures.taken)) (KeepsFrames-step k t now c.openings.invariant.keeps);
