@@ -16,7 +16,7 @@ use Rattle.amqp_replay.specs.Lines.{Line}
 use Rattle.amqp_replay.specs.Words.{first_word, after_word}
 use Rattle.amqp_replay.specs.Decimals.{number_16, number_64}
 use Rattle.amqp_replay.specs.Data.{Spelled, spelled}
-use Rattle.amqp_replay.specs.Grammar.{step_or_refused, lone, link_line, room_line, piece, bytes_line, closes_by, closes, shut_line, numbered, close_of, close_line, number_in, rest_of, is_passed_through, sends_data, data_in, sends, send_line, command_of_words, line_of_words, is_ignored, is_printable, content_says, is_within_limits, says, limited}
+use Rattle.amqp_replay.specs.Grammar.{step_or_refused, lone, link_line, room_line, piece, bytes_line, closes_by, closes, shut_line, numbered, close_of, close_line, number_in, rest_of, is_passed_through, sent_method, sends_data, data_in, sends, send_line, command_of_words, line_of_words, is_ignored, is_printable, content_says, is_within_limits, says, limited}
 
 abbrev pub SaysPiece : Said → Type 0
 SaysPiece (Step what n) = IsGivenPiece what
@@ -68,7 +68,7 @@ of_close_line (Some words) = of_close_of (number_16 (first_word words)) (after_w
 of_sends_data : (n class method : ℕ) (o : Option Spelled) → SaysPiece (sends_data n class method o)
 of_sends_data n class method None = tt
 of_sends_data n class method (Some found) =
-    if_case (is_passed_through class) (Step (Command (Send (numbered n) (record { class = class; method = method; arguments = found.bytes }))) found.zeros) Refused tt tt
+    if_case (is_passed_through class) (Step (Command (Send (numbered n) (sent_method class method found.bytes))) found.zeros) Refused tt tt
 
 of_sends : (n class method : Option ℕ) (o : Option Spelled) → SaysPiece (sends n class method o)
 of_sends (Some n) (Some class) (Some method) o = of_sends_data n class method o

@@ -1,5 +1,5 @@
 -- Which statuses a printout has.
-use Rattle.std.proofs.Common.{◌≡◌, ◌≢◌, ◌⊎◌, inl, inr, ℕ, List, take, Option, Some, None, IfSome, Result, Ok, Err, ap, ◌∙◌, subst, arith}
+use Rattle.std.proofs.Common.{◌≡◌, ◌≢◌, ◌<◌, ◌⊎◌, inl, inr, refl, ℕ, List, take, Option, Some, None, IfSome, Result, Ok, Err, ap, ◌∙◌, subst, arith}
 use Rattle.amqp_session.specs.declared.error.ErrorKind.{ErrorKind}
 use Rattle.amqp_session.specs.Talk.{end_of}
 use Rattle.amqp_engine.specs.declared.given.Given.{Given}
@@ -7,7 +7,7 @@ use Rattle.amqp_engine.specs.Log.{Log}
 use Rattle.amqp_engine.specs.Turn.{talk}
 use Rattle.amqp_engine.specs.Play.{replayed}
 use Rattle.amqp_replay.specs.declared.limits.TheConstants.{MOST_READ}
-use Rattle.amqp_replay.specs.declared.status.TheConstants.{USAGE, SOURCE_FAILED, SINK_FAILED, NO_MEMORY}
+use Rattle.amqp_replay.specs.declared.status.TheConstants.{CLOSED, REFUSED, USAGE, SOURCE_FAILED, SINK_FAILED, FAILED, RUNNING, NO_MEMORY}
 use Rattle.amqp_replay.specs.Grammar.{parsed}
 use Rattle.amqp_replay.proofs.MostRead.{parsed-most}
 use Rattle.amqp_replay.specs.Top.{end_status, printout, TellsReplay, Prints, Replays, ReplaysSome, IsSilent, IsStatus}
@@ -19,13 +19,23 @@ pub record IsLoud (status : ℕ) : Type 0 where
   pub written : status ≢ SINK_FAILED
   pub memory : status ≢ NO_MEMORY
 
+-- all other statuses are below 2, or 5 or 6
+loud_status : (n : ℕ) → (n < 2) ⊎ (n ≡ 5) ⊎ (n ≡ 6) → IsLoud n
+loud_status n which =
+    record {
+      known = λ h. omega (arith, h, which);
+      read = λ h. omega (arith, h, which);
+      written = λ h. omega (arith, h, which);
+      memory = λ h. omega (arith, h, which);
+    }
+
 loud_end : (o : Option (Result (Unit {0}) ErrorKind)) → IsLoud (end_status o)
-loud_end None = record { known = λ h. omega (arith, h); read = λ h. omega (arith, h); written = λ h. omega (arith, h); memory = λ h. omega (arith, h) }
-loud_end (Some (Ok closed)) = record { known = λ h. omega (arith, h); read = λ h. omega (arith, h); written = λ h. omega (arith, h); memory = λ h. omega (arith, h) }
-loud_end (Some (Err e)) = record { known = λ h. omega (arith, h); read = λ h. omega (arith, h); written = λ h. omega (arith, h); memory = λ h. omega (arith, h) }
+loud_end None = loud_status RUNNING (inr (inr refl))
+loud_end (Some (Ok closed)) = loud_status CLOSED (inl (omega arith))
+loud_end (Some (Err e)) = loud_status FAILED (inr (inl refl))
 
 pub printout-IsLoud : (script : Result (List Given) ℕ) → IsLoud (printout script).status
-printout-IsLoud (Err number) = record { known = λ h. omega (arith, h); read = λ h. omega (arith, h); written = λ h. omega (arith, h); memory = λ h. omega (arith, h) }
+printout-IsLoud (Err number) = loud_status REFUSED (inl (omega arith))
 printout-IsLoud (Ok gs) = loud_end (end_of (talk (replayed gs)))
 
 -- ---- a script that was read and answered

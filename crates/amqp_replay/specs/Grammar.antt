@@ -2,6 +2,7 @@
 use Rattle.std.specs.Prelude.{ℕ, ◌==◌, ◌-◌, ◌&&◌, ◌||◌, not, nat_le, if◌then◌else◌, Bool, true, List, [], ◌∷◌, length, Option, Some, None, option_map, unwrap_or, Result, Ok, Err, codes}
 use Rattle.std.specs.List.{list_all}
 use Rattle.std.specs.Str.{bytes_eq}
+use Rattle.amqp_frame.specs.RawMethods.{OtherMethod}
 use Rattle.amqp_session.specs.declared.command.ChanRef.{ChanRef}
 use Rattle.amqp_session.specs.declared.command.Cmd.{Cmd}
 use Rattle.amqp_session.specs.declared.command.Cmd.TheVariants.{OpenChannel, CloseChannel, CloseConnection, Send}
@@ -38,6 +39,7 @@ abbrev pub room_line : Option (List ℕ) → Said
 room_line None = Refused
 room_line (Some digits) = step_or_refused (option_map Room (number_64 digits))
 
+-- a piece of 1 to 4,096 bytes
 abbrev pub piece : Option Spelled → Said
 piece None = Refused
 piece (Some found) =
@@ -55,6 +57,7 @@ abbrev pub closes_by : (ℕ → List ℕ → Cmd) → Option ℕ → List ℕ �
 closes_by cmd None text = Refused
 closes_by cmd (Some code) text = if nat_le (length text) TEXT_BYTES then Step (Command (cmd code text)) 0 else Refused
 
+-- what `CODE TEXT` says of a command that closes something
 abbrev pub closes : (ℕ → List ℕ → Cmd) → Option (List ℕ) → Said
 closes cmd None = Refused
 closes cmd (Some words) = closes_by cmd (number_16 (first_word words)) (unwrap_or (after_word words) [])
@@ -67,6 +70,7 @@ shut_line rest = closes CloseConnection rest
 abbrev pub numbered : ℕ → ChanRef
 numbered n = record { id = n; opened = None }
 
+-- what follows the number of a channel that is to be closed
 abbrev pub close_of : Option ℕ → Option (List ℕ) → Said
 close_of None rest = Refused
 close_of (Some n) rest = closes (CloseChannel (numbered n)) rest
@@ -86,20 +90,28 @@ abbrev pub rest_of : Option (List ℕ) → Option (List ℕ)
 rest_of None = None
 rest_of (Some words) = after_word words
 
+-- a class whose methods are not read
 abbrev pub is_passed_through : ℕ → Bool
 is_passed_through class = not (class == 10 || class == 20)
 
+-- a method with arguments that are not read
+abbrev pub sent_method : ℕ → ℕ → List ℕ → OtherMethod
+sent_method class method arguments = record { class = class; method = method; arguments = arguments }
+
+-- a method with these arguments is sent, where they are spelled
 abbrev pub sends_data : ℕ → ℕ → ℕ → Option Spelled → Said
 sends_data n class method None = Refused
 sends_data n class method (Some found) =
     if is_passed_through class
-    then Step (Command (Send (numbered n) (record { class = class; method = method; arguments = found.bytes }))) found.zeros
+    then Step (Command (Send (numbered n) (sent_method class method found.bytes))) found.zeros
     else Refused
 
+-- the bytes that the last words spell
 abbrev pub data_in : Option (List ℕ) → Option Spelled
 data_in None = None
 data_in (Some text) = spelled text
 
+-- a method is sent, where its three numbers are there
 abbrev pub sends : Option ℕ → Option ℕ → Option ℕ → Option Spelled → Said
 sends (Some n) (Some class) (Some method) arguments = sends_data n class method arguments
 sends _ _ _ arguments = Refused
@@ -120,6 +132,7 @@ command_of_words word rest =
     else if bytes_eq word (codes "shut") then shut_line rest
     else Refused
 
+-- a line that begins with this word and goes on like this
 abbrev pub line_of_words : List ℕ → Option (List ℕ) → Said
 line_of_words word rest =
     if bytes_eq word (codes "link") then link_line rest
@@ -136,6 +149,7 @@ abbrev pub is_ignored : List ℕ → Bool
 is_ignored [] = true
 is_ignored (b ∷ bs) = b == 35
 
+-- a byte that a line may hold
 abbrev pub is_printable : ℕ → Bool
 is_printable b = nat_le 0x20 b && nat_le b 0x7e
 
@@ -146,6 +160,7 @@ content_says content =
     else if is_ignored content then Nothing
     else line_of_words (first_word content) (after_word content)
 
+-- a line that the limits of a script leave room for
 abbrev pub is_within_limits : Line → Bool
 is_within_limits line = nat_le line.number SCRIPT_LINES && nat_le line.end SCRIPT_BYTES
 
@@ -164,10 +179,12 @@ limited left said = said
 abbrev pub given : GivenStep → Given
 given what = record { at = 0; what = what }
 
+-- how many zeros of a line are spelled by numbers
 abbrev pub zeros_in : Said → ℕ
 zeros_in (Step what n) = n
 zeros_in _ = 0
 
+-- a step comes before the steps that follow, unless a line is refused
 abbrev pub first : GivenStep → Result (List Given) ℕ → Result (List Given) ℕ
 first what (Ok gs) = Ok (given what ∷ gs)
 first what (Err number) = Err number
@@ -178,7 +195,8 @@ before Nothing number rest = rest
 before Refused number rest = Err number
 before (Step what n) number rest = first what rest
 
--- the steps that these lines say, or the number of the first one that is refused, where so many zeros may still be spelled by numbers
+-- the steps that these lines say, or the number of the first one that is refused, where so many zeros may still be
+-- spelled by numbers
 abbrev pub steps_of : ℕ → List Line → Result (List Given) ℕ
 steps_of left [] = Ok []
 steps_of left (line ∷ lines) =

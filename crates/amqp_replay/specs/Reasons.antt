@@ -7,6 +7,7 @@ use Rattle.amqp_replay.specs.declared.grammar.Said.{Said}
 use Rattle.amqp_replay.specs.declared.grammar.Said.TheVariants.{Refused, Step}
 use Rattle.amqp_replay.specs.Grammar.{closes}
 
+-- something is closed for a reason, where there is one
 abbrev pub closes_for : (ℕ → List ℕ → Cmd) → Option Reason → Said
 closes_for cmd None = Refused
 closes_for cmd (Some r) = Step (Command (cmd r.code r.text)) 0

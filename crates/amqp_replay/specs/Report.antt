@@ -23,12 +23,14 @@ hexadecimal (b ∷ bytes) = encode_lower (b ∷ bytes)
 abbrev pub link_line : ℕ × List ℕ → List ℕ
 link_line (k, bytes) = codes "link " ++ decimal k ++ codes " " ++ hexadecimal bytes ++ codes "\n"
 
+-- what a promise was answered with
 abbrev pub value_text : Answer → List ℕ
 value_text Connected = codes "connected"
 value_text (Channel n opened) = codes "channel " ++ decimal n
 value_text Done = codes "done"
 value_text Sent = codes "sent"
 
+-- an answer, or that there is none
 abbrev pub answer_text : Option (Result Answer ErrorKind) → List ℕ
 answer_text None = codes "pending"
 answer_text (Some (Ok answer)) = codes "ok " ++ value_text answer
@@ -39,6 +41,7 @@ abbrev pub answer_line : ℕ → Option (Result Answer ErrorKind) → List ℕ
 answer_line number answer =
     codes "answer " ++ decimal number ++ codes " " ++ answer_text answer ++ codes "\n"
 
+-- the kind of a frame
 abbrev pub kind_text : RawKind → List ℕ
 kind_text RawMethod = codes "method"
 kind_text Header = codes "header"
@@ -46,8 +49,10 @@ kind_text Body = codes "body"
 
 -- a frame that was handed out
 abbrev pub frame_line : Handed → List ℕ
-frame_line h = codes "frame " ++ decimal h.channel ++ codes " " ++ kind_text h.kind ++ codes " " ++ hexadecimal h.bytes ++ codes "\n"
+frame_line h =
+    codes "frame " ++ decimal h.channel ++ codes " " ++ kind_text h.kind ++ codes " " ++ hexadecimal h.bytes ++ codes "\n"
 
+-- how the session ended, or that it has not
 abbrev pub end_text : Option (Result (Unit {0}) ErrorKind) → List ℕ
 end_text None = codes "running"
 end_text (Some (Ok closed)) = codes "closed"

@@ -23,9 +23,11 @@ replayed_log gs = log_turns (replayed gs) begin (loaded gs)
 abbrev pub replayed_links : List Given → List (List ℕ)
 replayed_links gs = (replayed_log gs).links
 
+-- what is printed of a replay
 abbrev pub replayed_report : List Given → List ℕ
 replayed_report gs = report (replayed_links gs) (talk (replayed gs))
 
+-- the status that goes with the end of a session
 abbrev pub end_status : Option (Result (Unit {0}) ErrorKind) → ℕ
 end_status None = RUNNING
 end_status (Some (Ok closed)) = CLOSED
@@ -33,11 +35,13 @@ end_status (Some (Err e)) = FAILED
 
 -- ---- what is printed of a script, and with which status
 
+-- what is printed of what a script says
 abbrev pub printout : Result (List Given) ℕ → Printout
 printout (Err number) = record { status = REFUSED; text = refusal number }
 printout (Ok gs) = record { status = end_status (end_of (talk (replayed gs))); text = replayed_report gs }
 
--- the port tells of the run: its steps, the writes to it and their answers, and the bytes of the links, which are printed
+-- the port tells of the run: its steps, the writes to it with their answers, and the bytes of the links, which are
+-- printed
 abbrev pub TellsReplay : Result (List Given) ℕ → Option Log → Type 0
 TellsReplay (Err number) log = Unit {0}
 TellsReplay (Ok gs) log = log ≡ Some (replayed_log gs)
@@ -65,7 +69,8 @@ pub record Replays (script : List ℕ) (log : Option Log) (before after : Option
   pub prints : Prints (printout (parsed script)) before after status
 
 -- some script was answered, which is all that the source had, or as much of it as is ever read
-pub record ReplaysSome (left : Option (List ℕ)) (log : Option Log) (before after : Option (List ℕ)) (status : ℕ) : Type 0 where
+pub record ReplaysSome (left : Option (List ℕ)) (log : Option Log) (before after : Option (List ℕ)) (status : ℕ)
+    : Type 0 where
   pub script : List ℕ
   pub read : IfSome left (λ all. script ≡ take MOST_READ all)
   pub replays : Replays script log before after status

@@ -29,18 +29,21 @@ impl Model for Spelled {
 }
 
 impl Spelled {
+    /// How many of the bytes are zeros that a number spells.
     pub fn zeros(&self) -> u64
         ensures { result ≡ self.now.zeros }
     {
         self.zeros
     }
 
+    /// The bytes.
     pub fn bytes(&self) -> &Payload
         ensures { result.now ≡ self.now.bytes }
     {
         &self.bytes
     }
 
+    /// The bytes themselves.
     pub fn into_bytes(self) -> Payload
         ensures { result ≡ self.bytes }
     {
@@ -113,7 +116,8 @@ fn append_part(
 
 // Appends so many zeros as the digits say.
 fn append_zeros(bytes: &mut Vec<u8>, digits: &[u8], most: u64) -> Result<Option<u64>, NoMemory>
-    ensures appended { IfOk result (λ zeros. Appends most (option_map zeros_of (number_64 digits.now)) bytes.old.items bytes.new.items zeros) }
+    ensures appended { IfOk result (λ zeros.
+        Appends most (option_map zeros_of (number_64 digits.now)) bytes.old.items bytes.new.items zeros) }
     ensures within { IfOk result (λ zeros. IfSome zeros (λ n. n ≤ most)) }
 {
     match number(digits, u64::MAX) {

@@ -28,10 +28,12 @@ pub trait Source {
     /// How often the source failed.
     ghost faults: { Self → ℕ };
 
+    /// Reads into a buffer.
     fn read(&mut self, buffer: &mut [u8]) -> Gave
         ensures within { count_given result ≤ length buffer.old }
         ensures left { left self.new ≡ option_map (drop (count_given result)) (left self.old) }
-        ensures bytes { IfSome (left self.old) (λ all. take (count_given result) buffer.new ≡ take (count_given result) all) }
+        ensures bytes { IfSome (left self.old) (λ all.
+            take (count_given result) buffer.new ≡ take (count_given result) all) }
         ensures end { 0 < length buffer.old → result ≡ Gave.Got 0 → IfSome (left self.old) (λ all. all ≡ []) }
         ensures faults { faults self.old ≤ faults self.new }
         ensures cause { result ≡ Gave.Failed → Rose (faults self.old) (faults self.new) };
@@ -45,6 +47,7 @@ pub trait Sink {
     /// How often the sink failed.
     ghost faults: { Self → ℕ };
 
+    /// Takes bytes, some of them where there are any.
     fn write(&mut self, bytes: &[u8]) -> Put
         ensures within { count_taken result ≤ length bytes.now }
         ensures some { result ≡ Put.Took 0 → bytes.now ≡ [] }

@@ -40,6 +40,7 @@ pub fn says(alloc: Global, line: &Line, left: u64) -> Result<Said, NoMemory>
     Ok(content_says(alloc, line.content, left)?)
 }
 
+// What the bytes of a line say.
 fn content_says(alloc: Global, content: &[u8], left: u64) -> Result<Said, NoMemory>
     ensures { IfOk result (λ said. said ≡ limited left (content_says content.now)) }
 {
@@ -53,6 +54,7 @@ fn content_says(alloc: Global, content: &[u8], left: u64) -> Result<Said, NoMemo
     Ok(words_say(alloc, word, rest, left)?)
 }
 
+// Whether a line holds no other bytes than it may.
 fn is_printable(content: &[u8]) -> bool
     ensures { result ≡ list_all is_printable content.now }
 {
@@ -265,6 +267,7 @@ fn number_and_rest(words: Option<&[u8]>) -> (Option<u16>, Option<&[u8]>)
     }
 }
 
+// A number of 16 bits.
 fn short_number(digits: &[u8]) -> Option<u16>
     ensures { result ≡ number_16 digits.now }
 {
@@ -274,6 +277,7 @@ fn short_number(digits: &[u8]) -> Option<u16>
     }
 }
 
+// The sending of a method with these arguments, where they are spelled.
 fn sends(
     alloc: Global,
     id: u16,

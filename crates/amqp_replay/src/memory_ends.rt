@@ -16,6 +16,7 @@ struct Failing<'a> {
 }
 
 impl<'a> Failing<'a> {
+    // No call was made yet.
     fn new(to_fail: &'a [u64]) -> Failing<'a> {
         Failing {
             to_fail,
@@ -38,6 +39,7 @@ impl<'a> Failing<'a> {
         fails
     }
 
+    // Counts a failure.
     fn fail(&mut self)
         ensures rose { Rose self.old.faults self.new.faults }
         ensures counts { self.old.faults ≤ self.new.faults }
@@ -54,6 +56,7 @@ pub struct MemorySource<'a> {
 }
 
 impl<'a> MemorySource<'a> {
+    /// A source of these bytes, whose calls with these numbers fail.
     pub fn new(bytes: &'a [u8], to_fail: &'a [u64]) -> MemorySource<'a> {
         MemorySource {
             left: bytes,
@@ -88,6 +91,7 @@ pub struct MemorySink<'a> {
 }
 
 impl<'a> MemorySink<'a> {
+    /// A sink without bytes yet, whose calls with these numbers fail.
     pub fn new(alloc: Global, most: usize, to_fail: &'a [u64]) -> MemorySink<'a> {
         MemorySink {
             held: Vec::new(alloc),
@@ -96,6 +100,7 @@ impl<'a> MemorySink<'a> {
         }
     }
 
+    /// What the sink took.
     pub fn held(&self) -> &[u8] {
         &self.held
     }

@@ -31,18 +31,21 @@ impl Model for Printout {
 }
 
 impl Printout {
+    /// A printout of this text, with this status.
     pub fn new(status: u8, text: String) -> Printout
         ensures { result ≡ record { status = status; text = string_bytes text } }
     {
         Printout { status, text }
     }
 
+    /// The status.
     pub fn status(&self) -> u8
         ensures { result ≡ self.now.status }
     {
         self.status
     }
 
+    /// What is printed.
     pub fn as_bytes(&self) -> &[u8]
         ensures { result.now ≡ self.now.text }
     {
@@ -68,6 +71,7 @@ pub fn report<P: ScriptedPort>(
     }
 }
 
+// All lines of a report.
 fn put_report<P: ScriptedPort>(
     alloc: Global,
     out: &mut String,
@@ -87,6 +91,7 @@ fn put_report<P: ScriptedPort>(
     Ok(())
 }
 
+// The lines of the links, which are counted from 1.
 fn put_links<P: ScriptedPort>(alloc: Global, out: &mut String, port: &P) -> Result<(), NoMemory>
     ensures { OnOk result (string_bytes out.new ≡ string_bytes out.old ++ link_lines (P.links_taken port.now)) }
 {
@@ -97,6 +102,7 @@ fn put_links<P: ScriptedPort>(alloc: Global, out: &mut String, port: &P) -> Resu
     Ok(())
 }
 
+// The lines of the promises. It takes their answers.
 fn put_answers(out: &mut String, engine: &mut IoLoop) -> Result<(), NoMemory>
     ensures answers { OnOk result (string_bytes out.new ≡ string_bytes out.old ++ answer_lines engine.old.talk) }
     ensures frames { frame_lines engine.new.talk ≡ frame_lines engine.old.talk }
@@ -226,6 +232,7 @@ fn put_frame(alloc: Global, out: &mut String, frame: &Handed) -> Result<(), NoMe
     Ok(())
 }
 
+// The word for a kind of frame.
 fn kind_text(kind: RawKind) -> &'static str
     ensures { result.now ≡ kind_text kind }
 {

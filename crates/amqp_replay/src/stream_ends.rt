@@ -39,6 +39,7 @@ impl<R> Reading<R> {
         }
     }
 
+    // Keeps what the reader gave.
     fn keep(&mut self, bytes: &[u8])
         ensures { self.new.faults ≡ self.old.faults }
     {

@@ -49,6 +49,7 @@ pub fn top<S: Source, K: Sink, P: ScriptedPort>(
     }
 }
 
+// Whether the words are `replay` alone.
 fn is_replay(words: &[Text]) -> bool
     ensures { IsTrue result ↔ (words.now ≡ codes "replay" ∷ []) }
 {
@@ -89,6 +90,7 @@ fn print<P: ScriptedPort>(alloc: Global, script: &[u8], port: &mut P) -> Result<
     }
 }
 
+// The status that goes with the end of a session.
 fn end_status(end: &Option<amqp_session::Result<()>>) -> u8
     ensures { result ≡ end_status end.now }
 {

@@ -66,7 +66,8 @@ fn read_piece<S: Source>(
     requires { 0 < length block.old }
     ensures within { IfOk result (λ n. n ≤ length block.old) }
     ensures left { IfOk result (λ n. S.left source.new ≡ option_map (drop n) (S.left source.old)) }
-    ensures text { IfOk result (λ n. IfSome (S.left source.old) (λ rest. text.new.items ≡ text.old.items ++ take n rest)) }
+    ensures text { IfOk result (λ n. IfSome (S.left source.old) (λ rest.
+        text.new.items ≡ text.old.items ++ take n rest)) }
     ensures len { IfOk result (λ n. length text.new.items ≡ length text.old.items + n) }
     ensures end { IfOk result (λ n. n ≡ 0 → IfSome (S.left source.old) (λ rest. rest ≡ [])) }
     ensures cause { result ≡ Err ReadFault.SourceFailed → Rose (S.faults source.old) (S.faults source.new) }
