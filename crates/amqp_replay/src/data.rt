@@ -2,9 +2,11 @@
 
 ghost use Rattle.std.specs.Prelude.{◌≡◌, ◌≤◌, IfOk, IfSome, option_map};
 ghost use Rattle.std.specs.List.{slice_split};
-ghost use Rattle.amqp_replay.specs.Data.{spelled, part, parts, zeros_of, is_plus};
+ghost use Rattle.std.specs.Result.{result_ok};
+ghost use Rattle.hex.specs.Hex.{decode_of};
+ghost use Rattle.amqp_replay.specs.Data.{spelled, part, parts, digits, zeros_of, is_plus};
 ghost use Rattle.amqp_replay.specs.Decimals.{number_64};
-ghost use Rattle.amqp_replay.specs.Budgets.{affordable, Appends};
+ghost use Rattle.amqp_replay.specs.Budgets.{affordable, Appends, AppendsSpelled};
 
 use crate::decimals::number;
 use crate::words::{cut, is};
@@ -102,6 +104,15 @@ fn append_part(
     if *first == b'z' {
         return Ok(append_zeros(bytes, &text[1..], most)?);
     }
+    Ok(append_digits(alloc, bytes, text)?)
+}
+
+// Appends the bytes that hexadecimal digits spell, none of which is a zero that a number spells.
+fn append_digits(alloc: Global, bytes: &mut Vec<u8>, text: &[u8]) -> Result<Option<u64>, NoMemory>
+    ensures appended { IfOk result (λ zeros. AppendsSpelled (option_map digits (result_ok (decode_of text.now)))
+        bytes.old.items bytes.new.items zeros) }
+    ensures none { IfOk result (λ zeros. IfSome zeros (λ n. n ≡ 0)) }
+{
     match hex::decode(alloc, text) {
         Ok(part) => {
             let appended = bytes.extend_from_slice(&part);

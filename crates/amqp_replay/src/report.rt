@@ -5,7 +5,7 @@ ghost use Rattle.std.specs.List.{flat_map};
 ghost use Rattle.std.specs.String.{string_bytes};
 ghost use Rattle.amqp_session.specs.Talk.{end_of};
 ghost use Rattle.amqp_session.specs.Answers.{answer_of};
-ghost use Rattle.amqp_replay.specs.Report.{link_line, link_lines, answer_line, answer_lines, kind_text, frame_line, frame_lines, hexadecimal, end_line, report, refusal};
+ghost use Rattle.amqp_replay.specs.Report.{link_line, link_lines, answer_line, answer_lines, answer_text, kind_text, frame_line, frame_lines, hexadecimal, end_line, report, refusal};
 
 use amqp_engine::{IoLoop, ScriptedPort};
 use amqp_frame::RawKind;
@@ -177,23 +177,36 @@ fn put_answer(
     if is_refused(answer) {
         return Err(NoMemory);
     }
+    write!(out, "answer {number} ")?;
+    put_answer_text(out, answer)?;
+    out.push_str("\n")?;
+    Ok(())
+}
+
+// An answer, or that there is none.
+fn put_answer_text(
+    out: &mut String,
+    answer: &Option<amqp_session::Result<Answer>>,
+) -> Result<(), NoMemory>
+    ensures { OnOk result (string_bytes out.new ≡ string_bytes out.old ++ answer_text answer.now) }
+{
     match answer {
-        None => write!(out, "answer {number} pending\n")?,
-        Some(Ok(value)) => put_value(out, number, *value)?,
-        Some(Err(error)) => write!(out, "answer {number} err {error}\n")?,
+        None => out.push_str("pending")?,
+        Some(Ok(value)) => put_value(out, *value)?,
+        Some(Err(error)) => write!(out, "err {error}")?,
     }
     Ok(())
 }
 
-// The line of a promise that was answered well.
-fn put_value(out: &mut String, number: u64, value: Answer) -> Result<(), NoMemory>
-    ensures { OnOk result (string_bytes out.new ≡ string_bytes out.old ++ answer_line number (Some (Ok value))) }
+// What a promise was answered with.
+fn put_value(out: &mut String, value: Answer) -> Result<(), NoMemory>
+    ensures { OnOk result (string_bytes out.new ≡ string_bytes out.old ++ answer_text (Some (Ok value))) }
 {
     match value {
-        Answer::Connected => write!(out, "answer {number} ok connected\n")?,
-        Answer::Channel(id, _) => write!(out, "answer {number} ok channel {id}\n")?,
-        Answer::Done => write!(out, "answer {number} ok done\n")?,
-        Answer::Sent => write!(out, "answer {number} ok sent\n")?,
+        Answer::Connected => out.push_str("ok connected")?,
+        Answer::Channel(id, _) => write!(out, "ok channel {id}")?,
+        Answer::Done => out.push_str("ok done")?,
+        Answer::Sent => out.push_str("ok sent")?,
     }
     Ok(())
 }
