@@ -14,7 +14,7 @@ struct Row {
     printed: usize,
 }
 
-const SOURCES: [Row; 4] = [
+const FAILING: [Row; 7] = [
     Row {
         name: "the first read fails",
         ends: Ends {
@@ -55,9 +55,6 @@ const SOURCES: [Row; 4] = [
         status: SOURCE_FAILED,
         printed: 0,
     },
-];
-
-const SINKS: [Row; 3] = [
     Row {
         name: "the first write fails",
         ends: Ends {
@@ -96,10 +93,10 @@ fn row_holds(alloc: Global, script: &[u8], report: &[u8], row: &Row) -> Result<b
 }
 
 // The first row that does not hold.
-fn first_broken(alloc: Global, rows: &[Row]) -> Result<Option<&'static str>, Fail> {
+fn first_broken(alloc: Global) -> Result<Option<&'static str>, Fail> {
     let script = handshake(alloc)?;
     let report = handshake_report(alloc)?;
-    for row in rows {
+    for row in &FAILING {
         if !row_holds(alloc, &script, &report, row)? {
             return Ok(Some(row.name));
         }
@@ -108,22 +105,26 @@ fn first_broken(alloc: Global, rows: &[Row]) -> Result<Option<&'static str>, Fai
 }
 
 #[test]
-fn a_source_fails(rt: HostRuntime) -> Result<(), Fail> {
-    assert_eq!(rt; first_broken(rt.alloc(), &SOURCES)?, None);
+fn sources_and_sinks_that_fail(rt: HostRuntime) -> Result<(), Fail> {
+    assert_eq!(rt; first_broken(rt.alloc())?, None);
     Ok(())
 }
 
-#[test]
-fn a_sink_fails(rt: HostRuntime) -> Result<(), Fail> {
-    assert_eq!(rt; first_broken(rt.alloc(), &SINKS)?, None);
-    Ok(())
+const OTHER_WORDS: [&[&str]; 3] = [&[], &["replay", "x"], &["replays"]];
+
+// How many of the other words are answered by the usage alone.
+fn count_unknown(alloc: Global) -> Result<usize, Fail> {
+    let mut count: usize = 0;
+    for words in OTHER_WORDS {
+        if answers(alloc, words, b"link", &WELL, USAGE, b"")? {
+            count = count.saturating_add(1);
+        }
+    }
+    Ok(count)
 }
 
 #[test]
 fn other_words_print_nothing(rt: HostRuntime) -> Result<(), Fail> {
-    let alloc = rt.alloc();
-    assert!(rt; answers(alloc, &[], b"link", &WELL, USAGE, b"")?);
-    assert!(rt; answers(alloc, &["replay", "x"], b"link", &WELL, USAGE, b"")?);
-    assert!(rt; answers(alloc, &["replays"], b"link", &WELL, USAGE, b"")?);
+    assert!(rt; count_unknown(rt.alloc())? == OTHER_WORDS.len());
     Ok(())
 }

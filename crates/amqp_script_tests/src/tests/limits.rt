@@ -7,64 +7,105 @@ use amqp_replay::status::{REFUSED, RUNNING};
 use std::alloc::Global;
 use std::test::Fail;
 
+/// A script of one byte so many times, and then others, with its status and what it prints.
+struct Row {
+    name: &'static str,
+    byte: u8,
+    count: usize,
+    more: &'static [u8],
+    status: u8,
+    printed: &'static [u8],
+}
+
 const NOTHING_DONE: &[u8] = b"answer 0 pending\nend running\n";
 
 const ONE_REFUSED: &[u8] = b"script line 1 refused\n";
 
-// Whether a comment of so many bytes, and then these, is answered by this status, and prints this.
-fn comment_prints(
-    alloc: Global,
-    count: usize,
-    more: &[u8],
-    status: u8,
-    printed: &[u8],
-) -> Result<bool, Fail> {
-    let mut text = vec![in alloc; b'#'; count]?;
-    text.extend_from_slice(more)?;
-    prints(alloc, &text, status, printed)
+const LIMITS: [Row; 8] = [
+    Row {
+        name: "as many bytes as may be",
+        byte: b'#',
+        count: SCRIPT_BYTES,
+        more: b"",
+        status: RUNNING,
+        printed: NOTHING_DONE,
+    },
+    Row {
+        name: "the byte that is too much is a line feed",
+        byte: b'#',
+        count: SCRIPT_BYTES,
+        more: b"\n",
+        status: REFUSED,
+        printed: ONE_REFUSED,
+    },
+    Row {
+        name: "another byte after that",
+        byte: b'#',
+        count: SCRIPT_BYTES,
+        more: b"\n#",
+        status: REFUSED,
+        printed: ONE_REFUSED,
+    },
+    Row {
+        name: "as many lines as may be",
+        byte: b'\n',
+        count: SCRIPT_LINES as usize,
+        more: b"",
+        status: RUNNING,
+        printed: NOTHING_DONE,
+    },
+    Row {
+        name: "one line more",
+        byte: b'\n',
+        count: SCRIPT_LINES as usize,
+        more: b"#",
+        status: REFUSED,
+        printed: b"script line 100001 refused\n",
+    },
+    Row {
+        name: "as many zeros as may be",
+        byte: b'\n',
+        count: 0,
+        more: b"send 1 60 40 z67108863+z01\n",
+        status: RUNNING,
+        printed: b"answer 0 pending\nanswer 1 err invalid connection state: Initial\nend running\n",
+    },
+    Row {
+        name: "one zero more",
+        byte: b'\n',
+        count: 0,
+        more: b"send 1 60 40 z67108863+z2\n",
+        status: REFUSED,
+        printed: ONE_REFUSED,
+    },
+    Row {
+        name: "one zero more in three lines",
+        byte: b'\n',
+        count: 0,
+        more: b"bytes z64\nsend 1 60 40 z67108800\nbytes z1\n",
+        status: REFUSED,
+        printed: b"script line 3 refused\n",
+    },
+];
+
+fn row_holds(alloc: Global, row: &Row) -> Result<bool, Fail> {
+    let mut text = vec![in alloc; row.byte; row.count]?;
+    text.extend_from_slice(row.more)?;
+    prints(alloc, &text, row.status, row.printed)
+}
+
+// The first row that does not hold.
+fn first_broken(alloc: Global) -> Result<Option<&'static str>, Fail> {
+    for row in &LIMITS {
+        if !row_holds(alloc, row)? {
+            return Ok(Some(row.name));
+        }
+    }
+    Ok(None)
 }
 
 #[test]
-fn a_script_has_a_limit_of_bytes(rt: HostRuntime) -> Result<(), Fail> {
-    let alloc = rt.alloc();
-    assert!(rt; comment_prints(alloc, SCRIPT_BYTES, b"", RUNNING, NOTHING_DONE)?);
-    assert!(rt; comment_prints(alloc, SCRIPT_BYTES, b"\n", REFUSED, ONE_REFUSED)?);
-    assert!(rt; comment_prints(alloc, SCRIPT_BYTES, b"\n#", REFUSED, ONE_REFUSED)?);
-    Ok(())
-}
-
-// Whether so many empty lines, and then these bytes, are answered by this status, and print this.
-fn empty_lines_print(
-    alloc: Global,
-    count: usize,
-    more: &[u8],
-    status: u8,
-    printed: &[u8],
-) -> Result<bool, Fail> {
-    let mut text = vec![in alloc; b'\n'; count]?;
-    text.extend_from_slice(more)?;
-    prints(alloc, &text, status, printed)
-}
-
-#[test]
-fn a_script_has_a_limit_of_lines(rt: HostRuntime) -> Result<(), Fail> {
-    let (alloc, count) = (rt.alloc(), SCRIPT_LINES as usize);
-    let refused = b"script line 100001 refused\n";
-    assert!(rt; empty_lines_print(alloc, count, b"", RUNNING, NOTHING_DONE)?);
-    assert!(rt; empty_lines_print(alloc, count, b"#", REFUSED, refused)?);
-    Ok(())
-}
-
-#[test]
-fn zeros_have_a_limit(rt: HostRuntime) -> Result<(), Fail> {
-    let alloc = rt.alloc();
-    let all = b"send 1 60 40 z67108863+z01\n";
-    let rejected =
-        b"answer 0 pending\nanswer 1 err invalid connection state: Initial\nend running\n";
-    assert!(rt; prints(alloc, all, RUNNING, rejected)?);
-    let more = b"send 1 60 40 z67108863+z2\n";
-    assert!(rt; prints(alloc, more, REFUSED, ONE_REFUSED)?);
-    let in_lines = b"bytes z64\nsend 1 60 40 z67108800\nbytes z1\n";
-    assert!(rt; prints(alloc, in_lines, REFUSED, b"script line 3 refused\n")?);
+fn scripts_have_limits(rt: HostRuntime) -> Result<(), Fail> {
+    assert_eq!(rt; first_broken(rt.alloc())?, None);
     Ok(())
 }

@@ -1,5 +1,7 @@
 //! Readers and writers as sources and sinks.
 
+ghost use Rattle.std.specs.Prelude.{◌≤◌, IfOk};
+
 use amqp_replay::{Gave, Put, Reading, Sink, Source, Writing};
 use std::alloc::Global;
 use std::io::{self, ErrorKind, Read, Write};
@@ -13,7 +15,10 @@ struct Interrupted {
 }
 
 impl Interrupted {
-    fn answer(&mut self, most: usize) -> io::Result<usize> {
+    // Serves so many bytes at most.
+    fn answer(&mut self, most: usize) -> io::Result<usize>
+        ensures { IfOk result (λ n. n ≤ most) }
+    {
         if self.times > 0 {
             self.times -= 1;
             return Err(io::Error::from(ErrorKind::Interrupted));
@@ -29,7 +34,7 @@ impl Interrupted {
 impl Read for Interrupted {
     fn read(&mut self, buf: &mut [u8]) -> io::Result<usize> {
         let n = self.answer(buf.len())?;
-        if n == 1 {
+        if n > 0 {
             buf[0] = b'x';
         }
         Ok(n)
