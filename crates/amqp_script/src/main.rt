@@ -1,29 +1,16 @@
 //! Replays a script of a connection over a port in memory, and prints a report.
 #![tactic(auto)]
 
-mod data;
-mod ends;
-mod grammar;
-mod limits;
-mod lines;
-mod memory_ends;
-mod numbers;
-mod report;
-mod script;
-mod standard_ends;
-mod status;
-mod top;
-mod transfer;
-mod words;
-
-use amqp_engine::MemoryPort;
+use amqp_replay::status::{FAILED, NO_MEMORY, SINK_FAILED, SOURCE_FAILED, USAGE};
+use amqp_replay::top::top;
+use amqp_replay::{CountedPort, Reading, Writing, line_of_step};
 use amqp_types::{NoMemory, Text};
-use standard_ends::{Reading, Writing};
-use status::{NO_MEMORY, USAGE};
 use std::env;
-use std::io::ErrorKind;
+use std::io::{self, ErrorKind};
 use std::process::ExitCode;
-use top::top;
+
+const USAGE_TEXT: &str = "usage: amqp_script replay
+The script is read from standard input, and its report goes to standard output.";
 
 // The words after the program's name. One that is no text makes none of them known.
 fn words_given(rt: &HostRuntime) -> Result<Vec<Text>, NoMemory> {
@@ -41,22 +28,39 @@ fn words_given(rt: &HostRuntime) -> Result<Vec<Text>, NoMemory> {
     }
 }
 
-fn run(rt: &HostRuntime) -> Result<u8, NoMemory> {
+// The status, and the line of the script at which the session ended with an error.
+fn replay(rt: &HostRuntime) -> Result<(u8, Option<u64>), NoMemory> {
     let words = words_given(rt)?;
-    let mut source = Reading::new(rt.stdin());
+    let mut port = CountedPort::new(rt.alloc())?;
+    let mut source = Reading::new(rt.alloc(), rt.stdin());
     let mut sink = Writing::new(rt.stdout());
-    let mut port = MemoryPort::new(rt.alloc(), Vec::new(rt.alloc()))?;
     let status = top(rt.alloc(), &words, &mut source, &mut sink, &mut port);
-    if status == USAGE {
-        // The status tells it where standard error does not take it.
-        let _ = rt.eprintln("usage: amqp_script replay");
+    Ok((status, ended_at(status, source.text(), port.steps())))
+}
+
+// The line at which a script ended with an error, where its text was kept.
+fn ended_at(status: u8, text: Option<&[u8]>, steps: u64) -> Option<u64> {
+    match text {
+        Some(text) if status == FAILED => line_of_step(text, steps),
+        _ => None,
     }
-    Ok(status)
+}
+
+// Says why nothing more is printed, or where an error came.
+fn note(rt: &HostRuntime, status: u8, line: Option<u64>) -> io::Result<()> {
+    match (status, line) {
+        (USAGE, _) => rt.eprintln(USAGE_TEXT),
+        (SOURCE_FAILED, _) => rt.eprintln("standard input failed"),
+        (SINK_FAILED, _) => rt.eprintln("standard output failed"),
+        (NO_MEMORY, _) => rt.eprintln("out of memory"),
+        (_, Some(line)) => eprintln!(rt; "line {line}"),
+        (_, None) => Ok(()),
+    }
 }
 
 fn main(rt: HostRuntime) -> ExitCode {
-    ExitCode::from(run(&rt).unwrap_or(NO_MEMORY))
+    let (status, line) = replay(&rt).unwrap_or((NO_MEMORY, None));
+    // The status tells it where standard error does not take it.
+    let _ = note(&rt, status, line);
+    ExitCode::from(status)
 }
-
-#[cfg(test)]
-mod tests;

@@ -1,0 +1,21 @@
+-- A text that is cut at a byte, and the lines of a text (`lines`).
+pub mod Cuts
+pub mod LineLemmas
+-- Decimal numbers (`decimals`), and bytes as a script spells them (`data`).
+pub mod DecimalLemmas
+pub mod DataLemmas
+-- What a line says (`grammar`): zeros that are limited, the steps of lines, the length of a piece (`script`).
+pub mod FreeLines
+pub mod Steps
+pub mod Pieces
+-- What follows the most that is read says nothing (`top`: `outcome`).
+pub mod MostRead
+-- The lines of a report (`report`).
+pub mod Reports
+pub mod FrameLines
+-- What was read and what was written (`transfer`).
+pub mod Streams
+-- A replay, from the contracts of the port and the engine; the statuses; the lone word (`top`).
+pub mod Replaying
+pub mod Statuses
+pub mod Lone

@@ -1,0 +1,138 @@
+-- Each piece that a line says has a length that a port can give.
+use Rattle.std.proofs.Common.{◌≡◌, ◌≤◌, ◌&&◌, nat_le, if◌then◌else◌, ℕ, Bool, true, false, not, List, [], ◌∷◌, ◌++◌, length, Option, Some, None, option_map, unwrap_or, refl, arith, codes}
+use Rattle.std.specs.List.{list_all}
+use Rattle.std.specs.Str.{bytes_eq}
+use Rattle.std.proofs.lemmas.Bool.Decides.{nat_tests}
+use Rattle.amqp_session.specs.declared.command.Cmd.{Cmd}
+use Rattle.amqp_session.specs.declared.command.Cmd.TheVariants.{OpenChannel, CloseChannel, CloseConnection, Send}
+use Rattle.amqp_engine.specs.declared.given.Given.{Given}
+use Rattle.amqp_engine.specs.declared.given.GivenStep.{GivenStep}
+use Rattle.amqp_engine.specs.declared.given.GivenStep.TheVariants.{Link, Refuse, Bytes, End, Fault, Room, WriteFail, Command}
+use Rattle.amqp_engine.specs.Plan.{IsGivenPiece, ArePieces}
+use Rattle.amqp_replay.specs.declared.grammar.Said.{Said}
+use Rattle.amqp_replay.specs.declared.grammar.Said.TheVariants.{Nothing, Refused, Step}
+use Rattle.amqp_replay.specs.declared.limits.TheConstants.{PIECE_BYTES, TEXT_BYTES}
+use Rattle.amqp_replay.specs.Lines.{Line}
+use Rattle.amqp_replay.specs.Words.{first_word, after_word}
+use Rattle.amqp_replay.specs.Decimals.{number_16, number_64}
+use Rattle.amqp_replay.specs.Data.{Spelled, spelled}
+use Rattle.amqp_replay.specs.Grammar.{step_or_refused, lone, link_line, room_line, piece, bytes_line, closes_by, closes, shut_line, numbered, close_of, close_line, number_in, rest_of, is_passed_through, sent_method, sends_data, data_in, sends, send_line, command_of_words, line_of_words, is_ignored, is_printable, content_says, is_within_limits, says, limited}
+
+abbrev pub SaysPiece : Said → Type 0
+SaysPiece (Step what n) = IsGivenPiece what
+SaysPiece _ = Unit {0}
+
+if_case : (b : Bool) (x y : Said) → SaysPiece x → SaysPiece y → SaysPiece (if b then x else y)
+if_case true x y p q = p
+if_case false x y p q = q
+
+-- ---- a step without a piece
+
+of_lone : (what : GivenStep) (o : Option (List ℕ)) → IsGivenPiece what → SaysPiece (lone what o)
+of_lone what None p = p
+of_lone what (Some rest) p = tt
+
+of_link : (o : Option ℕ) → SaysPiece (step_or_refused (option_map (λ n. Link (Some n)) o))
+of_link None = tt
+of_link (Some n) = tt
+
+of_room : (o : Option ℕ) → SaysPiece (step_or_refused (option_map Room o))
+of_room None = tt
+of_room (Some n) = tt
+
+of_link_line : (o : Option (List ℕ)) → SaysPiece (link_line o)
+of_link_line None = tt
+of_link_line (Some digits) = of_link (number_64 digits)
+
+of_room_line : (o : Option (List ℕ)) → SaysPiece (room_line o)
+of_room_line None = tt
+of_room_line (Some digits) = of_room (number_64 digits)
+
+of_closes_by : (cmd : ℕ → List ℕ → Cmd) (o : Option ℕ) (text : List ℕ) → SaysPiece (closes_by cmd o text)
+of_closes_by cmd None text = tt
+of_closes_by cmd (Some code) text =
+    if_case (nat_le (length text) TEXT_BYTES) (Step (Command (cmd code text)) 0) Refused tt tt
+
+of_closes : (cmd : ℕ → List ℕ → Cmd) (o : Option (List ℕ)) → SaysPiece (closes cmd o)
+of_closes cmd None = tt
+of_closes cmd (Some words) = of_closes_by cmd (number_16 (first_word words)) (unwrap_or (after_word words) [])
+
+of_close_of : (o : Option ℕ) (rest : Option (List ℕ)) → SaysPiece (close_of o rest)
+of_close_of None rest = tt
+of_close_of (Some n) rest = of_closes (CloseChannel (numbered n)) rest
+
+of_close_line : (o : Option (List ℕ)) → SaysPiece (close_line o)
+of_close_line None = tt
+of_close_line (Some words) = of_close_of (number_16 (first_word words)) (after_word words)
+
+of_sends_data : (n class method : ℕ) (o : Option Spelled) → SaysPiece (sends_data n class method o)
+of_sends_data n class method None = tt
+of_sends_data n class method (Some found) =
+    if_case (is_passed_through class) (Step (Command (Send (numbered n) (sent_method class method found.bytes))) found.zeros) Refused tt tt
+
+of_sends : (n class method : Option ℕ) (o : Option Spelled) → SaysPiece (sends n class method o)
+of_sends (Some n) (Some class) (Some method) o = of_sends_data n class method o
+of_sends None class method o = tt
+of_sends (Some n) None method o = tt
+of_sends (Some n) (Some class) None o = tt
+
+of_send_line : (o : Option (List ℕ)) → SaysPiece (send_line o)
+of_send_line o =
+    of_sends (number_in o) (number_in (rest_of o)) (number_in (rest_of (rest_of o))) (data_in (rest_of (rest_of (rest_of o))))
+
+-- ---- a piece
+
+both : (n : ℕ) → (nat_le 1 n && nat_le n 4096) ≡ true → (1 ≤ n) × (n ≤ 4096)
+both n h = (grind (arith, nat_tests), grind (arith, nat_tests))
+
+sized : (b : Bool) (bytes : List ℕ) (n : ℕ) → (nat_le 1 (length bytes) && nat_le (length bytes) PIECE_BYTES) ≡ b
+    → SaysPiece (if b then Step (Bytes bytes) n else Refused)
+sized true bytes n h = both (length bytes) h
+sized false bytes n h = tt
+
+of_piece : (o : Option Spelled) → SaysPiece (piece o)
+of_piece None = tt
+of_piece (Some found) = sized (nat_le 1 (length found.bytes) && nat_le (length found.bytes) PIECE_BYTES) found.bytes found.zeros refl
+
+of_bytes_line : (o : Option (List ℕ)) → SaysPiece (bytes_line o)
+of_bytes_line None = tt
+of_bytes_line (Some text) = of_piece (spelled text)
+
+-- ---- a line
+
+of_command : (word : List ℕ) (rest : Option (List ℕ)) → SaysPiece (command_of_words word rest)
+of_command word rest =
+    if_case (bytes_eq word (codes "open")) (lone (Command OpenChannel) rest) _ (of_lone (Command OpenChannel) rest tt)
+    (if_case (bytes_eq word (codes "close")) (close_line rest) _ (of_close_line rest)
+    (if_case (bytes_eq word (codes "send")) (send_line rest) _ (of_send_line rest)
+    (if_case (bytes_eq word (codes "shut")) (shut_line rest) Refused (of_closes CloseConnection rest) tt)))
+
+of_words : (word : List ℕ) (rest : Option (List ℕ)) → SaysPiece (line_of_words word rest)
+of_words word rest =
+    if_case (bytes_eq word (codes "link")) (link_line rest) _ (of_link_line rest)
+    (if_case (bytes_eq word (codes "refuse")) (lone Refuse rest) _ (of_lone Refuse rest tt)
+    (if_case (bytes_eq word (codes "bytes")) (bytes_line rest) _ (of_bytes_line rest)
+    (if_case (bytes_eq word (codes "end")) (lone End rest) _ (of_lone End rest tt)
+    (if_case (bytes_eq word (codes "fault")) (lone Fault rest) _ (of_lone Fault rest tt)
+    (if_case (bytes_eq word (codes "room")) (room_line rest) _ (of_room_line rest)
+    (if_case (bytes_eq word (codes "writefail")) (lone WriteFail rest) (command_of_words word rest) (of_lone WriteFail rest tt)
+    (of_command word rest)))))))
+
+of_content : (content : List ℕ) → SaysPiece (content_says content)
+of_content content =
+    if_case (not (list_all is_printable content)) Refused _ tt
+    (if_case (is_ignored content) Nothing (line_of_words (first_word content) (after_word content)) tt
+    (of_words (first_word content) (after_word content)))
+
+of_limited : (left : ℕ) (said : Said) → SaysPiece said → SaysPiece (limited left said)
+of_limited left Nothing p = tt
+of_limited left Refused p = tt
+of_limited left (Step what n) p = if_case (nat_le n left) (Step what n) Refused p tt
+
+pub says_piece : (left : ℕ) (line : Line) → SaysPiece (limited left (says line))
+says_piece left line =
+    of_limited left (says line) (if_case (is_within_limits line) (content_says line.content) Refused (of_content line.content) tt)
+
+pub ArePieces-push : (gs : List Given) (g : Given) → ArePieces gs → IsGivenPiece g.what → ArePieces (gs ++ g ∷ [])
+ArePieces-push [] g pieces piece = (piece, tt)
+ArePieces-push (h ∷ gs) g pieces piece = (pieces.0, ArePieces-push gs g pieces.1 piece)

@@ -1,0 +1,71 @@
+-- Which statuses a printout has.
+use Rattle.std.proofs.Common.{◌≡◌, ◌≢◌, ◌<◌, ◌⊎◌, inl, inr, refl, ℕ, List, take, Option, Some, None, IfSome, Result, Ok, Err, ap, ◌∙◌, subst, arith}
+use Rattle.amqp_session.specs.declared.error.ErrorKind.{ErrorKind}
+use Rattle.amqp_session.specs.Talk.{end_of}
+use Rattle.amqp_engine.specs.declared.given.Given.{Given}
+use Rattle.amqp_engine.specs.Log.{Log}
+use Rattle.amqp_engine.specs.Turn.{talk}
+use Rattle.amqp_engine.specs.Play.{replayed}
+use Rattle.amqp_replay.specs.declared.limits.TheConstants.{MOST_READ}
+use Rattle.amqp_replay.specs.declared.status.TheConstants.{CLOSED, REFUSED, USAGE, SOURCE_FAILED, SINK_FAILED, FAILED, RUNNING, NO_MEMORY}
+use Rattle.amqp_replay.specs.Grammar.{parsed}
+use Rattle.amqp_replay.proofs.MostRead.{parsed-most}
+use Rattle.amqp_replay.specs.Top.{end_status, printout, TellsReplay, Prints, Replays, ReplaysSome, IsSilent, IsStatus}
+
+-- a status with which something is printed, though nothing failed
+pub record IsLoud (status : ℕ) : Type 0 where
+  pub known : status ≢ USAGE
+  pub read : status ≢ SOURCE_FAILED
+  pub written : status ≢ SINK_FAILED
+  pub memory : status ≢ NO_MEMORY
+
+-- all other statuses are below 2, or 5 or 6
+loud_status : (n : ℕ) → (n < 2) ⊎ (n ≡ 5) ⊎ (n ≡ 6) → IsLoud n
+loud_status n which =
+    record {
+      known = λ h. omega (arith, h, which);
+      read = λ h. omega (arith, h, which);
+      written = λ h. omega (arith, h, which);
+      memory = λ h. omega (arith, h, which);
+    }
+
+loud_end : (o : Option (Result (Unit {0}) ErrorKind)) → IsLoud (end_status o)
+loud_end None = loud_status RUNNING (inr (inr refl))
+loud_end (Some (Ok closed)) = loud_status CLOSED (inl (omega arith))
+loud_end (Some (Err e)) = loud_status FAILED (inr (inl refl))
+
+pub printout-IsLoud : (script : Result (List Given) ℕ) → IsLoud (printout script).status
+printout-IsLoud (Err number) = loud_status REFUSED (inl (omega arith))
+printout-IsLoud (Ok gs) = loud_end (end_of (talk (replayed gs)))
+
+-- ---- a script that was read and answered
+
+pub ReplaysSome-read : (left : Option (List ℕ)) (log : Option Log) (before after : Option (List ℕ)) (status : ℕ) (script : List ℕ)
+    → IfSome left (λ all. script ≡ take MOST_READ all) → IsSilent status ⊎ Replays script log before after status
+    → IsSilent status ⊎ ReplaysSome left log before after status
+ReplaysSome-read left log before after status script read (inl silent) = inl silent
+ReplaysSome-read left log before after status script read (inr answers) =
+    inr (record { script = script; read = read; replays = answers })
+
+-- where the source told all that it had, all of it was answered
+pub Replays-told : (left : Option (List ℕ)) (log : Option Log) (before after : Option (List ℕ)) (status : ℕ) (script : List ℕ)
+    → IfSome left (λ all. script ≡ take MOST_READ all) → IsSilent status ⊎ Replays script log before after status
+    → IfSome left (λ all. IsSilent status ⊎ Replays all log before after status)
+Replays-told None log before after status script read outcome = tt
+Replays-told (Some all) log before after status script read (inl silent) = inl silent
+Replays-told (Some all) log before after status script read (inr answers) =
+    let same : parsed script ≡ parsed all = ap parsed read ∙ parsed-most all in
+    let P : Result (List Given) ℕ → Type 0 = λ r. TellsReplay r log in
+    let Q : Result (List Given) ℕ → Type 0 = λ r. Prints (printout r) before after status in
+    inr (record { told = subst P same answers.told; prints = subst Q same answers.prints })
+
+of_prints : (script : List ℕ) (before after : Option (List ℕ)) (status : ℕ) → Prints (printout (parsed script)) before after status
+    → IsStatus script status
+of_prints script before after status (inl whole) = inr (inr whole.0)
+of_prints script before after status (inr front) = inr (inl front.0)
+
+pub IsStatus-told : (left : Option (List ℕ)) (log : Option Log) (before after : Option (List ℕ)) (status : ℕ)
+    → IfSome left (λ all. IsSilent status ⊎ Replays all log before after status) → IfSome left (λ all. IsStatus all status)
+IsStatus-told None log before after status outcome = tt
+IsStatus-told (Some all) log before after status (inl silent) = inl silent
+IsStatus-told (Some all) log before after status (inr answers) = of_prints all before after status answers.prints

@@ -1,0 +1,15 @@
+-- The steps so far, before those of the lines that are left, are those of the text.
+use Rattle.std.proofs.Common.{◌≡◌, length}
+use Rattle.amqp_engine.specs.Plan.{ArePieces}
+use Rattle.amqp_replay.specs.Grammar.{parsed, steps_of}
+use Rattle.amqp_replay.proofs.Steps.{steps_before}
+use Rattle.amqp_replay.proofs.script.parse.Given as goal
+
+abbrev pub invariant-lines : goal.invariant-lines
+invariant-lines l = record {
+  whole : steps_before l.steps.items (steps_of l.left l.lines) ≡ parsed l.text;
+  pieces : ArePieces l.steps.items;
+}
+
+abbrev pub decreases-lines : goal.decreases-lines
+decreases-lines l = length l.lines

@@ -1,0 +1,207 @@
+-- A script: which step each line says, and which line is refused.
+use Rattle.std.specs.Prelude.{ℕ, ◌==◌, ◌-◌, ◌&&◌, ◌||◌, not, nat_le, if◌then◌else◌, Bool, true, List, [], ◌∷◌, length, Option, Some, None, option_map, unwrap_or, Result, Ok, Err, codes}
+use Rattle.std.specs.List.{list_all}
+use Rattle.std.specs.Str.{bytes_eq}
+use Rattle.amqp_frame.specs.RawMethods.{OtherMethod}
+use Rattle.amqp_session.specs.declared.command.ChanRef.{ChanRef}
+use Rattle.amqp_session.specs.declared.command.Cmd.{Cmd}
+use Rattle.amqp_session.specs.declared.command.Cmd.TheVariants.{OpenChannel, CloseChannel, CloseConnection, Send}
+use Rattle.amqp_engine.specs.declared.given.Given.{Given}
+use Rattle.amqp_engine.specs.declared.given.GivenStep.{GivenStep}
+use Rattle.amqp_engine.specs.declared.given.GivenStep.TheVariants.{Link, Refuse, Bytes, End, Fault, Room, WriteFail, Command}
+use Rattle.amqp_replay.specs.declared.grammar.Said.{Said}
+use Rattle.amqp_replay.specs.declared.grammar.Said.TheVariants.{Nothing, Refused, Step}
+use Rattle.amqp_replay.specs.declared.limits.TheConstants.{PIECE_BYTES, SCRIPT_BYTES, SCRIPT_LINES, TEXT_BYTES, ZERO_BYTES}
+use Rattle.amqp_replay.specs.Lines.{Line, lines}
+use Rattle.amqp_replay.specs.Words.{first_word, after_word}
+use Rattle.amqp_replay.specs.Decimals.{number_16, number_64}
+use Rattle.amqp_replay.specs.Data.{Spelled, spelled}
+
+-- ---- lines
+
+-- a line says a step, where there is one
+abbrev pub step_or_refused : Option GivenStep → Said
+step_or_refused None = Refused
+step_or_refused (Some what) = Step what 0
+
+-- a line of one word alone
+abbrev pub lone : GivenStep → Option (List ℕ) → Said
+lone what None = Step what 0
+lone what (Some rest) = Refused
+
+-- `link`, `link N`
+abbrev pub link_line : Option (List ℕ) → Said
+link_line None = Step (Link None) 0
+link_line (Some digits) = step_or_refused (option_map (λ n. Link (Some n)) (number_64 digits))
+
+-- `room N`
+abbrev pub room_line : Option (List ℕ) → Said
+room_line None = Refused
+room_line (Some digits) = step_or_refused (option_map Room (number_64 digits))
+
+-- a piece of 1 to 4,096 bytes
+abbrev pub piece : Option Spelled → Said
+piece None = Refused
+piece (Some found) =
+    if nat_le 1 (length found.bytes) && nat_le (length found.bytes) PIECE_BYTES
+    then Step (Bytes found.bytes) found.zeros
+    else Refused
+
+-- `bytes DATA`
+abbrev pub bytes_line : Option (List ℕ) → Said
+bytes_line None = Refused
+bytes_line (Some text) = piece (spelled text)
+
+-- a command with a code and a text, which may be missing, and is empty then
+abbrev pub closes_by : (ℕ → List ℕ → Cmd) → Option ℕ → List ℕ → Said
+closes_by cmd None text = Refused
+closes_by cmd (Some code) text = if nat_le (length text) TEXT_BYTES then Step (Command (cmd code text)) 0 else Refused
+
+-- what `CODE TEXT` says of a command that closes something
+abbrev pub closes : (ℕ → List ℕ → Cmd) → Option (List ℕ) → Said
+closes cmd None = Refused
+closes cmd (Some words) = closes_by cmd (number_16 (first_word words)) (unwrap_or (after_word words) [])
+
+-- `shut CODE TEXT`
+abbrev pub shut_line : Option (List ℕ) → Said
+shut_line rest = closes CloseConnection rest
+
+-- a channel by its number alone
+abbrev pub numbered : ℕ → ChanRef
+numbered n = record { id = n; opened = None }
+
+-- what follows the number of a channel that is to be closed
+abbrev pub close_of : Option ℕ → Option (List ℕ) → Said
+close_of None rest = Refused
+close_of (Some n) rest = closes (CloseChannel (numbered n)) rest
+
+-- `close CH CODE TEXT`
+abbrev pub close_line : Option (List ℕ) → Said
+close_line None = Refused
+close_line (Some words) = close_of (number_16 (first_word words)) (after_word words)
+
+-- a number at the front of the words that are left
+abbrev pub number_in : Option (List ℕ) → Option ℕ
+number_in None = None
+number_in (Some words) = number_16 (first_word words)
+
+-- the words after the first one
+abbrev pub rest_of : Option (List ℕ) → Option (List ℕ)
+rest_of None = None
+rest_of (Some words) = after_word words
+
+-- a class whose methods are not read
+abbrev pub is_passed_through : ℕ → Bool
+is_passed_through class = not (class == 10 || class == 20)
+
+-- a method with arguments that are not read
+abbrev pub sent_method : ℕ → ℕ → List ℕ → OtherMethod
+sent_method class method arguments = record { class = class; method = method; arguments = arguments }
+
+-- a method with these arguments is sent, where they are spelled
+abbrev pub sends_data : ℕ → ℕ → ℕ → Option Spelled → Said
+sends_data n class method None = Refused
+sends_data n class method (Some found) =
+    if is_passed_through class
+    then Step (Command (Send (numbered n) (sent_method class method found.bytes))) found.zeros
+    else Refused
+
+-- the bytes that the last words spell
+abbrev pub data_in : Option (List ℕ) → Option Spelled
+data_in None = None
+data_in (Some text) = spelled text
+
+-- a method is sent, where its three numbers are there
+abbrev pub sends : Option ℕ → Option ℕ → Option ℕ → Option Spelled → Said
+sends (Some n) (Some class) (Some method) arguments = sends_data n class method arguments
+sends _ _ _ arguments = Refused
+
+-- `send CH CLASS METHOD DATA`, of a class that is passed through
+abbrev pub send_line : Option (List ℕ) → Said
+send_line rest =
+    let after_channel = rest_of rest in
+    let after_class = rest_of after_channel in
+    sends (number_in rest) (number_in after_channel) (number_in after_class) (data_in (rest_of after_class))
+
+-- a line that tells the session to do something
+abbrev pub command_of_words : List ℕ → Option (List ℕ) → Said
+command_of_words word rest =
+    if bytes_eq word (codes "open") then lone (Command OpenChannel) rest
+    else if bytes_eq word (codes "close") then close_line rest
+    else if bytes_eq word (codes "send") then send_line rest
+    else if bytes_eq word (codes "shut") then shut_line rest
+    else Refused
+
+-- a line that begins with this word and goes on like this
+abbrev pub line_of_words : List ℕ → Option (List ℕ) → Said
+line_of_words word rest =
+    if bytes_eq word (codes "link") then link_line rest
+    else if bytes_eq word (codes "refuse") then lone Refuse rest
+    else if bytes_eq word (codes "bytes") then bytes_line rest
+    else if bytes_eq word (codes "end") then lone End rest
+    else if bytes_eq word (codes "fault") then lone Fault rest
+    else if bytes_eq word (codes "room") then room_line rest
+    else if bytes_eq word (codes "writefail") then lone WriteFail rest
+    else command_of_words word rest
+
+-- an empty line, or one that begins with `#`
+abbrev pub is_ignored : List ℕ → Bool
+is_ignored [] = true
+is_ignored (b ∷ bs) = b == 35
+
+-- a byte that a line may hold
+abbrev pub is_printable : ℕ → Bool
+is_printable b = nat_le 0x20 b && nat_le b 0x7e
+
+-- what the bytes of a line say
+abbrev pub content_says : List ℕ → Said
+content_says content =
+    if not (list_all is_printable content) then Refused
+    else if is_ignored content then Nothing
+    else line_of_words (first_word content) (after_word content)
+
+-- a line that the limits of a script leave room for
+abbrev pub is_within_limits : Line → Bool
+is_within_limits line = nat_le line.number SCRIPT_LINES && nat_le line.end SCRIPT_BYTES
+
+-- what a line says
+abbrev pub says : Line → Said
+says line = if is_within_limits line then content_says line.content else Refused
+
+-- what it says where so many zeros may still be spelled by numbers
+abbrev pub limited : ℕ → Said → Said
+limited left (Step what n) = if nat_le n left then Step what n else Refused
+limited left said = said
+
+-- ---- scripts
+
+-- a step, whose moment is 0
+abbrev pub given : GivenStep → Given
+given what = record { at = 0; what = what }
+
+-- how many zeros of a line are spelled by numbers
+abbrev pub zeros_in : Said → ℕ
+zeros_in (Step what n) = n
+zeros_in _ = 0
+
+-- a step comes before the steps that follow, unless a line is refused
+abbrev pub first : GivenStep → Result (List Given) ℕ → Result (List Given) ℕ
+first what (Ok gs) = Ok (given what ∷ gs)
+first what (Err number) = Err number
+
+-- what a line says comes before what the following lines say; a refused line comes before all that follows
+abbrev pub before : Said → ℕ → Result (List Given) ℕ → Result (List Given) ℕ
+before Nothing number rest = rest
+before Refused number rest = Err number
+before (Step what n) number rest = first what rest
+
+-- the steps that these lines say, or the number of the first one that is refused, where so many zeros may still be
+-- spelled by numbers
+abbrev pub steps_of : ℕ → List Line → Result (List Given) ℕ
+steps_of left [] = Ok []
+steps_of left (line ∷ lines) =
+    let said = limited left (says line) in before said line.number (steps_of (left - zeros_in said) lines)
+
+-- the steps of a script, or the number of its first line that is refused
+abbrev pub parsed : List ℕ → Result (List Given) ℕ
+parsed text = steps_of ZERO_BYTES (lines text)

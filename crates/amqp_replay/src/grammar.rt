@@ -1,0 +1,302 @@
+//! What the lines of a script say.
+
+ghost use Rattle.std.specs.Prelude.{◌≡◌, IfOk, option_map};
+ghost use Rattle.std.specs.List.{list_all};
+ghost use Rattle.std.specs.Option.{option_copied};
+ghost use Rattle.amqp_session.specs.declared.command.ChanRef.{ChanRef};
+ghost use Rattle.amqp_session.specs.declared.command.Cmd.TheVariants.{CloseConnection, CloseChannel};
+ghost use Rattle.amqp_replay.specs.Grammar.{says, content_says, line_of_words, command_of_words, limited, is_ignored, is_printable, is_within_limits, lone, link_line, room_line, bytes_line, shut_line, close_line, send_line, close_of, closes, closes_by, numbered, number_in, rest_of, sends_data, is_passed_through};
+ghost use Rattle.amqp_replay.specs.Decimals.{number_16};
+ghost use Rattle.amqp_replay.specs.Reasons.{GivesReason};
+
+use crate::data::{Spelled, read_data};
+use crate::decimals::number;
+use crate::limits::{PIECE_BYTES, SCRIPT_BYTES, SCRIPT_LINES, TEXT_BYTES};
+use crate::lines::Line;
+use crate::words::{cut, is};
+use amqp_engine::GivenStep;
+use amqp_frame::RawMethod;
+use amqp_session::{ChanRef, Cmd};
+use amqp_types::{NoMemory, ShortString};
+use std::alloc::Global;
+
+/// What a line says.
+#[derive(Debug, Drop)]
+pub enum Said {
+    /// The line is empty or a comment.
+    Nothing,
+    Refused,
+    /// A step, and how many of its bytes are zeros that a number spells.
+    Step(GivenStep, u64),
+}
+
+/// What a line says, where so many zeros may still be spelled by numbers.
+pub fn says(alloc: Global, line: &Line, left: u64) -> Result<Said, NoMemory>
+    ensures { IfOk result (λ said. said ≡ limited left (says line.now)) }
+{
+    if line.number > SCRIPT_LINES || line.end > SCRIPT_BYTES {
+        return Ok(Said::Refused);
+    }
+    Ok(content_says(alloc, line.content, left)?)
+}
+
+// What the bytes of a line say.
+fn content_says(alloc: Global, content: &[u8], left: u64) -> Result<Said, NoMemory>
+    ensures { IfOk result (λ said. said ≡ limited left (content_says content.now)) }
+{
+    if !is_printable(content) {
+        return Ok(Said::Refused);
+    }
+    if is_ignored(content) {
+        return Ok(Said::Nothing);
+    }
+    let (word, rest) = cut(content, b' ');
+    Ok(words_say(alloc, word, rest, left)?)
+}
+
+// Whether a line holds no other bytes than it may.
+fn is_printable(content: &[u8]) -> bool
+    ensures { result ≡ list_all is_printable content.now }
+{
+    content.iter().all(|b| 0x20 <= *b && *b <= 0x7e)
+}
+
+/// Whether a line is empty or a comment.
+pub fn is_ignored(content: &[u8]) -> bool
+    ensures { result ≡ is_ignored content.now }
+{
+    content.is_empty() || content[0] == b'#'
+}
+
+// What a line says that begins with this word.
+fn words_say(alloc: Global, word: &[u8], rest: Option<&[u8]>, left: u64) -> Result<Said, NoMemory>
+    ensures { IfOk result (λ said. said ≡ limited left (line_of_words word.now (option_copied rest.entry))) }
+{
+    if is(word, b"link") {
+        return Ok(link(rest));
+    }
+    if is(word, b"refuse") {
+        return Ok(lone(GivenStep::Refuse, rest));
+    }
+    if is(word, b"bytes") {
+        return Ok(bytes(alloc, rest, left)?);
+    }
+    if is(word, b"end") {
+        return Ok(lone(GivenStep::End, rest));
+    }
+    if is(word, b"fault") {
+        return Ok(lone(GivenStep::Fault, rest));
+    }
+    if is(word, b"room") {
+        return Ok(room(rest));
+    }
+    if is(word, b"writefail") {
+        return Ok(lone(GivenStep::WriteFail, rest));
+    }
+    Ok(command(alloc, word, rest, left)?)
+}
+
+// What a line says that tells the session to do something.
+fn command(alloc: Global, word: &[u8], rest: Option<&[u8]>, left: u64) -> Result<Said, NoMemory>
+    ensures { IfOk result (λ said. said ≡ limited left (command_of_words word.now (option_copied rest.entry))) }
+{
+    if is(word, b"open") {
+        return Ok(lone(GivenStep::Command(Cmd::OpenChannel), rest));
+    }
+    if is(word, b"close") {
+        return Ok(close(alloc, rest)?);
+    }
+    if is(word, b"send") {
+        return Ok(send(alloc, rest, left)?);
+    }
+    if is(word, b"shut") {
+        return Ok(shut(alloc, rest)?);
+    }
+    Ok(Said::Refused)
+}
+
+// A line of one word alone.
+fn lone(what: GivenStep, rest: Option<&[u8]>) -> Said
+    ensures { result ≡ lone what (option_copied rest.entry) }
+{
+    match rest {
+        None => Said::Step(what, 0),
+        Some(_) => {
+            drop(what);
+            Said::Refused
+        }
+    }
+}
+
+// `link`, `link N`
+fn link(rest: Option<&[u8]>) -> Said
+    ensures { result ≡ link_line (option_copied rest.entry) }
+{
+    match rest {
+        None => Said::Step(GivenStep::Link(None), 0),
+        Some(digits) => match number(digits, u64::MAX) {
+            None => Said::Refused,
+            Some(n) => Said::Step(GivenStep::Link(Some(n)), 0),
+        },
+    }
+}
+
+// `room N`
+fn room(rest: Option<&[u8]>) -> Said
+    ensures { result ≡ room_line (option_copied rest.entry) }
+{
+    match rest {
+        None => Said::Refused,
+        Some(digits) => match number(digits, u64::MAX) {
+            None => Said::Refused,
+            Some(n) => Said::Step(GivenStep::Room(n), 0),
+        },
+    }
+}
+
+// `bytes DATA`
+fn bytes(alloc: Global, rest: Option<&[u8]>, left: u64) -> Result<Said, NoMemory>
+    ensures { IfOk result (λ said. said ≡ limited left (bytes_line (option_copied rest.entry))) }
+{
+    let Some(text) = rest else {
+        return Ok(Said::Refused);
+    };
+    let Some(data) = read_data(alloc, text, left)? else {
+        return Ok(Said::Refused);
+    };
+    let len = data.bytes().len();
+    if len == 0 || len > PIECE_BYTES {
+        drop(data);
+        return Ok(Said::Refused);
+    }
+    let zeros = data.zeros();
+    Ok(Said::Step(GivenStep::Bytes(data.into_bytes()), zeros))
+}
+
+// `shut CODE TEXT`
+fn shut(alloc: Global, rest: Option<&[u8]>) -> Result<Said, NoMemory>
+    ensures { IfOk result (λ said. said ≡ shut_line (option_copied rest.entry)) }
+{
+    match read_reason(alloc, rest)? {
+        None => Ok(Said::Refused),
+        Some(reason) => {
+            let command = Cmd::CloseConnection(reason.code, reason.text);
+            Ok(Said::Step(GivenStep::Command(command), 0))
+        }
+    }
+}
+
+// `close CH CODE TEXT`
+fn close(alloc: Global, rest: Option<&[u8]>) -> Result<Said, NoMemory>
+    ensures { IfOk result (λ said. said ≡ close_line (option_copied rest.entry)) }
+{
+    let Some(words) = rest else {
+        return Ok(Said::Refused);
+    };
+    let (id, rest) = cut(words, b' ');
+    let Some(id) = number(id, u16::MAX as u64) else {
+        return Ok(Said::Refused);
+    };
+    match read_reason(alloc, rest)? {
+        None => Ok(Said::Refused),
+        Some(reason) => {
+            let command = Cmd::CloseChannel(numbered(id as u16), reason.code, reason.text);
+            Ok(Said::Step(GivenStep::Command(command), 0))
+        }
+    }
+}
+
+// A channel by its number alone.
+fn numbered(id: u16) -> ChanRef
+    ensures { result ≡ numbered id }
+{
+    ChanRef { id, opened: None }
+}
+
+// Why something is closed.
+#[derive(Drop)]
+struct Reason {
+    code: u16,
+    text: ShortString,
+}
+
+// `CODE TEXT`, where the text may be missing, and is empty then.
+fn read_reason(alloc: Global, rest: Option<&[u8]>) -> Result<Option<Reason>, NoMemory>
+    ensures { IfOk result (λ r. GivesReason r (option_copied rest.entry)) }
+{
+    let Some(words) = rest else {
+        return Ok(None);
+    };
+    let (code, text) = cut(words, b' ');
+    let text = text.unwrap_or(&[]);
+    match number(code, u16::MAX as u64) {
+        Some(code) if text.len() <= TEXT_BYTES => Ok(Some(Reason {
+            code: code as u16,
+            text: ShortString::from_vec(Vec::from_slice(alloc, text)?),
+        })),
+        _ => Ok(None),
+    }
+}
+
+// `send CH CLASS METHOD DATA`
+fn send(alloc: Global, rest: Option<&[u8]>, left: u64) -> Result<Said, NoMemory>
+    ensures { IfOk result (λ said. said ≡ limited left (send_line (option_copied rest.entry))) }
+{
+    let (id, rest) = number_and_rest(rest);
+    let (class, rest) = number_and_rest(rest);
+    let (method, rest) = number_and_rest(rest);
+    match (id, class, method, rest) {
+        (Some(id), Some(class), Some(method), Some(text)) => {
+            Ok(sends(alloc, id, class, method, read_data(alloc, text, left)?)?)
+        }
+        _ => Ok(Said::Refused),
+    }
+}
+
+// A number at the front of the words that are left, and what follows its word.
+fn number_and_rest(words: Option<&[u8]>) -> (Option<u16>, Option<&[u8]>)
+    ensures number { result.0 ≡ number_in (option_copied words.entry) }
+    ensures rest { option_copied result.1 ≡ rest_of (option_copied words.entry) }
+{
+    match words {
+        None => (None, None),
+        Some(words) => {
+            let (digits, rest) = cut(words, b' ');
+            (short_number(digits), rest)
+        }
+    }
+}
+
+// A number of 16 bits.
+fn short_number(digits: &[u8]) -> Option<u16>
+    ensures { result ≡ number_16 digits.now }
+{
+    match number(digits, u16::MAX as u64) {
+        Some(n) => Some(n as u16),
+        None => None,
+    }
+}
+
+// The sending of a method with these arguments, where they are spelled.
+fn sends(
+    alloc: Global,
+    id: u16,
+    class: u16,
+    method: u16,
+    arguments: Option<Spelled>,
+) -> Result<Said, NoMemory>
+    ensures { IfOk result (λ said. said ≡ sends_data id class method arguments) }
+{
+    let Some(data) = arguments else {
+        return Ok(Said::Refused);
+    };
+    if class == 10 || class == 20 {
+        drop(data);
+        return Ok(Said::Refused);
+    }
+    let zeros = data.zeros();
+    let method = RawMethod::new(alloc, class, method, data.bytes().as_bytes());
+    drop(data);
+    let command = Cmd::Send(numbered(id), method?);
+    Ok(Said::Step(GivenStep::Command(command), zeros))
+}

@@ -1,0 +1,63 @@
+//! Reading a script.
+
+ghost use Rattle.std.specs.Prelude.{◌≡◌, IfOk};
+ghost use Rattle.amqp_engine.specs.Plan.{ArePieces};
+ghost use Rattle.amqp_replay.specs.Grammar.{parsed};
+ghost use Rattle.amqp_replay.specs.Lines.{lines};
+ghost use Rattle.amqp_replay.specs.Scripts.{script_read, ScriptArePieces, line_of_step};
+
+use crate::grammar::{Said, is_ignored, says};
+use crate::limits::ZERO_BYTES;
+use crate::lines::Lines;
+use amqp_engine::Given;
+use amqp_types::NoMemory;
+use std::alloc::Global;
+
+/// What was read of a script.
+#[derive(Debug, Drop)]
+pub enum Script {
+    Steps(Vec<Given>),
+    /// The number of the first line that is refused.
+    Refused(u64),
+}
+
+/// The steps of a script.
+pub fn parse(alloc: Global, text: &[u8]) -> Result<Script, NoMemory>
+    ensures script { IfOk result (λ script. script_read script ≡ parsed text.now) }
+    ensures pieces { IfOk result ScriptArePieces }
+{
+    let mut steps = Vec::new(alloc);
+    let mut lines = Lines::new(text);
+    // how many zeros may still be spelled by numbers
+    let mut left = ZERO_BYTES;
+    'lines: while let Some(line) = lines.take_line() {
+        match says(alloc, &line, left)? {
+            Said::Nothing => {}
+            Said::Refused => return Ok(Script::Refused(line.number)),
+            Said::Step(what, zeros) => {
+                steps.push(Given { at: 0, what })?;
+                left -= zeros;
+            }
+        }
+    }
+    Ok(Script::Steps(steps))
+}
+
+/// The number of the line that says a step, the steps of a script being counted from 1.
+pub fn line_of_step(text: &[u8], step: u64) -> Option<u64>
+    ensures { result ≡ line_of_step step (lines text.now) }
+{
+    let mut lines = Lines::new(text);
+    // the steps up to that one
+    let mut left = step;
+    'lines: while let Some(line) = lines.take_line() {
+        if is_ignored(line.content) {
+            continue;
+        }
+        if left <= 1 {
+            return Some(line.number);
+        }
+        left -= 1;
+    }
+    None
+}

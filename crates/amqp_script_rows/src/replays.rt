@@ -1,0 +1,27 @@
+//! What the program answers to a script.
+
+use crate::rows::Row;
+use amqp_engine::MemoryPort;
+use amqp_replay::top::top;
+use amqp_replay::{MemorySink, MemorySource};
+use amqp_types::{NoMemory, Text};
+use std::alloc::Global;
+
+/// The line of a script, and its report.
+pub fn printed(alloc: Global, row: &Row) -> Result<Vec<u8>, NoMemory> {
+    let name = row.name();
+    let mut sink = MemorySink::new(alloc, usize::MAX, &[]);
+    let status = replay(alloc, row.script(), &mut sink)?;
+    let head = format!(in alloc; "== {name} status {status}\n")?;
+    let mut text = Vec::from_slice(alloc, head.as_bytes())?;
+    text.extend_from_slice(sink.held())?;
+    Ok(text)
+}
+
+// The status of a script. The sink takes its report.
+fn replay(alloc: Global, script: &[u8], sink: &mut MemorySink) -> Result<u8, NoMemory> {
+    let words = vec![in alloc; Text::new(alloc, "replay")?]?;
+    let mut port = MemoryPort::new(alloc, Vec::new(alloc))?;
+    let mut source = MemorySource::new(script, &[]);
+    Ok(top(alloc, &words, &mut source, sink, &mut port))
+}

@@ -1,0 +1,10 @@
+//! What is expected stands in the standard and in scripts that were worked out by hand, never in what
+//! this program printed.
+
+mod computed;
+mod ends;
+mod limits;
+mod lines;
+mod memory;
+mod replays;
+mod streams;

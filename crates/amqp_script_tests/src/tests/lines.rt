@@ -1,0 +1,57 @@
+//! The line at which a session ended.
+
+use super::replays::handshake;
+use amqp_replay::status::{CLOSED, FAILED};
+use amqp_replay::top::top;
+use amqp_replay::{CountedPort, MemorySink, MemorySource, line_of_step};
+use amqp_types::Text;
+use std::alloc::Global;
+use std::test::Fail;
+
+// Steps of a script with comments and empty lines, and the lines that say them.
+const LINES: [(u64, Option<u64>); 5] = [
+    (0, Some(2)),
+    (1, Some(2)),
+    (2, Some(5)),
+    (3, Some(6)),
+    (4, None),
+];
+
+#[test]
+fn lines_that_say_steps(rt: HostRuntime) -> Result<(), Fail> {
+    let text = b"# first\nlink\n\r\n#\nrefuse\r\nend";
+    let mut wrong: Option<u64> = None;
+    for (step, line) in LINES {
+        if line_of_step(text, step) != line {
+            wrong = Some(step);
+        }
+    }
+    assert!(rt; wrong == None && line_of_step(b"", 1) == None);
+    Ok(())
+}
+
+// The status of a script, and how many steps its port told.
+fn steps_told(alloc: Global, script: &[u8]) -> Result<(u8, u64), Fail> {
+    let words = vec![in alloc; Text::new(alloc, "replay")?]?;
+    let mut source = MemorySource::new(script, &[]);
+    let mut sink = MemorySink::new(alloc, usize::MAX, &[]);
+    let mut port = CountedPort::new(alloc)?;
+    let status = top(alloc, &words, &mut source, &mut sink, &mut port);
+    let steps = port.steps();
+    drop(port);
+    Ok((status, steps))
+}
+
+#[test]
+fn a_port_counts_its_steps(rt: HostRuntime) -> Result<(), Fail> {
+    let version = b"# another version\nlink\nbytes 414d515000000800\nlink\nend\n";
+    assert!(rt; steps_told(rt.alloc(), version)? == (FAILED, 2));
+    Ok(())
+}
+
+#[test]
+fn a_port_counts_all_steps(rt: HostRuntime) -> Result<(), Fail> {
+    let whole = handshake(rt.alloc())?;
+    assert!(rt; steps_told(rt.alloc(), &whole)? == (CLOSED, 6));
+    Ok(())
+}

@@ -1,0 +1,96 @@
+//! Scripts through the program, and what they print.
+
+use amqp_engine::MemoryPort;
+use amqp_replay::top::top;
+use amqp_replay::{MemorySink, MemorySource};
+use amqp_types::Text;
+use amqp_vectors::{CLOSE, CLOSE_OK, HEADER, OPEN, OPEN_OK, START, START_OK, TUNE, TUNE_OK};
+use std::alloc::Global;
+use std::test::Fail;
+
+/// The ends that a script meets.
+pub struct Ends {
+    /// The numbers of the calls of the source, and of the sink, that fail.
+    pub source_fails: &'static [u64],
+    pub sink_fails: &'static [u64],
+    /// The most bytes that the sink takes at once.
+    pub most: usize,
+}
+
+/// Nothing fails.
+pub const WELL: Ends = Ends {
+    source_fails: &[],
+    sink_fails: &[],
+    most: usize::MAX,
+};
+
+// Appends hexadecimal without what is for reading only.
+fn push_digits(text: &mut Vec<u8>, frame: &str) -> Result<(), Fail> {
+    for byte in frame.as_bytes() {
+        if *byte != b' ' && *byte != b'\n' {
+            text.push(*byte)?;
+        }
+    }
+    Ok(())
+}
+
+// Appends a line of the bytes of a frame.
+fn push_bytes(text: &mut Vec<u8>, frame: &str) -> Result<(), Fail> {
+    text.extend_from_slice(b"bytes ")?;
+    push_digits(text, frame)?;
+    text.push(b'\n')?;
+    Ok(())
+}
+
+/// The script of the handshake and our close.
+pub fn handshake(alloc: Global) -> Result<Vec<u8>, Fail> {
+    let mut text = Vec::from_slice(alloc, b"link\n")?;
+    for frame in [START, TUNE, OPEN_OK] {
+        push_bytes(&mut text, frame)?;
+    }
+    text.extend_from_slice(b"shut 200 OK\n")?;
+    push_bytes(&mut text, CLOSE_OK)?;
+    Ok(text)
+}
+
+/// The report of that script.
+pub fn handshake_report(alloc: Global) -> Result<Vec<u8>, Fail> {
+    let mut text = Vec::from_slice(alloc, b"link 1 ")?;
+    for frame in [HEADER, START_OK, TUNE_OK, OPEN, CLOSE] {
+        push_digits(&mut text, frame)?;
+    }
+    text.extend_from_slice(b"\nanswer 0 ok connected\nanswer 1 ok done\nend closed\n")?;
+    Ok(text)
+}
+
+// The words of a command line.
+fn texts(alloc: Global, words: &[&str]) -> Result<Vec<Text>, Fail> {
+    let mut texts = Vec::new(alloc);
+    for word in words {
+        texts.push(Text::new(alloc, word)?)?;
+    }
+    Ok(texts)
+}
+
+/// Whether these words and this script are answered by this status, and print this.
+pub fn answers(
+    alloc: Global,
+    words: &[&str],
+    script: &[u8],
+    ends: &Ends,
+    status: u8,
+    printed: &[u8],
+) -> Result<bool, Fail> {
+    let words = texts(alloc, words)?;
+    let mut source = MemorySource::new(script, ends.source_fails);
+    let mut sink = MemorySink::new(alloc, ends.most, ends.sink_fails);
+    let mut port = MemoryPort::new(alloc, Vec::new(alloc))?;
+    let answered = top(alloc, &words, &mut source, &mut sink, &mut port);
+    drop(port);
+    Ok(answered == status && sink.held() == printed)
+}
+
+/// Whether a script is answered by this status, and prints this, where nothing fails.
+pub fn prints(alloc: Global, script: &[u8], status: u8, printed: &[u8]) -> Result<bool, Fail> {
+    answers(alloc, &["replay"], script, &WELL, status, printed)
+}
