@@ -6,60 +6,94 @@ use amqp_session::{Configuration, tune};
 use amqp_vectors::{
     CHANNEL_CLOSE_OK_1, CHANNEL_CLOSE_OK_2, CHANNEL_OPEN_OK_1, CHANNEL_OPEN_OK_2, START, TUNE_2,
 };
+use std::process::Abort;
 
-/// Numbers of channels, of a frame's octets and of a heartbeat's seconds.
-type Numbers = (u16, u32, u16);
+/// The numbers that each peer wishes, 0 where it wishes none, and those that hold.
+#[derive(Clone, Copy)]
+struct Row {
+    name: &'static str,
+    own: Configuration,
+    server: Configuration,
+    agreed: Configuration,
+}
 
-/// A name, our own numbers, the server's numbers, and the numbers that hold.
-const AGREED: [(&str, Numbers, Numbers, Numbers); 5] = [
-    (
-        "we wish nothing",
-        (0, 0, 0),
-        (2047, 131_072, 60),
-        (2047, 131_072, 60),
-    ),
-    (
-        "no limits at all",
-        (0, 0, 60),
-        (0, 0, 0),
-        (65_535, 4_294_967_295, 60),
-    ),
-    (
-        "frames below the least",
-        (0, 0, 0),
-        (0, 1000, 0),
-        (65_535, 4096, 0),
-    ),
-    (
-        "ours are the lesser",
-        (10, 8192, 30),
-        (2047, 131_072, 60),
-        (10, 8192, 30),
-    ),
-    (
-        "the server's are the lesser",
-        (2047, 131_072, 60),
-        (10, 8192, 30),
-        (10, 8192, 30),
-    ),
+/// What a server wishes that is RabbitMQ.
+const USUAL: Configuration = Configuration {
+    channel_max: 2047,
+    frame_max: 131_072,
+    heartbeat: 60,
+};
+
+const LESSER: Configuration = Configuration {
+    channel_max: 10,
+    frame_max: 8192,
+    heartbeat: 30,
+};
+
+const NONE: Configuration = Configuration {
+    channel_max: 0,
+    frame_max: 0,
+    heartbeat: 0,
+};
+
+const ROWS: [Row; 5] = [
+    Row {
+        name: "we wish nothing",
+        own: NONE,
+        server: USUAL,
+        agreed: USUAL,
+    },
+    Row {
+        name: "no limits at all",
+        own: Configuration {
+            channel_max: 0,
+            frame_max: 0,
+            heartbeat: 60,
+        },
+        server: NONE,
+        agreed: Configuration {
+            channel_max: 65_535,
+            frame_max: 4_294_967_295,
+            heartbeat: 60,
+        },
+    },
+    Row {
+        name: "frames below the least",
+        own: NONE,
+        server: Configuration {
+            channel_max: 0,
+            frame_max: 1000,
+            heartbeat: 0,
+        },
+        agreed: Configuration {
+            channel_max: 65_535,
+            frame_max: 4096,
+            heartbeat: 0,
+        },
+    },
+    Row {
+        name: "ours are the lesser",
+        own: LESSER,
+        server: USUAL,
+        agreed: LESSER,
+    },
+    Row {
+        name: "the server's are the lesser",
+        own: USUAL,
+        server: LESSER,
+        agreed: LESSER,
+    },
 ];
 
-fn numbers((channel_max, frame_max, heartbeat): Numbers) -> Configuration {
-    Configuration {
-        channel_max,
-        frame_max,
-        heartbeat,
+fn are_agreed<A: Abort>(rt: &A, rows: &[Row]) {
+    for row in rows {
+        assert!(rt; tune(row.own, row.server) == row.agreed, "{}", row.name);
     }
 }
 
 #[test]
 fn numbers_are_agreed(rt: HostRuntime) {
-    for (name, own, server, wanted) in AGREED {
-        assert!(rt;
-            tune(numbers(own), numbers(server)) == numbers(wanted),
-            "{name}"
-        );
-    }
+    are_agreed(&rt, &ROWS);
 }
 
 #[test]

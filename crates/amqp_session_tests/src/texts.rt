@@ -4,6 +4,7 @@ use crate::support::{Outcome, shows};
 use amqp_session::{ChannelState, Cmd, ConnectionState, Error, ErrorKind, IoFault};
 use amqp_types::{AMQPError, ShortString, Word};
 use std::alloc::Global;
+use std::process::Abort;
 
 /// An error that owns no text.
 #[derive(Clone, Copy)]
@@ -64,12 +65,20 @@ const TEXTS: [(Plain, &str); 11] = [
     ),
 ];
 
-#[test]
-fn errors_have_their_texts(rt: HostRuntime) -> Outcome<()> {
-    for (plain, text) in TEXTS {
-        assert!(rt; shows(rt.alloc(), kind_of(plain).into(), text)?, "{text}");
+fn have_their_texts<A: Abort>(
+    rt: &A,
+    alloc: Global,
+    rows: &[(Plain, &'static str)],
+) -> Outcome<()> {
+    for (plain, text) in rows {
+        assert!(rt; shows(alloc, kind_of(*plain).into(), text)?, "{text}");
     }
     Ok(())
+}
+
+#[test]
+fn errors_have_their_texts(rt: HostRuntime) -> Outcome<()> {
+    have_their_texts(&rt, rt.alloc(), &TEXTS)
 }
 
 // The error that a peer's close of this code and text leads to.

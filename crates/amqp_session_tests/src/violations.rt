@@ -9,12 +9,21 @@ use amqp_vectors::{
 use std::alloc::Global;
 use std::process::Abort;
 
-/// A frame that ends the session that reads it.
+/// What a session reads.
+#[derive(Clone, Copy)]
+enum What {
+    /// A frame, by the text that spells it.
+    Frame(&'static str),
+    /// What is no frame.
+    NoFrame(Misread),
+}
+
+/// What ends the session that reads it, where the session stands then, and how it ends.
 #[derive(Clone, Copy)]
 struct Row {
     name: &'static str,
     at: At,
-    frame: &'static str,
+    what: What,
     end: &'static str,
 }
 
@@ -22,25 +31,25 @@ const OUT_OF_THEIR_STATE: [Row; 4] = [
     Row {
         name: "open-ok before start",
         at: At::Linked,
-        frame: OPEN_OK,
+        what: What::Frame(OPEN_OK),
         end: "invalid connection state: Connecting",
     },
     Row {
         name: "tune before start",
         at: At::Linked,
-        frame: "01 0000 0000000c 000a001e 0001 00001000 0000 ce",
+        what: What::Frame("01 0000 0000000c 000a001e 0001 00001000 0000 ce"),
         end: "invalid connection state: Connecting",
     },
     Row {
         name: "close-ok that answers no close",
         at: At::Connected,
-        frame: CLOSE_OK,
+        what: What::Frame(CLOSE_OK),
         end: "invalid connection state: Connected",
     },
     Row {
         name: "a second start",
         at: At::Connected,
-        frame: START,
+        what: What::Frame(START),
         end: "invalid connection state: Connected",
     },
 ];
@@ -49,37 +58,37 @@ const MISPLACED: [Row; 6] = [
     Row {
         name: "close-ok of the connection on a channel",
         at: At::Connected,
-        frame: "01 0007 00000004 000a0033 ce",
+        what: What::Frame("01 0007 00000004 000a0033 ce"),
         end: "protocol error: 503 connection frame received on channel 7",
     },
     Row {
         name: "open-ok of the connection on a channel",
         at: At::Linked,
-        frame: "01 0007 00000005 000a0029 00 ce",
+        what: What::Frame("01 0007 00000005 000a0029 00 ce"),
         end: "protocol error: 503 connection frame received on channel 7",
     },
     Row {
         name: "a method of the channel class on channel 0",
         at: At::Connected,
-        frame: CHANNEL_OPEN_OK_0,
+        what: What::Frame(CHANNEL_OPEN_OK_0),
         end: "protocol error: 504 method frame received on channel 0",
     },
     Row {
         name: "another method on channel 0",
         at: At::Connected,
-        frame: "01 0000 00000004 003c0028 ce",
+        what: What::Frame("01 0000 00000004 003c0028 ce"),
         end: "protocol error: 504 method frame received on channel 0",
     },
     Row {
         name: "a content header on channel 0",
         at: At::Connected,
-        frame: "02 0000 0000000e 0000 0000 0000000000000000 0000 ce",
+        what: What::Frame("02 0000 0000000e 0000 0000 0000000000000000 0000 ce"),
         end: "protocol error: 504 content header frame received on channel 0",
     },
     Row {
         name: "a body on channel 0",
         at: At::Connected,
-        frame: "03 0000 00000000 ce",
+        what: What::Frame("03 0000 00000000 ce"),
         end: "protocol error: 504 body frame received on channel 0",
     },
 ];
@@ -88,25 +97,25 @@ const NOT_LISTED: [Row; 4] = [
     Row {
         name: "open-ok on a channel that is not listed",
         at: At::Connected,
-        frame: "01 0003 00000008 0014000b 00000000 ce",
+        what: What::Frame("01 0003 00000008 0014000b 00000000 ce"),
         end: "invalid channel: 3",
     },
     Row {
         name: "the same before the connection is open",
         at: At::Linked,
-        frame: "01 0003 00000008 0014000b 00000000 ce",
+        what: What::Frame("01 0003 00000008 0014000b 00000000 ce"),
         end: "invalid channel: 3",
     },
     Row {
         name: "a body on a channel that is not listed",
         at: At::Connected,
-        frame: "03 0003 00000000 ce",
+        what: What::Frame("03 0003 00000000 ce"),
         end: "invalid channel: 3",
     },
     Row {
         name: "the same body before the connection is open",
         at: At::Linked,
-        frame: "03 0003 00000000 ce",
+        what: What::Frame("03 0003 00000000 ce"),
         end: "invalid channel: 3",
     },
 ];
@@ -115,13 +124,13 @@ const UNAWAITED: [Row; 2] = [
     Row {
         name: "a second open-ok",
         at: At::WithChannel,
-        frame: CHANNEL_OPEN_OK_1,
+        what: What::Frame(CHANNEL_OPEN_OK_1),
         end: "protocol error: 505 unexpected channel.open-ok received on channel 1",
     },
     Row {
         name: "close-ok that answers no close of the channel",
         at: At::WithChannel,
-        frame: CHANNEL_CLOSE_OK_1,
+        what: What::Frame(CHANNEL_CLOSE_OK_1),
         end: "protocol error: 505 unexpected channel.close-ok received on channel 1",
     },
 ];
@@ -130,13 +139,13 @@ const NOT_BUILT: [Row; 2] = [
     Row {
         name: "blocked",
         at: At::Connected,
-        frame: BLOCKED,
+        what: What::Frame(BLOCKED),
         end: "not built: frame at byte 138",
     },
     Row {
         name: "flow",
         at: At::WithChannel,
-        frame: CHANNEL_FLOW_ON_1,
+        what: What::Frame(CHANNEL_FLOW_ON_1),
         end: "not built: frame at byte 138",
     },
 ];
@@ -144,20 +153,50 @@ const NOT_BUILT: [Row; 2] = [
 const OTHER_VERSION: [Row; 1] = [Row {
     name: "a header of version 0-8",
     at: At::Linked,
-    frame: "414d5150 00 000800",
+    what: What::Frame("414d5150 00 000800"),
     end: "the server only supports AMQP 0-8-0",
 }];
 
-// Whether a session that reads a frame ends so.
-fn ends(alloc: Global, session: &mut Session, frame: &str, end: &str) -> Outcome<bool> {
-    read(alloc, session, frame)?;
+const NO_FRAMES: [Row; 4] = [
+    Row {
+        name: "above the limit",
+        at: At::Linked,
+        what: What::NoFrame(Misread::TooLarge(4089)),
+        end: "protocol error: 501 frame too large: 4097 bytes",
+    },
+    Row {
+        name: "the largest size",
+        at: At::Linked,
+        what: What::NoFrame(Misread::TooLarge(u32::MAX)),
+        end: "protocol error: 501 frame too large: 4294967303 bytes",
+    },
+    Row {
+        name: "a heartbeat on a channel",
+        at: At::Linked,
+        what: What::NoFrame(Misread::BadHeartbeat(1)),
+        end: "protocol error: 501 heartbeat frame received on channel 1",
+    },
+    Row {
+        name: "no frame",
+        at: At::Linked,
+        what: What::NoFrame(Misread::Bad(7)),
+        end: "failed to parse: frame at byte 7",
+    },
+];
+
+// Whether a session that reads this ends so.
+fn ends(alloc: Global, session: &mut Session, what: What, end: &str) -> Outcome<bool> {
+    match what {
+        What::Frame(text) => read(alloc, session, text)?,
+        What::NoFrame(why) => session.misread(why, 0)?,
+    }
     ended(alloc, session, end)
 }
 
-// Whether a row's frame ends its session so.
+// Whether what a row's session reads ends it so.
 fn is_fatal(alloc: Global, row: &Row) -> Outcome<bool> {
     let mut session = session_at(alloc, row.at)?;
-    let told = ends(alloc, &mut session, row.frame, row.end);
+    let told = ends(alloc, &mut session, row.what, row.end);
     drop(session);
     told
 }
@@ -199,47 +238,7 @@ fn a_protocol_header_is_fatal(rt: HostRuntime) -> Outcome<()> {
     are_fatal(&rt, rt.alloc(), &OTHER_VERSION)
 }
 
-/// A name, what was read and is no frame, and how the session ends.
-const NO_FRAMES: [(&str, Misread, &str); 4] = [
-    (
-        "above the limit",
-        Misread::TooLarge(4089),
-        "protocol error: 501 frame too large: 4097 bytes",
-    ),
-    (
-        "the largest size",
-        Misread::TooLarge(u32::MAX),
-        "protocol error: 501 frame too large: 4294967303 bytes",
-    ),
-    (
-        "a heartbeat on a channel",
-        Misread::BadHeartbeat(1),
-        "protocol error: 501 heartbeat frame received on channel 1",
-    ),
-    (
-        "no frame",
-        Misread::Bad(7),
-        "failed to parse: frame at byte 7",
-    ),
-];
-
-// Whether a session that reads what is no frame ends so.
-fn misread_ends(alloc: Global, session: &mut Session, why: Misread, end: &str) -> Outcome<bool> {
-    session.misread(why, 0)?;
-    ended(alloc, session, end)
-}
-
-fn misread_is_fatal(alloc: Global, why: Misread, end: &str) -> Outcome<bool> {
-    let mut session = session_at(alloc, At::Linked)?;
-    let told = misread_ends(alloc, &mut session, why, end);
-    drop(session);
-    told
-}
-
 #[test]
 fn what_is_no_frame_is_fatal(rt: HostRuntime) -> Outcome<()> {
-    for (name, why, end) in NO_FRAMES {
-        assert!(rt; misread_is_fatal(rt.alloc(), why, end)?, "{name}");
-    }
-    Ok(())
+    are_fatal(&rt, rt.alloc(), &NO_FRAMES)
 }
