@@ -1,6 +1,6 @@
 //! Copies of steps.
 
-use crate::support::{HANDSHAKE, Outcome, our_close, steps};
+use crate::support::{HANDSHAKE, Happens, Outcome, our_close, steps};
 use amqp_engine::{Given, GivenStep, Step};
 use std::alloc::Global;
 
@@ -36,22 +36,28 @@ fn step_is_copied(alloc: Global, step: Step) -> bool {
     same
 }
 
-fn steps_are_copied(alloc: Global, steps: &[Given]) -> bool {
-    for given in steps {
+// Whether the copies of a script's steps are equal to them.
+fn script_is_copied(alloc: Global, script: &[Happens]) -> Outcome<bool> {
+    let steps = steps(alloc, script)?;
+    for given in &steps {
         if !given_is_copied(alloc, given) || !given_step_is_copied(alloc, &given.what) {
-            return false;
+            return Ok(false);
         }
     }
-    true
+    Ok(true)
+}
+
+// Whether the copy of our close is equal to it.
+fn close_is_copied(alloc: Global) -> Outcome<bool> {
+    let close = our_close(alloc)?;
+    Ok(step_is_copied(alloc, Step::Command(close)))
 }
 
 #[test]
 fn copies_are_equal(rt: HostRuntime) -> Outcome<()> {
     let alloc = rt.alloc();
-    let steps = steps(alloc, &HANDSHAKE)?;
-    let close = our_close(alloc)?;
-    assert!(rt; steps_are_copied(alloc, &steps));
-    assert!(rt; step_is_copied(alloc, Step::Command(close)));
+    assert!(rt; script_is_copied(alloc, &HANDSHAKE)?);
+    assert!(rt; close_is_copied(alloc)?);
     assert!(rt; step_is_copied(alloc, Step::Room));
     Ok(())
 }

@@ -7,6 +7,7 @@ use amqp_engine::{IoLoop, MemoryPort, Port, Told, Wrote};
 use amqp_session::ErrorKind;
 use amqp_vectors::START;
 use std::alloc::Global;
+use std::process::Abort;
 
 /// A port that gives the steps of a script, takes nothing, and refuses memory at its last write.
 #[derive(Drop)]
@@ -124,11 +125,15 @@ const ROWS: [Row; 7] = [
     },
 ];
 
-#[test]
-fn parts_are_counted(rt: HostRuntime) -> Outcome<()> {
-    for row in &ROWS {
-        let parts = starved_at(rt.alloc(), row.script, row.write)?;
+fn are_counted<A: Abort>(rt: &A, alloc: Global, rows: &[Row]) -> Outcome<()> {
+    for row in rows {
+        let parts = starved_at(alloc, row.script, row.write)?;
         assert!(rt; parts == Some(row.parts), "{}", row.name);
     }
     Ok(())
+}
+
+#[test]
+fn parts_are_counted(rt: HostRuntime) -> Outcome<()> {
+    are_counted(&rt, rt.alloc(), &ROWS)
 }

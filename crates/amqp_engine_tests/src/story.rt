@@ -1,6 +1,6 @@
 //! Stories of an engine and a port that plays a script, line by line.
 
-use crate::support::{Happens, Outcome, our_close, port, shows, steps, took};
+use crate::support::{Happens, Outcome, our_close, port, shows, took};
 use amqp_engine::{IoLoop, MemoryPort, Port, ScriptedPort};
 use amqp_session::Answer;
 use std::alloc::Global;
@@ -23,10 +23,6 @@ pub enum Line {
     ApplyNext,
     /// Closes the connection; the promise.
     Close(u64),
-    /// The port plays another script from now on.
-    Load(&'static [Happens]),
-    /// Another engine takes the first one's place.
-    BeginAnew,
 
     /// The session asked for a link.
     IsAsked,
@@ -48,8 +44,7 @@ pub enum Line {
     IsNotStarved,
 }
 
-/// Tells a story of a new engine over a port that plays a script. Fails with the number of a line
-/// that does not hold.
+/// Tells a story of a new engine over a port that plays a script.
 pub fn tell<A: Abort>(rt: &A, alloc: Global, script: &[Happens], lines: &[Line]) -> Outcome<()> {
     let mut port = port(alloc, script)?;
     let told = tell_over(rt, alloc, &mut port, lines);
@@ -57,7 +52,8 @@ pub fn tell<A: Abort>(rt: &A, alloc: Global, script: &[Happens], lines: &[Line])
     told
 }
 
-fn tell_over<A: Abort>(
+/// Tells a story of a new engine over a port. Fails with the number of a line that does not hold.
+pub fn tell_over<A: Abort>(
     rt: &A,
     alloc: Global,
     port: &mut MemoryPort,
@@ -90,8 +86,6 @@ fn holds(alloc: Global, port: &mut MemoryPort, engine: &mut IoLoop, line: Line) 
         Line::Run(turns, end) => return runs(alloc, port, engine, turns, end),
         Line::Ask => engine.ask(port),
         Line::ApplyNext => apply_next(port, engine)?,
-        Line::Load(script) => port.load(steps(alloc, script)?)?,
-        Line::BeginAnew => *engine = IoLoop::new(alloc)?,
         Line::Close(promise) => return closes(alloc, engine, promise),
         _ => return gives(alloc, port, engine, line),
     }

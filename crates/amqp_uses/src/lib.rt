@@ -5,10 +5,6 @@ mod port;
 mod table;
 mod wire;
 
-pub use port::{Held, converse};
-pub use table::{table_with, text_in};
-pub use wire::{frame_in, octets_of};
-
 ghost use Rattle.std.specs.Prelude.{◌≡◌, ◌++◌, List, ℕ, Some, Ok, IfErr, IfOk, IfSome, OnOk, OnErr, filter, length};
 ghost use Rattle.amqp_frame.specs.FrameReading.{front};
 ghost use Rattle.amqp_session.specs.Changes.{present_at, starve};
@@ -20,7 +16,10 @@ ghost use Rattle.amqp_uses.specs.Driving.{space_in, next_octets, heard, read_of,
 
 use amqp_frame::{RawKind, RawMethod, Read, Room, read_frame, write_frame};
 use amqp_session::{Answer, CAPACITY, ChanRef, Cmd, ErrorKind, Misread, Result, Session};
+pub use port::{Held, converse};
 use std::alloc::Global;
+pub use table::{table_with, text_in};
+pub use wire::{frame_in, octets_of};
 
 /// Opens a channel over a session that is driven by hand, and sends a method on it. What the session
 /// says is put into a room; `reply` is the server's answer to the opening. Gives the promise that is
@@ -115,7 +114,12 @@ pub fn bodies_received(session: &mut Session, opened: u64) -> Result<usize>
     ensures bodies { IfOk result (λ n. n ≡ length (filter is_body (frames_of opened session.old))) }
 {
     let frames = session.take_frames(opened)?;
-    Ok(frames.iter().filter(|frame| frame.kind == RawKind::Body).count())
+    Ok(
+        frames
+            .iter()
+            .filter(|frame| frame.kind == RawKind::Body)
+            .count(),
+    )
 }
 
 #[cfg(test)]

@@ -6,17 +6,24 @@ use amqp_vectors::octets;
 use std::process::Abort;
 use std::test::Fail;
 
-/// What RabbitMQ says when a connection is opened, and a channel on it.
+type Outcome = std::result::Result<(), Fail>;
+
+/// What a server says when a connection is opened, and a channel on it.
 const START: &[u8] = b"\x01\x00\x00\x00\x00\x00\x25\x00\x0a\x00\x0a\x00\x09\x00\x00\x00\x00\
     \x00\x00\x00\x0ePLAIN AMQPLAIN\x00\x00\x00\x05en_US\xce";
+
 const TUNE: &[u8] =
     b"\x01\x00\x00\x00\x00\x00\x0c\x00\x0a\x00\x1e\x07\xff\x00\x02\x00\x00\x00\x3c\xce";
+
 const OPEN_OK: &[u8] = b"\x01\x00\x00\x00\x00\x00\x05\x00\x0a\x00\x29\x00\xce";
-const CHANNEL_OPEN_OK_1: &[u8] = b"\x01\x00\x01\x00\x00\x00\x08\x00\x14\x00\x0b\x00\x00\x00\x00\xce";
+
+const CHANNEL_OPEN_OK_1: &[u8] =
+    b"\x01\x00\x01\x00\x00\x00\x08\x00\x14\x00\x0b\x00\x00\x00\x00\xce";
+
 const BODY_1: &[u8] = b"\x03\x00\x01\x00\x00\x00\x03abc\xce";
 
 // Opens the connection of a session, whose frames go into a room.
-fn connect<R: Room>(alloc: Global, session: &mut Session, room: &mut R) -> std::result::Result<(), Fail> {
+fn connect<R: Room>(alloc: Global, session: &mut Session, room: &mut R) -> Outcome {
     session.asked();
     session.linked(0)?;
     for frame in [START, TUNE, OPEN_OK] {
@@ -29,7 +36,20 @@ fn connect<R: Room>(alloc: Global, session: &mut Session, room: &mut R) -> std::
     Ok(())
 }
 
-fn opens_and_sends_in<A: Abort>(rt: &A, alloc: Global, session: &mut Session, room: &mut FixedRoom) -> std::result::Result<(), Fail> {
+// Whether a promise is answered by Sent. It takes the answer.
+fn is_sent(session: &mut Session, promise: u64) -> bool {
+    let answer = session.answer(promise);
+    let sent = matches!(answer, Some(Ok(Answer::Sent)));
+    drop(answer);
+    sent
+}
+
+fn opens_and_sends_in<A: Abort>(
+    rt: &A,
+    alloc: Global,
+    session: &mut Session,
+    room: &mut FixedRoom,
+) -> Outcome {
     connect(alloc, session, room)?;
     room.clear();
     let method = RawMethod::new(alloc, 60, 40, b"abc")?;
@@ -37,14 +57,14 @@ fn opens_and_sends_in<A: Abort>(rt: &A, alloc: Global, session: &mut Session, ro
     assert!(rt; sending == Some(2));
     assert!(rt; room.as_slice().len() == 13 + 15);
     session.taken(session.unsent(), 0);
-    assert!(rt; matches!(session.answer(2), Some(Ok(Answer::Sent))));
+    assert!(rt; is_sent(session, 2));
     hear_next(alloc, session, BODY_1, 0, 0)?;
     assert!(rt; bodies_received(session, 1)? == 1);
     Ok(())
 }
 
 #[test]
-fn opens_and_sends(rt: HostRuntime) -> std::result::Result<(), Fail> {
+fn opens_and_sends(rt: HostRuntime) -> Outcome {
     let alloc = rt.alloc();
     let mut room = FixedRoom::new(alloc, 4096)?;
     let mut session = Session::new(alloc)?;
@@ -74,7 +94,7 @@ fn end_of(alloc: Global, port: &mut Held) -> std::result::Result<String, Fail> {
 }
 
 #[test]
-fn converses(rt: HostRuntime) -> std::result::Result<(), Fail> {
+fn converses(rt: HostRuntime) -> Outcome {
     let alloc = rt.alloc();
     let said = joined(alloc)?;
     let mut port = Held::new(alloc, said);
@@ -97,14 +117,14 @@ fn comes_back(alloc: Global, octets: &[u8]) -> std::result::Result<bool, Fail> {
 }
 
 #[test]
-fn frames_come_back(rt: HostRuntime) -> std::result::Result<(), Fail> {
+fn frames_come_back(rt: HostRuntime) -> Outcome {
     assert!(rt; comes_back(rt.alloc(), octets::TUNE_OK)?);
     assert!(rt; comes_back(rt.alloc(), octets::START_OK)?);
     Ok(())
 }
 
 #[test]
-fn a_table_has_its_text(rt: HostRuntime) -> std::result::Result<(), Fail> {
+fn a_table_has_its_text(rt: HostRuntime) -> Outcome {
     let table = table_with(rt.alloc(), b"product", b"lapin")?;
     assert!(rt; text_in(&table, b"product") == Some(b"lapin".as_slice()));
     assert!(rt; text_in(&table, b"version").is_none());
