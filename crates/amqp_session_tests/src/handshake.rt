@@ -68,13 +68,14 @@ fn open_ok_opens_the_connection(rt: HostRuntime) -> Outcome<()> {
     tell(&rt, rt.alloc(), At::Connected, &story)
 }
 
+const A_HEARTBEAT: &[Line] = &[
+    Line::Read(HEARTBEAT),
+    Line::IsIn(ConnectionState::Connecting),
+    Line::IsRunning,
+    Line::IsUnanswered(0),
+];
+
 #[test]
 fn a_heartbeat_changes_nothing(rt: HostRuntime) -> Outcome<()> {
-    let story = [
-        Line::Read(HEARTBEAT),
-        Line::IsIn(ConnectionState::Connecting),
-        Line::IsRunning,
-        Line::IsUnanswered(0),
-    ];
-    tell(&rt, rt.alloc(), At::Linked, &story)
+    tell(&rt, rt.alloc(), At::Linked, A_HEARTBEAT)
 }

@@ -42,7 +42,7 @@ abbrev pub read_of : Read → ℕ
 read_of (reading.Whole f n) = n
 read_of _ = 0
 
-is_body_kind : RawKind → Bool
+abbrev pub is_body_kind : RawKind → Bool
 is_body_kind Body = true
 is_body_kind _ = false
 

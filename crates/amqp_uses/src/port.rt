@@ -1,11 +1,13 @@
 //! A port of one's own, and a session that runs over it.
 
-ghost use Rattle.std.specs.Prelude.{◌≡◌, ◌≤◌, None, false, length};
+ghost use Rattle.std.specs.Prelude.{◌≡◌, ◌≢◌, ◌≤◌, [], None, Err, false, IsTrue, length};
+ghost use Rattle.amqp_session.specs.declared.io_fault.IoFault.{IoFault};
 ghost use Rattle.amqp_engine.specs.Log.{IsPiece};
 ghost use Rattle.amqp_engine.specs.Counts.{is_fault};
+ghost use Rattle.amqp_engine.specs.Causes.{is_counted};
 
 use amqp_engine::{IoLoop, Port, Step, Told, Wrote};
-use amqp_session::Result;
+use amqp_session::{ErrorKind, IoFault, Result};
 use std::alloc::Global;
 
 /// The greatest length of a piece.
@@ -24,7 +26,9 @@ pub struct Held {
 
 impl Held {
     /// A port that gives these octets, once a link was asked for.
-    pub fn new(alloc: Global, said_by_server: Vec<u8>) -> Held {
+    pub fn new(alloc: Global, said_by_server: Vec<u8>) -> Held
+        ensures { result.taken.items ≡ [] }
+    {
         Held {
             said_by_server,
             given: 0,
@@ -87,8 +91,11 @@ impl Port for Held {
     }
 }
 
-/// Runs a new session over such a port, and says how it ended, or that all turns were taken.
-pub fn converse(alloc: Global, port: &mut Held, turns: u64) -> Result<()> {
+/// Runs a new session over such a port, and says how it ended, or that all turns were taken. It does
+/// not end by a fault that a port counts, since this one has none.
+pub fn converse(alloc: Global, port: &mut Held, turns: u64) -> Result<()>
+    ensures { (fault : IoFault) → IsTrue (is_counted fault) → result ≢ Err (ErrorKind.IOError fault) }
+{
     let mut engine = IoLoop::new(alloc)?;
     let end = engine.run(port, turns);
     drop(engine);
