@@ -7,6 +7,8 @@ use amqp_vectors::{
     BODY_1, CHANNEL_OPEN_1, CHANNEL_OPEN_OK_1, CLOSE, CLOSE_OK, HEADER, OPEN, OPEN_OK, START,
     START_OK, TUNE, TUNE_OK,
 };
+use std::alloc::Global;
+use std::process::Abort;
 
 /// The frames that we say in a handshake and a close.
 const SAID: [&str; 5] = [HEADER, START_OK, TUNE_OK, OPEN, CLOSE];
@@ -33,53 +35,59 @@ const WITH_LITTLE_ROOM: [Happens; 10] = [
     Happens::Bytes(CLOSE_OK),
 ];
 
-// What is seen after a handshake and our close, and nothing else.
-const fn opened_and_closed(turns: u64) -> [Line; 6] {
-    [
+// A run over this script is a handshake and our close, and nothing else.
+fn opens_and_closes<A: Abort>(
+    rt: &A,
+    alloc: Global,
+    script: &[Happens],
+    turns: u64,
+) -> Outcome<()> {
+    let story = [
         Line::Run(turns, CLOSED),
         Line::Took(&SAID),
         Line::Answers(0, Answer::Connected),
         Line::Answers(1, Answer::Done),
         Line::IsUnanswered(2),
         Line::IsNotStarved,
-    ]
+    ];
+    tell(rt, alloc, script, &story)
 }
 
 #[test]
 fn handshake_and_close(rt: HostRuntime) -> Outcome<()> {
-    tell(&rt, rt.alloc(), &HANDSHAKE, &opened_and_closed(6))
+    opens_and_closes(&rt, rt.alloc(), &HANDSHAKE, 6)
 }
 
 #[test]
 fn one_byte_at_a_time(rt: HostRuntime) -> Outcome<()> {
-    tell(&rt, rt.alloc(), &BY_BYTES, &opened_and_closed(1000))
+    opens_and_closes(&rt, rt.alloc(), &BY_BYTES, 1000)
 }
 
 #[test]
 fn room_for_one_byte(rt: HostRuntime) -> Outcome<()> {
-    tell(&rt, rt.alloc(), &WITH_LITTLE_ROOM, &opened_and_closed(1000))
+    opens_and_closes(&rt, rt.alloc(), &WITH_LITTLE_ROOM, 1000)
 }
 
 #[test]
 fn room_for_seven_bytes(rt: HostRuntime) -> Outcome<()> {
-    let story = [
+    const STORY: &[Line] = &[
         Line::Run(1, GOES_ON),
         Line::Took(&["41 4d 51 50 00 00 09"]),
         Line::IsUnanswered(0),
     ];
-    tell(&rt, rt.alloc(), &[Happens::Link(Some(7))], &story)
+    tell(&rt, rt.alloc(), &[Happens::Link(Some(7))], STORY)
 }
 
 #[test]
 fn no_turn_touches_nothing(rt: HostRuntime) -> Outcome<()> {
-    let story = [Line::Run(0, GOES_ON), Line::Links(0), Line::IsNotAsked];
-    tell(&rt, rt.alloc(), &HANDSHAKE, &story)
+    const STORY: &[Line] = &[Line::Run(0, GOES_ON), Line::Links(0), Line::IsNotAsked];
+    tell(&rt, rt.alloc(), &HANDSHAKE, STORY)
 }
 
 // An ended session takes no more turns.
 #[test]
 fn two_runs_are_one(rt: HostRuntime) -> Outcome<()> {
-    let story = [
+    const STORY: &[Line] = &[
         Line::Run(2, GOES_ON),
         Line::Took(&[HEADER, START_OK]),
         Line::Run(3, GOES_ON),
@@ -87,12 +95,12 @@ fn two_runs_are_one(rt: HostRuntime) -> Outcome<()> {
         Line::Run(1, CLOSED),
         Line::Run(7, CLOSED),
     ];
-    tell(&rt, rt.alloc(), &HANDSHAKE, &story)
+    tell(&rt, rt.alloc(), &HANDSHAKE, STORY)
 }
 
 #[test]
 fn frames_are_handed_out(rt: HostRuntime) -> Outcome<()> {
-    let script = [
+    const SCRIPT: &[Happens] = &[
         Happens::Link(None),
         Happens::Bytes(START),
         Happens::Bytes(TUNE),
@@ -101,12 +109,12 @@ fn frames_are_handed_out(rt: HostRuntime) -> Outcome<()> {
         Happens::Bytes(CHANNEL_OPEN_OK_1),
         Happens::Bytes(BODY_1),
     ];
-    let story = [
+    const STORY: &[Line] = &[
         Line::Run(7, GOES_ON),
         Line::Took(&[HEADER, START_OK, TUNE_OK, OPEN, CHANNEL_OPEN_1]),
         Line::Answers(1, Answer::Channel(1, 1)),
         Line::HandsOut(1, &[b"abc"]),
         Line::HandsOut(1, &[]),
     ];
-    tell(&rt, rt.alloc(), &script, &story)
+    tell(&rt, rt.alloc(), SCRIPT, STORY)
 }

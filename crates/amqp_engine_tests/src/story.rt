@@ -44,40 +44,47 @@ pub enum Line {
     IsNotStarved,
 }
 
-/// Tells a story of a new engine over a port that plays a script.
+/// Tells a story of a new engine over a port that plays a script. Where it fails, it prints the number
+/// of the first line that does not hold.
 pub fn tell<A: Abort>(rt: &A, alloc: Global, script: &[Happens], lines: &[Line]) -> Outcome<()> {
-    let mut port = port(alloc, script)?;
-    let told = tell_over(rt, alloc, &mut port, lines);
-    drop(port);
-    told
+    assert_eq!(rt; wrong_line(alloc, script, lines)?, None);
+    Ok(())
 }
 
-/// Tells a story of a new engine over a port. Fails with the number of a line that does not hold.
-pub fn tell_over<A: Abort>(
-    rt: &A,
+/// The number of the first line that does not hold, where one does not.
+pub fn wrong_line(alloc: Global, script: &[Happens], lines: &[Line]) -> Outcome<Option<u64>> {
+    let mut port = port(alloc, script)?;
+    let wrong = wrong_line_over(alloc, &mut port, lines);
+    drop(port);
+    wrong
+}
+
+/// The same of a new engine over this port.
+pub fn wrong_line_over(
     alloc: Global,
     port: &mut MemoryPort,
     lines: &[Line],
-) -> Outcome<()> {
+) -> Outcome<Option<u64>> {
     let mut engine = IoLoop::new(alloc)?;
-    let told = tell_on(rt, alloc, port, &mut engine, lines);
+    let wrong = wrong_line_of(alloc, port, &mut engine, lines);
     drop(engine);
-    told
+    wrong
 }
 
-fn tell_on<A: Abort>(
-    rt: &A,
+fn wrong_line_of(
     alloc: Global,
     port: &mut MemoryPort,
     engine: &mut IoLoop,
     lines: &[Line],
-) -> Outcome<()> {
+) -> Outcome<Option<u64>> {
     let mut number: u64 = 1;
     for line in lines {
-        assert!(rt; holds(alloc, port, engine, *line)?, "line {number}");
+        if !holds(alloc, port, engine, *line)? {
+            return Ok(Some(number));
+        }
         number = number.saturating_add(1);
     }
-    Ok(())
+    Ok(None)
 }
 
 // Whether a line holds, after what it does.

@@ -13,7 +13,7 @@ const NEWER: ChanRef = ChanRef {
 
 #[test]
 fn a_second_close_is_refused(rt: HostRuntime) -> Outcome<()> {
-    let story = [
+    const STORY: &[Line] = &[
         Line::Close(1),
         Line::Close(2),
         Line::Refuses(2, "invalid connection state: Closing"),
@@ -23,24 +23,24 @@ fn a_second_close_is_refused(rt: HostRuntime) -> Outcome<()> {
         Line::Promises(4),
         Line::EndedClosed,
     ];
-    tell(&rt, rt.alloc(), At::Connected, &story)
+    tell(&rt, rt.alloc(), At::Connected, STORY)
 }
 
 #[test]
 fn a_close_before_the_connection_is_open_is_refused(rt: HostRuntime) -> Outcome<()> {
-    let story = [
+    const STORY: &[Line] = &[
         Line::Close(1),
         Line::Refuses(1, "invalid connection state: Connecting"),
         Line::IsUnanswered(0),
         Line::IsIn(ConnectionState::Connecting),
         Line::Waiting(1),
     ];
-    tell(&rt, rt.alloc(), At::Linked, &story)
+    tell(&rt, rt.alloc(), At::Linked, STORY)
 }
 
 #[test]
 fn commands_on_channels_are_refused(rt: HostRuntime) -> Outcome<()> {
-    let story = [
+    const STORY: &[Line] = &[
         Line::CloseChannel(NUMBER_2, 2),
         Line::Refuses(2, "invalid channel: 2"),
         Line::CloseChannel(NEWER, 3),
@@ -51,5 +51,5 @@ fn commands_on_channels_are_refused(rt: HostRuntime) -> Outcome<()> {
         Line::Send(CHANNEL_1, b"", 6),
         Line::Refuses(6, "invalid channel state: Closing (send)"),
     ];
-    tell(&rt, rt.alloc(), At::WithChannel, &story)
+    tell(&rt, rt.alloc(), At::WithChannel, STORY)
 }

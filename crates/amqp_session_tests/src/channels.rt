@@ -13,7 +13,7 @@ const BODY_X: &str = "03 0001 00000001 78 ce";
 
 #[test]
 fn a_channel_opens(rt: HostRuntime) -> Outcome<()> {
-    let story = [
+    const STORY: &[Line] = &[
         Line::OpenChannel(1),
         Line::Writes(CHANNEL_OPEN_1),
         Line::ChannelIs(CHANNEL_1, ChannelState::Initial),
@@ -26,12 +26,12 @@ fn a_channel_opens(rt: HostRuntime) -> Outcome<()> {
         Line::Opened(2, None),
         Line::ConfirmsNot(CHANNEL_1),
     ];
-    tell(&rt, rt.alloc(), At::Connected, &story)
+    tell(&rt, rt.alloc(), At::Connected, STORY)
 }
 
 #[test]
 fn a_channel_closes(rt: HostRuntime) -> Outcome<()> {
-    let story = [
+    const STORY: &[Line] = &[
         Line::CloseChannel(CHANNEL_1, 2),
         Line::ChannelIs(CHANNEL_1, ChannelState::Closing),
         Line::Writes(CHANNEL_CLOSE_1),
@@ -41,12 +41,12 @@ fn a_channel_closes(rt: HostRuntime) -> Outcome<()> {
         Line::Listed(0),
         Line::IsRunning,
     ];
-    tell(&rt, rt.alloc(), At::WithChannel, &story)
+    tell(&rt, rt.alloc(), At::WithChannel, STORY)
 }
 
 #[test]
 fn frames_are_handed_out_once(rt: HostRuntime) -> Outcome<()> {
-    let story = [
+    const STORY: &[Line] = &[
         Line::Read(SELECT_OK_1),
         Line::Read(BODY_X),
         Line::Confirms(CHANNEL_1),
@@ -57,5 +57,5 @@ fn frames_are_handed_out_once(rt: HostRuntime) -> Outcome<()> {
         Line::HandsOut(1, &[]),
         Line::HandsOut(7, &[]),
     ];
-    tell(&rt, rt.alloc(), At::WithChannel, &story)
+    tell(&rt, rt.alloc(), At::WithChannel, STORY)
 }

@@ -11,7 +11,7 @@ const CLOSE_OK_ON_5: &str = "01 0005 00000004 000a0033 ce";
 
 #[test]
 fn our_close_ends_closed(rt: HostRuntime) -> Outcome<()> {
-    let story = [
+    const STORY: &[Line] = &[
         Line::Close(1),
         Line::IsIn(ConnectionState::Closing),
         Line::Writes(CLOSE),
@@ -22,13 +22,13 @@ fn our_close_ends_closed(rt: HostRuntime) -> Outcome<()> {
         Line::Answers(1, Answer::Done),
         Line::EndedClosed,
     ];
-    tell(&rt, rt.alloc(), At::Connected, &story)
+    tell(&rt, rt.alloc(), At::Connected, STORY)
 }
 
 // In the state Closing what comes on a channel is read, and only frames are handed out.
 #[test]
 fn closing_takes_the_channels_with_it(rt: HostRuntime) -> Outcome<()> {
-    let story = [
+    const STORY: &[Line] = &[
         Line::Close(2),
         Line::ChannelIs(CHANNEL_1, ChannelState::Closing),
         Line::Read(BODY_1),
@@ -41,13 +41,13 @@ fn closing_takes_the_channels_with_it(rt: HostRuntime) -> Outcome<()> {
         Line::EndedClosed,
         Line::ChannelIs(CHANNEL_1, ChannelState::Closed),
     ];
-    tell(&rt, rt.alloc(), At::WithChannel, &story)
+    tell(&rt, rt.alloc(), At::WithChannel, STORY)
 }
 
 // After its close the server's input is dropped, and the end comes with our close-ok's last byte.
 #[test]
 fn the_server_closes_with_an_error(rt: HostRuntime) -> Outcome<()> {
-    let story = [
+    const STORY: &[Line] = &[
         Line::Read(CLOSE_320),
         Line::IsIn(ConnectionState::Closing),
         Line::IsRunning,
@@ -62,16 +62,16 @@ fn the_server_closes_with_an_error(rt: HostRuntime) -> Outcome<()> {
         Line::Ended("protocol error: 320 CONNECTION_FORCED"),
         Line::IsIn(ConnectionState::Error),
     ];
-    tell(&rt, rt.alloc(), At::Connected, &story)
+    tell(&rt, rt.alloc(), At::Connected, STORY)
 }
 
 #[test]
 fn the_server_closes_without_an_error(rt: HostRuntime) -> Outcome<()> {
-    let story = [
+    const STORY: &[Line] = &[
         Line::Read(CLOSE),
         Line::Lost(IoFault::Aborted),
         Line::EndedClosed,
         Line::IsIn(ConnectionState::Closed),
     ];
-    tell(&rt, rt.alloc(), At::Connected, &story)
+    tell(&rt, rt.alloc(), At::Connected, STORY)
 }

@@ -6,7 +6,7 @@ use amqp_session::Misread;
 
 #[test]
 fn want_of_memory_ends_the_session(rt: HostRuntime) -> Outcome<()> {
-    let story = [
+    const STORY: &[Line] = &[
         Line::Starved(3),
         Line::Advance(4),
         Line::Ended("memory was refused"),
@@ -14,5 +14,5 @@ fn want_of_memory_ends_the_session(rt: HostRuntime) -> Outcome<()> {
         Line::Misread(Misread::Bad(7)),
         Line::Ended("memory was refused"),
     ];
-    tell(&rt, rt.alloc(), At::Linked, &story)
+    tell(&rt, rt.alloc(), At::Linked, STORY)
 }

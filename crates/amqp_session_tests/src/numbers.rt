@@ -98,19 +98,19 @@ fn numbers_are_agreed(rt: HostRuntime) {
 
 #[test]
 fn frames_are_read_up_to_the_agreed_size(rt: HostRuntime) -> Outcome<()> {
-    let story = [
+    const STORY: &[Line] = &[
         Line::FrameLimit(131_072),
         Line::Read(START),
         Line::Read(TUNE_2),
         Line::FrameLimit(4096),
     ];
-    tell(&rt, rt.alloc(), At::Linked, &story)
+    tell(&rt, rt.alloc(), At::Linked, STORY)
 }
 
 // There are two numbers, and one that was closed is drawn again only after all others.
 #[test]
 fn channel_numbers_are_cyclic(rt: HostRuntime) -> Outcome<()> {
-    let story = [
+    const STORY: &[Line] = &[
         Line::OpenChannel(1),
         Line::OpenChannel(2),
         Line::OpenChannel(3),
@@ -130,5 +130,5 @@ fn channel_numbers_are_cyclic(rt: HostRuntime) -> Outcome<()> {
         Line::OpenChannel(6),
         Line::Opened(6, Some(2)),
     ];
-    tell(&rt, rt.alloc(), At::ConnectedForTwo, &story)
+    tell(&rt, rt.alloc(), At::ConnectedForTwo, STORY)
 }

@@ -108,22 +108,26 @@ pub enum Line {
     Ended(&'static str),
 }
 
-/// Tells a story of a session that stands there at first. Fails with the number of a line that does
-/// not hold.
+/// Tells a story of a session that stands there at first. Where it fails, it prints the number of the
+/// first line that does not hold.
 pub fn tell<A: Abort>(rt: &A, alloc: Global, at: At, lines: &[Line]) -> Outcome<()> {
     let mut session = session_at(alloc, at)?;
-    let told = tell_on(rt, alloc, &mut session, lines);
+    let wrong = wrong_line(alloc, &mut session, lines);
     drop(session);
-    told
+    assert_eq!(rt; wrong?, None);
+    Ok(())
 }
 
-fn tell_on<A: Abort>(rt: &A, alloc: Global, session: &mut Session, lines: &[Line]) -> Outcome<()> {
+// The number of the first line that does not hold, where one does not.
+fn wrong_line(alloc: Global, session: &mut Session, lines: &[Line]) -> Outcome<Option<u64>> {
     let mut number: u64 = 1;
     for line in lines {
-        assert!(rt; holds(alloc, session, *line)?, "line {number}");
+        if !holds(alloc, session, *line)? {
+            return Ok(Some(number));
+        }
         number = number.saturating_add(1);
     }
-    Ok(())
+    Ok(None)
 }
 
 // Whether a line holds, after what it tells.
