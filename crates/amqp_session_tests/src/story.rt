@@ -48,6 +48,8 @@ pub enum Line {
 
     /// Opens a channel; the promise.
     OpenChannel(u64),
+    /// Opens so many channels; the last promise.
+    OpenChannels(u64, u64),
     /// Closes a channel; the promise.
     CloseChannel(ChanRef, u64),
     /// Closes the connection; the promise.
@@ -153,6 +155,7 @@ fn holds(alloc: Global, session: &mut Session, line: Line) -> Outcome<bool> {
 fn obeys(alloc: Global, session: &mut Session, line: Line) -> Outcome<bool> {
     let (promise, wanted) = match line {
         Line::OpenChannel(promise) => (open_channel(session), promise),
+        Line::OpenChannels(count, last) => (open_channels(session, count), last),
         Line::CloseChannel(channel, promise) => (close_channel(alloc, session, channel)?, promise),
         Line::Close(promise) => (close(alloc, session)?, promise),
         Line::Send(channel, args, promise) => (send(alloc, session, channel, args)?, promise),

@@ -8,7 +8,7 @@ use amqp_frame::{
 };
 use amqp_session::{Answer, CAPACITY, ChanRef, Cmd, Configuration, Error, Handed, Session};
 use amqp_types::ShortString;
-use amqp_vectors::{CHANNEL_OPEN_OK_1, OPEN_OK, START, TUNE, TUNE_2};
+use amqp_vectors::{CHANNEL_OPEN_OK_1, OPEN_OK, START, TUNE};
 use std::alloc::Global;
 use std::test::Fail;
 
@@ -76,8 +76,8 @@ pub enum At {
     Linked,
     /// Its connection is open, and its frames so far were sent.
     Connected,
-    /// The same, with at most two channels.
-    ConnectedForTwo,
+    /// The same, with the numbers of this tune of the server's.
+    ConnectedBy(&'static str),
     /// The same as `Connected`, with channel 1 open, which promise 1 opened.
     WithChannel,
 }
@@ -99,7 +99,7 @@ fn lead(alloc: Global, session: &mut Session, at: At) -> Outcome<()> {
         At::New => Ok(()),
         At::Linked => link(session),
         At::Connected => connect(alloc, session, TUNE),
-        At::ConnectedForTwo => connect(alloc, session, TUNE_2),
+        At::ConnectedBy(tune) => connect(alloc, session, tune),
         At::WithChannel => {
             connect(alloc, session, TUNE)?;
             open_channel(session);
@@ -141,6 +141,15 @@ pub fn tell(session: &mut Session, command: Cmd) -> Option<u64> {
 /// Tells to open a channel, and gives the promise.
 pub fn open_channel(session: &mut Session) -> Option<u64> {
     tell(session, Cmd::OpenChannel)
+}
+
+/// Tells so many times to open a channel, and gives the last promise.
+pub fn open_channels(session: &mut Session, count: u64) -> Option<u64> {
+    let mut last = None;
+    for _ in 0..count {
+        last = open_channel(session);
+    }
+    last
 }
 
 /// Tells our close of a channel, and gives its promise.
@@ -234,7 +243,7 @@ pub fn commits_within(session: &mut Session, room: u64) -> bool {
 
 /// Whether there is nothing to be written.
 pub fn is_silent(session: &mut Session) -> bool {
-    !commits_within(session, CAPACITY)
+    !commits_within(session, u64::MAX)
 }
 
 /// Takes so many of the unsent bytes.
@@ -245,9 +254,9 @@ pub fn take(session: &mut Session, n: u64) {
 /// Commits all that waits, and takes all that is unsent.
 pub fn send_all(session: &mut Session) {
     for _ in 0..session.waiting() {
-        let _ = commits_within(session, CAPACITY);
+        let _ = commits_within(session, u64::MAX);
     }
-    take(session, CAPACITY);
+    take(session, u64::MAX);
 }
 
 // ---- what is seen
