@@ -5,12 +5,14 @@ use Rattle.amqp_frame.specs.declared.frame.Read.TheVariants as reading
 use Rattle.amqp_frame.specs.declared.frame.RawKind.TheVariants.{Body}
 use Rattle.amqp_frame.specs.declared.frame.RawKind.{RawKind}
 use Rattle.amqp_frame.specs.Frames.{encoding}
+use Rattle.amqp_frame.specs.FrameReading.{front}
 use Rattle.amqp_session.specs.declared.handed.Handed.{Handed}
 use Rattle.amqp_session.specs.declared.lanes.Item.{Item}
 use Rattle.amqp_session.specs.declared.misread.Misread.TheVariants.{TooLarge, BadHeartbeat, Bad}
 use Rattle.amqp_session.specs.declared.session.TheConstants.{CAPACITY}
 use Rattle.amqp_session.specs.Talk.{Talk}
 use Rattle.amqp_session.specs.Changes.{present_at, starve}
+use Rattle.amqp_session.specs.Negotiation.{frame_limit}
 use Rattle.amqp_session.specs.Links.{misread}
 use Rattle.amqp_session.specs.Frames.{on_frame}
 use Rattle.amqp_session.specs.Writing.{unsent, next_within}
@@ -27,6 +29,10 @@ spelled (Some item) = encoding item.frame
 -- the octets of the next frame, where it fits
 abbrev pub next_octets : ℕ → Talk → List ℕ
 next_octets free t = spelled (next_within (space_in free t) t)
+
+-- what stands at the front of octets, within the limit that was agreed
+abbrev pub stands_in : List ℕ → Talk → Read
+stands_in octets t = front octets (frame_limit t.configuration)
 
 -- what stood at the front, at a place, is told to the session
 abbrev pub heard : Read → ℕ → ℕ → Talk → Talk

@@ -5,14 +5,12 @@ mod port;
 mod table;
 mod wire;
 
-ghost use Rattle.std.specs.Prelude.{◌≡◌, ◌++◌, List, ℕ, Some, Ok, IfErr, IfOk, IfSome, OnOk, OnErr, filter, length};
-ghost use Rattle.amqp_frame.specs.FrameReading.{front};
+ghost use Rattle.std.specs.Prelude.{◌≡◌, ◌++◌, ℕ, List, Some, Ok, IfErr, IfOk, IfSome, OnOk, OnErr, filter, length};
 ghost use Rattle.amqp_session.specs.Changes.{present_at, starve};
-ghost use Rattle.amqp_session.specs.Negotiation.{frame_limit};
 ghost use Rattle.amqp_session.specs.Writing.{commit};
 ghost use Rattle.amqp_session.specs.Channels.{frames_of};
 ghost use Rattle.amqp_session.specs.Answers.{answer_of, take_frames};
-ghost use Rattle.amqp_uses.specs.Driving.{space_in, next_octets, heard, read_of, is_body};
+ghost use Rattle.amqp_uses.specs.Driving.{space_in, next_octets, stands_in, heard, read_of, is_body};
 
 use amqp_frame::{RawKind, RawMethod, Read, Room, read_frame, write_frame};
 use amqp_session::{Answer, CAPACITY, ChanRef, Cmd, ErrorKind, Misread, Result, Session};
@@ -21,6 +19,16 @@ use std::alloc::Global;
 pub use table::{table_with, text_in};
 pub use wire::{frame_in, octets_of};
 
+/// Octets that came and were not read.
+#[derive(Clone, Copy)]
+pub struct Unread<'a> {
+    pub octets: &'a [u8],
+    /// Where they stand among all that came on the link.
+    pub place: u64,
+    /// The moment at which they came, in milliseconds.
+    pub at: u64,
+}
+
 /// Opens a channel over a session that is driven by hand, and sends a method on it. What the session
 /// says is put into a room; `reply` is the server's answer to the opening. Gives the promise that is
 /// answered once the method's last octet was taken, or nothing where the channel did not open.
@@ -28,14 +36,15 @@ pub fn open_and_send<R: Room>(
     alloc: Global,
     session: &mut Session,
     room: &mut R,
-    reply: &[u8],
+    reply: Unread<'_>,
     method: RawMethod,
 ) -> Result<Option<u64>>
     ensures { (more : List ℕ) × (R.put_so_far room.new ≡ R.put_so_far room.old ++ more) }
 {
+    session.advance(reply.at);
     let opening = session.command(Cmd::OpenChannel)?;
     say_next(session, room);
-    hear_next(alloc, session, reply, 0, 0)?;
+    hear_next(alloc, session, reply)?;
     let Some(channel) = opened(session, opening.unwrap_or(0)) else {
         return Ok(None);
     };
@@ -59,21 +68,17 @@ pub fn say_next<R: Room>(session: &mut Session, room: &mut R)
     }
 }
 
-/// Tells a session what stands at the front of its unread octets, which is at a place of all that were
-/// received. Gives how many octets were read, 0 where more have to come first or no frame stood there.
-pub fn hear_next(
-    alloc: Global,
-    session: &mut Session,
-    unread: &[u8],
-    place: u64,
-    at: u64,
-) -> Result<usize>
-    ensures ok { OnOk result (session.new ≡ heard (front unread.now (frame_limit session.old.configuration)) place at session.old) }
-    ensures read { IfOk result (λ n. n ≡ read_of (front unread.now (frame_limit session.old.configuration))) }
-    ensures err { OnErr result (session.new ≡ starve (present_at at session.old)) }
+/// Tells a session what stands at the front of its unread octets. Gives how many of them were read, 0
+/// where more have to come first, and where no frame stood there.
+pub fn hear_next(alloc: Global, session: &mut Session, unread: Unread<'_>) -> Result<usize>
+    ensures ok { OnOk result (session.new
+        ≡ heard (stands_in unread.octets.now session.old) unread.place unread.at session.old) }
+    ensures read { IfOk result (λ n. n ≡ read_of (stands_in unread.octets.now session.old)) }
+    ensures err { OnErr result (session.new ≡ starve (present_at unread.at session.old)) }
     ensures only { IfErr result (λ e. e ≡ ErrorKind.NoMemory) }
 {
-    match read_frame(alloc, &unread, session.frame_limit() as u32) {
+    let Unread { octets, place, at } = unread;
+    match read_frame(alloc, &octets, session.frame_limit() as u32) {
         Read::Whole(frame, n) => {
             session.frame(frame, place, at)?;
             return Ok(n);

@@ -22,13 +22,22 @@ const CHANNEL_OPEN_OK_1: &[u8] =
 
 const BODY_1: &[u8] = b"\x03\x00\x01\x00\x00\x00\x03abc\xce";
 
+// Octets that came at the beginning.
+fn at_once(octets: &[u8]) -> Unread<'_> {
+    Unread {
+        octets,
+        place: 0,
+        at: 0,
+    }
+}
+
 // Opens the connection of a session, whose frames go into a room.
 fn connect<R: Room>(alloc: Global, session: &mut Session, room: &mut R) -> Outcome {
     session.asked();
     session.linked(0)?;
     for frame in [START, TUNE, OPEN_OK] {
         say_next(session, room);
-        hear_next(alloc, session, frame, 0, 0)?;
+        hear_next(alloc, session, at_once(frame))?;
     }
     say_next(session, room);
     say_next(session, room);
@@ -53,12 +62,12 @@ fn opens_and_sends_in<A: Abort>(
     connect(alloc, session, room)?;
     room.clear();
     let method = RawMethod::new(alloc, 60, 40, b"abc")?;
-    let sending = open_and_send(alloc, session, room, CHANNEL_OPEN_OK_1, method)?;
+    let sending = open_and_send(alloc, session, room, at_once(CHANNEL_OPEN_OK_1), method)?;
     assert!(rt; sending == Some(2));
     assert!(rt; room.as_slice().len() == 13 + 15);
     session.taken(session.unsent(), 0);
     assert!(rt; is_sent(session, 2));
-    hear_next(alloc, session, BODY_1, 0, 0)?;
+    hear_next(alloc, session, at_once(BODY_1))?;
     assert!(rt; bodies_received(session, 1)? == 1);
     Ok(())
 }
