@@ -1,8 +1,10 @@
 //! Each use once, over frames of a broker.
 
 use super::*;
-use amqp_frame::FixedRoom;
+use amqp_frame::{FixedRoom, RawMethod, Room};
+use amqp_session::{Answer, Session};
 use amqp_vectors::octets;
+use std::alloc::Global;
 use std::process::Abort;
 use std::test::Fail;
 
