@@ -31,7 +31,7 @@ fn all_end<A: Abort>(rt: &A, alloc: Global, rows: &[Row], text: &'static str) ->
     Ok(())
 }
 
-const CUT: [Row; 2] = [
+const CUT: &[Row] = &[
     Row {
         name: "the input ends at once",
         script: &[Happens::Link(None), Happens::End],
@@ -48,20 +48,20 @@ const CUT: [Row; 2] = [
 
 #[test]
 fn the_end_of_input_aborts(rt: HostRuntime) -> Outcome<()> {
-    all_end(&rt, rt.alloc(), &CUT, "IO error: connection aborted")
+    all_end(&rt, rt.alloc(), CUT, "IO error: connection aborted")
 }
 
-const REFUSED: [Row; 1] = [Row {
+const REFUSED: &[Row] = &[Row {
     name: "the link is refused",
     script: &[Happens::Refuse],
 }];
 
 #[test]
 fn a_refused_link_ends_the_session(rt: HostRuntime) -> Outcome<()> {
-    all_end(&rt, rt.alloc(), &REFUSED, "IO error: connection refused")
+    all_end(&rt, rt.alloc(), REFUSED, "IO error: connection refused")
 }
 
-const UNREADABLE: [Row; 2] = [
+const UNREADABLE: &[Row] = &[
     Row {
         name: "reading fails at once",
         script: &[Happens::Link(None), Happens::Fault],
@@ -74,10 +74,10 @@ const UNREADABLE: [Row; 2] = [
 
 #[test]
 fn reading_that_fails_resets(rt: HostRuntime) -> Outcome<()> {
-    all_end(&rt, rt.alloc(), &UNREADABLE, "IO error: connection reset")
+    all_end(&rt, rt.alloc(), UNREADABLE, "IO error: connection reset")
 }
 
-const UNWRITABLE: [Row; 2] = [
+const UNWRITABLE: &[Row] = &[
     Row {
         name: "the first write fails",
         script: &[Happens::WriteFail, Happens::WriteFail, Happens::Link(None)],
@@ -94,17 +94,17 @@ const UNWRITABLE: [Row; 2] = [
 
 #[test]
 fn writing_that_fails_breaks_the_pipe(rt: HostRuntime) -> Outcome<()> {
-    all_end(&rt, rt.alloc(), &UNWRITABLE, "IO error: broken pipe")
+    all_end(&rt, rt.alloc(), UNWRITABLE, "IO error: broken pipe")
 }
 
-const NOT_BUILT: [Row; 1] = [Row {
+const NOT_BUILT: &[Row] = &[Row {
     name: "blocked",
     script: &[Happens::Link(None), Happens::Bytes(BLOCKED)],
 }];
 
 #[test]
 fn what_is_not_built_ends_the_session(rt: HostRuntime) -> Outcome<()> {
-    all_end(&rt, rt.alloc(), &NOT_BUILT, "not built: frame at byte 0")
+    all_end(&rt, rt.alloc(), NOT_BUILT, "not built: frame at byte 0")
 }
 
 #[test]

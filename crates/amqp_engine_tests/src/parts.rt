@@ -80,7 +80,7 @@ struct Row {
     parts: u64,
 }
 
-const ROWS: [Row; 7] = [
+const ROWS: &[Row] = &[
     Row {
         name: "the link and the offer",
         script: &[Happens::Link(None)],
@@ -135,5 +135,5 @@ fn are_counted<A: Abort>(rt: &A, alloc: Global, rows: &[Row]) -> Outcome<()> {
 
 #[test]
 fn parts_are_counted(rt: HostRuntime) -> Outcome<()> {
-    are_counted(&rt, rt.alloc(), &ROWS)
+    are_counted(&rt, rt.alloc(), ROWS)
 }

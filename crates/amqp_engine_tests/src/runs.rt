@@ -11,9 +11,9 @@ use std::alloc::Global;
 use std::process::Abort;
 
 /// The frames that we say in a handshake and a close.
-const SAID: [&str; 5] = [HEADER, START_OK, TUNE_OK, OPEN, CLOSE];
+const SAID: &[&str] = &[HEADER, START_OK, TUNE_OK, OPEN, CLOSE];
 
-const BY_BYTES: [Happens; 6] = [
+const BY_BYTES: &[Happens] = &[
     Happens::Link(None),
     Happens::EachByte(START),
     Happens::EachByte(TUNE),
@@ -22,7 +22,7 @@ const BY_BYTES: [Happens; 6] = [
     Happens::EachByte(CLOSE_OK),
 ];
 
-const WITH_LITTLE_ROOM: [Happens; 10] = [
+const WITH_LITTLE_ROOM: &[Happens] = &[
     Happens::Link(Some(0)),
     Happens::EachRoom(8),
     Happens::Bytes(START),
@@ -44,7 +44,7 @@ fn opens_and_closes<A: Abort>(
 ) -> Outcome<()> {
     let story = [
         Line::Run(turns, CLOSED),
-        Line::Took(&SAID),
+        Line::Took(SAID),
         Line::Answers(0, Answer::Connected),
         Line::Answers(1, Answer::Done),
         Line::IsUnanswered(2),
@@ -60,12 +60,12 @@ fn handshake_and_close(rt: HostRuntime) -> Outcome<()> {
 
 #[test]
 fn one_byte_at_a_time(rt: HostRuntime) -> Outcome<()> {
-    opens_and_closes(&rt, rt.alloc(), &BY_BYTES, 1000)
+    opens_and_closes(&rt, rt.alloc(), BY_BYTES, 1000)
 }
 
 #[test]
 fn room_for_one_byte(rt: HostRuntime) -> Outcome<()> {
-    opens_and_closes(&rt, rt.alloc(), &WITH_LITTLE_ROOM, 1000)
+    opens_and_closes(&rt, rt.alloc(), WITH_LITTLE_ROOM, 1000)
 }
 
 #[test]
@@ -91,7 +91,7 @@ fn two_runs_are_one(rt: HostRuntime) -> Outcome<()> {
         Line::Run(2, GOES_ON),
         Line::Took(&[HEADER, START_OK]),
         Line::Run(3, GOES_ON),
-        Line::Took(&SAID),
+        Line::Took(SAID),
         Line::Run(1, CLOSED),
         Line::Run(7, CLOSED),
     ];

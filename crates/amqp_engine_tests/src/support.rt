@@ -77,7 +77,7 @@ pub enum Happens {
 }
 
 /// A handshake and our close.
-pub const HANDSHAKE: [Happens; 6] = [
+pub const HANDSHAKE: &[Happens] = &[
     Happens::Link(None),
     Happens::Bytes(START),
     Happens::Bytes(TUNE),

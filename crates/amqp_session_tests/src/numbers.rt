@@ -36,7 +36,7 @@ const NONE: Configuration = Configuration {
     heartbeat: 0,
 };
 
-const ROWS: [Row; 5] = [
+const ROWS: &[Row] = &[
     Row {
         name: "we wish nothing",
         own: NONE,
@@ -93,7 +93,7 @@ fn are_agreed<A: Abort>(rt: &A, rows: &[Row]) {
 
 #[test]
 fn numbers_are_agreed(rt: HostRuntime) {
-    are_agreed(&rt, &ROWS);
+    are_agreed(&rt, ROWS);
 }
 
 #[test]

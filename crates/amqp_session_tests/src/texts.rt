@@ -33,7 +33,7 @@ fn kind_of(plain: Plain) -> ErrorKind {
 }
 
 /// Each error, and its text.
-const TEXTS: [(Plain, &str); 11] = [
+const TEXTS: &[(Plain, &str)] = &[
     (
         Plain::ChannelsLimitReached,
         "the maximum number of channels for this connection has been reached",
@@ -78,7 +78,7 @@ fn have_their_texts<A: Abort>(
 
 #[test]
 fn errors_have_their_texts(rt: HostRuntime) -> Outcome<()> {
-    have_their_texts(&rt, rt.alloc(), &TEXTS)
+    have_their_texts(&rt, rt.alloc(), TEXTS)
 }
 
 // The error that a peer's close of this code and text leads to.

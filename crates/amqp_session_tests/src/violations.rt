@@ -27,7 +27,7 @@ struct Row {
     end: &'static str,
 }
 
-const OUT_OF_THEIR_STATE: [Row; 4] = [
+const OUT_OF_THEIR_STATE: &[Row] = &[
     Row {
         name: "open-ok before start",
         at: At::Linked,
@@ -54,7 +54,7 @@ const OUT_OF_THEIR_STATE: [Row; 4] = [
     },
 ];
 
-const MISPLACED: [Row; 6] = [
+const MISPLACED: &[Row] = &[
     Row {
         name: "close-ok of the connection on a channel",
         at: At::Connected,
@@ -93,7 +93,7 @@ const MISPLACED: [Row; 6] = [
     },
 ];
 
-const NOT_LISTED: [Row; 4] = [
+const NOT_LISTED: &[Row] = &[
     Row {
         name: "open-ok on a channel that is not listed",
         at: At::Connected,
@@ -120,7 +120,7 @@ const NOT_LISTED: [Row; 4] = [
     },
 ];
 
-const UNAWAITED: [Row; 2] = [
+const UNAWAITED: &[Row] = &[
     Row {
         name: "a second open-ok",
         at: At::WithChannel,
@@ -135,7 +135,7 @@ const UNAWAITED: [Row; 2] = [
     },
 ];
 
-const NOT_BUILT: [Row; 2] = [
+const NOT_BUILT: &[Row] = &[
     Row {
         name: "blocked",
         at: At::Connected,
@@ -150,14 +150,14 @@ const NOT_BUILT: [Row; 2] = [
     },
 ];
 
-const OTHER_VERSION: [Row; 1] = [Row {
+const OTHER_VERSION: &[Row] = &[Row {
     name: "a header of version 0-8",
     at: At::Linked,
     what: What::Frame("414d5150 00 000800"),
     end: "the server only supports AMQP 0-8-0",
 }];
 
-const NO_FRAMES: [Row; 4] = [
+const NO_FRAMES: &[Row] = &[
     Row {
         name: "above the limit",
         at: At::Linked,
@@ -210,35 +210,35 @@ fn are_fatal<A: Abort>(rt: &A, alloc: Global, rows: &[Row]) -> Outcome<()> {
 
 #[test]
 fn connection_methods_out_of_their_state_are_fatal(rt: HostRuntime) -> Outcome<()> {
-    are_fatal(&rt, rt.alloc(), &OUT_OF_THEIR_STATE)
+    are_fatal(&rt, rt.alloc(), OUT_OF_THEIR_STATE)
 }
 
 #[test]
 fn misplaced_frames_are_fatal(rt: HostRuntime) -> Outcome<()> {
-    are_fatal(&rt, rt.alloc(), &MISPLACED)
+    are_fatal(&rt, rt.alloc(), MISPLACED)
 }
 
 #[test]
 fn frames_on_channels_that_are_not_listed_are_fatal(rt: HostRuntime) -> Outcome<()> {
-    are_fatal(&rt, rt.alloc(), &NOT_LISTED)
+    are_fatal(&rt, rt.alloc(), NOT_LISTED)
 }
 
 #[test]
 fn unawaited_channel_methods_are_fatal(rt: HostRuntime) -> Outcome<()> {
-    are_fatal(&rt, rt.alloc(), &UNAWAITED)
+    are_fatal(&rt, rt.alloc(), UNAWAITED)
 }
 
 #[test]
 fn methods_that_are_not_built_end_the_session(rt: HostRuntime) -> Outcome<()> {
-    are_fatal(&rt, rt.alloc(), &NOT_BUILT)
+    are_fatal(&rt, rt.alloc(), NOT_BUILT)
 }
 
 #[test]
 fn a_protocol_header_is_fatal(rt: HostRuntime) -> Outcome<()> {
-    are_fatal(&rt, rt.alloc(), &OTHER_VERSION)
+    are_fatal(&rt, rt.alloc(), OTHER_VERSION)
 }
 
 #[test]
 fn what_is_no_frame_is_fatal(rt: HostRuntime) -> Outcome<()> {
-    are_fatal(&rt, rt.alloc(), &NO_FRAMES)
+    are_fatal(&rt, rt.alloc(), NO_FRAMES)
 }
