@@ -11,13 +11,10 @@ use amqp_frame::{RawKind, RawMethod, Read, Room, read_frame, write_frame};
 use amqp_session::{Answer, CAPACITY, ChanRef, Cmd, ErrorKind, Misread, Result, Session};
 use std::alloc::Global;
 
-/// Octets that came and were not read.
+/// Where octets stand among all that came on a link, and when they came, in milliseconds.
 #[derive(Clone, Copy)]
-pub struct Unread<'a> {
-    pub octets: &'a [u8],
-    /// Where they stand among all that came on the link.
+pub struct Came {
     pub place: u64,
-    /// The moment at which they came, in milliseconds.
     pub at: u64,
 }
 
@@ -28,15 +25,16 @@ pub fn open_and_send<R: Room>(
     alloc: Global,
     session: &mut Session,
     room: &mut R,
-    reply: Unread<'_>,
+    reply: &[u8],
+    came: Came,
     method: RawMethod,
 ) -> Result<Option<u64>>
     ensures { (more : List ℕ) × (R.put_so_far room.new ≡ R.put_so_far room.old ++ more) }
 {
-    session.advance(reply.at);
+    session.advance(came.at);
     let opening = session.command(Cmd::OpenChannel)?;
     say_next(session, room);
-    hear_next(alloc, session, reply)?;
+    hear_next(alloc, session, reply, came)?;
     let Some(channel) = opened(session, opening.unwrap_or(0)) else {
         return Ok(None);
     };
@@ -62,15 +60,14 @@ pub fn say_next<R: Room>(session: &mut Session, room: &mut R)
 
 /// Tells a session what stands at the front of its unread octets. Gives how many of them were read, 0
 /// where more have to come first, and where no frame stood there.
-pub fn hear_next(alloc: Global, session: &mut Session, unread: Unread<'_>) -> Result<usize>
-    ensures ok { OnOk result (session.new
-        ≡ heard (stands_in unread.octets.now session.old) unread.place unread.at session.old) }
-    ensures read { IfOk result (λ n. n ≡ read_of (stands_in unread.octets.now session.old)) }
-    ensures err { OnErr result (session.new ≡ starve (present_at unread.at session.old)) }
+pub fn hear_next(alloc: Global, session: &mut Session, unread: &[u8], came: Came) -> Result<usize>
+    ensures ok { OnOk result (session.new ≡ heard (stands_in unread.now session.old) came.place came.at session.old) }
+    ensures read { IfOk result (λ n. n ≡ read_of (stands_in unread.now session.old)) }
+    ensures err { OnErr result (session.new ≡ starve (present_at came.at session.old)) }
     ensures only { IfErr result (λ e. e ≡ ErrorKind.NoMemory) }
 {
-    let Unread { octets, place, at } = unread;
-    match read_frame(alloc, &octets, session.frame_limit() as u32) {
+    let Came { place, at } = came;
+    match read_frame(alloc, &unread, session.frame_limit() as u32) {
         Read::Whole(frame, n) => {
             session.frame(frame, place, at)?;
             return Ok(n);

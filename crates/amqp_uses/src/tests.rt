@@ -1,7 +1,7 @@
 //! Each use once, over frames of a broker.
 
 use super::*;
-use amqp_frame::{FixedRoom, RawMethod, Room};
+use amqp_frame::{FixedRoom, Frame, RawMethod, Room, encoded_len};
 use amqp_session::{Answer, Session};
 use amqp_vectors::octets;
 use std::alloc::Global;
@@ -24,14 +24,8 @@ const CHANNEL_OPEN_OK_1: &[u8] =
 
 const BODY_1: &[u8] = b"\x03\x00\x01\x00\x00\x00\x03abc\xce";
 
-// Octets that came at the beginning.
-fn at_once(octets: &[u8]) -> Unread<'_> {
-    Unread {
-        octets,
-        place: 0,
-        at: 0,
-    }
-}
+/// The beginning.
+const AT_ONCE: Came = Came { place: 0, at: 0 };
 
 // Opens the connection of a session, whose frames go into a room.
 fn connect<R: Room>(alloc: Global, session: &mut Session, room: &mut R) -> Outcome {
@@ -39,7 +33,7 @@ fn connect<R: Room>(alloc: Global, session: &mut Session, room: &mut R) -> Outco
     session.linked(0)?;
     for frame in [START, TUNE, OPEN_OK] {
         say_next(session, room);
-        hear_next(alloc, session, at_once(frame))?;
+        hear_next(alloc, session, frame, AT_ONCE)?;
     }
     say_next(session, room);
     say_next(session, room);
@@ -64,12 +58,12 @@ fn opens_and_sends_in<A: Abort>(
     connect(alloc, session, room)?;
     room.clear();
     let method = RawMethod::new(alloc, 60, 40, b"abc")?;
-    let sending = open_and_send(alloc, session, room, at_once(CHANNEL_OPEN_OK_1), method)?;
+    let sending = open_and_send(alloc, session, room, CHANNEL_OPEN_OK_1, AT_ONCE, method)?;
     assert!(rt; sending == Some(2));
     assert!(rt; room.as_slice().len() == 13 + 15);
     session.taken(session.unsent(), 0);
     assert!(rt; is_sent(session, 2));
-    hear_next(alloc, session, at_once(BODY_1))?;
+    hear_next(alloc, session, BODY_1, AT_ONCE)?;
     assert!(rt; bodies_received(session, 1)? == 1);
     Ok(())
 }
@@ -115,13 +109,22 @@ fn converses(rt: HostRuntime) -> Outcome {
     Ok(())
 }
 
+// Whether a frame is written as these octets.
+fn is_written(alloc: Global, frame: &Frame, octets: &[u8]) -> std::result::Result<bool, Fail> {
+    if encoded_len(frame) > 4_294_967_295 {
+        return Ok(false);
+    }
+    let written = octets_of(alloc, frame)?;
+    Ok(written.as_slice() == octets)
+}
+
 // Whether octets are those of the frame that they spell.
 fn comes_back(alloc: Global, octets: &[u8]) -> std::result::Result<bool, Fail> {
     match frame_in(alloc, octets) {
         Some(frame) => {
-            let written = octets_of(alloc, &frame);
+            let same = is_written(alloc, &frame, octets);
             drop(frame);
-            Ok(written?.as_slice() == octets)
+            same
         }
         None => Ok(false),
     }
