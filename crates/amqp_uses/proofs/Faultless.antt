@@ -1,5 +1,5 @@
 -- A session over a port that never fails ends by no fault that a port counts.
-use Rattle.std.proofs.Common.{rules, arith, ◌≡◌, ◌≢◌, ◌⊎◌, inl, inr, Bool, true, false, IsTrue, Option, Some, None, Result, Ok, Err, is_some, refl, ap, sym, ◌∙◌}
+use Rattle.std.proofs.Common.{rules, arith, ◌≡◌, ◌≢◌, inl, inr, false, Option, Some, None, Result, Ok, Err, is_some, refl, ap}
 use Rattle.std.specs.Prelude.{IfSome}
 use Rattle.amqp_session.specs.declared.error.ErrorKind.{ErrorKind}
 use Rattle.amqp_session.specs.declared.error.ErrorKind.TheVariants.{IOError, OutOfTurns, NoMemory}
@@ -13,13 +13,16 @@ End = Result (Unit {0}) ErrorKind
 
 -- an end by a fault is no other end
 
-one-error : (o : Option End) (e : ErrorKind) (fault : IoFault) → o ≡ Some (Err e) → o ≡ Some (Err (IOError fault)) → e ≡ IOError fault
+one-error : (o : Option End) (e : ErrorKind) (fault : IoFault)
+    → o ≡ Some (Err e) → o ≡ Some (Err (IOError fault)) → e ≡ IOError fault
 one-error o e fault is fails = grind rules
 
-not-closed : (o : Option End) (u : Unit {0}) (fault : IoFault) → o ≡ Some (Ok u) → o ≡ Some (Err (IOError fault)) → ⊥
+not-closed : (o : Option End) (u : Unit {0}) (fault : IoFault)
+    → o ≡ Some (Ok u) → o ≡ Some (Err (IOError fault)) → ⊥
 not-closed o u fault is fails = grind rules
 
-not-refused : (o : Option End) (fault : IoFault) → o ≡ Some (Err NoMemory) → o ≡ Some (Err (IOError fault)) → ⊥
+not-refused : (o : Option End) (fault : IoFault)
+    → o ≡ Some (Err NoMemory) → o ≡ Some (Err (IOError fault)) → ⊥
 not-refused o fault is fails = grind rules
 
 not-running : (r : End) (fault : IoFault) → r ≡ Err OutOfTurns → r ≡ Err (IOError fault) → ⊥

@@ -6,4 +6,5 @@ use Rattle.amqp_types.specs.Table.{get, put}
 use Rattle.amqp_types.proofs.TableLaws.{put_sets_one_name}
 
 pub get_put : (table : List Pair) (name : List ℕ) (v : FieldValue) → get (put table name v) name ≡ Some v
-get_put table name v = put_sets_one_name table name v name ∙ ap (λ b. cond b (Some v) (get table name)) (nat_list_eq_equiv.refl name)
+get_put table name v =
+    put_sets_one_name table name v name ∙ ap (λ b. cond b (Some v) (get table name)) (nat_list_eq_equiv.refl name)
