@@ -1,0 +1,20 @@
+//! Stories of an engine over ports in memory, line by line.
+//!
+//! What is expected stands in the standard and in recorded conversations, never in what the engine
+//! gave. A frame is a text in hexadecimal, as `amqp_vectors` has them.
+#![tactic(auto)]
+
+#[cfg(test)]
+mod copies;
+#[cfg(test)]
+mod ends;
+#[cfg(test)]
+mod parts;
+#[cfg(test)]
+mod runs;
+#[cfg(test)]
+mod story;
+#[cfg(test)]
+mod support;
+#[cfg(test)]
+mod turns;

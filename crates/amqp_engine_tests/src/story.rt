@@ -1,0 +1,179 @@
+//! Stories of an engine and a port that plays a script, line by line.
+
+use crate::support::{Happens, Outcome, our_close, port, shows, took};
+use amqp_engine::{IoLoop, MemoryPort, Port, ScriptedPort};
+use amqp_session::Answer;
+use std::alloc::Global;
+use std::process::Abort;
+
+/// How a run ends where the session ended Closed.
+pub const CLOSED: &str = "closed";
+
+/// How a run ends where the session goes on.
+pub const GOES_ON: &str = "the given turns were all taken";
+
+/// A line of a story: what is done with the engine and its port, or what is then seen of them.
+#[derive(Clone, Copy)]
+pub enum Line {
+    /// Takes so many turns; how the run ends, as `CLOSED` or the text of the error.
+    Run(u64, &'static str),
+    /// Asks for a link, where one is wanted.
+    Ask,
+    /// Takes the port's next step, and applies it.
+    ApplyNext,
+    /// Closes the connection; the promise.
+    Close(u64),
+
+    /// The session asked for a link.
+    IsAsked,
+    /// It did not.
+    IsNotAsked,
+    /// How many links there were.
+    Links(usize),
+    /// The one link took these frames, each a text in hexadecimal.
+    Took(&'static [&'static str]),
+    /// The answer to a promise. It is taken.
+    Answers(u64, Answer),
+    /// The error that is the answer to a promise, as its text. It is taken.
+    Refuses(u64, &'static str),
+    /// There is no answer to a promise, or none that was not taken.
+    IsUnanswered(u64),
+    /// The payloads handed out of the channel that a promise opened. They are taken.
+    HandsOut(u64, &'static [&'static [u8]]),
+    /// No memory was refused.
+    IsNotStarved,
+}
+
+/// Tells a story of a new engine over a port that plays a script. Where it fails, it prints the number
+/// of the first line that does not hold.
+pub fn tell<A: Abort>(rt: &A, alloc: Global, script: &[Happens], lines: &[Line]) -> Outcome<()> {
+    assert_eq!(rt; wrong_line(alloc, script, lines)?, None);
+    Ok(())
+}
+
+/// The number of the first line that does not hold, where one does not.
+pub fn wrong_line(alloc: Global, script: &[Happens], lines: &[Line]) -> Outcome<Option<u64>> {
+    let mut port = port(alloc, script)?;
+    let wrong = wrong_line_over(alloc, &mut port, lines);
+    drop(port);
+    wrong
+}
+
+/// The same of a new engine over this port.
+pub fn wrong_line_over(
+    alloc: Global,
+    port: &mut MemoryPort,
+    lines: &[Line],
+) -> Outcome<Option<u64>> {
+    let mut engine = IoLoop::new(alloc)?;
+    let wrong = wrong_line_of(alloc, port, &mut engine, lines);
+    drop(engine);
+    wrong
+}
+
+fn wrong_line_of(
+    alloc: Global,
+    port: &mut MemoryPort,
+    engine: &mut IoLoop,
+    lines: &[Line],
+) -> Outcome<Option<u64>> {
+    let mut number: u64 = 1;
+    for line in lines {
+        if !holds(alloc, port, engine, *line)? {
+            return Ok(Some(number));
+        }
+        number = number.saturating_add(1);
+    }
+    Ok(None)
+}
+
+// Whether a line holds, after what it does.
+fn holds(alloc: Global, port: &mut MemoryPort, engine: &mut IoLoop, line: Line) -> Outcome<bool> {
+    match line {
+        Line::Run(turns, end) => return runs(alloc, port, engine, turns, end),
+        Line::Ask => engine.ask(port),
+        Line::ApplyNext => apply_next(port, engine)?,
+        Line::Close(promise) => return closes(alloc, engine, promise),
+        _ => return gives(alloc, port, engine, line),
+    }
+    Ok(true)
+}
+
+// Whether what the engine gives, or what else is seen of it and its port, is this.
+fn gives(alloc: Global, port: &MemoryPort, engine: &mut IoLoop, line: Line) -> Outcome<bool> {
+    match line {
+        Line::IsAsked => Ok(engine.session().is_asked()),
+        Line::IsNotAsked => Ok(!engine.session().is_asked()),
+        Line::Links(n) => Ok(port.links() == n),
+        Line::Took(frames) => took(alloc, port, frames),
+        Line::Answers(number, answer) => Ok(answers(engine, number, answer)),
+        Line::Refuses(number, text) => refuses(alloc, engine, number, text),
+        Line::IsUnanswered(number) => Ok(is_unanswered(engine, number)),
+        Line::HandsOut(opened, payloads) => hands_out(engine, opened, payloads),
+        Line::IsNotStarved => Ok(engine.starved().is_none()),
+        _ => Ok(false),
+    }
+}
+
+// Whether a run ends so.
+fn runs(
+    alloc: Global,
+    port: &mut MemoryPort,
+    engine: &mut IoLoop,
+    turns: u64,
+    end: &str,
+) -> Outcome<bool> {
+    match engine.run(port, turns) {
+        Ok(()) => Ok(end == CLOSED),
+        Err(error) => shows(alloc, error, end),
+    }
+}
+
+fn apply_next(port: &mut MemoryPort, engine: &mut IoLoop) -> Outcome<()> {
+    let mut space = [0; 4096];
+    let told = port.next(&mut space);
+    Ok(engine.apply(told, &[], port)?)
+}
+
+// Whether our close makes this promise.
+fn closes(alloc: Global, engine: &mut IoLoop, promise: u64) -> Outcome<bool> {
+    let close = our_close(alloc)?;
+    Ok(engine.command(close)? == Some(promise))
+}
+
+fn is_unanswered(engine: &mut IoLoop, number: u64) -> bool {
+    let answer = engine.answer(number);
+    let none = answer.is_none();
+    drop(answer);
+    none
+}
+
+fn answers(engine: &mut IoLoop, number: u64, wanted: Answer) -> bool {
+    let answer = engine.answer(number);
+    let same = match &answer {
+        Some(Ok(answer)) => *answer == wanted,
+        _ => false,
+    };
+    drop(answer);
+    same
+}
+
+fn refuses(alloc: Global, engine: &mut IoLoop, number: u64, text: &str) -> Outcome<bool> {
+    match engine.answer(number) {
+        Some(Err(error)) => shows(alloc, error, text),
+        _ => Ok(false),
+    }
+}
+
+fn hands_out(engine: &mut IoLoop, opened: u64, wanted: &[&'static [u8]]) -> Outcome<bool> {
+    let frames = engine.take_frames(opened)?;
+    if frames.len() != wanted.len() {
+        return Ok(false);
+    }
+    for (frame, payload) in frames.iter().zip(wanted) {
+        if frame.bytes.as_bytes() != *payload {
+            return Ok(false);
+        }
+    }
+    Ok(true)
+}

@@ -1,0 +1,30 @@
+//! Stories of a `Session` and a broker, line by line.
+//!
+//! What is expected stands in the standard and in the broker's own bytes, never in what the session
+//! gave. A frame is a text in hexadecimal, as `amqp_vectors` has them.
+#![tactic(auto)]
+
+#[cfg(test)]
+mod answers;
+#[cfg(test)]
+mod channels;
+#[cfg(test)]
+mod closing;
+#[cfg(test)]
+mod ends;
+#[cfg(test)]
+mod handshake;
+#[cfg(test)]
+mod memory;
+#[cfg(test)]
+mod numbers;
+#[cfg(test)]
+mod sending;
+#[cfg(test)]
+mod story;
+#[cfg(test)]
+mod support;
+#[cfg(test)]
+mod texts;
+#[cfg(test)]
+mod violations;

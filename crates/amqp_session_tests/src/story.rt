@@ -1,0 +1,224 @@
+//! Stories of a session, line by line.
+
+use crate::support::*;
+use amqp_frame::RawKind;
+use amqp_session::{Answer, ChanRef, ChannelState, ConnectionState, IoFault, Misread, Session};
+use std::alloc::Global;
+use std::process::Abort;
+
+/// Where a session stands with its link.
+#[derive(Clone, Copy, PartialEq, Eq)]
+pub enum Link {
+    /// It wants one.
+    Wanted,
+    /// It asked for one.
+    Asked,
+    /// It has one.
+    Open,
+    /// It has none, and wants none.
+    Gone,
+}
+
+/// A line of a story: what is told to the session, or what is then seen of it. A frame is the text
+/// that spells it.
+#[derive(Clone, Copy)]
+pub enum Line {
+    /// The link that is wanted was asked for.
+    Asked,
+    /// The link is there.
+    Linked,
+    /// The link is refused.
+    LinkFailed,
+    /// Bytes were read.
+    Piece,
+    /// A frame was read.
+    Read(&'static str),
+    /// What was read is no frame.
+    Misread(Misread),
+    /// The link is lost.
+    Lost(IoFault),
+    /// Memory was refused at this moment.
+    Starved(u64),
+    /// The present is this moment.
+    Advance(u64),
+    /// So many of the unsent bytes were taken.
+    Take(u64),
+    /// All was committed and taken.
+    SendAll,
+
+    /// Opens a channel; the promise.
+    OpenChannel(u64),
+    /// Opens so many channels; the last promise.
+    OpenChannels(u64, u64),
+    /// Closes a channel; the promise.
+    CloseChannel(ChanRef, u64),
+    /// Closes the connection; the promise.
+    Close(u64),
+    /// Sends a method of class 60 and number 40 with these arguments; the promise.
+    Send(ChanRef, &'static [u8], u64),
+    /// Sends a method with so many octets of arguments; the promise.
+    SendLong(ChanRef, usize, u64),
+
+    /// The connection stands so.
+    IsIn(ConnectionState),
+    /// The link stands so.
+    LinkIs(Link),
+    /// A channel stands so.
+    ChannelIs(ChanRef, ChannelState),
+    /// The server confirms what is published on a channel.
+    Confirms(ChanRef),
+    /// It does not.
+    ConfirmsNot(ChanRef),
+    /// The number of the channel that a promise opened.
+    Opened(u64, Option<u16>),
+    /// How many channels are listed.
+    Listed(u64),
+    /// The numbers that were agreed: of channels, of a frame's octets, of a heartbeat's seconds.
+    Agreed(u16, u32, u16),
+    /// The greatest number of octets of a frame that is read.
+    FrameLimit(u64),
+    /// No more of the link's input is read.
+    DropsInput,
+
+    /// The next frame to go out. It is committed.
+    Writes(&'static str),
+    /// Whether a frame goes out where there is room for so many bytes.
+    WritesWithin(u64, bool),
+    /// Nothing goes out.
+    IsSilent,
+    /// How many frames wait to be committed.
+    Waiting(u64),
+    /// How many bytes of the committed frames are unsent.
+    Unsent(u64),
+
+    /// How many promises were made.
+    Promises(u64),
+    /// The answer to a promise. It is taken.
+    Answers(u64, Answer),
+    /// The error that is the answer to a promise, as its text. It is taken.
+    Refuses(u64, &'static str),
+    /// There is no answer to a promise, or none that was not taken.
+    IsUnanswered(u64),
+    /// The frames handed out of the channel that a promise opened. They are taken.
+    HandsOut(u64, &'static [(RawKind, &'static [u8])]),
+
+    /// The session has not ended.
+    IsRunning,
+    /// It ended Closed.
+    EndedClosed,
+    /// It ended with an error, of this text.
+    Ended(&'static str),
+}
+
+/// Tells a story of a session that stands there at first. Where it fails, it prints the number of the
+/// first line that does not hold.
+pub fn tell<A: Abort>(rt: &A, alloc: Global, at: At, lines: &[Line]) -> Outcome<()> {
+    let mut session = session_at(alloc, at)?;
+    let wrong = wrong_line(alloc, &mut session, lines);
+    drop(session);
+    assert_eq!(rt; wrong?, None);
+    Ok(())
+}
+
+// The number of the first line that does not hold, where one does not.
+fn wrong_line(alloc: Global, session: &mut Session, lines: &[Line]) -> Outcome<Option<u64>> {
+    let mut number: u64 = 1;
+    for line in lines {
+        if !holds(alloc, session, *line)? {
+            return Ok(Some(number));
+        }
+        number = number.saturating_add(1);
+    }
+    Ok(None)
+}
+
+// Whether a line holds, after what it tells.
+fn holds(alloc: Global, session: &mut Session, line: Line) -> Outcome<bool> {
+    match line {
+        Line::Asked => session.asked(),
+        Line::Linked => session.linked(0)?,
+        Line::LinkFailed => session.link_failed(0),
+        Line::Piece => session.piece(0),
+        Line::Read(text) => read(alloc, session, text)?,
+        Line::Misread(why) => session.misread(why, 0)?,
+        Line::Lost(fault) => session.lost(fault, 0),
+        Line::Starved(at) => session.starve(at),
+        Line::Advance(at) => session.advance(at),
+        Line::Take(n) => take(session, n),
+        Line::SendAll => send_all(session),
+        _ => return obeys(alloc, session, line),
+    }
+    Ok(true)
+}
+
+// Whether a command makes its promise, or another line holds.
+fn obeys(alloc: Global, session: &mut Session, line: Line) -> Outcome<bool> {
+    let (promise, wanted) = match line {
+        Line::OpenChannel(promise) => (open_channel(session), promise),
+        Line::OpenChannels(count, last) => (open_channels(session, count), last),
+        Line::CloseChannel(channel, promise) => (close_channel(alloc, session, channel)?, promise),
+        Line::Close(promise) => (close(alloc, session)?, promise),
+        Line::Send(channel, args, promise) => (send(alloc, session, channel, args)?, promise),
+        Line::SendLong(channel, len, promise) => {
+            (send_long(alloc, session, channel, len)?, promise)
+        }
+        _ => return shows(alloc, session, line),
+    };
+    Ok(promise == Some(wanted))
+}
+
+// Whether what the session gives, or what else is seen of it, is this.
+fn shows(alloc: Global, session: &mut Session, line: Line) -> Outcome<bool> {
+    match line {
+        Line::Writes(text) => writes(alloc, session, text),
+        Line::WritesWithin(room, some) => Ok(commits_within(session, room) == some),
+        Line::IsSilent => Ok(is_silent(session)),
+        Line::Answers(number, answer) => Ok(answers(session, number, answer)),
+        Line::Refuses(number, text) => refuses(alloc, session, number, text),
+        Line::IsUnanswered(number) => Ok(is_unanswered(session, number)),
+        Line::HandsOut(opened, frames) => hands_out(session, opened, frames),
+        Line::Ended(text) => ended(alloc, session, text),
+        _ => Ok(is_seen(session, line)),
+    }
+}
+
+// Whether this is seen of a session.
+fn is_seen(session: &Session, line: Line) -> bool {
+    match line {
+        Line::IsIn(state) => session.state() == state,
+        Line::LinkIs(link) => link_of(session) == link,
+        Line::ChannelIs(channel, state) => session.channel_state(channel) == state,
+        Line::Confirms(channel) => session.confirm(channel),
+        Line::ConfirmsNot(channel) => !session.confirm(channel),
+        Line::Opened(promise, id) => session.opening(promise) == id,
+        Line::Agreed(channel_max, frame_max, heartbeat) => {
+            agreed(session, channel_max, frame_max, heartbeat)
+        }
+        Line::DropsInput => session.drops_input(),
+        Line::IsRunning => is_running(session),
+        Line::EndedClosed => is_closed(session),
+        _ => counts(session, line),
+    }
+}
+
+// Whether a count is this.
+fn counts(session: &Session, line: Line) -> bool {
+    match line {
+        Line::Listed(n) => session.listed() == n,
+        Line::FrameLimit(n) => session.frame_limit() == n,
+        Line::Waiting(n) => session.waiting() == n,
+        Line::Unsent(n) => session.unsent() == n,
+        Line::Promises(n) => session.promises() == n,
+        _ => false,
+    }
+}
+
+// Where a session stands with its link.
+fn link_of(session: &Session) -> Link {
+    match (session.wants_link(), session.is_asked(), session.is_open()) {
+        (true, false, false) => Link::Wanted,
+        (true, true, false) => Link::Asked,
+        (false, false, true) => Link::Open,
+        _ => Link::Gone,
+    }
+}

@@ -1,0 +1,354 @@
+//! Sessions that stand somewhere, and what is told to them and seen of them.
+//!
+//! An owned enum is let go by `drop`, and never where a scope ends or a `?` returns: there the check
+//! goes through each of its variants, which takes seconds at each such place.
+
+use amqp_frame::{
+    FixedRoom, Frame, RawKind, RawMethod, Read, encoded_len, read_frame, write_frame,
+};
+use amqp_session::{Answer, CAPACITY, ChanRef, Cmd, Configuration, Error, Handed, Session};
+use amqp_types::ShortString;
+use amqp_vectors::{CHANNEL_OPEN_OK_1, OPEN_OK, START, TUNE};
+use std::alloc::Global;
+use std::test::Fail;
+
+/// What a test or a helper of tests answers.
+pub type Outcome<T> = Result<T, Fail>;
+
+/// The place, in the received bytes of the link, of each frame that is read.
+pub const PLACE: u64 = 138;
+
+// ---- octets and frames
+
+// The value of a hexadecimal digit; nothing for a blank or a line feed.
+fn digit(byte: u8) -> Option<u8> {
+    match byte {
+        b'0'..=b'9' => Some(byte - b'0'),
+        b'a'..=b'f' => Some(byte - b'a' + 10),
+        _ => None,
+    }
+}
+
+// The octets of a text in hexadecimal.
+fn octets(alloc: Global, text: &str) -> Outcome<Vec<u8>> {
+    let mut bytes = Vec::new(alloc);
+    let mut high: Option<u8> = None;
+    for byte in text.as_bytes() {
+        if let Some(value) = digit(*byte) {
+            match high {
+                None => high = Some(value),
+                Some(first) => {
+                    bytes.push((first & 15) << 4 | (value & 15))?;
+                    high = None;
+                }
+            }
+        }
+    }
+    Ok(bytes)
+}
+
+// The frame that a text spells.
+fn frame(alloc: Global, text: &str) -> Outcome<Frame> {
+    let bytes = octets(alloc, text)?;
+    match read_frame(alloc, &bytes.as_slice(), 131_072) {
+        Read::Whole(frame, _) => Ok(frame),
+        other => {
+            drop(other);
+            Err("no frame")?
+        }
+    }
+}
+
+/// Reads the frame that a text spells.
+pub fn read(alloc: Global, session: &mut Session, text: &str) -> Outcome<()> {
+    let frame = frame(alloc, text)?;
+    Ok(session.frame(frame, PLACE, 0)?)
+}
+
+// ---- sessions
+
+/// Where a session stands.
+#[derive(Clone, Copy)]
+pub enum At {
+    /// It is new, and wants a link.
+    New,
+    /// Its link is open.
+    Linked,
+    /// Its connection is open, and its frames so far were sent.
+    Connected,
+    /// The same, with the numbers of this tune of the server's.
+    ConnectedBy(&'static str),
+    /// The same as `Connected`, with channel 1 open, which promise 1 opened.
+    WithChannel,
+}
+
+/// A session that stands there.
+pub fn session_at(alloc: Global, at: At) -> Outcome<Session> {
+    let mut session = Session::new(alloc)?;
+    match lead(alloc, &mut session, at) {
+        Ok(()) => Ok(session),
+        Err(failure) => {
+            drop(session);
+            Err(failure)
+        }
+    }
+}
+
+fn lead(alloc: Global, session: &mut Session, at: At) -> Outcome<()> {
+    match at {
+        At::New => Ok(()),
+        At::Linked => link(session),
+        At::Connected => connect(alloc, session, TUNE),
+        At::ConnectedBy(tune) => connect(alloc, session, tune),
+        At::WithChannel => {
+            connect(alloc, session, TUNE)?;
+            open_channel(session);
+            read(alloc, session, CHANNEL_OPEN_OK_1)?;
+            send_all(session);
+            Ok(())
+        }
+    }
+}
+
+fn link(session: &mut Session) -> Outcome<()> {
+    session.asked();
+    Ok(session.linked(0)?)
+}
+
+// Opens the connection, by the server's tune.
+fn connect(alloc: Global, session: &mut Session, tune: &str) -> Outcome<()> {
+    link(session)?;
+    read(alloc, session, START)?;
+    read(alloc, session, tune)?;
+    read(alloc, session, OPEN_OK)?;
+    send_all(session);
+    Ok(())
+}
+
+// ---- commands
+
+/// Tells a command, and gives its promise.
+pub fn tell(session: &mut Session, command: Cmd) -> Option<u64> {
+    match session.command(command) {
+        Ok(promise) => promise,
+        Err(error) => {
+            drop(error);
+            None
+        }
+    }
+}
+
+/// Tells to open a channel, and gives the promise.
+pub fn open_channel(session: &mut Session) -> Option<u64> {
+    tell(session, Cmd::OpenChannel)
+}
+
+/// Tells so many times to open a channel, and gives the last promise.
+pub fn open_channels(session: &mut Session, count: u64) -> Option<u64> {
+    let mut last = None;
+    for _ in 0..count {
+        last = open_channel(session);
+    }
+    last
+}
+
+/// Tells our close of a channel, and gives its promise.
+pub fn close_channel(
+    alloc: Global,
+    session: &mut Session,
+    channel: ChanRef,
+) -> Outcome<Option<u64>> {
+    let text = ShortString::new(alloc, b"OK")?;
+    Ok(tell(session, Cmd::CloseChannel(channel, 200, text)))
+}
+
+/// Tells our close of the connection, and gives its promise.
+pub fn close(alloc: Global, session: &mut Session) -> Outcome<Option<u64>> {
+    let text = ShortString::new(alloc, b"OK")?;
+    Ok(tell(session, Cmd::CloseConnection(200, text)))
+}
+
+/// Tells to send a method of class 60 and number 40 with these arguments, and gives the promise.
+pub fn send(
+    alloc: Global,
+    session: &mut Session,
+    channel: ChanRef,
+    args: &[u8],
+) -> Outcome<Option<u64>> {
+    let method = RawMethod::new(alloc, 60, 40, args)?;
+    Ok(tell(session, Cmd::Send(channel, method)))
+}
+
+/// Tells to send a method with so many octets of arguments, and gives the promise. Its frame has 12
+/// octets more.
+pub fn send_long(
+    alloc: Global,
+    session: &mut Session,
+    channel: ChanRef,
+    len: usize,
+) -> Outcome<Option<u64>> {
+    let args = vec![in alloc; 0u8; len]?;
+    send(alloc, session, channel, &args)
+}
+
+/// Channel 1, as promise 1 opened it.
+pub const CHANNEL_1: ChanRef = ChanRef {
+    id: 1,
+    opened: Some(1),
+};
+
+/// Channel 1, whatever promise opened it.
+pub const NUMBER_1: ChanRef = ChanRef {
+    id: 1,
+    opened: None,
+};
+
+/// Channel 2, whatever promise opened it.
+pub const NUMBER_2: ChanRef = ChanRef {
+    id: 2,
+    opened: None,
+};
+
+// ---- what is written
+
+// Whether a frame is spelled by these octets.
+fn is_spelled(alloc: Global, frame: &Frame, octets: &[u8]) -> Outcome<bool> {
+    if encoded_len(frame) > 4_294_967_295 {
+        return Ok(false);
+    }
+    let mut room = FixedRoom::new(alloc, octets.len())?;
+    Ok(write_frame(frame, &mut room).is_ok() && room.as_slice() == octets)
+}
+
+/// Whether the next frame is the one that a text spells. It commits the frame.
+pub fn writes(alloc: Global, session: &mut Session, text: &str) -> Outcome<bool> {
+    let wanted = octets(alloc, text)?;
+    match session.next_frame(CAPACITY - session.unsent()) {
+        Some(frame) => {
+            let same = is_spelled(alloc, &frame, &wanted);
+            drop(frame);
+            same
+        }
+        None => Ok(false),
+    }
+}
+
+/// Whether a frame is committed where there is room for so many bytes.
+pub fn commits_within(session: &mut Session, room: u64) -> bool {
+    let frame = session.next_frame(room.min(CAPACITY - session.unsent()));
+    let some = frame.is_some();
+    drop(frame);
+    some
+}
+
+/// Whether there is nothing to be written.
+pub fn is_silent(session: &mut Session) -> bool {
+    !commits_within(session, u64::MAX)
+}
+
+/// Takes so many of the unsent bytes.
+pub fn take(session: &mut Session, n: u64) {
+    session.taken(n.min(session.unsent()), 0);
+}
+
+/// Commits all that waits, and takes all that is unsent.
+pub fn send_all(session: &mut Session) {
+    for _ in 0..session.waiting() {
+        let _ = commits_within(session, u64::MAX);
+    }
+    take(session, u64::MAX);
+}
+
+// ---- what is seen
+
+/// Whether these numbers were agreed.
+pub fn agreed(session: &Session, channel_max: u16, frame_max: u32, heartbeat: u16) -> bool {
+    let wanted = Configuration {
+        channel_max,
+        frame_max,
+        heartbeat,
+    };
+    session.configuration() == wanted
+}
+
+/// Whether there is no answer to a promise, or none that was not taken.
+pub fn is_unanswered(session: &mut Session, number: u64) -> bool {
+    let answer = session.answer(number);
+    let none = answer.is_none();
+    drop(answer);
+    none
+}
+
+/// Whether this is the answer to a promise. It takes the answer.
+pub fn answers(session: &mut Session, number: u64, wanted: Answer) -> bool {
+    let answer = session.answer(number);
+    let same = match &answer {
+        Some(Ok(answer)) => *answer == wanted,
+        _ => false,
+    };
+    drop(answer);
+    same
+}
+
+/// Whether an error has this text.
+pub fn shows(alloc: Global, error: Error, text: &str) -> Outcome<bool> {
+    let shown = error.to_string(alloc);
+    drop(error);
+    Ok(shown?.as_str() == text)
+}
+
+/// Whether an error of this text is the answer to a promise. It takes the answer.
+pub fn refuses(alloc: Global, session: &mut Session, number: u64, text: &str) -> Outcome<bool> {
+    match session.answer(number) {
+        Some(Err(error)) => shows(alloc, error, text),
+        _ => Ok(false),
+    }
+}
+
+// Whether this frame of channel 1 was handed out.
+fn is_handed(frame: &Handed, kind: RawKind, bytes: &[u8]) -> bool {
+    frame.channel == 1 && frame.kind == kind && frame.bytes.as_bytes() == bytes
+}
+
+/// Whether these frames of channel 1 are handed out of the channel that a promise opened. It takes
+/// them.
+pub fn hands_out(
+    session: &mut Session,
+    opened: u64,
+    wanted: &[(RawKind, &'static [u8])],
+) -> Outcome<bool> {
+    let frames = session.take_frames(opened)?;
+    if frames.len() != wanted.len() {
+        return Ok(false);
+    }
+    for (frame, (kind, bytes)) in frames.iter().zip(wanted) {
+        if !is_handed(frame, *kind, bytes) {
+            return Ok(false);
+        }
+    }
+    Ok(true)
+}
+
+/// Whether a session ended with an error of this text.
+pub fn ended(alloc: Global, session: &Session, text: &str) -> Outcome<bool> {
+    match session.end() {
+        Some(Err(error)) => shows(alloc, error, text),
+        _ => Ok(false),
+    }
+}
+
+/// Whether a session has not ended.
+pub fn is_running(session: &Session) -> bool {
+    let end = session.end();
+    let none = end.is_none();
+    drop(end);
+    none
+}
+
+/// Whether a session ended Closed.
+pub fn is_closed(session: &Session) -> bool {
+    let end = session.end();
+    let closed = matches!(end, Some(Ok(())));
+    drop(end);
+    closed
+}

@@ -1,0 +1,4 @@
+-- how a session ends over a port that never fails
+pub mod Faultless
+-- what a table has under a name that was set
+pub mod Put

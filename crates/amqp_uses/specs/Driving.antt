@@ -1,0 +1,57 @@
+-- What the callers do with a session, in the words of its rules.
+use Rattle.std.specs.Prelude.{ℕ, ◌-◌, min, Bool, true, false, List, [], Option, Some, None}
+use Rattle.amqp_frame.specs.declared.frame.Read.{Read}
+use Rattle.amqp_frame.specs.declared.frame.Read.TheVariants as reading
+use Rattle.amqp_frame.specs.declared.frame.RawKind.TheVariants.{Body}
+use Rattle.amqp_frame.specs.declared.frame.RawKind.{RawKind}
+use Rattle.amqp_frame.specs.Frames.{encoding}
+use Rattle.amqp_frame.specs.FrameReading.{front}
+use Rattle.amqp_session.specs.declared.handed.Handed.{Handed}
+use Rattle.amqp_session.specs.declared.lanes.Item.{Item}
+use Rattle.amqp_session.specs.declared.misread.Misread.TheVariants.{TooLarge, BadHeartbeat, Bad}
+use Rattle.amqp_session.specs.declared.session.TheConstants.{CAPACITY}
+use Rattle.amqp_session.specs.Talk.{Talk}
+use Rattle.amqp_session.specs.Changes.{present_at, starve}
+use Rattle.amqp_session.specs.Negotiation.{frame_limit}
+use Rattle.amqp_session.specs.Links.{misread}
+use Rattle.amqp_session.specs.Frames.{on_frame}
+use Rattle.amqp_session.specs.Writing.{unsent, next_within}
+
+-- the space for the next frame, where so many octets can still be put somewhere
+abbrev pub space_in : ℕ → Talk → ℕ
+space_in free t = min free (CAPACITY - unsent t)
+
+-- the octets of a frame that goes out, where one does
+abbrev pub spelled : Option Item → List ℕ
+spelled None = []
+spelled (Some item) = encoding item.frame
+
+-- the octets of the next frame, where it fits
+abbrev pub next_octets : ℕ → Talk → List ℕ
+next_octets free t = spelled (next_within (space_in free t) t)
+
+-- what stands at the front of octets, within the limit that was agreed
+abbrev pub stands_in : List ℕ → Talk → Read
+stands_in octets t = front octets (frame_limit t.configuration)
+
+-- what stood at the front, at a place, is told to the session
+abbrev pub heard : Read → ℕ → ℕ → Talk → Talk
+heard (reading.Whole f n) place at t = on_frame f place (present_at at t)
+heard reading.More place at t = t
+heard (reading.TooLarge size) place at t = misread (TooLarge size) (present_at at t)
+heard (reading.BadHeartbeat channel) place at t = misread (BadHeartbeat channel) (present_at at t)
+heard reading.Bad place at t = misread (Bad place) (present_at at t)
+heard reading.NoMemory place at t = starve (present_at at t)
+
+-- how many octets were read of it
+abbrev pub read_of : Read → ℕ
+read_of (reading.Whole f n) = n
+read_of _ = 0
+
+abbrev pub is_body_kind : RawKind → Bool
+is_body_kind Body = true
+is_body_kind _ = false
+
+-- a content body was handed out
+abbrev pub is_body : Handed → Bool
+is_body h = is_body_kind h.kind

@@ -1,0 +1,103 @@
+//! A port of one's own, and a session that runs over it.
+
+ghost use Rattle.std.specs.Prelude.{◌≡◌, ◌≢◌, ◌≤◌, [], None, Err, false, IsTrue, length};
+ghost use Rattle.amqp_session.specs.declared.io_fault.IoFault.{IoFault};
+ghost use Rattle.amqp_engine.specs.Log.{IsPiece};
+ghost use Rattle.amqp_engine.specs.Counts.{is_fault};
+ghost use Rattle.amqp_engine.specs.Causes.{is_counted};
+
+use amqp_engine::{IoLoop, Port, Step, Told, Wrote};
+use amqp_session::{ErrorKind, IoFault, Result};
+use std::alloc::Global;
+
+/// The greatest length of a piece.
+const PIECE: usize = 4096;
+
+/// A port over octets that are there already. It gives what a server said, piece by piece, and keeps
+/// what it takes. It tells nothing of itself, and never fails.
+#[derive(Debug, Drop)]
+pub struct Held {
+    said_by_server: Vec<u8>,
+    given: usize,
+    taken: Vec<u8>,
+    asked: bool,
+    ghost given_before: { given ≤ length said_by_server.items },
+}
+
+impl Held {
+    /// A port that gives these octets, once a link was asked for.
+    pub fn new(alloc: Global, said_by_server: Vec<u8>) -> Held
+        ensures { result.taken.items ≡ [] }
+    {
+        Held {
+            said_by_server,
+            given: 0,
+            taken: Vec::new(alloc),
+            asked: false,
+        }
+    }
+
+    /// The octets that it took.
+    pub fn taken(&self) -> &[u8]
+        ensures { result.now ≡ self.now.taken.items }
+    {
+        &self.taken
+    }
+
+    // The next piece, or a tick where all was given.
+    fn give(&mut self, space: &mut [u8]) -> Step
+        requires { 4096 ≤ length space.old }
+        ensures piece { IsPiece result }
+        ensures faultless { is_fault result ≡ false }
+    {
+        let rest = &self.said_by_server[self.given..];
+        let n = rest.len().min(PIECE);
+        if n == 0 {
+            return Step::Tick;
+        }
+        space[..n].copy_from_slice(&rest[..n]);
+        self.given += n;
+        Step::Piece(n)
+    }
+}
+
+impl Port for Held {
+    ghost log = { λ p. None };
+
+    ghost faults = { λ p. 0 };
+
+    fn connect(&mut self) {
+        self.asked = true;
+    }
+
+    fn next(&mut self, space: &mut [u8]) -> Told {
+        let step = if self.asked {
+            self.asked = false;
+            Step::Linked
+        } else {
+            self.give(space)
+        };
+        Told { at: 0, step }
+    }
+
+    fn write(&mut self, first: &[u8], second: &[u8]) -> Wrote {
+        let offered = first.len() + second.len();
+        if self.taken.reserve(offered).is_err() {
+            return Wrote::NoMemory;
+        }
+        let _ = self.taken.extend_from_slice(first);
+        let _ = self.taken.extend_from_slice(second);
+        Wrote::Took(offered)
+    }
+}
+
+/// Runs a new session over such a port, and says how it ended, or that all turns were taken. It does
+/// not end by a fault that a port counts, since this one has none.
+pub fn converse(alloc: Global, port: &mut Held, turns: u64) -> Result<()>
+    ensures { (fault : IoFault) → IsTrue (is_counted fault) → result ≢ Err (ErrorKind.IOError fault) }
+{
+    let mut engine = IoLoop::new(alloc)?;
+    let end = engine.run(port, turns);
+    drop(engine);
+    end
+}
