@@ -1,14 +1,14 @@
 //! Sends over a session that is driven call by call.
 
 use amqp_frame::{Frame, Method, RawMethod, encoded_len};
-use amqp_session::{Answer, CAPACITY, ChanRef, Cmd, Result, Session};
+use amqp_session::{Answer, ChanRef, Cmd, Result, Session};
 use amqp_types::{FieldTable, LongString};
 use std::alloc::Global;
 
 // Takes all frames that can be written, and tells the session that their last octet was taken.
 fn send_all(session: &mut Session) {
     for _ in 0..u64::MAX {
-        let space = CAPACITY.saturating_sub(session.unsent());
+        let space = session.capacity().saturating_sub(session.unsent());
         match session.next_frame(space) {
             Some(frame) => {
                 let length = encoded_len(&frame);
