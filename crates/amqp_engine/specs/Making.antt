@@ -1,8 +1,12 @@
 -- A turn in the making, as the code counts its parts.
-use Rattle.std.specs.Prelude.{◌≡◌, ◌≤◌, ◌⊎◌, ℕ, if◌then◌else◌, Bool, List, Option, Some, None}
+use Rattle.std.specs.Prelude.{◌≡◌, ◌≤◌, ◌⊎◌, ℕ, if◌then◌else◌, Bool, true, false, List, Option, Some, None}
 use Rattle.amqp_session.specs.declared.io_fault.IoFault.{IoFault}
 use Rattle.amqp_session.specs.declared.io_fault.IoFault.TheVariants.{BrokenPipe}
 use Rattle.amqp_session.specs.Talk.{Talk}
+use Rattle.amqp_frame.specs.declared.frame.Read.{Read}
+use Rattle.amqp_frame.specs.declared.frame.Read.TheVariants.{Whole}
+use Rattle.amqp_engine.specs.declared.port.Step.{Step}
+use Rattle.amqp_engine.specs.declared.port.Step.TheVariants.{Command}
 use Rattle.amqp_engine.specs.declared.port.Wrote.{Wrote}
 use Rattle.amqp_engine.specs.Counts.{Rose}
 use Rattle.amqp_engine.specs.Engine.{Engine}
@@ -15,6 +19,14 @@ making at cut e n = record { at = at; cut = cut; engine = e; done = n }
 -- how many parts a step is
 abbrev pub parts_of : Bool → ℕ
 parts_of b = if b then 1 else 0
+
+abbrev pub is_command : Step → Bool
+is_command (Command c) = true
+is_command _ = false
+
+abbrev pub is_whole : Read → Bool
+is_whole (Whole f n) = true
+is_whole _ = false
 
 -- a cut that comes after so many parts, or later, or never
 abbrev pub Allows : Option ℕ → ℕ → Type 0

@@ -191,8 +191,9 @@ fn told_all(alloc: Global, steps: &[Given]) -> Result<VecDeque<Happening>, NoMem
     ensures { IfOk result (λ coming. coming.items ≡ map happening_of steps.now) }
 {
     let mut coming = VecDeque::new(alloc);
+    coming.reserve(steps.len())?;
     'steps: for given in steps {
-        coming.push_back(told_of(alloc, given)?)?;
+        coming.push_back_reserved(told_of(alloc, given)?);
     }
     Ok(coming)
 }

@@ -1,6 +1,6 @@
 //! The session with the bytes of its link.
 
-ghost use Rattle.std.specs.Prelude.{◌≡◌, ◌≤◌, ◌<◌, ◌⊎◌, ◌+◌, ◌*◌, ◌^◌, ℕ, List, Option, Some, true, false, if◌then◌else◌, IfOk, IfErr, IfNone, IsOk, IfSome, OnOk, OnErr, MatchResult, IsSome, IsTrue, IsFalse, option_map, length, is_some};
+ghost use Rattle.std.specs.Prelude.{◌≡◌, ◌≤◌, not, ◌<◌, ◌⊎◌, ◌+◌, ◌*◌, ◌^◌, ℕ, List, Option, Some, true, false, if◌then◌else◌, IfOk, IfErr, IfNone, IsOk, IfSome, OnOk, OnErr, MatchResult, IsSome, IsTrue, IsFalse, option_map, length, is_some};
 ghost use Rattle.amqp_session.specs.Talk.{is_open, is_asked, has_ended};
 ghost use Rattle.amqp_session.specs.declared.io_fault.IoFault.{IoFault};
 ghost use Rattle.amqp_session.specs.Changes.{starve};
@@ -9,17 +9,18 @@ ghost use Rattle.amqp_session.specs.Commands.{command as command_rule};
 ghost use Rattle.amqp_session.specs.Channels.{frames_of};
 ghost use Rattle.amqp_session.specs.Answers.{Takes, take_frames};
 ghost use Rattle.amqp_engine.specs.Log.{log_write, IsWithin, PlansWrite};
-ghost use Rattle.amqp_engine.specs.Engine.{Engine, begin, with_talk, rule_at, step_linked, step_piece, step_engine, can_read, read_one, settle, read_badly, taken_by, wrote, fitting_next, commit_one, commit_all, can_write, starve_at};
+ghost use Rattle.amqp_engine.specs.Engine.{Engine, begin, with_talk, rule_at, step_linked, step_piece, step_engine, can_read, read_one, settle, read_badly, read_row, is_more, taken_by, wrote, fitting_next, commit_one, commit_all, can_write, starve_at};
+ghost use Rattle.amqp_frame.specs.declared.frame.Read.TheVariants as reads;
 ghost use Rattle.amqp_engine.specs.Turn.{asks, is_part, reading, offered, answered, is_all};
 ghost use Rattle.amqp_engine.specs.Tell.{Applies, TellsOffers, offers_from, log_asks};
 ghost use Rattle.amqp_engine.specs.Play.{waiting};
-ghost use Rattle.amqp_engine.specs.Making.{making, parts_of, Allows, Writes, BringsNone, BreaksPipe};
+ghost use Rattle.amqp_engine.specs.Making.{making, parts_of, is_command, is_whole, Allows, Writes, BringsNone, BreaksPipe};
 ghost use Rattle.amqp_engine.specs.Counts.{Rose};
 ghost use Rattle.amqp_engine.specs.Causes.{fault_of, brought};
 
 use crate::buffer::Buffer;
 use crate::port::{Port, Step, Told, Wrote};
-use amqp_frame::{Read, read_frame, write_frame};
+use amqp_frame::{Frame, Read, read_frame, write_frame};
 use amqp_session::{Answer, CAPACITY, Cmd, ErrorKind, Handed, IoFault, Misread, Session};
 use amqp_types::NoMemory;
 use std::alloc::Global;
@@ -72,17 +73,19 @@ impl Wire {
     pub fn new(alloc: Global) -> Result<Wire, NoMemory>
         ensures { IfOk result (λ w. w ≡ begin) }
     {
-        let Ok(session) = Session::new(alloc) else {
-            return Err(NoMemory);
-        };
-        Ok(Wire {
-            alloc,
-            session,
-            unread: Buffer::new(alloc)?,
-            place: 0,
-            unsent: Buffer::new(alloc)?,
-            starved: None,
-        })
+        let unread = Buffer::new(alloc)?;
+        let unsent = Buffer::new(alloc)?;
+        match Session::new(alloc) {
+            Ok(session) => Ok(Wire {
+                alloc,
+                session,
+                unread,
+                place: 0,
+                unsent,
+                starved: None,
+            }),
+            Err(_) => Err(NoMemory),
+        }
     }
 
     pub fn session(&self) -> &Session
@@ -168,6 +171,24 @@ impl Wire {
         ensures refused { OnErr result (is_part step self.old ≡ true) }
     {
         match step {
+            Step::Command(command) => self.take_command(at, command),
+            other => {
+                let parts = self.take_event(at, &other, bytes);
+                drop(other);
+                parts
+            }
+        }
+    }
+
+    // The rule of a step that is no command.
+    fn take_event(&mut self, at: u64, step: &Step, bytes: &[u8]) -> Result<u64, NoMemory>
+        requires { is_command step.now ≡ false }
+        ensures ok { OnOk result (self.new ≡ step_engine at step.now bytes.now self.old) }
+        ensures parts { IfOk result (λ n. n ≡ parts_of (is_part step.now self.old)) }
+        ensures err { OnErr result (self.new ≡ rule_at at starve self.old) }
+        ensures refused { OnErr result (is_part step.now self.old ≡ true) }
+    {
+        match step {
             Step::Linked => self.take_link(at),
             Step::LinkFailed => Ok(self.take_refusal(at)),
             Step::Piece(_) => self.take_piece(at, bytes),
@@ -181,7 +202,7 @@ impl Wire {
                 self.session.advance(at);
                 Ok(1)
             }
-            Step::Command(command) => self.take_command(at, command),
+            Step::Command(_) => unreachable!(),
         }
     }
 
@@ -293,22 +314,50 @@ impl Wire {
             return Ok(false);
         }
         match read_frame(self.alloc, &self.unread, self.session.frame_limit() as u32) {
+            Read::Whole(frame, n) => self.read_whole(at, frame, n),
+            other => {
+                let found = self.read_other(at, &other);
+                drop(other);
+                found
+            }
+        }
+    }
+
+    // A frame is read, of so many bytes.
+    fn read_whole(&mut self, at: u64, frame: Frame, n: usize) -> Result<bool, NoMemory>
+        requires open { IsTrue (is_open self.old.talk) }
+        requires within { n ≤ length self.old.unread }
+        ensures some { IfOk result (λ b. b ≡ true) }
+        ensures ok { OnOk result (self.new ≡ read_row at (reads.Whole frame n) self.old) }
+        ensures err { OnErr result (self.new ≡ rule_at at starve self.old) }
+    {
+        if let Err(refused) = self.session.frame(frame, self.place, at) {
+            drop(refused);
+            return Err(NoMemory);
+        }
+        self.unread.consume(n);
+        self.place = self.place.saturating_add(n as u64);
+        self.settle();
+        Ok(true)
+    }
+
+    // What stands at the front is no whole frame.
+    fn read_other(&mut self, at: u64, read: &Read) -> Result<bool, NoMemory>
+        requires { is_whole read.now ≡ false }
+        ensures some { IfOk result (λ b. b ≡ not (is_more read.now)) }
+        ensures ok { IfOk result (λ b. self.new ≡ (if b then read_row at read.now self.old else self.old)) }
+        ensures err { OnErr result (self.new ≡ rule_at at starve self.old) }
+    {
+        match read {
             Read::More => return Ok(false),
             Read::NoMemory => {
                 self.session.starve(at);
                 return Err(NoMemory);
             }
-            Read::Whole(frame, n) => {
-                if self.session.frame(frame, self.place, at).is_err() {
-                    return Err(NoMemory);
-                }
-                self.unread.consume(n);
-                self.place = self.place.saturating_add(n as u64);
-                self.settle();
-            }
-            Read::TooLarge(size) => self.read_badly(at, Misread::TooLarge(size))?,
-            Read::BadHeartbeat(id) => self.read_badly(at, Misread::BadHeartbeat(id))?,
+            Read::TooLarge(size) => self.read_badly(at, Misread::TooLarge(*size))?,
+            Read::BadHeartbeat(id) => self.read_badly(at, Misread::BadHeartbeat(*id))?,
             Read::Bad => self.read_badly(at, Misread::Bad(self.place))?,
+            Read::Whole(..) => unreachable!(),
         }
         Ok(true)
     }
@@ -425,6 +474,7 @@ impl Wire {
             Some(frame) => {
                 // There is room for it.
                 let _ = write_frame(&frame, &mut self.unsent);
+                drop(frame);
                 true
             }
             None => false,
