@@ -1,6 +1,6 @@
 //! The session with the bytes of its link.
 
-ghost use Rattle.std.specs.Prelude.{◌≡◌, ◌≤◌, not, ◌<◌, ◌⊎◌, ◌+◌, ◌*◌, ◌^◌, ℕ, List, Option, Some, true, false, if◌then◌else◌, IfOk, IfErr, IfNone, IsOk, IfSome, OnOk, OnErr, MatchResult, IsSome, IsTrue, IsFalse, option_map, length, is_some};
+ghost use Rattle.std.specs.Prelude.{◌≡◌, ◌≢◌, ◌≤◌, not, ◌<◌, ◌⊎◌, ◌+◌, ◌*◌, ◌^◌, ℕ, List, Option, Some, true, false, if◌then◌else◌, IfOk, IfErr, IfNone, IsOk, IfSome, OnOk, OnErr, MatchResult, IsSome, IsTrue, IsFalse, option_map, length, is_some};
 ghost use Rattle.amqp_session.specs.Talk.{is_open, is_asked, has_ended};
 ghost use Rattle.amqp_session.specs.declared.io_fault.IoFault.{IoFault};
 ghost use Rattle.amqp_session.specs.Changes.{starve};
@@ -347,6 +347,7 @@ impl Wire {
         ensures some { IfOk result (λ b. b ≡ not (is_more read.now)) }
         ensures ok { IfOk result (λ b. self.new ≡ (if b then read_row at read.now self.old else self.old)) }
         ensures err { OnErr result (self.new ≡ rule_at at starve self.old) }
+        ensures held { OnOk result (read.now ≢ reads.NoMemory) }
     {
         match read {
             Read::More => return Ok(false),
