@@ -64,10 +64,9 @@ impl IoLoop {
     fn make(alloc: Global) -> std::result::Result<IoLoop, NoMemory>
         ensures { IfOk result (λ l. l ≡ begin) }
     {
-        Ok(IoLoop {
-            wire: Wire::new(alloc)?,
-            scratch: vec![in alloc; 0; PIECE]?,
-        })
+        let scratch = vec![in alloc; 0; PIECE]?;
+        let wire = Wire::new(alloc)?;
+        Ok(IoLoop { wire, scratch })
     }
 
     /// Takes so many turns, or fewer where the session ends. Where it had ended, it takes none.
