@@ -1,20 +1,23 @@
 -- A turn from its step on, out of the contracts of its parts.
-use Rattle.std.proofs.Common.{◌≡◌, ℕ, if◌then◌else◌, Bool, true, false, List, [], ◌++◌, Option, Some, refl, ap, sym, ◌∙◌, subst}
-use Rattle.amqp_session.specs.Talk.{Talk, is_asked, is_open}
+use Rattle.std.proofs.Common.{◌≡◌, ℕ, if◌then◌else◌, Bool, true, false, IsFalse, List, [], ◌++◌, Option, Some, None, refl, ap, sym, ◌∙◌, subst}
+use Rattle.amqp_session.specs.Talk.{Talk, is_asked, is_open, has_ended}
 use Rattle.amqp_session.specs.Changes.{present_at, starve}
 use Rattle.amqp_session.specs.Links.{linked, piece}
 use Rattle.amqp_engine.specs.declared.port.Step.{Step}
 use Rattle.amqp_engine.specs.declared.port.Step.TheVariants.{Linked, LinkFailed, Piece, End, Fault, Room, Tick, Command}
 use Rattle.amqp_engine.specs.declared.port.Wrote.{Wrote}
 use Rattle.amqp_engine.specs.Log.{Log}
-use Rattle.amqp_engine.specs.Engine.{Engine, step_engine, settle, starve_at, rule_at}
+use Rattle.amqp_engine.specs.Engine.{Engine, step_engine, settle, starve_at, rule_at, can_write}
 use Rattle.amqp_engine.specs.Turn.{Progress, begun, goes, reading, is_part, is_piece, step_part, part, read, drain, AreAnswers, IsCut, starved_after}
 use Rattle.amqp_engine.specs.Making.{making, parts_of, Allows, Writes}
 use Rattle.amqp_engine.specs.Tell.{Applies, TellsOffers, offers_from, turn_of}
 use Rattle.amqp_engine.proofs.Cases.{if_case, if-true, if-false, is_before-Allows}
 use Rattle.amqp_engine.proofs.Settling.{settle-starved}
 use Rattle.amqp_engine.proofs.Keeping.{starve-twice}
-use Rattle.amqp_engine.proofs.Reading.{reads-cut}
+use Rattle.amqp_engine.proofs.Reading.{reading-cut}
+use Rattle.amqp_engine.proofs.Offers.{writes-none, writes-cut}
+use Rattle.amqp_engine.proofs.Over.{step-ended, over-reads, over-writes}
+use Rattle.amqp_engine.proofs.Telling.{tells-none}
 
 -- memory that is refused twice was refused once
 pub starve_at-twice : (at j : ℕ) (e : Engine) → starve_at at j (rule_at at starve e) ≡ starve_at at j e
@@ -44,10 +47,6 @@ read-is at cut ws step bytes piece b e e1 e2 m n hp hb hm h1 allows h2 =
     ∙ ap (λ x. making at cut (step_engine at step bytes e) x) (sym hm) ∙ ap (λ x. making at cut x m) (sym h1))
     ∙ ap (λ x. reading x (making at cut e1 m)) (sym hp) ∙ h2
 
-reading-cut : (b : Bool) (p : Progress) → goes p ≡ false → reading b p ≡ p
-reading-cut true p h = reads-cut _ p h
-reading-cut false p h = refl
-
 -- memory was refused at the step itself
 pub read-none : (at : ℕ) (ws : List Wrote) (step : Step) (bytes : List ℕ) (e : Engine) → is_part step e ≡ true
     → read (turn_of at step bytes (record { answers = ws; starved = Some 0 })) e ≡ making at (Some 0) e 0
@@ -60,7 +59,7 @@ read-none at ws step bytes e h =
 -- a turn from what was read, what was written and what was told
 pub applies-of : (at : ℕ) (step : Step) (bytes : List ℕ) (e e' : Engine) (log log' : Option Log) (ws : List Wrote) (cut : Option ℕ) (p p' : Progress)
     → read (turn_of at step bytes (record { answers = ws; starved = cut })) e ≡ p
-    → Writes ws p p' → IsCut cut p'.done → starved_after cut at p'.engine ≡ e'
+    → Writes ws p p' → IsCut cut p'.done → (if has_ended e.talk then p'.engine else starved_after cut at p'.engine) ≡ e'
     → TellsOffers (offers_from at ws p.engine) log log'
     → Applies at step bytes e e' log log'
 applies-of at step bytes e e' log log' ws cut p p' hr hw hc ha ht =
@@ -72,9 +71,30 @@ applies-of at step bytes e e' log log' ws cut p p' hr hw hc ha ht =
     record {
       notes = record { answers = ws; starved = cut };
       may = record { answers = subst P (sym hr) hw.answers; cut = subst Q (sym leads) hc };
-      leaves = ap (λ (x : Progress). starved_after cut at x.engine) leads ∙ ha;
+      leaves = ap (λ (x : Progress). if has_ended e.talk then x.engine else starved_after cut at x.engine) leads ∙ ha;
       tells = subst R (sym hr) ht;
     }
+
+-- a session that had ended takes the step alone
+pub applies-over : (at : ℕ) (step : Step) (bytes : List ℕ) (e e' : Engine) (log log' : Option Log) → has_ended e.talk ≡ true
+    → e' ≡ step_engine at step bytes e → log' ≡ log → Applies at step bytes e e' log log'
+applies-over at step bytes e e' log log' h same told =
+    let m = parts_of (is_part step e) in
+    let p = making at None e' m in
+    let over : has_ended e'.talk ≡ true = ap (λ (x : Engine). has_ended x.talk) same ∙ step-ended at step bytes e h in
+    let none : IsFalse (can_write e') = over-writes e' over in
+    applies-of at step bytes e e' log log' [] None p p
+    (read-is at None [] step bytes (is_piece step) (is_part step e) e e' e' m m refl refl refl same tt (over-reads (is_piece step) p over))
+    (writes-none p none) tt (if_case (λ (x : Engine). x ≡ e') (has_ended e.talk) e' e' refl refl) (tells-none log log' told)
+
+-- and where memory is refused, nothing
+pub refused-over : (at : ℕ) (step : Step) (bytes : List ℕ) (e e' : Engine) (log log' : Option Log) → has_ended e.talk ≡ true → is_part step e ≡ true
+    → e' ≡ e → log' ≡ log → Applies at step bytes e e' log log'
+refused-over at step bytes e e' log log' h is same told =
+    let p = making at (Some 0) e 0 in
+    applies-of at step bytes e e' log log' [] (Some 0) p p
+    (read-none at [] step bytes e is) (writes-cut p refl) refl
+    (if-true (has_ended e.talk) e (starved_after (Some 0) at e) h ∙ sym same) (tells-none log log' told)
 
 -- a step starves nobody
 pub step-starved : (at : ℕ) (step : Step) (bytes : List ℕ) (e : Engine) → (step_engine at step bytes e).starved ≡ e.starved

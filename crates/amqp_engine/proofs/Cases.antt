@@ -8,6 +8,11 @@ pub if_case : {A : Type 0} (P : A → Type 0) (b : Bool) (x y : A) → P x → P
 if_case P true x y px py = px
 if_case P false x y px py = py
 
+-- the same, with what each case is known by
+pub if_by : {A : Type 0} (P : A → Type 0) (b : Bool) (x y : A) → (b ≡ true → P x) → (b ≡ false → P y) → P (if b then x else y)
+if_by P true x y px py = px refl
+if_by P false x y px py = py refl
+
 pub if-true : {A : Type 0} (b : Bool) (x y : A) → b ≡ true → (if b then x else y) ≡ x
 if-true true x y h = refl
 if-true false x y h = cc

@@ -50,7 +50,3 @@ ends-moment P at t = ends-present P at t (present_at at t) (ends-kept P _ _ refl
 
 pub ends-settled : (P : ErrorKind → Type 0) (t : Talk) (x : Engine) → Ends P t x.talk → Ends P t (settle x).talk
 ends-settled P t x e = ends-to P t x.talk (settle x).talk (settle-talk x) e
-
-pub if_by : {A : Type 0} (P : A → Type 0) (b : Bool) (x y : A) → (b ≡ true → P x) → (b ≡ false → P y) → P (if b then x else y)
-if_by P true x y px py = px refl
-if_by P false x y px py = py refl

@@ -13,15 +13,13 @@ use Rattle.amqp_engine.specs.declared.port.Wrote.{Wrote}
 use Rattle.amqp_engine.specs.declared.port.Wrote.TheVariants.{Took, Failed, NoMemory as WroteNoMemory}
 use Rattle.amqp_engine.specs.Counts.{Rose, HasCause, is_fault}
 use Rattle.amqp_engine.specs.Engine.{Engine, step_engine, read_one, front_of}
-use Rattle.amqp_engine.specs.Turn.{answered, asks}
+use Rattle.amqp_engine.specs.Turn.{answered}
 use Rattle.amqp_engine.specs.Making.{BringsNone, BreaksPipe}
-use Rattle.amqp_engine.specs.Log.{Log}
-use Rattle.amqp_engine.specs.Tell.{Runs}
-use Rattle.amqp_engine.specs.Causes.{IsReadError, Faults, fault_in, fault_at, fault_of, is_counted, brought, is_failed}
+use Rattle.amqp_engine.specs.Causes.{IsReadError, fault_in, fault_at, fault_of, is_counted, brought, is_failed}
 use Rattle.amqp_engine.proofs.Cases.{if_case, none-from}
 use Rattle.amqp_engine.proofs.Ends.{Ends, ends-kept, ends-lose, ends-present}
 use Rattle.amqp_engine.proofs.ReadEnds.{ends-read-one}
-use Rattle.amqp_engine.proofs.TurnEnds.{StepError, OfferError, ends-step, ends-answered, asks-end, runs-bring}
+use Rattle.amqp_engine.proofs.TurnEnds.{StepError, OfferError, ends-step, ends-answered}
 
 -- ---- a fault is an end
 
@@ -130,9 +128,6 @@ brought-counted End t fault h counted = by (is_open t) h
     by false k = cc
 brought-counted _ t fault h counted = cc
 
-pub asks-running : (e : Engine) → has_ended e.talk ≡ false → has_ended (asks e).talk ≡ false
-asks-running e running = ap is_some (asks-end e) ∙ running
-
 -- a fault that a step brings, or a write, was counted
 pub counted-rose : (step : Step) (t : Talk) (fault : IoFault) (a b c d : ℕ) → a ≤ b → b ≤ c → c ≤ d → HasCause step b c
     → (brought step t ≡ Some fault) ⊎ ((fault ≡ BrokenPipe) × Rose c d) → IsTrue (is_counted fault) → Rose a d
@@ -157,8 +152,3 @@ applied-fault at step bytes e x y t u m n fault same read writes cut running h =
       ]
       | inr p ↦ inr p
     ]
-
--- a run that ends the session with a fault has a last turn that brings it about
-pub runs-fault : (n : ℕ) (e e' : Engine) (log log' : Option Log) (fault : IoFault) → Runs n e e' log log' → has_ended e.talk ≡ false
-    → fault_of e'.talk ≡ Some fault → Faults fault e e' log log'
-runs-fault n e e' log log' fault r running h = runs-bring n e e' log log' (IOError fault) r running (fault-end e'.talk fault h)

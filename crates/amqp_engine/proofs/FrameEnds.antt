@@ -1,5 +1,5 @@
 -- How a frame that is read may end a session, row by row.
-use Rattle.std.proofs.Common.{◌≡◌, ◌⊎◌, inl, inr, ℕ, zero, suc, true, false, List, Option, Some, None, Result, is_some, refl}
+use Rattle.std.proofs.Common.{◌≡◌, ◌⊎◌, inl, inr, ℕ, zero, suc, true, false, List, Option, Some, None, Result, is_some, refl, ap}
 use Rattle.amqp_frame.specs.declared.frame.Frame.{Frame}
 use Rattle.amqp_frame.specs.declared.frame.Frame.TheVariants.{ProtocolHeader, Method, Raw, Heartbeat}
 use Rattle.amqp_frame.specs.declared.frame.RawKind.{RawKind}
@@ -31,9 +31,9 @@ use Rattle.amqp_session.specs.Channels.{unawaited_channel_method, channel_opened
 use Rattle.amqp_session.specs.Replies.{first_awaited}
 use Rattle.amqp_session.specs.Frames.{misplaced_in, misplaced, is_unbuilt, is_of_a_channel, built_method, frame_row, frame_by, on_frame}
 use Rattle.amqp_engine.specs.Engine.{Engine}
-use Rattle.amqp_engine.specs.Causes.{IsReadError, is_awaited}
-use Rattle.amqp_engine.proofs.Cases.{if_case}
-use Rattle.amqp_engine.proofs.Ends.{Ends, ends-kept, ends-lose, ends-ok, if_by}
+use Rattle.amqp_engine.specs.Causes.{IsReadError, is_awaited, is_due, is_closed_input, is_closed_by_server}
+use Rattle.amqp_engine.proofs.Cases.{if_case, if_by}
+use Rattle.amqp_engine.proofs.Ends.{Ends, ends-kept, ends-lose, ends-ok}
 
 ends-unawaited : (P : ErrorKind → Type 0) (n : ℕ) (s : ChannelState) (m : AnyMethod) (t : Talk) → P (unawaited m n) → Ends P t (unawaited_channel_method n s m t)
 ends-unawaited P n channel.Closing m t p = ends-kept P t t refl
@@ -54,14 +54,15 @@ ends-closed : (P : ErrorKind → Type 0) (n : ℕ) (c : Channel) (a : Option Awa
 ends-closed P n c None t p = ends-unawaited P n c.state ChannelCloseOk t (p refl)
 ends-closed P n c (Some a) t p = ends-kept P t (channel_closed n c (Some a) t) (give_to-end a.promise _ _)
 
-ends-connection : (P : ErrorKind → Type 0) (s : ConnectionState) (p : Phase) (m : AnyMethod) (t : Talk) → P (InvalidConnectionState s) → Ends P t (connection_row s p m t)
+ends-connection : (P : ErrorKind → Type 0) (s : ConnectionState) (p : Phase) (m : AnyMethod) (t : Talk)
+    → (is_due m s p ≡ false → P (InvalidConnectionState s)) → Ends P t (connection_row s p m t)
 ends-connection P s p (Close code text class method) t e = ends-kept P t _ refl
 ends-connection P Closing p CloseOk t e = ends-ok P t _ refl
 ends-connection P Closing p m t e = ends-kept P t t refl
 ends-connection P Connecting AwaitStart (Start a b c d x) t e = ends-kept P t _ refl
 ends-connection P Connecting AwaitTune (Tune a b c) t e = ends-kept P t _ refl
 ends-connection P Connecting AwaitOpenOk OpenOk t e = ends-kept P t _ refl
-ends-connection P held p m t e = ends-lose P _ t t e
+ends-connection P held p m t e = ends-lose P _ t t (e refl)
 
 ends-channel : (P : ErrorKind → Type 0) (n : ℕ) (c : Channel) (m : AnyMethod) (t : Talk) → (is_awaited m n t ≡ false → P (unawaited m n)) → Ends P t (channel_row n c m t)
 ends-channel P n c ChannelOpenOk t p = ends-opened P n c (first_awaited n ChannelOpened t.awaited) t p
@@ -108,7 +109,7 @@ ends-method zero m size x =
     let t = x.talk in
     let P : ErrorKind → Type 0 = FrameError (Method zero m) size x in
     if_by (Ends P t) (is_of_a_channel m) (misplaced (on_channel_0 RawMethod) t) (connection_row t.state t.phase m t)
-    (λ h. ends-misplaced P t.state (on_channel_0 RawMethod) t (inl (h, refl))) (λ h. ends-connection P t.state t.phase m t (h, refl))
+    (λ h. ends-misplaced P t.state (on_channel_0 RawMethod) t (inl (h, refl))) (λ h. ends-connection P t.state t.phase m t (λ due. (h, due, refl)))
 ends-method (suc n) m size x =
     let t = x.talk in
     let P : ErrorKind → Type 0 = FrameError (Method (suc n) m) size x in
@@ -116,26 +117,26 @@ ends-method (suc n) m size x =
     (λ h. ends-channel-method P t.state (suc n) m t (λ none. ((refl, h), none)) (λ listed free. inr (h, listed, free, refl)))
     (λ h. ends-misplaced P t.state (connection_method_on (suc n)) t (inl (h, refl)))
 
-ends-row : (f : Frame) (size : ℕ) (x : Engine) → Ends (FrameError f size x) x.talk (frame_row f x.place x.talk)
-ends-row (ProtocolHeader version) size x = ends-lose (FrameError (ProtocolHeader version) size x) (InvalidProtocolVersion version) x.talk x.talk refl
-ends-row Heartbeat size x = ends-kept (FrameError Heartbeat size x) x.talk x.talk refl
-ends-row (Method n m) size x =
+ends-row : (f : Frame) (size : ℕ) (x : Engine) → is_closed_by_server x.talk ≡ false → Ends (FrameError f size x) x.talk (frame_row f x.place x.talk)
+ends-row (ProtocolHeader version) size x acting = ends-lose (FrameError (ProtocolHeader version) size x) (InvalidProtocolVersion version) x.talk x.talk refl
+ends-row Heartbeat size x acting = ends-kept (FrameError Heartbeat size x) x.talk x.talk refl
+ends-row (Method n m) size x acting =
     let P : ErrorKind → Type 0 = FrameError (Method n m) size x in
     if_by (Ends P x.talk) (is_unbuilt m) (fail (Unbuilt x.place) x.talk) (built_method n m x.talk)
-    (λ h. ends-lose P (Unbuilt x.place) x.talk x.talk (h, refl)) (λ h. ends-method n m size x)
-ends-row (Raw zero kind bytes) size x = ends-misplaced (FrameError (Raw zero kind bytes) size x) x.talk.state (on_channel_0 kind) x.talk (inl refl)
-ends-row (Raw (suc n) kind bytes) size x =
+    (λ h. ends-lose P (Unbuilt x.place) x.talk x.talk (h, acting, refl)) (λ h. ends-method n m size x)
+ends-row (Raw zero kind bytes) size x acting = ends-misplaced (FrameError (Raw zero kind bytes) size x) x.talk.state (on_channel_0 kind) x.talk (inl refl)
+ends-row (Raw (suc n) kind bytes) size x acting =
     ends-raw (FrameError (Raw (suc n) kind bytes) size x) x.talk.state (suc n) (channel_at (suc n) x.talk) kind bytes x.talk (λ h. (refl, h))
 
-ends-input : (i : Input) (f : Frame) (size : ℕ) (x : Engine) → Ends (FrameError f size x) x.talk (frame_by i f x.place x.talk)
-ends-input Acting f size x = ends-row f size x
-ends-input Closed f size x = ends-kept _ x.talk x.talk refl
-ends-input Dropped f size x = ends-kept _ x.talk x.talk refl
+ends-input : (i : Input) (f : Frame) (size : ℕ) (x : Engine) → x.talk.input ≡ i → Ends (FrameError f size x) x.talk (frame_by i f x.place x.talk)
+ends-input Acting f size x is = ends-row f size x (ap is_closed_input is)
+ends-input Closed f size x is = ends-kept _ x.talk x.talk refl
+ends-input Dropped f size x is = ends-kept _ x.talk x.talk refl
 
 pub ends-frame : (f : Frame) (size : ℕ) (x : Engine) → Ends (FrameError f size x) x.talk (on_frame f x.place x.talk)
 ends-frame f size x =
     if_case (Ends (FrameError f size x) x.talk) (is_open x.talk) (frame_by x.talk.input f x.place x.talk) x.talk
-    (ends-input x.talk.input f size x) (ends-kept _ x.talk x.talk refl)
+    (ends-input x.talk.input f size x refl) (ends-kept _ x.talk x.talk refl)
 
 pub ends-misread : (P : ErrorKind → Type 0) (w : Misread) (t : Talk) → P (misread_error w) → Ends P t (misread w t)
 ends-misread P w t p =

@@ -21,35 +21,17 @@ use Rattle.amqp_engine.specs.declared.port.Step.TheVariants.{Linked, LinkFailed,
 use Rattle.amqp_engine.specs.declared.port.Wrote.{Wrote}
 use Rattle.amqp_engine.specs.declared.port.Wrote.TheVariants.{Took, Failed, NoMemory as WroteNoMemory}
 use Rattle.amqp_engine.specs.Engine.{Engine, front_of, is_more, can_read, rule_at, with_talk, step_engine, settle, took, wrote, commit_all, commits, starve_at}
-use Rattle.amqp_engine.specs.Turn.{Progress, Turn, asks, wants_ask, goes, reads, read_part, reading, is_piece, step_part, is_part, begun, drain, offer_part, answered, read, written, applied, turn, starved_after}
+use Rattle.amqp_engine.specs.Turn.{Progress, Turn, asks, wants_ask, goes, reads, read_part, reading, is_piece, step_part, is_part, begun, drain, offer_part, answered, read, written, applied, turn, starved_after, IsApplied, IsTurn}
 use Rattle.amqp_engine.specs.Log.{Log}
-use Rattle.amqp_engine.specs.Tell.{Applies, Turns, turn_of}
+use Rattle.amqp_engine.specs.Tell.{Applies, TakesTurn, turn_of}
 use Rattle.amqp_engine.specs.Unread.{IsRead}
 use Rattle.amqp_engine.proofs.Cases.{if_case, if-true, if-false, and-false, and-right}
 use Rattle.amqp_engine.proofs.Keeping.{present-keeps, stays-command, taken-keeps, taken-link, lost-stays, starve-ends}
 use Rattle.amqp_engine.proofs.Commits.{commits-keep}
-use Rattle.amqp_engine.proofs.Reading.{read_one-worth, front-none}
+use Rattle.amqp_engine.proofs.Reading.{reads-done, front-none}
+use Rattle.amqp_engine.proofs.Over.{ended-closed, applied-ended}
 
 -- ---- reading goes on to the end
-
-no-bytes : (xs : List ℕ) (limit : ℕ) → length xs ≤ 0 → not (is_more (front xs limit)) ≡ false
-no-bytes [] limit h = ap (λ (r : Read). not (is_more r)) (front-none limit)
-no-bytes (x ∷ xs) limit h = absurd (omega arith)
-
-if-done : (b : Bool) (n : ℕ) (p : Progress) → (goes p && can_read p.engine) ≡ b → length p.engine.unread ≤ suc n
-    → ((x : Progress) → length x.engine.unread ≤ n → (goes (reads n x) && can_read (reads n x).engine) ≡ false)
-    → (goes (if b then reads n (read_part p) else p) && can_read (if b then reads n (read_part p) else p).engine) ≡ false
-if-done true n p h le ih =
-    let can : can_read p.engine ≡ true = and-right (goes p) (can_read p.engine) h in
-    ih (read_part p) (omega (arith, read_one-worth p.at p.engine can))
-if-done false n p h le ih = h
-
--- after the parts that read, the turn was cut, or nothing is left to be read
-reads-done : (n : ℕ) (p : Progress) → length p.engine.unread ≤ n → (goes (reads n p) && can_read (reads n p).engine) ≡ false
-reads-done zero p le =
-    and-false (goes p) (can_read p.engine)
-    (and-false (is_open p.engine.talk) (not (is_more (front_of p.engine))) (no-bytes p.engine.unread (frame_limit p.engine.talk.configuration) le))
-reads-done (suc n) p le = if-done (goes p && can_read p.engine) n p refl le (λ x h. reads-done n x h)
 
 more-is : (r : Read) → not (is_more r) ≡ false → r ≡ More
 more-is More h = refl
@@ -244,28 +226,32 @@ uncut-read u e whole h =
     (reading-read (is_piece u.step) s (uncut-reads 0 s cut) (uncut-reads (length s.engine.unread) s cut)
     (λ piece. subst IsRead (sym engine) (step-read at u.step u.bytes e piece h)))
 
-ended-closed : (l : Link) (b : Bool) → is_some (end_of_link l) ≡ true → is_open_link l ≡ false
-ended-closed Wanted b h = cc
-ended-closed Asked b h = cc
-ended-closed Open b h = cc
-ended-closed (Ended r) b h = refl
-
 starved-read : (s : Option ℕ) (at : ℕ) (e : Engine) → (s ≡ None → IsRead e) → IsRead (starved_after s at e)
 starved-read None at e h = h refl
 starved-read (Some j) at e h =
-    closed-read (starve_at at j e) (ended-closed (starve (present_at at e.talk)).link true (starve-ends (present_at at e.talk)))
+    closed-read (starve_at at j e) (ended-closed (starve (present_at at e.talk)).link (starve-ends (present_at at e.talk)))
 
-pub applied-read : (u : Turn) (e : Engine) → IsRead e → IsRead (applied u e)
-applied-read u e h =
+running-read : (u : Turn) (e : Engine) → IsRead e → IsRead (starved_after u.notes.starved u.at (written u e).engine)
+running-read u e h =
     starved-read u.notes.starved u.at (written u e).engine (λ whole. drain-read u.notes.answers (read u e) (uncut-read u e whole h))
 
-pub turn-read : (u : Turn) (e : Engine) → IsRead e → IsRead (turn u e)
-turn-read u e h = applied-read u (asks e) (asks-read e h)
+pub applied-read : (u : Turn) (e : Engine) → IsApplied u e → IsRead e → IsRead (applied u e)
+applied-read u e may h = by (has_ended e.talk) refl
+  where
+    after : Engine
+    after = (written u e).engine
+
+    by : (b : Bool) → has_ended e.talk ≡ b → IsRead (applied u e)
+    by true over = closed-read (applied u e) (ended-closed (applied u e).talk.link (applied-ended u e over may.answers))
+    by false running = subst IsRead (sym (if-false (has_ended e.talk) after (starved_after u.notes.starved u.at after) running)) (running-read u e h)
+
+pub turn-read : (u : Turn) (e : Engine) → IsTurn u e → IsRead e → IsRead (turn u e)
+turn-read u e may h = applied-read u (asks e) may.applied (asks-read e h)
 
 -- what is known of an application, and of a turn
 pub Applies-read : (at : ℕ) (step : Step) (bytes : List ℕ) (e e' : Engine) (log log' : Option Log) → Applies at step bytes e e' log log' → IsRead e → IsRead e'
 Applies-read at step bytes e e' log log' f h =
-    subst IsRead f.leaves (applied-read (turn_of at step bytes f.notes) e h)
+    subst IsRead f.leaves (applied-read (turn_of at step bytes f.notes) e f.may h)
 
-pub Turns-read : (e e' : Engine) (log log' : Option Log) → Turns e e' log log' → IsRead e → IsRead e'
-Turns-read e e' log log' f h = subst IsRead f.leaves (turn-read f.u e h)
+pub TakesTurn-read : (e e' : Engine) (log log' : Option Log) → TakesTurn e e' log log' → IsRead e → IsRead e'
+TakesTurn-read e e' log log' f h = subst IsRead f.leaves (turn-read f.u e f.may h)

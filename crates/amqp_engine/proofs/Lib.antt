@@ -3,6 +3,8 @@ pub mod Settling
 pub mod Keeping
 pub mod Commits
 pub mod Reading
+pub mod Over
+pub mod Lifting
 pub mod Telling
 pub mod Offers
 pub mod Applying

@@ -33,6 +33,7 @@ use Rattle.amqp_engine.proofs.Cases.{if_case, if-true, if-false, and-left, and-r
 use Rattle.amqp_engine.proofs.Keeping.{Keeps, keeps-frame, keeps-misread, LinkKept, link-then, present-keeps, stays-command, taken-link, lost-keeps, lost-link, starve-ends}
 use Rattle.amqp_engine.proofs.Settling.{settle-talk, settle-unsent}
 use Rattle.amqp_engine.proofs.Commits.{commits-keep}
+use Rattle.amqp_engine.proofs.Over.{turn-is}
 use Rattle.amqp_engine.proofs.Sent.{on_last-append}
 use Rattle.amqp_engine.proofs.Agreeing.{Agrees, agrees-none, agrees-order, agrees-same, agrees-offer, offer-bytes}
 
@@ -355,8 +356,9 @@ sends-turn u e ss may h =
     let p = read u (asks e) in
     let ss' = step_sending u.step (asks e) ss in
     let P : ℕ → Type 0 = λ at. Sends (drain u.notes.answers p).engine (offers_sending at u.notes.answers p.engine ss') in
-    sends-starved u.notes.starved u.at (written u (asks e)).engine (turn_sending u e ss)
-    (subst P (read-at u (asks e)) (sends-drain u.notes.answers p ss' may.applied.answers (sends-read u (asks e) ss (sends-asks e ss h))))
+    let Q : Engine → Type 0 = λ x. Sends x (turn_sending u e ss) in
+    subst Q (sym (turn-is u e may.running)) (sends-starved u.notes.starved u.at (written u (asks e)).engine (turn_sending u e ss)
+    (subst P (read-at u (asks e)) (sends-drain u.notes.answers p ss' may.applied.answers (sends-read u (asks e) ss (sends-asks e ss h)))))
 
 sends-turns : (us : List Turn) (e : Engine) (ss : List Sending) → AreTurns us e → Sends e ss → Sends (turns us e) (sendings_from us e ss)
 sends-turns [] e ss may h = h
@@ -576,14 +578,15 @@ told-turn u e ss a may plays h synced links =
     let P : ℕ → Type 0 = λ at. (log_offers (offers_from at u.notes.answers p.engine) c).links ≡ map link_bytes (offers_sending at u.notes.answers p.engine ss') in
     let drained = subst P (read-at u f) (told-drain u.notes.answers p ss' c may.applied.answers (sends-read u f ss (sends-asks e ss h)) step.0) in
     let after : (log_turn u e a).asked ≡ is_asked (step_engine u.at u.step u.bytes f).talk =
-    offers-asked (offers_of u f) c ∙ step.1 ∙ ap (asked_after u.step) asked ∙ sym (step-asked u.at u.step u.bytes f) in (
+    offers-asked (offers_of u f) c ∙ step.1 ∙ ap (asked_after u.step) asked ∙ sym (step-asked u.at u.step u.bytes f) in
+    let S : Engine → Type 0 = λ x. IsSynced x (log_turn u e a) in (
       drained,
-      synced-starved u.notes.starved u.at (written u f).engine (log_turn u e a) (λ whole running.
+      subst S (sym (turn-is u e may.running)) (synced-starved u.notes.starved u.at (written u f).engine (log_turn u e a) (λ whole running.
           let last = (written u f).engine.talk in
           elim (link-then (step_engine u.at u.step u.bytes f).talk p.engine.talk last (read-link u f whole) (drain-link u.notes.answers p)) [
             | inl same ↦ after ∙ sym (ap is_asked_link same)
             | inr ended ↦ absurd (not-both (has_ended last) ended running)
-          ]),
+          ])),
     )
 
 told-turns : (us : List Turn) (e : Engine) (ss : List Sending) (a : Log) → AreTurns us e → PlaysTurns us e a → Sends e ss → IsSynced e a → a.links ≡ map link_bytes ss

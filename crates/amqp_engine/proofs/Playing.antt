@@ -7,12 +7,13 @@ use Rattle.amqp_engine.specs.declared.port.Wrote.{Wrote}
 use Rattle.amqp_engine.specs.declared.port.Wrote.TheVariants.{Took, Failed, NoMemory}
 use Rattle.amqp_engine.specs.declared.port.Happening.{Happening}
 use Rattle.amqp_engine.specs.Plan.{Plan, plan_write, plan_failure, plan_step, PlanAnswers, room_for, next_happening}
-use Rattle.amqp_engine.specs.Log.{Log, is_played, links_after, asked_after, log_ask, log_step, log_write}
+use Rattle.amqp_engine.specs.Log.{Log, IsWithin, is_played, links_after, asked_after, log_ask, log_step, log_write}
 use Rattle.amqp_engine.specs.Engine.{Engine, can_write, can_read, commit_all, step_engine}
 use Rattle.amqp_engine.specs.Turn.{is_before, Progress, Turn, asks, wants_ask, goes, part, read_part, reads, step_part, is_part, is_piece, begun, offer_part, offered, answered, is_all, AreAnswers, CutsAfter, read, written, turn, turns, starved_after, IsTurn, AreTurns}
 use Rattle.amqp_engine.specs.Tell.{Offer, offers_from, offers_of, turn_of, log_asks, log_stepped, log_offers, log_turn, log_turns, PlaysOffers, PlaysTurn, PlaysTurns, Runs}
 use Rattle.amqp_engine.specs.Play.{waiting, room_of, fails_of, played_answer, played_answers, played_happening, played_notes, played_turn_of, played_turn, played_turns, no_notes, IsPlayed}
-use Rattle.amqp_engine.proofs.Cases.{if_case, if-true, if-false, and-right, and-other, some-unsent}
+use Rattle.amqp_engine.proofs.Over.{turn-is}
+use Rattle.amqp_engine.proofs.Cases.{if_case, if_by, if-true, if-false, and-true, and-false, and-right, and-other, some-unsent}
 use Rattle.amqp_engine.proofs.Keeping.{starve-ends}
 use Rattle.amqp_engine.proofs.Commits.{waiting-commits}
 use Rattle.amqp_engine.proofs.Offers.{waiting-wrote}
@@ -173,7 +174,11 @@ turns-played [] (suc n) e a may told le all planned whole =
 turns-played (u ∷ us) zero e a may told le all planned whole = absurd (omega arith)
 turns-played (u ∷ us) (suc n) e a may told le all planned whole =
     let none : List Turn = [] in
-    let uncut : u.notes.starved ≡ None = whole-end u.notes.starved u.at (written u (asks e)).engine us may.1 whole in
+    let is_turn = turn-is u e may.0.running in
+    let A : Engine → Type 0 = λ x. AreTurns us x in
+    let W : Engine → Type 0 = λ x. (turns us x).starved ≡ None in
+    let uncut : u.notes.starved ≡ None =
+    whole-end u.notes.starved u.at (written u (asks e)).engine us (subst A is_turn may.1) (subst W is_turn whole) in
     let is : u ≡ played_turn e a = turn-played u e a may.0 told.0 uncut planned in
     let v = played_turn e a in
     ap (λ (x : List Turn). u ∷ x) (turns-played us n (turn u e) (log_turn u e a) may.1 told.1 (omega arith) (λ h. omega (arith, all h)) (planned-turn u e a ∙ planned) whole)
@@ -197,3 +202,102 @@ pub runs-played : (n : ℕ) (e e' : Engine) (log log' : Option Log) → Runs n e
     → IfSome log (λ a. IsSome a.plan → e'.starved ≡ None → IsPlayed n e e' a log')
 runs-played n e e' None log' r = tt
 runs-played n e e' (Some a) log' r = Runs-played n e e' a log' r
+
+-- ---- what is played are turns
+
+within-by : (b : Bool) (k n : ℕ) → k ≤ n → IsWithin n (if b then Failed else Took k)
+within-by true k n le = tt
+within-by false k n le = le
+
+room-within : (o : Option Plan) (n : ℕ) → room_of o n ≤ n
+room-within None n = omega arith
+room-within (Some p) n = within p.room where
+  within : (room : Option ℕ) → room_for room n ≤ n
+  within None = omega arith
+  within (Some left) = omega arith
+
+-- what is answered is what the script has room for
+plans-answer : (o : Option Plan) (n : ℕ) → IfSome o (λ p. PlanAnswers p n (if fails_of o then Failed else Took (room_of o n)))
+plans-answer None n = tt
+plans-answer (Some p) n = by p.fails refl where
+  by : (b : Bool) → p.fails ≡ b → PlanAnswers p n (if b then Failed else Took (room_for p.room n))
+  by true h = h
+  by false h = (h, refl)
+
+never-cuts : (b : Bool) (k : ℕ) (p : Progress) → CutsAfter (if b then Failed else Took k) p
+never-cuts true k p = tt
+never-cuts false k p = tt
+
+-- these are the answers that are due, and the script gives them
+record Due (ws : List Wrote) (p : Progress) (a : Log) : Type 0 where
+  may : AreAnswers ws p
+  plays : PlaysOffers (offers_from p.at ws p.engine) a
+
+due-none : (p : Progress) (a : Log) → can_write p.engine ≡ false → Due [] p a
+due-none p a h = record { may = and-false (goes p) (can_write p.engine) h; plays = tt }
+
+due-tail : (b : Bool) (ws : List Wrote) (p : Progress) (a : Log) → (b ≡ true → Due ws p a)
+    → MatchBool b (AreAnswers (if b then ws else []) p) ((if b then ws else []) ≡ []) × PlaysOffers (offers_from p.at (if b then ws else []) p.engine) a
+due-tail true ws p a f = ((f refl).may, (f refl).plays)
+due-tail false ws p a f = (refl, tt)
+
+due-played : (n : ℕ) (p : Progress) (a : Log) → p.cut ≡ None → waiting p.engine ≤ n → Due (played_answers n p.at p.engine a) p a
+due-played zero p a cut le = by (can_write p.engine) refl where
+  by : (b : Bool) → can_write p.engine ≡ b → Due [] p a
+  by true h = absurd (omega (arith, due-waiting p.engine h))
+  by false h = due-none p a h
+due-played (suc n) p a cut le =
+    let e = p.engine in
+    let w = played_answer e a in
+    let all = is_all w (length (offered e)) in
+    let a' = log_write (offered e) w a in
+    let ws = played_answers n p.at (answered p.at w e) a' in
+    let none : List Wrote = [] in
+    if_by (λ (xs : List Wrote). Due xs p a) (can_write e) (w ∷ (if all then ws else none)) none
+    (λ can.
+    let some : 0 < length (offered e) = some-unsent (is_open e.talk) (length (offered e)) can in
+    let tail = due-tail all ws (offer_part w p) a' (λ whole. due-played n (offer_part w p) a' cut (omega (arith, waiting-wrote p.at w e some whole, le))) in
+    record {
+      may = (
+        and-true (goes p) (can_write e) (goes-on p cut) can,
+        within-by (fails_of a.plan) (room_of a.plan (length (offered e))) (length (offered e)) (room-within a.plan (length (offered e))),
+        never-cuts (fails_of a.plan) (room_of a.plan (length (offered e))) p,
+        tail.0,
+      );
+      plays = (plans-answer a.plan (length (offered e)), tail.1);
+    })
+    (λ cannot. due-none p a cannot)
+
+plans-step : (o : Option Plan) → is_some o ≡ true
+    → IfSome o (λ p. next_happening p ≡ record { at = (played_happening o).at; step = (played_happening o).step; bytes = (played_happening o).bytes })
+plans-step None h = cc
+plans-step (Some p) h = refl
+
+played-is-turn : (e : Engine) (a : Log) → has_ended e.talk ≡ false → is_some a.plan ≡ true → IsTurn (played_turn e a) e × PlaysTurn (played_turn e a) e a
+played-is-turn e a running planned =
+    let u = played_turn e a in
+    let p = read u (asks e) in
+    let b = log_stepped u e a in
+    let n = waiting p.engine in
+    let at : p.at ≡ u.at = kept-read (λ (x : Progress). x.at) (λ f n x. refl) u (asks e) in
+    let cut : p.cut ≡ None = kept-read (λ (x : Progress). x.cut) (λ f n x. refl) u (asks e) in
+    let due = due-played n p b cut (omega arith) in
+    let A : ℕ → Type 0 = λ x. AreAnswers (played_answers n x p.engine b) p in
+    let B : ℕ → Type 0 = λ x. PlaysOffers (offers_from x (played_answers n x p.engine b) p.engine) b in (
+      record { running = running; applied = record { answers = subst A at due.may; cut = tt } },
+      (plans-step (log_asks e a).plan (planned-asks e a ∙ planned), subst B at due.plays),
+    )
+
+-- the turns of at most so many steps
+pub played-are-turns : (n : ℕ) (e : Engine) (a : Log) → is_some a.plan ≡ true → AreTurns (played_turns n e a) e × PlaysTurns (played_turns n e a) e a
+played-are-turns zero e a planned = (tt, tt)
+played-are-turns (suc n) e a planned =
+    let u = played_turn e a in
+    let us = played_turns n (turn u e) (log_turn u e a) in
+    let none : List Turn = [] in
+    if_by (λ (vs : List Turn). AreTurns vs e × PlaysTurns vs e a) (has_ended e.talk) none (u ∷ us)
+    (λ over. (tt, tt))
+    (λ running.
+    let here = played-is-turn e a running planned in
+    let later = played-are-turns n (turn u e) (log_turn u e a) (planned-turn u e a ∙ planned) in
+    ((here.0, later.0), (here.1, later.1)))

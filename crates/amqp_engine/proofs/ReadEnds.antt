@@ -24,8 +24,8 @@ use Rattle.amqp_engine.specs.Plan.{at_most_64}
 use Rattle.amqp_engine.specs.Engine.{Engine, front_of, can_read, read_row, read_badly, read_one, rule_at}
 use Rattle.amqp_engine.specs.Turn.{Progress, goes, reads, read_part}
 use Rattle.amqp_engine.specs.Causes.{IsUnawaited, IsViolation, IsReadError, is_awaited}
-use Rattle.amqp_engine.proofs.Cases.{if_case, if-true, and-left, and-right}
-use Rattle.amqp_engine.proofs.Ends.{Ends, ends-kept, ends-as, ends-then, ends-present, ends-settled, if_by}
+use Rattle.amqp_engine.proofs.Cases.{if_case, if_by, if-true, and-left, and-right}
+use Rattle.amqp_engine.proofs.Ends.{Ends, ends-kept, ends-as, ends-then, ends-present, ends-settled}
 use Rattle.amqp_engine.proofs.FrameEnds.{FrameError, ends-frame, ends-misread}
 
 -- ---- a frame is looked for in bytes, and needs no memory

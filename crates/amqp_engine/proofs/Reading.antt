@@ -19,7 +19,7 @@ use Rattle.amqp_session.specs.Frames.{on_frame}
 use Rattle.amqp_session.specs.Negotiation.{frame_limit}
 use Rattle.amqp_engine.specs.Plan.{at_most_64}
 use Rattle.amqp_engine.specs.Engine.{Engine, front_of, can_read, is_more, read_one, read_row, read_badly, settle, rule_at}
-use Rattle.amqp_engine.specs.Turn.{Progress, reads, goes, read_part, is_before}
+use Rattle.amqp_engine.specs.Turn.{Progress, reads, reading, goes, read_part, is_before}
 use Rattle.amqp_engine.specs.Making.{making, Allows}
 use Rattle.amqp_engine.proofs.Cases.{if-true, if-false, or-true, and-true, and-false, and-left, and-right, is_before-Allows}
 use Rattle.amqp_engine.proofs.Settling.{settle-unread, settle-starved}
@@ -193,3 +193,29 @@ row-starved at NoMemory e = settle-starved _
 
 pub read_one-starved : (at : ℕ) (e : Engine) → (read_one at e).starved ≡ e.starved
 read_one-starved at e = row-starved at (front_of e) e
+
+-- ---- reading goes on to the end
+
+no-bytes : (xs : List ℕ) (limit : ℕ) → length xs ≤ 0 → not (is_more (front xs limit)) ≡ false
+no-bytes [] limit h = ap (λ (r : Read). not (is_more r)) (front-none limit)
+no-bytes (x ∷ xs) limit h = absurd (omega arith)
+
+if-done : (b : Bool) (n : ℕ) (p : Progress) → (goes p && can_read p.engine) ≡ b → length p.engine.unread ≤ suc n
+    → ((x : Progress) → length x.engine.unread ≤ n → (goes (reads n x) && can_read (reads n x).engine) ≡ false)
+    → (goes (if b then reads n (read_part p) else p) && can_read (if b then reads n (read_part p) else p).engine) ≡ false
+if-done true n p h le ih =
+    let can : can_read p.engine ≡ true = and-right (goes p) (can_read p.engine) h in
+    ih (read_part p) (omega (arith, read_one-worth p.at p.engine can))
+if-done false n p h le ih = h
+
+-- after the parts that read, the turn was cut, or nothing is left to be read
+pub reads-done : (n : ℕ) (p : Progress) → length p.engine.unread ≤ n → (goes (reads n p) && can_read (reads n p).engine) ≡ false
+reads-done zero p le =
+    and-false (goes p) (can_read p.engine)
+    (and-false (is_open p.engine.talk) (not (is_more (front_of p.engine))) (no-bytes p.engine.unread (frame_limit p.engine.talk.configuration) le))
+reads-done (suc n) p le = if-done (goes p && can_read p.engine) n p refl le (λ x h. reads-done n x h)
+
+-- or where the turn is cut
+pub reading-cut : (b : Bool) (p : Progress) → goes p ≡ false → reading b p ≡ p
+reading-cut true p h = reads-cut _ p h
+reading-cut false p h = refl

@@ -6,7 +6,7 @@ use Rattle.amqp_engine.specs.declared.port.Step.{Step}
 use Rattle.amqp_engine.specs.Log.{Log, log_step, PlansStep}
 use Rattle.amqp_engine.specs.Engine.{Engine}
 use Rattle.amqp_engine.specs.Turn.{Turn, asks, turn, turns, IsTurn, AreTurns, Leads}
-use Rattle.amqp_engine.specs.Tell.{Tells, turn_of, log_asks, log_offers, log_turn, log_turns, offers_of, PlaysOffers, PlaysTurn, PlaysTurns, TellsOffers, TellsTurn, TellsTurns, Applies, Turns, Runs}
+use Rattle.amqp_engine.specs.Tell.{Tells, turn_of, log_asks, log_offers, log_turn, log_turns, offers_of, PlaysOffers, PlaysTurn, PlaysTurns, TellsOffers, TellsTurn, TellsTurns, Applies, TakesTurn, Runs}
 use Rattle.amqp_engine.proofs.Telling.{tells-then, tells-as, tells-freely}
 
 -- turns after turns
@@ -109,7 +109,7 @@ tells-turn u e log asked stepped last ha hs plays t =
 -- a turn from its asking, its step and what is applied
 pub turns-of : (e e1 e' : Engine) (log asked stepped last : Option Log) (at : ℕ) (step : Step) (bytes bytes' : List ℕ)
     → has_ended e.talk ≡ false → e1 ≡ asks e → asked ≡ option_map (log_asks e) log → stepped ≡ option_map (log_step at step bytes) asked
-    → bytes' ≡ bytes → IfSome asked (PlansStep at step bytes) → Applies at step bytes' e1 e' stepped last → Turns e e' log last
+    → bytes' ≡ bytes → IfSome asked (PlansStep at step bytes) → Applies at step bytes' e1 e' stepped last → TakesTurn e e' log last
 turns-of e e1 e' log asked stepped last at step bytes bytes' running he ha hs hb plays applies =
     let A : List ℕ → Type 0 = λ x. Applies at step x e1 e' stepped last in
     let B : Engine → Type 0 = λ x. Applies at step bytes x e' stepped last in

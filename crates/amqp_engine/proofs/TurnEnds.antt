@@ -26,12 +26,13 @@ use Rattle.amqp_engine.specs.declared.port.Wrote.TheVariants.{Took, Failed, NoMe
 use Rattle.amqp_engine.specs.Log.{Log}
 use Rattle.amqp_engine.specs.Engine.{Engine, settle, rule_at, with_talk, step_engine, took, wrote, commit_all}
 use Rattle.amqp_engine.specs.Turn.{Turn, Progress, asks, wants_ask, goes, reads, part, is_piece, step_part, is_part, begun, drain, offer_part, answered, read, written, applied, turn, turns, starved_after, AreTurns, Leads}
-use Rattle.amqp_engine.specs.Tell.{TellsTurns, Runs}
-use Rattle.amqp_engine.specs.Causes.{Misreads, LosesClosed, IsCause, Brings, brought, has_failed, is_failed, is_last, sends_close_ok, is_finish}
-use Rattle.amqp_engine.proofs.Cases.{if_case, if-true, if-false, and-true, and-false, none-from}
+use Rattle.amqp_engine.specs.Tell.{TellsTurns, Applies, Runs, turn_of}
+use Rattle.amqp_engine.specs.Causes.{Misreads, LosesClosed, IsCause, Brings, BringsOne, brought, has_failed, is_failed, is_last, sends_close_ok, is_finish}
+use Rattle.amqp_engine.proofs.Cases.{if_case, if_by, if-true, if-false, and-true, and-false, none-from}
 use Rattle.amqp_engine.proofs.Keeping.{present-keeps, stays-command}
 use Rattle.amqp_engine.proofs.Commits.{commits-keep}
-use Rattle.amqp_engine.proofs.Ends.{Ends, ends-kept, ends-lose, ends-close, ends-as, ends-then, ends-present, ends-moment, ends-settled, if_by}
+use Rattle.amqp_engine.proofs.Ends.{Ends, ends-kept, ends-lose, ends-close, ends-as, ends-then, ends-present, ends-moment, ends-settled}
+use Rattle.amqp_engine.proofs.Over.{asks-end}
 use Rattle.amqp_engine.proofs.ReadEnds.{Comes, ends-reads}
 
 -- ---- steps
@@ -345,16 +346,8 @@ ends-applied u x =
     (ends-then P x.talk r.engine.talk w.engine.talk
     (ends-as (EarlyError u x) P x.talk r.engine.talk (early-cause u x) (ends-read u x))
     (ends-as (WritesError u.notes.answers r) P r.engine.talk w.engine.talk (writes-cause u x) (ends-drain u.notes.answers r)))
-    (starved-cause P u.notes.starved u.at w.engine (λ h. h))
-
-asked-end : (l : Link) → end_of_link (asked_link l) ≡ end_of_link l
-asked-end Wanted = refl
-asked-end Asked = refl
-asked-end Open = refl
-asked-end (Ended r) = refl
-
-pub asks-end : (e : Engine) → end_of (asks e).talk ≡ end_of e.talk
-asks-end e = if_case (λ (x : Engine). end_of x.talk ≡ end_of e.talk) (wants_ask e) (with_talk asked e) e (asked-end e.talk.link) refl
+    (if_case (λ (y : Engine). Ends P w.engine.talk y.talk) (has_ended x.talk) w.engine (starved_after u.notes.starved u.at w.engine)
+    (ends-kept P w.engine.talk w.engine.talk refl) (starved-cause P u.notes.starved u.at w.engine (λ h. h)))
 
 not-before : {A : Type 0} (k : ErrorKind) (t : Talk) → has_ended t ≡ false → end_of t ≡ Some (Err k) → A
 not-before k t running h =
@@ -364,6 +357,14 @@ not-before k t running h =
 turn-cause : (u : Turn) (e : Engine) (k : ErrorKind) → has_ended e.talk ≡ false → end_of (turn u e).talk ≡ Some (Err k) → IsCause k u (asks e)
 turn-cause u e k running h =
     elim ((ends-applied u (asks e)).by k h) [ inl before ↦ not-before k e.talk running (sym (asks-end e) ∙ before) | inr cause ↦ cause ]
+
+pub applied-brings : (at : ℕ) (step : Step) (bytes : List ℕ) (e e' : Engine) (log log' : Option Log) (k : ErrorKind) → Applies at step bytes e e' log log'
+    → has_ended e.talk ≡ false → end_of e'.talk ≡ Some (Err k) → BringsOne k at step bytes e e' log log'
+applied-brings at step bytes e e' log log' k a running h =
+    let u = turn_of at step bytes a.notes in
+    let cause : IsCause k u e =
+    elim ((ends-applied u e).by k (ap (λ (x : Engine). end_of x.talk) a.leaves ∙ h)) [ inl before ↦ not-before k e.talk running before | inr cause ↦ cause ] in
+    record { applies = a; cause = cause }
 
 -- ---- turns
 

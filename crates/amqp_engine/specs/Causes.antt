@@ -7,7 +7,7 @@ use Rattle.amqp_frame.specs.declared.frame.RawKind.TheVariants.{RawMethod}
 use Rattle.amqp_frame.specs.declared.frame.Read.{Read}
 use Rattle.amqp_frame.specs.declared.frame.Read.TheVariants as reading
 use Rattle.amqp_frame.specs.declared.method.Method.{Method as AnyMethod}
-use Rattle.amqp_frame.specs.declared.method.Method.TheVariants.{ChannelOpenOk, ChannelCloseOk}
+use Rattle.amqp_frame.specs.declared.method.Method.TheVariants.{Start, Tune, OpenOk, Close, CloseOk, ChannelOpenOk, ChannelCloseOk}
 use Rattle.amqp_session.specs.declared.committed.Mark.{Mark}
 use Rattle.amqp_session.specs.declared.committed.Then.{Then}
 use Rattle.amqp_session.specs.declared.committed.Then.TheVariants.{Finish}
@@ -15,7 +15,12 @@ use Rattle.amqp_session.specs.declared.io_fault.IoFault.{IoFault}
 use Rattle.amqp_session.specs.declared.io_fault.IoFault.TheVariants.{Aborted, Refused, Reset, BrokenPipe}
 use Rattle.amqp_session.specs.declared.lanes.Reply.TheVariants.{ChannelOpened, ChannelClosed}
 use Rattle.amqp_session.specs.declared.server_close.ServerClose.TheVariants.{WithError}
-use Rattle.amqp_session.specs.declared.state.ConnectionState.TheVariants.{Connecting}
+use Rattle.amqp_session.specs.declared.state.ConnectionState.{ConnectionState}
+use Rattle.amqp_session.specs.declared.state.ConnectionState.TheVariants.{Connecting, Closing}
+use Rattle.amqp_session.specs.declared.state.Phase.{Phase}
+use Rattle.amqp_session.specs.declared.state.Phase.TheVariants.{AwaitStart, AwaitTune, AwaitOpenOk}
+use Rattle.amqp_session.specs.declared.state.Input.{Input}
+use Rattle.amqp_session.specs.declared.state.Input.TheVariants.{Acting}
 use Rattle.amqp_session.specs.declared.error.ErrorKind.{ErrorKind}
 use Rattle.amqp_session.specs.declared.error.ErrorKind.TheVariants.{IOError, NoMemory, ParsingError, ProtocolError, InvalidProtocolVersion, InvalidConnectionState, InvalidChannel, Unbuilt}
 use Rattle.amqp_session.specs.Talk.{Talk, is_asked, is_open, end_of}
@@ -30,7 +35,7 @@ use Rattle.amqp_engine.specs.declared.port.Wrote.TheVariants.{Took, Failed, NoMe
 use Rattle.amqp_engine.specs.Log.{Log}
 use Rattle.amqp_engine.specs.Engine.{Engine, front_of, can_read, commit_all}
 use Rattle.amqp_engine.specs.Turn.{Turn, Progress, asks, begun, drain, goes, is_piece, read, reads, step_part, turns, Leads}
-use Rattle.amqp_engine.specs.Tell.{TellsTurns}
+use Rattle.amqp_engine.specs.Tell.{TellsTurns, Applies, turn_of}
 
 -- ---- faults
 
@@ -108,14 +113,33 @@ IsViolation e (reading.BadHeartbeat channel) t = e ≡ heartbeat_on channel
 IsViolation e (reading.Whole f n) t = IsMisplaced e f ⊎ IsUnawaited e f t
 IsViolation e _ t = ⊥
 
+-- a method of the connection class that is due: our close's answer, and what the handshake awaits; the server may close at any time
+abbrev pub is_due : AnyMethod → ConnectionState → Phase → Bool
+is_due (Close code text class method) state phase = true
+is_due CloseOk Closing phase = true
+is_due (Start major minor properties mechanisms locales) Connecting AwaitStart = true
+is_due (Tune channel_max frame_max heartbeat) Connecting AwaitTune = true
+is_due OpenOk Connecting AwaitOpenOk = true
+is_due _ state phase = false
+
+abbrev pub is_closed_input : Input → Bool
+is_closed_input Acting = false
+is_closed_input _ = true
+
+-- the server's close was read on the link
+abbrev pub is_closed_by_server : Talk → Bool
+is_closed_by_server t = is_closed_input t.input
+
 -- the error that is brought by what stands at the front of the unread bytes
 abbrev pub IsReadError : ErrorKind → Read → Engine → Type 0
 IsReadError (ParsingError place) reading.Bad x = x.place ≡ place
 IsReadError (InvalidProtocolVersion version) (reading.Whole (ProtocolHeader v) n) x = v ≡ version
-IsReadError (InvalidConnectionState state) (reading.Whole (Method zero m) n) x = IsFalse (is_of_a_channel m) × (x.talk.state ≡ state)
+IsReadError (InvalidConnectionState state) (reading.Whole (Method zero m) n) x =
+    IsFalse (is_of_a_channel m) × IsFalse (is_due m x.talk.state x.talk.phase) × (x.talk.state ≡ state)
 IsReadError (InvalidChannel channel) (reading.Whole f n) x =
     IsOfChannel channel f × ((channel_at channel x.talk ≡ None) ⊎ (x.talk.state ≡ Connecting))
-IsReadError (Unbuilt place) (reading.Whole (Method channel m) n) x = IsTrue (is_unbuilt m) × (x.place ≡ place)
+IsReadError (Unbuilt place) (reading.Whole (Method channel m) n) x =
+    IsTrue (is_unbuilt m) × IsFalse (is_closed_by_server x.talk) × (x.place ≡ place)
 IsReadError (ProtocolError e) r x = IsViolation (ProtocolError e) r x.talk
 IsReadError _ r x = ⊥
 
@@ -193,6 +217,7 @@ pub record Brings (k : ErrorKind) (e e' : Engine) (log log' : Option Log) : Type
   pub tells : TellsTurns (us ++ u ∷ []) e log log'
   pub cause : IsCause k u (asks (turns us e))
 
--- the same of a fault
-abbrev pub Faults : IoFault → Engine → Engine → Option Log → Option Log → Type 0
-Faults fault e e' log log' = Brings (IOError fault) e e' log log'
+-- a turn of this step, from it on, leads from here to there and its offers are told, and it brings about this error
+pub record BringsOne (k : ErrorKind) (at : ℕ) (step : Step) (bytes : List ℕ) (e e' : Engine) (log log' : Option Log) : Type 0 where
+  pub applies : Applies at step bytes e e' log log'
+  pub cause : IsCause k (turn_of at step bytes applies.notes) e

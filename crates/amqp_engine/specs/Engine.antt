@@ -95,7 +95,7 @@ can_read e = is_open e.talk && not (is_more (front_of e))
 abbrev pub read_badly : ℕ → Misread → Engine → Engine
 read_badly at why e = settle (rule_at at (misread why) e)
 
--- what stood at the front is read
+-- what stood at the front is read; that memory was refused is never what stands there
 abbrev pub read_row : ℕ → Read → Engine → Engine
 read_row at (reading.Whole f n) e =
     settle (record e {

@@ -1,5 +1,5 @@
 -- A turn in the making, as the code counts its parts.
-use Rattle.std.specs.Prelude.{◌≡◌, ◌≤◌, ◌⊎◌, ℕ, if◌then◌else◌, Bool, true, false, List, Option, Some, None}
+use Rattle.std.specs.Prelude.{◌≡◌, ◌≤◌, ◌<◌, ◌+◌, ◌*◌, ◌^◌, ◌⊎◌, ℕ, if◌then◌else◌, Bool, true, false, List, Option, Some, None}
 use Rattle.amqp_session.specs.declared.io_fault.IoFault.{IoFault}
 use Rattle.amqp_session.specs.declared.io_fault.IoFault.TheVariants.{BrokenPipe}
 use Rattle.amqp_session.specs.Talk.{Talk}
@@ -27,6 +27,10 @@ is_command _ = false
 abbrev pub is_whole : Read → Bool
 is_whole (Whole f n) = true
 is_whole _ = false
+
+-- few enough parts to be counted with one more offer for each frame that waits
+abbrev pub FewParts : ℕ → Type 0
+FewParts n = 2 * n < 2 ^ 63 + 4
 
 -- a cut that comes after so many parts, or later, or never
 abbrev pub Allows : Option ℕ → ℕ → Type 0

@@ -83,7 +83,7 @@ pub record Applies (at : ℕ) (step : Step) (bytes : List ℕ) (e e' : Engine) (
   pub tells : TellsOffers (offers_of (turn_of at step bytes notes) e) log log'
 
 -- some one turn leads from here to there, and is told
-pub record Turns (e e' : Engine) (log log' : Option Log) : Type 0 where
+pub record TakesTurn (e e' : Engine) (log log' : Option Log) : Type 0 where
   pub u : Turn
   pub may : IsTurn u e
   pub leaves : turn u e ≡ e'

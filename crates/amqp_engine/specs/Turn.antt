@@ -136,9 +136,11 @@ abbrev pub starved_after : Option ℕ → ℕ → Engine → Engine
 starved_after None at e = e
 starved_after (Some j) at e = starve_at at j e
 
--- a turn from its step on; where it was cut, the session ends for want of memory
+-- a turn from its step on; where it was cut, a session that had not ended before ends for want of memory
 abbrev pub applied : Turn → Engine → Engine
-applied u e = starved_after u.notes.starved u.at (written u e).engine
+applied u e =
+    let after = (written u e).engine in
+    if has_ended e.talk then after else starved_after u.notes.starved u.at after
 
 abbrev pub turn : Turn → Engine → Engine
 turn u e = applied u (asks e)

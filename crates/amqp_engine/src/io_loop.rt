@@ -1,9 +1,6 @@
 //! The loop of an engine over a port.
 
-ghost use Rattle.std.specs.Prelude.{◌≡◌, ◌≤◌, ◌⊎◌, ℕ, Some, None, Err, false, IfOk, IfErr, IfSome, IsOk, OnOk, OnErr, MatchResult, IsSome, IsTrue, length, option_map};
-ghost use Rattle.amqp_types.specs.declared.error.AMQPError.{AMQPError};
-ghost use Rattle.amqp_types.specs.declared.version.ProtocolVersion.{ProtocolVersion};
-ghost use Rattle.amqp_session.specs.declared.state.ConnectionState.{ConnectionState};
+ghost use Rattle.std.specs.Prelude.{◌≡◌, ◌≤◌, ◌⊎◌, ℕ, Some, None, Err, true, false, IfOk, IfErr, IfSome, IsOk, OnOk, OnErr, MatchResult, IsSome, IsTrue, length, option_map};
 ghost use Rattle.amqp_session.specs.declared.io_fault.IoFault.{IoFault};
 ghost use Rattle.amqp_session.specs.Talk.{has_ended, end_of};
 ghost use Rattle.amqp_session.specs.Channels.{frames_of};
@@ -11,9 +8,9 @@ ghost use Rattle.amqp_session.specs.Commands.{command as command_rule};
 ghost use Rattle.amqp_session.specs.Answers.{HandsOut, Takes, take_frames};
 ghost use Rattle.amqp_engine.specs.Engine.{Engine, begin, with_talk};
 ghost use Rattle.amqp_engine.specs.Turn.{asks};
-ghost use Rattle.amqp_engine.specs.Tell.{Applies, Turns, Runs, log_asks};
+ghost use Rattle.amqp_engine.specs.Tell.{Applies, TakesTurn, Runs, log_asks};
 ghost use Rattle.amqp_engine.specs.Unread.{IsRead};
-ghost use Rattle.amqp_engine.specs.Causes.{Brings, Faults, brought, fault_of, is_counted};
+ghost use Rattle.amqp_engine.specs.Causes.{Brings, BringsOne, brought, fault_of, is_counted};
 ghost use Rattle.amqp_engine.specs.Counts.{Rose};
 ghost use Rattle.amqp_engine.specs.Play.{IsPlayed};
 
@@ -76,24 +73,15 @@ impl IoLoop {
         ensures turns { Runs turns self.old self.new (P.log port.old) (P.log port.new) }
         ensures ended { IfSome (end_of self.new.talk) (λ end. HandsOut (Some end) (Some result)) }
         ensures out_of_turns { has_ended self.new.talk ≡ false → result ≡ Err ErrorKind.OutOfTurns }
+        ensures only_out_of_turns { has_ended self.old.talk ≡ false → result ≡ Err ErrorKind.OutOfTurns → has_ended self.new.talk ≡ false }
         ensures played { IfSome (P.log port.old) (λ log. IsSome log.plan → self.new.starved ≡ None
             → IsPlayed turns self.old self.new log (P.log port.new)) }
         ensures read { IsRead self.new }
         ensures faults { P.faults port.old ≤ P.faults port.new }
         ensures io_error_counted { (fault : IoFault) → has_ended self.old.talk ≡ false → fault_of self.new.talk ≡ Some fault
             → IsTrue (is_counted fault) → Rose (P.faults port.old) (P.faults port.new) }
-        ensures io_error { (fault : IoFault) → has_ended self.old.talk ≡ false → fault_of self.new.talk ≡ Some fault
-            → Faults fault self.old self.new (P.log port.old) (P.log port.new) }
-        ensures parsing_error { (place : ℕ) → has_ended self.old.talk ≡ false → end_of self.new.talk ≡ Some (Err (ErrorKind.ParsingError place))
-            → Brings (ErrorKind.ParsingError place) self.old self.new (P.log port.old) (P.log port.new) }
-        ensures invalid_protocol_version { (version : ProtocolVersion) → has_ended self.old.talk ≡ false → end_of self.new.talk ≡ Some (Err (ErrorKind.InvalidProtocolVersion version))
-            → Brings (ErrorKind.InvalidProtocolVersion version) self.old self.new (P.log port.old) (P.log port.new) }
-        ensures invalid_connection_state { (state : ConnectionState) → has_ended self.old.talk ≡ false → end_of self.new.talk ≡ Some (Err (ErrorKind.InvalidConnectionState state))
-            → Brings (ErrorKind.InvalidConnectionState state) self.old self.new (P.log port.old) (P.log port.new) }
-        ensures invalid_channel { (channel : ℕ) → has_ended self.old.talk ≡ false → end_of self.new.talk ≡ Some (Err (ErrorKind.InvalidChannel channel))
-            → Brings (ErrorKind.InvalidChannel channel) self.old self.new (P.log port.old) (P.log port.new) }
-        ensures protocol_error { (error : AMQPError) → has_ended self.old.talk ≡ false → end_of self.new.talk ≡ Some (Err (ErrorKind.ProtocolError error))
-            → Brings (ErrorKind.ProtocolError error) self.old self.new (P.log port.old) (P.log port.new) }
+        ensures cause { (k : ErrorKind) → has_ended self.old.talk ≡ false → end_of self.new.talk ≡ Some (Err k)
+            → Brings k self.old self.new (P.log port.old) (P.log port.new) }
     {
         self.take_turns(port, turns);
         match self.wire.session().end() {
@@ -121,7 +109,7 @@ impl IoLoop {
     // written.
     fn turn<P: Port>(&mut self, port: &mut P) -> std::result::Result<(), NoMemory>
         requires { has_ended self.old.talk ≡ false }
-        ensures turn { Turns self.old self.new (P.log port.old) (P.log port.new) }
+        ensures turn { TakesTurn self.old self.new (P.log port.old) (P.log port.new) }
         ensures ended { OnErr result (IsTrue (has_ended self.new.talk)) }
         ensures faults { P.faults port.old ≤ P.faults port.new }
         ensures io_error_counted { (fault : IoFault) → fault_of self.new.talk ≡ Some fault
@@ -146,12 +134,16 @@ impl IoLoop {
     /// refused, the session has ended.
     pub fn apply<P: Port>(&mut self, told: Told, bytes: &[u8], port: &mut P) -> Result<()>
         ensures turn { Applies told.at told.step bytes.now self.old self.new (P.log port.old) (P.log port.new) }
-        ensures starved { MatchResult result (λ _. self.new.starved ≡ self.old.starved) (λ _. IsSome self.new.starved) }
+        ensures starved { MatchResult result (λ _. self.new.starved ≡ self.old.starved)
+            (λ _. has_ended self.old.talk ≡ false → IsSome self.new.starved) }
         ensures ended { OnErr result (IsTrue (has_ended self.new.talk)) }
+        ensures over { OnErr result (has_ended self.old.talk ≡ true → self.new ≡ self.old) }
         ensures only { IfErr result (λ e. e ≡ ErrorKind.NoMemory) }
         ensures read { IsRead self.new }
         ensures faults { P.faults port.old ≤ P.faults port.new }
-        ensures io_error { (fault : IoFault) → has_ended self.old.talk ≡ false → fault_of self.new.talk ≡ Some fault
+        ensures cause { (k : ErrorKind) → has_ended self.old.talk ≡ false → end_of self.new.talk ≡ Some (Err k)
+            → BringsOne k told.at told.step bytes.now self.old self.new (P.log port.old) (P.log port.new) }
+        ensures io_error_counted { (fault : IoFault) → has_ended self.old.talk ≡ false → fault_of self.new.talk ≡ Some fault
             → (brought told.step self.old.talk ≡ Some fault) ⊎ ((fault ≡ IoFault.BrokenPipe) × Rose (P.faults port.old) (P.faults port.new)) }
     {
         Ok(self.wire.apply(told, bytes, port)?)

@@ -3,10 +3,12 @@
 ghost use Rattle.std.specs.Prelude.{◌≡◌, ℕ, ◌+◌, [], false, true, List, Option, map};
 ghost use Rattle.std.specs.List.{AllByRecursion};
 ghost use Rattle.amqp_session.specs.Talk.{has_ended};
-ghost use Rattle.amqp_engine.specs.Log.{Log};
+ghost use Rattle.amqp_engine.specs.declared.given.Given.{Given};
+ghost use Rattle.amqp_engine.specs.Log.{Log, loaded};
 ghost use Rattle.amqp_engine.specs.Engine.{Engine, begin};
 ghost use Rattle.amqp_engine.specs.Turn.{Turn, turn, IsTurn, AreTurns};
 ghost use Rattle.amqp_engine.specs.Tell.{Runs, PlaysTurns, log_turns};
+ghost use Rattle.amqp_engine.specs.Play.{replayed};
 ghost use Rattle.amqp_engine.specs.Sending.{sendings, link_bytes, SendsInOrder};
 ghost use Rattle.amqp_engine.specs.Unread.{IsRead};
 
@@ -23,6 +25,13 @@ pub fn a_run_goes_on()
     ensures { (m n : ℕ) (first middle last : Engine) (before between after : Option Log)
         → Runs m first middle before between → has_ended middle.talk ≡ false → Runs n middle last between after
         → Runs (m + n) first last before after }
+{}
+
+/// The turns of a script are turns of a new engine over a port that plays the script. So what holds
+/// of all turns holds of these.
+pub fn a_script_has_its_turns()
+    ensures turns { (gs : List Given) → AreTurns (replayed gs) begin }
+    ensures plays { (gs : List Given) → PlaysTurns (replayed gs) begin (loaded gs) }
 {}
 
 /// What a port tells of its links, which had none before a new engine ran over it, are the bytes of

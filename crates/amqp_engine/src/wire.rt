@@ -14,7 +14,7 @@ ghost use Rattle.amqp_frame.specs.declared.frame.Read.TheVariants as reads;
 ghost use Rattle.amqp_engine.specs.Turn.{asks, is_part, reading, offered, answered, is_all};
 ghost use Rattle.amqp_engine.specs.Tell.{Applies, TellsOffers, offers_from, log_asks};
 ghost use Rattle.amqp_engine.specs.Play.{waiting};
-ghost use Rattle.amqp_engine.specs.Making.{making, parts_of, is_command, is_whole, Allows, Writes, BringsNone, BreaksPipe};
+ghost use Rattle.amqp_engine.specs.Making.{making, parts_of, is_command, is_whole, FewParts, Allows, Writes, BringsNone, BreaksPipe};
 ghost use Rattle.amqp_engine.specs.Counts.{Rose};
 ghost use Rattle.amqp_engine.specs.Causes.{fault_of, brought};
 
@@ -139,14 +139,21 @@ impl Wire {
     /// A turn from its step on.
     pub fn apply<P: Port>(&mut self, told: Told, bytes: &[u8], port: &mut P) -> Result<(), NoMemory>
         ensures turn { Applies told.at told.step bytes.now self.old self.new (P.log port.old) (P.log port.new) }
-        ensures starved { MatchResult result (λ _. self.new.starved ≡ self.old.starved) (λ _. IsSome self.new.starved) }
+        ensures starved { MatchResult result (λ _. self.new.starved ≡ self.old.starved)
+            (λ _. has_ended self.old.talk ≡ false → IsSome self.new.starved) }
         ensures ended { OnErr result (IsTrue (has_ended self.new.talk)) }
+        ensures over { OnErr result (has_ended self.old.talk ≡ true → self.new ≡ self.old) }
         ensures faults { P.faults port.old ≤ P.faults port.new }
-        ensures io_error { (fault : IoFault) → has_ended self.old.talk ≡ false → fault_of self.new.talk ≡ Some fault
+        ensures io_error_counted { (fault : IoFault) → has_ended self.old.talk ≡ false → fault_of self.new.talk ≡ Some fault
             → (brought told.step self.old.talk ≡ Some fault) ⊎ ((fault ≡ IoFault.BrokenPipe) × Rose (P.faults port.old) (P.faults port.new)) }
     {
         let Told { at, step } = told;
         let piece = step.is_piece();
+        if self.session.has_ended() {
+            // What has ended reads and writes nothing, and is not starved.
+            self.take_step(at, step, bytes)?;
+            return Ok(());
+        }
         let Ok(mut parts) = self.take_step(at, step, bytes) else {
             self.cut(at, 0);
             return Err(NoMemory);
@@ -286,7 +293,7 @@ impl Wire {
             → reading piece (making at cut self.old parts.old) ≡ making at cut self.new parts.new) }
         ensures err { OnErr result ((e : Engine) × (self.new ≡ rule_at at starve e)
             × (reading piece (making at (Some parts.new) self.old parts.old) ≡ making at (Some parts.new) e parts.new)) }
-        ensures bound { 2 * parts.new < 2 ^ 63 + 4 }
+        ensures bound { FewParts parts.new }
         ensures grows { parts.old ≤ parts.new }
         ensures starved { self.new.starved ≡ self.old.starved }
         ensures faultless { BringsNone self.old.talk self.new.talk }
@@ -387,7 +394,7 @@ impl Wire {
 
     // Writes while all that is offered is taken, and counts the offers as parts.
     fn write_all<P: Port>(&mut self, at: u64, port: &mut P, parts: &mut u64) -> Result<(), NoMemory>
-        requires { 2 * parts.old < 2 ^ 63 + 4 }
+        requires { FewParts parts.old }
         ensures ok { OnOk result ((ws : List Wrote)
             × ((cut : Option ℕ) → Allows cut parts.new → Writes ws (making at cut self.old parts.old) (making at cut self.new parts.new))
             × TellsOffers (offers_from at ws self.old) (P.log port.old) (P.log port.new)) }
@@ -399,6 +406,7 @@ impl Wire {
         ensures faults { P.faults port.old ≤ P.faults port.new }
         ensures failed { BreaksPipe self.old.talk self.new.talk (P.faults port.old) (P.faults port.new) }
     {
+        // So few frames wait that the offers can be counted.
         let _waiting = self.session.waiting();
         'writes: while let Some(offered) = self.offer(at, port) {
             *parts += 1;
@@ -482,7 +490,7 @@ impl Wire {
         }
     }
 
-    // Memory was refused after so many parts of a turn.
+    // Memory was refused after so many parts of a turn, and the session ends.
     fn cut(&mut self, at: u64, parts: u64)
         ensures { self.new ≡ starve_at at parts self.old }
     {

@@ -2,4 +2,4 @@ use Rattle.amqp_engine.proofs.LeftUnread.{turn-read}
 use Rattle.amqp_engine.proofs.laws.nothing_whole_is_left_unread.Goals as goal
 
 pub returns-clause-turn : goal.returns-clause-turn
-returns-clause-turn c = λ u e h may. turn-read u e h
+returns-clause-turn c = λ u e h may. turn-read u e may h

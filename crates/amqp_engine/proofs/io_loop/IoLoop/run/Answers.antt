@@ -1,25 +1,45 @@
+use Rattle.std.proofs.Common.{◌≡◌, ◌∙◌, ◌⊎◌, inl, inr, Bool, true, false, Option, Some, None, Result, Ok, Err, is_some, refl, ap, sym, subst}
+use Rattle.amqp_session.specs.declared.error.ErrorKind.{ErrorKind}
+use Rattle.amqp_session.specs.declared.error.ErrorKind.TheVariants.{OutOfTurns, NoMemory}
+use Rattle.amqp_session.specs.Talk.{end_of, has_ended}
+use Rattle.amqp_engine.specs.Engine.{Engine}
+use Rattle.amqp_session.specs.Answers.{HandsOut}
 use Rattle.amqp_engine.proofs.Playing.{runs-played}
-use Rattle.amqp_engine.proofs.Faults.{runs-fault}
 use Rattle.amqp_engine.proofs.TurnEnds.{runs-bring}
 use Rattle.amqp_engine.proofs.io_loop.IoLoop.run.Goals as goal
+use Rattle.amqp_engine.proofs.io_loop.IoLoop.run.Goals.{in-Some, in-None}
 
 pub returns-clause-played : goal.returns-clause-played
 returns-clause-played g c = runs-played _ _ _ _ _ c.take_turns.ensures.turns
 
-pub returns-clause-io_error : goal.returns-clause-io_error
-returns-clause-io_error g c fault running h = runs-fault _ _ _ _ _ fault c.take_turns.ensures.turns running h
+pub returns-clause-cause : goal.returns-clause-cause
+returns-clause-cause g c k running h = runs-bring _ _ _ _ _ k c.take_turns.ensures.turns running h
 
-pub returns-clause-parsing_error : goal.returns-clause-parsing_error
-returns-clause-parsing_error g c of running h = runs-bring _ _ _ _ _ _ c.take_turns.ensures.turns running h
+-- where there is an end, no other error is answered
+otherwise : (o given : Option (Result (Unit {0}) ErrorKind)) (r : Result (Unit {0}) ErrorKind) → HandsOut o given → given ≡ Some r
+    → (o ≡ Some (Err OutOfTurns) → ⊥) → r ≡ Err OutOfTurns → ⊥
+otherwise None given r h some never is = cc
+otherwise (Some (Ok x)) given r h some never is = cc
+otherwise (Some (Err e)) given r (inl h) some never is =
+    let same : Some (Err e) ≡ Some (Err OutOfTurns) = sym h ∙ some ∙ ap Some is in
+    never same
+otherwise (Some (Err e)) given r (inr h) some never is = cc
 
-pub returns-clause-invalid_protocol_version : goal.returns-clause-invalid_protocol_version
-returns-clause-invalid_protocol_version g c of running h = runs-bring _ _ _ _ _ _ c.take_turns.ensures.turns running h
+none-given : (o : Option (Result (Unit {0}) ErrorKind)) → HandsOut o None → is_some o ≡ false
+none-given None h = refl
+none-given (Some (Ok x)) h = cc
+none-given (Some (Err e)) (inl h) = cc
+none-given (Some (Err e)) (inr h) = cc
 
-pub returns-clause-invalid_connection_state : goal.returns-clause-invalid_connection_state
-returns-clause-invalid_connection_state g c of running h = runs-bring _ _ _ _ _ _ c.take_turns.ensures.turns running h
-
-pub returns-clause-invalid_channel : goal.returns-clause-invalid_channel
-returns-clause-invalid_channel g c of running h = runs-bring _ _ _ _ _ _ c.take_turns.ensures.turns running h
-
-pub returns-clause-protocol_error : goal.returns-clause-protocol_error
-returns-clause-protocol_error g c of running h = runs-bring _ _ _ _ _ _ c.take_turns.ensures.turns running h
+pub returns-clause-only_out_of_turns : goal.returns-clause-only_out_of_turns
+returns-clause-only_out_of_turns g c running is =
+    let t = c.session.result.now in
+    let here : t ≡ c.take_turns.new.self.talk = c.session.ensures ∙ ap (λ (x : Engine). x.talk) c.self.view_is in
+    let never : end_of t ≡ Some (Err OutOfTurns) → ⊥ =
+    λ h. (runs-bring _ _ _ _ _ OutOfTurns c.take_turns.ensures.turns running (ap end_of (sym here) ∙ h)).cause.error_read in
+    elim c.match-end.branch [
+      | in-Some w ↦ absurd (otherwise (end_of t) c.end.result c.match-end.result c.end.ensures (w.in-Some.is ∙ ap Some (sym w.result-is)) never is)
+      | in-None w ↦
+          let P : Option (Result (Unit {0}) ErrorKind) → Type 0 = λ o. HandsOut (end_of t) o in
+          ap has_ended (sym here) ∙ none-given (end_of t) (subst P w.in-None.is c.end.ensures)
+    ]

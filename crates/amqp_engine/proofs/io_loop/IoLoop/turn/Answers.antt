@@ -7,7 +7,8 @@ use Rattle.amqp_engine.specs.Tell.{log_asks}
 use Rattle.amqp_engine.specs.Unread.{IsRead}
 use Rattle.amqp_engine.proofs.LeftUnread.{asks-read, Applies-read}
 use Rattle.amqp_engine.proofs.Running.{turns-of, take-written, length-written}
-use Rattle.amqp_engine.proofs.Faults.{asks-running, counted-rose}
+use Rattle.amqp_engine.proofs.Faults.{counted-rose}
+use Rattle.amqp_engine.proofs.Over.{asks-running}
 use Rattle.amqp_engine.proofs.io_loop.IoLoop.turn.Goals as goal
 
 pub returns-clause-turn : goal.returns-clause-turn
@@ -40,4 +41,4 @@ returns-clause-io_error_counted g c fault h counted =
     let asked = c.ask.ensures.engine ∙ ap asks c.self.view_is in
     let running : has_ended c.ask.new.self.talk ≡ false = ap (λ (x : Engine). has_ended x.talk) asked ∙ asks-running c.args.self.now c.requires in
     counted-rose c.next-told.result.step c.ask.new.self.talk fault _ _ _ _ c.ask.ensures.faults c.next-told.ensures.faults c.apply.ensures.faults
-    c.next-told.ensures.cause (c.apply.ensures.io_error fault running h) counted
+    c.next-told.ensures.cause (c.apply.ensures.io_error_counted fault running h) counted

@@ -1,0 +1,233 @@
+-- What each small step of a turn keeps, a turn keeps, and so do turns.
+use Rattle.std.proofs.Common.{◌≡◌, ◌≤◌, ◌⊎◌, inl, inr, ℕ, zero, suc, ◌+◌, ◌&&◌, not, if◌then◌else◌, Bool, true, false, IsTrue, IsFalse, MatchBool, List, [], ◌∷◌, length, Option, Some, None, refl, ap, sym, ◌∙◌, subst, arith}
+use Rattle.amqp_session.specs.Talk.{has_ended}
+use Rattle.amqp_engine.specs.declared.port.Step.{Step}
+use Rattle.amqp_engine.specs.declared.port.Step.TheVariants.{Linked, LinkFailed, Piece, End, Fault, Room, Tick, Command}
+use Rattle.amqp_engine.specs.declared.port.Wrote.{Wrote}
+use Rattle.amqp_engine.specs.Log.{IsWithin}
+use Rattle.amqp_engine.specs.Engine.{Engine, step_engine, can_read, read_one, can_write, starve_at}
+use Rattle.amqp_engine.specs.Turn.{Turn, Progress, asks, begun, goes, is_before, part, is_part, is_piece, step_part, reads, read_part, reading, drain, offer_part, offered, answered, is_all, AreAnswers, read, written, turn, turns, starved_after, IsCut, IsTurn, AreTurns}
+use Rattle.amqp_engine.proofs.Cases.{if_case, if_by, if-true, if-false, and-left, and-right, and-other}
+use Rattle.amqp_engine.proofs.Over.{turn-is}
+use Rattle.amqp_engine.proofs.Reading.{reads-done, reading-cut}
+
+-- ---- what no part changes
+
+pub stays-reads : {A : Type 0} (f : Progress → A) (h : (e : Engine) (n : ℕ) (p : Progress) → f (record p { engine = e; done = n }) ≡ f p) (n : ℕ) (p : Progress)
+    → f (reads n p) ≡ f p
+stays-reads f h zero p = refl
+stays-reads f h (suc n) p =
+    if_case (λ (x : Progress). f x ≡ f p) (goes p && can_read p.engine) (reads n (read_part p)) p (stays-reads f h n (read_part p) ∙ h _ _ p) refl
+
+stays-step : {A : Type 0} (f : Progress → A) (h : (e : Engine) (n : ℕ) (p : Progress) → f (record p { engine = e; done = n }) ≡ f p) (step : Step) (bytes : List ℕ) (p : Progress)
+    → f (step_part step bytes p) ≡ f p
+stays-step f h step bytes p =
+    let after = step_engine p.at step bytes p.engine in
+    if_case (λ (x : Progress). f x ≡ f p) (is_part step p.engine) (if goes p then part after p else p) (record p { engine = after })
+    (if_case (λ (x : Progress). f x ≡ f p) (goes p) (part after p) p (h _ _ p) refl) (h _ _ p)
+
+pub stays-read : {A : Type 0} (f : Progress → A) (h : (e : Engine) (n : ℕ) (p : Progress) → f (record p { engine = e; done = n }) ≡ f p) (u : Turn) (e : Engine)
+    → f (read u e) ≡ f (begun u.at u.notes.starved e)
+stays-read f h u e =
+    let p = begun u.at u.notes.starved e in
+    let s = step_part u.step u.bytes p in
+    if_case (λ (x : Progress). f x ≡ f s) (is_piece u.step) (reads (length s.engine.unread) s) s (stays-reads f h (length s.engine.unread) s) refl
+    ∙ stays-step f h u.step u.bytes p
+
+pub stays-drain : {A : Type 0} (f : Progress → A) (h : (e : Engine) (n : ℕ) (p : Progress) → f (record p { engine = e; done = n }) ≡ f p) (ws : List Wrote) (p : Progress)
+    → f (drain ws p) ≡ f p
+stays-drain f h [] p = refl
+stays-drain f h (w ∷ ws) p = stays-drain f h ws (offer_part w p) ∙ h _ _ p
+
+-- the answers are at the turn's own moment
+pub read-at : (u : Turn) (e : Engine) → (read u e).at ≡ u.at
+read-at u e = stays-read (λ (x : Progress). x.at) (λ f n x. refl) u e
+
+pub read-cut : (u : Turn) (e : Engine) → (read u e).cut ≡ u.notes.starved
+read-cut u e = stays-read (λ (x : Progress). x.cut) (λ f n x. refl) u e
+
+-- after one answer there are more, or none
+pub all-rest : (b : Bool) (ws : List Wrote) (p : Progress) → MatchBool b (AreAnswers ws p) (ws ≡ []) → (ws ≡ []) ⊎ AreAnswers ws p
+all-rest true ws p h = inr h
+all-rest false ws p h = inl h
+
+-- ---- what is folded beside the engine: by the asking, the step and each offer
+
+module _ (X : Type 0) (ask : Engine → X → X) (stepped : ℕ → Step → List ℕ → Engine → X → X) (offering : ℕ → Wrote → Engine → X → X) where
+  abbrev pub offers_on : ℕ → List Wrote → Engine → X → X
+  offers_on at [] e x = x
+  offers_on at (w ∷ ws) e x = offers_on at ws (answered at w e) (offering at w e x)
+
+  abbrev pub turn_on : Turn → Engine → X → X
+  turn_on u e x = offers_on u.at u.notes.answers (read u (asks e)).engine (stepped u.at u.step u.bytes (asks e) (ask e x))
+
+  abbrev pub turns_on : List Turn → Engine → X → X
+  turns_on [] e x = x
+  turns_on (u ∷ us) e x = turns_on us (turn u e) (turn_on u e x)
+
+  -- P holds between turns; R while a piece is read; W b before the writes, where b says that the turn is not cut before them
+  pub record Small (R : Engine → X → Type 0) (W : Bool → Engine → X → Type 0) (P : Engine → X → Type 0) : Type 0 where
+    pub asked : (e : Engine) (x : X) → P e x → P (asks e) (ask e x)
+    pub step : (at : ℕ) (step : Step) (bytes : List ℕ) (e : Engine) (x : X) → is_piece step ≡ false → P e x
+        → (b : Bool) → W b (step_engine at step bytes e) (stepped at step bytes e x)
+    pub piece : (at n : ℕ) (bytes : List ℕ) (e : Engine) (x : X) → P e x → R (step_engine at (Piece n) bytes e) (stepped at (Piece n) bytes e x)
+    pub read : (at : ℕ) (e : Engine) (x : X) → can_read e ≡ true → R e x → R (read_one at e) x
+    pub heard : (b : Bool) (e : Engine) (x : X) → (b ≡ true → can_read e ≡ false) → R e x → W b e x
+    pub offer : (at : ℕ) (w : Wrote) (e : Engine) (x : X) → can_write e ≡ true → IsWithin (length (offered e)) w → W true e x → P (answered at w e) (offering at w e x)
+    pub rest : (e : Engine) (x : X) → can_write e ≡ false → W true e x → P e x
+    pub less : (b : Bool) (e : Engine) (x : X) → P e x → W b e x
+    pub starve : (b : Bool) (at j : ℕ) (e : Engine) (x : X) → W b e x → P (starve_at at j e) x
+    -- the turn was cut before its step
+    pub cut : (at : ℕ) (step : Step) (bytes : List ℕ) (e : Engine) (x : X) → is_part step e ≡ true → P e x → P (starve_at at 0 e) (stepped at step bytes e x)
+
+  module _ (R : Engine → X → Type 0) (W : Bool → Engine → X → Type 0) (P : Engine → X → Type 0) (k : Small R W P) where
+    lift-reads : (n : ℕ) (p : Progress) (x : X) → R p.engine x → R (reads n p).engine x
+    lift-reads zero p x h = h
+    lift-reads (suc n) p x h =
+        if_by (λ (y : Progress). R y.engine x) (goes p && can_read p.engine) (reads n (read_part p)) p
+        (λ on. lift-reads n (read_part p) x (k.read p.at p.engine x (and-right (goes p) (can_read p.engine) on) h)) (λ off. h)
+
+    -- before the writes, or cut before the step
+    abbrev Ready : Turn → Engine → X → Progress → Type 0
+    Ready u e x p =
+        W (goes p) p.engine (stepped u.at u.step u.bytes e x)
+        ⊎ ((p ≡ begun u.at u.notes.starved e) × (goes p ≡ false) × (is_part u.step e ≡ true))
+
+    lift-plain : (step : Step) (at : ℕ) (bytes : List ℕ) (e : Engine) (x : X) (s : Progress) → is_piece step ≡ false → s.engine ≡ step_engine at step bytes e → P e x
+        → W (goes s) s.engine (stepped at step bytes e x)
+    lift-plain step at bytes e x s other is h =
+        let Q : Engine → Type 0 = λ z. W (goes s) z (stepped at step bytes e x) in
+        subst Q (sym is) (k.step at step bytes e x other h (goes s))
+
+    -- the step is done
+    lift-done : (step : Step) (at : ℕ) (bytes : List ℕ) (e : Engine) (x : X) (s : Progress) → s.engine ≡ step_engine at step bytes e → P e x
+        → W (goes (reading (is_piece step) s)) (reading (is_piece step) s).engine (stepped at step bytes e x)
+    lift-done (Piece n) at bytes e x s is h =
+        let y = stepped at (Piece n) bytes e x in
+        let q = reads (length s.engine.unread) s in
+        let Q : Engine → Type 0 = λ z. R z y in
+        k.heard (goes q) q.engine y (λ on. and-other (goes q) (can_read q.engine) on (reads-done (length s.engine.unread) s (omega arith)))
+        (lift-reads (length s.engine.unread) s y (subst Q (sym is) (k.piece at n bytes e x h)))
+    lift-done Linked at bytes e x s is h = lift-plain Linked at bytes e x s refl is h
+    lift-done LinkFailed at bytes e x s is h = lift-plain LinkFailed at bytes e x s refl is h
+    lift-done End at bytes e x s is h = lift-plain End at bytes e x s refl is h
+    lift-done Fault at bytes e x s is h = lift-plain Fault at bytes e x s refl is h
+    lift-done Room at bytes e x s is h = lift-plain Room at bytes e x s refl is h
+    lift-done Tick at bytes e x s is h = lift-plain Tick at bytes e x s refl is h
+    lift-done (Command c) at bytes e x s is h = lift-plain (Command c) at bytes e x s refl is h
+
+    lift-read : (u : Turn) (e : Engine) (x : X) → P e x → Ready u e x (read u e)
+    lift-read u e x h =
+        let p = begun u.at u.notes.starved e in
+        let after = step_engine u.at u.step u.bytes e in
+        let Q : Progress → Type 0 = λ s. Ready u e x (reading (is_piece u.step) s) in
+        if_by Q (is_part u.step e) (if goes p then part after p else p) (record p { engine = after })
+        (λ is. if_by Q (goes p) (part after p) p
+        (λ on. inl (lift-done u.step u.at u.bytes e x (part after p) refl h))
+        (λ off.
+        let same : reading (is_piece u.step) p ≡ p = reading-cut (is_piece u.step) p off in
+        inr (same, ap goes same ∙ off, is)))
+        (λ no. inl (lift-done u.step u.at u.bytes e x (record p { engine = after }) refl h))
+
+    -- after the writes
+    abbrev Out : Progress → X → Type 0
+    Out q y = P q.engine y ⊎ (W false q.engine y × (goes q ≡ false))
+
+    lift-none : (b : Bool) (p : Progress) (x : X) → goes p ≡ b → IsFalse (goes p && can_write p.engine) → W (goes p) p.engine x → Out p x
+    lift-none true p x on may w =
+        let Q : Bool → Type 0 = λ b. W b p.engine x in
+        inl (k.rest p.engine x (and-other (goes p) (can_write p.engine) on may) (subst Q on w))
+    lift-none false p x off may w =
+        let Q : Bool → Type 0 = λ b. W b p.engine x in
+        inr (subst Q off w, off)
+
+    lift-drain : (ws : List Wrote) (p : Progress) (x : X) → AreAnswers ws p → W (goes p) p.engine x → Out (drain ws p) (offers_on p.at ws p.engine x)
+    lift-drain [] p x may w = lift-none (goes p) p x refl may w
+    lift-drain (w ∷ ws) p x may h =
+        let on : goes p ≡ true = and-left (goes p) (can_write p.engine) may.0 in
+        let can : can_write p.engine ≡ true = and-right (goes p) (can_write p.engine) may.0 in
+        let B : Bool → Type 0 = λ b. W b p.engine x in
+        let q = offer_part w p in
+        let y = offering p.at w p.engine x in
+        let next : P q.engine y = k.offer p.at w p.engine x can may.1 (subst B on h) in
+        let Q : List Wrote → Type 0 = λ vs. Out (drain vs q) (offers_on p.at vs q.engine y) in
+        elim (all-rest (is_all w (length (offered p.engine))) ws q may.3) [
+          | inl none ↦ subst Q (sym none) (inl next)
+          | inr more ↦ lift-drain ws q y more (k.less (goes q) q.engine y next)
+        ]
+
+    lift-starved : (cut : Option ℕ) (at : ℕ) (q : Progress) (y : X) → q.cut ≡ cut → Out q y → P (starved_after cut at q.engine) y
+    lift-starved None at q y is (inl h) = h
+    lift-starved None at q y is (inr h) =
+        let on : goes q ≡ true = ap (λ (c : Option ℕ). is_before c q.done) is in
+        let off : goes q ≡ false = h.1 in
+        absurd cc
+    lift-starved (Some j) at q y is (inl h) = k.starve true at j q.engine y (k.less true q.engine y h)
+    lift-starved (Some j) at q y is (inr h) = k.starve false at j q.engine y h.0
+
+    -- nothing is written where the turn is cut before
+    stops-none : (ws : List Wrote) (p : Progress) → goes p ≡ false → AreAnswers ws p → ws ≡ []
+    stops-none [] p off may = refl
+    stops-none (w ∷ ws) p off may =
+        let on : goes p ≡ true = and-left (goes p) (can_write p.engine) may.0 in
+        absurd cc
+
+    lift-cut : (s : Option ℕ) (at n : ℕ) (e : Engine) (y : X) → n ≡ 0 → is_before s n ≡ false → IsCut s n → P (starve_at at 0 e) y → P (starved_after s at e) y
+    lift-cut None at n e y none off cut h = absurd cc
+    lift-cut (Some j) at n e y none off cut h =
+        let Q : ℕ → Type 0 = λ m. P (starve_at at m e) y in
+        subst Q (sym none ∙ cut) h
+
+    pub lift-turn : (u : Turn) (e : Engine) (x : X) → IsTurn u e → P e x → P (turn u e) (turn_on u e x)
+    lift-turn u e x may h =
+        let a = asks e in
+        let x' = ask e x in
+        let r = read u a in
+        let ws = u.notes.answers in
+        let y = stepped u.at u.step u.bytes a x' in
+        let D : Engine → Type 0 = λ z. P z (turn_on u e x) in
+        subst D (sym (turn-is u e may.running)) (elim (lift-read u a x' (k.asked e x h)) [
+          | inl w ↦
+              let out : Out (drain ws r) (offers_on r.at ws r.engine y) = lift-drain ws r y may.applied.answers w in
+              let Q : ℕ → Type 0 = λ at. Out (drain ws r) (offers_on at ws r.engine y) in
+              lift-starved u.notes.starved u.at (written u a) (turn_on u e x)
+              (stays-drain (λ (p : Progress). p.cut) (λ f n p. refl) ws r ∙ read-cut u a) (subst Q (read-at u a) out)
+          | inr t ↦
+              let none : ws ≡ [] = stops-none ws r t.1 may.applied.answers in
+              let same : written u a ≡ begun u.at u.notes.starved a = ap (λ vs. drain vs r) none ∙ t.0 in
+              let said : turn_on u e x ≡ y = ap (λ vs. offers_on u.at vs r.engine y) none in
+              let E : Engine → Type 0 = λ z. P (starved_after u.notes.starved u.at z) (turn_on u e x) in
+              let F : X → Type 0 = λ z. P (starve_at u.at 0 a) z in
+              let C : ℕ → Type 0 = λ n. IsCut u.notes.starved n in
+              subst E (sym (ap (λ (p : Progress). p.engine) same))
+              (lift-cut u.notes.starved u.at 0 a (turn_on u e x) refl (sym (ap goes t.0) ∙ t.1)
+              (subst C (ap (λ (p : Progress). p.done) same) may.applied.cut) (subst F (sym said) (k.cut u.at u.step u.bytes a x' t.2 (k.asked e x h))))
+        ])
+
+    pub lift-turns : (us : List Turn) (e : Engine) (x : X) → AreTurns us e → P e x → P (turns us e) (turns_on us e x)
+    lift-turns [] e x may h = h
+    lift-turns (u ∷ us) e x may h = lift-turns us (turn u e) (turn_on u e x) may.1 (lift-turn u e x may.0 h)
+
+  -- the same of what holds all through a turn
+  pub record Simple (P : Engine → X → Type 0) : Type 0 where
+    pub asked : (e : Engine) (x : X) → P e x → P (asks e) (ask e x)
+    pub step : (at : ℕ) (step : Step) (bytes : List ℕ) (e : Engine) (x : X) → P e x → P (step_engine at step bytes e) (stepped at step bytes e x)
+    pub read : (at : ℕ) (e : Engine) (x : X) → can_read e ≡ true → P e x → P (read_one at e) x
+    pub offer : (at : ℕ) (w : Wrote) (e : Engine) (x : X) → can_write e ≡ true → IsWithin (length (offered e)) w → P e x → P (answered at w e) (offering at w e x)
+    pub starve : (at j : ℕ) (e : Engine) (x : X) → P e x → P (starve_at at j e) x
+    pub cut : (at : ℕ) (step : Step) (bytes : List ℕ) (e : Engine) (x : X) → is_part step e ≡ true → P e x → P (starve_at at 0 e) (stepped at step bytes e x)
+
+  pub simply : (P : Engine → X → Type 0) → Simple P → Small P (λ b. P) P
+  simply P k =
+      record {
+        asked = k.asked;
+        step = λ at step bytes e x other h b. k.step at step bytes e x h;
+        piece = λ at n bytes e x h. k.step at (Piece n) bytes e x h;
+        read = k.read;
+        heard = λ b e x f h. h;
+        offer = k.offer;
+        rest = λ e x can h. h;
+        less = λ b e x h. h;
+        starve = λ b at j e x h. k.starve at j e x h;
+        cut = k.cut;
+      }
