@@ -1,8 +1,9 @@
 -- A turn from its step on, out of the contracts of its parts.
 use Rattle.std.proofs.Common.{◌≡◌, ℕ, if◌then◌else◌, Bool, true, false, IsFalse, List, [], ◌++◌, Option, Some, None, refl, ap, sym, ◌∙◌, subst}
 use Rattle.amqp_session.specs.Talk.{Talk, is_asked, is_open, has_ended}
+use Rattle.amqp_session.specs.declared.io_fault.IoFault.TheVariants.{Aborted, Reset}
 use Rattle.amqp_session.specs.Changes.{present_at, starve}
-use Rattle.amqp_session.specs.Links.{linked, piece}
+use Rattle.amqp_session.specs.Links.{linked, link_failed, piece, lost}
 use Rattle.amqp_engine.specs.declared.port.Step.{Step}
 use Rattle.amqp_engine.specs.declared.port.Step.TheVariants.{Linked, LinkFailed, Piece, End, Fault, Room, Tick, Command}
 use Rattle.amqp_engine.specs.declared.port.Wrote.{Wrote}
@@ -22,7 +23,7 @@ use Rattle.amqp_engine.proofs.Telling.{tells-none}
 -- memory that is refused twice was refused once
 pub starve_at-twice : (at j : ℕ) (e : Engine) → starve_at at j (rule_at at starve e) ≡ starve_at at j e
 starve_at-twice at j e =
-    ap (λ (t : Talk). record e { talk = t; unread = []; place = 0; starved = Some j }) (starve-twice at e.talk)
+    ap (λ (t : Talk). record e { talk = t; unread = []; place = 0; unsent = []; starved = Some j }) (starve-twice at e.talk)
 
 -- the step's part is done, where it is one
 pub step-done : (at : ℕ) (cut : Option ℕ) (step : Step) (bytes : List ℕ) (e : Engine) (b : Bool)
@@ -101,12 +102,13 @@ pub step-starved : (at : ℕ) (step : Step) (bytes : List ℕ) (e : Engine) → 
 step-starved at Linked bytes e =
     if_case (λ (x : Engine). x.starved ≡ e.starved) (is_asked e.talk)
     (record { talk = linked (present_at at e.talk); unread = []; place = 0; unsent = []; starved = e.starved }) (rule_at at (λ t. t) e) refl refl
-step-starved at LinkFailed bytes e = settle-starved _
+step-starved at LinkFailed bytes e = settle-starved (rule_at at link_failed e)
 step-starved at (Piece n) bytes e =
+    let x : Engine = record e { talk = piece (present_at at e.talk); unread = e.unread ++ bytes } in
     if_case (λ (x : Engine). x.starved ≡ e.starved) (is_open e.talk)
-    (settle (record e { talk = piece (present_at at e.talk); unread = e.unread ++ bytes })) (rule_at at (λ t. t) e) (settle-starved _) refl
-step-starved at End bytes e = settle-starved _
-step-starved at Fault bytes e = settle-starved _
+    (settle x) (rule_at at (λ t. t) e) (settle-starved x) refl
+step-starved at End bytes e = settle-starved (rule_at at (lost Aborted) e)
+step-starved at Fault bytes e = settle-starved (rule_at at (lost Reset) e)
 step-starved at Room bytes e = refl
 step-starved at Tick bytes e = refl
 step-starved at (Command c) bytes e = refl

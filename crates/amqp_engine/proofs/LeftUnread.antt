@@ -20,16 +20,17 @@ use Rattle.amqp_engine.specs.declared.port.Step.{Step}
 use Rattle.amqp_engine.specs.declared.port.Step.TheVariants.{Linked, LinkFailed, Piece, End, Fault, Room, Tick, Command}
 use Rattle.amqp_engine.specs.declared.port.Wrote.{Wrote}
 use Rattle.amqp_engine.specs.declared.port.Wrote.TheVariants.{Took, Failed, NoMemory as WroteNoMemory}
-use Rattle.amqp_engine.specs.Engine.{Engine, front_of, is_more, can_read, rule_at, with_talk, step_engine, settle, took, wrote, commit_all, commits, starve_at}
+use Rattle.amqp_engine.specs.Engine.{Engine, front_of, is_more, can_read, rule_at, with_talk, step_engine, settle, took, wrote, frames_waiting, commit_all, commits, starve_at}
 use Rattle.amqp_engine.specs.Turn.{Progress, Turn, asks, wants_ask, goes, reads, read_part, reading, is_piece, step_part, is_part, begun, drain, offer_part, answered, read, written, applied, turn, starved_after, IsApplied, IsTurn}
 use Rattle.amqp_engine.specs.Log.{Log}
 use Rattle.amqp_engine.specs.Tell.{Applies, TakesTurn, turn_of}
 use Rattle.amqp_engine.specs.Unread.{IsRead}
-use Rattle.amqp_engine.proofs.Cases.{if_case, if-true, if-false, and-false, and-right}
+use Rattle.amqp_engine.proofs.Cases.{if_case, if_by, if-true, if-false, and-false, and-right}
 use Rattle.amqp_engine.proofs.Keeping.{present-keeps, stays-command, taken-keeps, taken-link, lost-stays, starve-ends}
 use Rattle.amqp_engine.proofs.Commits.{commits-keep}
 use Rattle.amqp_engine.proofs.Reading.{reads-done, front-none}
 use Rattle.amqp_engine.proofs.Over.{ended-closed, applied-ended}
+use Rattle.amqp_engine.proofs.Lifting as lifting
 
 -- ---- reading goes on to the end
 
@@ -107,36 +108,20 @@ pub frames-read : (opened : ℕ) (e : Engine) → IsRead e → IsRead (with_talk
 frames-read opened e h = same-read e (with_talk (take_frames opened) e) refl refl refl h
 
 -- where the unread bytes go, nothing is left of them
-settled-read : (b c : Bool) (x : Engine) → has_ended x.talk ≡ b → drops_input x.talk ≡ c
-    → (has_ended x.talk ≡ false → IsRead x) → IsRead (settle x)
-settled-read true c x hb hc h =
-    let gone : settle x ≡ record x { unread = []; place = 0 } =
-    if-true (has_ended x.talk || drops_input x.talk) (record x { unread = []; place = 0 }) x (ap (λ d. d || drops_input x.talk) hb) in
-    subst IsRead (sym gone) (λ opened. front-none (frame_limit x.talk.configuration))
-settled-read false true x hb hc h =
-    let gone : settle x ≡ record x { unread = []; place = 0 } =
-    if-true (has_ended x.talk || drops_input x.talk) (record x { unread = []; place = 0 }) x (ap (λ d. d || drops_input x.talk) hb ∙ hc) in
-    subst IsRead (sym gone) (λ opened. front-none (frame_limit x.talk.configuration))
-settled-read false false x hb hc h =
-    let stays : settle x ≡ x =
-    if-false (has_ended x.talk || drops_input x.talk) (record x { unread = []; place = 0 }) x (ap (λ d. d || drops_input x.talk) hb ∙ hc) in
-    subst IsRead (sym stays) (h hb)
-
-settle-read : (x : Engine) → (has_ended x.talk ≡ false → IsRead x) → IsRead (settle x)
-settle-read x h = settled-read (has_ended x.talk) (drops_input x.talk) x refl refl h
-
-both : (b : Bool) → b ≡ true → b ≡ false → ⊥
-both true h k = cc
-both false h k = cc
+settle-read : (x : Engine) → IsRead x → IsRead (settle x)
+settle-read x h =
+    if_by IsRead (is_open x.talk) (if drops_input x.talk then record x { unread = []; place = 0 } else x) (record x { unread = []; place = 0; unsent = [] })
+    (λ opened. if_case IsRead (drops_input x.talk) (record x { unread = []; place = 0 }) x (λ now. front-none (frame_limit x.talk.configuration)) h)
+    (λ closed. closed-read (record x { unread = []; place = 0; unsent = [] }) closed)
 
 -- a rule that does nothing or ends the session
 rule-read : (at : ℕ) (f : Talk → Talk) → ((t : Talk) → (f t ≡ t) ⊎ (has_ended (f t) ≡ true)) → (e : Engine) → IsRead e → IsRead (settle (rule_at at f e))
 rule-read at f h e k =
     let t = present_at at e.talk in
     let P : Talk → Type 0 = λ x. IsRead (record e { talk = x }) in
-    settle-read (rule_at at f e) (λ running. elim (h t) [
+    settle-read (rule_at at f e) (elim (h t) [
       | inl same ↦ subst P (sym same) (moment-read at e k)
-      | inr ended ↦ absurd (both (has_ended (f t)) ended running)
+      | inr ended ↦ closed-read (rule_at at f e) (ended-closed (f t).link ended)
     ])
 
 link_failed-stays : (t : Talk) → (link_failed t ≡ t) ⊎ (has_ended (link_failed t) ≡ true)
@@ -165,9 +150,9 @@ took-read at k e h =
     let here : Engine = rule_at at (λ y. y) e in
     let configuration : x.talk.configuration ≡ t.configuration =
     taken-keeps (λ y. y.configuration) (record { ends = λ y s l cs o ps. refl; writes = λ y w ms. refl; moments = λ y n. refl }) k t in
-    settle-read x (λ running. elim (taken-link k t) [
+    settle-read x (elim (taken-link k t) [
       | inl same ↦ same-read here x (ap is_open_link same) refl configuration (moment-read at e h)
-      | inr ended ↦ absurd (both (has_ended x.talk) ended running)
+      | inr ended ↦ closed-read x (ended-closed x.talk.link ended)
     ])
 
 wrote-read : (at : ℕ) (w : Wrote) (e : Engine) → IsRead e → IsRead (wrote at w e)
@@ -183,67 +168,54 @@ commits-read n e h =
     (commits-keep (λ (y : Engine). y.talk.configuration) (λ y fs ms bytes. refl) n e) h
 
 answered-read : (at : ℕ) (w : Wrote) (e : Engine) → IsRead e → IsRead (answered at w e)
-answered-read at w e h = wrote-read at w (commit_all e) (commits-read (length e.talk.control) e h)
-
-drain-read : (ws : List Wrote) (p : Progress) → IsRead p.engine → IsRead (drain ws p).engine
-drain-read [] p h = h
-drain-read (w ∷ ws) p h = drain-read ws (offer_part w p) (answered-read p.at w p.engine h)
+answered-read at w e h = wrote-read at w (commit_all e) (commits-read (frames_waiting e.talk) e h)
 
 -- ---- a turn
 
-reading-read : (b : Bool) (p : Progress) → goes p ≡ true → goes (reads (length p.engine.unread) p) ≡ true → (b ≡ false → IsRead p.engine) → IsRead (reading b p).engine
-reading-read true p go goes_on h =
-    let q = reads (length p.engine.unread) p in
-    let done : (goes q && can_read q.engine) ≡ false = reads-done (length p.engine.unread) p (omega arith) in
-    let cannot : can_read q.engine ≡ false = sym (ap (λ (b : Bool). b && can_read q.engine) goes_on) ∙ done in
-    cannot-read q.engine cannot
-reading-read false p go goes_on h = h refl
+asking : Engine → Unit {0} → Unit {0}
+asking e x = tt
 
-uncut-reads : (n : ℕ) (p : Progress) → p.cut ≡ None → goes (reads n p) ≡ true
-uncut-reads zero p h = rw h refl
-uncut-reads (suc n) p h =
-    if_case (λ (x : Progress). goes x ≡ true) (goes p && can_read p.engine) (reads n (read_part p)) p (uncut-reads n (read_part p) h) (rw h refl)
+stepping : ℕ → Step → List ℕ → Engine → Unit {0} → Unit {0}
+stepping at step bytes e x = tt
 
-step_part-engine : (b : Bool) (step : Step) (bytes : List ℕ) (at : ℕ) (e : Engine) → is_part step e ≡ b
-    → (step_part step bytes (begun at None e)).engine ≡ step_engine at step bytes e
-step_part-engine true step bytes at e h = rw h refl
-step_part-engine false step bytes at e h = rw h refl
+offering : ℕ → Wrote → Engine → Unit {0} → Unit {0}
+offering at w e x = tt
 
-step_part-cut : (b : Bool) (step : Step) (bytes : List ℕ) (at : ℕ) (e : Engine) → is_part step e ≡ b
-    → (step_part step bytes (begun at None e)).cut ≡ None
-step_part-cut true step bytes at e h = rw h refl
-step_part-cut false step bytes at e h = rw h refl
+-- while frames are read nothing is known
+abbrev While : Engine → Unit {0} → Type 0
+While e x = Unit {0}
 
-uncut-read : (u : Turn) (e : Engine) → u.notes.starved ≡ None → IsRead e → IsRead (read u e).engine
-uncut-read u e whole h =
-    let at = u.at in
-    let s = step_part u.step u.bytes (begun at None e) in
-    let same : step_part u.step u.bytes (begun at u.notes.starved e) ≡ s = ap (λ (x : Option ℕ). step_part u.step u.bytes (begun at x e)) whole in
-    let cut : s.cut ≡ None = step_part-cut (is_part u.step e) u.step u.bytes at e refl in
-    let engine : s.engine ≡ step_engine at u.step u.bytes e = step_part-engine (is_part u.step e) u.step u.bytes at e refl in
-    let P : Progress → Type 0 = λ x. IsRead (reading (is_piece u.step) x).engine in
-    subst P (sym same)
-    (reading-read (is_piece u.step) s (uncut-reads 0 s cut) (uncut-reads (length s.engine.unread) s cut)
-    (λ piece. subst IsRead (sym engine) (step-read at u.step u.bytes e piece h)))
+abbrev Before : Bool → Engine → Unit {0} → Type 0
+Before on e x = on ≡ true → IsRead e
 
-starved-read : (s : Option ℕ) (at : ℕ) (e : Engine) → (s ≡ None → IsRead e) → IsRead (starved_after s at e)
-starved-read None at e h = h refl
-starved-read (Some j) at e h =
+abbrev Between : Engine → Unit {0} → Type 0
+Between e x = IsRead e
+
+starved-read : (at j : ℕ) (e : Engine) → IsRead (starve_at at j e)
+starved-read at j e =
     closed-read (starve_at at j e) (ended-closed (starve (present_at at e.talk)).link (starve-ends (present_at at e.talk)))
 
-running-read : (u : Turn) (e : Engine) → IsRead e → IsRead (starved_after u.notes.starved u.at (written u e).engine)
-running-read u e h =
-    starved-read u.notes.starved u.at (written u e).engine (λ whole. drain-read u.notes.answers (read u e) (uncut-read u e whole h))
+small : lifting.Small (Unit {0}) asking stepping offering While Before Between
+small =
+    record {
+      asked = λ e x h. asks-read e h;
+      step = λ at step bytes e x other running h b on. step-read at step bytes e other h;
+      piece = λ at n bytes e x running h. tt;
+      read = λ at e x can h. tt;
+      heard = λ b e x done h on. cannot-read e (done on);
+      offer = λ at w e x can fits h. answered-read at w e (h refl);
+      rest = λ e x can h. h refl;
+      less = λ b e x h on. h;
+      starve = λ b at j e x h. starved-read at j e;
+      cut = λ at step bytes e x running part h. starved-read at 0 e;
+    }
 
 pub applied-read : (u : Turn) (e : Engine) → IsApplied u e → IsRead e → IsRead (applied u e)
 applied-read u e may h = by (has_ended e.talk) refl
   where
-    after : Engine
-    after = (written u e).engine
-
     by : (b : Bool) → has_ended e.talk ≡ b → IsRead (applied u e)
     by true over = closed-read (applied u e) (ended-closed (applied u e).talk.link (applied-ended u e over may.answers))
-    by false running = subst IsRead (sym (if-false (has_ended e.talk) after (starved_after u.notes.starved u.at after) running)) (running-read u e h)
+    by false running = lifting.lift-applied (Unit {0}) asking stepping offering While Before Between small u e tt running may h
 
 pub turn-read : (u : Turn) (e : Engine) → IsTurn u e → IsRead e → IsRead (turn u e)
 turn-read u e may h = applied-read u (asks e) may.applied (asks-read e h)

@@ -13,7 +13,9 @@ pub mod Playing
 pub mod LeftUnread
 pub mod Sent
 pub mod Agreeing
-pub mod Links
+pub mod LinkKept
+pub mod Sends
+pub mod LinkTold
 pub mod Bytes
 pub mod Pieces
 pub mod Ends

@@ -6,9 +6,9 @@ use Rattle.amqp_engine.specs.declared.port.Step.TheVariants.{Linked, LinkFailed,
 use Rattle.amqp_engine.specs.declared.port.Wrote.{Wrote}
 use Rattle.amqp_engine.specs.Log.{IsWithin}
 use Rattle.amqp_engine.specs.Engine.{Engine, step_engine, can_read, read_one, can_write, starve_at}
-use Rattle.amqp_engine.specs.Turn.{Turn, Progress, asks, begun, goes, is_before, part, is_part, is_piece, step_part, reads, read_part, reading, drain, offer_part, offered, answered, is_all, AreAnswers, read, written, turn, turns, starved_after, IsCut, IsTurn, AreTurns}
+use Rattle.amqp_engine.specs.Turn.{Turn, Progress, asks, begun, goes, is_before, part, is_part, is_piece, step_part, reads, read_part, reading, drain, offer_part, offered, answered, is_all, AreAnswers, read, written, applied, turn, turns, starved_after, IsCut, IsApplied, IsTurn, AreTurns}
 use Rattle.amqp_engine.proofs.Cases.{if_case, if_by, if-true, if-false, and-left, and-right, and-other}
-use Rattle.amqp_engine.proofs.Over.{turn-is}
+use Rattle.amqp_engine.proofs.Over.{asks-running}
 use Rattle.amqp_engine.proofs.Reading.{reads-done, reading-cut}
 
 -- ---- what no part changes
@@ -58,8 +58,11 @@ module _ (X : Type 0) (ask : Engine → X → X) (stepped : ℕ → Step → Lis
   offers_on at [] e x = x
   offers_on at (w ∷ ws) e x = offers_on at ws (answered at w e) (offering at w e x)
 
+  abbrev pub applied_on : Turn → Engine → X → X
+  applied_on u e x = offers_on u.at u.notes.answers (read u e).engine (stepped u.at u.step u.bytes e x)
+
   abbrev pub turn_on : Turn → Engine → X → X
-  turn_on u e x = offers_on u.at u.notes.answers (read u (asks e)).engine (stepped u.at u.step u.bytes (asks e) (ask e x))
+  turn_on u e x = applied_on u (asks e) (ask e x)
 
   abbrev pub turns_on : List Turn → Engine → X → X
   turns_on [] e x = x
@@ -68,9 +71,9 @@ module _ (X : Type 0) (ask : Engine → X → X) (stepped : ℕ → Step → Lis
   -- P holds between turns; R while a piece is read; W b before the writes, where b says that the turn is not cut before them
   pub record Small (R : Engine → X → Type 0) (W : Bool → Engine → X → Type 0) (P : Engine → X → Type 0) : Type 0 where
     pub asked : (e : Engine) (x : X) → P e x → P (asks e) (ask e x)
-    pub step : (at : ℕ) (step : Step) (bytes : List ℕ) (e : Engine) (x : X) → is_piece step ≡ false → P e x
+    pub step : (at : ℕ) (step : Step) (bytes : List ℕ) (e : Engine) (x : X) → is_piece step ≡ false → has_ended e.talk ≡ false → P e x
         → (b : Bool) → W b (step_engine at step bytes e) (stepped at step bytes e x)
-    pub piece : (at n : ℕ) (bytes : List ℕ) (e : Engine) (x : X) → P e x → R (step_engine at (Piece n) bytes e) (stepped at (Piece n) bytes e x)
+    pub piece : (at n : ℕ) (bytes : List ℕ) (e : Engine) (x : X) → has_ended e.talk ≡ false → P e x → R (step_engine at (Piece n) bytes e) (stepped at (Piece n) bytes e x)
     pub read : (at : ℕ) (e : Engine) (x : X) → can_read e ≡ true → R e x → R (read_one at e) x
     pub heard : (b : Bool) (e : Engine) (x : X) → (b ≡ true → can_read e ≡ false) → R e x → W b e x
     pub offer : (at : ℕ) (w : Wrote) (e : Engine) (x : X) → can_write e ≡ true → IsWithin (length (offered e)) w → W true e x → P (answered at w e) (offering at w e x)
@@ -78,7 +81,7 @@ module _ (X : Type 0) (ask : Engine → X → X) (stepped : ℕ → Step → Lis
     pub less : (b : Bool) (e : Engine) (x : X) → P e x → W b e x
     pub starve : (b : Bool) (at j : ℕ) (e : Engine) (x : X) → W b e x → P (starve_at at j e) x
     -- the turn was cut before its step
-    pub cut : (at : ℕ) (step : Step) (bytes : List ℕ) (e : Engine) (x : X) → is_part step e ≡ true → P e x → P (starve_at at 0 e) (stepped at step bytes e x)
+    pub cut : (at : ℕ) (step : Step) (bytes : List ℕ) (e : Engine) (x : X) → has_ended e.talk ≡ false → is_part step e ≡ true → P e x → P (starve_at at 0 e) (stepped at step bytes e x)
 
   module _ (R : Engine → X → Type 0) (W : Bool → Engine → X → Type 0) (P : Engine → X → Type 0) (k : Small R W P) where
     lift-reads : (n : ℕ) (p : Progress) (x : X) → R p.engine x → R (reads n p).engine x
@@ -93,41 +96,41 @@ module _ (X : Type 0) (ask : Engine → X → X) (stepped : ℕ → Step → Lis
         W (goes p) p.engine (stepped u.at u.step u.bytes e x)
         ⊎ ((p ≡ begun u.at u.notes.starved e) × (goes p ≡ false) × (is_part u.step e ≡ true))
 
-    lift-plain : (step : Step) (at : ℕ) (bytes : List ℕ) (e : Engine) (x : X) (s : Progress) → is_piece step ≡ false → s.engine ≡ step_engine at step bytes e → P e x
+    lift-plain : (step : Step) (at : ℕ) (bytes : List ℕ) (e : Engine) (x : X) (s : Progress) → is_piece step ≡ false → s.engine ≡ step_engine at step bytes e → has_ended e.talk ≡ false → P e x
         → W (goes s) s.engine (stepped at step bytes e x)
-    lift-plain step at bytes e x s other is h =
+    lift-plain step at bytes e x s other is running h =
         let Q : Engine → Type 0 = λ z. W (goes s) z (stepped at step bytes e x) in
-        subst Q (sym is) (k.step at step bytes e x other h (goes s))
+        subst Q (sym is) (k.step at step bytes e x other running h (goes s))
 
     -- the step is done
-    lift-done : (step : Step) (at : ℕ) (bytes : List ℕ) (e : Engine) (x : X) (s : Progress) → s.engine ≡ step_engine at step bytes e → P e x
+    lift-done : (step : Step) (at : ℕ) (bytes : List ℕ) (e : Engine) (x : X) (s : Progress) → s.engine ≡ step_engine at step bytes e → has_ended e.talk ≡ false → P e x
         → W (goes (reading (is_piece step) s)) (reading (is_piece step) s).engine (stepped at step bytes e x)
-    lift-done (Piece n) at bytes e x s is h =
+    lift-done (Piece n) at bytes e x s is running h =
         let y = stepped at (Piece n) bytes e x in
         let q = reads (length s.engine.unread) s in
         let Q : Engine → Type 0 = λ z. R z y in
         k.heard (goes q) q.engine y (λ on. and-other (goes q) (can_read q.engine) on (reads-done (length s.engine.unread) s (omega arith)))
-        (lift-reads (length s.engine.unread) s y (subst Q (sym is) (k.piece at n bytes e x h)))
-    lift-done Linked at bytes e x s is h = lift-plain Linked at bytes e x s refl is h
-    lift-done LinkFailed at bytes e x s is h = lift-plain LinkFailed at bytes e x s refl is h
-    lift-done End at bytes e x s is h = lift-plain End at bytes e x s refl is h
-    lift-done Fault at bytes e x s is h = lift-plain Fault at bytes e x s refl is h
-    lift-done Room at bytes e x s is h = lift-plain Room at bytes e x s refl is h
-    lift-done Tick at bytes e x s is h = lift-plain Tick at bytes e x s refl is h
-    lift-done (Command c) at bytes e x s is h = lift-plain (Command c) at bytes e x s refl is h
+        (lift-reads (length s.engine.unread) s y (subst Q (sym is) (k.piece at n bytes e x running h)))
+    lift-done Linked at bytes e x s is running h = lift-plain Linked at bytes e x s refl is running h
+    lift-done LinkFailed at bytes e x s is running h = lift-plain LinkFailed at bytes e x s refl is running h
+    lift-done End at bytes e x s is running h = lift-plain End at bytes e x s refl is running h
+    lift-done Fault at bytes e x s is running h = lift-plain Fault at bytes e x s refl is running h
+    lift-done Room at bytes e x s is running h = lift-plain Room at bytes e x s refl is running h
+    lift-done Tick at bytes e x s is running h = lift-plain Tick at bytes e x s refl is running h
+    lift-done (Command c) at bytes e x s is running h = lift-plain (Command c) at bytes e x s refl is running h
 
-    lift-read : (u : Turn) (e : Engine) (x : X) → P e x → Ready u e x (read u e)
-    lift-read u e x h =
+    lift-read : (u : Turn) (e : Engine) (x : X) → has_ended e.talk ≡ false → P e x → Ready u e x (read u e)
+    lift-read u e x running h =
         let p = begun u.at u.notes.starved e in
         let after = step_engine u.at u.step u.bytes e in
         let Q : Progress → Type 0 = λ s. Ready u e x (reading (is_piece u.step) s) in
         if_by Q (is_part u.step e) (if goes p then part after p else p) (record p { engine = after })
         (λ is. if_by Q (goes p) (part after p) p
-        (λ on. inl (lift-done u.step u.at u.bytes e x (part after p) refl h))
+        (λ on. inl (lift-done u.step u.at u.bytes e x (part after p) refl running h))
         (λ off.
         let same : reading (is_piece u.step) p ≡ p = reading-cut (is_piece u.step) p off in
         inr (same, ap goes same ∙ off, is)))
-        (λ no. inl (lift-done u.step u.at u.bytes e x (record p { engine = after }) refl h))
+        (λ no. inl (lift-done u.step u.at u.bytes e x (record p { engine = after }) refl running h))
 
     -- after the writes
     abbrev Out : Progress → X → Type 0
@@ -178,31 +181,36 @@ module _ (X : Type 0) (ask : Engine → X → X) (stepped : ℕ → Step → Lis
         let Q : ℕ → Type 0 = λ m. P (starve_at at m e) y in
         subst Q (sym none ∙ cut) h
 
-    pub lift-turn : (u : Turn) (e : Engine) (x : X) → IsTurn u e → P e x → P (turn u e) (turn_on u e x)
-    lift-turn u e x may h =
-        let a = asks e in
-        let x' = ask e x in
-        let r = read u a in
+    -- from the step of a turn on
+    pub lift-applied : (u : Turn) (e : Engine) (x : X) → has_ended e.talk ≡ false → IsApplied u e → P e x → P (applied u e) (applied_on u e x)
+    lift-applied u e x running may h =
+        let r = read u e in
         let ws = u.notes.answers in
-        let y = stepped u.at u.step u.bytes a x' in
-        let D : Engine → Type 0 = λ z. P z (turn_on u e x) in
-        subst D (sym (turn-is u e may.running)) (elim (lift-read u a x' (k.asked e x h)) [
+        let y = stepped u.at u.step u.bytes e x in
+        let after = (written u e).engine in
+        let D : Engine → Type 0 = λ z. P z (applied_on u e x) in
+        let is : applied u e ≡ starved_after u.notes.starved u.at after =
+        if-false (has_ended e.talk) after (starved_after u.notes.starved u.at after) running in
+        subst D (sym is) (elim (lift-read u e x running h) [
           | inl w ↦
-              let out : Out (drain ws r) (offers_on r.at ws r.engine y) = lift-drain ws r y may.applied.answers w in
+              let out : Out (drain ws r) (offers_on r.at ws r.engine y) = lift-drain ws r y may.answers w in
               let Q : ℕ → Type 0 = λ at. Out (drain ws r) (offers_on at ws r.engine y) in
-              lift-starved u.notes.starved u.at (written u a) (turn_on u e x)
-              (stays-drain (λ (p : Progress). p.cut) (λ f n p. refl) ws r ∙ read-cut u a) (subst Q (read-at u a) out)
+              lift-starved u.notes.starved u.at (written u e) (applied_on u e x)
+              (stays-drain (λ (p : Progress). p.cut) (λ f n p. refl) ws r ∙ read-cut u e) (subst Q (read-at u e) out)
           | inr t ↦
-              let none : ws ≡ [] = stops-none ws r t.1 may.applied.answers in
-              let same : written u a ≡ begun u.at u.notes.starved a = ap (λ vs. drain vs r) none ∙ t.0 in
-              let said : turn_on u e x ≡ y = ap (λ vs. offers_on u.at vs r.engine y) none in
-              let E : Engine → Type 0 = λ z. P (starved_after u.notes.starved u.at z) (turn_on u e x) in
-              let F : X → Type 0 = λ z. P (starve_at u.at 0 a) z in
+              let none : ws ≡ [] = stops-none ws r t.1 may.answers in
+              let same : written u e ≡ begun u.at u.notes.starved e = ap (λ vs. drain vs r) none ∙ t.0 in
+              let said : applied_on u e x ≡ y = ap (λ vs. offers_on u.at vs r.engine y) none in
+              let E : Engine → Type 0 = λ z. P (starved_after u.notes.starved u.at z) (applied_on u e x) in
+              let F : X → Type 0 = λ z. P (starve_at u.at 0 e) z in
               let C : ℕ → Type 0 = λ n. IsCut u.notes.starved n in
               subst E (sym (ap (λ (p : Progress). p.engine) same))
-              (lift-cut u.notes.starved u.at 0 a (turn_on u e x) refl (sym (ap goes t.0) ∙ t.1)
-              (subst C (ap (λ (p : Progress). p.done) same) may.applied.cut) (subst F (sym said) (k.cut u.at u.step u.bytes a x' t.2 (k.asked e x h))))
+              (lift-cut u.notes.starved u.at 0 e (applied_on u e x) refl (sym (ap goes t.0) ∙ t.1)
+              (subst C (ap (λ (p : Progress). p.done) same) may.cut) (subst F (sym said) (k.cut u.at u.step u.bytes e x running t.2 h)))
         ])
+
+    pub lift-turn : (u : Turn) (e : Engine) (x : X) → IsTurn u e → P e x → P (turn u e) (turn_on u e x)
+    lift-turn u e x may h = lift-applied u (asks e) (ask e x) (asks-running e may.running) may.applied (k.asked e x h)
 
     pub lift-turns : (us : List Turn) (e : Engine) (x : X) → AreTurns us e → P e x → P (turns us e) (turns_on us e x)
     lift-turns [] e x may h = h
@@ -211,18 +219,18 @@ module _ (X : Type 0) (ask : Engine → X → X) (stepped : ℕ → Step → Lis
   -- the same of what holds all through a turn
   pub record Simple (P : Engine → X → Type 0) : Type 0 where
     pub asked : (e : Engine) (x : X) → P e x → P (asks e) (ask e x)
-    pub step : (at : ℕ) (step : Step) (bytes : List ℕ) (e : Engine) (x : X) → P e x → P (step_engine at step bytes e) (stepped at step bytes e x)
+    pub step : (at : ℕ) (step : Step) (bytes : List ℕ) (e : Engine) (x : X) → has_ended e.talk ≡ false → P e x → P (step_engine at step bytes e) (stepped at step bytes e x)
     pub read : (at : ℕ) (e : Engine) (x : X) → can_read e ≡ true → P e x → P (read_one at e) x
     pub offer : (at : ℕ) (w : Wrote) (e : Engine) (x : X) → can_write e ≡ true → IsWithin (length (offered e)) w → P e x → P (answered at w e) (offering at w e x)
     pub starve : (at j : ℕ) (e : Engine) (x : X) → P e x → P (starve_at at j e) x
-    pub cut : (at : ℕ) (step : Step) (bytes : List ℕ) (e : Engine) (x : X) → is_part step e ≡ true → P e x → P (starve_at at 0 e) (stepped at step bytes e x)
+    pub cut : (at : ℕ) (step : Step) (bytes : List ℕ) (e : Engine) (x : X) → has_ended e.talk ≡ false → is_part step e ≡ true → P e x → P (starve_at at 0 e) (stepped at step bytes e x)
 
   pub simply : (P : Engine → X → Type 0) → Simple P → Small P (λ b. P) P
   simply P k =
       record {
         asked = k.asked;
-        step = λ at step bytes e x other h b. k.step at step bytes e x h;
-        piece = λ at n bytes e x h. k.step at (Piece n) bytes e x h;
+        step = λ at step bytes e x other running h b. k.step at step bytes e x running h;
+        piece = λ at n bytes e x running h. k.step at (Piece n) bytes e x running h;
         read = k.read;
         heard = λ b e x f h. h;
         offer = k.offer;

@@ -1,27 +1,28 @@
 -- Offers one by one.
-use Rattle.std.proofs.Common.{◌≡◌, ◌<◌, ℕ, ◌+◌, ◌&&◌, Bool, true, false, IsTrue, IsFalse, MatchBool, IfSome, List, [], ◌∷◌, length, drop, Option, option_map, refl, ap, sym, ◌∙◌, subst, arith, rules, length-drop}
+use Rattle.std.proofs.Common.{◌≡◌, ◌≤◌, ◌<◌, ℕ, ◌+◌, ◌&&◌, Bool, true, false, IsTrue, IsFalse, MatchBool, IfSome, List, [], ◌∷◌, length, drop, Option, option_map, refl, ap, sym, ◌∙◌, subst, arith, rules, length-drop}
 use Rattle.std.proofs.lemmas.Bool.Decides.{nat_tests}
 use Rattle.amqp_session.specs.declared.io_fault.IoFault.TheVariants.{BrokenPipe}
 use Rattle.amqp_session.specs.Talk.{Talk}
 use Rattle.amqp_session.specs.Changes.{present_at}
+use Rattle.amqp_session.specs.Links.{lost}
 use Rattle.amqp_session.specs.Writing.{taken}
 use Rattle.amqp_engine.specs.declared.port.Wrote.{Wrote}
 use Rattle.amqp_engine.specs.declared.port.Wrote.TheVariants.{Took, Failed, NoMemory}
 use Rattle.amqp_engine.specs.Log.{Log, log_write, IsWithin, PlansWrite}
-use Rattle.amqp_engine.specs.Engine.{Engine, can_write, commit_all, wrote, took}
+use Rattle.amqp_engine.specs.Engine.{Engine, frames_waiting, rule_at, can_write, commit_all, wrote, took}
 use Rattle.amqp_engine.specs.Turn.{Progress, goes, offer_part, offered, answered, is_all, AreAnswers, CutsAfter}
 use Rattle.amqp_engine.specs.Making.{making, Allows, Writes}
 use Rattle.amqp_engine.specs.Tell.{offers_from, log_offers, PlaysOffers, TellsOffers}
 use Rattle.amqp_engine.specs.Play.{waiting}
 use Rattle.amqp_engine.proofs.Cases.{is_before-Allows}
 use Rattle.amqp_engine.proofs.Keeping.{present-keeps, taken-keeps, lost-keeps}
-use Rattle.amqp_engine.proofs.Settling.{settle-talk, settle-unsent, settle-starved}
+use Rattle.amqp_engine.proofs.Settling.{settle-talk, settle-less, settle-starved}
 use Rattle.amqp_engine.proofs.Telling.{tells-then}
 use Rattle.amqp_engine.proofs.Commits.{commits-keep, waiting-commits}
 
 control-took : (at k : ℕ) (e : Engine) → (took at k e).talk.control ≡ e.talk.control
 control-took at k e =
-    ap (λ (t : Talk). t.control) (settle-talk _)
+    ap (λ (t : Talk). t.control) (settle-talk (record e { talk = taken k (present_at at e.talk); unsent = drop k e.unsent }))
     ∙ taken-keeps (λ t. t.control) (record { ends = λ t s l cs x ps. refl; writes = λ t w ms. refl; moments = λ t n. refl }) k (present_at at e.talk)
     ∙ present-keeps (λ t. t.control) at e.talk (λ n. refl)
 
@@ -30,7 +31,7 @@ control-wrote : (at : ℕ) (w : Wrote) (e : Engine) → (wrote at w e).talk.cont
 control-wrote at (Took k) e = control-took at k e
 control-wrote at NoMemory e = control-took at 0 e
 control-wrote at Failed e =
-    ap (λ (t : Talk). t.control) (settle-talk _) ∙ lost-keeps (λ t. t.control) (λ t s l cs x ps. refl) BrokenPipe (present_at at e.talk)
+    ap (λ (t : Talk). t.control) (settle-talk (rule_at at (lost BrokenPipe) e)) ∙ lost-keeps (λ t. t.control) (λ t s l cs x ps. refl) BrokenPipe (present_at at e.talk)
     ∙ present-keeps (λ t. t.control) at e.talk (λ n. refl)
 
 -- where all was taken, fewer writes may come
@@ -40,9 +41,9 @@ waiting-wrote at (Took k) e some all =
     let same : k ≡ length (offered e) = grind (arith, nat_tests) in
     let control : length (answered at (Took k) e).talk.control ≡ length (commit_all e).talk.control =
     ap length (control-wrote at (Took k) (commit_all e)) in
-    let unsent : (answered at (Took k) e).unsent ≡ drop k (offered e) =
-    settle-unsent (record (commit_all e) { talk = taken k (present_at at (commit_all e).talk); unsent = drop k (offered e) }) in
-    omega (arith, control, ap length unsent, length-drop k (offered e), waiting-commits (length e.talk.control) e)
+    let unsent : length (answered at (Took k) e).unsent ≤ length (drop k (offered e)) =
+    settle-less (record (commit_all e) { talk = taken k (present_at at (commit_all e).talk); unsent = drop k (offered e) }) in
+    omega (arith, control, unsent, length-drop k (offered e), waiting-commits (frames_waiting e.talk) e)
 waiting-wrote at Failed e some all = cc
 waiting-wrote at NoMemory e some all = cc
 
@@ -111,10 +112,10 @@ tells-more at w ws e e' log mid last he hm plays t =
     (record { told = hm; plays = plays }) (subst P he t)
 
 wrote-starved : (at : ℕ) (w : Wrote) (e : Engine) → (wrote at w e).starved ≡ e.starved
-wrote-starved at (Took k) e = settle-starved _
-wrote-starved at Failed e = settle-starved _
-wrote-starved at NoMemory e = settle-starved _
+wrote-starved at (Took k) e = settle-starved (record e { talk = taken k (present_at at e.talk); unsent = drop k e.unsent })
+wrote-starved at Failed e = settle-starved (rule_at at (lost BrokenPipe) e)
+wrote-starved at NoMemory e = settle-starved (record e { talk = taken 0 (present_at at e.talk); unsent = drop 0 e.unsent })
 
 -- an offer starves nobody
 pub answered-starved : (at : ℕ) (w : Wrote) (e : Engine) → (answered at w e).starved ≡ e.starved
-answered-starved at w e = wrote-starved at w (commit_all e) ∙ commits-keep (λ (x : Engine). x.starved) (λ x fs ms bytes. refl) (length e.talk.control) e
+answered-starved at w e = wrote-starved at w (commit_all e) ∙ commits-keep (λ (x : Engine). x.starved) (λ x fs ms bytes. refl) (frames_waiting e.talk) e

@@ -89,8 +89,8 @@ step-ended at (Piece n) bytes e h =
     let m = moment-ended at e.talk h in
     if_case (λ (y : Engine). has_ended y.talk ≡ true) (is_open e.talk) (settle x) (rule_at at (λ y. y) e)
     (ap has_ended (settle-talk x) ∙ if_case (λ (y : Talk). has_ended y ≡ true) (is_open t) (record t { last_read = t.present }) t m m) m
-step-ended at End bytes e h = ap has_ended (settle-talk _) ∙ lost-ended Aborted (present_at at e.talk) (moment-ended at e.talk h)
-step-ended at Fault bytes e h = ap has_ended (settle-talk _) ∙ lost-ended Reset (present_at at e.talk) (moment-ended at e.talk h)
+step-ended at End bytes e h = ap has_ended (settle-talk (rule_at at (lost Aborted) e)) ∙ lost-ended Aborted (present_at at e.talk) (moment-ended at e.talk h)
+step-ended at Fault bytes e h = ap has_ended (settle-talk (rule_at at (lost Reset) e)) ∙ lost-ended Reset (present_at at e.talk) (moment-ended at e.talk h)
 step-ended at Room bytes e h = moment-ended at e.talk h
 step-ended at Tick bytes e h = moment-ended at e.talk h
 step-ended at (Command c) bytes e h =

@@ -5,14 +5,14 @@ use Rattle.amqp_session.specs.Changes.{starve, present_at}
 use Rattle.amqp_engine.specs.declared.port.Step.{Step}
 use Rattle.amqp_engine.specs.declared.port.Wrote.{Wrote}
 use Rattle.amqp_engine.specs.declared.port.Wrote.TheVariants.{Took, Failed, NoMemory}
-use Rattle.amqp_engine.specs.declared.port.Happening.{Happening}
-use Rattle.amqp_engine.specs.Plan.{Plan, plan_write, plan_failure, plan_step, PlanAnswers, room_for, next_happening}
-use Rattle.amqp_engine.specs.Log.{Log, IsWithin, is_played, links_after, asked_after, log_ask, log_step, log_write}
-use Rattle.amqp_engine.specs.Engine.{Engine, can_write, can_read, commit_all, step_engine}
+use Rattle.amqp_engine.specs.Plan.{Plan, Coming, plan_write, plan_failure, plan_step, PlanAnswers, room_for, next_coming}
+use Rattle.amqp_engine.specs.Log.{Log, IsWithin, log_ask, log_step, log_write}
+use Rattle.amqp_engine.specs.Engine.{Engine, frames_waiting, can_write, can_read, commit_all, step_engine}
 use Rattle.amqp_engine.specs.Turn.{is_before, Progress, Turn, asks, wants_ask, goes, part, read_part, reads, step_part, is_part, is_piece, begun, offer_part, offered, answered, is_all, AreAnswers, CutsAfter, read, written, turn, turns, starved_after, IsTurn, AreTurns}
 use Rattle.amqp_engine.specs.Tell.{Offer, offers_from, offers_of, turn_of, log_asks, log_stepped, log_offers, log_turn, log_turns, PlaysOffers, PlaysTurn, PlaysTurns, Runs}
-use Rattle.amqp_engine.specs.Play.{waiting, room_of, fails_of, played_answer, played_answers, played_happening, played_notes, played_turn_of, played_turn, played_turns, no_notes, IsPlayed}
+use Rattle.amqp_engine.specs.Play.{waiting, room_of, fails_of, played_answer, played_answers, played_step, played_notes, played_turn_of, played_turn, played_turns, no_notes, IsPlayed}
 use Rattle.amqp_engine.proofs.Over.{turn-is}
+use Rattle.amqp_engine.proofs.Lifting.{read-at, read-cut}
 use Rattle.amqp_engine.proofs.Cases.{if_case, if_by, if-true, if-false, and-true, and-false, and-right, and-other, some-unsent}
 use Rattle.amqp_engine.proofs.Keeping.{starve-ends}
 use Rattle.amqp_engine.proofs.Commits.{waiting-commits}
@@ -29,14 +29,7 @@ planned-write bytes Failed a = planned-map plan_failure a.plan
 planned-write bytes NoMemory a = refl
 
 planned-step : (at : ℕ) (s : Step) (bytes : List ℕ) (a : Log) → is_some (log_step at s bytes a).plan ≡ is_some a.plan
-planned-step at s bytes a =
-    if_case (λ (x : Log). is_some x.plan ≡ is_some a.plan) (is_played a.plan) (record a { plan = option_map (plan_step a.asked) a.plan })
-    (record a {
-      steps = a.steps ++ record { at = at; step = s; bytes = bytes } ∷ [];
-      links = links_after s a.asked a.links;
-      asked = asked_after s a.asked;
-      plan = option_map (plan_step a.asked) a.plan;
-    }) (planned-map (plan_step a.asked) a.plan) (planned-map (plan_step a.asked) a.plan)
+planned-step at s bytes a = planned-map (plan_step a.asked) a.plan
 
 planned-asks : (e : Engine) (a : Log) → is_some (log_asks e a).plan ≡ is_some a.plan
 planned-asks e a = if_case (λ (x : Log). is_some x.plan ≡ is_some a.plan) (wants_ask e) (log_ask a) a refl refl
@@ -51,28 +44,11 @@ planned-stepped u e a = planned-step u.at u.step u.bytes (log_asks e a) ∙ plan
 planned-turn : (u : Turn) (e : Engine) (a : Log) → is_some (log_turn u e a).plan ≡ is_some a.plan
 planned-turn u e a = planned-offers (offers_of u (asks e)) (log_stepped u e a) ∙ planned-stepped u e a
 
--- what each part leaves, the step and the parts that read leave
-kept-reads : {A : Type 0} (f : Progress → A) (h : (e : Engine) (n : ℕ) (p : Progress) → f (record p { engine = e; done = n }) ≡ f p) (n : ℕ) (p : Progress)
-    → f (reads n p) ≡ f p
-kept-reads f h zero p = refl
-kept-reads f h (suc n) p =
-    if_case (λ (x : Progress). f x ≡ f p) (goes p && can_read p.engine) (reads n (read_part p)) p (kept-reads f h n (read_part p) ∙ h _ _ p) refl
-
-kept-read : {A : Type 0} (f : Progress → A) (h : (e : Engine) (n : ℕ) (p : Progress) → f (record p { engine = e; done = n }) ≡ f p) (u : Turn) (e : Engine)
-    → f (read u e) ≡ f (begun u.at u.notes.starved e)
-kept-read f h u e =
-    let p = begun u.at u.notes.starved e in
-    let s = step_part u.step u.bytes p in
-    let after = step_engine u.at u.step u.bytes e in
-    if_case (λ (x : Progress). f x ≡ f s) (is_piece u.step) (reads (length s.engine.unread) s) s (kept-reads f h (length s.engine.unread) s) refl
-    ∙ if_case (λ (x : Progress). f x ≡ f p) (is_part u.step e) (if goes p then part after p else p) (record p { engine = after })
-    (if_case (λ (x : Progress). f x ≡ f p) (goes p) (part after p) p (h _ _ p) refl) (h _ _ p)
-
 -- a write that is due can come
 due-waiting : (e : Engine) → can_write e ≡ true → 0 < waiting e
 due-waiting e h =
     let some = some-unsent (is_open e.talk) (length (commit_all e).unsent) h in
-    omega (arith, waiting-commits (length e.talk.control) e)
+    omega (arith, waiting-commits (frames_waiting e.talk) e)
 
 -- what a port that plays a script may answer
 not-refused : (w : Wrote) (p : Progress) → p.cut ≡ None → CutsAfter w p → w ≡ NoMemory → ⊥
@@ -125,9 +101,9 @@ answers-played (w ∷ ws) (suc n) p a cut planned h plays le =
     ∙ sym (ap (λ (b : Bool). if b then x ∷ later n x p.at e a else none) can)
 
 -- the step is determined
-happening-played : (p : Option Plan) (h : Happening) → is_some p ≡ true → IfSome p (λ q. next_happening q ≡ h) → played_happening p ≡ h
-happening-played None h planned plays = cc
-happening-played (Some p) h planned plays = plays
+step-played : (p : Option Plan) (h : Coming) → is_some p ≡ true → IfSome p (λ q. next_coming q ≡ h) → played_step p ≡ h
+step-played None h planned plays = cc
+step-played (Some p) h planned plays = plays
 
 -- the turn is determined
 turn-played : (u : Turn) (e : Engine) (a : Log) → IsTurn u e → PlaysTurn u e a → u.notes.starved ≡ None → is_some a.plan ≡ true → u ≡ played_turn e a
@@ -137,8 +113,8 @@ turn-played u e a may plays whole planned =
     let v = turn_of u.at u.step u.bytes no_notes in
     let same : p ≡ read v (asks e) =
     ap (λ (x : Option ℕ). read (turn_of u.at u.step u.bytes (record { answers = []; starved = x })) (asks e)) whole in
-    let at : p.at ≡ u.at = kept-read (λ (x : Progress). x.at) (λ f n x. refl) u (asks e) in
-    let cut : p.cut ≡ None = kept-read (λ (x : Progress). x.cut) (λ f n x. refl) u (asks e) ∙ whole in
+    let at : p.at ≡ u.at = read-at u (asks e) in
+    let cut : p.cut ≡ None = read-cut u (asks e) ∙ whole in
     let P : ℕ → Type 0 = λ x. PlaysOffers (offers_from x u.notes.answers p.engine) b in
     let answers : u.notes.answers ≡ played_answers (waiting p.engine) p.at p.engine b =
     answers-played u.notes.answers (waiting p.engine) p b cut (planned-stepped u e a ∙ planned) may.applied.answers
@@ -147,7 +123,7 @@ turn-played u e a may plays whole planned =
     (answers ∙ ap (λ (x : ℕ). played_answers (waiting p.engine) x p.engine b) at
     ∙ ap (λ (x : Progress). played_answers (waiting x.engine) u.at x.engine b) same)
     ∙ ap (λ (x : Option ℕ). turn_of u.at u.step u.bytes (record { answers = (played_notes v e a).answers; starved = x })) whole
-    ∙ sym (ap (λ (h : Happening). played_turn_of h e a) (happening-played (log_asks e a).plan _ (planned-asks e a ∙ planned) plays.0))
+    ∙ sym (ap (λ (h : Coming). played_turn_of h e a) (step-played (log_asks e a).plan _ (planned-asks e a ∙ planned) plays.0))
 
 -- a turn that was cut is the last
 whole-end : (s : Option ℕ) (at : ℕ) (e : Engine) (us : List Turn) → AreTurns us (starved_after s at e)
@@ -269,7 +245,7 @@ due-played (suc n) p a cut le =
     (λ cannot. due-none p a cannot)
 
 plans-step : (o : Option Plan) → is_some o ≡ true
-    → IfSome o (λ p. next_happening p ≡ record { at = (played_happening o).at; step = (played_happening o).step; bytes = (played_happening o).bytes })
+    → IfSome o (λ p. next_coming p ≡ record { at = (played_step o).at; step = (played_step o).step; bytes = (played_step o).bytes })
 plans-step None h = cc
 plans-step (Some p) h = refl
 
@@ -279,8 +255,8 @@ played-is-turn e a running planned =
     let p = read u (asks e) in
     let b = log_stepped u e a in
     let n = waiting p.engine in
-    let at : p.at ≡ u.at = kept-read (λ (x : Progress). x.at) (λ f n x. refl) u (asks e) in
-    let cut : p.cut ≡ None = kept-read (λ (x : Progress). x.cut) (λ f n x. refl) u (asks e) in
+    let at : p.at ≡ u.at = read-at u (asks e) in
+    let cut : p.cut ≡ None = read-cut u (asks e) in
     let due = due-played n p b cut (omega arith) in
     let A : ℕ → Type 0 = λ x. AreAnswers (played_answers n x p.engine b) p in
     let B : ℕ → Type 0 = λ x. PlaysOffers (offers_from x (played_answers n x p.engine b) p.engine) b in (

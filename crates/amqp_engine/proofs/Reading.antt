@@ -12,7 +12,7 @@ use Rattle.amqp_session.specs.declared.state.Input.{Input}
 use Rattle.amqp_session.specs.declared.state.Input.TheVariants.{Acting, Closed, Dropped}
 use Rattle.amqp_session.specs.declared.misread.Misread.{Misread}
 use Rattle.amqp_session.specs.declared.misread.Misread.TheVariants as why
-use Rattle.amqp_session.specs.Talk.{Talk, is_open, has_ended, drops_input}
+use Rattle.amqp_session.specs.Talk.{Talk, is_open}
 use Rattle.amqp_session.specs.Changes.{present_at}
 use Rattle.amqp_session.specs.Links.{misread, misread_by}
 use Rattle.amqp_session.specs.Frames.{on_frame}
@@ -22,7 +22,7 @@ use Rattle.amqp_engine.specs.Engine.{Engine, front_of, can_read, is_more, read_o
 use Rattle.amqp_engine.specs.Turn.{Progress, reads, reading, goes, read_part, is_before}
 use Rattle.amqp_engine.specs.Making.{making, Allows}
 use Rattle.amqp_engine.proofs.Cases.{if-true, if-false, or-true, and-true, and-false, and-left, and-right, is_before-Allows}
-use Rattle.amqp_engine.proofs.Settling.{settle-unread, settle-starved}
+use Rattle.amqp_engine.proofs.Settling.{keeps_unread, settle-unread, settle-starved}
 use Rattle.amqp_engine.proofs.Keeping.{present-keeps}
 
 -- where nothing can be read, reading is over
@@ -136,40 +136,40 @@ front-some [] limit h =
     cc
 front-some (o ∷ rest) limit h = omega arith
 
-misread-over-by : (i : Input) (why : Misread) (t : Talk) → (has_ended (misread_by i why t) || drops_input (misread_by i why t)) ≡ true
+misread-over-by : (i : Input) (why : Misread) (t : Talk) → keeps_unread (misread_by i why t) ≡ false
 misread-over-by Acting why t = refl
-misread-over-by Closed why t = or-true (has_ended (misread_by Closed why t))
-misread-over-by Dropped why t = or-true (has_ended (misread_by Dropped why t))
+misread-over-by Closed why t = and-false (is_open (misread_by Closed why t)) false refl
+misread-over-by Dropped why t = and-false (is_open (misread_by Dropped why t)) false refl
 
 -- after what is no frame nothing more is read
 misread-over : (at : ℕ) (why : Misread) (t : Talk) → is_open t ≡ true
-    → (has_ended (misread why (present_at at t)) || drops_input (misread why (present_at at t))) ≡ true
+    → keeps_unread (misread why (present_at at t)) ≡ false
 misread-over at why t opened =
     let x = present_at at t in
     let same : misread why x ≡ misread_by x.input why x =
     if-true (is_open x) (misread_by x.input why x) x (present-keeps is_open at t (λ n. refl) ∙ opened) in
-    ap (λ (y : Talk). has_ended y || drops_input y) same ∙ misread-over-by x.input why x
+    ap keeps_unread same ∙ misread-over-by x.input why x
 
 misread-worth : (at : ℕ) (why : Misread) (e : Engine) → is_open e.talk ≡ true → 1 ≤ length e.unread
     → worth (read_badly at why e) + 2 ≤ worth e
 misread-worth at why e opened some =
     let x : Engine = rule_at at (misread why) e in
     let gone : (read_badly at why e).unread ≡ [] =
-    settle-unread x ∙ if-true (has_ended x.talk || drops_input x.talk) [] x.unread (misread-over at why e.talk opened) in
+    settle-unread x ∙ if-false (keeps_unread x.talk) x.unread [] (misread-over at why e.talk opened) in
     omega (arith, ap length gone)
 
 whole-worth : (b : Bool) (bytes : List ℕ) (n : ℕ) → 8 ≤ n → 1 ≤ length bytes
-    → length (if b then [] else drop n bytes) + min 1 (length (if b then [] else drop n bytes)) + 2 ≤ length bytes + min 1 (length bytes)
-whole-worth true bytes n size some = omega arith
-whole-worth false bytes n size some = omega (arith, length-drop n bytes)
+    → length (if b then drop n bytes else []) + min 1 (length (if b then drop n bytes else [])) + 2 ≤ length bytes + min 1 (length bytes)
+whole-worth true bytes n size some = omega (arith, length-drop n bytes)
+whole-worth false bytes n size some = omega arith
 
 row-worth : (at : ℕ) (r : Read) (e : Engine) → front_of e ≡ r → not (is_more r) ≡ true → is_open e.talk ≡ true → 1 ≤ length e.unread
     → worth (read_row at r e) + 2 ≤ worth e
 row-worth at (Whole f n) e is some opened bytes =
     let x : Engine = record e { talk = on_frame f e.place (present_at at e.talk); unread = drop n e.unread; place = at_most_64 (e.place + n) } in
-    let over : Bool = has_ended x.talk || drops_input x.talk in
-    let after : (settle x).unread ≡ (if over then [] else drop n e.unread) = settle-unread x in
-    rw after (whole-worth over e.unread n (front-size e.unread (frame_limit e.talk.configuration) f n is) bytes)
+    let kept : Bool = keeps_unread x.talk in
+    let after : (settle x).unread ≡ (if kept then drop n e.unread else []) = settle-unread x in
+    rw after (whole-worth kept e.unread n (front-size e.unread (frame_limit e.talk.configuration) f n is) bytes)
 row-worth at More e is some opened bytes = cc
 row-worth at (TooLarge n) e is some opened bytes = misread-worth at (why.TooLarge n) e opened bytes
 row-worth at (BadHeartbeat n) e is some opened bytes = misread-worth at (why.BadHeartbeat n) e opened bytes
@@ -184,12 +184,13 @@ read_one-worth at e can =
 
 -- reading starves nobody
 row-starved : (at : ℕ) (r : Read) (e : Engine) → (read_row at r e).starved ≡ e.starved
-row-starved at (Whole f n) e = settle-starved _
+row-starved at (Whole f n) e =
+    settle-starved (record e { talk = on_frame f e.place (present_at at e.talk); unread = drop n e.unread; place = at_most_64 (e.place + n) })
 row-starved at More e = refl
-row-starved at (TooLarge n) e = settle-starved _
-row-starved at (BadHeartbeat n) e = settle-starved _
-row-starved at Bad e = settle-starved _
-row-starved at NoMemory e = settle-starved _
+row-starved at (TooLarge n) e = settle-starved (rule_at at (misread (why.TooLarge n)) e)
+row-starved at (BadHeartbeat n) e = settle-starved (rule_at at (misread (why.BadHeartbeat n)) e)
+row-starved at Bad e = settle-starved (rule_at at (misread (why.Bad e.place)) e)
+row-starved at NoMemory e = settle-starved (rule_at at (misread (why.Bad e.place)) e)
 
 pub read_one-starved : (at : ℕ) (e : Engine) → (read_one at e).starved ≡ e.starved
 read_one-starved at e = row-starved at (front_of e) e

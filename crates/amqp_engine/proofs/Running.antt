@@ -5,7 +5,7 @@ use Rattle.amqp_session.specs.Talk.{has_ended}
 use Rattle.amqp_engine.specs.declared.port.Step.{Step}
 use Rattle.amqp_engine.specs.Log.{Log, log_step, PlansStep}
 use Rattle.amqp_engine.specs.Engine.{Engine}
-use Rattle.amqp_engine.specs.Turn.{Turn, asks, turn, turns, IsTurn, AreTurns, Leads}
+use Rattle.amqp_engine.specs.Turn.{Turn, asks, turn, turns, IsTurn, IsTold, AreTurns, AreTold, Leads}
 use Rattle.amqp_engine.specs.Tell.{Tells, turn_of, log_asks, log_offers, log_turn, log_turns, offers_of, PlaysOffers, PlaysTurn, PlaysTurns, TellsOffers, TellsTurn, TellsTurns, Applies, TakesTurn, Runs}
 use Rattle.amqp_engine.proofs.Telling.{tells-then, tells-as, tells-freely}
 
@@ -57,6 +57,11 @@ pub tells-push : (us : List Turn) (u : Turn) (e b : Engine) (log mid last : Opti
     → TellsTurns us e log mid → TellsTurn u b mid last → TellsTurns (us ++ u ∷ []) e log last
 tells-push us u e b log mid last h t l = tells-append us (u ∷ []) e b log mid last h t (tells-single u b mid last l)
 
+-- their steps are told
+pub told-append : (us vs : List Turn) → AreTold us → AreTold vs → AreTold (us ++ vs)
+told-append [] vs h k = k
+told-append (u ∷ us) vs h k = (h.0, told-append us vs h.1 k)
+
 -- a run after one that took all its turns goes on
 pub Runs-append : (m n : ℕ) (a b c : Engine) (x y z : Option Log) → Runs m a b x y → has_ended b.talk ≡ false → Runs n b c y z → Runs (m + n) a c x z
 Runs-append m n a b c x y z r running s =
@@ -64,6 +69,7 @@ Runs-append m n a b c x y z r running s =
       us = r.us ++ s.us;
       leads = Leads-append r.us s.us a b c r.leads s.leads;
       tells = tells-append r.us s.us a b x y z r.leads.leaves r.tells s.tells;
+      told = told-append r.us s.us r.told s.told;
       within = omega (arith, length-append r.us s.us, r.within, s.within);
       all = λ h. omega (arith, length-append r.us s.us, r.all running, s.all h);
     }
@@ -109,14 +115,15 @@ tells-turn u e log asked stepped last ha hs plays t =
 -- a turn from its asking, its step and what is applied
 pub turns-of : (e e1 e' : Engine) (log asked stepped last : Option Log) (at : ℕ) (step : Step) (bytes bytes' : List ℕ)
     → has_ended e.talk ≡ false → e1 ≡ asks e → asked ≡ option_map (log_asks e) log → stepped ≡ option_map (log_step at step bytes) asked
-    → bytes' ≡ bytes → IfSome asked (PlansStep at step bytes) → Applies at step bytes' e1 e' stepped last → TakesTurn e e' log last
-turns-of e e1 e' log asked stepped last at step bytes bytes' running he ha hs hb plays applies =
+    → bytes' ≡ bytes → IfSome asked (PlansStep at step bytes) → IsTold step → Applies at step bytes' e1 e' stepped last → TakesTurn e e' log last
+turns-of e e1 e' log asked stepped last at step bytes bytes' running he ha hs hb plays told applies =
     let A : List ℕ → Type 0 = λ x. Applies at step x e1 e' stepped last in
     let B : Engine → Type 0 = λ x. Applies at step bytes x e' stepped last in
     let f = subst B he (subst A hb applies) in
     record {
       u = turn_of at step bytes f.notes;
       may = record { running = running; applied = f.may };
+      told = told;
       leaves = f.leaves;
       tells = tells-turn (turn_of at step bytes f.notes) e log asked stepped last ha hs plays f.tells;
     }

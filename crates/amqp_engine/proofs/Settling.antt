@@ -1,25 +1,45 @@
--- What the going of the unread bytes leaves as it is.
-use Rattle.std.proofs.Common.{◌≡◌, ◌||◌, if◌then◌else◌, Bool, true, false, [], refl}
-use Rattle.amqp_session.specs.Talk.{has_ended, drops_input}
+-- What settling leaves as it is.
+use Rattle.std.proofs.Common.{◌≡◌, ◌≤◌, ◌&&◌, not, if◌then◌else◌, Bool, true, false, [], ℕ, List, length, refl, ap, ◌∙◌, arith}
+use Rattle.amqp_session.specs.Talk.{Talk, is_open, drops_input}
 use Rattle.amqp_engine.specs.Engine.{Engine, settle}
-use Rattle.amqp_engine.proofs.Cases.{if_case}
+use Rattle.amqp_engine.proofs.Cases.{if_case, if-true}
 
 -- what is not looked at is what stays
-settle-keeps : {A : Type 0} (f : Engine → A) → ((e : Engine) → f (record e { unread = []; place = 0 }) ≡ f e) → (e : Engine) → f (settle e) ≡ f e
-settle-keeps f h e = if_case (λ (x : Engine). f x ≡ f e) (has_ended e.talk || drops_input e.talk) (record e { unread = []; place = 0 }) e (h e) refl
+settle-keeps : {A : Type 0} (f : Engine → A) → ((e : Engine) (bytes : List ℕ) → f (record e { unread = []; place = 0; unsent = bytes }) ≡ f e) → (e : Engine) → f (settle e) ≡ f e
+settle-keeps f h e =
+    let P : Engine → Type 0 = λ x. f x ≡ f e in
+    if_case P (is_open e.talk) (if drops_input e.talk then record e { unread = []; place = 0 } else e) (record e { unread = []; place = 0; unsent = [] })
+    (if_case P (drops_input e.talk) (record e { unread = []; place = 0 }) e (h e e.unsent) refl) (h e [])
 
 pub settle-talk : (e : Engine) → (settle e).talk ≡ e.talk
-settle-talk e = settle-keeps (λ x. x.talk) (λ x. refl) e
-
-pub settle-unsent : (e : Engine) → (settle e).unsent ≡ e.unsent
-settle-unsent e = settle-keeps (λ x. x.unsent) (λ x. refl) e
+settle-talk e = settle-keeps (λ x. x.talk) (λ x bytes. refl) e
 
 pub settle-starved : (e : Engine) → (settle e).starved ≡ e.starved
-settle-starved e = settle-keeps (λ x. x.starved) (λ x. refl) e
+settle-starved e = settle-keeps (λ x. x.starved) (λ x bytes. refl) e
 
--- the unread bytes go, or stay
-pub settle-unread : (e : Engine) → (settle e).unread ≡ (if has_ended e.talk || drops_input e.talk then [] else e.unread)
-settle-unread e = by (has_ended e.talk || drops_input e.talk) where
-  by : (b : Bool) → (if b then record e { unread = []; place = 0 } else e).unread ≡ (if b then [] else e.unread)
-  by true = refl
-  by false = refl
+-- what is unsent stays while the link is open
+pub settle-unsent : (e : Engine) → is_open e.talk ≡ true → (settle e).unsent ≡ e.unsent
+settle-unsent e opened =
+    let P : Engine → Type 0 = λ x. x.unsent ≡ e.unsent in
+    let kept : Engine = if drops_input e.talk then record e { unread = []; place = 0 } else e in
+    ap (λ (x : Engine). x.unsent) (if-true (is_open e.talk) kept (record e { unread = []; place = 0; unsent = [] }) opened)
+    ∙ if_case P (drops_input e.talk) (record e { unread = []; place = 0 }) e refl refl
+
+-- and is no more in any case
+pub settle-less : (e : Engine) → length (settle e).unsent ≤ length e.unsent
+settle-less e =
+    let P : Engine → Type 0 = λ x. length x.unsent ≤ length e.unsent in
+    if_case P (is_open e.talk) (if drops_input e.talk then record e { unread = []; place = 0 } else e) (record e { unread = []; place = 0; unsent = [] })
+    (if_case P (drops_input e.talk) (record e { unread = []; place = 0 }) e (omega arith) (omega arith)) (omega arith)
+
+-- the unread bytes stay, or go
+abbrev pub keeps_unread : Talk → Bool
+keeps_unread t = is_open t && not (drops_input t)
+
+pub settle-unread : (e : Engine) → (settle e).unread ≡ (if keeps_unread e.talk then e.unread else [])
+settle-unread e = by (is_open e.talk) (drops_input e.talk) where
+  by : (b c : Bool) → (if b then (if c then record e { unread = []; place = 0 } else e) else record e { unread = []; place = 0; unsent = [] }).unread
+      ≡ (if b && not c then e.unread else [])
+  by true true = refl
+  by true false = refl
+  by false c = refl

@@ -24,7 +24,7 @@ use Rattle.amqp_engine.specs.declared.port.Step.TheVariants.{Linked, LinkFailed,
 use Rattle.amqp_engine.specs.declared.port.Wrote.{Wrote}
 use Rattle.amqp_engine.specs.declared.port.Wrote.TheVariants.{Took, Failed, NoMemory as WroteNoMemory}
 use Rattle.amqp_engine.specs.Log.{Log}
-use Rattle.amqp_engine.specs.Engine.{Engine, settle, rule_at, with_talk, step_engine, took, wrote, commit_all}
+use Rattle.amqp_engine.specs.Engine.{Engine, frames_waiting, settle, rule_at, with_talk, step_engine, took, wrote, commit_all}
 use Rattle.amqp_engine.specs.Turn.{Turn, Progress, asks, wants_ask, goes, reads, part, is_piece, step_part, is_part, begun, drain, offer_part, answered, read, written, applied, turn, turns, starved_after, AreTurns, Leads}
 use Rattle.amqp_engine.specs.Tell.{TellsTurns, Applies, Runs, turn_of}
 use Rattle.amqp_engine.specs.Causes.{Misreads, LosesClosed, IsCause, Brings, BringsOne, brought, has_failed, is_failed, is_last, sends_close_ok, is_finish}
@@ -270,14 +270,14 @@ OfferError w x _ = ⊥
 offer-wrote : (w : Wrote) (x : Engine) (k : ErrorKind) → WroteError w (commit_all x) k → OfferError w x k
 offer-wrote w x (IOError fault) h = h
 offer-wrote w x (ProtocolError e) h =
-    (h.0, sym (commits-keep (λ (y : Engine). y.talk.server_close) (λ y fs ms bytes. refl) (length x.talk.control) x) ∙ h.1)
+    (h.0, sym (commits-keep (λ (y : Engine). y.talk.server_close) (λ y fs ms bytes. refl) (frames_waiting x.talk) x) ∙ h.1)
 offer-wrote w x _ h = h
 
 pub ends-answered : (at : ℕ) (w : Wrote) (x : Engine) → Ends (OfferError w x) x.talk (answered at w x).talk
 ends-answered at w x =
     let P : ErrorKind → Type 0 = OfferError w x in
     let c = commit_all x in
-    let same : end_of c.talk ≡ end_of x.talk = commits-keep (λ (y : Engine). end_of y.talk) (λ y fs ms bytes. refl) (length x.talk.control) x in
+    let same : end_of c.talk ≡ end_of x.talk = commits-keep (λ (y : Engine). end_of y.talk) (λ y fs ms bytes. refl) (frames_waiting x.talk) x in
     ends-then P x.talk c.talk (answered at w x).talk (ends-kept P x.talk c.talk same)
     (ends-as (WroteError w c) P c.talk (answered at w x).talk (offer-wrote w x) (ends-wrote at w c))
 

@@ -1,5 +1,5 @@
 -- The engine: the session, with the bytes of its link that are not yet read, and those that are not yet taken.
-use Rattle.std.specs.Prelude.{ℕ, zero, suc, ◌+◌, ◌-◌, not, ◌&&◌, ◌||◌, if◌then◌else◌, nat_lt, Bool, true, false, List, [], ◌++◌, length, drop, Option, Some, None}
+use Rattle.std.specs.Prelude.{ℕ, zero, suc, ◌+◌, ◌-◌, not, ◌&&◌, if◌then◌else◌, nat_lt, Bool, true, false, List, [], ◌++◌, length, drop, Option, Some, None}
 use Rattle.amqp_frame.specs.declared.frame.Read.{Read}
 use Rattle.amqp_frame.specs.declared.frame.Read.TheVariants as reading
 use Rattle.amqp_frame.specs.FrameReading.{front}
@@ -9,7 +9,7 @@ use Rattle.amqp_session.specs.declared.io_fault.IoFault.TheVariants.{Aborted, Re
 use Rattle.amqp_session.specs.declared.lanes.Item.{Item}
 use Rattle.amqp_session.specs.declared.misread.Misread.{Misread}
 use Rattle.amqp_session.specs.declared.misread.Misread.TheVariants.{TooLarge, BadHeartbeat, Bad}
-use Rattle.amqp_session.specs.Talk.{Talk, start, is_open, is_asked, has_ended, drops_input}
+use Rattle.amqp_session.specs.Talk.{Talk, is_open, is_asked, drops_input}
 use Rattle.amqp_session.specs.Negotiation.{frame_limit}
 use Rattle.amqp_session.specs.Changes.{present_at, starve}
 use Rattle.amqp_session.specs.Links.{linked, link_failed, piece, misread, lost}
@@ -34,9 +34,9 @@ pub record Engine : Type 0 where
   -- how many parts of a turn were done when memory was refused, where it was
   pub starved : Option ℕ
 
--- the engine at the beginning
-abbrev pub begin : Engine
-begin = record { talk = start; unread = []; place = 0; unsent = []; starved = None }
+-- a new engine of a session
+abbrev pub begin : Talk → Engine
+begin t = record { talk = t; unread = []; place = 0; unsent = []; starved = None }
 
 -- a change of the session alone
 abbrev pub with_talk : (Talk → Talk) → Engine → Engine
@@ -46,9 +46,12 @@ with_talk f e = record e { talk = f e.talk }
 abbrev pub rule_at : ℕ → (Talk → Talk) → Engine → Engine
 rule_at at f e = with_talk (λ t. f (present_at at t)) e
 
--- where the session has ended, and where no more of the input is read, the unread bytes go
+-- where the link is not open, nothing is left of what was received on it or is unsent; and where its input is dropped, nothing is unread
 abbrev pub settle : Engine → Engine
-settle e = if has_ended e.talk || drops_input e.talk then record e { unread = []; place = 0 } else e
+settle e =
+    if is_open e.talk
+    then (if drops_input e.talk then record e { unread = []; place = 0 } else e)
+    else record e { unread = []; place = 0; unsent = [] }
 
 -- ---- the step
 
@@ -113,6 +116,10 @@ read_one at e = read_row at (front_of e) e
 
 -- ---- writing
 
+-- how many frames wait to be committed
+abbrev pub frames_waiting : Talk → ℕ
+frames_waiting t = length t.control
+
 -- the next frame, where it and the unsent bytes together fit the capacity
 abbrev pub fitting_next : Engine → Option Item
 fitting_next e = next_within (CAPACITY - length e.unsent) e.talk
@@ -132,7 +139,7 @@ commits (suc n) e = commits n (commit_one e)
 
 -- frames are committed while there is one that fits
 abbrev pub commit_all : Engine → Engine
-commit_all e = commits (length e.talk.control) e
+commit_all e = commits (frames_waiting e.talk) e
 
 -- something is to be written
 abbrev pub can_write : Engine → Bool
@@ -158,4 +165,4 @@ wrote at NoMemory e = took at 0 e
 
 -- memory was refused when so many parts of the turn were done, and the session ends
 abbrev pub starve_at : ℕ → ℕ → Engine → Engine
-starve_at at j e = record e { talk = starve (present_at at e.talk); unread = []; place = 0; starved = Some j }
+starve_at at j e = record e { talk = starve (present_at at e.talk); unread = []; place = 0; unsent = []; starved = Some j }

@@ -1,17 +1,20 @@
 -- What a port tells of itself: its steps, the writes to it, the bytes of its links, and the script that it plays.
-use Rattle.std.specs.Prelude.{◌≡◌, ◌≤◌, ℕ, ◌-◌, if◌then◌else◌, Bool, true, false, List, [], ◌∷◌, ◌++◌, length, take, slice_get, slice_set, Option, Some, None, IfSome, option_map}
+use Rattle.std.specs.Prelude.{◌≡◌, ◌≤◌, ℕ, ◌+◌, ◌-◌, ◌==◌, if◌then◌else◌, Bool, true, false, List, [], ◌∷◌, ◌++◌, length, take, slice_get, slice_set, Option, Some, None, IfSome, option_map}
 use Rattle.amqp_engine.specs.declared.port.Step.{Step}
-use Rattle.amqp_engine.specs.declared.port.Step.TheVariants.{Linked, LinkFailed, Piece}
+use Rattle.amqp_engine.specs.declared.port.Step.TheVariants.{Linked, LinkFailed, Piece, Tick}
 use Rattle.amqp_engine.specs.declared.port.Wrote.{Wrote}
 use Rattle.amqp_engine.specs.declared.port.Wrote.TheVariants.{Took, Failed, NoMemory}
 use Rattle.amqp_engine.specs.declared.port.Happening.{Happening}
 use Rattle.amqp_engine.specs.declared.port.Write.{Write}
 use Rattle.amqp_engine.specs.declared.given.Given.{Given}
-use Rattle.amqp_engine.specs.Plan.{Plan, plan_of, plan_step, plan_write, plan_failure, is_none_left, next_happening, PlanAnswers}
+use Rattle.amqp_engine.specs.Plan.{Plan, at_most_64, plan_of, plan_step, plan_write, plan_failure, next_coming, PlanAnswers}
 
 pub record Log : Type 0 where
-  -- the steps that were told, in order, but for the ticks after a script
+  -- the steps that were told, in order, but for ticks that tell no new moment
   pub steps : List Happening
+  -- how many steps were told, a number that stays at the greatest of 64 bits, and the moment of the last
+  pub told : ℕ
+  pub moment : ℕ
   -- the writes, in order
   pub writes : List Write
   -- the bytes taken on each link, in order
@@ -23,7 +26,7 @@ pub record Log : Type 0 where
 
 -- a script is loaded: there is no link, and nothing was told
 abbrev pub loaded : List Given → Log
-loaded gs = record { steps = []; writes = []; links = []; asked = false; plan = Some (plan_of gs) }
+loaded gs = record { steps = []; told = 0; moment = 0; writes = []; links = []; asked = false; plan = Some (plan_of gs) }
 
 -- a link is asked for
 abbrev pub log_ask : Log → Log
@@ -54,17 +57,21 @@ asked_after Linked asked = false
 asked_after LinkFailed asked = false
 asked_after _ asked = asked
 
-abbrev pub is_played : Option Plan → Bool
-is_played None = false
-is_played (Some p) = is_none_left p.rest
+-- a tick that tells no new moment
+abbrev pub is_repeated : Step → ℕ → ℕ → Bool
+is_repeated Tick at last = at == last
+is_repeated _ at last = false
 
--- a step is told; the ticks after a script are counted alone
+-- a step is told; a tick that tells no new moment is counted alone
 abbrev pub log_step : ℕ → Step → List ℕ → Log → Log
 log_step at step bytes a =
-    if is_played a.plan
-    then record a { plan = option_map (plan_step a.asked) a.plan }
-    else record a {
-      steps = a.steps ++ record { at = at; step = step; bytes = bytes } ∷ [];
+    record a {
+      steps =
+          if is_repeated step at a.moment
+          then a.steps
+          else a.steps ++ record { before = a.told; at = at; step = step; bytes = bytes } ∷ [];
+      told = at_most_64 (a.told + 1);
+      moment = at;
       links = links_after step a.asked a.links;
       asked = asked_after step a.asked;
       plan = option_map (plan_step a.asked) a.plan;
@@ -72,7 +79,7 @@ log_step at step bytes a =
 
 -- a port that plays a script tells its next step
 abbrev pub PlansStep : ℕ → Step → List ℕ → Log → Type 0
-PlansStep at step bytes a = IfSome a.plan (λ p. next_happening p ≡ record { at = at; step = step; bytes = bytes })
+PlansStep at step bytes a = IfSome a.plan (λ p. next_coming p ≡ record { at = at; step = step; bytes = bytes })
 
 -- ---- a write
 
@@ -92,13 +99,13 @@ on_last f xs = last_set (slice_get xs (length xs - 1)) f xs
 abbrev pub log_write : List ℕ → Wrote → Log → Log
 log_write bytes (Took k) a =
     record a {
-      writes = a.writes ++ record { before = length a.steps; offered = length bytes; answer = Took k } ∷ [];
+      writes = a.writes ++ record { before = a.told; offered = length bytes; answer = Took k } ∷ [];
       links = on_last (λ link. link ++ take k bytes) a.links;
       plan = option_map (plan_write k) a.plan;
     }
 log_write bytes Failed a =
     record a {
-      writes = a.writes ++ record { before = length a.steps; offered = length bytes; answer = Failed } ∷ [];
+      writes = a.writes ++ record { before = a.told; offered = length bytes; answer = Failed } ∷ [];
       plan = option_map plan_failure a.plan;
     }
 log_write bytes NoMemory a = a

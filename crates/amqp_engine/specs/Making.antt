@@ -7,7 +7,10 @@ use Rattle.amqp_frame.specs.declared.frame.Read.{Read}
 use Rattle.amqp_frame.specs.declared.frame.Read.TheVariants.{Whole}
 use Rattle.amqp_engine.specs.declared.port.Step.{Step}
 use Rattle.amqp_engine.specs.declared.port.Step.TheVariants.{Command}
+use Rattle.amqp_engine.specs.declared.port.Happening.{Happening}
 use Rattle.amqp_engine.specs.declared.port.Wrote.{Wrote}
+use Rattle.amqp_engine.specs.declared.given.Given.{Given}
+use Rattle.amqp_engine.specs.Plan.{step_of, bytes_of}
 use Rattle.amqp_engine.specs.Counts.{Rose}
 use Rattle.amqp_engine.specs.Engine.{Engine}
 use Rattle.amqp_engine.specs.Turn.{Progress, AreAnswers, drain}
@@ -49,3 +52,7 @@ pub record BringsNone (t t' : Talk) : Type 0 where
 -- none is brought but by a write that failed, which the port counted
 pub record BreaksPipe (t t' : Talk) (count count' : ℕ) : Type 0 where
   pub cause : (fault : IoFault) → fault_of t' ≡ Some fault → (fault_of t ≡ Some fault) ⊎ ((fault ≡ BrokenPipe) × Rose count count')
+
+-- a given step as a port in memory keeps it, until it is told how many came before
+abbrev pub happening_of : Given → Happening
+happening_of g = record { before = 0; at = g.at; step = step_of g.what; bytes = bytes_of g.what }

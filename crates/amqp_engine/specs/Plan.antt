@@ -4,7 +4,6 @@ use Rattle.amqp_engine.specs.declared.port.Step.{Step}
 use Rattle.amqp_engine.specs.declared.port.Step.TheVariants.{Linked, LinkFailed, Piece, End, Fault, Room, Tick, Command}
 use Rattle.amqp_engine.specs.declared.port.Wrote.{Wrote}
 use Rattle.amqp_engine.specs.declared.port.Wrote.TheVariants.{Took, Failed, NoMemory}
-use Rattle.amqp_engine.specs.declared.port.Happening.{Happening}
 use Rattle.amqp_engine.specs.declared.given.Given.{Given}
 use Rattle.amqp_engine.specs.declared.given.GivenStep.{GivenStep}
 use Rattle.amqp_engine.specs.declared.given.GivenStep.TheVariants.{Link, Refuse, Bytes, End as GivenEnd, Fault as GivenFault, Room as GivenRoom, WriteFail, Tick as GivenTick, Command as GivenCommand}
@@ -18,12 +17,10 @@ pub record Plan : Type 0 where
   pub fails : Bool
   -- the moment of the last given step
   pub moment : ℕ
-  -- how many ticks were told after the last given step
-  pub idle : ℕ
 
 -- a script at its beginning; there is no link yet, and so no room
 abbrev pub plan_of : List Given → Plan
-plan_of gs = record { rest = gs; room = Some 0; fails = false; moment = 0; idle = 0 }
+plan_of gs = record { rest = gs; room = Some 0; fails = false; moment = 0 }
 
 -- a number of 64 bits that stays at the greatest one
 abbrev pub at_most_64 : ℕ → ℕ
@@ -47,16 +44,23 @@ abbrev pub bytes_of : GivenStep → List ℕ
 bytes_of (Bytes bytes) = bytes
 bytes_of _ = []
 
-abbrev pub happening_of : Given → Happening
-happening_of g = record { at = g.at; step = step_of g.what; bytes = bytes_of g.what }
+-- a step that comes: its moment, and the bytes of its piece
+pub record Coming : Type 0 where
+  pub at : ℕ
+  pub step : Step
+  pub bytes : List ℕ
 
-abbrev pub happening_next : List Given → ℕ → Happening
-happening_next [] last = record { at = last; step = Tick; bytes = [] }
-happening_next (g ∷ gs) last = happening_of g
+-- a given step, as it comes
+abbrev pub coming_of : Given → Coming
+coming_of g = record { at = g.at; step = step_of g.what; bytes = bytes_of g.what }
+
+abbrev pub coming_from : List Given → ℕ → Coming
+coming_from [] last = record { at = last; step = Tick; bytes = [] }
+coming_from (g ∷ gs) last = coming_of g
 
 -- what is told next: the next given step, or a tick of the last moment
-abbrev pub next_happening : Plan → Happening
-next_happening p = happening_next p.rest p.moment
+abbrev pub next_coming : Plan → Coming
+next_coming p = coming_from p.rest p.moment
 
 abbrev pub more_room : ℕ → Option ℕ → Option ℕ
 more_room n None = None
@@ -74,17 +78,13 @@ fails_after WriteFail fails = true
 fails_after _ fails = fails
 
 abbrev pub plan_from : List Given → Bool → Plan → Plan
-plan_from [] asked p = record p { idle = at_most_64 (p.idle + 1) }
+plan_from [] asked p = p
 plan_from (g ∷ gs) asked p =
     record p { rest = gs; room = room_after asked g.what p.room; fails = fails_after g.what p.fails; moment = g.at }
 
 -- a step is told, where a link is asked for or not
 abbrev pub plan_step : Bool → Plan → Plan
 plan_step asked p = plan_from p.rest asked p
-
-abbrev pub is_none_left : List Given → Bool
-is_none_left [] = true
-is_none_left (g ∷ gs) = false
 
 -- ---- the writes
 

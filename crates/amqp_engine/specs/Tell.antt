@@ -5,7 +5,7 @@ use Rattle.amqp_engine.specs.declared.port.Step.{Step}
 use Rattle.amqp_engine.specs.declared.port.Wrote.{Wrote}
 use Rattle.amqp_engine.specs.Log.{Log, log_ask, log_step, log_write, PlansStep, PlansWrite}
 use Rattle.amqp_engine.specs.Engine.{Engine}
-use Rattle.amqp_engine.specs.Turn.{Turn, Notes, asks, wants_ask, offered, answered, read, turn, applied, IsApplied, IsTurn, Leads}
+use Rattle.amqp_engine.specs.Turn.{Turn, Notes, IsTold, AreTold, asks, wants_ask, offered, answered, read, turn, applied, IsApplied, IsTurn, Leads}
 
 -- ---- what is told
 
@@ -86,6 +86,7 @@ pub record Applies (at : ℕ) (step : Step) (bytes : List ℕ) (e e' : Engine) (
 pub record TakesTurn (e e' : Engine) (log log' : Option Log) : Type 0 where
   pub u : Turn
   pub may : IsTurn u e
+  pub told : IsTold u.step
   pub leaves : turn u e ≡ e'
   pub tells : TellsTurn u e log log'
 
@@ -94,5 +95,6 @@ pub record Runs (allowed : ℕ) (e e' : Engine) (log log' : Option Log) : Type 0
   pub us : List Turn
   pub leads : Leads us e e'
   pub tells : TellsTurns us e log log'
+  pub told : AreTold us
   pub within : length us ≤ allowed
   pub all : has_ended e'.talk ≡ false → length us ≡ allowed

@@ -1,7 +1,9 @@
 -- A turn: one step that was taken, with all that follows it. The engine is a fold of its turns, whatever its port tells.
-use Rattle.std.specs.Prelude.{◌≡◌, ℕ, zero, suc, ◌+◌, not, ◌&&◌, ◌==◌, if◌then◌else◌, nat_lt, Bool, true, false, IsTrue, IsFalse, MatchBool, List, [], ◌∷◌, length, Option, Some, None}
-use Rattle.amqp_session.specs.Talk.{Talk, wants_link, is_asked, is_open, has_ended}
+use Rattle.std.specs.Prelude.{◌≡◌, ◌≢◌, ◌<◌, ℕ, zero, suc, ◌+◌, ◌^◌, not, ◌&&◌, ◌==◌, if◌then◌else◌, nat_lt, Bool, true, false, IsTrue, IsFalse, MatchBool, List, [], ◌∷◌, length, Option, Some, None}
+use Rattle.amqp_session.specs.Talk.{Talk, start, wants_link, is_asked, is_open, has_ended}
 use Rattle.amqp_session.specs.Links.{asked}
+use Rattle.amqp_session.specs.declared.command.Cmd.{Cmd}
+use Rattle.amqp_session.specs.declared.command.Cmd.TheVariants.{Send}
 use Rattle.amqp_engine.specs.declared.port.Step.{Step}
 use Rattle.amqp_engine.specs.declared.port.Step.TheVariants.{Linked, LinkFailed, Piece, End, Fault, Room, Tick, Command}
 use Rattle.amqp_engine.specs.declared.port.Wrote.{Wrote}
@@ -151,7 +153,7 @@ turns (u ∷ us) e = turns us (turn u e)
 
 -- the state of the session that these turns lead to
 abbrev pub talk : List Turn → Talk
-talk us = (turns us begin).talk
+talk us = (turns us (begin start)).talk
 
 -- ---- which turns there may be
 
@@ -172,6 +174,22 @@ pub record IsTurn (u : Turn) (e : Engine) : Type 0 where
 abbrev pub AreTurns : List Turn → Engine → Type 0
 AreTurns [] e = Unit {0}
 AreTurns (u ∷ us) e = IsTurn u e × AreTurns us (turn u e)
+
+-- the numbers of a command fit their types on the wire, and its lengths those of a machine
+abbrev pub IsToldCommand : Cmd → Type 0
+IsToldCommand (Send channel method) =
+    (method.class ≢ 10) × (method.class ≢ 20) × (method.class < 2 ^ 16) × (method.method < 2 ^ 16) × (length method.arguments < 2 ^ 63)
+IsToldCommand _ = Unit {0}
+
+-- a step as it can be told: what it names is what it can carry
+abbrev pub IsTold : Step → Type 0
+IsTold (Command c) = IsToldCommand c
+IsTold _ = Unit {0}
+
+-- the steps of these turns are told
+abbrev pub AreTold : List Turn → Type 0
+AreTold [] = Unit {0}
+AreTold (u ∷ us) = IsTold u.step × AreTold us
 
 -- these turns lead from here to there
 pub record Leads (us : List Turn) (before after : Engine) : Type 0 where

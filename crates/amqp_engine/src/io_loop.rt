@@ -2,7 +2,7 @@
 
 ghost use Rattle.std.specs.Prelude.{◌≡◌, ◌≤◌, ◌⊎◌, ℕ, Some, None, Err, true, false, IfOk, IfErr, IfSome, IsOk, OnOk, OnErr, MatchResult, IsSome, IsTrue, length, option_map};
 ghost use Rattle.amqp_session.specs.declared.io_fault.IoFault.{IoFault};
-ghost use Rattle.amqp_session.specs.Talk.{has_ended, end_of};
+ghost use Rattle.amqp_session.specs.Talk.{start, has_ended, end_of};
 ghost use Rattle.amqp_session.specs.Channels.{frames_of};
 ghost use Rattle.amqp_session.specs.Commands.{command as command_rule};
 ghost use Rattle.amqp_session.specs.Answers.{HandsOut, Takes, take_frames};
@@ -52,14 +52,14 @@ impl Model for IoLoop {
 impl IoLoop {
     /// A loop that wants a link. It takes the memory of both buffers and of the scratch.
     pub fn new(alloc: Global) -> Result<IoLoop>
-        ensures ok { IfOk result (λ l. l ≡ begin) }
+        ensures ok { IfOk result (λ l. l ≡ begin start) }
         ensures err { IfErr result (λ e. e ≡ ErrorKind.NoMemory) }
     {
         Ok(IoLoop::make(alloc)?)
     }
 
     fn make(alloc: Global) -> std::result::Result<IoLoop, NoMemory>
-        ensures { IfOk result (λ l. l ≡ begin) }
+        ensures { IfOk result (λ l. l ≡ begin start) }
     {
         let scratch = vec![in alloc; 0; PIECE]?;
         let wire = Wire::new(alloc)?;
@@ -117,6 +117,7 @@ impl IoLoop {
     {
         self.wire.ask(port);
         let told = port.next(&mut self.scratch);
+        told.step.hold();
         let n = told.step.piece_len();
         self.wire.apply(told, &self.scratch[..n], port)
     }

@@ -2,7 +2,7 @@
 
 ghost use Rattle.std.specs.Prelude.{◌≡◌, ℕ, ◌+◌, [], false, true, List, Option, map};
 ghost use Rattle.std.specs.List.{AllByRecursion};
-ghost use Rattle.amqp_session.specs.Talk.{has_ended};
+ghost use Rattle.amqp_session.specs.Talk.{Talk, start, has_ended};
 ghost use Rattle.amqp_engine.specs.declared.given.Given.{Given};
 ghost use Rattle.amqp_engine.specs.Log.{Log, loaded};
 ghost use Rattle.amqp_engine.specs.Engine.{Engine, begin};
@@ -30,21 +30,21 @@ pub fn a_run_goes_on()
 /// The turns of a script are turns of a new engine over a port that plays the script. So what holds
 /// of all turns holds of these.
 pub fn a_script_has_its_turns()
-    ensures turns { (gs : List Given) → AreTurns (replayed gs) begin }
-    ensures plays { (gs : List Given) → PlaysTurns (replayed gs) begin (loaded gs) }
+    ensures turns { (gs : List Given) → AreTurns (replayed gs) (begin start) }
+    ensures plays { (gs : List Given) → PlaysTurns (replayed gs) (begin start) (loaded gs) }
 {}
 
 /// What a port tells of its links, which had none before a new engine ran over it, are the bytes of
 /// the frames that were committed on each, as many as were taken: the spellings of the frames that
 /// were sent, in order, and then a part of the next one.
 pub fn a_link_has_the_frames_sent()
-    ensures told { (us : List Turn) (log : Log) → AreTurns us begin → PlaysTurns us begin log → log.links ≡ [] → log.asked ≡ false
-        → (log_turns us begin log).links ≡ map link_bytes (sendings us) }
-    ensures order { (us : List Turn) → AreTurns us begin → AllByRecursion SendsInOrder (sendings us) }
+    ensures told { (us : List Turn) (log : Log) → AreTurns us (begin start) → log.links ≡ [] → log.asked ≡ false
+        → (log_turns us (begin start) log).links ≡ map link_bytes (sendings us) }
+    ensures order { (us : List Turn) → AreTurns us (begin start) → AllByRecursion SendsInOrder (sendings us) }
 {}
 
 /// While a link is open, no turn leaves a whole frame unread.
 pub fn nothing_whole_is_left_unread()
-    ensures begin { IsRead begin }
+    ensures begin { (t : Talk) → IsRead (begin t) }
     ensures turn { (u : Turn) (e : Engine) → IsRead e → IsTurn u e → IsRead (turn u e) }
 {}

@@ -1,7 +1,8 @@
 //! A port over given steps, which always tells.
 
 ghost use Rattle.std.specs.Prelude.{◌≡◌, ◌≤◌, ◌<◌, ◌+◌, ◌++◌, Some, IfOk, OnOk, OnErr, refl, length, map, take, vec_len, vec_capacity};
-ghost use Rattle.amqp_engine.specs.Plan.{happening_of, step_of, bytes_of, room_after, fails_after, room_for, less_room, more_room, IsGivenPiece, ArePieces};
+ghost use Rattle.amqp_engine.specs.Plan.{step_of, bytes_of, room_after, fails_after, room_for, less_room, more_room, IsGivenPiece, ArePieces};
+ghost use Rattle.amqp_engine.specs.Making.{happening_of};
 ghost use Rattle.amqp_engine.specs.Log.{Log, loaded, on_last, piece_len, links_after, asked_after};
 
 use crate::given::{Given, GivenStep};
@@ -17,7 +18,9 @@ use std::marker::Model;
 #[derive(Debug, Drop)]
 pub struct MemoryPort {
     alloc: Global,
-    told: Vec<Happening>,
+    // the steps that were told, and how many there were with the ticks that tell no new moment
+    steps: Vec<Happening>,
+    told: u64,
     // what is still to be given, and the same to be told
     rest: VecDeque<Given>,
     coming: VecDeque<Happening>,
@@ -26,8 +29,6 @@ pub struct MemoryPort {
     // whether the next write fails
     fails: bool,
     moment: u64,
-    // the ticks after the last given step
-    idle: u64,
     asked: bool,
     links: Vec<TakenBytes>,
     writes: Vec<Write>,
@@ -37,25 +38,28 @@ pub struct MemoryPort {
 
 impl Model for MemoryPort {
     ghost use Rattle.std.specs.Prelude.{◌≡◌, ◌≤◌, ◌+◌, Some, length, map, vec_capacity, vec_len};
-    ghost use Rattle.amqp_engine.specs.Plan.{happening_of, ArePieces};
+    ghost use Rattle.amqp_engine.specs.Plan.{ArePieces};
+    ghost use Rattle.amqp_engine.specs.Making.{happening_of};
     ghost use Rattle.amqp_engine.specs.Log.{Kept};
 
     ghost Value = { Kept };
 
     ghost view = { λ p. record {
       log = record {
-        steps = p.told.items;
+        steps = p.steps.items;
+        told = p.told;
+        moment = p.moment;
         writes = p.writes.items;
         links = p.links.items;
         asked = p.asked;
-        plan = Some (record { rest = p.rest.items; room = p.room; fails = p.fails; moment = p.moment; idle = p.idle });
+        plan = Some (record { rest = p.rest.items; room = p.room; fails = p.fails; moment = p.moment });
       };
       faults = p.faults;
     } };
 
     // Each step that is left has its copy, and its places among the steps and the links.
     ghost invariant = { λ p. (map happening_of p.rest.items ≡ p.coming.items)
-        × (vec_len p.told + length p.rest.items ≤ vec_capacity p.told)
+        × (vec_len p.steps + length p.rest.items ≤ vec_capacity p.steps)
         × (vec_len p.links + length p.rest.items ≤ vec_capacity p.links)
         × ArePieces p.rest.items };
 }
@@ -69,13 +73,13 @@ impl MemoryPort {
     {
         let mut port = MemoryPort {
             alloc,
-            told: Vec::new(alloc),
+            steps: Vec::new(alloc),
+            told: 0,
             rest: VecDeque::new(alloc),
             coming: VecDeque::new(alloc),
             room: Some(0),
             fails: false,
             moment: 0,
-            idle: 0,
             asked: false,
             links: Vec::new(alloc),
             writes: Vec::new(alloc),
@@ -97,15 +101,22 @@ impl Port for MemoryPort {
 
     fn next(&mut self, space: &mut [u8]) -> Told {
         let Some(Given { at, what }) = self.rest.pop_front() else {
-            self.idle = self.idle.saturating_add(1);
+            self.told = self.told.saturating_add(1);
             return Told {
                 at: self.moment,
                 step: Step::Tick,
             };
         };
-        if let Some(happening) = self.coming.pop_front() {
-            self.told.push_reserved(happening);
+        let repeated = at == self.moment && matches!(what, GivenStep::Tick);
+        if let Some(mut happening) = self.coming.pop_front() {
+            happening.before = self.told;
+            if repeated {
+                drop(happening);
+            } else {
+                self.steps.push_reserved(happening);
+            }
         }
+        self.told = self.told.saturating_add(1);
         self.moment = at;
         self.fails = fails_after(&what, self.fails);
         let step = give(
@@ -132,7 +143,7 @@ impl Port for MemoryPort {
             self.fails = false;
             self.faults = self.faults.saturating_add(1);
             self.writes.push_reserved(Write {
-                before: self.told.len() as u64,
+                before: self.told,
                 offered,
                 answer: Wrote::Failed,
             });
@@ -145,7 +156,7 @@ impl Port for MemoryPort {
             self.room = Some(left - n as u64);
         }
         self.writes.push_reserved(Write {
-            before: self.told.len() as u64,
+            before: self.told,
             offered,
             answer: Wrote::Took(n),
         });
@@ -160,18 +171,18 @@ impl ScriptedPort for MemoryPort {
 
     fn load(&mut self, steps: Vec<Given>) -> Result<(), NoMemory> {
         let coming = told_all(self.alloc, &steps)?;
-        let mut told = Vec::new(self.alloc);
-        told.reserve(steps.len())?;
+        let mut places = Vec::new(self.alloc);
+        places.reserve(steps.len())?;
         let mut links = Vec::new(self.alloc);
         links.reserve(steps.len())?;
         self.rest = VecDeque::from_vec(steps);
         self.coming = coming;
-        self.told = told;
+        self.steps = places;
+        self.told = 0;
         self.links = links;
         self.room = Some(0);
         self.fails = false;
         self.moment = 0;
-        self.idle = 0;
         self.asked = false;
         self.writes.clear();
         Ok(())
@@ -217,6 +228,7 @@ fn told_of(alloc: Global, given: &Given) -> Result<Happening, NoMemory>
         GivenStep::Command(command) => Step::Command(command.try_clone(alloc)?),
     };
     Ok(Happening {
+        before: 0,
         at: given.at,
         step,
         bytes,

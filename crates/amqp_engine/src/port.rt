@@ -33,7 +33,7 @@ pub enum Step {
 
 impl Step {
     ghost use Rattle.amqp_engine.specs.Counts.{is_fault};
-    ghost use Rattle.amqp_engine.specs.Turn.{is_piece};
+    ghost use Rattle.amqp_engine.specs.Turn.{is_piece, IsTold};
 
     /// An equal step.
     pub fn try_clone(&self, alloc: Global) -> Result<Step, NoMemory>
@@ -62,6 +62,16 @@ impl Step {
         ensures { result ≡ is_fault self.now }
     {
         matches!(self, Step::LinkFailed | Step::Fault)
+    }
+
+    // The numbers and lengths of a command are those that its types can hold. It is called for
+    // this clause alone.
+    pub(crate) fn hold(&self)
+        ensures { IsTold self.now }
+    {
+        if let Step::Command(Cmd::Send(_, method)) = self {
+            let _held = (method.class_id(), method.method_id(), method.args().len());
+        }
     }
 
     pub(crate) fn piece_len(&self) -> usize
@@ -114,9 +124,10 @@ impl Wrote {
     }
 }
 
-/// A step that was told, with the bytes of its piece.
+/// A step that was told: how many steps came before it, its moment, and the bytes of its piece.
 #[derive(Debug, PartialEq, Eq, Drop)]
 pub struct Happening {
+    pub before: u64,
     pub at: u64,
     pub step: Step,
     pub bytes: Payload,

@@ -1,7 +1,7 @@
 //! The session with the bytes of its link.
 
 ghost use Rattle.std.specs.Prelude.{◌≡◌, ◌≢◌, ◌≤◌, not, ◌<◌, ◌⊎◌, ◌+◌, ◌*◌, ◌^◌, ℕ, List, Option, Some, true, false, if◌then◌else◌, IfOk, IfErr, IfNone, IsOk, IfSome, OnOk, OnErr, MatchResult, IsSome, IsTrue, IsFalse, option_map, length, is_some};
-ghost use Rattle.amqp_session.specs.Talk.{is_open, is_asked, has_ended};
+ghost use Rattle.amqp_session.specs.Talk.{start, is_open, is_asked, has_ended};
 ghost use Rattle.amqp_session.specs.declared.io_fault.IoFault.{IoFault};
 ghost use Rattle.amqp_session.specs.Changes.{starve};
 ghost use Rattle.amqp_session.specs.Links.{link_failed, lost};
@@ -38,7 +38,8 @@ pub struct Wire {
 }
 
 impl Model for Wire {
-    ghost use Rattle.std.specs.Prelude.{◌≡◌, length};
+    ghost use Rattle.std.specs.Prelude.{◌≡◌, IsTrue, length};
+    ghost use Rattle.amqp_session.specs.Talk.{is_open};
     ghost use Rattle.amqp_session.specs.Writing.{left_in};
     ghost use Rattle.amqp_engine.specs.Engine.{Engine};
 
@@ -57,8 +58,8 @@ impl Model for Wire {
       starved = w.starved;
     } };
 
-    // The session counts the bytes that are unsent.
-    ghost invariant = { λ w. length w.unsent ≡ left_in w.session.committed };
+    // While the link is open, the session counts the bytes that are unsent.
+    ghost invariant = { λ w. IsTrue (is_open w.session) → length w.unsent ≡ left_in w.session.committed };
 }
 
 /// What came of an offer.
@@ -71,7 +72,7 @@ struct Offered {
 
 impl Wire {
     pub fn new(alloc: Global) -> Result<Wire, NoMemory>
-        ensures { IfOk result (λ w. w ≡ begin) }
+        ensures { IfOk result (λ w. w ≡ begin start) }
     {
         let unread = Buffer::new(alloc)?;
         let unsent = Buffer::new(alloc)?;
@@ -382,11 +383,16 @@ impl Wire {
         Ok(())
     }
 
-    // Where the session has ended, and where no more of the input is read, the unread bytes go.
+    // Where the link is not open, nothing is left of what was received on it or is unsent; and where
+    // its input is dropped, nothing is unread.
     fn settle(&mut self)
         ensures { self.new ≡ settle self.old }
     {
-        if self.session.has_ended() || self.session.drops_input() {
+        if !self.session.is_open() {
+            self.unread.clear();
+            self.place = 0;
+            self.unsent.clear();
+        } else if self.session.drops_input() {
             self.unread.clear();
             self.place = 0;
         }
@@ -497,6 +503,7 @@ impl Wire {
         self.session.starve(at);
         self.unread.clear();
         self.place = 0;
+        self.unsent.clear();
         self.starved = Some(parts);
     }
 }

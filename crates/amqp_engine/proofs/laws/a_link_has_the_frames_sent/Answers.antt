@@ -1,4 +1,5 @@
-use Rattle.amqp_engine.proofs.Links.{told, order}
+use Rattle.amqp_engine.proofs.Sends.{order}
+use Rattle.amqp_engine.proofs.LinkTold.{told}
 use Rattle.amqp_engine.proofs.laws.a_link_has_the_frames_sent.Goals as goal
 
 pub returns-clause-told : goal.returns-clause-told

@@ -1,5 +1,5 @@
 use Rattle.std.proofs.Common.{◌++◌, [], ◌∷◌, length-append, arith}
-use Rattle.amqp_engine.proofs.Running.{Leads-push, tells-push}
+use Rattle.amqp_engine.proofs.Running.{Leads-push, tells-push, told-append}
 use Rattle.amqp_engine.proofs.io_loop.IoLoop.take_turns.Goals as goal
 
 pub turns-preserved : goal.turns-preserved
@@ -10,8 +10,9 @@ turns-preserved g c =
       turns = (
         us ++ f.u ∷ [],
         omega (arith, length-append us (f.u ∷ []), c.turns.invariant.turns.1),
-        Leads-push us f.u _ _ _ c.turns.invariant.turns.2 f.may f.leaves,
-        tells-push us f.u _ _ _ _ _ c.turns.invariant.turns.2.leaves c.turns.invariant.turns.3 f.tells,
+        told-append us (f.u ∷ []) c.turns.invariant.turns.2 (f.told, tt),
+        Leads-push us f.u _ _ _ c.turns.invariant.turns.3 f.may f.leaves,
+        tells-push us f.u _ _ _ _ _ c.turns.invariant.turns.3.leaves c.turns.invariant.turns.4 f.tells,
       );
       faults = omega (arith, c.turn.ensures.faults, c.turns.invariant.faults);
       io_error_counted = λ fault running h counted. omega (arith, c.turn.ensures.io_error_counted fault h counted, c.turns.invariant.faults);

@@ -26,7 +26,7 @@ returns-clause-turn g c =
     c.requires
     (c.ask.ensures.engine ∙ ap asks c.self.view_is)
     (c.ask.ensures.told ∙ ap (λ (m : Engine). option_map (log_asks m) (g.P.Port.log c.args.port.now)) c.self.view_is)
-    c.next-told.ensures.told bytes c.next-told.ensures.plays c.apply.ensures.turn
+    c.next-told.ensures.told bytes c.next-told.ensures.plays c.hold.ensures c.apply.ensures.turn
 
 pub invariant_of-self : goal.invariant_of-self
 invariant_of-self g c =

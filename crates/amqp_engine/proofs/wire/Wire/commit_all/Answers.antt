@@ -1,5 +1,5 @@
 use Rattle.std.proofs.Common.{◌≡◌, ◌∙◌, None, ap, sym, length}
-use Rattle.amqp_engine.specs.Engine.{fitting_next, committed_as}
+use Rattle.amqp_engine.specs.Engine.{frames_waiting, fitting_next, committed_as}
 use Rattle.amqp_engine.proofs.Cases.{none-from}
 use Rattle.amqp_engine.proofs.Commits.{commits-rest}
 use Rattle.amqp_engine.proofs.wire.Wire.commit_all.Goals as goal
@@ -8,4 +8,4 @@ pub returns : goal.returns
 returns c =
     let e = c.commits.self in
     let none : fitting_next e ≡ None = none-from (fitting_next e) (sym c.commit_next.ensures.some ∙ c.commits-test.false) in
-    c.commit_next.ensures.commit ∙ ap (λ o. committed_as o e) none ∙ sym (commits-rest (length e.talk.control) e none) ∙ c.commits.invariant
+    c.commit_next.ensures.commit ∙ ap (λ o. committed_as o e) none ∙ sym (commits-rest (frames_waiting e.talk) e none) ∙ c.commits.invariant

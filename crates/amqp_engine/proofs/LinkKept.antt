@@ -1,0 +1,224 @@
+-- What a step, the reading of a frame and a write leave of the link, and of what is to be sent on it.
+use Rattle.std.proofs.Common.{◌≡◌, ◌⊎◌, inl, inr, ℕ, ◌+◌, ◌==◌, if◌then◌else◌, Bool, true, false, List, [], ◌∷◌, ◌++◌, length, drop, is_some, refl, ap, sym, ◌∙◌, subst}
+use Rattle.amqp_frame.specs.declared.frame.Read.{Read}
+use Rattle.amqp_frame.specs.declared.frame.Read.TheVariants.{Whole, More, TooLarge, BadHeartbeat, Bad, NoMemory as ReadNoMemory}
+use Rattle.amqp_session.specs.declared.committed.Mark.{Mark}
+use Rattle.amqp_session.specs.declared.state.Link.{Link}
+use Rattle.amqp_session.specs.declared.state.Link.TheVariants.{Wanted, Asked, Open, Ended}
+use Rattle.amqp_session.specs.declared.io_fault.IoFault.{IoFault}
+use Rattle.amqp_session.specs.declared.io_fault.IoFault.TheVariants.{Aborted, Refused, Reset, BrokenPipe}
+use Rattle.amqp_session.specs.declared.error.ErrorKind.TheVariants.{IOError}
+use Rattle.amqp_session.specs.declared.misread.Misread.{Misread}
+use Rattle.amqp_session.specs.declared.misread.Misread.TheVariants as misreads
+use Rattle.amqp_session.specs.declared.command.Cmd.{Cmd}
+use Rattle.amqp_session.specs.Talk.{Talk, is_open, is_open_link, is_asked, is_asked_link, end_of_link}
+use Rattle.amqp_session.specs.Changes.{present_at, fail}
+use Rattle.amqp_session.specs.Links.{asked_link, linked, link_failed, piece, misread, lost}
+use Rattle.amqp_session.specs.Frames.{on_frame}
+use Rattle.amqp_session.specs.Commands.{command}
+use Rattle.amqp_session.specs.Writing.{taken}
+use Rattle.amqp_engine.specs.declared.port.Step.{Step}
+use Rattle.amqp_engine.specs.declared.port.Step.TheVariants.{Linked, LinkFailed, Piece, End, Fault, Room, Tick, Command}
+use Rattle.amqp_engine.specs.declared.port.Wrote.{Wrote}
+use Rattle.amqp_engine.specs.declared.port.Wrote.TheVariants.{Took, Failed, NoMemory}
+use Rattle.amqp_engine.specs.Plan.{at_most_64}
+use Rattle.amqp_engine.specs.Engine.{Engine, rule_at, settle, step_engine, read_one, read_row, read_badly, front_of, took, wrote, taken_by, frames_waiting, commit_all}
+use Rattle.amqp_engine.specs.Turn.{answered}
+use Rattle.amqp_engine.proofs.Cases.{if_case, if-false}
+use Rattle.amqp_engine.proofs.Settling.{settle-talk, settle-unsent}
+use Rattle.amqp_engine.proofs.Keeping.{Keeps, LinkKept, link-then, present-keeps, keeps-frame, keeps-misread, stays-command, lost-keeps, lost-link, left_after, committed-taken, taken-link}
+use Rattle.amqp_engine.proofs.Commits.{commits-keep}
+
+-- ---- links
+
+open-not-ended : (l : Link) → is_open_link l ≡ true → is_some (end_of_link l) ≡ true → ⊥
+open-not-ended Open h k = cc
+open-not-ended Wanted h k = cc
+open-not-ended Asked h k = cc
+open-not-ended (Ended r) h k = cc
+
+pub asked-not-open : (l : Link) → is_asked_link l ≡ true → is_open_link l ≡ true → ⊥
+asked-not-open Open h k = cc
+asked-not-open Wanted h k = cc
+asked-not-open Asked h k = cc
+asked-not-open (Ended r) h k = cc
+
+pub asked-open : (l : Link) → is_open_link (asked_link l) ≡ is_open_link l
+asked-open Wanted = refl
+asked-open Asked = refl
+asked-open Open = refl
+asked-open (Ended r) = refl
+
+-- the link stays, or the session ended; so no link is opened
+pub kept-open : (t t' : Talk) → LinkKept t t' → is_open t' ≡ true → is_open t ≡ true
+kept-open t t' (inl same) now = ap is_open_link (sym same) ∙ now
+kept-open t t' (inr ended) now = absurd (open-not-ended t'.link now ended)
+
+pub kept-present : (at : ℕ) (t : Talk) → LinkKept t (present_at at t)
+kept-present at t = inl (present-keeps (λ y. y.link) at t (λ n. refl))
+
+-- ---- what is left of an open link
+
+-- it was open before, and what is to be sent on it is as it was
+pub record Left (e e' : Engine) : Type 0 where
+  pub opened : is_open e.talk ≡ true
+  pub committed : e'.talk.committed ≡ e.talk.committed
+  pub unsent : e'.unsent ≡ e.unsent
+
+abbrev pub Leaves : Engine → Engine → Type 0
+Leaves e e' = is_open e'.talk ≡ true → Left e e'
+
+pub leaves-settle : (e x : Engine) → Leaves e x → Leaves e (settle x)
+leaves-settle e x l now =
+    let here : is_open x.talk ≡ true = sym (ap is_open (settle-talk x)) ∙ now in
+    let k = l here in
+    record { opened = k.opened; committed = ap (λ (t : Talk). t.committed) (settle-talk x) ∙ k.committed; unsent = settle-unsent x here ∙ k.unsent }
+
+-- a rule that commits nothing, and opens no link
+pub leaves-rule : (at : ℕ) (f : Talk → Talk) (e : Engine) → LinkKept (present_at at e.talk) (f (present_at at e.talk))
+    → (f (present_at at e.talk)).committed ≡ (present_at at e.talk).committed → Leaves e (rule_at at f e)
+leaves-rule at f e k same now =
+    let t = present_at at e.talk in
+    record {
+      opened = kept-open e.talk (f t) (link-then e.talk t (f t) (kept-present at e.talk) k) now;
+      committed = same ∙ present-keeps (λ y. y.committed) at e.talk (λ n. refl);
+      unsent = refl;
+    }
+
+leaves-moment : (at : ℕ) (e : Engine) → Leaves e (rule_at at (λ t. t) e)
+leaves-moment at e = leaves-rule at (λ t. t) e (inl refl) refl
+
+-- ---- steps
+
+leaves-failed : (at : ℕ) (e : Engine) → Leaves e (settle (rule_at at link_failed e))
+leaves-failed at e =
+    let t = present_at at e.talk in
+    leaves-settle e (rule_at at link_failed e) (leaves-rule at link_failed e
+    (if_case (LinkKept t) (is_asked t) (fail (IOError Refused) t) t (inr refl) (inl refl))
+    (if_case (λ (x : Talk). x.committed ≡ t.committed) (is_asked t) (fail (IOError Refused) t) t refl refl))
+
+leaves-lost : (at : ℕ) (fault : IoFault) (e : Engine) → Leaves e (settle (rule_at at (lost fault) e))
+leaves-lost at fault e =
+    let t = present_at at e.talk in
+    leaves-settle e (rule_at at (lost fault) e)
+    (leaves-rule at (lost fault) e (lost-link fault t) (lost-keeps (λ y. y.committed) (λ t s l cs x ps. refl) fault t))
+
+leaves-piece : (at : ℕ) (bytes : List ℕ) (e : Engine) → Leaves e (step_engine at (Piece (length bytes)) bytes e)
+leaves-piece at bytes e =
+    let t = present_at at e.talk in
+    let x : Engine = record e { talk = piece t; unread = e.unread ++ bytes } in
+    let read : Talk = record t { last_read = t.present } in
+    if_case (Leaves e) (is_open e.talk) (settle x) (rule_at at (λ y. y) e)
+    (leaves-settle e x (λ now.
+    let l = leaves-rule at piece e (if_case (LinkKept t) (is_open t) read t (inl refl) (inl refl))
+    (if_case (λ (y : Talk). y.committed ≡ t.committed) (is_open t) read t refl refl) now in
+    record { opened = l.opened; committed = l.committed; unsent = refl }))
+    (leaves-moment at e)
+
+leaves-command : (at : ℕ) (c : Cmd) (e : Engine) → Leaves e (rule_at at (command c) e)
+leaves-command at c e =
+    let k = stays-command c (present_at at e.talk) in
+    leaves-rule at (command c) e (inl k.link) k.committed
+
+-- a step that brings no link
+pub leaves-step : (at : ℕ) (step : Step) (bytes : List ℕ) (e : Engine) → (step ≡ Linked → is_asked e.talk ≡ false) → Leaves e (step_engine at step bytes e)
+leaves-step at Linked bytes e other =
+    let none = if-false (is_asked e.talk) (record { talk = linked (present_at at e.talk); unread = []; place = 0; unsent = []; starved = e.starved })
+    (rule_at at (λ t. t) e) (other refl) in
+    subst (Leaves e) (sym none) (leaves-moment at e)
+leaves-step at LinkFailed bytes e other = leaves-failed at e
+leaves-step at (Piece n) bytes e other = leaves-piece at bytes e
+leaves-step at End bytes e other = leaves-lost at Aborted e
+leaves-step at Fault bytes e other = leaves-lost at Reset e
+leaves-step at Room bytes e other = leaves-moment at e
+leaves-step at Tick bytes e other = leaves-moment at e
+leaves-step at (Command c) bytes e other = leaves-command at c e
+
+-- ---- reading
+
+leaves-misread : (at : ℕ) (why : Misread) (e : Engine) → Leaves e (read_badly at why e)
+leaves-misread at why e =
+    let k = keeps-misread why (present_at at e.talk) in
+    leaves-settle e (rule_at at (misread why) e) (leaves-rule at (misread why) e k.link k.committed)
+
+leaves-row : (at : ℕ) (r : Read) (e : Engine) → Leaves e (read_row at r e)
+leaves-row at (Whole f n) e =
+    let k = keeps-frame f e.place (present_at at e.talk) in
+    let x : Engine = record e { talk = on_frame f e.place (present_at at e.talk); unread = drop n e.unread; place = at_most_64 (e.place + n) } in
+    leaves-settle e x (λ now.
+    let l = leaves-rule at (on_frame f e.place) e k.link k.committed now in
+    record { opened = l.opened; committed = l.committed; unsent = refl })
+leaves-row at More e = λ now. record { opened = now; committed = refl; unsent = refl }
+leaves-row at (TooLarge n) e = leaves-misread at (misreads.TooLarge n) e
+leaves-row at (BadHeartbeat c) e = leaves-misread at (misreads.BadHeartbeat c) e
+leaves-row at Bad e = leaves-misread at (misreads.Bad e.place) e
+leaves-row at ReadNoMemory e = leaves-misread at (misreads.Bad e.place) e
+
+pub leaves-read : (at : ℕ) (e : Engine) → Leaves e (read_one at e)
+leaves-read at e = leaves-row at (front_of e) e
+
+-- ---- writing
+
+-- what is left of an open link after a write: the marks of the frames not yet sent whole, and the bytes not taken
+pub record Written (w : Wrote) (x y : Engine) : Type 0 where
+  pub committed : y.talk.committed ≡ (if taken_by w == 0 then x.talk.committed else left_after x.talk.committed (taken_by w))
+  pub unsent : y.unsent ≡ drop (taken_by w) x.unsent
+
+written-took : (at k : ℕ) (x : Engine) → is_open x.talk ≡ true → is_open (took at k x).talk ≡ true → Written (Took k) x (took at k x)
+written-took at k x opened now =
+    let y : Engine = record x { talk = taken k (present_at at x.talk); unsent = drop k x.unsent } in
+    let here : is_open y.talk ≡ true = sym (ap is_open (settle-talk y)) ∙ now in
+    record {
+      committed = ap (λ (t : Talk). t.committed) (settle-talk y) ∙ committed-taken (k == 0) at k x.talk opened refl;
+      unsent = settle-unsent y here;
+    }
+
+pub written : (at : ℕ) (w : Wrote) (x : Engine) → is_open x.talk ≡ true → is_open (wrote at w x).talk ≡ true → Written w x (wrote at w x)
+written at (Took k) x opened now = written-took at k x opened now
+written at NoMemory x opened now =
+    let l = written-took at 0 x opened now in
+    record { committed = l.committed; unsent = l.unsent }
+written at Failed x opened now =
+    let l = leaves-lost at BrokenPipe x now in
+    record { committed = l.committed; unsent = l.unsent }
+
+-- ---- the link stays, or the session ended
+
+kept-settle : (t : Talk) (e : Engine) → LinkKept t e.talk → LinkKept t (settle e).talk
+kept-settle t e k = subst (LinkKept t) (sym (settle-talk e)) k
+
+kept-rule : (at : ℕ) (f : Talk → Talk) (e : Engine) → LinkKept (present_at at e.talk) (f (present_at at e.talk)) → LinkKept e.talk (settle (rule_at at f e)).talk
+kept-rule at f e k =
+    let t = present_at at e.talk in
+    kept-settle e.talk (rule_at at f e) (link-then e.talk t (f t) (kept-present at e.talk) k)
+
+kept-row : (at : ℕ) (r : Read) (e : Engine) → LinkKept e.talk (read_row at r e).talk
+kept-row at (Whole f n) e =
+    let t = present_at at e.talk in
+    kept-settle e.talk (record e { talk = on_frame f e.place (present_at at e.talk); unread = drop n e.unread; place = at_most_64 (e.place + n) })
+    (link-then e.talk t (on_frame f e.place t) (kept-present at e.talk) (keeps-frame f e.place t).link)
+kept-row at More e = inl refl
+kept-row at (TooLarge n) e = kept-rule at (misread (misreads.TooLarge n)) e (keeps-misread (misreads.TooLarge n) (present_at at e.talk)).link
+kept-row at (BadHeartbeat c) e = kept-rule at (misread (misreads.BadHeartbeat c)) e (keeps-misread (misreads.BadHeartbeat c) (present_at at e.talk)).link
+kept-row at Bad e = kept-rule at (misread (misreads.Bad e.place)) e (keeps-misread (misreads.Bad e.place) (present_at at e.talk)).link
+kept-row at ReadNoMemory e = kept-rule at (misread (misreads.Bad e.place)) e (keeps-misread (misreads.Bad e.place) (present_at at e.talk)).link
+
+pub kept-read : (at : ℕ) (e : Engine) → LinkKept e.talk (read_one at e).talk
+kept-read at e = kept-row at (front_of e) e
+
+kept-took : (at k : ℕ) (e : Engine) → LinkKept e.talk (took at k e).talk
+kept-took at k e =
+    let t = present_at at e.talk in
+    kept-settle e.talk (record e { talk = taken k t; unsent = drop k e.unsent }) (link-then e.talk t (taken k t) (kept-present at e.talk) (taken-link k t))
+
+kept-wrote : (at : ℕ) (w : Wrote) (e : Engine) → LinkKept e.talk (wrote at w e).talk
+kept-wrote at (Took k) e = kept-took at k e
+kept-wrote at Failed e = kept-rule at (lost BrokenPipe) e (lost-link BrokenPipe (present_at at e.talk))
+kept-wrote at NoMemory e = kept-took at 0 e
+
+-- an offer too
+pub kept-answered : (at : ℕ) (w : Wrote) (e : Engine) → LinkKept e.talk (answered at w e).talk
+kept-answered at w e =
+    let x = commit_all e in
+    link-then e.talk x.talk (answered at w e).talk (inl (commits-keep (λ (y : Engine). y.talk.link) (λ y fs ms bytes. refl) (frames_waiting e.talk) e))
+    (kept-wrote at w x)

@@ -1,0 +1,247 @@
+-- What a port tells of its links is what was sent on them.
+use Rattle.std.proofs.Common.{◌≡◌, ◌⊎◌, inl, inr, ℕ, ◌&&◌, not, if◌then◌else◌, Bool, true, false, List, [], ◌∷◌, ◌++◌, length, take, map, is_some, refl, ap, sym, ◌∙◌, subst}
+use Rattle.std.proofs.lemmas.List.{append-nil, map-append}
+use Rattle.amqp_session.specs.declared.state.Link.{Link}
+use Rattle.amqp_session.specs.declared.state.Link.TheVariants.{Wanted, Asked, Open, Ended}
+use Rattle.amqp_session.specs.declared.error.ErrorKind.TheVariants.{IOError}
+use Rattle.amqp_session.specs.declared.io_fault.IoFault.{IoFault}
+use Rattle.amqp_session.specs.declared.io_fault.IoFault.TheVariants.{Aborted, Refused, Reset}
+use Rattle.amqp_session.specs.Talk.{Talk, start, is_open, is_open_link, is_asked, is_asked_link, is_wanted_link, has_ended, end_of_link}
+use Rattle.amqp_session.specs.Changes.{present_at, fail}
+use Rattle.amqp_session.specs.Links.{asked, asked_link, linked, link_failed, piece, lost}
+use Rattle.amqp_session.specs.Commands.{command}
+use Rattle.amqp_engine.specs.declared.port.Step.{Step}
+use Rattle.amqp_engine.specs.declared.port.Step.TheVariants.{Linked, LinkFailed, Piece, End, Fault, Room, Tick, Command}
+use Rattle.amqp_engine.specs.declared.port.Wrote.{Wrote}
+use Rattle.amqp_engine.specs.declared.port.Wrote.TheVariants.{Took, Failed, NoMemory}
+use Rattle.amqp_engine.specs.Log.{Log, on_last, log_ask, log_step, log_write, links_after, asked_after, IsWithin}
+use Rattle.amqp_engine.specs.Engine.{Engine, begin, with_talk, rule_at, step_engine, step_linked, settle, can_write, read_one, taken_by, starve_at}
+use Rattle.amqp_engine.specs.Turn.{Turn, asks, wants_ask, offered, answered, read, turn, turns, AreTurns}
+use Rattle.amqp_engine.specs.Tell.{Offer, offers_from, log_asks, log_stepped, log_offers, log_turns}
+use Rattle.amqp_engine.specs.Sending.{Sending, nothing_sent, link_bytes, offer_sending, offers_sending, step_sending, turn_sending, sendings_from, sendings}
+use Rattle.amqp_engine.proofs.Cases.{if_case, if-true, if-false, and-left}
+use Rattle.amqp_engine.proofs.Settling.{settle-talk}
+use Rattle.amqp_engine.proofs.Keeping.{LinkKept, present-keeps, stays-command, lost-link, starve-ends}
+use Rattle.amqp_engine.proofs.Over.{asks-end, ended-closed}
+use Rattle.amqp_engine.proofs.Sent.{on_last-append}
+use Rattle.amqp_engine.proofs.Agreeing.{offer-bytes}
+use Rattle.amqp_engine.proofs.LinkKept.{leaves-read, kept-read, kept-answered}
+use Rattle.amqp_engine.proofs.Sends.{IsLast, Sends, sends-asks, sends-step, sends-left, sends-offer, sends-starved, all-step}
+use Rattle.amqp_engine.proofs.Lifting as lifting
+
+-- ---- whether a link is asked for
+
+abbrev pub IsSynced : Engine → Log → Type 0
+IsSynced e a = has_ended e.talk ≡ false → a.asked ≡ is_asked e.talk
+
+wanted-asked : (l : Link) → (is_wanted_link l && not (is_asked_link l)) ≡ true → is_asked_link (asked_link l) ≡ true
+wanted-asked Wanted h = refl
+wanted-asked Asked h = cc
+wanted-asked Open h = cc
+wanted-asked (Ended r) h = cc
+
+synced-asks : (b : Bool) (e : Engine) (a : Log) → wants_ask e ≡ b → a.asked ≡ is_asked e.talk → (log_asks e a).asked ≡ is_asked (asks e).talk
+synced-asks true e a h s =
+    ap (λ (x : Log). x.asked) (if-true (wants_ask e) (log_ask a) a h) ∙ sym (wanted-asked e.talk.link h)
+    ∙ sym (ap (λ (x : Engine). is_asked x.talk) (if-true (wants_ask e) (with_talk asked e) e h))
+synced-asks false e a h s =
+    ap (λ (x : Log). x.asked) (if-false (wants_ask e) (log_ask a) a h) ∙ s
+    ∙ sym (ap (λ (x : Engine). is_asked x.talk) (if-false (wants_ask e) (with_talk asked e) e h))
+
+linked-asked : (b : Bool) (at : ℕ) (e : Engine) → is_asked e.talk ≡ b → is_asked (step_linked at e).talk ≡ false
+linked-asked true at e h =
+    let x : Engine = record { talk = linked (present_at at e.talk); unread = []; place = 0; unsent = []; starved = e.starved } in
+    let asked_then : is_asked (present_at at e.talk) ≡ true = present-keeps is_asked at e.talk (λ n. refl) ∙ h in
+    ap (λ (y : Engine). is_asked y.talk) (if-true (is_asked e.talk) x (rule_at at (λ t. t) e) h)
+    ∙ ap is_asked (if-true (is_asked (present_at at e.talk)) _ _ asked_then)
+linked-asked false at e h =
+    ap (λ (y : Engine). is_asked y.talk) (if-false (is_asked e.talk) _ (rule_at at (λ t. t) e) h) ∙ present-keeps is_asked at e.talk (λ n. refl) ∙ h
+
+-- a link that is asked for and refused is asked for no more
+failed-asked : (b : Bool) (t : Talk) → is_asked t ≡ b → is_asked (link_failed t) ≡ false
+failed-asked true t h = ap is_asked (if-true (is_asked t) (fail (IOError Refused) t) t h)
+failed-asked false t h = ap is_asked (if-false (is_asked t) (fail (IOError Refused) t) t h) ∙ h
+
+open-unasked : (l : Link) → is_open_link l ≡ true → is_asked_link l ≡ false
+open-unasked Open h = refl
+open-unasked Wanted h = cc
+open-unasked Asked h = cc
+open-unasked (Ended r) h = cc
+
+ended-unasked : (l : Link) → is_some (end_of_link l) ≡ true → is_asked_link l ≡ false
+ended-unasked Wanted h = cc
+ended-unasked Asked h = cc
+ended-unasked Open h = cc
+ended-unasked (Ended r) h = refl
+
+lost-asked : (b : Bool) (fault : IoFault) (t : Talk) → is_open t ≡ b → is_asked (lost fault t) ≡ is_asked t
+lost-asked true fault t h =
+    elim (lost-link fault t) [
+      | inl same ↦ ap is_asked_link same
+      | inr ended ↦ ended-unasked (lost fault t).link ended ∙ sym (open-unasked t.link h)
+    ]
+lost-asked false fault t h = ap is_asked (if-false (is_open t) _ t h)
+
+faulted-asked : (at : ℕ) (fault : IoFault) (e : Engine) → is_asked (settle (rule_at at (lost fault) e)).talk ≡ is_asked e.talk
+faulted-asked at fault e =
+    let t = present_at at e.talk in
+    ap is_asked (settle-talk (rule_at at (lost fault) e)) ∙ lost-asked (is_open t) fault t refl ∙ present-keeps is_asked at e.talk (λ n. refl)
+
+piece-link : (t : Talk) → (piece t).link ≡ t.link
+piece-link t = if_case (λ (x : Talk). x.link ≡ t.link) (is_open t) (record t { last_read = t.present }) t refl refl
+
+step-asked : (at : ℕ) (step : Step) (bytes : List ℕ) (e : Engine) → is_asked (step_engine at step bytes e).talk ≡ asked_after step (is_asked e.talk)
+step-asked at Linked bytes e = linked-asked (is_asked e.talk) at e refl
+step-asked at LinkFailed bytes e =
+    let t = present_at at e.talk in
+    ap is_asked (settle-talk (rule_at at link_failed e)) ∙ failed-asked (is_asked t) t refl
+step-asked at (Piece n) bytes e =
+    let t = present_at at e.talk in
+    let x : Engine = record e { talk = piece t; unread = e.unread ++ bytes } in
+    if_case (λ (x : Engine). is_asked x.talk ≡ is_asked e.talk) (is_open e.talk) (settle x) (rule_at at (λ t. t) e)
+    (ap is_asked (settle-talk x) ∙ ap is_asked_link (piece-link t) ∙ present-keeps is_asked at e.talk (λ n. refl)) (present-keeps is_asked at e.talk (λ n. refl))
+step-asked at End bytes e = faulted-asked at Aborted e
+step-asked at Fault bytes e = faulted-asked at Reset e
+step-asked at Room bytes e = present-keeps is_asked at e.talk (λ n. refl)
+step-asked at Tick bytes e = present-keeps is_asked at e.talk (λ n. refl)
+step-asked at (Command c) bytes e =
+    ap is_asked_link (stays-command c (present_at at e.talk)).link ∙ present-keeps is_asked at e.talk (λ n. refl)
+
+both : (b : Bool) → b ≡ true → b ≡ false → ⊥
+both true h k = cc
+both false h k = cc
+
+-- what leaves the link as it was
+synced-kept : (e e' : Engine) (a : Log) → LinkKept e.talk e'.talk → IsSynced e a → IsSynced e' a
+synced-kept e e' a (inl same) s running =
+    s (ap (λ (l : Link). is_some (end_of_link l)) (sym same) ∙ running) ∙ sym (ap is_asked_link same)
+synced-kept e e' a (inr ended) s running = absurd (both (has_ended e'.talk) ended running)
+
+-- ---- links
+
+told-links : (step : Step) (e : Engine) (ss : List Sending) (a : Log) → a.asked ≡ is_asked e.talk → a.links ≡ map link_bytes ss
+    → links_after step a.asked a.links ≡ map link_bytes (step_sending step e ss)
+told-links Linked e ss a asked links = linked-links (is_asked e.talk) asked where
+  linked-links : (b : Bool) → a.asked ≡ b → (if a.asked then a.links ++ [] ∷ [] else a.links) ≡ map link_bytes (if b then ss ++ nothing_sent ∷ [] else ss)
+  linked-links true h = if-true a.asked (a.links ++ [] ∷ []) a.links h ∙ ap (λ x. x ++ [] ∷ []) links ∙ sym (map-append link_bytes ss (nothing_sent ∷ []))
+  linked-links false h = if-false a.asked (a.links ++ [] ∷ []) a.links h ∙ links
+told-links LinkFailed e ss a asked links = links
+told-links (Piece n) e ss a asked links = links
+told-links End e ss a asked links = links
+told-links Fault e ss a asked links = links
+told-links Room e ss a asked links = links
+told-links Tick e ss a asked links = links
+told-links (Command c) e ss a asked links = links
+
+told-offer : (w : Wrote) (e : Engine) (ss : List Sending) (a : Log) → can_write e ≡ true → IsWithin (length (offered e)) w
+    → Sends e ss → a.links ≡ map link_bytes ss
+    → (log_write (offered e) w a).links ≡ map link_bytes (on_last (offer_sending w e) ss)
+told-offer w e ss a can fits h links =
+    let l = h.last (and-left (is_open e.talk) _ can) in
+    let s' = offer_sending w e l.1 in
+    let after : link_bytes s' ≡ link_bytes l.1 ++ take (taken_by w) (offered e) = offer-bytes w e l.1 l.3 fits in
+    let before : a.links ≡ map link_bytes l.0 ++ link_bytes l.1 ∷ [] = links ∙ ap (map link_bytes) l.2 ∙ map-append link_bytes l.0 (l.1 ∷ []) in
+    let goal : map link_bytes (on_last (offer_sending w e) ss) ≡ map link_bytes l.0 ++ (link_bytes l.1 ++ take (taken_by w) (offered e)) ∷ [] =
+    ap (map link_bytes) (ap (on_last (offer_sending w e)) l.2 ∙ on_last-append (offer_sending w e) l.0 l.1) ∙ map-append link_bytes l.0 (s' ∷ []) ∙ ap (λ x. map link_bytes l.0 ++ x ∷ []) after in
+    written_as w (map link_bytes l.0) (link_bytes l.1) (map link_bytes (on_last (offer_sending w e) ss)) before goal
+  where
+    written_as : (w : Wrote) (xs : List (List ℕ)) (x : List ℕ) (ys : List (List ℕ)) → a.links ≡ xs ++ x ∷ []
+        → ys ≡ xs ++ (x ++ take (taken_by w) (offered e)) ∷ [] → (log_write (offered e) w a).links ≡ ys
+    written_as (Took k) xs x ys before goal =
+        ap (on_last (λ link. link ++ take k (offered e))) before ∙ on_last-append (λ link. link ++ take k (offered e)) xs x ∙ sym goal
+    written_as Failed xs x ys before goal = before ∙ ap (λ y. xs ++ y ∷ []) (sym (append-nil x)) ∙ sym goal
+    written_as NoMemory xs x ys before goal = before ∙ ap (λ y. xs ++ y ∷ []) (sym (append-nil x)) ∙ sym goal
+
+-- ---- turns
+
+-- what was sent, and what is told
+abbrev Both : Type 0
+Both = List Sending × Log
+
+abbrev asking : Engine → Both → Both
+asking e x = (x.0, log_asks e x.1)
+
+abbrev stepping : ℕ → Step → List ℕ → Engine → Both → Both
+stepping at step bytes e x = (step_sending step e x.0, log_step at step bytes x.1)
+
+abbrev offering : ℕ → Wrote → Engine → Both → Both
+offering at w e x = (on_last (offer_sending w e) x.0, log_write (offered e) w x.1)
+
+record Told (e : Engine) (x : Both) : Type 0 where
+  sends : Sends e x.0
+  synced : IsSynced e x.1
+  links : x.1.links ≡ map link_bytes x.0
+
+told-asks : (e : Engine) (x : Both) → Told e x → Told (asks e) (asking e x)
+told-asks e x h =
+    record {
+      sends = sends-asks e x.0 h.sends;
+      synced = λ running. synced-asks (wants_ask e) e x.1 refl (h.synced (sym (ap is_some (asks-end e)) ∙ running));
+      links = if_case (λ (b : Log). b.links ≡ map link_bytes x.0) (wants_ask e) (log_ask x.1) x.1 h.links h.links;
+    }
+
+told-step : (at : ℕ) (step : Step) (bytes : List ℕ) (e : Engine) (x : Both) → has_ended e.talk ≡ false → Told e x
+    → Told (step_engine at step bytes e) (stepping at step bytes e x)
+told-step at step bytes e x running h =
+    let asked_is = h.synced running in
+    record {
+      sends = sends-step at step bytes e x.0 h.sends;
+      synced = λ on. ap (asked_after step) asked_is ∙ sym (step-asked at step bytes e);
+      links = told-links step e x.0 x.1 asked_is h.links;
+    }
+
+told-offered : (at : ℕ) (w : Wrote) (e : Engine) (x : Both) → can_write e ≡ true → IsWithin (length (offered e)) w → Told e x
+    → Told (answered at w e) (offering at w e x)
+told-offered at w e x can fits h =
+    record {
+      sends = sends-offer at w e x.0 can fits h.sends;
+      synced = λ running. write-asked (offered e) w x.1 ∙ synced-kept e (answered at w e) x.1 (kept-answered at w e) h.synced running;
+      links = told-offer w e x.0 x.1 can fits h.sends h.links;
+    }
+  where
+    write-asked : (bytes : List ℕ) (w : Wrote) (a : Log) → (log_write bytes w a).asked ≡ a.asked
+    write-asked bytes (Took k) a = refl
+    write-asked bytes Failed a = refl
+    write-asked bytes NoMemory a = refl
+
+told-starved : (at j : ℕ) (e : Engine) (x : Both) → Sends (starve_at at j e) x.0 → x.1.links ≡ map link_bytes x.0 → Told (starve_at at j e) x
+told-starved at j e x sends links =
+    record { sends = sends; synced = λ running. absurd (both _ (starve-ends (present_at at e.talk)) running); links = links }
+
+small : lifting.Simple Both asking stepping offering Told
+small =
+    record {
+      asked = told-asks;
+      step = told-step;
+      read = λ at e x can h. record {
+        sends = sends-left e (read_one at e) x.0 (leaves-read at e) h.sends;
+        synced = synced-kept e (read_one at e) x.1 (kept-read at e) h.synced;
+        links = h.links;
+      };
+      offer = told-offered;
+      starve = λ at j e x h. told-starved at j e x (sends-starved at j e x.0 h.sends.all) h.links;
+      cut = λ at step bytes e x running part h.
+          told-starved at 0 e (stepping at step bytes e x) (sends-starved at 0 e (step_sending step e x.0) (all-step step e x.0 h.sends.all))
+          (told-links step e x.0 x.1 (h.synced running) h.links);
+    }
+
+offers-same : (at : ℕ) (ws : List Wrote) (e : Engine) (x : Both)
+    → lifting.offers_on Both asking stepping offering at ws e x ≡ (offers_sending at ws e x.0, log_offers (offers_from at ws e) x.1)
+offers-same at [] e x = refl
+offers-same at (w ∷ ws) e x = offers-same at ws (answered at w e) (offering at w e x)
+
+turns-same : (us : List Turn) (e : Engine) (x : Both) → lifting.turns_on Both asking stepping offering us e x ≡ (sendings_from us e x.0, log_turns us e x.1)
+turns-same [] e x = refl
+turns-same (u ∷ us) e x =
+    let P : Both → Type 0 = λ y. lifting.turns_on Both asking stepping offering us (turn u e) y ≡ (sendings_from us (turn u e) y.0, log_turns us (turn u e) y.1) in
+    let y = lifting.turn_on Both asking stepping offering u e x in
+    let same = offers-same u.at u.notes.answers (read u (asks e)).engine (stepping u.at u.step u.bytes (asks e) (asking e x)) in
+    turns-same us (turn u e) y ∙ ap (λ (z : Both). (sendings_from us (turn u e) z.0, log_turns us (turn u e) z.1)) same
+
+pub told : (us : List Turn) (a : Log) → AreTurns us (begin start) → a.links ≡ [] → a.asked ≡ false
+    → (log_turns us (begin start) a).links ≡ map link_bytes (sendings us)
+told us a may links asked_none =
+    let P : Both → Type 0 = λ x. x.1.links ≡ map link_bytes x.0 in
+    subst P (turns-same us (begin start) ([], a))
+    (lifting.lift-turns Both asking stepping offering Told (λ b. Told) Told (lifting.simply Both asking stepping offering Told small) us (begin start) ([], a) may
+    (record { sends = record { all = tt; last = λ now. cc }; synced = λ running. asked_none; links = links })).links
