@@ -10,7 +10,9 @@ use Rattle.amqp_engine.specs.declared.port.Wrote.{Wrote}
 use Rattle.amqp_engine.specs.Log.{Log}
 use Rattle.amqp_engine.specs.Engine.{Engine, step_engine, settle, starve_at, rule_at, can_write}
 use Rattle.amqp_engine.specs.Turn.{Progress, begun, goes, reading, is_part, is_piece, step_part, part, read, drain, AreAnswers, IsCut, starved_after}
-use Rattle.amqp_engine.specs.Making.{making, parts_of, Allows, Writes}
+use Rattle.amqp_engine.specs.Making.{making, parts_of, Allows, Writes, AppliesCounted}
+use Rattle.amqp_engine.specs.Counts.{Rose}
+use Rattle.amqp_engine.specs.Causes.{has_failed}
 use Rattle.amqp_engine.specs.Tell.{Applies, TellsOffers, offers_from, turn_of}
 use Rattle.amqp_engine.proofs.Cases.{if_case, if-true, if-false, is_before-Allows}
 use Rattle.amqp_engine.proofs.Settling.{settle-starved}
@@ -58,44 +60,51 @@ read-none at ws step bytes e h =
     ap (reading (is_piece step)) same ∙ reading-cut (is_piece step) p refl
 
 -- a turn from what was read, what was written and what was told
-pub applies-of : (at : ℕ) (step : Step) (bytes : List ℕ) (e e' : Engine) (log log' : Option Log) (ws : List Wrote) (cut : Option ℕ) (p p' : Progress)
+pub applies-of : (at : ℕ) (step : Step) (bytes : List ℕ) (e e' : Engine) (log log' : Option Log) (m n : ℕ) (ws : List Wrote) (cut : Option ℕ) (p p' : Progress)
     → read (turn_of at step bytes (record { answers = ws; starved = cut })) e ≡ p
     → Writes ws p p' → IsCut cut p'.done → (if has_ended e.talk then p'.engine else starved_after cut at p'.engine) ≡ e'
-    → TellsOffers (offers_from at ws p.engine) log log'
-    → Applies at step bytes e e' log log'
-applies-of at step bytes e e' log log' ws cut p p' hr hw hc ha ht =
+    → TellsOffers (offers_from at ws p.engine) log log' → (has_failed ws ≡ true → Rose m n)
+    → AppliesCounted at step bytes e e' log log' m n
+applies-of at step bytes e e' log log' m n ws cut p p' hr hw hc ha ht counted =
     let leads : drain ws (read (turn_of at step bytes (record { answers = ws; starved = cut })) e) ≡ p' =
     ap (drain ws) hr ∙ hw.leaves in
     let P : Progress → Type 0 = λ x. AreAnswers ws x in
     let Q : Progress → Type 0 = λ x. IsCut cut x.done in
     let R : Progress → Type 0 = λ x. TellsOffers (offers_from at ws x.engine) log log' in
     record {
-      notes = record { answers = ws; starved = cut };
-      may = record { answers = subst P (sym hr) hw.answers; cut = subst Q (sym leads) hc };
-      leaves = ap (λ (x : Progress). if has_ended e.talk then x.engine else starved_after cut at x.engine) leads ∙ ha;
-      tells = subst R (sym hr) ht;
+      applies = record {
+        notes = record { answers = ws; starved = cut };
+        may = record { answers = subst P (sym hr) hw.answers; cut = subst Q (sym leads) hc };
+        leaves = ap (λ (x : Progress). if has_ended e.talk then x.engine else starved_after cut at x.engine) leads ∙ ha;
+        tells = subst R (sym hr) ht;
+      };
+      counted = counted;
     }
 
+-- where there was no write, none failed
+pub none-failed : {A : Type 0} → false ≡ true → A
+none-failed h = cc
+
 -- a session that had ended takes the step alone
-pub applies-over : (at : ℕ) (step : Step) (bytes : List ℕ) (e e' : Engine) (log log' : Option Log) → has_ended e.talk ≡ true
-    → e' ≡ step_engine at step bytes e → log' ≡ log → Applies at step bytes e e' log log'
-applies-over at step bytes e e' log log' h same told =
-    let m = parts_of (is_part step e) in
-    let p = making at None e' m in
+pub applies-over : (at : ℕ) (step : Step) (bytes : List ℕ) (e e' : Engine) (log log' : Option Log) (m n : ℕ) → has_ended e.talk ≡ true
+    → e' ≡ step_engine at step bytes e → log' ≡ log → AppliesCounted at step bytes e e' log log' m n
+applies-over at step bytes e e' log log' m n h same told =
+    let k = parts_of (is_part step e) in
+    let p = making at None e' k in
     let over : has_ended e'.talk ≡ true = ap (λ (x : Engine). has_ended x.talk) same ∙ step-ended at step bytes e h in
     let none : IsFalse (can_write e') = over-writes e' over in
-    applies-of at step bytes e e' log log' [] None p p
-    (read-is at None [] step bytes (is_piece step) (is_part step e) e e' e' m m refl refl refl same tt (over-reads (is_piece step) p over))
-    (writes-none p none) tt (if_case (λ (x : Engine). x ≡ e') (has_ended e.talk) e' e' refl refl) (tells-none log log' told)
+    applies-of at step bytes e e' log log' m n [] None p p
+    (read-is at None [] step bytes (is_piece step) (is_part step e) e e' e' k k refl refl refl same tt (over-reads (is_piece step) p over))
+    (writes-none p none) tt (if_case (λ (x : Engine). x ≡ e') (has_ended e.talk) e' e' refl refl) (tells-none log log' told) none-failed
 
 -- and where memory is refused, nothing
-pub refused-over : (at : ℕ) (step : Step) (bytes : List ℕ) (e e' : Engine) (log log' : Option Log) → has_ended e.talk ≡ true → is_part step e ≡ true
-    → e' ≡ e → log' ≡ log → Applies at step bytes e e' log log'
-refused-over at step bytes e e' log log' h is same told =
+pub refused-over : (at : ℕ) (step : Step) (bytes : List ℕ) (e e' : Engine) (log log' : Option Log) (m n : ℕ) → has_ended e.talk ≡ true → is_part step e ≡ true
+    → e' ≡ e → log' ≡ log → AppliesCounted at step bytes e e' log log' m n
+refused-over at step bytes e e' log log' m n h is same told =
     let p = making at (Some 0) e 0 in
-    applies-of at step bytes e e' log log' [] (Some 0) p p
+    applies-of at step bytes e e' log log' m n [] (Some 0) p p
     (read-none at [] step bytes e is) (writes-cut p refl) refl
-    (if-true (has_ended e.talk) e (starved_after (Some 0) at e) h ∙ sym same) (tells-none log log' told)
+    (if-true (has_ended e.talk) e (starved_after (Some 0) at e) h ∙ sym same) (tells-none log log' told) none-failed
 
 -- a step starves nobody
 pub step-starved : (at : ℕ) (step : Step) (bytes : List ℕ) (e : Engine) → (step_engine at step bytes e).starved ≡ e.starved

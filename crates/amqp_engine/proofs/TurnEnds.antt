@@ -27,7 +27,7 @@ use Rattle.amqp_engine.specs.Log.{Log}
 use Rattle.amqp_engine.specs.Engine.{Engine, frames_waiting, settle, rule_at, with_talk, step_engine, took, wrote, commit_all}
 use Rattle.amqp_engine.specs.Turn.{Turn, Progress, asks, wants_ask, goes, reads, part, is_piece, step_part, is_part, begun, drain, offer_part, answered, read, written, applied, turn, turns, starved_after, AreTurns, Leads}
 use Rattle.amqp_engine.specs.Tell.{TellsTurns, Applies, Runs, turn_of}
-use Rattle.amqp_engine.specs.Causes.{Misreads, LosesClosed, IsCause, Brings, BringsOne, brought, has_failed, is_failed, is_last, sends_close_ok, is_finish}
+use Rattle.amqp_engine.specs.Causes.{Misreads, LosesClosed, IsCause, Brings, brought, has_failed, is_failed, is_last, sends_close_ok, is_finish}
 use Rattle.amqp_engine.proofs.Cases.{if_case, if_by, if-true, if-false, and-true, and-false, none-from}
 use Rattle.amqp_engine.proofs.Keeping.{present-keeps, stays-command}
 use Rattle.amqp_engine.proofs.Commits.{commits-keep}
@@ -358,13 +358,14 @@ turn-cause : (u : Turn) (e : Engine) (k : ErrorKind) → has_ended e.talk ≡ fa
 turn-cause u e k running h =
     elim ((ends-applied u (asks e)).by k h) [ inl before ↦ not-before k e.talk running (sym (asks-end e) ∙ before) | inr cause ↦ cause ]
 
-pub applied-brings : (at : ℕ) (step : Step) (bytes : List ℕ) (e e' : Engine) (log log' : Option Log) (k : ErrorKind) → Applies at step bytes e e' log log'
-    → has_ended e.talk ≡ false → end_of e'.talk ≡ Some (Err k) → BringsOne k at step bytes e e' log log'
-applied-brings at step bytes e e' log log' k a running h =
-    let u = turn_of at step bytes a.notes in
-    let cause : IsCause k u e =
-    elim ((ends-applied u e).by k (ap (λ (x : Engine). end_of x.talk) a.leaves ∙ h)) [ inl before ↦ not-before k e.talk running before | inr cause ↦ cause ] in
-    record { applies = a; cause = cause }
+-- the turn that is applied brings the error about
+pub applied-cause : (at : ℕ) (step : Step) (bytes : List ℕ) (e e' : Engine) (log log' : Option Log) (k : ErrorKind) (a : Applies at step bytes e e' log log')
+    → has_ended e.talk ≡ false → end_of e'.talk ≡ Some (Err k) → IsCause k (turn_of at step bytes a.notes) e
+applied-cause at step bytes e e' log log' k a running h =
+    elim ((ends-applied (turn_of at step bytes a.notes) e).by k (ap (λ (x : Engine). end_of x.talk) a.leaves ∙ h)) [
+      | inl before ↦ not-before k e.talk running before
+      | inr cause ↦ cause
+    ]
 
 -- ---- turns
 

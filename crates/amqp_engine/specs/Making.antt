@@ -1,8 +1,5 @@
 -- A turn in the making, as the code counts its parts.
-use Rattle.std.specs.Prelude.{◌≡◌, ◌≤◌, ◌<◌, ◌+◌, ◌*◌, ◌^◌, ◌⊎◌, ℕ, if◌then◌else◌, Bool, true, false, List, Option, Some, None}
-use Rattle.amqp_session.specs.declared.io_fault.IoFault.{IoFault}
-use Rattle.amqp_session.specs.declared.io_fault.IoFault.TheVariants.{BrokenPipe}
-use Rattle.amqp_session.specs.Talk.{Talk}
+use Rattle.std.specs.Prelude.{◌≡◌, ◌≤◌, ◌<◌, ◌+◌, ◌*◌, ◌^◌, ℕ, if◌then◌else◌, Bool, true, false, List, Option, Some, None}
 use Rattle.amqp_frame.specs.declared.frame.Read.{Read}
 use Rattle.amqp_frame.specs.declared.frame.Read.TheVariants.{Whole}
 use Rattle.amqp_engine.specs.declared.port.Step.{Step}
@@ -14,7 +11,9 @@ use Rattle.amqp_engine.specs.Plan.{step_of, bytes_of}
 use Rattle.amqp_engine.specs.Counts.{Rose}
 use Rattle.amqp_engine.specs.Engine.{Engine}
 use Rattle.amqp_engine.specs.Turn.{Progress, AreAnswers, drain}
-use Rattle.amqp_engine.specs.Causes.{fault_of}
+use Rattle.amqp_engine.specs.Log.{Log}
+use Rattle.amqp_engine.specs.Tell.{Applies}
+use Rattle.amqp_engine.specs.Causes.{has_failed}
 
 abbrev pub making : ℕ → Option ℕ → Engine → ℕ → Progress
 making at cut e n = record { at = at; cut = cut; engine = e; done = n }
@@ -45,13 +44,10 @@ pub record Writes (ws : List Wrote) (before after : Progress) : Type 0 where
   pub answers : AreAnswers ws before
   pub leaves : drain ws before ≡ after
 
--- no fault is brought
-pub record BringsNone (t t' : Talk) : Type 0 where
-  pub before : (fault : IoFault) → fault_of t' ≡ Some fault → fault_of t ≡ Some fault
-
--- none is brought but by a write that failed, which the port counted
-pub record BreaksPipe (t t' : Talk) (count count' : ℕ) : Type 0 where
-  pub cause : (fault : IoFault) → fault_of t' ≡ Some fault → (fault_of t ≡ Some fault) ⊎ ((fault ≡ BrokenPipe) × Rose count count')
+-- a turn is applied, and where one of its writes failed, the port's count of faults rose
+pub record AppliesCounted (at : ℕ) (step : Step) (bytes : List ℕ) (e e' : Engine) (log log' : Option Log) (count count' : ℕ) : Type 0 where
+  pub applies : Applies at step bytes e e' log log'
+  pub counted : has_failed applies.notes.answers ≡ true → Rose count count'
 
 -- a given step as a port in memory keeps it, until it is told how many came before
 abbrev pub happening_of : Given → Happening

@@ -2,7 +2,6 @@
 
 ghost use Rattle.std.specs.Prelude.{◌≡◌, ◌≢◌, ◌≤◌, not, ◌<◌, ◌⊎◌, ◌+◌, ◌*◌, ◌^◌, ℕ, List, Option, Some, true, false, if◌then◌else◌, IfOk, IfErr, IfNone, IsOk, IfSome, OnOk, OnErr, MatchResult, IsSome, IsTrue, IsFalse, option_map, length, is_some};
 ghost use Rattle.amqp_session.specs.Talk.{start, is_open, is_asked, has_ended};
-ghost use Rattle.amqp_session.specs.declared.io_fault.IoFault.{IoFault};
 ghost use Rattle.amqp_session.specs.Changes.{starve};
 ghost use Rattle.amqp_session.specs.Links.{link_failed, lost};
 ghost use Rattle.amqp_session.specs.Commands.{command as command_rule};
@@ -14,9 +13,9 @@ ghost use Rattle.amqp_frame.specs.declared.frame.Read.TheVariants as reads;
 ghost use Rattle.amqp_engine.specs.Turn.{asks, is_part, reading, offered, answered, is_all};
 ghost use Rattle.amqp_engine.specs.Tell.{Applies, TellsOffers, offers_from, log_asks};
 ghost use Rattle.amqp_engine.specs.Play.{waiting};
-ghost use Rattle.amqp_engine.specs.Making.{making, parts_of, is_command, is_whole, FewParts, Allows, Writes, BringsNone, BreaksPipe};
+ghost use Rattle.amqp_engine.specs.Making.{making, parts_of, is_command, is_whole, FewParts, Allows, Writes, AppliesCounted};
 ghost use Rattle.amqp_engine.specs.Counts.{Rose};
-ghost use Rattle.amqp_engine.specs.Causes.{fault_of, brought};
+ghost use Rattle.amqp_engine.specs.Causes.{has_failed};
 
 use crate::buffer::Buffer;
 use crate::port::{Port, Step, Told, Wrote};
@@ -139,14 +138,13 @@ impl Wire {
 
     /// A turn from its step on.
     pub fn apply<P: Port>(&mut self, told: Told, bytes: &[u8], port: &mut P) -> Result<(), NoMemory>
-        ensures turn { Applies told.at told.step bytes.now self.old self.new (P.log port.old) (P.log port.new) }
+        ensures turn { AppliesCounted told.at told.step bytes.now self.old self.new (P.log port.old) (P.log port.new)
+            (P.faults port.old) (P.faults port.new) }
         ensures starved { MatchResult result (λ _. self.new.starved ≡ self.old.starved)
             (λ _. has_ended self.old.talk ≡ false → IsSome self.new.starved) }
         ensures ended { OnErr result (IsTrue (has_ended self.new.talk)) }
         ensures over { OnErr result (has_ended self.old.talk ≡ true → self.new ≡ self.old) }
         ensures faults { P.faults port.old ≤ P.faults port.new }
-        ensures io_error_counted { (fault : IoFault) → has_ended self.old.talk ≡ false → fault_of self.new.talk ≡ Some fault
-            → (brought told.step self.old.talk ≡ Some fault) ⊎ ((fault ≡ IoFault.BrokenPipe) × Rose (P.faults port.old) (P.faults port.new)) }
     {
         let Told { at, step } = told;
         let piece = step.is_piece();
@@ -297,7 +295,6 @@ impl Wire {
         ensures bound { FewParts parts.new }
         ensures grows { parts.old ≤ parts.new }
         ensures starved { self.new.starved ≡ self.old.starved }
-        ensures faultless { BringsNone self.old.talk self.new.talk }
     {
         if !piece {
             return Ok(());
@@ -403,14 +400,15 @@ impl Wire {
         requires { FewParts parts.old }
         ensures ok { OnOk result ((ws : List Wrote)
             × ((cut : Option ℕ) → Allows cut parts.new → Writes ws (making at cut self.old parts.old) (making at cut self.new parts.new))
-            × TellsOffers (offers_from at ws self.old) (P.log port.old) (P.log port.new)) }
+            × TellsOffers (offers_from at ws self.old) (P.log port.old) (P.log port.new)
+            × (has_failed ws ≡ true → Rose (P.faults port.old) (P.faults port.new))) }
         ensures err { OnErr result ((ws : List Wrote)
             × Writes ws (making at (Some parts.new) self.old parts.old) (making at (Some parts.new) self.new parts.new)
-            × TellsOffers (offers_from at ws self.old) (P.log port.old) (P.log port.new)) }
+            × TellsOffers (offers_from at ws self.old) (P.log port.old) (P.log port.new)
+            × (has_failed ws ≡ true → Rose (P.faults port.old) (P.faults port.new))) }
         ensures grows { parts.old ≤ parts.new }
         ensures starved { self.new.starved ≡ self.old.starved }
         ensures faults { P.faults port.old ≤ P.faults port.new }
-        ensures failed { BreaksPipe self.old.talk self.new.talk (P.faults port.old) (P.faults port.new) }
     {
         // So few frames wait that the offers can be counted.
         let _waiting = self.session.waiting();

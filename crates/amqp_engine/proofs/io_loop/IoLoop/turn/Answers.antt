@@ -7,7 +7,7 @@ use Rattle.amqp_engine.specs.Tell.{log_asks}
 use Rattle.amqp_engine.specs.Unread.{IsRead}
 use Rattle.amqp_engine.proofs.LeftUnread.{asks-read, Applies-read}
 use Rattle.amqp_engine.proofs.Running.{turns-of, take-written, length-written}
-use Rattle.amqp_engine.proofs.Faults.{counted-rose}
+use Rattle.amqp_engine.proofs.Faults.{applied-fault, counted-rose}
 use Rattle.amqp_engine.proofs.Over.{asks-running}
 use Rattle.amqp_engine.proofs.io_loop.IoLoop.turn.Goals as goal
 
@@ -26,7 +26,7 @@ returns-clause-turn g c =
     c.requires
     (c.ask.ensures.engine ∙ ap asks c.self.view_is)
     (c.ask.ensures.told ∙ ap (λ (m : Engine). option_map (log_asks m) (g.P.Port.log c.args.port.now)) c.self.view_is)
-    c.next-told.ensures.told bytes c.next-told.ensures.plays c.hold.ensures c.apply.ensures.turn
+    c.next-told.ensures.told bytes c.next-told.ensures.plays c.hold.ensures c.apply.ensures.turn.applies
 
 pub invariant_of-self : goal.invariant_of-self
 invariant_of-self g c =
@@ -34,11 +34,11 @@ invariant_of-self g c =
     let old = c.self.inside.scratch.items in
     let sized : length space ≡ length old = omega (arith, c.next-told.auto.space, ap length c.deref_mut.ensures.value) in
     let asked : IsRead c.ask.new.self = subst IsRead (sym c.ask.ensures.engine) (asks-read c.self.inside.wire c.self.invariant.1) in
-    (length-written space old c.self.inside.scratch.len sized (omega arith) ∙ c.self.invariant.0, Applies-read _ _ _ _ _ _ _ c.apply.ensures.turn asked)
+    (length-written space old c.self.inside.scratch.len sized (omega arith) ∙ c.self.invariant.0, Applies-read _ _ _ _ _ _ _ c.apply.ensures.turn.applies asked)
 
 pub returns-clause-io_error_counted : goal.returns-clause-io_error_counted
 returns-clause-io_error_counted g c fault h counted =
     let asked = c.ask.ensures.engine ∙ ap asks c.self.view_is in
     let running : has_ended c.ask.new.self.talk ≡ false = ap (λ (x : Engine). has_ended x.talk) asked ∙ asks-running c.args.self.now c.requires in
     counted-rose c.next-told.result.step c.ask.new.self.talk fault _ _ _ _ c.ask.ensures.faults c.next-told.ensures.faults c.apply.ensures.faults
-    c.next-told.ensures.cause (c.apply.ensures.io_error_counted fault running h) counted
+    c.next-told.ensures.cause (applied-fault _ _ _ _ _ _ _ _ _ fault c.apply.ensures.turn running h) counted

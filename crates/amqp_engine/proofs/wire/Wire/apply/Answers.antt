@@ -5,11 +5,10 @@ use Rattle.amqp_engine.specs.Making.{making}
 use Rattle.amqp_engine.proofs.Offers.{writes-cut}
 use Rattle.amqp_session.specs.Talk.{has_ended}
 use Rattle.amqp_engine.specs.Turn.{starved_after}
-use Rattle.amqp_engine.proofs.Applying.{starve_at-twice, read-is, read-none, applies-of, applies-over, refused-over, step-starved}
+use Rattle.amqp_engine.proofs.Applying.{starve_at-twice, read-is, read-none, applies-of, none-failed, applies-over, refused-over, step-starved}
 use Rattle.amqp_engine.proofs.Over.{starve-over}
 use Rattle.amqp_engine.proofs.Telling.{tells-none}
 use Rattle.amqp_engine.proofs.Cases.{if_case, if-false, is_before-cut}
-use Rattle.amqp_engine.proofs.Faults.{applied-fault, breaks-same, none-at-all, none-to, no-fault, starve-fault}
 use Rattle.amqp_engine.proofs.wire.Wire.apply.Goals as goal
 
 pub returns-in_err-take_step-clause-turn : goal.returns-in_err-take_step-clause-turn
@@ -17,7 +16,7 @@ returns-in_err-take_step-clause-turn g c =
     let e = c.args.self.now in
     let at = c.args.told.at in
     let ended : has_ended e.talk ≡ true = ap (λ (x : Engine). has_ended x.talk) (sym c.self.view_is) ∙ sym c.has_ended.ensures ∙ c.if-has_ended.true in
-    refused-over at c.args.told.step c.args.bytes.now e _ _ _ ended c.in_err-take_step.ensures.refused
+    refused-over at c.args.told.step c.args.bytes.now e _ _ _ _ _ ended c.in_err-take_step.ensures.refused
     (c.in_err-take_step.ensures.err ∙ starve-over at e ended) refl
 
 pub returns-in_err-take_step-clause-over : goal.returns-in_err-take_step-clause-over
@@ -30,7 +29,7 @@ pub returns-then-has_ended-clause-turn : goal.returns-then-has_ended-clause-turn
 returns-then-has_ended-clause-turn g c =
     let e = c.args.self.now in
     let ended : has_ended e.talk ≡ true = ap (λ (x : Engine). has_ended x.talk) (sym c.self.view_is) ∙ sym c.has_ended.ensures ∙ c.if-has_ended.true in
-    applies-over c.args.told.at c.args.told.step c.args.bytes.now e _ _ _ ended c.in_ok-take_step.ensures.ok refl
+    applies-over c.args.told.at c.args.told.step c.args.bytes.now e _ _ _ _ _ ended c.in_ok-take_step.ensures.ok refl
 
 pub returns-in_default-clause-turn : goal.returns-in_default-clause-turn
 returns-in_default-clause-turn g c =
@@ -40,8 +39,8 @@ returns-in_default-clause-turn g c =
     let p = making at (Some 0) e 0 in
     let same : starve_at at 0 e ≡ c.cut.new.self =
     sym (c.cut.ensures ∙ ap (starve_at at 0) c.in_default.ensures.err ∙ starve_at-twice at 0 e) in
-    applies-of at c.args.told.step c.args.bytes.now e _ _ _ [] (Some 0) p p
-    (read-none at [] c.args.told.step c.args.bytes.now e c.in_default.ensures.refused) (writes-cut p refl) refl (if-false (has_ended e.talk) p.engine (starved_after (Some 0) at p.engine) running ∙ same) (tells-none _ _ refl)
+    applies-of at c.args.told.step c.args.bytes.now e _ _ _ _ _ [] (Some 0) p p
+    (read-none at [] c.args.told.step c.args.bytes.now e c.in_default.ensures.refused) (writes-cut p refl) refl (if-false (has_ended e.talk) p.engine (starved_after (Some 0) at p.engine) running ∙ same) (tells-none _ _ refl) none-failed
 
 pub returns-in-Err-clause-turn : goal.returns-in-Err-clause-turn
 returns-in-Err-clause-turn g c =
@@ -53,10 +52,10 @@ returns-in-Err-clause-turn g c =
     let p = making at (Some n) x n in
     let same : starve_at at n x ≡ c.cut-in-Err.new.self =
     sym (c.cut-in-Err.ensures ∙ ap (starve_at at n) c.in-Err.ensures.err.1 ∙ starve_at-twice at n x) in
-    applies-of at c.args.told.step c.args.bytes.now e _ _ _ [] (Some n) p p
+    applies-of at c.args.told.step c.args.bytes.now e _ _ _ _ _ [] (Some n) p p
     (read-is at (Some n) [] c.args.told.step c.args.bytes.now c.is_piece-piece.result (is_part c.args.told.step e) e c.take_step-2.new.self x c.in-Ok.parts n
     c.is_piece-piece.ensures refl c.in-Ok.ensures.parts c.in-Ok.ensures.ok c.in-Err.ensures.grows c.in-Err.ensures.err.2)
-    (writes-cut p (is_before-cut n)) refl (if-false (has_ended e.talk) p.engine (starved_after (Some n) at p.engine) running ∙ same) (tells-none _ _ refl)
+    (writes-cut p (is_before-cut n)) refl (if-false (has_ended e.talk) p.engine (starved_after (Some n) at p.engine) running ∙ same) (tells-none _ _ refl) none-failed
 
 pub returns-in-Err-write_all-clause-turn : goal.returns-in-Err-write_all-clause-turn
 returns-in-Err-write_all-clause-turn g c =
@@ -68,12 +67,12 @@ returns-in-Err-write_all-clause-turn g c =
     let f = c.in-Err-write_all.ensures in
     let p = making at (Some m) c.read_all.new.self n in
     let p' = making at (Some m) c.write_all.new.self m in
-    applies-of at c.args.told.step c.args.bytes.now e _ _ _ f.err.0 (Some m) p p'
+    applies-of at c.args.told.step c.args.bytes.now e _ _ _ _ _ f.err.0 (Some m) p p'
     (read-is at (Some m) f.err.0 c.args.told.step c.args.bytes.now c.is_piece-piece.result (is_part c.args.told.step e) e c.take_step-2.new.self c.read_all.new.self c.in-Ok.parts n
     c.is_piece-piece.ensures refl c.in-Ok.ensures.parts c.in-Ok.ensures.ok (omega (arith, c.in_default-read_all.ensures.grows, f.grows))
     (c.in_default-read_all.ensures.ok (Some m) f.grows))
     f.err.1 refl
-    (if-false (has_ended e.talk) p'.engine (starved_after (Some m) at p'.engine) running ∙ sym c.cut-in-Err-write_all.ensures) f.err.2
+    (if-false (has_ended e.talk) p'.engine (starved_after (Some m) at p'.engine) running ∙ sym c.cut-in-Err-write_all.ensures) f.err.2 f.err.3
 
 pub returns-clause-turn : goal.returns-clause-turn
 returns-clause-turn g c =
@@ -84,41 +83,12 @@ returns-clause-turn g c =
     let f = c.in_default-write_all.ensures in
     let p = making at None c.read_all.new.self n in
     let p' = making at None c.write_all.new.self m in
-    applies-of at c.args.told.step c.args.bytes.now e _ _ _ f.ok.0 None p p'
+    applies-of at c.args.told.step c.args.bytes.now e _ _ _ _ _ f.ok.0 None p p'
     (read-is at None f.ok.0 c.args.told.step c.args.bytes.now c.is_piece-piece.result (is_part c.args.told.step e) e c.take_step-2.new.self c.read_all.new.self c.in-Ok.parts n
     c.is_piece-piece.ensures refl c.in-Ok.ensures.parts c.in-Ok.ensures.ok tt (c.in_default-read_all.ensures.ok None tt))
-    (f.ok.1 None tt) tt (if_case (λ (x : Engine). x ≡ p'.engine) (has_ended e.talk) p'.engine p'.engine refl refl) f.ok.2
+    (f.ok.1 None tt) tt (if_case (λ (x : Engine). x ≡ p'.engine) (has_ended e.talk) p'.engine p'.engine refl refl) f.ok.2 f.ok.3
 
 pub returns-clause-starved : goal.returns-clause-starved
 returns-clause-starved g c =
     c.in_default-write_all.ensures.starved ∙ c.in_default-read_all.ensures.starved ∙ ap (λ (x : Engine). x.starved) c.in-Ok.ensures.ok
     ∙ step-starved c.args.told.at c.args.told.step c.args.bytes.now c.args.self.now
-
-pub returns-in_default-clause-io_error_counted : goal.returns-in_default-clause-io_error_counted
-returns-in_default-clause-io_error_counted g c fault running h =
-    let e = c.args.self.now in
-    let at = c.args.told.at in
-    let same : c.cut.new.self ≡ starve_at at 0 e = c.cut.ensures ∙ ap (starve_at at 0) c.in_default.ensures.err ∙ starve_at-twice at 0 e in
-    no-fault e.talk fault running ((none-to e.talk (starve_at at 0 e) c.cut.new.self same (starve-fault at e.talk)).before fault h)
-
-pub returns-in-Err-clause-io_error_counted : goal.returns-in-Err-clause-io_error_counted
-returns-in-Err-clause-io_error_counted g c fault running h =
-    let at = c.args.told.at in
-    let x = c.read_all.new.self in
-    applied-fault at c.args.told.step c.args.bytes.now c.args.self.now c.take_step-2.new.self c.cut-in-Err.new.self x.talk x.talk _ _ fault
-    c.in-Ok.ensures.ok c.in-Err.ensures.faultless (breaks-same x x _ _ refl)
-    (none-to x.talk (starve_at at c.read_all.new.parts x) c.cut-in-Err.new.self c.cut-in-Err.ensures (starve-fault at x.talk)) running h
-
-pub returns-in-Err-write_all-clause-io_error_counted : goal.returns-in-Err-write_all-clause-io_error_counted
-returns-in-Err-write_all-clause-io_error_counted g c fault running h =
-    let at = c.args.told.at in
-    let x = c.write_all.new.self in
-    applied-fault at c.args.told.step c.args.bytes.now c.args.self.now c.take_step-2.new.self c.cut-in-Err-write_all.new.self c.read_all.new.self.talk x.talk _ _ fault
-    c.in-Ok.ensures.ok c.in_default-read_all.ensures.faultless c.in-Err-write_all.ensures.failed
-    (none-to x.talk (starve_at at c.write_all.new.parts x) c.cut-in-Err-write_all.new.self c.cut-in-Err-write_all.ensures (starve-fault at x.talk)) running h
-
-pub returns-clause-io_error_counted : goal.returns-clause-io_error_counted
-returns-clause-io_error_counted g c fault running h =
-    let x = c.write_all.new.self in
-    applied-fault c.args.told.at c.args.told.step c.args.bytes.now c.args.self.now c.take_step-2.new.self x c.read_all.new.self.talk x.talk _ _ fault
-    c.in-Ok.ensures.ok c.in_default-read_all.ensures.faultless c.in_default-write_all.ensures.failed (none-at-all x.talk) running h

@@ -5,7 +5,6 @@ use Rattle.amqp_engine.specs.Turn.{Progress, reads, reading}
 use Rattle.amqp_engine.specs.Making.{making}
 use Rattle.amqp_engine.proofs.Cases.{is_before-cut, Allows-less}
 use Rattle.amqp_engine.proofs.Reading.{worth, reads-rest, reads-cut, reads-more, read_one-worth, read_one-starved}
-use Rattle.amqp_engine.proofs.Faults.{none-then, none-to, read-fault, starve-fault}
 use Rattle.amqp_engine.proofs.wire.Wire.read_all.Goals as goal
 
 read_if : (piece : Bool) (p : Progress) → piece ≡ true → reading piece p ≡ reads (length p.engine.unread) p
@@ -30,7 +29,6 @@ frames-preserved c =
       most = c.frames.invariant.most;
       grows = omega (arith, c.frames.invariant.grows);
       starved = ap (λ (x : Engine). x.starved) after ∙ read_one-starved c.args.at e ∙ c.frames.invariant.starved;
-      faultless = none-then _ _ _ c.frames.invariant.faultless (none-to _ (read_one c.args.at e) c.read_next.new.self after (read-fault c.args.at e));
     }
 
 pub returns-then-not-branch-clause-ok : goal.returns-then-not-branch-clause-ok
@@ -43,19 +41,6 @@ returns-then-not-branch-clause-ok c cut allows =
     ∙ c.frames.invariant.goes_on cut allows
     ∙ reads-rest (length c.as_slice-most.result.now - c.frames.counter) (making c.args.at cut e c.frames.parts) can
     ∙ ap (λ x. making c.args.at cut x c.frames.parts) (sym after)
-
-pub returns-then-not-branch-clause-faultless : goal.returns-then-not-branch-clause-faultless
-returns-then-not-branch-clause-faultless c =
-    let e = c.frames.self in
-    let after : c.read_next.new.self ≡ e =
-    c.in_ok-read_next.ensures.ok ∙ ap (λ (b : Bool). if b then read_one c.args.at e else e) c.if-not-branch.true in
-    none-to _ e c.read_next.new.self after c.frames.invariant.faultless
-
-pub returns-in_err-read_next-clause-faultless : goal.returns-in_err-read_next-clause-faultless
-returns-in_err-read_next-clause-faultless c =
-    let e = c.frames.self in
-    none-then _ _ _ c.frames.invariant.faultless
-    (none-to _ (rule_at c.args.at starve e) c.read_next.new.self c.in_err-read_next.ensures.err (starve-fault c.args.at e.talk))
 
 pub returns-in_err-read_next-clause-err : goal.returns-in_err-read_next-clause-err
 returns-in_err-read_next-clause-err c =

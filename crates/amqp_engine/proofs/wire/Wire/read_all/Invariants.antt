@@ -1,7 +1,7 @@
 -- What is still to be read leads where the whole does, and each part shortens it.
 use Rattle.std.proofs.Common.{◌≡◌, ◌+◌, ◌-◌, ◌*◌, ◌≤◌, ℕ, Option, length}
 use Rattle.amqp_engine.specs.Turn.{reads}
-use Rattle.amqp_engine.specs.Making.{making, Allows, BringsNone}
+use Rattle.amqp_engine.specs.Making.{making, Allows}
 use Rattle.amqp_engine.proofs.Reading.{worth}
 use Rattle.amqp_engine.proofs.wire.Wire.read_all.Given as goal
 
@@ -14,5 +14,4 @@ invariant-frames l = record {
   most : l.most ≡ length l.fn.self.unread;
   grows : l.fn.parts ≤ l.parts;
   starved : l.self.starved ≡ l.fn.self.starved;
-  faultless : BringsNone l.fn.self.talk l.self.talk;
 }

@@ -7,7 +7,9 @@ use Rattle.amqp_engine.specs.Tell.{TellsOffers, offers_from}
 use Rattle.amqp_engine.specs.Play.{waiting}
 use Rattle.amqp_engine.proofs.Cases.{Allows-less, some-unsent, from-not-false, from-not-true}
 use Rattle.amqp_engine.proofs.Offers.{writes-more, writes-last, cuts-other, writes-none, tells-more, waiting-wrote, answered-starved}
-use Rattle.amqp_engine.proofs.Faults.{breaks-then, breaks-offer, breaks-same}
+use Rattle.std.proofs.lemmas.List.{append-nil}
+use Rattle.amqp_engine.specs.Causes.{has_failed}
+use Rattle.amqp_engine.proofs.Faults.{failed-last, all-taken, last-rose}
 use Rattle.amqp_engine.proofs.Telling.{tells-none}
 use Rattle.amqp_engine.proofs.wire.Wire.write_all.Goals as goal
 
@@ -36,12 +38,12 @@ writes-preserved g c =
             subst P (sym (append_assoc ws (w ∷ []) rest))
             (c.writes.invariant.goes_on.2 (w ∷ rest) last
             (tells-more c.args.at w rest e c.offer.new.self log (g.P.Port.log c.offer.new.port) last f.engine f.told f.plays next)),
+        failed-last ws w c.writes.invariant.goes_on.3 ∙ all-taken w (length (commit_all e).unsent) all,
       );
       bound = omega (arith, lower, c.writes.invariant.bound);
       grows = omega (arith, c.writes.invariant.grows);
       starved = ap (λ (x : Engine). x.starved) f.engine ∙ answered-starved c.args.at w e ∙ c.writes.invariant.starved;
       faults = omega (arith, f.faults, c.writes.invariant.faults);
-      failed = breaks-then _ _ _ _ _ _ c.writes.invariant.faults f.faults c.writes.invariant.failed (breaks-offer c.args.at w e c.offer.new.self _ _ f.engine f.cause);
     }
 
 pub writes-smaller : goal.writes-smaller
@@ -72,12 +74,12 @@ returns-then-not-offered g c =
         c.writes.invariant.goes_on.2 (w ∷ []) (g.P.Port.log c.offer.new.port)
             (tells-more c.args.at w [] e c.offer.new.self log (g.P.Port.log c.offer.new.port) (g.P.Port.log c.offer.new.port)
             f.engine f.told f.plays (tells-none _ _ refl)),
+        last-rose ws w _ _ _ c.writes.invariant.goes_on.3 c.writes.invariant.faults f.faults f.cause,
       );
       err = tt;
       grows = omega (arith, c.writes.invariant.grows);
       starved = ap (λ (x : Engine). x.starved) f.engine ∙ answered-starved c.args.at w e ∙ c.writes.invariant.starved;
       faults = omega (arith, f.faults, c.writes.invariant.faults);
-      failed = breaks-then _ _ _ _ _ _ c.writes.invariant.faults f.faults c.writes.invariant.failed (breaks-offer c.args.at w e c.offer.new.self _ _ f.engine f.cause);
     }
 
 pub returns-in-NoMemory-clause-err : goal.returns-in-NoMemory-clause-err
@@ -97,24 +99,13 @@ returns-in-NoMemory-clause-err g c =
       c.writes.invariant.goes_on.2 (w ∷ []) (g.P.Port.log c.offer.new.port)
           (tells-more c.args.at w [] e c.offer.new.self log (g.P.Port.log c.offer.new.port) (g.P.Port.log c.offer.new.port)
           f.engine f.told f.plays (tells-none _ _ refl)),
+      last-rose ws w _ _ _ c.writes.invariant.goes_on.3 c.writes.invariant.faults f.faults f.cause,
     )
 
 pub returns-in-NoMemory-clause-starved : goal.returns-in-NoMemory-clause-starved
 returns-in-NoMemory-clause-starved g c =
     let f = c.in-Some.ensures in
     ap (λ (x : Engine). x.starved) f.engine ∙ answered-starved c.args.at c.in-Some.offered.answer c.writes.self ∙ c.writes.invariant.starved
-
-pub returns-in-NoMemory-clause-failed : goal.returns-in-NoMemory-clause-failed
-returns-in-NoMemory-clause-failed g c =
-    let f = c.in-Some.ensures in
-    breaks-then _ _ _ _ _ _ c.writes.invariant.faults f.faults c.writes.invariant.failed
-    (breaks-offer c.args.at c.in-Some.offered.answer c.writes.self c.offer.new.self _ _ f.engine f.cause)
-
-pub returns-clause-failed : goal.returns-clause-failed
-returns-clause-failed g c =
-    let f = c.in_default.ensures in
-    breaks-then _ _ _ _ _ _ c.writes.invariant.faults f.faults c.writes.invariant.failed
-    (breaks-same c.writes.self c.offer.new.self _ _ f.none.1)
 
 pub returns-clause-ok : goal.returns-clause-ok
 returns-clause-ok g c =
@@ -127,4 +118,5 @@ returns-clause-ok g c =
           let P : Engine → Type 0 = λ x. Writes (ws ++ []) (making c.args.at cut c.args.self.now c.args.parts.now) (making c.args.at cut x n) in
           subst P (sym f.1) (c.writes.invariant.goes_on.1 cut [] (making c.args.at cut e n) allows (writes-none (making c.args.at cut e n) f.0)),
       c.writes.invariant.goes_on.2 [] (g.P.Port.log c.offer.new.port) (tells-none _ _ f.2),
+      λ h. absurd (let none : has_failed (ws ++ []) ≡ false = ap has_failed (append-nil ws) ∙ c.writes.invariant.goes_on.3 in cc),
     )
