@@ -13,7 +13,7 @@ use Rattle.amqp_engine.specs.Turn.{Progress, begun, goes, reading, is_part, is_p
 use Rattle.amqp_engine.specs.Making.{making, parts_of, Allows, Writes, AppliesCounted}
 use Rattle.amqp_engine.specs.Counts.{Rose}
 use Rattle.amqp_engine.specs.Causes.{has_failed}
-use Rattle.amqp_engine.specs.Tell.{Applies, TellsOffers, offers_from, turn_of}
+use Rattle.amqp_engine.specs.Tell.{TellsOffers, offers_from, turn_of}
 use Rattle.amqp_engine.proofs.Cases.{if_case, if-true, if-false, is_before-Allows}
 use Rattle.amqp_engine.proofs.Settling.{settle-starved}
 use Rattle.amqp_engine.proofs.Keeping.{starve-twice}

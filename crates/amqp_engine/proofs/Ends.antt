@@ -1,5 +1,5 @@
 -- How a change of the state may end a session with an error.
-use Rattle.std.proofs.Common.{◌≡◌, ◌⊎◌, inl, inr, ℕ, Bool, true, false, if◌then◌else◌, Some, Ok, Err, refl, ap, sym, ◌∙◌, subst}
+use Rattle.std.proofs.Common.{◌≡◌, ◌⊎◌, inl, inr, ℕ, Some, Ok, Err, refl, ap, sym, ◌∙◌, subst}
 use Rattle.amqp_session.specs.declared.state.Link.TheVariants.{Ended}
 use Rattle.amqp_session.specs.declared.error.ErrorKind.{ErrorKind}
 use Rattle.amqp_session.specs.Talk.{Talk, end_of, end_of_link}

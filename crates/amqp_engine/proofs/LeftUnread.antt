@@ -1,5 +1,5 @@
 -- No turn leaves a whole frame unread.
-use Rattle.std.proofs.Common.{◌≡◌, ◌≤◌, ℕ, zero, suc, ◌&&◌, ◌||◌, not, if◌then◌else◌, Bool, true, false, IsTrue, List, [], ◌∷◌, length, drop, Option, Some, None, Result, is_some, ◌⊎◌, inl, inr, refl, ap, sym, ◌∙◌, subst, arith, rules}
+use Rattle.std.proofs.Common.{◌≡◌, ℕ, ◌&&◌, not, if◌then◌else◌, Bool, true, false, IsTrue, List, [], drop, Option, Result, ◌⊎◌, inl, inr, refl, ap, sym, ◌∙◌, subst, rules}
 use Rattle.amqp_frame.specs.declared.frame.Read.{Read}
 use Rattle.amqp_frame.specs.declared.frame.Read.TheVariants.{Whole, More, TooLarge, BadHeartbeat, Bad, NoMemory}
 use Rattle.amqp_frame.specs.FrameReading.{front}
@@ -8,7 +8,7 @@ use Rattle.amqp_session.specs.declared.state.Link.TheVariants.{Wanted, Asked, Op
 use Rattle.amqp_session.specs.declared.io_fault.IoFault.TheVariants.{Aborted, Reset, BrokenPipe}
 use Rattle.amqp_session.specs.declared.command.Answer.{Answer}
 use Rattle.amqp_session.specs.declared.error.ErrorKind.{ErrorKind}
-use Rattle.amqp_session.specs.Talk.{Talk, is_open, is_open_link, is_asked, has_ended, drops_input, end_of_link}
+use Rattle.amqp_session.specs.Talk.{Talk, is_open, is_open_link, is_asked, has_ended, drops_input}
 use Rattle.amqp_session.specs.Negotiation.{frame_limit}
 use Rattle.amqp_session.specs.Changes.{present_at, fail, starve}
 use Rattle.amqp_session.specs.Links.{asked, asked_link, linked, link_failed, lost}
@@ -21,14 +21,14 @@ use Rattle.amqp_engine.specs.declared.port.Step.TheVariants.{Linked, LinkFailed,
 use Rattle.amqp_engine.specs.declared.port.Wrote.{Wrote}
 use Rattle.amqp_engine.specs.declared.port.Wrote.TheVariants.{Took, Failed, NoMemory as WroteNoMemory}
 use Rattle.amqp_engine.specs.Engine.{Engine, front_of, is_more, can_read, rule_at, with_talk, step_engine, settle, took, wrote, frames_waiting, commit_all, commits, starve_at}
-use Rattle.amqp_engine.specs.Turn.{Progress, Turn, asks, wants_ask, goes, reads, read_part, reading, is_piece, step_part, is_part, begun, drain, offer_part, answered, read, written, applied, turn, starved_after, IsApplied, IsTurn}
+use Rattle.amqp_engine.specs.Turn.{Turn, asks, wants_ask, is_piece, answered, applied, turn, IsApplied, IsTurn}
 use Rattle.amqp_engine.specs.Log.{Log}
 use Rattle.amqp_engine.specs.Tell.{Applies, TakesTurn, turn_of}
 use Rattle.amqp_engine.specs.Unread.{IsRead}
-use Rattle.amqp_engine.proofs.Cases.{if_case, if_by, if-true, if-false, and-false, and-right}
+use Rattle.amqp_engine.proofs.Cases.{if_case, if_by}
 use Rattle.amqp_engine.proofs.Keeping.{present-keeps, stays-command, taken-keeps, taken-link, lost-stays, starve-ends}
 use Rattle.amqp_engine.proofs.Commits.{commits-keep}
-use Rattle.amqp_engine.proofs.Reading.{reads-done, front-none}
+use Rattle.amqp_engine.proofs.Reading.{front-none}
 use Rattle.amqp_engine.proofs.Over.{ended-closed, applied-ended}
 use Rattle.amqp_engine.proofs.Lifting as lifting
 

@@ -1,8 +1,7 @@
 -- What a step, the reading of a frame and a write leave of the link, and of what is to be sent on it.
-use Rattle.std.proofs.Common.{◌≡◌, ◌⊎◌, inl, inr, ℕ, ◌+◌, ◌==◌, if◌then◌else◌, Bool, true, false, List, [], ◌∷◌, ◌++◌, length, drop, is_some, refl, ap, sym, ◌∙◌, subst}
+use Rattle.std.proofs.Common.{◌≡◌, inl, inr, ℕ, ◌+◌, ◌==◌, if◌then◌else◌, true, false, List, [], ◌++◌, length, drop, is_some, refl, ap, sym, ◌∙◌, subst}
 use Rattle.amqp_frame.specs.declared.frame.Read.{Read}
 use Rattle.amqp_frame.specs.declared.frame.Read.TheVariants.{Whole, More, TooLarge, BadHeartbeat, Bad, NoMemory as ReadNoMemory}
-use Rattle.amqp_session.specs.declared.committed.Mark.{Mark}
 use Rattle.amqp_session.specs.declared.state.Link.{Link}
 use Rattle.amqp_session.specs.declared.state.Link.TheVariants.{Wanted, Asked, Open, Ended}
 use Rattle.amqp_session.specs.declared.io_fault.IoFault.{IoFault}
@@ -26,7 +25,7 @@ use Rattle.amqp_engine.specs.Engine.{Engine, rule_at, settle, step_engine, read_
 use Rattle.amqp_engine.specs.Turn.{answered}
 use Rattle.amqp_engine.proofs.Cases.{if_case, if-false}
 use Rattle.amqp_engine.proofs.Settling.{settle-talk, settle-unsent}
-use Rattle.amqp_engine.proofs.Keeping.{Keeps, LinkKept, link-then, present-keeps, keeps-frame, keeps-misread, stays-command, lost-keeps, lost-link, left_after, committed-taken, taken-link}
+use Rattle.amqp_engine.proofs.Keeping.{LinkKept, link-then, present-keeps, keeps-frame, keeps-misread, stays-command, lost-keeps, lost-link, left_after, committed-taken, taken-link}
 use Rattle.amqp_engine.proofs.Commits.{commits-keep}
 
 -- ---- links

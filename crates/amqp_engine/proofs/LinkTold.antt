@@ -1,5 +1,5 @@
 -- What a port tells of its links is what was sent on them.
-use Rattle.std.proofs.Common.{◌≡◌, ◌⊎◌, inl, inr, ℕ, ◌&&◌, not, if◌then◌else◌, Bool, true, false, List, [], ◌∷◌, ◌++◌, length, take, map, is_some, refl, ap, sym, ◌∙◌, subst}
+use Rattle.std.proofs.Common.{◌≡◌, inl, inr, ℕ, ◌&&◌, not, if◌then◌else◌, Bool, true, false, List, [], ◌∷◌, ◌++◌, length, take, map, is_some, refl, ap, sym, ◌∙◌, subst}
 use Rattle.std.proofs.lemmas.List.{append-nil, map-append}
 use Rattle.amqp_session.specs.declared.state.Link.{Link}
 use Rattle.amqp_session.specs.declared.state.Link.TheVariants.{Wanted, Asked, Open, Ended}
@@ -9,24 +9,23 @@ use Rattle.amqp_session.specs.declared.io_fault.IoFault.TheVariants.{Aborted, Re
 use Rattle.amqp_session.specs.Talk.{Talk, start, is_open, is_open_link, is_asked, is_asked_link, is_wanted_link, has_ended, end_of_link}
 use Rattle.amqp_session.specs.Changes.{present_at, fail}
 use Rattle.amqp_session.specs.Links.{asked, asked_link, linked, link_failed, piece, lost}
-use Rattle.amqp_session.specs.Commands.{command}
 use Rattle.amqp_engine.specs.declared.port.Step.{Step}
 use Rattle.amqp_engine.specs.declared.port.Step.TheVariants.{Linked, LinkFailed, Piece, End, Fault, Room, Tick, Command}
 use Rattle.amqp_engine.specs.declared.port.Wrote.{Wrote}
 use Rattle.amqp_engine.specs.declared.port.Wrote.TheVariants.{Took, Failed, NoMemory}
 use Rattle.amqp_engine.specs.Log.{Log, on_last, log_ask, log_step, log_write, links_after, asked_after, IsWithin}
 use Rattle.amqp_engine.specs.Engine.{Engine, begin, with_talk, rule_at, step_engine, step_linked, settle, can_write, read_one, taken_by, starve_at}
-use Rattle.amqp_engine.specs.Turn.{Turn, asks, wants_ask, offered, answered, read, turn, turns, AreTurns}
-use Rattle.amqp_engine.specs.Tell.{Offer, offers_from, log_asks, log_stepped, log_offers, log_turns}
-use Rattle.amqp_engine.specs.Sending.{Sending, nothing_sent, link_bytes, offer_sending, offers_sending, step_sending, turn_sending, sendings_from, sendings}
+use Rattle.amqp_engine.specs.Turn.{Turn, asks, wants_ask, offered, answered, read, turn, AreTurns}
+use Rattle.amqp_engine.specs.Tell.{offers_from, log_asks, log_offers, log_turns}
+use Rattle.amqp_engine.specs.Sending.{Sending, nothing_sent, link_bytes, offer_sending, offers_sending, step_sending, sendings_from, sendings}
 use Rattle.amqp_engine.proofs.Cases.{if_case, if-true, if-false, and-left}
 use Rattle.amqp_engine.proofs.Settling.{settle-talk}
 use Rattle.amqp_engine.proofs.Keeping.{LinkKept, present-keeps, stays-command, lost-link, starve-ends}
-use Rattle.amqp_engine.proofs.Over.{asks-end, ended-closed}
+use Rattle.amqp_engine.proofs.Over.{asks-end}
 use Rattle.amqp_engine.proofs.Sent.{on_last-append}
 use Rattle.amqp_engine.proofs.Agreeing.{offer-bytes}
 use Rattle.amqp_engine.proofs.LinkKept.{leaves-read, kept-read, kept-answered}
-use Rattle.amqp_engine.proofs.Sends.{IsLast, Sends, sends-asks, sends-step, sends-left, sends-offer, sends-starved, all-step}
+use Rattle.amqp_engine.proofs.Sends.{Sends, sends-asks, sends-step, sends-left, sends-offer, sends-starved, all-step}
 use Rattle.amqp_engine.proofs.Lifting as lifting
 
 -- ---- whether a link is asked for

@@ -1,5 +1,5 @@
 -- What a turn does to a session that had ended, and to one that goes on.
-use Rattle.std.proofs.Common.{◌≡◌, ◌⊎◌, inl, inr, ℕ, zero, suc, ◌&&◌, not, if◌then◌else◌, Bool, true, false, IsTrue, IsFalse, List, [], ◌∷◌, ◌++◌, length, Option, Some, None, is_some, nat_lt, refl, ap, sym, ◌∙◌, subst}
+use Rattle.std.proofs.Common.{◌≡◌, ◌⊎◌, inl, inr, ℕ, ◌&&◌, if◌then◌else◌, Bool, true, false, List, [], ◌∷◌, ◌++◌, length, is_some, refl, ap, ◌∙◌, subst}
 use Rattle.amqp_session.specs.declared.state.Link.{Link}
 use Rattle.amqp_session.specs.declared.state.Link.TheVariants.{Wanted, Asked, Open, Ended}
 use Rattle.amqp_session.specs.declared.io_fault.IoFault.{IoFault}
@@ -8,13 +8,12 @@ use Rattle.amqp_session.specs.declared.error.ErrorKind.TheVariants.{IOError}
 use Rattle.amqp_session.specs.Talk.{Talk, is_open, is_open_link, is_asked, is_asked_link, has_ended, end_of, end_of_link}
 use Rattle.amqp_session.specs.Changes.{present_at, fail, starve}
 use Rattle.amqp_session.specs.Links.{asked, asked_link, linked, link_failed, piece, lost}
-use Rattle.amqp_session.specs.Commands.{command}
 use Rattle.amqp_engine.specs.declared.port.Step.{Step}
 use Rattle.amqp_engine.specs.declared.port.Step.TheVariants.{Linked, LinkFailed, Piece, End, Fault, Room, Tick, Command}
 use Rattle.amqp_engine.specs.declared.port.Wrote.{Wrote}
-use Rattle.amqp_engine.specs.Engine.{Engine, rule_at, with_talk, settle, step_engine, can_read, can_write}
-use Rattle.amqp_engine.specs.Turn.{Turn, Progress, asks, wants_ask, begun, goes, part, is_part, is_piece, step_part, reads, reading, drain, AreAnswers, read, written, applied, turn, starved_after}
-use Rattle.amqp_engine.proofs.Cases.{if_case, if-true, if-false, and-false, and-right}
+use Rattle.amqp_engine.specs.Engine.{Engine, rule_at, with_talk, settle, step_engine, can_write}
+use Rattle.amqp_engine.specs.Turn.{Turn, Progress, asks, wants_ask, begun, goes, part, is_part, is_piece, step_part, reading, drain, AreAnswers, read, written, applied, turn, starved_after}
+use Rattle.amqp_engine.proofs.Cases.{if_case, if-true, if-false, and-right}
 use Rattle.amqp_engine.proofs.Settling.{settle-talk}
 use Rattle.amqp_engine.proofs.Keeping.{present-keeps, lost-stays, stays-command}
 use Rattle.amqp_engine.proofs.Reading.{reads-rest}

@@ -1,5 +1,5 @@
 -- The turns of a script that is played are determined.
-use Rattle.std.proofs.Common.{◌≡◌, ◌≤◌, ◌<◌, ℕ, zero, suc, ◌&&◌, if◌then◌else◌, Bool, true, false, MatchBool, List, [], ◌∷◌, ◌++◌, length, Option, Some, None, IfSome, IsSome, is_some, option_map, refl, ap, sym, ◌∙◌, subst, arith}
+use Rattle.std.proofs.Common.{◌≡◌, ◌≤◌, ◌<◌, ℕ, zero, suc, if◌then◌else◌, Bool, true, false, MatchBool, List, [], ◌∷◌, length, Option, Some, None, IfSome, IsSome, is_some, option_map, refl, ap, sym, ◌∙◌, subst, arith}
 use Rattle.amqp_session.specs.Talk.{has_ended, is_open}
 use Rattle.amqp_session.specs.Changes.{starve, present_at}
 use Rattle.amqp_engine.specs.declared.port.Step.{Step}
@@ -7,8 +7,8 @@ use Rattle.amqp_engine.specs.declared.port.Wrote.{Wrote}
 use Rattle.amqp_engine.specs.declared.port.Wrote.TheVariants.{Took, Failed, NoMemory}
 use Rattle.amqp_engine.specs.Plan.{Plan, Coming, plan_write, plan_failure, plan_step, PlanAnswers, room_for, next_coming}
 use Rattle.amqp_engine.specs.Log.{Log, IsWithin, log_ask, log_step, log_write}
-use Rattle.amqp_engine.specs.Engine.{Engine, frames_waiting, can_write, can_read, commit_all, step_engine}
-use Rattle.amqp_engine.specs.Turn.{is_before, Progress, Turn, asks, wants_ask, goes, part, read_part, reads, step_part, is_part, is_piece, begun, offer_part, offered, answered, is_all, AreAnswers, CutsAfter, read, written, turn, turns, starved_after, IsTurn, AreTurns}
+use Rattle.amqp_engine.specs.Engine.{Engine, frames_waiting, can_write, commit_all}
+use Rattle.amqp_engine.specs.Turn.{is_before, Progress, Turn, asks, wants_ask, goes, offer_part, offered, answered, is_all, AreAnswers, CutsAfter, read, written, turn, turns, starved_after, IsTurn, AreTurns}
 use Rattle.amqp_engine.specs.Tell.{Offer, offers_from, offers_of, turn_of, log_asks, log_stepped, log_offers, log_turn, log_turns, PlaysOffers, PlaysTurn, PlaysTurns, Runs}
 use Rattle.amqp_engine.specs.Play.{waiting, room_of, fails_of, played_answer, played_answers, played_step, played_notes, played_turn_of, played_turn, played_turns, no_notes, IsPlayed}
 use Rattle.amqp_engine.proofs.Over.{turn-is}

@@ -1,5 +1,5 @@
 -- Reading frames one by one.
-use Rattle.std.proofs.Common.{◌≡◌, ◌≤◌, ℕ, zero, suc, ◌+◌, ◌==◌, ◌&&◌, ◌||◌, min, not, if◌then◌else◌, nat_lt, Bool, true, false, List, [], ◌∷◌, length, drop, Option, Some, None, refl, ap, ◌∙◌, arith, length-drop}
+use Rattle.std.proofs.Common.{◌≡◌, ◌≤◌, ℕ, zero, suc, ◌+◌, ◌==◌, ◌&&◌, min, not, if◌then◌else◌, nat_lt, Bool, true, false, List, [], ◌∷◌, length, drop, Option, Some, None, refl, ap, ◌∙◌, arith, length-drop}
 use Rattle.std.specs.Option.{option_map_or}
 use Rattle.std.specs.Int.{w16, w32}
 use Rattle.amqp_types.specs.Reading.{octet_at, octets_at, number_at, ◌⊗◌}
@@ -21,7 +21,7 @@ use Rattle.amqp_engine.specs.Plan.{at_most_64}
 use Rattle.amqp_engine.specs.Engine.{Engine, front_of, can_read, is_more, read_one, read_row, read_badly, settle, rule_at}
 use Rattle.amqp_engine.specs.Turn.{Progress, reads, reading, goes, read_part, is_before}
 use Rattle.amqp_engine.specs.Making.{making, Allows}
-use Rattle.amqp_engine.proofs.Cases.{if-true, if-false, or-true, and-true, and-false, and-left, and-right, is_before-Allows}
+use Rattle.amqp_engine.proofs.Cases.{if-true, if-false, and-true, and-false, and-left, and-right, is_before-Allows}
 use Rattle.amqp_engine.proofs.Settling.{keeps_unread, settle-unread, settle-starved}
 use Rattle.amqp_engine.proofs.Keeping.{present-keeps}
 

@@ -1,5 +1,5 @@
 -- What was sent on each link, turn by turn.
-use Rattle.std.proofs.Common.{◌≡◌, ℕ, ◌==◌, ◌&&◌, if◌then◌else◌, Bool, true, false, IsTrue, List, [], ◌∷◌, ◌++◌, length, drop, refl, ap, sym, ◌∙◌, subst}
+use Rattle.std.proofs.Common.{◌≡◌, ℕ, ◌==◌, if◌then◌else◌, true, false, List, [], ◌∷◌, ◌++◌, length, drop, refl, ap, sym, ◌∙◌, subst}
 use Rattle.std.specs.List.{AllByRecursion}
 use Rattle.amqp_session.specs.declared.committed.Mark.{Mark}
 use Rattle.amqp_session.specs.Talk.{Talk, start, is_open, is_asked}
@@ -10,7 +10,7 @@ use Rattle.amqp_engine.specs.declared.port.Step.TheVariants.{Linked, LinkFailed,
 use Rattle.amqp_engine.specs.declared.port.Wrote.{Wrote}
 use Rattle.amqp_engine.specs.Log.{on_last, IsWithin}
 use Rattle.amqp_engine.specs.Engine.{Engine, begin, frames_waiting, with_talk, rule_at, step_engine, step_linked, read_one, commit_all, can_write, taken_by, starve_at}
-use Rattle.amqp_engine.specs.Turn.{Turn, asks, wants_ask, offered, answered, read, turn, turns, AreTurns}
+use Rattle.amqp_engine.specs.Turn.{Turn, asks, wants_ask, offered, answered, read, turn, AreTurns}
 use Rattle.amqp_engine.specs.Sending.{Sending, nothing_sent, offer_sending, offers_sending, step_sending, sendings_from, sendings, SendsInOrder}
 use Rattle.amqp_engine.proofs.Cases.{if_case, if_by, if-true, and-left}
 use Rattle.amqp_engine.proofs.Keeping.{present-keeps, starve-ends, left_after}
@@ -18,7 +18,7 @@ use Rattle.amqp_engine.proofs.Commits.{commits-keep}
 use Rattle.amqp_engine.proofs.Over.{ended-closed}
 use Rattle.amqp_engine.proofs.Sent.{on_last-append}
 use Rattle.amqp_engine.proofs.Agreeing.{Agrees, AgreesOn, agrees-none, agrees-order, agrees-offer}
-use Rattle.amqp_engine.proofs.LinkKept.{Leaves, asked-not-open, asked-open, leaves-step, leaves-read, written}
+use Rattle.amqp_engine.proofs.LinkKept.{Leaves, asked-open, leaves-step, leaves-read, written}
 use Rattle.amqp_engine.proofs.Lifting as lifting
 
 -- ---- lists

@@ -6,8 +6,7 @@ use Rattle.amqp_session.specs.declared.committed.Then.{Then}
 use Rattle.amqp_session.specs.declared.committed.Then.TheVariants.{Nothing, Answer, Finish}
 use Rattle.amqp_session.specs.declared.state.Input.{Input}
 use Rattle.amqp_session.specs.declared.state.Input.TheVariants.{Acting, Closed, Dropped}
-use Rattle.amqp_session.specs.declared.state.Link.{Link}
-use Rattle.amqp_session.specs.declared.state.Link.TheVariants.{Wanted, Asked, Open, Ended}
+use Rattle.amqp_session.specs.declared.state.Link.TheVariants.{Open}
 use Rattle.amqp_session.specs.declared.io_fault.IoFault.{IoFault}
 use Rattle.amqp_session.specs.declared.io_fault.IoFault.TheVariants.{Aborted, Refused, Reset, BrokenPipe}
 use Rattle.amqp_session.specs.declared.server_close.ServerClose.{ServerClose}
@@ -16,7 +15,7 @@ use Rattle.amqp_session.specs.declared.error.ErrorKind.{ErrorKind}
 use Rattle.amqp_session.specs.declared.error.ErrorKind.TheVariants.{IOError, ProtocolError, NoMemory}
 use Rattle.amqp_session.specs.Talk.{Talk, has_ended, is_open, is_asked, end_of, end_of_link}
 use Rattle.amqp_session.specs.Changes.{present_at, fail, finish_by, starve}
-use Rattle.amqp_session.specs.Links.{asked, asked_link, linked, link_failed, piece, lost, lost_by}
+use Rattle.amqp_session.specs.Links.{linked, link_failed, piece, lost, lost_by}
 use Rattle.amqp_session.specs.Commands.{command}
 use Rattle.amqp_session.specs.Writing.{follow, sent, sent_among, taken}
 use Rattle.amqp_engine.specs.declared.port.Step.{Step}
@@ -24,8 +23,8 @@ use Rattle.amqp_engine.specs.declared.port.Step.TheVariants.{Linked, LinkFailed,
 use Rattle.amqp_engine.specs.declared.port.Wrote.{Wrote}
 use Rattle.amqp_engine.specs.declared.port.Wrote.TheVariants.{Took, Failed, NoMemory as WroteNoMemory}
 use Rattle.amqp_engine.specs.Log.{Log}
-use Rattle.amqp_engine.specs.Engine.{Engine, frames_waiting, settle, rule_at, with_talk, step_engine, took, wrote, commit_all}
-use Rattle.amqp_engine.specs.Turn.{Turn, Progress, asks, wants_ask, goes, reads, part, is_piece, step_part, is_part, begun, drain, offer_part, answered, read, written, applied, turn, turns, starved_after, AreTurns, Leads}
+use Rattle.amqp_engine.specs.Engine.{Engine, frames_waiting, settle, rule_at, step_engine, took, wrote, commit_all}
+use Rattle.amqp_engine.specs.Turn.{Turn, Progress, asks, goes, reads, part, is_piece, step_part, is_part, begun, drain, offer_part, answered, read, written, applied, turn, turns, starved_after, AreTurns, Leads}
 use Rattle.amqp_engine.specs.Tell.{TellsTurns, Applies, Runs, turn_of}
 use Rattle.amqp_engine.specs.Causes.{Misreads, LosesClosed, IsCause, Brings, brought, has_failed, is_failed, is_last, sends_close_ok, is_finish}
 use Rattle.amqp_engine.proofs.Cases.{if_case, if_by, if-true, if-false, and-true, and-false, none-from}

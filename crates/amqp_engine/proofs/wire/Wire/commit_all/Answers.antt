@@ -1,4 +1,4 @@
-use Rattle.std.proofs.Common.{◌≡◌, ◌∙◌, None, ap, sym, length}
+use Rattle.std.proofs.Common.{◌≡◌, ◌∙◌, None, ap, sym}
 use Rattle.amqp_engine.specs.Engine.{frames_waiting, fitting_next, committed_as}
 use Rattle.amqp_engine.proofs.Cases.{none-from}
 use Rattle.amqp_engine.proofs.Commits.{commits-rest}

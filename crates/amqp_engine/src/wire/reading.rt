@@ -1,0 +1,246 @@
+//! The rule of a step, and the reading of frames.
+
+ghost use Rattle.std.specs.Prelude.{◌≡◌, ◌≢◌, ◌≤◌, not, ◌<◌, ◌+◌, ◌*◌, ℕ, Option, Some, true, false, if◌then◌else◌, IfOk, OnOk, OnErr, IsTrue, length};
+ghost use Rattle.amqp_session.specs.Talk.{is_open, is_asked};
+ghost use Rattle.amqp_session.specs.Changes.{starve};
+ghost use Rattle.amqp_session.specs.Links.{link_failed, lost};
+ghost use Rattle.amqp_session.specs.Commands.{command as command_rule};
+ghost use Rattle.amqp_engine.specs.Engine.{Engine, rule_at, step_linked, step_piece, step_engine, can_read, read_one, settle, read_badly, read_row, is_more};
+ghost use Rattle.amqp_engine.specs.Turn.{is_part, reading};
+ghost use Rattle.amqp_engine.specs.Making.{making, parts_of, is_command, is_whole, FewParts, Allows};
+ghost use Rattle.amqp_frame.specs.declared.frame.Read.TheVariants as reads;
+
+use super::Wire;
+use crate::port::Step;
+use amqp_frame::{Frame, Read, read_frame};
+use amqp_session::{Cmd, IoFault, Misread};
+use amqp_types::NoMemory;
+
+impl Wire {
+    // The rule of a step. Says how many parts of the turn it is, one or none. Where memory is
+    // refused, the session has ended, and nothing else is done.
+    pub(super) fn take_step(&mut self, at: u64, step: Step, bytes: &[u8]) -> Result<u64, NoMemory>
+        ensures ok { OnOk result (self.new ≡ step_engine at step bytes.now self.old) }
+        ensures parts { IfOk result (λ n. n ≡ parts_of (is_part step self.old)) }
+        ensures err { OnErr result (self.new ≡ rule_at at starve self.old) }
+        ensures refused { OnErr result (is_part step self.old ≡ true) }
+    {
+        match step {
+            Step::Command(command) => self.take_command(at, command),
+            other => {
+                let parts = self.take_event(at, &other, bytes);
+                drop(other);
+                parts
+            }
+        }
+    }
+
+    // The rule of a step that is no command.
+    fn take_event(&mut self, at: u64, step: &Step, bytes: &[u8]) -> Result<u64, NoMemory>
+        requires { is_command step.now ≡ false }
+        ensures ok { OnOk result (self.new ≡ step_engine at step.now bytes.now self.old) }
+        ensures parts { IfOk result (λ n. n ≡ parts_of (is_part step.now self.old)) }
+        ensures err { OnErr result (self.new ≡ rule_at at starve self.old) }
+        ensures refused { OnErr result (is_part step.now self.old ≡ true) }
+    {
+        match step {
+            Step::Linked => self.take_link(at),
+            Step::LinkFailed => Ok(self.take_refusal(at)),
+            Step::Piece(_) => self.take_piece(at, bytes),
+            Step::End => Ok(self.take_loss(at, IoFault::Aborted)),
+            Step::Fault => Ok(self.take_loss(at, IoFault::Reset)),
+            Step::Room => {
+                self.session.advance(at);
+                Ok(0)
+            }
+            Step::Tick => {
+                self.session.advance(at);
+                Ok(1)
+            }
+            Step::Command(_) => unreachable!(),
+        }
+    }
+
+    fn take_link(&mut self, at: u64) -> Result<u64, NoMemory>
+        ensures ok { OnOk result (self.new ≡ step_linked at self.old) }
+        ensures parts { IfOk result (λ n. n ≡ parts_of (is_asked self.old.talk)) }
+        ensures err { OnErr result (self.new ≡ rule_at at starve self.old) }
+        ensures refused { OnErr result (is_asked self.old.talk ≡ true) }
+    {
+        if !self.session.is_asked() {
+            self.session.advance(at);
+            return Ok(0);
+        }
+        if self.session.linked(at).is_err() {
+            return Err(NoMemory);
+        }
+        self.unread.clear();
+        self.place = 0;
+        self.unsent.clear();
+        Ok(1)
+    }
+
+    fn take_piece(&mut self, at: u64, bytes: &[u8]) -> Result<u64, NoMemory>
+        ensures ok { OnOk result (self.new ≡ step_piece at bytes.now self.old) }
+        ensures parts { IfOk result (λ n. n ≡ parts_of (is_open self.old.talk)) }
+        ensures err { OnErr result (self.new ≡ rule_at at starve self.old) }
+        ensures refused { OnErr result (is_open self.old.talk ≡ true) }
+    {
+        if !self.session.is_open() {
+            self.session.advance(at);
+            return Ok(0);
+        }
+        if self.unread.append(bytes).is_err() {
+            self.session.starve(at);
+            return Err(NoMemory);
+        }
+        self.session.piece(at);
+        self.settle();
+        Ok(1)
+    }
+
+    // The link that was asked for is refused.
+    fn take_refusal(&mut self, at: u64) -> u64
+        ensures engine { self.new ≡ settle (rule_at at link_failed self.old) }
+        ensures parts { result ≡ parts_of (is_asked self.old.talk) }
+    {
+        let asked = self.session.is_asked();
+        self.session.link_failed(at);
+        self.settle();
+        asked as u64
+    }
+
+    // The open link is lost.
+    fn take_loss(&mut self, at: u64, fault: IoFault) -> u64
+        ensures engine { self.new ≡ settle (rule_at at (lost fault) self.old) }
+        ensures parts { result ≡ parts_of (is_open self.old.talk) }
+    {
+        let open = self.session.is_open();
+        self.session.lost(fault, at);
+        self.settle();
+        open as u64
+    }
+
+    fn take_command(&mut self, at: u64, command: Cmd) -> Result<u64, NoMemory>
+        ensures ok { OnOk result (self.new ≡ rule_at at (command_rule command) self.old) }
+        ensures parts { IfOk result (λ n. n ≡ 1) }
+        ensures err { OnErr result (self.new ≡ rule_at at starve self.old) }
+    {
+        self.session.advance(at);
+        if self.session.command(command).is_err() {
+            self.session.starve(at);
+            return Err(NoMemory);
+        }
+        Ok(1)
+    }
+
+    // Reads frames while there is one, where a piece came, and counts them as parts.
+    pub(super) fn read_all(&mut self, at: u64, piece: bool, parts: &mut u64) -> Result<(), NoMemory>
+        requires { parts.old ≤ 1 }
+        ensures ok { OnOk result ((cut : Option ℕ) → Allows cut parts.new
+            → reading piece (making at cut self.old parts.old) ≡ making at cut self.new parts.new) }
+        ensures err { OnErr result ((e : Engine) × (self.new ≡ rule_at at starve e)
+            × (reading piece (making at (Some parts.new) self.old parts.old) ≡ making at (Some parts.new) e parts.new)) }
+        ensures bound { FewParts parts.new }
+        ensures grows { parts.old ≤ parts.new }
+        ensures starved { self.new.starved ≡ self.old.starved }
+    {
+        if !piece {
+            return Ok(());
+        }
+        let most = self.unread.as_slice().len();
+        'frames: for _ in 0..most {
+            if !self.read_next(at)? {
+                return Ok(());
+            }
+            *parts += 1;
+        }
+        Ok(())
+    }
+
+    // Reads a frame, or what can be none, and says whether there was one.
+    fn read_next(&mut self, at: u64) -> Result<bool, NoMemory>
+        ensures some { IfOk result (λ b. b ≡ can_read self.old) }
+        ensures ok { IfOk result (λ b. self.new ≡ (if b then read_one at self.old else self.old)) }
+        ensures err { OnErr result (self.new ≡ rule_at at starve self.old) }
+    {
+        if !self.session.is_open() {
+            return Ok(false);
+        }
+        match read_frame(self.alloc, &self.unread, self.session.frame_limit() as u32) {
+            Read::Whole(frame, n) => self.read_whole(at, frame, n),
+            other => {
+                let found = self.read_other(at, &other);
+                drop(other);
+                found
+            }
+        }
+    }
+
+    // A frame is read, of so many bytes.
+    fn read_whole(&mut self, at: u64, frame: Frame, n: usize) -> Result<bool, NoMemory>
+        requires open { IsTrue (is_open self.old.talk) }
+        requires within { n ≤ length self.old.unread }
+        ensures some { IfOk result (λ b. b ≡ true) }
+        ensures ok { OnOk result (self.new ≡ read_row at (reads.Whole frame n) self.old) }
+        ensures err { OnErr result (self.new ≡ rule_at at starve self.old) }
+    {
+        if let Err(refused) = self.session.frame(frame, self.place, at) {
+            drop(refused);
+            return Err(NoMemory);
+        }
+        self.unread.consume(n);
+        self.place = self.place.saturating_add(n as u64);
+        self.settle();
+        Ok(true)
+    }
+
+    // What stands at the front is no whole frame.
+    fn read_other(&mut self, at: u64, read: &Read) -> Result<bool, NoMemory>
+        requires { is_whole read.now ≡ false }
+        ensures some { IfOk result (λ b. b ≡ not (is_more read.now)) }
+        ensures ok { IfOk result (λ b. self.new ≡ (if b then read_row at read.now self.old else self.old)) }
+        ensures err { OnErr result (self.new ≡ rule_at at starve self.old) }
+        ensures held { OnOk result (read.now ≢ reads.NoMemory) }
+    {
+        match read {
+            Read::More => return Ok(false),
+            Read::NoMemory => {
+                self.session.starve(at);
+                return Err(NoMemory);
+            }
+            Read::TooLarge(size) => self.read_badly(at, Misread::TooLarge(*size))?,
+            Read::BadHeartbeat(id) => self.read_badly(at, Misread::BadHeartbeat(*id))?,
+            Read::Bad => self.read_badly(at, Misread::Bad(self.place))?,
+            Read::Whole(..) => unreachable!(),
+        }
+        Ok(true)
+    }
+
+    // What was read is no frame.
+    fn read_badly(&mut self, at: u64, why: Misread) -> Result<(), NoMemory>
+        ensures ok { OnOk result (self.new ≡ read_badly at why self.old) }
+        ensures err { OnErr result (self.new ≡ rule_at at starve self.old) }
+    {
+        if self.session.misread(why, at).is_err() {
+            return Err(NoMemory);
+        }
+        self.settle();
+        Ok(())
+    }
+
+    // Where the link is not open, nothing is left of what was received on it or is unsent; and where
+    // its input is dropped, nothing is unread.
+    pub(super) fn settle(&mut self)
+        ensures { self.new ≡ settle self.old }
+    {
+        if !self.session.is_open() {
+            self.unread.clear();
+            self.place = 0;
+            self.unsent.clear();
+        } else if self.session.drops_input() {
+            self.unread.clear();
+            self.place = 0;
+        }
+    }
+}

@@ -1,0 +1,131 @@
+//! The writing of frames.
+
+ghost use Rattle.std.specs.Prelude.{◌≡◌, ◌≤◌, ◌<◌, ◌+◌, ◌*◌, ℕ, List, Option, Some, true, false, IfNone, IfSome, OnOk, OnErr, IsTrue, IsFalse, option_map, length, is_some};
+ghost use Rattle.amqp_session.specs.Talk.{is_open};
+ghost use Rattle.amqp_engine.specs.Log.{log_write, IsWithin, PlansWrite};
+ghost use Rattle.amqp_engine.specs.Engine.{taken_by, wrote, fitting_next, commit_one, commit_all, can_write};
+ghost use Rattle.amqp_engine.specs.Turn.{offered, answered, is_all};
+ghost use Rattle.amqp_engine.specs.Tell.{TellsOffers, offers_from};
+ghost use Rattle.amqp_engine.specs.Making.{making, FewParts, Allows, Writes};
+ghost use Rattle.amqp_engine.specs.Counts.{Rose};
+ghost use Rattle.amqp_engine.specs.Causes.{has_failed};
+
+use super::Wire;
+use crate::port::{Port, Wrote};
+use amqp_frame::write_frame;
+use amqp_session::{CAPACITY, IoFault};
+use amqp_types::NoMemory;
+
+/// What came of an offer.
+#[derive(Clone, Copy)]
+struct Offered {
+    answer: Wrote,
+    // whether all of it was taken
+    all: bool,
+}
+
+impl Wire {
+    // Writes while all that is offered is taken, and counts the offers as parts.
+    pub(super) fn write_all<P: Port>(
+        &mut self,
+        at: u64,
+        port: &mut P,
+        parts: &mut u64,
+    ) -> Result<(), NoMemory>
+        requires { FewParts parts.old }
+        ensures ok { OnOk result ((ws : List Wrote)
+            × ((cut : Option ℕ) → Allows cut parts.new → Writes ws (making at cut self.old parts.old) (making at cut self.new parts.new))
+            × TellsOffers (offers_from at ws self.old) (P.log port.old) (P.log port.new)
+            × (has_failed ws ≡ true → Rose (P.faults port.old) (P.faults port.new))) }
+        ensures err { OnErr result ((ws : List Wrote)
+            × Writes ws (making at (Some parts.new) self.old parts.old) (making at (Some parts.new) self.new parts.new)
+            × TellsOffers (offers_from at ws self.old) (P.log port.old) (P.log port.new)
+            × (has_failed ws ≡ true → Rose (P.faults port.old) (P.faults port.new))) }
+        ensures grows { parts.old ≤ parts.new }
+        ensures starved { self.new.starved ≡ self.old.starved }
+        ensures faults { P.faults port.old ≤ P.faults port.new }
+    {
+        // So few frames wait that the offers can be counted.
+        let _waiting = self.session.waiting();
+        'writes: while let Some(offered) = self.offer(at, port) {
+            *parts += 1;
+            if let Wrote::NoMemory = offered.answer {
+                return Err(NoMemory);
+            }
+            if !offered.all {
+                return Ok(());
+            }
+        }
+        Ok(())
+    }
+
+    // One offer, with the commits before it, where something is to be written.
+    fn offer<P: Port>(&mut self, at: u64, port: &mut P) -> Option<Offered>
+        ensures none { IfNone result (IsFalse (can_write self.old) × (self.new ≡ self.old) × (P.log port.new ≡ P.log port.old)) }
+        ensures due { IfSome result (λ r. IsTrue (can_write self.old)) }
+        ensures within { IfSome result (λ r. IsWithin (length (offered self.old)) r.answer) }
+        ensures plays { IfSome result (λ r. IfSome (P.log port.old) (PlansWrite (length (offered self.old)) r.answer)) }
+        ensures all { IfSome result (λ r. r.all ≡ is_all r.answer (length (offered self.old))) }
+        ensures engine { IfSome result (λ r. self.new ≡ answered at r.answer self.old) }
+        ensures told { IfSome result (λ r. P.log port.new
+            ≡ option_map (log_write (offered self.old) r.answer) (P.log port.old)) }
+        ensures cause { IfSome result (λ r. r.answer ≡ Wrote.Failed → Rose (P.faults port.old) (P.faults port.new)) }
+        ensures faults { P.faults port.old ≤ P.faults port.new }
+    {
+        if !self.session.is_open() {
+            return None;
+        }
+        self.commit_all();
+        let offered = self.unsent.as_slice().len();
+        if offered == 0 {
+            return None;
+        }
+        let answer = port.write(self.unsent.as_slice(), &[]);
+        self.wrote(at, answer);
+        Some(Offered {
+            answer,
+            all: answer.is_all(offered),
+        })
+    }
+
+    // A write was answered.
+    fn wrote(&mut self, at: u64, answer: Wrote)
+        requires open { IsTrue (is_open self.old.talk) }
+        requires within { taken_by answer ≤ length self.old.unsent }
+        ensures { self.new ≡ wrote at answer self.old }
+    {
+        match answer {
+            Wrote::Failed => self.session.lost(IoFault::BrokenPipe, at),
+            Wrote::Took(_) | Wrote::NoMemory => {
+                let taken = answer.taken();
+                self.session.taken(taken as u64, at);
+                self.unsent.consume(taken);
+            }
+        }
+        self.settle();
+    }
+
+    // Commits frames while there is one that fits.
+    fn commit_all(&mut self)
+        ensures { self.new ≡ commit_all self.old }
+    {
+        'commits: while self.commit_next() {}
+    }
+
+    // Commits the next frame where it fits, and says whether one did.
+    fn commit_next(&mut self) -> bool
+        ensures some { result ≡ is_some (fitting_next self.old) }
+        ensures commit { self.new ≡ commit_one self.old }
+    {
+        let space = CAPACITY - self.session.unsent();
+        match self.session.next_frame(space) {
+            Some(frame) => {
+                // There is room for it.
+                let _ = write_frame(&frame, &mut self.unsent);
+                drop(frame);
+                true
+            }
+            None => false,
+        }
+    }
+}
