@@ -14,9 +14,10 @@ use Rattle.amqp_engine.specs.Making.{making, parts_of, Allows, Writes, AppliesCo
 use Rattle.amqp_engine.specs.Counts.{Rose}
 use Rattle.amqp_engine.specs.Causes.{has_failed}
 use Rattle.amqp_engine.specs.Tell.{TellsOffers, offers_from, turn_of}
-use Rattle.amqp_engine.proofs.Cases.{if_case, if-true, if-false, is_before-Allows}
+use Rattle.amqp_session.proofs.Cases.{if_case, if-true, if-false}
+use Rattle.amqp_engine.proofs.Cases.{is_before-Allows}
 use Rattle.amqp_engine.proofs.Settling.{settle-starved}
-use Rattle.amqp_engine.proofs.Keeping.{starve-twice}
+use Rattle.amqp_session.proofs.Keeping.{starve-twice}
 use Rattle.amqp_engine.proofs.Reading.{reading-cut}
 use Rattle.amqp_engine.proofs.Offers.{writes-none, writes-cut}
 use Rattle.amqp_engine.proofs.Over.{step-ended, over-reads, over-writes}

@@ -1,37 +1,8 @@
 -- Small facts by cases.
-use Rattle.std.proofs.Common.{◌≡◌, ◌≤◌, ◌<◌, ℕ, ◌+◌, Bool, true, false, not, ◌&&◌, ◌||◌, if◌then◌else◌, IsTrue, IsFalse, nat_lt, Option, Some, None, is_some, Result, Ok, Err, is_err, OnOk, refl, arith, rules}
+use Rattle.std.proofs.Common.{◌≡◌, ◌≤◌, ◌<◌, ℕ, ◌+◌, Bool, true, false, not, ◌&&◌, ◌||◌, IsTrue, IsFalse, nat_lt, Option, Some, None, is_some, Result, Ok, Err, is_err, OnOk, refl, arith, rules}
 use Rattle.std.proofs.lemmas.Bool.Decides.{nat_tests}
 use Rattle.amqp_engine.specs.Turn.{is_before}
 use Rattle.amqp_engine.specs.Making.{Allows}
-
-pub if_case : {A : Type 0} (P : A → Type 0) (b : Bool) (x y : A) → P x → P y → P (if b then x else y)
-if_case P true x y px py = px
-if_case P false x y px py = py
-
--- the same, with what each case is known by
-pub if_by : {A : Type 0} (P : A → Type 0) (b : Bool) (x y : A) → (b ≡ true → P x) → (b ≡ false → P y) → P (if b then x else y)
-if_by P true x y px py = px refl
-if_by P false x y px py = py refl
-
-pub if-true : {A : Type 0} (b : Bool) (x y : A) → b ≡ true → (if b then x else y) ≡ x
-if-true true x y h = refl
-if-true false x y h = cc
-
-pub if-false : {A : Type 0} (b : Bool) (x y : A) → b ≡ false → (if b then x else y) ≡ y
-if-false true x y h = cc
-if-false false x y h = refl
-
-pub if-both : {A B : Type 0} (f : A → B) (b : Bool) (x y : A) (u v : B) → f x ≡ u → f y ≡ v → f (if b then x else y) ≡ (if b then u else v)
-if-both f true x y u v h k = h
-if-both f false x y u v h k = k
-
-pub and-true : (a b : Bool) → a ≡ true → b ≡ true → (a && b) ≡ true
-and-true true b g h = h
-and-true false b g h = cc
-
-pub and-false : (a b : Bool) → b ≡ false → (a && b) ≡ false
-and-false true b h = h
-and-false false b h = refl
 
 pub or-true : (a : Bool) → (a || true) ≡ true
 or-true true = refl

@@ -5,7 +5,6 @@ use Rattle.amqp_frame.specs.declared.frame.Frame.TheVariants.{ProtocolHeader, Me
 use Rattle.amqp_frame.specs.Frames.{encoding}
 use Rattle.amqp_session.specs.declared.lanes.Item.{Item}
 use Rattle.amqp_session.specs.declared.committed.Mark.{Mark}
-use Rattle.amqp_session.specs.declared.session.TheConstants.{CAPACITY}
 use Rattle.amqp_session.specs.Talk.{is_open}
 use Rattle.amqp_session.specs.Writing as writing
 use Rattle.amqp_session.specs.Writing.{head, fitting, mark_of}
@@ -82,7 +81,7 @@ waiting-with_frame : (o : Option Item) (e : Engine) → fitting_next e ≡ o →
 waiting-with_frame None e h = omega arith
 waiting-with_frame (Some f) e h =
     let control : length e.talk.control ≡ suc (length (drop 1 e.talk.control)) =
-    fitting-control (CAPACITY - length e.unsent) (is_open e.talk) e.talk.control f h in
+    fitting-control (e.talk.capacity - length e.unsent) (is_open e.talk) e.talk.control f h in
     omega arith
 
 pub waiting-commits : (n : ℕ) (e : Engine) → waiting (commits n e) ≤ waiting e

@@ -1,5 +1,5 @@
 -- No turn leaves a whole frame unread.
-use Rattle.std.proofs.Common.{◌≡◌, ℕ, ◌&&◌, not, if◌then◌else◌, Bool, true, false, IsTrue, List, [], drop, Option, Result, ◌⊎◌, inl, inr, refl, ap, sym, ◌∙◌, subst, rules}
+use Rattle.std.proofs.Common.{◌≡◌, ℕ, ◌&&◌, not, if◌then◌else◌, Bool, true, false, IsTrue, List, [], drop, Option, Result, ◌⊎◌, inl, inr, refl, ap, sym, ◌∙◌, subst, rules, min}
 use Rattle.amqp_frame.specs.declared.frame.Read.{Read}
 use Rattle.amqp_frame.specs.declared.frame.Read.TheVariants.{Whole, More, TooLarge, BadHeartbeat, Bad, NoMemory}
 use Rattle.amqp_frame.specs.FrameReading.{front}
@@ -9,7 +9,8 @@ use Rattle.amqp_session.specs.declared.io_fault.IoFault.TheVariants.{Aborted, Re
 use Rattle.amqp_session.specs.declared.command.Answer.{Answer}
 use Rattle.amqp_session.specs.declared.error.ErrorKind.{ErrorKind}
 use Rattle.amqp_session.specs.Talk.{Talk, is_open, is_open_link, is_asked, has_ended, drops_input}
-use Rattle.amqp_session.specs.Negotiation.{frame_limit}
+use Rattle.amqp_session.specs.declared.configuration.Configuration.{Configuration}
+use Rattle.amqp_session.specs.Negotiation.{frame_limit, wish_or}
 use Rattle.amqp_session.specs.Changes.{present_at, fail, starve}
 use Rattle.amqp_session.specs.Links.{asked, asked_link, linked, link_failed, lost}
 use Rattle.amqp_session.specs.Commands.{command}
@@ -20,13 +21,14 @@ use Rattle.amqp_engine.specs.declared.port.Step.{Step}
 use Rattle.amqp_engine.specs.declared.port.Step.TheVariants.{Linked, LinkFailed, Piece, End, Fault, Room, Tick, Command}
 use Rattle.amqp_engine.specs.declared.port.Wrote.{Wrote}
 use Rattle.amqp_engine.specs.declared.port.Wrote.TheVariants.{Took, Failed, NoMemory as WroteNoMemory}
-use Rattle.amqp_engine.specs.Engine.{Engine, front_of, is_more, can_read, rule_at, with_talk, step_engine, settle, took, wrote, frames_waiting, commit_all, commits, starve_at}
+use Rattle.amqp_engine.specs.Engine.{Engine, front_of, is_more, can_read, rule_at, with_talk, step_engine, settle, took, wrote, commit_all, commits, starve_at}
+use Rattle.amqp_session.specs.Writing.{frames_waiting}
 use Rattle.amqp_engine.specs.Turn.{Turn, asks, wants_ask, is_piece, answered, applied, turn, IsApplied, IsTurn}
 use Rattle.amqp_engine.specs.Log.{Log}
 use Rattle.amqp_engine.specs.Tell.{Applies, TakesTurn, turn_of}
 use Rattle.amqp_engine.specs.Unread.{IsRead}
-use Rattle.amqp_engine.proofs.Cases.{if_case, if_by}
-use Rattle.amqp_engine.proofs.Keeping.{present-keeps, stays-command, taken-keeps, taken-link, lost-stays, starve-ends}
+use Rattle.amqp_session.proofs.Cases.{if_case, if_by}
+use Rattle.amqp_session.proofs.Keeping.{present-keeps, stays-command, taken-keeps, taken-link, lost-stays, starve-ends}
 use Rattle.amqp_engine.proofs.Commits.{commits-keep}
 use Rattle.amqp_engine.proofs.Reading.{front-none}
 use Rattle.amqp_engine.proofs.Over.{ended-closed, applied-ended}
@@ -51,19 +53,18 @@ cannot-read e h opened = open-more (is_open e.talk) (front_of e) h opened
 
 -- ---- what leaves it as it was
 
-pub same-read : (e e' : Engine) → is_open e'.talk ≡ is_open e.talk → e'.unread ≡ e.unread → e'.talk.configuration ≡ e.talk.configuration
+pub same-read : (e e' : Engine) → is_open e'.talk ≡ is_open e.talk → e'.unread ≡ e.unread → frame_limit e'.talk ≡ frame_limit e.talk
     → IsRead e → IsRead e'
-same-read e e' opened unread configuration h now =
+same-read e e' opened unread limit h now =
     let P : Bool → Type 0 = λ b. IsTrue b in
-    ap (λ bytes. front bytes (frame_limit e'.talk.configuration)) unread ∙ ap (λ c. front e.unread (frame_limit c)) configuration
-    ∙ h (subst P opened now)
+    ap (λ bytes. front bytes (frame_limit e'.talk)) unread ∙ ap (front e.unread) limit ∙ h (subst P opened now)
 
 closed-read : (e : Engine) → is_open e.talk ≡ false → IsRead e
 closed-read e h opened =
     let P : Bool → Type 0 = λ b. IsTrue b in
     absurd (let no : IsTrue false = subst P h opened in search rules)
 
-asked-open : (l : Link) → is_open_link (asked_link l) ≡ is_open_link l
+asked-open : (l : Link ErrorKind) → is_open_link (asked_link l) ≡ is_open_link l
 asked-open Wanted = refl
 asked-open Asked = refl
 asked-open Open = refl
@@ -76,13 +77,18 @@ asks-read e h =
 -- a moment leaves it as it was
 moment-read : (at : ℕ) (e : Engine) → IsRead e → IsRead (rule_at at (λ t. t) e)
 moment-read at e h =
-    same-read e (rule_at at (λ t. t) e) (present-keeps is_open at e.talk (λ n. refl)) refl (present-keeps (λ t. t.configuration) at e.talk (λ n. refl)) h
+    same-read e (rule_at at (λ t. t) e) (present-keeps is_open at e.talk (λ n. refl)) refl (present-keeps frame_limit at e.talk (λ n. refl)) h
 
 -- a command too
 pub command-read : (c : Cmd) (e : Engine) → IsRead e → IsRead (with_talk (command c) e)
 command-read c e h =
-    let stays = stays-command c e.talk in
-    same-read e (with_talk (command c) e) (ap is_open_link stays.link) refl stays.configuration h
+    let t = e.talk in
+    let t' : Talk = command c t in
+    let stays = stays-command c t in
+    let limit : frame_limit t' ≡ frame_limit t =
+    ap (λ (x : Configuration). min t'.capacity (wish_or t'.capacity x.frame_max)) stays.configuration
+    ∙ ap (λ (n : ℕ). min n (wish_or n t.configuration.frame_max)) stays.capacity in
+    same-read e (with_talk (command c) e) (ap is_open_link stays.link) refl limit h
 
 -- an answer that is taken too
 pub answer-read : (number : ℕ) (e : Engine) → IsRead e → IsRead (with_talk (take_answer number) e)
@@ -90,7 +96,7 @@ answer-read number e h =
     let t = e.talk in
     same-read e (with_talk (take_answer number) e)
     (if_case (λ (x : Talk). is_open x ≡ is_open t) _ (record t { promises = _ }) t refl refl) refl
-    (if_case (λ (x : Talk). x.configuration ≡ t.configuration) _ (record t { promises = _ }) t refl refl) h
+    (if_case (λ (x : Talk). frame_limit x ≡ frame_limit t) _ (record t { promises = _ }) t refl refl) h
 
 -- the same of an answer whose copy may be refused
 pub taken-read : (number : ℕ) (given : Option (Result Answer ErrorKind)) (e e' : Engine) → Takes number given e.talk e'.talk
@@ -111,7 +117,7 @@ frames-read opened e h = same-read e (with_talk (take_frames opened) e) refl ref
 settle-read : (x : Engine) → IsRead x → IsRead (settle x)
 settle-read x h =
     if_by IsRead (is_open x.talk) (if drops_input x.talk then record x { unread = []; place = 0 } else x) (record x { unread = []; place = 0; unsent = [] })
-    (λ opened. if_case IsRead (drops_input x.talk) (record x { unread = []; place = 0 }) x (λ now. front-none (frame_limit x.talk.configuration)) h)
+    (λ opened. if_case IsRead (drops_input x.talk) (record x { unread = []; place = 0 }) x (λ now. front-none (frame_limit x.talk)) h)
     (λ closed. closed-read (record x { unread = []; place = 0; unsent = [] }) closed)
 
 -- a rule that does nothing or ends the session
@@ -131,7 +137,7 @@ linked-read : (at : ℕ) (e : Engine) → IsRead e → IsRead (step_engine at Li
 linked-read at e h =
     if_case IsRead (is_asked e.talk)
     (record { talk = linked (present_at at e.talk); unread = []; place = 0; unsent = []; starved = e.starved }) (rule_at at (λ t. t) e)
-    (λ opened. front-none (frame_limit (linked (present_at at e.talk)).configuration)) (moment-read at e h)
+    (λ opened. front-none (frame_limit (linked (present_at at e.talk)))) (moment-read at e h)
 
 step-read : (at : ℕ) (step : Step) (bytes : List ℕ) (e : Engine) → is_piece step ≡ false → IsRead e → IsRead (step_engine at step bytes e)
 step-read at Linked bytes e piece h = linked-read at e h
@@ -148,10 +154,10 @@ took-read at k e h =
     let t = present_at at e.talk in
     let x : Engine = record e { talk = taken k t; unsent = drop k e.unsent } in
     let here : Engine = rule_at at (λ y. y) e in
-    let configuration : x.talk.configuration ≡ t.configuration =
-    taken-keeps (λ y. y.configuration) (record { ends = λ y s l cs o ps. refl; writes = λ y w ms. refl; moments = λ y n. refl }) k t in
+    let limit : frame_limit x.talk ≡ frame_limit t =
+    taken-keeps frame_limit (record { ends = λ y s l cs ps. refl; writes = λ y w ms. refl; moments = λ y n. refl }) k t in
     settle-read x (elim (taken-link k t) [
-      | inl same ↦ same-read here x (ap is_open_link same) refl configuration (moment-read at e h)
+      | inl same ↦ same-read here x (ap is_open_link same) refl limit (moment-read at e h)
       | inr ended ↦ closed-read x (ended-closed x.talk.link ended)
     ])
 
@@ -165,7 +171,7 @@ commits-read n e h =
     same-read e (commits n e)
     (commits-keep (λ (y : Engine). is_open y.talk) (λ y fs ms bytes. refl) n e)
     (commits-keep (λ (y : Engine). y.unread) (λ y fs ms bytes. refl) n e)
-    (commits-keep (λ (y : Engine). y.talk.configuration) (λ y fs ms bytes. refl) n e) h
+    (commits-keep (λ (y : Engine). frame_limit y.talk) (λ y fs ms bytes. refl) n e) h
 
 answered-read : (at : ℕ) (w : Wrote) (e : Engine) → IsRead e → IsRead (answered at w e)
 answered-read at w e h = wrote-read at w (commit_all e) (commits-read (frames_waiting e.talk) e h)

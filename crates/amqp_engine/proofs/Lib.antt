@@ -1,25 +1,34 @@
+-- What each file proves. The proofs of one call stand in a folder of its name and cite these.
+
+-- Small facts by cases, and on two slices and the pieces of a script.
 pub mod Cases
+pub mod Bytes
+pub mod Pieces
+-- What settling leaves, what committing a frame does, and that reading goes on to the end.
 pub mod Settling
-pub mod Keeping
 pub mod Commits
 pub mod Reading
+-- What a turn does to a session that had ended: `apply: over`.
 pub mod Over
+-- The lemma that lifts what each small step keeps to a turn and to turns.
 pub mod Lifting
+-- One offer, a turn from its step on, and turns one after another: `apply: turn`, `run: turns`, and the laws of runs.
 pub mod Telling
 pub mod Offers
 pub mod Applying
 pub mod Running
+-- The turns of a script: `run: played`, and the law that a script has its turns.
 pub mod Playing
+-- No whole frame is left unread: `read`, and its law, by lifting.
 pub mod LeftUnread
+-- The bytes of each link, by lifting: the frames as their bytes are taken, what is left of the link at each step, the order in which they are sent, and
+-- what a port tells of it.
 pub mod Sent
 pub mod Agreeing
 pub mod LinkKept
 pub mod Sends
 pub mod LinkTold
-pub mod Bytes
-pub mod Pieces
-pub mod Ends
-pub mod FrameEnds
+-- What brings about an end with an error: `run: cause`, `apply: cause`, and the count of faults.
 pub mod ReadEnds
 pub mod TurnEnds
 pub mod Faults

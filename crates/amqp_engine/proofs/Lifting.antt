@@ -7,7 +7,8 @@ use Rattle.amqp_engine.specs.declared.port.Wrote.{Wrote}
 use Rattle.amqp_engine.specs.Log.{IsWithin}
 use Rattle.amqp_engine.specs.Engine.{Engine, step_engine, can_read, read_one, can_write, starve_at}
 use Rattle.amqp_engine.specs.Turn.{Turn, Progress, asks, begun, goes, is_before, part, is_part, is_piece, step_part, reads, read_part, reading, drain, offer_part, offered, answered, is_all, AreAnswers, read, written, applied, turn, turns, starved_after, IsCut, IsApplied, IsTurn, AreTurns}
-use Rattle.amqp_engine.proofs.Cases.{if_case, if_by, if-false, and-left, and-right, and-other}
+use Rattle.amqp_session.proofs.Cases.{if_case, if_by, if-false}
+use Rattle.amqp_engine.proofs.Cases.{and-left, and-right, and-other}
 use Rattle.amqp_engine.proofs.Over.{asks-running}
 use Rattle.amqp_engine.proofs.Reading.{reads-done, reading-cut}
 

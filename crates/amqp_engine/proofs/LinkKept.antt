@@ -2,6 +2,7 @@
 use Rattle.std.proofs.Common.{◌≡◌, inl, inr, ℕ, ◌+◌, ◌==◌, if◌then◌else◌, true, false, List, [], ◌++◌, length, drop, is_some, refl, ap, sym, ◌∙◌, subst}
 use Rattle.amqp_frame.specs.declared.frame.Read.{Read}
 use Rattle.amqp_frame.specs.declared.frame.Read.TheVariants.{Whole, More, TooLarge, BadHeartbeat, Bad, NoMemory as ReadNoMemory}
+use Rattle.amqp_session.specs.declared.error.ErrorKind.{ErrorKind}
 use Rattle.amqp_session.specs.declared.state.Link.{Link}
 use Rattle.amqp_session.specs.declared.state.Link.TheVariants.{Wanted, Asked, Open, Ended}
 use Rattle.amqp_session.specs.declared.io_fault.IoFault.{IoFault}
@@ -21,28 +22,29 @@ use Rattle.amqp_engine.specs.declared.port.Step.TheVariants.{Linked, LinkFailed,
 use Rattle.amqp_engine.specs.declared.port.Wrote.{Wrote}
 use Rattle.amqp_engine.specs.declared.port.Wrote.TheVariants.{Took, Failed, NoMemory}
 use Rattle.amqp_engine.specs.Plan.{at_most_64}
-use Rattle.amqp_engine.specs.Engine.{Engine, rule_at, settle, step_engine, read_one, read_row, read_badly, front_of, took, wrote, taken_by, frames_waiting, commit_all}
+use Rattle.amqp_engine.specs.Engine.{Engine, rule_at, settle, step_engine, read_one, read_row, read_badly, front_of, took, wrote, taken_by, commit_all}
+use Rattle.amqp_session.specs.Writing.{frames_waiting}
 use Rattle.amqp_engine.specs.Turn.{answered}
-use Rattle.amqp_engine.proofs.Cases.{if_case, if-false}
+use Rattle.amqp_session.proofs.Cases.{if_case, if-false}
 use Rattle.amqp_engine.proofs.Settling.{settle-talk, settle-unsent}
-use Rattle.amqp_engine.proofs.Keeping.{LinkKept, link-then, present-keeps, keeps-frame, keeps-misread, stays-command, lost-keeps, lost-link, left_after, committed-taken, taken-link}
+use Rattle.amqp_session.proofs.Keeping.{LinkKept, link-then, present-keeps, keeps-frame, keeps-misread, stays-command, lost-keeps, lost-link, left_after, committed-taken, taken-link}
 use Rattle.amqp_engine.proofs.Commits.{commits-keep}
 
 -- ---- links
 
-open-not-ended : (l : Link) → is_open_link l ≡ true → is_some (end_of_link l) ≡ true → ⊥
+open-not-ended : (l : Link ErrorKind) → is_open_link l ≡ true → is_some (end_of_link l) ≡ true → ⊥
 open-not-ended Open h k = cc
 open-not-ended Wanted h k = cc
 open-not-ended Asked h k = cc
 open-not-ended (Ended r) h k = cc
 
-pub asked-not-open : (l : Link) → is_asked_link l ≡ true → is_open_link l ≡ true → ⊥
+pub asked-not-open : (l : Link ErrorKind) → is_asked_link l ≡ true → is_open_link l ≡ true → ⊥
 asked-not-open Open h k = cc
 asked-not-open Wanted h k = cc
 asked-not-open Asked h k = cc
 asked-not-open (Ended r) h k = cc
 
-pub asked-open : (l : Link) → is_open_link (asked_link l) ≡ is_open_link l
+pub asked-open : (l : Link ErrorKind) → is_open_link (asked_link l) ≡ is_open_link l
 asked-open Wanted = refl
 asked-open Asked = refl
 asked-open Open = refl
@@ -100,7 +102,7 @@ leaves-lost : (at : ℕ) (fault : IoFault) (e : Engine) → Leaves e (settle (ru
 leaves-lost at fault e =
     let t = present_at at e.talk in
     leaves-settle e (rule_at at (lost fault) e)
-    (leaves-rule at (lost fault) e (lost-link fault t) (lost-keeps (λ y. y.committed) (λ t s l cs x ps. refl) fault t))
+    (leaves-rule at (lost fault) e (lost-link fault t) (lost-keeps (λ y. y.committed) (λ t s l cs ps. refl) fault t))
 
 leaves-piece : (at : ℕ) (bytes : List ℕ) (e : Engine) → Leaves e (step_engine at (Piece (length bytes)) bytes e)
 leaves-piece at bytes e =
@@ -168,7 +170,7 @@ written-took at k x opened now =
     let y : Engine = record x { talk = taken k (present_at at x.talk); unsent = drop k x.unsent } in
     let here : is_open y.talk ≡ true = sym (ap is_open (settle-talk y)) ∙ now in
     record {
-      committed = ap (λ (t : Talk). t.committed) (settle-talk y) ∙ committed-taken (k == 0) at k x.talk opened refl;
+      committed = ap (λ (t : Talk). t.committed) (settle-talk y) ∙ committed-taken (k == 0) at k x.talk opened here refl;
       unsent = settle-unsent y here;
     }
 

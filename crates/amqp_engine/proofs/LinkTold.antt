@@ -1,13 +1,14 @@
 -- What a port tells of its links is what was sent on them.
 use Rattle.std.proofs.Common.{◌≡◌, inl, inr, ℕ, ◌&&◌, not, if◌then◌else◌, Bool, true, false, List, [], ◌∷◌, ◌++◌, length, take, map, is_some, refl, ap, sym, ◌∙◌, subst}
 use Rattle.std.proofs.lemmas.List.{append-nil, map-append}
+use Rattle.amqp_session.specs.declared.error.ErrorKind.{ErrorKind}
 use Rattle.amqp_session.specs.declared.state.Link.{Link}
 use Rattle.amqp_session.specs.declared.state.Link.TheVariants.{Wanted, Asked, Open, Ended}
 use Rattle.amqp_session.specs.declared.error.ErrorKind.TheVariants.{IOError}
 use Rattle.amqp_session.specs.declared.io_fault.IoFault.{IoFault}
 use Rattle.amqp_session.specs.declared.io_fault.IoFault.TheVariants.{Aborted, Refused, Reset}
-use Rattle.amqp_session.specs.Talk.{Talk, start, is_open, is_open_link, is_asked, is_asked_link, is_wanted_link, has_ended, end_of_link}
-use Rattle.amqp_session.specs.Changes.{present_at, fail}
+use Rattle.amqp_session.specs.Talk.{Talk, start, acts, is_acting, is_open, is_open_link, is_asked, is_asked_link, is_wanted_link, has_ended, end_of_link}
+use Rattle.amqp_session.specs.Changes.{present_at, fail, lose, finish}
 use Rattle.amqp_session.specs.Links.{asked, asked_link, linked, link_failed, piece, lost}
 use Rattle.amqp_engine.specs.declared.port.Step.{Step}
 use Rattle.amqp_engine.specs.declared.port.Step.TheVariants.{Linked, LinkFailed, Piece, End, Fault, Room, Tick, Command}
@@ -18,9 +19,10 @@ use Rattle.amqp_engine.specs.Engine.{Engine, begin, with_talk, rule_at, step_eng
 use Rattle.amqp_engine.specs.Turn.{Turn, asks, wants_ask, offered, answered, read, turn, AreTurns}
 use Rattle.amqp_engine.specs.Tell.{offers_from, log_asks, log_offers, log_turns}
 use Rattle.amqp_engine.specs.Sending.{Sending, nothing_sent, link_bytes, offer_sending, offers_sending, step_sending, sendings_from, sendings}
-use Rattle.amqp_engine.proofs.Cases.{if_case, if-true, if-false, and-left}
+use Rattle.amqp_session.proofs.Cases.{if_case, if-true, if-false}
+use Rattle.amqp_engine.proofs.Cases.{and-left}
 use Rattle.amqp_engine.proofs.Settling.{settle-talk}
-use Rattle.amqp_engine.proofs.Keeping.{LinkKept, present-keeps, stays-command, lost-link, starve-ends}
+use Rattle.amqp_session.proofs.Keeping.{LinkKept, present-keeps, stays-command, lost-link, starve-ends}
 use Rattle.amqp_engine.proofs.Over.{asks-end}
 use Rattle.amqp_engine.proofs.Sent.{on_last-append}
 use Rattle.amqp_engine.proofs.Agreeing.{offer-bytes}
@@ -33,7 +35,7 @@ use Rattle.amqp_engine.proofs.Lifting as lifting
 abbrev pub IsSynced : Engine → Log → Type 0
 IsSynced e a = has_ended e.talk ≡ false → a.asked ≡ is_asked e.talk
 
-wanted-asked : (l : Link) → (is_wanted_link l && not (is_asked_link l)) ≡ true → is_asked_link (asked_link l) ≡ true
+wanted-asked : (l : Link ErrorKind) → (is_wanted_link l && not (is_asked_link l)) ≡ true → is_asked_link (asked_link l) ≡ true
 wanted-asked Wanted h = refl
 wanted-asked Asked h = cc
 wanted-asked Open h = cc
@@ -61,13 +63,13 @@ failed-asked : (b : Bool) (t : Talk) → is_asked t ≡ b → is_asked (link_fai
 failed-asked true t h = ap is_asked (if-true (is_asked t) (fail (IOError Refused) t) t h)
 failed-asked false t h = ap is_asked (if-false (is_asked t) (fail (IOError Refused) t) t h) ∙ h
 
-open-unasked : (l : Link) → is_open_link l ≡ true → is_asked_link l ≡ false
+open-unasked : (l : Link ErrorKind) → is_open_link l ≡ true → is_asked_link l ≡ false
 open-unasked Open h = refl
 open-unasked Wanted h = cc
 open-unasked Asked h = cc
 open-unasked (Ended r) h = cc
 
-ended-unasked : (l : Link) → is_some (end_of_link l) ≡ true → is_asked_link l ≡ false
+ended-unasked : (l : Link ErrorKind) → is_some (end_of_link l) ≡ true → is_asked_link l ≡ false
 ended-unasked Wanted h = cc
 ended-unasked Asked h = cc
 ended-unasked Open h = cc
@@ -79,7 +81,13 @@ lost-asked true fault t h =
       | inl same ↦ ap is_asked_link same
       | inr ended ↦ ended-unasked (lost fault t).link ended ∙ sym (open-unasked t.link h)
     ]
-lost-asked false fault t h = ap is_asked (if-false (is_open t) _ t h)
+lost-asked false fault t h =
+    ap is_asked (if-false (acts t) (lose (IOError fault) t) (if is_open t then finish t else t) (idle (is_open t) (is_acting t.input) h)
+    ∙ if-false (is_open t) (finish t) t h)
+  where
+    idle : (a b : Bool) → a ≡ false → (a && b) ≡ false
+    idle true b h = cc
+    idle false b h = refl
 
 faulted-asked : (at : ℕ) (fault : IoFault) (e : Engine) → is_asked (settle (rule_at at (lost fault) e)).talk ≡ is_asked e.talk
 faulted-asked at fault e =
@@ -113,7 +121,7 @@ both false h k = cc
 -- what leaves the link as it was
 synced-kept : (e e' : Engine) (a : Log) → LinkKept e.talk e'.talk → IsSynced e a → IsSynced e' a
 synced-kept e e' a (inl same) s running =
-    s (ap (λ (l : Link). is_some (end_of_link l)) (sym same) ∙ running) ∙ sym (ap is_asked_link same)
+    s (ap (λ (l : Link ErrorKind). is_some (end_of_link l)) (sym same) ∙ running) ∙ sym (ap is_asked_link same)
 synced-kept e e' a (inr ended) s running = absurd (both (has_ended e'.talk) ended running)
 
 -- ---- links

@@ -9,13 +9,14 @@ use Rattle.amqp_session.specs.Writing.{taken}
 use Rattle.amqp_engine.specs.declared.port.Wrote.{Wrote}
 use Rattle.amqp_engine.specs.declared.port.Wrote.TheVariants.{Took, Failed, NoMemory}
 use Rattle.amqp_engine.specs.Log.{Log, log_write, IsWithin, PlansWrite}
-use Rattle.amqp_engine.specs.Engine.{Engine, frames_waiting, rule_at, can_write, commit_all, wrote, took}
+use Rattle.amqp_engine.specs.Engine.{Engine, rule_at, can_write, commit_all, wrote, took}
+use Rattle.amqp_session.specs.Writing.{frames_waiting}
 use Rattle.amqp_engine.specs.Turn.{Progress, goes, offer_part, offered, answered, is_all, AreAnswers, CutsAfter}
 use Rattle.amqp_engine.specs.Making.{making, Allows, Writes}
 use Rattle.amqp_engine.specs.Tell.{offers_from, log_offers, PlaysOffers, TellsOffers}
 use Rattle.amqp_engine.specs.Play.{waiting}
 use Rattle.amqp_engine.proofs.Cases.{is_before-Allows}
-use Rattle.amqp_engine.proofs.Keeping.{present-keeps, taken-keeps, lost-keeps}
+use Rattle.amqp_session.proofs.Keeping.{present-keeps, taken-keeps, lost-keeps}
 use Rattle.amqp_engine.proofs.Settling.{settle-talk, settle-less, settle-starved}
 use Rattle.amqp_engine.proofs.Telling.{tells-then}
 use Rattle.amqp_engine.proofs.Commits.{commits-keep, waiting-commits}
@@ -23,7 +24,7 @@ use Rattle.amqp_engine.proofs.Commits.{commits-keep, waiting-commits}
 control-took : (at k : ℕ) (e : Engine) → (took at k e).talk.control ≡ e.talk.control
 control-took at k e =
     ap (λ (t : Talk). t.control) (settle-talk (record e { talk = taken k (present_at at e.talk); unsent = drop k e.unsent }))
-    ∙ taken-keeps (λ t. t.control) (record { ends = λ t s l cs x ps. refl; writes = λ t w ms. refl; moments = λ t n. refl }) k (present_at at e.talk)
+    ∙ taken-keeps (λ t. t.control) (record { ends = λ t s l cs ps. refl; writes = λ t w ms. refl; moments = λ t n. refl }) k (present_at at e.talk)
     ∙ present-keeps (λ t. t.control) at e.talk (λ n. refl)
 
 -- what is taken was queued no longer
@@ -31,7 +32,7 @@ control-wrote : (at : ℕ) (w : Wrote) (e : Engine) → (wrote at w e).talk.cont
 control-wrote at (Took k) e = control-took at k e
 control-wrote at NoMemory e = control-took at 0 e
 control-wrote at Failed e =
-    ap (λ (t : Talk). t.control) (settle-talk (rule_at at (lost BrokenPipe) e)) ∙ lost-keeps (λ t. t.control) (λ t s l cs x ps. refl) BrokenPipe (present_at at e.talk)
+    ap (λ (t : Talk). t.control) (settle-talk (rule_at at (lost BrokenPipe) e)) ∙ lost-keeps (λ t. t.control) (λ t s l cs ps. refl) BrokenPipe (present_at at e.talk)
     ∙ present-keeps (λ t. t.control) at e.talk (λ n. refl)
 
 -- where all was taken, fewer writes may come

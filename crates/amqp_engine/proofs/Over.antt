@@ -1,5 +1,6 @@
 -- What a turn does to a session that had ended, and to one that goes on.
 use Rattle.std.proofs.Common.{◌≡◌, ◌⊎◌, inl, inr, ℕ, ◌&&◌, if◌then◌else◌, Bool, true, false, List, [], ◌∷◌, ◌++◌, length, is_some, refl, ap, ◌∙◌, subst}
+use Rattle.amqp_session.specs.declared.error.ErrorKind.{ErrorKind}
 use Rattle.amqp_session.specs.declared.state.Link.{Link}
 use Rattle.amqp_session.specs.declared.state.Link.TheVariants.{Wanted, Asked, Open, Ended}
 use Rattle.amqp_session.specs.declared.io_fault.IoFault.{IoFault}
@@ -13,14 +14,15 @@ use Rattle.amqp_engine.specs.declared.port.Step.TheVariants.{Linked, LinkFailed,
 use Rattle.amqp_engine.specs.declared.port.Wrote.{Wrote}
 use Rattle.amqp_engine.specs.Engine.{Engine, rule_at, with_talk, settle, step_engine, can_write}
 use Rattle.amqp_engine.specs.Turn.{Turn, Progress, asks, wants_ask, begun, goes, part, is_part, is_piece, step_part, reading, drain, AreAnswers, read, written, applied, turn, starved_after}
-use Rattle.amqp_engine.proofs.Cases.{if_case, if-true, if-false, and-right}
+use Rattle.amqp_session.proofs.Cases.{if_case, if-true, if-false}
+use Rattle.amqp_engine.proofs.Cases.{and-right}
 use Rattle.amqp_engine.proofs.Settling.{settle-talk}
-use Rattle.amqp_engine.proofs.Keeping.{present-keeps, lost-stays, stays-command}
+use Rattle.amqp_session.proofs.Keeping.{present-keeps, lost-stays, stays-command}
 use Rattle.amqp_engine.proofs.Reading.{reads-rest}
 
 -- ---- a link is asked for
 
-asked-end : (l : Link) → end_of_link (asked_link l) ≡ end_of_link l
+asked-end : (l : Link ErrorKind) → end_of_link (asked_link l) ≡ end_of_link l
 asked-end Wanted = refl
 asked-end Asked = refl
 asked-end Open = refl
@@ -40,13 +42,13 @@ turn-is u e running =
 
 -- ---- what has ended
 
-pub ended-closed : (l : Link) → is_some (end_of_link l) ≡ true → is_open_link l ≡ false
+pub ended-closed : (l : Link ErrorKind) → is_some (end_of_link l) ≡ true → is_open_link l ≡ false
 ended-closed Wanted h = cc
 ended-closed Asked h = cc
 ended-closed Open h = cc
 ended-closed (Ended r) h = refl
 
-ended-unasked : (l : Link) → is_some (end_of_link l) ≡ true → is_asked_link l ≡ false
+ended-unasked : (l : Link ErrorKind) → is_some (end_of_link l) ≡ true → is_asked_link l ≡ false
 ended-unasked Wanted h = cc
 ended-unasked Asked h = cc
 ended-unasked Open h = cc
@@ -93,7 +95,7 @@ step-ended at Fault bytes e h = ap has_ended (settle-talk (rule_at at (lost Rese
 step-ended at Room bytes e h = moment-ended at e.talk h
 step-ended at Tick bytes e h = moment-ended at e.talk h
 step-ended at (Command c) bytes e h =
-    ap (λ (l : Link). is_some (end_of_link l)) (stays-command c (present_at at e.talk)).link ∙ moment-ended at e.talk h
+    ap (λ (l : Link ErrorKind). is_some (end_of_link l)) (stays-command c (present_at at e.talk)).link ∙ moment-ended at e.talk h
 
 -- nothing is read or written
 pub over-reads : (piece : Bool) (p : Progress) → has_ended p.engine.talk ≡ true → reading piece p ≡ p

@@ -7,14 +7,16 @@ use Rattle.amqp_engine.specs.declared.port.Wrote.{Wrote}
 use Rattle.amqp_engine.specs.declared.port.Wrote.TheVariants.{Took, Failed, NoMemory}
 use Rattle.amqp_engine.specs.Plan.{Plan, Coming, plan_write, plan_failure, plan_step, PlanAnswers, room_for, next_coming}
 use Rattle.amqp_engine.specs.Log.{Log, IsWithin, log_ask, log_step, log_write}
-use Rattle.amqp_engine.specs.Engine.{Engine, frames_waiting, can_write, commit_all}
+use Rattle.amqp_engine.specs.Engine.{Engine, can_write, commit_all}
+use Rattle.amqp_session.specs.Writing.{frames_waiting}
 use Rattle.amqp_engine.specs.Turn.{is_before, Progress, Turn, asks, wants_ask, goes, offer_part, offered, answered, is_all, AreAnswers, CutsAfter, read, written, turn, turns, starved_after, IsTurn, AreTurns}
 use Rattle.amqp_engine.specs.Tell.{Offer, offers_from, offers_of, turn_of, log_asks, log_stepped, log_offers, log_turn, log_turns, PlaysOffers, PlaysTurn, PlaysTurns, Runs}
 use Rattle.amqp_engine.specs.Play.{waiting, room_of, fails_of, played_answer, played_answers, played_step, played_notes, played_turn_of, played_turn, played_turns, no_notes, IsPlayed}
 use Rattle.amqp_engine.proofs.Over.{turn-is}
 use Rattle.amqp_engine.proofs.Lifting.{read-at, read-cut}
-use Rattle.amqp_engine.proofs.Cases.{if_case, if_by, if-true, if-false, and-true, and-false, and-right, and-other, some-unsent}
-use Rattle.amqp_engine.proofs.Keeping.{starve-ends}
+use Rattle.amqp_session.proofs.Cases.{if_case, if_by, if-true, if-false, and-true, and-false}
+use Rattle.amqp_engine.proofs.Cases.{and-right, and-other, some-unsent}
+use Rattle.amqp_session.proofs.Keeping.{starve-ends}
 use Rattle.amqp_engine.proofs.Commits.{waiting-commits}
 use Rattle.amqp_engine.proofs.Offers.{waiting-wrote}
 

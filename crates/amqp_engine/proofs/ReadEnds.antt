@@ -1,32 +1,44 @@
 -- How reading may end a session.
-use Rattle.std.proofs.Common.{◌≡◌, inl, inr, ℕ, zero, suc, ◌+◌, ◌==◌, ◌&&◌, not, nat_lt, Bool, true, false, if◌then◌else◌, IsTrue, List, [], ◌∷◌, drop, Option, Some, None, refl, sym, ◌∙◌, subst}
+use Rattle.std.proofs.Common.{◌≡◌, ◌⊎◌, inl, inr, ℕ, zero, suc, ◌+◌, ◌==◌, ◌&&◌, not, nat_lt, Bool, true, false, if◌then◌else◌, IsTrue, IsFalse, List, [], ◌∷◌, drop, Option, Some, None, Ok, Err, refl, ap, sym, ◌∙◌, subst}
 use Rattle.std.specs.Option.{option_map_or}
 use Rattle.std.specs.Int.{w16, w32}
 use Rattle.amqp_types.specs.Reading.{octet_at, octets_at, number_at, ◌⊗◌}
 use Rattle.amqp_frame.specs.FrameReading.{front, header, version, expect, framed, sized, ended, content, is_type_octet}
 use Rattle.amqp_frame.specs.declared.frame.Frame.{Frame}
 use Rattle.amqp_frame.specs.declared.frame.Frame.TheVariants.{ProtocolHeader, Method, Heartbeat}
+use Rattle.amqp_frame.specs.declared.frame.RawKind.TheVariants.{RawMethod}
 use Rattle.amqp_frame.specs.declared.frame.Read.{Read}
 use Rattle.amqp_frame.specs.declared.frame.Read.TheVariants as reading
 use Rattle.amqp_frame.specs.declared.method.Method.{Method as AnyMethod}
-use Rattle.amqp_frame.specs.declared.method.Method.TheVariants.{ChannelOpenOk, ChannelCloseOk}
+use Rattle.amqp_frame.specs.declared.method.Method.TheVariants.{Start, Tune, OpenOk, Close, CloseOk, ChannelOpenOk, ChannelCloseOk}
+use Rattle.amqp_session.specs.declared.awaiting.Awaited.{Awaited}
+use Rattle.amqp_session.specs.declared.awaiting.Reply.TheVariants.{ConnectionClosed}
+use Rattle.amqp_session.specs.declared.state.ConnectionState.{ConnectionState}
+use Rattle.amqp_session.specs.declared.state.ConnectionState.TheVariants.{Connecting, Closing}
+use Rattle.amqp_session.specs.declared.state.Phase.{Phase}
+use Rattle.amqp_session.specs.declared.state.Phase.TheVariants.{AwaitStart, AwaitTune, AwaitOpenOk}
 use Rattle.amqp_session.specs.declared.misread.Misread.{Misread}
 use Rattle.amqp_session.specs.declared.misread.Misread.TheVariants as why
 use Rattle.amqp_session.specs.declared.error.ErrorKind.{ErrorKind}
-use Rattle.amqp_session.specs.declared.error.ErrorKind.TheVariants.{InvalidProtocolVersion, InvalidChannel, InvalidConnectionState, ParsingError, ProtocolError, Unbuilt}
-use Rattle.amqp_session.specs.Talk.{Talk, has_ended}
+use Rattle.amqp_session.specs.declared.error.ErrorKind.TheVariants.{InvalidProtocolVersion, InvalidChannel, InvalidConnectionState, ProtocolError, Unbuilt}
+use Rattle.amqp_session.specs.Talk.{Talk, is_acting, acts, is_open, has_ended, end_of}
 use Rattle.amqp_session.specs.Negotiation.{frame_limit}
-use Rattle.amqp_session.specs.Changes.{present_at}
+use Rattle.amqp_session.specs.Changes.{present_at, fail, misplaced}
 use Rattle.amqp_session.specs.Links.{misread}
-use Rattle.amqp_session.specs.Violations.{misread_error}
-use Rattle.amqp_session.specs.Frames.{on_frame}
+use Rattle.amqp_session.specs.Replies.{first_awaited}
+use Rattle.amqp_session.specs.Violations.{misread_error, stray_channel_frame}
+use Rattle.amqp_session.specs.ConnectionMethods.{connection_rule, connection_closed}
+use Rattle.amqp_session.specs.Frames.{is_unbuilt, is_of_a_channel, method_rule, frame_rule, on_frame}
 use Rattle.amqp_engine.specs.Plan.{at_most_64}
-use Rattle.amqp_engine.specs.Engine.{Engine, front_of, can_read, read_row, read_badly, read_one, rule_at}
+use Rattle.amqp_engine.specs.Engine.{Engine, settle, front_of, can_read, read_row, read_badly, read_one, rule_at}
 use Rattle.amqp_engine.specs.Turn.{Progress, goes, reads, read_part}
-use Rattle.amqp_engine.specs.Causes.{IsUnawaited, IsViolation, IsReadError, is_awaited}
-use Rattle.amqp_engine.proofs.Cases.{if_case, if_by, if-true, and-left, and-right}
-use Rattle.amqp_engine.proofs.Ends.{Ends, ends-kept, ends-as, ends-then, ends-present, ends-settled}
-use Rattle.amqp_engine.proofs.FrameEnds.{FrameError, ends-frame, ends-misread}
+use Rattle.amqp_session.specs.Causes.{IsFrameError, IsUnawaited, is_awaited}
+use Rattle.amqp_engine.specs.Causes.{IsReadError, IsUndue, is_due}
+use Rattle.amqp_session.proofs.Cases.{if_case, if_by, if-true, if-false}
+use Rattle.amqp_engine.proofs.Cases.{and-left, and-right}
+use Rattle.amqp_session.proofs.Ends.{Ends, ends-kept, ends-to, ends-as, ends-then, ends-present}
+use Rattle.amqp_engine.proofs.Settling.{settle-talk}
+use Rattle.amqp_session.proofs.FrameEnds.{ends-frame, ends-misread}
 
 -- ---- a frame is looked for in bytes, and needs no memory
 
@@ -97,6 +109,58 @@ front-none (o ∷ rest) limit =
     if_case NeedsNone (o == 65) (header rest) (if is_type_octet o then framed o limit rest else reading.Bad) (header-none rest)
     (if_case NeedsNone (is_type_octet o) (framed o limit rest) reading.Bad (framed-none o limit rest) refl)
 
+-- ---- the errors of a frame
+
+closes : (o : Option Awaited) (t : Talk) → end_of (connection_closed o t) ≡ Some (Ok tt)
+closes None t = refl
+closes (Some a) t = refl
+
+-- a method of the connection class that is due ends no session with an error
+due-none : (s : ConnectionState) (p : Phase) (m : AnyMethod) (t : Talk) (k : ErrorKind) → is_due m s p ≡ true
+    → end_of (connection_rule s p m t) ≡ Some (Err k) → end_of t ≡ Some (Err k)
+due-none s p (Close code text class method) t k due h = h
+due-none Closing p CloseOk t k due h =
+    let ok = closes (first_awaited 0 ConnectionClosed t.awaited) t in
+    absurd cc
+due-none Connecting AwaitStart (Start a b c d e) t k due h = h
+due-none Connecting AwaitTune (Tune a b c) t k due h = h
+due-none Connecting AwaitOpenOk OpenOk t k due h = h
+due-none s p m t k due h = cc
+
+-- the error of a method is none of one that is due, or the session had ended with it
+undue : (k : ErrorKind) (f : Frame) (place : ℕ) (t : Talk) → end_of (frame_rule f place t) ≡ Some (Err k) → IsFrameError k f place t
+    → (end_of t ≡ Some (Err k)) ⊎ IsUndue k f t
+undue (InvalidConnectionState s) (Method zero m) place t h cause = by (is_due m t.state t.phase) refl (is_unbuilt m) refl
+  where
+    by : (due : Bool) → is_due m t.state t.phase ≡ due → (unbuilt : Bool) → is_unbuilt m ≡ unbuilt
+        → (end_of t ≡ Some (Err (InvalidConnectionState s))) ⊎ IsFalse (is_due m t.state t.phase)
+    by false free unbuilt is = inr free
+    by true due true is =
+        let ended : end_of (frame_rule (Method zero m) place t) ≡ Some (Err (Unbuilt place)) =
+        ap end_of (if-true (is_unbuilt m) (fail (Unbuilt place) t) (method_rule zero m t) is) in
+        absurd cc
+    by true due false is =
+        let here : frame_rule (Method zero m) place t ≡ connection_rule t.state t.phase m t =
+        if-false (is_unbuilt m) (fail (Unbuilt place) t) (method_rule zero m t) is
+        ∙ if-false (is_of_a_channel m) (misplaced (stray_channel_frame RawMethod) t) (connection_rule t.state t.phase m t) cause.0 in
+        inl (due-none t.state t.phase m t (InvalidConnectionState s) due (sym (ap end_of here) ∙ h))
+undue k f place t h cause = inr tt
+
+abbrev FrameCause : Frame → ℕ → Talk → ErrorKind → Type 0
+FrameCause f place t k = IsTrue (is_acting t.input) × IsFrameError k f place t × IsUndue k f t
+
+ends-acting : (f : Frame) (place : ℕ) (t : Talk) → Ends (FrameCause f place t) t (on_frame f place t)
+ends-acting f place t = record { by = λ k h. by (acts t) refl k h }
+  where
+    by : (b : Bool) → acts t ≡ b → (k : ErrorKind) → end_of (on_frame f place t) ≡ Some (Err k) → (end_of t ≡ Some (Err k)) ⊎ FrameCause f place t k
+    by false idle k h = inl (sym (ap end_of (if-false (acts t) (frame_rule f place t) t idle)) ∙ h)
+    by true acting k h =
+        let here : end_of (frame_rule f place t) ≡ Some (Err k) = sym (ap end_of (if-true (acts t) (frame_rule f place t) t acting)) ∙ h in
+        elim ((ends-frame f place t).by k h) [
+          | inl before ↦ inl before
+          | inr cause ↦ elim (undue k f place t here cause) [ inl before ↦ inl before | inr free ↦ inr (and-right (is_open t) (is_acting t.input) acting, cause, free) ]
+        ]
+
 -- ---- errors do not look at the moment
 
 moment-awaited : (m : AnyMethod) (c n : ℕ) (t : Talk) → is_awaited m c (record t { present = n }) ≡ is_awaited m c t
@@ -108,25 +172,29 @@ moment-unawaited : (n : ℕ) (e : ErrorKind) (f : Frame) (t : Talk) → IsUnawai
 moment-unawaited n e (Method c m) t h = (h.0, h.1, sym (moment-awaited m c n t) ∙ h.2, h.3)
 moment-unawaited n e _ t h = h
 
-moment-violation : (n : ℕ) (e : ErrorKind) (r : Read) (t : Talk) → IsViolation e r (record t { present = n }) → IsViolation e r t
-moment-violation n e (reading.Whole f size) t h = elim h [ inl p ↦ inl p | inr p ↦ inr (moment-unawaited n e f t p) ]
-moment-violation n e (reading.TooLarge size) t h = h
-moment-violation n e (reading.BadHeartbeat channel) t h = h
-moment-violation n e _ t h = h
+moment-frame : (n : ℕ) (k : ErrorKind) (f : Frame) (place : ℕ) (t : Talk) → IsFrameError k f place (record t { present = n }) → IsFrameError k f place t
+moment-frame n (InvalidProtocolVersion version) (ProtocolHeader v) place t h = h
+moment-frame n (InvalidConnectionState state) (Method zero m) place t h = h
+moment-frame n (InvalidChannel channel) f place t h = h
+moment-frame n (Unbuilt built_at) (Method channel m) place t h = h
+moment-frame n (ProtocolError e) f place t h = elim h [ inl p ↦ inl p | inr p ↦ inr (moment-unawaited n (ProtocolError e) f t p) ]
+moment-frame n _ f place t h = h
+
+moment-undue : (n : ℕ) (k : ErrorKind) (f : Frame) (t : Talk) → IsUndue k f (record t { present = n }) → IsUndue k f t
+moment-undue n (InvalidConnectionState state) (Method zero m) t h = h
+moment-undue n _ f t h = tt
 
 moment-error : (n : ℕ) (k : ErrorKind) (r : Read) (x : Engine) → IsReadError k r (record x { talk = record x.talk { present = n } }) → IsReadError k r x
-moment-error n (ParsingError place) reading.Bad x h = h
-moment-error n (InvalidProtocolVersion version) (reading.Whole (ProtocolHeader v) size) x h = h
-moment-error n (InvalidConnectionState state) (reading.Whole (Method zero m) size) x h = h
-moment-error n (InvalidChannel channel) (reading.Whole f size) x h = h
-moment-error n (Unbuilt place) (reading.Whole (Method channel m) size) x h = h
-moment-error n (ProtocolError e) r x h = moment-violation n (ProtocolError e) r x.talk h
-moment-error n _ r x h = h
+moment-error n k (reading.Whole f size) x h = (h.0, moment-frame n k f x.place x.talk h.1, moment-undue n k f x.talk h.2)
+moment-error n k _ x h = h
 
 present-error : (at : ℕ) (r : Read) (x : Engine) (k : ErrorKind) → IsReadError k r (rule_at at (λ t. t) x) → IsReadError k r x
 present-error at r x k =
     if_case (λ (t : Talk). IsReadError k r (record x { talk = t }) → IsReadError k r x) (has_ended x.talk) x.talk (record x.talk { present = _ })
     (λ h. h) (λ h. moment-error _ k r x h)
+
+pub ends-settled : (P : ErrorKind → Type 0) (t : Talk) (x : Engine) → Ends P t x.talk → Ends P t (settle x).talk
+ends-settled P t x e = ends-to P t x.talk (settle x).talk (settle-talk x) e
 
 -- ---- reading
 
@@ -142,7 +210,7 @@ ends-read-row at (reading.Whole f n) x none =
     let now : Engine = rule_at at (λ t. t) x in
     let after : Engine = record x { talk = on_frame f x.place (present_at at x.talk); unread = drop n x.unread; place = at_most_64 (x.place + n) } in
     ends-settled P x.talk after
-    (ends-present P at x.talk after.talk (ends-as (FrameError f n now) P now.talk after.talk (present-error at (reading.Whole f n) x) (ends-frame f n now)))
+    (ends-present P at x.talk after.talk (ends-as (FrameCause f x.place now.talk) P now.talk after.talk (present-error at (reading.Whole f n) x) (ends-acting f x.place now.talk)))
 ends-read-row at (reading.TooLarge size) x none = ends-badly at (reading.TooLarge size) (why.TooLarge size) x refl
 ends-read-row at (reading.BadHeartbeat channel) x none = ends-badly at (reading.BadHeartbeat channel) (why.BadHeartbeat channel) x refl
 ends-read-row at reading.More x none = ends-kept _ x.talk x.talk refl
@@ -150,7 +218,7 @@ ends-read-row at reading.Bad x none = ends-badly at reading.Bad (why.Bad x.place
 ends-read-row at reading.NoMemory x none = cc
 
 pub ends-read-one : (at : ℕ) (x : Engine) → Ends (λ k. IsReadError k (front_of x) x) x.talk (read_one at x).talk
-ends-read-one at x = ends-read-row at (front_of x) x (front-none x.unread (frame_limit x.talk.configuration))
+ends-read-one at x = ends-read-row at (front_of x) x (front-none x.unread (frame_limit x.talk))
 
 -- the reading from here on comes to what brings this error
 pub record Comes (p : Progress) (k : ErrorKind) : Type 0 where

@@ -12,18 +12,20 @@ use Rattle.amqp_session.specs.declared.state.Input.{Input}
 use Rattle.amqp_session.specs.declared.state.Input.TheVariants.{Acting, Closed, Dropped}
 use Rattle.amqp_session.specs.declared.misread.Misread.{Misread}
 use Rattle.amqp_session.specs.declared.misread.Misread.TheVariants as why
-use Rattle.amqp_session.specs.Talk.{Talk, is_open}
-use Rattle.amqp_session.specs.Changes.{present_at}
-use Rattle.amqp_session.specs.Links.{misread, misread_by}
+use Rattle.amqp_session.specs.Talk.{Talk, is_open, is_acting, acts, is_dropped_input}
+use Rattle.amqp_session.specs.Changes.{present_at, lose}
+use Rattle.amqp_session.specs.Links.{misread, dropped}
+use Rattle.amqp_session.specs.Violations.{misread_error}
 use Rattle.amqp_session.specs.Frames.{on_frame}
 use Rattle.amqp_session.specs.Negotiation.{frame_limit}
 use Rattle.amqp_engine.specs.Plan.{at_most_64}
 use Rattle.amqp_engine.specs.Engine.{Engine, front_of, can_read, is_more, read_one, read_row, read_badly, settle, rule_at}
 use Rattle.amqp_engine.specs.Turn.{Progress, reads, reading, goes, read_part, is_before}
 use Rattle.amqp_engine.specs.Making.{making, Allows}
-use Rattle.amqp_engine.proofs.Cases.{if-true, if-false, and-true, and-false, and-left, and-right, is_before-Allows}
+use Rattle.amqp_session.proofs.Cases.{if_by, if-true, if-false, and-true, and-false}
+use Rattle.amqp_engine.proofs.Cases.{and-left, and-right, is_before-Allows}
 use Rattle.amqp_engine.proofs.Settling.{keeps_unread, settle-unread, settle-starved}
-use Rattle.amqp_engine.proofs.Keeping.{present-keeps}
+use Rattle.amqp_session.proofs.Keeping.{present-keeps}
 
 -- where nothing can be read, reading is over
 pub reads-rest : (n : ℕ) (p : Progress) → can_read p.engine ≡ false → reads n p ≡ p
@@ -136,19 +138,23 @@ front-some [] limit h =
     cc
 front-some (o ∷ rest) limit h = omega arith
 
-misread-over-by : (i : Input) (why : Misread) (t : Talk) → keeps_unread (misread_by i why t) ≡ false
-misread-over-by Acting why t = refl
-misread-over-by Closed why t = and-false (is_open (misread_by Closed why t)) false refl
-misread-over-by Dropped why t = and-false (is_open (misread_by Dropped why t)) false refl
+-- after the server's close the input is dropped
+dropped-over : (b : Bool) (i : Input) → b ≡ true → (b && is_acting i) ≡ false → (b && not (is_dropped_input (dropped i))) ≡ false
+dropped-over true Acting h idle = cc
+dropped-over true (Closed crossed) h idle = refl
+dropped-over true (Dropped crossed) h idle = refl
+dropped-over false i h idle = cc
 
 -- after what is no frame nothing more is read
 misread-over : (at : ℕ) (why : Misread) (t : Talk) → is_open t ≡ true
     → keeps_unread (misread why (present_at at t)) ≡ false
 misread-over at why t opened =
     let x = present_at at t in
-    let same : misread why x ≡ misread_by x.input why x =
-    if-true (is_open x) (misread_by x.input why x) x (present-keeps is_open at t (λ n. refl) ∙ opened) in
-    ap keeps_unread same ∙ misread-over-by x.input why x
+    let still : is_open x ≡ true = present-keeps is_open at t (λ n. refl) ∙ opened in
+    let gone : Talk = record x { input = dropped x.input } in
+    let P : Talk → Type 0 = λ y. keeps_unread y ≡ false in
+    if_by P (acts x) (lose (misread_error why) x) (if is_open x then gone else x) (λ acting. refl)
+    (λ idle. if_by P (is_open x) gone x (λ on. dropped-over (is_open x) x.input on idle) (λ closed. absurd cc))
 
 misread-worth : (at : ℕ) (why : Misread) (e : Engine) → is_open e.talk ≡ true → 1 ≤ length e.unread
     → worth (read_badly at why e) + 2 ≤ worth e
@@ -169,7 +175,7 @@ row-worth at (Whole f n) e is some opened bytes =
     let x : Engine = record e { talk = on_frame f e.place (present_at at e.talk); unread = drop n e.unread; place = at_most_64 (e.place + n) } in
     let kept : Bool = keeps_unread x.talk in
     let after : (settle x).unread ≡ (if kept then drop n e.unread else []) = settle-unread x in
-    rw after (whole-worth kept e.unread n (front-size e.unread (frame_limit e.talk.configuration) f n is) bytes)
+    rw after (whole-worth kept e.unread n (front-size e.unread (frame_limit e.talk) f n is) bytes)
 row-worth at More e is some opened bytes = cc
 row-worth at (TooLarge n) e is some opened bytes = misread-worth at (why.TooLarge n) e opened bytes
 row-worth at (BadHeartbeat n) e is some opened bytes = misread-worth at (why.BadHeartbeat n) e opened bytes
@@ -180,7 +186,7 @@ pub read_one-worth : (at : ℕ) (e : Engine) → can_read e ≡ true → worth (
 read_one-worth at e can =
     let some = and-right (is_open e.talk) (not (is_more (front_of e))) can in
     row-worth at (front_of e) e refl some (and-left (is_open e.talk) (not (is_more (front_of e))) can)
-    (front-some e.unread (frame_limit e.talk.configuration) some)
+    (front-some e.unread (frame_limit e.talk) some)
 
 -- reading starves nobody
 row-starved : (at : ℕ) (r : Read) (e : Engine) → (read_row at r e).starved ≡ e.starved
@@ -213,7 +219,7 @@ if-done false n p h le ih = h
 pub reads-done : (n : ℕ) (p : Progress) → length p.engine.unread ≤ n → (goes (reads n p) && can_read (reads n p).engine) ≡ false
 reads-done zero p le =
     and-false (goes p) (can_read p.engine)
-    (and-false (is_open p.engine.talk) (not (is_more (front_of p.engine))) (no-bytes p.engine.unread (frame_limit p.engine.talk.configuration) le))
+    (and-false (is_open p.engine.talk) (not (is_more (front_of p.engine))) (no-bytes p.engine.unread (frame_limit p.engine.talk) le))
 reads-done (suc n) p le = if-done (goes p && can_read p.engine) n p refl le (λ x h. reads-done n x h)
 
 -- or where the turn is cut

@@ -9,11 +9,13 @@ use Rattle.amqp_engine.specs.declared.port.Step.{Step}
 use Rattle.amqp_engine.specs.declared.port.Step.TheVariants.{Linked, LinkFailed, Piece, End, Fault, Room, Tick, Command}
 use Rattle.amqp_engine.specs.declared.port.Wrote.{Wrote}
 use Rattle.amqp_engine.specs.Log.{on_last, IsWithin}
-use Rattle.amqp_engine.specs.Engine.{Engine, begin, frames_waiting, with_talk, rule_at, step_engine, step_linked, read_one, commit_all, can_write, taken_by, starve_at}
+use Rattle.amqp_engine.specs.Engine.{Engine, begin, with_talk, rule_at, step_engine, step_linked, read_one, commit_all, can_write, taken_by, starve_at}
+use Rattle.amqp_session.specs.Writing.{frames_waiting}
 use Rattle.amqp_engine.specs.Turn.{Turn, asks, wants_ask, offered, answered, read, turn, AreTurns}
 use Rattle.amqp_engine.specs.Sending.{Sending, nothing_sent, offer_sending, offers_sending, step_sending, sendings_from, sendings, SendsInOrder}
-use Rattle.amqp_engine.proofs.Cases.{if_case, if_by, if-true, and-left}
-use Rattle.amqp_engine.proofs.Keeping.{present-keeps, starve-ends, left_after}
+use Rattle.amqp_session.proofs.Cases.{if_case, if_by, if-true}
+use Rattle.amqp_engine.proofs.Cases.{and-left}
+use Rattle.amqp_session.proofs.Keeping.{present-keeps, starve-ends, left_after}
 use Rattle.amqp_engine.proofs.Commits.{commits-keep}
 use Rattle.amqp_engine.proofs.Over.{ended-closed}
 use Rattle.amqp_engine.proofs.Sent.{on_last-append}

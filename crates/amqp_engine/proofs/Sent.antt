@@ -10,8 +10,8 @@ use Rattle.amqp_session.specs.Writing.{size_of}
 use Rattle.amqp_session.specs.declared.committed.Mark.{Mark}
 use Rattle.amqp_engine.specs.Log.{last_set, on_last}
 use Rattle.amqp_engine.specs.Sending.{encodings, sent_in, IsBegun}
-use Rattle.amqp_engine.proofs.Cases.{if-true, if-false, if-both}
-use Rattle.amqp_engine.proofs.Keeping.{left_after}
+use Rattle.amqp_session.proofs.Cases.{if-true, if-false, if-both}
+use Rattle.amqp_session.proofs.Keeping.{left_after}
 use Rattle.amqp_engine.proofs.Commits.{encoding-some}
 
 -- ---- the last of a list

@@ -2,7 +2,7 @@
 use Rattle.std.proofs.Common.{◌≡◌, ◌≤◌, ◌&&◌, not, if◌then◌else◌, Bool, true, false, [], ℕ, List, length, refl, ap, ◌∙◌, arith}
 use Rattle.amqp_session.specs.Talk.{Talk, is_open, drops_input}
 use Rattle.amqp_engine.specs.Engine.{Engine, settle}
-use Rattle.amqp_engine.proofs.Cases.{if_case, if-true}
+use Rattle.amqp_session.proofs.Cases.{if_case, if-true}
 
 -- what is not looked at is what stays
 settle-keeps : {A : Type 0} (f : Engine → A) → ((e : Engine) (bytes : List ℕ) → f (record e { unread = []; place = 0; unsent = bytes }) ≡ f e) → (e : Engine) → f (settle e) ≡ f e

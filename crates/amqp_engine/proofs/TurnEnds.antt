@@ -4,18 +4,18 @@ use Rattle.amqp_types.specs.declared.error.AMQPError.{AMQPError}
 use Rattle.amqp_session.specs.declared.committed.Mark.{Mark}
 use Rattle.amqp_session.specs.declared.committed.Then.{Then}
 use Rattle.amqp_session.specs.declared.committed.Then.TheVariants.{Nothing, Answer, Finish}
-use Rattle.amqp_session.specs.declared.state.Input.{Input}
-use Rattle.amqp_session.specs.declared.state.Input.TheVariants.{Acting, Closed, Dropped}
+use Rattle.amqp_frame.specs.declared.frame.Read.{Read}
+use Rattle.amqp_frame.specs.declared.frame.Read.TheVariants as reading
 use Rattle.amqp_session.specs.declared.state.Link.TheVariants.{Open}
 use Rattle.amqp_session.specs.declared.io_fault.IoFault.{IoFault}
 use Rattle.amqp_session.specs.declared.io_fault.IoFault.TheVariants.{Aborted, Refused, Reset, BrokenPipe}
 use Rattle.amqp_session.specs.declared.server_close.ServerClose.{ServerClose}
 use Rattle.amqp_session.specs.declared.server_close.ServerClose.TheVariants.{WithoutError, WithError}
 use Rattle.amqp_session.specs.declared.error.ErrorKind.{ErrorKind}
-use Rattle.amqp_session.specs.declared.error.ErrorKind.TheVariants.{IOError, ProtocolError, NoMemory}
-use Rattle.amqp_session.specs.Talk.{Talk, has_ended, is_open, is_asked, end_of, end_of_link}
-use Rattle.amqp_session.specs.Changes.{present_at, fail, finish_by, starve}
-use Rattle.amqp_session.specs.Links.{linked, link_failed, piece, lost, lost_by}
+use Rattle.amqp_session.specs.declared.error.ErrorKind.TheVariants.{IOError, ProtocolError, NoMemory, OutOfTurns}
+use Rattle.amqp_session.specs.Talk.{Talk, has_ended, is_open, is_acting, acts, is_asked, end_of, end_of_link}
+use Rattle.amqp_session.specs.Changes.{present_at, fail, lose, finish, finish_by, starve}
+use Rattle.amqp_session.specs.Links.{linked, link_failed, piece, lost}
 use Rattle.amqp_session.specs.Commands.{command}
 use Rattle.amqp_session.specs.Writing.{follow, sent, sent_among, taken}
 use Rattle.amqp_engine.specs.declared.port.Step.{Step}
@@ -23,14 +23,17 @@ use Rattle.amqp_engine.specs.declared.port.Step.TheVariants.{Linked, LinkFailed,
 use Rattle.amqp_engine.specs.declared.port.Wrote.{Wrote}
 use Rattle.amqp_engine.specs.declared.port.Wrote.TheVariants.{Took, Failed, NoMemory as WroteNoMemory}
 use Rattle.amqp_engine.specs.Log.{Log}
-use Rattle.amqp_engine.specs.Engine.{Engine, frames_waiting, settle, rule_at, step_engine, took, wrote, commit_all}
+use Rattle.amqp_engine.specs.Engine.{Engine, settle, rule_at, step_engine, took, wrote, commit_all}
+use Rattle.amqp_session.specs.Writing.{frames_waiting}
 use Rattle.amqp_engine.specs.Turn.{Turn, Progress, asks, goes, reads, part, is_piece, step_part, is_part, begun, drain, offer_part, answered, read, written, applied, turn, turns, starved_after, AreTurns, Leads}
 use Rattle.amqp_engine.specs.Tell.{TellsTurns, Applies, Runs, turn_of}
-use Rattle.amqp_engine.specs.Causes.{Misreads, LosesClosed, IsCause, Brings, brought, has_failed, is_failed, is_last, sends_close_ok, is_finish}
-use Rattle.amqp_engine.proofs.Cases.{if_case, if_by, if-true, if-false, and-true, and-false, none-from}
-use Rattle.amqp_engine.proofs.Keeping.{present-keeps, stays-command}
+use Rattle.amqp_engine.specs.Causes.{IsReadError, Misreads, LosesClosed, IsCause, Brings, brought, has_failed, is_failed, is_last, sends_close_ok, is_finish}
+use Rattle.amqp_session.proofs.Cases.{if_case, if_by, if-true, if-false, and-true, and-false}
+use Rattle.amqp_engine.proofs.Cases.{none-from, and-left}
+use Rattle.amqp_session.proofs.Keeping.{present-keeps, stays-command}
 use Rattle.amqp_engine.proofs.Commits.{commits-keep}
-use Rattle.amqp_engine.proofs.Ends.{Ends, ends-kept, ends-lose, ends-close, ends-as, ends-then, ends-present, ends-moment, ends-settled}
+use Rattle.amqp_session.proofs.Ends.{Ends, ends-kept, ends-lose, ends-close, ends-as, ends-then, ends-present, ends-moment}
+use Rattle.amqp_engine.proofs.ReadEnds.{ends-settled}
 use Rattle.amqp_engine.proofs.Over.{asks-end}
 use Rattle.amqp_engine.proofs.ReadEnds.{Comes, ends-reads}
 
@@ -47,14 +50,14 @@ ends-finish P None t u p = ends-close P t u
 ends-finish P (Some WithoutError) t u p = ends-close P t u
 ends-finish P (Some (WithError e)) t u p = ends-lose P (ProtocolError e) t u (p e refl)
 
-ends-lost-by : (i : Input) (fault : IoFault) (t : Talk) → is_open t ≡ true → Ends (LostError fault t) t (lost_by i fault t)
-ends-lost-by Acting fault t opened = ends-lose (LostError fault t) (IOError fault) t t (opened, refl)
-ends-lost-by Closed fault t opened = ends-finish (LostError fault t) t.server_close t _ (λ e h. (opened, h))
-ends-lost-by Dropped fault t opened = ends-finish (LostError fault t) t.server_close t _ (λ e h. (opened, h))
-
 ends-lost : (fault : IoFault) (t : Talk) → Ends (LostError fault t) t (lost fault t)
 ends-lost fault t =
-    if_by (Ends (LostError fault t) t) (is_open t) (lost_by t.input fault t) t (ends-lost-by t.input fault t) (λ h. ends-kept (LostError fault t) t t refl)
+    let P : ErrorKind → Type 0 = LostError fault t in
+    if_by (Ends P t) (acts t) (lose (IOError fault) t) (if is_open t then finish t else t)
+    (λ acting. ends-lose P (IOError fault) t t (and-left (is_open t) (is_acting t.input) acting, refl))
+    (λ idle. if_by (Ends P t) (is_open t) (finish t) t
+    (λ opened. ends-finish P t.server_close t t (λ e h. (opened, h)))
+    (λ closed. ends-kept P t t refl))
 
 present-lost : (at : ℕ) (fault : IoFault) (t : Talk) (k : ErrorKind) → LostError fault (present_at at t) k → LostError fault t k
 present-lost at fault t (IOError f) h = (sym (present-keeps is_open at t (λ n. refl)) ∙ h.0, h.1)
@@ -169,17 +172,15 @@ ends-follow Nothing t = ends-kept _ t t refl
 ends-follow (Answer n) t = ends-kept _ t _ refl
 ends-follow Finish t = ends-finish _ t.server_close t _ (λ e h. (refl, h))
 
-finish-forgets : (o : Option ServerClose) (t : Talk) → (finish_by o (record t { server_close = None })).server_close ≡ None
-finish-forgets None t = refl
-finish-forgets (Some WithoutError) t = refl
-finish-forgets (Some (WithError e)) t = refl
+finish-closed : (o : Option ServerClose) (t : Talk) → (finish_by o t).server_close ≡ t.server_close
+finish-closed None t = refl
+finish-closed (Some WithoutError) t = refl
+finish-closed (Some (WithError e)) t = refl
 
 follow-closed : (th : Then) (t : Talk) (e : AMQPError) → (follow th t).server_close ≡ Some (WithError e) → t.server_close ≡ Some (WithError e)
 follow-closed Nothing t e h = h
 follow-closed (Answer n) t e h = h
-follow-closed Finish t e h =
-    let none = finish-forgets t.server_close t in
-    cc
+follow-closed Finish t e h = sym (finish-closed t.server_close t) ∙ h
 
 sent-first : (m : Mark) (ms : List Mark) (n : ℕ) (t : Talk) → nat_le m.left n ≡ true → (k : ErrorKind)
     → SentError (is_finish m.«then») (record t { committed = drop 1 t.committed }) k → SentError (sends_close_ok n (m ∷ ms)) t k
@@ -202,11 +203,14 @@ ends-sent (m ∷ ms) n t =
     let x = sent m t in
     let first : Talk = record t { committed = drop 1 t.committed } in
     let last = sent_among ms (n - m.left) x in
-    if_by (Ends P t) (nat_le m.left n) last (record t { committed = record m { left = m.left - n } ∷ ms })
+    let part : Talk = record t { committed = record m { left = m.left - n } ∷ ms } in
+    if_case (Ends P t) (is_open t) (if nat_le m.left n then last else part) t
+    (if_by (Ends P t) (nat_le m.left n) last part
     (λ h. ends-then P t x last (ends-then P t first x (ends-kept P t first refl)
     (ends-as (SentError (is_finish m.«then») first) P first x (sent-first m ms n t h) (ends-follow m.«then» first)))
     (ends-as (SentError (sends_close_ok (n - m.left) ms) x) P x last (sent-later m ms n t h) (ends-sent ms (n - m.left) x)))
-    (λ h. ends-kept P t _ refl)
+    (λ h. ends-kept P t part refl))
+    (ends-kept P t t refl)
 
 -- the error of a write that is answered so
 abbrev WroteError : Wrote → Engine → ErrorKind → Type 0
@@ -318,10 +322,32 @@ ends-drain (w ∷ ws) p =
 
 -- ---- a turn
 
+-- what is read brings no fault, no want of memory and no want of turns
+pub not-a-fault : (fault : IoFault) (r : Read) (x : Engine) → IsReadError (IOError fault) r x → ⊥
+not-a-fault fault (reading.Whole f n) x h = h.1
+not-a-fault fault (reading.TooLarge size) x h = cc
+not-a-fault fault (reading.BadHeartbeat channel) x h = cc
+not-a-fault fault reading.Bad x h = cc
+not-a-fault fault _ x h = h
+
+not-memory : (r : Read) (x : Engine) → IsReadError NoMemory r x → ⊥
+not-memory (reading.Whole f n) x h = h.1
+not-memory (reading.TooLarge size) x h = cc
+not-memory (reading.BadHeartbeat channel) x h = cc
+not-memory reading.Bad x h = cc
+not-memory _ x h = h
+
+pub not-turns : (r : Read) (x : Engine) → IsReadError OutOfTurns r x → ⊥
+not-turns (reading.Whole f n) x h = h.1
+not-turns (reading.TooLarge size) x h = cc
+not-turns (reading.BadHeartbeat channel) x h = cc
+not-turns reading.Bad x h = cc
+not-turns _ x h = h
+
 early-cause : (u : Turn) (x : Engine) (k : ErrorKind) → EarlyError u x k → IsCause k u x
-early-cause u x (IOError fault) h = elim h [ inl e ↦ inl e | inr r ↦ absurd r.error_read ]
+early-cause u x (IOError fault) h = elim h [ inl e ↦ inl e | inr r ↦ absurd (not-a-fault fault _ _ r.error_read) ]
 early-cause u x (ProtocolError e) h = elim h [ inl l ↦ inr (inl l) | inr r ↦ inl r ]
-early-cause u x NoMemory h = elim h [ inl e ↦ absurd e | inr r ↦ absurd r.error_read ]
+early-cause u x NoMemory h = elim h [ inl e ↦ absurd e | inr r ↦ absurd (not-memory _ _ r.error_read) ]
 early-cause u x _ h = elim h [ inl e ↦ absurd e | inr r ↦ r ]
 
 writes-cause : (u : Turn) (x : Engine) (k : ErrorKind) → WritesError u.notes.answers (read u x) k → IsCause k u x

@@ -2,32 +2,26 @@
 use Rattle.std.specs.Prelude.{◌≡◌, ◌⊎◌, ℕ, zero, ◌-◌, nat_le, if◌then◌else◌, ◌||◌, ◌&&◌, Bool, true, false, IsTrue, IsFalse, List, [], ◌∷◌, ◌++◌, Option, Some, None, is_some, Result, Err}
 use Rattle.amqp_types.specs.declared.error.AMQPError.{AMQPError}
 use Rattle.amqp_frame.specs.declared.frame.Frame.{Frame}
-use Rattle.amqp_frame.specs.declared.frame.Frame.TheVariants.{ProtocolHeader, Method, Raw}
-use Rattle.amqp_frame.specs.declared.frame.RawKind.TheVariants.{RawMethod}
+use Rattle.amqp_frame.specs.declared.frame.Frame.TheVariants.{Method}
 use Rattle.amqp_frame.specs.declared.frame.Read.{Read}
 use Rattle.amqp_frame.specs.declared.frame.Read.TheVariants as reading
 use Rattle.amqp_frame.specs.declared.method.Method.{Method as AnyMethod}
-use Rattle.amqp_frame.specs.declared.method.Method.TheVariants.{Start, Tune, OpenOk, Close, CloseOk, ChannelOpenOk, ChannelCloseOk}
+use Rattle.amqp_frame.specs.declared.method.Method.TheVariants.{Start, Tune, OpenOk, Close, CloseOk}
 use Rattle.amqp_session.specs.declared.committed.Mark.{Mark}
 use Rattle.amqp_session.specs.declared.committed.Then.{Then}
 use Rattle.amqp_session.specs.declared.committed.Then.TheVariants.{Finish}
 use Rattle.amqp_session.specs.declared.io_fault.IoFault.{IoFault}
 use Rattle.amqp_session.specs.declared.io_fault.IoFault.TheVariants.{Aborted, Refused, Reset, BrokenPipe}
-use Rattle.amqp_session.specs.declared.lanes.Reply.TheVariants.{ChannelOpened, ChannelClosed}
 use Rattle.amqp_session.specs.declared.server_close.ServerClose.TheVariants.{WithError}
 use Rattle.amqp_session.specs.declared.state.ConnectionState.{ConnectionState}
 use Rattle.amqp_session.specs.declared.state.ConnectionState.TheVariants.{Connecting, Closing}
 use Rattle.amqp_session.specs.declared.state.Phase.{Phase}
 use Rattle.amqp_session.specs.declared.state.Phase.TheVariants.{AwaitStart, AwaitTune, AwaitOpenOk}
-use Rattle.amqp_session.specs.declared.state.Input.{Input}
-use Rattle.amqp_session.specs.declared.state.Input.TheVariants.{Acting}
 use Rattle.amqp_session.specs.declared.error.ErrorKind.{ErrorKind}
-use Rattle.amqp_session.specs.declared.error.ErrorKind.TheVariants.{IOError, NoMemory, ParsingError, ProtocolError, InvalidProtocolVersion, InvalidConnectionState, InvalidChannel, Unbuilt}
-use Rattle.amqp_session.specs.Talk.{Talk, is_asked, is_open, end_of}
-use Rattle.amqp_session.specs.Channels.{channel_at}
-use Rattle.amqp_session.specs.Replies.{first_awaited}
-use Rattle.amqp_session.specs.Frames.{is_of_a_channel, is_unbuilt}
-use Rattle.amqp_session.specs.Violations.{frame_too_large, heartbeat_on, on_channel_0, connection_method_on, unawaited}
+use Rattle.amqp_session.specs.declared.error.ErrorKind.TheVariants.{IOError, NoMemory, ParsingError, ProtocolError, InvalidConnectionState}
+use Rattle.amqp_session.specs.Talk.{Talk, is_acting, is_asked, is_open, end_of}
+use Rattle.amqp_session.specs.Causes.{IsFrameError}
+use Rattle.amqp_session.specs.Violations.{frame_too_large, stray_heartbeat}
 use Rattle.amqp_engine.specs.declared.port.Step.{Step}
 use Rattle.amqp_engine.specs.declared.port.Step.TheVariants.{LinkFailed, End, Fault}
 use Rattle.amqp_engine.specs.declared.port.Wrote.{Wrote}
@@ -81,38 +75,6 @@ IsFaultOf fault u e = (brought u.step e.talk ≡ Some fault) ⊎ ((fault ≡ Bro
 
 -- ---- what is read
 
--- a frame that belongs to this channel
-abbrev pub IsOfChannel : ℕ → Frame → Type 0
-IsOfChannel n (Method m method) = (m ≡ n) × IsTrue (is_of_a_channel method)
-IsOfChannel n (Raw m kind bytes) = m ≡ n
-IsOfChannel n _ = ⊥
-
--- 504 for what belongs to a channel and came on channel 0, and 503 for a method of the connection class that came on another
-abbrev pub IsMisplaced : ErrorKind → Frame → Type 0
-IsMisplaced e (Method zero m) = IsTrue (is_of_a_channel m) × (e ≡ on_channel_0 RawMethod)
-IsMisplaced e (Method n m) = IsFalse (is_of_a_channel m) × (e ≡ connection_method_on n)
-IsMisplaced e (Raw zero kind bytes) = e ≡ on_channel_0 kind
-IsMisplaced e _ = ⊥
-
--- a reply is awaited that this method is
-abbrev pub is_awaited : AnyMethod → ℕ → Talk → Bool
-is_awaited ChannelOpenOk n t = is_some (first_awaited n ChannelOpened t.awaited)
-is_awaited ChannelCloseOk n t = is_some (first_awaited n ChannelClosed t.awaited)
-is_awaited _ n t = false
-
--- 505 for a method of the channel class, on a listed channel, that nothing awaits
-abbrev pub IsUnawaited : ErrorKind → Frame → Talk → Type 0
-IsUnawaited e (Method n m) t =
-    IsTrue (is_of_a_channel m) × IsTrue (is_some (channel_at n t)) × IsFalse (is_awaited m n t) × (e ≡ unawaited m n)
-IsUnawaited e _ t = ⊥
-
--- what a server may not send, by the error that it brings; 501 for a frame that is too large, and for a heartbeat on another channel than 0
-abbrev pub IsViolation : ErrorKind → Read → Talk → Type 0
-IsViolation e (reading.TooLarge size) t = e ≡ frame_too_large size
-IsViolation e (reading.BadHeartbeat channel) t = e ≡ heartbeat_on channel
-IsViolation e (reading.Whole f n) t = IsMisplaced e f ⊎ IsUnawaited e f t
-IsViolation e _ t = ⊥
-
 -- a method of the connection class that is due: our close's answer, and what the handshake awaits; the server may close at any time
 abbrev pub is_due : AnyMethod → ConnectionState → Phase → Bool
 is_due (Close code text class method) state phase = true
@@ -122,26 +84,19 @@ is_due (Tune channel_max frame_max heartbeat) Connecting AwaitTune = true
 is_due OpenOk Connecting AwaitOpenOk = true
 is_due _ state phase = false
 
-abbrev pub is_closed_input : Input → Bool
-is_closed_input Acting = false
-is_closed_input _ = true
+-- a method of the connection class that brings its error is none that is due
+abbrev pub IsUndue : ErrorKind → Frame → Talk → Type 0
+IsUndue (InvalidConnectionState state) (Method zero m) t = IsFalse (is_due m t.state t.phase)
+IsUndue _ f t = Unit {0}
 
--- the server's close was read on the link
-abbrev pub is_closed_by_server : Talk → Bool
-is_closed_by_server t = is_closed_input t.input
-
--- the error that is brought by what stands at the front of the unread bytes
+-- the error that is brought by what stands at the front of the unread bytes: a frame, which acts only before the server's close; 501 for one that is
+-- too large, and for a heartbeat on another channel than 0
 abbrev pub IsReadError : ErrorKind → Read → Engine → Type 0
-IsReadError (ParsingError place) reading.Bad x = x.place ≡ place
-IsReadError (InvalidProtocolVersion version) (reading.Whole (ProtocolHeader v) n) x = v ≡ version
-IsReadError (InvalidConnectionState state) (reading.Whole (Method zero m) n) x =
-    IsFalse (is_of_a_channel m) × IsFalse (is_due m x.talk.state x.talk.phase) × (x.talk.state ≡ state)
-IsReadError (InvalidChannel channel) (reading.Whole f n) x =
-    IsOfChannel channel f × ((channel_at channel x.talk ≡ None) ⊎ (x.talk.state ≡ Connecting))
-IsReadError (Unbuilt place) (reading.Whole (Method channel m) n) x =
-    IsTrue (is_unbuilt m) × IsFalse (is_closed_by_server x.talk) × (x.place ≡ place)
-IsReadError (ProtocolError e) r x = IsViolation (ProtocolError e) r x.talk
-IsReadError _ r x = ⊥
+IsReadError k (reading.Whole f n) x = IsTrue (is_acting x.talk.input) × IsFrameError k f x.place x.talk × IsUndue k f x.talk
+IsReadError k (reading.TooLarge size) x = k ≡ frame_too_large size
+IsReadError k (reading.BadHeartbeat channel) x = k ≡ stray_heartbeat channel
+IsReadError k reading.Bad x = k ≡ ParsingError x.place
+IsReadError k _ x = ⊥
 
 -- a turn when so many frames of its piece were read
 abbrev pub after_frames : ℕ → Turn → Engine → Progress

@@ -4,7 +4,6 @@ use Rattle.amqp_frame.specs.declared.frame.Read.{Read}
 use Rattle.amqp_frame.specs.declared.frame.Read.TheVariants as reading
 use Rattle.amqp_frame.specs.FrameReading.{front}
 use Rattle.amqp_frame.specs.Frames.{encoding}
-use Rattle.amqp_session.specs.declared.session.TheConstants.{CAPACITY}
 use Rattle.amqp_session.specs.declared.io_fault.IoFault.TheVariants.{Aborted, Reset, BrokenPipe}
 use Rattle.amqp_session.specs.declared.lanes.Item.{Item}
 use Rattle.amqp_session.specs.declared.misread.Misread.{Misread}
@@ -15,7 +14,7 @@ use Rattle.amqp_session.specs.Changes.{present_at, starve}
 use Rattle.amqp_session.specs.Links.{linked, link_failed, piece, misread, lost}
 use Rattle.amqp_session.specs.Frames.{on_frame}
 use Rattle.amqp_session.specs.Commands.{command}
-use Rattle.amqp_session.specs.Writing.{next_within, commit, taken}
+use Rattle.amqp_session.specs.Writing.{frames_waiting, next_within, commit, taken}
 use Rattle.amqp_engine.specs.declared.port.Step.{Step}
 use Rattle.amqp_engine.specs.declared.port.Step.TheVariants.{Linked, LinkFailed, Piece, End, Fault, Room, Tick, Command}
 use Rattle.amqp_engine.specs.declared.port.Wrote.{Wrote}
@@ -84,7 +83,7 @@ step_engine at (Command c) bytes e = rule_at at (command c) e
 
 -- what stands at the front of the unread bytes
 abbrev pub front_of : Engine → Read
-front_of e = front e.unread (frame_limit e.talk.configuration)
+front_of e = front e.unread (frame_limit e.talk)
 
 abbrev pub is_more : Read → Bool
 is_more reading.More = true
@@ -116,18 +115,14 @@ read_one at e = read_row at (front_of e) e
 
 -- ---- writing
 
--- how many frames wait to be committed
-abbrev pub frames_waiting : Talk → ℕ
-frames_waiting t = length t.control
-
 -- the next frame, where it and the unsent bytes together fit the capacity
 abbrev pub fitting_next : Engine → Option Item
-fitting_next e = next_within (CAPACITY - length e.unsent) e.talk
+fitting_next e = next_within (e.talk.capacity - length e.unsent) e.talk
 
 abbrev pub committed_as : Option Item → Engine → Engine
 committed_as None e = e
 committed_as (Some item) e =
-    record e { talk = commit (CAPACITY - length e.unsent) e.talk; unsent = e.unsent ++ encoding item.frame }
+    record e { talk = commit (e.talk.capacity - length e.unsent) e.talk; unsent = e.unsent ++ encoding item.frame }
 
 -- the next frame is committed, where it fits
 abbrev pub commit_one : Engine → Engine

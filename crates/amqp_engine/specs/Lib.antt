@@ -7,8 +7,9 @@ pub mod Engine
 pub mod Turn
 pub mod Tell
 pub mod Causes
--- What went out on each link, and what is left unread.
+-- What went out on each link, what was heard and said on it, and what is left unread.
 pub mod Sending
+pub mod Exchange
 pub mod Unread
 -- The turns of a script that is played.
 pub mod Play

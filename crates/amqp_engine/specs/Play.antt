@@ -1,13 +1,14 @@
 -- A script that is played: what its port answers is determined, and so are the turns.
 use Rattle.std.specs.Prelude.{◌≡◌, ℕ, zero, suc, ◌+◌, min, Bool, false, if◌then◌else◌, List, [], ◌∷◌, length, Option, Some, None}
 use Rattle.amqp_session.specs.Talk.{has_ended, start}
+use Rattle.amqp_session.specs.Writing.{frames_waiting}
 use Rattle.amqp_engine.specs.declared.port.Step.TheVariants.{Tick}
 use Rattle.amqp_engine.specs.declared.port.Wrote.{Wrote}
 use Rattle.amqp_engine.specs.declared.port.Wrote.TheVariants.{Took, Failed}
 use Rattle.amqp_engine.specs.declared.given.Given.{Given}
 use Rattle.amqp_engine.specs.Plan.{Plan, Coming, next_coming, room_for}
 use Rattle.amqp_engine.specs.Log.{Log, loaded, log_write}
-use Rattle.amqp_engine.specs.Engine.{Engine, begin, frames_waiting, can_write}
+use Rattle.amqp_engine.specs.Engine.{Engine, begin, can_write}
 use Rattle.amqp_engine.specs.Turn.{Turn, Notes, asks, offered, answered, is_all, read, turn, turns}
 use Rattle.amqp_engine.specs.Tell.{turn_of, log_asks, log_stepped, log_turn, log_turns}
 

@@ -6,11 +6,12 @@ use Rattle.amqp_session.specs.declared.lanes.Item.{Item}
 use Rattle.amqp_frame.specs.declared.frame.Frame.{Frame}
 use Rattle.amqp_frame.specs.Frames.{encoding}
 use Rattle.amqp_session.specs.Talk.{is_asked, start}
+use Rattle.amqp_session.specs.Writing.{frames_waiting}
 use Rattle.amqp_engine.specs.declared.port.Step.{Step}
 use Rattle.amqp_engine.specs.declared.port.Step.TheVariants.{Linked}
 use Rattle.amqp_engine.specs.declared.port.Wrote.{Wrote}
 use Rattle.amqp_engine.specs.Log.{on_last}
-use Rattle.amqp_engine.specs.Engine.{Engine, begin, frames_waiting, fitting_next, commit_one, commit_all, taken_by}
+use Rattle.amqp_engine.specs.Engine.{Engine, begin, fitting_next, commit_one, commit_all, taken_by}
 use Rattle.amqp_engine.specs.Turn.{Turn, asks, answered, read, turn}
 
 pub record Sending : Type 0 where

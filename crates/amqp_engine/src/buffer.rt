@@ -3,7 +3,7 @@
 ghost use Rattle.std.specs.Prelude.{◌≡◌, ◌≤◌, ◌++◌, [], length, drop, IfOk, OnOk, OnErr};
 
 use amqp_frame::{Room, View};
-use amqp_session::CAPACITY;
+use amqp_session::INITIAL_CAPACITY;
 use amqp_types::NoMemory;
 use std::alloc::{AllocError, Global};
 use std::marker::Model;
@@ -21,13 +21,13 @@ pub struct Buffer {
 
 impl Model for Buffer {
     ghost use Rattle.std.specs.Prelude.{ℕ, List, ◌≤◌, ◌*◌, drop, vec_len, vec_capacity};
-    ghost use Rattle.amqp_session.specs.declared.session.TheConstants.{CAPACITY};
+    ghost use Rattle.amqp_session.specs.declared.capacity.TheConstants.{INITIAL_CAPACITY};
 
     ghost Value = { List ℕ };
 
     ghost view = { λ b. drop b.start b.bytes.items };
 
-    ghost invariant = { λ b. (2 * b.start ≤ vec_len b.bytes) × (2 * CAPACITY ≤ vec_capacity b.bytes) };
+    ghost invariant = { λ b. (2 * b.start ≤ vec_len b.bytes) × (2 * INITIAL_CAPACITY ≤ vec_capacity b.bytes) };
 }
 
 impl Buffer {
@@ -36,7 +36,7 @@ impl Buffer {
         ensures { IfOk result (λ b. b ≡ []) }
     {
         Ok(Buffer {
-            bytes: Vec::with_capacity(alloc, 2 * CAPACITY as usize)?,
+            bytes: Vec::with_capacity(alloc, 2 * INITIAL_CAPACITY as usize)?,
             start: 0,
         })
     }
@@ -97,14 +97,14 @@ impl View for Buffer {
 
 impl Room for Buffer {
     ghost use Rattle.std.specs.Prelude.{◌-◌, length};
-    ghost use Rattle.amqp_session.specs.declared.session.TheConstants.{CAPACITY};
+    ghost use Rattle.amqp_session.specs.declared.capacity.TheConstants.{INITIAL_CAPACITY};
 
     ghost put_so_far = { λ b. b };
 
-    ghost free = { λ b. CAPACITY - length b };
+    ghost free = { λ b. INITIAL_CAPACITY - length b };
 
     fn space(&self) -> usize {
-        (CAPACITY as usize).saturating_sub(self.as_slice().len())
+        (INITIAL_CAPACITY as usize).saturating_sub(self.as_slice().len())
     }
 
     fn put(&mut self, bytes: &[u8]) {

@@ -24,6 +24,3 @@ pub use laws::{
 };
 pub use memory_port::MemoryPort;
 pub use port::{Happening, Port, ScriptedPort, Step, Told, Write, Wrote};
-
-#[cfg(test)]
-mod tests;

@@ -10,7 +10,8 @@ mod writing;
 ghost use Rattle.std.specs.Prelude.{◌≡◌, ◌≤◌, not, ◌<◌, Option, Some, true, false, IfOk, IfErr, IsOk, OnOk, OnErr, MatchResult, IsSome, IsTrue, option_map, length};
 ghost use Rattle.amqp_session.specs.Talk.{start, is_open, has_ended};
 ghost use Rattle.amqp_session.specs.Commands.{command as command_rule};
-ghost use Rattle.amqp_session.specs.Channels.{frames_of};
+ghost use Rattle.amqp_session.specs.Changes.{next_promise};
+ghost use Rattle.amqp_session.specs.ChannelMethods.{frames_of};
 ghost use Rattle.amqp_session.specs.Answers.{Takes, take_frames};
 ghost use Rattle.amqp_engine.specs.Engine.{Engine, begin, with_talk, starve_at};
 ghost use Rattle.amqp_engine.specs.Turn.{asks};
@@ -39,6 +40,7 @@ impl Model for Wire {
     ghost use Rattle.std.specs.Prelude.{◌≡◌, IsTrue, length};
     ghost use Rattle.amqp_session.specs.Talk.{is_open};
     ghost use Rattle.amqp_session.specs.Writing.{left_in};
+    ghost use Rattle.amqp_session.specs.declared.capacity.TheConstants.{INITIAL_CAPACITY};
     ghost use Rattle.amqp_engine.specs.Engine.{Engine};
 
     ghost Value = { Engine };
@@ -56,8 +58,10 @@ impl Model for Wire {
       starved = w.starved;
     } };
 
-    // While the link is open, the session counts the bytes that are unsent.
-    ghost invariant = { λ w. IsTrue (is_open w.session) → length w.unsent ≡ left_in w.session.committed };
+    // While the link is open, the session counts the bytes that are unsent. Its capacity is that of
+    // the buffers.
+    ghost invariant = { λ w. (IsTrue (is_open w.session) → length w.unsent ≡ left_in w.session.committed)
+        × (w.session.capacity ≡ INITIAL_CAPACITY) };
 }
 
 impl Wire {
@@ -93,7 +97,7 @@ impl Wire {
 
     pub fn command(&mut self, command: Cmd) -> amqp_session::Result<Option<u64>>
         ensures ok { OnOk result (self.new ≡ with_talk (command_rule command) self.old) }
-        ensures number { IfOk result (λ number. number ≡ Some (length self.old.talk.promises)) }
+        ensures number { IfOk result (λ number. number ≡ Some (next_promise self.old.talk)) }
         ensures err { OnErr result (self.new ≡ self.old) }
         ensures only { IfErr result (λ e. e ≡ ErrorKind.NoMemory) }
     {

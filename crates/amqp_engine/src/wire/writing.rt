@@ -13,7 +13,7 @@ ghost use Rattle.amqp_engine.specs.Causes.{has_failed};
 use super::Wire;
 use crate::port::{Port, Wrote};
 use amqp_frame::write_frame;
-use amqp_session::{CAPACITY, IoFault};
+use amqp_session::IoFault;
 use amqp_types::NoMemory;
 
 /// What came of an offer.
@@ -117,7 +117,7 @@ impl Wire {
         ensures some { result ≡ is_some (fitting_next self.old) }
         ensures commit { self.new ≡ commit_one self.old }
     {
-        let space = CAPACITY - self.session.unsent();
+        let space = self.session.capacity() - self.session.unsent();
         match self.session.next_frame(space) {
             Some(frame) => {
                 // There is room for it.

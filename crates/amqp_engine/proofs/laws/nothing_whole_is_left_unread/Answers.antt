@@ -7,4 +7,4 @@ pub returns-clause-turn : goal.returns-clause-turn
 returns-clause-turn c = λ u e h may. turn-read u e may h
 
 pub returns-clause-begin : goal.returns-clause-begin
-returns-clause-begin c t opened = front-none (frame_limit t.configuration)
+returns-clause-begin c t opened = front-none (frame_limit t)

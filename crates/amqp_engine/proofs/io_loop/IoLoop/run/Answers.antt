@@ -5,7 +5,7 @@ use Rattle.amqp_session.specs.Talk.{end_of, has_ended}
 use Rattle.amqp_engine.specs.Engine.{Engine}
 use Rattle.amqp_session.specs.Answers.{HandsOut}
 use Rattle.amqp_engine.proofs.Playing.{runs-played}
-use Rattle.amqp_engine.proofs.TurnEnds.{runs-bring}
+use Rattle.amqp_engine.proofs.TurnEnds.{runs-bring, not-turns}
 use Rattle.amqp_engine.proofs.io_loop.IoLoop.run.Goals as goal
 use Rattle.amqp_engine.proofs.io_loop.IoLoop.run.Goals.{in-Some, in-None}
 
@@ -36,7 +36,7 @@ returns-clause-only_out_of_turns g c running is =
     let t = c.session.result.now in
     let here : t ≡ c.take_turns.new.self.talk = c.session.ensures ∙ ap (λ (x : Engine). x.talk) c.self.view_is in
     let never : end_of t ≡ Some (Err OutOfTurns) → ⊥ =
-    λ h. (runs-bring _ _ _ _ _ OutOfTurns c.take_turns.ensures.turns running (ap end_of (sym here) ∙ h)).cause.error_read in
+    λ h. not-turns _ _ (runs-bring _ _ _ _ _ OutOfTurns c.take_turns.ensures.turns running (ap end_of (sym here) ∙ h)).cause.error_read in
     elim c.match-end.branch [
       | in-Some w ↦ absurd (otherwise (end_of t) c.end.result c.match-end.result c.end.ensures (w.in-Some.is ∙ ap Some (sym w.result-is)) never is)
       | in-None w ↦

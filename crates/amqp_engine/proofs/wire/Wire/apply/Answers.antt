@@ -8,7 +8,8 @@ use Rattle.amqp_engine.specs.Turn.{starved_after}
 use Rattle.amqp_engine.proofs.Applying.{starve_at-twice, read-is, read-none, applies-of, none-failed, applies-over, refused-over, step-starved}
 use Rattle.amqp_engine.proofs.Over.{starve-over}
 use Rattle.amqp_engine.proofs.Telling.{tells-none}
-use Rattle.amqp_engine.proofs.Cases.{if_case, if-false, is_before-cut}
+use Rattle.amqp_session.proofs.Cases.{if_case, if-false}
+use Rattle.amqp_engine.proofs.Cases.{is_before-cut}
 use Rattle.amqp_engine.proofs.wire.Wire.apply.Goals as goal
 
 pub returns-in_err-take_step-clause-turn : goal.returns-in_err-take_step-clause-turn

@@ -1,5 +1,6 @@
 use Rattle.std.proofs.Common.{◌≡◌, ◌∙◌, None, ap, sym}
-use Rattle.amqp_engine.specs.Engine.{frames_waiting, fitting_next, committed_as}
+use Rattle.amqp_engine.specs.Engine.{fitting_next, committed_as}
+use Rattle.amqp_session.specs.Writing.{frames_waiting}
 use Rattle.amqp_engine.proofs.Cases.{none-from}
 use Rattle.amqp_engine.proofs.Commits.{commits-rest}
 use Rattle.amqp_engine.proofs.wire.Wire.commit_all.Goals as goal

@@ -1,6 +1,7 @@
 use Rattle.std.proofs.Common.{◌≡◌, ◌∙◌, true, length, ap, sym, refl, arith}
 use Rattle.amqp_session.specs.Talk.{is_open}
-use Rattle.amqp_engine.specs.Engine.{Engine, frames_waiting, commit_all}
+use Rattle.amqp_engine.specs.Engine.{Engine, commit_all}
+use Rattle.amqp_session.specs.Writing.{frames_waiting}
 use Rattle.amqp_engine.proofs.Cases.{none-unsent}
 use Rattle.amqp_engine.proofs.Commits.{commits-none, commits-keep}
 use Rattle.amqp_engine.proofs.wire.Wire.offer.Goals as goal

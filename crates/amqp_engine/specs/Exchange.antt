@@ -1,0 +1,97 @@
+-- What was heard and said on each link, in order, and what was handed out: a fourth fold over turns. In a turn what is heard comes before what is said.
+use Rattle.std.specs.Prelude.{ℕ, zero, suc, ◌-◌, ◌&&◌, if◌then◌else◌, List, [], ◌∷◌, ◌++◌, length, drop, map, slice_get, Option, Some, None}
+use Rattle.amqp_frame.specs.declared.frame.Frame.{Frame}
+use Rattle.amqp_frame.specs.declared.frame.Frame.TheVariants.{Raw}
+use Rattle.amqp_frame.specs.declared.frame.Read.{Read}
+use Rattle.amqp_frame.specs.declared.frame.Read.TheVariants.{Whole}
+use Rattle.amqp_session.specs.declared.channels.Channel.{Channel}
+use Rattle.amqp_session.specs.declared.handed.Handed.{Handed}
+use Rattle.amqp_session.specs.declared.lanes.Item.{Item}
+use Rattle.amqp_session.specs.Talk.{Talk, start, acts, is_asked}
+use Rattle.amqp_session.specs.Channels.{channel_at}
+use Rattle.amqp_session.specs.ChannelMethods.{heard_on}
+use Rattle.amqp_engine.specs.declared.port.Step.{Step}
+use Rattle.amqp_engine.specs.declared.port.Step.TheVariants.{Linked}
+use Rattle.amqp_engine.specs.Log.{on_last}
+use Rattle.amqp_engine.specs.Engine.{Engine, begin, front_of, can_read}
+use Rattle.amqp_engine.specs.Turn.{Turn, Progress, asks, begun, step_part, goes, read_part, is_piece, turn}
+use Rattle.amqp_engine.specs.Sending.{Sending, nothing_sent, items_sent, step_sending, turn_sending}
+
+-- ---- what is handed out
+
+-- a frame, with the promise that opened its channel
+pub record HandedOut : Type 0 where
+  pub opened : ℕ
+  pub frame : Handed
+
+abbrev pub handed_of : Option Channel → Handed → List HandedOut
+handed_of None h = []
+handed_of (Some c) h = record { opened = c.opened; frame = h } ∷ []
+
+-- what a frame that is read hands out
+abbrev pub hands_out : Frame → Talk → List HandedOut
+hands_out (Raw (suc n) kind bytes) t =
+    if acts t
+    then handed_of (heard_on t.state (channel_at (suc n) t)) (record { channel = suc n; kind = kind; bytes = bytes })
+    else []
+hands_out _ t = []
+
+-- ---- what is heard, and what is said
+
+pub data Event : Type 0 where
+  -- a frame was read, and this was handed out
+  Heard : Frame → List HandedOut → Event
+  -- a frame was sent whole
+  Said : Item → Event
+
+abbrev pub heard_in : Read → Talk → List Event
+heard_in (Whole f n) t = Heard f (hands_out f t) ∷ []
+heard_in _ t = []
+
+-- the frames that are read, of at most so many
+abbrev pub heard_by : ℕ → Progress → List Event
+heard_by zero p = []
+heard_by (suc most) p =
+    if goes p && can_read p.engine
+    then heard_in (front_of p.engine) p.engine.talk ++ heard_by most (read_part p)
+    else []
+
+-- the frames that a turn reads
+abbrev pub heard_of : Turn → Engine → List Event
+heard_of u e =
+    let p = step_part u.step u.bytes (begun u.at u.notes.starved e) in
+    if is_piece u.step then heard_by (length p.engine.unread) p else []
+
+abbrev pub sending_or : Option Sending → Sending
+sending_or None = nothing_sent
+sending_or (Some s) = s
+
+-- what was sent on the last link
+abbrev pub last_sending : List Sending → Sending
+last_sending ss = sending_or (slice_get ss (length ss - 1))
+
+-- the frames that a turn sends whole
+abbrev pub said_of : Turn → Engine → List Sending → List Event
+said_of u e ss =
+    let before = last_sending (step_sending u.step (asks e) ss) in
+    let after = last_sending (turn_sending u e ss) in
+    map Said (drop before.sent (items_sent after))
+
+-- ---- the fold
+
+-- on a link that was asked for nothing was heard yet
+abbrev pub step_exchange : Step → Engine → List (List Event) → List (List Event)
+step_exchange Linked e xs = if is_asked e.talk then xs ++ [] ∷ [] else xs
+step_exchange _ e xs = xs
+
+abbrev pub turn_exchange : Turn → Engine → List Sending → List (List Event) → List (List Event)
+turn_exchange u e ss xs =
+    on_last (λ events. events ++ heard_of u (asks e) ++ said_of u e ss) (step_exchange u.step (asks e) xs)
+
+abbrev pub exchange_from : List Turn → Engine → List Sending → List (List Event) → List (List Event)
+exchange_from [] e ss xs = xs
+exchange_from (u ∷ us) e ss xs = exchange_from us (turn u e) (turn_sending u e ss) (turn_exchange u e ss xs)
+
+-- what these turns of a new engine heard and said, link by link
+abbrev pub exchange : List Turn → List (List Event)
+exchange us = exchange_from us (begin start) [] []
