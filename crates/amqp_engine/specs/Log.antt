@@ -26,7 +26,8 @@ pub record Log : Type 0 where
 
 -- a script is loaded: there is no link, and nothing was told
 abbrev pub loaded : List Given → Log
-loaded gs = record { steps = []; told = 0; moment = 0; writes = []; links = []; asked = false; plan = Some (plan_of gs) }
+loaded gs =
+    record { steps = []; told = 0; moment = 0; writes = []; links = []; asked = false; plan = Some (plan_of gs) }
 
 -- a link is asked for
 abbrev pub log_ask : Log → Log
@@ -95,7 +96,8 @@ last_set (Some x) f xs = slice_set xs (length xs - 1) (f x)
 abbrev pub on_last : {A : Type 0} → (A → A) → List A → List A
 on_last f xs = last_set (slice_get xs (length xs - 1)) f xs
 
--- the first so many of the bytes offered are taken on the last link, or none where the write failed; a write that found no memory is not told
+-- the first so many of the bytes offered are taken on the last link, or none where the write failed; a write that
+-- found no memory is not told
 abbrev pub log_write : List ℕ → Wrote → Log → Log
 log_write bytes (Took k) a =
     record a {
