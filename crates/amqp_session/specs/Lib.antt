@@ -25,6 +25,10 @@ pub mod Queries
 pub mod Causes
 pub mod Sound
 pub mod Laws
+-- Legal conversations, by a grammar, and decided frame by frame.
+pub mod Octets
+pub mod Legal
+pub mod Decider
 -- What the contracts of private calls are stated with.
 pub mod Parts
 pub mod NumberSet

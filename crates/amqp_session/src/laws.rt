@@ -1,6 +1,7 @@
 //! What the rules keep.
 
-ghost use Rattle.std.specs.Prelude.{◌≡◌, ◌≢◌, ◌≤◌, ℕ, ◌+◌, length, Some, None, IsTrue};
+ghost use Rattle.std.specs.Prelude.{◌≡◌, ◌≢◌, ◌≤◌, ℕ, ◌+◌, true, List, length, Some, None, IsTrue};
+ghost use Rattle.amqp_frame.specs.declared.frame.Frame.{Frame};
 ghost use Rattle.amqp_frame.specs.Frames.{encoding};
 ghost use Rattle.amqp_session.specs.declared.lanes.Item.{Item};
 ghost use Rattle.amqp_session.specs.declared.command.Cmd.{Cmd};
@@ -15,6 +16,8 @@ ghost use Rattle.amqp_session.specs.Writing.{next_within, commit, taken, unsent}
 ghost use Rattle.amqp_session.specs.Answers.{answer_of, take_answer};
 ghost use Rattle.amqp_session.specs.Sound.{IsSound};
 ghost use Rattle.amqp_session.specs.Laws.{IsEnded, IsOver, StaysSound, IsRefused, IsAnsweredAtOnce, IsRefusal};
+ghost use Rattle.amqp_session.specs.Legal.{Legal};
+ghost use Rattle.amqp_session.specs.Decider.{is_legal};
 
 /// Negotiation leaves a channel to open, and frames of at least 4,096 octets.
 pub fn negotiation_leaves_room()
@@ -55,4 +58,10 @@ pub fn unsent_bytes_are_counted()
         → unsent (commit space t) ≡ unsent t + length (encoding item.frame) }
     ensures taken { (n : ℕ) (t : Talk) → IsTrue (is_open (taken n t)) → n ≤ unsent t
         → unsent (taken n t) + n ≡ unsent t }
+{}
+
+/// A decider takes the legal conversations, and no others.
+pub fn the_decider_takes_legal_conversations()
+    ensures sound { (frames : List Frame) → is_legal frames ≡ true → Legal frames }
+    ensures complete { (frames : List Frame) → Legal frames → is_legal frames ≡ true }
 {}

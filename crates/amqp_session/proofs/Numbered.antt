@@ -1,0 +1,56 @@
+-- Maps from numbers: what they have at one, once another was put or taken away.
+use Rattle.std.proofs.Common.{◌≡◌, ◌≢◌, ◌<◌, ◌∙◌, ap, sym, refl, subst, ℕ, false, cond, List, [], ◌∷◌, Some}
+use Rattle.std.specs.declared.cmp.Ordering.{Ordering}
+use Rattle.std.specs.declared.cmp.Ordering.TheVariants.{Less, Equal, Greater}
+use Rattle.std.specs.Ordering.{nat_cmp, is_eq, match_ordering, MatchOrdering}
+use Rattle.std.specs.Cmp.{ranks, nat_cmp_is}
+use Rattle.amqp_session.specs.Listed.{at, put, without}
+
+means : (x y : ℕ) (o : Ordering) → nat_cmp x y ≡ o → MatchOrdering o (x < y) (x ≡ y) (y < x)
+means x y o h =
+    let Q : Ordering → Type 0 = λ r. MatchOrdering r (x < y) (x ≡ y) (y < x) in subst Q h (ranks x y)
+
+itself : (n : ℕ) → nat_cmp n n ≡ Equal
+itself n = sym (nat_cmp_is n n Equal refl)
+
+other : (o : Ordering) (m n : ℕ) → nat_cmp m n ≡ o → m ≢ n → is_eq o ≡ false
+other Less m n h ne = refl
+other Equal m n h ne = absurd (ne (means m n Equal h))
+other Greater m n h ne = refl
+
+module _ {X : Type 0} where
+  pub put-same-by : (o : Ordering) (n : ℕ) (x : X) (e : ℕ × X) (es : List (ℕ × X)) → nat_cmp n e.0 ≡ o → at n (put n x es) ≡ Some x
+      → at n (match_ordering o ((n, x) ∷ e ∷ es) ((e.0, x) ∷ es) (e ∷ put n x es)) ≡ Some x
+  put-same-by Less n x e es h rest = ap (λ o. cond (is_eq o) (Some x) (at n (e ∷ es))) (itself n)
+  put-same-by Equal n x e es h rest = ap (λ o. cond (is_eq o) (Some x) (at n es)) h
+  put-same-by Greater n x e es h rest = ap (λ o. cond (is_eq o) (Some e.1) (at n (put n x es))) h ∙ rest
+
+  pub put-same : (n : ℕ) (x : X) (es : List (ℕ × X)) → at n (put n x es) ≡ Some x
+  put-same n x [] = ap (λ o. cond (is_eq o) (Some x) (at n [])) (itself n)
+  put-same n x (e ∷ es) = put-same-by (nat_cmp n e.0) n x e es refl (put-same n x es)
+
+  pub put-other-by : (o : Ordering) (m n : ℕ) (x : X) (e : ℕ × X) (es : List (ℕ × X)) → m ≢ n → nat_cmp n e.0 ≡ o → at m (put n x es) ≡ at m es
+      → at m (match_ordering o ((n, x) ∷ e ∷ es) ((e.0, x) ∷ es) (e ∷ put n x es)) ≡ at m (e ∷ es)
+  put-other-by Less m n x e es ne h rest = ap (λ b. cond b (Some x) (at m (e ∷ es))) (other (nat_cmp m n) m n refl ne)
+  put-other-by Equal m n x e es ne h rest =
+      let is : n ≡ e.0 = means n e.0 Equal h in
+      let differs : m ≢ e.0 = λ k. ne (k ∙ sym is) in
+      let no : is_eq (nat_cmp m e.0) ≡ false = other (nat_cmp m e.0) m e.0 refl differs in
+      ap (λ b. cond b (Some x) (at m es)) no ∙ sym (ap (λ b. cond b (Some e.1) (at m es)) no)
+  put-other-by Greater m n x e es ne h rest = ap (λ o. cond (is_eq (nat_cmp m e.0)) (Some e.1) o) rest
+
+  pub put-other : (m n : ℕ) (x : X) (es : List (ℕ × X)) → m ≢ n → at m (put n x es) ≡ at m es
+  put-other m n x [] ne = ap (λ b. cond b (Some x) (at m [])) (other (nat_cmp m n) m n refl ne)
+  put-other m n x (e ∷ es) ne = put-other-by (nat_cmp n e.0) m n x e es ne refl (put-other m n x es ne)
+
+  without-other-by : (o : Ordering) (m n : ℕ) (e : ℕ × X) (es : List (ℕ × X)) → m ≢ n → nat_cmp n e.0 ≡ o → at m (without n es) ≡ at m es
+      → at m (cond (is_eq o) es (e ∷ without n es)) ≡ at m (e ∷ es)
+  without-other-by Less m n e es ne h rest = ap (λ o. cond (is_eq (nat_cmp m e.0)) (Some e.1) o) rest
+  without-other-by Equal m n e es ne h rest =
+      let differs : m ≢ e.0 = λ k. ne (k ∙ sym (means n e.0 Equal h)) in
+      sym (ap (λ b. cond b (Some e.1) (at m es)) (other (nat_cmp m e.0) m e.0 refl differs))
+  without-other-by Greater m n e es ne h rest = ap (λ o. cond (is_eq (nat_cmp m e.0)) (Some e.1) o) rest
+
+  pub without-other : (m n : ℕ) (es : List (ℕ × X)) → m ≢ n → at m (without n es) ≡ at m es
+  without-other m n [] ne = refl
+  without-other m n (e ∷ es) ne = without-other-by (nat_cmp n e.0) m n e es ne refl (without-other m n es ne)
