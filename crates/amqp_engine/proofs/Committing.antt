@@ -187,8 +187,11 @@ module _ (T : Cmd → Type 0) (L : List Frame → Type 0) (I : Talk → Type 0) 
   kept-rule : (b : Bool) (f : Talk → Talk) (t : Talk) (ss : List Sending) → Keeps I P f → Opens f → Kept b t ss → Kept b (f t) ss
   kept-rule b f t ss keeps opens h =
       record {
-        all = h.all; committed = h.committed; now = keeps t h.committed h.now;
-        last = λ opened. h.last (opens t opened); some = λ opened. h.some (opens t opened);
+        all = h.all;
+        committed = h.committed;
+        now = keeps t h.committed h.now;
+        last = λ opened. h.last (opens t opened);
+        some = λ opened. h.some (opens t opened);
       }
 
   -- a session that has ended
@@ -209,8 +212,11 @@ module _ (T : Cmd → Type 0) (L : List Frame → Type 0) (I : Talk → Type 0) 
   kept-frame f place (g ∷ fs) t ss h is opened =
       let Q : List Frame → Type 0 = λ x. At I P t x in
       record {
-        all = h.all; committed = g ∷ fs; now = k.frame f place t g fs (subst Q is h.now);
-        last = λ still. let l = h.last (opens-frame f place t still) in (l.0, l.1, l.2, l.3 ∙ is); some = λ still none. cc;
+        all = h.all;
+        committed = g ∷ fs;
+        now = k.frame f place t g fs (subst Q is h.now);
+        last = λ still. let l = h.last (opens-frame f place t still) in (l.0, l.1, l.2, l.3 ∙ is);
+        some = λ still none. cc;
       }
 
   kept-settle : (b : Bool) (e : Engine) (ss : List Sending) → Kept b e.talk ss → Kept b (settle e).talk ss
@@ -260,11 +266,16 @@ module _ (T : Cmd → Type 0) (L : List Frame → Type 0) (I : Talk → Type 0) 
       let ss' = ss ++ nothing_sent ∷ [] in
       let Q : Engine → Type 0 = λ z. Stepped z ss' in
       subst Q (sym is)
-      (inr (record { opened = opened; control = control; unsent = refl; room = room },
-      record {
-        all = all-push Holds ss nothing_sent kept.all k.none; committed = []; now = ((λ o. said), (λ w. absurd (open-wanted y.link opened w)));
-        last = λ o. (ss, nothing_sent, refl, refl); some = λ o. tt;
-      }))
+      (inr (
+        record { opened = opened; control = control; unsent = refl; room = room },
+        record {
+          all = all-push Holds ss nothing_sent kept.all k.none;
+          committed = [];
+          now = ((λ o. said), (λ w. absurd (open-wanted y.link opened w)));
+          last = λ o. (ss, nothing_sent, refl, refl);
+          some = λ o. tt;
+        },
+      ))
   kept-linked false at e ss h kept =
       let x : Engine = record { talk = linked (present_at at e.talk); unread = []; place = 0; unsent = []; starved = e.starved } in
       let is : step_linked at e ≡ rule_at at (λ t. t) e = if-false (is_asked e.talk) x (rule_at at (λ t. t) e) h in

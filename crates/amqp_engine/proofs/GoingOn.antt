@@ -77,7 +77,10 @@ runs-on allowed e e' log log' ss r h =
     let Q : Engine → Type 0 = λ x. HasSent x now in
     let sent : HasSent e' now = subst Q r.leads.leaves (turns-sent r.us e ss r.leads.may r.told h) in
     record {
-      now = now; sent = sent; order = (sends-said e' now sent).all; legal = sent_legal e' now sent;
+      now = now;
+      sent = sent;
+      order = (sends-said e' now sent).all;
+      legal = sent_legal e' now sent;
       tells = tells-on log log' r.us e e' ss r.tells.told r.leads.may r.leads.leaves (sends-said e ss h);
     }
 

@@ -114,8 +114,8 @@ pub sent_legal : (e : Engine) (ss : List Sending) → HasSent e ss → AllByRecu
 sent_legal e ss h =
     all-map (λ (s : Sending). Taken (frames s.committed)) (λ (s : Sending). Legal (frames_sent s)) ss
     (λ s k.
-        let Q : List Frame → Type 0 = λ fs. Taken fs in
-        sound (frames_sent s) (subst Q (sym (take-map (λ (item : Item). item.frame) s.sent s.committed)) (fronts s.sent (frames s.committed) k)))
+    let Q : List Frame → Type 0 = λ fs. Taken fs in
+    sound (frames_sent s) (subst Q (sym (take-map (λ (item : Item). item.frame) s.sent s.committed)) (fronts s.sent (frames s.committed) k)))
     (saying e ss h).all
 
 -- ---- turns
