@@ -21,6 +21,7 @@ use Rattle.amqp_engine.specs.declared.port.Wrote.{Wrote}
 use Rattle.amqp_engine.specs.declared.port.Wrote.TheVariants.{Took, Failed, NoMemory}
 use Rattle.amqp_engine.specs.Plan.{at_most_64}
 
+-- the state of the engine
 pub record Engine : Type 0 where
   -- the state of the session
   pub talk : Talk
@@ -45,7 +46,8 @@ with_talk f e = record e { talk = f e.talk }
 abbrev pub rule_at : ℕ → (Talk → Talk) → Engine → Engine
 rule_at at f e = with_talk (λ t. f (present_at at t)) e
 
--- where the link is not open, nothing is left of what was received on it or is unsent; and where its input is dropped, nothing is unread
+-- where the link is not open, nothing is left of what was received on it or is unsent; and where its input is dropped,
+-- nothing is unread
 abbrev pub settle : Engine → Engine
 settle e =
     if is_open e.talk
@@ -85,6 +87,7 @@ step_engine at (Command c) bytes e = rule_at at (command c) e
 abbrev pub front_of : Engine → Read
 front_of e = front e.unread (frame_limit e.talk)
 
+-- what was received is not yet a whole frame
 abbrev pub is_more : Read → Bool
 is_more reading.More = true
 is_more _ = false
@@ -110,6 +113,7 @@ read_row at (reading.BadHeartbeat channel) e = read_badly at (BadHeartbeat chann
 read_row at reading.More e = e
 read_row at _ e = read_badly at (Bad e.place) e
 
+-- what stands at the front of the unread bytes is read
 abbrev pub read_one : ℕ → Engine → Engine
 read_one at e = read_row at (front_of e) e
 
@@ -119,6 +123,7 @@ read_one at e = read_row at (front_of e) e
 abbrev pub fitting_next : Engine → Option Item
 fitting_next e = next_within (e.talk.capacity - length e.unsent) e.talk
 
+-- the frame that is to go out, where there is one, is committed, and its bytes are unsent
 abbrev pub committed_as : Option Item → Engine → Engine
 committed_as None e = e
 committed_as (Some item) e =
@@ -128,6 +133,7 @@ committed_as (Some item) e =
 abbrev pub commit_one : Engine → Engine
 commit_one e = committed_as (fitting_next e) e
 
+-- frames are committed while there is one that fits, and at most so many
 abbrev pub commits : ℕ → Engine → Engine
 commits zero e = e
 commits (suc n) e = commits n (commit_one e)
@@ -160,4 +166,5 @@ wrote at NoMemory e = took at 0 e
 
 -- memory was refused when so many parts of the turn were done, and the session ends
 abbrev pub starve_at : ℕ → ℕ → Engine → Engine
-starve_at at j e = record e { talk = starve (present_at at e.talk); unread = []; place = 0; unsent = []; starved = Some j }
+starve_at at j e =
+    record e { talk = starve (present_at at e.talk); unread = []; place = 0; unsent = []; starved = Some j }

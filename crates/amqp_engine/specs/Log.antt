@@ -9,6 +9,7 @@ use Rattle.amqp_engine.specs.declared.port.Write.{Write}
 use Rattle.amqp_engine.specs.declared.given.Given.{Given}
 use Rattle.amqp_engine.specs.Plan.{Plan, at_most_64, plan_of, plan_step, plan_write, plan_failure, next_coming, PlanAnswers}
 
+-- what a port tells of itself
 pub record Log : Type 0 where
   -- the steps that were told, in order, but for ticks that tell no new moment
   pub steps : List Happening
@@ -26,7 +27,8 @@ pub record Log : Type 0 where
 
 -- a script is loaded: there is no link, and nothing was told
 abbrev pub loaded : List Given → Log
-loaded gs = record { steps = []; told = 0; moment = 0; writes = []; links = []; asked = false; plan = Some (plan_of gs) }
+loaded gs =
+    record { steps = []; told = 0; moment = 0; writes = []; links = []; asked = false; plan = Some (plan_of gs) }
 
 -- a link is asked for
 abbrev pub log_ask : Log → Log
@@ -34,6 +36,7 @@ log_ask a = record a { asked = true }
 
 -- ---- a step
 
+-- how many bytes a step brings
 abbrev pub piece_len : Step → ℕ
 piece_len (Piece n) = n
 piece_len _ = 0
@@ -52,6 +55,7 @@ abbrev pub links_after : Step → Bool → List (List ℕ) → List (List ℕ)
 links_after Linked asked links = if asked then links ++ [] ∷ [] else links
 links_after _ asked links = links
 
+-- whether a link is asked for after a step
 abbrev pub asked_after : Step → Bool → Bool
 asked_after Linked asked = false
 asked_after LinkFailed asked = false
@@ -83,10 +87,12 @@ PlansStep at step bytes a = IfSome a.plan (λ p. next_coming p ≡ record { at =
 
 -- ---- a write
 
+-- a write takes at most what was offered
 abbrev pub IsWithin : ℕ → Wrote → Type 0
 IsWithin offered (Took k) = k ≤ offered
 IsWithin offered _ = Unit {0}
 
+-- the last of a list, which is this one, is changed, where there is one
 abbrev pub last_set : {A : Type 0} → Option A → (A → A) → List A → List A
 last_set None f xs = xs
 last_set (Some x) f xs = slice_set xs (length xs - 1) (f x)
@@ -95,7 +101,8 @@ last_set (Some x) f xs = slice_set xs (length xs - 1) (f x)
 abbrev pub on_last : {A : Type 0} → (A → A) → List A → List A
 on_last f xs = last_set (slice_get xs (length xs - 1)) f xs
 
--- the first so many of the bytes offered are taken on the last link, or none where the write failed; a write that found no memory is not told
+-- the first so many of the bytes offered are taken on the last link, or none where the write failed; a write that found
+-- no memory is not told
 abbrev pub log_write : List ℕ → Wrote → Log → Log
 log_write bytes (Took k) a =
     record a {

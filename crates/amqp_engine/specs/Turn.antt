@@ -1,4 +1,5 @@
--- A turn: one step that was taken, with all that follows it. The engine is a fold of its turns, whatever its port tells.
+-- A turn: one step that was taken, with all that follows it. The engine is a fold of its turns, whatever its port
+-- tells.
 use Rattle.std.specs.Prelude.{◌≡◌, ◌≢◌, ◌<◌, ℕ, zero, suc, ◌+◌, ◌^◌, not, ◌&&◌, ◌==◌, if◌then◌else◌, nat_lt, Bool, true, false, IsTrue, IsFalse, MatchBool, List, [], ◌∷◌, length, Option, Some, None}
 use Rattle.amqp_session.specs.Talk.{Talk, start, wants_link, is_asked, is_open, has_ended}
 use Rattle.amqp_session.specs.Links.{asked}
@@ -11,7 +12,8 @@ use Rattle.amqp_engine.specs.declared.port.Wrote.TheVariants.{Took, Failed, NoMe
 use Rattle.amqp_engine.specs.Log.{IsWithin}
 use Rattle.amqp_engine.specs.Engine.{Engine, begin, with_talk, step_engine, read_one, can_read, commit_all, can_write, wrote, starve_at}
 
--- what is noted of a turn: the port's answers to its writes, and where memory was refused how many of its parts were done
+-- what is noted of a turn: the port's answers to its writes, and where memory was refused how many of its parts were
+-- done
 pub record Notes : Type 0 where
   pub answers : List Wrote
   pub starved : Option ℕ
@@ -25,6 +27,7 @@ pub record Turn : Type 0 where
 
 -- ---- before the step
 
+-- a link is wanted, and was not yet asked for
 abbrev pub wants_ask : Engine → Bool
 wants_ask e = wants_link e.talk && not (is_asked e.talk)
 
@@ -41,9 +44,11 @@ pub record Progress : Type 0 where
   pub engine : Engine
   pub done : ℕ
 
+-- a turn at its beginning
 abbrev pub begun : ℕ → Option ℕ → Engine → Progress
 begun at cut e = record { at = at; cut = cut; engine = e; done = 0 }
 
+-- so many parts come before the cut, where there is one
 abbrev pub is_before : Option ℕ → ℕ → Bool
 is_before None n = true
 is_before (Some j) n = nat_lt n j
@@ -56,7 +61,8 @@ goes p = is_before p.cut p.done
 abbrev pub part : Engine → Progress → Progress
 part e p = record p { engine = e; done = p.done + 1 }
 
--- whether a step is a part: the reading of a piece, a link that was asked for or its refusal, the loss of an open link, a command, or the rules of a tick; what changes the present alone is none
+-- whether a step is a part: the reading of a piece, a link that was asked for or its refusal, the loss of an open link,
+-- a command, or the rules of a tick; what changes the present alone is none
 abbrev pub is_part : Step → Engine → Bool
 is_part Linked e = is_asked e.talk
 is_part LinkFailed e = is_asked e.talk
@@ -67,6 +73,7 @@ is_part Room e = false
 is_part Tick e = true
 is_part (Command c) e = true
 
+-- the step is taken, and counted where it is a part
 abbrev pub step_part : Step → List ℕ → Progress → Progress
 step_part step bytes p =
     if is_part step p.engine
@@ -82,6 +89,7 @@ abbrev pub reads : ℕ → Progress → Progress
 reads zero p = p
 reads (suc most) p = if goes p && can_read p.engine then reads most (read_part p) else p
 
+-- a step that brings a piece
 abbrev pub is_piece : Step → Bool
 is_piece (Piece n) = true
 is_piece _ = false
@@ -94,6 +102,7 @@ reading piece p = if piece then reads (length p.engine.unread) p else p
 abbrev pub offered : Engine → List ℕ
 offered e = (commit_all e).unsent
 
+-- frames are committed while they fit, and this answers the offer of their bytes
 abbrev pub answered : ℕ → Wrote → Engine → Engine
 answered at w e = wrote at w (commit_all e)
 
@@ -106,6 +115,7 @@ abbrev pub drain : List Wrote → Progress → Progress
 drain [] p = p
 drain (w ∷ ws) p = drain ws (offer_part w p)
 
+-- all of so many bytes were taken
 abbrev pub is_all : Wrote → ℕ → Bool
 is_all (Took k) n = k == n
 is_all Failed n = false
@@ -116,7 +126,8 @@ abbrev pub CutsAfter : Wrote → Progress → Type 0
 CutsAfter NoMemory p = p.cut ≡ Some (p.done + 1)
 CutsAfter _ p = Unit {0}
 
--- these are the answers to the offers that are due, and to no others: one is due while something is to be written, and all was taken of what was offered before
+-- these are the answers to the offers that are due, and to no others: one is due while something is to be written, and
+-- all was taken of what was offered before
 abbrev pub AreAnswers : List Wrote → Progress → Type 0
 AreAnswers [] p = IsFalse (goes p && can_write p.engine)
 AreAnswers (w ∷ ws) p =
@@ -131,9 +142,11 @@ AreAnswers (w ∷ ws) p =
 abbrev pub read : Turn → Engine → Progress
 read u e = reading (is_piece u.step) (step_part u.step u.bytes (begun u.at u.notes.starved e))
 
+-- a turn up to the end of its writes
 abbrev pub written : Turn → Engine → Progress
 written u e = drain u.notes.answers (read u e)
 
+-- memory was refused after so many parts, where it was
 abbrev pub starved_after : Option ℕ → ℕ → Engine → Engine
 starved_after None at e = e
 starved_after (Some j) at e = starve_at at j e
@@ -144,9 +157,11 @@ applied u e =
     let after = (written u e).engine in
     if has_ended e.talk then after else starved_after u.notes.starved u.at after
 
+-- a turn: a link is asked for where one is wanted, then the step is taken, with all that follows it
 abbrev pub turn : Turn → Engine → Engine
 turn u e = applied u (asks e)
 
+-- turns, one after another
 abbrev pub turns : List Turn → Engine → Engine
 turns [] e = e
 turns (u ∷ us) e = turns us (turn u e)
@@ -157,6 +172,7 @@ talk us = (turns us (begin start)).talk
 
 -- ---- which turns there may be
 
+-- so many parts were done where a turn was cut
 abbrev pub IsCut : Option ℕ → ℕ → Type 0
 IsCut None n = Unit {0}
 IsCut (Some j) n = n ≡ j
@@ -171,6 +187,7 @@ pub record IsTurn (u : Turn) (e : Engine) : Type 0 where
   pub running : has_ended e.talk ≡ false
   pub applied : IsApplied u (asks e)
 
+-- each of these is a turn of the engine that those before it lead to
 abbrev pub AreTurns : List Turn → Engine → Type 0
 AreTurns [] e = Unit {0}
 AreTurns (u ∷ us) e = IsTurn u e × AreTurns us (turn u e)
@@ -178,7 +195,11 @@ AreTurns (u ∷ us) e = IsTurn u e × AreTurns us (turn u e)
 -- the numbers of a command fit their types on the wire, and its lengths those of a machine
 abbrev pub IsToldCommand : Cmd → Type 0
 IsToldCommand (Send channel method) =
-    (method.class ≢ 10) × (method.class ≢ 20) × (method.class < 2 ^ 16) × (method.method < 2 ^ 16) × (length method.arguments < 2 ^ 63)
+    (method.class ≢ 10)
+    × (method.class ≢ 20)
+    × (method.class < 2 ^ 16)
+    × (method.method < 2 ^ 16)
+    × (length method.arguments < 2 ^ 63)
 IsToldCommand _ = Unit {0}
 
 -- a step as it can be told: what it names is what it can carry

@@ -16,8 +16,8 @@ ghost use Rattle.amqp_engine.specs.Unread.{IsRead};
 /// nothing.
 pub fn a_run_without_turns_touches_nothing()
     ensures allowed { (e e' : Engine) (log log' : Option Log) → Runs 0 e e' log log' → (e' ≡ e) × (log' ≡ log) }
-    ensures ended { (allowed : ℕ) (e e' : Engine) (log log' : Option Log) → has_ended e.talk ≡ true → Runs allowed e e' log log'
-        → (e' ≡ e) × (log' ≡ log) }
+    ensures ended { (allowed : ℕ) (e e' : Engine) (log log' : Option Log) → has_ended e.talk ≡ true
+        → Runs allowed e e' log log' → (e' ≡ e) × (log' ≡ log) }
 {}
 
 /// A run that follows one that took all its turns goes on: both together are one run.
