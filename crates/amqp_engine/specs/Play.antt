@@ -14,14 +14,17 @@ use Rattle.amqp_engine.specs.Tell.{turn_of, log_asks, log_stepped, log_turn, log
 
 -- ---- the answers to the writes of a turn
 
+-- the lesser of what is offered and the room, where a script is played
 abbrev pub room_of : Option Plan → ℕ → ℕ
 room_of None n = n
 room_of (Some p) n = room_for p.room n
 
+-- a script is played, and the next write fails
 abbrev pub fails_of : Option Plan → Bool
 fails_of None = false
 fails_of (Some p) = p.fails
 
+-- the answer to what is offered
 abbrev pub played_answer : Engine → Log → Wrote
 played_answer e a = if fails_of a.plan then Failed else Took (room_of a.plan (length (offered e)))
 
@@ -42,10 +45,12 @@ played_answers (suc most) at e a =
 
 -- ---- a turn
 
+-- the next step of the script that is played
 abbrev pub played_step : Option Plan → Coming
 played_step None = record { at = 0; step = Tick; bytes = [] }
 played_step (Some p) = next_coming p
 
+-- nothing is noted of a turn
 abbrev pub no_notes : Notes
 no_notes = record { answers = []; starved = None }
 
@@ -53,11 +58,13 @@ no_notes = record { answers = []; starved = None }
 abbrev pub told_turn : Coming → Turn
 told_turn h = turn_of h.at h.step h.bytes no_notes
 
+-- what is noted of a turn: the answers to its writes
 abbrev pub played_notes : Turn → Engine → Log → Notes
 played_notes u e a =
     let before = (read u (asks e)).engine in
     record { answers = played_answers (waiting before) u.at before (log_stepped u e a); starved = None }
 
+-- the turn of a step that comes, with the answers to its writes
 abbrev pub played_turn_of : Coming → Engine → Log → Turn
 played_turn_of h e a = turn_of h.at h.step h.bytes (played_notes (told_turn h) e a)
 

@@ -14,6 +14,7 @@ use Rattle.amqp_engine.specs.Log.{on_last}
 use Rattle.amqp_engine.specs.Engine.{Engine, begin, fitting_next, commit_one, commit_all, taken_by}
 use Rattle.amqp_engine.specs.Turn.{Turn, asks, answered, read, turn}
 
+-- what was committed on a link, and how far it was sent
 pub record Sending : Type 0 where
   -- what was committed on the link, in order: frames, and what follows once they were sent
   pub committed : List Item
@@ -22,6 +23,7 @@ pub record Sending : Type 0 where
   -- how many of their bytes were taken
   pub taken : ℕ
 
+-- nothing was committed on a link
 abbrev pub nothing_sent : Sending
 nothing_sent = record { committed = []; sent = 0; taken = 0 }
 
@@ -70,6 +72,7 @@ offer_sending w e s =
       taken = s.taken + taken_by w;
     }
 
+-- offers are made and answered
 abbrev pub offers_sending : ℕ → List Wrote → Engine → List Sending → List Sending
 offers_sending at [] e ss = ss
 offers_sending at (w ∷ ws) e ss = offers_sending at ws (answered at w e) (on_last (offer_sending w e) ss)
@@ -79,9 +82,11 @@ abbrev pub step_sending : Step → Engine → List Sending → List Sending
 step_sending Linked e ss = if is_asked e.talk then ss ++ nothing_sent ∷ [] else ss
 step_sending _ e ss = ss
 
+-- what was sent, link by link, after one turn more
 abbrev pub turn_sending : Turn → Engine → List Sending → List Sending
 turn_sending u e ss = offers_sending u.at u.notes.answers (read u (asks e)).engine (step_sending u.step (asks e) ss)
 
+-- what was sent, link by link, after these turns more
 abbrev pub sendings_from : List Turn → Engine → List Sending → List Sending
 sendings_from [] e ss = ss
 sendings_from (u ∷ us) e ss = sendings_from us (turn u e) (turn_sending u e ss)

@@ -23,10 +23,12 @@ offers_from at (w ∷ ws) e = record { bytes = offered e; answer = w } ∷ offer
 abbrev pub offers_of : Turn → Engine → List Offer
 offers_of u e = offers_from u.at u.notes.answers (read u e).engine
 
+-- offers are told
 abbrev pub log_offers : List Offer → Log → Log
 log_offers [] a = a
 log_offers (o ∷ os) a = log_offers os (log_write o.bytes o.answer a)
 
+-- a link is asked for, where one is wanted and was not yet asked for
 abbrev pub log_asks : Engine → Log → Log
 log_asks e a = if wants_ask e then log_ask a else a
 
@@ -38,12 +40,14 @@ log_stepped u e a = log_step u.at u.step u.bytes (log_asks e a)
 abbrev pub log_turn : Turn → Engine → Log → Log
 log_turn u e a = log_offers (offers_of u (asks e)) (log_stepped u e a)
 
+-- turns are told
 abbrev pub log_turns : List Turn → Engine → Log → Log
 log_turns [] e a = a
 log_turns (u ∷ us) e a = log_turns us (turn u e) (log_turn u e a)
 
 -- ---- what a port does that plays a script
 
+-- a port that plays a script answers these writes so
 abbrev pub PlaysOffers : List Offer → Log → Type 0
 PlaysOffers [] a = Unit {0}
 PlaysOffers (o ∷ os) a = PlansWrite (length o.bytes) o.answer a × PlaysOffers os (log_write o.bytes o.answer a)
@@ -52,6 +56,7 @@ PlaysOffers (o ∷ os) a = PlansWrite (length o.bytes) o.answer a × PlaysOffers
 abbrev pub PlaysTurn : Turn → Engine → Log → Type 0
 PlaysTurn u e a = PlansStep u.at u.step u.bytes (log_asks e a) × PlaysOffers (offers_of u (asks e)) (log_stepped u e a)
 
+-- a port that plays a script tells these steps, and answers their writes so
 abbrev pub PlaysTurns : List Turn → Engine → Log → Type 0
 PlaysTurns [] e a = Unit {0}
 PlaysTurns (u ∷ us) e a = PlaysTurn u e a × PlaysTurns us (turn u e) (log_turn u e a)
@@ -63,15 +68,19 @@ pub record Tells (f : Log → Log) (P : Log → Type 0) (before after : Option L
   pub told : after ≡ option_map f before
   pub plays : IfSome before P
 
+-- a port that may tell tells these offers
 abbrev pub TellsOffers : List Offer → Option Log → Option Log → Type 0
 TellsOffers os before after = Tells (log_offers os) (PlaysOffers os) before after
 
+-- a port that may tell tells this turn
 abbrev pub TellsTurn : Turn → Engine → Option Log → Option Log → Type 0
 TellsTurn u e before after = Tells (log_turn u e) (PlaysTurn u e) before after
 
+-- a port that may tell tells these turns
 abbrev pub TellsTurns : List Turn → Engine → Option Log → Option Log → Type 0
 TellsTurns us e before after = Tells (log_turns us e) (PlaysTurns us e) before after
 
+-- the turn of a step, with what is noted of it
 abbrev pub turn_of : ℕ → Step → List ℕ → Notes → Turn
 turn_of at step bytes notes = record { at = at; step = step; bytes = bytes; notes = notes }
 

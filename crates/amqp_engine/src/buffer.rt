@@ -41,6 +41,7 @@ impl Buffer {
         })
     }
 
+    /// The bytes, in order.
     pub fn as_slice(&self) -> &[u8]
         ensures { result.now ≡ self.now }
     {

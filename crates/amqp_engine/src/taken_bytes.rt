@@ -30,6 +30,7 @@ impl TakenBytes {
         }
     }
 
+    /// The bytes, in order.
     pub fn as_bytes(&self) -> &[u8]
         ensures { result.now ≡ self.now }
     {

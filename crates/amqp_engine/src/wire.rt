@@ -65,6 +65,7 @@ impl Model for Wire {
 }
 
 impl Wire {
+    /// A new engine: nothing is unread, and nothing is unsent.
     pub fn new(alloc: Global) -> Result<Wire, NoMemory>
         ensures { IfOk result (λ w. w ≡ begin start) }
     {
@@ -83,18 +84,21 @@ impl Wire {
         }
     }
 
+    /// The session, as it stands.
     pub fn session(&self) -> &Session
         ensures { result.now ≡ self.now.talk }
     {
         &self.session
     }
 
+    /// How many parts of a turn were done when memory was refused, where it was.
     pub fn starved(&self) -> Option<u64>
         ensures { result ≡ self.now.starved }
     {
         self.starved
     }
 
+    /// Tells the session to do something, and gives the number of the promise that will be answered.
     pub fn command(&mut self, command: Cmd) -> amqp_session::Result<Option<u64>>
         ensures ok { OnOk result (self.new ≡ with_talk (command_rule command) self.old) }
         ensures number { IfOk result (λ number. number ≡ Some (next_promise self.old.talk)) }
@@ -104,6 +108,7 @@ impl Wire {
         self.session.command(command)
     }
 
+    /// Takes the answer of a promise, once it is there.
     pub fn answer(&mut self, number: u64) -> Option<amqp_session::Result<Answer>>
         ensures taken { Takes number result self.old.talk self.new.talk }
         ensures rest { self.new ≡ record self.old { talk = self.new.talk } }
@@ -111,6 +116,7 @@ impl Wire {
         self.session.answer(number)
     }
 
+    /// Takes the frames that were handed out to the promise that opened a channel.
     pub fn take_frames(&mut self, opened: u64) -> Result<Vec<Handed>, NoMemory>
         ensures frames { IfOk result (λ frames. frames.items ≡ frames_of opened self.old.talk) }
         ensures taken { self.new ≡ with_talk (take_frames opened) self.old }

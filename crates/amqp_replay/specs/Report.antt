@@ -50,7 +50,13 @@ kind_text Body = codes "body"
 -- a frame that was handed out
 abbrev pub frame_line : Handed → List ℕ
 frame_line h =
-    codes "frame " ++ decimal h.channel ++ codes " " ++ kind_text h.kind ++ codes " " ++ hexadecimal h.bytes ++ codes "\n"
+    codes "frame "
+    ++ decimal h.channel
+    ++ codes " "
+    ++ kind_text h.kind
+    ++ codes " "
+    ++ hexadecimal h.bytes
+    ++ codes "\n"
 
 -- how the session ended, or that it has not
 abbrev pub end_text : Option (Result (Unit {0}) ErrorKind) → List ℕ

@@ -14,7 +14,9 @@ rejection (Some (Ok closed)) = Some (Err (InvalidConnectionState Closed))
 rejection (Some (Err e)) = Some (Err e)
 
 -- the untaken answer of a promise, as it stands, or as the end gives it
-abbrev pub answer_in : Option (Result (Unit {0}) ErrorKind) → Option (Option (Result Answer ErrorKind)) → Option (Result Answer ErrorKind)
+abbrev pub answer_in :
+    Option (Result (Unit {0}) ErrorKind) → Option (Option (Result Answer ErrorKind)) →
+    Option (Result Answer ErrorKind)
 answer_in ended None = None
 answer_in ended (Some None) = rejection ended
 answer_in ended (Some (Some answer)) = Some answer

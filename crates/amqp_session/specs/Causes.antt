@@ -21,7 +21,8 @@ IsOfChannel n (Method m method) = (m ≡ n) × IsTrue (is_of_a_channel method)
 IsOfChannel n (Raw m kind bytes) = m ≡ n
 IsOfChannel n _ = ⊥
 
--- 504 for what belongs to a channel and came on channel 0, and 503 for a method of the connection class that came on another
+-- 504 for what belongs to a channel and came on channel 0, and 503 for a method of the connection class that came on
+-- another
 abbrev pub IsMisplaced : ErrorKind → Frame → Type 0
 IsMisplaced e (Method zero m) = IsTrue (is_of_a_channel m) × (e ≡ stray_channel_frame RawMethod)
 IsMisplaced e (Method n m) = IsFalse (is_of_a_channel m) × (e ≡ stray_connection_method n)

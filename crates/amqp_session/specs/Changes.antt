@@ -43,6 +43,7 @@ await channel reply promise t =
 abbrev pub Promises : Type 0
 Promises = List (ℕ × Option (Result Answer ErrorKind))
 
+-- the promises, once that of a number got an answer, by what it held: nothing that is kept, no answer yet, or one
 abbrev pub settled_by : Option (Option (Result Answer ErrorKind)) → ℕ → Result Answer ErrorKind → Promises → Promises
 settled_by (Some None) number answer promises = put number (Some answer) promises
 settled_by _ number answer promises = promises
@@ -86,6 +87,7 @@ fail e t = record t { state = Error; link = Ended (Err e); channels = [] }
 abbrev pub lose : ErrorKind → Talk → Talk
 lose e t = fail e t
 
+-- the end after the server's close, by how it closed
 abbrev pub finish_by : Option ServerClose → Talk → Talk
 finish_by (Some (WithError e)) t = lose (ProtocolError e) t
 finish_by _ t = close t

@@ -1,4 +1,5 @@
--- What comes on a channel: methods of the channel class (AMQP 0-9-1, 1.5 of its reference), and frames that are passed through.
+-- What comes on a channel: methods of the channel class (AMQP 0-9-1, 1.5 of its reference), and frames that are passed
+-- through.
 use Rattle.std.specs.Prelude.{ℕ, if◌then◌else◌, Bool, true, false, List, [], ◌∷◌, ◌++◌, take, Option, Some, None, Ok, unwrap_or}
 use Rattle.std.specs.Str.{bytes_eq}
 use Rattle.amqp_frame.specs.declared.frame.RawKind.{RawKind}
@@ -38,6 +39,7 @@ abbrev pub unawaited_channel_method : ℕ → ChannelState → Method → Talk �
 unawaited_channel_method n channel.Closing method t = t
 unawaited_channel_method n _ method t = lose (unawaited method n) t
 
+-- open-ok on a listed channel, by what awaits it
 abbrev pub channel_opened : ℕ → Channel → Option Awaited → Talk → Talk
 channel_opened n c None t = unawaited_channel_method n c.state ChannelOpenOk t
 channel_opened n c (Some a) t =
@@ -48,6 +50,7 @@ channel_opened n c (Some a) t =
 abbrev pub on_channel_open_ok : ℕ → Channel → Talk → Talk
 on_channel_open_ok n c t = channel_opened n c (first_awaited n ChannelOpened t.awaited) t
 
+-- close-ok on a listed channel, by what awaits it
 abbrev pub channel_closed : ℕ → Channel → Option Awaited → Talk → Talk
 channel_closed n c None t = unawaited_channel_method n c.state ChannelCloseOk t
 channel_closed n c (Some a) t =
@@ -65,6 +68,7 @@ channel_rule _ n c ChannelOpenOk t = on_channel_open_ok n c t
 channel_rule _ n c ChannelCloseOk t = on_channel_close_ok n c t
 channel_rule _ n c method t = unawaited_channel_method n c.state method t
 
+-- a method of the channel class, by the listed channel that it comes on
 abbrev pub channel_method_by : Option Channel → ℕ → Method → Talk → Talk
 channel_method_by None n method t = unlisted n t
 channel_method_by (Some c) n method t = channel_rule t.state n c method t
@@ -98,6 +102,7 @@ pass_through n c kind bytes t =
     hand_out c.opened (record { channel = n; kind = kind; bytes = bytes })
     (if is_select_ok kind bytes then confirmed n c t else t)
 
+-- a frame that is passed through, by the listed channel that it comes on
 abbrev pub raw_by : Option Channel → ℕ → RawKind → List ℕ → Talk → Talk
 raw_by None n kind bytes t = unlisted n t
 raw_by (Some c) n kind bytes t = pass_through n c kind bytes t

@@ -38,6 +38,7 @@ open_as n t =
 abbrev pub open_none : ℕ → Talk → Talk
 open_none first t = record (refuse ChannelsLimitReached t) { cursor = after t.configuration.channel_max first }
 
+-- a channel is opened with the number that was drawn, where one was
 abbrev pub open_drawn : Option ℕ → ℕ → Talk → Talk
 open_drawn None first t = open_none first t
 open_drawn (Some n) first t = open_as n t
@@ -50,10 +51,12 @@ open_channel t =
 
 -- ---- what is told of a channel
 
+-- the promise that opened a channel is the one that is named, where one is named
 abbrev pub is_opening : Option ℕ → ℕ → Bool
 is_opening None opened = true
 is_opening (Some number) opened = number == opened
 
+-- a listed channel, where it is the one that the named promise opened, or none is named
 abbrev pub named_in : Option ℕ → Option Channel → Option Channel
 named_in opened None = None
 named_in opened (Some c) = if is_opening opened c.opened then Some c else None
@@ -62,10 +65,12 @@ named_in opened (Some c) = if is_opening opened c.opened then Some c else None
 abbrev pub named : ChanRef → Talk → Option Channel
 named r t = named_in r.opened (channel_at r.id t)
 
+-- a listed channel, where it is open; else why what is told of it is refused
 abbrev pub target_in : ChannelState → Word → Channel → Result Channel ErrorKind
 target_in channel.Connected word c = Ok c
 target_in held word c = Err (InvalidChannelState held word)
 
+-- the listed channel, where there is one and it is open; else why what is told of it is refused
 abbrev pub target_by : Option Channel → ℕ → Word → Result Channel ErrorKind
 target_by None n word = Err (InvalidChannel n)
 target_by (Some c) n word = target_in c.state word c
@@ -82,6 +87,7 @@ close_channel n code text c t =
     let is_closing = set_channel n (closing c) t in
     promise (await n ChannelClosed (Some (next_promise t)) (queue n (our_channel_close n code text) is_closing))
 
+-- the channel that was found is closed; else the command is refused
 abbrev pub close_target : Result Channel ErrorKind → ℕ → ℕ → List ℕ → Talk → Talk
 close_target (Err e) n code text t = refuse e t
 close_target (Ok c) n code text t = close_channel n code text c t
@@ -100,6 +106,7 @@ send n method t =
     then refuse (SerialisationError (length (encoding frame))) t
     else promise (queue_item (record { channel = n; frame = frame; promise = Some (next_promise t) }) t)
 
+-- a method is sent on the channel that was found; else the command is refused
 abbrev pub send_target : Result Channel ErrorKind → ℕ → OtherMethod → Talk → Talk
 send_target (Err e) n method t = refuse e t
 send_target (Ok c) n method t = send n method t

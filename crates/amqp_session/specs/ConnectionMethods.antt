@@ -37,7 +37,8 @@ on_open_ok t = record (give 0 (Ok AnswerConnected) t) { state = Connected }
 
 -- ---- closing
 
--- the server closes: what waits and what is awaited is dropped, close-ok is the last that is said, and no frame acts any more
+-- the server closes: what waits and what is awaited is dropped, close-ok is the last that is said, and no frame acts
+-- any more
 abbrev pub on_connection_close : ℕ → List ℕ → Talk → Talk
 on_connection_close code text t =
     record t {
@@ -48,9 +49,11 @@ on_connection_close code text t =
       awaited = [];
     }
 
+-- close-ok after our close, by what awaits it
 abbrev pub connection_closed : Option Awaited → Talk → Talk
 connection_closed None t = close t
-connection_closed (Some a) t = close (give_to a.promise (Ok Done) (record t { awaited = without_first 0 ConnectionClosed t.awaited }))
+connection_closed (Some a) t =
+    close (give_to a.promise (Ok Done) (record t { awaited = without_first 0 ConnectionClosed t.awaited }))
 
 -- close-ok: our close is answered, and the session ends Closed
 abbrev pub on_connection_close_ok : Talk → Talk
@@ -62,6 +65,7 @@ unexpected_connection_method held t = lose (InvalidConnectionState held) t
 
 -- ---- the table: the first row that fits
 
+-- a method of the connection class, by the state and by what the handshake awaits
 abbrev pub connection_rule : ConnectionState → Phase → Method → Talk → Talk
 connection_rule state phase (Close code text class method) t = on_connection_close code text t
 connection_rule Closing phase CloseOk t = on_connection_close_ok t

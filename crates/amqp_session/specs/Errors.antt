@@ -45,7 +45,12 @@ fault_text (Other word) = word_text word
 abbrev pub text_of : ErrorKind → List ℕ
 text_of ChannelsLimitReached = codes "the maximum number of channels for this connection has been reached"
 text_of (InvalidProtocolVersion v) =
-    codes "the server only supports AMQP " ++ decimal v.major ++ codes "-" ++ decimal v.minor ++ codes "-" ++ decimal v.revision
+    codes "the server only supports AMQP "
+    ++ decimal v.major
+    ++ codes "-"
+    ++ decimal v.minor
+    ++ codes "-"
+    ++ decimal v.revision
 text_of (InvalidChannel n) = codes "invalid channel: " ++ decimal n
 text_of (InvalidChannelState held word) =
     codes "invalid channel state: " ++ channel_state_name held ++ codes " (" ++ word_text word ++ codes ")"

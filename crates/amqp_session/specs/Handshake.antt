@@ -47,7 +47,9 @@ plain_response user password = 0 ∷ user ++ 0 ∷ password
 
 -- the answer to start, by which the client names itself: user and password are `guest`
 abbrev pub start_ok : Frame
-start_ok = Method 0 (StartOk client_properties (codes "PLAIN") (plain_response (codes "guest") (codes "guest")) (codes "en_US"))
+start_ok =
+    Method 0
+    (StartOk client_properties (codes "PLAIN") (plain_response (codes "guest") (codes "guest")) (codes "en_US"))
 
 -- the answer to tune: the agreed numbers
 abbrev pub tune_ok : Configuration → Frame

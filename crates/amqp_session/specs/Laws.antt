@@ -56,7 +56,8 @@ IsAnsweredAtOnce e before after = at (next_promise before) after.promises ≡ So
 
 -- a refused command changes the promises alone; where every number is listed, the cursor goes on too
 abbrev pub IsRefusal : ErrorKind → Talk → Talk → Type 0
-IsRefusal ChannelsLimitReached before after = after ≡ record (refuse ChannelsLimitReached before) { cursor = after.cursor }
+IsRefusal ChannelsLimitReached before after =
+    after ≡ record (refuse ChannelsLimitReached before) { cursor = after.cursor }
 IsRefusal e before after = IsRefused e before after
 
 -- each rule leads to a sound state

@@ -16,6 +16,7 @@ use Rattle.amqp_session.specs.Handshake.{protocol_header}
 use Rattle.amqp_session.specs.Violations.{misread_error}
 use Rattle.amqp_session.specs.Changes.{plain, fail, lose, finish}
 
+-- a link that is wanted is asked for
 abbrev pub asked_link : Link ErrorKind → Link ErrorKind
 asked_link Wanted = Asked
 asked_link link = link

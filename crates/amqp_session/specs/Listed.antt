@@ -1,4 +1,5 @@
--- Finite maps from numbers, as lists of their entries in ascending order: the listed channels, and the frames handed out.
+-- Finite maps from numbers, as lists of their entries in ascending order: the listed channels, and the frames handed
+-- out.
 use Rattle.std.specs.Prelude.{ℕ, Bool, List, Option, is_some, map}
 use Rattle.std.specs.Ordering.{nat_cmp}
 use Rattle.std.specs.Map.{lookup, remove_entry}

@@ -51,6 +51,7 @@ abbrev pub slot_settled : Result Answer ErrorKind → Slot → Slot
 slot_settled answer Waiting = Answered answer
 slot_settled answer slot = slot
 
+-- awaited replies, where there is one
 abbrev pub some_awaited : List Awaited → Option (List Awaited)
 some_awaited [] = None
 some_awaited (a ∷ list) = Some (a ∷ list)
@@ -65,10 +66,12 @@ HasPlace channel lists = (r : Replies) × (at channel lists ≡ Some r) × (leng
 
 -- ---- how a session ended
 
+-- how a session ends after the server's close, by how it closed
 abbrev pub ended_by : Option ServerClose → Result (Unit {0}) ErrorKind
 ended_by (Some (WithError e)) = Err (ProtocolError e)
 ended_by _ = Ok tt
 
+-- how a session ended, from what is kept of its end and of the server's close
 abbrev pub ended_as : Option ServerClose → End → Result (Unit {0}) ErrorKind
 ended_as told ByServer = ended_by told
 ended_as told (Failed e) = Err e

@@ -15,6 +15,7 @@ abbrev pub gone_in : ConnectionState → ChannelState
 gone_in Error = channel.Error
 gone_in _ = channel.Closed
 
+-- the state of a listed channel, or of one that is gone
 abbrev pub state_of : Option Channel → Talk → ChannelState
 state_of None t = gone_in t.state
 state_of (Some c) t = c.state

@@ -20,7 +20,8 @@ abbrev pub Ascend : List ℕ → Type 0
 Ascend [] = Unit {0}
 Ascend (k ∷ ks) = AscendFrom k ks
 
--- a link that a state has: one is wanted at the beginning, it is open until the end, and it is ended exactly in Closed and Error
+-- a link that a state has: one is wanted at the beginning, it is open until the end, and it is ended exactly in Closed
+-- and Error
 abbrev pub fits_link : ConnectionState → Link ErrorKind → Bool
 fits_link Initial Wanted = true
 fits_link Initial Asked = true
@@ -37,6 +38,7 @@ is_agreed Connected phase = true
 is_agreed Connecting AwaitOpenOk = true
 is_agreed _ _ = false
 
+-- a sound state: its parts fit each other
 pub record IsSound (t : Talk) : Type 0 where
   -- the state has its link
   pub link : IsTrue (fits_link t.state t.link)

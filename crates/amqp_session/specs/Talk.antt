@@ -19,6 +19,7 @@ use Rattle.amqp_session.specs.declared.command.Answer.{Answer}
 use Rattle.amqp_session.specs.declared.server_close.ServerClose.{ServerClose}
 use Rattle.amqp_session.specs.declared.error.ErrorKind.{ErrorKind}
 
+-- the state of a session
 pub record Talk : Type 0 where
   pub state : ConnectionState
   -- what the handshake awaits, while the state is Connecting
@@ -85,6 +86,7 @@ is_closing _ = false
 
 -- ---- where a session stands with its link
 
+-- a link that is wanted, asked for or not
 abbrev pub is_wanted_link : Link ErrorKind → Bool
 is_wanted_link Wanted = true
 is_wanted_link Asked = true
@@ -94,6 +96,7 @@ is_wanted_link _ = false
 abbrev pub wants_link : Talk → Bool
 wants_link t = is_wanted_link t.link
 
+-- a link that is asked for
 abbrev pub is_asked_link : Link ErrorKind → Bool
 is_asked_link Asked = true
 is_asked_link _ = false
@@ -102,6 +105,7 @@ is_asked_link _ = false
 abbrev pub is_asked : Talk → Bool
 is_asked t = is_asked_link t.link
 
+-- a link that is open
 abbrev pub is_open_link : Link ErrorKind → Bool
 is_open_link Open = true
 is_open_link _ = false
@@ -110,6 +114,7 @@ is_open_link _ = false
 abbrev pub is_open : Talk → Bool
 is_open t = is_open_link t.link
 
+-- how a session ended, where its link is ended
 abbrev pub end_of_link : Link ErrorKind → Option (Result (Unit {0}) ErrorKind)
 end_of_link (Ended result) = Some result
 end_of_link _ = None
@@ -118,9 +123,11 @@ end_of_link _ = None
 abbrev pub end_of : Talk → Option (Result (Unit {0}) ErrorKind)
 end_of t = end_of_link t.link
 
+-- the session has ended
 abbrev pub has_ended : Talk → Bool
 has_ended t = is_some (end_of t)
 
+-- input whose frames act
 abbrev pub is_acting : Input → Bool
 is_acting Acting = true
 is_acting _ = false
@@ -129,6 +136,7 @@ is_acting _ = false
 abbrev pub acts : Talk → Bool
 acts t = is_open t && is_acting t.input
 
+-- input of which no more is read
 abbrev pub is_dropped_input : Input → Bool
 is_dropped_input (Dropped crossed) = true
 is_dropped_input _ = false

@@ -1,5 +1,5 @@
--- What a server may not do, and the error, by reply code and text, with which the session then ends (AMQP 0-9-1, 4.8.2 and the reply codes of its reference).
--- The server is not told: no close is written.
+-- What a server may not do, and the error, by reply code and text, with which the session then ends (AMQP 0-9-1, 4.8.2
+-- and the reply codes of its reference). The server is not told: no close is written.
 use Rattle.std.specs.Prelude.{ℕ, ◌+◌, List, ◌++◌, codes, is_some, if◌then◌else◌}
 use Rattle.std.specs.Fmt.{decimal}
 use Rattle.amqp_types.specs.Codes.{kind_of}
@@ -58,8 +58,10 @@ method_name _ = codes "close-ok"
 -- 505, unexpected-frame: a method of the channel class that nothing awaits
 abbrev pub unawaited : Method → ℕ → ErrorKind
 unawaited method channel =
-    protocol_error 505 (codes "unexpected channel." ++ method_name method ++ codes " received on channel " ++ decimal channel)
+    protocol_error 505
+    (codes "unexpected channel." ++ method_name method ++ codes " received on channel " ++ decimal channel)
 
 -- what the server's close tells, by its code: an error, or that the connection is closed
 abbrev pub closed_with : ℕ → List ℕ → ServerClose
-closed_with code text = if is_some (kind_of code) then WithError (record { code = code; message = text }) else WithoutError
+closed_with code text =
+    if is_some (kind_of code) then WithError (record { code = code; message = text }) else WithoutError

@@ -16,6 +16,7 @@ use Rattle.amqp_session.specs.Changes.{give, finish}
 abbrev pub frames_waiting : Talk → ℕ
 frames_waiting t = length t.control
 
+-- the first of the frames that wait, where there is one
 abbrev pub head : List Item → Option Item
 head [] = None
 head (item ∷ items) = Some item
@@ -28,6 +29,7 @@ next_item t = if is_open t then head t.control else None
 abbrev pub size_of : Item → ℕ
 size_of item = length (encoding item.frame)
 
+-- a frame that is to go out, where it is at most so many bytes long
 abbrev pub fitting : ℕ → Option Item → Option Item
 fitting space None = None
 fitting space (Some item) = if nat_le (size_of item) space then Some item else None
@@ -41,6 +43,7 @@ abbrev pub is_close_ok : Frame → Bool
 is_close_ok (Method zero CloseOk) = true
 is_close_ok _ = false
 
+-- what follows once a frame was sent whole, by the promise that it answers
 abbrev pub answers : Option ℕ → Then
 answers None = Nothing
 answers (Some number) = Answer number
@@ -53,6 +56,7 @@ then_of item = if is_close_ok item.frame then Finish else answers item.promise
 abbrev pub mark_of : Item → Mark
 mark_of item = record { left = size_of item; then = then_of item }
 
+-- the frame that is to go out, where there is one, is committed
 abbrev pub committed_as : Option Item → Talk → Talk
 committed_as None t = t
 committed_as (Some item) t = record t { control = drop 1 t.control; committed = t.committed ++ mark_of item ∷ [] }
@@ -61,6 +65,7 @@ committed_as (Some item) t = record t { control = drop 1 t.control; committed = 
 abbrev pub commit : ℕ → Talk → Talk
 commit space t = committed_as (next_within space t) t
 
+-- how many bytes of these committed frames are unsent
 abbrev pub left_in : List Mark → ℕ
 left_in marks = sum_by (λ (m : Mark). m.left) marks
 

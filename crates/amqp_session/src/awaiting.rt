@@ -118,6 +118,7 @@ pub struct Awaiting {
 }
 
 impl Awaiting {
+    /// No reply is awaited.
     pub fn new(alloc: Global) -> Awaiting
         ensures { seen list_seen result.lists.entries ≡ [] }
     {

@@ -22,6 +22,7 @@ impl Capacity {
         }
     }
 
+    /// How many octets that is.
     pub fn octets(&self) -> u64
         ensures octets { result ≡ self.now.octets }
         ensures small { result < 2 ^ 63 }

@@ -62,6 +62,7 @@ impl Model for Channels {
 }
 
 impl Channels {
+    /// No channel is listed.
     pub fn new(alloc: Global) -> Channels
         ensures { result ≡ record { listed = []; cursor = 0 } }
     {

@@ -36,6 +36,7 @@ pub struct Committed {
 }
 
 impl Committed {
+    /// No frame is committed.
     pub fn new(alloc: Global) -> Committed
         ensures { result.marks.items ≡ [] }
     {

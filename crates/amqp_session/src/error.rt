@@ -46,6 +46,7 @@ pub struct Error {
     kind: ErrorKind,
 }
 
+/// What a call of the session answers.
 pub type Result<T> = std::result::Result<T, Error>;
 
 impl Model for Error {
@@ -85,6 +86,7 @@ impl ErrorKind {
 }
 
 impl Error {
+    /// Which error it is.
     pub fn kind(&self) -> &ErrorKind
         ensures { result.now ≡ self.now }
     {

@@ -75,6 +75,7 @@ impl Model for Backlog {
 }
 
 impl Backlog {
+    /// No frame waits to be taken.
     pub fn new(alloc: Global) -> Backlog
         ensures { result ≡ [] }
     {

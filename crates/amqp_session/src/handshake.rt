@@ -11,6 +11,7 @@ use amqp_types::{
 };
 use std::alloc::Global;
 
+/// The header of AMQP 0-9-1, the first that is said.
 pub fn protocol_header() -> Frame
     ensures { result ≡ protocol_header }
 {

@@ -73,6 +73,7 @@ pub struct Lanes {
 }
 
 impl Lanes {
+    /// No frame waits to be committed.
     pub fn new(alloc: Global) -> Lanes
         ensures { result.control.items ≡ [] }
     {

@@ -24,6 +24,7 @@ impl Model for Numbers {
 }
 
 impl Numbers {
+    /// No number is in the set.
     pub fn new(alloc: Global) -> Numbers
         ensures { result ≡ [] }
     {

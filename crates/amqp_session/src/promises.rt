@@ -28,6 +28,7 @@ pub struct Promises {
 }
 
 impl Promises {
+    /// No promise was made.
     pub fn new(alloc: Global) -> Promises
         ensures made { result.made ≡ 0 }
         ensures none { seen slot_seen result.slots.entries ≡ [] }

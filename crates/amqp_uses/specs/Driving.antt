@@ -48,6 +48,7 @@ abbrev pub read_of : Read → ℕ
 read_of (reading.Whole f n) = n
 read_of _ = 0
 
+-- the kind of a content body
 abbrev pub is_body_kind : RawKind → Bool
 is_body_kind Body = true
 is_body_kind _ = false
