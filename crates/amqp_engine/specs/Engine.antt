@@ -21,6 +21,7 @@ use Rattle.amqp_engine.specs.declared.port.Wrote.{Wrote}
 use Rattle.amqp_engine.specs.declared.port.Wrote.TheVariants.{Took, Failed, NoMemory}
 use Rattle.amqp_engine.specs.Plan.{at_most_64}
 
+-- the state of the engine
 pub record Engine : Type 0 where
   -- the state of the session
   pub talk : Talk
@@ -86,6 +87,7 @@ step_engine at (Command c) bytes e = rule_at at (command c) e
 abbrev pub front_of : Engine → Read
 front_of e = front e.unread (frame_limit e.talk)
 
+-- what was received is not yet a whole frame
 abbrev pub is_more : Read → Bool
 is_more reading.More = true
 is_more _ = false
@@ -111,6 +113,7 @@ read_row at (reading.BadHeartbeat channel) e = read_badly at (BadHeartbeat chann
 read_row at reading.More e = e
 read_row at _ e = read_badly at (Bad e.place) e
 
+-- what stands at the front of the unread bytes is read
 abbrev pub read_one : ℕ → Engine → Engine
 read_one at e = read_row at (front_of e) e
 
@@ -120,6 +123,7 @@ read_one at e = read_row at (front_of e) e
 abbrev pub fitting_next : Engine → Option Item
 fitting_next e = next_within (e.talk.capacity - length e.unsent) e.talk
 
+-- the frame that is to go out, where there is one, is committed, and its bytes are unsent
 abbrev pub committed_as : Option Item → Engine → Engine
 committed_as None e = e
 committed_as (Some item) e =
@@ -129,6 +133,7 @@ committed_as (Some item) e =
 abbrev pub commit_one : Engine → Engine
 commit_one e = committed_as (fitting_next e) e
 
+-- frames are committed while there is one that fits, and at most so many
 abbrev pub commits : ℕ → Engine → Engine
 commits zero e = e
 commits (suc n) e = commits n (commit_one e)

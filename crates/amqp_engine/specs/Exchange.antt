@@ -25,6 +25,7 @@ pub record HandedOut : Type 0 where
   pub opened : ℕ
   pub frame : Handed
 
+-- a frame is handed out, where its channel is listed
 abbrev pub handed_of : Option Channel → Handed → List HandedOut
 handed_of None h = []
 handed_of (Some c) h = record { opened = c.opened; frame = h } ∷ []
@@ -39,12 +40,14 @@ hands_out _ t = []
 
 -- ---- what is heard, and what is said
 
+-- what happens on a link
 pub data Event : Type 0 where
   -- a frame was read, and this was handed out
   Heard : Frame → List HandedOut → Event
   -- a frame was sent whole
   Said : Item → Event
 
+-- what is heard, where this stands at the front of the unread bytes
 abbrev pub heard_in : Read → Talk → List Event
 heard_in (Whole f n) t = Heard f (hands_out f t) ∷ []
 heard_in _ t = []
@@ -63,6 +66,7 @@ heard_of u e =
     let p = step_part u.step u.bytes (begun u.at u.notes.starved e) in
     if is_piece u.step then heard_by (length p.engine.unread) p else []
 
+-- what was sent on a link, or nothing where there was none
 abbrev pub sending_or : Option Sending → Sending
 sending_or None = nothing_sent
 sending_or (Some s) = s
@@ -85,10 +89,12 @@ abbrev pub step_exchange : Step → Engine → List (List Event) → List (List 
 step_exchange Linked e xs = if is_asked e.talk then xs ++ [] ∷ [] else xs
 step_exchange _ e xs = xs
 
+-- what was heard and said, link by link, after one turn more
 abbrev pub turn_exchange : Turn → Engine → List Sending → List (List Event) → List (List Event)
 turn_exchange u e ss xs =
     on_last (λ events. events ++ heard_of u (asks e) ++ said_of u e ss) (step_exchange u.step (asks e) xs)
 
+-- what was heard and said, link by link, after these turns more
 abbrev pub exchange_from : List Turn → Engine → List Sending → List (List Event) → List (List Event)
 exchange_from [] e ss xs = xs
 exchange_from (u ∷ us) e ss xs = exchange_from us (turn u e) (turn_sending u e ss) (turn_exchange u e ss xs)

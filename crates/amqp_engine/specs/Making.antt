@@ -15,6 +15,7 @@ use Rattle.amqp_engine.specs.Log.{Log}
 use Rattle.amqp_engine.specs.Tell.{Applies}
 use Rattle.amqp_engine.specs.Causes.{has_failed}
 
+-- a turn in the making
 abbrev pub making : ℕ → Option ℕ → Engine → ℕ → Progress
 making at cut e n = record { at = at; cut = cut; engine = e; done = n }
 
@@ -22,10 +23,12 @@ making at cut e n = record { at = at; cut = cut; engine = e; done = n }
 abbrev pub parts_of : Bool → ℕ
 parts_of b = if b then 1 else 0
 
+-- a step that tells a command
 abbrev pub is_command : Step → Bool
 is_command (Command c) = true
 is_command _ = false
 
+-- a whole frame was read
 abbrev pub is_whole : Read → Bool
 is_whole (Whole f n) = true
 is_whole _ = false

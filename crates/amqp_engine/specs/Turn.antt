@@ -27,6 +27,7 @@ pub record Turn : Type 0 where
 
 -- ---- before the step
 
+-- a link is wanted, and was not yet asked for
 abbrev pub wants_ask : Engine → Bool
 wants_ask e = wants_link e.talk && not (is_asked e.talk)
 
@@ -43,9 +44,11 @@ pub record Progress : Type 0 where
   pub engine : Engine
   pub done : ℕ
 
+-- a turn at its beginning
 abbrev pub begun : ℕ → Option ℕ → Engine → Progress
 begun at cut e = record { at = at; cut = cut; engine = e; done = 0 }
 
+-- so many parts come before the cut, where there is one
 abbrev pub is_before : Option ℕ → ℕ → Bool
 is_before None n = true
 is_before (Some j) n = nat_lt n j
@@ -70,6 +73,7 @@ is_part Room e = false
 is_part Tick e = true
 is_part (Command c) e = true
 
+-- the step is taken, and counted where it is a part
 abbrev pub step_part : Step → List ℕ → Progress → Progress
 step_part step bytes p =
     if is_part step p.engine
@@ -85,6 +89,7 @@ abbrev pub reads : ℕ → Progress → Progress
 reads zero p = p
 reads (suc most) p = if goes p && can_read p.engine then reads most (read_part p) else p
 
+-- a step that brings a piece
 abbrev pub is_piece : Step → Bool
 is_piece (Piece n) = true
 is_piece _ = false
@@ -97,6 +102,7 @@ reading piece p = if piece then reads (length p.engine.unread) p else p
 abbrev pub offered : Engine → List ℕ
 offered e = (commit_all e).unsent
 
+-- frames are committed while they fit, and this answers the offer of their bytes
 abbrev pub answered : ℕ → Wrote → Engine → Engine
 answered at w e = wrote at w (commit_all e)
 
@@ -109,6 +115,7 @@ abbrev pub drain : List Wrote → Progress → Progress
 drain [] p = p
 drain (w ∷ ws) p = drain ws (offer_part w p)
 
+-- all of so many bytes were taken
 abbrev pub is_all : Wrote → ℕ → Bool
 is_all (Took k) n = k == n
 is_all Failed n = false
@@ -135,9 +142,11 @@ AreAnswers (w ∷ ws) p =
 abbrev pub read : Turn → Engine → Progress
 read u e = reading (is_piece u.step) (step_part u.step u.bytes (begun u.at u.notes.starved e))
 
+-- a turn up to the end of its writes
 abbrev pub written : Turn → Engine → Progress
 written u e = drain u.notes.answers (read u e)
 
+-- memory was refused after so many parts, where it was
 abbrev pub starved_after : Option ℕ → ℕ → Engine → Engine
 starved_after None at e = e
 starved_after (Some j) at e = starve_at at j e
@@ -148,9 +157,11 @@ applied u e =
     let after = (written u e).engine in
     if has_ended e.talk then after else starved_after u.notes.starved u.at after
 
+-- a turn: a link is asked for where one is wanted, then the step is taken, with all that follows it
 abbrev pub turn : Turn → Engine → Engine
 turn u e = applied u (asks e)
 
+-- turns, one after another
 abbrev pub turns : List Turn → Engine → Engine
 turns [] e = e
 turns (u ∷ us) e = turns us (turn u e)
@@ -161,6 +172,7 @@ talk us = (turns us (begin start)).talk
 
 -- ---- which turns there may be
 
+-- so many parts were done where a turn was cut
 abbrev pub IsCut : Option ℕ → ℕ → Type 0
 IsCut None n = Unit {0}
 IsCut (Some j) n = n ≡ j
@@ -175,6 +187,7 @@ pub record IsTurn (u : Turn) (e : Engine) : Type 0 where
   pub running : has_ended e.talk ≡ false
   pub applied : IsApplied u (asks e)
 
+-- each of these is a turn of the engine that those before it lead to
 abbrev pub AreTurns : List Turn → Engine → Type 0
 AreTurns [] e = Unit {0}
 AreTurns (u ∷ us) e = IsTurn u e × AreTurns us (turn u e)

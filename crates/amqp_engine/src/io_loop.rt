@@ -190,6 +190,7 @@ impl IoLoop {
         self.wire.take_frames(opened)
     }
 
+    /// The session, as it stands.
     pub fn session(&self) -> &Session
         ensures { result.now ≡ self.now.talk }
     {
