@@ -1,38 +1,65 @@
 -- The bytes that are unsent, counted.
-use Rattle.std.proofs.Common.{◌≡◌, ◌∙◌, ap, drop, ℕ, ◌+◌, ◌-◌, ◌≤◌, List, [], ◌∷◌, arith, refl, Option, Some, None}
-use Rattle.std.proofs.lemmas.List.Sums.{sum_by-cons}
+use Rattle.std.proofs.Common.{◌≡◌, ◌∙◌, ap, sym, ℕ, ◌+◌, ◌-◌, ◌≤◌, ◌==◌, ◌&&◌, not, true, false, nat_le, Bool, suc, List, [], ◌∷◌, ◌++◌, drop, length, Some, None, arith, refl}
+use Rattle.std.proofs.lemmas.Bool.Decides.{nat_tests}
 use Rattle.std.specs.Prelude.{IsTrue}
-use Rattle.amqp_session.specs.declared.server_close.ServerClose.{ServerClose}
-use Rattle.amqp_session.specs.declared.server_close.ServerClose.TheVariants.{WithoutError, WithError}
 use Rattle.amqp_session.specs.declared.committed.Mark.{Mark}
-use Rattle.amqp_session.specs.declared.committed.Then.{Then}
-use Rattle.amqp_session.specs.declared.committed.Then.TheVariants.{Nothing, Answer, Finish}
+use Rattle.amqp_session.specs.declared.lanes.Item.{Item}
 use Rattle.amqp_session.specs.Talk.{Talk, is_open}
-use Rattle.amqp_session.specs.Changes.{finish_by}
-use Rattle.amqp_session.specs.Writing.{follow, left_in, sent, sent_among, taken, unsent}
+use Rattle.amqp_session.specs.Writing.{left_in, sent_among, taken, unsent, head, size_of, fitting, next_within, mark_of, committed_as, commit}
+use Rattle.amqp_session.specs.Parts.{after_first}
+use Rattle.amqp_session.proofs.Cases.{if_case, if-true, if-false}
+use Rattle.amqp_session.proofs.Keeping.{left_in-cons, left_in-left_after, sent_among-committed}
 
-pub left_in-cons : (m : Mark) (ms : List Mark) → left_in (m ∷ ms) ≡ m.left + left_in ms
-left_in-cons m ms = sum_by-cons (λ (m : Mark). m.left) m ms
+other-false : (b c : Bool) → b ≡ true → (b && not c) ≡ false → c ≡ true
+other-false true true g h = refl
+other-false true false g h = absurd cc
+other-false false c g h = absurd cc
 
--- an end leaves the committed frames as they are
-finish_by-committed : (told : Option ServerClose) (t : Talk) → (finish_by told t).committed ≡ t.committed
-finish_by-committed None t = refl
-finish_by-committed (Some WithoutError) t = refl
-finish_by-committed (Some (WithError e)) t = refl
+module _ (n : ℕ) (t : Talk) (within : n ≤ unsent t) where
+  abbrev from : Talk
+  from = record t { last_write = t.present }
 
--- what follows a frame leaves the committed frames as they are
-pub follow-committed : (follows : Then) (t : Talk) → (follow follows t).committed ≡ t.committed
-follow-committed Nothing t = refl
-follow-committed (Answer number) t = refl
-follow-committed Finish t = finish_by-committed t.server_close (record t { server_close = None })
+  counted : (b : Bool) → (is_open t && not (n == 0)) ≡ b → is_open (taken n t) ≡ true → unsent (taken n t) + n ≡ unsent t
+  counted true h still =
+      let same : taken n t ≡ sent_among t.committed n from = if-true (is_open t && not (n == 0)) (sent_among t.committed n from) t h in
+      let left : left_in (taken n t).committed ≡ left_in t.committed - n =
+      ap (λ (x : Talk). left_in x.committed) same
+      ∙ ap left_in (sent_among-committed t.committed n from refl (ap is_open (sym same) ∙ still))
+      ∙ left_in-left_after t.committed n in
+      omega (arith, left, within)
+  counted false h still =
+      let same : taken n t ≡ t = if-false (is_open t && not (n == 0)) (sent_among t.committed n from) t h in
+      let zero_is : (n == 0) ≡ true = other-false (is_open t) (n == 0) (ap is_open (sym same) ∙ still) h in
+      let none : n ≡ 0 = grind (arith, nat_tests) in
+      let left : left_in (taken n t).committed ≡ left_in t.committed = ap (λ (x : Talk). left_in x.committed) same in
+      omega (arith, left, none)
 
-pub left_in-sent_among : (ms : List Mark) (n : ℕ) (t : Talk) → t.committed ≡ ms → n ≤ left_in ms → left_in (sent_among ms n t).committed + n ≡ left_in ms
-left_in-sent_among [] n t is within = grind arith
-left_in-sent_among (m ∷ ms) n t is within =
-    let rest : (sent m t).committed ≡ ms = follow-committed m.then (record t { committed = drop 1 t.committed }) ∙ ap (drop 1) is in
-    grind (arith, left_in-cons m ms, left_in-cons (record m { left = m.left - n }) ms, left_in-sent_among ms (n - m.left) (sent m t) rest)
+-- what is taken is no longer unsent, where the link is still open
+pub unsent-taken : (n : ℕ) (t : Talk) → IsTrue (is_open (taken n t)) → n ≤ unsent t → unsent (taken n t) + n ≡ unsent t
+unsent-taken n t still within = counted n t within (is_open t && not (n == 0)) refl still
 
--- what is taken is no longer unsent
-pub unsent-taken : (n : ℕ) (t : Talk) → IsTrue (is_open t) → n ≤ unsent t → unsent (taken n t) + n ≡ unsent t
-unsent-taken n t is_open within =
-    grind (arith, left_in-sent_among t.committed n (record t { last_write = t.present }) refl within)
+-- ---- the next frame
+
+module _ (space : ℕ) (t : Talk) (item : Item) (opened : is_open t ≡ true) (first : head t.control ≡ Some item) (fits : size_of item ≤ space) where
+  -- it goes out where it fits
+  pub next-fits : next_within space t ≡ Some item
+  next-fits =
+      let enough : nat_le (size_of item) space ≡ true = grind (arith, nat_tests) in
+      ap (fitting space) (if-true (is_open t) (head t.control) None opened ∙ first)
+      ∙ if-true (nat_le (size_of item) space) (Some item) None enough
+
+  pub commit-fits : commit space t ≡ record t { control = drop 1 t.control; committed = t.committed ++ mark_of item ∷ [] }
+  commit-fits = ap (λ o. committed_as o t) next-fits
+
+-- ---- one committed frame
+
+pub after_first-shorter : (n : ℕ) (ms : List Mark) → length (after_first n ms) ≤ length ms
+after_first-shorter n [] = omega arith
+after_first-shorter n (m ∷ ms) =
+    if_case (λ (x : List Mark). length x ≤ suc (length ms)) (nat_le m.left n) ms (record m { left = m.left - n } ∷ ms) (omega arith) (omega arith)
+
+pub after_first-less : (n : ℕ) (ms : List Mark) → left_in (after_first n ms) ≤ left_in ms
+after_first-less n [] = omega arith
+after_first-less n (m ∷ ms) =
+    if_case (λ (x : List Mark). left_in x ≤ left_in (m ∷ ms)) (nat_le m.left n) ms (record m { left = m.left - n } ∷ ms)
+    (omega (arith, left_in-cons m ms)) (omega (arith, left_in-cons m ms, left_in-cons (record m { left = m.left - n }) ms))

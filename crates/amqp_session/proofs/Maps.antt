@@ -12,7 +12,7 @@ use Rattle.std.proofs.lemmas.Map.Entries.{none_below_head}
 use Rattle.std.proofs.lemmas.Map.Keys.{sorted_tail}
 use Rattle.amqp_session.specs.Listed.{at, put, without, has, map_values}
 
-nat_cmp_self : (n : ℕ) → nat_cmp n n ≡ Equal
+pub nat_cmp_self : (n : ℕ) → nat_cmp n n ≡ Equal
 nat_cmp_self n = sym (nat_cmp_is n n Equal refl)
 
 module _ {X : Type 0} (n : ℕ) (v : X) where

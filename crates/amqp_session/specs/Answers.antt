@@ -1,12 +1,10 @@
 -- Answers: what a promise gives, and that it gives it once.
-use Rattle.std.specs.Prelude.{◌≡◌, ◌⊎◌, ℕ, if◌then◌else◌, slice_get, slice_set, Option, Some, None, is_some, Result, Ok, Err}
+use Rattle.std.specs.Prelude.{◌≡◌, ◌⊎◌, ℕ, if◌then◌else◌, Option, Some, None, is_some, Result, Ok, Err}
 use Rattle.amqp_session.specs.declared.state.ConnectionState.TheVariants.{Closed}
-use Rattle.amqp_session.specs.declared.promises.Slot.{Slot}
-use Rattle.amqp_session.specs.declared.promises.Slot.TheVariants.{Waiting, Answered, Taken}
 use Rattle.amqp_session.specs.declared.command.Answer.{Answer}
 use Rattle.amqp_session.specs.declared.error.ErrorKind.{ErrorKind}
 use Rattle.amqp_session.specs.declared.error.ErrorKind.TheVariants.{InvalidConnectionState, NoMemory}
-use Rattle.amqp_session.specs.Listed.{without}
+use Rattle.amqp_session.specs.Listed.{at, without}
 use Rattle.amqp_session.specs.Talk.{Talk, end_of}
 
 -- how the end answers a promise that still waits
@@ -16,21 +14,20 @@ rejection (Some (Ok closed)) = Some (Err (InvalidConnectionState Closed))
 rejection (Some (Err e)) = Some (Err e)
 
 -- the untaken answer of a promise, as it stands, or as the end gives it
-abbrev pub answer_in : Option (Result (Unit {0}) ErrorKind) → Option Slot → Option (Result Answer ErrorKind)
+abbrev pub answer_in : Option (Result (Unit {0}) ErrorKind) → Option (Option (Result Answer ErrorKind)) → Option (Result Answer ErrorKind)
 answer_in ended None = None
-answer_in ended (Some Waiting) = rejection ended
-answer_in ended (Some (Answered answer)) = Some answer
-answer_in ended (Some Taken) = None
+answer_in ended (Some None) = rejection ended
+answer_in ended (Some (Some answer)) = Some answer
 
 -- the untaken answer to a promise
 abbrev pub answer_of : ℕ → Talk → Option (Result Answer ErrorKind)
-answer_of number t = answer_in (end_of t) (slice_get t.promises number)
+answer_of number t = answer_in (end_of t) (at number t.promises)
 
--- an answer is taken once
+-- an answer is taken once, and its promise is then forgotten
 abbrev pub take_answer : ℕ → Talk → Talk
 take_answer number t =
     if is_some (answer_of number t)
-    then record t { promises = slice_set t.promises number Taken }
+    then record t { promises = without number t.promises }
     else t
 
 -- what is kept is handed out; where it is an error, memory for its copy may be refused, which is then told in its place
@@ -41,6 +38,10 @@ HandsOut kept given = given ≡ kept
 -- the answer is an error
 abbrev pub IsRejected : Option (Result Answer ErrorKind) → Type 0
 IsRejected answer = (e : ErrorKind) × (answer ≡ Some (Err e))
+
+-- the session ended with an error
+abbrev pub IsFailed : Option (Result (Unit {0}) ErrorKind) → Type 0
+IsFailed ended = (e : ErrorKind) × (ended ≡ Some (Err e))
 
 -- an answer is taken, and where memory for the copy of an error is refused, it can still be taken
 abbrev pub Takes : ℕ → Option (Result Answer ErrorKind) → Talk → Talk → Type 0

@@ -1,19 +1,18 @@
 -- The small changes of the state that the rules are made of.
-use Rattle.std.specs.Prelude.{ℕ, max, if◌then◌else◌, List, [], ◌∷◌, ◌++◌, length, slice_get, slice_set, Option, Some, None, Result, Ok, Err}
+use Rattle.std.specs.Prelude.{ℕ, ◌+◌, max, if◌then◌else◌, List, [], ◌∷◌, ◌++◌, Option, Some, None, Result, Ok, Err}
 use Rattle.amqp_frame.specs.declared.frame.Frame.{Frame}
 use Rattle.amqp_session.specs.declared.state.ConnectionState.TheVariants.{Closed, Error}
 use Rattle.amqp_session.specs.declared.state.Link.TheVariants.{Ended}
 use Rattle.amqp_session.specs.declared.lanes.Item.{Item}
-use Rattle.amqp_session.specs.declared.lanes.Reply.{Reply}
-use Rattle.amqp_session.specs.declared.committed.Then.TheVariants.{Nothing}
-use Rattle.amqp_session.specs.declared.promises.Slot.{Slot}
-use Rattle.amqp_session.specs.declared.promises.Slot.TheVariants.{Waiting, Answered}
+use Rattle.amqp_session.specs.declared.awaiting.Reply.{Reply}
 use Rattle.amqp_session.specs.declared.command.Answer.{Answer}
 use Rattle.amqp_session.specs.declared.server_close.ServerClose.{ServerClose}
 use Rattle.amqp_session.specs.declared.server_close.ServerClose.TheVariants.{WithError}
 use Rattle.amqp_session.specs.declared.error.ErrorKind.{ErrorKind}
 use Rattle.amqp_session.specs.declared.error.ErrorKind.TheVariants.{ProtocolError, NoMemory}
-use Rattle.amqp_session.specs.Talk.{Talk, has_ended}
+use Rattle.amqp_session.specs.Listed.{at, put}
+use Rattle.amqp_session.specs.Talk.{Talk, is_closing, has_ended}
+use Rattle.amqp_session.specs.Replies.{expected}
 
 -- the present is the greatest moment so far
 abbrev pub present_at : ℕ → Talk → Talk
@@ -21,32 +20,36 @@ present_at at t = if has_ended t then t else record t { present = max t.present 
 
 -- ---- what is said, and awaited
 
--- a frame as it waits, with nothing that follows once it was sent
-abbrev pub plain : Frame → Item
-plain f = record { frame = f; then = Nothing }
+-- a frame of a channel as it waits, where it answers no promise
+abbrev pub plain : ℕ → Frame → Item
+plain channel f = record { channel = channel; frame = f; promise = None }
 
 -- a frame goes last into the control lane
 abbrev pub queue_item : Item → Talk → Talk
 queue_item item t = record t { control = t.control ++ item ∷ [] }
 
--- a frame that nothing follows goes last into the control lane
-abbrev pub queue : Frame → Talk → Talk
-queue f t = queue_item (plain f) t
+-- a frame of a channel that answers no promise goes last into the control lane
+abbrev pub queue : ℕ → Frame → Talk → Talk
+queue channel f t = queue_item (plain channel f) t
 
 -- a reply is awaited on a channel, and will answer a promise
 abbrev pub await : ℕ → Reply → Option ℕ → Talk → Talk
 await channel reply promise t =
-    record t { awaited = t.awaited ++ record { channel = channel; reply = reply; promise = promise } ∷ [] }
+    record t { awaited = expected channel (record { reply = reply; promise = promise }) t.awaited }
 
 -- ---- promises
 
-abbrev pub settled_by : Option Slot → ℕ → Result Answer ErrorKind → List Slot → List Slot
-settled_by (Some Waiting) number answer slots = slice_set slots number (Answered answer)
-settled_by _ number answer slots = slots
+-- the promises that wait or whose answer was not taken, by number
+abbrev pub Promises : Type 0
+Promises = List (ℕ × Option (Result Answer ErrorKind))
+
+abbrev pub settled_by : Option (Option (Result Answer ErrorKind)) → ℕ → Result Answer ErrorKind → Promises → Promises
+settled_by (Some None) number answer promises = put number (Some answer) promises
+settled_by _ number answer promises = promises
 
 -- the promises, once that of a number got an answer: one that was answered before keeps its own
-abbrev pub settled : ℕ → Result Answer ErrorKind → List Slot → List Slot
-settled number answer slots = settled_by (slice_get slots number) number answer slots
+abbrev pub settled : ℕ → Result Answer ErrorKind → Promises → Promises
+settled number answer promises = settled_by (at number promises) number answer promises
 
 -- the promise of a number gets this answer, where it waits
 abbrev pub give : ℕ → Result Answer ErrorKind → Talk → Talk
@@ -59,15 +62,15 @@ give_to (Some number) answer t = give number answer t
 
 -- the number of the promise that is made next
 abbrev pub next_promise : Talk → ℕ
-next_promise t = length t.promises
+next_promise t = t.made
 
 -- a promise is made, which waits
 abbrev pub promise : Talk → Talk
-promise t = record t { promises = t.promises ++ Waiting ∷ [] }
+promise t = record t { made = t.made + 1; promises = put t.made None t.promises }
 
 -- a promise is made, which is answered at once with an error
 abbrev pub refuse : ErrorKind → Talk → Talk
-refuse e t = record t { promises = t.promises ++ Answered (Err e) ∷ [] }
+refuse e t = record t { made = t.made + 1; promises = put t.made (Some (Err e)) t.promises }
 
 -- ---- ends, at which all channels go
 
@@ -89,7 +92,11 @@ finish_by _ t = close t
 
 -- the end after the server's close: Closed where its code was none of an error
 abbrev pub finish : Talk → Talk
-finish t = finish_by t.server_close (record t { server_close = None })
+finish t = finish_by t.server_close t
+
+-- a frame that comes where it may not: after our close of the connection it is dropped, and else it is fatal
+abbrev pub misplaced : ErrorKind → Talk → Talk
+misplaced e t = if is_closing t.state then t else lose e t
 
 -- memory was refused, which ends a session that has not ended
 abbrev pub starve : Talk → Talk

@@ -1,25 +1,26 @@
--- What comes on a channel: methods of the channel class (AMQP 0-9-1, 1.5 of its reference), and frames that are passed through.
-use Rattle.std.specs.Prelude.{ℕ, if◌then◌else◌, Bool, true, false, List, [], ◌∷◌, ◌++◌, take, Option, Some, None, Ok, unwrap_or}
-use Rattle.std.specs.Str.{bytes_eq}
-use Rattle.amqp_frame.specs.declared.frame.RawKind.{RawKind}
-use Rattle.amqp_frame.specs.declared.frame.RawKind.TheVariants.{RawMethod}
-use Rattle.amqp_frame.specs.declared.method.Method.{Method}
-use Rattle.amqp_frame.specs.declared.method.Method.TheVariants.{ChannelOpenOk, ChannelCloseOk}
-use Rattle.amqp_session.specs.declared.state.ConnectionState.{ConnectionState}
-use Rattle.amqp_session.specs.declared.state.ConnectionState.TheVariants.{Connecting, Closing}
-use Rattle.amqp_session.specs.declared.state.ChannelState.{ChannelState}
+-- The listed channels.
+use Rattle.std.specs.Prelude.{ℕ, ◌==◌, true, false, List, Option, option_map, find}
 use Rattle.amqp_session.specs.declared.state.ChannelState.TheVariants as channel
 use Rattle.amqp_session.specs.declared.channels.Channel.{Channel}
-use Rattle.amqp_session.specs.declared.handed.Handed.{Handed}
-use Rattle.amqp_session.specs.declared.lanes.Awaited.{Awaited}
-use Rattle.amqp_session.specs.declared.lanes.Reply.TheVariants.{ChannelOpened, ChannelClosed}
-use Rattle.amqp_session.specs.declared.command.Answer.TheVariants.{Channel as AnswerChannel, Done}
-use Rattle.amqp_session.specs.declared.error.ErrorKind.TheVariants.{InvalidChannel}
-use Rattle.amqp_session.specs.Listed.{at, put, without}
+use Rattle.amqp_session.specs.Listed.{at, put}
 use Rattle.amqp_session.specs.Talk.{Talk}
-use Rattle.amqp_session.specs.Violations.{unawaited}
-use Rattle.amqp_session.specs.Replies.{first_awaited, without_first}
-use Rattle.amqp_session.specs.Changes.{give_to, lose}
+
+-- the listed channels, and the cursor from which the next number is drawn
+pub record Listing : Type 0 where
+  pub listed : List (ℕ × Channel)
+  pub cursor : ℕ
+
+-- a channel whose opening a promise waits for
+abbrev pub new_channel : ℕ → Channel
+new_channel opened = record { state = channel.Initial; flow = true; confirm = false; opened = opened }
+
+-- a channel that is closing
+abbrev pub closing : Channel → Channel
+closing c = record c { state = channel.Closing }
+
+-- the number of the listed channel that a promise opened
+abbrev pub opening_in : ℕ → List (ℕ × Channel) → Option ℕ
+opening_in opened channels = option_map (λ e. e.0) (find (λ e. (e.1).opened == opened) channels)
 
 -- the listed channel of a number
 abbrev pub channel_at : ℕ → Talk → Option Channel
@@ -28,85 +29,3 @@ channel_at n t = at n t.channels
 -- a listed channel changes
 abbrev pub set_channel : ℕ → Channel → Talk → Talk
 set_channel n c t = record t { channels = put n c t.channels }
-
--- ---- methods of the channel class
-
--- a method that nothing awaits: after our close of the channel it is dropped, and else it is fatal
-abbrev pub unawaited_channel_method : ℕ → ChannelState → Method → Talk → Talk
-unawaited_channel_method n channel.Closing method t = t
-unawaited_channel_method n _ method t = lose (unawaited method n) t
-
-abbrev pub channel_opened : ℕ → Channel → Option Awaited → Talk → Talk
-channel_opened n c None t = unawaited_channel_method n c.state ChannelOpenOk t
-channel_opened n c (Some a) t =
-    let opened = record t { awaited = without_first n ChannelOpened t.awaited } in
-    give_to a.promise (Ok (AnswerChannel n c.opened)) (set_channel n (record c { state = channel.Connected }) opened)
-
--- open-ok, where it is awaited: the channel is open
-abbrev pub on_channel_open_ok : ℕ → Channel → Talk → Talk
-on_channel_open_ok n c t = channel_opened n c (first_awaited n ChannelOpened t.awaited) t
-
-abbrev pub channel_closed : ℕ → Channel → Option Awaited → Talk → Talk
-channel_closed n c None t = unawaited_channel_method n c.state ChannelCloseOk t
-channel_closed n c (Some a) t =
-    let closed = record t { awaited = without_first n ChannelClosed t.awaited } in
-    give_to a.promise (Ok Done) (record closed { channels = without n closed.channels })
-
--- close-ok, where it is awaited: the channel goes, and its number is free again
-abbrev pub on_channel_close_ok : ℕ → Channel → Talk → Talk
-on_channel_close_ok n c t = channel_closed n c (first_awaited n ChannelClosed t.awaited) t
-
-abbrev pub channel_row : ℕ → Channel → Method → Talk → Talk
-channel_row n c ChannelOpenOk t = on_channel_open_ok n c t
-channel_row n c ChannelCloseOk t = on_channel_close_ok n c t
-channel_row n c method t = unawaited_channel_method n c.state method t
-
--- a method of the channel class, on a listed channel or another
-abbrev pub listed_channel_method : ℕ → Option Channel → Method → Talk → Talk
-listed_channel_method n None method t = lose (InvalidChannel n) t
-listed_channel_method n (Some c) method t = channel_row n c method t
-
--- a method of the channel class on another channel than 0: after our close of the connection it is dropped
-abbrev pub channel_method : ConnectionState → ℕ → Method → Talk → Talk
-channel_method Closing n method t = t
-channel_method Connecting n method t = lose (InvalidChannel n) t
-channel_method _ n method t = listed_channel_method n (channel_at n t) method t
-
--- ---- frames that are passed through
-
--- confirm.select-ok: a method of class 85 and method 11
-abbrev pub is_select_ok : RawKind → List ℕ → Bool
-is_select_ok RawMethod bytes = bytes_eq (take 4 bytes) (0 ∷ 85 ∷ 0 ∷ 11 ∷ [])
-is_select_ok _ bytes = false
-
--- the frames handed out of a channel that a promise opened, and not yet taken
-abbrev pub frames_of : ℕ → Talk → List Handed
-frames_of opened t = unwrap_or (at opened t.handed) []
-
--- a frame goes last among those handed out
-abbrev pub hand_out : ℕ → Handed → Talk → Talk
-hand_out opened h t = record t { handed = put opened (frames_of opened t ++ h ∷ []) t.handed }
-
--- the channel is in confirm mode
-abbrev pub confirmed : ℕ → Channel → Talk → Talk
-confirmed n c t = set_channel n (record c { confirm = true }) t
-
--- a frame of a listed channel is handed out; where it is confirm.select-ok, the channel is in confirm mode from then on
-abbrev pub pass_through : ℕ → Channel → RawKind → List ℕ → Talk → Talk
-pass_through n c kind bytes t =
-    hand_out c.opened (record { channel = n; kind = kind; bytes = bytes })
-    (if is_select_ok kind bytes then confirmed n c t else t)
-
--- a frame on a channel that is not listed: after our close of the connection it is dropped, and else it is fatal
-abbrev pub unlisted : ConnectionState → ℕ → Talk → Talk
-unlisted Closing n t = t
-unlisted _ n t = lose (InvalidChannel n) t
-
-abbrev pub raw_on : ConnectionState → ℕ → Option Channel → RawKind → List ℕ → Talk → Talk
-raw_on Connecting n _ kind bytes t = lose (InvalidChannel n) t
-raw_on state n None kind bytes t = unlisted state n t
-raw_on state n (Some c) kind bytes t = pass_through n c kind bytes t
-
--- a frame that is passed through, on another channel than 0
-abbrev pub raw_frame : ℕ → RawKind → List ℕ → Talk → Talk
-raw_frame n kind bytes t = raw_on t.state n (channel_at n t) kind bytes t

@@ -1,5 +1,5 @@
 -- Commands: what a session is told to do. Each takes the next promise; a refused one is answered at once.
-use Rattle.std.specs.Prelude.{ℕ, ◌==◌, nat_lt, if◌then◌else◌, Bool, true, false, List, length, Option, Some, None}
+use Rattle.std.specs.Prelude.{ℕ, ◌==◌, nat_lt, if◌then◌else◌, Bool, true, List, length, Option, Some, None, Result, Ok, Err}
 use Rattle.amqp_frame.specs.declared.frame.Frame.{Frame}
 use Rattle.amqp_frame.specs.declared.frame.Frame.TheVariants.{Raw}
 use Rattle.amqp_frame.specs.declared.frame.RawKind.TheVariants.{RawMethod}
@@ -11,33 +11,28 @@ use Rattle.amqp_session.specs.declared.state.ConnectionState.{ConnectionState}
 use Rattle.amqp_session.specs.declared.state.ConnectionState.TheVariants.{Connected, Closing}
 use Rattle.amqp_session.specs.declared.state.ChannelState.{ChannelState}
 use Rattle.amqp_session.specs.declared.state.ChannelState.TheVariants as channel
-use Rattle.amqp_session.specs.declared.session.TheConstants.{CAPACITY}
 use Rattle.amqp_session.specs.declared.channels.Channel.{Channel}
-use Rattle.amqp_session.specs.declared.lanes.Reply.TheVariants.{ChannelOpened, ChannelClosed, ConnectionClosed}
-use Rattle.amqp_session.specs.declared.committed.Then.TheVariants.{Answer as AnswerThen}
+use Rattle.amqp_session.specs.declared.awaiting.Reply.TheVariants.{ChannelOpened, ChannelClosed, ConnectionClosed}
 use Rattle.amqp_session.specs.declared.command.ChanRef.{ChanRef}
 use Rattle.amqp_session.specs.declared.command.Cmd.{Cmd}
 use Rattle.amqp_session.specs.declared.command.Cmd.TheVariants.{OpenChannel, CloseChannel, CloseConnection, Send}
+use Rattle.amqp_session.specs.declared.error.ErrorKind.{ErrorKind}
 use Rattle.amqp_session.specs.declared.error.ErrorKind.TheVariants.{ChannelsLimitReached, InvalidChannel, InvalidChannelState, InvalidConnectionState, SerialisationError}
 use Rattle.amqp_session.specs.Listed.{map_values}
 use Rattle.amqp_session.specs.Talk.{Talk}
 use Rattle.amqp_session.specs.Numbering.{first_number, after, drawn}
 use Rattle.amqp_session.specs.Handshake.{our_close, channel_open, our_channel_close}
 use Rattle.amqp_session.specs.Changes.{queue, queue_item, await, next_promise, promise, refuse}
-use Rattle.amqp_session.specs.Channels.{channel_at, set_channel}
+use Rattle.amqp_session.specs.Channels.{new_channel, closing, channel_at, set_channel}
 
 -- ---- opening a channel
-
--- a channel whose opening a promise waits for
-abbrev pub new_channel : ℕ → Channel
-new_channel opened = record { state = channel.Initial; flow = true; confirm = false; opened = opened }
 
 -- the channel of a number is listed, its opening is queued, and its promise waits for the open-ok; the cursor goes on
 abbrev pub open_as : ℕ → Talk → Talk
 open_as n t =
     let number = next_promise t in
     let listed = record (set_channel n (new_channel number) t) { cursor = after t.configuration.channel_max n } in
-    promise (await n ChannelOpened (Some number) (queue (channel_open n) listed))
+    promise (await n ChannelOpened (Some number) (queue n (channel_open n) listed))
 
 -- every number is listed, and the opening is refused; the cursor goes on by one all the same
 abbrev pub open_none : ℕ → Talk → Talk
@@ -67,26 +62,29 @@ named_in opened (Some c) = if is_opening opened c.opened then Some c else None
 abbrev pub named : ChanRef → Talk → Option Channel
 named r t = named_in r.opened (channel_at r.id t)
 
--- what an open channel allows is done, and else refused, with the state that the channel is in
-abbrev pub in_state : ChannelState → Word → (Talk → Talk) → Talk → Talk
-in_state channel.Connected word f t = f t
-in_state held word f t = refuse (InvalidChannelState held word) t
+abbrev pub target_in : ChannelState → Word → Channel → Result Channel ErrorKind
+target_in channel.Connected word c = Ok c
+target_in held word c = Err (InvalidChannelState held word)
 
-abbrev pub on_channel : ℕ → Word → (Channel → Talk → Talk) → Option Channel → Talk → Talk
-on_channel n word f None t = refuse (InvalidChannel n) t
-on_channel n word f (Some c) t = in_state c.state word (f c) t
+abbrev pub target_by : Option Channel → ℕ → Word → Result Channel ErrorKind
+target_by None n word = Err (InvalidChannel n)
+target_by (Some c) n word = target_in c.state word c
 
--- what is told of a channel is done where the channel is listed and open, and else refused
-abbrev pub on_open_channel : ChanRef → Word → (Channel → Talk → Talk) → Talk → Talk
-on_open_channel r word f t = on_channel r.id word f (named r t) t
+-- the channel that something is told of, where it is listed and open; else why that is refused
+abbrev pub target : ChanRef → Word → Talk → Result Channel ErrorKind
+target r word t = target_by (named r t) r.id word
 
 -- ---- closing a channel
 
 -- our close of the channel is queued, and its promise waits for the close-ok
 abbrev pub close_channel : ℕ → ℕ → List ℕ → Channel → Talk → Talk
 close_channel n code text c t =
-    let closing = set_channel n (record c { state = channel.Closing }) t in
-    promise (await n ChannelClosed (Some (next_promise t)) (queue (our_channel_close n code text) closing))
+    let is_closing = set_channel n (closing c) t in
+    promise (await n ChannelClosed (Some (next_promise t)) (queue n (our_channel_close n code text) is_closing))
+
+abbrev pub close_target : Result Channel ErrorKind → ℕ → ℕ → List ℕ → Talk → Talk
+close_target (Err e) n code text t = refuse e t
+close_target (Ok c) n code text t = close_channel n code text c t
 
 -- ---- sending
 
@@ -98,32 +96,32 @@ method_frame n method = Raw n RawMethod (spell_raw_method method)
 abbrev pub send : ℕ → OtherMethod → Talk → Talk
 send n method t =
     let frame = method_frame n method in
-    if nat_lt CAPACITY (length (encoding frame))
+    if nat_lt t.capacity (length (encoding frame))
     then refuse (SerialisationError (length (encoding frame))) t
-    else promise (queue_item (record { frame = frame; then = AnswerThen (next_promise t) }) t)
+    else promise (queue_item (record { channel = n; frame = frame; promise = Some (next_promise t) }) t)
+
+abbrev pub send_target : Result Channel ErrorKind → ℕ → OtherMethod → Talk → Talk
+send_target (Err e) n method t = refuse e t
+send_target (Ok c) n method t = send n method t
 
 -- ---- closing the connection
-
--- a channel that is closing
-abbrev pub closing : Channel → Channel
-closing c = record c { state = channel.Closing }
 
 -- our close is queued, all channels are closing, and its promise waits for the close-ok
 abbrev pub close_connection : ℕ → List ℕ → Talk → Talk
 close_connection code text t =
     let all_closing = record t { state = Closing; channels = map_values closing t.channels } in
-    promise (await 0 ConnectionClosed (Some (next_promise t)) (queue (our_close code text) all_closing))
+    promise (await 0 ConnectionClosed (Some (next_promise t)) (queue 0 (our_close code text) all_closing))
 
 -- ---- the table
 
 -- the rule for a command, by state
-abbrev pub command_row : ConnectionState → Cmd → Talk → Talk
-command_row Connected OpenChannel t = open_channel t
-command_row Connected (CloseChannel r code text) t = on_open_channel r word.ChannelClose (close_channel r.id code text) t
-command_row Connected (CloseConnection code text) t = close_connection code text t
-command_row Connected (Send r method) t = on_open_channel r word.Send (λ c. send r.id method) t
-command_row held _ t = refuse (InvalidConnectionState held) t
+abbrev pub command_rule : ConnectionState → Cmd → Talk → Talk
+command_rule Connected OpenChannel t = open_channel t
+command_rule Connected (CloseChannel r code text) t = close_target (target r word.ChannelClose t) r.id code text t
+command_rule Connected (CloseConnection code text) t = close_connection code text t
+command_rule Connected (Send r method) t = send_target (target r word.Send t) r.id method t
+command_rule held cmd t = refuse (InvalidConnectionState held) t
 
 -- a command is told
 abbrev pub command : Cmd → Talk → Talk
-command c t = command_row t.state c t
+command c t = command_rule t.state c t

@@ -1,31 +1,17 @@
 -- Frames: which rule a frame that was read goes by.
 use Rattle.std.specs.Prelude.{ℕ, zero, suc, if◌then◌else◌, Bool, true, false}
+use Rattle.amqp_types.specs.declared.version.ProtocolVersion.{ProtocolVersion}
 use Rattle.amqp_frame.specs.declared.frame.Frame.{Frame}
 use Rattle.amqp_frame.specs.declared.frame.Frame.TheVariants.{ProtocolHeader, Method, Raw, Heartbeat}
 use Rattle.amqp_frame.specs.declared.frame.RawKind.TheVariants.{RawMethod}
 use Rattle.amqp_frame.specs.declared.method.Method.{Method as AnyMethod}
 use Rattle.amqp_frame.specs.declared.method.Method.TheVariants.{Secure, Blocked, Unblocked, UpdateSecretOk, ChannelOpen, ChannelOpenOk, ChannelFlow, ChannelFlowOk, ChannelClose, ChannelCloseOk}
-use Rattle.amqp_session.specs.declared.state.ConnectionState.{ConnectionState}
-use Rattle.amqp_session.specs.declared.state.ConnectionState.TheVariants.{Closing}
-use Rattle.amqp_session.specs.declared.state.Input.{Input}
-use Rattle.amqp_session.specs.declared.state.Input.TheVariants.{Acting}
-use Rattle.amqp_session.specs.declared.error.ErrorKind.{ErrorKind}
 use Rattle.amqp_session.specs.declared.error.ErrorKind.TheVariants.{InvalidProtocolVersion, Unbuilt}
-use Rattle.amqp_session.specs.Talk.{Talk, is_open}
-use Rattle.amqp_session.specs.Violations.{connection_method_on, on_channel_0}
-use Rattle.amqp_session.specs.Changes.{fail, lose}
-use Rattle.amqp_session.specs.Connections.{connection_row}
-use Rattle.amqp_session.specs.Channels.{channel_method, raw_frame}
-
--- ---- misplaced frames
-
-abbrev pub misplaced_in : ConnectionState → ErrorKind → Talk → Talk
-misplaced_in Closing e t = t
-misplaced_in _ e t = lose e t
-
--- a frame on a channel that it does not belong to: after our close of the connection it is dropped, and else it is fatal
-abbrev pub misplaced : ErrorKind → Talk → Talk
-misplaced e t = misplaced_in t.state e t
+use Rattle.amqp_session.specs.Talk.{Talk, acts}
+use Rattle.amqp_session.specs.Violations.{stray_connection_method, stray_channel_frame}
+use Rattle.amqp_session.specs.Changes.{fail, lose, misplaced}
+use Rattle.amqp_session.specs.ConnectionMethods.{connection_rule}
+use Rattle.amqp_session.specs.ChannelMethods.{channel_method, raw_frame}
 
 -- ---- the kinds of methods
 
@@ -52,30 +38,37 @@ is_of_a_channel _ = false
 
 -- ---- the table
 
+-- a protocol header is fatal, whatever version it names
+abbrev pub on_protocol_header : ProtocolVersion → Talk → Talk
+on_protocol_header version t = lose (InvalidProtocolVersion version) t
+
+-- a heartbeat does nothing more
+abbrev pub on_heartbeat : Talk → Talk
+on_heartbeat t = t
+
 -- a method on channel 0
 abbrev pub method_on_0 : AnyMethod → Talk → Talk
-method_on_0 m t = if is_of_a_channel m then misplaced (on_channel_0 RawMethod) t else connection_row t.state t.phase m t
+method_on_0 m t =
+    if is_of_a_channel m then misplaced (stray_channel_frame RawMethod) t
+    else connection_rule t.state t.phase m t
 
 -- a method on another channel
 abbrev pub method_on : ℕ → AnyMethod → Talk → Talk
-method_on n m t = if is_of_a_channel m then channel_method t.state n m t else misplaced (connection_method_on n) t
+method_on n m t = if is_of_a_channel m then channel_method n m t else misplaced (stray_connection_method n) t
 
-abbrev pub built_method : ℕ → AnyMethod → Talk → Talk
-built_method zero m t = method_on_0 m t
-built_method (suc n) m t = method_on (suc n) m t
+-- the rule for a method
+abbrev pub method_rule : ℕ → AnyMethod → Talk → Talk
+method_rule zero m t = method_on_0 m t
+method_rule (suc n) m t = method_on (suc n) m t
 
 -- the rule for a frame that stood at a place of the link's received bytes
-abbrev pub frame_row : Frame → ℕ → Talk → Talk
-frame_row (ProtocolHeader version) place t = lose (InvalidProtocolVersion version) t
-frame_row Heartbeat place t = t
-frame_row (Method n m) place t = if is_unbuilt m then fail (Unbuilt place) t else built_method n m t
-frame_row (Raw zero kind bytes) place t = misplaced (on_channel_0 kind) t
-frame_row (Raw (suc n) kind bytes) place t = raw_frame (suc n) kind bytes t
-
-abbrev pub frame_by : Input → Frame → ℕ → Talk → Talk
-frame_by Acting f place t = frame_row f place t
-frame_by _ f place t = t
+abbrev pub frame_rule : Frame → ℕ → Talk → Talk
+frame_rule (ProtocolHeader version) place t = on_protocol_header version t
+frame_rule Heartbeat place t = on_heartbeat t
+frame_rule (Method n m) place t = if is_unbuilt m then fail (Unbuilt place) t else method_rule n m t
+frame_rule (Raw zero kind bytes) place t = misplaced (stray_channel_frame kind) t
+frame_rule (Raw (suc n) kind bytes) place t = raw_frame (suc n) kind bytes t
 
 -- a frame was read on the open link; after the server's close none acts
 abbrev pub on_frame : Frame → ℕ → Talk → Talk
-on_frame f place t = if is_open t then frame_by t.input f place t else t
+on_frame f place t = if acts t then frame_rule f place t else t

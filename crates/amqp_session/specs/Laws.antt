@@ -1,20 +1,35 @@
 -- What the rules keep.
-use Rattle.std.specs.Prelude.{◌≡◌, ℕ, ◌++◌, [], ◌∷◌, Err}
+use Rattle.std.specs.Prelude.{◌≡◌, ℕ, Bool, true, false, IsTrue, Some, Err}
 use Rattle.amqp_frame.specs.declared.frame.Frame.{Frame}
 use Rattle.amqp_session.specs.declared.command.Cmd.{Cmd}
-use Rattle.amqp_session.specs.declared.promises.Slot.TheVariants.{Answered}
 use Rattle.amqp_session.specs.declared.error.ErrorKind.{ErrorKind}
-use Rattle.amqp_session.specs.Talk.{Talk, end_of}
+use Rattle.amqp_session.specs.declared.error.ErrorKind.TheVariants.{ChannelsLimitReached, InvalidConnectionState}
+use Rattle.amqp_session.specs.declared.state.ConnectionState.{ConnectionState}
+use Rattle.amqp_session.specs.declared.state.ConnectionState.TheVariants.{Closed, Error}
+use Rattle.amqp_session.specs.Listed.{at}
+use Rattle.amqp_session.specs.Talk.{Talk, has_ended}
 use Rattle.amqp_session.specs.declared.misread.Misread.{Misread}
 use Rattle.amqp_session.specs.declared.io_fault.IoFault.{IoFault}
 use Rattle.amqp_session.specs.Changes as change
+use Rattle.amqp_session.specs.Changes.{next_promise, refuse}
 use Rattle.amqp_session.specs.Links as link
 use Rattle.amqp_session.specs.Frames.{on_frame}
 use Rattle.amqp_session.specs.Commands as told
 use Rattle.amqp_session.specs.Writing as writing
 use Rattle.amqp_session.specs.Answers.{take_answer, take_frames}
+use Rattle.amqp_session.specs.Sound.{IsSound}
 
--- nothing changes the state, but that commands are counted, and that answers and frames are taken; none of these changes its end
+-- the states in which a session ends
+abbrev pub is_end : ConnectionState → Bool
+is_end Closed = true
+is_end Error = true
+is_end _ = false
+
+-- the session has ended
+abbrev pub IsEnded : Talk → Type 0
+IsEnded t = IsTrue (has_ended t) × IsTrue (is_end t.state)
+
+-- nothing changes the state, but that commands are counted, each refused, and that answers and frames are taken
 pub record IsOver (t : Talk) : Type 0 where
   pub moment : (at : ℕ) → change.present_at at t ≡ t
   pub asked : link.asked t ≡ t
@@ -27,10 +42,36 @@ pub record IsOver (t : Talk) : Type 0 where
   pub commit : (space : ℕ) → writing.commit space t ≡ t
   pub taken : (n : ℕ) → writing.taken n t ≡ t
   pub starve : change.starve t ≡ t
-  pub command : (cmd : Cmd) → end_of (told.command cmd t) ≡ end_of t
-  pub answer : (number : ℕ) → end_of (take_answer number t) ≡ end_of t
-  pub frames : (opened : ℕ) → end_of (take_frames opened t) ≡ end_of t
+  pub command : (cmd : Cmd) → told.command cmd t ≡ refuse (InvalidConnectionState t.state) t
+  pub answer : (number : ℕ) → take_answer number t ≡ record t { promises = (take_answer number t).promises }
+  pub frames : (opened : ℕ) → take_frames opened t ≡ record t { handed = (take_frames opened t).handed }
 
 -- the promises alone change: there is one more, which is answered with this error
 abbrev pub IsRefused : ErrorKind → Talk → Talk → Type 0
-IsRefused e before after = after ≡ record before { promises = before.promises ++ Answered (Err e) ∷ [] }
+IsRefused e before after = after ≡ refuse e before
+
+-- the promise that a command takes is answered at once with this error
+abbrev pub IsAnsweredAtOnce : ErrorKind → Talk → Talk → Type 0
+IsAnsweredAtOnce e before after = at (next_promise before) after.promises ≡ Some (Some (Err e))
+
+-- a refused command changes the promises alone; where every number is listed, the cursor goes on too
+abbrev pub IsRefusal : ErrorKind → Talk → Talk → Type 0
+IsRefusal ChannelsLimitReached before after = after ≡ record (refuse ChannelsLimitReached before) { cursor = after.cursor }
+IsRefusal e before after = IsRefused e before after
+
+-- each rule leads to a sound state
+pub record StaysSound (t : Talk) : Type 0 where
+  pub moment : (at : ℕ) → IsSound (change.present_at at t)
+  pub asked : IsSound (link.asked t)
+  pub linked : IsSound (link.linked t)
+  pub link_failed : IsSound (link.link_failed t)
+  pub piece : IsSound (link.piece t)
+  pub frame : (f : Frame) (place : ℕ) → IsSound (on_frame f place t)
+  pub misread : (why : Misread) → IsSound (link.misread why t)
+  pub lost : (fault : IoFault) → IsSound (link.lost fault t)
+  pub commit : (space : ℕ) → IsSound (writing.commit space t)
+  pub taken : (n : ℕ) → IsSound (writing.taken n t)
+  pub starve : IsSound (change.starve t)
+  pub command : (cmd : Cmd) → IsSound (told.command cmd t)
+  pub answer : (number : ℕ) → IsSound (take_answer number t)
+  pub frames : (opened : ℕ) → IsSound (take_frames opened t)

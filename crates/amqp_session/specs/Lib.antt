@@ -1,26 +1,29 @@
 -- The state of a session.
 pub mod Listed
 pub mod Talk
+pub mod Replies
 -- What is agreed, and what the client says to open and close.
 pub mod Negotiation
-pub mod Numbering
 pub mod Handshake
 -- What goes wrong, and its texts.
 pub mod Shown
 pub mod Errors
 pub mod Violations
 -- The rules: what each happening does to the state.
-pub mod Replies
 pub mod Changes
 pub mod Links
-pub mod Connections
+pub mod ConnectionMethods
+pub mod Numbering
 pub mod Channels
+pub mod ChannelMethods
 pub mod Frames
 pub mod Commands
 pub mod Writing
 pub mod Answers
 pub mod Queries
 -- What the rules keep.
+pub mod Causes
+pub mod Sound
 pub mod Laws
 -- What the contracts of private calls are stated with.
 pub mod Parts

@@ -5,17 +5,18 @@ use Rattle.amqp_session.specs.declared.state.Phase.TheVariants.{AwaitStart}
 use Rattle.amqp_session.specs.declared.state.Link.{Link}
 use Rattle.amqp_session.specs.declared.state.Link.TheVariants.{Wanted, Asked, Open}
 use Rattle.amqp_session.specs.declared.state.Input.{Input}
-use Rattle.amqp_session.specs.declared.state.Input.TheVariants.{Acting, Dropped}
+use Rattle.amqp_session.specs.declared.state.Input.TheVariants.{Acting, Closed, Dropped}
 use Rattle.amqp_session.specs.declared.io_fault.IoFault.{IoFault}
-use Rattle.amqp_session.specs.declared.io_fault.IoFault.TheVariants.{Refused}
+use Rattle.amqp_session.specs.declared.io_fault.IoFault.TheVariants.{Aborted, Refused}
+use Rattle.amqp_session.specs.declared.error.ErrorKind.{ErrorKind}
 use Rattle.amqp_session.specs.declared.error.ErrorKind.TheVariants.{IOError}
 use Rattle.amqp_session.specs.declared.misread.Misread.{Misread}
-use Rattle.amqp_session.specs.Talk.{Talk, is_asked, is_open}
+use Rattle.amqp_session.specs.Talk.{Talk, is_asked, is_open, acts}
 use Rattle.amqp_session.specs.Handshake.{protocol_header}
 use Rattle.amqp_session.specs.Violations.{misread_error}
 use Rattle.amqp_session.specs.Changes.{plain, fail, lose, finish}
 
-abbrev pub asked_link : Link → Link
+abbrev pub asked_link : Link ErrorKind → Link ErrorKind
 asked_link Wanted = Asked
 asked_link link = link
 
@@ -32,7 +33,7 @@ linked t =
       phase = AwaitStart;
       link = Open;
       input = Acting;
-      control = plain protocol_header ∷ [];
+      control = plain 0 protocol_header ∷ [];
       committed = [];
       last_read = t.present;
       last_write = t.present;
@@ -47,18 +48,29 @@ link_failed t = if is_asked t then fail (IOError Refused) t else t
 abbrev pub piece : Talk → Talk
 piece t = if is_open t then record t { last_read = t.present } else t
 
-abbrev pub misread_by : Input → Misread → Talk → Talk
-misread_by Acting why t = lose (misread_error why) t
-misread_by _ why t = record t { input = Dropped }
+-- no more is read of the link of a session that the server closed
+abbrev pub dropped : Input → Input
+dropped (Closed crossed) = Dropped crossed
+dropped input = input
 
 -- what was read on the open link is no frame: it is fatal, but after the server's close no more of the link is read
 abbrev pub misread : Misread → Talk → Talk
-misread why t = if is_open t then misread_by t.input why t else t
+misread why t =
+    if acts t then lose (misread_error why) t
+    else if is_open t then record t { input = dropped t.input }
+    else t
 
-abbrev pub lost_by : Input → IoFault → Talk → Talk
-lost_by Acting fault t = lose (IOError fault) t
-lost_by _ fault t = finish t
-
--- the open link is lost: after the server's close that is its end, and else a fault
+-- the open link is lost: that is a fault, but after the server's close it is the end
 abbrev pub lost : IoFault → Talk → Talk
-lost fault t = if is_open t then lost_by t.input fault t else t
+lost fault t =
+    if acts t then lose (IOError fault) t
+    else if is_open t then finish t
+    else t
+
+-- the input of the open link ended
+abbrev pub end_of_input : Talk → Talk
+end_of_input t = lost Aborted t
+
+-- reading from the open link, or writing to it, failed
+abbrev pub fault : IoFault → Talk → Talk
+fault why t = lost why t

@@ -1,7 +1,7 @@
 -- The numbers of a connection, as the wishes of both peers decide them (AMQP 0-9-1, connection.tune).
 use Rattle.std.specs.Prelude.{ℕ, ◌==◌, if◌then◌else◌, min, max}
-use Rattle.amqp_session.specs.declared.session.TheConstants.{CAPACITY}
 use Rattle.amqp_session.specs.declared.configuration.Configuration.{Configuration}
+use Rattle.amqp_session.specs.Talk.{Talk}
 
 -- the lesser of two wishes, where 0 is none
 abbrev pub lesser_wish : ℕ → ℕ → ℕ
@@ -24,6 +24,6 @@ tune own server =
       heartbeat = lesser_wish own.heartbeat server.heartbeat;
     }
 
--- the greatest number of octets that a frame may have that is read: as agreed, and within the buffer
-abbrev pub frame_limit : Configuration → ℕ
-frame_limit c = min CAPACITY (wish_or CAPACITY c.frame_max)
+-- the greatest number of octets that a frame may have that is read: as agreed, and within the capacity
+abbrev pub frame_limit : Talk → ℕ
+frame_limit t = min t.capacity (wish_or t.capacity t.configuration.frame_max)

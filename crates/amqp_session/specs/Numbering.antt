@@ -8,9 +8,9 @@ use Rattle.amqp_session.specs.Listed.{has}
 abbrev pub first_number : ℕ → ℕ → ℕ
 first_number channel_max cursor = if cursor == 0 || nat_lt channel_max cursor then 1 else cursor
 
--- the number after another in the cycle from 1 to the greatest
+-- the cursor after a number was drawn: the next number, and 0 after the greatest
 abbrev pub after : ℕ → ℕ → ℕ
-after channel_max n = if nat_lt n channel_max then n + 1 else 1
+after channel_max n = if nat_lt n channel_max then n + 1 else 0
 
 -- the cycle from a number on: up to the greatest number, and then from 1 on
 abbrev pub cycle : ℕ → ℕ → List ℕ

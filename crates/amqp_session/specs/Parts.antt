@@ -1,46 +1,102 @@
 -- Parts of the state and of the rules, as the code takes them.
-use Rattle.std.specs.Prelude.{◌≡◌, ℕ, ◌-◌, nat_le, if◌then◌else◌, List, [], ◌∷◌, Option, Some, None}
-use Rattle.amqp_types.specs.declared.word.Word.{Word}
-use Rattle.amqp_session.specs.declared.state.ChannelState.TheVariants.{Connected}
-use Rattle.amqp_session.specs.declared.channels.Channel.{Channel}
-use Rattle.amqp_session.specs.declared.lanes.Item.{Item}
-use Rattle.amqp_session.specs.declared.lanes.Awaited.{Awaited}
+use Rattle.std.specs.Prelude.{◌≡◌, ℕ, ◌-◌, ◌<◌, nat_le, if◌then◌else◌, List, [], ◌∷◌, length, Option, Some, None, Result, Ok, Err}
+use Rattle.std.specs.VecDeque.{deque_capacity}
+use Rattle.amqp_session.specs.declared.state.Link.{Link}
+use Rattle.amqp_session.specs.declared.state.Link.TheVariants.{Wanted, Asked, Open, Ended}
+use Rattle.amqp_session.specs.declared.state.End.{End}
+use Rattle.amqp_session.specs.declared.state.End.TheVariants.{ByServer, Failed}
+use Rattle.amqp_session.specs.declared.awaiting.Awaited.{Awaited}
+use Rattle.amqp_session.specs.declared.awaiting.Replies.{Replies}
+use Rattle.amqp_session.specs.declared.promises.Slot.{Slot}
+use Rattle.amqp_session.specs.declared.promises.Slot.TheVariants.{Place, Waiting, Answered}
+use Rattle.amqp_session.specs.declared.command.Answer.{Answer}
+use Rattle.amqp_session.specs.declared.server_close.ServerClose.{ServerClose}
+use Rattle.amqp_session.specs.declared.server_close.ServerClose.TheVariants.{WithError}
 use Rattle.amqp_session.specs.declared.committed.Mark.{Mark}
-use Rattle.amqp_session.specs.declared.command.ChanRef.{ChanRef}
 use Rattle.amqp_session.specs.declared.error.ErrorKind.{ErrorKind}
-use Rattle.amqp_session.specs.Talk.{Talk}
-use Rattle.amqp_session.specs.Changes.{refuse}
-use Rattle.amqp_session.specs.Channels.{channel_at}
-use Rattle.amqp_session.specs.Commands.{named, on_open_channel}
+use Rattle.amqp_session.specs.declared.error.ErrorKind.TheVariants.{ProtocolError}
+use Rattle.amqp_session.specs.Listed.{at, put, without}
+use Rattle.amqp_session.specs.Talk.{Talk, is_open}
 
--- ---- what waits to be said, and to be answered
+-- ---- entries that are seen
 
-pub record Outgoing : Type 0 where
-  -- the frames that wait to be committed, in order
-  pub control : List Item
-  -- the replies that are awaited, in order
-  pub awaited : List Awaited
+-- one more entry, where there is a value
+abbrev pub seen_first : {X : Type 0} → ℕ → Option X → List (ℕ × X) → List (ℕ × X)
+seen_first n None entries = entries
+seen_first n (Some x) entries = (n, x) ∷ entries
 
--- ---- the channel that a command names
+-- the entries whose values are seen, as what is seen of them
+abbrev pub seen : {X Y : Type 0} → (Y → Option X) → List (ℕ × Y) → List (ℕ × X)
+seen f [] = []
+seen f (e ∷ es) = seen_first e.0 (f e.1) (seen f es)
 
--- this is the named channel, and it is open
-pub record IsOpenNamed (r : ChanRef) (c : Channel) (t : Talk) : Type 0 where
-  pub named : named r t ≡ Some c
-  pub listed : channel_at r.id t ≡ Some c
-  pub open_state : c.state ≡ Connected
+-- what is seen of an entry, where there is one
+abbrev pub seen_at : {X Y : Type 0} → (Y → Option X) → Option Y → Option X
+seen_at f None = None
+seen_at f (Some y) = f y
 
--- what is told of the named channel is refused so, whatever it is
-abbrev pub Refuses : ChanRef → Word → ErrorKind → Talk → Type 0
-Refuses r word e t = (f : Channel → Talk → Talk) → on_open_channel r word f t ≡ refuse e t
+-- a map once a value at a number is seen so
+abbrev pub placed : {X : Type 0} → ℕ → Option X → List (ℕ × X) → List (ℕ × X)
+placed n None entries = without n entries
+placed n (Some x) entries = put n x entries
+
+-- a promise as it is seen: a place that is made for one is none
+abbrev pub slot_seen : Slot → Option (Option (Result Answer ErrorKind))
+slot_seen Place = None
+slot_seen Waiting = Some None
+slot_seen (Answered answer) = Some (Some answer)
+
+-- a promise, once it got an answer: where it waits
+abbrev pub slot_settled : Result Answer ErrorKind → Slot → Slot
+slot_settled answer Waiting = Answered answer
+slot_settled answer slot = slot
+
+abbrev pub some_awaited : List Awaited → Option (List Awaited)
+some_awaited [] = None
+some_awaited (a ∷ list) = Some (a ∷ list)
+
+-- what is awaited on a channel as it is seen: no reply is none
+abbrev pub list_seen : Replies → Option (List Awaited)
+list_seen r = some_awaited r.items.items
+
+-- a channel has a place for one more reply
+abbrev pub HasPlace : ℕ → List (ℕ × Replies) → Type 0
+HasPlace channel lists = (r : Replies) × (at channel lists ≡ Some r) × (length r.items.items < deque_capacity r.items)
+
+-- ---- how a session ended
+
+abbrev pub ended_by : Option ServerClose → Result (Unit {0}) ErrorKind
+ended_by (Some (WithError e)) = Err (ProtocolError e)
+ended_by _ = Ok tt
+
+abbrev pub ended_as : Option ServerClose → End → Result (Unit {0}) ErrorKind
+ended_as told ByServer = ended_by told
+ended_as told (Failed e) = Err e
+
+-- where a session stands with its link: the end by the server's close is told by that close
+abbrev pub link_seen : Option ServerClose → Link End → Link ErrorKind
+link_seen told Wanted = Wanted
+link_seen told Asked = Asked
+link_seen told Open = Open
+link_seen told (Ended (Ok closed)) = Ended (Ok closed)
+link_seen told (Ended (Err how)) = Ended (ended_as told how)
 
 -- ---- one committed frame at a time
 
 -- the first committed frame, where its last byte is among the next n
-abbrev pub first_sent : ℕ → List Mark → Option Mark
-first_sent n [] = None
-first_sent n (m ∷ ms) = if nat_le m.left n then Some m else None
+abbrev pub first_among : ℕ → List Mark → Option Mark
+first_among n [] = None
+first_among n (m ∷ ms) = if nat_le m.left n then Some m else None
 
 -- what is then left of the committed frames
 abbrev pub after_first : ℕ → List Mark → List Mark
 after_first n [] = []
 after_first n (m ∷ ms) = if nat_le m.left n then ms else record m { left = m.left - n } ∷ ms
+
+-- the first frame that is sent by the next n bytes, while the link is open
+abbrev pub first_sent : ℕ → Talk → Option Mark
+first_sent n t = if is_open t then first_among n t.committed else None
+
+-- the state without it, or without n of its bytes
+abbrev pub after_sent : ℕ → Talk → Talk
+after_sent n t = if is_open t then record t { committed = after_first n t.committed } else t

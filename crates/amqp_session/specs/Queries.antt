@@ -1,5 +1,5 @@
 -- What is told of a channel.
-use Rattle.std.specs.Prelude.{ℕ, ◌==◌, Bool, false, Option, Some, None, option_map, find}
+use Rattle.std.specs.Prelude.{ℕ, Bool, false, Option, Some, None, option_map, unwrap_or}
 use Rattle.amqp_session.specs.declared.state.ConnectionState.{ConnectionState}
 use Rattle.amqp_session.specs.declared.state.ConnectionState.TheVariants.{Error}
 use Rattle.amqp_session.specs.declared.state.ChannelState.{ChannelState}
@@ -7,6 +7,7 @@ use Rattle.amqp_session.specs.declared.state.ChannelState.TheVariants as channel
 use Rattle.amqp_session.specs.declared.channels.Channel.{Channel}
 use Rattle.amqp_session.specs.declared.command.ChanRef.{ChanRef}
 use Rattle.amqp_session.specs.Talk.{Talk}
+use Rattle.amqp_session.specs.Channels.{opening_in}
 use Rattle.amqp_session.specs.Commands.{named}
 
 -- the state of a channel that is gone: Error where the session ended with an error, and else Closed
@@ -22,14 +23,10 @@ state_of (Some c) t = c.state
 abbrev pub channel_state : ChanRef → Talk → ChannelState
 channel_state r t = state_of (named r t) t
 
-abbrev pub confirm_of : Option Channel → Bool
-confirm_of None = false
-confirm_of (Some c) = c.confirm
-
 -- whether what is published on a channel is confirmed
 abbrev pub confirm : ChanRef → Talk → Bool
-confirm r t = confirm_of (named r t)
+confirm r t = unwrap_or (option_map (λ (c : Channel). c.confirm) (named r t)) false
 
 -- the number of the listed channel that a promise opened
 abbrev pub opening : ℕ → Talk → Option ℕ
-opening opened t = option_map (λ e. e.0) (find (λ e. (e.1).opened == opened) t.channels)
+opening opened t = opening_in opened t.channels

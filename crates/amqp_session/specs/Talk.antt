@@ -1,21 +1,21 @@
 -- The plain state of a session, in enums, numbers, lists and finite maps.
-use Rattle.std.specs.Prelude.{ℕ, Bool, false, true, List, [], ◌∷◌, Option, Some, None, Result, is_some}
+use Rattle.std.specs.Prelude.{ℕ, Bool, false, true, ◌&&◌, List, [], ◌∷◌, Option, Some, None, Result, is_some}
 use Rattle.amqp_session.specs.declared.state.ConnectionState.{ConnectionState}
-use Rattle.amqp_session.specs.declared.state.ConnectionState.TheVariants.{Initial}
+use Rattle.amqp_session.specs.declared.state.ConnectionState.TheVariants.{Initial, Closing}
 use Rattle.amqp_session.specs.declared.state.Phase.{Phase}
 use Rattle.amqp_session.specs.declared.state.Phase.TheVariants.{AwaitStart}
 use Rattle.amqp_session.specs.declared.state.Link.{Link}
 use Rattle.amqp_session.specs.declared.state.Link.TheVariants.{Wanted, Asked, Open, Ended}
 use Rattle.amqp_session.specs.declared.state.Input.{Input}
 use Rattle.amqp_session.specs.declared.state.Input.TheVariants.{Acting, Dropped}
+use Rattle.amqp_session.specs.declared.capacity.TheConstants.{INITIAL_CAPACITY}
 use Rattle.amqp_session.specs.declared.configuration.Configuration.{Configuration}
 use Rattle.amqp_session.specs.declared.channels.Channel.{Channel}
 use Rattle.amqp_session.specs.declared.lanes.Item.{Item}
-use Rattle.amqp_session.specs.declared.lanes.Awaited.{Awaited}
+use Rattle.amqp_session.specs.declared.awaiting.Awaited.{Awaited}
 use Rattle.amqp_session.specs.declared.committed.Mark.{Mark}
 use Rattle.amqp_session.specs.declared.handed.Handed.{Handed}
-use Rattle.amqp_session.specs.declared.promises.Slot.{Slot}
-use Rattle.amqp_session.specs.declared.promises.Slot.TheVariants.{Waiting}
+use Rattle.amqp_session.specs.declared.command.Answer.{Answer}
 use Rattle.amqp_session.specs.declared.server_close.ServerClose.{ServerClose}
 use Rattle.amqp_session.specs.declared.error.ErrorKind.{ErrorKind}
 
@@ -24,11 +24,13 @@ pub record Talk : Type 0 where
   -- what the handshake awaits, while the state is Connecting
   pub phase : Phase
   -- where the session stands with its link, and how it ended
-  pub link : Link
+  pub link : Link ErrorKind
   -- what is done with the frames that come on the open link
   pub input : Input
   -- the numbers of the connection, 0 where nothing is wished or agreed
   pub configuration : Configuration
+  -- how many bytes can be unsent, and how long a frame may be that is read
+  pub capacity : ℕ
   -- the listed channels, by their numbers
   pub channels : List (ℕ × Channel)
   -- the number of a channel to be drawn next, where 0 is the first
@@ -37,12 +39,14 @@ pub record Talk : Type 0 where
   pub control : List Item
   -- the committed frames that are not wholly sent, in order
   pub committed : List Mark
-  -- the replies that are awaited, in order
-  pub awaited : List Awaited
+  -- the replies that are awaited, in order, by the number of their channel; no channel has none
+  pub awaited : List (ℕ × List Awaited)
   -- the frames handed out and not yet taken, in order, by the promise that opened their channel
   pub handed : List (ℕ × List Handed)
-  -- what has become of each promise, from 0 on
-  pub promises : List Slot
+  -- how many promises were made, which are numbered from 0 on
+  pub made : ℕ
+  -- the promises that wait, and those whose answer was not taken, with that answer
+  pub promises : List (ℕ × Option (Result Answer ErrorKind))
   -- how the server closed the connection, once it did
   pub server_close : Option ServerClose
   -- the moments of the last happening, of the last reading and of the last writing, in milliseconds
@@ -59,22 +63,29 @@ start =
       link = Wanted;
       input = Acting;
       configuration = record { channel_max = 0; frame_max = 0; heartbeat = 0 };
+      capacity = INITIAL_CAPACITY;
       channels = [];
       cursor = 0;
       control = [];
       committed = [];
       awaited = [];
       handed = [];
-      promises = Waiting ∷ [];
+      made = 1;
+      promises = (0, None) ∷ [];
       server_close = None;
       present = 0;
       last_read = 0;
       last_write = 0;
     }
 
+-- the state is Closing
+abbrev pub is_closing : ConnectionState → Bool
+is_closing Closing = true
+is_closing _ = false
+
 -- ---- where a session stands with its link
 
-abbrev pub is_wanted_link : Link → Bool
+abbrev pub is_wanted_link : Link ErrorKind → Bool
 is_wanted_link Wanted = true
 is_wanted_link Asked = true
 is_wanted_link _ = false
@@ -83,7 +94,7 @@ is_wanted_link _ = false
 abbrev pub wants_link : Talk → Bool
 wants_link t = is_wanted_link t.link
 
-abbrev pub is_asked_link : Link → Bool
+abbrev pub is_asked_link : Link ErrorKind → Bool
 is_asked_link Asked = true
 is_asked_link _ = false
 
@@ -91,7 +102,7 @@ is_asked_link _ = false
 abbrev pub is_asked : Talk → Bool
 is_asked t = is_asked_link t.link
 
-abbrev pub is_open_link : Link → Bool
+abbrev pub is_open_link : Link ErrorKind → Bool
 is_open_link Open = true
 is_open_link _ = false
 
@@ -99,7 +110,7 @@ is_open_link _ = false
 abbrev pub is_open : Talk → Bool
 is_open t = is_open_link t.link
 
-abbrev pub end_of_link : Link → Option (Result (Unit {0}) ErrorKind)
+abbrev pub end_of_link : Link ErrorKind → Option (Result (Unit {0}) ErrorKind)
 end_of_link (Ended result) = Some result
 end_of_link _ = None
 
@@ -110,8 +121,16 @@ end_of t = end_of_link t.link
 abbrev pub has_ended : Talk → Bool
 has_ended t = is_some (end_of t)
 
+abbrev pub is_acting : Input → Bool
+is_acting Acting = true
+is_acting _ = false
+
+-- the frames that come on the open link act
+abbrev pub acts : Talk → Bool
+acts t = is_open t && is_acting t.input
+
 abbrev pub is_dropped_input : Input → Bool
-is_dropped_input Dropped = true
+is_dropped_input (Dropped crossed) = true
 is_dropped_input _ = false
 
 -- no more of the open link's input is read

@@ -23,18 +23,18 @@ abbrev pub frame_too_large : ℕ → ErrorKind
 frame_too_large size = protocol_error 501 (codes "frame too large: " ++ decimal (size + 8) ++ codes " bytes")
 
 -- 501, frame-error: a heartbeat on another channel than 0
-abbrev pub heartbeat_on : ℕ → ErrorKind
-heartbeat_on channel = protocol_error 501 (codes "heartbeat frame received on channel " ++ decimal channel)
+abbrev pub stray_heartbeat : ℕ → ErrorKind
+stray_heartbeat channel = protocol_error 501 (codes "heartbeat frame received on channel " ++ decimal channel)
 
 -- what was read and is no frame
 abbrev pub misread_error : Misread → ErrorKind
 misread_error (TooLarge size) = frame_too_large size
-misread_error (BadHeartbeat channel) = heartbeat_on channel
+misread_error (BadHeartbeat channel) = stray_heartbeat channel
 misread_error (Bad place) = ParsingError place
 
 -- 503, command-invalid: a method of the connection class on another channel than 0
-abbrev pub connection_method_on : ℕ → ErrorKind
-connection_method_on channel = protocol_error 503 (codes "connection frame received on channel " ++ decimal channel)
+abbrev pub stray_connection_method : ℕ → ErrorKind
+stray_connection_method channel = protocol_error 503 (codes "connection frame received on channel " ++ decimal channel)
 
 -- what a frame that is passed through is called
 abbrev pub raw_name : RawKind → List ℕ
@@ -43,8 +43,8 @@ raw_name Header = codes "content header"
 raw_name Body = codes "body"
 
 -- 504, channel-error: a frame of a channel on channel 0
-abbrev pub on_channel_0 : RawKind → ErrorKind
-on_channel_0 kind = protocol_error 504 (raw_name kind ++ codes " frame received on channel 0")
+abbrev pub stray_channel_frame : RawKind → ErrorKind
+stray_channel_frame kind = protocol_error 504 (raw_name kind ++ codes " frame received on channel 0")
 
 -- the name of a method of the channel class
 abbrev pub method_name : Method → List ℕ
@@ -61,5 +61,5 @@ unawaited method channel =
     protocol_error 505 (codes "unexpected channel." ++ method_name method ++ codes " received on channel " ++ decimal channel)
 
 -- what the server's close tells, by its code: an error, or that the connection is closed
-abbrev pub server_close : ℕ → List ℕ → ServerClose
-server_close code text = if is_some (kind_of code) then WithError (record { code = code; message = text }) else WithoutError
+abbrev pub closed_with : ℕ → List ℕ → ServerClose
+closed_with code text = if is_some (kind_of code) then WithError (record { code = code; message = text }) else WithoutError

@@ -1,5 +1,8 @@
 -- Writing: which frame goes out next, and what becomes of the bytes of those that went.
-use Rattle.std.specs.Prelude.{ℕ, ◌-◌, ◌==◌, ◌&&◌, not, nat_le, if◌then◌else◌, List, [], ◌∷◌, ◌++◌, drop, length, sum_by, Option, Some, None, Ok}
+use Rattle.std.specs.Prelude.{ℕ, zero, ◌-◌, ◌==◌, ◌&&◌, Bool, true, false, not, nat_le, if◌then◌else◌, List, [], ◌∷◌, ◌++◌, drop, length, sum_by, Option, Some, None, Ok}
+use Rattle.amqp_frame.specs.declared.frame.Frame.{Frame}
+use Rattle.amqp_frame.specs.declared.frame.Frame.TheVariants.{Method}
+use Rattle.amqp_frame.specs.declared.method.Method.TheVariants.{CloseOk}
 use Rattle.amqp_frame.specs.Frames.{encoding}
 use Rattle.amqp_session.specs.declared.lanes.Item.{Item}
 use Rattle.amqp_session.specs.declared.committed.Mark.{Mark}
@@ -8,6 +11,10 @@ use Rattle.amqp_session.specs.declared.committed.Then.TheVariants.{Nothing, Answ
 use Rattle.amqp_session.specs.declared.command.Answer.TheVariants.{Sent}
 use Rattle.amqp_session.specs.Talk.{Talk, is_open}
 use Rattle.amqp_session.specs.Changes.{give, finish}
+
+-- how many frames wait to be committed
+abbrev pub frames_waiting : Talk → ℕ
+frames_waiting t = length t.control
 
 abbrev pub head : List Item → Option Item
 head [] = None
@@ -29,9 +36,22 @@ fitting space (Some item) = if nat_le (size_of item) space then Some item else N
 abbrev pub next_within : ℕ → Talk → Option Item
 next_within space t = fitting space (next_item t)
 
+-- close-ok of the connection, our answer to the server's close
+abbrev pub is_close_ok : Frame → Bool
+is_close_ok (Method zero CloseOk) = true
+is_close_ok _ = false
+
+abbrev pub answers : Option ℕ → Then
+answers None = Nothing
+answers (Some number) = Answer number
+
+-- what follows once a frame was sent whole: the session finishes, or a promise is answered, or nothing
+abbrev pub then_of : Item → Then
+then_of item = if is_close_ok item.frame then Finish else answers item.promise
+
 -- a frame as it is committed
 abbrev pub mark_of : Item → Mark
-mark_of item = record { left = size_of item; then = item.then }
+mark_of item = record { left = size_of item; then = then_of item }
 
 abbrev pub committed_as : Option Item → Talk → Talk
 committed_as None t = t
@@ -48,23 +68,29 @@ left_in marks = sum_by (λ (m : Mark). m.left) marks
 abbrev pub unsent : Talk → ℕ
 unsent t = left_in t.committed
 
--- what follows once a frame was sent whole: its promise is answered, or the session finishes after the server's close
+-- our answer to the server's close was sent, and the session finishes
+abbrev pub connection_close_ok_sent : Talk → Talk
+connection_close_ok_sent t = finish t
+
+-- what follows once a frame was sent whole
 abbrev pub follow : Then → Talk → Talk
 follow Nothing t = t
 follow (Answer number) t = give number (Ok Sent) t
-follow Finish t = finish t
+follow Finish t = connection_close_ok_sent t
 
 -- the first committed frame was sent whole
 abbrev pub sent : Mark → Talk → Talk
 sent m t = follow m.then (record t { committed = drop 1 t.committed })
 
--- the frames whose last byte is among so many bytes are sent, in order
+-- the committed frames whose last byte is among so many bytes are sent, in order, while the link is open
 abbrev pub sent_among : List Mark → ℕ → Talk → Talk
 sent_among [] n t = t
 sent_among (m ∷ ms) n t =
-    if nat_le m.left n
+    if is_open t
+    then if nat_le m.left n
     then sent_among ms (n - m.left) (sent m t)
     else record t { committed = record m { left = m.left - n } ∷ ms }
+    else t
 
 -- so many of the unsent bytes were taken by the open link
 abbrev pub taken : ℕ → Talk → Talk

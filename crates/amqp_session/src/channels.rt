@@ -1,9 +1,9 @@
 //! The listed channels.
 
-ghost use Rattle.std.specs.Prelude.{◌≡◌, ◌==◌, ◌≤◌, ◌<◌, [], None, IfSome, OnOk, OnErr, IsSome, option_map, length, find};
+ghost use Rattle.std.specs.Prelude.{◌≡◌, ◌≤◌, [], None, IfSome, OnOk, OnErr, IsSome, length};
 ghost use Rattle.amqp_session.specs.Listed.{at, put, without, map_values};
 ghost use Rattle.amqp_session.specs.Numbering.{first_number, after, drawn};
-ghost use Rattle.amqp_session.specs.Commands.{closing, new_channel};
+ghost use Rattle.amqp_session.specs.Channels.{closing, new_channel, opening_in};
 
 use crate::numbers::Numbers;
 use crate::state::ChannelState;
@@ -38,22 +38,22 @@ impl Channel {
     }
 }
 
-/// The listed channels, by their numbers.
+/// The listed channels, by their numbers, and the cursor from which the next number is drawn.
 #[derive(Debug, Drop)]
 pub struct Channels {
     listed: BTreeMap<ChannelId, Channel>,
     numbers: Numbers,
+    cursor: ChannelId,
 }
 
 impl Model for Channels {
-    ghost use Rattle.std.specs.Prelude.{ℕ, List};
-    ghost use Rattle.amqp_session.specs.declared.channels.Channel.{Channel};
+    ghost use Rattle.std.specs.Prelude.{◌≡◌, ℕ};
+    ghost use Rattle.amqp_session.specs.Channels.{Listing};
 
-    ghost Value = { List (ℕ × Channel) };
+    ghost Value = { Listing };
 
-    ghost view = { λ c. c.listed.entries };
+    ghost view = { λ c. record { listed = c.listed.entries; cursor = c.cursor } };
 
-    ghost use Rattle.std.specs.Prelude.{◌≡◌};
     ghost use Rattle.amqp_session.specs.Listed.{has};
     ghost use Rattle.amqp_session.specs.NumberSet.{is_member};
 
@@ -63,31 +63,46 @@ impl Model for Channels {
 
 impl Channels {
     pub fn new(alloc: Global) -> Channels
-        ensures { result ≡ [] }
+        ensures { result ≡ record { listed = []; cursor = 0 } }
     {
         Channels {
             listed: BTreeMap::new(alloc),
             numbers: Numbers::new(alloc),
+            cursor: 0,
         }
     }
 
     /// How many channels are listed.
     pub fn len(&self) -> u64
-        ensures { result ≡ length self.now }
+        ensures { result ≡ length self.now.listed }
     {
         self.listed.len() as u64
     }
 
     /// The channel of a number.
     pub fn get(&self, id: ChannelId) -> Option<Channel>
-        ensures { result ≡ at id self.now }
+        ensures { result ≡ at id self.now.listed }
     {
         self.listed.get(&id).copied()
     }
 
+    /// The number from which the next is drawn, where 0 is the first.
+    pub fn cursor(&self) -> ChannelId
+        ensures { result ≡ self.now.cursor }
+    {
+        self.cursor
+    }
+
+    /// The cursor goes on.
+    pub fn set_cursor(&mut self, cursor: ChannelId)
+        ensures { self.new ≡ record self.old { cursor = cursor } }
+    {
+        self.cursor = cursor;
+    }
+
     /// Lists a channel.
     pub fn list(&mut self, id: ChannelId, channel: Channel) -> Result<(), NoMemory>
-        ensures ok { OnOk result (self.new ≡ put id channel self.old) }
+        ensures ok { OnOk result (self.new ≡ record self.old { listed = put id channel self.old.listed }) }
         ensures err { OnErr result (self.new ≡ self.old) }
     {
         self.numbers.reserve(id)?;
@@ -98,8 +113,8 @@ impl Channels {
 
     /// Changes a channel that is listed.
     pub fn set(&mut self, id: ChannelId, channel: Channel)
-        requires { IsSome (at id self.old) }
-        ensures { self.new ≡ put id channel self.old }
+        requires { IsSome (at id self.old.listed) }
+        ensures { self.new ≡ record self.old { listed = put id channel self.old.listed } }
     {
         // Its place is there, so that nothing is asked for and nothing refused.
         let _ = self.listed.insert(id, channel);
@@ -107,7 +122,7 @@ impl Channels {
 
     /// A channel goes.
     pub fn remove(&mut self, id: ChannelId)
-        ensures { self.new ≡ without id self.old }
+        ensures { self.new ≡ record self.old { listed = without id self.old.listed } }
     {
         self.listed.remove(&id);
         self.numbers.remove(id);
@@ -115,7 +130,7 @@ impl Channels {
 
     /// All channels go.
     pub fn clear(&mut self)
-        ensures { self.new ≡ [] }
+        ensures { self.new ≡ record self.old { listed = [] } }
     {
         self.listed.clear();
         self.numbers.clear();
@@ -123,7 +138,7 @@ impl Channels {
 
     /// All channels are closing.
     pub fn close_all(&mut self)
-        ensures { self.new ≡ map_values closing self.old }
+        ensures { self.new ≡ record self.old { listed = map_values closing self.old.listed } }
     {
         self.listed.retain(|_, channel| {
             channel.state = ChannelState::Closing;
@@ -133,7 +148,7 @@ impl Channels {
 
     /// The number of the channel that a promise opened.
     pub fn opened_by(&self, opened: u64) -> Option<ChannelId>
-        ensures { result ≡ option_map (λ e. e.0) (find (λ e. (e.1).opened == opened) self.now) }
+        ensures { result ≡ opening_in opened self.now.listed }
     {
         for (id, channel) in &self.listed {
             if channel.opened == opened {
@@ -146,8 +161,8 @@ impl Channels {
     /// The first number in the cycle from a first one that is not listed.
     pub fn draw(&self, channel_max: ChannelId, first: ChannelId) -> Option<ChannelId>
         requires { 1 ≤ first }
-        ensures drawn { result ≡ drawn channel_max first self.now }
-        ensures unlisted { IfSome result (λ id. at id self.now ≡ None) }
+        ensures drawn { result ≡ drawn channel_max first self.now.listed }
+        ensures unlisted { IfSome result (λ id. at id self.now.listed ≡ None) }
     {
         let until = channel_max as u32 + 1;
         match self.numbers.first_absent(first as u32, until) {
@@ -169,9 +184,9 @@ pub fn first_number(channel_max: ChannelId, cursor: ChannelId) -> ChannelId
     }
 }
 
-/// The number after another in the cycle.
+/// The cursor after a number was drawn.
 pub fn after(channel_max: ChannelId, id: ChannelId) -> ChannelId
     ensures { result ≡ after channel_max id }
 {
-    if id < channel_max { id + 1 } else { 1 }
+    if id < channel_max { id + 1 } else { 0 }
 }

@@ -3,7 +3,7 @@
 ghost use Rattle.std.specs.Prelude.{◌≡◌, ◌+◌, ◌<◌, ◌≤◌, ◌^◌, ◌++◌, ◌∷◌, [], length, OnOk};
 ghost use Rattle.std.specs.VecDeque.{deque_capacity};
 ghost use Rattle.amqp_session.specs.Writing.{left_in};
-ghost use Rattle.amqp_session.specs.Parts.{first_sent, after_first};
+ghost use Rattle.amqp_session.specs.Parts.{first_among, after_first};
 
 use amqp_types::NoMemory;
 use std::alloc::Global;
@@ -69,7 +69,7 @@ impl Committed {
     /// Takes out the first frame, where its last byte is among the next n. Else these n are taken
     /// from it.
     pub fn take_first(&mut self, n: u64) -> Option<Mark>
-        ensures first { result ≡ first_sent n self.old.marks.items }
+        ensures first { result ≡ first_among n self.old.marks.items }
         ensures rest { self.new.marks.items ≡ after_first n self.old.marks.items }
         ensures kept { deque_capacity self.new.marks ≡ deque_capacity self.old.marks }
     {

@@ -1,6 +1,6 @@
 //! The numbers of a connection, and how both peers agree on them.
 
-ghost use Rattle.std.specs.Prelude.{◌≡◌};
+ghost use Rattle.std.specs.Prelude.{◌≡◌, ◌≤◌, max};
 ghost use Rattle.amqp_session.specs.Negotiation.{lesser_wish, tune};
 
 use amqp_types::{ChannelId, FrameSize, Heartbeat};
@@ -43,8 +43,8 @@ impl Configuration {
 pub fn tune(own: Configuration, server: Configuration) -> Configuration
     ensures { result ≡ tune own server }
 {
-    let channel_max = lesser_short(own.channel_max, server.channel_max);
-    let frame_max = lesser_long(own.frame_max, server.frame_max);
+    let channel_max = lesser_wish(own.channel_max as u32, server.channel_max as u32) as ChannelId;
+    let frame_max = lesser_wish(own.frame_max, server.frame_max);
     Configuration {
         channel_max: if channel_max == 0 {
             ChannelId::MAX
@@ -56,25 +56,14 @@ pub fn tune(own: Configuration, server: Configuration) -> Configuration
         } else {
             frame_max.max(FRAME_MIN_SIZE)
         },
-        heartbeat: lesser_short(own.heartbeat, server.heartbeat),
+        heartbeat: lesser_wish(own.heartbeat as u32, server.heartbeat as u32) as Heartbeat,
     }
 }
 
 // The lesser of two wishes, where 0 is none.
-fn lesser_short(own: u16, server: u16) -> u16
-    ensures { result ≡ lesser_wish own server }
-{
-    if own == 0 {
-        return server;
-    }
-    if server == 0 {
-        return own;
-    }
-    own.min(server)
-}
-
-fn lesser_long(own: u32, server: u32) -> u32
-    ensures { result ≡ lesser_wish own server }
+fn lesser_wish(own: u32, server: u32) -> u32
+    ensures lesser { result ≡ lesser_wish own server }
+    ensures small { result ≤ max own server }
 {
     if own == 0 {
         return server;

@@ -1,190 +1,133 @@
-//! The frames that wait to be committed, and the replies that are awaited.
+//! The frames that wait to be committed.
 
-ghost use Rattle.std.specs.Prelude.{◌≡◌, ◌++◌, ◌∷◌, [], ◌<◌, ◌^◌, drop, length, position, option_copied, IfNone, OnOk, OnErr};
-ghost use Rattle.amqp_session.specs.Replies.{is_of, is_same_reply, first_awaited, without_first};
-ghost use Rattle.amqp_session.specs.Writing.{head};
+ghost use Rattle.std.specs.Prelude.{◌≡◌, ◌+◌, ◌++◌, ◌∷◌, [], ◌<◌, ◌≤◌, ◌^◌, drop, length, option_copied, IfSome, IfNone, OnOk};
+ghost use Rattle.std.specs.VecDeque.{deque_capacity};
+ghost use Rattle.amqp_session.specs.Changes.{plain};
+ghost use Rattle.amqp_session.specs.Writing.{head, is_close_ok, then_of, mark_of, size_of};
 
-use crate::committed::Then;
-use amqp_frame::Frame;
+use crate::committed::{Mark, Then};
+use amqp_frame::{Frame, Method, encoded_len};
 use amqp_types::{ChannelId, NoMemory};
 use std::alloc::Global;
 use std::collections::VecDeque;
-use std::marker::Model;
 
-/// A frame that waits, and what follows once it was sent whole.
+/// A frame that waits, on a channel, and the promise that it answers once it was sent whole.
 #[derive(Debug, Drop)]
 pub struct Item {
+    pub channel: ChannelId,
     pub frame: Frame,
-    pub then: Then,
+    pub promise: Option<u64>,
 }
 
 impl Item {
-    /// A frame that nothing follows.
-    pub fn plain(frame: Frame) -> Item
-        ensures { result ≡ record { frame = frame; then = Then.Nothing } }
+    /// A frame that answers no promise.
+    pub fn plain(channel: ChannelId, frame: Frame) -> Item
+        ensures { result ≡ plain channel frame }
     {
         Item {
+            channel,
             frame,
-            then: Then::Nothing,
+            promise: None,
+        }
+    }
+
+    /// The mark of it once it is committed, where it is at most so many bytes long.
+    pub fn mark_within(&self, space: u64) -> Option<Mark>
+        requires { space < 2 ^ 63 }
+        ensures fits { IfSome result (λ m. (m ≡ mark_of self.now) × (size_of self.now ≤ space)) }
+        ensures long { IfNone result (space < size_of self.now) }
+    {
+        let left = encoded_len(&self.frame);
+        if left > space {
+            return None;
+        }
+        let then = self.then();
+        Some(Mark { left, then })
+    }
+
+    // What follows once it was sent whole.
+    fn then(&self) -> Then
+        ensures { result ≡ then_of self.now }
+    {
+        if is_close_ok(&self.frame) {
+            return Then::Finish;
+        }
+        match self.promise {
+            Some(number) => Then::Answer(number),
+            None => Then::Nothing,
         }
     }
 }
 
-/// What the server answers with.
-#[derive(Clone, Copy, Debug, PartialEq, Eq)]
-pub enum Reply {
-    /// channel.open-ok
-    ChannelOpened,
-    /// channel.close-ok
-    ChannelClosed,
-    /// connection.close-ok
-    ConnectionClosed,
+// Whether a frame is our answer to the server's close.
+fn is_close_ok(frame: &Frame) -> bool
+    ensures { result ≡ is_close_ok frame.now }
+{
+    matches!(frame, Frame::Method(0, Method::CloseOk))
 }
 
-impl Reply {
-    fn is(self, other: Reply) -> bool
-        ensures { result ≡ is_same_reply self other }
-    {
-        matches!(
-            (self, other),
-            (Reply::ChannelOpened, Reply::ChannelOpened)
-                | (Reply::ChannelClosed, Reply::ChannelClosed)
-                | (Reply::ConnectionClosed, Reply::ConnectionClosed)
-        )
-    }
-}
-
-/// A reply that is awaited on a channel, and the promise that it answers.
-#[derive(Clone, Copy, Debug, PartialEq, Eq)]
-pub struct Awaited {
-    pub channel: ChannelId,
-    pub reply: Reply,
-    pub promise: Option<u64>,
-}
-
-impl Awaited {
-    fn is_of(&self, channel: ChannelId, reply: Reply) -> bool
-        ensures { result ≡ is_of channel reply self.now }
-    {
-        self.channel == channel && self.reply.is(reply)
-    }
-}
-
-/// The control lane, and the replies that are awaited.
+/// The control lane.
 #[derive(Debug, Drop)]
 pub struct Lanes {
     control: VecDeque<Item>,
-    awaited: VecDeque<Awaited>,
-}
-
-impl Model for Lanes {
-    ghost use Rattle.amqp_session.specs.Parts.{Outgoing};
-
-    ghost Value = { Outgoing };
-
-    ghost use Rattle.std.specs.Coded.{codes};
-    ghost use Rattle.amqp_types.specs.ValueCode.{value_code};
-
-    ghost coded = { Prim.hlevel (codes, value_code) };
-
-    ghost view = { λ l. record { control = l.control.items; awaited = l.awaited.items } };
 }
 
 impl Lanes {
     pub fn new(alloc: Global) -> Lanes
-        ensures { result ≡ record { control = []; awaited = [] } }
+        ensures { result.control.items ≡ [] }
     {
         Lanes {
             control: VecDeque::new(alloc),
-            awaited: VecDeque::new(alloc),
         }
     }
 
     /// How many frames wait.
     pub fn len(&self) -> usize
-        ensures frames { result ≡ length self.now.control }
+        ensures frames { result ≡ length self.now.control.items }
         ensures small { result < 2 ^ 63 }
     {
         self.control.len()
     }
 
+    /// Makes places for so many frames more.
+    pub fn reserve(&mut self, frames: usize) -> Result<(), NoMemory>
+        ensures items { self.new.control.items ≡ self.old.control.items }
+        ensures ok { OnOk result (length self.old.control.items + frames ≤ deque_capacity self.new.control) }
+    {
+        self.control.reserve(frames)?;
+        Ok(())
+    }
+
     /// A frame goes last.
-    pub fn queue(&mut self, item: Item) -> Result<(), NoMemory>
-        ensures ok { OnOk result (self.new ≡ record self.old { control = self.old.control ++ item ∷ [] }) }
-        ensures err { OnErr result (self.new ≡ self.old) }
+    pub fn push_reserved(&mut self, item: Item)
+        requires { length self.old.control.items < deque_capacity self.old.control }
+        ensures items { self.new.control.items ≡ self.old.control.items ++ item ∷ [] }
+        ensures kept { deque_capacity self.new.control ≡ deque_capacity self.old.control }
     {
-        self.control.push_back(item)?;
-        Ok(())
-    }
-
-    /// Two frames go last.
-    pub fn queue_both(&mut self, first: Item, second: Item) -> Result<(), NoMemory>
-        ensures ok { OnOk result (self.new ≡ record self.old { control = (self.old.control ++ first ∷ []) ++ second ∷ [] }) }
-        ensures err { OnErr result (self.new ≡ self.old) }
-    {
-        self.control.reserve(2)?;
-        self.control.push_back_reserved(first);
-        self.control.push_back_reserved(second);
-        Ok(())
-    }
-
-    /// A frame goes last, whose reply is awaited.
-    pub fn ask(&mut self, item: Item, awaited: Awaited) -> Result<(), NoMemory>
-        ensures ok { OnOk result (self.new ≡ record { control = self.old.control ++ item ∷ []; awaited = self.old.awaited ++ awaited ∷ [] }) }
-        ensures err { OnErr result (self.new ≡ self.old) }
-    {
-        self.awaited.reserve(1)?;
-        self.control.push_back(item)?;
-        self.awaited.push_back_reserved(awaited);
-        Ok(())
+        self.control.push_back_reserved(item);
     }
 
     /// The lane becomes this frame alone.
-    pub fn restart(&mut self, item: Item) -> Result<(), NoMemory>
-        ensures ok { OnOk result (self.new ≡ record self.old { control = item ∷ [] }) }
-        ensures err { OnErr result (self.new ≡ self.old) }
+    pub fn restart_reserved(&mut self, item: Item)
+        requires { length self.old.control.items < deque_capacity self.old.control }
+        ensures items { self.new.control.items ≡ item ∷ [] }
     {
-        self.control.reserve(1)?;
         self.control.clear();
         self.control.push_back_reserved(item);
-        Ok(())
-    }
-
-    /// No reply is awaited any more.
-    pub fn expect_nothing(&mut self)
-        ensures { self.new ≡ record self.old { awaited = [] } }
-    {
-        self.awaited.clear();
     }
 
     /// The frame that would be the next.
     pub fn front(&self) -> Option<&Item>
-        ensures { option_copied result ≡ head self.now.control }
+        ensures { option_copied result ≡ head self.now.control.items }
     {
         self.control.front()
     }
 
     /// Takes out the next frame.
     pub fn next(&mut self) -> Option<Item>
-        ensures item { result ≡ head self.old.control }
-        ensures rest { self.new ≡ record self.old { control = drop 1 self.old.control } }
+        ensures item { result ≡ head self.old.control.items }
+        ensures rest { self.new.control.items ≡ drop 1 self.old.control.items }
     {
         self.control.pop_front()
-    }
-
-    /// Takes out the first that awaits this reply on this channel.
-    pub fn answered(&mut self, channel: ChannelId, reply: Reply) -> Option<Awaited>
-        ensures first { result ≡ first_awaited channel reply self.old.awaited }
-        ensures rest { self.new ≡ record self.old { awaited = without_first channel reply self.old.awaited } }
-        ensures none { IfNone result (self.new ≡ self.old) }
-    {
-        let place = self.place_of(channel, reply)?;
-        self.awaited.remove(place)
-    }
-
-    fn place_of(&self, channel: ChannelId, reply: Reply) -> Option<usize>
-        ensures { result ≡ position (is_of channel reply) self.now.awaited }
-    {
-        self.awaited.iter().position(|a| a.is_of(channel, reply))
     }
 }

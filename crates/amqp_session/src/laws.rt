@@ -5,14 +5,16 @@ ghost use Rattle.amqp_frame.specs.Frames.{encoding};
 ghost use Rattle.amqp_session.specs.declared.lanes.Item.{Item};
 ghost use Rattle.amqp_session.specs.declared.command.Cmd.{Cmd};
 ghost use Rattle.amqp_session.specs.declared.configuration.Configuration.{Configuration};
+ghost use Rattle.amqp_session.specs.declared.error.ErrorKind.{ErrorKind};
 ghost use Rattle.amqp_session.specs.declared.error.ErrorKind.TheVariants.{InvalidConnectionState};
 ghost use Rattle.amqp_session.specs.declared.state.ConnectionState.TheVariants.{Connected};
-ghost use Rattle.amqp_session.specs.Talk.{Talk, has_ended, is_open};
+ghost use Rattle.amqp_session.specs.Talk.{Talk, start, has_ended, is_open};
 ghost use Rattle.amqp_session.specs.Negotiation.{tune};
 ghost use Rattle.amqp_session.specs.Commands.{command};
 ghost use Rattle.amqp_session.specs.Writing.{next_within, commit, taken, unsent};
 ghost use Rattle.amqp_session.specs.Answers.{answer_of, take_answer};
-ghost use Rattle.amqp_session.specs.Laws.{IsOver, IsRefused};
+ghost use Rattle.amqp_session.specs.Sound.{IsSound};
+ghost use Rattle.amqp_session.specs.Laws.{IsEnded, IsOver, StaysSound, IsRefused, IsAnsweredAtOnce, IsRefusal};
 
 /// Negotiation leaves a channel to open, and frames of at least 4,096 octets.
 pub fn negotiation_leaves_room()
@@ -21,24 +23,36 @@ pub fn negotiation_leaves_room()
 {}
 
 /// A command out of the state Connected is refused, and a refused command changes nothing but the
-/// promises.
+/// promises, and the cursor where every number is listed.
 pub fn a_refusal_changes_promises_alone()
-    ensures { (cmd : Cmd) (t : Talk) → t.state ≢ Connected → IsRefused (InvalidConnectionState t.state) t (command cmd t) }
+    ensures state { (cmd : Cmd) (t : Talk) → t.state ≢ Connected
+        → IsRefused (InvalidConnectionState t.state) t (command cmd t) }
+    ensures alone { (cmd : Cmd) (t : Talk) (e : ErrorKind) → IsAnsweredAtOnce e t (command cmd t)
+        → IsRefusal e t (command cmd t) }
+{}
+
+/// A session is in a sound state at the beginning, and each rule leads from a sound state to one; so
+/// one that has ended is Closed or in Error.
+pub fn states_stay_sound()
+    ensures first { IsSound start }
+    ensures kept { (t : Talk) → IsSound t → StaysSound t }
+    ensures ended { (t : Talk) → IsSound t → IsTrue (has_ended t) → IsEnded t }
 {}
 
 /// An ended session stays as it ended.
 pub fn an_end_is_kept()
-    ensures { (t : Talk) → IsTrue (has_ended t) → IsOver t }
+    ensures { (t : Talk) → IsEnded t → IsOver t }
 {}
 
 /// An answer is taken once.
 pub fn an_answer_is_taken_once()
-    ensures { (number : ℕ) (t : Talk) → answer_of number (take_answer number t) ≡ None }
+    ensures { (number : ℕ) (t : Talk) → IsSound t → answer_of number (take_answer number t) ≡ None }
 {}
 
-/// What is committed is unsent, and what is taken is no longer so.
+/// What is committed is unsent, and what is taken is no longer so, while the link is open.
 pub fn unsent_bytes_are_counted()
     ensures committed { (space : ℕ) (t : Talk) (item : Item) → next_within space t ≡ Some item
         → unsent (commit space t) ≡ unsent t + length (encoding item.frame) }
-    ensures taken { (n : ℕ) (t : Talk) → IsTrue (is_open t) → n ≤ unsent t → unsent (taken n t) + n ≡ unsent t }
+    ensures taken { (n : ℕ) (t : Talk) → IsTrue (is_open (taken n t)) → n ≤ unsent t
+        → unsent (taken n t) + n ≡ unsent t }
 {}

@@ -6,6 +6,8 @@
 //! `Lib.antt` gives in reading order.
 #![tactic(auto)]
 
+mod awaiting;
+mod capacity;
 mod channels;
 mod command;
 mod committed;
@@ -25,6 +27,7 @@ mod shown;
 mod state;
 mod violations;
 
+pub use capacity::INITIAL_CAPACITY;
 pub use command::{Answer, ChanRef, Cmd};
 pub use configuration::{Configuration, tune};
 pub use error::{Error, ErrorKind, Result};
@@ -32,10 +35,10 @@ pub use handed::Handed;
 pub use io_fault::IoFault;
 pub use laws::{
     a_refusal_changes_promises_alone, an_answer_is_taken_once, an_end_is_kept,
-    negotiation_leaves_room, unsent_bytes_are_counted,
+    negotiation_leaves_room, states_stay_sound, unsent_bytes_are_counted,
 };
 pub use misread::Misread;
-pub use session::{CAPACITY, Session};
+pub use session::Session;
 pub use state::{ChannelState, ConnectionState};
 
 #[cfg(test)]

@@ -1,8 +1,8 @@
 //! The session, and its queries.
 
-ghost use Rattle.std.specs.Prelude.{◌≡◌, IfOk, IfErr};
+ghost use Rattle.std.specs.Prelude.{◌≡◌, Ok, IfOk, IfErr};
 ghost use Rattle.amqp_session.specs.Talk.{start};
-ghost use Rattle.amqp_session.specs.Changes.{present_at, starve, fail, lose, close, finish, give, give_to};
+ghost use Rattle.amqp_session.specs.Changes.{present_at, starve, fail, lose, misplaced, close, finish, give, give_to};
 
 mod answers;
 mod channel_methods;
@@ -10,9 +10,12 @@ mod commands;
 mod connection_methods;
 mod frames;
 mod links;
+mod places;
 mod queries;
 mod writing;
 
+use crate::awaiting::Awaiting;
+use crate::capacity::Capacity;
 use crate::channels::Channels;
 use crate::command::Answer;
 use crate::committed::Committed;
@@ -20,15 +23,12 @@ use crate::configuration::Configuration;
 use crate::error::{self, ErrorKind};
 use crate::handed::Backlog;
 use crate::lanes::Lanes;
-use crate::promises::{Slot, settle};
+use crate::promises::Promises;
 use crate::server_close::ServerClose;
-use crate::state::{ConnectionState, Input, Link, Phase};
-use amqp_types::{ChannelId, NoMemory};
+use crate::state::{ConnectionState, End, Input, Link, Phase};
+use amqp_types::NoMemory;
 use std::alloc::Global;
 use std::marker::Model;
-
-/// How many bytes can be unsent, until the buffers grow with the frames that the peers agree on.
-pub const CAPACITY: u64 = 131_072;
 
 /// The client's side of a connection.
 #[derive(Debug, Drop)]
@@ -36,15 +36,16 @@ pub struct Session {
     alloc: Global,
     state: ConnectionState,
     phase: Phase,
-    link: Link,
+    link: Link<End>,
     input: Input,
     configuration: Configuration,
+    capacity: Capacity,
     channels: Channels,
-    cursor: ChannelId,
     lanes: Lanes,
     committed: Committed,
+    awaiting: Awaiting,
     backlog: Backlog,
-    promises: Vec<Slot>,
+    promises: Promises,
     server_close: Option<ServerClose>,
     present: u64,
     last_read: u64,
@@ -55,6 +56,7 @@ impl Model for Session {
     ghost use Rattle.std.specs.Prelude.{◌≤◌, ◌+◌, length};
     ghost use Rattle.std.specs.VecDeque.{deque_capacity};
     ghost use Rattle.amqp_session.specs.Talk.{Talk};
+    ghost use Rattle.amqp_session.specs.Parts.{link_seen, seen, slot_seen, list_seen};
 
     ghost Value = { Talk };
 
@@ -66,16 +68,18 @@ impl Model for Session {
     ghost view = { λ s. record {
       state = s.state;
       phase = s.phase;
-      link = s.link;
+      link = link_seen s.server_close s.link;
       input = s.input;
       configuration = s.configuration;
-      channels = s.channels;
-      cursor = s.cursor;
-      control = s.lanes.control;
+      capacity = s.capacity.octets;
+      channels = s.channels.listed;
+      cursor = s.channels.cursor;
+      control = s.lanes.control.items;
       committed = s.committed.marks.items;
-      awaited = s.lanes.awaited;
+      awaited = seen list_seen s.awaiting.lists.entries;
       handed = s.backlog;
-      promises = s.promises.items;
+      made = s.promises.made;
+      promises = seen slot_seen s.promises.slots.entries;
       server_close = s.server_close;
       present = s.present;
       last_read = s.last_read;
@@ -83,11 +87,11 @@ impl Model for Session {
     } };
 
     ghost use Rattle.amqp_session.specs.Writing.{left_in};
-    ghost use Rattle.amqp_session.specs.declared.session.TheConstants.{CAPACITY};
 
     // Each frame that will be committed has its place already, and what is unsent fits the capacity.
-    ghost invariant = { λ s. (length s.committed.marks.items + length s.lanes.control ≤ deque_capacity s.committed.marks)
-        × (left_in s.committed.marks.items ≤ CAPACITY) };
+    ghost invariant = { λ s. (length s.committed.marks.items + length s.lanes.control.items ≤
+        deque_capacity s.committed.marks)
+        × (left_in s.committed.marks.items ≤ s.capacity.octets) };
 }
 
 impl Session {
@@ -102,8 +106,9 @@ impl Session {
     fn begin(alloc: Global) -> Result<Session, NoMemory>
         ensures { IfOk result (λ s. s ≡ start) }
     {
-        let mut promises = Vec::new(alloc);
-        promises.push(Slot::Waiting)?;
+        let mut promises = Promises::new(alloc);
+        promises.reserve()?;
+        promises.promise_reserved();
         Ok(Session {
             alloc,
             state: ConnectionState::Initial,
@@ -115,10 +120,11 @@ impl Session {
                 frame_max: 0,
                 heartbeat: 0,
             },
+            capacity: Capacity::initial(),
             channels: Channels::new(alloc),
-            cursor: 0,
             lanes: Lanes::new(alloc),
             committed: Committed::new(alloc),
+            awaiting: Awaiting::new(alloc),
             backlog: Backlog::new(alloc),
             promises,
             server_close: None,
@@ -151,7 +157,7 @@ impl Session {
         ensures { self.new ≡ fail kind self.old }
     {
         self.state = ConnectionState::Error;
-        self.link = Link::Ended(Err(kind.into()));
+        self.link = Link::Ended(Err(End::Failed(kind.into())));
         self.channels.clear();
     }
 
@@ -174,20 +180,44 @@ impl Session {
     fn finish(&mut self)
         ensures { self.new ≡ finish self.old }
     {
-        match self.server_close.take() {
-            Some(ServerClose::WithError(error)) => self.lose(ErrorKind::ProtocolError(error)),
+        match self.server_close {
+            Some(ServerClose::WithError(_)) => {
+                self.state = ConnectionState::Error;
+                self.link = Link::Ended(Err(End::ByServer));
+                self.channels.clear();
+            }
             Some(ServerClose::WithoutError) | None => self.close(),
         }
     }
 
-    fn give(&mut self, number: u64, answer: error::Result<Answer>)
-        ensures { self.new ≡ give number answer self.old }
+    // Memory was refused to a rule, which had not begun.
+    fn starved(&mut self, refused: NoMemory) -> error::Error
+        ensures error { result ≡ ErrorKind.NoMemory }
+        ensures end { self.new ≡ fail ErrorKind.NoMemory self.old }
     {
-        settle(&mut self.promises, number, answer);
+        self.fail(ErrorKind::NoMemory);
+        refused.into()
     }
 
-    fn give_to(&mut self, promise: Option<u64>, answer: error::Result<Answer>)
-        ensures { self.new ≡ give_to promise answer self.old }
+    // A frame came where it may not.
+    fn misplaced(&mut self, kind: ErrorKind)
+        ensures { self.new ≡ misplaced kind self.old }
+    {
+        if self.state == ConnectionState::Closing {
+            drop(kind);
+        } else {
+            self.lose(kind);
+        }
+    }
+
+    fn give(&mut self, number: u64, answer: Answer)
+        ensures { self.new ≡ give number (Ok answer) self.old }
+    {
+        self.promises.settle(number, Ok(answer));
+    }
+
+    fn give_to(&mut self, promise: Option<u64>, answer: Answer)
+        ensures { self.new ≡ give_to promise (Ok answer) self.old }
     {
         if let Some(number) = promise {
             self.give(number, answer);

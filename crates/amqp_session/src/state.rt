@@ -2,8 +2,9 @@
 
 ghost use Rattle.std.specs.Prelude.{◌≡◌};
 ghost use Rattle.amqp_session.specs.Errors.{state_name, channel_state_name};
+ghost use Rattle.amqp_session.specs.Links.{dropped};
 
-use crate::error;
+use crate::error::Error;
 use std::fmt;
 
 /// The state of a connection.
@@ -97,17 +98,38 @@ pub enum Phase {
 pub enum Input {
     /// They act.
     Acting,
-    /// The server closed the connection, and they are read and dropped.
-    Closed,
+    /// The server closed the connection, and they are read and dropped. Its close crossed ours where
+    /// it came after we had closed the connection.
+    Closed { crossed: bool },
     /// After that came what is no frame, and nothing more is read.
-    Dropped,
+    Dropped { crossed: bool },
+}
+
+impl Input {
+    /// What is done with them once what is no frame came after the server's close.
+    pub fn dropped(self) -> Input
+        ensures { result ≡ dropped self }
+    {
+        match self {
+            Input::Acting => Input::Acting,
+            Input::Closed { crossed } | Input::Dropped { crossed } => Input::Dropped { crossed },
+        }
+    }
 }
 
 /// Where a session stands with its link. At its end it has none.
 #[derive(Debug, Drop)]
-pub enum Link {
+pub enum Link<E> {
     Wanted,
     Asked,
     Open,
-    Ended(error::Result<()>),
+    Ended(Result<(), E>),
+}
+
+/// How a session ended with an error, which is kept once.
+#[derive(Debug, Drop)]
+pub enum End {
+    /// By the error with which the server closed the connection.
+    ByServer,
+    Failed(Error),
 }

@@ -4,7 +4,7 @@ ghost use Rattle.std.specs.Prelude.{◌≡◌, ◌≤◌, Some, IfOk, length};
 ghost use Rattle.std.specs.String.{string_bytes};
 ghost use Rattle.amqp_types.specs.Codes.{kind_of};
 ghost use Rattle.amqp_types.specs.declared.error.AMQPErrorKind.TheVariants.{Hard};
-ghost use Rattle.amqp_session.specs.Violations.{protocol_error, frame_too_large, heartbeat_on, misread_error, connection_method_on, raw_name, on_channel_0, method_name, unawaited, server_close};
+ghost use Rattle.amqp_session.specs.Violations.{protocol_error, frame_too_large, stray_heartbeat, misread_error, stray_connection_method, raw_name, stray_channel_frame, method_name, unawaited, closed_with};
 
 use crate::error::ErrorKind;
 use crate::misread::Misread;
@@ -19,7 +19,7 @@ pub fn misread_error(alloc: Global, why: Misread) -> Result<ErrorKind, NoMemory>
 {
     match why {
         Misread::TooLarge(size) => frame_too_large(alloc, size),
-        Misread::BadHeartbeat(channel) => heartbeat_on(alloc, channel),
+        Misread::BadHeartbeat(channel) => stray_heartbeat(alloc, channel),
         Misread::Bad(place) => Ok(ErrorKind::ParsingError(place)),
     }
 }
@@ -31,8 +31,8 @@ fn frame_too_large(alloc: Global, size: u32) -> Result<ErrorKind, NoMemory>
     hard_error(501, format!(in alloc; "frame too large: {weight} bytes")?)
 }
 
-fn heartbeat_on(alloc: Global, channel: ChannelId) -> Result<ErrorKind, NoMemory>
-    ensures { IfOk result (λ kind. kind ≡ heartbeat_on channel) }
+fn stray_heartbeat(alloc: Global, channel: ChannelId) -> Result<ErrorKind, NoMemory>
+    ensures { IfOk result (λ kind. kind ≡ stray_heartbeat channel) }
 {
     hard_error(
         501,
@@ -41,8 +41,8 @@ fn heartbeat_on(alloc: Global, channel: ChannelId) -> Result<ErrorKind, NoMemory
 }
 
 /// A method of the connection class on another channel than 0.
-pub fn connection_method_on(alloc: Global, channel: ChannelId) -> Result<ErrorKind, NoMemory>
-    ensures { IfOk result (λ kind. kind ≡ connection_method_on channel) }
+pub fn stray_connection_method(alloc: Global, channel: ChannelId) -> Result<ErrorKind, NoMemory>
+    ensures { IfOk result (λ kind. kind ≡ stray_connection_method channel) }
 {
     hard_error(
         503,
@@ -51,8 +51,8 @@ pub fn connection_method_on(alloc: Global, channel: ChannelId) -> Result<ErrorKi
 }
 
 /// A frame of a channel on channel 0.
-pub fn on_channel_0(alloc: Global, kind: RawKind) -> Result<ErrorKind, NoMemory>
-    ensures { IfOk result (λ e. e ≡ on_channel_0 kind) }
+pub fn stray_channel_frame(alloc: Global, kind: RawKind) -> Result<ErrorKind, NoMemory>
+    ensures { IfOk result (λ e. e ≡ stray_channel_frame kind) }
 {
     let name = raw_name(kind);
     hard_error(
@@ -110,8 +110,8 @@ fn hard_error(code: ReplyCode, text: String) -> Result<ErrorKind, NoMemory>
 }
 
 /// What the server's close tells.
-pub fn server_close(code: ReplyCode, text: ShortString) -> Result<ServerClose, NoMemory>
-    ensures { IfOk result (λ told. told ≡ server_close code text) }
+pub fn closed_with(code: ReplyCode, text: ShortString) -> Result<ServerClose, NoMemory>
+    ensures { IfOk result (λ told. told ≡ closed_with code text) }
 {
     match AMQPError::from_code(code, text)? {
         Some(error) => Ok(ServerClose::WithError(error)),

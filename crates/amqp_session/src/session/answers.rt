@@ -2,15 +2,16 @@
 
 ghost use Rattle.std.specs.Prelude.{◌≡◌, IfOk, OnErr, IsOk};
 ghost use Rattle.amqp_session.specs.Talk.{end_of};
-ghost use Rattle.amqp_session.specs.Channels.{frames_of};
-ghost use Rattle.amqp_session.specs.Answers.{rejection, answer_of, take_frames, Takes, IsRejected};
+ghost use Rattle.amqp_session.specs.ChannelMethods.{frames_of};
+ghost use Rattle.amqp_session.specs.Answers.{rejection, answer_of, take_frames, Takes, IsRejected, IsFailed};
 
 use super::Session;
 use crate::command::Answer;
 use crate::error::{self, ErrorKind};
 use crate::handed::Handed;
 use crate::promises::Slot;
-use crate::state::{ConnectionState, Link};
+use crate::server_close::ServerClose;
+use crate::state::{ConnectionState, End, Link};
 use amqp_types::NoMemory;
 
 impl Session {
@@ -22,7 +23,7 @@ impl Session {
         match self.untaken(number) {
             Ok(answer) => {
                 if answer.is_some() {
-                    self.promises[number as usize] = Slot::Taken;
+                    self.promises.forget(number);
                 }
                 answer
             }
@@ -35,15 +36,12 @@ impl Session {
         ensures answer { IfOk result (λ answer. answer ≡ answer_of number self.now) }
         ensures refused { OnErr result (IsRejected (answer_of number self.now)) }
     {
-        if number >= self.promises() {
-            return Ok(None);
+        match self.promises.get(number) {
+            Some(Slot::Waiting) => self.rejection(),
+            Some(Slot::Answered(Ok(answer))) => Ok(Some(Ok(*answer))),
+            Some(Slot::Answered(Err(error))) => Ok(Some(Err(error.try_clone(self.alloc)?))),
+            Some(Slot::Place) | None => Ok(None),
         }
-        Ok(match &self.promises[number as usize] {
-            Slot::Waiting => self.rejection()?,
-            Slot::Answered(Ok(answer)) => Some(Ok(*answer)),
-            Slot::Answered(Err(error)) => Some(Err(error.try_clone(self.alloc)?)),
-            Slot::Taken => None,
-        })
     }
 
     // How the end answers a promise that still waits.
@@ -51,12 +49,31 @@ impl Session {
         ensures answer { IfOk result (λ answer. answer ≡ rejection (end_of self.now)) }
         ensures refused { OnErr result (IsRejected (rejection (end_of self.now))) }
     {
-        match &self.link {
-            Link::Ended(Ok(())) => {
+        match self.ended()? {
+            Some(Ok(())) => {
                 let closed = ErrorKind::InvalidConnectionState(ConnectionState::Closed);
                 Ok(Some(Err(closed.into())))
             }
-            Link::Ended(Err(error)) => Ok(Some(Err(error.try_clone(self.alloc)?))),
+            Some(Err(error)) => Ok(Some(Err(error))),
+            None => Ok(None),
+        }
+    }
+
+    // The end; an Err where memory for its error's copy was refused.
+    pub(super) fn ended(&self) -> Result<Option<error::Result<()>>, NoMemory>
+        ensures end { IfOk result (λ end. end ≡ end_of self.now) }
+        ensures refused { OnErr result (IsFailed (end_of self.now)) }
+    {
+        match &self.link {
+            Link::Ended(Ok(())) => Ok(Some(Ok(()))),
+            Link::Ended(Err(End::Failed(error))) => Ok(Some(Err(error.try_clone(self.alloc)?))),
+            Link::Ended(Err(End::ByServer)) => match &self.server_close {
+                Some(ServerClose::WithError(error)) => {
+                    let copy = error.try_clone(self.alloc)?;
+                    Ok(Some(Err(ErrorKind::ProtocolError(copy).into())))
+                }
+                _ => Ok(Some(Ok(()))),
+            },
             _ => Ok(None),
         }
     }

@@ -1,42 +1,60 @@
 //! What comes on a channel.
 
-ghost use Rattle.std.specs.Prelude.{◌≡◌, Some, OnOk, OnErr};
-ghost use Rattle.amqp_session.specs.Channels.{channel_at, unawaited_channel_method, on_channel_open_ok, on_channel_close_ok, channel_method, listed_channel_method, is_select_ok, pass_through, unlisted, raw_frame};
+ghost use Rattle.std.specs.Prelude.{◌≡◌, Some, IfSome, OnOk, OnErr};
+ghost use Rattle.amqp_session.specs.Channels.{channel_at};
+ghost use Rattle.amqp_session.specs.ChannelMethods.{heard_on, unawaited_channel_method, on_channel_open_ok, on_channel_close_ok, channel_rule, channel_method, is_select_ok, pass_through, raw_frame};
 
 use super::Session;
+use crate::awaiting::Reply;
 use crate::channels::Channel;
 use crate::command::Answer;
 use crate::error::ErrorKind;
 use crate::handed::Handed;
-use crate::lanes::Reply;
 use crate::state::{ChannelState, ConnectionState};
 use crate::violations::unawaited;
 use amqp_frame::{Method, RawKind};
 use amqp_types::{ChannelId, NoMemory, Payload};
 
 impl Session {
+    // The listed channel that a frame comes on.
+    fn heard_on(&self, id: ChannelId) -> Option<Channel>
+        ensures heard { result ≡ heard_on self.now.state (channel_at id self.now) }
+        ensures listed { IfSome result (λ c. channel_at id self.now ≡ Some c) }
+    {
+        if self.state == ConnectionState::Connecting {
+            return None;
+        }
+        self.channels.get(id)
+    }
+
+    // A method of the channel class.
     pub(super) fn channel_method(&mut self, id: ChannelId, method: &Method) -> Result<(), NoMemory>
-        ensures ok { OnOk result (self.new ≡ channel_method self.old.state id method.now self.old) }
+        ensures ok { OnOk result (self.new ≡ channel_method id method.now self.old) }
         ensures err { OnErr result (self.new ≡ self.old) }
     {
-        match self.state {
-            ConnectionState::Closing => Ok(()),
-            ConnectionState::Connecting => {
-                self.lose(ErrorKind::InvalidChannel(id));
+        match self.heard_on(id) {
+            Some(channel) => self.channel_rule(id, channel, method),
+            None => {
+                self.misplaced(ErrorKind::InvalidChannel(id));
                 Ok(())
             }
-            _ => self.listed_channel_method(id, method),
         }
     }
 
-    fn listed_channel_method(&mut self, id: ChannelId, method: &Method) -> Result<(), NoMemory>
-        ensures ok { OnOk result (self.new ≡ listed_channel_method id (channel_at id self.old) method.now self.old) }
+    fn channel_rule(
+        &mut self,
+        id: ChannelId,
+        channel: Channel,
+        method: &Method,
+    ) -> Result<(), NoMemory>
+        requires { channel_at id self.old ≡ Some channel }
+        ensures ok { OnOk result (self.new ≡ channel_rule self.old.state id channel method.now self.old) }
         ensures err { OnErr result (self.new ≡ self.old) }
     {
-        let Some(channel) = self.channels.get(id) else {
-            self.lose(ErrorKind::InvalidChannel(id));
+        // After our close of the connection it is dropped.
+        if self.state == ConnectionState::Closing {
             return Ok(());
-        };
+        }
         match method {
             Method::ChannelOpenOk => self.on_channel_open_ok(id, channel),
             Method::ChannelCloseOk => self.on_channel_close_ok(id, channel),
@@ -66,7 +84,7 @@ impl Session {
         ensures ok { OnOk result (self.new ≡ on_channel_open_ok id channel self.old) }
         ensures err { OnErr result (self.new ≡ self.old) }
     {
-        let Some(awaited) = self.lanes.answered(id, Reply::ChannelOpened) else {
+        let Some(awaited) = self.awaiting.answered(id, Reply::ChannelOpened) else {
             return self.unawaited_channel_method(id, channel.state, &Method::ChannelOpenOk);
         };
         let open = Channel {
@@ -75,7 +93,7 @@ impl Session {
         };
         self.channels.set(id, open);
         let answer = Answer::Channel(id, channel.opened);
-        self.give_to(awaited.promise, Ok(answer));
+        self.give_to(awaited.promise, answer);
         Ok(())
     }
 
@@ -83,11 +101,11 @@ impl Session {
         ensures ok { OnOk result (self.new ≡ on_channel_close_ok id channel self.old) }
         ensures err { OnErr result (self.new ≡ self.old) }
     {
-        let Some(awaited) = self.lanes.answered(id, Reply::ChannelClosed) else {
+        let Some(awaited) = self.awaiting.answered(id, Reply::ChannelClosed) else {
             return self.unawaited_channel_method(id, channel.state, &Method::ChannelCloseOk);
         };
         self.channels.remove(id);
-        self.give_to(awaited.promise, Ok(Answer::Done));
+        self.give_to(awaited.promise, Answer::Done);
         Ok(())
     }
 
@@ -101,25 +119,13 @@ impl Session {
         ensures ok { OnOk result (self.new ≡ raw_frame id kind bytes self.old) }
         ensures err { OnErr result (self.new ≡ self.old) }
     {
-        if self.state == ConnectionState::Connecting {
-            self.lose(ErrorKind::InvalidChannel(id));
-            return Ok(());
-        }
-        match self.channels.get(id) {
+        match self.heard_on(id) {
             Some(channel) => self.pass_through(id, channel, kind, bytes),
             None => {
-                self.unlisted(id);
+                drop(bytes);
+                self.misplaced(ErrorKind::InvalidChannel(id));
                 Ok(())
             }
-        }
-    }
-
-    // A frame on a channel that is not listed.
-    fn unlisted(&mut self, id: ChannelId)
-        ensures { self.new ≡ unlisted self.old.state id self.old }
-    {
-        if self.state != ConnectionState::Closing {
-            self.lose(ErrorKind::InvalidChannel(id));
         }
     }
 

@@ -1,20 +1,19 @@
 //! The commands.
 
-ghost use Rattle.std.specs.Prelude.{◌≡◌, Some, None, length, IfOk, IfErr, IfSome, OnOk, OnErr};
+ghost use Rattle.std.specs.Prelude.{◌≡◌, Some, None, IfOk, IfErr, IfSome, OnOk, OnErr};
 ghost use Rattle.amqp_types.specs.declared.word.Word.TheVariants as word;
 ghost use Rattle.amqp_session.specs.Channels.{channel_at};
-ghost use Rattle.amqp_session.specs.Changes.{refuse};
-ghost use Rattle.amqp_session.specs.Commands.{open_channel, open_as, named, on_open_channel, close_channel, send, close_connection, command};
-ghost use Rattle.amqp_session.specs.Parts.{IsOpenNamed, Refuses};
+ghost use Rattle.amqp_session.specs.Changes.{await, next_promise, promise, queue, queue_item, refuse};
+ghost use Rattle.amqp_session.specs.Commands.{open_channel, open_as, named, target, close_channel, close_target, send, send_target, close_connection, command};
 
-use super::{CAPACITY, Session};
+use super::Session;
+use super::places::{reserve_promised, reserve_reply};
+use crate::awaiting::{Awaited, Reply};
 use crate::channels::{Channel, after, first_number};
 use crate::command::{ChanRef, Cmd};
-use crate::committed::Then;
 use crate::error::{self, ErrorKind};
 use crate::handshake::{channel_open, our_channel_close, our_close};
-use crate::lanes::{Awaited, Item, Reply};
-use crate::promises::Slot;
+use crate::lanes::Item;
 use crate::state::{ChannelState, ConnectionState};
 use amqp_frame::{Frame, RawKind, RawMethod, encoded_len};
 use amqp_types::{ChannelId, NoMemory, ReplyCode, ShortString, Word};
@@ -23,7 +22,7 @@ impl Session {
     /// Does what it is told or refuses it, and gives the number of the promise that will be answered.
     pub fn command(&mut self, cmd: Cmd) -> error::Result<Option<u64>>
         ensures ok { OnOk result (self.new ≡ command cmd self.old) }
-        ensures number { IfOk result (λ number. number ≡ Some (length self.old.promises)) }
+        ensures number { IfOk result (λ number. number ≡ Some (next_promise self.old)) }
         ensures err { OnErr result (self.new ≡ self.old) }
         ensures only { IfErr result (λ e. e ≡ ErrorKind.NoMemory) }
     {
@@ -37,6 +36,7 @@ impl Session {
         ensures err { OnErr result (self.new ≡ self.old) }
     {
         if self.state != ConnectionState::Connected {
+            drop(cmd);
             return self.refuse(ErrorKind::InvalidConnectionState(self.state));
         }
         match cmd {
@@ -51,8 +51,7 @@ impl Session {
         ensures ok { OnOk result (self.new ≡ refuse kind self.old) }
         ensures err { OnErr result (self.new ≡ self.old) }
     {
-        self.promises.push(Slot::Answered(Err(kind.into())))?;
-        Ok(())
+        self.promises.refuse(kind)
     }
 
     // The listed channel that is named.
@@ -72,12 +71,12 @@ impl Session {
         ensures err { OnErr result (self.new ≡ self.old) }
     {
         let channel_max = self.configuration.channel_max;
-        let first = first_number(channel_max, self.cursor);
+        let first = first_number(channel_max, self.channels.cursor());
         match self.channels.draw(channel_max, first) {
             Some(id) => self.open_as(id)?,
             None => {
                 self.refuse(ErrorKind::ChannelsLimitReached)?;
-                self.cursor = after(channel_max, first);
+                self.channels.set_cursor(after(channel_max, first));
             }
         }
         Ok(())
@@ -89,21 +88,45 @@ impl Session {
         ensures ok { OnOk result (self.new ≡ open_as id self.old) }
         ensures err { OnErr result (self.new ≡ self.old) }
     {
-        let number = self.promises();
-        let cursor = after(self.configuration.channel_max, id);
-        self.promises.reserve(1)?;
-        self.committed.reserve(self.lanes.len() + 1)?;
+        reserve_reply(
+            &mut self.lanes,
+            &mut self.committed,
+            &mut self.promises,
+            &mut self.awaiting,
+            id,
+        )?;
+        let number = self.promises.made();
         self.channels.list(id, Channel::opened_by(number))?;
-        let open = Item::plain(channel_open(id));
-        if let Err(refused) = self
-            .lanes
-            .ask(open, awaits(id, Reply::ChannelOpened, number))
-        {
-            self.channels.remove(id);
+        let cursor = after(self.configuration.channel_max, id);
+        self.channels.set_cursor(cursor);
+        self.lanes.push_reserved(Item::plain(id, channel_open(id)));
+        self.awaiting
+            .expect_reserved(id, Awaited::by(Reply::ChannelOpened, number));
+        self.promises.promise_reserved();
+        Ok(())
+    }
+
+    // A frame is queued, whose promise waits for the reply.
+    fn ask(&mut self, id: ChannelId, frame: Frame, reply: Reply) -> Result<(), NoMemory>
+        ensures ok { OnOk result (self.new ≡
+            promise (await id reply (Some (next_promise self.old)) (queue id frame self.old))) }
+        ensures err { OnErr result (self.new ≡ self.old) }
+    {
+        if let Err(refused) = reserve_reply(
+            &mut self.lanes,
+            &mut self.committed,
+            &mut self.promises,
+            &mut self.awaiting,
+            id,
+        ) {
+            drop(frame);
             return Err(refused);
         }
-        self.promises.push_reserved(Slot::Waiting);
-        self.cursor = cursor;
+        let number = self.promises.made();
+        self.lanes.push_reserved(Item::plain(id, frame));
+        self.awaiting
+            .expect_reserved(id, Awaited::by(reply, number));
+        self.promises.promise_reserved();
         Ok(())
     }
 
@@ -113,19 +136,23 @@ impl Session {
         code: ReplyCode,
         text: ShortString,
     ) -> Result<(), NoMemory>
-        ensures ok { OnOk result (self.new ≡ on_open_channel channel word.ChannelClose (close_channel channel.id code text) self.old) }
+        ensures ok { OnOk result (self.new ≡
+            close_target (target channel word.ChannelClose self.old) channel.id code text self.old) }
         ensures err { OnErr result (self.new ≡ self.old) }
     {
-        match self.open_named(channel, Word::ChannelClose) {
+        match self.target(channel, Word::ChannelClose) {
             Ok(listed) => self.close_channel(channel.id, code, text, listed),
-            Err(kind) => self.refuse(kind),
+            Err(kind) => {
+                drop(text);
+                self.refuse(kind)
+            }
         }
     }
 
-    // The listed channel that is named, where it is open; else why what is told of it is refused.
-    fn open_named(&self, channel: ChanRef, word: Word) -> Result<Channel, ErrorKind>
-        ensures open { IfOk result (λ c. IsOpenNamed channel c self.now) }
-        ensures refused { IfErr result (λ kind. Refuses channel word kind self.now) }
+    // The channel that something is told of, where it is listed and open; else why that is refused.
+    fn target(&self, channel: ChanRef, word: Word) -> Result<Channel, ErrorKind>
+        ensures target { result ≡ target channel word self.now }
+        ensures listed { IfOk result (λ c. channel_at channel.id self.now ≡ Some c) }
     {
         let Some(listed) = self.named(channel) else {
             return Err(ErrorKind::InvalidChannel(channel.id));
@@ -147,13 +174,7 @@ impl Session {
         ensures ok { OnOk result (self.new ≡ close_channel id code text channel self.old) }
         ensures err { OnErr result (self.new ≡ self.old) }
     {
-        let number = self.promises();
-        self.promises.reserve(1)?;
-        self.committed.reserve(self.lanes.len() + 1)?;
-        let close = Item::plain(our_channel_close(id, code, text));
-        self.lanes
-            .ask(close, awaits(id, Reply::ChannelClosed, number))?;
-        self.promises.push_reserved(Slot::Waiting);
+        self.ask(id, our_channel_close(id, code, text), Reply::ChannelClosed)?;
         let closing = Channel {
             state: ChannelState::Closing,
             ..channel
@@ -163,12 +184,16 @@ impl Session {
     }
 
     fn send_named(&mut self, channel: ChanRef, method: RawMethod) -> Result<(), NoMemory>
-        ensures ok { OnOk result (self.new ≡ on_open_channel channel word.Send (λ _. send channel.id method) self.old) }
+        ensures ok { OnOk result (self.new ≡
+            send_target (target channel word.Send self.old) channel.id method self.old) }
         ensures err { OnErr result (self.new ≡ self.old) }
     {
-        match self.open_named(channel, Word::Send) {
+        match self.target(channel, Word::Send) {
             Ok(_) => self.send(channel.id, method),
-            Err(kind) => self.refuse(kind),
+            Err(kind) => {
+                drop(method);
+                self.refuse(kind)
+            }
         }
     }
 
@@ -178,14 +203,34 @@ impl Session {
     {
         let frame = Frame::Raw(id, RawKind::RawMethod, method.into_payload());
         let size = encoded_len(&frame);
-        if size > CAPACITY {
+        if size > self.capacity.octets() {
+            drop(frame);
             return self.refuse(ErrorKind::SerialisationError(size));
         }
-        let then = Then::Answer(self.promises());
-        self.promises.reserve(1)?;
-        self.committed.reserve(self.lanes.len() + 1)?;
-        self.lanes.queue(Item { frame, then })?;
-        self.promises.push_reserved(Slot::Waiting);
+        self.queue_promised(id, frame)
+    }
+
+    // A frame is queued, whose promise waits until it is sent.
+    fn queue_promised(&mut self, id: ChannelId, frame: Frame) -> Result<(), NoMemory>
+        ensures ok { OnOk result (self.new ≡ promise (queue_item
+            (record { channel = id; frame = frame; promise = Some (next_promise self.old) }) self.old)) }
+        ensures err { OnErr result (self.new ≡ self.old) }
+    {
+        let promise = Some(self.promises.made());
+        if let Err(refused) = reserve_promised(
+            &mut self.lanes,
+            &mut self.committed,
+            &mut self.promises,
+        ) {
+            drop(frame);
+            return Err(refused);
+        }
+        self.lanes.push_reserved(Item {
+            channel: id,
+            frame,
+            promise,
+        });
+        self.promises.promise_reserved();
         Ok(())
     }
 
@@ -193,26 +238,9 @@ impl Session {
         ensures ok { OnOk result (self.new ≡ close_connection code text self.old) }
         ensures err { OnErr result (self.new ≡ self.old) }
     {
-        let number = self.promises();
-        self.promises.reserve(1)?;
-        self.committed.reserve(self.lanes.len() + 1)?;
-        let close = Item::plain(our_close(code, text));
-        self.lanes
-            .ask(close, awaits(0, Reply::ConnectionClosed, number))?;
-        self.promises.push_reserved(Slot::Waiting);
+        self.ask(0, our_close(code, text), Reply::ConnectionClosed)?;
         self.channels.close_all();
         self.state = ConnectionState::Closing;
         Ok(())
-    }
-}
-
-// A reply that will answer a promise.
-fn awaits(channel: ChannelId, reply: Reply, number: u64) -> Awaited
-    ensures { result ≡ record { channel = channel; reply = reply; promise = Some number } }
-{
-    Awaited {
-        channel,
-        reply,
-        promise: Some(number),
     }
 }

@@ -1,25 +1,28 @@
 //! The methods of the connection class.
 
-ghost use Rattle.std.specs.Prelude.{◌≡◌, OnOk, OnErr};
-ghost use Rattle.amqp_session.specs.Connections.{on_start, on_tune, on_open_ok, on_connection_close, on_connection_close_ok, connection_row};
+ghost use Rattle.std.specs.Prelude.{◌≡◌, IsTrue, OnOk, OnErr};
+ghost use Rattle.amqp_session.specs.Talk.{is_open};
+ghost use Rattle.amqp_session.specs.ConnectionMethods.{on_start, on_tune, on_open_ok, on_connection_close, on_connection_close_ok, connection_rule};
 
 use super::Session;
+use super::places::reserve_frames;
+use crate::awaiting::Reply;
 use crate::command::Answer;
-use crate::committed::Then;
 use crate::configuration::{Configuration, tune};
 use crate::error::ErrorKind;
 use crate::handshake::{close_ok, open_vhost, start_ok, tune_ok};
-use crate::lanes::{Item, Reply};
+use crate::lanes::Item;
 use crate::state::ConnectionState::{Closing, Connected, Connecting};
 use crate::state::Input;
 use crate::state::Phase::{AwaitOpenOk, AwaitStart, AwaitTune};
-use crate::violations::server_close;
+use crate::violations::closed_with;
 use amqp_frame::Method;
 use amqp_types::{NoMemory, ReplyCode, ShortString};
 
 impl Session {
     pub(super) fn connection_method(&mut self, method: Method) -> Result<(), NoMemory>
-        ensures ok { OnOk result (self.new ≡ connection_row self.old.state self.old.phase method self.old) }
+        requires { IsTrue (is_open self.old) }
+        ensures ok { OnOk result (self.new ≡ connection_rule self.old.state self.old.phase method self.old) }
         ensures err { OnErr result (self.new ≡ self.old) }
     {
         match (self.state, self.phase, method) {
@@ -53,9 +56,9 @@ impl Session {
         ensures ok { OnOk result (self.new ≡ on_start self.old) }
         ensures err { OnErr result (self.new ≡ self.old) }
     {
+        reserve_frames(&mut self.lanes, &mut self.committed, 1)?;
         let frame = start_ok(self.alloc)?;
-        self.committed.reserve(self.lanes.len() + 1)?;
-        self.lanes.queue(Item::plain(frame))?;
+        self.lanes.push_reserved(Item::plain(0, frame));
         self.phase = AwaitTune;
         Ok(())
     }
@@ -65,10 +68,10 @@ impl Session {
         ensures err { OnErr result (self.new ≡ self.old) }
     {
         let agreed = tune(self.configuration, server);
+        reserve_frames(&mut self.lanes, &mut self.committed, 2)?;
         let open = open_vhost(self.alloc)?;
-        self.committed.reserve(self.lanes.len() + 2)?;
-        self.lanes
-            .queue_both(Item::plain(tune_ok(agreed)), Item::plain(open))?;
+        self.lanes.push_reserved(Item::plain(0, tune_ok(agreed)));
+        self.lanes.push_reserved(Item::plain(0, open));
         self.configuration = agreed;
         self.phase = AwaitOpenOk;
         Ok(())
@@ -77,32 +80,31 @@ impl Session {
     fn on_open_ok(&mut self)
         ensures { self.new ≡ on_open_ok self.old }
     {
-        self.give(0, Ok(Answer::Connected));
+        self.give(0, Answer::Connected);
         self.state = Connected;
     }
 
     fn on_connection_close(&mut self, code: ReplyCode, text: ShortString) -> Result<(), NoMemory>
+        requires { IsTrue (is_open self.old) }
         ensures ok { OnOk result (self.new ≡ on_connection_close code text self.old) }
         ensures err { OnErr result (self.new ≡ self.old) }
     {
-        let told = server_close(code, text)?;
-        self.committed.reserve(1)?;
-        self.lanes.restart(Item {
-            frame: close_ok(),
-            then: Then::Finish,
-        })?;
-        self.lanes.expect_nothing();
+        reserve_frames(&mut self.lanes, &mut self.committed, 1)?;
+        let told = closed_with(code, text)?;
         self.server_close = Some(told);
+        self.lanes.restart_reserved(Item::plain(0, close_ok()));
+        self.awaiting.clear();
+        let crossed = self.state == Closing;
+        self.input = Input::Closed { crossed };
         self.state = Closing;
-        self.input = Input::Closed;
         Ok(())
     }
 
     fn on_connection_close_ok(&mut self)
         ensures { self.new ≡ on_connection_close_ok self.old }
     {
-        if let Some(awaited) = self.lanes.answered(0, Reply::ConnectionClosed) {
-            self.give_to(awaited.promise, Ok(Answer::Done));
+        if let Some(awaited) = self.awaiting.answered(0, Reply::ConnectionClosed) {
+            self.give_to(awaited.promise, Answer::Done);
         }
         self.close();
     }

@@ -1,14 +1,15 @@
 //! The frames that are read.
 
-ghost use Rattle.std.specs.Prelude.{◌≡◌, IfErr, OnOk, OnErr};
-ghost use Rattle.amqp_session.specs.Changes.{present_at, starve};
-ghost use Rattle.amqp_session.specs.Violations.{connection_method_on, on_channel_0};
-ghost use Rattle.amqp_session.specs.Frames.{is_unbuilt, is_of_a_channel, misplaced, built_method, frame_row, on_frame};
+ghost use Rattle.std.specs.Prelude.{◌≡◌, IsTrue, IsFalse, IsOk, IfErr, OnOk, OnErr};
+ghost use Rattle.amqp_session.specs.Talk.{is_open, acts};
+ghost use Rattle.amqp_session.specs.Changes.{present_at, starve, misplaced};
+ghost use Rattle.amqp_session.specs.Violations.{stray_connection_method, stray_channel_frame};
+ghost use Rattle.amqp_session.specs.Frames.{is_unbuilt, is_of_a_channel, method_rule, frame_rule, on_frame};
 
 use super::Session;
 use crate::error::{self, ErrorKind};
-use crate::state::{ConnectionState, Input};
-use crate::violations::{connection_method_on, on_channel_0};
+use crate::state::ConnectionState;
+use crate::violations::{stray_channel_frame, stray_connection_method};
 use amqp_frame::{Frame, Method, RawKind};
 use amqp_types::{ChannelId, NoMemory};
 
@@ -18,22 +19,22 @@ impl Session {
         ensures ok { OnOk result (self.new ≡ on_frame frame place (present_at at self.old)) }
         ensures err { OnErr result (self.new ≡ starve (present_at at self.old)) }
         ensures only { IfErr result (λ e. e ≡ ErrorKind.NoMemory) }
+        ensures idle { IsFalse (acts self.old) → IsOk result }
     {
         self.advance(at);
-        if !self.is_open() || self.input != Input::Acting {
+        if !self.acts() {
+            drop(frame);
             return Ok(());
         }
         match self.react(frame, place) {
             Ok(()) => Ok(()),
-            Err(refused) => {
-                self.fail(ErrorKind::NoMemory);
-                Err(refused.into())
-            }
+            Err(refused) => Err(self.starved(refused)),
         }
     }
 
     fn react(&mut self, frame: Frame, place: u64) -> Result<(), NoMemory>
-        ensures ok { OnOk result (self.new ≡ frame_row frame place self.old) }
+        requires { IsTrue (is_open self.old) }
+        ensures ok { OnOk result (self.new ≡ frame_rule frame place self.old) }
         ensures err { OnErr result (self.new ≡ self.old) }
     {
         match frame {
@@ -43,53 +44,66 @@ impl Session {
             }
             Frame::Heartbeat => Ok(()),
             Frame::Method(id, method) => self.on_method(id, method, place),
-            Frame::Raw(0, kind, _) => self.frame_on_channel_0(kind),
+            Frame::Raw(0, kind, _) => self.stray_channel_frame(kind),
             Frame::Raw(id, kind, bytes) => self.raw_frame(id, kind, bytes),
         }
     }
 
     fn on_method(&mut self, id: ChannelId, method: Method, place: u64) -> Result<(), NoMemory>
-        ensures ok { OnOk result (self.new ≡ frame_row (Frame.Method id method) place self.old) }
+        requires { IsTrue (is_open self.old) }
+        ensures ok { OnOk result (self.new ≡ frame_rule (Frame.Method id method) place self.old) }
         ensures err { OnErr result (self.new ≡ self.old) }
     {
         if is_unbuilt(&method) {
+            drop(method);
             self.fail(ErrorKind::Unbuilt(place));
             return Ok(());
         }
-        self.built_method(id, method)
+        self.method_rule(id, method)
     }
 
-    fn built_method(&mut self, id: ChannelId, method: Method) -> Result<(), NoMemory>
-        ensures ok { OnOk result (self.new ≡ built_method id method self.old) }
+    fn method_rule(&mut self, id: ChannelId, method: Method) -> Result<(), NoMemory>
+        requires { IsTrue (is_open self.old) }
+        ensures ok { OnOk result (self.new ≡ method_rule id method self.old) }
         ensures err { OnErr result (self.new ≡ self.old) }
     {
         match (id, is_of_a_channel(&method)) {
-            (0, true) => self.frame_on_channel_0(RawKind::RawMethod),
+            (0, true) => {
+                drop(method);
+                self.stray_channel_frame(RawKind::RawMethod)
+            }
             (0, false) => self.connection_method(method),
-            (_, true) => self.channel_method(id, &method),
-            (_, false) => self.connection_method_off_channel_0(id),
+            (_, true) => {
+                let done = self.channel_method(id, &method);
+                drop(method);
+                done
+            }
+            (_, false) => {
+                drop(method);
+                self.stray_connection_method(id)
+            }
         }
     }
 
     // A frame of a channel does not stand on channel 0.
-    fn frame_on_channel_0(&mut self, kind: RawKind) -> Result<(), NoMemory>
-        ensures ok { OnOk result (self.new ≡ misplaced (on_channel_0 kind) self.old) }
+    fn stray_channel_frame(&mut self, kind: RawKind) -> Result<(), NoMemory>
+        ensures ok { OnOk result (self.new ≡ misplaced (stray_channel_frame kind) self.old) }
         ensures err { OnErr result (self.new ≡ self.old) }
     {
         if self.state != ConnectionState::Closing {
-            let error = on_channel_0(self.alloc, kind)?;
+            let error = stray_channel_frame(self.alloc, kind)?;
             self.lose(error);
         }
         Ok(())
     }
 
     // A method of the connection class stands on channel 0 alone.
-    fn connection_method_off_channel_0(&mut self, id: ChannelId) -> Result<(), NoMemory>
-        ensures ok { OnOk result (self.new ≡ misplaced (connection_method_on id) self.old) }
+    fn stray_connection_method(&mut self, id: ChannelId) -> Result<(), NoMemory>
+        ensures ok { OnOk result (self.new ≡ misplaced (stray_connection_method id) self.old) }
         ensures err { OnErr result (self.new ≡ self.old) }
     {
         if self.state != ConnectionState::Closing {
-            let error = connection_method_on(self.alloc, id)?;
+            let error = stray_connection_method(self.alloc, id)?;
             self.lose(error);
         }
         Ok(())

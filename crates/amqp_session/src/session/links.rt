@@ -1,11 +1,13 @@
 //! Links: that one is asked for, comes or does not come, gives bytes, and ends.
 
-ghost use Rattle.std.specs.Prelude.{◌≡◌, IfErr, OnOk, OnErr, IsTrue};
-ghost use Rattle.amqp_session.specs.Talk.{is_asked};
+ghost use Rattle.std.specs.Prelude.{◌≡◌, IfErr, OnOk, OnErr, IsOk, IsTrue, IsFalse};
+ghost use Rattle.amqp_session.specs.Talk.{is_asked, acts};
 ghost use Rattle.amqp_session.specs.Changes.{present_at, starve};
-ghost use Rattle.amqp_session.specs.Links.{asked, linked, link_failed, piece, misread_by, misread, lost};
+ghost use Rattle.amqp_session.specs.declared.misread.Misread.{Misread};
+ghost use Rattle.amqp_session.specs.Links.{asked, linked, link_failed, piece, misread, lost};
 
 use super::Session;
+use super::places::reserve_frames;
 use crate::error::{self, ErrorKind};
 use crate::handshake::protocol_header;
 use crate::io_fault::IoFault;
@@ -30,6 +32,7 @@ impl Session {
         ensures ok { OnOk result (self.new ≡ linked (present_at at self.old)) }
         ensures err { OnErr result (self.new ≡ starve (present_at at self.old)) }
         ensures only { IfErr result (λ e. e ≡ ErrorKind.NoMemory) }
+        ensures idle { IsFalse (is_asked self.old) → IsOk result }
     {
         self.advance(at);
         if !self.is_asked() {
@@ -37,10 +40,7 @@ impl Session {
         }
         match self.open_link() {
             Ok(()) => Ok(()),
-            Err(refused) => {
-                self.fail(ErrorKind::NoMemory);
-                Err(refused.into())
-            }
+            Err(refused) => Err(self.starved(refused)),
         }
     }
 
@@ -49,8 +49,9 @@ impl Session {
         ensures ok { OnOk result (self.new ≡ linked self.old) }
         ensures err { OnErr result (self.new ≡ self.old) }
     {
-        self.committed.reserve(1)?;
-        self.lanes.restart(Item::plain(protocol_header()))?;
+        reserve_frames(&mut self.lanes, &mut self.committed, 1)?;
+        self.lanes
+            .restart_reserved(Item::plain(0, protocol_header()));
         self.committed.clear();
         self.state = ConnectionState::Connecting;
         self.phase = Phase::AwaitStart;
@@ -86,32 +87,30 @@ impl Session {
         ensures ok { OnOk result (self.new ≡ misread why (present_at at self.old)) }
         ensures err { OnErr result (self.new ≡ starve (present_at at self.old)) }
         ensures only { IfErr result (λ e. e ≡ ErrorKind.NoMemory) }
+        ensures idle { IsFalse (acts self.old) → IsOk result }
     {
         self.advance(at);
-        if !self.is_open() {
+        if !self.acts() {
+            self.drop_input();
             return Ok(());
         }
-        match self.refuse_input(why) {
-            Ok(()) => Ok(()),
-            Err(refused) => {
-                self.fail(ErrorKind::NoMemory);
-                Err(refused.into())
+        match misread_error(self.alloc, why) {
+            Ok(error) => {
+                self.lose(error);
+                Ok(())
             }
+            Err(refused) => Err(self.starved(refused)),
         }
     }
 
-    fn refuse_input(&mut self, why: Misread) -> Result<(), NoMemory>
-        ensures ok { OnOk result (self.new ≡ misread_by self.old.input why self.old) }
-        ensures err { OnErr result (self.new ≡ self.old) }
+    // After the server's close no more of the open link is read.
+    fn drop_input(&mut self)
+        requires { IsFalse (acts self.old) }
+        ensures { (why : Misread) → self.new ≡ misread why self.old }
     {
-        match self.input {
-            Input::Acting => {
-                let error = misread_error(self.alloc, why)?;
-                self.lose(error);
-            }
-            Input::Closed | Input::Dropped => self.input = Input::Dropped,
+        if self.is_open() {
+            self.input = self.input.dropped();
         }
-        Ok(())
     }
 
     /// The open link is lost: its input ended, or reading or writing failed.
@@ -119,12 +118,10 @@ impl Session {
         ensures { self.new ≡ lost fault (present_at at self.old) }
     {
         self.advance(at);
-        if !self.is_open() {
-            return;
-        }
-        match self.input {
-            Input::Acting => self.lose(ErrorKind::IOError(fault)),
-            Input::Closed | Input::Dropped => self.finish(),
+        if self.acts() {
+            self.lose(ErrorKind::IOError(fault));
+        } else if self.is_open() {
+            self.finish();
         }
     }
 }

@@ -1,13 +1,14 @@
 //! What a session tells of itself.
 
 ghost use Rattle.std.specs.Prelude.{◌≡◌, ◌<◌, ◌≤◌, ◌^◌, length};
-ghost use Rattle.amqp_session.specs.Talk.{wants_link, is_asked, is_open, has_ended, end_of, drops_input};
+ghost use Rattle.amqp_session.specs.Talk.{wants_link, is_asked, is_open, acts, has_ended, end_of, drops_input};
+ghost use Rattle.amqp_session.specs.Changes.{next_promise};
 ghost use Rattle.amqp_session.specs.Negotiation.{frame_limit};
-ghost use Rattle.amqp_session.specs.Writing.{unsent};
+ghost use Rattle.amqp_session.specs.Writing.{frames_waiting, unsent};
 ghost use Rattle.amqp_session.specs.Answers.{HandsOut};
 ghost use Rattle.amqp_session.specs.Queries.{channel_state, confirm, opening};
 
-use super::{CAPACITY, Session};
+use super::Session;
 use crate::command::ChanRef;
 use crate::configuration::Configuration;
 use crate::error;
@@ -15,6 +16,7 @@ use crate::state::{ChannelState, ConnectionState, Input, Link};
 use amqp_types::ChannelId;
 
 impl Session {
+    /// The state of the connection.
     pub fn state(&self) -> ConnectionState
         ensures { result ≡ self.now.state }
     {
@@ -30,11 +32,11 @@ impl Session {
 
     /// The greatest number of octets that a frame may have that is read.
     pub fn frame_limit(&self) -> u64
-        ensures { result ≡ frame_limit self.now.configuration }
+        ensures { result ≡ frame_limit self.now }
     {
         match self.configuration.frame_max {
-            0 => CAPACITY,
-            frame_max => CAPACITY.min(frame_max as u64),
+            0 => self.capacity.octets(),
+            frame_max => self.capacity.octets().min(frame_max as u64),
         }
     }
 
@@ -63,9 +65,17 @@ impl Session {
     pub fn drops_input(&self) -> bool
         ensures { result ≡ drops_input self.now }
     {
-        matches!(self.input, Input::Dropped)
+        matches!(self.input, Input::Dropped { .. })
     }
 
+    // Whether the frames that come on the open link act.
+    pub(super) fn acts(&self) -> bool
+        ensures { result ≡ acts self.now }
+    {
+        self.is_open() && matches!(self.input, Input::Acting)
+    }
+
+    /// Whether the session has ended.
     pub fn has_ended(&self) -> bool
         ensures { result ≡ has_ended self.now }
     {
@@ -77,35 +87,38 @@ impl Session {
     pub fn end(&self) -> Option<error::Result<()>>
         ensures { HandsOut (end_of self.now) result }
     {
-        match &self.link {
-            Link::Ended(Ok(())) => Some(Ok(())),
-            Link::Ended(Err(error)) => Some(Err(match error.try_clone(self.alloc) {
-                Ok(copy) => copy,
-                Err(refused) => refused.into(),
-            })),
-            _ => None,
+        match self.ended() {
+            Ok(end) => end,
+            Err(refused) => Some(Err(refused.into())),
         }
     }
 
     /// How many promises were made.
     pub fn promises(&self) -> u64
-        ensures { result ≡ length self.now.promises }
+        ensures { result ≡ next_promise self.now }
     {
-        self.promises.len() as u64
+        self.promises.made()
     }
 
     /// How many frames wait to be committed.
     pub fn waiting(&self) -> u64
-        ensures frames { result ≡ length self.now.control }
+        ensures frames { result ≡ frames_waiting self.now }
         ensures small { result < 2 ^ 63 }
     {
         self.lanes.len() as u64
     }
 
+    /// How many bytes can be unsent.
+    pub fn capacity(&self) -> u64
+        ensures { result ≡ self.now.capacity }
+    {
+        self.capacity.octets()
+    }
+
     /// How many bytes of the committed frames are unsent.
     pub fn unsent(&self) -> u64
         ensures bytes { result ≡ unsent self.now }
-        ensures within { result ≤ CAPACITY }
+        ensures within { result ≤ self.now.capacity }
     {
         self.committed.unsent()
     }

@@ -4,34 +4,33 @@ ghost use Rattle.std.specs.Prelude.{◌≡◌, ◌+◌, ◌≤◌, option_map};
 ghost use Rattle.amqp_session.specs.declared.lanes.Item.{Item};
 ghost use Rattle.amqp_session.specs.Changes.{present_at};
 ghost use Rattle.amqp_session.specs.Writing.{next_within, commit, unsent, follow, taken};
-ghost use Rattle.amqp_session.specs.Parts.{first_sent, after_first};
+ghost use Rattle.amqp_session.specs.Parts.{first_sent, after_sent};
 
-use super::{CAPACITY, Session};
+use super::Session;
 use crate::command::Answer;
 use crate::committed::{Mark, Then};
 use crate::lanes::Item;
-use amqp_frame::{Frame, encoded_len};
+use amqp_frame::Frame;
 
 impl Session {
     /// Commits the next frame, where it is at most so many bytes long. It takes no memory.
     pub fn next_frame(&mut self, space: u64) -> Option<Frame>
-        requires { space + unsent self.old ≤ CAPACITY }
+        requires { space + unsent self.old ≤ self.old.capacity }
         ensures frame { result ≡ option_map (λ (item : Item). item.frame) (next_within space self.old) }
         ensures commit { self.new ≡ commit space self.old }
     {
         if !self.is_open() {
             return None;
         }
-        let front = self.lanes.front()?;
-        let mark = Mark {
-            left: encoded_len(&front.frame),
-            then: front.then,
-        };
-        if mark.left > space {
-            return None;
-        }
+        // The space is within a capacity, which is small.
+        let _ = self.capacity.octets();
+        let mark = self.lanes.front()?.mark_within(space)?;
         self.committed.push(mark);
-        let Item { frame, then: _ } = self.lanes.next()?;
+        let Item {
+            channel: _,
+            frame,
+            promise: _,
+        } = self.lanes.next()?;
         Some(frame)
     }
 
@@ -52,12 +51,15 @@ impl Session {
         }
     }
 
-    // Takes out the first committed frame, where its last byte is among the next n. Else these n
-    // are taken from it.
+    // While the link is open, takes out the first committed frame, where its last byte is among the
+    // next n. Else these n are taken from it.
     fn take_first(&mut self, n: u64) -> Option<Mark>
-        ensures first { result ≡ first_sent n self.old.committed }
-        ensures rest { self.new ≡ record self.old { committed = after_first n self.old.committed } }
+        ensures first { result ≡ first_sent n self.old }
+        ensures rest { self.new ≡ after_sent n self.old }
     {
+        if !self.is_open() {
+            return None;
+        }
         self.committed.take_first(n)
     }
 
@@ -67,7 +69,7 @@ impl Session {
     {
         match then {
             Then::Nothing => {}
-            Then::Answer(number) => self.give(number, Ok(Answer::Sent)),
+            Then::Answer(number) => self.give(number, Answer::Sent),
             Then::Finish => self.finish(),
         }
     }

@@ -5,6 +5,7 @@ use Rattle.std.specs.List.{range_with_len}
 use Rattle.std.proofs.lemmas.List.Folds.{find-append}
 use Rattle.amqp_session.specs.declared.channels.Channel.{Channel}
 use Rattle.amqp_session.specs.Listed.{at, has}
+use Rattle.amqp_session.specs.Channels.{Listing}
 use Rattle.amqp_session.specs.Numbering.{drawn}
 use Rattle.amqp_session.specs.NumberSet.{is_member}
 use Rattle.amqp_session.proofs.Maps.{at-absent}
@@ -33,8 +34,8 @@ module _ (numbers : List ℕ) (channels : List (ℕ × Channel)) (same : (n : �
 pub returns-in-Some-clause-drawn : goal.returns-in-Some-clause-drawn
 returns-in-Some-clause-drawn c =
     let numbers = c.self.inside.numbers in
-    let channels = c.args.self.now in
-    let same : (n : ℕ) → is_member numbers n ≡ has n channels = λ n. c.self.invariant n ∙ ap (has n) c.self.view_is in
+    let channels = c.args.self.now.listed in
+    let same : (n : ℕ) → is_member numbers n ≡ has n channels = λ n. c.self.invariant n ∙ ap (λ (l : Listing). has n l.listed) c.self.view_is in
     let part = range_with_len c.args.first (c.args.channel_max + 1 - c.args.first) in
     let rest = find (unlisted numbers channels same) (range_with_len 1 (c.args.first - 1)) in
     sym (in_order numbers channels same c.args.channel_max c.args.first
@@ -42,14 +43,14 @@ returns-in-Some-clause-drawn c =
 
 pub returns-in-Some-clause-unlisted : goal.returns-in-Some-clause-unlisted
 returns-in-Some-clause-unlisted c =
-    let same : (n : ℕ) → is_member c.self.inside.numbers n ≡ has n c.args.self.now = λ n. c.self.invariant n ∙ ap (has n) c.self.view_is in
-    not_listed c.self.inside.numbers c.args.self.now same c.in-Some.id c.in-Some.ensures.absent
+    let same : (n : ℕ) → is_member c.self.inside.numbers n ≡ has n c.args.self.now.listed = λ n. c.self.invariant n ∙ ap (λ (l : Listing). has n l.listed) c.self.view_is in
+    not_listed c.self.inside.numbers c.args.self.now.listed same c.in-Some.id c.in-Some.ensures.absent
 
 pub returns-in-None-clause-drawn : goal.returns-in-None-clause-drawn
 returns-in-None-clause-drawn c =
     let numbers = c.self.inside.numbers in
-    let channels = c.args.self.now in
-    let same : (n : ℕ) → is_member numbers n ≡ has n channels = λ n. c.self.invariant n ∙ ap (has n) c.self.view_is in
+    let channels = c.args.self.now.listed in
+    let same : (n : ℕ) → is_member numbers n ≡ has n channels = λ n. c.self.invariant n ∙ ap (λ (l : Listing). has n l.listed) c.self.view_is in
     let part = range_with_len c.args.first (c.args.channel_max + 1 - c.args.first) in
     let others = range_with_len 1 (c.args.first - 1) in
     let rest = find (unlisted numbers channels same) others in
@@ -59,5 +60,5 @@ returns-in-None-clause-drawn c =
 
 pub returns-in-None-clause-unlisted : goal.returns-in-None-clause-unlisted
 returns-in-None-clause-unlisted c =
-    let same : (n : ℕ) → is_member c.self.inside.numbers n ≡ has n c.args.self.now = λ n. c.self.invariant n ∙ ap (has n) c.self.view_is in
-    none_listed c.self.inside.numbers c.args.self.now same c.first_absent-in-None.result c.first_absent-in-None.ensures.absent
+    let same : (n : ℕ) → is_member c.self.inside.numbers n ≡ has n c.args.self.now.listed = λ n. c.self.invariant n ∙ ap (λ (l : Listing). has n l.listed) c.self.view_is in
+    none_listed c.self.inside.numbers c.args.self.now.listed same c.first_absent-in-None.result c.first_absent-in-None.ensures.absent

@@ -1,0 +1,87 @@
+-- Maps whose numbers ascend.
+use Rattle.std.proofs.Common.{◌≡◌, ◌∙◌, ap, sym, subst, refl, ℕ, ◌<◌, ◌≤◌, Bool, true, false, cond, List, [], ◌∷◌, map, Option, Some, None, arith}
+use Rattle.std.specs.declared.cmp.Ordering.{Ordering}
+use Rattle.std.specs.declared.cmp.Ordering.TheVariants.{Less, Equal, Greater}
+use Rattle.std.specs.Ordering.{nat_cmp, is_eq, match_ordering, MatchOrdering}
+use Rattle.std.specs.Cmp.{nat_cmp_is, ranks}
+use Rattle.std.specs.Map.{keys_of}
+use Rattle.std.specs.BTreeMap.{is_at}
+use Rattle.amqp_session.specs.Listed.{at, put, without, map_values}
+use Rattle.amqp_session.specs.Sound.{AscendFrom, Ascend}
+
+ranked : (n k : ℕ) (r : Ordering) → nat_cmp n k ≡ r → MatchOrdering r (n < k) (n ≡ k) (k < n)
+ranked n k r h = subst (λ r. MatchOrdering r (n < k) (n ≡ k) (k < n)) h (ranks n k)
+
+-- what is above a number is above a lesser one
+pub ascend-below : (m k : ℕ) (ks : List ℕ) → m ≤ k → AscendFrom k ks → AscendFrom m ks
+ascend-below m k [] le h = tt
+ascend-below m k (x ∷ ks) le h = (omega (arith, le, h.0), h.1)
+
+ascend-from : (m : ℕ) (ks : List ℕ) → AscendFrom m ks → Ascend ks
+ascend-from m [] h = tt
+ascend-from m (k ∷ ks) h = h.1
+
+module _ {X : Type 0} (n : ℕ) (v : X) where
+  put-head : (r : Ordering) (m : ℕ) (e : ℕ × X) (es : List (ℕ × X)) → nat_cmp n e.0 ≡ r → m < n → AscendFrom m (keys_of (e ∷ es))
+      → (e.0 < n → AscendFrom e.0 (keys_of (put n v es)))
+      → AscendFrom m (keys_of (match_ordering r ((n, v) ∷ e ∷ es) ((e.0, v) ∷ es) (e ∷ put n v es)))
+  put-head Less m e es h low s rest = (low, (ranked n e.0 Less h, s.1))
+  put-head Equal m e es h low s rest = s
+  put-head Greater m e es h low s rest = (s.0, rest (ranked n e.0 Greater h))
+
+  -- a number that is put stands in its order
+  pub put-from : (m : ℕ) (es : List (ℕ × X)) → m < n → AscendFrom m (keys_of es) → AscendFrom m (keys_of (put n v es))
+  put-from m [] low s = (low, tt)
+  put-from m (e ∷ es) low s = put-head (nat_cmp n e.0) m e es refl low s (λ above. put-from e.0 es above s.1)
+
+  first-head : (r : Ordering) (e : ℕ × X) (es : List (ℕ × X)) → nat_cmp n e.0 ≡ r → Ascend (keys_of (e ∷ es))
+      → Ascend (keys_of (match_ordering r ((n, v) ∷ e ∷ es) ((e.0, v) ∷ es) (e ∷ put n v es)))
+  first-head Less e es h s = (ranked n e.0 Less h, s)
+  first-head Equal e es h s = s
+  first-head Greater e es h s = put-from e.0 es (ranked n e.0 Greater h) s
+
+  pub put-ascends : (es : List (ℕ × X)) → Ascend (keys_of es) → Ascend (keys_of (put n v es))
+  put-ascends [] s = tt
+  put-ascends (e ∷ es) s = first-head (nat_cmp n e.0) e es refl s
+
+module _ {X : Type 0} (n : ℕ) where
+  gone-head : (b : Bool) (m : ℕ) (e : ℕ × X) (es : List (ℕ × X)) → AscendFrom m (keys_of (e ∷ es)) → AscendFrom e.0 (keys_of (without n es))
+      → AscendFrom m (keys_of (cond b es (e ∷ without n es)))
+  gone-head true m e es s rest = ascend-below m e.0 (keys_of es) (omega (arith, s.0)) s.1
+  gone-head false m e es s rest = (s.0, rest)
+
+  -- a number that goes leaves the others in their order
+  pub without-from : (m : ℕ) (es : List (ℕ × X)) → AscendFrom m (keys_of es) → AscendFrom m (keys_of (without n es))
+  without-from m [] s = tt
+  without-from m (e ∷ es) s = gone-head (is_at (nat_cmp n) e.0) m e es s (without-from e.0 es s.1)
+
+  first-gone : (b : Bool) (e : ℕ × X) (es : List (ℕ × X)) → Ascend (keys_of (e ∷ es)) → Ascend (keys_of (cond b es (e ∷ without n es)))
+  first-gone true e es s = ascend-from e.0 (keys_of es) s
+  first-gone false e es s = without-from e.0 es s
+
+  pub without-ascends : (es : List (ℕ × X)) → Ascend (keys_of es) → Ascend (keys_of (without n es))
+  without-ascends [] s = tt
+  without-ascends (e ∷ es) s = first-gone (is_at (nat_cmp n) e.0) e es s
+
+  -- a number below all others is not there
+  pub none-below : (es : List (ℕ × X)) → AscendFrom n (keys_of es) → at n es ≡ None
+  none-below [] s = refl
+  none-below (e ∷ es) s =
+      ap (λ r. cond (is_eq r) (Some e.1) (at n es)) (sym (nat_cmp_is n e.0 Less s.0))
+      ∙ none-below es (ascend-below n e.0 (keys_of es) (omega (arith, s.0)) s.1)
+
+  taken-head : (r : Ordering) (e : ℕ × X) (es : List (ℕ × X)) → nat_cmp n e.0 ≡ r → AscendFrom e.0 (keys_of es)
+      → at n (without n es) ≡ None → at n (cond (is_eq r) es (e ∷ without n es)) ≡ None
+  taken-head Less e es h s rest = ap (λ r. cond (is_eq r) (Some e.1) (at n (without n es))) h ∙ rest
+  taken-head Equal e es h s rest = none-below es (subst (λ k. AscendFrom k (keys_of es)) (sym (ranked n e.0 Equal h)) s)
+  taken-head Greater e es h s rest = ap (λ r. cond (is_eq r) (Some e.1) (at n (without n es))) h ∙ rest
+
+  -- a number that went is not there
+  pub at-gone : (es : List (ℕ × X)) → Ascend (keys_of es) → at n (without n es) ≡ None
+  at-gone [] s = refl
+  at-gone (e ∷ es) s = taken-head (nat_cmp n e.0) e es refl s (at-gone es (ascend-from e.0 (keys_of es) s))
+
+-- values that change leave the numbers
+pub map_values-from : {X : Type 0} (f : X → X) (m : ℕ) (es : List (ℕ × X)) → AscendFrom m (keys_of es) → AscendFrom m (keys_of (map_values f es))
+map_values-from f m [] s = tt
+map_values-from f m (e ∷ es) s = (s.0, map_values-from f e.0 es s.1)

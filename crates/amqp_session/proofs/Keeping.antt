@@ -1,0 +1,409 @@
+-- What the rules leave as it is.
+use Rattle.std.proofs.Common.{◌≡◌, ◌⊎◌, inl, inr, ℕ, zero, suc, ◌+◌, ◌-◌, ◌==◌, ◌&&◌, not, nat_le, nat_lt, max, Bool, true, false, if◌then◌else◌, List, [], ◌∷◌, length, drop, length-drop, Option, Some, None, Result, Ok, Err, is_some, refl, ap, sym, ◌∙◌, arith}
+use Rattle.std.proofs.lemmas.List.Sums.{sum_by-cons}
+use Rattle.std.proofs.lemmas.Bool.Decides.{nat_tests}
+use Rattle.amqp_frame.specs.declared.frame.Frame.{Frame}
+use Rattle.amqp_frame.specs.declared.frame.Frame.TheVariants.{ProtocolHeader, Method, Raw, Heartbeat}
+use Rattle.amqp_frame.specs.declared.frame.RawKind.{RawKind}
+use Rattle.amqp_frame.specs.declared.method.Method.{Method as AnyMethod}
+use Rattle.amqp_frame.specs.declared.method.Method.TheVariants.{Start, Tune, OpenOk, Close, CloseOk, ChannelOpenOk, ChannelCloseOk}
+use Rattle.amqp_frame.specs.RawMethods.{OtherMethod}
+use Rattle.amqp_frame.specs.Frames.{encoding}
+use Rattle.amqp_session.specs.declared.channels.Channel.{Channel}
+use Rattle.amqp_session.specs.declared.committed.Mark.{Mark}
+use Rattle.amqp_session.specs.declared.committed.Then.{Then}
+use Rattle.amqp_session.specs.declared.committed.Then.TheVariants.{Nothing, Answer, Finish}
+use Rattle.amqp_session.specs.declared.awaiting.Awaited.{Awaited}
+use Rattle.amqp_session.specs.declared.awaiting.Reply.TheVariants.{ChannelOpened, ChannelClosed, ConnectionClosed}
+use Rattle.amqp_session.specs.declared.state.ConnectionState.{ConnectionState}
+use Rattle.amqp_session.specs.declared.state.ConnectionState.TheVariants.{Connecting, Connected, Closing}
+use Rattle.amqp_session.specs.declared.state.ChannelState.{ChannelState}
+use Rattle.amqp_session.specs.declared.state.ChannelState.TheVariants as channel
+use Rattle.amqp_session.specs.declared.state.Phase.{Phase}
+use Rattle.amqp_session.specs.declared.state.Phase.TheVariants.{AwaitStart, AwaitTune, AwaitOpenOk}
+use Rattle.amqp_session.specs.declared.state.Link.{Link}
+use Rattle.amqp_session.specs.declared.io_fault.IoFault.{IoFault}
+use Rattle.amqp_session.specs.declared.server_close.ServerClose.{ServerClose}
+use Rattle.amqp_session.specs.declared.server_close.ServerClose.TheVariants.{WithoutError, WithError}
+use Rattle.amqp_session.specs.declared.misread.Misread.{Misread}
+use Rattle.amqp_session.specs.declared.command.Cmd.{Cmd}
+use Rattle.amqp_session.specs.declared.command.Cmd.TheVariants.{OpenChannel, CloseChannel, CloseConnection, Send}
+use Rattle.amqp_session.specs.declared.command.Answer.{Answer as AnyAnswer}
+use Rattle.amqp_session.specs.declared.command.Answer.TheVariants.{Done}
+use Rattle.amqp_session.specs.declared.error.ErrorKind.{ErrorKind}
+use Rattle.amqp_session.specs.declared.error.ErrorKind.TheVariants.{NoMemory, IOError, SerialisationError}
+use Rattle.amqp_session.specs.Talk.{Talk, has_ended, is_open, is_closing, acts, end_of_link}
+use Rattle.amqp_session.specs.Changes.{Promises, present_at, refuse, promise, queue_item, next_promise, give_to, fail, lose, misplaced, close, finish, finish_by, starve}
+use Rattle.amqp_session.specs.Links.{dropped, lost, misread}
+use Rattle.amqp_session.specs.Violations.{misread_error}
+use Rattle.amqp_session.specs.ConnectionMethods.{connection_rule, connection_closed, on_connection_close_ok}
+use Rattle.amqp_session.specs.Channels.{channel_at}
+use Rattle.amqp_session.specs.ChannelMethods.{heard_on, unlisted, unawaited_channel_method, channel_opened, channel_closed, channel_rule, channel_method_by, channel_method, hand_out, confirmed, is_select_ok, pass_through, raw_by, raw_frame}
+use Rattle.amqp_session.specs.Replies.{first_awaited, without_first}
+use Rattle.amqp_session.specs.Frames.{is_unbuilt, is_of_a_channel, method_rule, frame_rule, on_frame}
+use Rattle.amqp_session.specs.Commands.{open_drawn, target, close_target, send_target, method_frame, send, command, command_rule}
+use Rattle.amqp_session.specs.Writing.{left_in, follow, sent, sent_among, taken}
+use Rattle.amqp_session.proofs.Cases.{if_case, if_by, if-true, if-false, if-both, and-true, and-false}
+
+-- ---- the present
+
+-- what does not look at the present stays
+pub present-keeps : {A : Type 0} (f : Talk → A) (at : ℕ) (t : Talk) → ((n : ℕ) → f (record t { present = n }) ≡ f t) → f (present_at at t) ≡ f t
+present-keeps f at t h = if_case (λ (x : Talk). f x ≡ f t) (has_ended t) t (record t { present = max t.present at }) refl (h (max t.present at))
+
+present-again : (b : Bool) (at : ℕ) (t : Talk) → has_ended t ≡ b → present_at at (present_at at t) ≡ present_at at t
+present-again true at t h = ap (present_at at) (if-true (has_ended t) t (record t { present = max t.present at }) h)
+present-again false at t h =
+    let x : Talk = record t { present = max t.present at } in
+    let once : present_at at t ≡ x = if-false (has_ended t) t x h in
+    let same : max (max t.present at) at ≡ max t.present at = omega arith in
+    ap (present_at at) once ∙ if-false (has_ended t) x (record x { present = max x.present at }) h
+    ∙ ap (λ (n : ℕ). record t { present = n }) same ∙ sym once
+
+-- a moment comes once
+pub present-twice : (at : ℕ) (t : Talk) → present_at at (present_at at t) ≡ present_at at t
+present-twice at t = present-again (has_ended t) at t refl
+
+-- ---- want of memory
+
+starve-over : (b : Bool) (t : Talk) → has_ended t ≡ b → has_ended (starve t) ≡ true
+starve-over true t h = ap has_ended (if-true (has_ended t) t (fail NoMemory t) h) ∙ h
+starve-over false t h = ap has_ended (if-false (has_ended t) t (fail NoMemory t) h)
+
+-- where memory is refused, the session ends
+pub starve-ends : (t : Talk) → has_ended (starve t) ≡ true
+starve-ends t = starve-over (has_ended t) t refl
+
+-- memory that is refused twice was refused once
+pub starve-twice : (at : ℕ) (t : Talk) → starve (present_at at (starve (present_at at t))) ≡ starve (present_at at t)
+starve-twice at t =
+    let x : Talk = starve (present_at at t) in
+    let over : has_ended x ≡ true = starve-ends (present_at at t) in
+    ap starve (if-true (has_ended x) x (record x { present = max x.present at }) over) ∙ if-true (has_ended x) x (fail NoMemory x) over
+
+pub starve-committed : (t : Talk) → (starve t).committed ≡ t.committed
+starve-committed t = if_case (λ (x : Talk). x.committed ≡ t.committed) (has_ended t) t (fail NoMemory t) refl refl
+
+-- ---- what a rule keeps
+
+-- a rule that commits nothing, and leaves the capacity, and the link as it is unless the session ends
+pub record Keeps (t t' : Talk) : Type 0 where
+  pub committed : t'.committed ≡ t.committed
+  pub capacity : t'.capacity ≡ t.capacity
+  pub link : (t'.link ≡ t.link) ⊎ (has_ended t' ≡ true)
+
+pub keeps-none : (t : Talk) → Keeps t t
+keeps-none t = record { committed = refl; capacity = refl; link = inl refl }
+
+keeps-lose : (e : ErrorKind) (t : Talk) → Keeps t (lose e t)
+keeps-lose e t = record { committed = refl; capacity = refl; link = inr refl }
+
+keeps-give_to : (promise : Option ℕ) (answer : Result AnyAnswer ErrorKind) (t u : Talk) → Keeps t u → Keeps t (give_to promise answer u)
+keeps-give_to None answer t u k = k
+keeps-give_to (Some n) answer t u k = record { committed = k.committed; capacity = k.capacity; link = k.link }
+
+keeps-close : (t u : Talk) → Keeps t u → Keeps t (close u)
+keeps-close t u k = record { committed = k.committed; capacity = k.capacity; link = inr refl }
+
+-- ---- frames
+
+keeps-connection-closed : (a : Option Awaited) (t : Talk) → Keeps t (connection_closed a t)
+keeps-connection-closed None t = keeps-close t t (keeps-none t)
+keeps-connection-closed (Some a) t =
+    keeps-close t _ (keeps-give_to a.promise (Ok Done) t
+    (record t { awaited = without_first 0 ConnectionClosed t.awaited }) (record { committed = refl; capacity = refl; link = inl refl }))
+
+keeps-connection : (s : ConnectionState) (p : Phase) (m : AnyMethod) (t : Talk) → Keeps t (connection_rule s p m t)
+keeps-connection s p (Close code text class method) t = record { committed = refl; capacity = refl; link = inl refl }
+keeps-connection Closing p CloseOk t = keeps-connection-closed (first_awaited 0 ConnectionClosed t.awaited) t
+keeps-connection Closing p m t = keeps-none t
+keeps-connection Connecting AwaitStart (Start a b c d e) t = record { committed = refl; capacity = refl; link = inl refl }
+keeps-connection Connecting AwaitTune (Tune a b c) t = record { committed = refl; capacity = refl; link = inl refl }
+keeps-connection Connecting AwaitOpenOk OpenOk t = record { committed = refl; capacity = refl; link = inl refl }
+keeps-connection held p m t = keeps-lose _ t
+
+keeps-misplaced : (e : ErrorKind) (t : Talk) → Keeps t (misplaced e t)
+keeps-misplaced e t = if_case (Keeps t) (is_closing t.state) t (lose e t) (keeps-none t) (keeps-lose e t)
+
+keeps-unawaited : (n : ℕ) (s : ChannelState) (m : AnyMethod) (t : Talk) → Keeps t (unawaited_channel_method n s m t)
+keeps-unawaited n channel.Closing m t = keeps-none t
+keeps-unawaited n _ m t = keeps-lose _ t
+
+keeps-opened : (n : ℕ) (c : Channel) (a : Option Awaited) (t : Talk) → Keeps t (channel_opened n c a t)
+keeps-opened n c None t = keeps-unawaited n c.state ChannelOpenOk t
+keeps-opened n c (Some a) t = keeps-give_to a.promise _ t _ (record { committed = refl; capacity = refl; link = inl refl })
+
+keeps-closed : (n : ℕ) (c : Channel) (a : Option Awaited) (t : Talk) → Keeps t (channel_closed n c a t)
+keeps-closed n c None t = keeps-unawaited n c.state ChannelCloseOk t
+keeps-closed n c (Some a) t = keeps-give_to a.promise _ t _ (record { committed = refl; capacity = refl; link = inl refl })
+
+keeps-channel : (s : ConnectionState) (n : ℕ) (c : Channel) (m : AnyMethod) (t : Talk) → Keeps t (channel_rule s n c m t)
+keeps-channel Closing n c m t = keeps-none t
+keeps-channel _ n c ChannelOpenOk t = keeps-opened n c (first_awaited n ChannelOpened t.awaited) t
+keeps-channel _ n c ChannelCloseOk t = keeps-closed n c (first_awaited n ChannelClosed t.awaited) t
+keeps-channel _ n c m t = keeps-unawaited n c.state m t
+
+keeps-channel-by : (o : Option Channel) (n : ℕ) (m : AnyMethod) (t : Talk) → Keeps t (channel_method_by o n m t)
+keeps-channel-by None n m t = keeps-misplaced _ t
+keeps-channel-by (Some c) n m t = keeps-channel t.state n c m t
+
+keeps-pass : (n : ℕ) (c : Channel) (kind : RawKind) (bytes : List ℕ) (t : Talk) → Keeps t (pass_through n c kind bytes t)
+keeps-pass n c kind bytes t =
+    if_case (λ (x : Talk). Keeps t (hand_out c.opened (record { channel = n; kind = kind; bytes = bytes }) x)) (is_select_ok kind bytes) (confirmed n c t) t
+    (record { committed = refl; capacity = refl; link = inl refl })
+    (record { committed = refl; capacity = refl; link = inl refl })
+
+keeps-raw : (o : Option Channel) (n : ℕ) (kind : RawKind) (bytes : List ℕ) (t : Talk) → Keeps t (raw_by o n kind bytes t)
+keeps-raw None n kind bytes t = keeps-misplaced _ t
+keeps-raw (Some c) n kind bytes t = keeps-pass n c kind bytes t
+
+keeps-method : (n : ℕ) (m : AnyMethod) (t : Talk) → Keeps t (method_rule n m t)
+keeps-method zero m t =
+    if_case (Keeps t) (is_of_a_channel m) (misplaced _ t) (connection_rule t.state t.phase m t)
+    (keeps-misplaced _ t) (keeps-connection t.state t.phase m t)
+keeps-method (suc n) m t =
+    if_case (Keeps t) (is_of_a_channel m) (channel_method (suc n) m t) (misplaced _ t)
+    (keeps-channel-by (heard_on t.state (channel_at (suc n) t)) (suc n) m t) (keeps-misplaced _ t)
+
+keeps-rule : (f : Frame) (place : ℕ) (t : Talk) → Keeps t (frame_rule f place t)
+keeps-rule (ProtocolHeader version) place t = keeps-lose _ t
+keeps-rule Heartbeat place t = keeps-none t
+keeps-rule (Method n m) place t = if_case (Keeps t) (is_unbuilt m) (fail _ t) (method_rule n m t) (keeps-lose _ t) (keeps-method n m t)
+keeps-rule (Raw zero kind bytes) place t = keeps-misplaced _ t
+keeps-rule (Raw (suc n) kind bytes) place t = keeps-raw (heard_on t.state (channel_at (suc n) t)) (suc n) kind bytes t
+
+pub keeps-frame : (f : Frame) (place : ℕ) (t : Talk) → Keeps t (on_frame f place t)
+keeps-frame f place t = if_case (Keeps t) (acts t) (frame_rule f place t) t (keeps-rule f place t) (keeps-none t)
+
+-- a frame that is read commits nothing
+pub frame-committed : (f : Frame) (place at : ℕ) (t : Talk) → (on_frame f place (present_at at t)).committed ≡ t.committed
+frame-committed f place at t = (keeps-frame f place (present_at at t)).committed ∙ present-keeps (λ x. x.committed) at t (λ n. refl)
+
+pub keeps-misread : (why : Misread) (t : Talk) → Keeps t (misread why t)
+keeps-misread why t =
+    if_case (Keeps t) (acts t) (lose (misread_error why) t) (if is_open t then record t { input = dropped t.input } else t)
+    (keeps-lose _ t)
+    (if_case (Keeps t) (is_open t) (record t { input = dropped t.input }) t (record { committed = refl; capacity = refl; link = inl refl }) (keeps-none t))
+
+pub misread-committed : (why : Misread) (at : ℕ) (t : Talk) → (misread why (present_at at t)).committed ≡ t.committed
+misread-committed why at t = (keeps-misread why (present_at at t)).committed ∙ present-keeps (λ x. x.committed) at t (λ n. refl)
+
+-- ---- commands
+
+-- the link and what is agreed stay, and what is committed
+pub record Stays (t t' : Talk) : Type 0 where
+  pub link : t'.link ≡ t.link
+  pub committed : t'.committed ≡ t.committed
+  pub configuration : t'.configuration ≡ t.configuration
+  pub capacity : t'.capacity ≡ t.capacity
+  pub input : t'.input ≡ t.input
+  pub server_close : t'.server_close ≡ t.server_close
+
+stays-refuse : (e : ErrorKind) (t : Talk) → Stays t (refuse e t)
+stays-refuse e t = record { link = refl; committed = refl; configuration = refl; capacity = refl; input = refl; server_close = refl }
+
+stays-drawn : (o : Option ℕ) (first : ℕ) (t : Talk) → Stays t (open_drawn o first t)
+stays-drawn None first t = record { link = refl; committed = refl; configuration = refl; capacity = refl; input = refl; server_close = refl }
+stays-drawn (Some n) first t = record { link = refl; committed = refl; configuration = refl; capacity = refl; input = refl; server_close = refl }
+
+stays-close : (r : Result Channel ErrorKind) (n code : ℕ) (text : List ℕ) (t : Talk) → Stays t (close_target r n code text t)
+stays-close (Err e) n code text t = stays-refuse e t
+stays-close (Ok c) n code text t = record { link = refl; committed = refl; configuration = refl; capacity = refl; input = refl; server_close = refl }
+
+stays-send : (r : Result Channel ErrorKind) (n : ℕ) (m : OtherMethod) (t : Talk) → Stays t (send_target r n m t)
+stays-send (Err e) n m t = stays-refuse e t
+stays-send (Ok c) n m t =
+    let frame = method_frame n m in
+    if_case (Stays t) (nat_lt t.capacity (length (encoding frame))) (refuse (SerialisationError (length (encoding frame))) t)
+    (promise (queue_item (record { channel = n; frame = frame; promise = Some (next_promise t) }) t))
+    (stays-refuse _ t)
+    (record { link = refl; committed = refl; configuration = refl; capacity = refl; input = refl; server_close = refl })
+
+stays-rule : (s : ConnectionState) (c : Cmd) (t : Talk) → Stays t (command_rule s c t)
+stays-rule Connected OpenChannel t = stays-drawn _ _ t
+stays-rule Connected (CloseChannel r code text) t = stays-close _ r.id code text t
+stays-rule Connected (CloseConnection code text) t = record { link = refl; committed = refl; configuration = refl; capacity = refl; input = refl; server_close = refl }
+stays-rule Connected (Send r method) t = stays-send _ r.id method t
+stays-rule _ c t = stays-refuse _ t
+
+pub stays-command : (c : Cmd) (t : Talk) → Stays t (command c t)
+stays-command c t = stays-rule t.state c t
+
+-- ---- ends
+
+-- what looks at none of what an end or an answer changes
+abbrev pub OverlooksEnds : {A : Type 0} → (Talk → A) → Type 0
+OverlooksEnds f =
+    (t : Talk) (s : ConnectionState) (l : Link ErrorKind) (cs : List (ℕ × Channel)) (ps : Promises)
+    → f (record t { state = s; link = l; channels = cs; promises = ps }) ≡ f t
+
+-- the same of what writing changes, and of a moment
+pub record Overlooks {A : Type 0} (f : Talk → A) : Type 0 where
+  pub ends : OverlooksEnds f
+  pub writes : (t : Talk) (w : ℕ) (ms : List Mark) → f (record t { last_write = w; committed = ms }) ≡ f t
+  pub moments : (t : Talk) (n : ℕ) → f (record t { present = n }) ≡ f t
+
+finish-keeps : {A : Type 0} (f : Talk → A) → OverlooksEnds f → (o : Option ServerClose) (t : Talk) → f (finish_by o t) ≡ f t
+finish-keeps f h None t = h t _ _ _ _
+finish-keeps f h (Some WithoutError) t = h t _ _ _ _
+finish-keeps f h (Some (WithError e)) t = h t _ _ _ _
+
+-- a lost link leaves it as it was
+pub lost-keeps : {A : Type 0} (f : Talk → A) → OverlooksEnds f → (fault : IoFault) (t : Talk) → f (lost fault t) ≡ f t
+lost-keeps f h fault t =
+    if_case (λ (x : Talk). f x ≡ f t) (acts t) (lose (IOError fault) t) (if is_open t then finish t else t)
+    (h t _ _ _ _)
+    (if_case (λ (x : Talk). f x ≡ f t) (is_open t) (finish t) t (finish-keeps f h t.server_close t) refl)
+
+pub finish-ends : (o : Option ServerClose) (t : Talk) → has_ended (finish_by o t) ≡ true
+finish-ends None t = refl
+finish-ends (Some WithoutError) t = refl
+finish-ends (Some (WithError e)) t = refl
+
+-- a link that is lost ends the session, where there is one
+pub lost-stays : (fault : IoFault) (t : Talk) → (lost fault t ≡ t) ⊎ (has_ended (lost fault t) ≡ true)
+lost-stays fault t =
+    if_case (λ (x : Talk). (x ≡ t) ⊎ (has_ended x ≡ true)) (acts t) (lose (IOError fault) t) (if is_open t then finish t else t)
+    (inr refl)
+    (if_case (λ (x : Talk). (x ≡ t) ⊎ (has_ended x ≡ true)) (is_open t) (finish t) t (inr (finish-ends t.server_close t)) (inl refl))
+
+-- the link stays, or the session ended
+abbrev pub LinkKept : Talk → Talk → Type 0
+LinkKept t t' = (t'.link ≡ t.link) ⊎ (has_ended t' ≡ true)
+
+pub lost-link : (fault : IoFault) (t : Talk) → LinkKept t (lost fault t)
+lost-link fault t =
+    if_case (LinkKept t) (acts t) (lose (IOError fault) t) (if is_open t then finish t else t)
+    (inr refl)
+    (if_case (LinkKept t) (is_open t) (finish t) t (inr (finish-ends t.server_close t)) (inl refl))
+
+pub link-then : (a b c : Talk) → LinkKept a b → LinkKept b c → LinkKept a c
+link-then a b c (inl h) (inl k) = inl (k ∙ h)
+link-then a b c (inr h) (inl k) = inr (ap (λ (l : Link ErrorKind). is_some (end_of_link l)) k ∙ h)
+link-then a b c h (inr k) = inr k
+
+-- ---- writing
+
+-- what is left of the committed frames where so many of their bytes are taken
+abbrev pub left_after : List Mark → ℕ → List Mark
+left_after [] n = []
+left_after (m ∷ ms) n = if nat_le m.left n then left_after ms (n - m.left) else record m { left = m.left - n } ∷ ms
+
+pub follow-keeps : {A : Type 0} (f : Talk → A) → OverlooksEnds f → (th : Then) (t : Talk) → f (follow th t) ≡ f t
+follow-keeps f h Nothing t = refl
+follow-keeps f h (Answer n) t = h t t.state t.link t.channels _
+follow-keeps f h Finish t = finish-keeps f h t.server_close t
+
+pub follow-link : (th : Then) (t : Talk) → LinkKept t (follow th t)
+follow-link Nothing t = inl refl
+follow-link (Answer n) t = inl refl
+follow-link Finish t = inr (finish-ends t.server_close t)
+
+sent_among-keeps : {A : Type 0} (f : Talk → A) → Overlooks f → (ms : List Mark) (n : ℕ) (t : Talk) → f (sent_among ms n t) ≡ f t
+sent_among-keeps f h [] n t = refl
+sent_among-keeps f h (m ∷ ms) n t =
+    let rest : Talk = record t { committed = record m { left = m.left - n } ∷ ms } in
+    let on : Talk = sent_among ms (n - m.left) (sent m t) in
+    if_case (λ (x : Talk). f x ≡ f t) (is_open t) (if nat_le m.left n then on else rest) t
+    (if_case (λ (x : Talk). f x ≡ f t) (nat_le m.left n) on rest
+    (sent_among-keeps f h ms (n - m.left) (sent m t) ∙ follow-keeps f h.ends m.then (record t { committed = drop 1 t.committed })
+    ∙ h.writes t t.last_write (drop 1 t.committed))
+    (h.writes t t.last_write (record m { left = m.left - n } ∷ ms)))
+    refl
+
+sent_among-link : (ms : List Mark) (n : ℕ) (t : Talk) → LinkKept t (sent_among ms n t)
+sent_among-link [] n t = inl refl
+sent_among-link (m ∷ ms) n t =
+    let rest : Talk = record t { committed = record m { left = m.left - n } ∷ ms } in
+    let on : Talk = sent_among ms (n - m.left) (sent m t) in
+    if_case (LinkKept t) (is_open t) (if nat_le m.left n then on else rest) t
+    (if_case (LinkKept t) (nat_le m.left n) on rest
+    (link-then t (sent m t) on (follow-link m.then (record t { committed = drop 1 t.committed })) (sent_among-link ms (n - m.left) (sent m t)))
+    (inl refl))
+    (inl refl)
+
+sent_among-closed : (ms : List Mark) (n : ℕ) (t : Talk) → is_open t ≡ false → sent_among ms n t ≡ t
+sent_among-closed [] n t h = refl
+sent_among-closed (m ∷ ms) n t h = if-false (is_open t) _ t h
+
+module _ (m : Mark) (ms : List Mark) (n : ℕ) (t : Talk)
+    (later : is_open (sent_among ms (n - m.left) (sent m t)) ≡ true → (sent_among ms (n - m.left) (sent m t)).committed ≡ left_after ms (n - m.left)) where
+  abbrev left_here : Talk
+  left_here = record t { committed = record m { left = m.left - n } ∷ ms }
+
+  abbrev gone_on : Talk
+  gone_on = sent_among ms (n - m.left) (sent m t)
+
+  inner : (b : Bool) → is_open (if b then gone_on else left_here) ≡ true
+      → (if b then gone_on else left_here).committed ≡ (if b then left_after ms (n - m.left) else record m { left = m.left - n } ∷ ms)
+  inner true k = later k
+  inner false k = refl
+
+  outer : (b : Bool) → is_open t ≡ b → is_open (sent_among (m ∷ ms) n t) ≡ true → (sent_among (m ∷ ms) n t).committed ≡ left_after (m ∷ ms) n
+  outer true k opened =
+      let same : sent_among (m ∷ ms) n t ≡ (if nat_le m.left n then gone_on else left_here) =
+      if-true (is_open t) (if nat_le m.left n then gone_on else left_here) t k in
+      ap (λ (x : Talk). x.committed) same ∙ inner (nat_le m.left n) (ap is_open (sym same) ∙ opened)
+  outer false k opened =
+      let shut : is_open (sent_among (m ∷ ms) n t) ≡ false = ap is_open (sent_among-closed (m ∷ ms) n t k) ∙ k in absurd cc
+
+-- while the link is open, the frames whose last byte was taken are no longer committed
+pub sent_among-committed : (ms : List Mark) (n : ℕ) (t : Talk) → t.committed ≡ ms → is_open (sent_among ms n t) ≡ true
+    → (sent_among ms n t).committed ≡ left_after ms n
+sent_among-committed [] n t h opened = h
+sent_among-committed (m ∷ ms) n t h opened =
+    outer m ms n t
+    (sent_among-committed ms (n - m.left) (sent m t)
+    (follow-keeps (λ (x : Talk). x.committed) (λ t s l cs ps. refl) m.then (record t { committed = drop 1 t.committed }) ∙ ap (drop 1) h))
+    (is_open t) refl opened
+
+pub taken-keeps : {A : Type 0} (f : Talk → A) → Overlooks f → (n : ℕ) (t : Talk) → f (taken n t) ≡ f t
+taken-keeps f h n t =
+    let u : Talk = record t { last_write = t.present } in
+    if_case (λ (x : Talk). f x ≡ f t) (is_open t && not (n == 0)) (sent_among t.committed n u) t
+    (sent_among-keeps f h t.committed n u ∙ h.writes t t.present t.committed) refl
+
+pub taken-link : (n : ℕ) (t : Talk) → LinkKept t (taken n t)
+taken-link n t =
+    let u : Talk = record t { last_write = t.present } in
+    if_case (LinkKept t) (is_open t && not (n == 0)) (sent_among t.committed n u) t (sent_among-link t.committed n u) (inl refl)
+
+pub left_in-cons : (m : Mark) (ms : List Mark) → left_in (m ∷ ms) ≡ m.left + left_in ms
+left_in-cons m ms = sum_by-cons (λ (m : Mark). m.left) m ms
+
+-- the bytes that were taken are no longer unsent
+pub left_in-left_after : (ms : List Mark) (n : ℕ) → left_in (left_after ms n) ≡ left_in ms - n
+left_in-left_after [] n = omega arith
+left_in-left_after (m ∷ ms) n =
+    grind (arith, nat_tests, left_in-cons m ms, left_in-cons (record m { left = m.left - n }) ms, left_in-left_after ms (n - m.left))
+
+-- where the link is still open, what is committed is what is left
+pub committed-taken : (b : Bool) (at n : ℕ) (t : Talk) → is_open t ≡ true → is_open (taken n (present_at at t)) ≡ true → (n == 0) ≡ b
+    → (taken n (present_at at t)).committed ≡ (if b then t.committed else left_after t.committed n)
+committed-taken true at n t opened still zero_is =
+    let x = present_at at t in
+    ap (λ (y : Talk). y.committed) (if-false (is_open x && not (n == 0)) (sent_among x.committed n (record x { last_write = x.present })) x
+    (and-false (is_open x) (not (n == 0)) (ap not zero_is)))
+    ∙ present-keeps (λ y. y.committed) at t (λ k. refl)
+committed-taken false at n t opened still zero_is =
+    let x = present_at at t in
+    let u : Talk = record x { last_write = x.present } in
+    let same : taken n x ≡ sent_among x.committed n u =
+    if-true (is_open x && not (n == 0)) (sent_among x.committed n u) x
+    (and-true (is_open x) (not (n == 0)) (present-keeps is_open at t (λ k. refl) ∙ opened) (ap not zero_is)) in
+    ap (λ (y : Talk). y.committed) same
+    ∙ sent_among-committed x.committed n u refl (ap is_open (sym same) ∙ still)
+    ∙ ap (λ ms. left_after ms n) (present-keeps (λ y. y.committed) at t (λ k. refl))
+
+left_in-taken : (b : Bool) (at n : ℕ) (t : Talk) → is_open t ≡ true → is_open (taken n (present_at at t)) ≡ true → (n == 0) ≡ b
+    → left_in (taken n (present_at at t)).committed ≡ left_in t.committed - n
+left_in-taken true at n t opened still h =
+    let none : n ≡ 0 = grind (arith, nat_tests) in
+    omega (arith, ap left_in (committed-taken true at n t opened still h), none)
+left_in-taken false at n t opened still h = ap left_in (committed-taken false at n t opened still h) ∙ left_in-left_after t.committed n
+
+-- the unsent bytes are counted after some were taken, where the link is still open
+pub counted-taken : (at n : ℕ) (t : Talk) (bytes : List ℕ) → is_open t ≡ true → is_open (taken n (present_at at t)) ≡ true
+    → length bytes ≡ left_in t.committed → length (drop n bytes) ≡ left_in (taken n (present_at at t)).committed
+counted-taken at n t bytes opened still h =
+    omega (arith, h, length-drop n bytes, left_in-taken (n == 0) at n t opened still refl)

@@ -1,0 +1,73 @@
+-- What a refused command leaves as it was.
+use Rattle.std.proofs.Common.{◌≡◌, ◌∙◌, ap, sym, refl, subst, ℕ, nat_lt, if◌then◌else◌, List, length, Option, Some, None, Result, Ok, Err}
+use Rattle.amqp_frame.specs.RawMethods.{OtherMethod}
+use Rattle.amqp_frame.specs.Frames.{encoding}
+use Rattle.amqp_session.specs.declared.channels.Channel.{Channel}
+use Rattle.amqp_session.specs.declared.command.Answer.{Answer}
+use Rattle.amqp_session.specs.declared.command.Cmd.{Cmd}
+use Rattle.amqp_session.specs.declared.command.Cmd.TheVariants.{OpenChannel, CloseChannel, CloseConnection, Send}
+use Rattle.amqp_session.specs.declared.state.ConnectionState.{ConnectionState}
+use Rattle.amqp_session.specs.declared.state.ConnectionState.TheVariants.{Connected}
+use Rattle.amqp_session.specs.declared.error.ErrorKind.{ErrorKind}
+use Rattle.amqp_session.specs.declared.error.ErrorKind.TheVariants.{ChannelsLimitReached, SerialisationError}
+use Rattle.amqp_session.specs.Listed.{at, put}
+use Rattle.amqp_session.specs.Talk.{Talk}
+use Rattle.amqp_session.specs.Changes.{Promises, queue_item, next_promise, promise, refuse}
+use Rattle.amqp_session.specs.Commands.{open_drawn, open_none, target, close_target, send_target, method_frame, send, command, command_rule}
+use Rattle.amqp_session.specs.Laws.{IsRefusal, IsAnsweredAtOnce}
+use Rattle.amqp_session.proofs.Cases.{if_case}
+use Rattle.amqp_session.proofs.Seen.{at-put}
+
+module _ (t : Talk) (e : ErrorKind) where
+  -- what holds of a command that is refused by this error
+  abbrev Told : Talk → Type 0
+  Told u = IsAnsweredAtOnce e t u → IsRefusal e t u
+
+  -- the error of a refusal is the one that is told
+  same-error : (e' : ErrorKind) (ps : Promises) → ps ≡ put t.made (Some (Err e')) t.promises → at t.made ps ≡ Some (Some (Err e)) → e' ≡ e
+  same-error e' ps is h =
+      let there : at t.made ps ≡ Some (Some (Err e')) = ap (at t.made) is ∙ at-put t.made (Some (Err e')) t.promises in cc
+
+  -- a promise that waits is not answered
+  told-waits : (u : Talk) → u.promises ≡ put t.made None t.promises → Told u
+  told-waits u is h =
+      let there : at t.made u.promises ≡ Some None = ap (at t.made) is ∙ at-put t.made None t.promises in absurd cc
+
+refusal : (e : ErrorKind) (t : Talk) → IsRefusal e t (refuse e t)
+refusal ChannelsLimitReached t = refl
+refusal e t = refl
+
+told-refuse : (e' e : ErrorKind) (t : Talk) → Told t e (refuse e' t)
+told-refuse e' e t h =
+    subst (λ k. IsRefusal k t (refuse e' t)) (same-error t e e' (refuse e' t).promises refl h) (refusal e' t)
+
+told-limit : (e : ErrorKind) (t u : Talk) → u ≡ record (refuse ChannelsLimitReached t) { cursor = u.cursor } → Told t e u
+told-limit e t u is h =
+    subst (λ k. IsRefusal k t u) (same-error t e ChannelsLimitReached u.promises (ap (λ (x : Talk). x.promises) is) h) is
+
+told-drawn : (o : Option ℕ) (first : ℕ) (e : ErrorKind) (t : Talk) → Told t e (open_drawn o first t)
+told-drawn None first e t = told-limit e t (open_none first t) refl
+told-drawn (Some n) first e t = told-waits t e _ refl
+
+told-close : (r : Result Channel ErrorKind) (n code : ℕ) (text : List ℕ) (e : ErrorKind) (t : Talk) → Told t e (close_target r n code text t)
+told-close (Err e') n code text e t = told-refuse e' e t
+told-close (Ok c) n code text e t = told-waits t e _ refl
+
+told-send : (r : Result Channel ErrorKind) (n : ℕ) (m : OtherMethod) (e : ErrorKind) (t : Talk) → Told t e (send_target r n m t)
+told-send (Err e') n m e t = told-refuse e' e t
+told-send (Ok c) n m e t =
+    let frame = method_frame n m in
+    if_case (Told t e) (nat_lt t.capacity (length (encoding frame))) (refuse (SerialisationError (length (encoding frame))) t)
+    (promise (queue_item (record { channel = n; frame = frame; promise = Some (next_promise t) }) t))
+    (told-refuse _ e t) (told-waits t e _ refl)
+
+told-rule : (s : ConnectionState) (c : Cmd) (e : ErrorKind) (t : Talk) → Told t e (command_rule s c t)
+told-rule Connected OpenChannel e t = told-drawn _ _ e t
+told-rule Connected (CloseChannel r code text) e t = told-close _ r.id code text e t
+told-rule Connected (CloseConnection code text) e t = told-waits t e _ refl
+told-rule Connected (Send r method) e t = told-send _ r.id method e t
+told-rule _ c e t = told-refuse _ e t
+
+-- a command that is refused changes nothing else
+pub refused-alone : (c : Cmd) (t : Talk) (e : ErrorKind) → IsAnsweredAtOnce e t (command c t) → IsRefusal e t (command c t)
+refused-alone c t e = told-rule t.state c e t

@@ -1,0 +1,445 @@
+-- Every rule leads from a sound state to a sound one.
+use Rattle.std.proofs.Common.{◌≡◌, ◌∙◌, ap, sym, subst, refl, ℕ, zero, suc, ◌<◌, ◌≤◌, ◌+◌, ◌-◌, ◌==◌, ◌&&◌, not, nat_le, nat_lt, max, if◌then◌else◌, Bool, true, false, List, [], ◌∷◌, length, drop, Option, Some, None, Result, Ok, Err, cond, is_some, arith}
+use Rattle.std.proofs.lemmas.Bool.Decides.{nat_tests}
+use Rattle.std.proofs.lemmas.List.Folds.{find-append}
+use Rattle.std.specs.Prelude.{IsTrue, find}
+use Rattle.std.specs.Option.{option_or}
+use Rattle.std.specs.List.{range_with_len}
+use Rattle.amqp_types.specs.declared.word.Word.{Word}
+use Rattle.amqp_types.specs.declared.word.Word.TheVariants as word
+use Rattle.std.specs.Map.{keys_of}
+use Rattle.amqp_frame.specs.declared.frame.Frame.{Frame}
+use Rattle.amqp_frame.specs.declared.frame.Frame.TheVariants.{ProtocolHeader, Method, Raw, Heartbeat}
+use Rattle.amqp_frame.specs.declared.frame.RawKind.{RawKind}
+use Rattle.amqp_frame.specs.declared.method.Method.{Method as AnyMethod}
+use Rattle.amqp_frame.specs.declared.method.Method.TheVariants.{Start, Tune, OpenOk, Close, CloseOk, ChannelOpenOk, ChannelCloseOk}
+use Rattle.amqp_frame.specs.RawMethods.{OtherMethod}
+use Rattle.amqp_frame.specs.Frames.{encoding}
+use Rattle.amqp_session.specs.declared.channels.Channel.{Channel}
+use Rattle.amqp_session.specs.declared.committed.Mark.{Mark}
+use Rattle.amqp_session.specs.declared.committed.Then.{Then}
+use Rattle.amqp_session.specs.declared.committed.Then.TheVariants.{Nothing, Answer, Finish}
+use Rattle.amqp_session.specs.declared.awaiting.Awaited.{Awaited}
+use Rattle.amqp_session.specs.declared.awaiting.Reply.TheVariants.{ChannelOpened, ChannelClosed, ConnectionClosed}
+use Rattle.amqp_session.specs.declared.state.ConnectionState.{ConnectionState}
+use Rattle.amqp_session.specs.declared.state.ConnectionState.TheVariants.{Initial, Connecting, Connected, Closing, Closed, Error}
+use Rattle.amqp_session.specs.declared.state.ChannelState.{ChannelState}
+use Rattle.amqp_session.specs.declared.state.ChannelState.TheVariants as channel
+use Rattle.amqp_session.specs.declared.state.Phase.{Phase}
+use Rattle.amqp_session.specs.declared.state.Phase.TheVariants.{AwaitStart, AwaitTune, AwaitOpenOk}
+use Rattle.amqp_session.specs.declared.state.Link.{Link}
+use Rattle.amqp_session.specs.declared.state.Link.TheVariants.{Wanted, Asked, Open, Ended}
+use Rattle.amqp_session.specs.declared.io_fault.IoFault.{IoFault}
+use Rattle.amqp_session.specs.declared.configuration.Configuration.{Configuration}
+use Rattle.amqp_session.specs.declared.server_close.ServerClose.{ServerClose}
+use Rattle.amqp_session.specs.declared.server_close.ServerClose.TheVariants.{WithoutError, WithError}
+use Rattle.amqp_session.specs.declared.command.Cmd.{Cmd}
+use Rattle.amqp_session.specs.declared.command.Cmd.TheVariants.{OpenChannel, CloseChannel, CloseConnection, Send}
+use Rattle.amqp_session.specs.declared.command.Answer.{Answer as AnyAnswer}
+use Rattle.amqp_session.specs.declared.command.Answer.TheVariants.{Connected as AnswerConnected, Done, Sent}
+use Rattle.amqp_session.specs.declared.command.ChanRef.{ChanRef}
+use Rattle.amqp_session.specs.declared.handed.Handed.{Handed}
+use Rattle.amqp_session.specs.declared.lanes.Item.{Item}
+use Rattle.amqp_session.specs.declared.misread.Misread.{Misread}
+use Rattle.amqp_session.specs.declared.error.ErrorKind.TheVariants.{NoMemory, IOError, ChannelsLimitReached, SerialisationError}
+use Rattle.amqp_session.specs.declared.error.ErrorKind.{ErrorKind}
+use Rattle.amqp_session.specs.Listed.{at, put, without, has, map_values}
+use Rattle.amqp_session.specs.Talk.{Talk, start, acts, has_ended, is_acting, is_asked, is_closing, is_open, is_open_link, end_of_link}
+use Rattle.amqp_session.specs.Changes.{Promises, present_at, starve, queue_item, next_promise, refuse, promise, give, give_to, fail, lose, misplaced, close, finish, finish_by, settled, settled_by}
+use Rattle.amqp_session.specs.Links.{asked, asked_link, linked, link_failed, piece, dropped, misread, lost}
+use Rattle.amqp_session.specs.Negotiation.{lesser_wish, wish_or, tune}
+use Rattle.amqp_session.specs.Numbering.{first_number, drawn}
+use Rattle.amqp_session.specs.Violations.{misread_error}
+use Rattle.amqp_session.specs.ConnectionMethods.{connection_rule, connection_closed}
+use Rattle.amqp_session.specs.Channels.{channel_at, set_channel, closing}
+use Rattle.amqp_session.specs.ChannelMethods.{heard_on, unawaited_channel_method, channel_opened, channel_closed, channel_rule, channel_method_by, channel_method, hand_out, confirmed, is_select_ok, pass_through, raw_by}
+use Rattle.amqp_session.specs.Replies.{first_awaited}
+use Rattle.amqp_session.specs.Frames.{is_unbuilt, is_of_a_channel, method_rule, frame_rule, on_frame}
+use Rattle.amqp_session.specs.Commands.{is_opening, named_in, named, target_in, target_by, target, open_drawn, close_target, send_target, method_frame, command, command_rule}
+use Rattle.amqp_session.specs.Writing.{committed_as, next_within, commit, follow, sent, sent_among, taken}
+use Rattle.amqp_session.specs.Answers.{answer_of, take_answer, take_frames}
+use Rattle.amqp_session.specs.Laws.{IsEnded, StaysSound, is_end}
+use Rattle.amqp_session.specs.Sound.{Ascend, AscendFrom, IsSound, fits_link, is_agreed}
+use Rattle.amqp_session.proofs.Cases.{if_case, if_by}
+use Rattle.amqp_session.proofs.Ascending.{none-below, put-ascends, put-from, without-ascends, without-from, map_values-from}
+
+-- ---- promises
+
+settled-ascend : (o : Option (Option (Result AnyAnswer ErrorKind))) (n : ℕ) (answer : Result AnyAnswer ErrorKind) (ps : Promises)
+    → Ascend (keys_of ps) → Ascend (keys_of (settled_by o n answer ps))
+settled-ascend None n answer ps s = s
+settled-ascend (Some None) n answer ps s = put-ascends n (Some answer) ps s
+settled-ascend (Some (Some a)) n answer ps s = s
+
+pub sound-give : (n : ℕ) (answer : Result AnyAnswer ErrorKind) (t : Talk) → IsSound t → IsSound (give n answer t)
+sound-give n answer t s = record { link = s.link; room = s.room; listed = s.listed; promises = settled-ascend (at n t.promises) n answer t.promises s.promises }
+
+pub sound-give_to : (o : Option ℕ) (answer : Result AnyAnswer ErrorKind) (t : Talk) → IsSound t → IsSound (give_to o answer t)
+sound-give_to None answer t s = s
+sound-give_to (Some n) answer t s = sound-give n answer t s
+
+pub sound-promise : (t : Talk) → IsSound t → IsSound (promise t)
+sound-promise t s = record { link = s.link; room = s.room; listed = s.listed; promises = put-ascends t.made None t.promises s.promises }
+
+pub sound-refuse : (e : ErrorKind) (t : Talk) → IsSound t → IsSound (refuse e t)
+sound-refuse e t s = record { link = s.link; room = s.room; listed = s.listed; promises = put-ascends t.made (Some (Err e)) t.promises s.promises }
+
+-- ---- ends
+
+pub sound-fail : (e : ErrorKind) (t : Talk) → IsSound t → IsSound (fail e t)
+sound-fail e t s = record { link = refl; room = λ h. absurd cc; listed = tt; promises = s.promises }
+
+pub sound-close : (t : Talk) → IsSound t → IsSound (close t)
+sound-close t s = record { link = refl; room = λ h. absurd cc; listed = tt; promises = s.promises }
+
+pub sound-finish : (o : Option ServerClose) (t : Talk) → IsSound t → IsSound (finish_by o t)
+sound-finish None t s = sound-close t s
+sound-finish (Some WithoutError) t s = sound-close t s
+sound-finish (Some (WithError e)) t s = sound-fail _ t s
+
+pub sound-misplaced : (e : ErrorKind) (t : Talk) → IsSound t → IsSound (misplaced e t)
+sound-misplaced e t s = if_case IsSound (is_closing t.state) t (lose e t) s (sound-fail e t s)
+
+pub sound-starve : (t : Talk) → IsSound t → IsSound (starve t)
+sound-starve t s = if_case IsSound (has_ended t) t (fail NoMemory t) s (sound-fail NoMemory t s)
+
+pub sound-present : (at : ℕ) (t : Talk) → IsSound t → IsSound (present_at at t)
+sound-present at t s =
+    if_case IsSound (has_ended t) t (record t { present = max t.present at }) s (record { link = s.link; room = s.room; listed = s.listed; promises = s.promises })
+
+-- ---- channels
+
+sound-set : (n : ℕ) (c : Channel) (t : Talk) → 0 < n → IsSound t → IsSound (set_channel n c t)
+sound-set n c t some s = record { link = s.link; room = s.room; listed = put-from n c 0 t.channels some s.listed; promises = s.promises }
+
+sound-unawaited : (n : ℕ) (held : ChannelState) (m : AnyMethod) (t : Talk) → IsSound t → IsSound (unawaited_channel_method n held m t)
+sound-unawaited n channel.Closing m t s = s
+sound-unawaited n _ m t s = sound-fail _ t s
+
+sound-opened : (n : ℕ) (c : Channel) (a : Option Awaited) (t : Talk) → 0 < n → IsSound t → IsSound (channel_opened n c a t)
+sound-opened n c None t some s = sound-unawaited n c.state ChannelOpenOk t s
+sound-opened n c (Some a) t some s =
+    sound-give_to a.promise _ _ (record { link = s.link; room = s.room; listed = put-from n _ 0 t.channels some s.listed; promises = s.promises })
+
+sound-closed : (n : ℕ) (c : Channel) (a : Option Awaited) (t : Talk) → IsSound t → IsSound (channel_closed n c a t)
+sound-closed n c None t s = sound-unawaited n c.state ChannelCloseOk t s
+sound-closed n c (Some a) t s =
+    sound-give_to a.promise _ _ (record { link = s.link; room = s.room; listed = without-from n 0 t.channels s.listed; promises = s.promises })
+
+sound-channel : (state : ConnectionState) (n : ℕ) (c : Channel) (m : AnyMethod) (t : Talk) → 0 < n → IsSound t → IsSound (channel_rule state n c m t)
+sound-channel Closing n c m t some s = s
+sound-channel _ n c ChannelOpenOk t some s = sound-opened n c (first_awaited n ChannelOpened t.awaited) t some s
+sound-channel _ n c ChannelCloseOk t some s = sound-closed n c (first_awaited n ChannelClosed t.awaited) t s
+sound-channel _ n c m t some s = sound-unawaited n c.state m t s
+
+sound-channel-by : (o : Option Channel) (n : ℕ) (m : AnyMethod) (t : Talk) → 0 < n → IsSound t → IsSound (channel_method_by o n m t)
+sound-channel-by None n m t some s = sound-misplaced _ t s
+sound-channel-by (Some c) n m t some s = sound-channel t.state n c m t some s
+
+sound-hand : (opened : ℕ) (h : Handed) (t : Talk) → IsSound t → IsSound (hand_out opened h t)
+sound-hand opened h t s = record { link = s.link; room = s.room; listed = s.listed; promises = s.promises }
+
+sound-pass : (n : ℕ) (c : Channel) (kind : RawKind) (bytes : List ℕ) (t : Talk) → 0 < n → IsSound t → IsSound (pass_through n c kind bytes t)
+sound-pass n c kind bytes t some s =
+    sound-hand c.opened _ _ (if_case IsSound (is_select_ok kind bytes) (confirmed n c t) t (sound-set n (record c { confirm = true }) t some s) s)
+
+sound-raw : (o : Option Channel) (n : ℕ) (kind : RawKind) (bytes : List ℕ) (t : Talk) → 0 < n → IsSound t → IsSound (raw_by o n kind bytes t)
+sound-raw None n kind bytes t some s = sound-misplaced _ t s
+sound-raw (Some c) n kind bytes t some s = sound-pass n c kind bytes t some s
+
+-- ---- the connection
+
+open-closing : (l : Link ErrorKind) → is_open_link l ≡ true → fits_link Closing l ≡ true
+open-closing Open h = refl
+open-closing Wanted h = absurd cc
+open-closing Asked h = absurd cc
+open-closing (Ended r) h = absurd cc
+
+opened-fits : (l : Link ErrorKind) → fits_link Connecting l ≡ true → fits_link Connected l ≡ true
+opened-fits Open h = refl
+opened-fits Wanted h = absurd cc
+opened-fits Asked h = absurd cc
+opened-fits (Ended r) h = absurd cc
+
+closing-fits : (l : Link ErrorKind) → fits_link Connected l ≡ true → fits_link Closing l ≡ true
+closing-fits Open h = refl
+closing-fits Wanted h = absurd cc
+closing-fits Asked h = absurd cc
+closing-fits (Ended r) h = absurd cc
+
+wish-some : (greatest wish : ℕ) → 1 ≤ greatest → 1 ≤ wish_or greatest wish
+wish-some greatest wish h = grind (arith, nat_tests)
+
+pub tune-room : (own server : Configuration) → 1 ≤ (tune own server).channel_max
+tune-room own server = wish-some 65535 (lesser_wish own.channel_max server.channel_max) (omega arith)
+
+sound-connection-closed : (a : Option Awaited) (t : Talk) → IsSound t → IsSound (connection_closed a t)
+sound-connection-closed None t s = sound-close t s
+sound-connection-closed (Some a) t s =
+    sound-close _ (sound-give_to a.promise (Ok Done) _ (record { link = s.link; room = s.room; listed = s.listed; promises = s.promises }))
+
+sound-connection : (state : ConnectionState) (p : Phase) (m : AnyMethod) (t : Talk) → t.state ≡ state → t.phase ≡ p → is_open t ≡ true → IsSound t
+    → IsSound (connection_rule state p m t)
+sound-connection state p (Close code text class method) t hs hp opened s =
+    record { link = open-closing t.link opened; room = λ h. absurd cc; listed = s.listed; promises = s.promises }
+sound-connection Closing p CloseOk t hs hp opened s = sound-connection-closed (first_awaited 0 ConnectionClosed t.awaited) t s
+sound-connection Closing p m t hs hp opened s = s
+sound-connection Connecting AwaitStart (Start a b c d e) t hs hp opened s =
+    record {
+      link = s.link;
+      listed = s.listed;
+      promises = s.promises;
+      room = λ h. (let k : is_agreed Connecting AwaitTune ≡ true = subst (λ x. is_agreed x AwaitTune ≡ true) hs h in absurd cc);
+    }
+sound-connection Connecting AwaitTune (Tune a b c) t hs hp opened s =
+    record { link = s.link; room = λ h. tune-room t.configuration (record { channel_max = a; frame_max = b; heartbeat = c }); listed = s.listed; promises = s.promises }
+sound-connection Connecting AwaitOpenOk OpenOk t hs hp opened s =
+    let given : IsSound (give 0 (Ok AnswerConnected) t) = sound-give 0 (Ok AnswerConnected) t s in
+    record {
+      link = opened-fits t.link (subst (λ x. fits_link x t.link ≡ true) hs s.link);
+      room = λ h. s.room (ap (λ x. is_agreed x t.phase) hs ∙ ap (is_agreed Connecting) hp);
+      listed = s.listed;
+      promises = given.promises;
+    }
+sound-connection held p m t hs hp opened s = sound-fail _ t s
+
+-- ---- frames
+
+sound-method : (n : ℕ) (m : AnyMethod) (t : Talk) → is_open t ≡ true → IsSound t → IsSound (method_rule n m t)
+sound-method zero m t opened s =
+    if_case IsSound (is_of_a_channel m) (misplaced _ t) (connection_rule t.state t.phase m t)
+    (sound-misplaced _ t s) (sound-connection t.state t.phase m t refl refl opened s)
+sound-method (suc n) m t opened s =
+    if_case IsSound (is_of_a_channel m) (channel_method (suc n) m t) (misplaced _ t)
+    (sound-channel-by (heard_on t.state (channel_at (suc n) t)) (suc n) m t (omega arith) s) (sound-misplaced _ t s)
+
+sound-rule : (f : Frame) (place : ℕ) (t : Talk) → is_open t ≡ true → IsSound t → IsSound (frame_rule f place t)
+sound-rule (ProtocolHeader version) place t opened s = sound-fail _ t s
+sound-rule Heartbeat place t opened s = s
+sound-rule (Method n m) place t opened s = if_case IsSound (is_unbuilt m) (fail _ t) (method_rule n m t) (sound-fail _ t s) (sound-method n m t opened s)
+sound-rule (Raw zero kind bytes) place t opened s = sound-misplaced _ t s
+sound-rule (Raw (suc n) kind bytes) place t opened s = sound-raw (heard_on t.state (channel_at (suc n) t)) (suc n) kind bytes t (omega arith) s
+
+acting-open : (a b : Bool) → (a && b) ≡ true → a ≡ true
+acting-open true b h = refl
+acting-open false b h = h
+
+pub sound-frame : (f : Frame) (place : ℕ) (t : Talk) → IsSound t → IsSound (on_frame f place t)
+sound-frame f place t s =
+    if_by IsSound (acts t) (frame_rule f place t) t (λ h. sound-rule f place t (acting-open (is_open t) (is_acting t.input) h) s) (λ h. s)
+
+-- ---- links
+
+asked-fits : (state : ConnectionState) (l : Link ErrorKind) → fits_link state l ≡ true → fits_link state (asked_link l) ≡ true
+asked-fits Initial Wanted h = refl
+asked-fits _ Wanted h = absurd cc
+asked-fits state l h = h
+
+pub sound-asked : (t : Talk) → IsSound t → IsSound (asked t)
+sound-asked t s = record { link = asked-fits t.state t.link s.link; room = s.room; listed = s.listed; promises = s.promises }
+
+pub sound-linked : (t : Talk) → IsSound t → IsSound (linked t)
+sound-linked t s = if_case IsSound (is_asked t) _ t (record { link = refl; room = λ h. absurd cc; listed = s.listed; promises = s.promises }) s
+
+pub sound-link_failed : (t : Talk) → IsSound t → IsSound (link_failed t)
+sound-link_failed t s = if_case IsSound (is_asked t) _ t (sound-fail _ t s) s
+
+pub sound-piece : (t : Talk) → IsSound t → IsSound (piece t)
+sound-piece t s =
+    if_case IsSound (is_open t) (record t { last_read = t.present }) t (record { link = s.link; room = s.room; listed = s.listed; promises = s.promises }) s
+
+pub sound-misread : (why : Misread) (t : Talk) → IsSound t → IsSound (misread why t)
+sound-misread why t s =
+    if_case IsSound (acts t) (lose (misread_error why) t) (if is_open t then record t { input = dropped t.input } else t)
+    (sound-fail _ t s)
+    (if_case IsSound (is_open t) (record t { input = dropped t.input }) t
+    (record { link = s.link; room = s.room; listed = s.listed; promises = s.promises }) s)
+
+pub sound-lost : (fault : IoFault) (t : Talk) → IsSound t → IsSound (lost fault t)
+sound-lost fault t s =
+    if_case IsSound (acts t) (lose (IOError fault) t) (if is_open t then finish t else t)
+    (sound-fail _ t s)
+    (if_case IsSound (is_open t) (finish t) t (sound-finish t.server_close t s) s)
+
+-- ---- commands
+
+first-some : (channel_max cursor : ℕ) → 1 ≤ first_number channel_max cursor
+first-some channel_max cursor = grind (arith, nat_tests)
+
+found-head : (p : ℕ → Bool) (first n : ℕ) (rest : Option ℕ) (b : Bool) → 1 ≤ first → (rest ≡ Some n → 0 < n) → cond b (Some first) rest ≡ Some n → 0 < n
+found-head p first n rest true le f h = let same : first ≡ n = cc in omega (arith, le, same)
+found-head p first n rest false le f h = f h
+
+found-some : (p : ℕ → Bool) (len first n : ℕ) → 1 ≤ first → find p (range_with_len first len) ≡ Some n → 0 < n
+found-some p zero first n le h = absurd cc
+found-some p (suc len) first n le h =
+    found-head p first n (find p (range_with_len (first + 1) len)) (p first) le (found-some p len (first + 1) n (omega arith)) h
+
+or-some : (a b : Option ℕ) (n : ℕ) → (a ≡ Some n → 0 < n) → (b ≡ Some n → 0 < n) → option_or a b ≡ Some n → 0 < n
+or-some None b n f g h = g h
+or-some (Some x) b n f g h = f h
+
+-- a number that is drawn is at least 1
+drawn-some : (channel_max first : ℕ) (channels : List (ℕ × Channel)) (n : ℕ) → 1 ≤ first → drawn channel_max first channels ≡ Some n → 0 < n
+drawn-some channel_max first channels n le h =
+    let p : ℕ → Bool = λ n. not (has n channels) in
+    or-some (find p (range_with_len first (channel_max + 1 - first))) (find p (range_with_len 1 (first - 1))) n
+    (found-some p (channel_max + 1 - first) first n le) (found-some p (first - 1) 1 n (omega arith))
+    (sym (find-append p (range_with_len first (channel_max + 1 - first)) (range_with_len 1 (first - 1))) ∙ h)
+
+sound-drawn : (o : Option ℕ) (first : ℕ) (t : Talk) → ((n : ℕ) → o ≡ Some n → 0 < n) → IsSound t → IsSound (open_drawn o first t)
+sound-drawn None first t some s =
+    let r : IsSound (refuse ChannelsLimitReached t) = sound-refuse ChannelsLimitReached t s in
+    record { link = r.link; room = r.room; listed = r.listed; promises = r.promises }
+sound-drawn (Some n) first t some s =
+    record {
+      link = s.link;
+      room = s.room;
+      listed = put-from n _ 0 t.channels (some n refl) s.listed;
+      promises = put-ascends t.made None t.promises s.promises;
+    }
+
+sound-close-target : (r : Result Channel ErrorKind) (n code : ℕ) (text : List ℕ) (t : Talk) → ((c : Channel) → r ≡ Ok c → 0 < n) → IsSound t
+    → IsSound (close_target r n code text t)
+sound-close-target (Err e) n code text t some s = sound-refuse e t s
+sound-close-target (Ok c) n code text t some s =
+    record {
+      link = s.link;
+      room = s.room;
+      listed = put-from n _ 0 t.channels (some c refl) s.listed;
+      promises = put-ascends t.made None t.promises s.promises;
+    }
+
+sound-send : (r : Result Channel ErrorKind) (n : ℕ) (m : OtherMethod) (t : Talk) → IsSound t → IsSound (send_target r n m t)
+sound-send (Err e) n m t s = sound-refuse e t s
+sound-send (Ok c) n m t s =
+    let frame = method_frame n m in
+    if_case IsSound (nat_lt t.capacity (length (encoding frame))) (refuse (SerialisationError (length (encoding frame))) t)
+    (promise (queue_item (record { channel = n; frame = frame; promise = Some (next_promise t) }) t))
+    (sound-refuse _ t s)
+    (record { link = s.link; room = s.room; listed = s.listed; promises = put-ascends t.made None t.promises s.promises })
+
+-- a channel that is listed has a number of at least 1
+listed-some : (n : ℕ) (c : Channel) (es : List (ℕ × Channel)) → AscendFrom 0 (keys_of es) → at n es ≡ Some c → 0 < n
+listed-some zero c es s h = let none : at 0 es ≡ None = none-below 0 es s in absurd cc
+listed-some (suc n) c es s h = omega arith
+
+named-listed : (r : ChanRef) (o : Option Channel) (c : Channel) → named_in r.opened o ≡ Some c → o ≡ Some c
+named-listed r None c h = absurd cc
+named-listed r (Some d) c h = by (is_opening r.opened d.opened) h
+  where
+    by : (b : Bool) → (if b then Some d else None) ≡ Some c → Some d ≡ Some c
+    by true h = h
+    by false h = absurd cc
+
+target-in : (held : ChannelState) (word : Word) (d c : Channel) → target_in held word d ≡ Ok c → d ≡ c
+target-in channel.Connected word d c h = cc
+target-in _ word d c h = absurd cc
+
+target-named : (o : Option Channel) (n : ℕ) (word : Word) (c : Channel) → target_by o n word ≡ Ok c → o ≡ Some c
+target-named None n word c h = absurd cc
+target-named (Some d) n word c h = ap (λ (x : Channel). Some x) (target-in d.state word d c h)
+
+-- a target is listed
+target-some : (r : ChanRef) (word : Word) (t : Talk) (c : Channel) → AscendFrom 0 (keys_of t.channels) → target r word t ≡ Ok c → 0 < r.id
+target-some r word t c s h =
+    listed-some r.id c t.channels s (named-listed r (channel_at r.id t) c (target-named (named r t) r.id word c h))
+
+sound-command-rule : (state : ConnectionState) (c : Cmd) (t : Talk) → t.state ≡ state → IsSound t → IsSound (command_rule state c t)
+sound-command-rule Connected OpenChannel t hs s =
+    let first = first_number t.configuration.channel_max t.cursor in
+    sound-drawn (drawn t.configuration.channel_max first t.channels) first t
+    (λ n h. drawn-some t.configuration.channel_max first t.channels n (first-some t.configuration.channel_max t.cursor) h) s
+sound-command-rule Connected (CloseChannel r code text) t hs s =
+    sound-close-target (target r word.ChannelClose t) r.id code text t (λ c h. target-some r word.ChannelClose t c s.listed h) s
+sound-command-rule Connected (CloseConnection code text) t hs s =
+    record {
+      link = closing-fits t.link (subst (λ x. fits_link x t.link ≡ true) hs s.link);
+      room = λ h. absurd cc;
+      listed = map_values-from closing 0 t.channels s.listed;
+      promises = put-ascends t.made None t.promises s.promises;
+    }
+sound-command-rule Connected (Send r method) t hs s = sound-send (target r word.Send t) r.id method t s
+sound-command-rule _ c t hs s = sound-refuse _ t s
+
+pub sound-command : (c : Cmd) (t : Talk) → IsSound t → IsSound (command c t)
+sound-command c t s = sound-command-rule t.state c t refl s
+
+-- ---- writing
+
+committed-as : (o : Option Item) (t : Talk) → IsSound t → IsSound (committed_as o t)
+committed-as None t s = s
+committed-as (Some item) t s = record { link = s.link; room = s.room; listed = s.listed; promises = s.promises }
+
+pub sound-commit : (space : ℕ) (t : Talk) → IsSound t → IsSound (commit space t)
+sound-commit space t s = committed-as (next_within space t) t s
+
+sound-follow : (th : Then) (t : Talk) → IsSound t → IsSound (follow th t)
+sound-follow Nothing t s = s
+sound-follow (Answer n) t s = sound-give n (Ok Sent) t s
+sound-follow Finish t s = sound-finish t.server_close t s
+
+sound-sent : (ms : List Mark) (n : ℕ) (t : Talk) → IsSound t → IsSound (sent_among ms n t)
+sound-sent [] n t s = s
+sound-sent (m ∷ ms) n t s =
+    let rest : Talk = record t { committed = record m { left = m.left - n } ∷ ms } in
+    let on : Talk = sent_among ms (n - m.left) (sent m t) in
+    if_case IsSound (is_open t) (if nat_le m.left n then on else rest) t
+    (if_case IsSound (nat_le m.left n) on rest
+    (sound-sent ms (n - m.left) (sent m t)
+    (sound-follow m.then (record t { committed = drop 1 t.committed }) (record { link = s.link; room = s.room; listed = s.listed; promises = s.promises })))
+    (record { link = s.link; room = s.room; listed = s.listed; promises = s.promises }))
+    s
+
+pub sound-taken : (n : ℕ) (t : Talk) → IsSound t → IsSound (taken n t)
+sound-taken n t s =
+    let u : Talk = record t { last_write = t.present } in
+    if_case IsSound (is_open t && not (n == 0)) (sent_among t.committed n u) t
+    (sound-sent t.committed n u (record { link = s.link; room = s.room; listed = s.listed; promises = s.promises })) s
+
+-- ---- answers and frames
+
+pub sound-answer : (n : ℕ) (t : Talk) → IsSound t → IsSound (take_answer n t)
+sound-answer n t s =
+    if_case IsSound (is_some (answer_of n t)) (record t { promises = without n t.promises }) t
+    (record { link = s.link; room = s.room; listed = s.listed; promises = without-ascends n t.promises s.promises }) s
+
+pub sound-frames : (opened : ℕ) (t : Talk) → IsSound t → IsSound (take_frames opened t)
+sound-frames opened t s = record { link = s.link; room = s.room; listed = s.listed; promises = s.promises }
+
+-- ---- all of them
+
+pub sound-start : IsSound start
+sound-start = record { link = refl; room = λ h. absurd cc; listed = tt; promises = tt }
+
+pub keeps-sound : (t : Talk) → IsSound t → StaysSound t
+keeps-sound t s =
+    record {
+      moment = λ at. sound-present at t s;
+      asked = sound-asked t s;
+      linked = sound-linked t s;
+      link_failed = sound-link_failed t s;
+      piece = sound-piece t s;
+      frame = λ f place. sound-frame f place t s;
+      misread = λ why. sound-misread why t s;
+      lost = λ fault. sound-lost fault t s;
+      commit = λ space. sound-commit space t s;
+      taken = λ n. sound-taken n t s;
+      starve = sound-starve t s;
+      command = λ cmd. sound-command cmd t s;
+      answer = λ number. sound-answer number t s;
+      frames = λ opened. sound-frames opened t s;
+    }
+
+-- an end is one of these states
+ended-fits : (state : ConnectionState) (l : Link ErrorKind) → fits_link state l ≡ true → is_some (end_of_link l) ≡ true → is_end state ≡ true
+ended-fits Closed (Ended r) h k = refl
+ended-fits Error (Ended r) h k = refl
+ended-fits state Wanted h k = absurd cc
+ended-fits state Asked h k = absurd cc
+ended-fits state Open h k = absurd cc
+ended-fits _ (Ended (Ok u)) h k = absurd cc
+ended-fits _ (Ended (Err e)) h k = absurd cc
+
+pub sound-ended : (t : Talk) → IsSound t → IsTrue (has_ended t) → IsEnded t
+sound-ended t s h = (h, ended-fits t.state t.link s.link h)

@@ -1,0 +1,25 @@
+-- Answers are taken once.
+use Rattle.std.proofs.Common.{◌≡◌, ◌∙◌, ap, refl, ℕ, Bool, true, false, if◌then◌else◌, Option, Some, None, is_some}
+use Rattle.std.specs.Map.{keys_of}
+use Rattle.amqp_session.specs.Listed.{without}
+use Rattle.amqp_session.specs.Talk.{Talk, end_of}
+use Rattle.amqp_session.specs.Answers.{answer_in, answer_of, take_answer}
+use Rattle.amqp_session.specs.Sound.{Ascend}
+use Rattle.amqp_session.proofs.Cases.{if-true, if-false}
+use Rattle.amqp_session.proofs.Ascending.{at-gone}
+
+none-from : {A : Type 0} (o : Option A) → is_some o ≡ false → o ≡ None
+none-from None h = refl
+none-from (Some x) h = absurd cc
+
+pub taken-once : (number : ℕ) (t : Talk) → Ascend (keys_of t.promises) → answer_of number (take_answer number t) ≡ None
+taken-once number t sorted = by (is_some (answer_of number t)) refl
+  where
+    rest : Talk
+    rest = record t { promises = without number t.promises }
+
+    by : (b : Bool) → is_some (answer_of number t) ≡ b → answer_of number (take_answer number t) ≡ None
+    by true h =
+        ap (answer_of number) (if-true (is_some (answer_of number t)) rest t h)
+        ∙ ap (answer_in (end_of t)) (at-gone number t.promises sorted)
+    by false h = ap (answer_of number) (if-false (is_some (answer_of number t)) rest t h) ∙ none-from (answer_of number t) h

@@ -1,0 +1,21 @@
+use Rattle.std.proofs.Common.{◌≡◌, ◌∙◌, ap, sym, subst, refl, Option, Some, None, ◌++◌, ◌∷◌, [], length, ◌<◌}
+use Rattle.std.specs.Ordering.{nat_cmp}
+use Rattle.std.specs.Map.{set_value}
+use Rattle.std.specs.BTreeMap.{is_at}
+use Rattle.amqp_session.specs.Listed.{at}
+use Rattle.amqp_session.specs.Parts.{seen, list_seen}
+use Rattle.std.specs.VecDeque.{deque_capacity}
+use Rattle.amqp_session.specs.declared.awaiting.Replies.{Replies}
+use Rattle.amqp_session.proofs.Seen.{expect-seen}
+use Rattle.amqp_session.proofs.awaiting.Awaiting.expect_reserved.Goals as goal
+
+pub push_reserved-requires : goal.push_reserved-requires
+push_reserved-requires c =
+    let same : c.requires.0 ≡ c.in-Some.list.now = cc (c.requires.1, c.in-Some.ensures.value) in
+    subst (λ (r : Replies). length r.items.items < deque_capacity r.items) same c.requires.2
+
+pub returns-in-Some : goal.returns-in-Some
+returns-in-Some c =
+    let es = c.args.self.now.lists.entries in
+    ap (seen list_seen) (c.get_mut.follows.holds c.push_reserved.new.self).0
+    ∙ expect-seen c.args.channel es c.get_mut.ensures.ordered c.in-Some.list.now (sym c.in-Some.ensures.value) c.push_reserved.new.self c.args.awaited c.push_reserved.ensures

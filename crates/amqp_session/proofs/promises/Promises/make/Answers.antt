@@ -1,0 +1,24 @@
+use Rattle.std.proofs.Common.{◌≡◌, ◌∙◌, ap, sym, subst, true, None, IsSome, is_some}
+use Rattle.amqp_session.specs.declared.promises.Slot.{Slot}
+use Rattle.std.specs.Ordering.{nat_cmp}
+use Rattle.std.specs.Map.{set_value}
+use Rattle.std.specs.BTreeMap.{is_at}
+use Rattle.std.specs.Option.{option_copied_mut}
+use Rattle.amqp_session.specs.Listed.{at}
+use Rattle.amqp_session.specs.Parts.{seen, slot_seen, placed}
+use Rattle.amqp_session.proofs.Seen.{set-placed}
+use Rattle.amqp_session.proofs.promises.Promises.make.Goals as goal
+
+pub returns-in-Some-clause-slots : goal.returns-in-Some-clause-slots
+returns-in-Some-clause-slots c =
+    let es = c.args.self.now.slots.entries in
+    let n = c.args.self.now.made in
+    ap (seen slot_seen)
+    ((c.get_mut.follows.holds c.set.new.self).0 ∙ ap (set_value (is_at (nat_cmp n)) es) c.set.ensures)
+    ∙ set-placed slot_seen n c.in-Some.place.now c.args.slot es (sym c.in-Some.ensures.value) c.get_mut.ensures.ordered
+
+pub returns-in-None-clause-slots : goal.returns-in-None-clause-slots
+returns-in-None-clause-slots c =
+    let none : at c.args.self.now.made c.args.self.now.slots.entries ≡ None = sym c.get_mut.ensures.value ∙ ap option_copied_mut c.in-None.is in
+    let some : is_some {T = Slot} None ≡ true = subst IsSome none c.requires.place in
+    absurd cc

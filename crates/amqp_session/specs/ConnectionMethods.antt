@@ -1,0 +1,74 @@
+-- Methods of the connection class (AMQP 0-9-1, 1.4 of its reference), on channel 0.
+use Rattle.std.specs.Prelude.{ℕ, List, [], ◌∷◌, Option, Some, None, Ok}
+use Rattle.amqp_frame.specs.declared.method.Method.{Method}
+use Rattle.amqp_frame.specs.declared.method.Method.TheVariants.{Start, Tune, OpenOk, Close, CloseOk}
+use Rattle.amqp_session.specs.declared.state.ConnectionState.{ConnectionState}
+use Rattle.amqp_session.specs.declared.state.ConnectionState.TheVariants.{Connecting, Connected, Closing}
+use Rattle.amqp_session.specs.declared.state.Phase.{Phase}
+use Rattle.amqp_session.specs.declared.state.Phase.TheVariants.{AwaitStart, AwaitTune, AwaitOpenOk}
+use Rattle.amqp_session.specs.declared.state.Input.TheVariants as input
+use Rattle.amqp_session.specs.declared.configuration.Configuration.{Configuration}
+use Rattle.amqp_session.specs.declared.awaiting.Awaited.{Awaited}
+use Rattle.amqp_session.specs.declared.awaiting.Reply.TheVariants.{ConnectionClosed}
+use Rattle.amqp_session.specs.declared.command.Answer.TheVariants.{Connected as AnswerConnected, Done}
+use Rattle.amqp_session.specs.declared.error.ErrorKind.TheVariants.{InvalidConnectionState}
+use Rattle.amqp_session.specs.Talk.{Talk, is_closing}
+use Rattle.amqp_session.specs.Negotiation.{tune}
+use Rattle.amqp_session.specs.Handshake.{start_ok, tune_ok, open_vhost, close_ok}
+use Rattle.amqp_session.specs.Violations.{closed_with}
+use Rattle.amqp_session.specs.Replies.{first_awaited, without_first}
+use Rattle.amqp_session.specs.Changes.{plain, queue, give, give_to, close, lose}
+
+-- ---- the handshake
+
+-- start: the client names itself, whatever the server offers
+abbrev pub on_start : Talk → Talk
+on_start t = record (queue 0 start_ok t) { phase = AwaitTune }
+
+-- tune: the numbers are agreed, and the virtual host is opened
+abbrev pub on_tune : Configuration → Talk → Talk
+on_tune server t =
+    let agreed = tune t.configuration server in
+    record (queue 0 open_vhost (queue 0 (tune_ok agreed) t)) { configuration = agreed; phase = AwaitOpenOk }
+
+-- open-ok: the connection is open, and its promise is answered
+abbrev pub on_open_ok : Talk → Talk
+on_open_ok t = record (give 0 (Ok AnswerConnected) t) { state = Connected }
+
+-- ---- closing
+
+-- the server closes: what waits and what is awaited is dropped, close-ok is the last that is said, and no frame acts any more
+abbrev pub on_connection_close : ℕ → List ℕ → Talk → Talk
+on_connection_close code text t =
+    record t {
+      state = Closing;
+      input = input.Closed (is_closing t.state);
+      server_close = Some (closed_with code text);
+      control = plain 0 close_ok ∷ [];
+      awaited = [];
+    }
+
+abbrev pub connection_closed : Option Awaited → Talk → Talk
+connection_closed None t = close t
+connection_closed (Some a) t = close (give_to a.promise (Ok Done) (record t { awaited = without_first 0 ConnectionClosed t.awaited }))
+
+-- close-ok: our close is answered, and the session ends Closed
+abbrev pub on_connection_close_ok : Talk → Talk
+on_connection_close_ok t = connection_closed (first_awaited 0 ConnectionClosed t.awaited) t
+
+-- any other method, and one of these out of its state, is fatal
+abbrev pub unexpected_connection_method : ConnectionState → Talk → Talk
+unexpected_connection_method held t = lose (InvalidConnectionState held) t
+
+-- ---- the table: the first row that fits
+
+abbrev pub connection_rule : ConnectionState → Phase → Method → Talk → Talk
+connection_rule state phase (Close code text class method) t = on_connection_close code text t
+connection_rule Closing phase CloseOk t = on_connection_close_ok t
+-- what else comes after our close is dropped
+connection_rule Closing phase method t = t
+connection_rule Connecting AwaitStart (Start major minor properties mechanisms locales) t = on_start t
+connection_rule Connecting AwaitTune (Tune channel_max frame_max heartbeat) t =
+    on_tune (record { channel_max = channel_max; frame_max = frame_max; heartbeat = heartbeat }) t
+connection_rule Connecting AwaitOpenOk OpenOk t = on_open_ok t
+connection_rule held phase method t = unexpected_connection_method held t

@@ -1,0 +1,48 @@
+-- Sound states: those that a session can be in.
+use Rattle.std.specs.Prelude.{ℕ, ◌<◌, ◌≤◌, Bool, true, false, IsTrue, List, [], ◌∷◌, Result, Ok, Err}
+use Rattle.std.specs.Map.{keys_of}
+use Rattle.amqp_session.specs.declared.state.ConnectionState.{ConnectionState}
+use Rattle.amqp_session.specs.declared.state.ConnectionState.TheVariants.{Initial, Connecting, Connected, Closing, Closed, Error}
+use Rattle.amqp_session.specs.declared.state.Phase.{Phase}
+use Rattle.amqp_session.specs.declared.state.Phase.TheVariants.{AwaitOpenOk}
+use Rattle.amqp_session.specs.declared.state.Link.{Link}
+use Rattle.amqp_session.specs.declared.state.Link.TheVariants.{Wanted, Asked, Open, Ended}
+use Rattle.amqp_session.specs.declared.error.ErrorKind.{ErrorKind}
+use Rattle.amqp_session.specs.Talk.{Talk}
+
+-- numbers that ascend, all of them above a number
+abbrev pub AscendFrom : ℕ → List ℕ → Type 0
+AscendFrom n [] = Unit {0}
+AscendFrom n (k ∷ ks) = (n < k) × AscendFrom k ks
+
+-- numbers that ascend
+abbrev pub Ascend : List ℕ → Type 0
+Ascend [] = Unit {0}
+Ascend (k ∷ ks) = AscendFrom k ks
+
+-- a link that a state has: one is wanted at the beginning, it is open until the end, and it is ended exactly in Closed and Error
+abbrev pub fits_link : ConnectionState → Link ErrorKind → Bool
+fits_link Initial Wanted = true
+fits_link Initial Asked = true
+fits_link Connecting Open = true
+fits_link Connected Open = true
+fits_link Closing Open = true
+fits_link Closed (Ended (Ok closed)) = true
+fits_link Error (Ended (Err e)) = true
+fits_link _ _ = false
+
+-- the numbers of the connection are agreed
+abbrev pub is_agreed : ConnectionState → Phase → Bool
+is_agreed Connected phase = true
+is_agreed Connecting AwaitOpenOk = true
+is_agreed _ _ = false
+
+pub record IsSound (t : Talk) : Type 0 where
+  -- the state has its link
+  pub link : IsTrue (fits_link t.state t.link)
+  -- a connection that is open has room for a channel
+  pub room : IsTrue (is_agreed t.state t.phase) → 1 ≤ t.configuration.channel_max
+  -- the listed channels stand in the order of their numbers, and none has the number 0
+  pub listed : AscendFrom 0 (keys_of t.channels)
+  -- so do the promises
+  pub promises : Ascend (keys_of t.promises)

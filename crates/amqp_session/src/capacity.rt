@@ -1,0 +1,31 @@
+//! How many bytes can be unsent.
+
+ghost use Rattle.std.specs.Prelude.{◌≡◌, ◌<◌, ◌^◌};
+
+/// How many bytes can be unsent at the beginning.
+pub const INITIAL_CAPACITY: u64 = 131_072;
+
+/// How many bytes can be unsent. It is the length of a buffer.
+#[derive(Debug, Drop)]
+pub struct Capacity {
+    octets: u64,
+    ghost small: { octets < 2 ^ 63 },
+}
+
+impl Capacity {
+    /// The capacity at the beginning.
+    pub fn initial() -> Capacity
+        ensures { result.octets ≡ INITIAL_CAPACITY }
+    {
+        Capacity {
+            octets: INITIAL_CAPACITY,
+        }
+    }
+
+    pub fn octets(&self) -> u64
+        ensures octets { result ≡ self.now.octets }
+        ensures small { result < 2 ^ 63 }
+    {
+        self.octets
+    }
+}
