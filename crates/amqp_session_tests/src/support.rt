@@ -12,7 +12,7 @@ use amqp_vectors::{CHANNEL_OPEN_OK_1, OPEN_OK, START, TUNE};
 use std::alloc::Global;
 use std::test::Fail;
 
-/// What a test or a helper of tests answers.
+/// What a test answers, and what it is made of.
 pub type Outcome<T> = Result<T, Fail>;
 
 /// The place, in the received bytes of the link, of each frame that is read.
