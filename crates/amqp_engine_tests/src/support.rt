@@ -13,7 +13,7 @@ use amqp_vectors::{CLOSE_OK, OPEN_OK, START, TUNE};
 use std::alloc::Global;
 use std::test::Fail;
 
-/// What a test or a helper of tests answers.
+/// What a test answers, and what it is made of.
 pub type Outcome<T> = Result<T, Fail>;
 
 // ---- octets

@@ -6,13 +6,13 @@
 use amqp_frame::{
     FixedRoom, Frame, RawKind, RawMethod, Read, encoded_len, read_frame, write_frame,
 };
-use amqp_session::{Answer, CAPACITY, ChanRef, Cmd, Configuration, Error, Handed, Session};
+use amqp_session::{Answer, ChanRef, Cmd, Configuration, Error, Handed, Session};
 use amqp_types::ShortString;
 use amqp_vectors::{CHANNEL_OPEN_OK_1, OPEN_OK, START, TUNE};
 use std::alloc::Global;
 use std::test::Fail;
 
-/// What a test or a helper of tests answers.
+/// What a test answers, and what it is made of.
 pub type Outcome<T> = Result<T, Fail>;
 
 /// The place, in the received bytes of the link, of each frame that is read.
@@ -223,7 +223,7 @@ fn is_spelled(alloc: Global, frame: &Frame, octets: &[u8]) -> Outcome<bool> {
 /// Whether the next frame is the one that a text spells. It commits the frame.
 pub fn writes(alloc: Global, session: &mut Session, text: &str) -> Outcome<bool> {
     let wanted = octets(alloc, text)?;
-    match session.next_frame(CAPACITY - session.unsent()) {
+    match session.next_frame(session.capacity() - session.unsent()) {
         Some(frame) => {
             let same = is_spelled(alloc, &frame, &wanted);
             drop(frame);
@@ -235,7 +235,7 @@ pub fn writes(alloc: Global, session: &mut Session, text: &str) -> Outcome<bool>
 
 /// Whether a frame is committed where there is room for so many bytes.
 pub fn commits_within(session: &mut Session, room: u64) -> bool {
-    let frame = session.next_frame(room.min(CAPACITY - session.unsent()));
+    let frame = session.next_frame(room.min(session.capacity() - session.unsent()));
     let some = frame.is_some();
     drop(frame);
     some

@@ -9,7 +9,6 @@ use Rattle.amqp_frame.specs.FrameReading.{front}
 use Rattle.amqp_session.specs.declared.handed.Handed.{Handed}
 use Rattle.amqp_session.specs.declared.lanes.Item.{Item}
 use Rattle.amqp_session.specs.declared.misread.Misread.TheVariants.{TooLarge, BadHeartbeat, Bad}
-use Rattle.amqp_session.specs.declared.session.TheConstants.{CAPACITY}
 use Rattle.amqp_session.specs.Talk.{Talk}
 use Rattle.amqp_session.specs.Changes.{present_at, starve}
 use Rattle.amqp_session.specs.Negotiation.{frame_limit}
@@ -19,7 +18,7 @@ use Rattle.amqp_session.specs.Writing.{unsent, next_within}
 
 -- the space for the next frame, where so many octets can still be put somewhere
 abbrev pub space_in : ℕ → Talk → ℕ
-space_in free t = min free (CAPACITY - unsent t)
+space_in free t = min free (t.capacity - unsent t)
 
 -- the octets of a frame that goes out, where one does
 abbrev pub spelled : Option Item → List ℕ
@@ -32,7 +31,7 @@ next_octets free t = spelled (next_within (space_in free t) t)
 
 -- what stands at the front of octets, within the limit that was agreed
 abbrev pub stands_in : List ℕ → Talk → Read
-stands_in octets t = front octets (frame_limit t.configuration)
+stands_in octets t = front octets (frame_limit t)
 
 -- what stood at the front, at a place, is told to the session
 abbrev pub heard : Read → ℕ → ℕ → Talk → Talk

@@ -3,12 +3,12 @@
 ghost use Rattle.std.specs.Prelude.{◌≡◌, ◌++◌, ℕ, List, Some, Ok, IfErr, IfOk, IfSome, OnOk, OnErr, filter, length};
 ghost use Rattle.amqp_session.specs.Changes.{present_at, starve};
 ghost use Rattle.amqp_session.specs.Writing.{commit};
-ghost use Rattle.amqp_session.specs.Channels.{frames_of};
+ghost use Rattle.amqp_session.specs.ChannelMethods.{frames_of};
 ghost use Rattle.amqp_session.specs.Answers.{answer_of, take_frames};
 ghost use Rattle.amqp_uses.specs.Driving.{space_in, next_octets, stands_in, heard, read_of, is_body};
 
 use amqp_frame::{RawKind, RawMethod, Read, Room, read_frame, write_frame};
-use amqp_session::{Answer, CAPACITY, ChanRef, Cmd, ErrorKind, Misread, Result, Session};
+use amqp_session::{Answer, ChanRef, Cmd, ErrorKind, Misread, Result, Session};
 use std::alloc::Global;
 
 /// Where octets stand among all that came on a link, and when they came, in milliseconds.
@@ -50,7 +50,7 @@ pub fn say_next<R: Room>(session: &mut Session, room: &mut R)
     ensures said { R.put_so_far room.new ≡ R.put_so_far room.old ++ next_octets (R.free room.old) session.old }
     ensures session { session.new ≡ commit (space_in (R.free room.old) session.old) session.old }
 {
-    let space = (room.space() as u64).min(CAPACITY - session.unsent());
+    let space = (room.space() as u64).min(session.capacity() - session.unsent());
     if let Some(frame) = session.next_frame(space) {
         // There is space for it.
         let _ = write_frame(&frame, room);
