@@ -41,6 +41,3 @@ pub use laws::{
 pub use misread::Misread;
 pub use session::Session;
 pub use state::{ChannelState, ConnectionState};
-
-#[cfg(test)]
-mod tests;
