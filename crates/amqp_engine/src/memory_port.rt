@@ -320,7 +320,8 @@ fn append_last(
     n: usize,
 ) -> Result<(), NoMemory>
     requires { n ≤ length first.now + length second.now }
-    ensures ok { OnOk result (links.new.items ≡ on_last (λ link. link ++ take n (first.now ++ second.now)) links.old.items) }
+    ensures ok { OnOk result
+        (links.new.items ≡ on_last (λ link. link ++ take n (first.now ++ second.now)) links.old.items) }
     ensures err { OnErr result (links.new.items ≡ links.old.items) }
     ensures capacity { vec_capacity links.new ≡ vec_capacity links.old }
 {
