@@ -145,7 +145,8 @@ impl Awaiting {
     /// One more reply is awaited on a channel, where it has its place.
     pub fn expect_reserved(&mut self, channel: ChannelId, awaited: Awaited)
         requires { HasPlace channel self.old.lists.entries }
-        ensures { seen list_seen self.new.lists.entries ≡ expected channel awaited (seen list_seen self.old.lists.entries) }
+        ensures { seen list_seen self.new.lists.entries
+            ≡ expected channel awaited (seen list_seen self.old.lists.entries) }
     {
         if let Some(list) = self.lists.get_mut(&channel) {
             list.push_reserved(awaited);
@@ -155,7 +156,8 @@ impl Awaiting {
     /// Takes out the first that awaits this reply on this channel.
     pub fn answered(&mut self, channel: ChannelId, reply: Reply) -> Option<Awaited>
         ensures first { result ≡ first_awaited channel reply (seen list_seen self.old.lists.entries) }
-        ensures rest { OnSome result (seen list_seen self.new.lists.entries ≡ without_first channel reply (seen list_seen self.old.lists.entries)) }
+        ensures rest { OnSome result (seen list_seen self.new.lists.entries
+            ≡ without_first channel reply (seen list_seen self.old.lists.entries)) }
         ensures none { IfNone result (seen list_seen self.new.lists.entries ≡ seen list_seen self.old.lists.entries) }
     {
         let found = self.take(channel, reply)?;
@@ -165,7 +167,8 @@ impl Awaiting {
 
     fn take(&mut self, channel: ChannelId, reply: Reply) -> Option<Awaited>
         ensures first { result ≡ first_awaited channel reply (seen list_seen self.old.lists.entries) }
-        ensures rest { OnSome result (seen list_seen self.new.lists.entries ≡ without_first channel reply (seen list_seen self.old.lists.entries)) }
+        ensures rest { OnSome result (seen list_seen self.new.lists.entries
+            ≡ without_first channel reply (seen list_seen self.old.lists.entries)) }
         ensures none { IfNone result (seen list_seen self.new.lists.entries ≡ seen list_seen self.old.lists.entries) }
     {
         match self.lists.get_mut(&channel) {

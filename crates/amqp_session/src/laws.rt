@@ -28,8 +28,10 @@ pub fn negotiation_leaves_room()
 /// A command out of the state Connected is refused, and a refused command changes nothing but the
 /// promises, and the cursor where every number is listed.
 pub fn a_refusal_changes_promises_alone()
-    ensures state { (cmd : Cmd) (t : Talk) → t.state ≢ Connected → IsRefused (InvalidConnectionState t.state) t (command cmd t) }
-    ensures alone { (cmd : Cmd) (t : Talk) (e : ErrorKind) → IsAnsweredAtOnce e t (command cmd t) → IsRefusal e t (command cmd t) }
+    ensures state { (cmd : Cmd) (t : Talk) → t.state ≢ Connected
+        → IsRefused (InvalidConnectionState t.state) t (command cmd t) }
+    ensures alone { (cmd : Cmd) (t : Talk) (e : ErrorKind) → IsAnsweredAtOnce e t (command cmd t)
+        → IsRefusal e t (command cmd t) }
 {}
 
 /// A session is in a sound state at the beginning, and each rule leads from a sound state to one; so

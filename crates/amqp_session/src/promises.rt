@@ -67,7 +67,8 @@ impl Promises {
         requires place { IsSome (at self.old.made self.old.slots.entries) }
         requires count { self.old.made + 1 < 2 ^ 64 }
         ensures made { self.new.made ≡ self.old.made + 1 }
-        ensures slots { seen slot_seen self.new.slots.entries ≡ put self.old.made None (seen slot_seen self.old.slots.entries) }
+        ensures slots { seen slot_seen self.new.slots.entries
+            ≡ put self.old.made None (seen slot_seen self.old.slots.entries) }
     {
         self.make(Slot::Waiting);
     }
@@ -75,7 +76,8 @@ impl Promises {
     /// One more is made, which is answered at once with an error.
     pub fn refuse(&mut self, kind: ErrorKind) -> Result<(), NoMemory>
         ensures made { OnOk result (self.new.made ≡ self.old.made + 1) }
-        ensures slots { OnOk result (seen slot_seen self.new.slots.entries ≡ put self.old.made (Some (Err kind)) (seen slot_seen self.old.slots.entries)) }
+        ensures slots { OnOk result (seen slot_seen self.new.slots.entries
+            ≡ put self.old.made (Some (Err kind)) (seen slot_seen self.old.slots.entries)) }
         ensures same { OnErr result (self.new.made ≡ self.old.made) }
         ensures err { OnErr result (seen slot_seen self.new.slots.entries ≡ seen slot_seen self.old.slots.entries) }
     {
@@ -92,7 +94,8 @@ impl Promises {
         requires place { IsSome (at self.old.made self.old.slots.entries) }
         requires count { self.old.made + 1 < 2 ^ 64 }
         ensures made { self.new.made ≡ self.old.made + 1 }
-        ensures slots { seen slot_seen self.new.slots.entries ≡ placed self.old.made (slot_seen slot) (seen slot_seen self.old.slots.entries) }
+        ensures slots { seen slot_seen self.new.slots.entries
+            ≡ placed self.old.made (slot_seen slot) (seen slot_seen self.old.slots.entries) }
     {
         let number = self.made;
         self.made += 1;
@@ -105,7 +108,8 @@ impl Promises {
     /// A promise that waits gets this answer.
     pub fn settle(&mut self, number: u64, answer: error::Result<Answer>)
         ensures made { self.new.made ≡ self.old.made }
-        ensures slots { seen slot_seen self.new.slots.entries ≡ settled number answer (seen slot_seen self.old.slots.entries) }
+        ensures slots { seen slot_seen self.new.slots.entries
+            ≡ settled number answer (seen slot_seen self.old.slots.entries) }
     {
         match self.slots.get_mut(&number) {
             Some(slot) => slot.settle(answer),
@@ -116,7 +120,8 @@ impl Promises {
     /// What has become of a promise, where its answer was not taken.
     pub fn get(&self, number: u64) -> Option<&Slot>
         ensures slot { option_copied result ≡ at number self.now.slots.entries }
-        ensures seen { at number (seen slot_seen self.now.slots.entries) ≡ seen_at slot_seen (at number self.now.slots.entries) }
+        ensures seen { at number (seen slot_seen self.now.slots.entries)
+            ≡ seen_at slot_seen (at number self.now.slots.entries) }
     {
         // Its clause tells that the numbers ascend.
         let _ = self.slots.len();

@@ -89,7 +89,8 @@ impl Model for Session {
     ghost use Rattle.amqp_session.specs.Writing.{left_in};
 
     // Each frame that will be committed has its place already, and what is unsent fits the capacity.
-    ghost invariant = { λ s. (length s.committed.marks.items + length s.lanes.control.items ≤ deque_capacity s.committed.marks)
+    ghost invariant = { λ s. (length s.committed.marks.items + length s.lanes.control.items ≤
+        deque_capacity s.committed.marks)
         × (left_in s.committed.marks.items ≤ s.capacity.octets) };
 }
 

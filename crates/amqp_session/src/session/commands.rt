@@ -108,7 +108,8 @@ impl Session {
 
     // A frame is queued, whose promise waits for the reply.
     fn ask(&mut self, id: ChannelId, frame: Frame, reply: Reply) -> Result<(), NoMemory>
-        ensures ok { OnOk result (self.new ≡ promise (await id reply (Some (next_promise self.old)) (queue id frame self.old))) }
+        ensures ok { OnOk result (self.new ≡
+            promise (await id reply (Some (next_promise self.old)) (queue id frame self.old))) }
         ensures err { OnErr result (self.new ≡ self.old) }
     {
         if let Err(refused) = reserve_reply(
@@ -135,7 +136,8 @@ impl Session {
         code: ReplyCode,
         text: ShortString,
     ) -> Result<(), NoMemory>
-        ensures ok { OnOk result (self.new ≡ close_target (target channel word.ChannelClose self.old) channel.id code text self.old) }
+        ensures ok { OnOk result (self.new ≡
+            close_target (target channel word.ChannelClose self.old) channel.id code text self.old) }
         ensures err { OnErr result (self.new ≡ self.old) }
     {
         match self.target(channel, Word::ChannelClose) {
@@ -182,7 +184,8 @@ impl Session {
     }
 
     fn send_named(&mut self, channel: ChanRef, method: RawMethod) -> Result<(), NoMemory>
-        ensures ok { OnOk result (self.new ≡ send_target (target channel word.Send self.old) channel.id method self.old) }
+        ensures ok { OnOk result (self.new ≡
+            send_target (target channel word.Send self.old) channel.id method self.old) }
         ensures err { OnErr result (self.new ≡ self.old) }
     {
         match self.target(channel, Word::Send) {
@@ -209,7 +212,8 @@ impl Session {
 
     // A frame is queued, whose promise waits until it is sent.
     fn queue_promised(&mut self, id: ChannelId, frame: Frame) -> Result<(), NoMemory>
-        ensures ok { OnOk result (self.new ≡ promise (queue_item (record { channel = id; frame = frame; promise = Some (next_promise self.old) }) self.old)) }
+        ensures ok { OnOk result (self.new ≡ promise (queue_item
+            (record { channel = id; frame = frame; promise = Some (next_promise self.old) }) self.old)) }
         ensures err { OnErr result (self.new ≡ self.old) }
     {
         let promise = Some(self.promises.made());

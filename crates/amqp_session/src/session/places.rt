@@ -22,7 +22,8 @@ pub fn reserve_frames(
     ensures marks { committed.new.marks.items ≡ committed.old.marks.items }
     ensures kept { deque_capacity committed.old.marks ≤ deque_capacity committed.new.marks }
     ensures lane { OnOk result (length lanes.old.control.items + frames ≤ deque_capacity lanes.new.control) }
-    ensures places { OnOk result (length committed.old.marks.items + (length lanes.old.control.items + frames) ≤ deque_capacity committed.new.marks) }
+    ensures places { OnOk result (length committed.old.marks.items + (length lanes.old.control.items + frames)
+        ≤ deque_capacity committed.new.marks) }
 {
     committed.reserve(lanes.len() + frames)?;
     lanes.reserve(frames)
@@ -38,7 +39,8 @@ pub fn reserve_promised(
     ensures marks { committed.new.marks.items ≡ committed.old.marks.items }
     ensures kept { deque_capacity committed.old.marks ≤ deque_capacity committed.new.marks }
     ensures lane { OnOk result (length lanes.old.control.items + 1 ≤ deque_capacity lanes.new.control) }
-    ensures places { OnOk result (length committed.old.marks.items + (length lanes.old.control.items + 1) ≤ deque_capacity committed.new.marks) }
+    ensures places { OnOk result (length committed.old.marks.items + (length lanes.old.control.items + 1)
+        ≤ deque_capacity committed.new.marks) }
     ensures made { promises.new.made ≡ promises.old.made }
     ensures slots { seen slot_seen promises.new.slots.entries ≡ seen slot_seen promises.old.slots.entries }
     ensures place { OnOk result (IsSome (at promises.new.made promises.new.slots.entries)) }
@@ -60,7 +62,8 @@ pub fn reserve_reply(
     ensures marks { committed.new.marks.items ≡ committed.old.marks.items }
     ensures kept { deque_capacity committed.old.marks ≤ deque_capacity committed.new.marks }
     ensures lane { OnOk result (length lanes.old.control.items + 1 ≤ deque_capacity lanes.new.control) }
-    ensures places { OnOk result (length committed.old.marks.items + (length lanes.old.control.items + 1) ≤ deque_capacity committed.new.marks) }
+    ensures places { OnOk result (length committed.old.marks.items + (length lanes.old.control.items + 1)
+        ≤ deque_capacity committed.new.marks) }
     ensures made { promises.new.made ≡ promises.old.made }
     ensures slots { seen slot_seen promises.new.slots.entries ≡ seen slot_seen promises.old.slots.entries }
     ensures place { OnOk result (IsSome (at promises.new.made promises.new.slots.entries)) }
