@@ -50,26 +50,6 @@ module _ {X : Type 0} (n : ℕ) (v old : X) where
   put-present (e ∷ es) h sorted =
       put_head (nat_cmp n e.0) e es refl h sorted (λ later. put-present es later (sorted_tail nat_cmp e.0 (keys_of es) sorted))
 
-module _ {X : Type 0} (n : ℕ) (v : X) where
-  -- the first entry, by how the number compares to it
-  without_head : (o : Ordering) (e : ℕ × X) (es : List (ℕ × X)) → nat_cmp n e.0 ≡ o → at n (e ∷ es) ≡ None
-      → (at n es ≡ None → without n (put n v es) ≡ es) → without n (put n v (e ∷ es)) ≡ e ∷ es
-  without_head Less e es k h rest =
-      ap (without n) (ap (λ o. match_ordering o ((n, v) ∷ e ∷ es) ((e.0, v) ∷ es) (e ∷ put n v es)) k)
-      ∙ ap (λ o. cond (is_eq o) (e ∷ es) ((n, v) ∷ without n (e ∷ es))) (nat_cmp_self n)
-  without_head Equal e es k h rest =
-      let some : at n (e ∷ es) ≡ Some e.1 = ap (λ o. cond (is_eq o) (Some e.1) (at n es)) k in absurd cc
-  without_head Greater e es k h rest =
-      let later : at n es ≡ None = sym (ap (λ o. cond (is_eq o) (Some e.1) (at n es)) k) ∙ h in
-      ap (without n) (ap (λ o. match_ordering o ((n, v) ∷ e ∷ es) ((e.0, v) ∷ es) (e ∷ put n v es)) k)
-      ∙ ap (λ o. cond (is_eq o) (put n v es) (e ∷ without n (put n v es))) k
-      ∙ ap (λ xs. e ∷ xs) (rest later)
-
-  -- a number that a map had not is put and taken out again
-  pub without-put : (es : List (ℕ × X)) → at n es ≡ None → without n (put n v es) ≡ es
-  without-put [] h = ap (λ o. cond (is_eq o) [] ((n, v) ∷ [])) (nat_cmp_self n)
-  without-put (e ∷ es) h = without_head (nat_cmp n e.0) e es refl h (without-put es)
-
 module _ {X : Type 0} (n : ℕ) (f : X → X) where
   same_test : (b : Bool) (e : ℕ × X) (es : List (ℕ × X)) → is_some (at n (map_values f es)) ≡ is_some (at n es)
       → is_some (cond b (Some (f e.1)) (at n (map_values f es))) ≡ is_some (cond b (Some e.1) (at n es))
