@@ -1,11 +1,13 @@
 -- What an engine has said on its links since it was new.
-use Rattle.std.specs.Prelude.{◌≡◌, ℕ, false, List, [], map, Option, IfSome}
+use Rattle.std.specs.Prelude.{◌≡◌, ℕ, false, List, [], ◌∷◌, map, Option, IfSome}
 use Rattle.std.specs.List.{AllByRecursion}
 use Rattle.amqp_session.specs.declared.command.Cmd.{Cmd}
 use Rattle.amqp_session.specs.Talk.{start, is_asked, has_ended}
 use Rattle.amqp_session.specs.Commands.{command}
 use Rattle.amqp_session.specs.Answers.{take_answer, take_frames}
 use Rattle.amqp_session.specs.Legal.{Legal}
+use Rattle.amqp_engine.specs.declared.given.Given.{Given}
+use Rattle.amqp_engine.specs.Plan.{step_of}
 use Rattle.amqp_engine.specs.Log.{Log}
 use Rattle.amqp_engine.specs.Engine.{Engine, begin, with_talk}
 use Rattle.amqp_engine.specs.Turn.{Turn, IsToldCommand, IsTold, asks, read, applied, IsApplied, Leads}
@@ -30,6 +32,11 @@ pub data HasSent : Engine → List Sending → Type 0 where
       → HasSent (with_talk (take_answer number) e) ss
   frames_taken : {e : Engine} {ss : List Sending} (opened : ℕ) → HasSent e ss
       → HasSent (with_talk (take_frames opened) e) ss
+
+-- what is told in a script may be told
+abbrev pub AreGivenTold : List Given → Type 0
+AreGivenTold [] = Unit {0}
+AreGivenTold (g ∷ gs) = IsTold (step_of g.what) × AreGivenTold gs
 
 -- ---- what a run says
 
