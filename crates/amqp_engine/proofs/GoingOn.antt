@@ -77,7 +77,8 @@ runs-on allowed e e' log log' ss r h =
     let Q : Engine → Type 0 = λ x. HasSent x now in
     let sent : HasSent e' now = subst Q r.leads.leaves (turns-sent r.us e ss r.leads.may r.told h) in
     record {
-      now = now;
+      us = r.us;
+      leads = r.leads;
       sent = sent;
       order = (sends-said e' now sent).all;
       legal = sent_legal e' now sent;
@@ -92,7 +93,7 @@ spell-legal e e' a b o o' fresh is is' links none goes =
     let k : GoesOn [] e e' o o' = goes [] (subst H (sym fresh) new) in
     let T : Engine → Type 0 = λ x. TellsLinks x [] a in
     let before : TellsLinks e [] a = subst T (sym fresh) (record { links = links; asked = λ running. none }) in
-    let P : Option Log → Type 0 = λ x. IfSome x (λ y. TellsLinks e [] y → IfSome o' (λ z. TellsLinks e' k.now z)) in
-    let Q : Option Log → Type 0 = λ x. IfSome x (λ z. TellsLinks e' k.now z) in
-    let after : TellsLinks e' k.now b = subst Q is' (subst P is k.tells before) in
-    record { sendings = k.now; bytes = after.links; order = k.order; legal = k.legal }
+    let P : Option Log → Type 0 = λ x. IfSome x (λ y. TellsLinks e [] y → IfSome o' (λ z. TellsLinks e' (sendings_from k.us e []) z)) in
+    let Q : Option Log → Type 0 = λ x. IfSome x (λ z. TellsLinks e' (sendings_from k.us e []) z) in
+    let after : TellsLinks e' (sendings_from k.us e []) b = subst Q is' (subst P is k.tells before) in
+    record { sendings = sendings_from k.us e []; bytes = after.links; order = k.order; legal = k.legal }

@@ -32,6 +32,7 @@ pub mod LinkTold
 pub mod Committing
 pub mod LegalLinks
 pub mod GoingOn
+pub mod ToldScripts
 -- What brings about an end with an error: `run: cause`, `apply: cause`, and the count of faults.
 pub mod ReadEnds
 pub mod TurnEnds

@@ -1,15 +1,17 @@
 -- What an engine has said on its links since it was new.
-use Rattle.std.specs.Prelude.{◌≡◌, ℕ, false, List, [], map, Option, IfSome}
+use Rattle.std.specs.Prelude.{◌≡◌, ℕ, false, List, [], ◌∷◌, map, Option, IfSome}
 use Rattle.std.specs.List.{AllByRecursion}
 use Rattle.amqp_session.specs.declared.command.Cmd.{Cmd}
 use Rattle.amqp_session.specs.Talk.{start, is_asked, has_ended}
 use Rattle.amqp_session.specs.Commands.{command}
 use Rattle.amqp_session.specs.Answers.{take_answer, take_frames}
 use Rattle.amqp_session.specs.Legal.{Legal}
+use Rattle.amqp_engine.specs.declared.given.Given.{Given}
+use Rattle.amqp_engine.specs.Plan.{step_of}
 use Rattle.amqp_engine.specs.Log.{Log}
 use Rattle.amqp_engine.specs.Engine.{Engine, begin, with_talk}
-use Rattle.amqp_engine.specs.Turn.{Turn, IsToldCommand, IsTold, asks, read, applied, IsApplied}
-use Rattle.amqp_engine.specs.Sending.{Sending, frames_sent, link_bytes, step_sending, offers_sending, SendsInOrder}
+use Rattle.amqp_engine.specs.Turn.{Turn, IsToldCommand, IsTold, asks, read, applied, IsApplied, Leads}
+use Rattle.amqp_engine.specs.Sending.{Sending, frames_sent, link_bytes, step_sending, offers_sending, sendings_from, SendsInOrder}
 
 -- what was sent, once a turn was taken from its step on
 abbrev pub applied_sending : Turn → Engine → List Sending → List Sending
@@ -31,6 +33,11 @@ pub data HasSent : Engine → List Sending → Type 0 where
   frames_taken : {e : Engine} {ss : List Sending} (opened : ℕ) → HasSent e ss
       → HasSent (with_talk (take_frames opened) e) ss
 
+-- what is told in a script may be told
+abbrev pub AreGivenTold : List Given → Type 0
+AreGivenTold [] = Unit {0}
+AreGivenTold (g ∷ gs) = IsTold (step_of g.what) × AreGivenTold gs
+
 -- ---- what a run says
 
 -- the bytes of links: on each those of the frames of a legal conversation, in order, and then of a part of one more
@@ -45,11 +52,12 @@ pub record TellsLinks (e : Engine) (ss : List Sending) (log : Log) : Type 0 wher
   pub links : log.links ≡ map link_bytes ss
   pub asked : has_ended e.talk ≡ false → log.asked ≡ is_asked e.talk
 
--- an engine that had sent so much went on: what it has sent now is in order and legal on each link; and a
--- port that told of its links before tells of them after
+-- an engine that had sent so much went on by some turns, with what they send besides: it is in order and legal on each link;
+-- and a port that told of its links before tells of them after
 pub record GoesOn (ss : List Sending) (e e' : Engine) (log log' : Option Log) : Type 0 where
-  pub now : List Sending
-  pub sent : HasSent e' now
-  pub order : AllByRecursion SendsInOrder now
-  pub legal : AllByRecursion (λ (s : Sending). Legal (frames_sent s)) now
-  pub tells : IfSome log (λ a. TellsLinks e ss a → IfSome log' (λ b. TellsLinks e' now b))
+  pub us : List Turn
+  pub leads : Leads us e e'
+  pub sent : HasSent e' (sendings_from us e ss)
+  pub order : AllByRecursion SendsInOrder (sendings_from us e ss)
+  pub legal : AllByRecursion (λ (s : Sending). Legal (frames_sent s)) (sendings_from us e ss)
+  pub tells : IfSome log (λ a. TellsLinks e ss a → IfSome log' (λ b. TellsLinks e' (sendings_from us e ss) b))

@@ -11,7 +11,7 @@ ghost use Rattle.amqp_engine.specs.Turn.{Turn, turn, IsTurn, AreTurns, AreTold};
 ghost use Rattle.amqp_engine.specs.Tell.{Runs, PlaysTurns, log_turns};
 ghost use Rattle.amqp_engine.specs.Play.{replayed};
 ghost use Rattle.amqp_engine.specs.Sending.{Sending, sendings, frames, frames_sent, link_bytes, SendsInOrder};
-ghost use Rattle.amqp_engine.specs.Saying.{HasSent};
+ghost use Rattle.amqp_engine.specs.Saying.{HasSent, AreGivenTold};
 ghost use Rattle.amqp_engine.specs.Unread.{IsRead};
 
 /// A run that may take no turn, and one of a session that had ended, take no step and write
@@ -64,4 +64,6 @@ pub fn conversations_are_legal()
         → AllByRecursion (λ (s : Sending). Legal (frames s.committed)) ss }
     ensures turns { (us : List Turn) → AreTurns us (begin start) → AreTold us
         → AllByRecursion (λ (s : Sending). Legal (frames_sent s)) (sendings us) }
+    ensures script { (gs : List Given) → AreGivenTold gs
+        → AllByRecursion (λ (s : Sending). Legal (frames_sent s)) (sendings (replayed gs)) }
 {}

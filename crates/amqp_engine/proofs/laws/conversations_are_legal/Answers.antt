@@ -5,6 +5,7 @@ use Rattle.amqp_engine.specs.Turn.{turns}
 use Rattle.amqp_engine.specs.Sending.{sendings}
 use Rattle.amqp_engine.specs.Saying.{new}
 use Rattle.amqp_engine.proofs.LegalLinks.{sent_legal, committed_legal, turns-sent}
+use Rattle.amqp_engine.proofs.ToldScripts.{script_legal}
 use Rattle.amqp_engine.proofs.laws.conversations_are_legal.Goals as goal
 
 pub returns-clause-sent : goal.returns-clause-sent
@@ -15,3 +16,6 @@ returns-clause-committed c = committed_legal
 
 pub returns-clause-turns : goal.returns-clause-turns
 returns-clause-turns c us may told = sent_legal (turns us (begin start)) (sendings us) (turns-sent us (begin start) [] may told new)
+
+pub returns-clause-script : goal.returns-clause-script
+returns-clause-script c = script_legal

@@ -1,0 +1,74 @@
+-- The steps of a script whose commands are told are told, and what it says is legal.
+use Rattle.std.proofs.Common.{◌≡◌, ℕ, zero, suc, if◌then◌else◌, Bool, List, [], ◌∷◌, length, Option, Some, None, IfSome, refl, sym, subst}
+use Rattle.std.specs.Prelude.{option_map}
+use Rattle.std.specs.List.{AllByRecursion}
+use Rattle.amqp_session.specs.Talk.{has_ended, start}
+use Rattle.amqp_session.specs.Legal.{Legal}
+use Rattle.amqp_session.proofs.Cases.{if_case}
+use Rattle.amqp_engine.specs.declared.given.Given.{Given}
+use Rattle.amqp_engine.specs.declared.port.Wrote.{Wrote}
+use Rattle.amqp_engine.specs.declared.port.Wrote.TheVariants.{Took, Failed, NoMemory}
+use Rattle.amqp_engine.specs.Plan.{Plan, plan_from, plan_step, plan_write, plan_failure, coming_from}
+use Rattle.amqp_engine.specs.Log.{Log, loaded, log_ask, log_step, log_write}
+use Rattle.amqp_engine.specs.Engine.{Engine, begin}
+use Rattle.amqp_engine.specs.Turn.{Turn, IsTold, AreTold, asks, wants_ask, turn, turns}
+use Rattle.amqp_engine.specs.Tell.{Offer, offers_of, log_asks, log_stepped, log_offers, log_turn}
+use Rattle.amqp_engine.specs.Sending.{Sending, sendings, frames_sent}
+use Rattle.amqp_engine.specs.Play.{played_step, played_turn, played_turns, replayed}
+use Rattle.amqp_engine.specs.Saying.{AreGivenTold, new}
+use Rattle.amqp_engine.proofs.Playing.{played-are-turns}
+use Rattle.amqp_engine.proofs.LegalLinks.{sent_legal, turns-sent}
+
+-- the commands that are left of the script are told
+abbrev PlanTold : Option Plan → Type 0
+PlanTold plan = IfSome plan (λ p. AreGivenTold p.rest)
+
+-- so the next step is
+step-told : (plan : Option Plan) → PlanTold plan → IsTold (played_step plan).step
+step-told None h = tt
+step-told (Some p) h = from p.rest h where
+  from : (gs : List Given) → AreGivenTold gs → IsTold (coming_from gs p.moment).step
+  from [] h = tt
+  from (g ∷ gs) h = h.0
+
+plan-stepped : (asked : Bool) (plan : Option Plan) → PlanTold plan → PlanTold (option_map (plan_step asked) plan)
+plan-stepped asked None h = tt
+plan-stepped asked (Some p) h = from p.rest refl h where
+  from : (gs : List Given) → p.rest ≡ gs → AreGivenTold gs → AreGivenTold (plan_from gs asked p).rest
+  from [] is h = (let Q : List Given → Type 0 = λ xs. AreGivenTold xs in subst Q (sym is) h)
+  from (g ∷ gs) is h = h.1
+
+write-told : (bytes : List ℕ) (w : Wrote) (a : Log) → PlanTold a.plan → PlanTold (log_write bytes w a).plan
+write-told bytes (Took k) a h = by a.plan h where
+  by : (plan : Option Plan) → PlanTold plan → PlanTold (option_map (plan_write k) plan)
+  by None h = tt
+  by (Some p) h = h
+write-told bytes Failed a h = by a.plan h where
+  by : (plan : Option Plan) → PlanTold plan → PlanTold (option_map plan_failure plan)
+  by None h = tt
+  by (Some p) h = h
+write-told bytes NoMemory a h = h
+
+offers-told : (os : List Offer) (a : Log) → PlanTold a.plan → PlanTold (log_offers os a).plan
+offers-told [] a h = h
+offers-told (o ∷ os) a h = offers-told os (log_write o.bytes o.answer a) (write-told o.bytes o.answer a h)
+
+asks-told : (e : Engine) (a : Log) → PlanTold a.plan → PlanTold (log_asks e a).plan
+asks-told e a h = if_case (λ (x : Log). PlanTold x.plan) (wants_ask e) (log_ask a) a h h
+
+turn-told : (u : Turn) (e : Engine) (a : Log) → PlanTold a.plan → PlanTold (log_turn u e a).plan
+turn-told u e a h = offers-told (offers_of u (asks e)) (log_stepped u e a) (plan-stepped (log_asks e a).asked (log_asks e a).plan (asks-told e a h))
+
+played-told : (most : ℕ) (e : Engine) (a : Log) → PlanTold a.plan → AreTold (played_turns most e a)
+played-told zero e a h = tt
+played-told (suc most) e a h =
+    let u = played_turn e a in
+    if_case AreTold (has_ended e.talk) [] (u ∷ played_turns most (turn u e) (log_turn u e a)) tt
+    (step-told (log_asks e a).plan (asks-told e a h), played-told most (turn u e) (log_turn u e a) (turn-told u e a h))
+
+-- what a script says is legal, where its commands are told
+pub script_legal : (gs : List Given) → AreGivenTold gs → AllByRecursion (λ (s : Sending). Legal (frames_sent s)) (sendings (replayed gs))
+script_legal gs h =
+    let may = (played-are-turns (length gs) (begin start) (loaded gs) refl).0 in
+    sent_legal (turns (replayed gs) (begin start)) (sendings (replayed gs))
+    (turns-sent (replayed gs) (begin start) [] may (played-told (length gs) (begin start) (loaded gs) h) new)
