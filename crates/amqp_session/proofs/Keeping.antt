@@ -36,14 +36,14 @@ use Rattle.amqp_session.specs.Talk.{Talk, has_ended, is_open, is_closing, acts, 
 use Rattle.amqp_session.specs.Changes.{Promises, present_at, refuse, promise, queue_item, next_promise, give_to, fail, lose, misplaced, close, finish, finish_by, starve}
 use Rattle.amqp_session.specs.Links.{dropped, lost, misread}
 use Rattle.amqp_session.specs.Violations.{misread_error}
-use Rattle.amqp_session.specs.ConnectionMethods.{connection_rule, connection_closed, on_connection_close_ok}
+use Rattle.amqp_session.specs.ConnectionMethods.{connection_rule, connection_closed}
 use Rattle.amqp_session.specs.Channels.{channel_at}
-use Rattle.amqp_session.specs.ChannelMethods.{heard_on, unlisted, unawaited_channel_method, channel_opened, channel_closed, channel_rule, channel_method_by, channel_method, hand_out, confirmed, is_select_ok, pass_through, raw_by, raw_frame}
+use Rattle.amqp_session.specs.ChannelMethods.{heard_on, unawaited_channel_method, channel_opened, channel_closed, channel_rule, channel_method_by, channel_method, hand_out, confirmed, is_select_ok, pass_through, raw_by}
 use Rattle.amqp_session.specs.Replies.{first_awaited, without_first}
 use Rattle.amqp_session.specs.Frames.{is_unbuilt, is_of_a_channel, method_rule, frame_rule, on_frame}
-use Rattle.amqp_session.specs.Commands.{open_drawn, target, close_target, send_target, method_frame, send, command, command_rule}
+use Rattle.amqp_session.specs.Commands.{open_drawn, close_target, send_target, method_frame, command, command_rule}
 use Rattle.amqp_session.specs.Writing.{left_in, follow, sent, sent_among, taken}
-use Rattle.amqp_session.proofs.Cases.{if_case, if_by, if-true, if-false, if-both, and-true, and-false}
+use Rattle.amqp_session.proofs.Cases.{if_case, if-true, if-false, and-true, and-false}
 
 -- ---- the present
 

@@ -10,7 +10,7 @@ use Rattle.std.specs.BTreeMap.{is_at}
 use Rattle.std.proofs.lemmas.Map.{lookup-none}
 use Rattle.std.proofs.lemmas.Map.Entries.{none_below_head}
 use Rattle.std.proofs.lemmas.Map.Keys.{sorted_tail}
-use Rattle.amqp_session.specs.Listed.{at, put, without, has, map_values}
+use Rattle.amqp_session.specs.Listed.{at, put, has, map_values}
 
 pub nat_cmp_self : (n : ℕ) → nat_cmp n n ≡ Equal
 nat_cmp_self n = sym (nat_cmp_is n n Equal refl)

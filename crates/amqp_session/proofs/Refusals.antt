@@ -1,9 +1,8 @@
 -- What a refused command leaves as it was.
-use Rattle.std.proofs.Common.{◌≡◌, ◌∙◌, ap, sym, refl, subst, ℕ, nat_lt, if◌then◌else◌, List, length, Option, Some, None, Result, Ok, Err}
+use Rattle.std.proofs.Common.{◌≡◌, ◌∙◌, ap, refl, subst, ℕ, nat_lt, List, length, Option, Some, None, Result, Ok, Err}
 use Rattle.amqp_frame.specs.RawMethods.{OtherMethod}
 use Rattle.amqp_frame.specs.Frames.{encoding}
 use Rattle.amqp_session.specs.declared.channels.Channel.{Channel}
-use Rattle.amqp_session.specs.declared.command.Answer.{Answer}
 use Rattle.amqp_session.specs.declared.command.Cmd.{Cmd}
 use Rattle.amqp_session.specs.declared.command.Cmd.TheVariants.{OpenChannel, CloseChannel, CloseConnection, Send}
 use Rattle.amqp_session.specs.declared.state.ConnectionState.{ConnectionState}
@@ -13,7 +12,7 @@ use Rattle.amqp_session.specs.declared.error.ErrorKind.TheVariants.{ChannelsLimi
 use Rattle.amqp_session.specs.Listed.{at, put}
 use Rattle.amqp_session.specs.Talk.{Talk}
 use Rattle.amqp_session.specs.Changes.{Promises, queue_item, next_promise, promise, refuse}
-use Rattle.amqp_session.specs.Commands.{open_drawn, open_none, target, close_target, send_target, method_frame, send, command, command_rule}
+use Rattle.amqp_session.specs.Commands.{open_drawn, open_none, close_target, send_target, method_frame, command, command_rule}
 use Rattle.amqp_session.specs.Laws.{IsRefusal, IsAnsweredAtOnce}
 use Rattle.amqp_session.proofs.Cases.{if_case}
 use Rattle.amqp_session.proofs.Seen.{at-put}

@@ -1,5 +1,5 @@
 -- The entries of a map that are seen, as a map.
-use Rattle.std.proofs.Common.{◌≡◌, ◌∙◌, ap, sym, refl, ℕ, Bool, true, false, cond, length, ◌==◌, ◌<◌, arith, List, [], ◌∷◌, Option, Some, None, Result, Ok, Err}
+use Rattle.std.proofs.Common.{◌≡◌, ◌∙◌, ap, sym, refl, ℕ, Bool, true, false, cond, length, ◌==◌, ◌<◌, arith, List, [], ◌∷◌, Option, Some, None, Result}
 use Rattle.std.proofs.lemmas.Bool.Decides.{nat_tests}
 use Rattle.std.specs.Prelude.{find, unwrap_or, ◌++◌}
 use Rattle.std.specs.declared.cmp.Ordering.{Ordering}

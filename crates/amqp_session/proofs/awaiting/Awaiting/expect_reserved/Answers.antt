@@ -1,8 +1,4 @@
-use Rattle.std.proofs.Common.{◌≡◌, ◌∙◌, ap, sym, subst, refl, Option, Some, None, ◌++◌, ◌∷◌, [], length, ◌<◌}
-use Rattle.std.specs.Ordering.{nat_cmp}
-use Rattle.std.specs.Map.{set_value}
-use Rattle.std.specs.BTreeMap.{is_at}
-use Rattle.amqp_session.specs.Listed.{at}
+use Rattle.std.proofs.Common.{◌≡◌, ◌∙◌, ap, sym, subst, length, ◌<◌}
 use Rattle.amqp_session.specs.Parts.{seen, list_seen}
 use Rattle.std.specs.VecDeque.{deque_capacity}
 use Rattle.amqp_session.specs.declared.awaiting.Replies.{Replies}

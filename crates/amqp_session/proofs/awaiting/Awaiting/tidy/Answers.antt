@@ -1,8 +1,4 @@
-use Rattle.std.proofs.Common.{◌≡◌, ◌∙◌, ap, sym, refl, Option, Some, None, ◌++◌, ◌∷◌, [], length, ◌<◌}
-use Rattle.std.specs.Ordering.{nat_cmp}
-use Rattle.std.specs.Map.{set_value}
-use Rattle.std.specs.BTreeMap.{is_at}
-use Rattle.amqp_session.specs.Listed.{at}
+use Rattle.std.proofs.Common.{◌∙◌, ap}
 use Rattle.amqp_session.specs.Parts.{seen, list_seen}
 use Rattle.amqp_session.proofs.Seen.{without-unseen}
 use Rattle.amqp_session.proofs.awaiting.Awaiting.tidy.Goals as goal

@@ -5,7 +5,7 @@ use Rattle.std.specs.Map.{set_value}
 use Rattle.std.specs.BTreeMap.{is_at}
 use Rattle.std.specs.Option.{option_copied_mut}
 use Rattle.amqp_session.specs.Listed.{at}
-use Rattle.amqp_session.specs.Parts.{seen, slot_seen, placed}
+use Rattle.amqp_session.specs.Parts.{seen, slot_seen}
 use Rattle.amqp_session.proofs.Seen.{set-placed}
 use Rattle.amqp_session.proofs.promises.Promises.make.Goals as goal
 
