@@ -146,7 +146,7 @@ read u e = reading (is_piece u.step) (step_part u.step u.bytes (begun u.at u.not
 abbrev pub written : Turn → Engine → Progress
 written u e = drain u.notes.answers (read u e)
 
--- memory was refused after so many parts, where it was
+-- the session ends, where memory was refused after so many parts
 abbrev pub starved_after : Option ℕ → ℕ → Engine → Engine
 starved_after None at e = e
 starved_after (Some j) at e = starve_at at j e
@@ -172,7 +172,7 @@ talk us = (turns us (begin start)).talk
 
 -- ---- which turns there may be
 
--- so many parts were done where a turn was cut
+-- a turn that was cut after so many parts has done so many
 abbrev pub IsCut : Option ℕ → ℕ → Type 0
 IsCut None n = Unit {0}
 IsCut (Some j) n = n ≡ j
@@ -192,7 +192,8 @@ abbrev pub AreTurns : List Turn → Engine → Type 0
 AreTurns [] e = Unit {0}
 AreTurns (u ∷ us) e = IsTurn u e × AreTurns us (turn u e)
 
--- the numbers of a command fit their types on the wire, and its lengths those of a machine
+-- a method that is sent is of a class that is passed through, its numbers fit their types on the wire, and its length
+-- that of a machine
 abbrev pub IsToldCommand : Cmd → Type 0
 IsToldCommand (Send channel method) =
     (method.class ≢ 10) × (method.class ≢ 20) × (method.class < 2 ^ 16) × (method.method < 2 ^ 16)

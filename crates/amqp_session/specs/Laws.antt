@@ -46,7 +46,7 @@ pub record IsOver (t : Talk) : Type 0 where
   pub answer : (number : ℕ) → take_answer number t ≡ record t { promises = (take_answer number t).promises }
   pub frames : (opened : ℕ) → take_frames opened t ≡ record t { handed = (take_frames opened t).handed }
 
--- the promises alone change: there is one more, which is answered with this error
+-- the promises alone change: one more is made, which is answered with this error
 abbrev pub IsRefused : ErrorKind → Talk → Talk → Type 0
 IsRefused e before after = after ≡ refuse e before
 
