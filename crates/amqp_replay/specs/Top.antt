@@ -1,7 +1,7 @@
 -- What the program promises: the status, what is printed, and what the port tells.
 use Rattle.std.specs.Prelude.{◌≡◌, ◌⊎◌, ◌++◌, ℕ, List, take, Option, Some, None, IfSome, option_map, Result, Ok, Err}
 use Rattle.amqp_session.specs.declared.error.ErrorKind.{ErrorKind}
-use Rattle.amqp_session.specs.Talk.{end_of}
+use Rattle.amqp_session.specs.Talk.{start, end_of}
 use Rattle.amqp_engine.specs.declared.given.Given.{Given}
 use Rattle.amqp_engine.specs.Log.{Log, loaded}
 use Rattle.amqp_engine.specs.Engine.{begin}
@@ -17,7 +17,7 @@ use Rattle.amqp_replay.specs.Report.{Printout, report, refusal}
 
 -- what the port tells
 abbrev pub replayed_log : List Given → Log
-replayed_log gs = log_turns (replayed gs) begin (loaded gs)
+replayed_log gs = log_turns (replayed gs) (begin start) (loaded gs)
 
 -- the bytes of each link
 abbrev pub replayed_links : List Given → List (List ℕ)
