@@ -1,5 +1,5 @@
 -- Small facts by cases.
-use Rattle.std.proofs.Common.{◌≡◌, ◌≤◌, ◌<◌, ℕ, ◌+◌, Bool, true, false, not, ◌&&◌, ◌||◌, if◌then◌else◌, IsTrue, IsFalse, nat_lt, Option, Some, None, is_some, Result, Ok, Err, is_err, OnOk, refl, arith, rules}
+use Rattle.std.proofs.Common.{◌≡◌, ◌≤◌, ◌<◌, ℕ, ◌+◌, Bool, true, false, not, ◌&&◌, ◌||◌, IsTrue, IsFalse, nat_lt, Option, Some, None, is_some, Result, Ok, Err, is_err, OnOk, refl, arith, rules}
 use Rattle.std.proofs.lemmas.Bool.Decides.{nat_tests}
 use Rattle.amqp_engine.specs.Turn.{is_before}
 use Rattle.amqp_engine.specs.Making.{Allows}

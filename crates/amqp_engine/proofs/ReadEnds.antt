@@ -20,7 +20,7 @@ use Rattle.amqp_session.specs.declared.state.Phase.TheVariants.{AwaitStart, Awai
 use Rattle.amqp_session.specs.declared.misread.Misread.{Misread}
 use Rattle.amqp_session.specs.declared.misread.Misread.TheVariants as why
 use Rattle.amqp_session.specs.declared.error.ErrorKind.{ErrorKind}
-use Rattle.amqp_session.specs.declared.error.ErrorKind.TheVariants.{InvalidProtocolVersion, InvalidChannel, InvalidConnectionState, ParsingError, ProtocolError, Unbuilt}
+use Rattle.amqp_session.specs.declared.error.ErrorKind.TheVariants.{InvalidProtocolVersion, InvalidChannel, InvalidConnectionState, ProtocolError, Unbuilt}
 use Rattle.amqp_session.specs.Talk.{Talk, is_acting, acts, is_open, has_ended, end_of}
 use Rattle.amqp_session.specs.Negotiation.{frame_limit}
 use Rattle.amqp_session.specs.Changes.{present_at, fail, misplaced}
@@ -128,13 +128,13 @@ due-none Connecting AwaitOpenOk OpenOk t k due h = h
 due-none s p m t k due h = cc
 
 -- the error of a method is none of one that is due, or the session had ended with it
-undue : (f : Frame) (place : ℕ) (t : Talk) (k : ErrorKind) → end_of (frame_rule f place t) ≡ Some (Err k) → IsFrameError k f place t
+undue : (k : ErrorKind) (f : Frame) (place : ℕ) (t : Talk) → end_of (frame_rule f place t) ≡ Some (Err k) → IsFrameError k f place t
     → (end_of t ≡ Some (Err k)) ⊎ IsUndue k f t
-undue (Method zero m) place t (InvalidConnectionState s) h cause = by (is_due m t.state t.phase) refl (is_unbuilt m) refl
+undue (InvalidConnectionState s) (Method zero m) place t h cause = by (is_due m t.state t.phase) refl (is_unbuilt m) refl
   where
     by : (due : Bool) → is_due m t.state t.phase ≡ due → (unbuilt : Bool) → is_unbuilt m ≡ unbuilt
         → (end_of t ≡ Some (Err (InvalidConnectionState s))) ⊎ IsFalse (is_due m t.state t.phase)
-    by false no unbuilt is = inr no
+    by false free unbuilt is = inr free
     by true due true is =
         let ended : end_of (frame_rule (Method zero m) place t) ≡ Some (Err (Unbuilt place)) =
         ap end_of (if-true (is_unbuilt m) (fail (Unbuilt place) t) (method_rule zero m t) is) in
@@ -144,7 +144,7 @@ undue (Method zero m) place t (InvalidConnectionState s) h cause = by (is_due m 
         if-false (is_unbuilt m) (fail (Unbuilt place) t) (method_rule zero m t) is
         ∙ if-false (is_of_a_channel m) (misplaced (stray_channel_frame RawMethod) t) (connection_rule t.state t.phase m t) cause.0 in
         inl (due-none t.state t.phase m t (InvalidConnectionState s) due (sym (ap end_of here) ∙ h))
-undue f place t k h cause = inr tt
+undue k f place t h cause = inr tt
 
 abbrev FrameCause : Frame → ℕ → Talk → ErrorKind → Type 0
 FrameCause f place t k = IsTrue (is_acting t.input) × IsFrameError k f place t × IsUndue k f t
@@ -158,7 +158,7 @@ ends-acting f place t = record { by = λ k h. by (acts t) refl k h }
         let here : end_of (frame_rule f place t) ≡ Some (Err k) = sym (ap end_of (if-true (acts t) (frame_rule f place t) t acting)) ∙ h in
         elim ((ends-frame f place t).by k h) [
           | inl before ↦ inl before
-          | inr cause ↦ elim (undue f place t k here cause) [ inl before ↦ inl before | inr no ↦ inr (and-right (is_open t) (is_acting t.input) acting, cause, no) ]
+          | inr cause ↦ elim (undue k f place t here cause) [ inl before ↦ inl before | inr free ↦ inr (and-right (is_open t) (is_acting t.input) acting, cause, free) ]
         ]
 
 -- ---- errors do not look at the moment

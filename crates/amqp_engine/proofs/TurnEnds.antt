@@ -56,8 +56,8 @@ ends-lost fault t =
     if_by (Ends P t) (acts t) (lose (IOError fault) t) (if is_open t then finish t else t)
     (λ acting. ends-lose P (IOError fault) t t (and-left (is_open t) (is_acting t.input) acting, refl))
     (λ idle. if_by (Ends P t) (is_open t) (finish t) t
-        (λ opened. ends-finish P t.server_close t t (λ e h. (opened, h)))
-        (λ closed. ends-kept P t t refl))
+    (λ opened. ends-finish P t.server_close t t (λ e h. (opened, h)))
+    (λ closed. ends-kept P t t refl))
 
 present-lost : (at : ℕ) (fault : IoFault) (t : Talk) (k : ErrorKind) → LostError fault (present_at at t) k → LostError fault t k
 present-lost at fault t (IOError f) h = (sym (present-keeps is_open at t (λ n. refl)) ∙ h.0, h.1)

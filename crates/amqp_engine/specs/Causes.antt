@@ -71,11 +71,13 @@ has_failed (w ∷ ws) = is_failed w || has_failed ws
 
 -- a turn brings about a fault: its step brings it, or one of its writes failed
 abbrev pub IsFaultOf : IoFault → Turn → Engine → Type 0
-IsFaultOf fault u e = (brought u.step e.talk ≡ Some fault) ⊎ ((fault ≡ BrokenPipe) × IsTrue (has_failed u.notes.answers))
+IsFaultOf fault u e =
+    (brought u.step e.talk ≡ Some fault) ⊎ ((fault ≡ BrokenPipe) × IsTrue (has_failed u.notes.answers))
 
 -- ---- what is read
 
--- a method of the connection class that is due: our close's answer, and what the handshake awaits; the server may close at any time
+-- a method of the connection class that is due: our close's answer, and what the handshake awaits; the server may
+-- close at any time
 abbrev pub is_due : AnyMethod → ConnectionState → Phase → Bool
 is_due (Close code text class method) state phase = true
 is_due CloseOk Closing phase = true
@@ -89,10 +91,11 @@ abbrev pub IsUndue : ErrorKind → Frame → Talk → Type 0
 IsUndue (InvalidConnectionState state) (Method zero m) t = IsFalse (is_due m t.state t.phase)
 IsUndue _ f t = Unit {0}
 
--- the error that is brought by what stands at the front of the unread bytes: a frame, which acts only before the server's close; 501 for one that is
--- too large, and for a heartbeat on another channel than 0
+-- the error that is brought by what stands at the front of the unread bytes: a frame, which acts only before the
+-- server's close; 501 for one that is too large, and for a heartbeat on another channel than 0
 abbrev pub IsReadError : ErrorKind → Read → Engine → Type 0
-IsReadError k (reading.Whole f n) x = IsTrue (is_acting x.talk.input) × IsFrameError k f x.place x.talk × IsUndue k f x.talk
+IsReadError k (reading.Whole f n) x =
+    IsTrue (is_acting x.talk.input) × IsFrameError k f x.place x.talk × IsUndue k f x.talk
 IsReadError k (reading.TooLarge size) x = k ≡ frame_too_large size
 IsReadError k (reading.BadHeartbeat channel) x = k ≡ stray_heartbeat channel
 IsReadError k reading.Bad x = k ≡ ParsingError x.place
@@ -159,7 +162,8 @@ pub record WritesLast (error : AMQPError) (u : Turn) (e : Engine) : Type 0 where
 -- a turn brings about this error, from its step on
 abbrev pub IsCause : ErrorKind → Turn → Engine → Type 0
 IsCause (IOError fault) u e = IsFaultOf fault u e
-IsCause (ProtocolError error) u e = Misreads (ProtocolError error) u e ⊎ LosesClosed error u.step e ⊎ WritesLast error u e
+IsCause (ProtocolError error) u e =
+    Misreads (ProtocolError error) u e ⊎ LosesClosed error u.step e ⊎ WritesLast error u e
 IsCause NoMemory u e = IsTrue (is_some u.notes.starved)
 IsCause k u e = Misreads k u e
 
@@ -173,6 +177,7 @@ pub record Brings (k : ErrorKind) (e e' : Engine) (log log' : Option Log) : Type
   pub cause : IsCause k u (asks (turns us e))
 
 -- a turn of this step, from it on, leads from here to there and its offers are told, and it brings about this error
-pub record BringsOne (k : ErrorKind) (at : ℕ) (step : Step) (bytes : List ℕ) (e e' : Engine) (log log' : Option Log) : Type 0 where
+pub record BringsOne (k : ErrorKind) (at : ℕ) (step : Step) (bytes : List ℕ) (e e' : Engine) (log log' : Option Log)
+    : Type 0 where
   pub applies : Applies at step bytes e e' log log'
   pub cause : IsCause k (turn_of at step bytes applies.notes) e

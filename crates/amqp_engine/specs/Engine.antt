@@ -45,7 +45,8 @@ with_talk f e = record e { talk = f e.talk }
 abbrev pub rule_at : ℕ → (Talk → Talk) → Engine → Engine
 rule_at at f e = with_talk (λ t. f (present_at at t)) e
 
--- where the link is not open, nothing is left of what was received on it or is unsent; and where its input is dropped, nothing is unread
+-- where the link is not open, nothing is left of what was received on it or is unsent; and where its input is
+-- dropped, nothing is unread
 abbrev pub settle : Engine → Engine
 settle e =
     if is_open e.talk
@@ -160,4 +161,5 @@ wrote at NoMemory e = took at 0 e
 
 -- memory was refused when so many parts of the turn were done, and the session ends
 abbrev pub starve_at : ℕ → ℕ → Engine → Engine
-starve_at at j e = record e { talk = starve (present_at at e.talk); unread = []; place = 0; unsent = []; starved = Some j }
+starve_at at j e =
+    record e { talk = starve (present_at at e.talk); unread = []; place = 0; unsent = []; starved = Some j }

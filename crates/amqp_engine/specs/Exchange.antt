@@ -1,4 +1,5 @@
--- What was heard and said on each link, in order, and what was handed out: a fourth fold over turns. In a turn what is heard comes before what is said.
+-- What was heard and said on each link, in order, and what was handed out: a fourth fold over turns. In a turn what
+-- is heard comes before what is said.
 use Rattle.std.specs.Prelude.{ℕ, zero, suc, ◌-◌, ◌&&◌, if◌then◌else◌, List, [], ◌∷◌, ◌++◌, length, drop, map, slice_get, Option, Some, None}
 use Rattle.amqp_frame.specs.declared.frame.Frame.{Frame}
 use Rattle.amqp_frame.specs.declared.frame.Frame.TheVariants.{Raw}

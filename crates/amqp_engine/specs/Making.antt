@@ -45,7 +45,8 @@ pub record Writes (ws : List Wrote) (before after : Progress) : Type 0 where
   pub leaves : drain ws before ≡ after
 
 -- a turn is applied, and where one of its writes failed, the port's count of faults rose
-pub record AppliesCounted (at : ℕ) (step : Step) (bytes : List ℕ) (e e' : Engine) (log log' : Option Log) (count count' : ℕ) : Type 0 where
+pub record AppliesCounted (at : ℕ) (step : Step) (bytes : List ℕ) (e e' : Engine) (log log' : Option Log)
+    (count count' : ℕ) : Type 0 where
   pub applies : Applies at step bytes e e' log log'
   pub counted : has_failed applies.notes.answers ≡ true → Rose count count'
 

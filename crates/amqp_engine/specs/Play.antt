@@ -35,7 +35,9 @@ played_answers zero at e a = []
 played_answers (suc most) at e a =
     let w = played_answer e a in
     if can_write e
-    then w ∷ (if is_all w (length (offered e)) then played_answers most at (answered at w e) (log_write (offered e) w a) else [])
+    then w ∷ (if is_all w (length (offered e))
+    then played_answers most at (answered at w e) (log_write (offered e) w a)
+    else [])
     else []
 
 -- ---- a turn

@@ -1,4 +1,5 @@
--- A turn: one step that was taken, with all that follows it. The engine is a fold of its turns, whatever its port tells.
+-- A turn: one step that was taken, with all that follows it. The engine is a fold of its turns, whatever its port
+-- tells.
 use Rattle.std.specs.Prelude.{◌≡◌, ◌≢◌, ◌<◌, ℕ, zero, suc, ◌+◌, ◌^◌, not, ◌&&◌, ◌==◌, if◌then◌else◌, nat_lt, Bool, true, false, IsTrue, IsFalse, MatchBool, List, [], ◌∷◌, length, Option, Some, None}
 use Rattle.amqp_session.specs.Talk.{Talk, start, wants_link, is_asked, is_open, has_ended}
 use Rattle.amqp_session.specs.Links.{asked}
@@ -11,7 +12,8 @@ use Rattle.amqp_engine.specs.declared.port.Wrote.TheVariants.{Took, Failed, NoMe
 use Rattle.amqp_engine.specs.Log.{IsWithin}
 use Rattle.amqp_engine.specs.Engine.{Engine, begin, with_talk, step_engine, read_one, can_read, commit_all, can_write, wrote, starve_at}
 
--- what is noted of a turn: the port's answers to its writes, and where memory was refused how many of its parts were done
+-- what is noted of a turn: the port's answers to its writes, and where memory was refused how many of its parts were
+-- done
 pub record Notes : Type 0 where
   pub answers : List Wrote
   pub starved : Option ℕ
@@ -56,7 +58,8 @@ goes p = is_before p.cut p.done
 abbrev pub part : Engine → Progress → Progress
 part e p = record p { engine = e; done = p.done + 1 }
 
--- whether a step is a part: the reading of a piece, a link that was asked for or its refusal, the loss of an open link, a command, or the rules of a tick; what changes the present alone is none
+-- whether a step is a part: the reading of a piece, a link that was asked for or its refusal, the loss of an open
+-- link, a command, or the rules of a tick; what changes the present alone is none
 abbrev pub is_part : Step → Engine → Bool
 is_part Linked e = is_asked e.talk
 is_part LinkFailed e = is_asked e.talk
@@ -116,7 +119,8 @@ abbrev pub CutsAfter : Wrote → Progress → Type 0
 CutsAfter NoMemory p = p.cut ≡ Some (p.done + 1)
 CutsAfter _ p = Unit {0}
 
--- these are the answers to the offers that are due, and to no others: one is due while something is to be written, and all was taken of what was offered before
+-- these are the answers to the offers that are due, and to no others: one is due while something is to be written,
+-- and all was taken of what was offered before
 abbrev pub AreAnswers : List Wrote → Progress → Type 0
 AreAnswers [] p = IsFalse (goes p && can_write p.engine)
 AreAnswers (w ∷ ws) p =
@@ -178,7 +182,8 @@ AreTurns (u ∷ us) e = IsTurn u e × AreTurns us (turn u e)
 -- the numbers of a command fit their types on the wire, and its lengths those of a machine
 abbrev pub IsToldCommand : Cmd → Type 0
 IsToldCommand (Send channel method) =
-    (method.class ≢ 10) × (method.class ≢ 20) × (method.class < 2 ^ 16) × (method.method < 2 ^ 16) × (length method.arguments < 2 ^ 63)
+    (method.class ≢ 10) × (method.class ≢ 20) × (method.class < 2 ^ 16) × (method.method < 2 ^ 16)
+    × (length method.arguments < 2 ^ 63)
 IsToldCommand _ = Unit {0}
 
 -- a step as it can be told: what it names is what it can carry

@@ -74,13 +74,15 @@ impl IoLoop {
         ensures turns { Runs turns self.old self.new (P.log port.old) (P.log port.new) }
         ensures ended { IfSome (end_of self.new.talk) (λ end. HandsOut (Some end) (Some result)) }
         ensures out_of_turns { has_ended self.new.talk ≡ false → result ≡ Err ErrorKind.OutOfTurns }
-        ensures only_out_of_turns { has_ended self.old.talk ≡ false → result ≡ Err ErrorKind.OutOfTurns → has_ended self.new.talk ≡ false }
+        ensures only_out_of_turns { has_ended self.old.talk ≡ false → result ≡ Err ErrorKind.OutOfTurns
+            → has_ended self.new.talk ≡ false }
         ensures played { IfSome (P.log port.old) (λ log. IsSome log.plan → self.new.starved ≡ None
             → IsPlayed turns self.old self.new log (P.log port.new)) }
         ensures read { IsRead self.new }
         ensures faults { P.faults port.old ≤ P.faults port.new }
-        ensures io_error_counted { (fault : IoFault) → has_ended self.old.talk ≡ false → fault_of self.new.talk ≡ Some fault
-            → IsTrue (is_counted fault) → Rose (P.faults port.old) (P.faults port.new) }
+        ensures io_error_counted { (fault : IoFault) → has_ended self.old.talk ≡ false
+            → fault_of self.new.talk ≡ Some fault → IsTrue (is_counted fault)
+            → Rose (P.faults port.old) (P.faults port.new) }
         ensures cause { (k : ErrorKind) → has_ended self.old.talk ≡ false → end_of self.new.talk ≡ Some (Err k)
             → Brings k self.old self.new (P.log port.old) (P.log port.new) }
     {
@@ -94,8 +96,9 @@ impl IoLoop {
     fn take_turns<P: Port>(&mut self, port: &mut P, turns: u64)
         ensures turns { Runs turns self.old self.new (P.log port.old) (P.log port.new) }
         ensures faults { P.faults port.old ≤ P.faults port.new }
-        ensures io_error_counted { (fault : IoFault) → has_ended self.old.talk ≡ false → fault_of self.new.talk ≡ Some fault
-            → IsTrue (is_counted fault) → Rose (P.faults port.old) (P.faults port.new) }
+        ensures io_error_counted { (fault : IoFault) → has_ended self.old.talk ≡ false
+            → fault_of self.new.talk ≡ Some fault → IsTrue (is_counted fault)
+            → Rose (P.faults port.old) (P.faults port.new) }
     {
         'turns: for _ in 0..turns {
             if self.wire.session().has_ended() {
@@ -145,8 +148,10 @@ impl IoLoop {
         ensures faults { P.faults port.old ≤ P.faults port.new }
         ensures cause { (k : ErrorKind) → has_ended self.old.talk ≡ false → end_of self.new.talk ≡ Some (Err k)
             → BringsOne k told.at told.step bytes.now self.old self.new (P.log port.old) (P.log port.new) }
-        ensures io_error_counted { (fault : IoFault) → has_ended self.old.talk ≡ false → fault_of self.new.talk ≡ Some fault
-            → (brought told.step self.old.talk ≡ Some fault) ⊎ ((fault ≡ IoFault.BrokenPipe) × Rose (P.faults port.old) (P.faults port.new)) }
+        ensures io_error_counted { (fault : IoFault) → has_ended self.old.talk ≡ false
+            → fault_of self.new.talk ≡ Some fault
+            → (brought told.step self.old.talk ≡ Some fault)
+            ⊎ ((fault ≡ IoFault.BrokenPipe) × Rose (P.faults port.old) (P.faults port.new)) }
     {
         Ok(self.wire.apply(told, bytes, port)?)
     }

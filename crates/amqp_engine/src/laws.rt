@@ -15,8 +15,10 @@ ghost use Rattle.amqp_engine.specs.Unread.{IsRead};
 /// A run that may take no turn, and one of a session that had ended, take no step and write
 /// nothing.
 pub fn a_run_without_turns_touches_nothing()
-    ensures allowed { (e e' : Engine) (log log' : Option Log) → Runs 0 e e' log log' → (e' ≡ e) × (log' ≡ log) }
-    ensures ended { (allowed : ℕ) (e e' : Engine) (log log' : Option Log) → has_ended e.talk ≡ true → Runs allowed e e' log log'
+    ensures allowed { (e e' : Engine) (log log' : Option Log) → Runs 0 e e' log log'
+        → (e' ≡ e) × (log' ≡ log) }
+    ensures ended { (allowed : ℕ) (e e' : Engine) (log log' : Option Log) → has_ended e.talk ≡ true
+        → Runs allowed e e' log log'
         → (e' ≡ e) × (log' ≡ log) }
 {}
 
@@ -38,7 +40,8 @@ pub fn a_script_has_its_turns()
 /// the frames that were committed on each, as many as were taken: the spellings of the frames that
 /// were sent, in order, and then a part of the next one.
 pub fn a_link_has_the_frames_sent()
-    ensures told { (us : List Turn) (log : Log) → AreTurns us (begin start) → log.links ≡ [] → log.asked ≡ false
+    ensures told { (us : List Turn) (log : Log) → AreTurns us (begin start) → log.links ≡ []
+        → log.asked ≡ false
         → (log_turns us (begin start) log).links ≡ map link_bytes (sendings us) }
     ensures order { (us : List Turn) → AreTurns us (begin start) → AllByRecursion SendsInOrder (sendings us) }
 {}

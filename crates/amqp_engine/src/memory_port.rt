@@ -88,13 +88,6 @@ impl MemoryPort {
         port.load(steps)?;
         Ok(port)
     }
-
-    /// How many steps were told since a script was loaded, a number that stays at its greatest.
-    pub fn told(&self) -> u64
-        ensures { result ≡ self.now.log.told }
-    {
-        self.told
-    }
 }
 
 impl Port for MemoryPort {
@@ -327,7 +320,8 @@ fn append_last(
     n: usize,
 ) -> Result<(), NoMemory>
     requires { n ≤ length first.now + length second.now }
-    ensures ok { OnOk result (links.new.items ≡ on_last (λ link. link ++ take n (first.now ++ second.now)) links.old.items) }
+    ensures ok { OnOk result
+        (links.new.items ≡ on_last (λ link. link ++ take n (first.now ++ second.now)) links.old.items) }
     ensures err { OnErr result (links.new.items ≡ links.old.items) }
     ensures capacity { vec_capacity links.new ≡ vec_capacity links.old }
 {

@@ -140,7 +140,8 @@ impl Wire {
         ensures ok { OnOk result ((cut : Option ℕ) → Allows cut parts.new
             → reading piece (making at cut self.old parts.old) ≡ making at cut self.new parts.new) }
         ensures err { OnErr result ((e : Engine) × (self.new ≡ rule_at at starve e)
-            × (reading piece (making at (Some parts.new) self.old parts.old) ≡ making at (Some parts.new) e parts.new)) }
+            × (reading piece (making at (Some parts.new) self.old parts.old)
+            ≡ making at (Some parts.new) e parts.new)) }
         ensures bound { FewParts parts.new }
         ensures grows { parts.old ≤ parts.new }
         ensures starved { self.new.starved ≡ self.old.starved }

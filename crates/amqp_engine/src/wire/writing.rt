@@ -34,7 +34,8 @@ impl Wire {
     ) -> Result<(), NoMemory>
         requires { FewParts parts.old }
         ensures ok { OnOk result ((ws : List Wrote)
-            × ((cut : Option ℕ) → Allows cut parts.new → Writes ws (making at cut self.old parts.old) (making at cut self.new parts.new))
+            × ((cut : Option ℕ) → Allows cut parts.new
+            → Writes ws (making at cut self.old parts.old) (making at cut self.new parts.new))
             × TellsOffers (offers_from at ws self.old) (P.log port.old) (P.log port.new)
             × (has_failed ws ≡ true → Rose (P.faults port.old) (P.faults port.new))) }
         ensures err { OnErr result ((ws : List Wrote)
@@ -61,15 +62,18 @@ impl Wire {
 
     // One offer, with the commits before it, where something is to be written.
     fn offer<P: Port>(&mut self, at: u64, port: &mut P) -> Option<Offered>
-        ensures none { IfNone result (IsFalse (can_write self.old) × (self.new ≡ self.old) × (P.log port.new ≡ P.log port.old)) }
+        ensures none { IfNone result
+            (IsFalse (can_write self.old) × (self.new ≡ self.old) × (P.log port.new ≡ P.log port.old)) }
         ensures due { IfSome result (λ r. IsTrue (can_write self.old)) }
         ensures within { IfSome result (λ r. IsWithin (length (offered self.old)) r.answer) }
-        ensures plays { IfSome result (λ r. IfSome (P.log port.old) (PlansWrite (length (offered self.old)) r.answer)) }
+        ensures plays { IfSome result
+            (λ r. IfSome (P.log port.old) (PlansWrite (length (offered self.old)) r.answer)) }
         ensures all { IfSome result (λ r. r.all ≡ is_all r.answer (length (offered self.old))) }
         ensures engine { IfSome result (λ r. self.new ≡ answered at r.answer self.old) }
         ensures told { IfSome result (λ r. P.log port.new
             ≡ option_map (log_write (offered self.old) r.answer) (P.log port.old)) }
-        ensures cause { IfSome result (λ r. r.answer ≡ Wrote.Failed → Rose (P.faults port.old) (P.faults port.new)) }
+        ensures cause { IfSome result
+            (λ r. r.answer ≡ Wrote.Failed → Rose (P.faults port.old) (P.faults port.new)) }
         ensures faults { P.faults port.old ≤ P.faults port.new }
     {
         if !self.session.is_open() {
