@@ -5,7 +5,7 @@ ghost use Rattle.std.specs.Prelude.{◌≡◌, ◌≤◌, ◌++◌, [], length, 
 use amqp_frame::{Room, View};
 use amqp_session::INITIAL_CAPACITY;
 use amqp_types::NoMemory;
-use std::alloc::{AllocError, Global};
+use std::alloc::Global;
 use std::marker::Model;
 
 /// Bytes that come in at one end and go out at the other.
@@ -90,8 +90,8 @@ impl View for Buffer {
         self.as_slice()[index]
     }
 
-    fn copy_range(&self, alloc: Global, start: usize, end: usize) -> Result<Vec<u8>, AllocError> {
-        Vec::from_slice(alloc, &self.as_slice()[start..end])
+    fn copy_range(&self, alloc: Global, start: usize, end: usize) -> Result<Vec<u8>, NoMemory> {
+        Ok(Vec::from_slice(alloc, &self.as_slice()[start..end])?)
     }
 }
 
