@@ -28,6 +28,10 @@ pub mod Agreeing
 pub mod LinkKept
 pub mod Sends
 pub mod LinkTold
+-- What is said on each link is a legal conversation, by lifting what the rules of the session keep: `run: legal`, and its law.
+pub mod Committing
+pub mod LegalLinks
+pub mod GoingOn
 -- What brings about an end with an error: `run: cause`, `apply: cause`, and the count of faults.
 pub mod ReadEnds
 pub mod TurnEnds

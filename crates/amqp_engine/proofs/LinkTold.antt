@@ -162,22 +162,22 @@ told-offer w e ss a can fits h links =
 -- ---- turns
 
 -- what was sent, and what is told
-abbrev Both : Type 0
+abbrev pub Both : Type 0
 Both = List Sending × Log
 
-abbrev asking : Engine → Both → Both
+abbrev pub asking : Engine → Both → Both
 asking e x = (x.0, log_asks e x.1)
 
-abbrev stepping : ℕ → Step → List ℕ → Engine → Both → Both
+abbrev pub stepping : ℕ → Step → List ℕ → Engine → Both → Both
 stepping at step bytes e x = (step_sending step e x.0, log_step at step bytes x.1)
 
-abbrev offering : ℕ → Wrote → Engine → Both → Both
+abbrev pub offering : ℕ → Wrote → Engine → Both → Both
 offering at w e x = (on_last (offer_sending w e) x.0, log_write (offered e) w x.1)
 
-record Told (e : Engine) (x : Both) : Type 0 where
-  sends : Sends e x.0
-  synced : IsSynced e x.1
-  links : x.1.links ≡ map link_bytes x.0
+pub record Told (e : Engine) (x : Both) : Type 0 where
+  pub sends : Sends e x.0
+  pub synced : IsSynced e x.1
+  pub links : x.1.links ≡ map link_bytes x.0
 
 told-asks : (e : Engine) (x : Both) → Told e x → Told (asks e) (asking e x)
 told-asks e x h =
@@ -215,7 +215,7 @@ told-starved : (at j : ℕ) (e : Engine) (x : Both) → Sends (starve_at at j e)
 told-starved at j e x sends links =
     record { sends = sends; synced = λ running. absurd (both _ (starve-ends (present_at at e.talk)) running); links = links }
 
-small : lifting.Simple Both asking stepping offering Told
+pub small : lifting.Simple Both asking stepping offering Told
 small =
     record {
       asked = told-asks;
@@ -237,7 +237,7 @@ offers-same : (at : ℕ) (ws : List Wrote) (e : Engine) (x : Both)
 offers-same at [] e x = refl
 offers-same at (w ∷ ws) e x = offers-same at ws (answered at w e) (offering at w e x)
 
-turns-same : (us : List Turn) (e : Engine) (x : Both) → lifting.turns_on Both asking stepping offering us e x ≡ (sendings_from us e x.0, log_turns us e x.1)
+pub turns-same : (us : List Turn) (e : Engine) (x : Both) → lifting.turns_on Both asking stepping offering us e x ≡ (sendings_from us e x.0, log_turns us e x.1)
 turns-same [] e x = refl
 turns-same (u ∷ us) e x =
     let P : Both → Type 0 = λ y. lifting.turns_on Both asking stepping offering us (turn u e) y ≡ (sendings_from us (turn u e) y.0, log_turns us (turn u e) y.1) in

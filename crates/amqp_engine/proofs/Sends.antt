@@ -149,7 +149,7 @@ stepping at step bytes e ss = step_sending step e ss
 abbrev pub offering : ℕ → Wrote → Engine → List Sending → List Sending
 offering at w e ss = on_last (offer_sending w e) ss
 
-small : lifting.Simple (List Sending) asking stepping offering Sends
+pub small : lifting.Simple (List Sending) asking stepping offering Sends
 small =
     record {
       asked = sends-asks;
@@ -160,7 +160,7 @@ small =
       cut = λ at step bytes e ss running part h. sends-starved at 0 e (step_sending step e ss) (all-step step e ss h.all);
     }
 
-offers-same : (at : ℕ) (ws : List Wrote) (e : Engine) (ss : List Sending) → lifting.offers_on (List Sending) asking stepping offering at ws e ss ≡ offers_sending at ws e ss
+pub offers-same : (at : ℕ) (ws : List Wrote) (e : Engine) (ss : List Sending) → lifting.offers_on (List Sending) asking stepping offering at ws e ss ≡ offers_sending at ws e ss
 offers-same at [] e ss = refl
 offers-same at (w ∷ ws) e ss = offers-same at ws (answered at w e) (on_last (offer_sending w e) ss)
 

@@ -11,6 +11,7 @@ pub mod Causes
 pub mod Sending
 pub mod Exchange
 pub mod Unread
+pub mod Saying
 -- The turns of a script that is played.
 pub mod Play
 -- What the contracts of private calls are stated with.

@@ -1,6 +1,6 @@
 //! The loop of an engine over a port.
 
-ghost use Rattle.std.specs.Prelude.{◌≡◌, ◌≤◌, ◌⊎◌, ℕ, Some, None, Err, true, false, IfOk, IfErr, IfSome, IsOk, OnOk, OnErr, MatchResult, IsSome, IsTrue, length, option_map};
+ghost use Rattle.std.specs.Prelude.{◌≡◌, ◌≤◌, ◌⊎◌, ℕ, Some, None, Err, List, true, false, IfOk, IfErr, IfSome, IsOk, OnOk, OnErr, MatchResult, IsSome, IsTrue, length, option_map};
 ghost use Rattle.amqp_session.specs.declared.io_fault.IoFault.{IoFault};
 ghost use Rattle.amqp_session.specs.Talk.{start, has_ended, end_of};
 ghost use Rattle.amqp_session.specs.Changes.{next_promise};
@@ -11,6 +11,8 @@ ghost use Rattle.amqp_engine.specs.Engine.{Engine, begin, with_talk};
 ghost use Rattle.amqp_engine.specs.Turn.{asks};
 ghost use Rattle.amqp_engine.specs.Tell.{Applies, TakesTurn, Runs, log_asks};
 ghost use Rattle.amqp_engine.specs.Unread.{IsRead};
+ghost use Rattle.amqp_engine.specs.Sending.{Sending};
+ghost use Rattle.amqp_engine.specs.Saying.{HasSent, GoesOn};
 ghost use Rattle.amqp_engine.specs.Causes.{Brings, BringsOne, brought, fault_of, is_counted};
 ghost use Rattle.amqp_engine.specs.Counts.{Rose};
 ghost use Rattle.amqp_engine.specs.Play.{IsPlayed};
@@ -78,6 +80,8 @@ impl IoLoop {
             → has_ended self.new.talk ≡ false }
         ensures played { IfSome (P.log port.old) (λ log. IsSome log.plan → self.new.starved ≡ None
             → IsPlayed turns self.old self.new log (P.log port.new)) }
+        ensures legal { (ss : List Sending) → HasSent self.old ss
+            → GoesOn ss self.old self.new (P.log port.old) (P.log port.new) }
         ensures read { IsRead self.new }
         ensures faults { P.faults port.old ≤ P.faults port.new }
         ensures io_error_counted { (fault : IoFault) → has_ended self.old.talk ≡ false

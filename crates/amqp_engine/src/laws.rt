@@ -3,13 +3,15 @@
 ghost use Rattle.std.specs.Prelude.{◌≡◌, ℕ, ◌+◌, [], false, true, List, Option, map};
 ghost use Rattle.std.specs.List.{AllByRecursion};
 ghost use Rattle.amqp_session.specs.Talk.{Talk, start, has_ended};
+ghost use Rattle.amqp_session.specs.Legal.{Legal};
 ghost use Rattle.amqp_engine.specs.declared.given.Given.{Given};
 ghost use Rattle.amqp_engine.specs.Log.{Log, loaded};
 ghost use Rattle.amqp_engine.specs.Engine.{Engine, begin};
-ghost use Rattle.amqp_engine.specs.Turn.{Turn, turn, IsTurn, AreTurns};
+ghost use Rattle.amqp_engine.specs.Turn.{Turn, turn, IsTurn, AreTurns, AreTold};
 ghost use Rattle.amqp_engine.specs.Tell.{Runs, PlaysTurns, log_turns};
 ghost use Rattle.amqp_engine.specs.Play.{replayed};
-ghost use Rattle.amqp_engine.specs.Sending.{sendings, link_bytes, SendsInOrder};
+ghost use Rattle.amqp_engine.specs.Sending.{Sending, sendings, frames, frames_sent, link_bytes, SendsInOrder};
+ghost use Rattle.amqp_engine.specs.Saying.{HasSent};
 ghost use Rattle.amqp_engine.specs.Unread.{IsRead};
 
 /// A run that may take no turn, and one of a session that had ended, take no step and write
@@ -50,4 +52,16 @@ pub fn a_link_has_the_frames_sent()
 pub fn nothing_whole_is_left_unread()
     ensures begin { (t : Talk) → IsRead (begin t) }
     ensures turn { (u : Turn) (e : Engine) → IsRead e → IsTurn u e → IsRead (turn u e) }
+{}
+
+/// What is said on each link is a legal conversation: the frames that were sent, and also with those
+/// that were committed and not yet sent, through the turns of an engine that was new, what it was
+/// told and what was taken of it between them.
+pub fn conversations_are_legal()
+    ensures sent { (e : Engine) (ss : List Sending) → HasSent e ss
+        → AllByRecursion (λ (s : Sending). Legal (frames_sent s)) ss }
+    ensures committed { (e : Engine) (ss : List Sending) → HasSent e ss
+        → AllByRecursion (λ (s : Sending). Legal (frames s.committed)) ss }
+    ensures turns { (us : List Turn) → AreTurns us (begin start) → AreTold us
+        → AllByRecursion (λ (s : Sending). Legal (frames_sent s)) (sendings us) }
 {}

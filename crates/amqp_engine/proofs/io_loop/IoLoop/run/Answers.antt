@@ -6,6 +6,7 @@ use Rattle.amqp_engine.specs.Engine.{Engine}
 use Rattle.amqp_session.specs.Answers.{HandsOut}
 use Rattle.amqp_engine.proofs.Playing.{runs-played}
 use Rattle.amqp_engine.proofs.TurnEnds.{runs-bring, not-turns}
+use Rattle.amqp_engine.proofs.GoingOn.{runs-on}
 use Rattle.amqp_engine.proofs.io_loop.IoLoop.run.Goals as goal
 use Rattle.amqp_engine.proofs.io_loop.IoLoop.run.Goals.{in-Some, in-None}
 
@@ -43,3 +44,6 @@ returns-clause-only_out_of_turns g c running is =
           let P : Option (Result (Unit {0}) ErrorKind) → Type 0 = λ o. HandsOut (end_of t) o in
           ap has_ended (sym here) ∙ none-given (end_of t) (subst P w.in-None.is c.end.ensures)
     ]
+
+pub returns-clause-legal : goal.returns-clause-legal
+returns-clause-legal g c ss h = runs-on _ _ _ _ _ ss c.take_turns.ensures.turns h

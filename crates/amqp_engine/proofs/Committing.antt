@@ -1,0 +1,499 @@
+-- What the rules of a session keep of the frames committed on its link, turns keep.
+use Rattle.std.proofs.Common.{◌≡◌, ◌≢◌, ◌≤◌, ◌⊎◌, inl, inr, ℕ, zero, suc, ◌-◌, nat_le, nat_lt, if◌then◌else◌, Bool, true, false, List, [], ◌∷◌, ◌++◌, length, drop, Option, Some, None, is_some, refl, ap, sym, ◌∙◌, subst, append_assoc, arith}
+use Rattle.std.proofs.lemmas.Bool.Decides.{nat_tests}
+use Rattle.std.proofs.lemmas.List.{map-append}
+use Rattle.std.specs.Prelude.{option_to_list}
+use Rattle.std.specs.List.{AllByRecursion}
+use Rattle.amqp_frame.specs.declared.frame.Frame.{Frame}
+use Rattle.amqp_frame.specs.declared.frame.Read.{Read}
+use Rattle.amqp_frame.specs.declared.frame.Read.TheVariants.{Whole, More, TooLarge, BadHeartbeat, Bad, NoMemory as ReadNoMemory}
+use Rattle.amqp_frame.specs.Frames.{encoding}
+use Rattle.amqp_session.specs.declared.lanes.Item.{Item}
+use Rattle.amqp_session.specs.declared.state.Link.{Link}
+use Rattle.amqp_session.specs.declared.state.Link.TheVariants.{Wanted, Asked, Open, Ended}
+use Rattle.amqp_session.specs.declared.command.Cmd.{Cmd}
+use Rattle.amqp_session.specs.declared.io_fault.IoFault.{IoFault}
+use Rattle.amqp_session.specs.declared.io_fault.IoFault.TheVariants.{Aborted, Refused, Reset, BrokenPipe}
+use Rattle.amqp_session.specs.declared.error.ErrorKind.{ErrorKind}
+use Rattle.amqp_session.specs.declared.error.ErrorKind.TheVariants.{IOError}
+use Rattle.amqp_session.specs.declared.misread.Misread.{Misread}
+use Rattle.amqp_session.specs.declared.misread.Misread.TheVariants as misreads
+use Rattle.amqp_session.specs.Talk.{Talk, has_ended, is_open, is_open_link, is_asked, is_asked_link, is_wanted_link, wants_link, end_of_link}
+use Rattle.amqp_session.specs.Changes.{present_at, plain, fail}
+use Rattle.amqp_session.specs.Handshake.{protocol_header}
+use Rattle.amqp_session.specs.Links.{asked, linked, link_failed, piece, misread, lost}
+use Rattle.amqp_session.specs.Frames.{on_frame}
+use Rattle.amqp_session.specs.Commands.{command}
+use Rattle.amqp_session.specs.Answers.{answer_of, take_answer}
+use Rattle.amqp_session.specs.Listed.{without}
+use Rattle.amqp_session.specs.Writing.{frames_waiting, taken, next_item, mark_of, fitting, size_of, head}
+use Rattle.amqp_engine.specs.declared.port.Step.{Step}
+use Rattle.amqp_engine.specs.declared.port.Step.TheVariants.{Linked, LinkFailed, Piece, End, Fault, Room, Tick, Command}
+use Rattle.amqp_engine.specs.declared.port.Wrote.{Wrote}
+use Rattle.amqp_engine.specs.declared.port.Wrote.TheVariants.{Took, Failed, NoMemory}
+use Rattle.amqp_engine.specs.Log.{on_last}
+use Rattle.amqp_engine.specs.Engine.{Engine, with_talk, rule_at, step_engine, step_linked, step_piece, front_of, read_badly, read_row, settle, wrote, took, commit_one, commits, commit_all, fitting_next, can_write}
+use Rattle.amqp_engine.specs.Turn.{Turn, asks, wants_ask, is_piece, answered, read, applied, IsApplied}
+use Rattle.amqp_engine.specs.Sending.{Sending, nothing_sent, frames, offer_sending, offers_sending, step_sending, committed_in, committed_before}
+use Rattle.amqp_engine.specs.Saying.{applied_sending}
+use Rattle.amqp_session.proofs.Cases.{if_case, if-true, if-false, and-true}
+use Rattle.amqp_engine.proofs.Cases.{and-left}
+use Rattle.amqp_engine.proofs.Settling.{settle-talk}
+use Rattle.amqp_session.proofs.Keeping.{LinkKept, present-keeps, starve-ends, keeps-frame, keeps-misread, lost-link, taken-link, stays-command}
+use Rattle.amqp_engine.proofs.Commits.{commit_one-is, with_frame, commits-keep}
+use Rattle.amqp_engine.proofs.Sent.{on_last-append}
+use Rattle.amqp_engine.proofs.Over.{ended-closed}
+use Rattle.amqp_engine.proofs.LinkKept.{asked-open, kept-open}
+use Rattle.amqp_engine.proofs.Sends.{all-front, all-push}
+use Rattle.amqp_engine.proofs.Lifting.{Small, applied_on, offers_on, lift-applied}
+
+-- ---- what is known of a session
+
+-- of the frames committed on its link while it is open, and of the session while a link is wanted
+abbrev pub At : (Talk → Type 0) → (Talk → List Frame → Type 0) → Talk → List Frame → Type 0
+At I P t fs = (is_open t ≡ true → P t fs) × (wants_link t ≡ true → I t)
+
+-- a rule keeps it
+abbrev pub Keeps : (Talk → Type 0) → (Talk → List Frame → Type 0) → (Talk → Talk) → Type 0
+Keeps I P f = (t : Talk) (fs : List Frame) → At I P t fs → At I P (f t) fs
+
+-- L holds of the frames of each link, and T of what is told
+pub record Rules (T : Cmd → Type 0) (L : List Frame → Type 0) (I : Talk → Type 0) (P : Talk → List Frame → Type 0) : Type 0 where
+  pub none : L []
+  pub holds : (t : Talk) (fs : List Frame) → P t fs → L fs
+  -- the header will fit
+  pub room : (t : Talk) → I t → 8 ≤ t.capacity
+  pub linked : (t : Talk) → is_asked t ≡ true → I t → P (linked t) []
+  pub commit : (t : Talk) (fs : List Frame) (item : Item) → next_item t ≡ Some item → P t fs
+      → P (record t { control = drop 1 t.control; committed = t.committed ++ mark_of item ∷ [] }) (fs ++ item.frame ∷ [])
+  pub asked : Keeps I P asked
+  pub moment : (at : ℕ) → Keeps I P (present_at at)
+  pub failed : Keeps I P link_failed
+  pub piece : Keeps I P piece
+  pub lost : (fault : IoFault) → Keeps I P (lost fault)
+  pub misread : (why : Misread) → Keeps I P (misread why)
+  -- once something was committed on the link
+  pub frame : (f : Frame) (place : ℕ) (t : Talk) (g : Frame) (fs : List Frame) → At I P t (g ∷ fs) → At I P (on_frame f place t) (g ∷ fs)
+  pub command : (c : Cmd) → T c → Keeps I P (command c)
+  pub taken : (n : ℕ) → Keeps I P (taken n)
+
+-- ---- links
+
+open-wanted : (l : Link ErrorKind) → is_open_link l ≡ true → is_wanted_link l ≡ true → ⊥
+open-wanted Open h k = cc
+open-wanted Wanted h k = cc
+open-wanted Asked h k = cc
+open-wanted (Ended r) h k = cc
+
+asked-wanted : (l : Link ErrorKind) → is_asked_link l ≡ true → is_wanted_link l ≡ true
+asked-wanted Open h = cc
+asked-wanted Wanted h = refl
+asked-wanted Asked h = refl
+asked-wanted (Ended r) h = cc
+
+-- a rule opens no link
+abbrev pub Opens : (Talk → Talk) → Type 0
+Opens f = (t : Talk) → is_open (f t) ≡ true → is_open t ≡ true
+
+opens-asked : Opens asked
+opens-asked t now = sym (asked-open t.link) ∙ now
+
+opens-moment : (at : ℕ) → Opens (present_at at)
+opens-moment at t now = sym (present-keeps is_open at t (λ n. refl)) ∙ now
+
+opens-failed : Opens link_failed
+opens-failed t now = kept-open t (link_failed t) (if_case (LinkKept t) (is_asked t) (fail (IOError Refused) t) t (inr refl) (inl refl)) now
+
+opens-piece : Opens piece
+opens-piece t now = kept-open t (piece t) (if_case (LinkKept t) (is_open t) (record t { last_read = t.present }) t (inl refl) (inl refl)) now
+
+opens-lost : (fault : IoFault) → Opens (lost fault)
+opens-lost fault t now = kept-open t (lost fault t) (lost-link fault t) now
+
+opens-misread : (why : Misread) → Opens (misread why)
+opens-misread why t now = kept-open t (misread why t) (keeps-misread why t).link now
+
+opens-frame : (f : Frame) (place : ℕ) → Opens (on_frame f place)
+opens-frame f place t now = kept-open t (on_frame f place t) (keeps-frame f place t).link now
+
+pub opens-command : (c : Cmd) → Opens (command c)
+opens-command c t now = kept-open t (command c t) (inl (stays-command c t).link) now
+
+pub opens-answer : (number : ℕ) → Opens (take_answer number)
+opens-answer number t now =
+    kept-open t (take_answer number t) (if_case (LinkKept t) (is_some (answer_of number t)) (record t { promises = without number t.promises }) t (inl refl) (inl refl)) now
+
+opens-taken : (n : ℕ) → Opens (taken n)
+opens-taken n t now = kept-open t (taken n t) (taken-link n t) now
+
+-- ---- lists
+
+all-last : {A : Type 0} (Q : A → Type 0) (xs : List A) (y : A) → AllByRecursion Q (xs ++ y ∷ []) → Q y
+all-last Q [] y h = h.0
+all-last Q (x ∷ xs) y h = all-last Q xs y h.1
+
+append-none : {A : Type 0} (xs : List A) → xs ++ [] ≡ xs
+append-none [] = refl
+append-none (x ∷ xs) = ap (λ ys. x ∷ ys) (append-none xs)
+
+push-some : (fs gs : List Frame) (f : Frame) → gs ≡ f ∷ [] → (fs ++ gs) ≢ []
+push-some [] gs f is none = cc
+push-some (g ∷ fs) gs f is none = cc
+
+append-some : (fs gs : List Frame) → fs ≢ [] → (fs ++ gs) ≢ []
+append-some [] gs h is = h refl
+append-some (f ∷ fs) gs h is = cc
+
+-- ---- what is folded beside the engine
+
+-- what was sent on each link, and the commands that were told, in order
+pub record Story : Type 0 where
+  pub sendings : List Sending
+  pub told : List Cmd
+
+abbrev pub told_by : Step → List Cmd → List Cmd
+told_by (Command c) cs = cs ++ c ∷ []
+told_by _ cs = cs
+
+abbrev pub story_asked : Engine → Story → Story
+story_asked e x = x
+
+abbrev pub story_stepped : ℕ → Step → List ℕ → Engine → Story → Story
+story_stepped at step bytes e x = record { sendings = step_sending step e x.sendings; told = told_by step x.told }
+
+abbrev pub story_offering : ℕ → Wrote → Engine → Story → Story
+story_offering at w e x = record x { sendings = on_last (offer_sending w e) x.sendings }
+
+-- the last link is the one on which these frames were committed
+abbrev pub EndsWith : List Sending → List Frame → Type 0
+EndsWith ss fs = (before : List Sending) × (s : Sending) × (ss ≡ before ++ s ∷ []) × (frames s.committed ≡ fs)
+
+abbrev pub IsSome : Bool → List Frame → Type 0
+IsSome true fs = Unit {0}
+IsSome false fs = fs ≢ []
+
+module _ (T : Cmd → Type 0) (L : List Frame → Type 0) (I : Talk → Type 0) (P : Talk → List Frame → Type 0) (k : Rules T L I P) where
+  abbrev pub Holds : Sending → Type 0
+  Holds s = L (frames s.committed)
+
+  -- what is kept; on a link that has just come nothing may be committed
+  pub record Kept (fresh : Bool) (t : Talk) (ss : List Sending) : Type 0 where
+    pub all : AllByRecursion Holds ss
+    pub committed : List Frame
+    pub now : At I P t committed
+    pub last : is_open t ≡ true → EndsWith ss committed
+    pub some : is_open t ≡ true → IsSome fresh committed
+
+  kept-rule : (b : Bool) (f : Talk → Talk) (t : Talk) (ss : List Sending) → Keeps I P f → Opens f → Kept b t ss → Kept b (f t) ss
+  kept-rule b f t ss keeps opens h =
+      record {
+        all = h.all;
+        committed = h.committed;
+        now = keeps t h.committed h.now;
+        last = λ opened. h.last (opens t opened);
+        some = λ opened. h.some (opens t opened);
+      }
+
+  -- a session that has ended
+  kept-ended : (b : Bool) (t : Talk) (ss : List Sending) → AllByRecursion Holds ss → has_ended t ≡ true → Kept b t ss
+  kept-ended b t ss all ended =
+      let closed : is_open t ≡ false = ended-closed t.link ended in
+      record { all = all; committed = []; now = ((λ o. absurd cc), (λ w. absurd (wanted-ended t.link ended w))); last = λ o. absurd cc; some = λ o. absurd cc }
+    where
+      wanted-ended : (l : Link ErrorKind) → is_some (end_of_link l) ≡ true → is_wanted_link l ≡ true → ⊥
+      wanted-ended Open h w = cc
+      wanted-ended Wanted h w = cc
+      wanted-ended Asked h w = cc
+      wanted-ended (Ended r) h w = cc
+
+  kept-frame : (f : Frame) (place : ℕ) (fs : List Frame) (t : Talk) (ss : List Sending) → (h : Kept false t ss) → h.committed ≡ fs → is_open t ≡ true
+      → Kept false (on_frame f place t) ss
+  kept-frame f place [] t ss h is opened = absurd (h.some opened is)
+  kept-frame f place (g ∷ fs) t ss h is opened =
+      let Q : List Frame → Type 0 = λ x. At I P t x in
+      record {
+        all = h.all;
+        committed = g ∷ fs;
+        now = k.frame f place t g fs (subst Q is h.now);
+        last = λ still. let l = h.last (opens-frame f place t still) in (l.0, l.1, l.2, l.3 ∙ is);
+        some = λ still none. cc;
+      }
+
+  kept-settle : (b : Bool) (e : Engine) (ss : List Sending) → Kept b e.talk ss → Kept b (settle e).talk ss
+  kept-settle b e ss h =
+      let Q : Talk → Type 0 = λ t. Kept b t ss in subst Q (sym (settle-talk e)) h
+
+  kept-moment : (b : Bool) (at : ℕ) (t : Talk) (ss : List Sending) → Kept b t ss → Kept b (present_at at t) ss
+  kept-moment b at t ss h = kept-rule b (present_at at) t ss (k.moment at) (opens-moment at) h
+
+  kept-at : (b : Bool) (at : ℕ) (f : Talk → Talk) (t : Talk) (ss : List Sending) → Keeps I P f → Opens f → Kept b t ss → Kept b (f (present_at at t)) ss
+  kept-at b at f t ss keeps opens h = kept-rule b f (present_at at t) ss keeps opens (kept-moment b at t ss h)
+
+  pub kept-rule-same : (f : Talk → Talk) (t : Talk) (ss : List Sending) → Keeps I P f → ((t : Talk) → is_open (f t) ≡ true → is_open t ≡ true) → Kept false t ss → Kept false (f t) ss
+  kept-rule-same f t ss keeps opens h = kept-rule false f t ss keeps opens h
+
+  pub kept-asks : (e : Engine) (ss : List Sending) → Kept false e.talk ss → Kept false (asks e).talk ss
+  kept-asks e ss h =
+      if_case (λ (x : Engine). Kept false x.talk ss) (wants_ask e) (with_talk asked e) e (kept-rule false asked e.talk ss k.asked opens-asked h) h
+
+  -- ---- the step
+
+  -- a link that has just come, with nothing but the header to be said
+  pub record Fresh (e : Engine) : Type 0 where
+    pub opened : is_open e.talk ≡ true
+    pub control : e.talk.control ≡ plain 0 protocol_header ∷ []
+    pub unsent : e.unsent ≡ []
+    pub room : 8 ≤ e.talk.capacity
+
+  -- nothing is new on the link, or all is
+  abbrev pub Stepped : Engine → List Sending → Type 0
+  Stepped e ss = Kept false e.talk ss ⊎ (Fresh e × Kept true e.talk ss)
+
+  kept-linked : (b : Bool) (at : ℕ) (e : Engine) (ss : List Sending) → is_asked e.talk ≡ b → Kept false e.talk ss
+      → Stepped (step_linked at e) (if b then ss ++ nothing_sent ∷ [] else ss)
+  kept-linked true at e ss h kept =
+      let t = present_at at e.talk in
+      let x : Engine = record { talk = linked t; unread = []; place = 0; unsent = []; starved = e.starved } in
+      let is : step_linked at e ≡ x = if-true (is_asked e.talk) x (rule_at at (λ t. t) e) h in
+      let asked_t : is_asked t ≡ true = present-keeps is_asked at e.talk (λ n. refl) ∙ h in
+      let y : Talk = linked t in
+      let opened : is_open y ≡ true = ap is_open (if-true (is_asked t) _ t asked_t) in
+      let control : y.control ≡ plain 0 protocol_header ∷ [] = ap (λ (z : Talk). z.control) (if-true (is_asked t) _ t asked_t) in
+      let waits : I t = (kept-moment false at e.talk ss kept).now.1 (asked-wanted t.link asked_t) in
+      let said : P y [] = k.linked t asked_t waits in
+      let capacity : y.capacity ≡ t.capacity = ap (λ (z : Talk). z.capacity) (if-true (is_asked t) _ t asked_t) in
+      let room : 8 ≤ y.capacity = (let N : ℕ → Type 0 = λ n. 8 ≤ n in subst N (sym capacity) (k.room t waits)) in
+      let ss' = ss ++ nothing_sent ∷ [] in
+      let Q : Engine → Type 0 = λ z. Stepped z ss' in
+      subst Q (sym is)
+      (inr (
+        record { opened = opened; control = control; unsent = refl; room = room },
+        record {
+          all = all-push Holds ss nothing_sent kept.all k.none;
+          committed = [];
+          now = ((λ o. said), (λ w. absurd (open-wanted y.link opened w)));
+          last = λ o. (ss, nothing_sent, refl, refl);
+          some = λ o. tt;
+        },
+      ))
+  kept-linked false at e ss h kept =
+      let x : Engine = record { talk = linked (present_at at e.talk); unread = []; place = 0; unsent = []; starved = e.starved } in
+      let is : step_linked at e ≡ rule_at at (λ t. t) e = if-false (is_asked e.talk) x (rule_at at (λ t. t) e) h in
+      let Q : Engine → Type 0 = λ z. Stepped z ss in
+      subst Q (sym is) (inl (kept-moment false at e.talk ss kept))
+
+  -- what is told may be told
+  abbrev pub Tells : Step → Type 0
+  Tells (Command c) = T c
+  Tells _ = Unit {0}
+
+  kept-step : (at : ℕ) (step : Step) (bytes : List ℕ) (e : Engine) (ss : List Sending) → is_piece step ≡ false → Tells step → Kept false e.talk ss
+      → Stepped (step_engine at step bytes e) (step_sending step e ss)
+  kept-step at Linked bytes e ss other told h = kept-linked (is_asked e.talk) at e ss refl h
+  kept-step at LinkFailed bytes e ss other told h = inl (kept-settle false _ ss (kept-at false at link_failed e.talk ss k.failed opens-failed h))
+  kept-step at End bytes e ss other told h = inl (kept-settle false _ ss (kept-at false at (lost Aborted) e.talk ss (k.lost Aborted) (opens-lost Aborted) h))
+  kept-step at Fault bytes e ss other told h = inl (kept-settle false _ ss (kept-at false at (lost Reset) e.talk ss (k.lost Reset) (opens-lost Reset) h))
+  kept-step at (Piece n) bytes e ss other told h = absurd cc
+  kept-step at Room bytes e ss other told h = inl (kept-moment false at e.talk ss h)
+  kept-step at Tick bytes e ss other told h = inl (kept-moment false at e.talk ss h)
+  kept-step at (Command c) bytes e ss other told h = inl (kept-at false at (command c) e.talk ss (k.command c told) (opens-command c) h)
+
+  -- ---- reading
+
+  kept-piece : (at : ℕ) (bytes : List ℕ) (e : Engine) (ss : List Sending) → Kept false e.talk ss → Kept false (step_piece at bytes e).talk ss
+  kept-piece at bytes e ss h =
+      let x : Engine = record e { talk = piece (present_at at e.talk); unread = e.unread ++ bytes } in
+      if_case (λ (y : Engine). Kept false y.talk ss) (is_open e.talk) (settle x) (rule_at at (λ t. t) e)
+      (kept-settle false x ss (kept-at false at piece e.talk ss k.piece opens-piece h)) (kept-moment false at e.talk ss h)
+
+  kept-misread : (at : ℕ) (why : Misread) (e : Engine) (ss : List Sending) → Kept false e.talk ss → Kept false (read_badly at why e).talk ss
+  kept-misread at why e ss h = kept-settle false _ ss (kept-at false at (misread why) e.talk ss (k.misread why) (opens-misread why) h)
+
+  kept-row : (at : ℕ) (r : Read) (e : Engine) (ss : List Sending) → Kept false e.talk ss → is_open e.talk ≡ true → Kept false (read_row at r e).talk ss
+  kept-row at (Whole f n) e ss h opened =
+      let t = present_at at e.talk in
+      let m = kept-moment false at e.talk ss h in
+      kept-settle false _ ss (kept-frame f e.place m.committed t ss m refl (present-keeps is_open at e.talk (λ n. refl) ∙ opened))
+  kept-row at More e ss h opened = h
+  kept-row at (TooLarge n) e ss h opened = kept-misread at (misreads.TooLarge n) e ss h
+  kept-row at (BadHeartbeat c) e ss h opened = kept-misread at (misreads.BadHeartbeat c) e ss h
+  kept-row at Bad e ss h opened = kept-misread at (misreads.Bad e.place) e ss h
+  kept-row at ReadNoMemory e ss h opened = kept-misread at (misreads.Bad e.place) e ss h
+
+  -- ---- writing
+
+  fit : (b : Bool) (i item : Item) → (if b then Some i else None) ≡ Some item → Some i ≡ Some item
+  fit true i item h = h
+  fit false i item h = cc
+
+  fitting-some : (space : ℕ) (o : Option Item) (item : Item) → fitting space o ≡ Some item → o ≡ Some item
+  fitting-some space None item h = cc
+  fitting-some space (Some i) item h = fit (nat_le (size_of i) space) i item h
+
+  commit-at : (o : Option Item) (e : Engine) (fs : List Frame) → fitting_next e ≡ o → P e.talk fs → P (with_frame o e).talk (fs ++ frames (option_to_list o))
+  commit-at None e fs h p =
+      let Q : List Frame → Type 0 = λ x. P e.talk x in subst Q (sym (append-none fs)) p
+  commit-at (Some item) e fs h p = k.commit e.talk fs item (fitting-some (e.talk.capacity - length e.unsent) (next_item e.talk) item h) p
+
+  commits-at : (n : ℕ) (e : Engine) (fs : List Frame) → P e.talk fs → P (commits n e).talk (fs ++ frames (committed_in n e))
+  commits-at zero e fs p =
+      let Q : List Frame → Type 0 = λ x. P e.talk x in subst Q (sym (append-none fs)) p
+  commits-at (suc n) e fs p =
+      let first : List Item = option_to_list (fitting_next e) in
+      let rest : List Item = committed_in n (commit_one e) in
+      let Q : Engine → Type 0 = λ x. P x.talk (fs ++ frames first) in
+      let one : P (commit_one e).talk (fs ++ frames first) = subst Q (sym (commit_one-is e)) (commit-at (fitting_next e) e fs refl p) in
+      let R : List Frame → Type 0 = λ x. P (commits n (commit_one e)).talk x in
+      let same : (fs ++ frames first) ++ frames rest ≡ fs ++ frames (first ++ rest) =
+      append_assoc fs (frames first) (frames rest) ∙ ap (λ gs. fs ++ gs) (sym (map-append (λ (item : Item). item.frame) first rest)) in
+      subst R same (commits-at n (commit_one e) (fs ++ frames first) one)
+
+  commits-open : (e : Engine) → is_open (commit_all e).talk ≡ is_open e.talk
+  commits-open e = commits-keep (λ (y : Engine). is_open y.talk) (λ y fs ms bytes. refl) (frames_waiting e.talk) e
+
+  kept-commits : (b : Bool) (at : ℕ) (w : Wrote) (e : Engine) (ss : List Sending) (h : Kept b e.talk ss) → is_open e.talk ≡ true → (h.committed ++ frames (committed_before e)) ≢ []
+      → Kept false (commit_all e).talk (on_last (offer_sending w e) ss)
+  kept-commits b at w e ss h opened some =
+      let l = h.last opened in
+      let x = commit_all e in
+      let s' = offer_sending w e l.1 in
+      let fs : List Frame = h.committed ++ frames (committed_before e) in
+      let said : P x.talk fs = commits-at (frames_waiting e.talk) e h.committed (h.now.0 opened) in
+      let is : frames s'.committed ≡ fs =
+      map-append (λ (item : Item). item.frame) l.1.committed (committed_before e) ∙ ap (λ gs. gs ++ frames (committed_before e)) l.3 in
+      let same : on_last (offer_sending w e) ss ≡ l.0 ++ s' ∷ [] = ap (on_last (offer_sending w e)) l.2 ∙ on_last-append (offer_sending w e) l.0 l.1 in
+      let A : List Sending → Type 0 = λ y. AllByRecursion Holds y in
+      let front : AllByRecursion Holds l.0 = all-front Holds l.0 (l.1 ∷ []) (subst A l.2 h.all) in
+      let legal : L (frames s'.committed) = subst L (sym is) (k.holds x.talk fs said) in
+      record {
+        all = subst A (sym same) (all-push Holds l.0 s' front legal);
+        committed = fs;
+        now = ((λ o. said), (λ w. absurd (open-wanted x.talk.link (commits-open e ∙ opened) w)));
+        last = λ o. (l.0, s', same, is);
+        some = λ o. some;
+      }
+
+  kept-took : (at n : ℕ) (e : Engine) (ss : List Sending) → Kept false e.talk ss → Kept false (took at n e).talk ss
+  kept-took at n e ss h = kept-settle false _ ss (kept-at false at (taken n) e.talk ss (k.taken n) (opens-taken n) h)
+
+  kept-wrote : (at : ℕ) (w : Wrote) (e : Engine) (ss : List Sending) → Kept false e.talk ss → Kept false (wrote at w e).talk ss
+  kept-wrote at (Took n) e ss h = kept-took at n e ss h
+  kept-wrote at Failed e ss h = kept-settle false _ ss (kept-at false at (lost BrokenPipe) e.talk ss (k.lost BrokenPipe) (opens-lost BrokenPipe) h)
+  kept-wrote at NoMemory e ss h = kept-took at 0 e ss h
+
+  -- ---- the first offer on a link
+
+  header-fits : (space : ℕ) → 8 ≤ space → fitting space (Some (plain 0 protocol_header)) ≡ Some (plain 0 protocol_header)
+  header-fits space h =
+      let fits : nat_le 8 space ≡ true = grind (arith, nat_tests) in
+      ap (λ b. if b then Some (plain 0 protocol_header) else None) fits
+
+  fresh-fits : (e : Engine) → Fresh e → fitting_next e ≡ Some (plain 0 protocol_header)
+  fresh-fits e h =
+      let space : ℕ = e.talk.capacity - length e.unsent in
+      let none : length e.unsent ≡ 0 = ap length h.unsent in
+      ap (λ b. fitting space (if b then head e.talk.control else None)) h.opened
+      ∙ ap (λ c. fitting space (head c)) h.control
+      ∙ header-fits space (omega (arith, none, h.room))
+
+  fresh-commits : (e : Engine) → Fresh e → committed_before e ≡ plain 0 protocol_header ∷ []
+  fresh-commits e h = ap (λ n. committed_in n e) (ap length h.control) ∙ ap (λ o. option_to_list o ++ []) (fresh-fits e h)
+
+  fresh-unsent : (e : Engine) → Fresh e → (commit_all e).unsent ≡ encoding protocol_header
+  fresh-unsent e h =
+      ap (λ n. (commits n e).unsent) (ap length h.control) ∙ ap (λ (x : Engine). x.unsent) (commit_one-is e)
+      ∙ ap (λ o. (with_frame o e).unsent) (fresh-fits e h) ∙ ap (λ bytes. bytes ++ encoding protocol_header) h.unsent
+
+  fresh-writes : (e : Engine) → Fresh e → can_write e ≡ true
+  fresh-writes e h = and-true (is_open e.talk) _ h.opened (ap (λ bytes. nat_lt 0 (length bytes)) (fresh-unsent e h))
+
+  kept-offer : (at : ℕ) (w : Wrote) (e : Engine) (ss : List Sending) → can_write e ≡ true → Stepped e ss → Kept false (answered at w e).talk (on_last (offer_sending w e) ss)
+  kept-offer at w e ss can (inl h) =
+      let opened : is_open e.talk ≡ true = and-left (is_open e.talk) _ can in
+      kept-wrote at w (commit_all e) _ (kept-commits false at w e ss h opened (append-some h.committed (frames (committed_before e)) (h.some opened)))
+  kept-offer at w e ss can (inr h) =
+      kept-wrote at w (commit_all e) _ (kept-commits true at w e ss h.1 h.0.opened (push-some h.1.committed (frames (committed_before e)) protocol_header (ap frames (fresh-commits e h.0))))
+
+  -- ---- a turn
+
+  -- what is known of an engine and its story, where all that was told might be told
+  abbrev pub Known : Engine → Story → Type 0
+  Known e x = AllByRecursion T x.told → Kept false e.talk x.sendings
+
+  abbrev Written : Bool → Engine → Story → Type 0
+  Written b e x = AllByRecursion T x.told → Stepped e x.sendings
+
+  told-front : (step : Step) (cs : List Cmd) → AllByRecursion T (told_by step cs) → AllByRecursion T cs × Tells step
+  told-front (Command c) cs h = (all-front T cs (c ∷ []) h, all-last T cs c h)
+  told-front Linked cs h = (h, tt)
+  told-front LinkFailed cs h = (h, tt)
+  told-front (Piece n) cs h = (h, tt)
+  told-front End cs h = (h, tt)
+  told-front Fault cs h = (h, tt)
+  told-front Room cs h = (h, tt)
+  told-front Tick cs h = (h, tt)
+
+  sending-all : (step : Step) (e : Engine) (ss : List Sending) → AllByRecursion Holds ss → AllByRecursion Holds (step_sending step e ss)
+  sending-all Linked e ss h = if_case (AllByRecursion Holds) (is_asked e.talk) (ss ++ nothing_sent ∷ []) ss (all-push Holds ss nothing_sent h k.none) h
+  sending-all LinkFailed e ss h = h
+  sending-all (Piece n) e ss h = h
+  sending-all End e ss h = h
+  sending-all Fault e ss h = h
+  sending-all Room e ss h = h
+  sending-all Tick e ss h = h
+  sending-all (Command c) e ss h = h
+
+  stepped-all : (e : Engine) (ss : List Sending) → Stepped e ss → AllByRecursion Holds ss
+  stepped-all e ss (inl h) = h.all
+  stepped-all e ss (inr h) = h.1.all
+
+  rest-of : (e : Engine) (ss : List Sending) → can_write e ≡ false → Stepped e ss → Kept false e.talk ss
+  rest-of e ss can (inl h) = h
+  rest-of e ss can (inr h) = (let may : can_write e ≡ true = fresh-writes e h.0 in absurd cc)
+
+  kept-small : Small Story story_asked story_stepped story_offering Known Written Known
+  kept-small =
+      record {
+        asked = λ e x h told. kept-asks e x.sendings (h told);
+        step = λ at step bytes e x other running h b told.
+            (let before = told-front step x.told told in
+            kept-step at step bytes e x.sendings other before.1 (h before.0));
+        piece = λ at n bytes e x running h told. kept-piece at bytes e x.sendings (h told);
+        read = λ at e x can h told. kept-row at (front_of e) e x.sendings (h told) (and-left (is_open e.talk) _ can);
+        heard = λ b e x none h told. inl (h told);
+        offer = λ at w e x can fits h told. kept-offer at w e x.sendings can (h told);
+        rest = λ e x can h told. rest-of e x.sendings can (h told);
+        less = λ b e x h told. inl (h told);
+        starve = λ b at j e x h told. kept-ended false _ x.sendings (stepped-all e x.sendings (h told)) (starve-ends (present_at at e.talk));
+        cut = λ at step bytes e x running is h told.
+            (let before = told-front step x.told told in
+            kept-ended false _ _ (sending-all step e x.sendings (h before.0).all) (starve-ends (present_at at e.talk)));
+      }
+
+  -- ---- the story of a turn
+
+  offers-story : (at : ℕ) (ws : List Wrote) (e : Engine) (x : Story)
+      → offers_on Story story_asked story_stepped story_offering at ws e x ≡ record x { sendings = offers_sending at ws e x.sendings }
+  offers-story at [] e x = refl
+  offers-story at (w ∷ ws) e x = offers-story at ws (answered at w e) (story_offering at w e x)
+
+  one-told : (step : Step) → Tells step → AllByRecursion T (told_by step [])
+  one-told (Command c) h = (h, tt)
+  one-told Linked h = tt
+  one-told LinkFailed h = tt
+  one-told (Piece n) h = tt
+  one-told End h = tt
+  one-told Fault h = tt
+  one-told Room h = tt
+  one-told Tick h = tt
+
+  -- the same is kept from a step on that might be told
+  pub kept-applied : (u : Turn) (e : Engine) (ss : List Sending) → has_ended e.talk ≡ false → IsApplied u e → Tells u.step → Kept false e.talk ss
+      → Kept false (applied u e).talk (applied_sending u e ss)
+  kept-applied u e ss running may told h =
+      let x : Story = record { sendings = ss; told = [] } in
+      let y : Story = applied_on Story story_asked story_stepped story_offering u e x in
+      let known : Known (applied u e) y = lift-applied Story story_asked story_stepped story_offering Known Written Known kept-small u e x running may (λ none. h) in
+      let is = offers-story u.at u.notes.answers (read u e).engine (story_stepped u.at u.step u.bytes e x) in
+      let Q : Story → Type 0 = λ z. AllByRecursion T z.told → Kept false (applied u e).talk z.sendings in
+      (subst Q is known) (one-told u.step told)

@@ -1,0 +1,129 @@
+-- What an engine says on each link is a legal conversation.
+use Rattle.std.proofs.Common.{◌≡◌, ℕ, zero, suc, true, false, List, [], ◌∷◌, map, take, Option, Some, None, is_some, refl, ap, sym, subst}
+use Rattle.std.specs.List.{AllByRecursion}
+use Rattle.amqp_frame.specs.declared.frame.Frame.{Frame}
+use Rattle.amqp_session.specs.declared.lanes.Item.{Item}
+use Rattle.amqp_session.specs.declared.command.Cmd.{Cmd}
+use Rattle.amqp_session.specs.declared.command.Cmd.TheVariants.{OpenChannel, CloseChannel, CloseConnection, Send}
+use Rattle.amqp_session.specs.Commands.{command}
+use Rattle.amqp_session.specs.Answers.{take_answer, take_frames}
+use Rattle.amqp_session.specs.Legal.{Legal}
+use Rattle.amqp_session.specs.Decider.{Speech, greeted, say, say_all, is_amqp_header, is_legal}
+use Rattle.amqp_session.proofs.Cases.{and-true}
+use Rattle.amqp_session.proofs.Ties.{IsTied, IsSilent, IsSendable}
+use Rattle.amqp_session.proofs.TakenIsLegal.{sound}
+use Rattle.amqp_session.proofs.Conversing.{now-moment, now-asked, now-failed, now-piece, now-lost, now-misread, now-frame, now-command, now-taken, now-answer, now-frames, committed-legal, start-silent, silent-room, tied-linked, tied-commit}
+use Rattle.amqp_engine.specs.declared.port.Step.{Step}
+use Rattle.amqp_engine.specs.declared.port.Step.TheVariants.{Linked, LinkFailed, Piece, End, Fault, Room, Tick, Command}
+use Rattle.amqp_engine.specs.Engine.{Engine}
+use Rattle.amqp_engine.specs.Turn.{Turn, IsToldCommand, IsTold, AreTold, IsTurn, AreTurns, turn, turns}
+use Rattle.amqp_engine.specs.Sending.{Sending, sendings_from, frames, frames_sent, turn_sending}
+use Rattle.amqp_engine.specs.Saying.{HasSent, new, asked, applies, told, answer_taken, frames_taken}
+use Rattle.amqp_engine.proofs.Over.{asks-running}
+use Rattle.amqp_engine.proofs.Cases.{and-left, and-right}
+use Rattle.amqp_engine.proofs.Committing.{Rules, Kept, kept-applied, kept-asks, kept-rule-same, Tells, opens-command, opens-answer}
+
+-- what the decider takes
+abbrev pub Taken : List Frame → Type 0
+Taken frames = is_legal frames ≡ true
+
+pub rules : Rules IsSendable Taken IsSilent IsTied
+rules =
+    record {
+      none = refl;
+      holds = committed-legal;
+      room = silent-room;
+      linked = tied-linked;
+      commit = tied-commit;
+      asked = now-asked;
+      moment = now-moment;
+      failed = now-failed;
+      piece = now-piece;
+      lost = now-lost;
+      misread = now-misread;
+      frame = now-frame;
+      command = λ c may t fs. now-command c t fs may;
+      taken = now-taken;
+    }
+
+abbrev pub Saying : Engine → List Sending → Type 0
+Saying e ss = Kept IsSendable Taken IsSilent IsTied rules false e.talk ss
+
+sendable : (c : Cmd) → IsToldCommand c → IsSendable c
+sendable (Send channel method) h = (h.0, h.1, h.2)
+sendable OpenChannel h = tt
+sendable (CloseChannel channel code text) h = tt
+sendable (CloseConnection code text) h = tt
+
+tells : (step : Step) → IsTold step → Tells IsSendable Taken IsSilent IsTied rules step
+tells (Command c) h = sendable c h
+tells Linked h = tt
+tells LinkFailed h = tt
+tells (Piece n) h = tt
+tells End h = tt
+tells Fault h = tt
+tells Room h = tt
+tells Tick h = tt
+
+-- what is known of an engine that was new
+pub saying : (e : Engine) (ss : List Sending) → HasSent e ss → Saying e ss
+saying e ss new = record { all = tt; committed = []; now = ((λ o. absurd cc), (λ w. start-silent)); last = λ o. absurd cc; some = λ o. absurd cc }
+saying e ss (asked {e = e'} h) = kept-asks IsSendable Taken IsSilent IsTied rules e' ss (saying e' ss h)
+saying e ss (applies {e = e'} {ss = ss'} u running may told_step h) =
+    kept-applied IsSendable Taken IsSilent IsTied rules u e' ss' running may (tells u.step told_step) (saying e' ss' h)
+saying e ss (told {e = e'} c may h) =
+    kept-rule-same IsSendable Taken IsSilent IsTied rules (command c) e'.talk ss (λ t fs. now-command c t fs (sendable c may)) (opens-command c) (saying e' ss h)
+saying e ss (answer_taken {e = e'} number h) =
+    kept-rule-same IsSendable Taken IsSilent IsTied rules (take_answer number) e'.talk ss (now-answer number) (opens-answer number) (saying e' ss h)
+saying e ss (frames_taken {e = e'} opened h) =
+    kept-rule-same IsSendable Taken IsSilent IsTied rules (take_frames opened) e'.talk ss (now-frames opened) (λ t o. o) (saying e' ss h)
+
+-- ---- what was sent is the front of what was committed
+
+none-none : (fs : List Frame) → is_some (say_all None fs) ≡ true → ⊥
+none-none [] h = cc
+none-none (f ∷ fs) h = cc
+
+front : (o : Option Speech) (n : ℕ) (fs : List Frame) → is_some (say_all o fs) ≡ true → is_some (say_all o (take n fs)) ≡ true
+front None n fs h = absurd (none-none fs h)
+front (Some s) zero fs h = refl
+front (Some s) (suc n) [] h = refl
+front (Some s) (suc n) (f ∷ fs) h = front (say f s) n fs h
+
+fronts : (n : ℕ) (fs : List Frame) → is_legal fs ≡ true → is_legal (take n fs) ≡ true
+fronts zero fs h = refl
+fronts (suc n) [] h = refl
+fronts (suc n) (f ∷ fs) h =
+    and-true (is_amqp_header f) (is_some (say_all (Some greeted) (take n fs))) (and-left (is_amqp_header f) (is_some (say_all (Some greeted) fs)) h)
+    (front (Some greeted) n fs (and-right (is_amqp_header f) (is_some (say_all (Some greeted) fs)) h))
+
+all-map : (P Q : Sending → Type 0) (ss : List Sending) → ((s : Sending) → P s → Q s) → AllByRecursion P ss → AllByRecursion Q ss
+all-map P Q [] f h = tt
+all-map P Q (s ∷ ss) f h = (f s h.0, all-map P Q ss f h.1)
+
+take-map : {A B : Type 0} (f : A → B) (n : ℕ) (xs : List A) → map f (take n xs) ≡ take n (map f xs)
+take-map f zero xs = refl
+take-map f (suc n) [] = refl
+take-map f (suc n) (x ∷ xs) = ap (λ ys. f x ∷ ys) (take-map f n xs)
+
+pub committed_legal : (e : Engine) (ss : List Sending) → HasSent e ss → AllByRecursion (λ (s : Sending). Legal (frames s.committed)) ss
+committed_legal e ss h =
+    all-map (λ (s : Sending). Taken (frames s.committed)) (λ (s : Sending). Legal (frames s.committed)) ss (λ s k. sound (frames s.committed) k) (saying e ss h).all
+
+pub sent_legal : (e : Engine) (ss : List Sending) → HasSent e ss → AllByRecursion (λ (s : Sending). Legal (frames_sent s)) ss
+sent_legal e ss h =
+    all-map (λ (s : Sending). Taken (frames s.committed)) (λ (s : Sending). Legal (frames_sent s)) ss
+    (λ s k.
+    let Q : List Frame → Type 0 = λ fs. Taken fs in
+    sound (frames_sent s) (subst Q (sym (take-map (λ (item : Item). item.frame) s.sent s.committed)) (fronts s.sent (frames s.committed) k)))
+    (saying e ss h).all
+
+-- ---- turns
+
+pub turn-sent : (u : Turn) (e : Engine) (ss : List Sending) → IsTurn u e → IsTold u.step → HasSent e ss → HasSent (turn u e) (turn_sending u e ss)
+turn-sent u e ss may told_step h = applies u (asks-running e may.running) may.applied told_step (asked h)
+
+pub turns-sent : (us : List Turn) (e : Engine) (ss : List Sending) → AreTurns us e → AreTold us → HasSent e ss → HasSent (turns us e) (sendings_from us e ss)
+turns-sent [] e ss may told_steps h = h
+turns-sent (u ∷ us) e ss may told_steps h =
+    turns-sent us (turn u e) (turn_sending u e ss) may.1 told_steps.1 (turn-sent u e ss may.0 told_steps.0 h)

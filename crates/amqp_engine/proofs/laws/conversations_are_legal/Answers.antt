@@ -1,0 +1,17 @@
+use Rattle.amqp_session.specs.Talk.{start}
+use Rattle.std.proofs.Common.{[]}
+use Rattle.amqp_engine.specs.Engine.{begin}
+use Rattle.amqp_engine.specs.Turn.{turns}
+use Rattle.amqp_engine.specs.Sending.{sendings}
+use Rattle.amqp_engine.specs.Saying.{new}
+use Rattle.amqp_engine.proofs.LegalLinks.{sent_legal, committed_legal, turns-sent}
+use Rattle.amqp_engine.proofs.laws.conversations_are_legal.Goals as goal
+
+pub returns-clause-sent : goal.returns-clause-sent
+returns-clause-sent c = sent_legal
+
+pub returns-clause-committed : goal.returns-clause-committed
+returns-clause-committed c = committed_legal
+
+pub returns-clause-turns : goal.returns-clause-turns
+returns-clause-turns c us may told = sent_legal (turns us (begin start)) (sendings us) (turns-sent us (begin start) [] may told new)

@@ -1,0 +1,55 @@
+-- What an engine has said on its links since it was new.
+use Rattle.std.specs.Prelude.{◌≡◌, ℕ, false, List, [], map, Option, IfSome}
+use Rattle.std.specs.List.{AllByRecursion}
+use Rattle.amqp_session.specs.declared.command.Cmd.{Cmd}
+use Rattle.amqp_session.specs.Talk.{start, is_asked, has_ended}
+use Rattle.amqp_session.specs.Commands.{command}
+use Rattle.amqp_session.specs.Answers.{take_answer, take_frames}
+use Rattle.amqp_session.specs.Legal.{Legal}
+use Rattle.amqp_engine.specs.Log.{Log}
+use Rattle.amqp_engine.specs.Engine.{Engine, begin, with_talk}
+use Rattle.amqp_engine.specs.Turn.{Turn, IsToldCommand, IsTold, asks, read, applied, IsApplied}
+use Rattle.amqp_engine.specs.Sending.{Sending, frames_sent, link_bytes, step_sending, offers_sending, SendsInOrder}
+
+-- what was sent, once a turn was taken from its step on
+abbrev pub applied_sending : Turn → Engine → List Sending → List Sending
+applied_sending u e ss = offers_sending u.at u.notes.answers (read u e).engine (step_sending u.step e ss)
+
+-- an engine that was new has sent this on its links, one after another: through its turns, and through what it was told
+-- and what was taken of it between them
+pub data HasSent : Engine → List Sending → Type 0 where
+  new : HasSent (begin start) []
+  -- a link was asked for where one was wanted, as a turn begins
+  asked : {e : Engine} {ss : List Sending} → HasSent e ss → HasSent (asks e) ss
+  -- the rest of a turn
+  applies : {e : Engine} {ss : List Sending} (u : Turn) → has_ended e.talk ≡ false → IsApplied u e → IsTold u.step
+      → HasSent e ss → HasSent (applied u e) (applied_sending u e ss)
+  told : {e : Engine} {ss : List Sending} (c : Cmd) → IsToldCommand c → HasSent e ss
+      → HasSent (with_talk (command c) e) ss
+  answer_taken : {e : Engine} {ss : List Sending} (number : ℕ) → HasSent e ss
+      → HasSent (with_talk (take_answer number) e) ss
+  frames_taken : {e : Engine} {ss : List Sending} (opened : ℕ) → HasSent e ss
+      → HasSent (with_talk (take_frames opened) e) ss
+
+-- ---- what a run says
+
+-- the bytes of links: on each those of the frames of a legal conversation, in order, and then of a part of one more
+pub record SpellLegal (links : List (List ℕ)) : Type 0 where
+  pub sendings : List Sending
+  pub bytes : links ≡ map link_bytes sendings
+  pub order : AllByRecursion SendsInOrder sendings
+  pub legal : AllByRecursion (λ (s : Sending). Legal (frames_sent s)) sendings
+
+-- a port tells of the links of an engine, and whether one is asked for
+pub record TellsLinks (e : Engine) (ss : List Sending) (log : Log) : Type 0 where
+  pub links : log.links ≡ map link_bytes ss
+  pub asked : has_ended e.talk ≡ false → log.asked ≡ is_asked e.talk
+
+-- an engine that had sent so much went on: what it has sent now is in order and legal on each link; and a
+-- port that told of its links before tells of them after
+pub record GoesOn (ss : List Sending) (e e' : Engine) (log log' : Option Log) : Type 0 where
+  pub now : List Sending
+  pub sent : HasSent e' now
+  pub order : AllByRecursion SendsInOrder now
+  pub legal : AllByRecursion (λ (s : Sending). Legal (frames_sent s)) now
+  pub tells : IfSome log (λ a. TellsLinks e ss a → IfSome log' (λ b. TellsLinks e' now b))
