@@ -88,6 +88,13 @@ impl MemoryPort {
         port.load(steps)?;
         Ok(port)
     }
+
+    /// How many steps were told since a script was loaded, a number that stays at its greatest.
+    pub fn told(&self) -> u64
+        ensures { result ≡ self.now.log.told }
+    {
+        self.told
+    }
 }
 
 impl Port for MemoryPort {

@@ -11,6 +11,7 @@ pub mod Pieces
 -- What follows the most that is read says nothing (`top`: `outcome`).
 pub mod MostRead
 -- The lines of a report (`report`).
+pub mod Entries
 pub mod Reports
 pub mod FrameLines
 -- What was read and what was written (`transfer`).

@@ -1,7 +1,7 @@
 -- A replay, from the contracts of the port and the engine.
 use Rattle.std.proofs.Common.{◌≡◌, ℕ, List, false, Option, Some, None, is_some, IfSome, length, ap, sym, subst, refl}
 use Rattle.std.specs.Prelude.{IsSome}
-use Rattle.amqp_session.specs.Talk.{Talk}
+use Rattle.amqp_session.specs.Talk.{Talk, start}
 use Rattle.amqp_engine.specs.declared.given.Given.{Given}
 use Rattle.amqp_engine.specs.Log.{Log, loaded}
 use Rattle.amqp_engine.specs.Engine.{Engine, begin}
@@ -25,13 +25,13 @@ ties_at log a links h ties =
     subst P h ties
 
 pub IsReplayed-run : (gs : List Given) (n : ℕ) (e e' : Engine) (before after : Option Log) (links : List (List ℕ))
-    → n ≡ length gs → e ≡ begin → before ≡ Some (loaded gs) → Plays n e e' before after → e'.starved ≡ None
+    → n ≡ length gs → e ≡ begin start → before ≡ Some (loaded gs) → Plays n e e' before after → e'.starved ≡ None
     → IfSome after (λ a. a.links ≡ links) → IsReplayed gs e'.talk after links
 IsReplayed-run gs n e e' before after links count new loads plays whole ties =
     let A : ℕ → Type 0 = λ x. Plays x e e' before after in
     let B : Engine → Type 0 = λ x. Plays (length gs) x e' before after in
-    let C : Option Log → Type 0 = λ x. Plays (length gs) begin e' x after in
-    let played : IsPlayed (length gs) begin e' (loaded gs) after = subst C loads (subst B new (subst A count plays)) refl whole in
+    let C : Option Log → Type 0 = λ x. Plays (length gs) (begin start) e' x after in
+    let played : IsPlayed (length gs) (begin start) e' (loaded gs) after = subst C loads (subst B new (subst A count plays)) refl whole in
     record {
       talk_is = sym (ap (λ (x : Engine). x.talk) played.engine);
       links_are = sym (ties_at after (replayed_log gs) links played.told ties);

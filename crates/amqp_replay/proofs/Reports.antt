@@ -1,17 +1,16 @@
 -- The lines of a report, one by one.
-use Rattle.std.proofs.Common.{◌≡◌, ◌≤◌, ◌<◌, ◌+◌, ◌-◌, ℕ, zero, suc, Bool, true, false, if◌then◌else◌, is_some, IsTrue, List, [], ◌∷◌, ◌++◌, length, drop, slice_get, slice_set, Option, Some, Result, Err, inl, inr, refl, ap, sym, ◌∙◌, append_assoc, arith, get_or, add-one}
+use Rattle.std.proofs.Common.{◌≡◌, ◌≤◌, ◌<◌, ◌+◌, ◌-◌, ℕ, zero, suc, Bool, true, false, if◌then◌else◌, is_some, IsTrue, List, [], ◌∷◌, ◌++◌, length, drop, slice_get, Option, Some, Result, Err, inl, inr, refl, ap, sym, ◌∙◌, append_assoc, arith, get_or, add-one}
 use Rattle.std.proofs.Math.Seq.{drop-cons}
 use Rattle.std.proofs.lemmas.Option.{slice_get_within, get_or_from_slice_get}
 use Rattle.std.specs.List.{flat_map, enumerate_from, range_with_len}
-use Rattle.amqp_session.specs.declared.promises.Slot.{Slot}
-use Rattle.amqp_session.specs.declared.promises.Slot.TheVariants.{Taken}
 use Rattle.amqp_session.specs.declared.command.Answer.{Answer}
 use Rattle.amqp_session.specs.declared.error.ErrorKind.{ErrorKind}
 use Rattle.amqp_session.specs.declared.error.ErrorKind.TheVariants.{NoMemory}
+use Rattle.amqp_session.specs.Listed.{without}
 use Rattle.amqp_session.specs.Talk.{Talk, end_of}
 use Rattle.amqp_session.specs.Answers.{answer_in, answer_of, take_answer, Takes}
-use Rattle.amqp_session.specs.Channels.{frames_of}
 use Rattle.amqp_replay.specs.Report.{link_line, link_lines, answer_line, answer_lines, frame_line, frame_lines, end_line, report}
+use Rattle.amqp_replay.proofs.Entries.{at-without}
 
 -- ---- lists, one by one
 
@@ -72,34 +71,19 @@ pub Takes-told : (number : ℕ) (given : Option (Result Answer ErrorKind)) (befo
 Takes-told number given before after told (inl takes) = takes
 Takes-told number given before after told (inr refused) = absurd (told refused.1)
 
-get-set_other : (slots : List Slot) (n k : ℕ) (slot : Slot) → n < k → slice_get (slice_set slots n slot) k ≡ slice_get slots k
-get-set_other [] n k slot h = refl
-get-set_other (x ∷ slots) zero zero slot h = absurd (omega arith)
-get-set_other (x ∷ slots) zero (suc k) slot h = refl
-get-set_other (x ∷ slots) (suc n) zero slot h = absurd (omega arith)
-get-set_other (x ∷ slots) (suc n) (suc k) slot h = get-set_other slots n k slot (omega arith)
-
 abbrev taken_if : Bool → ℕ → Talk → Talk
-taken_if b number t = if b then record t { promises = slice_set t.promises number Taken } else t
+taken_if b number t = if b then record t { promises = without number t.promises } else t
 
 taken_end : (b : Bool) (number : ℕ) (t : Talk) → end_of (taken_if b number t) ≡ end_of t
 taken_end true number t = refl
 taken_end false number t = refl
 
-length-slice_set : (slots : List Slot) (n : ℕ) (slot : Slot) → length (slice_set slots n slot) ≡ length slots
-length-slice_set [] n slot = refl
-length-slice_set (x ∷ slots) zero slot = refl
-length-slice_set (x ∷ slots) (suc n) slot =
-    let rest = length-slice_set slots n slot in
-    omega (arith, rest)
-
 taken_frames : (b : Bool) (number : ℕ) (t : Talk) → frame_lines (taken_if b number t) ≡ frame_lines t
-taken_frames true number t =
-    ap (λ n. flat_map (λ k. flat_map frame_line (frames_of k t)) (range_with_len 0 n)) (length-slice_set t.promises number Taken)
+taken_frames true number t = refl
 taken_frames false number t = refl
 
 taken_answer : (b : Bool) (number k : ℕ) (t : Talk) → number < k → answer_of k (taken_if b number t) ≡ answer_of k t
-taken_answer true number k t h = ap (answer_in (end_of t)) (get-set_other t.promises number k Taken h)
+taken_answer true number k t h = ap (answer_in (end_of t)) (at-without number k t.promises h)
 taken_answer false number k t h = refl
 
 pub Keeps-step : (number : ℕ) (before now : Talk) → Keeps number before now → Keeps (number + 1) before (take_answer number now)

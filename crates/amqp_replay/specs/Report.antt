@@ -1,5 +1,5 @@
 -- The report of a replay.
-use Rattle.std.specs.Prelude.{ℕ, List, [], ◌∷◌, ◌++◌, length, Option, Some, None, Result, Ok, Err, codes}
+use Rattle.std.specs.Prelude.{ℕ, List, [], ◌∷◌, ◌++◌, Option, Some, None, Result, Ok, Err, codes}
 use Rattle.std.specs.List.{flat_map, enumerate_from, range_with_len}
 use Rattle.std.specs.Fmt.{decimal}
 use Rattle.hex.specs.Hex.{encode_lower}
@@ -11,7 +11,7 @@ use Rattle.amqp_session.specs.declared.handed.Handed.{Handed}
 use Rattle.amqp_session.specs.declared.error.ErrorKind.{ErrorKind}
 use Rattle.amqp_session.specs.Talk.{Talk, end_of}
 use Rattle.amqp_session.specs.Errors.{text_of}
-use Rattle.amqp_session.specs.Channels.{frames_of}
+use Rattle.amqp_session.specs.ChannelMethods.{frames_of}
 use Rattle.amqp_session.specs.Answers.{answer_of}
 
 -- bytes as two lower-case digits each, or `-` for none
@@ -75,12 +75,12 @@ link_lines links = flat_map link_line (enumerate_from 1 links)
 -- the promises, counted from 0
 abbrev pub answer_lines : Talk → List ℕ
 answer_lines talk =
-    flat_map (λ number. answer_line number (answer_of number talk)) (range_with_len 0 (length talk.promises))
+    flat_map (λ number. answer_line number (answer_of number talk)) (range_with_len 0 talk.made)
 
 -- the frames handed out, in order, of the channel that each promise opened
 abbrev pub frame_lines : Talk → List ℕ
 frame_lines talk =
-    flat_map (λ number. flat_map frame_line (frames_of number talk)) (range_with_len 0 (length talk.promises))
+    flat_map (λ number. flat_map frame_line (frames_of number talk)) (range_with_len 0 talk.made)
 
 -- the bytes of each link, the answer to each promise, the frames handed out, and the end
 abbrev pub report : List (List ℕ) → Talk → List ℕ

@@ -1,9 +1,10 @@
 -- What was read of a script.
-use Rattle.std.specs.Prelude.{ℕ, ◌-◌, nat_le, if◌then◌else◌, List, [], ◌∷◌, Option, Some, None, Result, Ok, Err}
+use Rattle.std.specs.Prelude.{ℕ, ◌-◌, ◌==◌, nat_le, if◌then◌else◌, List, [], ◌∷◌, Option, Some, None, Result, Ok, Err}
 use Rattle.amqp_engine.specs.declared.given.Given.{Given}
 use Rattle.amqp_engine.specs.Plan.{ArePieces}
-use Rattle.amqp_replay.specs.Lines.{Line}
+use Rattle.amqp_replay.specs.Lines.{Line, lines}
 use Rattle.amqp_replay.specs.Grammar.{is_ignored}
+use Rattle.amqp_replay.specs.declared.status.TheConstants.{FAILED}
 use Rattle.amqp_replay.specs.declared.script.Script.{Script}
 use Rattle.amqp_replay.specs.declared.script.Script.TheVariants.{Steps, Refused}
 
@@ -24,3 +25,7 @@ line_of_step step (line ∷ lines) =
     if is_ignored line.content then line_of_step step lines
     else if nat_le step 1 then Some line.number
     else line_of_step (step - 1) lines
+
+-- the number of the line whose step ended a session with an error, as the status says, so many steps being told
+abbrev pub ended_at : ℕ → ℕ → List ℕ → Option ℕ
+ended_at status told text = if status == FAILED then line_of_step told (lines text) else None

@@ -1,13 +1,14 @@
 -- What the program promises: the status, what is printed, and what the port tells.
 use Rattle.std.specs.Prelude.{◌≡◌, ◌⊎◌, ◌++◌, ℕ, List, take, Option, Some, None, IfSome, option_map, Result, Ok, Err}
 use Rattle.amqp_session.specs.declared.error.ErrorKind.{ErrorKind}
-use Rattle.amqp_session.specs.Talk.{end_of}
+use Rattle.amqp_session.specs.Talk.{start, end_of}
 use Rattle.amqp_engine.specs.declared.given.Given.{Given}
 use Rattle.amqp_engine.specs.Log.{Log, loaded}
 use Rattle.amqp_engine.specs.Engine.{begin}
 use Rattle.amqp_engine.specs.Turn.{talk}
 use Rattle.amqp_engine.specs.Tell.{log_turns}
 use Rattle.amqp_engine.specs.Play.{replayed}
+use Rattle.amqp_engine.specs.Saying.{SpellLegal}
 use Rattle.amqp_replay.specs.declared.limits.TheConstants.{MOST_READ}
 use Rattle.amqp_replay.specs.declared.status.TheConstants.{CLOSED, REFUSED, USAGE, SOURCE_FAILED, SINK_FAILED, FAILED, RUNNING, NO_MEMORY}
 use Rattle.amqp_replay.specs.Grammar.{parsed}
@@ -17,7 +18,7 @@ use Rattle.amqp_replay.specs.Report.{Printout, report, refusal}
 
 -- what the port tells
 abbrev pub replayed_log : List Given → Log
-replayed_log gs = log_turns (replayed gs) begin (loaded gs)
+replayed_log gs = log_turns (replayed gs) (begin start) (loaded gs)
 
 -- the bytes of each link
 abbrev pub replayed_links : List Given → List (List ℕ)
@@ -41,10 +42,15 @@ printout (Err number) = record { status = REFUSED; text = refusal number }
 printout (Ok gs) = record { status = end_status (end_of (talk (replayed gs))); text = replayed_report gs }
 
 -- the port tells of the run: its steps, the writes to it with their answers, and the bytes of the links, which are
--- printed
+-- printed; on each link they spell the frames of a legal conversation, in order, and then a part of one more
+pub record TellsRun (gs : List Given) (log : Option Log) : Type 0 where
+  pub told : log ≡ Some (replayed_log gs)
+  pub legal : SpellLegal (replayed_links gs)
+
+-- the port tells of the run of a script of which no line is refused
 abbrev pub TellsReplay : Result (List Given) ℕ → Option Log → Type 0
 TellsReplay (Err number) log = Unit {0}
-TellsReplay (Ok gs) log = log ≡ Some (replayed_log gs)
+TellsReplay (Ok gs) log = TellsRun gs log
 
 -- ---- what happened to a sink
 

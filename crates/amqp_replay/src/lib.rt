@@ -5,11 +5,11 @@
 //! answered. What it promises is stated in `specs/Top.antt`.
 #![tactic(auto)]
 
-mod counted_port;
 mod data;
 mod decimals;
 mod ends;
 mod grammar;
+mod laws;
 pub mod limits;
 mod lines;
 mod memory_ends;
@@ -21,8 +21,8 @@ pub mod top;
 mod transfer;
 mod words;
 
-pub use counted_port::CountedPort;
 pub use ends::{Gave, Put, Sink, Source};
+pub use laws::a_report_has_the_frames_sent;
 pub use memory_ends::{MemorySink, MemorySource};
-pub use script::line_of_step;
+pub use script::{ended_at, line_of_step};
 pub use stream_ends::{Reading, Writing};

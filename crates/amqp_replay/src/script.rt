@@ -4,11 +4,12 @@ ghost use Rattle.std.specs.Prelude.{◌≡◌, IfOk};
 ghost use Rattle.amqp_engine.specs.Plan.{ArePieces};
 ghost use Rattle.amqp_replay.specs.Grammar.{parsed};
 ghost use Rattle.amqp_replay.specs.Lines.{lines};
-ghost use Rattle.amqp_replay.specs.Scripts.{script_read, ScriptArePieces, line_of_step};
+ghost use Rattle.amqp_replay.specs.Scripts.{script_read, ScriptArePieces, line_of_step, ended_at};
 
 use crate::grammar::{Said, is_ignored, says};
 use crate::limits::ZERO_BYTES;
 use crate::lines::Lines;
+use crate::status::FAILED;
 use amqp_engine::Given;
 use amqp_types::NoMemory;
 use std::alloc::Global;
@@ -60,4 +61,16 @@ pub fn line_of_step(text: &[u8], step: u64) -> Option<u64>
         left -= 1;
     }
     None
+}
+
+/// The number of the line at which a script was answered so, after so many steps: the line whose step
+/// ended the session with an error, where one did.
+pub fn ended_at(status: u8, text: &[u8], told: u64) -> Option<u64>
+    ensures { result ≡ ended_at status told text.now }
+{
+    if status == FAILED {
+        line_of_step(text, told)
+    } else {
+        None
+    }
 }

@@ -1,6 +1,7 @@
 //! The program, over what is handed to it.
 
 ghost use Rattle.std.specs.Prelude.{◌≡◌, ◌≢◌, ◌⊎◌, ◌↔◌, [], ◌∷◌, List, length, Some, Ok, IfOk, IfSome, OnOk, IsTrue, codes};
+ghost use Rattle.amqp_session.specs.Talk.{start};
 ghost use Rattle.amqp_engine.specs.declared.given.Given.{Given};
 ghost use Rattle.amqp_engine.specs.Log.{loaded};
 ghost use Rattle.amqp_engine.specs.Engine.{begin};
@@ -133,7 +134,7 @@ fn run<P: ScriptedPort>(
     port: &mut P,
     turns: u64,
 ) -> Result<Printout, NoMemory>
-    requires { engine.old ≡ begin }
+    requires { engine.old ≡ begin start }
     ensures printout { (gs : List Given) → turns ≡ length gs → P.log port.old ≡ Some (loaded gs)
         → IfOk result (λ p. p ≡ printout (Ok gs)) }
     ensures told { (gs : List Given) → turns ≡ length gs → P.log port.old ≡ Some (loaded gs)

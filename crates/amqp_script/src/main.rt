@@ -1,9 +1,10 @@
 //! Replays a script of a connection over a port in memory, and prints a report.
 #![tactic(auto)]
 
-use amqp_replay::status::{FAILED, NO_MEMORY, SINK_FAILED, SOURCE_FAILED, USAGE};
+use amqp_engine::MemoryPort;
+use amqp_replay::status::{NO_MEMORY, SINK_FAILED, SOURCE_FAILED, USAGE};
 use amqp_replay::top::top;
-use amqp_replay::{CountedPort, Reading, Writing, line_of_step};
+use amqp_replay::{Reading, Writing, ended_at};
 use amqp_types::{NoMemory, Text};
 use std::env;
 use std::io::{self, ErrorKind};
@@ -28,22 +29,19 @@ fn words_given(rt: &HostRuntime) -> Result<Vec<Text>, NoMemory> {
     }
 }
 
-// The status, and the line of the script at which the session ended with an error.
+// The status, and the line of the script at which the session ended with an error, where its text
+// was kept.
 fn replay(rt: &HostRuntime) -> Result<(u8, Option<u64>), NoMemory> {
     let words = words_given(rt)?;
-    let mut port = CountedPort::new(rt.alloc())?;
+    let mut port = MemoryPort::new(rt.alloc(), Vec::new(rt.alloc()))?;
     let mut source = Reading::new(rt.alloc(), rt.stdin());
     let mut sink = Writing::new(rt.stdout());
     let status = top(rt.alloc(), &words, &mut source, &mut sink, &mut port);
-    Ok((status, ended_at(status, source.text(), port.steps())))
-}
-
-// The line at which a script ended with an error, where its text was kept.
-fn ended_at(status: u8, text: Option<&[u8]>, steps: u64) -> Option<u64> {
-    match text {
-        Some(text) if status == FAILED => line_of_step(text, steps),
-        _ => None,
-    }
+    let line = match source.text() {
+        Some(text) => ended_at(status, text, port.told()),
+        None => None,
+    };
+    Ok((status, line))
 }
 
 // Says why nothing more is printed, or where an error came.

@@ -1,9 +1,10 @@
 //! The line at which a session ended.
 
 use super::replays::handshake;
+use amqp_engine::MemoryPort;
 use amqp_replay::status::{CLOSED, FAILED};
 use amqp_replay::top::top;
-use amqp_replay::{CountedPort, MemorySink, MemorySource, line_of_step};
+use amqp_replay::{MemorySink, MemorySource, ended_at, line_of_step};
 use amqp_types::Text;
 use std::alloc::Global;
 use std::test::Fail;
@@ -35,9 +36,9 @@ fn steps_told(alloc: Global, script: &[u8]) -> Result<(u8, u64), Fail> {
     let words = vec![in alloc; Text::new(alloc, "replay")?]?;
     let mut source = MemorySource::new(script, &[]);
     let mut sink = MemorySink::new(alloc, usize::MAX, &[]);
-    let mut port = CountedPort::new(alloc)?;
+    let mut port = MemoryPort::new(alloc, Vec::new(alloc))?;
     let status = top(alloc, &words, &mut source, &mut sink, &mut port);
-    let steps = port.steps();
+    let steps = port.told();
     drop(port);
     Ok((status, steps))
 }
@@ -46,6 +47,7 @@ fn steps_told(alloc: Global, script: &[u8]) -> Result<(u8, u64), Fail> {
 fn a_port_counts_its_steps(rt: HostRuntime) -> Result<(), Fail> {
     let version = b"# another version\nlink\nbytes 414d515000000800\nlink\nend\n";
     assert!(rt; steps_told(rt.alloc(), version)? == (FAILED, 2));
+    assert!(rt; ended_at(FAILED, version, 2) == Some(3) && ended_at(CLOSED, version, 2) == None);
     Ok(())
 }
 

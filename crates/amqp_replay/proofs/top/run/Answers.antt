@@ -1,10 +1,11 @@
-use Rattle.std.proofs.Common.{◌≡◌, ◌∙◌, ℕ, List, Option, Some, length, is_some, ap, sym}
+use Rattle.std.proofs.Common.{◌≡◌, ◌∙◌, ℕ, List, Option, Some, length, is_some, ap, sym, refl}
 use Rattle.std.specs.String.{string_bytes}
 use Rattle.amqp_session.specs.Talk.{Talk, end_of}
 use Rattle.amqp_engine.specs.declared.given.Given.{Given}
 use Rattle.amqp_engine.specs.Log.{Log, loaded}
+use Rattle.amqp_engine.proofs.GoingOn.{spell-legal}
 use Rattle.amqp_replay.specs.Report.{Printout, report}
-use Rattle.amqp_replay.specs.Top.{end_status, replayed_links}
+use Rattle.amqp_replay.specs.Top.{end_status, replayed_log, replayed_links}
 use Rattle.amqp_replay.proofs.Replaying.{IsReplayed, IsReplayed-run, none_from}
 use Rattle.amqp_replay.proofs.top.run.Goals as goal
 
@@ -28,4 +29,6 @@ returns-clause-told g c gs count loads =
     let whole = none_from c.run.new.self.starved (ap is_some (sym c.starved.ensures) ∙ sym c.is_some.ensures ∙ c.if-is_some.false) in
     let is = IsReplayed-run gs c.args.turns c.args.engine.now c.run.new.self (g.P.Port.log c.args.port.now) (g.P.Port.log c.run.new.port) links
     count c.requires loads c.run.ensures.played whole (g.met.P.ScriptedPort.ties c.run.new.port) in
-    is.told
+    let legal = spell-legal c.args.engine.now c.run.new.self (loaded gs) (replayed_log gs) (g.P.Port.log c.args.port.now) (g.P.Port.log c.run.new.port)
+    c.requires loads is.told refl refl c.run.ensures.legal in
+    record { told = is.told; legal = legal }
