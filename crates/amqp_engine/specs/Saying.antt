@@ -52,8 +52,8 @@ pub record TellsLinks (e : Engine) (ss : List Sending) (log : Log) : Type 0 wher
   pub links : log.links ≡ map link_bytes ss
   pub asked : has_ended e.talk ≡ false → log.asked ≡ is_asked e.talk
 
--- an engine that had sent so much went on by some turns, with what they send besides: it is in order and legal on each link;
--- and a port that told of its links before tells of them after
+-- an engine that had sent so much went on by some turns, with what they send besides: it is in order and legal on each
+-- link; and a port that told of its links before tells of them after
 pub record GoesOn (ss : List Sending) (e e' : Engine) (log log' : Option Log) : Type 0 where
   pub us : List Turn
   pub leads : Leads us e e'
