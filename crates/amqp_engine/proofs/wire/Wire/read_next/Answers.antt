@@ -3,14 +3,14 @@ use Rattle.amqp_types.specs.declared.memory.NoMemory.{NoMemory as Refused}
 use Rattle.amqp_frame.specs.declared.frame.Frame.{Frame}
 use Rattle.amqp_frame.specs.declared.frame.Read.{Read}
 use Rattle.amqp_frame.specs.declared.frame.Read.TheVariants.{Whole, More, TooLarge, BadHeartbeat, Bad, NoMemory}
-use Rattle.amqp_frame.specs.FrameReading.{Answers, front}
+use Rattle.amqp_frame.specs.FrameReading.{Yields, front}
 use Rattle.amqp_session.specs.Talk.{is_open}
 use Rattle.amqp_engine.specs.Engine.{Engine, front_of, is_more, can_read, read_one, read_row}
 use Rattle.amqp_engine.specs.Making.{is_whole}
 use Rattle.amqp_engine.proofs.wire.Wire.read_next.Goals as goal
 
 -- what was read and is no whole frame stands at the front
-other-front : (read front : Read) → is_whole read ≡ false → read ≢ NoMemory → Answers read front → front ≡ read
+other-front : (read front : Read) → is_whole read ≡ false → read ≢ NoMemory → Yields read front → front ≡ read
 other-front More front other some h = h
 other-front (TooLarge size) front other some h = h
 other-front (BadHeartbeat channel) front other some h = h
@@ -23,7 +23,7 @@ record Reads (at : ℕ) (r : Result Bool Refused) (e e' : Engine) : Type 0 where
   ok : IfOk r (λ b. e' ≡ (if b then read_one at e else e))
 
 other-reads : (at : ℕ) (r : Result Bool Refused) (e e' : Engine) (read : Read) → is_open e.talk ≡ true → IfOk r (λ b. b ≡ not (is_more read))
-    → IfOk r (λ b. e' ≡ (if b then read_row at read e else e)) → OnOk r (read ≢ NoMemory) → is_whole read ≡ false → Answers read (front_of e)
+    → IfOk r (λ b. e' ≡ (if b then read_row at read e else e)) → OnOk r (read ≢ NoMemory) → is_whole read ≡ false → Yields read (front_of e)
     → Reads at r e e'
 other-reads at (Ok b) e e' read opened more after some other h =
     let front : front_of e ≡ read = other-front read (front_of e) other some h in
@@ -46,8 +46,8 @@ found c =
     let e = c.args.self.now in
     let read = c.read_frame.result in
     let opened : is_open e.talk ≡ true = ap (λ (x : Engine). is_open x.talk) (sym c.self.view_is) ∙ sym c.is_open.ensures ∙ c.if-not-is_open.false in
-    let P : Read → Type 0 = λ x. Answers read x in
-    let exact : Answers read (front_of e) = subst P (ap (front c.self.inside.unread) c.frame_limit.ensures ∙ ap front_of c.self.view_is) c.read_frame.ensures.exact in
+    let P : Read → Type 0 = λ x. Yields read x in
+    let exact : Yields read (front_of e) = subst P (ap (front c.self.inside.unread) c.frame_limit.ensures ∙ ap front_of c.self.view_is) c.read_frame.ensures.exact in
     other-reads c.args.at c.read_other-found.result e c.read_other-found.new.self read opened c.read_other-found.ensures.some c.read_other-found.ensures.ok
     c.read_other-found.ensures.held (not-whole read c.in_default.not-Whole) exact
 
