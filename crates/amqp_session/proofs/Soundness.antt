@@ -59,30 +59,46 @@ use Rattle.amqp_session.specs.Commands.{is_opening, named_in, named, target_in, 
 use Rattle.amqp_session.specs.Writing.{committed_as, next_within, commit, follow, sent, sent_among, taken}
 use Rattle.amqp_session.specs.Answers.{answer_of, take_answer, take_frames}
 use Rattle.amqp_session.specs.Laws.{IsEnded, StaysSound, is_end}
-use Rattle.amqp_session.specs.Sound.{Ascend, AscendFrom, IsSound, fits_link, is_agreed}
+use Rattle.amqp_session.specs.Sound.{Ascend, AscendFrom, IsSound, fits_link, is_agreed, AllBelow}
 use Rattle.amqp_session.proofs.Cases.{if_case, if_by}
-use Rattle.amqp_session.proofs.Ascending.{none-below, put-ascends, put-from, without-ascends, without-from, map_values-from}
+use Rattle.amqp_session.proofs.Ascending.{none-below, put-ascends, put-from, put-below, without-ascends, without-from, without-below, at-below, below-greater, map_values-from}
 
 -- ---- promises
 
-settled-ascend : (o : Option (Option (Result AnyAnswer ErrorKind))) (n : ℕ) (answer : Result AnyAnswer ErrorKind) (ps : Promises)
-    → Ascend (keys_of ps) → Ascend (keys_of (settled_by o n answer ps))
-settled-ascend None n answer ps s = s
-settled-ascend (Some None) n answer ps s = put-ascends n (Some answer) ps s
-settled-ascend (Some (Some a)) n answer ps s = s
+-- promises in order, all of which were made
+abbrev Promised : ℕ → Promises → Type 0
+Promised made ps = Ascend (keys_of ps) × AllBelow made (keys_of ps)
+
+-- one more is made, with the next number
+one-more : (made : ℕ) (v : Option (Result AnyAnswer ErrorKind)) (ps : Promises) → Promised made ps → Promised (made + 1) (put made v ps)
+one-more made v ps s =
+    (put-ascends made v ps s.0, put-below made v (made + 1) ps (omega arith) (below-greater made (made + 1) (keys_of ps) (omega arith) s.1))
+
+settled-kept : (o : Option (Option (Result AnyAnswer ErrorKind))) (n : ℕ) (answer : Result AnyAnswer ErrorKind) (made : ℕ) (ps : Promises)
+    → at n ps ≡ o → Promised made ps → Promised made (settled_by o n answer ps)
+settled-kept None n answer made ps h s = s
+settled-kept (Some None) n answer made ps h s =
+    (put-ascends n (Some answer) ps s.0, put-below n (Some answer) made ps (at-below n made ps None s.1 h) s.1)
+settled-kept (Some (Some a)) n answer made ps h s = s
 
 pub sound-give : (n : ℕ) (answer : Result AnyAnswer ErrorKind) (t : Talk) → IsSound t → IsSound (give n answer t)
-sound-give n answer t s = record { link = s.link; room = s.room; listed = s.listed; promises = settled-ascend (at n t.promises) n answer t.promises s.promises }
+sound-give n answer t s =
+    record {
+      link = s.link;
+      room = s.room;
+      listed = s.listed;
+      promises = settled-kept (at n t.promises) n answer t.made t.promises refl s.promises;
+    }
 
 pub sound-give_to : (o : Option ℕ) (answer : Result AnyAnswer ErrorKind) (t : Talk) → IsSound t → IsSound (give_to o answer t)
 sound-give_to None answer t s = s
 sound-give_to (Some n) answer t s = sound-give n answer t s
 
 pub sound-promise : (t : Talk) → IsSound t → IsSound (promise t)
-sound-promise t s = record { link = s.link; room = s.room; listed = s.listed; promises = put-ascends t.made None t.promises s.promises }
+sound-promise t s = record { link = s.link; room = s.room; listed = s.listed; promises = one-more t.made None t.promises s.promises }
 
 pub sound-refuse : (e : ErrorKind) (t : Talk) → IsSound t → IsSound (refuse e t)
-sound-refuse e t s = record { link = s.link; room = s.room; listed = s.listed; promises = put-ascends t.made (Some (Err e)) t.promises s.promises }
+sound-refuse e t s = record { link = s.link; room = s.room; listed = s.listed; promises = one-more t.made (Some (Err e)) t.promises s.promises }
 
 -- ---- ends
 
@@ -296,7 +312,7 @@ sound-drawn (Some n) first t some s =
       link = s.link;
       room = s.room;
       listed = put-from n _ 0 t.channels (some n refl) s.listed;
-      promises = put-ascends t.made None t.promises s.promises;
+      promises = one-more t.made None t.promises s.promises;
     }
 
 sound-close-target : (r : Result Channel ErrorKind) (n code : ℕ) (text : List ℕ) (t : Talk) → ((c : Channel) → r ≡ Ok c → 0 < n) → IsSound t
@@ -307,7 +323,7 @@ sound-close-target (Ok c) n code text t some s =
       link = s.link;
       room = s.room;
       listed = put-from n _ 0 t.channels (some c refl) s.listed;
-      promises = put-ascends t.made None t.promises s.promises;
+      promises = one-more t.made None t.promises s.promises;
     }
 
 sound-send : (r : Result Channel ErrorKind) (n : ℕ) (m : OtherMethod) (t : Talk) → IsSound t → IsSound (send_target r n m t)
@@ -317,7 +333,7 @@ sound-send (Ok c) n m t s =
     if_case IsSound (nat_lt t.capacity (length (encoding frame))) (refuse (SerialisationError (length (encoding frame))) t)
     (promise (queue_item (record { channel = n; frame = frame; promise = Some (next_promise t) }) t))
     (sound-refuse _ t s)
-    (record { link = s.link; room = s.room; listed = s.listed; promises = put-ascends t.made None t.promises s.promises })
+    (record { link = s.link; room = s.room; listed = s.listed; promises = one-more t.made None t.promises s.promises })
 
 -- a channel that is listed has a number of at least 1
 listed-some : (n : ℕ) (c : Channel) (es : List (ℕ × Channel)) → AscendFrom 0 (keys_of es) → at n es ≡ Some c → 0 < n
@@ -357,7 +373,7 @@ sound-command-rule Connected (CloseConnection code text) t hs s =
       link = closing-fits t.link (subst (λ x. fits_link x t.link ≡ true) hs s.link);
       room = λ h. absurd cc;
       listed = map_values-from closing 0 t.channels s.listed;
-      promises = put-ascends t.made None t.promises s.promises;
+      promises = one-more t.made None t.promises s.promises;
     }
 sound-command-rule Connected (Send r method) t hs s = sound-send (target r word.Send t) r.id method t s
 sound-command-rule _ c t hs s = sound-refuse _ t s
@@ -402,7 +418,7 @@ sound-taken n t s =
 pub sound-answer : (n : ℕ) (t : Talk) → IsSound t → IsSound (take_answer n t)
 sound-answer n t s =
     if_case IsSound (is_some (answer_of n t)) (record t { promises = without n t.promises }) t
-    (record { link = s.link; room = s.room; listed = s.listed; promises = without-ascends n t.promises s.promises }) s
+    (record { link = s.link; room = s.room; listed = s.listed; promises = (without-ascends n t.promises s.promises.0, without-below n t.made t.promises s.promises.1) }) s
 
 pub sound-frames : (opened : ℕ) (t : Talk) → IsSound t → IsSound (take_frames opened t)
 sound-frames opened t s = record { link = s.link; room = s.room; listed = s.listed; promises = s.promises }
@@ -410,7 +426,7 @@ sound-frames opened t s = record { link = s.link; room = s.room; listed = s.list
 -- ---- all of them
 
 pub sound-start : IsSound start
-sound-start = record { link = refl; room = λ h. absurd cc; listed = tt; promises = tt }
+sound-start = record { link = refl; room = λ h. absurd cc; listed = tt; promises = (tt, (omega arith, tt)) }
 
 pub keeps-sound : (t : Talk) → IsSound t → StaysSound t
 keeps-sound t s =

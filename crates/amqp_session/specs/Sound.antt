@@ -20,6 +20,11 @@ abbrev pub Ascend : List ℕ → Type 0
 Ascend [] = Unit {0}
 Ascend (k ∷ ks) = AscendFrom k ks
 
+-- numbers that are all below a number
+abbrev pub AllBelow : ℕ → List ℕ → Type 0
+AllBelow n [] = Unit {0}
+AllBelow n (k ∷ ks) = (k < n) × AllBelow n ks
+
 -- a link that a state has: one is wanted at the beginning, it is open until the end, and it is ended exactly in Closed
 -- and Error
 abbrev pub fits_link : ConnectionState → Link ErrorKind → Bool
@@ -46,5 +51,5 @@ pub record IsSound (t : Talk) : Type 0 where
   pub room : IsTrue (is_agreed t.state t.phase) → 1 ≤ t.configuration.channel_max
   -- the listed channels stand in the order of their numbers, and none has the number 0
   pub listed : AscendFrom 0 (keys_of t.channels)
-  -- so do the promises
-  pub promises : Ascend (keys_of t.promises)
+  -- so do the promises, and all of them were made
+  pub promises : Ascend (keys_of t.promises) × AllBelow t.made (keys_of t.promises)

@@ -47,9 +47,10 @@ pub fn an_end_is_kept()
     ensures { (t : Talk) → IsEnded t → IsOver t }
 {}
 
-/// An answer is taken once.
+/// An answer is taken once, and a promise that was not made has none.
 pub fn an_answer_is_taken_once()
-    ensures { (number : ℕ) (t : Talk) → IsSound t → answer_of number (take_answer number t) ≡ None }
+    ensures once { (number : ℕ) (t : Talk) → IsSound t → answer_of number (take_answer number t) ≡ None }
+    ensures unmade { (number : ℕ) (t : Talk) → IsSound t → t.made ≤ number → answer_of number t ≡ None }
 {}
 
 /// What is committed is unsent, and what is taken is no longer so, while the link is open.
