@@ -1,4 +1,4 @@
--- Sound states: those that a session can be in.
+-- Sound states: what holds of each state that a session can be in.
 use Rattle.std.specs.Prelude.{ℕ, ◌<◌, ◌≤◌, Bool, true, false, IsTrue, List, [], ◌∷◌, Result, Ok, Err}
 use Rattle.std.specs.Map.{keys_of}
 use Rattle.amqp_session.specs.declared.state.ConnectionState.{ConnectionState}
