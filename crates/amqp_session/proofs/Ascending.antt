@@ -7,7 +7,7 @@ use Rattle.std.specs.Cmp.{nat_cmp_is, ranks}
 use Rattle.std.specs.Map.{keys_of}
 use Rattle.std.specs.BTreeMap.{is_at}
 use Rattle.amqp_session.specs.Listed.{at, put, without, map_values}
-use Rattle.amqp_session.specs.Sound.{AscendFrom, Ascend}
+use Rattle.amqp_session.specs.Sound.{AscendFrom, Ascend, AllBelow}
 
 ranked : (n k : ℕ) (r : Ordering) → nat_cmp n k ≡ r → MatchOrdering r (n < k) (n ≡ k) (k < n)
 ranked n k r h = subst (λ r. MatchOrdering r (n < k) (n ≡ k) (k < n)) h (ranks n k)
@@ -20,6 +20,11 @@ ascend-below m k (x ∷ ks) le h = (omega (arith, le, h.0), h.1)
 ascend-from : (m : ℕ) (ks : List ℕ) → AscendFrom m ks → Ascend ks
 ascend-from m [] h = tt
 ascend-from m (k ∷ ks) h = h.1
+
+-- what is below a number is below a greater one
+pub below-greater : (m n : ℕ) (ks : List ℕ) → m ≤ n → AllBelow m ks → AllBelow n ks
+below-greater m n [] le h = tt
+below-greater m n (k ∷ ks) le h = (omega (arith, le, h.0), below-greater m n ks le h.1)
 
 module _ {X : Type 0} (n : ℕ) (v : X) where
   put-head : (r : Ordering) (m : ℕ) (e : ℕ × X) (es : List (ℕ × X)) → nat_cmp n e.0 ≡ r → m < n → AscendFrom m (keys_of (e ∷ es))
@@ -44,7 +49,46 @@ module _ {X : Type 0} (n : ℕ) (v : X) where
   put-ascends [] s = tt
   put-ascends (e ∷ es) s = first-head (nat_cmp n e.0) e es refl s
 
+  below-head : (r : Ordering) (top : ℕ) (e : ℕ × X) (es : List (ℕ × X)) → n < top → AllBelow top (keys_of (e ∷ es))
+      → AllBelow top (keys_of (put n v es))
+      → AllBelow top (keys_of (match_ordering r ((n, v) ∷ e ∷ es) ((e.0, v) ∷ es) (e ∷ put n v es)))
+  below-head Less top e es low s rest = (low, s)
+  below-head Equal top e es low s rest = s
+  below-head Greater top e es low s rest = (s.0, rest)
+
+  -- a number below another is put among those below it
+  pub put-below : (top : ℕ) (es : List (ℕ × X)) → n < top → AllBelow top (keys_of es) → AllBelow top (keys_of (put n v es))
+  put-below top [] low s = (low, tt)
+  put-below top (e ∷ es) low s = below-head (nat_cmp n e.0) top e es low s (put-below top es low s.1)
+
 module _ {X : Type 0} (n : ℕ) where
+  gone-below : (b : Bool) (top : ℕ) (e : ℕ × X) (es : List (ℕ × X)) → AllBelow top (keys_of (e ∷ es)) → AllBelow top (keys_of (without n es))
+      → AllBelow top (keys_of (cond b es (e ∷ without n es)))
+  gone-below true top e es s rest = s.1
+  gone-below false top e es s rest = (s.0, rest)
+
+  -- a number that goes leaves the others below what they were below
+  pub without-below : (top : ℕ) (es : List (ℕ × X)) → AllBelow top (keys_of es) → AllBelow top (keys_of (without n es))
+  without-below top [] s = tt
+  without-below top (e ∷ es) s = gone-below (is_at (nat_cmp n) e.0) top e es s (without-below top es s.1)
+
+  at-head : (r : Ordering) (top : ℕ) (e : ℕ × X) (es : List (ℕ × X)) (x : X) → nat_cmp n e.0 ≡ r → e.0 < top → (at n es ≡ Some x → n < top)
+      → cond (is_eq r) (Some e.1) (at n es) ≡ Some x → n < top
+  at-head Less top e es x h low rest found = rest found
+  at-head Equal top e es x h low rest found = let same : n ≡ e.0 = ranked n e.0 Equal h in omega (arith, same, low)
+  at-head Greater top e es x h low rest found = rest found
+
+  -- a number that is there is below what all are below
+  pub at-below : (top : ℕ) (es : List (ℕ × X)) (x : X) → AllBelow top (keys_of es) → at n es ≡ Some x → n < top
+  at-below top [] x s found = absurd cc
+  at-below top (e ∷ es) x s found = at-head (nat_cmp n e.0) top e es x refl s.0 (at-below top es x s.1) found
+
+  -- a number that others are below is not among them
+  pub none-above : (top : ℕ) (es : List (ℕ × X)) → top ≤ n → AllBelow top (keys_of es) → at n es ≡ None
+  none-above top [] le s = refl
+  none-above top (e ∷ es) le s =
+      ap (λ r. cond (is_eq r) (Some e.1) (at n es)) (sym (nat_cmp_is n e.0 Greater (omega (arith, le, s.0)))) ∙ none-above top es le s.1
+
   gone-head : (b : Bool) (m : ℕ) (e : ℕ × X) (es : List (ℕ × X)) → AscendFrom m (keys_of (e ∷ es)) → AscendFrom e.0 (keys_of (without n es))
       → AscendFrom m (keys_of (cond b es (e ∷ without n es)))
   gone-head true m e es s rest = ascend-below m e.0 (keys_of es) (omega (arith, s.0)) s.1

@@ -10,7 +10,7 @@ use Rattle.amqp_session.specs.Parts.{after_first}
 use Rattle.amqp_session.proofs.Cases.{if_case, if-true, if-false}
 use Rattle.amqp_session.proofs.Keeping.{left_in-cons, left_in-left_after, sent_among-committed}
 
-other-false : (b c : Bool) → b ≡ true → (b && not c) ≡ false → c ≡ true
+pub other-false : (b c : Bool) → b ≡ true → (b && not c) ≡ false → c ≡ true
 other-false true true g h = refl
 other-false true false g h = absurd cc
 other-false false c g h = absurd cc

@@ -1,5 +1,5 @@
 -- Every rule leads from a sound state to a sound one.
-use Rattle.std.proofs.Common.{◌≡◌, ◌∙◌, ap, sym, subst, refl, ℕ, zero, suc, ◌<◌, ◌≤◌, ◌+◌, ◌-◌, ◌==◌, ◌&&◌, not, nat_le, nat_lt, max, if◌then◌else◌, Bool, true, false, List, [], ◌∷◌, length, drop, Option, Some, None, Result, Ok, Err, cond, is_some, arith}
+use Rattle.std.proofs.Common.{◌≡◌, ◌∙◌, ap, sym, subst, refl, ℕ, zero, suc, ◌<◌, ◌≤◌, ◌+◌, ◌-◌, ◌==◌, ◌&&◌, not, nat_le, nat_lt, max, if◌then◌else◌, Bool, true, false, List, [], ◌∷◌, ◌++◌, length, drop, Option, Some, None, Result, Ok, Err, cond, is_some, arith}
 use Rattle.std.proofs.lemmas.Bool.Decides.{nat_tests}
 use Rattle.std.proofs.lemmas.List.Folds.{find-append}
 use Rattle.std.specs.Prelude.{IsTrue, find}
@@ -43,10 +43,11 @@ use Rattle.amqp_session.specs.declared.lanes.Item.{Item}
 use Rattle.amqp_session.specs.declared.misread.Misread.{Misread}
 use Rattle.amqp_session.specs.declared.error.ErrorKind.TheVariants.{NoMemory, IOError, ChannelsLimitReached, SerialisationError}
 use Rattle.amqp_session.specs.declared.error.ErrorKind.{ErrorKind}
-use Rattle.amqp_session.specs.Listed.{at, without, has}
+use Rattle.amqp_session.specs.Listed.{at, put, without, has, map_values}
 use Rattle.amqp_session.specs.Talk.{Talk, start, acts, has_ended, is_acting, is_asked, is_closing, is_open, is_open_link, end_of_link}
-use Rattle.amqp_session.specs.Changes.{Promises, present_at, starve, queue_item, next_promise, refuse, promise, give, give_to, fail, lose, misplaced, close, finish, finish_by, settled_by}
+use Rattle.amqp_session.specs.Changes.{Promises, present_at, starve, queue_item, next_promise, refuse, promise, give, give_to, fail, lose, misplaced, close, finish, finish_by, settled, settled_by, plain}
 use Rattle.amqp_session.specs.Links.{asked, asked_link, linked, link_failed, piece, dropped, misread, lost}
+use Rattle.amqp_session.specs.Handshake.{close_ok, start_ok, tune_ok, open_vhost, our_close, channel_open, our_channel_close}
 use Rattle.amqp_session.specs.Negotiation.{lesser_wish, wish_or, tune}
 use Rattle.amqp_session.specs.Numbering.{first_number, drawn}
 use Rattle.amqp_session.specs.Violations.{misread_error}
@@ -59,38 +60,57 @@ use Rattle.amqp_session.specs.Commands.{is_opening, named_in, named, target_in, 
 use Rattle.amqp_session.specs.Writing.{committed_as, next_within, commit, follow, sent, sent_among, taken}
 use Rattle.amqp_session.specs.Answers.{answer_of, take_answer, take_frames}
 use Rattle.amqp_session.specs.Laws.{IsEnded, StaysSound, is_end}
-use Rattle.amqp_session.specs.Sound.{Ascend, AscendFrom, IsSound, fits_link, is_agreed}
+use Rattle.amqp_session.specs.Sound.{Ascend, AscendFrom, IsSound, fits_link, is_agreed, AllBelow, Finishes, following, goes_on}
 use Rattle.amqp_session.proofs.Cases.{if_case, if_by}
-use Rattle.amqp_session.proofs.Ascending.{none-below, put-ascends, put-from, without-ascends, without-from, map_values-from}
+use Rattle.amqp_session.proofs.Ascending.{none-below, put-ascends, put-from, put-below, without-ascends, without-from, without-below, at-below, below-greater, map_values-from}
+use Rattle.amqp_session.proofs.Finishing.{acting-none, alone-last, close-goes_on, committed-follows, dropped-acts, dropped-finishes, first-goes, open-goes_on, queue-finishes, sent-committed}
 
 -- ---- promises
 
-settled-ascend : (o : Option (Option (Result AnyAnswer ErrorKind))) (n : ℕ) (answer : Result AnyAnswer ErrorKind) (ps : Promises)
-    → Ascend (keys_of ps) → Ascend (keys_of (settled_by o n answer ps))
-settled-ascend None n answer ps s = s
-settled-ascend (Some None) n answer ps s = put-ascends n (Some answer) ps s
-settled-ascend (Some (Some a)) n answer ps s = s
+-- promises in order, all of which were made
+abbrev Promised : ℕ → Promises → Type 0
+Promised made ps = Ascend (keys_of ps) × AllBelow made (keys_of ps)
+
+-- one more is made, with the next number
+one-more : (made : ℕ) (v : Option (Result AnyAnswer ErrorKind)) (ps : Promises) → Promised made ps → Promised (made + 1) (put made v ps)
+one-more made v ps s =
+    (put-ascends made v ps s.0, put-below made v (made + 1) ps (omega arith) (below-greater made (made + 1) (keys_of ps) (omega arith) s.1))
+
+settled-kept : (o : Option (Option (Result AnyAnswer ErrorKind))) (n : ℕ) (answer : Result AnyAnswer ErrorKind) (made : ℕ) (ps : Promises)
+    → at n ps ≡ o → Promised made ps → Promised made (settled_by o n answer ps)
+settled-kept None n answer made ps h s = s
+settled-kept (Some None) n answer made ps h s =
+    (put-ascends n (Some answer) ps s.0, put-below n (Some answer) made ps (at-below n made ps None s.1 h) s.1)
+settled-kept (Some (Some a)) n answer made ps h s = s
 
 pub sound-give : (n : ℕ) (answer : Result AnyAnswer ErrorKind) (t : Talk) → IsSound t → IsSound (give n answer t)
-sound-give n answer t s = record { link = s.link; room = s.room; listed = s.listed; promises = settled-ascend (at n t.promises) n answer t.promises s.promises }
+sound-give n answer t s =
+    record {
+      link = s.link;
+      room = s.room;
+      acting = s.acting;
+      finish = s.finish;
+      listed = s.listed;
+      promises = settled-kept (at n t.promises) n answer t.made t.promises refl s.promises;
+    }
 
 pub sound-give_to : (o : Option ℕ) (answer : Result AnyAnswer ErrorKind) (t : Talk) → IsSound t → IsSound (give_to o answer t)
 sound-give_to None answer t s = s
 sound-give_to (Some n) answer t s = sound-give n answer t s
 
 pub sound-promise : (t : Talk) → IsSound t → IsSound (promise t)
-sound-promise t s = record { link = s.link; room = s.room; listed = s.listed; promises = put-ascends t.made None t.promises s.promises }
+sound-promise t s = record { link = s.link; room = s.room; acting = s.acting; finish = s.finish; listed = s.listed; promises = one-more t.made None t.promises s.promises }
 
 pub sound-refuse : (e : ErrorKind) (t : Talk) → IsSound t → IsSound (refuse e t)
-sound-refuse e t s = record { link = s.link; room = s.room; listed = s.listed; promises = put-ascends t.made (Some (Err e)) t.promises s.promises }
+sound-refuse e t s = record { link = s.link; room = s.room; acting = s.acting; finish = s.finish; listed = s.listed; promises = one-more t.made (Some (Err e)) t.promises s.promises }
 
 -- ---- ends
 
 pub sound-fail : (e : ErrorKind) (t : Talk) → IsSound t → IsSound (fail e t)
-sound-fail e t s = record { link = refl; room = λ h. absurd cc; listed = tt; promises = s.promises }
+sound-fail e t s = record { link = refl; room = λ h. absurd cc; acting = λ h. absurd cc; finish = s.finish; listed = tt; promises = s.promises }
 
 pub sound-close : (t : Talk) → IsSound t → IsSound (close t)
-sound-close t s = record { link = refl; room = λ h. absurd cc; listed = tt; promises = s.promises }
+sound-close t s = record { link = refl; room = λ h. absurd cc; acting = λ h. absurd cc; finish = s.finish; listed = tt; promises = s.promises }
 
 pub sound-finish : (o : Option ServerClose) (t : Talk) → IsSound t → IsSound (finish_by o t)
 sound-finish None t s = sound-close t s
@@ -105,12 +125,12 @@ sound-starve t s = if_case IsSound (has_ended t) t (fail NoMemory t) s (sound-fa
 
 pub sound-present : (at : ℕ) (t : Talk) → IsSound t → IsSound (present_at at t)
 sound-present at t s =
-    if_case IsSound (has_ended t) t (record t { present = max t.present at }) s (record { link = s.link; room = s.room; listed = s.listed; promises = s.promises })
+    if_case IsSound (has_ended t) t (record t { present = max t.present at }) s (record { link = s.link; room = s.room; acting = s.acting; finish = s.finish; listed = s.listed; promises = s.promises })
 
 -- ---- channels
 
 sound-set : (n : ℕ) (c : Channel) (t : Talk) → 0 < n → IsSound t → IsSound (set_channel n c t)
-sound-set n c t some s = record { link = s.link; room = s.room; listed = put-from n c 0 t.channels some s.listed; promises = s.promises }
+sound-set n c t some s = record { link = s.link; room = s.room; acting = s.acting; finish = s.finish; listed = put-from n c 0 t.channels some s.listed; promises = s.promises }
 
 sound-unawaited : (n : ℕ) (held : ChannelState) (m : AnyMethod) (t : Talk) → IsSound t → IsSound (unawaited_channel_method n held m t)
 sound-unawaited n channel.Closing m t s = s
@@ -119,12 +139,12 @@ sound-unawaited n _ m t s = sound-fail _ t s
 sound-opened : (n : ℕ) (c : Channel) (a : Option Awaited) (t : Talk) → 0 < n → IsSound t → IsSound (channel_opened n c a t)
 sound-opened n c None t some s = sound-unawaited n c.state ChannelOpenOk t s
 sound-opened n c (Some a) t some s =
-    sound-give_to a.promise _ _ (record { link = s.link; room = s.room; listed = put-from n _ 0 t.channels some s.listed; promises = s.promises })
+    sound-give_to a.promise _ _ (record { link = s.link; room = s.room; acting = s.acting; finish = s.finish; listed = put-from n _ 0 t.channels some s.listed; promises = s.promises })
 
 sound-closed : (n : ℕ) (c : Channel) (a : Option Awaited) (t : Talk) → IsSound t → IsSound (channel_closed n c a t)
 sound-closed n c None t s = sound-unawaited n c.state ChannelCloseOk t s
 sound-closed n c (Some a) t s =
-    sound-give_to a.promise _ _ (record { link = s.link; room = s.room; listed = without-from n 0 t.channels s.listed; promises = s.promises })
+    sound-give_to a.promise _ _ (record { link = s.link; room = s.room; acting = s.acting; finish = s.finish; listed = without-from n 0 t.channels s.listed; promises = s.promises })
 
 sound-channel : (state : ConnectionState) (n : ℕ) (c : Channel) (m : AnyMethod) (t : Talk) → 0 < n → IsSound t → IsSound (channel_rule state n c m t)
 sound-channel Closing n c m t some s = s
@@ -137,7 +157,7 @@ sound-channel-by None n m t some s = sound-misplaced _ t s
 sound-channel-by (Some c) n m t some s = sound-channel t.state n c m t some s
 
 sound-hand : (opened : ℕ) (h : Handed) (t : Talk) → IsSound t → IsSound (hand_out opened h t)
-sound-hand opened h t s = record { link = s.link; room = s.room; listed = s.listed; promises = s.promises }
+sound-hand opened h t s = record { link = s.link; room = s.room; acting = s.acting; finish = s.finish; listed = s.listed; promises = s.promises }
 
 sound-pass : (n : ℕ) (c : Channel) (kind : RawKind) (bytes : List ℕ) (t : Talk) → 0 < n → IsSound t → IsSound (pass_through n c kind bytes t)
 sound-pass n c kind bytes t some s =
@@ -176,57 +196,85 @@ tune-room own server = wish-some 65535 (lesser_wish own.channel_max server.chann
 sound-connection-closed : (a : Option Awaited) (t : Talk) → IsSound t → IsSound (connection_closed a t)
 sound-connection-closed None t s = sound-close t s
 sound-connection-closed (Some a) t s =
-    sound-close _ (sound-give_to a.promise (Ok Done) _ (record { link = s.link; room = s.room; listed = s.listed; promises = s.promises }))
+    sound-close _ (sound-give_to a.promise (Ok Done) _ (record { link = s.link; room = s.room; acting = s.acting; finish = s.finish; listed = s.listed; promises = s.promises }))
 
-sound-connection : (state : ConnectionState) (p : Phase) (m : AnyMethod) (t : Talk) → t.state ≡ state → t.phase ≡ p → is_open t ≡ true → IsSound t
-    → IsSound (connection_rule state p m t)
-sound-connection state p (Close code text class method) t hs hp opened s =
-    record { link = open-closing t.link opened; room = λ h. absurd cc; listed = s.listed; promises = s.promises }
-sound-connection Closing p CloseOk t hs hp opened s = sound-connection-closed (first_awaited 0 ConnectionClosed t.awaited) t s
-sound-connection Closing p m t hs hp opened s = s
-sound-connection Connecting AwaitStart (Start a b c d e) t hs hp opened s =
+sound-connection : (state : ConnectionState) (p : Phase) (m : AnyMethod) (t : Talk) → t.state ≡ state → t.phase ≡ p → is_open t ≡ true
+    → is_acting t.input ≡ true → IsSound t → IsSound (connection_rule state p m t)
+sound-connection state p (Close code text class method) t hs hp opened acting s =
+    record {
+      link = open-closing t.link opened;
+      room = λ h. absurd cc;
+      acting = λ h. absurd cc;
+      finish =
+          alone-last t.committed t.control (plain 0 close_ok)
+          (acting-none t.input (following t.committed t.control) acting s.finish);
+      listed = s.listed;
+      promises = s.promises;
+    }
+sound-connection Closing p CloseOk t hs hp opened acting s = sound-connection-closed (first_awaited 0 ConnectionClosed t.awaited) t s
+sound-connection Closing p m t hs hp opened acting s = s
+sound-connection Connecting AwaitStart (Start a b c d e) t hs hp opened acting s =
     record {
       link = s.link;
+      acting = s.acting;
+      finish = queue-finishes t.input t.committed t.control (plain 0 start_ok) acting refl s.finish;
       listed = s.listed;
       promises = s.promises;
       room = λ h. (let k : is_agreed Connecting AwaitTune ≡ true = subst (λ x. is_agreed x AwaitTune ≡ true) hs h in absurd cc);
     }
-sound-connection Connecting AwaitTune (Tune a b c) t hs hp opened s =
-    record { link = s.link; room = λ h. tune-room t.configuration (record { channel_max = a; frame_max = b; heartbeat = c }); listed = s.listed; promises = s.promises }
-sound-connection Connecting AwaitOpenOk OpenOk t hs hp opened s =
+sound-connection Connecting AwaitTune (Tune a b c) t hs hp opened acting s =
+    let server : Configuration = record { channel_max = a; frame_max = b; heartbeat = c } in
+    let tuned : Item = plain 0 (tune_ok (tune t.configuration server)) in
+    record {
+      link = s.link;
+      room = λ h. tune-room t.configuration server;
+      acting = s.acting;
+      finish =
+          queue-finishes t.input t.committed (t.control ++ tuned ∷ []) (plain 0 open_vhost) acting refl
+          (queue-finishes t.input t.committed t.control tuned acting refl s.finish);
+      listed = s.listed;
+      promises = s.promises;
+    }
+sound-connection Connecting AwaitOpenOk OpenOk t hs hp opened acting s =
     let given : IsSound (give 0 (Ok AnswerConnected) t) = sound-give 0 (Ok AnswerConnected) t s in
     record {
       link = opened-fits t.link (subst (λ x. fits_link x t.link ≡ true) hs s.link);
       room = λ h. s.room (ap (λ x. is_agreed x t.phase) hs ∙ ap (is_agreed Connecting) hp);
+      acting = λ h. acting;
+      finish = s.finish;
       listed = s.listed;
       promises = given.promises;
     }
-sound-connection held p m t hs hp opened s = sound-fail _ t s
+sound-connection held p m t hs hp opened acting s = sound-fail _ t s
 
 -- ---- frames
 
-sound-method : (n : ℕ) (m : AnyMethod) (t : Talk) → is_open t ≡ true → IsSound t → IsSound (method_rule n m t)
-sound-method zero m t opened s =
+sound-method : (n : ℕ) (m : AnyMethod) (t : Talk) → is_open t ≡ true → is_acting t.input ≡ true → IsSound t → IsSound (method_rule n m t)
+sound-method zero m t opened acting s =
     if_case IsSound (is_of_a_channel m) (misplaced _ t) (connection_rule t.state t.phase m t)
-    (sound-misplaced _ t s) (sound-connection t.state t.phase m t refl refl opened s)
-sound-method (suc n) m t opened s =
+    (sound-misplaced _ t s) (sound-connection t.state t.phase m t refl refl opened acting s)
+sound-method (suc n) m t opened acting s =
     if_case IsSound (is_of_a_channel m) (channel_method (suc n) m t) (misplaced _ t)
     (sound-channel-by (heard_on t.state (channel_at (suc n) t)) (suc n) m t (omega arith) s) (sound-misplaced _ t s)
 
-sound-rule : (f : Frame) (place : ℕ) (t : Talk) → is_open t ≡ true → IsSound t → IsSound (frame_rule f place t)
-sound-rule (ProtocolHeader version) place t opened s = sound-fail _ t s
-sound-rule Heartbeat place t opened s = s
-sound-rule (Method n m) place t opened s = if_case IsSound (is_unbuilt m) (fail _ t) (method_rule n m t) (sound-fail _ t s) (sound-method n m t opened s)
-sound-rule (Raw zero kind bytes) place t opened s = sound-misplaced _ t s
-sound-rule (Raw (suc n) kind bytes) place t opened s = sound-raw (heard_on t.state (channel_at (suc n) t)) (suc n) kind bytes t (omega arith) s
+sound-rule : (f : Frame) (place : ℕ) (t : Talk) → is_open t ≡ true → is_acting t.input ≡ true → IsSound t → IsSound (frame_rule f place t)
+sound-rule (ProtocolHeader version) place t opened acting s = sound-fail _ t s
+sound-rule Heartbeat place t opened acting s = s
+sound-rule (Method n m) place t opened acting s = if_case IsSound (is_unbuilt m) (fail _ t) (method_rule n m t) (sound-fail _ t s) (sound-method n m t opened acting s)
+sound-rule (Raw zero kind bytes) place t opened acting s = sound-misplaced _ t s
+sound-rule (Raw (suc n) kind bytes) place t opened acting s = sound-raw (heard_on t.state (channel_at (suc n) t)) (suc n) kind bytes t (omega arith) s
 
 acting-open : (a b : Bool) → (a && b) ≡ true → a ≡ true
 acting-open true b h = refl
 acting-open false b h = h
 
+open-acting : (a b : Bool) → (a && b) ≡ true → b ≡ true
+open-acting true b h = h
+open-acting false b h = absurd cc
+
 pub sound-frame : (f : Frame) (place : ℕ) (t : Talk) → IsSound t → IsSound (on_frame f place t)
 sound-frame f place t s =
-    if_by IsSound (acts t) (frame_rule f place t) t (λ h. sound-rule f place t (acting-open (is_open t) (is_acting t.input) h) s) (λ h. s)
+    if_by IsSound (acts t) (frame_rule f place t) t (λ h. sound-rule f place t (acting-open (is_open t) (is_acting t.input) h) (open-acting (is_open t) (is_acting t.input) h) s) (λ h. s)
 
 -- ---- links
 
@@ -236,24 +284,24 @@ asked-fits _ Wanted h = absurd cc
 asked-fits state l h = h
 
 pub sound-asked : (t : Talk) → IsSound t → IsSound (asked t)
-sound-asked t s = record { link = asked-fits t.state t.link s.link; room = s.room; listed = s.listed; promises = s.promises }
+sound-asked t s = record { link = asked-fits t.state t.link s.link; room = s.room; acting = s.acting; finish = s.finish; listed = s.listed; promises = s.promises }
 
 pub sound-linked : (t : Talk) → IsSound t → IsSound (linked t)
-sound-linked t s = if_case IsSound (is_asked t) _ t (record { link = refl; room = λ h. absurd cc; listed = s.listed; promises = s.promises }) s
+sound-linked t s = if_case IsSound (is_asked t) _ t (record { link = refl; room = λ h. absurd cc; acting = λ h. refl; finish = (refl, tt); listed = s.listed; promises = s.promises }) s
 
 pub sound-link_failed : (t : Talk) → IsSound t → IsSound (link_failed t)
 sound-link_failed t s = if_case IsSound (is_asked t) _ t (sound-fail _ t s) s
 
 pub sound-piece : (t : Talk) → IsSound t → IsSound (piece t)
 sound-piece t s =
-    if_case IsSound (is_open t) (record t { last_read = t.present }) t (record { link = s.link; room = s.room; listed = s.listed; promises = s.promises }) s
+    if_case IsSound (is_open t) (record t { last_read = t.present }) t (record { link = s.link; room = s.room; acting = s.acting; finish = s.finish; listed = s.listed; promises = s.promises }) s
 
 pub sound-misread : (why : Misread) (t : Talk) → IsSound t → IsSound (misread why t)
 sound-misread why t s =
     if_case IsSound (acts t) (lose (misread_error why) t) (if is_open t then record t { input = dropped t.input } else t)
     (sound-fail _ t s)
     (if_case IsSound (is_open t) (record t { input = dropped t.input }) t
-    (record { link = s.link; room = s.room; listed = s.listed; promises = s.promises }) s)
+    (record { link = s.link; room = s.room; acting = λ h. dropped-acts t.input (s.acting h); finish = dropped-finishes t.input (following t.committed t.control) s.finish; listed = s.listed; promises = s.promises }) s)
 
 pub sound-lost : (fault : IoFault) (t : Talk) → IsSound t → IsSound (lost fault t)
 sound-lost fault t s =
@@ -287,37 +335,51 @@ drawn-some channel_max first channels n le h =
     (found-some p (channel_max + 1 - first) first n le) (found-some p (first - 1) 1 n (omega arith))
     (sym (find-append p (range_with_len first (channel_max + 1 - first)) (range_with_len 1 (first - 1))) ∙ h)
 
-sound-drawn : (o : Option ℕ) (first : ℕ) (t : Talk) → ((n : ℕ) → o ≡ Some n → 0 < n) → IsSound t → IsSound (open_drawn o first t)
-sound-drawn None first t some s =
+sound-drawn : (o : Option ℕ) (first : ℕ) (t : Talk) → ((n : ℕ) → o ≡ Some n → 0 < n) → is_acting t.input ≡ true → IsSound t
+    → IsSound (open_drawn o first t)
+sound-drawn None first t some acting s =
     let r : IsSound (refuse ChannelsLimitReached t) = sound-refuse ChannelsLimitReached t s in
-    record { link = r.link; room = r.room; listed = r.listed; promises = r.promises }
-sound-drawn (Some n) first t some s =
+    record { link = r.link; room = r.room; acting = s.acting; finish = s.finish; listed = r.listed; promises = r.promises }
+sound-drawn (Some n) first t some acting s =
     record {
       link = s.link;
       room = s.room;
+      acting = s.acting;
+      finish = queue-finishes t.input t.committed t.control (plain n (channel_open n)) acting (open-goes_on n) s.finish;
       listed = put-from n _ 0 t.channels (some n refl) s.listed;
-      promises = put-ascends t.made None t.promises s.promises;
+      promises = one-more t.made None t.promises s.promises;
     }
 
-sound-close-target : (r : Result Channel ErrorKind) (n code : ℕ) (text : List ℕ) (t : Talk) → ((c : Channel) → r ≡ Ok c → 0 < n) → IsSound t
+sound-close-target : (r : Result Channel ErrorKind) (n code : ℕ) (text : List ℕ) (t : Talk) → ((c : Channel) → r ≡ Ok c → 0 < n)
+    → is_acting t.input ≡ true → IsSound t
     → IsSound (close_target r n code text t)
-sound-close-target (Err e) n code text t some s = sound-refuse e t s
-sound-close-target (Ok c) n code text t some s =
+sound-close-target (Err e) n code text t some acting s = sound-refuse e t s
+sound-close-target (Ok c) n code text t some acting s =
     record {
       link = s.link;
       room = s.room;
+      acting = s.acting;
+      finish = queue-finishes t.input t.committed t.control (plain n (our_channel_close n code text)) acting (close-goes_on n code text) s.finish;
       listed = put-from n _ 0 t.channels (some c refl) s.listed;
-      promises = put-ascends t.made None t.promises s.promises;
+      promises = one-more t.made None t.promises s.promises;
     }
 
-sound-send : (r : Result Channel ErrorKind) (n : ℕ) (m : OtherMethod) (t : Talk) → IsSound t → IsSound (send_target r n m t)
-sound-send (Err e) n m t s = sound-refuse e t s
-sound-send (Ok c) n m t s =
+sound-send : (r : Result Channel ErrorKind) (n : ℕ) (m : OtherMethod) (t : Talk) → is_acting t.input ≡ true → IsSound t → IsSound (send_target r n m t)
+sound-send (Err e) n m t acting s = sound-refuse e t s
+sound-send (Ok c) n m t acting s =
     let frame = method_frame n m in
     if_case IsSound (nat_lt t.capacity (length (encoding frame))) (refuse (SerialisationError (length (encoding frame))) t)
     (promise (queue_item (record { channel = n; frame = frame; promise = Some (next_promise t) }) t))
     (sound-refuse _ t s)
-    (record { link = s.link; room = s.room; listed = s.listed; promises = put-ascends t.made None t.promises s.promises })
+    (record {
+      link = s.link;
+      room = s.room;
+      acting = s.acting;
+      finish =
+          queue-finishes t.input t.committed t.control (record { channel = n; frame = frame; promise = Some (next_promise t) }) acting refl s.finish;
+      listed = s.listed;
+      promises = one-more t.made None t.promises s.promises;
+    })
 
 -- a channel that is listed has a number of at least 1
 listed-some : (n : ℕ) (c : Channel) (es : List (ℕ × Channel)) → AscendFrom 0 (keys_of es) → at n es ≡ Some c → 0 < n
@@ -345,21 +407,29 @@ target-some : (r : ChanRef) (word : Word) (t : Talk) (c : Channel) → AscendFro
 target-some r word t c s h =
     listed-some r.id c t.channels s (named-listed r (channel_at r.id t) c (target-named (named r t) r.id word c h))
 
+-- where the connection goes on, frames act
+acts-on : (state : ConnectionState) (t : Talk) → t.state ≡ state → goes_on state ≡ true → IsSound t → is_acting t.input ≡ true
+acts-on state t hs h s = s.acting (ap goes_on hs ∙ h)
+
 sound-command-rule : (state : ConnectionState) (c : Cmd) (t : Talk) → t.state ≡ state → IsSound t → IsSound (command_rule state c t)
 sound-command-rule Connected OpenChannel t hs s =
     let first = first_number t.configuration.channel_max t.cursor in
     sound-drawn (drawn t.configuration.channel_max first t.channels) first t
-    (λ n h. drawn-some t.configuration.channel_max first t.channels n (first-some t.configuration.channel_max t.cursor) h) s
+    (λ n h. drawn-some t.configuration.channel_max first t.channels n (first-some t.configuration.channel_max t.cursor) h)
+    (acts-on Connected t hs refl s) s
 sound-command-rule Connected (CloseChannel r code text) t hs s =
-    sound-close-target (target r word.ChannelClose t) r.id code text t (λ c h. target-some r word.ChannelClose t c s.listed h) s
+    sound-close-target (target r word.ChannelClose t) r.id code text t (λ c h. target-some r word.ChannelClose t c s.listed h)
+    (acts-on Connected t hs refl s) s
 sound-command-rule Connected (CloseConnection code text) t hs s =
     record {
       link = closing-fits t.link (subst (λ x. fits_link x t.link ≡ true) hs s.link);
       room = λ h. absurd cc;
+      acting = λ h. absurd cc;
+      finish = queue-finishes t.input t.committed t.control (plain 0 (our_close code text)) (acts-on Connected t hs refl s) refl s.finish;
       listed = map_values-from closing 0 t.channels s.listed;
-      promises = put-ascends t.made None t.promises s.promises;
+      promises = one-more t.made None t.promises s.promises;
     }
-sound-command-rule Connected (Send r method) t hs s = sound-send (target r word.Send t) r.id method t s
+sound-command-rule Connected (Send r method) t hs s = sound-send (target r word.Send t) r.id method t (acts-on Connected t hs refl s) s
 sound-command-rule _ c t hs s = sound-refuse _ t s
 
 pub sound-command : (c : Cmd) (t : Talk) → IsSound t → IsSound (command c t)
@@ -367,50 +437,77 @@ sound-command c t s = sound-command-rule t.state c t refl s
 
 -- ---- writing
 
-committed-as : (o : Option Item) (t : Talk) → IsSound t → IsSound (committed_as o t)
-committed-as None t s = s
-committed-as (Some item) t s = record { link = s.link; room = s.room; listed = s.listed; promises = s.promises }
+committed-as : (o : Option Item) (space : ℕ) (t : Talk) → next_within space t ≡ o → IsSound t → IsSound (committed_as o t)
+committed-as None space t h s = s
+committed-as (Some item) space t h s =
+    record {
+      link = s.link;
+      room = s.room;
+      acting = s.acting;
+      finish = subst (Finishes t.input) (committed-follows space t item h) s.finish;
+      listed = s.listed;
+      promises = s.promises;
+    }
 
 pub sound-commit : (space : ℕ) (t : Talk) → IsSound t → IsSound (commit space t)
-sound-commit space t s = committed-as (next_within space t) t s
+sound-commit space t s = committed-as (next_within space t) space t refl s
 
 sound-follow : (th : Then) (t : Talk) → IsSound t → IsSound (follow th t)
 sound-follow Nothing t s = s
 sound-follow (Answer n) t s = sound-give n (Ok Sent) t s
 sound-follow Finish t s = sound-finish t.server_close t s
 
-sound-sent : (ms : List Mark) (n : ℕ) (t : Talk) → IsSound t → IsSound (sent_among ms n t)
-sound-sent [] n t s = s
-sound-sent (m ∷ ms) n t s =
+-- the first committed frame was sent
+sound-first : (m : Mark) (t : Talk) → IsSound t → IsSound (sent m t)
+sound-first m t s =
+    sound-follow m.then (record t { committed = drop 1 t.committed })
+    (record {
+      link = s.link;
+      room = s.room;
+      acting = s.acting;
+      finish = first-goes t.input t.committed t.control s.finish;
+      listed = s.listed;
+      promises = s.promises;
+    })
+
+sound-sent : (ms : List Mark) (n : ℕ) (t : Talk) → t.committed ≡ ms → IsSound t → IsSound (sent_among ms n t)
+sound-sent [] n t h s = s
+sound-sent (m ∷ ms) n t h s =
     let rest : Talk = record t { committed = record m { left = m.left - n } ∷ ms } in
     let on : Talk = sent_among ms (n - m.left) (sent m t) in
     if_case IsSound (is_open t) (if nat_le m.left n then on else rest) t
     (if_case IsSound (nat_le m.left n) on rest
-    (sound-sent ms (n - m.left) (sent m t)
-    (sound-follow m.then (record t { committed = drop 1 t.committed }) (record { link = s.link; room = s.room; listed = s.listed; promises = s.promises })))
-    (record { link = s.link; room = s.room; listed = s.listed; promises = s.promises }))
+    (sound-sent ms (n - m.left) (sent m t) (sent-committed m ms t h) (sound-first m t s))
+    (record {
+      link = s.link;
+      room = s.room;
+      acting = s.acting;
+      finish = subst (λ (xs : List Mark). Finishes t.input (following xs t.control)) h s.finish;
+      listed = s.listed;
+      promises = s.promises;
+    }))
     s
 
 pub sound-taken : (n : ℕ) (t : Talk) → IsSound t → IsSound (taken n t)
 sound-taken n t s =
     let u : Talk = record t { last_write = t.present } in
     if_case IsSound (is_open t && not (n == 0)) (sent_among t.committed n u) t
-    (sound-sent t.committed n u (record { link = s.link; room = s.room; listed = s.listed; promises = s.promises })) s
+    (sound-sent t.committed n u refl (record { link = s.link; room = s.room; acting = s.acting; finish = s.finish; listed = s.listed; promises = s.promises })) s
 
 -- ---- answers and frames
 
 pub sound-answer : (n : ℕ) (t : Talk) → IsSound t → IsSound (take_answer n t)
 sound-answer n t s =
     if_case IsSound (is_some (answer_of n t)) (record t { promises = without n t.promises }) t
-    (record { link = s.link; room = s.room; listed = s.listed; promises = without-ascends n t.promises s.promises }) s
+    (record { link = s.link; room = s.room; acting = s.acting; finish = s.finish; listed = s.listed; promises = (without-ascends n t.promises s.promises.0, without-below n t.made t.promises s.promises.1) }) s
 
 pub sound-frames : (opened : ℕ) (t : Talk) → IsSound t → IsSound (take_frames opened t)
-sound-frames opened t s = record { link = s.link; room = s.room; listed = s.listed; promises = s.promises }
+sound-frames opened t s = record { link = s.link; room = s.room; acting = s.acting; finish = s.finish; listed = s.listed; promises = s.promises }
 
 -- ---- all of them
 
 pub sound-start : IsSound start
-sound-start = record { link = refl; room = λ h. absurd cc; listed = tt; promises = tt }
+sound-start = record { link = refl; room = λ h. absurd cc; acting = λ h. absurd cc; finish = tt; listed = tt; promises = (tt, (omega arith, tt)) }
 
 pub keeps-sound : (t : Talk) → IsSound t → StaysSound t
 keeps-sound t s =

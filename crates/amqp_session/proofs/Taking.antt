@@ -1,12 +1,12 @@
--- Answers are taken once.
-use Rattle.std.proofs.Common.{◌≡◌, ◌∙◌, ap, refl, ℕ, Bool, true, false, Option, Some, None, is_some}
+-- Answers are taken once, and of promises alone that were made.
+use Rattle.std.proofs.Common.{◌≡◌, ◌∙◌, ◌≤◌, ap, refl, ℕ, Bool, true, false, if◌then◌else◌, Option, Some, None, is_some}
 use Rattle.std.specs.Map.{keys_of}
 use Rattle.amqp_session.specs.Listed.{without}
 use Rattle.amqp_session.specs.Talk.{Talk, end_of}
 use Rattle.amqp_session.specs.Answers.{answer_in, answer_of, take_answer}
-use Rattle.amqp_session.specs.Sound.{Ascend}
+use Rattle.amqp_session.specs.Sound.{Ascend, AllBelow}
 use Rattle.amqp_session.proofs.Cases.{if-true, if-false}
-use Rattle.amqp_session.proofs.Ascending.{at-gone}
+use Rattle.amqp_session.proofs.Ascending.{at-gone, none-above}
 
 none-from : {A : Type 0} (o : Option A) → is_some o ≡ false → o ≡ None
 none-from None h = refl
@@ -23,3 +23,7 @@ taken-once number t sorted = by (is_some (answer_of number t)) refl
         ap (answer_of number) (if-true (is_some (answer_of number t)) rest t h)
         ∙ ap (answer_in (end_of t)) (at-gone number t.promises sorted)
     by false h = ap (answer_of number) (if-false (is_some (answer_of number t)) rest t h) ∙ none-from (answer_of number t) h
+
+-- a promise that was not made has no answer
+pub unmade-none : (number : ℕ) (t : Talk) → AllBelow t.made (keys_of t.promises) → t.made ≤ number → answer_of number t ≡ None
+unmade-none number t below le = ap (answer_in (end_of t)) (none-above number t.made t.promises le below)

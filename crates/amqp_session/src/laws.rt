@@ -47,16 +47,20 @@ pub fn an_end_is_kept()
     ensures { (t : Talk) → IsEnded t → IsOver t }
 {}
 
-/// An answer is taken once.
+/// An answer is taken once, and a promise that was not made has none.
 pub fn an_answer_is_taken_once()
-    ensures { (number : ℕ) (t : Talk) → IsSound t → answer_of number (take_answer number t) ≡ None }
+    ensures once { (number : ℕ) (t : Talk) → IsSound t → answer_of number (take_answer number t) ≡ None }
+    ensures unmade { (number : ℕ) (t : Talk) → IsSound t → t.made ≤ number → answer_of number t ≡ None }
 {}
 
-/// What is committed is unsent, and what is taken is no longer so, while the link is open.
+/// What is committed is unsent, and what is taken is no longer so, while the link is open; in a sound
+/// state that goes for the write that ends the session too.
 pub fn unsent_bytes_are_counted()
     ensures committed { (space : ℕ) (t : Talk) (item : Item) → next_within space t ≡ Some item
         → unsent (commit space t) ≡ unsent t + length (encoding item.frame) }
     ensures taken { (n : ℕ) (t : Talk) → IsTrue (is_open (taken n t)) → n ≤ unsent t
+        → unsent (taken n t) + n ≡ unsent t }
+    ensures sound { (n : ℕ) (t : Talk) → IsSound t → IsTrue (is_open t) → n ≤ unsent t
         → unsent (taken n t) + n ≡ unsent t }
 {}
 

@@ -1,5 +1,12 @@
+use Rattle.amqp_session.specs.Sound.{following}
 use Rattle.amqp_session.proofs.Counting.{unsent-taken}
+use Rattle.amqp_session.proofs.Finishing.{finishes-last, open-taken}
 use Rattle.amqp_session.proofs.laws.unsent_bytes_are_counted.Goals as goal
 
 pub returns-clause-taken : goal.returns-clause-taken
 returns-clause-taken c = unsent-taken
+
+pub returns-clause-sound : goal.returns-clause-sound
+returns-clause-sound c =
+    λ n t sound opened within.
+    open-taken n t opened (finishes-last t.input (following t.committed t.control) sound.finish) within

@@ -1,0 +1,180 @@
+-- What finishes a session is the last that is sent.
+use Rattle.std.proofs.Common.{◌≡◌, ◌∙◌, ap, sym, subst, refl, ℕ, zero, suc, ◌+◌, ◌-◌, ◌≤◌, ◌==◌, ◌&&◌, not, nat_le, if◌then◌else◌, Bool, true, false, List, [], ◌∷◌, ◌++◌, drop, Option, Some, None, arith}
+use Rattle.std.proofs.lemmas.Bool.Decides.{nat_tests}
+use Rattle.std.specs.Prelude.{IsTrue, IsFalse}
+use Rattle.amqp_session.specs.declared.committed.Mark.{Mark}
+use Rattle.amqp_session.specs.declared.committed.Then.{Then}
+use Rattle.amqp_session.specs.declared.committed.Then.TheVariants.{Nothing, Answer, Finish}
+use Rattle.amqp_session.specs.declared.lanes.Item.{Item}
+use Rattle.amqp_session.specs.declared.state.Input.{Input}
+use Rattle.amqp_session.specs.declared.state.Input.TheVariants.{Acting, Closed, Dropped}
+use Rattle.amqp_session.specs.Talk.{Talk, is_open, is_acting}
+use Rattle.amqp_session.specs.Changes.{plain}
+use Rattle.amqp_session.specs.Handshake.{channel_open, our_channel_close}
+use Rattle.amqp_session.specs.Links.{dropped}
+use Rattle.amqp_session.specs.Writing.{left_in, unsent, taken, sent_among, sent, follow, head, fitting, next_item, next_within, then_of, mark_of}
+use Rattle.amqp_session.specs.Sound.{is_finish, following, NoneFinishes, LastFinishes, Finishes}
+use Rattle.amqp_session.proofs.Cases.{if-true, if-false}
+use Rattle.amqp_session.proofs.Counting.{other-false}
+use Rattle.amqp_session.proofs.Keeping.{left_after, left_in-left_after, follow-keeps}
+
+-- ---- nothing finishes, or the last does
+
+pub none-last : (ths : List Then) → NoneFinishes ths → LastFinishes ths
+none-last [] h = tt
+none-last (th ∷ ths) h = let no : is_finish th ≡ false = h.0 in ((λ (f : IsTrue (is_finish th)). absurd cc), none-last ths h.1)
+
+pub acting-none : (i : Input) (ths : List Then) → is_acting i ≡ true → Finishes i ths → NoneFinishes ths
+acting-none Acting ths a h = h
+acting-none (Closed c) ths a h = absurd cc
+acting-none (Dropped c) ths a h = absurd cc
+
+none-finishes : (i : Input) (ths : List Then) → NoneFinishes ths → Finishes i ths
+none-finishes Acting ths h = h
+none-finishes (Closed c) ths h = none-last ths h
+none-finishes (Dropped c) ths h = none-last ths h
+
+pub finishes-last : (i : Input) (ths : List Then) → Finishes i ths → LastFinishes ths
+finishes-last Acting ths h = none-last ths h
+finishes-last (Closed c) ths h = h
+finishes-last (Dropped c) ths h = h
+
+pub dropped-finishes : (i : Input) (ths : List Then) → Finishes i ths → Finishes (dropped i) ths
+dropped-finishes Acting ths h = h
+dropped-finishes (Closed c) ths h = h
+dropped-finishes (Dropped c) ths h = h
+
+pub dropped-acts : (i : Input) → is_acting i ≡ true → is_acting (dropped i) ≡ true
+dropped-acts Acting h = refl
+dropped-acts (Closed c) h = absurd cc
+dropped-acts (Dropped c) h = absurd cc
+
+-- ---- a frame is queued
+
+queued : (ms : List Mark) (is : List Item) (x : Item) → is_finish (then_of x) ≡ false → NoneFinishes (following ms is)
+    → NoneFinishes (following ms (is ++ x ∷ []))
+queued [] [] x f h = (f, tt)
+queued [] (i ∷ is) x f h = (h.0, queued [] is x f h.1)
+queued (m ∷ ms) is x f h = (h.0, queued ms is x f h.1)
+
+-- where frames act, one is queued that does not finish
+pub queue-finishes : (i : Input) (ms : List Mark) (is : List Item) (x : Item) → is_acting i ≡ true → is_finish (then_of x) ≡ false
+    → Finishes i (following ms is) → Finishes i (following ms (is ++ x ∷ []))
+queue-finishes i ms is x a f h = none-finishes i (following ms (is ++ x ∷ [])) (queued ms is x f (acting-none i (following ms is) a h))
+
+-- one frame alone waits behind what does not finish
+pub alone-last : (ms : List Mark) (is : List Item) (x : Item) → NoneFinishes (following ms is) → LastFinishes (following ms (x ∷ []))
+alone-last [] is x h = ((λ f. refl), tt)
+alone-last (m ∷ ms) is x h =
+    let no : is_finish m.then ≡ false = h.0 in ((λ (f : IsTrue (is_finish m.then)). absurd cc), alone-last ms is x h.1)
+
+pub open-goes_on : (n : ℕ) → is_finish (then_of (plain n (channel_open n))) ≡ false
+open-goes_on zero = refl
+open-goes_on (suc n) = refl
+
+pub close-goes_on : (n code : ℕ) (text : List ℕ) → is_finish (then_of (plain n (our_channel_close n code text))) ≡ false
+close-goes_on zero code text = refl
+close-goes_on (suc n) code text = refl
+
+-- ---- a frame is committed
+
+head-first : (is : List Item) (item : Item) → head is ≡ Some item → is ≡ item ∷ drop 1 is
+head-first [] item h = absurd cc
+head-first (i ∷ is) item h = let same : i ≡ item = cc in ap (λ (x : Item). x ∷ is) same
+
+if-some : (b : Bool) (o : Option Item) (item : Item) → (if b then o else None) ≡ Some item → o ≡ Some item
+if-some true o item h = h
+if-some false o item h = absurd cc
+
+fitting-some : (space : ℕ) (o : Option Item) (item : Item) → fitting space o ≡ Some item → o ≡ Some item
+fitting-some space None item h = absurd cc
+fitting-some space (Some i) item h = if-some _ (Some i) item h
+
+moved : (ms : List Mark) (item : Item) (is : List Item) → following (ms ++ mark_of item ∷ []) is ≡ following ms (item ∷ is)
+moved [] item is = refl
+moved (m ∷ ms) item is = ap (λ (ths : List Then). m.then ∷ ths) (moved ms item is)
+
+-- what follows stays where a frame is committed
+pub committed-follows : (space : ℕ) (t : Talk) (item : Item) → next_within space t ≡ Some item
+    → following t.committed t.control ≡ following (t.committed ++ mark_of item ∷ []) (drop 1 t.control)
+committed-follows space t item h =
+    ap (following t.committed) (head-first t.control item (if-some (is_open t) (head t.control) item (fitting-some space (next_item t) item h)))
+    ∙ sym (moved t.committed item (drop 1 t.control))
+
+-- ---- frames are sent
+
+tail-finishes : (i : Input) (th : Then) (ths : List Then) → Finishes i (th ∷ ths) → Finishes i ths
+tail-finishes Acting th ths h = h.1
+tail-finishes (Closed c) th ths h = h.1
+tail-finishes (Dropped c) th ths h = h.1
+
+-- the first committed frame goes
+pub first-goes : (i : Input) (ms : List Mark) (is : List Item) → Finishes i (following ms is) → Finishes i (following (drop 1 ms) is)
+first-goes i [] is h = h
+first-goes i (m ∷ ms) is h = tail-finishes i m.then (following ms is) h
+
+pub sent-committed : (m : Mark) (ms : List Mark) (t : Talk) → t.committed ≡ m ∷ ms → (sent m t).committed ≡ ms
+sent-committed m ms t h =
+    follow-keeps (λ (x : Talk). x.committed) (λ t s l cs ps. refl) m.then (record t { committed = drop 1 t.committed }) ∙ ap (drop 1) h
+
+module _ (m : Mark) (ms : List Mark) (k : ℕ) (t : Talk) (h : t.committed ≡ m ∷ ms) (opened : is_open t ≡ true)
+    (last : LastFinishes (m.then ∷ following ms t.control))
+    (later : is_open (sent m t) ≡ true → (sent_among ms k (sent m t)).committed ≡ left_after ms k) where
+  sent-first : (th : Then) → m.then ≡ th → (sent_among ms k (sent m t)).committed ≡ left_after ms k
+  sent-first Nothing e = later (ap (λ (th : Then). is_open (follow th (record t { committed = drop 1 t.committed }))) e ∙ opened)
+  sent-first (Answer n) e = later (ap (λ (th : Then). is_open (follow th (record t { committed = drop 1 t.committed }))) e ∙ opened)
+  sent-first Finish e =
+      let none : following ms t.control ≡ [] = last.0 (ap is_finish e) in
+      let empty : ms ≡ [] = no-marks ms t.control none in
+      subst (λ (xs : List Mark). (sent_among xs k (sent m t)).committed ≡ left_after xs k) (sym empty) (sent-committed m ms t h ∙ empty)
+    where
+      no-marks : (ms : List Mark) (is : List Item) → following ms is ≡ [] → ms ≡ []
+      no-marks [] is h = refl
+      no-marks (m ∷ ms) is h = absurd cc
+
+module _ (m : Mark) (ms : List Mark) (n : ℕ) (t : Talk) where
+  abbrev gone_on : Talk
+  gone_on = sent_among ms (n - m.left) (sent m t)
+
+  abbrev left_here : Talk
+  left_here = record t { committed = record m { left = m.left - n } ∷ ms }
+
+  one-left : (b : Bool) → gone_on.committed ≡ left_after ms (n - m.left)
+      → (if b then gone_on else left_here).committed ≡ (if b then left_after ms (n - m.left) else record m { left = m.left - n } ∷ ms)
+  one-left false h = refl
+  one-left true h = h
+
+-- on an open link the frames whose last byte was taken are no longer committed
+open-committed : (ms : List Mark) (n : ℕ) (t : Talk) → t.committed ≡ ms → is_open t ≡ true → LastFinishes (following ms t.control)
+    → (sent_among ms n t).committed ≡ left_after ms n
+open-committed [] n t h opened last = h
+open-committed (m ∷ ms) n t h opened last =
+    ap (λ (x : Talk). x.committed) (if-true (is_open t) (if nat_le m.left n then gone_on m ms n t else left_here m ms n t) t opened)
+    ∙ one-left m ms n t (nat_le m.left n)
+    (sent-first m ms (n - m.left) t h opened last
+    (λ still. open-committed ms (n - m.left) (sent m t) (sent-committed m ms t h) still
+    (subst (λ (is : List Item). LastFinishes (following ms is))
+    (sym (follow-keeps (λ (x : Talk). x.control) (λ t s l cs ps. refl) m.then (record t { committed = drop 1 t.committed }))) last.1))
+    m.then refl)
+
+module _ (n : ℕ) (t : Talk) (opened : is_open t ≡ true) (last : LastFinishes (following t.committed t.control)) (within : n ≤ unsent t) where
+  open-counted : (b : Bool) → (is_open t && not (n == 0)) ≡ b → unsent (taken n t) + n ≡ unsent t
+  open-counted true h =
+      let from : Talk = record t { last_write = t.present } in
+      let left : left_in (taken n t).committed ≡ left_in t.committed - n =
+      ap (λ (x : Talk). left_in x.committed) (if-true (is_open t && not (n == 0)) (sent_among t.committed n from) t h)
+      ∙ ap left_in (open-committed t.committed n from refl opened last)
+      ∙ left_in-left_after t.committed n in
+      omega (arith, left, within)
+  open-counted false h =
+      let zero_is : (n == 0) ≡ true = other-false (is_open t) (n == 0) opened h in
+      let none : n ≡ 0 = grind (arith, nat_tests) in
+      let left : left_in (taken n t).committed ≡ left_in t.committed =
+      ap (λ (x : Talk). left_in x.committed)
+      (if-false (is_open t && not (n == 0)) (sent_among t.committed n (record t { last_write = t.present })) t h) in
+      omega (arith, left, none)
+
+-- what is taken is no longer unsent, where the link was open
+pub open-taken : (n : ℕ) (t : Talk) → is_open t ≡ true → LastFinishes (following t.committed t.control) → n ≤ unsent t
+    → unsent (taken n t) + n ≡ unsent t
+open-taken n t opened last within = open-counted n t opened last within (is_open t && not (n == 0)) refl
