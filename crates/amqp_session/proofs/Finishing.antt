@@ -1,7 +1,7 @@
 -- What finishes a session is the last that is sent.
 use Rattle.std.proofs.Common.{◌≡◌, ◌∙◌, ap, sym, subst, refl, ℕ, zero, suc, ◌+◌, ◌-◌, ◌≤◌, ◌==◌, ◌&&◌, not, nat_le, if◌then◌else◌, Bool, true, false, List, [], ◌∷◌, ◌++◌, drop, Option, Some, None, arith}
 use Rattle.std.proofs.lemmas.Bool.Decides.{nat_tests}
-use Rattle.std.specs.Prelude.{IsTrue, IsFalse}
+use Rattle.std.specs.Prelude.{IsTrue}
 use Rattle.amqp_session.specs.declared.committed.Mark.{Mark}
 use Rattle.amqp_session.specs.declared.committed.Then.{Then}
 use Rattle.amqp_session.specs.declared.committed.Then.TheVariants.{Nothing, Answer, Finish}

@@ -1,5 +1,5 @@
 -- Sound states: what holds of each state that a session can be in.
-use Rattle.std.specs.Prelude.{ℕ, ◌<◌, ◌≤◌, Bool, true, false, IsTrue, List, [], ◌∷◌, map, ◌≡◌, IsFalse, Result, Ok, Err}
+use Rattle.std.specs.Prelude.{ℕ, ◌<◌, ◌≤◌, Bool, true, false, IsTrue, List, [], ◌∷◌, map, ◌≡◌, IsFalse, Ok, Err}
 use Rattle.std.specs.Map.{keys_of}
 use Rattle.amqp_session.specs.declared.state.ConnectionState.{ConnectionState}
 use Rattle.amqp_session.specs.declared.state.ConnectionState.TheVariants.{Initial, Connecting, Connected, Closing, Closed, Error}
@@ -56,7 +56,7 @@ goes_on Connecting = true
 goes_on Connected = true
 goes_on _ = false
 
--- the session finishes once the frame was sent
+-- the session finishes once its frame was sent
 abbrev pub is_finish : Then → Bool
 is_finish Finish = true
 is_finish _ = false
@@ -87,7 +87,7 @@ pub record IsSound (t : Talk) : Type 0 where
   pub link : IsTrue (fits_link t.state t.link)
   -- a connection that is open has room for a channel
   pub room : IsTrue (is_agreed t.state t.phase) → 1 ≤ t.configuration.channel_max
-  -- the frames that come act, up to the first close
+  -- while the connection is being opened, and while it is open, the frames that come act
   pub acting : IsTrue (goes_on t.state) → IsTrue (is_acting t.input)
   -- what finishes the session is the last of what is committed, and nothing waits behind it
   pub finish : Finishes t.input (following t.committed t.control)
