@@ -1,39 +1,30 @@
 -- How reading may end a session.
-use Rattle.std.proofs.Common.{◌≡◌, ◌⊎◌, inl, inr, ℕ, zero, suc, ◌+◌, ◌==◌, ◌&&◌, not, nat_lt, Bool, true, false, if◌then◌else◌, IsTrue, IsFalse, List, [], ◌∷◌, drop, Option, Some, None, Ok, Err, refl, ap, sym, ◌∙◌, subst}
+use Rattle.std.proofs.Common.{◌≡◌, ◌⊎◌, inl, inr, ℕ, zero, suc, ◌+◌, ◌==◌, ◌&&◌, not, nat_lt, Bool, true, false, if◌then◌else◌, IsTrue, List, [], ◌∷◌, drop, Option, Some, None, Err, refl, ap, sym, ◌∙◌, subst}
 use Rattle.std.specs.Option.{option_map_or}
 use Rattle.std.specs.Int.{w16, w32}
 use Rattle.amqp_types.specs.Reading.{octet_at, octets_at, number_at, ◌⊗◌}
 use Rattle.amqp_frame.specs.FrameReading.{front, header, version, expect, framed, sized, ended, content, is_type_octet}
 use Rattle.amqp_frame.specs.declared.frame.Frame.{Frame}
 use Rattle.amqp_frame.specs.declared.frame.Frame.TheVariants.{ProtocolHeader, Method, Heartbeat}
-use Rattle.amqp_frame.specs.declared.frame.RawKind.TheVariants.{RawMethod}
 use Rattle.amqp_frame.specs.declared.frame.Read.{Read}
 use Rattle.amqp_frame.specs.declared.frame.Read.TheVariants as reading
 use Rattle.amqp_frame.specs.declared.method.Method.{Method as AnyMethod}
-use Rattle.amqp_frame.specs.declared.method.Method.TheVariants.{Start, Tune, OpenOk, Close, CloseOk, ChannelOpenOk, ChannelCloseOk}
-use Rattle.amqp_session.specs.declared.awaiting.Awaited.{Awaited}
-use Rattle.amqp_session.specs.declared.awaiting.Reply.TheVariants.{ConnectionClosed}
-use Rattle.amqp_session.specs.declared.state.ConnectionState.{ConnectionState}
-use Rattle.amqp_session.specs.declared.state.ConnectionState.TheVariants.{Connecting, Closing}
-use Rattle.amqp_session.specs.declared.state.Phase.{Phase}
-use Rattle.amqp_session.specs.declared.state.Phase.TheVariants.{AwaitStart, AwaitTune, AwaitOpenOk}
+use Rattle.amqp_frame.specs.declared.method.Method.TheVariants.{ChannelOpenOk, ChannelCloseOk}
 use Rattle.amqp_session.specs.declared.misread.Misread.{Misread}
 use Rattle.amqp_session.specs.declared.misread.Misread.TheVariants as why
 use Rattle.amqp_session.specs.declared.error.ErrorKind.{ErrorKind}
 use Rattle.amqp_session.specs.declared.error.ErrorKind.TheVariants.{InvalidProtocolVersion, InvalidChannel, InvalidConnectionState, ProtocolError, Unbuilt}
 use Rattle.amqp_session.specs.Talk.{Talk, is_acting, acts, is_open, has_ended, end_of}
 use Rattle.amqp_session.specs.Negotiation.{frame_limit}
-use Rattle.amqp_session.specs.Changes.{present_at, fail, misplaced}
+use Rattle.amqp_session.specs.Changes.{present_at}
 use Rattle.amqp_session.specs.Links.{misread}
-use Rattle.amqp_session.specs.Replies.{first_awaited}
-use Rattle.amqp_session.specs.Violations.{misread_error, stray_channel_frame}
-use Rattle.amqp_session.specs.ConnectionMethods.{connection_rule, connection_closed}
-use Rattle.amqp_session.specs.Frames.{is_unbuilt, is_of_a_channel, method_rule, frame_rule, on_frame}
+use Rattle.amqp_session.specs.Violations.{misread_error}
+use Rattle.amqp_session.specs.Frames.{frame_rule, on_frame}
 use Rattle.amqp_engine.specs.Plan.{at_most_64}
 use Rattle.amqp_engine.specs.Engine.{Engine, settle, front_of, can_read, read_row, read_badly, read_one, rule_at}
 use Rattle.amqp_engine.specs.Turn.{Progress, goes, reads, read_part}
-use Rattle.amqp_session.specs.Causes.{IsFrameError, IsUnawaited, is_awaited}
-use Rattle.amqp_engine.specs.Causes.{IsReadError, IsUndue, is_due}
+use Rattle.amqp_session.specs.Causes.{IsFrameError, IsHeededError, IsUnawaited, IsUndue, is_awaited, is_heeded}
+use Rattle.amqp_engine.specs.Causes.{IsReadError}
 use Rattle.amqp_session.proofs.Cases.{if_case, if_by, if-true, if-false}
 use Rattle.amqp_engine.proofs.Cases.{and-left, and-right}
 use Rattle.amqp_session.proofs.Ends.{Ends, ends-kept, ends-to, ends-as, ends-then, ends-present}
@@ -111,43 +102,8 @@ front-none (o ∷ rest) limit =
 
 -- ---- the errors of a frame
 
-closes : (o : Option Awaited) (t : Talk) → end_of (connection_closed o t) ≡ Some (Ok tt)
-closes None t = refl
-closes (Some a) t = refl
-
--- a method of the connection class that is due ends no session with an error
-due-none : (s : ConnectionState) (p : Phase) (m : AnyMethod) (t : Talk) (k : ErrorKind) → is_due m s p ≡ true
-    → end_of (connection_rule s p m t) ≡ Some (Err k) → end_of t ≡ Some (Err k)
-due-none s p (Close code text class method) t k due h = h
-due-none Closing p CloseOk t k due h =
-    let ok = closes (first_awaited 0 ConnectionClosed t.awaited) t in
-    absurd cc
-due-none Connecting AwaitStart (Start a b c d e) t k due h = h
-due-none Connecting AwaitTune (Tune a b c) t k due h = h
-due-none Connecting AwaitOpenOk OpenOk t k due h = h
-due-none s p m t k due h = cc
-
--- the error of a method is none of one that is due, or the session had ended with it
-undue : (k : ErrorKind) (f : Frame) (place : ℕ) (t : Talk) → end_of (frame_rule f place t) ≡ Some (Err k) → IsFrameError k f place t
-    → (end_of t ≡ Some (Err k)) ⊎ IsUndue k f t
-undue (InvalidConnectionState s) (Method zero m) place t h cause = by (is_due m t.state t.phase) refl (is_unbuilt m) refl
-  where
-    by : (due : Bool) → is_due m t.state t.phase ≡ due → (unbuilt : Bool) → is_unbuilt m ≡ unbuilt
-        → (end_of t ≡ Some (Err (InvalidConnectionState s))) ⊎ IsFalse (is_due m t.state t.phase)
-    by false free unbuilt is = inr free
-    by true due true is =
-        let ended : end_of (frame_rule (Method zero m) place t) ≡ Some (Err (Unbuilt place)) =
-        ap end_of (if-true (is_unbuilt m) (fail (Unbuilt place) t) (method_rule zero m t) is) in
-        absurd cc
-    by true due false is =
-        let here : frame_rule (Method zero m) place t ≡ connection_rule t.state t.phase m t =
-        if-false (is_unbuilt m) (fail (Unbuilt place) t) (method_rule zero m t) is
-        ∙ if-false (is_of_a_channel m) (misplaced (stray_channel_frame RawMethod) t) (connection_rule t.state t.phase m t) cause.0 in
-        inl (due-none t.state t.phase m t (InvalidConnectionState s) due (sym (ap end_of here) ∙ h))
-undue k f place t h cause = inr tt
-
 abbrev FrameCause : Frame → ℕ → Talk → ErrorKind → Type 0
-FrameCause f place t k = IsTrue (is_acting t.input) × IsFrameError k f place t × IsUndue k f t
+FrameCause f place t k = IsTrue (is_acting t.input) × IsFrameError k f place t
 
 ends-acting : (f : Frame) (place : ℕ) (t : Talk) → Ends (FrameCause f place t) t (on_frame f place t)
 ends-acting f place t = record { by = λ k h. by (acts t) refl k h }
@@ -155,11 +111,7 @@ ends-acting f place t = record { by = λ k h. by (acts t) refl k h }
     by : (b : Bool) → acts t ≡ b → (k : ErrorKind) → end_of (on_frame f place t) ≡ Some (Err k) → (end_of t ≡ Some (Err k)) ⊎ FrameCause f place t k
     by false idle k h = inl (sym (ap end_of (if-false (acts t) (frame_rule f place t) t idle)) ∙ h)
     by true acting k h =
-        let here : end_of (frame_rule f place t) ≡ Some (Err k) = sym (ap end_of (if-true (acts t) (frame_rule f place t) t acting)) ∙ h in
-        elim ((ends-frame f place t).by k h) [
-          | inl before ↦ inl before
-          | inr cause ↦ elim (undue k f place t here cause) [ inl before ↦ inl before | inr free ↦ inr (and-right (is_open t) (is_acting t.input) acting, cause, free) ]
-        ]
+        elim ((ends-frame f place t).by k h) [ inl before ↦ inl before | inr cause ↦ inr (and-right (is_open t) (is_acting t.input) acting, cause) ]
 
 -- ---- errors do not look at the moment
 
@@ -169,23 +121,30 @@ moment-awaited ChannelCloseOk c n t = refl
 moment-awaited _ c n t = refl
 
 moment-unawaited : (n : ℕ) (e : ErrorKind) (f : Frame) (t : Talk) → IsUnawaited e f (record t { present = n }) → IsUnawaited e f t
-moment-unawaited n e (Method c m) t h = (h.0, h.1, sym (moment-awaited m c n t) ∙ h.2, h.3)
+moment-unawaited n e (Method (suc c) m) t h = (h.0, h.1, sym (moment-awaited m (suc c) n t) ∙ h.2, h.3)
 moment-unawaited n e _ t h = h
+
+moment-heeded : (n : ℕ) (f : Frame) (t : Talk) → is_heeded f (record t { present = n }) ≡ is_heeded f t
+moment-heeded n (Method c m) t = refl
+moment-heeded n _ t = refl
+
+moment-undue : (n : ℕ) (f : Frame) (t : Talk) → IsUndue f (record t { present = n }) → IsUndue f t
+moment-undue n (Method zero m) t h = h
+moment-undue n _ t h = h
+
+moment-rule : (n : ℕ) (k : ErrorKind) (f : Frame) (t : Talk) → IsHeededError k f (record t { present = n }) → IsHeededError k f t
+moment-rule n (InvalidConnectionState state) f t h = (moment-undue n f t h.0, h.1)
+moment-rule n (InvalidChannel channel) f t h = h
+moment-rule n (ProtocolError e) f t h = elim h [ inl p ↦ inl p | inr p ↦ inr (moment-unawaited n (ProtocolError e) f t p) ]
+moment-rule n _ f t h = h
 
 moment-frame : (n : ℕ) (k : ErrorKind) (f : Frame) (place : ℕ) (t : Talk) → IsFrameError k f place (record t { present = n }) → IsFrameError k f place t
 moment-frame n (InvalidProtocolVersion version) (ProtocolHeader v) place t h = h
-moment-frame n (InvalidConnectionState state) (Method zero m) place t h = h
-moment-frame n (InvalidChannel channel) f place t h = h
 moment-frame n (Unbuilt built_at) (Method channel m) place t h = h
-moment-frame n (ProtocolError e) f place t h = elim h [ inl p ↦ inl p | inr p ↦ inr (moment-unawaited n (ProtocolError e) f t p) ]
-moment-frame n _ f place t h = h
-
-moment-undue : (n : ℕ) (k : ErrorKind) (f : Frame) (t : Talk) → IsUndue k f (record t { present = n }) → IsUndue k f t
-moment-undue n (InvalidConnectionState state) (Method zero m) t h = h
-moment-undue n _ f t h = tt
+moment-frame n k f place t h = (sym (moment-heeded n f t) ∙ h.0, moment-rule n k f t h.1)
 
 moment-error : (n : ℕ) (k : ErrorKind) (r : Read) (x : Engine) → IsReadError k r (record x { talk = record x.talk { present = n } }) → IsReadError k r x
-moment-error n k (reading.Whole f size) x h = (h.0, moment-frame n k f x.place x.talk h.1, moment-undue n k f x.talk h.2)
+moment-error n k (reading.Whole f size) x h = (h.0, moment-frame n k f x.place x.talk h.1)
 moment-error n k _ x h = h
 
 present-error : (at : ℕ) (r : Read) (x : Engine) (k : ErrorKind) → IsReadError k r (rule_at at (λ t. t) x) → IsReadError k r x

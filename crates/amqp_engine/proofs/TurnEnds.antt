@@ -324,21 +324,21 @@ ends-drain (w ∷ ws) p =
 
 -- what is read brings no fault, no want of memory and no want of turns
 pub not-a-fault : (fault : IoFault) (r : Read) (x : Engine) → IsReadError (IOError fault) r x → ⊥
-not-a-fault fault (reading.Whole f n) x h = h.1
+not-a-fault fault (reading.Whole f n) x h = h.1.1
 not-a-fault fault (reading.TooLarge size) x h = cc
 not-a-fault fault (reading.BadHeartbeat channel) x h = cc
 not-a-fault fault reading.Bad x h = cc
 not-a-fault fault _ x h = h
 
 not-memory : (r : Read) (x : Engine) → IsReadError NoMemory r x → ⊥
-not-memory (reading.Whole f n) x h = h.1
+not-memory (reading.Whole f n) x h = h.1.1
 not-memory (reading.TooLarge size) x h = cc
 not-memory (reading.BadHeartbeat channel) x h = cc
 not-memory reading.Bad x h = cc
 not-memory _ x h = h
 
 pub not-turns : (r : Read) (x : Engine) → IsReadError OutOfTurns r x → ⊥
-not-turns (reading.Whole f n) x h = h.1
+not-turns (reading.Whole f n) x h = h.1.1
 not-turns (reading.TooLarge size) x h = cc
 not-turns (reading.BadHeartbeat channel) x h = cc
 not-turns reading.Bad x h = cc

@@ -1,24 +1,16 @@
 -- What brings about that a session ends with an error.
-use Rattle.std.specs.Prelude.{◌≡◌, ◌⊎◌, ℕ, zero, ◌-◌, nat_le, if◌then◌else◌, ◌||◌, ◌&&◌, Bool, true, false, IsTrue, IsFalse, List, [], ◌∷◌, ◌++◌, Option, Some, None, is_some, Result, Err}
+use Rattle.std.specs.Prelude.{◌≡◌, ◌⊎◌, ℕ, ◌-◌, nat_le, if◌then◌else◌, ◌||◌, ◌&&◌, Bool, true, false, IsTrue, List, [], ◌∷◌, ◌++◌, Option, Some, None, is_some, Result, Err}
 use Rattle.amqp_types.specs.declared.error.AMQPError.{AMQPError}
-use Rattle.amqp_frame.specs.declared.frame.Frame.{Frame}
-use Rattle.amqp_frame.specs.declared.frame.Frame.TheVariants.{Method}
 use Rattle.amqp_frame.specs.declared.frame.Read.{Read}
 use Rattle.amqp_frame.specs.declared.frame.Read.TheVariants as reading
-use Rattle.amqp_frame.specs.declared.method.Method.{Method as AnyMethod}
-use Rattle.amqp_frame.specs.declared.method.Method.TheVariants.{Start, Tune, OpenOk, Close, CloseOk}
 use Rattle.amqp_session.specs.declared.committed.Mark.{Mark}
 use Rattle.amqp_session.specs.declared.committed.Then.{Then}
 use Rattle.amqp_session.specs.declared.committed.Then.TheVariants.{Finish}
 use Rattle.amqp_session.specs.declared.io_fault.IoFault.{IoFault}
 use Rattle.amqp_session.specs.declared.io_fault.IoFault.TheVariants.{Aborted, Refused, Reset, BrokenPipe}
 use Rattle.amqp_session.specs.declared.server_close.ServerClose.TheVariants.{WithError}
-use Rattle.amqp_session.specs.declared.state.ConnectionState.{ConnectionState}
-use Rattle.amqp_session.specs.declared.state.ConnectionState.TheVariants.{Connecting, Closing}
-use Rattle.amqp_session.specs.declared.state.Phase.{Phase}
-use Rattle.amqp_session.specs.declared.state.Phase.TheVariants.{AwaitStart, AwaitTune, AwaitOpenOk}
 use Rattle.amqp_session.specs.declared.error.ErrorKind.{ErrorKind}
-use Rattle.amqp_session.specs.declared.error.ErrorKind.TheVariants.{IOError, NoMemory, ParsingError, ProtocolError, InvalidConnectionState}
+use Rattle.amqp_session.specs.declared.error.ErrorKind.TheVariants.{IOError, NoMemory, ParsingError, ProtocolError}
 use Rattle.amqp_session.specs.Talk.{Talk, is_acting, is_asked, is_open, end_of}
 use Rattle.amqp_session.specs.Causes.{IsFrameError}
 use Rattle.amqp_session.specs.Violations.{frame_too_large, stray_heartbeat}
@@ -76,26 +68,11 @@ IsFaultOf fault u e =
 
 -- ---- what is read
 
--- a method of the connection class that is due: our close's answer, and what the handshake awaits; the server may
--- close at any time
-abbrev pub is_due : AnyMethod → ConnectionState → Phase → Bool
-is_due (Close code text class method) state phase = true
-is_due CloseOk Closing phase = true
-is_due (Start major minor properties mechanisms locales) Connecting AwaitStart = true
-is_due (Tune channel_max frame_max heartbeat) Connecting AwaitTune = true
-is_due OpenOk Connecting AwaitOpenOk = true
-is_due _ state phase = false
-
--- a method of the connection class that brings its error is none that is due
-abbrev pub IsUndue : ErrorKind → Frame → Talk → Type 0
-IsUndue (InvalidConnectionState state) (Method zero m) t = IsFalse (is_due m t.state t.phase)
-IsUndue _ f t = Unit {0}
-
 -- the error that is brought by what stands at the front of the unread bytes: a frame, which acts only before the
 -- server's close; 501 for one that is too large, and for a heartbeat on another channel than 0
 abbrev pub IsReadError : ErrorKind → Read → Engine → Type 0
 IsReadError k (reading.Whole f n) x =
-    IsTrue (is_acting x.talk.input) × IsFrameError k f x.place x.talk × IsUndue k f x.talk
+    IsTrue (is_acting x.talk.input) × IsFrameError k f x.place x.talk
 IsReadError k (reading.TooLarge size) x = k ≡ frame_too_large size
 IsReadError k (reading.BadHeartbeat channel) x = k ≡ stray_heartbeat channel
 IsReadError k reading.Bad x = k ≡ ParsingError x.place

@@ -1,5 +1,5 @@
 -- How a frame that is read may end a session, row by row.
-use Rattle.std.proofs.Common.{◌≡◌, ◌⊎◌, inl, inr, ℕ, zero, suc, true, false, if◌then◌else◌, List, Option, Some, None, Result, is_some, refl}
+use Rattle.std.proofs.Common.{◌≡◌, ◌≢◌, ◌⊎◌, inl, inr, ℕ, zero, suc, not, ◌&&◌, true, false, if◌then◌else◌, List, Option, Some, None, Result, is_some, refl, ap}
 use Rattle.amqp_frame.specs.declared.frame.Frame.{Frame}
 use Rattle.amqp_frame.specs.declared.frame.Frame.TheVariants.{ProtocolHeader, Method, Raw, Heartbeat}
 use Rattle.amqp_frame.specs.declared.frame.RawKind.{RawKind}
@@ -28,16 +28,16 @@ use Rattle.amqp_session.specs.Channels.{channel_at}
 use Rattle.amqp_session.specs.ChannelMethods.{heard_on, unawaited_channel_method, channel_opened, channel_closed, channel_rule, channel_method_by, channel_method, hand_out, confirmed, is_select_ok, pass_through, raw_by}
 use Rattle.amqp_session.specs.Replies.{first_awaited}
 use Rattle.amqp_session.specs.Frames.{is_unbuilt, is_of_a_channel, method_rule, frame_rule, on_frame}
-use Rattle.amqp_session.specs.Causes.{IsFrameError, is_awaited}
-use Rattle.amqp_session.proofs.Cases.{if_case, if_by}
+use Rattle.amqp_session.specs.Causes.{IsFrameError, is_awaited, is_due}
+use Rattle.amqp_session.proofs.Cases.{if_case, if_by, and-true}
 use Rattle.amqp_session.proofs.Ends.{Ends, ends-kept, ends-lose, ends-ok}
 
-pub ends-misplaced : (P : ErrorKind → Type 0) (e : ErrorKind) (t : Talk) → P e → Ends P t (misplaced e t)
-ends-misplaced P e t p = if_case (Ends P t) (is_closing t.state) t (lose e t) (ends-kept P t t refl) (ends-lose P e t t p)
+pub ends-misplaced : (P : ErrorKind → Type 0) (e : ErrorKind) (t : Talk) → (is_closing t.state ≡ false → P e) → Ends P t (misplaced e t)
+ends-misplaced P e t p = if_by (Ends P t) (is_closing t.state) t (lose e t) (λ h. ends-kept P t t refl) (λ h. ends-lose P e t t (p h))
 
-ends-unawaited : (P : ErrorKind → Type 0) (n : ℕ) (s : ChannelState) (m : AnyMethod) (t : Talk) → P (unawaited m n) → Ends P t (unawaited_channel_method n s m t)
+ends-unawaited : (P : ErrorKind → Type 0) (n : ℕ) (s : ChannelState) (m : AnyMethod) (t : Talk) → (s ≢ channel.Closing → P (unawaited m n)) → Ends P t (unawaited_channel_method n s m t)
 ends-unawaited P n channel.Closing m t p = ends-kept P t t refl
-ends-unawaited P n _ m t p = ends-lose P _ t t p
+ends-unawaited P n _ m t p = ends-lose P _ t t (p (λ e. cc))
 
 -- that a promise is answered ends nothing
 pub give_to-end : (promise : Option ℕ) (answer : Result Answer ErrorKind) (t : Talk) → end_of (give_to promise answer t) ≡ end_of t
@@ -45,12 +45,12 @@ give_to-end None answer t = refl
 give_to-end (Some n) answer t = refl
 
 ends-opened : (P : ErrorKind → Type 0) (n : ℕ) (c : Channel) (a : Option Awaited) (t : Talk)
-    → (is_some a ≡ false → P (unawaited ChannelOpenOk n)) → Ends P t (channel_opened n c a t)
+    → (is_some a ≡ false → c.state ≢ channel.Closing → P (unawaited ChannelOpenOk n)) → Ends P t (channel_opened n c a t)
 ends-opened P n c None t p = ends-unawaited P n c.state ChannelOpenOk t (p refl)
 ends-opened P n c (Some a) t p = ends-kept P t (channel_opened n c (Some a) t) (give_to-end a.promise _ _)
 
 ends-closed : (P : ErrorKind → Type 0) (n : ℕ) (c : Channel) (a : Option Awaited) (t : Talk)
-    → (is_some a ≡ false → P (unawaited ChannelCloseOk n)) → Ends P t (channel_closed n c a t)
+    → (is_some a ≡ false → c.state ≢ channel.Closing → P (unawaited ChannelCloseOk n)) → Ends P t (channel_closed n c a t)
 ends-closed P n c None t p = ends-unawaited P n c.state ChannelCloseOk t (p refl)
 ends-closed P n c (Some a) t p = ends-kept P t (channel_closed n c (Some a) t) (give_to-end a.promise _ _)
 
@@ -58,35 +58,38 @@ ends-connection-closed : (P : ErrorKind → Type 0) (a : Option Awaited) (t : Ta
 ends-connection-closed P None t = ends-ok P t _ refl
 ends-connection-closed P (Some a) t = ends-ok P t _ refl
 
-ends-connection : (P : ErrorKind → Type 0) (s : ConnectionState) (p : Phase) (m : AnyMethod) (t : Talk) → P (InvalidConnectionState s) → Ends P t (connection_rule s p m t)
+ends-connection : (P : ErrorKind → Type 0) (s : ConnectionState) (p : Phase) (m : AnyMethod) (t : Talk)
+    → (is_closing s ≡ false → is_due m s p ≡ false → P (InvalidConnectionState s)) → Ends P t (connection_rule s p m t)
 ends-connection P s p (Close code text class method) t e = ends-kept P t _ refl
 ends-connection P Closing p CloseOk t e = ends-connection-closed P (first_awaited 0 ConnectionClosed t.awaited) t
 ends-connection P Closing p m t e = ends-kept P t t refl
 ends-connection P Connecting AwaitStart (Start a b c d x) t e = ends-kept P t _ refl
 ends-connection P Connecting AwaitTune (Tune a b c) t e = ends-kept P t _ refl
 ends-connection P Connecting AwaitOpenOk OpenOk t e = ends-kept P t _ refl
-ends-connection P held p m t e = ends-lose P _ t t e
+ends-connection P held p m t e = ends-lose P _ t t (e refl refl)
 
 ends-channel : (P : ErrorKind → Type 0) (s : ConnectionState) (n : ℕ) (c : Channel) (m : AnyMethod) (t : Talk)
-    → (is_awaited m n t ≡ false → P (unawaited m n)) → Ends P t (channel_rule s n c m t)
+    → (is_closing s ≡ false → is_awaited m n t ≡ false → c.state ≢ channel.Closing → P (unawaited m n)) → Ends P t (channel_rule s n c m t)
 ends-channel P Closing n c m t p = ends-kept P t t refl
-ends-channel P _ n c ChannelOpenOk t p = ends-opened P n c (first_awaited n ChannelOpened t.awaited) t p
-ends-channel P _ n c ChannelCloseOk t p = ends-closed P n c (first_awaited n ChannelClosed t.awaited) t p
-ends-channel P _ n c m t p = ends-unawaited P n c.state m t (p refl)
+ends-channel P _ n c ChannelOpenOk t p = ends-opened P n c (first_awaited n ChannelOpened t.awaited) t (p refl)
+ends-channel P _ n c ChannelCloseOk t p = ends-closed P n c (first_awaited n ChannelClosed t.awaited) t (p refl)
+ends-channel P _ n c m t p = ends-unawaited P n c.state m t (p refl refl)
 
 ends-channel-by : (P : ErrorKind → Type 0) (o : Option Channel) (n : ℕ) (m : AnyMethod) (t : Talk)
-    → (o ≡ None → P (InvalidChannel n)) → (is_some o ≡ true → is_awaited m n t ≡ false → P (unawaited m n)) → Ends P t (channel_method_by o n m t)
+    → (o ≡ None → is_closing t.state ≡ false → P (InvalidChannel n))
+    → ((c : Channel) → o ≡ Some c → is_closing t.state ≡ false → is_awaited m n t ≡ false → c.state ≢ channel.Closing → P (unawaited m n))
+    → Ends P t (channel_method_by o n m t)
 ends-channel-by P None n m t none p = ends-misplaced P (InvalidChannel n) t (none refl)
-ends-channel-by P (Some c) n m t none p = ends-channel P t.state n c m t (p refl)
+ends-channel-by P (Some c) n m t none p = ends-channel P t.state n c m t (p c refl)
 
 -- a frame is heard on a listed channel, and not while Connecting
 none-heard : (s : ConnectionState) (o : Option Channel) → heard_on s o ≡ None → (o ≡ None) ⊎ (s ≡ Connecting)
 none-heard Connecting o h = inr refl
 none-heard _ o h = inl h
 
-some-heard : (s : ConnectionState) (o : Option Channel) → is_some (heard_on s o) ≡ true → is_some o ≡ true
-some-heard Connecting o h = cc
-some-heard _ o h = h
+some-heard : (s : ConnectionState) (o : Option Channel) (c : Channel) → heard_on s o ≡ Some c → (s ≢ Connecting) × (o ≡ Some c)
+some-heard Connecting o c h = cc
+some-heard _ o c h = (λ e. cc, h)
 
 ends-pass : (P : ErrorKind → Type 0) (n : ℕ) (c : Channel) (kind : RawKind) (bytes : List ℕ) (t : Talk) → Ends P t (pass_through n c kind bytes t)
 ends-pass P n c kind bytes t =
@@ -94,7 +97,7 @@ ends-pass P n c kind bytes t =
     (ends-kept P t _ refl) (ends-kept P t _ refl)
 
 ends-raw : (P : ErrorKind → Type 0) (o : Option Channel) (n : ℕ) (kind : RawKind) (bytes : List ℕ) (t : Talk)
-    → (o ≡ None → P (InvalidChannel n)) → Ends P t (raw_by o n kind bytes t)
+    → (o ≡ None → is_closing t.state ≡ false → P (InvalidChannel n)) → Ends P t (raw_by o n kind bytes t)
 ends-raw P None n kind bytes t p = ends-misplaced P (InvalidChannel n) t (p refl)
 ends-raw P (Some c) n kind bytes t p = ends-pass P n c kind bytes t
 
@@ -102,18 +105,26 @@ ends-raw P (Some c) n kind bytes t p = ends-pass P n c kind bytes t
 abbrev pub FrameError : Frame → ℕ → Talk → ErrorKind → Type 0
 FrameError f place t k = IsFrameError k f place t
 
-ends-method : (n : ℕ) (m : AnyMethod) (place : ℕ) (t : Talk) → Ends (FrameError (Method n m) place t) t (method_rule n m t)
-ends-method zero m place t =
+-- a method is heeded where a rule takes it, but after our close
+heeded : (m : AnyMethod) (t : Talk) → is_closing t.state ≡ false → is_unbuilt m ≡ false → (not (is_closing t.state) && not (is_unbuilt m)) ≡ true
+heeded m t going built = and-true (not (is_closing t.state)) (not (is_unbuilt m)) (ap not going) (ap not built)
+
+ends-method : (n : ℕ) (m : AnyMethod) (place : ℕ) (t : Talk) → is_unbuilt m ≡ false → Ends (FrameError (Method n m) place t) t (method_rule n m t)
+ends-method zero m place t built =
     let P : ErrorKind → Type 0 = FrameError (Method zero m) place t in
     if_by (Ends P t) (is_of_a_channel m) (misplaced (stray_channel_frame RawMethod) t) (connection_rule t.state t.phase m t)
-    (λ h. ends-misplaced P (stray_channel_frame RawMethod) t (inl (h, refl))) (λ h. ends-connection P t.state t.phase m t (h, refl))
-ends-method (suc n) m place t =
+    (λ h. ends-misplaced P (stray_channel_frame RawMethod) t (λ going. (heeded m t going built, inl (h, refl))))
+    (λ h. ends-connection P t.state t.phase m t (λ going undue. (heeded m t going built, ((h, undue), refl))))
+ends-method (suc n) m place t built =
     let P : ErrorKind → Type 0 = FrameError (Method (suc n) m) place t in
     let o : Option Channel = channel_at (suc n) t in
     if_by (Ends P t) (is_of_a_channel m) (channel_method (suc n) m t) (misplaced (stray_connection_method (suc n)) t)
-    (λ h. ends-channel-by P (heard_on t.state o) (suc n) m t (λ none. ((refl, h), none-heard t.state o none))
-    (λ heard free. inr (h, some-heard t.state o heard, free, refl)))
-    (λ h. ends-misplaced P (stray_connection_method (suc n)) t (inl (h, refl)))
+    (λ h. ends-channel-by P (heard_on t.state o) (suc n) m t
+    (λ none going. (heeded m t going built, ((refl, h), none-heard t.state o none)))
+    (λ c some going free kept.
+    let heard = some-heard t.state o c some in
+    (heeded m t going built, inr (h, (heard.0, (c, heard.1, kept)), free, refl))))
+    (λ h. ends-misplaced P (stray_connection_method (suc n)) t (λ going. (heeded m t going built, inl (h, refl))))
 
 ends-rule : (f : Frame) (place : ℕ) (t : Talk) → Ends (FrameError f place t) t (frame_rule f place t)
 ends-rule (ProtocolHeader version) place t = ends-lose (FrameError (ProtocolHeader version) place t) (InvalidProtocolVersion version) t t refl
@@ -121,11 +132,13 @@ ends-rule Heartbeat place t = ends-kept (FrameError Heartbeat place t) t t refl
 ends-rule (Method n m) place t =
     let P : ErrorKind → Type 0 = FrameError (Method n m) place t in
     if_by (Ends P t) (is_unbuilt m) (fail (Unbuilt place) t) (method_rule n m t)
-    (λ h. ends-lose P (Unbuilt place) t t (h, refl)) (λ h. ends-method n m place t)
-ends-rule (Raw zero kind bytes) place t = ends-misplaced (FrameError (Raw zero kind bytes) place t) (stray_channel_frame kind) t (inl refl)
+    (λ h. ends-lose P (Unbuilt place) t t (h, refl)) (λ h. ends-method n m place t h)
+ends-rule (Raw zero kind bytes) place t =
+    ends-misplaced (FrameError (Raw zero kind bytes) place t) (stray_channel_frame kind) t (λ going. (ap not going, inl refl))
 ends-rule (Raw (suc n) kind bytes) place t =
     let o : Option Channel = channel_at (suc n) t in
-    ends-raw (FrameError (Raw (suc n) kind bytes) place t) (heard_on t.state o) (suc n) kind bytes t (λ h. (refl, none-heard t.state o h))
+    ends-raw (FrameError (Raw (suc n) kind bytes) place t) (heard_on t.state o) (suc n) kind bytes t
+    (λ h going. (ap not going, (refl, none-heard t.state o h)))
 
 -- a frame ends a session by its own errors alone
 pub ends-frame : (f : Frame) (place : ℕ) (t : Talk) → Ends (FrameError f place t) t (on_frame f place t)

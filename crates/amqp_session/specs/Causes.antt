@@ -1,25 +1,39 @@
 -- What brings about that a frame which is read ends a session with an error.
-use Rattle.std.specs.Prelude.{◌≡◌, ◌⊎◌, ℕ, zero, Bool, false, IsTrue, IsFalse, None, is_some}
+use Rattle.std.specs.Prelude.{◌≡◌, ◌≢◌, ◌⊎◌, ◌&&◌, not, ℕ, zero, suc, Bool, true, false, IsTrue, IsFalse, Some, None, is_some}
 use Rattle.amqp_frame.specs.declared.frame.Frame.{Frame}
 use Rattle.amqp_frame.specs.declared.frame.Frame.TheVariants.{ProtocolHeader, Method, Raw}
 use Rattle.amqp_frame.specs.declared.frame.RawKind.TheVariants.{RawMethod}
 use Rattle.amqp_frame.specs.declared.method.Method.{Method as AnyMethod}
-use Rattle.amqp_frame.specs.declared.method.Method.TheVariants.{ChannelOpenOk, ChannelCloseOk}
+use Rattle.amqp_frame.specs.declared.method.Method.TheVariants.{Start, Tune, OpenOk, Close, ChannelOpenOk, ChannelCloseOk}
 use Rattle.amqp_session.specs.declared.awaiting.Reply.TheVariants.{ChannelOpened, ChannelClosed}
+use Rattle.amqp_session.specs.declared.channels.Channel.{Channel}
+use Rattle.amqp_session.specs.declared.state.ChannelState.TheVariants as channel
+use Rattle.amqp_session.specs.declared.state.ConnectionState.{ConnectionState}
 use Rattle.amqp_session.specs.declared.state.ConnectionState.TheVariants.{Connecting}
+use Rattle.amqp_session.specs.declared.state.Phase.{Phase}
+use Rattle.amqp_session.specs.declared.state.Phase.TheVariants.{AwaitStart, AwaitTune, AwaitOpenOk}
 use Rattle.amqp_session.specs.declared.error.ErrorKind.{ErrorKind}
 use Rattle.amqp_session.specs.declared.error.ErrorKind.TheVariants.{ProtocolError, InvalidProtocolVersion, InvalidConnectionState, InvalidChannel, Unbuilt}
-use Rattle.amqp_session.specs.Talk.{Talk}
+use Rattle.amqp_session.specs.Talk.{Talk, is_closing}
 use Rattle.amqp_session.specs.Channels.{channel_at}
 use Rattle.amqp_session.specs.Replies.{first_awaited}
 use Rattle.amqp_session.specs.Frames.{is_of_a_channel, is_unbuilt}
 use Rattle.amqp_session.specs.Violations.{stray_channel_frame, stray_connection_method, unawaited}
 
--- a frame that belongs to this channel
-abbrev pub IsOfChannel : ℕ → Frame → Type 0
-IsOfChannel n (Method m method) = (m ≡ n) × IsTrue (is_of_a_channel method)
-IsOfChannel n (Raw m kind bytes) = m ≡ n
-IsOfChannel n _ = ⊥
+-- ---- the connection
+
+-- a method of the connection class that is due: what the handshake awaits; the server may close at any time
+abbrev pub is_due : AnyMethod → ConnectionState → Phase → Bool
+is_due (Close code text class method) state phase = true
+is_due (Start major minor properties mechanisms locales) Connecting AwaitStart = true
+is_due (Tune channel_max frame_max heartbeat) Connecting AwaitTune = true
+is_due OpenOk Connecting AwaitOpenOk = true
+is_due _ state phase = false
+
+-- a method of the connection class that is not due
+abbrev pub IsUndue : Frame → Talk → Type 0
+IsUndue (Method zero m) t = IsFalse (is_of_a_channel m) × IsFalse (is_due m t.state t.phase)
+IsUndue _ t = ⊥
 
 -- 504 for what belongs to a channel and came on channel 0, and 503 for a method of the connection class that came on
 -- another
@@ -29,24 +43,50 @@ IsMisplaced e (Method n m) = IsFalse (is_of_a_channel m) × (e ≡ stray_connect
 IsMisplaced e (Raw zero kind bytes) = e ≡ stray_channel_frame kind
 IsMisplaced e _ = ⊥
 
+-- ---- a channel
+
+-- a frame that belongs to this channel, which is not 0
+abbrev pub IsOfChannel : ℕ → Frame → Type 0
+IsOfChannel (suc n) (Method m method) = (m ≡ suc n) × IsTrue (is_of_a_channel method)
+IsOfChannel (suc n) (Raw m kind bytes) = m ≡ suc n
+IsOfChannel n _ = ⊥
+
+-- on a channel nothing is heard: it is not listed, or the connection is still being opened
+abbrev pub IsUnheard : ℕ → Talk → Type 0
+IsUnheard n t = (channel_at n t ≡ None) ⊎ (t.state ≡ Connecting)
+
+-- a channel is heard, and we did not close it
+abbrev pub IsKept : ℕ → Talk → Type 0
+IsKept n t = (t.state ≢ Connecting) × ((c : Channel) × (channel_at n t ≡ Some c) × (c.state ≢ channel.Closing))
+
 -- a reply is awaited that this method is
 abbrev pub is_awaited : AnyMethod → ℕ → Talk → Bool
 is_awaited ChannelOpenOk n t = is_some (first_awaited n ChannelOpened t.awaited)
 is_awaited ChannelCloseOk n t = is_some (first_awaited n ChannelClosed t.awaited)
 is_awaited _ n t = false
 
--- 505 for a method of the channel class, on a listed channel, that nothing awaits
+-- 505 for a method of the channel class that nothing awaits
 abbrev pub IsUnawaited : ErrorKind → Frame → Talk → Type 0
-IsUnawaited e (Method n m) t =
-    IsTrue (is_of_a_channel m) × IsTrue (is_some (channel_at n t)) × IsFalse (is_awaited m n t) × (e ≡ unawaited m n)
+IsUnawaited e (Method (suc n) m) t =
+    IsTrue (is_of_a_channel m) × IsKept (suc n) t × IsFalse (is_awaited m (suc n) t) × (e ≡ unawaited m (suc n))
 IsUnawaited e _ t = ⊥
+
+-- ---- a frame
+
+-- a frame is heeded, but after our close of the connection, and but for a method that no rule takes yet
+abbrev pub is_heeded : Frame → Talk → Bool
+is_heeded (Method n m) t = not (is_closing t.state) && not (is_unbuilt m)
+is_heeded f t = not (is_closing t.state)
+
+-- the error that a frame brings where it is heeded
+abbrev pub IsHeededError : ErrorKind → Frame → Talk → Type 0
+IsHeededError (InvalidConnectionState state) f t = IsUndue f t × (t.state ≡ state)
+IsHeededError (InvalidChannel channel) f t = IsOfChannel channel f × IsUnheard channel t
+IsHeededError (ProtocolError e) f t = IsMisplaced (ProtocolError e) f ⊎ IsUnawaited (ProtocolError e) f t
+IsHeededError _ f t = ⊥
 
 -- the error is brought by a frame that stood at a place of the link's received bytes
 abbrev pub IsFrameError : ErrorKind → Frame → ℕ → Talk → Type 0
 IsFrameError (InvalidProtocolVersion version) (ProtocolHeader v) place t = v ≡ version
-IsFrameError (InvalidConnectionState state) (Method zero m) place t = IsFalse (is_of_a_channel m) × (t.state ≡ state)
-IsFrameError (InvalidChannel channel) f place t =
-    IsOfChannel channel f × ((channel_at channel t ≡ None) ⊎ (t.state ≡ Connecting))
 IsFrameError (Unbuilt built_at) (Method channel m) place t = IsTrue (is_unbuilt m) × (place ≡ built_at)
-IsFrameError (ProtocolError e) f place t = IsMisplaced (ProtocolError e) f ⊎ IsUnawaited (ProtocolError e) f t
-IsFrameError _ f place t = ⊥
+IsFrameError e f place t = IsTrue (is_heeded f t) × IsHeededError e f t

@@ -11,6 +11,7 @@ pub mod Errors
 pub mod Violations
 -- The rules: what each happening does to the state.
 pub mod Changes
+pub mod Memory
 pub mod Links
 pub mod ConnectionMethods
 pub mod Numbering

@@ -5,11 +5,12 @@ ghost use Rattle.std.specs.Prelude.{◌≡◌, ◌<◌, ◌^◌};
 /// How many bytes can be unsent at the beginning.
 pub const INITIAL_CAPACITY: u64 = 131_072;
 
-/// How many bytes can be unsent. It is the length of a buffer.
+/// How many bytes can be unsent. It is the length of a buffer, and 32 bits can say it, as they say the
+/// length of a frame.
 #[derive(Debug, Drop)]
 pub struct Capacity {
     octets: u64,
-    ghost small: { octets < 2 ^ 63 },
+    ghost small: { octets < 2 ^ 32 },
 }
 
 impl Capacity {
@@ -25,7 +26,7 @@ impl Capacity {
     /// How many octets that is.
     pub fn octets(&self) -> u64
         ensures octets { result ≡ self.now.octets }
-        ensures small { result < 2 ^ 63 }
+        ensures small { result < 2 ^ 32 }
     {
         self.octets
     }

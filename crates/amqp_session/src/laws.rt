@@ -1,6 +1,6 @@
 //! What the rules keep.
 
-ghost use Rattle.std.specs.Prelude.{◌≡◌, ◌≢◌, ◌≤◌, ℕ, ◌+◌, true, List, length, Some, None, IsTrue};
+ghost use Rattle.std.specs.Prelude.{◌≡◌, ◌≢◌, ◌≤◌, ◌↔◌, ℕ, ◌+◌, true, List, length, Some, None, Err, IsTrue};
 ghost use Rattle.amqp_frame.specs.declared.frame.Frame.{Frame};
 ghost use Rattle.amqp_frame.specs.Frames.{encoding};
 ghost use Rattle.amqp_session.specs.declared.lanes.Item.{Item};
@@ -9,11 +9,13 @@ ghost use Rattle.amqp_session.specs.declared.configuration.Configuration.{Config
 ghost use Rattle.amqp_session.specs.declared.error.ErrorKind.{ErrorKind};
 ghost use Rattle.amqp_session.specs.declared.error.ErrorKind.TheVariants.{InvalidConnectionState};
 ghost use Rattle.amqp_session.specs.declared.state.ConnectionState.TheVariants.{Connected};
-ghost use Rattle.amqp_session.specs.Talk.{Talk, start, has_ended, is_open};
+ghost use Rattle.amqp_session.specs.Talk.{Talk, start, acts, has_ended, is_open, end_of};
 ghost use Rattle.amqp_session.specs.Negotiation.{tune};
+ghost use Rattle.amqp_session.specs.Frames.{on_frame};
 ghost use Rattle.amqp_session.specs.Commands.{command};
 ghost use Rattle.amqp_session.specs.Writing.{next_within, commit, taken, unsent};
 ghost use Rattle.amqp_session.specs.Answers.{answer_of, take_answer};
+ghost use Rattle.amqp_session.specs.Causes.{IsFrameError};
 ghost use Rattle.amqp_session.specs.Sound.{IsSound};
 ghost use Rattle.amqp_session.specs.Laws.{IsEnded, IsOver, StaysSound, IsRefused, IsAnsweredAtOnce, IsRefusal};
 ghost use Rattle.amqp_session.specs.Legal.{Legal};
@@ -40,6 +42,12 @@ pub fn states_stay_sound()
     ensures first { IsSound start }
     ensures kept { (t : Talk) → IsSound t → StaysSound t }
     ensures ended { (t : Talk) → IsSound t → IsTrue (has_ended t) → IsEnded t }
+{}
+
+/// Where frames act, a frame ends a session with the errors that it brings, and with no others.
+pub fn a_frame_ends_with_its_errors()
+    ensures { (error : ErrorKind) (f : Frame) (place : ℕ) (t : Talk) → IsTrue (acts t)
+        → (end_of (on_frame f place t) ≡ Some (Err error)) ↔ IsFrameError error f place t }
 {}
 
 /// An ended session stays as it ended.

@@ -1,9 +1,10 @@
 //! The errors with which a session ends where a server does what it may not.
 
-ghost use Rattle.std.specs.Prelude.{◌≡◌, ◌≤◌, Some, IfOk, length};
+ghost use Rattle.std.specs.Prelude.{◌≡◌, ◌≤◌, Some, IfOk, IsOk, IsFalse, length};
 ghost use Rattle.std.specs.String.{string_bytes};
 ghost use Rattle.amqp_types.specs.Codes.{kind_of};
 ghost use Rattle.amqp_types.specs.declared.error.AMQPErrorKind.TheVariants.{Hard};
+ghost use Rattle.amqp_session.specs.Memory.{has_text};
 ghost use Rattle.amqp_session.specs.Violations.{protocol_error, frame_too_large, stray_heartbeat, misread_error, stray_connection_method, raw_name, stray_channel_frame, method_name, unawaited, closed_with};
 
 use crate::error::ErrorKind;
@@ -15,7 +16,8 @@ use std::alloc::Global;
 
 /// What was read and is no frame.
 pub fn misread_error(alloc: Global, why: Misread) -> Result<ErrorKind, NoMemory>
-    ensures { IfOk result (λ kind. kind ≡ misread_error why) }
+    ensures ok { IfOk result (λ kind. kind ≡ misread_error why) }
+    ensures idle { IsFalse (has_text (misread_error why)) → IsOk result }
 {
     match why {
         Misread::TooLarge(size) => frame_too_large(alloc, size),

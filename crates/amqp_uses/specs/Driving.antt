@@ -16,9 +16,9 @@ use Rattle.amqp_session.specs.Links.{misread}
 use Rattle.amqp_session.specs.Frames.{on_frame}
 use Rattle.amqp_session.specs.Writing.{unsent, next_within}
 
--- the space for the next frame, where so many octets can still be put somewhere; a frame's length is written in 32 bits
+-- the space for the next frame, where so many octets can still be put somewhere
 abbrev pub space_in : ℕ → Talk → ℕ
-space_in free t = min (min free (t.capacity - unsent t)) 4294967295
+space_in free t = min free (t.capacity - unsent t)
 
 -- the octets of a frame that goes out, where one does
 abbrev pub spelled : Option Item → List ℕ
@@ -29,9 +29,9 @@ spelled (Some item) = encoding item.frame
 abbrev pub next_octets : ℕ → Talk → List ℕ
 next_octets free t = spelled (next_within (space_in free t) t)
 
--- what stands at the front of octets, within the limit that was agreed and that of 32 bits
+-- what stands at the front of octets, within the limit that was agreed
 abbrev pub stands_in : List ℕ → Talk → Read
-stands_in octets t = front octets (min (frame_limit t) 4294967295)
+stands_in octets t = front octets (frame_limit t)
 
 -- what stood at the front, at a place, is told to the session
 abbrev pub heard : Read → ℕ → ℕ → Talk → Talk

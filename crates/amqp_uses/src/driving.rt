@@ -50,10 +50,7 @@ pub fn say_next<R: Room>(session: &mut Session, room: &mut R)
     ensures said { R.put_so_far room.new ≡ R.put_so_far room.old ++ next_octets (R.free room.old) session.old }
     ensures session { session.new ≡ commit (space_in (R.free room.old) session.old) session.old }
 {
-    // A frame's length is written in 32 bits.
-    let space = (room.space() as u64)
-        .min(session.capacity() - session.unsent())
-        .min(u32::MAX as u64);
+    let space = (room.space() as u64).min(session.capacity() - session.unsent());
     if let Some(frame) = session.next_frame(space) {
         // There is space for it.
         let _ = write_frame(&frame, room);
@@ -70,8 +67,7 @@ pub fn hear_next(alloc: Global, session: &mut Session, unread: &[u8], came: Came
     ensures only { IfErr result (λ e. e ≡ ErrorKind.NoMemory) }
 {
     let Came { place, at } = came;
-    let limit = session.frame_limit().min(u32::MAX as u64) as u32;
-    match read_frame(alloc, &unread, limit) {
+    match read_frame(alloc, &unread, session.frame_limit() as u32) {
         Read::Whole(frame, n) => {
             session.frame(frame, place, at)?;
             return Ok(n);

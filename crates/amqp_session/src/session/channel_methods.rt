@@ -1,6 +1,8 @@
 //! What comes on a channel.
 
-ghost use Rattle.std.specs.Prelude.{◌≡◌, Some, IfSome, OnOk, OnErr};
+ghost use Rattle.std.specs.Prelude.{◌≡◌, Some, IfSome, IsOk, IsTrue, OnOk, OnErr};
+ghost use Rattle.amqp_session.specs.Talk.{is_open};
+ghost use Rattle.amqp_session.specs.Memory.{MakesNothing};
 ghost use Rattle.amqp_session.specs.Channels.{channel_at};
 ghost use Rattle.amqp_session.specs.ChannelMethods.{heard_on, unawaited_channel_method, on_channel_open_ok, on_channel_close_ok, channel_rule, channel_method, is_select_ok, pass_through, raw_frame};
 
@@ -29,8 +31,10 @@ impl Session {
 
     // A method of the channel class.
     pub(super) fn channel_method(&mut self, id: ChannelId, method: &Method) -> Result<(), NoMemory>
+        requires { IsTrue (is_open self.old) }
         ensures ok { OnOk result (self.new ≡ channel_method id method.now self.old) }
         ensures err { OnErr result (self.new ≡ self.old) }
+        ensures idle { MakesNothing self.old (channel_method id method.now self.old) → IsOk result }
     {
         match self.heard_on(id) {
             Some(channel) => self.channel_rule(id, channel, method),
@@ -47,9 +51,12 @@ impl Session {
         channel: Channel,
         method: &Method,
     ) -> Result<(), NoMemory>
-        requires { channel_at id self.old ≡ Some channel }
+        requires listed { channel_at id self.old ≡ Some channel }
+        requires open { IsTrue (is_open self.old) }
         ensures ok { OnOk result (self.new ≡ channel_rule self.old.state id channel method.now self.old) }
         ensures err { OnErr result (self.new ≡ self.old) }
+        ensures idle { MakesNothing self.old (channel_rule self.old.state id channel method.now self.old)
+            → IsOk result }
     {
         // After our close of the connection it is dropped.
         if self.state == ConnectionState::Closing {
@@ -69,8 +76,10 @@ impl Session {
         held: ChannelState,
         method: &Method,
     ) -> Result<(), NoMemory>
+        requires { IsTrue (is_open self.old) }
         ensures ok { OnOk result (self.new ≡ unawaited_channel_method id held method.now self.old) }
         ensures err { OnErr result (self.new ≡ self.old) }
+        ensures idle { MakesNothing self.old (unawaited_channel_method id held method.now self.old) → IsOk result }
     {
         if held != ChannelState::Closing {
             let error = unawaited(self.alloc, method, id)?;
@@ -80,9 +89,11 @@ impl Session {
     }
 
     fn on_channel_open_ok(&mut self, id: ChannelId, channel: Channel) -> Result<(), NoMemory>
-        requires { channel_at id self.old ≡ Some channel }
+        requires listed { channel_at id self.old ≡ Some channel }
+        requires open { IsTrue (is_open self.old) }
         ensures ok { OnOk result (self.new ≡ on_channel_open_ok id channel self.old) }
         ensures err { OnErr result (self.new ≡ self.old) }
+        ensures idle { MakesNothing self.old (on_channel_open_ok id channel self.old) → IsOk result }
     {
         let Some(awaited) = self.awaiting.answered(id, Reply::ChannelOpened) else {
             return self.unawaited_channel_method(id, channel.state, &Method::ChannelOpenOk);
@@ -98,8 +109,10 @@ impl Session {
     }
 
     fn on_channel_close_ok(&mut self, id: ChannelId, channel: Channel) -> Result<(), NoMemory>
+        requires { IsTrue (is_open self.old) }
         ensures ok { OnOk result (self.new ≡ on_channel_close_ok id channel self.old) }
         ensures err { OnErr result (self.new ≡ self.old) }
+        ensures idle { MakesNothing self.old (on_channel_close_ok id channel self.old) → IsOk result }
     {
         let Some(awaited) = self.awaiting.answered(id, Reply::ChannelClosed) else {
             return self.unawaited_channel_method(id, channel.state, &Method::ChannelCloseOk);
@@ -118,6 +131,7 @@ impl Session {
     ) -> Result<(), NoMemory>
         ensures ok { OnOk result (self.new ≡ raw_frame id kind bytes self.old) }
         ensures err { OnErr result (self.new ≡ self.old) }
+        ensures idle { MakesNothing self.old (raw_frame id kind bytes self.old) → IsOk result }
     {
         match self.heard_on(id) {
             Some(channel) => self.pass_through(id, channel, kind, bytes),

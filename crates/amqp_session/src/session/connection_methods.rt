@@ -1,7 +1,8 @@
 //! The methods of the connection class.
 
-ghost use Rattle.std.specs.Prelude.{◌≡◌, IsTrue, OnOk, OnErr};
-ghost use Rattle.amqp_session.specs.Talk.{is_open};
+ghost use Rattle.std.specs.Prelude.{◌≡◌, IsTrue, IsOk, OnOk, OnErr};
+ghost use Rattle.amqp_session.specs.Talk.{is_open, acts};
+ghost use Rattle.amqp_session.specs.Memory.{MakesNothing};
 ghost use Rattle.amqp_session.specs.ConnectionMethods.{on_start, on_tune, on_open_ok, on_connection_close, on_connection_close_ok, connection_rule};
 
 use super::Session;
@@ -21,9 +22,11 @@ use amqp_types::{NoMemory, ReplyCode, ShortString};
 
 impl Session {
     pub(super) fn connection_method(&mut self, method: Method) -> Result<(), NoMemory>
-        requires { IsTrue (is_open self.old) }
+        requires { IsTrue (acts self.old) }
         ensures ok { OnOk result (self.new ≡ connection_rule self.old.state self.old.phase method self.old) }
         ensures err { OnErr result (self.new ≡ self.old) }
+        ensures idle { MakesNothing self.old (connection_rule self.old.state self.old.phase method self.old)
+            → IsOk result }
     {
         match (self.state, self.phase, method) {
             (_, _, Method::Close(code, text, _, _)) => self.on_connection_close(code, text),

@@ -1,8 +1,9 @@
 //! The frames that are read.
 
-ghost use Rattle.std.specs.Prelude.{◌≡◌, IsTrue, IsFalse, IsOk, IfErr, OnOk, OnErr};
+ghost use Rattle.std.specs.Prelude.{◌≡◌, IsTrue, IsOk, IfErr, OnOk, OnErr};
 ghost use Rattle.amqp_session.specs.Talk.{is_open, acts};
 ghost use Rattle.amqp_session.specs.Changes.{present_at, starve, misplaced};
+ghost use Rattle.amqp_session.specs.Memory.{MakesNothing};
 ghost use Rattle.amqp_session.specs.Violations.{stray_connection_method, stray_channel_frame};
 ghost use Rattle.amqp_session.specs.Frames.{is_unbuilt, is_of_a_channel, method_rule, frame_rule, on_frame};
 
@@ -19,7 +20,7 @@ impl Session {
         ensures ok { OnOk result (self.new ≡ on_frame frame place (present_at at self.old)) }
         ensures err { OnErr result (self.new ≡ starve (present_at at self.old)) }
         ensures only { IfErr result (λ e. e ≡ ErrorKind.NoMemory) }
-        ensures idle { IsFalse (acts self.old) → IsOk result }
+        ensures idle { let now = present_at at self.old in MakesNothing now (on_frame frame place now) → IsOk result }
     {
         self.advance(at);
         if !self.acts() {
@@ -33,9 +34,10 @@ impl Session {
     }
 
     fn react(&mut self, frame: Frame, place: u64) -> Result<(), NoMemory>
-        requires { IsTrue (is_open self.old) }
+        requires { IsTrue (acts self.old) }
         ensures ok { OnOk result (self.new ≡ frame_rule frame place self.old) }
         ensures err { OnErr result (self.new ≡ self.old) }
+        ensures idle { MakesNothing self.old (frame_rule frame place self.old) → IsOk result }
     {
         match frame {
             Frame::ProtocolHeader(version) => {
@@ -50,9 +52,10 @@ impl Session {
     }
 
     fn on_method(&mut self, id: ChannelId, method: Method, place: u64) -> Result<(), NoMemory>
-        requires { IsTrue (is_open self.old) }
+        requires { IsTrue (acts self.old) }
         ensures ok { OnOk result (self.new ≡ frame_rule (Frame.Method id method) place self.old) }
         ensures err { OnErr result (self.new ≡ self.old) }
+        ensures idle { MakesNothing self.old (frame_rule (Frame.Method id method) place self.old) → IsOk result }
     {
         if is_unbuilt(&method) {
             drop(method);
@@ -63,9 +66,10 @@ impl Session {
     }
 
     fn method_rule(&mut self, id: ChannelId, method: Method) -> Result<(), NoMemory>
-        requires { IsTrue (is_open self.old) }
+        requires { IsTrue (acts self.old) }
         ensures ok { OnOk result (self.new ≡ method_rule id method self.old) }
         ensures err { OnErr result (self.new ≡ self.old) }
+        ensures idle { MakesNothing self.old (method_rule id method self.old) → IsOk result }
     {
         match (id, is_of_a_channel(&method)) {
             (0, true) => {
@@ -87,8 +91,10 @@ impl Session {
 
     // A frame of a channel does not stand on channel 0.
     fn stray_channel_frame(&mut self, kind: RawKind) -> Result<(), NoMemory>
+        requires { IsTrue (is_open self.old) }
         ensures ok { OnOk result (self.new ≡ misplaced (stray_channel_frame kind) self.old) }
         ensures err { OnErr result (self.new ≡ self.old) }
+        ensures idle { MakesNothing self.old (misplaced (stray_channel_frame kind) self.old) → IsOk result }
     {
         if self.state != ConnectionState::Closing {
             let error = stray_channel_frame(self.alloc, kind)?;
@@ -99,8 +105,10 @@ impl Session {
 
     // A method of the connection class stands on channel 0 alone.
     fn stray_connection_method(&mut self, id: ChannelId) -> Result<(), NoMemory>
+        requires { IsTrue (is_open self.old) }
         ensures ok { OnOk result (self.new ≡ misplaced (stray_connection_method id) self.old) }
         ensures err { OnErr result (self.new ≡ self.old) }
+        ensures idle { MakesNothing self.old (misplaced (stray_connection_method id) self.old) → IsOk result }
     {
         if self.state != ConnectionState::Closing {
             let error = stray_connection_method(self.alloc, id)?;

@@ -3,6 +3,7 @@
 ghost use Rattle.std.specs.Prelude.{◌≡◌, IfErr, OnOk, OnErr, IsOk, IsTrue, IsFalse};
 ghost use Rattle.amqp_session.specs.Talk.{is_asked, acts};
 ghost use Rattle.amqp_session.specs.Changes.{present_at, starve};
+ghost use Rattle.amqp_session.specs.Memory.{MakesNothing};
 ghost use Rattle.amqp_session.specs.declared.misread.Misread.{Misread};
 ghost use Rattle.amqp_session.specs.Links.{asked, linked, link_failed, piece, misread, lost};
 
@@ -87,7 +88,7 @@ impl Session {
         ensures ok { OnOk result (self.new ≡ misread why (present_at at self.old)) }
         ensures err { OnErr result (self.new ≡ starve (present_at at self.old)) }
         ensures only { IfErr result (λ e. e ≡ ErrorKind.NoMemory) }
-        ensures idle { IsFalse (acts self.old) → IsOk result }
+        ensures idle { let now = present_at at self.old in MakesNothing now (misread why now) → IsOk result }
     {
         self.advance(at);
         if !self.acts() {

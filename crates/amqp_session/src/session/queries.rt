@@ -32,7 +32,8 @@ impl Session {
 
     /// The greatest number of octets that a frame may have that is read.
     pub fn frame_limit(&self) -> u64
-        ensures { result ≡ frame_limit self.now }
+        ensures octets { result ≡ frame_limit self.now }
+        ensures small { result < 2 ^ 32 }
     {
         match self.configuration.frame_max {
             0 => self.capacity.octets(),
@@ -110,7 +111,8 @@ impl Session {
 
     /// How many bytes can be unsent.
     pub fn capacity(&self) -> u64
-        ensures { result ≡ self.now.capacity }
+        ensures bytes { result ≡ self.now.capacity }
+        ensures small { result < 2 ^ 32 }
     {
         self.capacity.octets()
     }

@@ -47,7 +47,7 @@ found c =
     let read = c.read_frame.result in
     let opened : is_open e.talk ≡ true = ap (λ (x : Engine). is_open x.talk) (sym c.self.view_is) ∙ sym c.is_open.ensures ∙ c.if-not-is_open.false in
     let P : Read → Type 0 = λ x. Yields read x in
-    let exact : Yields read (front_of e) = subst P (ap (front c.self.inside.unread) c.frame_limit.ensures ∙ ap front_of c.self.view_is) c.read_frame.ensures.exact in
+    let exact : Yields read (front_of e) = subst P (ap (front c.self.inside.unread) c.frame_limit.ensures.octets ∙ ap front_of c.self.view_is) c.read_frame.ensures.exact in
     other-reads c.args.at c.read_other-found.result e c.read_other-found.new.self read opened c.read_other-found.ensures.some c.read_other-found.ensures.ok
     c.read_other-found.ensures.held (not-whole read c.in_default.not-Whole) exact
 

@@ -1,0 +1,30 @@
+-- A frame that is handed out is something new.
+use Rattle.std.proofs.Common.{◌≡◌, ◌∙◌, ap, sym, ℕ, List, [], ◌∷◌, ◌++◌, Option, Some, unwrap_or}
+use Rattle.std.proofs.lemmas.List.{append_cancel_left}
+use Rattle.amqp_frame.specs.declared.frame.RawKind.{RawKind}
+use Rattle.amqp_session.specs.declared.channels.Channel.{Channel}
+use Rattle.amqp_session.specs.declared.handed.Handed.{Handed}
+use Rattle.amqp_session.specs.Listed.{at, put}
+use Rattle.amqp_session.specs.Talk.{Talk}
+use Rattle.amqp_session.specs.Memory.{MakesNothing}
+use Rattle.amqp_session.specs.ChannelMethods.{confirmed, hand_out, is_select_ok, pass_through}
+use Rattle.amqp_session.proofs.Cases.{if_case}
+use Rattle.amqp_session.proofs.Numbered.{put-same}
+use Rattle.amqp_session.proofs.Truths.{append-none}
+
+-- what is added to a list that stays as it is
+none-added : {A : Type 0} (xs ys : List A) → xs ++ ys ≡ xs → ys ≡ []
+none-added xs ys h = append_cancel_left xs ys [] (h ∙ sym (append-none xs))
+
+-- frames of which one is handed out more
+more-handed : (opened : ℕ) (h : Handed) (handed : List (ℕ × List Handed)) → put opened (unwrap_or (at opened handed) [] ++ h ∷ []) handed ≡ handed → ⊥
+more-handed opened h handed same =
+    let frames = unwrap_or (at opened handed) [] in
+    let there : at opened handed ≡ Some (frames ++ h ∷ []) = sym (ap (at opened) same) ∙ put-same opened (frames ++ h ∷ []) handed in
+    let no = none-added frames (h ∷ []) (sym (ap (λ (o : Option (List Handed)). unwrap_or o []) there)) in
+    cc
+
+pub handed-made : (n : ℕ) (c : Channel) (kind : RawKind) (bytes : List ℕ) (t : Talk) → MakesNothing t (pass_through n c kind bytes t) → ⊥
+handed-made n c kind bytes t m =
+    if_case (λ (x : Talk). (hand_out c.opened (record { channel = n; kind = kind; bytes = bytes }) x).handed ≡ t.handed → ⊥)
+    (is_select_ok kind bytes) (confirmed n c t) t (more-handed c.opened _ t.handed) (more-handed c.opened _ t.handed) m.handed
