@@ -6,13 +6,10 @@ use Rattle.amqp_session.specs.Changes.{present_at, starve}
 use Rattle.amqp_session.specs.Links.{linked, link_failed, piece, lost}
 use Rattle.amqp_engine.specs.declared.port.Step.{Step}
 use Rattle.amqp_engine.specs.declared.port.Step.TheVariants.{Linked, LinkFailed, Piece, End, Fault, Room, Tick, Command}
-use Rattle.amqp_engine.specs.declared.port.Wrote.{Wrote}
 use Rattle.amqp_engine.specs.Log.{Log}
 use Rattle.amqp_engine.specs.Engine.{Engine, step_engine, settle, starve_at, rule_at, can_write}
-use Rattle.amqp_engine.specs.Turn.{Progress, begun, goes, reading, is_part, is_piece, step_part, part, read, drain, AreAnswers, IsCut, starved_after}
+use Rattle.amqp_engine.specs.Turn.{Notes, answers_of, Progress, begun, goes, reading, is_part, is_piece, step_part, part, read, drain, AreAnswers, IsCut, starved_after}
 use Rattle.amqp_engine.specs.Making.{making, parts_of, Allows, Writes, AppliesCounted}
-use Rattle.amqp_engine.specs.Counts.{Rose}
-use Rattle.amqp_engine.specs.Causes.{has_failed}
 use Rattle.amqp_engine.specs.Tell.{TellsOffers, offers_from, turn_of}
 use Rattle.amqp_session.proofs.Cases.{if_case, if-true, if-false}
 use Rattle.amqp_engine.proofs.Cases.{is_before-Allows}
@@ -21,7 +18,6 @@ use Rattle.amqp_session.proofs.Keeping.{starve-twice}
 use Rattle.amqp_engine.proofs.Reading.{reading-cut}
 use Rattle.amqp_engine.proofs.Offers.{writes-none, writes-cut}
 use Rattle.amqp_engine.proofs.Over.{step-ended, over-reads, over-writes}
-use Rattle.amqp_engine.proofs.Telling.{tells-none}
 
 -- memory that is refused twice was refused once
 pub starve_at-twice : (at j : ℕ) (e : Engine) → starve_at at j (rule_at at starve e) ≡ starve_at at j e
@@ -41,50 +37,51 @@ step-done at cut step bytes e false h allows =
     if-false (is_part step e) (if goes p then part (step_engine at step bytes e) p else p) (making at cut (step_engine at step bytes e) 0) h
 
 -- the step, and the frames that are read
-pub read-is : (at : ℕ) (cut : Option ℕ) (ws : List Wrote) (step : Step) (bytes : List ℕ) (piece b : Bool) (e e1 e2 : Engine) (m n : ℕ)
+pub read-is : (at : ℕ) (cut : Option ℕ) (step : Step) (bytes : List ℕ) (piece b : Bool) (e e1 e2 : Engine) (m n : ℕ)
     → piece ≡ is_piece step → is_part step e ≡ b → m ≡ parts_of b → e1 ≡ step_engine at step bytes e → Allows cut m
     → reading piece (making at cut e1 m) ≡ making at cut e2 n
-    → read (turn_of at step bytes (record { answers = ws; starved = cut })) e ≡ making at cut e2 n
-read-is at cut ws step bytes piece b e e1 e2 m n hp hb hm h1 allows h2 =
+    → (notes : Notes) → notes.starved ≡ cut → read (turn_of at step bytes notes) e ≡ making at cut e2 n
+read-is at cut step bytes piece b e e1 e2 m n hp hb hm h1 allows h2 notes same =
     let P : ℕ → Type 0 = λ x. Allows cut x in
-    ap (reading (is_piece step)) (step-done at cut step bytes e b hb (subst P hm allows)
+    ap (λ (c : Option ℕ). reading (is_piece step) (step_part step bytes (begun at c e))) same
+    ∙ ap (reading (is_piece step)) (step-done at cut step bytes e b hb (subst P hm allows)
     ∙ ap (λ x. making at cut (step_engine at step bytes e) x) (sym hm) ∙ ap (λ x. making at cut x m) (sym h1))
     ∙ ap (λ x. reading x (making at cut e1 m)) (sym hp) ∙ h2
 
 -- memory was refused at the step itself
-pub read-none : (at : ℕ) (ws : List Wrote) (step : Step) (bytes : List ℕ) (e : Engine) → is_part step e ≡ true
-    → read (turn_of at step bytes (record { answers = ws; starved = Some 0 })) e ≡ making at (Some 0) e 0
-read-none at ws step bytes e h =
+pub read-none : (at : ℕ) (step : Step) (bytes : List ℕ) (e : Engine) → is_part step e ≡ true
+    → (notes : Notes) → notes.starved ≡ Some 0 → read (turn_of at step bytes notes) e ≡ making at (Some 0) e 0
+read-none at step bytes e h notes same =
     let p = begun at (Some 0) e in
-    let same : step_part step bytes p ≡ p =
+    let stays : step_part step bytes p ≡ p =
     if-true (is_part step e) (if goes p then part (step_engine at step bytes e) p else p) (making at (Some 0) (step_engine at step bytes e) 0) h in
-    ap (reading (is_piece step)) same ∙ reading-cut (is_piece step) p refl
+    ap (λ (c : Option ℕ). reading (is_piece step) (step_part step bytes (begun at c e))) same
+    ∙ ap (reading (is_piece step)) stays ∙ reading-cut (is_piece step) p refl
 
--- a turn from what was read, what was written and what was told
-pub applies-of : (at : ℕ) (step : Step) (bytes : List ℕ) (e e' : Engine) (log log' : Option Log) (m n : ℕ) (ws : List Wrote) (cut : Option ℕ) (p p' : Progress)
-    → read (turn_of at step bytes (record { answers = ws; starved = cut })) e ≡ p
-    → Writes ws p p' → IsCut cut p'.done → (if has_ended e.talk then p'.engine else starved_after cut at p'.engine) ≡ e'
-    → TellsOffers (offers_from at ws p.engine) log log' → (has_failed ws ≡ true → Rose m n)
+-- a turn from what was read and what was written
+pub applies-of : (at : ℕ) (step : Step) (bytes : List ℕ) (e e' : Engine) (log log' : Option Log) (m n : ℕ) (p p' : Progress)
+    → ((notes : Notes) → notes.starved ≡ p.cut → read (turn_of at step bytes notes) e ≡ p)
+    → Writes p p' log log' m n → IsCut p.cut p'.done → (if has_ended e.talk then p'.engine else starved_after p.cut at p'.engine) ≡ e'
     → AppliesCounted at step bytes e e' log log' m n
-applies-of at step bytes e e' log log' m n ws cut p p' hr hw hc ha ht counted =
-    let leads : drain ws (read (turn_of at step bytes (record { answers = ws; starved = cut })) e) ≡ p' =
-    ap (drain ws) hr ∙ hw.leaves in
+applies-of at step bytes e e' log log' m n p p' reads w cut after =
+    let here = reads w.notes w.cut in
+    let ws = answers_of w.notes in
+    let leads : drain ws (read (turn_of at step bytes w.notes) e) ≡ p' = ap (drain ws) here ∙ w.leaves in
     let P : Progress → Type 0 = λ x. AreAnswers ws x in
-    let Q : Progress → Type 0 = λ x. IsCut cut x.done in
-    let R : Progress → Type 0 = λ x. TellsOffers (offers_from at ws x.engine) log log' in
+    let Q : Progress → Type 0 = λ x. IsCut p.cut x.done in
+    let C : Option ℕ → Type 0 = λ c. IsCut c (drain ws (read (turn_of at step bytes w.notes) e)).done in
+    let R : Progress → Type 0 = λ x. TellsOffers (offers_from ws x) log log' in
     record {
       applies = record {
-        notes = record { answers = ws; starved = cut };
-        may = record { answers = subst P (sym hr) hw.answers; cut = subst Q (sym leads) hc };
-        leaves = ap (λ (x : Progress). if has_ended e.talk then x.engine else starved_after cut at x.engine) leads ∙ ha;
-        tells = subst R (sym hr) ht;
+        notes = w.notes;
+        may = record { answers = subst P (sym here) w.answers; cut = subst C (sym w.cut) (subst Q (sym leads) cut) };
+        leaves =
+            ap (λ (x : Progress). if has_ended e.talk then x.engine else starved_after w.notes.starved at x.engine) leads
+            ∙ ap (λ (c : Option ℕ). if has_ended e.talk then p'.engine else starved_after c at p'.engine) w.cut ∙ after;
+        tells = subst R (sym here) w.tells;
       };
-      counted = counted;
+      counted = w.counted;
     }
-
--- where there was no write, none failed
-pub none-failed : {A : Type 0} → false ≡ true → A
-none-failed h = cc
 
 -- a session that had ended takes the step alone
 pub applies-over : (at : ℕ) (step : Step) (bytes : List ℕ) (e e' : Engine) (log log' : Option Log) (m n : ℕ) → has_ended e.talk ≡ true
@@ -94,18 +91,18 @@ applies-over at step bytes e e' log log' m n h same told =
     let p = making at None e' k in
     let over : has_ended e'.talk ≡ true = ap (λ (x : Engine). has_ended x.talk) same ∙ step-ended at step bytes e h in
     let none : IsFalse (can_write e') = over-writes e' over in
-    applies-of at step bytes e e' log log' m n [] None p p
-    (read-is at None [] step bytes (is_piece step) (is_part step e) e e' e' k k refl refl refl same tt (over-reads (is_piece step) p over))
-    (writes-none p none) tt (if_case (λ (x : Engine). x ≡ e') (has_ended e.talk) e' e' refl refl) (tells-none log log' told) none-failed
+    applies-of at step bytes e e' log log' m n p p
+    (read-is at None step bytes (is_piece step) (is_part step e) e e' e' k k refl refl refl same tt (over-reads (is_piece step) p over))
+    (writes-none p log log' m n none told) tt (if_case (λ (x : Engine). x ≡ e') (has_ended e.talk) e' e' refl refl)
 
 -- and where memory is refused, nothing
 pub refused-over : (at : ℕ) (step : Step) (bytes : List ℕ) (e e' : Engine) (log log' : Option Log) (m n : ℕ) → has_ended e.talk ≡ true → is_part step e ≡ true
     → e' ≡ e → log' ≡ log → AppliesCounted at step bytes e e' log log' m n
 refused-over at step bytes e e' log log' m n h is same told =
     let p = making at (Some 0) e 0 in
-    applies-of at step bytes e e' log log' m n [] (Some 0) p p
-    (read-none at [] step bytes e is) (writes-cut p refl) refl
-    (if-true (has_ended e.talk) e (starved_after (Some 0) at e) h ∙ sym same) (tells-none log log' told) none-failed
+    applies-of at step bytes e e' log log' m n p p
+    (read-none at step bytes e is) (writes-cut p log log' m n refl told) refl
+    (if-true (has_ended e.talk) e (starved_after (Some 0) at e) h ∙ sym same)
 
 -- a step starves nobody
 pub step-starved : (at : ℕ) (step : Step) (bytes : List ℕ) (e : Engine) → (step_engine at step bytes e).starved ≡ e.starved

@@ -1,6 +1,7 @@
 -- Small facts by cases.
 use Rattle.std.proofs.Common.{◌≡◌, ◌≤◌, ◌<◌, ℕ, ◌+◌, Bool, true, false, not, ◌&&◌, ◌||◌, IsTrue, IsFalse, nat_lt, Option, Some, None, is_some, Result, Ok, Err, is_err, OnOk, refl, arith, rules}
 use Rattle.std.proofs.lemmas.Bool.Decides.{nat_tests}
+use Rattle.amqp_engine.specs.Counts.{Rose}
 use Rattle.amqp_engine.specs.Turn.{is_before}
 use Rattle.amqp_engine.specs.Making.{Allows}
 
@@ -32,6 +33,10 @@ is_before-Allows (Some j) n h = grind (arith, nat_tests)
 pub Allows-less : (cut : Option ℕ) (m n : ℕ) → m ≤ n → Allows cut n → Allows cut m
 Allows-less None m n le h = tt
 Allows-less (Some j) m n le h = omega arith
+
+-- counts are between these
+pub rose-between : (a b c d : ℕ) → a ≤ b → c ≤ d → Rose b c → Rose a d
+rose-between a b c d h k r = omega arith
 
 -- a turn is cut at its own number of parts
 pub is_before-cut : (n : ℕ) → is_before (Some n) n ≡ false

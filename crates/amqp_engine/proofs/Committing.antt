@@ -33,7 +33,7 @@ use Rattle.amqp_engine.specs.declared.port.Wrote.{Wrote}
 use Rattle.amqp_engine.specs.declared.port.Wrote.TheVariants.{Took, Failed, NoMemory}
 use Rattle.amqp_engine.specs.Log.{on_last}
 use Rattle.amqp_engine.specs.Engine.{Engine, with_talk, rule_at, step_engine, step_linked, step_piece, front_of, read_badly, read_row, settle, wrote, took, commit_one, commits, commit_all, fitting_next, can_write}
-use Rattle.amqp_engine.specs.Turn.{Turn, asks, wants_ask, is_piece, answered, read, applied, IsApplied}
+use Rattle.amqp_engine.specs.Turn.{Turn, answers_of, Progress, asks, wants_ask, is_piece, offer_part, answered, read, applied, IsApplied}
 use Rattle.amqp_engine.specs.Sending.{Sending, nothing_sent, frames, offer_sending, offers_sending, step_sending, committed_in, committed_before}
 use Rattle.amqp_engine.specs.Saying.{applied_sending}
 use Rattle.amqp_session.proofs.Cases.{if_case, if-true, if-false, and-true}
@@ -161,8 +161,8 @@ story_asked e x = x
 abbrev pub story_stepped : ℕ → Step → List ℕ → Engine → Story → Story
 story_stepped at step bytes e x = record { sendings = step_sending step e x.sendings; told = told_by step x.told }
 
-abbrev pub story_offering : ℕ → Wrote → Engine → Story → Story
-story_offering at w e x = record x { sendings = on_last (offer_sending w e) x.sendings }
+abbrev pub story_offering : Wrote → Progress → Story → Story
+story_offering w p x = record x { sendings = on_last (offer_sending w p.engine) x.sendings }
 
 -- the last link is the one on which these frames were committed
 abbrev pub EndsWith : List Sending → List Frame → Type 0
@@ -461,7 +461,7 @@ module _ (T : Cmd → Type 0) (L : List Frame → Type 0) (I : Talk → Type 0) 
         piece = λ at n bytes e x running h told. kept-piece at bytes e x.sendings (h told);
         read = λ at e x can h told. kept-row at (front_of e) e x.sendings (h told) (and-left (is_open e.talk) _ can);
         heard = λ b e x none h told. inl (h told);
-        offer = λ at w e x can fits h told. kept-offer at w e x.sendings can (h told);
+        offer = λ w p x can fits h told. kept-offer p.at w p.engine x.sendings can (h told);
         rest = λ e x can h told. rest-of e x.sendings can (h told);
         less = λ b e x h told. inl (h told);
         starve = λ b at j e x h told. kept-ended false _ x.sendings (stepped-all e x.sendings (h told)) (starve-ends (present_at at e.talk));
@@ -472,10 +472,10 @@ module _ (T : Cmd → Type 0) (L : List Frame → Type 0) (I : Talk → Type 0) 
 
   -- ---- the story of a turn
 
-  offers-story : (at : ℕ) (ws : List Wrote) (e : Engine) (x : Story)
-      → offers_on Story story_asked story_stepped story_offering at ws e x ≡ record x { sendings = offers_sending at ws e x.sendings }
-  offers-story at [] e x = refl
-  offers-story at (w ∷ ws) e x = offers-story at ws (answered at w e) (story_offering at w e x)
+  offers-story : (ws : List Wrote) (p : Progress) (x : Story)
+      → offers_on Story story_asked story_stepped story_offering ws p x ≡ record x { sendings = offers_sending ws p x.sendings }
+  offers-story [] p x = refl
+  offers-story (w ∷ ws) p x = offers-story ws (offer_part w p) (story_offering w p x)
 
   one-told : (step : Step) → Tells step → AllByRecursion T (told_by step [])
   one-told (Command c) h = (h, tt)
@@ -494,6 +494,6 @@ module _ (T : Cmd → Type 0) (L : List Frame → Type 0) (I : Talk → Type 0) 
       let x : Story = record { sendings = ss; told = [] } in
       let y : Story = applied_on Story story_asked story_stepped story_offering u e x in
       let known : Known (applied u e) y = lift-applied Story story_asked story_stepped story_offering Known Written Known kept-small u e x running may (λ none. h) in
-      let is = offers-story u.at u.notes.answers (read u e).engine (story_stepped u.at u.step u.bytes e x) in
+      let is = offers-story (answers_of u.notes) (read u e) (story_stepped u.at u.step u.bytes e x) in
       let Q : Story → Type 0 = λ z. AllByRecursion T z.told → Kept false (applied u e).talk z.sendings in
       (subst Q is known) (one-told u.step told)

@@ -1,5 +1,5 @@
 -- What brings a fault, with the count of the port's.
-use Rattle.std.proofs.Common.{◌≡◌, ◌≤◌, ◌⊎◌, inl, inr, ℕ, ◌||◌, Bool, true, false, if◌then◌else◌, IsTrue, List, [], ◌∷◌, ◌++◌, Option, Some, None, Result, Ok, Err, ap, sym, ◌∙◌, refl, arith}
+use Rattle.std.proofs.Common.{◌≡◌, ◌≤◌, ◌⊎◌, inl, inr, ℕ, Bool, true, false, if◌then◌else◌, IsTrue, List, Option, Some, None, Result, Ok, Err, ap, sym, refl, arith}
 use Rattle.amqp_session.specs.declared.io_fault.IoFault.{IoFault}
 use Rattle.amqp_session.specs.declared.io_fault.IoFault.TheVariants.{Aborted, BrokenPipe}
 use Rattle.amqp_session.specs.declared.error.ErrorKind.{ErrorKind}
@@ -7,14 +7,12 @@ use Rattle.amqp_session.specs.declared.error.ErrorKind.TheVariants.{IOError}
 use Rattle.amqp_session.specs.Talk.{Talk, has_ended, is_open, end_of}
 use Rattle.amqp_engine.specs.declared.port.Step.{Step}
 use Rattle.amqp_engine.specs.declared.port.Step.TheVariants.{LinkFailed, End, Fault}
-use Rattle.amqp_engine.specs.declared.port.Wrote.{Wrote}
-use Rattle.amqp_engine.specs.declared.port.Wrote.TheVariants.{Took, Failed, NoMemory}
 use Rattle.amqp_engine.specs.Counts.{Rose, HasCause, is_fault}
 use Rattle.amqp_engine.specs.Engine.{Engine}
-use Rattle.amqp_engine.specs.Turn.{is_all}
 use Rattle.amqp_engine.specs.Log.{Log}
 use Rattle.amqp_engine.specs.Making.{AppliesCounted}
-use Rattle.amqp_engine.specs.Causes.{fault_in, fault_at, fault_of, is_counted, brought, is_failed, has_failed}
+use Rattle.amqp_engine.specs.Causes.{fault_in, fault_at, fault_of, is_counted, brought}
+use Rattle.amqp_engine.proofs.Cases.{rose-between}
 use Rattle.amqp_engine.proofs.TurnEnds.{applied-cause}
 
 -- ---- a fault is an end
@@ -29,40 +27,6 @@ fault-end : (o : Option (Result (Unit {0}) ErrorKind)) (fault : IoFault) → fau
 fault-end None fault h = cc
 fault-end (Some (Ok x)) fault h = cc
 fault-end (Some (Err e)) fault h = ap (λ (k : ErrorKind). Some (Err k)) (fault-kind e fault h)
-
--- ---- writes
-
--- counts are between these
-pub rose-between : (a b c d : ℕ) → a ≤ b → c ≤ d → Rose b c → Rose a d
-rose-between a b c d h k r = omega arith
-
-failed-is : (w : Wrote) → is_failed w ≡ true → w ≡ Failed
-failed-is Failed h = refl
-failed-is (Took n) h = cc
-failed-is NoMemory h = cc
-
--- a write of which all was taken did not fail
-pub all-taken : (w : Wrote) (n : ℕ) → is_all w n ≡ true → is_failed w ≡ false
-all-taken (Took k) n h = refl
-all-taken Failed n h = cc
-all-taken NoMemory n h = cc
-
--- only the last of the writes may fail
-pub failed-last : (ws : List Wrote) (w : Wrote) → has_failed ws ≡ false → has_failed (ws ++ w ∷ []) ≡ is_failed w
-failed-last [] w h = or-false (is_failed w) where
-  or-false : (b : Bool) → (b || false) ≡ b
-  or-false true = refl
-  or-false false = refl
-failed-last (v ∷ ws) w h = later (is_failed v) (has_failed ws) (has_failed (ws ++ w ∷ [])) (is_failed w) h (failed-last ws w) where
-  later : (b c d e : Bool) → (b || c) ≡ false → (c ≡ false → d ≡ e) → (b || d) ≡ e
-  later true c d e k f = cc
-  later false c d e k f = f k
-
--- and its count was between these
-pub last-rose : (ws : List Wrote) (w : Wrote) (a b c : ℕ) → has_failed ws ≡ false → a ≤ b → b ≤ c → (w ≡ Failed → Rose b c)
-    → has_failed (ws ++ w ∷ []) ≡ true → Rose a c
-last-rose ws w a b c none h k cause failed =
-    rose-between a b c c h (omega arith) (cause (failed-is w (sym (failed-last ws w none) ∙ failed)))
 
 -- ---- a turn
 

@@ -9,7 +9,7 @@ use Rattle.amqp_session.specs.Listed.{without}
 use Rattle.amqp_session.proofs.Keeping.{stays-command}
 use Rattle.amqp_engine.specs.Log.{Log}
 use Rattle.amqp_engine.specs.Engine.{Engine, begin, with_talk}
-use Rattle.amqp_engine.specs.Turn.{Turn, read, turns, applied, AreTurns}
+use Rattle.amqp_engine.specs.Turn.{Turn, answers_of, read, turns, applied, AreTurns}
 use Rattle.amqp_engine.specs.Tell.{Runs, log_turns}
 use Rattle.amqp_engine.specs.Sending.{Sending, step_sending, sendings_from}
 use Rattle.amqp_engine.specs.Saying.{HasSent, new, asked, applies, told, answer_taken, frames_taken, TellsLinks, GoesOn, SpellLegal}
@@ -40,7 +40,7 @@ sends-said e ss new = record { all = tt; last = λ now. cc }
 sends-said e ss (asked {e = e'} h) = sends-asks e' ss (sends-said e' ss h)
 sends-said e ss (applies {e = e'} {ss = ss'} u running may told_step h) =
     let Q : List Sending → Type 0 = λ xs. Sends (applied u e') xs in
-    subst Q (sending.offers-same u.at u.notes.answers (read u e').engine (step_sending u.step e' ss'))
+    subst Q (sending.offers-same (answers_of u.notes) (read u e') (step_sending u.step e' ss'))
     (lifting.lift-applied (List Sending) sending.asking sending.stepping sending.offering Sends (λ b. Sends) Sends
     (lifting.simply (List Sending) sending.asking sending.stepping sending.offering Sends sending.small) u e' ss' running may (sends-said e' ss' h))
 sends-said e ss (told {e = e'} c may h) = sends-left e' (with_talk (command c) e') ss (leaves-told c e') (sends-said e' ss h)

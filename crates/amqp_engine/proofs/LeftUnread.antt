@@ -23,7 +23,7 @@ use Rattle.amqp_engine.specs.declared.port.Wrote.{Wrote}
 use Rattle.amqp_engine.specs.declared.port.Wrote.TheVariants.{Took, Failed, NoMemory as WroteNoMemory}
 use Rattle.amqp_engine.specs.Engine.{Engine, front_of, is_more, can_read, rule_at, with_talk, step_engine, settle, took, wrote, commit_all, commits, starve_at}
 use Rattle.amqp_session.specs.Writing.{frames_waiting}
-use Rattle.amqp_engine.specs.Turn.{Turn, asks, wants_ask, is_piece, answered, applied, turn, IsApplied, IsTurn}
+use Rattle.amqp_engine.specs.Turn.{Turn, Progress, asks, wants_ask, is_piece, answered, applied, turn, IsApplied, IsTurn}
 use Rattle.amqp_engine.specs.Log.{Log}
 use Rattle.amqp_engine.specs.Tell.{Applies, TakesTurn, turn_of}
 use Rattle.amqp_engine.specs.Unread.{IsRead}
@@ -184,8 +184,8 @@ asking e x = tt
 stepping : ℕ → Step → List ℕ → Engine → Unit {0} → Unit {0}
 stepping at step bytes e x = tt
 
-offering : ℕ → Wrote → Engine → Unit {0} → Unit {0}
-offering at w e x = tt
+offering : Wrote → Progress → Unit {0} → Unit {0}
+offering w p x = tt
 
 -- while frames are read nothing is known
 abbrev While : Engine → Unit {0} → Type 0
@@ -209,7 +209,7 @@ small =
       piece = λ at n bytes e x running h. tt;
       read = λ at e x can h. tt;
       heard = λ b e x done h on. cannot-read e (done on);
-      offer = λ at w e x can fits h. answered-read at w e (h refl);
+      offer = λ w p x can fits h. answered-read p.at w p.engine (h refl);
       rest = λ e x can h. h refl;
       less = λ b e x h on. h;
       starve = λ b at j e x h. starved-read at j e;

@@ -6,7 +6,7 @@ use Rattle.amqp_engine.specs.declared.port.Step.TheVariants.{Linked, LinkFailed,
 use Rattle.amqp_engine.specs.declared.port.Wrote.{Wrote}
 use Rattle.amqp_engine.specs.Log.{IsWithin}
 use Rattle.amqp_engine.specs.Engine.{Engine, step_engine, can_read, read_one, can_write, starve_at}
-use Rattle.amqp_engine.specs.Turn.{Turn, Progress, asks, begun, goes, is_before, part, is_part, is_piece, step_part, reads, read_part, reading, drain, offer_part, offered, answered, is_all, AreAnswers, read, written, applied, turn, turns, starved_after, IsCut, IsApplied, IsTurn, AreTurns}
+use Rattle.amqp_engine.specs.Turn.{Turn, answers_of, Progress, asks, begun, goes, is_before, part, is_part, is_piece, step_part, reads, read_part, reading, drain, offer_part, offered, answered, is_all, AreAnswers, read, written, applied, turn, turns, starved_after, IsCut, IsApplied, IsTurn, AreTurns}
 use Rattle.amqp_session.proofs.Cases.{if_case, if_by, if-false}
 use Rattle.amqp_engine.proofs.Cases.{and-left, and-right, and-other}
 use Rattle.amqp_engine.proofs.Over.{asks-running}
@@ -40,10 +40,7 @@ pub stays-drain : {A : Type 0} (f : Progress → A) (h : (e : Engine) (n : ℕ) 
 stays-drain f h [] p = refl
 stays-drain f h (w ∷ ws) p = stays-drain f h ws (offer_part w p) ∙ h _ _ p
 
--- the answers are at the turn's own moment
-pub read-at : (u : Turn) (e : Engine) → (read u e).at ≡ u.at
-read-at u e = stays-read (λ (x : Progress). x.at) (λ f n x. refl) u e
-
+-- a turn is cut where that is noted
 pub read-cut : (u : Turn) (e : Engine) → (read u e).cut ≡ u.notes.starved
 read-cut u e = stays-read (λ (x : Progress). x.cut) (λ f n x. refl) u e
 
@@ -54,13 +51,13 @@ all-rest false ws p h = inl h
 
 -- ---- what is folded beside the engine: by the asking, the step and each offer
 
-module _ (X : Type 0) (ask : Engine → X → X) (stepped : ℕ → Step → List ℕ → Engine → X → X) (offering : ℕ → Wrote → Engine → X → X) where
-  abbrev pub offers_on : ℕ → List Wrote → Engine → X → X
-  offers_on at [] e x = x
-  offers_on at (w ∷ ws) e x = offers_on at ws (answered at w e) (offering at w e x)
+module _ (X : Type 0) (ask : Engine → X → X) (stepped : ℕ → Step → List ℕ → Engine → X → X) (offering : Wrote → Progress → X → X) where
+  abbrev pub offers_on : List Wrote → Progress → X → X
+  offers_on [] p x = x
+  offers_on (w ∷ ws) p x = offers_on ws (offer_part w p) (offering w p x)
 
   abbrev pub applied_on : Turn → Engine → X → X
-  applied_on u e x = offers_on u.at u.notes.answers (read u e).engine (stepped u.at u.step u.bytes e x)
+  applied_on u e x = offers_on (answers_of u.notes) (read u e) (stepped u.at u.step u.bytes e x)
 
   abbrev pub turn_on : Turn → Engine → X → X
   turn_on u e x = applied_on u (asks e) (ask e x)
@@ -77,7 +74,7 @@ module _ (X : Type 0) (ask : Engine → X → X) (stepped : ℕ → Step → Lis
     pub piece : (at n : ℕ) (bytes : List ℕ) (e : Engine) (x : X) → has_ended e.talk ≡ false → P e x → R (step_engine at (Piece n) bytes e) (stepped at (Piece n) bytes e x)
     pub read : (at : ℕ) (e : Engine) (x : X) → can_read e ≡ true → R e x → R (read_one at e) x
     pub heard : (b : Bool) (e : Engine) (x : X) → (b ≡ true → can_read e ≡ false) → R e x → W b e x
-    pub offer : (at : ℕ) (w : Wrote) (e : Engine) (x : X) → can_write e ≡ true → IsWithin (length (offered e)) w → W true e x → P (answered at w e) (offering at w e x)
+    pub offer : (w : Wrote) (p : Progress) (x : X) → can_write p.engine ≡ true → IsWithin (length (offered p.engine)) w → W true p.engine x → P (answered p.at w p.engine) (offering w p x)
     pub rest : (e : Engine) (x : X) → can_write e ≡ false → W true e x → P e x
     pub less : (b : Bool) (e : Engine) (x : X) → P e x → W b e x
     pub starve : (b : Bool) (at j : ℕ) (e : Engine) (x : X) → W b e x → P (starve_at at j e) x
@@ -145,17 +142,17 @@ module _ (X : Type 0) (ask : Engine → X → X) (stepped : ℕ → Step → Lis
         let Q : Bool → Type 0 = λ b. W b p.engine x in
         inr (subst Q off w, off)
 
-    lift-drain : (ws : List Wrote) (p : Progress) (x : X) → AreAnswers ws p → W (goes p) p.engine x → Out (drain ws p) (offers_on p.at ws p.engine x)
+    lift-drain : (ws : List Wrote) (p : Progress) (x : X) → AreAnswers ws p → W (goes p) p.engine x → Out (drain ws p) (offers_on ws p x)
     lift-drain [] p x may w = lift-none (goes p) p x refl may w
     lift-drain (w ∷ ws) p x may h =
         let on : goes p ≡ true = and-left (goes p) (can_write p.engine) may.0 in
         let can : can_write p.engine ≡ true = and-right (goes p) (can_write p.engine) may.0 in
         let B : Bool → Type 0 = λ b. W b p.engine x in
         let q = offer_part w p in
-        let y = offering p.at w p.engine x in
-        let next : P q.engine y = k.offer p.at w p.engine x can may.1 (subst B on h) in
-        let Q : List Wrote → Type 0 = λ vs. Out (drain vs q) (offers_on p.at vs q.engine y) in
-        elim (all-rest (is_all w (length (offered p.engine))) ws q may.3) [
+        let y = offering w p x in
+        let next : P q.engine y = k.offer w p x can may.1 (subst B on h) in
+        let Q : List Wrote → Type 0 = λ vs. Out (drain vs q) (offers_on vs q y) in
+        elim (all-rest (is_all w (length (offered p.engine))) ws q may.2) [
           | inl none ↦ subst Q (sym none) (inl next)
           | inr more ↦ lift-drain ws q y more (k.less (goes q) q.engine y next)
         ]
@@ -186,7 +183,7 @@ module _ (X : Type 0) (ask : Engine → X → X) (stepped : ℕ → Step → Lis
     pub lift-applied : (u : Turn) (e : Engine) (x : X) → has_ended e.talk ≡ false → IsApplied u e → P e x → P (applied u e) (applied_on u e x)
     lift-applied u e x running may h =
         let r = read u e in
-        let ws = u.notes.answers in
+        let ws = answers_of u.notes in
         let y = stepped u.at u.step u.bytes e x in
         let after = (written u e).engine in
         let D : Engine → Type 0 = λ z. P z (applied_on u e x) in
@@ -194,14 +191,13 @@ module _ (X : Type 0) (ask : Engine → X → X) (stepped : ℕ → Step → Lis
         if-false (has_ended e.talk) after (starved_after u.notes.starved u.at after) running in
         subst D (sym is) (elim (lift-read u e x running h) [
           | inl w ↦
-              let out : Out (drain ws r) (offers_on r.at ws r.engine y) = lift-drain ws r y may.answers w in
-              let Q : ℕ → Type 0 = λ at. Out (drain ws r) (offers_on at ws r.engine y) in
+              let out : Out (drain ws r) (offers_on ws r y) = lift-drain ws r y may.answers w in
               lift-starved u.notes.starved u.at (written u e) (applied_on u e x)
-              (stays-drain (λ (p : Progress). p.cut) (λ f n p. refl) ws r ∙ read-cut u e) (subst Q (read-at u e) out)
+              (stays-drain (λ (p : Progress). p.cut) (λ f n p. refl) ws r ∙ read-cut u e) out
           | inr t ↦
               let none : ws ≡ [] = stops-none ws r t.1 may.answers in
               let same : written u e ≡ begun u.at u.notes.starved e = ap (λ vs. drain vs r) none ∙ t.0 in
-              let said : applied_on u e x ≡ y = ap (λ vs. offers_on u.at vs r.engine y) none in
+              let said : applied_on u e x ≡ y = ap (λ vs. offers_on vs r y) none in
               let E : Engine → Type 0 = λ z. P (starved_after u.notes.starved u.at z) (applied_on u e x) in
               let F : X → Type 0 = λ z. P (starve_at u.at 0 e) z in
               let C : ℕ → Type 0 = λ n. IsCut u.notes.starved n in
@@ -222,7 +218,7 @@ module _ (X : Type 0) (ask : Engine → X → X) (stepped : ℕ → Step → Lis
     pub asked : (e : Engine) (x : X) → P e x → P (asks e) (ask e x)
     pub step : (at : ℕ) (step : Step) (bytes : List ℕ) (e : Engine) (x : X) → has_ended e.talk ≡ false → P e x → P (step_engine at step bytes e) (stepped at step bytes e x)
     pub read : (at : ℕ) (e : Engine) (x : X) → can_read e ≡ true → P e x → P (read_one at e) x
-    pub offer : (at : ℕ) (w : Wrote) (e : Engine) (x : X) → can_write e ≡ true → IsWithin (length (offered e)) w → P e x → P (answered at w e) (offering at w e x)
+    pub offer : (w : Wrote) (p : Progress) (x : X) → can_write p.engine ≡ true → IsWithin (length (offered p.engine)) w → P p.engine x → P (answered p.at w p.engine) (offering w p x)
     pub starve : (at j : ℕ) (e : Engine) (x : X) → P e x → P (starve_at at j e) x
     pub cut : (at : ℕ) (step : Step) (bytes : List ℕ) (e : Engine) (x : X) → has_ended e.talk ≡ false → is_part step e ≡ true → P e x → P (starve_at at 0 e) (stepped at step bytes e x)
 

@@ -1,5 +1,6 @@
 -- What a port tells of its links is what was sent on them.
-use Rattle.std.proofs.Common.{◌≡◌, inl, inr, ℕ, ◌&&◌, not, if◌then◌else◌, Bool, true, false, List, [], ◌∷◌, ◌++◌, length, take, map, is_some, refl, ap, sym, ◌∙◌, subst}
+use Rattle.std.proofs.Common.{◌≡◌, inl, inr, ℕ, ◌==◌, ◌&&◌, not, if◌then◌else◌, Bool, true, false, List, [], ◌∷◌, ◌++◌, length, take, map, is_some, refl, ap, sym, ◌∙◌, subst, arith}
+use Rattle.std.proofs.lemmas.Bool.Decides.{nat_tests}
 use Rattle.std.proofs.lemmas.List.{append-nil, map-append}
 use Rattle.amqp_session.specs.declared.error.ErrorKind.{ErrorKind}
 use Rattle.amqp_session.specs.declared.state.Link.{Link}
@@ -16,8 +17,8 @@ use Rattle.amqp_engine.specs.declared.port.Wrote.{Wrote}
 use Rattle.amqp_engine.specs.declared.port.Wrote.TheVariants.{Took, Failed, NoMemory}
 use Rattle.amqp_engine.specs.Log.{Log, on_last, log_ask, log_step, log_write, links_after, asked_after, IsWithin}
 use Rattle.amqp_engine.specs.Engine.{Engine, begin, with_talk, rule_at, step_engine, step_linked, settle, can_write, read_one, taken_by, starve_at}
-use Rattle.amqp_engine.specs.Turn.{Turn, asks, wants_ask, offered, answered, read, turn, AreTurns}
-use Rattle.amqp_engine.specs.Tell.{offers_from, log_asks, log_offers, log_turns}
+use Rattle.amqp_engine.specs.Turn.{Turn, answers_of, Progress, asks, wants_ask, goes, offer_part, offered, answered, read, turn, AreTurns}
+use Rattle.amqp_engine.specs.Tell.{port_answer, offers_from, log_asks, log_offers, log_turns}
 use Rattle.amqp_engine.specs.Sending.{Sending, nothing_sent, link_bytes, offer_sending, offers_sending, step_sending, sendings_from, sendings}
 use Rattle.amqp_session.proofs.Cases.{if_case, if-true, if-false}
 use Rattle.amqp_engine.proofs.Cases.{and-left}
@@ -140,20 +141,32 @@ told-links Room e ss a asked links = links
 told-links Tick e ss a asked links = links
 told-links (Command c) e ss a asked links = links
 
-told-offer : (w : Wrote) (e : Engine) (ss : List Sending) (a : Log) → can_write e ≡ true → IsWithin (length (offered e)) w
+-- what a port answered is as many bytes as are noted
+answer-taken : (w : Wrote) (p : Progress) → taken_by (port_answer w p) ≡ taken_by w
+answer-taken (Took k) p = by (k == 0) refl where
+  by : (b : Bool) → (k == 0) ≡ b → taken_by (if b && not (goes (offer_part (Took k) p)) then NoMemory else Took k) ≡ k
+  by true h =
+      let none : k ≡ 0 = grind (arith, nat_tests) in
+      if_case (λ (v : Wrote). taken_by v ≡ k) (not (goes (offer_part (Took k) p))) NoMemory (Took k) (sym none) refl
+  by false h = refl
+answer-taken Failed p = refl
+answer-taken NoMemory p = refl
+
+told-offer : (w v : Wrote) (e : Engine) (ss : List Sending) (a : Log) → taken_by v ≡ taken_by w → can_write e ≡ true → IsWithin (length (offered e)) w
     → Sends e ss → a.links ≡ map link_bytes ss
-    → (log_write (offered e) w a).links ≡ map link_bytes (on_last (offer_sending w e) ss)
-told-offer w e ss a can fits h links =
+    → (log_write (offered e) v a).links ≡ map link_bytes (on_last (offer_sending w e) ss)
+told-offer w v e ss a same can fits h links =
     let l = h.last (and-left (is_open e.talk) _ can) in
     let s' = offer_sending w e l.1 in
-    let after : link_bytes s' ≡ link_bytes l.1 ++ take (taken_by w) (offered e) = offer-bytes w e l.1 l.3 fits in
+    let after : link_bytes s' ≡ link_bytes l.1 ++ take (taken_by v) (offered e) =
+    offer-bytes w e l.1 l.3 fits ∙ ap (λ n. link_bytes l.1 ++ take n (offered e)) (sym same) in
     let before : a.links ≡ map link_bytes l.0 ++ link_bytes l.1 ∷ [] = links ∙ ap (map link_bytes) l.2 ∙ map-append link_bytes l.0 (l.1 ∷ []) in
-    let goal : map link_bytes (on_last (offer_sending w e) ss) ≡ map link_bytes l.0 ++ (link_bytes l.1 ++ take (taken_by w) (offered e)) ∷ [] =
+    let goal : map link_bytes (on_last (offer_sending w e) ss) ≡ map link_bytes l.0 ++ (link_bytes l.1 ++ take (taken_by v) (offered e)) ∷ [] =
     ap (map link_bytes) (ap (on_last (offer_sending w e)) l.2 ∙ on_last-append (offer_sending w e) l.0 l.1) ∙ map-append link_bytes l.0 (s' ∷ []) ∙ ap (λ x. map link_bytes l.0 ++ x ∷ []) after in
-    written_as w (map link_bytes l.0) (link_bytes l.1) (map link_bytes (on_last (offer_sending w e) ss)) before goal
+    written_as v (map link_bytes l.0) (link_bytes l.1) (map link_bytes (on_last (offer_sending w e) ss)) before goal
   where
-    written_as : (w : Wrote) (xs : List (List ℕ)) (x : List ℕ) (ys : List (List ℕ)) → a.links ≡ xs ++ x ∷ []
-        → ys ≡ xs ++ (x ++ take (taken_by w) (offered e)) ∷ [] → (log_write (offered e) w a).links ≡ ys
+    written_as : (v : Wrote) (xs : List (List ℕ)) (x : List ℕ) (ys : List (List ℕ)) → a.links ≡ xs ++ x ∷ []
+        → ys ≡ xs ++ (x ++ take (taken_by v) (offered e)) ∷ [] → (log_write (offered e) v a).links ≡ ys
     written_as (Took k) xs x ys before goal =
         ap (on_last (λ link. link ++ take k (offered e))) before ∙ on_last-append (λ link. link ++ take k (offered e)) xs x ∙ sym goal
     written_as Failed xs x ys before goal = before ∙ ap (λ y. xs ++ y ∷ []) (sym (append-nil x)) ∙ sym goal
@@ -171,8 +184,8 @@ asking e x = (x.0, log_asks e x.1)
 abbrev pub stepping : ℕ → Step → List ℕ → Engine → Both → Both
 stepping at step bytes e x = (step_sending step e x.0, log_step at step bytes x.1)
 
-abbrev pub offering : ℕ → Wrote → Engine → Both → Both
-offering at w e x = (on_last (offer_sending w e) x.0, log_write (offered e) w x.1)
+abbrev pub offering : Wrote → Progress → Both → Both
+offering w p x = (on_last (offer_sending w p.engine) x.0, log_write (offered p.engine) (port_answer w p) x.1)
 
 pub record Told (e : Engine) (x : Both) : Type 0 where
   pub sends : Sends e x.0
@@ -197,13 +210,14 @@ told-step at step bytes e x running h =
       links = told-links step e x.0 x.1 asked_is h.links;
     }
 
-told-offered : (at : ℕ) (w : Wrote) (e : Engine) (x : Both) → can_write e ≡ true → IsWithin (length (offered e)) w → Told e x
-    → Told (answered at w e) (offering at w e x)
-told-offered at w e x can fits h =
+told-offered : (w : Wrote) (p : Progress) (x : Both) → can_write p.engine ≡ true → IsWithin (length (offered p.engine)) w → Told p.engine x
+    → Told (answered p.at w p.engine) (offering w p x)
+told-offered w p x can fits h =
+    let e = p.engine in
     record {
-      sends = sends-offer at w e x.0 can fits h.sends;
-      synced = λ running. write-asked (offered e) w x.1 ∙ synced-kept e (answered at w e) x.1 (kept-answered at w e) h.synced running;
-      links = told-offer w e x.0 x.1 can fits h.sends h.links;
+      sends = sends-offer p.at w e x.0 can fits h.sends;
+      synced = λ running. write-asked (offered e) (port_answer w p) x.1 ∙ synced-kept e (answered p.at w e) x.1 (kept-answered p.at w e) h.synced running;
+      links = told-offer w (port_answer w p) e x.0 x.1 (answer-taken w p) can fits h.sends h.links;
     }
   where
     write-asked : (bytes : List ℕ) (w : Wrote) (a : Log) → (log_write bytes w a).asked ≡ a.asked
@@ -232,17 +246,17 @@ small =
           (told-links step e x.0 x.1 (h.synced running) h.links);
     }
 
-offers-same : (at : ℕ) (ws : List Wrote) (e : Engine) (x : Both)
-    → lifting.offers_on Both asking stepping offering at ws e x ≡ (offers_sending at ws e x.0, log_offers (offers_from at ws e) x.1)
-offers-same at [] e x = refl
-offers-same at (w ∷ ws) e x = offers-same at ws (answered at w e) (offering at w e x)
+offers-same : (ws : List Wrote) (p : Progress) (x : Both)
+    → lifting.offers_on Both asking stepping offering ws p x ≡ (offers_sending ws p x.0, log_offers (offers_from ws p) x.1)
+offers-same [] p x = refl
+offers-same (w ∷ ws) p x = offers-same ws (offer_part w p) (offering w p x)
 
 pub turns-same : (us : List Turn) (e : Engine) (x : Both) → lifting.turns_on Both asking stepping offering us e x ≡ (sendings_from us e x.0, log_turns us e x.1)
 turns-same [] e x = refl
 turns-same (u ∷ us) e x =
     let P : Both → Type 0 = λ y. lifting.turns_on Both asking stepping offering us (turn u e) y ≡ (sendings_from us (turn u e) y.0, log_turns us (turn u e) y.1) in
     let y = lifting.turn_on Both asking stepping offering u e x in
-    let same = offers-same u.at u.notes.answers (read u (asks e)).engine (stepping u.at u.step u.bytes (asks e) (asking e x)) in
+    let same = offers-same (answers_of u.notes) (read u (asks e)) (stepping u.at u.step u.bytes (asks e) (asking e x)) in
     turns-same us (turn u e) y ∙ ap (λ (z : Both). (sendings_from us (turn u e) z.0, log_turns us (turn u e) z.1)) same
 
 pub told : (us : List Turn) (a : Log) → AreTurns us (begin start) → a.links ≡ [] → a.asked ≡ false

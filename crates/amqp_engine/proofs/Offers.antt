@@ -1,8 +1,8 @@
 -- Offers one by one.
-use Rattle.std.proofs.Common.{◌≡◌, ◌≤◌, ◌<◌, ℕ, ◌+◌, ◌&&◌, Bool, true, false, IsTrue, IsFalse, MatchBool, IfSome, List, [], ◌∷◌, length, drop, Option, option_map, refl, ap, sym, ◌∙◌, subst, arith, rules, length-drop}
+use Rattle.std.proofs.Common.{◌≡◌, ◌≤◌, ◌<◌, ℕ, ◌+◌, ◌==◌, not, ◌&&◌, Bool, true, false, IsTrue, IsFalse, MatchBool, IfSome, List, [], ◌∷◌, length, drop, Option, Some, None, option_map, refl, ap, sym, ◌∙◌, subst, arith, rules, length-drop}
 use Rattle.std.proofs.lemmas.Bool.Decides.{nat_tests}
 use Rattle.amqp_session.specs.declared.io_fault.IoFault.TheVariants.{BrokenPipe}
-use Rattle.amqp_session.specs.Talk.{Talk}
+use Rattle.amqp_session.specs.Talk.{Talk, is_open}
 use Rattle.amqp_session.specs.Changes.{present_at}
 use Rattle.amqp_session.specs.Links.{lost}
 use Rattle.amqp_session.specs.Writing.{taken}
@@ -11,14 +11,16 @@ use Rattle.amqp_engine.specs.declared.port.Wrote.TheVariants.{Took, Failed, NoMe
 use Rattle.amqp_engine.specs.Log.{Log, log_write, IsWithin, PlansWrite}
 use Rattle.amqp_engine.specs.Engine.{Engine, rule_at, can_write, commit_all, wrote, took}
 use Rattle.amqp_session.specs.Writing.{frames_waiting}
-use Rattle.amqp_engine.specs.Turn.{Progress, goes, offer_part, offered, answered, is_all, AreAnswers, CutsAfter}
+use Rattle.amqp_engine.specs.Turn.{Notes, answers_of, Progress, goes, offer_part, drain, offered, answered, is_all, AreAnswers}
 use Rattle.amqp_engine.specs.Making.{making, Allows, Writes}
-use Rattle.amqp_engine.specs.Tell.{offers_from, log_offers, PlaysOffers, TellsOffers}
-use Rattle.amqp_engine.specs.Play.{waiting}
-use Rattle.amqp_engine.proofs.Cases.{is_before-Allows}
+use Rattle.amqp_engine.specs.Counts.{Rose}
+use Rattle.amqp_engine.specs.Tell.{port_answer, offers_from, log_offers, PlaysOffers, TellsOffers}
+use Rattle.amqp_engine.specs.Play.{waiting, noted, no_notes}
+use Rattle.amqp_session.proofs.Cases.{if-true, if-false, and-false}
+use Rattle.amqp_engine.proofs.Cases.{is_before-Allows, is_before-cut, some-unsent, rose-between}
 use Rattle.amqp_session.proofs.Keeping.{present-keeps, taken-keeps, lost-keeps}
 use Rattle.amqp_engine.proofs.Settling.{settle-talk, settle-less, settle-starved}
-use Rattle.amqp_engine.proofs.Telling.{tells-then}
+use Rattle.amqp_engine.proofs.Telling.{tells-then, tells-none}
 use Rattle.amqp_engine.proofs.Commits.{commits-keep, waiting-commits}
 
 control-took : (at k : ℕ) (e : Engine) → (took at k e).talk.control ≡ e.talk.control
@@ -60,57 +62,138 @@ and-is-true : (a b : Bool) → a ≡ true → IsTrue b → IsTrue (a && b)
 and-is-true true b g h = h
 and-is-true false b g h = cc
 
-pub cuts-other : (w : Wrote) (p : Progress) → (w ≡ NoMemory → ⊥) → CutsAfter w p
-cuts-other (Took k) p h = tt
-cuts-other Failed p h = tt
-cuts-other NoMemory p h = absurd (h refl)
+-- ---- what the port answered
+
+-- a write that took something took it
+took-some : (k : ℕ) (p : Progress) → 0 < k → port_answer (Took k) p ≡ Took k
+took-some k p some =
+    let no : (k == 0) ≡ false = grind (arith, nat_tests) in
+    if-false ((k == 0) && not (goes (offer_part (Took k) p))) NoMemory (Took k) (ap (λ (b : Bool). b && not (goes (offer_part (Took k) p))) no)
+
+-- and so did one after which the turn goes on
+pub goes-answer : (w : Wrote) (p : Progress) → goes (offer_part w p) ≡ true → port_answer w p ≡ w
+goes-answer (Took k) p on =
+    if-false ((k == 0) && not (goes (offer_part (Took k) p))) NoMemory (Took k) (and-false (k == 0) (not (goes (offer_part (Took k) p))) (ap not on))
+goes-answer Failed p on = refl
+goes-answer NoMemory p on = refl
+
+refused-answer : (p : Progress) → goes (offer_part (Took 0) p) ≡ false → port_answer (Took 0) p ≡ NoMemory
+refused-answer p off = if-true ((0 == 0) && not (goes (offer_part (Took 0) p))) NoMemory (Took 0) (ap not off)
+
+-- one offer more is told
+tells-more : (w v : Wrote) (ws : List Wrote) (p : Progress) (log mid last : Option Log) → port_answer w p ≡ v
+    → mid ≡ option_map (log_write (offered p.engine) v) log → IfSome log (PlansWrite (length (offered p.engine)) v)
+    → TellsOffers (offers_from ws (offer_part w p)) mid last → TellsOffers (offers_from (w ∷ ws) p) log last
+tells-more w v ws p log mid last is told plays t =
+    let e = p.engine in
+    let os = offers_from ws (offer_part w p) in
+    let P : Wrote → Type 0 = λ x. TellsOffers (record { bytes = offered e; answer = x } ∷ os) log last in
+    subst P (sym is)
+    (tells-then (log_write (offered e) v) (log_offers os) (PlansWrite (length (offered e)) v) (PlaysOffers os) log mid last
+    (record { told = told; plays = plays }) t)
+
+-- ---- writes
 
 offer-making : (at : ℕ) (cut : Option ℕ) (e : Engine) (n : ℕ) (w : Wrote) (e' : Engine)
     → e' ≡ answered at w e → making at cut e' (n + 1) ≡ offer_part w (making at cut e n)
 offer-making at cut e n w e' he = ap (λ (x : Engine). making at cut x (n + 1)) he
 
+-- where none was made, none failed
+none-failed : {A : Type 0} → false ≡ true → A
+none-failed h = cc
+
+-- no write is made where none is due
+writes-nothing : (p : Progress) (log log' : Option Log) (m n : ℕ) → IsFalse (goes p && can_write p.engine) → log' ≡ log → Writes p p log log' m n
+writes-nothing p log log' m n none told =
+    record {
+      notes = record { tooks = []; failed = false; starved = p.cut };
+      cut = refl;
+      answers = none;
+      leaves = refl;
+      tells = tells-none log log' told;
+      counted = none-failed;
+    }
+
 -- nothing is to be written
-pub writes-none : (p : Progress) → IsFalse (can_write p.engine) → Writes [] p p
-writes-none p can = record { answers = and-is-false (goes p) (can_write p.engine) can; leaves = refl }
+pub writes-none : (p : Progress) (log log' : Option Log) (m n : ℕ) → IsFalse (can_write p.engine) → log' ≡ log → Writes p p log log' m n
+writes-none p log log' m n can told = writes-nothing p log log' m n (and-is-false (goes p) (can_write p.engine) can) told
 
 -- a turn that was cut goes no further
-pub writes-cut : (p : Progress) → goes p ≡ false → Writes [] p p
-writes-cut p h = record { answers = rw h (search rules); leaves = refl }
+pub writes-cut : (p : Progress) (log log' : Option Log) (m n : ℕ) → goes p ≡ false → log' ≡ log → Writes p p log log' m n
+writes-cut p log log' m n off told = writes-nothing p log log' m n (ap (λ (b : Bool). b && can_write p.engine) off) told
 
 -- one write more, of which all was taken
-pub writes-more : (at : ℕ) (cut : Option ℕ) (e : Engine) (n : ℕ) (w : Wrote) (e' : Engine) (rest : List Wrote) (last : Progress)
-    → e' ≡ answered at w e → Allows cut (n + 1) → IsTrue (can_write e) → IsWithin (length (offered e)) w
-    → (w ≡ NoMemory → ⊥) → is_all w (length (offered e)) ≡ true
-    → Writes rest (making at cut e' (n + 1)) last → Writes (w ∷ rest) (making at cut e n) last
-writes-more at cut e n w e' rest last he allows can fits other all later =
+pub writes-more : (at : ℕ) (cut : Option ℕ) (e : Engine) (n : ℕ) (w : Wrote) (e' : Engine) (last : Progress) (log mid log' : Option Log) (a b c : ℕ)
+    → e' ≡ answered at w e → mid ≡ option_map (log_write (offered e) w) log → IfSome log (PlansWrite (length (offered e)) w)
+    → Allows cut (n + 1) → IsTrue (can_write e) → IsWithin (length (offered e)) w → is_all w (length (offered e)) ≡ true → a ≤ b
+    → Writes (making at cut e' (n + 1)) last mid log' b c → Writes (making at cut e n) last log log' a c
+writes-more at cut e n (Took k) e' last log mid log' a b c he told plays allows can fits all le rest =
     let p = making at cut e n in
-    let P : Progress → Type 0 = λ x. Writes rest x last in
-    let next : Writes rest (offer_part w p) last = subst P (offer-making at cut e n w e' he) later in
+    let ws = answers_of rest.notes in
+    let same : making at cut e' (n + 1) ≡ offer_part (Took k) p = offer-making at cut e n (Took k) e' he in
+    let some : 0 < length (offered e) = some-unsent (is_open e.talk) (length (offered e)) can in
+    let is : k ≡ length (offered e) = grind (arith, nat_tests) in
     let due : IsTrue (goes p && can_write e) = and-is-true (goes p) (can_write e) (is_before-Allows cut n allows) can in
-    let tail : MatchBool (is_all w (length (offered e))) (AreAnswers rest (offer_part w p)) (rest ≡ []) = rw all next.answers in
-    record { answers = (due, fits, cuts-other w p other, tail); leaves = next.leaves }
+    let P : Progress → Type 0 = λ x. AreAnswers ws x in
+    let Q : Progress → Type 0 = λ x. drain ws x ≡ last in
+    let R : Progress → Type 0 = λ x. TellsOffers (offers_from ws x) mid log' in
+    let tail : MatchBool (is_all (Took k) (length (offered e))) (AreAnswers ws (offer_part (Took k) p)) (ws ≡ []) = rw all (subst P same rest.answers) in
+    record {
+      notes = noted (Took k) rest.notes;
+      cut = rest.cut;
+      answers = (due, fits, tail);
+      leaves = subst Q same rest.leaves;
+      tells = tells-more (Took k) (Took k) ws p log mid log' (took-some k p (omega (arith, some, is))) told plays (subst R same rest.tells);
+      counted = λ failed. rose-between a b c c le (omega arith) (rest.counted failed);
+    }
+writes-more at cut e n Failed e' last log mid log' a b c he told plays allows can fits all le rest = cc
+writes-more at cut e n NoMemory e' last log mid log' a b c he told plays allows can fits all le rest = cc
 
--- a last one, of which less was taken
-pub writes-last : (at : ℕ) (cut : Option ℕ) (e : Engine) (n : ℕ) (w : Wrote) (e' : Engine)
-    → e' ≡ answered at w e → Allows cut (n + 1) → IsTrue (can_write e) → IsWithin (length (offered e)) w
-    → CutsAfter w (making at cut e n) → is_all w (length (offered e)) ≡ false
-    → Writes (w ∷ []) (making at cut e n) (making at cut e' (n + 1))
-writes-last at cut e n w e' he allows can fits cuts less =
+-- one write alone, with what is noted of it
+writes-one : (at : ℕ) (cut : Option ℕ) (e : Engine) (n : ℕ) (w v : Wrote) (notes : Notes) (e' : Engine) (log log' : Option Log) (a b : ℕ)
+    → answers_of notes ≡ w ∷ [] → notes.starved ≡ cut → port_answer w (making at cut e n) ≡ v
+    → e' ≡ answered at w e → log' ≡ option_map (log_write (offered e) v) log → IfSome log (PlansWrite (length (offered e)) v)
+    → Allows cut (n + 1) → IsTrue (can_write e) → IsWithin (length (offered e)) w → is_all w (length (offered e)) ≡ false
+    → (notes.failed ≡ true → Rose a b) → Writes (making at cut e n) (making at cut e' (n + 1)) log log' a b
+writes-one at cut e n w v notes e' log log' a b one same is he told plays allows can fits less counted =
     let p = making at cut e n in
     let none : List Wrote = [] in
     let due : IsTrue (goes p && can_write e) = and-is-true (goes p) (can_write e) (is_before-Allows cut n allows) can in
     let tail : MatchBool (is_all w (length (offered e))) (AreAnswers none (offer_part w p)) (none ≡ []) = rw less refl in
-    record { answers = (due, fits, cuts, tail); leaves = sym (offer-making at cut e n w e' he) }
+    let P : List Wrote → Type 0 = λ ws. AreAnswers ws p in
+    let Q : List Wrote → Type 0 = λ ws. TellsOffers (offers_from ws p) log log' in
+    record {
+      notes = notes;
+      cut = same;
+      answers = subst P (sym one) (due, fits, tail);
+      leaves = ap (λ (ws : List Wrote). drain ws p) one ∙ sym (offer-making at cut e n w e' he);
+      tells = subst Q (sym one) (tells-more w v none p log log' log' is told plays (tells-none log' log' refl));
+      counted = counted;
+    }
 
--- one offer more is told
-pub tells-more : (at : ℕ) (w : Wrote) (ws : List Wrote) (e e' : Engine) (log mid last : Option Log)
-    → e' ≡ answered at w e → mid ≡ option_map (log_write (offered e) w) log → IfSome log (PlansWrite (length (offered e)) w)
-    → TellsOffers (offers_from at ws e') mid last → TellsOffers (offers_from at (w ∷ ws) e) log last
-tells-more at w ws e e' log mid last he hm plays t =
-    let P : Engine → Type 0 = λ x. TellsOffers (offers_from at ws x) mid last in
-    let os = offers_from at ws (answered at w e) in
-    tells-then (log_write (offered e) w) (log_offers os) (PlansWrite (length (offered e)) w) (PlaysOffers os) log mid last
-    (record { told = hm; plays = plays }) (subst P he t)
+-- a last one, of which less was taken
+pub writes-last : (at : ℕ) (e : Engine) (n : ℕ) (w : Wrote) (e' : Engine) (log log' : Option Log) (a b : ℕ)
+    → e' ≡ answered at w e → log' ≡ option_map (log_write (offered e) w) log → IfSome log (PlansWrite (length (offered e)) w)
+    → IsTrue (can_write e) → IsWithin (length (offered e)) w → is_all w (length (offered e)) ≡ false
+    → (w ≡ NoMemory → ⊥) → (w ≡ Failed → Rose a b)
+    → Writes (making at None e n) (making at None e' (n + 1)) log log' a b
+writes-last at e n (Took k) e' log log' a b he told plays can fits less other cause =
+    writes-one at None e n (Took k) (Took k) (noted (Took k) no_notes) e' log log' a b refl refl
+    (goes-answer (Took k) (making at None e n) refl) he told plays tt can fits less none-failed
+writes-last at e n Failed e' log log' a b he told plays can fits less other cause =
+    writes-one at None e n Failed Failed (noted Failed no_notes) e' log log' a b refl refl refl he told plays tt can fits less (λ failed. cause refl)
+writes-last at e n NoMemory e' log log' a b he told plays can fits less other cause = absurd (other refl)
+
+-- a last one, for which the port found no memory
+pub writes-refused : (at : ℕ) (e : Engine) (n : ℕ) (e' : Engine) (log log' : Option Log) (a b : ℕ)
+    → e' ≡ answered at NoMemory e → log' ≡ option_map (log_write (offered e) NoMemory) log → IfSome log (PlansWrite (length (offered e)) NoMemory)
+    → IsTrue (can_write e) → Writes (making at (Some (n + 1)) e n) (making at (Some (n + 1)) e' (n + 1)) log log' a b
+writes-refused at e n e' log log' a b he told plays can =
+    let cut : Option ℕ = Some (n + 1) in
+    let some : 0 < length (offered e) = some-unsent (is_open e.talk) (length (offered e)) can in
+    let less : (0 == length (offered e)) ≡ false = grind (arith, nat_tests) in
+    writes-one at cut e n (Took 0) NoMemory (record { tooks = 0 ∷ []; failed = false; starved = cut }) e' log log' a b refl refl
+    (refused-answer (making at cut e n) (is_before-cut (n + 1))) he told plays (omega arith) can (omega arith) less none-failed
 
 wrote-starved : (at : ℕ) (w : Wrote) (e : Engine) → (wrote at w e).starved ≡ e.starved
 wrote-starved at (Took k) e = settle-starved (record e { talk = taken k (present_at at e.talk); unsent = drop k e.unsent })

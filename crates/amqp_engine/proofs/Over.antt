@@ -13,7 +13,7 @@ use Rattle.amqp_engine.specs.declared.port.Step.{Step}
 use Rattle.amqp_engine.specs.declared.port.Step.TheVariants.{Linked, LinkFailed, Piece, End, Fault, Room, Tick, Command}
 use Rattle.amqp_engine.specs.declared.port.Wrote.{Wrote}
 use Rattle.amqp_engine.specs.Engine.{Engine, rule_at, with_talk, settle, step_engine, can_write}
-use Rattle.amqp_engine.specs.Turn.{Turn, Progress, asks, wants_ask, begun, goes, part, is_part, is_piece, step_part, reading, drain, AreAnswers, read, written, applied, turn, starved_after}
+use Rattle.amqp_engine.specs.Turn.{Turn, answers_of, Progress, asks, wants_ask, begun, goes, part, is_part, is_piece, step_part, reading, drain, AreAnswers, read, written, applied, turn, starved_after}
 use Rattle.amqp_session.proofs.Cases.{if_case, if-true, if-false}
 use Rattle.amqp_engine.proofs.Cases.{and-right}
 use Rattle.amqp_engine.proofs.Settling.{settle-talk}
@@ -123,7 +123,7 @@ no-answers (w ∷ ws) p h may =
     cc
 
 -- it takes the step at most
-pub applied-over : (u : Turn) (e : Engine) → has_ended e.talk ≡ true → AreAnswers u.notes.answers (read u e)
+pub applied-over : (u : Turn) (e : Engine) → has_ended e.talk ≡ true → AreAnswers (answers_of u.notes) (read u e)
     → (applied u e ≡ e) ⊎ (applied u e ≡ step_engine u.at u.step u.bytes e)
 applied-over u e h may =
     let p = begun u.at u.notes.starved e in
@@ -136,14 +136,15 @@ applied-over u e h may =
     let over : has_ended s.engine.talk ≡ true =
     elim stepped [ inl same ↦ ap (λ (y : Engine). has_ended y.talk) same ∙ h | inr same ↦ ap (λ (y : Engine). has_ended y.talk) same ∙ step-ended u.at u.step u.bytes e h ] in
     let here : read u e ≡ s = over-reads (is_piece u.step) s over in
-    let A : Progress → Type 0 = λ y. AreAnswers u.notes.answers y in
-    let done : written u e ≡ s = ap (drain u.notes.answers) here ∙ no-answers u.notes.answers s over (subst A here may) in
+    let ws = answers_of u.notes in
+    let A : Progress → Type 0 = λ y. AreAnswers ws y in
+    let done : written u e ≡ s = ap (drain ws) here ∙ no-answers ws s over (subst A here may) in
     let is : applied u e ≡ s.engine =
     if-true (has_ended e.talk) (written u e).engine (starved_after u.notes.starved u.at (written u e).engine) h ∙ ap (λ (y : Progress). y.engine) done in
     elim stepped [ inl same ↦ inl (is ∙ same) | inr same ↦ inr (is ∙ same) ]
 
 -- and stays ended
-pub applied-ended : (u : Turn) (e : Engine) → has_ended e.talk ≡ true → AreAnswers u.notes.answers (read u e) → has_ended (applied u e).talk ≡ true
+pub applied-ended : (u : Turn) (e : Engine) → has_ended e.talk ≡ true → AreAnswers (answers_of u.notes) (read u e) → has_ended (applied u e).talk ≡ true
 applied-ended u e h may =
     elim (applied-over u e h may) [
       | inl same ↦ ap (λ (x : Engine). has_ended x.talk) same ∙ h

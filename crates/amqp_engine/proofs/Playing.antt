@@ -6,19 +6,19 @@ use Rattle.amqp_engine.specs.declared.port.Step.{Step}
 use Rattle.amqp_engine.specs.declared.port.Wrote.{Wrote}
 use Rattle.amqp_engine.specs.declared.port.Wrote.TheVariants.{Took, Failed, NoMemory}
 use Rattle.amqp_engine.specs.Plan.{Plan, Coming, plan_write, plan_failure, plan_step, PlanAnswers, room_for, next_coming}
-use Rattle.amqp_engine.specs.Log.{Log, IsWithin, log_ask, log_step, log_write}
+use Rattle.amqp_engine.specs.Log.{Log, PlansWrite, log_ask, log_step, log_write}
 use Rattle.amqp_engine.specs.Engine.{Engine, can_write, commit_all}
 use Rattle.amqp_session.specs.Writing.{frames_waiting}
-use Rattle.amqp_engine.specs.Turn.{is_before, Progress, Turn, asks, wants_ask, goes, offer_part, offered, answered, is_all, AreAnswers, CutsAfter, read, written, turn, turns, starved_after, IsTurn, AreTurns}
-use Rattle.amqp_engine.specs.Tell.{Offer, offers_from, offers_of, turn_of, log_asks, log_stepped, log_offers, log_turn, log_turns, PlaysOffers, PlaysTurn, PlaysTurns, Runs}
-use Rattle.amqp_engine.specs.Play.{waiting, room_of, fails_of, played_answer, played_answers, played_step, played_notes, played_turn_of, played_turn, played_turns, no_notes, IsPlayed}
+use Rattle.amqp_engine.specs.Turn.{is_before, Progress, Notes, Turn, answers_of, asks, wants_ask, goes, offer_part, offered, is_all, AreAnswers, read, written, turn, turns, starved_after, IsCut, IsTurn, AreTurns}
+use Rattle.amqp_engine.specs.Tell.{Offer, port_answer, offers_from, offers_of, turn_of, log_asks, log_stepped, log_offers, log_turn, log_turns, PlaysOffers, PlaysTurn, PlaysTurns, Runs}
+use Rattle.amqp_engine.specs.Play.{waiting, room_of, fails_of, played_answer, played_writes, played_step, played_turn_of, played_turn, played_turns, no_notes, noted, IsPlayed}
 use Rattle.amqp_engine.proofs.Over.{turn-is}
-use Rattle.amqp_engine.proofs.Lifting.{read-at, read-cut}
+use Rattle.amqp_engine.proofs.Lifting.{read-cut}
 use Rattle.amqp_session.proofs.Cases.{if_case, if_by, if-true, if-false, and-true, and-false}
 use Rattle.amqp_engine.proofs.Cases.{and-right, and-other, some-unsent}
 use Rattle.amqp_session.proofs.Keeping.{starve-ends}
 use Rattle.amqp_engine.proofs.Commits.{waiting-commits}
-use Rattle.amqp_engine.proofs.Offers.{waiting-wrote}
+use Rattle.amqp_engine.proofs.Offers.{waiting-wrote, goes-answer}
 
 planned-map : (f : Plan → Plan) (p : Option Plan) → is_some (option_map f p) ≡ is_some p
 planned-map f None = refl
@@ -52,11 +52,12 @@ due-waiting e h =
     let some = some-unsent (is_open e.talk) (length (commit_all e).unsent) h in
     omega (arith, waiting-commits (frames_waiting e.talk) e)
 
--- what a port that plays a script may answer
-not-refused : (w : Wrote) (p : Progress) → p.cut ≡ None → CutsAfter w p → w ≡ NoMemory → ⊥
-not-refused (Took k) p cut cuts is = cc
-not-refused Failed p cut cuts is = cc
-not-refused NoMemory p cut cuts is = cc
+goes-on : (p : Progress) → p.cut ≡ None → goes p ≡ true
+goes-on p cut = ap (λ (x : Option ℕ). is_before x p.done) cut
+
+-- what a port that plays a script answers, in a turn that is not cut
+uncut-answer : (w : Wrote) (p : Progress) → p.cut ≡ None → port_answer w p ≡ w
+uncut-answer w p cut = goes-answer w p (goes-on (offer_part w p) cut)
 
 answer-plan : (w : Wrote) (p : Option Plan) (n : ℕ) → is_some p ≡ true → IfSome p (λ q. PlanAnswers q n w) → (w ≡ NoMemory → ⊥)
     → w ≡ (if fails_of p then Failed else Took (room_of p n))
@@ -65,42 +66,59 @@ answer-plan (Took k) (Some p) n planned plays other = ap Took plays.1 ∙ sym (i
 answer-plan Failed (Some p) n planned plays other = sym (if-true p.fails Failed (Took (room_for p.room n)) plays)
 answer-plan NoMemory (Some p) n planned plays other = absurd (other refl)
 
-goes-on : (p : Progress) → p.cut ≡ None → goes p ≡ true
-goes-on p cut = ap (λ (x : Option ℕ). is_before x p.done) cut
+-- what is noted of a turn that is not cut
+abbrev pub whole_notes : List ℕ → Bool → Notes
+whole_notes ks failed = record { tooks = ks; failed = failed; starved = None }
 
-tail-played : {A : Type 0} (b : Bool) (ws rest : List Wrote) → MatchBool b A (ws ≡ []) → (b ≡ true → A → ws ≡ rest) → ws ≡ (if b then rest else [])
-tail-played true ws rest m f = f refl m
-tail-played false ws rest m f = m
+-- where no answer is left, nothing more is noted
+none-noted : (ks : List ℕ) (failed : Bool) → answers_of (whole_notes ks failed) ≡ [] → whole_notes ks failed ≡ no_notes
+none-noted [] true h = cc
+none-noted [] false h = refl
+none-noted (k ∷ ks) failed h = cc
 
-abbrev pub later : ℕ → Wrote → ℕ → Engine → Log → List Wrote
-later n w at e a = if is_all w (length (offered e)) then played_answers n at (answered at w e) (log_write (offered e) w a) else []
+tail-played : {A : Type 0} (b : Bool) (ks : List ℕ) (failed : Bool) (rest : Notes) → MatchBool b A (answers_of (whole_notes ks failed) ≡ [])
+    → (b ≡ true → A → whole_notes ks failed ≡ rest) → whole_notes ks failed ≡ (if b then rest else no_notes)
+tail-played true ks failed rest m f = f refl m
+tail-played false ks failed rest m f = none-noted ks failed m
 
--- the answers are determined
-answers-played : (ws : List Wrote) (n : ℕ) (p : Progress) (a : Log) → p.cut ≡ None → is_some a.plan ≡ true → AreAnswers ws p
-    → PlaysOffers (offers_from p.at ws p.engine) a → waiting p.engine ≤ n → ws ≡ played_answers n p.at p.engine a
-answers-played [] zero p a cut planned h plays le = refl
-answers-played [] (suc n) p a cut planned h plays le =
+abbrev pub later : ℕ → Wrote → Progress → Log → Notes
+later n w p a = if is_all w (length (offered p.engine)) then played_writes n (offer_part w p) (log_write (offered p.engine) w a) else no_notes
+
+-- one answer that is due is the one of the script
+due-answer : (n : ℕ) (w : Wrote) (p : Progress) (a : Log) → can_write p.engine ≡ true → w ≡ played_answer p.engine a
+    → noted w (later n w p a) ≡ played_writes (suc n) p a
+due-answer n w p a can is =
+    let x = played_answer p.engine a in
+    ap (λ (x : Wrote). noted x (later n x p a)) is ∙ sym (ap (λ (b : Bool). if b then noted x (later n x p a) else no_notes) can)
+
+-- what is noted of the writes is determined
+writes-played : (ks : List ℕ) (failed : Bool) (n : ℕ) (p : Progress) (a : Log) → p.cut ≡ None → is_some a.plan ≡ true
+    → AreAnswers (answers_of (whole_notes ks failed)) p → PlaysOffers (offers_from (answers_of (whole_notes ks failed)) p) a → waiting p.engine ≤ n
+    → whole_notes ks failed ≡ played_writes n p a
+writes-played [] false zero p a cut planned h plays le = refl
+writes-played [] false (suc n) p a cut planned h plays le =
     let can : can_write p.engine ≡ false = and-other (goes p) (can_write p.engine) (goes-on p cut) h in
-    let none : List Wrote = [] in
     let w = played_answer p.engine a in
-    sym (ap (λ (b : Bool). if b then w ∷ later n w p.at p.engine a else none) can)
-answers-played (w ∷ ws) zero p a cut planned h plays le =
+    sym (ap (λ (b : Bool). if b then noted w (later n w p a) else no_notes) can)
+writes-played [] true zero p a cut planned h plays le = absurd (omega (arith, due-waiting p.engine (and-right (goes p) (can_write p.engine) h.0)))
+writes-played [] true (suc n) p a cut planned h plays le =
+    due-answer n Failed p a (and-right (goes p) (can_write p.engine) h.0) (answer-plan Failed a.plan (length (offered p.engine)) planned plays.0 (λ is. cc))
+writes-played (k ∷ ks) failed zero p a cut planned h plays le =
     absurd (omega (arith, due-waiting p.engine (and-right (goes p) (can_write p.engine) h.0)))
-answers-played (w ∷ ws) (suc n) p a cut planned h plays le =
-    let none : List Wrote = [] in
+writes-played (k ∷ ks) failed (suc n) p a cut planned h plays le =
     let e = p.engine in
-    let all = is_all w (length (offered e)) in
+    let w : Wrote = Took k in
     let can : can_write e ≡ true = and-right (goes p) (can_write e) h.0 in
-    let is : w ≡ played_answer e a = answer-plan w a.plan (length (offered e)) planned plays.0 (not-refused w p cut h.2) in
     let some : 0 < length (offered e) = some-unsent (is_open e.talk) (length (offered e)) can in
-    let tail : ws ≡ later n w p.at e a =
-    tail-played {A = AreAnswers ws (offer_part w p)} all ws (played_answers n p.at (answered p.at w e) (log_write (offered e) w a)) h.3
-    (λ whole rest. answers-played ws n (offer_part w p) (log_write (offered e) w a) cut (planned-write (offered e) w a ∙ planned) rest plays.1
+    let told : port_answer w p ≡ w = uncut-answer w p cut in
+    let P : Wrote → Type 0 = λ x. PlansWrite (length (offered e)) x a in
+    let Q : Wrote → Type 0 = λ x. PlaysOffers (offers_from (answers_of (whole_notes ks failed)) (offer_part w p)) (log_write (offered e) x a) in
+    let tail : whole_notes ks failed ≡ later n w p a =
+    tail-played {A = AreAnswers (answers_of (whole_notes ks failed)) (offer_part w p)} (is_all w (length (offered e))) ks failed
+    (played_writes n (offer_part w p) (log_write (offered e) w a)) h.2
+    (λ whole rest. writes-played ks failed n (offer_part w p) (log_write (offered e) w a) cut (planned-write (offered e) w a ∙ planned) rest (subst Q told plays.1)
     (omega (arith, waiting-wrote p.at w e some whole, le))) in
-    let x = played_answer e a in
-    ap (λ (x : List Wrote). w ∷ x) tail
-    ∙ ap (λ (x : Wrote). x ∷ later n x p.at e a) is
-    ∙ sym (ap (λ (b : Bool). if b then x ∷ later n x p.at e a else none) can)
+    ap (noted w) tail ∙ due-answer n w p a can (answer-plan w a.plan (length (offered e)) planned (subst P told plays.0) (λ is. cc))
 
 -- the step is determined
 step-played : (p : Option Plan) (h : Coming) → is_some p ≡ true → IfSome p (λ q. next_coming q ≡ h) → played_step p ≡ h
@@ -114,17 +132,12 @@ turn-played u e a may plays whole planned =
     let p = read u (asks e) in
     let v = turn_of u.at u.step u.bytes no_notes in
     let same : p ≡ read v (asks e) =
-    ap (λ (x : Option ℕ). read (turn_of u.at u.step u.bytes (record { answers = []; starved = x })) (asks e)) whole in
-    let at : p.at ≡ u.at = read-at u (asks e) in
+    ap (λ (x : Option ℕ). read (turn_of u.at u.step u.bytes (record { tooks = []; failed = false; starved = x })) (asks e)) whole in
     let cut : p.cut ≡ None = read-cut u (asks e) ∙ whole in
-    let P : ℕ → Type 0 = λ x. PlaysOffers (offers_from x u.notes.answers p.engine) b in
-    let answers : u.notes.answers ≡ played_answers (waiting p.engine) p.at p.engine b =
-    answers-played u.notes.answers (waiting p.engine) p b cut (planned-stepped u e a ∙ planned) may.applied.answers
-    (subst P (sym at) plays.1) (omega arith) in
-    ap (λ (x : List Wrote). turn_of u.at u.step u.bytes (record { answers = x; starved = u.notes.starved }))
-    (answers ∙ ap (λ (x : ℕ). played_answers (waiting p.engine) x p.engine b) at
-    ∙ ap (λ (x : Progress). played_answers (waiting x.engine) u.at x.engine b) same)
-    ∙ ap (λ (x : Option ℕ). turn_of u.at u.step u.bytes (record { answers = (played_notes v e a).answers; starved = x })) whole
+    let notes : whole_notes u.notes.tooks u.notes.failed ≡ played_writes (waiting p.engine) p b =
+    writes-played u.notes.tooks u.notes.failed (waiting p.engine) p b cut (planned-stepped u e a ∙ planned) may.applied.answers plays.1 (omega arith) in
+    ap (λ (x : Option ℕ). turn_of u.at u.step u.bytes (record { tooks = u.notes.tooks; failed = u.notes.failed; starved = x })) whole
+    ∙ ap (λ (x : Notes). turn_of u.at u.step u.bytes x) (notes ∙ ap (λ (x : Progress). played_writes (waiting x.engine) x b) same)
     ∙ sym (ap (λ (h : Coming). played_turn_of h e a) (step-played (log_asks e a).plan _ (planned-asks e a ∙ planned) plays.0))
 
 -- a turn that was cut is the last
@@ -183,10 +196,6 @@ runs-played n e e' (Some a) log' r = Runs-played n e e' a log' r
 
 -- ---- what is played are turns
 
-within-by : (b : Bool) (k n : ℕ) → k ≤ n → IsWithin n (if b then Failed else Took k)
-within-by true k n le = tt
-within-by false k n le = le
-
 room-within : (o : Option Plan) (n : ℕ) → room_of o n ≤ n
 room-within None n = omega arith
 room-within (Some p) n = within p.room where
@@ -195,56 +204,72 @@ room-within (Some p) n = within p.room where
   within (Some left) = omega arith
 
 -- what is answered is what the script has room for
-plans-answer : (o : Option Plan) (n : ℕ) → IfSome o (λ p. PlanAnswers p n (if fails_of o then Failed else Took (room_of o n)))
-plans-answer None n = tt
-plans-answer (Some p) n = by p.fails refl where
-  by : (b : Bool) → p.fails ≡ b → PlanAnswers p n (if b then Failed else Took (room_for p.room n))
-  by true h = h
-  by false h = (h, refl)
+plans-failure : (o : Option Plan) (n : ℕ) → fails_of o ≡ true → IfSome o (λ p. PlanAnswers p n Failed)
+plans-failure None n h = tt
+plans-failure (Some p) n h = h
 
-never-cuts : (b : Bool) (k : ℕ) (p : Progress) → CutsAfter (if b then Failed else Took k) p
-never-cuts true k p = tt
-never-cuts false k p = tt
+plans-room : (o : Option Plan) (n : ℕ) → fails_of o ≡ false → IfSome o (λ p. PlanAnswers p n (Took (room_of o n)))
+plans-room None n h = tt
+plans-room (Some p) n h = (h, refl)
 
 -- these are the answers that are due, and the script gives them
 record Due (ws : List Wrote) (p : Progress) (a : Log) : Type 0 where
   may : AreAnswers ws p
-  plays : PlaysOffers (offers_from p.at ws p.engine) a
+  plays : PlaysOffers (offers_from ws p) a
 
 due-none : (p : Progress) (a : Log) → can_write p.engine ≡ false → Due [] p a
 due-none p a h = record { may = and-false (goes p) (can_write p.engine) h; plays = tt }
 
-due-tail : (b : Bool) (ws : List Wrote) (p : Progress) (a : Log) → (b ≡ true → Due ws p a)
-    → MatchBool b (AreAnswers (if b then ws else []) p) ((if b then ws else []) ≡ []) × PlaysOffers (offers_from p.at (if b then ws else []) p.engine) a
-due-tail true ws p a f = ((f refl).may, (f refl).plays)
-due-tail false ws p a f = (refl, tt)
+due-tail : (b : Bool) (m : Notes) (p : Progress) (a : Log) → (b ≡ true → Due (answers_of m) p a)
+    → MatchBool b (AreAnswers (answers_of (if b then m else no_notes)) p) (answers_of (if b then m else no_notes) ≡ [])
+    × PlaysOffers (offers_from (answers_of (if b then m else no_notes)) p) a
+due-tail true m p a f = ((f refl).may, (f refl).plays)
+due-tail false m p a f = (refl, tt)
 
-due-played : (n : ℕ) (p : Progress) (a : Log) → p.cut ≡ None → waiting p.engine ≤ n → Due (played_answers n p.at p.engine a) p a
+due-failed : (n : ℕ) (p : Progress) (a : Log) → p.cut ≡ None → can_write p.engine ≡ true → fails_of a.plan ≡ true → Due (answers_of (noted Failed (later n Failed p a))) p a
+due-failed n p a cut can fails =
+    record { may = (and-true (goes p) (can_write p.engine) (goes-on p cut) can, tt, refl); plays = (plans-failure a.plan (length (offered p.engine)) fails, tt) }
+
+due-played : (n : ℕ) (p : Progress) (a : Log) → p.cut ≡ None → waiting p.engine ≤ n → Due (answers_of (played_writes n p a)) p a
 due-played zero p a cut le = by (can_write p.engine) refl where
   by : (b : Bool) → can_write p.engine ≡ b → Due [] p a
   by true h = absurd (omega (arith, due-waiting p.engine h))
   by false h = due-none p a h
 due-played (suc n) p a cut le =
     let e = p.engine in
-    let w = played_answer e a in
-    let all = is_all w (length (offered e)) in
+    let k = room_of a.plan (length (offered e)) in
+    let w : Wrote = Took k in
     let a' = log_write (offered e) w a in
-    let ws = played_answers n p.at (answered p.at w e) a' in
-    let none : List Wrote = [] in
-    if_by (λ (xs : List Wrote). Due xs p a) (can_write e) (w ∷ (if all then ws else none)) none
-    (λ can.
+    let told : port_answer w p ≡ w = uncut-answer w p cut in
+    let P : Wrote → Type 0 = λ x. PlansWrite (length (offered e)) x a in
+    let Q : Wrote → Type 0 = λ x. PlaysOffers (offers_from (answers_of (later n w p a)) (offer_part w p)) (log_write (offered e) x a) in
+    let D : Wrote → Type 0 = λ x. Due (answers_of (noted x (later n x p a))) p a in
+    if_by (λ (m : Notes). Due (answers_of m) p a) (can_write e) (noted (played_answer e a) (later n (played_answer e a) p a)) no_notes
+    (λ can. if_by D (fails_of a.plan) Failed w (due-failed n p a cut can)
+    (λ works.
     let some : 0 < length (offered e) = some-unsent (is_open e.talk) (length (offered e)) can in
-    let tail = due-tail all ws (offer_part w p) a' (λ whole. due-played n (offer_part w p) a' cut (omega (arith, waiting-wrote p.at w e some whole, le))) in
+    let tail = due-tail (is_all w (length (offered e))) (played_writes n (offer_part w p) a') (offer_part w p) a'
+    (λ whole. due-played n (offer_part w p) a' cut (omega (arith, waiting-wrote p.at w e some whole, le))) in
     record {
-      may = (
-        and-true (goes p) (can_write e) (goes-on p cut) can,
-        within-by (fails_of a.plan) (room_of a.plan (length (offered e))) (length (offered e)) (room-within a.plan (length (offered e))),
-        never-cuts (fails_of a.plan) (room_of a.plan (length (offered e))) p,
-        tail.0,
-      );
-      plays = (plans-answer a.plan (length (offered e)), tail.1);
-    })
+      may = (and-true (goes p) (can_write e) (goes-on p cut) can, room-within a.plan (length (offered e)), tail.0);
+      plays = (subst P (sym told) (plans-room a.plan (length (offered e)) works), subst Q (sym told) tail.1);
+    }))
     (λ cannot. due-none p a cannot)
+
+-- and no turn is cut
+whole-played : (n : ℕ) (p : Progress) (a : Log) → (played_writes n p a).starved ≡ None
+whole-played zero p a = refl
+whole-played (suc n) p a =
+    let w = played_answer p.engine a in
+    if_case (λ (m : Notes). m.starved ≡ None) (can_write p.engine) (noted w (later n w p a)) no_notes
+    (noted-whole w (later n w p a) (if_case (λ (m : Notes). m.starved ≡ None) (is_all w (length (offered p.engine)))
+    (played_writes n (offer_part w p) (log_write (offered p.engine) w a)) no_notes
+    (whole-played n (offer_part w p) (log_write (offered p.engine) w a)) refl)) refl
+  where
+    noted-whole : (w : Wrote) (m : Notes) → m.starved ≡ None → (noted w m).starved ≡ None
+    noted-whole (Took k) m h = h
+    noted-whole Failed m h = h
+    noted-whole NoMemory m h = h
 
 plans-step : (o : Option Plan) → is_some o ≡ true
     → IfSome o (λ p. next_coming p ≡ record { at = (played_step o).at; step = (played_step o).step; bytes = (played_step o).bytes })
@@ -254,16 +279,19 @@ plans-step (Some p) h = refl
 played-is-turn : (e : Engine) (a : Log) → has_ended e.talk ≡ false → is_some a.plan ≡ true → IsTurn (played_turn e a) e × PlaysTurn (played_turn e a) e a
 played-is-turn e a running planned =
     let u = played_turn e a in
-    let p = read u (asks e) in
+    let v = turn_of u.at u.step u.bytes no_notes in
+    let p = read v (asks e) in
     let b = log_stepped u e a in
     let n = waiting p.engine in
-    let at : p.at ≡ u.at = read-at u (asks e) in
-    let cut : p.cut ≡ None = read-cut u (asks e) in
-    let due = due-played n p b cut (omega arith) in
-    let A : ℕ → Type 0 = λ x. AreAnswers (played_answers n x p.engine b) p in
-    let B : ℕ → Type 0 = λ x. PlaysOffers (offers_from x (played_answers n x p.engine b) p.engine) b in (
-      record { running = running; applied = record { answers = subst A at due.may; cut = tt } },
-      (plans-step (log_asks e a).plan (planned-asks e a ∙ planned), subst B at due.plays),
+    let whole : u.notes.starved ≡ None = whole-played n p b in
+    let same : p ≡ read u (asks e) =
+    sym (ap (λ (x : Option ℕ). read (turn_of u.at u.step u.bytes (record { tooks = []; failed = false; starved = x })) (asks e)) whole) in
+    let due = due-played n p b (read-cut v (asks e)) (omega arith) in
+    let A : Progress → Type 0 = λ x. AreAnswers (answers_of u.notes) x in
+    let B : Progress → Type 0 = λ x. PlaysOffers (offers_from (answers_of u.notes) x) b in
+    let C : Option ℕ → Type 0 = λ x. IsCut x (written u (asks e)).done in (
+      record { running = running; applied = record { answers = subst A same due.may; cut = subst C (sym whole) tt } },
+      (plans-step (log_asks e a).plan (planned-asks e a ∙ planned), subst B same due.plays),
     )
 
 -- the turns of at most so many steps

@@ -11,7 +11,7 @@ use Rattle.amqp_engine.specs.declared.port.Wrote.{Wrote}
 use Rattle.amqp_engine.specs.Log.{on_last, IsWithin}
 use Rattle.amqp_engine.specs.Engine.{Engine, begin, with_talk, rule_at, step_engine, step_linked, read_one, commit_all, can_write, taken_by, starve_at}
 use Rattle.amqp_session.specs.Writing.{frames_waiting}
-use Rattle.amqp_engine.specs.Turn.{Turn, asks, wants_ask, offered, answered, read, turn, AreTurns}
+use Rattle.amqp_engine.specs.Turn.{Turn, answers_of, Progress, asks, wants_ask, offer_part, offered, answered, read, turn, AreTurns}
 use Rattle.amqp_engine.specs.Sending.{Sending, nothing_sent, offer_sending, offers_sending, step_sending, sendings_from, sendings, SendsInOrder}
 use Rattle.amqp_session.proofs.Cases.{if_case, if_by, if-true}
 use Rattle.amqp_engine.proofs.Cases.{and-left}
@@ -146,8 +146,8 @@ asking e ss = ss
 abbrev pub stepping : ℕ → Step → List ℕ → Engine → List Sending → List Sending
 stepping at step bytes e ss = step_sending step e ss
 
-abbrev pub offering : ℕ → Wrote → Engine → List Sending → List Sending
-offering at w e ss = on_last (offer_sending w e) ss
+abbrev pub offering : Wrote → Progress → List Sending → List Sending
+offering w p ss = on_last (offer_sending w p.engine) ss
 
 pub small : lifting.Simple (List Sending) asking stepping offering Sends
 small =
@@ -155,20 +155,20 @@ small =
       asked = sends-asks;
       step = λ at step bytes e ss running h. sends-step at step bytes e ss h;
       read = λ at e ss can h. sends-left e (read_one at e) ss (leaves-read at e) h;
-      offer = sends-offer;
+      offer = λ w p ss can fits h. sends-offer p.at w p.engine ss can fits h;
       starve = λ at j e ss h. sends-starved at j e ss h.all;
       cut = λ at step bytes e ss running part h. sends-starved at 0 e (step_sending step e ss) (all-step step e ss h.all);
     }
 
-pub offers-same : (at : ℕ) (ws : List Wrote) (e : Engine) (ss : List Sending) → lifting.offers_on (List Sending) asking stepping offering at ws e ss ≡ offers_sending at ws e ss
-offers-same at [] e ss = refl
-offers-same at (w ∷ ws) e ss = offers-same at ws (answered at w e) (on_last (offer_sending w e) ss)
+pub offers-same : (ws : List Wrote) (p : Progress) (ss : List Sending) → lifting.offers_on (List Sending) asking stepping offering ws p ss ≡ offers_sending ws p ss
+offers-same [] p ss = refl
+offers-same (w ∷ ws) p ss = offers-same ws (offer_part w p) (on_last (offer_sending w p.engine) ss)
 
 turns-same : (us : List Turn) (e : Engine) (ss : List Sending) → lifting.turns_on (List Sending) asking stepping offering us e ss ≡ sendings_from us e ss
 turns-same [] e ss = refl
 turns-same (u ∷ us) e ss =
     turns-same us (turn u e) (lifting.turn_on (List Sending) asking stepping offering u e ss)
-    ∙ ap (sendings_from us (turn u e)) (offers-same u.at u.notes.answers (read u (asks e)).engine (step_sending u.step (asks e) ss))
+    ∙ ap (sendings_from us (turn u e)) (offers-same (answers_of u.notes) (read u (asks e)) (step_sending u.step (asks e) ss))
 
 pub order : (us : List Turn) → AreTurns us (begin start) → AllByRecursion SendsInOrder (sendings us)
 order us may =

@@ -1,5 +1,5 @@
 -- The steps of a script whose commands are told are told, and what it says is legal.
-use Rattle.std.proofs.Common.{◌≡◌, ℕ, zero, suc, if◌then◌else◌, Bool, List, [], ◌∷◌, length, Option, Some, None, IfSome, refl, sym, subst}
+use Rattle.std.proofs.Common.{◌≡◌, ℕ, zero, suc, Bool, List, [], ◌∷◌, length, Option, Some, None, IfSome, refl, sym, subst}
 use Rattle.std.specs.Prelude.{option_map}
 use Rattle.std.specs.List.{AllByRecursion}
 use Rattle.amqp_session.specs.Talk.{has_ended, start}
@@ -9,7 +9,7 @@ use Rattle.amqp_engine.specs.declared.given.Given.{Given}
 use Rattle.amqp_engine.specs.declared.port.Wrote.{Wrote}
 use Rattle.amqp_engine.specs.declared.port.Wrote.TheVariants.{Took, Failed, NoMemory}
 use Rattle.amqp_engine.specs.Plan.{Plan, plan_from, plan_step, plan_write, plan_failure, coming_from}
-use Rattle.amqp_engine.specs.Log.{Log, loaded, log_ask, log_step, log_write}
+use Rattle.amqp_engine.specs.Log.{Log, loaded, log_ask, log_write}
 use Rattle.amqp_engine.specs.Engine.{Engine, begin}
 use Rattle.amqp_engine.specs.Turn.{Turn, IsTold, AreTold, asks, wants_ask, turn, turns}
 use Rattle.amqp_engine.specs.Tell.{Offer, offers_of, log_asks, log_stepped, log_offers, log_turn}

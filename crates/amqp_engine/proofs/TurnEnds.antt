@@ -1,5 +1,5 @@
 -- How a turn, and a run of turns, may end a session.
-use Rattle.std.proofs.Common.{◌≡◌, ◌⊎◌, inl, inr, ℕ, ◌-◌, ◌==◌, ◌&&◌, ◌||◌, not, nat_le, Bool, true, false, if◌then◌else◌, IsTrue, List, [], ◌∷◌, ◌++◌, length, drop, Option, Some, None, Err, is_some, refl, ap, sym, ◌∙◌, subst}
+use Rattle.std.proofs.Common.{◌≡◌, ◌⊎◌, inl, inr, ℕ, ◌-◌, ◌==◌, ◌&&◌, ◌||◌, not, nat_le, Bool, true, false, if◌then◌else◌, IsTrue, List, [], ◌∷◌, ◌++◌, length, drop, map, Option, Some, None, Err, is_some, refl, ap, sym, ◌∙◌, subst}
 use Rattle.amqp_types.specs.declared.error.AMQPError.{AMQPError}
 use Rattle.amqp_session.specs.declared.committed.Mark.{Mark}
 use Rattle.amqp_session.specs.declared.committed.Then.{Then}
@@ -25,9 +25,9 @@ use Rattle.amqp_engine.specs.declared.port.Wrote.TheVariants.{Took, Failed, NoMe
 use Rattle.amqp_engine.specs.Log.{Log}
 use Rattle.amqp_engine.specs.Engine.{Engine, settle, rule_at, step_engine, took, wrote, commit_all}
 use Rattle.amqp_session.specs.Writing.{frames_waiting}
-use Rattle.amqp_engine.specs.Turn.{Turn, Progress, asks, goes, reads, part, is_piece, step_part, is_part, begun, drain, offer_part, answered, read, written, applied, turn, turns, starved_after, AreTurns, Leads}
+use Rattle.amqp_engine.specs.Turn.{Turn, answers_of, Progress, asks, goes, reads, part, is_piece, step_part, is_part, begun, drain, offer_part, answered, read, written, applied, turn, turns, starved_after, AreTurns, Leads}
 use Rattle.amqp_engine.specs.Tell.{TellsTurns, Applies, Runs, turn_of}
-use Rattle.amqp_engine.specs.Causes.{IsReadError, Misreads, LosesClosed, IsCause, Brings, brought, has_failed, is_failed, is_last, sends_close_ok, is_finish}
+use Rattle.amqp_engine.specs.Causes.{IsReadError, Misreads, LosesClosed, IsCause, Brings, brought, is_last, sends_close_ok, is_finish}
 use Rattle.amqp_session.proofs.Cases.{if_case, if_by, if-true, if-false, and-true, and-false}
 use Rattle.amqp_engine.proofs.Cases.{none-from, and-left}
 use Rattle.amqp_session.proofs.Keeping.{present-keeps, stays-command}
@@ -212,6 +212,16 @@ ends-sent (m ∷ ms) n t =
     (λ h. ends-kept P t part refl))
     (ends-kept P t t refl)
 
+-- a write failed
+abbrev pub is_failed : Wrote → Bool
+is_failed Failed = true
+is_failed _ = false
+
+-- one of these writes failed
+abbrev has_failed : List Wrote → Bool
+has_failed [] = false
+has_failed (w ∷ ws) = is_failed w || has_failed ws
+
 -- the error of a write that is answered so
 abbrev WroteError : Wrote → Engine → ErrorKind → Type 0
 WroteError w x (IOError fault) = (fault ≡ BrokenPipe) × IsTrue (is_failed w)
@@ -350,8 +360,14 @@ early-cause u x (ProtocolError e) h = elim h [ inl l ↦ inr (inl l) | inr r ↦
 early-cause u x NoMemory h = elim h [ inl e ↦ absurd e | inr r ↦ absurd (not-memory _ _ r.error_read) ]
 early-cause u x _ h = elim h [ inl e ↦ absurd e | inr r ↦ r ]
 
-writes-cause : (u : Turn) (x : Engine) (k : ErrorKind) → WritesError u.notes.answers (read u x) k → IsCause k u x
-writes-cause u x (IOError fault) h = inr h
+-- that one failed is noted
+failed-noted : (ks : List ℕ) (b : Bool) → has_failed (map Took ks ++ (if b then Failed ∷ [] else [])) ≡ true → b ≡ true
+failed-noted [] true h = refl
+failed-noted [] false h = h
+failed-noted (k ∷ ks) b h = failed-noted ks b h
+
+writes-cause : (u : Turn) (x : Engine) (k : ErrorKind) → WritesError (answers_of u.notes) (read u x) k → IsCause k u x
+writes-cause u x (IOError fault) h = inr (h.0, failed-noted u.notes.tooks u.notes.failed h.1)
 writes-cause u x (ProtocolError e) h =
     inr (inr (record { before = h.before; answer = h.answer; after = h.after; answers = h.answers; last = h.last; closed = h.closed }))
 writes-cause u x _ h = absurd h
@@ -370,7 +386,7 @@ ends-applied u x =
     ends-then P x.talk w.engine.talk (applied u x).talk
     (ends-then P x.talk r.engine.talk w.engine.talk
     (ends-as (EarlyError u x) P x.talk r.engine.talk (early-cause u x) (ends-read u x))
-    (ends-as (WritesError u.notes.answers r) P r.engine.talk w.engine.talk (writes-cause u x) (ends-drain u.notes.answers r)))
+    (ends-as (WritesError (answers_of u.notes) r) P r.engine.talk w.engine.talk (writes-cause u x) (ends-drain (answers_of u.notes) r)))
     (if_case (λ (y : Engine). Ends P w.engine.talk y.talk) (has_ended x.talk) w.engine (starved_after u.notes.starved u.at w.engine)
     (ends-kept P w.engine.talk w.engine.talk refl) (starved-cause P u.notes.starved u.at w.engine (λ h. h)))
 

@@ -20,7 +20,7 @@ use Rattle.amqp_engine.specs.declared.port.Wrote.{Wrote}
 use Rattle.amqp_engine.specs.declared.port.Wrote.TheVariants.{Took, Failed, NoMemory as WroteNoMemory}
 use Rattle.amqp_engine.specs.Log.{Log}
 use Rattle.amqp_engine.specs.Engine.{Engine, front_of, can_read, commit_all}
-use Rattle.amqp_engine.specs.Turn.{Turn, Progress, asks, begun, drain, goes, is_piece, read, reads, step_part, turns, Leads}
+use Rattle.amqp_engine.specs.Turn.{Turn, answers_of, Progress, asks, begun, drain, goes, is_piece, read, reads, step_part, turns, Leads}
 use Rattle.amqp_engine.specs.Tell.{TellsTurns, Applies, turn_of}
 
 -- ---- faults
@@ -51,20 +51,9 @@ brought End t = if is_open t then Some Aborted else None
 brought Fault t = if is_open t then Some Reset else None
 brought _ t = None
 
--- a write failed
-abbrev pub is_failed : Wrote → Bool
-is_failed Failed = true
-is_failed _ = false
-
--- one of these writes failed
-abbrev pub has_failed : List Wrote → Bool
-has_failed [] = false
-has_failed (w ∷ ws) = is_failed w || has_failed ws
-
 -- a turn brings about a fault: its step brings it, or one of its writes failed
 abbrev pub IsFaultOf : IoFault → Turn → Engine → Type 0
-IsFaultOf fault u e =
-    (brought u.step e.talk ≡ Some fault) ⊎ ((fault ≡ BrokenPipe) × IsTrue (has_failed u.notes.answers))
+IsFaultOf fault u e = (brought u.step e.talk ≡ Some fault) ⊎ ((fault ≡ BrokenPipe) × IsTrue u.notes.failed)
 
 -- ---- what is read
 
@@ -130,7 +119,7 @@ pub record WritesLast (error : AMQPError) (u : Turn) (e : Engine) : Type 0 where
   pub before : List Wrote
   pub answer : Wrote
   pub after : List Wrote
-  pub answers : u.notes.answers ≡ before ++ answer ∷ after
+  pub answers : answers_of u.notes ≡ before ++ answer ∷ after
   pub last : IsTrue (is_last answer (commit_all (drain before (read u e)).engine))
   pub closed : (drain before (read u e)).engine.talk.server_close ≡ Some (WithError error)
 

@@ -5,15 +5,13 @@ use Rattle.amqp_frame.specs.declared.frame.Read.TheVariants.{Whole}
 use Rattle.amqp_engine.specs.declared.port.Step.{Step}
 use Rattle.amqp_engine.specs.declared.port.Step.TheVariants.{Command}
 use Rattle.amqp_engine.specs.declared.port.Happening.{Happening}
-use Rattle.amqp_engine.specs.declared.port.Wrote.{Wrote}
 use Rattle.amqp_engine.specs.declared.given.Given.{Given}
 use Rattle.amqp_engine.specs.Plan.{step_of, bytes_of}
 use Rattle.amqp_engine.specs.Counts.{Rose}
 use Rattle.amqp_engine.specs.Engine.{Engine}
-use Rattle.amqp_engine.specs.Turn.{Progress, AreAnswers, drain}
+use Rattle.amqp_engine.specs.Turn.{Notes, answers_of, Progress, AreAnswers, drain}
 use Rattle.amqp_engine.specs.Log.{Log}
-use Rattle.amqp_engine.specs.Tell.{Applies}
-use Rattle.amqp_engine.specs.Causes.{has_failed}
+use Rattle.amqp_engine.specs.Tell.{Applies, TellsOffers, offers_from}
 
 -- a turn in the making
 abbrev pub making : ℕ → Option ℕ → Engine → ℕ → Progress
@@ -42,16 +40,21 @@ abbrev pub Allows : Option ℕ → ℕ → Type 0
 Allows None n = Unit {0}
 Allows (Some j) n = n ≤ j
 
--- the writes that are due, with these answers, lead from here to there
-pub record Writes (ws : List Wrote) (before after : Progress) : Type 0 where
-  pub answers : AreAnswers ws before
-  pub leaves : drain ws before ≡ after
+-- the writes that are due, with what is noted of them, lead from here to there and are told; and where one of them
+-- failed, the port's count of faults rose
+pub record Writes (before after : Progress) (log log' : Option Log) (count count' : ℕ) : Type 0 where
+  pub notes : Notes
+  pub cut : notes.starved ≡ before.cut
+  pub answers : AreAnswers (answers_of notes) before
+  pub leaves : drain (answers_of notes) before ≡ after
+  pub tells : TellsOffers (offers_from (answers_of notes) before) log log'
+  pub counted : notes.failed ≡ true → Rose count count'
 
 -- a turn is applied, and where one of its writes failed, the port's count of faults rose
 pub record AppliesCounted (at : ℕ) (step : Step) (bytes : List ℕ) (e e' : Engine) (log log' : Option Log)
     (count count' : ℕ) : Type 0 where
   pub applies : Applies at step bytes e e' log log'
-  pub counted : has_failed applies.notes.answers ≡ true → Rose count count'
+  pub counted : applies.notes.failed ≡ true → Rose count count'
 
 -- a given step as a port in memory keeps it, until it is told how many came before
 abbrev pub happening_of : Given → Happening

@@ -1,15 +1,15 @@
 -- A script that is played: what its port answers is determined, and so are the turns.
-use Rattle.std.specs.Prelude.{◌≡◌, ℕ, zero, suc, ◌+◌, min, Bool, false, if◌then◌else◌, List, [], ◌∷◌, length, Option, Some, None}
+use Rattle.std.specs.Prelude.{◌≡◌, ℕ, zero, suc, ◌+◌, min, Bool, false, true, if◌then◌else◌, List, [], ◌∷◌, length, Option, Some, None}
 use Rattle.amqp_session.specs.Talk.{has_ended, start}
 use Rattle.amqp_session.specs.Writing.{frames_waiting}
 use Rattle.amqp_engine.specs.declared.port.Step.TheVariants.{Tick}
 use Rattle.amqp_engine.specs.declared.port.Wrote.{Wrote}
-use Rattle.amqp_engine.specs.declared.port.Wrote.TheVariants.{Took, Failed}
+use Rattle.amqp_engine.specs.declared.port.Wrote.TheVariants.{Took, Failed, NoMemory}
 use Rattle.amqp_engine.specs.declared.given.Given.{Given}
 use Rattle.amqp_engine.specs.Plan.{Plan, Coming, next_coming, room_for}
 use Rattle.amqp_engine.specs.Log.{Log, loaded, log_write}
 use Rattle.amqp_engine.specs.Engine.{Engine, begin, can_write}
-use Rattle.amqp_engine.specs.Turn.{Turn, Notes, asks, offered, answered, is_all, read, turn, turns}
+use Rattle.amqp_engine.specs.Turn.{Turn, Notes, Progress, asks, offered, offer_part, is_all, read, turn, turns}
 use Rattle.amqp_engine.specs.Tell.{turn_of, log_asks, log_stepped, log_turn, log_turns}
 
 -- ---- the answers to the writes of a turn
@@ -32,16 +32,26 @@ played_answer e a = if fails_of a.plan then Failed else Took (room_of a.plan (le
 abbrev pub waiting : Engine → ℕ
 waiting e = frames_waiting e.talk + min 1 (length e.unsent)
 
--- the answers to at most so many offers
-abbrev pub played_answers : ℕ → ℕ → Engine → Log → List Wrote
-played_answers zero at e a = []
-played_answers (suc most) at e a =
-    let w = played_answer e a in
-    if can_write e
-    then w ∷ (if is_all w (length (offered e))
-    then played_answers most at (answered at w e) (log_write (offered e) w a)
-    else [])
-    else []
+-- nothing is noted of a turn
+abbrev pub no_notes : Notes
+no_notes = record { tooks = []; failed = false; starved = None }
+
+-- the answer to a write is noted, before what is noted of those that follow; a port that finds no memory takes nothing
+abbrev pub noted : Wrote → Notes → Notes
+noted (Took k) n = record n { tooks = k ∷ n.tooks }
+noted Failed n = record n { failed = true }
+noted NoMemory n = record n { tooks = 0 ∷ n.tooks }
+
+-- what is noted of at most so many offers
+abbrev pub played_writes : ℕ → Progress → Log → Notes
+played_writes zero p a = no_notes
+played_writes (suc most) p a =
+    let w = played_answer p.engine a in
+    if can_write p.engine
+    then noted w (if is_all w (length (offered p.engine))
+    then played_writes most (offer_part w p) (log_write (offered p.engine) w a)
+    else no_notes)
+    else no_notes
 
 -- ---- a turn
 
@@ -50,10 +60,6 @@ abbrev pub played_step : Option Plan → Coming
 played_step None = record { at = 0; step = Tick; bytes = [] }
 played_step (Some p) = next_coming p
 
--- nothing is noted of a turn
-abbrev pub no_notes : Notes
-no_notes = record { answers = []; starved = None }
-
 -- the step, before its writes are answered
 abbrev pub told_turn : Coming → Turn
 told_turn h = turn_of h.at h.step h.bytes no_notes
@@ -61,8 +67,8 @@ told_turn h = turn_of h.at h.step h.bytes no_notes
 -- what is noted of a turn: the answers to its writes
 abbrev pub played_notes : Turn → Engine → Log → Notes
 played_notes u e a =
-    let before = (read u (asks e)).engine in
-    record { answers = played_answers (waiting before) u.at before (log_stepped u e a); starved = None }
+    let before = read u (asks e) in
+    played_writes (waiting before.engine) before (log_stepped u e a)
 
 -- the turn of a step that comes, with the answers to its writes
 abbrev pub played_turn_of : Coming → Engine → Log → Turn

@@ -10,12 +10,12 @@ use Rattle.amqp_engine.specs.declared.given.Given.{Given}
 use Rattle.amqp_engine.specs.Plan.{step_of}
 use Rattle.amqp_engine.specs.Log.{Log}
 use Rattle.amqp_engine.specs.Engine.{Engine, begin, with_talk}
-use Rattle.amqp_engine.specs.Turn.{Turn, IsToldCommand, IsTold, asks, read, applied, IsApplied, Leads}
+use Rattle.amqp_engine.specs.Turn.{Turn, answers_of, IsToldCommand, IsTold, asks, read, applied, IsApplied, Leads}
 use Rattle.amqp_engine.specs.Sending.{Sending, frames_sent, link_bytes, step_sending, offers_sending, sendings_from, SendsInOrder}
 
 -- what was sent, once a turn was taken from its step on
 abbrev pub applied_sending : Turn → Engine → List Sending → List Sending
-applied_sending u e ss = offers_sending u.at u.notes.answers (read u e).engine (step_sending u.step e ss)
+applied_sending u e ss = offers_sending (answers_of u.notes) (read u e) (step_sending u.step e ss)
 
 -- an engine that was new has sent this on its links, one after another: through its turns, and through what it was told
 -- and what was taken of it between them

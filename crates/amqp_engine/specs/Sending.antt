@@ -12,7 +12,7 @@ use Rattle.amqp_engine.specs.declared.port.Step.TheVariants.{Linked}
 use Rattle.amqp_engine.specs.declared.port.Wrote.{Wrote}
 use Rattle.amqp_engine.specs.Log.{on_last}
 use Rattle.amqp_engine.specs.Engine.{Engine, begin, fitting_next, commit_one, commit_all, taken_by}
-use Rattle.amqp_engine.specs.Turn.{Turn, asks, answered, read, turn}
+use Rattle.amqp_engine.specs.Turn.{Turn, answers_of, Progress, asks, offer_part, read, turn}
 
 -- what was committed on a link, and how far it was sent
 pub record Sending : Type 0 where
@@ -73,9 +73,9 @@ offer_sending w e s =
     }
 
 -- offers are made and answered
-abbrev pub offers_sending : ℕ → List Wrote → Engine → List Sending → List Sending
-offers_sending at [] e ss = ss
-offers_sending at (w ∷ ws) e ss = offers_sending at ws (answered at w e) (on_last (offer_sending w e) ss)
+abbrev pub offers_sending : List Wrote → Progress → List Sending → List Sending
+offers_sending [] p ss = ss
+offers_sending (w ∷ ws) p ss = offers_sending ws (offer_part w p) (on_last (offer_sending w p.engine) ss)
 
 -- on a link that was asked for nothing was sent yet
 abbrev pub step_sending : Step → Engine → List Sending → List Sending
@@ -84,7 +84,7 @@ step_sending _ e ss = ss
 
 -- what was sent, link by link, after one turn more
 abbrev pub turn_sending : Turn → Engine → List Sending → List Sending
-turn_sending u e ss = offers_sending u.at u.notes.answers (read u (asks e)).engine (step_sending u.step (asks e) ss)
+turn_sending u e ss = offers_sending (answers_of u.notes) (read u (asks e)) (step_sending u.step (asks e) ss)
 
 -- what was sent, link by link, after these turns more
 abbrev pub sendings_from : List Turn → Engine → List Sending → List Sending

@@ -1,27 +1,33 @@
 -- What a port tells of turns: a second fold over them, and what a port that plays a script does.
-use Rattle.std.specs.Prelude.{◌≡◌, ℕ, ◌≤◌, if◌then◌else◌, false, List, [], ◌∷◌, length, Option, IfSome, option_map}
+use Rattle.std.specs.Prelude.{◌≡◌, ℕ, ◌≤◌, not, ◌&&◌, ◌==◌, if◌then◌else◌, false, List, [], ◌∷◌, length, Option, IfSome, option_map}
 use Rattle.amqp_session.specs.Talk.{has_ended}
 use Rattle.amqp_engine.specs.declared.port.Step.{Step}
 use Rattle.amqp_engine.specs.declared.port.Wrote.{Wrote}
+use Rattle.amqp_engine.specs.declared.port.Wrote.TheVariants.{Took, NoMemory}
 use Rattle.amqp_engine.specs.Log.{Log, log_ask, log_step, log_write, PlansStep, PlansWrite}
 use Rattle.amqp_engine.specs.Engine.{Engine}
-use Rattle.amqp_engine.specs.Turn.{Turn, Notes, IsTold, AreTold, asks, wants_ask, offered, answered, read, turn, applied, IsApplied, IsTurn, Leads}
+use Rattle.amqp_engine.specs.Turn.{Turn, Notes, answers_of, IsTold, AreTold, asks, wants_ask, Progress, goes, offered, offer_part, read, turn, applied, IsApplied, IsTurn, Leads}
 
 -- ---- what is told
 
--- the bytes of an offer, and its answer
+-- the bytes of an offer, and the port's answer
 pub record Offer : Type 0 where
   pub bytes : List ℕ
   pub answer : Wrote
 
+-- what the port answered: a write that took nothing, with the turn cut right after it, found no memory in the port
+abbrev pub port_answer : Wrote → Progress → Wrote
+port_answer (Took k) p = if k == 0 && not (goes (offer_part (Took k) p)) then NoMemory else Took k
+port_answer w p = w
+
 -- the offers that these answers answer
-abbrev pub offers_from : ℕ → List Wrote → Engine → List Offer
-offers_from at [] e = []
-offers_from at (w ∷ ws) e = record { bytes = offered e; answer = w } ∷ offers_from at ws (answered at w e)
+abbrev pub offers_from : List Wrote → Progress → List Offer
+offers_from [] p = []
+offers_from (w ∷ ws) p = record { bytes = offered p.engine; answer = port_answer w p } ∷ offers_from ws (offer_part w p)
 
 -- the offers of a turn, from its step on
 abbrev pub offers_of : Turn → Engine → List Offer
-offers_of u e = offers_from u.at u.notes.answers (read u e).engine
+offers_of u e = offers_from (answers_of u.notes) (read u e)
 
 -- offers are told
 abbrev pub log_offers : List Offer → Log → Log

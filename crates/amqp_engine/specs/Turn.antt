@@ -1,6 +1,6 @@
 -- A turn: one step that was taken, with all that follows it. The engine is a fold of its turns, whatever its port
 -- tells.
-use Rattle.std.specs.Prelude.{◌≡◌, ◌≢◌, ◌<◌, ℕ, zero, suc, ◌+◌, ◌^◌, not, ◌&&◌, ◌==◌, if◌then◌else◌, nat_lt, Bool, true, false, IsTrue, IsFalse, MatchBool, List, [], ◌∷◌, length, Option, Some, None}
+use Rattle.std.specs.Prelude.{◌≡◌, ◌≢◌, ◌<◌, ℕ, zero, suc, ◌+◌, ◌^◌, not, ◌&&◌, ◌==◌, if◌then◌else◌, nat_lt, Bool, true, false, IsTrue, IsFalse, MatchBool, List, [], ◌∷◌, ◌++◌, length, map, Option, Some, None}
 use Rattle.amqp_session.specs.Talk.{Talk, start, wants_link, is_asked, is_open, has_ended}
 use Rattle.amqp_session.specs.Links.{asked}
 use Rattle.amqp_session.specs.declared.command.Cmd.{Cmd}
@@ -12,11 +12,17 @@ use Rattle.amqp_engine.specs.declared.port.Wrote.TheVariants.{Took, Failed, NoMe
 use Rattle.amqp_engine.specs.Log.{IsWithin}
 use Rattle.amqp_engine.specs.Engine.{Engine, begin, with_talk, step_engine, read_one, can_read, commit_all, can_write, wrote, starve_at}
 
--- what is noted of a turn: the port's answers to its writes, and where memory was refused how many of its parts were
--- done
+-- what is noted of a turn: how many bytes each of its writes took, in order, and whether one more write failed; and
+-- where memory was refused, how many of its parts were done. Where the port itself found no memory, the last of these
+-- parts is a write that took nothing
 pub record Notes : Type 0 where
-  pub answers : List Wrote
+  pub tooks : List ℕ
+  pub failed : Bool
   pub starved : Option ℕ
+
+-- the answers to its writes: bytes were taken by each, and then one failed, where that is noted
+abbrev pub answers_of : Notes → List Wrote
+answers_of n = map Took n.tooks ++ (if n.failed then Failed ∷ [] else [])
 
 -- a step that was taken at a moment, with the bytes of its piece
 pub record Turn : Type 0 where
@@ -121,11 +127,6 @@ is_all (Took k) n = k == n
 is_all Failed n = false
 is_all NoMemory n = false
 
--- where the port found no memory, the turn is cut right after the offer
-abbrev pub CutsAfter : Wrote → Progress → Type 0
-CutsAfter NoMemory p = p.cut ≡ Some (p.done + 1)
-CutsAfter _ p = Unit {0}
-
 -- these are the answers to the offers that are due, and to no others: one is due while something is to be written,
 -- and all was taken of what was offered before
 abbrev pub AreAnswers : List Wrote → Progress → Type 0
@@ -133,7 +134,6 @@ AreAnswers [] p = IsFalse (goes p && can_write p.engine)
 AreAnswers (w ∷ ws) p =
     IsTrue (goes p && can_write p.engine)
     × IsWithin (length (offered p.engine)) w
-    × CutsAfter w p
     × MatchBool (is_all w (length (offered p.engine))) (AreAnswers ws (offer_part w p)) (ws ≡ [])
 
 -- ---- a turn
@@ -144,7 +144,7 @@ read u e = reading (is_piece u.step) (step_part u.step u.bytes (begun u.at u.not
 
 -- a turn up to the end of its writes
 abbrev pub written : Turn → Engine → Progress
-written u e = drain u.notes.answers (read u e)
+written u e = drain (answers_of u.notes) (read u e)
 
 -- the session ends, where memory was refused after so many parts
 abbrev pub starved_after : Option ℕ → ℕ → Engine → Engine
@@ -179,7 +179,7 @@ IsCut (Some j) n = n ≡ j
 
 -- the writes are those that are due, and where the turn was cut, so many of its parts were done
 pub record IsApplied (u : Turn) (e : Engine) : Type 0 where
-  pub answers : AreAnswers u.notes.answers (read u e)
+  pub answers : AreAnswers (answers_of u.notes) (read u e)
   pub cut : IsCut u.notes.starved (written u e).done
 
 -- a turn is one of a session that has not ended

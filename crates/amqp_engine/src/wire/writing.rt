@@ -1,14 +1,12 @@
 //! The writing of frames.
 
-ghost use Rattle.std.specs.Prelude.{◌≡◌, ◌≤◌, ◌<◌, ◌+◌, ◌*◌, ℕ, List, Option, Some, true, false, IfNone, IfSome, OnOk, OnErr, IsTrue, IsFalse, option_map, length, is_some};
+ghost use Rattle.std.specs.Prelude.{◌≡◌, ◌≤◌, ◌<◌, ◌+◌, ◌*◌, Some, None, true, false, IfNone, IfSome, OnOk, OnErr, IsTrue, IsFalse, option_map, length, is_some};
 ghost use Rattle.amqp_session.specs.Talk.{is_open};
 ghost use Rattle.amqp_engine.specs.Log.{log_write, IsWithin, PlansWrite};
 ghost use Rattle.amqp_engine.specs.Engine.{taken_by, wrote, fitting_next, commit_one, commit_all, can_write};
 ghost use Rattle.amqp_engine.specs.Turn.{offered, answered, is_all};
-ghost use Rattle.amqp_engine.specs.Tell.{TellsOffers, offers_from};
-ghost use Rattle.amqp_engine.specs.Making.{making, FewParts, Allows, Writes};
+ghost use Rattle.amqp_engine.specs.Making.{making, FewParts, Writes};
 ghost use Rattle.amqp_engine.specs.Counts.{Rose};
-ghost use Rattle.amqp_engine.specs.Causes.{has_failed};
 
 use super::Wire;
 use crate::port::{Port, Wrote};
@@ -33,15 +31,12 @@ impl Wire {
         parts: &mut u64,
     ) -> Result<(), NoMemory>
         requires { FewParts parts.old }
-        ensures ok { OnOk result ((ws : List Wrote)
-            × ((cut : Option ℕ) → Allows cut parts.new
-            → Writes ws (making at cut self.old parts.old) (making at cut self.new parts.new))
-            × TellsOffers (offers_from at ws self.old) (P.log port.old) (P.log port.new)
-            × (has_failed ws ≡ true → Rose (P.faults port.old) (P.faults port.new))) }
-        ensures err { OnErr result ((ws : List Wrote)
-            × Writes ws (making at (Some parts.new) self.old parts.old) (making at (Some parts.new) self.new parts.new)
-            × TellsOffers (offers_from at ws self.old) (P.log port.old) (P.log port.new)
-            × (has_failed ws ≡ true → Rose (P.faults port.old) (P.faults port.new))) }
+        ensures ok { OnOk result (Writes
+            (making at None self.old parts.old) (making at None self.new parts.new)
+            (P.log port.old) (P.log port.new) (P.faults port.old) (P.faults port.new)) }
+        ensures err { OnErr result (Writes
+            (making at (Some parts.new) self.old parts.old) (making at (Some parts.new) self.new parts.new)
+            (P.log port.old) (P.log port.new) (P.faults port.old) (P.faults port.new)) }
         ensures grows { parts.old ≤ parts.new }
         ensures starved { self.new.starved ≡ self.old.starved }
         ensures faults { P.faults port.old ≤ P.faults port.new }

@@ -1,16 +1,12 @@
-use Rattle.std.proofs.Common.{◌≡◌, ◌∙◌, ◌+◌, ◌<◌, ◌++◌, [], ◌∷◌, ℕ, List, true, false, Option, Some, length, append_assoc, sym, refl, ap, arith, subst}
+use Rattle.std.proofs.Common.{◌≡◌, ◌∙◌, ◌+◌, ◌<◌, true, false, None, Some, IfSome, length, option_map, sym, ap, arith, subst}
 use Rattle.amqp_engine.specs.declared.port.Wrote.{Wrote}
+use Rattle.amqp_engine.specs.Log.{log_write, PlansWrite}
 use Rattle.amqp_engine.specs.Engine.{Engine, commit_all}
-use Rattle.amqp_engine.specs.Turn.{is_all, CutsAfter}
+use Rattle.amqp_engine.specs.Turn.{is_all, offered, answered}
 use Rattle.amqp_engine.specs.Making.{making, Writes}
-use Rattle.amqp_engine.specs.Tell.{TellsOffers, offers_from}
 use Rattle.amqp_engine.specs.Play.{waiting}
 use Rattle.amqp_engine.proofs.Cases.{Allows-less, some-unsent, from-not-false, from-not-true}
-use Rattle.amqp_engine.proofs.Offers.{writes-more, writes-last, cuts-other, writes-none, tells-more, waiting-wrote, answered-starved}
-use Rattle.std.proofs.lemmas.List.{append-nil}
-use Rattle.amqp_engine.specs.Causes.{has_failed}
-use Rattle.amqp_engine.proofs.Faults.{failed-last, all-taken, last-rose}
-use Rattle.amqp_engine.proofs.Telling.{tells-none}
+use Rattle.amqp_engine.proofs.Offers.{writes-more, writes-last, writes-refused, writes-none, waiting-wrote, answered-starved}
 use Rattle.amqp_engine.proofs.wire.Wire.write_all.Goals as goal
 
 pub writes-preserved : goal.writes-preserved
@@ -19,27 +15,15 @@ writes-preserved g c =
     let e = c.writes.self in
     let w = c.in-Some.offered.answer in
     let n = c.writes.parts in
-    let log = g.P.Port.log c.writes.port in
-    let ws = c.writes.invariant.goes_on.0 in
     let all : is_all w (length (commit_all e).unsent) ≡ true = sym f.all ∙ from-not-false _ c.if-not-offered.false in
     let lower : waiting c.offer.new.self < waiting e =
     rw f.engine (waiting-wrote c.args.at w e (some-unsent _ _ f.due) all) in
     record {
-      goes_on = (
-        ws ++ w ∷ [],
-        λ cut rest last allows next.
-            let P : List Wrote → Type 0 = λ x. Writes x (making c.args.at cut c.args.self.now c.args.parts.now) last in
-            subst P (sym (append_assoc ws (w ∷ []) rest))
-            (c.writes.invariant.goes_on.1 cut (w ∷ rest) last (Allows-less cut n (n + 1) (omega arith) allows)
-            (writes-more c.args.at cut e n w c.offer.new.self rest last
-            f.engine allows f.due f.within c.in_default-answer.not-NoMemory all next)),
-        λ rest last next.
-            let P : List Wrote → Type 0 = λ x. TellsOffers (offers_from c.args.at x c.args.self.now) (g.P.Port.log c.args.port.now) last in
-            subst P (sym (append_assoc ws (w ∷ []) rest))
-            (c.writes.invariant.goes_on.2 (w ∷ rest) last
-            (tells-more c.args.at w rest e c.offer.new.self log (g.P.Port.log c.offer.new.port) last f.engine f.told f.plays next)),
-        failed-last ws w c.writes.invariant.goes_on.3 ∙ all-taken w (length (commit_all e).unsent) all,
-      );
+      goes_on = λ cut last log count allows next.
+          c.writes.invariant.goes_on cut last log count (Allows-less cut n (n + 1) (omega arith) allows)
+          (writes-more c.args.at cut e n w c.offer.new.self last (g.P.Port.log c.writes.port) (g.P.Port.log c.offer.new.port) log
+          (g.P.Port.faults c.writes.port) (g.P.Port.faults c.offer.new.port) count
+          f.engine f.told f.plays allows f.due f.within all f.faults next);
       bound = omega (arith, lower, c.writes.invariant.bound);
       grows = omega (arith, c.writes.invariant.grows);
       starved = ap (λ (x : Engine). x.starved) f.engine ∙ answered-starved c.args.at w e ∙ c.writes.invariant.starved;
@@ -62,20 +46,12 @@ returns-then-not-offered g c =
     let e = c.writes.self in
     let w = c.in-Some.offered.answer in
     let n = c.writes.parts in
-    let log = g.P.Port.log c.writes.port in
-    let ws = c.writes.invariant.goes_on.0 in
     let less : is_all w (length (commit_all e).unsent) ≡ false = sym f.all ∙ from-not-true _ c.if-not-offered.true in
     record {
-      ok = (
-        ws ++ w ∷ [],
-        λ cut allows.
-            c.writes.invariant.goes_on.1 cut (w ∷ []) _ (Allows-less cut n (n + 1) (omega arith) allows)
-            (writes-last c.args.at cut e n w c.offer.new.self f.engine allows f.due f.within (cuts-other w _ c.in_default-answer.not-NoMemory) less),
-        c.writes.invariant.goes_on.2 (w ∷ []) (g.P.Port.log c.offer.new.port)
-            (tells-more c.args.at w [] e c.offer.new.self log (g.P.Port.log c.offer.new.port) (g.P.Port.log c.offer.new.port)
-            f.engine f.told f.plays (tells-none _ _ refl)),
-        last-rose ws w _ _ _ c.writes.invariant.goes_on.3 c.writes.invariant.faults f.faults f.cause,
-      );
+      ok = c.writes.invariant.goes_on None (making c.args.at None c.offer.new.self (n + 1)) (g.P.Port.log c.offer.new.port) (g.P.Port.faults c.offer.new.port) tt
+          (writes-last c.args.at e n w c.offer.new.self (g.P.Port.log c.writes.port) (g.P.Port.log c.offer.new.port)
+          (g.P.Port.faults c.writes.port) (g.P.Port.faults c.offer.new.port)
+          f.engine f.told f.plays f.due f.within less c.in_default-answer.not-NoMemory f.cause);
       err = tt;
       grows = omega (arith, c.writes.invariant.grows);
       starved = ap (λ (x : Engine). x.starved) f.engine ∙ answered-starved c.args.at w e ∙ c.writes.invariant.starved;
@@ -86,21 +62,16 @@ pub returns-in-NoMemory-clause-err : goal.returns-in-NoMemory-clause-err
 returns-in-NoMemory-clause-err g c =
     let f = c.in-Some.ensures in
     let e = c.writes.self in
-    let w = c.in-Some.offered.answer in
     let n = c.writes.parts in
     let log = g.P.Port.log c.writes.port in
-    let ws = c.writes.invariant.goes_on.0 in
-    let cut : Option ℕ = Some (n + 1) in
-    let less : is_all w (length (commit_all e).unsent) ≡ false = rw c.in-NoMemory.is refl in
-    let cuts : CutsAfter w (making c.args.at cut e n) = rw c.in-NoMemory.is refl in (
-      ws ++ w ∷ [],
-      c.writes.invariant.goes_on.1 cut (w ∷ []) _ (omega arith)
-          (writes-last c.args.at cut e n w c.offer.new.self f.engine (omega arith) f.due f.within cuts less),
-      c.writes.invariant.goes_on.2 (w ∷ []) (g.P.Port.log c.offer.new.port)
-          (tells-more c.args.at w [] e c.offer.new.self log (g.P.Port.log c.offer.new.port) (g.P.Port.log c.offer.new.port)
-          f.engine f.told f.plays (tells-none _ _ refl)),
-      last-rose ws w _ _ _ c.writes.invariant.goes_on.3 c.writes.invariant.faults f.faults f.cause,
-    )
+    let is = c.in-NoMemory.is in
+    let P : Wrote → Type 0 = λ x. IfSome log (PlansWrite (length (offered e)) x) in
+    c.writes.invariant.goes_on (Some (n + 1)) (making c.args.at (Some (n + 1)) c.offer.new.self (n + 1)) (g.P.Port.log c.offer.new.port) (g.P.Port.faults c.offer.new.port)
+    (omega arith)
+    (writes-refused c.args.at e n c.offer.new.self log (g.P.Port.log c.offer.new.port) (g.P.Port.faults c.writes.port) (g.P.Port.faults c.offer.new.port)
+    (f.engine ∙ ap (λ (x : Wrote). answered c.args.at x e) is)
+    (f.told ∙ ap (λ (x : Wrote). option_map (log_write (offered e) x) log) is)
+    (subst P is f.plays) f.due)
 
 pub returns-in-NoMemory-clause-starved : goal.returns-in-NoMemory-clause-starved
 returns-in-NoMemory-clause-starved g c =
@@ -112,11 +83,11 @@ returns-clause-ok g c =
     let f = c.in_default.ensures.none in
     let e = c.writes.self in
     let n = c.writes.parts in
-    let ws = c.writes.invariant.goes_on.0 in (
-      ws ++ [],
-      λ cut allows.
-          let P : Engine → Type 0 = λ x. Writes (ws ++ []) (making c.args.at cut c.args.self.now c.args.parts.now) (making c.args.at cut x n) in
-          subst P (sym f.1) (c.writes.invariant.goes_on.1 cut [] (making c.args.at cut e n) allows (writes-none (making c.args.at cut e n) f.0)),
-      c.writes.invariant.goes_on.2 [] (g.P.Port.log c.offer.new.port) (tells-none _ _ f.2),
-      λ h. absurd (let none : has_failed (ws ++ []) ≡ false = ap has_failed (append-nil ws) ∙ c.writes.invariant.goes_on.3 in cc),
-    )
+    let p = making c.args.at None e n in
+    let log = g.P.Port.log c.offer.new.port in
+    let count = g.P.Port.faults c.offer.new.port in
+    let P : Engine → Type 0 = λ x. Writes (making c.args.at None c.args.self.now c.args.parts.now) (making c.args.at None x n)
+    (g.P.Port.log c.args.port.now) log (g.P.Port.faults c.args.port.now) count in
+    subst P (sym f.1)
+    (c.writes.invariant.goes_on None p log count tt
+    (writes-none p (g.P.Port.log c.writes.port) log (g.P.Port.faults c.writes.port) count f.0 f.2))
