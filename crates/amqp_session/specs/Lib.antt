@@ -14,6 +14,7 @@ pub mod Changes
 pub mod Links
 pub mod ConnectionMethods
 pub mod Numbering
+pub mod Sequence
 pub mod Channels
 pub mod ChannelMethods
 pub mod Frames
