@@ -4,7 +4,6 @@ use amqp_session::{Id, IdSequence};
 use std::process::Abort;
 
 /// What is done with a sequence, and what is seen of it.
-#[derive(Clone, Copy)]
 enum Step<T> {
     /// A new one, which gives 0 too or does not.
     New(bool),
@@ -29,11 +28,11 @@ fn is_current<T: Id>(numbers: &IdSequence<T>, wanted: Option<u32>) -> bool {
 fn follow<T: Id, A: Abort>(rt: &A, steps: &[Step<T>]) {
     let mut numbers: IdSequence<T> = IdSequence::new(false);
     for step in steps {
-        match *step {
-            Step::New(allow_zero) => numbers = IdSequence::new(allow_zero),
-            Step::Max(max) => numbers.set_max(max),
-            Step::Gives(first, last) => gives(rt, &mut numbers, first, last),
-            Step::Current(wanted) => assert!(rt; is_current(&numbers, wanted), "{wanted:?}"),
+        match step {
+            Step::New(allow_zero) => numbers = IdSequence::new(*allow_zero),
+            Step::Max(max) => numbers.set_max(*max),
+            Step::Gives(first, last) => gives(rt, &mut numbers, *first, *last),
+            Step::Current(wanted) => assert!(rt; is_current(&numbers, *wanted), "{wanted:?}"),
         }
     }
 }
