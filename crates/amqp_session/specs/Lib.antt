@@ -15,6 +15,7 @@ pub mod Memory
 pub mod Links
 pub mod ConnectionMethods
 pub mod Numbering
+pub mod Sequence
 pub mod Channels
 pub mod ChannelMethods
 pub mod Frames

@@ -15,6 +15,7 @@ mod configuration;
 mod error;
 mod handed;
 mod handshake;
+mod id_sequence;
 mod io_fault;
 mod lanes;
 mod laws;
@@ -32,6 +33,7 @@ pub use command::{Answer, ChanRef, Cmd};
 pub use configuration::{Configuration, tune};
 pub use error::{Error, ErrorKind, Result};
 pub use handed::Handed;
+pub use id_sequence::{Id, IdSequence};
 pub use io_fault::IoFault;
 pub use laws::{
     a_refusal_changes_promises_alone, an_answer_is_taken_once, an_end_is_kept,

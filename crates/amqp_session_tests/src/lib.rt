@@ -21,6 +21,8 @@ mod numbers;
 #[cfg(test)]
 mod sending;
 #[cfg(test)]
+mod sequences;
+#[cfg(test)]
 mod story;
 #[cfg(test)]
 mod support;
