@@ -1,5 +1,5 @@
--- The texts of arrays and tables as texts one after another, and how long they are.
-use Rattle.std.proofs.Common.{◌≡◌, ℕ, ◌+◌, ◌^◌, ◌<◌, ◌≤◌, List, [], ◌∷◌, ◌++◌, length, map, drop, get_or, refl, sym, ap, ◌∙◌, append_assoc, arith}
+-- How long the texts of arrays, tables, methods and frames are, and how they are put one after another.
+use Rattle.std.proofs.Common.{◌≡◌, ℕ, ◌+◌, ◌^◌, ◌<◌, ◌≤◌, List, [], ◌∷◌, ◌++◌, length, map, drop, get_or, sym, ap, ◌∙◌, append_assoc, arith}
 use Rattle.std.proofs.lemmas.List.{length-append, drop_more}
 use Rattle.std.specs.Int.{w16, w32, to_be_bytes}
 use Rattle.amqp_frame.specs.declared.method.Method.{Method}
@@ -7,19 +7,11 @@ use Rattle.amqp_frame.specs.Methods.{class_of, number_of, spell_arguments, spell
 use Rattle.amqp_frame.specs.Frames.{spell_framed}
 use Rattle.amqp_types.specs.Value.{FieldValue, Pair, array, table, values_from, pairs_from}
 use Rattle.amqp_types.specs.Forms.{spell_long_string}
-use Rattle.amqp_types.specs.Spelling.{spell, spell_values, spell_pairs, spell_table}
+use Rattle.amqp_types.specs.Spelling.{spell, spell_table}
 use Rattle.amqp_types.specs.View.{value_of, pair_of}
 use Rattle.amqp_types.specs.declared.value.AMQPValue.{AMQPValue}
 use Rattle.amqp_types.specs.declared.value.Entry.{Entry}
 use Rattle.amqp_frame.specs.Lengths.{capped, spell_list, spell_pair, spell_pair_list}
-
-pub spell_values-is : (vs : List FieldValue) → spell_values (values_from vs) ≡ spell_list vs
-spell_values-is [] = refl
-spell_values-is (v ∷ vs) = ap (λ (t : List ℕ). spell v ++ t) (spell_values-is vs)
-
-pub spell_pairs-is : (ps : List Pair) → spell_pairs (pairs_from ps) ≡ spell_pair_list ps
-spell_pairs-is [] = refl
-spell_pairs-is (p ∷ ps) = ap (λ (t : List ℕ). spell_pair p ++ t) (spell_pairs-is ps)
 
 -- a number where it can be kept
 pub capped_small : (n : ℕ) → n < 2 ^ 64 → capped n ≡ n
@@ -30,11 +22,10 @@ pub length-long : (tag : ℕ) (body : List ℕ) → length (tag ∷ spell_long_s
 length-long tag body = omega (arith, length-append (to_be_bytes w32 (length body)) body)
 
 pub length-array : (vs : List FieldValue) → length (spell (array (values_from vs))) ≡ length (spell_list vs) + 5
-length-array vs =
-    length-long 65 (spell_values (values_from vs)) ∙ ap (λ (t : List ℕ). length t + 5) (spell_values-is vs)
+length-array vs = length-long 65 (spell_list vs)
 
 pub length-table : (ps : List Pair) → length (spell (table (pairs_from ps))) ≡ length (spell_pair_list ps) + 5
-length-table ps = length-long 70 (spell_pairs (pairs_from ps)) ∙ ap (λ (t : List ℕ). length t + 5) (spell_pairs-is ps)
+length-table ps = length-long 70 (spell_pair_list ps)
 
 -- what is still to put of a text of some length, which ends as whole where it began with so much space
 pub record Rest (left now : List ℕ) (free : ℕ) (whole : List ℕ) (space len : ℕ) : Type 0 where
@@ -61,29 +52,21 @@ next_pair es i e lt is =
 
 -- a tag and a body that were put
 pub tagged_text :
-    (old middle new : List ℕ) (tag : ℕ) (body body' : List ℕ) → middle ≡ old ++ tag ∷ [] →
-    new ≡ middle ++ spell_long_string body → body' ≡ body → new ≡ old ++ tag ∷ spell_long_string body'
-tagged_text old middle new tag body body' first second same =
+    (old middle new : List ℕ) (tag : ℕ) (body : List ℕ) → middle ≡ old ++ tag ∷ [] →
+    new ≡ middle ++ spell_long_string body → new ≡ old ++ tag ∷ spell_long_string body
+tagged_text old middle new tag body first second =
     second
     ∙ ap (λ (t : List ℕ). t ++ spell_long_string body) first
     ∙ append_assoc old (tag ∷ []) (spell_long_string body)
-    ∙ ap (λ (t : List ℕ). old ++ tag ∷ spell_long_string t) (sym same)
 
 pub length-spell_table : (ps : List Pair) → length (spell_table ps) ≡ length (spell_pair_list ps) + 4
 length-spell_table ps =
-    omega (
-      arith,
-      length-append (to_be_bytes w32 (length (spell_pairs (pairs_from ps)))) (spell_pairs (pairs_from ps)),
-      ap length (spell_pairs-is ps),
-    )
-
-pub spell_table-is : (ps : List Pair) → spell_table ps ≡ spell_long_string (spell_pair_list ps)
-spell_table-is ps = ap spell_long_string (spell_pairs-is ps)
+    omega (arith, length-append (to_be_bytes w32 (length (spell_pair_list ps))) (spell_pair_list ps))
 
 pub length-joined : (a b : List ℕ) → length (a ++ b) ≡ length a + length b
 length-joined a b = length-append a b
 
-pub ruleset method_lengths = (length-spell_table, spell_table-is, length-joined)
+pub ruleset method_lengths = (length-spell_table, length-joined)
 
 -- texts that were put one after another
 pub four_texts :

@@ -15,22 +15,19 @@ use std::marker::Model;
 /// payload of its frame.
 #[derive(Debug, Drop)]
 pub struct RawMethod {
-    class: u16,
-    method: u16,
     payload: Payload,
 }
 
 impl Model for RawMethod {
-    ghost use Rattle.std.specs.Prelude.{◌≡◌, ◌≢◌, drop};
-    ghost use Rattle.amqp_frame.specs.RawMethods.{OtherMethod, spell_raw_method};
+    ghost use Rattle.std.specs.Prelude.{◌≡◌, ◌≢◌, ◌≤◌, length};
+    ghost use Rattle.amqp_frame.specs.RawMethods.{OtherMethod, spell_raw_method, raw_method_of};
 
     ghost Value = { OtherMethod };
 
-    ghost view = { λ m. record { class = m.class; method = m.method; arguments = drop 4 m.payload } };
+    ghost view = { λ m. raw_method_of m.payload };
 
-    ghost invariant = { λ m. (m.class ≢ 10) × (m.class ≢ 20)
-        × (m.payload ≡ spell_raw_method
-        (record { class = m.class; method = m.method; arguments = drop 4 m.payload })) };
+    ghost invariant = { λ m. ((raw_method_of m.payload).class ≢ 10) × ((raw_method_of m.payload).class ≢ 20)
+        × (4 ≤ length m.payload) × (m.payload ≡ spell_raw_method (raw_method_of m.payload)) };
 }
 
 impl RawMethod {
@@ -45,8 +42,6 @@ impl RawMethod {
         payload.extend_from_slice(&method.to_be_bytes())?;
         payload.extend_from_slice(args)?;
         Ok(RawMethod {
-            class,
-            method,
             payload: Payload::from_vec(payload),
         })
     }
@@ -57,14 +52,16 @@ impl RawMethod {
         ensures connection { result ≢ 10 }
         ensures channel { result ≢ 20 }
     {
-        self.class
+        let octets = self.payload.as_bytes();
+        u16::from_be_bytes([octets[0], octets[1]])
     }
 
     /// Its number in its class.
     pub fn method_id(&self) -> u16
         ensures { result ≡ self.now.method }
     {
-        self.method
+        let octets = self.payload.as_bytes();
+        u16::from_be_bytes([octets[2], octets[3]])
     }
 
     /// Its arguments, unread.
@@ -80,7 +77,7 @@ impl RawMethod {
         ensures passed_through { IsOtherMethod result.now }
     {
         // Read for their ranges alone, by which the clauses are shown.
-        let (_class, _method) = (self.class, self.method);
+        let _numbers = (self.class_id(), self.method_id());
         &self.payload
     }
 
@@ -89,6 +86,8 @@ impl RawMethod {
         ensures payload { result ≡ spell_raw_method self }
         ensures passed_through { IsOtherMethod result }
     {
+        // Read for their ranges alone, by which the clauses are shown.
+        let _numbers = (self.class_id(), self.method_id());
         self.payload
     }
 
@@ -97,8 +96,6 @@ impl RawMethod {
         ensures { IfOk result (λ m. m ≡ self.now) }
     {
         Ok(RawMethod {
-            class: self.class,
-            method: self.method,
             payload: self.payload.try_clone(alloc)?,
         })
     }
@@ -113,7 +110,9 @@ impl PartialEq for RawMethod {
     fn eq(&self, other: &Self) -> bool
         ensures { IsTrue result ↔ (self.now ≡ other.now) }
     {
-        self.class == other.class && self.method == other.method && self.args() == other.args()
+        self.class_id() == other.class_id()
+            && self.method_id() == other.method_id()
+            && self.args() == other.args()
     }
 }
 

@@ -118,8 +118,8 @@ fn same_values_of(these: &Values, those: &Values) -> bool
     if left.len() != right.len() {
         return false;
     }
-    for i in 0..left.len() {
-        if !same(&left[i], &right[i]) {
+    for (this, that) in left.iter().zip(right) {
+        if !same(this, that) {
             return false;
         }
     }
@@ -136,8 +136,7 @@ fn same_entries(these: &FieldTable, those: &FieldTable) -> bool
     if left.len() != right.len() {
         return false;
     }
-    for i in 0..left.len() {
-        let (this, that) = (&left[i], &right[i]);
+    for (this, that) in left.iter().zip(right) {
         if this.name != that.name {
             return false;
         }

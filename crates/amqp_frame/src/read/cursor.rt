@@ -1,6 +1,6 @@
 //! A place in a view, from which fields are read.
 
-ghost use Rattle.std.specs.Prelude.{◌≡◌, ◌↔◌, ◌<◌, ◌≤◌, [], length, IsTrue, IfOk, IfErr};
+ghost use Rattle.std.specs.Prelude.{◌≡◌, ◌↔◌, ◌+◌, ◌^◌, ◌<◌, ◌≤◌, [], length, slice_range, IsTrue, IfOk, IfErr};
 ghost use Rattle.std.specs.Int.{w16, w32, w64};
 ghost use Rattle.amqp_types.specs.Reading.{octet_at, octets_at, number_at, short_string_at, long_string_at};
 ghost use Rattle.amqp_frame.specs.Reads.{Reads};
@@ -130,56 +130,16 @@ impl<'a, V: View> Cursor<'a, V> {
         self.view.copy_range(alloc, self.at, self.end)
     }
 
-    /// Two octets.
-    pub fn octets2(&mut self) -> Result<[u8; 2], Fault>
-        ensures reads { Reads (λ a. a) result self.new (octets_at 2 self.old) }
+    /// So many octets.
+    pub fn octets<const N: usize>(&mut self) -> Result<[u8; N], Fault>
+        ensures reads { Reads (λ a. a) result self.new (octets_at N self.old) }
         ensures takes_no_memory { IfErr result (λ e. e ≡ Fault.Bad) }
     {
-        if self.end - self.at < 2 {
+        if self.end - self.at < N {
             return Err(Fault::Bad);
         }
-        let octets = [self.view.at(self.at), self.view.at(self.at + 1)];
-        self.at += 2;
-        Ok(octets)
-    }
-
-    /// Four octets.
-    pub fn octets4(&mut self) -> Result<[u8; 4], Fault>
-        ensures reads { Reads (λ a. a) result self.new (octets_at 4 self.old) }
-        ensures takes_no_memory { IfErr result (λ e. e ≡ Fault.Bad) }
-    {
-        if self.end - self.at < 4 {
-            return Err(Fault::Bad);
-        }
-        let octets = [
-            self.view.at(self.at),
-            self.view.at(self.at + 1),
-            self.view.at(self.at + 2),
-            self.view.at(self.at + 3),
-        ];
-        self.at += 4;
-        Ok(octets)
-    }
-
-    /// Eight octets.
-    pub fn octets8(&mut self) -> Result<[u8; 8], Fault>
-        ensures reads { Reads (λ a. a) result self.new (octets_at 8 self.old) }
-        ensures takes_no_memory { IfErr result (λ e. e ≡ Fault.Bad) }
-    {
-        if self.end - self.at < 8 {
-            return Err(Fault::Bad);
-        }
-        let octets = [
-            self.view.at(self.at),
-            self.view.at(self.at + 1),
-            self.view.at(self.at + 2),
-            self.view.at(self.at + 3),
-            self.view.at(self.at + 4),
-            self.view.at(self.at + 5),
-            self.view.at(self.at + 6),
-            self.view.at(self.at + 7),
-        ];
-        self.at += 8;
+        let octets = octets_of(self.view, self.at);
+        self.at += N;
         Ok(octets)
     }
 
@@ -188,7 +148,7 @@ impl<'a, V: View> Cursor<'a, V> {
         ensures reads { Reads (λ n. n) result self.new (number_at w16 self.old) }
         ensures takes_no_memory { IfErr result (λ e. e ≡ Fault.Bad) }
     {
-        Ok(u16::from_be_bytes(self.octets2()?))
+        Ok(u16::from_be_bytes(self.octets()?))
     }
 
     /// A number of 32 bits, the highest octet first.
@@ -196,7 +156,7 @@ impl<'a, V: View> Cursor<'a, V> {
         ensures reads { Reads (λ n. n) result self.new (number_at w32 self.old) }
         ensures takes_no_memory { IfErr result (λ e. e ≡ Fault.Bad) }
     {
-        Ok(u32::from_be_bytes(self.octets4()?))
+        Ok(u32::from_be_bytes(self.octets()?))
     }
 
     /// A number of 64 bits, the highest octet first.
@@ -204,7 +164,7 @@ impl<'a, V: View> Cursor<'a, V> {
         ensures reads { Reads (λ n. n) result self.new (number_at w64 self.old) }
         ensures takes_no_memory { IfErr result (λ e. e ≡ Fault.Bad) }
     {
-        Ok(u64::from_be_bytes(self.octets8()?))
+        Ok(u64::from_be_bytes(self.octets()?))
     }
 
     /// A short string.
@@ -244,4 +204,17 @@ impl<'a, V: View> Cursor<'a, V> {
         let length = self.number32()?;
         self.split(length as usize)
     }
+}
+
+// So many octets of a view, from a place on.
+fn octets_of<V: View, const N: usize>(view: &V, start: usize) -> [u8; N]
+    requires within { start + N ≤ length (V.bytes view.now) }
+    requires small { start + N < 2 ^ 64 }
+    ensures { result ≡ slice_range (V.bytes view.now) start (start + N) }
+{
+    let mut octets = [0; N];
+    for index in 0..N {
+        octets[index] = view.at(start + index);
+    }
+    octets
 }

@@ -53,8 +53,8 @@ fn scalar<V: View>(alloc: Global, tag: u8, cursor: &mut Cursor<'_, V>) -> Result
         b'l' => cursor
             .number64()
             .map(|number| AMQPValue::LongLongInt(number.cast_signed())),
-        b'f' => cursor.octets4().map(AMQPValue::Float),
-        b'd' => cursor.octets8().map(AMQPValue::Double),
+        b'f' => cursor.octets().map(AMQPValue::Float),
+        b'd' => cursor.octets().map(AMQPValue::Double),
         b'D' => decimal(cursor),
         b'S' => cursor.long_string(alloc).map(AMQPValue::LongString),
         b'x' => byte_array(alloc, cursor).map(AMQPValue::ByteArray),

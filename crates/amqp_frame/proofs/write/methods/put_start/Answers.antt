@@ -1,7 +1,7 @@
-use Rattle.std.proofs.Common.{ℕ, List, [], ◌∷◌, ◌++◌, sym, ap, ◌∙◌}
+use Rattle.std.proofs.Common.{ℕ, List, [], ◌∷◌, ◌++◌, ap, ◌∙◌}
 use Rattle.amqp_types.specs.Forms.{spell_long_string}
 use Rattle.amqp_types.specs.Spelling.{spell_table}
-use Rattle.amqp_frame.proofs.Texts.{spell_table-is, four_texts}
+use Rattle.amqp_frame.proofs.Texts.{four_texts}
 use Rattle.amqp_frame.proofs.write.methods.put_start.Goals as goal
 
 pub returns-clause-bytes : goal.returns-clause-bytes
@@ -13,8 +13,7 @@ returns-clause-bytes g c =
     (c.args.major ∷ c.args.minor ∷ []) (spell_table c.args.properties.now)
     (spell_long_string c.args.mechanisms.now) (spell_long_string c.args.locales.now)
     c.put.ensures.bytes
-    (c.put_table.ensures.bytes
-    ∙ ap (λ (t : List ℕ). g.R.Room.put_so_far c.put.new.self ++ t) (sym (spell_table-is c.args.properties.now)))
+    c.put_table.ensures.bytes
     (c.put_long.ensures.bytes
     ∙ ap (λ (t : List ℕ). g.R.Room.put_so_far c.put_table.new.room ++ spell_long_string t) c.as_bytes.ensures.bytes)
     (c.put_long-2.ensures.bytes

@@ -1,21 +1,19 @@
 use Rattle.std.proofs.Common.{◌≡◌, ◌+◌, ◌*◌, ◌<◌, length, map, drop, ap, ◌∙◌, arith}
 use Rattle.std.proofs.lemmas.List.{length-append}
 use Rattle.amqp_types.specs.View.{value_of, pair_of}
-use Rattle.amqp_types.specs.Spelling.{spell, spell_values, spell_pairs}
-use Rattle.amqp_types.specs.Value.{values_from, pairs_from}
+use Rattle.amqp_types.specs.Spelling.{spell}
 use Rattle.amqp_types.specs.TableSize.{value_size, values_size, pairs_size}
 use Rattle.amqp_frame.specs.Lengths.{spell_list, spell_pair_list, spell_pair}
 use Rattle.amqp_types.proofs.Sameness.{value_in, pair_in}
-use Rattle.amqp_frame.proofs.Texts.{spell_values-is, spell_pairs-is, length-array, length-table, next_value, next_pair, tagged_text}
+use Rattle.amqp_frame.proofs.Texts.{length-array, length-table, next_value, next_pair, tagged_text}
 use Rattle.amqp_frame.proofs.write.values.+put.Goals as goal
 
 pub put_value-returns-in-FieldArray-clause-bytes : goal.put_value-returns-in-FieldArray-clause-bytes
 put_value-returns-in-FieldArray-clause-bytes g t c =
     rw c.in-FieldArray.is
     (tagged_text (g.R.Room.put_so_far c.args.room.now) (g.R.Room.put_so_far c.put_octet.new.room)
-    (g.R.Room.put_so_far c.put_array.new.room) 65 (spell_list c.in-FieldArray.values)
-    (spell_values (values_from c.in-FieldArray.values)) c.put_octet.ensures.bytes c.put_array.ensures.bytes
-    (spell_values-is c.in-FieldArray.values))
+    (g.R.Room.put_so_far c.put_array.new.room) 65 (spell_list c.in-FieldArray.values) c.put_octet.ensures.bytes
+    c.put_array.ensures.bytes)
 
 pub put_value-returns-in-FieldArray-clause-space : goal.put_value-returns-in-FieldArray-clause-space
 put_value-returns-in-FieldArray-clause-space g t c =
@@ -27,8 +25,7 @@ put_value-returns-in-FieldTable-clause-bytes g t c =
     rw c.in-FieldTable.is
     (tagged_text (g.R.Room.put_so_far c.args.room.now) (g.R.Room.put_so_far c.put_octet-in-FieldTable.new.room)
     (g.R.Room.put_so_far c.put_table.new.room) 70 (spell_pair_list c.in-FieldTable.table)
-    (spell_pairs (pairs_from c.in-FieldTable.table)) c.put_octet-in-FieldTable.ensures.bytes
-    c.put_table.ensures.bytes (spell_pairs-is c.in-FieldTable.table))
+    c.put_octet-in-FieldTable.ensures.bytes c.put_table.ensures.bytes)
 
 pub put_value-returns-in-FieldTable-clause-space : goal.put_value-returns-in-FieldTable-clause-space
 put_value-returns-in-FieldTable-clause-space g t c =
