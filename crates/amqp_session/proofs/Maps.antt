@@ -62,7 +62,7 @@ module _ {X : Type 0} (n : ℕ) (f : X → X) where
   has-map_values (e ∷ es) = same_test (is_at (nat_cmp n) e.0) e es (has-map_values es)
 
 module _ {X : Type 0} where
-  none_from : (o : Option X) → is_some o ≡ false → o ≡ None
+  pub none_from : (o : Option X) → is_some o ≡ false → o ≡ None
   none_from None h = refl
   none_from (Some x) h = absurd cc
 

@@ -1,9 +1,10 @@
 -- Maps from numbers: what they have at one, once another was put or taken away.
-use Rattle.std.proofs.Common.{◌≡◌, ◌≢◌, ◌<◌, ◌∙◌, ap, sym, refl, subst, ℕ, false, cond, List, [], ◌∷◌, Some}
+use Rattle.std.proofs.Common.{◌≡◌, ◌≢◌, ◌<◌, ◌∙◌, ap, sym, refl, subst, ℕ, true, false, cond, List, [], ◌∷◌, Some}
 use Rattle.std.specs.declared.cmp.Ordering.{Ordering}
 use Rattle.std.specs.declared.cmp.Ordering.TheVariants.{Less, Equal, Greater}
 use Rattle.std.specs.Ordering.{nat_cmp, is_eq, match_ordering, MatchOrdering}
 use Rattle.std.specs.Cmp.{ranks, nat_cmp_is}
+use Rattle.std.specs.BTreeMap.{is_at}
 use Rattle.amqp_session.specs.Listed.{at, put, without}
 
 means : (x y : ℕ) (o : Ordering) → nat_cmp x y ≡ o → MatchOrdering o (x < y) (x ≡ y) (y < x)
@@ -17,6 +18,13 @@ other : (o : Ordering) (m n : ℕ) → nat_cmp m n ≡ o → m ≢ n → is_eq o
 other Less m n h ne = refl
 other Equal m n h ne = absurd (ne (means m n Equal h))
 other Greater m n h ne = refl
+
+-- whether a number is the one that is asked for
+pub is_itself : (k n : ℕ) → n ≡ k → is_at (nat_cmp k) n ≡ true
+is_itself k n e = ap (λ m. is_eq (nat_cmp k m)) e ∙ ap is_eq (itself k)
+
+pub is_other : (k n : ℕ) → n ≢ k → is_at (nat_cmp k) n ≡ false
+is_other k n ne = other (nat_cmp k n) k n refl (λ e. ne (sym e))
 
 module _ {X : Type 0} where
   pub put-same-by : (o : Ordering) (n : ℕ) (x : X) (e : ℕ × X) (es : List (ℕ × X)) → nat_cmp n e.0 ≡ o → at n (put n x es) ≡ Some x

@@ -43,9 +43,9 @@ use Rattle.amqp_session.specs.declared.lanes.Item.{Item}
 use Rattle.amqp_session.specs.declared.misread.Misread.{Misread}
 use Rattle.amqp_session.specs.declared.error.ErrorKind.TheVariants.{NoMemory, IOError, ChannelsLimitReached, SerialisationError}
 use Rattle.amqp_session.specs.declared.error.ErrorKind.{ErrorKind}
-use Rattle.amqp_session.specs.Listed.{at, put, without, has, map_values}
+use Rattle.amqp_session.specs.Listed.{at, put, without, has}
 use Rattle.amqp_session.specs.Talk.{Talk, start, acts, has_ended, is_acting, is_asked, is_closing, is_open, is_open_link, end_of_link}
-use Rattle.amqp_session.specs.Changes.{Promises, present_at, starve, queue_item, next_promise, refuse, promise, give, give_to, fail, lose, misplaced, close, finish, finish_by, settled, settled_by, plain}
+use Rattle.amqp_session.specs.Changes.{Promises, present_at, starve, queue_item, next_promise, refuse, promise, give, give_to, fail, lose, misplaced, close, finish, finish_by, settled_by, plain}
 use Rattle.amqp_session.specs.Links.{asked, asked_link, linked, link_failed, piece, dropped, misread, lost}
 use Rattle.amqp_session.specs.Handshake.{close_ok, start_ok, tune_ok, open_vhost, our_close, channel_open, our_channel_close}
 use Rattle.amqp_session.specs.Negotiation.{lesser_wish, wish_or, tune}

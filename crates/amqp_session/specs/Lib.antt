@@ -34,3 +34,4 @@ pub mod Decider
 -- What the contracts of private calls are stated with.
 pub mod Parts
 pub mod NumberSet
+pub mod Openings

@@ -1,9 +1,10 @@
 //! The listed channels.
 
-ghost use Rattle.std.specs.Prelude.{◌≡◌, ◌≤◌, [], None, IfSome, OnOk, OnErr, IsSome, length};
+ghost use Rattle.std.specs.Prelude.{◌≡◌, ◌≤◌, ◌+◌, [], None, Some, IfSome, OnOk, OnErr, length};
 ghost use Rattle.amqp_session.specs.Listed.{at, put, without, map_values};
 ghost use Rattle.amqp_session.specs.Numbering.{first_number, after, drawn};
 ghost use Rattle.amqp_session.specs.Channels.{closing, new_channel, opening_in};
+ghost use Rattle.amqp_session.specs.Openings.{opener, opened_until};
 
 use crate::numbers::Numbers;
 use crate::state::ChannelState;
@@ -42,7 +43,10 @@ impl Channel {
 #[derive(Debug, Drop)]
 pub struct Channels {
     listed: BTreeMap<ChannelId, Channel>,
+    openings: BTreeMap<u64, ChannelId>,
     numbers: Numbers,
+    // all numbers from 1 up to this one are listed
+    full: ChannelId,
     cursor: ChannelId,
 }
 
@@ -55,10 +59,13 @@ impl Model for Channels {
     ghost view = { λ c. record { listed = c.listed.entries; cursor = c.cursor } };
 
     ghost use Rattle.amqp_session.specs.Listed.{has};
-    ghost use Rattle.amqp_session.specs.NumberSet.{is_member};
+    ghost use Rattle.amqp_session.specs.NumberSet.{is_member, HasUpTo};
+    ghost use Rattle.amqp_session.specs.Openings.{Indexes};
 
-    // The set of numbers has those of the listed channels.
-    ghost invariant = { λ c. (n : ℕ) → is_member c.numbers n ≡ has n c.listed.entries };
+    // The set of numbers has those of the listed channels, all up to one that is known, and the
+    // openings have the promises that opened them.
+    ghost invariant = { λ c. ((n : ℕ) → is_member c.numbers n ≡ has n c.listed.entries)
+        × Indexes c.openings.entries c.listed.entries × HasUpTo c.full c.numbers };
 }
 
 impl Channels {
@@ -68,7 +75,9 @@ impl Channels {
     {
         Channels {
             listed: BTreeMap::new(alloc),
+            openings: BTreeMap::new(alloc),
             numbers: Numbers::new(alloc),
+            full: 0,
             cursor: 0,
         }
     }
@@ -101,21 +110,29 @@ impl Channels {
         self.cursor = cursor;
     }
 
-    /// Lists a channel.
+    /// Lists a channel that a later promise opens than the others.
     pub fn list(&mut self, id: ChannelId, channel: Channel) -> Result<(), NoMemory>
+        requires unlisted { at id self.old.listed ≡ None }
+        requires later { opened_until self.old.listed ≤ channel.opened }
         ensures ok { OnOk result (self.new ≡ record self.old { listed = put id channel self.old.listed }) }
         ensures err { OnErr result (self.new ≡ self.old) }
+        ensures until { opened_until self.new.listed ≤ channel.opened + 1 }
     {
         self.numbers.reserve(id)?;
-        self.listed.insert(id, channel)?;
+        self.openings.insert(channel.opened, id)?;
+        if let Err(refused) = self.listed.insert(id, channel) {
+            self.openings.remove(&channel.opened);
+            return Err(refused.into());
+        }
         self.numbers.insert(id);
         Ok(())
     }
 
-    /// Changes a channel that is listed.
+    /// Changes a channel that is listed, but not what opened it.
     pub fn set(&mut self, id: ChannelId, channel: Channel)
-        requires { IsSome (at id self.old.listed) }
-        ensures { self.new ≡ record self.old { listed = put id channel self.old.listed } }
+        requires { opener id self.old.listed ≡ Some channel.opened }
+        ensures set { self.new ≡ record self.old { listed = put id channel self.old.listed } }
+        ensures until { opened_until self.new.listed ≤ opened_until self.old.listed }
     {
         // Its place is there, so that nothing is asked for and nothing refused.
         let _ = self.listed.insert(id, channel);
@@ -123,10 +140,14 @@ impl Channels {
 
     /// A channel goes.
     pub fn remove(&mut self, id: ChannelId)
-        ensures { self.new ≡ record self.old { listed = without id self.old.listed } }
+        ensures gone { self.new ≡ record self.old { listed = without id self.old.listed } }
+        ensures until { opened_until self.new.listed ≤ opened_until self.old.listed }
     {
-        self.listed.remove(&id);
+        self.full = 0;
         self.numbers.remove(id);
+        if let Some(channel) = self.listed.remove(&id) {
+            self.openings.remove(&channel.opened);
+        }
     }
 
     /// All channels go.
@@ -134,12 +155,15 @@ impl Channels {
         ensures { self.new ≡ record self.old { listed = [] } }
     {
         self.listed.clear();
+        self.openings.clear();
+        self.full = 0;
         self.numbers.clear();
     }
 
     /// All channels are closing.
     pub fn close_all(&mut self)
-        ensures { self.new ≡ record self.old { listed = map_values closing self.old.listed } }
+        ensures all { self.new ≡ record self.old { listed = map_values closing self.old.listed } }
+        ensures until { opened_until self.new.listed ≡ opened_until self.old.listed }
     {
         self.listed.retain(|_, channel| {
             channel.state = ChannelState::Closing;
@@ -151,16 +175,31 @@ impl Channels {
     pub fn opened_by(&self, opened: u64) -> Option<ChannelId>
         ensures { result ≡ opening_in opened self.now.listed }
     {
-        for (id, channel) in &self.listed {
-            if channel.opened == opened {
-                return Some(*id);
-            }
-        }
-        None
+        // Its clause tells that the numbers ascend.
+        let _ = self.listed.len();
+        self.openings.get(&opened).copied()
     }
 
-    /// The first number in the cycle from a first one that is not listed.
-    pub fn draw(&self, channel_max: ChannelId, first: ChannelId) -> Option<ChannelId>
+    /// The first number in the cycle from a first one that is not listed. Where there is none, that is
+    /// known until a channel goes, and found at once.
+    pub fn draw(&mut self, channel_max: ChannelId, first: ChannelId) -> Option<ChannelId>
+        requires { 1 ≤ first }
+        ensures drawn { result ≡ drawn channel_max first self.old.listed }
+        ensures unlisted { IfSome result (λ id. at id self.old.listed ≡ None) }
+        ensures same { self.new ≡ self.old }
+    {
+        let within = first <= channel_max;
+        if within && channel_max <= self.full {
+            return None;
+        }
+        let drawn = self.first_unlisted(channel_max, first);
+        if drawn.is_none() && within {
+            self.full = channel_max;
+        }
+        drawn
+    }
+
+    fn first_unlisted(&self, channel_max: ChannelId, first: ChannelId) -> Option<ChannelId>
         requires { 1 ≤ first }
         ensures drawn { result ≡ drawn channel_max first self.now.listed }
         ensures unlisted { IfSome result (λ id. at id self.now.listed ≡ None) }

@@ -3,7 +3,7 @@
 ghost use Rattle.std.specs.Prelude.{◌≡◌, ◌+◌, ◌<◌, ◌^◌, [], None, Some, Err, IsSome, OnOk, OnErr, option_copied};
 ghost use Rattle.amqp_session.specs.Listed.{at, put, without};
 ghost use Rattle.amqp_session.specs.Changes.{settled};
-ghost use Rattle.amqp_session.specs.Parts.{seen, placed, seen_at, slot_seen, slot_settled};
+ghost use Rattle.amqp_session.specs.Parts.{seen, seen_at, slot_seen, slot_settled};
 
 use crate::command::Answer;
 use crate::error::{self, ErrorKind};
@@ -71,7 +71,11 @@ impl Promises {
         ensures slots { seen slot_seen self.new.slots.entries
             ≡ put self.old.made None (seen slot_seen self.old.slots.entries) }
     {
-        self.make(Slot::Waiting);
+        let number = self.made;
+        self.made += 1;
+        if let Some(place) = self.slots.get_mut(&number) {
+            place.set(Slot::Waiting);
+        }
     }
 
     /// One more is made, which is answered at once with an error.
@@ -82,28 +86,14 @@ impl Promises {
         ensures same { OnErr result (self.new.made ≡ self.old.made) }
         ensures err { OnErr result (seen slot_seen self.new.slots.entries ≡ seen slot_seen self.old.slots.entries) }
     {
-        if let Err(refused) = self.reserve() {
+        if self.made == u64::MAX {
             drop(kind);
-            return Err(refused);
+            return Err(NoMemory);
         }
-        self.make(Slot::Answered(Err(kind.into())));
-        Ok(())
-    }
-
-    // One more is made, at its place.
-    fn make(&mut self, slot: Slot)
-        requires place { IsSome (at self.old.made self.old.slots.entries) }
-        requires count { self.old.made + 1 < 2 ^ 64 }
-        ensures made { self.new.made ≡ self.old.made + 1 }
-        ensures slots { seen slot_seen self.new.slots.entries
-            ≡ placed self.old.made (slot_seen slot) (seen slot_seen self.old.slots.entries) }
-    {
-        let number = self.made;
+        let slot = Slot::Answered(Err(kind.into()));
+        drop(self.slots.insert(self.made, slot)?);
         self.made += 1;
-        match self.slots.get_mut(&number) {
-            Some(place) => place.set(slot),
-            None => drop(slot),
-        }
+        Ok(())
     }
 
     /// A promise that waits gets this answer.

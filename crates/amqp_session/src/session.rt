@@ -87,11 +87,14 @@ impl Model for Session {
     } };
 
     ghost use Rattle.amqp_session.specs.Writing.{left_in};
+    ghost use Rattle.amqp_session.specs.Openings.{opened_until};
 
-    // Each frame that will be committed has its place already, and what is unsent fits the capacity.
+    // Each frame that will be committed has its place already, what is unsent fits the capacity, and
+    // the listed channels were opened by promises that were made.
     ghost invariant = { λ s. (length s.committed.marks.items + length s.lanes.control.items ≤
         deque_capacity s.committed.marks)
-        × (left_in s.committed.marks.items ≤ s.capacity.octets) };
+        × (left_in s.committed.marks.items ≤ s.capacity.octets)
+        × (opened_until s.channels.listed ≤ s.promises.made) };
 }
 
 impl Session {

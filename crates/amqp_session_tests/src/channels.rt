@@ -5,7 +5,8 @@ use crate::support::{At, CHANNEL_1, NUMBER_1, Outcome};
 use amqp_frame::RawKind;
 use amqp_session::{Answer, ChannelState};
 use amqp_vectors::{
-    CHANNEL_CLOSE_1, CHANNEL_CLOSE_OK_1, CHANNEL_OPEN_1, CHANNEL_OPEN_OK_1, SELECT_OK_1,
+    CHANNEL_CLOSE_1, CHANNEL_CLOSE_OK_1, CHANNEL_OPEN_1, CHANNEL_OPEN_OK_1, CLOSE_OK, SELECT_OK_1,
+    TUNE_2,
 };
 
 /// The body `x` on channel 1.
@@ -42,6 +43,35 @@ fn a_channel_closes(rt: HostRuntime) -> Outcome<()> {
         Line::IsRunning,
     ];
     tell(&rt, rt.alloc(), At::WithChannel, STORY)
+}
+
+// A promise names the channel that it opened as long as that one is listed, and no later one of its
+// number.
+#[test]
+fn a_promise_names_the_channel_that_it_opened(rt: HostRuntime) -> Outcome<()> {
+    const STORY: &[Line] = &[
+        Line::Opened(0, None),
+        Line::OpenChannel(1),
+        Line::Opened(1, Some(1)),
+        Line::Read(CHANNEL_OPEN_OK_1),
+        Line::OpenChannel(2),
+        Line::Opened(2, Some(2)),
+        Line::CloseChannel(NUMBER_1, 3),
+        Line::Opened(1, Some(1)),
+        Line::Opened(3, None),
+        Line::Read(CHANNEL_CLOSE_OK_1),
+        Line::Opened(1, None),
+        Line::OpenChannel(4),
+        Line::Opened(4, Some(1)),
+        Line::Opened(1, None),
+        Line::Opened(2, Some(2)),
+        Line::Close(5),
+        Line::Opened(4, Some(1)),
+        Line::Read(CLOSE_OK),
+        Line::Opened(4, None),
+        Line::Opened(2, None),
+    ];
+    tell(&rt, rt.alloc(), At::ConnectedBy(TUNE_2), STORY)
 }
 
 #[test]

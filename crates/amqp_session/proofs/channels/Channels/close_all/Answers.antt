@@ -1,19 +1,32 @@
-use Rattle.std.proofs.Common.{rules, ap, sym, ◌∙◌, ℕ, List}
+use Rattle.std.proofs.Common.{rules, ap, sym, refl, ◌∙◌, ℕ, List}
 use Rattle.std.proofs.lemmas.Map.Made.{map_same_pairs}
 use Rattle.amqp_session.specs.Listed.{has, map_values}
 use Rattle.amqp_session.specs.declared.channels.Channel.{Channel}
 use Rattle.amqp_session.specs.Channels.{Listing, closing}
+use Rattle.amqp_session.specs.Openings.{opener, opened_until}
 use Rattle.amqp_session.proofs.Maps.{has-map_values}
+use Rattle.amqp_session.proofs.Openings.{indexes-kept, opener-closing, until-closing}
 use Rattle.amqp_session.proofs.channels.Channels.close_all.Goals as goal
 
-pub returns : goal.returns
-returns c =
+pub returns-clause-all : goal.returns-clause-all
+returns-clause-all c =
     let as_listing : List (ℕ × Channel) → Listing = λ es. record { listed = es; cursor = c.self.inside.cursor } in
     ap as_listing (map_same_pairs _ closing _ (λ k v b w f' t. search rules) _ _ c.retain.ensures.filtered)
     ∙ ap (λ (l : Listing). record l { listed = map_values closing l.listed }) c.self.view_is
 
+pub returns-clause-until : goal.returns-clause-until
+returns-clause-until c =
+    ap opened_until (map_same_pairs _ closing _ (λ k v b w f' t. search rules) _ _ c.retain.ensures.filtered)
+    ∙ until-closing c.self.inside.listed.entries
+    ∙ ap (λ (l : Listing). opened_until l.listed) c.self.view_is
+
 pub invariant_of-self : goal.invariant_of-self
-invariant_of-self c n =
-    c.self.invariant n
-    ∙ sym (has-map_values n closing c.self.inside.listed.entries)
-    ∙ ap (has n) (sym (map_same_pairs _ closing _ (λ k v b w f' t. search rules) _ _ c.retain.ensures.filtered))
+invariant_of-self c =
+    let listed = c.self.inside.listed.entries in (
+      λ n. c.self.invariant.0 n
+          ∙ sym (has-map_values n closing listed)
+          ∙ ap (has n) (sym (map_same_pairs _ closing _ (λ k v b w f' t. search rules) _ _ c.retain.ensures.filtered)),
+      indexes-kept c.self.inside.openings.entries c.self.inside.openings.entries listed _ c.self.invariant.1 (λ q. refl)
+          (λ n. ap (opener n) (map_same_pairs _ closing _ (λ k v b w f' t. search rules) _ _ c.retain.ensures.filtered) ∙ opener-closing listed n),
+      c.self.invariant.2,
+    )
