@@ -191,5 +191,6 @@ frame-errors k f place t on = (there, back)
     there h =
         let goes_on : end_of t ≡ None = open-goes_on t.link (and-left (is_open t) (is_acting t.input) on) in
         elim ((ends-frame f place t).by k h) [ inl before ↦ cc | inr cause ↦ cause ]
+
     back : IsFrameError k f place t → end_of (on_frame f place t) ≡ Some (Err k)
     back h = ap end_of (if-true (acts t) (frame_rule f place t) t on) ∙ rule-brings k f place t h

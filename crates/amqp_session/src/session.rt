@@ -53,7 +53,7 @@ pub struct Session {
 }
 
 impl Model for Session {
-    ghost use Rattle.std.specs.Prelude.{◌≤◌, ◌+◌, length};
+    ghost use Rattle.std.specs.Prelude.{◌≤◌, ◌+◌, IsTrue, length};
     ghost use Rattle.std.specs.VecDeque.{deque_capacity};
     ghost use Rattle.amqp_session.specs.Talk.{Talk};
     ghost use Rattle.amqp_session.specs.Parts.{link_seen, seen, slot_seen, list_seen};
@@ -86,14 +86,21 @@ impl Model for Session {
       last_write = s.last_write;
     } };
 
+    ghost use Rattle.amqp_session.specs.Talk.{is_acting};
     ghost use Rattle.amqp_session.specs.Writing.{left_in};
     ghost use Rattle.amqp_session.specs.Openings.{opened_until};
+    ghost use Rattle.amqp_session.specs.Sound.{fits_link, is_agreed, goes_on};
 
-    // Each frame that will be committed has its place already, what is unsent fits the capacity, and
-    // the listed channels were opened by promises that were made.
+    // Each frame that will be committed has its place already, and what is unsent fits the capacity.
+    // The state has its link; what was agreed has room for a channel; and while the connection is
+    // being opened, and while it is open, frames act. The listed channels were opened by promises
+    // that were made.
     ghost invariant = { λ s. (length s.committed.marks.items + length s.lanes.control.items ≤
         deque_capacity s.committed.marks)
         × (left_in s.committed.marks.items ≤ s.capacity.octets)
+        × IsTrue (fits_link s.state (link_seen s.server_close s.link))
+        × (IsTrue (is_agreed s.state s.phase) → 1 ≤ s.configuration.channel_max)
+        × (IsTrue (goes_on s.state) → IsTrue (is_acting s.input))
         × (opened_until s.channels.listed ≤ s.promises.made) };
 }
 

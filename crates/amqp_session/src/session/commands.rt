@@ -235,6 +235,7 @@ impl Session {
     }
 
     fn close_connection(&mut self, code: ReplyCode, text: ShortString) -> Result<(), NoMemory>
+        requires { self.old.state ≡ ConnectionState.Connected }
         ensures ok { OnOk result (self.new ≡ close_connection code text self.old) }
         ensures err { OnErr result (self.new ≡ self.old) }
     {

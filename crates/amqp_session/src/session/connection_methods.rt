@@ -3,6 +3,7 @@
 ghost use Rattle.std.specs.Prelude.{◌≡◌, IsTrue, IsOk, OnOk, OnErr};
 ghost use Rattle.amqp_session.specs.Talk.{is_open, acts};
 ghost use Rattle.amqp_session.specs.Memory.{MakesNothing};
+ghost use Rattle.amqp_session.specs.Sound.{is_agreed};
 ghost use Rattle.amqp_session.specs.ConnectionMethods.{on_start, on_tune, on_open_ok, on_connection_close, on_connection_close_ok, connection_rule};
 
 use super::Session;
@@ -81,6 +82,7 @@ impl Session {
     }
 
     fn on_open_ok(&mut self)
+        requires { IsTrue (is_agreed self.old.state self.old.phase) }
         ensures { self.new ≡ on_open_ok self.old }
     {
         self.give(0, Answer::Connected);

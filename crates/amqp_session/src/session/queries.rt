@@ -1,11 +1,13 @@
 //! What a session tells of itself.
 
-ghost use Rattle.std.specs.Prelude.{◌≡◌, ◌<◌, ◌≤◌, ◌^◌, length};
+ghost use Rattle.std.specs.Prelude.{◌≡◌, ◌<◌, ◌≤◌, ◌^◌, IsTrue, length};
 ghost use Rattle.amqp_session.specs.Talk.{wants_link, is_asked, is_open, acts, has_ended, end_of, drops_input};
 ghost use Rattle.amqp_session.specs.Changes.{next_promise};
 ghost use Rattle.amqp_session.specs.Negotiation.{frame_limit};
 ghost use Rattle.amqp_session.specs.Writing.{frames_waiting, unsent};
 ghost use Rattle.amqp_session.specs.Answers.{HandsOut};
+ghost use Rattle.amqp_session.specs.Sound.{goes_on, is_agreed};
+ghost use Rattle.amqp_session.specs.Laws.{is_end};
 ghost use Rattle.amqp_session.specs.Queries.{channel_state, confirm, opening};
 
 use super::Session;
@@ -18,14 +20,17 @@ use amqp_types::ChannelId;
 impl Session {
     /// The state of the connection.
     pub fn state(&self) -> ConnectionState
-        ensures { result ≡ self.now.state }
+        ensures state { result ≡ self.now.state }
+        ensures ended { has_ended self.now ≡ is_end result }
+        ensures acting { IsTrue (goes_on result) → IsTrue (acts self.now) }
     {
         self.state
     }
 
     /// The numbers of the connection, 0 where nothing is wished or agreed.
     pub fn configuration(&self) -> Configuration
-        ensures { result ≡ self.now.configuration }
+        ensures numbers { result ≡ self.now.configuration }
+        ensures room { IsTrue (is_agreed self.now.state self.now.phase) → 1 ≤ result.channel_max }
     {
         self.configuration
     }
