@@ -1,5 +1,5 @@
 -- A turn from its step on, out of the contracts of its parts.
-use Rattle.std.proofs.Common.{◌≡◌, ℕ, if◌then◌else◌, Bool, true, false, IsFalse, List, [], ◌++◌, Option, Some, None, refl, ap, sym, ◌∙◌, subst}
+use Rattle.std.proofs.Common.{◌≡◌, ℕ, not, ◌&&◌, if◌then◌else◌, Bool, true, false, IsFalse, List, [], ◌++◌, length, Option, Some, None, refl, ap, sym, ◌∙◌, subst}
 use Rattle.amqp_session.specs.Talk.{Talk, is_asked, is_open, has_ended}
 use Rattle.amqp_session.specs.declared.io_fault.IoFault.TheVariants.{Aborted, Reset}
 use Rattle.amqp_session.specs.Changes.{present_at, starve}
@@ -8,7 +8,7 @@ use Rattle.amqp_engine.specs.declared.port.Step.{Step}
 use Rattle.amqp_engine.specs.declared.port.Step.TheVariants.{Linked, LinkFailed, Piece, End, Fault, Room, Tick, Command}
 use Rattle.amqp_engine.specs.declared.port.Wrote.{Wrote}
 use Rattle.amqp_engine.specs.Log.{Log}
-use Rattle.amqp_engine.specs.Engine.{Engine, step_engine, settle, starve_at, rule_at, can_write}
+use Rattle.amqp_engine.specs.Engine.{Engine, step_piece, step_engine, settle, starve_at, rule_at, front_of, is_more, can_write}
 use Rattle.amqp_engine.specs.Turn.{Progress, begun, goes, reading, is_part, is_piece, step_part, part, read, drain, AreAnswers, IsCut, starved_after}
 use Rattle.amqp_engine.specs.Making.{making, parts_of, Allows, Writes, AppliesCounted}
 use Rattle.amqp_engine.specs.Counts.{Rose}
@@ -17,8 +17,8 @@ use Rattle.amqp_engine.specs.Tell.{TellsOffers, offers_from, turn_of}
 use Rattle.amqp_session.proofs.Cases.{if_case, if-true, if-false}
 use Rattle.amqp_engine.proofs.Cases.{is_before-Allows}
 use Rattle.amqp_engine.proofs.Settling.{settle-starved}
-use Rattle.amqp_session.proofs.Keeping.{starve-twice}
-use Rattle.amqp_engine.proofs.Reading.{reading-cut}
+use Rattle.amqp_session.proofs.Keeping.{present-keeps, starve-twice}
+use Rattle.amqp_engine.proofs.Reading.{reads-rest, reading-cut}
 use Rattle.amqp_engine.proofs.Offers.{writes-none, writes-cut}
 use Rattle.amqp_engine.proofs.Over.{step-ended, over-reads, over-writes}
 use Rattle.amqp_engine.proofs.Telling.{tells-none}
@@ -40,21 +40,31 @@ step-done at cut step bytes e false h allows =
     let p = begun at cut e in
     if-false (is_part step e) (if goes p then part (step_engine at step bytes e) p else p) (making at cut (step_engine at step bytes e) 0) h
 
--- the step, and the frames that are read
-pub read-is : (at : ℕ) (cut : Option ℕ) (ws : List Wrote) (step : Step) (bytes : List ℕ) (piece b : Bool) (e e1 e2 : Engine) (m n : ℕ)
-    → piece ≡ is_piece step → is_part step e ≡ b → m ≡ parts_of b → e1 ≡ step_engine at step bytes e → Allows cut m
-    → reading piece (making at cut e1 m) ≡ making at cut e2 n
-    → read (turn_of at step bytes (record { answers = ws; starved = cut })) e ≡ making at cut e2 n
-read-is at cut ws step bytes piece b e e1 e2 m n hp hb hm h1 allows h2 =
-    let P : ℕ → Type 0 = λ x. Allows cut x in
-    ap (reading (is_piece step)) (step-done at cut step bytes e b hb (subst P hm allows)
-    ∙ ap (λ x. making at cut (step_engine at step bytes e) x) (sym hm) ∙ ap (λ x. making at cut x m) (sym h1))
-    ∙ ap (λ x. reading x (making at cut e1 m)) (sym hp) ∙ h2
+none-read : (at : ℕ) (cut : Option ℕ) (step : Step) (bytes : List ℕ) (e : Engine) (m : ℕ) → IsFalse (is_piece step && is_open e.talk)
+    → reading (is_piece step) (making at cut (step_engine at step bytes e) m) ≡ making at cut (step_engine at step bytes e) m
+none-read at cut (Piece n) bytes e m closed =
+    let x = step_piece at bytes e in
+    let still : is_open x.talk ≡ false =
+    ap (λ (y : Engine). is_open y.talk)
+    (if-false (is_open e.talk) (settle (record e { talk = piece (present_at at e.talk); unread = e.unread ++ bytes })) (rule_at at (λ t. t) e) closed)
+    ∙ present-keeps is_open at e.talk (λ n. refl) ∙ closed in
+    reads-rest (length x.unread) (making at cut x m) (ap (λ (b : Bool). b && not (is_more (front_of x))) still)
+none-read at cut _ bytes e m closed = refl
+
+-- a step that is no piece on the open link, after which no frame is read
+pub step-read : (at : ℕ) (cut : Option ℕ) (step : Step) (bytes : List ℕ) (e e' : Engine) (m : ℕ) → IsFalse (is_piece step && is_open e.talk)
+    → m ≡ parts_of (is_part step e) → e' ≡ step_engine at step bytes e → Allows cut m
+    → reading (is_piece step) (step_part step bytes (begun at cut e)) ≡ making at cut e' m
+step-read at cut step bytes e e' m apart parts same allows =
+    let P : ℕ → Type 0 = λ k. Allows cut k in
+    ap (reading (is_piece step)) (step-done at cut step bytes e (is_part step e) refl (subst P parts allows))
+    ∙ none-read at cut step bytes e (parts_of (is_part step e)) apart
+    ∙ ap (λ k. making at cut (step_engine at step bytes e) k) (sym parts) ∙ ap (λ x. making at cut x m) (sym same)
 
 -- memory was refused at the step itself
-pub read-none : (at : ℕ) (ws : List Wrote) (step : Step) (bytes : List ℕ) (e : Engine) → is_part step e ≡ true
-    → read (turn_of at step bytes (record { answers = ws; starved = Some 0 })) e ≡ making at (Some 0) e 0
-read-none at ws step bytes e h =
+pub step-refused : (at : ℕ) (step : Step) (bytes : List ℕ) (e : Engine) → is_part step e ≡ true
+    → reading (is_piece step) (step_part step bytes (begun at (Some 0) e)) ≡ making at (Some 0) e 0
+step-refused at step bytes e h =
     let p = begun at (Some 0) e in
     let same : step_part step bytes p ≡ p =
     if-true (is_part step e) (if goes p then part (step_engine at step bytes e) p else p) (making at (Some 0) (step_engine at step bytes e) 0) h in
@@ -95,7 +105,7 @@ applies-over at step bytes e e' log log' m n h same told =
     let over : has_ended e'.talk ≡ true = ap (λ (x : Engine). has_ended x.talk) same ∙ step-ended at step bytes e h in
     let none : IsFalse (can_write e') = over-writes e' over in
     applies-of at step bytes e e' log log' m n [] None p p
-    (read-is at None [] step bytes (is_piece step) (is_part step e) e e' e' k k refl refl refl same tt (over-reads (is_piece step) p over))
+    (ap (reading (is_piece step)) (step-done at None step bytes e (is_part step e) refl tt ∙ ap (λ x. making at None x k) (sym same)) ∙ over-reads (is_piece step) p over)
     (writes-none p none) tt (if_case (λ (x : Engine). x ≡ e') (has_ended e.talk) e' e' refl refl) (tells-none log log' told) none-failed
 
 -- and where memory is refused, nothing
@@ -104,7 +114,7 @@ pub refused-over : (at : ℕ) (step : Step) (bytes : List ℕ) (e e' : Engine) (
 refused-over at step bytes e e' log log' m n h is same told =
     let p = making at (Some 0) e 0 in
     applies-of at step bytes e e' log log' m n [] (Some 0) p p
-    (read-none at [] step bytes e is) (writes-cut p refl) refl
+    (step-refused at step bytes e is) (writes-cut p refl) refl
     (if-true (has_ended e.talk) e (starved_after (Some 0) at e) h ∙ sym same) (tells-none log log' told) none-failed
 
 -- a step starves nobody
