@@ -232,7 +232,7 @@ small =
           (told-links step e x.0 x.1 (h.synced running) h.links);
     }
 
-offers-same : (at : ℕ) (ws : List Wrote) (e : Engine) (x : Both)
+pub offers-same : (at : ℕ) (ws : List Wrote) (e : Engine) (x : Both)
     → lifting.offers_on Both asking stepping offering at ws e x ≡ (offers_sending at ws e x.0, log_offers (offers_from at ws e) x.1)
 offers-same at [] e x = refl
 offers-same at (w ∷ ws) e x = offers-same at ws (answered at w e) (offering at w e x)
