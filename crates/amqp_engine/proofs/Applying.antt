@@ -1,5 +1,5 @@
 -- A turn from its step on, out of the contracts of its parts.
-use Rattle.std.proofs.Common.{◌≡◌, ℕ, if◌then◌else◌, Bool, true, false, IsFalse, List, [], ◌++◌, Option, Some, None, refl, ap, sym, ◌∙◌, subst}
+use Rattle.std.proofs.Common.{◌≡◌, ℕ, not, ◌&&◌, if◌then◌else◌, Bool, true, false, IsFalse, List, [], ◌++◌, length, Option, Some, None, refl, ap, sym, ◌∙◌, subst}
 use Rattle.amqp_session.specs.Talk.{Talk, is_asked, is_open, has_ended}
 use Rattle.amqp_session.specs.declared.io_fault.IoFault.TheVariants.{Aborted, Reset}
 use Rattle.amqp_session.specs.Changes.{present_at, starve}
@@ -7,15 +7,15 @@ use Rattle.amqp_session.specs.Links.{linked, link_failed, piece, lost}
 use Rattle.amqp_engine.specs.declared.port.Step.{Step}
 use Rattle.amqp_engine.specs.declared.port.Step.TheVariants.{Linked, LinkFailed, Piece, End, Fault, Room, Tick, Command}
 use Rattle.amqp_engine.specs.Log.{Log}
-use Rattle.amqp_engine.specs.Engine.{Engine, step_engine, settle, starve_at, rule_at, can_write}
-use Rattle.amqp_engine.specs.Turn.{Notes, answers_of, Progress, begun, goes, reading, is_part, is_piece, step_part, part, read, drain, AreAnswers, IsCut, starved_after}
+use Rattle.amqp_engine.specs.Engine.{Engine, step_piece, step_engine, settle, starve_at, rule_at, front_of, is_more, can_write}
+use Rattle.amqp_engine.specs.Turn.{answers_of, Progress, begun, goes, reading, is_part, is_piece, step_part, part, read, drain, AreAnswers, IsCut, starved_after}
 use Rattle.amqp_engine.specs.Making.{making, parts_of, Allows, Writes, AppliesCounted}
 use Rattle.amqp_engine.specs.Tell.{TellsOffers, offers_from, turn_of}
 use Rattle.amqp_session.proofs.Cases.{if_case, if-true, if-false}
 use Rattle.amqp_engine.proofs.Cases.{is_before-Allows}
 use Rattle.amqp_engine.proofs.Settling.{settle-starved}
-use Rattle.amqp_session.proofs.Keeping.{starve-twice}
-use Rattle.amqp_engine.proofs.Reading.{reading-cut}
+use Rattle.amqp_session.proofs.Keeping.{present-keeps, starve-twice}
+use Rattle.amqp_engine.proofs.Reading.{reads-rest, reading-cut}
 use Rattle.amqp_engine.proofs.Offers.{writes-none, writes-cut}
 use Rattle.amqp_engine.proofs.Over.{step-ended, over-reads, over-writes}
 
@@ -36,35 +36,44 @@ step-done at cut step bytes e false h allows =
     let p = begun at cut e in
     if-false (is_part step e) (if goes p then part (step_engine at step bytes e) p else p) (making at cut (step_engine at step bytes e) 0) h
 
--- the step, and the frames that are read
-pub read-is : (at : ℕ) (cut : Option ℕ) (step : Step) (bytes : List ℕ) (piece b : Bool) (e e1 e2 : Engine) (m n : ℕ)
-    → piece ≡ is_piece step → is_part step e ≡ b → m ≡ parts_of b → e1 ≡ step_engine at step bytes e → Allows cut m
-    → reading piece (making at cut e1 m) ≡ making at cut e2 n
-    → (notes : Notes) → notes.starved ≡ cut → read (turn_of at step bytes notes) e ≡ making at cut e2 n
-read-is at cut step bytes piece b e e1 e2 m n hp hb hm h1 allows h2 notes same =
-    let P : ℕ → Type 0 = λ x. Allows cut x in
-    ap (λ (c : Option ℕ). reading (is_piece step) (step_part step bytes (begun at c e))) same
-    ∙ ap (reading (is_piece step)) (step-done at cut step bytes e b hb (subst P hm allows)
-    ∙ ap (λ x. making at cut (step_engine at step bytes e) x) (sym hm) ∙ ap (λ x. making at cut x m) (sym h1))
-    ∙ ap (λ x. reading x (making at cut e1 m)) (sym hp) ∙ h2
+none-read : (at : ℕ) (cut : Option ℕ) (step : Step) (bytes : List ℕ) (e : Engine) (m : ℕ) → IsFalse (is_piece step && is_open e.talk)
+    → reading (is_piece step) (making at cut (step_engine at step bytes e) m) ≡ making at cut (step_engine at step bytes e) m
+none-read at cut (Piece n) bytes e m closed =
+    let x = step_piece at bytes e in
+    let still : is_open x.talk ≡ false =
+    ap (λ (y : Engine). is_open y.talk)
+    (if-false (is_open e.talk) (settle (record e { talk = piece (present_at at e.talk); unread = e.unread ++ bytes })) (rule_at at (λ t. t) e) closed)
+    ∙ present-keeps is_open at e.talk (λ n. refl) ∙ closed in
+    reads-rest (length x.unread) (making at cut x m) (ap (λ (b : Bool). b && not (is_more (front_of x))) still)
+none-read at cut _ bytes e m closed = refl
+
+-- a step that is no piece on the open link, after which no frame is read
+pub step-read : (at : ℕ) (cut : Option ℕ) (step : Step) (bytes : List ℕ) (e e' : Engine) (m : ℕ) → IsFalse (is_piece step && is_open e.talk)
+    → m ≡ parts_of (is_part step e) → e' ≡ step_engine at step bytes e → Allows cut m
+    → reading (is_piece step) (step_part step bytes (begun at cut e)) ≡ making at cut e' m
+step-read at cut step bytes e e' m apart parts same allows =
+    let P : ℕ → Type 0 = λ k. Allows cut k in
+    ap (reading (is_piece step)) (step-done at cut step bytes e (is_part step e) refl (subst P parts allows))
+    ∙ none-read at cut step bytes e (parts_of (is_part step e)) apart
+    ∙ ap (λ k. making at cut (step_engine at step bytes e) k) (sym parts) ∙ ap (λ x. making at cut x m) (sym same)
 
 -- memory was refused at the step itself
-pub read-none : (at : ℕ) (step : Step) (bytes : List ℕ) (e : Engine) → is_part step e ≡ true
-    → (notes : Notes) → notes.starved ≡ Some 0 → read (turn_of at step bytes notes) e ≡ making at (Some 0) e 0
-read-none at step bytes e h notes same =
+pub step-refused : (at : ℕ) (step : Step) (bytes : List ℕ) (e : Engine) → is_part step e ≡ true
+    → reading (is_piece step) (step_part step bytes (begun at (Some 0) e)) ≡ making at (Some 0) e 0
+step-refused at step bytes e h =
     let p = begun at (Some 0) e in
-    let stays : step_part step bytes p ≡ p =
+    let same : step_part step bytes p ≡ p =
     if-true (is_part step e) (if goes p then part (step_engine at step bytes e) p else p) (making at (Some 0) (step_engine at step bytes e) 0) h in
-    ap (λ (c : Option ℕ). reading (is_piece step) (step_part step bytes (begun at c e))) same
-    ∙ ap (reading (is_piece step)) stays ∙ reading-cut (is_piece step) p refl
+    ap (reading (is_piece step)) same ∙ reading-cut (is_piece step) p refl
 
 -- a turn from what was read and what was written
 pub applies-of : (at : ℕ) (step : Step) (bytes : List ℕ) (e e' : Engine) (log log' : Option Log) (m n : ℕ) (p p' : Progress)
-    → ((notes : Notes) → notes.starved ≡ p.cut → read (turn_of at step bytes notes) e ≡ p)
+    → reading (is_piece step) (step_part step bytes (begun at p.cut e)) ≡ p
     → Writes p p' log log' m n → IsCut p.cut p'.done → (if has_ended e.talk then p'.engine else starved_after p.cut at p'.engine) ≡ e'
     → AppliesCounted at step bytes e e' log log' m n
 applies-of at step bytes e e' log log' m n p p' reads w cut after =
-    let here = reads w.notes w.cut in
+    let here : read (turn_of at step bytes w.notes) e ≡ p =
+    ap (λ (c : Option ℕ). reading (is_piece step) (step_part step bytes (begun at c e))) w.cut ∙ reads in
     let ws = answers_of w.notes in
     let leads : drain ws (read (turn_of at step bytes w.notes) e) ≡ p' = ap (drain ws) here ∙ w.leaves in
     let P : Progress → Type 0 = λ x. AreAnswers ws x in
@@ -92,7 +101,7 @@ applies-over at step bytes e e' log log' m n h same told =
     let over : has_ended e'.talk ≡ true = ap (λ (x : Engine). has_ended x.talk) same ∙ step-ended at step bytes e h in
     let none : IsFalse (can_write e') = over-writes e' over in
     applies-of at step bytes e e' log log' m n p p
-    (read-is at None step bytes (is_piece step) (is_part step e) e e' e' k k refl refl refl same tt (over-reads (is_piece step) p over))
+    (ap (reading (is_piece step)) (step-done at None step bytes e (is_part step e) refl tt ∙ ap (λ x. making at None x k) (sym same)) ∙ over-reads (is_piece step) p over)
     (writes-none p log log' m n none told) tt (if_case (λ (x : Engine). x ≡ e') (has_ended e.talk) e' e' refl refl)
 
 -- and where memory is refused, nothing
@@ -101,7 +110,7 @@ pub refused-over : (at : ℕ) (step : Step) (bytes : List ℕ) (e e' : Engine) (
 refused-over at step bytes e e' log log' m n h is same told =
     let p = making at (Some 0) e 0 in
     applies-of at step bytes e e' log log' m n p p
-    (read-none at step bytes e is) (writes-cut p log log' m n refl told) refl
+    (step-refused at step bytes e is) (writes-cut p log log' m n refl told) refl
     (if-true (has_ended e.talk) e (starved_after (Some 0) at e) h ∙ sym same)
 
 -- a step starves nobody

@@ -1,5 +1,5 @@
 -- Small facts by cases.
-use Rattle.std.proofs.Common.{◌≡◌, ◌≤◌, ◌<◌, ℕ, ◌+◌, Bool, true, false, not, ◌&&◌, ◌||◌, IsTrue, IsFalse, nat_lt, Option, Some, None, is_some, Result, Ok, Err, is_err, OnOk, refl, arith, rules}
+use Rattle.std.proofs.Common.{◌≡◌, ◌≤◌, ◌<◌, ℕ, ◌+◌, Bool, true, false, not, ◌&&◌, ◌||◌, IsTrue, IsFalse, nat_lt, Option, Some, None, is_some, refl, arith, rules}
 use Rattle.std.proofs.lemmas.Bool.Decides.{nat_tests}
 use Rattle.amqp_engine.specs.Counts.{Rose}
 use Rattle.amqp_engine.specs.Turn.{is_before}
@@ -50,9 +50,9 @@ pub some-unsent : (b : Bool) (n : ℕ) → IsTrue (b && nat_lt 0 n) → 0 < n
 some-unsent true n h = grind (arith, nat_tests)
 some-unsent false n h = cc
 
-pub ok-given : {A E : Type 0} (r : Result A E) (P : Type 0) → is_err r ≡ false → OnOk r P → P
-ok-given (Ok x) P h k = k
-ok-given (Err e) P h k = cc
+pub true-from : (b : Bool) → (b ≡ false → ⊥) → b ≡ true
+true-from true h = refl
+true-from false h = absurd (h refl)
 
 pub from-not-false : (b : Bool) → not b ≡ false → b ≡ true
 from-not-false true h = refl

@@ -1,18 +1,19 @@
 -- What a run goes on with: the links are in order, and the port tells of them.
-use Rattle.std.proofs.Common.{◌≡◌, ℕ, false, List, [], Option, Some, None, IfSome, is_some, inl, refl, sym, subst}
+use Rattle.std.proofs.Common.{◌≡◌, ◌∙◌, ℕ, false, List, [], Option, Some, None, IfSome, is_some, inl, refl, ap, sym, subst}
 use Rattle.std.specs.Prelude.{option_map}
 use Rattle.amqp_session.specs.declared.command.Cmd.{Cmd}
-use Rattle.amqp_session.specs.Talk.{Talk, start}
+use Rattle.amqp_session.specs.Talk.{Talk, start, has_ended}
 use Rattle.amqp_session.specs.Commands.{command}
 use Rattle.amqp_session.specs.Answers.{answer_of, take_answer, take_frames}
 use Rattle.amqp_session.specs.Listed.{without}
 use Rattle.amqp_session.proofs.Keeping.{stays-command}
-use Rattle.amqp_engine.specs.Log.{Log}
+use Rattle.amqp_engine.specs.declared.port.Step.{Step}
+use Rattle.amqp_engine.specs.Log.{Log, log_step}
 use Rattle.amqp_engine.specs.Engine.{Engine, begin, with_talk}
-use Rattle.amqp_engine.specs.Turn.{Turn, answers_of, read, turns, applied, AreTurns}
-use Rattle.amqp_engine.specs.Tell.{Runs, log_turns}
+use Rattle.amqp_engine.specs.Turn.{Turn, answers_of, read, turns, applied, AreTurns, IsApplied, IsTold}
+use Rattle.amqp_engine.specs.Tell.{Runs, Applies, turn_of, offers_of, log_offers, log_turns}
 use Rattle.amqp_engine.specs.Sending.{Sending, step_sending, sendings_from}
-use Rattle.amqp_engine.specs.Saying.{HasSent, new, asked, applies, told, answer_taken, frames_taken, TellsLinks, GoesOn, SpellLegal}
+use Rattle.amqp_engine.specs.Saying.{HasSent, new, asked, applies, told, answer_taken, frames_taken, applied_sending, TellsLinks, GoesOn, GoesOnce, SpellLegal}
 use Rattle.amqp_session.proofs.Cases.{if_case}
 use Rattle.amqp_engine.proofs.LinkKept.{Leaves, kept-open}
 use Rattle.amqp_engine.proofs.Sends as sending
@@ -83,6 +84,38 @@ runs-on allowed e e' log log' ss r h =
       order = (sends-said e' now sent).all;
       legal = sent_legal e' now sent;
       tells = tells-on log log' r.us e e' ss r.tells.told r.leads.may r.leads.leaves (sends-said e ss h);
+    }
+
+-- ---- the rest of a turn
+
+told-applied : (u : Turn) (e : Engine) (ss : List Sending) (a : Log) → has_ended e.talk ≡ false → IsApplied u e → Sends e ss → TellsLinks e ss a
+    → TellsLinks (applied u e) (applied_sending u e ss) (log_offers (offers_of u e) (log_step u.at u.step u.bytes a))
+told-applied u e ss a running may sends tells =
+    let P : Both → Type 0 = λ x. Told (applied u e) x in
+    let k = subst P (telling.offers-same (answers_of u.notes) (read u e) (telling.stepping u.at u.step u.bytes e (ss, a)))
+    (lifting.lift-applied Both telling.asking telling.stepping telling.offering Told (λ b. Told) Told
+    (lifting.simply Both telling.asking telling.stepping telling.offering Told telling.small) u e (ss, a) running may
+    (record { sends = sends; synced = tells.asked; links = tells.links })) in
+    record { links = k.links; asked = k.synced }
+
+-- it goes on with what was sent
+pub applies-on : (at : ℕ) (step : Step) (bytes : List ℕ) (e e' : Engine) (log log' : Option Log) (ss : List Sending) → Applies at step bytes e e' log log'
+    → IsTold step → has_ended e.talk ≡ false → HasSent e ss → GoesOnce at step bytes ss e e' log log'
+applies-on at step bytes e e' log log' ss f may running h =
+    let u = turn_of at step bytes f.notes in
+    let now : List Sending = applied_sending u e ss in
+    let Q : Engine → Type 0 = λ x. HasSent x now in
+    let sent : HasSent e' now = subst Q f.leaves (applies u running f.may may h) in
+    record {
+      applies = f;
+      sent = sent;
+      order = (sends-said e' now sent).all;
+      legal = sent_legal e' now sent;
+      tells = λ a is before.
+          (let after : log' ≡ Some (log_offers (offers_of u e) (log_step at step bytes a)) = f.tells.told ∙ ap (option_map (log_offers (offers_of u e))) is in
+          let T : Option Log → Type 0 = λ o. IfSome o (λ b. TellsLinks e' now b) in
+          let R : Engine → Type 0 = λ x. TellsLinks x now (log_offers (offers_of u e) (log_step at step bytes a)) in
+          subst T (sym after) (subst R f.leaves (told-applied u e ss a running f.may (sends-said e ss h) before)));
     }
 
 -- what is told of the links of an engine that was new, over a port that had none

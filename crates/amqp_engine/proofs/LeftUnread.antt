@@ -30,7 +30,7 @@ use Rattle.amqp_engine.specs.Unread.{IsRead}
 use Rattle.amqp_session.proofs.Cases.{if_case, if_by}
 use Rattle.amqp_session.proofs.Keeping.{present-keeps, stays-command, taken-keeps, taken-link, lost-stays, starve-ends}
 use Rattle.amqp_engine.proofs.Commits.{commits-keep}
-use Rattle.amqp_engine.proofs.Reading.{front-none}
+use Rattle.amqp_engine.proofs.Fronts.{front-none}
 use Rattle.amqp_engine.proofs.Over.{ended-closed, applied-ended}
 use Rattle.amqp_engine.proofs.Lifting as lifting
 

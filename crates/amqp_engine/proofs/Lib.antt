@@ -4,10 +4,13 @@
 pub mod Cases
 pub mod Bytes
 pub mod Pieces
--- What settling leaves, what committing a frame does, and that reading goes on to the end.
+-- What settling leaves, what committing a frame does, what is said of the front of octets, that reading goes on to the end, and that a piece is read
+-- part by part as at once.
 pub mod Settling
 pub mod Commits
+pub mod Fronts
 pub mod Reading
+pub mod Joining
 -- What a turn does to a session that had ended: `apply: over`.
 pub mod Over
 -- The lemma that lifts what each small step keeps to a turn and to turns.

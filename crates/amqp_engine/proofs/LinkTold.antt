@@ -246,7 +246,7 @@ small =
           (told-links step e x.0 x.1 (h.synced running) h.links);
     }
 
-offers-same : (ws : List Wrote) (p : Progress) (x : Both)
+pub offers-same : (ws : List Wrote) (p : Progress) (x : Both)
     → lifting.offers_on Both asking stepping offering ws p x ≡ (offers_sending ws p x.0, log_offers (offers_from ws p) x.1)
 offers-same [] p x = refl
 offers-same (w ∷ ws) p x = offers-same ws (offer_part w p) (offering w p x)

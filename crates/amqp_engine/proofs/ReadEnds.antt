@@ -1,11 +1,7 @@
 -- How reading may end a session.
-use Rattle.std.proofs.Common.{◌≡◌, ◌⊎◌, inl, inr, ℕ, zero, suc, ◌+◌, ◌==◌, ◌&&◌, not, nat_lt, Bool, true, false, if◌then◌else◌, IsTrue, List, [], ◌∷◌, drop, Option, Some, None, Err, refl, ap, sym, ◌∙◌, subst}
-use Rattle.std.specs.Option.{option_map_or}
-use Rattle.std.specs.Int.{w16, w32}
-use Rattle.amqp_types.specs.Reading.{octet_at, octets_at, number_at, ◌⊗◌}
-use Rattle.amqp_frame.specs.FrameReading.{front, header, version, expect, framed, sized, ended, content, is_type_octet}
+use Rattle.std.proofs.Common.{◌≡◌, ◌⊎◌, inl, inr, ℕ, zero, suc, ◌+◌, ◌&&◌, Bool, true, false, IsTrue, drop, Some, Err, refl, ap, sym, ◌∙◌, subst}
 use Rattle.amqp_frame.specs.declared.frame.Frame.{Frame}
-use Rattle.amqp_frame.specs.declared.frame.Frame.TheVariants.{ProtocolHeader, Method, Heartbeat}
+use Rattle.amqp_frame.specs.declared.frame.Frame.TheVariants.{ProtocolHeader, Method}
 use Rattle.amqp_frame.specs.declared.frame.Read.{Read}
 use Rattle.amqp_frame.specs.declared.frame.Read.TheVariants as reading
 use Rattle.amqp_frame.specs.declared.method.Method.{Method as AnyMethod}
@@ -28,77 +24,9 @@ use Rattle.amqp_engine.specs.Causes.{IsReadError}
 use Rattle.amqp_session.proofs.Cases.{if_case, if_by, if-true, if-false}
 use Rattle.amqp_engine.proofs.Cases.{and-left, and-right}
 use Rattle.amqp_session.proofs.Ends.{Ends, ends-kept, ends-to, ends-as, ends-then, ends-present}
+use Rattle.amqp_engine.proofs.Fronts.{is_memory, says-front}
 use Rattle.amqp_engine.proofs.Settling.{settle-talk}
 use Rattle.amqp_session.proofs.FrameEnds.{ends-frame, ends-misread}
-
--- ---- a frame is looked for in bytes, and needs no memory
-
-abbrev is_memory : Read → Bool
-is_memory reading.NoMemory = true
-is_memory _ = false
-
-abbrev NeedsNone : Read → Type 0
-NeedsNone r = is_memory r ≡ false
-
-ended-none : (type channel size : ℕ) (payload : List ℕ) → NeedsNone (ended type channel size payload)
-unfolding ended
-ended-none type channel size payload =
-    if_case NeedsNone (type == 8) (if channel == 0 then reading.Whole Heartbeat 8 else reading.BadHeartbeat channel)
-    (option_map_or (λ frame. reading.Whole frame (size + 8)) (content type channel payload) reading.Bad)
-    (if_case NeedsNone (channel == 0) (reading.Whole Heartbeat 8) (reading.BadHeartbeat channel) refl refl) (of (content type channel payload))
-  where
-    of : (o : Option Frame) → NeedsNone (option_map_or (λ frame. reading.Whole frame (size + 8)) o reading.Bad)
-    of None = refl
-    of (Some f) = refl
-
-sized-some : (type channel size : ℕ) (o : Option ((List ℕ × ℕ) × List ℕ))
-    → NeedsNone (option_map_or (λ p. if p.0.1 == 206 then ended type channel size p.0.0 else reading.Bad) o reading.More)
-sized-some type channel size None = refl
-sized-some type channel size (Some p) =
-    if_case NeedsNone (p.0.1 == 206) (ended type channel size p.0.0) reading.Bad (ended-none type channel size p.0.0) refl
-
-sized-row : (a b : Bool) (size : ℕ) (r : Read) → NeedsNone r → NeedsNone (if a then reading.TooLarge size else if b then reading.Bad else r)
-sized-row true b size r h = refl
-sized-row false true size r h = refl
-sized-row false false size r h = h
-
-sized-none : (type limit channel size : ℕ) (bytes : List ℕ) → NeedsNone (sized type limit channel size bytes)
-unfolding sized
-sized-none type limit channel size bytes =
-    sized-row (nat_lt limit (size + 8)) ((type == 8) && not (size == 0)) size _ (sized-some type channel size ((octets_at size ⊗ octet_at) bytes))
-
-framed-some : (type limit : ℕ) (o : Option ((ℕ × ℕ) × List ℕ)) → NeedsNone (option_map_or (λ p. sized type limit p.0.0 p.0.1 p.1) o reading.More)
-framed-some type limit None = refl
-framed-some type limit (Some p) = sized-none type limit p.0.0 p.0.1 p.1
-
-framed-none : (type limit : ℕ) (bytes : List ℕ) → NeedsNone (framed type limit bytes)
-unfolding framed
-framed-none type limit bytes = framed-some type limit ((number_at w16 ⊗ number_at w32) bytes)
-
-version-some : (o : Option ((ℕ × (ℕ × (ℕ × ℕ))) × List ℕ))
-    → NeedsNone (option_map_or (λ p. reading.Whole (ProtocolHeader (record { major = p.0.1.0; minor = p.0.1.1.0; revision = p.0.1.1.1 })) 8) o reading.More)
-version-some None = refl
-version-some (Some p) = refl
-
-version-none : (bytes : List ℕ) → NeedsNone (version bytes)
-unfolding version
-version-none bytes = version-some ((octet_at ⊗ octet_at ⊗ octet_at ⊗ octet_at) bytes)
-
-expect-none : (octet : ℕ) (next : List ℕ → Read) (bytes : List ℕ) → ((rest : List ℕ) → NeedsNone (next rest)) → NeedsNone (expect octet next bytes)
-expect-none octet next [] h = refl
-expect-none octet next (o ∷ rest) h = if_case NeedsNone (o == octet) (next rest) reading.Bad (h rest) refl
-
-header-none : (bytes : List ℕ) → NeedsNone (header bytes)
-unfolding header
-header-none bytes =
-    expect-none 77 (expect 81 (expect 80 version)) bytes (λ a. expect-none 81 (expect 80 version) a (λ b. expect-none 80 version b version-none))
-
-front-none : (bytes : List ℕ) (limit : ℕ) → NeedsNone (front bytes limit)
-unfolding front
-front-none [] limit = refl
-front-none (o ∷ rest) limit =
-    if_case NeedsNone (o == 65) (header rest) (if is_type_octet o then framed o limit rest else reading.Bad) (header-none rest)
-    (if_case NeedsNone (is_type_octet o) (framed o limit rest) reading.Bad (framed-none o limit rest) refl)
 
 -- ---- the errors of a frame
 
@@ -163,7 +91,7 @@ ends-badly at r w x p =
     ends-settled P x.talk (rule_at at (misread w) x)
     (ends-present P at x.talk (misread w (present_at at x.talk)) (ends-misread P w (present_at at x.talk) p))
 
-ends-read-row : (at : ℕ) (r : Read) (x : Engine) → NeedsNone r → Ends (λ k. IsReadError k r x) x.talk (read_row at r x).talk
+ends-read-row : (at : ℕ) (r : Read) (x : Engine) → is_memory r ≡ false → Ends (λ k. IsReadError k r x) x.talk (read_row at r x).talk
 ends-read-row at (reading.Whole f n) x none =
     let P : ErrorKind → Type 0 = λ k. IsReadError k (reading.Whole f n) x in
     let now : Engine = rule_at at (λ t. t) x in
@@ -177,7 +105,7 @@ ends-read-row at reading.Bad x none = ends-badly at reading.Bad (why.Bad x.place
 ends-read-row at reading.NoMemory x none = cc
 
 pub ends-read-one : (at : ℕ) (x : Engine) → Ends (λ k. IsReadError k (front_of x) x) x.talk (read_one at x).talk
-ends-read-one at x = ends-read-row at (front_of x) x (front-none x.unread (frame_limit x.talk))
+ends-read-one at x = ends-read-row at (front_of x) x ((says-front (frame_limit x.talk)).held x.unread)
 
 -- the reading from here on comes to what brings this error
 pub record Comes (p : Progress) (k : ErrorKind) : Type 0 where

@@ -1,7 +1,8 @@
 -- A turn in the making, as the code counts its parts.
-use Rattle.std.specs.Prelude.{◌≡◌, ◌≤◌, ◌<◌, ◌+◌, ◌*◌, ◌^◌, ℕ, if◌then◌else◌, Bool, true, false, List, Option, Some, None}
+use Rattle.std.specs.Prelude.{◌≡◌, ◌≤◌, ◌<◌, ◌^◌, not, ◌&&◌, ℕ, if◌then◌else◌, Bool, true, false, List, [], ◌++◌, Option, Some, None}
 use Rattle.amqp_frame.specs.declared.frame.Read.{Read}
 use Rattle.amqp_frame.specs.declared.frame.Read.TheVariants.{Whole}
+use Rattle.amqp_session.specs.Talk.{Talk, is_open, drops_input}
 use Rattle.amqp_engine.specs.declared.port.Step.{Step}
 use Rattle.amqp_engine.specs.declared.port.Step.TheVariants.{Command}
 use Rattle.amqp_engine.specs.declared.port.Happening.{Happening}
@@ -33,12 +34,24 @@ is_whole _ = false
 
 -- few enough parts to be counted with one more offer for each frame that waits
 abbrev pub FewParts : ℕ → Type 0
-FewParts n = 2 * n < 2 ^ 63 + 4
+FewParts n = n < 2 ^ 63
 
 -- a cut that comes after so many parts, or later, or never
 abbrev pub Allows : Option ℕ → ℕ → Type 0
 Allows None n = Unit {0}
 Allows (Some j) n = n ≤ j
+
+-- what is received is kept to be read
+abbrev pub keeps_unread : Talk → Bool
+keeps_unread t = is_open t && not (drops_input t)
+
+-- nothing is unread where nothing is kept
+abbrev pub IsSettled : Engine → Type 0
+IsSettled e = keeps_unread e.talk ≡ false → e.unread ≡ []
+
+-- the engine when the rest of a piece has joined the unread bytes, where they are kept
+abbrev pub joined : List ℕ → Engine → Engine
+joined rest e = if keeps_unread e.talk then record e { unread = e.unread ++ rest } else e
 
 -- the writes that are due, with what is noted of them, lead from here to there and are told; and where one of them
 -- failed, the port's count of faults rose

@@ -1,5 +1,5 @@
 -- What an engine has said on its links since it was new.
-use Rattle.std.specs.Prelude.{◌≡◌, ℕ, false, List, [], ◌∷◌, map, Option, IfSome}
+use Rattle.std.specs.Prelude.{◌≡◌, ℕ, false, List, [], ◌∷◌, map, Option, Some, IfSome}
 use Rattle.std.specs.List.{AllByRecursion}
 use Rattle.amqp_session.specs.declared.command.Cmd.{Cmd}
 use Rattle.amqp_session.specs.Talk.{start, is_asked, has_ended}
@@ -7,10 +7,12 @@ use Rattle.amqp_session.specs.Commands.{command}
 use Rattle.amqp_session.specs.Answers.{take_answer, take_frames}
 use Rattle.amqp_session.specs.Legal.{Legal}
 use Rattle.amqp_engine.specs.declared.given.Given.{Given}
+use Rattle.amqp_engine.specs.declared.port.Step.{Step}
 use Rattle.amqp_engine.specs.Plan.{step_of}
-use Rattle.amqp_engine.specs.Log.{Log}
+use Rattle.amqp_engine.specs.Log.{Log, log_step}
 use Rattle.amqp_engine.specs.Engine.{Engine, begin, with_talk}
 use Rattle.amqp_engine.specs.Turn.{Turn, answers_of, IsToldCommand, IsTold, asks, read, applied, IsApplied, Leads}
+use Rattle.amqp_engine.specs.Tell.{Applies, turn_of}
 use Rattle.amqp_engine.specs.Sending.{Sending, frames_sent, link_bytes, step_sending, offers_sending, sendings_from, SendsInOrder}
 
 -- what was sent, once a turn was taken from its step on
@@ -61,3 +63,15 @@ pub record GoesOn (ss : List Sending) (e e' : Engine) (log log' : Option Log) : 
   pub order : AllByRecursion SendsInOrder (sendings_from us e ss)
   pub legal : AllByRecursion (λ (s : Sending). Legal (frames_sent s)) (sendings_from us e ss)
   pub tells : IfSome log (λ a. TellsLinks e ss a → IfSome log' (λ b. TellsLinks e' (sendings_from us e ss) b))
+
+-- an engine that had sent so much took the rest of a turn of this step, with what it sends besides: it is in order and
+-- legal on each link; and a port that told of its links before the step, and then the step, tells of them after
+pub record GoesOnce (at : ℕ) (step : Step) (bytes : List ℕ) (ss : List Sending) (e e' : Engine) (log log' : Option Log)
+    : Type 0 where
+  pub applies : Applies at step bytes e e' log log'
+  pub sent : HasSent e' (applied_sending (turn_of at step bytes applies.notes) e ss)
+  pub order : AllByRecursion SendsInOrder (applied_sending (turn_of at step bytes applies.notes) e ss)
+  pub legal : AllByRecursion (λ (s : Sending). Legal (frames_sent s))
+      (applied_sending (turn_of at step bytes applies.notes) e ss)
+  pub tells : (a : Log) → log ≡ Some (log_step at step bytes a) → TellsLinks e ss a
+      → IfSome log' (λ b. TellsLinks e' (applied_sending (turn_of at step bytes applies.notes) e ss) b)

@@ -1,6 +1,7 @@
 //! The bytes between a session and its link.
 
-ghost use Rattle.std.specs.Prelude.{◌≡◌, ◌≤◌, ◌++◌, [], length, drop, IfOk, OnOk, OnErr};
+ghost use Rattle.std.specs.Prelude.{◌≡◌, ◌≤◌, ◌-◌, ◌++◌, [], length, take, drop, min, IfOk};
+ghost use Rattle.amqp_session.specs.declared.capacity.TheConstants.{INITIAL_CAPACITY};
 
 use amqp_frame::{Room, View};
 use amqp_session::INITIAL_CAPACITY;
@@ -8,7 +9,7 @@ use amqp_types::NoMemory;
 use std::alloc::Global;
 use std::marker::Model;
 
-/// Bytes that come in at one end and go out at the other.
+/// Bytes that come in at one end and go out at the other, as many at once as the capacity.
 ///
 /// What went out stays in front of what is kept until it is as long as that. So a byte is moved
 /// for each byte that goes out at most, and a buffer of twice the capacity has room for it.
@@ -20,14 +21,15 @@ pub struct Buffer {
 }
 
 impl Model for Buffer {
-    ghost use Rattle.std.specs.Prelude.{ℕ, List, ◌≤◌, ◌*◌, drop, vec_len, vec_capacity};
+    ghost use Rattle.std.specs.Prelude.{ℕ, List, ◌≤◌, ◌+◌, ◌*◌, drop, vec_len, vec_capacity};
     ghost use Rattle.amqp_session.specs.declared.capacity.TheConstants.{INITIAL_CAPACITY};
 
     ghost Value = { List ℕ };
 
     ghost view = { λ b. drop b.start b.bytes.items };
 
-    ghost invariant = { λ b. (2 * b.start ≤ vec_len b.bytes) × (2 * INITIAL_CAPACITY ≤ vec_capacity b.bytes) };
+    ghost invariant = { λ b. (2 * b.start ≤ vec_len b.bytes) × (vec_len b.bytes ≤ b.start + INITIAL_CAPACITY)
+        × (2 * INITIAL_CAPACITY ≤ vec_capacity b.bytes) };
 }
 
 impl Buffer {
@@ -48,13 +50,16 @@ impl Buffer {
         &self.bytes[self.start..]
     }
 
-    /// Bytes come in, however many.
-    pub fn append(&mut self, bytes: &[u8]) -> Result<(), NoMemory>
-        ensures ok { OnOk result (self.new ≡ self.old ++ bytes.now) }
-        ensures err { OnErr result (self.new ≡ self.old) }
+    /// As many of these bytes as there is room for come in. Says how many.
+    pub fn fill(&mut self, bytes: &[u8]) -> usize
+        ensures bytes { self.new ≡ self.old ++ take result bytes.now }
+        ensures count { result ≡ min (length bytes.now) (INITIAL_CAPACITY - length self.old) }
+        ensures within { length self.new ≤ INITIAL_CAPACITY }
     {
-        self.bytes.extend_from_slice(bytes)?;
-        Ok(())
+        let kept = self.bytes.len() - self.start;
+        let count = bytes.len().min(INITIAL_CAPACITY as usize - kept);
+        self.put(&bytes[..count]);
+        count
     }
 
     /// The first bytes go out.

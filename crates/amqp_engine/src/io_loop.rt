@@ -12,12 +12,12 @@ ghost use Rattle.amqp_engine.specs.Turn.{asks};
 ghost use Rattle.amqp_engine.specs.Tell.{Applies, TakesTurn, Runs, log_asks};
 ghost use Rattle.amqp_engine.specs.Unread.{IsRead};
 ghost use Rattle.amqp_engine.specs.Sending.{Sending};
-ghost use Rattle.amqp_engine.specs.Saying.{HasSent, GoesOn};
+ghost use Rattle.amqp_engine.specs.Saying.{HasSent, GoesOn, GoesOnce};
 ghost use Rattle.amqp_engine.specs.Causes.{Brings, BringsOne, brought, fault_of, is_counted};
 ghost use Rattle.amqp_engine.specs.Counts.{Rose};
 ghost use Rattle.amqp_engine.specs.Play.{IsPlayed};
 
-use crate::port::{Port, Told};
+use crate::port::{Port, Told, hold};
 use crate::wire::Wire;
 use amqp_session::{Answer, Cmd, ErrorKind, Handed, IoFault, Result, Session};
 use amqp_types::NoMemory;
@@ -148,6 +148,8 @@ impl IoLoop {
         ensures ended { OnErr result (IsTrue (has_ended self.new.talk)) }
         ensures over { OnErr result (has_ended self.old.talk ≡ true → self.new ≡ self.old) }
         ensures only { IfErr result (λ e. e ≡ ErrorKind.NoMemory) }
+        ensures legal { (ss : List Sending) → has_ended self.old.talk ≡ false → HasSent self.old ss
+            → GoesOnce told.at told.step bytes.now ss self.old self.new (P.log port.old) (P.log port.new) }
         ensures read { IsRead self.new }
         ensures faults { P.faults port.old ≤ P.faults port.new }
         ensures cause { (k : ErrorKind) → has_ended self.old.talk ≡ false → end_of self.new.talk ≡ Some (Err k)
@@ -157,17 +159,20 @@ impl IoLoop {
             → (brought told.step self.old.talk ≡ Some fault)
             ⊎ ((fault ≡ IoFault.BrokenPipe) × Rose (P.faults port.old) (P.faults port.new)) }
     {
+        told.step.hold();
         Ok(self.wire.apply(told, bytes, port)?)
     }
 
     /// Tells the session to do something, and gives the number of the promise that will be
-    /// answered.
+    /// answered. Nothing is sent by a command alone.
     pub fn command(&mut self, command: Cmd) -> Result<Option<u64>>
         ensures ok { OnOk result (self.new ≡ with_talk (command_rule command) self.old) }
         ensures number { IfOk result (λ number. number ≡ Some (next_promise self.old.talk)) }
         ensures err { OnErr result (self.new ≡ self.old) }
         ensures only { IfErr result (λ e. e ≡ ErrorKind.NoMemory) }
+        ensures legal { (ss : List Sending) → HasSent self.old ss → HasSent self.new ss }
     {
+        hold(&command);
         self.wire.command(command)
     }
 

@@ -3,6 +3,7 @@
 ghost use Rattle.std.specs.Prelude.{◌≡◌, ◌≤◌, ◌<◌, ◌++◌, ℕ, List, Option, Some, IfOk, IfSome, OnOk, OnErr, length, slice_get, option_map};
 ghost use Rattle.amqp_engine.specs.Counts.{Rose, HasCause};
 ghost use Rattle.amqp_engine.specs.Plan.{ArePieces};
+ghost use Rattle.amqp_engine.specs.Turn.{IsToldCommand};
 ghost use Rattle.amqp_engine.specs.Log.{Log, loaded, log_ask, log_step, log_write, piece_len, piece_bytes, IsPiece, IsWithin, PlansStep, PlansWrite};
 
 use crate::given::Given;
@@ -64,13 +65,12 @@ impl Step {
         matches!(self, Step::LinkFailed | Step::Fault)
     }
 
-    // The numbers and lengths of a command are those that its types can hold. It is called for
-    // this clause alone.
+    // What a command carries is what its types can hold. It is called for this clause alone.
     pub(crate) fn hold(&self)
         ensures { IsTold self.now }
     {
-        if let Step::Command(Cmd::Send(_, method)) = self {
-            let _held = (method.class_id(), method.method_id(), method.args().len());
+        if let Step::Command(command) = self {
+            hold(command);
         }
     }
 
@@ -81,6 +81,15 @@ impl Step {
             Step::Piece(n) => *n,
             _ => 0,
         }
+    }
+}
+
+// The same of a command that is told between turns.
+pub(crate) fn hold(command: &Cmd)
+    ensures { IsToldCommand command.now }
+{
+    if let Cmd::Send(_, method) = command {
+        let _held = (method.class_id(), method.method_id(), method.args().len());
     }
 }
 

@@ -148,17 +148,13 @@ impl Wire {
         ensures faults { P.faults port.old ≤ P.faults port.new }
     {
         let Told { at, step } = told;
-        let piece = step.is_piece();
         if self.session.has_ended() {
             // What has ended reads and writes nothing, and is not starved.
-            self.take_step(at, step, bytes)?;
+            self.take_step(at, step)?;
             return Ok(());
         }
-        let Ok(mut parts) = self.take_step(at, step, bytes) else {
-            self.cut(at, 0);
-            return Err(NoMemory);
-        };
-        if let Err(refused) = self.read_all(at, piece, &mut parts) {
+        let mut parts = 0;
+        if let Err(refused) = self.read_step(at, step, bytes, &mut parts) {
             self.cut(at, parts);
             return Err(refused);
         }

@@ -1,13 +1,14 @@
 //! The rule of a step, and the reading of frames.
 
-ghost use Rattle.std.specs.Prelude.{◌≡◌, ◌≢◌, ◌≤◌, not, ◌<◌, ◌+◌, ◌*◌, ℕ, Option, Some, true, false, if◌then◌else◌, IfOk, OnOk, OnErr, IsTrue, length};
+ghost use Rattle.std.specs.Prelude.{◌≡◌, ◌≢◌, ◌≤◌, not, ◌&&◌, ◌<◌, ◌+◌, ◌*◌, ◌^◌, ℕ, List, Option, Some, true, false, if◌then◌else◌, IfOk, OnOk, OnErr, IsTrue, IsFalse, length, take};
 ghost use Rattle.amqp_session.specs.Talk.{is_open, is_asked};
 ghost use Rattle.amqp_session.specs.Changes.{starve};
 ghost use Rattle.amqp_session.specs.Links.{link_failed, lost};
 ghost use Rattle.amqp_session.specs.Commands.{command as command_rule};
-ghost use Rattle.amqp_engine.specs.Engine.{Engine, rule_at, step_linked, step_piece, step_engine, can_read, read_one, settle, read_badly, read_row, is_more};
-ghost use Rattle.amqp_engine.specs.Turn.{is_part, reading};
-ghost use Rattle.amqp_engine.specs.Making.{making, parts_of, is_command, is_whole, FewParts, Allows};
+ghost use Rattle.amqp_session.specs.declared.capacity.TheConstants.{INITIAL_CAPACITY};
+ghost use Rattle.amqp_engine.specs.Engine.{Engine, rule_at, step_linked, step_piece, step_engine, can_read, read_one, settle, read_badly, read_row, is_more, starve_at};
+ghost use Rattle.amqp_engine.specs.Turn.{begun, is_part, is_piece, step_part, reading};
+ghost use Rattle.amqp_engine.specs.Making.{making, parts_of, is_command, is_whole, keeps_unread, IsSettled, joined, FewParts, Allows};
 ghost use Rattle.amqp_frame.specs.declared.frame.Read.TheVariants as reads;
 
 use super::Wire;
@@ -17,10 +18,38 @@ use amqp_session::{Cmd, IoFault, Misread};
 use amqp_types::NoMemory;
 
 impl Wire {
-    // The rule of a step. Says how many parts of the turn it is, one or none. Where memory is
-    // refused, the session has ended, and nothing else is done.
-    pub(super) fn take_step(&mut self, at: u64, step: Step, bytes: &[u8]) -> Result<u64, NoMemory>
-        ensures ok { OnOk result (self.new ≡ step_engine at step bytes.now self.old) }
+    // The step of a turn, with the frames of its piece. Counts the parts.
+    pub(super) fn read_step(
+        &mut self,
+        at: u64,
+        step: Step,
+        bytes: &[u8],
+        parts: &mut u64,
+    ) -> Result<(), NoMemory>
+        requires { parts.old ≡ 0 }
+        ensures ok { OnOk result ((cut : Option ℕ) → Allows cut parts.new
+            → reading (is_piece step) (step_part step bytes.now (begun at cut self.old))
+            ≡ making at cut self.new parts.new) }
+        ensures err { OnErr result ((e : Engine) × (starve_at at parts.new self.new ≡ starve_at at parts.new e)
+            × (reading (is_piece step) (step_part step bytes.now (begun at (Some parts.new) self.old))
+            ≡ making at (Some parts.new) e parts.new)) }
+        ensures bound { FewParts parts.new }
+        ensures starved { self.new.starved ≡ self.old.starved }
+    {
+        if step.is_piece() && self.session.is_open() {
+            drop(step);
+            return self.read_piece(at, bytes, parts);
+        }
+        *parts = self.take_step(at, step)?;
+        Ok(())
+    }
+
+    // The rule of a step, whatever its bytes are, but a piece on the open link. Says how many parts
+    // of the turn it is, one or none. Where memory is refused, the session has ended, and nothing
+    // else is done.
+    pub(super) fn take_step(&mut self, at: u64, step: Step) -> Result<u64, NoMemory>
+        requires { IsFalse (is_piece step && is_open self.old.talk) }
+        ensures ok { OnOk result ((bytes : List ℕ) → self.new ≡ step_engine at step bytes self.old) }
         ensures parts { IfOk result (λ n. n ≡ parts_of (is_part step self.old)) }
         ensures err { OnErr result (self.new ≡ rule_at at starve self.old) }
         ensures refused { OnErr result (is_part step self.old ≡ true) }
@@ -28,7 +57,7 @@ impl Wire {
         match step {
             Step::Command(command) => self.take_command(at, command),
             other => {
-                let parts = self.take_event(at, &other, bytes);
+                let parts = self.take_event(at, &other);
                 drop(other);
                 parts
             }
@@ -36,9 +65,10 @@ impl Wire {
     }
 
     // The rule of a step that is no command.
-    fn take_event(&mut self, at: u64, step: &Step, bytes: &[u8]) -> Result<u64, NoMemory>
-        requires { is_command step.now ≡ false }
-        ensures ok { OnOk result (self.new ≡ step_engine at step.now bytes.now self.old) }
+    fn take_event(&mut self, at: u64, step: &Step) -> Result<u64, NoMemory>
+        requires event { is_command step.now ≡ false }
+        requires apart { IsFalse (is_piece step.now && is_open self.old.talk) }
+        ensures ok { OnOk result ((bytes : List ℕ) → self.new ≡ step_engine at step.now bytes self.old) }
         ensures parts { IfOk result (λ n. n ≡ parts_of (is_part step.now self.old)) }
         ensures err { OnErr result (self.new ≡ rule_at at starve self.old) }
         ensures refused { OnErr result (is_part step.now self.old ≡ true) }
@@ -46,10 +76,9 @@ impl Wire {
         match step {
             Step::Linked => self.take_link(at),
             Step::LinkFailed => Ok(self.take_refusal(at)),
-            Step::Piece(_) => self.take_piece(at, bytes),
             Step::End => Ok(self.take_loss(at, IoFault::Aborted)),
             Step::Fault => Ok(self.take_loss(at, IoFault::Reset)),
-            Step::Room => {
+            Step::Piece(_) | Step::Room => {
                 self.session.advance(at);
                 Ok(0)
             }
@@ -77,25 +106,6 @@ impl Wire {
         self.unread.clear();
         self.place = 0;
         self.unsent.clear();
-        Ok(1)
-    }
-
-    fn take_piece(&mut self, at: u64, bytes: &[u8]) -> Result<u64, NoMemory>
-        ensures ok { OnOk result (self.new ≡ step_piece at bytes.now self.old) }
-        ensures parts { IfOk result (λ n. n ≡ parts_of (is_open self.old.talk)) }
-        ensures err { OnErr result (self.new ≡ rule_at at starve self.old) }
-        ensures refused { OnErr result (is_open self.old.talk ≡ true) }
-    {
-        if !self.session.is_open() {
-            self.session.advance(at);
-            return Ok(0);
-        }
-        if self.unread.append(bytes).is_err() {
-            self.session.starve(at);
-            return Err(NoMemory);
-        }
-        self.session.piece(at);
-        self.settle();
         Ok(1)
     }
 
@@ -134,26 +144,71 @@ impl Wire {
         Ok(1)
     }
 
-    // Reads frames while there is one, where a piece came, and counts them as parts.
-    pub(super) fn read_all(&mut self, at: u64, piece: bool, parts: &mut u64) -> Result<(), NoMemory>
-        requires { parts.old ≤ 1 }
+    // A piece is read on the open link. As many of its bytes as there is room for join the unread
+    // ones, and the frames that then stand whole are read, and so on with the bytes that are left.
+    // Where what is received is no longer kept, they go.
+    fn read_piece(&mut self, at: u64, piece: &[u8], parts: &mut u64) -> Result<(), NoMemory>
+        requires { IsTrue (is_open self.old.talk) }
         ensures ok { OnOk result ((cut : Option ℕ) → Allows cut parts.new
-            → reading piece (making at cut self.old parts.old) ≡ making at cut self.new parts.new) }
-        ensures err { OnErr result ((e : Engine) × (self.new ≡ rule_at at starve e)
-            × (reading piece (making at (Some parts.new) self.old parts.old)
+            → reading true (making at cut (step_piece at piece.now self.old) 1) ≡ making at cut self.new parts.new) }
+        ensures err { OnErr result ((e : Engine) × (starve_at at parts.new self.new ≡ starve_at at parts.new e)
+            × (reading true (making at (Some parts.new) (step_piece at piece.now self.old) 1)
             ≡ making at (Some parts.new) e parts.new)) }
+        ensures some { 1 ≤ parts.new }
         ensures bound { FewParts parts.new }
+        ensures starved { self.new.starved ≡ self.old.starved }
+    {
+        self.session.piece(at);
+        self.settle();
+        *parts = 1;
+        // So few bytes are unread that the frames can be counted.
+        let _unread = self.unread.as_slice().len();
+        let mut joined = 0;
+        'parts: loop {
+            joined += self.join(&piece[joined..]);
+            self.read_all(at, parts)?;
+            if joined == piece.len() {
+                return Ok(());
+            }
+        }
+    }
+
+    // As many of these bytes as there is room for join the unread ones, where they are kept; else
+    // all go. Says how many.
+    fn join(&mut self, bytes: &[u8]) -> usize
+        requires { IsSettled self.old }
+        ensures within { result ≤ length bytes.now }
+        ensures engine { self.new ≡ joined (take result bytes.now) self.old }
+        ensures over { keeps_unread self.old.talk ≡ false → result ≡ length bytes.now }
+        ensures some { can_read self.old ≡ false → 1 ≤ length bytes.now → 1 ≤ result }
+        ensures small { length self.new.unread ≤ INITIAL_CAPACITY }
+    {
+        if !self.session.is_open() || self.session.drops_input() {
+            return bytes.len();
+        }
+        self.unread.fill(bytes)
+    }
+
+    // Reads frames while there is one, and counts them as parts. It is the same whatever is still to
+    // join the unread bytes.
+    fn read_all(&mut self, at: u64, parts: &mut u64) -> Result<(), NoMemory>
+        requires settled { IsSettled self.old }
+        requires few { parts.old + length self.old.unread < 2 ^ 63 }
+        ensures ok { OnOk result ((rest : List ℕ) (cut : Option ℕ) → Allows cut parts.new
+            → reading true (making at cut (joined rest self.old) parts.old)
+            ≡ reading true (making at cut (joined rest self.new) parts.new)) }
+        ensures done { OnOk result (can_read self.new ≡ false) }
+        ensures settled { OnOk result (IsSettled self.new) }
+        ensures err { OnErr result ((e : Engine) × (self.new ≡ rule_at at starve e) × ((rest : List ℕ)
+            → reading true (making at (Some parts.new) (joined rest self.old) parts.old)
+            ≡ making at (Some parts.new) (joined rest e) parts.new)) }
+        ensures size { OnOk result (keeps_unread self.new.talk ≡ true
+            → 8 * parts.new + length self.new.unread ≤ 8 * parts.old + length self.old.unread) }
+        ensures bound { 8 * parts.new ≤ 8 * parts.old + length self.old.unread + 8 }
         ensures grows { parts.old ≤ parts.new }
         ensures starved { self.new.starved ≡ self.old.starved }
     {
-        if !piece {
-            return Ok(());
-        }
-        let most = self.unread.as_slice().len();
-        'frames: for _ in 0..most {
-            if !self.read_next(at)? {
-                return Ok(());
-            }
+        'frames: while self.read_next(at)? {
             *parts += 1;
         }
         Ok(())

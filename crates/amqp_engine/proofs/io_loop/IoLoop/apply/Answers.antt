@@ -1,13 +1,15 @@
-use Rattle.std.proofs.Common.{◌≡◌, ◌⊎◌, ◌∙◌, Some, ap, subst}
+use Rattle.std.proofs.Common.{◌≡◌, ◌⊎◌, ◌∙◌, false, Some, ap, subst}
 use Rattle.amqp_session.specs.declared.io_fault.IoFault.TheVariants.{BrokenPipe}
 use Rattle.amqp_session.specs.Talk.{has_ended}
 use Rattle.amqp_engine.specs.Engine.{Engine}
 use Rattle.amqp_engine.specs.Tell.{Applies}
+use Rattle.amqp_engine.specs.Saying.{HasSent, GoesOnce}
 use Rattle.amqp_engine.specs.Causes.{BringsOne, brought}
 use Rattle.amqp_engine.specs.Counts.{Rose}
 use Rattle.amqp_engine.proofs.LeftUnread.{Applies-read}
 use Rattle.amqp_engine.proofs.TurnEnds.{applied-cause}
 use Rattle.amqp_engine.proofs.Faults.{applied-fault}
+use Rattle.amqp_engine.proofs.GoingOn.{applies-on}
 use Rattle.amqp_engine.proofs.io_loop.IoLoop.apply.Goals as goal
 
 pub invariant_of-self-2 : goal.invariant_of-self-2
@@ -53,3 +55,13 @@ pub returns-in_err-apply-clause-turn : goal.returns-in_err-apply-clause-turn
 returns-in_err-apply-clause-turn g c =
     let P : Engine → Type 0 = λ x. Applies c.args.told.at c.args.told.step c.args.bytes.now x c.apply.new.self (g.P.Port.log c.args.port.now) (g.P.Port.log c.apply.new.port) in
     subst P c.self.view_is c.apply.ensures.turn.applies
+
+pub returns-clause-legal : goal.returns-clause-legal
+returns-clause-legal g c ss running h =
+    let P : Engine → Type 0 = λ x. has_ended x.talk ≡ false → HasSent x ss → GoesOnce c.args.told.at c.args.told.step c.args.bytes.now ss x c.apply.new.self (g.P.Port.log c.args.port.now) (g.P.Port.log c.apply.new.port) in
+    subst P c.self.view_is (applies-on _ _ _ _ _ _ _ ss c.apply.ensures.turn.applies c.hold.ensures) running h
+
+pub returns-in_err-apply-clause-legal : goal.returns-in_err-apply-clause-legal
+returns-in_err-apply-clause-legal g c ss running h =
+    let P : Engine → Type 0 = λ x. has_ended x.talk ≡ false → HasSent x ss → GoesOnce c.args.told.at c.args.told.step c.args.bytes.now ss x c.apply.new.self (g.P.Port.log c.args.port.now) (g.P.Port.log c.apply.new.port) in
+    subst P c.self.view_is (applies-on _ _ _ _ _ _ _ ss c.apply.ensures.turn.applies c.hold.ensures) running h

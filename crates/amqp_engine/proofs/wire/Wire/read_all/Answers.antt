@@ -1,58 +1,52 @@
-use Rattle.std.proofs.Common.{◌≡◌, ◌∙◌, ◌+◌, ◌-◌, ◌≤◌, suc, length, Bool, true, false, if◌then◌else◌, Some, ap, sym, arith, rules}
+use Rattle.std.proofs.Common.{◌≡◌, ◌∙◌, ◌+◌, ℕ, List, Bool, true, if◌then◌else◌, Some, ap, sym, subst, arith, rules}
 use Rattle.amqp_session.specs.Changes.{starve}
 use Rattle.amqp_engine.specs.Engine.{Engine, can_read, read_one, rule_at}
-use Rattle.amqp_engine.specs.Turn.{Progress, reads, reading}
-use Rattle.amqp_engine.specs.Making.{making}
+use Rattle.amqp_engine.specs.Turn.{reading}
+use Rattle.amqp_engine.specs.Making.{making, IsSettled, joined}
 use Rattle.amqp_engine.proofs.Cases.{is_before-cut, Allows-less}
-use Rattle.amqp_engine.proofs.Reading.{worth, reads-rest, reads-cut, reads-more, read_one-worth, read_one-starved}
+use Rattle.amqp_engine.proofs.Reading.{read_one-shortens, read_one-starved, reading-cut}
+use Rattle.amqp_engine.proofs.Joining.{reading-more, read-kept}
 use Rattle.amqp_engine.proofs.wire.Wire.read_all.Goals as goal
-
-read_if : (piece : Bool) (p : Progress) → piece ≡ true → reading piece p ≡ reads (length p.engine.unread) p
-read_if piece p h = ap (λ (b : Bool). if b then reads (length p.engine.unread) p else p) h
 
 pub frames-preserved : goal.frames-preserved
 frames-preserved c =
     let e = c.frames.self in
-    let m = length c.as_slice-most.result.now - (c.frames.counter + 1) in
-    let left : length c.as_slice-most.result.now - c.frames.counter ≡ suc m = omega arith in
-    let can : can_read e ≡ true = sym c.in_ok-read_next.ensures.some ∙ c.if-not-branch.false in
-    let after : c.read_next.new.self ≡ read_one c.args.at e =
-    c.in_ok-read_next.ensures.ok ∙ ap (λ (b : Bool). if b then read_one c.args.at e else e) c.if-not-branch.false in
-    let less : worth c.read_next.new.self + 2 ≤ worth e = rw after (read_one-worth c.args.at e can) in
+    let at = c.args.at in
+    let parts = c.frames.parts in
+    let can : can_read e ≡ true = sym c.in_ok-read_next.ensures.some ∙ c.if-branch.true in
+    let after : c.read_next.new.self ≡ read_one at e =
+    c.in_ok-read_next.ensures.ok ∙ ap (λ (b : Bool). if b then read_one at e else e) c.if-branch.true in
+    let short = read_one-shortens at e can in
+    let kept = c.frames.invariant.size (read-kept e c.frames.invariant.settled can) in
     record {
-      goes_on = λ cut allows.
-          c.frames.invariant.goes_on cut (Allows-less cut c.frames.parts (c.frames.parts + 1) (omega arith) allows)
-          ∙ ap (λ k. reads k (making c.args.at cut e c.frames.parts)) left
-          ∙ reads-more m c.args.at cut e c.frames.parts can allows
-          ∙ ap (λ x. reads m (making c.args.at cut x (c.frames.parts + 1))) (sym after);
-      worth = omega (arith, less, c.frames.invariant.worth);
-      most = c.frames.invariant.most;
+      goes_on = λ rest cut allows.
+          c.frames.invariant.goes_on rest cut (Allows-less cut parts (parts + 1) (omega arith) allows)
+          ∙ reading-more at cut rest e parts c.frames.invariant.settled can allows
+          ∙ ap (λ (x : Engine). reading true (making at cut (joined rest x) (parts + 1))) (sym after);
+      settled = subst IsSettled (sym after) short.settled;
+      size = rw after (λ keeps. omega (arith, short.eight keeps, kept));
+      bound = omega (arith, kept);
       grows = omega (arith, c.frames.invariant.grows);
-      starved = ap (λ (x : Engine). x.starved) after ∙ read_one-starved c.args.at e ∙ c.frames.invariant.starved;
+      starved = ap (λ (x : Engine). x.starved) after ∙ read_one-starved at e ∙ c.frames.invariant.starved;
     }
 
-pub returns-then-not-branch-clause-ok : goal.returns-then-not-branch-clause-ok
-returns-then-not-branch-clause-ok c cut allows =
+pub frames-smaller : goal.frames-smaller
+frames-smaller c =
     let e = c.frames.self in
-    let can : can_read e ≡ false = sym c.in_ok-read_next.ensures.some ∙ c.if-not-branch.true in
-    let after : c.read_next.new.self ≡ e =
-    c.in_ok-read_next.ensures.ok ∙ ap (λ (b : Bool). if b then read_one c.args.at e else e) c.if-not-branch.true in
-    read_if c.args.piece (making c.args.at cut c.args.self.now c.args.parts.now) c.if-not-piece.false
-    ∙ c.frames.invariant.goes_on cut allows
-    ∙ reads-rest (length c.as_slice-most.result.now - c.frames.counter) (making c.args.at cut e c.frames.parts) can
-    ∙ ap (λ x. making c.args.at cut x c.frames.parts) (sym after)
+    let can : can_read e ≡ true = sym c.in_ok-read_next.ensures.some ∙ c.if-branch.true in
+    let after : c.read_next.new.self ≡ read_one c.args.at e =
+    c.in_ok-read_next.ensures.ok ∙ ap (λ (b : Bool). if b then read_one c.args.at e else e) c.if-branch.true in
+    rw after (read_one-shortens c.args.at e can).less
 
 pub returns-in_err-read_next-clause-err : goal.returns-in_err-read_next-clause-err
 returns-in_err-read_next-clause-err c =
     let e = c.frames.self in
-    let left = length c.as_slice-most.result.now - c.frames.counter in
-    let fact : (x : Engine) × (c.read_next.new.self ≡ rule_at c.args.at starve x)
-    × (reading c.args.piece (making c.args.at (Some c.frames.parts) c.args.self.now c.args.parts.now)
-    ≡ making c.args.at (Some c.frames.parts) x c.frames.parts) = (
+    let at = c.args.at in
+    let parts = c.frames.parts in
+    let fact : (x : Engine) × (c.read_next.new.self ≡ rule_at at starve x) × ((rest : List ℕ)
+    → reading true (making at (Some parts) (joined rest c.args.self.now) c.args.parts.now) ≡ making at (Some parts) (joined rest x) parts) = (
       e,
       c.in_err-read_next.ensures.err,
-      read_if c.args.piece (making c.args.at (Some c.frames.parts) c.args.self.now c.args.parts.now) c.if-not-piece.false
-          ∙ c.frames.invariant.goes_on (Some c.frames.parts) (omega arith)
-          ∙ reads-cut left (making c.args.at (Some c.frames.parts) e c.frames.parts) (is_before-cut c.frames.parts),
+      λ rest. c.frames.invariant.goes_on rest (Some parts) (omega arith) ∙ reading-cut true (making at (Some parts) (joined rest e) parts) (is_before-cut parts),
     ) in
     search (rules, fact)
