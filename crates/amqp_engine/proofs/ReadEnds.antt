@@ -19,7 +19,7 @@ use Rattle.amqp_session.specs.Frames.{frame_rule, on_frame}
 use Rattle.amqp_engine.specs.Plan.{at_most_64}
 use Rattle.amqp_engine.specs.Engine.{Engine, settle, front_of, can_read, read_row, read_badly, read_one, rule_at}
 use Rattle.amqp_engine.specs.Turn.{Progress, goes, reads, read_part}
-use Rattle.amqp_session.specs.Causes.{IsFrameError, IsHeededError, IsUnawaited, IsUndue, is_awaited, is_heeded}
+use Rattle.amqp_session.specs.Causes.{IsFrameError, IsJudgedError, IsUnawaited, IsUndue, is_awaited, is_judged}
 use Rattle.amqp_engine.specs.Causes.{IsReadError}
 use Rattle.amqp_session.proofs.Cases.{if_case, if_by, if-true, if-false}
 use Rattle.amqp_engine.proofs.Cases.{and-left, and-right}
@@ -52,15 +52,15 @@ moment-unawaited : (n : ℕ) (e : ErrorKind) (f : Frame) (t : Talk) → IsUnawai
 moment-unawaited n e (Method (suc c) m) t h = (h.0, h.1, sym (moment-awaited m (suc c) n t) ∙ h.2, h.3)
 moment-unawaited n e _ t h = h
 
-moment-heeded : (n : ℕ) (f : Frame) (t : Talk) → is_heeded f (record t { present = n }) ≡ is_heeded f t
-moment-heeded n (Method c m) t = refl
-moment-heeded n _ t = refl
+moment-judged : (n : ℕ) (f : Frame) (t : Talk) → is_judged f (record t { present = n }) ≡ is_judged f t
+moment-judged n (Method c m) t = refl
+moment-judged n _ t = refl
 
 moment-undue : (n : ℕ) (f : Frame) (t : Talk) → IsUndue f (record t { present = n }) → IsUndue f t
 moment-undue n (Method zero m) t h = h
 moment-undue n _ t h = h
 
-moment-rule : (n : ℕ) (k : ErrorKind) (f : Frame) (t : Talk) → IsHeededError k f (record t { present = n }) → IsHeededError k f t
+moment-rule : (n : ℕ) (k : ErrorKind) (f : Frame) (t : Talk) → IsJudgedError k f (record t { present = n }) → IsJudgedError k f t
 moment-rule n (InvalidConnectionState state) f t h = (moment-undue n f t h.0, h.1)
 moment-rule n (InvalidChannel channel) f t h = h
 moment-rule n (ProtocolError e) f t h = elim h [ inl p ↦ inl p | inr p ↦ inr (moment-unawaited n (ProtocolError e) f t p) ]
@@ -69,7 +69,7 @@ moment-rule n _ f t h = h
 moment-frame : (n : ℕ) (k : ErrorKind) (f : Frame) (place : ℕ) (t : Talk) → IsFrameError k f place (record t { present = n }) → IsFrameError k f place t
 moment-frame n (InvalidProtocolVersion version) (ProtocolHeader v) place t h = h
 moment-frame n (Unbuilt built_at) (Method channel m) place t h = h
-moment-frame n k f place t h = (sym (moment-heeded n f t) ∙ h.0, moment-rule n k f t h.1)
+moment-frame n k f place t h = (sym (moment-judged n f t) ∙ h.0, moment-rule n k f t h.1)
 
 moment-error : (n : ℕ) (k : ErrorKind) (r : Read) (x : Engine) → IsReadError k r (record x { talk = record x.talk { present = n } }) → IsReadError k r x
 moment-error n k (reading.Whole f size) x h = (h.0, moment-frame n k f x.place x.talk h.1)

@@ -105,26 +105,26 @@ ends-raw P (Some c) n kind bytes t p = ends-pass P n c kind bytes t
 abbrev pub FrameError : Frame → ℕ → Talk → ErrorKind → Type 0
 FrameError f place t k = IsFrameError k f place t
 
--- a method is heeded where a rule takes it, but after our close
-heeded : (m : AnyMethod) (t : Talk) → is_closing t.state ≡ false → is_unbuilt m ≡ false → (not (is_closing t.state) && not (is_unbuilt m)) ≡ true
-heeded m t going built = and-true (not (is_closing t.state)) (not (is_unbuilt m)) (ap not going) (ap not built)
+-- a method that a rule takes is judged, but after our close
+judged : (m : AnyMethod) (t : Talk) → is_closing t.state ≡ false → is_unbuilt m ≡ false → (not (is_closing t.state) && not (is_unbuilt m)) ≡ true
+judged m t going built = and-true (not (is_closing t.state)) (not (is_unbuilt m)) (ap not going) (ap not built)
 
 ends-method : (n : ℕ) (m : AnyMethod) (place : ℕ) (t : Talk) → is_unbuilt m ≡ false → Ends (FrameError (Method n m) place t) t (method_rule n m t)
 ends-method zero m place t built =
     let P : ErrorKind → Type 0 = FrameError (Method zero m) place t in
     if_by (Ends P t) (is_of_a_channel m) (misplaced (stray_channel_frame RawMethod) t) (connection_rule t.state t.phase m t)
-    (λ h. ends-misplaced P (stray_channel_frame RawMethod) t (λ going. (heeded m t going built, inl (h, refl))))
-    (λ h. ends-connection P t.state t.phase m t (λ going undue. (heeded m t going built, ((h, undue), refl))))
+    (λ h. ends-misplaced P (stray_channel_frame RawMethod) t (λ going. (judged m t going built, inl (h, refl))))
+    (λ h. ends-connection P t.state t.phase m t (λ going undue. (judged m t going built, ((h, undue), refl))))
 ends-method (suc n) m place t built =
     let P : ErrorKind → Type 0 = FrameError (Method (suc n) m) place t in
     let o : Option Channel = channel_at (suc n) t in
     if_by (Ends P t) (is_of_a_channel m) (channel_method (suc n) m t) (misplaced (stray_connection_method (suc n)) t)
     (λ h. ends-channel-by P (heard_on t.state o) (suc n) m t
-    (λ none going. (heeded m t going built, ((refl, h), none-heard t.state o none)))
+    (λ none going. (judged m t going built, ((refl, h), none-heard t.state o none)))
     (λ c some going free kept.
     let heard = some-heard t.state o c some in
-    (heeded m t going built, inr (h, (heard.0, (c, heard.1, kept)), free, refl))))
-    (λ h. ends-misplaced P (stray_connection_method (suc n)) t (λ going. (heeded m t going built, inl (h, refl))))
+    (judged m t going built, inr (h, (heard.0, (c, heard.1, kept)), free, refl))))
+    (λ h. ends-misplaced P (stray_connection_method (suc n)) t (λ going. (judged m t going built, inl (h, refl))))
 
 ends-rule : (f : Frame) (place : ℕ) (t : Talk) → Ends (FrameError f place t) t (frame_rule f place t)
 ends-rule (ProtocolHeader version) place t = ends-lose (FrameError (ProtocolHeader version) place t) (InvalidProtocolVersion version) t t refl

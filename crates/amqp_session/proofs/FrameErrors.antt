@@ -28,7 +28,7 @@ use Rattle.amqp_session.specs.Channels.{channel_at}
 use Rattle.amqp_session.specs.ChannelMethods.{heard_on, unawaited_channel_method, channel_opened, channel_closed, channel_rule, channel_method_by, channel_method, raw_by, raw_frame}
 use Rattle.amqp_session.specs.Replies.{first_awaited}
 use Rattle.amqp_session.specs.Frames.{is_unbuilt, is_of_a_channel, method_rule, frame_rule, on_frame}
-use Rattle.amqp_session.specs.Causes.{IsFrameError, IsHeededError, IsMisplaced, IsUnawaited, IsOfChannel, IsUndue, IsUnheard, IsKept, is_awaited, is_due, is_heeded}
+use Rattle.amqp_session.specs.Causes.{IsFrameError, IsJudgedError, IsMisplaced, IsUnawaited, IsOfChannel, IsUndue, IsUnheard, IsKept, is_awaited, is_due, is_judged}
 use Rattle.amqp_session.proofs.Cases.{if-true, if-false}
 use Rattle.amqp_session.proofs.Truths.{and-left}
 use Rattle.amqp_session.proofs.FrameEnds.{ends-frame}
@@ -134,7 +134,7 @@ misplaced-method (suc n) m place e t on built h =
     ∙ ap (λ (k : ErrorKind). Some (Err k)) (sym h.1)
 
 -- the same, where the frame is any
-misplaced-brings : (f : Frame) (place : ℕ) (e : ErrorKind) (t : Talk) → is_heeded f t ≡ true → IsMisplaced e f → end_of (frame_rule f place t) ≡ Some (Err e)
+misplaced-brings : (f : Frame) (place : ℕ) (e : ErrorKind) (t : Talk) → is_judged f t ≡ true → IsMisplaced e f → end_of (frame_rule f place t) ≡ Some (Err e)
 misplaced-brings (Method n m) place e t on h =
     let free = going-on (is_closing t.state) (is_unbuilt m) on in
     misplaced-method n m place e t free.0 free.1 h
@@ -142,19 +142,19 @@ misplaced-brings (Raw zero kind bytes) place e t on h =
     misplaced-ends (stray_channel_frame kind) t (going (is_closing t.state) on) ∙ ap (λ (k : ErrorKind). Some (Err k)) (sym h)
 misplaced-brings _ place e t on h = absurd h
 
-unawaited-brings : (f : Frame) (place : ℕ) (e : ErrorKind) (t : Talk) → is_heeded f t ≡ true → IsUnawaited e f t → end_of (frame_rule f place t) ≡ Some (Err e)
+unawaited-brings : (f : Frame) (place : ℕ) (e : ErrorKind) (t : Talk) → is_judged f t ≡ true → IsUnawaited e f t → end_of (frame_rule f place t) ≡ Some (Err e)
 unawaited-brings (Method (suc n) m) place e t on h =
     let free = going-on (is_closing t.state) (is_unbuilt m) on in
     unawaited-method n m place t free.0 free.1 h.0 h.1 h.2 ∙ ap (λ (k : ErrorKind). Some (Err k)) (sym h.3)
 unawaited-brings _ place e t on h = absurd h
 
-undue-brings : (f : Frame) (place : ℕ) (t : Talk) → is_heeded f t ≡ true → IsUndue f t → end_of (frame_rule f place t) ≡ Some (Err (InvalidConnectionState t.state))
+undue-brings : (f : Frame) (place : ℕ) (t : Talk) → is_judged f t ≡ true → IsUndue f t → end_of (frame_rule f place t) ≡ Some (Err (InvalidConnectionState t.state))
 undue-brings (Method zero m) place t on h =
     let free = going-on (is_closing t.state) (is_unbuilt m) on in
     undue-method m place t free.0 free.1 h.0 h.1
 undue-brings _ place t on h = absurd h
 
-unheard-brings : (n : ℕ) (f : Frame) (place : ℕ) (t : Talk) → is_heeded f t ≡ true → IsOfChannel n f → IsUnheard n t → end_of (frame_rule f place t) ≡ Some (Err (InvalidChannel n))
+unheard-brings : (n : ℕ) (f : Frame) (place : ℕ) (t : Talk) → is_judged f t ≡ true → IsOfChannel n f → IsUnheard n t → end_of (frame_rule f place t) ≡ Some (Err (InvalidChannel n))
 unheard-brings (suc n) (Method zero m) place t on of none = cc
 unheard-brings (suc n) (Method (suc c) m) place t on of none =
     let free = going-on (is_closing t.state) (is_unbuilt m) on in
@@ -165,18 +165,18 @@ unheard-brings (suc n) (Raw (suc c) kind bytes) place t on of none =
     unheard-raw c kind bytes t (going (is_closing t.state) on) (subst (λ (x : ℕ). IsUnheard x t) (sym of) none) ∙ ap (λ (x : ℕ). Some (Err (InvalidChannel x))) of
 unheard-brings _ f place t on of none = absurd of
 
-heeded-brings : (k : ErrorKind) (f : Frame) (place : ℕ) (t : Talk) → is_heeded f t ≡ true → IsHeededError k f t → end_of (frame_rule f place t) ≡ Some (Err k)
-heeded-brings (InvalidConnectionState s) f place t on h = undue-brings f place t on h.0 ∙ ap (λ (x : ConnectionState). Some (Err (InvalidConnectionState x))) h.1
-heeded-brings (InvalidChannel n) f place t on h = unheard-brings n f place t on h.0 h.1
-heeded-brings (ProtocolError e) f place t on h =
+judged-brings : (k : ErrorKind) (f : Frame) (place : ℕ) (t : Talk) → is_judged f t ≡ true → IsJudgedError k f t → end_of (frame_rule f place t) ≡ Some (Err k)
+judged-brings (InvalidConnectionState s) f place t on h = undue-brings f place t on h.0 ∙ ap (λ (x : ConnectionState). Some (Err (InvalidConnectionState x))) h.1
+judged-brings (InvalidChannel n) f place t on h = unheard-brings n f place t on h.0 h.1
+judged-brings (ProtocolError e) f place t on h =
     elim h [ inl m ↦ misplaced-brings f place (ProtocolError e) t on m | inr u ↦ unawaited-brings f place (ProtocolError e) t on u ]
-heeded-brings _ f place t on h = absurd h
+judged-brings _ f place t on h = absurd h
 
 rule-brings : (k : ErrorKind) (f : Frame) (place : ℕ) (t : Talk) → IsFrameError k f place t → end_of (frame_rule f place t) ≡ Some (Err k)
 rule-brings (InvalidProtocolVersion version) (ProtocolHeader v) place t h = ap (λ (x : ProtocolVersion). Some (Err (InvalidProtocolVersion x))) h
 rule-brings (Unbuilt built_at) (Method c m) place t h =
     ap end_of (if-true (is_unbuilt m) (fail (Unbuilt place) t) (method_rule c m t) h.0) ∙ ap (λ (x : ℕ). Some (Err (Unbuilt x))) h.1
-rule-brings k f place t h = heeded-brings k f place t h.0 h.1
+rule-brings k f place t h = judged-brings k f place t h.0 h.1
 
 -- an open link has no end
 open-goes_on : (l : Link ErrorKind) → is_open_link l ≡ true → end_of_link l ≡ None

@@ -73,20 +73,22 @@ IsUnawaited e _ t = ⊥
 
 -- ---- a frame
 
--- a frame is heeded, but after our close of the connection, and but for a method that no rule takes yet
-abbrev pub is_heeded : Frame → Talk → Bool
-is_heeded (Method n m) t = not (is_closing t.state) && not (is_unbuilt m)
-is_heeded f t = not (is_closing t.state)
+-- a frame is judged, whether it may come: after our close of the connection none is, nor is a method that no rule takes
+-- yet
+abbrev pub is_judged : Frame → Talk → Bool
+is_judged (Method n m) t = not (is_closing t.state) && not (is_unbuilt m)
+is_judged f t = not (is_closing t.state)
 
--- the error that a frame brings where it is heeded
-abbrev pub IsHeededError : ErrorKind → Frame → Talk → Type 0
-IsHeededError (InvalidConnectionState state) f t = IsUndue f t × (t.state ≡ state)
-IsHeededError (InvalidChannel channel) f t = IsOfChannel channel f × IsUnheard channel t
-IsHeededError (ProtocolError e) f t = IsMisplaced (ProtocolError e) f ⊎ IsUnawaited (ProtocolError e) f t
-IsHeededError _ f t = ⊥
+-- the error that is brought by a frame which is judged
+abbrev pub IsJudgedError : ErrorKind → Frame → Talk → Type 0
+IsJudgedError (InvalidConnectionState state) f t = IsUndue f t × (t.state ≡ state)
+IsJudgedError (InvalidChannel channel) f t = IsOfChannel channel f × IsUnheard channel t
+IsJudgedError (ProtocolError e) f t = IsMisplaced (ProtocolError e) f ⊎ IsUnawaited (ProtocolError e) f t
+IsJudgedError _ f t = ⊥
 
--- the error is brought by a frame that stood at a place of the link's received bytes
+-- the error is brought by a frame that stood at a place of the link's received bytes: a protocol header has its own,
+-- and so has a method that no rule takes yet
 abbrev pub IsFrameError : ErrorKind → Frame → ℕ → Talk → Type 0
 IsFrameError (InvalidProtocolVersion version) (ProtocolHeader v) place t = v ≡ version
 IsFrameError (Unbuilt built_at) (Method channel m) place t = IsTrue (is_unbuilt m) × (place ≡ built_at)
-IsFrameError e f place t = IsTrue (is_heeded f t) × IsHeededError e f t
+IsFrameError e f place t = IsTrue (is_judged f t) × IsJudgedError e f t
