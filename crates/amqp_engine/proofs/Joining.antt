@@ -1,6 +1,6 @@
 -- A piece that joins the unread bytes part by part is read as one that joins them at once.
 use Rattle.std.proofs.Common.{◌≡◌, ◌≤◌, ◌<◌, ℕ, suc, ◌+◌, ◌-◌, ◌&&◌, not, Bool, true, false, List, [], ◌++◌, length, take, drop, Option, refl, ap, sym, ◌∙◌, arith, append_assoc, length-append, length-drop}
-use Rattle.std.proofs.lemmas.List.{append-nil, take-append-drop, drop-append-le, drop-drop, nil_from_length}
+use Rattle.std.proofs.lemmas.List.{append-nil, take-append-drop, drop-append-le, drop-drop, nil_from_length, take_all}
 use Rattle.amqp_frame.specs.declared.frame.Read.{Read}
 use Rattle.amqp_frame.specs.declared.frame.Read.TheVariants.{Whole, More, TooLarge, BadHeartbeat, Bad, NoMemory}
 use Rattle.amqp_session.specs.declared.capacity.TheConstants.{INITIAL_CAPACITY}
@@ -144,10 +144,16 @@ has-room e capacity kept none =
     let limit : frame_limit e.talk ≤ e.talk.capacity = omega arith in
     omega (arith, (says-front (frame_limit e.talk)).more e.unread more, limit, capacity)
 
--- a part of a piece has joined, and the others are still to join
-pub part-joined : (n j : ℕ) (piece : List ℕ) (e e' : Engine) → e' ≡ joined (take n (drop j piece)) e → joined (drop j piece) e ≡ joined (drop (j + n) piece) e'
+-- what is left of a piece, as a slice has it
+pub slice-left : (j : ℕ) (piece : List ℕ) → take (length piece - j) (drop j piece) ≡ drop j piece
+slice-left j piece = take_all (length piece - j) (drop j piece) (omega (arith, length-drop j piece))
+
+-- a part of it has joined, and the others are still to join
+pub part-joined : (n j : ℕ) (piece : List ℕ) (e e' : Engine) → e' ≡ joined (take n (take (length piece - j) (drop j piece))) e
+    → joined (drop j piece) e ≡ joined (drop (j + n) piece) e'
 part-joined n j piece e e' is =
-    joined-part n (drop j piece) e ∙ ap (joined (drop n (drop j piece))) (sym is) ∙ ap (λ (rest : List ℕ). joined rest e') (drop-drop n j piece)
+    joined-part n (drop j piece) e ∙ ap (joined (drop n (drop j piece))) (sym (is ∙ ap (λ (rest : List ℕ). joined (take n rest) e) (slice-left j piece)))
+    ∙ ap (λ (rest : List ℕ). joined rest e') (drop-drop n j piece)
 
 -- all of it has joined, and was read as far as it goes
 pub all-read : (at : ℕ) (cut : Option ℕ) (n : ℕ) (piece : List ℕ) (e : Engine) (parts : ℕ) → n ≡ length piece → can_read e ≡ false
