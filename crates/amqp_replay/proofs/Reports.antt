@@ -1,5 +1,5 @@
 -- The lines of a report, one by one.
-use Rattle.std.proofs.Common.{◌≡◌, ◌≤◌, ◌<◌, ◌+◌, ◌-◌, ℕ, zero, suc, Bool, true, false, if◌then◌else◌, is_some, IsTrue, List, [], ◌∷◌, ◌++◌, length, drop, slice_get, Option, Some, Result, Err, inl, inr, refl, ap, sym, ◌∙◌, append_assoc, arith, get_or, add-one}
+use Rattle.std.proofs.Common.{◌≡◌, ◌≤◌, ◌<◌, ◌+◌, ◌-◌, ℕ, zero, suc, Bool, true, false, if◌then◌else◌, is_some, List, [], ◌∷◌, ◌++◌, length, drop, slice_get, Option, Some, Result, Err, inl, inr, refl, ap, sym, ◌∙◌, append_assoc, arith, get_or, add-one}
 use Rattle.std.proofs.Math.Seq.{drop-cons}
 use Rattle.std.proofs.lemmas.Option.{slice_get_within, get_or_from_slice_get}
 use Rattle.std.specs.List.{flat_map, enumerate_from, range_with_len}
@@ -9,7 +9,7 @@ use Rattle.amqp_session.specs.declared.error.ErrorKind.TheVariants.{NoMemory}
 use Rattle.amqp_session.specs.Listed.{without}
 use Rattle.amqp_session.specs.Talk.{Talk, end_of}
 use Rattle.amqp_session.specs.Answers.{answer_in, answer_of, take_answer, Takes}
-use Rattle.amqp_replay.specs.Report.{link_line, link_lines, answer_line, answer_lines, frame_line, frame_lines, end_line, report}
+use Rattle.amqp_replay.specs.Report.{link_line, link_lines, answer_line, answer_lines, frame_lines, end_line, report}
 use Rattle.amqp_replay.proofs.Entries.{at-without}
 
 -- ---- lists, one by one

@@ -1,12 +1,11 @@
-use Rattle.std.proofs.Common.{◌≡◌, ◌∙◌, ℕ, List, Option, Some, length, is_some, ap, sym, refl}
+use Rattle.std.proofs.Common.{◌≡◌, ◌∙◌, ℕ, List, is_some, ap, sym, refl}
 use Rattle.std.specs.String.{string_bytes}
 use Rattle.amqp_session.specs.Talk.{Talk, end_of}
-use Rattle.amqp_engine.specs.declared.given.Given.{Given}
-use Rattle.amqp_engine.specs.Log.{Log, loaded}
+use Rattle.amqp_engine.specs.Log.{loaded}
 use Rattle.amqp_engine.proofs.GoingOn.{spell-legal}
 use Rattle.amqp_replay.specs.Report.{Printout, report}
 use Rattle.amqp_replay.specs.Top.{end_status, replayed_log, replayed_links}
-use Rattle.amqp_replay.proofs.Replaying.{IsReplayed, IsReplayed-run, none_from}
+use Rattle.amqp_replay.proofs.Replaying.{IsReplayed-run, none_from}
 use Rattle.amqp_replay.proofs.top.run.Goals as goal
 
 pub returns-clause-printout : goal.returns-clause-printout
