@@ -1,0 +1,72 @@
+-- The replies that are awaited, by channel, as they are seen.
+use Rattle.std.proofs.Common.{◌≡◌, ◌∙◌, ap, sym, refl, ℕ, List, [], ◌∷◌, ◌++◌, Some, None}
+use Rattle.std.specs.Prelude.{unwrap_or}
+use Rattle.std.specs.Ordering.{nat_cmp}
+use Rattle.std.specs.Map.{keys_of, set_value}
+use Rattle.std.specs.BTreeMap.{is_at}
+use Rattle.amqp_outbox.specs.declared.reply.Awaited.{Awaited}
+use Rattle.amqp_outbox.specs.declared.awaiting.Replies.{Replies}
+use Rattle.amqp_outbox.specs.Listed.{at, put}
+use Rattle.amqp_outbox.specs.Replies.{awaited_on, left_on, expected}
+use Rattle.amqp_outbox.specs.Order.{seen, seen_at, waiting}
+use Rattle.amqp_outbox.specs.Parts.{some_awaited, list_seen}
+use Rattle.amqp_outbox.proofs.Maps.{without-absent}
+use Rattle.amqp_outbox.proofs.Seen.{Sorted, at-seen, set-alike, set-seen, set-unseen}
+
+shown : (list : List Awaited) → unwrap_or (some_awaited list) [] ≡ list
+shown [] = refl
+shown (a ∷ list) = refl
+
+some-appended : (list : List Awaited) (a : Awaited) → some_awaited (list ++ a ∷ []) ≡ Some (list ++ a ∷ [])
+some-appended [] a = refl
+some-appended (b ∷ list) a = refl
+
+-- the replies of a channel, in order
+abbrev items : Replies → List Awaited
+items r = waiting r.lane.slots.entries
+
+module _ (n : ℕ) (es : List (ℕ × Replies)) (sorted : Sorted (keys_of es)) (r : Replies) (there : at n es ≡ Some r) where
+  -- what is awaited on a channel that has a list
+  pub awaited-seen : awaited_on n (seen list_seen es) ≡ items r
+  awaited-seen = ap (λ o. unwrap_or o []) (at-seen list_seen n es sorted ∙ ap (seen_at list_seen) there) ∙ shown (items r)
+
+  -- one more is awaited
+  pub expect-seen : (r' : Replies) (a : Awaited) → items r' ≡ items r ++ a ∷ []
+      → seen list_seen (set_value (is_at (nat_cmp n)) es r') ≡ expected n a (seen list_seen es)
+  expect-seen r' a is =
+      set-seen list_seen n r r' (items r ++ a ∷ []) es (ap some_awaited is ∙ some-appended (items r) a) there sorted
+      ∙ ap (λ list. put n (list ++ a ∷ []) (seen list_seen es)) (sym awaited-seen)
+
+  -- some are left
+  left-seen : (r' : Replies) (list : List Awaited) → items r' ≡ list
+      → seen list_seen (set_value (is_at (nat_cmp n)) es r') ≡ left_on n list (seen list_seen es)
+  left-seen r' [] is = set-unseen list_seen n r r' es (ap some_awaited is) there sorted
+  left-seen r' (a ∷ list) is = set-seen list_seen n r r' (a ∷ list) es (ap some_awaited is) there sorted
+
+  -- some are taken out
+  pub take-seen : (f : List Awaited → List Awaited) (r' : Replies) → items r' ≡ f (items r)
+      → seen list_seen (set_value (is_at (nat_cmp n)) es r') ≡ left_on n (f (awaited_on n (seen list_seen es))) (seen list_seen es)
+  take-seen f r' is = left-seen r' (f (items r)) is ∙ ap (λ list. left_on n (f list) (seen list_seen es)) (sym awaited-seen)
+
+  -- none is taken out
+  pub keep-seen : (r' : Replies) → items r' ≡ items r → seen list_seen (set_value (is_at (nat_cmp n)) es r') ≡ seen list_seen es
+  keep-seen r' is = set-alike list_seen n r r' es (ap some_awaited is) there
+
+-- on a channel that has no list nothing is awaited
+module _ (n : ℕ) (es : List (ℕ × Replies)) (sorted : Sorted (keys_of es)) (none : at n es ≡ None) where
+  unseen : at n (seen list_seen es) ≡ None
+  unseen = at-seen list_seen n es sorted ∙ ap (seen_at list_seen) none
+
+  pub none-awaited : awaited_on n (seen list_seen es) ≡ []
+  none-awaited = ap (λ o. unwrap_or o []) unseen
+
+  -- and nothing is taken out
+  pub none-taken-out : (f : List Awaited → List Awaited) → f [] ≡ []
+      → seen list_seen es ≡ left_on n (f (awaited_on n (seen list_seen es))) (seen list_seen es)
+  none-taken-out f is =
+      sym (without-absent n (seen list_seen es) unseen)
+      ∙ sym (ap (λ list. left_on n list (seen list_seen es)) (ap f none-awaited ∙ is))
+
+-- a list that is empty is not seen
+pub empty-seen : (n : ℕ) (es : List (ℕ × Replies)) (r : Replies) → at n es ≡ Some r → items r ≡ [] → seen_at list_seen (at n es) ≡ None
+empty-seen n es r there empty = ap (seen_at list_seen) there ∙ ap some_awaited empty

@@ -1,0 +1,47 @@
+-- Small facts by cases.
+use Rattle.std.proofs.Common.{◌≡◌, sym, refl, ℕ, ◌<◌, ◌≤◌, ◌==◌, nat_lt, arith, true, false, Option, Some, None, is_some, Result, Ok, Err, IfOk, OnOk}
+use Rattle.std.proofs.lemmas.Bool.Decides.{nat_tests}
+use Rattle.std.specs.declared.cmp.Ordering.TheVariants.{Less, Equal, Greater}
+use Rattle.std.specs.Ordering.{nat_cmp}
+use Rattle.std.specs.Cmp.{nat_cmp_is, ranked}
+
+pub on-ok : {A E P Q : Type 0} (r : Result A E) → (P → Q) → OnOk r P → OnOk r Q
+on-ok (Ok x) f p = f p
+on-ok (Err e) f p = tt
+
+pub if-ok : {A E : Type 0} {P Q : A → Type 0} (r : Result A E) → ((x : A) → P x → Q x) → IfOk r P → IfOk r Q
+if-ok (Ok x) f p = f x p
+if-ok (Err e) f p = tt
+
+pub none-from : {X : Type 0} (o : Option X) → is_some o ≡ false → o ≡ None
+none-from None h = refl
+none-from (Some x) h = absurd cc
+
+-- ---- numbers
+
+pub same-from : (a b : ℕ) → (a == b) ≡ true → a ≡ b
+same-from a b h = grind (arith, nat_tests)
+
+pub not-below : (a b : ℕ) → b ≤ a → nat_lt a b ≡ false
+not-below a b h = grind (arith, nat_tests)
+
+pub below-from : (a b : ℕ) → nat_lt a b ≡ true → a < b
+below-from a b h = grind (arith, nat_tests)
+
+pub from-not-below : (a b : ℕ) → nat_lt a b ≡ false → b ≤ a
+from-not-below a b h = grind (arith, nat_tests)
+
+pub less-from : (a b : ℕ) → nat_cmp a b ≡ Less → a < b
+less-from a b h = ranked a b Less (sym h)
+
+pub equal-from : (a b : ℕ) → nat_cmp a b ≡ Equal → a ≡ b
+equal-from a b h = ranked a b Equal (sym h)
+
+pub greater-from : (a b : ℕ) → nat_cmp a b ≡ Greater → b < a
+greater-from a b h = ranked a b Greater (sym h)
+
+pub to-greater : (a b : ℕ) → b < a → nat_cmp a b ≡ Greater
+to-greater a b h = sym (nat_cmp_is a b Greater h)
+
+pub nat_cmp_self : (n : ℕ) → nat_cmp n n ≡ Equal
+nat_cmp_self n = sym (nat_cmp_is n n Equal refl)

@@ -1,0 +1,11 @@
+pub mod Cases
+pub mod Maps
+pub mod Seen
+pub mod Listing
+pub mod Lanes
+pub mod Taking
+pub mod Sound
+pub mod Places
+pub mod ByChannel
+pub mod Groups
+pub mod Dropping

@@ -1,0 +1,187 @@
+//! The replies that are awaited, by channel.
+
+ghost use Rattle.std.specs.Prelude.{◌≡◌, ◌++◌, ◌∷◌, [], IfOk, IfSome, OnOk, IsTrue, None, drop, find};
+ghost use Rattle.amqp_outbox.specs.Lists.{head, without_first};
+ghost use Rattle.amqp_outbox.specs.Listed.{at};
+ghost use Rattle.amqp_outbox.specs.Replies.{is_of, method_of, expected, first_awaited, answered, first_on, without_first_on};
+ghost use Rattle.amqp_outbox.specs.Order.{seen, seen_at, waiting};
+ghost use Rattle.amqp_outbox.specs.Parts.{list_seen, HasReplyPlaces, HasPlaceFor};
+
+use crate::lane::Lane;
+use crate::reply::{Awaited, Reply};
+use amqp_types::{ChannelId, NoMemory};
+use std::alloc::Global;
+use std::collections::BTreeMap;
+
+/// The replies that are awaited on one channel, in order.
+#[derive(Debug, Drop)]
+pub struct Replies {
+    lane: Lane<Awaited>,
+}
+
+impl Replies {
+    // None, with a place for one.
+    fn with_place(alloc: Global, reply: Reply) -> Result<Replies, NoMemory>
+        ensures { IfOk result (λ r. (waiting r.lane.slots.entries ≡ []) × HasPlaceFor reply r) }
+    {
+        let mut replies = Replies {
+            lane: Lane::new(alloc),
+        };
+        replies.reserve(reply)?;
+        Ok(replies)
+    }
+
+    // Makes a place for one more.
+    fn reserve(&mut self, reply: Reply) -> Result<(), NoMemory>
+        ensures items { waiting self.new.lane.slots.entries ≡ waiting self.old.lane.slots.entries }
+        ensures place { OnOk result (HasPlaceFor reply self.new) }
+    {
+        self.lane.reserve(Some(reply.method()), 1)
+    }
+
+    fn push_reserved(&mut self, awaited: Awaited)
+        requires { HasPlaceFor awaited.reply self.old }
+        ensures { waiting self.new.lane.slots.entries ≡ waiting self.old.lane.slots.entries ++ awaited ∷ [] }
+    {
+        self.lane.push_reserved(awaited);
+    }
+
+    fn is_empty(&self) -> bool
+        ensures { IsTrue result → waiting self.now.lane.slots.entries ≡ [] }
+    {
+        self.lane.front().is_none()
+    }
+
+    // Takes out the first that awaits this reply.
+    fn take(&mut self, reply: Reply) -> Option<Awaited>
+        ensures first { result ≡ find (is_of reply) (waiting self.old.lane.slots.entries) }
+        ensures rest { waiting self.new.lane.slots.entries
+            ≡ without_first (is_of reply) (waiting self.old.lane.slots.entries) }
+    {
+        self.lane.take(reply.method())
+    }
+
+    // Takes out the first.
+    fn next(&mut self) -> Option<Awaited>
+        ensures first { result ≡ head (waiting self.old.lane.slots.entries) }
+        ensures rest { waiting self.new.lane.slots.entries ≡ drop 1 (waiting self.old.lane.slots.entries) }
+    {
+        self.lane.next()
+    }
+}
+
+/// The replies that are awaited, by channel.
+#[derive(Debug, Drop)]
+pub struct Awaiting {
+    alloc: Global,
+    lists: BTreeMap<ChannelId, Replies>,
+}
+
+impl Awaiting {
+    /// No reply is awaited.
+    pub fn new(alloc: Global) -> Awaiting
+        ensures { seen list_seen result.lists.entries ≡ [] }
+    {
+        Awaiting {
+            alloc,
+            lists: BTreeMap::new(alloc),
+        }
+    }
+
+    /// Makes a place for one reply more on a channel.
+    pub fn reserve(&mut self, channel: ChannelId, reply: Reply) -> Result<(), NoMemory>
+        ensures same { seen list_seen self.new.lists.entries ≡ seen list_seen self.old.lists.entries }
+        ensures place { OnOk result (HasReplyPlaces channel reply self.new.lists.entries) }
+    {
+        match self.lists.get_mut(&channel) {
+            Some(list) => list.reserve(reply),
+            None => {
+                let list = Replies::with_place(self.alloc, reply)?;
+                drop(self.lists.insert(channel, list)?);
+                Ok(())
+            }
+        }
+    }
+
+    /// One more reply is awaited on a channel, where it has its place.
+    pub fn expect_reserved(&mut self, channel: ChannelId, awaited: Awaited)
+        requires { HasReplyPlaces channel awaited.reply self.old.lists.entries }
+        ensures { seen list_seen self.new.lists.entries
+            ≡ expected channel awaited (seen list_seen self.old.lists.entries) }
+    {
+        if let Some(list) = self.lists.get_mut(&channel) {
+            list.push_reserved(awaited);
+        }
+    }
+
+    /// Takes out the first that awaits this reply on this channel.
+    pub fn answered(&mut self, channel: ChannelId, reply: Reply) -> Option<Awaited>
+        ensures first { result ≡ first_awaited channel reply (seen list_seen self.old.lists.entries) }
+        ensures rest { seen list_seen self.new.lists.entries
+            ≡ answered channel reply (seen list_seen self.old.lists.entries) }
+    {
+        let found = self.take(channel, reply);
+        self.tidy(channel);
+        found
+    }
+
+    fn take(&mut self, channel: ChannelId, reply: Reply) -> Option<Awaited>
+        ensures first { result ≡ first_awaited channel reply (seen list_seen self.old.lists.entries) }
+        ensures rest { seen list_seen self.new.lists.entries
+            ≡ answered channel reply (seen list_seen self.old.lists.entries) }
+    {
+        match self.lists.get_mut(&channel) {
+            Some(list) => list.take(reply),
+            None => None,
+        }
+    }
+
+    /// Takes out the first that is awaited on a channel.
+    pub fn drop_first(&mut self, channel: ChannelId) -> Option<Awaited>
+        ensures first { result ≡ first_on channel (seen list_seen self.old.lists.entries) }
+        ensures rest { seen list_seen self.new.lists.entries
+            ≡ without_first_on channel (seen list_seen self.old.lists.entries) }
+    {
+        let found = self.take_first(channel);
+        self.tidy(channel);
+        found
+    }
+
+    fn take_first(&mut self, channel: ChannelId) -> Option<Awaited>
+        ensures first { result ≡ first_on channel (seen list_seen self.old.lists.entries) }
+        ensures rest { seen list_seen self.new.lists.entries
+            ≡ without_first_on channel (seen list_seen self.old.lists.entries) }
+    {
+        match self.lists.get_mut(&channel) {
+            Some(list) => list.next(),
+            None => None,
+        }
+    }
+
+    // A channel on which nothing is awaited has no list.
+    fn tidy(&mut self, channel: ChannelId)
+        ensures { seen list_seen self.new.lists.entries ≡ seen list_seen self.old.lists.entries }
+    {
+        if self.is_idle(channel) {
+            // Its clause tells that the numbers ascend.
+            let _ = self.lists.len();
+            drop(self.lists.remove(&channel));
+        }
+    }
+
+    fn is_idle(&self, channel: ChannelId) -> bool
+        ensures { IsTrue result → seen_at list_seen (at channel self.now.lists.entries) ≡ None }
+    {
+        match self.lists.get(&channel) {
+            Some(list) => list.is_empty(),
+            None => false,
+        }
+    }
+
+    /// Nothing is awaited any more.
+    pub fn clear(&mut self)
+        ensures { seen list_seen self.new.lists.entries ≡ [] }
+    {
+        self.lists.clear();
+    }
+}

@@ -1,0 +1,115 @@
+//! The frames of one publish.
+
+ghost use Rattle.std.specs.Prelude.{◌≡◌, ◌<◌, ◌++◌, ◌∷◌, [], IfOk, drop, length, map};
+ghost use Rattle.amqp_outbox.specs.Items.{plain, channel_of, promise_of, group_of};
+
+use crate::item::Item;
+use crate::lane::Keyed;
+use amqp_frame::Frame;
+use amqp_types::{ChannelId, NoMemory};
+use std::alloc::Global;
+use std::collections::VecDeque;
+use std::marker::Model;
+
+/// The frames of one publish, which go out unbroken. Its promise stands at the last of them.
+#[derive(Debug, Drop)]
+pub struct Group {
+    first: Item,
+    rest: VecDeque<Item>,
+}
+
+impl Model for Group {
+    ghost use Rattle.std.specs.Prelude.{List, ◌∷◌};
+    ghost use Rattle.amqp_outbox.specs.declared.item.Item.{Item};
+
+    ghost Value = { List Item };
+
+    ghost use Rattle.std.specs.Coded.{codes};
+    ghost use Rattle.amqp_types.specs.ValueCode.{value_code};
+
+    ghost coded = { Prim.hlevel (codes, value_code) };
+
+    ghost view = { λ g. g.first ∷ g.rest.items };
+}
+
+impl Group {
+    /// Frames of a channel as one group, which answers a promise.
+    pub fn new(
+        alloc: Global,
+        channel: ChannelId,
+        mut frames: Vec<Frame>,
+        promise: u64,
+    ) -> Result<Group, NoMemory>
+        requires { 0 < length frames.items }
+        ensures { IfOk result (λ g. g ≡ group_of channel frames.items promise) }
+    {
+        let Some(last) = frames.pop() else {
+            unreachable!()
+        };
+        let last = Item::promised(channel, last, promise);
+        match items_of(alloc, channel, frames) {
+            Ok(items) => Group::ended_by(items, last),
+            Err(refused) => {
+                drop(last);
+                Err(refused)
+            }
+        }
+    }
+
+    fn ended_by(mut items: VecDeque<Item>, last: Item) -> Result<Group, NoMemory>
+        ensures { IfOk result (λ g. g ≡ items.items ++ last ∷ []) }
+    {
+        items.push_back(last)?;
+        match items.pop_front() {
+            Some(first) => Ok(Group { first, rest: items }),
+            None => unreachable!(),
+        }
+    }
+
+    /// The frame that goes first.
+    pub fn first(&self) -> &Item
+        ensures { self.now ≡ result.now ∷ drop 1 self.now }
+    {
+        &self.first
+    }
+
+    /// The frame that goes first, and the others.
+    pub(crate) fn into_parts(self) -> (Item, VecDeque<Item>)
+        ensures { self ≡ result.0 ∷ result.1.items }
+    {
+        (self.first, self.rest)
+    }
+
+    /// The promise that it answers.
+    pub fn promise(&self) -> Option<u64>
+        ensures { result ≡ promise_of self.now }
+    {
+        match self.rest.back() {
+            Some(last) => last.promise,
+            None => self.first.promise,
+        }
+    }
+}
+
+// Frames of a channel that answer no promise.
+fn items_of(
+    alloc: Global,
+    channel: ChannelId,
+    frames: Vec<Frame>,
+) -> Result<VecDeque<Item>, NoMemory>
+    ensures { IfOk result (λ q. q.items ≡ map (plain channel) frames.items) }
+{
+    let mut items = VecDeque::with_capacity(alloc, frames.len() + 1)?;
+    for frame in frames {
+        items.push_back(Item::plain(channel, frame))?;
+    }
+    Ok(items)
+}
+
+impl Keyed for Group {
+    ghost key_of = { channel_of };
+
+    fn key(&self) -> Option<u16> {
+        Some(self.first.channel)
+    }
+}

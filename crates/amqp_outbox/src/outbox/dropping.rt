@@ -1,0 +1,100 @@
+//! What is dropped: the things of a channel, one by one, and all.
+
+ghost use Rattle.std.specs.Prelude.{◌≡◌, ◌≢◌, ℕ, Option, OnOk, OnErr};
+ghost use Rattle.amqp_outbox.specs.declared.scope.Scope.TheVariants.{All};
+ghost use Rattle.amqp_outbox.specs.declared.reply.Reply.{Reply};
+ghost use Rattle.amqp_outbox.specs.Queued.{nothing, only, dropped, without_channel, group_promise, without_group, frame_promise, without_frame, reply_promise, without_reply, without_any};
+ghost use Rattle.amqp_outbox.specs.Parts.{queued, HasControlPlaces, HasReplyPlace};
+
+use super::Outbox;
+use crate::item::Item;
+use crate::lane::Lane;
+use crate::scope::Scope;
+use amqp_types::{ChannelId, NoMemory};
+
+impl Outbox {
+    /// Takes out the first thing of a channel in a scope, and gives its promise: of groups that have
+    /// not begun, then of frames in the control lane, then of awaited replies. `None` where none is
+    /// left.
+    pub fn drop_channel(&mut self, channel: ChannelId, scope: Scope) -> Option<Option<u64>>
+        ensures promise { result ≡ dropped channel scope (queued self.old) }
+        ensures rest { queued self.new ≡ without_channel channel scope (queued self.old) }
+        ensures control { (k : Option ℕ) (n : ℕ) → HasControlPlaces k n self.old → HasControlPlaces k n self.new }
+        ensures reply { scope ≢ All → (c : ℕ) (r : Reply) → HasReplyPlace c r self.old → HasReplyPlace c r self.new }
+    {
+        match scope {
+            Scope::Unbegun => self.drop_group(channel),
+            Scope::Control => self.drop_frame(channel),
+            Scope::All => self.drop_any(channel),
+        }
+    }
+
+    fn drop_group(&mut self, channel: ChannelId) -> Option<Option<u64>>
+        ensures promise { result ≡ group_promise channel (queued self.old) }
+        ensures rest { queued self.new ≡ without_group channel (queued self.old) }
+        ensures control { self.new.control ≡ self.old.control }
+        ensures awaiting { self.new.awaiting ≡ self.old.awaiting }
+    {
+        let group = self.publish.take(channel)?;
+        Some(group.promise())
+    }
+
+    fn drop_frame(&mut self, channel: ChannelId) -> Option<Option<u64>>
+        ensures promise { result ≡ frame_promise channel (queued self.old) }
+        ensures rest { queued self.new ≡ without_frame channel (queued self.old) }
+        ensures control { (k : Option ℕ) (n : ℕ) → HasControlPlaces k n self.old → HasControlPlaces k n self.new }
+        ensures awaiting { self.new.awaiting ≡ self.old.awaiting }
+    {
+        let item = self.control.take(channel)?;
+        Some(item.promise)
+    }
+
+    fn drop_reply(&mut self, channel: ChannelId) -> Option<Option<u64>>
+        ensures promise { result ≡ reply_promise channel (queued self.old) }
+        ensures rest { queued self.new ≡ without_reply channel (queued self.old) }
+        ensures control { self.new.control ≡ self.old.control }
+    {
+        let awaited = self.awaiting.drop_first(channel)?;
+        Some(awaited.promise)
+    }
+
+    fn drop_any(&mut self, channel: ChannelId) -> Option<Option<u64>>
+        ensures promise { result ≡ dropped channel All (queued self.old) }
+        ensures rest { queued self.new ≡ without_any channel (queued self.old) }
+        ensures control { (k : Option ℕ) (n : ℕ) → HasControlPlaces k n self.old → HasControlPlaces k n self.new }
+    {
+        if let Some(promise) = self.drop_group(channel) {
+            return Some(promise);
+        }
+        if let Some(promise) = self.drop_frame(channel) {
+            return Some(promise);
+        }
+        self.drop_reply(channel)
+    }
+
+    /// Nothing waits any more, and nothing is awaited.
+    pub fn drop_all(&mut self)
+        ensures { queued self.new ≡ nothing }
+    {
+        self.control.clear();
+        self.publish.clear();
+        self.begun.clear();
+        self.awaiting.clear();
+    }
+
+    /// A frame alone waits in the control lane, and all else is dropped.
+    pub fn restart(&mut self, item: Item) -> Result<(), NoMemory>
+        ensures ok { OnOk result (queued self.new ≡ only item) }
+        ensures err { OnErr result (queued self.new ≡ queued self.old) }
+    {
+        let mut control = Lane::new(self.alloc);
+        if let Err(refused) = control.reserve(item.dropped_with(), 1) {
+            drop(item);
+            return Err(refused);
+        }
+        control.push_reserved(item);
+        self.drop_all();
+        self.control = control;
+        Ok(())
+    }
+}

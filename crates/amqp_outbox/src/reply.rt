@@ -1,0 +1,63 @@
+//! A reply that is awaited.
+
+ghost use Rattle.std.specs.Prelude.{◌≡◌, Some};
+ghost use Rattle.amqp_outbox.specs.Replies.{method_of, key_of};
+
+use crate::lane::Keyed;
+
+/// What the server answers with.
+#[derive(Clone, Copy, Debug, PartialEq, Eq)]
+pub enum Reply {
+    /// channel.open-ok
+    ChannelOpened,
+    /// channel.close-ok
+    ChannelClosed,
+    /// channel.flow-ok
+    FlowDone,
+    /// connection.update-secret-ok
+    SecretDone,
+    /// connection.close-ok
+    ConnectionClosed,
+}
+
+impl Reply {
+    /// The number of its method in its class.
+    pub fn method(self) -> u16
+        ensures { result ≡ method_of self }
+    {
+        match self {
+            Reply::ChannelOpened => 11,
+            Reply::ChannelClosed => 41,
+            Reply::FlowDone => 21,
+            Reply::SecretDone => 71,
+            Reply::ConnectionClosed => 51,
+        }
+    }
+}
+
+/// A reply that is awaited, and the promise that it answers.
+#[derive(Clone, Copy, Debug, PartialEq, Eq)]
+pub struct Awaited {
+    pub reply: Reply,
+    pub promise: Option<u64>,
+}
+
+impl Awaited {
+    /// A reply that will answer a promise.
+    pub fn by(reply: Reply, number: u64) -> Awaited
+        ensures { result ≡ record { reply = reply; promise = Some number } }
+    {
+        Awaited {
+            reply,
+            promise: Some(number),
+        }
+    }
+}
+
+impl Keyed for Awaited {
+    ghost key_of = { key_of };
+
+    fn key(&self) -> Option<u16> {
+        Some(self.reply.method())
+    }
+}

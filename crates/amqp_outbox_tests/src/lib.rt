@@ -1,0 +1,9 @@
+//! Tests of `amqp_outbox`.
+#![tactic(auto)]
+
+#[cfg(test)]
+mod lanes;
+#[cfg(test)]
+mod replies;
+#[cfg(test)]
+mod support;

@@ -1,0 +1,29 @@
+//! The replies that are awaited.
+
+use amqp_outbox::{Outbox, Reply, Scope};
+use amqp_types::NoMemory;
+use std::process::Abort;
+
+fn replies_come_in_order_in<A: Abort>(rt: &A, outbox: &mut Outbox) -> Result<(), NoMemory> {
+    outbox.expect(1, Reply::FlowDone, Some(1))?;
+    outbox.expect(2, Reply::FlowDone, Some(2))?;
+    outbox.expect(1, Reply::ChannelClosed, Some(3))?;
+    outbox.expect(1, Reply::FlowDone, None)?;
+    assert!(rt; outbox.answer(1, Reply::ChannelClosed) == Some(Some(3)));
+    assert!(rt; outbox.answer(1, Reply::FlowDone) == Some(Some(1)));
+    assert!(rt; outbox.answer(1, Reply::FlowDone) == Some(None));
+    assert!(rt; outbox.answer(1, Reply::FlowDone) == None);
+    assert!(rt; outbox.answer(2, Reply::SecretDone) == None);
+    assert!(rt; outbox.drop_channel(2, Scope::Control) == None);
+    assert!(rt; outbox.drop_channel(2, Scope::All) == Some(Some(2)));
+    assert!(rt; outbox.answer(2, Reply::FlowDone) == None);
+    Ok(())
+}
+
+#[test]
+fn replies_come_in_order(rt: HostRuntime) -> Result<(), NoMemory> {
+    let mut outbox = Outbox::new(rt.alloc());
+    let told = replies_come_in_order_in(&rt, &mut outbox);
+    drop(outbox);
+    told
+}
