@@ -193,8 +193,8 @@ AreTurns [] e = Unit {0}
 AreTurns (u ∷ us) e = IsTurn u e × AreTurns us (turn u e)
 
 -- what a command carries fits on the wire: a method that is sent is of a class that is passed through, its numbers fit
--- their types, and its length is that of a machine; a close holds a code of 16 bits and a short string, which fit by
--- their types, so that no claim has to ask for it
+-- their types, and its length is that of a machine; of a close nothing is asked, since no claim depends on whether its
+-- code and text fit
 abbrev pub IsToldCommand : Cmd → Type 0
 IsToldCommand (Send channel method) =
     (method.class ≢ 10) × (method.class ≢ 20) × (method.class < 2 ^ 16) × (method.method < 2 ^ 16)

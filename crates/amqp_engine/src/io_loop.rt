@@ -10,9 +10,10 @@ ghost use Rattle.amqp_session.specs.Answers.{HandsOut, Takes, take_frames};
 ghost use Rattle.amqp_engine.specs.Engine.{Engine, begin, with_talk};
 ghost use Rattle.amqp_engine.specs.Turn.{asks};
 ghost use Rattle.amqp_engine.specs.Tell.{Applies, TakesTurn, Runs, log_asks};
+ghost use Rattle.amqp_engine.specs.Log.{Log};
 ghost use Rattle.amqp_engine.specs.Unread.{IsRead};
 ghost use Rattle.amqp_engine.specs.Sending.{Sending};
-ghost use Rattle.amqp_engine.specs.Saying.{HasSent, GoesOn, GoesOnce};
+ghost use Rattle.amqp_engine.specs.Saying.{HasSent, TellsLinks, GoesOn, GoesOnce};
 ghost use Rattle.amqp_engine.specs.Causes.{Brings, BringsOne, brought, fault_of, is_counted};
 ghost use Rattle.amqp_engine.specs.Counts.{Rose};
 ghost use Rattle.amqp_engine.specs.Play.{IsPlayed};
@@ -38,7 +39,8 @@ pub struct IoLoop {
 impl Model for IoLoop {
     ghost use Rattle.std.specs.Prelude.{◌≡◌, length};
     ghost use Rattle.amqp_engine.specs.Engine.{Engine};
-    ghost use Rattle.amqp_engine.specs.Unread.{IsRead};
+    ghost use Rattle.amqp_engine.specs.Log.{Log};
+ghost use Rattle.amqp_engine.specs.Unread.{IsRead};
 
     ghost Value = { Engine };
 
@@ -171,6 +173,7 @@ impl IoLoop {
         ensures err { OnErr result (self.new ≡ self.old) }
         ensures only { IfErr result (λ e. e ≡ ErrorKind.NoMemory) }
         ensures legal { (ss : List Sending) → HasSent self.old ss → HasSent self.new ss }
+        ensures links { (ss : List Sending) (log : Log) → TellsLinks self.old ss log → TellsLinks self.new ss log }
     {
         hold(&command);
         self.wire.command(command)

@@ -84,7 +84,7 @@ impl Step {
     }
 }
 
-// The same of a command that is told between turns.
+// The same of a command, as a step or between turns.
 pub(crate) fn hold(command: &Cmd)
     ensures { IsToldCommand command.now }
 {

@@ -138,17 +138,6 @@ undone p n es es' es'' none placed gone q =
           ∙ placed q ∙ ap (λ b. cond b (Some n) (at q es)) (is_other p q ne)
     ]
 
--- a channel changes, but not in what opened it
-pub opener-set : (n : ℕ) (c : Channel) (listed listed' : List (ℕ × Channel)) → opener n listed ≡ Some (c.opened)
-    → ((m : ℕ) → at m listed' ≡ cond (is_at (nat_cmp n) m) (Some c) (at m listed)) → (m : ℕ) → opener m listed' ≡ opener m listed
-opener-set n c listed listed' had at_number m =
-    elim (cases_eq m n) [
-      | inl e ↦
-          ap (option_map (λ (y : Channel). y.opened)) (at_number m ∙ ap (λ b. cond b (Some c) (at m listed)) (is_itself n m e))
-          ∙ sym had ∙ ap (λ k. opener k listed) (sym e)
-      | inr ne ↦ ap (option_map (λ (y : Channel). y.opened)) (at_number m ∙ ap (λ b. cond b (Some c) (at m listed)) (is_other n m ne))
-    ]
-
 -- all channels are closing
 closing-head : (b : Bool) (d : Channel) (x y : Option Channel) → option_map (λ (z : Channel). z.opened) x ≡ option_map (λ (z : Channel). z.opened) y
     → option_map (λ (z : Channel). z.opened) (cond b (Some (closing d)) x) ≡ option_map (λ (z : Channel). z.opened) (cond b (Some d) y)

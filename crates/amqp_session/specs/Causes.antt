@@ -22,7 +22,8 @@ use Rattle.amqp_session.specs.Violations.{stray_channel_frame, stray_connection_
 
 -- ---- the connection
 
--- a method of the connection class that is due: what the handshake awaits; the server may close at any time
+-- a method of the connection class that is due before our close: what the handshake awaits; the server may close at any
+-- time
 abbrev pub is_due : AnyMethod → ConnectionState → Phase → Bool
 is_due (Close code text class method) state phase = true
 is_due (Start major minor properties mechanisms locales) Connecting AwaitStart = true

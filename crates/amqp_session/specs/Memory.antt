@@ -1,4 +1,4 @@
--- Memory: which changes of the state take some.
+-- Memory: for which changes by what is read it is taken.
 use Rattle.std.specs.Prelude.{◌≡◌, Bool, true, false, IsTrue, IsFalse, Option, Some, Result, Err}
 use Rattle.amqp_session.specs.declared.error.ErrorKind.{ErrorKind}
 use Rattle.amqp_session.specs.declared.error.ErrorKind.TheVariants.{ProtocolError}
@@ -14,8 +14,8 @@ abbrev pub end_has_text : Option (Result (Unit {0}) ErrorKind) → Bool
 end_has_text (Some (Err e)) = has_text e
 end_has_text _ = false
 
--- a change of the state makes nothing for which memory is taken: no frame that will be said, no frame that is handed
--- out, and no text of an error
+-- what is read makes nothing for which memory is taken: no frame that will be said, no frame that is handed out, and no
+-- text of an error
 pub record MakesNothing (before after : Talk) : Type 0 where
   -- the same frames wait to be said
   pub control : after.control ≡ before.control

@@ -1,10 +1,15 @@
-use Rattle.std.proofs.Common.{◌≡◌, List, Result, Ok, Err, OnOk, OnErr, sym, subst}
+use Rattle.std.proofs.Common.{◌≡◌, ◌∙◌, List, Result, Ok, Err, OnOk, OnErr, is_some, ap, sym, subst}
 use Rattle.amqp_session.specs.Commands.{command}
 use Rattle.amqp_session.specs.declared.command.Cmd.{Cmd}
+use Rattle.amqp_session.specs.declared.state.Link.{Link}
+use Rattle.amqp_session.specs.declared.error.ErrorKind.{ErrorKind}
+use Rattle.amqp_session.specs.Talk.{is_asked_link, end_of_link}
+use Rattle.amqp_session.proofs.Keeping.{stays-command}
+use Rattle.amqp_engine.specs.Log.{Log}
 use Rattle.amqp_engine.specs.Engine.{Engine, with_talk}
 use Rattle.amqp_engine.specs.Turn.{IsToldCommand}
 use Rattle.amqp_engine.specs.Sending.{Sending}
-use Rattle.amqp_engine.specs.Saying.{HasSent, told}
+use Rattle.amqp_engine.specs.Saying.{HasSent, TellsLinks, told}
 use Rattle.amqp_engine.proofs.io_loop.IoLoop.command.Goals as goal
 
 -- it was told, or nothing changed
@@ -21,4 +26,30 @@ pub returns-clause-legal : goal.returns-clause-legal
 returns-clause-legal c ss h =
     let Q : Engine → Type 0 = λ x. HasSent x ss in
     told-or-not c.command.result c.args.command c.self.inside.wire c.command.new.self ss c.hold.ensures c.command.ensures.ok c.command.ensures.err
+    (subst Q (sym c.self.view_is) h)
+
+-- a command leaves the link as it is
+links-told : (c : Cmd) (e : Engine) (ss : List Sending) (log : Log) → TellsLinks e ss log → TellsLinks (with_talk (command c) e) ss log
+links-told c e ss log h =
+    let same : (command c e.talk).link ≡ e.talk.link = (stays-command c e.talk).link in
+    record {
+      links = h.links;
+      asked =
+          λ running.
+          h.asked (sym (ap (λ (l : Link ErrorKind). is_some (end_of_link l)) same) ∙ running) ∙ ap is_asked_link (sym same);
+    }
+
+tells-or-not : {A E : Type 0} (r : Result A E) (c : Cmd) (e e' : Engine) (ss : List Sending) (log : Log)
+    → OnOk r (e' ≡ with_talk (command c) e) → OnErr r (e' ≡ e) → TellsLinks e ss log → TellsLinks e' ss log
+tells-or-not (Ok x) c e e' ss log ok err h =
+    let Q : Engine → Type 0 = λ x. TellsLinks x ss log in
+    subst Q (sym ok) (links-told c e ss log h)
+tells-or-not (Err x) c e e' ss log ok err h =
+    let Q : Engine → Type 0 = λ x. TellsLinks x ss log in
+    subst Q (sym err) h
+
+pub returns-clause-links : goal.returns-clause-links
+returns-clause-links c ss log h =
+    let Q : Engine → Type 0 = λ x. TellsLinks x ss log in
+    tells-or-not c.command.result c.args.command c.self.inside.wire c.command.new.self ss log c.command.ensures.ok c.command.ensures.err
     (subst Q (sym c.self.view_is) h)
