@@ -39,8 +39,7 @@ pub struct IoLoop {
 impl Model for IoLoop {
     ghost use Rattle.std.specs.Prelude.{◌≡◌, length};
     ghost use Rattle.amqp_engine.specs.Engine.{Engine};
-    ghost use Rattle.amqp_engine.specs.Log.{Log};
-ghost use Rattle.amqp_engine.specs.Unread.{IsRead};
+    ghost use Rattle.amqp_engine.specs.Unread.{IsRead};
 
     ghost Value = { Engine };
 
