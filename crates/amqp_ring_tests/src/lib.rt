@@ -1,0 +1,9 @@
+//! Tests of `amqp_ring`.
+#![tactic(auto)]
+
+#[cfg(test)]
+mod buffers;
+#[cfg(test)]
+mod contexts;
+#[cfg(test)]
+mod steps;
