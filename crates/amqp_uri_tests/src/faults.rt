@@ -1,0 +1,117 @@
+//! Why texts are no addresses.
+
+use crate::support::query;
+use amqp_types::Word;
+use amqp_uri::UriFault;
+use std::alloc::{AllocError, Global};
+use std::process::Abort;
+use std::test::Fail;
+
+const FAULTS: &[(&str, UriFault)] = &[
+    ("", UriFault::NotAmqp),
+    ("localhost", UriFault::NotAmqp),
+    ("http://h", UriFault::NotAmqp),
+    ("http://h?heartbeat=x", UriFault::NotAmqp),
+    ("amqp+ssl://h", UriFault::NotAmqp),
+    ("amqp://h:65536", UriFault::NotAmqp),
+    ("amqp://h:x", UriFault::NotAmqp),
+    ("amqp://bob:hunter@", UriFault::NotAmqp),
+    ("amqp://[::1", UriFault::NotAmqp),
+    ("amqp://a b", UriFault::NotAmqp),
+    ("amqps://h:65536", UriFault::NotAmqp),
+    ("amqps://h", UriFault::Amqps),
+    ("amqps:", UriFault::Amqps),
+    ("amqps://h?heartbeat=x", UriFault::Amqps),
+];
+
+#[test]
+fn faults_have_their_order(rt: HostRuntime) -> Result<(), Fail> {
+    for (text, fault) in FAULTS {
+        assert!(rt; query(rt.alloc(), text) == Err(*fault), "{text}");
+    }
+    Ok(())
+}
+
+// A front, so many times a middle, and an end.
+fn joined(
+    alloc: Global,
+    front: &str,
+    middle: &str,
+    times: usize,
+    end: &str,
+) -> Result<String, AllocError> {
+    let mut text = String::new(alloc);
+    text.push_str(front)?;
+    for _ in 0..times {
+        text.push_str(middle)?;
+    }
+    text.push_str(end)?;
+    Ok(text)
+}
+
+// The fault of such a text, if it has one.
+fn fault_of(
+    alloc: Global,
+    front: &str,
+    middle: &str,
+    times: usize,
+    end: &str,
+) -> Result<Option<UriFault>, Fail> {
+    let text = joined(alloc, front, middle, times, end)?;
+    Ok(query(alloc, text.as_str()).err())
+}
+
+/// A front, a middle that stands so many times, an end, and the fault.
+const LENGTHS: &[(&str, &str, usize, &str, Option<UriFault>)] = &[
+    ("amqp://h/", "v", 255, "", None),
+    ("amqp://h/", "v", 256, "", Some(UriFault::VhostTooLong)),
+    ("amqp://h/", "%76", 255, "", None),
+    ("amqp://h/", "%76", 256, "", Some(UriFault::VhostTooLong)),
+    ("amqp://h/", "%ff", 85, "", None),
+    ("amqp://h/", "%ff", 86, "", Some(UriFault::VhostTooLong)),
+    ("amqp:", "v", 255, "", None),
+    ("amqp:", "v", 256, "", Some(UriFault::VhostTooLong)),
+    (
+        "amqp://h/",
+        "v",
+        256,
+        "?heartbeat=x",
+        Some(UriFault::VhostTooLong),
+    ),
+    ("amqps://h/", "v", 256, "", Some(UriFault::Amqps)),
+    ("amqp://h?", "x", 65_526, "", None),
+    ("amqp://h?", "x", 65_527, "", Some(UriFault::NotAmqp)),
+    ("amqps://h?", "x", 65_525, "", Some(UriFault::Amqps)),
+    ("amqps://h?", "x", 65_526, "", Some(UriFault::NotAmqp)),
+];
+
+#[test]
+fn texts_and_virtual_hosts_have_a_greatest_length(rt: HostRuntime) -> Result<(), Fail> {
+    for (front, middle, times, end, fault) in LENGTHS {
+        let found = fault_of(rt.alloc(), front, middle, *times, end)?;
+        assert!(rt; found == *fault, "{front} and {times} times {middle}");
+    }
+    Ok(())
+}
+
+/// Each fault, and its text.
+const TEXTS: &[(UriFault, &str)] = &[
+    (UriFault::NotAmqp, "not an AMQP URI"),
+    (UriFault::Amqps, "amqps is not supported"),
+    (UriFault::VhostTooLong, "virtual host too long"),
+    (
+        UriFault::BadNumber(Word::FrameMax),
+        "bad number in URI: frame_max",
+    ),
+    (UriFault::BadMechanism, "bad mechanism in URI"),
+    (UriFault::NoMemory, "memory was refused"),
+];
+
+#[test]
+fn faults_have_their_texts(rt: HostRuntime) -> Result<(), Fail> {
+    for (fault, text) in TEXTS {
+        let shown = format!(in rt.alloc(); "{fault}")?;
+        assert!(rt; shown.as_str() == *text, "{text}");
+    }
+    Ok(())
+}

@@ -1,0 +1,15 @@
+//! Tests of `amqp_uri`.
+#![tactic(auto)]
+
+#[cfg(test)]
+mod addresses;
+#[cfg(test)]
+mod computed;
+#[cfg(test)]
+mod faults;
+#[cfg(test)]
+mod login;
+#[cfg(test)]
+mod queries;
+#[cfg(test)]
+mod support;

@@ -1,0 +1,190 @@
+//! What is wished behind the `?`.
+
+use crate::support::query;
+use amqp_types::Word;
+use amqp_uri::{AMQPQuery, SASLMechanism, UriFault};
+use std::alloc::Global;
+use std::process::Abort;
+use std::test::Fail;
+
+/// Addresses, and what they wish: the greatest frame, the greatest channel, the seconds of a
+/// heartbeat, and the mechanism.
+type Wishes = (Option<u32>, Option<u16>, Option<u16>, Option<SASLMechanism>);
+
+const NOTHING: Wishes = (None, None, None, None);
+
+fn is_wished(alloc: Global, text: &str, wishes: Wishes) -> bool {
+    let (frame_max, channel_max, heartbeat, auth_mechanism) = wishes;
+    query(alloc, text)
+        == Ok(AMQPQuery {
+            frame_max,
+            channel_max,
+            heartbeat,
+            auth_mechanism,
+        })
+}
+
+fn are_wished<A: Abort>(
+    rt: &A,
+    alloc: Global,
+    rows: &[(&'static str, Wishes)],
+) -> Result<(), Fail> {
+    for (text, wishes) in rows {
+        assert!(rt; is_wished(alloc, text, *wishes), "{text}");
+    }
+    Ok(())
+}
+
+/// Pairs stand between `&`, and are parted at their first `=`; other names say nothing, and of equal
+/// names the last counts.
+const PAIRS: &[(&str, Wishes)] = &[
+    ("amqp://h", NOTHING),
+    ("amqp://h?", NOTHING),
+    ("amqp://h?&&=&=1&frame%20max=x&Heartbeat=x", NOTHING),
+    ("amqp://h?heartbeat=60", (None, None, Some(60), None)),
+    ("amqp://h/vh?heartbeat=60#x", (None, None, Some(60), None)),
+    ("amqp:vh?heartbeat=60", (None, None, Some(60), None)),
+    ("amqp://h?heart%62eat=%36%30", (None, None, Some(60), None)),
+    ("amqp://h?heartbeat=00060", (None, None, Some(60), None)),
+    (
+        "amqp://h?heartbeat=1&heartbeat=2",
+        (None, None, Some(2), None),
+    ),
+    (
+        "amqp://h?heartbeat=0&x=y&channel_max=65535",
+        (None, Some(65535), Some(0), None),
+    ),
+    (
+        "amqp://h?auth_mechanism=external&frame_max=131072&channel_max=7&heartbeat=5",
+        (
+            Some(131_072),
+            Some(7),
+            Some(5),
+            Some(SASLMechanism::External),
+        ),
+    ),
+];
+
+#[test]
+fn pairs_are_wishes(rt: HostRuntime) -> Result<(), Fail> {
+    are_wished(&rt, rt.alloc(), PAIRS)
+}
+
+const FRAMES: &[(&str, Wishes)] = &[
+    ("amqp://h?frame_max=0", (Some(0), None, None, None)),
+    ("amqp://h?frame_max=1", (Some(4096), None, None, None)),
+    ("amqp://h?frame_max=8", (Some(4096), None, None, None)),
+    ("amqp://h?frame_max=4095", (Some(4096), None, None, None)),
+    ("amqp://h?frame_max=4096", (Some(4096), None, None, None)),
+    ("amqp://h?frame_max=4097", (Some(4097), None, None, None)),
+    (
+        "amqp://h?frame_max=4294967295",
+        (Some(4_294_967_295), None, None, None),
+    ),
+];
+
+#[test]
+fn small_frames_are_not_wished(rt: HostRuntime) -> Result<(), Fail> {
+    are_wished(&rt, rt.alloc(), FRAMES)
+}
+
+const MECHANISMS: &[(&str, SASLMechanism)] = &[
+    ("amqp://h?auth_mechanism=plain", SASLMechanism::Plain),
+    ("amqp://h?auth_mechanism=PLAIN", SASLMechanism::Plain),
+    ("amqp://h?auth_mechanism=AMQPlain", SASLMechanism::AMQPlain),
+    ("amqp://h?auth_mechanism=External", SASLMechanism::External),
+    (
+        "amqp://h?auth_mechanism=anonymous",
+        SASLMechanism::Anonymous,
+    ),
+    (
+        "amqp://h?auth_mechanism=rabbit-cr-demo",
+        SASLMechanism::RabbitCrDemo,
+    ),
+    (
+        "amqp://h?auth_mechanism=plain&auth_mechanism=Rabbit-CR-Demo",
+        SASLMechanism::RabbitCrDemo,
+    ),
+];
+
+#[test]
+fn mechanisms_are_named(rt: HostRuntime) -> Result<(), Fail> {
+    for (text, mechanism) in MECHANISMS {
+        let wishes = (None, None, None, Some(*mechanism));
+        assert!(rt; is_wished(rt.alloc(), text, wishes), "{text}");
+    }
+    Ok(())
+}
+
+/// A value that is refused, and why; the first such pair decides.
+const REFUSED: &[(&str, UriFault)] = &[
+    (
+        "amqp://h?heartbeat=65536",
+        UriFault::BadNumber(Word::Heartbeat),
+    ),
+    (
+        "amqp://h?channel_max=65536",
+        UriFault::BadNumber(Word::ChannelMax),
+    ),
+    (
+        "amqp://h?frame_max=4294967296",
+        UriFault::BadNumber(Word::FrameMax),
+    ),
+    (
+        "amqp://h?frame_max=99999999999999999999",
+        UriFault::BadNumber(Word::FrameMax),
+    ),
+    ("amqp://h?heartbeat", UriFault::BadNumber(Word::Heartbeat)),
+    ("amqp://h?heartbeat=", UriFault::BadNumber(Word::Heartbeat)),
+    (
+        "amqp://h?heartbeat=+5",
+        UriFault::BadNumber(Word::Heartbeat),
+    ),
+    (
+        "amqp://h?heartbeat=%2B5",
+        UriFault::BadNumber(Word::Heartbeat),
+    ),
+    (
+        "amqp://h?heartbeat=-5",
+        UriFault::BadNumber(Word::Heartbeat),
+    ),
+    (
+        "amqp://h?heartbeat=5%20",
+        UriFault::BadNumber(Word::Heartbeat),
+    ),
+    (
+        "amqp://h?heartbeat=5=5",
+        UriFault::BadNumber(Word::Heartbeat),
+    ),
+    (
+        "amqp://h?heartbeat=0x5",
+        UriFault::BadNumber(Word::Heartbeat),
+    ),
+    (
+        "amqp://h?heartbeat=x&heartbeat=5",
+        UriFault::BadNumber(Word::Heartbeat),
+    ),
+    (
+        "amqp://h?heartbeat=x&frame_max=x",
+        UriFault::BadNumber(Word::Heartbeat),
+    ),
+    (
+        "amqp://h?frame_max=x&heartbeat=x",
+        UriFault::BadNumber(Word::FrameMax),
+    ),
+    ("amqp://h?auth_mechanism=x", UriFault::BadMechanism),
+    ("amqp://h?auth_mechanism", UriFault::BadMechanism),
+    ("amqp://h?auth_mechanism=plain+", UriFault::BadMechanism),
+    (
+        "amqp://h?auth_mechanism=x&heartbeat=x",
+        UriFault::BadMechanism,
+    ),
+];
+
+#[test]
+fn values_are_refused(rt: HostRuntime) -> Result<(), Fail> {
+    for (text, fault) in REFUSED {
+        assert!(rt; query(rt.alloc(), text) == Err(*fault), "{text}");
+    }
+    Ok(())
+}
