@@ -1,0 +1,11 @@
+//! Tests of `amqp_promise`.
+#![tactic(auto)]
+
+#[cfg(test)]
+mod cells;
+#[cfg(test)]
+mod promises;
+#[cfg(test)]
+mod support;
+#[cfg(test)]
+mod threads;

@@ -1,0 +1,136 @@
+//! The two ends of a promise.
+
+use crate::support::{Answer, Outcome, Refusal, Resolver, gives, polls};
+use amqp_promise::{Cancelable, Promise};
+use amqp_types::NoMemory;
+use futures::task::Poll;
+use futures::test::MockTask;
+use std::alloc::Global;
+use std::sync::Wait;
+use std::test::Fail;
+
+fn is_taken_once<R: Wait>(rt: &R, promise: &Answer, resolver: &Resolver) -> bool {
+    let nothing = gives(rt, promise, None);
+    resolver.complete(rt, Ok(5));
+    resolver.complete(rt, Ok(6));
+    let first = gives(rt, promise, Some(Ok(5)));
+    let taken = gives(rt, promise, None);
+    resolver.complete(rt, Ok(7));
+    nothing && first && taken && gives(rt, promise, None)
+}
+
+#[test]
+fn the_first_completion_is_taken_once(rt: HostRuntime) -> Result<(), NoMemory> {
+    let (promise, resolver) = Promise::new(rt.alloc(), "answer")?;
+    let told = is_taken_once(&rt, &promise, &resolver);
+    drop(resolver);
+    drop(promise);
+    assert!(rt; told);
+    Ok(())
+}
+
+// The calls that complete.
+#[derive(Clone, Copy)]
+enum Call {
+    Complete,
+    Resolve,
+    Reject,
+    Cancel,
+}
+
+fn make_call<R: Wait>(rt: &R, resolver: &Resolver, call: Call) {
+    match call {
+        Call::Complete => resolver.complete(rt, Ok(1)),
+        Call::Resolve => resolver.resolve(rt, 2),
+        Call::Reject => resolver.reject(rt, Refusal::Code(320)),
+        Call::Cancel => resolver.cancel(rt, Refusal::Code(504)),
+    }
+}
+
+// Whether a promise gives this whose resolver made a call, and whose other resolver then made one more.
+fn is_given_after<R: Wait>(
+    rt: &R,
+    alloc: Global,
+    first: Call,
+    second: Call,
+    wanted: Outcome,
+) -> Result<bool, NoMemory> {
+    let (promise, resolver) = Promise::new(alloc, "answer")?;
+    let told = match resolver.try_clone() {
+        Ok(other) => {
+            make_call(rt, &resolver, first);
+            make_call(rt, &other, second);
+            drop(other);
+            Ok(gives(rt, &promise, Some(wanted)))
+        }
+        Err(e) => Err(e),
+    };
+    drop(resolver);
+    drop(promise);
+    told
+}
+
+#[test]
+fn each_call_is_one_completion(rt: HostRuntime) -> Result<(), NoMemory> {
+    for (first, second, wanted) in [
+        (Call::Complete, Call::Cancel, Ok(1)),
+        (Call::Resolve, Call::Reject, Ok(2)),
+        (Call::Reject, Call::Complete, Err(Refusal::Code(320))),
+        (Call::Cancel, Call::Resolve, Err(Refusal::Code(504))),
+    ] {
+        assert!(rt; is_given_after(&rt, rt.alloc(), first, second, wanted)?);
+    }
+    Ok(())
+}
+
+#[test]
+fn a_promise_with_data_is_complete(rt: HostRuntime) -> Result<(), NoMemory> {
+    let promise: Answer = Promise::new_with_data(rt.alloc(), "answer", Ok(5))?;
+    let told = gives(&rt, &promise, Some(Ok(5))) && gives(&rt, &promise, None);
+    drop(promise);
+    assert!(rt; told);
+    Ok(())
+}
+
+fn have_marker(promise: &Answer, resolver: &Resolver, marker: &str) -> bool {
+    promise.marker() == marker && resolver.marker() == marker
+}
+
+#[test]
+fn both_ends_have_the_marker(rt: HostRuntime) -> Result<(), NoMemory> {
+    let (promise, resolver) = Promise::new(rt.alloc(), "channel.open")?;
+    let told = have_marker(&promise, &resolver, "channel.open");
+    drop(resolver);
+    drop(promise);
+    assert!(rt; told);
+    Ok(())
+}
+
+fn is_woken<R: Wait>(rt: &R, task: &MockTask, promise: &Answer, resolver: &Resolver) -> bool {
+    let waits = polls(rt, task, promise, Poll::Pending) && !task.is_woken();
+    resolver.resolve(rt, 5);
+    waits && task.is_woken() && polls(rt, task, promise, Poll::Ready(Ok(Ok(5))))
+}
+
+// The result was taken, and a task that polls is to be polled again.
+fn is_polled_again<R: Wait>(rt: &R, task: &MockTask, promise: &Answer) -> bool {
+    polls(rt, task, promise, Poll::Pending) && task.is_woken()
+}
+
+fn wakes<R: Wait>(rt: &R, alloc: Global, task: &MockTask) -> Result<bool, NoMemory> {
+    let (promise, resolver) = Promise::new(alloc, "answer")?;
+    let woken = is_woken(rt, task, &promise, &resolver);
+    let again = is_polled_again(rt, task, &promise);
+    drop(resolver);
+    drop(promise);
+    Ok(woken && again)
+}
+
+#[test]
+fn a_completion_wakes_who_polled(rt: HostRuntime) -> Result<(), Fail> {
+    let task = MockTask::new(&rt)?;
+    let told = wakes(&rt, rt.alloc(), &task);
+    drop(task);
+    assert!(rt; told?);
+    Ok(())
+}
