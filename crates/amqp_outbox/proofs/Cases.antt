@@ -1,5 +1,5 @@
 -- Small facts by cases.
-use Rattle.std.proofs.Common.{◌≡◌, sym, refl, ℕ, ◌<◌, ◌≤◌, ◌==◌, nat_lt, arith, true, false, Option, Some, None, is_some, Result, Ok, Err, IfOk, OnOk}
+use Rattle.std.proofs.Common.{◌≡◌, sym, refl, ℕ, ◌<◌, ◌≤◌, ◌==◌, nat_lt, arith, true, false, Option, Some, None, is_some, Result, Ok, Err, IfOk, IfNone, OnOk}
 use Rattle.std.proofs.lemmas.Bool.Decides.{nat_tests}
 use Rattle.std.specs.declared.cmp.Ordering.TheVariants.{Less, Equal, Greater}
 use Rattle.std.specs.Ordering.{nat_cmp}
@@ -12,6 +12,14 @@ on-ok (Err e) f p = tt
 pub if-ok : {A E : Type 0} {P Q : A → Type 0} (r : Result A E) → ((x : A) → P x → Q x) → IfOk r P → IfOk r Q
 if-ok (Ok x) f p = f x p
 if-ok (Err e) f p = tt
+
+pub if-none : {X P Q : Type 0} (o : Option X) → (P → Q) → IfNone o P → IfNone o Q
+if-none None f p = f p
+if-none (Some x) f p = tt
+
+pub on-none : {X P : Type 0} (o : Option X) → (o ≡ None → P) → IfNone o P
+on-none None f = f refl
+on-none (Some x) f = tt
 
 pub none-from : {X : Type 0} (o : Option X) → is_some o ≡ false → o ≡ None
 none-from None h = refl

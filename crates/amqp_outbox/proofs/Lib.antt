@@ -9,3 +9,4 @@ pub mod Places
 pub mod ByChannel
 pub mod Groups
 pub mod Dropping
+pub mod Waiting

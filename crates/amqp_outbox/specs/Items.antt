@@ -1,5 +1,5 @@
 -- The frames that wait, alone or in a group.
-use Rattle.std.specs.Prelude.{ℕ, Bool, true, false, if◌then◌else◌, List, [], ◌∷◌, length, sum_by, Option, Some, None}
+use Rattle.std.specs.Prelude.{ℕ, Bool, true, false, if◌then◌else◌, List, [], ◌∷◌, length, sum_by, flat_map, Option, Some, None}
 use Rattle.amqp_frame.specs.declared.frame.Frame.{Frame}
 use Rattle.amqp_frame.specs.declared.frame.Frame.TheVariants.{Method}
 use Rattle.amqp_frame.specs.declared.method.Method.TheVariants.{ChannelOpen, ChannelClose}
@@ -41,6 +41,10 @@ abbrev pub group_of : ℕ → List Frame → ℕ → List Item
 group_of channel [] promise = []
 group_of channel (frame ∷ []) promise = promised channel frame promise ∷ []
 group_of channel (frame ∷ next ∷ frames) promise = plain channel frame ∷ group_of channel (next ∷ frames) promise
+
+-- the frames of some groups, group after group
+abbrev pub frames_of : List (List Item) → List Item
+frames_of groups = flat_map (λ group. group) groups
 
 -- the channel of a group
 abbrev pub channel_of : List Item → Option ℕ

@@ -1,12 +1,14 @@
 -- The outbox as the code keeps it, and how it is seen.
-use Rattle.std.specs.Prelude.{◌≡◌, ℕ, List, [], ◌∷◌, Option, Some, None}
+use Rattle.std.specs.Prelude.{◌≡◌, ℕ, ◌+◌, ◌<◌, ◌^◌, List, [], ◌∷◌, length, Option, Some, None}
+use Rattle.amqp_outbox.specs.declared.item.Item.{Item}
 use Rattle.amqp_outbox.specs.declared.reply.Awaited.{Awaited}
 use Rattle.amqp_outbox.specs.declared.reply.Reply.{Reply}
 use Rattle.amqp_outbox.specs.declared.awaiting.Replies.{Replies}
 use Rattle.amqp_outbox.specs.declared.outbox.Outbox.{Outbox}
 use Rattle.amqp_outbox.specs.Listed.{at}
 use Rattle.amqp_outbox.specs.Replies.{method_of}
-use Rattle.amqp_outbox.specs.Queued.{Queued}
+use Rattle.amqp_outbox.specs.Items.{octets_of, channel_of}
+use Rattle.amqp_outbox.specs.Queued.{Queued, waiting_items, unsent_octets}
 use Rattle.amqp_outbox.specs.Order.{seen, waiting, HasPlaces}
 
 -- awaited replies, where there is one
@@ -38,13 +40,23 @@ queued o =
       awaited = seen list_seen o.awaiting.lists.entries;
     }
 
--- there are places for so many frames more in the control lane, which are dropped with this channel, or with none
-abbrev pub HasControlPlaces : Option ℕ → ℕ → Outbox → Type 0
-HasControlPlaces key n o = HasPlaces key n o.control.made o.control.slots.entries o.control.numbers.lists.entries
+-- so many frames more, of so many bytes in all, leave the number of frames that wait, and that of their bytes, within
+-- 64 bits
+abbrev pub CanCount : ℕ → ℕ → Queued → Type 0
+CanCount n octets q = (length (waiting_items q) + n < 2 ^ 64) × (unsent_octets q + octets < 2 ^ 64)
 
--- there is a place for one group more of a channel
-abbrev pub HasGroupPlace : Option ℕ → Outbox → Type 0
-HasGroupPlace key o = HasPlaces key 1 o.publish.made o.publish.slots.entries o.publish.numbers.lists.entries
+-- there are places for so many frames more in the control lane, of so many bytes in all, which are dropped with this
+-- channel, or with none
+abbrev pub HasControlPlaces : Option ℕ → ℕ → ℕ → Outbox → Type 0
+HasControlPlaces key n octets o =
+    HasPlaces key n o.control.made o.control.slots.entries o.control.numbers.lists.entries
+    × CanCount n octets (queued o)
+
+-- there is a place for this group
+abbrev pub HasGroupPlace : List Item → Outbox → Type 0
+HasGroupPlace group o =
+    HasPlaces (channel_of group) 1 o.publish.made o.publish.slots.entries o.publish.numbers.lists.entries
+    × CanCount (length group) (octets_of group) (queued o)
 
 -- there is a place for one more that awaits this reply on a channel
 abbrev pub HasReplyPlace : ℕ → Reply → Outbox → Type 0

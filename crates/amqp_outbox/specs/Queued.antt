@@ -1,5 +1,5 @@
 -- The outbox as plain lists, and what each of its calls does to them.
-use Rattle.std.specs.Prelude.{ℕ, ◌+◌, Bool, true, false, if◌then◌else◌, List, [], ◌∷◌, ◌++◌, drop, find, sum_by, Option, None, is_some}
+use Rattle.std.specs.Prelude.{ℕ, Bool, true, false, if◌then◌else◌, List, [], ◌∷◌, ◌++◌, drop, find, Option, None, is_some}
 use Rattle.std.specs.Option.{option_or, option_map}
 use Rattle.amqp_outbox.specs.declared.item.Item.{Item}
 use Rattle.amqp_outbox.specs.declared.reply.Awaited.{Awaited}
@@ -7,7 +7,7 @@ use Rattle.amqp_outbox.specs.declared.reply.Reply.{Reply}
 use Rattle.amqp_outbox.specs.declared.scope.Scope.{Scope}
 use Rattle.amqp_outbox.specs.declared.scope.Scope.TheVariants.{Unbegun, Control, All}
 use Rattle.amqp_outbox.specs.Lists.{head, without_first, is_number}
-use Rattle.amqp_outbox.specs.Items.{octets_of, dropped_with, channel_of, promise_of}
+use Rattle.amqp_outbox.specs.Items.{octets_of, dropped_with, frames_of, channel_of, promise_of}
 use Rattle.amqp_outbox.specs.Replies
 
 -- what waits to go out, and what is awaited
@@ -61,9 +61,13 @@ after_begun flow [] q = after_control flow q.control q
 abbrev pub after_next : Bool → Queued → Queued
 after_next flow q = after_begun flow q.begun q
 
+-- the frames that wait, in the order in which they go out where publishes flow and nothing comes between
+abbrev pub waiting_items : Queued → List Item
+waiting_items q = q.begun ++ q.control ++ frames_of q.publish
+
 -- how many bytes spell the frames that wait
 abbrev pub unsent_octets : Queued → ℕ
-unsent_octets q = octets_of q.control + sum_by octets_of q.publish + octets_of q.begun
+unsent_octets q = octets_of (waiting_items q)
 
 -- ---- what comes
 
@@ -93,6 +97,16 @@ awaited_promise channel reply q =
 -- the reply came that the first such one awaited
 abbrev pub answered : ℕ → Reply → Queued → Queued
 answered channel reply q = record q { awaited = Replies.answered channel reply q.awaited }
+
+-- ---- groups that have not begun
+
+-- the promise of the first group that has not begun
+abbrev pub unbegun_promise : Queued → Option (Option ℕ)
+unbegun_promise q = option_map promise_of (head q.publish)
+
+-- all but the first group that has not begun
+abbrev pub without_unbegun : Queued → Queued
+without_unbegun q = record q { publish = drop 1 q.publish }
 
 -- ---- a channel that goes
 

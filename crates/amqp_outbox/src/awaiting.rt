@@ -1,6 +1,6 @@
 //! The replies that are awaited, by channel.
 
-ghost use Rattle.std.specs.Prelude.{◌≡◌, ◌++◌, ◌∷◌, [], IfOk, IfSome, OnOk, IsTrue, None, drop, find};
+ghost use Rattle.std.specs.Prelude.{◌≡◌, ◌++◌, ◌∷◌, [], IfOk, IfSome, IfNone, OnOk, IsTrue, None, drop, find};
 ghost use Rattle.amqp_outbox.specs.Lists.{head, without_first};
 ghost use Rattle.amqp_outbox.specs.Listed.{at};
 ghost use Rattle.amqp_outbox.specs.Replies.{is_of, method_of, expected, first_awaited, answered, first_on, without_first_on};
@@ -119,6 +119,7 @@ impl Awaiting {
         ensures first { result ≡ first_awaited channel reply (seen list_seen self.old.lists.entries) }
         ensures rest { seen list_seen self.new.lists.entries
             ≡ answered channel reply (seen list_seen self.old.lists.entries) }
+        ensures none { IfNone result (seen list_seen self.new.lists.entries ≡ seen list_seen self.old.lists.entries) }
     {
         let found = self.take(channel, reply);
         self.tidy(channel);
@@ -129,6 +130,7 @@ impl Awaiting {
         ensures first { result ≡ first_awaited channel reply (seen list_seen self.old.lists.entries) }
         ensures rest { seen list_seen self.new.lists.entries
             ≡ answered channel reply (seen list_seen self.old.lists.entries) }
+        ensures none { IfNone result (seen list_seen self.new.lists.entries ≡ seen list_seen self.old.lists.entries) }
     {
         match self.lists.get_mut(&channel) {
             Some(list) => list.take(reply),

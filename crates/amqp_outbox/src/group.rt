@@ -1,11 +1,12 @@
 //! The frames of one publish.
 
-ghost use Rattle.std.specs.Prelude.{◌≡◌, ◌<◌, ◌++◌, ◌∷◌, [], IfOk, drop, length, map};
-ghost use Rattle.amqp_outbox.specs.Items.{plain, channel_of, promise_of, group_of};
+ghost use Rattle.std.specs.Prelude.{◌≡◌, ◌+◌, ◌<◌, ◌++◌, ◌∷◌, [], IfOk, drop, length, map, sum_by};
+ghost use Rattle.amqp_frame.specs.Frames.{encoding};
+ghost use Rattle.amqp_outbox.specs.Items.{plain, octets_of, channel_of, promise_of, group_of};
 
 use crate::item::Item;
 use crate::lane::Keyed;
-use amqp_frame::Frame;
+use amqp_frame::{Frame, encoded_len};
 use amqp_types::{ChannelId, NoMemory};
 use std::alloc::Global;
 use std::collections::VecDeque;
@@ -16,11 +17,14 @@ use std::marker::Model;
 pub struct Group {
     first: Item,
     rest: VecDeque<Item>,
+    /// How many octets spell all of them.
+    octets: u64,
 }
 
 impl Model for Group {
-    ghost use Rattle.std.specs.Prelude.{List, ◌∷◌};
+    ghost use Rattle.std.specs.Prelude.{◌≡◌, List, ◌∷◌};
     ghost use Rattle.amqp_outbox.specs.declared.item.Item.{Item};
+    ghost use Rattle.amqp_outbox.specs.Items.{octets_of};
 
     ghost Value = { List Item };
 
@@ -30,10 +34,13 @@ impl Model for Group {
     ghost coded = { Prim.hlevel (codes, value_code) };
 
     ghost view = { λ g. g.first ∷ g.rest.items };
+
+    ghost invariant = { λ g. g.octets ≡ octets_of (g.first ∷ g.rest.items) };
 }
 
 impl Group {
-    /// Frames of a channel as one group, which answers a promise.
+    /// Frames of a channel as one group, which answers a promise. Memory is refused too where 64 bits
+    /// cannot tell how many octets spell them.
     pub fn new(
         alloc: Global,
         channel: ChannelId,
@@ -43,12 +50,13 @@ impl Group {
         requires { 0 < length frames.items }
         ensures { IfOk result (λ g. g ≡ group_of channel frames.items promise) }
     {
+        let octets = octets_in(&frames)?;
         let Some(last) = frames.pop() else {
             unreachable!()
         };
         let last = Item::promised(channel, last, promise);
         match items_of(alloc, channel, frames) {
-            Ok(items) => Group::ended_by(items, last),
+            Ok(items) => Group::ended_by(items, last, octets),
             Err(refused) => {
                 drop(last);
                 Err(refused)
@@ -56,12 +64,17 @@ impl Group {
         }
     }
 
-    fn ended_by(mut items: VecDeque<Item>, last: Item) -> Result<Group, NoMemory>
+    fn ended_by(mut items: VecDeque<Item>, last: Item, octets: u64) -> Result<Group, NoMemory>
+        requires { octets ≡ octets_of (items.items ++ last ∷ []) }
         ensures { IfOk result (λ g. g ≡ items.items ++ last ∷ []) }
     {
         items.push_back(last)?;
         match items.pop_front() {
-            Some(first) => Ok(Group { first, rest: items }),
+            Some(first) => Ok(Group {
+                first,
+                rest: items,
+                octets,
+            }),
             None => unreachable!(),
         }
     }
@@ -80,6 +93,20 @@ impl Group {
         (self.first, self.rest)
     }
 
+    /// How many frames it has.
+    pub fn len(&self) -> u64
+        ensures { result ≡ length self.now }
+    {
+        self.rest.len() as u64 + 1
+    }
+
+    /// How many octets spell its frames.
+    pub fn octets(&self) -> u64
+        ensures { result ≡ octets_of self.now }
+    {
+        self.octets
+    }
+
     /// The promise that it answers.
     pub fn promise(&self) -> Option<u64>
         ensures { result ≡ promise_of self.now }
@@ -89,6 +116,27 @@ impl Group {
             None => self.first.promise,
         }
     }
+}
+
+// How many octets spell some frames, where 64 bits can tell.
+fn octets_in(frames: &[Frame]) -> Result<u64, NoMemory>
+    ensures { IfOk result (λ n. n ≡ sum_by (λ frame. length (encoding frame)) frames.now) }
+{
+    let mut octets = 0;
+    for frame in frames {
+        octets = plus(octets, frame)?;
+    }
+    Ok(octets)
+}
+
+fn plus(octets: u64, frame: &Frame) -> Result<u64, NoMemory>
+    ensures { IfOk result (λ n. n ≡ octets + length (encoding frame.now)) }
+{
+    let size = encoded_len(frame);
+    if u64::MAX - octets <= size {
+        return Err(NoMemory);
+    }
+    Ok(octets + size)
 }
 
 // Frames of a channel that answer no promise.

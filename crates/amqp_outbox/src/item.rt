@@ -1,11 +1,11 @@
 //! A frame that waits.
 
-ghost use Rattle.std.specs.Prelude.{◌≡◌};
-ghost use Rattle.amqp_outbox.specs.Items.{plain, promised, outlives, dropped_with};
+ghost use Rattle.std.specs.Prelude.{◌≡◌, ◌+◌, ◌≤◌, ◌^◌, IfOk, OnErr};
+ghost use Rattle.amqp_outbox.specs.Items.{plain, promised, size_of, outlives, dropped_with};
 
 use crate::lane::Keyed;
-use amqp_frame::{Frame, Method};
-use amqp_types::ChannelId;
+use amqp_frame::{Frame, Method, encoded_len};
+use amqp_types::{ChannelId, NoMemory};
 
 /// A frame that waits, on a channel, and the promise that it answers once it was sent whole.
 #[derive(Debug, Drop)]
@@ -36,6 +36,18 @@ impl Item {
             frame,
             promise: Some(number),
         }
+    }
+
+    /// How many octets spell its frame. Memory is refused where they are 2^64 - 1 or more.
+    pub fn octets(&self) -> Result<u64, NoMemory>
+        ensures ok { IfOk result (λ n. n ≡ size_of self.now) }
+        ensures err { OnErr result (2 ^ 64 ≤ size_of self.now + 1) }
+    {
+        let octets = encoded_len(&self.frame);
+        if octets == u64::MAX {
+            return Err(NoMemory);
+        }
+        Ok(octets)
     }
 
     /// The channel with which it goes from the control lane: none for channel.open and

@@ -14,6 +14,7 @@ mod numbers;
 mod outbox;
 mod reply;
 mod scope;
+mod tally;
 
 pub use group::Group;
 pub use item::Item;

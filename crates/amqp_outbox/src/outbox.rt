@@ -1,5 +1,9 @@
 //! The outbox.
 
+ghost use Rattle.std.specs.Prelude.{◌≡◌, ◌++◌, length};
+ghost use Rattle.amqp_outbox.specs.Items.{octets_of, frames_of};
+ghost use Rattle.amqp_outbox.specs.Order.{waiting};
+
 mod dropping;
 mod lanes;
 mod replies;
@@ -8,6 +12,7 @@ use crate::awaiting::Awaiting;
 use crate::group::Group;
 use crate::item::Item;
 use crate::lane::Lane;
+use crate::tally::Tally;
 use std::alloc::Global;
 use std::collections::VecDeque;
 
@@ -15,7 +20,8 @@ use std::collections::VecDeque;
 ///
 /// A call that adds takes memory, which can be refused; nothing is changed then. Where several
 /// things are to be added or none, places are made for them first, by the calls `reserve_`, and
-/// those that end in `_reserved` take no memory.
+/// those that end in `_reserved` take no memory. Memory is refused too where more would wait than 64
+/// bits can count.
 #[derive(Debug, Drop)]
 pub struct Outbox {
     alloc: Global,
@@ -23,4 +29,10 @@ pub struct Outbox {
     publish: Lane<Group>,
     begun: VecDeque<Item>,
     awaiting: Awaiting,
+    /// How much waits in the two lanes and of the begun group.
+    tally: Tally,
+    ghost counted: { tally.frames
+        ≡ length (begun.items ++ waiting control.slots.entries ++ frames_of (waiting publish.slots.entries)) },
+    ghost measured: { tally.octets
+        ≡ octets_of (begun.items ++ waiting control.slots.entries ++ frames_of (waiting publish.slots.entries)) },
 }

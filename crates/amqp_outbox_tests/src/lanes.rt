@@ -18,6 +18,7 @@ fn a_group_goes_unbroken_in<A: Abort>(
     assert!(rt; front(outbox, true) == Told::Method(1));
     assert!(rt; next(outbox, true) == (Told::Method(1), None));
     outbox.push_control(Item::plain(0, Frame::Heartbeat))?;
+    assert!(rt; front(outbox, false) == Told::Header(1));
     assert!(rt; next(outbox, false) == (Told::Header(1), None));
     assert!(rt; next(outbox, true) == (Told::Body(1), Some(7)));
     assert!(rt; next(outbox, true) == (Told::Heartbeat, None));

@@ -3,7 +3,7 @@
 ghost use Rattle.std.specs.Prelude.{◌≡◌, IfOk, length};
 
 use amqp_frame::{Frame, Method, RawKind};
-use amqp_outbox::Outbox;
+use amqp_outbox::{Group, Outbox};
 use amqp_types::{ChannelId, NoMemory, Payload};
 use std::alloc::Global;
 
@@ -63,6 +63,11 @@ pub fn publish(alloc: Global, channel: ChannelId) -> Result<Vec<Frame>, NoMemory
     frames.push(raw(alloc, channel, RawKind::Header)?)?;
     frames.push(raw(alloc, channel, RawKind::Body)?)?;
     Ok(frames)
+}
+
+/// A publish as one group.
+pub fn group(alloc: Global, channel: ChannelId, promise: u64) -> Result<Group, NoMemory> {
+    Group::new(alloc, channel, publish(alloc, channel)?, promise)
 }
 
 /// A method of a channel that is passed through.

@@ -3,13 +3,13 @@
 ghost use Rattle.std.specs.Prelude.{◌≡◌, ◌≢◌, ℕ, Option, OnOk, OnErr};
 ghost use Rattle.amqp_outbox.specs.declared.scope.Scope.TheVariants.{All};
 ghost use Rattle.amqp_outbox.specs.declared.reply.Reply.{Reply};
-ghost use Rattle.amqp_outbox.specs.Queued.{nothing, only, dropped, without_channel, group_promise, without_group, frame_promise, without_frame, reply_promise, without_reply, without_any};
+ghost use Rattle.amqp_outbox.specs.Queued.{nothing, only, unbegun_promise, without_unbegun, dropped, without_channel, group_promise, without_group, frame_promise, without_frame, reply_promise, without_reply, without_any};
 ghost use Rattle.amqp_outbox.specs.Parts.{queued, HasControlPlaces, HasReplyPlace};
 
 use super::Outbox;
 use crate::item::Item;
-use crate::lane::Lane;
 use crate::scope::Scope;
+use crate::tally::Tally;
 use amqp_types::{ChannelId, NoMemory};
 
 impl Outbox {
@@ -19,7 +19,8 @@ impl Outbox {
     pub fn drop_channel(&mut self, channel: ChannelId, scope: Scope) -> Option<Option<u64>>
         ensures promise { result ≡ dropped channel scope (queued self.old) }
         ensures rest { queued self.new ≡ without_channel channel scope (queued self.old) }
-        ensures control { (k : Option ℕ) (n : ℕ) → HasControlPlaces k n self.old → HasControlPlaces k n self.new }
+        ensures control { (k : Option ℕ) (n octets : ℕ) → HasControlPlaces k n octets self.old
+            → HasControlPlaces k n octets self.new }
         ensures reply { scope ≢ All → (c : ℕ) (r : Reply) → HasReplyPlace c r self.old → HasReplyPlace c r self.new }
     {
         match scope {
@@ -29,30 +30,49 @@ impl Outbox {
         }
     }
 
+    /// Takes out the first group that has not begun, whatever its channel, and gives its promise. `None`
+    /// where none is left.
+    pub fn drop_unbegun(&mut self) -> Option<Option<u64>>
+        ensures promise { result ≡ unbegun_promise (queued self.old) }
+        ensures rest { queued self.new ≡ without_unbegun (queued self.old) }
+        ensures control { (k : Option ℕ) (n octets : ℕ) → HasControlPlaces k n octets self.old
+            → HasControlPlaces k n octets self.new }
+        ensures reply { (c : ℕ) (r : Reply) → HasReplyPlace c r self.old → HasReplyPlace c r self.new }
+    {
+        let group = self.publish.next()?;
+        self.tally.take_group(&group);
+        Some(group.promise())
+    }
+
     fn drop_group(&mut self, channel: ChannelId) -> Option<Option<u64>>
         ensures promise { result ≡ group_promise channel (queued self.old) }
         ensures rest { queued self.new ≡ without_group channel (queued self.old) }
-        ensures control { self.new.control ≡ self.old.control }
+        ensures control { (k : Option ℕ) (n octets : ℕ) → HasControlPlaces k n octets self.old
+            → HasControlPlaces k n octets self.new }
         ensures awaiting { self.new.awaiting ≡ self.old.awaiting }
     {
         let group = self.publish.take(channel)?;
+        self.tally.take_group(&group);
         Some(group.promise())
     }
 
     fn drop_frame(&mut self, channel: ChannelId) -> Option<Option<u64>>
         ensures promise { result ≡ frame_promise channel (queued self.old) }
         ensures rest { queued self.new ≡ without_frame channel (queued self.old) }
-        ensures control { (k : Option ℕ) (n : ℕ) → HasControlPlaces k n self.old → HasControlPlaces k n self.new }
+        ensures control { (k : Option ℕ) (n octets : ℕ) → HasControlPlaces k n octets self.old
+            → HasControlPlaces k n octets self.new }
         ensures awaiting { self.new.awaiting ≡ self.old.awaiting }
     {
         let item = self.control.take(channel)?;
+        self.tally.take(&item);
         Some(item.promise)
     }
 
     fn drop_reply(&mut self, channel: ChannelId) -> Option<Option<u64>>
         ensures promise { result ≡ reply_promise channel (queued self.old) }
         ensures rest { queued self.new ≡ without_reply channel (queued self.old) }
-        ensures control { self.new.control ≡ self.old.control }
+        ensures control { (k : Option ℕ) (n octets : ℕ) → HasControlPlaces k n octets self.old
+            → HasControlPlaces k n octets self.new }
     {
         let awaited = self.awaiting.drop_first(channel)?;
         Some(awaited.promise)
@@ -61,7 +81,8 @@ impl Outbox {
     fn drop_any(&mut self, channel: ChannelId) -> Option<Option<u64>>
         ensures promise { result ≡ dropped channel All (queued self.old) }
         ensures rest { queued self.new ≡ without_any channel (queued self.old) }
-        ensures control { (k : Option ℕ) (n : ℕ) → HasControlPlaces k n self.old → HasControlPlaces k n self.new }
+        ensures control { (k : Option ℕ) (n octets : ℕ) → HasControlPlaces k n octets self.old
+            → HasControlPlaces k n octets self.new }
     {
         if let Some(promise) = self.drop_group(channel) {
             return Some(promise);
@@ -80,6 +101,7 @@ impl Outbox {
         self.publish.clear();
         self.begun.clear();
         self.awaiting.clear();
+        self.tally = Tally::none();
     }
 
     /// A frame alone waits in the control lane, and all else is dropped.
@@ -87,14 +109,12 @@ impl Outbox {
         ensures ok { OnOk result (queued self.new ≡ only item) }
         ensures err { OnErr result (queued self.new ≡ queued self.old) }
     {
-        let mut control = Lane::new(self.alloc);
-        if let Err(refused) = control.reserve(item.dropped_with(), 1) {
-            drop(item);
+        let mut fresh = Outbox::new(self.alloc);
+        if let Err(refused) = fresh.push_control(item) {
+            drop(fresh);
             return Err(refused);
         }
-        control.push_reserved(item);
-        self.drop_all();
-        self.control = control;
+        *self = fresh;
         Ok(())
     }
 }

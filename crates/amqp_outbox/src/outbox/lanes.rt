@@ -1,16 +1,18 @@
 //! The two lanes, and the group that has begun.
 
-ghost use Rattle.std.specs.Prelude.{◌≡◌, ◌<◌, ℕ, suc, Option, Some, OnOk, OnErr, length, option_copied};
+ghost use Rattle.std.specs.Prelude.{◌≡◌, ◌+◌, ◌<◌, ℕ, suc, List, Option, OnOk, OnErr, length, option_copied};
+ghost use Rattle.amqp_outbox.specs.declared.item.Item.{Item};
 ghost use Rattle.amqp_outbox.specs.declared.reply.Reply.{Reply};
-ghost use Rattle.amqp_outbox.specs.Items.{channel_of, dropped_with, group_of};
-ghost use Rattle.amqp_outbox.specs.Queued.{nothing, next_item, after_next, pushed_control, pushed_group};
+ghost use Rattle.amqp_outbox.specs.Items.{size_of, dropped_with, group_of};
+ghost use Rattle.amqp_outbox.specs.Queued.{nothing, next_item, after_next, waiting_items, unsent_octets, pushed_control, pushed_group};
 ghost use Rattle.amqp_outbox.specs.Parts.{queued, HasControlPlaces, HasGroupPlace, HasReplyPlace};
 
 use super::Outbox;
 use crate::awaiting::Awaiting;
 use crate::group::Group;
 use crate::item::Item;
-use crate::lane::Lane;
+use crate::lane::{Keyed, Lane};
+use crate::tally::Tally;
 use amqp_frame::Frame;
 use amqp_types::{ChannelId, NoMemory};
 use std::alloc::Global;
@@ -27,7 +29,22 @@ impl Outbox {
             publish: Lane::new(alloc),
             begun: VecDeque::new(alloc),
             awaiting: Awaiting::new(alloc),
+            tally: Tally::none(),
         }
+    }
+
+    /// How many frames wait: in the two lanes, and of the group that has begun.
+    pub fn len(&self) -> u64
+        ensures { result ≡ length (waiting_items (queued self.now)) }
+    {
+        self.tally.frames
+    }
+
+    /// How many octets spell the frames that wait.
+    pub fn unsent_len(&self) -> u64
+        ensures { result ≡ unsent_octets (queued self.now) }
+    {
+        self.tally.octets
     }
 
     /// The frame that `next` would give. Publishes wait where they do not flow.
@@ -54,9 +71,11 @@ impl Outbox {
         ensures rest { queued self.new ≡ after_next flow (queued self.old) }
     {
         if let Some(item) = self.begun.pop_front() {
+            self.tally.take(&item);
             return Some(item);
         }
         if let Some(item) = self.control.next() {
+            self.tally.take(&item);
             return Some(item);
         }
         if !flow {
@@ -64,6 +83,7 @@ impl Outbox {
         }
         let (first, rest) = self.publish.next()?.into_parts();
         self.begun = rest;
+        self.tally.take(&first);
         Some(first)
     }
 
@@ -72,12 +92,21 @@ impl Outbox {
         ensures ok { OnOk result (queued self.new ≡ pushed_control item (queued self.old)) }
         ensures err { OnErr result (queued self.new ≡ queued self.old) }
     {
-        if let Err(refused) = self.reserve_control(item.dropped_with(), 1) {
+        if let Err(refused) = self.reserve_item(&item) {
             drop(item);
             return Err(refused);
         }
         self.push_control_reserved(item);
         Ok(())
+    }
+
+    // Makes a place for a frame.
+    fn reserve_item(&mut self, item: &Item) -> Result<(), NoMemory>
+        ensures same { queued self.new ≡ queued self.old }
+        ensures place { OnOk result (HasControlPlaces (dropped_with item.now) 1 (size_of item.now) self.new) }
+    {
+        let octets = item.octets()?;
+        self.reserve_control(item.dropped_with(), 1, octets)
     }
 
     /// Frames of a channel go last in the publish lane, as one group that answers a promise.
@@ -92,56 +121,66 @@ impl Outbox {
             ≡ pushed_group (group_of channel frames.items promise) (queued self.old)) }
         ensures err { OnErr result (queued self.new ≡ queued self.old) }
     {
-        if let Err(refused) = self.reserve_group(channel) {
-            drop(frames);
+        let group = Group::new(self.alloc, channel, frames, promise)?;
+        if let Err(refused) = self.reserve_group(&group) {
+            drop(group);
             return Err(refused);
         }
-        let group = Group::new(self.alloc, channel, frames, promise)?;
         self.push_group_reserved(group);
         Ok(())
     }
 
-    /// Makes places for so many frames more in the control lane, each dropped with this channel, or
-    /// with none (`Item::dropped_with`).
+    /// Makes places for so many frames more in the control lane, of so many octets in all
+    /// (`Item::octets`), each dropped with this channel, or with none (`Item::dropped_with`).
     pub fn reserve_control(
         &mut self,
         dropped_with: Option<ChannelId>,
         frames: usize,
+        octets: u64,
     ) -> Result<(), NoMemory>
         ensures same { queued self.new ≡ queued self.old }
-        ensures places { OnOk result (HasControlPlaces dropped_with frames self.new) }
-        ensures group { (k : Option ℕ) → HasGroupPlace k self.old → HasGroupPlace k self.new }
+        ensures places { OnOk result (HasControlPlaces dropped_with frames octets self.new) }
+        ensures group { (g : List Item) → HasGroupPlace g self.old → HasGroupPlace g self.new }
         ensures reply { (c : ℕ) (r : Reply) → HasReplyPlace c r self.old → HasReplyPlace c r self.new }
     {
+        if !self.tally.has_room(frames as u64, octets) {
+            return Err(NoMemory);
+        }
         self.control.reserve(dropped_with, frames)
     }
 
-    /// Makes a place for one group more of a channel.
-    pub fn reserve_group(&mut self, channel: ChannelId) -> Result<(), NoMemory>
+    /// Makes a place for a group.
+    pub fn reserve_group(&mut self, group: &Group) -> Result<(), NoMemory>
         ensures same { queued self.new ≡ queued self.old }
-        ensures place { OnOk result (HasGroupPlace (Some channel) self.new) }
-        ensures control { (k : Option ℕ) (n : ℕ) → HasControlPlaces k n self.old → HasControlPlaces k n self.new }
+        ensures place { OnOk result (HasGroupPlace group.now self.new) }
+        ensures control { (k : Option ℕ) (n octets : ℕ) → HasControlPlaces k n octets self.old
+            → HasControlPlaces k n octets self.new }
         ensures reply { (c : ℕ) (r : Reply) → HasReplyPlace c r self.old → HasReplyPlace c r self.new }
     {
-        self.publish.reserve(Some(channel), 1)
+        if !self.tally.has_room(group.len(), group.octets()) {
+            return Err(NoMemory);
+        }
+        self.publish.reserve(group.key(), 1)
     }
 
     /// A frame goes last in the control lane, where it has its place.
     pub fn push_control_reserved(&mut self, item: Item)
-        requires { HasControlPlaces (dropped_with item) 1 self.old }
+        requires { HasControlPlaces (dropped_with item) 1 (size_of item) self.old }
         ensures queued { queued self.new ≡ pushed_control item (queued self.old) }
-        ensures control { (n : ℕ) → HasControlPlaces (dropped_with item) (suc n) self.old
-            → HasControlPlaces (dropped_with item) n self.new }
+        ensures control { (n octets : ℕ) → HasControlPlaces (dropped_with item) (suc n) (size_of item + octets) self.old
+            → HasControlPlaces (dropped_with item) n octets self.new }
         ensures reply { (c : ℕ) (r : Reply) → HasReplyPlace c r self.old → HasReplyPlace c r self.new }
     {
+        self.tally.add(&item);
         self.control.push_reserved(item);
     }
 
     /// A group goes last in the publish lane, where it has its place.
     pub fn push_group_reserved(&mut self, group: Group)
-        requires { HasGroupPlace (channel_of group) self.old }
+        requires { HasGroupPlace group self.old }
         ensures { queued self.new ≡ pushed_group group (queued self.old) }
     {
+        self.tally.add_group(&group);
         self.publish.push_reserved(group);
     }
 }

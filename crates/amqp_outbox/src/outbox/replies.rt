@@ -1,6 +1,7 @@
 //! The awaited replies.
 
-ghost use Rattle.std.specs.Prelude.{◌≡◌, ℕ, Option, OnOk, OnErr};
+ghost use Rattle.std.specs.Prelude.{◌≡◌, ℕ, List, Option, IfNone, OnOk, OnErr};
+ghost use Rattle.amqp_outbox.specs.declared.item.Item.{Item};
 ghost use Rattle.amqp_outbox.specs.Queued.{expected, awaited_promise, answered};
 ghost use Rattle.amqp_outbox.specs.Parts.{queued, HasControlPlaces, HasGroupPlace, HasReplyPlace};
 
@@ -29,8 +30,9 @@ impl Outbox {
     pub fn reserve_reply(&mut self, channel: ChannelId, reply: Reply) -> Result<(), NoMemory>
         ensures same { queued self.new ≡ queued self.old }
         ensures place { OnOk result (HasReplyPlace channel reply self.new) }
-        ensures control { (k : Option ℕ) (n : ℕ) → HasControlPlaces k n self.old → HasControlPlaces k n self.new }
-        ensures group { (k : Option ℕ) → HasGroupPlace k self.old → HasGroupPlace k self.new }
+        ensures control { (k : Option ℕ) (n octets : ℕ) → HasControlPlaces k n octets self.old
+            → HasControlPlaces k n octets self.new }
+        ensures group { (g : List Item) → HasGroupPlace g self.old → HasGroupPlace g self.new }
     {
         self.awaiting.reserve(channel, reply)
     }
@@ -39,7 +41,8 @@ impl Outbox {
     pub fn expect_reserved(&mut self, channel: ChannelId, awaited: Awaited)
         requires { HasReplyPlace channel awaited.reply self.old }
         ensures queued { queued self.new ≡ expected channel awaited (queued self.old) }
-        ensures control { (k : Option ℕ) (n : ℕ) → HasControlPlaces k n self.old → HasControlPlaces k n self.new }
+        ensures control { (k : Option ℕ) (n octets : ℕ) → HasControlPlaces k n octets self.old
+            → HasControlPlaces k n octets self.new }
     {
         self.awaiting.expect_reserved(channel, awaited);
     }
@@ -49,6 +52,7 @@ impl Outbox {
     pub fn answer(&mut self, channel: ChannelId, reply: Reply) -> Option<Option<u64>>
         ensures promise { result ≡ awaited_promise channel reply (queued self.old) }
         ensures rest { queued self.new ≡ answered channel reply (queued self.old) }
+        ensures none { IfNone result (queued self.new ≡ queued self.old) }
     {
         let awaited = self.awaiting.answered(channel, reply)?;
         Some(awaited.promise)

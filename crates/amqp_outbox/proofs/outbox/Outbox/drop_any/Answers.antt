@@ -24,3 +24,11 @@ returns-clause-rest c =
     sym c.in_default-drop_frame.is ∙ c.drop_frame.ensures.promise ∙ ap (frame_promise channel) same in
     let still : queued c.drop_frame.new.self ≡ q = c.drop_frame.ensures.rest ∙ ap (without_frame channel) same ∙ none-frame channel q no_frame in
     c.drop_reply.ensures.rest ∙ ap (without_reply channel) still ∙ without-reply channel q no_group no_frame
+
+pub returns-in-Some-drop_frame-clause-control : goal.returns-in-Some-drop_frame-clause-control
+returns-in-Some-drop_frame-clause-control c k n octets has =
+    c.drop_frame.ensures.control k n octets (c.drop_group.ensures.control k n octets has)
+
+pub returns-clause-control : goal.returns-clause-control
+returns-clause-control c k n octets has =
+    c.drop_reply.ensures.control k n octets (c.drop_frame.ensures.control k n octets (c.drop_group.ensures.control k n octets has))
