@@ -1,7 +1,12 @@
 //! The words of the program.
 
+use crate::publishes::Load;
+
 /// The longest payload of a frame of 131072 octets.
 const LONGEST: u32 = 131_064;
+
+/// The greatest channel that the server has.
+const CHANNELS: u16 = 2_047;
 
 /// What is to be done, and how often.
 #[derive(Clone, Copy, Debug, PartialEq, Eq)]
@@ -12,6 +17,10 @@ pub enum Job {
     Read { size: u32, count: u64 },
     /// Sends methods over a session.
     Sends { count: u64 },
+    /// Publishes over a session.
+    Publishes(Load),
+    /// Publishes over a session, whose channels are closed before anything is sent.
+    Closes(Load),
 }
 
 // A number of times.
@@ -30,9 +39,35 @@ fn size_of(word: Option<String>) -> Option<u32> {
     }
 }
 
+// A number of channels.
+fn channels_of(word: Option<String>) -> Option<u16> {
+    match word?.parse::<u16>() {
+        Ok(channels) if 1 <= channels && channels <= CHANNELS => Some(channels),
+        _ => None,
+    }
+}
+
+// What is published: over how many channels, of which size, and how often.
+fn load_of(words: [Option<String>; 3]) -> Option<Load> {
+    let [channels, size, count] = words;
+    Some(Load {
+        channels: channels_of(channels)?,
+        size: size_of(size)?,
+        count: count_of(count)?,
+    })
+}
+
 /// The job that words tell.
-pub fn job_of(kind: Option<String>, first: Option<String>, second: Option<String>) -> Option<Job> {
+pub fn job_of(
+    kind: Option<String>,
+    first: Option<String>,
+    second: Option<String>,
+    third: Option<String>,
+) -> Option<Job> {
     match kind?.as_str() {
+        "publishes" => load_of([first, second, third]).map(Job::Publishes),
+        "closes" => load_of([first, second, third]).map(Job::Closes),
+        _ if third.is_some() => None,
         "write" => Some(Job::Write {
             size: size_of(first)?,
             count: count_of(second)?,

@@ -1,10 +1,12 @@
 //! Does one kind of work so many times, for whoever times it: writes or reads body frames in memory,
-//! or sends over a session that is driven call by call.
+//! or sends or publishes over a session that is driven call by call.
 //!
 //! It says what it did, and no time: `bench/run` times it.
 #![tactic(auto)]
 
+mod driven;
 mod job;
+mod publishes;
 mod sends;
 mod wire;
 
@@ -13,7 +15,8 @@ use std::io::ErrorKind;
 use std::process::ExitCode;
 use std::{env, io};
 
-const USAGE: &str = "usage: amqp_bench write SIZE COUNT | read SIZE COUNT | sends COUNT";
+const USAGE: &str = "usage: amqp_bench write SIZE COUNT | read SIZE COUNT | sends COUNT \
+    | publishes CHANNELS SIZE COUNT | closes CHANNELS SIZE COUNT";
 
 // The job that the words after the program's name tell.
 fn job_given(rt: &HostRuntime) -> io::Result<Option<Job>> {
@@ -21,7 +24,8 @@ fn job_given(rt: &HostRuntime) -> io::Result<Option<Job>> {
     let kind = words.next();
     let first = words.next();
     let second = words.next();
-    Ok(job_of(kind, first, second))
+    let third = words.next();
+    Ok(job_of(kind, first, second, third))
 }
 
 // What was done, in octets or in answers; nothing where memory was refused.
@@ -30,6 +34,8 @@ fn done_of(rt: &HostRuntime, job: Job) -> Option<u64> {
         Job::Write { size, count } => wire::write(rt.alloc(), size, count),
         Job::Read { size, count } => wire::read(rt.alloc(), size, count),
         Job::Sends { count } => sends::sends(rt.alloc(), count),
+        Job::Publishes(load) => publishes::publishes(rt.alloc(), load, false),
+        Job::Closes(load) => publishes::publishes(rt.alloc(), load, true),
     }
 }
 
@@ -49,6 +55,10 @@ fn run(rt: &HostRuntime) -> io::Result<ExitCode> {
             println!(rt; "read {count} frames of {size} octets: {done} octets in all")?
         }
         Job::Sends { count } => println!(rt; "sent {count} methods: {done} answers taken")?,
+        Job::Publishes(load) | Job::Closes(load) => {
+            let count = load.count;
+            println!(rt; "published {count} bodies: {done} of them sent")?
+        }
     }
     Ok(ExitCode::SUCCESS)
 }

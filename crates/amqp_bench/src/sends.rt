@@ -1,45 +1,9 @@
 //! Sends over a session that is driven call by call.
 
-use amqp_frame::{Frame, Method, RawMethod, encoded_len};
-use amqp_session::{Answer, ChanRef, Cmd, Result, Session};
-use amqp_types::{FieldTable, LongString};
+use crate::driven::{connect, is_sent, send_all};
+use amqp_frame::{Frame, Method, RawMethod};
+use amqp_session::{ChanRef, Cmd, Result, Session};
 use std::alloc::Global;
-
-// Takes all frames that can be written, and tells the session that their last octet was taken.
-fn send_all(session: &mut Session) {
-    for _ in 0..u64::MAX {
-        let space = session.capacity().saturating_sub(session.unsent());
-        match session.next_frame(space) {
-            Some(frame) => {
-                let length = encoded_len(&frame);
-                drop(frame);
-                session.taken(length.min(session.unsent()), 0);
-            }
-            None => return,
-        }
-    }
-}
-
-// Start, of a server without properties.
-fn start(alloc: Global) -> Frame {
-    let mechanisms = LongString::from_vec(Vec::new(alloc));
-    let locales = LongString::from_vec(Vec::new(alloc));
-    Frame::Method(
-        0,
-        Method::Start(0, 9, FieldTable::new(alloc), mechanisms, locales),
-    )
-}
-
-// Opens the connection.
-fn connect(alloc: Global, session: &mut Session) -> Result<()> {
-    session.asked();
-    session.linked(0)?;
-    session.frame(start(alloc), 0, 0)?;
-    session.frame(Frame::Method(0, Method::Tune(2047, 131_072, 60)), 0, 0)?;
-    session.frame(Frame::Method(0, Method::OpenOk), 0, 0)?;
-    send_all(session);
-    Ok(())
-}
 
 // Opens channel 1, and gives the promise that opened it.
 fn open_channel(session: &mut Session) -> Result<Option<u64>> {
@@ -47,13 +11,6 @@ fn open_channel(session: &mut Session) -> Result<Option<u64>> {
     send_all(session);
     session.frame(Frame::Method(1, Method::ChannelOpenOk), 0, 0)?;
     Ok(opened)
-}
-
-// Whether this is the answer that all was sent. It takes the answer.
-fn is_sent(answer: Option<Result<Answer>>) -> bool {
-    let sent = matches!(answer, Some(Ok(Answer::Sent)));
-    drop(answer);
-    sent
 }
 
 // Sends a method without arguments, and takes the answer: whether it was sent.

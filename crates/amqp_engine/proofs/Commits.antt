@@ -1,13 +1,14 @@
 -- Committing frames one by one.
-use Rattle.std.proofs.Common.{◌≡◌, ◌≤◌, ◌<◌, ℕ, zero, suc, ◌-◌, ◌++◌, Bool, true, false, if◌then◌else◌, List, [], ◌∷◌, length, drop, Option, Some, None, refl, ap, sym, ◌∙◌, arith, length-append}
+use Rattle.std.proofs.Common.{◌≡◌, ◌≤◌, ◌<◌, ℕ, zero, suc, ◌-◌, ◌++◌, List, [], ◌∷◌, length, Option, Some, None, refl, ap, sym, ◌∙◌, arith, length-append}
 use Rattle.amqp_frame.specs.declared.frame.Frame.{Frame}
 use Rattle.amqp_frame.specs.declared.frame.Frame.TheVariants.{ProtocolHeader, Method, Raw, Heartbeat}
 use Rattle.amqp_frame.specs.Frames.{encoding}
-use Rattle.amqp_session.specs.declared.lanes.Item.{Item}
+use Rattle.amqp_outbox.specs.declared.item.Item.{Item}
+use Rattle.amqp_outbox.specs.Queued.{Queued, waiting_items, after_next}
 use Rattle.amqp_session.specs.declared.committed.Mark.{Mark}
-use Rattle.amqp_session.specs.Talk.{is_open}
 use Rattle.amqp_session.specs.Writing as writing
-use Rattle.amqp_session.specs.Writing.{head, fitting, mark_of}
+use Rattle.amqp_session.specs.Writing.{flows, mark_of}
+use Rattle.amqp_session.proofs.Finishing.{next-first}
 use Rattle.amqp_engine.specs.Engine.{Engine, commit_one, committed_as, commits, fitting_next}
 use Rattle.amqp_engine.specs.Play.{waiting}
 
@@ -42,7 +43,7 @@ abbrev pub with_frame : Option Item → Engine → Engine
 with_frame None e = e
 with_frame (Some item) e =
     record e {
-      talk = record e.talk { control = drop 1 e.talk.control; committed = e.talk.committed ++ mark_of item ∷ [] };
+      talk = record e.talk { outbox = after_next (flows e.talk) e.talk.outbox; committed = e.talk.committed ++ mark_of item ∷ [] };
       unsent = e.unsent ++ encoding item.frame;
     }
 
@@ -56,33 +57,28 @@ commit_one-is e = committed_as-is (fitting_next e) e refl
 
 -- what is neither queued nor committed nor unsent stays
 with_frame-keeps : {A : Type 0} (f : Engine → A)
-    → ((e : Engine) (fs : List Item) (ms : List Mark) (bytes : List ℕ)
-    → f (record e { talk = record e.talk { control = fs; committed = ms }; unsent = bytes }) ≡ f e)
+    → ((e : Engine) (q : Queued) (ms : List Mark) (bytes : List ℕ)
+    → f (record e { talk = record e.talk { outbox = q; committed = ms }; unsent = bytes }) ≡ f e)
     → (o : Option Item) (e : Engine) → f (with_frame o e) ≡ f e
 with_frame-keeps f h None e = refl
 with_frame-keeps f h (Some x) e = h e _ _ _
 
 pub commits-keep : {A : Type 0} (f : Engine → A)
-    → ((e : Engine) (fs : List Item) (ms : List Mark) (bytes : List ℕ)
-    → f (record e { talk = record e.talk { control = fs; committed = ms }; unsent = bytes }) ≡ f e)
+    → ((e : Engine) (q : Queued) (ms : List Mark) (bytes : List ℕ)
+    → f (record e { talk = record e.talk { outbox = q; committed = ms }; unsent = bytes }) ≡ f e)
     → (n : ℕ) (e : Engine) → f (commits n e) ≡ f e
 commits-keep f h zero e = refl
 commits-keep f h (suc n) e =
     commits-keep f h n (commit_one e) ∙ ap f (commit_one-is e) ∙ with_frame-keeps f h (fitting_next e) e
 
--- a committed frame was the head of what waited
-pub fitting-control : (space : ℕ) (b : Bool) (control : List Item) (f : Item)
-    → fitting space (if b then head control else None) ≡ Some f → length control ≡ suc (length (drop 1 control))
-fitting-control space true [] f h = cc
-fitting-control space true (x ∷ control) f h = refl
-fitting-control space false control f h = cc
-
+-- a committed frame was the first of those that waited
 waiting-with_frame : (o : Option Item) (e : Engine) → fitting_next e ≡ o → waiting (with_frame o e) ≤ waiting e
 waiting-with_frame None e h = omega arith
 waiting-with_frame (Some f) e h =
-    let control : length e.talk.control ≡ suc (length (drop 1 e.talk.control)) =
-    fitting-control (e.talk.capacity - length e.unsent) (is_open e.talk) e.talk.control f h in
-    omega arith
+    let q' : Queued = after_next (flows e.talk) e.talk.outbox in
+    let waits : length (waiting_items e.talk.outbox) ≡ suc (length (waiting_items q')) =
+    ap length (next-first (e.talk.capacity - length e.unsent) e.talk f h) in
+    omega (arith, waits)
 
 pub waiting-commits : (n : ℕ) (e : Engine) → waiting (commits n e) ≤ waiting e
 waiting-commits zero e = omega arith

@@ -8,7 +8,10 @@ use Rattle.amqp_frame.specs.declared.frame.Frame.{Frame}
 use Rattle.amqp_frame.specs.declared.frame.Read.{Read}
 use Rattle.amqp_frame.specs.declared.frame.Read.TheVariants.{Whole, More, TooLarge, BadHeartbeat, Bad, NoMemory as ReadNoMemory}
 use Rattle.amqp_frame.specs.Frames.{encoding}
-use Rattle.amqp_session.specs.declared.lanes.Item.{Item}
+use Rattle.amqp_outbox.specs.declared.item.Item.{Item}
+use Rattle.amqp_outbox.specs.Items.{size_of, plain}
+use Rattle.amqp_outbox.specs.Queued as queued
+use Rattle.amqp_outbox.specs.Queued.{Queued, waiting_items, after_next, only}
 use Rattle.amqp_session.specs.declared.state.Link.{Link}
 use Rattle.amqp_session.specs.declared.state.Link.TheVariants.{Wanted, Asked, Open, Ended}
 use Rattle.amqp_session.specs.declared.command.Cmd.{Cmd}
@@ -19,14 +22,14 @@ use Rattle.amqp_session.specs.declared.error.ErrorKind.TheVariants.{IOError}
 use Rattle.amqp_session.specs.declared.misread.Misread.{Misread}
 use Rattle.amqp_session.specs.declared.misread.Misread.TheVariants as misreads
 use Rattle.amqp_session.specs.Talk.{Talk, has_ended, is_open, is_open_link, is_asked, is_asked_link, is_wanted_link, wants_link, end_of_link}
-use Rattle.amqp_session.specs.Changes.{present_at, plain, fail}
+use Rattle.amqp_session.specs.Changes.{present_at, fail}
 use Rattle.amqp_session.specs.Handshake.{protocol_header}
 use Rattle.amqp_session.specs.Links.{asked, linked, link_failed, piece, misread, lost}
 use Rattle.amqp_session.specs.Frames.{on_frame}
 use Rattle.amqp_session.specs.Commands.{command}
 use Rattle.amqp_session.specs.Answers.{answer_of, take_answer}
 use Rattle.amqp_session.specs.Listed.{without}
-use Rattle.amqp_session.specs.Writing.{frames_waiting, taken, next_item, mark_of, fitting, size_of, head}
+use Rattle.amqp_session.specs.Writing.{frames_waiting, taken, flows, next_item, mark_of, fitting}
 use Rattle.amqp_engine.specs.declared.port.Step.{Step}
 use Rattle.amqp_engine.specs.declared.port.Step.TheVariants.{Linked, LinkFailed, Piece, End, Fault, Room, Tick, Command}
 use Rattle.amqp_engine.specs.declared.port.Wrote.{Wrote}
@@ -65,7 +68,7 @@ pub record Rules (T : Cmd → Type 0) (L : List Frame → Type 0) (I : Talk → 
   pub room : (t : Talk) → I t → 8 ≤ t.capacity
   pub linked : (t : Talk) → is_asked t ≡ true → I t → P (linked t) []
   pub commit : (t : Talk) (fs : List Frame) (item : Item) → next_item t ≡ Some item → P t fs
-      → P (record t { control = drop 1 t.control; committed = t.committed ++ mark_of item ∷ [] }) (fs ++ item.frame ∷ [])
+      → P (record t { outbox = after_next (flows t) t.outbox; committed = t.committed ++ mark_of item ∷ [] }) (fs ++ item.frame ∷ [])
   pub asked : Keeps I P asked
   pub moment : (at : ℕ) → Keeps I P (present_at at)
   pub failed : Keeps I P link_failed
@@ -241,7 +244,7 @@ module _ (T : Cmd → Type 0) (L : List Frame → Type 0) (I : Talk → Type 0) 
   -- a link that has just come, with nothing but the header to be said
   pub record Fresh (e : Engine) : Type 0 where
     pub opened : is_open e.talk ≡ true
-    pub control : e.talk.control ≡ plain 0 protocol_header ∷ []
+    pub outbox : e.talk.outbox ≡ only (plain 0 protocol_header)
     pub unsent : e.unsent ≡ []
     pub room : 8 ≤ e.talk.capacity
 
@@ -258,7 +261,7 @@ module _ (T : Cmd → Type 0) (L : List Frame → Type 0) (I : Talk → Type 0) 
       let asked_t : is_asked t ≡ true = present-keeps is_asked at e.talk (λ n. refl) ∙ h in
       let y : Talk = linked t in
       let opened : is_open y ≡ true = ap is_open (if-true (is_asked t) _ t asked_t) in
-      let control : y.control ≡ plain 0 protocol_header ∷ [] = ap (λ (z : Talk). z.control) (if-true (is_asked t) _ t asked_t) in
+      let outbox : y.outbox ≡ only (plain 0 protocol_header) = ap (λ (z : Talk). z.outbox) (if-true (is_asked t) _ t asked_t) in
       let waits : I t = (kept-moment false at e.talk ss kept).now.1 (asked-wanted t.link asked_t) in
       let said : P y [] = k.linked t asked_t waits in
       let capacity : y.capacity ≡ t.capacity = ap (λ (z : Talk). z.capacity) (if-true (is_asked t) _ t asked_t) in
@@ -267,7 +270,7 @@ module _ (T : Cmd → Type 0) (L : List Frame → Type 0) (I : Talk → Type 0) 
       let Q : Engine → Type 0 = λ z. Stepped z ss' in
       subst Q (sym is)
       (inr (
-        record { opened = opened; control = control; unsent = refl; room = room },
+        record { opened = opened; outbox = outbox; unsent = refl; room = room },
         record {
           all = all-push Holds ss nothing_sent kept.all k.none;
           committed = [];
@@ -392,16 +395,19 @@ module _ (T : Cmd → Type 0) (L : List Frame → Type 0) (I : Talk → Type 0) 
   fresh-fits e h =
       let space : ℕ = e.talk.capacity - length e.unsent in
       let none : length e.unsent ≡ 0 = ap length h.unsent in
-      ap (λ b. fitting space (if b then head e.talk.control else None)) h.opened
-      ∙ ap (λ c. fitting space (head c)) h.control
+      ap (λ b. fitting space (if b then queued.next_item (flows e.talk) e.talk.outbox else None)) h.opened
+      ∙ ap (λ (q : Queued). fitting space (queued.next_item (flows e.talk) q)) h.outbox
       ∙ header-fits space (omega (arith, none, h.room))
 
+  one-waits : (e : Engine) → Fresh e → frames_waiting e.talk ≡ 1
+  one-waits e h = ap (λ (q : Queued). length (waiting_items q)) h.outbox
+
   fresh-commits : (e : Engine) → Fresh e → committed_before e ≡ plain 0 protocol_header ∷ []
-  fresh-commits e h = ap (λ n. committed_in n e) (ap length h.control) ∙ ap (λ o. option_to_list o ++ []) (fresh-fits e h)
+  fresh-commits e h = ap (λ n. committed_in n e) (one-waits e h) ∙ ap (λ o. option_to_list o ++ []) (fresh-fits e h)
 
   fresh-unsent : (e : Engine) → Fresh e → (commit_all e).unsent ≡ encoding protocol_header
   fresh-unsent e h =
-      ap (λ n. (commits n e).unsent) (ap length h.control) ∙ ap (λ (x : Engine). x.unsent) (commit_one-is e)
+      ap (λ n. (commits n e).unsent) (one-waits e h) ∙ ap (λ (x : Engine). x.unsent) (commit_one-is e)
       ∙ ap (λ o. (with_frame o e).unsent) (fresh-fits e h) ∙ ap (λ bytes. bytes ++ encoding protocol_header) h.unsent
 
   fresh-writes : (e : Engine) → Fresh e → can_write e ≡ true

@@ -137,12 +137,12 @@ reading-over : (at : ℕ) (cut : Option ℕ) (e : Engine) (parts : ℕ) → can_
 reading-over at cut e parts none = reads-rest (length e.unread) (making at cut e parts) none
 
 -- then there is room for more
-pub has-room : (e : Engine) → e.talk.capacity ≡ INITIAL_CAPACITY → keeps_unread e.talk ≡ true → can_read e ≡ false → length e.unread < INITIAL_CAPACITY
-has-room e capacity kept none =
+pub has-room : (e : Engine) → INITIAL_CAPACITY ≤ e.talk.capacity → keeps_unread e.talk ≡ true → can_read e ≡ false → length e.unread < e.talk.capacity
+has-room e large kept none =
     let opened : is_open e.talk ≡ true = and-left (is_open e.talk) _ kept in
     let more : is_more (front_of e) ≡ true = from-not-false (is_more (front_of e)) (and-other (is_open e.talk) (not (is_more (front_of e))) opened none) in
     let limit : frame_limit e.talk ≤ e.talk.capacity = omega arith in
-    omega (arith, (says-front (frame_limit e.talk)).more e.unread more, limit, capacity)
+    omega (arith, (says-front (frame_limit e.talk)).more e.unread more, limit, large)
 
 -- what is left of a piece, as a slice has it
 pub slice-left : (j : ℕ) (piece : List ℕ) → take (length piece - j) (drop j piece) ≡ drop j piece

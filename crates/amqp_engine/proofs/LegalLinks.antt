@@ -2,9 +2,9 @@
 use Rattle.std.proofs.Common.{◌≡◌, ℕ, zero, suc, true, false, List, [], ◌∷◌, map, take, Option, Some, None, is_some, refl, ap, sym, subst}
 use Rattle.std.specs.List.{AllByRecursion}
 use Rattle.amqp_frame.specs.declared.frame.Frame.{Frame}
-use Rattle.amqp_session.specs.declared.lanes.Item.{Item}
+use Rattle.amqp_outbox.specs.declared.item.Item.{Item}
 use Rattle.amqp_session.specs.declared.command.Cmd.{Cmd}
-use Rattle.amqp_session.specs.declared.command.Cmd.TheVariants.{OpenChannel, CloseChannel, CloseConnection, Send}
+use Rattle.amqp_session.specs.declared.command.Cmd.TheVariants.{OpenChannel, CloseChannel, CloseConnection, Send, Publish}
 use Rattle.amqp_session.specs.Commands.{command}
 use Rattle.amqp_session.specs.Answers.{take_answer, take_frames}
 use Rattle.amqp_session.specs.Legal.{Legal}
@@ -51,6 +51,7 @@ Saying e ss = Kept IsSendable Taken IsSilent IsTied rules false e.talk ss
 
 sendable : (c : Cmd) → IsToldCommand c → IsSendable c
 sendable (Send channel method) h = (h.0, h.1, h.2)
+sendable (Publish channel method properties body) h = (h.0.0, h.0.1, h.0.2, h.1, h.2)
 sendable OpenChannel h = tt
 sendable (CloseChannel channel code text) h = tt
 sendable (CloseConnection code text) h = tt

@@ -24,6 +24,8 @@ pub mod Running
 pub mod Playing
 -- No whole frame is left unread: `read`, and its law, by lifting.
 pub mod LeftUnread
+-- What is left where a command was obeyed or refused memory: the invariants of a wire and of a loop.
+pub mod Obeying
 -- The bytes of each link, by lifting: the frames as their bytes are taken, what is left of the link at each step, the order in which they are sent, and
 -- what a port tells of it.
 pub mod Sent

@@ -1,6 +1,7 @@
 -- Offers one by one.
 use Rattle.std.proofs.Common.{◌≡◌, ◌≤◌, ◌<◌, ℕ, ◌+◌, ◌==◌, not, ◌&&◌, Bool, true, false, IsTrue, IsFalse, MatchBool, IfSome, List, [], ◌∷◌, length, drop, Option, Some, None, option_map, refl, ap, sym, ◌∙◌, subst, arith, rules, length-drop}
 use Rattle.std.proofs.lemmas.Bool.Decides.{nat_tests}
+use Rattle.amqp_outbox.specs.Queued.{Queued, waiting_items}
 use Rattle.amqp_session.specs.declared.io_fault.IoFault.TheVariants.{BrokenPipe}
 use Rattle.amqp_session.specs.Talk.{Talk, is_open}
 use Rattle.amqp_session.specs.Changes.{present_at}
@@ -23,30 +24,30 @@ use Rattle.amqp_engine.proofs.Settling.{settle-talk, settle-less, settle-starved
 use Rattle.amqp_engine.proofs.Telling.{tells-then, tells-none}
 use Rattle.amqp_engine.proofs.Commits.{commits-keep, waiting-commits}
 
-control-took : (at k : ℕ) (e : Engine) → (took at k e).talk.control ≡ e.talk.control
-control-took at k e =
-    ap (λ (t : Talk). t.control) (settle-talk (record e { talk = taken k (present_at at e.talk); unsent = drop k e.unsent }))
-    ∙ taken-keeps (λ t. t.control) (record { ends = λ t s l cs ps. refl; writes = λ t w ms. refl; moments = λ t n. refl }) k (present_at at e.talk)
-    ∙ present-keeps (λ t. t.control) at e.talk (λ n. refl)
+outbox-took : (at k : ℕ) (e : Engine) → (took at k e).talk.outbox ≡ e.talk.outbox
+outbox-took at k e =
+    ap (λ (t : Talk). t.outbox) (settle-talk (record e { talk = taken k (present_at at e.talk); unsent = drop k e.unsent }))
+    ∙ taken-keeps (λ t. t.outbox) (record { ends = λ t s l cs ps. refl; writes = λ t w ms. refl; moments = λ t n. refl }) k (present_at at e.talk)
+    ∙ present-keeps (λ t. t.outbox) at e.talk (λ n. refl)
 
 -- what is taken was queued no longer
-control-wrote : (at : ℕ) (w : Wrote) (e : Engine) → (wrote at w e).talk.control ≡ e.talk.control
-control-wrote at (Took k) e = control-took at k e
-control-wrote at NoMemory e = control-took at 0 e
-control-wrote at Failed e =
-    ap (λ (t : Talk). t.control) (settle-talk (rule_at at (lost BrokenPipe) e)) ∙ lost-keeps (λ t. t.control) (λ t s l cs ps. refl) BrokenPipe (present_at at e.talk)
-    ∙ present-keeps (λ t. t.control) at e.talk (λ n. refl)
+outbox-wrote : (at : ℕ) (w : Wrote) (e : Engine) → (wrote at w e).talk.outbox ≡ e.talk.outbox
+outbox-wrote at (Took k) e = outbox-took at k e
+outbox-wrote at NoMemory e = outbox-took at 0 e
+outbox-wrote at Failed e =
+    ap (λ (t : Talk). t.outbox) (settle-talk (rule_at at (lost BrokenPipe) e)) ∙ lost-keeps (λ t. t.outbox) (λ t s l cs ps. refl) BrokenPipe (present_at at e.talk)
+    ∙ present-keeps (λ t. t.outbox) at e.talk (λ n. refl)
 
 -- where all was taken, fewer writes may come
 pub waiting-wrote : (at : ℕ) (w : Wrote) (e : Engine) → 0 < length (offered e)
     → is_all w (length (offered e)) ≡ true → waiting (answered at w e) < waiting e
 waiting-wrote at (Took k) e some all =
     let same : k ≡ length (offered e) = grind (arith, nat_tests) in
-    let control : length (answered at (Took k) e).talk.control ≡ length (commit_all e).talk.control =
-    ap length (control-wrote at (Took k) (commit_all e)) in
+    let waits : frames_waiting (answered at (Took k) e).talk ≡ frames_waiting (commit_all e).talk =
+    ap (λ (q : Queued). length (waiting_items q)) (outbox-wrote at (Took k) (commit_all e)) in
     let unsent : length (answered at (Took k) e).unsent ≤ length (drop k (offered e)) =
     settle-less (record (commit_all e) { talk = taken k (present_at at (commit_all e).talk); unsent = drop k (offered e) }) in
-    omega (arith, control, unsent, length-drop k (offered e), waiting-commits (frames_waiting e.talk) e)
+    omega (arith, waits, unsent, length-drop k (offered e), waiting-commits (frames_waiting e.talk) e)
 waiting-wrote at Failed e some all = cc
 waiting-wrote at NoMemory e some all = cc
 

@@ -4,8 +4,8 @@ use Rattle.amqp_frame.specs.declared.frame.Read.{Read}
 use Rattle.amqp_frame.specs.declared.frame.Read.TheVariants as reading
 use Rattle.amqp_frame.specs.FrameReading.{front}
 use Rattle.amqp_frame.specs.Frames.{encoding}
+use Rattle.amqp_outbox.specs.declared.item.Item.{Item}
 use Rattle.amqp_session.specs.declared.io_fault.IoFault.TheVariants.{Aborted, Reset, BrokenPipe}
-use Rattle.amqp_session.specs.declared.lanes.Item.{Item}
 use Rattle.amqp_session.specs.declared.misread.Misread.{Misread}
 use Rattle.amqp_session.specs.declared.misread.Misread.TheVariants.{TooLarge, BadHeartbeat, Bad}
 use Rattle.amqp_session.specs.Talk.{Talk, is_open, is_asked, drops_input}

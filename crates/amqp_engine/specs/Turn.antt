@@ -1,10 +1,11 @@
 -- A turn: one step that was taken, with all that follows it. The engine is a fold of its turns, whatever its port
 -- tells.
-use Rattle.std.specs.Prelude.{◌≡◌, ◌≢◌, ◌<◌, ℕ, zero, suc, ◌+◌, ◌^◌, not, ◌&&◌, ◌==◌, if◌then◌else◌, nat_lt, Bool, true, false, IsTrue, IsFalse, MatchBool, List, [], ◌∷◌, ◌++◌, length, map, Option, Some, None}
+use Rattle.std.specs.Prelude.{◌≡◌, ◌≢◌, ◌<◌, ◌≤◌, ℕ, zero, suc, ◌+◌, ◌^◌, not, ◌&&◌, ◌==◌, if◌then◌else◌, nat_lt, Bool, true, false, IsTrue, IsFalse, MatchBool, List, [], ◌∷◌, ◌++◌, length, map, Option, Some, None}
 use Rattle.amqp_session.specs.Talk.{Talk, start, wants_link, is_asked, is_open, has_ended}
 use Rattle.amqp_session.specs.Links.{asked}
+use Rattle.amqp_frame.specs.RawMethods.{OtherMethod}
 use Rattle.amqp_session.specs.declared.command.Cmd.{Cmd}
-use Rattle.amqp_session.specs.declared.command.Cmd.TheVariants.{Send}
+use Rattle.amqp_session.specs.declared.command.Cmd.TheVariants.{Send, Publish}
 use Rattle.amqp_engine.specs.declared.port.Step.{Step}
 use Rattle.amqp_engine.specs.declared.port.Step.TheVariants.{Linked, LinkFailed, Piece, End, Fault, Room, Tick, Command}
 use Rattle.amqp_engine.specs.declared.port.Wrote.{Wrote}
@@ -192,13 +193,19 @@ abbrev pub AreTurns : List Turn → Engine → Type 0
 AreTurns [] e = Unit {0}
 AreTurns (u ∷ us) e = IsTurn u e × AreTurns us (turn u e)
 
--- what a command carries fits on the wire: a method that is sent is of a class that is passed through, its numbers fit
--- their types, and its length is that of a machine; of a close nothing is asked, since no claim depends on whether its
--- code and text fit
-abbrev pub IsToldCommand : Cmd → Type 0
-IsToldCommand (Send channel method) =
+-- a method that is sent is of a class that is passed through, its numbers fit their types, and its length is that of a
+-- machine
+abbrev pub IsToldMethod : OtherMethod → Type 0
+IsToldMethod method =
     (method.class ≢ 10) × (method.class ≢ 20) × (method.class < 2 ^ 16) × (method.method < 2 ^ 16)
     × (length method.arguments < 2 ^ 63)
+
+-- what a command carries fits on the wire: a method, the flags of the properties of a content and the length of its
+-- body; of a close nothing is asked, since no claim depends on whether its code and text fit
+abbrev pub IsToldCommand : Cmd → Type 0
+IsToldCommand (Send channel method) = IsToldMethod method
+IsToldCommand (Publish channel method properties body) =
+    IsToldMethod method × (2 ≤ length properties) × (length body < 2 ^ 64)
 IsToldCommand _ = Unit {0}
 
 -- a step as it can be told: what it names is what it can carry

@@ -1,6 +1,7 @@
 //! The loop of an engine over a port.
 
 ghost use Rattle.std.specs.Prelude.{◌≡◌, ◌≤◌, ◌⊎◌, ℕ, Some, None, Err, List, true, false, IfOk, IfErr, IfSome, IsOk, OnOk, OnErr, MatchResult, IsSome, IsTrue, length, option_map};
+ghost use Rattle.amqp_ring.specs.Ring.{capacity};
 ghost use Rattle.amqp_session.specs.declared.io_fault.IoFault.{IoFault};
 ghost use Rattle.amqp_session.specs.Talk.{start, has_ended, end_of};
 ghost use Rattle.amqp_session.specs.Changes.{next_promise};
@@ -20,6 +21,7 @@ ghost use Rattle.amqp_engine.specs.Play.{IsPlayed};
 
 use crate::port::{Port, Told, hold};
 use crate::wire::Wire;
+use amqp_ring::Buffer;
 use amqp_session::{Answer, Cmd, ErrorKind, Handed, IoFault, Result, Session};
 use amqp_types::NoMemory;
 use std::alloc::Global;
@@ -202,6 +204,22 @@ impl IoLoop {
         ensures { result.now ≡ self.now.talk }
     {
         self.wire.session()
+    }
+
+    /// The bytes that were received on the link and not yet read. They are read where they lie.
+    pub fn received(&self) -> &Buffer
+        ensures bytes { result.now.kept ≡ self.now.unread }
+        ensures capacity { capacity result.now ≡ self.now.talk.capacity }
+    {
+        self.wire.received()
+    }
+
+    /// The bytes of committed frames that the link has not yet taken.
+    pub fn unsent(&self) -> &Buffer
+        ensures bytes { result.now.kept ≡ self.now.unsent }
+        ensures capacity { capacity result.now ≡ self.now.talk.capacity }
+    {
+        self.wire.unsent()
     }
 
     /// How many parts of a turn were done when memory was refused, where it was.

@@ -7,7 +7,6 @@
 //! port over given steps.
 #![tactic(auto)]
 
-mod buffer;
 mod given;
 mod io_loop;
 mod laws;

@@ -3,10 +3,11 @@
 ghost use Rattle.std.specs.Prelude.{◌≡◌, ◌≤◌, ◌<◌, ◌++◌, ℕ, List, Option, Some, IfOk, IfSome, OnOk, OnErr, length, slice_get, option_map};
 ghost use Rattle.amqp_engine.specs.Counts.{Rose, HasCause};
 ghost use Rattle.amqp_engine.specs.Plan.{ArePieces};
-ghost use Rattle.amqp_engine.specs.Turn.{IsToldCommand};
+ghost use Rattle.amqp_engine.specs.Turn.{IsToldMethod, IsToldCommand};
 ghost use Rattle.amqp_engine.specs.Log.{Log, loaded, log_ask, log_step, log_write, piece_len, piece_bytes, IsPiece, IsWithin, PlansStep, PlansWrite};
 
 use crate::given::Given;
+use amqp_frame::RawMethod;
 use amqp_session::Cmd;
 use amqp_types::{NoMemory, Payload};
 use std::alloc::Global;
@@ -88,9 +89,21 @@ impl Step {
 pub(crate) fn hold(command: &Cmd)
     ensures { IsToldCommand command.now }
 {
-    if let Cmd::Send(_, method) = command {
-        let _held = (method.class_id(), method.method_id(), method.args().len());
+    match command {
+        Cmd::Send(_, method) => hold_method(method),
+        Cmd::Publish(_, method, properties, body) => {
+            hold_method(method);
+            let _held = (properties.as_bytes().len(), body.len());
+        }
+        Cmd::OpenChannel | Cmd::CloseChannel(..) | Cmd::CloseConnection(..) => {}
     }
+}
+
+// The same of a method.
+fn hold_method(method: &RawMethod)
+    ensures { IsToldMethod method.now }
+{
+    let _held = (method.class_id(), method.method_id(), method.args().len());
 }
 
 /// A step, and its moment in milliseconds.

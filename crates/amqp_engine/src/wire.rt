@@ -8,6 +8,7 @@ mod reading;
 mod writing;
 
 ghost use Rattle.std.specs.Prelude.{◌≡◌, ◌≤◌, not, ◌<◌, Option, Some, true, false, IfOk, IfErr, IsOk, OnOk, OnErr, MatchResult, IsSome, IsTrue, option_map, length};
+ghost use Rattle.amqp_ring.specs.Ring.{capacity};
 ghost use Rattle.amqp_session.specs.Talk.{start, is_open, has_ended};
 ghost use Rattle.amqp_session.specs.Commands.{command as command_rule};
 ghost use Rattle.amqp_session.specs.Changes.{next_promise};
@@ -18,9 +19,9 @@ ghost use Rattle.amqp_engine.specs.Turn.{asks};
 ghost use Rattle.amqp_engine.specs.Tell.{log_asks};
 ghost use Rattle.amqp_engine.specs.Making.{AppliesCounted};
 
-use crate::buffer::Buffer;
 use crate::port::{Port, Told};
-use amqp_session::{Answer, Cmd, ErrorKind, Handed, Session};
+use amqp_ring::Buffer;
+use amqp_session::{Answer, Cmd, ErrorKind, Handed, INITIAL_CAPACITY, Session};
 use amqp_types::NoMemory;
 use std::alloc::Global;
 use std::marker::Model;
@@ -37,10 +38,11 @@ pub struct Wire {
 }
 
 impl Model for Wire {
-    ghost use Rattle.std.specs.Prelude.{◌≡◌, IsTrue, length};
+    ghost use Rattle.std.specs.Prelude.{◌≡◌, ◌≤◌, IsTrue, length};
     ghost use Rattle.amqp_session.specs.Talk.{is_open};
     ghost use Rattle.amqp_session.specs.Writing.{left_in};
     ghost use Rattle.amqp_session.specs.declared.capacity.TheConstants.{INITIAL_CAPACITY};
+    ghost use Rattle.amqp_ring.specs.Ring.{capacity};
     ghost use Rattle.amqp_engine.specs.Engine.{Engine};
 
     ghost Value = { Engine };
@@ -52,16 +54,17 @@ impl Model for Wire {
 
     ghost view = { λ w. record {
       talk = w.session;
-      unread = w.unread;
+      unread = w.unread.kept;
       place = w.place;
-      unsent = w.unsent;
+      unsent = w.unsent.kept;
       starved = w.starved;
     } };
 
     // While the link is open, the session counts the bytes that are unsent. Its capacity is that of
-    // the buffers.
-    ghost invariant = { λ w. (IsTrue (is_open w.session) → length w.unsent ≡ left_in w.session.committed)
-        × (w.session.capacity ≡ INITIAL_CAPACITY) };
+    // both buffers, and never less than at the beginning.
+    ghost invariant = { λ w. (IsTrue (is_open w.session) → length w.unsent.kept ≡ left_in w.session.committed)
+        × (capacity w.unread ≡ w.session.capacity) × (capacity w.unsent ≡ w.session.capacity)
+        × (INITIAL_CAPACITY ≤ w.session.capacity) };
 }
 
 impl Wire {
@@ -69,8 +72,8 @@ impl Wire {
     pub fn new(alloc: Global) -> Result<Wire, NoMemory>
         ensures { IfOk result (λ w. w ≡ begin start) }
     {
-        let unread = Buffer::new(alloc)?;
-        let unsent = Buffer::new(alloc)?;
+        let unread = Buffer::with_capacity(alloc, INITIAL_CAPACITY as usize)?;
+        let unsent = Buffer::with_capacity(alloc, INITIAL_CAPACITY as usize)?;
         match Session::new(alloc) {
             Ok(session) => Ok(Wire {
                 alloc,
@@ -89,6 +92,22 @@ impl Wire {
         ensures { result.now ≡ self.now.talk }
     {
         &self.session
+    }
+
+    /// The bytes that were received and not yet read.
+    pub fn received(&self) -> &Buffer
+        ensures bytes { result.now.kept ≡ self.now.unread }
+        ensures capacity { capacity result.now ≡ self.now.talk.capacity }
+    {
+        &self.unread
+    }
+
+    /// The bytes that the link has not yet taken.
+    pub fn unsent(&self) -> &Buffer
+        ensures bytes { result.now.kept ≡ self.now.unsent }
+        ensures capacity { capacity result.now ≡ self.now.talk.capacity }
+    {
+        &self.unsent
     }
 
     /// How many parts of a turn were done when memory was refused, where it was.
@@ -170,9 +189,9 @@ impl Wire {
         ensures { self.new ≡ starve_at at parts self.old }
     {
         self.session.starve(at);
-        self.unread.clear();
+        self.unread.reset();
         self.place = 0;
-        self.unsent.clear();
+        self.unsent.reset();
         self.starved = Some(parts);
     }
 }

@@ -118,3 +118,21 @@ fn frames_are_handed_out(rt: HostRuntime) -> Outcome<()> {
     ];
     tell(&rt, rt.alloc(), SCRIPT, STORY)
 }
+
+// Start without its last octet.
+const START_CUT: &str = "01 0000 00000061 000a000a 0009 0000003c
+    0c 6361706162696c6974696573 46 00000015 12 7075626c69736865725f636f6e6669726d73 7401
+    07 70726f64756374 53 00000008 5261626269744d51
+    0000000e 504c41494e20414d51504c41494e 00000005 656e5f5553";
+
+#[test]
+fn what_is_cut_off_is_kept(rt: HostRuntime) -> Outcome<()> {
+    const STORY: &[Line] = &[
+        Line::Keeps(0, 0),
+        Line::Run(2, GOES_ON),
+        Line::Keeps(104, 1),
+        Line::IsNotStarved,
+    ];
+    let script = [Happens::Link(Some(7)), Happens::Bytes(START_CUT)];
+    tell(&rt, rt.alloc(), &script, STORY)
+}

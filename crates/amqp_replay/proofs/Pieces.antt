@@ -4,7 +4,7 @@ use Rattle.std.specs.List.{list_all}
 use Rattle.std.specs.Str.{bytes_eq}
 use Rattle.std.proofs.lemmas.Bool.Decides.{nat_tests}
 use Rattle.amqp_session.specs.declared.command.Cmd.{Cmd}
-use Rattle.amqp_session.specs.declared.command.Cmd.TheVariants.{OpenChannel, CloseChannel, CloseConnection, Send}
+use Rattle.amqp_session.specs.declared.command.Cmd.TheVariants.{OpenChannel, CloseChannel, CloseConnection, Send, Publish}
 use Rattle.amqp_engine.specs.declared.given.Given.{Given}
 use Rattle.amqp_engine.specs.declared.given.GivenStep.{GivenStep}
 use Rattle.amqp_engine.specs.declared.given.GivenStep.TheVariants.{Link, Refuse, Bytes, End, Fault, Room, WriteFail, Command}
@@ -16,7 +16,7 @@ use Rattle.amqp_replay.specs.Lines.{Line}
 use Rattle.amqp_replay.specs.Words.{first_word, after_word}
 use Rattle.amqp_replay.specs.Decimals.{number_16, number_64}
 use Rattle.amqp_replay.specs.Data.{Spelled, spelled}
-use Rattle.amqp_replay.specs.Grammar.{step_or_refused, lone, link_line, room_line, piece, bytes_line, closes_by, closes, shut_line, numbered, close_of, close_line, number_in, rest_of, is_passed_through, sent_method, sends_data, data_in, sends, send_line, command_of_words, line_of_words, is_ignored, is_printable, content_says, is_within_limits, says, limited}
+use Rattle.amqp_replay.specs.Grammar.{step_or_refused, lone, link_line, room_line, piece, bytes_line, closes_by, closes, shut_line, numbered, close_of, close_line, number_in, rest_of, is_passed_through, sent_method, sends_data, data_in, sends, send_line, Published, zeros_published, published_in, publishes_data, publishes, publish_line, command_of_words, line_of_words, is_ignored, is_printable, content_says, is_within_limits, says, limited}
 
 abbrev pub SaysPiece : Said → Type 0
 SaysPiece (Step what n) = IsGivenPiece what
@@ -80,6 +80,23 @@ of_send_line : (o : Option (List ℕ)) → SaysPiece (send_line o)
 of_send_line o =
     of_sends (number_in o) (number_in (rest_of o)) (number_in (rest_of (rest_of o))) (data_in (rest_of (rest_of (rest_of o))))
 
+of_publishes_data : (n class method : ℕ) (o : Option Published) → SaysPiece (publishes_data n class method o)
+of_publishes_data n class method None = tt
+of_publishes_data n class method (Some p) =
+    if_case (is_passed_through class && nat_le 2 (length p.properties.bytes))
+    (Step (Command (Publish (numbered n) (sent_method class method p.arguments.bytes) p.properties.bytes p.body.bytes)) (zeros_published p))
+    Refused tt tt
+
+of_publishes : (n class method : Option ℕ) (o : Option Published) → SaysPiece (publishes n class method o)
+of_publishes (Some n) (Some class) (Some method) o = of_publishes_data n class method o
+of_publishes None class method o = tt
+of_publishes (Some n) None method o = tt
+of_publishes (Some n) (Some class) None o = tt
+
+of_publish_line : (o : Option (List ℕ)) → SaysPiece (publish_line o)
+of_publish_line o =
+    of_publishes (number_in o) (number_in (rest_of o)) (number_in (rest_of (rest_of o))) (published_in (rest_of (rest_of (rest_of o))))
+
 -- ---- a piece
 
 both : (n : ℕ) → (nat_le 1 n && nat_le n 4096) ≡ true → (1 ≤ n) × (n ≤ 4096)
@@ -105,7 +122,8 @@ of_command word rest =
     if_case (bytes_eq word (codes "open")) (lone (Command OpenChannel) rest) _ (of_lone (Command OpenChannel) rest tt)
     (if_case (bytes_eq word (codes "close")) (close_line rest) _ (of_close_line rest)
     (if_case (bytes_eq word (codes "send")) (send_line rest) _ (of_send_line rest)
-    (if_case (bytes_eq word (codes "shut")) (shut_line rest) Refused (of_closes CloseConnection rest) tt)))
+    (if_case (bytes_eq word (codes "publish")) (publish_line rest) _ (of_publish_line rest)
+    (if_case (bytes_eq word (codes "shut")) (shut_line rest) Refused (of_closes CloseConnection rest) tt))))
 
 of_words : (word : List ℕ) (rest : Option (List ℕ)) → SaysPiece (line_of_words word rest)
 of_words word rest =

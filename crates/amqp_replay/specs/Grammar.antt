@@ -1,11 +1,11 @@
 -- A script: which step each line says, and which line is refused.
-use Rattle.std.specs.Prelude.{ℕ, ◌==◌, ◌-◌, ◌&&◌, ◌||◌, not, nat_le, if◌then◌else◌, Bool, true, List, [], ◌∷◌, length, Option, Some, None, option_map, unwrap_or, Result, Ok, Err, codes}
+use Rattle.std.specs.Prelude.{ℕ, ◌+◌, ◌==◌, ◌-◌, ◌&&◌, ◌||◌, not, nat_le, if◌then◌else◌, Bool, true, List, [], ◌∷◌, length, Option, Some, None, option_map, unwrap_or, Result, Ok, Err, codes}
 use Rattle.std.specs.List.{list_all}
 use Rattle.std.specs.Str.{bytes_eq}
 use Rattle.amqp_frame.specs.RawMethods.{OtherMethod}
 use Rattle.amqp_session.specs.declared.command.ChanRef.{ChanRef}
 use Rattle.amqp_session.specs.declared.command.Cmd.{Cmd}
-use Rattle.amqp_session.specs.declared.command.Cmd.TheVariants.{OpenChannel, CloseChannel, CloseConnection, Send}
+use Rattle.amqp_session.specs.declared.command.Cmd.TheVariants.{OpenChannel, CloseChannel, CloseConnection, Send, Publish}
 use Rattle.amqp_engine.specs.declared.given.Given.{Given}
 use Rattle.amqp_engine.specs.declared.given.GivenStep.{GivenStep}
 use Rattle.amqp_engine.specs.declared.given.GivenStep.TheVariants.{Link, Refuse, Bytes, End, Fault, Room, WriteFail, Command}
@@ -123,12 +123,64 @@ send_line rest =
     let after_class = rest_of after_channel in
     sends (number_in rest) (number_in after_channel) (number_in after_class) (data_in (rest_of after_class))
 
+-- what is published: the arguments of the method, the properties and the body
+pub record Published : Type 0 where
+  pub arguments : Spelled
+  pub properties : Spelled
+  pub body : Spelled
+
+-- how many of their bytes are zeros that a number spells
+abbrev pub zeros_published : Published → ℕ
+zeros_published p = p.arguments.zeros + p.properties.zeros + p.body.zeros
+
+-- the three, where each is spelled
+abbrev pub all_spelled : Option Spelled → Option Spelled → Option Spelled → Option Published
+all_spelled (Some arguments) (Some properties) (Some body) =
+    Some (record { arguments = arguments; properties = properties; body = body })
+all_spelled _ _ _ = None
+
+-- the bytes that the first word spells
+abbrev pub first_data_in : Option (List ℕ) → Option Spelled
+first_data_in None = None
+first_data_in (Some words) = spelled (first_word words)
+
+-- what `DATA DATA DATA` spells
+abbrev pub published_in : Option (List ℕ) → Option Published
+published_in rest =
+    let after_arguments = rest_of rest in
+    all_spelled (first_data_in rest) (first_data_in after_arguments) (data_in (rest_of after_arguments))
+
+-- a method with these arguments is published, with at least the two octets of the property flags
+abbrev pub publishes_data : ℕ → ℕ → ℕ → Option Published → Said
+publishes_data n class method None = Refused
+publishes_data n class method (Some p) =
+    if is_passed_through class && nat_le 2 (length p.properties.bytes)
+    then
+    Step
+    (Command
+    (Publish (numbered n) (sent_method class method p.arguments.bytes) p.properties.bytes p.body.bytes))
+    (zeros_published p)
+    else Refused
+
+-- a method is published, where its three numbers are there
+abbrev pub publishes : Option ℕ → Option ℕ → Option ℕ → Option Published → Said
+publishes (Some n) (Some class) (Some method) p = publishes_data n class method p
+publishes _ _ _ p = Refused
+
+-- `publish CH CLASS METHOD DATA DATA DATA`, of a class that is passed through
+abbrev pub publish_line : Option (List ℕ) → Said
+publish_line rest =
+    let after_channel = rest_of rest in
+    let after_class = rest_of after_channel in
+    publishes (number_in rest) (number_in after_channel) (number_in after_class) (published_in (rest_of after_class))
+
 -- a line that tells the session to do something
 abbrev pub command_of_words : List ℕ → Option (List ℕ) → Said
 command_of_words word rest =
     if bytes_eq word (codes "open") then lone (Command OpenChannel) rest
     else if bytes_eq word (codes "close") then close_line rest
     else if bytes_eq word (codes "send") then send_line rest
+    else if bytes_eq word (codes "publish") then publish_line rest
     else if bytes_eq word (codes "shut") then shut_line rest
     else Refused
 

@@ -1,11 +1,13 @@
 //! What the lines of a script say.
 
-ghost use Rattle.std.specs.Prelude.{◌≡◌, IfOk, option_map};
+ghost use Rattle.std.specs.Prelude.{◌≡◌, ◌<◌, ◌^◌, IfOk, IfSome, option_map};
 ghost use Rattle.std.specs.List.{list_all};
 ghost use Rattle.std.specs.Option.{option_copied};
 ghost use Rattle.amqp_session.specs.declared.command.ChanRef.{ChanRef};
 ghost use Rattle.amqp_session.specs.declared.command.Cmd.TheVariants.{CloseConnection, CloseChannel};
-ghost use Rattle.amqp_replay.specs.Grammar.{says, content_says, line_of_words, command_of_words, limited, is_ignored, is_printable, is_within_limits, lone, link_line, room_line, bytes_line, shut_line, close_line, send_line, close_of, closes, closes_by, numbered, number_in, rest_of, sends_data, is_passed_through};
+ghost use Rattle.amqp_replay.specs.Grammar.{says, content_says, line_of_words, command_of_words, limited, is_ignored, is_printable, is_within_limits, lone, link_line, room_line, bytes_line, shut_line, close_line, send_line, close_of, closes, closes_by, numbered, number_in, rest_of, sends_data, is_passed_through, all_spelled, published_in, publishes_data, publish_line, zeros_published};
+ghost use Rattle.amqp_replay.specs.Budgets.{affordable_publish};
+ghost use Rattle.amqp_replay.specs.Data.{spelled};
 ghost use Rattle.amqp_replay.specs.Decimals.{number_16};
 ghost use Rattle.amqp_replay.specs.Reasons.{GivesReason};
 
@@ -16,9 +18,10 @@ use crate::lines::Line;
 use crate::words::{cut, is};
 use amqp_engine::GivenStep;
 use amqp_frame::RawMethod;
-use amqp_session::{ChanRef, Cmd};
+use amqp_session::{ChanRef, Cmd, Properties};
 use amqp_types::{NoMemory, ShortString};
 use std::alloc::Global;
+use std::marker::Model;
 
 /// What a line says.
 #[derive(Debug, Drop)]
@@ -108,6 +111,9 @@ fn command(alloc: Global, word: &[u8], rest: Option<&[u8]>, left: u64) -> Result
     }
     if is(word, b"send") {
         return Ok(send(alloc, rest, left)?);
+    }
+    if is(word, b"publish") {
+        return Ok(publish(alloc, rest, left)?);
     }
     if is(word, b"shut") {
         return Ok(shut(alloc, rest)?);
@@ -298,5 +304,120 @@ fn sends(
     let method = RawMethod::new(alloc, class, method, data.bytes().as_bytes());
     drop(data);
     let command = Cmd::Send(numbered(id), method?);
+    Ok(Said::Step(GivenStep::Command(command), zeros))
+}
+
+// What is published: the arguments of the method, the properties and the body.
+#[derive(Debug, Drop)]
+struct Published {
+    arguments: Spelled,
+    properties: Spelled,
+    body: Spelled,
+}
+
+impl Model for Published {
+    ghost use Rattle.amqp_replay.specs.Grammar.{Published};
+
+    ghost Value = { Published };
+
+    ghost view = { λ p. record { arguments = p.arguments; properties = p.properties; body = p.body } };
+}
+
+// `publish CH CLASS METHOD DATA DATA DATA`
+fn publish(alloc: Global, rest: Option<&[u8]>, left: u64) -> Result<Said, NoMemory>
+    ensures { IfOk result (λ said. said ≡ limited left (publish_line (option_copied rest.entry))) }
+{
+    let (id, rest) = number_and_rest(rest);
+    let (class, rest) = number_and_rest(rest);
+    let (method, rest) = number_and_rest(rest);
+    match (id, class, method) {
+        (Some(id), Some(class), Some(method)) => {
+            Ok(publishes(alloc, id, class, method, read_published(alloc, rest, left)?)?)
+        }
+        _ => Ok(Said::Refused),
+    }
+}
+
+// What `DATA DATA DATA` spells.
+fn read_published(
+    alloc: Global,
+    rest: Option<&[u8]>,
+    left: u64,
+) -> Result<Option<Published>, NoMemory>
+    ensures { IfOk result (λ p. p ≡ affordable_publish left (published_in (option_copied rest.entry))) }
+{
+    let Some(words) = rest else {
+        return Ok(None);
+    };
+    let (arguments, rest) = cut(words, b' ');
+    let Some(words) = rest else {
+        return Ok(None);
+    };
+    let (properties, rest) = cut(words, b' ');
+    match rest {
+        Some(body) => Ok(read_all(alloc, arguments, properties, body, left)?),
+        None => Ok(None),
+    }
+}
+
+// The three, where each is spelled, and where together they have no more zeros that a number spells.
+fn read_all(
+    alloc: Global,
+    arguments: &[u8],
+    properties: &[u8],
+    body: &[u8],
+    left: u64,
+) -> Result<Option<Published>, NoMemory>
+    ensures { IfOk result (λ p. p ≡ affordable_publish left
+        (all_spelled (spelled arguments.now) (spelled properties.now) (spelled body.now))) }
+{
+    let Some(arguments) = read_data(alloc, arguments, left)? else {
+        return Ok(None);
+    };
+    let left = left - arguments.zeros();
+    let Some(properties) = read_data(alloc, properties, left)? else {
+        return Ok(None);
+    };
+    let left = left - properties.zeros();
+    let Some(body) = read_data(alloc, body, left)? else {
+        return Ok(None);
+    };
+    Ok(Some(Published {
+        arguments,
+        properties,
+        body,
+    }))
+}
+
+// The publishing of a method with these data, where they are spelled.
+fn publishes(
+    alloc: Global,
+    id: u16,
+    class: u16,
+    method: u16,
+    published: Option<Published>,
+) -> Result<Said, NoMemory>
+    requires { IfSome published (λ p. zeros_published p < 2 ^ 64) }
+    ensures { IfOk result (λ said. said ≡ publishes_data id class method published) }
+{
+    let Some(
+        Published {
+            arguments,
+            properties,
+            body,
+        },
+    ) = published
+    else {
+        return Ok(Said::Refused);
+    };
+    if class == 10 || class == 20 {
+        return Ok(Said::Refused);
+    }
+    let zeros = arguments.zeros() + properties.zeros() + body.zeros();
+    let Some(properties) = Properties::new(properties.into_bytes()) else {
+        return Ok(Said::Refused);
+    };
+    let method = RawMethod::new(alloc, class, method, arguments.bytes().as_bytes())?;
+    let command = Cmd::Publish(numbered(id), method, properties, body.into_bytes());
     Ok(Said::Step(GivenStep::Command(command), zeros))
 }

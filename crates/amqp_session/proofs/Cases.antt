@@ -1,5 +1,5 @@
 -- Small facts by cases.
-use Rattle.std.proofs.Common.{◌≡◌, Bool, true, false, ◌&&◌, if◌then◌else◌, Option, Some, None, Result, Ok, Err, OnSome, IfNone, OnOk, OnErr, refl}
+use Rattle.std.proofs.Common.{◌≡◌, Bool, true, false, ◌&&◌, if◌then◌else◌, Result, Ok, Err, OnErr, refl}
 
 pub if_case : {A : Type 0} (P : A → Type 0) (b : Bool) (x y : A) → P x → P y → P (if b then x else y)
 if_case P true x y px py = px
@@ -29,18 +29,6 @@ and-true false b g h = cc
 pub and-false : (a b : Bool) → b ≡ false → (a && b) ≡ false
 and-false true b h = h
 and-false false b h = refl
-
-pub on-some : {A P : Type 0} (o : Option A) → P → OnSome o P
-on-some None p = tt
-on-some (Some x) p = p
-
-pub if-none : {A P Q : Type 0} (o : Option A) → (P → Q) → IfNone o P → IfNone o Q
-if-none None f p = f p
-if-none (Some x) f p = tt
-
-pub on-ok : {A E P Q : Type 0} (r : Result A E) → (P → Q) → OnOk r P → OnOk r Q
-on-ok (Ok x) f p = f p
-on-ok (Err e) f p = tt
 
 pub on-err : {A E P : Type 0} (r : Result A E) → P → OnErr r P
 on-err (Ok x) p = tt

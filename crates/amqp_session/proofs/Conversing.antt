@@ -1,6 +1,7 @@
 -- The rules keep a session tied to what was said.
-use Rattle.std.proofs.Common.{◌≡◌, ◌≢◌, ◌<◌, ◌≤◌, ◌^◌, ℕ, zero, suc, ◌-◌, ◌&&◌, ◌==◌, not, nat_le, nat_lt, max, if◌then◌else◌, Bool, true, false, List, [], ◌∷◌, ◌++◌, length, drop, Option, Some, None, is_some, Result, Ok, Err, inl, inr, refl, ap, sym, ◌∙◌, subst, append_assoc, arith}
+use Rattle.std.proofs.Common.{◌≡◌, ◌≢◌, ◌<◌, ◌≤◌, ◌^◌, ℕ, zero, suc, ◌-◌, ◌&&◌, ◌==◌, not, nat_le, max, if◌then◌else◌, Bool, true, false, List, [], ◌∷◌, ◌++◌, length, drop, Option, Some, None, is_some, Result, Ok, Err, inl, inr, refl, ap, sym, ◌∙◌, subst, append_assoc, true≢false, arith}
 use Rattle.std.proofs.lemmas.List.{map-append}
+use Rattle.std.specs.List.{AllByRecursion}
 use Rattle.std.proofs.lemmas.Nat.{from_be_bytes-to_be_bytes_2}
 use Rattle.amqp_types.specs.declared.word.Word.{Word}
 use Rattle.amqp_types.specs.declared.word.Word.TheVariants as word
@@ -10,15 +11,16 @@ use Rattle.amqp_frame.specs.declared.frame.RawKind.{RawKind}
 use Rattle.amqp_frame.specs.declared.frame.RawKind.TheVariants.{RawMethod}
 use Rattle.amqp_frame.specs.declared.method.Method.{Method as AnyMethod}
 use Rattle.amqp_frame.specs.declared.method.Method.TheVariants.{Start, Tune, OpenOk, Close, CloseOk, ChannelOpenOk, ChannelCloseOk}
-use Rattle.amqp_frame.specs.Frames.{encoding}
 use Rattle.amqp_frame.specs.RawMethods.{OtherMethod, spell_raw_method}
+use Rattle.amqp_outbox.specs.declared.item.Item.{Item}
+use Rattle.amqp_outbox.specs.declared.reply.Reply.TheVariants.{ChannelOpened, ChannelClosed, ConnectionClosed}
+use Rattle.amqp_outbox.specs.Items.{plain, promised, group_of}
+use Rattle.amqp_outbox.specs.Queued as queued
+use Rattle.amqp_outbox.specs.Queued.{Queued, pushed_control, only, awaited_promise, after_next}
 use Rattle.amqp_session.specs.declared.channels.Channel.{Channel}
 use Rattle.amqp_session.specs.declared.committed.Mark.{Mark}
 use Rattle.amqp_session.specs.declared.committed.Then.{Then}
 use Rattle.amqp_session.specs.declared.committed.Then.TheVariants.{Nothing, Answer, Finish}
-use Rattle.amqp_session.specs.declared.awaiting.Awaited.{Awaited}
-use Rattle.amqp_session.specs.declared.awaiting.Reply.TheVariants.{ChannelOpened, ChannelClosed, ConnectionClosed}
-use Rattle.amqp_session.specs.declared.lanes.Item.{Item}
 use Rattle.amqp_session.specs.declared.configuration.Configuration.{Configuration}
 use Rattle.amqp_session.specs.declared.state.ConnectionState.{ConnectionState}
 use Rattle.amqp_session.specs.declared.state.ConnectionState.TheVariants.{Initial, Connecting, Connected, Closing}
@@ -34,36 +36,37 @@ use Rattle.amqp_session.specs.declared.io_fault.IoFault.{IoFault}
 use Rattle.amqp_session.specs.declared.io_fault.IoFault.TheVariants.{Refused}
 use Rattle.amqp_session.specs.declared.misread.Misread.{Misread}
 use Rattle.amqp_session.specs.declared.command.Cmd.{Cmd}
-use Rattle.amqp_session.specs.declared.command.Cmd.TheVariants.{OpenChannel, CloseChannel, CloseConnection, Send}
+use Rattle.amqp_session.specs.declared.command.Cmd.TheVariants.{OpenChannel, CloseChannel, CloseConnection, Send, Publish}
 use Rattle.amqp_session.specs.declared.command.ChanRef.{ChanRef}
-use Rattle.amqp_session.specs.declared.command.Answer.{Answer as AnyAnswer}
-use Rattle.amqp_session.specs.declared.command.Answer.TheVariants.{Channel as AnswerChannel, Done}
 use Rattle.amqp_session.specs.declared.error.ErrorKind.{ErrorKind}
-use Rattle.amqp_session.specs.declared.error.ErrorKind.TheVariants.{IOError, InvalidConnectionState, InvalidProtocolVersion, InvalidChannel, SerialisationError, Unbuilt}
+use Rattle.amqp_session.specs.declared.error.ErrorKind.TheVariants.{IOError, InvalidConnectionState, InvalidProtocolVersion, InvalidChannel, Unbuilt}
 use Rattle.amqp_session.specs.Talk.{Talk, start, has_ended, is_open, is_open_link, is_asked, is_wanted_link, wants_link, end_of_link, is_closing, is_acting, acts}
-use Rattle.amqp_session.specs.Changes.{plain, promise, queue_item, refuse, next_promise, give_to, present_at, fail, lose, misplaced, finish_by, starve}
+use Rattle.amqp_session.specs.Changes.{next_promise, present_at, fail, lose, misplaced, finish_by, starve}
 use Rattle.amqp_session.specs.Violations.{misread_error, unawaited, stray_channel_frame, stray_connection_method}
-use Rattle.amqp_session.specs.Negotiation.{tune}
+use Rattle.amqp_session.specs.Negotiation.{frame_min_size, tune}
 use Rattle.amqp_session.specs.Handshake.{start_ok, tune_ok, open_vhost, close_ok, our_close, channel_open, our_channel_close, protocol_header}
 use Rattle.amqp_session.specs.Links.{asked, asked_link, linked, link_failed, piece, lost, misread, dropped}
 use Rattle.amqp_session.specs.ConnectionMethods.{connection_rule, on_connection_close, on_start, on_tune, on_open_ok, on_connection_close_ok, connection_closed}
-use Rattle.amqp_session.specs.Channels.{channel_at, set_channel}
+use Rattle.amqp_session.specs.Channels.{channel_at}
 use Rattle.amqp_session.specs.ChannelMethods.{heard_on, unawaited_channel_method, channel_opened, channel_closed, channel_rule, channel_method_by, channel_method, raw_by, pass_through, confirmed, hand_out, is_select_ok}
 use Rattle.amqp_session.specs.Frames.{is_unbuilt, is_of_a_channel, method_rule, frame_rule, on_frame}
-use Rattle.amqp_session.specs.Commands.{command, command_rule, open_drawn, open_as, named, named_in, is_opening, target, target_by, target_in, close_target, close_channel, close_connection, method_frame, send, send_target}
-use Rattle.amqp_session.specs.Writing.{next_item, head, mark_of, follow, sent, sent_among, taken}
+use Rattle.amqp_session.specs.Publishing.{method_frame, publish_frames}
+use Rattle.amqp_session.specs.Commands.{command, command_rule, open_drawn, open_as, named, named_in, is_opening, target, target_by, target_in, close_target, close_channel, close_connection, too_long, unless_too_long, queue_send, send, send_target, body_limit, queue_publish, publish, publish_target}
+use Rattle.amqp_session.specs.Writing.{flows, next_item, mark_of, follow, sent, sent_among, taken}
 use Rattle.amqp_session.specs.Answers.{answer_of, take_answer, take_frames}
 use Rattle.amqp_session.specs.Listed.{without}
 use Rattle.amqp_session.specs.Numbering.{first_number, drawn}
-use Rattle.amqp_session.specs.Replies.{first_awaited, without_first}
 use Rattle.amqp_session.specs.Octets.{class_in}
 use Rattle.amqp_session.specs.Legal.{amqp_header, IsPassedThrough}
-use Rattle.amqp_session.specs.Decider.{Speech, HeaderSaid, StartOkSaid, TuneOkSaid, OpenSaid, CloseSaid, CloseOkSaid, Shut, InUse, Left, NoContent, now_on, greeted, say, say_all, is_amqp_header, is_legal}
+use Rattle.amqp_session.specs.Decider.{Speech, Stage, MethodSaid, HeaderSaid, StartOkSaid, TuneOkSaid, OpenSaid, CloseSaid, CloseOkSaid, Shut, InUse, Left, NoContent, now_on, greeted, say, say_all, is_amqp_header, is_legal}
 use Rattle.amqp_session.proofs.Cases.{if_case, if_by, if-true, and-true}
 use Rattle.amqp_session.proofs.Keeping.{starve-ends, finish-ends, lost-stays}
-use Rattle.amqp_session.proofs.Sayable.{say-append, front-said, over-stays, close-said, say-our-close}
-use Rattle.amqp_session.proofs.Ties.{frames_in, LeadsTo, TiesChannels, IsNew, TiesPhase, TiesActing, Ties, Speaks, IsTied, IsSilent, IsSendable}
-use Rattle.amqp_session.proofs.OnChannels.{Listed, Replies, on-open, on-close, on-send, on-same, on-opened, on-closed, drawn-free}
+use Rattle.amqp_session.proofs.Truths.{append-none}
+use Rattle.amqp_session.proofs.Sayable.{say-append, front-said, over-stays, close-said, say-our-close, say-group, filling}
+use Rattle.amqp_session.proofs.Ties.{frames_in, LeadsTo, first_out, IsReady, TiesChannels, IsNew, TiesPhase, TiesActing, Ties, Speaks, IsTied, IsSilent, IsSendable}
+use Rattle.amqp_session.proofs.Ready.{stay-ready, open-ready, others-ready, never-ready, publish-content, publish-ready, pieces-fit}
+use Rattle.amqp_session.proofs.Expecting.{first-by-promise}
+use Rattle.amqp_session.proofs.OnChannels.{Listed, Replies, on-open, on-close, on-send, on-same, on-opened, on-closed, listed-some, used-open, all-append, drawn-free}
 
 -- what is known of a session: while a link is open, and while one is wanted
 abbrev pub Now : Talk → List Frame → Type 0
@@ -72,43 +75,54 @@ Now t committed = (is_open t ≡ true → IsTied t committed) × (wants_link t �
 -- ---- conversations
 
 -- a frame goes last
-queued : (control : List Item) (item : Item) (fs : List Frame) (s s' : Speech) → LeadsTo control fs s → say item.frame s ≡ Some s' → LeadsTo (control ++ item ∷ []) fs s'
-queued control item fs s s' r h =
+last-said : (items : List Item) (item : Item) (fs : List Frame) (v v' : Speech) → LeadsTo items fs v → say item.frame v ≡ Some v' → LeadsTo (items ++ item ∷ []) fs v'
+last-said items item fs v v' r h =
     record {
       said = r.said ++ item.frame ∷ [];
       frames =
-          ap (λ gs. fs ++ gs) (map-append (λ (i : Item). i.frame) control (item ∷ [])) ∙ sym (append_assoc fs (frames_in control) (item.frame ∷ []))
+          ap (λ gs. fs ++ gs) (map-append (λ (i : Item). i.frame) items (item ∷ [])) ∙ sym (append_assoc fs (frames_in items) (item.frame ∷ []))
           ∙ ap (λ gs. gs ++ item.frame ∷ []) r.frames;
-      may = say-append (Some greeted) r.said (item.frame ∷ []) ∙ ap (λ o. say_all o (item.frame ∷ [])) r.may ∙ ap (λ o. say_all o []) h ∙ some s';
+      may = say-append (Some greeted) r.said (item.frame ∷ []) ∙ ap (λ o. say_all o (item.frame ∷ [])) r.may ∙ ap (λ o. say_all o []) h ∙ some v';
     }
   where
     some : (s : Speech) → say_all (Some s) [] ≡ Some s
     some s = refl
 
+-- a frame goes last into the control lane
+pushed : (q : Queued) (item : Item) (fs : List Frame) (v v' : Speech) → LeadsTo (first_out q) fs v → say item.frame v ≡ Some v'
+    → LeadsTo (first_out (pushed_control item q)) fs v'
+pushed q item fs v v' r h =
+    let Q : List Item → Type 0 = λ items. LeadsTo items fs v' in
+    subst Q (append_assoc q.begun q.control (item ∷ [])) (last-said (first_out q) item fs v v' r h)
+
+-- a frame goes out
+went : (item : Item) (items : List Item) (fs : List Frame) (v : Speech) → LeadsTo (item ∷ items) fs v → LeadsTo items (fs ++ item.frame ∷ []) v
+went item items fs v r = record { said = r.said; frames = append_assoc fs (item.frame ∷ []) (frames_in items) ∙ r.frames; may = r.may }
+
 heads : {xs ys : List Frame} {x y : Frame} → x ∷ xs ≡ y ∷ ys → x ≡ y
 heads h = cc
 
 -- what was committed, without what waits
-pub record Committed (g : Frame) (fs : List Frame) (control : List Item) (later : Speech) : Type 0 where
+pub record Committed (g : Frame) (fs : List Frame) (items : List Item) (later : Speech) : Type 0 where
   pub header : g ≡ amqp_header
   pub now : Speech
   pub may : say_all (Some greeted) fs ≡ Some now
-  pub rest : say_all (Some now) (frames_in control) ≡ Some later
+  pub rest : say_all (Some now) (frames_in items) ≡ Some later
 
-committed-said : (control : List Item) (g : Frame) (fs : List Frame) (s : Speech) → LeadsTo control (g ∷ fs) s → Committed g fs control s
-committed-said control g fs s r =
-    let said : r.said ≡ fs ++ frames_in control = sym (ap (drop 1) r.frames) in
-    let parts : say_all (say_all (Some greeted) fs) (frames_in control) ≡ Some s =
-    sym (say-append (Some greeted) fs (frames_in control)) ∙ ap (say_all (Some greeted)) (sym said) ∙ r.may in
-    let q = front-said (say_all (Some greeted) fs) (frames_in control) s parts in
-    record { header = heads r.frames; now = q.0; may = q.1; rest = ap (λ o. say_all o (frames_in control)) (sym q.1) ∙ parts }
+committed-said : (items : List Item) (g : Frame) (fs : List Frame) (s : Speech) → LeadsTo items (g ∷ fs) s → Committed g fs items s
+committed-said items g fs s r =
+    let said : r.said ≡ fs ++ frames_in items = sym (ap (drop 1) r.frames) in
+    let parts : say_all (say_all (Some greeted) fs) (frames_in items) ≡ Some s =
+    sym (say-append (Some greeted) fs (frames_in items)) ∙ ap (say_all (Some greeted)) (sym said) ∙ r.may in
+    let q = front-said (say_all (Some greeted) fs) (frames_in items) s parts in
+    record { header = heads r.frames; now = q.0; may = q.1; rest = ap (λ o. say_all o (frames_in items)) (sym q.1) ∙ parts }
 
 -- the lane becomes our close-ok alone
-closed-over : (control : List Item) (item : Item) (g : Frame) (fs : List Frame) (s : Speech) → item.frame ≡ close_ok → LeadsTo control (g ∷ fs) s → s.stage ≢ CloseOkSaid
+closed-over : (items : List Item) (item : Item) (g : Frame) (fs : List Frame) (s : Speech) → item.frame ≡ close_ok → LeadsTo items (g ∷ fs) s → s.stage ≢ CloseOkSaid
     → (s' : Speech) × LeadsTo (item ∷ []) (g ∷ fs) s'
-closed-over control item g fs s is r h =
-    let q = committed-said control g fs s r in
-    let goes_on : q.now.stage ≢ CloseOkSaid = λ over. h (over-stays q.now s (frames_in control) over q.rest) in
+closed-over items item g fs s is r h =
+    let q = committed-said items g fs s r in
+    let goes_on : q.now.stage ≢ CloseOkSaid = λ over. h (over-stays q.now s (frames_in items) over q.rest) in
     let last : say_all (Some q.now) (item.frame ∷ []) ≡ Some (record q.now { stage = CloseOkSaid }) =
     ap (λ f. say_all (Some q.now) (f ∷ [])) is ∙ ap (λ o. say_all o []) (close-said q.now.stage q.now goes_on) in (
       record q.now { stage = CloseOkSaid },
@@ -123,7 +137,7 @@ closed-over control item g fs s is r h =
 pub committed-legal : (t : Talk) (fs : List Frame) → IsTied t fs → is_legal fs ≡ true
 committed-legal t [] h = refl
 committed-legal t (g ∷ fs) h =
-    let q = committed-said t.control g fs h.later h.leads in
+    let q = committed-said (first_out t.outbox) g fs h.later h.leads in
     and-true (is_amqp_header g) (is_some (say_all (Some greeted) fs)) (ap is_amqp_header q.header) (ap (λ o. is_some o) q.may)
 
 -- ---- ends, of which nothing is claimed
@@ -227,7 +241,9 @@ now-misread why t fs h =
     (record {
       later = said.later;
       leads = said.leads;
-      ties = ties-dropped t.input t.state t.phase t.channels t.awaited said.later (not-acting (is_open t) (is_acting t.input) o idle) said.ties;
+      groups = said.groups;
+      ties = ties-dropped t.input t.state t.phase t.channels t.outbox.awaited said.later (not-acting (is_open t) (is_acting t.input) o idle) said.ties;
+      agreed = said.agreed;
     })))
     (λ closed. h))
 
@@ -255,17 +271,22 @@ not-over Closing p cs ws v h over = none (sym h ∙ over) where
 not-over _ p cs ws v h over = h
 
 -- the same, where state, phase and input are known
-speaks-as : (s s' : ConnectionState) (p p' : Phase) (i i' : Input) (control : List Item) (cs : Listed) (ws : Replies) (fs : List Frame)
-    → s ≡ s' → p ≡ p' → i ≡ i' → Speaks s p i control cs ws fs → Speaks s' p' i' control cs ws fs
-speaks-as s s' p p' i i' control cs ws fs hs hp hi h =
-    let A : ConnectionState → Type 0 = λ x. Speaks x p i control cs ws fs in
-    let B : Phase → Type 0 = λ x. Speaks s' x i control cs ws fs in
-    let C : Input → Type 0 = λ x. Speaks s' p' x control cs ws fs in
+speaks-as : (s s' : ConnectionState) (p p' : Phase) (i i' : Input) (frame_max : ℕ) (q : Queued) (cs : Listed) (fs : List Frame)
+    → s ≡ s' → p ≡ p' → i ≡ i' → Speaks s p i frame_max q cs fs → Speaks s' p' i' frame_max q cs fs
+speaks-as s s' p p' i i' frame_max q cs fs hs hp hi h =
+    let A : ConnectionState → Type 0 = λ x. Speaks x p i frame_max q cs fs in
+    let B : Phase → Type 0 = λ x. Speaks s' x i frame_max q cs fs in
+    let C : Input → Type 0 = λ x. Speaks s' p' x frame_max q cs fs in
     subst C hi (subst B hp (subst A hs h))
+
+-- the same of a session
+tied-as : (s : ConnectionState) (p : Phase) (i : Input) (t : Talk) (fs : List Frame) → t.state ≡ s → t.phase ≡ p → t.input ≡ i
+    → Speaks s p i t.configuration.frame_max t.outbox t.channels fs → IsTied t fs
+tied-as s p i t fs hs hp hi h = speaks-as s t.state p t.phase i t.input t.configuration.frame_max t.outbox t.channels fs (sym hs) (sym hp) (sym hi) h
 
 -- while frames act, in this state
 abbrev pub In : ConnectionState → Phase → Talk → List Frame → Type 0
-In s p t fs = Speaks s p input.Acting t.control t.channels t.awaited fs
+In s p t fs = Speaks s p input.Acting t.configuration.frame_max t.outbox t.channels fs
 
 -- a session with an open link on which something was committed, and whose frames act
 pub record Hears (s : ConnectionState) (t : Talk) (fs : List Frame) : Type 0 where
@@ -279,17 +300,28 @@ pub record Hears (s : ConnectionState) (t : Talk) (fs : List Frame) : Type 0 whe
 now-server-close : (s : ConnectionState) (p : Phase) (t : Talk) (g : Frame) (fs : List Frame) (code : ℕ) (text : List ℕ)
     → is_open t ≡ true → In s p t (g ∷ fs) → Now (on_connection_close code text t) (g ∷ fs)
 now-server-close s p t g fs code text o h =
-    let r = closed-over t.control (plain 0 close_ok) g fs h.later refl h.leads (not-over s p t.channels t.awaited h.later h.ties) in
-    now-open (on_connection_close code text t) (g ∷ fs) o (record { later = r.0; leads = r.1; ties = tt })
+    let r = closed-over (first_out t.outbox) (plain 0 close_ok) g fs h.later refl h.leads (not-over s p t.channels t.outbox.awaited h.later h.ties) in
+    now-open (on_connection_close code text t) (g ∷ fs) o
+    (record { later = r.0; leads = r.1; groups = tt; ties = tt; agreed = λ k. absurd (true≢false (sym k)) })
+
+-- before the connection is opened, no group waits
+not-opened : (v : Speech) (g : Stage) → v ≡ record greeted { stage = g } → g ≢ OpenSaid → v.stage ≢ OpenSaid
+not-opened v g is ne h = ne (sym (ap (λ (x : Speech). x.stage) is) ∙ h)
 
 now-start : (t : Talk) (fs : List Frame) → is_open t ≡ true → t.input ≡ input.Acting → t.state ≡ Connecting → In Connecting AwaitStart t fs → Now (on_start t) fs
 now-start t fs o hi hs h =
     let v : Speech = record greeted { stage = StartOkSaid } in
     let said : say start_ok h.later ≡ Some v = ap (say start_ok) h.ties.0 in
-    let item : Item = plain 0 start_ok in
-    now-open (on_start t) fs o
-    (speaks-as Connecting t.state AwaitTune AwaitTune input.Acting t.input (t.control ++ item ∷ []) t.channels t.awaited fs (sym hs) refl (sym hi)
-    (record { later = v; leads = queued t.control item fs h.later v h.leads said; ties = (refl, h.ties.1) }))
+    let x : Talk = on_start t in
+    now-open x fs o
+    (tied-as Connecting AwaitTune input.Acting x fs hs refl hi
+    (record {
+      later = v;
+      leads = pushed t.outbox (plain 0 start_ok) fs h.later v h.leads said;
+      groups = never-ready h.later v t.outbox.publish (not-opened h.later HeaderSaid h.ties.0 (λ k. cc)) h.groups;
+      ties = (refl, h.ties.1);
+      agreed = λ k. absurd (true≢false (sym k));
+    }))
 
 now-tune : (server : Configuration) (t : Talk) (fs : List Frame) → is_open t ≡ true → t.input ≡ input.Acting → t.state ≡ Connecting → In Connecting AwaitTune t fs
     → Now (on_tune server t) fs
@@ -297,12 +329,21 @@ now-tune server t fs o hi hs h =
     let f = tune_ok (tune t.configuration server) in
     let tuned : Speech = record greeted { stage = TuneOkSaid } in
     let first : say f h.later ≡ Some tuned = ap (say f) h.ties.0 in
-    let one : List Item = t.control ++ plain 0 f ∷ [] in
-    let r = queued t.control (plain 0 f) fs h.later tuned h.leads first in
+    let r = pushed t.outbox (plain 0 f) fs h.later tuned h.leads first in
     let v : Speech = record greeted { stage = OpenSaid } in
-    now-open (on_tune server t) fs o
-    (speaks-as Connecting t.state AwaitOpenOk AwaitOpenOk input.Acting t.input (one ++ plain 0 open_vhost ∷ []) t.channels t.awaited fs (sym hs) refl (sym hi)
-    (record { later = v; leads = queued one (plain 0 open_vhost) fs tuned v r refl; ties = (refl, h.ties.1) }))
+    let x : Talk = on_tune server t in
+    now-open x fs o
+    (tied-as Connecting AwaitOpenOk input.Acting x fs hs refl hi
+    (record {
+      later = v;
+      leads = pushed (pushed_control (plain 0 f) t.outbox) (plain 0 open_vhost) fs tuned v r refl;
+      groups = never-ready h.later v t.outbox.publish (not-opened h.later StartOkSaid h.ties.0 (λ k. cc)) h.groups;
+      ties = (refl, h.ties.1);
+      agreed = λ k. tuned-size t.configuration server;
+    }))
+  where
+    tuned-size : (own server : Configuration) → frame_min_size ≤ (tune own server).frame_max
+    tuned-size own server = omega arith
 
 -- nothing was said on any channel
 new-ties : (cs : Listed) (ws : Replies) (v : Speech) → v ≡ record greeted { stage = OpenSaid } → IsNew cs ws → TiesChannels cs ws v
@@ -319,18 +360,25 @@ new-ties cs ws v is new =
 
 now-open-ok : (t : Talk) (fs : List Frame) → is_open t ≡ true → t.input ≡ input.Acting → In Connecting AwaitOpenOk t fs → Now (on_open_ok t) fs
 now-open-ok t fs o hi h =
-    now-open (on_open_ok t) fs o
-    (speaks-as Connected Connected t.phase t.phase input.Acting t.input t.control t.channels t.awaited fs refl refl (sym hi)
-    (record { later = h.later; leads = h.leads; ties = new-ties t.channels t.awaited h.later h.ties.0 h.ties.1 }))
+    let x : Talk = on_open_ok t in
+    now-open x fs o
+    (tied-as Connected t.phase input.Acting x fs refl refl hi
+    (record {
+      later = h.later;
+      leads = h.leads;
+      groups = h.groups;
+      ties = new-ties t.channels t.outbox.awaited h.later h.ties.0 h.ties.1;
+      agreed = λ k. h.agreed refl;
+    }))
 
-close-ok-ends : (a : Option Awaited) (t : Talk) → has_ended (connection_closed a t) ≡ true
+close-ok-ends : (a : Option (Option ℕ)) (t : Talk) → has_ended (connection_closed a t) ≡ true
 close-ok-ends None t = refl
-close-ok-ends (Some a) t = refl
+close-ok-ends (Some promise) t = refl
 
 now-connection : (s : ConnectionState) (p : Phase) (m : AnyMethod) (t : Talk) (g : Frame) (fs : List Frame) → is_open t ≡ true → t.input ≡ input.Acting → t.state ≡ s
     → Now t (g ∷ fs) → In s p t (g ∷ fs) → Now (connection_rule s p m t) (g ∷ fs)
 now-connection s p (Close code text class method) t g fs o hi hs now h = now-server-close s p t g fs code text o h
-now-connection Closing p CloseOk t g fs o hi hs now h = now-ended (on_connection_close_ok t) (g ∷ fs) (close-ok-ends (first_awaited 0 ConnectionClosed t.awaited) t)
+now-connection Closing p CloseOk t g fs o hi hs now h = now-ended (on_connection_close_ok t) (g ∷ fs) (close-ok-ends (awaited_promise 0 ConnectionClosed t.outbox) t)
 now-connection Closing p m t g fs o hi hs now h = now
 now-connection Connecting AwaitStart (Start a b c d e) t g fs o hi hs now h = now-start t (g ∷ fs) o hi hs h
 now-connection Connecting AwaitTune (Tune a b c) t g fs o hi hs now h = now-tune (record { channel_max = a; frame_max = b; heartbeat = c }) t (g ∷ fs) o hi hs h
@@ -341,36 +389,33 @@ now-connection held p m t g fs o hi hs now h = now-lose (InvalidConnectionState 
 
 -- once the connection is open
 now-ties : (t t' : Talk) (fs : List Frame) (v : Speech) → is_open t' ≡ true → t.input ≡ input.Acting → t'.input ≡ t.input → t'.state ≡ Connected
-    → LeadsTo t'.control fs v → TiesChannels t'.channels t'.awaited v → Now t' fs
-now-ties t t' fs v o hi same hs r ties =
+    → frame_min_size ≤ t'.configuration.frame_max → LeadsTo (first_out t'.outbox) fs v → AllByRecursion (IsReady v) t'.outbox.publish
+    → TiesChannels t'.channels t'.outbox.awaited v → Now t' fs
+now-ties t t' fs v o hi same hs agreed r ready ties =
     now-open t' fs o
-    (speaks-as Connected t'.state t'.phase t'.phase input.Acting t'.input t'.control t'.channels t'.awaited fs (sym hs) refl (sym (same ∙ hi))
-    (record { later = v; leads = r; ties = ties }))
-
-now-given : (promise : Option ℕ) (answer : Result AnyAnswer ErrorKind) (t : Talk) (fs : List Frame) → Now t fs → Now (give_to promise answer t) fs
-now-given None answer t fs h = h
-now-given (Some n) answer t fs h = h
+    (tied-as Connected t'.phase input.Acting t' fs hs refl (same ∙ hi) (record { later = v; leads = r; groups = ready; ties = ties; agreed = λ k. agreed }))
 
 now-unawaited : (n : ℕ) (s : ChannelState) (m : AnyMethod) (t : Talk) (fs : List Frame) → Now t fs → Now (unawaited_channel_method n s m t) fs
 now-unawaited n channel.Closing m t fs h = h
 now-unawaited n _ m t fs h = now-lose (unawaited m n) t fs
 
-now-opened : (n : ℕ) (c : Channel) (a : Option Awaited) (t : Talk) (fs : List Frame) → Hears Connected t fs → channel_at n t ≡ Some c → first_awaited n ChannelOpened t.awaited ≡ a
-    → Now (channel_opened n c a t) fs
+now-opened : (n : ℕ) (c : Channel) (promise : Option (Option ℕ)) (t : Talk) (fs : List Frame) → Hears Connected t fs → channel_at n t ≡ Some c
+    → awaited_promise n ChannelOpened t.outbox ≡ promise → Now (channel_opened n c promise t) fs
 now-opened n c None t fs h listed first = now-unawaited n c.state ChannelOpenOk t fs h.now
-now-opened n c (Some a) t fs h listed first =
-    let opened : Talk = record t { awaited = without_first n ChannelOpened t.awaited } in
-    let x : Talk = set_channel n (record c { state = channel.Connected }) opened in
-    now-given a.promise (Ok (AnswerChannel n c.opened)) x fs
-    (now-ties t x fs h.tied.later h.opened h.acting refl h.state h.tied.leads (on-opened n t.channels t.awaited h.tied.later c a listed first h.tied.ties))
+now-opened n c (Some promise) t fs h listed first =
+    let a = first-by-promise n ChannelOpened t.outbox promise first in
+    let x : Talk = channel_opened n c (Some promise) t in
+    now-ties t x fs h.tied.later h.opened h.acting refl h.state (h.tied.agreed refl) h.tied.leads h.tied.groups
+    (on-opened n t.channels t.outbox.awaited h.tied.later c a.0 listed a.1 h.tied.ties)
 
-now-closed : (n : ℕ) (c : Channel) (a : Option Awaited) (t : Talk) (fs : List Frame) → Hears Connected t fs → channel_at n t ≡ Some c → first_awaited n ChannelClosed t.awaited ≡ a
-    → Now (channel_closed n c a t) fs
+now-closed : (n : ℕ) (c : Channel) (promise : Option (Option ℕ)) (t : Talk) (fs : List Frame) → Hears Connected t fs → channel_at n t ≡ Some c
+    → awaited_promise n ChannelClosed t.outbox ≡ promise → Now (channel_closed n c promise t) fs
 now-closed n c None t fs h listed first = now-unawaited n c.state ChannelCloseOk t fs h.now
-now-closed n c (Some a) t fs h listed first =
-    let x : Talk = record t { awaited = without_first n ChannelClosed t.awaited; channels = without n t.channels } in
-    now-given a.promise (Ok Done) x fs
-    (now-ties t x fs h.tied.later h.opened h.acting refl h.state h.tied.leads (on-closed n t.channels t.awaited h.tied.later c a listed first h.tied.ties))
+now-closed n c (Some promise) t fs h listed first =
+    let a = first-by-promise n ChannelClosed t.outbox promise first in
+    let x : Talk = channel_closed n c (Some promise) t in
+    now-ties t x fs h.tied.later h.opened h.acting refl h.state (h.tied.agreed refl) h.tied.leads h.tied.groups
+    (on-closed n t.channels t.outbox.awaited h.tied.later c a.0 listed a.1 h.tied.ties)
 
 now-misplaced : (e : ErrorKind) (t : Talk) (fs : List Frame) → Now t fs → Now (misplaced e t) fs
 now-misplaced e t fs h = if_case (λ (x : Talk). Now x fs) (is_closing t.state) t (lose e t) h (now-lose e t fs)
@@ -379,8 +424,8 @@ now-channel : (s : ConnectionState) (n : ℕ) (c : Channel) (m : AnyMethod) (t :
     → Now (channel_rule s n c m t) fs
 now-channel Closing n c m t fs h ne listed = h.now
 now-channel Connecting n c m t fs h ne listed = absurd (ne refl)
-now-channel Connected n c ChannelOpenOk t fs h ne listed = now-opened n c (first_awaited n ChannelOpened t.awaited) t fs h listed refl
-now-channel Connected n c ChannelCloseOk t fs h ne listed = now-closed n c (first_awaited n ChannelClosed t.awaited) t fs h listed refl
+now-channel Connected n c ChannelOpenOk t fs h ne listed = now-opened n c (awaited_promise n ChannelOpened t.outbox) t fs h listed refl
+now-channel Connected n c ChannelCloseOk t fs h ne listed = now-closed n c (awaited_promise n ChannelClosed t.outbox) t fs h listed refl
 now-channel Connected n c m t fs h ne listed = now-unawaited n c.state m t fs h.now
 now-channel _ n c m t fs h ne listed = absurd h.tied.ties
 
@@ -407,14 +452,14 @@ now-pass s n c kind bytes t fs h ne listed =
     in_state : (s : ConnectionState) → Hears s t fs → s ≢ Connecting → Now (confirmed n c t) fs
     in_state Connecting h ne = absurd (ne refl)
     in_state Connected h ne =
-        now-ties t (confirmed n c t) fs h.tied.later h.opened h.acting refl h.state h.tied.leads
-        (on-same n t.channels t.awaited h.tied.later c (record c { confirm = true }) listed refl h.tied.ties)
+        now-ties t (confirmed n c t) fs h.tied.later h.opened h.acting refl h.state (h.tied.agreed refl) h.tied.leads h.tied.groups
+        (on-same n t.channels t.outbox.awaited h.tied.later c (record c { confirm = true }) listed refl h.tied.ties)
     -- our close of the connection was said, and what ties channels no longer counts
     in_state Closing h ne =
         let x : Talk = confirmed n c t in
         now-open x fs h.opened
-        (speaks-as Closing t.state t.phase t.phase input.Acting t.input t.control x.channels x.awaited fs (sym h.state) refl (sym h.acting)
-        (record { later = h.tied.later; leads = h.tied.leads; ties = h.tied.ties }))
+        (tied-as Closing t.phase input.Acting x fs h.state refl h.acting
+        (record { later = h.tied.later; leads = h.tied.leads; groups = h.tied.groups; ties = h.tied.ties; agreed = h.tied.agreed }))
     in_state _ h ne = absurd h.tied.ties
 
 now-raw : (o : Option Channel) (n : ℕ) (kind : RawKind) (bytes : List ℕ) (t : Talk) (fs : List Frame) → Hears t.state t fs → heard_on t.state (channel_at n t) ≡ o
@@ -463,7 +508,7 @@ now-frame f place t g fs now =
       acting = is;
       state = refl;
       now = now;
-      tied = speaks-as t.state t.state t.phase t.phase t.input input.Acting t.control t.channels t.awaited (g ∷ fs) refl refl is (now.0 k.0);
+      tied = speaks-as t.state t.state t.phase t.phase t.input input.Acting t.configuration.frame_max t.outbox t.channels (g ∷ fs) refl refl is (now.0 k.0);
     })))
     (λ idle. now)
 
@@ -477,14 +522,14 @@ talking (input.Dropped crossed) p cs ws v h = absurd h
 
 -- what is told while the connection is open, and leaves the link as it is
 now-told : (t t' : Talk) (fs : List Frame) → t.state ≡ Connected → t'.link ≡ t.link → Now t fs
-    → (is_open t' ≡ true → t.input ≡ input.Acting → (v : Speech) → LeadsTo t.control fs v → TiesChannels t.channels t.awaited v → Now t' fs) → Now t' fs
+    → (is_open t' ≡ true → t.input ≡ input.Acting → (h : In Connected t.phase t fs) → Now t' fs) → Now t' fs
 now-told t t' fs hs link h next = (
   (λ o.
       let said : IsTied t fs = h.0 (ap is_open_link (sym link) ∙ o) in
-      let s : Speaks Connected t.phase t.input t.control t.channels t.awaited fs =
-      speaks-as t.state Connected t.phase t.phase t.input t.input t.control t.channels t.awaited fs hs refl refl said in
-      let k = talking t.input t.phase t.channels t.awaited s.later s.ties in
-      (next o k.0 s.later s.leads k.1).0 o),
+      let s : Speaks Connected t.phase t.input t.configuration.frame_max t.outbox t.channels fs =
+      speaks-as t.state Connected t.phase t.phase t.input t.input t.configuration.frame_max t.outbox t.channels fs hs refl refl said in
+      let acting = (talking t.input t.phase t.channels t.outbox.awaited s.later s.ties).0 in
+      (next o acting (speaks-as Connected Connected t.phase t.phase t.input input.Acting t.configuration.frame_max t.outbox t.channels fs refl refl acting s)).0 o),
   λ w. absurd (no-wait (sym (h.1 (ap is_wanted_link (sym link) ∙ w)).0 ∙ hs)),
 )
   where
@@ -498,9 +543,11 @@ now-drawn (Some n) t fs hs is h =
     let free = drawn-free t.configuration.channel_max t.cursor t.channels n is in
     let item : Item = plain n (channel_open n) in
     now-told t (open_as n t) fs hs refl h
-    (λ o hi v r ties.
-    let k = on-open n t.channels t.awaited v (next_promise t) free.1 free.0 ties in
-    now-ties t (open_as n t) fs (now_on n InUse v) o hi refl hs (queued t.control item fs v (now_on n InUse v) r k.may) k.ties)
+    (λ o hi s.
+    let k = on-open n t.channels t.outbox.awaited s.later (next_promise t) free.1 free.0 s.ties in
+    now-ties t (open_as n t) fs (now_on n InUse s.later) o hi refl hs (s.agreed refl)
+    (pushed t.outbox item fs s.later (now_on n InUse s.later) s.leads k.may)
+    (open-ready n s.later t.outbox.publish s.ties.speaking s.groups) k.ties)
 
 named-listed : (r : ChanRef) (o : Option Channel) (c : Channel) → named_in r.opened o ≡ Some c → o ≡ Some c
 named-listed r None c h = cc
@@ -535,9 +582,11 @@ now-close-target (Ok c) r code text t fs hs is h =
     let x : Talk = close_channel n code text c t in
     let item : Item = plain n (our_channel_close n code text) in
     now-told t x fs hs refl h
-    (λ o hi v l ties.
-    let k = on-close n t.channels t.awaited v c code text (Some (next_promise t)) at.listed at.open_state ties in
-    now-ties t x fs (now_on n Left v) o hi refl hs (queued t.control item fs v (now_on n Left v) l k.may) k.ties)
+    (λ o hi s.
+    let k = on-close n t.channels t.outbox.awaited s.later c code text (Some (next_promise t)) at.listed at.open_state s.ties in
+    now-ties t x fs (now_on n Left s.later) o hi refl hs (s.agreed refl)
+    (pushed t.outbox item fs s.later (now_on n Left s.later) s.leads k.may)
+    (others-ready n s.later t.outbox.publish s.ties.speaking s.groups) k.ties)
 
 class-spelled : (m : OtherMethod) → m.class < 2 ^ 16 → class_in (spell_raw_method m) ≡ m.class
 class-spelled m h = from_be_bytes-to_be_bytes_2 m.class h
@@ -550,39 +599,77 @@ passed-through m connection channel small =
     let is = class-spelled m small in
     record { whole = spelled-length m; not_connection = λ h. connection (sym is ∙ h); not_channel = λ h. channel (sym is ∙ h) }
 
+-- what is told is refused where a frame is too long
+now-unless : (o : Option Frame) (rule : Talk → Talk) (t : Talk) (fs : List Frame) → Now t fs → (o ≡ None → Now (rule t) fs) → Now (unless_too_long o rule t) fs
+now-unless None rule t fs h next = next refl
+now-unless (Some frame) rule t fs h next = h
+
 now-send : (r : ChanRef) (m : OtherMethod) (c : Channel) (t : Talk) (fs : List Frame) → IsSendable (Send r m) → t.state ≡ Connected → IsTarget r t c → Now t fs → Now (send r.id m t) fs
 now-send r m c t fs told hs at h =
     let n : ℕ = r.id in
     let f = method_frame n m in
-    let item : Item = record { channel = n; frame = f; promise = Some (next_promise t) } in
-    let x : Talk = promise (queue_item item t) in
-    if_case (λ (y : Talk). Now y fs) (nat_lt t.capacity (length (encoding f))) (refuse (SerialisationError (length (encoding f))) t) x h
-    (now-told t x fs hs refl h
-    (λ o hi v l ties.
-    let k = on-send n t.channels t.awaited v c (spell_raw_method m) (passed-through m told.0 told.1 told.2) at.listed at.open_state ties in
-    now-ties t x fs _ o hi refl hs (queued t.control item fs v _ l k.may) k.ties))
+    let item : Item = promised n f (next_promise t) in
+    let x : Talk = queue_send n f t in
+    now-unless (too_long (f ∷ []) t) (queue_send n f) t fs h
+    (λ fits. now-told t x fs hs refl h
+    (λ o hi s.
+    let k = on-send n t.channels t.outbox.awaited s.later c (spell_raw_method m) (passed-through m told.0 told.1 told.2) at.listed at.open_state s.ties in
+    let v : Speech = record s.later { content = MethodSaid n (class_in (spell_raw_method m)) } in
+    now-ties t x fs v o hi refl hs (s.agreed refl) (pushed t.outbox item fs s.later v s.leads k.may)
+    (stay-ready s.later v t.outbox.publish s.ties.speaking tt (λ m used. used) s.groups) k.ties))
 
 now-send-target : (o : Result Channel ErrorKind) (r : ChanRef) (m : OtherMethod) (t : Talk) (fs : List Frame) → IsSendable (Send r m) → t.state ≡ Connected → target r word.Send t ≡ o
     → Now t fs → Now (send_target o r.id m t) fs
 now-send-target (Err e) r m t fs told hs is h = h
 now-send-target (Ok c) r m t fs told hs is h = now-send r m c t fs told hs (target-is r word.Send t (named r t) c refl is) h
 
+now-publish : (r : ChanRef) (m : OtherMethod) (properties body : List ℕ) (c : Channel) (t : Talk) (fs : List Frame) → IsSendable (Publish r m properties body)
+    → t.state ≡ Connected → IsTarget r t c → Now t fs → Now (publish r.id m properties body t) fs
+now-publish r m properties body c t fs told hs at h =
+    let n : ℕ = r.id in
+    let frames : List Frame = publish_frames n m properties body (body_limit t) in
+    let x : Talk = queue_publish n frames t in
+    now-unless (too_long frames t) (queue_publish n frames) t fs h
+    (λ fits. now-told t x fs hs refl h
+    (λ o hi s.
+    let some : n ≢ 0 = listed-some n t.channels t.outbox.awaited s.later c at.listed s.ties in
+    let used = used-open n t.channels t.outbox.awaited s.later c at.listed at.open_state s.ties in
+    let content = publish-content m properties body (body_limit t) told.3 told.4 (pieces-fit n m properties body t (s.agreed refl) fits) in
+    let ready : IsReady s.later (group_of n frames (next_promise t)) =
+    publish-ready n m properties body (body_limit t) (next_promise t) s.later some s.ties.speaking s.ties.complete used (passed-through m told.0 told.1 told.2) content in
+    now-ties t x fs s.later o hi refl hs (s.agreed refl) s.leads
+    (all-append (IsReady s.later) t.outbox.publish (group_of n frames (next_promise t) ∷ []) s.groups (ready, tt)) s.ties))
+
+now-publish-target : (o : Result Channel ErrorKind) (r : ChanRef) (m : OtherMethod) (properties body : List ℕ) (t : Talk) (fs : List Frame)
+    → IsSendable (Publish r m properties body) → t.state ≡ Connected → target r word.Publish t ≡ o → Now t fs → Now (publish_target o r.id m properties body t) fs
+now-publish-target (Err e) r m properties body t fs told hs is h = h
+now-publish-target (Ok c) r m properties body t fs told hs is h =
+    now-publish r m properties body c t fs told hs (target-is r word.Publish t (named r t) c refl is) h
+
 now-close-connection : (code : ℕ) (text : List ℕ) (t : Talk) (fs : List Frame) → t.state ≡ Connected → Now t fs → Now (close_connection code text t) fs
 now-close-connection code text t fs hs h =
     let x : Talk = close_connection code text t in
     let item : Item = plain 0 (our_close code text) in
     now-told t x fs hs refl h
-    (λ o hi v r ties.
-    let v' : Speech = record v { stage = CloseSaid; content = NoContent } in
+    (λ o hi s.
+    let v : Speech = record s.later { stage = CloseSaid; content = NoContent } in
     now-open x fs o
-    (speaks-as Closing Closing t.phase t.phase input.Acting t.input x.control x.channels x.awaited fs refl refl (sym hi)
-    (record { later = v'; leads = queued t.control item fs v v' r (say-our-close code text 0 0 v ties.speaking ties.complete); ties = refl })))
+    (tied-as Closing t.phase input.Acting x fs refl refl hi
+    (record {
+      later = v;
+      leads = pushed t.outbox item fs s.later v s.leads (say-our-close code text 0 0 s.later s.ties.speaking s.ties.complete);
+      groups = tt;
+      ties = refl;
+      agreed = λ k. absurd (true≢false (sym k));
+    })))
 
 now-command-rule : (s : ConnectionState) (c : Cmd) (t : Talk) (fs : List Frame) → IsSendable c → t.state ≡ s → Now t fs → Now (command_rule s c t) fs
 now-command-rule Connected OpenChannel t fs told hs h = now-drawn _ t fs hs refl h
 now-command-rule Connected (CloseChannel r code text) t fs told hs h = now-close-target (target r word.ChannelClose t) r code text t fs hs refl h
 now-command-rule Connected (CloseConnection code text) t fs told hs h = now-close-connection code text t fs hs h
 now-command-rule Connected (Send r method) t fs told hs h = now-send-target (target r word.Send t) r method t fs told hs refl h
+now-command-rule Connected (Publish r method properties body) t fs told hs h =
+    now-publish-target (target r word.Publish t) r method properties body t fs told hs refl h
 now-command-rule _ c t fs told hs h = h
 
 pub now-command : (c : Cmd) (t : Talk) (fs : List Frame) → IsSendable c → Now t fs → Now (command c t) fs
@@ -592,7 +679,7 @@ now-command c t fs told h = now-command-rule t.state c t fs told refl h
 
 -- a new session is silent
 pub start-silent : IsSilent start
-start-silent = (refl, record { no_channels = refl; none_awaited = refl }, omega arith)
+start-silent = (refl, refl, omega arith)
 
 -- on a new link nothing was committed, and the header waits
 pub tied-linked : (t : Talk) → is_asked t ≡ true → IsSilent t → IsTied (linked t) []
@@ -602,33 +689,102 @@ tied-linked t asked_t h =
       phase = AwaitStart;
       link = Open;
       input = input.Acting;
-      control = plain 0 protocol_header ∷ [];
+      outbox = only (plain 0 protocol_header);
       committed = [];
       last_read = t.present;
       last_write = t.present;
     } in
     let is : linked t ≡ x = if-true (is_asked t) x t asked_t in
     let Q : Talk → Type 0 = λ y. IsTied y [] in
-    subst Q (sym is) (record { later = greeted; leads = record { said = []; frames = refl; may = refl }; ties = (refl, h.1) })
+    subst Q (sym is)
+    (record {
+      later = greeted;
+      leads = record { said = []; frames = refl; may = refl };
+      groups = tt;
+      ties = (refl, record { no_channels = h.1; none_awaited = refl });
+      agreed = λ k. absurd (true≢false (sym k));
+    })
 
 -- a new link has room for the header
 pub silent-room : (t : Talk) → IsSilent t → 8 ≤ t.capacity
 silent-room t h = h.2
 
--- the next frame stands first in the lane
-next-first : (b : Bool) (control : List Item) (item : Item) → (if b then head control else None) ≡ Some item → control ≡ item ∷ drop 1 control
-next-first true [] item h = cc
-next-first true (x ∷ control) item h = let is : x ≡ item = cc in ap (λ y. y ∷ control) is
-next-first false control item h = cc
+-- no channel is in use before the connection is open
+shut-used : Shut ≡ InUse → ⊥
+shut-used h = cc
+
+ties-phase : (p : Phase) (n : ℕ) (v : Speech) → v.usage n ≡ InUse → TiesPhase p v → ⊥
+ties-phase AwaitStart n v used h = shut-used (sym (ap (λ (x : Speech). x.usage n) h) ∙ used)
+ties-phase AwaitTune n v used h = shut-used (sym (ap (λ (x : Speech). x.usage n) h) ∙ used)
+ties-phase AwaitOpenOk n v used h = shut-used (sym (ap (λ (x : Speech). x.usage n) h) ∙ used)
+
+-- a group that begins leaves a session tied
+ties-begun : (i : Input) (s : ConnectionState) (p : Phase) (cs : Listed) (ws : Replies) (n : ℕ) (v : Speech) → v.usage n ≡ InUse
+    → Ties i s p cs ws v → Ties i s p cs ws (filling n 0 v)
+ties-begun input.Acting Connecting p cs ws n v used h = absurd (ties-phase p n v used h.0)
+ties-begun input.Acting Connected p cs ws n v used h =
+    record { speaking = h.speaking; complete = tt; sorted = h.sorted; awaited_sorted = h.awaited_sorted; each = h.each }
+ties-begun input.Acting Closing p cs ws n v used h = h
+ties-begun input.Acting _ p cs ws n v used h = absurd h
+ties-begun (input.Closed crossed) s p cs ws n v used h = h
+ties-begun (input.Dropped crossed) s p cs ws n v used h = h
+
+-- the next frame goes out, by what waits
+next-speaks : (flow : Bool) (begun control : List Item) (publish : List (List Item)) (awaited : Replies) (s : ConnectionState) (p : Phase) (i : Input) (frame_max : ℕ)
+    (cs : Listed) (fs : List Frame) (item : Item) → queued.next_item flow (record { control = control; publish = publish; begun = begun; awaited = awaited }) ≡ Some item
+    → Speaks s p i frame_max (record { control = control; publish = publish; begun = begun; awaited = awaited }) cs fs
+    → Speaks s p i frame_max (after_next flow (record { control = control; publish = publish; begun = begun; awaited = awaited })) cs (fs ++ item.frame ∷ [])
+next-speaks flow (x ∷ begun) control publish awaited s p i frame_max cs fs item is h =
+    let same : x ≡ item = cc in
+    let q : Queued = record { control = control; publish = publish; begun = begun; awaited = awaited } in
+    let Q : Item → Type 0 = λ y. Speaks s p i frame_max q cs (fs ++ y.frame ∷ []) in
+    subst Q same
+    (record { later = h.later; leads = went x (begun ++ control) fs h.later h.leads; groups = h.groups; ties = h.ties; agreed = h.agreed })
+next-speaks flow [] (x ∷ control) publish awaited s p i frame_max cs fs item is h =
+    let same : x ≡ item = cc in
+    let q : Queued = record { control = control; publish = publish; begun = []; awaited = awaited } in
+    let Q : Item → Type 0 = λ y. Speaks s p i frame_max q cs (fs ++ y.frame ∷ []) in
+    subst Q same (record { later = h.later; leads = went x control fs h.later h.leads; groups = h.groups; ties = h.ties; agreed = h.agreed })
+next-speaks false [] [] publish awaited s p i frame_max cs fs item is h = absurd cc
+next-speaks true [] [] [] awaited s p i frame_max cs fs item is h = absurd cc
+next-speaks true [] [] ([] ∷ groups) awaited s p i frame_max cs fs item is h = absurd cc
+-- a group begins, and the rest of it goes before all else
+next-speaks true [] [] ((x ∷ group) ∷ groups) awaited s p i frame_max cs fs item is h =
+    let same : x ≡ item = cc in
+    let q : Queued = record { control = []; publish = groups; begun = group; awaited = awaited } in
+    let Q : Item → Type 0 = λ y. Speaks s p i frame_max q cs (fs ++ y.frame ∷ []) in
+    let v : Speech = h.later in
+    let w = h.groups.0 in
+    let gs : List Frame = x.frame ∷ frames_in group in
+    let begun : fs ≡ amqp_header ∷ h.leads.said = sym (append-none fs) ∙ h.leads.frames in
+    subst Q same
+    (record {
+      later = filling w.channel 0 v;
+      leads =
+          record {
+            said = h.leads.said ++ gs;
+            frames =
+                ap (λ items. (fs ++ x.frame ∷ []) ++ frames_in items) (append-none group) ∙ append_assoc fs (x.frame ∷ []) (frames_in group)
+                ∙ ap (λ frames. frames ++ gs) begun;
+            may =
+                say-append (Some greeted) h.leads.said gs ∙ ap (λ o. say_all o gs) h.leads.may ∙ ap (say_all (Some v)) w.frames
+                ∙ say-group w.channel w.method w.head w.bodies v w.not_zero w.speaking w.complete w.used w.passed w.content;
+          };
+      groups = stay-ready v (filling w.channel 0 v) groups w.speaking tt (λ m used. used) h.groups.1;
+      ties = ties-begun i s p cs awaited w.channel v w.used h.ties;
+      agreed = h.agreed;
+    })
 
 -- a frame is committed
 pub tied-commit : (t : Talk) (fs : List Frame) (item : Item) → next_item t ≡ Some item → IsTied t fs
-    → IsTied (record t { control = drop 1 t.control; committed = t.committed ++ mark_of item ∷ [] }) (fs ++ item.frame ∷ [])
+    → IsTied (record t { outbox = after_next (flows t) t.outbox; committed = t.committed ++ mark_of item ∷ [] }) (fs ++ item.frame ∷ [])
 tied-commit t fs item is h =
-    let lane : t.control ≡ item ∷ drop 1 t.control = next-first (is_open t) t.control item is in
-    let frames : (fs ++ item.frame ∷ []) ++ frames_in (drop 1 t.control) ≡ amqp_header ∷ h.leads.said =
-    append_assoc fs (item.frame ∷ []) (frames_in (drop 1 t.control)) ∙ ap (λ items. fs ++ frames_in items) (sym lane) ∙ h.leads.frames in
-    record { later = h.later; leads = record { said = h.leads.said; frames = frames; may = h.leads.may }; ties = h.ties }
+    next-speaks (flows t) t.outbox.begun t.outbox.control t.outbox.publish t.outbox.awaited t.state t.phase t.input t.configuration.frame_max t.channels fs item
+    (while-open (is_open t) (queued.next_item (flows t) t.outbox) is) h
+  where
+    while-open : (b : Bool) (o : Option Item) → (if b then o else None) ≡ Some item → o ≡ Some item
+    while-open true o k = k
+    while-open false o k = absurd cc
 
 -- ---- what is taken between runs
 

@@ -1,11 +1,13 @@
 -- The bytes that are unsent, counted.
-use Rattle.std.proofs.Common.{◌≡◌, ◌∙◌, ap, sym, ℕ, ◌+◌, ◌-◌, ◌≤◌, ◌==◌, ◌&&◌, not, true, false, nat_le, Bool, suc, List, [], ◌∷◌, ◌++◌, drop, length, Some, None, arith, refl}
+use Rattle.std.proofs.Common.{◌≡◌, ◌∙◌, ap, sym, ℕ, ◌+◌, ◌-◌, ◌≤◌, ◌==◌, ◌&&◌, not, true, false, nat_le, Bool, suc, List, [], ◌∷◌, ◌++◌, length, Some, None, arith, refl}
 use Rattle.std.proofs.lemmas.Bool.Decides.{nat_tests}
 use Rattle.std.specs.Prelude.{IsTrue}
+use Rattle.amqp_outbox.specs.declared.item.Item.{Item}
+use Rattle.amqp_outbox.specs.Items.{size_of}
+use Rattle.amqp_outbox.specs.Queued as queued
 use Rattle.amqp_session.specs.declared.committed.Mark.{Mark}
-use Rattle.amqp_session.specs.declared.lanes.Item.{Item}
 use Rattle.amqp_session.specs.Talk.{Talk, is_open}
-use Rattle.amqp_session.specs.Writing.{left_in, sent_among, taken, unsent, head, size_of, fitting, next_within, mark_of, committed_as, commit}
+use Rattle.amqp_session.specs.Writing.{left_in, sent_among, taken, unsent, flows, fitting, next_within, mark_of, committed_as, commit}
 use Rattle.amqp_session.specs.Parts.{after_first}
 use Rattle.amqp_session.proofs.Cases.{if_case, if-true, if-false}
 use Rattle.amqp_session.proofs.Keeping.{left_in-cons, left_in-left_after, sent_among-committed}
@@ -40,15 +42,15 @@ unsent-taken n t still within = counted n t within (is_open t && not (n == 0)) r
 
 -- ---- the next frame
 
-module _ (space : ℕ) (t : Talk) (item : Item) (opened : is_open t ≡ true) (first : head t.control ≡ Some item) (fits : size_of item ≤ space) where
+module _ (space : ℕ) (t : Talk) (item : Item) (opened : is_open t ≡ true) (first : queued.next_item (flows t) t.outbox ≡ Some item) (fits : size_of item ≤ space) where
   -- it goes out where it fits
   pub next-fits : next_within space t ≡ Some item
   next-fits =
       let enough : nat_le (size_of item) space ≡ true = grind (arith, nat_tests) in
-      ap (fitting space) (if-true (is_open t) (head t.control) None opened ∙ first)
+      ap (fitting space) (if-true (is_open t) (queued.next_item (flows t) t.outbox) None opened ∙ first)
       ∙ if-true (nat_le (size_of item) space) (Some item) None enough
 
-  pub commit-fits : commit space t ≡ record t { control = drop 1 t.control; committed = t.committed ++ mark_of item ∷ [] }
+  pub commit-fits : commit space t ≡ record t { outbox = queued.after_next (flows t) t.outbox; committed = t.committed ++ mark_of item ∷ [] }
   commit-fits = ap (λ o. committed_as o t) next-fits
 
 -- ---- one committed frame

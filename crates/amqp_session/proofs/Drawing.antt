@@ -1,11 +1,14 @@
 -- The search for a number in a range, run by run.
-use Rattle.std.proofs.Common.{◌≡◌, ◌∙◌, ap, sym, refl, ℕ, zero, suc, ◌+◌, ◌-◌, ◌<◌, ◌≤◌, Bool, true, false, cond, Option, None, Some, ◌∷◌, arith, inl, inr}
-use Rattle.std.proofs.lemmas.Bool.{cases_eq, cases_lt}
+use Rattle.std.proofs.Common.{◌≡◌, ◌∙◌, ap, sym, refl, ℕ, zero, suc, ◌+◌, ◌-◌, ◌<◌, ◌≤◌, Bool, true, false, not, cond, List, Option, None, Some, ◌∷◌, arith, inl, inr}
+use Rattle.std.proofs.lemmas.Bool.{cases_eq, cases_lt, not-false}
 use Rattle.std.proofs.lemmas.List.Folds.{find-append}
 use Rattle.std.specs.Prelude.{find}
 use Rattle.std.specs.List.{range_with_len}
 use Rattle.std.specs.Option.{option_or}
-use Rattle.amqp_session.specs.Numbering.{cycle}
+use Rattle.amqp_session.specs.declared.channels.Channel.{Channel}
+use Rattle.amqp_session.specs.Listed.{has}
+use Rattle.amqp_session.specs.Numbering.{cycle, drawn}
+use Rattle.amqp_session.specs.Channels.{AllListed}
 
 first-fails : (b : Bool) (n : ℕ) (o : Option ℕ) → cond b (Some n) o ≡ None → b ≡ false
 first-fails true n o h = absurd cc
@@ -103,3 +106,15 @@ module _ (p : ℕ → Bool) where
               let same : n ≡ first + (n - first) = omega (arith, from) in
               ap p same ∙ none-passes (top + 1 - first) first (one-none later earlier both) (n - first) (omega (arith, from, high))
         ]
+
+module _ (listed : List (ℕ × Channel)) (top first : ℕ) where
+  abbrev unlisted : ℕ → Bool
+  unlisted n = not (has n listed)
+
+  -- where none is drawn, all are listed
+  pub all-listed : drawn top first listed ≡ None → AllListed top listed
+  all-listed none n low high = not-false (has n listed) (cycle-fails unlisted top first none n low high)
+
+  -- and where all are listed, none is drawn
+  pub none-drawn : 1 ≤ first → first ≤ top → AllListed top listed → drawn top first listed ≡ None
+  none-drawn low high all = none-in-cycle unlisted top first low high (λ n from below. ap not (all n from below))

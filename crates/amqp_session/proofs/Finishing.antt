@@ -1,18 +1,26 @@
 -- What finishes a session is the last that is sent.
-use Rattle.std.proofs.Common.{◌≡◌, ◌∙◌, ap, sym, subst, refl, ℕ, zero, suc, ◌+◌, ◌-◌, ◌≤◌, ◌==◌, ◌&&◌, not, nat_le, if◌then◌else◌, Bool, true, false, List, [], ◌∷◌, ◌++◌, drop, Option, Some, None, arith}
+use Rattle.std.proofs.Common.{◌≡◌, ◌∙◌, ap, sym, subst, refl, ℕ, zero, suc, ◌+◌, ◌-◌, ◌≤◌, ◌==◌, ◌&&◌, not, nat_le, if◌then◌else◌, cond, Bool, true, false, List, [], ◌∷◌, ◌++◌, length, drop, map, Option, Some, None, arith}
 use Rattle.std.proofs.lemmas.Bool.Decides.{nat_tests}
-use Rattle.std.specs.Prelude.{IsTrue}
+use Rattle.std.specs.Prelude.{IsTrue, filter}
+use Rattle.amqp_frame.specs.declared.frame.Frame.TheVariants.{Raw}
+use Rattle.amqp_frame.specs.declared.frame.RawKind.{RawKind}
+use Rattle.amqp_frame.specs.declared.frame.RawKind.TheVariants.{Header, Body}
+use Rattle.amqp_frame.specs.RawMethods.{OtherMethod}
+use Rattle.amqp_outbox.specs.declared.item.Item.{Item}
+use Rattle.amqp_outbox.specs.Items.{plain, group_of, frames_of}
+use Rattle.amqp_outbox.specs.Queued as queued
+use Rattle.amqp_outbox.specs.Queued.{Queued, waiting_items, after_next, pushed_control, pushed_group}
+use Rattle.amqp_outbox.proofs.Waiting.{next-waits}
 use Rattle.amqp_session.specs.declared.committed.Mark.{Mark}
 use Rattle.amqp_session.specs.declared.committed.Then.{Then}
 use Rattle.amqp_session.specs.declared.committed.Then.TheVariants.{Nothing, Answer, Finish}
-use Rattle.amqp_session.specs.declared.lanes.Item.{Item}
 use Rattle.amqp_session.specs.declared.state.Input.{Input}
 use Rattle.amqp_session.specs.declared.state.Input.TheVariants.{Acting, Closed, Dropped}
 use Rattle.amqp_session.specs.Talk.{Talk, is_open, is_acting}
-use Rattle.amqp_session.specs.Changes.{plain}
 use Rattle.amqp_session.specs.Handshake.{channel_open, our_channel_close}
 use Rattle.amqp_session.specs.Links.{dropped}
-use Rattle.amqp_session.specs.Writing.{left_in, unsent, taken, sent_among, sent, follow, head, fitting, next_item, next_within, then_of, mark_of}
+use Rattle.amqp_session.specs.Publishing.{content_header, body_pieces, publish_frames}
+use Rattle.amqp_session.specs.Writing.{left_in, unsent, taken, sent_among, sent, follow, flows, fitting, next_item, next_within, then_of, mark_of}
 use Rattle.amqp_session.specs.Sound.{is_finish, following, NoneFinishes, LastFinishes, Finishes}
 use Rattle.amqp_session.proofs.Cases.{if-true, if-false}
 use Rattle.amqp_session.proofs.Counting.{other-false}
@@ -49,18 +57,91 @@ dropped-acts Acting h = refl
 dropped-acts (Closed c) h = absurd cc
 dropped-acts (Dropped c) h = absurd cc
 
--- ---- a frame is queued
+-- ---- what waits changes
 
-queued : (ms : List Mark) (is : List Item) (x : Item) → is_finish (then_of x) ≡ false → NoneFinishes (following ms is)
-    → NoneFinishes (following ms (is ++ x ∷ []))
-queued [] [] x f h = (f, tt)
-queued [] (i ∷ is) x f h = (h.0, queued [] is x f h.1)
-queued (m ∷ ms) is x f h = (h.0, queued ms is x f h.1)
+-- none of these frames finishes
+abbrev pub GoesOn : List Item → Type 0
+GoesOn is = NoneFinishes (following [] is)
+
+marks-go : (ms : List Mark) (is : List Item) → NoneFinishes (following ms is) → NoneFinishes (following ms [])
+marks-go [] is h = tt
+marks-go (m ∷ ms) is h = (h.0, marks-go ms is h.1)
+
+items-go : (ms : List Mark) (is : List Item) → NoneFinishes (following ms is) → GoesOn is
+items-go [] is h = h
+items-go (m ∷ ms) is h = items-go ms is h.1
+
+both-go : (ms : List Mark) (is : List Item) → NoneFinishes (following ms []) → GoesOn is → NoneFinishes (following ms is)
+both-go [] is h k = k
+both-go (m ∷ ms) is h k = (h.0, both-go ms is h.1 k)
+
+-- where frames act, other frames wait of which none finishes
+pub acting-finishes : (i : Input) (ms : List Mark) (is js : List Item) → is_acting i ≡ true → (GoesOn is → GoesOn js)
+    → Finishes i (following ms is) → Finishes i (following ms js)
+acting-finishes i ms is js a f h =
+    let none : NoneFinishes (following ms is) = acting-none i (following ms is) a h in
+    none-finishes i (following ms js) (both-go ms js (marks-go ms is none) (f (items-go ms is none)))
+
+joined : (xs ys : List Item) → GoesOn xs → GoesOn ys → GoesOn (xs ++ ys)
+joined [] ys h k = k
+joined (x ∷ xs) ys h k = (h.0, joined xs ys h.1 k)
+
+front : (xs ys : List Item) → GoesOn (xs ++ ys) → GoesOn xs
+front [] ys h = tt
+front (x ∷ xs) ys h = (h.0, front xs ys h.1)
+
+behind : (xs ys : List Item) → GoesOn (xs ++ ys) → GoesOn ys
+behind [] ys h = h
+behind (x ∷ xs) ys h = behind xs ys h.1
+
+one-group-more : (groups : List (List Item)) (group : List Item) → GoesOn group → GoesOn (frames_of groups) → GoesOn (frames_of (groups ++ group ∷ []))
+one-group-more [] group g h = joined group [] g tt
+one-group-more (x ∷ groups) group g h =
+    joined x (frames_of (groups ++ group ∷ [])) (front x (frames_of groups) h) (one-group-more groups group g (behind x (frames_of groups) h))
+
+-- groups that are left go on
+groups-left : (test : List Item → Bool) (groups : List (List Item)) → GoesOn (frames_of groups) → GoesOn (frames_of (filter test groups))
+groups-left test [] h = tt
+groups-left test (group ∷ groups) h = by (test group) (groups-left test groups (behind group (frames_of groups) h))
+  where
+    by : (b : Bool) → GoesOn (frames_of (filter test groups)) → GoesOn (frames_of (cond b (group ∷ filter test groups) (filter test groups)))
+    by true rest = joined group (frames_of (filter test groups)) (front group (frames_of groups) h) rest
+    by false rest = rest
+
+module _ (q : Queued) (h : GoesOn (waiting_items q)) where
+  first-lanes : GoesOn (q.begun ++ q.control)
+  first-lanes = front (q.begun ++ q.control) (frames_of q.publish) h
+
+  last-lane : GoesOn (frames_of q.publish)
+  last-lane = behind (q.begun ++ q.control) (frames_of q.publish) h
+
+  -- a frame goes last in the control lane that does not finish
+  pub control-goes_on : (x : Item) → is_finish (then_of x) ≡ false → GoesOn (waiting_items (pushed_control x q))
+  control-goes_on x f =
+      joined (q.begun ++ (q.control ++ x ∷ [])) (frames_of q.publish)
+      (joined q.begun (q.control ++ x ∷ []) (front q.begun q.control first-lanes)
+      (joined q.control (x ∷ []) (behind q.begun q.control first-lanes) (f, tt)))
+      last-lane
+
+  -- a group goes last of which no frame finishes
+  pub group-goes_on : (group : List Item) → GoesOn group → GoesOn (waiting_items (pushed_group group q))
+  group-goes_on group g =
+      joined (q.begun ++ q.control) (frames_of (q.publish ++ group ∷ [])) first-lanes (one-group-more q.publish group g last-lane)
+
+  -- some groups go
+  pub left-goes_on : (test : List Item → Bool) → GoesOn (waiting_items (record q { publish = filter test q.publish }))
+  left-goes_on test =
+      joined (q.begun ++ q.control) (frames_of (filter test q.publish)) first-lanes (groups-left test q.publish last-lane)
+
+  -- all groups go
+  pub ungrouped-goes_on : GoesOn (waiting_items (record q { publish = [] }))
+  ungrouped-goes_on = joined (q.begun ++ q.control) [] first-lanes tt
 
 -- where frames act, one is queued that does not finish
-pub queue-finishes : (i : Input) (ms : List Mark) (is : List Item) (x : Item) → is_acting i ≡ true → is_finish (then_of x) ≡ false
-    → Finishes i (following ms is) → Finishes i (following ms (is ++ x ∷ []))
-queue-finishes i ms is x a f h = none-finishes i (following ms (is ++ x ∷ [])) (queued ms is x f (acting-none i (following ms is) a h))
+pub queue-finishes : (i : Input) (ms : List Mark) (q : Queued) (x : Item) → is_acting i ≡ true → is_finish (then_of x) ≡ false
+    → Finishes i (following ms (waiting_items q)) → Finishes i (following ms (waiting_items (pushed_control x q)))
+queue-finishes i ms q x a f h =
+    acting-finishes i ms (waiting_items q) (waiting_items (pushed_control x q)) a (λ goes. control-goes_on q goes x f) h
 
 -- one frame alone waits behind what does not finish
 pub alone-last : (ms : List Mark) (is : List Item) (x : Item) → NoneFinishes (following ms is) → LastFinishes (following ms (x ∷ []))
@@ -76,11 +157,17 @@ pub close-goes_on : (n code : ℕ) (text : List ℕ) → is_finish (then_of (pla
 close-goes_on zero code text = refl
 close-goes_on (suc n) code text = refl
 
--- ---- a frame is committed
+pieces-go : (n number : ℕ) (kind : RawKind) (bytes : List ℕ) (pieces : List (List ℕ)) → GoesOn (group_of n (Raw n kind bytes ∷ map (Raw n Body) pieces) number)
+pieces-go n number kind bytes [] = (refl, tt)
+pieces-go n number kind bytes (piece ∷ pieces) = (refl, pieces-go n number Body piece pieces)
 
-head-first : (is : List Item) (item : Item) → head is ≡ Some item → is ≡ item ∷ drop 1 is
-head-first [] item h = absurd cc
-head-first (i ∷ is) item h = let same : i ≡ item = cc in ap (λ (x : Item). x ∷ is) same
+-- the frames of a publish finish nothing
+pub publish-goes_on : (n number : ℕ) (method : OtherMethod) (properties body : List ℕ) (size : ℕ)
+    → GoesOn (group_of n (publish_frames n method properties body size) number)
+publish-goes_on n number method properties body size =
+    (refl, pieces-go n number Header (content_header method.class (length body) properties) (body_pieces size body))
+
+-- ---- a frame is committed
 
 if-some : (b : Bool) (o : Option Item) (item : Item) → (if b then o else None) ≡ Some item → o ≡ Some item
 if-some true o item h = h
@@ -94,12 +181,20 @@ moved : (ms : List Mark) (item : Item) (is : List Item) → following (ms ++ mar
 moved [] item is = refl
 moved (m ∷ ms) item is = ap (λ (ths : List Then). m.then ∷ ths) (moved ms item is)
 
+-- the frame that goes out is the first of those that wait
+pub next-first : (space : ℕ) (t : Talk) (item : Item) → next_within space t ≡ Some item
+    → waiting_items t.outbox ≡ item ∷ waiting_items (after_next (flows t) t.outbox)
+next-first space t item h =
+    next-waits (flows t) t.outbox item
+    (if-some (is_open t) (queued.next_item (flows t) t.outbox) item (fitting-some space (next_item t) item h))
+
 -- what follows stays where a frame is committed
 pub committed-follows : (space : ℕ) (t : Talk) (item : Item) → next_within space t ≡ Some item
-    → following t.committed t.control ≡ following (t.committed ++ mark_of item ∷ []) (drop 1 t.control)
+    → following t.committed (waiting_items t.outbox)
+    ≡ following (t.committed ++ mark_of item ∷ []) (waiting_items (after_next (flows t) t.outbox))
 committed-follows space t item h =
-    ap (following t.committed) (head-first t.control item (if-some (is_open t) (head t.control) item (fitting-some space (next_item t) item h)))
-    ∙ sym (moved t.committed item (drop 1 t.control))
+    ap (following t.committed) (next-first space t item h)
+    ∙ sym (moved t.committed item (waiting_items (after_next (flows t) t.outbox)))
 
 -- ---- frames are sent
 
@@ -118,14 +213,14 @@ sent-committed m ms t h =
     follow-keeps (λ (x : Talk). x.committed) (λ t s l cs ps. refl) m.then (record t { committed = drop 1 t.committed }) ∙ ap (drop 1) h
 
 module _ (m : Mark) (ms : List Mark) (k : ℕ) (t : Talk) (h : t.committed ≡ m ∷ ms) (opened : is_open t ≡ true)
-    (last : LastFinishes (m.then ∷ following ms t.control))
+    (last : LastFinishes (m.then ∷ following ms (waiting_items t.outbox)))
     (later : is_open (sent m t) ≡ true → (sent_among ms k (sent m t)).committed ≡ left_after ms k) where
   sent-first : (th : Then) → m.then ≡ th → (sent_among ms k (sent m t)).committed ≡ left_after ms k
   sent-first Nothing e = later (ap (λ (th : Then). is_open (follow th (record t { committed = drop 1 t.committed }))) e ∙ opened)
   sent-first (Answer n) e = later (ap (λ (th : Then). is_open (follow th (record t { committed = drop 1 t.committed }))) e ∙ opened)
   sent-first Finish e =
-      let none : following ms t.control ≡ [] = last.0 (ap is_finish e) in
-      let empty : ms ≡ [] = no-marks ms t.control none in
+      let none : following ms (waiting_items t.outbox) ≡ [] = last.0 (ap is_finish e) in
+      let empty : ms ≡ [] = no-marks ms (waiting_items t.outbox) none in
       subst (λ (xs : List Mark). (sent_among xs k (sent m t)).committed ≡ left_after xs k) (sym empty) (sent-committed m ms t h ∙ empty)
     where
       no-marks : (ms : List Mark) (is : List Item) → following ms is ≡ [] → ms ≡ []
@@ -145,7 +240,7 @@ module _ (m : Mark) (ms : List Mark) (n : ℕ) (t : Talk) where
   one-left true h = h
 
 -- on an open link the frames whose last byte was taken are no longer committed
-open-committed : (ms : List Mark) (n : ℕ) (t : Talk) → t.committed ≡ ms → is_open t ≡ true → LastFinishes (following ms t.control)
+open-committed : (ms : List Mark) (n : ℕ) (t : Talk) → t.committed ≡ ms → is_open t ≡ true → LastFinishes (following ms (waiting_items t.outbox))
     → (sent_among ms n t).committed ≡ left_after ms n
 open-committed [] n t h opened last = h
 open-committed (m ∷ ms) n t h opened last =
@@ -154,10 +249,10 @@ open-committed (m ∷ ms) n t h opened last =
     (sent-first m ms (n - m.left) t h opened last
     (λ still. open-committed ms (n - m.left) (sent m t) (sent-committed m ms t h) still
     (subst (λ (is : List Item). LastFinishes (following ms is))
-    (sym (follow-keeps (λ (x : Talk). x.control) (λ t s l cs ps. refl) m.then (record t { committed = drop 1 t.committed }))) last.1))
+    (sym (follow-keeps (λ (x : Talk). waiting_items x.outbox) (λ t s l cs ps. refl) m.then (record t { committed = drop 1 t.committed }))) last.1))
     m.then refl)
 
-module _ (n : ℕ) (t : Talk) (opened : is_open t ≡ true) (last : LastFinishes (following t.committed t.control)) (within : n ≤ unsent t) where
+module _ (n : ℕ) (t : Talk) (opened : is_open t ≡ true) (last : LastFinishes (following t.committed (waiting_items t.outbox))) (within : n ≤ unsent t) where
   open-counted : (b : Bool) → (is_open t && not (n == 0)) ≡ b → unsent (taken n t) + n ≡ unsent t
   open-counted true h =
       let from : Talk = record t { last_write = t.present } in
@@ -175,6 +270,6 @@ module _ (n : ℕ) (t : Talk) (opened : is_open t ≡ true) (last : LastFinishes
       omega (arith, left, none)
 
 -- what is taken is no longer unsent, where the link was open
-pub open-taken : (n : ℕ) (t : Talk) → is_open t ≡ true → LastFinishes (following t.committed t.control) → n ≤ unsent t
+pub open-taken : (n : ℕ) (t : Talk) → is_open t ≡ true → LastFinishes (following t.committed (waiting_items t.outbox)) → n ≤ unsent t
     → unsent (taken n t) + n ≡ unsent t
 open-taken n t opened last within = open-counted n t opened last within (is_open t && not (n == 0)) refl

@@ -1,15 +1,14 @@
 -- How a frame that is read may end a session, row by row.
-use Rattle.std.proofs.Common.{◌≡◌, ◌≢◌, ◌⊎◌, inl, inr, ℕ, zero, suc, not, ◌&&◌, true, false, if◌then◌else◌, List, Option, Some, None, Result, is_some, refl, ap}
+use Rattle.std.proofs.Common.{◌≡◌, ◌≢◌, ◌⊎◌, inl, inr, ℕ, zero, suc, not, ◌&&◌, true, false, if◌then◌else◌, List, Option, Some, None, is_some, refl, ap}
 use Rattle.amqp_frame.specs.declared.frame.Frame.{Frame}
 use Rattle.amqp_frame.specs.declared.frame.Frame.TheVariants.{ProtocolHeader, Method, Raw, Heartbeat}
 use Rattle.amqp_frame.specs.declared.frame.RawKind.{RawKind}
 use Rattle.amqp_frame.specs.declared.frame.RawKind.TheVariants.{RawMethod}
 use Rattle.amqp_frame.specs.declared.method.Method.{Method as AnyMethod}
 use Rattle.amqp_frame.specs.declared.method.Method.TheVariants.{Start, Tune, OpenOk, Close, CloseOk, ChannelOpenOk, ChannelCloseOk}
+use Rattle.amqp_outbox.specs.declared.reply.Reply.TheVariants.{ChannelOpened, ChannelClosed, ConnectionClosed}
+use Rattle.amqp_outbox.specs.Queued.{awaited_promise}
 use Rattle.amqp_session.specs.declared.channels.Channel.{Channel}
-use Rattle.amqp_session.specs.declared.command.Answer.{Answer}
-use Rattle.amqp_session.specs.declared.awaiting.Awaited.{Awaited}
-use Rattle.amqp_session.specs.declared.awaiting.Reply.TheVariants.{ChannelOpened, ChannelClosed, ConnectionClosed}
 use Rattle.amqp_session.specs.declared.state.ConnectionState.{ConnectionState}
 use Rattle.amqp_session.specs.declared.state.ConnectionState.TheVariants.{Connecting, Closing}
 use Rattle.amqp_session.specs.declared.state.ChannelState.{ChannelState}
@@ -19,14 +18,13 @@ use Rattle.amqp_session.specs.declared.state.Phase.TheVariants.{AwaitStart, Awai
 use Rattle.amqp_session.specs.declared.misread.Misread.{Misread}
 use Rattle.amqp_session.specs.declared.error.ErrorKind.{ErrorKind}
 use Rattle.amqp_session.specs.declared.error.ErrorKind.TheVariants.{InvalidProtocolVersion, InvalidChannel, InvalidConnectionState, Unbuilt}
-use Rattle.amqp_session.specs.Talk.{Talk, is_open, is_closing, acts, end_of}
-use Rattle.amqp_session.specs.Changes.{give_to, fail, lose, misplaced}
+use Rattle.amqp_session.specs.Talk.{Talk, is_open, is_closing, acts}
+use Rattle.amqp_session.specs.Changes.{fail, lose, misplaced}
 use Rattle.amqp_session.specs.Links.{misread, dropped}
 use Rattle.amqp_session.specs.Violations.{misread_error, stray_channel_frame, stray_connection_method, unawaited}
 use Rattle.amqp_session.specs.ConnectionMethods.{connection_rule, connection_closed}
 use Rattle.amqp_session.specs.Channels.{channel_at}
 use Rattle.amqp_session.specs.ChannelMethods.{heard_on, unawaited_channel_method, channel_opened, channel_closed, channel_rule, channel_method_by, channel_method, hand_out, confirmed, is_select_ok, pass_through, raw_by}
-use Rattle.amqp_session.specs.Replies.{first_awaited}
 use Rattle.amqp_session.specs.Frames.{is_unbuilt, is_of_a_channel, method_rule, frame_rule, on_frame}
 use Rattle.amqp_session.specs.Causes.{IsFrameError, is_awaited, is_due}
 use Rattle.amqp_session.proofs.Cases.{if_case, if_by, and-true}
@@ -39,29 +37,24 @@ ends-unawaited : (P : ErrorKind → Type 0) (n : ℕ) (s : ChannelState) (m : An
 ends-unawaited P n channel.Closing m t p = ends-kept P t t refl
 ends-unawaited P n _ m t p = ends-lose P _ t t (p (λ e. cc))
 
--- that a promise is answered ends nothing
-pub give_to-end : (promise : Option ℕ) (answer : Result Answer ErrorKind) (t : Talk) → end_of (give_to promise answer t) ≡ end_of t
-give_to-end None answer t = refl
-give_to-end (Some n) answer t = refl
-
-ends-opened : (P : ErrorKind → Type 0) (n : ℕ) (c : Channel) (a : Option Awaited) (t : Talk)
+ends-opened : (P : ErrorKind → Type 0) (n : ℕ) (c : Channel) (a : Option (Option ℕ)) (t : Talk)
     → (is_some a ≡ false → c.state ≢ channel.Closing → P (unawaited ChannelOpenOk n)) → Ends P t (channel_opened n c a t)
 ends-opened P n c None t p = ends-unawaited P n c.state ChannelOpenOk t (p refl)
-ends-opened P n c (Some a) t p = ends-kept P t (channel_opened n c (Some a) t) (give_to-end a.promise _ _)
+ends-opened P n c (Some promise) t p = ends-kept P t (channel_opened n c (Some promise) t) refl
 
-ends-closed : (P : ErrorKind → Type 0) (n : ℕ) (c : Channel) (a : Option Awaited) (t : Talk)
+ends-closed : (P : ErrorKind → Type 0) (n : ℕ) (c : Channel) (a : Option (Option ℕ)) (t : Talk)
     → (is_some a ≡ false → c.state ≢ channel.Closing → P (unawaited ChannelCloseOk n)) → Ends P t (channel_closed n c a t)
 ends-closed P n c None t p = ends-unawaited P n c.state ChannelCloseOk t (p refl)
-ends-closed P n c (Some a) t p = ends-kept P t (channel_closed n c (Some a) t) (give_to-end a.promise _ _)
+ends-closed P n c (Some promise) t p = ends-kept P t (channel_closed n c (Some promise) t) refl
 
-ends-connection-closed : (P : ErrorKind → Type 0) (a : Option Awaited) (t : Talk) → Ends P t (connection_closed a t)
+ends-connection-closed : (P : ErrorKind → Type 0) (a : Option (Option ℕ)) (t : Talk) → Ends P t (connection_closed a t)
 ends-connection-closed P None t = ends-ok P t _ refl
-ends-connection-closed P (Some a) t = ends-ok P t _ refl
+ends-connection-closed P (Some promise) t = ends-ok P t _ refl
 
 ends-connection : (P : ErrorKind → Type 0) (s : ConnectionState) (p : Phase) (m : AnyMethod) (t : Talk)
     → (is_closing s ≡ false → is_due m s p ≡ false → P (InvalidConnectionState s)) → Ends P t (connection_rule s p m t)
 ends-connection P s p (Close code text class method) t e = ends-kept P t _ refl
-ends-connection P Closing p CloseOk t e = ends-connection-closed P (first_awaited 0 ConnectionClosed t.awaited) t
+ends-connection P Closing p CloseOk t e = ends-connection-closed P (awaited_promise 0 ConnectionClosed t.outbox) t
 ends-connection P Closing p m t e = ends-kept P t t refl
 ends-connection P Connecting AwaitStart (Start a b c d x) t e = ends-kept P t _ refl
 ends-connection P Connecting AwaitTune (Tune a b c) t e = ends-kept P t _ refl
@@ -71,8 +64,8 @@ ends-connection P held p m t e = ends-lose P _ t t (e refl refl)
 ends-channel : (P : ErrorKind → Type 0) (s : ConnectionState) (n : ℕ) (c : Channel) (m : AnyMethod) (t : Talk)
     → (is_closing s ≡ false → is_awaited m n t ≡ false → c.state ≢ channel.Closing → P (unawaited m n)) → Ends P t (channel_rule s n c m t)
 ends-channel P Closing n c m t p = ends-kept P t t refl
-ends-channel P _ n c ChannelOpenOk t p = ends-opened P n c (first_awaited n ChannelOpened t.awaited) t (p refl)
-ends-channel P _ n c ChannelCloseOk t p = ends-closed P n c (first_awaited n ChannelClosed t.awaited) t (p refl)
+ends-channel P _ n c ChannelOpenOk t p = ends-opened P n c (awaited_promise n ChannelOpened t.outbox) t (p refl)
+ends-channel P _ n c ChannelCloseOk t p = ends-closed P n c (awaited_promise n ChannelClosed t.outbox) t (p refl)
 ends-channel P _ n c m t p = ends-unawaited P n c.state m t (p refl refl)
 
 ends-channel-by : (P : ErrorKind → Type 0) (o : Option Channel) (n : ℕ) (m : AnyMethod) (t : Talk)

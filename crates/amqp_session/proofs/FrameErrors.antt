@@ -7,9 +7,9 @@ use Rattle.amqp_frame.specs.declared.frame.RawKind.{RawKind}
 use Rattle.amqp_frame.specs.declared.frame.RawKind.TheVariants.{RawMethod}
 use Rattle.amqp_frame.specs.declared.method.Method.{Method as AnyMethod}
 use Rattle.amqp_frame.specs.declared.method.Method.TheVariants.{Start, Tune, OpenOk, Close, ChannelOpenOk, ChannelCloseOk}
+use Rattle.amqp_outbox.specs.declared.reply.Reply.TheVariants.{ChannelOpened, ChannelClosed}
+use Rattle.amqp_outbox.specs.Queued.{awaited_promise}
 use Rattle.amqp_session.specs.declared.channels.Channel.{Channel}
-use Rattle.amqp_session.specs.declared.awaiting.Awaited.{Awaited}
-use Rattle.amqp_session.specs.declared.awaiting.Reply.TheVariants.{ChannelOpened, ChannelClosed}
 use Rattle.amqp_session.specs.declared.state.ConnectionState.{ConnectionState}
 use Rattle.amqp_session.specs.declared.state.ConnectionState.TheVariants.{Connecting, Closing}
 use Rattle.amqp_session.specs.declared.state.ChannelState.{ChannelState}
@@ -26,7 +26,6 @@ use Rattle.amqp_session.specs.Violations.{stray_channel_frame, stray_connection_
 use Rattle.amqp_session.specs.ConnectionMethods.{connection_rule}
 use Rattle.amqp_session.specs.Channels.{channel_at}
 use Rattle.amqp_session.specs.ChannelMethods.{heard_on, unawaited_channel_method, channel_opened, channel_closed, channel_rule, channel_method_by, channel_method, raw_by, raw_frame}
-use Rattle.amqp_session.specs.Replies.{first_awaited}
 use Rattle.amqp_session.specs.Frames.{is_unbuilt, is_of_a_channel, method_rule, frame_rule, on_frame}
 use Rattle.amqp_session.specs.Causes.{IsFrameError, IsJudgedError, IsMisplaced, IsUnawaited, IsOfChannel, IsUndue, IsUnheard, IsKept, is_awaited, is_due, is_judged}
 use Rattle.amqp_session.proofs.Cases.{if-true, if-false}
@@ -57,21 +56,21 @@ unawaited-ends : (n : ℕ) (s : ChannelState) (m : AnyMethod) (t : Talk) → s �
 unawaited-ends n channel.Closing m t kept = absurd (kept refl)
 unawaited-ends n _ m t kept = refl
 
-opened-ends : (n : ℕ) (c : Channel) (a : Option Awaited) (t : Talk) → is_some a ≡ false → c.state ≢ channel.Closing
+opened-ends : (n : ℕ) (c : Channel) (a : Option (Option ℕ)) (t : Talk) → is_some a ≡ false → c.state ≢ channel.Closing
     → end_of (channel_opened n c a t) ≡ Some (Err (unawaited ChannelOpenOk n))
 opened-ends n c None t free kept = unawaited-ends n c.state ChannelOpenOk t kept
-opened-ends n c (Some a) t free kept = cc
+opened-ends n c (Some promise) t free kept = cc
 
-closed-ends : (n : ℕ) (c : Channel) (a : Option Awaited) (t : Talk) → is_some a ≡ false → c.state ≢ channel.Closing
+closed-ends : (n : ℕ) (c : Channel) (a : Option (Option ℕ)) (t : Talk) → is_some a ≡ false → c.state ≢ channel.Closing
     → end_of (channel_closed n c a t) ≡ Some (Err (unawaited ChannelCloseOk n))
 closed-ends n c None t free kept = unawaited-ends n c.state ChannelCloseOk t kept
-closed-ends n c (Some a) t free kept = cc
+closed-ends n c (Some promise) t free kept = cc
 
 channel-ends : (s : ConnectionState) (n : ℕ) (c : Channel) (m : AnyMethod) (t : Talk) → is_closing s ≡ false → is_awaited m n t ≡ false → c.state ≢ channel.Closing
     → end_of (channel_rule s n c m t) ≡ Some (Err (unawaited m n))
 channel-ends Closing n c m t going free kept = cc
-channel-ends _ n c ChannelOpenOk t going free kept = opened-ends n c (first_awaited n ChannelOpened t.awaited) t free kept
-channel-ends _ n c ChannelCloseOk t going free kept = closed-ends n c (first_awaited n ChannelClosed t.awaited) t free kept
+channel-ends _ n c ChannelOpenOk t going free kept = opened-ends n c (awaited_promise n ChannelOpened t.outbox) t free kept
+channel-ends _ n c ChannelCloseOk t going free kept = closed-ends n c (awaited_promise n ChannelClosed t.outbox) t free kept
 channel-ends _ n c m t going free kept = unawaited-ends n c.state m t kept
 
 -- the rule of a method that is built

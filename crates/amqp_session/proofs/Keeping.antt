@@ -1,5 +1,5 @@
 -- What the rules leave as it is.
-use Rattle.std.proofs.Common.{◌≡◌, ◌⊎◌, inl, inr, ℕ, zero, suc, ◌+◌, ◌-◌, ◌==◌, ◌&&◌, not, nat_le, nat_lt, max, Bool, true, false, if◌then◌else◌, List, [], ◌∷◌, length, drop, length-drop, Option, Some, None, Result, Ok, Err, is_some, refl, ap, sym, ◌∙◌, arith}
+use Rattle.std.proofs.Common.{◌≡◌, ◌⊎◌, inl, inr, ℕ, zero, suc, ◌+◌, ◌-◌, ◌==◌, ◌&&◌, not, nat_le, max, Bool, true, false, if◌then◌else◌, List, [], ◌∷◌, length, drop, length-drop, Option, Some, None, Result, Ok, Err, is_some, refl, ap, sym, ◌∙◌, arith}
 use Rattle.std.proofs.lemmas.List.Sums.{sum_by-cons}
 use Rattle.std.proofs.lemmas.Bool.Decides.{nat_tests}
 use Rattle.amqp_frame.specs.declared.frame.Frame.{Frame}
@@ -8,13 +8,12 @@ use Rattle.amqp_frame.specs.declared.frame.RawKind.{RawKind}
 use Rattle.amqp_frame.specs.declared.method.Method.{Method as AnyMethod}
 use Rattle.amqp_frame.specs.declared.method.Method.TheVariants.{Start, Tune, OpenOk, Close, CloseOk, ChannelOpenOk, ChannelCloseOk}
 use Rattle.amqp_frame.specs.RawMethods.{OtherMethod}
-use Rattle.amqp_frame.specs.Frames.{encoding}
+use Rattle.amqp_outbox.specs.declared.reply.Reply.TheVariants.{ChannelOpened, ChannelClosed, ConnectionClosed}
+use Rattle.amqp_outbox.specs.Queued.{awaited_promise, answered}
 use Rattle.amqp_session.specs.declared.channels.Channel.{Channel}
 use Rattle.amqp_session.specs.declared.committed.Mark.{Mark}
 use Rattle.amqp_session.specs.declared.committed.Then.{Then}
 use Rattle.amqp_session.specs.declared.committed.Then.TheVariants.{Nothing, Answer, Finish}
-use Rattle.amqp_session.specs.declared.awaiting.Awaited.{Awaited}
-use Rattle.amqp_session.specs.declared.awaiting.Reply.TheVariants.{ChannelOpened, ChannelClosed, ConnectionClosed}
 use Rattle.amqp_session.specs.declared.state.ConnectionState.{ConnectionState}
 use Rattle.amqp_session.specs.declared.state.ConnectionState.TheVariants.{Connecting, Connected, Closing}
 use Rattle.amqp_session.specs.declared.state.ChannelState.{ChannelState}
@@ -27,21 +26,21 @@ use Rattle.amqp_session.specs.declared.server_close.ServerClose.{ServerClose}
 use Rattle.amqp_session.specs.declared.server_close.ServerClose.TheVariants.{WithoutError, WithError}
 use Rattle.amqp_session.specs.declared.misread.Misread.{Misread}
 use Rattle.amqp_session.specs.declared.command.Cmd.{Cmd}
-use Rattle.amqp_session.specs.declared.command.Cmd.TheVariants.{OpenChannel, CloseChannel, CloseConnection, Send}
+use Rattle.amqp_session.specs.declared.command.Cmd.TheVariants.{OpenChannel, CloseChannel, CloseConnection, Send, Publish}
 use Rattle.amqp_session.specs.declared.command.Answer.{Answer as AnyAnswer}
 use Rattle.amqp_session.specs.declared.command.Answer.TheVariants.{Done}
 use Rattle.amqp_session.specs.declared.error.ErrorKind.{ErrorKind}
-use Rattle.amqp_session.specs.declared.error.ErrorKind.TheVariants.{NoMemory, IOError, SerialisationError}
+use Rattle.amqp_session.specs.declared.error.ErrorKind.TheVariants.{NoMemory, IOError}
 use Rattle.amqp_session.specs.Talk.{Talk, has_ended, is_open, is_closing, acts, end_of_link}
-use Rattle.amqp_session.specs.Changes.{Promises, present_at, refuse, promise, queue_item, next_promise, give_to, fail, lose, misplaced, close, finish, finish_by, starve}
+use Rattle.amqp_session.specs.Changes.{Promises, present_at, refuse, give_to, fail, lose, misplaced, close, finish, finish_by, starve}
 use Rattle.amqp_session.specs.Links.{dropped, lost, misread}
 use Rattle.amqp_session.specs.Violations.{misread_error}
 use Rattle.amqp_session.specs.ConnectionMethods.{connection_rule, connection_closed}
 use Rattle.amqp_session.specs.Channels.{channel_at}
 use Rattle.amqp_session.specs.ChannelMethods.{heard_on, unawaited_channel_method, channel_opened, channel_closed, channel_rule, channel_method_by, channel_method, hand_out, confirmed, is_select_ok, pass_through, raw_by}
-use Rattle.amqp_session.specs.Replies.{first_awaited, without_first}
 use Rattle.amqp_session.specs.Frames.{is_unbuilt, is_of_a_channel, method_rule, frame_rule, on_frame}
-use Rattle.amqp_session.specs.Commands.{open_drawn, close_target, send_target, method_frame, command, command_rule}
+use Rattle.amqp_session.specs.Publishing.{method_frame, publish_frames}
+use Rattle.amqp_session.specs.Commands.{open_drawn, close_target, too_long, unless_too_long, queue_send, send_target, body_limit, queue_publish, publish_target, command, command_rule}
 use Rattle.amqp_session.specs.Writing.{left_in, follow, sent, sent_among, taken}
 use Rattle.amqp_session.proofs.Cases.{if_case, if-true, if-false, and-true, and-false}
 
@@ -107,15 +106,15 @@ keeps-close t u k = record { committed = k.committed; capacity = k.capacity; lin
 
 -- ---- frames
 
-keeps-connection-closed : (a : Option Awaited) (t : Talk) → Keeps t (connection_closed a t)
+keeps-connection-closed : (o : Option (Option ℕ)) (t : Talk) → Keeps t (connection_closed o t)
 keeps-connection-closed None t = keeps-close t t (keeps-none t)
-keeps-connection-closed (Some a) t =
-    keeps-close t _ (keeps-give_to a.promise (Ok Done) t
-    (record t { awaited = without_first 0 ConnectionClosed t.awaited }) (record { committed = refl; capacity = refl; link = inl refl }))
+keeps-connection-closed (Some promise) t =
+    keeps-close t _ (keeps-give_to promise (Ok Done) t
+    (record t { outbox = answered 0 ConnectionClosed t.outbox }) (record { committed = refl; capacity = refl; link = inl refl }))
 
 keeps-connection : (s : ConnectionState) (p : Phase) (m : AnyMethod) (t : Talk) → Keeps t (connection_rule s p m t)
 keeps-connection s p (Close code text class method) t = record { committed = refl; capacity = refl; link = inl refl }
-keeps-connection Closing p CloseOk t = keeps-connection-closed (first_awaited 0 ConnectionClosed t.awaited) t
+keeps-connection Closing p CloseOk t = keeps-connection-closed (awaited_promise 0 ConnectionClosed t.outbox) t
 keeps-connection Closing p m t = keeps-none t
 keeps-connection Connecting AwaitStart (Start a b c d e) t = record { committed = refl; capacity = refl; link = inl refl }
 keeps-connection Connecting AwaitTune (Tune a b c) t = record { committed = refl; capacity = refl; link = inl refl }
@@ -129,18 +128,18 @@ keeps-unawaited : (n : ℕ) (s : ChannelState) (m : AnyMethod) (t : Talk) → Ke
 keeps-unawaited n channel.Closing m t = keeps-none t
 keeps-unawaited n _ m t = keeps-lose _ t
 
-keeps-opened : (n : ℕ) (c : Channel) (a : Option Awaited) (t : Talk) → Keeps t (channel_opened n c a t)
+keeps-opened : (n : ℕ) (c : Channel) (o : Option (Option ℕ)) (t : Talk) → Keeps t (channel_opened n c o t)
 keeps-opened n c None t = keeps-unawaited n c.state ChannelOpenOk t
-keeps-opened n c (Some a) t = keeps-give_to a.promise _ t _ (record { committed = refl; capacity = refl; link = inl refl })
+keeps-opened n c (Some promise) t = keeps-give_to promise _ t _ (record { committed = refl; capacity = refl; link = inl refl })
 
-keeps-closed : (n : ℕ) (c : Channel) (a : Option Awaited) (t : Talk) → Keeps t (channel_closed n c a t)
+keeps-closed : (n : ℕ) (c : Channel) (o : Option (Option ℕ)) (t : Talk) → Keeps t (channel_closed n c o t)
 keeps-closed n c None t = keeps-unawaited n c.state ChannelCloseOk t
-keeps-closed n c (Some a) t = keeps-give_to a.promise _ t _ (record { committed = refl; capacity = refl; link = inl refl })
+keeps-closed n c (Some promise) t = keeps-give_to promise _ t _ (record { committed = refl; capacity = refl; link = inl refl })
 
 keeps-channel : (s : ConnectionState) (n : ℕ) (c : Channel) (m : AnyMethod) (t : Talk) → Keeps t (channel_rule s n c m t)
 keeps-channel Closing n c m t = keeps-none t
-keeps-channel _ n c ChannelOpenOk t = keeps-opened n c (first_awaited n ChannelOpened t.awaited) t
-keeps-channel _ n c ChannelCloseOk t = keeps-closed n c (first_awaited n ChannelClosed t.awaited) t
+keeps-channel _ n c ChannelOpenOk t = keeps-opened n c (awaited_promise n ChannelOpened t.outbox) t
+keeps-channel _ n c ChannelCloseOk t = keeps-closed n c (awaited_promise n ChannelClosed t.outbox) t
 keeps-channel _ n c m t = keeps-unawaited n c.state m t
 
 keeps-channel-by : (o : Option Channel) (n : ℕ) (m : AnyMethod) (t : Talk) → Keeps t (channel_method_by o n m t)
@@ -210,13 +209,23 @@ stays-close : (r : Result Channel ErrorKind) (n code : ℕ) (text : List ℕ) (t
 stays-close (Err e) n code text t = stays-refuse e t
 stays-close (Ok c) n code text t = record { link = refl; committed = refl; configuration = refl; capacity = refl; input = refl; server_close = refl }
 
+stays-unless : (o : Option Frame) (rule : Talk → Talk) (t : Talk) → Stays t (rule t) → Stays t (unless_too_long o rule t)
+stays-unless None rule t s = s
+stays-unless (Some frame) rule t s = stays-refuse _ t
+
 stays-send : (r : Result Channel ErrorKind) (n : ℕ) (m : OtherMethod) (t : Talk) → Stays t (send_target r n m t)
 stays-send (Err e) n m t = stays-refuse e t
 stays-send (Ok c) n m t =
     let frame = method_frame n m in
-    if_case (Stays t) (nat_lt t.capacity (length (encoding frame))) (refuse (SerialisationError (length (encoding frame))) t)
-    (promise (queue_item (record { channel = n; frame = frame; promise = Some (next_promise t) }) t))
-    (stays-refuse _ t)
+    stays-unless (too_long (frame ∷ []) t) (queue_send n frame) t
+    (record { link = refl; committed = refl; configuration = refl; capacity = refl; input = refl; server_close = refl })
+
+stays-publish : (r : Result Channel ErrorKind) (n : ℕ) (m : OtherMethod) (properties body : List ℕ) (t : Talk)
+    → Stays t (publish_target r n m properties body t)
+stays-publish (Err e) n m properties body t = stays-refuse e t
+stays-publish (Ok c) n m properties body t =
+    let frames = publish_frames n m properties body (body_limit t) in
+    stays-unless (too_long frames t) (queue_publish n frames) t
     (record { link = refl; committed = refl; configuration = refl; capacity = refl; input = refl; server_close = refl })
 
 stays-rule : (s : ConnectionState) (c : Cmd) (t : Talk) → Stays t (command_rule s c t)
@@ -224,6 +233,7 @@ stays-rule Connected OpenChannel t = stays-drawn _ _ t
 stays-rule Connected (CloseChannel r code text) t = stays-close _ r.id code text t
 stays-rule Connected (CloseConnection code text) t = record { link = refl; committed = refl; configuration = refl; capacity = refl; input = refl; server_close = refl }
 stays-rule Connected (Send r method) t = stays-send _ r.id method t
+stays-rule Connected (Publish r method properties body) t = stays-publish _ r.id method properties body t
 stays-rule _ c t = stays-refuse _ t
 
 pub stays-command : (c : Cmd) (t : Talk) → Stays t (command c t)

@@ -9,15 +9,15 @@ use Rattle.amqp_frame.specs.declared.frame.Frame.TheVariants.{Method, Raw}
 use Rattle.amqp_frame.specs.declared.frame.RawKind.TheVariants.{RawMethod}
 use Rattle.amqp_frame.specs.declared.method.Method.{Method as AnyMethod}
 use Rattle.amqp_frame.specs.declared.method.Method.TheVariants.{ChannelOpen, ChannelClose}
+use Rattle.amqp_outbox.specs.declared.reply.Awaited.{Awaited}
+use Rattle.amqp_outbox.specs.declared.reply.Reply.{Reply}
+use Rattle.amqp_outbox.specs.declared.reply.Reply.TheVariants.{ChannelOpened, ChannelClosed}
+use Rattle.amqp_outbox.specs.Replies.{method_of, expected, first_awaited, answered}
 use Rattle.amqp_session.specs.declared.channels.Channel.{Channel}
 use Rattle.amqp_session.specs.declared.state.ChannelState.{ChannelState}
 use Rattle.amqp_session.specs.declared.state.ChannelState.TheVariants as channel
-use Rattle.amqp_session.specs.declared.awaiting.Awaited.{Awaited}
-use Rattle.amqp_session.specs.declared.awaiting.Reply.{Reply}
-use Rattle.amqp_session.specs.declared.awaiting.Reply.TheVariants.{ChannelOpened, ChannelClosed}
 use Rattle.amqp_session.specs.Handshake.{channel_open, our_channel_close}
 use Rattle.amqp_session.specs.Listed.{at, put, without, has}
-use Rattle.amqp_session.specs.Replies.{expected, first_awaited, without_first}
 use Rattle.amqp_session.specs.Numbering.{first_number, cycle, drawn}
 use Rattle.amqp_session.specs.Channels.{new_channel, closing}
 use Rattle.amqp_session.specs.Octets.{class_in}
@@ -29,7 +29,7 @@ use Rattle.amqp_session.specs.Sound.{AscendFrom, Ascend}
 use Rattle.amqp_session.proofs.Ascending.{put-from, without-from, at-gone, none-below}
 use Rattle.amqp_session.proofs.Numbered.{put-same, put-other, without-other}
 use Rattle.amqp_session.proofs.Ties.{replies_on, TiesState, TiesOn, TiesChannels}
-use Rattle.amqp_session.proofs.Expecting.{expected-same, expected-other, expected-ascend, first-other, first-ascend, none-awaited, one-answered}
+use Rattle.amqp_session.proofs.Expecting.{expected-same, expected-other, expected-ascend, answered-other, answered-ascend, none-awaited, one-answered}
 
 -- the awaited replies, by channel
 abbrev pub Replies : Type 0
@@ -144,6 +144,10 @@ listed-some n cs ws v c listed h is = clash (at 0 cs) c (none-below 0 cs h.sorte
   clash : (o : Option Channel) (c : Channel) → o ≡ None → o ≡ Some c → ⊥
   clash o c g k = cc
 
+-- an open channel is in use
+pub used-open : (n : ℕ) (cs : Listed) (ws : Replies) (v : Speech) (c : Channel) → at n cs ≡ Some c → c.state ≡ channel.Connected → TiesChannels cs ws v → v.usage n ≡ InUse
+used-open n cs ws v c listed is h = (ties-of n cs ws v c channel.Connected listed is h).1
+
 -- an open channel is closed
 pub record Closes (n : ℕ) (cs : Listed) (ws : Replies) (v : Speech) (c : Channel) (code : ℕ) (text : List ℕ) (promise : Option ℕ) : Type 0 where
   pub may : say (our_channel_close n code text) v ≡ Some (now_on n Left v)
@@ -211,51 +215,51 @@ on-same n cs ws v c c' listed is h =
 
 -- what an awaited reply tells of a channel's state
 opened-state : (s : ChannelState) (n : ℕ) (ws : Replies) (u : Usage) (a : Awaited) → Ascend (keys_of ws) → first_awaited n ChannelOpened ws ≡ Some a → TiesState s (replies_on n ws) u
-    → (replies_on n (without_first n ChannelOpened ws) ≡ []) × (u ≡ InUse)
+    → (replies_on n (answered n ChannelOpened ws) ≡ []) × (u ≡ InUse)
 opened-state channel.Initial n ws u a sorted first h = ((one-answered n ChannelOpened ChannelOpened ws a sorted first h.0).none, h.1)
 opened-state channel.Connected n ws u a sorted first h = absurd (none-awaited n ChannelOpened ws a first h.0)
 opened-state channel.Closing n ws u a sorted first h = absurd (differ (one-answered n ChannelOpened ChannelClosed ws a sorted first h.0).same) where
-  differ : ChannelClosed ≡ ChannelOpened → ⊥
-  differ k = cc
+  differ : method_of ChannelClosed ≡ method_of ChannelOpened → ⊥
+  differ k = omega (arith, k)
 opened-state _ n ws u a sorted first h = absurd h
 
 closed-state : (s : ChannelState) (n : ℕ) (ws : Replies) (u : Usage) (a : Awaited) → Ascend (keys_of ws) → first_awaited n ChannelClosed ws ≡ Some a → TiesState s (replies_on n ws) u
-    → (replies_on n (without_first n ChannelClosed ws) ≡ []) × (u ≡ Left)
+    → (replies_on n (answered n ChannelClosed ws) ≡ []) × (u ≡ Left)
 closed-state channel.Closing n ws u a sorted first h = ((one-answered n ChannelClosed ChannelClosed ws a sorted first h.0).none, h.1)
 closed-state channel.Connected n ws u a sorted first h = absurd (none-awaited n ChannelClosed ws a first h.0)
 closed-state channel.Initial n ws u a sorted first h = absurd (differ (one-answered n ChannelClosed ChannelOpened ws a sorted first h.0).same) where
-  differ : ChannelOpened ≡ ChannelClosed → ⊥
-  differ k = cc
+  differ : method_of ChannelOpened ≡ method_of ChannelClosed → ⊥
+  differ k = omega (arith, k)
 closed-state _ n ws u a sorted first h = absurd h
 
 pub on-opened : (n : ℕ) (cs : Listed) (ws : Replies) (v : Speech) (c : Channel) (a : Awaited) → at n cs ≡ Some c → first_awaited n ChannelOpened ws ≡ Some a
-    → TiesChannels cs ws v → TiesChannels (put n (record c { state = channel.Connected }) cs) (without_first n ChannelOpened ws) v
+    → TiesChannels cs ws v → TiesChannels (put n (record c { state = channel.Connected }) cs) (answered n ChannelOpened ws) v
 on-opened n cs ws v c a listed first h =
     let c' : Channel = record c { state = channel.Connected } in
-    let ws' = without_first n ChannelOpened ws in
+    let ws' = answered n ChannelOpened ws in
     let k = opened-state c.state n ws (v.usage n) a h.awaited_sorted first (ties-of n cs ws v c c.state listed refl h) in
     on-change n cs (put n c' cs) ws ws' v v (listed-some n cs ws v c listed h) h h.speaking h.complete
     (ties-as (Some c') (at n (put n c' cs)) [] (replies_on n ws') InUse (v.usage n) (put-same n c' cs) k.0 k.1 (refl, refl))
     (record {
       sorted = put-from n c' 0 cs (above-zero n (listed-some n cs ws v c listed h)) h.sorted;
-      awaited_sorted = first-ascend n ChannelOpened ws h.awaited_sorted;
+      awaited_sorted = answered-ascend n ChannelOpened ws h.awaited_sorted;
       listed = λ m ne. put-other m n c' cs ne;
-      awaited = λ m ne. first-other m n ChannelOpened ws ne;
+      awaited = λ m ne. answered-other m n ChannelOpened ws ne;
       used = λ m ne. refl;
     })
 
 pub on-closed : (n : ℕ) (cs : Listed) (ws : Replies) (v : Speech) (c : Channel) (a : Awaited) → at n cs ≡ Some c → first_awaited n ChannelClosed ws ≡ Some a
-    → TiesChannels cs ws v → TiesChannels (without n cs) (without_first n ChannelClosed ws) v
+    → TiesChannels cs ws v → TiesChannels (without n cs) (answered n ChannelClosed ws) v
 on-closed n cs ws v c a listed first h =
-    let ws' = without_first n ChannelClosed ws in
+    let ws' = answered n ChannelClosed ws in
     let k = closed-state c.state n ws (v.usage n) a h.awaited_sorted first (ties-of n cs ws v c c.state listed refl h) in
     on-change n cs (without n cs) ws ws' v v (listed-some n cs ws v c listed h) h h.speaking h.complete
     (ties-as None (at n (without n cs)) [] (replies_on n ws') Left (v.usage n) (at-gone n cs (ascends cs h.sorted)) k.0 k.1 (refl, left))
     (record {
       sorted = without-from n 0 cs h.sorted;
-      awaited_sorted = first-ascend n ChannelClosed ws h.awaited_sorted;
+      awaited_sorted = answered-ascend n ChannelClosed ws h.awaited_sorted;
       listed = λ m ne. without-other m n cs ne;
-      awaited = λ m ne. first-other m n ChannelClosed ws ne;
+      awaited = λ m ne. answered-other m n ChannelClosed ws ne;
       used = λ m ne. refl;
     })
   where
@@ -273,7 +277,7 @@ find-some p Q (x ∷ xs) n all h = by (p x) (find-some p Q xs n all.1) refl h wh
   by true rest hb is = (let same : x ≡ n = cc in (ap p (sym same) ∙ hb, subst Q same all.0))
   by false rest hb is = rest is
 
-all-append : (Q : ℕ → Type 0) (xs ys : List ℕ) → AllByRecursion Q xs → AllByRecursion Q ys → AllByRecursion Q (xs ++ ys)
+pub all-append : {A : Type 0} (Q : A → Type 0) (xs ys : List A) → AllByRecursion Q xs → AllByRecursion Q ys → AllByRecursion Q (xs ++ ys)
 all-append Q [] ys h k = k
 all-append Q (x ∷ xs) ys h k = (h.0, all-append Q xs ys h.1 k)
 

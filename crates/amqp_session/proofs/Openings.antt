@@ -1,19 +1,19 @@
 -- What is kept beside the listed channels: the set of their numbers, and the promises that opened them.
-use Rattle.std.proofs.Common.{◌≡◌, ◌≢◌, ◌∙◌, ◌<◌, ◌≤◌, ◌+◌, ◌==◌, max, ap, sym, refl, ℕ, Bool, true, false, cond, List, [], ◌∷◌, Option, Some, None, is_some, option_map, find, Result, Ok, Err, OnOk, OnErr, inl, inr, arith}
+use Rattle.std.proofs.Common.{◌≡◌, ◌≢◌, ◌∙◌, ◌<◌, ◌≤◌, ◌+◌, ◌==◌, max, length, ap, sym, refl, ℕ, Bool, true, false, cond, List, [], ◌∷◌, Option, Some, None, is_some, IsSome, option_map, find, inl, inr, arith}
 use Rattle.std.proofs.lemmas.Bool.{cases_eq, eqb-true, eq-eqb, ne_eqb}
-use Rattle.std.proofs.lemmas.Map.Keys.{sorted_head, sorted_tail}
+use Rattle.std.proofs.lemmas.Map.Keys.{sorted_head, sorted_tail, ge_from_not_lt}
 use Rattle.std.specs.declared.cmp.Ordering.{Ordering}
 use Rattle.std.specs.declared.cmp.Ordering.TheVariants.{Less, Equal, Greater}
-use Rattle.std.specs.Ordering.{nat_cmp, is_eq, match_ordering}
+use Rattle.std.specs.Ordering.{nat_cmp, is_eq, is_lt, match_ordering}
 use Rattle.std.specs.List.{AllByRecursion}
 use Rattle.std.specs.List.Sorted.{IsStrictlySortedBy}
 use Rattle.std.specs.Map.{keys_of}
 use Rattle.std.specs.BTreeMap.{is_at}
 use Rattle.amqp_session.specs.declared.channels.Channel.{Channel}
 use Rattle.amqp_session.specs.Listed.{at, put, without, map_values, has}
-use Rattle.amqp_session.specs.Channels.{closing, opening_in}
+use Rattle.amqp_session.specs.Channels.{closing, opening_in, opened_until}
 use Rattle.amqp_session.specs.NumberSet.{is_member, HasUpTo}
-use Rattle.amqp_session.specs.Openings.{is_number, opener, Indexes, opened_until}
+use Rattle.amqp_session.specs.Openings.{is_number, opener, Indexes}
 use Rattle.amqp_session.proofs.Numbered.{is_itself, is_other}
 
 -- ---- the set of numbers
@@ -120,6 +120,34 @@ module _ (openings openings' : List (ℕ × ℕ)) (listed listed' : List (ℕ ×
       changed openings openings' listed listed' (c.opened) n None None same at_promise at_number refl
       (λ m ne. (refl, ap (is_number m) number ∙ number-other m n ne))
       (λ q ne. (refl, ap (is_number q) promise ∙ number-other q (c.opened) ne))
+
+-- a channel comes in the place of a former one
+module _ (es es' : List (ℕ × Channel)) (k : ℕ) (c former : Channel) (had : at k es ≡ Some former)
+    (update : (n : ℕ) → at n es' ≡ cond (is_at (nat_cmp k) n) (Some c) (at n es)) where
+  here : (n : ℕ) → n ≡ k → at n es' ≡ Some c
+  here n e = update n ∙ ap (λ b. cond b (Some c) (at n es)) (is_itself k n e)
+
+  before : (n : ℕ) → n ≡ k → at n es ≡ Some former
+  before n e = ap (λ m. at m es) e ∙ had
+
+  elsewhere : (n : ℕ) → n ≢ k → at n es' ≡ at n es
+  elsewhere n ne = update n ∙ ap (λ b. cond b (Some c) (at n es)) (is_other k n ne)
+
+  pub has-changed : (n : ℕ) → has n es' ≡ has n es
+  has-changed n =
+      elim (cases_eq n k) [
+        | inl e ↦ ap is_some (here n e) ∙ sym (ap is_some (before n e))
+        | inr ne ↦ ap is_some (elsewhere n ne)
+      ]
+
+  pub opener-changed : c.opened ≡ former.opened → (n : ℕ) → opener n es' ≡ opener n es
+  opener-changed same n =
+      elim (cases_eq n k) [
+        | inl e ↦
+            ap (option_map (λ (y : Channel). y.opened)) (here n e) ∙ ap Some same
+            ∙ sym (ap (option_map (λ (y : Channel). y.opened)) (before n e))
+        | inr ne ↦ ap (option_map (λ (y : Channel). y.opened)) (elsewhere n ne)
+      ]
 
 -- nothing changes in which promise opened which channel
 pub indexes-kept : (openings openings' : List (ℕ × ℕ)) (listed listed' : List (ℕ × Channel)) → Indexes openings listed
@@ -256,8 +284,49 @@ unopened p openings es same above = by (at p openings) refl
         let before = opener-before n p es (number-is p (opener n es) opened) in
         absurd (omega (arith, before, above))
 
--- a place that is there is not refused
-pub not-refused : {A E P : Type 0} (r : Result A E) (o : Option Channel) (p : ℕ) → option_map (λ (y : Channel). y.opened) o ≡ Some p
-    → OnOk r P → OnErr r (o ≡ None) → P
-not-refused (Ok x) o p had ok err = ok
-not-refused (Err e) o p had ok err = absurd cc
+-- ---- the promise after the last that opened a listed channel
+
+-- channels that were all opened before a promise
+until-before : (top : ℕ) (es : List (ℕ × Channel)) → IsStrictlySortedBy nat_cmp (keys_of es) → ((n p : ℕ) → opener n es ≡ Some p → p < top)
+    → opened_until es ≤ top
+until-before top [] sorted all = omega arith
+until-before top (e ∷ es) sorted all =
+    let first : (e.1).opened < top =
+    all e.0 (e.1).opened (ap (λ b. option_map (λ (c : Channel). c.opened) (cond b (Some e.1) (at e.0 es))) (is_itself e.0 e.0 refl)) in
+    let rest : opened_until es ≤ top = until-before top es (sorted_tail nat_cmp e.0 (keys_of es) sorted) (λ n p h. all n p (later n p h)) in
+    omega (arith, first, rest)
+  where
+    gone : at e.0 es ≡ None
+    gone = none-above e.0 es (sorted_head nat_cmp e.0 (keys_of es) sorted)
+
+    later : (n p : ℕ) → opener n es ≡ Some p → opener n (e ∷ es) ≡ Some p
+    later n p h =
+        elim (cases_eq n e.0) [
+          | inl f ↦ let none : opener n es ≡ None = ap (λ k. opener k es) f ∙ ap (option_map (λ (c : Channel). c.opened)) gone in absurd cc
+          | inr ne ↦ ap (λ b. option_map (λ (c : Channel). c.opened) (cond b (Some e.1) (at n es))) (is_other n e.0 (λ f. ne (sym f))) ∙ h
+        ]
+
+empty : (os : List (ℕ × ℕ)) → length os ≡ 0 → (p : ℕ) → at p os ≡ None
+empty [] h p = refl
+empty (o ∷ os) h p = absurd (omega (arith, h))
+
+module _ (openings : List (ℕ × ℕ)) (es : List (ℕ × Channel)) (same : Indexes openings es) (sorted : IsStrictlySortedBy nat_cmp (keys_of es)) where
+  -- a promise that opened a listed channel has its number
+  has-number : (n p : ℕ) → opener n es ≡ Some p → at p openings ≡ Some n
+  has-number n p h = number-is n (at p openings) (same p n ∙ ap (is_number p) h ∙ number-same p)
+
+  -- the greatest promise that has a number is the last
+  pub until-last : (last n : ℕ) → at last openings ≡ Some n → ((q : ℕ) → IsSome (at q openings) → is_lt (nat_cmp last q) ≡ false)
+      → opened_until es ≡ last + 1
+  until-last last n here greatest =
+      let opened : is_number last (opener n es) ≡ true = sym (same last n) ∙ ap (is_number n) here ∙ number-same n in
+      let before = opener-before n last es (number-is last (opener n es) opened) in
+      let all : opened_until es ≤ last + 1 = until-before (last + 1) es sorted (λ m p h. let most = ge_from_not_lt last p (greatest p (ap is_some (has-number m p h))) in omega (arith, most)) in
+      omega (arith, before, all)
+
+  -- where none has a number, no channel is listed
+  pub until-none : length openings ≡ 0 → opened_until es ≡ 0
+  until-none none =
+      let all : opened_until es ≤ 0 =
+      until-before 0 es sorted (λ n p h. let is = has-number n p h in let gone = empty openings none p in absurd cc) in
+      omega (arith, all)

@@ -1,21 +1,25 @@
 -- What a refused command leaves as it was.
-use Rattle.std.proofs.Common.{◌≡◌, ◌∙◌, ap, refl, subst, ℕ, nat_lt, List, length, Option, Some, None, Result, Ok, Err}
+use Rattle.std.proofs.Common.{◌≡◌, ◌∙◌, ap, refl, subst, ℕ, List, [], ◌∷◌, Option, Some, None, Result, Ok, Err}
 use Rattle.amqp_frame.specs.RawMethods.{OtherMethod}
-use Rattle.amqp_frame.specs.Frames.{encoding}
+use Rattle.std.specs.Prelude.{filter}
+use Rattle.amqp_types.specs.declared.word.Word.TheVariants as word
+use Rattle.amqp_frame.specs.declared.frame.Frame.{Frame}
+use Rattle.amqp_outbox.specs.Queued.{is_on}
 use Rattle.amqp_session.specs.declared.channels.Channel.{Channel}
 use Rattle.amqp_session.specs.declared.command.Cmd.{Cmd}
-use Rattle.amqp_session.specs.declared.command.Cmd.TheVariants.{OpenChannel, CloseChannel, CloseConnection, Send}
+use Rattle.amqp_session.specs.declared.command.Cmd.TheVariants.{OpenChannel, CloseChannel, CloseConnection, Send, Publish}
 use Rattle.amqp_session.specs.declared.state.ConnectionState.{ConnectionState}
-use Rattle.amqp_session.specs.declared.state.ConnectionState.TheVariants.{Connected}
+use Rattle.amqp_session.specs.declared.state.ConnectionState.TheVariants.{Connected, Closing}
+use Rattle.amqp_session.specs.declared.state.ChannelState.TheVariants as channel
 use Rattle.amqp_session.specs.declared.error.ErrorKind.{ErrorKind}
-use Rattle.amqp_session.specs.declared.error.ErrorKind.TheVariants.{ChannelsLimitReached, SerialisationError}
+use Rattle.amqp_session.specs.declared.error.ErrorKind.TheVariants.{ChannelsLimitReached, InvalidChannelState, InvalidConnectionState}
 use Rattle.amqp_session.specs.Listed.{at, put}
 use Rattle.amqp_session.specs.Talk.{Talk}
-use Rattle.amqp_session.specs.Changes.{Promises, queue_item, next_promise, promise, refuse}
-use Rattle.amqp_session.specs.Commands.{open_drawn, open_none, close_target, send_target, method_frame, command, command_rule}
+use Rattle.amqp_session.specs.Changes.{Promises, rejected, refuse}
+use Rattle.amqp_session.specs.Publishing.{method_frame, publish_frames}
+use Rattle.amqp_session.specs.Commands.{open_drawn, open_none, close_target, too_long, unless_too_long, queue_send, send_target, body_limit, queue_publish, publish_target, command, command_rule}
 use Rattle.amqp_session.specs.Laws.{IsRefusal, IsAnsweredAtOnce}
-use Rattle.amqp_session.proofs.Cases.{if_case}
-use Rattle.amqp_session.proofs.Seen.{at-put}
+use Rattle.amqp_session.proofs.Numbered.{put-same}
 
 module _ (t : Talk) (e : ErrorKind) where
   -- what holds of a command that is refused by this error
@@ -25,12 +29,12 @@ module _ (t : Talk) (e : ErrorKind) where
   -- the error of a refusal is the one that is told
   same-error : (e' : ErrorKind) (ps : Promises) → ps ≡ put t.made (Some (Err e')) t.promises → at t.made ps ≡ Some (Some (Err e)) → e' ≡ e
   same-error e' ps is h =
-      let there : at t.made ps ≡ Some (Some (Err e')) = ap (at t.made) is ∙ at-put t.made (Some (Err e')) t.promises in cc
+      let there : at t.made ps ≡ Some (Some (Err e')) = ap (at t.made) is ∙ put-same t.made (Some (Err e')) t.promises in cc
 
   -- a promise that waits is not answered
-  told-waits : (u : Talk) → u.promises ≡ put t.made None t.promises → Told u
-  told-waits u is h =
-      let there : at t.made u.promises ≡ Some None = ap (at t.made) is ∙ at-put t.made None t.promises in absurd cc
+  told-waits : (u : Talk) (before : Promises) → u.promises ≡ put t.made None before → Told u
+  told-waits u before is h =
+      let there : at t.made u.promises ≡ Some None = ap (at t.made) is ∙ put-same t.made None before in absurd cc
 
 refusal : (e : ErrorKind) (t : Talk) → IsRefusal e t (refuse e t)
 refusal ChannelsLimitReached t = refl
@@ -46,25 +50,36 @@ told-limit e t u is h =
 
 told-drawn : (o : Option ℕ) (first : ℕ) (e : ErrorKind) (t : Talk) → Told t e (open_drawn o first t)
 told-drawn None first e t = told-limit e t (open_none first t) refl
-told-drawn (Some n) first e t = told-waits t e _ refl
+told-drawn (Some n) first e t = told-waits t e _ t.promises refl
 
 told-close : (r : Result Channel ErrorKind) (n code : ℕ) (text : List ℕ) (e : ErrorKind) (t : Talk) → Told t e (close_target r n code text t)
 told-close (Err e') n code text e t = told-refuse e' e t
-told-close (Ok c) n code text e t = told-waits t e _ refl
+told-close (Ok c) n code text e t =
+    told-waits t e _ (rejected (InvalidChannelState channel.Closing word.ChannelClose) (filter (is_on n) t.outbox.publish) t.promises) refl
+
+told-unless : (o : Option Frame) (rule : Talk → Talk) (e : ErrorKind) (t : Talk) → Told t e (rule t) → Told t e (unless_too_long o rule t)
+told-unless None rule e t said = said
+told-unless (Some frame) rule e t said = told-refuse _ e t
 
 told-send : (r : Result Channel ErrorKind) (n : ℕ) (m : OtherMethod) (e : ErrorKind) (t : Talk) → Told t e (send_target r n m t)
 told-send (Err e') n m e t = told-refuse e' e t
 told-send (Ok c) n m e t =
-    let frame = method_frame n m in
-    if_case (Told t e) (nat_lt t.capacity (length (encoding frame))) (refuse (SerialisationError (length (encoding frame))) t)
-    (promise (queue_item (record { channel = n; frame = frame; promise = Some (next_promise t) }) t))
-    (told-refuse _ e t) (told-waits t e _ refl)
+    told-unless (too_long (method_frame n m ∷ []) t) (queue_send n (method_frame n m)) e t (told-waits t e _ t.promises refl)
+
+told-publish : (r : Result Channel ErrorKind) (n : ℕ) (m : OtherMethod) (properties body : List ℕ) (e : ErrorKind) (t : Talk)
+    → Told t e (publish_target r n m properties body t)
+told-publish (Err e') n m properties body e t = told-refuse e' e t
+told-publish (Ok c) n m properties body e t =
+    let frames = publish_frames n m properties body (body_limit t) in
+    told-unless (too_long frames t) (queue_publish n frames) e t (told-waits t e _ t.promises refl)
 
 told-rule : (s : ConnectionState) (c : Cmd) (e : ErrorKind) (t : Talk) → Told t e (command_rule s c t)
 told-rule Connected OpenChannel e t = told-drawn _ _ e t
 told-rule Connected (CloseChannel r code text) e t = told-close _ r.id code text e t
-told-rule Connected (CloseConnection code text) e t = told-waits t e _ refl
+told-rule Connected (CloseConnection code text) e t =
+    told-waits t e _ (rejected (InvalidConnectionState Closing) t.outbox.publish t.promises) refl
 told-rule Connected (Send r method) e t = told-send _ r.id method e t
+told-rule Connected (Publish r method properties body) e t = told-publish _ r.id method properties body e t
 told-rule _ c e t = told-refuse _ e t
 
 -- a command that is refused changes nothing else

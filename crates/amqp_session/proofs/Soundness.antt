@@ -1,8 +1,8 @@
 -- Every rule leads from a sound state to a sound one.
-use Rattle.std.proofs.Common.{◌≡◌, ◌∙◌, ap, sym, subst, refl, ℕ, zero, suc, ◌<◌, ◌≤◌, ◌+◌, ◌-◌, ◌==◌, ◌&&◌, not, nat_le, nat_lt, max, if◌then◌else◌, Bool, true, false, List, [], ◌∷◌, ◌++◌, length, drop, Option, Some, None, Result, Ok, Err, cond, is_some, arith}
+use Rattle.std.proofs.Common.{◌≡◌, ◌∙◌, ap, sym, subst, refl, ℕ, zero, suc, ◌<◌, ◌≤◌, ◌+◌, ◌-◌, ◌==◌, ◌&&◌, not, nat_le, max, if◌then◌else◌, Bool, true, false, List, [], ◌∷◌, drop, Option, Some, None, Result, Ok, Err, cond, is_some, arith}
 use Rattle.std.proofs.lemmas.Bool.Decides.{nat_tests}
 use Rattle.std.proofs.lemmas.List.Folds.{find-append}
-use Rattle.std.specs.Prelude.{IsTrue, find}
+use Rattle.std.specs.Prelude.{IsTrue, find, filter}
 use Rattle.std.specs.Option.{option_or}
 use Rattle.std.specs.List.{range_with_len}
 use Rattle.amqp_types.specs.declared.word.Word.{Word}
@@ -14,13 +14,14 @@ use Rattle.amqp_frame.specs.declared.frame.RawKind.{RawKind}
 use Rattle.amqp_frame.specs.declared.method.Method.{Method as AnyMethod}
 use Rattle.amqp_frame.specs.declared.method.Method.TheVariants.{Start, Tune, OpenOk, Close, CloseOk, ChannelOpenOk, ChannelCloseOk}
 use Rattle.amqp_frame.specs.RawMethods.{OtherMethod}
-use Rattle.amqp_frame.specs.Frames.{encoding}
+use Rattle.amqp_outbox.specs.declared.item.Item.{Item}
+use Rattle.amqp_outbox.specs.declared.reply.Reply.TheVariants.{ChannelOpened, ChannelClosed, ConnectionClosed}
+use Rattle.amqp_outbox.specs.Items.{plain, promised, group_of, promise_of}
+use Rattle.amqp_outbox.specs.Queued.{Queued, waiting_items, pushed_control, pushed_group, awaited_promise, is_on}
 use Rattle.amqp_session.specs.declared.channels.Channel.{Channel}
 use Rattle.amqp_session.specs.declared.committed.Mark.{Mark}
 use Rattle.amqp_session.specs.declared.committed.Then.{Then}
 use Rattle.amqp_session.specs.declared.committed.Then.TheVariants.{Nothing, Answer, Finish}
-use Rattle.amqp_session.specs.declared.awaiting.Awaited.{Awaited}
-use Rattle.amqp_session.specs.declared.awaiting.Reply.TheVariants.{ChannelOpened, ChannelClosed, ConnectionClosed}
 use Rattle.amqp_session.specs.declared.state.ConnectionState.{ConnectionState}
 use Rattle.amqp_session.specs.declared.state.ConnectionState.TheVariants.{Initial, Connecting, Connected, Closing, Closed, Error}
 use Rattle.amqp_session.specs.declared.state.ChannelState.{ChannelState}
@@ -34,18 +35,17 @@ use Rattle.amqp_session.specs.declared.configuration.Configuration.{Configuratio
 use Rattle.amqp_session.specs.declared.server_close.ServerClose.{ServerClose}
 use Rattle.amqp_session.specs.declared.server_close.ServerClose.TheVariants.{WithoutError, WithError}
 use Rattle.amqp_session.specs.declared.command.Cmd.{Cmd}
-use Rattle.amqp_session.specs.declared.command.Cmd.TheVariants.{OpenChannel, CloseChannel, CloseConnection, Send}
+use Rattle.amqp_session.specs.declared.command.Cmd.TheVariants.{OpenChannel, CloseChannel, CloseConnection, Send, Publish}
 use Rattle.amqp_session.specs.declared.command.Answer.{Answer as AnyAnswer}
 use Rattle.amqp_session.specs.declared.command.Answer.TheVariants.{Connected as AnswerConnected, Done, Sent}
 use Rattle.amqp_session.specs.declared.command.ChanRef.{ChanRef}
 use Rattle.amqp_session.specs.declared.handed.Handed.{Handed}
-use Rattle.amqp_session.specs.declared.lanes.Item.{Item}
 use Rattle.amqp_session.specs.declared.misread.Misread.{Misread}
-use Rattle.amqp_session.specs.declared.error.ErrorKind.TheVariants.{NoMemory, IOError, ChannelsLimitReached, SerialisationError}
+use Rattle.amqp_session.specs.declared.error.ErrorKind.TheVariants.{NoMemory, IOError, ChannelsLimitReached, InvalidChannelState, InvalidConnectionState}
 use Rattle.amqp_session.specs.declared.error.ErrorKind.{ErrorKind}
 use Rattle.amqp_session.specs.Listed.{at, put, without, has}
 use Rattle.amqp_session.specs.Talk.{Talk, start, acts, has_ended, is_acting, is_asked, is_closing, is_open, is_open_link, end_of_link}
-use Rattle.amqp_session.specs.Changes.{Promises, present_at, starve, queue_item, next_promise, refuse, promise, give, give_to, fail, lose, misplaced, close, finish, finish_by, settled_by, plain}
+use Rattle.amqp_session.specs.Changes.{Promises, present_at, starve, next_promise, refuse, give, give_to, rejected, fail, lose, misplaced, close, finish, finish_by, settled_by, settled_to, promise}
 use Rattle.amqp_session.specs.Links.{asked, asked_link, linked, link_failed, piece, dropped, misread, lost}
 use Rattle.amqp_session.specs.Handshake.{close_ok, start_ok, tune_ok, open_vhost, our_close, channel_open, our_channel_close}
 use Rattle.amqp_session.specs.Negotiation.{lesser_wish, wish_or, tune}
@@ -54,16 +54,16 @@ use Rattle.amqp_session.specs.Violations.{misread_error}
 use Rattle.amqp_session.specs.ConnectionMethods.{connection_rule, connection_closed}
 use Rattle.amqp_session.specs.Channels.{channel_at, set_channel, closing}
 use Rattle.amqp_session.specs.ChannelMethods.{heard_on, unawaited_channel_method, channel_opened, channel_closed, channel_rule, channel_method_by, channel_method, hand_out, confirmed, is_select_ok, pass_through, raw_by}
-use Rattle.amqp_session.specs.Replies.{first_awaited}
+use Rattle.amqp_session.specs.Publishing.{method_frame, publish_frames}
 use Rattle.amqp_session.specs.Frames.{is_unbuilt, is_of_a_channel, method_rule, frame_rule, on_frame}
-use Rattle.amqp_session.specs.Commands.{is_opening, named_in, named, target_in, target_by, target, open_drawn, close_target, send_target, method_frame, command, command_rule}
+use Rattle.amqp_session.specs.Commands.{is_opening, named_in, named, target_in, target_by, target, open_drawn, close_target, too_long, unless_too_long, queue_send, send_target, body_limit, queue_publish, publish_target, command, command_rule}
 use Rattle.amqp_session.specs.Writing.{committed_as, next_within, commit, follow, sent, sent_among, taken}
 use Rattle.amqp_session.specs.Answers.{answer_of, take_answer, take_frames}
 use Rattle.amqp_session.specs.Laws.{IsEnded, StaysSound, is_end}
 use Rattle.amqp_session.specs.Sound.{Ascend, AscendFrom, IsSound, fits_link, is_agreed, AllBelow, Finishes, following, goes_on}
 use Rattle.amqp_session.proofs.Cases.{if_case, if_by}
 use Rattle.amqp_session.proofs.Ascending.{none-below, put-ascends, put-from, put-below, without-ascends, without-from, without-below, at-below, below-greater, map_values-from}
-use Rattle.amqp_session.proofs.Finishing.{acting-none, alone-last, close-goes_on, committed-follows, dropped-acts, dropped-finishes, first-goes, open-goes_on, queue-finishes, sent-committed}
+use Rattle.amqp_session.proofs.Finishing.{acting-finishes, acting-none, alone-last, close-goes_on, committed-follows, control-goes_on, dropped-acts, dropped-finishes, first-goes, group-goes_on, left-goes_on, open-goes_on, publish-goes_on, queue-finishes, sent-committed, ungrouped-goes_on}
 
 -- ---- promises
 
@@ -83,6 +83,15 @@ settled-kept (Some None) n answer made ps h s =
     (put-ascends n (Some answer) ps s.0, put-below n (Some answer) made ps (at-below n made ps None s.1 h) s.1)
 settled-kept (Some (Some a)) n answer made ps h s = s
 
+to-kept : (o : Option ℕ) (answer : Result AnyAnswer ErrorKind) (made : ℕ) (ps : Promises) → Promised made ps → Promised made (settled_to o answer ps)
+to-kept None answer made ps s = s
+to-kept (Some n) answer made ps s = settled-kept (at n ps) n answer made ps refl s
+
+rejected-kept : (e : ErrorKind) (groups : List (List Item)) (made : ℕ) (ps : Promises) → Promised made ps → Promised made (rejected e groups ps)
+rejected-kept e [] made ps s = s
+rejected-kept e (group ∷ groups) made ps s =
+    rejected-kept e groups made (settled_to (promise_of group) (Err e) ps) (to-kept (promise_of group) (Err e) made ps s)
+
 pub sound-give : (n : ℕ) (answer : Result AnyAnswer ErrorKind) (t : Talk) → IsSound t → IsSound (give n answer t)
 sound-give n answer t s =
     record {
@@ -95,8 +104,15 @@ sound-give n answer t s =
     }
 
 pub sound-give_to : (o : Option ℕ) (answer : Result AnyAnswer ErrorKind) (t : Talk) → IsSound t → IsSound (give_to o answer t)
-sound-give_to None answer t s = s
-sound-give_to (Some n) answer t s = sound-give n answer t s
+sound-give_to o answer t s =
+    record {
+      link = s.link;
+      room = s.room;
+      acting = s.acting;
+      finish = s.finish;
+      listed = s.listed;
+      promises = to-kept o answer t.made t.promises s.promises;
+    }
 
 pub sound-promise : (t : Talk) → IsSound t → IsSound (promise t)
 sound-promise t s = record { link = s.link; room = s.room; acting = s.acting; finish = s.finish; listed = s.listed; promises = one-more t.made None t.promises s.promises }
@@ -136,20 +152,20 @@ sound-unawaited : (n : ℕ) (held : ChannelState) (m : AnyMethod) (t : Talk) →
 sound-unawaited n channel.Closing m t s = s
 sound-unawaited n _ m t s = sound-fail _ t s
 
-sound-opened : (n : ℕ) (c : Channel) (a : Option Awaited) (t : Talk) → 0 < n → IsSound t → IsSound (channel_opened n c a t)
+sound-opened : (n : ℕ) (c : Channel) (a : Option (Option ℕ)) (t : Talk) → 0 < n → IsSound t → IsSound (channel_opened n c a t)
 sound-opened n c None t some s = sound-unawaited n c.state ChannelOpenOk t s
-sound-opened n c (Some a) t some s =
-    sound-give_to a.promise _ _ (record { link = s.link; room = s.room; acting = s.acting; finish = s.finish; listed = put-from n _ 0 t.channels some s.listed; promises = s.promises })
+sound-opened n c (Some promise) t some s =
+    sound-give_to promise _ _ (record { link = s.link; room = s.room; acting = s.acting; finish = s.finish; listed = put-from n _ 0 t.channels some s.listed; promises = s.promises })
 
-sound-closed : (n : ℕ) (c : Channel) (a : Option Awaited) (t : Talk) → IsSound t → IsSound (channel_closed n c a t)
+sound-closed : (n : ℕ) (c : Channel) (a : Option (Option ℕ)) (t : Talk) → IsSound t → IsSound (channel_closed n c a t)
 sound-closed n c None t s = sound-unawaited n c.state ChannelCloseOk t s
-sound-closed n c (Some a) t s =
-    sound-give_to a.promise _ _ (record { link = s.link; room = s.room; acting = s.acting; finish = s.finish; listed = without-from n 0 t.channels s.listed; promises = s.promises })
+sound-closed n c (Some promise) t s =
+    sound-give_to promise _ _ (record { link = s.link; room = s.room; acting = s.acting; finish = s.finish; listed = without-from n 0 t.channels s.listed; promises = s.promises })
 
 sound-channel : (state : ConnectionState) (n : ℕ) (c : Channel) (m : AnyMethod) (t : Talk) → 0 < n → IsSound t → IsSound (channel_rule state n c m t)
 sound-channel Closing n c m t some s = s
-sound-channel _ n c ChannelOpenOk t some s = sound-opened n c (first_awaited n ChannelOpened t.awaited) t some s
-sound-channel _ n c ChannelCloseOk t some s = sound-closed n c (first_awaited n ChannelClosed t.awaited) t s
+sound-channel _ n c ChannelOpenOk t some s = sound-opened n c (awaited_promise n ChannelOpened t.outbox) t some s
+sound-channel _ n c ChannelCloseOk t some s = sound-closed n c (awaited_promise n ChannelClosed t.outbox) t s
 sound-channel _ n c m t some s = sound-unawaited n c.state m t s
 
 sound-channel-by : (o : Option Channel) (n : ℕ) (m : AnyMethod) (t : Talk) → 0 < n → IsSound t → IsSound (channel_method_by o n m t)
@@ -193,10 +209,10 @@ wish-some greatest wish h = grind (arith, nat_tests)
 pub tune-room : (own server : Configuration) → 1 ≤ (tune own server).channel_max
 tune-room own server = wish-some 65535 (lesser_wish own.channel_max server.channel_max) (omega arith)
 
-sound-connection-closed : (a : Option Awaited) (t : Talk) → IsSound t → IsSound (connection_closed a t)
+sound-connection-closed : (a : Option (Option ℕ)) (t : Talk) → IsSound t → IsSound (connection_closed a t)
 sound-connection-closed None t s = sound-close t s
-sound-connection-closed (Some a) t s =
-    sound-close _ (sound-give_to a.promise (Ok Done) _ (record { link = s.link; room = s.room; acting = s.acting; finish = s.finish; listed = s.listed; promises = s.promises }))
+sound-connection-closed (Some promise) t s =
+    sound-close _ (sound-give_to promise (Ok Done) _ (record { link = s.link; room = s.room; acting = s.acting; finish = s.finish; listed = s.listed; promises = s.promises }))
 
 sound-connection : (state : ConnectionState) (p : Phase) (m : AnyMethod) (t : Talk) → t.state ≡ state → t.phase ≡ p → is_open t ≡ true
     → is_acting t.input ≡ true → IsSound t → IsSound (connection_rule state p m t)
@@ -206,18 +222,18 @@ sound-connection state p (Close code text class method) t hs hp opened acting s 
       room = λ h. absurd cc;
       acting = λ h. absurd cc;
       finish =
-          alone-last t.committed t.control (plain 0 close_ok)
-          (acting-none t.input (following t.committed t.control) acting s.finish);
+          alone-last t.committed (waiting_items t.outbox) (plain 0 close_ok)
+          (acting-none t.input (following t.committed (waiting_items t.outbox)) acting s.finish);
       listed = s.listed;
       promises = s.promises;
     }
-sound-connection Closing p CloseOk t hs hp opened acting s = sound-connection-closed (first_awaited 0 ConnectionClosed t.awaited) t s
+sound-connection Closing p CloseOk t hs hp opened acting s = sound-connection-closed (awaited_promise 0 ConnectionClosed t.outbox) t s
 sound-connection Closing p m t hs hp opened acting s = s
 sound-connection Connecting AwaitStart (Start a b c d e) t hs hp opened acting s =
     record {
       link = s.link;
       acting = s.acting;
-      finish = queue-finishes t.input t.committed t.control (plain 0 start_ok) acting refl s.finish;
+      finish = queue-finishes t.input t.committed t.outbox (plain 0 start_ok) acting refl s.finish;
       listed = s.listed;
       promises = s.promises;
       room = λ h. (let k : is_agreed Connecting AwaitTune ≡ true = subst (λ x. is_agreed x AwaitTune ≡ true) hs h in absurd cc);
@@ -230,8 +246,8 @@ sound-connection Connecting AwaitTune (Tune a b c) t hs hp opened acting s =
       room = λ h. tune-room t.configuration server;
       acting = s.acting;
       finish =
-          queue-finishes t.input t.committed (t.control ++ tuned ∷ []) (plain 0 open_vhost) acting refl
-          (queue-finishes t.input t.committed t.control tuned acting refl s.finish);
+          queue-finishes t.input t.committed (pushed_control tuned t.outbox) (plain 0 open_vhost) acting refl
+          (queue-finishes t.input t.committed t.outbox tuned acting refl s.finish);
       listed = s.listed;
       promises = s.promises;
     }
@@ -301,7 +317,7 @@ sound-misread why t s =
     if_case IsSound (acts t) (lose (misread_error why) t) (if is_open t then record t { input = dropped t.input } else t)
     (sound-fail _ t s)
     (if_case IsSound (is_open t) (record t { input = dropped t.input }) t
-    (record { link = s.link; room = s.room; acting = λ h. dropped-acts t.input (s.acting h); finish = dropped-finishes t.input (following t.committed t.control) s.finish; listed = s.listed; promises = s.promises }) s)
+    (record { link = s.link; room = s.room; acting = λ h. dropped-acts t.input (s.acting h); finish = dropped-finishes t.input (following t.committed (waiting_items t.outbox)) s.finish; listed = s.listed; promises = s.promises }) s)
 
 pub sound-lost : (fault : IoFault) (t : Talk) → IsSound t → IsSound (lost fault t)
 sound-lost fault t s =
@@ -345,7 +361,7 @@ sound-drawn (Some n) first t some acting s =
       link = s.link;
       room = s.room;
       acting = s.acting;
-      finish = queue-finishes t.input t.committed t.control (plain n (channel_open n)) acting (open-goes_on n) s.finish;
+      finish = queue-finishes t.input t.committed t.outbox (plain n (channel_open n)) acting (open-goes_on n) s.finish;
       listed = put-from n _ 0 t.channels (some n refl) s.listed;
       promises = one-more t.made None t.promises s.promises;
     }
@@ -355,28 +371,56 @@ sound-close-target : (r : Result Channel ErrorKind) (n code : ℕ) (text : List 
     → IsSound (close_target r n code text t)
 sound-close-target (Err e) n code text t some acting s = sound-refuse e t s
 sound-close-target (Ok c) n code text t some acting s =
+    let said : Item = plain n (our_channel_close n code text) in
+    let closed : ErrorKind = InvalidChannelState channel.Closing word.ChannelClose in
+    let gone : List (List Item) = filter (is_on n) t.outbox.publish in
+    let left : Queued = record (pushed_control said t.outbox) { publish = filter (λ group. not (is_on n group)) t.outbox.publish } in
     record {
       link = s.link;
       room = s.room;
       acting = s.acting;
-      finish = queue-finishes t.input t.committed t.control (plain n (our_channel_close n code text)) acting (close-goes_on n code text) s.finish;
+      finish =
+          acting-finishes t.input t.committed (waiting_items t.outbox) (waiting_items left) acting
+          (λ goes. left-goes_on (pushed_control said t.outbox) (control-goes_on t.outbox goes said (close-goes_on n code text)) (λ group. not (is_on n group)))
+          s.finish;
       listed = put-from n _ 0 t.channels (some c refl) s.listed;
-      promises = one-more t.made None t.promises s.promises;
+      promises =
+          one-more t.made None (rejected closed gone t.promises) (rejected-kept closed gone t.made t.promises s.promises);
     }
+
+-- a frame that is too long is refused
+sound-unless : (o : Option Frame) (rule : Talk → Talk) (t : Talk) → IsSound t → IsSound (rule t) → IsSound (unless_too_long o rule t)
+sound-unless None rule t s said = said
+sound-unless (Some frame) rule t s said = sound-refuse _ t s
 
 sound-send : (r : Result Channel ErrorKind) (n : ℕ) (m : OtherMethod) (t : Talk) → is_acting t.input ≡ true → IsSound t → IsSound (send_target r n m t)
 sound-send (Err e) n m t acting s = sound-refuse e t s
 sound-send (Ok c) n m t acting s =
     let frame = method_frame n m in
-    if_case IsSound (nat_lt t.capacity (length (encoding frame))) (refuse (SerialisationError (length (encoding frame))) t)
-    (promise (queue_item (record { channel = n; frame = frame; promise = Some (next_promise t) }) t))
-    (sound-refuse _ t s)
+    sound-unless (too_long (frame ∷ []) t) (queue_send n frame) t s
+    (record {
+      link = s.link;
+      room = s.room;
+      acting = s.acting;
+      finish = queue-finishes t.input t.committed t.outbox (promised n frame (next_promise t)) acting refl s.finish;
+      listed = s.listed;
+      promises = one-more t.made None t.promises s.promises;
+    })
+
+sound-publish : (r : Result Channel ErrorKind) (n : ℕ) (m : OtherMethod) (properties body : List ℕ) (t : Talk) → is_acting t.input ≡ true → IsSound t
+    → IsSound (publish_target r n m properties body t)
+sound-publish (Err e) n m properties body t acting s = sound-refuse e t s
+sound-publish (Ok c) n m properties body t acting s =
+    let frames = publish_frames n m properties body (body_limit t) in
+    let group = group_of n frames (next_promise t) in
+    sound-unless (too_long frames t) (queue_publish n frames) t s
     (record {
       link = s.link;
       room = s.room;
       acting = s.acting;
       finish =
-          queue-finishes t.input t.committed t.control (record { channel = n; frame = frame; promise = Some (next_promise t) }) acting refl s.finish;
+          acting-finishes t.input t.committed (waiting_items t.outbox) (waiting_items (pushed_group group t.outbox)) acting
+          (λ goes. group-goes_on t.outbox goes group (publish-goes_on n (next_promise t) m properties body (body_limit t))) s.finish;
       listed = s.listed;
       promises = one-more t.made None t.promises s.promises;
     })
@@ -421,15 +465,24 @@ sound-command-rule Connected (CloseChannel r code text) t hs s =
     sound-close-target (target r word.ChannelClose t) r.id code text t (λ c h. target-some r word.ChannelClose t c s.listed h)
     (acts-on Connected t hs refl s) s
 sound-command-rule Connected (CloseConnection code text) t hs s =
+    let said : Item = plain 0 (our_close code text) in
+    let closed : ErrorKind = InvalidConnectionState Closing in
     record {
       link = closing-fits t.link (subst (λ x. fits_link x t.link ≡ true) hs s.link);
       room = λ h. absurd cc;
       acting = λ h. absurd cc;
-      finish = queue-finishes t.input t.committed t.control (plain 0 (our_close code text)) (acts-on Connected t hs refl s) refl s.finish;
+      finish =
+          acting-finishes t.input t.committed (waiting_items t.outbox) (waiting_items (record (pushed_control said t.outbox) { publish = [] }))
+          (acts-on Connected t hs refl s)
+          (λ goes. ungrouped-goes_on (pushed_control said t.outbox) (control-goes_on t.outbox goes said refl)) s.finish;
       listed = map_values-from closing 0 t.channels s.listed;
-      promises = one-more t.made None t.promises s.promises;
+      promises =
+          one-more t.made None (rejected closed t.outbox.publish t.promises)
+          (rejected-kept closed t.outbox.publish t.made t.promises s.promises);
     }
 sound-command-rule Connected (Send r method) t hs s = sound-send (target r word.Send t) r.id method t (acts-on Connected t hs refl s) s
+sound-command-rule Connected (Publish r method properties body) t hs s =
+    sound-publish (target r word.Publish t) r.id method properties body t (acts-on Connected t hs refl s) s
 sound-command-rule _ c t hs s = sound-refuse _ t s
 
 pub sound-command : (c : Cmd) (t : Talk) → IsSound t → IsSound (command c t)
@@ -465,7 +518,7 @@ sound-first m t s =
       link = s.link;
       room = s.room;
       acting = s.acting;
-      finish = first-goes t.input t.committed t.control s.finish;
+      finish = first-goes t.input t.committed (waiting_items t.outbox) s.finish;
       listed = s.listed;
       promises = s.promises;
     })
@@ -482,7 +535,7 @@ sound-sent (m ∷ ms) n t h s =
       link = s.link;
       room = s.room;
       acting = s.acting;
-      finish = subst (λ (xs : List Mark). Finishes t.input (following xs t.control)) h s.finish;
+      finish = subst (λ (xs : List Mark). Finishes t.input (following xs (waiting_items t.outbox))) h s.finish;
       listed = s.listed;
       promises = s.promises;
     }))

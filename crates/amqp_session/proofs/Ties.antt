@@ -1,13 +1,19 @@
 -- What ties a session to what was said: the frames committed on the open link, and behind them those that wait, lead to where the session is.
-use Rattle.std.specs.Prelude.{◌≡◌, ◌≢◌, ◌≤◌, ◌<◌, ◌^◌, ℕ, List, [], ◌∷◌, ◌++◌, map, Option, Some, None}
+use Rattle.std.specs.Prelude.{◌≡◌, ◌≢◌, ◌≤◌, ◌<◌, ◌^◌, ℕ, List, [], ◌∷◌, ◌++◌, length, map, Option, Some, None, IsTrue}
+use Rattle.std.specs.List.{AllByRecursion}
 use Rattle.std.specs.Map.{keys_of}
 use Rattle.amqp_frame.specs.declared.frame.Frame.{Frame}
-use Rattle.amqp_session.specs.declared.lanes.Item.{Item}
-use Rattle.amqp_session.specs.declared.awaiting.Awaited.{Awaited}
-use Rattle.amqp_session.specs.declared.awaiting.Reply.{Reply}
-use Rattle.amqp_session.specs.declared.awaiting.Reply.TheVariants.{ChannelOpened, ChannelClosed}
+use Rattle.amqp_frame.specs.declared.frame.Frame.TheVariants.{Raw}
+use Rattle.amqp_frame.specs.declared.frame.RawKind.TheVariants.{RawMethod, Header}
+use Rattle.amqp_outbox.specs.declared.item.Item.{Item}
+use Rattle.amqp_outbox.specs.declared.reply.Awaited.{Awaited}
+use Rattle.amqp_outbox.specs.declared.reply.Reply.{Reply}
+use Rattle.amqp_outbox.specs.declared.reply.Reply.TheVariants.{ChannelOpened, ChannelClosed}
+use Rattle.amqp_outbox.specs.Items.{channel_of}
+use Rattle.amqp_outbox.specs.Replies.{awaited_on}
+use Rattle.amqp_outbox.specs.Queued.{Queued}
 use Rattle.amqp_session.specs.declared.command.Cmd.{Cmd}
-use Rattle.amqp_session.specs.declared.command.Cmd.TheVariants.{Send}
+use Rattle.amqp_session.specs.declared.command.Cmd.TheVariants.{Send, Publish}
 use Rattle.amqp_session.specs.declared.channels.Channel.{Channel}
 use Rattle.amqp_session.specs.declared.state.ChannelState.{ChannelState}
 use Rattle.amqp_session.specs.declared.state.ChannelState.TheVariants as channel
@@ -19,9 +25,9 @@ use Rattle.amqp_session.specs.declared.state.Input.{Input}
 use Rattle.amqp_session.specs.declared.state.Input.TheVariants.{Acting}
 use Rattle.amqp_session.specs.Talk.{Talk}
 use Rattle.amqp_session.specs.Listed.{at}
-use Rattle.amqp_session.specs.Sound.{AscendFrom, Ascend}
-use Rattle.amqp_session.specs.Replies.{awaited_on}
-use Rattle.amqp_session.specs.Legal.{amqp_header}
+use Rattle.amqp_session.specs.Negotiation.{frame_min_size}
+use Rattle.amqp_session.specs.Sound.{AscendFrom, Ascend, is_agreed}
+use Rattle.amqp_session.specs.Legal.{amqp_header, body_frames, IsPassedThrough, IsContent}
 use Rattle.amqp_session.specs.Decider.{Speech, Usage, InUse, Left, StartOkSaid, OpenSaid, CloseSaid, greeted, say_all}
 use Rattle.amqp_session.proofs.Sayable.{IsComplete}
 
@@ -30,10 +36,31 @@ abbrev pub frames_in : List Item → List Frame
 frames_in items = map (λ (item : Item). item.frame) items
 
 -- they are the header, and then what may be said, which leads here
-pub record LeadsTo (control : List Item) (committed : List Frame) (later : Speech) : Type 0 where
+pub record LeadsTo (items : List Item) (committed : List Frame) (later : Speech) : Type 0 where
   pub said : List Frame
-  pub frames : committed ++ frames_in control ≡ amqp_header ∷ said
+  pub frames : committed ++ frames_in items ≡ amqp_header ∷ said
   pub may : say_all (Some greeted) said ≡ Some later
+
+-- ---- groups
+
+-- what goes out before the next group begins: the rest of the one that has begun, and the control lane
+abbrev pub first_out : Queued → List Item
+first_out q = q.begun ++ q.control
+
+-- a group that may be said here: a method, its content header and its body, on a channel that is in use
+pub record IsReady (v : Speech) (group : List Item) : Type 0 where
+  pub channel : ℕ
+  pub method : List ℕ
+  pub head : List ℕ
+  pub bodies : List (List ℕ)
+  pub frames : frames_in group ≡ Raw channel RawMethod method ∷ Raw channel Header head ∷ body_frames channel bodies
+  pub on_channel : channel_of group ≡ Some channel
+  pub not_zero : channel ≢ 0
+  pub speaking : v.stage ≡ OpenSaid
+  pub complete : IsComplete v.content
+  pub used : v.usage channel ≡ InUse
+  pub passed : IsPassedThrough method
+  pub content : IsContent method head bodies
 
 -- ---- channels
 
@@ -90,23 +117,29 @@ Ties Acting state phase channels awaited s = TiesActing state phase channels awa
 Ties _ state phase channels awaited s = IsClosing state
 
 -- the same by the parts of a session that count: a rule that changes none of them keeps it as it is
-pub record Speaks (state : ConnectionState) (phase : Phase) (input : Input) (control : List Item) (channels : List (ℕ × Channel))
-    (awaited : List (ℕ × List Awaited)) (committed : List Frame) : Type 0 where
+pub record Speaks (state : ConnectionState) (phase : Phase) (input : Input) (frame_max : ℕ) (outbox : Queued)
+    (channels : List (ℕ × Channel)) (committed : List Frame) : Type 0 where
   pub later : Speech
-  pub leads : LeadsTo control committed later
-  pub ties : Ties input state phase channels awaited later
+  pub leads : LeadsTo (first_out outbox) committed later
+  pub groups : AllByRecursion (IsReady later) outbox.publish
+  pub ties : Ties input state phase channels outbox.awaited later
+  -- a frame of a body is never empty
+  pub agreed : IsTrue (is_agreed state phase) → frame_min_size ≤ frame_max
 
 -- a session with an open link is tied to the frames that were committed on it
 abbrev pub IsTied : Talk → List Frame → Type 0
-IsTied t committed = Speaks t.state t.phase t.input t.control t.channels t.awaited committed
+IsTied t committed = Speaks t.state t.phase t.input t.configuration.frame_max t.outbox t.channels committed
 
--- a session that wants a link is new, and the header will fit
+-- a session that wants a link has no channel, and the header will fit
 abbrev pub IsSilent : Talk → Type 0
-IsSilent t = (t.state ≡ Initial) × IsNew t.channels t.awaited × (8 ≤ t.capacity)
+IsSilent t = (t.state ≡ Initial) × (t.channels ≡ []) × (8 ≤ t.capacity)
 
 -- ---- what may be told
 
--- a method that is sent has a class that two octets hold, and that is neither connection (10) nor channel (20)
+-- a method that is sent or published has a class that two octets hold, and that is neither connection (10) nor channel (20);
+-- what is published has property flags, and a body whose length eight octets hold
 abbrev pub IsSendable : Cmd → Type 0
 IsSendable (Send channel method) = (method.class ≢ 10) × (method.class ≢ 20) × (method.class < 2 ^ 16)
+IsSendable (Publish channel method properties body) =
+    (method.class ≢ 10) × (method.class ≢ 20) × (method.class < 2 ^ 16) × (2 ≤ length properties) × (length body < 2 ^ 64)
 IsSendable _ = Unit {0}

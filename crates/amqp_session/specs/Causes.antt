@@ -5,7 +5,8 @@ use Rattle.amqp_frame.specs.declared.frame.Frame.TheVariants.{ProtocolHeader, Me
 use Rattle.amqp_frame.specs.declared.frame.RawKind.TheVariants.{RawMethod}
 use Rattle.amqp_frame.specs.declared.method.Method.{Method as AnyMethod}
 use Rattle.amqp_frame.specs.declared.method.Method.TheVariants.{Start, Tune, OpenOk, Close, ChannelOpenOk, ChannelCloseOk}
-use Rattle.amqp_session.specs.declared.awaiting.Reply.TheVariants.{ChannelOpened, ChannelClosed}
+use Rattle.amqp_outbox.specs.declared.reply.Reply.TheVariants.{ChannelOpened, ChannelClosed}
+use Rattle.amqp_outbox.specs.Queued.{awaited_promise}
 use Rattle.amqp_session.specs.declared.channels.Channel.{Channel}
 use Rattle.amqp_session.specs.declared.state.ChannelState.TheVariants as channel
 use Rattle.amqp_session.specs.declared.state.ConnectionState.{ConnectionState}
@@ -16,7 +17,6 @@ use Rattle.amqp_session.specs.declared.error.ErrorKind.{ErrorKind}
 use Rattle.amqp_session.specs.declared.error.ErrorKind.TheVariants.{ProtocolError, InvalidProtocolVersion, InvalidConnectionState, InvalidChannel, Unbuilt}
 use Rattle.amqp_session.specs.Talk.{Talk, is_closing}
 use Rattle.amqp_session.specs.Channels.{channel_at}
-use Rattle.amqp_session.specs.Replies.{first_awaited}
 use Rattle.amqp_session.specs.Frames.{is_of_a_channel, is_unbuilt}
 use Rattle.amqp_session.specs.Violations.{stray_channel_frame, stray_connection_method, unawaited}
 
@@ -62,8 +62,8 @@ IsKept n t = (t.state ≢ Connecting) × ((c : Channel) × (channel_at n t ≡ S
 
 -- a reply is awaited that this method is
 abbrev pub is_awaited : AnyMethod → ℕ → Talk → Bool
-is_awaited ChannelOpenOk n t = is_some (first_awaited n ChannelOpened t.awaited)
-is_awaited ChannelCloseOk n t = is_some (first_awaited n ChannelClosed t.awaited)
+is_awaited ChannelOpenOk n t = is_some (awaited_promise n ChannelOpened t.outbox)
+is_awaited ChannelCloseOk n t = is_some (awaited_promise n ChannelClosed t.outbox)
 is_awaited _ n t = false
 
 -- 505 for a method of the channel class that nothing awaits

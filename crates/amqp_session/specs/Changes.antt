@@ -1,10 +1,12 @@
 -- The small changes of the state that the rules are made of.
-use Rattle.std.specs.Prelude.{ℕ, ◌+◌, max, if◌then◌else◌, List, [], ◌∷◌, ◌++◌, Option, Some, None, Result, Ok, Err}
+use Rattle.std.specs.Prelude.{ℕ, ◌+◌, max, not, if◌then◌else◌, List, [], ◌∷◌, filter, Option, Some, None, Result, Ok, Err}
 use Rattle.amqp_frame.specs.declared.frame.Frame.{Frame}
+use Rattle.amqp_outbox.specs.declared.item.Item.{Item}
+use Rattle.amqp_outbox.specs.declared.reply.Reply.{Reply}
+use Rattle.amqp_outbox.specs.Items.{plain, promise_of}
+use Rattle.amqp_outbox.specs.Queued.{Queued, pushed_control, pushed_group, expected, is_on}
 use Rattle.amqp_session.specs.declared.state.ConnectionState.TheVariants.{Closed, Error}
 use Rattle.amqp_session.specs.declared.state.Link.TheVariants.{Ended}
-use Rattle.amqp_session.specs.declared.lanes.Item.{Item}
-use Rattle.amqp_session.specs.declared.awaiting.Reply.{Reply}
 use Rattle.amqp_session.specs.declared.command.Answer.{Answer}
 use Rattle.amqp_session.specs.declared.server_close.ServerClose.{ServerClose}
 use Rattle.amqp_session.specs.declared.server_close.ServerClose.TheVariants.{WithError}
@@ -12,7 +14,6 @@ use Rattle.amqp_session.specs.declared.error.ErrorKind.{ErrorKind}
 use Rattle.amqp_session.specs.declared.error.ErrorKind.TheVariants.{ProtocolError, NoMemory}
 use Rattle.amqp_session.specs.Listed.{at, put}
 use Rattle.amqp_session.specs.Talk.{Talk, is_closing, has_ended}
-use Rattle.amqp_session.specs.Replies.{expected}
 
 -- the present is the greatest moment so far
 abbrev pub present_at : ℕ → Talk → Talk
@@ -20,22 +21,22 @@ present_at at t = if has_ended t then t else record t { present = max t.present 
 
 -- ---- what is said, and awaited
 
--- a frame of a channel as it waits, where it answers no promise
-abbrev pub plain : ℕ → Frame → Item
-plain channel f = record { channel = channel; frame = f; promise = None }
-
 -- a frame goes last into the control lane
 abbrev pub queue_item : Item → Talk → Talk
-queue_item item t = record t { control = t.control ++ item ∷ [] }
+queue_item item t = record t { outbox = pushed_control item t.outbox }
 
 -- a frame of a channel that answers no promise goes last into the control lane
 abbrev pub queue : ℕ → Frame → Talk → Talk
 queue channel f t = queue_item (plain channel f) t
 
+-- a group goes last into the publish lane
+abbrev pub queue_group : List Item → Talk → Talk
+queue_group group t = record t { outbox = pushed_group group t.outbox }
+
 -- a reply is awaited on a channel, and will answer a promise
 abbrev pub await : ℕ → Reply → Option ℕ → Talk → Talk
 await channel reply promise t =
-    record t { awaited = expected channel (record { reply = reply; promise = promise }) t.awaited }
+    record t { outbox = expected channel (record { reply = reply; promise = promise }) t.outbox }
 
 -- ---- promises
 
@@ -52,14 +53,18 @@ settled_by _ number answer promises = promises
 abbrev pub settled : ℕ → Result Answer ErrorKind → Promises → Promises
 settled number answer promises = settled_by (at number promises) number answer promises
 
+-- the promises, once the one that is named got an answer, where one is named
+abbrev pub settled_to : Option ℕ → Result Answer ErrorKind → Promises → Promises
+settled_to None answer promises = promises
+settled_to (Some number) answer promises = settled number answer promises
+
 -- the promise of a number gets this answer, where it waits
 abbrev pub give : ℕ → Result Answer ErrorKind → Talk → Talk
 give number answer t = record t { promises = settled number answer t.promises }
 
 -- where a promise is named, it gets this answer
 abbrev pub give_to : Option ℕ → Result Answer ErrorKind → Talk → Talk
-give_to None answer t = t
-give_to (Some number) answer t = give number answer t
+give_to promise answer t = record t { promises = settled_to promise answer t.promises }
 
 -- the number of the promise that is made next
 abbrev pub next_promise : Talk → ℕ
@@ -72,6 +77,37 @@ promise t = record t { made = t.made + 1; promises = put t.made None t.promises 
 -- a promise is made, which is answered at once with an error
 abbrev pub refuse : ErrorKind → Talk → Talk
 refuse e t = record t { made = t.made + 1; promises = put t.made (Some (Err e)) t.promises }
+
+-- ---- groups that go
+
+-- the promises, once that of each of these groups got an error
+abbrev pub rejected : ErrorKind → List (List Item) → Promises → Promises
+rejected e [] promises = promises
+rejected e (group ∷ groups) promises = rejected e groups (settled_to (promise_of group) (Err e) promises)
+
+-- what waits, without the groups of a channel that have not begun
+abbrev pub without_groups_of : ℕ → Queued → Queued
+without_groups_of n q = record q { publish = filter (λ group. not (is_on n group)) q.publish }
+
+-- what waits, without the groups that have not begun
+abbrev pub without_groups : Queued → Queued
+without_groups q = record q { publish = [] }
+
+-- the groups of a channel that have not begun go, and the promise of each gets this error
+abbrev pub drop_groups_of : ℕ → ErrorKind → Talk → Talk
+drop_groups_of n e t =
+    record t {
+      outbox = without_groups_of n t.outbox;
+      promises = rejected e (filter (is_on n) t.outbox.publish) t.promises;
+    }
+
+-- all groups that have not begun go, and the promise of each gets this error
+abbrev pub drop_groups : ErrorKind → Talk → Talk
+drop_groups e t =
+    record t {
+      outbox = without_groups t.outbox;
+      promises = rejected e t.outbox.publish t.promises;
+    }
 
 -- ---- ends, at which all channels go
 

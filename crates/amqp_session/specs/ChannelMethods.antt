@@ -6,21 +6,20 @@ use Rattle.amqp_frame.specs.declared.frame.RawKind.{RawKind}
 use Rattle.amqp_frame.specs.declared.frame.RawKind.TheVariants.{RawMethod}
 use Rattle.amqp_frame.specs.declared.method.Method.{Method}
 use Rattle.amqp_frame.specs.declared.method.Method.TheVariants.{ChannelOpenOk, ChannelCloseOk}
+use Rattle.amqp_outbox.specs.declared.reply.Reply.TheVariants.{ChannelOpened, ChannelClosed}
+use Rattle.amqp_outbox.specs.Queued.{awaited_promise, answered}
 use Rattle.amqp_session.specs.declared.state.ConnectionState.{ConnectionState}
 use Rattle.amqp_session.specs.declared.state.ConnectionState.TheVariants.{Connecting, Closing}
 use Rattle.amqp_session.specs.declared.state.ChannelState.{ChannelState}
 use Rattle.amqp_session.specs.declared.state.ChannelState.TheVariants as channel
 use Rattle.amqp_session.specs.declared.channels.Channel.{Channel}
 use Rattle.amqp_session.specs.declared.handed.Handed.{Handed}
-use Rattle.amqp_session.specs.declared.awaiting.Awaited.{Awaited}
-use Rattle.amqp_session.specs.declared.awaiting.Reply.TheVariants.{ChannelOpened, ChannelClosed}
 use Rattle.amqp_session.specs.declared.command.Answer.TheVariants.{Channel as AnswerChannel, Done}
 use Rattle.amqp_session.specs.declared.error.ErrorKind.TheVariants.{InvalidChannel}
 use Rattle.amqp_session.specs.Listed.{at, put, without}
 use Rattle.amqp_session.specs.Talk.{Talk}
 use Rattle.amqp_session.specs.Channels.{channel_at, set_channel}
 use Rattle.amqp_session.specs.Violations.{unawaited}
-use Rattle.amqp_session.specs.Replies.{first_awaited, without_first}
 use Rattle.amqp_session.specs.Changes.{give_to, lose, misplaced}
 
 -- the listed channel that a frame comes on: until the connection is open there is none
@@ -39,27 +38,27 @@ abbrev pub unawaited_channel_method : ℕ → ChannelState → Method → Talk �
 unawaited_channel_method n channel.Closing method t = t
 unawaited_channel_method n _ method t = lose (unawaited method n) t
 
--- open-ok on a listed channel, by what awaits it
-abbrev pub channel_opened : ℕ → Channel → Option Awaited → Talk → Talk
+-- open-ok on a listed channel, by the promise of what awaits it
+abbrev pub channel_opened : ℕ → Channel → Option (Option ℕ) → Talk → Talk
 channel_opened n c None t = unawaited_channel_method n c.state ChannelOpenOk t
-channel_opened n c (Some a) t =
-    let opened = record t { awaited = without_first n ChannelOpened t.awaited } in
-    give_to a.promise (Ok (AnswerChannel n c.opened)) (set_channel n (record c { state = channel.Connected }) opened)
+channel_opened n c (Some promise) t =
+    let opened = record t { outbox = answered n ChannelOpened t.outbox } in
+    give_to promise (Ok (AnswerChannel n c.opened)) (set_channel n (record c { state = channel.Connected }) opened)
 
 -- open-ok, where it is awaited: the channel is open
 abbrev pub on_channel_open_ok : ℕ → Channel → Talk → Talk
-on_channel_open_ok n c t = channel_opened n c (first_awaited n ChannelOpened t.awaited) t
+on_channel_open_ok n c t = channel_opened n c (awaited_promise n ChannelOpened t.outbox) t
 
--- close-ok on a listed channel, by what awaits it
-abbrev pub channel_closed : ℕ → Channel → Option Awaited → Talk → Talk
+-- close-ok on a listed channel, by the promise of what awaits it
+abbrev pub channel_closed : ℕ → Channel → Option (Option ℕ) → Talk → Talk
 channel_closed n c None t = unawaited_channel_method n c.state ChannelCloseOk t
-channel_closed n c (Some a) t =
-    let closed = record t { awaited = without_first n ChannelClosed t.awaited } in
-    give_to a.promise (Ok Done) (record closed { channels = without n closed.channels })
+channel_closed n c (Some promise) t =
+    let closed = record t { outbox = answered n ChannelClosed t.outbox } in
+    give_to promise (Ok Done) (record closed { channels = without n closed.channels })
 
 -- close-ok, where it is awaited: the channel goes, and its number is free again
 abbrev pub on_channel_close_ok : ℕ → Channel → Talk → Talk
-on_channel_close_ok n c t = channel_closed n c (first_awaited n ChannelClosed t.awaited) t
+on_channel_close_ok n c t = channel_closed n c (awaited_promise n ChannelClosed t.outbox) t
 
 -- a method of the channel class on a listed channel: after our close of the connection it is dropped
 abbrev pub channel_rule : ConnectionState → ℕ → Channel → Method → Talk → Talk

@@ -1,28 +1,29 @@
 -- Commands: what a session is told to do. Each takes the next promise; a refused one is answered at once.
-use Rattle.std.specs.Prelude.{ℕ, ◌==◌, nat_lt, if◌then◌else◌, Bool, true, List, length, Option, Some, None, Result, Ok, Err}
+use Rattle.std.specs.Prelude.{ℕ, ◌-◌, ◌==◌, nat_lt, if◌then◌else◌, Bool, true, List, [], ◌∷◌, length, find, Option, Some, None, Result, Ok, Err}
 use Rattle.amqp_frame.specs.declared.frame.Frame.{Frame}
-use Rattle.amqp_frame.specs.declared.frame.Frame.TheVariants.{Raw}
-use Rattle.amqp_frame.specs.declared.frame.RawKind.TheVariants.{RawMethod}
-use Rattle.amqp_frame.specs.RawMethods.{OtherMethod, spell_raw_method}
+use Rattle.amqp_frame.specs.RawMethods.{OtherMethod}
 use Rattle.amqp_frame.specs.Frames.{encoding}
 use Rattle.amqp_types.specs.declared.word.Word.{Word}
 use Rattle.amqp_types.specs.declared.word.Word.TheVariants as word
+use Rattle.amqp_outbox.specs.declared.reply.Reply.TheVariants.{ChannelOpened, ChannelClosed, ConnectionClosed}
+use Rattle.amqp_outbox.specs.Items.{promised, group_of}
 use Rattle.amqp_session.specs.declared.state.ConnectionState.{ConnectionState}
 use Rattle.amqp_session.specs.declared.state.ConnectionState.TheVariants.{Connected, Closing}
 use Rattle.amqp_session.specs.declared.state.ChannelState.{ChannelState}
 use Rattle.amqp_session.specs.declared.state.ChannelState.TheVariants as channel
 use Rattle.amqp_session.specs.declared.channels.Channel.{Channel}
-use Rattle.amqp_session.specs.declared.awaiting.Reply.TheVariants.{ChannelOpened, ChannelClosed, ConnectionClosed}
 use Rattle.amqp_session.specs.declared.command.ChanRef.{ChanRef}
 use Rattle.amqp_session.specs.declared.command.Cmd.{Cmd}
-use Rattle.amqp_session.specs.declared.command.Cmd.TheVariants.{OpenChannel, CloseChannel, CloseConnection, Send}
+use Rattle.amqp_session.specs.declared.command.Cmd.TheVariants.{OpenChannel, CloseChannel, CloseConnection, Send, Publish}
 use Rattle.amqp_session.specs.declared.error.ErrorKind.{ErrorKind}
 use Rattle.amqp_session.specs.declared.error.ErrorKind.TheVariants.{ChannelsLimitReached, InvalidChannel, InvalidChannelState, InvalidConnectionState, SerialisationError}
 use Rattle.amqp_session.specs.Listed.{map_values}
 use Rattle.amqp_session.specs.Talk.{Talk}
 use Rattle.amqp_session.specs.Numbering.{first_number, after, drawn}
 use Rattle.amqp_session.specs.Handshake.{our_close, channel_open, our_channel_close}
-use Rattle.amqp_session.specs.Changes.{queue, queue_item, await, next_promise, promise, refuse}
+use Rattle.amqp_session.specs.Negotiation.{frame_limit}
+use Rattle.amqp_session.specs.Publishing.{method_frame, publish_frames}
+use Rattle.amqp_session.specs.Changes.{queue, queue_item, queue_group, await, next_promise, promise, refuse, drop_groups_of, drop_groups}
 use Rattle.amqp_session.specs.Channels.{new_channel, closing, channel_at, set_channel}
 
 -- ---- opening a channel
@@ -81,11 +82,13 @@ target r word t = target_by (named r t) r.id word
 
 -- ---- closing a channel
 
--- our close of the channel is queued, and its promise waits for the close-ok
+-- our close of the channel is queued, the groups of the channel that have not begun go, and the promise of the close
+-- waits for the close-ok
 abbrev pub close_channel : ℕ → ℕ → List ℕ → Channel → Talk → Talk
 close_channel n code text c t =
     let is_closing = set_channel n (closing c) t in
-    promise (await n ChannelClosed (Some (next_promise t)) (queue n (our_channel_close n code text) is_closing))
+    promise (drop_groups_of n (InvalidChannelState channel.Closing word.ChannelClose)
+    (await n ChannelClosed (Some (next_promise t)) (queue n (our_channel_close n code text) is_closing)))
 
 -- the channel that was found is closed; else the command is refused
 abbrev pub close_target : Result Channel ErrorKind → ℕ → ℕ → List ℕ → Talk → Talk
@@ -94,30 +97,60 @@ close_target (Ok c) n code text t = close_channel n code text c t
 
 -- ---- sending
 
--- the frame of a method that is passed through
-abbrev pub method_frame : ℕ → OtherMethod → Frame
-method_frame n method = Raw n RawMethod (spell_raw_method method)
+-- the first of some frames that is longer than the capacity
+abbrev pub too_long : List Frame → Talk → Option Frame
+too_long frames t = find (λ frame. nat_lt t.capacity (length (encoding frame))) frames
 
--- the frame is queued, and its promise waits until its last byte is sent; a frame longer than the capacity is refused
+-- where a frame is too long, the command is refused; else this is done
+abbrev pub unless_too_long : Option Frame → (Talk → Talk) → Talk → Talk
+unless_too_long (Some frame) rule t = refuse (SerialisationError (length (encoding frame))) t
+unless_too_long None rule t = rule t
+
+-- the frame is queued, and its promise waits until its last byte is sent
+abbrev pub queue_send : ℕ → Frame → Talk → Talk
+queue_send n frame t = promise (queue_item (promised n frame (next_promise t)) t)
+
+-- a method is sent on a channel
 abbrev pub send : ℕ → OtherMethod → Talk → Talk
 send n method t =
     let frame = method_frame n method in
-    if nat_lt t.capacity (length (encoding frame))
-    then refuse (SerialisationError (length (encoding frame))) t
-    else promise (queue_item (record { channel = n; frame = frame; promise = Some (next_promise t) }) t)
+    unless_too_long (too_long (frame ∷ []) t) (queue_send n frame) t
 
 -- a method is sent on the channel that was found; else the command is refused
 abbrev pub send_target : Result Channel ErrorKind → ℕ → OtherMethod → Talk → Talk
 send_target (Err e) n method t = refuse e t
 send_target (Ok c) n method t = send n method t
 
+-- ---- publishing
+
+-- how many octets of a body one frame takes: a frame has 8 more around its payload
+abbrev pub body_limit : Talk → ℕ
+body_limit t = frame_limit t - 8
+
+-- the frames are queued as one group, and their promise waits until the last byte of the last of them is sent
+abbrev pub queue_publish : ℕ → List Frame → Talk → Talk
+queue_publish n frames t = promise (queue_group (group_of n frames (next_promise t)) t)
+
+-- a method is published on a channel, with properties and a body
+abbrev pub publish : ℕ → OtherMethod → List ℕ → List ℕ → Talk → Talk
+publish n method properties body t =
+    let frames = publish_frames n method properties body (body_limit t) in
+    unless_too_long (too_long frames t) (queue_publish n frames) t
+
+-- a method is published on the channel that was found; else the command is refused
+abbrev pub publish_target : Result Channel ErrorKind → ℕ → OtherMethod → List ℕ → List ℕ → Talk → Talk
+publish_target (Err e) n method properties body t = refuse e t
+publish_target (Ok c) n method properties body t = publish n method properties body t
+
 -- ---- closing the connection
 
--- our close is queued, all channels are closing, and its promise waits for the close-ok
+-- our close is queued, all channels are closing, all groups that have not begun go, and the promise of the close waits
+-- for the close-ok
 abbrev pub close_connection : ℕ → List ℕ → Talk → Talk
 close_connection code text t =
     let all_closing = record t { state = Closing; channels = map_values closing t.channels } in
-    promise (await 0 ConnectionClosed (Some (next_promise t)) (queue 0 (our_close code text) all_closing))
+    promise (drop_groups (InvalidConnectionState Closing)
+    (await 0 ConnectionClosed (Some (next_promise t)) (queue 0 (our_close code text) all_closing)))
 
 -- ---- the table
 
@@ -127,6 +160,8 @@ command_rule Connected OpenChannel t = open_channel t
 command_rule Connected (CloseChannel r code text) t = close_target (target r word.ChannelClose t) r.id code text t
 command_rule Connected (CloseConnection code text) t = close_connection code text t
 command_rule Connected (Send r method) t = send_target (target r word.Send t) r.id method t
+command_rule Connected (Publish r method properties body) t =
+    publish_target (target r word.Publish t) r.id method properties body t
 command_rule held cmd t = refuse (InvalidConnectionState held) t
 
 -- a command is told

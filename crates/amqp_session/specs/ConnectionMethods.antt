@@ -1,23 +1,23 @@
 -- Methods of the connection class (AMQP 0-9-1, 1.4 of its reference), on channel 0.
-use Rattle.std.specs.Prelude.{ℕ, List, [], ◌∷◌, Option, Some, None, Ok}
+use Rattle.std.specs.Prelude.{ℕ, List, Option, Some, None, Ok}
 use Rattle.amqp_frame.specs.declared.method.Method.{Method}
 use Rattle.amqp_frame.specs.declared.method.Method.TheVariants.{Start, Tune, OpenOk, Close, CloseOk}
+use Rattle.amqp_outbox.specs.declared.reply.Reply.TheVariants.{ConnectionClosed}
+use Rattle.amqp_outbox.specs.Items.{plain}
+use Rattle.amqp_outbox.specs.Queued.{only, awaited_promise, answered}
 use Rattle.amqp_session.specs.declared.state.ConnectionState.{ConnectionState}
 use Rattle.amqp_session.specs.declared.state.ConnectionState.TheVariants.{Connecting, Connected, Closing}
 use Rattle.amqp_session.specs.declared.state.Phase.{Phase}
 use Rattle.amqp_session.specs.declared.state.Phase.TheVariants.{AwaitStart, AwaitTune, AwaitOpenOk}
 use Rattle.amqp_session.specs.declared.state.Input.TheVariants as input
 use Rattle.amqp_session.specs.declared.configuration.Configuration.{Configuration}
-use Rattle.amqp_session.specs.declared.awaiting.Awaited.{Awaited}
-use Rattle.amqp_session.specs.declared.awaiting.Reply.TheVariants.{ConnectionClosed}
 use Rattle.amqp_session.specs.declared.command.Answer.TheVariants.{Connected as AnswerConnected, Done}
 use Rattle.amqp_session.specs.declared.error.ErrorKind.TheVariants.{InvalidConnectionState}
 use Rattle.amqp_session.specs.Talk.{Talk, is_closing}
 use Rattle.amqp_session.specs.Negotiation.{tune}
 use Rattle.amqp_session.specs.Handshake.{start_ok, tune_ok, open_vhost, close_ok}
 use Rattle.amqp_session.specs.Violations.{closed_with}
-use Rattle.amqp_session.specs.Replies.{first_awaited, without_first}
-use Rattle.amqp_session.specs.Changes.{plain, queue, give, give_to, close, lose}
+use Rattle.amqp_session.specs.Changes.{queue, give, give_to, close, lose}
 
 -- ---- the handshake
 
@@ -45,19 +45,18 @@ on_connection_close code text t =
       state = Closing;
       input = input.Closed (is_closing t.state);
       server_close = Some (closed_with code text);
-      control = plain 0 close_ok ∷ [];
-      awaited = [];
+      outbox = only (plain 0 close_ok);
     }
 
--- close-ok after our close, by what awaits it
-abbrev pub connection_closed : Option Awaited → Talk → Talk
+-- close-ok after our close, by the promise of what awaits it
+abbrev pub connection_closed : Option (Option ℕ) → Talk → Talk
 connection_closed None t = close t
-connection_closed (Some a) t =
-    close (give_to a.promise (Ok Done) (record t { awaited = without_first 0 ConnectionClosed t.awaited }))
+connection_closed (Some promise) t =
+    close (give_to promise (Ok Done) (record t { outbox = answered 0 ConnectionClosed t.outbox }))
 
 -- close-ok: our close is answered, and the session ends Closed
 abbrev pub on_connection_close_ok : Talk → Talk
-on_connection_close_ok t = connection_closed (first_awaited 0 ConnectionClosed t.awaited) t
+on_connection_close_ok t = connection_closed (awaited_promise 0 ConnectionClosed t.outbox) t
 
 -- any other method, and one of these out of its state, is fatal
 abbrev pub unexpected_connection_method : ConnectionState → Talk → Talk

@@ -1,7 +1,6 @@
 -- The state of a session.
 pub mod Listed
 pub mod Talk
-pub mod Replies
 -- What is agreed, and what the client says to open and close.
 pub mod Negotiation
 pub mod Handshake
@@ -19,6 +18,7 @@ pub mod Sequence
 pub mod Channels
 pub mod ChannelMethods
 pub mod Frames
+pub mod Publishing
 pub mod Commands
 pub mod Writing
 pub mod Answers
@@ -35,3 +35,4 @@ pub mod Decider
 pub mod Parts
 pub mod NumberSet
 pub mod Openings
+pub mod Stopped

@@ -1,5 +1,7 @@
 -- Links: that one is asked for, comes or does not come, gives bytes, and ends.
-use Rattle.std.specs.Prelude.{if◌then◌else◌, [], ◌∷◌}
+use Rattle.std.specs.Prelude.{if◌then◌else◌, []}
+use Rattle.amqp_outbox.specs.Items.{plain}
+use Rattle.amqp_outbox.specs.Queued.{only}
 use Rattle.amqp_session.specs.declared.state.ConnectionState.TheVariants.{Connecting}
 use Rattle.amqp_session.specs.declared.state.Phase.TheVariants.{AwaitStart}
 use Rattle.amqp_session.specs.declared.state.Link.{Link}
@@ -7,14 +9,14 @@ use Rattle.amqp_session.specs.declared.state.Link.TheVariants.{Wanted, Asked, Op
 use Rattle.amqp_session.specs.declared.state.Input.{Input}
 use Rattle.amqp_session.specs.declared.state.Input.TheVariants.{Acting, Closed, Dropped}
 use Rattle.amqp_session.specs.declared.io_fault.IoFault.{IoFault}
-use Rattle.amqp_session.specs.declared.io_fault.IoFault.TheVariants.{Aborted, Refused}
+use Rattle.amqp_session.specs.declared.io_fault.IoFault.TheVariants.{Refused}
 use Rattle.amqp_session.specs.declared.error.ErrorKind.{ErrorKind}
 use Rattle.amqp_session.specs.declared.error.ErrorKind.TheVariants.{IOError}
 use Rattle.amqp_session.specs.declared.misread.Misread.{Misread}
 use Rattle.amqp_session.specs.Talk.{Talk, is_asked, is_open, acts}
 use Rattle.amqp_session.specs.Handshake.{protocol_header}
 use Rattle.amqp_session.specs.Violations.{misread_error}
-use Rattle.amqp_session.specs.Changes.{plain, fail, lose, finish}
+use Rattle.amqp_session.specs.Changes.{fail, lose, finish}
 
 -- a link that is wanted is asked for
 abbrev pub asked_link : Link ErrorKind → Link ErrorKind
@@ -34,7 +36,7 @@ linked t =
       phase = AwaitStart;
       link = Open;
       input = Acting;
-      control = plain 0 protocol_header ∷ [];
+      outbox = only (plain 0 protocol_header);
       committed = [];
       last_read = t.present;
       last_write = t.present;
@@ -67,11 +69,3 @@ lost fault t =
     if acts t then lose (IOError fault) t
     else if is_open t then finish t
     else t
-
--- the input of the open link ended
-abbrev pub end_of_input : Talk → Talk
-end_of_input t = lost Aborted t
-
--- reading from the open link, or writing to it, failed
-abbrev pub fault : IoFault → Talk → Talk
-fault why t = lost why t

@@ -1,21 +1,7 @@
--- Finite maps from numbers, as lists of their entries in ascending order: the listed channels, and the frames handed
--- out.
-use Rattle.std.specs.Prelude.{ℕ, Bool, List, Option, is_some, map}
-use Rattle.std.specs.Ordering.{nat_cmp}
-use Rattle.std.specs.Map.{lookup, remove_entry}
-use Rattle.std.specs.BTreeMap.{insert_entry, is_at}
-
--- what a map has at a number
-abbrev pub at : {X : Type 0} → ℕ → List (ℕ × X) → Option X
-at n entries = lookup (is_at (nat_cmp n)) entries
-
--- a map with a value at a number, in place of what it had there
-abbrev pub put : {X : Type 0} → ℕ → X → List (ℕ × X) → List (ℕ × X)
-put n x entries = insert_entry nat_cmp entries n x
-
--- a map without a number
-abbrev pub without : {X : Type 0} → ℕ → List (ℕ × X) → List (ℕ × X)
-without n entries = remove_entry (is_at (nat_cmp n)) entries
+-- Finite maps from numbers, as lists of their entries in ascending order: the listed channels, the promises, and the
+-- frames handed out.
+use Rattle.std.specs.Prelude.{ℕ, Bool, List, is_some, map}
+pub use Rattle.amqp_outbox.specs.Listed.{at, put, without}
 
 -- a map whose values are all changed
 abbrev pub map_values : {X : Type 0} → (X → X) → List (ℕ × X) → List (ℕ × X)

@@ -18,7 +18,7 @@ end_has_text _ = false
 -- text of an error
 pub record MakesNothing (before after : Talk) : Type 0 where
   -- the same frames wait to be said
-  pub control : after.control ≡ before.control
+  pub control : after.outbox.control ≡ before.outbox.control
   -- the same frames are handed out
   pub handed : after.handed ≡ before.handed
   -- the server did not close, whose error is kept, and which is answered

@@ -1,5 +1,5 @@
 -- Which promise opened which listed channel, as the code keeps it beside the channels: a number at each such promise.
-use Rattle.std.specs.Prelude.{◌≡◌, ℕ, ◌+◌, ◌==◌, max, Bool, false, List, [], ◌∷◌, Option, Some, None, option_map}
+use Rattle.std.specs.Prelude.{◌≡◌, ℕ, ◌==◌, Bool, false, List, Option, Some, None, option_map}
 use Rattle.amqp_session.specs.declared.channels.Channel.{Channel}
 use Rattle.amqp_session.specs.Listed.{at}
 
@@ -15,8 +15,3 @@ opener n listed = option_map (λ (c : Channel). c.opened) (at n listed)
 -- a promise has a number exactly where it opened the listed channel of that number
 abbrev pub Indexes : List (ℕ × ℕ) → List (ℕ × Channel) → Type 0
 Indexes openings listed = (p n : ℕ) → is_number n (at p openings) ≡ is_number p (opener n listed)
-
--- the number of promises up to the last that opened a listed channel
-abbrev pub opened_until : List (ℕ × Channel) → ℕ
-opened_until [] = 0
-opened_until (e ∷ es) = max ((e.1).opened + 1) (opened_until es)

@@ -1,12 +1,9 @@
 -- Parts of the state and of the rules, as the code takes them.
-use Rattle.std.specs.Prelude.{◌≡◌, ℕ, ◌-◌, ◌<◌, nat_le, if◌then◌else◌, List, [], ◌∷◌, length, Option, Some, None, Result, Ok, Err}
-use Rattle.std.specs.VecDeque.{deque_capacity}
+use Rattle.std.specs.Prelude.{ℕ, ◌-◌, nat_le, if◌then◌else◌, List, [], ◌∷◌, Option, Some, None, Result, Ok, Err}
 use Rattle.amqp_session.specs.declared.state.Link.{Link}
 use Rattle.amqp_session.specs.declared.state.Link.TheVariants.{Wanted, Asked, Open, Ended}
 use Rattle.amqp_session.specs.declared.state.End.{End}
 use Rattle.amqp_session.specs.declared.state.End.TheVariants.{ByServer, Failed}
-use Rattle.amqp_session.specs.declared.awaiting.Awaited.{Awaited}
-use Rattle.amqp_session.specs.declared.awaiting.Replies.{Replies}
 use Rattle.amqp_session.specs.declared.promises.Slot.{Slot}
 use Rattle.amqp_session.specs.declared.promises.Slot.TheVariants.{Place, Waiting, Answered}
 use Rattle.amqp_session.specs.declared.command.Answer.{Answer}
@@ -15,30 +12,9 @@ use Rattle.amqp_session.specs.declared.server_close.ServerClose.TheVariants.{Wit
 use Rattle.amqp_session.specs.declared.committed.Mark.{Mark}
 use Rattle.amqp_session.specs.declared.error.ErrorKind.{ErrorKind}
 use Rattle.amqp_session.specs.declared.error.ErrorKind.TheVariants.{ProtocolError}
-use Rattle.amqp_session.specs.Listed.{at, put, without}
 use Rattle.amqp_session.specs.Talk.{Talk, is_open}
 
--- ---- entries that are seen
-
--- one more entry, where there is a value
-abbrev pub seen_first : {X : Type 0} → ℕ → Option X → List (ℕ × X) → List (ℕ × X)
-seen_first n None entries = entries
-seen_first n (Some x) entries = (n, x) ∷ entries
-
--- the entries whose values are seen, as what is seen of them
-abbrev pub seen : {X Y : Type 0} → (Y → Option X) → List (ℕ × Y) → List (ℕ × X)
-seen f [] = []
-seen f (e ∷ es) = seen_first e.0 (f e.1) (seen f es)
-
--- what is seen of an entry, where there is one
-abbrev pub seen_at : {X Y : Type 0} → (Y → Option X) → Option Y → Option X
-seen_at f None = None
-seen_at f (Some y) = f y
-
--- a map once a value at a number is seen so
-abbrev pub placed : {X : Type 0} → ℕ → Option X → List (ℕ × X) → List (ℕ × X)
-placed n None entries = without n entries
-placed n (Some x) entries = put n x entries
+-- ---- promises
 
 -- a promise as it is seen: a place that is made for one is none
 abbrev pub slot_seen : Slot → Option (Option (Result Answer ErrorKind))
@@ -50,19 +26,6 @@ slot_seen (Answered answer) = Some (Some answer)
 abbrev pub slot_settled : Result Answer ErrorKind → Slot → Slot
 slot_settled answer Waiting = Answered answer
 slot_settled answer slot = slot
-
--- awaited replies, where there is one
-abbrev pub some_awaited : List Awaited → Option (List Awaited)
-some_awaited [] = None
-some_awaited (a ∷ list) = Some (a ∷ list)
-
--- what is awaited on a channel as it is seen: no reply is none
-abbrev pub list_seen : Replies → Option (List Awaited)
-list_seen r = some_awaited r.items.items
-
--- a channel has a place for one more reply
-abbrev pub HasPlace : ℕ → List (ℕ × Replies) → Type 0
-HasPlace channel lists = (r : Replies) × (at channel lists ≡ Some r) × (length r.items.items < deque_capacity r.items)
 
 -- ---- how a session ended
 

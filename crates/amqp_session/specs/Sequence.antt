@@ -12,17 +12,25 @@ pub record Sequence : Type 0 where
 abbrev pub last_number : ℕ → Sequence → ℕ
 last_number greatest s = unwrap_or s.maximum greatest
 
--- the number that is given next: the cursor, or the first number where the cursor is above the last; where 0 is not
--- among the numbers, the first is 1, and a cursor of 0 counts as 1
-abbrev pub next_number : ℕ → Sequence → ℕ
-next_number greatest s =
+-- the number that is given next in a cycle up to a last one: the cursor, or the first number where the cursor is above
+-- the last; where 0 is not among the numbers, the first is 1, and a cursor of 0 counts as 1
+abbrev pub number_up_to : ℕ → Sequence → ℕ
+number_up_to last s =
     if s.allow_zero
-    then if nat_lt (last_number greatest s) s.cursor then 0 else s.cursor
-    else first_number (last_number greatest s) s.cursor
+    then if nat_lt last s.cursor then 0 else s.cursor
+    else first_number last s.cursor
 
--- a sequence whose next number was given: the cursor is the number after that one, or 0 after the last
+-- a sequence whose cursor has gone on after a number: to the one after that, or to 0 after the last
+abbrev pub passed : ℕ → ℕ → Sequence → Sequence
+passed last n s = record s { cursor = after last n }
+
+-- the number that is given next
+abbrev pub next_number : ℕ → Sequence → ℕ
+next_number greatest s = number_up_to (last_number greatest s) s
+
+-- a sequence whose next number was given
 abbrev pub go_on : ℕ → Sequence → Sequence
-go_on greatest s = record s { cursor = after (last_number greatest s) (next_number greatest s) }
+go_on greatest s = passed (last_number greatest s) (next_number greatest s) s
 
 -- the number before the cursor; where the cursor is 0 that is the maximum, or nothing without one
 abbrev pub current_number : Sequence → Option ℕ

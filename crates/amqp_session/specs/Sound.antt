@@ -1,6 +1,8 @@
 -- Sound states: what holds of each state that a session can be in.
 use Rattle.std.specs.Prelude.{ℕ, ◌<◌, ◌≤◌, Bool, true, false, IsTrue, List, [], ◌∷◌, map, ◌≡◌, IsFalse, Ok, Err}
 use Rattle.std.specs.Map.{keys_of}
+use Rattle.amqp_outbox.specs.declared.item.Item.{Item}
+use Rattle.amqp_outbox.specs.Queued.{waiting_items}
 use Rattle.amqp_session.specs.declared.state.ConnectionState.{ConnectionState}
 use Rattle.amqp_session.specs.declared.state.ConnectionState.TheVariants.{Initial, Connecting, Connected, Closing, Closed, Error}
 use Rattle.amqp_session.specs.declared.state.Phase.{Phase}
@@ -9,7 +11,6 @@ use Rattle.amqp_session.specs.declared.state.Link.{Link}
 use Rattle.amqp_session.specs.declared.state.Link.TheVariants.{Wanted, Asked, Open, Ended}
 use Rattle.amqp_session.specs.declared.state.Input.{Input}
 use Rattle.amqp_session.specs.declared.state.Input.TheVariants.{Acting}
-use Rattle.amqp_session.specs.declared.lanes.Item.{Item}
 use Rattle.amqp_session.specs.declared.committed.Mark.{Mark}
 use Rattle.amqp_session.specs.declared.committed.Then.{Then}
 use Rattle.amqp_session.specs.declared.committed.Then.TheVariants.{Finish}
@@ -90,7 +91,7 @@ pub record IsSound (t : Talk) : Type 0 where
   -- while the connection is being opened, and while it is open, the frames that come act
   pub acting : IsTrue (goes_on t.state) → IsTrue (is_acting t.input)
   -- what finishes the session is the last of what is committed, and nothing waits behind it
-  pub finish : Finishes t.input (following t.committed t.control)
+  pub finish : Finishes t.input (following t.committed (waiting_items t.outbox))
   -- the listed channels stand in the order of their numbers, and none has the number 0
   pub listed : AscendFrom 0 (keys_of t.channels)
   -- so do the promises, and all of them were made

@@ -1,5 +1,6 @@
 -- The plain state of a session, in enums, numbers, lists and finite maps.
 use Rattle.std.specs.Prelude.{ℕ, Bool, false, true, ◌&&◌, List, [], ◌∷◌, Option, Some, None, Result, is_some}
+use Rattle.amqp_outbox.specs.Queued.{Queued, nothing}
 use Rattle.amqp_session.specs.declared.state.ConnectionState.{ConnectionState}
 use Rattle.amqp_session.specs.declared.state.ConnectionState.TheVariants.{Initial, Closing}
 use Rattle.amqp_session.specs.declared.state.Phase.{Phase}
@@ -11,8 +12,6 @@ use Rattle.amqp_session.specs.declared.state.Input.TheVariants.{Acting, Dropped}
 use Rattle.amqp_session.specs.declared.capacity.TheConstants.{INITIAL_CAPACITY}
 use Rattle.amqp_session.specs.declared.configuration.Configuration.{Configuration}
 use Rattle.amqp_session.specs.declared.channels.Channel.{Channel}
-use Rattle.amqp_session.specs.declared.lanes.Item.{Item}
-use Rattle.amqp_session.specs.declared.awaiting.Awaited.{Awaited}
 use Rattle.amqp_session.specs.declared.committed.Mark.{Mark}
 use Rattle.amqp_session.specs.declared.handed.Handed.{Handed}
 use Rattle.amqp_session.specs.declared.command.Answer.{Answer}
@@ -36,12 +35,10 @@ pub record Talk : Type 0 where
   pub channels : List (ℕ × Channel)
   -- the number of a channel to be drawn next, where 0 is the first
   pub cursor : ℕ
-  -- the frames that wait to be committed, in order
-  pub control : List Item
+  -- the frames that wait to be committed, and the replies that are awaited
+  pub outbox : Queued
   -- the committed frames that are not wholly sent, in order
   pub committed : List Mark
-  -- the replies that are awaited, in order, by the number of their channel; no channel has none
-  pub awaited : List (ℕ × List Awaited)
   -- the frames handed out and not yet taken, in order, by the promise that opened their channel
   pub handed : List (ℕ × List Handed)
   -- how many promises were made, which are numbered from 0 on
@@ -67,9 +64,8 @@ start =
       capacity = INITIAL_CAPACITY;
       channels = [];
       cursor = 0;
-      control = [];
+      outbox = nothing;
       committed = [];
-      awaited = [];
       handed = [];
       made = 1;
       promises = (0, None) ∷ [];

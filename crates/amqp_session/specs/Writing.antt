@@ -3,31 +3,30 @@ use Rattle.std.specs.Prelude.{ℕ, zero, ◌-◌, ◌==◌, ◌&&◌, Bool, true
 use Rattle.amqp_frame.specs.declared.frame.Frame.{Frame}
 use Rattle.amqp_frame.specs.declared.frame.Frame.TheVariants.{Method}
 use Rattle.amqp_frame.specs.declared.method.Method.TheVariants.{CloseOk}
-use Rattle.amqp_frame.specs.Frames.{encoding}
-use Rattle.amqp_session.specs.declared.lanes.Item.{Item}
+use Rattle.amqp_outbox.specs.declared.item.Item.{Item}
+use Rattle.amqp_outbox.specs.Items.{size_of}
+use Rattle.amqp_outbox.specs.Queued as queued
+use Rattle.amqp_outbox.specs.Queued.{waiting_items, after_next}
 use Rattle.amqp_session.specs.declared.committed.Mark.{Mark}
 use Rattle.amqp_session.specs.declared.committed.Then.{Then}
 use Rattle.amqp_session.specs.declared.committed.Then.TheVariants.{Nothing, Answer, Finish}
 use Rattle.amqp_session.specs.declared.command.Answer.TheVariants.{Sent}
 use Rattle.amqp_session.specs.Talk.{Talk, is_open}
+use Rattle.amqp_session.specs.Channels.{all_flow}
 use Rattle.amqp_session.specs.Changes.{give, finish}
 
 -- how many frames wait to be committed
 abbrev pub frames_waiting : Talk → ℕ
-frames_waiting t = length t.control
+frames_waiting t = length (waiting_items t.outbox)
 
--- the first of the frames that wait, where there is one
-abbrev pub head : List Item → Option Item
-head [] = None
-head (item ∷ items) = Some item
+-- publishes flow: the server lets content come on every listed channel, also on one that is closing
+abbrev pub flows : Talk → Bool
+flows t = all_flow t.channels
 
--- the next frame to go out, with what follows once it was sent
+-- the next frame to go out: of the group that has begun, else of the control lane, else of the publish lane where
+-- publishes flow
 abbrev pub next_item : Talk → Option Item
-next_item t = if is_open t then head t.control else None
-
--- how many bytes spell a frame
-abbrev pub size_of : Item → ℕ
-size_of item = length (encoding item.frame)
+next_item t = if is_open t then queued.next_item (flows t) t.outbox else None
 
 -- a frame that is to go out, where it is at most so many bytes long
 abbrev pub fitting : ℕ → Option Item → Option Item
@@ -59,7 +58,8 @@ mark_of item = record { left = size_of item; then = then_of item }
 -- the frame that is to go out, where there is one, is committed
 abbrev pub committed_as : Option Item → Talk → Talk
 committed_as None t = t
-committed_as (Some item) t = record t { control = drop 1 t.control; committed = t.committed ++ mark_of item ∷ [] }
+committed_as (Some item) t =
+    record t { outbox = after_next (flows t) t.outbox; committed = t.committed ++ mark_of item ∷ [] }
 
 -- the next frame is committed, where it is at most so many bytes long
 abbrev pub commit : ℕ → Talk → Talk

@@ -1,11 +1,14 @@
 //! The listed channels.
 
-ghost use Rattle.std.specs.Prelude.{◌≡◌, ◌≤◌, ◌+◌, [], None, Some, IfSome, OnOk, OnErr, length};
+ghost use Rattle.std.specs.Prelude.{◌≡◌, ◌≤◌, ◌+◌, ◌↔◌, ◌⊎◌, [], None, Some, Err, IfOk, IfErr, IfSome, OnOk, OnErr, length};
 ghost use Rattle.amqp_session.specs.Listed.{at, put, without, map_values};
-ghost use Rattle.amqp_session.specs.Numbering.{first_number, after, drawn};
-ghost use Rattle.amqp_session.specs.Channels.{closing, new_channel, opening_in};
-ghost use Rattle.amqp_session.specs.Openings.{opener, opened_until};
+ghost use Rattle.amqp_session.specs.Numbering.{drawn};
+ghost use Rattle.amqp_session.specs.Channels.{closing, new_channel, opening_in, all_flow, AllListed, next_free, list_next, pass_over, create_as, opened_until};
+ghost use Rattle.amqp_session.specs.Stopped.{stops};
+ghost use Rattle.amqp_session.specs.Openings.{opener};
 
+use crate::error::{self, ErrorKind};
+use crate::id_sequence::IdSequence;
 use crate::numbers::Numbers;
 use crate::state::ChannelState;
 use amqp_types::{ChannelId, NoMemory};
@@ -37,6 +40,13 @@ impl Channel {
             opened,
         }
     }
+
+    // How many channels without flow it is.
+    fn stops(self) -> usize
+        ensures { result ≡ stops self }
+    {
+        if self.flow { 0 } else { 1 }
+    }
 }
 
 /// The listed channels, by their numbers, and the cursor from which the next number is drawn.
@@ -47,29 +57,35 @@ pub struct Channels {
     numbers: Numbers,
     // all numbers from 1 up to this one are listed
     full: ChannelId,
-    cursor: ChannelId,
+    // how many listed channels are without flow
+    stopped: usize,
+    // gives their numbers, and never 0: its cursor is the channels'
+    sequence: IdSequence<ChannelId>,
 }
 
 impl Model for Channels {
-    ghost use Rattle.std.specs.Prelude.{◌≡◌, ℕ};
+    ghost use Rattle.std.specs.Prelude.{◌≡◌, ℕ, false};
     ghost use Rattle.amqp_session.specs.Channels.{Listing};
 
     ghost Value = { Listing };
 
-    ghost view = { λ c. record { listed = c.listed.entries; cursor = c.cursor } };
+    ghost view = { λ c. record { listed = c.listed.entries; cursor = c.sequence.cursor } };
 
     ghost use Rattle.amqp_session.specs.Listed.{has};
     ghost use Rattle.amqp_session.specs.NumberSet.{is_member, HasUpTo};
     ghost use Rattle.amqp_session.specs.Openings.{Indexes};
+    ghost use Rattle.amqp_session.specs.Stopped.{count_stopped};
 
-    // The set of numbers has those of the listed channels, all up to one that is known, and the
-    // openings have the promises that opened them.
+    // The set of numbers has those of the listed channels, all up to one that is known, the openings
+    // have the promises that opened them, and those without flow are counted. The
+    // sequence never gives 0.
     ghost invariant = { λ c. ((n : ℕ) → is_member c.numbers n ≡ has n c.listed.entries)
-        × Indexes c.openings.entries c.listed.entries × HasUpTo c.full c.numbers };
+        × Indexes c.openings.entries c.listed.entries × HasUpTo c.full c.numbers
+        × (c.stopped ≡ count_stopped c.listed.entries) × (c.sequence.allow_zero ≡ false) };
 }
 
 impl Channels {
-    /// No channel is listed.
+    /// No channel is listed, and the first number is the next.
     pub fn new(alloc: Global) -> Channels
         ensures { result ≡ record { listed = []; cursor = 0 } }
     {
@@ -78,46 +94,125 @@ impl Channels {
             openings: BTreeMap::new(alloc),
             numbers: Numbers::new(alloc),
             full: 0,
-            cursor: 0,
+            stopped: 0,
+            sequence: IdSequence::new(false),
         }
     }
 
-    /// How many channels are listed.
-    pub fn len(&self) -> u64
-        ensures { result ≡ length self.now.listed }
+    /// Lists a new channel and gives its number: in the cycle from 1 to `max`, the first from the cursor on that is not
+    /// listed. The cursor is then the number after it. Where all of them are listed, the answer is
+    /// `ChannelsLimitReached`, and the cursor goes on by one; where memory is refused, all is as before.
+    pub fn create(&mut self, max: ChannelId) -> error::Result<ChannelId>
+        requires { 1 ≤ max }
+        ensures number { IfOk result (λ id. next_free max self.old ≡ Some id) }
+        ensures created { IfOk result (λ id. self.new ≡ create_as max id self.old) }
+        ensures limit { result ≡ Err ErrorKind.ChannelsLimitReached ↔ AllListed max self.old.listed }
+        ensures passed { result ≡ Err ErrorKind.ChannelsLimitReached → self.new ≡ pass_over max self.old }
+        ensures only { IfErr result (λ e. (e ≡ ErrorKind.ChannelsLimitReached) ⊎ (e ≡ ErrorKind.NoMemory)) }
+        ensures starved { result ≡ Err ErrorKind.NoMemory → self.new ≡ self.old }
     {
-        self.listed.len() as u64
+        match self.next_free(max) {
+            Some(id) => {
+                let opened = self.next_opening()?;
+                self.list_next(max, id, Channel::opened_by(opened))?;
+                Ok(id)
+            }
+            None => {
+                self.pass_over(max);
+                Err(ErrorKind::ChannelsLimitReached.into())
+            }
+        }
     }
 
-    /// The channel of a number.
-    pub fn get(&self, id: ChannelId) -> Option<Channel>
-        ensures { result ≡ at id self.now.listed }
+    /// Whether the server lets content be published on every listed channel.
+    pub fn flows(&self) -> bool
+        ensures { result ≡ all_flow self.now.listed }
     {
-        self.listed.get(&id).copied()
+        self.stopped == 0
     }
 
     /// The number from which the next is drawn, where 0 is the first.
     pub fn cursor(&self) -> ChannelId
         ensures { result ≡ self.now.cursor }
     {
-        self.cursor
+        self.sequence.cursor()
     }
 
-    /// The cursor goes on.
-    pub fn set_cursor(&mut self, cursor: ChannelId)
-        ensures { self.new ≡ record self.old { cursor = cursor } }
+    /// How many channels are listed.
+    pub(crate) fn len(&self) -> u64
+        ensures { result ≡ length self.now.listed }
     {
-        self.cursor = cursor;
+        self.listed.len() as u64
     }
 
-    /// Lists a channel that a later promise opens than the others.
-    pub fn list(&mut self, id: ChannelId, channel: Channel) -> Result<(), NoMemory>
+    /// The channel of a number.
+    pub(crate) fn get(&self, id: ChannelId) -> Option<Channel>
+        ensures { result ≡ at id self.now.listed }
+    {
+        self.listed.get(&id).copied()
+    }
+
+    // The promise after those that opened the listed channels.
+    fn next_opening(&self) -> Result<u64, NoMemory>
+        ensures { IfOk result (λ opened. opened ≡ opened_until self.now.listed) }
+    {
+        // Its clause tells that the numbers ascend.
+        let _ = self.listed.len();
+        match self.openings.last_key_value() {
+            Some((last, _)) if *last == u64::MAX => Err(NoMemory),
+            Some((last, _)) => Ok(*last + 1),
+            None => Ok(0),
+        }
+    }
+
+    /// The number of the next channel, if one is free. Where there is none, that is known until a channel goes, and
+    /// found at once.
+    pub(crate) fn next_free(&mut self, channel_max: ChannelId) -> Option<ChannelId>
+        ensures number { result ≡ next_free channel_max self.old }
+        ensures unlisted { IfSome result (λ id. at id self.old.listed ≡ None) }
+        ensures limit { 1 ≤ channel_max → result ≡ None ↔ AllListed channel_max self.old.listed }
+        ensures same { self.new ≡ self.old }
+    {
+        let first = self.sequence.next_up_to(channel_max);
+        self.draw(channel_max, first)
+    }
+
+    /// Lists a channel by the number that was drawn, which a later promise opens than the others.
+    pub(crate) fn list_next(
+        &mut self,
+        channel_max: ChannelId,
+        id: ChannelId,
+        channel: Channel,
+    ) -> Result<(), NoMemory>
+        requires unlisted { at id self.old.listed ≡ None }
+        requires later { opened_until self.old.listed ≤ channel.opened }
+        ensures ok { OnOk result (self.new ≡ list_next channel_max id channel self.old) }
+        ensures err { OnErr result (self.new ≡ self.old) }
+        ensures until { opened_until self.new.listed ≤ channel.opened + 1 }
+    {
+        self.list(id, channel)?;
+        self.sequence.pass(channel_max, id);
+        Ok(())
+    }
+
+    /// The cursor goes on by one.
+    pub(crate) fn pass_over(&mut self, channel_max: ChannelId)
+        ensures { self.new ≡ pass_over channel_max self.old }
+    {
+        let first = self.sequence.next_up_to(channel_max);
+        self.sequence.pass(channel_max, first);
+    }
+
+    // Lists a channel that a later promise opens than the others.
+    fn list(&mut self, id: ChannelId, channel: Channel) -> Result<(), NoMemory>
         requires unlisted { at id self.old.listed ≡ None }
         requires later { opened_until self.old.listed ≤ channel.opened }
         ensures ok { OnOk result (self.new ≡ record self.old { listed = put id channel self.old.listed }) }
         ensures err { OnErr result (self.new ≡ self.old) }
         ensures until { opened_until self.new.listed ≤ channel.opened + 1 }
     {
+        // Its clause bounds their count.
+        let _ = self.listed.len();
         self.numbers.reserve(id)?;
         self.openings.insert(channel.opened, id)?;
         if let Err(refused) = self.listed.insert(id, channel) {
@@ -125,21 +220,27 @@ impl Channels {
             return Err(refused.into());
         }
         self.numbers.insert(id);
+        self.stopped += channel.stops();
         Ok(())
     }
 
     /// Changes a channel that is listed, but not what opened it.
-    pub fn set(&mut self, id: ChannelId, channel: Channel)
+    pub(crate) fn set(&mut self, id: ChannelId, channel: Channel)
         requires { opener id self.old.listed ≡ Some channel.opened }
         ensures set { self.new ≡ record self.old { listed = put id channel self.old.listed } }
         ensures until { opened_until self.new.listed ≤ opened_until self.old.listed }
     {
+        // Its clause bounds their count.
+        let _ = self.listed.len();
         // Its place is there, so that nothing is asked for and nothing refused.
-        let _ = self.listed.insert(id, channel);
+        if let Ok(Some(former)) = self.listed.insert(id, channel) {
+            self.stopped -= former.stops();
+            self.stopped += channel.stops();
+        }
     }
 
     /// A channel goes.
-    pub fn remove(&mut self, id: ChannelId)
+    pub(crate) fn remove(&mut self, id: ChannelId)
         ensures gone { self.new ≡ record self.old { listed = without id self.old.listed } }
         ensures until { opened_until self.new.listed ≤ opened_until self.old.listed }
     {
@@ -147,21 +248,23 @@ impl Channels {
         self.numbers.remove(id);
         if let Some(channel) = self.listed.remove(&id) {
             self.openings.remove(&channel.opened);
+            self.stopped -= channel.stops();
         }
     }
 
     /// All channels go.
-    pub fn clear(&mut self)
+    pub(crate) fn clear(&mut self)
         ensures { self.new ≡ record self.old { listed = [] } }
     {
         self.listed.clear();
         self.openings.clear();
+        self.stopped = 0;
         self.full = 0;
         self.numbers.clear();
     }
 
     /// All channels are closing.
-    pub fn close_all(&mut self)
+    pub(crate) fn close_all(&mut self)
         ensures all { self.new ≡ record self.old { listed = map_values closing self.old.listed } }
         ensures until { opened_until self.new.listed ≡ opened_until self.old.listed }
     {
@@ -172,7 +275,7 @@ impl Channels {
     }
 
     /// The number of the channel that a promise opened.
-    pub fn opened_by(&self, opened: u64) -> Option<ChannelId>
+    pub(crate) fn opened_by(&self, opened: u64) -> Option<ChannelId>
         ensures { result ≡ opening_in opened self.now.listed }
     {
         // Its clause tells that the numbers ascend.
@@ -180,9 +283,8 @@ impl Channels {
         self.openings.get(&opened).copied()
     }
 
-    /// The first number in the cycle from a first one that is not listed. Where there is none, that is
-    /// known until a channel goes, and found at once.
-    pub fn draw(&mut self, channel_max: ChannelId, first: ChannelId) -> Option<ChannelId>
+    // The first number in the cycle from a first one that is not listed.
+    fn draw(&mut self, channel_max: ChannelId, first: ChannelId) -> Option<ChannelId>
         requires { 1 ≤ first }
         ensures drawn { result ≡ drawn channel_max first self.old.listed }
         ensures unlisted { IfSome result (λ id. at id self.old.listed ≡ None) }
@@ -210,23 +312,4 @@ impl Channels {
             None => self.numbers.first_absent(1, first as u32),
         }
     }
-}
-
-/// The cursor, which counts as 1 where it is 0 or above the greatest number.
-pub fn first_number(channel_max: ChannelId, cursor: ChannelId) -> ChannelId
-    ensures number { result ≡ first_number channel_max cursor }
-    ensures positive { 1 ≤ result }
-{
-    if cursor == 0 || cursor > channel_max {
-        1
-    } else {
-        cursor
-    }
-}
-
-/// The cursor after a number was drawn.
-pub fn after(channel_max: ChannelId, id: ChannelId) -> ChannelId
-    ensures { result ≡ after channel_max id }
-{
-    if id < channel_max { id + 1 } else { 0 }
 }

@@ -2,8 +2,9 @@
 
 ghost use Rattle.std.specs.Prelude.{◌≡◌, IfOk};
 
+use crate::properties::Properties;
 use amqp_frame::RawMethod;
-use amqp_types::{ChannelId, NoMemory, ReplyCode, ShortString};
+use amqp_types::{ChannelId, NoMemory, Payload, ReplyCode, ShortString};
 use std::alloc::Global;
 
 /// Names a listed channel by its number and, where it is given, by the promise that opened it.
@@ -24,6 +25,9 @@ pub enum Cmd {
     CloseConnection(ReplyCode, ShortString),
     /// Sends a method on a channel.
     Send(ChanRef, RawMethod),
+    /// Publishes with a method on a channel: the properties of the content header, and the body. The
+    /// frames go out one after another, and none of another command comes between them.
+    Publish(ChanRef, RawMethod, Properties, Payload),
 }
 
 impl Cmd {
@@ -40,6 +44,11 @@ impl Cmd {
                 Ok(Cmd::CloseConnection(*code, text.try_clone(alloc)?))
             }
             Cmd::Send(channel, method) => Ok(Cmd::Send(*channel, method.try_clone(alloc)?)),
+            Cmd::Publish(channel, method, properties, body) => {
+                let method = method.try_clone(alloc)?;
+                let properties = properties.try_clone(alloc)?;
+                Ok(Cmd::Publish(*channel, method, properties, body.try_clone(alloc)?))
+            }
         }
     }
 }

@@ -1,10 +1,13 @@
 //! The committed frames that are not wholly sent.
 
-ghost use Rattle.std.specs.Prelude.{◌≡◌, ◌+◌, ◌<◌, ◌≤◌, ◌^◌, ◌++◌, ◌∷◌, [], length, OnOk};
+ghost use Rattle.std.specs.Prelude.{◌≡◌, ◌+◌, ◌<◌, ◌≤◌, ◌^◌, ◌++◌, ◌∷◌, [], length, OnOk, IfSome, IfNone};
 ghost use Rattle.std.specs.VecDeque.{deque_capacity};
-ghost use Rattle.amqp_session.specs.Writing.{left_in};
+ghost use Rattle.amqp_outbox.specs.Items.{size_of};
+ghost use Rattle.amqp_session.specs.Writing.{left_in, is_close_ok, then_of, mark_of};
 ghost use Rattle.amqp_session.specs.Parts.{first_among, after_first};
 
+use amqp_frame::{Frame, Method, encoded_len};
+use amqp_outbox::Item;
 use amqp_types::NoMemory;
 use std::alloc::Global;
 use std::collections::VecDeque;
@@ -25,6 +28,42 @@ pub struct Mark {
     /// How many of its bytes are unsent.
     pub left: u64,
     pub then: Then,
+}
+
+impl Mark {
+    /// The mark of a frame once it is committed, where it is at most so many bytes long.
+    pub fn of_item(item: &Item, space: u64) -> Option<Mark>
+        requires { space < 2 ^ 63 }
+        ensures fits { IfSome result (λ m. (m ≡ mark_of item.now) × (size_of item.now ≤ space)) }
+        ensures long { IfNone result (space < size_of item.now) }
+    {
+        let left = encoded_len(&item.frame);
+        if left > space {
+            return None;
+        }
+        let then = then_of(item);
+        Some(Mark { left, then })
+    }
+}
+
+// What follows once a frame was sent whole.
+fn then_of(item: &Item) -> Then
+    ensures { result ≡ then_of item.now }
+{
+    if is_close_ok(&item.frame) {
+        return Then::Finish;
+    }
+    match item.promise {
+        Some(number) => Then::Answer(number),
+        None => Then::Nothing,
+    }
+}
+
+// Whether a frame is our answer to the server's close.
+fn is_close_ok(frame: &Frame) -> bool
+    ensures { result ≡ is_close_ok frame.now }
+{
+    matches!(frame, Frame::Method(0, Method::CloseOk))
 }
 
 /// The committed frames, in order, and how many of their bytes are unsent.

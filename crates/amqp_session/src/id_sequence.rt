@@ -2,7 +2,7 @@
 
 ghost use Rattle.std.specs.Prelude.{◌≡◌, ◌≤◌, ◌↔◌, ℕ, ◌==◌, if◌then◌else◌, None, Some, IsNone, IsTrue, option_map};
 ghost use Rattle.std.proofs.Common.{rules};
-ghost use Rattle.amqp_session.specs.Sequence.{last_number, next_number, go_on, current_number};
+ghost use Rattle.amqp_session.specs.Sequence.{last_number, number_up_to, next_number, passed, go_on, current_number};
 
 use std::marker::Model;
 
@@ -132,6 +132,13 @@ impl<T: Id> IdSequence<T> {
         }
     }
 
+    /// The cursor, from which the next number is given.
+    pub(crate) fn cursor(&self) -> T
+        ensures { T.number result ≡ self.now.cursor }
+    {
+        self.cursor
+    }
+
     /// Sets the maximum, where 0 is none. The cursor stays.
     pub fn set_max(&mut self, max: T)
         ensures { self.new ≡ record self.old { maximum = if T.number max == 0 then None else Some (T.number max) } }
@@ -146,41 +153,49 @@ impl<T: Id> IdSequence<T> {
         ensures within { T.number result ≤ last_number T.GREATEST self.old }
         ensures zero { T.number result ≡ 0 → IsTrue self.old.allow_zero }
     {
-        let number = self.next_number();
-        let after = if number < self.last_number() {
+        let last = self.last_number();
+        let number = self.next_up_to(last);
+        self.pass(last, number);
+        number
+    }
+
+    // The last number of a cycle.
+    fn last_number(&self) -> T
+        ensures number { T.number result ≡ last_number T.GREATEST self.now }
+        ensures positive { 1 ≤ T.number result }
+    {
+        match self.maximum {
+            Some(maximum) => maximum,
+            None => T::from_number(T::GREATEST),
+        }
+    }
+
+    /// The number that is given next, in a cycle up to a last one.
+    pub(crate) fn next_up_to(&self, last: T) -> T
+        ensures number { T.number result ≡ number_up_to (T.number last) self.now }
+        ensures within { 1 ≤ T.number last → T.number result ≤ T.number last }
+        ensures zero { T.number result ≡ 0 → IsTrue self.now.allow_zero }
+    {
+        let cursor = self.cursor.number();
+        if cursor != 0 && cursor <= last.number() {
+            self.cursor
+        } else if self.allow_zero {
+            T::from_number(0)
+        } else {
+            T::from_number(1)
+        }
+    }
+
+    /// The cursor goes on after a number, in a cycle up to a last one.
+    pub(crate) fn pass(&mut self, last: T, number: T)
+        ensures { self.new ≡ passed (T.number last) (T.number number) self.old }
+    {
+        let number = number.number();
+        let after = if number < last.number() {
             number + 1
         } else {
             0
         };
         self.cursor = T::from_number(after);
-        T::from_number(number)
-    }
-
-    // The last number of a cycle.
-    fn last_number(&self) -> u32
-        ensures number { result ≡ last_number T.GREATEST self.now }
-        ensures positive { 1 ≤ result }
-        ensures greatest { result ≤ T.GREATEST }
-    {
-        match self.maximum {
-            Some(maximum) => maximum.number(),
-            None => T::GREATEST,
-        }
-    }
-
-    // The number that is given next.
-    fn next_number(&self) -> u32
-        ensures number { result ≡ next_number T.GREATEST self.now }
-        ensures within { result ≤ last_number T.GREATEST self.now }
-        ensures zero { result ≡ 0 → IsTrue self.now.allow_zero }
-    {
-        let cursor = self.cursor.number();
-        if cursor != 0 && cursor <= self.last_number() {
-            cursor
-        } else if self.allow_zero {
-            0
-        } else {
-            1
-        }
     }
 }

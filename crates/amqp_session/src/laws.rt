@@ -3,7 +3,7 @@
 ghost use Rattle.std.specs.Prelude.{◌≡◌, ◌≢◌, ◌≤◌, ◌↔◌, ℕ, ◌+◌, true, List, length, Some, None, Err, IsTrue};
 ghost use Rattle.amqp_frame.specs.declared.frame.Frame.{Frame};
 ghost use Rattle.amqp_frame.specs.Frames.{encoding};
-ghost use Rattle.amqp_session.specs.declared.lanes.Item.{Item};
+ghost use Rattle.amqp_outbox.specs.declared.item.Item.{Item};
 ghost use Rattle.amqp_session.specs.declared.command.Cmd.{Cmd};
 ghost use Rattle.amqp_session.specs.declared.configuration.Configuration.{Configuration};
 ghost use Rattle.amqp_session.specs.declared.error.ErrorKind.{ErrorKind};

@@ -6,7 +6,6 @@
 //! `Lib.antt` gives in reading order.
 #![tactic(auto)]
 
-mod awaiting;
 mod capacity;
 mod channels;
 mod command;
@@ -17,11 +16,12 @@ mod handed;
 mod handshake;
 mod id_sequence;
 mod io_fault;
-mod lanes;
 mod laws;
 mod misread;
 mod numbers;
 mod promises;
+mod properties;
+mod publishing;
 mod server_close;
 mod session;
 mod shown;
@@ -29,6 +29,7 @@ mod state;
 mod violations;
 
 pub use capacity::INITIAL_CAPACITY;
+pub use channels::Channels;
 pub use command::{Answer, ChanRef, Cmd};
 pub use configuration::{Configuration, tune};
 pub use error::{Error, ErrorKind, Result};
@@ -41,5 +42,6 @@ pub use laws::{
     the_decider_takes_legal_conversations, unsent_bytes_are_counted,
 };
 pub use misread::Misread;
+pub use properties::Properties;
 pub use session::Session;
 pub use state::{ChannelState, ConnectionState};

@@ -1,9 +1,10 @@
 //! The promises of a session, by number.
 
-ghost use Rattle.std.specs.Prelude.{◌≡◌, ◌+◌, ◌<◌, ◌^◌, [], None, Some, Err, IsSome, OnOk, OnErr, option_copied};
+ghost use Rattle.std.specs.Prelude.{◌≡◌, ◌+◌, ◌<◌, ◌^◌, ℕ, [], None, Some, Err, IsSome, OnOk, OnErr, option_copied};
 ghost use Rattle.amqp_session.specs.Listed.{at, put, without};
-ghost use Rattle.amqp_session.specs.Changes.{settled};
-ghost use Rattle.amqp_session.specs.Parts.{seen, seen_at, slot_seen, slot_settled};
+ghost use Rattle.amqp_session.specs.Changes.{settled, settled_to};
+ghost use Rattle.amqp_outbox.specs.Order.{seen, seen_at};
+ghost use Rattle.amqp_session.specs.Parts.{slot_seen, slot_settled};
 
 use crate::command::Answer;
 use crate::error::{self, ErrorKind};
@@ -101,10 +102,24 @@ impl Promises {
         ensures made { self.new.made ≡ self.old.made }
         ensures slots { seen slot_seen self.new.slots.entries
             ≡ settled number answer (seen slot_seen self.old.slots.entries) }
+        ensures places { (n : ℕ) → IsSome (at n self.old.slots.entries) → IsSome (at n self.new.slots.entries) }
     {
         match self.slots.get_mut(&number) {
             Some(slot) => slot.settle(answer),
             None => drop(answer),
+        }
+    }
+
+    /// Where a promise is named, it gets this error as its answer, where it waits.
+    pub fn reject(&mut self, promise: Option<u64>, kind: ErrorKind)
+        ensures made { self.new.made ≡ self.old.made }
+        ensures slots { seen slot_seen self.new.slots.entries
+            ≡ settled_to promise (Err kind) (seen slot_seen self.old.slots.entries) }
+        ensures places { (n : ℕ) → IsSome (at n self.old.slots.entries) → IsSome (at n self.new.slots.entries) }
+    {
+        match promise {
+            Some(number) => self.settle(number, Err(kind.into())),
+            None => drop(kind),
         }
     }
 

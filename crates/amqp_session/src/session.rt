@@ -8,13 +8,13 @@ mod answers;
 mod channel_methods;
 mod commands;
 mod connection_methods;
+mod dropping;
 mod frames;
 mod links;
 mod places;
 mod queries;
 mod writing;
 
-use crate::awaiting::Awaiting;
 use crate::capacity::Capacity;
 use crate::channels::Channels;
 use crate::command::Answer;
@@ -22,10 +22,10 @@ use crate::committed::Committed;
 use crate::configuration::Configuration;
 use crate::error::{self, ErrorKind};
 use crate::handed::Backlog;
-use crate::lanes::Lanes;
 use crate::promises::Promises;
 use crate::server_close::ServerClose;
 use crate::state::{ConnectionState, End, Input, Link, Phase};
+use amqp_outbox::Outbox;
 use amqp_types::NoMemory;
 use std::alloc::Global;
 use std::marker::Model;
@@ -41,9 +41,8 @@ pub struct Session {
     configuration: Configuration,
     capacity: Capacity,
     channels: Channels,
-    lanes: Lanes,
+    outbox: Outbox,
     committed: Committed,
-    awaiting: Awaiting,
     backlog: Backlog,
     promises: Promises,
     server_close: Option<ServerClose>,
@@ -56,7 +55,10 @@ impl Model for Session {
     ghost use Rattle.std.specs.Prelude.{◌≤◌, ◌+◌, IsTrue, length};
     ghost use Rattle.std.specs.VecDeque.{deque_capacity};
     ghost use Rattle.amqp_session.specs.Talk.{Talk};
-    ghost use Rattle.amqp_session.specs.Parts.{link_seen, seen, slot_seen, list_seen};
+    ghost use Rattle.amqp_outbox.specs.Order.{seen};
+    ghost use Rattle.amqp_outbox.specs.Parts.{queued};
+    ghost use Rattle.amqp_outbox.specs.Queued.{waiting_items};
+    ghost use Rattle.amqp_session.specs.Parts.{link_seen, slot_seen};
 
     ghost Value = { Talk };
 
@@ -74,9 +76,8 @@ impl Model for Session {
       capacity = s.capacity.octets;
       channels = s.channels.listed;
       cursor = s.channels.cursor;
-      control = s.lanes.control.items;
+      outbox = queued s.outbox;
       committed = s.committed.marks.items;
-      awaited = seen list_seen s.awaiting.lists.entries;
       handed = s.backlog;
       made = s.promises.made;
       promises = seen slot_seen s.promises.slots.entries;
@@ -88,18 +89,19 @@ impl Model for Session {
 
     ghost use Rattle.amqp_session.specs.Talk.{is_acting};
     ghost use Rattle.amqp_session.specs.Writing.{left_in};
-    ghost use Rattle.amqp_session.specs.Openings.{opened_until};
+    ghost use Rattle.amqp_session.specs.Channels.{opened_until};
     ghost use Rattle.amqp_session.specs.Sound.{fits_link, is_agreed, goes_on};
 
     // Each frame that will be committed has its place already, and what is unsent fits the capacity.
-    // The state has its link; what was agreed has room for a channel; and while the connection is
-    // being opened, and while it is open, frames act. The listed channels were opened by promises
-    // that were made.
-    ghost invariant = { λ s. (length s.committed.marks.items + length s.lanes.control.items ≤
+    // The state has its link; what was agreed has room for a channel, and for frames of at least
+    // 4,096 octets; and while the connection is being opened, and while it is open, frames act. The
+    // listed channels were opened by promises that were made.
+    ghost invariant = { λ s. (length s.committed.marks.items + length (waiting_items (queued s.outbox)) ≤
         deque_capacity s.committed.marks)
         × (left_in s.committed.marks.items ≤ s.capacity.octets)
         × IsTrue (fits_link s.state (link_seen s.server_close s.link))
         × (IsTrue (is_agreed s.state s.phase) → 1 ≤ s.configuration.channel_max)
+        × (IsTrue (is_agreed s.state s.phase) → 4096 ≤ s.configuration.frame_max)
         × (IsTrue (goes_on s.state) → IsTrue (is_acting s.input))
         × (opened_until s.channels.listed ≤ s.promises.made) };
 }
@@ -132,9 +134,8 @@ impl Session {
             },
             capacity: Capacity::initial(),
             channels: Channels::new(alloc),
-            lanes: Lanes::new(alloc),
+            outbox: Outbox::new(alloc),
             committed: Committed::new(alloc),
-            awaiting: Awaiting::new(alloc),
             backlog: Backlog::new(alloc),
             promises,
             server_close: None,

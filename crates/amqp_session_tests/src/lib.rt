@@ -11,6 +11,8 @@ mod channels;
 #[cfg(test)]
 mod closing;
 #[cfg(test)]
+mod creating;
+#[cfg(test)]
 mod ends;
 #[cfg(test)]
 mod handshake;
@@ -18,6 +20,8 @@ mod handshake;
 mod memory;
 #[cfg(test)]
 mod numbers;
+#[cfg(test)]
+mod publishing;
 #[cfg(test)]
 mod sending;
 #[cfg(test)]

@@ -58,6 +58,10 @@ pub enum Line {
     Send(ChanRef, &'static [u8], u64),
     /// Sends a method with so many octets of arguments; the promise.
     SendLong(ChanRef, usize, u64),
+    /// Publishes without a property a body of so many octets; the promise.
+    Publish(ChanRef, usize, u64),
+    /// Publishes so many octets of properties, and no body; the promise.
+    PublishLong(ChanRef, usize, u64),
 
     /// The connection stands so.
     IsIn(ConnectionState),
@@ -161,6 +165,12 @@ fn obeys(alloc: Global, session: &mut Session, line: Line) -> Outcome<bool> {
         Line::Send(channel, args, promise) => (send(alloc, session, channel, args)?, promise),
         Line::SendLong(channel, len, promise) => {
             (send_long(alloc, session, channel, len)?, promise)
+        }
+        Line::Publish(channel, body, promise) => {
+            (publish(alloc, session, channel, 2, body)?, promise)
+        }
+        Line::PublishLong(channel, properties, promise) => {
+            (publish(alloc, session, channel, properties, 0)?, promise)
         }
         _ => return shows(alloc, session, line),
     };

@@ -6,8 +6,8 @@
 use amqp_frame::{
     FixedRoom, Frame, RawKind, RawMethod, Read, encoded_len, read_frame, write_frame,
 };
-use amqp_session::{Answer, ChanRef, Cmd, Configuration, Error, Handed, Session};
-use amqp_types::ShortString;
+use amqp_session::{Answer, ChanRef, Cmd, Configuration, Error, Handed, Properties, Session};
+use amqp_types::{Payload, ShortString};
 use amqp_vectors::{CHANNEL_OPEN_OK_1, OPEN_OK, START, TUNE};
 use std::alloc::Global;
 use std::test::Fail;
@@ -189,6 +189,28 @@ pub fn send_long(
 ) -> Outcome<Option<u64>> {
     let args = vec![in alloc; 0u8; len]?;
     send(alloc, session, channel, &args)
+}
+
+fn zeros(alloc: Global, len: usize) -> Outcome<Payload> {
+    Ok(Payload::from_vec(vec![in alloc; 0u8; len]?))
+}
+
+/// Tells to publish with the method of class 60 and number 40 for the routing key `hello`, so many
+/// octets of properties, and a body of so many, all 0. It gives the promise.
+pub fn publish(
+    alloc: Global,
+    session: &mut Session,
+    channel: ChanRef,
+    properties: usize,
+    body: usize,
+) -> Outcome<Option<u64>> {
+    let body = zeros(alloc, body)?;
+    let Some(properties) = Properties::new(zeros(alloc, properties)?) else {
+        return Ok(None);
+    };
+    let method = RawMethod::new(alloc, 60, 40, b"\0\0\0\x05hello\0")?;
+    let command = Cmd::Publish(channel, method, properties, body);
+    Ok(tell(session, command))
 }
 
 /// Channel 1, as promise 1 opened it.

@@ -5,7 +5,6 @@ ghost use Rattle.amqp_session.specs.Talk.{is_open, is_asked};
 ghost use Rattle.amqp_session.specs.Changes.{starve};
 ghost use Rattle.amqp_session.specs.Links.{link_failed, lost};
 ghost use Rattle.amqp_session.specs.Commands.{command as command_rule};
-ghost use Rattle.amqp_session.specs.declared.capacity.TheConstants.{INITIAL_CAPACITY};
 ghost use Rattle.amqp_engine.specs.Engine.{Engine, rule_at, step_linked, step_piece, step_engine, can_read, read_one, settle, read_badly, read_row, is_more, starve_at};
 ghost use Rattle.amqp_engine.specs.Turn.{begun, is_part, is_piece, step_part, reading};
 ghost use Rattle.amqp_engine.specs.Making.{making, parts_of, is_command, is_whole, keeps_unread, IsSettled, joined, FewParts, Allows};
@@ -103,9 +102,9 @@ impl Wire {
         if self.session.linked(at).is_err() {
             return Err(NoMemory);
         }
-        self.unread.clear();
+        self.unread.reset();
         self.place = 0;
-        self.unsent.clear();
+        self.unsent.reset();
         Ok(1)
     }
 
@@ -162,7 +161,7 @@ impl Wire {
         self.settle();
         *parts = 1;
         // So few bytes are unread that the frames can be counted.
-        let _unread = self.unread.as_slice().len();
+        let _ = self.session.capacity();
         let mut joined = 0;
         'parts: loop {
             joined += self.join(&piece[joined..]);
@@ -181,12 +180,14 @@ impl Wire {
         ensures engine { self.new ≡ joined (take result bytes.now) self.old }
         ensures over { keeps_unread self.old.talk ≡ false → result ≡ length bytes.now }
         ensures some { can_read self.old ≡ false → 1 ≤ length bytes.now → 1 ≤ result }
-        ensures small { length self.new.unread ≤ INITIAL_CAPACITY }
+        ensures small { length self.new.unread < 2 ^ 32 }
     {
+        // Both buffers have the capacity, which is small.
+        let _ = self.session.capacity();
         if !self.session.is_open() || self.session.drops_input() {
             return bytes.len();
         }
-        self.unread.fill(bytes)
+        self.unread.write(bytes)
     }
 
     // Reads frames while there is one, and counts them as parts. It is the same whatever is still to
@@ -223,7 +224,8 @@ impl Wire {
         if !self.session.is_open() {
             return Ok(false);
         }
-        match read_frame(self.alloc, &self.unread, self.session.frame_limit() as u32) {
+        let received = self.unread.parsing_context();
+        match read_frame(self.alloc, &received, self.session.frame_limit() as u32) {
             Read::Whole(frame, n) => self.read_whole(at, frame, n),
             other => {
                 let found = self.read_other(at, &other);
@@ -245,7 +247,9 @@ impl Wire {
             drop(refused);
             return Err(NoMemory);
         }
-        self.unread.consume(n);
+        let rest = self.unread.parsing_context().take_from(n);
+        let read = self.unread.offset(rest);
+        self.unread.consume(read);
         self.place = self.place.saturating_add(n as u64);
         self.settle();
         Ok(true)
@@ -291,11 +295,11 @@ impl Wire {
         ensures { self.new ≡ settle self.old }
     {
         if !self.session.is_open() {
-            self.unread.clear();
+            self.unread.reset();
             self.place = 0;
-            self.unsent.clear();
+            self.unsent.reset();
         } else if self.session.drops_input() {
-            self.unread.clear();
+            self.unread.reset();
             self.place = 0;
         }
     }

@@ -75,11 +75,12 @@ impl Wire {
             return None;
         }
         self.commit_all();
-        let offered = self.unsent.as_slice().len();
+        let offered = self.unsent.available_data();
         if offered == 0 {
             return None;
         }
-        let answer = port.write(self.unsent.as_slice(), &[]);
+        let (first, second) = self.unsent.slices();
+        let answer = port.write(first, second);
         self.wrote(at, answer);
         Some(Offered {
             answer,

@@ -7,7 +7,6 @@ ghost use Rattle.amqp_session.specs.Channels.{channel_at};
 ghost use Rattle.amqp_session.specs.ChannelMethods.{heard_on, unawaited_channel_method, on_channel_open_ok, on_channel_close_ok, channel_rule, channel_method, is_select_ok, pass_through, raw_frame};
 
 use super::Session;
-use crate::awaiting::Reply;
 use crate::channels::Channel;
 use crate::command::Answer;
 use crate::error::ErrorKind;
@@ -15,6 +14,7 @@ use crate::handed::Handed;
 use crate::state::{ChannelState, ConnectionState};
 use crate::violations::unawaited;
 use amqp_frame::{Method, RawKind};
+use amqp_outbox::Reply;
 use amqp_types::{ChannelId, NoMemory, Payload};
 
 impl Session {
@@ -95,7 +95,7 @@ impl Session {
         ensures err { OnErr result (self.new ≡ self.old) }
         ensures idle { MakesNothing self.old (on_channel_open_ok id channel self.old) → IsOk result }
     {
-        let Some(awaited) = self.awaiting.answered(id, Reply::ChannelOpened) else {
+        let Some(promise) = self.outbox.answer(id, Reply::ChannelOpened) else {
             return self.unawaited_channel_method(id, channel.state, &Method::ChannelOpenOk);
         };
         let open = Channel {
@@ -104,7 +104,7 @@ impl Session {
         };
         self.channels.set(id, open);
         let answer = Answer::Channel(id, channel.opened);
-        self.give_to(awaited.promise, answer);
+        self.give_to(promise, answer);
         Ok(())
     }
 
@@ -114,11 +114,11 @@ impl Session {
         ensures err { OnErr result (self.new ≡ self.old) }
         ensures idle { MakesNothing self.old (on_channel_close_ok id channel self.old) → IsOk result }
     {
-        let Some(awaited) = self.awaiting.answered(id, Reply::ChannelClosed) else {
+        let Some(promise) = self.outbox.answer(id, Reply::ChannelClosed) else {
             return self.unawaited_channel_method(id, channel.state, &Method::ChannelCloseOk);
         };
         self.channels.remove(id);
-        self.give_to(awaited.promise, Answer::Done);
+        self.give_to(promise, Answer::Done);
         Ok(())
     }
 

@@ -1,22 +1,27 @@
 //! The commands.
 
-ghost use Rattle.std.specs.Prelude.{◌≡◌, Some, None, IfOk, IfErr, IfSome, OnOk, OnErr};
+ghost use Rattle.std.specs.Prelude.{◌≡◌, ◌<◌, ◌≤◌, ◌∷◌, length, map, Some, IfOk, IfErr, IfSome, IfNone, OnOk, OnErr};
+ghost use Rattle.amqp_frame.specs.Frames.{encoding};
+ghost use Rattle.amqp_frame.specs.Lengths.{capped};
 ghost use Rattle.amqp_types.specs.declared.word.Word.TheVariants as word;
 ghost use Rattle.amqp_session.specs.Channels.{channel_at};
-ghost use Rattle.amqp_session.specs.Changes.{await, next_promise, promise, queue, queue_item, refuse};
-ghost use Rattle.amqp_session.specs.Commands.{open_channel, open_as, named, target, close_channel, close_target, send, send_target, close_connection, command};
+ghost use Rattle.amqp_session.specs.Changes.{next_promise, refuse};
+ghost use Rattle.amqp_session.specs.Publishing.{body_pieces};
+ghost use Rattle.amqp_session.specs.Commands.{open_channel, open_as, named, target, close_channel, close_target, queue_send, send, send_target, body_limit, queue_publish, publish, publish_target, close_connection, command};
 
 use super::Session;
-use super::places::{reserve_promised, reserve_reply};
-use crate::awaiting::{Awaited, Reply};
-use crate::channels::{Channel, after, first_number};
+use super::dropping::{drop_groups, drop_groups_of};
+use super::places::{ask, reserve_group, reserve_promised, reserve_reply};
+use crate::channels::Channel;
 use crate::command::{ChanRef, Cmd};
 use crate::error::{self, ErrorKind};
 use crate::handshake::{channel_open, our_channel_close, our_close};
-use crate::lanes::Item;
+use crate::properties::Properties;
+use crate::publishing::{content_header, publish_frames};
 use crate::state::{ChannelState, ConnectionState};
 use amqp_frame::{Frame, RawKind, RawMethod, encoded_len};
-use amqp_types::{ChannelId, NoMemory, ReplyCode, ShortString, Word};
+use amqp_outbox::{Awaited, Group, Item, Reply};
+use amqp_types::{ChannelId, NoMemory, Payload, ReplyCode, ShortString, Word};
 
 impl Session {
     /// Does what it is told or refuses it, and gives the number of the promise that will be answered.
@@ -44,6 +49,9 @@ impl Session {
             Cmd::CloseChannel(channel, code, text) => self.close_named(channel, code, text),
             Cmd::CloseConnection(code, text) => self.close_connection(code, text),
             Cmd::Send(channel, method) => self.send_named(channel, method),
+            Cmd::Publish(channel, method, properties, body) => {
+                self.publish_named(channel, method, properties, body)
+            }
         }
     }
 
@@ -71,12 +79,11 @@ impl Session {
         ensures err { OnErr result (self.new ≡ self.old) }
     {
         let channel_max = self.configuration.channel_max;
-        let first = first_number(channel_max, self.channels.cursor());
-        match self.channels.draw(channel_max, first) {
+        match self.channels.next_free(channel_max) {
             Some(id) => self.open_as(id)?,
             None => {
                 self.refuse(ErrorKind::ChannelsLimitReached)?;
-                self.channels.set_cursor(after(channel_max, first));
+                self.channels.pass_over(channel_max);
             }
         }
         Ok(())
@@ -88,44 +95,27 @@ impl Session {
         ensures ok { OnOk result (self.new ≡ open_as id self.old) }
         ensures err { OnErr result (self.new ≡ self.old) }
     {
-        reserve_reply(
-            &mut self.lanes,
-            &mut self.committed,
-            &mut self.promises,
-            &mut self.awaiting,
-            id,
-        )?;
-        let number = self.promises.made();
-        self.channels.list(id, Channel::opened_by(number))?;
-        let cursor = after(self.configuration.channel_max, id);
-        self.channels.set_cursor(cursor);
-        self.lanes.push_reserved(Item::plain(id, channel_open(id)));
-        self.awaiting
-            .expect_reserved(id, Awaited::by(Reply::ChannelOpened, number));
-        self.promises.promise_reserved();
-        Ok(())
-    }
-
-    // A frame is queued, whose promise waits for the reply.
-    fn ask(&mut self, id: ChannelId, frame: Frame, reply: Reply) -> Result<(), NoMemory>
-        ensures ok { OnOk result (self.new ≡
-            promise (await id reply (Some (next_promise self.old)) (queue id frame self.old))) }
-        ensures err { OnErr result (self.new ≡ self.old) }
-    {
+        let item = Item::plain(id, channel_open(id));
         if let Err(refused) = reserve_reply(
-            &mut self.lanes,
+            &mut self.outbox,
             &mut self.committed,
             &mut self.promises,
-            &mut self.awaiting,
-            id,
+            &item,
+            Reply::ChannelOpened,
         ) {
-            drop(frame);
+            drop(item);
             return Err(refused);
         }
         let number = self.promises.made();
-        self.lanes.push_reserved(Item::plain(id, frame));
-        self.awaiting
-            .expect_reserved(id, Awaited::by(reply, number));
+        let channel = Channel::opened_by(number);
+        let channel_max = self.configuration.channel_max;
+        if let Err(refused) = self.channels.list_next(channel_max, id, channel) {
+            drop(item);
+            return Err(refused);
+        }
+        self.outbox.push_control_reserved(item);
+        self.outbox
+            .expect_reserved(id, Awaited::by(Reply::ChannelOpened, number));
         self.promises.promise_reserved();
         Ok(())
     }
@@ -174,12 +164,21 @@ impl Session {
         ensures ok { OnOk result (self.new ≡ close_channel id code text channel self.old) }
         ensures err { OnErr result (self.new ≡ self.old) }
     {
-        self.ask(id, our_channel_close(id, code, text), Reply::ChannelClosed)?;
+        let close = Item::plain(id, our_channel_close(id, code, text));
+        ask(
+            &mut self.outbox,
+            &mut self.committed,
+            &mut self.promises,
+            close,
+            Reply::ChannelClosed,
+        )?;
         let closing = Channel {
             state: ChannelState::Closing,
             ..channel
         };
         self.channels.set(id, closing);
+        drop_groups_of(&mut self.outbox, &mut self.promises, id);
+        self.promises.promise_reserved();
         Ok(())
     }
 
@@ -202,36 +201,132 @@ impl Session {
         ensures err { OnErr result (self.new ≡ self.old) }
     {
         let frame = Frame::Raw(id, RawKind::RawMethod, method.into_payload());
-        let size = encoded_len(&frame);
-        if size > self.capacity.octets() {
-            drop(frame);
-            return self.refuse(ErrorKind::SerialisationError(size));
+        match self.excess(&frame) {
+            Some(size) => {
+                drop(frame);
+                self.refuse(ErrorKind::SerialisationError(size))
+            }
+            None => self.queue_send(id, frame),
         }
-        self.queue_promised(id, frame)
+    }
+
+    // How many octets spell a frame, where it is longer than the capacity.
+    fn excess(&self, frame: &Frame) -> Option<u64>
+        ensures long { IfSome result (λ size. (size ≡ capped (length (encoding frame.now)))
+            × (self.now.capacity < length (encoding frame.now))) }
+        ensures fits { IfNone result (length (encoding frame.now) ≤ self.now.capacity) }
+    {
+        let size = encoded_len(frame);
+        if size > self.capacity.octets() {
+            Some(size)
+        } else {
+            None
+        }
     }
 
     // A frame is queued, whose promise waits until it is sent.
-    fn queue_promised(&mut self, id: ChannelId, frame: Frame) -> Result<(), NoMemory>
-        ensures ok { OnOk result (self.new ≡ promise (queue_item
-            (record { channel = id; frame = frame; promise = Some (next_promise self.old) }) self.old)) }
+    fn queue_send(&mut self, id: ChannelId, frame: Frame) -> Result<(), NoMemory>
+        ensures ok { OnOk result (self.new ≡ queue_send id frame self.old) }
         ensures err { OnErr result (self.new ≡ self.old) }
     {
-        let promise = Some(self.promises.made());
+        let item = Item::promised(id, frame, self.promises.made());
         if let Err(refused) = reserve_promised(
-            &mut self.lanes,
+            &mut self.outbox,
             &mut self.committed,
             &mut self.promises,
+            &item,
         ) {
-            drop(frame);
+            drop(item);
             return Err(refused);
         }
-        self.lanes.push_reserved(Item {
-            channel: id,
-            frame,
-            promise,
-        });
+        self.outbox.push_control_reserved(item);
         self.promises.promise_reserved();
         Ok(())
+    }
+
+    fn publish_named(
+        &mut self,
+        channel: ChanRef,
+        method: RawMethod,
+        properties: Properties,
+        body: Payload,
+    ) -> Result<(), NoMemory>
+        requires { self.old.state ≡ ConnectionState.Connected }
+        ensures ok { OnOk result (self.new ≡
+            publish_target (target channel word.Publish self.old) channel.id method properties body self.old) }
+        ensures err { OnErr result (self.new ≡ self.old) }
+    {
+        match self.target(channel, Word::Publish) {
+            Ok(_) => self.publish(channel.id, method, &properties, &body),
+            Err(kind) => {
+                drop(method);
+                self.refuse(kind)
+            }
+        }
+    }
+
+    // The method, its content header and its body, which is copied once, when it is cut.
+    fn publish(
+        &mut self,
+        id: ChannelId,
+        method: RawMethod,
+        properties: &Properties,
+        body: &Payload,
+    ) -> Result<(), NoMemory>
+        requires { self.old.state ≡ ConnectionState.Connected }
+        ensures ok { OnOk result (self.new ≡ publish id method properties.now body.now self.old) }
+        ensures err { OnErr result (self.new ≡ self.old) }
+    {
+        let head = content_header(self.alloc, method.class_id(), body.len(), properties)?;
+        let method = Frame::Raw(id, RawKind::RawMethod, method.into_payload());
+        let header = Frame::Raw(id, RawKind::Header, head);
+        match self.excess(&method).or(self.excess(&header)) {
+            Some(size) => {
+                drop(method);
+                drop(header);
+                self.refuse(ErrorKind::SerialisationError(size))
+            }
+            None => self.queue_publish(id, method, header, body.as_bytes()),
+        }
+    }
+
+    // The frames are queued as one group, whose promise waits until the last is sent.
+    fn queue_publish(
+        &mut self,
+        id: ChannelId,
+        method: Frame,
+        header: Frame,
+        body: &[u8],
+    ) -> Result<(), NoMemory>
+        requires { self.old.state ≡ ConnectionState.Connected }
+        ensures ok { OnOk result (self.new ≡ queue_publish id
+            (method ∷ header ∷ map (Frame.Raw id RawKind.Body) (body_pieces (body_limit self.old) body.now)) self.old) }
+        ensures err { OnErr result (self.new ≡ self.old) }
+    {
+        let limit = self.body_limit();
+        let frames = publish_frames(self.alloc, id, method, header, limit, body)?;
+        let group = Group::new(self.alloc, id, frames, self.promises.made())?;
+        if let Err(refused) = reserve_group(
+            &mut self.outbox,
+            &mut self.committed,
+            &mut self.promises,
+            &group,
+        ) {
+            drop(group);
+            return Err(refused);
+        }
+        self.outbox.push_group_reserved(group);
+        self.promises.promise_reserved();
+        Ok(())
+    }
+
+    // How many octets of a body one frame takes.
+    fn body_limit(&self) -> usize
+        requires { self.now.state ≡ ConnectionState.Connected }
+        ensures limit { result ≡ body_limit self.now }
+        ensures positive { 1 ≤ result }
+    {
+        self.frame_limit() as usize - 8
     }
 
     fn close_connection(&mut self, code: ReplyCode, text: ShortString) -> Result<(), NoMemory>
@@ -239,9 +334,18 @@ impl Session {
         ensures ok { OnOk result (self.new ≡ close_connection code text self.old) }
         ensures err { OnErr result (self.new ≡ self.old) }
     {
-        self.ask(0, our_close(code, text), Reply::ConnectionClosed)?;
+        let close = Item::plain(0, our_close(code, text));
+        ask(
+            &mut self.outbox,
+            &mut self.committed,
+            &mut self.promises,
+            close,
+            Reply::ConnectionClosed,
+        )?;
         self.channels.close_all();
         self.state = ConnectionState::Closing;
+        drop_groups(&mut self.outbox, &mut self.promises);
+        self.promises.promise_reserved();
         Ok(())
     }
 }

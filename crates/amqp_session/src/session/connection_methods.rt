@@ -2,23 +2,23 @@
 
 ghost use Rattle.std.specs.Prelude.{◌≡◌, IsTrue, IsOk, OnOk, OnErr};
 ghost use Rattle.amqp_session.specs.Talk.{is_open, acts};
+ghost use Rattle.amqp_session.specs.Changes.{queue};
 ghost use Rattle.amqp_session.specs.Memory.{MakesNothing};
 ghost use Rattle.amqp_session.specs.Sound.{is_agreed};
 ghost use Rattle.amqp_session.specs.ConnectionMethods.{on_start, on_tune, on_open_ok, on_connection_close, on_connection_close_ok, connection_rule};
 
 use super::Session;
-use super::places::reserve_frames;
-use crate::awaiting::Reply;
+use super::places::{reserve_both, reserve_item};
 use crate::command::Answer;
 use crate::configuration::{Configuration, tune};
 use crate::error::ErrorKind;
 use crate::handshake::{close_ok, open_vhost, start_ok, tune_ok};
-use crate::lanes::Item;
 use crate::state::ConnectionState::{Closing, Connected, Connecting};
 use crate::state::Input;
 use crate::state::Phase::{AwaitOpenOk, AwaitStart, AwaitTune};
 use crate::violations::closed_with;
-use amqp_frame::Method;
+use amqp_frame::{Frame, Method};
+use amqp_outbox::{Item, Reply};
 use amqp_types::{NoMemory, ReplyCode, ShortString};
 
 impl Session {
@@ -56,13 +56,26 @@ impl Session {
         }
     }
 
+    // A frame of channel 0 goes last in the control lane.
+    fn queue(&mut self, frame: Frame) -> Result<(), NoMemory>
+        ensures ok { OnOk result (self.new ≡ queue 0 frame self.old) }
+        ensures err { OnErr result (self.new ≡ self.old) }
+    {
+        let item = Item::plain(0, frame);
+        if let Err(refused) = reserve_item(&mut self.outbox, &mut self.committed, &item) {
+            drop(item);
+            return Err(refused);
+        }
+        self.outbox.push_control_reserved(item);
+        Ok(())
+    }
+
     fn on_start(&mut self) -> Result<(), NoMemory>
         ensures ok { OnOk result (self.new ≡ on_start self.old) }
         ensures err { OnErr result (self.new ≡ self.old) }
     {
-        reserve_frames(&mut self.lanes, &mut self.committed, 1)?;
         let frame = start_ok(self.alloc)?;
-        self.lanes.push_reserved(Item::plain(0, frame));
+        self.queue(frame)?;
         self.phase = AwaitTune;
         Ok(())
     }
@@ -72,10 +85,15 @@ impl Session {
         ensures err { OnErr result (self.new ≡ self.old) }
     {
         let agreed = tune(self.configuration, server);
-        reserve_frames(&mut self.lanes, &mut self.committed, 2)?;
-        let open = open_vhost(self.alloc)?;
-        self.lanes.push_reserved(Item::plain(0, tune_ok(agreed)));
-        self.lanes.push_reserved(Item::plain(0, open));
+        let open = Item::plain(0, open_vhost(self.alloc)?);
+        let tune_ok = Item::plain(0, tune_ok(agreed));
+        if let Err(refused) = reserve_both(&mut self.outbox, &mut self.committed, &tune_ok, &open) {
+            drop(tune_ok);
+            drop(open);
+            return Err(refused);
+        }
+        self.outbox.push_control_reserved(tune_ok);
+        self.outbox.push_control_reserved(open);
         self.configuration = agreed;
         self.phase = AwaitOpenOk;
         Ok(())
@@ -94,11 +112,10 @@ impl Session {
         ensures ok { OnOk result (self.new ≡ on_connection_close code text self.old) }
         ensures err { OnErr result (self.new ≡ self.old) }
     {
-        reserve_frames(&mut self.lanes, &mut self.committed, 1)?;
+        self.committed.reserve(1)?;
         let told = closed_with(code, text)?;
+        self.outbox.restart(Item::plain(0, close_ok()))?;
         self.server_close = Some(told);
-        self.lanes.restart_reserved(Item::plain(0, close_ok()));
-        self.awaiting.clear();
         let crossed = self.state == Closing;
         self.input = Input::Closed { crossed };
         self.state = Closing;
@@ -108,8 +125,8 @@ impl Session {
     fn on_connection_close_ok(&mut self)
         ensures { self.new ≡ on_connection_close_ok self.old }
     {
-        if let Some(awaited) = self.awaiting.answered(0, Reply::ConnectionClosed) {
-            self.give_to(awaited.promise, Answer::Done);
+        if let Some(promise) = self.outbox.answer(0, Reply::ConnectionClosed) {
+            self.give_to(promise, Answer::Done);
         }
         self.close();
     }

@@ -8,14 +8,13 @@ ghost use Rattle.amqp_session.specs.declared.misread.Misread.{Misread};
 ghost use Rattle.amqp_session.specs.Links.{asked, linked, link_failed, piece, misread, lost};
 
 use super::Session;
-use super::places::reserve_frames;
 use crate::error::{self, ErrorKind};
 use crate::handshake::protocol_header;
 use crate::io_fault::IoFault;
-use crate::lanes::Item;
 use crate::misread::Misread;
 use crate::state::{ConnectionState, Input, Link, Phase};
 use crate::violations::misread_error;
+use amqp_outbox::Item;
 use amqp_types::NoMemory;
 
 impl Session {
@@ -50,9 +49,8 @@ impl Session {
         ensures ok { OnOk result (self.new ≡ linked self.old) }
         ensures err { OnErr result (self.new ≡ self.old) }
     {
-        reserve_frames(&mut self.lanes, &mut self.committed, 1)?;
-        self.lanes
-            .restart_reserved(Item::plain(0, protocol_header()));
+        self.committed.reserve(1)?;
+        self.outbox.restart(Item::plain(0, protocol_header()))?;
         self.committed.clear();
         self.state = ConnectionState::Connecting;
         self.phase = Phase::AwaitStart;

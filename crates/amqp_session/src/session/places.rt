@@ -1,76 +1,190 @@
 //! The places for what a rule adds, which are all made before anything is changed.
 
-ghost use Rattle.std.specs.Prelude.{◌≡◌, ◌+◌, ◌<◌, ◌≤◌, ◌^◌, IsSome, length, OnOk};
+ghost use Rattle.std.specs.Prelude.{◌≡◌, ◌+◌, ◌<◌, ◌≤◌, ◌^◌, Some, IfOk, IsSome, length, OnOk, OnErr};
 ghost use Rattle.std.specs.VecDeque.{deque_capacity};
+ghost use Rattle.amqp_outbox.specs.Items.{dropped_with, size_of};
+ghost use Rattle.amqp_outbox.specs.Order.{seen};
+ghost use Rattle.amqp_outbox.specs.Parts.{queued, HasControlPlaces, HasGroupPlace, HasReplyPlace};
+ghost use Rattle.amqp_outbox.specs.Queued.{waiting_items, pushed_control, expected};
 ghost use Rattle.amqp_session.specs.Listed.{at};
-ghost use Rattle.amqp_session.specs.Parts.{seen, slot_seen, list_seen, HasPlace};
+ghost use Rattle.amqp_session.specs.Parts.{slot_seen};
 
-use crate::awaiting::Awaiting;
 use crate::committed::Committed;
-use crate::lanes::Lanes;
 use crate::promises::Promises;
+use amqp_outbox::{Awaited, Group, Item, Outbox, Reply};
 use amqp_types::{ChannelId, NoMemory};
 
-/// Makes places for so many frames more, until they are sent.
+/// Makes places for so many frames more, which together are so many octets, until they are sent.
 pub fn reserve_frames(
-    lanes: &mut Lanes,
+    outbox: &mut Outbox,
     committed: &mut Committed,
+    dropped_with: Option<ChannelId>,
     frames: usize,
+    octets: u64,
 ) -> Result<(), NoMemory>
-    requires { frames ≤ 2 }
-    ensures items { lanes.new.control.items ≡ lanes.old.control.items }
+    ensures same { queued outbox.new ≡ queued outbox.old }
     ensures marks { committed.new.marks.items ≡ committed.old.marks.items }
     ensures kept { deque_capacity committed.old.marks ≤ deque_capacity committed.new.marks }
-    ensures lane { OnOk result (length lanes.old.control.items + frames ≤ deque_capacity lanes.new.control) }
-    ensures places { OnOk result (length committed.old.marks.items + (length lanes.old.control.items + frames)
+    ensures lane { OnOk result (HasControlPlaces dropped_with frames octets outbox.new) }
+    ensures places { OnOk result
+        (length committed.old.marks.items + (length (waiting_items (queued outbox.old)) + frames)
         ≤ deque_capacity committed.new.marks) }
 {
-    committed.reserve(lanes.len() + frames)?;
-    lanes.reserve(frames)
+    outbox.reserve_control(dropped_with, frames, octets)?;
+    committed.reserve(outbox.len() as usize + frames)
 }
 
-/// Makes places for a frame and a promise more.
-pub fn reserve_promised(
-    lanes: &mut Lanes,
+/// Makes places for these two frames, until they are sent.
+pub fn reserve_both(
+    outbox: &mut Outbox,
     committed: &mut Committed,
-    promises: &mut Promises,
+    first: &Item,
+    second: &Item,
 ) -> Result<(), NoMemory>
-    ensures items { lanes.new.control.items ≡ lanes.old.control.items }
+    ensures same { queued outbox.new ≡ queued outbox.old }
     ensures marks { committed.new.marks.items ≡ committed.old.marks.items }
     ensures kept { deque_capacity committed.old.marks ≤ deque_capacity committed.new.marks }
-    ensures lane { OnOk result (length lanes.old.control.items + 1 ≤ deque_capacity lanes.new.control) }
-    ensures places { OnOk result (length committed.old.marks.items + (length lanes.old.control.items + 1)
+    ensures lane { OnOk result
+        (HasControlPlaces (dropped_with first.now) 2 (size_of first.now + size_of second.now) outbox.new) }
+    ensures places { OnOk result
+        (length committed.old.marks.items + (length (waiting_items (queued outbox.old)) + 2)
+        ≤ deque_capacity committed.new.marks) }
+{
+    let octets = octets_of_both(first, second)?;
+    reserve_frames(outbox, committed, first.dropped_with(), 2, octets)
+}
+
+/// Makes a place for this frame, until it is sent.
+pub fn reserve_item(
+    outbox: &mut Outbox,
+    committed: &mut Committed,
+    item: &Item,
+) -> Result<(), NoMemory>
+    ensures same { queued outbox.new ≡ queued outbox.old }
+    ensures marks { committed.new.marks.items ≡ committed.old.marks.items }
+    ensures kept { deque_capacity committed.old.marks ≤ deque_capacity committed.new.marks }
+    ensures lane { OnOk result (HasControlPlaces (dropped_with item.now) 1 (size_of item.now) outbox.new) }
+    ensures places { OnOk result
+        (length committed.old.marks.items + (length (waiting_items (queued outbox.old)) + 1)
+        ≤ deque_capacity committed.new.marks) }
+{
+    let octets = item.octets()?;
+    reserve_frames(outbox, committed, item.dropped_with(), 1, octets)
+}
+
+/// Makes places for this frame and for a promise more.
+pub fn reserve_promised(
+    outbox: &mut Outbox,
+    committed: &mut Committed,
+    promises: &mut Promises,
+    item: &Item,
+) -> Result<(), NoMemory>
+    ensures same { queued outbox.new ≡ queued outbox.old }
+    ensures marks { committed.new.marks.items ≡ committed.old.marks.items }
+    ensures kept { deque_capacity committed.old.marks ≤ deque_capacity committed.new.marks }
+    ensures lane { OnOk result (HasControlPlaces (dropped_with item.now) 1 (size_of item.now) outbox.new) }
+    ensures places { OnOk result
+        (length committed.old.marks.items + (length (waiting_items (queued outbox.old)) + 1)
         ≤ deque_capacity committed.new.marks) }
     ensures made { promises.new.made ≡ promises.old.made }
     ensures slots { seen slot_seen promises.new.slots.entries ≡ seen slot_seen promises.old.slots.entries }
     ensures place { OnOk result (IsSome (at promises.new.made promises.new.slots.entries)) }
     ensures count { OnOk result (promises.new.made + 1 < 2 ^ 64) }
 {
-    reserve_frames(lanes, committed, 1)?;
+    reserve_item(outbox, committed, item)?;
     promises.reserve()
 }
 
-/// Makes places for a frame, a promise and a reply on a channel more.
+/// Makes places for this frame, for a promise more, and for one more that awaits this reply on the
+/// frame's channel.
 pub fn reserve_reply(
-    lanes: &mut Lanes,
+    outbox: &mut Outbox,
     committed: &mut Committed,
     promises: &mut Promises,
-    awaiting: &mut Awaiting,
-    channel: ChannelId,
+    item: &Item,
+    reply: Reply,
 ) -> Result<(), NoMemory>
-    ensures items { lanes.new.control.items ≡ lanes.old.control.items }
+    ensures same { queued outbox.new ≡ queued outbox.old }
     ensures marks { committed.new.marks.items ≡ committed.old.marks.items }
     ensures kept { deque_capacity committed.old.marks ≤ deque_capacity committed.new.marks }
-    ensures lane { OnOk result (length lanes.old.control.items + 1 ≤ deque_capacity lanes.new.control) }
-    ensures places { OnOk result (length committed.old.marks.items + (length lanes.old.control.items + 1)
+    ensures lane { OnOk result (HasControlPlaces (dropped_with item.now) 1 (size_of item.now) outbox.new) }
+    ensures reply { OnOk result (HasReplyPlace item.now.channel reply outbox.new) }
+    ensures places { OnOk result
+        (length committed.old.marks.items + (length (waiting_items (queued outbox.old)) + 1)
         ≤ deque_capacity committed.new.marks) }
     ensures made { promises.new.made ≡ promises.old.made }
     ensures slots { seen slot_seen promises.new.slots.entries ≡ seen slot_seen promises.old.slots.entries }
     ensures place { OnOk result (IsSome (at promises.new.made promises.new.slots.entries)) }
     ensures count { OnOk result (promises.new.made + 1 < 2 ^ 64) }
-    ensures awaited { seen list_seen awaiting.new.lists.entries ≡ seen list_seen awaiting.old.lists.entries }
-    ensures reply { OnOk result (HasPlace channel awaiting.new.lists.entries) }
 {
-    reserve_promised(lanes, committed, promises)?;
-    awaiting.reserve(channel)
+    reserve_promised(outbox, committed, promises, item)?;
+    outbox.reserve_reply(item.channel, reply)
+}
+
+/// A frame goes last in the control lane, and this reply to it is awaited for the promise that is made
+/// next, which has its place.
+pub fn ask(
+    outbox: &mut Outbox,
+    committed: &mut Committed,
+    promises: &mut Promises,
+    item: Item,
+    reply: Reply,
+) -> Result<(), NoMemory>
+    ensures said { OnOk result (queued outbox.new
+        ≡ expected item.channel (record { reply = reply; promise = Some promises.old.made })
+        (pushed_control item (queued outbox.old))) }
+    ensures same { OnErr result (queued outbox.new ≡ queued outbox.old) }
+    ensures marks { committed.new.marks.items ≡ committed.old.marks.items }
+    ensures kept { deque_capacity committed.old.marks ≤ deque_capacity committed.new.marks }
+    ensures places { OnOk result
+        (length committed.old.marks.items + (length (waiting_items (queued outbox.old)) + 1)
+        ≤ deque_capacity committed.new.marks) }
+    ensures made { promises.new.made ≡ promises.old.made }
+    ensures slots { seen slot_seen promises.new.slots.entries ≡ seen slot_seen promises.old.slots.entries }
+    ensures place { OnOk result (IsSome (at promises.new.made promises.new.slots.entries)) }
+    ensures count { OnOk result (promises.new.made + 1 < 2 ^ 64) }
+{
+    if let Err(refused) = reserve_reply(outbox, committed, promises, &item, reply) {
+        drop(item);
+        return Err(refused);
+    }
+    let channel = item.channel;
+    let number = promises.made();
+    outbox.push_control_reserved(item);
+    outbox.expect_reserved(channel, Awaited::by(reply, number));
+    Ok(())
+}
+
+/// Makes places for this group, until it is sent, and for a promise more.
+pub fn reserve_group(
+    outbox: &mut Outbox,
+    committed: &mut Committed,
+    promises: &mut Promises,
+    group: &Group,
+) -> Result<(), NoMemory>
+    ensures same { queued outbox.new ≡ queued outbox.old }
+    ensures marks { committed.new.marks.items ≡ committed.old.marks.items }
+    ensures kept { deque_capacity committed.old.marks ≤ deque_capacity committed.new.marks }
+    ensures lane { OnOk result (HasGroupPlace group.now outbox.new) }
+    ensures places { OnOk result
+        (length committed.old.marks.items + (length (waiting_items (queued outbox.old)) + length group.now)
+        ≤ deque_capacity committed.new.marks) }
+    ensures made { promises.new.made ≡ promises.old.made }
+    ensures slots { seen slot_seen promises.new.slots.entries ≡ seen slot_seen promises.old.slots.entries }
+    ensures place { OnOk result (IsSome (at promises.new.made promises.new.slots.entries)) }
+    ensures count { OnOk result (promises.new.made + 1 < 2 ^ 64) }
+{
+    outbox.reserve_group(group)?;
+    committed.reserve((outbox.len() + group.len()) as usize)?;
+    promises.reserve()
+}
+
+// How many octets spell two frames, where 64 bits can count them.
+fn octets_of_both(first: &Item, second: &Item) -> Result<u64, NoMemory>
+    ensures { IfOk result (λ n. n ≡ size_of first.now + size_of second.now) }
+{
+    first
+        .octets()?
+        .checked_add(second.octets()?)
+        .ok_or(NoMemory)
 }

@@ -3,7 +3,7 @@
 ghost use Rattle.std.specs.Prelude.{◌≡◌, ◌<◌, ◌≤◌, ◌^◌, IsTrue, length};
 ghost use Rattle.amqp_session.specs.Talk.{wants_link, is_asked, is_open, acts, has_ended, end_of, drops_input};
 ghost use Rattle.amqp_session.specs.Changes.{next_promise};
-ghost use Rattle.amqp_session.specs.Negotiation.{frame_limit};
+ghost use Rattle.amqp_session.specs.Negotiation.{frame_limit, frame_min_size};
 ghost use Rattle.amqp_session.specs.Writing.{frames_waiting, unsent};
 ghost use Rattle.amqp_session.specs.Answers.{HandsOut};
 ghost use Rattle.amqp_session.specs.Sound.{goes_on, is_agreed};
@@ -39,6 +39,7 @@ impl Session {
     pub fn frame_limit(&self) -> u64
         ensures octets { result ≡ frame_limit self.now }
         ensures small { result < 2 ^ 32 }
+        ensures least { IsTrue (is_agreed self.now.state self.now.phase) → frame_min_size ≤ result }
     {
         match self.configuration.frame_max {
             0 => self.capacity.octets(),
@@ -111,7 +112,7 @@ impl Session {
         ensures frames { result ≡ frames_waiting self.now }
         ensures small { result < 2 ^ 63 }
     {
-        self.lanes.len() as u64
+        self.outbox.len()
     }
 
     /// How many bytes can be unsent.

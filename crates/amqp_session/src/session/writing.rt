@@ -1,7 +1,7 @@
 //! The frames that are written.
 
 ghost use Rattle.std.specs.Prelude.{◌≡◌, ◌+◌, ◌≤◌, option_map};
-ghost use Rattle.amqp_session.specs.declared.lanes.Item.{Item};
+ghost use Rattle.amqp_outbox.specs.declared.item.Item.{Item};
 ghost use Rattle.amqp_session.specs.Changes.{present_at};
 ghost use Rattle.amqp_session.specs.Writing.{next_within, commit, unsent, follow, taken};
 ghost use Rattle.amqp_session.specs.Parts.{first_sent, after_sent};
@@ -9,8 +9,8 @@ ghost use Rattle.amqp_session.specs.Parts.{first_sent, after_sent};
 use super::Session;
 use crate::command::Answer;
 use crate::committed::{Mark, Then};
-use crate::lanes::Item;
 use amqp_frame::Frame;
+use amqp_outbox::Item;
 
 impl Session {
     /// Commits the next frame, where it is at most so many bytes long. It takes no memory.
@@ -24,13 +24,14 @@ impl Session {
         }
         // The space is within a capacity, which is small.
         let _ = self.capacity.octets();
-        let mark = self.lanes.front()?.mark_within(space)?;
+        let flow = self.channels.flows();
+        let mark = Mark::of_item(self.outbox.front(flow)?, space)?;
         self.committed.push(mark);
         let Item {
             channel: _,
             frame,
             promise: _,
-        } = self.lanes.next()?;
+        } = self.outbox.next(flow)?;
         Some(frame)
     }
 

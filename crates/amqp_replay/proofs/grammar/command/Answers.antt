@@ -9,7 +9,7 @@ returns-then-is-2 c =
     let free = limited-close_line c.args.left (option_copied c.args.rest) in
     grind (arith, common_steps)
 
-pub returns-then-is-4 : goal.returns-then-is-4
-returns-then-is-4 c =
+pub returns-then-is-5 : goal.returns-then-is-5
+returns-then-is-5 c =
     let free = limited-shut_line c.args.left (option_copied c.args.rest) in
     grind (arith, common_steps)

@@ -1,3 +1,4 @@
+use Rattle.amqp_outbox.specs.Queued.{waiting_items}
 use Rattle.amqp_session.specs.Sound.{following}
 use Rattle.amqp_session.proofs.Counting.{unsent-taken}
 use Rattle.amqp_session.proofs.Finishing.{finishes-last, open-taken}
@@ -9,4 +10,4 @@ returns-clause-taken c = unsent-taken
 pub returns-clause-sound : goal.returns-clause-sound
 returns-clause-sound c =
     λ n t sound opened within.
-    open-taken n t opened (finishes-last t.input (following t.committed t.control) sound.finish) within
+    open-taken n t opened (finishes-last t.input (following t.committed (waiting_items t.outbox)) sound.finish) within

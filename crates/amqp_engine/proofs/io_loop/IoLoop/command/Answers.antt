@@ -10,7 +10,14 @@ use Rattle.amqp_engine.specs.Engine.{Engine, with_talk}
 use Rattle.amqp_engine.specs.Turn.{IsToldCommand}
 use Rattle.amqp_engine.specs.Sending.{Sending}
 use Rattle.amqp_engine.specs.Saying.{HasSent, TellsLinks, told}
+use Rattle.amqp_engine.proofs.Obeying.{obeyed-read}
 use Rattle.amqp_engine.proofs.io_loop.IoLoop.command.Goals as goal
+
+pub invariant_of-self : goal.invariant_of-self
+invariant_of-self c = (
+  c.self.invariant.0,
+  obeyed-read c.command.result c.args.command c.self.inside.wire c.command.new.self c.command.ensures.ok c.command.ensures.err c.self.invariant.1,
+)
 
 -- it was told, or nothing changed
 told-or-not : {A E : Type 0} (r : Result A E) (c : Cmd) (e e' : Engine) (ss : List Sending) → IsToldCommand c → OnOk r (e' ≡ with_talk (command c) e) → OnErr r (e' ≡ e)

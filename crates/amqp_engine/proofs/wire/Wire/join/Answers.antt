@@ -11,6 +11,6 @@ returns-clause-some c none some =
     let e = c.args.self.now in
     let t = c.self.inside.session in
     let kept : keeps_unread t ≡ true = and-true (is_open t) (not (drops_input t)) (sym c.if-not-is_open.ensures) (ap not (sym c.if-drops_input.ensures)) in
-    let room = has-room e (ap (λ (x : Engine). x.talk.capacity) (sym c.self.view_is) ∙ c.self.invariant.1)
-    (ap (λ (x : Engine). keeps_unread x.talk) (sym c.self.view_is) ∙ kept) none in
-    omega (arith, room, ap (λ (x : Engine). length x.unread) c.self.view_is, c.fill.ensures.count, some)
+    let capacity = ap (λ (x : Engine). x.talk.capacity) c.self.view_is in
+    let room = has-room e (omega (arith, capacity, c.self.invariant.3)) (ap (λ (x : Engine). keeps_unread x.talk) (sym c.self.view_is) ∙ kept) none in
+    omega (arith, room, ap (λ (x : Engine). length x.unread) c.self.view_is, capacity, c.self.invariant.1, c.write.ensures.count, some)

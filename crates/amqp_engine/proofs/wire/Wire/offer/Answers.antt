@@ -9,9 +9,9 @@ use Rattle.amqp_engine.proofs.wire.Wire.offer.Goals as goal
 pub returns-then-offered-eq0-clause-none : goal.returns-then-offered-eq0-clause-none
 returns-then-offered-eq0-clause-none g c =
     let e = c.args.self.now in
-    let after : length c.self-2.inside.unsent ≡ length (commit_all e).unsent =
+    let after : length c.self-2.inside.unsent.kept ≡ length (commit_all e).unsent =
     ap (λ (x : Engine). length x.unsent) (c.self-2.view_is ∙ c.commit_all.ensures) in
-    let empty : length c.self-2.inside.unsent ≡ 0 = omega (arith, ap length c.as_slice-offered.ensures) in
+    let empty : length c.self-2.inside.unsent.kept ≡ 0 = omega (arith, c.available_data-offered.ensures) in
     let none : length (commit_all e).unsent ≡ 0 = sym after ∙ empty in
     (none-unsent (is_open e.talk) (length (commit_all e).unsent) none, c.commit_all.ensures ∙ commits-none (frames_waiting e.talk) e none, refl)
 

@@ -1,4 +1,4 @@
-use Rattle.std.proofs.Common.{◌≡◌, ◌≢◌, ℕ, not, ◌&&◌, if◌then◌else◌, Bool, true, false, Result, Ok, Err, IfOk, OnOk, refl, ap, sym, ◌∙◌, subst}
+use Rattle.std.proofs.Common.{◌≡◌, ◌≢◌, ℕ, List, not, ◌&&◌, if◌then◌else◌, Bool, true, false, Result, Ok, Err, IfOk, OnOk, refl, ap, sym, ◌∙◌, subst}
 use Rattle.amqp_types.specs.declared.memory.NoMemory.{NoMemory as Refused}
 use Rattle.amqp_frame.specs.declared.frame.Frame.{Frame}
 use Rattle.amqp_frame.specs.declared.frame.Read.{Read}
@@ -47,7 +47,9 @@ found c =
     let read = c.read_frame.result in
     let opened : is_open e.talk ≡ true = ap (λ (x : Engine). is_open x.talk) (sym c.self.view_is) ∙ sym c.is_open.ensures ∙ c.if-not-is_open.false in
     let P : Read → Type 0 = λ x. Yields read x in
-    let exact : Yields read (front_of e) = subst P (ap (front c.self.inside.unread) c.frame_limit.ensures.octets ∙ ap front_of c.self.view_is) c.read_frame.ensures.exact in
+    let exact : Yields read (front_of e) = subst P
+    (ap (λ (bytes : List ℕ). front bytes c.frame_limit.result) c.parsing_context-received.ensures ∙ ap (front c.self.inside.unread.kept) c.frame_limit.ensures.octets ∙ ap front_of c.self.view_is)
+    c.read_frame.ensures.exact in
     other-reads c.args.at c.read_other-found.result e c.read_other-found.new.self read opened c.read_other-found.ensures.some c.read_other-found.ensures.ok
     c.read_other-found.ensures.held (not-whole read c.in_default.not-Whole) exact
 

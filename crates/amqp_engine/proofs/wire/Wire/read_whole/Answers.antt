@@ -17,4 +17,6 @@ invariant_of-self-2 c =
     let capacity = (keeps-frame c.args.frame c.self.inside.place x).capacity in (
       λ now. grind (arith, common_steps, kept, counted),
       grind (arith, common_steps, capacity, moment, c.self.invariant.1),
+      grind (arith, common_steps, capacity, moment, c.self.invariant.2),
+      grind (arith, common_steps, capacity, moment, c.self.invariant.3),
     )

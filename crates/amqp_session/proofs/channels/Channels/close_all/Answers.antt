@@ -2,15 +2,17 @@ use Rattle.std.proofs.Common.{rules, ap, sym, refl, ◌∙◌, ℕ, List}
 use Rattle.std.proofs.lemmas.Map.Made.{map_same_pairs}
 use Rattle.amqp_session.specs.Listed.{has, map_values}
 use Rattle.amqp_session.specs.declared.channels.Channel.{Channel}
-use Rattle.amqp_session.specs.Channels.{Listing, closing}
-use Rattle.amqp_session.specs.Openings.{opener, opened_until}
+use Rattle.amqp_session.specs.Channels.{Listing, closing, opened_until}
+use Rattle.amqp_session.specs.Stopped.{count_stopped}
+use Rattle.amqp_session.specs.Openings.{opener}
+use Rattle.amqp_session.proofs.Flowing.{stopped-closing}
 use Rattle.amqp_session.proofs.Maps.{has-map_values}
 use Rattle.amqp_session.proofs.Openings.{indexes-kept, opener-closing, until-closing}
 use Rattle.amqp_session.proofs.channels.Channels.close_all.Goals as goal
 
 pub returns-clause-all : goal.returns-clause-all
 returns-clause-all c =
-    let as_listing : List (ℕ × Channel) → Listing = λ es. record { listed = es; cursor = c.self.inside.cursor } in
+    let as_listing : List (ℕ × Channel) → Listing = λ es. record { listed = es; cursor = c.self.inside.sequence.cursor } in
     ap as_listing (map_same_pairs _ closing _ (λ k v b w f' t. search rules) _ _ c.retain.ensures.filtered)
     ∙ ap (λ (l : Listing). record l { listed = map_values closing l.listed }) c.self.view_is
 
@@ -29,4 +31,8 @@ invariant_of-self c =
       indexes-kept c.self.inside.openings.entries c.self.inside.openings.entries listed _ c.self.invariant.1 (λ q. refl)
           (λ n. ap (opener n) (map_same_pairs _ closing _ (λ k v b w f' t. search rules) _ _ c.retain.ensures.filtered) ∙ opener-closing listed n),
       c.self.invariant.2,
+      c.self.invariant.3
+          ∙ sym (stopped-closing listed)
+          ∙ ap count_stopped (sym (map_same_pairs _ closing _ (λ k v b w f' t. search rules) _ _ c.retain.ensures.filtered)),
+      c.self.invariant.4,
     )

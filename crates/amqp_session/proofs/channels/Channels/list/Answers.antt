@@ -1,8 +1,10 @@
 use Rattle.std.proofs.Common.{◌≡◌, ◌∙◌, ◌≢◌, ◌≤◌, ◌+◌, ap, sym, ℕ, None, Some, arith}
 use Rattle.amqp_session.specs.Listed.{at, put, has}
-use Rattle.amqp_session.specs.Channels.{Listing}
+use Rattle.amqp_session.specs.Channels.{Listing, opened_until}
+use Rattle.amqp_session.specs.Stopped.{count_stopped}
 use Rattle.amqp_session.specs.NumberSet.{is_member}
-use Rattle.amqp_session.specs.Openings.{opener, opened_until}
+use Rattle.amqp_session.specs.Openings.{opener}
+use Rattle.amqp_session.proofs.Flowing.{stopped-listed, stopped-within, at-most-one}
 use Rattle.amqp_session.proofs.Openings.{members-changed, up-to-more, indexes-kept, indexes-listed, undone, unopened, until-put}
 use Rattle.amqp_session.proofs.channels.Channels.list.Goals as goal
 
@@ -19,7 +21,15 @@ invariant_of-self-in-Err c =
           (undone opened c.args.id openings c.insert.new.self.entries c.remove.new.self.entries none c.in_ok-insert.ensures.updates.0 c.remove.ensures.updates.0)
           (λ n. ap (opener n) same),
       λ n low high. c.in_ok-reserve.ensures.members n ∙ c.self.invariant.2 n low high,
+      c.self.invariant.3 ∙ ap count_stopped (sym same),
+      c.self.invariant.4,
     )
+
+pub overflow_add-self : goal.overflow_add-self
+overflow_add-self c =
+    let within = stopped-within c.self.inside.listed.entries in
+    let one = at-most-one c.args.channel in
+    omega (arith, c.stops.ensures, c.self.invariant.3, within, one, c.len.ensures.len, c.len.ensures.small)
 
 pub invariant_of-self-2 : goal.invariant_of-self-2
 invariant_of-self-2 c =
@@ -35,6 +45,8 @@ invariant_of-self-2 c =
       members-changed words c.insert-3.new.self id others listed c.insert-2.new.self.entries (Some channel) c.self.invariant.0 c.insert-3.ensures.added c.in_default.ensures.updates.0,
       indexes-listed openings c.insert.new.self.entries listed c.insert-2.new.self.entries id channel c.self.invariant.1 none unlisted c.in_ok-insert.ensures.updates.0 c.in_default.ensures.updates.0,
       up-to-more words c.insert-3.new.self id others c.self.inside.full c.insert-3.ensures.added c.self.invariant.2,
+      omega (arith, c.stops.ensures, c.self.invariant.3, stopped-listed id listed channel c.len.ensures.ordered unlisted, ap count_stopped c.in_default.ensures.entries),
+      c.self.invariant.4,
     )
 
 pub returns-clause-until : goal.returns-clause-until

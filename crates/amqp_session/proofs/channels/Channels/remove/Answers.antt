@@ -1,7 +1,8 @@
 use Rattle.std.proofs.Common.{◌≡◌, ap, sym, None, arith}
 use Rattle.amqp_session.specs.Listed.{without}
-use Rattle.amqp_session.specs.Channels.{Listing}
-use Rattle.amqp_session.specs.Openings.{opened_until}
+use Rattle.amqp_session.specs.Channels.{Listing, opened_until}
+use Rattle.amqp_session.specs.Stopped.{count_stopped}
+use Rattle.amqp_session.proofs.Flowing.{stopped-without}
 use Rattle.amqp_session.proofs.Openings.{members-changed, indexes-removed, until-without}
 use Rattle.amqp_session.proofs.channels.Channels.remove.Goals as goal
 
@@ -13,6 +14,11 @@ returns-in-Some-clause-until c =
     let old : opened_until es ≡ opened_until c.args.self.now.listed = ap (λ (l : Listing). opened_until l.listed) c.self.view_is in
     omega (arith, is, less, old)
 
+pub overflow_sub-self : goal.overflow_sub-self
+overflow_sub-self c =
+    let gone = stopped-without c.args.id c.self.inside.listed.entries c.in-Some.channel (sym c.in-Some.ensures.value) in
+    omega (arith, c.stops.ensures, c.self.invariant.3, gone)
+
 pub invariant_of-self : goal.invariant_of-self
 invariant_of-self c =
     let openings = c.self.inside.openings.entries in
@@ -22,4 +28,6 @@ invariant_of-self c =
       indexes-removed openings c.remove-in-Some.new.self.entries listed left c.args.id c.in-Some.channel c.self.invariant.1 (sym c.in-Some.ensures.value)
           c.remove-in-Some.ensures.updates.0 c.remove-2.ensures.updates.0,
       λ n low high. absurd (omega (arith, low, high)),
+      omega (arith, c.stops.ensures, c.self.invariant.3, stopped-without c.args.id listed c.in-Some.channel (sym c.in-Some.ensures.value), ap count_stopped c.remove-2.ensures.entries),
+      c.self.invariant.4,
     )

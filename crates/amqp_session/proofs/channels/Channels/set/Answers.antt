@@ -1,20 +1,60 @@
-use Rattle.std.proofs.Common.{◌≡◌, ◌∙◌, ◌<◌, ◌≤◌, ap, Some, arith}
+use Rattle.std.proofs.Common.{◌≡◌, ◌∙◌, ◌<◌, ◌≤◌, ap, sym, refl, Some, option_map, arith}
+use Rattle.amqp_session.specs.declared.channels.Channel.{Channel}
 use Rattle.amqp_session.specs.Listed.{at, put}
-use Rattle.amqp_session.specs.Channels.{Listing}
-use Rattle.amqp_session.specs.Openings.{opener, opened_until}
-use Rattle.amqp_session.proofs.Openings.{not-refused, opener-before, until-put}
+use Rattle.amqp_session.specs.Channels.{Listing, opened_until}
+use Rattle.amqp_session.specs.Stopped.{count_stopped}
+use Rattle.amqp_session.specs.Openings.{opener}
+use Rattle.amqp_session.proofs.Flowing.{stopped-changed, stopped-without, stopped-within, at-most-one}
+use Rattle.amqp_session.proofs.Openings.{has-changed, opener-changed, indexes-kept, opener-before, until-put}
 use Rattle.amqp_session.proofs.channels.Channels.set.Goals as goal
 
-pub returns-clause-until : goal.returns-clause-until
-returns-clause-until c =
+pub overflow_sub-self : goal.overflow_sub-self
+overflow_sub-self c =
+    let es = c.self.inside.listed.entries in
+    let told : at c.args.id es ≡ c.in-Ok-Some.field-0 = sym c.in-Ok-Some.ensures.old in
+    let held : c.in-Ok-Some.field-0 ≡ Some c.in-Ok-Some.former = let is = c.in-Ok-Some.field-0-is in cc in
+    let gone = stopped-without c.args.id es c.in-Ok-Some.former (told ∙ held) in
+    omega (arith, c.stops.ensures, c.self.invariant.3, gone)
+
+pub overflow_add-self : goal.overflow_add-self
+overflow_add-self c =
+    let within = stopped-within c.self.inside.listed.entries in
+    let one = at-most-one c.args.channel in
+    omega (arith, c.stops-in-Ok-Some.ensures, c.self.invariant.3, within, one, c.len.ensures.len, c.len.ensures.small)
+
+pub invariant_of-self : goal.invariant_of-self
+invariant_of-self c =
+    let es = c.self.inside.listed.entries in
+    let new = c.insert.new.self.entries in
+    let id = c.args.id in
+    let channel = c.args.channel in
+    let former = c.in-Ok-Some.former in
+    let openings = c.self.inside.openings.entries in
+    let told : at id es ≡ c.in-Ok-Some.field-0 = sym c.in-Ok-Some.ensures.old in
+    let held : c.in-Ok-Some.field-0 ≡ Some former = let is = c.in-Ok-Some.field-0-is in cc in
+    let had : at id es ≡ Some former = told ∙ held in
+    let update = c.in-Ok-Some.ensures.updates.0 in
+    let opened : opener id es ≡ Some channel.opened = ap (λ (l : Listing). opener id l.listed) c.self.view_is ∙ c.requires in
+    let before : opener id es ≡ Some former.opened = ap (option_map (λ (y : Channel). y.opened)) had in
+    let same : channel.opened ≡ former.opened = cc in
+    let gone = stopped-without id es former had in
+    let changed = stopped-changed id es channel c.insert.ensures.was_ordered former had in
+    let is : count_stopped new ≡ count_stopped (put id channel es) = ap count_stopped c.in-Ok-Some.ensures.entries in (
+      λ n. c.self.invariant.0 n ∙ sym (has-changed es new id channel former had update n),
+      indexes-kept openings openings es new c.self.invariant.1 (λ q. refl) (opener-changed es new id channel former had update same),
+      c.self.invariant.2,
+      omega (arith, c.stops.ensures, c.stops-in-Ok-Some.ensures, c.self.invariant.3, gone, changed, is),
+      c.self.invariant.4,
+    )
+
+pub returns-in-Ok-Some-clause-until : goal.returns-in-Ok-Some-clause-until
+returns-in-Ok-Some-clause-until c =
     let es = c.self.inside.listed.entries in
     let id = c.args.id in
     let channel = c.args.channel in
     let had : opener id es ≡ Some channel.opened = ap (λ (l : Listing). opener id l.listed) c.self.view_is ∙ c.requires in
-    let is : c.insert.new.self.entries ≡ put id channel es =
-    not-refused c.insert.result (at id es) channel.opened had c.insert.ensures.entries c.insert.ensures.absent in
     let before : channel.opened < opened_until es = opener-before id channel.opened es had in
     let until : opened_until (put id channel es) ≤ opened_until es = until-put id channel (opened_until es) es (omega (arith, before)) (omega arith) in
-    let new : opened_until c.insert.new.self.entries ≡ opened_until (put id channel es) = ap opened_until is in
+    let new : opened_until c.insert.new.self.entries ≡ opened_until (put id channel es) = ap opened_until c.in-Ok-Some.ensures.entries in
     let old : opened_until es ≡ opened_until c.args.self.now.listed = ap (λ (l : Listing). opened_until l.listed) c.self.view_is in
     omega (arith, new, until, old)

@@ -3,7 +3,8 @@ use Rattle.std.specs.Ordering.{nat_cmp}
 use Rattle.std.specs.Map.{set_value}
 use Rattle.std.specs.BTreeMap.{is_at}
 use Rattle.amqp_session.specs.Listed.{at, put}
-use Rattle.amqp_session.proofs.Maps.{set_value-same, put-present}
+use Rattle.amqp_outbox.proofs.Maps.{put-present}
+use Rattle.amqp_session.proofs.Maps.{set_value-same}
 use Rattle.amqp_session.proofs.handed.Backlog.hand_out.Goals as goal
 
 pub returns-in_err-push-in-Some-clause-err : goal.returns-in_err-push-in-Some-clause-err

@@ -1,6 +1,7 @@
 use Rattle.std.proofs.Common.{◌∙◌, ap}
-use Rattle.amqp_session.specs.Parts.{seen, slot_seen}
-use Rattle.amqp_session.proofs.Seen.{without-seen}
+use Rattle.amqp_outbox.specs.Order.{seen}
+use Rattle.amqp_outbox.proofs.Seen.{without-seen}
+use Rattle.amqp_session.specs.Parts.{slot_seen}
 use Rattle.amqp_session.proofs.promises.Promises.forget.Goals as goal
 
 pub returns-clause-slots : goal.returns-clause-slots

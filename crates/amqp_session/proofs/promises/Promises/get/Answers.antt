@@ -1,5 +1,5 @@
 use Rattle.amqp_session.specs.Parts.{slot_seen}
-use Rattle.amqp_session.proofs.Seen.{at-seen}
+use Rattle.amqp_outbox.proofs.Seen.{at-seen}
 use Rattle.amqp_session.proofs.promises.Promises.get.Goals as goal
 
 pub returns-clause-seen : goal.returns-clause-seen

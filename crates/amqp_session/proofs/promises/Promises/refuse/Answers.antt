@@ -1,8 +1,9 @@
 use Rattle.std.proofs.Common.{◌≡◌, ◌∙◌, ap, Some, Err}
 use Rattle.amqp_session.specs.declared.error.ErrorKind.{ErrorKind}
 use Rattle.amqp_session.specs.declared.promises.Slot.TheVariants.{Answered}
-use Rattle.amqp_session.specs.Parts.{seen, slot_seen}
-use Rattle.amqp_session.proofs.Seen.{put-seen}
+use Rattle.amqp_outbox.specs.Order.{seen}
+use Rattle.amqp_outbox.proofs.Seen.{put-seen}
+use Rattle.amqp_session.specs.Parts.{slot_seen}
 use Rattle.amqp_session.proofs.promises.Promises.refuse.Goals as goal
 
 pub returns-clause-slots : goal.returns-clause-slots

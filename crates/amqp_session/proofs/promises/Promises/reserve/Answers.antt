@@ -1,9 +1,10 @@
 use Rattle.std.proofs.Common.{◌≡◌, ◌∙◌, ap, sym, refl, None}
 use Rattle.amqp_session.specs.declared.promises.Slot.TheVariants.{Place}
 use Rattle.amqp_session.specs.Listed.{at}
-use Rattle.amqp_session.specs.Parts.{seen, slot_seen}
+use Rattle.amqp_outbox.specs.Order.{seen}
+use Rattle.amqp_session.specs.Parts.{slot_seen}
 use Rattle.amqp_session.proofs.Maps.{at-absent}
-use Rattle.amqp_session.proofs.Seen.{put-unseen}
+use Rattle.amqp_outbox.proofs.Seen.{put-unseen}
 use Rattle.amqp_session.proofs.promises.Promises.reserve.Goals as goal
 
 pub returns-clause-slots : goal.returns-clause-slots

@@ -10,4 +10,4 @@ invariant_of-self c =
     let rest = sym c.take_first.ensures.rest in
     let shorter : length c.take_first.new.self.marks.items ≤ length ms = subst (λ (x : List Mark). length x ≤ length ms) rest (after_first-shorter c.args.n ms) in
     let less : left_in c.take_first.new.self.marks.items ≤ left_in ms = subst (λ (x : List Mark). left_in x ≤ left_in ms) rest (after_first-less c.args.n ms) in
-    (omega (arith, shorter, c.take_first.ensures.kept, c.self.invariant.0), omega (arith, less, c.self.invariant.1), c.self.invariant.2, c.self.invariant.3, c.self.invariant.4, c.self.invariant.5)
+    (omega (arith, shorter, c.take_first.ensures.kept, c.self.invariant.0), omega (arith, less, c.self.invariant.1), c.self.invariant.2, c.self.invariant.3, c.self.invariant.4, c.self.invariant.5, c.self.invariant.6)

@@ -1,0 +1,109 @@
+//! Publishes over a session that is driven call by call.
+
+use crate::driven::{connect, is_sent, send_all};
+use amqp_frame::{Frame, Method, RawMethod};
+use amqp_session::{ChanRef, Cmd, Properties, Result, Session};
+use amqp_types::{Payload, ShortString};
+use std::alloc::Global;
+
+/// So many publishes of bodies of a size, over the first channels in turn.
+#[derive(Clone, Copy, Debug, PartialEq, Eq)]
+pub struct Load {
+    pub channels: u16,
+    pub size: u32,
+    pub count: u64,
+}
+
+// A channel, whichever promise opened it.
+fn numbered(id: u16) -> ChanRef {
+    ChanRef { id, opened: None }
+}
+
+// Opens channels from 1 on.
+fn open_channels(session: &mut Session, channels: u16) -> Result<()> {
+    for id in 1..=channels {
+        session.command(Cmd::OpenChannel)?;
+        send_all(session);
+        session.frame(Frame::Method(id, Method::ChannelOpenOk), 0, 0)?;
+    }
+    Ok(())
+}
+
+// Publishes a body without properties.
+fn publish(alloc: Global, session: &mut Session, id: u16, body: &[u8]) -> Result<()> {
+    let method = RawMethod::new(alloc, 60, 40, &[])?;
+    let body = Payload::new(alloc, body)?;
+    if let Some(properties) = Properties::new(Payload::new(alloc, &[0, 0])?) {
+        session.command(Cmd::Publish(numbered(id), method, properties, body))?;
+    }
+    Ok(())
+}
+
+// Queues all publishes.
+fn publish_all(alloc: Global, session: &mut Session, load: Load, body: &[u8]) -> Result<()> {
+    let mut id = 1u16;
+    for _ in 0..load.count {
+        publish(alloc, session, id, body)?;
+        id = if id < load.channels {
+            id.saturating_add(1)
+        } else {
+            1
+        };
+    }
+    Ok(())
+}
+
+// Closes channels from 1 on.
+fn close_channels(alloc: Global, session: &mut Session, channels: u16) -> Result<()> {
+    for id in 1..=channels {
+        let text = ShortString::from_vec(Vec::new(alloc));
+        session.command(Cmd::CloseChannel(numbered(id), 200, text))?;
+    }
+    Ok(())
+}
+
+// How many of the promises up to the last are answered Sent. It takes the answers.
+fn count_sent(session: &mut Session) -> u64 {
+    let mut sent = 0u64;
+    for number in 0..session.promises() {
+        if is_sent(session.answer(number)) {
+            sent = sent.saturating_add(1);
+        }
+    }
+    sent
+}
+
+// All are queued, then the channels closed where that is wanted, and then what is left is sent.
+fn publish_then_send(
+    alloc: Global,
+    session: &mut Session,
+    load: Load,
+    body: &[u8],
+    close: bool,
+) -> Result<u64> {
+    connect(alloc, session)?;
+    open_channels(session, load.channels)?;
+    publish_all(alloc, session, load, body)?;
+    if close {
+        close_channels(alloc, session, load.channels)?;
+    }
+    send_all(session);
+    Ok(count_sent(session))
+}
+
+/// Queues so many publishes, closes their channels where that is wanted, and sends what is left. How
+/// many were sent; nothing where memory was refused.
+pub fn publishes(alloc: Global, load: Load, close: bool) -> Option<u64> {
+    let Ok(body) = vec![in alloc; 0u8; load.size as usize] else {
+        return None;
+    };
+    let Ok(mut session) = Session::new(alloc) else {
+        return None;
+    };
+    let sent = publish_then_send(alloc, &mut session, load, &body, close);
+    drop(session);
+    match sent {
+        Ok(sent) => Some(sent),
+        Err(_) => None,
+    }
+}

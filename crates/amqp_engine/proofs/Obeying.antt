@@ -1,0 +1,22 @@
+-- What is left where a command was obeyed, or was not and changed nothing.
+use Rattle.std.proofs.Common.{◌≡◌, Result, Ok, Err, OnOk, OnErr, refl, sym, subst}
+use Rattle.amqp_session.specs.declared.command.Cmd.{Cmd}
+use Rattle.amqp_session.specs.Talk.{Talk}
+use Rattle.amqp_session.specs.Commands.{command}
+use Rattle.amqp_session.proofs.Keeping.{Stays, stays-command}
+use Rattle.amqp_engine.specs.Engine.{Engine, with_talk}
+use Rattle.amqp_engine.specs.Unread.{IsRead}
+use Rattle.amqp_engine.proofs.LeftUnread.{command-read}
+
+pub obeyed-stays : {A E : Type 0} (r : Result A E) (c : Cmd) (t t' : Talk) → OnOk r (t' ≡ command c t) → OnErr r (t' ≡ t) → Stays t t'
+obeyed-stays (Ok x) c t t' ok err =
+    let P : Talk → Type 0 = λ y. Stays t y in
+    subst P (sym ok) (stays-command c t)
+obeyed-stays (Err e) c t t' ok err =
+    let P : Talk → Type 0 = λ y. Stays t y in
+    subst P (sym err) (record { link = refl; committed = refl; configuration = refl; capacity = refl; input = refl; server_close = refl })
+
+pub obeyed-read : {A E : Type 0} (r : Result A E) (c : Cmd) (e e' : Engine) → OnOk r (e' ≡ with_talk (command c) e) → OnErr r (e' ≡ e)
+    → IsRead e → IsRead e'
+obeyed-read (Ok x) c e e' ok err h = subst IsRead (sym ok) (command-read c e h)
+obeyed-read (Err x) c e e' ok err h = subst IsRead (sym err) h

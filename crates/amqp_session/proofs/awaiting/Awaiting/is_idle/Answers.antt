@@ -1,7 +1,0 @@
-use Rattle.std.proofs.Common.{◌∙◌, sym}
-use Rattle.amqp_session.proofs.Seen.{empty-seen}
-use Rattle.amqp_session.proofs.awaiting.Awaiting.is_idle.Goals as goal
-
-pub returns-in-Some : goal.returns-in-Some
-returns-in-Some c h =
-    empty-seen c.args.channel c.args.self.now.lists.entries c.in-Some.list.now (sym c.in-Some.ensures.value) (sym c.is_empty.ensures ∙ h)
