@@ -1,6 +1,6 @@
 //! The words of the program.
 
-use crate::publishes::Load;
+use crate::publishes::{Ending, Load};
 
 /// The longest payload of a frame of 131072 octets.
 const LONGEST: u32 = 131_064;
@@ -17,10 +17,8 @@ pub enum Job {
     Read { size: u32, count: u64 },
     /// Sends methods over a session.
     Sends { count: u64 },
-    /// Publishes over a session.
-    Publishes(Load),
-    /// Publishes over a session, whose channels are closed before anything is sent.
-    Closes(Load),
+    /// Publishes over a session, and how it goes on once all is queued.
+    Publishes(Load, Ending),
 }
 
 // A number of times.
@@ -57,6 +55,11 @@ fn load_of(words: [Option<String>; 3]) -> Option<Load> {
     })
 }
 
+// Publishes that end so.
+fn publishes_of(words: [Option<String>; 3], ending: Ending) -> Option<Job> {
+    Some(Job::Publishes(load_of(words)?, ending))
+}
+
 /// The job that words tell.
 pub fn job_of(
     kind: Option<String>,
@@ -65,8 +68,9 @@ pub fn job_of(
     third: Option<String>,
 ) -> Option<Job> {
     match kind?.as_str() {
-        "publishes" => load_of([first, second, third]).map(Job::Publishes),
-        "closes" => load_of([first, second, third]).map(Job::Closes),
+        "publishes" => publishes_of([first, second, third], Ending::Sent),
+        "closes" => publishes_of([first, second, third], Ending::Closed),
+        "server-closes" => publishes_of([first, second, third], Ending::ClosedByServer),
         _ if third.is_some() => None,
         "write" => Some(Job::Write {
             size: size_of(first)?,

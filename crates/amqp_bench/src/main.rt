@@ -16,7 +16,7 @@ use std::process::ExitCode;
 use std::{env, io};
 
 const USAGE: &str = "usage: amqp_bench write SIZE COUNT | read SIZE COUNT | sends COUNT \
-    | publishes CHANNELS SIZE COUNT | closes CHANNELS SIZE COUNT";
+    | publishes CHANNELS SIZE COUNT | closes CHANNELS SIZE COUNT | server-closes CHANNELS SIZE COUNT";
 
 // The job that the words after the program's name tell.
 fn job_given(rt: &HostRuntime) -> io::Result<Option<Job>> {
@@ -34,8 +34,7 @@ fn done_of(rt: &HostRuntime, job: Job) -> Option<u64> {
         Job::Write { size, count } => wire::write(rt.alloc(), size, count),
         Job::Read { size, count } => wire::read(rt.alloc(), size, count),
         Job::Sends { count } => sends::sends(rt.alloc(), count),
-        Job::Publishes(load) => publishes::publishes(rt.alloc(), load, false),
-        Job::Closes(load) => publishes::publishes(rt.alloc(), load, true),
+        Job::Publishes(load, ending) => publishes::publishes(rt.alloc(), load, ending),
     }
 }
 
@@ -55,7 +54,7 @@ fn run(rt: &HostRuntime) -> io::Result<ExitCode> {
             println!(rt; "read {count} frames of {size} octets: {done} octets in all")?
         }
         Job::Sends { count } => println!(rt; "sent {count} methods: {done} answers taken")?,
-        Job::Publishes(load) | Job::Closes(load) => {
+        Job::Publishes(load, _) => {
             let count = load.count;
             println!(rt; "published {count} bodies: {done} of them sent")?
         }

@@ -14,6 +14,18 @@ pub struct Load {
     pub count: u64,
 }
 
+/// How it goes on once all is queued.
+#[derive(Clone, Copy, Debug, PartialEq, Eq)]
+pub enum Ending {
+    /// All is sent.
+    Sent,
+    /// We close each channel.
+    Closed,
+    /// The server blocks before anything is queued, as many methods are sent beside, and it closes each
+    /// channel.
+    ClosedByServer,
+}
+
 // A channel, whichever promise opened it.
 fn numbered(id: u16) -> ChanRef {
     ChanRef { id, opened: None }
@@ -39,10 +51,26 @@ fn publish(alloc: Global, session: &mut Session, id: u16, body: &[u8]) -> Result
     Ok(())
 }
 
-// Queues all publishes.
-fn publish_all(alloc: Global, session: &mut Session, load: Load, body: &[u8]) -> Result<()> {
+// Sends a method without arguments.
+fn send(alloc: Global, session: &mut Session, id: u16) -> Result<()> {
+    let method = RawMethod::new(alloc, 60, 40, &[])?;
+    session.command(Cmd::Send(numbered(id), method))?;
+    Ok(())
+}
+
+// Queues all publishes, and where that is wanted as many methods.
+fn queue_all(
+    alloc: Global,
+    session: &mut Session,
+    load: Load,
+    body: &[u8],
+    methods: bool,
+) -> Result<()> {
     let mut id = 1u16;
     for _ in 0..load.count {
+        if methods {
+            send(alloc, session, id)?;
+        }
         publish(alloc, session, id, body)?;
         id = if id < load.channels {
             id.saturating_add(1)
@@ -62,6 +90,23 @@ fn close_channels(alloc: Global, session: &mut Session, channels: u16) -> Result
     Ok(())
 }
 
+// The server blocks.
+fn block(alloc: Global, session: &mut Session) -> Result<()> {
+    let reason = ShortString::from_vec(Vec::new(alloc));
+    session.frame(Frame::Method(0, Method::Blocked(reason)), 0, 0)?;
+    Ok(())
+}
+
+// The server closes channels from 1 on.
+fn server_closes(alloc: Global, session: &mut Session, channels: u16) -> Result<()> {
+    for id in 1..=channels {
+        let text = ShortString::from_vec(Vec::new(alloc));
+        let close = Method::ChannelClose(404, text, 0, 0);
+        session.frame(Frame::Method(id, close), 0, 0)?;
+    }
+    Ok(())
+}
+
 // How many of the promises up to the last are answered Sent. It takes the answers.
 fn count_sent(session: &mut Session) -> u64 {
     let mut sent = 0u64;
@@ -74,18 +119,24 @@ fn count_sent(session: &mut Session) -> u64 {
 }
 
 // All are queued, then the channels closed where that is wanted, and then what is left is sent.
-fn publish_then_send(
+fn publish_then_end(
     alloc: Global,
     session: &mut Session,
     load: Load,
     body: &[u8],
-    close: bool,
+    ending: Ending,
 ) -> Result<u64> {
+    let blocked = ending == Ending::ClosedByServer;
     connect(alloc, session)?;
     open_channels(session, load.channels)?;
-    publish_all(alloc, session, load, body)?;
-    if close {
-        close_channels(alloc, session, load.channels)?;
+    if blocked {
+        block(alloc, session)?;
+    }
+    queue_all(alloc, session, load, body, blocked)?;
+    match ending {
+        Ending::Sent => {}
+        Ending::Closed => close_channels(alloc, session, load.channels)?,
+        Ending::ClosedByServer => server_closes(alloc, session, load.channels)?,
     }
     send_all(session);
     Ok(count_sent(session))
@@ -93,14 +144,14 @@ fn publish_then_send(
 
 /// Queues so many publishes, closes their channels where that is wanted, and sends what is left. How
 /// many were sent; nothing where memory was refused.
-pub fn publishes(alloc: Global, load: Load, close: bool) -> Option<u64> {
+pub fn publishes(alloc: Global, load: Load, ending: Ending) -> Option<u64> {
     let Ok(body) = vec![in alloc; 0u8; load.size as usize] else {
         return None;
     };
     let Ok(mut session) = Session::new(alloc) else {
         return None;
     };
-    let sent = publish_then_send(alloc, &mut session, load, &body, close);
+    let sent = publish_then_end(alloc, &mut session, load, &body, ending);
     drop(session);
     match sent {
         Ok(sent) => Some(sent),

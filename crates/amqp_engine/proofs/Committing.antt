@@ -1,5 +1,5 @@
 -- What the rules of a session keep of the frames committed on its link, turns keep.
-use Rattle.std.proofs.Common.{◌≡◌, ◌≢◌, ◌≤◌, ◌⊎◌, inl, inr, ℕ, zero, suc, ◌-◌, nat_le, nat_lt, if◌then◌else◌, Bool, true, false, List, [], ◌∷◌, ◌++◌, length, drop, Option, Some, None, is_some, refl, ap, sym, ◌∙◌, subst, append_assoc, arith}
+use Rattle.std.proofs.Common.{◌≡◌, ◌≢◌, ◌≤◌, ◌⊎◌, inl, inr, ℕ, zero, suc, ◌-◌, ◌&&◌, not, nat_le, nat_lt, if◌then◌else◌, Bool, true, false, List, [], ◌∷◌, ◌++◌, length, drop, Option, Some, None, is_some, refl, ap, sym, ◌∙◌, subst, append_assoc, arith}
 use Rattle.std.proofs.lemmas.Bool.Decides.{nat_tests}
 use Rattle.std.proofs.lemmas.List.{map-append}
 use Rattle.std.specs.Prelude.{option_to_list}
@@ -244,6 +244,7 @@ module _ (T : Cmd → Type 0) (L : List Frame → Type 0) (I : Talk → Type 0) 
   -- a link that has just come, with nothing but the header to be said
   pub record Fresh (e : Engine) : Type 0 where
     pub opened : is_open e.talk ≡ true
+    pub writable : e.talk.blocked ≡ false
     pub outbox : e.talk.outbox ≡ only (plain 0 protocol_header)
     pub unsent : e.unsent ≡ []
     pub room : 8 ≤ e.talk.capacity
@@ -262,6 +263,7 @@ module _ (T : Cmd → Type 0) (L : List Frame → Type 0) (I : Talk → Type 0) 
       let y : Talk = linked t in
       let opened : is_open y ≡ true = ap is_open (if-true (is_asked t) _ t asked_t) in
       let outbox : y.outbox ≡ only (plain 0 protocol_header) = ap (λ (z : Talk). z.outbox) (if-true (is_asked t) _ t asked_t) in
+      let writable : y.blocked ≡ false = ap (λ (z : Talk). z.blocked) (if-true (is_asked t) _ t asked_t) in
       let waits : I t = (kept-moment false at e.talk ss kept).now.1 (asked-wanted t.link asked_t) in
       let said : P y [] = k.linked t asked_t waits in
       let capacity : y.capacity ≡ t.capacity = ap (λ (z : Talk). z.capacity) (if-true (is_asked t) _ t asked_t) in
@@ -270,7 +272,7 @@ module _ (T : Cmd → Type 0) (L : List Frame → Type 0) (I : Talk → Type 0) 
       let Q : Engine → Type 0 = λ z. Stepped z ss' in
       subst Q (sym is)
       (inr (
-        record { opened = opened; outbox = outbox; unsent = refl; room = room },
+        record { opened = opened; writable = writable; outbox = outbox; unsent = refl; room = room },
         record {
           all = all-push Holds ss nothing_sent kept.all k.none;
           committed = [];
@@ -395,7 +397,8 @@ module _ (T : Cmd → Type 0) (L : List Frame → Type 0) (I : Talk → Type 0) 
   fresh-fits e h =
       let space : ℕ = e.talk.capacity - length e.unsent in
       let none : length e.unsent ≡ 0 = ap length h.unsent in
-      ap (λ b. fitting space (if b then queued.next_item (flows e.talk) e.talk.outbox else None)) h.opened
+      ap (λ b. fitting space (if b && not e.talk.blocked then queued.next_item (flows e.talk) e.talk.outbox else None)) h.opened
+      ∙ ap (λ b. fitting space (if not b then queued.next_item (flows e.talk) e.talk.outbox else None)) h.writable
       ∙ ap (λ (q : Queued). fitting space (queued.next_item (flows e.talk) q)) h.outbox
       ∙ header-fits space (omega (arith, none, h.room))
 
@@ -411,7 +414,9 @@ module _ (T : Cmd → Type 0) (L : List Frame → Type 0) (I : Talk → Type 0) 
       ∙ ap (λ o. (with_frame o e).unsent) (fresh-fits e h) ∙ ap (λ bytes. bytes ++ encoding protocol_header) h.unsent
 
   fresh-writes : (e : Engine) → Fresh e → can_write e ≡ true
-  fresh-writes e h = and-true (is_open e.talk) _ h.opened (ap (λ bytes. nat_lt 0 (length bytes)) (fresh-unsent e h))
+  fresh-writes e h =
+      and-true (is_open e.talk) _ h.opened
+      (and-true (not e.talk.blocked) _ (ap not h.writable) (ap (λ bytes. nat_lt 0 (length bytes)) (fresh-unsent e h)))
 
   kept-offer : (at : ℕ) (w : Wrote) (e : Engine) (ss : List Sending) → can_write e ≡ true → Stepped e ss → Kept false (answered at w e).talk (on_last (offer_sending w e) ss)
   kept-offer at w e ss can (inl h) =

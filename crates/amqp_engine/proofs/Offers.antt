@@ -132,7 +132,7 @@ writes-more at cut e n (Took k) e' last log mid log' a b c he told plays allows 
     let p = making at cut e n in
     let ws = answers_of rest.notes in
     let same : making at cut e' (n + 1) ≡ offer_part (Took k) p = offer-making at cut e n (Took k) e' he in
-    let some : 0 < length (offered e) = some-unsent (is_open e.talk) (length (offered e)) can in
+    let some : 0 < length (offered e) = some-unsent (is_open e.talk) (not e.talk.blocked) (length (offered e)) can in
     let is : k ≡ length (offered e) = grind (arith, nat_tests) in
     let due : IsTrue (goes p && can_write e) = and-is-true (goes p) (can_write e) (is_before-Allows cut n allows) can in
     let P : Progress → Type 0 = λ x. AreAnswers ws x in
@@ -191,7 +191,7 @@ pub writes-refused : (at : ℕ) (e : Engine) (n : ℕ) (e' : Engine) (log log' :
     → IsTrue (can_write e) → Writes (making at (Some (n + 1)) e n) (making at (Some (n + 1)) e' (n + 1)) log log' a b
 writes-refused at e n e' log log' a b he told plays can =
     let cut : Option ℕ = Some (n + 1) in
-    let some : 0 < length (offered e) = some-unsent (is_open e.talk) (length (offered e)) can in
+    let some : 0 < length (offered e) = some-unsent (is_open e.talk) (not e.talk.blocked) (length (offered e)) can in
     let less : (0 == length (offered e)) ≡ false = grind (arith, nat_tests) in
     writes-one at cut e n (Took 0) NoMemory (record { tooks = 0 ∷ []; failed = false; starved = cut }) e' log log' a b refl refl
     (refused-answer (making at cut e n) (is_before-cut (n + 1))) he told plays (omega arith) can (omega arith) less none-failed

@@ -1,21 +1,21 @@
 -- How reading may end a session.
-use Rattle.std.proofs.Common.{◌≡◌, ◌⊎◌, inl, inr, ℕ, zero, suc, ◌+◌, ◌&&◌, Bool, true, false, IsTrue, drop, Some, Err, refl, ap, sym, ◌∙◌, subst}
+use Rattle.std.proofs.Common.{◌≡◌, ◌⊎◌, inl, inr, ℕ, zero, suc, ◌+◌, ◌&&◌, Bool, true, false, if◌then◌else◌, IsTrue, drop, Some, Err, refl, ap, sym, ◌∙◌, subst}
 use Rattle.amqp_frame.specs.declared.frame.Frame.{Frame}
 use Rattle.amqp_frame.specs.declared.frame.Frame.TheVariants.{ProtocolHeader, Method}
 use Rattle.amqp_frame.specs.declared.frame.Read.{Read}
 use Rattle.amqp_frame.specs.declared.frame.Read.TheVariants as reading
 use Rattle.amqp_frame.specs.declared.method.Method.{Method as AnyMethod}
-use Rattle.amqp_frame.specs.declared.method.Method.TheVariants.{ChannelOpenOk, ChannelCloseOk}
+use Rattle.amqp_frame.specs.declared.method.Method.TheVariants.{Blocked, Unblocked, ChannelOpenOk, ChannelClose, ChannelCloseOk, ChannelFlow, ChannelFlowOk}
 use Rattle.amqp_session.specs.declared.misread.Misread.{Misread}
 use Rattle.amqp_session.specs.declared.misread.Misread.TheVariants as why
 use Rattle.amqp_session.specs.declared.error.ErrorKind.{ErrorKind}
 use Rattle.amqp_session.specs.declared.error.ErrorKind.TheVariants.{InvalidProtocolVersion, InvalidChannel, InvalidConnectionState, ProtocolError, Unbuilt}
-use Rattle.amqp_session.specs.Talk.{Talk, is_acting, acts, is_open, has_ended, end_of}
+use Rattle.amqp_session.specs.Talk.{Talk, is_acting, acts, hears_on, is_open, has_ended, end_of}
 use Rattle.amqp_session.specs.Negotiation.{frame_limit}
 use Rattle.amqp_session.specs.Changes.{present_at}
 use Rattle.amqp_session.specs.Links.{misread}
 use Rattle.amqp_session.specs.Violations.{misread_error}
-use Rattle.amqp_session.specs.Frames.{frame_rule, on_frame}
+use Rattle.amqp_session.specs.Frames.{frame_rule, closed_rule, on_frame}
 use Rattle.amqp_engine.specs.Plan.{at_most_64}
 use Rattle.amqp_engine.specs.Engine.{Engine, settle, front_of, can_read, read_row, read_badly, read_one, rule_at}
 use Rattle.amqp_engine.specs.Turn.{Progress, goes, reads, read_part}
@@ -33,11 +33,20 @@ use Rattle.amqp_session.proofs.FrameEnds.{ends-frame, ends-misread}
 abbrev FrameCause : Frame → ℕ → Talk → ErrorKind → Type 0
 FrameCause f place t k = IsTrue (is_acting t.input) × IsFrameError k f place t
 
+closed-end : (f : Frame) (t : Talk) → end_of (closed_rule f t) ≡ end_of t
+closed-end (Method zero (Blocked reason)) t = refl
+closed-end (Method zero Unblocked) t = refl
+closed-end f t = refl
+
 ends-acting : (f : Frame) (place : ℕ) (t : Talk) → Ends (FrameCause f place t) t (on_frame f place t)
 ends-acting f place t = record { by = λ k h. by (acts t) refl k h }
   where
     by : (b : Bool) → acts t ≡ b → (k : ErrorKind) → end_of (on_frame f place t) ≡ Some (Err k) → (end_of t ≡ Some (Err k)) ⊎ FrameCause f place t k
-    by false idle k h = inl (sym (ap end_of (if-false (acts t) (frame_rule f place t) t idle)) ∙ h)
+    by false idle k h =
+        let otherwise : Talk = if hears_on t then closed_rule f t else t in
+        let kept : end_of otherwise ≡ end_of t =
+        if_case (λ (x : Talk). end_of x ≡ end_of t) (hears_on t) (closed_rule f t) t (closed-end f t) refl in
+        inl (sym (ap end_of (if-false (acts t) (frame_rule f place t) otherwise idle) ∙ kept) ∙ h)
     by true acting k h =
         elim ((ends-frame f place t).by k h) [ inl before ↦ inl before | inr cause ↦ inr (and-right (is_open t) (is_acting t.input) acting, cause) ]
 
@@ -46,6 +55,9 @@ ends-acting f place t = record { by = λ k h. by (acts t) refl k h }
 moment-awaited : (m : AnyMethod) (c n : ℕ) (t : Talk) → is_awaited m c (record t { present = n }) ≡ is_awaited m c t
 moment-awaited ChannelOpenOk c n t = refl
 moment-awaited ChannelCloseOk c n t = refl
+moment-awaited (ChannelFlow active) c n t = refl
+moment-awaited (ChannelClose code text class method) c n t = refl
+moment-awaited (ChannelFlowOk active) c n t = refl
 moment-awaited _ c n t = refl
 
 moment-unawaited : (n : ℕ) (e : ErrorKind) (f : Frame) (t : Talk) → IsUnawaited e f (record t { present = n }) → IsUnawaited e f t

@@ -3,7 +3,7 @@ use Rattle.std.proofs.Common.{◌≡◌, ◌⊎◌, inl, inr, ℕ, ◌-◌, ◌=
 use Rattle.amqp_types.specs.declared.error.AMQPError.{AMQPError}
 use Rattle.amqp_session.specs.declared.committed.Mark.{Mark}
 use Rattle.amqp_session.specs.declared.committed.Then.{Then}
-use Rattle.amqp_session.specs.declared.committed.Then.TheVariants.{Nothing, Answer, Finish}
+use Rattle.amqp_session.specs.declared.committed.Then.TheVariants.{Nothing, Answer, Pays, Finish}
 use Rattle.amqp_frame.specs.declared.frame.Read.{Read}
 use Rattle.amqp_frame.specs.declared.frame.Read.TheVariants as reading
 use Rattle.amqp_session.specs.declared.state.Link.TheVariants.{Open}
@@ -14,6 +14,7 @@ use Rattle.amqp_session.specs.declared.server_close.ServerClose.TheVariants.{Wit
 use Rattle.amqp_session.specs.declared.error.ErrorKind.{ErrorKind}
 use Rattle.amqp_session.specs.declared.error.ErrorKind.TheVariants.{IOError, ProtocolError, NoMemory, OutOfTurns}
 use Rattle.amqp_session.specs.Talk.{Talk, has_ended, is_open, is_acting, acts, is_asked, end_of, end_of_link}
+use Rattle.amqp_session.specs.Channels.{channel_at}
 use Rattle.amqp_session.specs.Changes.{present_at, fail, lose, finish, finish_by, starve}
 use Rattle.amqp_session.specs.Links.{linked, link_failed, piece, lost}
 use Rattle.amqp_session.specs.Commands.{command}
@@ -30,7 +31,7 @@ use Rattle.amqp_engine.specs.Tell.{TellsTurns, Applies, Runs, turn_of}
 use Rattle.amqp_engine.specs.Causes.{IsReadError, Misreads, LosesClosed, IsCause, Brings, brought, is_last, sends_close_ok, is_finish}
 use Rattle.amqp_session.proofs.Cases.{if_case, if_by, if-true, if-false, and-true, and-false}
 use Rattle.amqp_engine.proofs.Cases.{none-from, and-left}
-use Rattle.amqp_session.proofs.Keeping.{present-keeps, stays-command}
+use Rattle.amqp_session.proofs.Keeping.{present-keeps, pay-keeps, stays-command}
 use Rattle.amqp_engine.proofs.Commits.{commits-keep}
 use Rattle.amqp_session.proofs.Ends.{Ends, ends-kept, ends-lose, ends-close, ends-as, ends-then, ends-present, ends-moment}
 use Rattle.amqp_engine.proofs.ReadEnds.{ends-settled}
@@ -170,6 +171,7 @@ SentError is_sent t _ = ⊥
 ends-follow : (th : Then) (t : Talk) → Ends (SentError (is_finish th) t) t (follow th t)
 ends-follow Nothing t = ends-kept _ t t refl
 ends-follow (Answer n) t = ends-kept _ t _ refl
+ends-follow (Pays n) t = ends-kept _ t _ (pay-keeps end_of (λ u cs. refl) (channel_at n t) n t)
 ends-follow Finish t = ends-finish _ t.server_close t _ (λ e h. (refl, h))
 
 finish-closed : (o : Option ServerClose) (t : Talk) → (finish_by o t).server_close ≡ t.server_close
@@ -180,6 +182,7 @@ finish-closed (Some (WithError e)) t = refl
 follow-closed : (th : Then) (t : Talk) (e : AMQPError) → (follow th t).server_close ≡ Some (WithError e) → t.server_close ≡ Some (WithError e)
 follow-closed Nothing t e h = h
 follow-closed (Answer n) t e h = h
+follow-closed (Pays n) t e h = sym (pay-keeps (λ (x : Talk). x.server_close) (λ u cs. refl) (channel_at n t) n t) ∙ h
 follow-closed Finish t e h = sym (finish-closed t.server_close t) ∙ h
 
 sent-first : (m : Mark) (ms : List Mark) (n : ℕ) (t : Talk) → nat_le m.left n ≡ true → (k : ErrorKind)

@@ -142,9 +142,9 @@ commits (suc n) e = commits n (commit_one e)
 abbrev pub commit_all : Engine → Engine
 commit_all e = commits (frames_waiting e.talk) e
 
--- something is to be written
+-- something is to be written, and the server does not block
 abbrev pub can_write : Engine → Bool
-can_write e = is_open e.talk && nat_lt 0 (length (commit_all e).unsent)
+can_write e = is_open e.talk && (not e.talk.blocked && nat_lt 0 (length (commit_all e).unsent))
 
 -- how many bytes an answer takes
 abbrev pub taken_by : Wrote → ℕ

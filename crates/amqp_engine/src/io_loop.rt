@@ -4,9 +4,8 @@ ghost use Rattle.std.specs.Prelude.{◌≡◌, ◌≤◌, ◌⊎◌, ℕ, Some, 
 ghost use Rattle.amqp_ring.specs.Ring.{capacity};
 ghost use Rattle.amqp_session.specs.declared.io_fault.IoFault.{IoFault};
 ghost use Rattle.amqp_session.specs.Talk.{start, has_ended, end_of};
-ghost use Rattle.amqp_session.specs.Changes.{next_promise};
 ghost use Rattle.amqp_session.specs.ChannelMethods.{frames_of};
-ghost use Rattle.amqp_session.specs.Commands.{command as command_rule};
+ghost use Rattle.amqp_session.specs.Commands.{command as command_rule, promise_of};
 ghost use Rattle.amqp_session.specs.Answers.{HandsOut, Takes, take_frames};
 ghost use Rattle.amqp_engine.specs.Engine.{Engine, begin, with_talk};
 ghost use Rattle.amqp_engine.specs.Turn.{asks};
@@ -170,7 +169,7 @@ impl IoLoop {
     /// answered. Nothing is sent by a command alone.
     pub fn command(&mut self, command: Cmd) -> Result<Option<u64>>
         ensures ok { OnOk result (self.new ≡ with_talk (command_rule command) self.old) }
-        ensures number { IfOk result (λ number. number ≡ Some (next_promise self.old.talk)) }
+        ensures number { IfOk result (λ number. number ≡ promise_of command self.old.talk) }
         ensures err { OnErr result (self.new ≡ self.old) }
         ensures only { IfErr result (λ e. e ≡ ErrorKind.NoMemory) }
         ensures legal { (ss : List Sending) → HasSent self.old ss → HasSent self.new ss }

@@ -96,6 +96,7 @@ pub(crate) fn hold(command: &Cmd)
             let _held = (properties.as_bytes().len(), body.len());
         }
         Cmd::OpenChannel | Cmd::CloseChannel(..) | Cmd::CloseConnection(..) => {}
+        Cmd::Flow(..) | Cmd::DropChannel(_) | Cmd::DropConnection => {}
     }
 }
 

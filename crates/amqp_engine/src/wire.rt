@@ -10,8 +10,7 @@ mod writing;
 ghost use Rattle.std.specs.Prelude.{◌≡◌, ◌≤◌, not, ◌<◌, Option, Some, true, false, IfOk, IfErr, IsOk, OnOk, OnErr, MatchResult, IsSome, IsTrue, option_map, length};
 ghost use Rattle.amqp_ring.specs.Ring.{capacity};
 ghost use Rattle.amqp_session.specs.Talk.{start, is_open, has_ended};
-ghost use Rattle.amqp_session.specs.Commands.{command as command_rule};
-ghost use Rattle.amqp_session.specs.Changes.{next_promise};
+ghost use Rattle.amqp_session.specs.Commands.{command as command_rule, promise_of};
 ghost use Rattle.amqp_session.specs.ChannelMethods.{frames_of};
 ghost use Rattle.amqp_session.specs.Answers.{Takes, take_frames};
 ghost use Rattle.amqp_engine.specs.Engine.{Engine, begin, with_talk, starve_at};
@@ -120,7 +119,7 @@ impl Wire {
     /// Tells the session to do something, and gives the number of the promise that will be answered.
     pub fn command(&mut self, command: Cmd) -> amqp_session::Result<Option<u64>>
         ensures ok { OnOk result (self.new ≡ with_talk (command_rule command) self.old) }
-        ensures number { IfOk result (λ number. number ≡ Some (next_promise self.old.talk)) }
+        ensures number { IfOk result (λ number. number ≡ promise_of command self.old.talk) }
         ensures err { OnErr result (self.new ≡ self.old) }
         ensures only { IfErr result (λ e. e ≡ ErrorKind.NoMemory) }
     {

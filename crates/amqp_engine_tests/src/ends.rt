@@ -2,9 +2,7 @@
 
 use crate::story::{Line, tell, wrong_line};
 use crate::support::{Happens, Outcome};
-use amqp_vectors::{
-    BLOCKED, CLOSE_320, CLOSE_OK, HEADER, OPEN, OPEN_OK, START, START_OK, TUNE, TUNE_OK,
-};
+use amqp_vectors::{CLOSE_320, CLOSE_OK, HEADER, OPEN, OPEN_OK, START, START_OK, TUNE, TUNE_OK};
 use std::alloc::Global;
 use std::process::Abort;
 
@@ -98,8 +96,11 @@ fn writing_that_fails_breaks_the_pipe(rt: HostRuntime) -> Outcome<()> {
 }
 
 const NOT_BUILT: &[Row] = &[Row {
-    name: "blocked",
-    script: &[Happens::Link(None), Happens::Bytes(BLOCKED)],
+    name: "secure",
+    script: &[
+        Happens::Link(None),
+        Happens::Bytes("01 0000 00000009 000a0014 00000001 61 ce"),
+    ],
 }];
 
 #[test]

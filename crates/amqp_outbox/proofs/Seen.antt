@@ -195,3 +195,21 @@ module _ {X Y : Type 0} (f : Y → Option X) (n : ℕ) (y y' : Y) where
 pub without-unseen : {X Y : Type 0} (f : Y → Option X) (n : ℕ) (es : List (ℕ × Y)) → Sorted (keys_of es) → seen_at f (at n es) ≡ None
     → seen f (without n es) ≡ seen f es
 without-unseen f n es sorted none = without-seen f n es sorted ∙ without-absent n (seen f es) (at-seen f n es sorted ∙ none)
+
+-- ---- the numbers ascend
+
+module _ {X Y : Type 0} (f : Y → Option X) where
+  all-seen : (P : ℕ → Type 0) (es : List (ℕ × Y)) → AllByRecursion P (keys_of es) → AllByRecursion P (keys_of (seen f es))
+  all-seen P [] all = tt
+  all-seen P (e ∷ es) all = by (f e.1) (all-seen P es all.1) where
+    by : (o : Option X) → AllByRecursion P (keys_of (seen f es)) → AllByRecursion P (keys_of (seen_first e.0 o (seen f es)))
+    by None rest = rest
+    by (Some x) rest = (all.0, rest)
+
+  pub sorted-seen : (es : List (ℕ × Y)) → Sorted (keys_of es) → Sorted (keys_of (seen f es))
+  unfolding IsStrictlySortedBy
+  sorted-seen [] sorted = tt
+  sorted-seen (e ∷ es) sorted = by (f e.1) (sorted-seen es sorted.1) where
+    by : (o : Option X) → Sorted (keys_of (seen f es)) → Sorted (keys_of (seen_first e.0 o (seen f es)))
+    by None rest = rest
+    by (Some x) rest = (all-seen (λ k. nat_cmp e.0 k ≡ Less) es sorted.0, rest)

@@ -1,6 +1,6 @@
 -- The first thing of a key, which is taken out of a lane.
-use Rattle.std.proofs.Common.{◌≡◌, ◌∙◌, ap, sym, refl, subst, ℕ, ◌<◌, ◌==◌, Bool, true, false, cond, if◌then◌else◌, List, [], ◌∷◌, Option, Some, None}
-use Rattle.std.specs.Prelude.{drop, find}
+use Rattle.std.proofs.Common.{◌≡◌, ◌∙◌, ap, sym, refl, subst, ℕ, ◌<◌, ◌==◌, Bool, true, false, cond, if◌then◌else◌, List, [], ◌∷◌, Option, Some, None, arith, tests}
+use Rattle.std.specs.Prelude.{drop, find, length, not, is_some}
 use Rattle.std.specs.List.{AllByRecursion}
 use Rattle.std.specs.declared.cmp.Ordering.TheVariants.{Less, Equal, Greater}
 use Rattle.std.specs.Ordering.{nat_cmp, is_eq}
@@ -11,24 +11,12 @@ use Rattle.amqp_outbox.specs.Lists.{head, without_first, is_number}
 use Rattle.amqp_outbox.specs.Listed.{at, without}
 use Rattle.amqp_outbox.specs.Order.{seen_first, held, has_key, numbers_of}
 use Rattle.amqp_outbox.proofs.Cases.{same-from, nat_cmp_self, less-from, to-greater}
-use Rattle.amqp_outbox.proofs.Seen.{Sorted}
+use Rattle.amqp_outbox.proofs.Seen.{Sorted, sorted-seen}
 
 -- ---- what waits is in order
 
-all-held : {X : Type 0} (P : ℕ → Type 0) (es : List (ℕ × Option X)) → AllByRecursion P (keys_of es) → AllByRecursion P (keys_of (held es))
-all-held P [] all = tt
-all-held {X} P (e ∷ es) all = by e.1 (all-held P es all.1) where
-  by : (o : Option X) → AllByRecursion P (keys_of (held es)) → AllByRecursion P (keys_of (seen_first e.0 o (held es)))
-  by None rest = rest
-  by (Some x) rest = (all.0, rest)
-
 pub sorted-held : {X : Type 0} (es : List (ℕ × Option X)) → Sorted (keys_of es) → Sorted (keys_of (held es))
-unfolding IsStrictlySortedBy
-sorted-held [] sorted = tt
-sorted-held {X} (e ∷ es) sorted = by e.1 (sorted-held es sorted.1) where
-  by : (o : Option X) → Sorted (keys_of (held es)) → Sorted (keys_of (seen_first e.0 o (held es)))
-  by None rest = rest
-  by (Some x) rest = (all-held (λ k. nat_cmp e.0 k ≡ Less) es sorted.0, rest)
+sorted-held es sorted = sorted-seen (λ o. o) es sorted
 
 -- ---- a key's first
 
@@ -121,6 +109,17 @@ module _ {X : Type 0} (key_of : X → Option ℕ) where
         → cond b (Some e.1) (find (has_key key_of k) (values_of es)) ≡ None
     by true h rest = absurd cc
     by false h rest = rest h
+
+  -- a key has a number where a thing has the key
+  pub has-found : (k : ℕ) (xs : List (ℕ × X))
+      → not (length (numbers_of key_of k xs) == 0) ≡ is_some (find (has_key key_of k) (values_of xs))
+  has-found k [] = refl
+  has-found k (e ∷ es) = by (has_key key_of k e.1) (has-found k es) where
+    by : (b : Bool) → not (length (numbers_of key_of k es) == 0) ≡ is_some (find (has_key key_of k) (values_of es))
+        → not (length (if b then e.0 ∷ numbers_of key_of k es else numbers_of key_of k es) == 0)
+        ≡ is_some (cond b (Some e.1) (find (has_key key_of k) (values_of es)))
+    by true rest = grind (arith, tests)
+    by false rest = rest
 
 -- what passes no test is not taken out
 pub none-left_out : {X : Type 0} (test : X → Bool) (xs : List X) → find test xs ≡ None → without_first test xs ≡ xs

@@ -1,8 +1,8 @@
 //! The replies that are awaited, by channel.
 
-ghost use Rattle.std.specs.Prelude.{◌≡◌, ◌++◌, ◌∷◌, [], IfOk, IfSome, IfNone, OnOk, IsTrue, None, drop, find};
+ghost use Rattle.std.specs.Prelude.{◌≡◌, ◌++◌, ◌∷◌, [], IfOk, IfSome, IfNone, OnOk, IsTrue, None, drop, find, is_some, length};
 ghost use Rattle.amqp_outbox.specs.Lists.{head, without_first};
-ghost use Rattle.amqp_outbox.specs.Listed.{at};
+ghost use Rattle.amqp_outbox.specs.Listed.{at, Ascends};
 ghost use Rattle.amqp_outbox.specs.Replies.{is_of, method_of, expected, first_awaited, answered, first_on, without_first_on};
 ghost use Rattle.amqp_outbox.specs.Order.{seen, seen_at, waiting};
 ghost use Rattle.amqp_outbox.specs.Parts.{list_seen, HasReplyPlaces, HasPlaceFor};
@@ -50,6 +50,13 @@ impl Replies {
         ensures { IsTrue result → waiting self.now.lane.slots.entries ≡ [] }
     {
         self.lane.front().is_none()
+    }
+
+    // Whether one awaits this reply.
+    fn awaits(&self, reply: Reply) -> bool
+        ensures { result ≡ is_some (find (is_of reply) (waiting self.now.lane.slots.entries)) }
+    {
+        self.lane.has(reply.method())
     }
 
     // Takes out the first that awaits this reply.
@@ -138,8 +145,29 @@ impl Awaiting {
         }
     }
 
+    /// Whether one awaits this reply on this channel.
+    pub fn awaits(&self, channel: ChannelId, reply: Reply) -> bool
+        ensures { result ≡ is_some (first_awaited channel reply (seen list_seen self.now.lists.entries)) }
+    {
+        // Its clause tells that the numbers ascend.
+        let _ = self.lists.len();
+        match self.lists.get(&channel) {
+            Some(list) => list.awaits(reply),
+            None => false,
+        }
+    }
+
+    /// How many channels have places for replies.
+    pub fn channels(&self) -> usize
+        ensures count { result ≡ length self.now.lists.entries }
+        ensures ordered { Ascends (seen list_seen self.now.lists.entries) }
+    {
+        self.lists.len()
+    }
+
     /// Takes out the first that is awaited on a channel.
     pub fn drop_first(&mut self, channel: ChannelId) -> Option<Awaited>
+        ensures ordered { Ascends (seen list_seen self.old.lists.entries) }
         ensures first { result ≡ first_on channel (seen list_seen self.old.lists.entries) }
         ensures rest { seen list_seen self.new.lists.entries
             ≡ without_first_on channel (seen list_seen self.old.lists.entries) }
@@ -150,6 +178,7 @@ impl Awaiting {
     }
 
     fn take_first(&mut self, channel: ChannelId) -> Option<Awaited>
+        ensures ordered { Ascends (seen list_seen self.old.lists.entries) }
         ensures first { result ≡ first_on channel (seen list_seen self.old.lists.entries) }
         ensures rest { seen list_seen self.new.lists.entries
             ≡ without_first_on channel (seen list_seen self.old.lists.entries) }

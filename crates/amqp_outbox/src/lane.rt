@@ -1,6 +1,6 @@
 //! A lane: what waits, in order, of which the first of a kind is found at once.
 
-ghost use Rattle.std.specs.Prelude.{◌≡◌, ℕ, suc, ◌+◌, ◌<◌, ◌≤◌, ◌^◌, ◌++◌, ◌∷◌, [], Option, None, Some, IsSome, IfSome, OnOk, option_copied, drop, find};
+ghost use Rattle.std.specs.Prelude.{◌≡◌, ℕ, suc, ◌+◌, ◌<◌, ◌≤◌, ◌^◌, ◌++◌, ◌∷◌, [], Option, None, Some, IsSome, IfSome, OnOk, option_copied, drop, find, is_some};
 ghost use Rattle.std.proofs.Props.{props};
 ghost use Rattle.amqp_outbox.specs.Lists.{head, without_first};
 ghost use Rattle.amqp_outbox.specs.Listed.{at};
@@ -113,6 +113,13 @@ impl<T: Keyed> Lane<T> {
             Some((_, slot)) => slot.as_ref(),
             None => None,
         }
+    }
+
+    /// Whether a thing waits under a key.
+    pub fn has(&self, key: u16) -> bool
+        ensures { result ≡ is_some (find (has_key T.key_of key) (waiting self.now.slots.entries)) }
+    {
+        self.numbers.has(key)
     }
 
     /// Takes out the first thing.

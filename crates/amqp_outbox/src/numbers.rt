@@ -1,6 +1,6 @@
 //! The numbers of what waits, by key.
 
-ghost use Rattle.std.specs.Prelude.{◌≡◌, ℕ, suc, ◌+◌, ◌<◌, ◌≤◌, ◌==◌, ◌++◌, ◌∷◌, [], IfSome, IfOk, OnOk, IsTrue, if◌then◌else◌, drop, length};
+ghost use Rattle.std.specs.Prelude.{◌≡◌, ℕ, suc, ◌+◌, ◌<◌, ◌≤◌, ◌==◌, ◌++◌, ◌∷◌, [], IfSome, IfOk, OnOk, IsTrue, if◌then◌else◌, drop, length, not};
 ghost use Rattle.std.specs.VecDeque.{deque_capacity};
 ghost use Rattle.amqp_outbox.specs.Lists.{head, is_number};
 ghost use Rattle.amqp_outbox.specs.Order.{listed, HasRoom};
@@ -121,6 +121,22 @@ impl Numbers {
     {
         if let Some(queue) = self.lists.get_mut(&key) {
             queue.push_reserved(number);
+        }
+    }
+
+    /// Whether a number is listed under a key.
+    pub fn has(&self, key: u16) -> bool
+        ensures { result ≡ not (length (listed key self.now.lists.entries) == 0) }
+    {
+        !self.is_none(key)
+    }
+
+    fn is_none(&self, key: u16) -> bool
+        ensures { result ≡ (length (listed key self.now.lists.entries) == 0) }
+    {
+        match self.lists.get(&key) {
+            Some(queue) => queue.is_empty(),
+            None => true,
         }
     }
 

@@ -9,7 +9,14 @@ fn replies_come_in_order_in<A: Abort>(rt: &A, outbox: &mut Outbox) -> Result<(),
     outbox.expect(2, Reply::FlowDone, Some(2))?;
     outbox.expect(1, Reply::ChannelClosed, Some(3))?;
     outbox.expect(1, Reply::FlowDone, None)?;
+    outbox.expect(3, Reply::SecretDone, Some(4))?;
+    assert!(rt; outbox.awaits(1, Reply::ChannelClosed));
+    assert!(rt; !outbox.awaits(2, Reply::ChannelClosed));
+    assert!(rt; outbox.drop_reply(3) == Some(Some(4)));
+    assert!(rt; !outbox.awaits(3, Reply::SecretDone));
+    assert!(rt; outbox.drop_reply(3) == None);
     assert!(rt; outbox.answer(1, Reply::ChannelClosed) == Some(Some(3)));
+    assert!(rt; !outbox.awaits(1, Reply::ChannelClosed));
     assert!(rt; outbox.answer(1, Reply::FlowDone) == Some(Some(1)));
     assert!(rt; outbox.answer(1, Reply::FlowDone) == Some(None));
     assert!(rt; outbox.answer(1, Reply::FlowDone) == None);

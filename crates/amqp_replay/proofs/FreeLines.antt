@@ -2,14 +2,14 @@
 use Rattle.std.proofs.Common.{◌≡◌, ℕ, nat_le, if◌then◌else◌, Bool, true, false, List, [], length, Option, Some, None, unwrap_or, refl, ap, arith}
 use Rattle.std.proofs.lemmas.Bool.Decides.{nat_tests}
 use Rattle.amqp_session.specs.declared.command.Cmd.{Cmd}
-use Rattle.amqp_session.specs.declared.command.Cmd.TheVariants.{CloseChannel, CloseConnection}
+use Rattle.amqp_session.specs.declared.command.Cmd.TheVariants.{CloseChannel, CloseConnection, Flow}
 use Rattle.amqp_engine.specs.declared.given.GivenStep.{GivenStep}
 use Rattle.amqp_engine.specs.declared.given.GivenStep.TheVariants.{Command}
 use Rattle.amqp_replay.specs.declared.grammar.Said.TheVariants.{Refused, Step}
 use Rattle.amqp_replay.specs.declared.limits.TheConstants.{TEXT_BYTES}
 use Rattle.amqp_replay.specs.Words.{first_word, after_word}
 use Rattle.amqp_replay.specs.Decimals.{number_16}
-use Rattle.amqp_replay.specs.Grammar.{limited, closes_by, closes, shut_line, numbered, close_of, close_line}
+use Rattle.amqp_replay.specs.Grammar.{limited, closes_by, closes, shut_line, numbered, close_of, close_line, number_in, rest_of, switch_in, flows, flow_line}
 
 -- a step without such zeros is always within the limit
 free_step : (left : ℕ) (what : GivenStep) → limited left (Step what 0) ≡ Step what 0
@@ -39,3 +39,11 @@ limited-close_line left (Some words) = free_close_of left (number_16 (first_word
 
 pub limited-shut_line : (left : ℕ) (o : Option (List ℕ)) → limited left (shut_line o) ≡ shut_line o
 limited-shut_line left o = free_closes left CloseConnection o
+
+free_flows : (left : ℕ) (n : Option ℕ) (active : Option Bool) → limited left (flows n active) ≡ flows n active
+free_flows left (Some n) (Some active) = free_step left (Command (Flow (numbered n) active))
+free_flows left None active = refl
+free_flows left (Some n) None = refl
+
+pub limited-flow_line : (left : ℕ) (o : Option (List ℕ)) → limited left (flow_line o) ≡ flow_line o
+limited-flow_line left o = free_flows left (number_in o) (switch_in (rest_of o))

@@ -16,7 +16,7 @@ use Rattle.amqp_replay.specs.Lines.{Line}
 use Rattle.amqp_replay.specs.Words.{first_word, after_word}
 use Rattle.amqp_replay.specs.Decimals.{number_16, number_64}
 use Rattle.amqp_replay.specs.Data.{Spelled, spelled}
-use Rattle.amqp_replay.specs.Grammar.{step_or_refused, lone, link_line, room_line, piece, bytes_line, closes_by, closes, shut_line, numbered, close_of, close_line, number_in, rest_of, is_passed_through, sent_method, sends_data, data_in, sends, send_line, Published, zeros_published, published_in, publishes_data, publishes, publish_line, command_of_words, line_of_words, is_ignored, is_printable, content_says, is_within_limits, says, limited}
+use Rattle.amqp_replay.specs.Grammar.{step_or_refused, lone, link_line, room_line, piece, bytes_line, closes_by, closes, shut_line, numbered, close_of, close_line, number_in, rest_of, is_passed_through, sent_method, sends_data, data_in, sends, send_line, Published, zeros_published, published_in, publishes_data, publishes, publish_line, switch_in, flows, flow_line, command_of_words, line_of_words, is_ignored, is_printable, content_says, is_within_limits, says, limited}
 
 abbrev pub SaysPiece : Said → Type 0
 SaysPiece (Step what n) = IsGivenPiece what
@@ -97,6 +97,11 @@ of_publish_line : (o : Option (List ℕ)) → SaysPiece (publish_line o)
 of_publish_line o =
     of_publishes (number_in o) (number_in (rest_of o)) (number_in (rest_of (rest_of o))) (published_in (rest_of (rest_of (rest_of o))))
 
+of_flows : (n : Option ℕ) (active : Option Bool) → SaysPiece (flows n active)
+of_flows (Some n) (Some active) = tt
+of_flows None active = tt
+of_flows (Some n) None = tt
+
 -- ---- a piece
 
 both : (n : ℕ) → (nat_le 1 n && nat_le n 4096) ≡ true → (1 ≤ n) × (n ≤ 4096)
@@ -123,7 +128,8 @@ of_command word rest =
     (if_case (bytes_eq word (codes "close")) (close_line rest) _ (of_close_line rest)
     (if_case (bytes_eq word (codes "send")) (send_line rest) _ (of_send_line rest)
     (if_case (bytes_eq word (codes "publish")) (publish_line rest) _ (of_publish_line rest)
-    (if_case (bytes_eq word (codes "shut")) (shut_line rest) Refused (of_closes CloseConnection rest) tt))))
+    (if_case (bytes_eq word (codes "flow")) (flow_line rest) _ (of_flows (number_in rest) (switch_in (rest_of rest)))
+    (if_case (bytes_eq word (codes "shut")) (shut_line rest) Refused (of_closes CloseConnection rest) tt)))))
 
 of_words : (word : List ℕ) (rest : Option (List ℕ)) → SaysPiece (line_of_words word rest)
 of_words word rest =

@@ -1,11 +1,11 @@
 -- A script: which step each line says, and which line is refused.
-use Rattle.std.specs.Prelude.{ℕ, ◌+◌, ◌==◌, ◌-◌, ◌&&◌, ◌||◌, not, nat_le, if◌then◌else◌, Bool, true, List, [], ◌∷◌, length, Option, Some, None, option_map, unwrap_or, Result, Ok, Err, codes}
+use Rattle.std.specs.Prelude.{ℕ, ◌+◌, ◌==◌, ◌-◌, ◌&&◌, ◌||◌, not, nat_le, if◌then◌else◌, Bool, true, false, List, [], ◌∷◌, length, Option, Some, None, option_map, unwrap_or, Result, Ok, Err, codes}
 use Rattle.std.specs.List.{list_all}
 use Rattle.std.specs.Str.{bytes_eq}
 use Rattle.amqp_frame.specs.RawMethods.{OtherMethod}
 use Rattle.amqp_session.specs.declared.command.ChanRef.{ChanRef}
 use Rattle.amqp_session.specs.declared.command.Cmd.{Cmd}
-use Rattle.amqp_session.specs.declared.command.Cmd.TheVariants.{OpenChannel, CloseChannel, CloseConnection, Send, Publish}
+use Rattle.amqp_session.specs.declared.command.Cmd.TheVariants.{OpenChannel, CloseChannel, CloseConnection, Send, Publish, Flow}
 use Rattle.amqp_engine.specs.declared.given.Given.{Given}
 use Rattle.amqp_engine.specs.declared.given.GivenStep.{GivenStep}
 use Rattle.amqp_engine.specs.declared.given.GivenStep.TheVariants.{Link, Refuse, Bytes, End, Fault, Room, WriteFail, Command}
@@ -174,6 +174,27 @@ publish_line rest =
     let after_class = rest_of after_channel in
     publishes (number_in rest) (number_in after_channel) (number_in after_class) (published_in (rest_of after_class))
 
+-- `on` or `off`
+abbrev pub switch_of : List ℕ → Option Bool
+switch_of word =
+    if bytes_eq word (codes "on") then Some true
+    else if bytes_eq word (codes "off") then Some false
+    else None
+
+-- the words that are left are `on` or `off`
+abbrev pub switch_in : Option (List ℕ) → Option Bool
+switch_in None = None
+switch_in (Some text) = switch_of text
+
+-- the server is told to start or to stop sending content, where the channel and the switch are there
+abbrev pub flows : Option ℕ → Option Bool → Said
+flows (Some n) (Some active) = Step (Command (Flow (numbered n) active)) 0
+flows _ _ = Refused
+
+-- `flow CH on`, `flow CH off`
+abbrev pub flow_line : Option (List ℕ) → Said
+flow_line rest = flows (number_in rest) (switch_in (rest_of rest))
+
 -- a line that tells the session to do something
 abbrev pub command_of_words : List ℕ → Option (List ℕ) → Said
 command_of_words word rest =
@@ -181,6 +202,7 @@ command_of_words word rest =
     else if bytes_eq word (codes "close") then close_line rest
     else if bytes_eq word (codes "send") then send_line rest
     else if bytes_eq word (codes "publish") then publish_line rest
+    else if bytes_eq word (codes "flow") then flow_line rest
     else if bytes_eq word (codes "shut") then shut_line rest
     else Refused
 

@@ -1,10 +1,10 @@
 -- The report of a replay.
-use Rattle.std.specs.Prelude.{ℕ, List, [], ◌∷◌, ◌++◌, Option, Some, None, Result, Ok, Err, codes}
+use Rattle.std.specs.Prelude.{ℕ, true, false, List, [], ◌∷◌, ◌++◌, Option, Some, None, Result, Ok, Err, codes}
 use Rattle.std.specs.List.{flat_map, enumerate_from, range_with_len}
 use Rattle.std.specs.Fmt.{decimal}
 use Rattle.hex.specs.Hex.{encode_lower}
 use Rattle.amqp_session.specs.declared.command.Answer.{Answer}
-use Rattle.amqp_session.specs.declared.command.Answer.TheVariants.{Connected, Channel, Done, Sent}
+use Rattle.amqp_session.specs.declared.command.Answer.TheVariants.{Connected, Channel, Done, Sent, Flow}
 use Rattle.amqp_frame.specs.declared.frame.RawKind.{RawKind}
 use Rattle.amqp_frame.specs.declared.frame.RawKind.TheVariants.{RawMethod, Header, Body}
 use Rattle.amqp_session.specs.declared.handed.Handed.{Handed}
@@ -29,6 +29,8 @@ value_text Connected = codes "connected"
 value_text (Channel n opened) = codes "channel " ++ decimal n
 value_text Done = codes "done"
 value_text Sent = codes "sent"
+value_text (Flow true) = codes "flow on"
+value_text (Flow false) = codes "flow off"
 
 -- an answer, or that there is none
 abbrev pub answer_text : Option (Result Answer ErrorKind) → List ℕ

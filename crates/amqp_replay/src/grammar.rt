@@ -5,7 +5,7 @@ ghost use Rattle.std.specs.List.{list_all};
 ghost use Rattle.std.specs.Option.{option_copied};
 ghost use Rattle.amqp_session.specs.declared.command.ChanRef.{ChanRef};
 ghost use Rattle.amqp_session.specs.declared.command.Cmd.TheVariants.{CloseConnection, CloseChannel};
-ghost use Rattle.amqp_replay.specs.Grammar.{says, content_says, line_of_words, command_of_words, limited, is_ignored, is_printable, is_within_limits, lone, link_line, room_line, bytes_line, shut_line, close_line, send_line, close_of, closes, closes_by, numbered, number_in, rest_of, sends_data, is_passed_through, all_spelled, published_in, publishes_data, publish_line, zeros_published};
+ghost use Rattle.amqp_replay.specs.Grammar.{says, content_says, line_of_words, command_of_words, limited, is_ignored, is_printable, is_within_limits, lone, link_line, room_line, bytes_line, shut_line, close_line, send_line, close_of, closes, closes_by, numbered, number_in, rest_of, sends_data, is_passed_through, all_spelled, published_in, publishes_data, publish_line, zeros_published, flow_line, switch_of};
 ghost use Rattle.amqp_replay.specs.Budgets.{affordable_publish};
 ghost use Rattle.amqp_replay.specs.Data.{spelled};
 ghost use Rattle.amqp_replay.specs.Decimals.{number_16};
@@ -114,6 +114,9 @@ fn command(alloc: Global, word: &[u8], rest: Option<&[u8]>, left: u64) -> Result
     }
     if is(word, b"publish") {
         return Ok(publish(alloc, rest, left)?);
+    }
+    if is(word, b"flow") {
+        return Ok(flow(rest));
     }
     if is(word, b"shut") {
         return Ok(shut(alloc, rest)?);
@@ -420,4 +423,31 @@ fn publishes(
     let method = RawMethod::new(alloc, class, method, arguments.bytes().as_bytes())?;
     let command = Cmd::Publish(numbered(id), method, properties, body.into_bytes());
     Ok(Said::Step(GivenStep::Command(command), zeros))
+}
+
+// `flow CH on`, `flow CH off`
+fn flow(rest: Option<&[u8]>) -> Said
+    ensures { result ≡ flow_line (option_copied rest.entry) }
+{
+    let (id, rest) = number_and_rest(rest);
+    let (Some(id), Some(text)) = (id, rest) else {
+        return Said::Refused;
+    };
+    match switch(text) {
+        Some(active) => Said::Step(GivenStep::Command(Cmd::Flow(numbered(id), active)), 0),
+        None => Said::Refused,
+    }
+}
+
+// `on` or `off`
+fn switch(text: &[u8]) -> Option<bool>
+    ensures { result ≡ switch_of text.now }
+{
+    if is(text, b"on") {
+        return Some(true);
+    }
+    if is(text, b"off") {
+        return Some(false);
+    }
+    None
 }

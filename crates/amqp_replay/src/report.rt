@@ -207,6 +207,8 @@ fn put_value(out: &mut String, value: Answer) -> Result<(), NoMemory>
         Answer::Channel(id, _) => write!(out, "ok channel {id}")?,
         Answer::Done => out.push_str("ok done")?,
         Answer::Sent => out.push_str("ok sent")?,
+        Answer::Flow(true) => out.push_str("ok flow on")?,
+        Answer::Flow(false) => out.push_str("ok flow off")?,
     }
     Ok(())
 }

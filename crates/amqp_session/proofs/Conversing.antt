@@ -1,7 +1,8 @@
 -- The rules keep a session tied to what was said.
-use Rattle.std.proofs.Common.{◌≡◌, ◌≢◌, ◌<◌, ◌≤◌, ◌^◌, ℕ, zero, suc, ◌-◌, ◌&&◌, ◌==◌, not, nat_le, max, if◌then◌else◌, Bool, true, false, List, [], ◌∷◌, ◌++◌, length, drop, Option, Some, None, is_some, Result, Ok, Err, inl, inr, refl, ap, sym, ◌∙◌, subst, append_assoc, true≢false, arith}
+use Rattle.std.proofs.Common.{◌≡◌, ◌≢◌, ◌<◌, ◌≤◌, ◌^◌, ℕ, zero, suc, ◌+◌, ◌-◌, ◌&&◌, ◌==◌, not, nat_le, max, if◌then◌else◌, Bool, true, false, List, [], ◌∷◌, ◌++◌, length, drop, Option, Some, None, is_some, Result, Ok, Err, inl, inr, refl, ap, sym, ◌∙◌, subst, append_assoc, true≢false, arith}
 use Rattle.std.proofs.lemmas.List.{map-append}
 use Rattle.std.specs.List.{AllByRecursion}
+use Rattle.std.specs.Prelude.{codes}
 use Rattle.std.proofs.lemmas.Nat.{from_be_bytes-to_be_bytes_2}
 use Rattle.amqp_types.specs.declared.word.Word.{Word}
 use Rattle.amqp_types.specs.declared.word.Word.TheVariants as word
@@ -10,17 +11,19 @@ use Rattle.amqp_frame.specs.declared.frame.Frame.TheVariants.{ProtocolHeader, Me
 use Rattle.amqp_frame.specs.declared.frame.RawKind.{RawKind}
 use Rattle.amqp_frame.specs.declared.frame.RawKind.TheVariants.{RawMethod}
 use Rattle.amqp_frame.specs.declared.method.Method.{Method as AnyMethod}
-use Rattle.amqp_frame.specs.declared.method.Method.TheVariants.{Start, Tune, OpenOk, Close, CloseOk, ChannelOpenOk, ChannelCloseOk}
+use Rattle.amqp_frame.specs.declared.method.Method.TheVariants.{Start, Tune, OpenOk, Close, CloseOk, Blocked, Unblocked, ChannelOpenOk, ChannelFlow, ChannelFlowOk, ChannelClose, ChannelCloseOk}
 use Rattle.amqp_frame.specs.RawMethods.{OtherMethod, spell_raw_method}
 use Rattle.amqp_outbox.specs.declared.item.Item.{Item}
-use Rattle.amqp_outbox.specs.declared.reply.Reply.TheVariants.{ChannelOpened, ChannelClosed, ConnectionClosed}
+use Rattle.amqp_outbox.specs.declared.reply.Reply.TheVariants.{ChannelOpened, ChannelClosed, FlowDone, ConnectionClosed}
 use Rattle.amqp_outbox.specs.Items.{plain, promised, group_of}
 use Rattle.amqp_outbox.specs.Queued as queued
 use Rattle.amqp_outbox.specs.Queued.{Queued, pushed_control, only, awaited_promise, after_next}
 use Rattle.amqp_session.specs.declared.channels.Channel.{Channel}
+use Rattle.amqp_session.specs.declared.channels.Debt.{Debt}
+use Rattle.amqp_session.specs.declared.channels.Debt.TheVariants as debt
 use Rattle.amqp_session.specs.declared.committed.Mark.{Mark}
 use Rattle.amqp_session.specs.declared.committed.Then.{Then}
-use Rattle.amqp_session.specs.declared.committed.Then.TheVariants.{Nothing, Answer, Finish}
+use Rattle.amqp_session.specs.declared.committed.Then.TheVariants.{Nothing, Answer, Pays, Finish}
 use Rattle.amqp_session.specs.declared.configuration.Configuration.{Configuration}
 use Rattle.amqp_session.specs.declared.state.ConnectionState.{ConnectionState}
 use Rattle.amqp_session.specs.declared.state.ConnectionState.TheVariants.{Initial, Connecting, Connected, Closing}
@@ -36,37 +39,42 @@ use Rattle.amqp_session.specs.declared.io_fault.IoFault.{IoFault}
 use Rattle.amqp_session.specs.declared.io_fault.IoFault.TheVariants.{Refused}
 use Rattle.amqp_session.specs.declared.misread.Misread.{Misread}
 use Rattle.amqp_session.specs.declared.command.Cmd.{Cmd}
-use Rattle.amqp_session.specs.declared.command.Cmd.TheVariants.{OpenChannel, CloseChannel, CloseConnection, Send, Publish}
+use Rattle.amqp_session.specs.declared.command.Cmd.TheVariants.{OpenChannel, CloseChannel, CloseConnection, Send, Publish, Flow, DropChannel, DropConnection}
 use Rattle.amqp_session.specs.declared.command.ChanRef.{ChanRef}
+use Rattle.amqp_session.specs.declared.command.Answer.TheVariants.{Done}
+use Rattle.amqp_session.specs.declared.server_close.ServerClose.{ServerClose}
+use Rattle.amqp_session.specs.declared.server_close.ServerClose.TheVariants.{WithoutError, WithError}
 use Rattle.amqp_session.specs.declared.error.ErrorKind.{ErrorKind}
-use Rattle.amqp_session.specs.declared.error.ErrorKind.TheVariants.{IOError, InvalidConnectionState, InvalidProtocolVersion, InvalidChannel, Unbuilt}
-use Rattle.amqp_session.specs.Talk.{Talk, start, has_ended, is_open, is_open_link, is_asked, is_wanted_link, wants_link, end_of_link, is_closing, is_acting, acts}
-use Rattle.amqp_session.specs.Changes.{next_promise, present_at, fail, lose, misplaced, finish_by, starve}
-use Rattle.amqp_session.specs.Violations.{misread_error, unawaited, stray_channel_frame, stray_connection_method}
+use Rattle.amqp_session.specs.declared.error.ErrorKind.TheVariants.{IOError, InvalidConnectionState, InvalidProtocolVersion, InvalidChannel, InvalidChannelState, Unbuilt}
+use Rattle.amqp_session.specs.Talk.{Talk, start, has_ended, is_open, is_open_link, is_asked, is_wanted_link, wants_link, end_of_link, is_closing, is_acting, acts, hears_on}
+use Rattle.amqp_session.specs.Changes.{next_promise, present_at, fail, lose, misplaced, finish_by, starve, queue, give_to, drop_replies_of, without_all_on}
+use Rattle.amqp_session.specs.Violations.{misread_error, channel_closed_with, unawaited, stray_channel_frame, stray_connection_method}
 use Rattle.amqp_session.specs.Negotiation.{frame_min_size, tune}
-use Rattle.amqp_session.specs.Handshake.{start_ok, tune_ok, open_vhost, close_ok, our_close, channel_open, our_channel_close, protocol_header}
+use Rattle.amqp_session.specs.Handshake.{start_ok, tune_ok, open_vhost, close_ok, our_close, channel_open, channel_flow, flow_ok, our_channel_close, channel_close_ok, protocol_header}
 use Rattle.amqp_session.specs.Links.{asked, asked_link, linked, link_failed, piece, lost, misread, dropped}
 use Rattle.amqp_session.specs.ConnectionMethods.{connection_rule, on_connection_close, on_start, on_tune, on_open_ok, on_connection_close_ok, connection_closed}
-use Rattle.amqp_session.specs.Channels.{channel_at}
-use Rattle.amqp_session.specs.ChannelMethods.{heard_on, unawaited_channel_method, channel_opened, channel_closed, channel_rule, channel_method_by, channel_method, raw_by, pass_through, confirmed, hand_out, is_select_ok}
-use Rattle.amqp_session.specs.Frames.{is_unbuilt, is_of_a_channel, method_rule, frame_rule, on_frame}
+use Rattle.amqp_session.specs.Channels.{channel_at, set_channel}
+use Rattle.amqp_session.specs.ChannelMethods.{heard_on, unawaited_channel_method, channel_opened, remove_channel, remove_unless_owed, channel_closed, on_channel_flow, channel_flowed, awaits_close_ok, closed_by_server, crossing_close, channel_close_by, channel_rule, channel_method_by, channel_method, raw_by, pass_through, confirmed, hand_out, is_select_ok}
+use Rattle.amqp_session.specs.Frames.{is_unbuilt, is_of_a_channel, method_rule, frame_rule, closed_rule, on_frame}
 use Rattle.amqp_session.specs.Publishing.{method_frame, publish_frames}
-use Rattle.amqp_session.specs.Commands.{command, command_rule, open_drawn, open_as, named, named_in, is_opening, target, target_by, target_in, close_target, close_channel, close_connection, too_long, unless_too_long, queue_send, send, send_target, body_limit, queue_publish, publish, publish_target}
-use Rattle.amqp_session.specs.Writing.{flows, next_item, mark_of, follow, sent, sent_among, taken}
+use Rattle.amqp_session.specs.Commands.{command, command_rule, open_drawn, open_as, named, named_in, is_opening, target, target_by, target_in, leave_channel, close_target, leave_connection, drop_target, flow_target, tell_flow, too_long, unless_too_long, queue_send, send, send_target, body_limit, queue_publish, publish, publish_target}
+use Rattle.amqp_session.specs.Writing.{flows, writes, next_item, then_of, mark_of, paid_by, pay, follow, sent, sent_among, taken}
 use Rattle.amqp_session.specs.Answers.{answer_of, take_answer, take_frames}
-use Rattle.amqp_session.specs.Listed.{without}
+use Rattle.amqp_session.specs.Listed.{put, without}
 use Rattle.amqp_session.specs.Numbering.{first_number, drawn}
 use Rattle.amqp_session.specs.Octets.{class_in}
 use Rattle.amqp_session.specs.Legal.{amqp_header, IsPassedThrough}
-use Rattle.amqp_session.specs.Decider.{Speech, Stage, MethodSaid, HeaderSaid, StartOkSaid, TuneOkSaid, OpenSaid, CloseSaid, CloseOkSaid, Shut, InUse, Left, NoContent, now_on, greeted, say, say_all, is_amqp_header, is_legal}
+use Rattle.amqp_session.specs.Decider.{Speech, Stage, MethodSaid, HeaderSaid, StartOkSaid, TuneOkSaid, OpenSaid, CloseSaid, CloseOkSaid, Shut, InUse, Left, NoContent, BodyMissing, now_on, greeted, say, say_all, is_amqp_header, is_legal}
 use Rattle.amqp_session.proofs.Cases.{if_case, if_by, if-true, and-true}
 use Rattle.amqp_session.proofs.Keeping.{starve-ends, finish-ends, lost-stays}
-use Rattle.amqp_session.proofs.Truths.{append-none}
-use Rattle.amqp_session.proofs.Sayable.{say-append, front-said, over-stays, close-said, say-our-close, say-group, filling}
-use Rattle.amqp_session.proofs.Ties.{frames_in, LeadsTo, first_out, IsReady, TiesChannels, IsNew, TiesPhase, TiesActing, Ties, Speaks, IsTied, IsSilent, IsSendable}
-use Rattle.amqp_session.proofs.Ready.{stay-ready, open-ready, others-ready, never-ready, publish-content, publish-ready, pieces-fit}
+use Rattle.amqp_session.proofs.Truths.{append-none, same-number, other-number}
+use Rattle.amqp_session.proofs.Sayable.{IsComplete, say-append, front-said, over-stays, close-said, say-our-close, say-flow, say-flow-ok, say-channel-close-ok, say-group, filling}
+use Rattle.amqp_session.proofs.Ties.{frames_in, LeadsTo, first_out, IsReady, IsOfControl, pays, paying, to_pay, unpaid, TiesChannels, IsNew, TiesPhase, TiesActing, Ties, Speaks, IsTied, IsSilent, IsSendable}
+use Rattle.amqp_session.proofs.Ready.{stay-ready, open-ready, others-ready, unused-ready, never-ready, publish-content, publish-ready, pieces-fit}
 use Rattle.amqp_session.proofs.Expecting.{first-by-promise}
-use Rattle.amqp_session.proofs.OnChannels.{Listed, Replies, on-open, on-close, on-send, on-same, on-opened, on-closed, listed-some, used-open, all-append, drawn-free}
+use Rattle.amqp_session.proofs.Paying.{left_in_lane, none-more, one-more, moved-on, sent-off, group-pays-none, pays-own, pays-others, lane-pays-none, others-unpaid, none-unpaid, lane-left}
+use Rattle.amqp_session.proofs.Losing.{Alike, lane-loses}
+use Rattle.amqp_session.proofs.OnChannels.{Listed, Replies, on-alike, on-usages, ties-of, with-content, on-open, on-close, on-send, on-same, on-await-flow, on-flowed, on-opened, left_listed, on-closed, is-used, on-server-close, is-left, on-crossing, none-due, one-due, on-paid, on-paid-gone, listed-some, used-open, all-append, drawn-free}
 
 -- what is known of a session: while a link is open, and while one is wanted
 abbrev pub Now : Talk → List Frame → Type 0
@@ -191,31 +199,13 @@ now-lost fault t fs h =
 pub now-starve : (t : Talk) (fs : List Frame) → Now t fs → Now (starve t) fs
 now-starve t fs h = now-ended (starve t) fs (starve-ends t)
 
-now-follow : (th : Then) (t : Talk) (fs : List Frame) → Now t fs → Now (follow th t) fs
-now-follow Nothing t fs h = h
-now-follow (Answer n) t fs h = h
-now-follow Finish t fs h = now-ended (finish_by t.server_close t) fs (finish-ends t.server_close t)
-
-now-sent : (ms : List Mark) (n : ℕ) (t : Talk) (fs : List Frame) → Now t fs → Now (sent_among ms n t) fs
-now-sent [] n t fs h = h
-now-sent (m ∷ ms) n t fs h =
-    let some : Talk = sent_among ms (n - m.left) (sent m t) in
-    let part : Talk = record t { committed = record m { left = m.left - n } ∷ ms } in
-    if_case (λ (x : Talk). Now x fs) (is_open t) (if nat_le m.left n then some else part) t
-    (if_case (λ (x : Talk). Now x fs) (nat_le m.left n) some part
-    (now-sent ms (n - m.left) (sent m t) fs (now-follow m.then (record t { committed = drop 1 t.committed }) fs h)) h) h
-
-pub now-taken : (n : ℕ) (t : Talk) (fs : List Frame) → Now t fs → Now (taken n t) fs
-now-taken n t fs h =
-    let u : Talk = record t { last_write = t.present } in
-    if_case (λ (x : Talk). Now x fs) (is_open t && not (n == 0)) (sent_among t.committed n u) t (now-sent t.committed n u fs h) h
-
 -- ---- what can be no frame
 
-ties-dropped : (i : Input) (s : ConnectionState) (p : Phase) (cs : Listed) (ws : Replies) (v : Speech) → is_acting i ≡ false → Ties i s p cs ws v → Ties (dropped i) s p cs ws v
-ties-dropped input.Acting s p cs ws v h k = absurd cc
-ties-dropped (input.Closed crossed) s p cs ws v h k = k
-ties-dropped (input.Dropped crossed) s p cs ws v h k = k
+ties-dropped : (i : Input) (s : ConnectionState) (p : Phase) (cs : Listed) (ws : Replies) (due : ℕ → ℕ) (v : Speech) → is_acting i ≡ false → Ties i s p cs ws due v
+    → Ties (dropped i) s p cs ws due v
+ties-dropped input.Acting s p cs ws due v h k = absurd cc
+ties-dropped (input.Closed crossed) s p cs ws due v h k = k
+ties-dropped (input.Dropped crossed) s p cs ws due v h k = k
 
 not-acting : (b c : Bool) → b ≡ true → (b && c) ≡ false → c ≡ false
 not-acting true c g h = h
@@ -241,8 +231,9 @@ now-misread why t fs h =
     (record {
       later = said.later;
       leads = said.leads;
+      lane = said.lane;
       groups = said.groups;
-      ties = ties-dropped t.input t.state t.phase t.channels t.outbox.awaited said.later (not-acting (is_open t) (is_acting t.input) o idle) said.ties;
+      ties = ties-dropped t.input t.state t.phase t.channels t.outbox.awaited (unpaid t.committed (first_out t.outbox)) said.later (not-acting (is_open t) (is_acting t.input) o idle) said.ties;
       agreed = said.agreed;
     })))
     (λ closed. h))
@@ -260,33 +251,34 @@ not-over-phase AwaitOpenOk v h over = none (sym (ap (λ (x : Speech). x.stage) h
   none : OpenSaid ≡ CloseOkSaid → ⊥
   none h = cc
 
-not-over : (s : ConnectionState) (p : Phase) (cs : Listed) (ws : Replies) (v : Speech) → TiesActing s p cs ws v → v.stage ≢ CloseOkSaid
-not-over Connecting p cs ws v h over = not-over-phase p v h.0 over
-not-over Connected p cs ws v h over = none (sym h.speaking ∙ over) where
+not-over : (s : ConnectionState) (p : Phase) (cs : Listed) (ws : Replies) (due : ℕ → ℕ) (v : Speech) → TiesActing s p cs ws due v → v.stage ≢ CloseOkSaid
+not-over Connecting p cs ws due v h over = not-over-phase p v h.0 over
+not-over Connected p cs ws due v h over = none (sym h.speaking ∙ over) where
   none : OpenSaid ≡ CloseOkSaid → ⊥
   none h = cc
-not-over Closing p cs ws v h over = none (sym h ∙ over) where
+not-over Closing p cs ws due v h over = none (sym h ∙ over) where
   none : CloseSaid ≡ CloseOkSaid → ⊥
   none h = cc
-not-over _ p cs ws v h over = h
+not-over _ p cs ws due v h over = h
 
 -- the same, where state, phase and input are known
-speaks-as : (s s' : ConnectionState) (p p' : Phase) (i i' : Input) (frame_max : ℕ) (q : Queued) (cs : Listed) (fs : List Frame)
-    → s ≡ s' → p ≡ p' → i ≡ i' → Speaks s p i frame_max q cs fs → Speaks s' p' i' frame_max q cs fs
-speaks-as s s' p p' i i' frame_max q cs fs hs hp hi h =
-    let A : ConnectionState → Type 0 = λ x. Speaks x p i frame_max q cs fs in
-    let B : Phase → Type 0 = λ x. Speaks s' x i frame_max q cs fs in
-    let C : Input → Type 0 = λ x. Speaks s' p' x frame_max q cs fs in
+speaks-as : (s s' : ConnectionState) (p p' : Phase) (i i' : Input) (frame_max : ℕ) (q : Queued) (cs : Listed) (ms : List Mark) (fs : List Frame)
+    → s ≡ s' → p ≡ p' → i ≡ i' → Speaks s p i frame_max q cs ms fs → Speaks s' p' i' frame_max q cs ms fs
+speaks-as s s' p p' i i' frame_max q cs ms fs hs hp hi h =
+    let A : ConnectionState → Type 0 = λ x. Speaks x p i frame_max q cs ms fs in
+    let B : Phase → Type 0 = λ x. Speaks s' x i frame_max q cs ms fs in
+    let C : Input → Type 0 = λ x. Speaks s' p' x frame_max q cs ms fs in
     subst C hi (subst B hp (subst A hs h))
 
 -- the same of a session
 tied-as : (s : ConnectionState) (p : Phase) (i : Input) (t : Talk) (fs : List Frame) → t.state ≡ s → t.phase ≡ p → t.input ≡ i
-    → Speaks s p i t.configuration.frame_max t.outbox t.channels fs → IsTied t fs
-tied-as s p i t fs hs hp hi h = speaks-as s t.state p t.phase i t.input t.configuration.frame_max t.outbox t.channels fs (sym hs) (sym hp) (sym hi) h
+    → Speaks s p i t.configuration.frame_max t.outbox t.channels t.committed fs → IsTied t fs
+tied-as s p i t fs hs hp hi h =
+    speaks-as s t.state p t.phase i t.input t.configuration.frame_max t.outbox t.channels t.committed fs (sym hs) (sym hp) (sym hi) h
 
 -- while frames act, in this state
 abbrev pub In : ConnectionState → Phase → Talk → List Frame → Type 0
-In s p t fs = Speaks s p input.Acting t.configuration.frame_max t.outbox t.channels fs
+In s p t fs = Speaks s p input.Acting t.configuration.frame_max t.outbox t.channels t.committed fs
 
 -- a session with an open link on which something was committed, and whose frames act
 pub record Hears (s : ConnectionState) (t : Talk) (fs : List Frame) : Type 0 where
@@ -300,13 +292,17 @@ pub record Hears (s : ConnectionState) (t : Talk) (fs : List Frame) : Type 0 whe
 now-server-close : (s : ConnectionState) (p : Phase) (t : Talk) (g : Frame) (fs : List Frame) (code : ℕ) (text : List ℕ)
     → is_open t ≡ true → In s p t (g ∷ fs) → Now (on_connection_close code text t) (g ∷ fs)
 now-server-close s p t g fs code text o h =
-    let r = closed-over (first_out t.outbox) (plain 0 close_ok) g fs h.later refl h.leads (not-over s p t.channels t.outbox.awaited h.later h.ties) in
+    let r = closed-over (first_out t.outbox) (plain 0 close_ok) g fs h.later refl h.leads (not-over s p t.channels t.outbox.awaited (unpaid t.committed (first_out t.outbox)) h.later h.ties) in
     now-open (on_connection_close code text t) (g ∷ fs) o
-    (record { later = r.0; leads = r.1; groups = tt; ties = tt; agreed = λ k. absurd (true≢false (sym k)) })
+    (record { later = r.0; leads = r.1; lane = ((tt, refl), tt); groups = tt; ties = tt; agreed = λ k. absurd (true≢false (sym k)) })
 
 -- before the connection is opened, no group waits
 not-opened : (v : Speech) (g : Stage) → v ≡ record greeted { stage = g } → g ≢ OpenSaid → v.stage ≢ OpenSaid
 not-opened v g is ne h = ne (sym (ap (λ (x : Speech). x.stage) is) ∙ h)
+
+-- as many close-oks are on their way
+still-new : (cs : Listed) (ws : Replies) (due due' : ℕ → ℕ) → ((n : ℕ) → due' n ≡ due n) → IsNew cs ws due → IsNew cs ws due'
+still-new cs ws due due' same h = record { no_channels = h.no_channels; none_awaited = h.none_awaited; none_due = λ n. same n ∙ h.none_due n }
 
 now-start : (t : Talk) (fs : List Frame) → is_open t ≡ true → t.input ≡ input.Acting → t.state ≡ Connecting → In Connecting AwaitStart t fs → Now (on_start t) fs
 now-start t fs o hi hs h =
@@ -318,8 +314,9 @@ now-start t fs o hi hs h =
     (record {
       later = v;
       leads = pushed t.outbox (plain 0 start_ok) fs h.later v h.leads said;
+      lane = all-append IsOfControl t.outbox.control (plain 0 start_ok ∷ []) h.lane ((tt, refl), tt);
       groups = never-ready h.later v t.outbox.publish (not-opened h.later HeaderSaid h.ties.0 (λ k. cc)) h.groups;
-      ties = (refl, h.ties.1);
+      ties = (refl, still-new t.channels t.outbox.awaited (unpaid t.committed (first_out t.outbox)) _ (none-more t.committed t.outbox (plain 0 start_ok) tt) h.ties.1);
       agreed = λ k. absurd (true≢false (sym k));
     }))
 
@@ -330,15 +327,23 @@ now-tune server t fs o hi hs h =
     let tuned : Speech = record greeted { stage = TuneOkSaid } in
     let first : say f h.later ≡ Some tuned = ap (say f) h.ties.0 in
     let r = pushed t.outbox (plain 0 f) fs h.later tuned h.leads first in
+    let q : Queued = pushed_control (plain 0 f) t.outbox in
     let v : Speech = record greeted { stage = OpenSaid } in
     let x : Talk = on_tune server t in
     now-open x fs o
     (tied-as Connecting AwaitOpenOk input.Acting x fs hs refl hi
     (record {
       later = v;
-      leads = pushed (pushed_control (plain 0 f) t.outbox) (plain 0 open_vhost) fs tuned v r refl;
+      leads = pushed q (plain 0 open_vhost) fs tuned v r refl;
+      lane =
+          all-append IsOfControl q.control (plain 0 open_vhost ∷ [])
+          (all-append IsOfControl t.outbox.control (plain 0 f ∷ []) h.lane ((tt, refl), tt)) ((tt, refl), tt);
       groups = never-ready h.later v t.outbox.publish (not-opened h.later StartOkSaid h.ties.0 (λ k. cc)) h.groups;
-      ties = (refl, h.ties.1);
+      ties = (
+        refl,
+        still-new t.channels t.outbox.awaited (unpaid t.committed (first_out t.outbox)) _
+            (λ n. none-more t.committed q (plain 0 open_vhost) tt n ∙ none-more t.committed t.outbox (plain 0 f) tt n) h.ties.1,
+      );
       agreed = λ k. tuned-size t.configuration server;
     }))
   where
@@ -346,13 +351,14 @@ now-tune server t fs o hi hs h =
     tuned-size own server = omega arith
 
 -- nothing was said on any channel
-new-ties : (cs : Listed) (ws : Replies) (v : Speech) → v ≡ record greeted { stage = OpenSaid } → IsNew cs ws → TiesChannels cs ws v
-new-ties cs ws v is new =
+new-ties : (cs : Listed) (ws : Replies) (due : ℕ → ℕ) (v : Speech) → v ≡ record greeted { stage = OpenSaid } → IsNew cs ws due → TiesChannels cs ws due v
+new-ties cs ws due v is new =
     let x : Speech = record greeted { stage = OpenSaid } in
-    let none : TiesChannels [] [] x = record { speaking = refl; complete = tt; sorted = tt; awaited_sorted = tt; each = λ n. (refl, shut) } in
-    let A : Speech → Type 0 = λ y. TiesChannels cs ws y in
-    let B : Listed → Type 0 = λ y. TiesChannels y ws x in
-    let C : Replies → Type 0 = λ y. TiesChannels [] y x in
+    let none : TiesChannels [] [] due x =
+    record { speaking = refl; complete = tt; sorted = tt; awaited_sorted = tt; each = λ n. (refl, shut); owes = new.none_due } in
+    let A : Speech → Type 0 = λ y. TiesChannels cs ws due y in
+    let B : Listed → Type 0 = λ y. TiesChannels y ws due x in
+    let C : Replies → Type 0 = λ y. TiesChannels [] y due x in
     subst A (sym is) (subst B (sym new.no_channels) (subst C (sym new.none_awaited) none))
   where
     shut : Shut ≡ InUse → ⊥
@@ -366,8 +372,9 @@ now-open-ok t fs o hi h =
     (record {
       later = h.later;
       leads = h.leads;
+      lane = h.lane;
       groups = h.groups;
-      ties = new-ties t.channels t.outbox.awaited h.later h.ties.0 h.ties.1;
+      ties = new-ties t.channels t.outbox.awaited (unpaid t.committed (first_out t.outbox)) h.later h.ties.0 h.ties.1;
       agreed = λ k. h.agreed refl;
     }))
 
@@ -378,6 +385,8 @@ close-ok-ends (Some promise) t = refl
 now-connection : (s : ConnectionState) (p : Phase) (m : AnyMethod) (t : Talk) (g : Frame) (fs : List Frame) → is_open t ≡ true → t.input ≡ input.Acting → t.state ≡ s
     → Now t (g ∷ fs) → In s p t (g ∷ fs) → Now (connection_rule s p m t) (g ∷ fs)
 now-connection s p (Close code text class method) t g fs o hi hs now h = now-server-close s p t g fs code text o h
+now-connection s p (Blocked reason) t g fs o hi hs now h = now
+now-connection s p Unblocked t g fs o hi hs now h = now
 now-connection Closing p CloseOk t g fs o hi hs now h = now-ended (on_connection_close_ok t) (g ∷ fs) (close-ok-ends (awaited_promise 0 ConnectionClosed t.outbox) t)
 now-connection Closing p m t g fs o hi hs now h = now
 now-connection Connecting AwaitStart (Start a b c d e) t g fs o hi hs now h = now-start t (g ∷ fs) o hi hs h
@@ -389,11 +398,16 @@ now-connection held p m t g fs o hi hs now h = now-lose (InvalidConnectionState 
 
 -- once the connection is open
 now-ties : (t t' : Talk) (fs : List Frame) (v : Speech) → is_open t' ≡ true → t.input ≡ input.Acting → t'.input ≡ t.input → t'.state ≡ Connected
-    → frame_min_size ≤ t'.configuration.frame_max → LeadsTo (first_out t'.outbox) fs v → AllByRecursion (IsReady v) t'.outbox.publish
-    → TiesChannels t'.channels t'.outbox.awaited v → Now t' fs
-now-ties t t' fs v o hi same hs agreed r ready ties =
+    → frame_min_size ≤ t'.configuration.frame_max → LeadsTo (first_out t'.outbox) fs v → AllByRecursion IsOfControl t'.outbox.control
+    → AllByRecursion (IsReady v) t'.outbox.publish
+    → TiesChannels t'.channels t'.outbox.awaited (unpaid t'.committed (first_out t'.outbox)) v → Now t' fs
+now-ties t t' fs v o hi same hs agreed r lane ready ties =
     now-open t' fs o
-    (tied-as Connected t'.phase input.Acting t' fs hs refl (same ∙ hi) (record { later = v; leads = r; groups = ready; ties = ties; agreed = λ k. agreed }))
+    (tied-as Connected t'.phase input.Acting t' fs hs refl (same ∙ hi) (record { later = v; leads = r; lane = lane; groups = ready; ties = ties; agreed = λ k. agreed }))
+
+-- the close-oks of a session that are on their way
+abbrev due_in : Talk → ℕ → ℕ
+due_in t = unpaid t.committed (first_out t.outbox)
 
 now-unawaited : (n : ℕ) (s : ChannelState) (m : AnyMethod) (t : Talk) (fs : List Frame) → Now t fs → Now (unawaited_channel_method n s m t) fs
 now-unawaited n channel.Closing m t fs h = h
@@ -405,29 +419,183 @@ now-opened n c None t fs h listed first = now-unawaited n c.state ChannelOpenOk 
 now-opened n c (Some promise) t fs h listed first =
     let a = first-by-promise n ChannelOpened t.outbox promise first in
     let x : Talk = channel_opened n c (Some promise) t in
-    now-ties t x fs h.tied.later h.opened h.acting refl h.state (h.tied.agreed refl) h.tied.leads h.tied.groups
-    (on-opened n t.channels t.outbox.awaited h.tied.later c a.0 listed a.1 h.tied.ties)
+    now-ties t x fs h.tied.later h.opened h.acting refl h.state (h.tied.agreed refl) h.tied.leads h.tied.lane h.tied.groups
+    (on-opened n t.channels t.outbox.awaited (due_in t) h.tied.later c a.0 listed a.1 h.tied.ties)
+
+-- our close was answered, and the channel goes where nothing is owed
+now-left : (d : Debt) (n : ℕ) (t x : Talk) (fs : List Frame) (v : Speech) → is_open x ≡ true → t.input ≡ input.Acting → x.input ≡ t.input → x.state ≡ Connected
+    → frame_min_size ≤ x.configuration.frame_max → LeadsTo (first_out x.outbox) fs v → AllByRecursion IsOfControl x.outbox.control
+    → AllByRecursion (IsReady v) x.outbox.publish → TiesChannels (left_listed d n x.channels) x.outbox.awaited (due_in x) v → Now (remove_unless_owed d n x) fs
+now-left debt.Owed n t x fs v o hi same hs agreed r lane ready ties = now-ties t x fs v o hi same hs agreed r lane ready ties
+now-left debt.Nothing n t x fs v o hi same hs agreed r lane ready ties = now-ties t (remove_channel n x) fs v o hi same hs agreed r lane ready ties
+now-left debt.Paid n t x fs v o hi same hs agreed r lane ready ties = now-ties t (remove_channel n x) fs v o hi same hs agreed r lane ready ties
 
 now-closed : (n : ℕ) (c : Channel) (promise : Option (Option ℕ)) (t : Talk) (fs : List Frame) → Hears Connected t fs → channel_at n t ≡ Some c
     → awaited_promise n ChannelClosed t.outbox ≡ promise → Now (channel_closed n c promise t) fs
 now-closed n c None t fs h listed first = now-unawaited n c.state ChannelCloseOk t fs h.now
 now-closed n c (Some promise) t fs h listed first =
     let a = first-by-promise n ChannelClosed t.outbox promise first in
-    let x : Talk = channel_closed n c (Some promise) t in
-    now-ties t x fs h.tied.later h.opened h.acting refl h.state (h.tied.agreed refl) h.tied.leads h.tied.groups
-    (on-closed n t.channels t.outbox.awaited h.tied.later c a.0 listed a.1 h.tied.ties)
+    let v : Speech = h.tied.later in
+    let closed : Talk = give_to promise (Ok Done) (record t { outbox = queued.answered n ChannelClosed t.outbox }) in
+    let x : Talk = drop_replies_of n (InvalidChannelState channel.Closed word.ChannelCloseOkReceived) closed in
+    now-left c.debt n t x fs v h.opened h.acting refl h.state (h.tied.agreed refl) h.tied.leads h.tied.lane h.tied.groups
+    (on-closed n t.channels t.outbox.awaited (due_in t) v c a.0 listed a.1 h.tied.ties)
+
+-- the server lets content be published or not, which is answered
+now-flow-used : (n : ℕ) (c : Channel) (active : Bool) (t : Talk) (fs : List Frame) (h : Hears Connected t fs) → channel_at n t ≡ Some c
+    → h.tied.later.usage n ≡ InUse → Now (queue n (flow_ok n active) (set_channel n (record c { flow = active }) t)) fs
+now-flow-used n c active t fs h listed used =
+    let v : Speech = h.tied.later in
+    let w : Speech = record v { content = NoContent } in
+    let ties : TiesChannels t.channels t.outbox.awaited (due_in t) v = h.tied.ties in
+    let c' : Channel = record c { flow = active } in
+    let item : Item = plain n (flow_ok n active) in
+    let x : Talk = queue n (flow_ok n active) (set_channel n c' t) in
+    let some : n ≢ 0 = listed-some n t.channels t.outbox.awaited (due_in t) v c listed ties in
+    let same : TiesChannels x.channels t.outbox.awaited (due_in t) v = on-same n t.channels t.outbox.awaited (due_in t) v c c' listed refl refl ties in
+    now-ties t x fs w h.opened h.acting refl h.state (h.tied.agreed refl)
+    (pushed t.outbox item fs v w h.tied.leads (say-flow-ok n active v some ties.speaking ties.complete used))
+    (all-append IsOfControl t.outbox.control (item ∷ []) h.tied.lane ((tt, refl), tt))
+    (stay-ready v w t.outbox.publish ties.speaking tt (λ m used. used) h.tied.groups)
+    (on-alike x.channels t.outbox.awaited t.outbox.awaited (due_in t) (due_in x) w ties.awaited_sorted (λ m. refl) (none-more t.committed t.outbox item tt)
+    (with-content x.channels t.outbox.awaited (due_in t) v NoContent tt same))
+
+now-flow : (s : ChannelState) (n : ℕ) (c : Channel) (active : Bool) (t : Talk) (fs : List Frame) → Hears Connected t fs → channel_at n t ≡ Some c → c.state ≡ s
+    → Now (on_channel_flow s n c active t) fs
+now-flow channel.Closing n c active t fs h listed is = h.now
+now-flow channel.Initial n c active t fs h listed is =
+    now-flow-used n c active t fs h listed (ties-of n t.channels t.outbox.awaited (due_in t) h.tied.later c channel.Initial listed is h.tied.ties).1
+now-flow channel.Connected n c active t fs h listed is =
+    now-flow-used n c active t fs h listed (ties-of n t.channels t.outbox.awaited (due_in t) h.tied.later c channel.Connected listed is h.tied.ties).1
+now-flow s n c active t fs h listed is = absurd (ties-of n t.channels t.outbox.awaited (due_in t) h.tied.later c s listed is h.tied.ties)
+
+-- flow-ok came
+now-flowed : (n : ℕ) (c : Channel) (active : Bool) (promise : Option (Option ℕ)) (t : Talk) (fs : List Frame) → Hears Connected t fs → channel_at n t ≡ Some c
+    → Now (channel_flowed n c active promise t) fs
+now-flowed n c active None t fs h listed = now-unawaited n c.state (ChannelFlowOk active) t fs h.now
+now-flowed n c active (Some promise) t fs h listed =
+    let x : Talk = channel_flowed n c active (Some promise) t in
+    now-ties t x fs h.tied.later h.opened h.acting refl h.state (h.tied.agreed refl) h.tied.leads h.tied.lane h.tied.groups
+    (on-flowed n t.channels t.outbox.awaited (due_in t) h.tied.later h.tied.ties)
+
+-- a lane that lost the frames of a channel
+pub record LeadsOn (n : ℕ) (q : Queued) (fs : List Frame) (v : Speech) : Type 0 where
+  pub later : Speech
+  pub leads : LeadsTo (q.begun ++ left_in_lane n q.control) fs later
+  pub alike : Alike v later
+
+said-both : (o : Option Speech) (xs ys : List Item) → say_all o (frames_in (xs ++ ys)) ≡ say_all (say_all o (frames_in xs)) (frames_in ys)
+said-both o xs ys = ap (say_all o) (map-append (λ (i : Item). i.frame) xs ys) ∙ say-append o (frames_in xs) (frames_in ys)
+
+-- what is said after the frames that were committed
+said-after : (items : List Item) (g : Frame) (fs : List Frame) (now later : Speech) → g ≡ amqp_header → say_all (Some greeted) fs ≡ Some now
+    → say_all (Some now) (frames_in items) ≡ Some later → LeadsTo items (g ∷ fs) later
+said-after items g fs now later header may rest =
+    record {
+      said = fs ++ frames_in items;
+      frames = ap (λ f. f ∷ fs ++ frames_in items) header;
+      may = say-append (Some greeted) fs (frames_in items) ∙ ap (λ o. say_all o (frames_in items)) may ∙ rest;
+    }
+
+lane-lost : (n : ℕ) (q : Queued) (g : Frame) (fs : List Frame) (v : Speech) → n ≢ 0 → AllByRecursion IsOfControl q.control → to_pay q.control n ≡ 0
+    → IsComplete v.content → LeadsTo (first_out q) (g ∷ fs) v → LeadsOn n q (g ∷ fs) v
+lane-lost n q g fs v some lane none complete leads =
+    let said = committed-said (first_out q) g fs v leads in
+    let left : List Item = left_in_lane n q.control in
+    let parts : say_all (say_all (Some said.now) (frames_in q.begun)) (frames_in q.control) ≡ Some v = sym (said-both (Some said.now) q.begun q.control) ∙ said.rest in
+    let b = front-said (say_all (Some said.now) (frames_in q.begun)) (frames_in q.control) v parts in
+    let l = lane-loses n q.control b.0 v some lane none complete (ap (λ o. say_all o (frames_in q.control)) (sym b.1) ∙ parts) in
+    let rest : say_all (Some said.now) (frames_in (q.begun ++ left)) ≡ Some l.0 =
+    said-both (Some said.now) q.begun left ∙ ap (λ o. say_all o (frames_in left)) b.1 ∙ l.1 in
+    record { later = l.0; leads = said-after (q.begun ++ left) g fs said.now l.0 said.header said.may rest; alike = l.2 }
+
+-- the server closes a channel that we use
+now-closed-by-server : (n : ℕ) (e : ErrorKind) (c : Channel) (t : Talk) (g : Frame) (fs : List Frame) → Hears Connected t (g ∷ fs) → channel_at n t ≡ Some c
+    → c.debt ≡ debt.Nothing → awaits_close_ok n t ≡ false → Now (closed_by_server n e c t) (g ∷ fs)
+now-closed-by-server n e c t g fs h listed is none =
+    let v : Speech = h.tied.later in
+    let q : Queued = t.outbox in
+    let ws : Replies = q.awaited in
+    let ties : TiesChannels t.channels ws (due_in t) v = h.tied.ties in
+    let some : n ≢ 0 = listed-some n t.channels ws (due_in t) v c listed ties in
+    let still = is-used n t.channels q (due_in t) v c listed is none ties in
+    let l = lane-lost n q g fs v some h.tied.lane (lane-pays-none n t.committed q.begun q.control still.none_due) ties.complete h.tied.leads in
+    let w : Speech = l.later in
+    let tied : TiesChannels t.channels ws (due_in t) w =
+    on-usages t.channels ws (due_in t) v w (sym l.alike.stages) l.alike.right_complete (λ m. sym (l.alike.usages m)) ties in
+    let used : w.usage n ≡ InUse = sym (l.alike.usages n) ∙ still.used in
+    let item : Item = plain n (channel_close_ok n) in
+    let left : Queued = without_all_on n q in
+    let x : Talk = closed_by_server n e c t in
+    let one : due_in x n ≡ 1 =
+    (let more : due_in x n ≡ unpaid t.committed (first_out left) n + pays n (then_of item) = one-more n t.committed left item in
+    let nothing : unpaid t.committed (first_out left) n ≡ 0 = none-unpaid n t.committed q.begun q.control still.none_due in
+    omega (arith, more, nothing, pays-own n)) in
+    let others : (m : ℕ) → m ≢ n → due_in x m ≡ due_in t m =
+    λ m ne.
+    (let more : due_in x m ≡ unpaid t.committed (first_out left) m + pays m (then_of item) = one-more m t.committed left item in
+    let same : unpaid t.committed (first_out left) m ≡ due_in t m = others-unpaid m n t.committed q.begun q.control ne h.tied.lane in
+    omega (arith, more, same, pays-others m n ne)) in
+    now-ties t x (g ∷ fs) (now_on n Shut w) h.opened h.acting refl h.state (h.tied.agreed refl)
+    (pushed left item (g ∷ fs) w (now_on n Shut w) l.leads (say-channel-close-ok n w some tied.speaking tied.complete (λ k. used-shut (sym used ∙ k))))
+    (all-append IsOfControl left.control (item ∷ []) (lane-left n q.control h.tied.lane) ((tt, refl), tt))
+    (others-ready n Shut w q.publish tied.speaking
+    (stay-ready v w q.publish tied.speaking tied.complete (λ m used. sym (l.alike.usages m) ∙ used) h.tied.groups))
+    (on-server-close n t.channels ws (due_in t) (due_in x) w c listed one others tied)
+  where
+    used-shut : InUse ≡ Shut → ⊥
+    used-shut k = cc
+
+-- it closes a channel that we closed
+now-crossing : (n : ℕ) (c : Channel) (t : Talk) (fs : List Frame) → Hears Connected t fs → channel_at n t ≡ Some c → c.debt ≡ debt.Nothing
+    → awaits_close_ok n t ≡ true → Now (crossing_close n c t) fs
+now-crossing n c t fs h listed is awaits =
+    let v : Speech = h.tied.later in
+    let q : Queued = t.outbox in
+    let ws : Replies = q.awaited in
+    let ties : TiesChannels t.channels ws (due_in t) v = h.tied.ties in
+    let some : n ≢ 0 = listed-some n t.channels ws (due_in t) v c listed ties in
+    let left = is-left n t.channels q (due_in t) v c listed is awaits ties in
+    let item : Item = plain n (channel_close_ok n) in
+    let x : Talk = crossing_close n c t in
+    let one : due_in x n ≡ 1 =
+    (let more : due_in x n ≡ due_in t n + pays n (then_of item) = one-more n t.committed q item in omega (arith, more, left.none_due, pays-own n)) in
+    let others : (m : ℕ) → m ≢ n → due_in x m ≡ due_in t m =
+    λ m ne.
+    (let more : due_in x m ≡ due_in t m + pays m (then_of item) = one-more m t.committed q item in omega (arith, more, pays-others m n ne)) in
+    now-ties t x fs (now_on n Shut v) h.opened h.acting refl h.state (h.tied.agreed refl)
+    (pushed q item fs v (now_on n Shut v) h.tied.leads (say-channel-close-ok n v some ties.speaking ties.complete (λ k. left-shut (sym left.unused ∙ k))))
+    (all-append IsOfControl q.control (item ∷ []) h.tied.lane ((tt, refl), tt))
+    (unused-ready n Shut Left v q.publish ties.speaking left.unused (λ k. left-used k) h.tied.groups)
+    (on-crossing n t.channels ws (due_in t) (due_in x) v c listed left one others ties)
+  where
+    left-shut : Left ≡ Shut → ⊥
+    left-shut k = cc
+
+    left-used : Left ≡ InUse → ⊥
+    left-used k = cc
+
+now-channel-close : (d : Debt) (b : Bool) (n : ℕ) (e : ErrorKind) (c : Channel) (t : Talk) (g : Frame) (fs : List Frame) → Hears Connected t (g ∷ fs)
+    → channel_at n t ≡ Some c → c.debt ≡ d → awaits_close_ok n t ≡ b → Now (channel_close_by d b n e c t) (g ∷ fs)
+now-channel-close debt.Nothing false n e c t g fs h listed is awaits = now-closed-by-server n e c t g fs h listed is awaits
+now-channel-close debt.Nothing true n e c t g fs h listed is awaits = now-crossing n c t (g ∷ fs) h listed is awaits
+now-channel-close _ b n e c t g fs h listed is awaits = h.now
 
 now-misplaced : (e : ErrorKind) (t : Talk) (fs : List Frame) → Now t fs → Now (misplaced e t) fs
 now-misplaced e t fs h = if_case (λ (x : Talk). Now x fs) (is_closing t.state) t (lose e t) h (now-lose e t fs)
 
-now-channel : (s : ConnectionState) (n : ℕ) (c : Channel) (m : AnyMethod) (t : Talk) (fs : List Frame) → Hears s t fs → s ≢ Connecting → channel_at n t ≡ Some c
-    → Now (channel_rule s n c m t) fs
-now-channel Closing n c m t fs h ne listed = h.now
-now-channel Connecting n c m t fs h ne listed = absurd (ne refl)
-now-channel Connected n c ChannelOpenOk t fs h ne listed = now-opened n c (awaited_promise n ChannelOpened t.outbox) t fs h listed refl
-now-channel Connected n c ChannelCloseOk t fs h ne listed = now-closed n c (awaited_promise n ChannelClosed t.outbox) t fs h listed refl
-now-channel Connected n c m t fs h ne listed = now-unawaited n c.state m t fs h.now
-now-channel _ n c m t fs h ne listed = absurd h.tied.ties
+now-channel : (s : ConnectionState) (n : ℕ) (c : Channel) (m : AnyMethod) (t : Talk) (g : Frame) (fs : List Frame) → Hears s t (g ∷ fs) → s ≢ Connecting
+    → channel_at n t ≡ Some c → Now (channel_rule s n c m t) (g ∷ fs)
+now-channel Closing n c m t g fs h ne listed = h.now
+now-channel Connecting n c m t g fs h ne listed = absurd (ne refl)
+now-channel Connected n c ChannelOpenOk t g fs h ne listed = now-opened n c (awaited_promise n ChannelOpened t.outbox) t (g ∷ fs) h listed refl
+now-channel Connected n c ChannelCloseOk t g fs h ne listed = now-closed n c (awaited_promise n ChannelClosed t.outbox) t (g ∷ fs) h listed refl
+now-channel Connected n c (ChannelClose code text class method) t g fs h ne listed =
+    now-channel-close c.debt (awaits_close_ok n t) n (channel_closed_with code text) c t g fs h listed refl refl
+now-channel Connected n c (ChannelFlow active) t g fs h ne listed = now-flow c.state n c active t (g ∷ fs) h listed refl
+now-channel Connected n c (ChannelFlowOk active) t g fs h ne listed = now-flowed n c active (awaited_promise n FlowDone t.outbox) t (g ∷ fs) h listed
+now-channel Connected n c m t g fs h ne listed = now-unawaited n c.state m t (g ∷ fs) h.now
+now-channel _ n c m t g fs h ne listed = absurd h.tied.ties
 
 -- a frame is heard on a listed channel only once the connection was open
 heard-listed : (s : ConnectionState) (o : Option Channel) (c : Channel) → heard_on s o ≡ Some c → (s ≢ Connecting) × (o ≡ Some c)
@@ -437,11 +605,11 @@ heard-listed Connected o c h = ((λ k. absurd cc), h)
 heard-listed Closing o c h = ((λ k. absurd cc), h)
 heard-listed _ o c h = ((λ k. absurd cc), h)
 
-now-channel-method : (o : Option Channel) (n : ℕ) (m : AnyMethod) (t : Talk) (fs : List Frame) → Hears t.state t fs → heard_on t.state (channel_at n t) ≡ o
-    → Now (channel_method_by o n m t) fs
-now-channel-method None n m t fs h heard = now-misplaced (InvalidChannel n) t fs h.now
-now-channel-method (Some c) n m t fs h heard =
-    let k = heard-listed t.state (channel_at n t) c heard in now-channel t.state n c m t fs h k.0 k.1
+now-channel-method : (o : Option Channel) (n : ℕ) (m : AnyMethod) (t : Talk) (g : Frame) (fs : List Frame) → Hears t.state t (g ∷ fs)
+    → heard_on t.state (channel_at n t) ≡ o → Now (channel_method_by o n m t) (g ∷ fs)
+now-channel-method None n m t g fs h heard = now-misplaced (InvalidChannel n) t (g ∷ fs) h.now
+now-channel-method (Some c) n m t g fs h heard =
+    let k = heard-listed t.state (channel_at n t) c heard in now-channel t.state n c m t g fs h k.0 k.1
 
 now-pass : (s : ConnectionState) (n : ℕ) (c : Channel) (kind : RawKind) (bytes : List ℕ) (t : Talk) (fs : List Frame) → Hears s t fs → s ≢ Connecting → channel_at n t ≡ Some c
     → Now (pass_through n c kind bytes t) fs
@@ -452,14 +620,14 @@ now-pass s n c kind bytes t fs h ne listed =
     in_state : (s : ConnectionState) → Hears s t fs → s ≢ Connecting → Now (confirmed n c t) fs
     in_state Connecting h ne = absurd (ne refl)
     in_state Connected h ne =
-        now-ties t (confirmed n c t) fs h.tied.later h.opened h.acting refl h.state (h.tied.agreed refl) h.tied.leads h.tied.groups
-        (on-same n t.channels t.outbox.awaited h.tied.later c (record c { confirm = true }) listed refl h.tied.ties)
+        now-ties t (confirmed n c t) fs h.tied.later h.opened h.acting refl h.state (h.tied.agreed refl) h.tied.leads h.tied.lane h.tied.groups
+        (on-same n t.channels t.outbox.awaited (due_in t) h.tied.later c (record c { confirm = true }) listed refl refl h.tied.ties)
     -- our close of the connection was said, and what ties channels no longer counts
     in_state Closing h ne =
         let x : Talk = confirmed n c t in
         now-open x fs h.opened
         (tied-as Closing t.phase input.Acting x fs h.state refl h.acting
-        (record { later = h.tied.later; leads = h.tied.leads; groups = h.tied.groups; ties = h.tied.ties; agreed = h.tied.agreed }))
+        (record { later = h.tied.later; leads = h.tied.leads; lane = h.tied.lane; groups = h.tied.groups; ties = h.tied.ties; agreed = h.tied.agreed }))
     in_state _ h ne = absurd h.tied.ties
 
 now-raw : (o : Option Channel) (n : ℕ) (kind : RawKind) (bytes : List ℕ) (t : Talk) (fs : List Frame) → Hears t.state t fs → heard_on t.state (channel_at n t) ≡ o
@@ -476,7 +644,7 @@ now-method zero m t g fs h =
     (now-misplaced (stray_channel_frame RawMethod) t (g ∷ fs) h.now) (now-connection t.state t.phase m t g fs h.opened h.acting refl h.now h.tied)
 now-method (suc n) m t g fs h =
     if_case (λ (x : Talk). Now x (g ∷ fs)) (is_of_a_channel m) (channel_method (suc n) m t) (misplaced (stray_connection_method (suc n)) t)
-    (now-channel-method (heard_on t.state (channel_at (suc n) t)) (suc n) m t (g ∷ fs) h refl) (now-misplaced (stray_connection_method (suc n)) t (g ∷ fs) h.now)
+    (now-channel-method (heard_on t.state (channel_at (suc n) t)) (suc n) m t g fs h refl) (now-misplaced (stray_connection_method (suc n)) t (g ∷ fs) h.now)
 
 now-rule : (f : Frame) (place : ℕ) (t : Talk) (g : Frame) (fs : List Frame) → Hears t.state t (g ∷ fs) → Now (frame_rule f place t) (g ∷ fs)
 now-rule (ProtocolHeader version) place t g fs h = now-lose (InvalidProtocolVersion version) t (g ∷ fs)
@@ -495,10 +663,16 @@ both : (b c : Bool) → (b && c) ≡ true → (b ≡ true) × (c ≡ true)
 both true c h = (refl, h)
 both false c h = absurd cc
 
+-- what the server says after its close
+now-hears-on : (f : Frame) (t : Talk) (fs : List Frame) → Now t fs → Now (closed_rule f t) fs
+now-hears-on (Method zero (Blocked reason)) t fs h = h
+now-hears-on (Method zero Unblocked) t fs h = h
+now-hears-on f t fs h = h
+
 -- a frame that was read, once the header was committed
 pub now-frame : (f : Frame) (place : ℕ) (t : Talk) (g : Frame) (fs : List Frame) → Now t (g ∷ fs) → Now (on_frame f place t) (g ∷ fs)
 now-frame f place t g fs now =
-    if_by (λ (x : Talk). Now x (g ∷ fs)) (acts t) (frame_rule f place t) t
+    if_by (λ (x : Talk). Now x (g ∷ fs)) (acts t) (frame_rule f place t) (if hears_on t then closed_rule f t else t)
     (λ acting.
     (let k = both (is_open t) (is_acting t.input) acting in
     let is = acting-input t.input k.1 in
@@ -508,17 +682,17 @@ now-frame f place t g fs now =
       acting = is;
       state = refl;
       now = now;
-      tied = speaks-as t.state t.state t.phase t.phase t.input input.Acting t.configuration.frame_max t.outbox t.channels (g ∷ fs) refl refl is (now.0 k.0);
+      tied = speaks-as t.state t.state t.phase t.phase t.input input.Acting t.configuration.frame_max t.outbox t.channels t.committed (g ∷ fs) refl refl is (now.0 k.0);
     })))
-    (λ idle. now)
+    (λ idle. if_case (λ (x : Talk). Now x (g ∷ fs)) (hears_on t) (closed_rule f t) t (now-hears-on f t (g ∷ fs) now) now)
 
 -- ---- commands
 
 -- once the connection is open, frames act
-talking : (i : Input) (p : Phase) (cs : Listed) (ws : Replies) (v : Speech) → Ties i Connected p cs ws v → (i ≡ input.Acting) × TiesChannels cs ws v
-talking input.Acting p cs ws v h = (refl, h)
-talking (input.Closed crossed) p cs ws v h = absurd h
-talking (input.Dropped crossed) p cs ws v h = absurd h
+talking : (i : Input) (p : Phase) (cs : Listed) (ws : Replies) (due : ℕ → ℕ) (v : Speech) → Ties i Connected p cs ws due v → (i ≡ input.Acting) × TiesChannels cs ws due v
+talking input.Acting p cs ws due v h = (refl, h)
+talking (input.Closed crossed) p cs ws due v h = absurd h
+talking (input.Dropped crossed) p cs ws due v h = absurd h
 
 -- what is told while the connection is open, and leaves the link as it is
 now-told : (t t' : Talk) (fs : List Frame) → t.state ≡ Connected → t'.link ≡ t.link → Now t fs
@@ -526,15 +700,21 @@ now-told : (t t' : Talk) (fs : List Frame) → t.state ≡ Connected → t'.link
 now-told t t' fs hs link h next = (
   (λ o.
       let said : IsTied t fs = h.0 (ap is_open_link (sym link) ∙ o) in
-      let s : Speaks Connected t.phase t.input t.configuration.frame_max t.outbox t.channels fs =
-      speaks-as t.state Connected t.phase t.phase t.input t.input t.configuration.frame_max t.outbox t.channels fs hs refl refl said in
-      let acting = (talking t.input t.phase t.channels t.outbox.awaited s.later s.ties).0 in
-      (next o acting (speaks-as Connected Connected t.phase t.phase t.input input.Acting t.configuration.frame_max t.outbox t.channels fs refl refl acting s)).0 o),
+      let s : Speaks Connected t.phase t.input t.configuration.frame_max t.outbox t.channels t.committed fs =
+      speaks-as t.state Connected t.phase t.phase t.input t.input t.configuration.frame_max t.outbox t.channels t.committed fs hs refl refl said in
+      let acting = (talking t.input t.phase t.channels t.outbox.awaited (due_in t) s.later s.ties).0 in
+      (next o acting
+      (speaks-as Connected Connected t.phase t.phase t.input input.Acting t.configuration.frame_max t.outbox t.channels t.committed fs refl refl acting s)).0 o),
   λ w. absurd (no-wait (sym (h.1 (ap is_wanted_link (sym link) ∙ w)).0 ∙ hs)),
 )
   where
     no-wait : Initial ≡ Connected → ⊥
     no-wait k = cc
+
+-- what was said pays for no channel
+now-due : (x : Talk) (due : ℕ → ℕ) (v : Speech) → ((m : ℕ) → due_in x m ≡ due m) → TiesChannels x.channels x.outbox.awaited due v
+    → TiesChannels x.channels x.outbox.awaited (due_in x) v
+now-due x due v same h = on-alike x.channels x.outbox.awaited x.outbox.awaited due (due_in x) v h.awaited_sorted (λ m. refl) same h
 
 now-drawn : (o : Option ℕ) (t : Talk) (fs : List Frame) → t.state ≡ Connected → drawn t.configuration.channel_max (first_number t.configuration.channel_max t.cursor) t.channels ≡ o
     → Now t fs → Now (open_drawn o (first_number t.configuration.channel_max t.cursor) t) fs
@@ -544,10 +724,13 @@ now-drawn (Some n) t fs hs is h =
     let item : Item = plain n (channel_open n) in
     now-told t (open_as n t) fs hs refl h
     (λ o hi s.
-    let k = on-open n t.channels t.outbox.awaited s.later (next_promise t) free.1 free.0 s.ties in
-    now-ties t (open_as n t) fs (now_on n InUse s.later) o hi refl hs (s.agreed refl)
+    let x : Talk = open_as n t in
+    let k = on-open n t.channels t.outbox.awaited (due_in t) s.later (next_promise t) free.1 free.0 s.ties in
+    now-ties t x fs (now_on n InUse s.later) o hi refl hs (s.agreed refl)
     (pushed t.outbox item fs s.later (now_on n InUse s.later) s.leads k.may)
-    (open-ready n s.later t.outbox.publish s.ties.speaking s.groups) k.ties)
+    (all-append IsOfControl t.outbox.control (item ∷ []) s.lane ((tt, refl), tt))
+    (open-ready n s.later t.outbox.publish s.ties.speaking s.groups)
+    (now-due x (due_in t) (now_on n InUse s.later) (none-more t.committed t.outbox item tt) k.ties))
 
 named-listed : (r : ChanRef) (o : Option Channel) (c : Channel) → named_in r.opened o ≡ Some c → o ≡ Some c
 named-listed r None c h = cc
@@ -573,20 +756,52 @@ target-is r word t (Some x) c is h =
     let k = target-state x.state word x c refl h in
     record { listed = named-listed r (channel_at r.id t) x is ∙ ap (λ y. Some y) k.0; open_state = ap (λ (y : Channel). y.state) (sym k.0) ∙ k.1 }
 
+now-leave : (r : ChanRef) (c : Channel) (code : ℕ) (text : List ℕ) (answers : Option ℕ) (t : Talk) (fs : List Frame) → t.state ≡ Connected → IsTarget r t c → Now t fs
+    → Now (leave_channel r.id code text c answers t) fs
+now-leave r c code text answers t fs hs at h =
+    let n : ℕ = r.id in
+    let x : Talk = leave_channel n code text c answers t in
+    let item : Item = plain n (our_channel_close n code text) in
+    now-told t x fs hs refl h
+    (λ o hi s.
+    let k = on-close n t.channels t.outbox.awaited (due_in t) s.later c code text answers at.listed at.open_state s.ties in
+    now-ties t x fs (now_on n Left s.later) o hi refl hs (s.agreed refl)
+    (pushed t.outbox item fs s.later (now_on n Left s.later) s.leads k.may)
+    (all-append IsOfControl t.outbox.control (item ∷ []) s.lane ((tt, refl), tt))
+    (others-ready n Left s.later t.outbox.publish s.ties.speaking s.groups)
+    (now-due x (due_in t) (now_on n Left s.later) (none-more t.committed t.outbox item tt) k.ties))
+
 now-close-target : (o : Result Channel ErrorKind) (r : ChanRef) (code : ℕ) (text : List ℕ) (t : Talk) (fs : List Frame) → t.state ≡ Connected → target r word.ChannelClose t ≡ o
     → Now t fs → Now (close_target o r.id code text t) fs
 now-close-target (Err e) r code text t fs hs is h = h
 now-close-target (Ok c) r code text t fs hs is h =
+    now-leave r c code text (Some (next_promise t)) t fs hs (target-is r word.ChannelClose t (named r t) c refl is) h
+
+now-drop-target : (o : Result Channel ErrorKind) (r : ChanRef) (t : Talk) (fs : List Frame) → t.state ≡ Connected → target r word.ChannelClose t ≡ o
+    → Now t fs → Now (drop_target o r.id t) fs
+now-drop-target (Err e) r t fs hs is h = h
+now-drop-target (Ok c) r t fs hs is h = now-leave r c 200 (codes "OK") None t fs hs (target-is r word.ChannelClose t (named r t) c refl is) h
+
+now-flow-target : (o : Result Channel ErrorKind) (r : ChanRef) (active : Bool) (t : Talk) (fs : List Frame) → t.state ≡ Connected → target r word.ChannelFlow t ≡ o
+    → Now t fs → Now (flow_target o r.id active t) fs
+now-flow-target (Err e) r active t fs hs is h = h
+now-flow-target (Ok c) r active t fs hs is h =
     let n : ℕ = r.id in
-    let at = target-is r word.ChannelClose t (named r t) c refl is in
-    let x : Talk = close_channel n code text c t in
-    let item : Item = plain n (our_channel_close n code text) in
+    let at = target-is r word.ChannelFlow t (named r t) c refl is in
+    let x : Talk = tell_flow n active t in
+    let item : Item = plain n (channel_flow n active) in
     now-told t x fs hs refl h
     (λ o hi s.
-    let k = on-close n t.channels t.outbox.awaited s.later c code text (Some (next_promise t)) at.listed at.open_state s.ties in
-    now-ties t x fs (now_on n Left s.later) o hi refl hs (s.agreed refl)
-    (pushed t.outbox item fs s.later (now_on n Left s.later) s.leads k.may)
-    (others-ready n s.later t.outbox.publish s.ties.speaking s.groups) k.ties)
+    let v : Speech = record s.later { content = NoContent } in
+    let some : n ≢ 0 = listed-some n t.channels t.outbox.awaited (due_in t) s.later c at.listed s.ties in
+    let used = used-open n t.channels t.outbox.awaited (due_in t) s.later c at.listed at.open_state s.ties in
+    now-ties t x fs v o hi refl hs (s.agreed refl)
+    (pushed t.outbox item fs s.later v s.leads (say-flow n active s.later some s.ties.speaking s.ties.complete used))
+    (all-append IsOfControl t.outbox.control (item ∷ []) s.lane ((tt, refl), tt))
+    (stay-ready s.later v t.outbox.publish s.ties.speaking tt (λ m used. used) s.groups)
+    (now-due x (due_in t) v (none-more t.committed t.outbox item tt)
+    (on-await-flow n t.channels t.outbox.awaited (due_in t) v (Some (next_promise t))
+    (with-content t.channels t.outbox.awaited (due_in t) s.later NoContent tt s.ties))))
 
 class-spelled : (m : OtherMethod) → m.class < 2 ^ 16 → class_in (spell_raw_method m) ≡ m.class
 class-spelled m h = from_be_bytes-to_be_bytes_2 m.class h
@@ -613,10 +828,12 @@ now-send r m c t fs told hs at h =
     now-unless (too_long (f ∷ []) t) (queue_send n f) t fs h
     (λ fits. now-told t x fs hs refl h
     (λ o hi s.
-    let k = on-send n t.channels t.outbox.awaited s.later c (spell_raw_method m) (passed-through m told.0 told.1 told.2) at.listed at.open_state s.ties in
+    let k = on-send n t.channels t.outbox.awaited (due_in t) s.later c (spell_raw_method m) (passed-through m told.0 told.1 told.2) at.listed at.open_state s.ties in
     let v : Speech = record s.later { content = MethodSaid n (class_in (spell_raw_method m)) } in
     now-ties t x fs v o hi refl hs (s.agreed refl) (pushed t.outbox item fs s.later v s.leads k.may)
-    (stay-ready s.later v t.outbox.publish s.ties.speaking tt (λ m used. used) s.groups) k.ties))
+    (all-append IsOfControl t.outbox.control (item ∷ []) s.lane ((tt, refl), tt))
+    (stay-ready s.later v t.outbox.publish s.ties.speaking tt (λ m used. used) s.groups)
+    (now-due x (due_in t) v (none-more t.committed t.outbox item tt) k.ties)))
 
 now-send-target : (o : Result Channel ErrorKind) (r : ChanRef) (m : OtherMethod) (t : Talk) (fs : List Frame) → IsSendable (Send r m) → t.state ≡ Connected → target r word.Send t ≡ o
     → Now t fs → Now (send_target o r.id m t) fs
@@ -632,12 +849,12 @@ now-publish r m properties body c t fs told hs at h =
     now-unless (too_long frames t) (queue_publish n frames) t fs h
     (λ fits. now-told t x fs hs refl h
     (λ o hi s.
-    let some : n ≢ 0 = listed-some n t.channels t.outbox.awaited s.later c at.listed s.ties in
-    let used = used-open n t.channels t.outbox.awaited s.later c at.listed at.open_state s.ties in
+    let some : n ≢ 0 = listed-some n t.channels t.outbox.awaited (due_in t) s.later c at.listed s.ties in
+    let used = used-open n t.channels t.outbox.awaited (due_in t) s.later c at.listed at.open_state s.ties in
     let content = publish-content m properties body (body_limit t) told.3 told.4 (pieces-fit n m properties body t (s.agreed refl) fits) in
     let ready : IsReady s.later (group_of n frames (next_promise t)) =
     publish-ready n m properties body (body_limit t) (next_promise t) s.later some s.ties.speaking s.ties.complete used (passed-through m told.0 told.1 told.2) content in
-    now-ties t x fs s.later o hi refl hs (s.agreed refl) s.leads
+    now-ties t x fs s.later o hi refl hs (s.agreed refl) s.leads s.lane
     (all-append (IsReady s.later) t.outbox.publish (group_of n frames (next_promise t) ∷ []) s.groups (ready, tt)) s.ties))
 
 now-publish-target : (o : Result Channel ErrorKind) (r : ChanRef) (m : OtherMethod) (properties body : List ℕ) (t : Talk) (fs : List Frame)
@@ -646,9 +863,10 @@ now-publish-target (Err e) r m properties body t fs told hs is h = h
 now-publish-target (Ok c) r m properties body t fs told hs is h =
     now-publish r m properties body c t fs told hs (target-is r word.Publish t (named r t) c refl is) h
 
-now-close-connection : (code : ℕ) (text : List ℕ) (t : Talk) (fs : List Frame) → t.state ≡ Connected → Now t fs → Now (close_connection code text t) fs
-now-close-connection code text t fs hs h =
-    let x : Talk = close_connection code text t in
+now-leave-connection : (code : ℕ) (text : List ℕ) (answers : Option ℕ) (t : Talk) (fs : List Frame) → t.state ≡ Connected → Now t fs
+    → Now (leave_connection code text answers t) fs
+now-leave-connection code text answers t fs hs h =
+    let x : Talk = leave_connection code text answers t in
     let item : Item = plain 0 (our_close code text) in
     now-told t x fs hs refl h
     (λ o hi s.
@@ -658,6 +876,7 @@ now-close-connection code text t fs hs h =
     (record {
       later = v;
       leads = pushed t.outbox item fs s.later v s.leads (say-our-close code text 0 0 s.later s.ties.speaking s.ties.complete);
+      lane = all-append IsOfControl t.outbox.control (item ∷ []) s.lane ((tt, refl), tt);
       groups = tt;
       ties = refl;
       agreed = λ k. absurd (true≢false (sym k));
@@ -666,14 +885,173 @@ now-close-connection code text t fs hs h =
 now-command-rule : (s : ConnectionState) (c : Cmd) (t : Talk) (fs : List Frame) → IsSendable c → t.state ≡ s → Now t fs → Now (command_rule s c t) fs
 now-command-rule Connected OpenChannel t fs told hs h = now-drawn _ t fs hs refl h
 now-command-rule Connected (CloseChannel r code text) t fs told hs h = now-close-target (target r word.ChannelClose t) r code text t fs hs refl h
-now-command-rule Connected (CloseConnection code text) t fs told hs h = now-close-connection code text t fs hs h
+now-command-rule Connected (CloseConnection code text) t fs told hs h = now-leave-connection code text (Some (next_promise t)) t fs hs h
 now-command-rule Connected (Send r method) t fs told hs h = now-send-target (target r word.Send t) r method t fs told hs refl h
 now-command-rule Connected (Publish r method properties body) t fs told hs h =
     now-publish-target (target r word.Publish t) r method properties body t fs told hs refl h
+now-command-rule Connected (Flow r active) t fs told hs h = now-flow-target (target r word.ChannelFlow t) r active t fs hs refl h
+now-command-rule Connected (DropChannel r) t fs told hs h = now-drop-target (target r word.ChannelClose t) r t fs hs refl h
+now-command-rule Connected DropConnection t fs told hs h = now-leave-connection 200 (codes "OK") None t fs hs h
+now-command-rule _ (DropChannel r) t fs told hs h = h
+now-command-rule _ DropConnection t fs told hs h = h
 now-command-rule _ c t fs told hs h = h
 
 pub now-command : (c : Cmd) (t : Talk) (fs : List Frame) → IsSendable c → Now t fs → Now (command c t) fs
 now-command c t fs told h = now-command-rule t.state c t fs told refl h
+
+-- ---- what was sent
+
+-- close-oks are on their way as before
+ties-due : (i : Input) (s : ConnectionState) (p : Phase) (cs : Listed) (ws : Replies) (due due' : ℕ → ℕ) (v : Speech) → ((n : ℕ) → due' n ≡ due n)
+    → Ties i s p cs ws due v → Ties i s p cs ws due' v
+ties-due input.Acting Connecting p cs ws due due' v same h = (h.0, still-new cs ws due due' same h.1)
+ties-due input.Acting Connected p cs ws due due' v same h = on-alike cs ws ws due due' v h.awaited_sorted (λ m. refl) same h
+ties-due input.Acting Closing p cs ws due due' v same h = h
+ties-due input.Acting _ p cs ws due due' v same h = absurd h
+ties-due (input.Closed crossed) s p cs ws due due' v same h = h
+ties-due (input.Dropped crossed) s p cs ws due due' v same h = h
+
+-- channels that change while the connection is open
+ties-listed : (i : Input) (s : ConnectionState) (p : Phase) (cs cs' : Listed) (ws : Replies) (due due' : ℕ → ℕ) (v : Speech) → (((n : ℕ) → due n ≡ 0) → ⊥)
+    → (TiesChannels cs ws due v → TiesChannels cs' ws due' v) → Ties i s p cs ws due v → Ties i s p cs' ws due' v
+ties-listed input.Acting Connecting p cs cs' ws due due' v some f h = absurd (some h.1.none_due)
+ties-listed input.Acting Connected p cs cs' ws due due' v some f h = f h
+ties-listed input.Acting Closing p cs cs' ws due due' v some f h = h
+ties-listed input.Acting _ p cs cs' ws due due' v some f h = absurd h
+ties-listed (input.Closed crossed) s p cs cs' ws due due' v some f h = h
+ties-listed (input.Dropped crossed) s p cs cs' ws due due' v some f h = h
+
+-- a session whose first committed frame was sent whole
+abbrev first_sent_off : Talk → Talk
+first_sent_off t = record t { committed = drop 1 t.committed }
+
+-- close-oks that are on their way, once it was
+due-after : (m : Mark) (ms : List Mark) (t : Talk) → t.committed ≡ m ∷ ms → (n : ℕ) → due_in t n ≡ pays n m.then + due_in (first_sent_off t) n
+due-after m ms t hc n =
+    ap (λ marks. unpaid marks (first_out t.outbox) n) hc ∙ sent-off m ms (first_out t.outbox) n
+    ∙ ap (λ marks. pays n m.then + unpaid (drop 1 marks) (first_out t.outbox) n) (sym hc)
+
+-- other frames are committed and not wholly sent, and as many close-oks are on their way
+now-marks : (ms : List Mark) (t : Talk) (fs : List Frame) → is_open t ≡ true → ((n : ℕ) → unpaid ms (first_out t.outbox) n ≡ due_in t n) → Now t fs
+    → Now (record t { committed = ms }) fs
+now-marks ms t fs o same h =
+    let said = h.0 o in
+    let x : Talk = record t { committed = ms } in
+    now-open x fs o
+    (record {
+      later = said.later;
+      leads = said.leads;
+      lane = said.lane;
+      groups = said.groups;
+      ties = ties-due t.input t.state t.phase t.channels t.outbox.awaited (due_in t) (due_in x) said.later same said.ties;
+      agreed = said.agreed;
+    })
+
+-- it was no close-ok of a channel
+now-passed : (m : Mark) (ms : List Mark) (t : Talk) (fs : List Frame) → t.committed ≡ m ∷ ms → ((n : ℕ) → pays n m.then ≡ 0) → is_open t ≡ true → Now t fs
+    → Now (first_sent_off t) fs
+now-passed m ms t fs hc none o h =
+    now-marks (drop 1 t.committed) t fs o
+    (λ n. (let a : due_in t n ≡ pays n m.then + due_in (first_sent_off t) n = due-after m ms t hc n in omega (arith, a, none n))) h
+
+-- it was one, and its channel owes it no more
+now-changed : (k : ℕ) (cs' : Listed) (m : Mark) (ms : List Mark) (t : Talk) (fs : List Frame) → t.committed ≡ m ∷ ms → m.then ≡ Pays k → is_open t ≡ true
+    → ((v : Speech) → due_in t k ≡ suc (due_in (first_sent_off t) k) → ((n : ℕ) → n ≢ k → due_in (first_sent_off t) n ≡ due_in t n)
+    → TiesChannels t.channels t.outbox.awaited (due_in t) v → TiesChannels cs' t.outbox.awaited (due_in (first_sent_off t)) v)
+    → Now t fs → Now (record t { committed = drop 1 t.committed; channels = cs' }) fs
+now-changed k cs' m ms t fs hc is o f h =
+    let said = h.0 o in
+    let y : Talk = first_sent_off t in
+    let x : Talk = record t { committed = drop 1 t.committed; channels = cs' } in
+    let own : due_in t k ≡ suc (due_in y k) =
+    (let a : due_in t k ≡ pays k m.then + due_in y k = due-after m ms t hc k in
+    let b : pays k m.then ≡ 1 = ap (pays k) is ∙ ap (λ b. if b then 1 else 0) (same-number k) in omega (arith, a, b)) in
+    let others : (n : ℕ) → n ≢ k → due_in y n ≡ due_in t n =
+    λ n ne.
+    (let a : due_in t n ≡ pays n m.then + due_in y n = due-after m ms t hc n in
+    let b : pays n m.then ≡ 0 = ap (pays n) is ∙ ap (λ b. if b then 1 else 0) (other-number k n (λ same. ne (sym same))) in omega (arith, a, b)) in
+    now-open x fs o
+    (record {
+      later = said.later;
+      leads = said.leads;
+      lane = said.lane;
+      groups = said.groups;
+      ties =
+          ties-listed t.input t.state t.phase t.channels cs' t.outbox.awaited (due_in t) (due_in y) said.later
+          (λ none. (let a : due_in t k ≡ 0 = none k in absurd (omega (arith, a, own)))) (f said.later own others) said.ties;
+      agreed = said.agreed;
+    })
+
+now-paid : (b : Bool) (k : ℕ) (c : Channel) (m : Mark) (ms : List Mark) (t : Talk) (fs : List Frame) → t.committed ≡ m ∷ ms → m.then ≡ Pays k → is_open t ≡ true
+    → channel_at k t ≡ Some c → awaits_close_ok k t ≡ b → Now t fs → Now (paid_by b k c (first_sent_off t)) fs
+now-paid true k c m ms t fs hc is o listed awaits h =
+    now-changed k (put k (record c { debt = debt.Paid }) t.channels) m ms t fs hc is o
+    (λ v own others ties.
+    let one = one-due k (due_in (first_sent_off t) k) t.channels t.outbox.awaited (due_in t) v c listed own ties in
+    on-paid k t.channels t.outbox (due_in t) (due_in (first_sent_off t)) v c listed one.1 awaits one.0 others ties) h
+now-paid false k c m ms t fs hc is o listed awaits h =
+    now-changed k (without k t.channels) m ms t fs hc is o
+    (λ v own others ties.
+    let one = one-due k (due_in (first_sent_off t) k) t.channels t.outbox.awaited (due_in t) v c listed own ties in
+    on-paid-gone k t.channels t.outbox (due_in t) (due_in (first_sent_off t)) v c listed one.1 awaits one.0 others ties) h
+
+now-pay : (c : Option Channel) (k : ℕ) (m : Mark) (ms : List Mark) (t : Talk) (fs : List Frame) → t.committed ≡ m ∷ ms → m.then ≡ Pays k → is_open t ≡ true
+    → channel_at k t ≡ c → Now t fs → Now (pay c k (first_sent_off t)) fs
+now-pay None k m ms t fs hc is o listed h =
+    now-changed k t.channels m ms t fs hc is o
+    (λ v own others ties. absurd (none-due k (due_in (first_sent_off t) k) t.channels t.outbox.awaited (due_in t) v listed own ties)) h
+now-pay (Some c) k m ms t fs hc is o listed h = now-paid (awaits_close_ok k t) k c m ms t fs hc is o listed refl h
+
+now-follow : (th : Then) (m : Mark) (ms : List Mark) (t : Talk) (fs : List Frame) → t.committed ≡ m ∷ ms → m.then ≡ th → is_open t ≡ true → Now t fs
+    → Now (follow th (first_sent_off t)) fs
+now-follow Nothing m ms t fs hc is o h = now-passed m ms t fs hc (λ n. ap (pays n) is) o h
+now-follow (Answer number) m ms t fs hc is o h = now-passed m ms t fs hc (λ n. ap (pays n) is) o h
+now-follow (Pays k) m ms t fs hc is o h = now-pay (channel_at k t) k m ms t fs hc is o refl h
+now-follow Finish m ms t fs hc is o h = now-ended (finish_by t.server_close (first_sent_off t)) fs (finish-ends t.server_close (first_sent_off t))
+
+-- what follows commits nothing
+finish-committed : (o : Option ServerClose) (t : Talk) → (finish_by o t).committed ≡ t.committed
+finish-committed None t = refl
+finish-committed (Some WithoutError) t = refl
+finish-committed (Some (WithError e)) t = refl
+
+pay-committed : (o : Option Channel) (b : Bool) (k : ℕ) (t : Talk) → awaits_close_ok k t ≡ b → (pay o k t).committed ≡ t.committed
+pay-committed None b k t is = refl
+pay-committed (Some c) b k t is = ap (λ b. (paid_by b k c t).committed) is ∙ by b where
+  by : (b : Bool) → (paid_by b k c t).committed ≡ t.committed
+  by true = refl
+  by false = refl
+
+follow-committed : (th : Then) (t : Talk) → (follow th t).committed ≡ t.committed
+follow-committed Nothing t = refl
+follow-committed (Answer number) t = refl
+follow-committed (Pays k) t = pay-committed (channel_at k t) (awaits_close_ok k t) k t refl
+follow-committed Finish t = finish-committed t.server_close t
+
+-- a part of the first committed frame was sent
+now-part : (m : Mark) (ms : List Mark) (n : ℕ) (t : Talk) (fs : List Frame) → t.committed ≡ m ∷ ms → is_open t ≡ true → Now t fs
+    → Now (record t { committed = record m { left = m.left - n } ∷ ms }) fs
+now-part m ms n t fs hc o h =
+    let m' : Mark = record m { left = m.left - n } in
+    let items : List Item = first_out t.outbox in
+    now-marks (m' ∷ ms) t fs o (λ k. sent-off m' ms items k ∙ sym (sent-off m ms items k) ∙ ap (λ marks. unpaid marks items k) (sym hc)) h
+
+now-sent : (ms : List Mark) (n : ℕ) (t : Talk) (fs : List Frame) → t.committed ≡ ms → Now t fs → Now (sent_among ms n t) fs
+now-sent [] n t fs hc h = h
+now-sent (m ∷ ms) n t fs hc h =
+    let some : Talk = sent_among ms (n - m.left) (sent m t) in
+    let part : Talk = record t { committed = record m { left = m.left - n } ∷ ms } in
+    if_by (λ (x : Talk). Now x fs) (is_open t) (if nat_le m.left n then some else part) t
+    (λ o.
+    if_case (λ (x : Talk). Now x fs) (nat_le m.left n) some part
+    (now-sent ms (n - m.left) (sent m t) fs (follow-committed m.then (first_sent_off t) ∙ ap (drop 1) hc) (now-follow m.then m ms t fs hc refl o h))
+    (now-part m ms n t fs hc o h))
+    (λ closed. h)
+
+pub now-taken : (n : ℕ) (t : Talk) (fs : List Frame) → Now t fs → Now (taken n t) fs
+now-taken n t fs h =
+    let u : Talk = record t { last_write = t.present } in
+    if_case (λ (x : Talk). Now x fs) (is_open t && not (n == 0)) (sent_among t.committed n u) t (now-sent t.committed n u fs refl h) h
 
 -- ---- links and commits
 
@@ -681,29 +1059,41 @@ now-command c t fs told h = now-command-rule t.state c t fs told refl h
 pub start-silent : IsSilent start
 start-silent = (refl, refl, omega arith)
 
--- on a new link nothing was committed, and the header waits
-pub tied-linked : (t : Talk) → is_asked t ≡ true → IsSilent t → IsTied (linked t) []
-tied-linked t asked_t h =
-    let x : Talk = record t {
+-- a session whose link has come
+abbrev on_new_link : Talk → Talk
+on_new_link t =
+    record t {
       state = Connecting;
       phase = AwaitStart;
       link = Open;
       input = input.Acting;
+      blocked = false;
       outbox = only (plain 0 protocol_header);
       committed = [];
       last_read = t.present;
       last_write = t.present;
-    } in
-    let is : linked t ≡ x = if-true (is_asked t) x t asked_t in
+    }
+
+is-linked : (t : Talk) → is_asked t ≡ true → linked t ≡ on_new_link t
+is-linked t asked_t = if-true (is_asked t) (on_new_link t) t asked_t
+
+-- on a new link nothing was committed, and the header waits
+pub tied-linked : (t : Talk) → is_asked t ≡ true → IsSilent t → IsTied (linked t) []
+tied-linked t asked_t h =
     let Q : Talk → Type 0 = λ y. IsTied y [] in
-    subst Q (sym is)
+    subst Q (sym (is-linked t asked_t))
     (record {
       later = greeted;
       leads = record { said = []; frames = refl; may = refl };
+      lane = ((tt, refl), tt);
       groups = tt;
-      ties = (refl, record { no_channels = h.1; none_awaited = refl });
+      ties = (refl, record { no_channels = h.1; none_awaited = refl; none_due = λ n. refl });
       agreed = λ k. absurd (true≢false (sym k));
     })
+
+-- the server of a new link has not blocked it, and the header may go out
+pub linked-writes : (t : Talk) → is_asked t ≡ true → writes (linked t) ≡ true
+linked-writes t asked_t = ap writes (is-linked t asked_t)
 
 -- a new link has room for the header
 pub silent-room : (t : Talk) → IsSilent t → 8 ≤ t.capacity
@@ -719,44 +1109,68 @@ ties-phase AwaitTune n v used h = shut-used (sym (ap (λ (x : Speech). x.usage n
 ties-phase AwaitOpenOk n v used h = shut-used (sym (ap (λ (x : Speech). x.usage n) h) ∙ used)
 
 -- a group that begins leaves a session tied
-ties-begun : (i : Input) (s : ConnectionState) (p : Phase) (cs : Listed) (ws : Replies) (n : ℕ) (v : Speech) → v.usage n ≡ InUse
-    → Ties i s p cs ws v → Ties i s p cs ws (filling n 0 v)
-ties-begun input.Acting Connecting p cs ws n v used h = absurd (ties-phase p n v used h.0)
-ties-begun input.Acting Connected p cs ws n v used h =
-    record { speaking = h.speaking; complete = tt; sorted = h.sorted; awaited_sorted = h.awaited_sorted; each = h.each }
-ties-begun input.Acting Closing p cs ws n v used h = h
-ties-begun input.Acting _ p cs ws n v used h = absurd h
-ties-begun (input.Closed crossed) s p cs ws n v used h = h
-ties-begun (input.Dropped crossed) s p cs ws n v used h = h
+ties-begun : (i : Input) (s : ConnectionState) (p : Phase) (cs : Listed) (ws : Replies) (due : ℕ → ℕ) (n : ℕ) (v : Speech) → v.usage n ≡ InUse
+    → Ties i s p cs ws due v → Ties i s p cs ws due (filling n 0 v)
+ties-begun input.Acting Connecting p cs ws due n v used h = absurd (ties-phase p n v used h.0)
+ties-begun input.Acting Connected p cs ws due n v used h = with-content cs ws due v (BodyMissing n 0) tt h
+ties-begun input.Acting Closing p cs ws due n v used h = h
+ties-begun input.Acting _ p cs ws due n v used h = absurd h
+ties-begun (input.Closed crossed) s p cs ws due n v used h = h
+ties-begun (input.Dropped crossed) s p cs ws due n v used h = h
 
 -- the next frame goes out, by what waits
 next-speaks : (flow : Bool) (begun control : List Item) (publish : List (List Item)) (awaited : Replies) (s : ConnectionState) (p : Phase) (i : Input) (frame_max : ℕ)
-    (cs : Listed) (fs : List Frame) (item : Item) → queued.next_item flow (record { control = control; publish = publish; begun = begun; awaited = awaited }) ≡ Some item
-    → Speaks s p i frame_max (record { control = control; publish = publish; begun = begun; awaited = awaited }) cs fs
-    → Speaks s p i frame_max (after_next flow (record { control = control; publish = publish; begun = begun; awaited = awaited })) cs (fs ++ item.frame ∷ [])
-next-speaks flow (x ∷ begun) control publish awaited s p i frame_max cs fs item is h =
+    (cs : Listed) (ms : List Mark) (fs : List Frame) (item : Item)
+    → queued.next_item flow (record { control = control; publish = publish; begun = begun; awaited = awaited }) ≡ Some item
+    → Speaks s p i frame_max (record { control = control; publish = publish; begun = begun; awaited = awaited }) cs ms fs
+    → Speaks s p i frame_max (after_next flow (record { control = control; publish = publish; begun = begun; awaited = awaited })) cs (ms ++ mark_of item ∷ []) (fs ++ item.frame ∷ [])
+next-speaks flow (x ∷ begun) control publish awaited s p i frame_max cs ms fs item is h =
     let same : x ≡ item = cc in
     let q : Queued = record { control = control; publish = publish; begun = begun; awaited = awaited } in
-    let Q : Item → Type 0 = λ y. Speaks s p i frame_max q cs (fs ++ y.frame ∷ []) in
+    let Q : Item → Type 0 = λ y. Speaks s p i frame_max q cs (ms ++ mark_of y ∷ []) (fs ++ y.frame ∷ []) in
     subst Q same
-    (record { later = h.later; leads = went x (begun ++ control) fs h.later h.leads; groups = h.groups; ties = h.ties; agreed = h.agreed })
-next-speaks flow [] (x ∷ control) publish awaited s p i frame_max cs fs item is h =
+    (record {
+      later = h.later;
+      leads = went x (begun ++ control) fs h.later h.leads;
+      lane = h.lane;
+      groups = h.groups;
+      ties =
+          ties-due i s p cs awaited (unpaid ms (x ∷ begun ++ control)) (unpaid (ms ++ mark_of x ∷ []) (begun ++ control)) h.later
+          (moved-on ms x (begun ++ control)) h.ties;
+      agreed = h.agreed;
+    })
+next-speaks flow [] (x ∷ control) publish awaited s p i frame_max cs ms fs item is h =
     let same : x ≡ item = cc in
     let q : Queued = record { control = control; publish = publish; begun = []; awaited = awaited } in
-    let Q : Item → Type 0 = λ y. Speaks s p i frame_max q cs (fs ++ y.frame ∷ []) in
-    subst Q same (record { later = h.later; leads = went x control fs h.later h.leads; groups = h.groups; ties = h.ties; agreed = h.agreed })
-next-speaks false [] [] publish awaited s p i frame_max cs fs item is h = absurd cc
-next-speaks true [] [] [] awaited s p i frame_max cs fs item is h = absurd cc
-next-speaks true [] [] ([] ∷ groups) awaited s p i frame_max cs fs item is h = absurd cc
+    let Q : Item → Type 0 = λ y. Speaks s p i frame_max q cs (ms ++ mark_of y ∷ []) (fs ++ y.frame ∷ []) in
+    subst Q same
+    (record {
+      later = h.later;
+      leads = went x control fs h.later h.leads;
+      lane = h.lane.1;
+      groups = h.groups;
+      ties = ties-due i s p cs awaited (unpaid ms (x ∷ control)) (unpaid (ms ++ mark_of x ∷ []) control) h.later (moved-on ms x control) h.ties;
+      agreed = h.agreed;
+    })
+next-speaks false [] [] publish awaited s p i frame_max cs ms fs item is h = absurd cc
+next-speaks true [] [] [] awaited s p i frame_max cs ms fs item is h = absurd cc
+next-speaks true [] [] ([] ∷ groups) awaited s p i frame_max cs ms fs item is h = absurd cc
 -- a group begins, and the rest of it goes before all else
-next-speaks true [] [] ((x ∷ group) ∷ groups) awaited s p i frame_max cs fs item is h =
+next-speaks true [] [] ((x ∷ group) ∷ groups) awaited s p i frame_max cs ms fs item is h =
     let same : x ≡ item = cc in
     let q : Queued = record { control = []; publish = groups; begun = group; awaited = awaited } in
-    let Q : Item → Type 0 = λ y. Speaks s p i frame_max q cs (fs ++ y.frame ∷ []) in
+    let Q : Item → Type 0 = λ y. Speaks s p i frame_max q cs (ms ++ mark_of y ∷ []) (fs ++ y.frame ∷ []) in
     let v : Speech = h.later in
     let w = h.groups.0 in
     let gs : List Frame = x.frame ∷ frames_in group in
     let begun : fs ≡ amqp_header ∷ h.leads.said = sym (append-none fs) ∙ h.leads.frames in
+    let due : (n : ℕ) → unpaid (ms ++ mark_of x ∷ []) (group ++ []) n ≡ unpaid ms [] n =
+    λ n.
+    (let a : unpaid (ms ++ mark_of x ∷ []) group n ≡ unpaid ms (x ∷ group) n = moved-on ms x group n in
+    let b : unpaid (ms ++ mark_of x ∷ []) (group ++ []) n ≡ unpaid (ms ++ mark_of x ∷ []) group n =
+    ap (λ items. unpaid (ms ++ mark_of x ∷ []) items n) (append-none group) in
+    let c : to_pay (x ∷ group) n ≡ 0 = group-pays-none (x ∷ group) w.channel w.method w.head w.bodies n w.frames in
+    b ∙ a ∙ ap (λ k. paying ms n + k) c) in
     subst Q same
     (record {
       later = filling w.channel 0 v;
@@ -770,8 +1184,11 @@ next-speaks true [] [] ((x ∷ group) ∷ groups) awaited s p i frame_max cs fs 
                 say-append (Some greeted) h.leads.said gs ∙ ap (λ o. say_all o gs) h.leads.may ∙ ap (say_all (Some v)) w.frames
                 ∙ say-group w.channel w.method w.head w.bodies v w.not_zero w.speaking w.complete w.used w.passed w.content;
           };
+      lane = tt;
       groups = stay-ready v (filling w.channel 0 v) groups w.speaking tt (λ m used. used) h.groups.1;
-      ties = ties-begun i s p cs awaited w.channel v w.used h.ties;
+      ties =
+          ties-due i s p cs awaited (unpaid ms []) (unpaid (ms ++ mark_of x ∷ []) (group ++ [])) (filling w.channel 0 v) due
+          (ties-begun i s p cs awaited (unpaid ms []) w.channel v w.used h.ties);
       agreed = h.agreed;
     })
 
@@ -779,8 +1196,8 @@ next-speaks true [] [] ((x ∷ group) ∷ groups) awaited s p i frame_max cs fs 
 pub tied-commit : (t : Talk) (fs : List Frame) (item : Item) → next_item t ≡ Some item → IsTied t fs
     → IsTied (record t { outbox = after_next (flows t) t.outbox; committed = t.committed ++ mark_of item ∷ [] }) (fs ++ item.frame ∷ [])
 tied-commit t fs item is h =
-    next-speaks (flows t) t.outbox.begun t.outbox.control t.outbox.publish t.outbox.awaited t.state t.phase t.input t.configuration.frame_max t.channels fs item
-    (while-open (is_open t) (queued.next_item (flows t) t.outbox) is) h
+    next-speaks (flows t) t.outbox.begun t.outbox.control t.outbox.publish t.outbox.awaited t.state t.phase t.input t.configuration.frame_max t.channels t.committed fs item
+    (while-open (writes t) (queued.next_item (flows t) t.outbox) is) h
   where
     while-open : (b : Bool) (o : Option Item) → (if b then o else None) ≡ Some item → o ≡ Some item
     while-open true o k = k

@@ -7,7 +7,7 @@ use Rattle.amqp_outbox.specs.Items.{size_of}
 use Rattle.amqp_outbox.specs.Queued as queued
 use Rattle.amqp_session.specs.declared.committed.Mark.{Mark}
 use Rattle.amqp_session.specs.Talk.{Talk, is_open}
-use Rattle.amqp_session.specs.Writing.{left_in, sent_among, taken, unsent, flows, fitting, next_within, mark_of, committed_as, commit}
+use Rattle.amqp_session.specs.Writing.{left_in, sent_among, taken, unsent, writes, flows, fitting, next_within, mark_of, committed_as, commit}
 use Rattle.amqp_session.specs.Parts.{after_first}
 use Rattle.amqp_session.proofs.Cases.{if_case, if-true, if-false}
 use Rattle.amqp_session.proofs.Keeping.{left_in-cons, left_in-left_after, sent_among-committed}
@@ -42,12 +42,12 @@ unsent-taken n t still within = counted n t within (is_open t && not (n == 0)) r
 
 -- ---- the next frame
 
-module _ (space : ℕ) (t : Talk) (item : Item) (opened : is_open t ≡ true) (first : queued.next_item (flows t) t.outbox ≡ Some item) (fits : size_of item ≤ space) where
+module _ (space : ℕ) (t : Talk) (item : Item) (opened : writes t ≡ true) (first : queued.next_item (flows t) t.outbox ≡ Some item) (fits : size_of item ≤ space) where
   -- it goes out where it fits
   pub next-fits : next_within space t ≡ Some item
   next-fits =
       let enough : nat_le (size_of item) space ≡ true = grind (arith, nat_tests) in
-      ap (fitting space) (if-true (is_open t) (queued.next_item (flows t) t.outbox) None opened ∙ first)
+      ap (fitting space) (if-true (writes t) (queued.next_item (flows t) t.outbox) None opened ∙ first)
       ∙ if-true (nat_le (size_of item) space) (Some item) None enough
 
   pub commit-fits : commit space t ≡ record t { outbox = queued.after_next (flows t) t.outbox; committed = t.committed ++ mark_of item ∷ [] }

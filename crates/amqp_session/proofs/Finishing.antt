@@ -9,22 +9,24 @@ use Rattle.amqp_frame.specs.RawMethods.{OtherMethod}
 use Rattle.amqp_outbox.specs.declared.item.Item.{Item}
 use Rattle.amqp_outbox.specs.Items.{plain, group_of, frames_of}
 use Rattle.amqp_outbox.specs.Queued as queued
-use Rattle.amqp_outbox.specs.Queued.{Queued, waiting_items, after_next, pushed_control, pushed_group}
+use Rattle.amqp_outbox.specs.Queued.{Queued, waiting_items, after_next, pushed_control, pushed_group, is_on, goes_with}
 use Rattle.amqp_outbox.proofs.Waiting.{next-waits}
 use Rattle.amqp_session.specs.declared.committed.Mark.{Mark}
 use Rattle.amqp_session.specs.declared.committed.Then.{Then}
-use Rattle.amqp_session.specs.declared.committed.Then.TheVariants.{Nothing, Answer, Finish}
+use Rattle.amqp_session.specs.declared.committed.Then.TheVariants.{Nothing, Answer, Pays, Finish}
 use Rattle.amqp_session.specs.declared.state.Input.{Input}
 use Rattle.amqp_session.specs.declared.state.Input.TheVariants.{Acting, Closed, Dropped}
 use Rattle.amqp_session.specs.Talk.{Talk, is_open, is_acting}
-use Rattle.amqp_session.specs.Handshake.{channel_open, our_channel_close}
+use Rattle.amqp_session.specs.Handshake.{channel_open, channel_flow, flow_ok, channel_close_ok, our_channel_close}
 use Rattle.amqp_session.specs.Links.{dropped}
 use Rattle.amqp_session.specs.Publishing.{content_header, body_pieces, publish_frames}
-use Rattle.amqp_session.specs.Writing.{left_in, unsent, taken, sent_among, sent, follow, flows, fitting, next_item, next_within, then_of, mark_of}
+use Rattle.amqp_session.specs.Changes.{without_all_on}
+use Rattle.amqp_session.specs.Channels.{channel_at}
+use Rattle.amqp_session.specs.Writing.{left_in, unsent, taken, sent_among, sent, follow, writes, flows, fitting, next_item, next_within, then_of, mark_of}
 use Rattle.amqp_session.specs.Sound.{is_finish, following, NoneFinishes, LastFinishes, Finishes}
 use Rattle.amqp_session.proofs.Cases.{if-true, if-false}
 use Rattle.amqp_session.proofs.Counting.{other-false}
-use Rattle.amqp_session.proofs.Keeping.{left_after, left_in-left_after, follow-keeps}
+use Rattle.amqp_session.proofs.Keeping.{left_after, left_in-left_after, follow-keeps, pay-keeps}
 
 -- ---- nothing finishes, or the last does
 
@@ -108,6 +110,15 @@ groups-left test (group ∷ groups) h = by (test group) (groups-left test groups
     by true rest = joined group (frames_of (filter test groups)) (front group (frames_of groups) h) rest
     by false rest = rest
 
+-- frames that are left go on
+items-left : (test : Item → Bool) (is : List Item) → GoesOn is → GoesOn (filter test is)
+items-left test [] h = tt
+items-left test (item ∷ is) h = by (test item) (items-left test is h.1)
+  where
+    by : (b : Bool) → GoesOn (filter test is) → GoesOn (cond b (item ∷ filter test is) (filter test is))
+    by true rest = (h.0, rest)
+    by false rest = rest
+
 module _ (q : Queued) (h : GoesOn (waiting_items q)) where
   first-lanes : GoesOn (q.begun ++ q.control)
   first-lanes = front (q.begun ++ q.control) (frames_of q.publish) h
@@ -133,6 +144,14 @@ module _ (q : Queued) (h : GoesOn (waiting_items q)) where
   left-goes_on test =
       joined (q.begun ++ q.control) (frames_of (filter test q.publish)) first-lanes (groups-left test q.publish last-lane)
 
+  -- all of a channel goes
+  pub channel-goes_on : (n : ℕ) → GoesOn (waiting_items (without_all_on n q))
+  channel-goes_on n =
+      joined (q.begun ++ filter (λ item. not (goes_with n item)) q.control) (frames_of (filter (λ group. not (is_on n group)) q.publish))
+      (joined q.begun (filter (λ item. not (goes_with n item)) q.control) (front q.begun q.control first-lanes)
+      (items-left (λ item. not (goes_with n item)) q.control (behind q.begun q.control first-lanes)))
+      (groups-left (λ group. not (is_on n group)) q.publish last-lane)
+
   -- all groups go
   pub ungrouped-goes_on : GoesOn (waiting_items (record q { publish = [] }))
   ungrouped-goes_on = joined (q.begun ++ q.control) [] first-lanes tt
@@ -156,6 +175,18 @@ open-goes_on (suc n) = refl
 pub close-goes_on : (n code : ℕ) (text : List ℕ) → is_finish (then_of (plain n (our_channel_close n code text))) ≡ false
 close-goes_on zero code text = refl
 close-goes_on (suc n) code text = refl
+
+pub flow-goes_on : (n : ℕ) (active : Bool) → is_finish (then_of (plain n (channel_flow n active))) ≡ false
+flow-goes_on zero active = refl
+flow-goes_on (suc n) active = refl
+
+pub flow_ok-goes_on : (n : ℕ) (active : Bool) → is_finish (then_of (plain n (flow_ok n active))) ≡ false
+flow_ok-goes_on zero active = refl
+flow_ok-goes_on (suc n) active = refl
+
+pub close_ok-goes_on : (n : ℕ) → is_finish (then_of (plain n (channel_close_ok n))) ≡ false
+close_ok-goes_on zero = refl
+close_ok-goes_on (suc n) = refl
 
 pieces-go : (n number : ℕ) (kind : RawKind) (bytes : List ℕ) (pieces : List (List ℕ)) → GoesOn (group_of n (Raw n kind bytes ∷ map (Raw n Body) pieces) number)
 pieces-go n number kind bytes [] = (refl, tt)
@@ -186,7 +217,7 @@ pub next-first : (space : ℕ) (t : Talk) (item : Item) → next_within space t 
     → waiting_items t.outbox ≡ item ∷ waiting_items (after_next (flows t) t.outbox)
 next-first space t item h =
     next-waits (flows t) t.outbox item
-    (if-some (is_open t) (queued.next_item (flows t) t.outbox) item (fitting-some space (next_item t) item h))
+    (if-some (writes t) (queued.next_item (flows t) t.outbox) item (fitting-some space (next_item t) item h))
 
 -- what follows stays where a frame is committed
 pub committed-follows : (space : ℕ) (t : Talk) (item : Item) → next_within space t ≡ Some item
@@ -218,6 +249,9 @@ module _ (m : Mark) (ms : List Mark) (k : ℕ) (t : Talk) (h : t.committed ≡ m
   sent-first : (th : Then) → m.then ≡ th → (sent_among ms k (sent m t)).committed ≡ left_after ms k
   sent-first Nothing e = later (ap (λ (th : Then). is_open (follow th (record t { committed = drop 1 t.committed }))) e ∙ opened)
   sent-first (Answer n) e = later (ap (λ (th : Then). is_open (follow th (record t { committed = drop 1 t.committed }))) e ∙ opened)
+  sent-first (Pays n) e =
+      later (ap (λ (th : Then). is_open (follow th (record t { committed = drop 1 t.committed }))) e
+      ∙ pay-keeps is_open (λ u cs. refl) (channel_at n t) n (record t { committed = drop 1 t.committed }) ∙ opened)
   sent-first Finish e =
       let none : following ms (waiting_items t.outbox) ≡ [] = last.0 (ap is_finish e) in
       let empty : ms ≡ [] = no-marks ms (waiting_items t.outbox) none in

@@ -1,14 +1,16 @@
 -- How a frame that is read may end a session, row by row.
-use Rattle.std.proofs.Common.{◌≡◌, ◌≢◌, ◌⊎◌, inl, inr, ℕ, zero, suc, not, ◌&&◌, true, false, if◌then◌else◌, List, Option, Some, None, is_some, refl, ap}
+use Rattle.std.proofs.Common.{◌≡◌, ◌≢◌, ◌⊎◌, inl, inr, ℕ, zero, suc, not, ◌&&◌, Bool, true, false, if◌then◌else◌, List, Option, Some, None, is_some, refl, ap}
 use Rattle.amqp_frame.specs.declared.frame.Frame.{Frame}
 use Rattle.amqp_frame.specs.declared.frame.Frame.TheVariants.{ProtocolHeader, Method, Raw, Heartbeat}
 use Rattle.amqp_frame.specs.declared.frame.RawKind.{RawKind}
 use Rattle.amqp_frame.specs.declared.frame.RawKind.TheVariants.{RawMethod}
 use Rattle.amqp_frame.specs.declared.method.Method.{Method as AnyMethod}
-use Rattle.amqp_frame.specs.declared.method.Method.TheVariants.{Start, Tune, OpenOk, Close, CloseOk, ChannelOpenOk, ChannelCloseOk}
-use Rattle.amqp_outbox.specs.declared.reply.Reply.TheVariants.{ChannelOpened, ChannelClosed, ConnectionClosed}
+use Rattle.amqp_frame.specs.declared.method.Method.TheVariants.{Start, Tune, OpenOk, Close, CloseOk, Blocked, Unblocked, ChannelOpenOk, ChannelClose, ChannelCloseOk, ChannelFlow, ChannelFlowOk}
+use Rattle.amqp_outbox.specs.declared.reply.Reply.TheVariants.{ChannelOpened, ChannelClosed, FlowDone, ConnectionClosed}
 use Rattle.amqp_outbox.specs.Queued.{awaited_promise}
 use Rattle.amqp_session.specs.declared.channels.Channel.{Channel}
+use Rattle.amqp_session.specs.declared.channels.Debt.{Debt}
+use Rattle.amqp_session.specs.declared.channels.Debt.TheVariants as debt
 use Rattle.amqp_session.specs.declared.state.ConnectionState.{ConnectionState}
 use Rattle.amqp_session.specs.declared.state.ConnectionState.TheVariants.{Connecting, Closing}
 use Rattle.amqp_session.specs.declared.state.ChannelState.{ChannelState}
@@ -18,14 +20,14 @@ use Rattle.amqp_session.specs.declared.state.Phase.TheVariants.{AwaitStart, Awai
 use Rattle.amqp_session.specs.declared.misread.Misread.{Misread}
 use Rattle.amqp_session.specs.declared.error.ErrorKind.{ErrorKind}
 use Rattle.amqp_session.specs.declared.error.ErrorKind.TheVariants.{InvalidProtocolVersion, InvalidChannel, InvalidConnectionState, Unbuilt}
-use Rattle.amqp_session.specs.Talk.{Talk, is_open, is_closing, acts}
+use Rattle.amqp_session.specs.Talk.{Talk, hears_on, is_open, is_closing, acts, end_of}
 use Rattle.amqp_session.specs.Changes.{fail, lose, misplaced}
 use Rattle.amqp_session.specs.Links.{misread, dropped}
-use Rattle.amqp_session.specs.Violations.{misread_error, stray_channel_frame, stray_connection_method, unawaited}
+use Rattle.amqp_session.specs.Violations.{channel_closed_with, misread_error, stray_channel_frame, stray_connection_method, unawaited}
 use Rattle.amqp_session.specs.ConnectionMethods.{connection_rule, connection_closed}
 use Rattle.amqp_session.specs.Channels.{channel_at}
-use Rattle.amqp_session.specs.ChannelMethods.{heard_on, unawaited_channel_method, channel_opened, channel_closed, channel_rule, channel_method_by, channel_method, hand_out, confirmed, is_select_ok, pass_through, raw_by}
-use Rattle.amqp_session.specs.Frames.{is_unbuilt, is_of_a_channel, method_rule, frame_rule, on_frame}
+use Rattle.amqp_session.specs.ChannelMethods.{heard_on, unawaited_channel_method, channel_opened, channel_closed, channel_flowed, channel_close_by, awaits_close_ok, remove_unless_owed, on_channel_flow, channel_rule, channel_method_by, channel_method, hand_out, confirmed, is_select_ok, pass_through, raw_by}
+use Rattle.amqp_session.specs.Frames.{is_unbuilt, is_of_a_channel, method_rule, frame_rule, closed_rule, on_frame}
 use Rattle.amqp_session.specs.Causes.{IsFrameError, is_awaited, is_due}
 use Rattle.amqp_session.proofs.Cases.{if_case, if_by, and-true}
 use Rattle.amqp_session.proofs.Ends.{Ends, ends-kept, ends-lose, ends-ok}
@@ -42,10 +44,29 @@ ends-opened : (P : ErrorKind → Type 0) (n : ℕ) (c : Channel) (a : Option (Op
 ends-opened P n c None t p = ends-unawaited P n c.state ChannelOpenOk t (p refl)
 ends-opened P n c (Some promise) t p = ends-kept P t (channel_opened n c (Some promise) t) refl
 
+-- a channel that goes ends nothing
+end-owed : (d : Debt) (n : ℕ) (t : Talk) → end_of (remove_unless_owed d n t) ≡ end_of t
+end-owed debt.Owed n t = refl
+end-owed _ n t = refl
+
 ends-closed : (P : ErrorKind → Type 0) (n : ℕ) (c : Channel) (a : Option (Option ℕ)) (t : Talk)
     → (is_some a ≡ false → c.state ≢ channel.Closing → P (unawaited ChannelCloseOk n)) → Ends P t (channel_closed n c a t)
 ends-closed P n c None t p = ends-unawaited P n c.state ChannelCloseOk t (p refl)
-ends-closed P n c (Some promise) t p = ends-kept P t (channel_closed n c (Some promise) t) refl
+ends-closed P n c (Some promise) t p = ends-kept P t (channel_closed n c (Some promise) t) (end-owed c.debt n _)
+
+ends-flow : (P : ErrorKind → Type 0) (s : ChannelState) (n : ℕ) (c : Channel) (active : Bool) (t : Talk) → Ends P t (on_channel_flow s n c active t)
+ends-flow P channel.Closing n c active t = ends-kept P t t refl
+ends-flow P _ n c active t = ends-kept P t _ refl
+
+ends-flowed : (P : ErrorKind → Type 0) (n : ℕ) (c : Channel) (active : Bool) (a : Option (Option ℕ)) (t : Talk)
+    → (is_some a ≡ false → c.state ≢ channel.Closing → P (unawaited (ChannelFlowOk active) n)) → Ends P t (channel_flowed n c active a t)
+ends-flowed P n c active None t p = ends-unawaited P n c.state (ChannelFlowOk active) t (p refl)
+ends-flowed P n c active (Some promise) t p = ends-kept P t (channel_flowed n c active (Some promise) t) refl
+
+ends-server-close : (P : ErrorKind → Type 0) (d : Debt) (awaits : Bool) (n : ℕ) (e : ErrorKind) (c : Channel) (t : Talk) → Ends P t (channel_close_by d awaits n e c t)
+ends-server-close P debt.Nothing false n e c t = ends-kept P t _ refl
+ends-server-close P debt.Nothing true n e c t = ends-kept P t _ refl
+ends-server-close P _ awaits n e c t = ends-kept P t t refl
 
 ends-connection-closed : (P : ErrorKind → Type 0) (a : Option (Option ℕ)) (t : Talk) → Ends P t (connection_closed a t)
 ends-connection-closed P None t = ends-ok P t _ refl
@@ -54,6 +75,8 @@ ends-connection-closed P (Some promise) t = ends-ok P t _ refl
 ends-connection : (P : ErrorKind → Type 0) (s : ConnectionState) (p : Phase) (m : AnyMethod) (t : Talk)
     → (is_closing s ≡ false → is_due m s p ≡ false → P (InvalidConnectionState s)) → Ends P t (connection_rule s p m t)
 ends-connection P s p (Close code text class method) t e = ends-kept P t _ refl
+ends-connection P s p (Blocked reason) t e = ends-kept P t _ refl
+ends-connection P s p Unblocked t e = ends-kept P t _ refl
 ends-connection P Closing p CloseOk t e = ends-connection-closed P (awaited_promise 0 ConnectionClosed t.outbox) t
 ends-connection P Closing p m t e = ends-kept P t t refl
 ends-connection P Connecting AwaitStart (Start a b c d x) t e = ends-kept P t _ refl
@@ -66,6 +89,10 @@ ends-channel : (P : ErrorKind → Type 0) (s : ConnectionState) (n : ℕ) (c : C
 ends-channel P Closing n c m t p = ends-kept P t t refl
 ends-channel P _ n c ChannelOpenOk t p = ends-opened P n c (awaited_promise n ChannelOpened t.outbox) t (p refl)
 ends-channel P _ n c ChannelCloseOk t p = ends-closed P n c (awaited_promise n ChannelClosed t.outbox) t (p refl)
+ends-channel P _ n c (ChannelClose code text class method) t p =
+    ends-server-close P c.debt (awaits_close_ok n t) n (channel_closed_with code text) c t
+ends-channel P _ n c (ChannelFlow active) t p = ends-flow P c.state n c active t
+ends-channel P _ n c (ChannelFlowOk active) t p = ends-flowed P n c active (awaited_promise n FlowDone t.outbox) t (p refl)
 ends-channel P _ n c m t p = ends-unawaited P n c.state m t (p refl refl)
 
 ends-channel-by : (P : ErrorKind → Type 0) (o : Option Channel) (n : ℕ) (m : AnyMethod) (t : Talk)
@@ -133,10 +160,18 @@ ends-rule (Raw (suc n) kind bytes) place t =
     ends-raw (FrameError (Raw (suc n) kind bytes) place t) (heard_on t.state o) (suc n) kind bytes t
     (λ h going. (ap not going, (refl, none-heard t.state o h)))
 
+end-closed : (f : Frame) (t : Talk) → end_of (closed_rule f t) ≡ end_of t
+end-closed (Method zero (Blocked reason)) t = refl
+end-closed (Method zero Unblocked) t = refl
+end-closed f t = refl
+
 -- a frame ends a session by its own errors alone
 pub ends-frame : (f : Frame) (place : ℕ) (t : Talk) → Ends (FrameError f place t) t (on_frame f place t)
 ends-frame f place t =
-    if_case (Ends (FrameError f place t) t) (acts t) (frame_rule f place t) t (ends-rule f place t) (ends-kept _ t t refl)
+    if_case (Ends (FrameError f place t) t) (acts t) (frame_rule f place t) (if hears_on t then closed_rule f t else t)
+    (ends-rule f place t)
+    (if_case (Ends (FrameError f place t) t) (hears_on t) (closed_rule f t) t
+    (ends-kept _ t (closed_rule f t) (end-closed f t)) (ends-kept _ t t refl))
 
 -- what is no frame ends it by its own error alone
 pub ends-misread : (P : ErrorKind → Type 0) (w : Misread) (t : Talk) → P (misread_error w) → Ends P t (misread w t)

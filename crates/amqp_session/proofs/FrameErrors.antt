@@ -1,13 +1,13 @@
 -- Each error that is said to be brought by a frame ends a session where frames act, and no other error does.
-use Rattle.std.proofs.Common.{◌≡◌, ◌≢◌, ◌⊎◌, ◌↔◌, inl, inr, ℕ, zero, suc, not, ◌&&◌, Bool, true, false, List, Option, Some, None, Err, is_some, refl, ap, sym, ◌∙◌, subst}
+use Rattle.std.proofs.Common.{◌≡◌, ◌≢◌, ◌⊎◌, ◌↔◌, inl, inr, if◌then◌else◌, ℕ, zero, suc, not, ◌&&◌, Bool, true, false, List, Option, Some, None, Err, is_some, refl, ap, sym, ◌∙◌, subst}
 use Rattle.amqp_types.specs.declared.version.ProtocolVersion.{ProtocolVersion}
 use Rattle.amqp_frame.specs.declared.frame.Frame.{Frame}
 use Rattle.amqp_frame.specs.declared.frame.Frame.TheVariants.{ProtocolHeader, Method, Raw}
 use Rattle.amqp_frame.specs.declared.frame.RawKind.{RawKind}
 use Rattle.amqp_frame.specs.declared.frame.RawKind.TheVariants.{RawMethod}
 use Rattle.amqp_frame.specs.declared.method.Method.{Method as AnyMethod}
-use Rattle.amqp_frame.specs.declared.method.Method.TheVariants.{Start, Tune, OpenOk, Close, ChannelOpenOk, ChannelCloseOk}
-use Rattle.amqp_outbox.specs.declared.reply.Reply.TheVariants.{ChannelOpened, ChannelClosed}
+use Rattle.amqp_frame.specs.declared.method.Method.TheVariants.{Start, Tune, OpenOk, Close, Blocked, Unblocked, ChannelOpenOk, ChannelClose, ChannelCloseOk, ChannelFlow, ChannelFlowOk}
+use Rattle.amqp_outbox.specs.declared.reply.Reply.TheVariants.{ChannelOpened, ChannelClosed, FlowDone}
 use Rattle.amqp_outbox.specs.Queued.{awaited_promise}
 use Rattle.amqp_session.specs.declared.channels.Channel.{Channel}
 use Rattle.amqp_session.specs.declared.state.ConnectionState.{ConnectionState}
@@ -20,13 +20,13 @@ use Rattle.amqp_session.specs.declared.state.Phase.{Phase}
 use Rattle.amqp_session.specs.declared.state.Phase.TheVariants.{AwaitStart, AwaitTune, AwaitOpenOk}
 use Rattle.amqp_session.specs.declared.error.ErrorKind.{ErrorKind}
 use Rattle.amqp_session.specs.declared.error.ErrorKind.TheVariants.{InvalidProtocolVersion, InvalidChannel, InvalidConnectionState, ProtocolError, Unbuilt}
-use Rattle.amqp_session.specs.Talk.{Talk, is_open, is_open_link, is_acting, is_closing, acts, end_of, end_of_link}
+use Rattle.amqp_session.specs.Talk.{Talk, hears_on, is_open, is_open_link, is_acting, is_closing, acts, end_of, end_of_link}
 use Rattle.amqp_session.specs.Changes.{fail, lose, misplaced}
 use Rattle.amqp_session.specs.Violations.{stray_channel_frame, stray_connection_method, unawaited}
 use Rattle.amqp_session.specs.ConnectionMethods.{connection_rule}
 use Rattle.amqp_session.specs.Channels.{channel_at}
-use Rattle.amqp_session.specs.ChannelMethods.{heard_on, unawaited_channel_method, channel_opened, channel_closed, channel_rule, channel_method_by, channel_method, raw_by, raw_frame}
-use Rattle.amqp_session.specs.Frames.{is_unbuilt, is_of_a_channel, method_rule, frame_rule, on_frame}
+use Rattle.amqp_session.specs.ChannelMethods.{heard_on, unawaited_channel_method, channel_opened, channel_closed, channel_flowed, channel_rule, channel_method_by, channel_method, raw_by, raw_frame}
+use Rattle.amqp_session.specs.Frames.{is_unbuilt, is_of_a_channel, method_rule, frame_rule, closed_rule, on_frame}
 use Rattle.amqp_session.specs.Causes.{IsFrameError, IsJudgedError, IsMisplaced, IsUnawaited, IsOfChannel, IsUndue, IsUnheard, IsKept, is_awaited, is_due, is_judged}
 use Rattle.amqp_session.proofs.Cases.{if-true, if-false}
 use Rattle.amqp_session.proofs.Truths.{and-left}
@@ -38,6 +38,8 @@ misplaced-ends e t going = ap end_of (if-false (is_closing t.state) t (lose e t)
 undue-ends : (s : ConnectionState) (p : Phase) (m : AnyMethod) (t : Talk) → is_closing s ≡ false → is_due m s p ≡ false
     → end_of (connection_rule s p m t) ≡ Some (Err (InvalidConnectionState s))
 undue-ends s p (Close code text class method) t going undue = cc
+undue-ends s p (Blocked reason) t going undue = cc
+undue-ends s p Unblocked t going undue = cc
 undue-ends Closing p m t going undue = cc
 undue-ends Connecting AwaitStart (Start a b c d e) t going undue = cc
 undue-ends Connecting AwaitTune (Tune a b c) t going undue = cc
@@ -66,11 +68,19 @@ closed-ends : (n : ℕ) (c : Channel) (a : Option (Option ℕ)) (t : Talk) → i
 closed-ends n c None t free kept = unawaited-ends n c.state ChannelCloseOk t kept
 closed-ends n c (Some promise) t free kept = cc
 
+flowed-ends : (n : ℕ) (c : Channel) (active : Bool) (a : Option (Option ℕ)) (t : Talk) → is_some a ≡ false → c.state ≢ channel.Closing
+    → end_of (channel_flowed n c active a t) ≡ Some (Err (unawaited (ChannelFlowOk active) n))
+flowed-ends n c active None t free kept = unawaited-ends n c.state (ChannelFlowOk active) t kept
+flowed-ends n c active (Some promise) t free kept = cc
+
 channel-ends : (s : ConnectionState) (n : ℕ) (c : Channel) (m : AnyMethod) (t : Talk) → is_closing s ≡ false → is_awaited m n t ≡ false → c.state ≢ channel.Closing
     → end_of (channel_rule s n c m t) ≡ Some (Err (unawaited m n))
 channel-ends Closing n c m t going free kept = cc
 channel-ends _ n c ChannelOpenOk t going free kept = opened-ends n c (awaited_promise n ChannelOpened t.outbox) t free kept
 channel-ends _ n c ChannelCloseOk t going free kept = closed-ends n c (awaited_promise n ChannelClosed t.outbox) t free kept
+channel-ends _ n c (ChannelClose code text class method) t going free kept = cc
+channel-ends _ n c (ChannelFlow active) t going free kept = cc
+channel-ends _ n c (ChannelFlowOk active) t going free kept = flowed-ends n c active (awaited_promise n FlowDone t.outbox) t free kept
 channel-ends _ n c m t going free kept = unawaited-ends n c.state m t kept
 
 -- the rule of a method that is built
@@ -192,4 +202,4 @@ frame-errors k f place t on = (there, back)
         elim ((ends-frame f place t).by k h) [ inl before ↦ cc | inr cause ↦ cause ]
 
     back : IsFrameError k f place t → end_of (on_frame f place t) ≡ Some (Err k)
-    back h = ap end_of (if-true (acts t) (frame_rule f place t) t on) ∙ rule-brings k f place t h
+    back h = ap end_of (if-true (acts t) (frame_rule f place t) (if hears_on t then closed_rule f t else t) on) ∙ rule-brings k f place t h

@@ -6,14 +6,16 @@ use Rattle.amqp_frame.specs.declared.frame.Frame.{Frame}
 use Rattle.amqp_frame.specs.declared.frame.Frame.TheVariants.{ProtocolHeader, Method, Raw, Heartbeat}
 use Rattle.amqp_frame.specs.declared.frame.RawKind.{RawKind}
 use Rattle.amqp_frame.specs.declared.method.Method.{Method as AnyMethod}
-use Rattle.amqp_frame.specs.declared.method.Method.TheVariants.{Start, Tune, OpenOk, Close, CloseOk, ChannelOpenOk, ChannelCloseOk}
+use Rattle.amqp_frame.specs.declared.method.Method.TheVariants.{Start, Tune, OpenOk, Close, CloseOk, Blocked, Unblocked, ChannelOpenOk, ChannelClose, ChannelCloseOk, ChannelFlow, ChannelFlowOk}
 use Rattle.amqp_frame.specs.RawMethods.{OtherMethod}
-use Rattle.amqp_outbox.specs.declared.reply.Reply.TheVariants.{ChannelOpened, ChannelClosed, ConnectionClosed}
+use Rattle.amqp_outbox.specs.declared.reply.Reply.TheVariants.{ChannelOpened, ChannelClosed, FlowDone, ConnectionClosed}
 use Rattle.amqp_outbox.specs.Queued.{awaited_promise, answered}
 use Rattle.amqp_session.specs.declared.channels.Channel.{Channel}
+use Rattle.amqp_session.specs.declared.channels.Debt.{Debt}
+use Rattle.amqp_session.specs.declared.channels.Debt.TheVariants as debt
 use Rattle.amqp_session.specs.declared.committed.Mark.{Mark}
 use Rattle.amqp_session.specs.declared.committed.Then.{Then}
-use Rattle.amqp_session.specs.declared.committed.Then.TheVariants.{Nothing, Answer, Finish}
+use Rattle.amqp_session.specs.declared.committed.Then.TheVariants.{Nothing, Answer, Pays, Finish}
 use Rattle.amqp_session.specs.declared.state.ConnectionState.{ConnectionState}
 use Rattle.amqp_session.specs.declared.state.ConnectionState.TheVariants.{Connecting, Connected, Closing}
 use Rattle.amqp_session.specs.declared.state.ChannelState.{ChannelState}
@@ -26,22 +28,22 @@ use Rattle.amqp_session.specs.declared.server_close.ServerClose.{ServerClose}
 use Rattle.amqp_session.specs.declared.server_close.ServerClose.TheVariants.{WithoutError, WithError}
 use Rattle.amqp_session.specs.declared.misread.Misread.{Misread}
 use Rattle.amqp_session.specs.declared.command.Cmd.{Cmd}
-use Rattle.amqp_session.specs.declared.command.Cmd.TheVariants.{OpenChannel, CloseChannel, CloseConnection, Send, Publish}
+use Rattle.amqp_session.specs.declared.command.Cmd.TheVariants.{OpenChannel, CloseChannel, CloseConnection, Send, Publish, Flow, DropChannel, DropConnection}
 use Rattle.amqp_session.specs.declared.command.Answer.{Answer as AnyAnswer}
 use Rattle.amqp_session.specs.declared.command.Answer.TheVariants.{Done}
 use Rattle.amqp_session.specs.declared.error.ErrorKind.{ErrorKind}
 use Rattle.amqp_session.specs.declared.error.ErrorKind.TheVariants.{NoMemory, IOError}
-use Rattle.amqp_session.specs.Talk.{Talk, has_ended, is_open, is_closing, acts, end_of_link}
+use Rattle.amqp_session.specs.Talk.{Talk, has_ended, hears_on, is_open, is_closing, acts, end_of_link}
 use Rattle.amqp_session.specs.Changes.{Promises, present_at, refuse, give_to, fail, lose, misplaced, close, finish, finish_by, starve}
 use Rattle.amqp_session.specs.Links.{dropped, lost, misread}
-use Rattle.amqp_session.specs.Violations.{misread_error}
+use Rattle.amqp_session.specs.Violations.{channel_closed_with, misread_error}
 use Rattle.amqp_session.specs.ConnectionMethods.{connection_rule, connection_closed}
 use Rattle.amqp_session.specs.Channels.{channel_at}
-use Rattle.amqp_session.specs.ChannelMethods.{heard_on, unawaited_channel_method, channel_opened, channel_closed, channel_rule, channel_method_by, channel_method, hand_out, confirmed, is_select_ok, pass_through, raw_by}
-use Rattle.amqp_session.specs.Frames.{is_unbuilt, is_of_a_channel, method_rule, frame_rule, on_frame}
+use Rattle.amqp_session.specs.ChannelMethods.{heard_on, unawaited_channel_method, channel_opened, channel_closed, channel_flowed, channel_close_by, awaits_close_ok, remove_unless_owed, on_channel_flow, channel_rule, channel_method_by, channel_method, hand_out, confirmed, is_select_ok, pass_through, raw_by}
+use Rattle.amqp_session.specs.Frames.{is_unbuilt, is_of_a_channel, method_rule, frame_rule, closed_rule, on_frame}
 use Rattle.amqp_session.specs.Publishing.{method_frame, publish_frames}
-use Rattle.amqp_session.specs.Commands.{open_drawn, close_target, too_long, unless_too_long, queue_send, send_target, body_limit, queue_publish, publish_target, command, command_rule}
-use Rattle.amqp_session.specs.Writing.{left_in, follow, sent, sent_among, taken}
+use Rattle.amqp_session.specs.Commands.{open_drawn, close_target, drop_target, flow_target, too_long, unless_too_long, queue_send, send_target, body_limit, queue_publish, publish_target, command, command_rule}
+use Rattle.amqp_session.specs.Writing.{left_in, paid_by, pay, follow, sent, sent_among, taken}
 use Rattle.amqp_session.proofs.Cases.{if_case, if-true, if-false, and-true, and-false}
 
 -- ---- the present
@@ -114,6 +116,8 @@ keeps-connection-closed (Some promise) t =
 
 keeps-connection : (s : ConnectionState) (p : Phase) (m : AnyMethod) (t : Talk) → Keeps t (connection_rule s p m t)
 keeps-connection s p (Close code text class method) t = record { committed = refl; capacity = refl; link = inl refl }
+keeps-connection s p (Blocked reason) t = record { committed = refl; capacity = refl; link = inl refl }
+keeps-connection s p Unblocked t = record { committed = refl; capacity = refl; link = inl refl }
 keeps-connection Closing p CloseOk t = keeps-connection-closed (awaited_promise 0 ConnectionClosed t.outbox) t
 keeps-connection Closing p m t = keeps-none t
 keeps-connection Connecting AwaitStart (Start a b c d e) t = record { committed = refl; capacity = refl; link = inl refl }
@@ -132,14 +136,34 @@ keeps-opened : (n : ℕ) (c : Channel) (o : Option (Option ℕ)) (t : Talk) → 
 keeps-opened n c None t = keeps-unawaited n c.state ChannelOpenOk t
 keeps-opened n c (Some promise) t = keeps-give_to promise _ t _ (record { committed = refl; capacity = refl; link = inl refl })
 
+keeps-owed : (d : Debt) (n : ℕ) (t u : Talk) → Keeps t u → Keeps t (remove_unless_owed d n u)
+keeps-owed debt.Owed n t u k = k
+keeps-owed _ n t u k = record { committed = k.committed; capacity = k.capacity; link = k.link }
+
 keeps-closed : (n : ℕ) (c : Channel) (o : Option (Option ℕ)) (t : Talk) → Keeps t (channel_closed n c o t)
 keeps-closed n c None t = keeps-unawaited n c.state ChannelCloseOk t
-keeps-closed n c (Some promise) t = keeps-give_to promise _ t _ (record { committed = refl; capacity = refl; link = inl refl })
+keeps-closed n c (Some promise) t = keeps-owed c.debt n t _ (record { committed = refl; capacity = refl; link = inl refl })
+
+keeps-flow : (s : ChannelState) (n : ℕ) (c : Channel) (active : Bool) (t : Talk) → Keeps t (on_channel_flow s n c active t)
+keeps-flow channel.Closing n c active t = keeps-none t
+keeps-flow _ n c active t = record { committed = refl; capacity = refl; link = inl refl }
+
+keeps-flowed : (n : ℕ) (c : Channel) (active : Bool) (o : Option (Option ℕ)) (t : Talk) → Keeps t (channel_flowed n c active o t)
+keeps-flowed n c active None t = keeps-unawaited n c.state (ChannelFlowOk active) t
+keeps-flowed n c active (Some promise) t = keeps-give_to promise _ t _ (record { committed = refl; capacity = refl; link = inl refl })
+
+keeps-server-close : (d : Debt) (awaits : Bool) (n : ℕ) (e : ErrorKind) (c : Channel) (t : Talk) → Keeps t (channel_close_by d awaits n e c t)
+keeps-server-close debt.Nothing false n e c t = record { committed = refl; capacity = refl; link = inl refl }
+keeps-server-close debt.Nothing true n e c t = record { committed = refl; capacity = refl; link = inl refl }
+keeps-server-close _ awaits n e c t = keeps-none t
 
 keeps-channel : (s : ConnectionState) (n : ℕ) (c : Channel) (m : AnyMethod) (t : Talk) → Keeps t (channel_rule s n c m t)
 keeps-channel Closing n c m t = keeps-none t
 keeps-channel _ n c ChannelOpenOk t = keeps-opened n c (awaited_promise n ChannelOpened t.outbox) t
 keeps-channel _ n c ChannelCloseOk t = keeps-closed n c (awaited_promise n ChannelClosed t.outbox) t
+keeps-channel _ n c (ChannelClose code text class method) t = keeps-server-close c.debt (awaits_close_ok n t) n (channel_closed_with code text) c t
+keeps-channel _ n c (ChannelFlow active) t = keeps-flow c.state n c active t
+keeps-channel _ n c (ChannelFlowOk active) t = keeps-flowed n c active (awaited_promise n FlowDone t.outbox) t
 keeps-channel _ n c m t = keeps-unawaited n c.state m t
 
 keeps-channel-by : (o : Option Channel) (n : ℕ) (m : AnyMethod) (t : Talk) → Keeps t (channel_method_by o n m t)
@@ -171,8 +195,16 @@ keeps-rule (Method n m) place t = if_case (Keeps t) (is_unbuilt m) (fail _ t) (m
 keeps-rule (Raw zero kind bytes) place t = keeps-misplaced _ t
 keeps-rule (Raw (suc n) kind bytes) place t = keeps-raw (heard_on t.state (channel_at (suc n) t)) (suc n) kind bytes t
 
+keeps-closed-rule : (f : Frame) (t : Talk) → Keeps t (closed_rule f t)
+keeps-closed-rule (Method zero (Blocked reason)) t = record { committed = refl; capacity = refl; link = inl refl }
+keeps-closed-rule (Method zero Unblocked) t = record { committed = refl; capacity = refl; link = inl refl }
+keeps-closed-rule f t = keeps-none t
+
 pub keeps-frame : (f : Frame) (place : ℕ) (t : Talk) → Keeps t (on_frame f place t)
-keeps-frame f place t = if_case (Keeps t) (acts t) (frame_rule f place t) t (keeps-rule f place t) (keeps-none t)
+keeps-frame f place t =
+    if_case (Keeps t) (acts t) (frame_rule f place t) (if hears_on t then closed_rule f t else t)
+    (keeps-rule f place t)
+    (if_case (Keeps t) (hears_on t) (closed_rule f t) t (keeps-closed-rule f t) (keeps-none t))
 
 -- a frame that is read commits nothing
 pub frame-committed : (f : Frame) (place at : ℕ) (t : Talk) → (on_frame f place (present_at at t)).committed ≡ t.committed
@@ -209,6 +241,14 @@ stays-close : (r : Result Channel ErrorKind) (n code : ℕ) (text : List ℕ) (t
 stays-close (Err e) n code text t = stays-refuse e t
 stays-close (Ok c) n code text t = record { link = refl; committed = refl; configuration = refl; capacity = refl; input = refl; server_close = refl }
 
+stays-flow : (r : Result Channel ErrorKind) (n : ℕ) (active : Bool) (t : Talk) → Stays t (flow_target r n active t)
+stays-flow (Err e) n active t = stays-refuse e t
+stays-flow (Ok c) n active t = record { link = refl; committed = refl; configuration = refl; capacity = refl; input = refl; server_close = refl }
+
+stays-drop : (r : Result Channel ErrorKind) (n : ℕ) (t : Talk) → Stays t (drop_target r n t)
+stays-drop (Err e) n t = record { link = refl; committed = refl; configuration = refl; capacity = refl; input = refl; server_close = refl }
+stays-drop (Ok c) n t = record { link = refl; committed = refl; configuration = refl; capacity = refl; input = refl; server_close = refl }
+
 stays-unless : (o : Option Frame) (rule : Talk → Talk) (t : Talk) → Stays t (rule t) → Stays t (unless_too_long o rule t)
 stays-unless None rule t s = s
 stays-unless (Some frame) rule t s = stays-refuse _ t
@@ -234,6 +274,11 @@ stays-rule Connected (CloseChannel r code text) t = stays-close _ r.id code text
 stays-rule Connected (CloseConnection code text) t = record { link = refl; committed = refl; configuration = refl; capacity = refl; input = refl; server_close = refl }
 stays-rule Connected (Send r method) t = stays-send _ r.id method t
 stays-rule Connected (Publish r method properties body) t = stays-publish _ r.id method properties body t
+stays-rule Connected (Flow r active) t = stays-flow _ r.id active t
+stays-rule Connected (DropChannel r) t = stays-drop _ r.id t
+stays-rule Connected DropConnection t = record { link = refl; committed = refl; configuration = refl; capacity = refl; input = refl; server_close = refl }
+stays-rule _ (DropChannel r) t = record { link = refl; committed = refl; configuration = refl; capacity = refl; input = refl; server_close = refl }
+stays-rule _ DropConnection t = record { link = refl; committed = refl; configuration = refl; capacity = refl; input = refl; server_close = refl }
 stays-rule _ c t = stays-refuse _ t
 
 pub stays-command : (c : Cmd) (t : Talk) → Stays t (command c t)
@@ -299,14 +344,26 @@ abbrev pub left_after : List Mark → ℕ → List Mark
 left_after [] n = []
 left_after (m ∷ ms) n = if nat_le m.left n then left_after ms (n - m.left) else record m { left = m.left - n } ∷ ms
 
+-- what does not look at the channels is the same once a close-ok of one was sent
+pub pay-keeps : {A : Type 0} (f : Talk → A) → ((t : Talk) (cs : List (ℕ × Channel)) → f (record t { channels = cs }) ≡ f t)
+    → (o : Option Channel) (n : ℕ) (t : Talk) → f (pay o n t) ≡ f t
+pay-keeps f h None n t = refl
+pay-keeps f h (Some c) n t = by (awaits_close_ok n t)
+  where
+    by : (b : Bool) → f (paid_by b n c t) ≡ f t
+    by true = h t _
+    by false = h t _
+
 pub follow-keeps : {A : Type 0} (f : Talk → A) → OverlooksEnds f → (th : Then) (t : Talk) → f (follow th t) ≡ f t
 follow-keeps f h Nothing t = refl
 follow-keeps f h (Answer n) t = h t t.state t.link t.channels _
+follow-keeps f h (Pays n) t = pay-keeps f (λ u cs. h u u.state u.link cs u.promises) (channel_at n t) n t
 follow-keeps f h Finish t = finish-keeps f h t.server_close t
 
 pub follow-link : (th : Then) (t : Talk) → LinkKept t (follow th t)
 follow-link Nothing t = inl refl
 follow-link (Answer n) t = inl refl
+follow-link (Pays n) t = inl (pay-keeps (λ (x : Talk). x.link) (λ u cs. refl) (channel_at n t) n t)
 follow-link Finish t = inr (finish-ends t.server_close t)
 
 sent_among-keeps : {A : Type 0} (f : Talk → A) → Overlooks f → (ms : List Mark) (n : ℕ) (t : Talk) → f (sent_among ms n t) ≡ f t

@@ -41,7 +41,7 @@ there-either true x y o h = refl
 there-either false x y o h = h
 
 there-later : {X : Type 0} (b : Bool) (x : X) (o o' : Option X) → (IsSome o → IsSome o') → IsSome (cond b (Some x) o) → IsSome (cond b (Some x) o')
-there-later true x o o' f h = h
+there-later true x o o' f h = refl
 there-later false x o o' f h = f h
 
 pub still-there : {X : Type 0} (m n : ℕ) (v : X) (es : List (ℕ × X)) → IsSome (at n es) → IsSome (at n (set_value (is_at (nat_cmp m)) es v))

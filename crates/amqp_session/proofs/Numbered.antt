@@ -1,10 +1,17 @@
 -- Maps from numbers: what they have at one, once another was put or taken away.
-use Rattle.std.proofs.Common.{◌≡◌, ◌≢◌, ◌<◌, ◌∙◌, ap, sym, refl, subst, ℕ, true, false, cond, List, [], ◌∷◌, Some}
+use Rattle.std.proofs.Common.{◌≡◌, ◌≢◌, ◌<◌, ◌∙◌, ap, sym, refl, subst, ℕ, true, false, cond, List, [], ◌∷◌, Some, None}
 use Rattle.std.specs.declared.cmp.Ordering.{Ordering}
 use Rattle.std.specs.declared.cmp.Ordering.TheVariants.{Less, Equal, Greater}
 use Rattle.std.specs.Ordering.{nat_cmp, is_eq, match_ordering, MatchOrdering}
-use Rattle.std.specs.Cmp.{ranks, nat_cmp_is}
+use Rattle.std.specs.Cmp.{ranks, nat_cmp_is, nat_cmp_total}
 use Rattle.std.specs.BTreeMap.{is_at}
+use Rattle.std.specs.List.{AllByRecursion}
+use Rattle.std.specs.Map.{keys_of}
+use Rattle.std.proofs.lemmas.Map.{lookup-none}
+use Rattle.std.proofs.lemmas.Map.Entries.{none_below_head}
+use Rattle.std.proofs.lemmas.Map.Keys.{sorted_head, sorted_tail}
+use Rattle.amqp_outbox.specs.Listed.{Ascends}
+use Rattle.amqp_outbox.proofs.Maps.{without-absent}
 use Rattle.amqp_session.specs.Listed.{at, put, without}
 
 means : (x y : ℕ) (o : Ordering) → nat_cmp x y ≡ o → MatchOrdering o (x < y) (x ≡ y) (y < x)
@@ -62,3 +69,34 @@ module _ {X : Type 0} where
   pub without-other : (m n : ℕ) (es : List (ℕ × X)) → m ≢ n → at m (without n es) ≡ at m es
   without-other m n [] ne = refl
   without-other m n (e ∷ es) ne = without-other-by (nat_cmp n e.0) m n e es ne refl (without-other m n es ne)
+
+-- ---- a number that goes, where the numbers ascend
+
+module _ {X : Type 0} (n : ℕ) where
+  below-all : (es : List (ℕ × X)) → AllByRecursion (λ k. nat_cmp n k ≡ Less) (keys_of es) → at n es ≡ None
+  below-all [] above = refl
+  below-all (e ∷ es) above = ap (λ o. cond (is_eq o) (Some e.1) (at n es)) above.0 ∙ below-all es above.1
+
+  -- it is gone
+  pub without-gone : (es : List (ℕ × X)) → Ascends es → at n (without n es) ≡ None
+  without-gone [] sorted = refl
+  without-gone (e ∷ es) sorted = by (nat_cmp n e.0) refl (without-gone es (sorted_tail nat_cmp e.0 (keys_of es) sorted)) where
+    by : (o : Ordering) → nat_cmp n e.0 ≡ o → at n (without n es) ≡ None → at n (cond (is_eq o) es (e ∷ without n es)) ≡ None
+    by Less is rest = ap (λ o. cond (is_eq o) (Some e.1) (at n (without n es))) is ∙ rest
+    by Greater is rest = ap (λ o. cond (is_eq o) (Some e.1) (at n (without n es))) is ∙ rest
+    by Equal is rest =
+        let Q : ℕ → Type 0 = λ m. AllByRecursion (λ k. nat_cmp m k ≡ Less) (keys_of es) in
+        below-all es (subst Q (sym (means n e.0 Equal is)) (sorted_head nat_cmp e.0 (keys_of es) sorted))
+
+  -- what was put there before is gone with it
+  pub without-put : (x : X) (es : List (ℕ × X)) → Ascends es → without n (put n x es) ≡ without n es
+  without-put x [] sorted = ap (λ o. cond (is_eq o) [] ((n, x) ∷ [])) (itself n)
+  without-put x (e ∷ es) sorted = by (nat_cmp n e.0) refl (without-put x es (sorted_tail nat_cmp e.0 (keys_of es) sorted)) where
+    by : (o : Ordering) → nat_cmp n e.0 ≡ o → without n (put n x es) ≡ without n es
+        → without n (match_ordering o ((n, x) ∷ e ∷ es) ((e.0, x) ∷ es) (e ∷ put n x es)) ≡ cond (is_eq o) es (e ∷ without n es)
+    by Less is rest =
+        let none : at n (e ∷ es) ≡ None = lookup-none (is_at (nat_cmp n)) (e ∷ es) (none_below_head nat_cmp_total n e es sorted is) in
+        ap (λ o. cond (is_eq o) (e ∷ es) ((n, x) ∷ without n (e ∷ es))) (itself n)
+        ∙ sym (without-absent n (e ∷ es) none) ∙ ap (λ o. cond (is_eq o) es (e ∷ without n es)) is
+    by Equal is rest = ap (λ o. cond (is_eq o) es ((e.0, x) ∷ without n es)) is
+    by Greater is rest = ap (λ o. cond (is_eq o) (put n x es) (e ∷ without n (put n x es))) is ∙ ap (λ ys. e ∷ ys) rest

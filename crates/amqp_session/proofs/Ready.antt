@@ -17,8 +17,9 @@ use Rattle.amqp_session.specs.Negotiation.{frame_min_size, wish_or}
 use Rattle.amqp_session.specs.Publishing.{method_frame, content_header, cut, body_pieces, publish_frames}
 use Rattle.amqp_session.specs.Commands.{too_long, body_limit}
 use Rattle.amqp_session.specs.Legal.{IsPassedThrough, IsContent}
-use Rattle.amqp_session.specs.Decider.{Speech, InUse, Left, OpenSaid, now_on}
+use Rattle.amqp_session.specs.Decider.{Speech, Usage, InUse, OpenSaid, now_on}
 use Rattle.amqp_session.proofs.Cases.{if_case}
+use Rattle.amqp_session.proofs.Truths.{the-number}
 use Rattle.amqp_session.proofs.Sayable.{IsComplete}
 use Rattle.amqp_session.proofs.Ties.{frames_in, IsReady}
 
@@ -58,20 +59,28 @@ open-ready n v groups speaking h =
 abbrev pub other_groups : ℕ → List (List Item) → List (List Item)
 other_groups n groups = filter (λ group. not (is_on n group)) groups
 
-other-ready : (b : Bool) (n : ℕ) (v : Speech) (group : List Item) (groups : List (List Item)) → is_on n group ≡ b → v.stage ≡ OpenSaid → IsReady v group
-    → AllByRecursion (IsReady (now_on n Left v)) (other_groups n groups)
-    → AllByRecursion (IsReady (now_on n Left v)) (if not b then group ∷ other_groups n groups else other_groups n groups)
-other-ready true n v group groups is speaking h rest = rest
-other-ready false n v group groups is speaking h rest =
+other-ready : (b : Bool) (n : ℕ) (u : Usage) (v : Speech) (group : List Item) (groups : List (List Item)) → is_on n group ≡ b → v.stage ≡ OpenSaid → IsReady v group
+    → AllByRecursion (IsReady (now_on n u v)) (other_groups n groups)
+    → AllByRecursion (IsReady (now_on n u v)) (if not b then group ∷ other_groups n groups else other_groups n groups)
+other-ready true n u v group groups is speaking h rest = rest
+other-ready false n u v group groups is speaking h rest =
     let other : (h.channel == n) ≡ false = sym (ap (is_number n) h.on_channel) ∙ is in
-    (ready-as v (now_on n Left v) group h speaking tt (ap (λ b. if b then Left else v.usage h.channel) other ∙ h.used), rest)
+    (ready-as v (now_on n u v) group h speaking tt (ap (λ b. if b then u else v.usage h.channel) other ∙ h.used), rest)
 
--- the groups of other channels stay ready once a channel is left
-pub others-ready : (n : ℕ) (v : Speech) (groups : List (List Item)) → v.stage ≡ OpenSaid → AllByRecursion (IsReady v) groups
-    → AllByRecursion (IsReady (now_on n Left v)) (other_groups n groups)
-others-ready n v [] speaking h = tt
-others-ready n v (group ∷ groups) speaking h =
-    other-ready (is_on n group) n v group groups refl speaking h.0 (others-ready n v groups speaking h.1)
+-- the groups of other channels stay ready once a channel is used otherwise
+pub others-ready : (n : ℕ) (u : Usage) (v : Speech) (groups : List (List Item)) → v.stage ≡ OpenSaid → AllByRecursion (IsReady v) groups
+    → AllByRecursion (IsReady (now_on n u v)) (other_groups n groups)
+others-ready n u v [] speaking h = tt
+others-ready n u v (group ∷ groups) speaking h =
+    other-ready (is_on n group) n u v group groups refl speaking h.0 (others-ready n u v groups speaking h.1)
+
+-- and all stay ready where it was not in use
+pub unused-ready : (n : ℕ) (u w : Usage) (v : Speech) (groups : List (List Item)) → v.stage ≡ OpenSaid → v.usage n ≡ w → w ≢ InUse
+    → AllByRecursion (IsReady v) groups → AllByRecursion (IsReady (now_on n u v)) groups
+unused-ready n u w v groups speaking is unused h = stay-ready v (now_on n u v) groups speaking tt (λ m used. as_before m used (m == n) refl) h where
+  as_before : (m : ℕ) → v.usage m ≡ InUse → (b : Bool) → (m == n) ≡ b → (if b then u else v.usage m) ≡ InUse
+  as_before m used false here = used
+  as_before m used true here = absurd (unused (sym is ∙ ap (λ k. v.usage k) (sym (the-number m n here)) ∙ used))
 
 -- where the connection is not open, no group is ready
 pub never-ready : (v w : Speech) (groups : List (List Item)) → v.stage ≢ OpenSaid → AllByRecursion (IsReady v) groups → AllByRecursion (IsReady w) groups

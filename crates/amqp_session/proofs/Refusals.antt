@@ -1,5 +1,5 @@
 -- What a refused command leaves as it was.
-use Rattle.std.proofs.Common.{◌≡◌, ◌∙◌, ap, refl, subst, ℕ, List, [], ◌∷◌, Option, Some, None, Result, Ok, Err}
+use Rattle.std.proofs.Common.{◌≡◌, ◌≢◌, ◌∙◌, ap, refl, subst, ℕ, Bool, true, false, List, [], ◌∷◌, Option, Some, None, Result, Ok, Err}
 use Rattle.amqp_frame.specs.RawMethods.{OtherMethod}
 use Rattle.std.specs.Prelude.{filter}
 use Rattle.amqp_types.specs.declared.word.Word.TheVariants as word
@@ -7,7 +7,7 @@ use Rattle.amqp_frame.specs.declared.frame.Frame.{Frame}
 use Rattle.amqp_outbox.specs.Queued.{is_on}
 use Rattle.amqp_session.specs.declared.channels.Channel.{Channel}
 use Rattle.amqp_session.specs.declared.command.Cmd.{Cmd}
-use Rattle.amqp_session.specs.declared.command.Cmd.TheVariants.{OpenChannel, CloseChannel, CloseConnection, Send, Publish}
+use Rattle.amqp_session.specs.declared.command.Cmd.TheVariants.{OpenChannel, CloseChannel, CloseConnection, Send, Publish, Flow, DropChannel, DropConnection}
 use Rattle.amqp_session.specs.declared.state.ConnectionState.{ConnectionState}
 use Rattle.amqp_session.specs.declared.state.ConnectionState.TheVariants.{Connected, Closing}
 use Rattle.amqp_session.specs.declared.state.ChannelState.TheVariants as channel
@@ -17,7 +17,7 @@ use Rattle.amqp_session.specs.Listed.{at, put}
 use Rattle.amqp_session.specs.Talk.{Talk}
 use Rattle.amqp_session.specs.Changes.{Promises, rejected, refuse}
 use Rattle.amqp_session.specs.Publishing.{method_frame, publish_frames}
-use Rattle.amqp_session.specs.Commands.{open_drawn, open_none, close_target, too_long, unless_too_long, queue_send, send_target, body_limit, queue_publish, publish_target, command, command_rule}
+use Rattle.amqp_session.specs.Commands.{takes_promise, open_drawn, open_none, close_target, flow_target, too_long, unless_too_long, queue_send, send_target, body_limit, queue_publish, publish_target, command, command_rule}
 use Rattle.amqp_session.specs.Laws.{IsRefusal, IsAnsweredAtOnce}
 use Rattle.amqp_session.proofs.Numbered.{put-same}
 
@@ -73,15 +73,42 @@ told-publish (Ok c) n m properties body e t =
     let frames = publish_frames n m properties body (body_limit t) in
     told-unless (too_long frames t) (queue_publish n frames) e t (told-waits t e _ t.promises refl)
 
-told-rule : (s : ConnectionState) (c : Cmd) (e : ErrorKind) (t : Talk) → Told t e (command_rule s c t)
-told-rule Connected OpenChannel e t = told-drawn _ _ e t
-told-rule Connected (CloseChannel r code text) e t = told-close _ r.id code text e t
-told-rule Connected (CloseConnection code text) e t =
+told-flow : (r : Result Channel ErrorKind) (n : ℕ) (active : Bool) (e : ErrorKind) (t : Talk) → Told t e (flow_target r n active t)
+told-flow (Err e') n active e t = told-refuse e' e t
+told-flow (Ok c) n active e t = told-waits t e _ t.promises refl
+
+told-rule : (s : ConnectionState) (c : Cmd) (e : ErrorKind) (t : Talk) → takes_promise c ≡ true → Told t e (command_rule s c t)
+told-rule Connected OpenChannel e t takes = told-drawn _ _ e t
+told-rule Connected (CloseChannel r code text) e t takes = told-close _ r.id code text e t
+told-rule Connected (CloseConnection code text) e t takes =
     told-waits t e _ (rejected (InvalidConnectionState Closing) t.outbox.publish t.promises) refl
-told-rule Connected (Send r method) e t = told-send _ r.id method e t
-told-rule Connected (Publish r method properties body) e t = told-publish _ r.id method properties body e t
-told-rule _ c e t = told-refuse _ e t
+told-rule Connected (Send r method) e t takes = told-send _ r.id method e t
+told-rule Connected (Publish r method properties body) e t takes = told-publish _ r.id method properties body e t
+told-rule Connected (Flow r active) e t takes = told-flow _ r.id active e t
+told-rule _ (DropChannel r) e t takes = absurd cc
+told-rule _ DropConnection e t takes = absurd cc
+told-rule _ c e t takes = told-refuse _ e t
 
 -- a command that is refused changes nothing else
-pub refused-alone : (c : Cmd) (t : Talk) (e : ErrorKind) → IsAnsweredAtOnce e t (command c t) → IsRefusal e t (command c t)
-refused-alone c t e = told-rule t.state c e t
+pub refused-alone : (c : Cmd) (t : Talk) (e : ErrorKind) → takes_promise c ≡ true → IsAnsweredAtOnce e t (command c t) → IsRefusal e t (command c t)
+refused-alone c t e takes = told-rule t.state c e t takes
+
+refused-rule : (s : ConnectionState) (c : Cmd) (t : Talk) → s ≢ Connected → takes_promise c ≡ true → command_rule s c t ≡ refuse (InvalidConnectionState s) t
+refused-rule Connected c t other takes = absurd (other refl)
+refused-rule _ (DropChannel r) t other takes = absurd cc
+refused-rule _ DropConnection t other takes = absurd cc
+refused-rule _ c t other takes = refl
+
+-- out of the state Connected a command that takes a promise is refused
+pub refused-out : (c : Cmd) (t : Talk) → t.state ≢ Connected → takes_promise c ≡ true → command c t ≡ refuse (InvalidConnectionState t.state) t
+refused-out c t other takes = refused-rule t.state c t other takes
+
+idle-rule : (s : ConnectionState) (c : Cmd) (t : Talk) → s ≢ Connected → takes_promise c ≡ false → command_rule s c t ≡ t
+idle-rule Connected c t other takes = absurd (other refl)
+idle-rule _ (DropChannel r) t other takes = refl
+idle-rule _ DropConnection t other takes = refl
+idle-rule _ c t other takes = absurd cc
+
+-- one that takes none does nothing then
+pub idle-out : (c : Cmd) (t : Talk) → t.state ≢ Connected → takes_promise c ≡ false → command c t ≡ t
+idle-out c t other takes = idle-rule t.state c t other takes

@@ -13,11 +13,11 @@ use Rattle.amqp_session.specs.Changes.{Promises, settled_to, give_to, rejected, 
 -- ---- the first that passes a test
 
 module _ {X : Type 0} (test : X → Bool) where
-  abbrev fails : X → Bool
+  abbrev pub fails : X → Bool
   fails x = not (test x)
 
   -- the others are those that fail, and those that pass after it
-  same-fail : (xs : List X) → filter fails (without_first test xs) ≡ filter fails xs
+  pub same-fail : (xs : List X) → filter fails (without_first test xs) ≡ filter fails xs
   same-fail [] = refl
   same-fail (x ∷ xs) = by (test x) refl (same-fail xs) where
     by : (b : Bool) → test x ≡ b → filter fails (without_first test xs) ≡ filter fails xs
@@ -25,7 +25,7 @@ module _ {X : Type 0} (test : X → Bool) where
     by true is rest = refl
     by false is rest = ap (λ b. cond (not b) (x ∷ filter fails (without_first test xs)) (filter fails (without_first test xs))) is ∙ ap (λ ys. x ∷ ys) rest
 
-  first-pass : (xs : List X) (g : X) → find test xs ≡ Some g → filter test xs ≡ g ∷ filter test (without_first test xs)
+  pub first-pass : (xs : List X) (g : X) → find test xs ≡ Some g → filter test xs ≡ g ∷ filter test (without_first test xs)
   first-pass [] g h = absurd cc
   first-pass (x ∷ xs) g h = by (test x) refl h (first-pass xs g) where
     by : (b : Bool) → test x ≡ b → cond b (Some x) (find test xs) ≡ Some g → (find test xs ≡ Some g → filter test xs ≡ g ∷ filter test (without_first test xs))
@@ -43,14 +43,14 @@ module _ {X : Type 0} (test : X → Bool) where
     by false k rest = let less : length (without_first test xs) < length xs = rest k in omega (arith, less)
 
   -- where none passes, all fail
-  none-pass : (xs : List X) → find test xs ≡ None → filter test xs ≡ []
+  pub none-pass : (xs : List X) → find test xs ≡ None → filter test xs ≡ []
   none-pass [] h = refl
   none-pass (x ∷ xs) h = by (test x) h (none-pass xs) where
     by : (b : Bool) → cond b (Some x) (find test xs) ≡ None → (find test xs ≡ None → filter test xs ≡ []) → cond b (x ∷ filter test xs) (filter test xs) ≡ []
     by true k rest = absurd cc
     by false k rest = rest k
 
-  all-fail : (xs : List X) → find test xs ≡ None → filter fails xs ≡ xs
+  pub all-fail : (xs : List X) → find test xs ≡ None → filter fails xs ≡ xs
   all-fail [] h = refl
   all-fail (x ∷ xs) h = by (test x) h (all-fail xs) where
     by : (b : Bool) → cond b (Some x) (find test xs) ≡ None → (find test xs ≡ None → filter fails xs ≡ xs)

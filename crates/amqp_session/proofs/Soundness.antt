@@ -2,7 +2,7 @@
 use Rattle.std.proofs.Common.{◌≡◌, ◌∙◌, ap, sym, subst, refl, ℕ, zero, suc, ◌<◌, ◌≤◌, ◌+◌, ◌-◌, ◌==◌, ◌&&◌, not, nat_le, max, if◌then◌else◌, Bool, true, false, List, [], ◌∷◌, drop, Option, Some, None, Result, Ok, Err, cond, is_some, arith}
 use Rattle.std.proofs.lemmas.Bool.Decides.{nat_tests}
 use Rattle.std.proofs.lemmas.List.Folds.{find-append}
-use Rattle.std.specs.Prelude.{IsTrue, find, filter}
+use Rattle.std.specs.Prelude.{IsTrue, find, filter, codes}
 use Rattle.std.specs.Option.{option_or}
 use Rattle.std.specs.List.{range_with_len}
 use Rattle.amqp_types.specs.declared.word.Word.{Word}
@@ -12,16 +12,18 @@ use Rattle.amqp_frame.specs.declared.frame.Frame.{Frame}
 use Rattle.amqp_frame.specs.declared.frame.Frame.TheVariants.{ProtocolHeader, Method, Raw, Heartbeat}
 use Rattle.amqp_frame.specs.declared.frame.RawKind.{RawKind}
 use Rattle.amqp_frame.specs.declared.method.Method.{Method as AnyMethod}
-use Rattle.amqp_frame.specs.declared.method.Method.TheVariants.{Start, Tune, OpenOk, Close, CloseOk, ChannelOpenOk, ChannelCloseOk}
+use Rattle.amqp_frame.specs.declared.method.Method.TheVariants.{Start, Tune, OpenOk, Close, CloseOk, Blocked, Unblocked, ChannelOpenOk, ChannelClose, ChannelCloseOk, ChannelFlow, ChannelFlowOk}
 use Rattle.amqp_frame.specs.RawMethods.{OtherMethod}
 use Rattle.amqp_outbox.specs.declared.item.Item.{Item}
-use Rattle.amqp_outbox.specs.declared.reply.Reply.TheVariants.{ChannelOpened, ChannelClosed, ConnectionClosed}
+use Rattle.amqp_outbox.specs.declared.reply.Reply.TheVariants.{ChannelOpened, ChannelClosed, FlowDone, ConnectionClosed}
 use Rattle.amqp_outbox.specs.Items.{plain, promised, group_of, promise_of}
-use Rattle.amqp_outbox.specs.Queued.{Queued, waiting_items, pushed_control, pushed_group, awaited_promise, is_on}
+use Rattle.amqp_outbox.specs.Queued.{Queued, waiting_items, pushed_control, pushed_group, awaited_promise, answered, is_on}
 use Rattle.amqp_session.specs.declared.channels.Channel.{Channel}
+use Rattle.amqp_session.specs.declared.channels.Debt.{Debt}
+use Rattle.amqp_session.specs.declared.channels.Debt.TheVariants as debt
 use Rattle.amqp_session.specs.declared.committed.Mark.{Mark}
 use Rattle.amqp_session.specs.declared.committed.Then.{Then}
-use Rattle.amqp_session.specs.declared.committed.Then.TheVariants.{Nothing, Answer, Finish}
+use Rattle.amqp_session.specs.declared.committed.Then.TheVariants.{Nothing, Answer, Pays, Finish}
 use Rattle.amqp_session.specs.declared.state.ConnectionState.{ConnectionState}
 use Rattle.amqp_session.specs.declared.state.ConnectionState.TheVariants.{Initial, Connecting, Connected, Closing, Closed, Error}
 use Rattle.amqp_session.specs.declared.state.ChannelState.{ChannelState}
@@ -35,7 +37,7 @@ use Rattle.amqp_session.specs.declared.configuration.Configuration.{Configuratio
 use Rattle.amqp_session.specs.declared.server_close.ServerClose.{ServerClose}
 use Rattle.amqp_session.specs.declared.server_close.ServerClose.TheVariants.{WithoutError, WithError}
 use Rattle.amqp_session.specs.declared.command.Cmd.{Cmd}
-use Rattle.amqp_session.specs.declared.command.Cmd.TheVariants.{OpenChannel, CloseChannel, CloseConnection, Send, Publish}
+use Rattle.amqp_session.specs.declared.command.Cmd.TheVariants.{OpenChannel, CloseChannel, CloseConnection, Send, Publish, Flow, DropChannel, DropConnection}
 use Rattle.amqp_session.specs.declared.command.Answer.{Answer as AnyAnswer}
 use Rattle.amqp_session.specs.declared.command.Answer.TheVariants.{Connected as AnswerConnected, Done, Sent}
 use Rattle.amqp_session.specs.declared.command.ChanRef.{ChanRef}
@@ -44,26 +46,26 @@ use Rattle.amqp_session.specs.declared.misread.Misread.{Misread}
 use Rattle.amqp_session.specs.declared.error.ErrorKind.TheVariants.{NoMemory, IOError, ChannelsLimitReached, InvalidChannelState, InvalidConnectionState}
 use Rattle.amqp_session.specs.declared.error.ErrorKind.{ErrorKind}
 use Rattle.amqp_session.specs.Listed.{at, put, without, has}
-use Rattle.amqp_session.specs.Talk.{Talk, start, acts, has_ended, is_acting, is_asked, is_closing, is_open, is_open_link, end_of_link}
-use Rattle.amqp_session.specs.Changes.{Promises, present_at, starve, next_promise, refuse, give, give_to, rejected, fail, lose, misplaced, close, finish, finish_by, settled_by, settled_to, promise}
+use Rattle.amqp_session.specs.Talk.{Talk, start, acts, hears_on, has_ended, is_acting, is_asked, is_closing, is_open, is_open_link, end_of_link}
+use Rattle.amqp_session.specs.Changes.{Promises, present_at, starve, next_promise, refuse, give, give_to, rejected, rejected_each, promises_on, replies_on, without_all_on, drop_replies_of, fail, lose, misplaced, close, finish, finish_by, settled_by, settled_to, promise}
 use Rattle.amqp_session.specs.Links.{asked, asked_link, linked, link_failed, piece, dropped, misread, lost}
-use Rattle.amqp_session.specs.Handshake.{close_ok, start_ok, tune_ok, open_vhost, our_close, channel_open, our_channel_close}
+use Rattle.amqp_session.specs.Handshake.{close_ok, start_ok, tune_ok, open_vhost, our_close, channel_open, channel_flow, flow_ok, channel_close_ok, our_channel_close}
 use Rattle.amqp_session.specs.Negotiation.{lesser_wish, wish_or, tune}
 use Rattle.amqp_session.specs.Numbering.{first_number, drawn}
-use Rattle.amqp_session.specs.Violations.{misread_error}
+use Rattle.amqp_session.specs.Violations.{channel_closed_with, misread_error}
 use Rattle.amqp_session.specs.ConnectionMethods.{connection_rule, connection_closed}
 use Rattle.amqp_session.specs.Channels.{channel_at, set_channel, closing}
-use Rattle.amqp_session.specs.ChannelMethods.{heard_on, unawaited_channel_method, channel_opened, channel_closed, channel_rule, channel_method_by, channel_method, hand_out, confirmed, is_select_ok, pass_through, raw_by}
+use Rattle.amqp_session.specs.ChannelMethods.{heard_on, unawaited_channel_method, channel_opened, channel_closed, channel_flowed, channel_close_by, awaits_close_ok, remove_unless_owed, on_channel_flow, channel_rule, channel_method_by, channel_method, hand_out, confirmed, is_select_ok, pass_through, raw_by}
 use Rattle.amqp_session.specs.Publishing.{method_frame, publish_frames}
-use Rattle.amqp_session.specs.Frames.{is_unbuilt, is_of_a_channel, method_rule, frame_rule, on_frame}
-use Rattle.amqp_session.specs.Commands.{is_opening, named_in, named, target_in, target_by, target, open_drawn, close_target, too_long, unless_too_long, queue_send, send_target, body_limit, queue_publish, publish_target, command, command_rule}
-use Rattle.amqp_session.specs.Writing.{committed_as, next_within, commit, follow, sent, sent_among, taken}
+use Rattle.amqp_session.specs.Frames.{is_unbuilt, is_of_a_channel, method_rule, frame_rule, closed_rule, on_frame}
+use Rattle.amqp_session.specs.Commands.{is_opening, named_in, named, target_in, target_by, target, open_drawn, leave_channel, leave_connection, close_target, drop_target, flow_target, too_long, unless_too_long, queue_send, send_target, body_limit, queue_publish, publish_target, command, command_rule}
+use Rattle.amqp_session.specs.Writing.{committed_as, next_within, commit, paid_by, pay, follow, sent, sent_among, taken}
 use Rattle.amqp_session.specs.Answers.{answer_of, take_answer, take_frames}
 use Rattle.amqp_session.specs.Laws.{IsEnded, StaysSound, is_end}
 use Rattle.amqp_session.specs.Sound.{Ascend, AscendFrom, IsSound, fits_link, is_agreed, AllBelow, Finishes, following, goes_on}
 use Rattle.amqp_session.proofs.Cases.{if_case, if_by}
 use Rattle.amqp_session.proofs.Ascending.{none-below, put-ascends, put-from, put-below, without-ascends, without-from, without-below, at-below, below-greater, map_values-from}
-use Rattle.amqp_session.proofs.Finishing.{acting-finishes, acting-none, alone-last, close-goes_on, committed-follows, control-goes_on, dropped-acts, dropped-finishes, first-goes, group-goes_on, left-goes_on, open-goes_on, publish-goes_on, queue-finishes, sent-committed, ungrouped-goes_on}
+use Rattle.amqp_session.proofs.Finishing.{acting-finishes, acting-none, alone-last, channel-goes_on, close-goes_on, close_ok-goes_on, committed-follows, control-goes_on, flow-goes_on, flow_ok-goes_on, dropped-acts, dropped-finishes, first-goes, group-goes_on, left-goes_on, open-goes_on, publish-goes_on, queue-finishes, sent-committed, ungrouped-goes_on}
 
 -- ---- promises
 
@@ -91,6 +93,11 @@ rejected-kept : (e : ErrorKind) (groups : List (List Item)) (made : ℕ) (ps : P
 rejected-kept e [] made ps s = s
 rejected-kept e (group ∷ groups) made ps s =
     rejected-kept e groups made (settled_to (promise_of group) (Err e) ps) (to-kept (promise_of group) (Err e) made ps s)
+
+each-kept : (e : ErrorKind) (named : List (Option ℕ)) (made : ℕ) (ps : Promises) → Promised made ps → Promised made (rejected_each e named ps)
+each-kept e [] made ps s = s
+each-kept e (promise ∷ others) made ps s =
+    each-kept e others made (settled_to promise (Err e) ps) (to-kept promise (Err e) made ps s)
 
 pub sound-give : (n : ℕ) (answer : Result AnyAnswer ErrorKind) (t : Talk) → IsSound t → IsSound (give n answer t)
 sound-give n answer t s =
@@ -157,20 +164,89 @@ sound-opened n c None t some s = sound-unawaited n c.state ChannelOpenOk t s
 sound-opened n c (Some promise) t some s =
     sound-give_to promise _ _ (record { link = s.link; room = s.room; acting = s.acting; finish = s.finish; listed = put-from n _ 0 t.channels some s.listed; promises = s.promises })
 
+sound-owed : (d : Debt) (n : ℕ) (t : Talk) → IsSound t → IsSound (remove_unless_owed d n t)
+sound-owed debt.Owed n t s = s
+sound-owed _ n t s =
+    record { link = s.link; room = s.room; acting = s.acting; finish = s.finish; listed = without-from n 0 t.channels s.listed; promises = s.promises }
+
+sound-replies : (n : ℕ) (e : ErrorKind) (t : Talk) → IsSound t → IsSound (drop_replies_of n e t)
+sound-replies n e t s =
+    record {
+      link = s.link;
+      room = s.room;
+      acting = s.acting;
+      finish = s.finish;
+      listed = s.listed;
+      promises = each-kept e (replies_on n t.outbox) t.made t.promises s.promises;
+    }
+
 sound-closed : (n : ℕ) (c : Channel) (a : Option (Option ℕ)) (t : Talk) → IsSound t → IsSound (channel_closed n c a t)
 sound-closed n c None t s = sound-unawaited n c.state ChannelCloseOk t s
 sound-closed n c (Some promise) t s =
-    sound-give_to promise _ _ (record { link = s.link; room = s.room; acting = s.acting; finish = s.finish; listed = without-from n 0 t.channels s.listed; promises = s.promises })
+    let closed : IsSound (give_to promise (Ok Done) (record t { outbox = answered n ChannelClosed t.outbox })) =
+    sound-give_to promise (Ok Done) _ (record { link = s.link; room = s.room; acting = s.acting; finish = s.finish; listed = s.listed; promises = s.promises }) in
+    sound-owed c.debt n _ (sound-replies n _ _ closed)
 
-sound-channel : (state : ConnectionState) (n : ℕ) (c : Channel) (m : AnyMethod) (t : Talk) → 0 < n → IsSound t → IsSound (channel_rule state n c m t)
-sound-channel Closing n c m t some s = s
-sound-channel _ n c ChannelOpenOk t some s = sound-opened n c (awaited_promise n ChannelOpened t.outbox) t some s
-sound-channel _ n c ChannelCloseOk t some s = sound-closed n c (awaited_promise n ChannelClosed t.outbox) t s
-sound-channel _ n c m t some s = sound-unawaited n c.state m t s
+sound-flow : (held : ChannelState) (n : ℕ) (c : Channel) (active : Bool) (t : Talk) → 0 < n → is_acting t.input ≡ true → IsSound t
+    → IsSound (on_channel_flow held n c active t)
+sound-flow channel.Closing n c active t some acting s = s
+sound-flow _ n c active t some acting s =
+    record {
+      link = s.link;
+      room = s.room;
+      acting = s.acting;
+      finish = queue-finishes t.input t.committed t.outbox (plain n (flow_ok n active)) acting (flow_ok-goes_on n active) s.finish;
+      listed = put-from n _ 0 t.channels some s.listed;
+      promises = s.promises;
+    }
 
-sound-channel-by : (o : Option Channel) (n : ℕ) (m : AnyMethod) (t : Talk) → 0 < n → IsSound t → IsSound (channel_method_by o n m t)
-sound-channel-by None n m t some s = sound-misplaced _ t s
-sound-channel-by (Some c) n m t some s = sound-channel t.state n c m t some s
+sound-flowed : (n : ℕ) (c : Channel) (active : Bool) (a : Option (Option ℕ)) (t : Talk) → IsSound t → IsSound (channel_flowed n c active a t)
+sound-flowed n c active None t s = sound-unawaited n c.state (ChannelFlowOk active) t s
+sound-flowed n c active (Some promise) t s =
+    sound-give_to promise _ _ (record { link = s.link; room = s.room; acting = s.acting; finish = s.finish; listed = s.listed; promises = s.promises })
+
+-- close-ok is queued on a channel, whose debt it will pay
+sound-server-close : (d : Debt) (awaits : Bool) (n : ℕ) (e : ErrorKind) (c : Channel) (t : Talk) → 0 < n → is_acting t.input ≡ true → IsSound t
+    → IsSound (channel_close_by d awaits n e c t)
+sound-server-close debt.Nothing false n e c t some acting s =
+    let said : Item = plain n (channel_close_ok n) in
+    let left : Queued = without_all_on n t.outbox in
+    record {
+      link = s.link;
+      room = s.room;
+      acting = s.acting;
+      finish =
+          acting-finishes t.input t.committed (waiting_items t.outbox) (waiting_items (pushed_control said left)) acting
+          (λ goes. control-goes_on left (channel-goes_on t.outbox goes n) said (close_ok-goes_on n)) s.finish;
+      listed = put-from n _ 0 t.channels some s.listed;
+      promises = each-kept e (promises_on n t.outbox) t.made t.promises s.promises;
+    }
+sound-server-close debt.Nothing true n e c t some acting s =
+    record {
+      link = s.link;
+      room = s.room;
+      acting = s.acting;
+      finish = queue-finishes t.input t.committed t.outbox (plain n (channel_close_ok n)) acting (close_ok-goes_on n) s.finish;
+      listed = put-from n _ 0 t.channels some s.listed;
+      promises = s.promises;
+    }
+sound-server-close _ awaits n e c t some acting s = s
+
+sound-channel : (state : ConnectionState) (n : ℕ) (c : Channel) (m : AnyMethod) (t : Talk) → 0 < n → is_acting t.input ≡ true → IsSound t
+    → IsSound (channel_rule state n c m t)
+sound-channel Closing n c m t some acting s = s
+sound-channel _ n c ChannelOpenOk t some acting s = sound-opened n c (awaited_promise n ChannelOpened t.outbox) t some s
+sound-channel _ n c ChannelCloseOk t some acting s = sound-closed n c (awaited_promise n ChannelClosed t.outbox) t s
+sound-channel _ n c (ChannelClose code text class method) t some acting s =
+    sound-server-close c.debt (awaits_close_ok n t) n (channel_closed_with code text) c t some acting s
+sound-channel _ n c (ChannelFlow active) t some acting s = sound-flow c.state n c active t some acting s
+sound-channel _ n c (ChannelFlowOk active) t some acting s = sound-flowed n c active (awaited_promise n FlowDone t.outbox) t s
+sound-channel _ n c m t some acting s = sound-unawaited n c.state m t s
+
+sound-channel-by : (o : Option Channel) (n : ℕ) (m : AnyMethod) (t : Talk) → 0 < n → is_acting t.input ≡ true → IsSound t
+    → IsSound (channel_method_by o n m t)
+sound-channel-by None n m t some acting s = sound-misplaced _ t s
+sound-channel-by (Some c) n m t some acting s = sound-channel t.state n c m t some acting s
 
 sound-hand : (opened : ℕ) (h : Handed) (t : Talk) → IsSound t → IsSound (hand_out opened h t)
 sound-hand opened h t s = record { link = s.link; room = s.room; acting = s.acting; finish = s.finish; listed = s.listed; promises = s.promises }
@@ -227,6 +303,8 @@ sound-connection state p (Close code text class method) t hs hp opened acting s 
       listed = s.listed;
       promises = s.promises;
     }
+sound-connection state p (Blocked reason) t hs hp opened acting s = record { link = s.link; room = s.room; acting = s.acting; finish = s.finish; listed = s.listed; promises = s.promises }
+sound-connection state p Unblocked t hs hp opened acting s = record { link = s.link; room = s.room; acting = s.acting; finish = s.finish; listed = s.listed; promises = s.promises }
 sound-connection Closing p CloseOk t hs hp opened acting s = sound-connection-closed (awaited_promise 0 ConnectionClosed t.outbox) t s
 sound-connection Closing p m t hs hp opened acting s = s
 sound-connection Connecting AwaitStart (Start a b c d e) t hs hp opened acting s =
@@ -271,7 +349,7 @@ sound-method zero m t opened acting s =
     (sound-misplaced _ t s) (sound-connection t.state t.phase m t refl refl opened acting s)
 sound-method (suc n) m t opened acting s =
     if_case IsSound (is_of_a_channel m) (channel_method (suc n) m t) (misplaced _ t)
-    (sound-channel-by (heard_on t.state (channel_at (suc n) t)) (suc n) m t (omega arith) s) (sound-misplaced _ t s)
+    (sound-channel-by (heard_on t.state (channel_at (suc n) t)) (suc n) m t (omega arith) acting s) (sound-misplaced _ t s)
 
 sound-rule : (f : Frame) (place : ℕ) (t : Talk) → is_open t ≡ true → is_acting t.input ≡ true → IsSound t → IsSound (frame_rule f place t)
 sound-rule (ProtocolHeader version) place t opened acting s = sound-fail _ t s
@@ -279,6 +357,11 @@ sound-rule Heartbeat place t opened acting s = s
 sound-rule (Method n m) place t opened acting s = if_case IsSound (is_unbuilt m) (fail _ t) (method_rule n m t) (sound-fail _ t s) (sound-method n m t opened acting s)
 sound-rule (Raw zero kind bytes) place t opened acting s = sound-misplaced _ t s
 sound-rule (Raw (suc n) kind bytes) place t opened acting s = sound-raw (heard_on t.state (channel_at (suc n) t)) (suc n) kind bytes t (omega arith) s
+
+sound-closed-rule : (f : Frame) (t : Talk) → IsSound t → IsSound (closed_rule f t)
+sound-closed-rule (Method zero (Blocked reason)) t s = record { link = s.link; room = s.room; acting = s.acting; finish = s.finish; listed = s.listed; promises = s.promises }
+sound-closed-rule (Method zero Unblocked) t s = record { link = s.link; room = s.room; acting = s.acting; finish = s.finish; listed = s.listed; promises = s.promises }
+sound-closed-rule f t s = s
 
 acting-open : (a b : Bool) → (a && b) ≡ true → a ≡ true
 acting-open true b h = refl
@@ -290,7 +373,9 @@ open-acting false b h = absurd cc
 
 pub sound-frame : (f : Frame) (place : ℕ) (t : Talk) → IsSound t → IsSound (on_frame f place t)
 sound-frame f place t s =
-    if_by IsSound (acts t) (frame_rule f place t) t (λ h. sound-rule f place t (acting-open (is_open t) (is_acting t.input) h) (open-acting (is_open t) (is_acting t.input) h) s) (λ h. s)
+    if_by IsSound (acts t) (frame_rule f place t) (if hears_on t then closed_rule f t else t)
+    (λ h. sound-rule f place t (acting-open (is_open t) (is_acting t.input) h) (open-acting (is_open t) (is_acting t.input) h) s)
+    (λ h. if_case IsSound (hears_on t) (closed_rule f t) t (sound-closed-rule f t s) s)
 
 -- ---- links
 
@@ -366,11 +451,9 @@ sound-drawn (Some n) first t some acting s =
       promises = one-more t.made None t.promises s.promises;
     }
 
-sound-close-target : (r : Result Channel ErrorKind) (n code : ℕ) (text : List ℕ) (t : Talk) → ((c : Channel) → r ≡ Ok c → 0 < n)
-    → is_acting t.input ≡ true → IsSound t
-    → IsSound (close_target r n code text t)
-sound-close-target (Err e) n code text t some acting s = sound-refuse e t s
-sound-close-target (Ok c) n code text t some acting s =
+sound-leave : (n code : ℕ) (text : List ℕ) (c : Channel) (answers : Option ℕ) (t : Talk) → 0 < n → is_acting t.input ≡ true → IsSound t
+    → IsSound (leave_channel n code text c answers t)
+sound-leave n code text c answers t some acting s =
     let said : Item = plain n (our_channel_close n code text) in
     let closed : ErrorKind = InvalidChannelState channel.Closing word.ChannelClose in
     let gone : List (List Item) = filter (is_on n) t.outbox.publish in
@@ -383,9 +466,33 @@ sound-close-target (Ok c) n code text t some acting s =
           acting-finishes t.input t.committed (waiting_items t.outbox) (waiting_items left) acting
           (λ goes. left-goes_on (pushed_control said t.outbox) (control-goes_on t.outbox goes said (close-goes_on n code text)) (λ group. not (is_on n group)))
           s.finish;
-      listed = put-from n _ 0 t.channels (some c refl) s.listed;
-      promises =
-          one-more t.made None (rejected closed gone t.promises) (rejected-kept closed gone t.made t.promises s.promises);
+      listed = put-from n _ 0 t.channels some s.listed;
+      promises = rejected-kept closed gone t.made t.promises s.promises;
+    }
+
+sound-close-target : (r : Result Channel ErrorKind) (n code : ℕ) (text : List ℕ) (t : Talk) → ((c : Channel) → r ≡ Ok c → 0 < n)
+    → is_acting t.input ≡ true → IsSound t
+    → IsSound (close_target r n code text t)
+sound-close-target (Err e) n code text t some acting s = sound-refuse e t s
+sound-close-target (Ok c) n code text t some acting s =
+    sound-promise _ (sound-leave n code text c (Some (next_promise t)) t (some c refl) acting s)
+
+sound-drop-target : (r : Result Channel ErrorKind) (n : ℕ) (t : Talk) → ((c : Channel) → r ≡ Ok c → 0 < n) → is_acting t.input ≡ true → IsSound t
+    → IsSound (drop_target r n t)
+sound-drop-target (Err e) n t some acting s = s
+sound-drop-target (Ok c) n t some acting s = sound-leave n 200 (codes "OK") c None t (some c refl) acting s
+
+sound-flow-target : (r : Result Channel ErrorKind) (n : ℕ) (active : Bool) (t : Talk) → is_acting t.input ≡ true → IsSound t
+    → IsSound (flow_target r n active t)
+sound-flow-target (Err e) n active t acting s = sound-refuse e t s
+sound-flow-target (Ok c) n active t acting s =
+    record {
+      link = s.link;
+      room = s.room;
+      acting = s.acting;
+      finish = queue-finishes t.input t.committed t.outbox (plain n (channel_flow n active)) acting (flow-goes_on n active) s.finish;
+      listed = s.listed;
+      promises = one-more t.made None t.promises s.promises;
     }
 
 -- a frame that is too long is refused
@@ -455,16 +562,9 @@ target-some r word t c s h =
 acts-on : (state : ConnectionState) (t : Talk) → t.state ≡ state → goes_on state ≡ true → IsSound t → is_acting t.input ≡ true
 acts-on state t hs h s = s.acting (ap goes_on hs ∙ h)
 
-sound-command-rule : (state : ConnectionState) (c : Cmd) (t : Talk) → t.state ≡ state → IsSound t → IsSound (command_rule state c t)
-sound-command-rule Connected OpenChannel t hs s =
-    let first = first_number t.configuration.channel_max t.cursor in
-    sound-drawn (drawn t.configuration.channel_max first t.channels) first t
-    (λ n h. drawn-some t.configuration.channel_max first t.channels n (first-some t.configuration.channel_max t.cursor) h)
-    (acts-on Connected t hs refl s) s
-sound-command-rule Connected (CloseChannel r code text) t hs s =
-    sound-close-target (target r word.ChannelClose t) r.id code text t (λ c h. target-some r word.ChannelClose t c s.listed h)
-    (acts-on Connected t hs refl s) s
-sound-command-rule Connected (CloseConnection code text) t hs s =
+sound-leave-connection : (code : ℕ) (text : List ℕ) (answers : Option ℕ) (t : Talk) → t.state ≡ Connected → IsSound t
+    → IsSound (leave_connection code text answers t)
+sound-leave-connection code text answers t hs s =
     let said : Item = plain 0 (our_close code text) in
     let closed : ErrorKind = InvalidConnectionState Closing in
     record {
@@ -476,13 +576,29 @@ sound-command-rule Connected (CloseConnection code text) t hs s =
           (acts-on Connected t hs refl s)
           (λ goes. ungrouped-goes_on (pushed_control said t.outbox) (control-goes_on t.outbox goes said refl)) s.finish;
       listed = map_values-from closing 0 t.channels s.listed;
-      promises =
-          one-more t.made None (rejected closed t.outbox.publish t.promises)
-          (rejected-kept closed t.outbox.publish t.made t.promises s.promises);
+      promises = rejected-kept closed t.outbox.publish t.made t.promises s.promises;
     }
+
+sound-command-rule : (state : ConnectionState) (c : Cmd) (t : Talk) → t.state ≡ state → IsSound t → IsSound (command_rule state c t)
+sound-command-rule Connected OpenChannel t hs s =
+    let first = first_number t.configuration.channel_max t.cursor in
+    sound-drawn (drawn t.configuration.channel_max first t.channels) first t
+    (λ n h. drawn-some t.configuration.channel_max first t.channels n (first-some t.configuration.channel_max t.cursor) h)
+    (acts-on Connected t hs refl s) s
+sound-command-rule Connected (CloseChannel r code text) t hs s =
+    sound-close-target (target r word.ChannelClose t) r.id code text t (λ c h. target-some r word.ChannelClose t c s.listed h)
+    (acts-on Connected t hs refl s) s
+sound-command-rule Connected (CloseConnection code text) t hs s =
+    sound-promise _ (sound-leave-connection code text (Some (next_promise t)) t hs s)
 sound-command-rule Connected (Send r method) t hs s = sound-send (target r word.Send t) r.id method t (acts-on Connected t hs refl s) s
 sound-command-rule Connected (Publish r method properties body) t hs s =
     sound-publish (target r word.Publish t) r.id method properties body t (acts-on Connected t hs refl s) s
+sound-command-rule Connected (Flow r active) t hs s = sound-flow-target (target r word.ChannelFlow t) r.id active t (acts-on Connected t hs refl s) s
+sound-command-rule Connected (DropChannel r) t hs s =
+    sound-drop-target (target r word.ChannelClose t) r.id t (λ c h. target-some r word.ChannelClose t c s.listed h) (acts-on Connected t hs refl s) s
+sound-command-rule Connected DropConnection t hs s = sound-leave-connection 200 (codes "OK") None t hs s
+sound-command-rule _ (DropChannel r) t hs s = s
+sound-command-rule _ DropConnection t hs s = s
 sound-command-rule _ c t hs s = sound-refuse _ t s
 
 pub sound-command : (c : Cmd) (t : Talk) → IsSound t → IsSound (command c t)
@@ -505,9 +621,19 @@ committed-as (Some item) space t h s =
 pub sound-commit : (space : ℕ) (t : Talk) → IsSound t → IsSound (commit space t)
 sound-commit space t s = committed-as (next_within space t) space t refl s
 
+sound-paid : (b : Bool) (n : ℕ) (c : Channel) (t : Talk) → 0 < n → IsSound t → IsSound (paid_by b n c t)
+sound-paid true n c t some s = sound-set n (record c { debt = debt.Paid }) t some s
+sound-paid false n c t some s =
+    record { link = s.link; room = s.room; acting = s.acting; finish = s.finish; listed = without-from n 0 t.channels s.listed; promises = s.promises }
+
+sound-pay : (o : Option Channel) (n : ℕ) (t : Talk) → channel_at n t ≡ o → IsSound t → IsSound (pay o n t)
+sound-pay None n t h s = s
+sound-pay (Some c) n t h s = sound-paid (awaits_close_ok n t) n c t (listed-some n c t.channels s.listed h) s
+
 sound-follow : (th : Then) (t : Talk) → IsSound t → IsSound (follow th t)
 sound-follow Nothing t s = s
 sound-follow (Answer n) t s = sound-give n (Ok Sent) t s
+sound-follow (Pays n) t s = sound-pay (channel_at n t) n t refl s
 sound-follow Finish t s = sound-finish t.server_close t s
 
 -- the first committed frame was sent

@@ -4,8 +4,8 @@ use Rattle.amqp_frame.specs.declared.frame.Frame.{Frame}
 use Rattle.amqp_frame.specs.declared.frame.Frame.TheVariants.{ProtocolHeader, Method, Raw}
 use Rattle.amqp_frame.specs.declared.frame.RawKind.TheVariants.{RawMethod}
 use Rattle.amqp_frame.specs.declared.method.Method.{Method as AnyMethod}
-use Rattle.amqp_frame.specs.declared.method.Method.TheVariants.{Start, Tune, OpenOk, Close, ChannelOpenOk, ChannelCloseOk}
-use Rattle.amqp_outbox.specs.declared.reply.Reply.TheVariants.{ChannelOpened, ChannelClosed}
+use Rattle.amqp_frame.specs.declared.method.Method.TheVariants.{Start, Tune, OpenOk, Close, Blocked, Unblocked, ChannelOpenOk, ChannelFlow, ChannelFlowOk, ChannelClose, ChannelCloseOk}
+use Rattle.amqp_outbox.specs.declared.reply.Reply.TheVariants.{ChannelOpened, ChannelClosed, FlowDone}
 use Rattle.amqp_outbox.specs.Queued.{awaited_promise}
 use Rattle.amqp_session.specs.declared.channels.Channel.{Channel}
 use Rattle.amqp_session.specs.declared.state.ChannelState.TheVariants as channel
@@ -22,10 +22,12 @@ use Rattle.amqp_session.specs.Violations.{stray_channel_frame, stray_connection_
 
 -- ---- the connection
 
--- a method of the connection class that is due before our close: what the handshake awaits; the server may close at any
--- time
+-- a method of the connection class that is due before our close: what the handshake awaits; the server may close, block
+-- and unblock at any time
 abbrev pub is_due : AnyMethod → ConnectionState → Phase → Bool
 is_due (Close code text class method) state phase = true
+is_due (Blocked reason) state phase = true
+is_due Unblocked state phase = true
 is_due (Start major minor properties mechanisms locales) Connecting AwaitStart = true
 is_due (Tune channel_max frame_max heartbeat) Connecting AwaitTune = true
 is_due OpenOk Connecting AwaitOpenOk = true
@@ -60,10 +62,13 @@ IsUnheard n t = (channel_at n t ≡ None) ⊎ (t.state ≡ Connecting)
 abbrev pub IsKept : ℕ → Talk → Type 0
 IsKept n t = (t.state ≢ Connecting) × ((c : Channel) × (channel_at n t ≡ Some c) × (c.state ≢ channel.Closing))
 
--- a reply is awaited that this method is
+-- a reply is awaited that this method is; flow and close are replies to nothing, and may come at any time
 abbrev pub is_awaited : AnyMethod → ℕ → Talk → Bool
 is_awaited ChannelOpenOk n t = is_some (awaited_promise n ChannelOpened t.outbox)
 is_awaited ChannelCloseOk n t = is_some (awaited_promise n ChannelClosed t.outbox)
+is_awaited (ChannelFlow active) n t = true
+is_awaited (ChannelClose code text class method) n t = true
+is_awaited (ChannelFlowOk active) n t = is_some (awaited_promise n FlowDone t.outbox)
 is_awaited _ n t = false
 
 -- 505 for a method of the channel class that nothing awaits

@@ -1,10 +1,12 @@
 -- The small changes of the state that the rules are made of.
-use Rattle.std.specs.Prelude.{ℕ, ◌+◌, max, not, if◌then◌else◌, List, [], ◌∷◌, filter, Option, Some, None, Result, Ok, Err}
+use Rattle.std.specs.Prelude.{ℕ, ◌+◌, max, not, if◌then◌else◌, List, [], ◌∷◌, ◌++◌, filter, map, Option, Some, None, Result, Ok, Err}
 use Rattle.amqp_frame.specs.declared.frame.Frame.{Frame}
 use Rattle.amqp_outbox.specs.declared.item.Item.{Item}
 use Rattle.amqp_outbox.specs.declared.reply.Reply.{Reply}
+use Rattle.amqp_outbox.specs.declared.reply.Awaited.{Awaited}
 use Rattle.amqp_outbox.specs.Items.{plain, promise_of}
-use Rattle.amqp_outbox.specs.Queued.{Queued, pushed_control, pushed_group, expected, is_on}
+use Rattle.amqp_outbox.specs.Replies.{awaited_on}
+use Rattle.amqp_outbox.specs.Queued.{Queued, pushed_control, pushed_group, expected, is_on, goes_with}
 use Rattle.amqp_session.specs.declared.state.ConnectionState.TheVariants.{Closed, Error}
 use Rattle.amqp_session.specs.declared.state.Link.TheVariants.{Ended}
 use Rattle.amqp_session.specs.declared.command.Answer.{Answer}
@@ -12,7 +14,7 @@ use Rattle.amqp_session.specs.declared.server_close.ServerClose.{ServerClose}
 use Rattle.amqp_session.specs.declared.server_close.ServerClose.TheVariants.{WithError}
 use Rattle.amqp_session.specs.declared.error.ErrorKind.{ErrorKind}
 use Rattle.amqp_session.specs.declared.error.ErrorKind.TheVariants.{ProtocolError, NoMemory}
-use Rattle.amqp_session.specs.Listed.{at, put}
+use Rattle.amqp_session.specs.Listed.{at, put, without}
 use Rattle.amqp_session.specs.Talk.{Talk, is_closing, has_ended}
 
 -- the present is the greatest moment so far
@@ -78,7 +80,12 @@ promise t = record t { made = t.made + 1; promises = put t.made None t.promises 
 abbrev pub refuse : ErrorKind → Talk → Talk
 refuse e t = record t { made = t.made + 1; promises = put t.made (Some (Err e)) t.promises }
 
--- ---- groups that go
+-- ---- what goes
+
+-- the promises, once each that is named got an error
+abbrev pub rejected_each : ErrorKind → List (Option ℕ) → Promises → Promises
+rejected_each e [] promises = promises
+rejected_each e (named ∷ others) promises = rejected_each e others (settled_to named (Err e) promises)
 
 -- the promises, once that of each of these groups got an error
 abbrev pub rejected : ErrorKind → List (List Item) → Promises → Promises
@@ -107,6 +114,47 @@ drop_groups e t =
     record t {
       outbox = without_groups t.outbox;
       promises = rejected e t.outbox.publish t.promises;
+    }
+
+-- the promises of the replies that are awaited on a channel, in order
+abbrev pub replies_on : ℕ → Queued → List (Option ℕ)
+replies_on n q = map (λ (a : Awaited). a.promise) (awaited_on n q.awaited)
+
+-- the promises of what goes with a channel: of its groups that have not begun, then of its frames in the control lane
+-- but channel.open and channel.close, then of its awaited replies
+abbrev pub promises_on : ℕ → Queued → List (Option ℕ)
+promises_on n q =
+    map promise_of (filter (is_on n) q.publish)
+    ++ map (λ (i : Item). i.promise) (filter (goes_with n) q.control)
+    ++ replies_on n q
+
+-- what waits and is awaited, without all that goes with a channel
+abbrev pub without_all_on : ℕ → Queued → Queued
+without_all_on n q =
+    record q {
+      publish = filter (λ group. not (is_on n group)) q.publish;
+      control = filter (λ item. not (goes_with n item)) q.control;
+      awaited = without n q.awaited;
+    }
+
+-- all that goes with a channel goes, and the promise of each gets this error
+abbrev pub drop_channel_of : ℕ → ErrorKind → Talk → Talk
+drop_channel_of n e t =
+    record t {
+      outbox = without_all_on n t.outbox;
+      promises = rejected_each e (promises_on n t.outbox) t.promises;
+    }
+
+-- what is awaited, without the replies of a channel
+abbrev pub without_replies_on : ℕ → Queued → Queued
+without_replies_on n q = record q { awaited = without n q.awaited }
+
+-- the replies that are awaited on a channel go, and the promise of each gets this error
+abbrev pub drop_replies_of : ℕ → ErrorKind → Talk → Talk
+drop_replies_of n e t =
+    record t {
+      outbox = without_replies_on n t.outbox;
+      promises = rejected_each e (replies_on n t.outbox) t.promises;
     }
 
 -- ---- ends, at which all channels go

@@ -1,26 +1,31 @@
 -- What comes on a channel: methods of the channel class (AMQP 0-9-1, 1.5 of its reference), and frames that are passed
 -- through.
-use Rattle.std.specs.Prelude.{ℕ, if◌then◌else◌, Bool, true, false, List, [], ◌∷◌, ◌++◌, take, Option, Some, None, Ok, unwrap_or}
+use Rattle.std.specs.Prelude.{ℕ, if◌then◌else◌, Bool, true, false, List, [], ◌∷◌, ◌++◌, take, Option, Some, None, Ok, is_some, unwrap_or}
+use Rattle.amqp_types.specs.declared.word.Word.TheVariants as word
 use Rattle.std.specs.Str.{bytes_eq}
 use Rattle.amqp_frame.specs.declared.frame.RawKind.{RawKind}
 use Rattle.amqp_frame.specs.declared.frame.RawKind.TheVariants.{RawMethod}
 use Rattle.amqp_frame.specs.declared.method.Method.{Method}
-use Rattle.amqp_frame.specs.declared.method.Method.TheVariants.{ChannelOpenOk, ChannelCloseOk}
-use Rattle.amqp_outbox.specs.declared.reply.Reply.TheVariants.{ChannelOpened, ChannelClosed}
+use Rattle.amqp_frame.specs.declared.method.Method.TheVariants.{ChannelOpenOk, ChannelClose, ChannelCloseOk, ChannelFlow, ChannelFlowOk}
+use Rattle.amqp_outbox.specs.declared.reply.Reply.TheVariants.{ChannelOpened, ChannelClosed, FlowDone}
 use Rattle.amqp_outbox.specs.Queued.{awaited_promise, answered}
 use Rattle.amqp_session.specs.declared.state.ConnectionState.{ConnectionState}
 use Rattle.amqp_session.specs.declared.state.ConnectionState.TheVariants.{Connecting, Closing}
 use Rattle.amqp_session.specs.declared.state.ChannelState.{ChannelState}
 use Rattle.amqp_session.specs.declared.state.ChannelState.TheVariants as channel
 use Rattle.amqp_session.specs.declared.channels.Channel.{Channel}
+use Rattle.amqp_session.specs.declared.channels.Debt.{Debt}
+use Rattle.amqp_session.specs.declared.channels.Debt.TheVariants.{Nothing, Owed}
 use Rattle.amqp_session.specs.declared.handed.Handed.{Handed}
-use Rattle.amqp_session.specs.declared.command.Answer.TheVariants.{Channel as AnswerChannel, Done}
-use Rattle.amqp_session.specs.declared.error.ErrorKind.TheVariants.{InvalidChannel}
+use Rattle.amqp_session.specs.declared.command.Answer.TheVariants.{Channel as AnswerChannel, Done, Flow}
+use Rattle.amqp_session.specs.declared.error.ErrorKind.{ErrorKind}
+use Rattle.amqp_session.specs.declared.error.ErrorKind.TheVariants.{InvalidChannel, InvalidChannelState}
 use Rattle.amqp_session.specs.Listed.{at, put, without}
 use Rattle.amqp_session.specs.Talk.{Talk}
 use Rattle.amqp_session.specs.Channels.{channel_at, set_channel}
-use Rattle.amqp_session.specs.Violations.{unawaited}
-use Rattle.amqp_session.specs.Changes.{give_to, lose, misplaced}
+use Rattle.amqp_session.specs.Violations.{channel_closed_with, unawaited}
+use Rattle.amqp_session.specs.Handshake.{channel_close_ok, flow_ok}
+use Rattle.amqp_session.specs.Changes.{queue, give_to, drop_channel_of, drop_replies_of, lose, misplaced}
 
 -- the listed channel that a frame comes on: until the connection is open there is none
 abbrev pub heard_on : ConnectionState → Option Channel → Option Channel
@@ -49,22 +54,78 @@ channel_opened n c (Some promise) t =
 abbrev pub on_channel_open_ok : ℕ → Channel → Talk → Talk
 on_channel_open_ok n c t = channel_opened n c (awaited_promise n ChannelOpened t.outbox) t
 
+-- a channel goes, and its number is free again
+abbrev pub remove_channel : ℕ → Talk → Talk
+remove_channel n t = record t { channels = without n t.channels }
+
+-- the server closed a channel too, and our close-ok is owed: then it stays listed until that is sent
+abbrev pub remove_unless_owed : Debt → ℕ → Talk → Talk
+remove_unless_owed Owed n t = t
+remove_unless_owed _ n t = remove_channel n t
+
 -- close-ok on a listed channel, by the promise of what awaits it
 abbrev pub channel_closed : ℕ → Channel → Option (Option ℕ) → Talk → Talk
 channel_closed n c None t = unawaited_channel_method n c.state ChannelCloseOk t
 channel_closed n c (Some promise) t =
-    let closed = record t { outbox = answered n ChannelClosed t.outbox } in
-    give_to promise (Ok Done) (record closed { channels = without n closed.channels })
+    let closed = give_to promise (Ok Done) (record t { outbox = answered n ChannelClosed t.outbox }) in
+    remove_unless_owed c.debt n
+    (drop_replies_of n (InvalidChannelState channel.Closed word.ChannelCloseOkReceived) closed)
 
--- close-ok, where it is awaited: the channel goes, and its number is free again
+-- close-ok, where it is awaited: our close is answered, what else is awaited on the channel will not come, and the
+-- channel goes
 abbrev pub on_channel_close_ok : ℕ → Channel → Talk → Talk
 on_channel_close_ok n c t = channel_closed n c (awaited_promise n ChannelClosed t.outbox) t
+
+-- flow on a listed channel: the server lets content be published on it or not, which is answered; after our close of
+-- the channel it is dropped
+abbrev pub on_channel_flow : ChannelState → ℕ → Channel → Bool → Talk → Talk
+on_channel_flow channel.Closing n c active t = t
+on_channel_flow _ n c active t = queue n (flow_ok n active) (set_channel n (record c { flow = active }) t)
+
+-- flow-ok on a listed channel, by the promise of what awaits it
+abbrev pub channel_flowed : ℕ → Channel → Bool → Option (Option ℕ) → Talk → Talk
+channel_flowed n c active None t = unawaited_channel_method n c.state (ChannelFlowOk active) t
+channel_flowed n c active (Some promise) t =
+    give_to promise (Ok (Flow active)) (record t { outbox = answered n FlowDone t.outbox })
+
+-- flow-ok, where it is awaited: the server starts or stops to send content, as it was told
+abbrev pub on_channel_flow_ok : ℕ → Channel → Bool → Talk → Talk
+on_channel_flow_ok n c active t = channel_flowed n c active (awaited_promise n FlowDone t.outbox) t
+
+-- our close of a channel was said or waits, and is not answered
+abbrev pub awaits_close_ok : ℕ → Talk → Bool
+awaits_close_ok n t = is_some (awaited_promise n ChannelClosed t.outbox)
+
+-- the server closes a channel that we use: all that goes with it goes, and close-ok is owed; a group that has begun
+-- goes out first
+abbrev pub closed_by_server : ℕ → ErrorKind → Channel → Talk → Talk
+closed_by_server n e c t =
+    queue n (channel_close_ok n)
+    (drop_channel_of n e (set_channel n (record c { state = channel.Closing; debt = Owed }) t))
+
+-- it closes a channel that we closed: close-ok is owed too
+abbrev pub crossing_close : ℕ → Channel → Talk → Talk
+crossing_close n c t = queue n (channel_close_ok n) (set_channel n (record c { debt = Owed }) t)
+
+-- the server's close of a channel, by what is owed, and by whether we closed it
+abbrev pub channel_close_by : Debt → Bool → ℕ → ErrorKind → Channel → Talk → Talk
+channel_close_by Nothing false n e c t = closed_by_server n e c t
+channel_close_by Nothing true n e c t = crossing_close n c t
+channel_close_by _ awaits n e c t = t
+
+-- the server's close of a channel, which is answered once
+abbrev pub on_channel_close : ℕ → ℕ → List ℕ → Channel → Talk → Talk
+on_channel_close n code text c t =
+    channel_close_by c.debt (awaits_close_ok n t) n (channel_closed_with code text) c t
 
 -- a method of the channel class on a listed channel: after our close of the connection it is dropped
 abbrev pub channel_rule : ConnectionState → ℕ → Channel → Method → Talk → Talk
 channel_rule Closing n c method t = t
 channel_rule _ n c ChannelOpenOk t = on_channel_open_ok n c t
 channel_rule _ n c ChannelCloseOk t = on_channel_close_ok n c t
+channel_rule _ n c (ChannelClose code text class method) t = on_channel_close n code text c t
+channel_rule _ n c (ChannelFlow active) t = on_channel_flow c.state n c active t
+channel_rule _ n c (ChannelFlowOk active) t = on_channel_flow_ok n c active t
 channel_rule _ n c method t = unawaited_channel_method n c.state method t
 
 -- a method of the channel class, by the listed channel that it comes on

@@ -3,6 +3,8 @@ use Rattle.std.specs.Prelude.{◌≡◌, ◌≤◌, ℕ, ◌+◌, ◌==◌, max,
 use Rattle.std.specs.List.{list_all}
 use Rattle.amqp_session.specs.declared.state.ChannelState.TheVariants as channel
 use Rattle.amqp_session.specs.declared.channels.Channel.{Channel}
+use Rattle.amqp_session.specs.declared.channels.Debt.{Debt}
+use Rattle.amqp_session.specs.declared.channels.Debt.TheVariants.{Nothing, Owed}
 use Rattle.amqp_session.specs.Listed.{at, put, has}
 use Rattle.amqp_session.specs.Numbering.{first_number, after, drawn}
 use Rattle.amqp_session.specs.Talk.{Talk}
@@ -12,9 +14,15 @@ pub record Listing : Type 0 where
   pub listed : List (ℕ × Channel)
   pub cursor : ℕ
 
+-- our close-ok is owed
+abbrev pub is_owed : Debt → Bool
+is_owed Owed = true
+is_owed _ = false
+
 -- a channel whose opening a promise waits for
 abbrev pub new_channel : ℕ → Channel
-new_channel opened = record { state = channel.Initial; flow = true; confirm = false; opened = opened }
+new_channel opened =
+    record { state = channel.Initial; flow = true; confirm = false; opened = opened; debt = Nothing }
 
 -- a channel that is closing
 abbrev pub closing : Channel → Channel

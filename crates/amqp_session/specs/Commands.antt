@@ -1,11 +1,12 @@
--- Commands: what a session is told to do. Each takes the next promise; a refused one is answered at once.
-use Rattle.std.specs.Prelude.{ℕ, ◌-◌, ◌==◌, nat_lt, if◌then◌else◌, Bool, true, List, [], ◌∷◌, length, find, Option, Some, None, Result, Ok, Err}
+-- Commands: what a session is told to do. Each takes the next promise, but for those that let a channel or the
+-- connection go; a refused one is answered at once.
+use Rattle.std.specs.Prelude.{ℕ, ◌-◌, ◌==◌, nat_lt, if◌then◌else◌, Bool, true, false, List, [], ◌∷◌, length, find, Option, Some, None, Result, Ok, Err, codes}
 use Rattle.amqp_frame.specs.declared.frame.Frame.{Frame}
 use Rattle.amqp_frame.specs.RawMethods.{OtherMethod}
 use Rattle.amqp_frame.specs.Frames.{encoding}
 use Rattle.amqp_types.specs.declared.word.Word.{Word}
 use Rattle.amqp_types.specs.declared.word.Word.TheVariants as word
-use Rattle.amqp_outbox.specs.declared.reply.Reply.TheVariants.{ChannelOpened, ChannelClosed, ConnectionClosed}
+use Rattle.amqp_outbox.specs.declared.reply.Reply.TheVariants.{ChannelOpened, ChannelClosed, FlowDone, ConnectionClosed}
 use Rattle.amqp_outbox.specs.Items.{promised, group_of}
 use Rattle.amqp_session.specs.declared.state.ConnectionState.{ConnectionState}
 use Rattle.amqp_session.specs.declared.state.ConnectionState.TheVariants.{Connected, Closing}
@@ -14,13 +15,13 @@ use Rattle.amqp_session.specs.declared.state.ChannelState.TheVariants as channel
 use Rattle.amqp_session.specs.declared.channels.Channel.{Channel}
 use Rattle.amqp_session.specs.declared.command.ChanRef.{ChanRef}
 use Rattle.amqp_session.specs.declared.command.Cmd.{Cmd}
-use Rattle.amqp_session.specs.declared.command.Cmd.TheVariants.{OpenChannel, CloseChannel, CloseConnection, Send, Publish}
+use Rattle.amqp_session.specs.declared.command.Cmd.TheVariants.{OpenChannel, CloseChannel, CloseConnection, Send, Publish, Flow, DropChannel, DropConnection}
 use Rattle.amqp_session.specs.declared.error.ErrorKind.{ErrorKind}
 use Rattle.amqp_session.specs.declared.error.ErrorKind.TheVariants.{ChannelsLimitReached, InvalidChannel, InvalidChannelState, InvalidConnectionState, SerialisationError}
 use Rattle.amqp_session.specs.Listed.{map_values}
 use Rattle.amqp_session.specs.Talk.{Talk}
 use Rattle.amqp_session.specs.Numbering.{first_number, after, drawn}
-use Rattle.amqp_session.specs.Handshake.{our_close, channel_open, our_channel_close}
+use Rattle.amqp_session.specs.Handshake.{our_close, channel_open, channel_flow, our_channel_close}
 use Rattle.amqp_session.specs.Negotiation.{frame_limit}
 use Rattle.amqp_session.specs.Publishing.{method_frame, publish_frames}
 use Rattle.amqp_session.specs.Changes.{queue, queue_item, queue_group, await, next_promise, promise, refuse, drop_groups_of, drop_groups}
@@ -82,13 +83,17 @@ target r word t = target_by (named r t) r.id word
 
 -- ---- closing a channel
 
--- our close of the channel is queued, the groups of the channel that have not begun go, and the promise of the close
--- waits for the close-ok
-abbrev pub close_channel : ℕ → ℕ → List ℕ → Channel → Talk → Talk
-close_channel n code text c t =
+-- our close of the channel is queued, its close-ok is awaited and will answer a promise, where there is one, and the
+-- groups of the channel that have not begun go
+abbrev pub leave_channel : ℕ → ℕ → List ℕ → Channel → Option ℕ → Talk → Talk
+leave_channel n code text c answers t =
     let is_closing = set_channel n (closing c) t in
-    promise (drop_groups_of n (InvalidChannelState channel.Closing word.ChannelClose)
-    (await n ChannelClosed (Some (next_promise t)) (queue n (our_channel_close n code text) is_closing)))
+    drop_groups_of n (InvalidChannelState channel.Closing word.ChannelClose)
+    (await n ChannelClosed answers (queue n (our_channel_close n code text) is_closing))
+
+-- the channel is closed, and the promise of the close waits for the close-ok
+abbrev pub close_channel : ℕ → ℕ → List ℕ → Channel → Talk → Talk
+close_channel n code text c t = promise (leave_channel n code text c (Some (next_promise t)) t)
 
 -- the channel that was found is closed; else the command is refused
 abbrev pub close_target : Result Channel ErrorKind → ℕ → ℕ → List ℕ → Talk → Talk
@@ -142,19 +147,51 @@ abbrev pub publish_target : Result Channel ErrorKind → ℕ → OtherMethod →
 publish_target (Err e) n method properties body t = refuse e t
 publish_target (Ok c) n method properties body t = publish n method properties body t
 
+-- ---- flow
+
+-- the server is told to start or to stop, and the promise waits for its flow-ok
+abbrev pub tell_flow : ℕ → Bool → Talk → Talk
+tell_flow n active t = promise (await n FlowDone (Some (next_promise t)) (queue n (channel_flow n active) t))
+
+-- it is told so on the channel that was found; else the command is refused
+abbrev pub flow_target : Result Channel ErrorKind → ℕ → Bool → Talk → Talk
+flow_target (Err e) n active t = refuse e t
+flow_target (Ok c) n active t = tell_flow n active t
+
 -- ---- closing the connection
 
--- our close is queued, all channels are closing, all groups that have not begun go, and the promise of the close waits
--- for the close-ok
-abbrev pub close_connection : ℕ → List ℕ → Talk → Talk
-close_connection code text t =
+-- our close is queued, all channels are closing, the close-ok is awaited and will answer a promise, where there is one,
+-- and all groups that have not begun go
+abbrev pub leave_connection : ℕ → List ℕ → Option ℕ → Talk → Talk
+leave_connection code text answers t =
     let all_closing = record t { state = Closing; channels = map_values closing t.channels } in
-    promise (drop_groups (InvalidConnectionState Closing)
-    (await 0 ConnectionClosed (Some (next_promise t)) (queue 0 (our_close code text) all_closing)))
+    drop_groups (InvalidConnectionState Closing)
+    (await 0 ConnectionClosed answers (queue 0 (our_close code text) all_closing))
+
+-- the connection is closed, and the promise of the close waits for the close-ok
+abbrev pub close_connection : ℕ → List ℕ → Talk → Talk
+close_connection code text t = promise (leave_connection code text (Some (next_promise t)) t)
+
+-- ---- what is let go, for which no promise is made
+
+-- the channel that was found is closed with 200 `OK`; where none was, nothing happens
+abbrev pub drop_target : Result Channel ErrorKind → ℕ → Talk → Talk
+drop_target (Err e) n t = t
+drop_target (Ok c) n t = leave_channel n 200 (codes "OK") c None t
+
+-- a command takes a promise, but for one that lets a channel or the connection go
+abbrev pub takes_promise : Cmd → Bool
+takes_promise (DropChannel r) = false
+takes_promise DropConnection = false
+takes_promise _ = true
+
+-- the number of the promise that a command takes
+abbrev pub promise_of : Cmd → Talk → Option ℕ
+promise_of cmd t = if takes_promise cmd then Some (next_promise t) else None
 
 -- ---- the table
 
--- the rule for a command, by state
+-- the rule for a command, by state; the last rows are those of every other state
 abbrev pub command_rule : ConnectionState → Cmd → Talk → Talk
 command_rule Connected OpenChannel t = open_channel t
 command_rule Connected (CloseChannel r code text) t = close_target (target r word.ChannelClose t) r.id code text t
@@ -162,6 +199,11 @@ command_rule Connected (CloseConnection code text) t = close_connection code tex
 command_rule Connected (Send r method) t = send_target (target r word.Send t) r.id method t
 command_rule Connected (Publish r method properties body) t =
     publish_target (target r word.Publish t) r.id method properties body t
+command_rule Connected (Flow r active) t = flow_target (target r word.ChannelFlow t) r.id active t
+command_rule Connected (DropChannel r) t = drop_target (target r word.ChannelClose t) r.id t
+command_rule Connected DropConnection t = leave_connection 200 (codes "OK") None t
+command_rule held (DropChannel r) t = t
+command_rule held DropConnection t = t
 command_rule held cmd t = refuse (InvalidConnectionState held) t
 
 -- a command is told

@@ -1,7 +1,7 @@
 -- Methods of the connection class (AMQP 0-9-1, 1.4 of its reference), on channel 0.
-use Rattle.std.specs.Prelude.{ℕ, List, Option, Some, None, Ok}
+use Rattle.std.specs.Prelude.{ℕ, true, false, List, Option, Some, None, Ok}
 use Rattle.amqp_frame.specs.declared.method.Method.{Method}
-use Rattle.amqp_frame.specs.declared.method.Method.TheVariants.{Start, Tune, OpenOk, Close, CloseOk}
+use Rattle.amqp_frame.specs.declared.method.Method.TheVariants.{Start, Tune, OpenOk, Close, CloseOk, Blocked, Unblocked}
 use Rattle.amqp_outbox.specs.declared.reply.Reply.TheVariants.{ConnectionClosed}
 use Rattle.amqp_outbox.specs.Items.{plain}
 use Rattle.amqp_outbox.specs.Queued.{only, awaited_promise, answered}
@@ -35,6 +35,16 @@ on_tune server t =
 abbrev pub on_open_ok : Talk → Talk
 on_open_ok t = record (give 0 (Ok AnswerConnected) t) { state = Connected }
 
+-- ---- blocking (an extension of RabbitMQ)
+
+-- blocked: nothing more is written
+abbrev pub on_blocked : Talk → Talk
+on_blocked t = record t { blocked = true }
+
+-- unblocked: writing goes on
+abbrev pub on_unblocked : Talk → Talk
+on_unblocked t = record t { blocked = false }
+
 -- ---- closing
 
 -- the server closes: what waits and what is awaited is dropped, close-ok is the last that is said, and no frame acts
@@ -67,6 +77,8 @@ unexpected_connection_method held t = lose (InvalidConnectionState held) t
 -- a method of the connection class, by the state and by what the handshake awaits
 abbrev pub connection_rule : ConnectionState → Phase → Method → Talk → Talk
 connection_rule state phase (Close code text class method) t = on_connection_close code text t
+connection_rule state phase (Blocked reason) t = on_blocked t
+connection_rule state phase Unblocked t = on_unblocked t
 connection_rule Closing phase CloseOk t = on_connection_close_ok t
 -- what else comes after our close is dropped
 connection_rule Closing phase method t = t

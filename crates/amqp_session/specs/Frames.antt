@@ -7,10 +7,10 @@ use Rattle.amqp_frame.specs.declared.frame.RawKind.TheVariants.{RawMethod}
 use Rattle.amqp_frame.specs.declared.method.Method.{Method as AnyMethod}
 use Rattle.amqp_frame.specs.declared.method.Method.TheVariants.{Secure, Blocked, Unblocked, UpdateSecretOk, ChannelOpen, ChannelOpenOk, ChannelFlow, ChannelFlowOk, ChannelClose, ChannelCloseOk}
 use Rattle.amqp_session.specs.declared.error.ErrorKind.TheVariants.{InvalidProtocolVersion, Unbuilt}
-use Rattle.amqp_session.specs.Talk.{Talk, acts}
+use Rattle.amqp_session.specs.Talk.{Talk, acts, hears_on}
 use Rattle.amqp_session.specs.Violations.{stray_connection_method, stray_channel_frame}
 use Rattle.amqp_session.specs.Changes.{fail, lose, misplaced}
-use Rattle.amqp_session.specs.ConnectionMethods.{connection_rule}
+use Rattle.amqp_session.specs.ConnectionMethods.{on_blocked, on_unblocked, connection_rule}
 use Rattle.amqp_session.specs.ChannelMethods.{channel_method, raw_frame}
 
 -- ---- the kinds of methods
@@ -18,12 +18,7 @@ use Rattle.amqp_session.specs.ChannelMethods.{channel_method, raw_frame}
 -- the methods that no rule takes yet
 abbrev pub is_unbuilt : AnyMethod → Bool
 is_unbuilt (Secure challenge) = true
-is_unbuilt (Blocked reason) = true
-is_unbuilt Unblocked = true
 is_unbuilt UpdateSecretOk = true
-is_unbuilt (ChannelFlow active) = true
-is_unbuilt (ChannelFlowOk active) = true
-is_unbuilt (ChannelClose code text class method) = true
 is_unbuilt _ = false
 
 -- the methods of the channel class; all others are of the connection class
@@ -69,6 +64,15 @@ frame_rule (Method n m) place t = if is_unbuilt m then fail (Unbuilt place) t el
 frame_rule (Raw zero kind bytes) place t = misplaced (stray_channel_frame kind) t
 frame_rule (Raw (suc n) kind bytes) place t = raw_frame (suc n) kind bytes t
 
--- a frame was read on the open link; after the server's close none acts
+-- the rule for a frame after the server's close: only blocked and unblocked act
+abbrev pub closed_rule : Frame → Talk → Talk
+closed_rule (Method zero (Blocked reason)) t = on_blocked t
+closed_rule (Method zero Unblocked) t = on_unblocked t
+closed_rule f t = t
+
+-- a frame was read on the open link
 abbrev pub on_frame : Frame → ℕ → Talk → Talk
-on_frame f place t = if acts t then frame_rule f place t else t
+on_frame f place t =
+    if acts t then frame_rule f place t
+    else if hears_on t then closed_rule f t
+    else t

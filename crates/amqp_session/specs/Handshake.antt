@@ -1,9 +1,9 @@
 -- What a client says to open and close a connection and its channels (AMQP 0-9-1, 2.2.4 and 2.2.5).
-use Rattle.std.specs.Prelude.{ℕ, true, List, [], ◌∷◌, ◌++◌, codes}
+use Rattle.std.specs.Prelude.{ℕ, Bool, true, List, [], ◌∷◌, ◌++◌, codes}
 use Rattle.amqp_types.specs.Value.{FieldValue, Pair, scalar, table, boolean, long_string, pairs_from}
 use Rattle.amqp_frame.specs.declared.frame.Frame.{Frame}
 use Rattle.amqp_frame.specs.declared.frame.Frame.TheVariants.{ProtocolHeader, Method}
-use Rattle.amqp_frame.specs.declared.method.Method.TheVariants.{StartOk, TuneOk, Open, Close, CloseOk, ChannelOpen, ChannelClose}
+use Rattle.amqp_frame.specs.declared.method.Method.TheVariants.{StartOk, TuneOk, Open, Close, CloseOk, ChannelOpen, ChannelFlow, ChannelFlowOk, ChannelClose, ChannelCloseOk}
 use Rattle.amqp_session.specs.declared.configuration.Configuration.{Configuration}
 
 -- the header that asks for AMQP 0-9-1
@@ -70,6 +70,18 @@ close_ok = Method 0 CloseOk
 -- a channel is opened
 abbrev pub channel_open : ℕ → Frame
 channel_open n = Method n ChannelOpen
+
+-- what the server sends on a channel is to start or to stop
+abbrev pub channel_flow : ℕ → Bool → Frame
+channel_flow n active = Method n (ChannelFlow active)
+
+-- the answer to the server's flow
+abbrev pub flow_ok : ℕ → Bool → Frame
+flow_ok n active = Method n (ChannelFlowOk active)
+
+-- our answer to the server's close of a channel
+abbrev pub channel_close_ok : ℕ → Frame
+channel_close_ok n = Method n ChannelCloseOk
 
 -- our close of a channel, which names no method that caused it
 abbrev pub our_channel_close : ℕ → ℕ → List ℕ → Frame

@@ -1,5 +1,5 @@
 -- What the rules keep.
-use Rattle.std.specs.Prelude.{◌≡◌, ℕ, Bool, true, false, IsTrue, Some, Err}
+use Rattle.std.specs.Prelude.{◌≡◌, ℕ, if◌then◌else◌, Bool, true, false, IsTrue, Some, Err}
 use Rattle.amqp_frame.specs.declared.frame.Frame.{Frame}
 use Rattle.amqp_session.specs.declared.command.Cmd.{Cmd}
 use Rattle.amqp_session.specs.declared.error.ErrorKind.{ErrorKind}
@@ -29,7 +29,8 @@ is_end _ = false
 abbrev pub IsEnded : Talk → Type 0
 IsEnded t = IsTrue (has_ended t) × IsTrue (is_end t.state)
 
--- nothing changes the state, but that commands are counted, each refused, and that answers and frames are taken
+-- nothing changes the state, but that commands which take a promise are counted, each refused, and that answers and
+-- frames are taken
 pub record IsOver (t : Talk) : Type 0 where
   pub moment : (at : ℕ) → change.present_at at t ≡ t
   pub asked : link.asked t ≡ t
@@ -42,7 +43,8 @@ pub record IsOver (t : Talk) : Type 0 where
   pub commit : (space : ℕ) → writing.commit space t ≡ t
   pub taken : (n : ℕ) → writing.taken n t ≡ t
   pub starve : change.starve t ≡ t
-  pub command : (cmd : Cmd) → told.command cmd t ≡ refuse (InvalidConnectionState t.state) t
+  pub command : (cmd : Cmd) →
+      told.command cmd t ≡ (if told.takes_promise cmd then refuse (InvalidConnectionState t.state) t else t)
   pub answer : (number : ℕ) → take_answer number t ≡ record t { promises = (take_answer number t).promises }
   pub frames : (opened : ℕ) → take_frames opened t ≡ record t { handed = (take_frames opened t).handed }
 

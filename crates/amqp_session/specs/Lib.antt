@@ -10,12 +10,12 @@ pub mod Errors
 pub mod Violations
 -- The rules: what each happening does to the state.
 pub mod Changes
-pub mod Memory
 pub mod Links
 pub mod ConnectionMethods
 pub mod Numbering
 pub mod Sequence
 pub mod Channels
+pub mod Memory
 pub mod ChannelMethods
 pub mod Frames
 pub mod Publishing
@@ -32,6 +32,7 @@ pub mod Octets
 pub mod Legal
 pub mod Decider
 -- What the contracts of private calls are stated with.
+pub mod Sharing
 pub mod Parts
 pub mod NumberSet
 pub mod Openings

@@ -1,5 +1,5 @@
 -- Links: that one is asked for, comes or does not come, gives bytes, and ends.
-use Rattle.std.specs.Prelude.{if◌then◌else◌, []}
+use Rattle.std.specs.Prelude.{if◌then◌else◌, false, []}
 use Rattle.amqp_outbox.specs.Items.{plain}
 use Rattle.amqp_outbox.specs.Queued.{only}
 use Rattle.amqp_session.specs.declared.state.ConnectionState.TheVariants.{Connecting}
@@ -36,6 +36,7 @@ linked t =
       phase = AwaitStart;
       link = Open;
       input = Acting;
+      blocked = false;
       outbox = only (plain 0 protocol_header);
       committed = [];
       last_read = t.present;

@@ -1,7 +1,9 @@
 -- Memory: for which changes by what is read it is taken.
-use Rattle.std.specs.Prelude.{◌≡◌, Bool, true, false, IsTrue, IsFalse, Option, Some, Result, Err}
+use Rattle.std.specs.Prelude.{◌≡◌, ℕ, Bool, true, false, IsTrue, IsFalse, Option, Some, None, Result, Err}
 use Rattle.amqp_session.specs.declared.error.ErrorKind.{ErrorKind}
 use Rattle.amqp_session.specs.declared.error.ErrorKind.TheVariants.{ProtocolError}
+use Rattle.amqp_session.specs.declared.channels.Channel.{Channel}
+use Rattle.amqp_session.specs.Channels.{channel_at, is_owed}
 use Rattle.amqp_session.specs.Talk.{Talk, is_acting, is_open, end_of}
 
 -- an error with a text of its own
@@ -14,11 +16,22 @@ abbrev pub end_has_text : Option (Result (Unit {0}) ErrorKind) → Bool
 end_has_text (Some (Err e)) = has_text e
 end_has_text _ = false
 
+-- our close-ok is owed on a channel
+abbrev pub owes_on : Option Channel → Bool
+owes_on None = false
+owes_on (Some c) = is_owed c.debt
+
+-- our close-ok is owed on the listed channel of a number
+abbrev pub owes : ℕ → Talk → Bool
+owes n t = owes_on (channel_at n t)
+
 -- what is read makes nothing for which memory is taken: no frame that will be said, no frame that is handed out, and no
 -- text of an error
 pub record MakesNothing (before after : Talk) : Type 0 where
   -- the same frames wait to be said
   pub control : after.outbox.control ≡ before.outbox.control
+  -- no close-ok is owed on a channel that was not
+  pub owed : (n : ℕ) → IsTrue (owes n after) → IsTrue (owes n before)
   -- the same frames are handed out
   pub handed : after.handed ≡ before.handed
   -- the server did not close, whose error is kept, and which is answered

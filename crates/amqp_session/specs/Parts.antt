@@ -1,31 +1,58 @@
 -- Parts of the state and of the rules, as the code takes them.
-use Rattle.std.specs.Prelude.{ℕ, ◌-◌, nat_le, if◌then◌else◌, List, [], ◌∷◌, Option, Some, None, Result, Ok, Err}
+use Rattle.std.specs.Prelude.{◌≡◌, ℕ, ◌-◌, nat_le, if◌then◌else◌, List, [], ◌∷◌, Option, Some, None, option_map, Result, Ok, Err}
 use Rattle.amqp_session.specs.declared.state.Link.{Link}
 use Rattle.amqp_session.specs.declared.state.Link.TheVariants.{Wanted, Asked, Open, Ended}
 use Rattle.amqp_session.specs.declared.state.End.{End}
 use Rattle.amqp_session.specs.declared.state.End.TheVariants.{ByServer, Failed}
 use Rattle.amqp_session.specs.declared.promises.Slot.{Slot}
-use Rattle.amqp_session.specs.declared.promises.Slot.TheVariants.{Place, Waiting, Answered}
+use Rattle.amqp_session.specs.declared.promises.Slot.TheVariants.{Place, Waiting, Answered, Shared}
+use Rattle.amqp_session.specs.declared.promises.Promises.{Promises}
+use Rattle.amqp_session.specs.declared.promises.Why.{Why}
+use Rattle.amqp_session.specs.declared.shared_errors.SharedError.{SharedError}
 use Rattle.amqp_session.specs.declared.command.Answer.{Answer}
 use Rattle.amqp_session.specs.declared.server_close.ServerClose.{ServerClose}
 use Rattle.amqp_session.specs.declared.server_close.ServerClose.TheVariants.{WithError}
 use Rattle.amqp_session.specs.declared.committed.Mark.{Mark}
 use Rattle.amqp_session.specs.declared.error.ErrorKind.{ErrorKind}
 use Rattle.amqp_session.specs.declared.error.ErrorKind.TheVariants.{ProtocolError}
+use Rattle.amqp_outbox.specs.Order.{seen}
+use Rattle.amqp_session.specs.Sharing.{error_at}
 use Rattle.amqp_session.specs.Talk.{Talk, is_open}
 
 -- ---- promises
 
--- a promise as it is seen: a place that is made for one is none
-abbrev pub slot_seen : Slot → Option (Option (Result Answer ErrorKind))
-slot_seen Place = None
-slot_seen Waiting = Some None
-slot_seen (Answered answer) = Some (Some answer)
+-- the answer that the shared error of a number gives
+abbrev pub shared_answer : ℕ → List (ℕ × SharedError) → Option (Result Answer ErrorKind)
+shared_answer number errors = option_map Err (error_at number errors)
+
+-- a promise as it is seen: a place that is made for one is none, and an error that is shared is the one of its number
+abbrev pub slot_seen : List (ℕ × SharedError) → Slot → Option (Option (Result Answer ErrorKind))
+slot_seen errors Place = None
+slot_seen errors Waiting = Some None
+slot_seen errors (Answered answer) = Some (Some answer)
+slot_seen errors (Shared number) = option_map Some (shared_answer number errors)
+
+-- the promises as they are seen, by number
+abbrev pub promised : Promises → List (ℕ × Option (Result Answer ErrorKind))
+promised promises = seen (slot_seen promises.errors.errors.entries) promises.slots.entries
+
+-- the error that is given for a reason, where it is kept
+abbrev pub error_of : Why → Promises → Option ErrorKind
+error_of why promises = error_at why.number promises.errors.errors.entries
+
+-- this error is given for a reason
+abbrev pub HasWhy : Why → ErrorKind → Promises → Type 0
+HasWhy why e promises = error_of why promises ≡ Some e
 
 -- a promise, once it got an answer: where it waits
 abbrev pub slot_settled : Result Answer ErrorKind → Slot → Slot
 slot_settled answer Waiting = Answered answer
 slot_settled answer slot = slot
+
+-- a promise, once it is answered with the shared error of a number: where it waits
+abbrev pub slot_shared : ℕ → Slot → Slot
+slot_shared number Waiting = Shared number
+slot_shared number slot = slot
 
 -- ---- how a session ended
 

@@ -8,7 +8,7 @@ use Rattle.amqp_session.specs.declared.state.Phase.TheVariants.{AwaitStart}
 use Rattle.amqp_session.specs.declared.state.Link.{Link}
 use Rattle.amqp_session.specs.declared.state.Link.TheVariants.{Wanted, Asked, Open, Ended}
 use Rattle.amqp_session.specs.declared.state.Input.{Input}
-use Rattle.amqp_session.specs.declared.state.Input.TheVariants.{Acting, Dropped}
+use Rattle.amqp_session.specs.declared.state.Input.TheVariants.{Acting, Closed, Dropped}
 use Rattle.amqp_session.specs.declared.capacity.TheConstants.{INITIAL_CAPACITY}
 use Rattle.amqp_session.specs.declared.configuration.Configuration.{Configuration}
 use Rattle.amqp_session.specs.declared.channels.Channel.{Channel}
@@ -27,6 +27,8 @@ pub record Talk : Type 0 where
   pub link : Link ErrorKind
   -- what is done with the frames that come on the open link
   pub input : Input
+  -- the server wants nothing to be written
+  pub blocked : Bool
   -- the numbers of the connection, 0 where nothing is wished or agreed
   pub configuration : Configuration
   -- how many bytes can be unsent, and how long a frame may be that is read
@@ -60,6 +62,7 @@ start =
       phase = AwaitStart;
       link = Wanted;
       input = Acting;
+      blocked = false;
       configuration = record { channel_max = 0; frame_max = 0; heartbeat = 0 };
       capacity = INITIAL_CAPACITY;
       channels = [];
@@ -132,6 +135,11 @@ is_acting _ = false
 abbrev pub acts : Talk → Bool
 acts t = is_open t && is_acting t.input
 
+-- input whose frames come after the server's close
+abbrev pub is_closed_input : Input → Bool
+is_closed_input (Closed crossed) = true
+is_closed_input _ = false
+
 -- input of which no more is read
 abbrev pub is_dropped_input : Input → Bool
 is_dropped_input (Dropped crossed) = true
@@ -140,3 +148,7 @@ is_dropped_input _ = false
 -- no more of the open link's input is read
 abbrev pub drops_input : Talk → Bool
 drops_input t = is_dropped_input t.input
+
+-- the server closed, and the frames that come on the open link are still read
+abbrev pub hears_on : Talk → Bool
+hears_on t = is_open t && is_closed_input t.input

@@ -8,7 +8,9 @@ use Rattle.amqp_frame.specs.declared.frame.RawKind.TheVariants.{RawMethod, Heade
 use Rattle.amqp_frame.specs.declared.method.Method.{Method}
 use Rattle.amqp_frame.specs.declared.method.Method.TheVariants.{ChannelOpen, ChannelOpenOk, ChannelFlow, ChannelFlowOk, ChannelClose}
 use Rattle.amqp_session.specs.declared.error.ErrorKind.{ErrorKind}
-use Rattle.amqp_session.specs.declared.error.ErrorKind.TheVariants.{ParsingError, ProtocolError}
+use Rattle.amqp_session.specs.declared.error.ErrorKind.TheVariants.{InvalidChannelState, ParsingError, ProtocolError}
+use Rattle.amqp_types.specs.declared.word.Word.TheVariants.{ChannelCloseOkSent}
+use Rattle.amqp_session.specs.declared.state.ChannelState.TheVariants.{Closing}
 use Rattle.amqp_session.specs.declared.server_close.ServerClose.{ServerClose}
 use Rattle.amqp_session.specs.declared.server_close.ServerClose.TheVariants.{WithoutError, WithError}
 use Rattle.amqp_session.specs.declared.misread.Misread.{Misread}
@@ -60,6 +62,13 @@ abbrev pub unawaited : Method → ℕ → ErrorKind
 unawaited method channel =
     protocol_error 505
     (codes "unexpected channel." ++ method_name method ++ codes " received on channel " ++ decimal channel)
+
+-- what the server's close of a channel tells those who wait for something on it, by its code
+abbrev pub channel_closed_with : ℕ → List ℕ → ErrorKind
+channel_closed_with code text =
+    if is_some (kind_of code)
+    then protocol_error code text
+    else InvalidChannelState Closing ChannelCloseOkSent
 
 -- what the server's close tells, by its code: an error, or that the connection is closed
 abbrev pub closed_with : ℕ → List ℕ → ServerClose

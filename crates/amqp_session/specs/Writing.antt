@@ -2,17 +2,20 @@
 use Rattle.std.specs.Prelude.{ℕ, zero, ◌-◌, ◌==◌, ◌&&◌, Bool, true, false, not, nat_le, if◌then◌else◌, List, [], ◌∷◌, ◌++◌, drop, length, sum_by, Option, Some, None, Ok}
 use Rattle.amqp_frame.specs.declared.frame.Frame.{Frame}
 use Rattle.amqp_frame.specs.declared.frame.Frame.TheVariants.{Method}
-use Rattle.amqp_frame.specs.declared.method.Method.TheVariants.{CloseOk}
+use Rattle.amqp_frame.specs.declared.method.Method.TheVariants.{CloseOk, ChannelCloseOk}
 use Rattle.amqp_outbox.specs.declared.item.Item.{Item}
 use Rattle.amqp_outbox.specs.Items.{size_of}
 use Rattle.amqp_outbox.specs.Queued as queued
 use Rattle.amqp_outbox.specs.Queued.{waiting_items, after_next}
 use Rattle.amqp_session.specs.declared.committed.Mark.{Mark}
 use Rattle.amqp_session.specs.declared.committed.Then.{Then}
-use Rattle.amqp_session.specs.declared.committed.Then.TheVariants.{Nothing, Answer, Finish}
+use Rattle.amqp_session.specs.declared.committed.Then.TheVariants.{Nothing, Answer, Pays, Finish}
 use Rattle.amqp_session.specs.declared.command.Answer.TheVariants.{Sent}
 use Rattle.amqp_session.specs.Talk.{Talk, is_open}
-use Rattle.amqp_session.specs.Channels.{all_flow}
+use Rattle.amqp_session.specs.declared.channels.Channel.{Channel}
+use Rattle.amqp_session.specs.declared.channels.Debt.TheVariants.{Paid}
+use Rattle.amqp_session.specs.Channels.{all_flow, channel_at, set_channel}
+use Rattle.amqp_session.specs.ChannelMethods.{awaits_close_ok, remove_channel}
 use Rattle.amqp_session.specs.Changes.{give, finish}
 
 -- how many frames wait to be committed
@@ -23,10 +26,14 @@ frames_waiting t = length (waiting_items t.outbox)
 abbrev pub flows : Talk → Bool
 flows t = all_flow t.channels
 
+-- frames may go out: on an open link, while the server does not block
+abbrev pub writes : Talk → Bool
+writes t = is_open t && not t.blocked
+
 -- the next frame to go out: of the group that has begun, else of the control lane, else of the publish lane where
 -- publishes flow
 abbrev pub next_item : Talk → Option Item
-next_item t = if is_open t then queued.next_item (flows t) t.outbox else None
+next_item t = if writes t then queued.next_item (flows t) t.outbox else None
 
 -- a frame that is to go out, where it is at most so many bytes long
 abbrev pub fitting : ℕ → Option Item → Option Item
@@ -47,9 +54,15 @@ abbrev pub answers : Option ℕ → Then
 answers None = Nothing
 answers (Some number) = Answer number
 
--- what follows once a frame was sent whole: the session finishes, or a promise is answered, or nothing
+-- what follows once a frame was sent whole: after channel.close-ok its channel owes nothing any more, and after any
+-- other but connection.close-ok a promise is answered, where there is one
+abbrev pub then_by : Frame → Option ℕ → Then
+then_by (Method n ChannelCloseOk) promise = Pays n
+then_by frame promise = answers promise
+
+-- what follows once a frame was sent whole; after connection.close-ok the session finishes
 abbrev pub then_of : Item → Then
-then_of item = if is_close_ok item.frame then Finish else answers item.promise
+then_of item = if is_close_ok item.frame then Finish else then_by item.frame item.promise
 
 -- a frame as it is committed
 abbrev pub mark_of : Item → Mark
@@ -77,10 +90,25 @@ unsent t = left_in t.committed
 abbrev pub connection_close_ok_sent : Talk → Talk
 connection_close_ok_sent t = finish t
 
+-- our close-ok was sent on a listed channel: where our own close of it is not answered it stays, and else it goes
+abbrev pub paid_by : Bool → ℕ → Channel → Talk → Talk
+paid_by true n c t = set_channel n (record c { debt = Paid }) t
+paid_by false n c t = remove_channel n t
+
+-- our close-ok was sent on a channel, where it is listed
+abbrev pub pay : Option Channel → ℕ → Talk → Talk
+pay None n t = t
+pay (Some c) n t = paid_by (awaits_close_ok n t) n c t
+
+-- our answer to the server's close of a channel was sent
+abbrev pub channel_close_ok_sent : ℕ → Talk → Talk
+channel_close_ok_sent n t = pay (channel_at n t) n t
+
 -- what follows once a frame was sent whole
 abbrev pub follow : Then → Talk → Talk
 follow Nothing t = t
 follow (Answer number) t = give number (Ok Sent) t
+follow (Pays n) t = channel_close_ok_sent n t
 follow Finish t = connection_close_ok_sent t
 
 -- the first committed frame was sent whole

@@ -16,6 +16,17 @@ use std::alloc::Global;
 use std::collections::BTreeMap;
 use std::marker::Model;
 
+/// What we owe to a server that closed a channel.
+#[derive(Clone, Copy, Debug, PartialEq, Eq)]
+pub enum Debt {
+    /// It did not close the channel.
+    Nothing,
+    /// Our close-ok, which was not yet sent.
+    Owed,
+    /// Nothing any more: our close-ok was sent.
+    Paid,
+}
+
 /// A listed channel.
 #[derive(Clone, Copy, Debug, PartialEq, Eq)]
 pub struct Channel {
@@ -26,6 +37,8 @@ pub struct Channel {
     pub confirm: bool,
     /// The promise that opened it.
     pub opened: u64,
+    /// Whether our answer to the server's close of it is owed.
+    pub debt: Debt,
 }
 
 impl Channel {
@@ -38,6 +51,17 @@ impl Channel {
             flow: true,
             confirm: false,
             opened,
+            debt: Debt::Nothing,
+        }
+    }
+
+    /// The same channel, which is closing.
+    pub fn closing(self) -> Channel
+        ensures { result ≡ closing self }
+    {
+        Channel {
+            state: ChannelState::Closing,
+            ..self
         }
     }
 

@@ -28,6 +28,12 @@ pub enum Cmd {
     /// Publishes with a method on a channel: the properties of the content header, and the body. The
     /// frames go out one after another, and none of another command comes between them.
     Publish(ChanRef, RawMethod, Properties, Payload),
+    /// Tells the server to start or to stop sending content on a channel.
+    Flow(ChanRef, bool),
+    /// Lets a channel go: where it is open it is closed, with 200 and `OK`. It takes no promise.
+    DropChannel(ChanRef),
+    /// Lets the connection go: where it is open it is closed, with 200 and `OK`. It takes no promise.
+    DropConnection,
 }
 
 impl Cmd {
@@ -44,6 +50,9 @@ impl Cmd {
                 Ok(Cmd::CloseConnection(*code, text.try_clone(alloc)?))
             }
             Cmd::Send(channel, method) => Ok(Cmd::Send(*channel, method.try_clone(alloc)?)),
+            Cmd::Flow(channel, active) => Ok(Cmd::Flow(*channel, *active)),
+            Cmd::DropChannel(channel) => Ok(Cmd::DropChannel(*channel)),
+            Cmd::DropConnection => Ok(Cmd::DropConnection),
             Cmd::Publish(channel, method, properties, body) => {
                 let method = method.try_clone(alloc)?;
                 let properties = properties.try_clone(alloc)?;
@@ -64,4 +73,6 @@ pub enum Answer {
     Done,
     /// All was sent.
     Sent,
+    /// The server starts or stops to send content.
+    Flow(bool),
 }

@@ -3,12 +3,12 @@
 ghost use Rattle.std.specs.Prelude.{◌≡◌, ◌+◌, ◌<◌, ◌≤◌, ◌^◌, ◌++◌, ◌∷◌, [], length, OnOk, IfSome, IfNone};
 ghost use Rattle.std.specs.VecDeque.{deque_capacity};
 ghost use Rattle.amqp_outbox.specs.Items.{size_of};
-ghost use Rattle.amqp_session.specs.Writing.{left_in, is_close_ok, then_of, mark_of};
+ghost use Rattle.amqp_session.specs.Writing.{left_in, is_close_ok, answers, then_of, mark_of};
 ghost use Rattle.amqp_session.specs.Parts.{first_among, after_first};
 
 use amqp_frame::{Frame, Method, encoded_len};
 use amqp_outbox::Item;
-use amqp_types::NoMemory;
+use amqp_types::{ChannelId, NoMemory};
 use std::alloc::Global;
 use std::collections::VecDeque;
 
@@ -18,6 +18,8 @@ pub enum Then {
     Nothing,
     /// This promise is answered.
     Answer(u64),
+    /// This channel owes no close-ok any more.
+    Pays(ChannelId),
     /// The session finishes, as the server closed it.
     Finish,
 }
@@ -53,7 +55,17 @@ fn then_of(item: &Item) -> Then
     if is_close_ok(&item.frame) {
         return Then::Finish;
     }
-    match item.promise {
+    match &item.frame {
+        Frame::Method(id, Method::ChannelCloseOk) => Then::Pays(*id),
+        _ => answers(item.promise),
+    }
+}
+
+// What follows by the promise that a frame answers.
+fn answers(promise: Option<u64>) -> Then
+    ensures { result ≡ answers promise }
+{
+    match promise {
         Some(number) => Then::Answer(number),
         None => Then::Nothing,
     }

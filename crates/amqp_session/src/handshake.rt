@@ -1,8 +1,8 @@
 //! The frames that open and close a connection and its channels.
 
-ghost use Rattle.std.specs.Prelude.{◌≡◌, ◌<◌, length, IfOk, OnOk};
+ghost use Rattle.std.specs.Prelude.{◌≡◌, ◌<◌, length, IfOk, OnOk, codes};
 ghost use Rattle.amqp_types.specs.Table.{put};
-ghost use Rattle.amqp_session.specs.Handshake.{protocol_header, yes, text_value, capabilities, client_properties, start_ok, tune_ok, open_vhost, our_close, close_ok, channel_open, our_channel_close};
+ghost use Rattle.amqp_session.specs.Handshake.{protocol_header, yes, text_value, capabilities, client_properties, start_ok, tune_ok, open_vhost, our_close, close_ok, channel_open, channel_flow, flow_ok, channel_close_ok, our_channel_close};
 
 use crate::configuration::Configuration;
 use amqp_frame::{Frame, Method};
@@ -112,6 +112,13 @@ pub fn open_vhost(alloc: Global) -> Result<Frame, NoMemory>
     Ok(Frame::Method(0, Method::Open(short(alloc, b"/")?)))
 }
 
+/// The text of a close without error.
+pub fn ok_text(alloc: Global) -> Result<ShortString, NoMemory>
+    ensures { IfOk result (λ s. s ≡ codes "OK") }
+{
+    short(alloc, b"OK")
+}
+
 /// Our close of the connection.
 pub fn our_close(code: ReplyCode, text: ShortString) -> Frame
     ensures { result ≡ our_close code text }
@@ -131,6 +138,27 @@ pub fn channel_open(id: ChannelId) -> Frame
     ensures { result ≡ channel_open id }
 {
     Frame::Method(id, Method::ChannelOpen)
+}
+
+/// What the server sends on a channel is to start or to stop.
+pub fn channel_flow(id: ChannelId, active: bool) -> Frame
+    ensures { result ≡ channel_flow id active }
+{
+    Frame::Method(id, Method::ChannelFlow(active))
+}
+
+/// The answer to the server's flow.
+pub fn flow_ok(id: ChannelId, active: bool) -> Frame
+    ensures { result ≡ flow_ok id active }
+{
+    Frame::Method(id, Method::ChannelFlowOk(active))
+}
+
+/// Our answer to the server's close of a channel.
+pub fn channel_close_ok(id: ChannelId) -> Frame
+    ensures { result ≡ channel_close_ok id }
+{
+    Frame::Method(id, Method::ChannelCloseOk)
 }
 
 /// Our close of a channel.

@@ -1,6 +1,6 @@
 //! What the rules keep.
 
-ghost use Rattle.std.specs.Prelude.{◌≡◌, ◌≢◌, ◌≤◌, ◌↔◌, ℕ, ◌+◌, true, List, length, Some, None, Err, IsTrue};
+ghost use Rattle.std.specs.Prelude.{◌≡◌, ◌≢◌, ◌≤◌, ◌↔◌, ℕ, ◌+◌, true, List, length, Some, None, Err, IsTrue, IsFalse};
 ghost use Rattle.amqp_frame.specs.declared.frame.Frame.{Frame};
 ghost use Rattle.amqp_frame.specs.Frames.{encoding};
 ghost use Rattle.amqp_outbox.specs.declared.item.Item.{Item};
@@ -12,7 +12,7 @@ ghost use Rattle.amqp_session.specs.declared.state.ConnectionState.TheVariants.{
 ghost use Rattle.amqp_session.specs.Talk.{Talk, start, acts, has_ended, is_open, end_of};
 ghost use Rattle.amqp_session.specs.Negotiation.{tune};
 ghost use Rattle.amqp_session.specs.Frames.{on_frame};
-ghost use Rattle.amqp_session.specs.Commands.{command};
+ghost use Rattle.amqp_session.specs.Commands.{command, takes_promise};
 ghost use Rattle.amqp_session.specs.Writing.{next_within, commit, taken, unsent};
 ghost use Rattle.amqp_session.specs.Answers.{answer_of, take_answer};
 ghost use Rattle.amqp_session.specs.Causes.{IsFrameError};
@@ -28,12 +28,14 @@ pub fn negotiation_leaves_room()
 {}
 
 /// A command out of the state Connected is refused, and a refused command changes nothing but the
-/// promises, and the cursor where every number is listed.
+/// promises, and the cursor where every number is listed. One that lets a channel or the connection go
+/// takes no promise, and does nothing then.
 pub fn a_refusal_changes_promises_alone()
-    ensures state { (cmd : Cmd) (t : Talk) → t.state ≢ Connected
+    ensures state { (cmd : Cmd) (t : Talk) → t.state ≢ Connected → IsTrue (takes_promise cmd)
         → IsRefused (InvalidConnectionState t.state) t (command cmd t) }
-    ensures alone { (cmd : Cmd) (t : Talk) (e : ErrorKind) → IsAnsweredAtOnce e t (command cmd t)
-        → IsRefusal e t (command cmd t) }
+    ensures alone { (cmd : Cmd) (t : Talk) (e : ErrorKind) → IsTrue (takes_promise cmd)
+        → IsAnsweredAtOnce e t (command cmd t) → IsRefusal e t (command cmd t) }
+    ensures dropped { (cmd : Cmd) (t : Talk) → t.state ≢ Connected → IsFalse (takes_promise cmd) → command cmd t ≡ t }
 {}
 
 /// A session is in a sound state at the beginning, and each rule leads from a sound state to one; so

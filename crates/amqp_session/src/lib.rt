@@ -24,6 +24,7 @@ mod properties;
 mod publishing;
 mod server_close;
 mod session;
+mod shared_errors;
 mod shown;
 mod state;
 mod violations;

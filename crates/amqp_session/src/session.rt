@@ -38,6 +38,7 @@ pub struct Session {
     phase: Phase,
     link: Link<End>,
     input: Input,
+    blocked: bool,
     configuration: Configuration,
     capacity: Capacity,
     channels: Channels,
@@ -55,10 +56,9 @@ impl Model for Session {
     ghost use Rattle.std.specs.Prelude.{◌≤◌, ◌+◌, IsTrue, length};
     ghost use Rattle.std.specs.VecDeque.{deque_capacity};
     ghost use Rattle.amqp_session.specs.Talk.{Talk};
-    ghost use Rattle.amqp_outbox.specs.Order.{seen};
     ghost use Rattle.amqp_outbox.specs.Parts.{queued};
     ghost use Rattle.amqp_outbox.specs.Queued.{waiting_items};
-    ghost use Rattle.amqp_session.specs.Parts.{link_seen, slot_seen};
+    ghost use Rattle.amqp_session.specs.Parts.{link_seen, promised};
 
     ghost Value = { Talk };
 
@@ -72,6 +72,7 @@ impl Model for Session {
       phase = s.phase;
       link = link_seen s.server_close s.link;
       input = s.input;
+      blocked = s.blocked;
       configuration = s.configuration;
       capacity = s.capacity.octets;
       channels = s.channels.listed;
@@ -80,7 +81,7 @@ impl Model for Session {
       committed = s.committed.marks.items;
       handed = s.backlog;
       made = s.promises.made;
-      promises = seen slot_seen s.promises.slots.entries;
+      promises = promised s.promises;
       server_close = s.server_close;
       present = s.present;
       last_read = s.last_read;
@@ -127,6 +128,7 @@ impl Session {
             phase: Phase::AwaitStart,
             link: Link::Wanted,
             input: Input::Acting,
+            blocked: false,
             configuration: Configuration {
                 channel_max: 0,
                 frame_max: 0,

@@ -5,13 +5,14 @@ ghost use Rattle.std.specs.String.{string_bytes};
 ghost use Rattle.amqp_types.specs.Codes.{kind_of};
 ghost use Rattle.amqp_types.specs.declared.error.AMQPErrorKind.TheVariants.{Hard};
 ghost use Rattle.amqp_session.specs.Memory.{has_text};
-ghost use Rattle.amqp_session.specs.Violations.{protocol_error, frame_too_large, stray_heartbeat, misread_error, stray_connection_method, raw_name, stray_channel_frame, method_name, unawaited, closed_with};
+ghost use Rattle.amqp_session.specs.Violations.{protocol_error, frame_too_large, stray_heartbeat, misread_error, stray_connection_method, raw_name, stray_channel_frame, method_name, unawaited, channel_closed_with, closed_with};
 
 use crate::error::ErrorKind;
 use crate::misread::Misread;
 use crate::server_close::ServerClose;
+use crate::state::ChannelState;
 use amqp_frame::{Method, RawKind};
-use amqp_types::{AMQPError, ChannelId, NoMemory, ReplyCode, ShortString};
+use amqp_types::{AMQPError, ChannelId, NoMemory, ReplyCode, ShortString, Word};
 use std::alloc::Global;
 
 /// What was read and is no frame.
@@ -108,6 +109,21 @@ fn hard_error(code: ReplyCode, text: String) -> Result<ErrorKind, NoMemory>
     match AMQPError::from_code(code, message)? {
         Some(error) => Ok(ErrorKind::ProtocolError(error)),
         None => unreachable!(),
+    }
+}
+
+/// What the server's close of a channel tells those who wait for something on it: an error of its
+/// code, or that we answered a close.
+pub fn channel_closed_with(
+    alloc: Global,
+    code: ReplyCode,
+    text: &ShortString,
+) -> Result<ErrorKind, NoMemory>
+    ensures { IfOk result (λ kind. kind ≡ channel_closed_with code text.now) }
+{
+    match AMQPError::from_code(code, text.try_clone(alloc)?)? {
+        Some(error) => Ok(ErrorKind::ProtocolError(error)),
+        None => Ok(ErrorKind::InvalidChannelState(ChannelState::Closing, Word::ChannelCloseOkSent)),
     }
 }
 

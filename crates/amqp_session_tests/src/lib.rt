@@ -13,7 +13,11 @@ mod closing;
 #[cfg(test)]
 mod creating;
 #[cfg(test)]
+mod dropping;
+#[cfg(test)]
 mod ends;
+#[cfg(test)]
+mod flowing;
 #[cfg(test)]
 mod handshake;
 #[cfg(test)]
@@ -26,6 +30,8 @@ mod publishing;
 mod sending;
 #[cfg(test)]
 mod sequences;
+#[cfg(test)]
+mod server_closes;
 #[cfg(test)]
 mod story;
 #[cfg(test)]

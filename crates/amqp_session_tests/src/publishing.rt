@@ -1,30 +1,15 @@
 //! What a publish says, and when it goes out.
 
 use crate::story::{Line, tell};
-use crate::support::{At, CHANNEL_1, NUMBER_1, NUMBER_2, Outcome};
+use crate::support::{
+    At, CHANNEL_1, HEADER_0, HEADER_0_ON_2, HEADER_5, METHOD_ABC, METHOD_HELLO, METHOD_HELLO_ON_2,
+    NUMBER_1, NUMBER_2, Outcome,
+};
 use amqp_session::Answer;
 use amqp_vectors::{
     CHANNEL_CLOSE_1, CHANNEL_CLOSE_OK_1, CHANNEL_OPEN_OK_1, CHANNEL_OPEN_OK_2, CLOSE, CLOSE_OK,
     TUNE_2,
 };
-
-/// The method of class 60 and number 40 for the routing key `hello`, on channel 1.
-const METHOD_HELLO: &str = "01 0001 0000000e 003c0028 0000 00 0568656c6c6f 00 ce";
-
-/// The same on channel 2.
-const METHOD_HELLO_ON_2: &str = "01 0002 0000000e 003c0028 0000 00 0568656c6c6f 00 ce";
-
-/// The method of class 60 and number 40 with the arguments `abc`, on channel 1.
-const METHOD_ABC: &str = "01 0001 00000007 003c0028 616263 ce";
-
-/// The content header of an empty body, without a property, on channel 1.
-const HEADER_0: &str = "02 0001 0000000e 003c 0000 0000000000000000 0000 ce";
-
-/// The same on channel 2.
-const HEADER_0_ON_2: &str = "02 0002 0000000e 003c 0000 0000000000000000 0000 ce";
-
-/// The content header of a body of 5 octets.
-const HEADER_5: &str = "02 0001 0000000e 003c 0000 0000000000000005 0000 ce";
 
 /// The content header of a body of 4,088 octets.
 const HEADER_4088: &str = "02 0001 0000000e 003c 0000 0000000000000ff8 0000 ce";

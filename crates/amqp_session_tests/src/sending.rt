@@ -1,12 +1,9 @@
 //! When frames are committed and sent.
 
 use crate::story::{Line, tell};
-use crate::support::{At, CHANNEL_1, Outcome};
+use crate::support::{At, CHANNEL_1, METHOD_ABC, Outcome};
 use amqp_session::Answer;
 use amqp_vectors::{HEADER, START, START_OK};
-
-/// The method of class 60 and number 40 with the arguments `abc`, on channel 1.
-const METHOD_ABC: &str = "01 0001 00000007 003c0028 616263 ce";
 
 #[test]
 fn frames_are_sent_when_their_last_byte_is_taken(rt: HostRuntime) -> Outcome<()> {

@@ -2,7 +2,9 @@
 
 use crate::support::*;
 use amqp_frame::RawKind;
-use amqp_session::{Answer, ChanRef, ChannelState, ConnectionState, IoFault, Misread, Session};
+use amqp_session::{
+    Answer, ChanRef, ChannelState, Cmd, ConnectionState, IoFault, Misread, Session,
+};
 use std::alloc::Global;
 use std::process::Abort;
 
@@ -62,6 +64,13 @@ pub enum Line {
     Publish(ChanRef, usize, u64),
     /// Publishes so many octets of properties, and no body; the promise.
     PublishLong(ChanRef, usize, u64),
+
+    /// Tells the server to start or to stop sending content on a channel; the promise.
+    Flow(ChanRef, bool, u64),
+    /// Lets a channel go.
+    DropChannel(ChanRef),
+    /// Lets the connection go.
+    DropConnection,
 
     /// The connection stands so.
     IsIn(ConnectionState),
@@ -150,9 +159,21 @@ fn holds(alloc: Global, session: &mut Session, line: Line) -> Outcome<bool> {
         Line::Advance(at) => session.advance(at),
         Line::Take(n) => take(session, n),
         Line::SendAll => send_all(session),
-        _ => return obeys(alloc, session, line),
+        _ => return lets_go(alloc, session, line),
     }
     Ok(true)
+}
+
+// Whether what is let go takes no promise, or another line holds.
+fn lets_go(alloc: Global, session: &mut Session, line: Line) -> Outcome<bool> {
+    let command = match line {
+        Line::DropChannel(channel) => Cmd::DropChannel(channel),
+        Line::DropConnection => Cmd::DropConnection,
+        _ => return obeys(alloc, session, line),
+    };
+    let before = session.promises();
+    let promise = session.command(command)?;
+    Ok(promise.is_none() && session.promises() == before)
 }
 
 // Whether a command makes its promise, or another line holds.
@@ -162,6 +183,7 @@ fn obeys(alloc: Global, session: &mut Session, line: Line) -> Outcome<bool> {
         Line::OpenChannels(count, last) => (open_channels(session, count), last),
         Line::CloseChannel(channel, promise) => (close_channel(alloc, session, channel)?, promise),
         Line::Close(promise) => (close(alloc, session)?, promise),
+        Line::Flow(channel, active, promise) => (flow(session, channel, active), promise),
         Line::Send(channel, args, promise) => (send(alloc, session, channel, args)?, promise),
         Line::SendLong(channel, len, promise) => {
             (send_long(alloc, session, channel, len)?, promise)

@@ -162,6 +162,11 @@ pub fn close_channel(
     Ok(tell(session, Cmd::CloseChannel(channel, 200, text)))
 }
 
+/// Tells the server to start or to stop sending content on a channel, and gives the promise.
+pub fn flow(session: &mut Session, channel: ChanRef, active: bool) -> Option<u64> {
+    tell(session, Cmd::Flow(channel, active))
+}
+
 /// Tells our close of the connection, and gives its promise.
 pub fn close(alloc: Global, session: &mut Session) -> Outcome<Option<u64>> {
     let text = ShortString::new(alloc, b"OK")?;
@@ -232,6 +237,24 @@ pub const NUMBER_2: ChanRef = ChanRef {
 };
 
 // ---- what is written
+
+/// The method of class 60 and number 40 for the routing key `hello`, on channel 1.
+pub const METHOD_HELLO: &str = "01 0001 0000000e 003c0028 0000 00 0568656c6c6f 00 ce";
+
+/// The same on channel 2.
+pub const METHOD_HELLO_ON_2: &str = "01 0002 0000000e 003c0028 0000 00 0568656c6c6f 00 ce";
+
+/// The method of class 60 and number 40 with the arguments `abc`, on channel 1.
+pub const METHOD_ABC: &str = "01 0001 00000007 003c0028 616263 ce";
+
+/// The content header of an empty body, without a property, on channel 1.
+pub const HEADER_0: &str = "02 0001 0000000e 003c 0000 0000000000000000 0000 ce";
+
+/// The same on channel 2.
+pub const HEADER_0_ON_2: &str = "02 0002 0000000e 003c 0000 0000000000000000 0000 ce";
+
+/// The content header of a body of 5 octets.
+pub const HEADER_5: &str = "02 0001 0000000e 003c 0000 0000000000000005 0000 ce";
 
 // Whether a frame is spelled by these octets.
 fn is_spelled(alloc: Global, frame: &Frame, octets: &[u8]) -> Outcome<bool> {

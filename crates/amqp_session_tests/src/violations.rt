@@ -3,8 +3,8 @@
 use crate::support::*;
 use amqp_session::{Misread, Session};
 use amqp_vectors::{
-    BLOCKED, CHANNEL_CLOSE_OK_1, CHANNEL_FLOW_ON_1, CHANNEL_OPEN_OK_0, CHANNEL_OPEN_OK_1, CLOSE_OK,
-    OPEN_OK, START,
+    CHANNEL_CLOSE_OK_1, CHANNEL_OPEN_OK_0, CHANNEL_OPEN_OK_1, CLOSE_OK, OPEN_OK, SECRET_OK, SECURE,
+    START,
 };
 use std::alloc::Global;
 use std::process::Abort;
@@ -137,15 +137,15 @@ const UNAWAITED: &[Row] = &[
 
 const NOT_BUILT: &[Row] = &[
     Row {
-        name: "blocked",
+        name: "secure",
         at: At::Connected,
-        what: What::Frame(BLOCKED),
+        what: What::Frame(SECURE),
         end: "not built: frame at byte 138",
     },
     Row {
-        name: "flow",
-        at: At::WithChannel,
-        what: What::Frame(CHANNEL_FLOW_ON_1),
+        name: "update-secret-ok",
+        at: At::Connected,
+        what: What::Frame(SECRET_OK),
         end: "not built: frame at byte 138",
     },
 ];

@@ -71,7 +71,7 @@ impl Wire {
             (λ r. r.answer ≡ Wrote.Failed → Rose (P.faults port.old) (P.faults port.new)) }
         ensures faults { P.faults port.old ≤ P.faults port.new }
     {
-        if !self.session.is_open() {
+        if !self.session.is_open() || self.session.blocked() {
             return None;
         }
         self.commit_all();

@@ -3,6 +3,7 @@
 ghost use Rattle.std.specs.Prelude.{◌≡◌, ◌≢◌, ℕ, Option, OnOk, OnErr};
 ghost use Rattle.amqp_outbox.specs.declared.scope.Scope.TheVariants.{All};
 ghost use Rattle.amqp_outbox.specs.declared.reply.Reply.{Reply};
+ghost use Rattle.amqp_outbox.specs.Listed.{Ascends};
 ghost use Rattle.amqp_outbox.specs.Queued.{nothing, only, unbegun_promise, without_unbegun, dropped, without_channel, group_promise, without_group, frame_promise, without_frame, reply_promise, without_reply, without_any};
 ghost use Rattle.amqp_outbox.specs.Parts.{queued, HasControlPlaces, HasReplyPlace};
 
@@ -22,6 +23,7 @@ impl Outbox {
         ensures control { (k : Option ℕ) (n octets : ℕ) → HasControlPlaces k n octets self.old
             → HasControlPlaces k n octets self.new }
         ensures reply { scope ≢ All → (c : ℕ) (r : Reply) → HasReplyPlace c r self.old → HasReplyPlace c r self.new }
+        ensures ordered { scope ≡ All → Ascends (queued self.old).awaited }
     {
         match scope {
             Scope::Unbegun => self.drop_group(channel),
@@ -68,9 +70,12 @@ impl Outbox {
         Some(item.promise)
     }
 
-    fn drop_reply(&mut self, channel: ChannelId) -> Option<Option<u64>>
+    /// Takes out the first reply that is awaited on a channel, and gives its promise. `None` where none
+    /// is.
+    pub fn drop_reply(&mut self, channel: ChannelId) -> Option<Option<u64>>
         ensures promise { result ≡ reply_promise channel (queued self.old) }
         ensures rest { queued self.new ≡ without_reply channel (queued self.old) }
+        ensures ordered { Ascends (queued self.old).awaited }
         ensures control { (k : Option ℕ) (n octets : ℕ) → HasControlPlaces k n octets self.old
             → HasControlPlaces k n octets self.new }
     {
@@ -81,9 +86,12 @@ impl Outbox {
     fn drop_any(&mut self, channel: ChannelId) -> Option<Option<u64>>
         ensures promise { result ≡ dropped channel All (queued self.old) }
         ensures rest { queued self.new ≡ without_any channel (queued self.old) }
+        ensures ordered { Ascends (queued self.old).awaited }
         ensures control { (k : Option ℕ) (n octets : ℕ) → HasControlPlaces k n octets self.old
             → HasControlPlaces k n octets self.new }
     {
+        // Its clause tells that the channels ascend.
+        let _ = self.awaiting.channels();
         if let Some(promise) = self.drop_group(channel) {
             return Some(promise);
         }

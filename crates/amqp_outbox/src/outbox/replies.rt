@@ -1,6 +1,6 @@
 //! The awaited replies.
 
-ghost use Rattle.std.specs.Prelude.{◌≡◌, ℕ, List, Option, IfNone, OnOk, OnErr};
+ghost use Rattle.std.specs.Prelude.{◌≡◌, ℕ, List, Option, IfNone, OnOk, OnErr, is_some};
 ghost use Rattle.amqp_outbox.specs.declared.item.Item.{Item};
 ghost use Rattle.amqp_outbox.specs.Queued.{expected, awaited_promise, answered};
 ghost use Rattle.amqp_outbox.specs.Parts.{queued, HasControlPlaces, HasGroupPlace, HasReplyPlace};
@@ -56,5 +56,12 @@ impl Outbox {
     {
         let awaited = self.awaiting.answered(channel, reply)?;
         Some(awaited.promise)
+    }
+
+    /// Whether this reply is awaited on a channel.
+    pub fn awaits(&self, channel: ChannelId, reply: Reply) -> bool
+        ensures { result ≡ is_some (awaited_promise channel reply (queued self.now)) }
+    {
+        self.awaiting.awaits(channel, reply)
     }
 }

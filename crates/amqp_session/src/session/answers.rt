@@ -40,6 +40,7 @@ impl Session {
             Some(Slot::Waiting) => self.rejection(),
             Some(Slot::Answered(Ok(answer))) => Ok(Some(Ok(*answer))),
             Some(Slot::Answered(Err(error))) => Ok(Some(Err(error.try_clone(self.alloc)?))),
+            Some(Slot::Shared(number)) => self.promises.shared(self.alloc, *number),
             Some(Slot::Place) | None => Ok(None),
         }
     }

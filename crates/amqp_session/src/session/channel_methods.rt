@@ -4,18 +4,22 @@ ghost use Rattle.std.specs.Prelude.{◌≡◌, Some, IfSome, IsOk, IsTrue, OnOk,
 ghost use Rattle.amqp_session.specs.Talk.{is_open};
 ghost use Rattle.amqp_session.specs.Memory.{MakesNothing};
 ghost use Rattle.amqp_session.specs.Channels.{channel_at};
-ghost use Rattle.amqp_session.specs.ChannelMethods.{heard_on, unawaited_channel_method, on_channel_open_ok, on_channel_close_ok, channel_rule, channel_method, is_select_ok, pass_through, raw_frame};
+ghost use Rattle.amqp_session.specs.Violations.{channel_closed_with};
+ghost use Rattle.amqp_session.specs.ChannelMethods.{heard_on, unawaited_channel_method, on_channel_open_ok, on_channel_close_ok, on_channel_close, closed_by_server, crossing_close, on_channel_flow, on_channel_flow_ok, channel_rule, channel_method, is_select_ok, pass_through, raw_frame};
 
 use super::Session;
-use crate::channels::Channel;
+use super::dropping::{drop_channel_of, drop_replies_of};
+use super::places::reserve_item;
+use crate::channels::{Channel, Debt};
 use crate::command::Answer;
 use crate::error::ErrorKind;
 use crate::handed::Handed;
+use crate::handshake::{channel_close_ok, flow_ok};
 use crate::state::{ChannelState, ConnectionState};
-use crate::violations::unawaited;
+use crate::violations::{channel_closed_with, unawaited};
 use amqp_frame::{Method, RawKind};
-use amqp_outbox::Reply;
-use amqp_types::{ChannelId, NoMemory, Payload};
+use amqp_outbox::{Item, Reply};
+use amqp_types::{ChannelId, NoMemory, Payload, ReplyCode, ShortString};
 
 impl Session {
     // The listed channel that a frame comes on.
@@ -65,6 +69,11 @@ impl Session {
         match method {
             Method::ChannelOpenOk => self.on_channel_open_ok(id, channel),
             Method::ChannelCloseOk => self.on_channel_close_ok(id, channel),
+            Method::ChannelClose(code, text, _, _) => self.on_channel_close(
+                id, channel, *code, text,
+            ),
+            Method::ChannelFlow(active) => self.on_channel_flow(id, channel, *active),
+            Method::ChannelFlowOk(active) => self.on_channel_flow_ok(id, channel, *active),
             _ => self.unawaited_channel_method(id, channel.state, method),
         }
     }
@@ -117,8 +126,122 @@ impl Session {
         let Some(promise) = self.outbox.answer(id, Reply::ChannelClosed) else {
             return self.unawaited_channel_method(id, channel.state, &Method::ChannelCloseOk);
         };
-        self.channels.remove(id);
         self.give_to(promise, Answer::Done);
+        drop_replies_of(&mut self.outbox, &mut self.promises, id);
+        if channel.debt != Debt::Owed {
+            self.channels.remove(id);
+        }
+        Ok(())
+    }
+
+    // The server's close of a channel, which is answered once.
+    fn on_channel_close(
+        &mut self,
+        id: ChannelId,
+        channel: Channel,
+        code: ReplyCode,
+        text: &ShortString,
+    ) -> Result<(), NoMemory>
+        requires listed { channel_at id self.old ≡ Some channel }
+        ensures ok { OnOk result (self.new ≡ on_channel_close id code text.now channel self.old) }
+        ensures err { OnErr result (self.new ≡ self.old) }
+        ensures idle { MakesNothing self.old (on_channel_close id code text.now channel self.old) → IsOk result }
+    {
+        match (channel.debt, self.outbox.awaits(id, Reply::ChannelClosed)) {
+            (Debt::Nothing, false) => self.close_by_server(id, channel, code, text),
+            (Debt::Nothing, true) => self.crossing_close(id, channel),
+            _ => Ok(()),
+        }
+    }
+
+    // The server closes a channel that we closed.
+    fn crossing_close(&mut self, id: ChannelId, channel: Channel) -> Result<(), NoMemory>
+        requires { channel_at id self.old ≡ Some channel }
+        ensures ok { OnOk result (self.new ≡ crossing_close id channel self.old) }
+        ensures err { OnErr result (self.new ≡ self.old) }
+    {
+        self.queue(id, channel_close_ok(id))?;
+        let owing = Channel {
+            debt: Debt::Owed,
+            ..channel
+        };
+        self.channels.set(id, owing);
+        Ok(())
+    }
+
+    // The server closes a channel that we use.
+    fn close_by_server(
+        &mut self,
+        id: ChannelId,
+        channel: Channel,
+        code: ReplyCode,
+        text: &ShortString,
+    ) -> Result<(), NoMemory>
+        requires { channel_at id self.old ≡ Some channel }
+        ensures ok { OnOk result (self.new
+            ≡ closed_by_server id (channel_closed_with code text.now) channel self.old) }
+        ensures err { OnErr result (self.new ≡ self.old) }
+        ensures idle { channel.debt ≡ Debt.Nothing
+            → MakesNothing self.old (closed_by_server id (channel_closed_with code text.now) channel self.old)
+            → IsOk result }
+    {
+        let kind = channel_closed_with(self.alloc, code, text)?;
+        let why = self.promises.why(kind)?;
+        let item = Item::plain(id, channel_close_ok(id));
+        if let Err(refused) = reserve_item(&mut self.outbox, &mut self.committed, &item) {
+            drop(item);
+            self.promises.let_go(why);
+            return Err(refused);
+        }
+        let owing = Channel {
+            debt: Debt::Owed,
+            ..channel.closing()
+        };
+        self.channels.set(id, owing);
+        drop_channel_of(&mut self.outbox, &mut self.promises, id, &why);
+        self.promises.let_go(why);
+        self.outbox.push_control_reserved(item);
+        Ok(())
+    }
+
+    fn on_channel_flow(
+        &mut self,
+        id: ChannelId,
+        channel: Channel,
+        active: bool,
+    ) -> Result<(), NoMemory>
+        requires listed { channel_at id self.old ≡ Some channel }
+        ensures ok { OnOk result (self.new ≡ on_channel_flow channel.state id channel active self.old) }
+        ensures err { OnErr result (self.new ≡ self.old) }
+        ensures idle { MakesNothing self.old (on_channel_flow channel.state id channel active self.old) → IsOk result }
+    {
+        if channel.state == ChannelState::Closing {
+            return Ok(());
+        }
+        self.queue(id, flow_ok(id, active))?;
+        let flowing = Channel {
+            flow: active,
+            ..channel
+        };
+        self.channels.set(id, flowing);
+        Ok(())
+    }
+
+    fn on_channel_flow_ok(
+        &mut self,
+        id: ChannelId,
+        channel: Channel,
+        active: bool,
+    ) -> Result<(), NoMemory>
+        requires { IsTrue (is_open self.old) }
+        ensures ok { OnOk result (self.new ≡ on_channel_flow_ok id channel active self.old) }
+        ensures err { OnErr result (self.new ≡ self.old) }
+        ensures idle { MakesNothing self.old (on_channel_flow_ok id channel active self.old) → IsOk result }
+    {
+        let Some(promise) = self.outbox.answer(id, Reply::FlowDone) else {
+            return self.unawaited_channel_method(id, channel.state, &Method::ChannelFlowOk(active));
+        };
+        self.give_to(promise, Answer::Flow(active));
         Ok(())
     }
 

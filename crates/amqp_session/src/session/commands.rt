@@ -1,13 +1,13 @@
 //! The commands.
 
-ghost use Rattle.std.specs.Prelude.{◌≡◌, ◌<◌, ◌≤◌, ◌∷◌, length, map, Some, IfOk, IfErr, IfSome, IfNone, OnOk, OnErr};
+ghost use Rattle.std.specs.Prelude.{◌≡◌, ◌<◌, ◌≤◌, ◌∷◌, length, map, Some, Ok, IfOk, IfErr, IfSome, IfNone, IsTrue, OnOk, OnErr};
 ghost use Rattle.amqp_frame.specs.Frames.{encoding};
 ghost use Rattle.amqp_frame.specs.Lengths.{capped};
 ghost use Rattle.amqp_types.specs.declared.word.Word.TheVariants as word;
 ghost use Rattle.amqp_session.specs.Channels.{channel_at};
-ghost use Rattle.amqp_session.specs.Changes.{next_promise, refuse};
+ghost use Rattle.amqp_session.specs.Changes.{refuse};
 ghost use Rattle.amqp_session.specs.Publishing.{body_pieces};
-ghost use Rattle.amqp_session.specs.Commands.{open_channel, open_as, named, target, close_channel, close_target, queue_send, send, send_target, body_limit, queue_publish, publish, publish_target, close_connection, command};
+ghost use Rattle.amqp_session.specs.Commands.{open_channel, open_as, named, target, close_channel, close_target, queue_send, send, send_target, body_limit, queue_publish, publish, publish_target, tell_flow, flow_target, close_connection, drop_target, takes_promise, promise_of, command};
 
 use super::Session;
 use super::dropping::{drop_groups, drop_groups_of};
@@ -15,7 +15,7 @@ use super::places::{ask, reserve_group, reserve_promised, reserve_reply};
 use crate::channels::Channel;
 use crate::command::{ChanRef, Cmd};
 use crate::error::{self, ErrorKind};
-use crate::handshake::{channel_open, our_channel_close, our_close};
+use crate::handshake::{channel_flow, channel_open, ok_text, our_channel_close, our_close};
 use crate::properties::Properties;
 use crate::publishing::{content_header, publish_frames};
 use crate::state::{ChannelState, ConnectionState};
@@ -24,19 +24,34 @@ use amqp_outbox::{Awaited, Group, Item, Reply};
 use amqp_types::{ChannelId, NoMemory, Payload, ReplyCode, ShortString, Word};
 
 impl Session {
-    /// Does what it is told or refuses it, and gives the number of the promise that will be answered.
+    /// Does what it is told or refuses it, and gives the number of the promise that will be answered,
+    /// where the command takes one.
     pub fn command(&mut self, cmd: Cmd) -> error::Result<Option<u64>>
         ensures ok { OnOk result (self.new ≡ command cmd self.old) }
-        ensures number { IfOk result (λ number. number ≡ Some (next_promise self.old)) }
+        ensures number { IfOk result (λ number. number ≡ promise_of cmd self.old) }
         ensures err { OnErr result (self.new ≡ self.old) }
         ensures only { IfErr result (λ e. e ≡ ErrorKind.NoMemory) }
     {
-        let number = self.promises();
-        self.obey(cmd)?;
-        Ok(Some(number))
+        match cmd {
+            Cmd::DropChannel(channel) => {
+                self.drop_named(channel)?;
+                Ok(None)
+            }
+            Cmd::DropConnection => {
+                self.drop_connection()?;
+                Ok(None)
+            }
+            cmd => {
+                let number = self.promises();
+                self.obey(cmd)?;
+                Ok(Some(number))
+            }
+        }
     }
 
+    // A command that takes a promise.
     fn obey(&mut self, cmd: Cmd) -> Result<(), NoMemory>
+        requires { IsTrue (takes_promise cmd) }
         ensures ok { OnOk result (self.new ≡ command cmd self.old) }
         ensures err { OnErr result (self.new ≡ self.old) }
     {
@@ -52,7 +67,60 @@ impl Session {
             Cmd::Publish(channel, method, properties, body) => {
                 self.publish_named(channel, method, properties, body)
             }
+            Cmd::Flow(channel, active) => self.flow_named(channel, active),
+            Cmd::DropChannel(_) | Cmd::DropConnection => unreachable!(),
         }
+    }
+
+    // A channel is let go: where it is open, it is closed.
+    fn drop_named(&mut self, channel: ChanRef) -> Result<(), NoMemory>
+        ensures ok { OnOk result (self.new ≡ command (Cmd.DropChannel channel) self.old) }
+        ensures err { OnErr result (self.new ≡ self.old) }
+    {
+        if self.state != ConnectionState::Connected {
+            return Ok(());
+        }
+        match self.target(channel, Word::ChannelClose) {
+            Ok(listed) => self.drop_channel(channel.id, listed),
+            Err(_) => Ok(()),
+        }
+    }
+
+    // The connection is let go: where it is open, it is closed.
+    fn drop_connection(&mut self) -> Result<(), NoMemory>
+        ensures ok { OnOk result (self.new ≡ command Cmd.DropConnection self.old) }
+        ensures err { OnErr result (self.new ≡ self.old) }
+    {
+        if self.state != ConnectionState::Connected {
+            return Ok(());
+        }
+        let awaited = Awaited {
+            reply: Reply::ConnectionClosed,
+            promise: None,
+        };
+        let close = Item::plain(0, our_close(200, ok_text(self.alloc)?));
+        ask(&mut self.outbox, &mut self.committed, close, awaited)?;
+        self.channels.close_all();
+        self.state = ConnectionState::Closing;
+        drop_groups(&mut self.outbox, &mut self.promises);
+        Ok(())
+    }
+
+    // An open channel is let go.
+    fn drop_channel(&mut self, id: ChannelId, channel: Channel) -> Result<(), NoMemory>
+        requires { channel_at id self.old ≡ Some channel }
+        ensures ok { OnOk result (self.new ≡ drop_target (Ok channel) id self.old) }
+        ensures err { OnErr result (self.new ≡ self.old) }
+    {
+        let awaited = Awaited {
+            reply: Reply::ChannelClosed,
+            promise: None,
+        };
+        let close = Item::plain(id, our_channel_close(id, 200, ok_text(self.alloc)?));
+        ask(&mut self.outbox, &mut self.committed, close, awaited)?;
+        self.channels.set(id, channel.closing());
+        drop_groups_of(&mut self.outbox, &mut self.promises, id);
+        Ok(())
     }
 
     fn refuse(&mut self, kind: ErrorKind) -> Result<(), NoMemory>
@@ -96,10 +164,13 @@ impl Session {
         ensures err { OnErr result (self.new ≡ self.old) }
     {
         let item = Item::plain(id, channel_open(id));
+        if let Err(refused) = self.promises.reserve() {
+            drop(item);
+            return Err(refused);
+        }
         if let Err(refused) = reserve_reply(
             &mut self.outbox,
             &mut self.committed,
-            &mut self.promises,
             &item,
             Reply::ChannelOpened,
         ) {
@@ -164,19 +235,14 @@ impl Session {
         ensures ok { OnOk result (self.new ≡ close_channel id code text channel self.old) }
         ensures err { OnErr result (self.new ≡ self.old) }
     {
+        if let Err(refused) = self.promises.reserve() {
+            drop(text);
+            return Err(refused);
+        }
+        let awaited = Awaited::by(Reply::ChannelClosed, self.promises.made());
         let close = Item::plain(id, our_channel_close(id, code, text));
-        ask(
-            &mut self.outbox,
-            &mut self.committed,
-            &mut self.promises,
-            close,
-            Reply::ChannelClosed,
-        )?;
-        let closing = Channel {
-            state: ChannelState::Closing,
-            ..channel
-        };
-        self.channels.set(id, closing);
+        ask(&mut self.outbox, &mut self.committed, close, awaited)?;
+        self.channels.set(id, channel.closing());
         drop_groups_of(&mut self.outbox, &mut self.promises, id);
         self.promises.promise_reserved();
         Ok(())
@@ -329,19 +395,42 @@ impl Session {
         self.frame_limit() as usize - 8
     }
 
+    fn flow_named(&mut self, channel: ChanRef, active: bool) -> Result<(), NoMemory>
+        ensures ok { OnOk result (self.new ≡
+            flow_target (target channel word.ChannelFlow self.old) channel.id active self.old) }
+        ensures err { OnErr result (self.new ≡ self.old) }
+    {
+        match self.target(channel, Word::ChannelFlow) {
+            Ok(_) => self.tell_flow(channel.id, active),
+            Err(kind) => self.refuse(kind),
+        }
+    }
+
+    // The server is told to start or to stop sending content on a channel.
+    fn tell_flow(&mut self, id: ChannelId, active: bool) -> Result<(), NoMemory>
+        ensures ok { OnOk result (self.new ≡ tell_flow id active self.old) }
+        ensures err { OnErr result (self.new ≡ self.old) }
+    {
+        self.promises.reserve()?;
+        let awaited = Awaited::by(Reply::FlowDone, self.promises.made());
+        let flow = Item::plain(id, channel_flow(id, active));
+        ask(&mut self.outbox, &mut self.committed, flow, awaited)?;
+        self.promises.promise_reserved();
+        Ok(())
+    }
+
     fn close_connection(&mut self, code: ReplyCode, text: ShortString) -> Result<(), NoMemory>
         requires { self.old.state ≡ ConnectionState.Connected }
         ensures ok { OnOk result (self.new ≡ close_connection code text self.old) }
         ensures err { OnErr result (self.new ≡ self.old) }
     {
+        if let Err(refused) = self.promises.reserve() {
+            drop(text);
+            return Err(refused);
+        }
+        let awaited = Awaited::by(Reply::ConnectionClosed, self.promises.made());
         let close = Item::plain(0, our_close(code, text));
-        ask(
-            &mut self.outbox,
-            &mut self.committed,
-            &mut self.promises,
-            close,
-            Reply::ConnectionClosed,
-        )?;
+        ask(&mut self.outbox, &mut self.committed, close, awaited)?;
         self.channels.close_all();
         self.state = ConnectionState::Closing;
         drop_groups(&mut self.outbox, &mut self.promises);

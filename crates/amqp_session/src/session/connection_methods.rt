@@ -19,7 +19,7 @@ use crate::state::Phase::{AwaitOpenOk, AwaitStart, AwaitTune};
 use crate::violations::closed_with;
 use amqp_frame::{Frame, Method};
 use amqp_outbox::{Item, Reply};
-use amqp_types::{NoMemory, ReplyCode, ShortString};
+use amqp_types::{ChannelId, NoMemory, ReplyCode, ShortString};
 
 impl Session {
     pub(super) fn connection_method(&mut self, method: Method) -> Result<(), NoMemory>
@@ -31,6 +31,15 @@ impl Session {
     {
         match (self.state, self.phase, method) {
             (_, _, Method::Close(code, text, _, _)) => self.on_connection_close(code, text),
+            (_, _, Method::Blocked(reason)) => {
+                drop(reason);
+                self.blocked = true;
+                Ok(())
+            }
+            (_, _, Method::Unblocked) => {
+                self.blocked = false;
+                Ok(())
+            }
             (Closing, _, Method::CloseOk) => {
                 self.on_connection_close_ok();
                 Ok(())
@@ -56,12 +65,12 @@ impl Session {
         }
     }
 
-    // A frame of channel 0 goes last in the control lane.
-    fn queue(&mut self, frame: Frame) -> Result<(), NoMemory>
-        ensures ok { OnOk result (self.new ≡ queue 0 frame self.old) }
+    // A frame of a channel, which answers no promise, goes last in the control lane.
+    pub(super) fn queue(&mut self, id: ChannelId, frame: Frame) -> Result<(), NoMemory>
+        ensures ok { OnOk result (self.new ≡ queue id frame self.old) }
         ensures err { OnErr result (self.new ≡ self.old) }
     {
-        let item = Item::plain(0, frame);
+        let item = Item::plain(id, frame);
         if let Err(refused) = reserve_item(&mut self.outbox, &mut self.committed, &item) {
             drop(item);
             return Err(refused);
@@ -75,7 +84,7 @@ impl Session {
         ensures err { OnErr result (self.new ≡ self.old) }
     {
         let frame = start_ok(self.alloc)?;
-        self.queue(frame)?;
+        self.queue(0, frame)?;
         self.phase = AwaitTune;
         Ok(())
     }

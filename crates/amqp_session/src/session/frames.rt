@@ -1,11 +1,11 @@
 //! The frames that are read.
 
-ghost use Rattle.std.specs.Prelude.{◌≡◌, IsTrue, IsOk, IfErr, OnOk, OnErr};
-ghost use Rattle.amqp_session.specs.Talk.{is_open, acts};
+ghost use Rattle.std.specs.Prelude.{◌≡◌, if◌then◌else◌, IsTrue, IsOk, IfErr, OnOk, OnErr};
+ghost use Rattle.amqp_session.specs.Talk.{is_open, acts, hears_on};
 ghost use Rattle.amqp_session.specs.Changes.{present_at, starve, misplaced};
 ghost use Rattle.amqp_session.specs.Memory.{MakesNothing};
 ghost use Rattle.amqp_session.specs.Violations.{stray_connection_method, stray_channel_frame};
-ghost use Rattle.amqp_session.specs.Frames.{is_unbuilt, is_of_a_channel, method_rule, frame_rule, on_frame};
+ghost use Rattle.amqp_session.specs.Frames.{closed_rule, is_unbuilt, is_of_a_channel, method_rule, frame_rule, on_frame};
 
 use super::Session;
 use crate::error::{self, ErrorKind};
@@ -24,12 +24,27 @@ impl Session {
     {
         self.advance(at);
         if !self.acts() {
+            self.react_closed(&frame);
             drop(frame);
             return Ok(());
         }
         match self.react(frame, place) {
             Ok(()) => Ok(()),
             Err(refused) => Err(self.starved(refused)),
+        }
+    }
+
+    // After the server's close only blocked and unblocked act.
+    fn react_closed(&mut self, frame: &Frame)
+        ensures { self.new ≡ (if hears_on self.old then closed_rule frame.now self.old else self.old) }
+    {
+        if !self.hears_on() {
+            return;
+        }
+        match frame {
+            Frame::Method(0, Method::Blocked(_)) => self.blocked = true,
+            Frame::Method(0, Method::Unblocked) => self.blocked = false,
+            _ => {}
         }
     }
 
@@ -122,16 +137,7 @@ impl Session {
 fn is_unbuilt(method: &Method) -> bool
     ensures { result ≡ is_unbuilt method.now }
 {
-    matches!(
-        method,
-        Method::Secure(_)
-            | Method::Blocked(_)
-            | Method::Unblocked
-            | Method::UpdateSecretOk
-            | Method::ChannelFlow(_)
-            | Method::ChannelFlowOk(_)
-            | Method::ChannelClose(..)
-    )
+    matches!(method, Method::Secure(_) | Method::UpdateSecretOk)
 }
 
 // The methods of the channel class.

@@ -56,6 +56,7 @@ impl Session {
         self.phase = Phase::AwaitStart;
         self.link = Link::Open;
         self.input = Input::Acting;
+        self.blocked = false;
         self.last_read = self.present;
         self.last_write = self.present;
         Ok(())

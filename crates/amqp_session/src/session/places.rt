@@ -3,11 +3,10 @@
 ghost use Rattle.std.specs.Prelude.{◌≡◌, ◌+◌, ◌<◌, ◌≤◌, ◌^◌, Some, IfOk, IsSome, length, OnOk, OnErr};
 ghost use Rattle.std.specs.VecDeque.{deque_capacity};
 ghost use Rattle.amqp_outbox.specs.Items.{dropped_with, size_of};
-ghost use Rattle.amqp_outbox.specs.Order.{seen};
 ghost use Rattle.amqp_outbox.specs.Parts.{queued, HasControlPlaces, HasGroupPlace, HasReplyPlace};
 ghost use Rattle.amqp_outbox.specs.Queued.{waiting_items, pushed_control, expected};
 ghost use Rattle.amqp_session.specs.Listed.{at};
-ghost use Rattle.amqp_session.specs.Parts.{slot_seen};
+ghost use Rattle.amqp_session.specs.Parts.{promised};
 
 use crate::committed::Committed;
 use crate::promises::Promises;
@@ -87,7 +86,7 @@ pub fn reserve_promised(
         (length committed.old.marks.items + (length (waiting_items (queued outbox.old)) + 1)
         ≤ deque_capacity committed.new.marks) }
     ensures made { promises.new.made ≡ promises.old.made }
-    ensures slots { seen slot_seen promises.new.slots.entries ≡ seen slot_seen promises.old.slots.entries }
+    ensures slots { promised promises.new ≡ promised promises.old }
     ensures place { OnOk result (IsSome (at promises.new.made promises.new.slots.entries)) }
     ensures count { OnOk result (promises.new.made + 1 < 2 ^ 64) }
 {
@@ -95,12 +94,10 @@ pub fn reserve_promised(
     promises.reserve()
 }
 
-/// Makes places for this frame, for a promise more, and for one more that awaits this reply on the
-/// frame's channel.
+/// Makes places for this frame, and for one more that awaits this reply on the frame's channel.
 pub fn reserve_reply(
     outbox: &mut Outbox,
     committed: &mut Committed,
-    promises: &mut Promises,
     item: &Item,
     reply: Reply,
 ) -> Result<(), NoMemory>
@@ -112,46 +109,34 @@ pub fn reserve_reply(
     ensures places { OnOk result
         (length committed.old.marks.items + (length (waiting_items (queued outbox.old)) + 1)
         ≤ deque_capacity committed.new.marks) }
-    ensures made { promises.new.made ≡ promises.old.made }
-    ensures slots { seen slot_seen promises.new.slots.entries ≡ seen slot_seen promises.old.slots.entries }
-    ensures place { OnOk result (IsSome (at promises.new.made promises.new.slots.entries)) }
-    ensures count { OnOk result (promises.new.made + 1 < 2 ^ 64) }
 {
-    reserve_promised(outbox, committed, promises, item)?;
+    reserve_item(outbox, committed, item)?;
     outbox.reserve_reply(item.channel, reply)
 }
 
-/// A frame goes last in the control lane, and this reply to it is awaited for the promise that is made
-/// next, which has its place.
+/// A frame goes last in the control lane, and a reply to it is awaited on its channel.
 pub fn ask(
     outbox: &mut Outbox,
     committed: &mut Committed,
-    promises: &mut Promises,
     item: Item,
-    reply: Reply,
+    awaited: Awaited,
 ) -> Result<(), NoMemory>
     ensures said { OnOk result (queued outbox.new
-        ≡ expected item.channel (record { reply = reply; promise = Some promises.old.made })
-        (pushed_control item (queued outbox.old))) }
+        ≡ expected item.channel awaited (pushed_control item (queued outbox.old))) }
     ensures same { OnErr result (queued outbox.new ≡ queued outbox.old) }
     ensures marks { committed.new.marks.items ≡ committed.old.marks.items }
     ensures kept { deque_capacity committed.old.marks ≤ deque_capacity committed.new.marks }
     ensures places { OnOk result
         (length committed.old.marks.items + (length (waiting_items (queued outbox.old)) + 1)
         ≤ deque_capacity committed.new.marks) }
-    ensures made { promises.new.made ≡ promises.old.made }
-    ensures slots { seen slot_seen promises.new.slots.entries ≡ seen slot_seen promises.old.slots.entries }
-    ensures place { OnOk result (IsSome (at promises.new.made promises.new.slots.entries)) }
-    ensures count { OnOk result (promises.new.made + 1 < 2 ^ 64) }
 {
-    if let Err(refused) = reserve_reply(outbox, committed, promises, &item, reply) {
+    if let Err(refused) = reserve_reply(outbox, committed, &item, awaited.reply) {
         drop(item);
         return Err(refused);
     }
     let channel = item.channel;
-    let number = promises.made();
     outbox.push_control_reserved(item);
-    outbox.expect_reserved(channel, Awaited::by(reply, number));
+    outbox.expect_reserved(channel, awaited);
     Ok(())
 }
 
@@ -170,7 +155,7 @@ pub fn reserve_group(
         (length committed.old.marks.items + (length (waiting_items (queued outbox.old)) + length group.now)
         ≤ deque_capacity committed.new.marks) }
     ensures made { promises.new.made ≡ promises.old.made }
-    ensures slots { seen slot_seen promises.new.slots.entries ≡ seen slot_seen promises.old.slots.entries }
+    ensures slots { promised promises.new ≡ promised promises.old }
     ensures place { OnOk result (IsSome (at promises.new.made promises.new.slots.entries)) }
     ensures count { OnOk result (promises.new.made + 1 < 2 ^ 64) }
 {

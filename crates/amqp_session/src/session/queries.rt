@@ -1,10 +1,10 @@
 //! What a session tells of itself.
 
 ghost use Rattle.std.specs.Prelude.{◌≡◌, ◌<◌, ◌≤◌, ◌^◌, IsTrue, length};
-ghost use Rattle.amqp_session.specs.Talk.{wants_link, is_asked, is_open, acts, has_ended, end_of, drops_input};
+ghost use Rattle.amqp_session.specs.Talk.{wants_link, is_asked, is_open, acts, hears_on, has_ended, end_of, drops_input};
 ghost use Rattle.amqp_session.specs.Changes.{next_promise};
 ghost use Rattle.amqp_session.specs.Negotiation.{frame_limit, frame_min_size};
-ghost use Rattle.amqp_session.specs.Writing.{frames_waiting, unsent};
+ghost use Rattle.amqp_session.specs.Writing.{frames_waiting, unsent, writes};
 ghost use Rattle.amqp_session.specs.Answers.{HandsOut};
 ghost use Rattle.amqp_session.specs.Sound.{goes_on, is_agreed};
 ghost use Rattle.amqp_session.specs.Laws.{is_end};
@@ -73,6 +73,27 @@ impl Session {
         ensures { result ≡ drops_input self.now }
     {
         matches!(self.input, Input::Dropped { .. })
+    }
+
+    /// Whether the server wants nothing to be written.
+    pub fn blocked(&self) -> bool
+        ensures { result ≡ self.now.blocked }
+    {
+        self.blocked
+    }
+
+    /// Whether frames may go out: on an open link, while the server does not block.
+    pub fn writes(&self) -> bool
+        ensures { result ≡ writes self.now }
+    {
+        self.is_open() && !self.blocked
+    }
+
+    // Whether frames of the open link are read that come after the server's close.
+    pub(super) fn hears_on(&self) -> bool
+        ensures { result ≡ hears_on self.now }
+    {
+        self.is_open() && matches!(self.input, Input::Closed { .. })
     }
 
     // Whether the frames that come on the open link act.

@@ -3,14 +3,16 @@
 ghost use Rattle.std.specs.Prelude.{◌≡◌, ◌+◌, ◌≤◌, option_map};
 ghost use Rattle.amqp_outbox.specs.declared.item.Item.{Item};
 ghost use Rattle.amqp_session.specs.Changes.{present_at};
-ghost use Rattle.amqp_session.specs.Writing.{next_within, commit, unsent, follow, taken};
+ghost use Rattle.amqp_session.specs.Writing.{next_within, commit, unsent, follow, channel_close_ok_sent, taken};
 ghost use Rattle.amqp_session.specs.Parts.{first_sent, after_sent};
 
 use super::Session;
+use crate::channels::{Channel, Debt};
 use crate::command::Answer;
 use crate::committed::{Mark, Then};
 use amqp_frame::Frame;
-use amqp_outbox::Item;
+use amqp_outbox::{Item, Reply};
+use amqp_types::ChannelId;
 
 impl Session {
     /// Commits the next frame, where it is at most so many bytes long. It takes no memory.
@@ -19,7 +21,7 @@ impl Session {
         ensures frame { result ≡ option_map (λ (item : Item). item.frame) (next_within space self.old) }
         ensures commit { self.new ≡ commit space self.old }
     {
-        if !self.is_open() {
+        if !self.writes() {
             return None;
         }
         // The space is within a capacity, which is small.
@@ -71,7 +73,26 @@ impl Session {
         match then {
             Then::Nothing => {}
             Then::Answer(number) => self.give(number, Answer::Sent),
+            Then::Pays(id) => self.pay(id),
             Then::Finish => self.finish(),
+        }
+    }
+
+    // Our close-ok was sent on a channel.
+    fn pay(&mut self, id: ChannelId)
+        ensures { self.new ≡ channel_close_ok_sent id self.old }
+    {
+        let Some(channel) = self.channels.get(id) else {
+            return;
+        };
+        if self.outbox.awaits(id, Reply::ChannelClosed) {
+            let paid = Channel {
+                debt: Debt::Paid,
+                ..channel
+            };
+            self.channels.set(id, paid);
+        } else {
+            self.channels.remove(id);
         }
     }
 }

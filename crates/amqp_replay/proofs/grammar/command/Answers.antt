@@ -1,7 +1,7 @@
 use Rattle.std.proofs.lemmas.Grind.{common_steps}
 use Rattle.std.proofs.Common.{arith}
 use Rattle.std.specs.Option.{option_copied}
-use Rattle.amqp_replay.proofs.FreeLines.{limited-close_line, limited-shut_line}
+use Rattle.amqp_replay.proofs.FreeLines.{limited-close_line, limited-flow_line, limited-shut_line}
 use Rattle.amqp_replay.proofs.grammar.command.Goals as goal
 
 pub returns-then-is-2 : goal.returns-then-is-2
@@ -11,5 +11,10 @@ returns-then-is-2 c =
 
 pub returns-then-is-5 : goal.returns-then-is-5
 returns-then-is-5 c =
+    let free = limited-flow_line c.args.left (option_copied c.args.rest) in
+    grind (arith, common_steps)
+
+pub returns-then-is-6 : goal.returns-then-is-6
+returns-then-is-6 c =
     let free = limited-shut_line c.args.left (option_copied c.args.rest) in
     grind (arith, common_steps)

@@ -1,4 +1,4 @@
-use Rattle.std.proofs.Common.{◌≡◌, ◌∙◌, true, length, ap, sym, refl, arith}
+use Rattle.std.proofs.Common.{◌≡◌, ◌∙◌, not, true, length, ap, sym, refl, arith}
 use Rattle.amqp_session.specs.Talk.{is_open}
 use Rattle.amqp_engine.specs.Engine.{Engine, commit_all}
 use Rattle.amqp_session.specs.Writing.{frames_waiting}
@@ -13,11 +13,11 @@ returns-then-offered-eq0-clause-none g c =
     ap (λ (x : Engine). length x.unsent) (c.self-2.view_is ∙ c.commit_all.ensures) in
     let empty : length c.self-2.inside.unsent.kept ≡ 0 = omega (arith, c.available_data-offered.ensures) in
     let none : length (commit_all e).unsent ≡ 0 = sym after ∙ empty in
-    (none-unsent (is_open e.talk) (length (commit_all e).unsent) none, c.commit_all.ensures ∙ commits-none (frames_waiting e.talk) e none, refl)
+    (none-unsent (is_open e.talk) (not e.talk.blocked) (length (commit_all e).unsent) none, c.commit_all.ensures ∙ commits-none (frames_waiting e.talk) e none, refl)
 
 pub wrote-requires-clause-open : goal.wrote-requires-clause-open
 wrote-requires-clause-open g c =
     let e = c.args.self.now in
-    let before : is_open e.talk ≡ true = ap (λ (x : Engine). is_open x.talk) (sym c.self.view_is) ∙ sym c.is_open.ensures ∙ c.if-not-is_open.false in
+    let before : is_open e.talk ≡ true = ap (λ (x : Engine). is_open x.talk) (sym c.self.view_is) ∙ sym c.if-not-is_open.ensures in
     ap (λ (x : Engine). is_open x.talk) c.commit_all.ensures
     ∙ commits-keep (λ (x : Engine). is_open x.talk) (λ x fs ms bytes. refl) (frames_waiting e.talk) e ∙ before

@@ -17,7 +17,7 @@ writes-preserved g c =
     let n = c.writes.parts in
     let all : is_all w (length (commit_all e).unsent) ≡ true = sym f.all ∙ from-not-false _ c.if-not-offered.false in
     let lower : waiting c.offer.new.self < waiting e =
-    rw f.engine (waiting-wrote c.args.at w e (some-unsent _ _ f.due) all) in
+    rw f.engine (waiting-wrote c.args.at w e (some-unsent _ _ _ f.due) all) in
     record {
       goes_on = λ cut last log count allows next.
           c.writes.invariant.goes_on cut last log count (Allows-less cut n (n + 1) (omega arith) allows)
@@ -37,7 +37,7 @@ writes-smaller g c =
     let w = c.in-Some.offered.answer in
     let all : is_all w (length (commit_all e).unsent) ≡ true = sym f.all ∙ from-not-false _ c.if-not-offered.false in
     let lower : waiting c.offer.new.self < waiting e =
-    rw f.engine (waiting-wrote c.args.at w e (some-unsent _ _ f.due) all) in
+    rw f.engine (waiting-wrote c.args.at w e (some-unsent _ _ _ f.due) all) in
     lower
 
 pub returns-then-not-offered : goal.returns-then-not-offered

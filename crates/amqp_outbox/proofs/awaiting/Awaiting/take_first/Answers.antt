@@ -8,6 +8,7 @@ use Rattle.amqp_outbox.specs.Lists.{head}
 use Rattle.amqp_outbox.specs.Listed.{at}
 use Rattle.amqp_outbox.specs.Order.{seen}
 use Rattle.amqp_outbox.specs.Parts.{list_seen}
+use Rattle.amqp_outbox.proofs.Seen.{sorted-seen}
 use Rattle.amqp_outbox.proofs.ByChannel.{awaited-seen, take-seen, none-awaited, none-taken-out}
 use Rattle.amqp_outbox.proofs.awaiting.Awaiting.take_first.Goals as goal
 
@@ -34,3 +35,9 @@ returns-in-None-clause-rest c =
     let none : at c.args.channel es ≡ None = sym c.get_mut.ensures.value ∙ ap option_copied_mut c.in-None.is in
     ap (λ (m : BTreeMap ℕ Replies). seen list_seen m.entries) c.get_mut.follows.holds-at-none
     ∙ none-taken-out c.args.channel es c.get_mut.ensures.ordered none (λ (l : List Awaited). drop 1 l) refl
+
+pub returns-in-Some-clause-ordered : goal.returns-in-Some-clause-ordered
+returns-in-Some-clause-ordered c = sorted-seen list_seen c.args.self.now.lists.entries c.get_mut.ensures.ordered
+
+pub returns-in-None-clause-ordered : goal.returns-in-None-clause-ordered
+returns-in-None-clause-ordered c = sorted-seen list_seen c.args.self.now.lists.entries c.get_mut.ensures.ordered

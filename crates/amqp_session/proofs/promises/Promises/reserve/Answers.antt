@@ -4,11 +4,24 @@ use Rattle.amqp_session.specs.Listed.{at}
 use Rattle.amqp_outbox.specs.Order.{seen}
 use Rattle.amqp_session.specs.Parts.{slot_seen}
 use Rattle.amqp_session.proofs.Maps.{at-absent}
+use Rattle.amqp_session.proofs.Holding.{counted-placed}
 use Rattle.amqp_outbox.proofs.Seen.{put-unseen}
 use Rattle.amqp_session.proofs.promises.Promises.reserve.Goals as goal
 
+pub invariant_of-self-2 : goal.invariant_of-self-2
+invariant_of-self-2 c =
+    let self = c.args.self.now in
+    let es = self.slots.entries in
+    let none : at self.made es ≡ None = at-absent self.made es (sym c.contains_key.ensures ∙ c.if-contains_key.false) in
+    record {
+      counted =
+          counted-placed c.insert.result self.made es _ self.errors.errors.entries self.counted c.insert.ensures.was_ordered none c.insert.ensures.entries c.insert.ensures.err;
+    }
+
 pub returns-clause-slots : goal.returns-clause-slots
 returns-clause-slots c =
-    let es = c.args.self.now.slots.entries in
-    let none : at c.args.self.now.made es ≡ None = at-absent c.args.self.now.made es (sym c.contains_key.ensures ∙ c.if-contains_key.false) in
-    ap (seen slot_seen) c.in_ok-insert.ensures.entries ∙ put-unseen slot_seen c.args.self.now.made Place es refl none
+    let self = c.args.self.now in
+    let es = self.slots.entries in
+    let see = slot_seen self.errors.errors.entries in
+    let none : at self.made es ≡ None = at-absent self.made es (sym c.contains_key.ensures ∙ c.if-contains_key.false) in
+    ap (seen see) c.in_ok-insert.ensures.entries ∙ put-unseen see self.made Place es refl none

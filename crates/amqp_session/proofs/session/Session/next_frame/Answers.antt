@@ -4,9 +4,9 @@ use Rattle.amqp_outbox.specs.declared.item.Item.{Item}
 use Rattle.amqp_outbox.specs.Items.{size_of}
 use Rattle.amqp_outbox.specs.Parts.{queued}
 use Rattle.amqp_outbox.specs.Queued.{next_item, after_next}
-use Rattle.amqp_session.specs.Talk.{Talk, is_open}
+use Rattle.amqp_session.specs.Talk.{Talk}
 use Rattle.amqp_session.specs.Channels.{all_flow}
-use Rattle.amqp_session.specs.Writing.{flows, mark_of}
+use Rattle.amqp_session.specs.Writing.{writes, flows, mark_of}
 use Rattle.amqp_session.proofs.Counting.{next-fits, commit-fits}
 use Rattle.amqp_session.proofs.session.Session.next_frame.Goals as goal
 
@@ -15,7 +15,7 @@ returns-clause-frame c =
     let t = c.args.self.now in
     let q = queued c.self.inside.outbox in
     let item = c.in_ok-frame.field-0 in
-    let opened : is_open t ≡ true = sym c.is_open.ensures ∙ c.if-not-is_open.false in
+    let opened : writes t ≡ true = sym c.writes.ensures ∙ c.if-not-writes.false in
     let next : next_item c.flows-flow.result q ≡ Some item = sym c.next.ensures.item ∙ c.in_ok-frame.was in
     let first : next_item (flows t) t.outbox ≡ Some item =
     ap (λ (u : Talk). next_item (flows u) u.outbox) (sym c.self.view_is) ∙ ap (λ b. next_item b q) (sym c.flows-flow.ensures) ∙ next in
@@ -29,7 +29,7 @@ returns-clause-commit c =
     let t = c.args.self.now in
     let q = queued c.self.inside.outbox in
     let item = c.in_ok-frame.field-0 in
-    let opened : is_open t ≡ true = sym c.is_open.ensures ∙ c.if-not-is_open.false in
+    let opened : writes t ≡ true = sym c.writes.ensures ∙ c.if-not-writes.false in
     let next : next_item c.flows-flow.result q ≡ Some item = sym c.next.ensures.item ∙ c.in_ok-frame.was in
     let first : next_item (flows t) t.outbox ≡ Some item =
     ap (λ (u : Talk). next_item (flows u) u.outbox) (sym c.self.view_is) ∙ ap (λ b. next_item b q) (sym c.flows-flow.ensures) ∙ next in

@@ -1,6 +1,5 @@
 use Rattle.std.proofs.Common.{◌≡◌, ◌∙◌, ◌<◌, ap, sym, None, Some, length, arith}
 use Rattle.amqp_types.specs.declared.word.Word.TheVariants as word
-use Rattle.amqp_outbox.specs.Order.{seen}
 use Rattle.amqp_outbox.specs.Parts.{queued}
 use Rattle.amqp_outbox.specs.Queued.{Queued, waiting_items, group_promise, without_group}
 use Rattle.amqp_outbox.proofs.Waiting.{group-no-more}
@@ -9,7 +8,7 @@ use Rattle.amqp_session.specs.declared.error.ErrorKind.{ErrorKind}
 use Rattle.amqp_session.specs.declared.error.ErrorKind.TheVariants.{InvalidChannelState}
 use Rattle.amqp_session.specs.Talk.{Talk}
 use Rattle.amqp_session.specs.Changes.{Promises, drop_groups_of}
-use Rattle.amqp_session.specs.Parts.{slot_seen}
+use Rattle.amqp_session.specs.Parts.{promised}
 use Rattle.amqp_session.proofs.Rejecting.{with_parts, one-dropped, fewer-groups, none-dropped, none-less}
 use Rattle.amqp_session.proofs.session.dropping.drop_groups_of.Goals as goal
 
@@ -21,7 +20,7 @@ groups-smaller c =
     let q : Queued = queued c.groups.outbox in
     let there : group_promise c.args.id q ≡ Some c.in-Some.promise = sym c.drop_channel.ensures.promise ∙ c.in-Some.is in
     let less : length (without_group c.args.id q).publish < length q.publish =
-    fewer-groups c.args.id closed (with_parts q (seen slot_seen c.groups.promises.slots.entries)) c.in-Some.promise there in
+    fewer-groups c.args.id closed (with_parts q (promised c.groups.promises)) c.in-Some.promise there in
     let lower : length (queued c.drop_channel.new.self).publish < length q.publish =
     omega (arith, ap (λ (x : Queued). length x.publish) c.drop_channel.ensures.rest, less) in
     lower
@@ -30,11 +29,11 @@ pub groups-preserved : goal.groups-preserved
 groups-preserved c =
     let n = c.args.id in
     let q : Queued = queued c.groups.outbox in
-    let promises : Promises = seen slot_seen c.groups.promises.slots.entries in
+    let promises : Promises = promised c.groups.promises in
     let there : group_promise n q ≡ Some c.in-Some.promise = sym c.drop_channel.ensures.promise ∙ c.in-Some.is in
     record {
       goes_on =
-          ap (λ (x : Queued). drop_groups_of n closed (with_parts x (seen slot_seen c.reject.new.self.slots.entries))) c.drop_channel.ensures.rest
+          ap (λ (x : Queued). drop_groups_of n closed (with_parts x (promised c.reject.new.self))) c.drop_channel.ensures.rest
           ∙ ap (λ (x : Promises). drop_groups_of n closed (with_parts (without_group n q) x)) c.reject.ensures.slots
           ∙ one-dropped n closed (with_parts q promises) c.in-Some.promise there
           ∙ c.groups.invariant.goes_on;
@@ -53,7 +52,7 @@ pub returns-clause-left : goal.returns-clause-left
 returns-clause-left c =
     let n = c.args.id in
     let q : Queued = queued c.groups.outbox in
-    let t : Talk = with_parts q (seen slot_seen c.groups.promises.slots.entries) in
+    let t : Talk = with_parts q (promised c.groups.promises) in
     let none : group_promise n q ≡ None = sym c.drop_channel.ensures.promise ∙ c.in_default.is in
     c.drop_channel.ensures.rest ∙ none-less n closed t none
     ∙ ap (λ (x : Talk). x.outbox) (sym (none-dropped n closed t none) ∙ c.groups.invariant.goes_on)
@@ -71,6 +70,6 @@ pub returns-clause-slots : goal.returns-clause-slots
 returns-clause-slots c =
     let n = c.args.id in
     let q : Queued = queued c.groups.outbox in
-    let t : Talk = with_parts q (seen slot_seen c.groups.promises.slots.entries) in
+    let t : Talk = with_parts q (promised c.groups.promises) in
     let none : group_promise n q ≡ None = sym c.drop_channel.ensures.promise ∙ c.in_default.is in
     ap (λ (x : Talk). x.promises) (sym (none-dropped n closed t none) ∙ c.groups.invariant.goes_on)
