@@ -4,11 +4,12 @@ use Rattle.amqp_session.specs.Talk.{Talk, is_asked, is_open, has_ended}
 use Rattle.amqp_session.specs.declared.io_fault.IoFault.TheVariants.{Aborted, Reset}
 use Rattle.amqp_session.specs.Changes.{present_at, starve}
 use Rattle.amqp_session.specs.Links.{linked, link_failed, piece, lost}
+use Rattle.amqp_session.specs.Ticks.{tick}
 use Rattle.amqp_engine.specs.declared.port.Step.{Step}
 use Rattle.amqp_engine.specs.declared.port.Step.TheVariants.{Linked, LinkFailed, Piece, End, Fault, Room, Tick, Command}
 use Rattle.amqp_engine.specs.Log.{Log}
 use Rattle.amqp_engine.specs.Engine.{Engine, step_piece, step_engine, settle, starve_at, rule_at, front_of, is_more, can_write}
-use Rattle.amqp_engine.specs.Turn.{answers_of, Progress, begun, goes, reading, is_part, is_piece, step_part, part, read, drain, AreAnswers, IsCut, starved_after}
+use Rattle.amqp_engine.specs.Turn.{answers_of, Progress, begun, goes, reading, is_part, is_piece, step_part, part, read, drained, AreAnswers, IsCut, starved_after}
 use Rattle.amqp_engine.specs.Making.{making, parts_of, Allows, Writes, AppliesCounted}
 use Rattle.amqp_engine.specs.Tell.{TellsOffers, offers_from, turn_of}
 use Rattle.amqp_session.proofs.Cases.{if_case, if-true, if-false}
@@ -17,7 +18,7 @@ use Rattle.amqp_engine.proofs.Settling.{settle-starved}
 use Rattle.amqp_session.proofs.Keeping.{present-keeps, starve-twice}
 use Rattle.amqp_engine.proofs.Reading.{reads-rest, reading-cut}
 use Rattle.amqp_engine.proofs.Offers.{writes-none, writes-cut}
-use Rattle.amqp_engine.proofs.Over.{step-ended, over-reads, over-writes}
+use Rattle.amqp_engine.proofs.Over.{step-ended, over-reads, over-writes, over-refuses}
 
 -- memory that is refused twice was refused once
 pub starve_at-twice : (at j : ℕ) (e : Engine) → starve_at at j (rule_at at starve e) ≡ starve_at at j e
@@ -75,10 +76,10 @@ applies-of at step bytes e e' log log' m n p p' reads w cut after =
     let here : read (turn_of at step bytes w.notes) e ≡ p =
     ap (λ (c : Option ℕ). reading (is_piece step) (step_part step bytes (begun at c e))) w.cut ∙ reads in
     let ws = answers_of w.notes in
-    let leads : drain ws (read (turn_of at step bytes w.notes) e) ≡ p' = ap (drain ws) here ∙ w.leaves in
+    let leads : drained ws (read (turn_of at step bytes w.notes) e) ≡ p' = ap (drained ws) here ∙ w.leaves in
     let P : Progress → Type 0 = λ x. AreAnswers ws x in
     let Q : Progress → Type 0 = λ x. IsCut p.cut x.done in
-    let C : Option ℕ → Type 0 = λ c. IsCut c (drain ws (read (turn_of at step bytes w.notes) e)).done in
+    let C : Option ℕ → Type 0 = λ c. IsCut c (drained ws (read (turn_of at step bytes w.notes) e)).done in
     let R : Progress → Type 0 = λ x. TellsOffers (offers_from ws x) log log' in
     record {
       applies = record {
@@ -102,7 +103,7 @@ applies-over at step bytes e e' log log' m n h same told =
     let none : IsFalse (can_write e') = over-writes e' over in
     applies-of at step bytes e e' log log' m n p p
     (ap (reading (is_piece step)) (step-done at None step bytes e (is_part step e) refl tt ∙ ap (λ x. making at None x k) (sym same)) ∙ over-reads (is_piece step) p over)
-    (writes-none p log log' m n none told) tt (if_case (λ (x : Engine). x ≡ e') (has_ended e.talk) e' e' refl refl)
+    (writes-none p p log log' m n refl (ap (λ (x : Engine). making at None x k) (sym (over-refuses e' over))) none told) tt (if_case (λ (x : Engine). x ≡ e') (has_ended e.talk) e' e' refl refl)
 
 -- and where memory is refused, nothing
 pub refused-over : (at : ℕ) (step : Step) (bytes : List ℕ) (e e' : Engine) (log log' : Option Log) (m n : ℕ) → has_ended e.talk ≡ true → is_part step e ≡ true
@@ -126,5 +127,5 @@ step-starved at (Piece n) bytes e =
 step-starved at End bytes e = settle-starved (rule_at at (lost Aborted) e)
 step-starved at Fault bytes e = settle-starved (rule_at at (lost Reset) e)
 step-starved at Room bytes e = refl
-step-starved at Tick bytes e = refl
+step-starved at Tick bytes e = settle-starved (rule_at at tick e)
 step-starved at (Command c) bytes e = refl

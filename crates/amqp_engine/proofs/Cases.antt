@@ -42,15 +42,17 @@ rose-between a b c d h k r = omega arith
 pub is_before-cut : (n : ℕ) → is_before (Some n) n ≡ false
 is_before-cut n = grind (arith, nat_tests)
 
-pub none-unsent : (a b : Bool) (n : ℕ) → n ≡ 0 → IsFalse (a && (b && nat_lt 0 n))
-none-unsent true true n h = grind (arith, nat_tests)
-none-unsent true false n h = search rules
-none-unsent false b n h = search rules
+pub none-unsent : (a b c : Bool) (n : ℕ) → n ≡ 0 → IsFalse (a && (b && (c && nat_lt 0 n)))
+none-unsent true true true n h = grind (arith, nat_tests)
+none-unsent true true false n h = search rules
+none-unsent true false c n h = search rules
+none-unsent false b c n h = search rules
 
-pub some-unsent : (a b : Bool) (n : ℕ) → IsTrue (a && (b && nat_lt 0 n)) → 0 < n
-some-unsent true true n h = grind (arith, nat_tests)
-some-unsent true false n h = cc
-some-unsent false b n h = cc
+pub some-unsent : (a b c : Bool) (n : ℕ) → IsTrue (a && (b && (c && nat_lt 0 n))) → 0 < n
+some-unsent true true true n h = grind (arith, nat_tests)
+some-unsent true true false n h = cc
+some-unsent true false c n h = cc
+some-unsent false b c n h = cc
 
 pub true-from : (b : Bool) → (b ≡ false → ⊥) → b ≡ true
 true-from true h = refl

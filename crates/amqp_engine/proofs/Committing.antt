@@ -1,5 +1,5 @@
 -- What the rules of a session keep of the frames committed on its link, turns keep.
-use Rattle.std.proofs.Common.{◌≡◌, ◌≢◌, ◌≤◌, ◌⊎◌, inl, inr, ℕ, zero, suc, ◌-◌, ◌&&◌, not, nat_le, nat_lt, if◌then◌else◌, Bool, true, false, List, [], ◌∷◌, ◌++◌, length, drop, Option, Some, None, is_some, refl, ap, sym, ◌∙◌, subst, append_assoc, arith}
+use Rattle.std.proofs.Common.{◌≡◌, ◌≢◌, ◌≤◌, ◌⊎◌, inl, inr, ℕ, zero, suc, ◌-◌, ◌&&◌, not, nat_le, nat_lt, if◌then◌else◌, Bool, true, false, List, [], ◌∷◌, ◌++◌, length, Option, Some, None, is_some, refl, ap, sym, ◌∙◌, subst, append_assoc, arith}
 use Rattle.std.proofs.lemmas.Bool.Decides.{nat_tests}
 use Rattle.std.proofs.lemmas.List.{map-append}
 use Rattle.std.specs.Prelude.{option_to_list}
@@ -26,23 +26,24 @@ use Rattle.amqp_session.specs.Changes.{present_at, fail}
 use Rattle.amqp_session.specs.Handshake.{protocol_header}
 use Rattle.amqp_session.specs.Links.{asked, linked, link_failed, piece, misread, lost}
 use Rattle.amqp_session.specs.Frames.{on_frame}
+use Rattle.amqp_session.specs.Ticks.{tick}
 use Rattle.amqp_session.specs.Commands.{command}
 use Rattle.amqp_session.specs.Answers.{answer_of, take_answer}
 use Rattle.amqp_session.specs.Listed.{without}
-use Rattle.amqp_session.specs.Writing.{frames_waiting, taken, flows, next_item, mark_of, fitting}
+use Rattle.amqp_session.specs.Writing.{frames_waiting, taken, flows, next_item, mark_of, fitting, end_overlong}
 use Rattle.amqp_engine.specs.declared.port.Step.{Step}
 use Rattle.amqp_engine.specs.declared.port.Step.TheVariants.{Linked, LinkFailed, Piece, End, Fault, Room, Tick, Command}
 use Rattle.amqp_engine.specs.declared.port.Wrote.{Wrote}
 use Rattle.amqp_engine.specs.declared.port.Wrote.TheVariants.{Took, Failed, NoMemory}
 use Rattle.amqp_engine.specs.Log.{on_last}
-use Rattle.amqp_engine.specs.Engine.{Engine, with_talk, rule_at, step_engine, step_linked, step_piece, front_of, read_badly, read_row, settle, wrote, took, commit_one, commits, commit_all, fitting_next, can_write}
+use Rattle.amqp_engine.specs.Engine.{Engine, with_talk, rule_at, step_engine, step_linked, step_piece, front_of, read_badly, read_row, settle, wrote, took, commit_one, commits, commit_all, fitting_next, overlong_next, ended_overlong, can_write}
 use Rattle.amqp_engine.specs.Turn.{Turn, answers_of, Progress, asks, wants_ask, is_piece, offer_part, answered, read, applied, IsApplied}
 use Rattle.amqp_engine.specs.Sending.{Sending, nothing_sent, frames, offer_sending, offers_sending, step_sending, committed_in, committed_before}
 use Rattle.amqp_engine.specs.Saying.{applied_sending}
 use Rattle.amqp_session.proofs.Cases.{if_case, if-true, if-false, and-true}
 use Rattle.amqp_engine.proofs.Cases.{and-left}
 use Rattle.amqp_engine.proofs.Settling.{settle-talk}
-use Rattle.amqp_session.proofs.Keeping.{LinkKept, present-keeps, starve-ends, keeps-frame, keeps-misread, lost-link, taken-link, stays-command}
+use Rattle.amqp_session.proofs.Keeping.{LinkKept, present-keeps, starve-ends, keeps-frame, keeps-misread, keeps-tick, lost-link, taken-link, stays-command}
 use Rattle.amqp_engine.proofs.Commits.{commit_one-is, with_frame, commits-keep}
 use Rattle.amqp_engine.proofs.Sent.{on_last-append}
 use Rattle.amqp_engine.proofs.Over.{ended-closed}
@@ -77,6 +78,7 @@ pub record Rules (T : Cmd → Type 0) (L : List Frame → Type 0) (I : Talk → 
   pub misread : (why : Misread) → Keeps I P (misread why)
   -- once something was committed on the link
   pub frame : (f : Frame) (place : ℕ) (t : Talk) (g : Frame) (fs : List Frame) → At I P t (g ∷ fs) → At I P (on_frame f place t) (g ∷ fs)
+  pub tick : Keeps I P tick
   pub command : (c : Cmd) → T c → Keeps I P (command c)
   pub taken : (n : ℕ) → Keeps I P (taken n)
 
@@ -118,6 +120,9 @@ opens-misread why t now = kept-open t (misread why t) (keeps-misread why t).link
 
 opens-frame : (f : Frame) (place : ℕ) → Opens (on_frame f place)
 opens-frame f place t now = kept-open t (on_frame f place t) (keeps-frame f place t).link now
+
+opens-tick : Opens tick
+opens-tick t now = kept-open t (tick t) (keeps-tick t).link now
 
 pub opens-command : (c : Cmd) → Opens (command c)
 opens-command c t now = kept-open t (command c t) (inl (stays-command c t).link) now
@@ -300,7 +305,7 @@ module _ (T : Cmd → Type 0) (L : List Frame → Type 0) (I : Talk → Type 0) 
   kept-step at Fault bytes e ss other told h = inl (kept-settle false _ ss (kept-at false at (lost Reset) e.talk ss (k.lost Reset) (opens-lost Reset) h))
   kept-step at (Piece n) bytes e ss other told h = absurd cc
   kept-step at Room bytes e ss other told h = inl (kept-moment false at e.talk ss h)
-  kept-step at Tick bytes e ss other told h = inl (kept-moment false at e.talk ss h)
+  kept-step at Tick bytes e ss other told h = inl (kept-settle false _ ss (kept-at false at tick e.talk ss k.tick opens-tick h))
   kept-step at (Command c) bytes e ss other told h = inl (kept-at false at (command c) e.talk ss (k.command c told) (opens-command c) h)
 
   -- ---- reading
@@ -413,10 +418,11 @@ module _ (T : Cmd → Type 0) (L : List Frame → Type 0) (I : Talk → Type 0) 
       ap (λ n. (commits n e).unsent) (one-waits e h) ∙ ap (λ (x : Engine). x.unsent) (commit_one-is e)
       ∙ ap (λ o. (with_frame o e).unsent) (fresh-fits e h) ∙ ap (λ bytes. bytes ++ encoding protocol_header) h.unsent
 
-  fresh-writes : (e : Engine) → Fresh e → can_write e ≡ true
-  fresh-writes e h =
+  fresh-writes : (e : Engine) → overlong_next e ≡ None → Fresh e → can_write e ≡ true
+  fresh-writes e none h =
       and-true (is_open e.talk) _ h.opened
-      (and-true (not e.talk.blocked) _ (ap not h.writable) (ap (λ bytes. nat_lt 0 (length bytes)) (fresh-unsent e h)))
+      (and-true (not e.talk.blocked) _ (ap not h.writable)
+      (and-true (not (is_some (overlong_next e))) _ (ap (λ (o : Option ℕ). not (is_some o)) none) (ap (λ bytes. nat_lt 0 (length bytes)) (fresh-unsent e h))))
 
   kept-offer : (at : ℕ) (w : Wrote) (e : Engine) (ss : List Sending) → can_write e ≡ true → Stepped e ss → Kept false (answered at w e).talk (on_last (offer_sending w e) ss)
   kept-offer at w e ss can (inl h) =
@@ -458,9 +464,12 @@ module _ (T : Cmd → Type 0) (L : List Frame → Type 0) (I : Talk → Type 0) 
   stepped-all e ss (inl h) = h.all
   stepped-all e ss (inr h) = h.1.all
 
-  rest-of : (e : Engine) (ss : List Sending) → can_write e ≡ false → Stepped e ss → Kept false e.talk ss
-  rest-of e ss can (inl h) = h
-  rest-of e ss can (inr h) = (let may : can_write e ≡ true = fresh-writes e h.0 in absurd cc)
+  rest-of : (e : Engine) (ss : List Sending) → can_write e ≡ false → overlong_next e ≡ None → Stepped e ss → Kept false e.talk ss
+  rest-of e ss can none (inl h) = h
+  rest-of e ss can none (inr h) = (let may : can_write e ≡ true = fresh-writes e none h.0 in absurd cc)
+
+  overlong-ends : (size : ℕ) (e : Engine) → has_ended (ended_overlong (Some size) e).talk ≡ true
+  overlong-ends size e = ap has_ended (settle-talk (with_talk (end_overlong (Some size)) (commit_all e)))
 
   kept-small : Small Story story_asked story_stepped story_offering Known Written Known
   kept-small =
@@ -473,7 +482,8 @@ module _ (T : Cmd → Type 0) (L : List Frame → Type 0) (I : Talk → Type 0) 
         read = λ at e x can h told. kept-row at (front_of e) e x.sendings (h told) (and-left (is_open e.talk) _ can);
         heard = λ b e x none h told. inl (h told);
         offer = λ w p x can fits h told. kept-offer p.at w p.engine x.sendings can (h told);
-        rest = λ e x can h told. rest-of e x.sendings can (h told);
+        rest = λ e x can none h told. rest-of e x.sendings can none (h told);
+        overlong = λ size e x is h told. kept-ended false _ x.sendings (stepped-all e x.sendings (h told)) (overlong-ends size e);
         less = λ b e x h told. inl (h told);
         starve = λ b at j e x h told. kept-ended false _ x.sendings (stepped-all e x.sendings (h told)) (starve-ends (present_at at e.talk));
         cut = λ at step bytes e x running is h told.

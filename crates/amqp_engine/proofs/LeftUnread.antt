@@ -1,5 +1,5 @@
 -- No turn leaves a whole frame unread.
-use Rattle.std.proofs.Common.{◌≡◌, ℕ, ◌&&◌, not, if◌then◌else◌, Bool, true, false, IsTrue, List, [], drop, Option, Result, ◌⊎◌, inl, inr, refl, ap, sym, ◌∙◌, subst, rules, min}
+use Rattle.std.proofs.Common.{◌≡◌, ℕ, ◌&&◌, not, if◌then◌else◌, Bool, true, false, IsTrue, List, [], drop, Option, Result, ◌⊎◌, inl, inr, Some, refl, ap, sym, ◌∙◌, subst, rules, min}
 use Rattle.amqp_frame.specs.declared.frame.Read.{Read}
 use Rattle.amqp_frame.specs.declared.frame.Read.TheVariants.{Whole, More, TooLarge, BadHeartbeat, Bad, NoMemory}
 use Rattle.amqp_frame.specs.FrameReading.{front}
@@ -14,21 +14,22 @@ use Rattle.amqp_session.specs.Negotiation.{frame_limit, wish_or}
 use Rattle.amqp_session.specs.Changes.{present_at, fail, starve}
 use Rattle.amqp_session.specs.Links.{asked, asked_link, linked, link_failed, lost}
 use Rattle.amqp_session.specs.Commands.{command}
-use Rattle.amqp_session.specs.Writing.{taken}
+use Rattle.amqp_session.specs.Ticks.{tick}
+use Rattle.amqp_session.specs.Writing.{end_overlong, taken}
 use Rattle.amqp_session.specs.Answers.{take_answer, take_frames, Takes}
 use Rattle.amqp_session.specs.declared.command.Cmd.{Cmd}
 use Rattle.amqp_engine.specs.declared.port.Step.{Step}
 use Rattle.amqp_engine.specs.declared.port.Step.TheVariants.{Linked, LinkFailed, Piece, End, Fault, Room, Tick, Command}
 use Rattle.amqp_engine.specs.declared.port.Wrote.{Wrote}
 use Rattle.amqp_engine.specs.declared.port.Wrote.TheVariants.{Took, Failed, NoMemory as WroteNoMemory}
-use Rattle.amqp_engine.specs.Engine.{Engine, front_of, is_more, can_read, rule_at, with_talk, step_engine, settle, took, wrote, commit_all, commits, starve_at}
+use Rattle.amqp_engine.specs.Engine.{Engine, front_of, is_more, can_read, rule_at, with_talk, step_engine, settle, took, wrote, commit_all, commits, ended_overlong, starve_at}
 use Rattle.amqp_session.specs.Writing.{frames_waiting}
 use Rattle.amqp_engine.specs.Turn.{Turn, Progress, asks, wants_ask, is_piece, answered, applied, turn, IsApplied, IsTurn}
 use Rattle.amqp_engine.specs.Log.{Log}
 use Rattle.amqp_engine.specs.Tell.{Applies, TakesTurn, turn_of}
 use Rattle.amqp_engine.specs.Unread.{IsRead}
 use Rattle.amqp_session.proofs.Cases.{if_case, if_by}
-use Rattle.amqp_session.proofs.Keeping.{present-keeps, stays-command, taken-keeps, taken-link, lost-stays, starve-ends}
+use Rattle.amqp_session.proofs.Keeping.{present-keeps, stays-command, keeps-tick, tick-keeps, taken-keeps, taken-link, lost-stays, starve-ends}
 use Rattle.amqp_engine.proofs.Commits.{commits-keep}
 use Rattle.amqp_engine.proofs.Fronts.{front-none}
 use Rattle.amqp_engine.proofs.Over.{ended-closed, applied-ended}
@@ -139,6 +140,18 @@ linked-read at e h =
     (record { talk = linked (present_at at e.talk); unread = []; place = 0; unsent = []; starved = e.starved }) (rule_at at (λ t. t) e)
     (λ opened. front-none (frame_limit (linked (present_at at e.talk)))) (moment-read at e h)
 
+-- time goes by
+tick-read : (at : ℕ) (e : Engine) → IsRead e → IsRead (settle (rule_at at tick e))
+tick-read at e h =
+    let t = present_at at e.talk in
+    let here : Engine = rule_at at (λ y. y) e in
+    let x : Engine = rule_at at tick e in
+    let limit : frame_limit x.talk ≡ frame_limit t = tick-keeps frame_limit (λ y s l cs ps. refl) (λ y q n. refl) t in
+    settle-read x (elim (keeps-tick t).link [
+      | inl same ↦ same-read here x (ap is_open_link same) refl limit (moment-read at e h)
+      | inr ended ↦ closed-read x (ended-closed x.talk.link ended)
+    ])
+
 step-read : (at : ℕ) (step : Step) (bytes : List ℕ) (e : Engine) → is_piece step ≡ false → IsRead e → IsRead (step_engine at step bytes e)
 step-read at Linked bytes e piece h = linked-read at e h
 step-read at LinkFailed bytes e piece h = rule-read at link_failed link_failed-stays e h
@@ -146,7 +159,7 @@ step-read at (Piece n) bytes e piece h = cc
 step-read at End bytes e piece h = rule-read at (lost Aborted) (lost-stays Aborted) e h
 step-read at Fault bytes e piece h = rule-read at (lost Reset) (lost-stays Reset) e h
 step-read at Room bytes e piece h = moment-read at e h
-step-read at Tick bytes e piece h = moment-read at e h
+step-read at Tick bytes e piece h = tick-read at e h
 step-read at (Command c) bytes e piece h = command-read c (rule_at at (λ t. t) e) (moment-read at e h)
 
 took-read : (at k : ℕ) (e : Engine) → IsRead e → IsRead (took at k e)
@@ -175,6 +188,9 @@ commits-read n e h =
 
 answered-read : (at : ℕ) (w : Wrote) (e : Engine) → IsRead e → IsRead (answered at w e)
 answered-read at w e h = wrote-read at w (commit_all e) (commits-read (frames_waiting e.talk) e h)
+
+overlong-read : (size : ℕ) (e : Engine) → IsRead (ended_overlong (Some size) e)
+overlong-read size e = settle-read (with_talk (end_overlong (Some size)) (commit_all e)) (closed-read (with_talk (end_overlong (Some size)) (commit_all e)) refl)
 
 -- ---- a turn
 
@@ -210,7 +226,8 @@ small =
       read = λ at e x can h. tt;
       heard = λ b e x done h on. cannot-read e (done on);
       offer = λ w p x can fits h. answered-read p.at w p.engine (h refl);
-      rest = λ e x can h. h refl;
+      rest = λ e x can none h. h refl;
+      overlong = λ size e x is h. overlong-read size e;
       less = λ b e x h on. h;
       starve = λ b at j e x h. starved-read at j e;
       cut = λ at step bytes e x running part h. starved-read at 0 e;

@@ -12,7 +12,7 @@ use Rattle.amqp_session.specs.Decider.{Speech, greeted, say, say_all, is_amqp_he
 use Rattle.amqp_session.proofs.Cases.{and-true}
 use Rattle.amqp_session.proofs.Ties.{IsTied, IsSilent, IsSendable}
 use Rattle.amqp_session.proofs.TakenIsLegal.{sound}
-use Rattle.amqp_session.proofs.Conversing.{now-moment, now-asked, now-failed, now-piece, now-lost, now-misread, now-frame, now-command, now-taken, now-answer, now-frames, committed-legal, start-silent, silent-room, tied-linked, tied-commit}
+use Rattle.amqp_session.proofs.Conversing.{now-moment, now-asked, now-failed, now-piece, now-lost, now-misread, now-frame, now-tick, now-command, now-taken, now-answer, now-frames, committed-legal, start-silent, silent-room, tied-linked, tied-commit}
 use Rattle.amqp_engine.specs.declared.port.Step.{Step}
 use Rattle.amqp_engine.specs.declared.port.Step.TheVariants.{Linked, LinkFailed, Piece, End, Fault, Room, Tick, Command}
 use Rattle.amqp_engine.specs.Engine.{Engine}
@@ -42,6 +42,7 @@ rules =
       lost = now-lost;
       misread = now-misread;
       frame = now-frame;
+      tick = now-tick;
       command = λ c may t fs. now-command c t fs may;
       taken = now-taken;
     }

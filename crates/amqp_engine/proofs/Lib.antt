@@ -8,6 +8,8 @@ pub mod Pieces
 -- part by part as at once.
 pub mod Settling
 pub mod Commits
+pub mod Overlong
+pub mod Growing
 pub mod Fronts
 pub mod Reading
 pub mod Joining

@@ -5,9 +5,9 @@ use Rattle.amqp_engine.specs.declared.port.Step.{Step}
 use Rattle.amqp_engine.specs.declared.port.Step.TheVariants.{Linked, LinkFailed, Piece, End, Fault, Room, Tick, Command}
 use Rattle.amqp_engine.specs.declared.port.Wrote.{Wrote}
 use Rattle.amqp_engine.specs.Log.{IsWithin}
-use Rattle.amqp_engine.specs.Engine.{Engine, step_engine, can_read, read_one, can_write, starve_at}
-use Rattle.amqp_engine.specs.Turn.{Turn, answers_of, Progress, asks, begun, goes, is_before, part, is_part, is_piece, step_part, reads, read_part, reading, drain, offer_part, offered, answered, is_all, AreAnswers, read, written, applied, turn, turns, starved_after, IsCut, IsApplied, IsTurn, AreTurns}
-use Rattle.amqp_session.proofs.Cases.{if_case, if_by, if-false}
+use Rattle.amqp_engine.specs.Engine.{Engine, step_engine, can_read, read_one, overlong_next, ended_overlong, refuse_overlong, can_write, starve_at}
+use Rattle.amqp_engine.specs.Turn.{Turn, answers_of, Progress, asks, begun, goes, is_before, part, is_part, is_piece, step_part, reads, read_part, reading, drain, offer_part, closing, drained, offered, answered, is_all, AreAnswers, read, written, applied, turn, turns, starved_after, IsCut, IsApplied, IsTurn, AreTurns}
+use Rattle.amqp_session.proofs.Cases.{if_case, if_by, if-true, if-false}
 use Rattle.amqp_engine.proofs.Cases.{and-left, and-right, and-other}
 use Rattle.amqp_engine.proofs.Over.{asks-running}
 use Rattle.amqp_engine.proofs.Reading.{reads-done, reading-cut}
@@ -40,14 +40,22 @@ pub stays-drain : {A : Type 0} (f : Progress → A) (h : (e : Engine) (n : ℕ) 
 stays-drain f h [] p = refl
 stays-drain f h (w ∷ ws) p = stays-drain f h ws (offer_part w p) ∙ h _ _ p
 
+pub stays-drained : {A : Type 0} (f : Progress → A) (h : (e : Engine) (n : ℕ) (p : Progress) → f (record p { engine = e; done = n }) ≡ f p) (ws : List Wrote) (p : Progress)
+    → f (drained ws p) ≡ f p
+stays-drained f h [] p = if_case (λ (x : Progress). f x ≡ f p) (goes p) (record p { engine = refuse_overlong p.engine }) p (h (refuse_overlong p.engine) p.done p) refl
+stays-drained f h (w ∷ ws) p =
+    if_case (λ (x : Progress). f x ≡ f p) (is_all w (length (offered p.engine))) (drained ws (offer_part w p)) (offer_part w p)
+    (stays-drained f h ws (offer_part w p) ∙ h _ _ p) (h _ _ p)
+
 -- a turn is cut where that is noted
 pub read-cut : (u : Turn) (e : Engine) → (read u e).cut ≡ u.notes.starved
 read-cut u e = stays-read (λ (x : Progress). x.cut) (λ f n x. refl) u e
 
 -- after one answer there are more, or none
-pub all-rest : (b : Bool) (ws : List Wrote) (p : Progress) → MatchBool b (AreAnswers ws p) (ws ≡ []) → (ws ≡ []) ⊎ AreAnswers ws p
-all-rest true ws p h = inr h
-all-rest false ws p h = inl h
+pub all-rest : (b : Bool) (ws : List Wrote) (p : Progress) → MatchBool b (AreAnswers ws p) (ws ≡ [])
+    → ((b ≡ false) × (ws ≡ [])) ⊎ ((b ≡ true) × AreAnswers ws p)
+all-rest true ws p h = inr (refl, h)
+all-rest false ws p h = inl (refl, h)
 
 -- ---- what is folded beside the engine: by the asking, the step and each offer
 
@@ -75,7 +83,8 @@ module _ (X : Type 0) (ask : Engine → X → X) (stepped : ℕ → Step → Lis
     pub read : (at : ℕ) (e : Engine) (x : X) → can_read e ≡ true → R e x → R (read_one at e) x
     pub heard : (b : Bool) (e : Engine) (x : X) → (b ≡ true → can_read e ≡ false) → R e x → W b e x
     pub offer : (w : Wrote) (p : Progress) (x : X) → can_write p.engine ≡ true → IsWithin (length (offered p.engine)) w → W true p.engine x → P (answered p.at w p.engine) (offering w p x)
-    pub rest : (e : Engine) (x : X) → can_write e ≡ false → W true e x → P e x
+    pub rest : (e : Engine) (x : X) → can_write e ≡ false → overlong_next e ≡ None → W true e x → P e x
+    pub overlong : (size : ℕ) (e : Engine) (x : X) → overlong_next e ≡ Some size → W true e x → P (ended_overlong (Some size) e) x
     pub less : (b : Bool) (e : Engine) (x : X) → P e x → W b e x
     pub starve : (b : Bool) (at j : ℕ) (e : Engine) (x : X) → W b e x → P (starve_at at j e) x
     -- the turn was cut before its step
@@ -134,15 +143,24 @@ module _ (X : Type 0) (ask : Engine → X → X) (stepped : ℕ → Step → Lis
     abbrev Out : Progress → X → Type 0
     Out q y = P q.engine y ⊎ (W false q.engine y × (goes q ≡ false))
 
-    lift-none : (b : Bool) (p : Progress) (x : X) → goes p ≡ b → IsFalse (goes p && can_write p.engine) → W (goes p) p.engine x → Out p x
+    lift-overlong : (o : Option ℕ) (e : Engine) (x : X) → overlong_next e ≡ o → can_write e ≡ false → W true e x → P (ended_overlong o e) x
+    lift-overlong None e x is can w = k.rest e x can is w
+    lift-overlong (Some size) e x is can w = k.overlong size e x is w
+
+    lift-none : (b : Bool) (p : Progress) (x : X) → goes p ≡ b → IsFalse (goes p && can_write p.engine) → W (goes p) p.engine x → Out (closing p) x
     lift-none true p x on may w =
         let Q : Bool → Type 0 = λ b. W b p.engine x in
-        inl (k.rest p.engine x (and-other (goes p) (can_write p.engine) on may) (subst Q on w))
+        let R : Progress → Type 0 = λ q. Out q x in
+        let after : Progress = record p { engine = refuse_overlong p.engine } in
+        let same : closing p ≡ after = if-true (goes p) after p on in
+        subst R (sym same) (inl (lift-overlong (overlong_next p.engine) p.engine x refl (and-other (goes p) (can_write p.engine) on may) (subst Q on w)))
     lift-none false p x off may w =
         let Q : Bool → Type 0 = λ b. W b p.engine x in
-        inr (subst Q off w, off)
+        let R : Progress → Type 0 = λ q. Out q x in
+        let same : closing p ≡ p = if-false (goes p) (record p { engine = refuse_overlong p.engine }) p off in
+        subst R (sym same) (inr (subst Q off w, off))
 
-    lift-drain : (ws : List Wrote) (p : Progress) (x : X) → AreAnswers ws p → W (goes p) p.engine x → Out (drain ws p) (offers_on ws p x)
+    lift-drain : (ws : List Wrote) (p : Progress) (x : X) → AreAnswers ws p → W (goes p) p.engine x → Out (drained ws p) (offers_on ws p x)
     lift-drain [] p x may w = lift-none (goes p) p x refl may w
     lift-drain (w ∷ ws) p x may h =
         let on : goes p ≡ true = and-left (goes p) (can_write p.engine) may.0 in
@@ -150,11 +168,13 @@ module _ (X : Type 0) (ask : Engine → X → X) (stepped : ℕ → Step → Lis
         let B : Bool → Type 0 = λ b. W b p.engine x in
         let q = offer_part w p in
         let y = offering w p x in
+        let all : Bool = is_all w (length (offered p.engine)) in
         let next : P q.engine y = k.offer w p x can may.1 (subst B on h) in
-        let Q : List Wrote → Type 0 = λ vs. Out (drain vs q) (offers_on vs q y) in
-        elim (all-rest (is_all w (length (offered p.engine))) ws q may.2) [
-          | inl none ↦ subst Q (sym none) (inl next)
-          | inr more ↦ lift-drain ws q y more (k.less (goes q) q.engine y next)
+        let Q : List Wrote → Type 0 = λ vs. Out q (offers_on vs q y) in
+        let R : Progress → Type 0 = λ z. Out z (offers_on ws q y) in
+        elim (all-rest all ws q may.2) [
+          | inl none ↦ subst R (sym (if-false all (drained ws q) q none.0)) (subst Q (sym none.1) (inl next))
+          | inr more ↦ subst R (sym (if-true all (drained ws q) q more.0)) (lift-drain ws q y more.1 (k.less (goes q) q.engine y next))
         ]
 
     lift-starved : (cut : Option ℕ) (at : ℕ) (q : Progress) (y : X) → q.cut ≡ cut → Out q y → P (starved_after cut at q.engine) y
@@ -191,12 +211,13 @@ module _ (X : Type 0) (ask : Engine → X → X) (stepped : ℕ → Step → Lis
         if-false (has_ended e.talk) after (starved_after u.notes.starved u.at after) running in
         subst D (sym is) (elim (lift-read u e x running h) [
           | inl w ↦
-              let out : Out (drain ws r) (offers_on ws r y) = lift-drain ws r y may.answers w in
+              let out : Out (drained ws r) (offers_on ws r y) = lift-drain ws r y may.answers w in
               lift-starved u.notes.starved u.at (written u e) (applied_on u e x)
-              (stays-drain (λ (p : Progress). p.cut) (λ f n p. refl) ws r ∙ read-cut u e) out
+              (stays-drained (λ (p : Progress). p.cut) (λ f n p. refl) ws r ∙ read-cut u e) out
           | inr t ↦
               let none : ws ≡ [] = stops-none ws r t.1 may.answers in
-              let same : written u e ≡ begun u.at u.notes.starved e = ap (λ vs. drain vs r) none ∙ t.0 in
+              let stopped : closing r ≡ r = if-false (goes r) (record r { engine = refuse_overlong r.engine }) r t.1 in
+              let same : written u e ≡ begun u.at u.notes.starved e = ap (λ vs. drained vs r) none ∙ stopped ∙ t.0 in
               let said : applied_on u e x ≡ y = ap (λ vs. offers_on vs r y) none in
               let E : Engine → Type 0 = λ z. P (starved_after u.notes.starved u.at z) (applied_on u e x) in
               let F : X → Type 0 = λ z. P (starve_at u.at 0 e) z in
@@ -219,6 +240,7 @@ module _ (X : Type 0) (ask : Engine → X → X) (stepped : ℕ → Step → Lis
     pub step : (at : ℕ) (step : Step) (bytes : List ℕ) (e : Engine) (x : X) → has_ended e.talk ≡ false → P e x → P (step_engine at step bytes e) (stepped at step bytes e x)
     pub read : (at : ℕ) (e : Engine) (x : X) → can_read e ≡ true → P e x → P (read_one at e) x
     pub offer : (w : Wrote) (p : Progress) (x : X) → can_write p.engine ≡ true → IsWithin (length (offered p.engine)) w → P p.engine x → P (answered p.at w p.engine) (offering w p x)
+    pub overlong : (size : ℕ) (e : Engine) (x : X) → overlong_next e ≡ Some size → P e x → P (ended_overlong (Some size) e) x
     pub starve : (at j : ℕ) (e : Engine) (x : X) → P e x → P (starve_at at j e) x
     pub cut : (at : ℕ) (step : Step) (bytes : List ℕ) (e : Engine) (x : X) → has_ended e.talk ≡ false → is_part step e ≡ true → P e x → P (starve_at at 0 e) (stepped at step bytes e x)
 
@@ -231,7 +253,8 @@ module _ (X : Type 0) (ask : Engine → X → X) (stepped : ℕ → Step → Lis
         read = k.read;
         heard = λ b e x f h. h;
         offer = k.offer;
-        rest = λ e x can h. h;
+        rest = λ e x can is h. h;
+        overlong = k.overlong;
         less = λ b e x h. h;
         starve = λ b at j e x h. k.starve at j e x h;
         cut = k.cut;

@@ -15,6 +15,7 @@ use Rattle.amqp_session.specs.Talk.{Talk, is_open, is_open_link, is_asked, is_as
 use Rattle.amqp_session.specs.Changes.{present_at, fail}
 use Rattle.amqp_session.specs.Links.{asked_link, linked, link_failed, piece, misread, lost}
 use Rattle.amqp_session.specs.Frames.{on_frame}
+use Rattle.amqp_session.specs.Ticks.{tick}
 use Rattle.amqp_session.specs.Commands.{command}
 use Rattle.amqp_session.specs.Writing.{taken}
 use Rattle.amqp_engine.specs.declared.port.Step.{Step}
@@ -27,7 +28,7 @@ use Rattle.amqp_session.specs.Writing.{frames_waiting}
 use Rattle.amqp_engine.specs.Turn.{answered}
 use Rattle.amqp_session.proofs.Cases.{if_case, if-false}
 use Rattle.amqp_engine.proofs.Settling.{settle-talk, settle-unsent}
-use Rattle.amqp_session.proofs.Keeping.{LinkKept, link-then, present-keeps, keeps-frame, keeps-misread, stays-command, lost-keeps, lost-link, left_after, committed-taken, taken-link}
+use Rattle.amqp_session.proofs.Keeping.{LinkKept, link-then, present-keeps, keeps-frame, keeps-misread, keeps-tick, stays-command, lost-keeps, lost-link, left_after, committed-taken, taken-link}
 use Rattle.amqp_engine.proofs.Commits.{commits-keep}
 
 -- ---- links
@@ -104,6 +105,11 @@ leaves-lost at fault e =
     leaves-settle e (rule_at at (lost fault) e)
     (leaves-rule at (lost fault) e (lost-link fault t) (lost-keeps (λ y. y.committed) (λ t s l cs ps. refl) fault t))
 
+leaves-tick : (at : ℕ) (e : Engine) → Leaves e (settle (rule_at at tick e))
+leaves-tick at e =
+    let k = keeps-tick (present_at at e.talk) in
+    leaves-settle e (rule_at at tick e) (leaves-rule at tick e k.link k.committed)
+
 leaves-piece : (at : ℕ) (bytes : List ℕ) (e : Engine) → Leaves e (step_engine at (Piece (length bytes)) bytes e)
 leaves-piece at bytes e =
     let t = present_at at e.talk in
@@ -132,7 +138,7 @@ leaves-step at (Piece n) bytes e other = leaves-piece at bytes e
 leaves-step at End bytes e other = leaves-lost at Aborted e
 leaves-step at Fault bytes e other = leaves-lost at Reset e
 leaves-step at Room bytes e other = leaves-moment at e
-leaves-step at Tick bytes e other = leaves-moment at e
+leaves-step at Tick bytes e other = leaves-tick at e
 leaves-step at (Command c) bytes e other = leaves-command at c e
 
 -- ---- reading

@@ -1,5 +1,5 @@
 -- What a port tells of its links is what was sent on them.
-use Rattle.std.proofs.Common.{◌≡◌, inl, inr, ℕ, ◌==◌, ◌&&◌, not, if◌then◌else◌, Bool, true, false, List, [], ◌∷◌, ◌++◌, length, take, map, is_some, refl, ap, sym, ◌∙◌, subst, arith}
+use Rattle.std.proofs.Common.{◌≡◌, inl, inr, ℕ, ◌==◌, ◌&&◌, not, if◌then◌else◌, Bool, true, false, List, [], ◌∷◌, ◌++◌, length, take, map, is_some, Some, refl, ap, sym, ◌∙◌, subst, arith}
 use Rattle.std.proofs.lemmas.Bool.Decides.{nat_tests}
 use Rattle.std.proofs.lemmas.List.{append-nil, map-append}
 use Rattle.amqp_session.specs.declared.error.ErrorKind.{ErrorKind}
@@ -10,25 +10,27 @@ use Rattle.amqp_session.specs.declared.io_fault.IoFault.{IoFault}
 use Rattle.amqp_session.specs.declared.io_fault.IoFault.TheVariants.{Aborted, Refused, Reset}
 use Rattle.amqp_session.specs.Talk.{Talk, start, acts, is_acting, is_open, is_open_link, is_asked, is_asked_link, is_wanted_link, has_ended, end_of_link}
 use Rattle.amqp_session.specs.Changes.{present_at, fail, lose, finish}
+use Rattle.amqp_session.specs.Ticks.{tick}
+use Rattle.amqp_session.specs.Writing.{end_overlong}
 use Rattle.amqp_session.specs.Links.{asked, asked_link, linked, link_failed, piece, lost}
 use Rattle.amqp_engine.specs.declared.port.Step.{Step}
 use Rattle.amqp_engine.specs.declared.port.Step.TheVariants.{Linked, LinkFailed, Piece, End, Fault, Room, Tick, Command}
 use Rattle.amqp_engine.specs.declared.port.Wrote.{Wrote}
 use Rattle.amqp_engine.specs.declared.port.Wrote.TheVariants.{Took, Failed, NoMemory}
 use Rattle.amqp_engine.specs.Log.{Log, on_last, log_ask, log_step, log_write, links_after, asked_after, IsWithin}
-use Rattle.amqp_engine.specs.Engine.{Engine, begin, with_talk, rule_at, step_engine, step_linked, settle, can_write, read_one, taken_by, starve_at}
+use Rattle.amqp_engine.specs.Engine.{Engine, begin, with_talk, rule_at, step_engine, step_linked, settle, commit_all, ended_overlong, can_write, read_one, taken_by, starve_at}
 use Rattle.amqp_engine.specs.Turn.{Turn, answers_of, Progress, asks, wants_ask, goes, offer_part, offered, answered, read, turn, AreTurns}
 use Rattle.amqp_engine.specs.Tell.{port_answer, offers_from, log_asks, log_offers, log_turns}
 use Rattle.amqp_engine.specs.Sending.{Sending, nothing_sent, link_bytes, offer_sending, offers_sending, step_sending, sendings_from, sendings}
 use Rattle.amqp_session.proofs.Cases.{if_case, if-true, if-false}
 use Rattle.amqp_engine.proofs.Cases.{and-left}
 use Rattle.amqp_engine.proofs.Settling.{settle-talk}
-use Rattle.amqp_session.proofs.Keeping.{LinkKept, present-keeps, stays-command, lost-link, starve-ends}
+use Rattle.amqp_session.proofs.Keeping.{LinkKept, present-keeps, keeps-tick, stays-command, lost-link, starve-ends}
 use Rattle.amqp_engine.proofs.Over.{asks-end}
 use Rattle.amqp_engine.proofs.Sent.{on_last-append}
 use Rattle.amqp_engine.proofs.Agreeing.{offer-bytes}
 use Rattle.amqp_engine.proofs.LinkKept.{leaves-read, kept-read, kept-answered}
-use Rattle.amqp_engine.proofs.Sends.{Sends, sends-asks, sends-step, sends-left, sends-offer, sends-starved, all-step}
+use Rattle.amqp_engine.proofs.Sends.{Sends, sends-asks, sends-step, sends-left, sends-offer, sends-overlong, sends-starved, all-step}
 use Rattle.amqp_engine.proofs.Lifting as lifting
 
 -- ---- whether a link is asked for
@@ -98,26 +100,33 @@ faulted-asked at fault e =
 piece-link : (t : Talk) → (piece t).link ≡ t.link
 piece-link t = if_case (λ (x : Talk). x.link ≡ t.link) (is_open t) (record t { last_read = t.present }) t refl refl
 
-step-asked : (at : ℕ) (step : Step) (bytes : List ℕ) (e : Engine) → is_asked (step_engine at step bytes e).talk ≡ asked_after step (is_asked e.talk)
-step-asked at Linked bytes e = linked-asked (is_asked e.talk) at e refl
-step-asked at LinkFailed bytes e =
+both : (b : Bool) → b ≡ true → b ≡ false → ⊥
+both true h k = cc
+both false h k = cc
+
+step-asked : (at : ℕ) (step : Step) (bytes : List ℕ) (e : Engine) → has_ended (step_engine at step bytes e).talk ≡ false
+    → is_asked (step_engine at step bytes e).talk ≡ asked_after step (is_asked e.talk)
+step-asked at Linked bytes e on = linked-asked (is_asked e.talk) at e refl
+step-asked at LinkFailed bytes e on =
     let t = present_at at e.talk in
     ap is_asked (settle-talk (rule_at at link_failed e)) ∙ failed-asked (is_asked t) t refl
-step-asked at (Piece n) bytes e =
+step-asked at (Piece n) bytes e on =
     let t = present_at at e.talk in
     let x : Engine = record e { talk = piece t; unread = e.unread ++ bytes } in
     if_case (λ (x : Engine). is_asked x.talk ≡ is_asked e.talk) (is_open e.talk) (settle x) (rule_at at (λ t. t) e)
     (ap is_asked (settle-talk x) ∙ ap is_asked_link (piece-link t) ∙ present-keeps is_asked at e.talk (λ n. refl)) (present-keeps is_asked at e.talk (λ n. refl))
-step-asked at End bytes e = faulted-asked at Aborted e
-step-asked at Fault bytes e = faulted-asked at Reset e
-step-asked at Room bytes e = present-keeps is_asked at e.talk (λ n. refl)
-step-asked at Tick bytes e = present-keeps is_asked at e.talk (λ n. refl)
-step-asked at (Command c) bytes e =
+step-asked at End bytes e on = faulted-asked at Aborted e
+step-asked at Fault bytes e on = faulted-asked at Reset e
+step-asked at Room bytes e on = present-keeps is_asked at e.talk (λ n. refl)
+step-asked at Tick bytes e on =
+    let t = present_at at e.talk in
+    let after : Engine = rule_at at tick e in
+    ap is_asked (settle-talk after) ∙ elim (keeps-tick t).link [
+      | inl same ↦ ap is_asked_link same ∙ present-keeps is_asked at e.talk (λ n. refl)
+      | inr ended ↦ absurd (both (has_ended after.talk) ended (sym (ap has_ended (settle-talk after)) ∙ on))
+    ]
+step-asked at (Command c) bytes e on =
     ap is_asked_link (stays-command c (present_at at e.talk)).link ∙ present-keeps is_asked at e.talk (λ n. refl)
-
-both : (b : Bool) → b ≡ true → b ≡ false → ⊥
-both true h k = cc
-both false h k = cc
 
 -- what leaves the link as it was
 synced-kept : (e e' : Engine) (a : Log) → LinkKept e.talk e'.talk → IsSynced e a → IsSynced e' a
@@ -206,7 +215,7 @@ told-step at step bytes e x running h =
     let asked_is = h.synced running in
     record {
       sends = sends-step at step bytes e x.0 h.sends;
-      synced = λ on. ap (asked_after step) asked_is ∙ sym (step-asked at step bytes e);
+      synced = λ on. ap (asked_after step) asked_is ∙ sym (step-asked at step bytes e on);
       links = told-links step e x.0 x.1 asked_is h.links;
     }
 
@@ -229,6 +238,12 @@ told-starved : (at j : ℕ) (e : Engine) (x : Both) → Sends (starve_at at j e)
 told-starved at j e x sends links =
     record { sends = sends; synced = λ running. absurd (both _ (starve-ends (present_at at e.talk)) running); links = links }
 
+told-overlong : (size : ℕ) (e : Engine) (x : Both) → Told e x → Told (ended_overlong (Some size) e) x
+told-overlong size e x h =
+    let y : Engine = with_talk (end_overlong (Some size)) (commit_all e) in
+    let over : has_ended (settle y).talk ≡ true = ap has_ended (settle-talk y) in
+    record { sends = sends-overlong size e x.0 h.sends.all; synced = λ running. absurd (both _ over running); links = h.links }
+
 pub small : lifting.Simple Both asking stepping offering Told
 small =
     record {
@@ -240,6 +255,7 @@ small =
         links = h.links;
       };
       offer = told-offered;
+      overlong = λ size e x is h. told-overlong size e x h;
       starve = λ at j e x h. told-starved at j e x (sends-starved at j e x.0 h.sends.all) h.links;
       cut = λ at step bytes e x running part h.
           told-starved at 0 e (stepping at step bytes e x) (sends-starved at 0 e (step_sending step e x.0) (all-step step e x.0 h.sends.all))

@@ -1,5 +1,5 @@
 -- Offers one by one.
-use Rattle.std.proofs.Common.{◌≡◌, ◌≤◌, ◌<◌, ℕ, ◌+◌, ◌==◌, not, ◌&&◌, Bool, true, false, IsTrue, IsFalse, MatchBool, IfSome, List, [], ◌∷◌, length, drop, Option, Some, None, option_map, refl, ap, sym, ◌∙◌, subst, arith, rules, length-drop}
+use Rattle.std.proofs.Common.{◌≡◌, ◌≤◌, ◌<◌, ℕ, ◌+◌, ◌==◌, not, ◌&&◌, Bool, true, false, IsTrue, IsFalse, MatchBool, IfSome, List, [], ◌∷◌, length, drop, Option, Some, None, is_some, option_map, refl, ap, sym, ◌∙◌, subst, arith, rules, length-drop}
 use Rattle.std.proofs.lemmas.Bool.Decides.{nat_tests}
 use Rattle.amqp_outbox.specs.Queued.{Queued, waiting_items}
 use Rattle.amqp_session.specs.declared.io_fault.IoFault.TheVariants.{BrokenPipe}
@@ -10,9 +10,9 @@ use Rattle.amqp_session.specs.Writing.{taken}
 use Rattle.amqp_engine.specs.declared.port.Wrote.{Wrote}
 use Rattle.amqp_engine.specs.declared.port.Wrote.TheVariants.{Took, Failed, NoMemory}
 use Rattle.amqp_engine.specs.Log.{Log, log_write, IsWithin, PlansWrite}
-use Rattle.amqp_engine.specs.Engine.{Engine, rule_at, can_write, commit_all, wrote, took}
+use Rattle.amqp_engine.specs.Engine.{Engine, rule_at, can_write, overlong_next, refuse_overlong, commit_all, wrote, took}
 use Rattle.amqp_session.specs.Writing.{frames_waiting}
-use Rattle.amqp_engine.specs.Turn.{Notes, answers_of, Progress, goes, offer_part, drain, offered, answered, is_all, AreAnswers}
+use Rattle.amqp_engine.specs.Turn.{Notes, answers_of, Progress, goes, offer_part, closing, drained, offered, answered, is_all, AreAnswers}
 use Rattle.amqp_engine.specs.Making.{making, Allows, Writes}
 use Rattle.amqp_engine.specs.Counts.{Rose}
 use Rattle.amqp_engine.specs.Tell.{port_answer, offers_from, log_offers, PlaysOffers, TellsOffers}
@@ -104,24 +104,28 @@ none-failed : {A : Type 0} → false ≡ true → A
 none-failed h = cc
 
 -- no write is made where none is due
-writes-nothing : (p : Progress) (log log' : Option Log) (m n : ℕ) → IsFalse (goes p && can_write p.engine) → log' ≡ log → Writes p p log log' m n
-writes-nothing p log log' m n none told =
+writes-nothing : (p q : Progress) (log log' : Option Log) (m n : ℕ) → closing p ≡ q → IsFalse (goes p && can_write p.engine) → log' ≡ log → Writes p q log log' m n
+writes-nothing p q log log' m n leaves none told =
     record {
       notes = record { tooks = []; failed = false; starved = p.cut };
       cut = refl;
       answers = none;
-      leaves = refl;
+      leaves = leaves;
       tells = tells-none log log' told;
       counted = none-failed;
     }
 
 -- nothing is to be written
-pub writes-none : (p : Progress) (log log' : Option Log) (m n : ℕ) → IsFalse (can_write p.engine) → log' ≡ log → Writes p p log log' m n
-writes-none p log log' m n can told = writes-nothing p log log' m n (and-is-false (goes p) (can_write p.engine) can) told
+pub writes-none : (p q : Progress) (log log' : Option Log) (m n : ℕ) → goes p ≡ true → q ≡ record p { engine = refuse_overlong p.engine } → IsFalse (can_write p.engine) → log' ≡ log
+    → Writes p q log log' m n
+writes-none p q log log' m n on is can told =
+    let after : Progress = record p { engine = refuse_overlong p.engine } in
+    writes-nothing p q log log' m n (if-true (goes p) after p on ∙ sym is) (and-is-false (goes p) (can_write p.engine) can) told
 
 -- a turn that was cut goes no further
 pub writes-cut : (p : Progress) (log log' : Option Log) (m n : ℕ) → goes p ≡ false → log' ≡ log → Writes p p log log' m n
-writes-cut p log log' m n off told = writes-nothing p log log' m n (ap (λ (b : Bool). b && can_write p.engine) off) told
+writes-cut p log log' m n off told =
+    writes-nothing p p log log' m n (if-false (goes p) (record p { engine = refuse_overlong p.engine }) p off) (ap (λ (b : Bool). b && can_write p.engine) off) told
 
 -- one write more, of which all was taken
 pub writes-more : (at : ℕ) (cut : Option ℕ) (e : Engine) (n : ℕ) (w : Wrote) (e' : Engine) (last : Progress) (log mid log' : Option Log) (a b c : ℕ)
@@ -132,18 +136,18 @@ writes-more at cut e n (Took k) e' last log mid log' a b c he told plays allows 
     let p = making at cut e n in
     let ws = answers_of rest.notes in
     let same : making at cut e' (n + 1) ≡ offer_part (Took k) p = offer-making at cut e n (Took k) e' he in
-    let some : 0 < length (offered e) = some-unsent (is_open e.talk) (not e.talk.blocked) (length (offered e)) can in
+    let some : 0 < length (offered e) = some-unsent (is_open e.talk) (not e.talk.blocked) (not (is_some (overlong_next e))) (length (offered e)) can in
     let is : k ≡ length (offered e) = grind (arith, nat_tests) in
     let due : IsTrue (goes p && can_write e) = and-is-true (goes p) (can_write e) (is_before-Allows cut n allows) can in
     let P : Progress → Type 0 = λ x. AreAnswers ws x in
-    let Q : Progress → Type 0 = λ x. drain ws x ≡ last in
+    let Q : Progress → Type 0 = λ x. drained ws x ≡ last in
     let R : Progress → Type 0 = λ x. TellsOffers (offers_from ws x) mid log' in
     let tail : MatchBool (is_all (Took k) (length (offered e))) (AreAnswers ws (offer_part (Took k) p)) (ws ≡ []) = rw all (subst P same rest.answers) in
     record {
       notes = noted (Took k) rest.notes;
       cut = rest.cut;
       answers = (due, fits, tail);
-      leaves = subst Q same rest.leaves;
+      leaves = if-true (is_all (Took k) (length (offered e))) (drained ws (offer_part (Took k) p)) (offer_part (Took k) p) all ∙ subst Q same rest.leaves;
       tells = tells-more (Took k) (Took k) ws p log mid log' (took-some k p (omega (arith, some, is))) told plays (subst R same rest.tells);
       counted = λ failed. rose-between a b c c le (omega arith) (rest.counted failed);
     }
@@ -167,7 +171,9 @@ writes-one at cut e n w v notes e' log log' a b one same is he told plays allows
       notes = notes;
       cut = same;
       answers = subst P (sym one) (due, fits, tail);
-      leaves = ap (λ (ws : List Wrote). drain ws p) one ∙ sym (offer-making at cut e n w e' he);
+      leaves =
+          ap (λ (ws : List Wrote). drained ws p) one ∙ if-false (is_all w (length (offered e))) (drained none (offer_part w p)) (offer_part w p) less
+          ∙ sym (offer-making at cut e n w e' he);
       tells = subst Q (sym one) (tells-more w v none p log log' log' is told plays (tells-none log' log' refl));
       counted = counted;
     }
@@ -191,7 +197,7 @@ pub writes-refused : (at : ℕ) (e : Engine) (n : ℕ) (e' : Engine) (log log' :
     → IsTrue (can_write e) → Writes (making at (Some (n + 1)) e n) (making at (Some (n + 1)) e' (n + 1)) log log' a b
 writes-refused at e n e' log log' a b he told plays can =
     let cut : Option ℕ = Some (n + 1) in
-    let some : 0 < length (offered e) = some-unsent (is_open e.talk) (not e.talk.blocked) (length (offered e)) can in
+    let some : 0 < length (offered e) = some-unsent (is_open e.talk) (not e.talk.blocked) (not (is_some (overlong_next e))) (length (offered e)) can in
     let less : (0 == length (offered e)) ≡ false = grind (arith, nat_tests) in
     writes-one at cut e n (Took 0) NoMemory (record { tooks = 0 ∷ []; failed = false; starved = cut }) e' log log' a b refl refl
     (refused-answer (making at cut e n) (is_before-cut (n + 1))) he told plays (omega arith) can (omega arith) less none-failed

@@ -8,16 +8,18 @@ use Rattle.amqp_session.specs.declared.io_fault.IoFault.TheVariants.{Aborted, Re
 use Rattle.amqp_session.specs.declared.error.ErrorKind.TheVariants.{IOError}
 use Rattle.amqp_session.specs.Talk.{Talk, is_open, is_open_link, is_asked, is_asked_link, has_ended, end_of, end_of_link}
 use Rattle.amqp_session.specs.Changes.{present_at, fail, starve}
+use Rattle.amqp_session.specs.Ticks.{tick}
 use Rattle.amqp_session.specs.Links.{asked, asked_link, linked, link_failed, piece, lost}
 use Rattle.amqp_engine.specs.declared.port.Step.{Step}
 use Rattle.amqp_engine.specs.declared.port.Step.TheVariants.{Linked, LinkFailed, Piece, End, Fault, Room, Tick, Command}
 use Rattle.amqp_engine.specs.declared.port.Wrote.{Wrote}
-use Rattle.amqp_engine.specs.Engine.{Engine, rule_at, with_talk, settle, step_engine, can_write}
-use Rattle.amqp_engine.specs.Turn.{Turn, answers_of, Progress, asks, wants_ask, begun, goes, part, is_part, is_piece, step_part, reading, drain, AreAnswers, read, written, applied, turn, starved_after}
+use Rattle.amqp_engine.specs.Engine.{Engine, rule_at, with_talk, settle, step_engine, can_write, refuse_overlong}
+use Rattle.amqp_engine.specs.Turn.{Turn, answers_of, Progress, asks, wants_ask, begun, goes, part, is_part, is_piece, step_part, reading, drained, AreAnswers, read, written, applied, turn, starved_after}
 use Rattle.amqp_session.proofs.Cases.{if_case, if-true, if-false}
 use Rattle.amqp_engine.proofs.Cases.{and-right}
+use Rattle.amqp_engine.proofs.Overlong.{closed-refuses}
 use Rattle.amqp_engine.proofs.Settling.{settle-talk}
-use Rattle.amqp_session.proofs.Keeping.{present-keeps, lost-stays, stays-command}
+use Rattle.amqp_session.proofs.Keeping.{present-keeps, lost-stays, tick-stays, stays-command}
 use Rattle.amqp_engine.proofs.Reading.{reads-rest}
 
 -- ---- a link is asked for
@@ -93,7 +95,7 @@ step-ended at (Piece n) bytes e h =
 step-ended at End bytes e h = ap has_ended (settle-talk (rule_at at (lost Aborted) e)) ∙ lost-ended Aborted (present_at at e.talk) (moment-ended at e.talk h)
 step-ended at Fault bytes e h = ap has_ended (settle-talk (rule_at at (lost Reset) e)) ∙ lost-ended Reset (present_at at e.talk) (moment-ended at e.talk h)
 step-ended at Room bytes e h = moment-ended at e.talk h
-step-ended at Tick bytes e h = moment-ended at e.talk h
+step-ended at Tick bytes e h = ap has_ended (settle-talk (rule_at at tick e)) ∙ tick-stays (present_at at e.talk) (moment-ended at e.talk h)
 step-ended at (Command c) bytes e h =
     ap (λ (l : Link ErrorKind). is_some (end_of_link l)) (stays-command c (present_at at e.talk)).link ∙ moment-ended at e.talk h
 
@@ -115,8 +117,13 @@ over-writes e h = closed-and (is_open e.talk) _ (ended-closed e.talk.link h)
     closed-and true b g = cc
     closed-and false b g = refl
 
-no-answers : (ws : List Wrote) (p : Progress) → has_ended p.engine.talk ≡ true → AreAnswers ws p → drain ws p ≡ p
-no-answers [] p h may = refl
+pub over-refuses : (e : Engine) → has_ended e.talk ≡ true → refuse_overlong e ≡ e
+over-refuses e h = closed-refuses e (ended-closed e.talk.link h)
+
+no-answers : (ws : List Wrote) (p : Progress) → has_ended p.engine.talk ≡ true → AreAnswers ws p → drained ws p ≡ p
+no-answers [] p h may =
+    let same : record p { engine = refuse_overlong p.engine } ≡ p = ap (λ (x : Engine). record p { engine = x }) (over-refuses p.engine h) in
+    if_case (λ (q : Progress). q ≡ p) (goes p) (record p { engine = refuse_overlong p.engine }) p same refl
 no-answers (w ∷ ws) p h may =
     let can : can_write p.engine ≡ true = and-right (goes p) (can_write p.engine) may.0 in
     let not_so : can_write p.engine ≡ false = over-writes p.engine h in
@@ -138,7 +145,7 @@ applied-over u e h may =
     let here : read u e ≡ s = over-reads (is_piece u.step) s over in
     let ws = answers_of u.notes in
     let A : Progress → Type 0 = λ y. AreAnswers ws y in
-    let done : written u e ≡ s = ap (drain ws) here ∙ no-answers ws s over (subst A here may) in
+    let done : written u e ≡ s = ap (drained ws) here ∙ no-answers ws s over (subst A here may) in
     let is : applied u e ≡ s.engine =
     if-true (has_ended e.talk) (written u e).engine (starved_after u.notes.starved u.at (written u e).engine) h ∙ ap (λ (y : Progress). y.engine) done in
     elim stepped [ inl same ↦ inl (is ∙ same) | inr same ↦ inr (is ∙ same) ]

@@ -7,7 +7,7 @@ use Rattle.amqp_engine.specs.declared.port.Wrote.{Wrote}
 use Rattle.amqp_engine.specs.declared.port.Wrote.TheVariants.{Took, Failed, NoMemory}
 use Rattle.amqp_engine.specs.Plan.{Plan, Coming, plan_write, plan_failure, plan_step, PlanAnswers, room_for, next_coming}
 use Rattle.amqp_engine.specs.Log.{Log, PlansWrite, log_ask, log_step, log_write}
-use Rattle.amqp_engine.specs.Engine.{Engine, can_write, commit_all}
+use Rattle.amqp_engine.specs.Engine.{Engine, can_write, overlong_next, commit_all}
 use Rattle.amqp_session.specs.Writing.{frames_waiting}
 use Rattle.amqp_engine.specs.Turn.{is_before, Progress, Notes, Turn, answers_of, asks, wants_ask, goes, offer_part, offered, is_all, AreAnswers, read, written, turn, turns, starved_after, IsCut, IsTurn, AreTurns}
 use Rattle.amqp_engine.specs.Tell.{Offer, port_answer, offers_from, offers_of, turn_of, log_asks, log_stepped, log_offers, log_turn, log_turns, PlaysOffers, PlaysTurn, PlaysTurns, Runs}
@@ -49,7 +49,7 @@ planned-turn u e a = planned-offers (offers_of u (asks e)) (log_stepped u e a) �
 -- a write that is due can come
 due-waiting : (e : Engine) → can_write e ≡ true → 0 < waiting e
 due-waiting e h =
-    let some = some-unsent (is_open e.talk) (not e.talk.blocked) (length (commit_all e).unsent) h in
+    let some = some-unsent (is_open e.talk) (not e.talk.blocked) (not (is_some (overlong_next e))) (length (commit_all e).unsent) h in
     omega (arith, waiting-commits (frames_waiting e.talk) e)
 
 goes-on : (p : Progress) → p.cut ≡ None → goes p ≡ true
@@ -109,7 +109,7 @@ writes-played (k ∷ ks) failed (suc n) p a cut planned h plays le =
     let e = p.engine in
     let w : Wrote = Took k in
     let can : can_write e ≡ true = and-right (goes p) (can_write e) h.0 in
-    let some : 0 < length (offered e) = some-unsent (is_open e.talk) (not e.talk.blocked) (length (offered e)) can in
+    let some : 0 < length (offered e) = some-unsent (is_open e.talk) (not e.talk.blocked) (not (is_some (overlong_next e))) (length (offered e)) can in
     let told : port_answer w p ≡ w = uncut-answer w p cut in
     let P : Wrote → Type 0 = λ x. PlansWrite (length (offered e)) x a in
     let Q : Wrote → Type 0 = λ x. PlaysOffers (offers_from (answers_of (whole_notes ks failed)) (offer_part w p)) (log_write (offered e) x a) in
@@ -247,7 +247,7 @@ due-played (suc n) p a cut le =
     if_by (λ (m : Notes). Due (answers_of m) p a) (can_write e) (noted (played_answer e a) (later n (played_answer e a) p a)) no_notes
     (λ can. if_by D (fails_of a.plan) Failed w (due-failed n p a cut can)
     (λ works.
-    let some : 0 < length (offered e) = some-unsent (is_open e.talk) (not e.talk.blocked) (length (offered e)) can in
+    let some : 0 < length (offered e) = some-unsent (is_open e.talk) (not e.talk.blocked) (not (is_some (overlong_next e))) (length (offered e)) can in
     let tail = due-tail (is_all w (length (offered e))) (played_writes n (offer_part w p) a') (offer_part w p) a'
     (λ whole. due-played n (offer_part w p) a' cut (omega (arith, waiting-wrote p.at w e some whole, le))) in
     record {

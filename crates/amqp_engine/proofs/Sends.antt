@@ -1,5 +1,5 @@
 -- What was sent on each link, turn by turn.
-use Rattle.std.proofs.Common.{◌≡◌, ℕ, ◌==◌, if◌then◌else◌, true, false, List, [], ◌∷◌, ◌++◌, length, drop, refl, ap, sym, ◌∙◌, subst}
+use Rattle.std.proofs.Common.{◌≡◌, ℕ, ◌==◌, if◌then◌else◌, true, false, List, [], ◌∷◌, ◌++◌, length, drop, Some, refl, ap, sym, ◌∙◌, subst}
 use Rattle.std.specs.List.{AllByRecursion}
 use Rattle.amqp_session.specs.declared.committed.Mark.{Mark}
 use Rattle.amqp_session.specs.Talk.{Talk, start, is_open, is_asked}
@@ -9,12 +9,13 @@ use Rattle.amqp_engine.specs.declared.port.Step.{Step}
 use Rattle.amqp_engine.specs.declared.port.Step.TheVariants.{Linked, LinkFailed, Piece, End, Fault, Room, Tick, Command}
 use Rattle.amqp_engine.specs.declared.port.Wrote.{Wrote}
 use Rattle.amqp_engine.specs.Log.{on_last, IsWithin}
-use Rattle.amqp_engine.specs.Engine.{Engine, begin, with_talk, rule_at, step_engine, step_linked, read_one, commit_all, can_write, taken_by, starve_at}
-use Rattle.amqp_session.specs.Writing.{frames_waiting}
+use Rattle.amqp_engine.specs.Engine.{Engine, begin, with_talk, rule_at, step_engine, step_linked, read_one, settle, commit_all, ended_overlong, can_write, taken_by, starve_at}
+use Rattle.amqp_session.specs.Writing.{frames_waiting, end_overlong}
 use Rattle.amqp_engine.specs.Turn.{Turn, answers_of, Progress, asks, wants_ask, offer_part, offered, answered, read, turn, AreTurns}
 use Rattle.amqp_engine.specs.Sending.{Sending, nothing_sent, offer_sending, offers_sending, step_sending, sendings_from, sendings, SendsInOrder}
 use Rattle.amqp_session.proofs.Cases.{if_case, if_by, if-true}
 use Rattle.amqp_engine.proofs.Cases.{and-left}
+use Rattle.amqp_engine.proofs.Settling.{settle-talk}
 use Rattle.amqp_session.proofs.Keeping.{present-keeps, starve-ends, left_after}
 use Rattle.amqp_engine.proofs.Commits.{commits-keep}
 use Rattle.amqp_engine.proofs.Over.{ended-closed}
@@ -120,7 +121,14 @@ sends-offer at w e ss can fits h =
           (l.0, s', refl, subst P (sym k.committed) (subst R (sym k.unsent) a));
     })
 
--- ---- where the session ends for want of memory
+-- ---- where the session ends
+
+-- a frame that can't go out ends it
+pub sends-overlong : (size : ℕ) (e : Engine) (ss : List Sending) → AllByRecursion SendsInOrder ss → Sends (ended_overlong (Some size) e) ss
+sends-overlong size e ss all =
+    let x : Engine = with_talk (end_overlong (Some size)) (commit_all e) in
+    let over : is_open (settle x).talk ≡ false = ap is_open (settle-talk x) in
+    record { all = all; last = λ now. absurd cc }
 
 pub sends-starved : (at j : ℕ) (e : Engine) (ss : List Sending) → AllByRecursion SendsInOrder ss → Sends (starve_at at j e) ss
 sends-starved at j e ss all =
@@ -156,6 +164,7 @@ small =
       step = λ at step bytes e ss running h. sends-step at step bytes e ss h;
       read = λ at e ss can h. sends-left e (read_one at e) ss (leaves-read at e) h;
       offer = λ w p ss can fits h. sends-offer p.at w p.engine ss can fits h;
+      overlong = λ size e ss is h. sends-overlong size e ss h.all;
       starve = λ at j e ss h. sends-starved at j e ss h.all;
       cut = λ at step bytes e ss running part h. sends-starved at 0 e (step_sending step e ss) (all-step step e ss h.all);
     }

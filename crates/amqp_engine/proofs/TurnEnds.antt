@@ -12,23 +12,25 @@ use Rattle.amqp_session.specs.declared.io_fault.IoFault.TheVariants.{Aborted, Re
 use Rattle.amqp_session.specs.declared.server_close.ServerClose.{ServerClose}
 use Rattle.amqp_session.specs.declared.server_close.ServerClose.TheVariants.{WithoutError, WithError}
 use Rattle.amqp_session.specs.declared.error.ErrorKind.{ErrorKind}
-use Rattle.amqp_session.specs.declared.error.ErrorKind.TheVariants.{IOError, ProtocolError, NoMemory, OutOfTurns}
+use Rattle.amqp_session.specs.declared.error.ErrorKind.TheVariants.{IOError, ProtocolError, SerialisationError, MissingHeartbeatError, NoMemory, OutOfTurns}
 use Rattle.amqp_session.specs.Talk.{Talk, has_ended, is_open, is_acting, acts, is_asked, end_of, end_of_link}
 use Rattle.amqp_session.specs.Channels.{channel_at}
-use Rattle.amqp_session.specs.Changes.{present_at, fail, lose, finish, finish_by, starve}
+use Rattle.amqp_session.specs.Changes.{present_at, queue, fail, lose, finish, finish_by, starve}
 use Rattle.amqp_session.specs.Links.{linked, link_failed, piece, lost}
+use Rattle.amqp_frame.specs.declared.frame.Frame.TheVariants.{Heartbeat}
+use Rattle.amqp_session.specs.Ticks.{is_missed, is_due, missing_heartbeat, tick}
 use Rattle.amqp_session.specs.Commands.{command}
-use Rattle.amqp_session.specs.Writing.{follow, sent, sent_among, taken}
+use Rattle.amqp_session.specs.Writing.{follow, sent, sent_among, taken, end_overlong}
 use Rattle.amqp_engine.specs.declared.port.Step.{Step}
 use Rattle.amqp_engine.specs.declared.port.Step.TheVariants.{Linked, LinkFailed, Piece, End, Fault, Room, Tick, Command}
 use Rattle.amqp_engine.specs.declared.port.Wrote.{Wrote}
 use Rattle.amqp_engine.specs.declared.port.Wrote.TheVariants.{Took, Failed, NoMemory as WroteNoMemory}
 use Rattle.amqp_engine.specs.Log.{Log}
-use Rattle.amqp_engine.specs.Engine.{Engine, settle, rule_at, step_engine, took, wrote, commit_all}
+use Rattle.amqp_engine.specs.Engine.{Engine, settle, rule_at, with_talk, step_engine, took, wrote, commit_all, overlong_next, ended_overlong, refuse_overlong}
 use Rattle.amqp_session.specs.Writing.{frames_waiting}
-use Rattle.amqp_engine.specs.Turn.{Turn, answers_of, Progress, asks, goes, reads, part, is_piece, step_part, is_part, begun, drain, offer_part, answered, read, written, applied, turn, turns, starved_after, AreTurns, Leads}
+use Rattle.amqp_engine.specs.Turn.{Turn, answers_of, Progress, asks, goes, reads, part, is_piece, step_part, is_part, begun, drain, drained, offer_part, offered, is_all, answered, read, written, applied, turn, turns, starved_after, AreTurns, Leads}
 use Rattle.amqp_engine.specs.Tell.{TellsTurns, Applies, Runs, turn_of}
-use Rattle.amqp_engine.specs.Causes.{IsReadError, Misreads, LosesClosed, IsCause, Brings, brought, is_last, sends_close_ok, is_finish}
+use Rattle.amqp_engine.specs.Causes.{IsReadError, Misreads, LosesClosed, IsCause, Brings, brought, is_tick, is_last, sends_close_ok, is_finish}
 use Rattle.amqp_session.proofs.Cases.{if_case, if_by, if-true, if-false, and-true, and-false}
 use Rattle.amqp_engine.proofs.Cases.{none-from, and-left}
 use Rattle.amqp_session.proofs.Keeping.{present-keeps, pay-keeps, stays-command}
@@ -74,20 +76,21 @@ ends-lost-at at fault x =
     (ends-present P at x.talk (lost fault t) (ends-as (LostError fault t) P t (lost fault t) (present-lost at fault x.talk) (ends-lost fault t)))
 
 -- the error that a step brings
-abbrev pub StepError : Step → Engine → ErrorKind → Type 0
-StepError step x (IOError fault) = brought step x.talk ≡ Some fault
-StepError step x (ProtocolError e) = LosesClosed e step x
-StepError step x _ = ⊥
+abbrev pub StepError : ℕ → Step → Engine → ErrorKind → Type 0
+StepError at step x (IOError fault) = brought step x.talk ≡ Some fault
+StepError at step x (ProtocolError e) = LosesClosed e step x
+StepError at step x MissingHeartbeatError = IsTrue (is_tick step) × IsTrue (is_missed (present_at at x.talk))
+StepError at step x _ = ⊥
 
-end-lost : (x : Engine) (k : ErrorKind) → LostError Aborted x.talk k → StepError End x k
-end-lost x (IOError fault) h = if-true (is_open x.talk) (Some Aborted) None h.0 ∙ ap Some (sym h.1)
-end-lost x (ProtocolError e) h = record { loss = refl; opened = h.0; closed = h.1 }
-end-lost x _ h = h
+end-lost : (at : ℕ) (x : Engine) (k : ErrorKind) → LostError Aborted x.talk k → StepError at End x k
+end-lost at x (IOError fault) h = if-true (is_open x.talk) (Some Aborted) None h.0 ∙ ap Some (sym h.1)
+end-lost at x (ProtocolError e) h = record { loss = refl; opened = h.0; closed = h.1 }
+end-lost at x _ h = absurd h
 
-fault-lost : (x : Engine) (k : ErrorKind) → LostError Reset x.talk k → StepError Fault x k
-fault-lost x (IOError fault) h = if-true (is_open x.talk) (Some Reset) None h.0 ∙ ap Some (sym h.1)
-fault-lost x (ProtocolError e) h = record { loss = refl; opened = h.0; closed = h.1 }
-fault-lost x _ h = h
+fault-lost : (at : ℕ) (x : Engine) (k : ErrorKind) → LostError Reset x.talk k → StepError at Fault x k
+fault-lost at x (IOError fault) h = if-true (is_open x.talk) (Some Reset) None h.0 ∙ ap Some (sym h.1)
+fault-lost at x (ProtocolError e) h = record { loss = refl; opened = h.0; closed = h.1 }
+fault-lost at x _ h = absurd h
 
 not-ended : {A : Type 0} (k : ErrorKind) → end_of_link Open ≡ Some (Err k) → A
 not-ended k h = cc
@@ -102,34 +105,45 @@ ends-refused P t p =
 ends-piece : (P : ErrorKind → Type 0) (t : Talk) → Ends P t (piece t)
 ends-piece P t = if_case (Ends P t) (is_open t) (record t { last_read = t.present }) t (ends-kept P t _ refl) (ends-kept P t t refl)
 
-pub ends-step : (at : ℕ) (step : Step) (bytes : List ℕ) (x : Engine) → Ends (StepError step x) x.talk (step_engine at step bytes x).talk
+ends-tick : (P : ErrorKind → Type 0) (t : Talk) → (is_missed t ≡ true → P MissingHeartbeatError) → Ends P t (tick t)
+ends-tick P t p =
+    let x : Talk = missing_heartbeat t in
+    let first : Ends P t x =
+    if_by (Ends P t) (is_missed t) (lose MissingHeartbeatError t) t (λ h. ends-lose P MissingHeartbeatError t t (p h)) (λ h. ends-kept P t t refl) in
+    if_case (Ends P t) (is_due x) (record (queue 0 Heartbeat x) { last_write = x.present }) x
+    (ends-then P t x (record (queue 0 Heartbeat x) { last_write = x.present }) first (ends-kept P x (record (queue 0 Heartbeat x) { last_write = x.present }) refl)) first
+
+pub ends-step : (at : ℕ) (step : Step) (bytes : List ℕ) (x : Engine) → Ends (StepError at step x) x.talk (step_engine at step bytes x).talk
 ends-step at Linked bytes x =
-    let P : ErrorKind → Type 0 = StepError Linked x in
+    let P : ErrorKind → Type 0 = StepError at Linked x in
     if_case (λ (y : Engine). Ends P x.talk y.talk) (is_asked x.talk)
     (record { talk = linked (present_at at x.talk); unread = []; place = 0; unsent = []; starved = x.starved }) (rule_at at (λ t. t) x)
     (ends-present P at x.talk (linked (present_at at x.talk)) (ends-linked P (present_at at x.talk))) (ends-moment P at x.talk)
 ends-step at LinkFailed bytes x =
-    let P : ErrorKind → Type 0 = StepError LinkFailed x in
+    let P : ErrorKind → Type 0 = StepError at LinkFailed x in
     ends-settled P x.talk (rule_at at link_failed x)
     (ends-present P at x.talk (link_failed (present_at at x.talk)) (ends-refused P (present_at at x.talk)
     (λ h. if-true (is_asked x.talk) (Some Refused) None (sym (present-keeps is_asked at x.talk (λ n. refl)) ∙ h))))
 ends-step at (Piece n) bytes x =
-    let P : ErrorKind → Type 0 = StepError (Piece n) x in
+    let P : ErrorKind → Type 0 = StepError at (Piece n) x in
     let after : Engine = record x { talk = piece (present_at at x.talk); unread = x.unread ++ bytes } in
     if_case (λ (y : Engine). Ends P x.talk y.talk) (is_open x.talk) (settle after) (rule_at at (λ t. t) x)
     (ends-settled P x.talk after (ends-present P at x.talk after.talk (ends-piece P (present_at at x.talk)))) (ends-moment P at x.talk)
-ends-step at End bytes x = ends-as (LostError Aborted x.talk) (StepError End x) x.talk _ (end-lost x) (ends-lost-at at Aborted x)
-ends-step at Fault bytes x = ends-as (LostError Reset x.talk) (StepError Fault x) x.talk _ (fault-lost x) (ends-lost-at at Reset x)
+ends-step at End bytes x = ends-as (LostError Aborted x.talk) (StepError at End x) x.talk _ (end-lost at x) (ends-lost-at at Aborted x)
+ends-step at Fault bytes x = ends-as (LostError Reset x.talk) (StepError at Fault x) x.talk _ (fault-lost at x) (ends-lost-at at Reset x)
 ends-step at Room bytes x = ends-moment _ at x.talk
-ends-step at Tick bytes x = ends-moment _ at x.talk
+ends-step at Tick bytes x =
+    let P : ErrorKind → Type 0 = StepError at Tick x in
+    ends-settled P x.talk (rule_at at tick x)
+    (ends-present P at x.talk (tick (present_at at x.talk)) (ends-tick P (present_at at x.talk) (λ missed. (refl, missed))))
 ends-step at (Command c) bytes x =
-    let P : ErrorKind → Type 0 = StepError (Command c) x in
+    let P : ErrorKind → Type 0 = StepError at (Command c) x in
     let t = present_at at x.talk in
     ends-present P at x.talk (command c t) (ends-kept P t (command c t) (ap end_of_link (stays-command c t).link))
 
-ends-part : (u : Turn) (x : Engine) → Ends (StepError u.step x) x.talk (step_part u.step u.bytes (begun u.at u.notes.starved x)).engine.talk
+ends-part : (u : Turn) (x : Engine) → Ends (StepError u.at u.step x) x.talk (step_part u.step u.bytes (begun u.at u.notes.starved x)).engine.talk
 ends-part u x =
-    let P : ErrorKind → Type 0 = StepError u.step x in
+    let P : ErrorKind → Type 0 = StepError u.at u.step x in
     let p = begun u.at u.notes.starved x in
     let after = step_engine u.at u.step u.bytes x in
     let e : Ends P x.talk after.talk = ends-step u.at u.step u.bytes x in
@@ -139,13 +153,13 @@ ends-part u x =
 
 -- up to the writes of a turn
 abbrev EarlyError : Turn → Engine → ErrorKind → Type 0
-EarlyError u x k = StepError u.step x k ⊎ Misreads k u x
+EarlyError u x k = StepError u.at u.step x k ⊎ Misreads k u x
 
 ends-read : (u : Turn) (x : Engine) → Ends (EarlyError u x) x.talk (read u x).engine.talk
 ends-read u x =
     let P : ErrorKind → Type 0 = EarlyError u x in
     let p = step_part u.step u.bytes (begun u.at u.notes.starved x) in
-    let e : Ends P x.talk p.engine.talk = ends-as (StepError u.step x) P x.talk p.engine.talk (λ k h. inl h) (ends-part u x) in
+    let e : Ends P x.talk p.engine.talk = ends-as (StepError u.at u.step x) P x.talk p.engine.talk (λ k h. inl h) (ends-part u x) in
     let n = length p.engine.unread in
     if_by (λ (y : Progress). Ends P x.talk y.engine.talk) (is_piece u.step) (reads n p) p
     (λ h. ends-then P x.talk p.engine.talk (reads n p).engine.talk e
@@ -310,11 +324,13 @@ record Closes (error : AMQPError) (ws : List Wrote) (p : Progress) : Type 0 wher
 abbrev WritesError : List Wrote → Progress → ErrorKind → Type 0
 WritesError ws p (IOError fault) = (fault ≡ BrokenPipe) × IsTrue (has_failed ws)
 WritesError ws p (ProtocolError e) = Closes e ws p
+WritesError ws p (SerialisationError size) = IsTrue (goes (drain ws p)) × (overlong_next (drain ws p).engine ≡ Some size)
 WritesError ws p _ = ⊥
 
 writes-first : (w : Wrote) (ws : List Wrote) (p : Progress) (k : ErrorKind) → OfferError w p.engine k → WritesError (w ∷ ws) p k
 writes-first w ws p (IOError fault) h = (h.0, or-left (is_failed w) (has_failed ws) h.1)
 writes-first w ws p (ProtocolError e) h = record { before = []; answer = w; after = ws; answers = refl; last = h.0; closed = h.1 }
+writes-first w ws p (SerialisationError size) h = absurd h
 writes-first w ws p _ h = h
 
 writes-later : (w : Wrote) (ws : List Wrote) (p : Progress) (k : ErrorKind) → WritesError ws (offer_part w p) k → WritesError (w ∷ ws) p k
@@ -323,15 +339,28 @@ writes-later w ws p (ProtocolError e) h =
     record { before = w ∷ h.before; answer = h.answer; after = h.after; answers = ap (λ vs. w ∷ vs) h.answers; last = h.last; closed = h.closed }
 writes-later w ws p _ h = h
 
-ends-drain : (ws : List Wrote) (p : Progress) → Ends (WritesError ws p) p.engine.talk (drain ws p).engine.talk
-ends-drain [] p = ends-kept (WritesError [] p) p.engine.talk p.engine.talk refl
-ends-drain (w ∷ ws) p =
+-- a frame that can't go out is in the way
+ends-overlong : (P : ErrorKind → Type 0) (o : Option ℕ) (x : Engine) → ((size : ℕ) → o ≡ Some size → P (SerialisationError size)) → Ends P x.talk (ended_overlong o x).talk
+ends-overlong P None x p = ends-kept P x.talk x.talk refl
+ends-overlong P (Some size) x p =
+    ends-settled P x.talk (with_talk (end_overlong (Some size)) (commit_all x)) (ends-lose P (SerialisationError size) x.talk (commit_all x).talk (p size refl))
+
+ends-drained : (ws : List Wrote) (p : Progress) → Ends (WritesError ws p) p.engine.talk (drained ws p).engine.talk
+ends-drained [] p =
+    let P : ErrorKind → Type 0 = WritesError [] p in
+    if_by (λ (q : Progress). Ends P p.engine.talk q.engine.talk) (goes p) (record p { engine = refuse_overlong p.engine }) p
+    (λ on. ends-overlong P (overlong_next p.engine) p.engine (λ size is. (on, is)))
+    (λ off. ends-kept P p.engine.talk p.engine.talk refl)
+ends-drained (w ∷ ws) p =
     let P : ErrorKind → Type 0 = WritesError (w ∷ ws) p in
     let x = offer_part w p in
-    let last = drain ws x in
-    ends-then P p.engine.talk x.engine.talk last.engine.talk
-    (ends-as (OfferError w p.engine) P p.engine.talk x.engine.talk (writes-first w ws p) (ends-answered p.at w p.engine))
-    (ends-as (WritesError ws x) P x.engine.talk last.engine.talk (writes-later w ws p) (ends-drain ws x))
+    let last = drained ws x in
+    let first : Ends P p.engine.talk x.engine.talk =
+    ends-as (OfferError w p.engine) P p.engine.talk x.engine.talk (writes-first w ws p) (ends-answered p.at w p.engine) in
+    if_case (λ (q : Progress). Ends P p.engine.talk q.engine.talk) (is_all w (length (offered p.engine))) last x
+    (ends-then P p.engine.talk x.engine.talk last.engine.talk first
+    (ends-as (WritesError ws x) P x.engine.talk last.engine.talk (writes-later w ws p) (ends-drained ws x)))
+    first
 
 -- ---- a turn
 
@@ -350,6 +379,20 @@ not-memory (reading.BadHeartbeat channel) x h = cc
 not-memory reading.Bad x h = cc
 not-memory _ x h = h
 
+not-silence : (r : Read) (x : Engine) → IsReadError MissingHeartbeatError r x → ⊥
+not-silence (reading.Whole f n) x h = h.1.1
+not-silence (reading.TooLarge size) x h = cc
+not-silence (reading.BadHeartbeat channel) x h = cc
+not-silence reading.Bad x h = cc
+not-silence _ x h = h
+
+not-overlong : (size : ℕ) (r : Read) (x : Engine) → IsReadError (SerialisationError size) r x → ⊥
+not-overlong size (reading.Whole f n) x h = h.1.1
+not-overlong size (reading.TooLarge n) x h = cc
+not-overlong size (reading.BadHeartbeat channel) x h = cc
+not-overlong size reading.Bad x h = cc
+not-overlong size _ x h = h
+
 pub not-turns : (r : Read) (x : Engine) → IsReadError OutOfTurns r x → ⊥
 not-turns (reading.Whole f n) x h = h.1.1
 not-turns (reading.TooLarge size) x h = cc
@@ -360,6 +403,8 @@ not-turns _ x h = h
 early-cause : (u : Turn) (x : Engine) (k : ErrorKind) → EarlyError u x k → IsCause k u x
 early-cause u x (IOError fault) h = elim h [ inl e ↦ inl e | inr r ↦ absurd (not-a-fault fault _ _ r.error_read) ]
 early-cause u x (ProtocolError e) h = elim h [ inl l ↦ inr (inl l) | inr r ↦ inl r ]
+early-cause u x MissingHeartbeatError h = elim h [ inl silence ↦ silence | inr r ↦ absurd (not-silence _ _ r.error_read) ]
+early-cause u x (SerialisationError size) h = elim h [ inl e ↦ absurd e | inr r ↦ absurd (not-overlong size _ _ r.error_read) ]
 early-cause u x NoMemory h = elim h [ inl e ↦ absurd e | inr r ↦ absurd (not-memory _ _ r.error_read) ]
 early-cause u x _ h = elim h [ inl e ↦ absurd e | inr r ↦ r ]
 
@@ -373,6 +418,7 @@ writes-cause : (u : Turn) (x : Engine) (k : ErrorKind) → WritesError (answers_
 writes-cause u x (IOError fault) h = inr (h.0, failed-noted u.notes.tooks u.notes.failed h.1)
 writes-cause u x (ProtocolError e) h =
     inr (inr (record { before = h.before; answer = h.answer; after = h.after; answers = h.answers; last = h.last; closed = h.closed }))
+writes-cause u x (SerialisationError size) h = record { goes_on = h.0; next = h.1 }
 writes-cause u x _ h = absurd h
 
 starved-cause : (P : ErrorKind → Type 0) (cut : Option ℕ) (at : ℕ) (x : Engine) → (is_some cut ≡ true → P NoMemory) → Ends P x.talk (starved_after cut at x).talk
@@ -389,7 +435,7 @@ ends-applied u x =
     ends-then P x.talk w.engine.talk (applied u x).talk
     (ends-then P x.talk r.engine.talk w.engine.talk
     (ends-as (EarlyError u x) P x.talk r.engine.talk (early-cause u x) (ends-read u x))
-    (ends-as (WritesError (answers_of u.notes) r) P r.engine.talk w.engine.talk (writes-cause u x) (ends-drain (answers_of u.notes) r)))
+    (ends-as (WritesError (answers_of u.notes) r) P r.engine.talk w.engine.talk (writes-cause u x) (ends-drained (answers_of u.notes) r)))
     (if_case (λ (y : Engine). Ends P w.engine.talk y.talk) (has_ended x.talk) w.engine (starved_after u.notes.starved u.at w.engine)
     (ends-kept P w.engine.talk w.engine.talk refl) (starved-cause P u.notes.starved u.at w.engine (λ h. h)))
 

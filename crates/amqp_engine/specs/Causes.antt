@@ -10,16 +10,18 @@ use Rattle.amqp_session.specs.declared.io_fault.IoFault.{IoFault}
 use Rattle.amqp_session.specs.declared.io_fault.IoFault.TheVariants.{Aborted, Refused, Reset, BrokenPipe}
 use Rattle.amqp_session.specs.declared.server_close.ServerClose.TheVariants.{WithError}
 use Rattle.amqp_session.specs.declared.error.ErrorKind.{ErrorKind}
-use Rattle.amqp_session.specs.declared.error.ErrorKind.TheVariants.{IOError, NoMemory, ParsingError, ProtocolError}
+use Rattle.amqp_session.specs.declared.error.ErrorKind.TheVariants.{IOError, MissingHeartbeatError, NoMemory, ParsingError, ProtocolError, SerialisationError}
 use Rattle.amqp_session.specs.Talk.{Talk, is_acting, is_asked, is_open, end_of}
+use Rattle.amqp_session.specs.Changes.{present_at}
 use Rattle.amqp_session.specs.Causes.{IsFrameError}
+use Rattle.amqp_session.specs.Ticks.{is_missed}
 use Rattle.amqp_session.specs.Violations.{frame_too_large, stray_heartbeat}
 use Rattle.amqp_engine.specs.declared.port.Step.{Step}
-use Rattle.amqp_engine.specs.declared.port.Step.TheVariants.{LinkFailed, End, Fault}
+use Rattle.amqp_engine.specs.declared.port.Step.TheVariants.{LinkFailed, End, Fault, Tick}
 use Rattle.amqp_engine.specs.declared.port.Wrote.{Wrote}
 use Rattle.amqp_engine.specs.declared.port.Wrote.TheVariants.{Took, Failed, NoMemory as WroteNoMemory}
 use Rattle.amqp_engine.specs.Log.{Log}
-use Rattle.amqp_engine.specs.Engine.{Engine, front_of, can_read, commit_all}
+use Rattle.amqp_engine.specs.Engine.{Engine, front_of, can_read, commit_all, overlong_next}
 use Rattle.amqp_engine.specs.Turn.{Turn, answers_of, Progress, asks, begun, drain, goes, is_piece, read, reads, step_part, turns, Leads}
 use Rattle.amqp_engine.specs.Tell.{TellsTurns, Applies, turn_of}
 
@@ -123,6 +125,22 @@ pub record WritesLast (error : AMQPError) (u : Turn) (e : Engine) : Type 0 where
   pub last : IsTrue (is_last answer (commit_all (drain before (read u e)).engine))
   pub closed : (drain before (read u e)).engine.talk.server_close ≡ Some (WithError error)
 
+-- ---- time, and what can't go out
+
+-- a tick
+abbrev pub is_tick : Step → Bool
+is_tick Tick = true
+is_tick _ = false
+
+-- a tick at which nothing was read for too long
+abbrev pub IsSilence : Turn → Engine → Type 0
+IsSilence u e = IsTrue (is_tick u.step) × IsTrue (is_missed (present_at u.at e.talk))
+
+-- after its writes a turn goes on, and the frame that is next is longer than the whole capacity
+pub record IsOverlong (size : ℕ) (u : Turn) (e : Engine) : Type 0 where
+  pub goes_on : IsTrue (goes (drain (answers_of u.notes) (read u e)))
+  pub next : overlong_next (drain (answers_of u.notes) (read u e)).engine ≡ Some size
+
 -- ---- the turn that ends a session
 
 -- a turn brings about this error, from its step on
@@ -130,6 +148,8 @@ abbrev pub IsCause : ErrorKind → Turn → Engine → Type 0
 IsCause (IOError fault) u e = IsFaultOf fault u e
 IsCause (ProtocolError error) u e =
     Misreads (ProtocolError error) u e ⊎ LosesClosed error u.step e ⊎ WritesLast error u e
+IsCause MissingHeartbeatError u e = IsSilence u e
+IsCause (SerialisationError size) u e = IsOverlong size u e
 IsCause NoMemory u e = IsTrue (is_some u.notes.starved)
 IsCause k u e = Misreads k u e
 

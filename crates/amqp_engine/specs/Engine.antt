@@ -1,5 +1,5 @@
 -- The engine: the session, with the bytes of its link that are not yet read, and those that are not yet taken.
-use Rattle.std.specs.Prelude.{ℕ, zero, suc, ◌+◌, ◌-◌, not, ◌&&◌, if◌then◌else◌, nat_lt, Bool, true, false, List, [], ◌++◌, length, drop, Option, Some, None}
+use Rattle.std.specs.Prelude.{ℕ, zero, suc, ◌+◌, ◌-◌, not, ◌&&◌, if◌then◌else◌, nat_lt, Bool, true, false, List, [], ◌++◌, length, drop, Option, Some, None, is_some}
 use Rattle.amqp_frame.specs.declared.frame.Read.{Read}
 use Rattle.amqp_frame.specs.declared.frame.Read.TheVariants as reading
 use Rattle.amqp_frame.specs.FrameReading.{front}
@@ -13,8 +13,9 @@ use Rattle.amqp_session.specs.Negotiation.{frame_limit}
 use Rattle.amqp_session.specs.Changes.{present_at, starve}
 use Rattle.amqp_session.specs.Links.{linked, link_failed, piece, misread, lost}
 use Rattle.amqp_session.specs.Frames.{on_frame}
+use Rattle.amqp_session.specs.Ticks.{tick}
 use Rattle.amqp_session.specs.Commands.{command}
-use Rattle.amqp_session.specs.Writing.{frames_waiting, next_within, commit, taken}
+use Rattle.amqp_session.specs.Writing.{frames_waiting, next_within, commit, overlong, end_overlong, taken}
 use Rattle.amqp_engine.specs.declared.port.Step.{Step}
 use Rattle.amqp_engine.specs.declared.port.Step.TheVariants.{Linked, LinkFailed, Piece, End, Fault, Room, Tick, Command}
 use Rattle.amqp_engine.specs.declared.port.Wrote.{Wrote}
@@ -70,7 +71,7 @@ step_piece at bytes e =
     then settle (record e { talk = piece (present_at at e.talk); unread = e.unread ++ bytes })
     else rule_at at (λ t. t) e
 
--- the rule of a step; until heartbeats are built, a tick changes the present alone
+-- the rule of a step
 abbrev pub step_engine : ℕ → Step → List ℕ → Engine → Engine
 step_engine at Linked bytes e = step_linked at e
 step_engine at LinkFailed bytes e = settle (rule_at at link_failed e)
@@ -78,7 +79,7 @@ step_engine at (Piece n) bytes e = step_piece at bytes e
 step_engine at End bytes e = settle (rule_at at (lost Aborted) e)
 step_engine at Fault bytes e = settle (rule_at at (lost Reset) e)
 step_engine at Room bytes e = rule_at at (λ t. t) e
-step_engine at Tick bytes e = rule_at at (λ t. t) e
+step_engine at Tick bytes e = settle (rule_at at tick e)
 step_engine at (Command c) bytes e = rule_at at (command c) e
 
 -- ---- reading
@@ -142,9 +143,24 @@ commits (suc n) e = commits n (commit_one e)
 abbrev pub commit_all : Engine → Engine
 commit_all e = commits (frames_waiting e.talk) e
 
--- something is to be written, and the server does not block
+-- the length of the frame that is next then, where it is longer than the whole capacity
+abbrev pub overlong_next : Engine → Option ℕ
+overlong_next e = overlong (commit_all e).talk
+
+-- frames were committed while one fits, and then the next one can't go out, which ends the session
+abbrev pub ended_overlong : Option ℕ → Engine → Engine
+ended_overlong None e = e
+ended_overlong (Some size) e = settle (with_talk (end_overlong (Some size)) (commit_all e))
+
+-- where the frame that is next can't go out, the session ends
+abbrev pub refuse_overlong : Engine → Engine
+refuse_overlong e = ended_overlong (overlong_next e) e
+
+-- something is to be written: the server does not block, and no frame is in the way that can't go out
 abbrev pub can_write : Engine → Bool
-can_write e = is_open e.talk && (not e.talk.blocked && nat_lt 0 (length (commit_all e).unsent))
+can_write e =
+    is_open e.talk
+    && (not e.talk.blocked && (not (is_some (overlong_next e)) && nat_lt 0 (length (commit_all e).unsent)))
 
 -- how many bytes an answer takes
 abbrev pub taken_by : Wrote → ℕ

@@ -10,7 +10,7 @@ use Rattle.amqp_engine.specs.declared.given.Given.{Given}
 use Rattle.amqp_engine.specs.Plan.{step_of, bytes_of}
 use Rattle.amqp_engine.specs.Counts.{Rose}
 use Rattle.amqp_engine.specs.Engine.{Engine}
-use Rattle.amqp_engine.specs.Turn.{Notes, answers_of, Progress, AreAnswers, drain}
+use Rattle.amqp_engine.specs.Turn.{Notes, answers_of, Progress, AreAnswers, drained}
 use Rattle.amqp_engine.specs.Log.{Log}
 use Rattle.amqp_engine.specs.Tell.{Applies, TellsOffers, offers_from}
 
@@ -59,7 +59,7 @@ pub record Writes (before after : Progress) (log log' : Option Log) (count count
   pub notes : Notes
   pub cut : notes.starved ≡ before.cut
   pub answers : AreAnswers (answers_of notes) before
-  pub leaves : drain (answers_of notes) before ≡ after
+  pub leaves : drained (answers_of notes) before ≡ after
   pub tells : TellsOffers (offers_from (answers_of notes) before) log log'
   pub counted : notes.failed ≡ true → Rose count count'
 

@@ -11,7 +11,7 @@ use Rattle.amqp_engine.specs.declared.port.Step.TheVariants.{Linked, LinkFailed,
 use Rattle.amqp_engine.specs.declared.port.Wrote.{Wrote}
 use Rattle.amqp_engine.specs.declared.port.Wrote.TheVariants.{Took, Failed, NoMemory}
 use Rattle.amqp_engine.specs.Log.{IsWithin}
-use Rattle.amqp_engine.specs.Engine.{Engine, begin, with_talk, step_engine, read_one, can_read, commit_all, can_write, wrote, starve_at}
+use Rattle.amqp_engine.specs.Engine.{Engine, begin, with_talk, step_engine, read_one, can_read, commit_all, refuse_overlong, can_write, wrote, starve_at}
 
 -- what is noted of a turn: how many bytes each of its writes took, in order, and whether one more write failed; and
 -- where memory was refused, how many of its parts were done. Where the port itself found no memory, the last of these
@@ -122,11 +122,21 @@ abbrev pub drain : List Wrote → Progress → Progress
 drain [] p = p
 drain (w ∷ ws) p = drain ws (offer_part w p)
 
+-- frames go on to be committed, where the turn goes on: one that can't go out ends the session
+abbrev pub closing : Progress → Progress
+closing p = if goes p then record p { engine = refuse_overlong p.engine } else p
+
 -- all of so many bytes were taken
 abbrev pub is_all : Wrote → ℕ → Bool
 is_all (Took k) n = k == n
 is_all Failed n = false
 is_all NoMemory n = false
+
+-- the same to the end: it goes on where all was taken
+abbrev pub drained : List Wrote → Progress → Progress
+drained [] p = closing p
+drained (w ∷ ws) p =
+    if is_all w (length (offered p.engine)) then drained ws (offer_part w p) else offer_part w p
 
 -- these are the answers to the offers that are due, and to no others: one is due while something is to be written,
 -- and all was taken of what was offered before
@@ -145,7 +155,7 @@ read u e = reading (is_piece u.step) (step_part u.step u.bytes (begun u.at u.not
 
 -- a turn up to the end of its writes
 abbrev pub written : Turn → Engine → Progress
-written u e = drain (answers_of u.notes) (read u e)
+written u e = drained (answers_of u.notes) (read u e)
 
 -- the session ends, where memory was refused after so many parts
 abbrev pub starved_after : Option ℕ → ℕ → Engine → Engine

@@ -128,11 +128,37 @@ const START_CUT: &str = "01 0000 00000061 000a000a 0009 0000003c
 #[test]
 fn what_is_cut_off_is_kept(rt: HostRuntime) -> Outcome<()> {
     const STORY: &[Line] = &[
-        Line::Keeps(0, 0),
+        Line::Keeps(131_072, 0, 0),
         Line::Run(2, GOES_ON),
-        Line::Keeps(104, 1),
+        Line::Keeps(131_072, 104, 1),
         Line::IsNotStarved,
     ];
     let script = [Happens::Link(Some(7)), Happens::Bytes(START_CUT)];
     tell(&rt, rt.alloc(), &script, STORY)
+}
+
+// open-ok, and the front of a heartbeat.
+const OPEN_OK_AND_MORE: &str = "01 0000 00000005 000a0029 00 ce 08 0000 00";
+
+// Frames of 131,072 octets are agreed, and there is room for 32 of them. What is kept stays: of the 359
+// bytes that are said the link takes all but one.
+#[test]
+fn both_buffers_grow_at_open_ok(rt: HostRuntime) -> Outcome<()> {
+    const SCRIPT: &[Happens] = &[
+        Happens::Link(Some(358)),
+        Happens::Bytes(START),
+        Happens::Bytes(TUNE),
+        Happens::Bytes(OPEN_OK_AND_MORE),
+        Happens::Room(1),
+    ];
+    const STORY: &[Line] = &[
+        Line::Run(3, GOES_ON),
+        Line::Keeps(131_072, 0, 1),
+        Line::Run(1, GOES_ON),
+        Line::Keeps(4_194_304, 4, 1),
+        Line::Run(1, GOES_ON),
+        Line::Keeps(4_194_304, 4, 0),
+        Line::Took(&[HEADER, START_OK, TUNE_OK, OPEN]),
+    ];
+    tell(&rt, rt.alloc(), SCRIPT, STORY)
 }

@@ -41,9 +41,9 @@ pub enum Line {
     IsUnanswered(u64),
     /// The payloads handed out of the channel that a promise opened. They are taken.
     HandsOut(u64, &'static [&'static [u8]]),
-    /// So many bytes are received and not read, and so many are not taken; each buffer has room for
-    /// 131,072.
-    Keeps(usize, usize),
+    /// Each buffer has room for so many bytes; so many are received and not read, and so many are not
+    /// taken.
+    Keeps(usize, usize, usize),
     /// No memory was refused.
     IsNotStarved,
 }
@@ -114,17 +114,18 @@ fn gives(alloc: Global, port: &MemoryPort, engine: &mut IoLoop, line: Line) -> O
         Line::Refuses(number, text) => refuses(alloc, engine, number, text),
         Line::IsUnanswered(number) => Ok(is_unanswered(engine, number)),
         Line::HandsOut(opened, payloads) => hands_out(engine, opened, payloads),
-        Line::Keeps(received, unsent) => {
-            Ok(has_kept(engine.received(), received) && has_kept(engine.unsent(), unsent))
-        }
+        Line::Keeps(capacity, received, unsent) => Ok(
+            has_kept(engine.received(), capacity, received)
+                && has_kept(engine.unsent(), capacity, unsent),
+        ),
         Line::IsNotStarved => Ok(engine.starved().is_none()),
         _ => Ok(false),
     }
 }
 
-// Whether a buffer of the capacity at the beginning keeps so many bytes.
-fn has_kept(buffer: &Buffer, kept: usize) -> bool {
-    buffer.available_data() == kept && buffer.available_space() == 131_072usize.saturating_sub(kept)
+// Whether a buffer with room for so many bytes keeps so many.
+fn has_kept(buffer: &Buffer, capacity: usize, kept: usize) -> bool {
+    buffer.available_data() == kept && buffer.available_space() == capacity.saturating_sub(kept)
 }
 
 // Whether a run ends so.

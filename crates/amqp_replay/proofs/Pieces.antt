@@ -7,7 +7,7 @@ use Rattle.amqp_session.specs.declared.command.Cmd.{Cmd}
 use Rattle.amqp_session.specs.declared.command.Cmd.TheVariants.{OpenChannel, CloseChannel, CloseConnection, Send, Publish}
 use Rattle.amqp_engine.specs.declared.given.Given.{Given}
 use Rattle.amqp_engine.specs.declared.given.GivenStep.{GivenStep}
-use Rattle.amqp_engine.specs.declared.given.GivenStep.TheVariants.{Link, Refuse, Bytes, End, Fault, Room, WriteFail, Command}
+use Rattle.amqp_engine.specs.declared.given.GivenStep.TheVariants.{Link, Refuse, Bytes, End, Fault, Room, WriteFail, Tick, Command}
 use Rattle.amqp_engine.specs.Plan.{IsGivenPiece, ArePieces}
 use Rattle.amqp_replay.specs.declared.grammar.Said.{Said}
 use Rattle.amqp_replay.specs.declared.grammar.Said.TheVariants.{Nothing, Refused, Step}
@@ -16,7 +16,7 @@ use Rattle.amqp_replay.specs.Lines.{Line}
 use Rattle.amqp_replay.specs.Words.{first_word, after_word}
 use Rattle.amqp_replay.specs.Decimals.{number_16, number_64}
 use Rattle.amqp_replay.specs.Data.{Spelled, spelled}
-use Rattle.amqp_replay.specs.Grammar.{step_or_refused, lone, link_line, room_line, piece, bytes_line, closes_by, closes, shut_line, numbered, close_of, close_line, number_in, rest_of, is_passed_through, sent_method, sends_data, data_in, sends, send_line, Published, zeros_published, published_in, publishes_data, publishes, publish_line, switch_in, flows, flow_line, command_of_words, line_of_words, is_ignored, is_printable, content_says, is_within_limits, says, limited}
+use Rattle.amqp_replay.specs.Grammar.{step_or_refused, lone, link_line, room_line, piece, bytes_line, closes_by, closes, shut_line, numbered, close_of, close_line, number_in, rest_of, is_passed_through, sent_method, sends_data, data_in, sends, send_line, Published, zeros_published, published_in, publishes_data, publishes, publish_line, switch_in, flows, flow_line, command_of_words, line_of_words, words_say, timed, is_at_sign, step_line, is_ignored, is_printable, content_says, is_within_limits, says, limited}
 
 abbrev pub SaysPiece : Said → Type 0
 SaysPiece (Step what n) = IsGivenPiece what
@@ -139,14 +139,28 @@ of_words word rest =
     (if_case (bytes_eq word (codes "end")) (lone End rest) _ (of_lone End rest tt)
     (if_case (bytes_eq word (codes "fault")) (lone Fault rest) _ (of_lone Fault rest tt)
     (if_case (bytes_eq word (codes "room")) (room_line rest) _ (of_room_line rest)
-    (if_case (bytes_eq word (codes "writefail")) (lone WriteFail rest) (command_of_words word rest) (of_lone WriteFail rest tt)
-    (of_command word rest)))))))
+    (if_case (bytes_eq word (codes "writefail")) (lone WriteFail rest) _ (of_lone WriteFail rest tt)
+    (if_case (bytes_eq word (codes "tick")) (lone Tick rest) (command_of_words word rest) (of_lone Tick rest tt)
+    (of_command word rest))))))))
+
+of_words_say : (text : List ℕ) → SaysPiece (words_say text)
+of_words_say text = of_words (first_word text) (after_word text)
+
+of_timed : (at : Option ℕ) (rest : Option (List ℕ)) → SaysPiece (timed at rest)
+of_timed (Some at) (Some text) = of_words_say text
+of_timed (Some at) None = tt
+of_timed None rest = tt
+
+of_step_line : (content : List ℕ) → SaysPiece (step_line content)
+of_step_line [] = tt
+of_step_line (b ∷ bs) =
+    if_case (is_at_sign b) (timed (number_64 (first_word bs)) (after_word bs)) (words_say (b ∷ bs))
+    (of_timed (number_64 (first_word bs)) (after_word bs)) (of_words_say (b ∷ bs))
 
 of_content : (content : List ℕ) → SaysPiece (content_says content)
 of_content content =
     if_case (not (list_all is_printable content)) Refused _ tt
-    (if_case (is_ignored content) Nothing (line_of_words (first_word content) (after_word content)) tt
-    (of_words (first_word content) (after_word content)))
+    (if_case (is_ignored content) Nothing (step_line content) tt (of_step_line content))
 
 of_limited : (left : ℕ) (said : Said) → SaysPiece said → SaysPiece (limited left said)
 of_limited left Nothing p = tt

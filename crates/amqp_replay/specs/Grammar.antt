@@ -8,7 +8,7 @@ use Rattle.amqp_session.specs.declared.command.Cmd.{Cmd}
 use Rattle.amqp_session.specs.declared.command.Cmd.TheVariants.{OpenChannel, CloseChannel, CloseConnection, Send, Publish, Flow}
 use Rattle.amqp_engine.specs.declared.given.Given.{Given}
 use Rattle.amqp_engine.specs.declared.given.GivenStep.{GivenStep}
-use Rattle.amqp_engine.specs.declared.given.GivenStep.TheVariants.{Link, Refuse, Bytes, End, Fault, Room, WriteFail, Command}
+use Rattle.amqp_engine.specs.declared.given.GivenStep.TheVariants.{Link, Refuse, Bytes, End, Fault, Room, WriteFail, Tick, Command}
 use Rattle.amqp_replay.specs.declared.grammar.Said.{Said}
 use Rattle.amqp_replay.specs.declared.grammar.Said.TheVariants.{Nothing, Refused, Step}
 use Rattle.amqp_replay.specs.declared.limits.TheConstants.{PIECE_BYTES, SCRIPT_BYTES, SCRIPT_LINES, TEXT_BYTES, ZERO_BYTES}
@@ -216,7 +216,31 @@ line_of_words word rest =
     else if bytes_eq word (codes "fault") then lone Fault rest
     else if bytes_eq word (codes "room") then room_line rest
     else if bytes_eq word (codes "writefail") then lone WriteFail rest
+    else if bytes_eq word (codes "tick") then lone Tick rest
     else command_of_words word rest
+
+-- a line of these words
+abbrev pub words_say : List ℕ → Said
+words_say text = line_of_words (first_word text) (after_word text)
+
+-- a line of these words, where a moment stands before them
+abbrev pub timed : Option ℕ → Option (List ℕ) → Said
+timed (Some at) (Some text) = words_say text
+timed _ _ = Refused
+
+-- what stands before a moment
+abbrev pub is_at_sign : ℕ → Bool
+is_at_sign b = b == 64
+
+-- a line that says a step: its words, or `@N ` and then its words
+abbrev pub step_line : List ℕ → Said
+step_line [] = Refused
+step_line (b ∷ bs) = if is_at_sign b then timed (number_64 (first_word bs)) (after_word bs) else words_say (b ∷ bs)
+
+-- the moment that such a line names, where it names one
+abbrev pub moment : List ℕ → Option ℕ
+moment [] = None
+moment (b ∷ bs) = if is_at_sign b then number_64 (first_word bs) else None
 
 -- an empty line, or one that begins with `#`
 abbrev pub is_ignored : List ℕ → Bool
@@ -232,7 +256,7 @@ abbrev pub content_says : List ℕ → Said
 content_says content =
     if not (list_all is_printable content) then Refused
     else if is_ignored content then Nothing
-    else line_of_words (first_word content) (after_word content)
+    else step_line content
 
 -- a line that the limits of a script leave room for
 abbrev pub is_within_limits : Line → Bool
@@ -249,33 +273,41 @@ limited left said = said
 
 -- ---- scripts
 
--- a step, whose moment is 0
-abbrev pub given : GivenStep → Given
-given what = record { at = 0; what = what }
+-- a step, and its moment
+abbrev pub given : ℕ → GivenStep → Given
+given at what = record { at = at; what = what }
 
 -- how many zeros of a line are spelled by numbers
 abbrev pub zeros_in : Said → ℕ
 zeros_in (Step what n) = n
 zeros_in _ = 0
 
+-- the moment of the last step, after a line: the moment that a step line names, or else that of the step before it
+abbrev pub moment_after : ℕ → Said → List ℕ → ℕ
+moment_after at (Step what n) content = unwrap_or (moment content) at
+moment_after at _ content = at
+
 -- a step comes before the steps that follow, unless a line is refused
-abbrev pub first : GivenStep → Result (List Given) ℕ → Result (List Given) ℕ
-first what (Ok gs) = Ok (given what ∷ gs)
-first what (Err number) = Err number
+abbrev pub first : Given → Result (List Given) ℕ → Result (List Given) ℕ
+first g (Ok gs) = Ok (g ∷ gs)
+first g (Err number) = Err number
 
--- what a line says comes before what the following lines say; a refused line comes before all that follows
-abbrev pub before : Said → ℕ → Result (List Given) ℕ → Result (List Given) ℕ
-before Nothing number rest = rest
-before Refused number rest = Err number
-before (Step what n) number rest = first what rest
+-- what a line says, its step at this moment, comes before what the following lines say; a refused line comes before all
+-- that follows
+abbrev pub before : ℕ → Said → ℕ → Result (List Given) ℕ → Result (List Given) ℕ
+before at Nothing number rest = rest
+before at Refused number rest = Err number
+before at (Step what n) number rest = first (given at what) rest
 
--- the steps that these lines say, or the number of the first one that is refused, where so many zeros may still be
--- spelled by numbers
-abbrev pub steps_of : ℕ → List Line → Result (List Given) ℕ
-steps_of left [] = Ok []
-steps_of left (line ∷ lines) =
-    let said = limited left (says line) in before said line.number (steps_of (left - zeros_in said) lines)
+-- the steps that these lines say after a step of this moment, or the number of the first one that is refused, where so
+-- many zeros may still be spelled by numbers
+abbrev pub steps_of : ℕ → ℕ → List Line → Result (List Given) ℕ
+steps_of at left [] = Ok []
+steps_of at left (line ∷ lines) =
+    let said = limited left (says line) in
+    let now = moment_after at said line.content in
+    before now said line.number (steps_of now (left - zeros_in said) lines)
 
--- the steps of a script, or the number of its first line that is refused
+-- the steps of a script, whose moments begin at 0, or the number of its first line that is refused
 abbrev pub parsed : List ℕ → Result (List Given) ℕ
-parsed text = steps_of ZERO_BYTES (lines text)
+parsed text = steps_of 0 ZERO_BYTES (lines text)

@@ -5,7 +5,7 @@ ghost use Rattle.std.specs.List.{list_all};
 ghost use Rattle.std.specs.Option.{option_copied};
 ghost use Rattle.amqp_session.specs.declared.command.ChanRef.{ChanRef};
 ghost use Rattle.amqp_session.specs.declared.command.Cmd.TheVariants.{CloseConnection, CloseChannel};
-ghost use Rattle.amqp_replay.specs.Grammar.{says, content_says, line_of_words, command_of_words, limited, is_ignored, is_printable, is_within_limits, lone, link_line, room_line, bytes_line, shut_line, close_line, send_line, close_of, closes, closes_by, numbered, number_in, rest_of, sends_data, is_passed_through, all_spelled, published_in, publishes_data, publish_line, zeros_published, flow_line, switch_of};
+ghost use Rattle.amqp_replay.specs.Grammar.{says, content_says, step_line, moment, words_say, line_of_words, command_of_words, limited, is_ignored, is_printable, is_within_limits, lone, link_line, room_line, bytes_line, shut_line, close_line, send_line, close_of, closes, closes_by, numbered, number_in, rest_of, sends_data, is_passed_through, all_spelled, published_in, publishes_data, publish_line, zeros_published, flow_line, switch_of};
 ghost use Rattle.amqp_replay.specs.Budgets.{affordable_publish};
 ghost use Rattle.amqp_replay.specs.Data.{spelled};
 ghost use Rattle.amqp_replay.specs.Decimals.{number_16};
@@ -53,8 +53,7 @@ fn content_says(alloc: Global, content: &[u8], left: u64) -> Result<Said, NoMemo
     if is_ignored(content) {
         return Ok(Said::Nothing);
     }
-    let (word, rest) = cut(content, b' ');
-    Ok(words_say(alloc, word, rest, left)?)
+    Ok(step_line(alloc, content, left)?)
 }
 
 // Whether a line holds no other bytes than it may.
@@ -71,8 +70,46 @@ pub fn is_ignored(content: &[u8]) -> bool
     content.is_empty() || content[0] == b'#'
 }
 
+// What a line says that says a step, with or without its moment.
+fn step_line(alloc: Global, content: &[u8], left: u64) -> Result<Said, NoMemory>
+    ensures { IfOk result (λ said. said ≡ limited left (step_line content.now)) }
+{
+    let [b'@', rest @ ..] = content else {
+        return Ok(words_say(alloc, content, left)?);
+    };
+    let (digits, words) = cut(rest, b' ');
+    match (number(digits, u64::MAX), words) {
+        (Some(_), Some(words)) => Ok(words_say(alloc, words, left)?),
+        _ => Ok(Said::Refused),
+    }
+}
+
+/// The moment that a line names before its step, where it names one.
+pub fn moment(content: &[u8]) -> Option<u64>
+    ensures { result ≡ moment content.now }
+{
+    let [b'@', rest @ ..] = content else {
+        return None;
+    };
+    let (digits, _) = cut(rest, b' ');
+    number(digits, u64::MAX)
+}
+
+// What a line of these words says.
+fn words_say(alloc: Global, words: &[u8], left: u64) -> Result<Said, NoMemory>
+    ensures { IfOk result (λ said. said ≡ limited left (words_say words.now)) }
+{
+    let (word, rest) = cut(words, b' ');
+    Ok(line_of_words(alloc, word, rest, left)?)
+}
+
 // What a line says that begins with this word.
-fn words_say(alloc: Global, word: &[u8], rest: Option<&[u8]>, left: u64) -> Result<Said, NoMemory>
+fn line_of_words(
+    alloc: Global,
+    word: &[u8],
+    rest: Option<&[u8]>,
+    left: u64,
+) -> Result<Said, NoMemory>
     ensures { IfOk result (λ said. said ≡ limited left (line_of_words word.now (option_copied rest.entry))) }
 {
     if is(word, b"link") {
@@ -95,6 +132,9 @@ fn words_say(alloc: Global, word: &[u8], rest: Option<&[u8]>, left: u64) -> Resu
     }
     if is(word, b"writefail") {
         return Ok(lone(GivenStep::WriteFail, rest));
+    }
+    if is(word, b"tick") {
+        return Ok(lone(GivenStep::Tick, rest));
     }
     Ok(command(alloc, word, rest, left)?)
 }

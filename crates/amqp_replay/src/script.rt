@@ -6,7 +6,7 @@ ghost use Rattle.amqp_replay.specs.Grammar.{parsed};
 ghost use Rattle.amqp_replay.specs.Lines.{lines};
 ghost use Rattle.amqp_replay.specs.Scripts.{script_read, ScriptArePieces, line_of_step, ended_at};
 
-use crate::grammar::{Said, is_ignored, says};
+use crate::grammar::{Said, is_ignored, moment, says};
 use crate::limits::ZERO_BYTES;
 use crate::lines::Lines;
 use crate::status::FAILED;
@@ -31,12 +31,15 @@ pub fn parse(alloc: Global, text: &[u8]) -> Result<Script, NoMemory>
     let mut lines = Lines::new(text);
     // how many zeros may still be spelled by numbers
     let mut left = ZERO_BYTES;
+    // the moment of the last step
+    let mut at = 0;
     'lines: while let Some(line) = lines.take_line() {
         match says(alloc, &line, left)? {
             Said::Nothing => {}
             Said::Refused => return Ok(Script::Refused(line.number)),
             Said::Step(what, zeros) => {
-                steps.push(Given { at: 0, what })?;
+                at = moment(line.content).unwrap_or(at);
+                steps.push(Given { at, what })?;
                 left -= zeros;
             }
         }

@@ -6,7 +6,7 @@ ghost use Rattle.amqp_ring.specs.Ring.{capacity, consumed, filled, written, roll
 
 use crate::checkpoint::Checkpoint;
 use crate::context::ParsingContext;
-use crate::memory::{pieces, put_from, step_on};
+use crate::memory::{pieces, put_from, reserve, step_on, widen};
 use amqp_frame::Room;
 use amqp_types::NoMemory;
 use std::alloc::Global;
@@ -76,16 +76,31 @@ impl Buffer {
         ensures refused { OnErr result (capacity self.old < new_size) }
         ensures unchanged { OnErr result (self.new ≡ self.old) }
     {
-        let size = self.memory.len();
-        if new_size <= size {
+        if new_size <= self.memory.len() {
             return Ok(false);
         }
-        self.memory.reserve_exact(new_size - size)?;
-        self.memory.rotate_left(self.position);
-        self.position = 0;
-        // The memory is there, so that nothing is refused.
-        let _ = self.memory.resize(new_size, 0);
+        reserve(&mut self.memory, new_size)?;
+        widen(&mut self.memory, &mut self.position, new_size);
         Ok(true)
+    }
+
+    /// Grows two buffers to the same capacity, each as `grow` does, or none of them where memory for
+    /// both is refused.
+    pub fn grow_both(
+        first: &mut Buffer,
+        second: &mut Buffer,
+        new_size: usize,
+    ) -> Result<(), NoMemory>
+        ensures first { OnOk result (first.new ≡ grown new_size first.old) }
+        ensures second { OnOk result (second.new ≡ grown new_size second.old) }
+        ensures refused { OnErr result (min (capacity first.old) (capacity second.old) < new_size) }
+        ensures unchanged { OnErr result ((first.new ≡ first.old) × (second.new ≡ second.old)) }
+    {
+        reserve(&mut first.memory, new_size)?;
+        reserve(&mut second.memory, new_size)?;
+        widen(&mut first.memory, &mut first.position, new_size);
+        widen(&mut second.memory, &mut second.position, new_size);
+        Ok(())
     }
 
     /// How many bytes are kept.

@@ -1,7 +1,40 @@
 //! One run of memory, whose bytes are looked at and written round its end.
 
-ghost use Rattle.std.specs.Prelude.{◌≡◌, ◌<◌, ◌≤◌, ◌++◌, length, take, drop};
+ghost use Rattle.std.specs.Prelude.{◌≡◌, ◌<◌, ◌≤◌, ◌-◌, ◌++◌, OnOk, OnErr, length, take, drop, replicate, vec_capacity};
 ghost use Rattle.amqp_ring.specs.Memory.{rotate, wrap};
+
+use amqp_types::NoMemory;
+
+// Makes places for so many bytes in all.
+pub(crate) fn reserve(memory: &mut Vec<u8>, size: usize) -> Result<(), NoMemory>
+    ensures same { memory.new.items ≡ memory.old.items }
+    ensures places { OnOk result (size ≤ vec_capacity memory.new) }
+    ensures refused { OnErr result (length memory.old.items < size) }
+{
+    let more = size.saturating_sub(memory.len());
+    memory.reserve_exact(more)?;
+    Ok(())
+}
+
+// Where there are fewer, makes it so many bytes in all: those from the place on, round the end, and then zeros. The
+// place is then the first.
+pub(crate) fn widen(memory: &mut Vec<u8>, place: &mut usize, size: usize)
+    requires within { place.old < length memory.old.items }
+    requires places { size ≤ vec_capacity memory.old }
+    ensures bytes { rotate place.new memory.new.items
+        ≡ rotate place.old memory.old.items ++ replicate (size - length memory.old.items) 0 }
+    ensures within { place.new < length memory.new.items }
+    ensures longer { length memory.old.items ≤ length memory.new.items }
+{
+    let old = memory.len();
+    if size <= old {
+        return;
+    }
+    memory.rotate_left(*place);
+    *place = 0;
+    // The memory is there, so that nothing is refused.
+    let _ = memory.resize(size, 0);
+}
 
 // The place `count` bytes behind `place`, round the end.
 pub(crate) fn step_on(place: usize, count: usize, size: usize) -> usize

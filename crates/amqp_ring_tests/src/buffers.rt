@@ -113,6 +113,36 @@ fn a_buffer_grows_at_every_position(rt: HostRuntime) -> Result<(), NoMemory> {
     Ok(())
 }
 
+// Whether both buffers grow from 4 and 7 to so many, and keep what they kept round the end.
+fn both_grow(
+    alloc: Global,
+    size: usize,
+    first_free: usize,
+    second_free: usize,
+) -> Result<bool, NoMemory> {
+    let mut first = Buffer::with_capacity(alloc, 4)?;
+    let mut second = Buffer::with_capacity(alloc, 7)?;
+    first.write(b"abcd");
+    first.consume(3);
+    first.write(b"xyz");
+    second.write(b"ef");
+    Buffer::grow_both(&mut first, &mut second, size)?;
+    Ok(
+        is(first.parsing_context(), b"dxyz")
+            && is(second.parsing_context(), b"ef")
+            && first.available_space() == first_free
+            && second.available_space() == second_free,
+    )
+}
+
+#[test]
+fn two_buffers_grow_at_once(rt: HostRuntime) -> Result<(), NoMemory> {
+    assert!(rt; both_grow(rt.alloc(), 9, 5, 7)?);
+    assert!(rt; both_grow(rt.alloc(), 5, 1, 5)?);
+    assert!(rt; both_grow(rt.alloc(), 0, 0, 5)?);
+    Ok(())
+}
+
 const ONE: &[Row] = &[
     (Do::Write(b"ab"), 1, b"a", 0),
     (Do::Write(b"c"), 0, b"a", 0),

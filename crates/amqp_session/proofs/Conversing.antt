@@ -45,7 +45,7 @@ use Rattle.amqp_session.specs.declared.command.Answer.TheVariants.{Done}
 use Rattle.amqp_session.specs.declared.server_close.ServerClose.{ServerClose}
 use Rattle.amqp_session.specs.declared.server_close.ServerClose.TheVariants.{WithoutError, WithError}
 use Rattle.amqp_session.specs.declared.error.ErrorKind.{ErrorKind}
-use Rattle.amqp_session.specs.declared.error.ErrorKind.TheVariants.{IOError, InvalidConnectionState, InvalidProtocolVersion, InvalidChannel, InvalidChannelState, Unbuilt}
+use Rattle.amqp_session.specs.declared.error.ErrorKind.TheVariants.{IOError, InvalidConnectionState, InvalidProtocolVersion, InvalidChannel, InvalidChannelState, MissingHeartbeatError, Unbuilt}
 use Rattle.amqp_session.specs.Talk.{Talk, start, has_ended, is_open, is_open_link, is_asked, is_wanted_link, wants_link, end_of_link, is_closing, is_acting, acts, hears_on}
 use Rattle.amqp_session.specs.Changes.{next_promise, present_at, fail, lose, misplaced, finish_by, starve, queue, give_to, drop_replies_of, without_all_on}
 use Rattle.amqp_session.specs.Violations.{misread_error, channel_closed_with, unawaited, stray_channel_frame, stray_connection_method}
@@ -58,6 +58,7 @@ use Rattle.amqp_session.specs.ChannelMethods.{heard_on, unawaited_channel_method
 use Rattle.amqp_session.specs.Frames.{is_unbuilt, is_of_a_channel, method_rule, frame_rule, closed_rule, on_frame}
 use Rattle.amqp_session.specs.Publishing.{method_frame, publish_frames}
 use Rattle.amqp_session.specs.Commands.{command, command_rule, open_drawn, open_as, named, named_in, is_opening, target, target_by, target_in, leave_channel, close_target, leave_connection, drop_target, flow_target, tell_flow, too_long, unless_too_long, queue_send, send, send_target, body_limit, queue_publish, publish, publish_target}
+use Rattle.amqp_session.specs.Ticks.{is_missed, is_due, missing_heartbeat, tick}
 use Rattle.amqp_session.specs.Writing.{flows, writes, next_item, then_of, mark_of, paid_by, pay, follow, sent, sent_among, taken}
 use Rattle.amqp_session.specs.Answers.{answer_of, take_answer, take_frames}
 use Rattle.amqp_session.specs.Listed.{put, without}
@@ -66,9 +67,9 @@ use Rattle.amqp_session.specs.Octets.{class_in}
 use Rattle.amqp_session.specs.Legal.{amqp_header, IsPassedThrough}
 use Rattle.amqp_session.specs.Decider.{Speech, Stage, MethodSaid, HeaderSaid, StartOkSaid, TuneOkSaid, OpenSaid, CloseSaid, CloseOkSaid, Shut, InUse, Left, NoContent, BodyMissing, now_on, greeted, say, say_all, is_amqp_header, is_legal}
 use Rattle.amqp_session.proofs.Cases.{if_case, if_by, if-true, and-true}
-use Rattle.amqp_session.proofs.Keeping.{starve-ends, finish-ends, lost-stays}
+use Rattle.amqp_session.proofs.Keeping.{beats-connected, starve-ends, finish-ends, lost-stays}
 use Rattle.amqp_session.proofs.Truths.{append-none, same-number, other-number}
-use Rattle.amqp_session.proofs.Sayable.{IsComplete, say-append, front-said, over-stays, close-said, say-our-close, say-flow, say-flow-ok, say-channel-close-ok, say-group, filling}
+use Rattle.amqp_session.proofs.Sayable.{IsComplete, say-append, front-said, over-stays, close-said, say-heartbeat, say-our-close, say-flow, say-flow-ok, say-channel-close-ok, say-group, filling}
 use Rattle.amqp_session.proofs.Ties.{frames_in, LeadsTo, first_out, IsReady, IsOfControl, pays, paying, to_pay, unpaid, TiesChannels, IsNew, TiesPhase, TiesActing, Ties, Speaks, IsTied, IsSilent, IsSendable}
 use Rattle.amqp_session.proofs.Ready.{stay-ready, open-ready, others-ready, unused-ready, never-ready, publish-content, publish-ready, pieces-fit}
 use Rattle.amqp_session.proofs.Expecting.{first-by-promise}
@@ -731,6 +732,29 @@ now-drawn (Some n) t fs hs is h =
     (all-append IsOfControl t.outbox.control (item ∷ []) s.lane ((tt, refl), tt))
     (open-ready n s.later t.outbox.publish s.ties.speaking s.groups)
     (now-due x (due_in t) (now_on n InUse s.later) (none-more t.committed t.outbox item tt) k.ties))
+
+-- a heartbeat is to go out
+now-heartbeat : (t : Talk) (fs : List Frame) → t.state ≡ Connected → Now t fs → Now (record (queue 0 Heartbeat t) { last_write = t.present }) fs
+now-heartbeat t fs hs h =
+    let item : Item = plain 0 Heartbeat in
+    let x : Talk = record (queue 0 Heartbeat t) { last_write = t.present } in
+    now-told t x fs hs refl h
+    (λ o hi s.
+    let v : Speech = s.later in
+    let w : Speech = record v { content = NoContent } in
+    now-ties t x fs w o hi refl hs (s.agreed refl)
+    (pushed t.outbox item fs v w s.leads (say-heartbeat v s.ties.speaking s.ties.complete))
+    (all-append IsOfControl t.outbox.control (item ∷ []) s.lane ((tt, refl), tt))
+    (stay-ready v w t.outbox.publish s.ties.speaking tt (λ m used. used) s.groups)
+    (now-due x (due_in t) w (none-more t.committed t.outbox item tt)
+    (with-content t.channels t.outbox.awaited (due_in t) v NoContent tt s.ties)))
+
+pub now-tick : (t : Talk) (fs : List Frame) → Now t fs → Now (tick t) fs
+now-tick t fs h =
+    let x : Talk = missing_heartbeat t in
+    let after : Now x fs = if_case (λ (y : Talk). Now y fs) (is_missed t) (lose MissingHeartbeatError t) t (now-lose MissingHeartbeatError t fs) h in
+    if_by (λ (y : Talk). Now y fs) (is_due x) (record (queue 0 Heartbeat x) { last_write = x.present }) x
+    (λ due. now-heartbeat x fs (beats-connected x due) after) (λ rest. after)
 
 named-listed : (r : ChanRef) (o : Option Channel) (c : Channel) → named_in r.opened o ≡ Some c → o ≡ Some c
 named-listed r None c h = cc

@@ -1,5 +1,5 @@
 -- What goes with a channel, one thing after another: what is then left leads where the whole does.
-use Rattle.std.proofs.Common.{◌≡◌, ◌∙◌, ap, sym, refl, ℕ, Bool, true, false, if◌then◌else◌, List, [], ◌∷◌, ◌++◌, drop, Option, Some, None, is_some, option_map}
+use Rattle.std.proofs.Common.{◌≡◌, ◌∙◌, ap, sym, refl, ℕ, if◌then◌else◌, List, [], ◌∷◌, ◌++◌, drop, Option, Some, None, is_some, option_map}
 use Rattle.std.specs.Prelude.{filter, find, map, not, unwrap_or}
 use Rattle.std.specs.Option.{option_or}
 use Rattle.amqp_outbox.specs.declared.item.Item.{Item}
@@ -9,9 +9,8 @@ use Rattle.amqp_outbox.specs.Lists.{head, without_first}
 use Rattle.amqp_outbox.specs.Listed.{Ascends}
 use Rattle.amqp_outbox.specs.Items.{promise_of}
 use Rattle.amqp_outbox.specs.Replies.{awaited_on, left_on}
-use Rattle.amqp_outbox.specs.Queued.{Queued, is_on, goes_with, group_promise, without_group, frame_promise, without_frame, reply_promise, without_reply, dropped, without_any}
+use Rattle.amqp_outbox.specs.Queued.{Queued, is_on, goes_with, without_group, frame_promise, without_frame, reply_promise, without_reply, dropped, without_any}
 use Rattle.amqp_outbox.proofs.Maps.{without-absent}
-use Rattle.amqp_outbox.proofs.Taking.{none-left_out}
 use Rattle.amqp_session.specs.Listed.{without}
 use Rattle.amqp_session.specs.Changes.{replies_on, without_replies_on, promises_on, without_all_on}
 use Rattle.amqp_session.proofs.Numbered.{put-same, without-gone, without-put}

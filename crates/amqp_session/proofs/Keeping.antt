@@ -9,7 +9,7 @@ use Rattle.amqp_frame.specs.declared.method.Method.{Method as AnyMethod}
 use Rattle.amqp_frame.specs.declared.method.Method.TheVariants.{Start, Tune, OpenOk, Close, CloseOk, Blocked, Unblocked, ChannelOpenOk, ChannelClose, ChannelCloseOk, ChannelFlow, ChannelFlowOk}
 use Rattle.amqp_frame.specs.RawMethods.{OtherMethod}
 use Rattle.amqp_outbox.specs.declared.reply.Reply.TheVariants.{ChannelOpened, ChannelClosed, FlowDone, ConnectionClosed}
-use Rattle.amqp_outbox.specs.Queued.{awaited_promise, answered}
+use Rattle.amqp_outbox.specs.Queued.{Queued, awaited_promise, answered}
 use Rattle.amqp_session.specs.declared.channels.Channel.{Channel}
 use Rattle.amqp_session.specs.declared.channels.Debt.{Debt}
 use Rattle.amqp_session.specs.declared.channels.Debt.TheVariants as debt
@@ -32,9 +32,9 @@ use Rattle.amqp_session.specs.declared.command.Cmd.TheVariants.{OpenChannel, Clo
 use Rattle.amqp_session.specs.declared.command.Answer.{Answer as AnyAnswer}
 use Rattle.amqp_session.specs.declared.command.Answer.TheVariants.{Done}
 use Rattle.amqp_session.specs.declared.error.ErrorKind.{ErrorKind}
-use Rattle.amqp_session.specs.declared.error.ErrorKind.TheVariants.{NoMemory, IOError}
+use Rattle.amqp_session.specs.declared.error.ErrorKind.TheVariants.{NoMemory, IOError, MissingHeartbeatError, Unbuilt}
 use Rattle.amqp_session.specs.Talk.{Talk, has_ended, hears_on, is_open, is_closing, acts, end_of_link}
-use Rattle.amqp_session.specs.Changes.{Promises, present_at, refuse, give_to, fail, lose, misplaced, close, finish, finish_by, starve}
+use Rattle.amqp_session.specs.Changes.{Promises, present_at, queue, refuse, give_to, fail, lose, misplaced, close, finish, finish_by, starve}
 use Rattle.amqp_session.specs.Links.{dropped, lost, misread}
 use Rattle.amqp_session.specs.Violations.{channel_closed_with, misread_error}
 use Rattle.amqp_session.specs.ConnectionMethods.{connection_rule, connection_closed}
@@ -43,8 +43,11 @@ use Rattle.amqp_session.specs.ChannelMethods.{heard_on, unawaited_channel_method
 use Rattle.amqp_session.specs.Frames.{is_unbuilt, is_of_a_channel, method_rule, frame_rule, closed_rule, on_frame}
 use Rattle.amqp_session.specs.Publishing.{method_frame, publish_frames}
 use Rattle.amqp_session.specs.Commands.{open_drawn, close_target, drop_target, flow_target, too_long, unless_too_long, queue_send, send_target, body_limit, queue_publish, publish_target, command, command_rule}
+use Rattle.amqp_session.specs.Ticks.{is_connected, beats, is_missed, is_due, missing_heartbeat, tick}
 use Rattle.amqp_session.specs.Writing.{left_in, paid_by, pay, follow, sent, sent_among, taken}
-use Rattle.amqp_session.proofs.Cases.{if_case, if-true, if-false, and-true, and-false}
+use Rattle.amqp_session.specs.Negotiation.{grown_capacity}
+use Rattle.amqp_session.specs.Parts.{is_opening, capacity_after}
+use Rattle.amqp_session.proofs.Cases.{if_case, if_by, if-true, if-false, and-true, and-false}
 
 -- ---- the present
 
@@ -87,34 +90,39 @@ starve-committed t = if_case (λ (x : Talk). x.committed ≡ t.committed) (has_e
 
 -- ---- what a rule keeps
 
--- a rule that commits nothing, and leaves the capacity, and the link as it is unless the session ends
-pub record Keeps (t t' : Talk) : Type 0 where
+-- a rule that commits nothing, makes the capacity so much, and leaves the link as it is unless the session ends
+pub record Keeps (octets : ℕ) (t t' : Talk) : Type 0 where
   pub committed : t'.committed ≡ t.committed
-  pub capacity : t'.capacity ≡ t.capacity
+  pub capacity : t'.capacity ≡ octets
   pub link : (t'.link ≡ t.link) ⊎ (has_ended t' ≡ true)
 
-pub keeps-none : (t : Talk) → Keeps t t
+pub keeps-none : (t : Talk) → Keeps t.capacity t t
 keeps-none t = record { committed = refl; capacity = refl; link = inl refl }
 
-keeps-lose : (e : ErrorKind) (t : Talk) → Keeps t (lose e t)
+keeps-lose : (e : ErrorKind) (t : Talk) → Keeps t.capacity t (lose e t)
 keeps-lose e t = record { committed = refl; capacity = refl; link = inr refl }
 
-keeps-give_to : (promise : Option ℕ) (answer : Result AnyAnswer ErrorKind) (t u : Talk) → Keeps t u → Keeps t (give_to promise answer u)
-keeps-give_to None answer t u k = k
-keeps-give_to (Some n) answer t u k = record { committed = k.committed; capacity = k.capacity; link = k.link }
+keeps-give_to : (promise : Option ℕ) (answer : Result AnyAnswer ErrorKind) (octets : ℕ) (t u : Talk) → Keeps octets t u → Keeps octets t (give_to promise answer u)
+keeps-give_to None answer octets t u k = k
+keeps-give_to (Some n) answer octets t u k = record { committed = k.committed; capacity = k.capacity; link = k.link }
 
-keeps-close : (t u : Talk) → Keeps t u → Keeps t (close u)
-keeps-close t u k = record { committed = k.committed; capacity = k.capacity; link = inr refl }
+keeps-close : (octets : ℕ) (t u : Talk) → Keeps octets t u → Keeps octets t (close u)
+keeps-close octets t u k = record { committed = k.committed; capacity = k.capacity; link = inr refl }
 
 -- ---- frames
 
-keeps-connection-closed : (o : Option (Option ℕ)) (t : Talk) → Keeps t (connection_closed o t)
-keeps-connection-closed None t = keeps-close t t (keeps-none t)
+keeps-connection-closed : (o : Option (Option ℕ)) (t : Talk) → Keeps t.capacity t (connection_closed o t)
+keeps-connection-closed None t = keeps-close t.capacity t t (keeps-none t)
 keeps-connection-closed (Some promise) t =
-    keeps-close t _ (keeps-give_to promise (Ok Done) t
+    keeps-close t.capacity t _ (keeps-give_to promise (Ok Done) t.capacity t
     (record t { outbox = answered 0 ConnectionClosed t.outbox }) (record { committed = refl; capacity = refl; link = inl refl }))
 
-keeps-connection : (s : ConnectionState) (p : Phase) (m : AnyMethod) (t : Talk) → Keeps t (connection_rule s p m t)
+-- the capacity once a method of the connection class was read: open-ok makes it greater
+abbrev pub capacity_by : AnyMethod → ConnectionState → Phase → Talk → ℕ
+capacity_by OpenOk Connecting AwaitOpenOk t = grown_capacity t
+capacity_by _ s p t = t.capacity
+
+keeps-connection : (s : ConnectionState) (p : Phase) (m : AnyMethod) (t : Talk) → Keeps (capacity_by m s p t) t (connection_rule s p m t)
 keeps-connection s p (Close code text class method) t = record { committed = refl; capacity = refl; link = inl refl }
 keeps-connection s p (Blocked reason) t = record { committed = refl; capacity = refl; link = inl refl }
 keeps-connection s p Unblocked t = record { committed = refl; capacity = refl; link = inl refl }
@@ -125,39 +133,39 @@ keeps-connection Connecting AwaitTune (Tune a b c) t = record { committed = refl
 keeps-connection Connecting AwaitOpenOk OpenOk t = record { committed = refl; capacity = refl; link = inl refl }
 keeps-connection held p m t = keeps-lose _ t
 
-keeps-misplaced : (e : ErrorKind) (t : Talk) → Keeps t (misplaced e t)
-keeps-misplaced e t = if_case (Keeps t) (is_closing t.state) t (lose e t) (keeps-none t) (keeps-lose e t)
+keeps-misplaced : (e : ErrorKind) (t : Talk) → Keeps t.capacity t (misplaced e t)
+keeps-misplaced e t = if_case (Keeps t.capacity t) (is_closing t.state) t (lose e t) (keeps-none t) (keeps-lose e t)
 
-keeps-unawaited : (n : ℕ) (s : ChannelState) (m : AnyMethod) (t : Talk) → Keeps t (unawaited_channel_method n s m t)
+keeps-unawaited : (n : ℕ) (s : ChannelState) (m : AnyMethod) (t : Talk) → Keeps t.capacity t (unawaited_channel_method n s m t)
 keeps-unawaited n channel.Closing m t = keeps-none t
 keeps-unawaited n _ m t = keeps-lose _ t
 
-keeps-opened : (n : ℕ) (c : Channel) (o : Option (Option ℕ)) (t : Talk) → Keeps t (channel_opened n c o t)
+keeps-opened : (n : ℕ) (c : Channel) (o : Option (Option ℕ)) (t : Talk) → Keeps t.capacity t (channel_opened n c o t)
 keeps-opened n c None t = keeps-unawaited n c.state ChannelOpenOk t
-keeps-opened n c (Some promise) t = keeps-give_to promise _ t _ (record { committed = refl; capacity = refl; link = inl refl })
+keeps-opened n c (Some promise) t = keeps-give_to promise _ t.capacity t _ (record { committed = refl; capacity = refl; link = inl refl })
 
-keeps-owed : (d : Debt) (n : ℕ) (t u : Talk) → Keeps t u → Keeps t (remove_unless_owed d n u)
-keeps-owed debt.Owed n t u k = k
-keeps-owed _ n t u k = record { committed = k.committed; capacity = k.capacity; link = k.link }
+keeps-owed : (d : Debt) (n octets : ℕ) (t u : Talk) → Keeps octets t u → Keeps octets t (remove_unless_owed d n u)
+keeps-owed debt.Owed n octets t u k = k
+keeps-owed _ n octets t u k = record { committed = k.committed; capacity = k.capacity; link = k.link }
 
-keeps-closed : (n : ℕ) (c : Channel) (o : Option (Option ℕ)) (t : Talk) → Keeps t (channel_closed n c o t)
+keeps-closed : (n : ℕ) (c : Channel) (o : Option (Option ℕ)) (t : Talk) → Keeps t.capacity t (channel_closed n c o t)
 keeps-closed n c None t = keeps-unawaited n c.state ChannelCloseOk t
-keeps-closed n c (Some promise) t = keeps-owed c.debt n t _ (record { committed = refl; capacity = refl; link = inl refl })
+keeps-closed n c (Some promise) t = keeps-owed c.debt n t.capacity t _ (record { committed = refl; capacity = refl; link = inl refl })
 
-keeps-flow : (s : ChannelState) (n : ℕ) (c : Channel) (active : Bool) (t : Talk) → Keeps t (on_channel_flow s n c active t)
+keeps-flow : (s : ChannelState) (n : ℕ) (c : Channel) (active : Bool) (t : Talk) → Keeps t.capacity t (on_channel_flow s n c active t)
 keeps-flow channel.Closing n c active t = keeps-none t
 keeps-flow _ n c active t = record { committed = refl; capacity = refl; link = inl refl }
 
-keeps-flowed : (n : ℕ) (c : Channel) (active : Bool) (o : Option (Option ℕ)) (t : Talk) → Keeps t (channel_flowed n c active o t)
+keeps-flowed : (n : ℕ) (c : Channel) (active : Bool) (o : Option (Option ℕ)) (t : Talk) → Keeps t.capacity t (channel_flowed n c active o t)
 keeps-flowed n c active None t = keeps-unawaited n c.state (ChannelFlowOk active) t
-keeps-flowed n c active (Some promise) t = keeps-give_to promise _ t _ (record { committed = refl; capacity = refl; link = inl refl })
+keeps-flowed n c active (Some promise) t = keeps-give_to promise _ t.capacity t _ (record { committed = refl; capacity = refl; link = inl refl })
 
-keeps-server-close : (d : Debt) (awaits : Bool) (n : ℕ) (e : ErrorKind) (c : Channel) (t : Talk) → Keeps t (channel_close_by d awaits n e c t)
+keeps-server-close : (d : Debt) (awaits : Bool) (n : ℕ) (e : ErrorKind) (c : Channel) (t : Talk) → Keeps t.capacity t (channel_close_by d awaits n e c t)
 keeps-server-close debt.Nothing false n e c t = record { committed = refl; capacity = refl; link = inl refl }
 keeps-server-close debt.Nothing true n e c t = record { committed = refl; capacity = refl; link = inl refl }
 keeps-server-close _ awaits n e c t = keeps-none t
 
-keeps-channel : (s : ConnectionState) (n : ℕ) (c : Channel) (m : AnyMethod) (t : Talk) → Keeps t (channel_rule s n c m t)
+keeps-channel : (s : ConnectionState) (n : ℕ) (c : Channel) (m : AnyMethod) (t : Talk) → Keeps t.capacity t (channel_rule s n c m t)
 keeps-channel Closing n c m t = keeps-none t
 keeps-channel _ n c ChannelOpenOk t = keeps-opened n c (awaited_promise n ChannelOpened t.outbox) t
 keeps-channel _ n c ChannelCloseOk t = keeps-closed n c (awaited_promise n ChannelClosed t.outbox) t
@@ -166,55 +174,115 @@ keeps-channel _ n c (ChannelFlow active) t = keeps-flow c.state n c active t
 keeps-channel _ n c (ChannelFlowOk active) t = keeps-flowed n c active (awaited_promise n FlowDone t.outbox) t
 keeps-channel _ n c m t = keeps-unawaited n c.state m t
 
-keeps-channel-by : (o : Option Channel) (n : ℕ) (m : AnyMethod) (t : Talk) → Keeps t (channel_method_by o n m t)
+keeps-channel-by : (o : Option Channel) (n : ℕ) (m : AnyMethod) (t : Talk) → Keeps t.capacity t (channel_method_by o n m t)
 keeps-channel-by None n m t = keeps-misplaced _ t
 keeps-channel-by (Some c) n m t = keeps-channel t.state n c m t
 
-keeps-pass : (n : ℕ) (c : Channel) (kind : RawKind) (bytes : List ℕ) (t : Talk) → Keeps t (pass_through n c kind bytes t)
+keeps-pass : (n : ℕ) (c : Channel) (kind : RawKind) (bytes : List ℕ) (t : Talk) → Keeps t.capacity t (pass_through n c kind bytes t)
 keeps-pass n c kind bytes t =
-    if_case (λ (x : Talk). Keeps t (hand_out c.opened (record { channel = n; kind = kind; bytes = bytes }) x)) (is_select_ok kind bytes) (confirmed n c t) t
+    if_case (λ (x : Talk). Keeps t.capacity t (hand_out c.opened (record { channel = n; kind = kind; bytes = bytes }) x)) (is_select_ok kind bytes) (confirmed n c t) t
     (record { committed = refl; capacity = refl; link = inl refl })
     (record { committed = refl; capacity = refl; link = inl refl })
 
-keeps-raw : (o : Option Channel) (n : ℕ) (kind : RawKind) (bytes : List ℕ) (t : Talk) → Keeps t (raw_by o n kind bytes t)
+keeps-raw : (o : Option Channel) (n : ℕ) (kind : RawKind) (bytes : List ℕ) (t : Talk) → Keeps t.capacity t (raw_by o n kind bytes t)
 keeps-raw None n kind bytes t = keeps-misplaced _ t
 keeps-raw (Some c) n kind bytes t = keeps-pass n c kind bytes t
 
-keeps-method : (n : ℕ) (m : AnyMethod) (t : Talk) → Keeps t (method_rule n m t)
+-- a method of the channel class, and one that no rule takes yet, leave the capacity as it is
+channel-capacity : (m : AnyMethod) (s : ConnectionState) (p : Phase) (t : Talk) → is_of_a_channel m ≡ true → capacity_by m s p t ≡ t.capacity
+channel-capacity OpenOk s p t h = cc
+channel-capacity _ s p t h = refl
+
+unbuilt-capacity : (m : AnyMethod) (s : ConnectionState) (p : Phase) (t : Talk) → is_unbuilt m ≡ true → capacity_by m s p t ≡ t.capacity
+unbuilt-capacity OpenOk s p t h = cc
+unbuilt-capacity _ s p t h = refl
+
+keeps-same : (m n : ℕ) (t x : Talk) → m ≡ n → Keeps n t x → Keeps m t x
+keeps-same m n t x h k = record { committed = k.committed; capacity = k.capacity ∙ sym h; link = k.link }
+
+-- the capacity once a frame was read that acts
+abbrev pub acted_capacity : Frame → Talk → ℕ
+acted_capacity (Method zero m) t = capacity_by m t.state t.phase t
+acted_capacity f t = t.capacity
+
+keeps-method : (n : ℕ) (m : AnyMethod) (t : Talk) → Keeps (acted_capacity (Method n m) t) t (method_rule n m t)
 keeps-method zero m t =
-    if_case (Keeps t) (is_of_a_channel m) (misplaced _ t) (connection_rule t.state t.phase m t)
-    (keeps-misplaced _ t) (keeps-connection t.state t.phase m t)
+    if_by (Keeps (capacity_by m t.state t.phase t) t) (is_of_a_channel m) (misplaced _ t) (connection_rule t.state t.phase m t)
+    (λ h. keeps-same _ t.capacity t _ (channel-capacity m t.state t.phase t h) (keeps-misplaced _ t)) (λ h. keeps-connection t.state t.phase m t)
 keeps-method (suc n) m t =
-    if_case (Keeps t) (is_of_a_channel m) (channel_method (suc n) m t) (misplaced _ t)
+    if_case (Keeps t.capacity t) (is_of_a_channel m) (channel_method (suc n) m t) (misplaced _ t)
     (keeps-channel-by (heard_on t.state (channel_at (suc n) t)) (suc n) m t) (keeps-misplaced _ t)
 
-keeps-rule : (f : Frame) (place : ℕ) (t : Talk) → Keeps t (frame_rule f place t)
+-- a method that no rule takes yet, or any other
+keeps-built : (n : ℕ) (m : AnyMethod) (place : ℕ) (t : Talk) → Keeps (acted_capacity (Method n m) t) t (if is_unbuilt m then fail (Unbuilt place) t else method_rule n m t)
+keeps-built zero m place t =
+    if_by (Keeps (capacity_by m t.state t.phase t) t) (is_unbuilt m) (fail (Unbuilt place) t) (method_rule zero m t)
+    (λ h. keeps-same _ t.capacity t _ (unbuilt-capacity m t.state t.phase t h) (keeps-lose (Unbuilt place) t)) (λ h. keeps-method zero m t)
+keeps-built (suc n) m place t =
+    if_case (Keeps t.capacity t) (is_unbuilt m) (fail (Unbuilt place) t) (method_rule (suc n) m t) (keeps-lose (Unbuilt place) t) (keeps-method (suc n) m t)
+
+keeps-rule : (f : Frame) (place : ℕ) (t : Talk) → Keeps (acted_capacity f t) t (frame_rule f place t)
 keeps-rule (ProtocolHeader version) place t = keeps-lose _ t
 keeps-rule Heartbeat place t = keeps-none t
-keeps-rule (Method n m) place t = if_case (Keeps t) (is_unbuilt m) (fail _ t) (method_rule n m t) (keeps-lose _ t) (keeps-method n m t)
+keeps-rule (Method n m) place t = keeps-built n m place t
 keeps-rule (Raw zero kind bytes) place t = keeps-misplaced _ t
 keeps-rule (Raw (suc n) kind bytes) place t = keeps-raw (heard_on t.state (channel_at (suc n) t)) (suc n) kind bytes t
 
-keeps-closed-rule : (f : Frame) (t : Talk) → Keeps t (closed_rule f t)
+keeps-closed-rule : (f : Frame) (t : Talk) → Keeps t.capacity t (closed_rule f t)
 keeps-closed-rule (Method zero (Blocked reason)) t = record { committed = refl; capacity = refl; link = inl refl }
 keeps-closed-rule (Method zero Unblocked) t = record { committed = refl; capacity = refl; link = inl refl }
 keeps-closed-rule f t = keeps-none t
 
-pub keeps-frame : (f : Frame) (place : ℕ) (t : Talk) → Keeps t (on_frame f place t)
+-- it is greater exactly where the frame opens the connection
+opened-capacity : (m : AnyMethod) (s : ConnectionState) (p : Phase) (t : Talk) → capacity_by m s p t ≡ (if is_opening (Method 0 m) s p then grown_capacity t else t.capacity)
+opened-capacity OpenOk Connecting AwaitOpenOk t = refl
+opened-capacity _ s p t = refl
+
+acting-capacity : (f : Frame) (t : Talk) → acted_capacity f t ≡ (if is_opening f t.state t.phase then grown_capacity t else t.capacity)
+acting-capacity (Method zero m) t = opened-capacity m t.state t.phase t
+acting-capacity f t = refl
+
+frame-capacity : (b : Bool) (f : Frame) (t : Talk) → acts t ≡ b → (if b then acted_capacity f t else t.capacity) ≡ capacity_after f t
+frame-capacity true f t h =
+    acting-capacity f t ∙ ap (λ c. if c && is_opening f t.state t.phase then grown_capacity t else t.capacity) (sym h)
+frame-capacity false f t h = ap (λ c. if c && is_opening f t.state t.phase then grown_capacity t else t.capacity) (sym h)
+
+pub keeps-frame : (f : Frame) (place : ℕ) (t : Talk) → Keeps (capacity_after f t) t (on_frame f place t)
 keeps-frame f place t =
-    if_case (Keeps t) (acts t) (frame_rule f place t) (if hears_on t then closed_rule f t else t)
-    (keeps-rule f place t)
-    (if_case (Keeps t) (hears_on t) (closed_rule f t) t (keeps-closed-rule f t) (keeps-none t))
+    if_by (Keeps (capacity_after f t) t) (acts t) (frame_rule f place t) (if hears_on t then closed_rule f t else t)
+    (λ acting. keeps-same _ (acted_capacity f t) t _ (sym (frame-capacity true f t acting)) (keeps-rule f place t))
+    (λ idle. keeps-same _ t.capacity t _ (sym (frame-capacity false f t idle))
+    (if_case (Keeps t.capacity t) (hears_on t) (closed_rule f t) t (keeps-closed-rule f t) (keeps-none t)))
+
+connected : (s : ConnectionState) → is_connected s ≡ true → s ≡ Connected
+connected Connected h = refl
+connected _ h = cc
+
+-- heartbeats are exchanged only while the connection is open
+pub beats-connected : (t : Talk) → is_due t ≡ true → t.state ≡ Connected
+beats-connected t due = connected t.state (both-left (is_connected t.state) _ (both-left (beats t) _ due))
+  where
+    both-left : (a b : Bool) → (a && b) ≡ true → a ≡ true
+    both-left true b h = refl
+    both-left false b h = absurd cc
+
+-- time commits nothing
+pub keeps-tick : (t : Talk) → Keeps t.capacity t (tick t)
+keeps-tick t =
+    let x : Talk = missing_heartbeat t in
+    let before : Keeps t.capacity t x = if_case (Keeps t.capacity t) (is_missed t) (lose MissingHeartbeatError t) t (keeps-lose _ t) (keeps-none t) in
+    if_case (Keeps t.capacity t) (is_due x) (record (queue 0 Heartbeat x) { last_write = x.present }) x
+    (record { committed = before.committed; capacity = before.capacity; link = before.link }) before
 
 -- a frame that is read commits nothing
 pub frame-committed : (f : Frame) (place at : ℕ) (t : Talk) → (on_frame f place (present_at at t)).committed ≡ t.committed
 frame-committed f place at t = (keeps-frame f place (present_at at t)).committed ∙ present-keeps (λ x. x.committed) at t (λ n. refl)
 
-pub keeps-misread : (why : Misread) (t : Talk) → Keeps t (misread why t)
+pub keeps-misread : (why : Misread) (t : Talk) → Keeps t.capacity t (misread why t)
 keeps-misread why t =
-    if_case (Keeps t) (acts t) (lose (misread_error why) t) (if is_open t then record t { input = dropped t.input } else t)
+    if_case (Keeps t.capacity t) (acts t) (lose (misread_error why) t) (if is_open t then record t { input = dropped t.input } else t)
     (keeps-lose _ t)
-    (if_case (Keeps t) (is_open t) (record t { input = dropped t.input }) t (record { committed = refl; capacity = refl; link = inl refl }) (keeps-none t))
+    (if_case (Keeps t.capacity t) (is_open t) (record t { input = dropped t.input }) t (record { committed = refl; capacity = refl; link = inl refl }) (keeps-none t))
 
 pub misread-committed : (why : Misread) (at : ℕ) (t : Talk) → (misread why (present_at at t)).committed ≡ t.committed
 misread-committed why at t = (keeps-misread why (present_at at t)).committed ∙ present-keeps (λ x. x.committed) at t (λ n. refl)
@@ -298,6 +366,13 @@ pub record Overlooks {A : Type 0} (f : Talk → A) : Type 0 where
   pub writes : (t : Talk) (w : ℕ) (ms : List Mark) → f (record t { last_write = w; committed = ms }) ≡ f t
   pub moments : (t : Talk) (n : ℕ) → f (record t { present = n }) ≡ f t
 
+-- a tick leaves it as it was, where it overlooks what waits and when was written too
+pub tick-keeps : {A : Type 0} (f : Talk → A) → OverlooksEnds f → ((t : Talk) (q : Queued) (n : ℕ) → f (record t { outbox = q; last_write = n }) ≡ f t) → (t : Talk) → f (tick t) ≡ f t
+tick-keeps f h k t =
+    let x : Talk = missing_heartbeat t in
+    if_case (λ (y : Talk). f y ≡ f x) (is_due x) (record (queue 0 Heartbeat x) { last_write = x.present }) x (k x _ _) refl
+    ∙ if_case (λ (y : Talk). f y ≡ f t) (is_missed t) (lose MissingHeartbeatError t) t (h t _ _ _ _) refl
+
 finish-keeps : {A : Type 0} (f : Talk → A) → OverlooksEnds f → (o : Option ServerClose) (t : Talk) → f (finish_by o t) ≡ f t
 finish-keeps f h None t = h t _ _ _ _
 finish-keeps f h (Some WithoutError) t = h t _ _ _ _
@@ -321,6 +396,11 @@ lost-stays fault t =
     if_case (λ (x : Talk). (x ≡ t) ⊎ (has_ended x ≡ true)) (acts t) (lose (IOError fault) t) (if is_open t then finish t else t)
     (inr refl)
     (if_case (λ (x : Talk). (x ≡ t) ⊎ (has_ended x ≡ true)) (is_open t) (finish t) t (inr (finish-ends t.server_close t)) (inl refl))
+
+-- a tick leaves the link, or ends the session
+pub tick-stays : (t : Talk) → has_ended t ≡ true → has_ended (tick t) ≡ true
+tick-stays t h =
+    elim (keeps-tick t).link [ inl same ↦ ap (λ (l : Link ErrorKind). is_some (end_of_link l)) same ∙ h | inr ended ↦ ended ]
 
 -- the link stays, or the session ended
 abbrev pub LinkKept : Talk → Talk → Type 0

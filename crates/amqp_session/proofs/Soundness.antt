@@ -43,11 +43,11 @@ use Rattle.amqp_session.specs.declared.command.Answer.TheVariants.{Connected as 
 use Rattle.amqp_session.specs.declared.command.ChanRef.{ChanRef}
 use Rattle.amqp_session.specs.declared.handed.Handed.{Handed}
 use Rattle.amqp_session.specs.declared.misread.Misread.{Misread}
-use Rattle.amqp_session.specs.declared.error.ErrorKind.TheVariants.{NoMemory, IOError, ChannelsLimitReached, InvalidChannelState, InvalidConnectionState}
+use Rattle.amqp_session.specs.declared.error.ErrorKind.TheVariants.{NoMemory, IOError, ChannelsLimitReached, InvalidChannelState, InvalidConnectionState, MissingHeartbeatError, SerialisationError}
 use Rattle.amqp_session.specs.declared.error.ErrorKind.{ErrorKind}
 use Rattle.amqp_session.specs.Listed.{at, put, without, has}
 use Rattle.amqp_session.specs.Talk.{Talk, start, acts, hears_on, has_ended, is_acting, is_asked, is_closing, is_open, is_open_link, end_of_link}
-use Rattle.amqp_session.specs.Changes.{Promises, present_at, starve, next_promise, refuse, give, give_to, rejected, rejected_each, promises_on, replies_on, without_all_on, drop_replies_of, fail, lose, misplaced, close, finish, finish_by, settled_by, settled_to, promise}
+use Rattle.amqp_session.specs.Changes.{Promises, present_at, queue, starve, next_promise, refuse, give, give_to, rejected, rejected_each, promises_on, replies_on, without_all_on, drop_replies_of, fail, lose, misplaced, close, finish, finish_by, settled_by, settled_to, promise}
 use Rattle.amqp_session.specs.Links.{asked, asked_link, linked, link_failed, piece, dropped, misread, lost}
 use Rattle.amqp_session.specs.Handshake.{close_ok, start_ok, tune_ok, open_vhost, our_close, channel_open, channel_flow, flow_ok, channel_close_ok, our_channel_close}
 use Rattle.amqp_session.specs.Negotiation.{lesser_wish, wish_or, tune}
@@ -59,11 +59,13 @@ use Rattle.amqp_session.specs.ChannelMethods.{heard_on, unawaited_channel_method
 use Rattle.amqp_session.specs.Publishing.{method_frame, publish_frames}
 use Rattle.amqp_session.specs.Frames.{is_unbuilt, is_of_a_channel, method_rule, frame_rule, closed_rule, on_frame}
 use Rattle.amqp_session.specs.Commands.{is_opening, named_in, named, target_in, target_by, target, open_drawn, leave_channel, leave_connection, close_target, drop_target, flow_target, too_long, unless_too_long, queue_send, send_target, body_limit, queue_publish, publish_target, command, command_rule}
-use Rattle.amqp_session.specs.Writing.{committed_as, next_within, commit, paid_by, pay, follow, sent, sent_among, taken}
+use Rattle.amqp_session.specs.Writing.{committed_as, next_within, commit, overlong, end_overlong, next_frame, paid_by, pay, follow, sent, sent_among, taken}
+use Rattle.amqp_session.specs.Ticks.{is_missed, is_due, missing_heartbeat, tick}
 use Rattle.amqp_session.specs.Answers.{answer_of, take_answer, take_frames}
 use Rattle.amqp_session.specs.Laws.{IsEnded, StaysSound, is_end}
 use Rattle.amqp_session.specs.Sound.{Ascend, AscendFrom, IsSound, fits_link, is_agreed, AllBelow, Finishes, following, goes_on}
 use Rattle.amqp_session.proofs.Cases.{if_case, if_by}
+use Rattle.amqp_session.proofs.Keeping.{beats-connected}
 use Rattle.amqp_session.proofs.Ascending.{none-below, put-ascends, put-from, put-below, without-ascends, without-from, without-below, at-below, below-greater, map_values-from}
 use Rattle.amqp_session.proofs.Finishing.{acting-finishes, acting-none, alone-last, channel-goes_on, close-goes_on, close_ok-goes_on, committed-follows, control-goes_on, flow-goes_on, flow_ok-goes_on, dropped-acts, dropped-finishes, first-goes, group-goes_on, left-goes_on, open-goes_on, publish-goes_on, queue-finishes, sent-committed, ungrouped-goes_on}
 
@@ -621,6 +623,32 @@ committed-as (Some item) space t h s =
 pub sound-commit : (space : ℕ) (t : Talk) → IsSound t → IsSound (commit space t)
 sound-commit space t s = committed-as (next_within space t) space t refl s
 
+sound-overlong : (o : Option ℕ) (t : Talk) → IsSound t → IsSound (end_overlong o t)
+sound-overlong None t s = s
+sound-overlong (Some size) t s = sound-fail (SerialisationError size) t s
+
+sound-next : (space : ℕ) (t : Talk) → IsSound t → IsSound (next_frame space t)
+sound-next space t s = sound-overlong (overlong t) (commit space t) (sound-commit space t s)
+
+-- ---- time
+
+sound-heartbeat : (t : Talk) → t.state ≡ Connected → IsSound t → IsSound (record (queue 0 Heartbeat t) { last_write = t.present })
+sound-heartbeat t hs s =
+    record {
+      link = s.link;
+      room = s.room;
+      acting = s.acting;
+      finish = queue-finishes t.input t.committed t.outbox (plain 0 Heartbeat) (s.acting (ap goes_on hs)) refl s.finish;
+      listed = s.listed;
+      promises = s.promises;
+    }
+
+pub sound-tick : (t : Talk) → IsSound t → IsSound (tick t)
+sound-tick t s =
+    let x : Talk = missing_heartbeat t in
+    let after : IsSound x = if_case IsSound (is_missed t) (lose MissingHeartbeatError t) t (sound-fail MissingHeartbeatError t s) s in
+    if_by IsSound (is_due x) (record (queue 0 Heartbeat x) { last_write = x.present }) x (λ due. sound-heartbeat x (beats-connected x due) after) (λ rest. after)
+
 sound-paid : (b : Bool) (n : ℕ) (c : Channel) (t : Talk) → 0 < n → IsSound t → IsSound (paid_by b n c t)
 sound-paid true n c t some s = sound-set n (record c { debt = debt.Paid }) t some s
 sound-paid false n c t some s =
@@ -699,7 +727,8 @@ keeps-sound t s =
       frame = λ f place. sound-frame f place t s;
       misread = λ why. sound-misread why t s;
       lost = λ fault. sound-lost fault t s;
-      commit = λ space. sound-commit space t s;
+      tick = sound-tick t s;
+      next_frame = λ space. sound-next space t s;
       taken = λ n. sound-taken n t s;
       starve = sound-starve t s;
       command = λ cmd. sound-command cmd t s;

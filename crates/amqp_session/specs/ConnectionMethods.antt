@@ -14,7 +14,7 @@ use Rattle.amqp_session.specs.declared.configuration.Configuration.{Configuratio
 use Rattle.amqp_session.specs.declared.command.Answer.TheVariants.{Connected as AnswerConnected, Done}
 use Rattle.amqp_session.specs.declared.error.ErrorKind.TheVariants.{InvalidConnectionState}
 use Rattle.amqp_session.specs.Talk.{Talk, is_closing}
-use Rattle.amqp_session.specs.Negotiation.{tune}
+use Rattle.amqp_session.specs.Negotiation.{tune, grown_capacity}
 use Rattle.amqp_session.specs.Handshake.{start_ok, tune_ok, open_vhost, close_ok}
 use Rattle.amqp_session.specs.Violations.{closed_with}
 use Rattle.amqp_session.specs.Changes.{queue, give, give_to, close, lose}
@@ -31,9 +31,9 @@ on_tune server t =
     let agreed = tune t.configuration server in
     record (queue 0 open_vhost (queue 0 (tune_ok agreed) t)) { configuration = agreed; phase = AwaitOpenOk }
 
--- open-ok: the connection is open, and its promise is answered
+-- open-ok: the connection is open, its promise is answered, and more can be unsent, where longer frames were agreed
 abbrev pub on_open_ok : Talk → Talk
-on_open_ok t = record (give 0 (Ok AnswerConnected) t) { state = Connected }
+on_open_ok t = record (give 0 (Ok AnswerConnected) t) { state = Connected; capacity = grown_capacity t }
 
 -- ---- blocking (an extension of RabbitMQ)
 

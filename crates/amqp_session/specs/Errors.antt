@@ -9,7 +9,7 @@ use Rattle.amqp_session.specs.declared.state.ChannelState.TheVariants as channel
 use Rattle.amqp_session.specs.declared.io_fault.IoFault.{IoFault}
 use Rattle.amqp_session.specs.declared.io_fault.IoFault.TheVariants.{Aborted, Refused, Reset, BrokenPipe, WouldBlock, Interrupted, Other}
 use Rattle.amqp_session.specs.declared.error.ErrorKind.{ErrorKind}
-use Rattle.amqp_session.specs.declared.error.ErrorKind.TheVariants.{ChannelsLimitReached, InvalidProtocolVersion, InvalidChannel, InvalidChannelState, InvalidConnectionState, IOError, ParsingError, ProtocolError, SerialisationError, OutOfTurns, NoMemory, Unbuilt}
+use Rattle.amqp_session.specs.declared.error.ErrorKind.TheVariants.{ChannelsLimitReached, InvalidProtocolVersion, InvalidChannel, InvalidChannelState, InvalidConnectionState, IOError, ParsingError, ProtocolError, SerialisationError, MissingHeartbeatError, OutOfTurns, NoMemory, Unbuilt}
 use Rattle.amqp_session.specs.Shown.{shown}
 
 -- the states of a connection, by their names
@@ -59,6 +59,7 @@ text_of (IOError fault) = codes "IO error: " ++ fault_text fault
 text_of (ParsingError place) = codes "failed to parse: frame at byte " ++ decimal place
 text_of (ProtocolError e) = codes "protocol error: " ++ decimal e.code ++ codes " " ++ shown e.message
 text_of (SerialisationError size) = codes "failed to serialise: frame of " ++ decimal size ++ codes " bytes"
+text_of MissingHeartbeatError = codes "no heartbeat received from server for too long"
 text_of OutOfTurns = codes "the given turns were all taken"
 text_of NoMemory = codes "memory was refused"
 text_of (Unbuilt place) = codes "not built: frame at byte " ++ decimal place

@@ -14,6 +14,7 @@ use Rattle.amqp_session.specs.Changes as change
 use Rattle.amqp_session.specs.Changes.{next_promise, refuse}
 use Rattle.amqp_session.specs.Links as link
 use Rattle.amqp_session.specs.Frames.{on_frame}
+use Rattle.amqp_session.specs.Ticks as ticks
 use Rattle.amqp_session.specs.Commands as told
 use Rattle.amqp_session.specs.Writing as writing
 use Rattle.amqp_session.specs.Answers.{take_answer, take_frames}
@@ -40,7 +41,8 @@ pub record IsOver (t : Talk) : Type 0 where
   pub frame : (f : Frame) (place : ℕ) → on_frame f place t ≡ t
   pub misread : (why : Misread) → link.misread why t ≡ t
   pub lost : (fault : IoFault) → link.lost fault t ≡ t
-  pub commit : (space : ℕ) → writing.commit space t ≡ t
+  pub tick : ticks.tick t ≡ t
+  pub next_frame : (space : ℕ) → writing.next_frame space t ≡ t
   pub taken : (n : ℕ) → writing.taken n t ≡ t
   pub starve : change.starve t ≡ t
   pub command : (cmd : Cmd) →
@@ -72,7 +74,8 @@ pub record StaysSound (t : Talk) : Type 0 where
   pub frame : (f : Frame) (place : ℕ) → IsSound (on_frame f place t)
   pub misread : (why : Misread) → IsSound (link.misread why t)
   pub lost : (fault : IoFault) → IsSound (link.lost fault t)
-  pub commit : (space : ℕ) → IsSound (writing.commit space t)
+  pub tick : IsSound (ticks.tick t)
+  pub next_frame : (space : ℕ) → IsSound (writing.next_frame space t)
   pub taken : (n : ℕ) → IsSound (writing.taken n t)
   pub starve : IsSound (change.starve t)
   pub command : (cmd : Cmd) → IsSound (told.command cmd t)

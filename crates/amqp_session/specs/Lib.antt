@@ -18,6 +18,7 @@ pub mod Channels
 pub mod Memory
 pub mod ChannelMethods
 pub mod Frames
+pub mod Ticks
 pub mod Publishing
 pub mod Commands
 pub mod Writing

@@ -1,5 +1,12 @@
 -- Parts of the state and of the rules, as the code takes them.
-use Rattle.std.specs.Prelude.{◌≡◌, ℕ, ◌-◌, nat_le, if◌then◌else◌, List, [], ◌∷◌, Option, Some, None, option_map, Result, Ok, Err}
+use Rattle.std.specs.Prelude.{◌≡◌, ℕ, zero, ◌-◌, ◌&&◌, nat_le, if◌then◌else◌, Bool, true, false, List, [], ◌∷◌, Option, Some, None, option_map, Result, Ok, Err}
+use Rattle.amqp_frame.specs.declared.frame.Frame.{Frame}
+use Rattle.amqp_frame.specs.declared.frame.Frame.TheVariants.{Method}
+use Rattle.amqp_frame.specs.declared.method.Method.TheVariants.{OpenOk}
+use Rattle.amqp_session.specs.declared.state.ConnectionState.{ConnectionState}
+use Rattle.amqp_session.specs.declared.state.ConnectionState.TheVariants.{Connecting}
+use Rattle.amqp_session.specs.declared.state.Phase.{Phase}
+use Rattle.amqp_session.specs.declared.state.Phase.TheVariants.{AwaitOpenOk}
 use Rattle.amqp_session.specs.declared.state.Link.{Link}
 use Rattle.amqp_session.specs.declared.state.Link.TheVariants.{Wanted, Asked, Open, Ended}
 use Rattle.amqp_session.specs.declared.state.End.{End}
@@ -17,7 +24,8 @@ use Rattle.amqp_session.specs.declared.error.ErrorKind.{ErrorKind}
 use Rattle.amqp_session.specs.declared.error.ErrorKind.TheVariants.{ProtocolError}
 use Rattle.amqp_outbox.specs.Order.{seen}
 use Rattle.amqp_session.specs.Sharing.{error_at}
-use Rattle.amqp_session.specs.Talk.{Talk, is_open}
+use Rattle.amqp_session.specs.Talk.{Talk, is_open, acts}
+use Rattle.amqp_session.specs.Negotiation.{grown_capacity}
 
 -- ---- promises
 
@@ -93,3 +101,23 @@ first_sent n t = if is_open t then first_among n t.committed else None
 -- the state without it, or without n of its bytes
 abbrev pub after_sent : ℕ → Talk → Talk
 after_sent n t = if is_open t then record t { committed = after_first n t.committed } else t
+
+-- ---- the capacity once a frame was read
+
+-- open-ok of the connection
+abbrev pub is_open_ok : Frame → Bool
+is_open_ok (Method zero OpenOk) = true
+is_open_ok _ = false
+
+-- open-ok is awaited
+abbrev pub awaits_open_ok : ConnectionState → Phase → Bool
+awaits_open_ok Connecting AwaitOpenOk = true
+awaits_open_ok _ _ = false
+
+-- a frame that opens the connection
+abbrev pub is_opening : Frame → ConnectionState → Phase → Bool
+is_opening f state phase = is_open_ok f && awaits_open_ok state phase
+
+-- how many bytes can be unsent once a frame was read: more, where it opens the connection
+abbrev pub capacity_after : Frame → Talk → ℕ
+capacity_after f t = if acts t && is_opening f t.state t.phase then grown_capacity t else t.capacity

@@ -1,5 +1,5 @@
 -- Writing: which frame goes out next, and what becomes of the bytes of those that went.
-use Rattle.std.specs.Prelude.{ℕ, zero, ◌-◌, ◌==◌, ◌&&◌, Bool, true, false, not, nat_le, if◌then◌else◌, List, [], ◌∷◌, ◌++◌, drop, length, sum_by, Option, Some, None, Ok}
+use Rattle.std.specs.Prelude.{ℕ, zero, ◌-◌, ◌==◌, ◌&&◌, Bool, true, false, not, nat_le, nat_lt, if◌then◌else◌, List, [], ◌∷◌, ◌++◌, drop, length, sum_by, Option, Some, None, Ok}
 use Rattle.amqp_frame.specs.declared.frame.Frame.{Frame}
 use Rattle.amqp_frame.specs.declared.frame.Frame.TheVariants.{Method}
 use Rattle.amqp_frame.specs.declared.method.Method.TheVariants.{CloseOk, ChannelCloseOk}
@@ -16,7 +16,8 @@ use Rattle.amqp_session.specs.declared.channels.Channel.{Channel}
 use Rattle.amqp_session.specs.declared.channels.Debt.TheVariants.{Paid}
 use Rattle.amqp_session.specs.Channels.{all_flow, channel_at, set_channel}
 use Rattle.amqp_session.specs.ChannelMethods.{awaits_close_ok, remove_channel}
-use Rattle.amqp_session.specs.Changes.{give, finish}
+use Rattle.amqp_session.specs.declared.error.ErrorKind.TheVariants.{SerialisationError}
+use Rattle.amqp_session.specs.Changes.{give, lose, finish}
 
 -- how many frames wait to be committed
 abbrev pub frames_waiting : Talk → ℕ
@@ -77,6 +78,26 @@ committed_as (Some item) t =
 -- the next frame is committed, where it is at most so many bytes long
 abbrev pub commit : ℕ → Talk → Talk
 commit space t = committed_as (next_within space t) t
+
+-- how many octets spell a frame that is to go out, where they are more than so many
+abbrev pub longer_than : ℕ → Option Item → Option ℕ
+longer_than most None = None
+longer_than most (Some item) = if nat_lt most (size_of item) then Some (size_of item) else None
+
+-- how many octets spell the next frame, where it is longer than the whole capacity: no command queues such a one, but
+-- what the client says of itself may be so long
+abbrev pub overlong : Talk → Option ℕ
+overlong t = longer_than t.capacity (next_item t)
+
+-- a frame of so many octets can't go out, and ends the session
+abbrev pub end_overlong : Option ℕ → Talk → Talk
+end_overlong None t = t
+end_overlong (Some size) t = lose (SerialisationError size) t
+
+-- the next frame is asked for, of at most so many bytes: it is committed where it fits, and where it is longer than the
+-- whole capacity, the session ends
+abbrev pub next_frame : ℕ → Talk → Talk
+next_frame space t = end_overlong (overlong t) (commit space t)
 
 -- how many bytes of these committed frames are unsent
 abbrev pub left_in : List Mark → ℕ

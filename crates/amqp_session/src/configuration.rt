@@ -6,7 +6,7 @@ ghost use Rattle.amqp_session.specs.Negotiation.{lesser_wish, tune};
 use amqp_types::{ChannelId, FrameSize, Heartbeat};
 
 /// The least `frame_max` that a peer may have (frame-min-size).
-const FRAME_MIN_SIZE: FrameSize = 4096;
+pub(crate) const FRAME_MIN_SIZE: FrameSize = 4096;
 
 /// The numbers of a connection, where 0 is no limit and no heartbeat.
 #[derive(Clone, Copy, Debug, PartialEq, Eq)]

@@ -32,6 +32,8 @@ pub enum ErrorKind {
     ProtocolError(AMQPError),
     /// The length of a frame that is longer than the whole capacity.
     SerialisationError(u64),
+    /// Nothing was read for more than two intervals of heartbeats.
+    MissingHeartbeatError,
     /// A run took all its turns.
     OutOfTurns,
     /// An allocation was refused.
@@ -78,6 +80,7 @@ impl ErrorKind {
             ErrorKind::ParsingError(place) => ErrorKind::ParsingError(*place),
             ErrorKind::ProtocolError(error) => ErrorKind::ProtocolError(error.try_clone(alloc)?),
             ErrorKind::SerialisationError(size) => ErrorKind::SerialisationError(*size),
+            ErrorKind::MissingHeartbeatError => ErrorKind::MissingHeartbeatError,
             ErrorKind::OutOfTurns => ErrorKind::OutOfTurns,
             ErrorKind::NoMemory => ErrorKind::NoMemory,
             ErrorKind::Unbuilt(place) => ErrorKind::Unbuilt(*place),
@@ -168,6 +171,9 @@ impl fmt::Display for Error {
             ),
             ErrorKind::SerialisationError(size) => {
                 write!(f, "failed to serialise: frame of {size} bytes")
+            }
+            ErrorKind::MissingHeartbeatError => {
+                f.write_str("no heartbeat received from server for too long")
             }
             ErrorKind::OutOfTurns => f.write_str("the given turns were all taken"),
             ErrorKind::NoMemory => f.write_str("memory was refused"),

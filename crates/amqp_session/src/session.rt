@@ -13,6 +13,7 @@ mod frames;
 mod links;
 mod places;
 mod queries;
+mod ticks;
 mod writing;
 
 use crate::capacity::Capacity;

@@ -39,4 +39,6 @@ mod support;
 #[cfg(test)]
 mod texts;
 #[cfg(test)]
+mod ticks;
+#[cfg(test)]
 mod violations;

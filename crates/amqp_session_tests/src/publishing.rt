@@ -81,10 +81,13 @@ fn a_body_takes_two_frames(rt: HostRuntime) -> Outcome<()> {
     tell(&rt, rt.alloc(), At::ConnectedBy(TUNE_2), STORY)
 }
 
-// The capacity is 131,072 octets, and a content header has 20 octets more than its properties.
+// With frames of 4,096 octets the capacity is 131,072, and a content header has 20 octets more than its properties.
 #[test]
 fn a_header_longer_than_the_capacity_is_refused(rt: HostRuntime) -> Outcome<()> {
     const STORY: &[Line] = &[
+        Line::OpenChannel(1),
+        Line::Read(CHANNEL_OPEN_OK_1),
+        Line::SendAll,
         Line::PublishLong(CHANNEL_1, 131_053, 2),
         Line::Refuses(2, "failed to serialise: frame of 131073 bytes"),
         Line::Waiting(0),
@@ -93,7 +96,7 @@ fn a_header_longer_than_the_capacity_is_refused(rt: HostRuntime) -> Outcome<()> 
         Line::Waiting(2),
         Line::IsUnanswered(3),
     ];
-    tell(&rt, rt.alloc(), At::WithChannel, STORY)
+    tell(&rt, rt.alloc(), At::ConnectedBy(TUNE_2), STORY)
 }
 
 // What waits in the control lane goes first, but the frames of a publish stay together.

@@ -3,7 +3,7 @@
 use crate::story::{Line, tell};
 use crate::support::{At, CHANNEL_1, METHOD_ABC, Outcome};
 use amqp_session::Answer;
-use amqp_vectors::{HEADER, START, START_OK};
+use amqp_vectors::{CHANNEL_OPEN_OK_1, HEADER, START, START_OK, TUNE_2};
 
 #[test]
 fn frames_are_sent_when_their_last_byte_is_taken(rt: HostRuntime) -> Outcome<()> {
@@ -47,15 +47,18 @@ fn a_method_is_sent(rt: HostRuntime) -> Outcome<()> {
     tell(&rt, rt.alloc(), At::WithChannel, STORY)
 }
 
-// The capacity is 131,072 octets, and a frame has 12 octets more than its arguments.
+// With frames of 4,096 octets the capacity is 131,072, and a frame has 12 octets more than its arguments.
 #[test]
 fn a_frame_longer_than_the_capacity_is_refused(rt: HostRuntime) -> Outcome<()> {
     const STORY: &[Line] = &[
+        Line::OpenChannel(1),
+        Line::Read(CHANNEL_OPEN_OK_1),
+        Line::SendAll,
         Line::SendLong(CHANNEL_1, 131_060, 2),
         Line::SendLong(CHANNEL_1, 131_061, 3),
         Line::Waiting(1),
         Line::IsUnanswered(2),
         Line::Refuses(3, "failed to serialise: frame of 131073 bytes"),
     ];
-    tell(&rt, rt.alloc(), At::WithChannel, STORY)
+    tell(&rt, rt.alloc(), At::ConnectedBy(TUNE_2), STORY)
 }

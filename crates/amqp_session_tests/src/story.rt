@@ -43,6 +43,8 @@ pub enum Line {
     Starved(u64),
     /// The present is this moment.
     Advance(u64),
+    /// Time goes by, and it is this moment.
+    Tick(u64),
     /// So many of the unsent bytes were taken.
     Take(u64),
     /// All was committed and taken.
@@ -90,6 +92,10 @@ pub enum Line {
     Agreed(u16, u32, u16),
     /// The greatest number of octets of a frame that is read.
     FrameLimit(u64),
+    /// How many bytes can be unsent.
+    Capacity(u64),
+    /// How many bytes could be unsent once this frame was read. It is not read.
+    CapacityAfter(&'static str, u64),
     /// No more of the link's input is read.
     DropsInput,
 
@@ -157,6 +163,7 @@ fn holds(alloc: Global, session: &mut Session, line: Line) -> Outcome<bool> {
         Line::Lost(fault) => session.lost(fault, 0),
         Line::Starved(at) => session.starve(at),
         Line::Advance(at) => session.advance(at),
+        Line::Tick(at) => session.tick(at)?,
         Line::Take(n) => take(session, n),
         Line::SendAll => send_all(session),
         _ => return lets_go(alloc, session, line),
@@ -205,6 +212,7 @@ fn shows(alloc: Global, session: &mut Session, line: Line) -> Outcome<bool> {
         Line::Writes(text) => writes(alloc, session, text),
         Line::WritesWithin(room, some) => Ok(commits_within(session, room) == some),
         Line::IsSilent => Ok(is_silent(session)),
+        Line::CapacityAfter(text, octets) => Ok(capacity_after(alloc, session, text)? == octets),
         Line::Answers(number, answer) => Ok(answers(session, number, answer)),
         Line::Refuses(number, text) => refuses(alloc, session, number, text),
         Line::IsUnanswered(number) => Ok(is_unanswered(session, number)),
@@ -238,6 +246,7 @@ fn counts(session: &Session, line: Line) -> bool {
     match line {
         Line::Listed(n) => session.listed() == n,
         Line::FrameLimit(n) => session.frame_limit() == n,
+        Line::Capacity(n) => session.capacity() == n,
         Line::Waiting(n) => session.waiting() == n,
         Line::Unsent(n) => session.unsent() == n,
         Line::Promises(n) => session.promises() == n,

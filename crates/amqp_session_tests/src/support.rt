@@ -65,6 +65,14 @@ pub fn read(alloc: Global, session: &mut Session, text: &str) -> Outcome<()> {
     Ok(session.frame(frame, PLACE, 0)?)
 }
 
+/// How many bytes could be unsent once this frame was read. It is not read.
+pub fn capacity_after(alloc: Global, session: &Session, text: &str) -> Outcome<u64> {
+    let frame = frame(alloc, text)?;
+    let octets = session.capacity_after(&frame);
+    drop(frame);
+    Ok(octets)
+}
+
 // ---- sessions
 
 /// Where a session stands.

@@ -2,7 +2,7 @@
 
 ghost use Rattle.std.specs.Prelude.{◌≡◌, ◌++◌, ℕ, List, Some, Ok, IfErr, IfOk, IfSome, OnOk, OnErr, filter, length};
 ghost use Rattle.amqp_session.specs.Changes.{present_at, starve};
-ghost use Rattle.amqp_session.specs.Writing.{commit};
+ghost use Rattle.amqp_session.specs.Writing.{next_frame};
 ghost use Rattle.amqp_session.specs.ChannelMethods.{frames_of};
 ghost use Rattle.amqp_session.specs.Answers.{answer_of, take_frames};
 ghost use Rattle.amqp_uses.specs.Driving.{space_in, next_octets, stands_in, heard, read_of, is_body};
@@ -45,10 +45,11 @@ pub fn open_and_send<R: Room>(
 
 // ---- its parts
 
-/// Commits the next frame that fits and puts its octets into a room. Without one nothing changes.
+/// Commits the next frame that fits and puts its octets into a room. Without one nothing changes, but that a next
+/// frame which is longer than the whole capacity ends the session.
 pub fn say_next<R: Room>(session: &mut Session, room: &mut R)
     ensures said { R.put_so_far room.new ≡ R.put_so_far room.old ++ next_octets (R.free room.old) session.old }
-    ensures session { session.new ≡ commit (space_in (R.free room.old) session.old) session.old }
+    ensures session { session.new ≡ next_frame (space_in (R.free room.old) session.old) session.old }
 {
     let space = (room.space() as u64).min(session.capacity() - session.unsent());
     if let Some(frame) = session.next_frame(space) {

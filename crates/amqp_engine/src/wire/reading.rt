@@ -4,6 +4,7 @@ ghost use Rattle.std.specs.Prelude.{◌≡◌, ◌≢◌, ◌≤◌, not, ◌&&�
 ghost use Rattle.amqp_session.specs.Talk.{is_open, is_asked};
 ghost use Rattle.amqp_session.specs.Changes.{starve};
 ghost use Rattle.amqp_session.specs.Links.{link_failed, lost};
+ghost use Rattle.amqp_session.specs.Ticks.{tick};
 ghost use Rattle.amqp_session.specs.Commands.{command as command_rule};
 ghost use Rattle.amqp_engine.specs.Engine.{Engine, rule_at, step_linked, step_piece, step_engine, can_read, read_one, settle, read_badly, read_row, is_more, starve_at};
 ghost use Rattle.amqp_engine.specs.Turn.{begun, is_part, is_piece, step_part, reading};
@@ -13,6 +14,7 @@ ghost use Rattle.amqp_frame.specs.declared.frame.Read.TheVariants as reads;
 use super::Wire;
 use crate::port::Step;
 use amqp_frame::{Frame, Read, read_frame};
+use amqp_ring::Buffer;
 use amqp_session::{Cmd, IoFault, Misread};
 use amqp_types::NoMemory;
 
@@ -81,10 +83,7 @@ impl Wire {
                 self.session.advance(at);
                 Ok(0)
             }
-            Step::Tick => {
-                self.session.advance(at);
-                Ok(1)
-            }
+            Step::Tick => Ok(self.take_tick(at)?),
             Step::Command(_) => unreachable!(),
         }
     }
@@ -128,6 +127,19 @@ impl Wire {
         self.session.lost(fault, at);
         self.settle();
         open as u64
+    }
+
+    // Time goes by.
+    fn take_tick(&mut self, at: u64) -> Result<u64, NoMemory>
+        ensures ok { OnOk result (self.new ≡ settle (rule_at at tick self.old)) }
+        ensures parts { IfOk result (λ n. n ≡ 1) }
+        ensures err { OnErr result (self.new ≡ rule_at at starve self.old) }
+    {
+        if self.session.tick(at).is_err() {
+            return Err(NoMemory);
+        }
+        self.settle();
+        Ok(1)
     }
 
     fn take_command(&mut self, at: u64, command: Cmd) -> Result<u64, NoMemory>
@@ -243,6 +255,12 @@ impl Wire {
         ensures ok { OnOk result (self.new ≡ read_row at (reads.Whole frame n) self.old) }
         ensures err { OnErr result (self.new ≡ rule_at at starve self.old) }
     {
+        let capacity = self.session.capacity_after(&frame) as usize;
+        if let Err(refused) = Buffer::grow_both(&mut self.unread, &mut self.unsent, capacity) {
+            drop(frame);
+            self.session.starve(at);
+            return Err(refused);
+        }
         if let Err(refused) = self.session.frame(frame, self.place, at) {
             drop(refused);
             return Err(NoMemory);

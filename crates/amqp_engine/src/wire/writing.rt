@@ -3,7 +3,8 @@
 ghost use Rattle.std.specs.Prelude.{◌≡◌, ◌≤◌, ◌<◌, ◌+◌, ◌*◌, Some, None, true, false, IfNone, IfSome, OnOk, OnErr, IsTrue, IsFalse, option_map, length, is_some};
 ghost use Rattle.amqp_session.specs.Talk.{is_open};
 ghost use Rattle.amqp_engine.specs.Log.{log_write, IsWithin, PlansWrite};
-ghost use Rattle.amqp_engine.specs.Engine.{taken_by, wrote, fitting_next, commit_one, commit_all, can_write};
+ghost use Rattle.amqp_session.specs.Writing.{overlong, end_overlong};
+ghost use Rattle.amqp_engine.specs.Engine.{taken_by, with_talk, wrote, fitting_next, commit_one, commit_all, overlong_next, refuse_overlong, can_write};
 ghost use Rattle.amqp_engine.specs.Turn.{offered, answered, is_all};
 ghost use Rattle.amqp_engine.specs.Making.{making, FewParts, Writes};
 ghost use Rattle.amqp_engine.specs.Counts.{Rose};
@@ -58,7 +59,7 @@ impl Wire {
     // One offer, with the commits before it, where something is to be written.
     fn offer<P: Port>(&mut self, at: u64, port: &mut P) -> Option<Offered>
         ensures none { IfNone result
-            (IsFalse (can_write self.old) × (self.new ≡ self.old) × (P.log port.new ≡ P.log port.old)) }
+            (IsFalse (can_write self.old) × (self.new ≡ refuse_overlong self.old) × (P.log port.new ≡ P.log port.old)) }
         ensures due { IfSome result (λ r. IsTrue (can_write self.old)) }
         ensures within { IfSome result (λ r. IsWithin (length (offered self.old)) r.answer) }
         ensures plays { IfSome result
@@ -75,6 +76,10 @@ impl Wire {
             return None;
         }
         self.commit_all();
+        if !self.session.is_open() {
+            self.settle();
+            return None;
+        }
         let offered = self.unsent.available_data();
         if offered == 0 {
             return None;
@@ -105,17 +110,19 @@ impl Wire {
         self.settle();
     }
 
-    // Commits frames while there is one that fits.
+    // Commits frames while there is one that fits. Where the one that is next then is longer than the
+    // whole capacity, the session has ended.
     fn commit_all(&mut self)
-        ensures { self.new ≡ commit_all self.old }
+        ensures { self.new ≡ with_talk (end_overlong (overlong_next self.old)) (commit_all self.old) }
     {
         'commits: while self.commit_next() {}
     }
 
-    // Commits the next frame where it fits, and says whether one did.
+    // Commits the next frame where it fits, and says whether one did. Where it is longer than the
+    // whole capacity, the session has ended.
     fn commit_next(&mut self) -> bool
         ensures some { result ≡ is_some (fitting_next self.old) }
-        ensures commit { self.new ≡ commit_one self.old }
+        ensures commit { self.new ≡ with_talk (end_overlong (overlong self.old.talk)) (commit_one self.old) }
     {
         let space = self.session.capacity() - self.session.unsent();
         match self.session.next_frame(space) {

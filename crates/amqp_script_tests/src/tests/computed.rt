@@ -1,10 +1,11 @@
-//! What the definitions compute to, with no code between: what a client says, octet by octet, and the
-//! reports of whole scripts.
+//! What the definitions compute to, with no code between: what a client says, octet by octet, the
+//! moments of a script's steps, and the reports of whole scripts.
 
-ghost use Rattle.std.specs.Prelude.{◌≡◌, codes};
+ghost use Rattle.std.specs.Prelude.{◌≡◌, [], ◌∷◌, None, Ok, codes};
 ghost use Rattle.amqp_frame.specs.Frames.{encoding};
 ghost use Rattle.amqp_session.specs.Handshake.{protocol_header, start_ok, tune_ok, open_vhost, our_close, close_ok, channel_open, our_channel_close};
-ghost use Rattle.amqp_replay.specs.Grammar.{parsed};
+ghost use Rattle.amqp_engine.specs.declared.given.GivenStep.TheVariants.{Link, Tick, End};
+ghost use Rattle.amqp_replay.specs.Grammar.{given, parsed};
 ghost use Rattle.amqp_replay.specs.Report.{hexadecimal};
 ghost use Rattle.amqp_replay.specs.Top.{printout};
 
@@ -18,6 +19,12 @@ fn what_is_said_is_spelled_so()
     ensures close_ok { hexadecimal (encoding close_ok) ≡ codes "01000000000004000a0033ce" }
     ensures channel_open { hexadecimal (encoding (channel_open 1)) ≡ codes "010001000000050014000a00ce" }
     ensures channel_close { hexadecimal (encoding (our_channel_close 1 200 (codes "OK"))) ≡ codes "0100010000000d0014002800c8024f4b00000000ce" }
+{}
+
+// A step has the moment that its line names, or that of the step before it.
+fn moments_are_read_so()
+    ensures falling { parsed (codes "link\n@05 tick\n\n# 7\ntick\n@3 end\ntick") ≡ Ok (given 0 (Link None) ∷ given 5 Tick ∷ given 5 Tick ∷ given 3 End ∷ given 3 Tick ∷ []) }
+    ensures greatest { parsed (codes "@18446744073709551615 link\n") ≡ Ok (given 18446744073709551615 (Link None) ∷ []) }
 {}
 
 // A header of another version.

@@ -277,7 +277,7 @@ impl Session {
     }
 
     // How many octets spell a frame, where it is longer than the capacity.
-    fn excess(&self, frame: &Frame) -> Option<u64>
+    pub(super) fn excess(&self, frame: &Frame) -> Option<u64>
         ensures long { IfSome result (λ size. (size ≡ capped (length (encoding frame.now)))
             × (self.now.capacity < length (encoding frame.now))) }
         ensures fits { IfNone result (length (encoding frame.now) ≤ self.now.capacity) }

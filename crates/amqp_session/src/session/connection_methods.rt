@@ -113,6 +113,7 @@ impl Session {
         ensures { self.new ≡ on_open_ok self.old }
     {
         self.give(0, Answer::Connected);
+        self.capacity = self.capacity.grown(self.configuration.frame_max);
         self.state = Connected;
     }
 

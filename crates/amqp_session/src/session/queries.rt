@@ -1,20 +1,23 @@
 //! What a session tells of itself.
 
-ghost use Rattle.std.specs.Prelude.{◌≡◌, ◌<◌, ◌≤◌, ◌^◌, IsTrue, length};
+ghost use Rattle.std.specs.Prelude.{◌≡◌, ◌<◌, ◌≤◌, ◌^◌, ℕ, IsTrue, length};
 ghost use Rattle.amqp_session.specs.Talk.{wants_link, is_asked, is_open, acts, hears_on, has_ended, end_of, drops_input};
-ghost use Rattle.amqp_session.specs.Changes.{next_promise};
+ghost use Rattle.amqp_session.specs.Changes.{present_at, next_promise};
+ghost use Rattle.amqp_session.specs.Frames.{on_frame};
 ghost use Rattle.amqp_session.specs.Negotiation.{frame_limit, frame_min_size};
 ghost use Rattle.amqp_session.specs.Writing.{frames_waiting, unsent, writes};
 ghost use Rattle.amqp_session.specs.Answers.{HandsOut};
 ghost use Rattle.amqp_session.specs.Sound.{goes_on, is_agreed};
 ghost use Rattle.amqp_session.specs.Laws.{is_end};
 ghost use Rattle.amqp_session.specs.Queries.{channel_state, confirm, opening};
+ghost use Rattle.amqp_session.specs.Parts.{is_open_ok, awaits_open_ok, capacity_after};
 
 use super::Session;
 use crate::command::ChanRef;
 use crate::configuration::Configuration;
 use crate::error;
-use crate::state::{ChannelState, ConnectionState, Input, Link};
+use crate::state::{ChannelState, ConnectionState, Input, Link, Phase};
+use amqp_frame::{Frame, Method};
 use amqp_types::ChannelId;
 
 impl Session {
@@ -144,6 +147,36 @@ impl Session {
         self.capacity.octets()
     }
 
+    /// How many bytes can be unsent once this frame was read: more where it opens the connection and
+    /// longer frames were agreed.
+    pub fn capacity_after(&self, frame: &Frame) -> u64
+        ensures bytes { (place at : ℕ) → result ≡ (on_frame frame.now place (present_at at self.now)).capacity }
+        ensures grown { self.now.capacity ≤ result }
+        ensures small { result < 2 ^ 32 }
+    {
+        self.octets_after(frame)
+    }
+
+    // The capacity once a frame was read.
+    fn octets_after(&self, frame: &Frame) -> u64
+        ensures octets { result ≡ capacity_after frame.now self.now }
+        ensures grown { self.now.capacity ≤ result }
+        ensures small { result < 2 ^ 32 }
+    {
+        if self.acts() && is_open_ok(frame) && self.awaits_open_ok() {
+            let grown = self.capacity.grown(self.configuration.frame_max);
+            return grown.octets();
+        }
+        self.capacity.octets()
+    }
+
+    // Whether open-ok is awaited.
+    fn awaits_open_ok(&self) -> bool
+        ensures { result ≡ awaits_open_ok self.now.state self.now.phase }
+    {
+        self.state == ConnectionState::Connecting && self.phase == Phase::AwaitOpenOk
+    }
+
     /// How many bytes of the committed frames are unsent.
     pub fn unsent(&self) -> u64
         ensures bytes { result ≡ unsent self.now }
@@ -187,4 +220,11 @@ impl Session {
     {
         self.channels.opened_by(opened)
     }
+}
+
+// Whether a frame is open-ok of the connection.
+fn is_open_ok(frame: &Frame) -> bool
+    ensures { result ≡ is_open_ok frame.now }
+{
+    matches!(frame, Frame::Method(0, Method::OpenOk))
 }

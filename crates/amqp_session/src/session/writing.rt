@@ -3,20 +3,37 @@
 ghost use Rattle.std.specs.Prelude.{◌≡◌, ◌+◌, ◌≤◌, option_map};
 ghost use Rattle.amqp_outbox.specs.declared.item.Item.{Item};
 ghost use Rattle.amqp_session.specs.Changes.{present_at};
-ghost use Rattle.amqp_session.specs.Writing.{next_within, commit, unsent, follow, channel_close_ok_sent, taken};
+ghost use Rattle.amqp_session.specs.Writing.{next_within, commit, overlong, next_frame, unsent, follow, channel_close_ok_sent, taken};
 ghost use Rattle.amqp_session.specs.Parts.{first_sent, after_sent};
 
 use super::Session;
 use crate::channels::{Channel, Debt};
 use crate::command::Answer;
 use crate::committed::{Mark, Then};
+use crate::error::ErrorKind;
 use amqp_frame::Frame;
 use amqp_outbox::{Item, Reply};
 use amqp_types::ChannelId;
 
 impl Session {
-    /// Commits the next frame, where it is at most so many bytes long. It takes no memory.
+    /// Commits the next frame, where it is at most so many bytes long. Where it is longer than the
+    /// whole capacity, the session ends. It takes no memory.
     pub fn next_frame(&mut self, space: u64) -> Option<Frame>
+        requires { space + unsent self.old ≤ self.old.capacity }
+        ensures frame { result ≡ option_map (λ (item : Item). item.frame) (next_within space self.old) }
+        ensures next { self.new ≡ next_frame space self.old }
+    {
+        let committed = self.commit(space);
+        if committed.is_none() {
+            if let Some(size) = self.overlong() {
+                self.lose(ErrorKind::SerialisationError(size));
+            }
+        }
+        committed
+    }
+
+    // Commits the next frame, where it is at most so many bytes long.
+    fn commit(&mut self, space: u64) -> Option<Frame>
         requires { space + unsent self.old ≤ self.old.capacity }
         ensures frame { result ≡ option_map (λ (item : Item). item.frame) (next_within space self.old) }
         ensures commit { self.new ≡ commit space self.old }
@@ -35,6 +52,18 @@ impl Session {
             promise: _,
         } = self.outbox.next(flow)?;
         Some(frame)
+    }
+
+    // How many octets spell the next frame, where it is longer than the whole capacity.
+    fn overlong(&self) -> Option<u64>
+        ensures { result ≡ overlong self.now }
+    {
+        // What waits is counted in 64 bits.
+        let _ = self.outbox.unsent_len();
+        match self.outbox.front(self.channels.flows()) {
+            Some(item) if self.writes() => self.excess(&item.frame),
+            _ => None,
+        }
     }
 
     /// So many of the unsent bytes were taken.

@@ -1,5 +1,5 @@
-use Rattle.std.proofs.Common.{◌≡◌, ◌∙◌, true, ap, sym, arith}
-use Rattle.amqp_session.specs.Talk.{is_open, is_open_link}
+use Rattle.std.proofs.Common.{◌∙◌, ap, sym, arith}
+use Rattle.amqp_session.specs.Talk.{is_open_link}
 use Rattle.amqp_session.specs.Writing.{left_in}
 use Rattle.amqp_engine.proofs.Obeying.{obeyed-stays}
 use Rattle.amqp_engine.proofs.wire.Wire.command.Goals as goal

@@ -1,6 +1,6 @@
 use Rattle.std.proofs.Common.{◌≡◌, ◌∙◌, None, ap, sym}
-use Rattle.amqp_engine.specs.Engine.{fitting_next, committed_as}
-use Rattle.amqp_session.specs.Writing.{frames_waiting}
+use Rattle.amqp_session.specs.Writing.{frames_waiting, overlong, end_overlong}
+use Rattle.amqp_engine.specs.Engine.{Engine, with_talk, fitting_next, committed_as, commit_all}
 use Rattle.amqp_engine.proofs.Cases.{none-from}
 use Rattle.amqp_engine.proofs.Commits.{commits-rest}
 use Rattle.amqp_engine.proofs.wire.Wire.commit_all.Goals as goal
@@ -9,4 +9,6 @@ pub returns : goal.returns
 returns c =
     let e = c.commits.self in
     let none : fitting_next e ≡ None = none-from (fitting_next e) (sym c.commit_next.ensures.some ∙ c.commits-test.false) in
-    c.commit_next.ensures.commit ∙ ap (λ o. committed_as o e) none ∙ sym (commits-rest (frames_waiting e.talk) e none) ∙ c.commits.invariant
+    let end : Engine → Engine = λ x. with_talk (end_overlong (overlong x.talk)) x in
+    let all : e ≡ commit_all c.args.self.now = sym (commits-rest (frames_waiting e.talk) e none) ∙ c.commits.invariant in
+    c.commit_next.ensures.commit ∙ ap (λ o. with_talk (end_overlong (overlong e.talk)) (committed_as o e)) none ∙ ap end all

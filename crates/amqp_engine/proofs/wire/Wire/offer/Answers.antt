@@ -1,23 +1,34 @@
-use Rattle.std.proofs.Common.{◌≡◌, ◌∙◌, not, true, length, ap, sym, refl, arith}
+use Rattle.std.proofs.Common.{◌≡◌, ◌∙◌, true, length, ap, sym, refl, arith}
 use Rattle.amqp_session.specs.Talk.{is_open}
-use Rattle.amqp_engine.specs.Engine.{Engine, commit_all}
-use Rattle.amqp_session.specs.Writing.{frames_waiting}
-use Rattle.amqp_engine.proofs.Cases.{none-unsent}
-use Rattle.amqp_engine.proofs.Commits.{commits-none, commits-keep}
+use Rattle.amqp_engine.specs.Engine.{Engine, commit_all, settle}
+use Rattle.amqp_engine.proofs.Overlong.{Idle, closed-idles, blocked-idles, long-idles, none-idles, open-short, shut-long}
 use Rattle.amqp_engine.proofs.wire.Wire.offer.Goals as goal
+use Rattle.amqp_engine.proofs.wire.Wire.offer.Goals.{then-not-is_open-via-then-not-is_open, then-not-is_open-via-else-not-is_open+then-blocked}
+
+pub returns-then-not-is_open-clause-none : goal.returns-then-not-is_open-clause-none
+returns-then-not-is_open-clause-none g c =
+    let e = c.args.self.now in
+    let idle : Idle e e = elim c.then-not-is_open.branch [
+      | then-not-is_open-via-then-not-is_open w ↦ closed-idles e (ap (λ (x : Engine). is_open x.talk) (sym c.self.view_is) ∙ sym w.if-not-is_open.ensures)
+      | then-not-is_open-via-else-not-is_open+then-blocked w ↦ blocked-idles e (ap (λ (x : Engine). x.talk.blocked) (sym c.self.view_is) ∙ sym w.if-blocked.ensures)
+    ] in
+    (idle.0, idle.1, refl)
+
+pub returns-then-not-is_open-2-clause-none : goal.returns-then-not-is_open-2-clause-none
+returns-then-not-is_open-2-clause-none g c =
+    let e = c.args.self.now in
+    let opened : is_open e.talk ≡ true = ap (λ (x : Engine). is_open x.talk) (sym c.self.view_is) ∙ sym c.if-not-is_open.ensures in
+    let shut = ap (λ (x : Engine). is_open x.talk) (sym c.commit_all.ensures ∙ sym c.self-2.view_is) ∙ sym c.if-not-is_open-2.ensures in
+    let long = shut-long e opened shut in
+    let idle = long-idles e c.settle.new.self long.0 long.1 (c.settle.ensures ∙ ap settle c.commit_all.ensures) in
+    (idle.0, idle.1, refl)
 
 pub returns-then-offered-eq0-clause-none : goal.returns-then-offered-eq0-clause-none
 returns-then-offered-eq0-clause-none g c =
     let e = c.args.self.now in
+    let still = ap (λ (x : Engine). is_open x.talk) (sym c.commit_all.ensures ∙ sym c.self-2.view_is) ∙ sym c.if-not-is_open-2.ensures in
     let after : length c.self-2.inside.unsent.kept ≡ length (commit_all e).unsent =
     ap (λ (x : Engine). length x.unsent) (c.self-2.view_is ∙ c.commit_all.ensures) in
     let empty : length c.self-2.inside.unsent.kept ≡ 0 = omega (arith, c.available_data-offered.ensures) in
-    let none : length (commit_all e).unsent ≡ 0 = sym after ∙ empty in
-    (none-unsent (is_open e.talk) (not e.talk.blocked) (length (commit_all e).unsent) none, c.commit_all.ensures ∙ commits-none (frames_waiting e.talk) e none, refl)
-
-pub wrote-requires-clause-open : goal.wrote-requires-clause-open
-wrote-requires-clause-open g c =
-    let e = c.args.self.now in
-    let before : is_open e.talk ≡ true = ap (λ (x : Engine). is_open x.talk) (sym c.self.view_is) ∙ sym c.if-not-is_open.ensures in
-    ap (λ (x : Engine). is_open x.talk) c.commit_all.ensures
-    ∙ commits-keep (λ (x : Engine). is_open x.talk) (λ x fs ms bytes. refl) (frames_waiting e.talk) e ∙ before
+    let idle = none-idles e c.commit_all.new.self (open-short e still) (sym after ∙ empty) c.commit_all.ensures in
+    (idle.0, idle.1, refl)

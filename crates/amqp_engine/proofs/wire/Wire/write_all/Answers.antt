@@ -1,12 +1,14 @@
-use Rattle.std.proofs.Common.{◌≡◌, ◌∙◌, ◌+◌, ◌<◌, true, false, None, Some, IfSome, length, option_map, sym, ap, arith, subst}
+use Rattle.std.proofs.Common.{◌≡◌, ◌∙◌, ◌+◌, ◌<◌, not, true, false, None, Some, IfSome, is_some, length, option_map, sym, ap, arith, subst}
 use Rattle.amqp_engine.specs.declared.port.Wrote.{Wrote}
 use Rattle.amqp_engine.specs.Log.{log_write, PlansWrite}
-use Rattle.amqp_engine.specs.Engine.{Engine, commit_all}
+use Rattle.amqp_session.specs.Talk.{is_open}
+use Rattle.amqp_engine.specs.Engine.{Engine, commit_all, overlong_next}
 use Rattle.amqp_engine.specs.Turn.{is_all, offered, answered}
-use Rattle.amqp_engine.specs.Making.{making, Writes}
+use Rattle.amqp_engine.specs.Making.{making}
 use Rattle.amqp_engine.specs.Play.{waiting}
-use Rattle.amqp_engine.proofs.Cases.{Allows-less, some-unsent, from-not-false, from-not-true}
+use Rattle.amqp_engine.proofs.Cases.{Allows-less, is_before-Allows, some-unsent, from-not-false, from-not-true}
 use Rattle.amqp_engine.proofs.Offers.{writes-more, writes-last, writes-refused, writes-none, waiting-wrote, answered-starved}
+use Rattle.amqp_engine.proofs.Overlong.{refuses-starved}
 use Rattle.amqp_engine.proofs.wire.Wire.write_all.Goals as goal
 
 pub writes-preserved : goal.writes-preserved
@@ -17,7 +19,7 @@ writes-preserved g c =
     let n = c.writes.parts in
     let all : is_all w (length (commit_all e).unsent) ≡ true = sym f.all ∙ from-not-false _ c.if-not-offered.false in
     let lower : waiting c.offer.new.self < waiting e =
-    rw f.engine (waiting-wrote c.args.at w e (some-unsent _ _ _ f.due) all) in
+    rw f.engine (waiting-wrote c.args.at w e (some-unsent (is_open e.talk) (not e.talk.blocked) (not (is_some (overlong_next e))) (length (commit_all e).unsent) f.due) all) in
     record {
       goes_on = λ cut last log count allows next.
           c.writes.invariant.goes_on cut last log count (Allows-less cut n (n + 1) (omega arith) allows)
@@ -37,7 +39,7 @@ writes-smaller g c =
     let w = c.in-Some.offered.answer in
     let all : is_all w (length (commit_all e).unsent) ≡ true = sym f.all ∙ from-not-false _ c.if-not-offered.false in
     let lower : waiting c.offer.new.self < waiting e =
-    rw f.engine (waiting-wrote c.args.at w e (some-unsent _ _ _ f.due) all) in
+    rw f.engine (waiting-wrote c.args.at w e (some-unsent (is_open e.talk) (not e.talk.blocked) (not (is_some (overlong_next e))) (length (commit_all e).unsent) f.due) all) in
     lower
 
 pub returns-then-not-offered : goal.returns-then-not-offered
@@ -84,10 +86,12 @@ returns-clause-ok g c =
     let e = c.writes.self in
     let n = c.writes.parts in
     let p = making c.args.at None e n in
+    let q = making c.args.at None c.offer.new.self n in
     let log = g.P.Port.log c.offer.new.port in
     let count = g.P.Port.faults c.offer.new.port in
-    let P : Engine → Type 0 = λ x. Writes (making c.args.at None c.args.self.now c.args.parts.now) (making c.args.at None x n)
-    (g.P.Port.log c.args.port.now) log (g.P.Port.faults c.args.port.now) count in
-    subst P (sym f.1)
-    (c.writes.invariant.goes_on None p log count tt
-    (writes-none p (g.P.Port.log c.writes.port) log (g.P.Port.faults c.writes.port) count f.0 f.2))
+    c.writes.invariant.goes_on None q log count tt
+    (writes-none p q (g.P.Port.log c.writes.port) log (g.P.Port.faults c.writes.port) count (is_before-Allows None n tt) (ap (λ (x : Engine). making c.args.at None x n) f.1) f.0 f.2)
+
+pub returns-clause-starved : goal.returns-clause-starved
+returns-clause-starved g c =
+    ap (λ (x : Engine). x.starved) c.in_default.ensures.none.1 ∙ refuses-starved c.writes.self ∙ c.writes.invariant.starved

@@ -1,4 +1,4 @@
-use Rattle.std.proofs.Common.{◌≡◌, ◌∙◌, ◌<◌, ap, sym, refl, ℕ, List, Option, None, Some, length, arith}
+use Rattle.std.proofs.Common.{◌≡◌, ◌∙◌, ap, sym, refl, ℕ, List, Option, Some, length, arith}
 use Rattle.amqp_outbox.specs.declared.scope.Scope.TheVariants.{All}
 use Rattle.amqp_outbox.specs.Parts.{queued}
 use Rattle.amqp_outbox.specs.Queued.{Queued, waiting_items, dropped, without_any}

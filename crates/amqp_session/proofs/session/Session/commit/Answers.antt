@@ -8,7 +8,7 @@ use Rattle.amqp_session.specs.Talk.{Talk}
 use Rattle.amqp_session.specs.Channels.{all_flow}
 use Rattle.amqp_session.specs.Writing.{writes, flows, mark_of}
 use Rattle.amqp_session.proofs.Counting.{next-fits, commit-fits}
-use Rattle.amqp_session.proofs.session.Session.next_frame.Goals as goal
+use Rattle.amqp_session.proofs.session.Session.commit.Goals as goal
 
 pub returns-clause-frame : goal.returns-clause-frame
 returns-clause-frame c =
