@@ -1,9 +1,20 @@
 //! A session that is driven call by call.
 
 use amqp_frame::{Frame, Method, encoded_len};
-use amqp_session::{Answer, Result, Session};
+use amqp_session::{Answer, ConnectionProperties, Result, Session};
 use amqp_types::{FieldTable, LongString};
+use amqp_uri::AMQPUri;
 use std::alloc::Global;
+
+/// A new session with the broker of this machine; nothing where memory was refused.
+pub fn new_session(alloc: Global) -> Option<Session> {
+    let (Ok(uri), Ok(options)) = (AMQPUri::local(alloc), ConnectionProperties::new(alloc)) else {
+        return None;
+    };
+    let session = Session::new(alloc, &uri, options);
+    drop(uri);
+    session.ok()
+}
 
 /// Takes all frames that can be written, and tells the session that their last octet was taken.
 pub fn send_all(session: &mut Session) {

@@ -1,6 +1,6 @@
 //! Publishes over a session that is driven call by call.
 
-use crate::driven::{connect, is_sent, send_all};
+use crate::driven::{connect, is_sent, new_session, send_all};
 use amqp_frame::{Frame, Method, RawMethod};
 use amqp_session::{ChanRef, Cmd, Properties, Result, Session};
 use amqp_types::{Payload, ShortString};
@@ -148,7 +148,7 @@ pub fn publishes(alloc: Global, load: Load, ending: Ending) -> Option<u64> {
     let Ok(body) = vec![in alloc; 0u8; load.size as usize] else {
         return None;
     };
-    let Ok(mut session) = Session::new(alloc) else {
+    let Some(mut session) = new_session(alloc) else {
         return None;
     };
     let sent = publish_then_end(alloc, &mut session, load, &body, ending);

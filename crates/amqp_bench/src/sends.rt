@@ -1,6 +1,6 @@
 //! Sends over a session that is driven call by call.
 
-use crate::driven::{connect, is_sent, send_all};
+use crate::driven::{connect, is_sent, new_session, send_all};
 use amqp_frame::{Frame, Method, RawMethod};
 use amqp_session::{ChanRef, Cmd, Result, Session};
 use std::alloc::Global;
@@ -42,7 +42,7 @@ fn send_each(alloc: Global, session: &mut Session, count: u64) -> Result<u64> {
 
 /// Sends so many methods. How many answers were taken; nothing where memory was refused.
 pub fn sends(alloc: Global, count: u64) -> Option<u64> {
-    let Ok(mut session) = Session::new(alloc) else {
+    let Some(mut session) = new_session(alloc) else {
         return None;
     };
     let sent = send_each(alloc, &mut session, count);

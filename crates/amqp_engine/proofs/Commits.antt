@@ -1,5 +1,5 @@
 -- Committing frames one by one.
-use Rattle.std.proofs.Common.{◌≡◌, ◌≤◌, ◌<◌, ℕ, zero, suc, ◌-◌, ◌++◌, List, [], ◌∷◌, length, Option, Some, None, refl, ap, sym, ◌∙◌, arith, length-append}
+use Rattle.std.proofs.Common.{◌≡◌, ◌≤◌, ◌<◌, ℕ, zero, suc, ◌-◌, ◌++◌, List, [], ◌∷◌, length, Option, Some, None, is_some, true, refl, ap, sym, ◌∙◌, arith, length-append}
 use Rattle.amqp_frame.specs.declared.frame.Frame.{Frame}
 use Rattle.amqp_frame.specs.declared.frame.Frame.TheVariants.{ProtocolHeader, Method, Raw, Heartbeat}
 use Rattle.amqp_frame.specs.Frames.{encoding}
@@ -7,7 +7,7 @@ use Rattle.amqp_outbox.specs.declared.item.Item.{Item}
 use Rattle.amqp_outbox.specs.Queued.{Queued, waiting_items, after_next}
 use Rattle.amqp_session.specs.declared.committed.Mark.{Mark}
 use Rattle.amqp_session.specs.Writing as writing
-use Rattle.amqp_session.specs.Writing.{flows, mark_of}
+use Rattle.amqp_session.specs.Writing.{flows, frames_waiting, mark_of}
 use Rattle.amqp_session.proofs.Finishing.{next-first}
 use Rattle.amqp_engine.specs.Engine.{Engine, commit_one, committed_as, commits, fitting_next}
 use Rattle.amqp_engine.specs.Play.{waiting}
@@ -70,6 +70,21 @@ pub commits-keep : {A : Type 0} (f : Engine → A)
 commits-keep f h zero e = refl
 commits-keep f h (suc n) e =
     commits-keep f h n (commit_one e) ∙ ap f (commit_one-is e) ∙ with_frame-keeps f h (fitting_next e) e
+
+-- where a frame fits, it is the first of those that are committed
+pub commits-first : (e : Engine) (item : Item) → fitting_next e ≡ Some item
+    → commits (frames_waiting (commit_one e).talk) (commit_one e) ≡ commits (frames_waiting e.talk) e
+commits-first e item h =
+    let q' : Queued = after_next (flows e.talk) e.talk.outbox in
+    let waits : frames_waiting e.talk ≡ suc (length (waiting_items q')) =
+    ap length (next-first (e.talk.capacity - length e.unsent) e.talk item h) in
+    let one : commit_one e ≡ with_frame (Some item) e = commit_one-is e ∙ ap (λ o. with_frame o e) h in
+    let left : frames_waiting (commit_one e).talk ≡ length (waiting_items q') = ap (λ (x : Engine). frames_waiting x.talk) one in
+    ap (λ (n : ℕ). commits n (commit_one e)) left ∙ sym (ap (λ (n : ℕ). commits n e) waits)
+
+pub some-fits : (o : Option Item) → is_some o ≡ true → (item : Item) × (o ≡ Some item)
+some-fits None h = absurd cc
+some-fits (Some item) h = (item, refl)
 
 -- a committed frame was the first of those that waited
 waiting-with_frame : (o : Option Item) (e : Engine) → fitting_next e ≡ o → waiting (with_frame o e) ≤ waiting e

@@ -2,6 +2,7 @@
 use Rattle.std.proofs.Common.{◌≡◌, ◌∙◌, ℕ, false, List, [], Option, Some, None, IfSome, is_some, inl, refl, ap, sym, subst}
 use Rattle.std.specs.Prelude.{option_map}
 use Rattle.amqp_session.specs.declared.command.Cmd.{Cmd}
+use Rattle.amqp_session.specs.Config.{Config}
 use Rattle.amqp_session.specs.Talk.{Talk, start, has_ended}
 use Rattle.amqp_session.specs.Commands.{command}
 use Rattle.amqp_session.specs.Answers.{answer_of, take_answer, take_frames}
@@ -37,7 +38,7 @@ leaves-answer number e =
 
 -- what is known of what was sent
 pub sends-said : (e : Engine) (ss : List Sending) → HasSent e ss → Sends e ss
-sends-said e ss new = record { all = tt; last = λ now. cc }
+sends-said e ss (new config) = record { all = tt; last = λ now. cc }
 sends-said e ss (asked {e = e'} h) = sends-asks e' ss (sends-said e' ss h)
 sends-said e ss (applies {e = e'} {ss = ss'} u running may told_step h) =
     let Q : List Sending → Type 0 = λ xs. Sends (applied u e') xs in
@@ -119,11 +120,11 @@ applies-on at step bytes e e' log log' ss f may running h =
     }
 
 -- what is told of the links of an engine that was new, over a port that had none
-pub spell-legal : (e e' : Engine) (a b : Log) (o o' : Option Log) → e ≡ begin start → o ≡ Some a → o' ≡ Some b → a.links ≡ [] → a.asked ≡ false
+pub spell-legal : (config : Config) (e e' : Engine) (a b : Log) (o o' : Option Log) → e ≡ begin (start config) → o ≡ Some a → o' ≡ Some b → a.links ≡ [] → a.asked ≡ false
     → ((ss : List Sending) → HasSent e ss → GoesOn ss e e' o o') → SpellLegal b.links
-spell-legal e e' a b o o' fresh is is' links none goes =
+spell-legal config e e' a b o o' fresh is is' links none goes =
     let H : Engine → Type 0 = λ x. HasSent x [] in
-    let k : GoesOn [] e e' o o' = goes [] (subst H (sym fresh) new) in
+    let k : GoesOn [] e e' o o' = goes [] (subst H (sym fresh) (new config)) in
     let T : Engine → Type 0 = λ x. TellsLinks x [] a in
     let before : TellsLinks e [] a = subst T (sym fresh) (record { links = links; asked = λ running. none }) in
     let P : Option Log → Type 0 = λ x. IfSome x (λ y. TellsLinks e [] y → IfSome o' (λ z. TellsLinks e' (sendings_from k.us e []) z)) in

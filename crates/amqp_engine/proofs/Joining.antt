@@ -3,7 +3,7 @@ use Rattle.std.proofs.Common.{◌≡◌, ◌≤◌, ◌<◌, ℕ, suc, ◌+◌, 
 use Rattle.std.proofs.lemmas.List.{append-nil, take-append-drop, drop-append-le, drop-drop, nil_from_length, take_all}
 use Rattle.amqp_frame.specs.declared.frame.Read.{Read}
 use Rattle.amqp_frame.specs.declared.frame.Read.TheVariants.{Whole, More, TooLarge, BadHeartbeat, Bad, NoMemory}
-use Rattle.amqp_session.specs.declared.capacity.TheConstants.{INITIAL_CAPACITY}
+use Rattle.amqp_session.specs.declared.capacity.TheConstants.{LEAST_CAPACITY}
 use Rattle.amqp_session.specs.declared.misread.Misread.TheVariants as why
 use Rattle.amqp_session.specs.Talk.{is_open}
 use Rattle.amqp_session.specs.Negotiation.{frame_limit}
@@ -137,7 +137,7 @@ reading-over : (at : ℕ) (cut : Option ℕ) (e : Engine) (parts : ℕ) → can_
 reading-over at cut e parts none = reads-rest (length e.unread) (making at cut e parts) none
 
 -- then there is room for more
-pub has-room : (e : Engine) → INITIAL_CAPACITY ≤ e.talk.capacity → keeps_unread e.talk ≡ true → can_read e ≡ false → length e.unread < e.talk.capacity
+pub has-room : (e : Engine) → LEAST_CAPACITY ≤ e.talk.capacity → keeps_unread e.talk ≡ true → can_read e ≡ false → length e.unread < e.talk.capacity
 has-room e large kept none =
     let opened : is_open e.talk ≡ true = and-left (is_open e.talk) _ kept in
     let more : is_more (front_of e) ≡ true = from-not-false (is_more (front_of e)) (and-other (is_open e.talk) (not (is_more (front_of e))) opened none) in

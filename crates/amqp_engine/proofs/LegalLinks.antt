@@ -72,7 +72,7 @@ tells Tick h = tt
 
 -- what is known of an engine that was new
 pub saying : (e : Engine) (ss : List Sending) → HasSent e ss → Saying e ss
-saying e ss new = record { all = tt; committed = []; now = ((λ o. absurd cc), (λ w. start-silent)); last = λ o. absurd cc; some = λ o. absurd cc }
+saying e ss (new config) = record { all = tt; committed = []; now = ((λ o. absurd cc), (λ w. start-silent config)); last = λ o. absurd cc; some = λ o. absurd cc }
 saying e ss (asked {e = e'} h) = kept-asks IsSendable Taken IsSilent IsTied rules e' ss (saying e' ss h)
 saying e ss (applies {e = e'} {ss = ss'} u running may told_step h) =
     kept-applied IsSendable Taken IsSilent IsTied rules u e' ss' running may (tells u.step told_step) (saying e' ss' h)

@@ -8,6 +8,7 @@ use Rattle.amqp_session.specs.declared.state.Link.TheVariants.{Wanted, Asked, Op
 use Rattle.amqp_session.specs.declared.error.ErrorKind.TheVariants.{IOError}
 use Rattle.amqp_session.specs.declared.io_fault.IoFault.{IoFault}
 use Rattle.amqp_session.specs.declared.io_fault.IoFault.TheVariants.{Aborted, Refused, Reset}
+use Rattle.amqp_session.specs.Config.{Config}
 use Rattle.amqp_session.specs.Talk.{Talk, start, acts, is_acting, is_open, is_open_link, is_asked, is_asked_link, is_wanted_link, has_ended, end_of_link}
 use Rattle.amqp_session.specs.Changes.{present_at, fail, lose, finish}
 use Rattle.amqp_session.specs.Ticks.{tick}
@@ -275,10 +276,10 @@ turns-same (u ∷ us) e x =
     let same = offers-same (answers_of u.notes) (read u (asks e)) (stepping u.at u.step u.bytes (asks e) (asking e x)) in
     turns-same us (turn u e) y ∙ ap (λ (z : Both). (sendings_from us (turn u e) z.0, log_turns us (turn u e) z.1)) same
 
-pub told : (us : List Turn) (a : Log) → AreTurns us (begin start) → a.links ≡ [] → a.asked ≡ false
-    → (log_turns us (begin start) a).links ≡ map link_bytes (sendings us)
-told us a may links asked_none =
+pub told : (config : Config) (us : List Turn) (a : Log) → AreTurns us (begin (start config)) → a.links ≡ [] → a.asked ≡ false
+    → (log_turns us (begin (start config)) a).links ≡ map link_bytes (sendings config us)
+told config us a may links asked_none =
     let P : Both → Type 0 = λ x. x.1.links ≡ map link_bytes x.0 in
-    subst P (turns-same us (begin start) ([], a))
-    (lifting.lift-turns Both asking stepping offering Told (λ b. Told) Told (lifting.simply Both asking stepping offering Told small) us (begin start) ([], a) may
+    subst P (turns-same us (begin (start config)) ([], a))
+    (lifting.lift-turns Both asking stepping offering Told (λ b. Told) Told (lifting.simply Both asking stepping offering Told small) us (begin (start config)) ([], a) may
     (record { sends = record { all = tt; last = λ now. cc }; synced = λ running. asked_none; links = links })).links

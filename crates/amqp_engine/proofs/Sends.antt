@@ -2,6 +2,7 @@
 use Rattle.std.proofs.Common.{◌≡◌, ℕ, ◌==◌, if◌then◌else◌, true, false, List, [], ◌∷◌, ◌++◌, length, drop, Some, refl, ap, sym, ◌∙◌, subst}
 use Rattle.std.specs.List.{AllByRecursion}
 use Rattle.amqp_session.specs.declared.committed.Mark.{Mark}
+use Rattle.amqp_session.specs.Config.{Config}
 use Rattle.amqp_session.specs.Talk.{Talk, start, is_open, is_asked}
 use Rattle.amqp_session.specs.Changes.{present_at}
 use Rattle.amqp_session.specs.Links.{asked, linked}
@@ -179,9 +180,9 @@ turns-same (u ∷ us) e ss =
     turns-same us (turn u e) (lifting.turn_on (List Sending) asking stepping offering u e ss)
     ∙ ap (sendings_from us (turn u e)) (offers-same (answers_of u.notes) (read u (asks e)) (step_sending u.step (asks e) ss))
 
-pub order : (us : List Turn) → AreTurns us (begin start) → AllByRecursion SendsInOrder (sendings us)
-order us may =
+pub order : (config : Config) (us : List Turn) → AreTurns us (begin (start config)) → AllByRecursion SendsInOrder (sendings config us)
+order config us may =
     let P : List Sending → Type 0 = λ ss. AllByRecursion SendsInOrder ss in
-    subst P (turns-same us (begin start) [])
+    subst P (turns-same us (begin (start config)) [])
     (lifting.lift-turns (List Sending) asking stepping offering Sends (λ b. Sends) Sends
-    (lifting.simply (List Sending) asking stepping offering Sends small) us (begin start) [] may (record { all = tt; last = λ now. cc })).all
+    (lifting.simply (List Sending) asking stepping offering Sends small) us (begin (start config)) [] may (record { all = tt; last = λ now. cc })).all

@@ -2,6 +2,7 @@
 use Rattle.std.proofs.Common.{◌≡◌, ℕ, zero, suc, Bool, List, [], ◌∷◌, length, Option, Some, None, IfSome, refl, sym, subst}
 use Rattle.std.specs.Prelude.{option_map}
 use Rattle.std.specs.List.{AllByRecursion}
+use Rattle.amqp_session.specs.Config.{Config}
 use Rattle.amqp_session.specs.Talk.{has_ended, start}
 use Rattle.amqp_session.specs.Legal.{Legal}
 use Rattle.amqp_session.proofs.Cases.{if_case}
@@ -67,8 +68,9 @@ played-told (suc most) e a h =
     (step-told (log_asks e a).plan (asks-told e a h), played-told most (turn u e) (log_turn u e a) (turn-told u e a h))
 
 -- what a script says is legal, where its commands are told
-pub script_legal : (gs : List Given) → AreGivenTold gs → AllByRecursion (λ (s : Sending). Legal (frames_sent s)) (sendings (replayed gs))
-script_legal gs h =
-    let may = (played-are-turns (length gs) (begin start) (loaded gs) refl).0 in
-    sent_legal (turns (replayed gs) (begin start)) (sendings (replayed gs))
-    (turns-sent (replayed gs) (begin start) [] may (played-told (length gs) (begin start) (loaded gs) h) new)
+pub script_legal : (config : Config) (gs : List Given) → AreGivenTold gs
+    → AllByRecursion (λ (s : Sending). Legal (frames_sent s)) (sendings config (replayed config gs))
+script_legal config gs h =
+    let may = (played-are-turns (length gs) (begin (start config)) (loaded gs) refl).0 in
+    sent_legal (turns (replayed config gs) (begin (start config))) (sendings config (replayed config gs))
+    (turns-sent (replayed config gs) (begin (start config)) [] may (played-told (length gs) (begin (start config)) (loaded gs) h) (new config))

@@ -8,6 +8,7 @@ use Rattle.amqp_frame.specs.declared.frame.Read.TheVariants.{Whole}
 use Rattle.amqp_outbox.specs.declared.item.Item.{Item}
 use Rattle.amqp_session.specs.declared.channels.Channel.{Channel}
 use Rattle.amqp_session.specs.declared.handed.Handed.{Handed}
+use Rattle.amqp_session.specs.Config.{Config}
 use Rattle.amqp_session.specs.Talk.{Talk, start, acts, is_asked}
 use Rattle.amqp_session.specs.Channels.{channel_at}
 use Rattle.amqp_session.specs.ChannelMethods.{heard_on}
@@ -100,5 +101,5 @@ exchange_from [] e ss xs = xs
 exchange_from (u ∷ us) e ss xs = exchange_from us (turn u e) (turn_sending u e ss) (turn_exchange u e ss xs)
 
 -- what these turns of a new engine heard and said, link by link
-abbrev pub exchange : List Turn → List (List Event)
-exchange us = exchange_from us (begin start) [] []
+abbrev pub exchange : Config → List Turn → List (List Event)
+exchange config us = exchange_from us (begin (start config)) [] []

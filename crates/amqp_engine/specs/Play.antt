@@ -1,5 +1,6 @@
 -- A script that is played: what its port answers is determined, and so are the turns.
 use Rattle.std.specs.Prelude.{◌≡◌, ℕ, zero, suc, ◌+◌, min, Bool, false, true, if◌then◌else◌, List, [], ◌∷◌, length, Option, Some, None}
+use Rattle.amqp_session.specs.Config.{Config}
 use Rattle.amqp_session.specs.Talk.{has_ended, start}
 use Rattle.amqp_session.specs.Writing.{frames_waiting}
 use Rattle.amqp_engine.specs.declared.port.Step.TheVariants.{Tick}
@@ -88,8 +89,8 @@ played_turns (suc most) e a =
     if has_ended e.talk then [] else u ∷ played_turns most (turn u e) (log_turn u e a)
 
 -- the turns of a new engine over a port that plays these steps
-abbrev pub replayed : List Given → List Turn
-replayed gs = played_turns (length gs) (begin start) (loaded gs)
+abbrev pub replayed : Config → List Given → List Turn
+replayed config gs = played_turns (length gs) (begin (start config)) (loaded gs)
 
 -- a run over a port that plays a script is the run of that script, where memory was not refused
 pub record IsPlayed (allowed : ℕ) (e e' : Engine) (log : Log) (log' : Option Log) : Type 0 where

@@ -2,6 +2,7 @@
 use Rattle.std.specs.Prelude.{◌≡◌, ℕ, false, List, [], ◌∷◌, map, Option, Some, IfSome}
 use Rattle.std.specs.List.{AllByRecursion}
 use Rattle.amqp_session.specs.declared.command.Cmd.{Cmd}
+use Rattle.amqp_session.specs.Config.{Config}
 use Rattle.amqp_session.specs.Talk.{start, is_asked, has_ended}
 use Rattle.amqp_session.specs.Commands.{command}
 use Rattle.amqp_session.specs.Answers.{take_answer, take_frames}
@@ -22,7 +23,7 @@ applied_sending u e ss = offers_sending (answers_of u.notes) (read u e) (step_se
 -- an engine that was new has sent this on its links, one after another: through its turns, and through what it was told
 -- and what was taken of it between them
 pub data HasSent : Engine → List Sending → Type 0 where
-  new : HasSent (begin start) []
+  new : (config : Config) → HasSent (begin (start config)) []
   -- a link was asked for where one was wanted, as a turn begins
   asked : {e : Engine} {ss : List Sending} → HasSent e ss → HasSent (asks e) ss
   -- the rest of a turn

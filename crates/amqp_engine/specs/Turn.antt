@@ -1,6 +1,7 @@
 -- A turn: one step that was taken, with all that follows it. The engine is a fold of its turns, whatever its port
 -- tells.
 use Rattle.std.specs.Prelude.{◌≡◌, ◌≢◌, ◌<◌, ◌≤◌, ℕ, zero, suc, ◌+◌, ◌^◌, not, ◌&&◌, ◌==◌, if◌then◌else◌, nat_lt, Bool, true, false, IsTrue, IsFalse, MatchBool, List, [], ◌∷◌, ◌++◌, length, map, Option, Some, None}
+use Rattle.amqp_session.specs.Config.{Config}
 use Rattle.amqp_session.specs.Talk.{Talk, start, wants_link, is_asked, is_open, has_ended}
 use Rattle.amqp_session.specs.Links.{asked}
 use Rattle.amqp_frame.specs.RawMethods.{OtherMethod}
@@ -177,9 +178,9 @@ abbrev pub turns : List Turn → Engine → Engine
 turns [] e = e
 turns (u ∷ us) e = turns us (turn u e)
 
--- the state of the session that these turns lead to
-abbrev pub talk : List Turn → Talk
-talk us = (turns us (begin start)).talk
+-- the state of a session of this configuration that these turns of a new engine lead to
+abbrev pub talk : Config → List Turn → Talk
+talk config us = (turns us (begin (start config))).talk
 
 -- ---- which turns there may be
 

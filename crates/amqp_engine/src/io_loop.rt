@@ -3,6 +3,7 @@
 ghost use Rattle.std.specs.Prelude.{◌≡◌, ◌≤◌, ◌⊎◌, ℕ, Some, None, Err, List, true, false, IfOk, IfErr, IfSome, IsOk, OnOk, OnErr, MatchResult, IsSome, IsTrue, length, option_map};
 ghost use Rattle.amqp_ring.specs.Ring.{capacity};
 ghost use Rattle.amqp_session.specs.declared.io_fault.IoFault.{IoFault};
+ghost use Rattle.amqp_session.specs.Config.{config_of};
 ghost use Rattle.amqp_session.specs.Talk.{start, has_ended, end_of};
 ghost use Rattle.amqp_session.specs.ChannelMethods.{frames_of};
 ghost use Rattle.amqp_session.specs.Commands.{command as command_rule, promise_of};
@@ -21,16 +22,21 @@ ghost use Rattle.amqp_engine.specs.Play.{IsPlayed};
 use crate::port::{Port, Told, hold};
 use crate::wire::Wire;
 use amqp_ring::Buffer;
-use amqp_session::{Answer, Cmd, ErrorKind, Handed, IoFault, Result, Session};
+use amqp_session::{
+    Answer, Cmd, ConnectionProperties, ErrorKind, Handed, IoFault, Result, Session,
+};
 use amqp_types::NoMemory;
+use amqp_uri::AMQPUri;
 use std::alloc::Global;
+use std::fmt;
 use std::marker::Model;
 
 /// The greatest number of bytes of a piece.
 const PIECE: usize = 4096;
 
-/// A session with the bytes of its link, which runs over a port.
-#[derive(Debug, Drop)]
+/// A session with the bytes of its link, which runs over a port. Its `Debug` shows nothing of what it
+/// holds: how the client logs in is among the bytes that are unsent.
+#[derive(Drop)]
 pub struct IoLoop {
     wire: Wire,
     // where the port puts its pieces
@@ -54,20 +60,35 @@ impl Model for IoLoop {
     ghost invariant = { λ l. (length l.scratch.items ≡ 4096) × IsRead l.wire };
 }
 
+impl fmt::Debug for IoLoop {
+    ghost use Rattle.std.specs.Prelude.{Some, codes};
+
+    ghost debug_output = { λ _. Some (codes "IoLoop { .. }") };
+
+    fn fmt<W: fmt::Write>(&self, f: &mut fmt::Formatter<W>) -> fmt::Result {
+        f.write_str("IoLoop { .. }")
+    }
+}
+
 impl IoLoop {
-    /// A loop that wants a link. It takes the memory of both buffers and of the scratch.
-    pub fn new(alloc: Global) -> Result<IoLoop>
-        ensures ok { IfOk result (λ l. l ≡ begin start) }
+    /// A loop that wants a link to a server at this address. The options are moved in. It takes the
+    /// memory of both buffers and of the scratch.
+    pub fn new(alloc: Global, uri: &AMQPUri, options: ConnectionProperties) -> Result<IoLoop>
+        ensures ok { IfOk result (λ l. l ≡ begin (start (config_of uri.now options))) }
         ensures err { IfErr result (λ e. e ≡ ErrorKind.NoMemory) }
     {
-        Ok(IoLoop::make(alloc)?)
+        Ok(IoLoop::make(alloc, uri, options)?)
     }
 
-    fn make(alloc: Global) -> std::result::Result<IoLoop, NoMemory>
-        ensures { IfOk result (λ l. l ≡ begin start) }
+    fn make(
+        alloc: Global,
+        uri: &AMQPUri,
+        options: ConnectionProperties,
+    ) -> std::result::Result<IoLoop, NoMemory>
+        ensures { IfOk result (λ l. l ≡ begin (start (config_of uri.now options))) }
     {
         let scratch = vec![in alloc; 0; PIECE]?;
-        let wire = Wire::new(alloc)?;
+        let wire = Wire::new(alloc, uri, options)?;
         Ok(IoLoop { wire, scratch })
     }
 

@@ -2,6 +2,7 @@
 
 ghost use Rattle.std.specs.Prelude.{◌≡◌, ℕ, ◌+◌, [], false, true, List, Option, map};
 ghost use Rattle.std.specs.List.{AllByRecursion};
+ghost use Rattle.amqp_session.specs.Config.{Config};
 ghost use Rattle.amqp_session.specs.Talk.{Talk, start, has_ended};
 ghost use Rattle.amqp_session.specs.Legal.{Legal};
 ghost use Rattle.amqp_engine.specs.declared.given.Given.{Given};
@@ -34,18 +35,20 @@ pub fn a_run_goes_on()
 /// The turns of a script are turns of a new engine over a port that plays the script. So what holds
 /// of all turns holds of these.
 pub fn a_script_has_its_turns()
-    ensures turns { (gs : List Given) → AreTurns (replayed gs) (begin start) }
-    ensures plays { (gs : List Given) → PlaysTurns (replayed gs) (begin start) (loaded gs) }
+    ensures turns { (config : Config) (gs : List Given) → AreTurns (replayed config gs) (begin (start config)) }
+    ensures plays { (config : Config) (gs : List Given)
+        → PlaysTurns (replayed config gs) (begin (start config)) (loaded gs) }
 {}
 
 /// What a port tells of its links, which had none before a new engine ran over it, are the bytes of
 /// the frames that were committed on each, as many as were taken: the spellings of the frames that
 /// were sent, in order, and then a part of the next one.
 pub fn a_link_has_the_frames_sent()
-    ensures told { (us : List Turn) (log : Log) → AreTurns us (begin start) → log.links ≡ []
-        → log.asked ≡ false
-        → (log_turns us (begin start) log).links ≡ map link_bytes (sendings us) }
-    ensures order { (us : List Turn) → AreTurns us (begin start) → AllByRecursion SendsInOrder (sendings us) }
+    ensures told { (config : Config) (us : List Turn) (log : Log) → AreTurns us (begin (start config))
+        → log.links ≡ [] → log.asked ≡ false
+        → (log_turns us (begin (start config)) log).links ≡ map link_bytes (sendings config us) }
+    ensures order { (config : Config) (us : List Turn) → AreTurns us (begin (start config))
+        → AllByRecursion SendsInOrder (sendings config us) }
 {}
 
 /// While a link is open, no turn leaves a whole frame unread.
@@ -62,8 +65,8 @@ pub fn conversations_are_legal()
         → AllByRecursion (λ (s : Sending). Legal (frames_sent s)) ss }
     ensures committed { (e : Engine) (ss : List Sending) → HasSent e ss
         → AllByRecursion (λ (s : Sending). Legal (frames s.committed)) ss }
-    ensures turns { (us : List Turn) → AreTurns us (begin start) → AreTold us
-        → AllByRecursion (λ (s : Sending). Legal (frames_sent s)) (sendings us) }
-    ensures script { (gs : List Given) → AreGivenTold gs
-        → AllByRecursion (λ (s : Sending). Legal (frames_sent s)) (sendings (replayed gs)) }
+    ensures turns { (config : Config) (us : List Turn) → AreTurns us (begin (start config)) → AreTold us
+        → AllByRecursion (λ (s : Sending). Legal (frames_sent s)) (sendings config us) }
+    ensures script { (config : Config) (gs : List Given) → AreGivenTold gs
+        → AllByRecursion (λ (s : Sending). Legal (frames_sent s)) (sendings config (replayed config gs)) }
 {}

@@ -9,6 +9,7 @@ mod writing;
 
 ghost use Rattle.std.specs.Prelude.{◌≡◌, ◌≤◌, not, ◌<◌, Option, Some, true, false, IfOk, IfErr, IsOk, OnOk, OnErr, MatchResult, IsSome, IsTrue, option_map, length};
 ghost use Rattle.amqp_ring.specs.Ring.{capacity};
+ghost use Rattle.amqp_session.specs.Config.{config_of};
 ghost use Rattle.amqp_session.specs.Talk.{start, is_open, has_ended};
 ghost use Rattle.amqp_session.specs.Commands.{command as command_rule, promise_of};
 ghost use Rattle.amqp_session.specs.ChannelMethods.{frames_of};
@@ -20,13 +21,16 @@ ghost use Rattle.amqp_engine.specs.Making.{AppliesCounted};
 
 use crate::port::{Port, Told};
 use amqp_ring::Buffer;
-use amqp_session::{Answer, Cmd, ErrorKind, Handed, INITIAL_CAPACITY, Session};
+use amqp_session::{
+    Answer, Cmd, ConnectionProperties, ErrorKind, Handed, Session, initial_capacity,
+};
 use amqp_types::NoMemory;
+use amqp_uri::AMQPUri;
 use std::alloc::Global;
 use std::marker::Model;
 
 /// A session, the bytes that it has not yet read, and those that its link has not yet taken.
-#[derive(Debug, Drop)]
+#[derive(Drop)]
 pub struct Wire {
     alloc: Global,
     session: Session,
@@ -40,7 +44,7 @@ impl Model for Wire {
     ghost use Rattle.std.specs.Prelude.{◌≡◌, ◌≤◌, IsTrue, length};
     ghost use Rattle.amqp_session.specs.Talk.{is_open};
     ghost use Rattle.amqp_session.specs.Writing.{left_in};
-    ghost use Rattle.amqp_session.specs.declared.capacity.TheConstants.{INITIAL_CAPACITY};
+    ghost use Rattle.amqp_session.specs.declared.capacity.TheConstants.{LEAST_CAPACITY};
     ghost use Rattle.amqp_ring.specs.Ring.{capacity};
     ghost use Rattle.amqp_engine.specs.Engine.{Engine};
 
@@ -60,20 +64,25 @@ impl Model for Wire {
     } };
 
     // While the link is open, the session counts the bytes that are unsent. Its capacity is that of
-    // both buffers, and never less than at the beginning.
+    // both buffers, and never less than the least.
     ghost invariant = { λ w. (IsTrue (is_open w.session) → length w.unsent.kept ≡ left_in w.session.committed)
         × (capacity w.unread ≡ w.session.capacity) × (capacity w.unsent ≡ w.session.capacity)
-        × (INITIAL_CAPACITY ≤ w.session.capacity) };
+        × (LEAST_CAPACITY ≤ w.session.capacity) };
 }
 
 impl Wire {
     /// A new engine: nothing is unread, and nothing is unsent.
-    pub fn new(alloc: Global) -> Result<Wire, NoMemory>
-        ensures { IfOk result (λ w. w ≡ begin start) }
+    pub fn new(
+        alloc: Global,
+        uri: &AMQPUri,
+        options: ConnectionProperties,
+    ) -> Result<Wire, NoMemory>
+        ensures { IfOk result (λ w. w ≡ begin (start (config_of uri.now options))) }
     {
-        let unread = Buffer::with_capacity(alloc, INITIAL_CAPACITY as usize)?;
-        let unsent = Buffer::with_capacity(alloc, INITIAL_CAPACITY as usize)?;
-        match Session::new(alloc) {
+        let capacity = initial_capacity(uri) as usize;
+        let unread = Buffer::with_capacity(alloc, capacity)?;
+        let unsent = Buffer::with_capacity(alloc, capacity)?;
+        match Session::new(alloc, uri, options) {
             Ok(session) => Ok(Wire {
                 alloc,
                 session,

@@ -2,6 +2,7 @@
 
 ghost use Rattle.std.specs.Prelude.{None};
 
+use crate::story::new_engine;
 use crate::support::{Happens, Outcome, port};
 use amqp_engine::{IoLoop, MemoryPort, Port, Told, Wrote};
 use amqp_session::ErrorKind;
@@ -52,7 +53,7 @@ fn starved_in(port: &mut Refusing, engine: &mut IoLoop) -> Option<u64> {
 }
 
 fn starved_over(alloc: Global, port: &mut Refusing) -> Outcome<Option<u64>> {
-    let mut engine = IoLoop::new(alloc)?;
+    let mut engine = new_engine(alloc)?;
     let starved = starved_in(port, &mut engine);
     drop(engine);
     Ok(starved)

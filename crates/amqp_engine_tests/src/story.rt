@@ -3,7 +3,8 @@
 use crate::support::{Happens, Outcome, our_close, port, shows, took};
 use amqp_engine::{IoLoop, MemoryPort, Port, ScriptedPort};
 use amqp_ring::Buffer;
-use amqp_session::Answer;
+use amqp_session::{Answer, ConnectionProperties};
+use amqp_uri::AMQPUri;
 use std::alloc::Global;
 use std::process::Abort;
 
@@ -63,13 +64,22 @@ pub fn wrong_line(alloc: Global, script: &[Happens], lines: &[Line]) -> Outcome<
     wrong
 }
 
+/// A new engine for the broker of this machine.
+pub fn new_engine(alloc: Global) -> Outcome<IoLoop> {
+    let options = ConnectionProperties::new(alloc)?;
+    let uri = AMQPUri::local(alloc)?;
+    let engine = IoLoop::new(alloc, &uri, options);
+    drop(uri);
+    Ok(engine?)
+}
+
 /// The same of a new engine over this port.
 pub fn wrong_line_over(
     alloc: Global,
     port: &mut MemoryPort,
     lines: &[Line],
 ) -> Outcome<Option<u64>> {
-    let mut engine = IoLoop::new(alloc)?;
+    let mut engine = new_engine(alloc)?;
     let wrong = wrong_line_of(alloc, port, &mut engine, lines);
     drop(engine);
     wrong

@@ -4,8 +4,10 @@ pub mod LineLemmas
 -- Decimal numbers (`decimals`), and bytes as a script spells them (`data`).
 pub mod DecimalLemmas
 pub mod DataLemmas
--- What a line says (`grammar`): zeros that are limited, the steps of lines, the length of a piece (`script`).
+-- What a line says (`grammar`): zeros that are limited, bytes that are printable, what lines say, the length of a piece
+-- (`script`).
 pub mod FreeLines
+pub mod Printable
 pub mod Steps
 pub mod Pieces
 -- What follows the most that is read says nothing (`top`: `outcome`).
@@ -14,9 +16,10 @@ pub mod MostRead
 pub mod Entries
 pub mod Reports
 pub mod FrameLines
+-- A generated script, and its summary (`generator`, `summary`).
+pub mod Generating
 -- What was read and what was written (`transfer`).
 pub mod Streams
--- A replay, from the contracts of the port and the engine; the statuses; the lone word (`top`).
+-- A replay, from the contracts of the port and the engine; the statuses (`top`).
 pub mod Replaying
 pub mod Statuses
-pub mod Lone

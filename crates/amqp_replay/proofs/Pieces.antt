@@ -10,13 +10,15 @@ use Rattle.amqp_engine.specs.declared.given.GivenStep.{GivenStep}
 use Rattle.amqp_engine.specs.declared.given.GivenStep.TheVariants.{Link, Refuse, Bytes, End, Fault, Room, WriteFail, Tick, Command}
 use Rattle.amqp_engine.specs.Plan.{IsGivenPiece, ArePieces}
 use Rattle.amqp_replay.specs.declared.grammar.Said.{Said}
-use Rattle.amqp_replay.specs.declared.grammar.Said.TheVariants.{Nothing, Refused, Step}
+use Rattle.amqp_replay.specs.declared.grammar.Said.TheVariants.{Nothing, Refused, Setup, Step}
 use Rattle.amqp_replay.specs.declared.limits.TheConstants.{PIECE_BYTES, TEXT_BYTES}
 use Rattle.amqp_replay.specs.Lines.{Line}
 use Rattle.amqp_replay.specs.Words.{first_word, after_word}
 use Rattle.amqp_replay.specs.Decimals.{number_16, number_64}
 use Rattle.amqp_replay.specs.Data.{Spelled, spelled}
-use Rattle.amqp_replay.specs.Grammar.{step_or_refused, lone, link_line, room_line, piece, bytes_line, closes_by, closes, shut_line, numbered, close_of, close_line, number_in, rest_of, is_passed_through, sent_method, sends_data, data_in, sends, send_line, Published, zeros_published, published_in, publishes_data, publishes, publish_line, switch_in, flows, flow_line, command_of_words, line_of_words, words_say, timed, is_at_sign, step_line, is_ignored, is_printable, content_says, is_within_limits, says, limited}
+use Rattle.amqp_replay.specs.declared.setup.Setting.{Setting}
+use Rattle.amqp_replay.specs.Setup.{is_setup, setting_of}
+use Rattle.amqp_replay.specs.Grammar.{step_or_refused, lone, link_line, room_line, piece, bytes_line, closes_by, closes, shut_line, numbered, close_of, close_line, number_in, rest_of, is_passed_through, sent_method, sends_data, data_in, sends, send_line, Published, zeros_published, published_in, publishes_data, publishes, publish_line, switch_in, flows, flow_line, command_of_words, line_of_words, words_say, timed, is_at_sign, step_line, is_ignored, is_printable, setup_or_refused, content_says, is_within_limits, says, limited}
 
 abbrev pub SaysPiece : Said → Type 0
 SaysPiece (Step what n) = IsGivenPiece what
@@ -157,14 +159,20 @@ of_step_line (b ∷ bs) =
     if_case (is_at_sign b) (timed (number_64 (first_word bs)) (after_word bs)) (words_say (b ∷ bs))
     (of_timed (number_64 (first_word bs)) (after_word bs)) (of_words_say (b ∷ bs))
 
+of_setup : (o : Option Setting) → SaysPiece (setup_or_refused o)
+of_setup None = tt
+of_setup (Some setting) = tt
+
 of_content : (content : List ℕ) → SaysPiece (content_says content)
 of_content content =
     if_case (not (list_all is_printable content)) Refused _ tt
-    (if_case (is_ignored content) Nothing (step_line content) tt (of_step_line content))
+    (if_case (is_ignored content) Nothing _ tt
+    (if_case (is_setup content) (setup_or_refused (setting_of content)) (step_line content) (of_setup (setting_of content)) (of_step_line content)))
 
 of_limited : (left : ℕ) (said : Said) → SaysPiece said → SaysPiece (limited left said)
 of_limited left Nothing p = tt
 of_limited left Refused p = tt
+of_limited left (Setup setting) p = tt
 of_limited left (Step what n) p = if_case (nat_le n left) (Step what n) Refused p tt
 
 pub says_piece : (left : ℕ) (line : Line) → SaysPiece (limited left (says line))

@@ -1,16 +1,14 @@
 -- Which statuses a printout has.
-use Rattle.std.proofs.Common.{◌≡◌, ◌≢◌, ◌<◌, ◌⊎◌, inl, inr, refl, ℕ, List, take, Option, Some, None, IfSome, Result, Ok, Err, ap, ◌∙◌, subst, arith}
+use Rattle.std.proofs.Common.{◌≡◌, ◌≢◌, ◌<◌, ◌⊎◌, sym, inl, inr, refl, ℕ, List, take, Option, Some, None, IfSome, Result, Ok, Err, ap, ◌∙◌, subst, arith}
 use Rattle.amqp_session.specs.declared.error.ErrorKind.{ErrorKind}
 use Rattle.amqp_session.specs.Talk.{end_of}
-use Rattle.amqp_engine.specs.declared.given.Given.{Given}
 use Rattle.amqp_engine.specs.Log.{Log}
-use Rattle.amqp_engine.specs.Turn.{talk}
-use Rattle.amqp_engine.specs.Play.{replayed}
 use Rattle.amqp_replay.specs.declared.limits.TheConstants.{MOST_READ}
 use Rattle.amqp_replay.specs.declared.status.TheConstants.{CLOSED, REFUSED, USAGE, SOURCE_FAILED, SINK_FAILED, FAILED, RUNNING, NO_MEMORY}
-use Rattle.amqp_replay.specs.Grammar.{parsed}
+use Rattle.amqp_replay.specs.Grammar.{Scenario, parsed}
 use Rattle.amqp_replay.proofs.MostRead.{parsed-most}
-use Rattle.amqp_replay.specs.Top.{end_status, printout, TellsReplay, Prints, Replays, ReplaysSome, IsSilent, IsStatus}
+use Rattle.amqp_replay.specs.Report.{Printout}
+use Rattle.amqp_replay.specs.Top.{end_status, replayed_talk, printout, generated_printout, TellsReplay, Prints, Replays, ReplaysSome, IsSilent, IsStatus}
 
 -- a status with which something is printed, though nothing failed
 pub record IsLoud (status : ℕ) : Type 0 where
@@ -34,9 +32,52 @@ loud_end None = loud_status RUNNING (inr (inr refl))
 loud_end (Some (Ok closed)) = loud_status CLOSED (inl (omega arith))
 loud_end (Some (Err e)) = loud_status FAILED (inr (inl refl))
 
-pub printout-IsLoud : (script : Result (List Given) ℕ) → IsLoud (printout script).status
+pub printout-IsLoud : (script : Result Scenario ℕ) → IsLoud (printout script).status
 printout-IsLoud (Err number) = loud_status REFUSED (inl (omega arith))
-printout-IsLoud (Ok gs) = loud_end (end_of (talk (replayed gs)))
+printout-IsLoud (Ok s) = loud_end (end_of (replayed_talk s))
+
+pub generated_printout-IsLoud : (script : List ℕ) (read : Result Scenario ℕ) → IsLoud (generated_printout script read).status
+generated_printout-IsLoud script (Err number) = loud_status REFUSED (inl (omega arith))
+generated_printout-IsLoud script (Ok s) = loud_end (end_of (replayed_talk s))
+
+-- ---- a printout that was written
+
+-- what its status tells, R being what a sink that failed tells
+pub record Written (before after : Option (List ℕ)) (R : Type 0) (status : ℕ) : Type 0 where
+  pub known : (status ≢ USAGE) × (status ≢ SOURCE_FAILED)
+  pub failed : status ≡ SINK_FAILED → R
+  pub silent : IsSilent status → after ≡ before
+
+not_silent : (before after : Option (List ℕ)) (status : ℕ) → status ≢ USAGE → status ≢ SOURCE_FAILED → status ≢ NO_MEMORY → IsSilent status
+    → after ≡ before
+not_silent before after status known read memory (inl h) = absurd (known h)
+not_silent before after status known read memory (inr (inl h)) = absurd (read h)
+not_silent before after status known read memory (inr (inr h)) = absurd (memory h)
+
+written_whole : (R : Type 0) (before after : Option (List ℕ)) (status p : ℕ) → IsLoud p → status ≡ p → Written before after R status
+written_whole R before after status p loud is =
+    let known : status ≢ USAGE = λ h. loud.known (sym is ∙ h) in
+    let read : status ≢ SOURCE_FAILED = λ h. loud.read (sym is ∙ h) in
+    let memory : status ≢ NO_MEMORY = λ h. loud.memory (sym is ∙ h) in
+    record {
+      known = (known, read);
+      failed = λ h. absurd (loud.written (sym is ∙ h));
+      silent = λ h. not_silent before after status known read memory h;
+    }
+
+written_front : (R : Type 0) (before after : Option (List ℕ)) (status p : ℕ) → IsLoud p → (status ≡ p) ⊎ R → status ≡ SINK_FAILED
+    → Written before after R status
+written_front R before after status p loud (inl is) failed = absurd (loud.written (sym is ∙ failed))
+written_front R before after status p loud (inr rose) failed =
+    let known : status ≢ USAGE = λ h. omega (arith, h, failed) in
+    let read : status ≢ SOURCE_FAILED = λ h. omega (arith, h, failed) in
+    let memory : status ≢ NO_MEMORY = λ h. omega (arith, h, failed) in
+    record { known = (known, read); failed = λ _. rose; silent = λ h. not_silent before after status known read memory h }
+
+pub written : (R : Type 0) (p : Printout) (before after : Option (List ℕ)) (status : ℕ) → IsLoud p.status → (status ≡ p.status) ⊎ R
+    → Prints p before after status → Written before after R status
+written R p before after status loud cause (inl whole) = written_whole R before after status p.status loud whole.0
+written R p before after status loud cause (inr front) = written_front R before after status p.status loud cause front.0
 
 -- ---- a script that was read and answered
 
@@ -55,8 +96,8 @@ Replays-told None log before after status script read outcome = tt
 Replays-told (Some all) log before after status script read (inl silent) = inl silent
 Replays-told (Some all) log before after status script read (inr answers) =
     let same : parsed script ≡ parsed all = ap parsed read ∙ parsed-most all in
-    let P : Result (List Given) ℕ → Type 0 = λ r. TellsReplay r log in
-    let Q : Result (List Given) ℕ → Type 0 = λ r. Prints (printout r) before after status in
+    let P : Result Scenario ℕ → Type 0 = λ r. TellsReplay r log in
+    let Q : Result Scenario ℕ → Type 0 = λ r. Prints (printout r) before after status in
     inr (record { told = subst P same answers.told; prints = subst Q same answers.prints })
 
 of_prints : (script : List ℕ) (before after : Option (List ℕ)) (status : ℕ) → Prints (printout (parsed script)) before after status

@@ -1,8 +1,9 @@
--- A script: which step each line says, and which line is refused.
+-- A script: which setting or step each line says, and which line is refused.
 use Rattle.std.specs.Prelude.{ℕ, ◌+◌, ◌==◌, ◌-◌, ◌&&◌, ◌||◌, not, nat_le, if◌then◌else◌, Bool, true, false, List, [], ◌∷◌, length, Option, Some, None, option_map, unwrap_or, Result, Ok, Err, codes}
 use Rattle.std.specs.List.{list_all}
 use Rattle.std.specs.Str.{bytes_eq}
 use Rattle.amqp_frame.specs.RawMethods.{OtherMethod}
+use Rattle.amqp_session.specs.Config.{Config}
 use Rattle.amqp_session.specs.declared.command.ChanRef.{ChanRef}
 use Rattle.amqp_session.specs.declared.command.Cmd.{Cmd}
 use Rattle.amqp_session.specs.declared.command.Cmd.TheVariants.{OpenChannel, CloseChannel, CloseConnection, Send, Publish, Flow}
@@ -10,12 +11,14 @@ use Rattle.amqp_engine.specs.declared.given.Given.{Given}
 use Rattle.amqp_engine.specs.declared.given.GivenStep.{GivenStep}
 use Rattle.amqp_engine.specs.declared.given.GivenStep.TheVariants.{Link, Refuse, Bytes, End, Fault, Room, WriteFail, Tick, Command}
 use Rattle.amqp_replay.specs.declared.grammar.Said.{Said}
-use Rattle.amqp_replay.specs.declared.grammar.Said.TheVariants.{Nothing, Refused, Step}
+use Rattle.amqp_replay.specs.declared.grammar.Said.TheVariants.{Nothing, Refused, Setup, Step}
 use Rattle.amqp_replay.specs.declared.limits.TheConstants.{PIECE_BYTES, SCRIPT_BYTES, SCRIPT_LINES, TEXT_BYTES, ZERO_BYTES}
 use Rattle.amqp_replay.specs.Lines.{Line, lines}
 use Rattle.amqp_replay.specs.Words.{first_word, after_word}
 use Rattle.amqp_replay.specs.Decimals.{number_16, number_64}
 use Rattle.amqp_replay.specs.Data.{Spelled, spelled}
+use Rattle.amqp_replay.specs.declared.setup.Setting.{Setting}
+use Rattle.amqp_replay.specs.Setup.{is_setup, setting_of, Progress, no_lines, may_stand, after_setting, after_step}
 
 -- ---- lines
 
@@ -251,11 +254,17 @@ is_ignored (b ∷ bs) = b == 35
 abbrev pub is_printable : ℕ → Bool
 is_printable b = nat_le 0x20 b && nat_le b 0x7e
 
+-- a setup line says its setting, where there is one
+abbrev pub setup_or_refused : Option Setting → Said
+setup_or_refused None = Refused
+setup_or_refused (Some setting) = Setup setting
+
 -- what the bytes of a line say
 abbrev pub content_says : List ℕ → Said
 content_says content =
     if not (list_all is_printable content) then Refused
     else if is_ignored content then Nothing
+    else if is_setup content then setup_or_refused (setting_of content)
     else step_line content
 
 -- a line that the limits of a script leave room for
@@ -273,6 +282,22 @@ limited left said = said
 
 -- ---- scripts
 
+-- what a script says: what the session is made from, and the steps that are played
+pub record Scenario : Type 0 where
+  pub config : Config
+  pub steps : List Given
+
+-- a setting that may not stand where the lines have come is refused
+abbrev pub placed : Progress → Said → Said
+placed p (Setup setting) = if may_stand setting p then Setup setting else Refused
+placed p said = said
+
+-- how far the lines have come after a line
+abbrev pub progress_after : Progress → Said → Progress
+progress_after p (Setup setting) = after_setting setting p
+progress_after p (Step what n) = after_step p
+progress_after p _ = p
+
 -- a step, and its moment
 abbrev pub given : ℕ → GivenStep → Given
 given at what = record { at = at; what = what }
@@ -288,26 +313,26 @@ moment_after at (Step what n) content = unwrap_or (moment content) at
 moment_after at _ content = at
 
 -- a step comes before the steps that follow, unless a line is refused
-abbrev pub first : Given → Result (List Given) ℕ → Result (List Given) ℕ
-first g (Ok gs) = Ok (g ∷ gs)
+abbrev pub first : Given → Result Scenario ℕ → Result Scenario ℕ
+first g (Ok s) = Ok (record s { steps = g ∷ s.steps })
 first g (Err number) = Err number
 
 -- what a line says, its step at this moment, comes before what the following lines say; a refused line comes before all
 -- that follows
-abbrev pub before : ℕ → Said → ℕ → Result (List Given) ℕ → Result (List Given) ℕ
-before at Nothing number rest = rest
+abbrev pub before : ℕ → Said → ℕ → Result Scenario ℕ → Result Scenario ℕ
 before at Refused number rest = Err number
 before at (Step what n) number rest = first (given at what) rest
+before at _ number rest = rest
 
--- the steps that these lines say after a step of this moment, or the number of the first one that is refused, where so
--- many zeros may still be spelled by numbers
-abbrev pub steps_of : ℕ → ℕ → List Line → Result (List Given) ℕ
-steps_of at left [] = Ok []
-steps_of at left (line ∷ lines) =
-    let said = limited left (says line) in
+-- what these lines say where the lines before them have come so far, after a step of this moment, or the number of the
+-- first one that is refused, where so many zeros may still be spelled by numbers
+abbrev pub scenario_of : Progress → ℕ → ℕ → List Line → Result Scenario ℕ
+scenario_of p at left [] = Ok (record { config = p.config; steps = [] })
+scenario_of p at left (line ∷ lines) =
+    let said = placed p (limited left (says line)) in
     let now = moment_after at said line.content in
-    before now said line.number (steps_of now (left - zeros_in said) lines)
+    before now said line.number (scenario_of (progress_after p said) now (left - zeros_in said) lines)
 
--- the steps of a script, whose moments begin at 0, or the number of its first line that is refused
-abbrev pub parsed : List ℕ → Result (List Given) ℕ
-parsed text = steps_of 0 ZERO_BYTES (lines text)
+-- what a script says, whose moments begin at 0, or the number of its first line that is refused
+abbrev pub parsed : List ℕ → Result Scenario ℕ
+parsed text = scenario_of no_lines 0 ZERO_BYTES (lines text)

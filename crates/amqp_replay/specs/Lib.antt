@@ -1,10 +1,13 @@
 -- What a source gives, and what a sink takes.
 pub mod Ends
--- A script: its lines, its words, numbers and bytes, and the step that a line says.
+-- What the words of a command line ask for.
+pub mod Asked
+-- A script: its lines, its words, numbers and bytes, and the setting or the step that a line says.
 pub mod Lines
 pub mod Words
 pub mod Decimals
 pub mod Data
+pub mod Setup
 pub mod Grammar
 pub mod Scripts
 -- What the contracts of private calls are stated with.
@@ -12,5 +15,8 @@ pub mod Budgets
 pub mod Reasons
 -- What is printed.
 pub mod Report
+pub mod Summary
+-- The script that a number makes.
+pub mod Generator
 -- What the program promises.
 pub mod Top

@@ -1,13 +1,15 @@
 //! What the lines of a script say.
 
-ghost use Rattle.std.specs.Prelude.{◌≡◌, ◌<◌, ◌^◌, IfOk, IfSome, option_map};
+ghost use Rattle.std.specs.Prelude.{◌≡◌, ◌<◌, ◌^◌, IsTrue, IfOk, IfSome, option_map};
 ghost use Rattle.std.specs.List.{list_all};
 ghost use Rattle.std.specs.Option.{option_copied};
+ghost use Rattle.std.specs.Str.{IsAscii};
 ghost use Rattle.amqp_session.specs.declared.command.ChanRef.{ChanRef};
 ghost use Rattle.amqp_session.specs.declared.command.Cmd.TheVariants.{CloseConnection, CloseChannel};
-ghost use Rattle.amqp_replay.specs.Grammar.{says, content_says, step_line, moment, words_say, line_of_words, command_of_words, limited, is_ignored, is_printable, is_within_limits, lone, link_line, room_line, bytes_line, shut_line, close_line, send_line, close_of, closes, closes_by, numbered, number_in, rest_of, sends_data, is_passed_through, all_spelled, published_in, publishes_data, publish_line, zeros_published, flow_line, switch_of};
+ghost use Rattle.amqp_replay.specs.Grammar.{says, content_says, step_line, moment, words_say, line_of_words, command_of_words, limited, is_ignored, setup_or_refused, is_printable, is_within_limits, lone, link_line, room_line, bytes_line, shut_line, close_line, send_line, close_of, closes, closes_by, numbered, number_in, rest_of, sends_data, is_passed_through, all_spelled, published_in, publishes_data, publish_line, zeros_published, flow_line, switch_of};
 ghost use Rattle.amqp_replay.specs.Budgets.{affordable_publish};
 ghost use Rattle.amqp_replay.specs.Data.{spelled};
+ghost use Rattle.amqp_replay.specs.Setup.{setting_of};
 ghost use Rattle.amqp_replay.specs.Decimals.{number_16};
 ghost use Rattle.amqp_replay.specs.Reasons.{GivesReason};
 
@@ -15,6 +17,7 @@ use crate::data::{Spelled, read_data};
 use crate::decimals::number;
 use crate::limits::{PIECE_BYTES, SCRIPT_BYTES, SCRIPT_LINES, TEXT_BYTES};
 use crate::lines::Line;
+use crate::setup::{Setting, is_setup, read_setting};
 use crate::words::{cut, is};
 use amqp_engine::GivenStep;
 use amqp_frame::RawMethod;
@@ -29,6 +32,8 @@ pub enum Said {
     /// The line is empty or a comment.
     Nothing,
     Refused,
+    /// What a session is made from.
+    Setup(Setting),
     /// A step, and how many of its bytes are zeros that a number spells.
     Step(GivenStep, u64),
 }
@@ -53,12 +58,16 @@ fn content_says(alloc: Global, content: &[u8], left: u64) -> Result<Said, NoMemo
     if is_ignored(content) {
         return Ok(Said::Nothing);
     }
+    if is_setup(content) {
+        return Ok(setup_line(alloc, content)?);
+    }
     Ok(step_line(alloc, content, left)?)
 }
 
 // Whether a line holds no other bytes than it may.
 fn is_printable(content: &[u8]) -> bool
-    ensures { result ≡ list_all is_printable content.now }
+    ensures all { result ≡ list_all is_printable content.now }
+    ensures ascii { IsTrue result → IsAscii content.now }
 {
     content.iter().all(|b| 0x20 <= *b && *b <= 0x7e)
 }
@@ -68,6 +77,17 @@ pub fn is_ignored(content: &[u8]) -> bool
     ensures { result ≡ is_ignored content.now }
 {
     content.is_empty() || content[0] == b'#'
+}
+
+// What a setup line says.
+fn setup_line(alloc: Global, content: &[u8]) -> Result<Said, NoMemory>
+    requires { IsAscii content.now }
+    ensures { IfOk result (λ said. said ≡ setup_or_refused (setting_of content.now)) }
+{
+    match read_setting(alloc, content)? {
+        Some(setting) => Ok(Said::Setup(setting)),
+        None => Ok(Said::Refused),
+    }
 }
 
 // What a line says that says a step, with or without its moment.

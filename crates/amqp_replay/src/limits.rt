@@ -12,8 +12,11 @@ pub const SCRIPT_LINES: u64 = 100_000;
 /// The most bytes of one piece.
 pub const PIECE_BYTES: usize = 4096;
 
-/// The most bytes of the text of a close.
+/// The most bytes of a key, and of any text but an address.
 pub const TEXT_BYTES: usize = 255;
 
 /// The most zero bytes that all the `zN` parts of a script spell together.
 pub const ZERO_BYTES: u64 = 67_108_864;
+
+/// The greatest number that a script is generated of.
+pub const MOST_GENERATED: u64 = 2000;

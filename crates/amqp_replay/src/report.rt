@@ -150,8 +150,8 @@ fn put_link(alloc: Global, out: &mut String, number: u64, bytes: &[u8]) -> Resul
     Ok(())
 }
 
-// Bytes in hexadecimal.
-fn put_digits(alloc: Global, out: &mut String, bytes: &[u8]) -> Result<(), NoMemory>
+/// Bytes in hexadecimal.
+pub fn put_digits(alloc: Global, out: &mut String, bytes: &[u8]) -> Result<(), NoMemory>
     ensures { OnOk result (string_bytes out.new ≡ string_bytes out.old ++ hexadecimal bytes.now) }
 {
     if bytes.is_empty() {
@@ -258,8 +258,8 @@ fn kind_text(kind: RawKind) -> &'static str
     }
 }
 
-// The last line.
-fn put_end(out: &mut String, end: &Option<amqp_session::Result<()>>) -> Result<(), NoMemory>
+/// The last line.
+pub fn put_end(out: &mut String, end: &Option<amqp_session::Result<()>>) -> Result<(), NoMemory>
     ensures { OnOk result (string_bytes out.new ≡ string_bytes out.old ++ end_line end.now) }
 {
     match end {

@@ -9,24 +9,54 @@ ghost use Rattle.amqp_replay.specs.Scripts.{script_read, ScriptArePieces, line_o
 use crate::grammar::{Said, is_ignored, moment, says};
 use crate::limits::ZERO_BYTES;
 use crate::lines::Lines;
+use crate::setup::{Progress, is_setup};
 use crate::status::FAILED;
 use amqp_engine::Given;
+use amqp_session::ConnectionProperties;
 use amqp_types::NoMemory;
+use amqp_uri::AMQPUri;
 use std::alloc::Global;
+use std::marker::Model;
+
+/// What a script says.
+#[derive(Debug, Drop)]
+pub struct Scenario {
+    /// Where the session connects, and as whom.
+    pub uri: AMQPUri,
+    /// What is said of the client.
+    pub options: ConnectionProperties,
+    /// The steps that are played.
+    pub steps: Vec<Given>,
+}
+
+impl Model for Scenario {
+    ghost use Rattle.amqp_session.specs.Config.{config_of};
+    ghost use Rattle.amqp_replay.specs.Grammar.{Scenario};
+
+    ghost Value = { Scenario };
+
+    ghost use Rattle.std.specs.Coded.{codes};
+    ghost use Rattle.amqp_types.specs.ValueCode.{value_code};
+
+    ghost coded = { Prim.hlevel (codes, value_code) };
+
+    ghost view = { λ s. record { config = config_of s.uri s.options; steps = s.steps.items } };
+}
 
 /// What was read of a script.
 #[derive(Debug, Drop)]
 pub enum Script {
-    Steps(Vec<Given>),
+    Played(Scenario),
     /// The number of the first line that is refused.
     Refused(u64),
 }
 
-/// The steps of a script.
+/// What a script says.
 pub fn parse(alloc: Global, text: &[u8]) -> Result<Script, NoMemory>
     ensures script { IfOk result (λ script. script_read script ≡ parsed text.now) }
     ensures pieces { IfOk result ScriptArePieces }
 {
+    let mut progress = Progress::new(alloc)?;
     let mut steps = Vec::new(alloc);
     let mut lines = Lines::new(text);
     // how many zeros may still be spelled by numbers
@@ -37,14 +67,24 @@ pub fn parse(alloc: Global, text: &[u8]) -> Result<Script, NoMemory>
         match says(alloc, &line, left)? {
             Said::Nothing => {}
             Said::Refused => return Ok(Script::Refused(line.number)),
+            Said::Setup(setting) => match progress.set(alloc, setting)? {
+                Some(next) => progress = next,
+                None => return Ok(Script::Refused(line.number)),
+            },
             Said::Step(what, zeros) => {
+                progress.note_step();
                 at = moment(line.content).unwrap_or(at);
                 steps.push(Given { at, what })?;
                 left -= zeros;
             }
         }
     }
-    Ok(Script::Steps(steps))
+    let (uri, options) = progress.into_config();
+    Ok(Script::Played(Scenario {
+        uri,
+        options,
+        steps,
+    }))
 }
 
 /// The number of the line that says a step, the steps of a script being counted from 1.
@@ -55,7 +95,7 @@ pub fn line_of_step(text: &[u8], step: u64) -> Option<u64>
     // the steps up to that one
     let mut left = step;
     'lines: while let Some(line) = lines.take_line() {
-        if is_ignored(line.content) {
+        if is_ignored(line.content) || is_setup(line.content) {
             continue;
         }
         if left <= 1 {

@@ -1,28 +1,35 @@
 //! The program, over what is handed to it.
 
-ghost use Rattle.std.specs.Prelude.{◌≡◌, ◌≢◌, ◌⊎◌, ◌↔◌, [], ◌∷◌, List, length, Some, Ok, IfOk, IfSome, OnOk, IsTrue, codes};
-ghost use Rattle.amqp_session.specs.Talk.{start};
-ghost use Rattle.amqp_engine.specs.declared.given.Given.{Given};
+ghost use Rattle.std.specs.Prelude.{◌≡◌, ◌≢◌, ◌⊎◌, ◌↔◌, ℕ, length, Some, None, Ok, IfOk, IfSome, OnOk};
+ghost use Rattle.std.specs.String.{string_bytes};
+ghost use Rattle.amqp_session.specs.Talk.{start, end_of};
 ghost use Rattle.amqp_engine.specs.Log.{loaded};
 ghost use Rattle.amqp_engine.specs.Engine.{begin};
 ghost use Rattle.amqp_engine.specs.Plan.{ArePieces};
 ghost use Rattle.amqp_engine.specs.Counts.{Rose};
-ghost use Rattle.amqp_replay.specs.Grammar.{parsed};
-ghost use Rattle.amqp_replay.specs.Top.{printout, end_status, TellsReplay, Replays, ReplaysSome, IsSilent, IsStatus};
+ghost use Rattle.amqp_replay.specs.Asked.{asked};
+ghost use Rattle.amqp_replay.specs.Grammar.{Scenario, parsed};
+ghost use Rattle.amqp_replay.specs.Generator.{generated};
+ghost use Rattle.amqp_replay.specs.Scripts.{script_read, ScriptArePieces};
+ghost use Rattle.amqp_replay.specs.Top.{end_status, reported, summed, printout, generated_printout, IsReplayed, TellsReplay, Prints, Replays, ReplaysSome, Generates, IsSilent, IsStatus};
 
+use crate::asked::{Asked, asked_by};
 use crate::ends::{Sink, Source};
+use crate::generator::generated;
 use crate::report::{Printout, ended, refusal, report};
-use crate::script::{Script, parse};
+use crate::script::{Scenario, Script, parse};
 use crate::status::{
     CLOSED, FAILED, NO_MEMORY, REFUSED, RUNNING, SINK_FAILED, SOURCE_FAILED, USAGE,
 };
+use crate::summary::put_summary;
 use crate::transfer::{ReadFault, SinkFailed, read_all, write_all};
-use amqp_engine::{Given, IoLoop, ScriptedPort};
+use amqp_engine::{IoLoop, ScriptedPort};
 use amqp_types::{NoMemory, Text};
 use std::alloc::Global;
 
-/// Answers the words of a command line: reads a script from a source, replays it over a port, writes
-/// the report to a sink, and gives the exit status.
+/// Answers the words of a command line, and gives the exit status. Asked to replay, it reads a script
+/// from a source, replays it over a port, and writes the report to a sink. Asked to generate, it reads
+/// nothing, replays the script that a number makes, and writes that script and a summary.
 pub fn top<S: Source, K: Sink, P: ScriptedPort>(
     alloc: Global,
     words: &[Text],
@@ -30,7 +37,39 @@ pub fn top<S: Source, K: Sink, P: ScriptedPort>(
     sink: &mut K,
     port: &mut P,
 ) -> u8
-    ensures usage { (result ≡ USAGE) ↔ (words.now ≢ codes "replay" ∷ []) }
+    ensures usage { (result ≡ USAGE) ↔ (asked words.now ≡ None) }
+    ensures source_failed { result ≡ SOURCE_FAILED → Rose (S.faults source.old) (S.faults source.new) }
+    ensures sink_failed { result ≡ SINK_FAILED → Rose (K.faults sink.old) (K.faults sink.new) }
+    ensures silent { IsSilent result → K.held sink.new ≡ K.held sink.old }
+    ensures status { asked words.now ≡ Some Asked.Replay
+        → IfSome (S.left source.old) (λ script. IsStatus script result) }
+    ensures outcome { asked words.now ≡ Some Asked.Replay
+        → IfSome (S.left source.old) (λ script. IsSilent result
+        ⊎ Replays script (P.log port.new) (K.held sink.old) (K.held sink.new) result) }
+    ensures some_script { asked words.now ≡ Some Asked.Replay → IsSilent result
+        ⊎ ReplaysSome (S.left source.old) (P.log port.new) (K.held sink.old) (K.held sink.new) result }
+    ensures generated { (count : ℕ) → asked words.now ≡ Some (Asked.Generate count) → (result ≡ NO_MEMORY)
+        ⊎ Generates count (P.log port.new) (K.held sink.old) (K.held sink.new) result }
+    ensures unread { asked words.now ≢ Some Asked.Replay
+        → (S.left source.new ≡ S.left source.old) × (S.faults source.new ≡ S.faults source.old) }
+{
+    let Some(what) = asked_by(words) else {
+        return USAGE;
+    };
+    match what {
+        Asked::Replay => answer_source(alloc, source, sink, port),
+        Asked::Generate(count) => answer_number(alloc, count, sink, port),
+    }
+}
+
+// Answers the script that a source gives.
+fn answer_source<S: Source, K: Sink, P: ScriptedPort>(
+    alloc: Global,
+    source: &mut S,
+    sink: &mut K,
+    port: &mut P,
+) -> u8
+    ensures known { result ≢ USAGE }
     ensures source_failed { result ≡ SOURCE_FAILED → Rose (S.faults source.old) (S.faults source.new) }
     ensures sink_failed { result ≡ SINK_FAILED → Rose (K.faults sink.old) (K.faults sink.new) }
     ensures silent { IsSilent result → K.held sink.new ≡ K.held sink.old }
@@ -40,23 +79,10 @@ pub fn top<S: Source, K: Sink, P: ScriptedPort>(
     ensures some_script { IsSilent result
         ⊎ ReplaysSome (S.left source.old) (P.log port.new) (K.held sink.old) (K.held sink.new) result }
 {
-    if !is_replay(words) {
-        return USAGE;
-    }
     match read_all(alloc, source) {
         Ok(script) => answer(alloc, &script, sink, port),
         Err(ReadFault::SourceFailed) => SOURCE_FAILED,
         Err(ReadFault::NoMemory) => NO_MEMORY,
-    }
-}
-
-// Whether the words are `replay` alone.
-fn is_replay(words: &[Text]) -> bool
-    ensures { IsTrue result ↔ (words.now ≡ codes "replay" ∷ []) }
-{
-    match words {
-        [word] => word.as_str() == "replay",
-        _ => false,
     }
 }
 
@@ -68,9 +94,36 @@ fn answer<K: Sink, P: ScriptedPort>(alloc: Global, script: &[u8], sink: &mut K, 
     ensures outcome { IsSilent result
         ⊎ Replays script.now (P.log port.new) (K.held sink.old) (K.held sink.new) result }
 {
-    let Ok(printout) = print(alloc, script, port) else {
-        return NO_MEMORY;
-    };
+    match print(alloc, script, port) {
+        Ok(printout) => put(sink, printout),
+        Err(NoMemory) => NO_MEMORY,
+    }
+}
+
+// Answers a number.
+fn answer_number<K: Sink, P: ScriptedPort>(
+    alloc: Global,
+    count: u16,
+    sink: &mut K,
+    port: &mut P,
+) -> u8
+    ensures known { (result ≢ USAGE) × (result ≢ SOURCE_FAILED) }
+    ensures sink_failed { result ≡ SINK_FAILED → Rose (K.faults sink.old) (K.faults sink.new) }
+    ensures silent { IsSilent result → K.held sink.new ≡ K.held sink.old }
+    ensures outcome { (result ≡ NO_MEMORY)
+        ⊎ Generates count (P.log port.new) (K.held sink.old) (K.held sink.new) result }
+{
+    match print_number(alloc, count, port) {
+        Ok(printout) => put(sink, printout),
+        Err(NoMemory) => NO_MEMORY,
+    }
+}
+
+// Writes a printout, whose status is answered.
+fn put<K: Sink>(sink: &mut K, printout: Printout) -> u8
+    ensures prints { Prints printout (K.held sink.old) (K.held sink.new) result }
+    ensures cause { (result ≡ printout.status) ⊎ Rose (K.faults sink.old) (K.faults sink.new) }
+{
     let status = printout.status();
     let written = write_all(sink, printout.as_bytes());
     drop(printout);
@@ -87,8 +140,75 @@ fn print<P: ScriptedPort>(alloc: Global, script: &[u8], port: &mut P) -> Result<
 {
     match parse(alloc, script)? {
         Script::Refused(number) => Ok(Printout::new(REFUSED, refusal(alloc, number)?)),
-        Script::Steps(steps) => replay(alloc, steps, port),
+        Script::Played(scenario) => print_scenario(alloc, scenario, port),
     }
+}
+
+// What is printed of a number.
+fn print_number<P: ScriptedPort>(
+    alloc: Global,
+    count: u16,
+    port: &mut P,
+) -> Result<Printout, NoMemory>
+    ensures printout { IfOk result (λ p. p ≡ generated_printout (generated count) (parsed (generated count))) }
+    ensures told { OnOk result (TellsReplay (parsed (generated count)) (P.log port.new)) }
+{
+    let script = generated(alloc, count)?;
+    let read = parse(alloc, script.as_bytes())?;
+    Ok(print_generated(alloc, script, read, port)?)
+}
+
+// What is printed of a generated script, by what was read of it.
+fn print_generated<P: ScriptedPort>(
+    alloc: Global,
+    script: String,
+    read: Script,
+    port: &mut P,
+) -> Result<Printout, NoMemory>
+    requires { ScriptArePieces read }
+    ensures printout { IfOk result (λ p. p ≡ generated_printout (string_bytes script) (script_read read)) }
+    ensures told { OnOk result (TellsReplay (script_read read) (P.log port.new)) }
+{
+    match read {
+        Script::Refused(number) => {
+            drop(script);
+            Ok(Printout::new(REFUSED, refusal(alloc, number)?))
+        }
+        Script::Played(scenario) => print_generated_scenario(alloc, script, scenario, port),
+    }
+}
+
+// What is printed of a script of which no line is refused.
+fn print_scenario<P: ScriptedPort>(
+    alloc: Global,
+    scenario: Scenario,
+    port: &mut P,
+) -> Result<Printout, NoMemory>
+    requires { ArePieces scenario.steps }
+    ensures printout { IfOk result (λ p. p ≡ printout (Ok scenario)) }
+    ensures told { OnOk result (TellsReplay (Ok scenario) (P.log port.new)) }
+{
+    let mut engine = replay(alloc, scenario, port)?;
+    let printout = print_report(alloc, &mut engine, port);
+    drop(engine);
+    Ok(printout?)
+}
+
+// What is printed of a generated script of which no line is refused.
+fn print_generated_scenario<P: ScriptedPort>(
+    alloc: Global,
+    script: String,
+    scenario: Scenario,
+    port: &mut P,
+) -> Result<Printout, NoMemory>
+    requires { ArePieces scenario.steps }
+    ensures printout { IfOk result (λ p. p ≡ generated_printout (string_bytes script) (Ok scenario)) }
+    ensures told { OnOk result (TellsReplay (Ok scenario) (P.log port.new)) }
+{
+    let mut engine = replay(alloc, scenario, port)?;
+    let printout = print_summary(script, &mut engine, port);
+    drop(engine);
+    Ok(printout?)
 }
 
 // The status that goes with the end of a session.
@@ -102,24 +222,73 @@ fn end_status(end: &Option<amqp_session::Result<()>>) -> u8
     }
 }
 
-// Plays the steps over the port.
+// The status that goes with the end of an engine's session.
+fn status(engine: &IoLoop) -> Result<u8, NoMemory>
+    ensures { IfOk result (λ status. status ≡ end_status (end_of engine.now.talk)) }
+{
+    let end = ended(engine)?;
+    let status = end_status(&end);
+    drop(end);
+    Ok(status)
+}
+
+// The report of a run.
+fn print_report<P: ScriptedPort>(
+    alloc: Global,
+    engine: &mut IoLoop,
+    port: &P,
+) -> Result<Printout, NoMemory>
+    ensures { IfOk result (λ p. p ≡ reported (P.links_taken port.now) engine.old.talk) }
+{
+    let status = status(engine)?;
+    Ok(Printout::new(status, report(alloc, engine, port)?))
+}
+
+// A generated script, and the summary of its run.
+fn print_summary<P: ScriptedPort>(
+    script: String,
+    engine: &mut IoLoop,
+    port: &P,
+) -> Result<Printout, NoMemory>
+    ensures { IfOk result (λ p. p ≡ summed (string_bytes script) (P.links_taken port.now) engine.old.talk) }
+{
+    let mut out = script;
+    let status = status(engine)?;
+    put_summary(&mut out, engine, port)?;
+    Ok(Printout::new(status, out))
+}
+
+// Plays the steps of a script over the port: the engine that ran.
 fn replay<P: ScriptedPort>(
     alloc: Global,
-    steps: Vec<Given>,
+    scenario: Scenario,
     port: &mut P,
-) -> Result<Printout, NoMemory>
-    requires { ArePieces steps.items }
-    ensures printout { IfOk result (λ p. p ≡ printout (Ok steps.items)) }
-    ensures told { OnOk result (TellsReplay (Ok steps.items) (P.log port.new)) }
+) -> Result<IoLoop, NoMemory>
+    requires { ArePieces scenario.steps }
+    ensures replayed { IfOk result (λ e. IsReplayed scenario e.talk (P.links_taken port.new)) }
+    ensures told { OnOk result (TellsReplay (Ok scenario) (P.log port.new)) }
 {
+    let Scenario {
+        uri,
+        options,
+        steps,
+    } = scenario;
     let turns = steps.len() as u64;
-    port.load(steps)?;
-    match IoLoop::new(alloc) {
-        Ok(mut engine) => {
-            let printout = run(alloc, &mut engine, port, turns);
-            drop(engine);
-            printout
-        }
+    if let Err(e) = port.load(steps) {
+        drop(uri);
+        drop(options);
+        return Err(e);
+    }
+    let engine = IoLoop::new(alloc, &uri, options);
+    drop(uri);
+    match engine {
+        Ok(mut engine) => match run(&mut engine, port, turns) {
+            Ok(()) => Ok(engine),
+            Err(e) => {
+                drop(engine);
+                Err(e)
+            }
+        },
         Err(e) => {
             drop(e);
             Err(NoMemory)
@@ -128,25 +297,17 @@ fn replay<P: ScriptedPort>(
 }
 
 // Runs a new engine over a port that was loaded with as many steps as there are turns.
-fn run<P: ScriptedPort>(
-    alloc: Global,
-    engine: &mut IoLoop,
-    port: &mut P,
-    turns: u64,
-) -> Result<Printout, NoMemory>
-    requires { engine.old ≡ begin start }
-    ensures printout { (gs : List Given) → turns ≡ length gs → P.log port.old ≡ Some (loaded gs)
-        → IfOk result (λ p. p ≡ printout (Ok gs)) }
-    ensures told { (gs : List Given) → turns ≡ length gs → P.log port.old ≡ Some (loaded gs)
-        → OnOk result (TellsReplay (Ok gs) (P.log port.new)) }
+fn run<P: ScriptedPort>(engine: &mut IoLoop, port: &mut P, turns: u64) -> Result<(), NoMemory>
+    ensures replayed { (s : Scenario) → engine.old ≡ begin (start s.config) → turns ≡ length s.steps
+        → P.log port.old ≡ Some (loaded s.steps)
+        → OnOk result (IsReplayed s engine.new.talk (P.links_taken port.new)) }
+    ensures told { (s : Scenario) → engine.old ≡ begin (start s.config) → turns ≡ length s.steps
+        → P.log port.old ≡ Some (loaded s.steps) → OnOk result (TellsReplay (Ok s) (P.log port.new)) }
 {
-    // The report tells how the session ended.
+    // What is printed tells how the session ended.
     drop(engine.run(port, turns));
     if engine.starved().is_some() {
         return Err(NoMemory);
     }
-    let end = ended(engine)?;
-    let status = end_status(&end);
-    drop(end);
-    Ok(Printout::new(status, report(alloc, engine, port)?))
+    Ok(())
 }

@@ -1,4 +1,5 @@
-//! Replays a script of a connection over a port in memory, and prints a report.
+//! Replays a script of a connection over a port in memory, and prints a report; or generates a script,
+//! and prints it with a summary.
 #![tactic(auto)]
 
 use amqp_engine::MemoryPort;
@@ -10,8 +11,7 @@ use std::env;
 use std::io::{self, ErrorKind};
 use std::process::ExitCode;
 
-const USAGE_TEXT: &str = "usage: amqp_script replay
-The script is read from standard input, and its report goes to standard output.";
+const USAGE_TEXT: &str = "usage: amqp_script replay | generate N";
 
 // The words after the program's name. One that is no text makes none of them known.
 fn words_given(rt: &HostRuntime) -> Result<Vec<Text>, NoMemory> {

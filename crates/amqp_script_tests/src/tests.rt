@@ -3,6 +3,7 @@
 
 mod computed;
 mod ends;
+mod generating;
 mod limits;
 mod lines;
 mod memory;

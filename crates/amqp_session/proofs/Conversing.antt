@@ -46,10 +46,12 @@ use Rattle.amqp_session.specs.declared.server_close.ServerClose.{ServerClose}
 use Rattle.amqp_session.specs.declared.server_close.ServerClose.TheVariants.{WithoutError, WithError}
 use Rattle.amqp_session.specs.declared.error.ErrorKind.{ErrorKind}
 use Rattle.amqp_session.specs.declared.error.ErrorKind.TheVariants.{IOError, InvalidConnectionState, InvalidProtocolVersion, InvalidChannel, InvalidChannelState, MissingHeartbeatError, Unbuilt}
+use Rattle.amqp_session.specs.Config.{Config}
 use Rattle.amqp_session.specs.Talk.{Talk, start, has_ended, is_open, is_open_link, is_asked, is_wanted_link, wants_link, end_of_link, is_closing, is_acting, acts, hears_on}
 use Rattle.amqp_session.specs.Changes.{next_promise, present_at, fail, lose, misplaced, finish_by, starve, queue, give_to, drop_replies_of, without_all_on}
 use Rattle.amqp_session.specs.Violations.{misread_error, channel_closed_with, unawaited, stray_channel_frame, stray_connection_method}
-use Rattle.amqp_session.specs.Negotiation.{frame_min_size, tune}
+use Rattle.amqp_session.specs.Capacities.{frame_min_size}
+use Rattle.amqp_session.specs.Negotiation.{tune}
 use Rattle.amqp_session.specs.Handshake.{start_ok, tune_ok, open_vhost, close_ok, our_close, channel_open, channel_flow, flow_ok, our_channel_close, channel_close_ok, protocol_header}
 use Rattle.amqp_session.specs.Links.{asked, asked_link, linked, link_failed, piece, lost, misread, dropped}
 use Rattle.amqp_session.specs.ConnectionMethods.{connection_rule, on_connection_close, on_start, on_tune, on_open_ok, on_connection_close_ok, connection_closed}
@@ -308,16 +310,16 @@ still-new cs ws due due' same h = record { no_channels = h.no_channels; none_awa
 now-start : (t : Talk) (fs : List Frame) → is_open t ≡ true → t.input ≡ input.Acting → t.state ≡ Connecting → In Connecting AwaitStart t fs → Now (on_start t) fs
 now-start t fs o hi hs h =
     let v : Speech = record greeted { stage = StartOkSaid } in
-    let said : say start_ok h.later ≡ Some v = ap (say start_ok) h.ties.0 in
+    let said : say (start_ok t.config) h.later ≡ Some v = ap (say (start_ok t.config)) h.ties.0 in
     let x : Talk = on_start t in
     now-open x fs o
     (tied-as Connecting AwaitTune input.Acting x fs hs refl hi
     (record {
       later = v;
-      leads = pushed t.outbox (plain 0 start_ok) fs h.later v h.leads said;
-      lane = all-append IsOfControl t.outbox.control (plain 0 start_ok ∷ []) h.lane ((tt, refl), tt);
+      leads = pushed t.outbox (plain 0 (start_ok t.config)) fs h.later v h.leads said;
+      lane = all-append IsOfControl t.outbox.control (plain 0 (start_ok t.config) ∷ []) h.lane ((tt, refl), tt);
       groups = never-ready h.later v t.outbox.publish (not-opened h.later HeaderSaid h.ties.0 (λ k. cc)) h.groups;
-      ties = (refl, still-new t.channels t.outbox.awaited (unpaid t.committed (first_out t.outbox)) _ (none-more t.committed t.outbox (plain 0 start_ok) tt) h.ties.1);
+      ties = (refl, still-new t.channels t.outbox.awaited (unpaid t.committed (first_out t.outbox)) _ (none-more t.committed t.outbox (plain 0 (start_ok t.config)) tt) h.ties.1);
       agreed = λ k. absurd (true≢false (sym k));
     }))
 
@@ -335,15 +337,15 @@ now-tune server t fs o hi hs h =
     (tied-as Connecting AwaitOpenOk input.Acting x fs hs refl hi
     (record {
       later = v;
-      leads = pushed q (plain 0 open_vhost) fs tuned v r refl;
+      leads = pushed q (plain 0 (open_vhost t.config.uri.vhost)) fs tuned v r refl;
       lane =
-          all-append IsOfControl q.control (plain 0 open_vhost ∷ [])
+          all-append IsOfControl q.control (plain 0 (open_vhost t.config.uri.vhost) ∷ [])
           (all-append IsOfControl t.outbox.control (plain 0 f ∷ []) h.lane ((tt, refl), tt)) ((tt, refl), tt);
       groups = never-ready h.later v t.outbox.publish (not-opened h.later StartOkSaid h.ties.0 (λ k. cc)) h.groups;
       ties = (
         refl,
         still-new t.channels t.outbox.awaited (unpaid t.committed (first_out t.outbox)) _
-            (λ n. none-more t.committed q (plain 0 open_vhost) tt n ∙ none-more t.committed t.outbox (plain 0 f) tt n) h.ties.1,
+            (λ n. none-more t.committed q (plain 0 (open_vhost t.config.uri.vhost)) tt n ∙ none-more t.committed t.outbox (plain 0 f) tt n) h.ties.1,
       );
       agreed = λ k. tuned-size t.configuration server;
     }))
@@ -1080,8 +1082,8 @@ now-taken n t fs h =
 -- ---- links and commits
 
 -- a new session is silent
-pub start-silent : IsSilent start
-start-silent = (refl, refl, omega arith)
+pub start-silent : (config : Config) → IsSilent (start config)
+start-silent config = (refl, refl, omega arith)
 
 -- a session whose link has come
 abbrev on_new_link : Talk → Talk

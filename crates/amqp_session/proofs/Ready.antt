@@ -13,7 +13,8 @@ use Rattle.amqp_outbox.specs.Lists.{is_number}
 use Rattle.amqp_outbox.specs.Items.{group_of}
 use Rattle.amqp_outbox.specs.Queued.{is_on}
 use Rattle.amqp_session.specs.Talk.{Talk}
-use Rattle.amqp_session.specs.Negotiation.{frame_min_size, wish_or}
+use Rattle.amqp_session.specs.Capacities.{frame_min_size}
+use Rattle.amqp_session.specs.Negotiation.{wish_or}
 use Rattle.amqp_session.specs.Publishing.{method_frame, content_header, cut, body_pieces, publish_frames}
 use Rattle.amqp_session.specs.Commands.{too_long, body_limit}
 use Rattle.amqp_session.specs.Legal.{IsPassedThrough, IsContent}

@@ -7,6 +7,8 @@ use Rattle.amqp_outbox.specs.Items.{promise_of}
 use Rattle.amqp_outbox.specs.Queued.{Queued, is_on, group_promise, without_group}
 use Rattle.amqp_outbox.proofs.Taking.{none-left_out}
 use Rattle.amqp_session.specs.declared.error.ErrorKind.{ErrorKind}
+use Rattle.amqp_uri.specs.Address.{local}
+use Rattle.amqp_session.specs.Config.{config_of, no_options}
 use Rattle.amqp_session.specs.Talk.{Talk, start}
 use Rattle.amqp_session.specs.Changes.{Promises, settled_to, give_to, rejected, drop_groups_of}
 
@@ -62,9 +64,13 @@ none-mapped : {X Y : Type 0} (f : X → Y) (o : Option X) → option_map f o ≡
 none-mapped f None h = refl
 none-mapped f (Some x) h = absurd cc
 
+-- a session at its beginning
+abbrev new_talk : Talk
+new_talk = start (config_of local no_options)
+
 -- a session that has this to say, and these promises
 abbrev pub with_parts : Queued → Promises → Talk
-with_parts q promises = record start { outbox = q; promises = promises }
+with_parts q promises = record new_talk { outbox = q; promises = promises }
 
 -- ---- the groups of a channel
 

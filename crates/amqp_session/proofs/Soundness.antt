@@ -46,6 +46,7 @@ use Rattle.amqp_session.specs.declared.misread.Misread.{Misread}
 use Rattle.amqp_session.specs.declared.error.ErrorKind.TheVariants.{NoMemory, IOError, ChannelsLimitReached, InvalidChannelState, InvalidConnectionState, MissingHeartbeatError, SerialisationError}
 use Rattle.amqp_session.specs.declared.error.ErrorKind.{ErrorKind}
 use Rattle.amqp_session.specs.Listed.{at, put, without, has}
+use Rattle.amqp_session.specs.Config.{Config}
 use Rattle.amqp_session.specs.Talk.{Talk, start, acts, hears_on, has_ended, is_acting, is_asked, is_closing, is_open, is_open_link, end_of_link}
 use Rattle.amqp_session.specs.Changes.{Promises, present_at, queue, starve, next_promise, refuse, give, give_to, rejected, rejected_each, promises_on, replies_on, without_all_on, drop_replies_of, fail, lose, misplaced, close, finish, finish_by, settled_by, settled_to, promise}
 use Rattle.amqp_session.specs.Links.{asked, asked_link, linked, link_failed, piece, dropped, misread, lost}
@@ -313,7 +314,7 @@ sound-connection Connecting AwaitStart (Start a b c d e) t hs hp opened acting s
     record {
       link = s.link;
       acting = s.acting;
-      finish = queue-finishes t.input t.committed t.outbox (plain 0 start_ok) acting refl s.finish;
+      finish = queue-finishes t.input t.committed t.outbox (plain 0 (start_ok t.config)) acting refl s.finish;
       listed = s.listed;
       promises = s.promises;
       room = λ h. (let k : is_agreed Connecting AwaitTune ≡ true = subst (λ x. is_agreed x AwaitTune ≡ true) hs h in absurd cc);
@@ -326,7 +327,7 @@ sound-connection Connecting AwaitTune (Tune a b c) t hs hp opened acting s =
       room = λ h. tune-room t.configuration server;
       acting = s.acting;
       finish =
-          queue-finishes t.input t.committed (pushed_control tuned t.outbox) (plain 0 open_vhost) acting refl
+          queue-finishes t.input t.committed (pushed_control tuned t.outbox) (plain 0 (open_vhost t.config.uri.vhost)) acting refl
           (queue-finishes t.input t.committed t.outbox tuned acting refl s.finish);
       listed = s.listed;
       promises = s.promises;
@@ -713,8 +714,8 @@ sound-frames opened t s = record { link = s.link; room = s.room; acting = s.acti
 
 -- ---- all of them
 
-pub sound-start : IsSound start
-sound-start = record { link = refl; room = λ h. absurd cc; acting = λ h. absurd cc; finish = tt; listed = tt; promises = (tt, (omega arith, tt)) }
+pub sound-start : (config : Config) → IsSound (start config)
+sound-start config = record { link = refl; room = λ h. absurd cc; acting = λ h. absurd cc; finish = tt; listed = tt; promises = (tt, (omega arith, tt)) }
 
 pub keeps-sound : (t : Talk) → IsSound t → StaysSound t
 keeps-sound t s =

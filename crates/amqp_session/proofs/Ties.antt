@@ -32,7 +32,7 @@ use Rattle.amqp_session.specs.Talk.{Talk}
 use Rattle.amqp_session.specs.Listed.{at}
 use Rattle.amqp_session.specs.Channels.{is_owed}
 use Rattle.amqp_session.specs.Writing.{then_of}
-use Rattle.amqp_session.specs.Negotiation.{frame_min_size}
+use Rattle.amqp_session.specs.Capacities.{frame_min_size}
 use Rattle.amqp_session.specs.Sound.{AscendFrom, Ascend, is_agreed}
 use Rattle.amqp_session.specs.Legal.{amqp_header, body_frames, IsPassedThrough, IsContent}
 use Rattle.amqp_session.specs.Decider.{Speech, Usage, Shut, InUse, Left, StartOkSaid, OpenSaid, CloseSaid, greeted, say_all}

@@ -21,15 +21,18 @@ use Rattle.amqp_session.specs.Changes.{queue, give, give_to, close, lose}
 
 -- ---- the handshake
 
--- start: the client names itself, whatever the server offers
+-- start: the client names itself and logs in, whatever the server offers
 abbrev pub on_start : Talk → Talk
-on_start t = record (queue 0 start_ok t) { phase = AwaitTune }
+on_start t = record (queue 0 (start_ok t.config) t) { phase = AwaitTune }
 
 -- tune: the numbers are agreed, and the virtual host is opened
 abbrev pub on_tune : Configuration → Talk → Talk
 on_tune server t =
     let agreed = tune t.configuration server in
-    record (queue 0 open_vhost (queue 0 (tune_ok agreed) t)) { configuration = agreed; phase = AwaitOpenOk }
+    record (queue 0 (open_vhost t.config.uri.vhost) (queue 0 (tune_ok agreed) t)) {
+      configuration = agreed;
+      phase = AwaitOpenOk;
+    }
 
 -- open-ok: the connection is open, its promise is answered, and more can be unsent, where longer frames were agreed
 abbrev pub on_open_ok : Talk → Talk

@@ -1,10 +1,14 @@
 -- What a client says to open and close a connection and its channels (AMQP 0-9-1, 2.2.4 and 2.2.5).
-use Rattle.std.specs.Prelude.{ℕ, Bool, true, List, [], ◌∷◌, ◌++◌, codes}
-use Rattle.amqp_types.specs.Value.{FieldValue, Pair, scalar, table, boolean, long_string, pairs_from}
+use Rattle.std.specs.Prelude.{ℕ, Bool, true, ◌&&◌, if◌then◌else◌, List, [], ◌∷◌, is_some, codes}
+use Rattle.amqp_types.specs.Value.{FieldValue, Pair, scalar, table, boolean, pairs_from}
+use Rattle.amqp_types.specs.Table.{get, put}
+use Rattle.amqp_uri.specs.Mechanisms.{name_of}
+use Rattle.amqp_uri.specs.Login.{sasl_text}
 use Rattle.amqp_frame.specs.declared.frame.Frame.{Frame}
 use Rattle.amqp_frame.specs.declared.frame.Frame.TheVariants.{ProtocolHeader, Method}
 use Rattle.amqp_frame.specs.declared.method.Method.TheVariants.{StartOk, TuneOk, Open, Close, CloseOk, ChannelOpen, ChannelFlow, ChannelFlowOk, ChannelClose, ChannelCloseOk}
 use Rattle.amqp_session.specs.declared.configuration.Configuration.{Configuration}
+use Rattle.amqp_session.specs.Config.{Config, text_value, mechanism, login}
 
 -- the header that asks for AMQP 0-9-1
 abbrev pub protocol_header : Frame
@@ -13,10 +17,6 @@ protocol_header = ProtocolHeader (record { major = 0; minor = 9; revision = 1 })
 -- the value true
 abbrev pub yes : FieldValue
 yes = scalar (boolean true)
-
--- a text as a value
-abbrev pub text_value : List ℕ → FieldValue
-text_value content = scalar (long_string content)
 
 -- what this client can do, each under its name
 abbrev pub capabilities : List Pair
@@ -32,32 +32,42 @@ capabilities =
     ∷ (codes "publisher_confirms", yes)
     ∷ []
 
--- what this client says of itself, in the byte order of the names
-abbrev pub client_properties : List Pair
-client_properties =
-    (codes "capabilities", table (pairs_from capabilities))
-    ∷ (codes "platform", text_value (codes "rust"))
-    ∷ (codes "product", text_value (codes "lapin"))
-    ∷ (codes "version", text_value (codes "4.4.0"))
-    ∷ []
+-- both names that say which client it is are among the user's properties
+abbrev pub names_client : List Pair → Bool
+names_client own = is_some (get own (codes "product")) && is_some (get own (codes "version"))
 
--- the response of the mechanism PLAIN (RFC 4616): no authorisation identity, the user, the password
-abbrev pub plain_response : List ℕ → List ℕ → List ℕ
-plain_response user password = 0 ∷ user ++ 0 ∷ password
+-- the user's properties with this client and its version, where they don't say both
+abbrev pub with_product : List Pair → List Pair
+with_product own =
+    if names_client own then own
+    else put (put own (codes "product") (text_value (codes "lapin"))) (codes "version") (text_value (codes "4.4.0"))
 
--- the answer to start, by which the client names itself: user and password are `guest`
-abbrev pub start_ok : Frame
-start_ok =
+-- what this client says of itself: what its user says, but for its platform and what it can do
+abbrev pub client_properties : List Pair → List Pair
+client_properties own =
+    put
+    (put (with_product own) (codes "platform") (text_value (codes "rust")))
+    (codes "capabilities")
+    (table (pairs_from capabilities))
+
+-- the answer to start, by which the client names itself and logs in
+abbrev pub start_ok : Config → Frame
+start_ok config =
+    let chosen = mechanism config in
     Method 0
-    (StartOk client_properties (codes "PLAIN") (plain_response (codes "guest") (codes "guest")) (codes "en_US"))
+    (StartOk
+    (client_properties config.options.properties)
+    (name_of chosen)
+    (sasl_text chosen (login config))
+    config.options.locale)
 
 -- the answer to tune: the agreed numbers
 abbrev pub tune_ok : Configuration → Frame
 tune_ok agreed = Method 0 (TuneOk agreed.channel_max agreed.frame_max agreed.heartbeat)
 
--- the virtual host `/` is opened
-abbrev pub open_vhost : Frame
-open_vhost = Method 0 (Open (codes "/"))
+-- a virtual host is opened
+abbrev pub open_vhost : List ℕ → Frame
+open_vhost vhost = Method 0 (Open vhost)
 
 -- our close of the connection, which names no method that caused it
 abbrev pub our_close : ℕ → List ℕ → Frame

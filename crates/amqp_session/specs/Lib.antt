@@ -1,4 +1,6 @@
--- The state of a session.
+-- What a session is made from, and its state.
+pub mod Config
+pub mod Capacities
 pub mod Listed
 pub mod Talk
 -- What is agreed, and what the client says to open and close.

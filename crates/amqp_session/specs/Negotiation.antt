@@ -1,6 +1,7 @@
 -- The numbers of a connection, as the wishes of both peers decide them (AMQP 0-9-1, connection.tune).
-use Rattle.std.specs.Prelude.{ℕ, ◌*◌, ◌==◌, if◌then◌else◌, min, max}
+use Rattle.std.specs.Prelude.{ℕ, ◌==◌, if◌then◌else◌, min, max}
 use Rattle.amqp_session.specs.declared.configuration.Configuration.{Configuration}
+use Rattle.amqp_session.specs.Capacities.{frame_min_size, capacity_for}
 use Rattle.amqp_session.specs.Talk.{Talk}
 
 -- the lesser of two wishes, where 0 is none
@@ -10,10 +11,6 @@ lesser_wish own server = if own == 0 then server else if server == 0 then own el
 -- a wish, or the greatest number of its type where there is none
 abbrev pub wish_or : ℕ → ℕ → ℕ
 wish_or greatest wish = if wish == 0 then greatest else wish
-
--- the least number of octets that every peer takes as a frame (frame-min-size)
-abbrev pub frame_min_size : ℕ
-frame_min_size = 4096
 
 -- the numbers that hold after tune-ok
 abbrev pub tune : Configuration → Configuration → Configuration
@@ -27,14 +24,6 @@ tune own server =
 -- the greatest number of octets that a frame may have that is read: as agreed, and within the capacity
 abbrev pub frame_limit : Talk → ℕ
 frame_limit t = min t.capacity (wish_or t.capacity t.configuration.frame_max)
-
--- the most bytes that can be unsent, however long a frame may be: 128 MiB
-abbrev pub greatest_capacity : ℕ
-greatest_capacity = 134217728
-
--- how many bytes can be unsent where a frame has at most so many octets: 32 such frames
-abbrev pub capacity_for : ℕ → ℕ
-capacity_for frame_max = min greatest_capacity (32 * max frame_min_size frame_max)
 
 -- how many bytes can be unsent once the connection is open: as many as the agreed frames ask for, and never less than
 -- before

@@ -9,7 +9,6 @@ use Rattle.amqp_session.specs.declared.state.Link.{Link}
 use Rattle.amqp_session.specs.declared.state.Link.TheVariants.{Wanted, Asked, Open, Ended}
 use Rattle.amqp_session.specs.declared.state.Input.{Input}
 use Rattle.amqp_session.specs.declared.state.Input.TheVariants.{Acting, Closed, Dropped}
-use Rattle.amqp_session.specs.declared.capacity.TheConstants.{INITIAL_CAPACITY}
 use Rattle.amqp_session.specs.declared.configuration.Configuration.{Configuration}
 use Rattle.amqp_session.specs.declared.channels.Channel.{Channel}
 use Rattle.amqp_session.specs.declared.committed.Mark.{Mark}
@@ -17,9 +16,13 @@ use Rattle.amqp_session.specs.declared.handed.Handed.{Handed}
 use Rattle.amqp_session.specs.declared.command.Answer.{Answer}
 use Rattle.amqp_session.specs.declared.server_close.ServerClose.{ServerClose}
 use Rattle.amqp_session.specs.declared.error.ErrorKind.{ErrorKind}
+use Rattle.amqp_session.specs.Capacities.{capacity_for}
+use Rattle.amqp_session.specs.Config.{Config, own_numbers}
 
 -- the state of a session
 pub record Talk : Type 0 where
+  -- what it was made from
+  pub config : Config
   pub state : ConnectionState
   -- what the handshake awaits, while the state is Connecting
   pub phase : Phase
@@ -55,16 +58,17 @@ pub record Talk : Type 0 where
   pub last_write : ℕ
 
 -- the state at the beginning: a link is wanted, and the connection's promise, number 0, waits
-abbrev pub start : Talk
-start =
+abbrev pub start : Config → Talk
+start config =
     record {
+      config = config;
       state = Initial;
       phase = AwaitStart;
       link = Wanted;
       input = Acting;
       blocked = false;
-      configuration = record { channel_max = 0; frame_max = 0; heartbeat = 0 };
-      capacity = INITIAL_CAPACITY;
+      configuration = own_numbers config.uri.query;
+      capacity = capacity_for (own_numbers config.uri.query).frame_max;
       channels = [];
       cursor = 0;
       outbox = nothing;

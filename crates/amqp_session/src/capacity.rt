@@ -1,13 +1,15 @@
 //! How many bytes can be unsent.
 
 ghost use Rattle.std.specs.Prelude.{◌≡◌, ◌<◌, ◌≤◌, ◌^◌, max};
-ghost use Rattle.amqp_session.specs.Negotiation.{frame_min_size, greatest_capacity, capacity_for};
+ghost use Rattle.amqp_session.specs.Capacities.{frame_min_size, greatest_capacity, capacity_for};
+ghost use Rattle.amqp_session.specs.Config.{own_numbers};
 
-use crate::configuration::FRAME_MIN_SIZE;
+use crate::configuration::{FRAME_MIN_SIZE, own_numbers};
 use amqp_types::FrameSize;
+use amqp_uri::AMQPUri;
 
-/// How many bytes can be unsent at the beginning.
-pub const INITIAL_CAPACITY: u64 = 131_072;
+/// The fewest bytes that can be unsent, however short a frame may be.
+pub const LEAST_CAPACITY: u64 = 131_072;
 
 /// The most bytes that can be unsent, however long a frame may be: 128 MiB.
 const GREATEST_CAPACITY: u64 = 134_217_728;
@@ -25,12 +27,12 @@ pub struct Capacity {
 }
 
 impl Capacity {
-    /// The capacity at the beginning.
-    pub fn initial() -> Capacity
-        ensures { result.octets ≡ INITIAL_CAPACITY }
+    /// The capacity for frames of at most so many octets.
+    pub fn of(frame_max: FrameSize) -> Capacity
+        ensures { result.octets ≡ capacity_for frame_max }
     {
         Capacity {
-            octets: INITIAL_CAPACITY,
+            octets: capacity_for(frame_max),
         }
     }
 
@@ -56,8 +58,19 @@ impl Capacity {
 // How many bytes can be unsent where a frame has at most so many octets.
 fn capacity_for(frame_max: FrameSize) -> u64
     ensures capacity { result ≡ capacity_for frame_max }
+    ensures least { LEAST_CAPACITY ≤ result }
     ensures within { result ≤ greatest_capacity }
 {
     let longest = frame_max.max(FRAME_MIN_SIZE) as u64;
     (FRAMES * longest).min(GREATEST_CAPACITY)
+}
+
+/// How many bytes can be unsent on a connection to this address, before the server says how long a
+/// frame may be.
+pub fn initial_capacity(uri: &AMQPUri) -> u64
+    ensures capacity { result ≡ capacity_for (own_numbers uri.now.query).frame_max }
+    ensures least { LEAST_CAPACITY ≤ result }
+    ensures small { result < 2 ^ 32 }
+{
+    capacity_for(own_numbers(&uri.query).frame_max)
 }

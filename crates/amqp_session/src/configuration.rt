@@ -1,9 +1,11 @@
 //! The numbers of a connection, and how both peers agree on them.
 
 ghost use Rattle.std.specs.Prelude.{◌≡◌, ◌≤◌, max};
+ghost use Rattle.amqp_session.specs.Config.{own_numbers};
 ghost use Rattle.amqp_session.specs.Negotiation.{lesser_wish, tune};
 
 use amqp_types::{ChannelId, FrameSize, Heartbeat};
+use amqp_uri::AMQPQuery;
 
 /// The least `frame_max` that a peer may have (frame-min-size).
 pub(crate) const FRAME_MIN_SIZE: FrameSize = 4096;
@@ -72,4 +74,15 @@ fn lesser_wish(own: u32, server: u32) -> u32
         return own;
     }
     own.min(server)
+}
+
+/// The numbers that an address wishes, 0 where it has none.
+pub(crate) fn own_numbers(query: &AMQPQuery) -> Configuration
+    ensures { result ≡ own_numbers query.now }
+{
+    Configuration {
+        channel_max: query.channel_max.unwrap_or(0),
+        frame_max: query.wished_frame_max(),
+        heartbeat: query.heartbeat.unwrap_or(0),
+    }
 }

@@ -2,14 +2,21 @@
 
 ghost use Rattle.std.specs.Prelude.{◌≡◌, ◌<◌, length, IfOk, OnOk, codes};
 ghost use Rattle.amqp_types.specs.Table.{put};
-ghost use Rattle.amqp_session.specs.Handshake.{protocol_header, yes, text_value, capabilities, client_properties, start_ok, tune_ok, open_vhost, our_close, close_ok, channel_open, channel_flow, flow_ok, channel_close_ok, our_channel_close};
+ghost use Rattle.amqp_session.specs.Config.{config_of, text_value};
+ghost use Rattle.amqp_session.specs.Handshake.{protocol_header, yes, capabilities, with_product, client_properties, start_ok, tune_ok, open_vhost, our_close, close_ok, channel_open, channel_flow, flow_ok, channel_close_ok, our_channel_close};
 
 use crate::configuration::Configuration;
+use crate::options::ConnectionProperties;
 use amqp_frame::{Frame, Method};
 use amqp_types::{
-    AMQPValue, ChannelId, FieldTable, LongString, NoMemory, ProtocolVersion, ReplyCode, ShortString,
+    AMQPValue, ChannelId, FieldTable, LongString, NoMemory, ProtocolVersion, ReplyCode,
+    ShortString, Text,
 };
+use amqp_uri::{AMQPUri, AMQPUserInfo, Credentials, SASLMechanism};
 use std::alloc::Global;
+
+// A user and a password are shorter together than this, so that every text of SASL is a long string.
+const LONGEST_LOGIN: usize = 2_147_483_648;
 
 /// The header of AMQP 0-9-1, the first that is said.
 pub fn protocol_header() -> Frame
@@ -68,31 +75,68 @@ fn capabilities(alloc: Global) -> Result<FieldTable, NoMemory>
     Ok(table)
 }
 
-fn client_properties(alloc: Global) -> Result<FieldTable, NoMemory>
-    ensures { IfOk result (λ t. t ≡ client_properties) }
+// The user's properties with this client and its version, where they do not say both.
+fn set_product(alloc: Global, table: &mut FieldTable) -> Result<(), NoMemory>
+    ensures { OnOk result (table.new ≡ with_product table.old) }
 {
-    let mut table = FieldTable::new(alloc);
+    if table.contains_key(b"product") && table.contains_key(b"version") {
+        return Ok(());
+    }
+    set_text(alloc, table, b"product", b"lapin")?;
+    set_text(alloc, table, b"version", b"4.4.0")?;
+    Ok(())
+}
+
+fn client_properties(alloc: Global, own: &FieldTable) -> Result<FieldTable, NoMemory>
+    ensures { IfOk result (λ t. t ≡ client_properties own.now) }
+{
+    let mut table = own.try_clone(alloc)?;
+    set_product(alloc, &mut table)?;
+    set_text(alloc, &mut table, b"platform", b"rust")?;
     let abilities = AMQPValue::FieldTable(capabilities(alloc)?);
     table.insert(short(alloc, b"capabilities")?, abilities)?;
-    set_text(alloc, &mut table, b"platform", b"rust")?;
-    set_text(alloc, &mut table, b"product", b"lapin")?;
-    set_text(alloc, &mut table, b"version", b"4.4.0")?;
     Ok(table)
 }
 
-/// The client's answer to start.
-pub fn start_ok(alloc: Global) -> Result<Frame, NoMemory>
-    ensures { IfOk result (λ f. f ≡ start_ok) }
+// A text as a long string.
+fn long_of(alloc: Global, text: &Text) -> Result<LongString, NoMemory>
+    ensures { IfOk result (λ s. s ≡ text.now) }
 {
-    Ok(Frame::Method(
-        0,
-        Method::StartOk(
-            client_properties(alloc)?,
-            short(alloc, b"PLAIN")?,
-            long(alloc, b"\0guest\0guest")?,
-            short(alloc, b"en_US")?,
-        ),
-    ))
+    match LongString::new(alloc, text.as_str().as_bytes()) {
+        Ok(long) => Ok(long),
+        Err(_) => Err(NoMemory),
+    }
+}
+
+// As whom the client logs in. A user and a password that are longer than any frame are refused as
+// memory is.
+fn credentials(alloc: Global, info: &AMQPUserInfo) -> Result<Credentials, NoMemory>
+    ensures { IfOk result (λ c. c ≡ record { username = info.now.username; password = info.now.password }) }
+{
+    let username = long_of(alloc, &info.username)?;
+    let password = long_of(alloc, &info.password)?;
+    if username.len() + password.len() >= LONGEST_LOGIN {
+        return Err(NoMemory);
+    }
+    Ok(Credentials::new(username, password))
+}
+
+/// The client's answer to start.
+pub fn start_ok(
+    alloc: Global,
+    uri: &AMQPUri,
+    options: &ConnectionProperties,
+) -> Result<Frame, NoMemory>
+    ensures { IfOk result (λ f. f ≡ start_ok (config_of uri.now options.now)) }
+{
+    let mechanism = uri.query.auth_mechanism.unwrap_or(SASLMechanism::Plain);
+    let name = short(alloc, mechanism.name().as_bytes())?;
+    let locale = options.locale().try_clone(alloc)?;
+    let credentials = credentials(alloc, &uri.authority.userinfo)?;
+    let response = credentials.sasl_auth_string(alloc, mechanism)?;
+    drop(credentials);
+    let properties = client_properties(alloc, options.client_properties())?;
+    Ok(Frame::Method(0, Method::StartOk(properties, name, response, locale)))
 }
 
 /// The client's answer to tune.
@@ -105,11 +149,11 @@ pub fn tune_ok(agreed: Configuration) -> Frame
     )
 }
 
-/// Opens the virtual host.
-pub fn open_vhost(alloc: Global) -> Result<Frame, NoMemory>
-    ensures { IfOk result (λ f. f ≡ open_vhost) }
+/// Opens a virtual host.
+pub fn open_vhost(alloc: Global, vhost: &ShortString) -> Result<Frame, NoMemory>
+    ensures { IfOk result (λ f. f ≡ open_vhost vhost.now) }
 {
-    Ok(Frame::Method(0, Method::Open(short(alloc, b"/")?)))
+    Ok(Frame::Method(0, Method::Open(vhost.try_clone(alloc)?)))
 }
 
 /// The text of a close without error.

@@ -9,6 +9,7 @@ ghost use Rattle.amqp_session.specs.declared.configuration.Configuration.{Config
 ghost use Rattle.amqp_session.specs.declared.error.ErrorKind.{ErrorKind};
 ghost use Rattle.amqp_session.specs.declared.error.ErrorKind.TheVariants.{InvalidConnectionState};
 ghost use Rattle.amqp_session.specs.declared.state.ConnectionState.TheVariants.{Connected};
+ghost use Rattle.amqp_session.specs.Config.{Config};
 ghost use Rattle.amqp_session.specs.Talk.{Talk, start, acts, has_ended, is_open, end_of};
 ghost use Rattle.amqp_session.specs.Negotiation.{tune};
 ghost use Rattle.amqp_session.specs.Frames.{on_frame};
@@ -41,7 +42,7 @@ pub fn a_refusal_changes_promises_alone()
 /// A session is in a sound state at the beginning, and each rule leads from a sound state to one; so
 /// one that has ended is Closed or in Error.
 pub fn states_stay_sound()
-    ensures first { IsSound start }
+    ensures first { (config : Config) → IsSound (start config) }
     ensures kept { (t : Talk) → IsSound t → StaysSound t }
     ensures ended { (t : Talk) → IsSound t → IsTrue (has_ended t) → IsEnded t }
 {}

@@ -19,6 +19,7 @@ mod io_fault;
 mod laws;
 mod misread;
 mod numbers;
+mod options;
 mod promises;
 mod properties;
 mod publishing;
@@ -29,7 +30,7 @@ mod shown;
 mod state;
 mod violations;
 
-pub use capacity::INITIAL_CAPACITY;
+pub use capacity::{LEAST_CAPACITY, initial_capacity};
 pub use channels::Channels;
 pub use command::{Answer, ChanRef, Cmd};
 pub use configuration::{Configuration, tune};
@@ -43,6 +44,7 @@ pub use laws::{
     the_decider_takes_legal_conversations, unsent_bytes_are_counted,
 };
 pub use misread::Misread;
+pub use options::ConnectionProperties;
 pub use properties::Properties;
 pub use session::Session;
 pub use state::{ChannelState, ConnectionState};

@@ -1,7 +1,9 @@
 //! The session, and its queries.
 
-ghost use Rattle.std.specs.Prelude.{◌≡◌, Ok, IfOk, IfErr};
+ghost use Rattle.std.specs.Prelude.{◌≡◌, ◌∷◌, [], None, Ok, IfOk, IfErr};
+ghost use Rattle.amqp_session.specs.Config.{config_of};
 ghost use Rattle.amqp_session.specs.Talk.{start};
+ghost use Rattle.amqp_session.specs.Parts.{promised};
 ghost use Rattle.amqp_session.specs.Changes.{present_at, starve, fail, lose, misplaced, close, finish, give, give_to};
 
 mod answers;
@@ -20,21 +22,27 @@ use crate::capacity::Capacity;
 use crate::channels::Channels;
 use crate::command::Answer;
 use crate::committed::Committed;
-use crate::configuration::Configuration;
+use crate::configuration::{Configuration, own_numbers};
 use crate::error::{self, ErrorKind};
 use crate::handed::Backlog;
+use crate::options::ConnectionProperties;
 use crate::promises::Promises;
 use crate::server_close::ServerClose;
 use crate::state::{ConnectionState, End, Input, Link, Phase};
 use amqp_outbox::Outbox;
 use amqp_types::NoMemory;
+use amqp_uri::AMQPUri;
 use std::alloc::Global;
+use std::fmt;
 use std::marker::Model;
 
-/// The client's side of a connection.
-#[derive(Debug, Drop)]
+/// The client's side of a connection. Its `Debug` shows nothing of what it holds: how the client logs
+/// in is among the frames that wait.
+#[derive(Drop)]
 pub struct Session {
     alloc: Global,
+    uri: AMQPUri,
+    options: ConnectionProperties,
     state: ConnectionState,
     phase: Phase,
     link: Link<End>,
@@ -56,6 +64,7 @@ pub struct Session {
 impl Model for Session {
     ghost use Rattle.std.specs.Prelude.{◌≤◌, ◌+◌, IsTrue, length};
     ghost use Rattle.std.specs.VecDeque.{deque_capacity};
+    ghost use Rattle.amqp_session.specs.Config.{config_of};
     ghost use Rattle.amqp_session.specs.Talk.{Talk};
     ghost use Rattle.amqp_outbox.specs.Parts.{queued};
     ghost use Rattle.amqp_outbox.specs.Queued.{waiting_items};
@@ -69,6 +78,7 @@ impl Model for Session {
     ghost coded = { Prim.hlevel (codes, value_code) };
 
     ghost view = { λ s. record {
+      config = config_of s.uri s.options;
       state = s.state;
       phase = s.phase;
       link = link_seen s.server_close s.link;
@@ -108,34 +118,70 @@ impl Model for Session {
         × (opened_until s.channels.listed ≤ s.promises.made) };
 }
 
+impl fmt::Debug for Session {
+    ghost use Rattle.std.specs.Prelude.{Some, codes};
+
+    ghost debug_output = { λ _. Some (codes "Session { .. }") };
+
+    fn fmt<W: fmt::Write>(&self, f: &mut fmt::Formatter<W>) -> fmt::Result {
+        f.write_str("Session { .. }")
+    }
+}
+
 impl Session {
-    /// A session that wants a link.
-    pub fn new(alloc: Global) -> error::Result<Session>
-        ensures ok { IfOk result (λ s. s ≡ start) }
+    /// A session with a server at this address, which wants a link. The options are moved in.
+    pub fn new(
+        alloc: Global,
+        uri: &AMQPUri,
+        options: ConnectionProperties,
+    ) -> error::Result<Session>
+        ensures ok { IfOk result (λ s. s ≡ start (config_of uri.now options)) }
         ensures err { IfErr result (λ e. e ≡ ErrorKind.NoMemory) }
     {
-        Ok(Session::begin(alloc)?)
+        let made = Session::parts(alloc, uri);
+        match made {
+            Ok((uri, promises)) => Ok(Session::begin(alloc, uri, options, promises)),
+            Err(refused) => {
+                drop(options);
+                Err(refused.into())
+            }
+        }
     }
 
-    fn begin(alloc: Global) -> Result<Session, NoMemory>
-        ensures { IfOk result (λ s. s ≡ start) }
+    // What takes memory: a copy of the address, and the promises with that of the connection.
+    fn parts(alloc: Global, uri: &AMQPUri) -> Result<(AMQPUri, Promises), NoMemory>
+        ensures uri { IfOk result (λ made. made.0 ≡ uri.now) }
+        ensures promises { IfOk result (λ made. (made.1.made ≡ 1) × (promised made.1 ≡ (0, None) ∷ [])) }
     {
         let mut promises = Promises::new(alloc);
         promises.reserve()?;
         promises.promise_reserved();
-        Ok(Session {
+        let uri = uri.try_clone(alloc)?;
+        Ok((uri, promises))
+    }
+
+    fn begin(
+        alloc: Global,
+        uri: AMQPUri,
+        options: ConnectionProperties,
+        promises: Promises,
+    ) -> Session
+        requires made { promises.made ≡ 1 }
+        requires slots { promised promises ≡ (0, None) ∷ [] }
+        ensures { result ≡ start (config_of uri options) }
+    {
+        let configuration = own_numbers(&uri.query);
+        Session {
             alloc,
+            uri,
+            options,
             state: ConnectionState::Initial,
             phase: Phase::AwaitStart,
             link: Link::Wanted,
             input: Input::Acting,
             blocked: false,
-            configuration: Configuration {
-                channel_max: 0,
-                frame_max: 0,
-                heartbeat: 0,
-            },
-            capacity: Capacity::initial(),
+            configuration,
+            capacity: Capacity::of(configuration.frame_max),
             channels: Channels::new(alloc),
             outbox: Outbox::new(alloc),
             committed: Committed::new(alloc),
@@ -145,7 +191,7 @@ impl Session {
             present: 0,
             last_read: 0,
             last_write: 0,
-        })
+        }
     }
 
     /// The present follows a moment, in milliseconds.

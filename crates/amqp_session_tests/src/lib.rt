@@ -25,6 +25,8 @@ mod memory;
 #[cfg(test)]
 mod numbers;
 #[cfg(test)]
+mod options;
+#[cfg(test)]
 mod publishing;
 #[cfg(test)]
 mod sending;

@@ -6,8 +6,11 @@
 use amqp_frame::{
     FixedRoom, Frame, RawKind, RawMethod, Read, encoded_len, read_frame, write_frame,
 };
-use amqp_session::{Answer, ChanRef, Cmd, Configuration, Error, Handed, Properties, Session};
+use amqp_session::{
+    Answer, ChanRef, Cmd, Configuration, ConnectionProperties, Error, Handed, Properties, Session,
+};
 use amqp_types::{Payload, ShortString};
+use amqp_uri::AMQPUri;
 use amqp_vectors::{CHANNEL_OPEN_OK_1, OPEN_OK, START, TUNE};
 use std::alloc::Global;
 use std::test::Fail;
@@ -90,9 +93,18 @@ pub enum At {
     WithChannel,
 }
 
+/// A new session with the broker of this machine.
+pub fn new_session(alloc: Global) -> Outcome<Session> {
+    let options = ConnectionProperties::new(alloc)?;
+    let uri = AMQPUri::local(alloc)?;
+    let session = Session::new(alloc, &uri, options);
+    drop(uri);
+    Ok(session?)
+}
+
 /// A session that stands there.
 pub fn session_at(alloc: Global, at: At) -> Outcome<Session> {
-    let mut session = Session::new(alloc)?;
+    let mut session = new_session(alloc)?;
     match lead(alloc, &mut session, at) {
         Ok(()) => Ok(session),
         Err(failure) => {
@@ -118,7 +130,8 @@ fn lead(alloc: Global, session: &mut Session, at: At) -> Outcome<()> {
     }
 }
 
-fn link(session: &mut Session) -> Outcome<()> {
+/// The link of a session that wants one is there.
+pub fn link(session: &mut Session) -> Outcome<()> {
     session.asked();
     Ok(session.linked(0)?)
 }

@@ -59,6 +59,15 @@ impl AMQPUserInfo {
         let password = decoded_text(alloc, url.password().unwrap_or(""))?;
         Ok(AMQPUserInfo { username, password })
     }
+
+    /// An equal user with an equal password, which shares the texts.
+    pub fn try_clone(&self) -> Result<AMQPUserInfo, NoMemory>
+        ensures { IfOk result (λ info. info ≡ self.now) }
+    {
+        let username = self.username.try_clone()?;
+        let password = self.password.try_clone()?;
+        Ok(AMQPUserInfo { username, password })
+    }
 }
 
 // The port of AMQP (IANA).
@@ -97,6 +106,19 @@ impl AMQPAuthority {
             userinfo,
             host,
             port: AMQP_PORT,
+        })
+    }
+
+    /// An equal authority, which shares the texts.
+    pub fn try_clone(&self) -> Result<AMQPAuthority, NoMemory>
+        ensures { IfOk result (λ authority. authority ≡ self.now) }
+    {
+        let userinfo = self.userinfo.try_clone()?;
+        let host = self.host.try_clone()?;
+        Ok(AMQPAuthority {
+            userinfo,
+            host,
+            port: self.port,
         })
     }
 }

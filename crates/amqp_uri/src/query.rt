@@ -31,6 +31,14 @@ pub struct AMQPQuery {
 const FRAME_MIN_SIZE: u32 = 4096;
 
 impl AMQPQuery {
+    /// The greatest frame that is wished, in octets, 0 where none is: 1 to 4,095 octets are fewer than
+    /// every peer takes, and count as 4,096.
+    pub fn wished_frame_max(&self) -> u32
+        ensures { result ≡ kept_frame_max (unwrap_or self.now.frame_max 0) }
+    {
+        frame_max(self.frame_max.unwrap_or(0))
+    }
+
     // The query of a URL, still encoded.
     pub(crate) fn read(alloc: Global, query: Option<&str>) -> Result<AMQPQuery, UriFault>
         ensures ok { IfOk result (λ read. query_of (option_copied query.entry) ≡ Ok read) }

@@ -75,6 +75,19 @@ impl AMQPUri {
             query: AMQPQuery::default(),
         })
     }
+
+    /// An equal address, which shares the texts of its authority.
+    pub fn try_clone(&self, alloc: Global) -> Result<AMQPUri, NoMemory>
+        ensures { IfOk result (λ uri. uri ≡ self.now) }
+    {
+        let vhost = self.vhost.try_clone(alloc)?;
+        let authority = self.authority.try_clone()?;
+        Ok(AMQPUri {
+            vhost,
+            authority,
+            query: self.query,
+        })
+    }
 }
 
 // The virtual host that a path, still encoded, names.

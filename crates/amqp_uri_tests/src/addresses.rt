@@ -41,6 +41,8 @@ const VIRTUAL_HOSTS: &[(&str, Parts)] = &[
     ("amqp://h/v%20h", ("v h", "guest", "guest", "h", 5672)),
     ("amqp://h/v+h", ("v+h", "guest", "guest", "h", 5672)),
     ("amqp://h/%ff", ("\u{fffd}", "guest", "guest", "h", 5672)),
+    ("amqp://h/%00", ("\0", "guest", "guest", "h", 5672)),
+    ("amqp://a%00b:%00@h/v%00", ("v\0", "a\0b", "\0", "h", 5672)),
     ("amqp://h/%zz%4", ("%zz%4", "guest", "guest", "h", 5672)),
 ];
 

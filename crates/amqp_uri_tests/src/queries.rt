@@ -134,6 +134,11 @@ const REFUSED: &[(&str, UriFault)] = &[
         "amqp://h?frame_max=99999999999999999999",
         UriFault::BadNumber(Word::FrameMax),
     ),
+    (
+        "amqp://h?heartbeat=60%00",
+        UriFault::BadNumber(Word::Heartbeat),
+    ),
+    ("amqp://h?auth_mechanism=plain%00", UriFault::BadMechanism),
     ("amqp://h?heartbeat", UriFault::BadNumber(Word::Heartbeat)),
     ("amqp://h?heartbeat=", UriFault::BadNumber(Word::Heartbeat)),
     (

@@ -7,7 +7,8 @@ ghost use Rattle.amqp_engine.specs.Counts.{is_fault};
 ghost use Rattle.amqp_engine.specs.Causes.{is_counted};
 
 use amqp_engine::{IoLoop, Port, Step, Told, Wrote};
-use amqp_session::{ErrorKind, IoFault, Result};
+use amqp_session::{ConnectionProperties, ErrorKind, IoFault, Result};
+use amqp_uri::AMQPUri;
 use std::alloc::Global;
 
 /// The greatest length of a piece.
@@ -91,12 +92,13 @@ impl Port for Held {
     }
 }
 
-/// Runs a new session over such a port, and says how it ended, or that all turns were taken. It does
-/// not end by a fault that a port counts, since this one has none.
-pub fn converse(alloc: Global, port: &mut Held, turns: u64) -> Result<()>
+/// Runs a new session with a server at this address over such a port, and says how it ended, or that
+/// all turns were taken. It does not end by a fault that a port counts, since this one has none.
+pub fn converse(alloc: Global, uri: &AMQPUri, port: &mut Held, turns: u64) -> Result<()>
     ensures { (fault : IoFault) → IsTrue (is_counted fault) → result ≢ Err (ErrorKind.IOError fault) }
 {
-    let mut engine = IoLoop::new(alloc)?;
+    let options = ConnectionProperties::new(alloc)?;
+    let mut engine = IoLoop::new(alloc, uri, options)?;
     let end = engine.run(port, turns);
     drop(engine);
     end

@@ -2,7 +2,8 @@
 
 use super::*;
 use amqp_frame::{FixedRoom, Frame, RawMethod, Room, encoded_len};
-use amqp_session::{Answer, Session};
+use amqp_session::{Answer, ConnectionProperties, Session};
+use amqp_uri::AMQPUri;
 use amqp_vectors::octets;
 use std::alloc::Global;
 use std::process::Abort;
@@ -68,11 +69,20 @@ fn opens_and_sends_in<A: Abort>(
     Ok(())
 }
 
+// A new session with the broker of this machine.
+fn new_session(alloc: Global) -> std::result::Result<Session, Fail> {
+    let options = ConnectionProperties::new(alloc)?;
+    let uri = AMQPUri::local(alloc)?;
+    let session = Session::new(alloc, &uri, options);
+    drop(uri);
+    Ok(session?)
+}
+
 #[test]
 fn opens_and_sends(rt: HostRuntime) -> Outcome {
     let alloc = rt.alloc();
     let mut room = FixedRoom::new(alloc, 4096)?;
-    let mut session = Session::new(alloc)?;
+    let mut session = new_session(alloc)?;
     let told = opens_and_sends_in(&rt, alloc, &mut session, &mut room);
     drop(session);
     told
@@ -88,7 +98,10 @@ fn joined(alloc: Global) -> std::result::Result<Vec<u8>, Fail> {
 
 // How a run over such a port ends, as a text.
 fn end_of(alloc: Global, port: &mut Held) -> std::result::Result<String, Fail> {
-    match converse(alloc, port, 9) {
+    let uri = AMQPUri::local(alloc)?;
+    let end = converse(alloc, &uri, port, 9);
+    drop(uri);
+    match end {
         Ok(()) => Ok(String::from_str(alloc, "closed")?),
         Err(error) => {
             let text = error.to_string(alloc);

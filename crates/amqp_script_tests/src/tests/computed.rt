@@ -1,8 +1,10 @@
 //! What the definitions compute to, with no code between: what a client says, octet by octet, the
 //! moments of a script's steps, and the reports of whole scripts.
 
-ghost use Rattle.std.specs.Prelude.{◌≡◌, [], ◌∷◌, None, Ok, codes};
+ghost use Rattle.std.specs.Prelude.{◌≡◌, [], ◌∷◌, None, Ok, Err, codes};
 ghost use Rattle.amqp_frame.specs.Frames.{encoding};
+ghost use Rattle.amqp_uri.specs.Address.{local};
+ghost use Rattle.amqp_session.specs.Config.{config_of, no_options, with_locale, with_name, with_property};
 ghost use Rattle.amqp_session.specs.Handshake.{protocol_header, start_ok, tune_ok, open_vhost, our_close, close_ok, channel_open, our_channel_close};
 ghost use Rattle.amqp_engine.specs.declared.given.GivenStep.TheVariants.{Link, Tick, End};
 ghost use Rattle.amqp_replay.specs.Grammar.{given, parsed};
@@ -12,9 +14,9 @@ ghost use Rattle.amqp_replay.specs.Top.{printout};
 // What a client says, octet by octet.
 fn what_is_said_is_spelled_so()
     ensures header { hexadecimal (encoding protocol_header) ≡ codes "414d515000000901" }
-    ensures start_ok { hexadecimal (encoding start_ok) ≡ codes "01000000000133000a000b0000010f0c6361706162696c697469657346000000c71c61757468656e7469636174696f6e5f6661696c7572655f636c6f736574010a62617369632e6e61636b740112636f6e6e656374696f6e2e626c6f636b6564740116636f6e73756d65725f63616e63656c5f6e6f74696679740113636f6e73756d65725f7072696f72697469657374010f6469726563745f7265706c795f746f74011a65786368616e67655f65786368616e67655f62696e64696e67737401107065725f636f6e73756d65725f716f737401127075626c69736865725f636f6e6669726d73740108706c6174666f726d5300000004727573740770726f6475637453000000056c6170696e0776657273696f6e5300000005342e342e3005504c41494e0000000c00677565737400677565737405656e5f5553ce" }
+    ensures start_ok { hexadecimal (encoding (start_ok (config_of local no_options))) ≡ codes "01000000000133000a000b0000010f0c6361706162696c697469657346000000c71c61757468656e7469636174696f6e5f6661696c7572655f636c6f736574010a62617369632e6e61636b740112636f6e6e656374696f6e2e626c6f636b6564740116636f6e73756d65725f63616e63656c5f6e6f74696679740113636f6e73756d65725f7072696f72697469657374010f6469726563745f7265706c795f746f74011a65786368616e67655f65786368616e67655f62696e64696e67737401107065725f636f6e73756d65725f716f737401127075626c69736865725f636f6e6669726d73740108706c6174666f726d5300000004727573740770726f6475637453000000056c6170696e0776657273696f6e5300000005342e342e3005504c41494e0000000c00677565737400677565737405656e5f5553ce" }
     ensures tune_ok { hexadecimal (encoding (tune_ok (record { channel_max = 2047; frame_max = 131072; heartbeat = 60 }))) ≡ codes "0100000000000c000a001f07ff00020000003cce" }
-    ensures open { hexadecimal (encoding open_vhost) ≡ codes "01000000000008000a0028012f0000ce" }
+    ensures open { hexadecimal (encoding (open_vhost (codes "/"))) ≡ codes "01000000000008000a0028012f0000ce" }
     ensures close { hexadecimal (encoding (our_close 200 (codes "OK"))) ≡ codes "0100000000000d000a003200c8024f4b00000000ce" }
     ensures close_ok { hexadecimal (encoding close_ok) ≡ codes "01000000000004000a0033ce" }
     ensures channel_open { hexadecimal (encoding (channel_open 1)) ≡ codes "010001000000050014000a00ce" }
@@ -23,8 +25,16 @@ fn what_is_said_is_spelled_so()
 
 // A step has the moment that its line names, or that of the step before it.
 fn moments_are_read_so()
-    ensures falling { parsed (codes "link\n@05 tick\n\n# 7\ntick\n@3 end\ntick") ≡ Ok (given 0 (Link None) ∷ given 5 Tick ∷ given 5 Tick ∷ given 3 End ∷ given 3 Tick ∷ []) }
-    ensures greatest { parsed (codes "@18446744073709551615 link\n") ≡ Ok (given 18446744073709551615 (Link None) ∷ []) }
+    ensures falling { parsed (codes "link\n@05 tick\n\n# 7\ntick\n@3 end\ntick") ≡ Ok (record { config = config_of local no_options; steps = given 0 (Link None) ∷ given 5 Tick ∷ given 5 Tick ∷ given 3 End ∷ given 3 Tick ∷ [] }) }
+    ensures greatest { parsed (codes "@18446744073709551615 link\n") ≡ Ok (record { config = config_of local no_options; steps = given 18446744073709551615 (Link None) ∷ [] }) }
+{}
+
+// Settings are made in the order of their lines, before all steps.
+fn settings_are_read_so()
+    ensures made { parsed (codes "locale de\n# one\nproperty a b c\nname n\nproperty a\n@1 tick\n") ≡ Ok (record { config = config_of local (with_property (codes "a") [] (with_name (codes "n") (with_property (codes "a") (codes "b c") (with_locale (codes "de") no_options)))); steps = given 1 Tick ∷ [] }) }
+    ensures twice { parsed (codes "locale de\nname n\nlocale de\n") ≡ Err 3 }
+    ensures late { parsed (codes "tick\nproperty a b\n") ≡ Err 2 }
+    ensures timed { parsed (codes "@1 name n\n") ≡ Err 1 }
 {}
 
 // A header of another version.

@@ -9,18 +9,18 @@ use amqp_types::Text;
 use std::alloc::Global;
 use std::test::Fail;
 
-// Steps of a script with comments and empty lines, and the lines that say them.
+// Steps of a script with a setting, comments and empty lines, and the lines that say them.
 const LINES: [(u64, Option<u64>); 5] = [
-    (0, Some(2)),
-    (1, Some(2)),
-    (2, Some(5)),
-    (3, Some(6)),
+    (0, Some(3)),
+    (1, Some(3)),
+    (2, Some(6)),
+    (3, Some(7)),
     (4, None),
 ];
 
 #[test]
 fn lines_that_say_steps(rt: HostRuntime) -> Result<(), Fail> {
-    let text = b"# first\nlink\n\r\n#\nrefuse\r\nend";
+    let text = b"name first\n# second\nlink\n\r\n#\nrefuse\r\nend";
     let mut wrong: Option<u64> = None;
     for (step, line) in LINES {
         if line_of_step(text, step) != line {
@@ -45,9 +45,9 @@ fn steps_told(alloc: Global, script: &[u8]) -> Result<(u8, u64), Fail> {
 
 #[test]
 fn a_port_counts_its_steps(rt: HostRuntime) -> Result<(), Fail> {
-    let version = b"# another version\nlink\nbytes 414d515000000800\nlink\nend\n";
+    let version = b"locale de\n# another version\nlink\nbytes 414d515000000800\nlink\nend\n";
     assert!(rt; steps_told(rt.alloc(), version)? == (FAILED, 2));
-    assert!(rt; ended_at(FAILED, version, 2) == Some(3) && ended_at(CLOSED, version, 2) == None);
+    assert!(rt; ended_at(FAILED, version, 2) == Some(4) && ended_at(CLOSED, version, 2) == None);
     Ok(())
 }
 

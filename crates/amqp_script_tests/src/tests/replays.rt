@@ -34,8 +34,8 @@ fn push_digits(text: &mut Vec<u8>, frame: &str) -> Result<(), Fail> {
     Ok(())
 }
 
-// Appends a line of the bytes of a frame.
-fn push_bytes(text: &mut Vec<u8>, frame: &str) -> Result<(), Fail> {
+/// Appends a line of the bytes of a frame.
+pub fn push_bytes(text: &mut Vec<u8>, frame: &str) -> Result<(), Fail> {
     text.extend_from_slice(b"bytes ")?;
     push_digits(text, frame)?;
     text.push(b'\n')?;

@@ -83,7 +83,7 @@ impl Session {
         ensures ok { OnOk result (self.new ≡ on_start self.old) }
         ensures err { OnErr result (self.new ≡ self.old) }
     {
-        let frame = start_ok(self.alloc)?;
+        let frame = start_ok(self.alloc, &self.uri, &self.options)?;
         self.queue(0, frame)?;
         self.phase = AwaitTune;
         Ok(())
@@ -94,7 +94,7 @@ impl Session {
         ensures err { OnErr result (self.new ≡ self.old) }
     {
         let agreed = tune(self.configuration, server);
-        let open = Item::plain(0, open_vhost(self.alloc)?);
+        let open = Item::plain(0, open_vhost(self.alloc, &self.uri.vhost)?);
         let tune_ok = Item::plain(0, tune_ok(agreed));
         if let Err(refused) = reserve_both(&mut self.outbox, &mut self.committed, &tune_ok, &open) {
             drop(tune_ok);

@@ -1,10 +1,11 @@
 //! What a session tells of itself.
 
-ghost use Rattle.std.specs.Prelude.{◌≡◌, ◌<◌, ◌≤◌, ◌^◌, ℕ, IsTrue, length};
+ghost use Rattle.std.specs.Prelude.{IfOk, ◌≡◌, ◌<◌, ◌≤◌, ◌^◌, ℕ, IsTrue, length};
 ghost use Rattle.amqp_session.specs.Talk.{wants_link, is_asked, is_open, acts, hears_on, has_ended, end_of, drops_input};
 ghost use Rattle.amqp_session.specs.Changes.{present_at, next_promise};
 ghost use Rattle.amqp_session.specs.Frames.{on_frame};
-ghost use Rattle.amqp_session.specs.Negotiation.{frame_limit, frame_min_size};
+ghost use Rattle.amqp_session.specs.Negotiation.{frame_limit};
+ghost use Rattle.amqp_session.specs.Capacities.{frame_min_size};
 ghost use Rattle.amqp_session.specs.Writing.{frames_waiting, unsent, writes};
 ghost use Rattle.amqp_session.specs.Answers.{HandsOut};
 ghost use Rattle.amqp_session.specs.Sound.{goes_on, is_agreed};
@@ -18,9 +19,23 @@ use crate::configuration::Configuration;
 use crate::error;
 use crate::state::{ChannelState, ConnectionState, Input, Link, Phase};
 use amqp_frame::{Frame, Method};
-use amqp_types::ChannelId;
+use amqp_types::{ChannelId, NoMemory, ShortString, Text};
 
 impl Session {
+    /// The virtual host of the address.
+    pub fn vhost(&self) -> Result<ShortString, NoMemory>
+        ensures { IfOk result (λ vhost. vhost ≡ self.now.config.uri.vhost) }
+    {
+        self.uri.vhost.try_clone(self.alloc)
+    }
+
+    /// The user of the address.
+    pub fn username(&self) -> Result<Text, NoMemory>
+        ensures { IfOk result (λ username. username ≡ self.now.config.uri.authority.userinfo.username) }
+    {
+        self.uri.authority.userinfo.username.try_clone()
+    }
+
     /// The state of the connection.
     pub fn state(&self) -> ConnectionState
         ensures state { result ≡ self.now.state }

@@ -15,7 +15,8 @@ pub returns-clause-committed : goal.returns-clause-committed
 returns-clause-committed c = committed_legal
 
 pub returns-clause-turns : goal.returns-clause-turns
-returns-clause-turns c us may told = sent_legal (turns us (begin start)) (sendings us) (turns-sent us (begin start) [] may told new)
+returns-clause-turns c config us may told =
+    sent_legal (turns us (begin (start config))) (sendings config us) (turns-sent us (begin (start config)) [] may told (new config))
 
 pub returns-clause-script : goal.returns-clause-script
 returns-clause-script c = script_legal

@@ -1,13 +1,13 @@
--- The steps so far, before those of the lines that are left, are those of the text.
+-- The steps so far, before what the lines that are left say, are what the text says.
 use Rattle.std.proofs.Common.{◌≡◌, length}
 use Rattle.amqp_engine.specs.Plan.{ArePieces}
-use Rattle.amqp_replay.specs.Grammar.{parsed, steps_of}
+use Rattle.amqp_replay.specs.Grammar.{parsed, scenario_of}
 use Rattle.amqp_replay.proofs.Steps.{steps_before}
 use Rattle.amqp_replay.proofs.script.parse.Given as goal
 
 abbrev pub invariant-lines : goal.invariant-lines
 invariant-lines l = record {
-  whole : steps_before l.steps.items (steps_of l.at l.left l.lines) ≡ parsed l.text;
+  whole : steps_before l.steps.items (scenario_of l.progress l.at l.left l.lines) ≡ parsed l.text;
   pieces : ArePieces l.steps.items;
 }
 

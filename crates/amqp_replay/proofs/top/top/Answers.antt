@@ -1,29 +1,10 @@
-use Rattle.std.proofs.Common.{◌≡◌, ℕ, List, take, IfSome, sym, subst}
-use Rattle.amqp_replay.specs.declared.limits.TheConstants.{MOST_READ}
-use Rattle.amqp_replay.proofs.Statuses.{ReplaysSome-read, Replays-told, IsStatus-told}
+use Rattle.std.proofs.Common.{◌≡◌, ◌∙◌, Some, ap, sym}
+use Rattle.amqp_replay.specs.declared.asked.Asked.{Asked}
+use Rattle.amqp_replay.specs.declared.asked.Asked.TheVariants.{Replay, Generate}
 use Rattle.amqp_replay.proofs.top.top.Goals as goal
 
-pub returns-in-Ok-clause-some_script : goal.returns-in-Ok-clause-some_script
-returns-in-Ok-clause-some_script g c =
-    let P : List ℕ → Type 0 = λ x. IfSome (g.S.Source.left c.args.source.now) (λ all. x ≡ take MOST_READ all) in
-    ReplaysSome-read (g.S.Source.left c.args.source.now) (g.P.Port.log c.answer.new.port) (g.K.Sink.held c.args.sink.now)
-    (g.K.Sink.held c.answer.new.sink) c.answer.result c.deref.result.now
-    (subst P (sym c.deref.ensures.value) c.in-Ok.ensures.text) c.answer.ensures.outcome
-
-pub returns-in-Ok-clause-outcome : goal.returns-in-Ok-clause-outcome
-returns-in-Ok-clause-outcome g c =
-    let P : List ℕ → Type 0 = λ x. IfSome (g.S.Source.left c.args.source.now) (λ all. x ≡ take MOST_READ all) in
-    Replays-told (g.S.Source.left c.args.source.now) (g.P.Port.log c.answer.new.port) (g.K.Sink.held c.args.sink.now)
-    (g.K.Sink.held c.answer.new.sink) c.answer.result c.deref.result.now
-    (subst P (sym c.deref.ensures.value) c.in-Ok.ensures.text) c.answer.ensures.outcome
-
-pub returns-in-Ok-clause-status : goal.returns-in-Ok-clause-status
-returns-in-Ok-clause-status g c =
-    let P : List ℕ → Type 0 = λ x. IfSome (g.S.Source.left c.args.source.now) (λ all. x ≡ take MOST_READ all) in
-    let left = g.S.Source.left c.args.source.now in
-    let log = g.P.Port.log c.answer.new.port in
-    let before = g.K.Sink.held c.args.sink.now in
-    let after = g.K.Sink.held c.answer.new.sink in
-    IsStatus-told left log before after c.answer.result
-    (Replays-told left log before after c.answer.result c.deref.result.now
-    (subst P (sym c.deref.ensures.value) c.in-Ok.ensures.text) c.answer.ensures.outcome)
+pub returns-in-Generate-clause-some_script : goal.returns-in-Generate-clause-some_script
+returns-in-Generate-clause-some_script g c replays =
+    let both : Some (Generate c.in-Generate.count) ≡ Some Replay =
+    ap (λ (x : Asked). Some x) (sym c.in-Generate.is) ∙ sym c.in-Some.is ∙ c.asked_by.ensures ∙ replays in
+    absurd cc

@@ -1,0 +1,38 @@
+-- What is printable is ASCII, and so is what follows a byte of it.
+use Rattle.std.proofs.Common.{◌≡◌, ◌<◌, ◌+◌, ◌==◌, ◌&&◌, ℕ, zero, suc, Bool, true, false, List, [], ◌∷◌, position, Option, Some, None, unwrap_or, sym, subst, arith}
+use Rattle.std.specs.List.{list_all}
+use Rattle.std.specs.Str.{IsAscii}
+use Rattle.std.proofs.lemmas.Str.{IsAscii-drop}
+use Rattle.std.proofs.lemmas.Bool.Decides.{nat_tests}
+use Rattle.amqp_replay.specs.Words.{rest_after, after_byte}
+use Rattle.amqp_replay.specs.Grammar.{is_printable}
+
+nil_ascii : IsAscii []
+nil_ascii i = omega arith
+
+cons_ascii : (b : ℕ) (bs : List ℕ) → b < 128 → IsAscii bs → IsAscii (b ∷ bs)
+cons_ascii b bs low rest zero = low
+cons_ascii b bs low rest (suc i) = rest i
+
+below : (b : ℕ) (rest : Bool) → (is_printable b && rest) ≡ true → b < 128
+below b rest h = grind (arith, nat_tests)
+
+and_rest : (x y : Bool) → (x && y) ≡ true → y ≡ true
+and_rest true y h = h
+and_rest false y h = cc
+
+pub IsAscii-printable : (content : List ℕ) → list_all is_printable content ≡ true → IsAscii content
+IsAscii-printable [] h = nil_ascii
+IsAscii-printable (b ∷ bs) h =
+    cons_ascii b bs (below b (list_all is_printable bs) h) (IsAscii-printable bs (and_rest (is_printable b) (list_all is_printable bs) h))
+
+rest_ascii : (at : Option ℕ) (text : List ℕ) → IsAscii text → IsAscii (unwrap_or (rest_after at text) [])
+rest_ascii None text h = nil_ascii
+rest_ascii (Some at) text h = IsAscii-drop text (at + 1) h
+
+-- what follows a byte, or nothing
+pub IsAscii-after : (byte : ℕ) (text rest : List ℕ) (o : Option (List ℕ)) → IsAscii text → o ≡ after_byte byte text → rest ≡ unwrap_or o [] → IsAscii rest
+IsAscii-after byte text rest o h after is =
+    let P : List ℕ → Type 0 = λ x. IsAscii x in
+    let Q : Option (List ℕ) → Type 0 = λ x. IsAscii (unwrap_or x []) in
+    subst P (sym is) (subst Q (sym after) (rest_ascii (position (λ b. b == byte) text) text h))

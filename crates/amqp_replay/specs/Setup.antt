@@ -1,0 +1,109 @@
+-- The setup lines of a script: what a session is made from, before its steps.
+use Rattle.std.specs.Prelude.{ℕ, ◌&&◌, ◌||◌, not, nat_le, if◌then◌else◌, Bool, true, false, List, [], length, Option, Some, None, option_map, unwrap_or, codes}
+use Rattle.std.specs.Result.{result_ok}
+use Rattle.std.specs.Str.{bytes_eq}
+use Rattle.amqp_uri.specs.Address.{local, parsed as address_of}
+use Rattle.amqp_session.specs.Config.{Options, Config, config_of, no_options, with_locale, with_name, with_property}
+use Rattle.amqp_replay.specs.declared.limits.TheConstants.{TEXT_BYTES}
+use Rattle.amqp_replay.specs.declared.setup.Setting.{Setting}
+use Rattle.amqp_replay.specs.declared.setup.Setting.TheVariants.{Uri, Locale, Name, Property}
+use Rattle.amqp_replay.specs.Words.{first_word, after_word}
+
+-- ---- what a line sets
+
+-- the words that a setup line begins with
+abbrev pub is_setup_word : List ℕ → Bool
+is_setup_word word =
+    bytes_eq word (codes "uri")
+    || (bytes_eq word (codes "locale") || (bytes_eq word (codes "name") || bytes_eq word (codes "property")))
+
+-- a line that begins with such a word
+abbrev pub is_setup : List ℕ → Bool
+is_setup content = is_setup_word (first_word content)
+
+-- `uri TEXT`, of any length, where the text is an address
+abbrev pub uri_in : Option (List ℕ) → Option Setting
+uri_in rest = option_map Uri (result_ok (address_of (unwrap_or rest [])))
+
+-- a text of at most 255 bytes
+abbrev pub short_text : List ℕ → Option (List ℕ)
+short_text text = if nat_le (length text) TEXT_BYTES then Some text else None
+
+-- such a text, which may be missing, and is empty then
+abbrev pub text_in : Option (List ℕ) → Option (List ℕ)
+text_in rest = short_text (unwrap_or rest [])
+
+-- a key has 1 to 255 bytes
+abbrev pub is_key : List ℕ → Bool
+is_key word = nat_le 1 (length word) && nat_le (length word) TEXT_BYTES
+
+-- `property KEY TEXT`
+abbrev pub property_in : Option (List ℕ) → Option Setting
+property_in None = None
+property_in (Some words) =
+    if is_key (first_word words) then option_map (Property (first_word words)) (text_in (after_word words)) else None
+
+-- a line that says something of the client: it begins with this word and goes on like this
+abbrev pub option_by : List ℕ → Option (List ℕ) → Option Setting
+option_by word rest =
+    if bytes_eq word (codes "locale") then option_map Locale (text_in rest)
+    else if bytes_eq word (codes "name") then option_map Name (text_in rest)
+    else if bytes_eq word (codes "property") then property_in rest
+    else None
+
+-- a line that begins with this word and goes on like this
+abbrev pub setting_by : List ℕ → Option (List ℕ) → Option Setting
+setting_by word rest = if bytes_eq word (codes "uri") then uri_in rest else option_by word rest
+
+-- what a line sets, where it sets anything
+abbrev pub setting_of : List ℕ → Option Setting
+setting_of content = setting_by (first_word content) (after_word content)
+
+-- ---- how far the lines have come
+
+-- how far the lines of a script have come
+pub record Progress : Type 0 where
+  -- what the session is made from, by the settings so far
+  pub config : Config
+  -- whether a line said each of those that at most one line may say, and whether one said a step
+  pub has_uri : Bool
+  pub has_locale : Bool
+  pub has_name : Bool
+  pub has_step : Bool
+
+-- before the first line: the broker of this machine, and nothing said of the client
+abbrev pub no_lines : Progress
+no_lines =
+    record {
+      config = config_of local no_options;
+      has_uri = false;
+      has_locale = false;
+      has_name = false;
+      has_step = false;
+    }
+
+-- a setting may stand before all steps alone, and each but a property once
+abbrev pub may_stand : Setting → Progress → Bool
+may_stand (Uri uri) p = not (p.has_step || p.has_uri)
+may_stand (Locale locale) p = not (p.has_step || p.has_locale)
+may_stand (Name name) p = not (p.has_step || p.has_name)
+may_stand (Property key text) p = not p.has_step
+
+-- the options are changed alone
+abbrev pub with_options : (Options → Options) → Config → Config
+with_options f config = record config { options = f config.options }
+
+-- after a setting that may stand there
+abbrev pub after_setting : Setting → Progress → Progress
+after_setting (Uri uri) p = record p { config = config_of uri p.config.options; has_uri = true }
+after_setting (Locale locale) p = record p { config = with_options (with_locale locale) p.config; has_locale = true }
+after_setting (Name name) p = record p { config = with_options (with_name name) p.config; has_name = true }
+after_setting (Property key text) p = record p { config = with_options (with_property key text) p.config }
+
+-- after a step
+abbrev pub after_step : Progress → Progress
+after_step p = record p { has_step = true }
+
+-- after a setting, unless it may not stand there
+abbrev pub set_by : Setting → Progress → Option Progress
+set_by setting p = if may_stand setting p then Some (after_setting setting p) else None

@@ -1,0 +1,298 @@
+//! The setup lines of a script: what a session is made from, before its steps.
+
+ghost use Rattle.std.specs.Prelude.{◌≡◌, ◌<◌, length, Some, IfOk, option_map};
+ghost use Rattle.std.specs.Option.{option_copied};
+ghost use Rattle.std.specs.Str.{IsAscii};
+ghost use Rattle.amqp_session.specs.Config.{config_of};
+ghost use Rattle.amqp_replay.specs.declared.setup.Setting.TheVariants.{Uri, Locale, Name, Property};
+ghost use Rattle.amqp_replay.specs.Setup.{is_setup, uri_in, text_in, property_in, option_by, setting_of, no_lines, may_stand, after_setting, after_step, set_by};
+
+use crate::limits::TEXT_BYTES;
+use crate::words::{cut, is};
+use amqp_session::ConnectionProperties;
+use amqp_types::{LongString, NoMemory, ShortString};
+use amqp_uri::{AMQPUri, UriFault};
+use std::alloc::Global;
+use std::marker::Model;
+
+/// What a setup line sets.
+#[derive(Debug, Drop)]
+pub enum Setting {
+    /// The address.
+    Uri(AMQPUri),
+    /// The language in which texts of the server are wanted.
+    Locale(ShortString),
+    /// The name of the connection.
+    Name(LongString),
+    /// A property of the client: its key and its text.
+    Property(ShortString, LongString),
+}
+
+/// Whether a line begins with the word of a setup line.
+pub fn is_setup(content: &[u8]) -> bool
+    ensures { result ≡ is_setup content.now }
+{
+    let (word, _) = cut(content, b' ');
+    is(word, b"uri") || is(word, b"locale") || is(word, b"name") || is(word, b"property")
+}
+
+/// What a line sets, where it sets anything.
+pub fn read_setting(alloc: Global, content: &[u8]) -> Result<Option<Setting>, NoMemory>
+    requires { IsAscii content.now }
+    ensures { IfOk result (λ setting. setting ≡ setting_of content.now) }
+{
+    let (word, rest) = cut(content, b' ');
+    if is(word, b"uri") {
+        return Ok(uri(alloc, rest.unwrap_or(&[]))?);
+    }
+    Ok(option(alloc, word, rest)?)
+}
+
+// `uri TEXT`
+fn uri(alloc: Global, text: &[u8]) -> Result<Option<Setting>, NoMemory>
+    requires { IsAscii text.now }
+    ensures { IfOk result (λ setting. setting ≡ uri_in (Some text.now)) }
+{
+    let Ok(text) = str::from_utf8(text) else {
+        return Ok(None);
+    };
+    match AMQPUri::parse(alloc, text) {
+        Ok(uri) => Ok(Some(Setting::Uri(uri))),
+        Err(UriFault::NoMemory) => Err(NoMemory),
+        Err(_) => Ok(None),
+    }
+}
+
+// What a line sets that begins with another word.
+fn option(alloc: Global, word: &[u8], rest: Option<&[u8]>) -> Result<Option<Setting>, NoMemory>
+    ensures { IfOk result (λ setting. setting ≡ option_by word.now (option_copied rest.entry)) }
+{
+    if is(word, b"locale") {
+        return Ok(locale(alloc, rest)?);
+    }
+    if is(word, b"name") {
+        return Ok(name(alloc, rest)?);
+    }
+    if is(word, b"property") {
+        return Ok(property(alloc, rest)?);
+    }
+    Ok(None)
+}
+
+// A text of at most 255 bytes, which may be missing, and is empty then.
+fn read_text(alloc: Global, rest: Option<&[u8]>) -> Result<Option<ShortString>, NoMemory>
+    ensures { IfOk result (λ text. text ≡ text_in (option_copied rest.entry)) }
+{
+    let text = rest.unwrap_or(&[]);
+    if text.len() > TEXT_BYTES {
+        return Ok(None);
+    }
+    Ok(Some(ShortString::from_vec(Vec::from_slice(alloc, text)?)))
+}
+
+// `locale TEXT`
+fn locale(alloc: Global, rest: Option<&[u8]>) -> Result<Option<Setting>, NoMemory>
+    ensures { IfOk result (λ setting. setting ≡ option_map Locale (text_in (option_copied rest.entry))) }
+{
+    match read_text(alloc, rest)? {
+        Some(text) => Ok(Some(Setting::Locale(text))),
+        None => Ok(None),
+    }
+}
+
+// `name TEXT`
+fn name(alloc: Global, rest: Option<&[u8]>) -> Result<Option<Setting>, NoMemory>
+    ensures { IfOk result (λ setting. setting ≡ option_map Name (text_in (option_copied rest.entry))) }
+{
+    match read_text(alloc, rest)? {
+        Some(text) => Ok(Some(Setting::Name(long(text)))),
+        None => Ok(None),
+    }
+}
+
+// A short string as a long one.
+fn long(text: ShortString) -> LongString
+    ensures { result ≡ text }
+{
+    LongString::from_vec(text.into_vec())
+}
+
+// `property KEY TEXT`
+fn property(alloc: Global, rest: Option<&[u8]>) -> Result<Option<Setting>, NoMemory>
+    ensures { IfOk result (λ setting. setting ≡ property_in (option_copied rest.entry)) }
+{
+    let Some(words) = rest else {
+        return Ok(None);
+    };
+    let (key, rest) = cut(words, b' ');
+    if key.is_empty() || key.len() > TEXT_BYTES {
+        return Ok(None);
+    }
+    match read_text(alloc, rest)? {
+        Some(text) => Ok(Some(keyed(alloc, key, text)?)),
+        None => Ok(None),
+    }
+}
+
+// A property of this key and this text.
+fn keyed(alloc: Global, key: &[u8], text: ShortString) -> Result<Setting, NoMemory>
+    requires { length key.now < 256 }
+    ensures { IfOk result (λ setting. setting ≡ Property key.now text) }
+{
+    match Vec::from_slice(alloc, key) {
+        Ok(key) => Ok(Setting::Property(ShortString::from_vec(key), long(text))),
+        Err(_) => {
+            drop(text);
+            Err(NoMemory)
+        }
+    }
+}
+
+/// How far the lines of a script have come: what its settings say so far, and what may still be set.
+#[derive(Debug, Drop)]
+pub struct Progress {
+    uri: AMQPUri,
+    options: ConnectionProperties,
+    has_uri: bool,
+    has_locale: bool,
+    has_name: bool,
+    has_step: bool,
+}
+
+impl Model for Progress {
+    ghost use Rattle.amqp_session.specs.Config.{config_of};
+    ghost use Rattle.amqp_replay.specs.Setup.{Progress};
+
+    ghost Value = { Progress };
+
+    ghost use Rattle.std.specs.Coded.{codes};
+    ghost use Rattle.amqp_types.specs.ValueCode.{value_code};
+
+    ghost coded = { Prim.hlevel (codes, value_code) };
+
+    ghost view = { λ p. record {
+      config = config_of p.uri p.options;
+      has_uri = p.has_uri;
+      has_locale = p.has_locale;
+      has_name = p.has_name;
+      has_step = p.has_step;
+    } };
+}
+
+impl Progress {
+    /// Before the first line: the broker of this machine, and nothing said of the client.
+    pub fn new(alloc: Global) -> Result<Progress, NoMemory>
+        ensures { IfOk result (λ p. p ≡ no_lines) }
+    {
+        let uri = AMQPUri::local(alloc)?;
+        match ConnectionProperties::new(alloc) {
+            Ok(options) => Ok(Progress {
+                uri,
+                options,
+                has_uri: false,
+                has_locale: false,
+                has_name: false,
+                has_step: false,
+            }),
+            Err(e) => {
+                drop(uri);
+                Err(e)
+            }
+        }
+    }
+
+    /// What the session is made from.
+    pub fn into_config(self) -> (AMQPUri, ConnectionProperties)
+        ensures { config_of result.0 result.1 ≡ self.config }
+    {
+        (self.uri, self.options)
+    }
+
+    /// A line said a step.
+    pub fn note_step(&mut self)
+        ensures { self.new ≡ after_step self.old }
+    {
+        self.has_step = true;
+    }
+
+    /// After a setting, unless it may not stand there.
+    pub fn set(self, alloc: Global, setting: Setting) -> Result<Option<Progress>, NoMemory>
+        ensures { IfOk result (λ p. p ≡ set_by setting self) }
+    {
+        if !self.may_stand(&setting) {
+            drop(setting);
+            drop(self);
+            return Ok(None);
+        }
+        match setting {
+            Setting::Uri(uri) => Ok(Some(self.with_uri(uri))),
+            Setting::Locale(locale) => Ok(Some(self.with_locale(locale))),
+            Setting::Name(name) => Ok(Some(self.with_name(alloc, name)?)),
+            Setting::Property(key, text) => Ok(Some(self.with_property(key, text)?)),
+        }
+    }
+
+    // Whether a setting may stand there: before all steps, and each but a property once.
+    fn may_stand(&self, setting: &Setting) -> bool
+        ensures { result ≡ may_stand setting.now self.now }
+    {
+        match setting {
+            Setting::Uri(_) => !(self.has_step || self.has_uri),
+            Setting::Locale(_) => !(self.has_step || self.has_locale),
+            Setting::Name(_) => !(self.has_step || self.has_name),
+            Setting::Property(_, _) => !self.has_step,
+        }
+    }
+
+    fn with_uri(self, uri: AMQPUri) -> Progress
+        ensures { result ≡ after_setting (Uri uri) self }
+    {
+        drop(self.uri);
+        Progress {
+            uri,
+            options: self.options,
+            has_uri: true,
+            has_locale: self.has_locale,
+            has_name: self.has_name,
+            has_step: self.has_step,
+        }
+    }
+
+    fn with_locale(self, locale: ShortString) -> Progress
+        ensures { result ≡ after_setting (Locale locale) self }
+    {
+        Progress {
+            options: self.options.with_locale(locale),
+            has_locale: true,
+            ..self
+        }
+    }
+
+    fn with_name(self, alloc: Global, name: LongString) -> Result<Progress, NoMemory>
+        ensures { IfOk result (λ p. p ≡ after_setting (Name name) self) }
+    {
+        match self.options.with_connection_name(alloc, name) {
+            Ok(options) => Ok(Progress {
+                options,
+                has_name: true,
+                ..self
+            }),
+            Err(e) => {
+                drop(self.uri);
+                Err(e)
+            }
+        }
+    }
+
+    fn with_property(self, key: ShortString, text: LongString) -> Result<Progress, NoMemory>
+        ensures { IfOk result (λ p. p ≡ after_setting (Property key text) self) }
+    {
+        match self.options.with_client_property(key, text) {
+            Ok(options) => Ok(Progress { options, ..self }),
+            Err(e) => {
+                drop(self.uri);
+                Err(e)
+            }
+        }
+    }
+}

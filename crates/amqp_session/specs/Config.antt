@@ -1,0 +1,71 @@
+-- What a session is made from: the address, and what its user says of the client.
+use Rattle.std.specs.Prelude.{ℕ, List, [], codes, unwrap_or}
+use Rattle.amqp_types.specs.Value.{FieldValue, Pair, scalar, long_string}
+use Rattle.amqp_types.specs.Table.{put}
+use Rattle.amqp_uri.specs.declared.uri.AMQPUri.{AMQPUri}
+use Rattle.amqp_uri.specs.declared.query.AMQPQuery.{AMQPQuery}
+use Rattle.amqp_uri.specs.declared.mechanism.SASLMechanism.{SASLMechanism}
+use Rattle.amqp_uri.specs.declared.mechanism.SASLMechanism.TheVariants.{Plain}
+use Rattle.amqp_uri.specs.Query.{kept_frame_max}
+use Rattle.amqp_uri.specs.Login.{Login}
+use Rattle.amqp_session.specs.declared.configuration.Configuration.{Configuration}
+
+-- what the user says of the client, as contracts see `ConnectionProperties`
+pub record Options : Type 0 where
+  -- the language in which the server's texts are wanted
+  pub locale : List ℕ
+  -- the client's properties, by name
+  pub properties : List Pair
+
+-- what a session is made from; no rule changes it
+pub record Config : Type 0 where
+  -- where it connects, as whom, and which numbers it wishes
+  pub uri : AMQPUri
+  -- what its user says of the client
+  pub options : Options
+
+-- both together
+abbrev pub config_of : AMQPUri → Options → Config
+config_of uri options = record { uri = uri; options = options }
+
+-- ---- what the user says
+
+-- a text as a value
+abbrev pub text_value : List ℕ → FieldValue
+text_value content = scalar (long_string content)
+
+-- nothing beside what every client says: texts in English, and no properties
+abbrev pub no_options : Options
+no_options = record { locale = codes "en_US"; properties = [] }
+
+-- the same with another language
+abbrev pub with_locale : List ℕ → Options → Options
+with_locale locale options = record options { locale = locale }
+
+-- the same with a property, which takes the place of one with its name
+abbrev pub with_property : List ℕ → List ℕ → Options → Options
+with_property name text options = record options { properties = put options.properties name (text_value text) }
+
+-- the same with a name of the connection, by which RabbitMQ shows it
+abbrev pub with_name : List ℕ → Options → Options
+with_name name options = with_property (codes "connection_name") name options
+
+-- ---- what the address says
+
+-- the mechanism of SASL: PLAIN, where the address has none
+abbrev pub mechanism : Config → SASLMechanism
+mechanism config = unwrap_or config.uri.query.auth_mechanism Plain
+
+-- as whom the client logs in
+abbrev pub login : Config → Login
+login config =
+    record { username = config.uri.authority.userinfo.username; password = config.uri.authority.userinfo.password }
+
+-- the numbers that an address wishes, 0 where it has none
+abbrev pub own_numbers : AMQPQuery → Configuration
+own_numbers query =
+    record {
+      channel_max = unwrap_or query.channel_max 0;
+      frame_max = kept_frame_max (unwrap_or query.frame_max 0);
+      heartbeat = unwrap_or query.heartbeat 0;
+    }

@@ -1,0 +1,241 @@
+//! What a session is made from: an address, and what its user says of the client.
+
+use crate::support::{Outcome, agreed, ended, link, read, send_all, writes};
+use amqp_session::{ConnectionProperties, Session, initial_capacity};
+use amqp_types::{LongString, NoMemory, ShortString};
+use amqp_uri::AMQPUri;
+use amqp_vectors::{HEADER, START};
+use std::alloc::Global;
+
+// A new session with a server at this address, or at the local one where it is none.
+fn session_to(alloc: Global, text: &str, options: ConnectionProperties) -> Outcome<Session> {
+    let parsed = AMQPUri::parse(alloc, text);
+    match parsed {
+        Ok(uri) => {
+            let session = Session::new(alloc, &uri, options);
+            drop(uri);
+            Ok(session?)
+        }
+        Err(_) => {
+            drop(options);
+            Err("no address")?
+        }
+    }
+}
+
+fn plain_session_to(alloc: Global, text: &str) -> Outcome<Session> {
+    session_to(alloc, text, ConnectionProperties::new(alloc)?)
+}
+
+// Whether a session tells this virtual host and this user.
+fn tells(session: &Session, vhost: &[u8], username: &str) -> Result<bool, NoMemory> {
+    let user = session.username()?;
+    let host = session.vhost()?;
+    Ok(host.as_bytes() == vhost && user.as_str() == username)
+}
+
+#[test]
+fn an_address_is_told_again(rt: HostRuntime) -> Outcome<()> {
+    let session = plain_session_to(rt.alloc(), "amqp://bob:hunter@h/orders")?;
+    let told = tells(&session, b"orders", "bob");
+    drop(session);
+    assert!(rt; told?);
+    Ok(())
+}
+
+/// Addresses, the numbers that they wish, how many bytes can be unsent, and the longest frame that is
+/// read before anything is agreed.
+const WISHES: &[(&str, (u16, u32, u16), u64, u64)] = &[
+    ("amqp://h", (0, 0, 0), 131_072, 131_072),
+    (
+        "amqp://h?channel_max=1&heartbeat=7&frame_max=8192",
+        (1, 8192, 7),
+        262_144,
+        8192,
+    ),
+    ("amqp://h?frame_max=8", (0, 4096, 0), 131_072, 4096),
+    (
+        "amqp://h?frame_max=4294967295",
+        (0, 4_294_967_295, 0),
+        134_217_728,
+        134_217_728,
+    ),
+];
+
+#[test]
+fn an_address_says_what_is_wished(rt: HostRuntime) -> Outcome<()> {
+    for (text, numbers, capacity, limit) in WISHES {
+        let session = plain_session_to(rt.alloc(), text)?;
+        let (channel_max, frame_max, heartbeat) = *numbers;
+        let same = agreed(&session, channel_max, frame_max, heartbeat)
+            && session.capacity() == *capacity
+            && session.frame_limit() == *limit;
+        drop(session);
+        assert!(rt; same, "{text}");
+    }
+    Ok(())
+}
+
+// Whether the capacity of an address is that of a session made from it.
+fn is_initial(alloc: Global, text: &str, capacity: u64) -> bool {
+    let Ok(uri) = AMQPUri::parse(alloc, text) else {
+        return false;
+    };
+    let same = initial_capacity(&uri) == capacity;
+    drop(uri);
+    same
+}
+
+#[test]
+fn a_capacity_is_known_beforehand(rt: HostRuntime) -> Outcome<()> {
+    assert!(rt; is_initial(rt.alloc(), "amqp://h?frame_max=8192", 262_144));
+    Ok(())
+}
+
+// Options with all settings.
+fn named(alloc: Global) -> Result<ConnectionProperties, NoMemory> {
+    ConnectionProperties::new(alloc)?
+        .with_locale(ShortString::from_vec(Vec::from_slice(alloc, b"de_DE")?))
+        .with_client_property(short(alloc, b"product")?, long(alloc, b"mine")?)?
+        .with_client_property(short(alloc, b"version")?, long(alloc, b"1")?)?
+        .with_client_property(short(alloc, b"platform")?, long(alloc, b"c")?)?
+        .with_client_property(short(alloc, b"capabilities")?, long(alloc, b"none")?)?
+        .with_connection_name(alloc, long(alloc, b"orders")?)
+}
+
+fn short(alloc: Global, content: &[u8]) -> Result<ShortString, NoMemory> {
+    match ShortString::new(alloc, content) {
+        Ok(text) => Ok(text),
+        Err(_) => Err(NoMemory),
+    }
+}
+
+fn long(alloc: Global, content: &[u8]) -> Result<LongString, NoMemory> {
+    match LongString::new(alloc, content) {
+        Ok(text) => Ok(text),
+        Err(_) => Err(NoMemory),
+    }
+}
+
+// Whether a new session says this in answer to start.
+fn says(alloc: Global, session: &mut Session, start_ok: &str) -> Outcome<bool> {
+    link(session)?;
+    read(alloc, session, START)?;
+    Ok(writes(alloc, session, HEADER)? && writes(alloc, session, start_ok)?)
+}
+
+/// Start-ok with a product and a version of the user's, a name of the connection, another locale, and
+/// the pairs of AMQPLAIN; its platform and capabilities are the library's all the same.
+const NAMED: &str =
+    "01000000000162000a000b000001250c6361706162696c697469657346000000c71c61757468656e74696361
+    74696f6e5f6661696c7572655f636c6f736574010a62617369632e6e61636b740112636f6e6e656374696f6e
+    2e626c6f636b6564740116636f6e73756d65725f63616e63656c5f6e6f74696679740113636f6e73756d6572
+    5f7072696f72697469657374010f6469726563745f7265706c795f746f74011a65786368616e67655f657863
+    68616e67655f62696e64696e67737401107065725f636f6e73756d65725f716f737401127075626c69736865
+    725f636f6e6669726d7374010f636f6e6e656374696f6e5f6e616d6553000000066f726465727308706c6174
+    666f726d5300000004727573740770726f6475637453000000046d696e650776657273696f6e530000000131
+    08414d51504c41494e00000022054c4f47494e5300000003626f620850415353574f5244530000000668756e
+    7465720564655f4445ce";
+
+#[test]
+fn start_ok_says_what_the_user_says(rt: HostRuntime) -> Outcome<()> {
+    let alloc = rt.alloc();
+    let options = named(alloc)?;
+    let mut session = session_to(
+        alloc,
+        "amqp://bob:hunter@h?auth_mechanism=amqplain",
+        options,
+    )?;
+    let said = says(alloc, &mut session, NAMED);
+    drop(session);
+    assert!(rt; said?);
+    Ok(())
+}
+
+/// Start-ok with the library's product and version, since the user's product has no version, and with
+/// nothing of the user, as EXTERNAL says it.
+const HALF_NAMED: &str =
+    "0100000000012a000a000b0000010f0c6361706162696c697469657346000000c71c61757468656e74696361
+    74696f6e5f6661696c7572655f636c6f736574010a62617369632e6e61636b740112636f6e6e656374696f6e
+    2e626c6f636b6564740116636f6e73756d65725f63616e63656c5f6e6f74696679740113636f6e73756d6572
+    5f7072696f72697469657374010f6469726563745f7265706c795f746f74011a65786368616e67655f657863
+    68616e67655f62696e64696e67737401107065725f636f6e73756d65725f716f737401127075626c69736865
+    725f636f6e6669726d73740108706c6174666f726d5300000004727573740770726f6475637453000000056c
+    6170696e0776657273696f6e5300000005342e342e300845585445524e414c0000000005656e5f5553ce";
+
+// A product without its version.
+fn half_named(alloc: Global) -> Result<ConnectionProperties, NoMemory> {
+    ConnectionProperties::new(alloc)?.with_client_property(
+        short(alloc, b"product")?,
+        long(alloc, b"mine")?,
+    )
+}
+
+#[test]
+fn a_product_needs_its_version(rt: HostRuntime) -> Outcome<()> {
+    let alloc = rt.alloc();
+    let options = half_named(alloc)?;
+    let mut session = session_to(
+        alloc,
+        "amqp://bob:hunter@h?auth_mechanism=external",
+        options,
+    )?;
+    let said = says(alloc, &mut session, HALF_NAMED);
+    drop(session);
+    assert!(rt; said?);
+    Ok(())
+}
+
+// The session as its `Debug` shows it, once start was read and nothing of the answer was written.
+fn shown_at_start(alloc: Global) -> Outcome<String> {
+    let mut session = plain_session_to(alloc, "amqp://bob:hunter@h/orders")?;
+    let heard = hear_start(alloc, &mut session);
+    let shown = format!(in alloc; "{session:?}");
+    drop(session);
+    heard?;
+    Ok(shown?)
+}
+
+fn hear_start(alloc: Global, session: &mut Session) -> Outcome<()> {
+    link(session)?;
+    read(alloc, session, START)
+}
+
+#[test]
+fn a_password_is_not_shown(rt: HostRuntime) -> Outcome<()> {
+    let shown = shown_at_start(rt.alloc())?;
+    assert!(rt; shown.as_str() == "Session { .. }");
+    Ok(())
+}
+
+// Whether a session ends since its answer to start, with a property of so many octets, is longer than
+// what can be unsent. The frame has 334 octets beside.
+fn ends_too_long(alloc: Global, octets: usize, error: &str) -> Outcome<bool> {
+    let value = vec![in alloc; b'x'; octets]?;
+    let value = LongString::new(alloc, &value);
+    let Ok(value) = value else {
+        return Err("memory was refused")?;
+    };
+    let options = ConnectionProperties::new(alloc)?.with_client_property(
+        short(alloc, b"notes")?,
+        value,
+    )?;
+    let mut session = session_to(alloc, "amqp://h", options)?;
+    let ended = ended_after_start(alloc, &mut session, error);
+    drop(session);
+    ended
+}
+
+fn ended_after_start(alloc: Global, session: &mut Session, error: &str) -> Outcome<bool> {
+    hear_start(alloc, session)?;
+    send_all(session);
+    ended(alloc, session, error)
+}
+
+#[test]
+fn a_start_ok_longer_than_the_capacity_ends_the_session(rt: HostRuntime) -> Outcome<()> {
+    let alloc = rt.alloc();
+    assert!(rt; ends_too_long(alloc, 130_747, "failed to serialise: frame of 131073 bytes")?);
+    assert!(rt; !ends_too_long(alloc, 130_746, "failed to serialise: frame of 131073 bytes")?);
+    Ok(())
+}
