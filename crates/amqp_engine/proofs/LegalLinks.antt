@@ -4,7 +4,7 @@ use Rattle.std.specs.List.{AllByRecursion}
 use Rattle.amqp_frame.specs.declared.frame.Frame.{Frame}
 use Rattle.amqp_outbox.specs.declared.item.Item.{Item}
 use Rattle.amqp_session.specs.declared.command.Cmd.{Cmd}
-use Rattle.amqp_session.specs.declared.command.Cmd.TheVariants.{OpenChannel, CloseChannel, CloseConnection, Send, Publish, Flow, DropChannel, DropConnection}
+use Rattle.amqp_session.specs.declared.command.Cmd.TheVariants.{OpenChannel, CloseChannel, CloseConnection, UpdateSecret, Send, Publish, Flow, DropChannel, DropConnection}
 use Rattle.amqp_session.specs.Commands.{command}
 use Rattle.amqp_session.specs.Answers.{take_answer, take_frames}
 use Rattle.amqp_session.specs.Legal.{Legal}
@@ -56,6 +56,7 @@ sendable (Publish channel method properties body) h = (h.0.0, h.0.1, h.0.2, h.1,
 sendable OpenChannel h = tt
 sendable (CloseChannel channel code text) h = tt
 sendable (CloseConnection code text) h = tt
+sendable (UpdateSecret secret reason) h = tt
 sendable (Flow channel active) h = tt
 sendable (DropChannel channel) h = tt
 sendable DropConnection h = tt

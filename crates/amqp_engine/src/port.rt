@@ -96,7 +96,8 @@ pub(crate) fn hold(command: &Cmd)
             let _held = (properties.as_bytes().len(), body.len());
         }
         Cmd::OpenChannel | Cmd::CloseChannel(..) | Cmd::CloseConnection(..) => {}
-        Cmd::Flow(..) | Cmd::DropChannel(_) | Cmd::DropConnection => {}
+        Cmd::UpdateSecret(..) | Cmd::Flow(..) => {}
+        Cmd::DropChannel(_) | Cmd::DropConnection => {}
     }
 }
 

@@ -4,21 +4,21 @@ use Rattle.std.specs.List.{list_all}
 use Rattle.std.specs.Str.{bytes_eq}
 use Rattle.std.proofs.lemmas.Bool.Decides.{nat_tests}
 use Rattle.amqp_session.specs.declared.command.Cmd.{Cmd}
-use Rattle.amqp_session.specs.declared.command.Cmd.TheVariants.{OpenChannel, CloseChannel, CloseConnection, Send, Publish}
+use Rattle.amqp_session.specs.declared.command.Cmd.TheVariants.{OpenChannel, CloseChannel, CloseConnection, UpdateSecret, Send, Publish}
 use Rattle.amqp_engine.specs.declared.given.Given.{Given}
 use Rattle.amqp_engine.specs.declared.given.GivenStep.{GivenStep}
 use Rattle.amqp_engine.specs.declared.given.GivenStep.TheVariants.{Link, Refuse, Bytes, End, Fault, Room, WriteFail, Tick, Command}
 use Rattle.amqp_engine.specs.Plan.{IsGivenPiece, ArePieces}
 use Rattle.amqp_replay.specs.declared.grammar.Said.{Said}
 use Rattle.amqp_replay.specs.declared.grammar.Said.TheVariants.{Nothing, Refused, Setup, Step}
-use Rattle.amqp_replay.specs.declared.limits.TheConstants.{PIECE_BYTES, TEXT_BYTES}
+use Rattle.amqp_replay.specs.declared.limits.TheConstants.{PIECE_BYTES, SECRET_BYTES, TEXT_BYTES}
 use Rattle.amqp_replay.specs.Lines.{Line}
 use Rattle.amqp_replay.specs.Words.{first_word, after_word}
 use Rattle.amqp_replay.specs.Decimals.{number_16, number_64}
 use Rattle.amqp_replay.specs.Data.{Spelled, spelled}
 use Rattle.amqp_replay.specs.declared.setup.Setting.{Setting}
 use Rattle.amqp_replay.specs.Setup.{is_setup, setting_of}
-use Rattle.amqp_replay.specs.Grammar.{step_or_refused, lone, link_line, room_line, piece, bytes_line, closes_by, closes, shut_line, numbered, close_of, close_line, number_in, rest_of, is_passed_through, sent_method, sends_data, data_in, sends, send_line, Published, zeros_published, published_in, publishes_data, publishes, publish_line, switch_in, flows, flow_line, command_of_words, line_of_words, words_say, timed, is_at_sign, step_line, is_ignored, is_printable, setup_or_refused, content_says, is_within_limits, says, limited}
+use Rattle.amqp_replay.specs.Grammar.{step_or_refused, lone, link_line, room_line, piece, bytes_line, closes_by, closes, shut_line, numbered, close_of, close_line, number_in, rest_of, is_passed_through, sent_method, sends_data, data_in, sends, send_line, Published, zeros_published, published_in, publishes_data, publishes, publish_line, switch_in, flows, flow_line, first_data_in, secrets, secret_line, command_of_words, line_of_words, words_say, timed, is_at_sign, step_line, is_ignored, is_printable, setup_or_refused, content_says, is_within_limits, says, limited}
 
 abbrev pub SaysPiece : Said → Type 0
 SaysPiece (Step what n) = IsGivenPiece what
@@ -104,6 +104,12 @@ of_flows (Some n) (Some active) = tt
 of_flows None active = tt
 of_flows (Some n) None = tt
 
+of_secrets : (o : Option Spelled) (reason : List ℕ) → SaysPiece (secrets o reason)
+of_secrets None reason = tt
+of_secrets (Some found) reason =
+    if_case (nat_le (length found.bytes) SECRET_BYTES && nat_le (length reason) TEXT_BYTES)
+    (Step (Command (UpdateSecret found.bytes reason)) found.zeros) Refused tt tt
+
 -- ---- a piece
 
 both : (n : ℕ) → (nat_le 1 n && nat_le n 4096) ≡ true → (1 ≤ n) × (n ≤ 4096)
@@ -131,7 +137,8 @@ of_command word rest =
     (if_case (bytes_eq word (codes "send")) (send_line rest) _ (of_send_line rest)
     (if_case (bytes_eq word (codes "publish")) (publish_line rest) _ (of_publish_line rest)
     (if_case (bytes_eq word (codes "flow")) (flow_line rest) _ (of_flows (number_in rest) (switch_in (rest_of rest)))
-    (if_case (bytes_eq word (codes "shut")) (shut_line rest) Refused (of_closes CloseConnection rest) tt)))))
+    (if_case (bytes_eq word (codes "secret")) (secret_line rest) _ (of_secrets (first_data_in rest) (unwrap_or (rest_of rest) []))
+    (if_case (bytes_eq word (codes "shut")) (shut_line rest) Refused (of_closes CloseConnection rest) tt))))))
 
 of_words : (word : List ℕ) (rest : Option (List ℕ)) → SaysPiece (line_of_words word rest)
 of_words word rest =

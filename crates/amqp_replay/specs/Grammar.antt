@@ -6,13 +6,13 @@ use Rattle.amqp_frame.specs.RawMethods.{OtherMethod}
 use Rattle.amqp_session.specs.Config.{Config}
 use Rattle.amqp_session.specs.declared.command.ChanRef.{ChanRef}
 use Rattle.amqp_session.specs.declared.command.Cmd.{Cmd}
-use Rattle.amqp_session.specs.declared.command.Cmd.TheVariants.{OpenChannel, CloseChannel, CloseConnection, Send, Publish, Flow}
+use Rattle.amqp_session.specs.declared.command.Cmd.TheVariants.{OpenChannel, CloseChannel, CloseConnection, UpdateSecret, Send, Publish, Flow}
 use Rattle.amqp_engine.specs.declared.given.Given.{Given}
 use Rattle.amqp_engine.specs.declared.given.GivenStep.{GivenStep}
 use Rattle.amqp_engine.specs.declared.given.GivenStep.TheVariants.{Link, Refuse, Bytes, End, Fault, Room, WriteFail, Tick, Command}
 use Rattle.amqp_replay.specs.declared.grammar.Said.{Said}
 use Rattle.amqp_replay.specs.declared.grammar.Said.TheVariants.{Nothing, Refused, Setup, Step}
-use Rattle.amqp_replay.specs.declared.limits.TheConstants.{PIECE_BYTES, SCRIPT_BYTES, SCRIPT_LINES, TEXT_BYTES, ZERO_BYTES}
+use Rattle.amqp_replay.specs.declared.limits.TheConstants.{PIECE_BYTES, SECRET_BYTES, SCRIPT_BYTES, SCRIPT_LINES, TEXT_BYTES, ZERO_BYTES}
 use Rattle.amqp_replay.specs.Lines.{Line, lines}
 use Rattle.amqp_replay.specs.Words.{first_word, after_word}
 use Rattle.amqp_replay.specs.Decimals.{number_16, number_64}
@@ -198,6 +198,18 @@ flows _ _ = Refused
 abbrev pub flow_line : Option (List ℕ) → Said
 flow_line rest = flows (number_in rest) (switch_in (rest_of rest))
 
+-- a new secret is told, where it is spelled, for a reason
+abbrev pub secrets : Option Spelled → List ℕ → Said
+secrets None reason = Refused
+secrets (Some found) reason =
+    if nat_le (length found.bytes) SECRET_BYTES && nat_le (length reason) TEXT_BYTES
+    then Step (Command (UpdateSecret found.bytes reason)) found.zeros
+    else Refused
+
+-- `secret DATA TEXT`, where the text may be missing, and is empty then
+abbrev pub secret_line : Option (List ℕ) → Said
+secret_line rest = secrets (first_data_in rest) (unwrap_or (rest_of rest) [])
+
 -- a line that tells the session to do something
 abbrev pub command_of_words : List ℕ → Option (List ℕ) → Said
 command_of_words word rest =
@@ -206,6 +218,7 @@ command_of_words word rest =
     else if bytes_eq word (codes "send") then send_line rest
     else if bytes_eq word (codes "publish") then publish_line rest
     else if bytes_eq word (codes "flow") then flow_line rest
+    else if bytes_eq word (codes "secret") then secret_line rest
     else if bytes_eq word (codes "shut") then shut_line rest
     else Refused
 

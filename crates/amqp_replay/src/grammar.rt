@@ -6,7 +6,7 @@ ghost use Rattle.std.specs.Option.{option_copied};
 ghost use Rattle.std.specs.Str.{IsAscii};
 ghost use Rattle.amqp_session.specs.declared.command.ChanRef.{ChanRef};
 ghost use Rattle.amqp_session.specs.declared.command.Cmd.TheVariants.{CloseConnection, CloseChannel};
-ghost use Rattle.amqp_replay.specs.Grammar.{says, content_says, step_line, moment, words_say, line_of_words, command_of_words, limited, is_ignored, setup_or_refused, is_printable, is_within_limits, lone, link_line, room_line, bytes_line, shut_line, close_line, send_line, close_of, closes, closes_by, numbered, number_in, rest_of, sends_data, is_passed_through, all_spelled, published_in, publishes_data, publish_line, zeros_published, flow_line, switch_of};
+ghost use Rattle.amqp_replay.specs.Grammar.{says, content_says, step_line, moment, words_say, line_of_words, command_of_words, limited, is_ignored, setup_or_refused, is_printable, is_within_limits, lone, link_line, room_line, bytes_line, shut_line, close_line, send_line, close_of, closes, closes_by, numbered, number_in, rest_of, sends_data, is_passed_through, all_spelled, published_in, publishes_data, publish_line, zeros_published, flow_line, switch_of, secret_line, secrets};
 ghost use Rattle.amqp_replay.specs.Budgets.{affordable_publish};
 ghost use Rattle.amqp_replay.specs.Data.{spelled};
 ghost use Rattle.amqp_replay.specs.Setup.{setting_of};
@@ -15,14 +15,14 @@ ghost use Rattle.amqp_replay.specs.Reasons.{GivesReason};
 
 use crate::data::{Spelled, read_data};
 use crate::decimals::number;
-use crate::limits::{PIECE_BYTES, SCRIPT_BYTES, SCRIPT_LINES, TEXT_BYTES};
+use crate::limits::{PIECE_BYTES, SCRIPT_BYTES, SCRIPT_LINES, SECRET_BYTES, TEXT_BYTES};
 use crate::lines::Line;
 use crate::setup::{Setting, is_setup, read_setting};
 use crate::words::{cut, is};
 use amqp_engine::GivenStep;
 use amqp_frame::RawMethod;
 use amqp_session::{ChanRef, Cmd, Properties};
-use amqp_types::{NoMemory, ShortString};
+use amqp_types::{LongString, NoMemory, ShortString};
 use std::alloc::Global;
 use std::marker::Model;
 
@@ -177,6 +177,9 @@ fn command(alloc: Global, word: &[u8], rest: Option<&[u8]>, left: u64) -> Result
     }
     if is(word, b"flow") {
         return Ok(flow(rest));
+    }
+    if is(word, b"secret") {
+        return Ok(secret(alloc, rest, left)?);
     }
     if is(word, b"shut") {
         return Ok(shut(alloc, rest)?);
@@ -482,6 +485,36 @@ fn publishes(
     };
     let method = RawMethod::new(alloc, class, method, arguments.bytes().as_bytes())?;
     let command = Cmd::Publish(numbered(id), method, properties, body.into_bytes());
+    Ok(Said::Step(GivenStep::Command(command), zeros))
+}
+
+// `secret DATA TEXT`, where the text may be missing, and is empty then.
+fn secret(alloc: Global, rest: Option<&[u8]>, left: u64) -> Result<Said, NoMemory>
+    ensures { IfOk result (λ said. said ≡ limited left (secret_line (option_copied rest.entry))) }
+{
+    let Some(words) = rest else {
+        return Ok(Said::Refused);
+    };
+    let (data, reason) = cut(words, b' ');
+    let secret = read_data(alloc, data, left)?;
+    Ok(secrets(alloc, secret, reason.unwrap_or(&[]))?)
+}
+
+// The telling of a new secret, where it is spelled, for a reason.
+fn secrets(alloc: Global, secret: Option<Spelled>, reason: &[u8]) -> Result<Said, NoMemory>
+    ensures { IfOk result (λ said. said ≡ secrets secret reason.now) }
+{
+    let Some(data) = secret else {
+        return Ok(Said::Refused);
+    };
+    if data.bytes().len() > SECRET_BYTES || reason.len() > TEXT_BYTES {
+        drop(data);
+        return Ok(Said::Refused);
+    }
+    let zeros = data.zeros();
+    let secret = LongString::from_vec(data.into_bytes().into_vec());
+    let reason = ShortString::from_vec(Vec::from_slice(alloc, reason)?);
+    let command = Cmd::UpdateSecret(secret, reason);
     Ok(Said::Step(GivenStep::Command(command), zeros))
 }
 

@@ -11,10 +11,10 @@ use Rattle.amqp_frame.specs.declared.frame.Frame.TheVariants.{ProtocolHeader, Me
 use Rattle.amqp_frame.specs.declared.frame.RawKind.{RawKind}
 use Rattle.amqp_frame.specs.declared.frame.RawKind.TheVariants.{RawMethod}
 use Rattle.amqp_frame.specs.declared.method.Method.{Method as AnyMethod}
-use Rattle.amqp_frame.specs.declared.method.Method.TheVariants.{Start, Tune, OpenOk, Close, CloseOk, Blocked, Unblocked, ChannelOpenOk, ChannelFlow, ChannelFlowOk, ChannelClose, ChannelCloseOk}
+use Rattle.amqp_frame.specs.declared.method.Method.TheVariants.{Start, Tune, OpenOk, Close, CloseOk, Blocked, Unblocked, UpdateSecretOk, ChannelOpenOk, ChannelFlow, ChannelFlowOk, ChannelClose, ChannelCloseOk}
 use Rattle.amqp_frame.specs.RawMethods.{OtherMethod, spell_raw_method}
 use Rattle.amqp_outbox.specs.declared.item.Item.{Item}
-use Rattle.amqp_outbox.specs.declared.reply.Reply.TheVariants.{ChannelOpened, ChannelClosed, FlowDone, ConnectionClosed}
+use Rattle.amqp_outbox.specs.declared.reply.Reply.TheVariants.{ChannelOpened, ChannelClosed, FlowDone, SecretDone, ConnectionClosed}
 use Rattle.amqp_outbox.specs.Items.{plain, promised, group_of}
 use Rattle.amqp_outbox.specs.Queued as queued
 use Rattle.amqp_outbox.specs.Queued.{Queued, pushed_control, only, awaited_promise, after_next}
@@ -39,7 +39,7 @@ use Rattle.amqp_session.specs.declared.io_fault.IoFault.{IoFault}
 use Rattle.amqp_session.specs.declared.io_fault.IoFault.TheVariants.{Refused}
 use Rattle.amqp_session.specs.declared.misread.Misread.{Misread}
 use Rattle.amqp_session.specs.declared.command.Cmd.{Cmd}
-use Rattle.amqp_session.specs.declared.command.Cmd.TheVariants.{OpenChannel, CloseChannel, CloseConnection, Send, Publish, Flow, DropChannel, DropConnection}
+use Rattle.amqp_session.specs.declared.command.Cmd.TheVariants.{OpenChannel, CloseChannel, CloseConnection, UpdateSecret, Send, Publish, Flow, DropChannel, DropConnection}
 use Rattle.amqp_session.specs.declared.command.ChanRef.{ChanRef}
 use Rattle.amqp_session.specs.declared.command.Answer.TheVariants.{Done}
 use Rattle.amqp_session.specs.declared.server_close.ServerClose.{ServerClose}
@@ -52,14 +52,14 @@ use Rattle.amqp_session.specs.Changes.{next_promise, present_at, fail, lose, mis
 use Rattle.amqp_session.specs.Violations.{misread_error, channel_closed_with, unawaited, stray_channel_frame, stray_connection_method}
 use Rattle.amqp_session.specs.Capacities.{frame_min_size}
 use Rattle.amqp_session.specs.Negotiation.{tune}
-use Rattle.amqp_session.specs.Handshake.{start_ok, tune_ok, open_vhost, close_ok, our_close, channel_open, channel_flow, flow_ok, our_channel_close, channel_close_ok, protocol_header}
+use Rattle.amqp_session.specs.Handshake.{start_ok, tune_ok, open_vhost, close_ok, our_close, new_secret, channel_open, channel_flow, flow_ok, our_channel_close, channel_close_ok, protocol_header}
 use Rattle.amqp_session.specs.Links.{asked, asked_link, linked, link_failed, piece, lost, misread, dropped}
-use Rattle.amqp_session.specs.ConnectionMethods.{connection_rule, on_connection_close, on_start, on_tune, on_open_ok, on_connection_close_ok, connection_closed}
+use Rattle.amqp_session.specs.ConnectionMethods.{connection_rule, on_connection_close, on_start, on_tune, on_open_ok, on_connection_close_ok, connection_closed, secret_taken}
 use Rattle.amqp_session.specs.Channels.{channel_at, set_channel}
 use Rattle.amqp_session.specs.ChannelMethods.{heard_on, unawaited_channel_method, channel_opened, remove_channel, remove_unless_owed, channel_closed, on_channel_flow, channel_flowed, awaits_close_ok, closed_by_server, crossing_close, channel_close_by, channel_rule, channel_method_by, channel_method, raw_by, pass_through, confirmed, hand_out, is_select_ok}
 use Rattle.amqp_session.specs.Frames.{is_unbuilt, is_of_a_channel, method_rule, frame_rule, closed_rule, on_frame}
 use Rattle.amqp_session.specs.Publishing.{method_frame, publish_frames}
-use Rattle.amqp_session.specs.Commands.{command, command_rule, open_drawn, open_as, named, named_in, is_opening, target, target_by, target_in, leave_channel, close_target, leave_connection, drop_target, flow_target, tell_flow, too_long, unless_too_long, queue_send, send, send_target, body_limit, queue_publish, publish, publish_target}
+use Rattle.amqp_session.specs.Commands.{command, command_rule, open_drawn, open_as, named, named_in, is_opening, target, target_by, target_in, leave_channel, close_target, leave_connection, drop_target, flow_target, tell_flow, queue_secret, update_secret, too_long, unless_too_long, queue_send, send, send_target, body_limit, queue_publish, publish, publish_target}
 use Rattle.amqp_session.specs.Ticks.{is_missed, is_due, missing_heartbeat, tick}
 use Rattle.amqp_session.specs.Writing.{flows, writes, next_item, then_of, mark_of, paid_by, pay, follow, sent, sent_among, taken}
 use Rattle.amqp_session.specs.Answers.{answer_of, take_answer, take_frames}
@@ -71,13 +71,13 @@ use Rattle.amqp_session.specs.Decider.{Speech, Stage, MethodSaid, HeaderSaid, St
 use Rattle.amqp_session.proofs.Cases.{if_case, if_by, if-true, and-true}
 use Rattle.amqp_session.proofs.Keeping.{beats-connected, starve-ends, finish-ends, lost-stays}
 use Rattle.amqp_session.proofs.Truths.{append-none, same-number, other-number}
-use Rattle.amqp_session.proofs.Sayable.{IsComplete, say-append, front-said, over-stays, close-said, say-heartbeat, say-our-close, say-flow, say-flow-ok, say-channel-close-ok, say-group, filling}
+use Rattle.amqp_session.proofs.Sayable.{IsComplete, say-append, front-said, over-stays, close-said, say-heartbeat, say-secret, say-our-close, say-flow, say-flow-ok, say-channel-close-ok, say-group, filling}
 use Rattle.amqp_session.proofs.Ties.{frames_in, LeadsTo, first_out, IsReady, IsOfControl, pays, paying, to_pay, unpaid, TiesChannels, IsNew, TiesPhase, TiesActing, Ties, Speaks, IsTied, IsSilent, IsSendable}
 use Rattle.amqp_session.proofs.Ready.{stay-ready, open-ready, others-ready, unused-ready, never-ready, publish-content, publish-ready, pieces-fit}
 use Rattle.amqp_session.proofs.Expecting.{first-by-promise}
 use Rattle.amqp_session.proofs.Paying.{left_in_lane, none-more, one-more, moved-on, sent-off, group-pays-none, pays-own, pays-others, lane-pays-none, others-unpaid, none-unpaid, lane-left}
 use Rattle.amqp_session.proofs.Losing.{Alike, lane-loses}
-use Rattle.amqp_session.proofs.OnChannels.{Listed, Replies, on-alike, on-usages, ties-of, with-content, on-open, on-close, on-send, on-same, on-await-flow, on-flowed, on-opened, left_listed, on-closed, is-used, on-server-close, is-left, on-crossing, none-due, one-due, on-paid, on-paid-gone, listed-some, used-open, all-append, drawn-free}
+use Rattle.amqp_session.proofs.OnChannels.{Listed, Replies, on-alike, on-usages, ties-of, with-content, on-open, on-close, on-send, on-same, on-await-untied, on-answered-untied, on-opened, left_listed, on-closed, is-used, on-server-close, is-left, on-crossing, none-due, one-due, on-paid, on-paid-gone, listed-some, used-open, all-append, drawn-free}
 
 -- what is known of a session: while a link is open, and while one is wanted
 abbrev pub Now : Talk → List Frame → Type 0
@@ -385,20 +385,6 @@ close-ok-ends : (a : Option (Option ℕ)) (t : Talk) → has_ended (connection_c
 close-ok-ends None t = refl
 close-ok-ends (Some promise) t = refl
 
-now-connection : (s : ConnectionState) (p : Phase) (m : AnyMethod) (t : Talk) (g : Frame) (fs : List Frame) → is_open t ≡ true → t.input ≡ input.Acting → t.state ≡ s
-    → Now t (g ∷ fs) → In s p t (g ∷ fs) → Now (connection_rule s p m t) (g ∷ fs)
-now-connection s p (Close code text class method) t g fs o hi hs now h = now-server-close s p t g fs code text o h
-now-connection s p (Blocked reason) t g fs o hi hs now h = now
-now-connection s p Unblocked t g fs o hi hs now h = now
-now-connection Closing p CloseOk t g fs o hi hs now h = now-ended (on_connection_close_ok t) (g ∷ fs) (close-ok-ends (awaited_promise 0 ConnectionClosed t.outbox) t)
-now-connection Closing p m t g fs o hi hs now h = now
-now-connection Connecting AwaitStart (Start a b c d e) t g fs o hi hs now h = now-start t (g ∷ fs) o hi hs h
-now-connection Connecting AwaitTune (Tune a b c) t g fs o hi hs now h = now-tune (record { channel_max = a; frame_max = b; heartbeat = c }) t (g ∷ fs) o hi hs h
-now-connection Connecting AwaitOpenOk OpenOk t g fs o hi hs now h = now-open-ok t (g ∷ fs) o hi h
-now-connection held p m t g fs o hi hs now h = now-lose (InvalidConnectionState held) t (g ∷ fs)
-
--- ---- frames of channels
-
 -- once the connection is open
 now-ties : (t t' : Talk) (fs : List Frame) (v : Speech) → is_open t' ≡ true → t.input ≡ input.Acting → t'.input ≡ t.input → t'.state ≡ Connected
     → frame_min_size ≤ t'.configuration.frame_max → LeadsTo (first_out t'.outbox) fs v → AllByRecursion IsOfControl t'.outbox.control
@@ -411,6 +397,30 @@ now-ties t t' fs v o hi same hs agreed r lane ready ties =
 -- the close-oks of a session that are on their way
 abbrev due_in : Talk → ℕ → ℕ
 due_in t = unpaid t.committed (first_out t.outbox)
+
+-- update-secret-ok came
+now-secret-taken : (promise : Option (Option ℕ)) (p : Phase) (t : Talk) (fs : List Frame) → is_open t ≡ true → t.input ≡ input.Acting → t.state ≡ Connected
+    → In Connected p t fs → Now (secret_taken promise t) fs
+now-secret-taken None p t fs o hi hs h = now-lose (InvalidConnectionState Connected) t fs
+now-secret-taken (Some promise) p t fs o hi hs h =
+    let x : Talk = secret_taken (Some promise) t in
+    now-ties t x fs h.later o hi refl hs (h.agreed refl) h.leads h.lane h.groups
+    (on-answered-untied 0 SecretDone t.channels t.outbox.awaited (due_in t) h.later refl h.ties)
+
+now-connection : (s : ConnectionState) (p : Phase) (m : AnyMethod) (t : Talk) (g : Frame) (fs : List Frame) → is_open t ≡ true → t.input ≡ input.Acting → t.state ≡ s
+    → Now t (g ∷ fs) → In s p t (g ∷ fs) → Now (connection_rule s p m t) (g ∷ fs)
+now-connection s p (Close code text class method) t g fs o hi hs now h = now-server-close s p t g fs code text o h
+now-connection s p (Blocked reason) t g fs o hi hs now h = now
+now-connection s p Unblocked t g fs o hi hs now h = now
+now-connection Closing p CloseOk t g fs o hi hs now h = now-ended (on_connection_close_ok t) (g ∷ fs) (close-ok-ends (awaited_promise 0 ConnectionClosed t.outbox) t)
+now-connection Closing p m t g fs o hi hs now h = now
+now-connection Connecting AwaitStart (Start a b c d e) t g fs o hi hs now h = now-start t (g ∷ fs) o hi hs h
+now-connection Connecting AwaitTune (Tune a b c) t g fs o hi hs now h = now-tune (record { channel_max = a; frame_max = b; heartbeat = c }) t (g ∷ fs) o hi hs h
+now-connection Connecting AwaitOpenOk OpenOk t g fs o hi hs now h = now-open-ok t (g ∷ fs) o hi h
+now-connection Connected p UpdateSecretOk t g fs o hi hs now h = now-secret-taken (awaited_promise 0 SecretDone t.outbox) p t (g ∷ fs) o hi hs h
+now-connection held p m t g fs o hi hs now h = now-lose (InvalidConnectionState held) t (g ∷ fs)
+
+-- ---- frames of channels
 
 now-unawaited : (n : ℕ) (s : ChannelState) (m : AnyMethod) (t : Talk) (fs : List Frame) → Now t fs → Now (unawaited_channel_method n s m t) fs
 now-unawaited n channel.Closing m t fs h = h
@@ -479,7 +489,7 @@ now-flowed n c active None t fs h listed = now-unawaited n c.state (ChannelFlowO
 now-flowed n c active (Some promise) t fs h listed =
     let x : Talk = channel_flowed n c active (Some promise) t in
     now-ties t x fs h.tied.later h.opened h.acting refl h.state (h.tied.agreed refl) h.tied.leads h.tied.lane h.tied.groups
-    (on-flowed n t.channels t.outbox.awaited (due_in t) h.tied.later h.tied.ties)
+    (on-answered-untied n FlowDone t.channels t.outbox.awaited (due_in t) h.tied.later refl h.tied.ties)
 
 -- a lane that lost the frames of a channel
 pub record LeadsOn (n : ℕ) (q : Queued) (fs : List Frame) (v : Speech) : Type 0 where
@@ -826,7 +836,7 @@ now-flow-target (Ok c) r active t fs hs is h =
     (all-append IsOfControl t.outbox.control (item ∷ []) s.lane ((tt, refl), tt))
     (stay-ready s.later v t.outbox.publish s.ties.speaking tt (λ m used. used) s.groups)
     (now-due x (due_in t) v (none-more t.committed t.outbox item tt)
-    (on-await-flow n t.channels t.outbox.awaited (due_in t) v (Some (next_promise t))
+    (on-await-untied n FlowDone t.channels t.outbox.awaited (due_in t) v (Some (next_promise t)) refl
     (with-content t.channels t.outbox.awaited (due_in t) s.later NoContent tt s.ties))))
 
 class-spelled : (m : OtherMethod) → m.class < 2 ^ 16 → class_in (spell_raw_method m) ≡ m.class
@@ -889,6 +899,24 @@ now-publish-target (Err e) r m properties body t fs told hs is h = h
 now-publish-target (Ok c) r m properties body t fs told hs is h =
     now-publish r m properties body c t fs told hs (target-is r word.Publish t (named r t) c refl is) h
 
+-- a new secret may be told at any time while the connection is open
+now-update-secret : (secret reason : List ℕ) (t : Talk) (fs : List Frame) → t.state ≡ Connected → Now t fs → Now (update_secret secret reason t) fs
+now-update-secret secret reason t fs hs h =
+    let f = new_secret secret reason in
+    let item : Item = plain 0 f in
+    let x : Talk = queue_secret f t in
+    now-unless (too_long (f ∷ []) t) (queue_secret f) t fs h
+    (λ fits. now-told t x fs hs refl h
+    (λ o hi s.
+    let v : Speech = record s.later { content = NoContent } in
+    now-ties t x fs v o hi refl hs (s.agreed refl)
+    (pushed t.outbox item fs s.later v s.leads (say-secret secret reason s.later s.ties.speaking s.ties.complete))
+    (all-append IsOfControl t.outbox.control (item ∷ []) s.lane ((tt, refl), tt))
+    (stay-ready s.later v t.outbox.publish s.ties.speaking tt (λ m used. used) s.groups)
+    (now-due x (due_in t) v (none-more t.committed t.outbox item tt)
+    (on-await-untied 0 SecretDone t.channels t.outbox.awaited (due_in t) v (Some (next_promise t)) refl
+    (with-content t.channels t.outbox.awaited (due_in t) s.later NoContent tt s.ties)))))
+
 now-leave-connection : (code : ℕ) (text : List ℕ) (answers : Option ℕ) (t : Talk) (fs : List Frame) → t.state ≡ Connected → Now t fs
     → Now (leave_connection code text answers t) fs
 now-leave-connection code text answers t fs hs h =
@@ -912,6 +940,7 @@ now-command-rule : (s : ConnectionState) (c : Cmd) (t : Talk) (fs : List Frame) 
 now-command-rule Connected OpenChannel t fs told hs h = now-drawn _ t fs hs refl h
 now-command-rule Connected (CloseChannel r code text) t fs told hs h = now-close-target (target r word.ChannelClose t) r code text t fs hs refl h
 now-command-rule Connected (CloseConnection code text) t fs told hs h = now-leave-connection code text (Some (next_promise t)) t fs hs h
+now-command-rule Connected (UpdateSecret secret reason) t fs told hs h = now-update-secret secret reason t fs hs h
 now-command-rule Connected (Send r method) t fs told hs h = now-send-target (target r word.Send t) r method t fs told hs refl h
 now-command-rule Connected (Publish r method properties body) t fs told hs h =
     now-publish-target (target r word.Publish t) r method properties body t fs told hs refl h

@@ -160,14 +160,14 @@ untied-first r (x ∷ list) untied = by (is_of r x) (is_tied x.reply) refl refl 
   by true false hb hc rest = ap (λ c. if c then x.reply ∷ kinds list else kinds list) (sym hc)
   by false c hb hc rest = ap (λ others. if is_tied x.reply then x.reply ∷ others else others) rest
 
--- flow-ok came
-pub flow-answered : (m n : ℕ) (ws : List (ℕ × List Awaited)) → Ascend (keys_of ws) → tied_on m (answered n FlowDone ws) ≡ tied_on m ws
-flow-answered m n ws h =
+pub untied-answered : (m n : ℕ) (r : Reply) (ws : List (ℕ × List Awaited)) → is_tied r ≡ false → Ascend (keys_of ws)
+    → tied_on m (answered n r ws) ≡ tied_on m ws
+untied-answered m n r ws untied h =
     elim (cases_eq m n) [
       | inl is ↦
-          ap (λ k. tied_on k (answered n FlowDone ws)) is ∙ left-same n (without_first (is_of FlowDone) (awaited_on n ws)) ws h
-          ∙ untied-first FlowDone (awaited_on n ws) refl ∙ ap (λ k. tied_on k ws) (sym is)
-      | inr ne ↦ answered-other m n FlowDone ws ne
+          ap (λ k. tied_on k (answered n r ws)) is ∙ left-same n (without_first (is_of r) (awaited_on n ws)) ws h
+          ∙ untied-first r (awaited_on n ws) untied ∙ ap (λ k. tied_on k ws) (sym is)
+      | inr ne ↦ answered-other m n r ws ne
     ]
 
 -- ---- the replies of a channel go

@@ -5,14 +5,14 @@ use Rattle.amqp_frame.specs.declared.frame.Frame.TheVariants.{ProtocolHeader, Me
 use Rattle.amqp_frame.specs.declared.frame.RawKind.{RawKind}
 use Rattle.amqp_frame.specs.declared.frame.RawKind.TheVariants.{RawMethod}
 use Rattle.amqp_frame.specs.declared.method.Method.{Method as AnyMethod}
-use Rattle.amqp_frame.specs.declared.method.Method.TheVariants.{Start, Tune, OpenOk, Close, CloseOk, Blocked, Unblocked, ChannelOpenOk, ChannelClose, ChannelCloseOk, ChannelFlow, ChannelFlowOk}
-use Rattle.amqp_outbox.specs.declared.reply.Reply.TheVariants.{ChannelOpened, ChannelClosed, FlowDone, ConnectionClosed}
+use Rattle.amqp_frame.specs.declared.method.Method.TheVariants.{Start, Tune, OpenOk, Close, CloseOk, Blocked, Unblocked, UpdateSecretOk, ChannelOpenOk, ChannelClose, ChannelCloseOk, ChannelFlow, ChannelFlowOk}
+use Rattle.amqp_outbox.specs.declared.reply.Reply.TheVariants.{ChannelOpened, ChannelClosed, FlowDone, SecretDone, ConnectionClosed}
 use Rattle.amqp_outbox.specs.Queued.{awaited_promise}
 use Rattle.amqp_session.specs.declared.channels.Channel.{Channel}
 use Rattle.amqp_session.specs.declared.channels.Debt.{Debt}
 use Rattle.amqp_session.specs.declared.channels.Debt.TheVariants as debt
 use Rattle.amqp_session.specs.declared.state.ConnectionState.{ConnectionState}
-use Rattle.amqp_session.specs.declared.state.ConnectionState.TheVariants.{Connecting, Closing}
+use Rattle.amqp_session.specs.declared.state.ConnectionState.TheVariants.{Connecting, Connected, Closing}
 use Rattle.amqp_session.specs.declared.state.ChannelState.{ChannelState}
 use Rattle.amqp_session.specs.declared.state.ChannelState.TheVariants as channel
 use Rattle.amqp_session.specs.declared.state.Phase.{Phase}
@@ -24,11 +24,11 @@ use Rattle.amqp_session.specs.Talk.{Talk, hears_on, is_open, is_closing, acts, e
 use Rattle.amqp_session.specs.Changes.{fail, lose, misplaced}
 use Rattle.amqp_session.specs.Links.{misread, dropped}
 use Rattle.amqp_session.specs.Violations.{channel_closed_with, misread_error, stray_channel_frame, stray_connection_method, unawaited}
-use Rattle.amqp_session.specs.ConnectionMethods.{connection_rule, connection_closed}
+use Rattle.amqp_session.specs.ConnectionMethods.{connection_rule, connection_closed, secret_taken}
 use Rattle.amqp_session.specs.Channels.{channel_at}
 use Rattle.amqp_session.specs.ChannelMethods.{heard_on, unawaited_channel_method, channel_opened, channel_closed, channel_flowed, channel_close_by, awaits_close_ok, remove_unless_owed, on_channel_flow, channel_rule, channel_method_by, channel_method, hand_out, confirmed, is_select_ok, pass_through, raw_by}
 use Rattle.amqp_session.specs.Frames.{is_unbuilt, is_of_a_channel, method_rule, frame_rule, closed_rule, on_frame}
-use Rattle.amqp_session.specs.Causes.{IsFrameError, is_awaited, is_due}
+use Rattle.amqp_session.specs.Causes.{IsFrameError, is_awaited, is_due, is_secret_told}
 use Rattle.amqp_session.proofs.Cases.{if_case, if_by, and-true}
 use Rattle.amqp_session.proofs.Ends.{Ends, ends-kept, ends-lose, ends-ok}
 
@@ -72,8 +72,13 @@ ends-connection-closed : (P : ErrorKind → Type 0) (a : Option (Option ℕ)) (t
 ends-connection-closed P None t = ends-ok P t _ refl
 ends-connection-closed P (Some promise) t = ends-ok P t _ refl
 
+ends-secret-taken : (P : ErrorKind → Type 0) (a : Option (Option ℕ)) (t : Talk) → (is_some a ≡ false → P (InvalidConnectionState Connected))
+    → Ends P t (secret_taken a t)
+ends-secret-taken P None t p = ends-lose P _ t t (p refl)
+ends-secret-taken P (Some promise) t p = ends-kept P t _ refl
+
 ends-connection : (P : ErrorKind → Type 0) (s : ConnectionState) (p : Phase) (m : AnyMethod) (t : Talk)
-    → (is_closing s ≡ false → is_due m s p ≡ false → P (InvalidConnectionState s)) → Ends P t (connection_rule s p m t)
+    → (is_closing s ≡ false → is_due m (is_secret_told t) s p ≡ false → P (InvalidConnectionState s)) → Ends P t (connection_rule s p m t)
 ends-connection P s p (Close code text class method) t e = ends-kept P t _ refl
 ends-connection P s p (Blocked reason) t e = ends-kept P t _ refl
 ends-connection P s p Unblocked t e = ends-kept P t _ refl
@@ -82,6 +87,7 @@ ends-connection P Closing p m t e = ends-kept P t t refl
 ends-connection P Connecting AwaitStart (Start a b c d x) t e = ends-kept P t _ refl
 ends-connection P Connecting AwaitTune (Tune a b c) t e = ends-kept P t _ refl
 ends-connection P Connecting AwaitOpenOk OpenOk t e = ends-kept P t _ refl
+ends-connection P Connected p UpdateSecretOk t e = ends-secret-taken P (awaited_promise 0 SecretDone t.outbox) t (e refl)
 ends-connection P held p m t e = ends-lose P _ t t (e refl refl)
 
 ends-channel : (P : ErrorKind → Type 0) (s : ConnectionState) (n : ℕ) (c : Channel) (m : AnyMethod) (t : Talk)

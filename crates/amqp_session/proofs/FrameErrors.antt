@@ -6,12 +6,12 @@ use Rattle.amqp_frame.specs.declared.frame.Frame.TheVariants.{ProtocolHeader, Me
 use Rattle.amqp_frame.specs.declared.frame.RawKind.{RawKind}
 use Rattle.amqp_frame.specs.declared.frame.RawKind.TheVariants.{RawMethod}
 use Rattle.amqp_frame.specs.declared.method.Method.{Method as AnyMethod}
-use Rattle.amqp_frame.specs.declared.method.Method.TheVariants.{Start, Tune, OpenOk, Close, Blocked, Unblocked, ChannelOpenOk, ChannelClose, ChannelCloseOk, ChannelFlow, ChannelFlowOk}
-use Rattle.amqp_outbox.specs.declared.reply.Reply.TheVariants.{ChannelOpened, ChannelClosed, FlowDone}
+use Rattle.amqp_frame.specs.declared.method.Method.TheVariants.{Start, Tune, OpenOk, Close, Blocked, Unblocked, UpdateSecretOk, ChannelOpenOk, ChannelClose, ChannelCloseOk, ChannelFlow, ChannelFlowOk}
+use Rattle.amqp_outbox.specs.declared.reply.Reply.TheVariants.{ChannelOpened, ChannelClosed, FlowDone, SecretDone}
 use Rattle.amqp_outbox.specs.Queued.{awaited_promise}
 use Rattle.amqp_session.specs.declared.channels.Channel.{Channel}
 use Rattle.amqp_session.specs.declared.state.ConnectionState.{ConnectionState}
-use Rattle.amqp_session.specs.declared.state.ConnectionState.TheVariants.{Connecting, Closing}
+use Rattle.amqp_session.specs.declared.state.ConnectionState.TheVariants.{Connecting, Connected, Closing}
 use Rattle.amqp_session.specs.declared.state.ChannelState.{ChannelState}
 use Rattle.amqp_session.specs.declared.state.ChannelState.TheVariants as channel
 use Rattle.amqp_session.specs.declared.state.Link.{Link}
@@ -23,11 +23,11 @@ use Rattle.amqp_session.specs.declared.error.ErrorKind.TheVariants.{InvalidProto
 use Rattle.amqp_session.specs.Talk.{Talk, hears_on, is_open, is_open_link, is_acting, is_closing, acts, end_of, end_of_link}
 use Rattle.amqp_session.specs.Changes.{fail, lose, misplaced}
 use Rattle.amqp_session.specs.Violations.{stray_channel_frame, stray_connection_method, unawaited}
-use Rattle.amqp_session.specs.ConnectionMethods.{connection_rule}
+use Rattle.amqp_session.specs.ConnectionMethods.{connection_rule, secret_taken}
 use Rattle.amqp_session.specs.Channels.{channel_at}
 use Rattle.amqp_session.specs.ChannelMethods.{heard_on, unawaited_channel_method, channel_opened, channel_closed, channel_flowed, channel_rule, channel_method_by, channel_method, raw_by, raw_frame}
 use Rattle.amqp_session.specs.Frames.{is_unbuilt, is_of_a_channel, method_rule, frame_rule, closed_rule, on_frame}
-use Rattle.amqp_session.specs.Causes.{IsFrameError, IsJudgedError, IsMisplaced, IsUnawaited, IsOfChannel, IsUndue, IsUnheard, IsKept, is_awaited, is_due, is_judged}
+use Rattle.amqp_session.specs.Causes.{IsFrameError, IsJudgedError, IsMisplaced, IsUnawaited, IsOfChannel, IsUndue, IsUnheard, IsKept, is_awaited, is_due, is_secret_told, is_judged}
 use Rattle.amqp_session.proofs.Cases.{if-true, if-false}
 use Rattle.amqp_session.proofs.Truths.{and-left}
 use Rattle.amqp_session.proofs.FrameEnds.{ends-frame}
@@ -35,7 +35,11 @@ use Rattle.amqp_session.proofs.FrameEnds.{ends-frame}
 misplaced-ends : (e : ErrorKind) (t : Talk) → is_closing t.state ≡ false → end_of (misplaced e t) ≡ Some (Err e)
 misplaced-ends e t going = ap end_of (if-false (is_closing t.state) t (lose e t) going)
 
-undue-ends : (s : ConnectionState) (p : Phase) (m : AnyMethod) (t : Talk) → is_closing s ≡ false → is_due m s p ≡ false
+secret-ends : (a : Option (Option ℕ)) (t : Talk) → is_some a ≡ false → end_of (secret_taken a t) ≡ Some (Err (InvalidConnectionState Connected))
+secret-ends None t free = refl
+secret-ends (Some promise) t free = cc
+
+undue-ends : (s : ConnectionState) (p : Phase) (m : AnyMethod) (t : Talk) → is_closing s ≡ false → is_due m (is_secret_told t) s p ≡ false
     → end_of (connection_rule s p m t) ≡ Some (Err (InvalidConnectionState s))
 undue-ends s p (Close code text class method) t going undue = cc
 undue-ends s p (Blocked reason) t going undue = cc
@@ -44,6 +48,7 @@ undue-ends Closing p m t going undue = cc
 undue-ends Connecting AwaitStart (Start a b c d e) t going undue = cc
 undue-ends Connecting AwaitTune (Tune a b c) t going undue = cc
 undue-ends Connecting AwaitOpenOk OpenOk t going undue = cc
+undue-ends Connected p UpdateSecretOk t going undue = secret-ends (awaited_promise 0 SecretDone t.outbox) t undue
 undue-ends s p m t going undue = refl
 
 unheard : (s : ConnectionState) (o : Option Channel) → (o ≡ None) ⊎ (s ≡ Connecting) → heard_on s o ≡ None
@@ -96,7 +101,7 @@ going : (a : Bool) → not a ≡ true → a ≡ false
 going true h = cc
 going false h = refl
 
-undue-method : (m : AnyMethod) (place : ℕ) (t : Talk) → is_closing t.state ≡ false → is_unbuilt m ≡ false → is_of_a_channel m ≡ false → is_due m t.state t.phase ≡ false
+undue-method : (m : AnyMethod) (place : ℕ) (t : Talk) → is_closing t.state ≡ false → is_unbuilt m ≡ false → is_of_a_channel m ≡ false → is_due m (is_secret_told t) t.state t.phase ≡ false
     → end_of (frame_rule (Method zero m) place t) ≡ Some (Err (InvalidConnectionState t.state))
 undue-method m place t on built of undue =
     ap end_of (method-is zero m place t built)

@@ -6,9 +6,9 @@ use Rattle.amqp_frame.specs.declared.frame.Frame.{Frame}
 use Rattle.amqp_frame.specs.declared.frame.Frame.TheVariants.{ProtocolHeader, Method, Raw, Heartbeat}
 use Rattle.amqp_frame.specs.declared.frame.RawKind.{RawKind}
 use Rattle.amqp_frame.specs.declared.method.Method.{Method as AnyMethod}
-use Rattle.amqp_frame.specs.declared.method.Method.TheVariants.{Start, Tune, OpenOk, Close, CloseOk, Blocked, Unblocked, ChannelOpenOk, ChannelClose, ChannelCloseOk, ChannelFlow, ChannelFlowOk}
+use Rattle.amqp_frame.specs.declared.method.Method.TheVariants.{Start, Tune, OpenOk, Close, CloseOk, Blocked, Unblocked, UpdateSecretOk, ChannelOpenOk, ChannelClose, ChannelCloseOk, ChannelFlow, ChannelFlowOk}
 use Rattle.amqp_frame.specs.RawMethods.{OtherMethod}
-use Rattle.amqp_outbox.specs.declared.reply.Reply.TheVariants.{ChannelOpened, ChannelClosed, FlowDone, ConnectionClosed}
+use Rattle.amqp_outbox.specs.declared.reply.Reply.TheVariants.{ChannelOpened, ChannelClosed, FlowDone, SecretDone, ConnectionClosed}
 use Rattle.amqp_outbox.specs.Queued.{Queued, awaited_promise, answered}
 use Rattle.amqp_session.specs.declared.channels.Channel.{Channel}
 use Rattle.amqp_session.specs.declared.channels.Debt.{Debt}
@@ -28,7 +28,7 @@ use Rattle.amqp_session.specs.declared.server_close.ServerClose.{ServerClose}
 use Rattle.amqp_session.specs.declared.server_close.ServerClose.TheVariants.{WithoutError, WithError}
 use Rattle.amqp_session.specs.declared.misread.Misread.{Misread}
 use Rattle.amqp_session.specs.declared.command.Cmd.{Cmd}
-use Rattle.amqp_session.specs.declared.command.Cmd.TheVariants.{OpenChannel, CloseChannel, CloseConnection, Send, Publish, Flow, DropChannel, DropConnection}
+use Rattle.amqp_session.specs.declared.command.Cmd.TheVariants.{OpenChannel, CloseChannel, CloseConnection, UpdateSecret, Send, Publish, Flow, DropChannel, DropConnection}
 use Rattle.amqp_session.specs.declared.command.Answer.{Answer as AnyAnswer}
 use Rattle.amqp_session.specs.declared.command.Answer.TheVariants.{Done}
 use Rattle.amqp_session.specs.declared.error.ErrorKind.{ErrorKind}
@@ -37,12 +37,13 @@ use Rattle.amqp_session.specs.Talk.{Talk, has_ended, hears_on, is_open, is_closi
 use Rattle.amqp_session.specs.Changes.{Promises, present_at, queue, refuse, give_to, fail, lose, misplaced, close, finish, finish_by, starve}
 use Rattle.amqp_session.specs.Links.{dropped, lost, misread}
 use Rattle.amqp_session.specs.Violations.{channel_closed_with, misread_error}
-use Rattle.amqp_session.specs.ConnectionMethods.{connection_rule, connection_closed}
+use Rattle.amqp_session.specs.Handshake.{new_secret}
+use Rattle.amqp_session.specs.ConnectionMethods.{connection_rule, connection_closed, secret_taken}
 use Rattle.amqp_session.specs.Channels.{channel_at}
 use Rattle.amqp_session.specs.ChannelMethods.{heard_on, unawaited_channel_method, channel_opened, channel_closed, channel_flowed, channel_close_by, awaits_close_ok, remove_unless_owed, on_channel_flow, channel_rule, channel_method_by, channel_method, hand_out, confirmed, is_select_ok, pass_through, raw_by}
 use Rattle.amqp_session.specs.Frames.{is_unbuilt, is_of_a_channel, method_rule, frame_rule, closed_rule, on_frame}
 use Rattle.amqp_session.specs.Publishing.{method_frame, publish_frames}
-use Rattle.amqp_session.specs.Commands.{open_drawn, close_target, drop_target, flow_target, too_long, unless_too_long, queue_send, send_target, body_limit, queue_publish, publish_target, command, command_rule}
+use Rattle.amqp_session.specs.Commands.{open_drawn, close_target, drop_target, flow_target, queue_secret, update_secret, too_long, unless_too_long, queue_send, send_target, body_limit, queue_publish, publish_target, command, command_rule}
 use Rattle.amqp_session.specs.Ticks.{is_connected, beats, is_missed, is_due, missing_heartbeat, tick}
 use Rattle.amqp_session.specs.Writing.{left_in, paid_by, pay, follow, sent, sent_among, taken}
 use Rattle.amqp_session.specs.Negotiation.{grown_capacity}
@@ -117,6 +118,10 @@ keeps-connection-closed (Some promise) t =
     keeps-close t.capacity t _ (keeps-give_to promise (Ok Done) t.capacity t
     (record t { outbox = answered 0 ConnectionClosed t.outbox }) (record { committed = refl; capacity = refl; link = inl refl }))
 
+keeps-secret-taken : (o : Option (Option ℕ)) (t : Talk) → Keeps t.capacity t (secret_taken o t)
+keeps-secret-taken None t = keeps-lose _ t
+keeps-secret-taken (Some promise) t = keeps-give_to promise (Ok Done) t.capacity t _ (record { committed = refl; capacity = refl; link = inl refl })
+
 -- the capacity once a method of the connection class was read: open-ok makes it greater
 abbrev pub capacity_by : AnyMethod → ConnectionState → Phase → Talk → ℕ
 capacity_by OpenOk Connecting AwaitOpenOk t = grown_capacity t
@@ -131,6 +136,7 @@ keeps-connection Closing p m t = keeps-none t
 keeps-connection Connecting AwaitStart (Start a b c d e) t = record { committed = refl; capacity = refl; link = inl refl }
 keeps-connection Connecting AwaitTune (Tune a b c) t = record { committed = refl; capacity = refl; link = inl refl }
 keeps-connection Connecting AwaitOpenOk OpenOk t = record { committed = refl; capacity = refl; link = inl refl }
+keeps-connection Connected p UpdateSecretOk t = keeps-secret-taken (awaited_promise 0 SecretDone t.outbox) t
 keeps-connection held p m t = keeps-lose _ t
 
 keeps-misplaced : (e : ErrorKind) (t : Talk) → Keeps t.capacity t (misplaced e t)
@@ -328,6 +334,12 @@ stays-send (Ok c) n m t =
     stays-unless (too_long (frame ∷ []) t) (queue_send n frame) t
     (record { link = refl; committed = refl; configuration = refl; capacity = refl; input = refl; server_close = refl })
 
+stays-update-secret : (secret reason : List ℕ) (t : Talk) → Stays t (update_secret secret reason t)
+stays-update-secret secret reason t =
+    let frame = new_secret secret reason in
+    stays-unless (too_long (frame ∷ []) t) (queue_secret frame) t
+    (record { link = refl; committed = refl; configuration = refl; capacity = refl; input = refl; server_close = refl })
+
 stays-publish : (r : Result Channel ErrorKind) (n : ℕ) (m : OtherMethod) (properties body : List ℕ) (t : Talk)
     → Stays t (publish_target r n m properties body t)
 stays-publish (Err e) n m properties body t = stays-refuse e t
@@ -340,6 +352,7 @@ stays-rule : (s : ConnectionState) (c : Cmd) (t : Talk) → Stays t (command_rul
 stays-rule Connected OpenChannel t = stays-drawn _ _ t
 stays-rule Connected (CloseChannel r code text) t = stays-close _ r.id code text t
 stays-rule Connected (CloseConnection code text) t = record { link = refl; committed = refl; configuration = refl; capacity = refl; input = refl; server_close = refl }
+stays-rule Connected (UpdateSecret secret reason) t = stays-update-secret secret reason t
 stays-rule Connected (Send r method) t = stays-send _ r.id method t
 stays-rule Connected (Publish r method properties body) t = stays-publish _ r.id method properties body t
 stays-rule Connected (Flow r active) t = stays-flow _ r.id active t

@@ -11,7 +11,7 @@ use Rattle.amqp_frame.specs.declared.method.Method.{Method as AnyMethod}
 use Rattle.amqp_frame.specs.declared.method.Method.TheVariants.{ChannelOpen, ChannelClose}
 use Rattle.amqp_outbox.specs.declared.reply.Awaited.{Awaited}
 use Rattle.amqp_outbox.specs.declared.reply.Reply.{Reply}
-use Rattle.amqp_outbox.specs.declared.reply.Reply.TheVariants.{ChannelOpened, ChannelClosed, FlowDone}
+use Rattle.amqp_outbox.specs.declared.reply.Reply.TheVariants.{ChannelOpened, ChannelClosed}
 use Rattle.amqp_outbox.specs.Replies.{method_of, expected, first_awaited, answered}
 use Rattle.amqp_outbox.specs.Queued.{Queued, awaited_promise}
 use Rattle.amqp_session.specs.declared.channels.Channel.{Channel}
@@ -31,8 +31,8 @@ use Rattle.amqp_session.proofs.Sayable.{IsComplete, say-on, say-raw}
 use Rattle.amqp_session.specs.Sound.{AscendFrom, Ascend}
 use Rattle.amqp_session.proofs.Ascending.{put-from, without-from, without-ascends, at-gone, none-below}
 use Rattle.amqp_session.proofs.Numbered.{put-same, put-other, without-other}
-use Rattle.amqp_session.proofs.Ties.{tied_on, owing, TiesClosing, TiesState, TiesOn, TiesChannels}
-use Rattle.amqp_session.proofs.Expecting.{expected-same, expected-other, expected-ascend, answered-other, answered-ascend, none-awaited, one-answered, first-by-test, one-awaited, flow-answered, gone-same, gone-other}
+use Rattle.amqp_session.proofs.Ties.{is_tied, tied_on, owing, TiesClosing, TiesState, TiesOn, TiesChannels}
+use Rattle.amqp_session.proofs.Expecting.{expected-same, expected-other, expected-ascend, answered-other, answered-ascend, none-awaited, one-answered, first-by-test, one-awaited, untied-answered, gone-same, gone-other}
 
 -- the awaited replies, by channel
 abbrev pub Replies : Type 0
@@ -281,24 +281,27 @@ on-same n cs ws due v c c' listed is owes h =
       used = λ m ne. refl;
     })
 
--- flow-ok is awaited, and it came
-pub on-await-flow : (n : ℕ) (cs : Listed) (ws : Replies) (due : ℕ → ℕ) (v : Speech) (promise : Option ℕ) → TiesChannels cs ws due v
-    → TiesChannels cs (expected n (record { reply = FlowDone; promise = promise }) ws) due v
-on-await-flow n cs ws due v promise h =
-    let a : Awaited = record { reply = FlowDone; promise = promise } in
+-- a reply that ties no channel is awaited, and it came
+pub on-await-untied : (n : ℕ) (reply : Reply) (cs : Listed) (ws : Replies) (due : ℕ → ℕ) (v : Speech) (promise : Option ℕ) → is_tied reply ≡ false → TiesChannels cs ws due v
+    → TiesChannels cs (expected n (record { reply = reply; promise = promise }) ws) due v
+on-await-untied n reply cs ws due v promise untied h =
+    let a : Awaited = record { reply = reply; promise = promise } in
     on-alike cs ws (expected n a ws) due due v (expected-ascend n a ws h.awaited_sorted)
     (λ m.
     elim (cases_eq m n) [
       | inl is ↦
-          ap (λ k. tied_on k (expected n a ws)) is ∙ expected-same n a ws ∙ append-none (tied_on n ws)
+          ap (λ k. tied_on k (expected n a ws)) is ∙ expected-same n a ws
+          ∙ ap (λ b. tied_on n ws ++ (if b then reply ∷ [] else [])) untied ∙ append-none (tied_on n ws)
           ∙ ap (λ k. tied_on k ws) (sym is)
       | inr ne ↦ expected-other m n a ws ne
     ])
     (λ m. refl) h
 
-pub on-flowed : (n : ℕ) (cs : Listed) (ws : Replies) (due : ℕ → ℕ) (v : Speech) → TiesChannels cs ws due v → TiesChannels cs (answered n FlowDone ws) due v
-on-flowed n cs ws due v h =
-    on-alike cs ws (answered n FlowDone ws) due due v (answered-ascend n FlowDone ws h.awaited_sorted) (λ m. flow-answered m n ws h.awaited_sorted) (λ m. refl) h
+pub on-answered-untied : (n : ℕ) (reply : Reply) (cs : Listed) (ws : Replies) (due : ℕ → ℕ) (v : Speech) → is_tied reply ≡ false → TiesChannels cs ws due v
+    → TiesChannels cs (answered n reply ws) due v
+on-answered-untied n reply cs ws due v untied h =
+    on-alike cs ws (answered n reply ws) due due v (answered-ascend n reply ws h.awaited_sorted)
+    (λ m. untied-answered m n reply ws untied h.awaited_sorted) (λ m. refl) h
 
 -- ---- open-ok and close-ok
 

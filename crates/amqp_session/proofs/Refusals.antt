@@ -7,7 +7,7 @@ use Rattle.amqp_frame.specs.declared.frame.Frame.{Frame}
 use Rattle.amqp_outbox.specs.Queued.{is_on}
 use Rattle.amqp_session.specs.declared.channels.Channel.{Channel}
 use Rattle.amqp_session.specs.declared.command.Cmd.{Cmd}
-use Rattle.amqp_session.specs.declared.command.Cmd.TheVariants.{OpenChannel, CloseChannel, CloseConnection, Send, Publish, Flow, DropChannel, DropConnection}
+use Rattle.amqp_session.specs.declared.command.Cmd.TheVariants.{OpenChannel, CloseChannel, CloseConnection, UpdateSecret, Send, Publish, Flow, DropChannel, DropConnection}
 use Rattle.amqp_session.specs.declared.state.ConnectionState.{ConnectionState}
 use Rattle.amqp_session.specs.declared.state.ConnectionState.TheVariants.{Connected, Closing}
 use Rattle.amqp_session.specs.declared.state.ChannelState.TheVariants as channel
@@ -17,7 +17,8 @@ use Rattle.amqp_session.specs.Listed.{at, put}
 use Rattle.amqp_session.specs.Talk.{Talk}
 use Rattle.amqp_session.specs.Changes.{Promises, rejected, refuse}
 use Rattle.amqp_session.specs.Publishing.{method_frame, publish_frames}
-use Rattle.amqp_session.specs.Commands.{takes_promise, open_drawn, open_none, close_target, flow_target, too_long, unless_too_long, queue_send, send_target, body_limit, queue_publish, publish_target, command, command_rule}
+use Rattle.amqp_session.specs.Handshake.{new_secret}
+use Rattle.amqp_session.specs.Commands.{takes_promise, open_drawn, open_none, close_target, flow_target, queue_secret, update_secret, too_long, unless_too_long, queue_send, send_target, body_limit, queue_publish, publish_target, command, command_rule}
 use Rattle.amqp_session.specs.Laws.{IsRefusal, IsAnsweredAtOnce}
 use Rattle.amqp_session.proofs.Numbered.{put-same}
 
@@ -66,6 +67,11 @@ told-send (Err e') n m e t = told-refuse e' e t
 told-send (Ok c) n m e t =
     told-unless (too_long (method_frame n m ∷ []) t) (queue_send n (method_frame n m)) e t (told-waits t e _ t.promises refl)
 
+told-secret : (secret reason : List ℕ) (e : ErrorKind) (t : Talk) → Told t e (update_secret secret reason t)
+told-secret secret reason e t =
+    let frame = new_secret secret reason in
+    told-unless (too_long (frame ∷ []) t) (queue_secret frame) e t (told-waits t e _ t.promises refl)
+
 told-publish : (r : Result Channel ErrorKind) (n : ℕ) (m : OtherMethod) (properties body : List ℕ) (e : ErrorKind) (t : Talk)
     → Told t e (publish_target r n m properties body t)
 told-publish (Err e') n m properties body e t = told-refuse e' e t
@@ -82,6 +88,7 @@ told-rule Connected OpenChannel e t takes = told-drawn _ _ e t
 told-rule Connected (CloseChannel r code text) e t takes = told-close _ r.id code text e t
 told-rule Connected (CloseConnection code text) e t takes =
     told-waits t e _ (rejected (InvalidConnectionState Closing) t.outbox.publish t.promises) refl
+told-rule Connected (UpdateSecret secret reason) e t takes = told-secret secret reason e t
 told-rule Connected (Send r method) e t takes = told-send _ r.id method e t
 told-rule Connected (Publish r method properties body) e t takes = told-publish _ r.id method properties body e t
 told-rule Connected (Flow r active) e t takes = told-flow _ r.id active e t

@@ -12,10 +12,10 @@ use Rattle.amqp_frame.specs.declared.frame.Frame.{Frame}
 use Rattle.amqp_frame.specs.declared.frame.Frame.TheVariants.{ProtocolHeader, Method, Raw, Heartbeat}
 use Rattle.amqp_frame.specs.declared.frame.RawKind.{RawKind}
 use Rattle.amqp_frame.specs.declared.method.Method.{Method as AnyMethod}
-use Rattle.amqp_frame.specs.declared.method.Method.TheVariants.{Start, Tune, OpenOk, Close, CloseOk, Blocked, Unblocked, ChannelOpenOk, ChannelClose, ChannelCloseOk, ChannelFlow, ChannelFlowOk}
+use Rattle.amqp_frame.specs.declared.method.Method.TheVariants.{Start, Tune, OpenOk, Close, CloseOk, Blocked, Unblocked, UpdateSecretOk, ChannelOpenOk, ChannelClose, ChannelCloseOk, ChannelFlow, ChannelFlowOk}
 use Rattle.amqp_frame.specs.RawMethods.{OtherMethod}
 use Rattle.amqp_outbox.specs.declared.item.Item.{Item}
-use Rattle.amqp_outbox.specs.declared.reply.Reply.TheVariants.{ChannelOpened, ChannelClosed, FlowDone, ConnectionClosed}
+use Rattle.amqp_outbox.specs.declared.reply.Reply.TheVariants.{ChannelOpened, ChannelClosed, FlowDone, SecretDone, ConnectionClosed}
 use Rattle.amqp_outbox.specs.Items.{plain, promised, group_of, promise_of}
 use Rattle.amqp_outbox.specs.Queued.{Queued, waiting_items, pushed_control, pushed_group, awaited_promise, answered, is_on}
 use Rattle.amqp_session.specs.declared.channels.Channel.{Channel}
@@ -37,7 +37,7 @@ use Rattle.amqp_session.specs.declared.configuration.Configuration.{Configuratio
 use Rattle.amqp_session.specs.declared.server_close.ServerClose.{ServerClose}
 use Rattle.amqp_session.specs.declared.server_close.ServerClose.TheVariants.{WithoutError, WithError}
 use Rattle.amqp_session.specs.declared.command.Cmd.{Cmd}
-use Rattle.amqp_session.specs.declared.command.Cmd.TheVariants.{OpenChannel, CloseChannel, CloseConnection, Send, Publish, Flow, DropChannel, DropConnection}
+use Rattle.amqp_session.specs.declared.command.Cmd.TheVariants.{OpenChannel, CloseChannel, CloseConnection, UpdateSecret, Send, Publish, Flow, DropChannel, DropConnection}
 use Rattle.amqp_session.specs.declared.command.Answer.{Answer as AnyAnswer}
 use Rattle.amqp_session.specs.declared.command.Answer.TheVariants.{Connected as AnswerConnected, Done, Sent}
 use Rattle.amqp_session.specs.declared.command.ChanRef.{ChanRef}
@@ -50,16 +50,16 @@ use Rattle.amqp_session.specs.Config.{Config}
 use Rattle.amqp_session.specs.Talk.{Talk, start, acts, hears_on, has_ended, is_acting, is_asked, is_closing, is_open, is_open_link, end_of_link}
 use Rattle.amqp_session.specs.Changes.{Promises, present_at, queue, starve, next_promise, refuse, give, give_to, rejected, rejected_each, promises_on, replies_on, without_all_on, drop_replies_of, fail, lose, misplaced, close, finish, finish_by, settled_by, settled_to, promise}
 use Rattle.amqp_session.specs.Links.{asked, asked_link, linked, link_failed, piece, dropped, misread, lost}
-use Rattle.amqp_session.specs.Handshake.{close_ok, start_ok, tune_ok, open_vhost, our_close, channel_open, channel_flow, flow_ok, channel_close_ok, our_channel_close}
+use Rattle.amqp_session.specs.Handshake.{close_ok, start_ok, tune_ok, open_vhost, our_close, new_secret, channel_open, channel_flow, flow_ok, channel_close_ok, our_channel_close}
 use Rattle.amqp_session.specs.Negotiation.{lesser_wish, wish_or, tune}
 use Rattle.amqp_session.specs.Numbering.{first_number, drawn}
 use Rattle.amqp_session.specs.Violations.{channel_closed_with, misread_error}
-use Rattle.amqp_session.specs.ConnectionMethods.{connection_rule, connection_closed}
+use Rattle.amqp_session.specs.ConnectionMethods.{connection_rule, connection_closed, secret_taken}
 use Rattle.amqp_session.specs.Channels.{channel_at, set_channel, closing}
 use Rattle.amqp_session.specs.ChannelMethods.{heard_on, unawaited_channel_method, channel_opened, channel_closed, channel_flowed, channel_close_by, awaits_close_ok, remove_unless_owed, on_channel_flow, channel_rule, channel_method_by, channel_method, hand_out, confirmed, is_select_ok, pass_through, raw_by}
 use Rattle.amqp_session.specs.Publishing.{method_frame, publish_frames}
 use Rattle.amqp_session.specs.Frames.{is_unbuilt, is_of_a_channel, method_rule, frame_rule, closed_rule, on_frame}
-use Rattle.amqp_session.specs.Commands.{is_opening, named_in, named, target_in, target_by, target, open_drawn, leave_channel, leave_connection, close_target, drop_target, flow_target, too_long, unless_too_long, queue_send, send_target, body_limit, queue_publish, publish_target, command, command_rule}
+use Rattle.amqp_session.specs.Commands.{is_opening, named_in, named, target_in, target_by, target, open_drawn, leave_channel, leave_connection, close_target, drop_target, flow_target, queue_secret, update_secret, too_long, unless_too_long, queue_send, send_target, body_limit, queue_publish, publish_target, command, command_rule}
 use Rattle.amqp_session.specs.Writing.{committed_as, next_within, commit, overlong, end_overlong, next_frame, paid_by, pay, follow, sent, sent_among, taken}
 use Rattle.amqp_session.specs.Ticks.{is_missed, is_due, missing_heartbeat, tick}
 use Rattle.amqp_session.specs.Answers.{answer_of, take_answer, take_frames}
@@ -293,6 +293,10 @@ sound-connection-closed None t s = sound-close t s
 sound-connection-closed (Some promise) t s =
     sound-close _ (sound-give_to promise (Ok Done) _ (record { link = s.link; room = s.room; acting = s.acting; finish = s.finish; listed = s.listed; promises = s.promises }))
 
+sound-secret-taken : (a : Option (Option ℕ)) (t : Talk) → IsSound t → IsSound (secret_taken a t)
+sound-secret-taken None t s = sound-fail _ t s
+sound-secret-taken (Some promise) t s = sound-give_to promise (Ok Done) _ (record { link = s.link; room = s.room; acting = s.acting; finish = s.finish; listed = s.listed; promises = s.promises })
+
 sound-connection : (state : ConnectionState) (p : Phase) (m : AnyMethod) (t : Talk) → t.state ≡ state → t.phase ≡ p → is_open t ≡ true
     → is_acting t.input ≡ true → IsSound t → IsSound (connection_rule state p m t)
 sound-connection state p (Close code text class method) t hs hp opened acting s =
@@ -342,6 +346,7 @@ sound-connection Connecting AwaitOpenOk OpenOk t hs hp opened acting s =
       listed = s.listed;
       promises = given.promises;
     }
+sound-connection Connected p UpdateSecretOk t hs hp opened acting s = sound-secret-taken (awaited_promise 0 SecretDone t.outbox) t s
 sound-connection held p m t hs hp opened acting s = sound-fail _ t s
 
 -- ---- frames
@@ -517,6 +522,19 @@ sound-send (Ok c) n m t acting s =
       promises = one-more t.made None t.promises s.promises;
     })
 
+sound-update-secret : (secret reason : List ℕ) (t : Talk) → is_acting t.input ≡ true → IsSound t → IsSound (update_secret secret reason t)
+sound-update-secret secret reason t acting s =
+    let frame = new_secret secret reason in
+    sound-unless (too_long (frame ∷ []) t) (queue_secret frame) t s
+    (record {
+      link = s.link;
+      room = s.room;
+      acting = s.acting;
+      finish = queue-finishes t.input t.committed t.outbox (plain 0 frame) acting refl s.finish;
+      listed = s.listed;
+      promises = one-more t.made None t.promises s.promises;
+    })
+
 sound-publish : (r : Result Channel ErrorKind) (n : ℕ) (m : OtherMethod) (properties body : List ℕ) (t : Talk) → is_acting t.input ≡ true → IsSound t
     → IsSound (publish_target r n m properties body t)
 sound-publish (Err e) n m properties body t acting s = sound-refuse e t s
@@ -593,6 +611,7 @@ sound-command-rule Connected (CloseChannel r code text) t hs s =
     (acts-on Connected t hs refl s) s
 sound-command-rule Connected (CloseConnection code text) t hs s =
     sound-promise _ (sound-leave-connection code text (Some (next_promise t)) t hs s)
+sound-command-rule Connected (UpdateSecret secret reason) t hs s = sound-update-secret secret reason t (acts-on Connected t hs refl s) s
 sound-command-rule Connected (Send r method) t hs s = sound-send (target r word.Send t) r.id method t (acts-on Connected t hs refl s) s
 sound-command-rule Connected (Publish r method properties body) t hs s =
     sound-publish (target r word.Publish t) r.id method properties body t (acts-on Connected t hs refl s) s

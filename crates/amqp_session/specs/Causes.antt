@@ -4,13 +4,13 @@ use Rattle.amqp_frame.specs.declared.frame.Frame.{Frame}
 use Rattle.amqp_frame.specs.declared.frame.Frame.TheVariants.{ProtocolHeader, Method, Raw}
 use Rattle.amqp_frame.specs.declared.frame.RawKind.TheVariants.{RawMethod}
 use Rattle.amqp_frame.specs.declared.method.Method.{Method as AnyMethod}
-use Rattle.amqp_frame.specs.declared.method.Method.TheVariants.{Start, Tune, OpenOk, Close, Blocked, Unblocked, ChannelOpenOk, ChannelFlow, ChannelFlowOk, ChannelClose, ChannelCloseOk}
-use Rattle.amqp_outbox.specs.declared.reply.Reply.TheVariants.{ChannelOpened, ChannelClosed, FlowDone}
+use Rattle.amqp_frame.specs.declared.method.Method.TheVariants.{Start, Tune, OpenOk, Close, Blocked, Unblocked, UpdateSecretOk, ChannelOpenOk, ChannelFlow, ChannelFlowOk, ChannelClose, ChannelCloseOk}
+use Rattle.amqp_outbox.specs.declared.reply.Reply.TheVariants.{ChannelOpened, ChannelClosed, FlowDone, SecretDone}
 use Rattle.amqp_outbox.specs.Queued.{awaited_promise}
 use Rattle.amqp_session.specs.declared.channels.Channel.{Channel}
 use Rattle.amqp_session.specs.declared.state.ChannelState.TheVariants as channel
 use Rattle.amqp_session.specs.declared.state.ConnectionState.{ConnectionState}
-use Rattle.amqp_session.specs.declared.state.ConnectionState.TheVariants.{Connecting}
+use Rattle.amqp_session.specs.declared.state.ConnectionState.TheVariants.{Connecting, Connected}
 use Rattle.amqp_session.specs.declared.state.Phase.{Phase}
 use Rattle.amqp_session.specs.declared.state.Phase.TheVariants.{AwaitStart, AwaitTune, AwaitOpenOk}
 use Rattle.amqp_session.specs.declared.error.ErrorKind.{ErrorKind}
@@ -22,20 +22,25 @@ use Rattle.amqp_session.specs.Violations.{stray_channel_frame, stray_connection_
 
 -- ---- the connection
 
--- a method of the connection class that is due before our close: what the handshake awaits; the server may close, block
--- and unblock at any time
-abbrev pub is_due : AnyMethod → ConnectionState → Phase → Bool
-is_due (Close code text class method) state phase = true
-is_due (Blocked reason) state phase = true
-is_due Unblocked state phase = true
-is_due (Start major minor properties mechanisms locales) Connecting AwaitStart = true
-is_due (Tune channel_max frame_max heartbeat) Connecting AwaitTune = true
-is_due OpenOk Connecting AwaitOpenOk = true
-is_due _ state phase = false
+-- a new secret was told that the server did not answer yet
+abbrev pub is_secret_told : Talk → Bool
+is_secret_told t = is_some (awaited_promise 0 SecretDone t.outbox)
+
+-- a method of the connection class that is due before our close: what the handshake awaits, and what a new secret
+-- awaits, where one was told; the server may close, block and unblock at any time
+abbrev pub is_due : AnyMethod → Bool → ConnectionState → Phase → Bool
+is_due (Close code text class method) told state phase = true
+is_due (Blocked reason) told state phase = true
+is_due Unblocked told state phase = true
+is_due (Start major minor properties mechanisms locales) told Connecting AwaitStart = true
+is_due (Tune channel_max frame_max heartbeat) told Connecting AwaitTune = true
+is_due OpenOk told Connecting AwaitOpenOk = true
+is_due UpdateSecretOk told Connected phase = told
+is_due _ told state phase = false
 
 -- a method of the connection class that is not due
 abbrev pub IsUndue : Frame → Talk → Type 0
-IsUndue (Method zero m) t = IsFalse (is_of_a_channel m) × IsFalse (is_due m t.state t.phase)
+IsUndue (Method zero m) t = IsFalse (is_of_a_channel m) × IsFalse (is_due m (is_secret_told t) t.state t.phase)
 IsUndue _ t = ⊥
 
 -- 504 for what belongs to a channel and came on channel 0, and 503 for a method of the connection class that came on

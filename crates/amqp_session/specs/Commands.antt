@@ -6,7 +6,7 @@ use Rattle.amqp_frame.specs.RawMethods.{OtherMethod}
 use Rattle.amqp_frame.specs.Frames.{encoding}
 use Rattle.amqp_types.specs.declared.word.Word.{Word}
 use Rattle.amqp_types.specs.declared.word.Word.TheVariants as word
-use Rattle.amqp_outbox.specs.declared.reply.Reply.TheVariants.{ChannelOpened, ChannelClosed, FlowDone, ConnectionClosed}
+use Rattle.amqp_outbox.specs.declared.reply.Reply.TheVariants.{ChannelOpened, ChannelClosed, FlowDone, SecretDone, ConnectionClosed}
 use Rattle.amqp_outbox.specs.Items.{promised, group_of}
 use Rattle.amqp_session.specs.declared.state.ConnectionState.{ConnectionState}
 use Rattle.amqp_session.specs.declared.state.ConnectionState.TheVariants.{Connected, Closing}
@@ -15,13 +15,13 @@ use Rattle.amqp_session.specs.declared.state.ChannelState.TheVariants as channel
 use Rattle.amqp_session.specs.declared.channels.Channel.{Channel}
 use Rattle.amqp_session.specs.declared.command.ChanRef.{ChanRef}
 use Rattle.amqp_session.specs.declared.command.Cmd.{Cmd}
-use Rattle.amqp_session.specs.declared.command.Cmd.TheVariants.{OpenChannel, CloseChannel, CloseConnection, Send, Publish, Flow, DropChannel, DropConnection}
+use Rattle.amqp_session.specs.declared.command.Cmd.TheVariants.{OpenChannel, CloseChannel, CloseConnection, UpdateSecret, Send, Publish, Flow, DropChannel, DropConnection}
 use Rattle.amqp_session.specs.declared.error.ErrorKind.{ErrorKind}
 use Rattle.amqp_session.specs.declared.error.ErrorKind.TheVariants.{ChannelsLimitReached, InvalidChannel, InvalidChannelState, InvalidConnectionState, SerialisationError}
 use Rattle.amqp_session.specs.Listed.{map_values}
 use Rattle.amqp_session.specs.Talk.{Talk}
 use Rattle.amqp_session.specs.Numbering.{first_number, after, drawn}
-use Rattle.amqp_session.specs.Handshake.{our_close, channel_open, channel_flow, our_channel_close}
+use Rattle.amqp_session.specs.Handshake.{our_close, new_secret, channel_open, channel_flow, our_channel_close}
 use Rattle.amqp_session.specs.Negotiation.{frame_limit}
 use Rattle.amqp_session.specs.Publishing.{method_frame, publish_frames}
 use Rattle.amqp_session.specs.Changes.{queue, queue_item, queue_group, await, next_promise, promise, refuse, drop_groups_of, drop_groups}
@@ -158,6 +158,18 @@ abbrev pub flow_target : Result Channel ErrorKind → ℕ → Bool → Talk → 
 flow_target (Err e) n active t = refuse e t
 flow_target (Ok c) n active t = tell_flow n active t
 
+-- ---- a new secret
+
+-- the frame is queued, and its promise waits for the update-secret-ok
+abbrev pub queue_secret : Frame → Talk → Talk
+queue_secret frame t = promise (await 0 SecretDone (Some (next_promise t)) (queue 0 frame t))
+
+-- a new secret is told, for a reason
+abbrev pub update_secret : List ℕ → List ℕ → Talk → Talk
+update_secret secret reason t =
+    let frame = new_secret secret reason in
+    unless_too_long (too_long (frame ∷ []) t) (queue_secret frame) t
+
 -- ---- closing the connection
 
 -- our close is queued, all channels are closing, the close-ok is awaited and will answer a promise, where there is one,
@@ -196,6 +208,7 @@ abbrev pub command_rule : ConnectionState → Cmd → Talk → Talk
 command_rule Connected OpenChannel t = open_channel t
 command_rule Connected (CloseChannel r code text) t = close_target (target r word.ChannelClose t) r.id code text t
 command_rule Connected (CloseConnection code text) t = close_connection code text t
+command_rule Connected (UpdateSecret secret reason) t = update_secret secret reason t
 command_rule Connected (Send r method) t = send_target (target r word.Send t) r.id method t
 command_rule Connected (Publish r method properties body) t =
     publish_target (target r word.Publish t) r.id method properties body t

@@ -1,8 +1,8 @@
 -- Methods of the connection class (AMQP 0-9-1, 1.4 of its reference), on channel 0.
 use Rattle.std.specs.Prelude.{ℕ, true, false, List, Option, Some, None, Ok}
 use Rattle.amqp_frame.specs.declared.method.Method.{Method}
-use Rattle.amqp_frame.specs.declared.method.Method.TheVariants.{Start, Tune, OpenOk, Close, CloseOk, Blocked, Unblocked}
-use Rattle.amqp_outbox.specs.declared.reply.Reply.TheVariants.{ConnectionClosed}
+use Rattle.amqp_frame.specs.declared.method.Method.TheVariants.{Start, Tune, OpenOk, Close, CloseOk, Blocked, Unblocked, UpdateSecretOk}
+use Rattle.amqp_outbox.specs.declared.reply.Reply.TheVariants.{SecretDone, ConnectionClosed}
 use Rattle.amqp_outbox.specs.Items.{plain}
 use Rattle.amqp_outbox.specs.Queued.{only, awaited_promise, answered}
 use Rattle.amqp_session.specs.declared.state.ConnectionState.{ConnectionState}
@@ -18,6 +18,10 @@ use Rattle.amqp_session.specs.Negotiation.{tune, grown_capacity}
 use Rattle.amqp_session.specs.Handshake.{start_ok, tune_ok, open_vhost, close_ok}
 use Rattle.amqp_session.specs.Violations.{closed_with}
 use Rattle.amqp_session.specs.Changes.{queue, give, give_to, close, lose}
+
+-- any other method, and one of these out of its state, is fatal
+abbrev pub unexpected_connection_method : ConnectionState → Talk → Talk
+unexpected_connection_method held t = lose (InvalidConnectionState held) t
 
 -- ---- the handshake
 
@@ -48,6 +52,17 @@ on_blocked t = record t { blocked = true }
 abbrev pub on_unblocked : Talk → Talk
 on_unblocked t = record t { blocked = false }
 
+-- ---- a new secret (an extension of RabbitMQ)
+
+-- update-secret-ok, by the promise of what awaits it, which is answered; where nothing awaits it, it is fatal
+abbrev pub secret_taken : Option (Option ℕ) → Talk → Talk
+secret_taken None t = unexpected_connection_method Connected t
+secret_taken (Some promise) t = give_to promise (Ok Done) (record t { outbox = answered 0 SecretDone t.outbox })
+
+-- update-secret-ok: the server took the first new secret that it did not answer yet
+abbrev pub on_update_secret_ok : Talk → Talk
+on_update_secret_ok t = secret_taken (awaited_promise 0 SecretDone t.outbox) t
+
 -- ---- closing
 
 -- the server closes: what waits and what is awaited is dropped, close-ok is the last that is said, and no frame acts
@@ -71,10 +86,6 @@ connection_closed (Some promise) t =
 abbrev pub on_connection_close_ok : Talk → Talk
 on_connection_close_ok t = connection_closed (awaited_promise 0 ConnectionClosed t.outbox) t
 
--- any other method, and one of these out of its state, is fatal
-abbrev pub unexpected_connection_method : ConnectionState → Talk → Talk
-unexpected_connection_method held t = lose (InvalidConnectionState held) t
-
 -- ---- the table: the first row that fits
 
 -- a method of the connection class, by the state and by what the handshake awaits
@@ -89,4 +100,5 @@ connection_rule Connecting AwaitStart (Start major minor properties mechanisms l
 connection_rule Connecting AwaitTune (Tune channel_max frame_max heartbeat) t =
     on_tune (record { channel_max = channel_max; frame_max = frame_max; heartbeat = heartbeat }) t
 connection_rule Connecting AwaitOpenOk OpenOk t = on_open_ok t
+connection_rule Connected phase UpdateSecretOk t = on_update_secret_ok t
 connection_rule held phase method t = unexpected_connection_method held t

@@ -5,7 +5,7 @@ use Rattle.amqp_frame.specs.declared.frame.Frame.{Frame}
 use Rattle.amqp_frame.specs.declared.frame.Frame.TheVariants.{ProtocolHeader, Method, Raw, Heartbeat}
 use Rattle.amqp_frame.specs.declared.frame.RawKind.TheVariants.{RawMethod}
 use Rattle.amqp_frame.specs.declared.method.Method.{Method as AnyMethod}
-use Rattle.amqp_frame.specs.declared.method.Method.TheVariants.{Secure, Blocked, Unblocked, UpdateSecretOk, ChannelOpen, ChannelOpenOk, ChannelFlow, ChannelFlowOk, ChannelClose, ChannelCloseOk}
+use Rattle.amqp_frame.specs.declared.method.Method.TheVariants.{Secure, Blocked, Unblocked, ChannelOpen, ChannelOpenOk, ChannelFlow, ChannelFlowOk, ChannelClose, ChannelCloseOk}
 use Rattle.amqp_session.specs.declared.error.ErrorKind.TheVariants.{InvalidProtocolVersion, Unbuilt}
 use Rattle.amqp_session.specs.Talk.{Talk, acts, hears_on}
 use Rattle.amqp_session.specs.Violations.{stray_connection_method, stray_channel_frame}
@@ -15,10 +15,9 @@ use Rattle.amqp_session.specs.ChannelMethods.{channel_method, raw_frame}
 
 -- ---- the kinds of methods
 
--- the methods that no rule takes yet
+-- the method that no rule takes yet
 abbrev pub is_unbuilt : AnyMethod → Bool
 is_unbuilt (Secure challenge) = true
-is_unbuilt UpdateSecretOk = true
 is_unbuilt _ = false
 
 -- the methods of the channel class; all others are of the connection class

@@ -6,7 +6,7 @@ use Rattle.amqp_uri.specs.Mechanisms.{name_of}
 use Rattle.amqp_uri.specs.Login.{sasl_text}
 use Rattle.amqp_frame.specs.declared.frame.Frame.{Frame}
 use Rattle.amqp_frame.specs.declared.frame.Frame.TheVariants.{ProtocolHeader, Method}
-use Rattle.amqp_frame.specs.declared.method.Method.TheVariants.{StartOk, TuneOk, Open, Close, CloseOk, ChannelOpen, ChannelFlow, ChannelFlowOk, ChannelClose, ChannelCloseOk}
+use Rattle.amqp_frame.specs.declared.method.Method.TheVariants.{StartOk, TuneOk, Open, Close, CloseOk, UpdateSecret, ChannelOpen, ChannelFlow, ChannelFlowOk, ChannelClose, ChannelCloseOk}
 use Rattle.amqp_session.specs.declared.configuration.Configuration.{Configuration}
 use Rattle.amqp_session.specs.Config.{Config, text_value, mechanism, login}
 
@@ -76,6 +76,10 @@ our_close code text = Method 0 (Close code text 0 0)
 -- our answer to the server's close
 abbrev pub close_ok : Frame
 close_ok = Method 0 CloseOk
+
+-- a new secret takes the place of the one by which the client logged in, for a reason (an extension of RabbitMQ)
+abbrev pub new_secret : List ℕ → List ℕ → Frame
+new_secret secret reason = Method 0 (UpdateSecret secret reason)
 
 -- a channel is opened
 abbrev pub channel_open : ℕ → Frame

@@ -10,6 +10,13 @@ pub mod Handshake
 pub mod Shown
 pub mod Errors
 pub mod Violations
+-- Who logs in a client, and what is answered to a server's questions.
+pub mod Counts
+pub mod Providers
+pub mod DefaultAnswers
+pub mod Tokens
+pub mod AuthList
+pub mod Asking
 -- The rules: what each happening does to the state.
 pub mod Changes
 pub mod Links

@@ -4,7 +4,7 @@ ghost use Rattle.std.specs.Prelude.{◌≡◌, IfOk};
 
 use crate::properties::Properties;
 use amqp_frame::RawMethod;
-use amqp_types::{ChannelId, NoMemory, Payload, ReplyCode, ShortString};
+use amqp_types::{ChannelId, LongString, NoMemory, Payload, ReplyCode, ShortString};
 use std::alloc::Global;
 
 /// Names a listed channel by its number and, where it is given, by the promise that opened it.
@@ -23,6 +23,8 @@ pub enum Cmd {
     CloseChannel(ChanRef, ReplyCode, ShortString),
     /// Closes the connection, with a reply code and a text.
     CloseConnection(ReplyCode, ShortString),
+    /// Tells the server a new secret in place of the one by which the client logged in, for a reason.
+    UpdateSecret(LongString, ShortString),
     /// Sends a method on a channel.
     Send(ChanRef, RawMethod),
     /// Publishes with a method on a channel: the properties of the content header, and the body. The
@@ -48,6 +50,10 @@ impl Cmd {
             }
             Cmd::CloseConnection(code, text) => {
                 Ok(Cmd::CloseConnection(*code, text.try_clone(alloc)?))
+            }
+            Cmd::UpdateSecret(secret, reason) => {
+                let secret = secret.try_clone(alloc)?;
+                Ok(Cmd::UpdateSecret(secret, reason.try_clone(alloc)?))
             }
             Cmd::Send(channel, method) => Ok(Cmd::Send(*channel, method.try_clone(alloc)?)),
             Cmd::Flow(channel, active) => Ok(Cmd::Flow(*channel, *active)),

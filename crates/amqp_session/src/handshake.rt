@@ -3,7 +3,7 @@
 ghost use Rattle.std.specs.Prelude.{◌≡◌, ◌<◌, length, IfOk, OnOk, codes};
 ghost use Rattle.amqp_types.specs.Table.{put};
 ghost use Rattle.amqp_session.specs.Config.{config_of, text_value};
-ghost use Rattle.amqp_session.specs.Handshake.{protocol_header, yes, capabilities, with_product, client_properties, start_ok, tune_ok, open_vhost, our_close, close_ok, channel_open, channel_flow, flow_ok, channel_close_ok, our_channel_close};
+ghost use Rattle.amqp_session.specs.Handshake.{protocol_header, yes, capabilities, with_product, client_properties, start_ok, tune_ok, open_vhost, our_close, close_ok, new_secret, channel_open, channel_flow, flow_ok, channel_close_ok, our_channel_close};
 
 use crate::configuration::Configuration;
 use crate::options::ConnectionProperties;
@@ -175,6 +175,13 @@ pub fn close_ok() -> Frame
     ensures { result ≡ close_ok }
 {
     Frame::Method(0, Method::CloseOk)
+}
+
+/// Tells a new secret, for a reason.
+pub fn new_secret(secret: LongString, reason: ShortString) -> Frame
+    ensures { result ≡ new_secret secret reason }
+{
+    Frame::Method(0, Method::UpdateSecret(secret, reason))
 }
 
 /// Opens a channel.

@@ -6,6 +6,7 @@
 //! `Lib.antt` gives in reading order.
 #![tactic(auto)]
 
+mod auth;
 mod capacity;
 mod channels;
 mod command;
@@ -30,6 +31,10 @@ mod shown;
 mod state;
 mod violations;
 
+pub use auth::{
+    Asked, AuthList, AuthProvider, DefaultAuthProvider, DefaultTokenProvider, Question, Refusal,
+    TokenAuthProvider, TokenProvider,
+};
 pub use capacity::{LEAST_CAPACITY, initial_capacity};
 pub use channels::Channels;
 pub use command::{Answer, ChanRef, Cmd};

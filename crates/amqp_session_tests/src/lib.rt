@@ -7,6 +7,8 @@
 #[cfg(test)]
 mod answers;
 #[cfg(test)]
+mod auth;
+#[cfg(test)]
 mod channels;
 #[cfg(test)]
 mod closing;
@@ -28,6 +30,8 @@ mod numbers;
 mod options;
 #[cfg(test)]
 mod publishing;
+#[cfg(test)]
+mod secrets;
 #[cfg(test)]
 mod sending;
 #[cfg(test)]

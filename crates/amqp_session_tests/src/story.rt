@@ -58,6 +58,10 @@ pub enum Line {
     CloseChannel(ChanRef, u64),
     /// Closes the connection; the promise.
     Close(u64),
+    /// Tells a new secret, for a reason; the promise.
+    UpdateSecret(&'static [u8], &'static [u8], u64),
+    /// Tells a new secret of so many octets, for no reason; the promise.
+    UpdateLongSecret(usize, u64),
     /// Sends a method of class 60 and number 40 with these arguments; the promise.
     Send(ChanRef, &'static [u8], u64),
     /// Sends a method with so many octets of arguments; the promise.
@@ -191,6 +195,10 @@ fn obeys(alloc: Global, session: &mut Session, line: Line) -> Outcome<bool> {
         Line::CloseChannel(channel, promise) => (close_channel(alloc, session, channel)?, promise),
         Line::Close(promise) => (close(alloc, session)?, promise),
         Line::Flow(channel, active, promise) => (flow(session, channel, active), promise),
+        Line::UpdateSecret(secret, reason, promise) => {
+            (update_secret(alloc, session, secret, reason)?, promise)
+        }
+        Line::UpdateLongSecret(len, promise) => (update_long_secret(alloc, session, len)?, promise),
         Line::Send(channel, args, promise) => (send(alloc, session, channel, args)?, promise),
         Line::SendLong(channel, len, promise) => {
             (send_long(alloc, session, channel, len)?, promise)

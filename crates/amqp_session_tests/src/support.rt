@@ -9,7 +9,7 @@ use amqp_frame::{
 use amqp_session::{
     Answer, ChanRef, Cmd, Configuration, ConnectionProperties, Error, Handed, Properties, Session,
 };
-use amqp_types::{Payload, ShortString};
+use amqp_types::{LongString, Payload, ShortString};
 use amqp_uri::AMQPUri;
 use amqp_vectors::{CHANNEL_OPEN_OK_1, OPEN_OK, START, TUNE};
 use std::alloc::Global;
@@ -194,6 +194,28 @@ pub fn close(alloc: Global, session: &mut Session) -> Outcome<Option<u64>> {
     Ok(tell(session, Cmd::CloseConnection(200, text)))
 }
 
+/// Tells a new secret, for a reason, and gives the promise.
+pub fn update_secret(
+    alloc: Global,
+    session: &mut Session,
+    secret: &[u8],
+    reason: &[u8],
+) -> Outcome<Option<u64>> {
+    let secret = LongString::new(alloc, secret)?;
+    let reason = ShortString::new(alloc, reason)?;
+    Ok(tell(session, Cmd::UpdateSecret(secret, reason)))
+}
+
+/// Tells a new secret of so many octets, all 0, for no reason, and gives the promise.
+pub fn update_long_secret(
+    alloc: Global,
+    session: &mut Session,
+    len: usize,
+) -> Outcome<Option<u64>> {
+    let secret = vec![in alloc; 0u8; len]?;
+    update_secret(alloc, session, &secret, b"")
+}
+
 /// Tells to send a method of class 60 and number 40 with these arguments, and gives the promise.
 pub fn send(
     alloc: Global,
@@ -267,6 +289,12 @@ pub const METHOD_HELLO_ON_2: &str = "01 0002 0000000e 003c0028 0000 00 0568656c6
 
 /// The method of class 60 and number 40 with the arguments `abc`, on channel 1.
 pub const METHOD_ABC: &str = "01 0001 00000007 003c0028 616263 ce";
+
+/// The new secret `abc`, for the reason `rotate`.
+pub const SECRET_1: &str = "01 0000 00000012 000a0046 00000003 616263 06 726f74617465 ce";
+
+/// A new secret without octets, for no reason.
+pub const SECRET_2: &str = "01 0000 00000009 000a0046 00000000 00 ce";
 
 /// The content header of an empty body, without a property, on channel 1.
 pub const HEADER_0: &str = "02 0001 0000000e 003c 0000 0000000000000000 0000 ce";

@@ -52,6 +52,18 @@ const OUT_OF_THEIR_STATE: &[Row] = &[
         what: What::Frame(START),
         end: "invalid connection state: Connected",
     },
+    Row {
+        name: "update-secret-ok before start",
+        at: At::Linked,
+        what: What::Frame(SECRET_OK),
+        end: "invalid connection state: Connecting",
+    },
+    Row {
+        name: "update-secret-ok that answers no secret",
+        at: At::Connected,
+        what: What::Frame(SECRET_OK),
+        end: "invalid connection state: Connected",
+    },
 ];
 
 const MISPLACED: &[Row] = &[
@@ -59,6 +71,12 @@ const MISPLACED: &[Row] = &[
         name: "close-ok of the connection on a channel",
         at: At::Connected,
         what: What::Frame("01 0007 00000004 000a0033 ce"),
+        end: "protocol error: 503 connection frame received on channel 7",
+    },
+    Row {
+        name: "update-secret-ok on a channel",
+        at: At::Connected,
+        what: What::Frame("01 0007 00000004 000a0047 ce"),
         end: "protocol error: 503 connection frame received on channel 7",
     },
     Row {
@@ -135,20 +153,12 @@ const UNAWAITED: &[Row] = &[
     },
 ];
 
-const NOT_BUILT: &[Row] = &[
-    Row {
-        name: "secure",
-        at: At::Connected,
-        what: What::Frame(SECURE),
-        end: "not built: frame at byte 138",
-    },
-    Row {
-        name: "update-secret-ok",
-        at: At::Connected,
-        what: What::Frame(SECRET_OK),
-        end: "not built: frame at byte 138",
-    },
-];
+const NOT_BUILT: &[Row] = &[Row {
+    name: "secure",
+    at: At::Connected,
+    what: What::Frame(SECURE),
+    end: "not built: frame at byte 138",
+}];
 
 const OTHER_VERSION: &[Row] = &[Row {
     name: "a header of version 0-8",

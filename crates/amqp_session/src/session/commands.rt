@@ -7,7 +7,7 @@ ghost use Rattle.amqp_types.specs.declared.word.Word.TheVariants as word;
 ghost use Rattle.amqp_session.specs.Channels.{channel_at};
 ghost use Rattle.amqp_session.specs.Changes.{refuse};
 ghost use Rattle.amqp_session.specs.Publishing.{body_pieces};
-ghost use Rattle.amqp_session.specs.Commands.{open_channel, open_as, named, target, close_channel, close_target, queue_send, send, send_target, body_limit, queue_publish, publish, publish_target, tell_flow, flow_target, close_connection, drop_target, takes_promise, promise_of, command};
+ghost use Rattle.amqp_session.specs.Commands.{open_channel, open_as, named, target, close_channel, close_target, queue_send, send, send_target, body_limit, queue_publish, publish, publish_target, tell_flow, flow_target, queue_secret, update_secret, close_connection, drop_target, takes_promise, promise_of, command};
 
 use super::Session;
 use super::dropping::{drop_groups, drop_groups_of};
@@ -15,13 +15,15 @@ use super::places::{ask, reserve_group, reserve_promised, reserve_reply};
 use crate::channels::Channel;
 use crate::command::{ChanRef, Cmd};
 use crate::error::{self, ErrorKind};
-use crate::handshake::{channel_flow, channel_open, ok_text, our_channel_close, our_close};
+use crate::handshake::{
+    channel_flow, channel_open, new_secret, ok_text, our_channel_close, our_close,
+};
 use crate::properties::Properties;
 use crate::publishing::{content_header, publish_frames};
 use crate::state::{ChannelState, ConnectionState};
 use amqp_frame::{Frame, RawKind, RawMethod, encoded_len};
 use amqp_outbox::{Awaited, Group, Item, Reply};
-use amqp_types::{ChannelId, NoMemory, Payload, ReplyCode, ShortString, Word};
+use amqp_types::{ChannelId, LongString, NoMemory, Payload, ReplyCode, ShortString, Word};
 
 impl Session {
     /// Does what it is told or refuses it, and gives the number of the promise that will be answered,
@@ -63,6 +65,7 @@ impl Session {
             Cmd::OpenChannel => self.open_channel(),
             Cmd::CloseChannel(channel, code, text) => self.close_named(channel, code, text),
             Cmd::CloseConnection(code, text) => self.close_connection(code, text),
+            Cmd::UpdateSecret(secret, reason) => self.update_secret(secret, reason),
             Cmd::Send(channel, method) => self.send_named(channel, method),
             Cmd::Publish(channel, method, properties, body) => {
                 self.publish_named(channel, method, properties, body)
@@ -415,6 +418,37 @@ impl Session {
         let awaited = Awaited::by(Reply::FlowDone, self.promises.made());
         let flow = Item::plain(id, channel_flow(id, active));
         ask(&mut self.outbox, &mut self.committed, flow, awaited)?;
+        self.promises.promise_reserved();
+        Ok(())
+    }
+
+    // The server is told a new secret.
+    fn update_secret(&mut self, secret: LongString, reason: ShortString) -> Result<(), NoMemory>
+        ensures ok { OnOk result (self.new ≡ update_secret secret reason self.old) }
+        ensures err { OnErr result (self.new ≡ self.old) }
+    {
+        let frame = new_secret(secret, reason);
+        match self.excess(&frame) {
+            Some(size) => {
+                drop(frame);
+                self.refuse(ErrorKind::SerialisationError(size))
+            }
+            None => self.queue_secret(frame),
+        }
+    }
+
+    // A new secret is queued, whose promise waits until the server took it.
+    fn queue_secret(&mut self, frame: Frame) -> Result<(), NoMemory>
+        ensures ok { OnOk result (self.new ≡ queue_secret frame self.old) }
+        ensures err { OnErr result (self.new ≡ self.old) }
+    {
+        if let Err(refused) = self.promises.reserve() {
+            drop(frame);
+            return Err(refused);
+        }
+        let awaited = Awaited::by(Reply::SecretDone, self.promises.made());
+        let item = Item::plain(0, frame);
+        ask(&mut self.outbox, &mut self.committed, item, awaited)?;
         self.promises.promise_reserved();
         Ok(())
     }

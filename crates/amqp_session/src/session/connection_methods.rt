@@ -5,7 +5,7 @@ ghost use Rattle.amqp_session.specs.Talk.{is_open, acts};
 ghost use Rattle.amqp_session.specs.Changes.{queue};
 ghost use Rattle.amqp_session.specs.Memory.{MakesNothing};
 ghost use Rattle.amqp_session.specs.Sound.{is_agreed};
-ghost use Rattle.amqp_session.specs.ConnectionMethods.{on_start, on_tune, on_open_ok, on_connection_close, on_connection_close_ok, connection_rule};
+ghost use Rattle.amqp_session.specs.ConnectionMethods.{on_start, on_tune, on_open_ok, on_connection_close, on_connection_close_ok, on_update_secret_ok, connection_rule};
 
 use super::Session;
 use super::places::{reserve_both, reserve_item};
@@ -56,6 +56,10 @@ impl Session {
             }
             (Connecting, AwaitOpenOk, Method::OpenOk) => {
                 self.on_open_ok();
+                Ok(())
+            }
+            (Connected, _, Method::UpdateSecretOk) => {
+                self.on_update_secret_ok();
                 Ok(())
             }
             (held, _, _) => {
@@ -115,6 +119,15 @@ impl Session {
         self.give(0, Answer::Connected);
         self.capacity = self.capacity.grown(self.configuration.frame_max);
         self.state = Connected;
+    }
+
+    fn on_update_secret_ok(&mut self)
+        ensures { self.new ≡ on_update_secret_ok self.old }
+    {
+        match self.outbox.answer(0, Reply::SecretDone) {
+            Some(promise) => self.give_to(promise, Answer::Done),
+            None => self.lose(ErrorKind::InvalidConnectionState(Connected)),
+        }
     }
 
     fn on_connection_close(&mut self, code: ReplyCode, text: ShortString) -> Result<(), NoMemory>

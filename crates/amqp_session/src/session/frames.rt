@@ -133,11 +133,11 @@ impl Session {
     }
 }
 
-// The methods that no rule takes yet.
+// The method that no rule takes yet.
 fn is_unbuilt(method: &Method) -> bool
     ensures { result ≡ is_unbuilt method.now }
 {
-    matches!(method, Method::Secure(_) | Method::UpdateSecretOk)
+    matches!(method, Method::Secure(_))
 }
 
 // The methods of the channel class.

@@ -14,7 +14,7 @@ returns-then-is-5 c =
     let free = limited-flow_line c.args.left (option_copied c.args.rest) in
     grind (arith, common_steps)
 
-pub returns-then-is-6 : goal.returns-then-is-6
-returns-then-is-6 c =
+pub returns-then-is-7 : goal.returns-then-is-7
+returns-then-is-7 c =
     let free = limited-shut_line c.args.left (option_copied c.args.rest) in
     grind (arith, common_steps)
