@@ -4,10 +4,12 @@ ghost use Rattle.std.specs.Prelude.{◌≡◌, ◌≤◌, ◌+◌, [], ◌++◌,
 
 use amqp_types::NoMemory;
 use std::alloc::Global;
+use std::fmt;
 use std::marker::Model;
 
-/// Bytes in the order in which they were taken.
-#[derive(Debug, Drop)]
+/// Bytes in the order in which they were taken. Its `Debug` shows none of them, since how a client
+/// logs in is among them.
+#[derive(Drop)]
 pub struct TakenBytes {
     bytes: Vec<u8>,
 }
@@ -18,6 +20,16 @@ impl Model for TakenBytes {
     ghost Value = { List ℕ };
 
     ghost view = { λ t. t.bytes.items };
+}
+
+impl fmt::Debug for TakenBytes {
+    ghost use Rattle.std.specs.Prelude.{Some, codes};
+
+    ghost debug_output = { λ _. Some (codes "TakenBytes { .. }") };
+
+    fn fmt<W: fmt::Write>(&self, f: &mut fmt::Formatter<W>) -> fmt::Result {
+        f.write_str("TakenBytes { .. }")
+    }
 }
 
 impl TakenBytes {

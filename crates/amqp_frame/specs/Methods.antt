@@ -1,11 +1,18 @@
 -- How the methods of the connection class (10) and the channel class (20) are spelled (AMQP 0-9-1, 4.2.4 and the class
 -- reference).
-use Rattle.std.specs.Prelude.{◌≡◌, ℕ, ◌%◌, Bool, List, [], ◌∷◌, ◌++◌, ◌==◌, if◌then◌else◌}
+use Rattle.std.specs.Prelude.{◌≡◌, ℕ, ◌%◌, Bool, List, [], ◌∷◌, ◌++◌, ◌==◌, if◌then◌else◌, codes, Option, Some, None}
 use Rattle.std.specs.Int.{w16, w32, to_be_bytes}
 use Rattle.amqp_types.specs.Forms.{Form, Nothing, ◌▸◌, OctetOf, NumberOf, ShortStringOf, LongStringOf, spell_short_string, spell_long_string}
 use Rattle.amqp_types.specs.Spelling.{SpellsTable, spell_table}
 use Rattle.amqp_frame.specs.declared.method.Method.{Method}
 use Rattle.amqp_frame.specs.declared.method.Method.TheVariants.{Start, StartOk, Secure, SecureOk, Tune, TuneOk, Open, OpenOk, Close, CloseOk, Blocked, Unblocked, UpdateSecret, UpdateSecretOk, ChannelOpen, ChannelOpenOk, ChannelFlow, ChannelFlowOk, ChannelClose, ChannelCloseOk}
+
+-- what `Debug` shows of a method that carries a response or a secret; of all others nothing is said
+abbrev pub debug_of : Method → Option (List ℕ)
+debug_of (StartOk properties mechanism response locale) = Some (codes "StartOk(..)")
+debug_of (SecureOk response) = Some (codes "SecureOk(..)")
+debug_of (UpdateSecret secret reason) = Some (codes "UpdateSecret(..)")
+debug_of _ = None
 
 -- the number of a method's class
 abbrev pub class_of : Method → ℕ

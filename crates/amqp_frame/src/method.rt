@@ -5,11 +5,13 @@ ghost use Rattle.amqp_frame.specs.declared.method.Method.TheVariants as methods;
 
 use amqp_types::{FieldTable, LongString, NoMemory, ReplyCode, ShortString};
 use std::alloc::Global;
+use std::fmt;
 
 /// A method of the connection class (10) or of the channel class (20), without its reserved
 /// arguments (AMQP 0-9-1, class reference; `Blocked`, `Unblocked`, `UpdateSecret` and
-/// `UpdateSecretOk` are extensions of RabbitMQ).
-#[derive(Debug, PartialEq, Eq, Drop)]
+/// `UpdateSecretOk` are extensions of RabbitMQ). Its `Debug` shows nothing of a response and of a
+/// secret.
+#[derive(PartialEq, Eq, Drop)]
 pub enum Method {
     /// connection.start: the major and the minor version, the server's properties, its mechanisms
     /// and its locales, each of the last two parted by blanks.
@@ -53,6 +55,74 @@ pub enum Method {
     ChannelClose(ReplyCode, ShortString, u16, u16),
     /// channel.close-ok.
     ChannelCloseOk,
+}
+
+impl fmt::Debug for Method {
+    ghost use Rattle.amqp_frame.specs.Methods.{debug_of};
+
+    ghost debug_output = { debug_of };
+
+    fn fmt<W: fmt::Write>(&self, f: &mut fmt::Formatter<W>) -> fmt::Result {
+        match self {
+            Method::Start(major, minor, properties, mechanisms, locales) => {
+                let mut tuple = f.debug_tuple("Start");
+                tuple.field(major).field(minor).field(properties);
+                tuple.field(mechanisms).field(locales).finish()
+            }
+            Method::StartOk(..) => f.write_str("StartOk(..)"),
+            Method::Secure(challenge) => f.debug_tuple("Secure").field(challenge).finish(),
+            Method::SecureOk(_) => f.write_str("SecureOk(..)"),
+            Method::Tune(channels, size, beat) => debug_numbers("Tune", *channels, *size, *beat, f),
+            Method::TuneOk(channels, size, beat) => {
+                debug_numbers("TuneOk", *channels, *size, *beat, f)
+            }
+            Method::Open(vhost) => f.debug_tuple("Open").field(vhost).finish(),
+            Method::OpenOk => f.write_str("OpenOk"),
+            Method::Close(code, text, class, id) => debug_close(
+                "Close", *code, text, *class, *id, f,
+            ),
+            Method::CloseOk => f.write_str("CloseOk"),
+            Method::Blocked(reason) => f.debug_tuple("Blocked").field(reason).finish(),
+            Method::Unblocked => f.write_str("Unblocked"),
+            Method::UpdateSecret(..) => f.write_str("UpdateSecret(..)"),
+            Method::UpdateSecretOk => f.write_str("UpdateSecretOk"),
+            Method::ChannelOpen => f.write_str("ChannelOpen"),
+            Method::ChannelOpenOk => f.write_str("ChannelOpenOk"),
+            Method::ChannelFlow(active) => f.debug_tuple("ChannelFlow").field(active).finish(),
+            Method::ChannelFlowOk(active) => f.debug_tuple("ChannelFlowOk").field(active).finish(),
+            Method::ChannelClose(code, text, class, id) => {
+                debug_close("ChannelClose", *code, text, *class, *id, f)
+            }
+            Method::ChannelCloseOk => f.write_str("ChannelCloseOk"),
+        }
+    }
+}
+
+// A method of the three numbers that are agreed.
+fn debug_numbers<W: fmt::Write>(
+    name: &str,
+    channel_max: u16,
+    frame_max: u32,
+    heartbeat: u16,
+    f: &mut fmt::Formatter<W>,
+) -> fmt::Result {
+    let mut tuple = f.debug_tuple(name);
+    tuple.field(&channel_max).field(&frame_max);
+    tuple.field(&heartbeat).finish()
+}
+
+// A method that closes.
+fn debug_close<W: fmt::Write>(
+    name: &str,
+    code: ReplyCode,
+    text: &ShortString,
+    class: u16,
+    id: u16,
+    f: &mut fmt::Formatter<W>,
+) -> fmt::Result {
+    let mut tuple = f.debug_tuple(name);
+    tuple.field(&code).field(text);
+    tuple.field(&class).field(&id).finish()
 }
 
 impl Method {

@@ -10,11 +10,13 @@ use crate::memory::{pieces, put_from, reserve, step_on, widen};
 use amqp_frame::Room;
 use amqp_types::NoMemory;
 use std::alloc::Global;
+use std::fmt;
 use std::marker::Model;
 
 /// Bytes that are kept, oldest first, and free ones, as many together as the capacity. They lie in
-/// one run of memory, round its end, so that no byte is moved but where the buffer grows.
-#[derive(Debug, Drop)]
+/// one run of memory, round its end, so that no byte is moved but where the buffer grows. Its `Debug`
+/// shows no byte, since what is to be sent may be secret.
+#[derive(Drop)]
 pub struct Buffer {
     memory: Vec<u8>,
     // where the kept bytes begin
@@ -33,6 +35,16 @@ impl Model for Buffer {
     ghost view = { λ b. ring_of b.position b.kept b.memory.items };
 
     ghost invariant = { λ b. (b.position < length b.memory.items) × (b.kept ≤ length b.memory.items) };
+}
+
+impl fmt::Debug for Buffer {
+    ghost use Rattle.std.specs.Prelude.{Some, codes};
+
+    ghost debug_output = { λ _. Some (codes "Buffer { .. }") };
+
+    fn fmt<W: fmt::Write>(&self, f: &mut fmt::Formatter<W>) -> fmt::Result {
+        f.write_str("Buffer { .. }")
+    }
 }
 
 impl Buffer {

@@ -27,6 +27,11 @@ use Rattle.amqp_session.specs.Publishing.{method_frame, publish_frames}
 use Rattle.amqp_session.specs.Changes.{queue, queue_item, queue_group, await, next_promise, promise, refuse, drop_groups_of, drop_groups}
 use Rattle.amqp_session.specs.Channels.{new_channel, closing, channel_at, set_channel}
 
+-- what `Debug` shows of a command that carries a secret; of all others nothing is said
+abbrev pub debug_of : Cmd → Option (List ℕ)
+debug_of (UpdateSecret secret reason) = Some (codes "UpdateSecret(..)")
+debug_of _ = None
+
 -- ---- opening a channel
 
 -- the channel of a number is listed, its opening is queued, and its promise waits for the open-ok; the cursor goes on

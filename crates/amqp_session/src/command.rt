@@ -6,6 +6,7 @@ use crate::properties::Properties;
 use amqp_frame::RawMethod;
 use amqp_types::{ChannelId, LongString, NoMemory, Payload, ReplyCode, ShortString};
 use std::alloc::Global;
+use std::fmt;
 
 /// Names a listed channel by its number and, where it is given, by the promise that opened it.
 #[derive(Clone, Copy, Debug, PartialEq, Eq)]
@@ -14,8 +15,8 @@ pub struct ChanRef {
     pub opened: Option<u64>,
 }
 
-/// A command.
-#[derive(Debug, PartialEq, Eq, Drop)]
+/// A command. Its `Debug` shows nothing of a secret.
+#[derive(PartialEq, Eq, Drop)]
 pub enum Cmd {
     /// Opens a channel, whose number is drawn.
     OpenChannel,
@@ -36,6 +37,46 @@ pub enum Cmd {
     DropChannel(ChanRef),
     /// Lets the connection go: where it is open it is closed, with 200 and `OK`. It takes no promise.
     DropConnection,
+}
+
+impl fmt::Debug for Cmd {
+    ghost use Rattle.amqp_session.specs.Commands.{debug_of};
+
+    ghost debug_output = { debug_of };
+
+    fn fmt<W: fmt::Write>(&self, f: &mut fmt::Formatter<W>) -> fmt::Result {
+        match self {
+            Cmd::OpenChannel => f.write_str("OpenChannel"),
+            Cmd::CloseChannel(channel, code, text) => {
+                let mut tuple = f.debug_tuple("CloseChannel");
+                tuple.field(channel).field(code).field(text).finish()
+            }
+            Cmd::CloseConnection(code, text) => {
+                f.debug_tuple("CloseConnection")
+                    .field(code)
+                    .field(text)
+                    .finish()
+            }
+            Cmd::UpdateSecret(..) => f.write_str("UpdateSecret(..)"),
+            Cmd::Send(channel, method) => f
+                .debug_tuple("Send")
+                .field(channel)
+                .field(method)
+                .finish(),
+            Cmd::Publish(channel, method, properties, body) => {
+                let mut tuple = f.debug_tuple("Publish");
+                tuple.field(channel).field(method);
+                tuple.field(properties).field(body).finish()
+            }
+            Cmd::Flow(channel, active) => f
+                .debug_tuple("Flow")
+                .field(channel)
+                .field(active)
+                .finish(),
+            Cmd::DropChannel(channel) => f.debug_tuple("DropChannel").field(channel).finish(),
+            Cmd::DropConnection => f.write_str("DropConnection"),
+        }
+    }
 }
 
 impl Cmd {

@@ -4,8 +4,9 @@ ghost use Rattle.std.specs.Prelude.{OnTrue};
 ghost use Rattle.amqp_session.specs.Counts.{Rose};
 
 use crate::support::Outcome;
+use amqp_frame::{Frame, Method};
 use amqp_session::{
-    Asked, AuthList, AuthProvider, DefaultAuthProvider, DefaultTokenProvider, Refusal,
+    Asked, AuthList, AuthProvider, Cmd, DefaultAuthProvider, DefaultTokenProvider, Refusal,
     TokenAuthProvider, TokenProvider,
 };
 use amqp_types::{LongString, NoMemory, ShortString, Text};
@@ -399,5 +400,21 @@ fn a_token_is_not_shown(rt: HostRuntime) -> Outcome<()> {
     assert!(rt; made);
     assert!(rt; shown?.as_str() == "DefaultTokenProvider { .. }");
     assert!(rt; both?.as_str() == "TokenAuthProvider { .. }");
+    Ok(())
+}
+
+#[test]
+fn a_command_and_a_frame_show_no_secret(rt: HostRuntime) -> Outcome<()> {
+    let alloc = rt.alloc();
+    let secret = long(alloc, b"hunter")?;
+    let reason = ShortString::from_vec(Vec::from_slice(alloc, b"rotate")?);
+    let command = Cmd::UpdateSecret(secret, reason);
+    let told = format!(in alloc; "{command:?}");
+    drop(command);
+    let frame = Frame::Method(0, Method::SecureOk(long(alloc, b"hunter")?));
+    let said = format!(in alloc; "{frame:?}");
+    drop(frame);
+    assert!(rt; told?.as_str() == "UpdateSecret(..)");
+    assert!(rt; said?.as_str().contains("SecureOk(..)"));
     Ok(())
 }
