@@ -1,6 +1,6 @@
 //! Providers of authentication: what they answer, and what they refuse.
 
-ghost use Rattle.std.specs.Prelude.{OnTrue};
+ghost use Rattle.std.specs.Bool.{OnTrue};
 ghost use Rattle.amqp_session.specs.Counts.{Rose};
 
 use crate::support::Outcome;
