@@ -1,6 +1,6 @@
 //! Publishes over a session that is driven call by call.
 
-use crate::driven::{connect, is_sent, new_session, send_all};
+use crate::driven::{Driven, connect, is_sent, send_all};
 use amqp_frame::{Frame, Method, RawMethod};
 use amqp_session::{ChanRef, Cmd, Properties, Result, Session};
 use amqp_types::{Payload, ShortString};
@@ -32,11 +32,11 @@ fn numbered(id: u16) -> ChanRef {
 }
 
 // Opens channels from 1 on.
-fn open_channels(session: &mut Session, channels: u16) -> Result<()> {
+fn open_channels(driven: &mut Driven, channels: u16) -> Result<()> {
     for id in 1..=channels {
-        session.command(Cmd::OpenChannel)?;
-        send_all(session);
-        session.frame(Frame::Method(id, Method::ChannelOpenOk), 0, 0)?;
+        driven.session.command(Cmd::OpenChannel)?;
+        send_all(&mut driven.session);
+        driven.frame(Frame::Method(id, Method::ChannelOpenOk))?;
     }
     Ok(())
 }
@@ -91,18 +91,17 @@ fn close_channels(alloc: Global, session: &mut Session, channels: u16) -> Result
 }
 
 // The server blocks.
-fn block(alloc: Global, session: &mut Session) -> Result<()> {
+fn block(alloc: Global, driven: &mut Driven) -> Result<()> {
     let reason = ShortString::from_vec(Vec::new(alloc));
-    session.frame(Frame::Method(0, Method::Blocked(reason)), 0, 0)?;
-    Ok(())
+    driven.frame(Frame::Method(0, Method::Blocked(reason)))
 }
 
 // The server closes channels from 1 on.
-fn server_closes(alloc: Global, session: &mut Session, channels: u16) -> Result<()> {
+fn server_closes(alloc: Global, driven: &mut Driven, channels: u16) -> Result<()> {
     for id in 1..=channels {
         let text = ShortString::from_vec(Vec::new(alloc));
         let close = Method::ChannelClose(404, text, 0, 0);
-        session.frame(Frame::Method(id, close), 0, 0)?;
+        driven.frame(Frame::Method(id, close))?;
     }
     Ok(())
 }
@@ -121,25 +120,25 @@ fn count_sent(session: &mut Session) -> u64 {
 // All are queued, then the channels closed where that is wanted, and then what is left is sent.
 fn publish_then_end(
     alloc: Global,
-    session: &mut Session,
+    driven: &mut Driven,
     load: Load,
     body: &[u8],
     ending: Ending,
 ) -> Result<u64> {
     let blocked = ending == Ending::ClosedByServer;
-    connect(alloc, session)?;
-    open_channels(session, load.channels)?;
+    connect(alloc, driven)?;
+    open_channels(driven, load.channels)?;
     if blocked {
-        block(alloc, session)?;
+        block(alloc, driven)?;
     }
-    queue_all(alloc, session, load, body, blocked)?;
+    queue_all(alloc, &mut driven.session, load, body, blocked)?;
     match ending {
         Ending::Sent => {}
-        Ending::Closed => close_channels(alloc, session, load.channels)?,
-        Ending::ClosedByServer => server_closes(alloc, session, load.channels)?,
+        Ending::Closed => close_channels(alloc, &mut driven.session, load.channels)?,
+        Ending::ClosedByServer => server_closes(alloc, driven, load.channels)?,
     }
-    send_all(session);
-    Ok(count_sent(session))
+    send_all(&mut driven.session);
+    Ok(count_sent(&mut driven.session))
 }
 
 /// Queues so many publishes, closes their channels where that is wanted, and sends what is left. How
@@ -148,11 +147,11 @@ pub fn publishes(alloc: Global, load: Load, ending: Ending) -> Option<u64> {
     let Ok(body) = vec![in alloc; 0u8; load.size as usize] else {
         return None;
     };
-    let Some(mut session) = new_session(alloc) else {
+    let Some(mut driven) = Driven::new(alloc) else {
         return None;
     };
-    let sent = publish_then_end(alloc, &mut session, load, &body, ending);
-    drop(session);
+    let sent = publish_then_end(alloc, &mut driven, load, &body, ending);
+    drop(driven);
     match sent {
         Ok(sent) => Some(sent),
         Err(_) => None,

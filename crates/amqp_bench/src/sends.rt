@@ -1,15 +1,15 @@
 //! Sends over a session that is driven call by call.
 
-use crate::driven::{connect, is_sent, new_session, send_all};
+use crate::driven::{Driven, connect, is_sent, send_all};
 use amqp_frame::{Frame, Method, RawMethod};
 use amqp_session::{ChanRef, Cmd, Result, Session};
 use std::alloc::Global;
 
 // Opens channel 1, and gives the promise that opened it.
-fn open_channel(session: &mut Session) -> Result<Option<u64>> {
-    let opened = session.command(Cmd::OpenChannel)?;
-    send_all(session);
-    session.frame(Frame::Method(1, Method::ChannelOpenOk), 0, 0)?;
+fn open_channel(driven: &mut Driven) -> Result<Option<u64>> {
+    let opened = driven.session.command(Cmd::OpenChannel)?;
+    send_all(&mut driven.session);
+    driven.frame(Frame::Method(1, Method::ChannelOpenOk))?;
     Ok(opened)
 }
 
@@ -25,15 +25,15 @@ fn send(alloc: Global, session: &mut Session, channel: ChanRef) -> Result<bool> 
 }
 
 // Sends so many methods. How many answers were taken.
-fn send_each(alloc: Global, session: &mut Session, count: u64) -> Result<u64> {
-    connect(alloc, session)?;
+fn send_each(alloc: Global, driven: &mut Driven, count: u64) -> Result<u64> {
+    connect(alloc, driven)?;
     let channel = ChanRef {
         id: 1,
-        opened: open_channel(session)?,
+        opened: open_channel(driven)?,
     };
     let mut sent = 0u64;
     for _ in 0..count {
-        if send(alloc, session, channel)? {
+        if send(alloc, &mut driven.session, channel)? {
             sent = sent.saturating_add(1);
         }
     }
@@ -42,11 +42,11 @@ fn send_each(alloc: Global, session: &mut Session, count: u64) -> Result<u64> {
 
 /// Sends so many methods. How many answers were taken; nothing where memory was refused.
 pub fn sends(alloc: Global, count: u64) -> Option<u64> {
-    let Some(mut session) = new_session(alloc) else {
+    let Some(mut driven) = Driven::new(alloc) else {
         return None;
     };
-    let sent = send_each(alloc, &mut session, count);
-    drop(session);
+    let sent = send_each(alloc, &mut driven, count);
+    drop(driven);
     match sent {
         Ok(sent) => Some(sent),
         Err(_) => None,

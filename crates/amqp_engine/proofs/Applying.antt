@@ -1,5 +1,9 @@
 -- A turn from its step on, out of the contracts of its parts.
-use Rattle.std.proofs.Common.{◌≡◌, ℕ, not, ◌&&◌, if◌then◌else◌, Bool, true, false, IsFalse, List, [], ◌++◌, length, Option, Some, None, refl, ap, sym, ◌∙◌, subst}
+use Rattle.std.proofs.Common.{◌≡◌, ℕ, not, ◌&&◌, if◌then◌else◌, Bool, true, false, IsFalse, List, [], ◌++◌, length, drop, Option, Some, None, refl, ap, sym, ◌∙◌, subst}
+use Rattle.amqp_session.specs.declared.auth.asked.Question.{Question}
+use Rattle.amqp_session.specs.declared.auth.asked.Asked.{Asked}
+use Rattle.amqp_session.specs.Providers.{Exchange}
+use Rattle.amqp_session.specs.Asking.{Answer, paired}
 use Rattle.amqp_session.specs.Talk.{Talk, is_asked, is_open, has_ended}
 use Rattle.amqp_session.specs.declared.io_fault.IoFault.TheVariants.{Aborted, Reset}
 use Rattle.amqp_session.specs.Changes.{present_at, starve}
@@ -8,12 +12,16 @@ use Rattle.amqp_session.specs.Ticks.{tick}
 use Rattle.amqp_engine.specs.declared.port.Step.{Step}
 use Rattle.amqp_engine.specs.declared.port.Step.TheVariants.{Linked, LinkFailed, Piece, End, Fault, Room, Tick, Command}
 use Rattle.amqp_engine.specs.Log.{Log}
-use Rattle.amqp_engine.specs.Engine.{Engine, step_piece, step_engine, settle, starve_at, rule_at, front_of, is_more, can_write}
-use Rattle.amqp_engine.specs.Turn.{answers_of, Progress, begun, goes, reading, is_part, is_piece, step_part, part, read, drained, AreAnswers, IsCut, starved_after}
-use Rattle.amqp_engine.specs.Making.{making, parts_of, Allows, Writes, AppliesCounted}
-use Rattle.amqp_engine.specs.Tell.{TellsOffers, offers_from, turn_of}
+use Rattle.amqp_engine.specs.Engine.{Engine, step_piece, step_engine, step_questions, settle, starve_at, rule_at, front_of, is_more, can_write}
+use Rattle.amqp_engine.specs.Turn.{Notes, answers_of, Progress, begun, goes, reading, is_part, is_piece, step_part, part, questioned, IsAnswered, read, drained, AreAnswers, IsCut, starved_after}
+use Rattle.amqp_engine.specs.Making.{making, parts_of, Reaches, Writes, StepHears, AppliesCounted}
+use Rattle.amqp_engine.specs.Tell.{MayCome, TellsOffers, offers_from, turn_of}
+use Rattle.std.proofs.lemmas.List.{append-nil}
+use Rattle.std.proofs.Math.Seq.{drop-append_seam}
+use Rattle.amqp_session.proofs.Hearing.{tick-more}
+use Rattle.amqp_engine.proofs.Answering.{answer-size, answered-all, answered-none}
 use Rattle.amqp_session.proofs.Cases.{if_case, if-true, if-false}
-use Rattle.amqp_engine.proofs.Cases.{is_before-Allows}
+use Rattle.amqp_engine.proofs.Cases.{is_before-Reaches}
 use Rattle.amqp_engine.proofs.Settling.{settle-starved}
 use Rattle.amqp_session.proofs.Keeping.{present-keeps, starve-twice}
 use Rattle.amqp_engine.proofs.Reading.{reads-rest, reading-cut}
@@ -25,107 +33,173 @@ pub starve_at-twice : (at j : ℕ) (e : Engine) → starve_at at j (rule_at at s
 starve_at-twice at j e =
     ap (λ (t : Talk). record e { talk = t; unread = []; place = 0; unsent = []; starved = Some j }) (starve-twice at e.talk)
 
--- the step's part is done, where it is one
-pub step-done : (at : ℕ) (cut : Option ℕ) (step : Step) (bytes : List ℕ) (e : Engine) (b : Bool)
-    → is_part step e ≡ b → Allows cut (parts_of b)
-    → step_part step bytes (begun at cut e) ≡ making at cut (step_engine at step bytes e) (parts_of b)
-step-done at cut step bytes e true h allows =
-    let p = begun at cut e in
-    if-true (is_part step e) (if goes p then part (step_engine at step bytes e) p else p) (making at cut (step_engine at step bytes e) 0) h
-    ∙ if-true (goes p) (part (step_engine at step bytes e) p) p (is_before-Allows cut 0 allows)
-step-done at cut step bytes e false h allows =
-    let p = begun at cut e in
-    if-false (is_part step e) (if goes p then part (step_engine at step bytes e) p else p) (making at cut (step_engine at step bytes e) 0) h
+-- what a step asks, where it is a part that is done
+abbrev pub done_questions : ℕ → Step → List Asked → Engine → List Question
+done_questions at step answers e = if is_part step e then step_questions at step answers e else []
 
-none-read : (at : ℕ) (cut : Option ℕ) (step : Step) (bytes : List ℕ) (e : Engine) (m : ℕ) → IsFalse (is_piece step && is_open e.talk)
-    → reading (is_piece step) (making at cut (step_engine at step bytes e) m) ≡ making at cut (step_engine at step bytes e) m
-none-read at cut (Piece n) bytes e m closed =
+-- the step's part is done, where it is one
+pub step-done : (at : ℕ) (cut : Option ℕ) (step : Step) (bytes : List ℕ) (answers : List Asked) (e : Engine) (b : Bool)
+    → is_part step e ≡ b → Reaches cut (parts_of b) → (b ≡ false → step_questions at step answers e ≡ [])
+    → step_part step bytes (begun at cut answers e)
+    ≡ making at cut (drop (length (step_questions at step answers e)) answers) (step_questions at step answers e) (step_engine at step bytes answers e) (parts_of b)
+step-done at cut step bytes answers e true h allows none =
+    let p = begun at cut answers e in
+    let q = questioned (step_questions at step answers e) p in
+    if-true (is_part step e) (if goes p then part (step_engine at step bytes answers e) q else p) (making at cut answers [] (step_engine at step bytes answers e) 0) h
+    ∙ if-true (goes p) (part (step_engine at step bytes answers e) q) p (is_before-Reaches cut 0 allows)
+step-done at cut step bytes answers e false h allows none =
+    let p = begun at cut answers e in
+    let q = questioned (step_questions at step answers e) p in
+    if-false (is_part step e) (if goes p then part (step_engine at step bytes answers e) q else p) (making at cut answers [] (step_engine at step bytes answers e) 0) h
+    ∙ ap (λ (qs : List Question). making at cut (drop (length qs) answers) qs (step_engine at step bytes answers e) 0) (sym (none refl))
+
+-- what is no part asks nothing
+pub no-questions : (at : ℕ) (step : Step) (answers : List Asked) (e : Engine) → is_part step e ≡ false → step_questions at step answers e ≡ []
+no-questions at Tick answers e h = cc
+no-questions at _ answers e h = refl
+
+none-read : (at : ℕ) (cut : Option ℕ) (step : Step) (bytes : List ℕ) (answers more : List Asked) (asked : List Question) (e : Engine) (m : ℕ) → IsFalse (is_piece step && is_open e.talk)
+    → reading (is_piece step) (making at cut more asked (step_engine at step bytes answers e) m) ≡ making at cut more asked (step_engine at step bytes answers e) m
+none-read at cut (Piece n) bytes answers more asked e m closed =
     let x = step_piece at bytes e in
     let still : is_open x.talk ≡ false =
     ap (λ (y : Engine). is_open y.talk)
     (if-false (is_open e.talk) (settle (record e { talk = piece (present_at at e.talk); unread = e.unread ++ bytes })) (rule_at at (λ t. t) e) closed)
     ∙ present-keeps is_open at e.talk (λ n. refl) ∙ closed in
-    reads-rest (length x.unread) (making at cut x m) (ap (λ (b : Bool). b && not (is_more (front_of x))) still)
-none-read at cut _ bytes e m closed = refl
+    reads-rest (length x.unread) (making at cut more asked x m) (ap (λ (b : Bool). b && not (is_more (front_of x))) still)
+none-read at cut _ bytes answers more asked e m closed = refl
+
+-- a step goes by the answers to what it asks alone
+pub step-more : (at : ℕ) (step : Step) (bytes : List ℕ) (answers more : List Asked) (e : Engine) → Answer (step_questions at step answers e) answers
+    → (step_engine at step bytes (answers ++ more) e ≡ step_engine at step bytes answers e) × (step_questions at step (answers ++ more) e ≡ step_questions at step answers e)
+step-more at Tick bytes answers more e h =
+    let k = tick-more answers more (present_at at e.talk) h in (ap (λ (t : Talk). settle (record e { talk = t })) k.0, k.1)
+step-more at Linked bytes answers more e h = (refl, refl)
+step-more at LinkFailed bytes answers more e h = (refl, refl)
+step-more at (Piece n) bytes answers more e h = (refl, refl)
+step-more at End bytes answers more e h = (refl, refl)
+step-more at Fault bytes answers more e h = (refl, refl)
+step-more at Room bytes answers more e h = (refl, refl)
+step-more at (Command c) bytes answers more e h = (refl, refl)
+
+-- what is left of the answers, once as many were taken as there were questions
+pub left-answers : (questions : List Question) (answers more : List Asked) → Answer questions answers → drop (length questions) (answers ++ more) ≡ more
+left-answers questions answers more h = ap (λ n. drop n (answers ++ more)) (answer-size questions answers h) ∙ drop-append_seam answers more
 
 -- a step that is no piece on the open link, after which no frame is read
-pub step-read : (at : ℕ) (cut : Option ℕ) (step : Step) (bytes : List ℕ) (e e' : Engine) (m : ℕ) → IsFalse (is_piece step && is_open e.talk)
-    → m ≡ parts_of (is_part step e) → e' ≡ step_engine at step bytes e → Allows cut m
-    → reading (is_piece step) (step_part step bytes (begun at cut e)) ≡ making at cut e' m
-step-read at cut step bytes e e' m apart parts same allows =
-    let P : ℕ → Type 0 = λ k. Allows cut k in
-    ap (reading (is_piece step)) (step-done at cut step bytes e (is_part step e) refl (subst P parts allows))
-    ∙ none-read at cut step bytes e (parts_of (is_part step e)) apart
-    ∙ ap (λ k. making at cut (step_engine at step bytes e) k) (sym parts) ∙ ap (λ x. making at cut x m) (sym same)
+pub step-read : (at : ℕ) (cut : Option ℕ) (step : Step) (bytes : List ℕ) (answers more : List Asked) (e e' : Engine) (m : ℕ) → IsFalse (is_piece step && is_open e.talk)
+    → m ≡ parts_of (is_part step e) → e' ≡ step_engine at step bytes answers e → Answer (step_questions at step answers e) answers → Reaches cut m
+    → reading (is_piece step) (step_part step bytes (begun at cut (answers ++ more) e)) ≡ making at cut more (step_questions at step answers e) e' m
+step-read at cut step bytes answers more e e' m apart parts same all allows =
+    let P : ℕ → Type 0 = λ k. Reaches cut k in
+    let k = step-more at step bytes answers more e all in
+    let n = parts_of (is_part step e) in
+    let qs = step_questions at step answers e in
+    ap (reading (is_piece step))
+    (step-done at cut step bytes (answers ++ more) e (is_part step e) refl (subst P parts allows) (no-questions at step (answers ++ more) e))
+    ∙ none-read at cut step bytes (answers ++ more) (drop (length (step_questions at step (answers ++ more) e)) (answers ++ more)) (step_questions at step (answers ++ more) e) e n apart
+    ∙ ap (λ (q : List Question). making at cut (drop (length q) (answers ++ more)) q (step_engine at step bytes (answers ++ more) e) n) k.1
+    ∙ ap (λ (left : List Asked). making at cut left qs (step_engine at step bytes (answers ++ more) e) n) (left-answers qs answers more all)
+    ∙ ap (λ (x : Engine). making at cut more qs x n) (k.0 ∙ sym same)
+    ∙ ap (λ (k : ℕ). making at cut more qs e' k) (sym parts)
+
+-- a piece on the open link, up to its frames
+pub piece-read : (at : ℕ) (cut : Option ℕ) (step : Step) (bytes : List ℕ) (answers : List Asked) (e : Engine) → is_piece step ≡ true → is_open e.talk ≡ true → Reaches cut 1
+    → reading (is_piece step) (step_part step bytes (begun at cut answers e)) ≡ reading true (making at cut answers [] (step_piece at bytes e) 1)
+piece-read at cut (Piece n) bytes answers e is opened allows = ap (reading true) (step-done at cut (Piece n) bytes answers e true opened allows (λ no. refl))
+piece-read at cut Linked bytes answers e is opened allows = cc
+piece-read at cut LinkFailed bytes answers e is opened allows = cc
+piece-read at cut End bytes answers e is opened allows = cc
+piece-read at cut Fault bytes answers e is opened allows = cc
+piece-read at cut Room bytes answers e is opened allows = cc
+piece-read at cut Tick bytes answers e is opened allows = cc
+piece-read at cut (Command c) bytes answers e is opened allows = cc
 
 -- memory was refused at the step itself
-pub step-refused : (at : ℕ) (step : Step) (bytes : List ℕ) (e : Engine) → is_part step e ≡ true
-    → reading (is_piece step) (step_part step bytes (begun at (Some 0) e)) ≡ making at (Some 0) e 0
-step-refused at step bytes e h =
-    let p = begun at (Some 0) e in
+pub step-refused : (at : ℕ) (step : Step) (bytes : List ℕ) (answers : List Asked) (e : Engine) → is_part step e ≡ true
+    → reading (is_piece step) (step_part step bytes (begun at (Some 0) answers e)) ≡ making at (Some 0) answers [] e 0
+step-refused at step bytes answers e h =
+    let p = begun at (Some 0) answers e in
+    let q = questioned (step_questions at step answers e) p in
     let same : step_part step bytes p ≡ p =
-    if-true (is_part step e) (if goes p then part (step_engine at step bytes e) p else p) (making at (Some 0) (step_engine at step bytes e) 0) h in
+    if-true (is_part step e) (if goes p then part (step_engine at step bytes answers e) q else p) (making at (Some 0) answers [] (step_engine at step bytes answers e) 0) h in
     ap (reading (is_piece step)) same ∙ reading-cut (is_piece step) p refl
 
 -- a turn from what was read and what was written
-pub applies-of : (at : ℕ) (step : Step) (bytes : List ℕ) (e e' : Engine) (log log' : Option Log) (m n : ℕ) (p p' : Progress)
-    → reading (is_piece step) (step_part step bytes (begun at p.cut e)) ≡ p
+pub applies-of : (at : ℕ) (step : Step) (bytes : List ℕ) (e e' : Engine) (log log' : Option Log) (m n : ℕ) (before after : Exchange → Type 0) (auths : List Asked) (p p' : Progress)
+    → reading (is_piece step) (step_part step bytes (begun at p.cut auths e)) ≡ p
     → Writes p p' log log' m n → IsCut p.cut p'.done → (if has_ended e.talk then p'.engine else starved_after p.cut at p'.engine) ≡ e'
-    → AppliesCounted at step bytes e e' log log' m n
-applies-of at step bytes e e' log log' m n p p' reads w cut after =
-    let here : read (turn_of at step bytes w.notes) e ≡ p =
-    ap (λ (c : Option ℕ). reading (is_piece step) (step_part step bytes (begun at c e))) w.cut ∙ reads in
+    → IsAnswered p.cut p.questions auths → MayCome p.cut before after (paired p.questions auths)
+    → AppliesCounted at step bytes e e' log log' m n before after
+applies-of at step bytes e e' log log' m n before after auths p p' reads w cut leaves all may =
+    let notes : Notes = record w.notes { auths = auths } in
+    let here : read (turn_of at step bytes notes) e ≡ p =
+    ap (λ (c : Option ℕ). reading (is_piece step) (step_part step bytes (begun at c auths e))) w.cut ∙ reads in
     let ws = answers_of w.notes in
-    let leads : drained ws (read (turn_of at step bytes w.notes) e) ≡ p' = ap (drained ws) here ∙ w.leaves in
+    let leads : drained ws (read (turn_of at step bytes notes) e) ≡ p' = ap (drained ws) here ∙ w.leaves in
     let P : Progress → Type 0 = λ x. AreAnswers ws x in
     let Q : Progress → Type 0 = λ x. IsCut p.cut x.done in
-    let C : Option ℕ → Type 0 = λ c. IsCut c (drained ws (read (turn_of at step bytes w.notes) e)).done in
+    let C : Option ℕ → Type 0 = λ c. IsCut c (drained ws (read (turn_of at step bytes notes) e)).done in
     let R : Progress → Type 0 = λ x. TellsOffers (offers_from ws x) log log' in
+    let asked : (read (turn_of at step bytes notes) e).questions ≡ p.questions = ap (λ (x : Progress). x.questions) here in
+    let A : Option ℕ → Type 0 = λ c. IsAnswered c (read (turn_of at step bytes notes) e).questions auths in
+    let B : List Question → Type 0 = λ q. IsAnswered p.cut q auths in
+    let M : Option ℕ → Type 0 = λ c. MayCome c before after (paired (read (turn_of at step bytes notes) e).questions auths) in
+    let N : List Question → Type 0 = λ q. MayCome p.cut before after (paired q auths) in
     record {
       applies = record {
-        notes = w.notes;
-        may = record { answers = subst P (sym here) w.answers; cut = subst C (sym w.cut) (subst Q (sym leads) cut) };
+        notes = notes;
+        may = record { answers = subst P (sym here) w.answers; asked = subst A (sym w.cut) (subst B (sym asked) all); cut = subst C (sym w.cut) (subst Q (sym leads) cut) };
         leaves =
             ap (λ (x : Progress). if has_ended e.talk then x.engine else starved_after w.notes.starved at x.engine) leads
-            ∙ ap (λ (c : Option ℕ). if has_ended e.talk then p'.engine else starved_after c at p'.engine) w.cut ∙ after;
+            ∙ ap (λ (c : Option ℕ). if has_ended e.talk then p'.engine else starved_after c at p'.engine) w.cut ∙ leaves;
         tells = subst R (sym here) w.tells;
       };
+      exchanged = subst M (sym w.cut) (subst N (sym asked) may);
       counted = w.counted;
     }
 
 -- a session that had ended takes the step alone
-pub applies-over : (at : ℕ) (step : Step) (bytes : List ℕ) (e e' : Engine) (log log' : Option Log) (m n : ℕ) → has_ended e.talk ≡ true
-    → e' ≡ step_engine at step bytes e → log' ≡ log → AppliesCounted at step bytes e e' log log' m n
-applies-over at step bytes e e' log log' m n h same told =
+pub applies-over : (at : ℕ) (step : Step) (bytes : List ℕ) (e e' : Engine) (log log' : Option Log) (m n : ℕ) (before after : Exchange → Type 0) (list list' : List Asked) → list ≡ [] → has_ended e.talk ≡ true
+    → StepHears at step e e' before after list list' → log' ≡ log → AppliesCounted at step bytes e e' log log' m n before after
+applies-over at step bytes e e' log log' m n before after list list' empty h heard told =
     let k = parts_of (is_part step e) in
-    let p = making at None e' k in
-    let over : has_ended e'.talk ≡ true = ap (λ (x : Engine). has_ended x.talk) same ∙ step-ended at step bytes e h in
+    let same = heard.engine bytes in
+    let qs = step_questions at step heard.answers e in
+    let p = making at None [] qs e' k in
+    let over : has_ended e'.talk ≡ true = ap (λ (x : Engine). has_ended x.talk) same ∙ step-ended at step bytes heard.answers e h in
     let none : IsFalse (can_write e') = over-writes e' over in
-    applies-of at step bytes e e' log log' m n p p
-    (ap (reading (is_piece step)) (step-done at None step bytes e (is_part step e) refl tt ∙ ap (λ x. making at None x k) (sym same)) ∙ over-reads (is_piece step) p over)
-    (writes-none p p log log' m n refl (ap (λ (x : Engine). making at None x k) (sym (over-refuses e' over))) none told) tt (if_case (λ (x : Engine). x ≡ e') (has_ended e.talk) e' e' refl refl)
+    let auths : List Asked = heard.answers in
+    let stepped : step_part step bytes (begun at None auths e) ≡ p =
+    step-done at None step bytes auths e (is_part step e) refl tt (no-questions at step auths e)
+    ∙ ap (λ (x : Engine). making at None (drop (length qs) auths) qs x k) (sym same)
+    ∙ ap (λ (left : List Asked). making at None left qs e' k) (ap (drop (length qs)) (sym (append-nil auths)) ∙ left-answers qs auths [] heard.asks.all) in
+    applies-of at step bytes e e' log log' m n before after auths p p
+    (ap (reading (is_piece step)) stepped ∙ over-reads (is_piece step) p over)
+    (writes-none p p log log' m n refl (ap (λ (x : Engine). making at None [] qs x k) (sym (over-refuses e' over))) none told) tt (if_case (λ (x : Engine). x ≡ e') (has_ended e.talk) e' e' refl refl)
+    (answered-all None qs auths heard.asks.all) heard.asks.allowed
 
 -- and where memory is refused, nothing
-pub refused-over : (at : ℕ) (step : Step) (bytes : List ℕ) (e e' : Engine) (log log' : Option Log) (m n : ℕ) → has_ended e.talk ≡ true → is_part step e ≡ true
-    → e' ≡ e → log' ≡ log → AppliesCounted at step bytes e e' log log' m n
-refused-over at step bytes e e' log log' m n h is same told =
-    let p = making at (Some 0) e 0 in
-    applies-of at step bytes e e' log log' m n p p
-    (step-refused at step bytes e is) (writes-cut p log log' m n refl told) refl
-    (if-true (has_ended e.talk) e (starved_after (Some 0) at e) h ∙ sym same)
+pub refused-over : (at : ℕ) (step : Step) (bytes : List ℕ) (e e' : Engine) (log log' : Option Log) (m n : ℕ) (before after : Exchange → Type 0) (auths : List Asked) → has_ended e.talk ≡ true → is_part step e ≡ true
+    → e' ≡ e → log' ≡ log → AppliesCounted at step bytes e e' log log' m n before after
+refused-over at step bytes e e' log log' m n before after auths h is same told =
+    let p = making at (Some 0) auths [] e 0 in
+    applies-of at step bytes e e' log log' m n before after auths p p
+    (step-refused at step bytes auths e is) (writes-cut p log log' m n refl told) refl
+    (if-true (has_ended e.talk) e (starved_after (Some 0) at e) h ∙ sym same) (answered-none 0 auths) tt
 
 -- a step starves nobody
-pub step-starved : (at : ℕ) (step : Step) (bytes : List ℕ) (e : Engine) → (step_engine at step bytes e).starved ≡ e.starved
-step-starved at Linked bytes e =
+pub step-starved : (at : ℕ) (step : Step) (bytes : List ℕ) (answers : List Asked) (e : Engine) → (step_engine at step bytes answers e).starved ≡ e.starved
+step-starved at Linked bytes answers e =
     if_case (λ (x : Engine). x.starved ≡ e.starved) (is_asked e.talk)
     (record { talk = linked (present_at at e.talk); unread = []; place = 0; unsent = []; starved = e.starved }) (rule_at at (λ t. t) e) refl refl
-step-starved at LinkFailed bytes e = settle-starved (rule_at at link_failed e)
-step-starved at (Piece n) bytes e =
+step-starved at LinkFailed bytes answers e = settle-starved (rule_at at link_failed e)
+step-starved at (Piece n) bytes answers e =
     let x : Engine = record e { talk = piece (present_at at e.talk); unread = e.unread ++ bytes } in
     if_case (λ (x : Engine). x.starved ≡ e.starved) (is_open e.talk)
     (settle x) (rule_at at (λ t. t) e) (settle-starved x) refl
-step-starved at End bytes e = settle-starved (rule_at at (lost Aborted) e)
-step-starved at Fault bytes e = settle-starved (rule_at at (lost Reset) e)
-step-starved at Room bytes e = refl
-step-starved at Tick bytes e = settle-starved (rule_at at tick e)
-step-starved at (Command c) bytes e = refl
+step-starved at End bytes answers e = settle-starved (rule_at at (lost Aborted) e)
+step-starved at Fault bytes answers e = settle-starved (rule_at at (lost Reset) e)
+step-starved at Room bytes answers e = refl
+step-starved at Tick bytes answers e = settle-starved (rule_at at (tick answers) e)
+step-starved at (Command c) bytes answers e = refl

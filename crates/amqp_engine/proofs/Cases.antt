@@ -3,7 +3,7 @@ use Rattle.std.proofs.Common.{◌≡◌, ◌≤◌, ◌<◌, ℕ, ◌+◌, Bool,
 use Rattle.std.proofs.lemmas.Bool.Decides.{nat_tests}
 use Rattle.amqp_engine.specs.Counts.{Rose}
 use Rattle.amqp_engine.specs.Turn.{is_before}
-use Rattle.amqp_engine.specs.Making.{Allows}
+use Rattle.amqp_engine.specs.Making.{Reaches}
 
 pub or-true : (a : Bool) → (a || true) ≡ true
 or-true true = refl
@@ -26,13 +26,13 @@ none-from None h = refl
 none-from (Some x) h = cc
 
 -- what is allowed after one part more may be done before it
-pub is_before-Allows : (cut : Option ℕ) (n : ℕ) → Allows cut (n + 1) → is_before cut n ≡ true
-is_before-Allows None n h = refl
-is_before-Allows (Some j) n h = grind (arith, nat_tests)
+pub is_before-Reaches : (cut : Option ℕ) (n : ℕ) → Reaches cut (n + 1) → is_before cut n ≡ true
+is_before-Reaches None n h = refl
+is_before-Reaches (Some j) n h = grind (arith, nat_tests)
 
-pub Allows-less : (cut : Option ℕ) (m n : ℕ) → m ≤ n → Allows cut n → Allows cut m
-Allows-less None m n le h = tt
-Allows-less (Some j) m n le h = omega arith
+pub Reaches-less : (cut : Option ℕ) (m n : ℕ) → m ≤ n → Reaches cut n → Reaches cut m
+Reaches-less None m n le h = tt
+Reaches-less (Some j) m n le h = omega arith
 
 -- counts are between these
 pub rose-between : (a b c d : ℕ) → a ≤ b → c ≤ d → Rose b c → Rose a d

@@ -21,6 +21,7 @@ use Rattle.amqp_session.specs.declared.error.ErrorKind.{ErrorKind}
 use Rattle.amqp_session.specs.declared.error.ErrorKind.TheVariants.{IOError}
 use Rattle.amqp_session.specs.declared.misread.Misread.{Misread}
 use Rattle.amqp_session.specs.declared.misread.Misread.TheVariants as misreads
+use Rattle.amqp_session.specs.declared.auth.asked.Asked.{Asked as ProviderAnswer}
 use Rattle.amqp_session.specs.Talk.{Talk, has_ended, is_open, is_open_link, is_asked, is_asked_link, is_wanted_link, wants_link, end_of_link}
 use Rattle.amqp_session.specs.Changes.{present_at, fail}
 use Rattle.amqp_session.specs.Handshake.{protocol_header}
@@ -77,8 +78,8 @@ pub record Rules (T : Cmd → Type 0) (L : List Frame → Type 0) (I : Talk → 
   pub lost : (fault : IoFault) → Keeps I P (lost fault)
   pub misread : (why : Misread) → Keeps I P (misread why)
   -- once something was committed on the link
-  pub frame : (f : Frame) (place : ℕ) (t : Talk) (g : Frame) (fs : List Frame) → At I P t (g ∷ fs) → At I P (on_frame f place t) (g ∷ fs)
-  pub tick : Keeps I P tick
+  pub frame : (f : Frame) (answers : List ProviderAnswer) (t : Talk) (g : Frame) (fs : List Frame) → At I P t (g ∷ fs) → At I P (on_frame f answers t) (g ∷ fs)
+  pub tick : (answers : List ProviderAnswer) → Keeps I P (tick answers)
   pub command : (c : Cmd) → T c → Keeps I P (command c)
   pub taken : (n : ℕ) → Keeps I P (taken n)
 
@@ -118,11 +119,11 @@ opens-lost fault t now = kept-open t (lost fault t) (lost-link fault t) now
 opens-misread : (why : Misread) → Opens (misread why)
 opens-misread why t now = kept-open t (misread why t) (keeps-misread why t).link now
 
-opens-frame : (f : Frame) (place : ℕ) → Opens (on_frame f place)
-opens-frame f place t now = kept-open t (on_frame f place t) (keeps-frame f place t).link now
+opens-frame : (f : Frame) (answers : List ProviderAnswer) → Opens (on_frame f answers)
+opens-frame f answers t now = kept-open t (on_frame f answers t) (keeps-frame f answers t).link now
 
-opens-tick : Opens tick
-opens-tick t now = kept-open t (tick t) (keeps-tick t).link now
+pub opens-tick : (answers : List ProviderAnswer) → Opens (tick answers)
+opens-tick answers t now = kept-open t (tick answers t) (keeps-tick answers t).link now
 
 pub opens-command : (c : Cmd) → Opens (command c)
 opens-command c t now = kept-open t (command c t) (inl (stays-command c t).link) now
@@ -214,16 +215,16 @@ module _ (T : Cmd → Type 0) (L : List Frame → Type 0) (I : Talk → Type 0) 
       wanted-ended Asked h w = cc
       wanted-ended (Ended r) h w = cc
 
-  kept-frame : (f : Frame) (place : ℕ) (fs : List Frame) (t : Talk) (ss : List Sending) → (h : Kept false t ss) → h.committed ≡ fs → is_open t ≡ true
-      → Kept false (on_frame f place t) ss
-  kept-frame f place [] t ss h is opened = absurd (h.some opened is)
-  kept-frame f place (g ∷ fs) t ss h is opened =
+  kept-frame : (f : Frame) (answers : List ProviderAnswer) (fs : List Frame) (t : Talk) (ss : List Sending) → (h : Kept false t ss) → h.committed ≡ fs → is_open t ≡ true
+      → Kept false (on_frame f answers t) ss
+  kept-frame f answers [] t ss h is opened = absurd (h.some opened is)
+  kept-frame f answers (g ∷ fs) t ss h is opened =
       let Q : List Frame → Type 0 = λ x. At I P t x in
       record {
         all = h.all;
         committed = g ∷ fs;
-        now = k.frame f place t g fs (subst Q is h.now);
-        last = λ still. let l = h.last (opens-frame f place t still) in (l.0, l.1, l.2, l.3 ∙ is);
+        now = k.frame f answers t g fs (subst Q is h.now);
+        last = λ still. let l = h.last (opens-frame f answers t still) in (l.0, l.1, l.2, l.3 ∙ is);
         some = λ still none. cc;
       }
 
@@ -297,16 +298,16 @@ module _ (T : Cmd → Type 0) (L : List Frame → Type 0) (I : Talk → Type 0) 
   Tells (Command c) = T c
   Tells _ = Unit {0}
 
-  kept-step : (at : ℕ) (step : Step) (bytes : List ℕ) (e : Engine) (ss : List Sending) → is_piece step ≡ false → Tells step → Kept false e.talk ss
-      → Stepped (step_engine at step bytes e) (step_sending step e ss)
-  kept-step at Linked bytes e ss other told h = kept-linked (is_asked e.talk) at e ss refl h
-  kept-step at LinkFailed bytes e ss other told h = inl (kept-settle false _ ss (kept-at false at link_failed e.talk ss k.failed opens-failed h))
-  kept-step at End bytes e ss other told h = inl (kept-settle false _ ss (kept-at false at (lost Aborted) e.talk ss (k.lost Aborted) (opens-lost Aborted) h))
-  kept-step at Fault bytes e ss other told h = inl (kept-settle false _ ss (kept-at false at (lost Reset) e.talk ss (k.lost Reset) (opens-lost Reset) h))
-  kept-step at (Piece n) bytes e ss other told h = absurd cc
-  kept-step at Room bytes e ss other told h = inl (kept-moment false at e.talk ss h)
-  kept-step at Tick bytes e ss other told h = inl (kept-settle false _ ss (kept-at false at tick e.talk ss k.tick opens-tick h))
-  kept-step at (Command c) bytes e ss other told h = inl (kept-at false at (command c) e.talk ss (k.command c told) (opens-command c) h)
+  kept-step : (at : ℕ) (step : Step) (bytes : List ℕ) (answers : List ProviderAnswer) (e : Engine) (ss : List Sending) → is_piece step ≡ false → Tells step → Kept false e.talk ss
+      → Stepped (step_engine at step bytes answers e) (step_sending step e ss)
+  kept-step at Linked bytes answers e ss other told h = kept-linked (is_asked e.talk) at e ss refl h
+  kept-step at LinkFailed bytes answers e ss other told h = inl (kept-settle false _ ss (kept-at false at link_failed e.talk ss k.failed opens-failed h))
+  kept-step at End bytes answers e ss other told h = inl (kept-settle false _ ss (kept-at false at (lost Aborted) e.talk ss (k.lost Aborted) (opens-lost Aborted) h))
+  kept-step at Fault bytes answers e ss other told h = inl (kept-settle false _ ss (kept-at false at (lost Reset) e.talk ss (k.lost Reset) (opens-lost Reset) h))
+  kept-step at (Piece n) bytes answers e ss other told h = absurd cc
+  kept-step at Room bytes answers e ss other told h = inl (kept-moment false at e.talk ss h)
+  kept-step at Tick bytes answers e ss other told h = inl (kept-settle false _ ss (kept-at false at (tick answers) e.talk ss (k.tick answers) (opens-tick answers) h))
+  kept-step at (Command c) bytes answers e ss other told h = inl (kept-at false at (command c) e.talk ss (k.command c told) (opens-command c) h)
 
   -- ---- reading
 
@@ -319,16 +320,16 @@ module _ (T : Cmd → Type 0) (L : List Frame → Type 0) (I : Talk → Type 0) 
   kept-misread : (at : ℕ) (why : Misread) (e : Engine) (ss : List Sending) → Kept false e.talk ss → Kept false (read_badly at why e).talk ss
   kept-misread at why e ss h = kept-settle false _ ss (kept-at false at (misread why) e.talk ss (k.misread why) (opens-misread why) h)
 
-  kept-row : (at : ℕ) (r : Read) (e : Engine) (ss : List Sending) → Kept false e.talk ss → is_open e.talk ≡ true → Kept false (read_row at r e).talk ss
-  kept-row at (Whole f n) e ss h opened =
+  kept-row : (at : ℕ) (r : Read) (answers : List ProviderAnswer) (e : Engine) (ss : List Sending) → Kept false e.talk ss → is_open e.talk ≡ true → Kept false (read_row at r answers e).talk ss
+  kept-row at (Whole f n) answers e ss h opened =
       let t = present_at at e.talk in
       let m = kept-moment false at e.talk ss h in
-      kept-settle false _ ss (kept-frame f e.place m.committed t ss m refl (present-keeps is_open at e.talk (λ n. refl) ∙ opened))
-  kept-row at More e ss h opened = h
-  kept-row at (TooLarge n) e ss h opened = kept-misread at (misreads.TooLarge n) e ss h
-  kept-row at (BadHeartbeat c) e ss h opened = kept-misread at (misreads.BadHeartbeat c) e ss h
-  kept-row at Bad e ss h opened = kept-misread at (misreads.Bad e.place) e ss h
-  kept-row at ReadNoMemory e ss h opened = kept-misread at (misreads.Bad e.place) e ss h
+      kept-settle false _ ss (kept-frame f answers m.committed t ss m refl (present-keeps is_open at e.talk (λ n. refl) ∙ opened))
+  kept-row at More answers e ss h opened = h
+  kept-row at (TooLarge n) answers e ss h opened = kept-misread at (misreads.TooLarge n) e ss h
+  kept-row at (BadHeartbeat c) answers e ss h opened = kept-misread at (misreads.BadHeartbeat c) e ss h
+  kept-row at Bad answers e ss h opened = kept-misread at (misreads.Bad e.place) e ss h
+  kept-row at ReadNoMemory answers e ss h opened = kept-misread at (misreads.Bad e.place) e ss h
 
   -- ---- writing
 
@@ -475,11 +476,11 @@ module _ (T : Cmd → Type 0) (L : List Frame → Type 0) (I : Talk → Type 0) 
   kept-small =
       record {
         asked = λ e x h told. kept-asks e x.sendings (h told);
-        step = λ at step bytes e x other running h b told.
+        step = λ at step bytes answers e x other running h b told.
             (let before = told-front step x.told told in
-            kept-step at step bytes e x.sendings other before.1 (h before.0));
-        piece = λ at n bytes e x running h told. kept-piece at bytes e x.sendings (h told);
-        read = λ at e x can h told. kept-row at (front_of e) e x.sendings (h told) (and-left (is_open e.talk) _ can);
+            kept-step at step bytes answers e x.sendings other before.1 (h before.0));
+        piece = λ at n bytes answers e x running h told. kept-piece at bytes e x.sendings (h told);
+        read = λ at answers e x can h told. kept-row at (front_of e) answers e x.sendings (h told) (and-left (is_open e.talk) _ can);
         heard = λ b e x none h told. inl (h told);
         offer = λ w p x can fits h told. kept-offer p.at w p.engine x.sendings can (h told);
         rest = λ e x can none h told. rest-of e x.sendings can none (h told);

@@ -4,6 +4,7 @@ use Rattle.amqp_session.specs.declared.io_fault.IoFault.{IoFault}
 use Rattle.amqp_session.specs.declared.io_fault.IoFault.TheVariants.{Aborted, BrokenPipe}
 use Rattle.amqp_session.specs.declared.error.ErrorKind.{ErrorKind}
 use Rattle.amqp_session.specs.declared.error.ErrorKind.TheVariants.{IOError}
+use Rattle.amqp_session.specs.Providers.{Exchange}
 use Rattle.amqp_session.specs.Talk.{Talk, has_ended, is_open, end_of}
 use Rattle.amqp_engine.specs.declared.port.Step.{Step}
 use Rattle.amqp_engine.specs.declared.port.Step.TheVariants.{LinkFailed, End, Fault}
@@ -31,10 +32,10 @@ fault-end (Some (Err e)) fault h = ap (λ (k : ErrorKind). Some (Err k)) (fault-
 -- ---- a turn
 
 -- a fault is brought by the step, or by a write, which was counted
-pub applied-fault : (at : ℕ) (step : Step) (bytes : List ℕ) (e e' : Engine) (log log' : Option Log) (m n : ℕ) (fault : IoFault)
-    → AppliesCounted at step bytes e e' log log' m n → has_ended e.talk ≡ false → fault_of e'.talk ≡ Some fault
+pub applied-fault : (at : ℕ) (step : Step) (bytes : List ℕ) (e e' : Engine) (log log' : Option Log) (m n : ℕ) (before after : Exchange → Type 0) (fault : IoFault)
+    → AppliesCounted at step bytes e e' log log' m n before after → has_ended e.talk ≡ false → fault_of e'.talk ≡ Some fault
     → (brought step e.talk ≡ Some fault) ⊎ ((fault ≡ BrokenPipe) × Rose m n)
-applied-fault at step bytes e e' log log' m n fault a running h =
+applied-fault at step bytes e e' log log' m n before after fault a running h =
     elim (applied-cause at step bytes e e' log log' (IOError fault) a.applies running (fault-end (end_of e'.talk) fault h)) [ inl step_brings ↦ inl step_brings | inr failed ↦ inr (failed.0, a.counted failed.1) ]
 
 -- what a step brings that a port counts is a fault of the port

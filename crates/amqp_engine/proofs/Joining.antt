@@ -5,20 +5,22 @@ use Rattle.amqp_frame.specs.declared.frame.Read.{Read}
 use Rattle.amqp_frame.specs.declared.frame.Read.TheVariants.{Whole, More, TooLarge, BadHeartbeat, Bad, NoMemory}
 use Rattle.amqp_session.specs.declared.capacity.TheConstants.{LEAST_CAPACITY}
 use Rattle.amqp_session.specs.declared.misread.Misread.TheVariants as why
+use Rattle.amqp_session.specs.declared.auth.asked.Question.{Question}
+use Rattle.amqp_session.specs.declared.auth.asked.Asked.{Asked}
 use Rattle.amqp_session.specs.Talk.{is_open}
 use Rattle.amqp_session.specs.Negotiation.{frame_limit}
 use Rattle.amqp_session.specs.Changes.{present_at}
 use Rattle.amqp_session.specs.Links.{piece, misread}
 use Rattle.amqp_session.specs.Frames.{on_frame}
 use Rattle.amqp_engine.specs.Plan.{at_most_64}
-use Rattle.amqp_engine.specs.Engine.{Engine, rule_at, settle, step_piece, front_of, is_more, can_read, read_row, read_one, starve_at}
+use Rattle.amqp_engine.specs.Engine.{Engine, rule_at, settle, step_piece, front_of, is_more, can_read, read_row, row_questions, read_one, read_questions, starve_at}
 use Rattle.amqp_engine.specs.Turn.{reads, reading}
-use Rattle.amqp_engine.specs.Making.{making, keeps_unread, IsSettled, joined, Allows}
+use Rattle.amqp_engine.specs.Making.{making, keeps_unread, IsSettled, joined, Reaches}
 use Rattle.amqp_session.proofs.Cases.{if_case, if-true, if-false}
 use Rattle.amqp_engine.proofs.Cases.{and-left, and-right, and-other, from-not-false, from-not-true}
 use Rattle.amqp_engine.proofs.Settling.{settle-talk, settle-kept, settle-bytes}
 use Rattle.amqp_engine.proofs.Fronts.{says-front}
-use Rattle.amqp_engine.proofs.Reading.{none-read, read_one-shortens, reads-rest, reads-more, reads-enough}
+use Rattle.amqp_engine.proofs.Reading.{none-read, read_one-shortens, reads-rest, after_read, reads-more, reads-enough}
 
 -- ---- bytes that join
 
@@ -91,50 +93,60 @@ read-kept e settled can = by (keeps_unread e.talk) refl
     by true kept = kept
     by false over = absurd (let none : can_read e ≡ false = over-read e settled over in cc)
 
-row-joined : (at : ℕ) (r : Read) (rest : List ℕ) (e : Engine) → front_of e ≡ r → not (is_more r) ≡ true
-    → read_row at r (record e { unread = e.unread ++ rest }) ≡ joined rest (read_row at r e)
-row-joined at (Whole f n) rest e is some =
-    let x : Engine = record e { talk = on_frame f e.place (present_at at e.talk); unread = drop n e.unread; place = at_most_64 (e.place + n) } in
+row-joined : (at : ℕ) (r : Read) (rest : List ℕ) (answers : List Asked) (e : Engine) → front_of e ≡ r → not (is_more r) ≡ true
+    → read_row at r answers (record e { unread = e.unread ++ rest }) ≡ joined rest (read_row at r answers e)
+row-joined at (Whole f n) rest answers e is some =
+    let x : Engine = record e { talk = on_frame f answers (present_at at e.talk); unread = drop n e.unread; place = at_most_64 (e.place + n) } in
     let within : n ≤ length e.unread = omega (arith, ((says-front (frame_limit e.talk)).size e.unread f n is).1) in
     ap (λ (bytes : List ℕ). settle (record x { unread = bytes })) (drop-append-le n e.unread rest within) ∙ sym (joined-settle rest x)
-row-joined at More rest e is some = cc
-row-joined at (TooLarge n) rest e is some = sym (joined-settle rest (rule_at at (misread (why.TooLarge n)) e))
-row-joined at (BadHeartbeat n) rest e is some = sym (joined-settle rest (rule_at at (misread (why.BadHeartbeat n)) e))
-row-joined at Bad rest e is some = sym (joined-settle rest (rule_at at (misread (why.Bad e.place)) e))
-row-joined at NoMemory rest e is some = sym (joined-settle rest (rule_at at (misread (why.Bad e.place)) e))
+row-joined at More rest answers e is some = cc
+row-joined at (TooLarge n) rest answers e is some = sym (joined-settle rest (rule_at at (misread (why.TooLarge n)) e))
+row-joined at (BadHeartbeat n) rest answers e is some = sym (joined-settle rest (rule_at at (misread (why.BadHeartbeat n)) e))
+row-joined at Bad rest answers e is some = sym (joined-settle rest (rule_at at (misread (why.Bad e.place)) e))
+row-joined at NoMemory rest answers e is some = sym (joined-settle rest (rule_at at (misread (why.Bad e.place)) e))
 
-record ReadsAlike (at : ℕ) (rest : List ℕ) (e : Engine) : Type 0 where
+-- what is asked does not look at what joins
+row-asks : (at : ℕ) (r : Read) (rest : List ℕ) (e : Engine) → row_questions at r (record e { unread = e.unread ++ rest }) ≡ row_questions at r e
+row-asks at (Whole f n) rest e = refl
+row-asks at _ rest e = refl
+
+record ReadsAlike (at : ℕ) (rest : List ℕ) (answers : List Asked) (e : Engine) : Type 0 where
   can : can_read (joined rest e) ≡ true
-  same : read_one at (joined rest e) ≡ joined rest (read_one at e)
+  same : read_one at answers (joined rest e) ≡ joined rest (read_one at answers e)
+  questions : read_questions at (joined rest e) ≡ read_questions at e
 
 -- what stands at the front stands there with the rest behind it
-read-joined : (at : ℕ) (rest : List ℕ) (e : Engine) → IsSettled e → can_read e ≡ true → ReadsAlike at rest e
-read-joined at rest e settled can =
+read-joined : (at : ℕ) (rest : List ℕ) (answers : List Asked) (e : Engine) → IsSettled e → can_read e ≡ true → ReadsAlike at rest answers e
+read-joined at rest answers e settled can =
     let g : Engine = record e { unread = e.unread ++ rest } in
     let all : joined rest e ≡ g = joined-kept rest e (read-kept e settled can) in
     let some : not (is_more (front_of e)) ≡ true = and-right (is_open e.talk) (not (is_more (front_of e))) can in
     let front : front_of g ≡ front_of e = (says-front (frame_limit e.talk)).stays e.unread rest (from-not-true (is_more (front_of e)) some) in
     record {
       can = ap can_read all ∙ ap (λ (r : Read). is_open e.talk && not (is_more r)) front ∙ can;
-      same = ap (read_one at) all ∙ ap (λ (r : Read). read_row at r g) front ∙ row-joined at (front_of e) rest e refl some;
+      same = ap (read_one at answers) all ∙ ap (λ (r : Read). read_row at r answers g) front ∙ row-joined at (front_of e) rest answers e refl some;
+      questions = ap (read_questions at) all ∙ ap (λ (r : Read). row_questions at r g) front ∙ row-asks at (front_of e) rest e;
     }
 
 -- reading goes on after one frame
-pub reading-more : (at : ℕ) (cut : Option ℕ) (rest : List ℕ) (e : Engine) (parts : ℕ) → IsSettled e → can_read e ≡ true → Allows cut (parts + 1)
-    → reading true (making at cut (joined rest e) parts) ≡ reading true (making at cut (joined rest (read_one at e)) (parts + 1))
-reading-more at cut rest e parts settled can allows =
+pub reading-more : (at : ℕ) (cut : Option ℕ) (rest : List ℕ) (answers : List Asked) (questions : List Question) (e : Engine) (parts : ℕ) → IsSettled e → can_read e ≡ true → Reaches cut (parts + 1)
+    → reading true (making at cut answers questions (joined rest e) parts)
+    ≡ reading true (making at cut (drop (length (read_questions at e)) answers) (questions ++ read_questions at e) (joined rest (read_one at answers e)) (parts + 1))
+reading-more at cut rest answers questions e parts settled can allows =
     let g = joined rest e in
-    let alike = read-joined at rest e settled can in
-    let less = (read_one-shortens at g alike.can).less in
+    let alike = read-joined at rest answers e settled can in
+    let less = (read_one-shortens at answers g alike.can).less in
     let m = length g.unread - 1 in
     let left : length g.unread ≡ suc m = omega (arith, less) in
-    ap (λ (k : ℕ). reads k (making at cut g parts)) left ∙ reads-more m at cut g parts alike.can allows
-    ∙ reads-enough m (length (read_one at g).unread) (making at cut (read_one at g) (parts + 1)) (omega (arith, less)) (omega arith)
-    ∙ ap (λ (x : Engine). reading true (making at cut x (parts + 1))) alike.same
+    ap (λ (k : ℕ). reads k (making at cut answers questions g parts)) left ∙ reads-more m at cut answers questions g parts alike.can allows
+    ∙ reads-enough m (length (read_one at answers g).unread) (after_read at cut answers questions g parts) (omega (arith, less)) (omega arith)
+    ∙ ap (λ (x : Engine). reading true (making at cut (drop (length (read_questions at g)) answers) (questions ++ read_questions at g) x (parts + 1))) alike.same
+    ∙ ap (λ (q : List Question). reading true (making at cut (drop (length q) answers) (questions ++ q) (joined rest (read_one at answers e)) (parts + 1))) alike.questions
 
 -- and is over where nothing can be read
-reading-over : (at : ℕ) (cut : Option ℕ) (e : Engine) (parts : ℕ) → can_read e ≡ false → reading true (making at cut e parts) ≡ making at cut e parts
-reading-over at cut e parts none = reads-rest (length e.unread) (making at cut e parts) none
+reading-over : (at : ℕ) (cut : Option ℕ) (answers : List Asked) (questions : List Question) (e : Engine) (parts : ℕ) → can_read e ≡ false
+    → reading true (making at cut answers questions e parts) ≡ making at cut answers questions e parts
+reading-over at cut answers questions e parts none = reads-rest (length e.unread) (making at cut answers questions e parts) none
 
 -- then there is room for more
 pub has-room : (e : Engine) → LEAST_CAPACITY ≤ e.talk.capacity → keeps_unread e.talk ≡ true → can_read e ≡ false → length e.unread < e.talk.capacity
@@ -156,9 +168,10 @@ part-joined n j piece e e' is =
     ∙ ap (λ (rest : List ℕ). joined rest e') (drop-drop n j piece)
 
 -- all of it has joined, and was read as far as it goes
-pub all-read : (at : ℕ) (cut : Option ℕ) (n : ℕ) (piece : List ℕ) (e : Engine) (parts : ℕ) → n ≡ length piece → can_read e ≡ false
-    → reading true (making at cut (joined (drop n piece) e) parts) ≡ making at cut e parts
-all-read at cut n piece e parts all none =
+pub all-read : (at : ℕ) (cut : Option ℕ) (answers : List Asked) (questions : List Question) (n : ℕ) (piece : List ℕ) (e : Engine) (parts : ℕ) → n ≡ length piece → can_read e ≡ false
+    → reading true (making at cut answers questions (joined (drop n piece) e) parts) ≡ making at cut answers questions e parts
+all-read at cut answers questions n piece e parts all none =
     let rest : drop n piece ≡ [] = nil_from_length (drop n piece) (omega (arith, length-drop n piece)) in
-    ap (λ (bytes : List ℕ). reading true (making at cut (joined bytes e) parts)) rest ∙ ap (λ (x : Engine). reading true (making at cut x parts)) (joined-none e)
-    ∙ reading-over at cut e parts none
+    ap (λ (bytes : List ℕ). reading true (making at cut answers questions (joined bytes e) parts)) rest
+    ∙ ap (λ (x : Engine). reading true (making at cut answers questions x parts)) (joined-none e)
+    ∙ reading-over at cut answers questions e parts none

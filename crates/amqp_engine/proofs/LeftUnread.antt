@@ -8,6 +8,7 @@ use Rattle.amqp_session.specs.declared.state.Link.TheVariants.{Wanted, Asked, Op
 use Rattle.amqp_session.specs.declared.io_fault.IoFault.TheVariants.{Aborted, Reset, BrokenPipe}
 use Rattle.amqp_session.specs.declared.command.Answer.{Answer}
 use Rattle.amqp_session.specs.declared.error.ErrorKind.{ErrorKind}
+use Rattle.amqp_session.specs.declared.auth.asked.Asked.{Asked as ProviderAnswer}
 use Rattle.amqp_session.specs.Talk.{Talk, is_open, is_open_link, is_asked, has_ended, drops_input}
 use Rattle.amqp_session.specs.declared.configuration.Configuration.{Configuration}
 use Rattle.amqp_session.specs.Negotiation.{frame_limit, wish_or}
@@ -22,7 +23,7 @@ use Rattle.amqp_engine.specs.declared.port.Step.{Step}
 use Rattle.amqp_engine.specs.declared.port.Step.TheVariants.{Linked, LinkFailed, Piece, End, Fault, Room, Tick, Command}
 use Rattle.amqp_engine.specs.declared.port.Wrote.{Wrote}
 use Rattle.amqp_engine.specs.declared.port.Wrote.TheVariants.{Took, Failed, NoMemory as WroteNoMemory}
-use Rattle.amqp_engine.specs.Engine.{Engine, front_of, is_more, can_read, rule_at, with_talk, step_engine, settle, took, wrote, commit_all, commits, ended_overlong, starve_at}
+use Rattle.amqp_engine.specs.Engine.{Engine, front_of, is_more, can_read, rule_at, with_talk, step_engine, step_linked, settle, took, wrote, commit_all, commits, ended_overlong, starve_at}
 use Rattle.amqp_session.specs.Writing.{frames_waiting}
 use Rattle.amqp_engine.specs.Turn.{Turn, Progress, asks, wants_ask, is_piece, answered, applied, turn, IsApplied, IsTurn}
 use Rattle.amqp_engine.specs.Log.{Log}
@@ -134,33 +135,33 @@ rule-read at f h e k =
 link_failed-stays : (t : Talk) → (link_failed t ≡ t) ⊎ (has_ended (link_failed t) ≡ true)
 link_failed-stays t = if_case (λ (x : Talk). (x ≡ t) ⊎ (has_ended x ≡ true)) (is_asked t) (fail _ t) t (inr refl) (inl refl)
 
-linked-read : (at : ℕ) (e : Engine) → IsRead e → IsRead (step_engine at Linked [] e)
+linked-read : (at : ℕ) (e : Engine) → IsRead e → IsRead (step_linked at e)
 linked-read at e h =
     if_case IsRead (is_asked e.talk)
     (record { talk = linked (present_at at e.talk); unread = []; place = 0; unsent = []; starved = e.starved }) (rule_at at (λ t. t) e)
     (λ opened. front-none (frame_limit (linked (present_at at e.talk)))) (moment-read at e h)
 
 -- time goes by
-tick-read : (at : ℕ) (e : Engine) → IsRead e → IsRead (settle (rule_at at tick e))
-tick-read at e h =
+tick-read : (at : ℕ) (answers : List ProviderAnswer) (e : Engine) → IsRead e → IsRead (settle (rule_at at (tick answers) e))
+tick-read at answers e h =
     let t = present_at at e.talk in
     let here : Engine = rule_at at (λ y. y) e in
-    let x : Engine = rule_at at tick e in
-    let limit : frame_limit x.talk ≡ frame_limit t = tick-keeps frame_limit (λ y s l cs ps. refl) (λ y q n. refl) t in
-    settle-read x (elim (keeps-tick t).link [
+    let x : Engine = rule_at at (tick answers) e in
+    let limit : frame_limit x.talk ≡ frame_limit t = tick-keeps frame_limit (λ y s l cs ps. refl) (λ y q n m b. refl) answers t in
+    settle-read x (elim (keeps-tick answers t).link [
       | inl same ↦ same-read here x (ap is_open_link same) refl limit (moment-read at e h)
       | inr ended ↦ closed-read x (ended-closed x.talk.link ended)
     ])
 
-step-read : (at : ℕ) (step : Step) (bytes : List ℕ) (e : Engine) → is_piece step ≡ false → IsRead e → IsRead (step_engine at step bytes e)
-step-read at Linked bytes e piece h = linked-read at e h
-step-read at LinkFailed bytes e piece h = rule-read at link_failed link_failed-stays e h
-step-read at (Piece n) bytes e piece h = cc
-step-read at End bytes e piece h = rule-read at (lost Aborted) (lost-stays Aborted) e h
-step-read at Fault bytes e piece h = rule-read at (lost Reset) (lost-stays Reset) e h
-step-read at Room bytes e piece h = moment-read at e h
-step-read at Tick bytes e piece h = tick-read at e h
-step-read at (Command c) bytes e piece h = command-read c (rule_at at (λ t. t) e) (moment-read at e h)
+step-read : (at : ℕ) (step : Step) (bytes : List ℕ) (answers : List ProviderAnswer) (e : Engine) → is_piece step ≡ false → IsRead e → IsRead (step_engine at step bytes answers e)
+step-read at Linked bytes answers e piece h = linked-read at e h
+step-read at LinkFailed bytes answers e piece h = rule-read at link_failed link_failed-stays e h
+step-read at (Piece n) bytes answers e piece h = cc
+step-read at End bytes answers e piece h = rule-read at (lost Aborted) (lost-stays Aborted) e h
+step-read at Fault bytes answers e piece h = rule-read at (lost Reset) (lost-stays Reset) e h
+step-read at Room bytes answers e piece h = moment-read at e h
+step-read at Tick bytes answers e piece h = tick-read at answers e h
+step-read at (Command c) bytes answers e piece h = command-read c (rule_at at (λ t. t) e) (moment-read at e h)
 
 took-read : (at k : ℕ) (e : Engine) → IsRead e → IsRead (took at k e)
 took-read at k e h =
@@ -221,9 +222,9 @@ small : lifting.Small (Unit {0}) asking stepping offering While Before Between
 small =
     record {
       asked = λ e x h. asks-read e h;
-      step = λ at step bytes e x other running h b on. step-read at step bytes e other h;
-      piece = λ at n bytes e x running h. tt;
-      read = λ at e x can h. tt;
+      step = λ at step bytes answers e x other running h b on. step-read at step bytes answers e other h;
+      piece = λ at n bytes answers e x running h. tt;
+      read = λ at answers e x can h. tt;
       heard = λ b e x done h on. cannot-read e (done on);
       offer = λ w p x can fits h. answered-read p.at w p.engine (h refl);
       rest = λ e x can none h. h refl;

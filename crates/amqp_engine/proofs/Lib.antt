@@ -2,6 +2,7 @@
 
 -- Small facts by cases, and on two slices and the pieces of a script.
 pub mod Cases
+pub mod Answering
 pub mod Bytes
 pub mod Pieces
 -- What settling leaves, what committing a frame does, what is said of the front of octets, that reading goes on to the end, and that a piece is read
@@ -22,7 +23,8 @@ pub mod Telling
 pub mod Offers
 pub mod Applying
 pub mod Running
--- The turns of a script: `run: played`, and the law that a script has its turns.
+-- What is done goes by as many answers as were asked for, and the turns of a script: `run: played`, and the law that a script has its turns.
+pub mod FirstAnswers
 pub mod Playing
 -- No whole frame is left unread: `read`, and its law, by lifting.
 pub mod LeftUnread

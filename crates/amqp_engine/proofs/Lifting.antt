@@ -1,12 +1,14 @@
 -- What each small step of a turn keeps, a turn keeps, and so do turns.
 use Rattle.std.proofs.Common.{◌≡◌, ◌⊎◌, inl, inr, ℕ, zero, suc, ◌&&◌, if◌then◌else◌, Bool, true, false, IsFalse, MatchBool, List, [], ◌∷◌, length, Option, Some, None, refl, ap, sym, ◌∙◌, subst, arith}
+use Rattle.amqp_session.specs.declared.auth.asked.Question.{Question}
+use Rattle.amqp_session.specs.declared.auth.asked.Asked.{Asked}
 use Rattle.amqp_session.specs.Talk.{has_ended}
 use Rattle.amqp_engine.specs.declared.port.Step.{Step}
 use Rattle.amqp_engine.specs.declared.port.Step.TheVariants.{Linked, LinkFailed, Piece, End, Fault, Room, Tick, Command}
 use Rattle.amqp_engine.specs.declared.port.Wrote.{Wrote}
 use Rattle.amqp_engine.specs.Log.{IsWithin}
-use Rattle.amqp_engine.specs.Engine.{Engine, step_engine, can_read, read_one, overlong_next, ended_overlong, refuse_overlong, can_write, starve_at}
-use Rattle.amqp_engine.specs.Turn.{Turn, answers_of, Progress, asks, begun, goes, is_before, part, is_part, is_piece, step_part, reads, read_part, reading, drain, offer_part, closing, drained, offered, answered, is_all, AreAnswers, read, written, applied, turn, turns, starved_after, IsCut, IsApplied, IsTurn, AreTurns}
+use Rattle.amqp_engine.specs.Engine.{Engine, step_engine, step_questions, can_read, read_one, overlong_next, ended_overlong, refuse_overlong, can_write, starve_at}
+use Rattle.amqp_engine.specs.Turn.{Turn, answers_of, Progress, asks, begun, goes, is_before, part, questioned, is_part, is_piece, step_part, reads, read_part, reading, drain, offer_part, closing, drained, offered, answered, is_all, AreAnswers, read, written, applied, turn, turns, starved_after, IsCut, IsApplied, IsTurn, AreTurns}
 use Rattle.amqp_session.proofs.Cases.{if_case, if_by, if-true, if-false}
 use Rattle.amqp_engine.proofs.Cases.{and-left, and-right, and-other}
 use Rattle.amqp_engine.proofs.Over.{asks-running}
@@ -14,42 +16,43 @@ use Rattle.amqp_engine.proofs.Reading.{reads-done, reading-cut}
 
 -- ---- what no part changes
 
-pub stays-reads : {A : Type 0} (f : Progress → A) (h : (e : Engine) (n : ℕ) (p : Progress) → f (record p { engine = e; done = n }) ≡ f p) (n : ℕ) (p : Progress)
+pub stays-reads : {A : Type 0} (f : Progress → A) (h : (e : Engine) (n : ℕ) (left : List Asked) (qs : List Question) (p : Progress) → f (record p { engine = e; done = n; answers = left; questions = qs }) ≡ f p) (n : ℕ) (p : Progress)
     → f (reads n p) ≡ f p
 stays-reads f h zero p = refl
 stays-reads f h (suc n) p =
-    if_case (λ (x : Progress). f x ≡ f p) (goes p && can_read p.engine) (reads n (read_part p)) p (stays-reads f h n (read_part p) ∙ h _ _ p) refl
+    if_case (λ (x : Progress). f x ≡ f p) (goes p && can_read p.engine) (reads n (read_part p)) p (stays-reads f h n (read_part p) ∙ h _ _ _ _ p) refl
 
-stays-step : {A : Type 0} (f : Progress → A) (h : (e : Engine) (n : ℕ) (p : Progress) → f (record p { engine = e; done = n }) ≡ f p) (step : Step) (bytes : List ℕ) (p : Progress)
+stays-step : {A : Type 0} (f : Progress → A) (h : (e : Engine) (n : ℕ) (left : List Asked) (qs : List Question) (p : Progress) → f (record p { engine = e; done = n; answers = left; questions = qs }) ≡ f p) (step : Step) (bytes : List ℕ) (p : Progress)
     → f (step_part step bytes p) ≡ f p
 stays-step f h step bytes p =
-    let after = step_engine p.at step bytes p.engine in
-    if_case (λ (x : Progress). f x ≡ f p) (is_part step p.engine) (if goes p then part after p else p) (record p { engine = after })
-    (if_case (λ (x : Progress). f x ≡ f p) (goes p) (part after p) p (h _ _ p) refl) (h _ _ p)
+    let after = step_engine p.at step bytes p.answers p.engine in
+    let q = questioned (step_questions p.at step p.answers p.engine) p in
+    if_case (λ (x : Progress). f x ≡ f p) (is_part step p.engine) (if goes p then part after q else p) (record p { engine = after })
+    (if_case (λ (x : Progress). f x ≡ f p) (goes p) (part after q) p (h _ _ _ _ p) refl) (h _ _ _ _ p)
 
-pub stays-read : {A : Type 0} (f : Progress → A) (h : (e : Engine) (n : ℕ) (p : Progress) → f (record p { engine = e; done = n }) ≡ f p) (u : Turn) (e : Engine)
-    → f (read u e) ≡ f (begun u.at u.notes.starved e)
+pub stays-read : {A : Type 0} (f : Progress → A) (h : (e : Engine) (n : ℕ) (left : List Asked) (qs : List Question) (p : Progress) → f (record p { engine = e; done = n; answers = left; questions = qs }) ≡ f p) (u : Turn) (e : Engine)
+    → f (read u e) ≡ f (begun u.at u.notes.starved u.notes.auths e)
 stays-read f h u e =
-    let p = begun u.at u.notes.starved e in
+    let p = begun u.at u.notes.starved u.notes.auths e in
     let s = step_part u.step u.bytes p in
     if_case (λ (x : Progress). f x ≡ f s) (is_piece u.step) (reads (length s.engine.unread) s) s (stays-reads f h (length s.engine.unread) s) refl
     ∙ stays-step f h u.step u.bytes p
 
-pub stays-drain : {A : Type 0} (f : Progress → A) (h : (e : Engine) (n : ℕ) (p : Progress) → f (record p { engine = e; done = n }) ≡ f p) (ws : List Wrote) (p : Progress)
+pub stays-drain : {A : Type 0} (f : Progress → A) (h : (e : Engine) (n : ℕ) (left : List Asked) (qs : List Question) (p : Progress) → f (record p { engine = e; done = n; answers = left; questions = qs }) ≡ f p) (ws : List Wrote) (p : Progress)
     → f (drain ws p) ≡ f p
 stays-drain f h [] p = refl
-stays-drain f h (w ∷ ws) p = stays-drain f h ws (offer_part w p) ∙ h _ _ p
+stays-drain f h (w ∷ ws) p = stays-drain f h ws (offer_part w p) ∙ h _ _ _ _ p
 
-pub stays-drained : {A : Type 0} (f : Progress → A) (h : (e : Engine) (n : ℕ) (p : Progress) → f (record p { engine = e; done = n }) ≡ f p) (ws : List Wrote) (p : Progress)
+pub stays-drained : {A : Type 0} (f : Progress → A) (h : (e : Engine) (n : ℕ) (left : List Asked) (qs : List Question) (p : Progress) → f (record p { engine = e; done = n; answers = left; questions = qs }) ≡ f p) (ws : List Wrote) (p : Progress)
     → f (drained ws p) ≡ f p
-stays-drained f h [] p = if_case (λ (x : Progress). f x ≡ f p) (goes p) (record p { engine = refuse_overlong p.engine }) p (h (refuse_overlong p.engine) p.done p) refl
+stays-drained f h [] p = if_case (λ (x : Progress). f x ≡ f p) (goes p) (record p { engine = refuse_overlong p.engine }) p (h (refuse_overlong p.engine) p.done p.answers p.questions p) refl
 stays-drained f h (w ∷ ws) p =
     if_case (λ (x : Progress). f x ≡ f p) (is_all w (length (offered p.engine))) (drained ws (offer_part w p)) (offer_part w p)
-    (stays-drained f h ws (offer_part w p) ∙ h _ _ p) (h _ _ p)
+    (stays-drained f h ws (offer_part w p) ∙ h _ _ _ _ p) (h _ _ _ _ p)
 
 -- a turn is cut where that is noted
 pub read-cut : (u : Turn) (e : Engine) → (read u e).cut ≡ u.notes.starved
-read-cut u e = stays-read (λ (x : Progress). x.cut) (λ f n x. refl) u e
+read-cut u e = stays-read (λ (x : Progress). x.cut) (λ f n left qs x. refl) u e
 
 -- after one answer there are more, or none
 pub all-rest : (b : Bool) (ws : List Wrote) (p : Progress) → MatchBool b (AreAnswers ws p) (ws ≡ [])
@@ -77,10 +80,10 @@ module _ (X : Type 0) (ask : Engine → X → X) (stepped : ℕ → Step → Lis
   -- P holds between turns; R while a piece is read; W b before the writes, where b says that the turn is not cut before them
   pub record Small (R : Engine → X → Type 0) (W : Bool → Engine → X → Type 0) (P : Engine → X → Type 0) : Type 0 where
     pub asked : (e : Engine) (x : X) → P e x → P (asks e) (ask e x)
-    pub step : (at : ℕ) (step : Step) (bytes : List ℕ) (e : Engine) (x : X) → is_piece step ≡ false → has_ended e.talk ≡ false → P e x
-        → (b : Bool) → W b (step_engine at step bytes e) (stepped at step bytes e x)
-    pub piece : (at n : ℕ) (bytes : List ℕ) (e : Engine) (x : X) → has_ended e.talk ≡ false → P e x → R (step_engine at (Piece n) bytes e) (stepped at (Piece n) bytes e x)
-    pub read : (at : ℕ) (e : Engine) (x : X) → can_read e ≡ true → R e x → R (read_one at e) x
+    pub step : (at : ℕ) (step : Step) (bytes : List ℕ) (answers : List Asked) (e : Engine) (x : X) → is_piece step ≡ false → has_ended e.talk ≡ false → P e x
+        → (b : Bool) → W b (step_engine at step bytes answers e) (stepped at step bytes e x)
+    pub piece : (at n : ℕ) (bytes : List ℕ) (answers : List Asked) (e : Engine) (x : X) → has_ended e.talk ≡ false → P e x → R (step_engine at (Piece n) bytes answers e) (stepped at (Piece n) bytes e x)
+    pub read : (at : ℕ) (answers : List Asked) (e : Engine) (x : X) → can_read e ≡ true → R e x → R (read_one at answers e) x
     pub heard : (b : Bool) (e : Engine) (x : X) → (b ≡ true → can_read e ≡ false) → R e x → W b e x
     pub offer : (w : Wrote) (p : Progress) (x : X) → can_write p.engine ≡ true → IsWithin (length (offered p.engine)) w → W true p.engine x → P (answered p.at w p.engine) (offering w p x)
     pub rest : (e : Engine) (x : X) → can_write e ≡ false → overlong_next e ≡ None → W true e x → P e x
@@ -95,49 +98,50 @@ module _ (X : Type 0) (ask : Engine → X → X) (stepped : ℕ → Step → Lis
     lift-reads zero p x h = h
     lift-reads (suc n) p x h =
         if_by (λ (y : Progress). R y.engine x) (goes p && can_read p.engine) (reads n (read_part p)) p
-        (λ on. lift-reads n (read_part p) x (k.read p.at p.engine x (and-right (goes p) (can_read p.engine) on) h)) (λ off. h)
+        (λ on. lift-reads n (read_part p) x (k.read p.at p.answers p.engine x (and-right (goes p) (can_read p.engine) on) h)) (λ off. h)
 
     -- before the writes, or cut before the step
     abbrev Ready : Turn → Engine → X → Progress → Type 0
     Ready u e x p =
         W (goes p) p.engine (stepped u.at u.step u.bytes e x)
-        ⊎ ((p ≡ begun u.at u.notes.starved e) × (goes p ≡ false) × (is_part u.step e ≡ true))
+        ⊎ ((p ≡ begun u.at u.notes.starved u.notes.auths e) × (goes p ≡ false) × (is_part u.step e ≡ true))
 
-    lift-plain : (step : Step) (at : ℕ) (bytes : List ℕ) (e : Engine) (x : X) (s : Progress) → is_piece step ≡ false → s.engine ≡ step_engine at step bytes e → has_ended e.talk ≡ false → P e x
+    lift-plain : (step : Step) (at : ℕ) (bytes : List ℕ) (answers : List Asked) (e : Engine) (x : X) (s : Progress) → is_piece step ≡ false → s.engine ≡ step_engine at step bytes answers e → has_ended e.talk ≡ false → P e x
         → W (goes s) s.engine (stepped at step bytes e x)
-    lift-plain step at bytes e x s other is running h =
+    lift-plain step at bytes answers e x s other is running h =
         let Q : Engine → Type 0 = λ z. W (goes s) z (stepped at step bytes e x) in
-        subst Q (sym is) (k.step at step bytes e x other running h (goes s))
+        subst Q (sym is) (k.step at step bytes answers e x other running h (goes s))
 
     -- the step is done
-    lift-done : (step : Step) (at : ℕ) (bytes : List ℕ) (e : Engine) (x : X) (s : Progress) → s.engine ≡ step_engine at step bytes e → has_ended e.talk ≡ false → P e x
+    lift-done : (step : Step) (at : ℕ) (bytes : List ℕ) (answers : List Asked) (e : Engine) (x : X) (s : Progress) → s.engine ≡ step_engine at step bytes answers e → has_ended e.talk ≡ false → P e x
         → W (goes (reading (is_piece step) s)) (reading (is_piece step) s).engine (stepped at step bytes e x)
-    lift-done (Piece n) at bytes e x s is running h =
+    lift-done (Piece n) at bytes answers e x s is running h =
         let y = stepped at (Piece n) bytes e x in
         let q = reads (length s.engine.unread) s in
         let Q : Engine → Type 0 = λ z. R z y in
         k.heard (goes q) q.engine y (λ on. and-other (goes q) (can_read q.engine) on (reads-done (length s.engine.unread) s (omega arith)))
-        (lift-reads (length s.engine.unread) s y (subst Q (sym is) (k.piece at n bytes e x running h)))
-    lift-done Linked at bytes e x s is running h = lift-plain Linked at bytes e x s refl is running h
-    lift-done LinkFailed at bytes e x s is running h = lift-plain LinkFailed at bytes e x s refl is running h
-    lift-done End at bytes e x s is running h = lift-plain End at bytes e x s refl is running h
-    lift-done Fault at bytes e x s is running h = lift-plain Fault at bytes e x s refl is running h
-    lift-done Room at bytes e x s is running h = lift-plain Room at bytes e x s refl is running h
-    lift-done Tick at bytes e x s is running h = lift-plain Tick at bytes e x s refl is running h
-    lift-done (Command c) at bytes e x s is running h = lift-plain (Command c) at bytes e x s refl is running h
+        (lift-reads (length s.engine.unread) s y (subst Q (sym is) (k.piece at n bytes answers e x running h)))
+    lift-done Linked at bytes answers e x s is running h = lift-plain Linked at bytes answers e x s refl is running h
+    lift-done LinkFailed at bytes answers e x s is running h = lift-plain LinkFailed at bytes answers e x s refl is running h
+    lift-done End at bytes answers e x s is running h = lift-plain End at bytes answers e x s refl is running h
+    lift-done Fault at bytes answers e x s is running h = lift-plain Fault at bytes answers e x s refl is running h
+    lift-done Room at bytes answers e x s is running h = lift-plain Room at bytes answers e x s refl is running h
+    lift-done Tick at bytes answers e x s is running h = lift-plain Tick at bytes answers e x s refl is running h
+    lift-done (Command c) at bytes answers e x s is running h = lift-plain (Command c) at bytes answers e x s refl is running h
 
     lift-read : (u : Turn) (e : Engine) (x : X) → has_ended e.talk ≡ false → P e x → Ready u e x (read u e)
     lift-read u e x running h =
-        let p = begun u.at u.notes.starved e in
-        let after = step_engine u.at u.step u.bytes e in
+        let p = begun u.at u.notes.starved u.notes.auths e in
+        let after = step_engine u.at u.step u.bytes u.notes.auths e in
         let Q : Progress → Type 0 = λ s. Ready u e x (reading (is_piece u.step) s) in
-        if_by Q (is_part u.step e) (if goes p then part after p else p) (record p { engine = after })
-        (λ is. if_by Q (goes p) (part after p) p
-        (λ on. inl (lift-done u.step u.at u.bytes e x (part after p) refl running h))
+        let q = questioned (step_questions u.at u.step u.notes.auths e) p in
+        if_by Q (is_part u.step e) (if goes p then part after q else p) (record p { engine = after })
+        (λ is. if_by Q (goes p) (part after q) p
+        (λ on. inl (lift-done u.step u.at u.bytes u.notes.auths e x (part after q) refl running h))
         (λ off.
         let same : reading (is_piece u.step) p ≡ p = reading-cut (is_piece u.step) p off in
         inr (same, ap goes same ∙ off, is)))
-        (λ no. inl (lift-done u.step u.at u.bytes e x (record p { engine = after }) refl running h))
+        (λ no. inl (lift-done u.step u.at u.bytes u.notes.auths e x (record p { engine = after }) refl running h))
 
     -- after the writes
     abbrev Out : Progress → X → Type 0
@@ -213,11 +217,11 @@ module _ (X : Type 0) (ask : Engine → X → X) (stepped : ℕ → Step → Lis
           | inl w ↦
               let out : Out (drained ws r) (offers_on ws r y) = lift-drain ws r y may.answers w in
               lift-starved u.notes.starved u.at (written u e) (applied_on u e x)
-              (stays-drained (λ (p : Progress). p.cut) (λ f n p. refl) ws r ∙ read-cut u e) out
+              (stays-drained (λ (p : Progress). p.cut) (λ f n left qs p. refl) ws r ∙ read-cut u e) out
           | inr t ↦
               let none : ws ≡ [] = stops-none ws r t.1 may.answers in
               let stopped : closing r ≡ r = if-false (goes r) (record r { engine = refuse_overlong r.engine }) r t.1 in
-              let same : written u e ≡ begun u.at u.notes.starved e = ap (λ vs. drained vs r) none ∙ stopped ∙ t.0 in
+              let same : written u e ≡ begun u.at u.notes.starved u.notes.auths e = ap (λ vs. drained vs r) none ∙ stopped ∙ t.0 in
               let said : applied_on u e x ≡ y = ap (λ vs. offers_on vs r y) none in
               let E : Engine → Type 0 = λ z. P (starved_after u.notes.starved u.at z) (applied_on u e x) in
               let F : X → Type 0 = λ z. P (starve_at u.at 0 e) z in
@@ -237,8 +241,8 @@ module _ (X : Type 0) (ask : Engine → X → X) (stepped : ℕ → Step → Lis
   -- the same of what holds all through a turn
   pub record Simple (P : Engine → X → Type 0) : Type 0 where
     pub asked : (e : Engine) (x : X) → P e x → P (asks e) (ask e x)
-    pub step : (at : ℕ) (step : Step) (bytes : List ℕ) (e : Engine) (x : X) → has_ended e.talk ≡ false → P e x → P (step_engine at step bytes e) (stepped at step bytes e x)
-    pub read : (at : ℕ) (e : Engine) (x : X) → can_read e ≡ true → P e x → P (read_one at e) x
+    pub step : (at : ℕ) (step : Step) (bytes : List ℕ) (answers : List Asked) (e : Engine) (x : X) → has_ended e.talk ≡ false → P e x → P (step_engine at step bytes answers e) (stepped at step bytes e x)
+    pub read : (at : ℕ) (answers : List Asked) (e : Engine) (x : X) → can_read e ≡ true → P e x → P (read_one at answers e) x
     pub offer : (w : Wrote) (p : Progress) (x : X) → can_write p.engine ≡ true → IsWithin (length (offered p.engine)) w → P p.engine x → P (answered p.at w p.engine) (offering w p x)
     pub overlong : (size : ℕ) (e : Engine) (x : X) → overlong_next e ≡ Some size → P e x → P (ended_overlong (Some size) e) x
     pub starve : (at j : ℕ) (e : Engine) (x : X) → P e x → P (starve_at at j e) x
@@ -248,8 +252,8 @@ module _ (X : Type 0) (ask : Engine → X → X) (stepped : ℕ → Step → Lis
   simply P k =
       record {
         asked = k.asked;
-        step = λ at step bytes e x other running h b. k.step at step bytes e x running h;
-        piece = λ at n bytes e x running h. k.step at (Piece n) bytes e x running h;
+        step = λ at step bytes answers e x other running h b. k.step at step bytes answers e x running h;
+        piece = λ at n bytes answers e x running h. k.step at (Piece n) bytes answers e x running h;
         read = k.read;
         heard = λ b e x f h. h;
         offer = k.offer;

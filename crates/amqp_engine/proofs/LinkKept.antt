@@ -1,5 +1,5 @@
 -- What a step, the reading of a frame and a write leave of the link, and of what is to be sent on it.
-use Rattle.std.proofs.Common.{◌≡◌, inl, inr, ℕ, ◌+◌, ◌==◌, if◌then◌else◌, true, false, List, [], ◌++◌, length, drop, is_some, refl, ap, sym, ◌∙◌, subst}
+use Rattle.std.proofs.Common.{◌≡◌, inl, inr, ℕ, ◌+◌, ◌==◌, if◌then◌else◌, true, false, List, [], ◌++◌, drop, is_some, refl, ap, sym, ◌∙◌, subst}
 use Rattle.amqp_frame.specs.declared.frame.Read.{Read}
 use Rattle.amqp_frame.specs.declared.frame.Read.TheVariants.{Whole, More, TooLarge, BadHeartbeat, Bad, NoMemory as ReadNoMemory}
 use Rattle.amqp_session.specs.declared.error.ErrorKind.{ErrorKind}
@@ -11,6 +11,7 @@ use Rattle.amqp_session.specs.declared.error.ErrorKind.TheVariants.{IOError}
 use Rattle.amqp_session.specs.declared.misread.Misread.{Misread}
 use Rattle.amqp_session.specs.declared.misread.Misread.TheVariants as misreads
 use Rattle.amqp_session.specs.declared.command.Cmd.{Cmd}
+use Rattle.amqp_session.specs.declared.auth.asked.Asked.{Asked as ProviderAnswer}
 use Rattle.amqp_session.specs.Talk.{Talk, is_open, is_open_link, is_asked, is_asked_link, end_of_link}
 use Rattle.amqp_session.specs.Changes.{present_at, fail}
 use Rattle.amqp_session.specs.Links.{asked_link, linked, link_failed, piece, misread, lost}
@@ -23,7 +24,7 @@ use Rattle.amqp_engine.specs.declared.port.Step.TheVariants.{Linked, LinkFailed,
 use Rattle.amqp_engine.specs.declared.port.Wrote.{Wrote}
 use Rattle.amqp_engine.specs.declared.port.Wrote.TheVariants.{Took, Failed, NoMemory}
 use Rattle.amqp_engine.specs.Plan.{at_most_64}
-use Rattle.amqp_engine.specs.Engine.{Engine, rule_at, settle, step_engine, read_one, read_row, read_badly, front_of, took, wrote, taken_by, commit_all}
+use Rattle.amqp_engine.specs.Engine.{Engine, rule_at, settle, step_engine, step_piece, read_one, read_row, read_badly, front_of, took, wrote, taken_by, commit_all}
 use Rattle.amqp_session.specs.Writing.{frames_waiting}
 use Rattle.amqp_engine.specs.Turn.{answered}
 use Rattle.amqp_session.proofs.Cases.{if_case, if-false}
@@ -105,12 +106,12 @@ leaves-lost at fault e =
     leaves-settle e (rule_at at (lost fault) e)
     (leaves-rule at (lost fault) e (lost-link fault t) (lost-keeps (λ y. y.committed) (λ t s l cs ps. refl) fault t))
 
-leaves-tick : (at : ℕ) (e : Engine) → Leaves e (settle (rule_at at tick e))
-leaves-tick at e =
-    let k = keeps-tick (present_at at e.talk) in
-    leaves-settle e (rule_at at tick e) (leaves-rule at tick e k.link k.committed)
+leaves-tick : (at : ℕ) (answers : List ProviderAnswer) (e : Engine) → Leaves e (settle (rule_at at (tick answers) e))
+leaves-tick at answers e =
+    let k = keeps-tick answers (present_at at e.talk) in
+    leaves-settle e (rule_at at (tick answers) e) (leaves-rule at (tick answers) e k.link k.committed)
 
-leaves-piece : (at : ℕ) (bytes : List ℕ) (e : Engine) → Leaves e (step_engine at (Piece (length bytes)) bytes e)
+leaves-piece : (at : ℕ) (bytes : List ℕ) (e : Engine) → Leaves e (step_piece at bytes e)
 leaves-piece at bytes e =
     let t = present_at at e.talk in
     let x : Engine = record e { talk = piece t; unread = e.unread ++ bytes } in
@@ -128,18 +129,18 @@ leaves-command at c e =
     leaves-rule at (command c) e (inl k.link) k.committed
 
 -- a step that brings no link
-pub leaves-step : (at : ℕ) (step : Step) (bytes : List ℕ) (e : Engine) → (step ≡ Linked → is_asked e.talk ≡ false) → Leaves e (step_engine at step bytes e)
-leaves-step at Linked bytes e other =
+pub leaves-step : (at : ℕ) (step : Step) (bytes : List ℕ) (answers : List ProviderAnswer) (e : Engine) → (step ≡ Linked → is_asked e.talk ≡ false) → Leaves e (step_engine at step bytes answers e)
+leaves-step at Linked bytes answers e other =
     let none = if-false (is_asked e.talk) (record { talk = linked (present_at at e.talk); unread = []; place = 0; unsent = []; starved = e.starved })
     (rule_at at (λ t. t) e) (other refl) in
     subst (Leaves e) (sym none) (leaves-moment at e)
-leaves-step at LinkFailed bytes e other = leaves-failed at e
-leaves-step at (Piece n) bytes e other = leaves-piece at bytes e
-leaves-step at End bytes e other = leaves-lost at Aborted e
-leaves-step at Fault bytes e other = leaves-lost at Reset e
-leaves-step at Room bytes e other = leaves-moment at e
-leaves-step at Tick bytes e other = leaves-tick at e
-leaves-step at (Command c) bytes e other = leaves-command at c e
+leaves-step at LinkFailed bytes answers e other = leaves-failed at e
+leaves-step at (Piece n) bytes answers e other = leaves-piece at bytes e
+leaves-step at End bytes answers e other = leaves-lost at Aborted e
+leaves-step at Fault bytes answers e other = leaves-lost at Reset e
+leaves-step at Room bytes answers e other = leaves-moment at e
+leaves-step at Tick bytes answers e other = leaves-tick at answers e
+leaves-step at (Command c) bytes answers e other = leaves-command at c e
 
 -- ---- reading
 
@@ -148,21 +149,21 @@ leaves-misread at why e =
     let k = keeps-misread why (present_at at e.talk) in
     leaves-settle e (rule_at at (misread why) e) (leaves-rule at (misread why) e k.link k.committed)
 
-leaves-row : (at : ℕ) (r : Read) (e : Engine) → Leaves e (read_row at r e)
-leaves-row at (Whole f n) e =
-    let k = keeps-frame f e.place (present_at at e.talk) in
-    let x : Engine = record e { talk = on_frame f e.place (present_at at e.talk); unread = drop n e.unread; place = at_most_64 (e.place + n) } in
+leaves-row : (at : ℕ) (r : Read) (answers : List ProviderAnswer) (e : Engine) → Leaves e (read_row at r answers e)
+leaves-row at (Whole f n) answers e =
+    let k = keeps-frame f answers (present_at at e.talk) in
+    let x : Engine = record e { talk = on_frame f answers (present_at at e.talk); unread = drop n e.unread; place = at_most_64 (e.place + n) } in
     leaves-settle e x (λ now.
-    let l = leaves-rule at (on_frame f e.place) e k.link k.committed now in
+    let l = leaves-rule at (on_frame f answers) e k.link k.committed now in
     record { opened = l.opened; committed = l.committed; unsent = refl })
-leaves-row at More e = λ now. record { opened = now; committed = refl; unsent = refl }
-leaves-row at (TooLarge n) e = leaves-misread at (misreads.TooLarge n) e
-leaves-row at (BadHeartbeat c) e = leaves-misread at (misreads.BadHeartbeat c) e
-leaves-row at Bad e = leaves-misread at (misreads.Bad e.place) e
-leaves-row at ReadNoMemory e = leaves-misread at (misreads.Bad e.place) e
+leaves-row at More answers e = λ now. record { opened = now; committed = refl; unsent = refl }
+leaves-row at (TooLarge n) answers e = leaves-misread at (misreads.TooLarge n) e
+leaves-row at (BadHeartbeat c) answers e = leaves-misread at (misreads.BadHeartbeat c) e
+leaves-row at Bad answers e = leaves-misread at (misreads.Bad e.place) e
+leaves-row at ReadNoMemory answers e = leaves-misread at (misreads.Bad e.place) e
 
-pub leaves-read : (at : ℕ) (e : Engine) → Leaves e (read_one at e)
-leaves-read at e = leaves-row at (front_of e) e
+pub leaves-read : (at : ℕ) (answers : List ProviderAnswer) (e : Engine) → Leaves e (read_one at answers e)
+leaves-read at answers e = leaves-row at (front_of e) answers e
 
 -- ---- writing
 
@@ -199,19 +200,19 @@ kept-rule at f e k =
     let t = present_at at e.talk in
     kept-settle e.talk (rule_at at f e) (link-then e.talk t (f t) (kept-present at e.talk) k)
 
-kept-row : (at : ℕ) (r : Read) (e : Engine) → LinkKept e.talk (read_row at r e).talk
-kept-row at (Whole f n) e =
+kept-row : (at : ℕ) (r : Read) (answers : List ProviderAnswer) (e : Engine) → LinkKept e.talk (read_row at r answers e).talk
+kept-row at (Whole f n) answers e =
     let t = present_at at e.talk in
-    kept-settle e.talk (record e { talk = on_frame f e.place (present_at at e.talk); unread = drop n e.unread; place = at_most_64 (e.place + n) })
-    (link-then e.talk t (on_frame f e.place t) (kept-present at e.talk) (keeps-frame f e.place t).link)
-kept-row at More e = inl refl
-kept-row at (TooLarge n) e = kept-rule at (misread (misreads.TooLarge n)) e (keeps-misread (misreads.TooLarge n) (present_at at e.talk)).link
-kept-row at (BadHeartbeat c) e = kept-rule at (misread (misreads.BadHeartbeat c)) e (keeps-misread (misreads.BadHeartbeat c) (present_at at e.talk)).link
-kept-row at Bad e = kept-rule at (misread (misreads.Bad e.place)) e (keeps-misread (misreads.Bad e.place) (present_at at e.talk)).link
-kept-row at ReadNoMemory e = kept-rule at (misread (misreads.Bad e.place)) e (keeps-misread (misreads.Bad e.place) (present_at at e.talk)).link
+    kept-settle e.talk (record e { talk = on_frame f answers (present_at at e.talk); unread = drop n e.unread; place = at_most_64 (e.place + n) })
+    (link-then e.talk t (on_frame f answers t) (kept-present at e.talk) (keeps-frame f answers t).link)
+kept-row at More answers e = inl refl
+kept-row at (TooLarge n) answers e = kept-rule at (misread (misreads.TooLarge n)) e (keeps-misread (misreads.TooLarge n) (present_at at e.talk)).link
+kept-row at (BadHeartbeat c) answers e = kept-rule at (misread (misreads.BadHeartbeat c)) e (keeps-misread (misreads.BadHeartbeat c) (present_at at e.talk)).link
+kept-row at Bad answers e = kept-rule at (misread (misreads.Bad e.place)) e (keeps-misread (misreads.Bad e.place) (present_at at e.talk)).link
+kept-row at ReadNoMemory answers e = kept-rule at (misread (misreads.Bad e.place)) e (keeps-misread (misreads.Bad e.place) (present_at at e.talk)).link
 
-pub kept-read : (at : ℕ) (e : Engine) → LinkKept e.talk (read_one at e).talk
-kept-read at e = kept-row at (front_of e) e
+pub kept-read : (at : ℕ) (answers : List ProviderAnswer) (e : Engine) → LinkKept e.talk (read_one at answers e).talk
+kept-read at answers e = kept-row at (front_of e) answers e
 
 kept-took : (at k : ℕ) (e : Engine) → LinkKept e.talk (took at k e).talk
 kept-took at k e =

@@ -9,6 +9,7 @@ use Rattle.amqp_session.specs.declared.error.ErrorKind.TheVariants.{IOError}
 use Rattle.amqp_session.specs.declared.io_fault.IoFault.{IoFault}
 use Rattle.amqp_session.specs.declared.io_fault.IoFault.TheVariants.{Aborted, Refused, Reset}
 use Rattle.amqp_session.specs.Config.{Config}
+use Rattle.amqp_session.specs.declared.auth.asked.Asked.{Asked as ProviderAnswer}
 use Rattle.amqp_session.specs.Talk.{Talk, start, acts, is_acting, is_open, is_open_link, is_asked, is_asked_link, is_wanted_link, has_ended, end_of_link}
 use Rattle.amqp_session.specs.Changes.{present_at, fail, lose, finish}
 use Rattle.amqp_session.specs.Ticks.{tick}
@@ -105,28 +106,28 @@ both : (b : Bool) → b ≡ true → b ≡ false → ⊥
 both true h k = cc
 both false h k = cc
 
-step-asked : (at : ℕ) (step : Step) (bytes : List ℕ) (e : Engine) → has_ended (step_engine at step bytes e).talk ≡ false
-    → is_asked (step_engine at step bytes e).talk ≡ asked_after step (is_asked e.talk)
-step-asked at Linked bytes e on = linked-asked (is_asked e.talk) at e refl
-step-asked at LinkFailed bytes e on =
+step-asked : (at : ℕ) (step : Step) (bytes : List ℕ) (answers : List ProviderAnswer) (e : Engine) → has_ended (step_engine at step bytes answers e).talk ≡ false
+    → is_asked (step_engine at step bytes answers e).talk ≡ asked_after step (is_asked e.talk)
+step-asked at Linked bytes answers e on = linked-asked (is_asked e.talk) at e refl
+step-asked at LinkFailed bytes answers e on =
     let t = present_at at e.talk in
     ap is_asked (settle-talk (rule_at at link_failed e)) ∙ failed-asked (is_asked t) t refl
-step-asked at (Piece n) bytes e on =
+step-asked at (Piece n) bytes answers e on =
     let t = present_at at e.talk in
     let x : Engine = record e { talk = piece t; unread = e.unread ++ bytes } in
     if_case (λ (x : Engine). is_asked x.talk ≡ is_asked e.talk) (is_open e.talk) (settle x) (rule_at at (λ t. t) e)
     (ap is_asked (settle-talk x) ∙ ap is_asked_link (piece-link t) ∙ present-keeps is_asked at e.talk (λ n. refl)) (present-keeps is_asked at e.talk (λ n. refl))
-step-asked at End bytes e on = faulted-asked at Aborted e
-step-asked at Fault bytes e on = faulted-asked at Reset e
-step-asked at Room bytes e on = present-keeps is_asked at e.talk (λ n. refl)
-step-asked at Tick bytes e on =
+step-asked at End bytes answers e on = faulted-asked at Aborted e
+step-asked at Fault bytes answers e on = faulted-asked at Reset e
+step-asked at Room bytes answers e on = present-keeps is_asked at e.talk (λ n. refl)
+step-asked at Tick bytes answers e on =
     let t = present_at at e.talk in
-    let after : Engine = rule_at at tick e in
-    ap is_asked (settle-talk after) ∙ elim (keeps-tick t).link [
+    let after : Engine = rule_at at (tick answers) e in
+    ap is_asked (settle-talk after) ∙ elim (keeps-tick answers t).link [
       | inl same ↦ ap is_asked_link same ∙ present-keeps is_asked at e.talk (λ n. refl)
       | inr ended ↦ absurd (both (has_ended after.talk) ended (sym (ap has_ended (settle-talk after)) ∙ on))
     ]
-step-asked at (Command c) bytes e on =
+step-asked at (Command c) bytes answers e on =
     ap is_asked_link (stays-command c (present_at at e.talk)).link ∙ present-keeps is_asked at e.talk (λ n. refl)
 
 -- what leaves the link as it was
@@ -210,13 +211,13 @@ told-asks e x h =
       links = if_case (λ (b : Log). b.links ≡ map link_bytes x.0) (wants_ask e) (log_ask x.1) x.1 h.links h.links;
     }
 
-told-step : (at : ℕ) (step : Step) (bytes : List ℕ) (e : Engine) (x : Both) → has_ended e.talk ≡ false → Told e x
-    → Told (step_engine at step bytes e) (stepping at step bytes e x)
-told-step at step bytes e x running h =
+told-step : (at : ℕ) (step : Step) (bytes : List ℕ) (answers : List ProviderAnswer) (e : Engine) (x : Both) → has_ended e.talk ≡ false → Told e x
+    → Told (step_engine at step bytes answers e) (stepping at step bytes e x)
+told-step at step bytes answers e x running h =
     let asked_is = h.synced running in
     record {
-      sends = sends-step at step bytes e x.0 h.sends;
-      synced = λ on. ap (asked_after step) asked_is ∙ sym (step-asked at step bytes e on);
+      sends = sends-step at step bytes answers e x.0 h.sends;
+      synced = λ on. ap (asked_after step) asked_is ∙ sym (step-asked at step bytes answers e on);
       links = told-links step e x.0 x.1 asked_is h.links;
     }
 
@@ -250,9 +251,9 @@ small =
     record {
       asked = told-asks;
       step = told-step;
-      read = λ at e x can h. record {
-        sends = sends-left e (read_one at e) x.0 (leaves-read at e) h.sends;
-        synced = synced-kept e (read_one at e) x.1 (kept-read at e) h.synced;
+      read = λ at answers e x can h. record {
+        sends = sends-left e (read_one at answers e) x.0 (leaves-read at answers e) h.sends;
+        synced = synced-kept e (read_one at answers e) x.1 (kept-read at answers e) h.synced;
         links = h.links;
       };
       offer = told-offered;

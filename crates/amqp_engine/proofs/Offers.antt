@@ -3,6 +3,8 @@ use Rattle.std.proofs.Common.{◌≡◌, ◌≤◌, ◌<◌, ℕ, ◌+◌, ◌==
 use Rattle.std.proofs.lemmas.Bool.Decides.{nat_tests}
 use Rattle.amqp_outbox.specs.Queued.{Queued, waiting_items}
 use Rattle.amqp_session.specs.declared.io_fault.IoFault.TheVariants.{BrokenPipe}
+use Rattle.amqp_session.specs.declared.auth.asked.Question.{Question}
+use Rattle.amqp_session.specs.declared.auth.asked.Asked.{Asked}
 use Rattle.amqp_session.specs.Talk.{Talk, is_open}
 use Rattle.amqp_session.specs.Changes.{present_at}
 use Rattle.amqp_session.specs.Links.{lost}
@@ -13,12 +15,12 @@ use Rattle.amqp_engine.specs.Log.{Log, log_write, IsWithin, PlansWrite}
 use Rattle.amqp_engine.specs.Engine.{Engine, rule_at, can_write, overlong_next, refuse_overlong, commit_all, wrote, took}
 use Rattle.amqp_session.specs.Writing.{frames_waiting}
 use Rattle.amqp_engine.specs.Turn.{Notes, answers_of, Progress, goes, offer_part, closing, drained, offered, answered, is_all, AreAnswers}
-use Rattle.amqp_engine.specs.Making.{making, Allows, Writes}
+use Rattle.amqp_engine.specs.Making.{making, Reaches, Writes}
 use Rattle.amqp_engine.specs.Counts.{Rose}
 use Rattle.amqp_engine.specs.Tell.{port_answer, offers_from, log_offers, PlaysOffers, TellsOffers}
 use Rattle.amqp_engine.specs.Play.{waiting, noted, no_notes}
 use Rattle.amqp_session.proofs.Cases.{if-true, if-false, and-false}
-use Rattle.amqp_engine.proofs.Cases.{is_before-Allows, is_before-cut, some-unsent, rose-between}
+use Rattle.amqp_engine.proofs.Cases.{is_before-Reaches, is_before-cut, some-unsent, rose-between}
 use Rattle.amqp_session.proofs.Keeping.{present-keeps, taken-keeps, lost-keeps}
 use Rattle.amqp_engine.proofs.Settling.{settle-talk, settle-less, settle-starved}
 use Rattle.amqp_engine.proofs.Telling.{tells-then, tells-none}
@@ -95,9 +97,9 @@ tells-more w v ws p log mid last is told plays t =
 
 -- ---- writes
 
-offer-making : (at : ℕ) (cut : Option ℕ) (e : Engine) (n : ℕ) (w : Wrote) (e' : Engine)
-    → e' ≡ answered at w e → making at cut e' (n + 1) ≡ offer_part w (making at cut e n)
-offer-making at cut e n w e' he = ap (λ (x : Engine). making at cut x (n + 1)) he
+offer-making : (more : List Asked) (asked : List Question) → (at : ℕ) (cut : Option ℕ) (e : Engine) (n : ℕ) (w : Wrote) (e' : Engine)
+    → e' ≡ answered at w e → making at cut more asked e' (n + 1) ≡ offer_part w (making at cut more asked e n)
+offer-making more asked at cut e n w e' he = ap (λ (x : Engine). making at cut more asked x (n + 1)) he
 
 -- where none was made, none failed
 none-failed : {A : Type 0} → false ≡ true → A
@@ -107,7 +109,7 @@ none-failed h = cc
 writes-nothing : (p q : Progress) (log log' : Option Log) (m n : ℕ) → closing p ≡ q → IsFalse (goes p && can_write p.engine) → log' ≡ log → Writes p q log log' m n
 writes-nothing p q log log' m n leaves none told =
     record {
-      notes = record { tooks = []; failed = false; starved = p.cut };
+      notes = record { tooks = []; failed = false; auths = []; starved = p.cut };
       cut = refl;
       answers = none;
       leaves = leaves;
@@ -128,17 +130,17 @@ writes-cut p log log' m n off told =
     writes-nothing p p log log' m n (if-false (goes p) (record p { engine = refuse_overlong p.engine }) p off) (ap (λ (b : Bool). b && can_write p.engine) off) told
 
 -- one write more, of which all was taken
-pub writes-more : (at : ℕ) (cut : Option ℕ) (e : Engine) (n : ℕ) (w : Wrote) (e' : Engine) (last : Progress) (log mid log' : Option Log) (a b c : ℕ)
+pub writes-more : (more : List Asked) (asked : List Question) → (at : ℕ) (cut : Option ℕ) (e : Engine) (n : ℕ) (w : Wrote) (e' : Engine) (last : Progress) (log mid log' : Option Log) (a b c : ℕ)
     → e' ≡ answered at w e → mid ≡ option_map (log_write (offered e) w) log → IfSome log (PlansWrite (length (offered e)) w)
-    → Allows cut (n + 1) → IsTrue (can_write e) → IsWithin (length (offered e)) w → is_all w (length (offered e)) ≡ true → a ≤ b
-    → Writes (making at cut e' (n + 1)) last mid log' b c → Writes (making at cut e n) last log log' a c
-writes-more at cut e n (Took k) e' last log mid log' a b c he told plays allows can fits all le rest =
-    let p = making at cut e n in
+    → Reaches cut (n + 1) → IsTrue (can_write e) → IsWithin (length (offered e)) w → is_all w (length (offered e)) ≡ true → a ≤ b
+    → Writes (making at cut more asked e' (n + 1)) last mid log' b c → Writes (making at cut more asked e n) last log log' a c
+writes-more more asked at cut e n (Took k) e' last log mid log' a b c he told plays allows can fits all le rest =
+    let p = making at cut more asked e n in
     let ws = answers_of rest.notes in
-    let same : making at cut e' (n + 1) ≡ offer_part (Took k) p = offer-making at cut e n (Took k) e' he in
+    let same : making at cut more asked e' (n + 1) ≡ offer_part (Took k) p = offer-making more asked at cut e n (Took k) e' he in
     let some : 0 < length (offered e) = some-unsent (is_open e.talk) (not e.talk.blocked) (not (is_some (overlong_next e))) (length (offered e)) can in
     let is : k ≡ length (offered e) = grind (arith, nat_tests) in
-    let due : IsTrue (goes p && can_write e) = and-is-true (goes p) (can_write e) (is_before-Allows cut n allows) can in
+    let due : IsTrue (goes p && can_write e) = and-is-true (goes p) (can_write e) (is_before-Reaches cut n allows) can in
     let P : Progress → Type 0 = λ x. AreAnswers ws x in
     let Q : Progress → Type 0 = λ x. drained ws x ≡ last in
     let R : Progress → Type 0 = λ x. TellsOffers (offers_from ws x) mid log' in
@@ -151,19 +153,19 @@ writes-more at cut e n (Took k) e' last log mid log' a b c he told plays allows 
       tells = tells-more (Took k) (Took k) ws p log mid log' (took-some k p (omega (arith, some, is))) told plays (subst R same rest.tells);
       counted = λ failed. rose-between a b c c le (omega arith) (rest.counted failed);
     }
-writes-more at cut e n Failed e' last log mid log' a b c he told plays allows can fits all le rest = cc
-writes-more at cut e n NoMemory e' last log mid log' a b c he told plays allows can fits all le rest = cc
+writes-more more asked at cut e n Failed e' last log mid log' a b c he told plays allows can fits all le rest = cc
+writes-more more asked at cut e n NoMemory e' last log mid log' a b c he told plays allows can fits all le rest = cc
 
 -- one write alone, with what is noted of it
-writes-one : (at : ℕ) (cut : Option ℕ) (e : Engine) (n : ℕ) (w v : Wrote) (notes : Notes) (e' : Engine) (log log' : Option Log) (a b : ℕ)
-    → answers_of notes ≡ w ∷ [] → notes.starved ≡ cut → port_answer w (making at cut e n) ≡ v
+writes-one : (more : List Asked) (asked : List Question) → (at : ℕ) (cut : Option ℕ) (e : Engine) (n : ℕ) (w v : Wrote) (notes : Notes) (e' : Engine) (log log' : Option Log) (a b : ℕ)
+    → answers_of notes ≡ w ∷ [] → notes.starved ≡ cut → port_answer w (making at cut more asked e n) ≡ v
     → e' ≡ answered at w e → log' ≡ option_map (log_write (offered e) v) log → IfSome log (PlansWrite (length (offered e)) v)
-    → Allows cut (n + 1) → IsTrue (can_write e) → IsWithin (length (offered e)) w → is_all w (length (offered e)) ≡ false
-    → (notes.failed ≡ true → Rose a b) → Writes (making at cut e n) (making at cut e' (n + 1)) log log' a b
-writes-one at cut e n w v notes e' log log' a b one same is he told plays allows can fits less counted =
-    let p = making at cut e n in
+    → Reaches cut (n + 1) → IsTrue (can_write e) → IsWithin (length (offered e)) w → is_all w (length (offered e)) ≡ false
+    → (notes.failed ≡ true → Rose a b) → Writes (making at cut more asked e n) (making at cut more asked e' (n + 1)) log log' a b
+writes-one more asked at cut e n w v notes e' log log' a b one same is he told plays allows can fits less counted =
+    let p = making at cut more asked e n in
     let none : List Wrote = [] in
-    let due : IsTrue (goes p && can_write e) = and-is-true (goes p) (can_write e) (is_before-Allows cut n allows) can in
+    let due : IsTrue (goes p && can_write e) = and-is-true (goes p) (can_write e) (is_before-Reaches cut n allows) can in
     let tail : MatchBool (is_all w (length (offered e))) (AreAnswers none (offer_part w p)) (none ≡ []) = rw less refl in
     let P : List Wrote → Type 0 = λ ws. AreAnswers ws p in
     let Q : List Wrote → Type 0 = λ ws. TellsOffers (offers_from ws p) log log' in
@@ -173,34 +175,34 @@ writes-one at cut e n w v notes e' log log' a b one same is he told plays allows
       answers = subst P (sym one) (due, fits, tail);
       leaves =
           ap (λ (ws : List Wrote). drained ws p) one ∙ if-false (is_all w (length (offered e))) (drained none (offer_part w p)) (offer_part w p) less
-          ∙ sym (offer-making at cut e n w e' he);
+          ∙ sym (offer-making more asked at cut e n w e' he);
       tells = subst Q (sym one) (tells-more w v none p log log' log' is told plays (tells-none log' log' refl));
       counted = counted;
     }
 
 -- a last one, of which less was taken
-pub writes-last : (at : ℕ) (e : Engine) (n : ℕ) (w : Wrote) (e' : Engine) (log log' : Option Log) (a b : ℕ)
+pub writes-last : (more : List Asked) (asked : List Question) → (at : ℕ) (e : Engine) (n : ℕ) (w : Wrote) (e' : Engine) (log log' : Option Log) (a b : ℕ)
     → e' ≡ answered at w e → log' ≡ option_map (log_write (offered e) w) log → IfSome log (PlansWrite (length (offered e)) w)
     → IsTrue (can_write e) → IsWithin (length (offered e)) w → is_all w (length (offered e)) ≡ false
     → (w ≡ NoMemory → ⊥) → (w ≡ Failed → Rose a b)
-    → Writes (making at None e n) (making at None e' (n + 1)) log log' a b
-writes-last at e n (Took k) e' log log' a b he told plays can fits less other cause =
-    writes-one at None e n (Took k) (Took k) (noted (Took k) no_notes) e' log log' a b refl refl
-    (goes-answer (Took k) (making at None e n) refl) he told plays tt can fits less none-failed
-writes-last at e n Failed e' log log' a b he told plays can fits less other cause =
-    writes-one at None e n Failed Failed (noted Failed no_notes) e' log log' a b refl refl refl he told plays tt can fits less (λ failed. cause refl)
-writes-last at e n NoMemory e' log log' a b he told plays can fits less other cause = absurd (other refl)
+    → Writes (making at None more asked e n) (making at None more asked e' (n + 1)) log log' a b
+writes-last more asked at e n (Took k) e' log log' a b he told plays can fits less other cause =
+    writes-one more asked at None e n (Took k) (Took k) (noted (Took k) no_notes) e' log log' a b refl refl
+    (goes-answer (Took k) (making at None more asked e n) refl) he told plays tt can fits less none-failed
+writes-last more asked at e n Failed e' log log' a b he told plays can fits less other cause =
+    writes-one more asked at None e n Failed Failed (noted Failed no_notes) e' log log' a b refl refl refl he told plays tt can fits less (λ failed. cause refl)
+writes-last more asked at e n NoMemory e' log log' a b he told plays can fits less other cause = absurd (other refl)
 
 -- a last one, for which the port found no memory
-pub writes-refused : (at : ℕ) (e : Engine) (n : ℕ) (e' : Engine) (log log' : Option Log) (a b : ℕ)
+pub writes-refused : (more : List Asked) (asked : List Question) → (at : ℕ) (e : Engine) (n : ℕ) (e' : Engine) (log log' : Option Log) (a b : ℕ)
     → e' ≡ answered at NoMemory e → log' ≡ option_map (log_write (offered e) NoMemory) log → IfSome log (PlansWrite (length (offered e)) NoMemory)
-    → IsTrue (can_write e) → Writes (making at (Some (n + 1)) e n) (making at (Some (n + 1)) e' (n + 1)) log log' a b
-writes-refused at e n e' log log' a b he told plays can =
+    → IsTrue (can_write e) → Writes (making at (Some (n + 1)) more asked e n) (making at (Some (n + 1)) more asked e' (n + 1)) log log' a b
+writes-refused more asked at e n e' log log' a b he told plays can =
     let cut : Option ℕ = Some (n + 1) in
     let some : 0 < length (offered e) = some-unsent (is_open e.talk) (not e.talk.blocked) (not (is_some (overlong_next e))) (length (offered e)) can in
     let less : (0 == length (offered e)) ≡ false = grind (arith, nat_tests) in
-    writes-one at cut e n (Took 0) NoMemory (record { tooks = 0 ∷ []; failed = false; starved = cut }) e' log log' a b refl refl
-    (refused-answer (making at cut e n) (is_before-cut (n + 1))) he told plays (omega arith) can (omega arith) less none-failed
+    writes-one more asked at cut e n (Took 0) NoMemory (record { tooks = 0 ∷ []; failed = false; auths = []; starved = cut }) e' log log' a b refl refl
+    (refused-answer (making at cut more asked e n) (is_before-cut (n + 1))) he told plays (omega arith) can (omega arith) less none-failed
 
 wrote-starved : (at : ℕ) (w : Wrote) (e : Engine) → (wrote at w e).starved ≡ e.starved
 wrote-starved at (Took k) e = settle-starved (record e { talk = taken k (present_at at e.talk); unsent = drop k e.unsent })

@@ -6,6 +6,7 @@ use Rattle.amqp_session.specs.declared.state.Link.TheVariants.{Wanted, Asked, Op
 use Rattle.amqp_session.specs.declared.io_fault.IoFault.{IoFault}
 use Rattle.amqp_session.specs.declared.io_fault.IoFault.TheVariants.{Aborted, Refused, Reset}
 use Rattle.amqp_session.specs.declared.error.ErrorKind.TheVariants.{IOError}
+use Rattle.amqp_session.specs.declared.auth.asked.Asked.{Asked as ProviderAnswer}
 use Rattle.amqp_session.specs.Talk.{Talk, is_open, is_open_link, is_asked, is_asked_link, has_ended, end_of, end_of_link}
 use Rattle.amqp_session.specs.Changes.{present_at, fail, starve}
 use Rattle.amqp_session.specs.Ticks.{tick}
@@ -13,8 +14,8 @@ use Rattle.amqp_session.specs.Links.{asked, asked_link, linked, link_failed, pie
 use Rattle.amqp_engine.specs.declared.port.Step.{Step}
 use Rattle.amqp_engine.specs.declared.port.Step.TheVariants.{Linked, LinkFailed, Piece, End, Fault, Room, Tick, Command}
 use Rattle.amqp_engine.specs.declared.port.Wrote.{Wrote}
-use Rattle.amqp_engine.specs.Engine.{Engine, rule_at, with_talk, settle, step_engine, can_write, refuse_overlong}
-use Rattle.amqp_engine.specs.Turn.{Turn, answers_of, Progress, asks, wants_ask, begun, goes, part, is_part, is_piece, step_part, reading, drained, AreAnswers, read, written, applied, turn, starved_after}
+use Rattle.amqp_engine.specs.Engine.{Engine, rule_at, with_talk, settle, step_engine, step_questions, can_write, refuse_overlong}
+use Rattle.amqp_engine.specs.Turn.{Turn, answers_of, Progress, asks, wants_ask, begun, goes, part, questioned, is_part, is_piece, step_part, reading, drained, AreAnswers, read, written, applied, turn, starved_after}
 use Rattle.amqp_session.proofs.Cases.{if_case, if-true, if-false}
 use Rattle.amqp_engine.proofs.Cases.{and-right}
 use Rattle.amqp_engine.proofs.Overlong.{closed-refuses}
@@ -76,27 +77,27 @@ linked-ended : (t : Talk) → has_ended t ≡ true → has_ended (linked t) ≡ 
 linked-ended t h = ap has_ended (if-false (is_asked t) _ t (ended-unasked t.link h)) ∙ h
 
 -- a step leaves it ended
-pub step-ended : (at : ℕ) (step : Step) (bytes : List ℕ) (e : Engine) → has_ended e.talk ≡ true → has_ended (step_engine at step bytes e).talk ≡ true
-step-ended at Linked bytes e h =
+pub step-ended : (at : ℕ) (step : Step) (bytes : List ℕ) (answers : List ProviderAnswer) (e : Engine) → has_ended e.talk ≡ true → has_ended (step_engine at step bytes answers e).talk ≡ true
+step-ended at Linked bytes answers e h =
     let t = present_at at e.talk in
     if_case (λ (x : Engine). has_ended x.talk ≡ true) (is_asked e.talk)
     (record { talk = linked t; unread = []; place = 0; unsent = []; starved = e.starved }) (rule_at at (λ x. x) e)
     (linked-ended t (moment-ended at e.talk h)) (moment-ended at e.talk h)
-step-ended at LinkFailed bytes e h =
+step-ended at LinkFailed bytes answers e h =
     let t = present_at at e.talk in
     ap has_ended (settle-talk (rule_at at link_failed e))
     ∙ if_case (λ (x : Talk). has_ended x ≡ true) (is_asked t) (fail (IOError Refused) t) t refl (moment-ended at e.talk h)
-step-ended at (Piece n) bytes e h =
+step-ended at (Piece n) bytes answers e h =
     let t = present_at at e.talk in
     let x : Engine = record e { talk = piece t; unread = e.unread ++ bytes } in
     let m = moment-ended at e.talk h in
     if_case (λ (y : Engine). has_ended y.talk ≡ true) (is_open e.talk) (settle x) (rule_at at (λ y. y) e)
     (ap has_ended (settle-talk x) ∙ if_case (λ (y : Talk). has_ended y ≡ true) (is_open t) (record t { last_read = t.present }) t m m) m
-step-ended at End bytes e h = ap has_ended (settle-talk (rule_at at (lost Aborted) e)) ∙ lost-ended Aborted (present_at at e.talk) (moment-ended at e.talk h)
-step-ended at Fault bytes e h = ap has_ended (settle-talk (rule_at at (lost Reset) e)) ∙ lost-ended Reset (present_at at e.talk) (moment-ended at e.talk h)
-step-ended at Room bytes e h = moment-ended at e.talk h
-step-ended at Tick bytes e h = ap has_ended (settle-talk (rule_at at tick e)) ∙ tick-stays (present_at at e.talk) (moment-ended at e.talk h)
-step-ended at (Command c) bytes e h =
+step-ended at End bytes answers e h = ap has_ended (settle-talk (rule_at at (lost Aborted) e)) ∙ lost-ended Aborted (present_at at e.talk) (moment-ended at e.talk h)
+step-ended at Fault bytes answers e h = ap has_ended (settle-talk (rule_at at (lost Reset) e)) ∙ lost-ended Reset (present_at at e.talk) (moment-ended at e.talk h)
+step-ended at Room bytes answers e h = moment-ended at e.talk h
+step-ended at Tick bytes answers e h = ap has_ended (settle-talk (rule_at at (tick answers) e)) ∙ tick-stays answers (present_at at e.talk) (moment-ended at e.talk h)
+step-ended at (Command c) bytes answers e h =
     ap (λ (l : Link ErrorKind). is_some (end_of_link l)) (stays-command c (present_at at e.talk)).link ∙ moment-ended at e.talk h
 
 -- nothing is read or written
@@ -131,17 +132,18 @@ no-answers (w ∷ ws) p h may =
 
 -- it takes the step at most
 pub applied-over : (u : Turn) (e : Engine) → has_ended e.talk ≡ true → AreAnswers (answers_of u.notes) (read u e)
-    → (applied u e ≡ e) ⊎ (applied u e ≡ step_engine u.at u.step u.bytes e)
+    → (applied u e ≡ e) ⊎ (applied u e ≡ step_engine u.at u.step u.bytes u.notes.auths e)
 applied-over u e h may =
-    let p = begun u.at u.notes.starved e in
-    let x = step_engine u.at u.step u.bytes e in
+    let p = begun u.at u.notes.starved u.notes.auths e in
+    let x = step_engine u.at u.step u.bytes u.notes.auths e in
     let s = step_part u.step u.bytes p in
     let Is : Progress → Type 0 = λ y. (y.engine ≡ e) ⊎ (y.engine ≡ x) in
     let stepped : Is s =
-    if_case Is (is_part u.step e) (if goes p then part x p else p) (record p { engine = x })
-    (if_case Is (goes p) (part x p) p (inr refl) (inl refl)) (inr refl) in
+    let q = questioned (step_questions u.at u.step u.notes.auths e) p in
+    if_case Is (is_part u.step e) (if goes p then part x q else p) (record p { engine = x })
+    (if_case Is (goes p) (part x q) p (inr refl) (inl refl)) (inr refl) in
     let over : has_ended s.engine.talk ≡ true =
-    elim stepped [ inl same ↦ ap (λ (y : Engine). has_ended y.talk) same ∙ h | inr same ↦ ap (λ (y : Engine). has_ended y.talk) same ∙ step-ended u.at u.step u.bytes e h ] in
+    elim stepped [ inl same ↦ ap (λ (y : Engine). has_ended y.talk) same ∙ h | inr same ↦ ap (λ (y : Engine). has_ended y.talk) same ∙ step-ended u.at u.step u.bytes u.notes.auths e h ] in
     let here : read u e ≡ s = over-reads (is_piece u.step) s over in
     let ws = answers_of u.notes in
     let A : Progress → Type 0 = λ y. AreAnswers ws y in
@@ -155,5 +157,5 @@ pub applied-ended : (u : Turn) (e : Engine) → has_ended e.talk ≡ true → Ar
 applied-ended u e h may =
     elim (applied-over u e h may) [
       | inl same ↦ ap (λ (x : Engine). has_ended x.talk) same ∙ h
-      | inr same ↦ ap (λ (x : Engine). has_ended x.talk) same ∙ step-ended u.at u.step u.bytes e h
+      | inr same ↦ ap (λ (x : Engine). has_ended x.talk) same ∙ step-ended u.at u.step u.bytes u.notes.auths e h
     ]

@@ -1,5 +1,11 @@
 -- The turns of a script that is played are determined.
-use Rattle.std.proofs.Common.{◌≡◌, ◌≤◌, ◌<◌, ℕ, zero, suc, not, if◌then◌else◌, Bool, true, false, MatchBool, List, [], ◌∷◌, length, Option, Some, None, IfSome, IsSome, is_some, option_map, refl, ap, sym, ◌∙◌, subst, arith}
+use Rattle.std.proofs.Common.{◌≡◌, ◌≤◌, ◌<◌, ℕ, zero, suc, not, if◌then◌else◌, Bool, true, false, MatchBool, List, [], ◌∷◌, ◌++◌, length, take, drop, append_assoc, append-nil, Option, Some, None, IfSome, IsSome, is_some, option_map, refl, ap, sym, ◌∙◌, subst, arith}
+use Rattle.std.specs.Option.{option_or}
+use Rattle.std.proofs.lemmas.List.{take_all, take_at, take-take, drop_at}
+use Rattle.amqp_session.specs.declared.auth.asked.Question.{Question}
+use Rattle.amqp_session.specs.declared.auth.asked.Asked.{Asked}
+use Rattle.amqp_session.specs.Providers.{Exchange, Allows}
+use Rattle.amqp_session.specs.Asking.{Answer}
 use Rattle.amqp_session.specs.Talk.{has_ended, is_open}
 use Rattle.amqp_session.specs.Changes.{starve, present_at}
 use Rattle.amqp_engine.specs.declared.port.Step.{Step}
@@ -9,9 +15,11 @@ use Rattle.amqp_engine.specs.Plan.{Plan, Coming, plan_write, plan_failure, plan_
 use Rattle.amqp_engine.specs.Log.{Log, PlansWrite, log_ask, log_step, log_write}
 use Rattle.amqp_engine.specs.Engine.{Engine, can_write, overlong_next, commit_all}
 use Rattle.amqp_session.specs.Writing.{frames_waiting}
-use Rattle.amqp_engine.specs.Turn.{is_before, Progress, Notes, Turn, answers_of, asks, wants_ask, goes, offer_part, offered, is_all, AreAnswers, read, written, turn, turns, starved_after, IsCut, IsTurn, AreTurns}
-use Rattle.amqp_engine.specs.Tell.{Offer, port_answer, offers_from, offers_of, turn_of, log_asks, log_stepped, log_offers, log_turn, log_turns, PlaysOffers, PlaysTurn, PlaysTurns, Runs}
-use Rattle.amqp_engine.specs.Play.{waiting, room_of, fails_of, played_answer, played_writes, played_step, played_turn_of, played_turn, played_turns, no_notes, noted, IsPlayed}
+use Rattle.amqp_engine.specs.Turn.{is_before, Progress, Notes, Turn, answers_of, asks, wants_ask, goes, offer_part, offered, is_all, AreAnswers, read, written, turn, turns, starved_after, IsCut, IsAnswered, IsTurn, AreTurns, exchanges, cut_of}
+use Rattle.amqp_engine.specs.Tell.{Offer, port_answer, offers_from, offers_of, turn_of, log_asks, log_stepped, log_offers, log_turn, log_turns, PlaysOffers, PlaysTurn, PlaysTurns, MayCome, RunsLent}
+use Rattle.amqp_engine.specs.Play.{waiting, room_of, fails_of, played_answer, played_writes, played_step, told_turn, played_turn_of, played_turn, played_turns, no_notes, noted, AreAnswered, IsPlayed}
+use Rattle.amqp_engine.proofs.Answering.{answer-size, answered-all}
+use Rattle.amqp_engine.proofs.FirstAnswers.{Alike, with_answers, read_with, read-first}
 use Rattle.amqp_engine.proofs.Over.{turn-is}
 use Rattle.amqp_engine.proofs.Lifting.{read-cut}
 use Rattle.amqp_session.proofs.Cases.{if_case, if_by, if-true, if-false, and-true, and-false}
@@ -68,7 +76,7 @@ answer-plan NoMemory (Some p) n planned plays other = absurd (other refl)
 
 -- what is noted of a turn that is not cut
 abbrev pub whole_notes : List ℕ → Bool → Notes
-whole_notes ks failed = record { tooks = ks; failed = failed; starved = None }
+whole_notes ks failed = record { tooks = ks; failed = failed; auths = []; starved = None }
 
 -- where no answer is left, nothing more is noted
 none-noted : (ks : List ℕ) (failed : Bool) → answers_of (whole_notes ks failed) ≡ [] → whole_notes ks failed ≡ no_notes
@@ -125,20 +133,53 @@ step-played : (p : Option Plan) (h : Coming) → is_some p ≡ true → IfSome p
 step-played None h planned plays = cc
 step-played (Some p) h planned plays = plays
 
--- the turn is determined
-turn-played : (u : Turn) (e : Engine) (a : Log) → IsTurn u e → PlaysTurn u e a → u.notes.starved ≡ None → is_some a.plan ≡ true → u ≡ played_turn e a
-turn-played u e a may plays whole planned =
+-- what is noted of the writes does not go by the answers that are left
+played-any : (n : ℕ) (left : List Asked) (p : Progress) (a : Log) → played_writes n (with_answers left p) a ≡ played_writes n p a
+played-any zero left p a = refl
+played-any (suc n) left p a =
+    let w = played_answer p.engine a in
+    let some = can_write p.engine in
+    let whole = is_all w (length (offered p.engine)) in
+    ap (λ (m : Notes). if some then noted w (if whole then m else no_notes) else no_notes)
+    (played-any n left (offer_part w p) (log_write (offered p.engine) w a))
+
+-- where no turn was cut, one answers each question
+answer-whole : (cut : Option ℕ) (questions : List Question) (answers : List Asked) → cut ≡ None → IsAnswered cut questions answers → Answer questions answers
+answer-whole cut [] [] whole h = tt
+answer-whole cut (q ∷ qs) (x ∷ xs) whole h = (h.0, answer-whole cut qs xs whole h.1)
+answer-whole None [] (x ∷ xs) whole h = absurd h
+answer-whole (Some j) [] (x ∷ xs) whole h = cc
+answer-whole cut (q ∷ qs) [] whole h = absurd h
+
+-- these are the first answers, whatever follows them
+first-alike : (questions : List Question) (answers more : List Asked) → Answer questions answers → answers ≡ take (length questions) (answers ++ more)
+first-alike questions answers more h = sym (take_at answers more (length questions) (sym (answer-size questions answers h)))
+
+-- the turn is determined, whatever is answered after it
+turn-played : (u : Turn) (e : Engine) (a : Log) (more : List Asked) → IsTurn u e → PlaysTurn u e a → u.notes.starved ≡ None → is_some a.plan ≡ true
+    → u ≡ played_turn (u.notes.auths ++ more) e a
+turn-played u e a more may plays whole planned =
     let b = log_stepped u e a in
+    let auths = u.notes.auths in
+    let all = auths ++ more in
     let p = read u (asks e) in
-    let v = turn_of u.at u.step u.bytes no_notes in
-    let same : p ≡ read v (asks e) =
-    ap (λ (x : Option ℕ). read (turn_of u.at u.step u.bytes (record { tooks = []; failed = false; starved = x })) (asks e)) whole in
+    let h : Coming = record { at = u.at; step = u.step; bytes = u.bytes } in
+    let q = read (told_turn h all) (asks e) in
+    let n = length p.questions in
+    let asked : Answer p.questions auths = answer-whole u.notes.starved p.questions auths whole may.applied.asked in
+    let first : auths ≡ take n all = first-alike p.questions auths more asked in
+    let alike : Alike n auths all = take_all n auths (omega (arith, answer-size p.questions auths asked)) ∙ first in
+    let same : q ≡ with_answers (drop n all) p =
+    ap (λ (x : Option ℕ). read_with u.at x u.step u.bytes all (asks e)) (sym whole)
+    ∙ read-first u.at u.notes.starved u.step u.bytes auths all (asks e) alike in
     let cut : p.cut ≡ None = read-cut u (asks e) ∙ whole in
     let notes : whole_notes u.notes.tooks u.notes.failed ≡ played_writes (waiting p.engine) p b =
     writes-played u.notes.tooks u.notes.failed (waiting p.engine) p b cut (planned-stepped u e a ∙ planned) may.applied.answers plays.1 (omega arith) in
-    ap (λ (x : Option ℕ). turn_of u.at u.step u.bytes (record { tooks = u.notes.tooks; failed = u.notes.failed; starved = x })) whole
-    ∙ ap (λ (x : Notes). turn_of u.at u.step u.bytes x) (notes ∙ ap (λ (x : Progress). played_writes (waiting x.engine) x b) same)
-    ∙ sym (ap (λ (h : Coming). played_turn_of h e a) (step-played (log_asks e a).plan _ (planned-asks e a ∙ planned) plays.0))
+    ap (λ (x : Option ℕ). turn_of u.at u.step u.bytes (record u.notes { starved = x })) whole
+    ∙ ap (λ (m : Notes). turn_of u.at u.step u.bytes (record m { auths = auths })) (notes ∙ sym (played-any (waiting p.engine) (drop n all) p b))
+    ∙ ap (λ (xs : List Asked). turn_of u.at u.step u.bytes (record (played_writes (waiting p.engine) (with_answers (drop n all) p) b) { auths = xs })) first
+    ∙ ap (λ (x : Progress). turn_of u.at u.step u.bytes (record (played_writes (waiting x.engine) x b) { auths = take (length x.questions) all })) (sym same)
+    ∙ sym (ap (λ (h : Coming). played_turn_of h all e a) (step-played (log_asks e a).plan _ (planned-asks e a ∙ planned) plays.0))
 
 -- a turn that was cut is the last
 whole-end : (s : Option ℕ) (at : ℕ) (e : Engine) (us : List Turn) → AreTurns us (starved_after s at e)
@@ -154,45 +195,88 @@ stops : (b : Bool) (n : ℕ) (e : Engine) (xs : List Turn) → has_ended e.talk 
 stops true n e xs h f = refl
 stops false n e xs h f = absurd (omega (arith, f h))
 
--- the turns are determined
-pub turns-played : (us : List Turn) (n : ℕ) (e : Engine) (a : Log) → AreTurns us e → PlaysTurns us e a → length us ≤ n
-    → (has_ended (turns us e).talk ≡ false → length us ≡ n) → is_some a.plan ≡ true
-    → (turns us e).starved ≡ None → us ≡ played_turns n e a
-turns-played [] zero e a may told le all planned whole = refl
-turns-played [] (suc n) e a may told le all planned whole =
-    let u = played_turn e a in
-    stops (has_ended e.talk) n e (u ∷ played_turns n (turn u e) (log_turn u e a)) refl all
-turns-played (u ∷ us) zero e a may told le all planned whole = absurd (omega arith)
-turns-played (u ∷ us) (suc n) e a may told le all planned whole =
-    let none : List Turn = [] in
+-- what the provider answered in these turns, in order
+abbrev pub auths_in : List Turn → List Asked
+auths_in [] = []
+auths_in (u ∷ us) = u.notes.auths ++ auths_in us
+
+-- where the first of these turns is not the last of a session for want of memory, it was not cut
+first-whole : (u : Turn) (us : List Turn) (e : Engine) → AreTurns (u ∷ us) e → (turns (u ∷ us) e).starved ≡ None → u.notes.starved ≡ None
+first-whole u us e may whole =
     let is_turn = turn-is u e may.0.running in
     let A : Engine → Type 0 = λ x. AreTurns us x in
     let W : Engine → Type 0 = λ x. (turns us x).starved ≡ None in
-    let uncut : u.notes.starved ≡ None =
-    whole-end u.notes.starved u.at (written u (asks e)).engine us (subst A is_turn may.1) (subst W is_turn whole) in
-    let is : u ≡ played_turn e a = turn-played u e a may.0 told.0 uncut planned in
-    let v = played_turn e a in
-    ap (λ (x : List Turn). u ∷ x) (turns-played us n (turn u e) (log_turn u e a) may.1 told.1 (omega arith) (λ h. omega (arith, all h)) (planned-turn u e a ∙ planned) whole)
-    ∙ ap (λ (x : Turn). x ∷ played_turns n (turn x e) (log_turn x e a)) is
-    ∙ sym (ap (λ (b : Bool). if b then none else v ∷ played_turns n (turn v e) (log_turn v e a)) may.0.running)
+    whole-end u.notes.starved u.at (written u (asks e)).engine us (subst A is_turn may.1) (subst W is_turn whole)
+
+-- none of these turns was cut
+turns-whole : (us : List Turn) (e : Engine) → AreTurns us e → (turns us e).starved ≡ None → cut_of us ≡ None
+turns-whole [] e may whole = refl
+turns-whole (u ∷ us) e may whole =
+    ap (λ (x : Option ℕ). option_or x (cut_of us)) (first-whole u us e may whole) ∙ turns-whole us (turn u e) may.1 whole
+
+-- and all that they asked was answered
+turns-answered : (us : List Turn) (e : Engine) → AreTurns us e → (turns us e).starved ≡ None → AreAnswered us e
+turns-answered [] e may whole = tt
+turns-answered (u ∷ us) e may whole = (
+  answer-whole u.notes.starved (read u (asks e)).questions u.notes.auths (first-whole u us e may whole) may.0.applied.asked,
+  turns-answered us (turn u e) may.1 whole,
+)
+
+-- the turns are determined, whatever is answered after them
+pub turns-played : (us : List Turn) (n : ℕ) (e : Engine) (a : Log) (more : List Asked) → AreTurns us e → PlaysTurns us e a → length us ≤ n
+    → (has_ended (turns us e).talk ≡ false → length us ≡ n) → is_some a.plan ≡ true
+    → (turns us e).starved ≡ None → us ≡ played_turns n (auths_in us ++ more) e a
+turns-played [] zero e a more may told le all planned whole = refl
+turns-played [] (suc n) e a more may told le all planned whole =
+    let u = played_turn more e a in
+    stops (has_ended e.talk) n e (u ∷ played_turns n (drop (length u.notes.auths) more) (turn u e) (log_turn u e a)) refl all
+turns-played (u ∷ us) zero e a more may told le all planned whole = absurd (omega arith)
+turns-played (u ∷ us) (suc n) e a more may told le all planned whole =
+    let none : List Turn = [] in
+    let auths = u.notes.auths in
+    let behind = auths_in us ++ more in
+    let answers = (auths ++ auths_in us) ++ more in
+    let joined : auths ++ behind ≡ answers = sym (append_assoc auths (auths_in us) more) in
+    let is : u ≡ played_turn answers e a =
+    turn-played u e a behind may.0 told.0 (first-whole u us e may whole) planned ∙ ap (λ (xs : List Asked). played_turn xs e a) joined in
+    let v = played_turn answers e a in
+    let left : behind ≡ drop (length auths) answers = sym (ap (drop (length auths)) (sym joined) ∙ drop_at auths behind (length auths) refl) in
+    ap (λ (x : List Turn). u ∷ x) (turns-played us n (turn u e) (log_turn u e a) more may.1 told.1 (omega arith) (λ h. omega (arith, all h)) (planned-turn u e a ∙ planned) whole)
+    ∙ ap (λ (xs : List Asked). u ∷ played_turns n xs (turn u e) (log_turn u e a)) left
+    ∙ ap (λ (x : Turn). x ∷ played_turns n (drop (length x.notes.auths) answers) (turn x e) (log_turn x e a)) is
+    ∙ sym (ap (λ (b : Bool). if b then none else v ∷ played_turns n (drop (length v.notes.auths) answers) (turn v e) (log_turn v e a)) may.0.running)
+
+-- what may come where nothing was cut, may come from the provider
+whole-allows : (cut : Option ℕ) (before after : Exchange → Type 0) (exchange : Exchange) → cut ≡ None → MayCome cut before after exchange → Allows before exchange
+whole-allows None before after exchange whole may = subst (Allows before) (append-nil exchange) (may [] tt)
+whole-allows (Some j) before after exchange whole may = may
 
 -- a run is the run of the script
-pub Runs-played : (n : ℕ) (e e' : Engine) (a : Log) (log : Option Log) → Runs n e e' (Some a) log → IsSome a.plan → e'.starved ≡ None → IsPlayed n e e' a log
-Runs-played n e e' a log r planned whole =
+pub Runs-played : (n : ℕ) (e e' : Engine) (a : Log) (log : Option Log) (before after : Exchange → Type 0) → RunsLent n e e' (Some a) log before after
+    → IsSome a.plan → e'.starved ≡ None → IsPlayed n e e' a log before
+Runs-played n e e' a log before after lent planned whole =
+    let r = lent.runs in
     let P : Engine → Type 0 = λ x. x.starved ≡ None in
     let Q : Engine → Type 0 = λ x. has_ended x.talk ≡ false → length r.us ≡ n in
-    let is : r.us ≡ played_turns n e a =
-    turns-played r.us n e a r.leads.may r.tells.plays r.within (subst Q (sym r.leads.leaves) r.all) planned (subst P (sym r.leads.leaves) whole) in
+    let answers = auths_in r.us ++ [] in
+    let ends : (turns r.us e).starved ≡ None = subst P (sym r.leads.leaves) whole in
+    let is : r.us ≡ played_turns n answers e a =
+    turns-played r.us n e a [] r.leads.may r.tells.plays r.within (subst Q (sym r.leads.leaves) r.all) planned ends in
+    let A : List Turn → Type 0 = λ us. AreAnswered us e in
+    let X : List Turn → Type 0 = λ us. Allows before (exchanges us e) in
     record {
+      answers = answers;
       engine = ap (λ us. turns us e) (sym is) ∙ r.leads.leaves;
       told = r.tells.told ∙ ap (λ us. Some (log_turns us e a)) is;
+      answered = subst A is (turns-answered r.us e r.leads.may ends);
+      exchanged = subst X is (whole-allows (cut_of r.us) before after (exchanges r.us e) (turns-whole r.us e r.leads.may ends) lent.exchanged);
     }
 
 -- the same over a port that may tell nothing
-pub runs-played : (n : ℕ) (e e' : Engine) (log log' : Option Log) → Runs n e e' log log'
-    → IfSome log (λ a. IsSome a.plan → e'.starved ≡ None → IsPlayed n e e' a log')
-runs-played n e e' None log' r = tt
-runs-played n e e' (Some a) log' r = Runs-played n e e' a log' r
+pub runs-played : (n : ℕ) (e e' : Engine) (log log' : Option Log) (before after : Exchange → Type 0) → RunsLent n e e' log log' before after
+    → IfSome log (λ a. IsSome a.plan → e'.starved ≡ None → IsPlayed n e e' a log' before)
+runs-played n e e' None log' before after r = tt
+runs-played n e e' (Some a) log' before after r = Runs-played n e e' a log' before after r
 
 -- ---- what is played are turns
 
@@ -276,34 +360,84 @@ plans-step : (o : Option Plan) → is_some o ≡ true
 plans-step None h = cc
 plans-step (Some p) h = refl
 
-played-is-turn : (e : Engine) (a : Log) → has_ended e.talk ≡ false → is_some a.plan ≡ true → IsTurn (played_turn e a) e × PlaysTurn (played_turn e a) e a
-played-is-turn e a running planned =
-    let u = played_turn e a in
-    let v = turn_of u.at u.step u.bytes no_notes in
-    let p = read v (asks e) in
-    let b = log_stepped u e a in
-    let n = waiting p.engine in
-    let whole : u.notes.starved ≡ None = whole-played n p b in
-    let same : p ≡ read u (asks e) =
-    sym (ap (λ (x : Option ℕ). read (turn_of u.at u.step u.bytes (record { tooks = []; failed = false; starved = x })) (asks e)) whole) in
-    let due = due-played n p b (read-cut v (asks e)) (omega arith) in
-    let A : Progress → Type 0 = λ x. AreAnswers (answers_of u.notes) x in
-    let B : Progress → Type 0 = λ x. PlaysOffers (offers_from (answers_of u.notes) x) b in
-    let C : Option ℕ → Type 0 = λ x. IsCut x (written u (asks e)).done in (
-      record { running = running; applied = record { answers = subst A same due.may; cut = subst C (sym whole) tt } },
-      (plans-step (log_asks e a).plan (planned-asks e a ∙ planned), subst B same due.plays),
-    )
+-- the turn that is played, up to its writes
+abbrev played_read : List Asked → Engine → Log → Progress
+played_read answers e a = read (told_turn (played_step (log_asks e a).plan) answers) (asks e)
 
--- the turns of at most so many steps
-pub played-are-turns : (n : ℕ) (e : Engine) (a : Log) → is_some a.plan ≡ true → AreTurns (played_turns n e a) e × PlaysTurns (played_turns n e a) e a
-played-are-turns zero e a planned = (tt, tt)
-played-are-turns (suc n) e a planned =
-    let u = played_turn e a in
-    let us = played_turns n (turn u e) (log_turn u e a) in
+-- what it took of the answers is enough for it
+played-reads : (answers : List Asked) (e : Engine) (a : Log)
+    → read (played_turn answers e a) (asks e)
+    ≡ with_answers (drop (length (played_read answers e a).questions) (played_turn answers e a).notes.auths) (played_read answers e a)
+played-reads answers e a =
+    let u = played_turn answers e a in
+    let q = played_read answers e a in
+    let n = length q.questions in
+    let b = log_stepped u e a in
+    ap (λ (x : Option ℕ). read_with u.at x u.step u.bytes u.notes.auths (asks e)) (whole-played (waiting q.engine) q b)
+    ∙ read-first u.at None u.step u.bytes answers u.notes.auths (asks e) (sym (take-take n n answers (omega arith)))
+
+-- its writes are those that are due
+played-due : (answers : List Asked) (e : Engine) (a : Log)
+    → Due (answers_of (played_turn answers e a).notes) (read (played_turn answers e a) (asks e)) (log_stepped (played_turn answers e a) e a)
+played-due answers e a =
+    let u = played_turn answers e a in
+    let q = played_read answers e a in
+    let b = log_stepped u e a in
+    let n = waiting q.engine in
+    let left = drop (length q.questions) u.notes.auths in
+    let r = with_answers left q in
+    let N : Notes → Type 0 = λ m. Due (answers_of m) r b in
+    let R : Progress → Type 0 = λ x. Due (answers_of u.notes) x b in
+    subst R (sym (played-reads answers e a))
+    (subst N (played-any n left q b) (due-played n r b (read-cut (told_turn (played_step (log_asks e a).plan) answers) (asks e)) (omega arith)))
+
+played-is-turn : (answers : List Asked) (e : Engine) (a : Log) → has_ended e.talk ≡ false
+    → Answer (read (played_turn answers e a) (asks e)).questions (played_turn answers e a).notes.auths → IsTurn (played_turn answers e a) e
+played-is-turn answers e a running asked =
+    let u = played_turn answers e a in
+    let q = played_read answers e a in
+    let whole : u.notes.starved ≡ None = whole-played (waiting q.engine) q (log_stepped u e a) in
+    let C : Option ℕ → Type 0 = λ x. IsCut x (written u (asks e)).done in
+    record {
+      running = running;
+      applied = record {
+        answers = (played-due answers e a).may;
+        asked = answered-all u.notes.starved (read u (asks e)).questions u.notes.auths asked;
+        cut = subst C (sym whole) tt;
+      };
+    }
+
+-- a port that plays the script tells it so
+played-plays : (answers : List Asked) (e : Engine) (a : Log) → is_some a.plan ≡ true → PlaysTurn (played_turn answers e a) e a
+played-plays answers e a planned =
+    (plans-step (log_asks e a).plan (planned-asks e a ∙ planned), (played-due answers e a).plays)
+
+-- the turns of at most so many steps are turns, where what they ask is answered
+pub played-are-turns : (n : ℕ) (answers : List Asked) (e : Engine) (a : Log) → AreAnswered (played_turns n answers e a) e → AreTurns (played_turns n answers e a) e
+played-are-turns zero answers e a all = tt
+played-are-turns (suc n) answers e a all =
+    let u = played_turn answers e a in
+    let left = drop (length u.notes.auths) answers in
+    by (has_ended e.talk) refl all (played-is-turn answers e a) (played-are-turns n left (turn u e) (log_turn u e a))
+  where
+    u : Turn
+    u = played_turn answers e a
+
+    us : List Turn
+    us = played_turns n (drop (length u.notes.auths) answers) (turn u e) (log_turn u e a)
+
+    by : (b : Bool) → has_ended e.talk ≡ b → AreAnswered (if b then [] else u ∷ us) e
+        → (has_ended e.talk ≡ false → Answer (read u (asks e)).questions u.notes.auths → IsTurn u e)
+        → (AreAnswered us (turn u e) → AreTurns us (turn u e)) → AreTurns (if b then [] else u ∷ us) e
+    by true over all here later = tt
+    by false running all here later = (here running all.0, later all.1)
+
+-- and a port that plays the script tells them so, whatever is answered
+pub turns-plays : (n : ℕ) (answers : List Asked) (e : Engine) (a : Log) → is_some a.plan ≡ true → PlaysTurns (played_turns n answers e a) e a
+turns-plays zero answers e a planned = tt
+turns-plays (suc n) answers e a planned =
+    let u = played_turn answers e a in
+    let left = drop (length u.notes.auths) answers in
     let none : List Turn = [] in
-    if_by (λ (vs : List Turn). AreTurns vs e × PlaysTurns vs e a) (has_ended e.talk) none (u ∷ us)
-    (λ over. (tt, tt))
-    (λ running.
-    let here = played-is-turn e a running planned in
-    let later = played-are-turns n (turn u e) (log_turn u e a) (planned-turn u e a ∙ planned) in
-    ((here.0, later.0), (here.1, later.1)))
+    if_case (λ (vs : List Turn). PlaysTurns vs e a) (has_ended e.talk) none (u ∷ played_turns n left (turn u e) (log_turn u e a)) tt
+    (played-plays answers e a planned, turns-plays n left (turn u e) (log_turn u e a) (planned-turn u e a ∙ planned))

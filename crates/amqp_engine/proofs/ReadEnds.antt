@@ -1,5 +1,5 @@
 -- How reading may end a session.
-use Rattle.std.proofs.Common.{◌≡◌, ◌⊎◌, inl, inr, ℕ, zero, suc, ◌+◌, ◌&&◌, Bool, true, false, if◌then◌else◌, IsTrue, drop, Some, Err, refl, ap, sym, ◌∙◌, subst}
+use Rattle.std.proofs.Common.{◌≡◌, ◌⊎◌, inl, inr, ℕ, zero, suc, ◌+◌, ◌&&◌, Bool, true, false, if◌then◌else◌, IsTrue, drop, Some, Err, refl, ap, sym, ◌∙◌, subst, List}
 use Rattle.amqp_frame.specs.declared.frame.Frame.{Frame}
 use Rattle.amqp_frame.specs.declared.frame.Frame.TheVariants.{ProtocolHeader, Method}
 use Rattle.amqp_frame.specs.declared.frame.Read.{Read}
@@ -9,17 +9,19 @@ use Rattle.amqp_frame.specs.declared.method.Method.TheVariants.{Blocked, Unblock
 use Rattle.amqp_session.specs.declared.misread.Misread.{Misread}
 use Rattle.amqp_session.specs.declared.misread.Misread.TheVariants as why
 use Rattle.amqp_session.specs.declared.error.ErrorKind.{ErrorKind}
-use Rattle.amqp_session.specs.declared.error.ErrorKind.TheVariants.{InvalidProtocolVersion, InvalidChannel, InvalidConnectionState, ProtocolError, Unbuilt}
+use Rattle.amqp_session.specs.declared.error.ErrorKind.TheVariants.{InvalidProtocolVersion, InvalidChannel, InvalidConnectionState, ProtocolError, AuthProviderError}
+use Rattle.amqp_session.specs.declared.auth.asked.Question.{Question}
+use Rattle.amqp_session.specs.declared.auth.asked.Asked.{Asked}
 use Rattle.amqp_session.specs.Talk.{Talk, is_acting, acts, hears_on, is_open, has_ended, end_of}
 use Rattle.amqp_session.specs.Negotiation.{frame_limit}
 use Rattle.amqp_session.specs.Changes.{present_at}
 use Rattle.amqp_session.specs.Links.{misread}
 use Rattle.amqp_session.specs.Violations.{misread_error}
-use Rattle.amqp_session.specs.Frames.{frame_rule, closed_rule, on_frame}
+use Rattle.amqp_session.specs.Frames.{questions_in, frame_rule, closed_rule, on_frame}
 use Rattle.amqp_engine.specs.Plan.{at_most_64}
 use Rattle.amqp_engine.specs.Engine.{Engine, settle, front_of, can_read, read_row, read_badly, read_one, rule_at}
 use Rattle.amqp_engine.specs.Turn.{Progress, goes, reads, read_part}
-use Rattle.amqp_session.specs.Causes.{IsFrameError, IsJudgedError, IsUnawaited, IsUndue, is_awaited, is_judged}
+use Rattle.amqp_session.specs.Causes.{IsFrameError, IsJudgedError, IsUnawaited, IsUndue, is_awaited, refused_in}
 use Rattle.amqp_engine.specs.Causes.{IsReadError}
 use Rattle.amqp_session.proofs.Cases.{if_case, if_by, if-true, if-false}
 use Rattle.amqp_engine.proofs.Cases.{and-left, and-right}
@@ -30,25 +32,25 @@ use Rattle.amqp_session.proofs.FrameEnds.{ends-frame, ends-misread}
 
 -- ---- the errors of a frame
 
-abbrev FrameCause : Frame → ℕ → Talk → ErrorKind → Type 0
-FrameCause f place t k = IsTrue (is_acting t.input) × IsFrameError k f place t
+abbrev FrameCause : Frame → List Asked → Talk → ErrorKind → Type 0
+FrameCause f answers t k = IsTrue (is_acting t.input) × IsFrameError k f answers t
 
 closed-end : (f : Frame) (t : Talk) → end_of (closed_rule f t) ≡ end_of t
 closed-end (Method zero (Blocked reason)) t = refl
 closed-end (Method zero Unblocked) t = refl
 closed-end f t = refl
 
-ends-acting : (f : Frame) (place : ℕ) (t : Talk) → Ends (FrameCause f place t) t (on_frame f place t)
-ends-acting f place t = record { by = λ k h. by (acts t) refl k h }
+ends-acting : (f : Frame) (answers : List Asked) (t : Talk) → Ends (FrameCause f answers t) t (on_frame f answers t)
+ends-acting f answers t = record { by = λ k h. by (acts t) refl k h }
   where
-    by : (b : Bool) → acts t ≡ b → (k : ErrorKind) → end_of (on_frame f place t) ≡ Some (Err k) → (end_of t ≡ Some (Err k)) ⊎ FrameCause f place t k
+    by : (b : Bool) → acts t ≡ b → (k : ErrorKind) → end_of (on_frame f answers t) ≡ Some (Err k) → (end_of t ≡ Some (Err k)) ⊎ FrameCause f answers t k
     by false idle k h =
         let otherwise : Talk = if hears_on t then closed_rule f t else t in
         let kept : end_of otherwise ≡ end_of t =
         if_case (λ (x : Talk). end_of x ≡ end_of t) (hears_on t) (closed_rule f t) t (closed-end f t) refl in
-        inl (sym (ap end_of (if-false (acts t) (frame_rule f place t) otherwise idle) ∙ kept) ∙ h)
+        inl (sym (ap end_of (if-false (acts t) (frame_rule f answers t) otherwise idle) ∙ kept) ∙ h)
     by true acting k h =
-        elim ((ends-frame f place t).by k h) [ inl before ↦ inl before | inr cause ↦ inr (and-right (is_open t) (is_acting t.input) acting, cause) ]
+        elim ((ends-frame f answers t).by k h) [ inl before ↦ inl before | inr cause ↦ inr (and-right (is_open t) (is_acting t.input) acting, cause) ]
 
 -- ---- errors do not look at the moment
 
@@ -64,10 +66,6 @@ moment-unawaited : (n : ℕ) (e : ErrorKind) (f : Frame) (t : Talk) → IsUnawai
 moment-unawaited n e (Method (suc c) m) t h = (h.0, h.1, sym (moment-awaited m (suc c) n t) ∙ h.2, h.3)
 moment-unawaited n e _ t h = h
 
-moment-judged : (n : ℕ) (f : Frame) (t : Talk) → is_judged f (record t { present = n }) ≡ is_judged f t
-moment-judged n (Method c m) t = refl
-moment-judged n _ t = refl
-
 moment-undue : (n : ℕ) (f : Frame) (t : Talk) → IsUndue f (record t { present = n }) → IsUndue f t
 moment-undue n (Method zero m) t h = h
 moment-undue n _ t h = h
@@ -78,60 +76,64 @@ moment-rule n (InvalidChannel channel) f t h = h
 moment-rule n (ProtocolError e) f t h = elim h [ inl p ↦ inl p | inr p ↦ inr (moment-unawaited n (ProtocolError e) f t p) ]
 moment-rule n _ f t h = h
 
-moment-frame : (n : ℕ) (k : ErrorKind) (f : Frame) (place : ℕ) (t : Talk) → IsFrameError k f place (record t { present = n }) → IsFrameError k f place t
-moment-frame n (InvalidProtocolVersion version) (ProtocolHeader v) place t h = h
-moment-frame n (Unbuilt built_at) (Method channel m) place t h = h
-moment-frame n k f place t h = (sym (moment-judged n f t) ∙ h.0, moment-rule n k f t h.1)
+moment-asked : (n : ℕ) (f : Frame) (t : Talk) → questions_in f (record t { present = n }) ≡ questions_in f t
+moment-asked n (Method zero m) t = refl
+moment-asked n _ t = refl
 
-moment-error : (n : ℕ) (k : ErrorKind) (r : Read) (x : Engine) → IsReadError k r (record x { talk = record x.talk { present = n } }) → IsReadError k r x
-moment-error n k (reading.Whole f size) x h = (h.0, moment-frame n k f x.place x.talk h.1)
-moment-error n k _ x h = h
+moment-frame : (n : ℕ) (k : ErrorKind) (f : Frame) (answers : List Asked) (t : Talk) → IsFrameError k f answers (record t { present = n }) → IsFrameError k f answers t
+moment-frame n (InvalidProtocolVersion version) (ProtocolHeader v) answers t h = h
+moment-frame n (AuthProviderError text) f answers t h = subst (λ (q : List Question). refused_in q answers ≡ Some text) (moment-asked n f t) h
+moment-frame n k f answers t h = (h.0, moment-rule n k f t h.1)
 
-present-error : (at : ℕ) (r : Read) (x : Engine) (k : ErrorKind) → IsReadError k r (rule_at at (λ t. t) x) → IsReadError k r x
-present-error at r x k =
-    if_case (λ (t : Talk). IsReadError k r (record x { talk = t }) → IsReadError k r x) (has_ended x.talk) x.talk (record x.talk { present = _ })
-    (λ h. h) (λ h. moment-error _ k r x h)
+moment-error : (n : ℕ) (k : ErrorKind) (r : Read) (answers : List Asked) (x : Engine) → IsReadError k r answers (record x { talk = record x.talk { present = n } }) → IsReadError k r answers x
+moment-error n k (reading.Whole f size) answers x h = (h.0, moment-frame n k f answers x.talk h.1)
+moment-error n k _ answers x h = h
+
+present-error : (at : ℕ) (r : Read) (answers : List Asked) (x : Engine) (k : ErrorKind) → IsReadError k r answers (rule_at at (λ t. t) x) → IsReadError k r answers x
+present-error at r answers x k =
+    if_case (λ (t : Talk). IsReadError k r answers (record x { talk = t }) → IsReadError k r answers x) (has_ended x.talk) x.talk (record x.talk { present = _ })
+    (λ h. h) (λ h. moment-error _ k r answers x h)
 
 pub ends-settled : (P : ErrorKind → Type 0) (t : Talk) (x : Engine) → Ends P t x.talk → Ends P t (settle x).talk
 ends-settled P t x e = ends-to P t x.talk (settle x).talk (settle-talk x) e
 
 -- ---- reading
 
-ends-badly : (at : ℕ) (r : Read) (w : Misread) (x : Engine) → IsReadError (misread_error w) r x → Ends (λ k. IsReadError k r x) x.talk (read_badly at w x).talk
-ends-badly at r w x p =
-    let P : ErrorKind → Type 0 = λ k. IsReadError k r x in
+ends-badly : (at : ℕ) (r : Read) (w : Misread) (answers : List Asked) (x : Engine) → IsReadError (misread_error w) r answers x → Ends (λ k. IsReadError k r answers x) x.talk (read_badly at w x).talk
+ends-badly at r w answers x p =
+    let P : ErrorKind → Type 0 = λ k. IsReadError k r answers x in
     ends-settled P x.talk (rule_at at (misread w) x)
     (ends-present P at x.talk (misread w (present_at at x.talk)) (ends-misread P w (present_at at x.talk) p))
 
-ends-read-row : (at : ℕ) (r : Read) (x : Engine) → is_memory r ≡ false → Ends (λ k. IsReadError k r x) x.talk (read_row at r x).talk
-ends-read-row at (reading.Whole f n) x none =
-    let P : ErrorKind → Type 0 = λ k. IsReadError k (reading.Whole f n) x in
+ends-read-row : (at : ℕ) (r : Read) (answers : List Asked) (x : Engine) → is_memory r ≡ false → Ends (λ k. IsReadError k r answers x) x.talk (read_row at r answers x).talk
+ends-read-row at (reading.Whole f n) answers x none =
+    let P : ErrorKind → Type 0 = λ k. IsReadError k (reading.Whole f n) answers x in
     let now : Engine = rule_at at (λ t. t) x in
-    let after : Engine = record x { talk = on_frame f x.place (present_at at x.talk); unread = drop n x.unread; place = at_most_64 (x.place + n) } in
+    let after : Engine = record x { talk = on_frame f answers (present_at at x.talk); unread = drop n x.unread; place = at_most_64 (x.place + n) } in
     ends-settled P x.talk after
-    (ends-present P at x.talk after.talk (ends-as (FrameCause f x.place now.talk) P now.talk after.talk (present-error at (reading.Whole f n) x) (ends-acting f x.place now.talk)))
-ends-read-row at (reading.TooLarge size) x none = ends-badly at (reading.TooLarge size) (why.TooLarge size) x refl
-ends-read-row at (reading.BadHeartbeat channel) x none = ends-badly at (reading.BadHeartbeat channel) (why.BadHeartbeat channel) x refl
-ends-read-row at reading.More x none = ends-kept _ x.talk x.talk refl
-ends-read-row at reading.Bad x none = ends-badly at reading.Bad (why.Bad x.place) x refl
-ends-read-row at reading.NoMemory x none = cc
+    (ends-present P at x.talk after.talk (ends-as (FrameCause f answers now.talk) P now.talk after.talk (present-error at (reading.Whole f n) answers x) (ends-acting f answers now.talk)))
+ends-read-row at (reading.TooLarge size) answers x none = ends-badly at (reading.TooLarge size) (why.TooLarge size) answers x refl
+ends-read-row at (reading.BadHeartbeat channel) answers x none = ends-badly at (reading.BadHeartbeat channel) (why.BadHeartbeat channel) answers x refl
+ends-read-row at reading.More answers x none = ends-kept _ x.talk x.talk refl
+ends-read-row at reading.Bad answers x none = ends-badly at reading.Bad (why.Bad x.place) answers x refl
+ends-read-row at reading.NoMemory answers x none = cc
 
-pub ends-read-one : (at : ℕ) (x : Engine) → Ends (λ k. IsReadError k (front_of x) x) x.talk (read_one at x).talk
-ends-read-one at x = ends-read-row at (front_of x) x ((says-front (frame_limit x.talk)).held x.unread)
+pub ends-read-one : (at : ℕ) (answers : List Asked) (x : Engine) → Ends (λ k. IsReadError k (front_of x) answers x) x.talk (read_one at answers x).talk
+ends-read-one at answers x = ends-read-row at (front_of x) answers x ((says-front (frame_limit x.talk)).held x.unread)
 
 -- the reading from here on comes to what brings this error
 pub record Comes (p : Progress) (k : ErrorKind) : Type 0 where
   pub before : ℕ
   pub goes_on : IsTrue (goes (reads before p))
   pub readable : IsTrue (can_read (reads before p).engine)
-  pub error_read : IsReadError k (front_of (reads before p).engine) (reads before p).engine
+  pub error_read : IsReadError k (front_of (reads before p).engine) (reads before p).answers (reads before p).engine
 
 comes-later : (p : Progress) (k : ErrorKind) → (goes p && can_read p.engine) ≡ true → Comes (read_part p) k → Comes p k
 comes-later p k h c =
     let same : reads (suc c.before) p ≡ reads c.before (read_part p) = if-true (goes p && can_read p.engine) (reads c.before (read_part p)) p h in
     let G : Progress → Type 0 = λ x. IsTrue (goes x) in
     let P : Progress → Type 0 = λ x. IsTrue (can_read x.engine) in
-    let Q : Progress → Type 0 = λ x. IsReadError k (front_of x.engine) x.engine in
+    let Q : Progress → Type 0 = λ x. IsReadError k (front_of x.engine) x.answers x.engine in
     record {
       before = suc c.before;
       goes_on = subst G (sym same) c.goes_on;
@@ -147,7 +149,7 @@ ends-reads (suc n) p =
     let x = read_part p in
     if_by (λ (y : Progress). Ends P t y.engine.talk) (goes p && can_read p.engine) (reads n x) p
     (λ h. ends-then P t x.engine.talk (reads n x).engine.talk
-    (ends-as (λ k. IsReadError k (front_of p.engine) p.engine) P t x.engine.talk
-    (λ k e. record { before = zero; goes_on = and-left (goes p) (can_read p.engine) h; readable = and-right (goes p) (can_read p.engine) h; error_read = e }) (ends-read-one p.at p.engine))
+    (ends-as (λ k. IsReadError k (front_of p.engine) p.answers p.engine) P t x.engine.talk
+    (λ k e. record { before = zero; goes_on = and-left (goes p) (can_read p.engine) h; readable = and-right (goes p) (can_read p.engine) h; error_read = e }) (ends-read-one p.at p.answers p.engine))
     (ends-as (Comes x) P x.engine.talk (reads n x).engine.talk (λ k c. comes-later p k h c) (ends-reads n x)))
     (λ h. ends-kept P t t refl)

@@ -1,5 +1,5 @@
 -- Reading frames one by one.
-use Rattle.std.proofs.Common.{◌≡◌, ◌≤◌, ◌<◌, ℕ, zero, suc, ◌+◌, ◌&&◌, not, if◌then◌else◌, Bool, true, false, List, [], ◌∷◌, length, drop, Option, refl, ap, sym, ◌∙◌, arith, length-drop}
+use Rattle.std.proofs.Common.{◌≡◌, ◌≤◌, ◌<◌, ℕ, zero, suc, ◌+◌, ◌&&◌, not, if◌then◌else◌, Bool, true, false, List, [], ◌∷◌, ◌++◌, length, drop, Option, refl, ap, sym, ◌∙◌, arith, length-drop}
 use Rattle.amqp_frame.specs.declared.frame.Read.{Read}
 use Rattle.amqp_frame.specs.declared.frame.Read.TheVariants.{Whole, More, TooLarge, BadHeartbeat, Bad, NoMemory}
 use Rattle.amqp_frame.specs.FrameReading.{front}
@@ -7,6 +7,8 @@ use Rattle.amqp_session.specs.declared.state.Input.{Input}
 use Rattle.amqp_session.specs.declared.state.Input.TheVariants.{Acting, Closed, Dropped}
 use Rattle.amqp_session.specs.declared.misread.Misread.{Misread}
 use Rattle.amqp_session.specs.declared.misread.Misread.TheVariants as why
+use Rattle.amqp_session.specs.declared.auth.asked.Question.{Question}
+use Rattle.amqp_session.specs.declared.auth.asked.Asked.{Asked}
 use Rattle.amqp_session.specs.Talk.{Talk, is_open, is_acting, acts, is_dropped_input}
 use Rattle.amqp_session.specs.Changes.{present_at, lose}
 use Rattle.amqp_session.specs.Links.{misread, dropped}
@@ -14,11 +16,11 @@ use Rattle.amqp_session.specs.Violations.{misread_error}
 use Rattle.amqp_session.specs.Frames.{on_frame}
 use Rattle.amqp_session.specs.Negotiation.{frame_limit}
 use Rattle.amqp_engine.specs.Plan.{at_most_64}
-use Rattle.amqp_engine.specs.Engine.{Engine, front_of, can_read, is_more, read_one, read_row, read_badly, settle, rule_at}
+use Rattle.amqp_engine.specs.Engine.{Engine, front_of, can_read, is_more, read_one, read_questions, read_row, read_badly, settle, rule_at}
 use Rattle.amqp_engine.specs.Turn.{Progress, reads, reading, goes, read_part, is_before}
-use Rattle.amqp_engine.specs.Making.{making, keeps_unread, IsSettled, Allows}
+use Rattle.amqp_engine.specs.Making.{making, keeps_unread, IsSettled, Reaches}
 use Rattle.amqp_session.proofs.Cases.{if_by, if-true, if-false, and-true, and-false}
-use Rattle.amqp_engine.proofs.Cases.{and-left, and-right, is_before-Allows}
+use Rattle.amqp_engine.proofs.Cases.{and-left, and-right, is_before-Reaches}
 use Rattle.amqp_engine.proofs.Fronts.{says-front, front-none}
 use Rattle.amqp_engine.proofs.Settling.{settle-talk, settle-unread, settle-settled, settle-starved}
 use Rattle.amqp_session.proofs.Keeping.{present-keeps}
@@ -33,12 +35,18 @@ pub reads-cut : (n : ℕ) (p : Progress) → goes p ≡ false → reads n p ≡ 
 reads-cut zero p h = refl
 reads-cut (suc n) p h = rw h refl
 
+-- what comes of one frame more
+abbrev pub after_read : ℕ → Option ℕ → List Asked → List Question → Engine → ℕ → Progress
+after_read at cut answers questions e parts =
+    let more = read_questions at e in
+    making at cut (drop (length more) answers) (questions ++ more) (read_one at answers e) (parts + 1)
+
 -- one frame more
-pub reads-more : (n at : ℕ) (cut : Option ℕ) (e : Engine) (parts : ℕ) → can_read e ≡ true → Allows cut (parts + 1)
-    → reads (suc n) (making at cut e parts) ≡ reads n (making at cut (read_one at e) (parts + 1))
-reads-more n at cut e parts can allows =
-    if-true (is_before cut parts && can_read e) (reads n (making at cut (read_one at e) (parts + 1))) (making at cut e parts)
-    (and-true (is_before cut parts) (can_read e) (is_before-Allows cut parts allows) can)
+pub reads-more : (n at : ℕ) (cut : Option ℕ) (answers : List Asked) (questions : List Question) (e : Engine) (parts : ℕ) → can_read e ≡ true → Reaches cut (parts + 1)
+    → reads (suc n) (making at cut answers questions e parts) ≡ reads n (after_read at cut answers questions e parts)
+reads-more n at cut answers questions e parts can allows =
+    if-true (is_before cut parts && can_read e) (reads n (after_read at cut answers questions e parts)) (making at cut answers questions e parts)
+    (and-true (is_before cut parts) (can_read e) (is_before-Reaches cut parts allows) can)
 
 -- ---- a part that reads shortens what is unread
 
@@ -100,36 +108,36 @@ whole-shortens n e x bytes least most =
     shorter true left = omega (arith, left, least)
     shorter false left = omega (arith, left, least)
 
-row-shortens : (at : ℕ) (r : Read) (e : Engine) → front_of e ≡ r → not (is_more r) ≡ true → is_open e.talk ≡ true → 1 ≤ length e.unread
-    → Shortens e (read_row at r e)
-row-shortens at (Whole f n) e is some opened bytes =
-    let x : Engine = record e { talk = on_frame f e.place (present_at at e.talk); unread = drop n e.unread; place = at_most_64 (e.place + n) } in
+row-shortens : (at : ℕ) (r : Read) (answers : List Asked) (e : Engine) → front_of e ≡ r → not (is_more r) ≡ true → is_open e.talk ≡ true → 1 ≤ length e.unread
+    → Shortens e (read_row at r answers e)
+row-shortens at (Whole f n) answers e is some opened bytes =
+    let x : Engine = record e { talk = on_frame f answers (present_at at e.talk); unread = drop n e.unread; place = at_most_64 (e.place + n) } in
     let size = (says-front (frame_limit e.talk)).size e.unread f n is in
     whole-shortens n e x refl size.0 (omega (arith, size.1))
-row-shortens at More e is some opened bytes = cc
-row-shortens at (TooLarge n) e is some opened bytes = misread-shortens at (why.TooLarge n) e opened bytes
-row-shortens at (BadHeartbeat n) e is some opened bytes = misread-shortens at (why.BadHeartbeat n) e opened bytes
-row-shortens at Bad e is some opened bytes = misread-shortens at (why.Bad e.place) e opened bytes
-row-shortens at NoMemory e is some opened bytes = misread-shortens at (why.Bad e.place) e opened bytes
+row-shortens at More answers e is some opened bytes = cc
+row-shortens at (TooLarge n) answers e is some opened bytes = misread-shortens at (why.TooLarge n) e opened bytes
+row-shortens at (BadHeartbeat n) answers e is some opened bytes = misread-shortens at (why.BadHeartbeat n) e opened bytes
+row-shortens at Bad answers e is some opened bytes = misread-shortens at (why.Bad e.place) e opened bytes
+row-shortens at NoMemory answers e is some opened bytes = misread-shortens at (why.Bad e.place) e opened bytes
 
-pub read_one-shortens : (at : ℕ) (e : Engine) → can_read e ≡ true → Shortens e (read_one at e)
-read_one-shortens at e can =
+pub read_one-shortens : (at : ℕ) (answers : List Asked) (e : Engine) → can_read e ≡ true → Shortens e (read_one at answers e)
+read_one-shortens at answers e can =
     let some = and-right (is_open e.talk) (not (is_more (front_of e))) can in
-    row-shortens at (front_of e) e refl some (and-left (is_open e.talk) (not (is_more (front_of e))) can)
+    row-shortens at (front_of e) answers e refl some (and-left (is_open e.talk) (not (is_more (front_of e))) can)
     (front-some e.unread (frame_limit e.talk) some)
 
 -- reading starves nobody
-row-starved : (at : ℕ) (r : Read) (e : Engine) → (read_row at r e).starved ≡ e.starved
-row-starved at (Whole f n) e =
-    settle-starved (record e { talk = on_frame f e.place (present_at at e.talk); unread = drop n e.unread; place = at_most_64 (e.place + n) })
-row-starved at More e = refl
-row-starved at (TooLarge n) e = settle-starved (rule_at at (misread (why.TooLarge n)) e)
-row-starved at (BadHeartbeat n) e = settle-starved (rule_at at (misread (why.BadHeartbeat n)) e)
-row-starved at Bad e = settle-starved (rule_at at (misread (why.Bad e.place)) e)
-row-starved at NoMemory e = settle-starved (rule_at at (misread (why.Bad e.place)) e)
+row-starved : (at : ℕ) (r : Read) (answers : List Asked) (e : Engine) → (read_row at r answers e).starved ≡ e.starved
+row-starved at (Whole f n) answers e =
+    settle-starved (record e { talk = on_frame f answers (present_at at e.talk); unread = drop n e.unread; place = at_most_64 (e.place + n) })
+row-starved at More answers e = refl
+row-starved at (TooLarge n) answers e = settle-starved (rule_at at (misread (why.TooLarge n)) e)
+row-starved at (BadHeartbeat n) answers e = settle-starved (rule_at at (misread (why.BadHeartbeat n)) e)
+row-starved at Bad answers e = settle-starved (rule_at at (misread (why.Bad e.place)) e)
+row-starved at NoMemory answers e = settle-starved (rule_at at (misread (why.Bad e.place)) e)
 
-pub read_one-starved : (at : ℕ) (e : Engine) → (read_one at e).starved ≡ e.starved
-read_one-starved at e = row-starved at (front_of e) e
+pub read_one-starved : (at : ℕ) (answers : List Asked) (e : Engine) → (read_one at answers e).starved ≡ e.starved
+read_one-starved at answers e = row-starved at (front_of e) answers e
 
 -- ---- reading goes on to the end
 
@@ -146,7 +154,7 @@ if-done : (b : Bool) (n : ℕ) (p : Progress) → (goes p && can_read p.engine) 
     → (goes (if b then reads n (read_part p) else p) && can_read (if b then reads n (read_part p) else p).engine) ≡ false
 if-done true n p h le ih =
     let can : can_read p.engine ≡ true = and-right (goes p) (can_read p.engine) h in
-    ih (read_part p) (omega (arith, (read_one-shortens p.at p.engine can).less))
+    ih (read_part p) (omega (arith, (read_one-shortens p.at p.answers p.engine can).less))
 if-done false n p h le ih = h
 
 -- after the parts that read, the turn was cut, or nothing is left to be read
@@ -165,7 +173,7 @@ reads-enough (suc m) zero p le few = reads-rest (suc m) p (none-read p.engine fe
 reads-enough (suc m) (suc n) p le few =
     both-done (goes p && can_read p.engine) (reads m (read_part p)) (reads n (read_part p)) p
     (λ h.
-    let less = (read_one-shortens p.at p.engine (and-right (goes p) (can_read p.engine) h)).less in
+    let less = (read_one-shortens p.at p.answers p.engine (and-right (goes p) (can_read p.engine) h)).less in
     reads-enough m n (read_part p) (omega (arith, less)) (omega (arith, less)))
 
 -- or where the turn is cut

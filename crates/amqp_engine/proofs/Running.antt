@@ -1,12 +1,17 @@
 -- Turns one after another.
-use Rattle.std.proofs.Common.{◌≡◌, ◌≤◌, ℕ, ◌+◌, false, true, List, [], ◌∷◌, ◌++◌, length, take, drop, Option, Some, None, IfSome, option_map, refl, ap, sym, ◌∙◌, subst, arith, length-append}
+use Rattle.std.proofs.Common.{◌≡◌, ◌≤◌, ℕ, ◌+◌, false, true, List, [], ◌∷◌, ◌++◌, length, take, drop, Option, Some, None, IfSome, option_map, true≢false, refl, ap, sym, ◌∙◌, subst, arith, append_assoc, append-nil, length-append}
 use Rattle.std.proofs.lemmas.Grind.{common_steps}
+use Rattle.std.specs.Option.{option_or}
+use Rattle.amqp_session.specs.Providers.{Exchange, Allows}
+use Rattle.amqp_session.specs.Changes.{starve, present_at}
 use Rattle.amqp_session.specs.Talk.{has_ended}
 use Rattle.amqp_engine.specs.declared.port.Step.{Step}
 use Rattle.amqp_engine.specs.Log.{Log, log_step, PlansStep}
-use Rattle.amqp_engine.specs.Engine.{Engine}
-use Rattle.amqp_engine.specs.Turn.{Turn, asks, turn, turns, IsTurn, IsTold, AreTurns, AreTold, Leads}
-use Rattle.amqp_engine.specs.Tell.{Tells, turn_of, log_asks, log_offers, log_turn, log_turns, offers_of, PlaysOffers, PlaysTurn, PlaysTurns, TellsOffers, TellsTurn, TellsTurns, Applies, TakesTurn, Runs}
+use Rattle.amqp_engine.specs.Engine.{Engine, starve_at}
+use Rattle.amqp_engine.specs.Turn.{Turn, asks, written, starved_after, turn, turns, IsTurn, IsTold, AreTurns, AreTold, exchange_of, exchanges, cut_of, Leads}
+use Rattle.amqp_engine.specs.Tell.{Tells, turn_of, log_asks, log_offers, log_turn, log_turns, offers_of, PlaysOffers, PlaysTurn, PlaysTurns, TellsOffers, TellsTurn, TellsTurns, MayCome, AppliesLent, TakesTurnLent, Runs}
+use Rattle.amqp_session.proofs.Keeping.{starve-ends}
+use Rattle.amqp_engine.proofs.Over.{turn-is}
 use Rattle.amqp_engine.proofs.Telling.{tells-then, tells-as, tells-freely}
 
 -- turns after turns
@@ -113,20 +118,83 @@ tells-turn u e log asked stepped last ha hs plays t =
     tells-as _ (log_turn u e) _ (PlaysTurn u e) log last (λ a. refl) (λ a p. p.1) whole
 
 -- a turn from its asking, its step and what is applied
-pub turns-of : (e e1 e' : Engine) (log asked stepped last : Option Log) (at : ℕ) (step : Step) (bytes bytes' : List ℕ)
+pub turns-of : (e e1 e' : Engine) (log asked stepped last : Option Log) (at : ℕ) (step : Step) (bytes bytes' : List ℕ) (before after : Exchange → Type 0)
     → has_ended e.talk ≡ false → e1 ≡ asks e → asked ≡ option_map (log_asks e) log → stepped ≡ option_map (log_step at step bytes) asked
-    → bytes' ≡ bytes → IfSome asked (PlansStep at step bytes) → IsTold step → Applies at step bytes' e1 e' stepped last → TakesTurn e e' log last
-turns-of e e1 e' log asked stepped last at step bytes bytes' running he ha hs hb plays told applies =
-    let A : List ℕ → Type 0 = λ x. Applies at step x e1 e' stepped last in
-    let B : Engine → Type 0 = λ x. Applies at step bytes x e' stepped last in
+    → bytes' ≡ bytes → IfSome asked (PlansStep at step bytes) → IsTold step → AppliesLent at step bytes' e1 e' stepped last before after → TakesTurnLent e e' log last before after
+turns-of e e1 e' log asked stepped last at step bytes bytes' before after running he ha hs hb plays told applies =
+    let A : List ℕ → Type 0 = λ x. AppliesLent at step x e1 e' stepped last before after in
+    let B : Engine → Type 0 = λ x. AppliesLent at step bytes x e' stepped last before after in
     let f = subst B he (subst A hb applies) in
     record {
-      u = turn_of at step bytes f.notes;
-      may = record { running = running; applied = f.may };
-      told = told;
-      leaves = f.leaves;
-      tells = tells-turn (turn_of at step bytes f.notes) e log asked stepped last ha hs plays f.tells;
+      takes = record {
+        u = turn_of at step bytes f.applies.notes;
+        may = record { running = running; applied = f.applies.may };
+        told = told;
+        leaves = f.applies.leaves;
+        tells = tells-turn (turn_of at step bytes f.applies.notes) e log asked stepped last ha hs plays f.applies.tells;
+      };
+      exchanged = f.exchanged;
     }
+
+-- ---- what was asked
+
+exchanges-append : (us : List Turn) (u : Turn) (e : Engine) → exchanges (us ++ u ∷ []) e ≡ exchanges us e ++ exchange_of u (asks (turns us e))
+exchanges-append [] u e = append-nil (exchange_of u (asks e))
+exchanges-append (v ∷ us) u e =
+    ap (λ (x : Exchange). exchange_of v (asks e) ++ x) (exchanges-append us u (turn v e))
+    ∙ sym (append_assoc (exchange_of v (asks e)) (exchanges us (turn v e)) (exchange_of u (asks (turns us (turn v e)))))
+
+cut-append : (us : List Turn) (u : Turn) → cut_of us ≡ None → cut_of (us ++ u ∷ []) ≡ u.notes.starved
+cut-append [] u none = or-none u.notes.starved
+  where
+    or-none : (s : Option ℕ) → option_or s None ≡ s
+    or-none None = refl
+    or-none (Some j) = refl
+cut-append (v ∷ us) u none = by v.notes.starved none (cut-append us u)
+  where
+    by : (s : Option ℕ) → option_or s (cut_of us) ≡ None → (cut_of us ≡ None → cut_of (us ++ u ∷ []) ≡ u.notes.starved)
+        → option_or s (cut_of (us ++ u ∷ [])) ≡ u.notes.starved
+    by None h rest = rest h
+    by (Some j) h rest = cc
+
+-- while a session goes on, no turn of it was cut
+pub uncut : (us : List Turn) (e : Engine) → AreTurns us e → has_ended (turns us e).talk ≡ false → cut_of us ≡ None
+uncut [] e may running = refl
+uncut (u ∷ us) e may running =
+    let E : Engine → Type 0 = λ x. AreTurns us x in
+    let R : Engine → Type 0 = λ x. has_ended (turns us x).talk ≡ false in
+    let is = turn-is u e may.0.running in
+    by u.notes.starved (subst E is may.1) (subst R is running) (uncut us (turn u e) may.1 running)
+  where
+    after : Engine
+    after = (written u (asks e)).engine
+
+    by : (s : Option ℕ) → AreTurns us (starved_after s u.at after) → has_ended (turns us (starved_after s u.at after)).talk ≡ false → cut_of us ≡ None
+        → option_or s (cut_of us) ≡ None
+    by None may on rest = rest
+    by (Some j) may on rest = absurd (stays us may on)
+      where
+        over : has_ended (starve (present_at u.at after.talk)) ≡ true
+        over = starve-ends (present_at u.at after.talk)
+
+        stays : (us : List Turn) → AreTurns us (starve_at u.at j after) → has_ended (turns us (starve_at u.at j after)).talk ≡ false → ⊥
+        stays [] may on = true≢false (sym over ∙ on)
+        stays (v ∷ vs) may on = true≢false (sym over ∙ may.0.running)
+
+-- what may come first and then
+may-then : (s : Option ℕ) (before between after : Exchange → Type 0) (x y : Exchange) → MayCome None before between x → MayCome s between after y → MayCome s before after (x ++ y)
+may-then None before between after x y a b = λ rest h. subst (Allows before) (sym (append_assoc x y rest)) (a (y ++ rest) (b rest h))
+may-then (Some j) before between after x y a b = a y b
+
+-- one turn more was asked this
+pub exchanged-push : (us : List Turn) (u : Turn) (e : Engine) (before between after : Exchange → Type 0) → cut_of us ≡ None
+    → MayCome (cut_of us) before between (exchanges us e) → MayCome u.notes.starved between after (exchange_of u (asks (turns us e)))
+    → MayCome (cut_of (us ++ u ∷ [])) before after (exchanges (us ++ u ∷ []) e)
+exchanged-push us u e before between after none a b =
+    let C : Option ℕ → Type 0 = λ s. MayCome s before after (exchanges (us ++ u ∷ []) e) in
+    let X : Exchange → Type 0 = λ x. MayCome u.notes.starved before after x in
+    let first : MayCome None before between (exchanges us e) = subst (λ s. MayCome s before between (exchanges us e)) none a in
+    subst C (sym (cut-append us u none)) (subst X (sym (exchanges-append us u e)) (may-then u.notes.starved before between after _ _ first b))
 
 -- what stands in a vector after its slice was written
 pub take-written : (new old : List ℕ) (len n m : ℕ) → length new ≡ length old → len ≡ length old → n ≡ m

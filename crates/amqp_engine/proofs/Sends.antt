@@ -3,6 +3,7 @@ use Rattle.std.proofs.Common.{◌≡◌, ℕ, ◌==◌, if◌then◌else◌, tru
 use Rattle.std.specs.List.{AllByRecursion}
 use Rattle.amqp_session.specs.declared.committed.Mark.{Mark}
 use Rattle.amqp_session.specs.Config.{Config}
+use Rattle.amqp_session.specs.declared.auth.asked.Asked.{Asked}
 use Rattle.amqp_session.specs.Talk.{Talk, start, is_open, is_asked}
 use Rattle.amqp_session.specs.Changes.{present_at}
 use Rattle.amqp_session.specs.Links.{asked, linked}
@@ -69,7 +70,7 @@ none-in-order = agrees-order [] [] nothing_sent agrees-none
 
 -- a link that was asked for is there
 sends-linked : (at : ℕ) (bytes : List ℕ) (e : Engine) (ss : List Sending) → is_asked e.talk ≡ true → Sends e ss
-    → Sends (step_engine at Linked bytes e) (ss ++ nothing_sent ∷ [])
+    → Sends (step_linked at e) (ss ++ nothing_sent ∷ [])
 sends-linked at bytes e ss h k =
     let t = present_at at e.talk in
     let x : Engine = record { talk = linked t; unread = []; place = 0; unsent = []; starved = e.starved } in
@@ -81,18 +82,18 @@ sends-linked at bytes e ss h k =
     subst P (sym here)
     (record { all = all-push SendsInOrder ss nothing_sent k.all none-in-order; last = λ now. (ss, nothing_sent, refl, subst Q (sym committed) agrees-none) })
 
-pub sends-step : (at : ℕ) (step : Step) (bytes : List ℕ) (e : Engine) (ss : List Sending) → Sends e ss
-    → Sends (step_engine at step bytes e) (step_sending step e ss)
-sends-step at Linked bytes e ss h =
-    if_by (λ (xs : List Sending). Sends (step_engine at Linked bytes e) xs) (is_asked e.talk) (ss ++ nothing_sent ∷ []) ss
-    (λ is. sends-linked at bytes e ss is h) (λ other. sends-left e (step_engine at Linked bytes e) ss (leaves-step at Linked bytes e (λ same. other)) h)
-sends-step at LinkFailed bytes e ss h = sends-left e (step_engine at LinkFailed bytes e) ss (leaves-step at LinkFailed bytes e (λ same. cc)) h
-sends-step at (Piece n) bytes e ss h = sends-left e (step_engine at (Piece n) bytes e) ss (leaves-step at (Piece n) bytes e (λ same. cc)) h
-sends-step at End bytes e ss h = sends-left e (step_engine at End bytes e) ss (leaves-step at End bytes e (λ same. cc)) h
-sends-step at Fault bytes e ss h = sends-left e (step_engine at Fault bytes e) ss (leaves-step at Fault bytes e (λ same. cc)) h
-sends-step at Room bytes e ss h = sends-left e (step_engine at Room bytes e) ss (leaves-step at Room bytes e (λ same. cc)) h
-sends-step at Tick bytes e ss h = sends-left e (step_engine at Tick bytes e) ss (leaves-step at Tick bytes e (λ same. cc)) h
-sends-step at (Command c) bytes e ss h = sends-left e (step_engine at (Command c) bytes e) ss (leaves-step at (Command c) bytes e (λ same. cc)) h
+pub sends-step : (at : ℕ) (step : Step) (bytes : List ℕ) (answers : List Asked) (e : Engine) (ss : List Sending) → Sends e ss
+    → Sends (step_engine at step bytes answers e) (step_sending step e ss)
+sends-step at Linked bytes answers e ss h =
+    if_by (λ (xs : List Sending). Sends (step_engine at Linked bytes answers e) xs) (is_asked e.talk) (ss ++ nothing_sent ∷ []) ss
+    (λ is. sends-linked at bytes e ss is h) (λ other. sends-left e (step_engine at Linked bytes answers e) ss (leaves-step at Linked bytes answers e (λ same. other)) h)
+sends-step at LinkFailed bytes answers e ss h = sends-left e (step_engine at LinkFailed bytes answers e) ss (leaves-step at LinkFailed bytes answers e (λ same. cc)) h
+sends-step at (Piece n) bytes answers e ss h = sends-left e (step_engine at (Piece n) bytes answers e) ss (leaves-step at (Piece n) bytes answers e (λ same. cc)) h
+sends-step at End bytes answers e ss h = sends-left e (step_engine at End bytes answers e) ss (leaves-step at End bytes answers e (λ same. cc)) h
+sends-step at Fault bytes answers e ss h = sends-left e (step_engine at Fault bytes answers e) ss (leaves-step at Fault bytes answers e (λ same. cc)) h
+sends-step at Room bytes answers e ss h = sends-left e (step_engine at Room bytes answers e) ss (leaves-step at Room bytes answers e (λ same. cc)) h
+sends-step at Tick bytes answers e ss h = sends-left e (step_engine at Tick bytes answers e) ss (leaves-step at Tick bytes answers e (λ same. cc)) h
+sends-step at (Command c) bytes answers e ss h = sends-left e (step_engine at (Command c) bytes answers e) ss (leaves-step at (Command c) bytes answers e (λ same. cc)) h
 
 -- ---- an offer
 
@@ -162,8 +163,8 @@ pub small : lifting.Simple (List Sending) asking stepping offering Sends
 small =
     record {
       asked = sends-asks;
-      step = λ at step bytes e ss running h. sends-step at step bytes e ss h;
-      read = λ at e ss can h. sends-left e (read_one at e) ss (leaves-read at e) h;
+      step = λ at step bytes answers e ss running h. sends-step at step bytes answers e ss h;
+      read = λ at answers e ss can h. sends-left e (read_one at answers e) ss (leaves-read at answers e) h;
       offer = λ w p ss can fits h. sends-offer p.at w p.engine ss can fits h;
       overlong = λ size e ss is h. sends-overlong size e ss h.all;
       starve = λ at j e ss h. sends-starved at j e ss h.all;

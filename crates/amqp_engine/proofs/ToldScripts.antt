@@ -1,7 +1,8 @@
 -- The steps of a script whose commands are told are told, and what it says is legal.
-use Rattle.std.proofs.Common.{◌≡◌, ℕ, zero, suc, Bool, List, [], ◌∷◌, length, Option, Some, None, IfSome, refl, sym, subst}
+use Rattle.std.proofs.Common.{◌≡◌, ℕ, zero, suc, Bool, List, [], ◌∷◌, length, drop, Option, Some, None, IfSome, refl, sym, subst}
 use Rattle.std.specs.Prelude.{option_map}
 use Rattle.std.specs.List.{AllByRecursion}
+use Rattle.amqp_session.specs.declared.auth.asked.Asked.{Asked}
 use Rattle.amqp_session.specs.Config.{Config}
 use Rattle.amqp_session.specs.Talk.{has_ended, start}
 use Rattle.amqp_session.specs.Legal.{Legal}
@@ -15,7 +16,7 @@ use Rattle.amqp_engine.specs.Engine.{Engine, begin}
 use Rattle.amqp_engine.specs.Turn.{Turn, IsTold, AreTold, asks, wants_ask, turn, turns}
 use Rattle.amqp_engine.specs.Tell.{Offer, offers_of, log_asks, log_stepped, log_offers, log_turn}
 use Rattle.amqp_engine.specs.Sending.{Sending, sendings, frames_sent}
-use Rattle.amqp_engine.specs.Play.{played_step, played_turn, played_turns, replayed}
+use Rattle.amqp_engine.specs.Play.{played_step, played_turn, played_turns, replayed, AreAnswered}
 use Rattle.amqp_engine.specs.Saying.{AreGivenTold, new}
 use Rattle.amqp_engine.proofs.Playing.{played-are-turns}
 use Rattle.amqp_engine.proofs.LegalLinks.{sent_legal, turns-sent}
@@ -60,17 +61,19 @@ asks-told e a h = if_case (λ (x : Log). PlanTold x.plan) (wants_ask e) (log_ask
 turn-told : (u : Turn) (e : Engine) (a : Log) → PlanTold a.plan → PlanTold (log_turn u e a).plan
 turn-told u e a h = offers-told (offers_of u (asks e)) (log_stepped u e a) (plan-stepped (log_asks e a).asked (log_asks e a).plan (asks-told e a h))
 
-played-told : (most : ℕ) (e : Engine) (a : Log) → PlanTold a.plan → AreTold (played_turns most e a)
-played-told zero e a h = tt
-played-told (suc most) e a h =
-    let u = played_turn e a in
-    if_case AreTold (has_ended e.talk) [] (u ∷ played_turns most (turn u e) (log_turn u e a)) tt
-    (step-told (log_asks e a).plan (asks-told e a h), played-told most (turn u e) (log_turn u e a) (turn-told u e a h))
+played-told : (most : ℕ) (answers : List Asked) (e : Engine) (a : Log) → PlanTold a.plan → AreTold (played_turns most answers e a)
+played-told zero answers e a h = tt
+played-told (suc most) answers e a h =
+    let u = played_turn answers e a in
+    let left = drop (length u.notes.auths) answers in
+    if_case AreTold (has_ended e.talk) [] (u ∷ played_turns most left (turn u e) (log_turn u e a)) tt
+    (step-told (log_asks e a).plan (asks-told e a h), played-told most left (turn u e) (log_turn u e a) (turn-told u e a h))
 
--- what a script says is legal, where its commands are told
-pub script_legal : (config : Config) (gs : List Given) → AreGivenTold gs
-    → AllByRecursion (λ (s : Sending). Legal (frames_sent s)) (sendings config (replayed config gs))
-script_legal config gs h =
-    let may = (played-are-turns (length gs) (begin (start config)) (loaded gs) refl).0 in
-    sent_legal (turns (replayed config gs) (begin (start config))) (sendings config (replayed config gs))
-    (turns-sent (replayed config gs) (begin (start config)) [] may (played-told (length gs) (begin (start config)) (loaded gs) h) (new config))
+-- what a script says is legal, where its commands are told and what its turns ask is answered
+pub script_legal : (config : Config) (gs : List Given) (answers : List Asked) → AreGivenTold gs → AreAnswered (replayed config gs answers) (begin (start config))
+    → AllByRecursion (λ (s : Sending). Legal (frames_sent s)) (sendings config (replayed config gs answers))
+script_legal config gs answers h all =
+    let us = replayed config gs answers in
+    let may = played-are-turns (length gs) answers (begin (start config)) (loaded gs) all in
+    sent_legal (turns us (begin (start config))) (sendings config us)
+    (turns-sent us (begin (start config)) [] may (played-told (length gs) answers (begin (start config)) (loaded gs) h) (new config))

@@ -1,5 +1,5 @@
 -- How a turn, and a run of turns, may end a session.
-use Rattle.std.proofs.Common.{◌≡◌, ◌⊎◌, inl, inr, ℕ, ◌-◌, ◌==◌, ◌&&◌, ◌||◌, not, nat_le, Bool, true, false, if◌then◌else◌, IsTrue, List, [], ◌∷◌, ◌++◌, length, drop, map, Option, Some, None, Err, is_some, refl, ap, sym, ◌∙◌, subst}
+use Rattle.std.proofs.Common.{◌≡◌, ◌⊎◌, inl, inr, ℕ, ◌-◌, ◌==◌, ◌&&◌, ◌||◌, not, nat_le, Bool, true, false, if◌then◌else◌, IsTrue, List, [], ◌∷◌, ◌++◌, length, drop, map, Option, Some, None, Err, is_some, refl, ap, sym, ◌∙◌, subst, Result, Ok}
 use Rattle.amqp_types.specs.declared.error.AMQPError.{AMQPError}
 use Rattle.amqp_session.specs.declared.committed.Mark.{Mark}
 use Rattle.amqp_session.specs.declared.committed.Then.{Then}
@@ -13,12 +13,13 @@ use Rattle.amqp_session.specs.declared.server_close.ServerClose.{ServerClose}
 use Rattle.amqp_session.specs.declared.server_close.ServerClose.TheVariants.{WithoutError, WithError}
 use Rattle.amqp_session.specs.declared.error.ErrorKind.{ErrorKind}
 use Rattle.amqp_session.specs.declared.error.ErrorKind.TheVariants.{IOError, ProtocolError, SerialisationError, MissingHeartbeatError, NoMemory, OutOfTurns}
+use Rattle.amqp_session.specs.declared.auth.asked.Asked.{Asked}
 use Rattle.amqp_session.specs.Talk.{Talk, has_ended, is_open, is_acting, acts, is_asked, end_of, end_of_link}
 use Rattle.amqp_session.specs.Channels.{channel_at}
 use Rattle.amqp_session.specs.Changes.{present_at, queue, fail, lose, finish, finish_by, starve}
 use Rattle.amqp_session.specs.Links.{linked, link_failed, piece, lost}
 use Rattle.amqp_frame.specs.declared.frame.Frame.TheVariants.{Heartbeat}
-use Rattle.amqp_session.specs.Ticks.{is_missed, is_due, missing_heartbeat, tick}
+use Rattle.amqp_session.specs.Ticks.{is_missed, is_due, missing_heartbeat, beat, refreshed, tick}
 use Rattle.amqp_session.specs.Commands.{command}
 use Rattle.amqp_session.specs.Writing.{follow, sent, sent_among, taken, end_overlong}
 use Rattle.amqp_engine.specs.declared.port.Step.{Step}
@@ -26,11 +27,12 @@ use Rattle.amqp_engine.specs.declared.port.Step.TheVariants.{Linked, LinkFailed,
 use Rattle.amqp_engine.specs.declared.port.Wrote.{Wrote}
 use Rattle.amqp_engine.specs.declared.port.Wrote.TheVariants.{Took, Failed, NoMemory as WroteNoMemory}
 use Rattle.amqp_engine.specs.Log.{Log}
-use Rattle.amqp_engine.specs.Engine.{Engine, settle, rule_at, with_talk, step_engine, took, wrote, commit_all, overlong_next, ended_overlong, refuse_overlong}
+use Rattle.amqp_engine.specs.Engine.{Engine, settle, rule_at, with_talk, step_engine, step_questions, took, wrote, commit_all, overlong_next, ended_overlong, refuse_overlong}
 use Rattle.amqp_session.specs.Writing.{frames_waiting}
-use Rattle.amqp_engine.specs.Turn.{Turn, answers_of, Progress, asks, goes, reads, part, is_piece, step_part, is_part, begun, drain, drained, offer_part, offered, is_all, answered, read, written, applied, turn, turns, starved_after, AreTurns, Leads}
+use Rattle.amqp_engine.specs.Turn.{Turn, answers_of, Progress, asks, goes, reads, part, questioned, is_piece, step_part, is_part, begun, drain, drained, offer_part, offered, is_all, answered, read, written, applied, turn, turns, starved_after, AreTurns, Leads}
 use Rattle.amqp_engine.specs.Tell.{TellsTurns, Applies, Runs, turn_of}
 use Rattle.amqp_engine.specs.Causes.{IsReadError, Misreads, LosesClosed, IsCause, Brings, brought, is_tick, is_last, sends_close_ok, is_finish}
+use Rattle.amqp_session.proofs.Heard.{secret-case}
 use Rattle.amqp_session.proofs.Cases.{if_case, if_by, if-true, if-false, and-true, and-false}
 use Rattle.amqp_engine.proofs.Cases.{none-from, and-left}
 use Rattle.amqp_session.proofs.Keeping.{present-keeps, pay-keeps, stays-command}
@@ -105,51 +107,58 @@ ends-refused P t p =
 ends-piece : (P : ErrorKind → Type 0) (t : Talk) → Ends P t (piece t)
 ends-piece P t = if_case (Ends P t) (is_open t) (record t { last_read = t.present }) t (ends-kept P t _ refl) (ends-kept P t t refl)
 
-ends-tick : (P : ErrorKind → Type 0) (t : Talk) → (is_missed t ≡ true → P MissingHeartbeatError) → Ends P t (tick t)
-ends-tick P t p =
+ends-tick : (P : ErrorKind → Type 0) (answers : List Asked) (t : Talk) → (is_missed t ≡ true → P MissingHeartbeatError) → Ends P t (tick answers t)
+ends-tick P answers t p =
     let x : Talk = missing_heartbeat t in
     let first : Ends P t x =
     if_by (Ends P t) (is_missed t) (lose MissingHeartbeatError t) t (λ h. ends-lose P MissingHeartbeatError t t (p h)) (λ h. ends-kept P t t refl) in
+    let beaten : Ends P t (beat t) =
     if_case (Ends P t) (is_due x) (record (queue 0 Heartbeat x) { last_write = x.present }) x
-    (ends-then P t x (record (queue 0 Heartbeat x) { last_write = x.present }) first (ends-kept P x (record (queue 0 Heartbeat x) { last_write = x.present }) refl)) first
+    (ends-then P t x (record (queue 0 Heartbeat x) { last_write = x.present }) first (ends-kept P x (record (queue 0 Heartbeat x) { last_write = x.present }) refl)) first in
+    secret-case (Ends P t) answers (beat t) beaten (λ asks said. ends-then P t (beat t) (refreshed said (beat t)) beaten (ends-kept P (beat t) (refreshed said (beat t)) (refreshed-end said (beat t))))
+  where
+    refreshed-end : (said : Result (List ℕ) (List ℕ)) (y : Talk) → end_of (refreshed said y) ≡ end_of y
+    refreshed-end (Ok secret) y = refl
+    refreshed-end (Err text) y = refl
 
-pub ends-step : (at : ℕ) (step : Step) (bytes : List ℕ) (x : Engine) → Ends (StepError at step x) x.talk (step_engine at step bytes x).talk
-ends-step at Linked bytes x =
+pub ends-step : (at : ℕ) (step : Step) (bytes : List ℕ) (answers : List Asked) (x : Engine) → Ends (StepError at step x) x.talk (step_engine at step bytes answers x).talk
+ends-step at Linked bytes answers x =
     let P : ErrorKind → Type 0 = StepError at Linked x in
     if_case (λ (y : Engine). Ends P x.talk y.talk) (is_asked x.talk)
     (record { talk = linked (present_at at x.talk); unread = []; place = 0; unsent = []; starved = x.starved }) (rule_at at (λ t. t) x)
     (ends-present P at x.talk (linked (present_at at x.talk)) (ends-linked P (present_at at x.talk))) (ends-moment P at x.talk)
-ends-step at LinkFailed bytes x =
+ends-step at LinkFailed bytes answers x =
     let P : ErrorKind → Type 0 = StepError at LinkFailed x in
     ends-settled P x.talk (rule_at at link_failed x)
     (ends-present P at x.talk (link_failed (present_at at x.talk)) (ends-refused P (present_at at x.talk)
     (λ h. if-true (is_asked x.talk) (Some Refused) None (sym (present-keeps is_asked at x.talk (λ n. refl)) ∙ h))))
-ends-step at (Piece n) bytes x =
+ends-step at (Piece n) bytes answers x =
     let P : ErrorKind → Type 0 = StepError at (Piece n) x in
     let after : Engine = record x { talk = piece (present_at at x.talk); unread = x.unread ++ bytes } in
     if_case (λ (y : Engine). Ends P x.talk y.talk) (is_open x.talk) (settle after) (rule_at at (λ t. t) x)
     (ends-settled P x.talk after (ends-present P at x.talk after.talk (ends-piece P (present_at at x.talk)))) (ends-moment P at x.talk)
-ends-step at End bytes x = ends-as (LostError Aborted x.talk) (StepError at End x) x.talk _ (end-lost at x) (ends-lost-at at Aborted x)
-ends-step at Fault bytes x = ends-as (LostError Reset x.talk) (StepError at Fault x) x.talk _ (fault-lost at x) (ends-lost-at at Reset x)
-ends-step at Room bytes x = ends-moment _ at x.talk
-ends-step at Tick bytes x =
+ends-step at End bytes answers x = ends-as (LostError Aborted x.talk) (StepError at End x) x.talk _ (end-lost at x) (ends-lost-at at Aborted x)
+ends-step at Fault bytes answers x = ends-as (LostError Reset x.talk) (StepError at Fault x) x.talk _ (fault-lost at x) (ends-lost-at at Reset x)
+ends-step at Room bytes answers x = ends-moment _ at x.talk
+ends-step at Tick bytes answers x =
     let P : ErrorKind → Type 0 = StepError at Tick x in
-    ends-settled P x.talk (rule_at at tick x)
-    (ends-present P at x.talk (tick (present_at at x.talk)) (ends-tick P (present_at at x.talk) (λ missed. (refl, missed))))
-ends-step at (Command c) bytes x =
+    ends-settled P x.talk (rule_at at (tick answers) x)
+    (ends-present P at x.talk (tick answers (present_at at x.talk)) (ends-tick P answers (present_at at x.talk) (λ missed. (refl, missed))))
+ends-step at (Command c) bytes answers x =
     let P : ErrorKind → Type 0 = StepError at (Command c) x in
     let t = present_at at x.talk in
     ends-present P at x.talk (command c t) (ends-kept P t (command c t) (ap end_of_link (stays-command c t).link))
 
-ends-part : (u : Turn) (x : Engine) → Ends (StepError u.at u.step x) x.talk (step_part u.step u.bytes (begun u.at u.notes.starved x)).engine.talk
+ends-part : (u : Turn) (x : Engine) → Ends (StepError u.at u.step x) x.talk (step_part u.step u.bytes (begun u.at u.notes.starved u.notes.auths x)).engine.talk
 ends-part u x =
     let P : ErrorKind → Type 0 = StepError u.at u.step x in
-    let p = begun u.at u.notes.starved x in
-    let after = step_engine u.at u.step u.bytes x in
-    let e : Ends P x.talk after.talk = ends-step u.at u.step u.bytes x in
+    let p = begun u.at u.notes.starved u.notes.auths x in
+    let after = step_engine u.at u.step u.bytes u.notes.auths x in
+    let e : Ends P x.talk after.talk = ends-step u.at u.step u.bytes u.notes.auths x in
     let Q : Progress → Type 0 = λ y. Ends P x.talk y.engine.talk in
-    if_case Q (is_part u.step x) (if goes p then part after p else p) (record p { engine = after })
-    (if_case Q (goes p) (part after p) p e (ends-kept P x.talk x.talk refl)) e
+    let q = questioned (step_questions u.at u.step u.notes.auths x) p in
+    if_case Q (is_part u.step x) (if goes p then part after q else p) (record p { engine = after })
+    (if_case Q (goes p) (part after q) p e (ends-kept P x.talk x.talk refl)) e
 
 -- up to the writes of a turn
 abbrev EarlyError : Turn → Engine → ErrorKind → Type 0
@@ -158,7 +167,7 @@ EarlyError u x k = StepError u.at u.step x k ⊎ Misreads k u x
 ends-read : (u : Turn) (x : Engine) → Ends (EarlyError u x) x.talk (read u x).engine.talk
 ends-read u x =
     let P : ErrorKind → Type 0 = EarlyError u x in
-    let p = step_part u.step u.bytes (begun u.at u.notes.starved x) in
+    let p = step_part u.step u.bytes (begun u.at u.notes.starved u.notes.auths x) in
     let e : Ends P x.talk p.engine.talk = ends-as (StepError u.at u.step x) P x.talk p.engine.talk (λ k h. inl h) (ends-part u x) in
     let n = length p.engine.unread in
     if_by (λ (y : Progress). Ends P x.talk y.engine.talk) (is_piece u.step) (reads n p) p
@@ -365,47 +374,47 @@ ends-drained (w ∷ ws) p =
 -- ---- a turn
 
 -- what is read brings no fault, no want of memory and no want of turns
-pub not-a-fault : (fault : IoFault) (r : Read) (x : Engine) → IsReadError (IOError fault) r x → ⊥
-not-a-fault fault (reading.Whole f n) x h = h.1.1
-not-a-fault fault (reading.TooLarge size) x h = cc
-not-a-fault fault (reading.BadHeartbeat channel) x h = cc
-not-a-fault fault reading.Bad x h = cc
-not-a-fault fault _ x h = h
+pub not-a-fault : (fault : IoFault) (r : Read) (answers : List Asked) (x : Engine) → IsReadError (IOError fault) r answers x → ⊥
+not-a-fault fault (reading.Whole f n) answers x h = h.1.1
+not-a-fault fault (reading.TooLarge size) answers x h = cc
+not-a-fault fault (reading.BadHeartbeat channel) answers x h = cc
+not-a-fault fault reading.Bad answers x h = cc
+not-a-fault fault _ answers x h = h
 
-not-memory : (r : Read) (x : Engine) → IsReadError NoMemory r x → ⊥
-not-memory (reading.Whole f n) x h = h.1.1
-not-memory (reading.TooLarge size) x h = cc
-not-memory (reading.BadHeartbeat channel) x h = cc
-not-memory reading.Bad x h = cc
-not-memory _ x h = h
+not-memory : (r : Read) (answers : List Asked) (x : Engine) → IsReadError NoMemory r answers x → ⊥
+not-memory (reading.Whole f n) answers x h = h.1.1
+not-memory (reading.TooLarge size) answers x h = cc
+not-memory (reading.BadHeartbeat channel) answers x h = cc
+not-memory reading.Bad answers x h = cc
+not-memory _ answers x h = h
 
-not-silence : (r : Read) (x : Engine) → IsReadError MissingHeartbeatError r x → ⊥
-not-silence (reading.Whole f n) x h = h.1.1
-not-silence (reading.TooLarge size) x h = cc
-not-silence (reading.BadHeartbeat channel) x h = cc
-not-silence reading.Bad x h = cc
-not-silence _ x h = h
+not-silence : (r : Read) (answers : List Asked) (x : Engine) → IsReadError MissingHeartbeatError r answers x → ⊥
+not-silence (reading.Whole f n) answers x h = h.1.1
+not-silence (reading.TooLarge size) answers x h = cc
+not-silence (reading.BadHeartbeat channel) answers x h = cc
+not-silence reading.Bad answers x h = cc
+not-silence _ answers x h = h
 
-not-overlong : (size : ℕ) (r : Read) (x : Engine) → IsReadError (SerialisationError size) r x → ⊥
-not-overlong size (reading.Whole f n) x h = h.1.1
-not-overlong size (reading.TooLarge n) x h = cc
-not-overlong size (reading.BadHeartbeat channel) x h = cc
-not-overlong size reading.Bad x h = cc
-not-overlong size _ x h = h
+not-overlong : (size : ℕ) (r : Read) (answers : List Asked) (x : Engine) → IsReadError (SerialisationError size) r answers x → ⊥
+not-overlong size (reading.Whole f n) answers x h = h.1.1
+not-overlong size (reading.TooLarge n) answers x h = cc
+not-overlong size (reading.BadHeartbeat channel) answers x h = cc
+not-overlong size reading.Bad answers x h = cc
+not-overlong size _ answers x h = h
 
-pub not-turns : (r : Read) (x : Engine) → IsReadError OutOfTurns r x → ⊥
-not-turns (reading.Whole f n) x h = h.1.1
-not-turns (reading.TooLarge size) x h = cc
-not-turns (reading.BadHeartbeat channel) x h = cc
-not-turns reading.Bad x h = cc
-not-turns _ x h = h
+pub not-turns : (r : Read) (answers : List Asked) (x : Engine) → IsReadError OutOfTurns r answers x → ⊥
+not-turns (reading.Whole f n) answers x h = h.1.1
+not-turns (reading.TooLarge size) answers x h = cc
+not-turns (reading.BadHeartbeat channel) answers x h = cc
+not-turns reading.Bad answers x h = cc
+not-turns _ answers x h = h
 
 early-cause : (u : Turn) (x : Engine) (k : ErrorKind) → EarlyError u x k → IsCause k u x
-early-cause u x (IOError fault) h = elim h [ inl e ↦ inl e | inr r ↦ absurd (not-a-fault fault _ _ r.error_read) ]
+early-cause u x (IOError fault) h = elim h [ inl e ↦ inl e | inr r ↦ absurd (not-a-fault fault _ _ _ r.error_read) ]
 early-cause u x (ProtocolError e) h = elim h [ inl l ↦ inr (inl l) | inr r ↦ inl r ]
-early-cause u x MissingHeartbeatError h = elim h [ inl silence ↦ silence | inr r ↦ absurd (not-silence _ _ r.error_read) ]
-early-cause u x (SerialisationError size) h = elim h [ inl e ↦ absurd e | inr r ↦ absurd (not-overlong size _ _ r.error_read) ]
-early-cause u x NoMemory h = elim h [ inl e ↦ absurd e | inr r ↦ absurd (not-memory _ _ r.error_read) ]
+early-cause u x MissingHeartbeatError h = elim h [ inl silence ↦ silence | inr r ↦ absurd (not-silence _ _ _ r.error_read) ]
+early-cause u x (SerialisationError size) h = elim h [ inl e ↦ absurd e | inr r ↦ absurd (not-overlong size _ _ _ r.error_read) ]
+early-cause u x NoMemory h = elim h [ inl e ↦ absurd e | inr r ↦ absurd (not-memory _ _ _ r.error_read) ]
 early-cause u x _ h = elim h [ inl e ↦ absurd e | inr r ↦ r ]
 
 -- that one failed is noted

@@ -11,6 +11,7 @@ use Rattle.amqp_session.specs.declared.io_fault.IoFault.TheVariants.{Aborted, Re
 use Rattle.amqp_session.specs.declared.server_close.ServerClose.TheVariants.{WithError}
 use Rattle.amqp_session.specs.declared.error.ErrorKind.{ErrorKind}
 use Rattle.amqp_session.specs.declared.error.ErrorKind.TheVariants.{IOError, MissingHeartbeatError, NoMemory, ParsingError, ProtocolError, SerialisationError}
+use Rattle.amqp_session.specs.declared.auth.asked.Asked.{Asked}
 use Rattle.amqp_session.specs.Talk.{Talk, is_acting, is_asked, is_open, end_of}
 use Rattle.amqp_session.specs.Changes.{present_at}
 use Rattle.amqp_session.specs.Causes.{IsFrameError}
@@ -59,19 +60,19 @@ IsFaultOf fault u e = (brought u.step e.talk ≡ Some fault) ⊎ ((fault ≡ Bro
 
 -- ---- what is read
 
--- the error that is brought by what stands at the front of the unread bytes: a frame, which acts only before the
--- server's close; 501 for one that is too large, and for a heartbeat on another channel than 0
-abbrev pub IsReadError : ErrorKind → Read → Engine → Type 0
-IsReadError k (reading.Whole f n) x =
-    IsTrue (is_acting x.talk.input) × IsFrameError k f x.place x.talk
-IsReadError k (reading.TooLarge size) x = k ≡ frame_too_large size
-IsReadError k (reading.BadHeartbeat channel) x = k ≡ stray_heartbeat channel
-IsReadError k reading.Bad x = k ≡ ParsingError x.place
-IsReadError k _ x = ⊥
+-- the error that is brought by what stands at the front of the unread bytes, with what the provider answers to what it
+-- asks: a frame, which acts only before the server's close; 501 for one that is too large, and for a heartbeat on
+-- another channel than 0
+abbrev pub IsReadError : ErrorKind → Read → List Asked → Engine → Type 0
+IsReadError k (reading.Whole f n) answers x = IsTrue (is_acting x.talk.input) × IsFrameError k f answers x.talk
+IsReadError k (reading.TooLarge size) answers x = k ≡ frame_too_large size
+IsReadError k (reading.BadHeartbeat channel) answers x = k ≡ stray_heartbeat channel
+IsReadError k reading.Bad answers x = k ≡ ParsingError x.place
+IsReadError k _ answers x = ⊥
 
 -- a turn when so many frames of its piece were read
 abbrev pub after_frames : ℕ → Turn → Engine → Progress
-after_frames n u e = reads n (step_part u.step u.bytes (begun u.at u.notes.starved e))
+after_frames n u e = reads n (step_part u.step u.bytes (begun u.at u.notes.starved u.notes.auths e))
 
 -- a turn reads what brings this error
 pub record Misreads (error : ErrorKind) (u : Turn) (e : Engine) : Type 0 where
@@ -83,7 +84,8 @@ pub record Misreads (error : ErrorKind) (u : Turn) (e : Engine) : Type 0 where
   -- the link is open, and there is what can be read
   pub readable : IsTrue (can_read (after_frames before u e).engine)
   -- and it brings the error
-  pub error_read : IsReadError error (front_of (after_frames before u e).engine) (after_frames before u e).engine
+  pub error_read :
+      let p = after_frames before u e in IsReadError error (front_of p.engine) p.answers p.engine
 
 -- ---- the server's close
 

@@ -8,12 +8,14 @@ use Rattle.amqp_outbox.specs.declared.item.Item.{Item}
 use Rattle.amqp_session.specs.declared.io_fault.IoFault.TheVariants.{Aborted, Reset, BrokenPipe}
 use Rattle.amqp_session.specs.declared.misread.Misread.{Misread}
 use Rattle.amqp_session.specs.declared.misread.Misread.TheVariants.{TooLarge, BadHeartbeat, Bad}
+use Rattle.amqp_session.specs.declared.auth.asked.Question.{Question}
+use Rattle.amqp_session.specs.declared.auth.asked.Asked.{Asked}
 use Rattle.amqp_session.specs.Talk.{Talk, is_open, is_asked, drops_input}
 use Rattle.amqp_session.specs.Negotiation.{frame_limit}
 use Rattle.amqp_session.specs.Changes.{present_at, starve}
 use Rattle.amqp_session.specs.Links.{linked, link_failed, piece, misread, lost}
-use Rattle.amqp_session.specs.Frames.{on_frame}
-use Rattle.amqp_session.specs.Ticks.{tick}
+use Rattle.amqp_session.specs.Frames.{on_frame, frame_questions}
+use Rattle.amqp_session.specs.Ticks.{tick, tick_questions}
 use Rattle.amqp_session.specs.Commands.{command}
 use Rattle.amqp_session.specs.Writing.{frames_waiting, next_within, commit, overlong, end_overlong, taken}
 use Rattle.amqp_engine.specs.declared.port.Step.{Step}
@@ -71,16 +73,21 @@ step_piece at bytes e =
     then settle (record e { talk = piece (present_at at e.talk); unread = e.unread ++ bytes })
     else rule_at at (λ t. t) e
 
--- the rule of a step
-abbrev pub step_engine : ℕ → Step → List ℕ → Engine → Engine
-step_engine at Linked bytes e = step_linked at e
-step_engine at LinkFailed bytes e = settle (rule_at at link_failed e)
-step_engine at (Piece n) bytes e = step_piece at bytes e
-step_engine at End bytes e = settle (rule_at at (lost Aborted) e)
-step_engine at Fault bytes e = settle (rule_at at (lost Reset) e)
-step_engine at Room bytes e = rule_at at (λ t. t) e
-step_engine at Tick bytes e = settle (rule_at at tick e)
-step_engine at (Command c) bytes e = rule_at at (command c) e
+-- the rule of a step, with what the provider answers to what it asks
+abbrev pub step_engine : ℕ → Step → List ℕ → List Asked → Engine → Engine
+step_engine at Linked bytes answers e = step_linked at e
+step_engine at LinkFailed bytes answers e = settle (rule_at at link_failed e)
+step_engine at (Piece n) bytes answers e = step_piece at bytes e
+step_engine at End bytes answers e = settle (rule_at at (lost Aborted) e)
+step_engine at Fault bytes answers e = settle (rule_at at (lost Reset) e)
+step_engine at Room bytes answers e = rule_at at (λ t. t) e
+step_engine at Tick bytes answers e = settle (rule_at at (tick answers) e)
+step_engine at (Command c) bytes answers e = rule_at at (command c) e
+
+-- what a step asks of the provider, by what is answered to the first question
+abbrev pub step_questions : ℕ → Step → List Asked → Engine → List Question
+step_questions at Tick answers e = tick_questions answers (present_at at e.talk)
+step_questions at step answers e = []
 
 -- ---- reading
 
@@ -101,22 +108,32 @@ can_read e = is_open e.talk && not (is_more (front_of e))
 abbrev pub read_badly : ℕ → Misread → Engine → Engine
 read_badly at why e = settle (rule_at at (misread why) e)
 
--- what stood at the front is read; that memory was refused is never what stands there
-abbrev pub read_row : ℕ → Read → Engine → Engine
-read_row at (reading.Whole f n) e =
+-- what stood at the front is read, with what the provider answers to what it asks; that memory was refused is never
+-- what stands there
+abbrev pub read_row : ℕ → Read → List Asked → Engine → Engine
+read_row at (reading.Whole f n) answers e =
     settle (record e {
-      talk = on_frame f e.place (present_at at e.talk);
+      talk = on_frame f answers (present_at at e.talk);
       unread = drop n e.unread;
       place = at_most_64 (e.place + n);
     })
-read_row at (reading.TooLarge size) e = read_badly at (TooLarge size) e
-read_row at (reading.BadHeartbeat channel) e = read_badly at (BadHeartbeat channel) e
-read_row at reading.More e = e
-read_row at _ e = read_badly at (Bad e.place) e
+read_row at (reading.TooLarge size) answers e = read_badly at (TooLarge size) e
+read_row at (reading.BadHeartbeat channel) answers e = read_badly at (BadHeartbeat channel) e
+read_row at reading.More answers e = e
+read_row at _ answers e = read_badly at (Bad e.place) e
 
 -- what stands at the front of the unread bytes is read
-abbrev pub read_one : ℕ → Engine → Engine
-read_one at e = read_row at (front_of e) e
+abbrev pub read_one : ℕ → List Asked → Engine → Engine
+read_one at answers e = read_row at (front_of e) answers e
+
+-- what is asked by what stands at the front
+abbrev pub row_questions : ℕ → Read → Engine → List Question
+row_questions at (reading.Whole f n) e = frame_questions f (present_at at e.talk)
+row_questions at other e = []
+
+-- what is asked of the provider where that is read
+abbrev pub read_questions : ℕ → Engine → List Question
+read_questions at e = row_questions at (front_of e) e
 
 -- ---- writing
 

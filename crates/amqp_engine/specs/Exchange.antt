@@ -64,7 +64,7 @@ heard_by (suc most) p =
 -- the frames that a turn reads
 abbrev pub heard_of : Turn → Engine → List Event
 heard_of u e =
-    let p = step_part u.step u.bytes (begun u.at u.notes.starved e) in
+    let p = step_part u.step u.bytes (begun u.at u.notes.starved u.notes.auths e) in
     if is_piece u.step then heard_by (length p.engine.unread) p else []
 
 -- what was sent on a link, or nothing where there was none

@@ -2,30 +2,75 @@
 use Rattle.std.specs.Prelude.{◌≡◌, ◌≤◌, ◌<◌, ◌^◌, not, ◌&&◌, ℕ, if◌then◌else◌, Bool, true, false, List, [], ◌++◌, Option, Some, None}
 use Rattle.amqp_frame.specs.declared.frame.Read.{Read}
 use Rattle.amqp_frame.specs.declared.frame.Read.TheVariants.{Whole}
+use Rattle.amqp_session.specs.declared.auth.asked.Question.{Question}
+use Rattle.amqp_session.specs.declared.auth.asked.Asked.{Asked}
+use Rattle.amqp_session.specs.Providers.{Exchange, Allows}
+use Rattle.amqp_session.specs.Asking.{Asks, paired}
 use Rattle.amqp_session.specs.Talk.{Talk, is_open, drops_input}
 use Rattle.amqp_engine.specs.declared.port.Step.{Step}
-use Rattle.amqp_engine.specs.declared.port.Step.TheVariants.{Command}
+use Rattle.amqp_engine.specs.declared.port.Step.TheVariants.{Tick, Command}
 use Rattle.amqp_engine.specs.declared.port.Happening.{Happening}
 use Rattle.amqp_engine.specs.declared.given.Given.{Given}
 use Rattle.amqp_engine.specs.Plan.{step_of, bytes_of}
 use Rattle.amqp_engine.specs.Counts.{Rose}
-use Rattle.amqp_engine.specs.Engine.{Engine}
-use Rattle.amqp_engine.specs.Turn.{Notes, answers_of, Progress, AreAnswers, drained}
+use Rattle.amqp_engine.specs.Engine.{Engine, step_engine, step_questions, read_row, row_questions}
+use Rattle.amqp_engine.specs.Turn.{Notes, answers_of, Progress, AreAnswers, IsAnswered, drained, exchange_of}
 use Rattle.amqp_engine.specs.Log.{Log}
-use Rattle.amqp_engine.specs.Tell.{Applies, TellsOffers, offers_from}
+use Rattle.amqp_engine.specs.Tell.{Applies, MayCome, TellsOffers, offers_from, turn_of}
 
 -- a turn in the making
-abbrev pub making : ℕ → Option ℕ → Engine → ℕ → Progress
-making at cut e n = record { at = at; cut = cut; engine = e; done = n }
+abbrev pub making : ℕ → Option ℕ → List Asked → List Question → Engine → ℕ → Progress
+making at cut answers questions e n =
+    record { at = at; cut = cut; answers = answers; questions = questions; engine = e; done = n }
+
+-- questions were asked and answered, which were put last into the list, and that led from here to there, whatever is
+-- still to be answered
+pub record Heard (holds : List Asked → List Question → Type 0) (before after : Exchange → Type 0)
+    (list list' : List Asked) : Type 0 where
+  pub questions : List Question
+  pub answers : List Asked
+  pub asks : Asks questions answers before after list list'
+  pub leads : holds answers questions
+
+-- a step was taken with what the provider answered to what it asks
+pub record StepHears (at : ℕ) (step : Step) (e e' : Engine) (before after : Exchange → Type 0) (list list' : List Asked)
+    : Type 0 where
+  pub answers : List Asked
+  pub asks : Asks (step_questions at step answers e) answers before after list list'
+  pub engine : (bytes : List ℕ) → e' ≡ step_engine at step bytes answers e
+
+-- what stood at the front was read with what the provider answered to what it asks
+pub record RowHears (at : ℕ) (r : Read) (e e' : Engine) (before after : Exchange → Type 0) (list list' : List Asked)
+    : Type 0 where
+  pub answers : List Asked
+  pub asks : Asks (row_questions at r e) answers before after list list'
+  pub engine : e' ≡ read_row at r answers e
+
+-- the list grew by some answers
+abbrev pub Grew : List Asked → List Asked → Type 0
+Grew list list' = (more : List Asked) × (list' ≡ list ++ more)
+
+-- memory was refused after so many parts: what was answered was put last into the list, and some of it may answer what
+-- the next part asks
+pub record Broke (n : ℕ) (holds : List Asked → List Question → Engine → Type 0) (before : Exchange → Type 0)
+    (list list' : List Asked) : Type 0 where
+  pub questions : List Question
+  pub answers : List Asked
+  pub engine : Engine
+  pub listed : list' ≡ list ++ answers
+  pub all : IsAnswered (Some n) questions answers
+  pub allowed : Allows before (paired questions answers)
+  pub leads : holds answers questions engine
 
 -- how many parts a step is
 abbrev pub parts_of : Bool → ℕ
 parts_of b = if b then 1 else 0
 
--- a step that tells a command
-abbrev pub is_command : Step → Bool
-is_command (Command c) = true
-is_command _ = false
+-- a step that is neither a tick nor a command
+abbrev pub is_event : Step → Bool
+is_event Tick = false
+is_event (Command c) = false
+is_event _ = true
 
 -- a whole frame was read
 abbrev pub is_whole : Read → Bool
@@ -37,9 +82,9 @@ abbrev pub FewParts : ℕ → Type 0
 FewParts n = n < 2 ^ 63
 
 -- a cut that comes after so many parts, or later, or never
-abbrev pub Allows : Option ℕ → ℕ → Type 0
-Allows None n = Unit {0}
-Allows (Some j) n = n ≤ j
+abbrev pub Reaches : Option ℕ → ℕ → Type 0
+Reaches None n = Unit {0}
+Reaches (Some j) n = n ≤ j
 
 -- what is received is kept to be read
 abbrev pub keeps_unread : Talk → Bool
@@ -63,10 +108,12 @@ pub record Writes (before after : Progress) (log log' : Option Log) (count count
   pub tells : TellsOffers (offers_from (answers_of notes) before) log log'
   pub counted : notes.failed ≡ true → Rose count count'
 
--- a turn is applied, and where one of its writes failed, the port's count of faults rose
+-- a turn is applied, and where one of its writes failed, the port's count of faults rose; what was asked in it may come
+-- from the provider, and what was answered was put last into the list
 pub record AppliesCounted (at : ℕ) (step : Step) (bytes : List ℕ) (e e' : Engine) (log log' : Option Log)
-    (count count' : ℕ) : Type 0 where
+    (count count' : ℕ) (before after : Exchange → Type 0) : Type 0 where
   pub applies : Applies at step bytes e e' log log'
+  pub exchanged : MayCome applies.notes.starved before after (exchange_of (turn_of at step bytes applies.notes) e)
   pub counted : applies.notes.failed ≡ true → Rose count count'
 
 -- a given step as a port in memory keeps it, until it is told how many came before

@@ -1,5 +1,8 @@
 -- A script that is played: what its port answers is determined, and so are the turns.
-use Rattle.std.specs.Prelude.{◌≡◌, ℕ, zero, suc, ◌+◌, min, Bool, false, true, if◌then◌else◌, List, [], ◌∷◌, length, Option, Some, None}
+use Rattle.std.specs.Prelude.{◌≡◌, ℕ, zero, suc, ◌+◌, min, Bool, false, true, if◌then◌else◌, List, [], ◌∷◌, length, take, drop, Option, Some, None}
+use Rattle.amqp_session.specs.declared.auth.asked.Asked.{Asked}
+use Rattle.amqp_session.specs.Providers.{Exchange, Allows}
+use Rattle.amqp_session.specs.Asking.{Answer}
 use Rattle.amqp_session.specs.Config.{Config}
 use Rattle.amqp_session.specs.Talk.{has_ended, start}
 use Rattle.amqp_session.specs.Writing.{frames_waiting}
@@ -10,7 +13,7 @@ use Rattle.amqp_engine.specs.declared.given.Given.{Given}
 use Rattle.amqp_engine.specs.Plan.{Plan, Coming, next_coming, room_for}
 use Rattle.amqp_engine.specs.Log.{Log, loaded, log_write}
 use Rattle.amqp_engine.specs.Engine.{Engine, begin, can_write}
-use Rattle.amqp_engine.specs.Turn.{Turn, Notes, Progress, asks, offered, offer_part, is_all, read, turn, turns}
+use Rattle.amqp_engine.specs.Turn.{Turn, Notes, Progress, asks, offered, offer_part, is_all, read, turn, turns, exchanges}
 use Rattle.amqp_engine.specs.Tell.{turn_of, log_asks, log_stepped, log_turn, log_turns}
 
 -- ---- the answers to the writes of a turn
@@ -35,7 +38,7 @@ waiting e = frames_waiting e.talk + min 1 (length e.unsent)
 
 -- nothing is noted of a turn
 abbrev pub no_notes : Notes
-no_notes = record { tooks = []; failed = false; starved = None }
+no_notes = record { tooks = []; failed = false; auths = []; starved = None }
 
 -- the answer to a write is noted, before what is noted of those that follow; a port that finds no memory takes nothing
 abbrev pub noted : Wrote → Notes → Notes
@@ -61,38 +64,51 @@ abbrev pub played_step : Option Plan → Coming
 played_step None = record { at = 0; step = Tick; bytes = [] }
 played_step (Some p) = next_coming p
 
--- the step, before its writes are answered
-abbrev pub told_turn : Coming → Turn
-told_turn h = turn_of h.at h.step h.bytes no_notes
+-- the step, with what the provider is to answer, before its writes are answered
+abbrev pub told_turn : Coming → List Asked → Turn
+told_turn h answers = turn_of h.at h.step h.bytes (record no_notes { auths = answers })
 
--- what is noted of a turn: the answers to its writes
+-- what is noted of a turn: the answers to its writes, and as many of the provider's as were asked for
 abbrev pub played_notes : Turn → Engine → Log → Notes
 played_notes u e a =
     let before = read u (asks e) in
-    played_writes (waiting before.engine) before (log_stepped u e a)
+    record (played_writes (waiting before.engine) before (log_stepped u e a)) {
+      auths = take (length before.questions) u.notes.auths;
+    }
 
--- the turn of a step that comes, with the answers to its writes
-abbrev pub played_turn_of : Coming → Engine → Log → Turn
-played_turn_of h e a = turn_of h.at h.step h.bytes (played_notes (told_turn h) e a)
+-- the turn of a step that comes, with the answers to its writes and to what it asks
+abbrev pub played_turn_of : Coming → List Asked → Engine → Log → Turn
+played_turn_of h answers e a = turn_of h.at h.step h.bytes (played_notes (told_turn h answers) e a)
 
--- the next turn, where memory is not refused
-abbrev pub played_turn : Engine → Log → Turn
-played_turn e a = played_turn_of (played_step (log_asks e a).plan) e a
+-- the next turn, where memory is not refused and the provider answers so
+abbrev pub played_turn : List Asked → Engine → Log → Turn
+played_turn answers e a = played_turn_of (played_step (log_asks e a).plan) answers e a
 
 -- ---- a run
 
--- the turns of at most so many steps
-abbrev pub played_turns : ℕ → Engine → Log → List Turn
-played_turns zero e a = []
-played_turns (suc most) e a =
-    let u = played_turn e a in
-    if has_ended e.talk then [] else u ∷ played_turns most (turn u e) (log_turn u e a)
+-- the turns of at most so many steps, where the provider answers so
+abbrev pub played_turns : ℕ → List Asked → Engine → Log → List Turn
+played_turns zero answers e a = []
+played_turns (suc most) answers e a =
+    let u = played_turn answers e a in
+    if has_ended e.talk then []
+    else u ∷ played_turns most (drop (length u.notes.auths) answers) (turn u e) (log_turn u e a)
 
--- the turns of a new engine over a port that plays these steps
-abbrev pub replayed : Config → List Given → List Turn
-replayed config gs = played_turns (length gs) (begin (start config)) (loaded gs)
+-- the turns of a new engine over a port that plays these steps, where the provider answers so
+abbrev pub replayed : Config → List Given → List Asked → List Turn
+replayed config gs answers = played_turns (length gs) answers (begin (start config)) (loaded gs)
 
--- a run over a port that plays a script is the run of that script, where memory was not refused
-pub record IsPlayed (allowed : ℕ) (e e' : Engine) (log : Log) (log' : Option Log) : Type 0 where
-  pub engine : turns (played_turns allowed e log) e ≡ e'
-  pub told : log' ≡ Some (log_turns (played_turns allowed e log) e log)
+-- these are answers to all that is asked in these turns, one to each question
+abbrev pub AreAnswered : List Turn → Engine → Type 0
+AreAnswered [] e = Unit {0}
+AreAnswered (u ∷ us) e = Answer (read u (asks e)).questions u.notes.auths × AreAnswered us (turn u e)
+
+-- a run over a port that plays a script is the run of that script, where memory was not refused, with answers that may
+-- come from the provider
+pub record IsPlayed (allowed : ℕ) (e e' : Engine) (log : Log) (log' : Option Log) (before : Exchange → Type 0)
+    : Type 0 where
+  pub answers : List Asked
+  pub engine : turns (played_turns allowed answers e log) e ≡ e'
+  pub told : log' ≡ Some (log_turns (played_turns allowed answers e log) e log)
+  pub answered : AreAnswered (played_turns allowed answers e log) e
+  pub exchanged : Allows before (exchanges (played_turns allowed answers e log) e)

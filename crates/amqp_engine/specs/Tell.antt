@@ -1,12 +1,13 @@
 -- What a port tells of turns: a second fold over them, and what a port that plays a script does.
-use Rattle.std.specs.Prelude.{◌≡◌, ℕ, ◌≤◌, not, ◌&&◌, ◌==◌, if◌then◌else◌, false, List, [], ◌∷◌, length, Option, IfSome, option_map}
+use Rattle.std.specs.Prelude.{◌≡◌, ℕ, ◌≤◌, not, ◌&&◌, ◌==◌, if◌then◌else◌, false, List, [], ◌∷◌, ◌++◌, length, Option, Some, None, IfSome, option_map}
 use Rattle.amqp_session.specs.Talk.{has_ended}
+use Rattle.amqp_session.specs.Providers.{Exchange, Allows}
 use Rattle.amqp_engine.specs.declared.port.Step.{Step}
 use Rattle.amqp_engine.specs.declared.port.Wrote.{Wrote}
 use Rattle.amqp_engine.specs.declared.port.Wrote.TheVariants.{Took, NoMemory}
 use Rattle.amqp_engine.specs.Log.{Log, log_ask, log_step, log_write, PlansStep, PlansWrite}
 use Rattle.amqp_engine.specs.Engine.{Engine}
-use Rattle.amqp_engine.specs.Turn.{Turn, Notes, answers_of, IsTold, AreTold, asks, wants_ask, Progress, goes, offered, offer_part, read, turn, applied, IsApplied, IsTurn, Leads}
+use Rattle.amqp_engine.specs.Turn.{Turn, Notes, answers_of, IsTold, AreTold, asks, wants_ask, Progress, goes, offered, offer_part, read, turn, applied, IsApplied, IsTurn, exchange_of, exchanges, cut_of, Leads}
 
 -- ---- what is told
 
@@ -97,6 +98,18 @@ pub record Applies (at : ℕ) (step : Step) (bytes : List ℕ) (e e' : Engine) (
   pub leaves : applied (turn_of at step bytes notes) e ≡ e'
   pub tells : TellsOffers (offers_of (turn_of at step bytes notes) e) log log'
 
+-- an exchange may come from a provider's state before it and lead to the one after it; where memory was refused,
+-- nothing is said of the state after it
+abbrev pub MayCome : Option ℕ → (Exchange → Type 0) → (Exchange → Type 0) → Exchange → Type 0
+MayCome None before after exchange = (rest : Exchange) → Allows after rest → Allows before (exchange ++ rest)
+MayCome (Some j) before after exchange = Allows before exchange
+
+-- the same turn, and what was asked in it may come from the provider
+pub record AppliesLent (at : ℕ) (step : Step) (bytes : List ℕ) (e e' : Engine) (log log' : Option Log)
+    (before after : Exchange → Type 0) : Type 0 where
+  pub applies : Applies at step bytes e e' log log'
+  pub exchanged : MayCome applies.notes.starved before after (exchange_of (turn_of at step bytes applies.notes) e)
+
 -- some one turn leads from here to there, and is told
 pub record TakesTurn (e e' : Engine) (log log' : Option Log) : Type 0 where
   pub u : Turn
@@ -104,6 +117,11 @@ pub record TakesTurn (e e' : Engine) (log log' : Option Log) : Type 0 where
   pub told : IsTold u.step
   pub leaves : turn u e ≡ e'
   pub tells : TellsTurn u e log log'
+
+-- the same turn, and what was asked in it may come from the provider
+pub record TakesTurnLent (e e' : Engine) (log log' : Option Log) (before after : Exchange → Type 0) : Type 0 where
+  pub takes : TakesTurn e e' log log'
+  pub exchanged : MayCome takes.u.notes.starved before after (exchange_of takes.u (asks e))
 
 -- some turns lead from here to there and are told: as many as are allowed, or fewer where the session ended
 pub record Runs (allowed : ℕ) (e e' : Engine) (log log' : Option Log) : Type 0 where
@@ -113,3 +131,9 @@ pub record Runs (allowed : ℕ) (e e' : Engine) (log log' : Option Log) : Type 0
   pub told : AreTold us
   pub within : length us ≤ allowed
   pub all : has_ended e'.talk ≡ false → length us ≡ allowed
+
+-- the same turns, and what was asked in them may come from the provider
+pub record RunsLent (allowed : ℕ) (e e' : Engine) (log log' : Option Log) (before after : Exchange → Type 0)
+    : Type 0 where
+  pub runs : Runs allowed e e' log log'
+  pub exchanged : MayCome (cut_of runs.us) before after (exchanges runs.us e)

@@ -1,9 +1,14 @@
 -- A turn: one step that was taken, with all that follows it. The engine is a fold of its turns, whatever its port
 -- tells.
-use Rattle.std.specs.Prelude.{◌≡◌, ◌≢◌, ◌<◌, ◌≤◌, ℕ, zero, suc, ◌+◌, ◌^◌, not, ◌&&◌, ◌==◌, if◌then◌else◌, nat_lt, Bool, true, false, IsTrue, IsFalse, MatchBool, List, [], ◌∷◌, ◌++◌, length, map, Option, Some, None}
+use Rattle.std.specs.Prelude.{◌≡◌, ◌≢◌, ◌<◌, ◌≤◌, ℕ, zero, suc, ◌+◌, ◌^◌, not, ◌&&◌, ◌==◌, if◌then◌else◌, nat_lt, Bool, true, false, IsTrue, IsFalse, MatchBool, List, [], ◌∷◌, ◌++◌, length, drop, map, Option, Some, None}
+use Rattle.std.specs.Option.{option_or}
 use Rattle.amqp_session.specs.Config.{Config}
 use Rattle.amqp_session.specs.Talk.{Talk, start, wants_link, is_asked, is_open, has_ended}
 use Rattle.amqp_session.specs.Links.{asked}
+use Rattle.amqp_session.specs.declared.auth.asked.Question.{Question}
+use Rattle.amqp_session.specs.declared.auth.asked.Asked.{Asked}
+use Rattle.amqp_session.specs.Providers.{Exchange}
+use Rattle.amqp_session.specs.Asking.{fits, paired}
 use Rattle.amqp_frame.specs.RawMethods.{OtherMethod}
 use Rattle.amqp_session.specs.declared.command.Cmd.{Cmd}
 use Rattle.amqp_session.specs.declared.command.Cmd.TheVariants.{Send, Publish}
@@ -12,14 +17,15 @@ use Rattle.amqp_engine.specs.declared.port.Step.TheVariants.{Linked, LinkFailed,
 use Rattle.amqp_engine.specs.declared.port.Wrote.{Wrote}
 use Rattle.amqp_engine.specs.declared.port.Wrote.TheVariants.{Took, Failed, NoMemory}
 use Rattle.amqp_engine.specs.Log.{IsWithin}
-use Rattle.amqp_engine.specs.Engine.{Engine, begin, with_talk, step_engine, read_one, can_read, commit_all, refuse_overlong, can_write, wrote, starve_at}
+use Rattle.amqp_engine.specs.Engine.{Engine, begin, with_talk, step_engine, step_questions, read_one, read_questions, can_read, commit_all, refuse_overlong, can_write, wrote, starve_at}
 
--- what is noted of a turn: how many bytes each of its writes took, in order, and whether one more write failed; and
--- where memory was refused, how many of its parts were done. Where the port itself found no memory, the last of these
--- parts is a write that took nothing
+-- what is noted of a turn: how many bytes each of its writes took, in order, and whether one more write failed; what
+-- the provider answered, in order; and where memory was refused, how many of its parts were done. Where the port itself
+-- found no memory, the last of these parts is a write that took nothing
 pub record Notes : Type 0 where
   pub tooks : List ℕ
   pub failed : Bool
+  pub auths : List Asked
   pub starved : Option ℕ
 
 -- the answers to its writes: bytes were taken by each, and then one failed, where that is noted
@@ -45,16 +51,19 @@ asks e = if wants_ask e then with_talk asked e else e
 
 -- ---- the parts of a turn
 
--- a turn in the making: its moment, after how many parts it is cut, the engine so far, and how many parts are done
+-- a turn in the making: its moment, after how many parts it is cut, what the provider is still to answer and what it
+-- was asked so far, the engine so far, and how many parts are done
 pub record Progress : Type 0 where
   pub at : ℕ
   pub cut : Option ℕ
+  pub answers : List Asked
+  pub questions : List Question
   pub engine : Engine
   pub done : ℕ
 
 -- a turn at its beginning
-abbrev pub begun : ℕ → Option ℕ → Engine → Progress
-begun at cut e = record { at = at; cut = cut; engine = e; done = 0 }
+abbrev pub begun : ℕ → Option ℕ → List Asked → Engine → Progress
+begun at cut answers e = record { at = at; cut = cut; answers = answers; questions = []; engine = e; done = 0 }
 
 -- so many parts come before the cut, where there is one
 abbrev pub is_before : Option ℕ → ℕ → Bool
@@ -68,6 +77,11 @@ goes p = is_before p.cut p.done
 -- one part more is done
 abbrev pub part : Engine → Progress → Progress
 part e p = record p { engine = e; done = p.done + 1 }
+
+-- these questions are asked, and as many of the answers are taken
+abbrev pub questioned : List Question → Progress → Progress
+questioned questions p =
+    record p { answers = drop (length questions) p.answers; questions = p.questions ++ questions }
 
 -- whether a step is a part: the reading of a piece, a link that was asked for or its refusal, the loss of an open
 -- link, a command, or the rules of a tick; what changes the present alone is none
@@ -84,13 +98,14 @@ is_part (Command c) e = true
 -- the step is taken, and counted where it is a part
 abbrev pub step_part : Step → List ℕ → Progress → Progress
 step_part step bytes p =
+    let after = step_engine p.at step bytes p.answers p.engine in
     if is_part step p.engine
-    then (if goes p then part (step_engine p.at step bytes p.engine) p else p)
-    else record p { engine = step_engine p.at step bytes p.engine }
+    then (if goes p then part after (questioned (step_questions p.at step p.answers p.engine) p) else p)
+    else record p { engine = after }
 
 -- a frame that is read is a part
 abbrev pub read_part : Progress → Progress
-read_part p = part (read_one p.at p.engine) p
+read_part p = part (read_one p.at p.answers p.engine) (questioned (read_questions p.at p.engine) p)
 
 -- frames are read while there is one, and at most so many
 abbrev pub reads : ℕ → Progress → Progress
@@ -152,7 +167,7 @@ AreAnswers (w ∷ ws) p =
 
 -- up to its writes: the step, and the frames that are read
 abbrev pub read : Turn → Engine → Progress
-read u e = reading (is_piece u.step) (step_part u.step u.bytes (begun u.at u.notes.starved e))
+read u e = reading (is_piece u.step) (step_part u.step u.bytes (begun u.at u.notes.starved u.notes.auths e))
 
 -- a turn up to the end of its writes
 abbrev pub written : Turn → Engine → Progress
@@ -189,10 +204,35 @@ abbrev pub IsCut : Option ℕ → ℕ → Type 0
 IsCut None n = Unit {0}
 IsCut (Some j) n = n ≡ j
 
--- the writes are those that are due, and where the turn was cut, so many of its parts were done
+-- these are the answers to what was asked, one to each question, in order; where the turn was cut, answers to what the
+-- next part asked may follow
+abbrev pub IsAnswered : Option ℕ → List Question → List Asked → Type 0
+IsAnswered cut (question ∷ questions) (answer ∷ answers) =
+    IsTrue (fits question answer) × IsAnswered cut questions answers
+IsAnswered cut [] [] = Unit {0}
+IsAnswered (Some j) [] (answer ∷ answers) = Unit {0}
+IsAnswered _ _ _ = ⊥
+
+-- the writes are those that are due, the provider answered what it was asked, and where the turn was cut, so many of
+-- its parts were done
 pub record IsApplied (u : Turn) (e : Engine) : Type 0 where
   pub answers : AreAnswers (answers_of u.notes) (read u e)
+  pub asked : IsAnswered u.notes.starved (read u e).questions u.notes.auths
   pub cut : IsCut u.notes.starved (written u e).done
+
+-- what was asked in a turn, from its step on, with the answers
+abbrev pub exchange_of : Turn → Engine → Exchange
+exchange_of u e = paired (read u e).questions u.notes.auths
+
+-- what was asked in these turns, with the answers
+abbrev pub exchanges : List Turn → Engine → Exchange
+exchanges [] e = []
+exchanges (u ∷ us) e = exchange_of u (asks e) ++ exchanges us (turn u e)
+
+-- after how many parts the first of these turns was cut that was, if one was
+abbrev pub cut_of : List Turn → Option ℕ
+cut_of [] = None
+cut_of (u ∷ us) = option_or u.notes.starved (cut_of us)
 
 -- a turn is one of a session that has not ended
 pub record IsTurn (u : Turn) (e : Engine) : Type 0 where

@@ -10,7 +10,7 @@ ghost use Rattle.amqp_session.specs.Commands.{command as command_rule, promise_o
 ghost use Rattle.amqp_session.specs.Answers.{HandsOut, Takes, take_frames};
 ghost use Rattle.amqp_engine.specs.Engine.{Engine, begin, with_talk};
 ghost use Rattle.amqp_engine.specs.Turn.{asks};
-ghost use Rattle.amqp_engine.specs.Tell.{Applies, TakesTurn, Runs, log_asks};
+ghost use Rattle.amqp_engine.specs.Tell.{AppliesLent, TakesTurnLent, RunsLent, log_asks};
 ghost use Rattle.amqp_engine.specs.Log.{Log};
 ghost use Rattle.amqp_engine.specs.Unread.{IsRead};
 ghost use Rattle.amqp_engine.specs.Sending.{Sending};
@@ -23,7 +23,8 @@ use crate::port::{Port, Told, hold};
 use crate::wire::Wire;
 use amqp_ring::Buffer;
 use amqp_session::{
-    Answer, Cmd, ConnectionProperties, ErrorKind, Handed, IoFault, Result, Session,
+    Answer, AuthList, AuthProvider, Cmd, ConnectionProperties, ErrorKind, Handed, IoFault, Result,
+    Session,
 };
 use amqp_types::NoMemory;
 use amqp_uri::AMQPUri;
@@ -41,6 +42,8 @@ pub struct IoLoop {
     wire: Wire,
     // where the port puts its pieces
     scratch: Vec<u8>,
+    // what the provider answered in the last turn
+    auths: AuthList,
 }
 
 impl Model for IoLoop {
@@ -89,40 +92,58 @@ impl IoLoop {
     {
         let scratch = vec![in alloc; 0; PIECE]?;
         let wire = Wire::new(alloc, uri, options)?;
-        Ok(IoLoop { wire, scratch })
+        Ok(IoLoop {
+            wire,
+            scratch,
+            auths: AuthList::new(alloc),
+        })
     }
 
-    /// Takes so many turns, or fewer where the session ends. Where it had ended, it takes none.
-    /// Answers as the session ended, or `OutOfTurns`; it can then run again, and goes on. Where memory
-    /// for the copy of the error is refused, that is told in its place.
-    pub fn run<P: Port>(&mut self, port: &mut P, turns: u64) -> Result<()>
-        ensures turns { Runs turns self.old self.new (P.log port.old) (P.log port.new) }
+    /// Takes so many turns, or fewer where the session ends. Where it had ended, it takes none. What
+    /// the server asks of its client is answered by the provider. Answers as the session ended, or
+    /// `OutOfTurns`; it can then run again, and goes on. Where memory for the copy of the error is
+    /// refused, that is told in its place.
+    pub fn run<P: Port, A: AuthProvider>(
+        &mut self,
+        port: &mut P,
+        provider: &mut A,
+        turns: u64,
+    ) -> Result<()>
+        requires { A.can provider.old }
+        ensures can { A.can provider.new }
+        ensures turns { RunsLent turns self.old self.new (P.log port.old) (P.log port.new)
+            (A.allows provider.old) (A.allows provider.new) }
         ensures ended { IfSome (end_of self.new.talk) (λ end. HandsOut (Some end) (Some result)) }
         ensures out_of_turns { has_ended self.new.talk ≡ false → result ≡ Err ErrorKind.OutOfTurns }
         ensures only_out_of_turns { has_ended self.old.talk ≡ false → result ≡ Err ErrorKind.OutOfTurns
             → has_ended self.new.talk ≡ false }
         ensures played { IfSome (P.log port.old) (λ log. IsSome log.plan → self.new.starved ≡ None
-            → IsPlayed turns self.old self.new log (P.log port.new)) }
+            → IsPlayed turns self.old self.new log (P.log port.new) (A.allows provider.old)) }
         ensures legal { (ss : List Sending) → HasSent self.old ss
             → GoesOn ss self.old self.new (P.log port.old) (P.log port.new) }
         ensures read { IsRead self.new }
         ensures faults { P.faults port.old ≤ P.faults port.new }
+        ensures never_falls { A.refusals provider.old ≤ A.refusals provider.new }
         ensures io_error_counted { (fault : IoFault) → has_ended self.old.talk ≡ false
             → fault_of self.new.talk ≡ Some fault → IsTrue (is_counted fault)
             → Rose (P.faults port.old) (P.faults port.new) }
         ensures cause { (k : ErrorKind) → has_ended self.old.talk ≡ false → end_of self.new.talk ≡ Some (Err k)
             → Brings k self.old self.new (P.log port.old) (P.log port.new) }
     {
-        self.take_turns(port, turns);
+        self.take_turns(port, provider, turns);
         match self.wire.session().end() {
             Some(end) => end,
             None => Err(ErrorKind::OutOfTurns.into()),
         }
     }
 
-    fn take_turns<P: Port>(&mut self, port: &mut P, turns: u64)
-        ensures turns { Runs turns self.old self.new (P.log port.old) (P.log port.new) }
+    fn take_turns<P: Port, A: AuthProvider>(&mut self, port: &mut P, provider: &mut A, turns: u64)
+        requires { A.can provider.old }
+        ensures can { A.can provider.new }
+        ensures turns { RunsLent turns self.old self.new (P.log port.old) (P.log port.new)
+            (A.allows provider.old) (A.allows provider.new) }
         ensures faults { P.faults port.old ≤ P.faults port.new }
+        ensures never_falls { A.refusals provider.old ≤ A.refusals provider.new }
         ensures io_error_counted { (fault : IoFault) → has_ended self.old.talk ≡ false
             → fault_of self.new.talk ≡ Some fault → IsTrue (is_counted fault)
             → Rose (P.faults port.old) (P.faults port.new) }
@@ -132,17 +153,25 @@ impl IoLoop {
                 break;
             }
             // Where memory was refused, the session has ended.
-            let _ = self.turn(port);
+            let _ = self.turn(port, provider);
         }
     }
 
     // One turn: a link is asked for where one is wanted, a step is taken, and what may go out is
     // written.
-    fn turn<P: Port>(&mut self, port: &mut P) -> std::result::Result<(), NoMemory>
-        requires { has_ended self.old.talk ≡ false }
-        ensures turn { TakesTurn self.old self.new (P.log port.old) (P.log port.new) }
+    fn turn<P: Port, A: AuthProvider>(
+        &mut self,
+        port: &mut P,
+        provider: &mut A,
+    ) -> std::result::Result<(), NoMemory>
+        requires running { has_ended self.old.talk ≡ false }
+        requires can { A.can provider.old }
+        ensures can { A.can provider.new }
+        ensures turn { TakesTurnLent self.old self.new (P.log port.old) (P.log port.new)
+            (A.allows provider.old) (A.allows provider.new) }
         ensures ended { OnErr result (IsTrue (has_ended self.new.talk)) }
         ensures faults { P.faults port.old ≤ P.faults port.new }
+        ensures never_falls { A.refusals provider.old ≤ A.refusals provider.new }
         ensures io_error_counted { (fault : IoFault) → fault_of self.new.talk ≡ Some fault
             → IsTrue (is_counted fault) → Rose (P.faults port.old) (P.faults port.new) }
     {
@@ -150,7 +179,9 @@ impl IoLoop {
         let told = port.next(&mut self.scratch);
         told.step.hold();
         let n = told.step.piece_len();
-        self.wire.apply(told, &self.scratch[..n], port)
+        self.auths.clear();
+        self.wire
+            .apply(told, &self.scratch[..n], port, provider, &mut self.auths)
     }
 
     /// Asks for a link where one is wanted and was not yet asked for.
@@ -162,10 +193,19 @@ impl IoLoop {
         self.wire.ask(port);
     }
 
-    /// One turn after its step was taken; the bytes are those of its piece. Where memory is
-    /// refused, the session has ended.
-    pub fn apply<P: Port>(&mut self, told: Told, bytes: &[u8], port: &mut P) -> Result<()>
-        ensures turn { Applies told.at told.step bytes.now self.old self.new (P.log port.old) (P.log port.new) }
+    /// One turn after its step was taken; the bytes are those of its piece. What the server asks of its
+    /// client is answered by the provider. Where memory is refused, the session has ended.
+    pub fn apply<P: Port, A: AuthProvider>(
+        &mut self,
+        told: Told,
+        bytes: &[u8],
+        port: &mut P,
+        provider: &mut A,
+    ) -> Result<()>
+        requires { A.can provider.old }
+        ensures can { A.can provider.new }
+        ensures turn { AppliesLent told.at told.step bytes.now self.old self.new (P.log port.old) (P.log port.new)
+            (A.allows provider.old) (A.allows provider.new) }
         ensures starved { MatchResult result (λ _. self.new.starved ≡ self.old.starved)
             (λ _. has_ended self.old.talk ≡ false → IsSome self.new.starved) }
         ensures ended { OnErr result (IsTrue (has_ended self.new.talk)) }
@@ -175,6 +215,7 @@ impl IoLoop {
             → GoesOnce told.at told.step bytes.now ss self.old self.new (P.log port.old) (P.log port.new) }
         ensures read { IsRead self.new }
         ensures faults { P.faults port.old ≤ P.faults port.new }
+        ensures never_falls { A.refusals provider.old ≤ A.refusals provider.new }
         ensures cause { (k : ErrorKind) → has_ended self.old.talk ≡ false → end_of self.new.talk ≡ Some (Err k)
             → BringsOne k told.at told.step bytes.now self.old self.new (P.log port.old) (P.log port.new) }
         ensures io_error_counted { (fault : IoFault) → has_ended self.old.talk ≡ false
@@ -183,7 +224,11 @@ impl IoLoop {
             ⊎ ((fault ≡ IoFault.BrokenPipe) × Rose (P.faults port.old) (P.faults port.new)) }
     {
         told.step.hold();
-        Ok(self.wire.apply(told, bytes, port)?)
+        self.auths.clear();
+        Ok(
+            self.wire
+                .apply(told, bytes, port, provider, &mut self.auths)?,
+        )
     }
 
     /// Tells the session to do something, and gives the number of the promise that will be

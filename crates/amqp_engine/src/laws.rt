@@ -2,6 +2,7 @@
 
 ghost use Rattle.std.specs.Prelude.{◌≡◌, ℕ, ◌+◌, [], false, true, List, Option, map};
 ghost use Rattle.std.specs.List.{AllByRecursion};
+ghost use Rattle.amqp_session.specs.declared.auth.asked.Asked.{Asked};
 ghost use Rattle.amqp_session.specs.Config.{Config};
 ghost use Rattle.amqp_session.specs.Talk.{Talk, start, has_ended};
 ghost use Rattle.amqp_session.specs.Legal.{Legal};
@@ -10,7 +11,7 @@ ghost use Rattle.amqp_engine.specs.Log.{Log, loaded};
 ghost use Rattle.amqp_engine.specs.Engine.{Engine, begin};
 ghost use Rattle.amqp_engine.specs.Turn.{Turn, turn, IsTurn, AreTurns, AreTold};
 ghost use Rattle.amqp_engine.specs.Tell.{Runs, PlaysTurns, log_turns};
-ghost use Rattle.amqp_engine.specs.Play.{replayed};
+ghost use Rattle.amqp_engine.specs.Play.{replayed, AreAnswered};
 ghost use Rattle.amqp_engine.specs.Sending.{Sending, sendings, frames, frames_sent, link_bytes, SendsInOrder};
 ghost use Rattle.amqp_engine.specs.Saying.{HasSent, AreGivenTold};
 ghost use Rattle.amqp_engine.specs.Unread.{IsRead};
@@ -32,12 +33,14 @@ pub fn a_run_goes_on()
         → Runs (m + n) first last before after }
 {}
 
-/// The turns of a script are turns of a new engine over a port that plays the script. So what holds
-/// of all turns holds of these.
+/// The turns of a script are turns of a new engine over a port that plays the script, where what they
+/// ask is answered. So what holds of all turns holds of these.
 pub fn a_script_has_its_turns()
-    ensures turns { (config : Config) (gs : List Given) → AreTurns (replayed config gs) (begin (start config)) }
-    ensures plays { (config : Config) (gs : List Given)
-        → PlaysTurns (replayed config gs) (begin (start config)) (loaded gs) }
+    ensures turns { (config : Config) (gs : List Given) (answers : List Asked)
+        → AreAnswered (replayed config gs answers) (begin (start config))
+        → AreTurns (replayed config gs answers) (begin (start config)) }
+    ensures plays { (config : Config) (gs : List Given) (answers : List Asked)
+        → PlaysTurns (replayed config gs answers) (begin (start config)) (loaded gs) }
 {}
 
 /// What a port tells of its links, which had none before a new engine ran over it, are the bytes of
@@ -67,6 +70,7 @@ pub fn conversations_are_legal()
         → AllByRecursion (λ (s : Sending). Legal (frames s.committed)) ss }
     ensures turns { (config : Config) (us : List Turn) → AreTurns us (begin (start config)) → AreTold us
         → AllByRecursion (λ (s : Sending). Legal (frames_sent s)) (sendings config us) }
-    ensures script { (config : Config) (gs : List Given) → AreGivenTold gs
-        → AllByRecursion (λ (s : Sending). Legal (frames_sent s)) (sendings config (replayed config gs)) }
+    ensures script { (config : Config) (gs : List Given) (answers : List Asked) → AreGivenTold gs
+        → AreAnswered (replayed config gs answers) (begin (start config))
+        → AllByRecursion (λ (s : Sending). Legal (frames_sent s)) (sendings config (replayed config gs answers)) }
 {}

@@ -7,7 +7,7 @@
 mod reading;
 mod writing;
 
-ghost use Rattle.std.specs.Prelude.{◌≡◌, ◌≤◌, not, ◌<◌, Option, Some, true, false, IfOk, IfErr, IsOk, OnOk, OnErr, MatchResult, IsSome, IsTrue, option_map, length};
+ghost use Rattle.std.specs.Prelude.{◌≡◌, ◌≤◌, not, ◌<◌, [], Option, Some, true, false, IfOk, IfErr, IsOk, OnOk, OnErr, MatchResult, IsSome, IsTrue, option_map, length};
 ghost use Rattle.amqp_ring.specs.Ring.{capacity};
 ghost use Rattle.amqp_session.specs.Config.{config_of};
 ghost use Rattle.amqp_session.specs.Talk.{start, is_open, has_ended};
@@ -22,7 +22,8 @@ ghost use Rattle.amqp_engine.specs.Making.{AppliesCounted};
 use crate::port::{Port, Told};
 use amqp_ring::Buffer;
 use amqp_session::{
-    Answer, Cmd, ConnectionProperties, ErrorKind, Handed, Session, initial_capacity,
+    Answer, AuthList, AuthProvider, Cmd, ConnectionProperties, ErrorKind, Handed, Session,
+    initial_capacity,
 };
 use amqp_types::NoMemory;
 use amqp_uri::AMQPUri;
@@ -164,24 +165,35 @@ impl Wire {
         }
     }
 
-    /// A turn from its step on.
-    pub fn apply<P: Port>(&mut self, told: Told, bytes: &[u8], port: &mut P) -> Result<(), NoMemory>
+    /// A turn from its step on. What the provider answers is put last into the list.
+    pub fn apply<P: Port, A: AuthProvider>(
+        &mut self,
+        told: Told,
+        bytes: &[u8],
+        port: &mut P,
+        provider: &mut A,
+        auths: &mut AuthList,
+    ) -> Result<(), NoMemory>
+        requires list { auths.old.list ≡ [] }
+        requires can { A.can provider.old }
+        ensures can { A.can provider.new }
         ensures turn { AppliesCounted told.at told.step bytes.now self.old self.new (P.log port.old) (P.log port.new)
-            (P.faults port.old) (P.faults port.new) }
+            (P.faults port.old) (P.faults port.new) (A.allows provider.old) (A.allows provider.new) }
         ensures starved { MatchResult result (λ _. self.new.starved ≡ self.old.starved)
             (λ _. has_ended self.old.talk ≡ false → IsSome self.new.starved) }
         ensures ended { OnErr result (IsTrue (has_ended self.new.talk)) }
         ensures over { OnErr result (has_ended self.old.talk ≡ true → self.new ≡ self.old) }
         ensures faults { P.faults port.old ≤ P.faults port.new }
+        ensures never_falls { A.refusals provider.old ≤ A.refusals provider.new }
     {
         let Told { at, step } = told;
         if self.session.has_ended() {
             // What has ended reads and writes nothing, and is not starved.
-            self.take_step(at, step)?;
+            self.take_step(at, step, provider, auths)?;
             return Ok(());
         }
         let mut parts = 0;
-        if let Err(refused) = self.read_step(at, step, bytes, &mut parts) {
+        if let Err(refused) = self.read_step(at, step, bytes, provider, auths, &mut parts) {
             self.cut(at, parts);
             return Err(refused);
         }

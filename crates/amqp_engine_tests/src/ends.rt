@@ -2,7 +2,9 @@
 
 use crate::story::{Line, tell, wrong_line};
 use crate::support::{Happens, Outcome};
-use amqp_vectors::{CLOSE_320, CLOSE_OK, HEADER, OPEN, OPEN_OK, START, START_OK, TUNE, TUNE_OK};
+use amqp_vectors::{
+    CLOSE_320, CLOSE_OK, HEADER, OPEN, OPEN_OK, SECURE, START, START_OK, TUNE, TUNE_OK,
+};
 use std::alloc::Global;
 use std::process::Abort;
 
@@ -95,17 +97,25 @@ fn writing_that_fails_breaks_the_pipe(rt: HostRuntime) -> Outcome<()> {
     all_end(&rt, rt.alloc(), UNWRITABLE, "IO error: broken pipe")
 }
 
-const NOT_BUILT: &[Row] = &[Row {
-    name: "secure",
+const UNANSWERED: &[Row] = &[Row {
+    name: "a challenge to a mechanism that knows none",
     script: &[
         Happens::Link(None),
-        Happens::Bytes("01 0000 00000009 000a0014 00000001 61 ce"),
+        Happens::Bytes(START),
+        Happens::Bytes(SECURE),
     ],
 }];
 
 #[test]
-fn what_is_not_built_ends_the_session(rt: HostRuntime) -> Outcome<()> {
-    all_end(&rt, rt.alloc(), NOT_BUILT, "not built: frame at byte 0")
+fn a_refusal_of_the_provider_ends_the_session(rt: HostRuntime) -> Outcome<()> {
+    all_end(
+        &rt,
+        rt.alloc(),
+        UNANSWERED,
+        "failure during authentication: Received invalid Connection.Secure \
+        with challenge 'Please tell me your password' \
+        for SASL mechanism PLAIN with default provider.",
+    )
 }
 
 #[test]

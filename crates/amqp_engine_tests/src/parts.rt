@@ -2,9 +2,9 @@
 
 ghost use Rattle.std.specs.Prelude.{None};
 
-use crate::story::new_engine;
+use crate::story::{Driven, new_engine};
 use crate::support::{Happens, Outcome, port};
-use amqp_engine::{IoLoop, MemoryPort, Port, Told, Wrote};
+use amqp_engine::{MemoryPort, Port, Told, Wrote};
 use amqp_session::ErrorKind;
 use amqp_vectors::START;
 use std::alloc::Global;
@@ -41,21 +41,25 @@ impl Port for Refusing {
 }
 
 // After how many parts the turn was cut, where a run ends for want of memory.
-fn starved_in(port: &mut Refusing, engine: &mut IoLoop) -> Option<u64> {
-    match engine.run(port, 10) {
+fn starved_in(port: &mut Refusing, driven: &mut Driven) -> Option<u64> {
+    match driven.engine.run(port, &mut driven.provider, 10) {
         Ok(()) => None,
         Err(error) => {
             let refused = matches!(error.kind(), ErrorKind::NoMemory);
             drop(error);
-            if refused { engine.starved() } else { None }
+            if refused {
+                driven.engine.starved()
+            } else {
+                None
+            }
         }
     }
 }
 
 fn starved_over(alloc: Global, port: &mut Refusing) -> Outcome<Option<u64>> {
-    let mut engine = new_engine(alloc)?;
-    let starved = starved_in(port, &mut engine);
-    drop(engine);
+    let mut driven = new_engine(alloc)?;
+    let starved = starved_in(port, &mut driven);
+    drop(driven);
     Ok(starved)
 }
 

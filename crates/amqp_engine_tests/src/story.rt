@@ -3,7 +3,7 @@
 use crate::support::{Happens, Outcome, our_close, port, shows, took};
 use amqp_engine::{IoLoop, MemoryPort, Port, ScriptedPort};
 use amqp_ring::Buffer;
-use amqp_session::{Answer, ConnectionProperties};
+use amqp_session::{Answer, ConnectionProperties, DefaultAuthProvider};
 use amqp_uri::AMQPUri;
 use std::alloc::Global;
 use std::process::Abort;
@@ -64,13 +64,26 @@ pub fn wrong_line(alloc: Global, script: &[Happens], lines: &[Line]) -> Outcome<
     wrong
 }
 
-/// A new engine for the broker of this machine.
-pub fn new_engine(alloc: Global) -> Outcome<IoLoop> {
-    let options = ConnectionProperties::new(alloc)?;
+/// An engine, with who authenticates its client.
+#[derive(Drop)]
+pub struct Driven {
+    pub engine: IoLoop,
+    pub provider: DefaultAuthProvider,
+}
+
+/// A new engine for the broker of this machine, with the user of its address.
+pub fn new_engine(alloc: Global) -> Outcome<Driven> {
     let uri = AMQPUri::local(alloc)?;
-    let engine = IoLoop::new(alloc, &uri, options);
+    let made = engine_at(alloc, &uri);
     drop(uri);
-    Ok(engine?)
+    made
+}
+
+fn engine_at(alloc: Global, uri: &AMQPUri) -> Outcome<Driven> {
+    let options = ConnectionProperties::new(alloc)?;
+    let engine = IoLoop::new(alloc, uri, options)?;
+    let provider = DefaultAuthProvider::new(alloc, uri)?;
+    Ok(Driven { engine, provider })
 }
 
 /// The same of a new engine over this port.
@@ -79,21 +92,21 @@ pub fn wrong_line_over(
     port: &mut MemoryPort,
     lines: &[Line],
 ) -> Outcome<Option<u64>> {
-    let mut engine = new_engine(alloc)?;
-    let wrong = wrong_line_of(alloc, port, &mut engine, lines);
-    drop(engine);
+    let mut driven = new_engine(alloc)?;
+    let wrong = wrong_line_of(alloc, port, &mut driven, lines);
+    drop(driven);
     wrong
 }
 
 fn wrong_line_of(
     alloc: Global,
     port: &mut MemoryPort,
-    engine: &mut IoLoop,
+    driven: &mut Driven,
     lines: &[Line],
 ) -> Outcome<Option<u64>> {
     let mut number: u64 = 1;
     for line in lines {
-        if !holds(alloc, port, engine, *line)? {
+        if !holds(alloc, port, driven, *line)? {
             return Ok(Some(number));
         }
         number = number.saturating_add(1);
@@ -102,13 +115,13 @@ fn wrong_line_of(
 }
 
 // Whether a line holds, after what it does.
-fn holds(alloc: Global, port: &mut MemoryPort, engine: &mut IoLoop, line: Line) -> Outcome<bool> {
+fn holds(alloc: Global, port: &mut MemoryPort, driven: &mut Driven, line: Line) -> Outcome<bool> {
     match line {
-        Line::Run(turns, end) => return runs(alloc, port, engine, turns, end),
-        Line::Ask => engine.ask(port),
-        Line::ApplyNext => apply_next(port, engine)?,
-        Line::Close(promise) => return closes(alloc, engine, promise),
-        _ => return gives(alloc, port, engine, line),
+        Line::Run(turns, end) => return runs(alloc, port, driven, turns, end),
+        Line::Ask => driven.engine.ask(port),
+        Line::ApplyNext => apply_next(port, driven)?,
+        Line::Close(promise) => return closes(alloc, &mut driven.engine, promise),
+        _ => return gives(alloc, port, &mut driven.engine, line),
     }
     Ok(true)
 }
@@ -142,20 +155,20 @@ fn has_kept(buffer: &Buffer, capacity: usize, kept: usize) -> bool {
 fn runs(
     alloc: Global,
     port: &mut MemoryPort,
-    engine: &mut IoLoop,
+    driven: &mut Driven,
     turns: u64,
     end: &str,
 ) -> Outcome<bool> {
-    match engine.run(port, turns) {
+    match driven.engine.run(port, &mut driven.provider, turns) {
         Ok(()) => Ok(end == CLOSED),
         Err(error) => shows(alloc, error, end),
     }
 }
 
-fn apply_next(port: &mut MemoryPort, engine: &mut IoLoop) -> Outcome<()> {
+fn apply_next(port: &mut MemoryPort, driven: &mut Driven) -> Outcome<()> {
     let mut space = [0; 4096];
     let told = port.next(&mut space);
-    Ok(engine.apply(told, &[], port)?)
+    Ok(driven.engine.apply(told, &[], port, &mut driven.provider)?)
 }
 
 // Whether our close makes this promise.

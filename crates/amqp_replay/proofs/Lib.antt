@@ -10,6 +10,8 @@ pub mod FreeLines
 pub mod Printable
 pub mod Steps
 pub mod Pieces
+-- A provider that was not handed is not asked for (`laws`).
+pub mod Handed
 -- What follows the most that is read says nothing (`top`: `outcome`).
 pub mod MostRead
 -- The lines of a report (`report`).

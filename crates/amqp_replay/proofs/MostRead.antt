@@ -135,5 +135,5 @@ reads [] p at left number before k front none most = refl
 reads (b ∷ rest) p at left number before k front none most = reads_at (is_line_feed b) b rest p at left number before k front refl none most (reads rest)
 
 -- the most that is read of a text says what all of it does
-pub parsed-most : (text : List ℕ) → parsed (take MOST_READ text) ≡ parsed text
-parsed-most text = reads text no_lines 0 ZERO_BYTES 1 0 SCRIPT_BYTES [] no_feed_yet (omega arith)
+pub parsed-most : (is_handed : Bool) (text : List ℕ) → parsed is_handed (take MOST_READ text) ≡ parsed is_handed text
+parsed-most is_handed text = reads text (no_lines is_handed) 0 ZERO_BYTES 1 0 SCRIPT_BYTES [] no_feed_yet (omega arith)

@@ -1,56 +1,118 @@
 -- A replay, from the contracts of the port and the engine.
-use Rattle.std.proofs.Common.{◌≡◌, ℕ, List, false, Option, Some, None, is_some, IfSome, Ok, length, ap, sym, subst, refl, ◌∙◌}
-use Rattle.std.specs.Prelude.{IsSome}
+use Rattle.std.proofs.Common.{◌≡◌, ℕ, List, [], ◌∷◌, Bool, true, false, Option, Some, None, is_some, IfSome, IfOk, Result, Ok, Err, length, if◌then◌else◌, ap, sym, subst, refl, ◌∙◌}
+use Rattle.std.specs.Prelude.{IsSome, MatchBool}
+use Rattle.amqp_session.specs.Providers.{Exchange, Allows}
+use Rattle.amqp_session.specs.DefaultAnswers.{DefaultAuth}
 use Rattle.amqp_session.specs.Talk.{Talk, start}
 use Rattle.amqp_engine.specs.Log.{Log, loaded}
 use Rattle.amqp_engine.specs.Engine.{Engine, begin}
 use Rattle.amqp_engine.specs.Play.{IsPlayed}
+use Rattle.amqp_engine.specs.Saying.{SpellLegal}
 use Rattle.amqp_replay.specs.Grammar.{Scenario}
-use Rattle.amqp_replay.specs.Top.{replayed_log, replayed_links, reported, summed, printout, generated_printout, IsReplayed}
+use Rattle.amqp_replay.specs.Top.{replayed_log, replayed_links, replayed_exchange, handed_state, answers_of, reported, summed, printout, generated_printout}
+use Rattle.amqp_replay.specs.Runs.{IsReplayed, IsMade}
 use Rattle.amqp_replay.specs.Report.{Printout}
 
 -- a run of a loaded script, where memory was not refused
-abbrev pub Plays : ℕ → Engine → Engine → Option Log → Option Log → Type 0
-Plays n e e' before after = IfSome before (λ log. IsSome log.plan → e'.starved ≡ None → IsPlayed n e e' log after)
-
--- it leads to the state and the links of the replay, and the port tells of it
-pub record Leads (s : Scenario) (t : Talk) (log : Option Log) (links : List (List ℕ)) : Type 0 where
-  pub is : IsReplayed s t links
-  pub told : log ≡ Some (replayed_log s)
+abbrev pub Plays : ℕ → Engine → Engine → Option Log → Option Log → (Exchange → Type 0) → Type 0
+Plays n e e' before after state = IfSome before (λ log. IsSome log.plan → e'.starved ≡ None → IsPlayed n e e' log after state)
 
 ties_at : (log : Option Log) (a : Log) (links : List (List ℕ)) → log ≡ Some a → IfSome log (λ x. x.links ≡ links) → a.links ≡ links
 ties_at log a links h ties =
     let P : Option Log → Type 0 = λ o. IfSome o (λ x. x.links ≡ links) in
     subst P h ties
 
-pub Leads-run : (s : Scenario) (n : ℕ) (e e' : Engine) (before after : Option Log) (links : List (List ℕ))
-    → n ≡ length s.steps → e ≡ begin (start s.config) → before ≡ Some (loaded s.steps) → Plays n e e' before after → e'.starved ≡ None
-    → IfSome after (λ a. a.links ≡ links) → Leads s e'.talk after links
-Leads-run s n e e' before after links count new loads plays whole ties =
-    let A : ℕ → Type 0 = λ x. Plays x e e' before after in
-    let B : Engine → Type 0 = λ x. Plays (length s.steps) x e' before after in
-    let C : Option Log → Type 0 = λ x. Plays (length s.steps) (begin (start s.config)) e' x after in
-    let played : IsPlayed (length s.steps) (begin (start s.config)) e' (loaded s.steps) after = subst C loads (subst B new (subst A count plays)) refl whole in
+-- it leads to the state and the links of the replay, and the port tells of it
+pub IsReplayed-run : (s : Scenario) (n : ℕ) (e e' : Engine) (before after : Option Log) (links : List (List ℕ)) (state : Exchange → Type 0)
+    → n ≡ length s.steps → e ≡ begin (start s.config) → before ≡ Some (loaded s.steps) → Plays n e e' before after state → e'.starved ≡ None
+    → IfSome after (λ a. a.links ≡ links) → ((a : Log) → after ≡ Some a → SpellLegal a.links) → IsReplayed state s e'.talk links after
+IsReplayed-run s n e e' before after links state count new loads plays whole ties legal =
+    let A : ℕ → Type 0 = λ x. Plays x e e' before after state in
+    let B : Engine → Type 0 = λ x. Plays (length s.steps) x e' before after state in
+    let C : Option Log → Type 0 = λ x. Plays (length s.steps) (begin (start s.config)) e' x after state in
+    let played : IsPlayed (length s.steps) (begin (start s.config)) e' (loaded s.steps) after state =
+    subst C loads (subst B new (subst A count plays)) refl whole in
+    let answers = played.answers in
     record {
-      is = record {
-        talk_is = sym (ap (λ (x : Engine). x.talk) played.engine);
-        links_are = sym (ties_at after (replayed_log s) links played.told ties);
-      };
-      told = played.told;
+      answers = answers;
+      may = record { answered = played.answered; allowed = played.exchanged };
+      talk_is = sym (ap (λ (x : Engine). x.talk) played.engine);
+      links_are = sym (ties_at after (replayed_log s answers) links played.told ties);
+      told = record { told = played.told; legal = legal (replayed_log s answers) played.told };
     }
 
 pub none_from : {A : Type 0} (o : Option A) → is_some o ≡ false → o ≡ None
 none_from None h = refl
 none_from (Some x) h = cc
 
+-- ---- who authenticates
+
+Allows-more : (state more : Exchange → Type 0) (exchange : Exchange) → ((x : Exchange) → state x → more x) → Allows state exchange → Allows more exchange
+Allows-more state more [] f h = tt
+Allows-more state more (first ∷ rest) f h = f (first ∷ rest) h
+
+-- what one state allows another allows too
+pub IsReplayed-more : (state more : Exchange → Type 0) (s : Scenario) (t : Talk) (links : List (List ℕ)) (log : Option Log)
+    → ((x : Exchange) → state x → more x) → IsReplayed state s t links log → IsReplayed more s t links log
+IsReplayed-more state more s t links log f is =
+    record {
+      answers = is.answers;
+      may = record {
+        answered = is.may.answered;
+        allowed = Allows-more state more (replayed_exchange s is.answers) f is.may.allowed;
+      };
+      talk_is = is.talk_is;
+      links_are = is.links_are;
+      told = is.told;
+    }
+
+-- the same of a run that had the memory that it needs
+pub IsReplayed-ran : {E : Type 0} (ran : Result Engine E) (state more : Exchange → Type 0) (s : Scenario) (links : List (List ℕ)) (log : Option Log)
+    → ((x : Exchange) → state x → more x) → IfOk ran (λ e. IsReplayed state s e.talk links log) → IfOk ran (λ e. IsReplayed more s e.talk links log)
+IsReplayed-ran (Ok e) state more s links log f is = IsReplayed-more state more s e.talk links log f is
+IsReplayed-ran (Err e) state more s links log f is = tt
+
+-- the provider that was handed was chosen
+pub chosen-handed : {A : Type 0} (allows : A → Exchange → Type 0) (said : Bool) (handed : Option A) (a : A) (own : Exchange → Type 0)
+    → Some a ≡ (if said then handed else None) → (x : Exchange) → allows a x → MatchBool said (handed_state allows handed x) (own x)
+chosen-handed allows false handed a own is x h = cc
+chosen-handed allows true handed a own is x h =
+    let P : Option _ → Type 0 = λ o. handed_state allows o x in
+    subst P is h
+
+-- none was
+pub chosen-own : {A : Type 0} (allows : A → Exchange → Type 0) (said : Bool) (handed : Option A) (own : Exchange → Type 0)
+    → None ≡ (if said then handed else None) → (x : Exchange) → own x → MatchBool said (handed_state allows handed x) (own x)
+chosen-own allows false handed own is x h = h
+chosen-own allows true handed own is x h =
+    let P : Option _ → Type 0 = λ o. handed_state allows o x in
+    subst P is tt
+
+-- the provider that goes by an address
+pub by-address : {E : Type 0} (ran : Result Engine E) (own made : DefaultAuth) (s : Scenario) (links : List (List ℕ)) (log : Option Log)
+    → own ≡ made → IfOk ran (λ e. IsReplayed (answers_of own) s e.talk links log) → IfOk ran (λ e. IsReplayed (answers_of made) s e.talk links log)
+by-address ran own made s links log is h =
+    let P : DefaultAuth → Type 0 = λ d. IfOk ran (λ e. IsReplayed (answers_of d) s e.talk links log) in
+    subst P is h
+
 -- ---- what is printed of it
 
-pub reported-printout : (s : Scenario) (t : Talk) (links : List (List ℕ)) (p : Printout) → p ≡ reported links t → IsReplayed s t links
-    → p ≡ printout (Ok s)
-reported-printout s t links p made is =
-    made ∙ ap (λ (x : List (List ℕ)). reported x t) is.links_are ∙ ap (reported (replayed_links s)) is.talk_is
+pub IsMade-reported : (state : Scenario → Exchange → Type 0) (s : Scenario) (t : Talk) (links : List (List ℕ)) (log : Option Log) (p : Printout)
+    → p ≡ reported links t → IsReplayed (state s) s t links log → IsMade state (Ok s) printout log p
+IsMade-reported state s t links log p made is =
+    record {
+      answers = is.answers;
+      may = is.may;
+      told = is.told;
+      is = made ∙ ap (λ (x : List (List ℕ)). reported x t) is.links_are ∙ ap (reported (replayed_links s is.answers)) is.talk_is;
+    }
 
-pub summed-printout : (script : List ℕ) (s : Scenario) (t : Talk) (links : List (List ℕ)) (p : Printout) → p ≡ summed script links t
-    → IsReplayed s t links → p ≡ generated_printout script (Ok s)
-summed-printout script s t links p made is =
-    made ∙ ap (λ (x : List (List ℕ)). summed script x t) is.links_are ∙ ap (summed script (replayed_links s)) is.talk_is
+pub IsMade-summed : (state : Scenario → Exchange → Type 0) (script : List ℕ) (s : Scenario) (t : Talk) (links : List (List ℕ)) (log : Option Log)
+    (p : Printout) → p ≡ summed script links t → IsReplayed (state s) s t links log → IsMade state (Ok s) (generated_printout script) log p
+IsMade-summed state script s t links log p made is =
+    record {
+      answers = is.answers;
+      may = is.may;
+      told = is.told;
+      is = made ∙ ap (λ (x : List (List ℕ)). summed script x t) is.links_are ∙ ap (summed script (replayed_links s is.answers)) is.talk_is;
+    }

@@ -1,6 +1,8 @@
 -- Which statuses a printout has.
-use Rattle.std.proofs.Common.{◌≡◌, ◌≢◌, ◌<◌, ◌⊎◌, sym, inl, inr, refl, ℕ, List, take, Option, Some, None, IfSome, Result, Ok, Err, ap, ◌∙◌, subst, arith}
+use Rattle.std.proofs.Common.{◌≡◌, ◌≢◌, ◌<◌, ◌⊎◌, sym, inl, inr, refl, ℕ, Bool, List, take, Option, Some, None, IfSome, Result, Ok, Err, ap, ◌∙◌, subst, arith}
+use Rattle.amqp_session.specs.declared.auth.asked.Asked.{Asked}
 use Rattle.amqp_session.specs.declared.error.ErrorKind.{ErrorKind}
+use Rattle.amqp_session.specs.Providers.{Exchange}
 use Rattle.amqp_session.specs.Talk.{end_of}
 use Rattle.amqp_engine.specs.Log.{Log}
 use Rattle.amqp_replay.specs.declared.limits.TheConstants.{MOST_READ}
@@ -8,7 +10,7 @@ use Rattle.amqp_replay.specs.declared.status.TheConstants.{CLOSED, REFUSED, USAG
 use Rattle.amqp_replay.specs.Grammar.{Scenario, parsed}
 use Rattle.amqp_replay.proofs.MostRead.{parsed-most}
 use Rattle.amqp_replay.specs.Report.{Printout}
-use Rattle.amqp_replay.specs.Top.{end_status, replayed_talk, printout, generated_printout, TellsReplay, Prints, Replays, ReplaysSome, IsSilent, IsStatus}
+use Rattle.amqp_replay.specs.Top.{provider_state, MayAnswer, end_status, replayed_talk, printout, generated_printout, TellsReplay, Prints, Replays, ReplaysSome, IsSilent, IsStatus}
 
 -- a status with which something is printed, though nothing failed
 pub record IsLoud (status : ℕ) : Type 0 where
@@ -32,13 +34,14 @@ loud_end None = loud_status RUNNING (inr (inr refl))
 loud_end (Some (Ok closed)) = loud_status CLOSED (inl (omega arith))
 loud_end (Some (Err e)) = loud_status FAILED (inr (inl refl))
 
-pub printout-IsLoud : (script : Result Scenario ℕ) → IsLoud (printout script).status
-printout-IsLoud (Err number) = loud_status REFUSED (inl (omega arith))
-printout-IsLoud (Ok s) = loud_end (end_of (replayed_talk s))
+pub printout-IsLoud : (script : Result Scenario ℕ) (answers : List Asked) → IsLoud (printout script answers).status
+printout-IsLoud (Err number) answers = loud_status REFUSED (inl (omega arith))
+printout-IsLoud (Ok s) answers = loud_end (end_of (replayed_talk s answers))
 
-pub generated_printout-IsLoud : (script : List ℕ) (read : Result Scenario ℕ) → IsLoud (generated_printout script read).status
-generated_printout-IsLoud script (Err number) = loud_status REFUSED (inl (omega arith))
-generated_printout-IsLoud script (Ok s) = loud_end (end_of (replayed_talk s))
+pub generated_printout-IsLoud : (script : List ℕ) (read : Result Scenario ℕ) (answers : List Asked)
+    → IsLoud (generated_printout script read answers).status
+generated_printout-IsLoud script (Err number) answers = loud_status REFUSED (inl (omega arith))
+generated_printout-IsLoud script (Ok s) answers = loud_end (end_of (replayed_talk s answers))
 
 -- ---- a printout that was written
 
@@ -81,32 +84,46 @@ written R p before after status loud cause (inr front) = written_front R before 
 
 -- ---- a script that was read and answered
 
-pub ReplaysSome-read : (left : Option (List ℕ)) (log : Option Log) (before after : Option (List ℕ)) (status : ℕ) (script : List ℕ)
-    → IfSome left (λ all. script ≡ take MOST_READ all) → IsSilent status ⊎ Replays script log before after status
-    → IsSilent status ⊎ ReplaysSome left log before after status
-ReplaysSome-read left log before after status script read (inl silent) = inl silent
-ReplaysSome-read left log before after status script read (inr answers) =
-    inr (record { script = script; read = read; replays = answers })
+pub ReplaysSome-read : (is_handed : Bool) (handed : Exchange → Type 0) (left : Option (List ℕ)) (log : Option Log) (before after : Option (List ℕ))
+    (status : ℕ) (script : List ℕ)
+    → IfSome left (λ all. script ≡ take MOST_READ all) → IsSilent status ⊎ Replays is_handed handed script log before after status
+    → IsSilent status ⊎ ReplaysSome is_handed handed left log before after status
+ReplaysSome-read is_handed handed left log before after status script read (inl silent) = inl silent
+ReplaysSome-read is_handed handed left log before after status script read (inr replays) =
+    inr (record { script = script; read = read; replays = replays })
 
 -- where the source told all that it had, all of it was answered
-pub Replays-told : (left : Option (List ℕ)) (log : Option Log) (before after : Option (List ℕ)) (status : ℕ) (script : List ℕ)
-    → IfSome left (λ all. script ≡ take MOST_READ all) → IsSilent status ⊎ Replays script log before after status
-    → IfSome left (λ all. IsSilent status ⊎ Replays all log before after status)
-Replays-told None log before after status script read outcome = tt
-Replays-told (Some all) log before after status script read (inl silent) = inl silent
-Replays-told (Some all) log before after status script read (inr answers) =
-    let same : parsed script ≡ parsed all = ap parsed read ∙ parsed-most all in
-    let P : Result Scenario ℕ → Type 0 = λ r. TellsReplay r log in
-    let Q : Result Scenario ℕ → Type 0 = λ r. Prints (printout r) before after status in
-    inr (record { told = subst P same answers.told; prints = subst Q same answers.prints })
+pub Replays-told : (is_handed : Bool) (handed : Exchange → Type 0) (left : Option (List ℕ)) (log : Option Log) (before after : Option (List ℕ))
+    (status : ℕ) (script : List ℕ)
+    → IfSome left (λ all. script ≡ take MOST_READ all) → IsSilent status ⊎ Replays is_handed handed script log before after status
+    → IfSome left (λ all. IsSilent status ⊎ Replays is_handed handed all log before after status)
+Replays-told is_handed handed None log before after status script read outcome = tt
+Replays-told is_handed handed (Some all) log before after status script read (inl silent) = inl silent
+Replays-told is_handed handed (Some all) log before after status script read (inr replays) =
+    let answers = replays.answers in
+    let same : parsed is_handed script ≡ parsed is_handed all = ap (parsed is_handed) read ∙ parsed-most is_handed all in
+    let M : Result Scenario ℕ → Type 0 = λ r. MayAnswer (provider_state handed) r answers in
+    let P : Result Scenario ℕ → Type 0 = λ r. TellsReplay r answers log in
+    let Q : Result Scenario ℕ → Type 0 = λ r. Prints (printout r answers) before after status in
+    inr (record {
+      answers = answers;
+      may = subst M same replays.may;
+      told = subst P same replays.told;
+      prints = subst Q same replays.prints;
+    })
 
-of_prints : (script : List ℕ) (before after : Option (List ℕ)) (status : ℕ) → Prints (printout (parsed script)) before after status
-    → IsStatus script status
-of_prints script before after status (inl whole) = inr (inr whole.0)
-of_prints script before after status (inr front) = inr (inl front.0)
+of_prints : (is_handed : Bool) (handed : Exchange → Type 0) (script : List ℕ) (answers : List Asked) (before after : Option (List ℕ)) (status : ℕ)
+    → MayAnswer (provider_state handed) (parsed is_handed script) answers
+    → Prints (printout (parsed is_handed script) answers) before after status
+    → IsStatus is_handed handed script status
+of_prints is_handed handed script answers before after status may (inl whole) =
+    inr (inr (record { answers = answers; may = may; is = whole.0 }))
+of_prints is_handed handed script answers before after status may (inr front) = inr (inl front.0)
 
-pub IsStatus-told : (left : Option (List ℕ)) (log : Option Log) (before after : Option (List ℕ)) (status : ℕ)
-    → IfSome left (λ all. IsSilent status ⊎ Replays all log before after status) → IfSome left (λ all. IsStatus all status)
-IsStatus-told None log before after status outcome = tt
-IsStatus-told (Some all) log before after status (inl silent) = inl silent
-IsStatus-told (Some all) log before after status (inr answers) = of_prints all before after status answers.prints
+pub IsStatus-told : (is_handed : Bool) (handed : Exchange → Type 0) (left : Option (List ℕ)) (log : Option Log) (before after : Option (List ℕ))
+    (status : ℕ) → IfSome left (λ all. IsSilent status ⊎ Replays is_handed handed all log before after status)
+    → IfSome left (λ all. IsStatus is_handed handed all status)
+IsStatus-told is_handed handed None log before after status outcome = tt
+IsStatus-told is_handed handed (Some all) log before after status (inl silent) = inl silent
+IsStatus-told is_handed handed (Some all) log before after status (inr replays) =
+    of_prints is_handed handed all replays.answers before after status replays.may replays.prints

@@ -295,9 +295,11 @@ limited left said = said
 
 -- ---- scripts
 
--- what a script says: what the session is made from, and the steps that are played
+-- what a script says: what the session is made from, whether the provider that was handed authenticates it, and the
+-- steps that are played
 pub record Scenario : Type 0 where
   pub config : Config
+  pub handed : Bool
   pub steps : List Given
 
 -- a setting that may not stand where the lines have come is refused
@@ -340,12 +342,13 @@ before at _ number rest = rest
 -- what these lines say where the lines before them have come so far, after a step of this moment, or the number of the
 -- first one that is refused, where so many zeros may still be spelled by numbers
 abbrev pub scenario_of : Progress → ℕ → ℕ → List Line → Result Scenario ℕ
-scenario_of p at left [] = Ok (record { config = p.config; steps = [] })
+scenario_of p at left [] = Ok (record { config = p.config; handed = p.has_provider; steps = [] })
 scenario_of p at left (line ∷ lines) =
     let said = placed p (limited left (says line)) in
     let now = moment_after at said line.content in
     before now said line.number (scenario_of (progress_after p said) now (left - zeros_in said) lines)
 
--- what a script says, whose moments begin at 0, or the number of its first line that is refused
-abbrev pub parsed : List ℕ → Result Scenario ℕ
-parsed text = scenario_of no_lines 0 ZERO_BYTES (lines text)
+-- what a script says, whose moments begin at 0, or the number of its first line that is refused; a provider was handed
+-- to the program or not
+abbrev pub parsed : Bool → List ℕ → Result Scenario ℕ
+parsed is_handed text = scenario_of (no_lines is_handed) 0 ZERO_BYTES (lines text)

@@ -20,3 +20,5 @@ pub mod Summary
 pub mod Generator
 -- What the program promises.
 pub mod Top
+-- What the contracts of its private calls say of a run.
+pub mod Runs

@@ -6,7 +6,7 @@ use Rattle.amqp_uri.specs.Address.{local, parsed as address_of}
 use Rattle.amqp_session.specs.Config.{Options, Config, config_of, no_options, with_locale, with_name, with_property}
 use Rattle.amqp_replay.specs.declared.limits.TheConstants.{TEXT_BYTES}
 use Rattle.amqp_replay.specs.declared.setup.Setting.{Setting}
-use Rattle.amqp_replay.specs.declared.setup.Setting.TheVariants.{Uri, Locale, Name, Property}
+use Rattle.amqp_replay.specs.declared.setup.Setting.TheVariants.{Uri, Locale, Name, Property, Provider}
 use Rattle.amqp_replay.specs.Words.{first_word, after_word}
 
 -- ---- what a line sets
@@ -15,7 +15,8 @@ use Rattle.amqp_replay.specs.Words.{first_word, after_word}
 abbrev pub is_setup_word : List ℕ → Bool
 is_setup_word word =
     bytes_eq word (codes "uri")
-    || (bytes_eq word (codes "locale") || (bytes_eq word (codes "name") || bytes_eq word (codes "property")))
+    || (bytes_eq word (codes "locale")
+    || (bytes_eq word (codes "name") || (bytes_eq word (codes "property") || bytes_eq word (codes "provider"))))
 
 -- a line that begins with such a word
 abbrev pub is_setup : List ℕ → Bool
@@ -43,12 +44,18 @@ property_in None = None
 property_in (Some words) =
     if is_key (first_word words) then option_map (Property (first_word words)) (text_in (after_word words)) else None
 
+-- `provider handed`
+abbrev pub provider_in : Option (List ℕ) → Option Setting
+provider_in None = None
+provider_in (Some text) = if bytes_eq text (codes "handed") then Some Provider else None
+
 -- a line that says something of the client: it begins with this word and goes on like this
 abbrev pub option_by : List ℕ → Option (List ℕ) → Option Setting
 option_by word rest =
     if bytes_eq word (codes "locale") then option_map Locale (text_in rest)
     else if bytes_eq word (codes "name") then option_map Name (text_in rest)
     else if bytes_eq word (codes "property") then property_in rest
+    else if bytes_eq word (codes "provider") then provider_in rest
     else None
 
 -- a line that begins with this word and goes on like this
@@ -65,29 +72,35 @@ setting_of content = setting_by (first_word content) (after_word content)
 pub record Progress : Type 0 where
   -- what the session is made from, by the settings so far
   pub config : Config
+  -- whether a provider was handed to the program
+  pub is_handed : Bool
   -- whether a line said each of those that at most one line may say, and whether one said a step
   pub has_uri : Bool
   pub has_locale : Bool
   pub has_name : Bool
+  pub has_provider : Bool
   pub has_step : Bool
 
--- before the first line: the broker of this machine, and nothing said of the client
-abbrev pub no_lines : Progress
-no_lines =
+-- before the first line: the broker of this machine, and nothing said of the client; a provider was handed or not
+abbrev pub no_lines : Bool → Progress
+no_lines is_handed =
     record {
       config = config_of local no_options;
+      is_handed = is_handed;
       has_uri = false;
       has_locale = false;
       has_name = false;
+      has_provider = false;
       has_step = false;
     }
 
--- a setting may stand before all steps alone, and each but a property once
+-- a setting may stand before all steps alone, and each but a property once; a provider must have been handed
 abbrev pub may_stand : Setting → Progress → Bool
 may_stand (Uri uri) p = not (p.has_step || p.has_uri)
 may_stand (Locale locale) p = not (p.has_step || p.has_locale)
 may_stand (Name name) p = not (p.has_step || p.has_name)
 may_stand (Property key text) p = not p.has_step
+may_stand Provider p = p.is_handed && not (p.has_step || p.has_provider)
 
 -- the options are changed alone
 abbrev pub with_options : (Options → Options) → Config → Config
@@ -99,6 +112,7 @@ after_setting (Uri uri) p = record p { config = config_of uri p.config.options; 
 after_setting (Locale locale) p = record p { config = with_options (with_locale locale) p.config; has_locale = true }
 after_setting (Name name) p = record p { config = with_options (with_name name) p.config; has_name = true }
 after_setting (Property key text) p = record p { config = with_options (with_property key text) p.config }
+after_setting Provider p = record p { has_provider = true }
 
 -- after a step
 abbrev pub after_step : Progress → Progress

@@ -1,12 +1,15 @@
 -- What the program promises: the status, what is printed, and what the port tells.
-use Rattle.std.specs.Prelude.{◌≡◌, ◌⊎◌, ◌++◌, ℕ, List, take, Option, Some, None, IfSome, option_map, Result, Ok, Err}
+use Rattle.std.specs.Prelude.{◌≡◌, ◌⊎◌, ◌++◌, ℕ, Bool, false, MatchBool, List, take, Option, Some, None, IfSome, option_map, Result, Ok, Err}
+use Rattle.amqp_session.specs.declared.auth.asked.Asked.{Asked}
 use Rattle.amqp_session.specs.declared.error.ErrorKind.{ErrorKind}
+use Rattle.amqp_session.specs.Providers.{Exchange, Allows}
+use Rattle.amqp_session.specs.DefaultAnswers.{DefaultAuth, default_of, default_answer, AreAnswers}
 use Rattle.amqp_session.specs.Talk.{Talk, start, end_of}
 use Rattle.amqp_engine.specs.Log.{Log, loaded}
 use Rattle.amqp_engine.specs.Engine.{begin}
-use Rattle.amqp_engine.specs.Turn.{Turn, talk}
+use Rattle.amqp_engine.specs.Turn.{Turn, talk, exchanges}
 use Rattle.amqp_engine.specs.Tell.{log_turns}
-use Rattle.amqp_engine.specs.Play.{replayed}
+use Rattle.amqp_engine.specs.Play.{replayed, AreAnswered}
 use Rattle.amqp_engine.specs.Saying.{SpellLegal}
 use Rattle.amqp_replay.specs.declared.limits.TheConstants.{MOST_READ}
 use Rattle.amqp_replay.specs.declared.status.TheConstants.{CLOSED, REFUSED, USAGE, SOURCE_FAILED, SINK_FAILED, FAILED, RUNNING, NO_MEMORY}
@@ -15,36 +18,65 @@ use Rattle.amqp_replay.specs.Generator.{generated}
 use Rattle.amqp_replay.specs.Report.{Printout, report, refusal}
 use Rattle.amqp_replay.specs.Summary.{summary}
 
--- ---- a replay, as a function of what its script says
+-- ---- a replay, as a function of what its script says, and of what the provider answers in all turns, in order
 
 -- its turns
-abbrev pub replayed_turns : Scenario → List Turn
-replayed_turns s = replayed s.config s.steps
+abbrev pub replayed_turns : Scenario → List Asked → List Turn
+replayed_turns s answers = replayed s.config s.steps answers
 
 -- what the port tells
-abbrev pub replayed_log : Scenario → Log
-replayed_log s = log_turns (replayed_turns s) (begin (start s.config)) (loaded s.steps)
+abbrev pub replayed_log : Scenario → List Asked → Log
+replayed_log s answers = log_turns (replayed_turns s answers) (begin (start s.config)) (loaded s.steps)
 
 -- the bytes of each link
-abbrev pub replayed_links : Scenario → List (List ℕ)
-replayed_links s = (replayed_log s).links
+abbrev pub replayed_links : Scenario → List Asked → List (List ℕ)
+replayed_links s answers = (replayed_log s answers).links
 
 -- the state of the session that it leads to
-abbrev pub replayed_talk : Scenario → Talk
-replayed_talk s = talk s.config (replayed_turns s)
+abbrev pub replayed_talk : Scenario → List Asked → Talk
+replayed_talk s answers = talk s.config (replayed_turns s answers)
+
+-- what the provider is asked, with these answers
+abbrev pub replayed_exchange : Scenario → List Asked → Exchange
+replayed_exchange s answers = exchanges (replayed_turns s answers) (begin (start s.config))
+
+-- ---- who authenticates, and what may be answered
+
+-- the state of a provider that was handed, where one was
+abbrev pub handed_state : {A : Type 0} → (A → Exchange → Type 0) → Option A → Exchange → Type 0
+handed_state allows None exchange = Unit {0}
+handed_state allows (Some a) exchange = allows a exchange
+
+-- the exchanges of a provider
+abbrev pub answers_of : DefaultAuth → Exchange → Type 0
+answers_of own exchange = AreAnswers (default_answer own.mechanism own.login) exchange
+
+-- those of the provider that goes by the address of a scenario
+abbrev pub own_state : Scenario → Exchange → Type 0
+own_state s exchange = answers_of (default_of s.config.uri) exchange
+
+-- the state of who authenticates: of the provider that was handed, where the script says so, and else of that of the
+-- address
+abbrev pub provider_state : (Exchange → Type 0) → Scenario → Exchange → Type 0
+provider_state handed s exchange = MatchBool s.handed (handed exchange) (own_state s exchange)
+
+-- these are the answers of a run: one to each question, and a provider in this state may give them
+pub record AreRunAnswers (state : Exchange → Type 0) (s : Scenario) (answers : List Asked) : Type 0 where
+  pub answered : AreAnswered (replayed_turns s answers) (begin (start s.config))
+  pub allowed : Allows state (replayed_exchange s answers)
+
+-- these are the answers of the run of a script, where none of its lines is refused
+abbrev pub MayAnswer : (Scenario → Exchange → Type 0) → Result Scenario ℕ → List Asked → Type 0
+MayAnswer state (Err number) answers = Unit {0}
+MayAnswer state (Ok s) answers = AreRunAnswers (state s) s answers
+
+-- ---- what is printed of a run, and with which status
 
 -- the status that goes with the end of a session
 abbrev pub end_status : Option (Result (Unit {0}) ErrorKind) → ℕ
 end_status None = RUNNING
 end_status (Some (Ok closed)) = CLOSED
 end_status (Some (Err e)) = FAILED
-
--- an engine's state, and the links that its port tells, are those of the replay
-pub record IsReplayed (s : Scenario) (t : Talk) (links : List (List ℕ)) : Type 0 where
-  pub talk_is : t ≡ replayed_talk s
-  pub links_are : links ≡ replayed_links s
-
--- ---- what is printed of a run, and with which status
 
 -- its report
 abbrev pub reported : List (List ℕ) → Talk → Printout
@@ -57,25 +89,25 @@ summed script links t = record { status = end_status (end_of t); text = script +
 -- ---- what is printed of a script, and with which status
 
 -- what is printed of what a script says
-abbrev pub printout : Result Scenario ℕ → Printout
-printout (Err number) = record { status = REFUSED; text = refusal number }
-printout (Ok s) = reported (replayed_links s) (replayed_talk s)
+abbrev pub printout : Result Scenario ℕ → List Asked → Printout
+printout (Err number) answers = record { status = REFUSED; text = refusal number }
+printout (Ok s) answers = reported (replayed_links s answers) (replayed_talk s answers)
 
 -- what is printed of a generated script, by what it says
-abbrev pub generated_printout : List ℕ → Result Scenario ℕ → Printout
-generated_printout script (Err number) = record { status = REFUSED; text = refusal number }
-generated_printout script (Ok s) = summed script (replayed_links s) (replayed_talk s)
+abbrev pub generated_printout : List ℕ → Result Scenario ℕ → List Asked → Printout
+generated_printout script (Err number) answers = record { status = REFUSED; text = refusal number }
+generated_printout script (Ok s) answers = summed script (replayed_links s answers) (replayed_talk s answers)
 
 -- the port tells of the run: its steps, the writes to it with their answers, and the bytes of the links, which are
 -- printed; on each link they spell the frames of a legal conversation, in order, and then a part of one more
-pub record TellsRun (s : Scenario) (log : Option Log) : Type 0 where
-  pub told : log ≡ Some (replayed_log s)
-  pub legal : SpellLegal (replayed_links s)
+pub record TellsRun (s : Scenario) (answers : List Asked) (log : Option Log) : Type 0 where
+  pub told : log ≡ Some (replayed_log s answers)
+  pub legal : SpellLegal (replayed_links s answers)
 
 -- the port tells of the run of a script of which no line is refused
-abbrev pub TellsReplay : Result Scenario ℕ → Option Log → Type 0
-TellsReplay (Err number) log = Unit {0}
-TellsReplay (Ok s) log = TellsRun s log
+abbrev pub TellsReplay : Result Scenario ℕ → List Asked → Option Log → Type 0
+TellsReplay (Err number) answers log = Unit {0}
+TellsReplay (Ok s) answers log = TellsRun s answers log
 
 -- ---- what happened to a sink
 
@@ -94,28 +126,42 @@ Prints p before after status =
 
 -- ---- what the program did
 
--- a script was answered: the sink took what is printed of it, and the port tells of its run
-pub record Replays (script : List ℕ) (log : Option Log) (before after : Option (List ℕ)) (status : ℕ) : Type 0 where
-  pub told : TellsReplay (parsed script) log
-  pub prints : Prints (printout (parsed script)) before after status
+-- a script was answered, a provider being handed in this state or none: with some answers that who authenticates may
+-- give, the sink took what is printed of it, and the port tells of its run
+pub record Replays (is_handed : Bool) (handed : Exchange → Type 0) (script : List ℕ) (log : Option Log)
+    (before after : Option (List ℕ)) (status : ℕ) : Type 0 where
+  pub answers : List Asked
+  pub may : MayAnswer (provider_state handed) (parsed is_handed script) answers
+  pub told : TellsReplay (parsed is_handed script) answers log
+  pub prints : Prints (printout (parsed is_handed script) answers) before after status
 
 -- some script was answered, which is all that the source had, or as much of it as is ever read
-pub record ReplaysSome (left : Option (List ℕ)) (log : Option Log) (before after : Option (List ℕ)) (status : ℕ)
-    : Type 0 where
+pub record ReplaysSome (is_handed : Bool) (handed : Exchange → Type 0) (left : Option (List ℕ)) (log : Option Log)
+    (before after : Option (List ℕ)) (status : ℕ) : Type 0 where
   pub script : List ℕ
   pub read : IfSome left (λ all. script ≡ take MOST_READ all)
-  pub replays : Replays script log before after status
+  pub replays : Replays is_handed handed script log before after status
 
--- a number was answered: the sink took the script that it makes, with the summary of its run, and the port tells of
--- that run
+-- a number was answered: with the answers of the provider of the address, the sink took the script that the number
+-- makes, with the summary of its run, and the port tells of that run
 pub record Generates (count : ℕ) (log : Option Log) (before after : Option (List ℕ)) (status : ℕ) : Type 0 where
-  pub told : TellsReplay (parsed (generated count)) log
-  pub prints : Prints (generated_printout (generated count) (parsed (generated count))) before after status
+  pub answers : List Asked
+  pub may : MayAnswer own_state (parsed false (generated count)) answers
+  pub told : TellsReplay (parsed false (generated count)) answers log
+  pub prints :
+      Prints (generated_printout (generated count) (parsed false (generated count)) answers) before after status
 
 -- wrong words, a source that failed, and want of memory print nothing
 abbrev pub IsSilent : ℕ → Type 0
 IsSilent status = (status ≡ USAGE) ⊎ (status ≡ SOURCE_FAILED) ⊎ (status ≡ NO_MEMORY)
 
+-- the status is that of the printout, with some answers that who authenticates may give
+pub record IsPrinted (is_handed : Bool) (handed : Exchange → Type 0) (script : List ℕ) (status : ℕ) : Type 0 where
+  pub answers : List Asked
+  pub may : MayAnswer (provider_state handed) (parsed is_handed script) answers
+  pub is : status ≡ (printout (parsed is_handed script) answers).status
+
 -- unless something failed, the status is that of the printout
-abbrev pub IsStatus : List ℕ → ℕ → Type 0
-IsStatus script status = IsSilent status ⊎ (status ≡ SINK_FAILED) ⊎ (status ≡ (printout (parsed script)).status)
+abbrev pub IsStatus : Bool → (Exchange → Type 0) → List ℕ → ℕ → Type 0
+IsStatus is_handed handed script status =
+    IsSilent status ⊎ (status ≡ SINK_FAILED) ⊎ IsPrinted is_handed handed script status

@@ -1,14 +1,32 @@
 //! What holds of all replays.
 
-ghost use Rattle.std.specs.Prelude.{◌≡◌, map};
+ghost use Rattle.std.specs.Prelude.{◌≡◌, List, ℕ, Ok, false, map};
 ghost use Rattle.std.specs.List.{AllByRecursion};
+ghost use Rattle.amqp_session.specs.declared.auth.asked.Asked.{Asked};
+ghost use Rattle.amqp_session.specs.Talk.{start};
+ghost use Rattle.amqp_engine.specs.Engine.{begin};
+ghost use Rattle.amqp_engine.specs.Play.{AreAnswered};
 ghost use Rattle.amqp_engine.specs.Sending.{sendings, link_bytes, SendsInOrder};
-ghost use Rattle.amqp_replay.specs.Grammar.{Scenario};
+ghost use Rattle.amqp_replay.specs.Grammar.{Scenario, parsed};
 ghost use Rattle.amqp_replay.specs.Top.{replayed_turns, replayed_links};
 
+use amqp_engine::{a_link_has_the_frames_sent, a_script_has_its_turns};
+
 /// The bytes that a report prints of each link are the spellings of the frames that were sent on it,
-/// in order, and then a part of the next one.
+/// in order, and then a part of the next one, whatever the provider answers.
 pub fn a_report_has_the_frames_sent()
-    ensures bytes { (s : Scenario) → replayed_links s ≡ map link_bytes (sendings s.config (replayed_turns s)) }
-    ensures order { (s : Scenario) → AllByRecursion SendsInOrder (sendings s.config (replayed_turns s)) }
+    ensures bytes { (s : Scenario) (answers : List Asked)
+        → AreAnswered (replayed_turns s answers) (begin (start s.config))
+        → replayed_links s answers ≡ map link_bytes (sendings s.config (replayed_turns s answers)) }
+    ensures order { (s : Scenario) (answers : List Asked)
+        → AreAnswered (replayed_turns s answers) (begin (start s.config))
+        → AllByRecursion SendsInOrder (sendings s.config (replayed_turns s answers)) }
+{
+    a_script_has_its_turns();
+    a_link_has_the_frames_sent();
+}
+
+/// No script is read so that it asks for a provider that was not handed.
+pub fn no_script_names_a_provider_that_was_not_handed()
+    ensures { (text : List ℕ) (s : Scenario) → parsed false text ≡ Ok s → s.handed ≡ false }
 {}

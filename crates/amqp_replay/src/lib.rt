@@ -27,7 +27,7 @@ mod transfer;
 mod words;
 
 pub use ends::{Gave, Put, Sink, Source};
-pub use laws::a_report_has_the_frames_sent;
+pub use laws::{a_report_has_the_frames_sent, no_script_names_a_provider_that_was_not_handed};
 pub use memory_ends::{MemorySink, MemorySource};
 pub use script::{ended_at, line_of_step};
 pub use stream_ends::{Reading, Writing};

@@ -25,6 +25,8 @@ pub struct Scenario {
     pub uri: AMQPUri,
     /// What is said of the client.
     pub options: ConnectionProperties,
+    /// Whether the provider of authentication that was handed to the program is used.
+    pub handed: bool,
     /// The steps that are played.
     pub steps: Vec<Given>,
 }
@@ -40,7 +42,11 @@ impl Model for Scenario {
 
     ghost coded = { Prim.hlevel (codes, value_code) };
 
-    ghost view = { λ s. record { config = config_of s.uri s.options; steps = s.steps.items } };
+    ghost view = { λ s. record {
+      config = config_of s.uri s.options;
+      handed = s.handed;
+      steps = s.steps.items;
+    } };
 }
 
 /// What was read of a script.
@@ -51,12 +57,12 @@ pub enum Script {
     Refused(u64),
 }
 
-/// What a script says.
-pub fn parse(alloc: Global, text: &[u8]) -> Result<Script, NoMemory>
-    ensures script { IfOk result (λ script. script_read script ≡ parsed text.now) }
+/// What a script says, where a provider of authentication was handed to the program or not.
+pub fn parse(alloc: Global, has_provider: bool, text: &[u8]) -> Result<Script, NoMemory>
+    ensures script { IfOk result (λ script. script_read script ≡ parsed has_provider text.now) }
     ensures pieces { IfOk result ScriptArePieces }
 {
-    let mut progress = Progress::new(alloc)?;
+    let mut progress = Progress::new(alloc, has_provider)?;
     let mut steps = Vec::new(alloc);
     let mut lines = Lines::new(text);
     // how many zeros may still be spelled by numbers
@@ -79,10 +85,12 @@ pub fn parse(alloc: Global, text: &[u8]) -> Result<Script, NoMemory>
             }
         }
     }
+    let handed = progress.has_provider();
     let (uri, options) = progress.into_config();
     Ok(Script::Played(Scenario {
         uri,
         options,
+        handed,
         steps,
     }))
 }

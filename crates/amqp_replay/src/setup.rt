@@ -4,8 +4,8 @@ ghost use Rattle.std.specs.Prelude.{◌≡◌, ◌<◌, length, Some, IfOk, opti
 ghost use Rattle.std.specs.Option.{option_copied};
 ghost use Rattle.std.specs.Str.{IsAscii};
 ghost use Rattle.amqp_session.specs.Config.{config_of};
-ghost use Rattle.amqp_replay.specs.declared.setup.Setting.TheVariants.{Uri, Locale, Name, Property};
-ghost use Rattle.amqp_replay.specs.Setup.{is_setup, uri_in, text_in, property_in, option_by, setting_of, no_lines, may_stand, after_setting, after_step, set_by};
+ghost use Rattle.amqp_replay.specs.declared.setup.Setting.TheVariants.{Uri, Locale, Name, Property, Provider};
+ghost use Rattle.amqp_replay.specs.Setup.{is_setup, uri_in, text_in, property_in, provider_in, option_by, setting_of, no_lines, may_stand, after_setting, after_step, set_by};
 
 use crate::limits::TEXT_BYTES;
 use crate::words::{cut, is};
@@ -26,6 +26,8 @@ pub enum Setting {
     Name(LongString),
     /// A property of the client: its key and its text.
     Property(ShortString, LongString),
+    /// The provider of authentication that was handed to the program.
+    Provider,
 }
 
 /// Whether a line begins with the word of a setup line.
@@ -33,7 +35,11 @@ pub fn is_setup(content: &[u8]) -> bool
     ensures { result ≡ is_setup content.now }
 {
     let (word, _) = cut(content, b' ');
-    is(word, b"uri") || is(word, b"locale") || is(word, b"name") || is(word, b"property")
+    is(word, b"uri")
+        || is(word, b"locale")
+        || is(word, b"name")
+        || is(word, b"property")
+        || is(word, b"provider")
 }
 
 /// What a line sets, where it sets anything.
@@ -75,6 +81,9 @@ fn option(alloc: Global, word: &[u8], rest: Option<&[u8]>) -> Result<Option<Sett
     }
     if is(word, b"property") {
         return Ok(property(alloc, rest)?);
+    }
+    if is(word, b"provider") {
+        return Ok(provider(rest));
     }
     Ok(None)
 }
@@ -134,6 +143,16 @@ fn property(alloc: Global, rest: Option<&[u8]>) -> Result<Option<Setting>, NoMem
     }
 }
 
+// `provider handed`
+fn provider(rest: Option<&[u8]>) -> Option<Setting>
+    ensures { result ≡ provider_in (option_copied rest.entry) }
+{
+    match rest {
+        Some(text) if is(text, b"handed") => Some(Setting::Provider),
+        _ => None,
+    }
+}
+
 // A property of this key and this text.
 fn keyed(alloc: Global, key: &[u8], text: ShortString) -> Result<Setting, NoMemory>
     requires { length key.now < 256 }
@@ -153,9 +172,11 @@ fn keyed(alloc: Global, key: &[u8], text: ShortString) -> Result<Setting, NoMemo
 pub struct Progress {
     uri: AMQPUri,
     options: ConnectionProperties,
+    is_handed: bool,
     has_uri: bool,
     has_locale: bool,
     has_name: bool,
+    has_provider: bool,
     has_step: bool,
 }
 
@@ -172,26 +193,31 @@ impl Model for Progress {
 
     ghost view = { λ p. record {
       config = config_of p.uri p.options;
+      is_handed = p.is_handed;
       has_uri = p.has_uri;
       has_locale = p.has_locale;
       has_name = p.has_name;
+      has_provider = p.has_provider;
       has_step = p.has_step;
     } };
 }
 
 impl Progress {
-    /// Before the first line: the broker of this machine, and nothing said of the client.
-    pub fn new(alloc: Global) -> Result<Progress, NoMemory>
-        ensures { IfOk result (λ p. p ≡ no_lines) }
+    /// Before the first line: the broker of this machine, and nothing said of the client. A provider of
+    /// authentication was handed to the program or not.
+    pub fn new(alloc: Global, is_handed: bool) -> Result<Progress, NoMemory>
+        ensures { IfOk result (λ p. p ≡ no_lines is_handed) }
     {
         let uri = AMQPUri::local(alloc)?;
         match ConnectionProperties::new(alloc) {
             Ok(options) => Ok(Progress {
                 uri,
                 options,
+                is_handed,
                 has_uri: false,
                 has_locale: false,
                 has_name: false,
+                has_provider: false,
                 has_step: false,
             }),
             Err(e) => {
@@ -206,6 +232,13 @@ impl Progress {
         ensures { config_of result.0 result.1 ≡ self.config }
     {
         (self.uri, self.options)
+    }
+
+    /// Whether the provider that was handed authenticates the session.
+    pub fn has_provider(&self) -> bool
+        ensures { result ≡ self.now.has_provider }
+    {
+        self.has_provider
     }
 
     /// A line said a step.
@@ -229,10 +262,12 @@ impl Progress {
             Setting::Locale(locale) => Ok(Some(self.with_locale(locale))),
             Setting::Name(name) => Ok(Some(self.with_name(alloc, name)?)),
             Setting::Property(key, text) => Ok(Some(self.with_property(key, text)?)),
+            Setting::Provider => Ok(Some(self.with_provider())),
         }
     }
 
-    // Whether a setting may stand there: before all steps, and each but a property once.
+    // Whether a setting may stand there: before all steps, and each but a property once. A provider
+    // must have been handed.
     fn may_stand(&self, setting: &Setting) -> bool
         ensures { result ≡ may_stand setting.now self.now }
     {
@@ -241,6 +276,7 @@ impl Progress {
             Setting::Locale(_) => !(self.has_step || self.has_locale),
             Setting::Name(_) => !(self.has_step || self.has_name),
             Setting::Property(_, _) => !self.has_step,
+            Setting::Provider => self.is_handed && !(self.has_step || self.has_provider),
         }
     }
 
@@ -251,9 +287,11 @@ impl Progress {
         Progress {
             uri,
             options: self.options,
+            is_handed: self.is_handed,
             has_uri: true,
             has_locale: self.has_locale,
             has_name: self.has_name,
+            has_provider: self.has_provider,
             has_step: self.has_step,
         }
     }
@@ -281,6 +319,15 @@ impl Progress {
                 drop(self.uri);
                 Err(e)
             }
+        }
+    }
+
+    fn with_provider(self) -> Progress
+        ensures { result ≡ after_setting Provider self }
+    {
+        Progress {
+            has_provider: true,
+            ..self
         }
     }
 

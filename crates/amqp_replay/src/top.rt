@@ -1,6 +1,6 @@
 //! The program, over what is handed to it.
 
-ghost use Rattle.std.specs.Prelude.{◌≡◌, ◌≢◌, ◌⊎◌, ◌↔◌, ℕ, length, Some, None, Ok, IfOk, IfSome, OnOk};
+ghost use Rattle.std.specs.Prelude.{◌≡◌, ◌≢◌, ◌⊎◌, ◌↔◌, ℕ, length, is_some, false, Some, None, Ok, IfOk, IfSome, OnOk, if◌then◌else◌};
 ghost use Rattle.std.specs.String.{string_bytes};
 ghost use Rattle.amqp_session.specs.Talk.{start, end_of};
 ghost use Rattle.amqp_engine.specs.Log.{loaded};
@@ -11,7 +11,8 @@ ghost use Rattle.amqp_replay.specs.Asked.{asked};
 ghost use Rattle.amqp_replay.specs.Grammar.{Scenario, parsed};
 ghost use Rattle.amqp_replay.specs.Generator.{generated};
 ghost use Rattle.amqp_replay.specs.Scripts.{script_read, ScriptArePieces};
-ghost use Rattle.amqp_replay.specs.Top.{end_status, reported, summed, printout, generated_printout, IsReplayed, TellsReplay, Prints, Replays, ReplaysSome, Generates, IsSilent, IsStatus};
+ghost use Rattle.amqp_replay.specs.Top.{handed_state, own_state, provider_state, end_status, reported, summed, printout, generated_printout, Prints, Replays, ReplaysSome, Generates, IsSilent, IsStatus};
+ghost use Rattle.amqp_replay.specs.Runs.{IsReplayed, IsMade};
 
 use crate::asked::{Asked, asked_by};
 use crate::ends::{Sink, Source};
@@ -24,30 +25,38 @@ use crate::status::{
 use crate::summary::put_summary;
 use crate::transfer::{ReadFault, SinkFailed, read_all, write_all};
 use amqp_engine::{IoLoop, ScriptedPort};
+use amqp_session::{AuthProvider, DefaultAuthProvider};
 use amqp_types::{NoMemory, Text};
 use std::alloc::Global;
 
 /// Answers the words of a command line, and gives the exit status. Asked to replay, it reads a script
 /// from a source, replays it over a port, and writes the report to a sink. Asked to generate, it reads
-/// nothing, replays the script that a number makes, and writes that script and a summary.
-pub fn top<S: Source, K: Sink, P: ScriptedPort>(
+/// nothing, replays the script that a number makes, and writes that script and a summary. A script may
+/// say that the provider of authentication that is handed here is used, where one is handed; else it is
+/// that of the address.
+pub fn top<S: Source, K: Sink, P: ScriptedPort, A: AuthProvider>(
     alloc: Global,
     words: &[Text],
     source: &mut S,
     sink: &mut K,
     port: &mut P,
+    handed: Option<A>,
 ) -> u8
+    requires { IfSome handed A.can }
     ensures usage { (result ≡ USAGE) ↔ (asked words.now ≡ None) }
     ensures source_failed { result ≡ SOURCE_FAILED → Rose (S.faults source.old) (S.faults source.new) }
     ensures sink_failed { result ≡ SINK_FAILED → Rose (K.faults sink.old) (K.faults sink.new) }
     ensures silent { IsSilent result → K.held sink.new ≡ K.held sink.old }
     ensures status { asked words.now ≡ Some Asked.Replay
-        → IfSome (S.left source.old) (λ script. IsStatus script result) }
+        → IfSome (S.left source.old)
+        (λ script. IsStatus (is_some handed) (handed_state A.allows handed) script result) }
     ensures outcome { asked words.now ≡ Some Asked.Replay
         → IfSome (S.left source.old) (λ script. IsSilent result
-        ⊎ Replays script (P.log port.new) (K.held sink.old) (K.held sink.new) result) }
+        ⊎ Replays (is_some handed) (handed_state A.allows handed) script (P.log port.new)
+        (K.held sink.old) (K.held sink.new) result) }
     ensures some_script { asked words.now ≡ Some Asked.Replay → IsSilent result
-        ⊎ ReplaysSome (S.left source.old) (P.log port.new) (K.held sink.old) (K.held sink.new) result }
+        ⊎ ReplaysSome (is_some handed) (handed_state A.allows handed) (S.left source.old) (P.log port.new)
+        (K.held sink.old) (K.held sink.new) result }
     ensures generated { (count : ℕ) → asked words.now ≡ Some (Asked.Generate count) → (result ≡ NO_MEMORY)
         ⊎ Generates count (P.log port.new) (K.held sink.old) (K.held sink.new) result }
     ensures unread { asked words.now ≢ Some Asked.Replay
@@ -57,44 +66,57 @@ pub fn top<S: Source, K: Sink, P: ScriptedPort>(
         return USAGE;
     };
     match what {
-        Asked::Replay => answer_source(alloc, source, sink, port),
+        Asked::Replay => answer_source(alloc, source, sink, port, handed),
         Asked::Generate(count) => answer_number(alloc, count, sink, port),
     }
 }
 
 // Answers the script that a source gives.
-fn answer_source<S: Source, K: Sink, P: ScriptedPort>(
+fn answer_source<S: Source, K: Sink, P: ScriptedPort, A: AuthProvider>(
     alloc: Global,
     source: &mut S,
     sink: &mut K,
     port: &mut P,
+    handed: Option<A>,
 ) -> u8
+    requires { IfSome handed A.can }
     ensures known { result ≢ USAGE }
     ensures source_failed { result ≡ SOURCE_FAILED → Rose (S.faults source.old) (S.faults source.new) }
     ensures sink_failed { result ≡ SINK_FAILED → Rose (K.faults sink.old) (K.faults sink.new) }
     ensures silent { IsSilent result → K.held sink.new ≡ K.held sink.old }
-    ensures status { IfSome (S.left source.old) (λ script. IsStatus script result) }
+    ensures status { IfSome (S.left source.old) (λ script.
+        IsStatus (is_some handed) (handed_state A.allows handed) script result) }
     ensures outcome { IfSome (S.left source.old) (λ script. IsSilent result
-        ⊎ Replays script (P.log port.new) (K.held sink.old) (K.held sink.new) result) }
+        ⊎ Replays (is_some handed) (handed_state A.allows handed) script (P.log port.new)
+        (K.held sink.old) (K.held sink.new) result) }
     ensures some_script { IsSilent result
-        ⊎ ReplaysSome (S.left source.old) (P.log port.new) (K.held sink.old) (K.held sink.new) result }
+        ⊎ ReplaysSome (is_some handed) (handed_state A.allows handed) (S.left source.old) (P.log port.new)
+        (K.held sink.old) (K.held sink.new) result }
 {
     match read_all(alloc, source) {
-        Ok(script) => answer(alloc, &script, sink, port),
+        Ok(script) => answer(alloc, &script, sink, port, handed),
         Err(ReadFault::SourceFailed) => SOURCE_FAILED,
         Err(ReadFault::NoMemory) => NO_MEMORY,
     }
 }
 
 // Answers a script.
-fn answer<K: Sink, P: ScriptedPort>(alloc: Global, script: &[u8], sink: &mut K, port: &mut P) -> u8
+fn answer<K: Sink, P: ScriptedPort, A: AuthProvider>(
+    alloc: Global,
+    script: &[u8],
+    sink: &mut K,
+    port: &mut P,
+    handed: Option<A>,
+) -> u8
+    requires { IfSome handed A.can }
     ensures known { (result ≢ USAGE) × (result ≢ SOURCE_FAILED) }
     ensures sink_failed { result ≡ SINK_FAILED → Rose (K.faults sink.old) (K.faults sink.new) }
     ensures silent { IsSilent result → K.held sink.new ≡ K.held sink.old }
     ensures outcome { IsSilent result
-        ⊎ Replays script.now (P.log port.new) (K.held sink.old) (K.held sink.new) result }
+        ⊎ Replays (is_some handed) (handed_state A.allows handed) script.now (P.log port.new)
+        (K.held sink.old) (K.held sink.new) result }
 {
-    match print(alloc, script, port) {
+    match print(alloc, script, port, handed) {
         Ok(printout) => put(sink, printout),
         Err(NoMemory) => NO_MEMORY,
     }
@@ -134,13 +156,19 @@ fn put<K: Sink>(sink: &mut K, printout: Printout) -> u8
 }
 
 // What is printed of a script.
-fn print<P: ScriptedPort>(alloc: Global, script: &[u8], port: &mut P) -> Result<Printout, NoMemory>
-    ensures printout { IfOk result (λ p. p ≡ printout (parsed script.now)) }
-    ensures told { OnOk result (TellsReplay (parsed script.now) (P.log port.new)) }
+fn print<P: ScriptedPort, A: AuthProvider>(
+    alloc: Global,
+    script: &[u8],
+    port: &mut P,
+    handed: Option<A>,
+) -> Result<Printout, NoMemory>
+    requires { IfSome handed A.can }
+    ensures { IfOk result (IsMade (provider_state (handed_state A.allows handed))
+        (parsed (is_some handed) script.now) printout (P.log port.new)) }
 {
-    match parse(alloc, script)? {
+    match parse(alloc, handed.is_some(), script)? {
         Script::Refused(number) => Ok(Printout::new(REFUSED, refusal(alloc, number)?)),
-        Script::Played(scenario) => print_scenario(alloc, scenario, port),
+        Script::Played(scenario) => print_scenario(alloc, scenario, port, handed),
     }
 }
 
@@ -150,11 +178,11 @@ fn print_number<P: ScriptedPort>(
     count: u16,
     port: &mut P,
 ) -> Result<Printout, NoMemory>
-    ensures printout { IfOk result (λ p. p ≡ generated_printout (generated count) (parsed (generated count))) }
-    ensures told { OnOk result (TellsReplay (parsed (generated count)) (P.log port.new)) }
+    ensures { IfOk result (IsMade own_state (parsed false (generated count)) (generated_printout (generated count))
+        (P.log port.new)) }
 {
     let script = generated(alloc, count)?;
-    let read = parse(alloc, script.as_bytes())?;
+    let read = parse(alloc, false, script.as_bytes())?;
     Ok(print_generated(alloc, script, read, port)?)
 }
 
@@ -166,8 +194,8 @@ fn print_generated<P: ScriptedPort>(
     port: &mut P,
 ) -> Result<Printout, NoMemory>
     requires { ScriptArePieces read }
-    ensures printout { IfOk result (λ p. p ≡ generated_printout (string_bytes script) (script_read read)) }
-    ensures told { OnOk result (TellsReplay (script_read read) (P.log port.new)) }
+    ensures { IfOk result (IsMade own_state (script_read read) (generated_printout (string_bytes script))
+        (P.log port.new)) }
 {
     match read {
         Script::Refused(number) => {
@@ -179,16 +207,18 @@ fn print_generated<P: ScriptedPort>(
 }
 
 // What is printed of a script of which no line is refused.
-fn print_scenario<P: ScriptedPort>(
+fn print_scenario<P: ScriptedPort, A: AuthProvider>(
     alloc: Global,
     scenario: Scenario,
     port: &mut P,
+    handed: Option<A>,
 ) -> Result<Printout, NoMemory>
-    requires { ArePieces scenario.steps }
-    ensures printout { IfOk result (λ p. p ≡ printout (Ok scenario)) }
-    ensures told { OnOk result (TellsReplay (Ok scenario) (P.log port.new)) }
+    requires pieces { ArePieces scenario.steps }
+    requires can { IfSome handed A.can }
+    ensures { IfOk result (IsMade (provider_state (handed_state A.allows handed)) (Ok scenario) printout
+        (P.log port.new)) }
 {
-    let mut engine = replay(alloc, scenario, port)?;
+    let mut engine = replay(alloc, scenario, port, handed)?;
     let printout = print_report(alloc, &mut engine, port);
     drop(engine);
     Ok(printout?)
@@ -202,10 +232,10 @@ fn print_generated_scenario<P: ScriptedPort>(
     port: &mut P,
 ) -> Result<Printout, NoMemory>
     requires { ArePieces scenario.steps }
-    ensures printout { IfOk result (λ p. p ≡ generated_printout (string_bytes script) (Ok scenario)) }
-    ensures told { OnOk result (TellsReplay (Ok scenario) (P.log port.new)) }
+    ensures { IfOk result (IsMade own_state (Ok scenario) (generated_printout (string_bytes script))
+        (P.log port.new)) }
 {
-    let mut engine = replay(alloc, scenario, port)?;
+    let mut engine = replay_alone(alloc, scenario, port)?;
     let printout = print_summary(script, &mut engine, port);
     drop(engine);
     Ok(printout?)
@@ -258,19 +288,71 @@ fn print_summary<P: ScriptedPort>(
     Ok(Printout::new(status, out))
 }
 
-// Plays the steps of a script over the port: the engine that ran.
-fn replay<P: ScriptedPort>(
+// The provider that was handed, where the script says that it is used.
+fn chosen<A: AuthProvider>(is_said: bool, handed: Option<A>) -> Option<A>
+    ensures { result ≡ (if is_said then handed else None) }
+{
+    if is_said {
+        return handed;
+    }
+    drop(handed);
+    None
+}
+
+// Plays the steps of a script over the port: the engine that ran. Where the script says so, the
+// provider that was handed is asked.
+fn replay<P: ScriptedPort, A: AuthProvider>(
+    alloc: Global,
+    scenario: Scenario,
+    port: &mut P,
+    handed: Option<A>,
+) -> Result<IoLoop, NoMemory>
+    requires pieces { ArePieces scenario.steps }
+    requires can { IfSome handed A.can }
+    ensures { IfOk result (λ e. IsReplayed (provider_state (handed_state A.allows handed) scenario) scenario e.talk
+        (P.links_taken port.new) (P.log port.new)) }
+{
+    match chosen(scenario.handed, handed) {
+        Some(mut provider) => replay_by(alloc, scenario, port, &mut provider),
+        None => replay_alone(alloc, scenario, port),
+    }
+}
+
+// The same, where the provider of the address is asked.
+fn replay_alone<P: ScriptedPort>(
     alloc: Global,
     scenario: Scenario,
     port: &mut P,
 ) -> Result<IoLoop, NoMemory>
     requires { ArePieces scenario.steps }
-    ensures replayed { IfOk result (λ e. IsReplayed scenario e.talk (P.links_taken port.new)) }
-    ensures told { OnOk result (TellsReplay (Ok scenario) (P.log port.new)) }
+    ensures { IfOk result (λ e. IsReplayed (own_state scenario) scenario e.talk (P.links_taken port.new)
+        (P.log port.new)) }
+{
+    match DefaultAuthProvider::new(alloc, &scenario.uri) {
+        Ok(mut provider) => replay_by(alloc, scenario, port, &mut provider),
+        Err(e) => {
+            drop(scenario);
+            Err(e)
+        }
+    }
+}
+
+// The same, where this provider is asked.
+fn replay_by<P: ScriptedPort, A: AuthProvider>(
+    alloc: Global,
+    scenario: Scenario,
+    port: &mut P,
+    provider: &mut A,
+) -> Result<IoLoop, NoMemory>
+    requires pieces { ArePieces scenario.steps }
+    requires can { A.can provider.old }
+    ensures { IfOk result (λ e. IsReplayed (A.allows provider.old) scenario e.talk (P.links_taken port.new)
+        (P.log port.new)) }
 {
     let Scenario {
         uri,
         options,
+        handed: _,
         steps,
     } = scenario;
     let turns = steps.len() as u64;
@@ -282,7 +364,7 @@ fn replay<P: ScriptedPort>(
     let engine = IoLoop::new(alloc, &uri, options);
     drop(uri);
     match engine {
-        Ok(mut engine) => match run(&mut engine, port, turns) {
+        Ok(mut engine) => match run(&mut engine, port, provider, turns) {
             Ok(()) => Ok(engine),
             Err(e) => {
                 drop(engine);
@@ -297,15 +379,20 @@ fn replay<P: ScriptedPort>(
 }
 
 // Runs a new engine over a port that was loaded with as many steps as there are turns.
-fn run<P: ScriptedPort>(engine: &mut IoLoop, port: &mut P, turns: u64) -> Result<(), NoMemory>
-    ensures replayed { (s : Scenario) → engine.old ≡ begin (start s.config) → turns ≡ length s.steps
+fn run<P: ScriptedPort, A: AuthProvider>(
+    engine: &mut IoLoop,
+    port: &mut P,
+    provider: &mut A,
+    turns: u64,
+) -> Result<(), NoMemory>
+    requires { A.can provider.old }
+    ensures { (s : Scenario) → engine.old ≡ begin (start s.config) → turns ≡ length s.steps
         → P.log port.old ≡ Some (loaded s.steps)
-        → OnOk result (IsReplayed s engine.new.talk (P.links_taken port.new)) }
-    ensures told { (s : Scenario) → engine.old ≡ begin (start s.config) → turns ≡ length s.steps
-        → P.log port.old ≡ Some (loaded s.steps) → OnOk result (TellsReplay (Ok s) (P.log port.new)) }
+        → OnOk result (IsReplayed (A.allows provider.old) s engine.new.talk (P.links_taken port.new)
+        (P.log port.new)) }
 {
     // What is printed tells how the session ended.
-    drop(engine.run(port, turns));
+    drop(engine.run(port, provider, turns));
     if engine.starved().is_some() {
         return Err(NoMemory);
     }

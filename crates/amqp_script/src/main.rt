@@ -1,17 +1,25 @@
 //! Replays a script of a connection over a port in memory, and prints a report; or generates a script,
-//! and prints it with a summary.
+//! and prints it with a summary. A script may say `provider handed`: the client then logs in by tokens.
 #![tactic(auto)]
 
 use amqp_engine::MemoryPort;
 use amqp_replay::status::{NO_MEMORY, SINK_FAILED, SOURCE_FAILED, USAGE};
 use amqp_replay::top::top;
 use amqp_replay::{Reading, Writing, ended_at};
-use amqp_types::{NoMemory, Text};
+use amqp_session::{DefaultTokenProvider, Refusal, TokenAuthProvider};
+use amqp_types::{LongString, NoMemory, Text};
+use std::alloc::Global;
 use std::env;
 use std::io::{self, ErrorKind};
 use std::process::ExitCode;
 
 const USAGE_TEXT: &str = "usage: amqp_script replay | generate N";
+
+/// The token by which the client logs in, where a script says `provider handed`.
+const TOKEN: &[u8] = b"my new valid token";
+
+/// For how many milliseconds a token is valid.
+const VALID_FOR: u64 = 60_000;
 
 // The words after the program's name. One that is no text makes none of them known.
 fn words_given(rt: &HostRuntime) -> Result<Vec<Text>, NoMemory> {
@@ -29,14 +37,28 @@ fn words_given(rt: &HostRuntime) -> Result<Vec<Text>, NoMemory> {
     }
 }
 
+fn new_token(alloc: Global) -> Result<LongString, Refusal> {
+    match LongString::new(alloc, TOKEN) {
+        Ok(token) => Ok(token),
+        Err(_) => Err(Refusal::NoMemory),
+    }
+}
+
 // The status, and the line of the script at which the session ended with an error, where its text
 // was kept.
 fn replay(rt: &HostRuntime) -> Result<(u8, Option<u64>), NoMemory> {
+    let alloc = rt.alloc();
     let words = words_given(rt)?;
-    let mut port = MemoryPort::new(rt.alloc(), Vec::new(rt.alloc()))?;
-    let mut source = Reading::new(rt.alloc(), rt.stdin());
+    let mut port = MemoryPort::new(alloc, Vec::new(alloc))?;
+    let mut source = Reading::new(alloc, rt.stdin());
     let mut sink = Writing::new(rt.stdout());
-    let status = top(rt.alloc(), &words, &mut source, &mut sink, &mut port);
+    let tokens = DefaultTokenProvider::new(
+        alloc,
+        |_token: &LongString| Some(VALID_FOR),
+        move || new_token(alloc),
+    );
+    let handed = Some(TokenAuthProvider::new(alloc, tokens));
+    let status = top(alloc, &words, &mut source, &mut sink, &mut port, handed);
     let line = match source.text() {
         Some(text) => ended_at(status, text, port.told()),
         None => None,

@@ -4,6 +4,7 @@
 mod computed;
 mod ends;
 mod generating;
+mod handed;
 mod limits;
 mod lines;
 mod memory;

@@ -11,7 +11,7 @@ use Rattle.amqp_frame.specs.declared.frame.Frame.TheVariants.{ProtocolHeader, Me
 use Rattle.amqp_frame.specs.declared.frame.RawKind.{RawKind}
 use Rattle.amqp_frame.specs.declared.frame.RawKind.TheVariants.{RawMethod}
 use Rattle.amqp_frame.specs.declared.method.Method.{Method as AnyMethod}
-use Rattle.amqp_frame.specs.declared.method.Method.TheVariants.{Start, Tune, OpenOk, Close, CloseOk, Blocked, Unblocked, UpdateSecretOk, ChannelOpenOk, ChannelFlow, ChannelFlowOk, ChannelClose, ChannelCloseOk}
+use Rattle.amqp_frame.specs.declared.method.Method.TheVariants.{Start, Secure, Tune, OpenOk, Close, CloseOk, Blocked, Unblocked, UpdateSecretOk, ChannelOpenOk, ChannelFlow, ChannelFlowOk, ChannelClose, ChannelCloseOk}
 use Rattle.amqp_frame.specs.RawMethods.{OtherMethod, spell_raw_method}
 use Rattle.amqp_outbox.specs.declared.item.Item.{Item}
 use Rattle.amqp_outbox.specs.declared.reply.Reply.TheVariants.{ChannelOpened, ChannelClosed, FlowDone, SecretDone, ConnectionClosed}
@@ -45,22 +45,23 @@ use Rattle.amqp_session.specs.declared.command.Answer.TheVariants.{Done}
 use Rattle.amqp_session.specs.declared.server_close.ServerClose.{ServerClose}
 use Rattle.amqp_session.specs.declared.server_close.ServerClose.TheVariants.{WithoutError, WithError}
 use Rattle.amqp_session.specs.declared.error.ErrorKind.{ErrorKind}
-use Rattle.amqp_session.specs.declared.error.ErrorKind.TheVariants.{IOError, InvalidConnectionState, InvalidProtocolVersion, InvalidChannel, InvalidChannelState, MissingHeartbeatError, Unbuilt}
+use Rattle.amqp_session.specs.declared.error.ErrorKind.TheVariants.{IOError, InvalidConnectionState, InvalidProtocolVersion, InvalidChannel, InvalidChannelState, MissingHeartbeatError, AuthProviderError}
 use Rattle.amqp_session.specs.Config.{Config}
+use Rattle.amqp_session.specs.declared.auth.asked.Asked.{Asked as ProviderAnswer}
 use Rattle.amqp_session.specs.Talk.{Talk, start, has_ended, is_open, is_open_link, is_asked, is_wanted_link, wants_link, end_of_link, is_closing, is_acting, acts, hears_on}
 use Rattle.amqp_session.specs.Changes.{next_promise, present_at, fail, lose, misplaced, finish_by, starve, queue, give_to, drop_replies_of, without_all_on}
 use Rattle.amqp_session.specs.Violations.{misread_error, channel_closed_with, unawaited, stray_channel_frame, stray_connection_method}
 use Rattle.amqp_session.specs.Capacities.{frame_min_size}
 use Rattle.amqp_session.specs.Negotiation.{tune}
-use Rattle.amqp_session.specs.Handshake.{start_ok, tune_ok, open_vhost, close_ok, our_close, new_secret, channel_open, channel_flow, flow_ok, our_channel_close, channel_close_ok, protocol_header}
+use Rattle.amqp_session.specs.Handshake.{start_ok, secure_ok, tune_ok, open_vhost, close_ok, our_close, new_secret, channel_open, channel_flow, flow_ok, our_channel_close, channel_close_ok, protocol_header}
 use Rattle.amqp_session.specs.Links.{asked, asked_link, linked, link_failed, piece, lost, misread, dropped}
-use Rattle.amqp_session.specs.ConnectionMethods.{connection_rule, on_connection_close, on_start, on_tune, on_open_ok, on_connection_close_ok, connection_closed, secret_taken}
+use Rattle.amqp_session.specs.ConnectionMethods.{connection_rule, on_connection_close, started, challenged, on_tune, on_open_ok, on_connection_close_ok, connection_closed, secret_taken}
 use Rattle.amqp_session.specs.Channels.{channel_at, set_channel}
 use Rattle.amqp_session.specs.ChannelMethods.{heard_on, unawaited_channel_method, channel_opened, remove_channel, remove_unless_owed, channel_closed, on_channel_flow, channel_flowed, awaits_close_ok, closed_by_server, crossing_close, channel_close_by, channel_rule, channel_method_by, channel_method, raw_by, pass_through, confirmed, hand_out, is_select_ok}
-use Rattle.amqp_session.specs.Frames.{is_unbuilt, is_of_a_channel, method_rule, frame_rule, closed_rule, on_frame}
+use Rattle.amqp_session.specs.Frames.{is_of_a_channel, method_rule, frame_rule, closed_rule, on_frame}
 use Rattle.amqp_session.specs.Publishing.{method_frame, publish_frames}
 use Rattle.amqp_session.specs.Commands.{command, command_rule, open_drawn, open_as, named, named_in, is_opening, target, target_by, target_in, leave_channel, close_target, leave_connection, drop_target, flow_target, tell_flow, queue_secret, update_secret, too_long, unless_too_long, queue_send, send, send_target, body_limit, queue_publish, publish, publish_target}
-use Rattle.amqp_session.specs.Ticks.{is_missed, is_due, missing_heartbeat, tick}
+use Rattle.amqp_session.specs.Ticks.{is_missed, is_due, missing_heartbeat, beat, refreshed, refresh_reason, tick}
 use Rattle.amqp_session.specs.Writing.{flows, writes, next_item, then_of, mark_of, paid_by, pay, follow, sent, sent_among, taken}
 use Rattle.amqp_session.specs.Answers.{answer_of, take_answer, take_frames}
 use Rattle.amqp_session.specs.Listed.{put, without}
@@ -68,8 +69,9 @@ use Rattle.amqp_session.specs.Numbering.{first_number, drawn}
 use Rattle.amqp_session.specs.Octets.{class_in}
 use Rattle.amqp_session.specs.Legal.{amqp_header, IsPassedThrough}
 use Rattle.amqp_session.specs.Decider.{Speech, Stage, MethodSaid, HeaderSaid, StartOkSaid, TuneOkSaid, OpenSaid, CloseSaid, CloseOkSaid, Shut, InUse, Left, NoContent, BodyMissing, now_on, greeted, say, say_all, is_amqp_header, is_legal}
+use Rattle.amqp_session.proofs.Heard.{start-case, secure-case, secret-case}
 use Rattle.amqp_session.proofs.Cases.{if_case, if_by, if-true, and-true}
-use Rattle.amqp_session.proofs.Keeping.{beats-connected, starve-ends, finish-ends, lost-stays}
+use Rattle.amqp_session.proofs.Keeping.{asks-connected, beats-connected, starve-ends, finish-ends, lost-stays}
 use Rattle.amqp_session.proofs.Truths.{append-none, same-number, other-number}
 use Rattle.amqp_session.proofs.Sayable.{IsComplete, say-append, front-said, over-stays, close-said, say-heartbeat, say-secret, say-our-close, say-flow, say-flow-ok, say-channel-close-ok, say-group, filling}
 use Rattle.amqp_session.proofs.Ties.{frames_in, LeadsTo, first_out, IsReady, IsOfControl, pays, paying, to_pay, unpaid, TiesChannels, IsNew, TiesPhase, TiesActing, Ties, Speaks, IsTied, IsSilent, IsSendable}
@@ -307,19 +309,42 @@ not-opened v g is ne h = ne (sym (ap (λ (x : Speech). x.stage) is) ∙ h)
 still-new : (cs : Listed) (ws : Replies) (due due' : ℕ → ℕ) → ((n : ℕ) → due' n ≡ due n) → IsNew cs ws due → IsNew cs ws due'
 still-new cs ws due due' same h = record { no_channels = h.no_channels; none_awaited = h.none_awaited; none_due = λ n. same n ∙ h.none_due n }
 
-now-start : (t : Talk) (fs : List Frame) → is_open t ≡ true → t.input ≡ input.Acting → t.state ≡ Connecting → In Connecting AwaitStart t fs → Now (on_start t) fs
-now-start t fs o hi hs h =
+now-started : (mechanism : List ℕ) (reply : Result (List ℕ) (List ℕ)) (t : Talk) (fs : List Frame) → is_open t ≡ true → t.input ≡ input.Acting → t.state ≡ Connecting
+    → In Connecting AwaitStart t fs → Now (started mechanism reply t) fs
+now-started mechanism (Err text) t fs o hi hs h = now-lose (AuthProviderError text) t fs
+now-started mechanism (Ok response) t fs o hi hs h =
+    let f : Frame = start_ok t.config.options mechanism response in
     let v : Speech = record greeted { stage = StartOkSaid } in
-    let said : say (start_ok t.config) h.later ≡ Some v = ap (say (start_ok t.config)) h.ties.0 in
-    let x : Talk = on_start t in
+    let said : say f h.later ≡ Some v = ap (say f) h.ties.0 in
+    let x : Talk = started mechanism (Ok response) t in
     now-open x fs o
     (tied-as Connecting AwaitTune input.Acting x fs hs refl hi
     (record {
       later = v;
-      leads = pushed t.outbox (plain 0 (start_ok t.config)) fs h.later v h.leads said;
-      lane = all-append IsOfControl t.outbox.control (plain 0 (start_ok t.config) ∷ []) h.lane ((tt, refl), tt);
+      leads = pushed t.outbox (plain 0 f) fs h.later v h.leads said;
+      lane = all-append IsOfControl t.outbox.control (plain 0 f ∷ []) h.lane ((tt, refl), tt);
       groups = never-ready h.later v t.outbox.publish (not-opened h.later HeaderSaid h.ties.0 (λ k. cc)) h.groups;
-      ties = (refl, still-new t.channels t.outbox.awaited (unpaid t.committed (first_out t.outbox)) _ (none-more t.committed t.outbox (plain 0 (start_ok t.config)) tt) h.ties.1);
+      ties = (refl, still-new t.channels t.outbox.awaited (unpaid t.committed (first_out t.outbox)) _ (none-more t.committed t.outbox (plain 0 f) tt) h.ties.1);
+      agreed = λ k. absurd (true≢false (sym k));
+    }))
+
+-- an answer to a challenge may be said as often as the server challenges
+now-challenged : (reply : Result (List ℕ) (List ℕ)) (t : Talk) (fs : List Frame) → is_open t ≡ true → t.input ≡ input.Acting → t.state ≡ Connecting → t.phase ≡ AwaitTune
+    → In Connecting AwaitTune t fs → Now (challenged reply t) fs
+now-challenged (Err text) t fs o hi hs hp h = now-lose (AuthProviderError text) t fs
+now-challenged (Ok response) t fs o hi hs hp h =
+    let f : Frame = secure_ok response in
+    let v : Speech = record greeted { stage = StartOkSaid } in
+    let said : say f h.later ≡ Some v = ap (say f) h.ties.0 in
+    let x : Talk = challenged (Ok response) t in
+    now-open x fs o
+    (tied-as Connecting AwaitTune input.Acting x fs hs hp hi
+    (record {
+      later = v;
+      leads = pushed t.outbox (plain 0 f) fs h.later v h.leads said;
+      lane = all-append IsOfControl t.outbox.control (plain 0 f ∷ []) h.lane ((tt, refl), tt);
+      groups = never-ready h.later v t.outbox.publish (not-opened h.later StartOkSaid h.ties.0 (λ k. cc)) h.groups;
+      ties = (refl, still-new t.channels t.outbox.awaited (unpaid t.committed (first_out t.outbox)) _ (none-more t.committed t.outbox (plain 0 f) tt) h.ties.1);
       agreed = λ k. absurd (true≢false (sym k));
     }))
 
@@ -402,23 +427,30 @@ due_in t = unpaid t.committed (first_out t.outbox)
 now-secret-taken : (promise : Option (Option ℕ)) (p : Phase) (t : Talk) (fs : List Frame) → is_open t ≡ true → t.input ≡ input.Acting → t.state ≡ Connected
     → In Connected p t fs → Now (secret_taken promise t) fs
 now-secret-taken None p t fs o hi hs h = now-lose (InvalidConnectionState Connected) t fs
-now-secret-taken (Some promise) p t fs o hi hs h =
-    let x : Talk = secret_taken (Some promise) t in
+now-secret-taken (Some None) p t fs o hi hs h =
+    let x : Talk = secret_taken (Some None) t in
+    now-ties t x fs h.later o hi refl hs (h.agreed refl) h.leads h.lane h.groups
+    (on-answered-untied 0 SecretDone t.channels t.outbox.awaited (due_in t) h.later refl h.ties)
+now-secret-taken (Some (Some number)) p t fs o hi hs h =
+    let x : Talk = secret_taken (Some (Some number)) t in
     now-ties t x fs h.later o hi refl hs (h.agreed refl) h.leads h.lane h.groups
     (on-answered-untied 0 SecretDone t.channels t.outbox.awaited (due_in t) h.later refl h.ties)
 
-now-connection : (s : ConnectionState) (p : Phase) (m : AnyMethod) (t : Talk) (g : Frame) (fs : List Frame) → is_open t ≡ true → t.input ≡ input.Acting → t.state ≡ s
-    → Now t (g ∷ fs) → In s p t (g ∷ fs) → Now (connection_rule s p m t) (g ∷ fs)
-now-connection s p (Close code text class method) t g fs o hi hs now h = now-server-close s p t g fs code text o h
-now-connection s p (Blocked reason) t g fs o hi hs now h = now
-now-connection s p Unblocked t g fs o hi hs now h = now
-now-connection Closing p CloseOk t g fs o hi hs now h = now-ended (on_connection_close_ok t) (g ∷ fs) (close-ok-ends (awaited_promise 0 ConnectionClosed t.outbox) t)
-now-connection Closing p m t g fs o hi hs now h = now
-now-connection Connecting AwaitStart (Start a b c d e) t g fs o hi hs now h = now-start t (g ∷ fs) o hi hs h
-now-connection Connecting AwaitTune (Tune a b c) t g fs o hi hs now h = now-tune (record { channel_max = a; frame_max = b; heartbeat = c }) t (g ∷ fs) o hi hs h
-now-connection Connecting AwaitOpenOk OpenOk t g fs o hi hs now h = now-open-ok t (g ∷ fs) o hi h
-now-connection Connected p UpdateSecretOk t g fs o hi hs now h = now-secret-taken (awaited_promise 0 SecretDone t.outbox) p t (g ∷ fs) o hi hs h
-now-connection held p m t g fs o hi hs now h = now-lose (InvalidConnectionState held) t (g ∷ fs)
+now-connection : (s : ConnectionState) (p : Phase) (m : AnyMethod) (answers : List ProviderAnswer) (t : Talk) (g : Frame) (fs : List Frame) → is_open t ≡ true → t.input ≡ input.Acting → t.state ≡ s → t.phase ≡ p
+    → Now t (g ∷ fs) → In s p t (g ∷ fs) → Now (connection_rule s p m answers t) (g ∷ fs)
+now-connection s p (Close code text class method) answers t g fs o hi hs hp now h = now-server-close s p t g fs code text o h
+now-connection s p (Blocked reason) answers t g fs o hi hs hp now h = now
+now-connection s p Unblocked answers t g fs o hi hs hp now h = now
+now-connection Closing p CloseOk answers t g fs o hi hs hp now h = now-ended (on_connection_close_ok t) (g ∷ fs) (close-ok-ends (awaited_promise 0 ConnectionClosed t.outbox) t)
+now-connection Closing p m answers t g fs o hi hs hp now h = now
+now-connection Connecting AwaitStart (Start a b c d e) answers t g fs o hi hs hp now h =
+    start-case (λ (x : Talk). Now x (g ∷ fs)) answers t now (λ mechanism said. now-started mechanism said t (g ∷ fs) o hi hs h)
+now-connection Connecting AwaitTune (Secure challenge) answers t g fs o hi hs hp now h =
+    secure-case (λ (x : Talk). Now x (g ∷ fs)) answers t now (λ said. now-challenged said t (g ∷ fs) o hi hs hp h)
+now-connection Connecting AwaitTune (Tune a b c) answers t g fs o hi hs hp now h = now-tune (record { channel_max = a; frame_max = b; heartbeat = c }) t (g ∷ fs) o hi hs h
+now-connection Connecting AwaitOpenOk OpenOk answers t g fs o hi hs hp now h = now-open-ok t (g ∷ fs) o hi h
+now-connection Connected p UpdateSecretOk answers t g fs o hi hs hp now h = now-secret-taken (awaited_promise 0 SecretDone t.outbox) p t (g ∷ fs) o hi hs h
+now-connection held p m answers t g fs o hi hs hp now h = now-lose (InvalidConnectionState held) t (g ∷ fs)
 
 -- ---- frames of channels
 
@@ -651,21 +683,20 @@ now-raw (Some c) n kind bytes t fs h heard =
 
 -- ---- frames
 
-now-method : (n : ℕ) (m : AnyMethod) (t : Talk) (g : Frame) (fs : List Frame) → Hears t.state t (g ∷ fs) → Now (method_rule n m t) (g ∷ fs)
-now-method zero m t g fs h =
-    if_case (λ (x : Talk). Now x (g ∷ fs)) (is_of_a_channel m) (misplaced (stray_channel_frame RawMethod) t) (connection_rule t.state t.phase m t)
-    (now-misplaced (stray_channel_frame RawMethod) t (g ∷ fs) h.now) (now-connection t.state t.phase m t g fs h.opened h.acting refl h.now h.tied)
-now-method (suc n) m t g fs h =
+now-method : (n : ℕ) (m : AnyMethod) (answers : List ProviderAnswer) (t : Talk) (g : Frame) (fs : List Frame) → Hears t.state t (g ∷ fs) → Now (method_rule n m answers t) (g ∷ fs)
+now-method zero m answers t g fs h =
+    if_case (λ (x : Talk). Now x (g ∷ fs)) (is_of_a_channel m) (misplaced (stray_channel_frame RawMethod) t) (connection_rule t.state t.phase m answers t)
+    (now-misplaced (stray_channel_frame RawMethod) t (g ∷ fs) h.now) (now-connection t.state t.phase m answers t g fs h.opened h.acting refl refl h.now h.tied)
+now-method (suc n) m answers t g fs h =
     if_case (λ (x : Talk). Now x (g ∷ fs)) (is_of_a_channel m) (channel_method (suc n) m t) (misplaced (stray_connection_method (suc n)) t)
     (now-channel-method (heard_on t.state (channel_at (suc n) t)) (suc n) m t g fs h refl) (now-misplaced (stray_connection_method (suc n)) t (g ∷ fs) h.now)
 
-now-rule : (f : Frame) (place : ℕ) (t : Talk) (g : Frame) (fs : List Frame) → Hears t.state t (g ∷ fs) → Now (frame_rule f place t) (g ∷ fs)
-now-rule (ProtocolHeader version) place t g fs h = now-lose (InvalidProtocolVersion version) t (g ∷ fs)
-now-rule Heartbeat place t g fs h = h.now
-now-rule (Method n m) place t g fs h =
-    if_case (λ (x : Talk). Now x (g ∷ fs)) (is_unbuilt m) (fail (Unbuilt place) t) (method_rule n m t) (now-lose (Unbuilt place) t (g ∷ fs)) (now-method n m t g fs h)
-now-rule (Raw zero kind bytes) place t g fs h = now-misplaced (stray_channel_frame kind) t (g ∷ fs) h.now
-now-rule (Raw (suc n) kind bytes) place t g fs h = now-raw (heard_on t.state (channel_at (suc n) t)) (suc n) kind bytes t (g ∷ fs) h refl
+now-rule : (f : Frame) (answers : List ProviderAnswer) (t : Talk) (g : Frame) (fs : List Frame) → Hears t.state t (g ∷ fs) → Now (frame_rule f answers t) (g ∷ fs)
+now-rule (ProtocolHeader version) answers t g fs h = now-lose (InvalidProtocolVersion version) t (g ∷ fs)
+now-rule Heartbeat answers t g fs h = h.now
+now-rule (Method n m) answers t g fs h = now-method n m answers t g fs h
+now-rule (Raw zero kind bytes) answers t g fs h = now-misplaced (stray_channel_frame kind) t (g ∷ fs) h.now
+now-rule (Raw (suc n) kind bytes) answers t g fs h = now-raw (heard_on t.state (channel_at (suc n) t)) (suc n) kind bytes t (g ∷ fs) h refl
 
 acting-input : (i : Input) → is_acting i ≡ true → i ≡ input.Acting
 acting-input input.Acting h = refl
@@ -683,13 +714,13 @@ now-hears-on (Method zero Unblocked) t fs h = h
 now-hears-on f t fs h = h
 
 -- a frame that was read, once the header was committed
-pub now-frame : (f : Frame) (place : ℕ) (t : Talk) (g : Frame) (fs : List Frame) → Now t (g ∷ fs) → Now (on_frame f place t) (g ∷ fs)
-now-frame f place t g fs now =
-    if_by (λ (x : Talk). Now x (g ∷ fs)) (acts t) (frame_rule f place t) (if hears_on t then closed_rule f t else t)
+pub now-frame : (f : Frame) (answers : List ProviderAnswer) (t : Talk) (g : Frame) (fs : List Frame) → Now t (g ∷ fs) → Now (on_frame f answers t) (g ∷ fs)
+now-frame f answers t g fs now =
+    if_by (λ (x : Talk). Now x (g ∷ fs)) (acts t) (frame_rule f answers t) (if hears_on t then closed_rule f t else t)
     (λ acting.
     (let k = both (is_open t) (is_acting t.input) acting in
     let is = acting-input t.input k.1 in
-    now-rule f place t g fs
+    now-rule f answers t g fs
     (record {
       opened = k.0;
       acting = is;
@@ -761,12 +792,32 @@ now-heartbeat t fs hs h =
     (now-due x (due_in t) w (none-more t.committed t.outbox item tt)
     (with-content t.channels t.outbox.awaited (due_in t) v NoContent tt s.ties)))
 
-pub now-tick : (t : Talk) (fs : List Frame) → Now t fs → Now (tick t) fs
-now-tick t fs h =
+-- a new secret is told, for which there is no promise
+now-refreshed : (said : Result (List ℕ) (List ℕ)) (t : Talk) (fs : List Frame) → t.state ≡ Connected → Now t fs → Now (refreshed said t) fs
+now-refreshed (Err text) t fs hs h = h
+now-refreshed (Ok secret) t fs hs h =
+    let f : Frame = new_secret secret refresh_reason in
+    let item : Item = plain 0 f in
+    let x : Talk = refreshed (Ok secret) t in
+    now-told t x fs hs refl h
+    (λ o hi s.
+    let v : Speech = record s.later { content = NoContent } in
+    now-ties t x fs v o hi refl hs (s.agreed refl)
+    (pushed t.outbox item fs s.later v s.leads (say-secret secret refresh_reason s.later s.ties.speaking s.ties.complete))
+    (all-append IsOfControl t.outbox.control (item ∷ []) s.lane ((tt, refl), tt))
+    (stay-ready s.later v t.outbox.publish s.ties.speaking tt (λ m used. used) s.groups)
+    (now-due x (due_in t) v (none-more t.committed t.outbox item tt)
+    (on-await-untied 0 SecretDone t.channels t.outbox.awaited (due_in t) v None refl
+    (with-content t.channels t.outbox.awaited (due_in t) s.later NoContent tt s.ties))))
+
+pub now-tick : (answers : List ProviderAnswer) (t : Talk) (fs : List Frame) → Now t fs → Now (tick answers t) fs
+now-tick answers t fs h =
+    let P : Talk → Type 0 = λ y. Now y fs in
     let x : Talk = missing_heartbeat t in
-    let after : Now x fs = if_case (λ (y : Talk). Now y fs) (is_missed t) (lose MissingHeartbeatError t) t (now-lose MissingHeartbeatError t fs) h in
-    if_by (λ (y : Talk). Now y fs) (is_due x) (record (queue 0 Heartbeat x) { last_write = x.present }) x
-    (λ due. now-heartbeat x fs (beats-connected x due) after) (λ rest. after)
+    let after : Now x fs = if_case P (is_missed t) (lose MissingHeartbeatError t) t (now-lose MissingHeartbeatError t fs) h in
+    let beaten : Now (beat t) fs =
+    if_by P (is_due x) (record (queue 0 Heartbeat x) { last_write = x.present }) x (λ due. now-heartbeat x fs (beats-connected x due) after) (λ rest. after) in
+    secret-case P answers (beat t) beaten (λ asks said. now-refreshed said (beat t) fs (asks-connected (beat t) asks) beaten)
 
 named-listed : (r : ChanRef) (o : Option Channel) (c : Channel) → named_in r.opened o ≡ Some c → o ≡ Some c
 named-listed r None c h = cc
@@ -1127,6 +1178,7 @@ on_new_link t =
       committed = [];
       last_read = t.present;
       last_write = t.present;
+      refreshing = false;
     }
 
 is-linked : (t : Talk) → is_asked t ≡ true → linked t ≡ on_new_link t

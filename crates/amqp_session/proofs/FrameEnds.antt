@@ -1,11 +1,11 @@
 -- How a frame that is read may end a session, row by row.
-use Rattle.std.proofs.Common.{◌≡◌, ◌≢◌, ◌⊎◌, inl, inr, ℕ, zero, suc, not, ◌&&◌, Bool, true, false, if◌then◌else◌, List, Option, Some, None, is_some, refl, ap}
+use Rattle.std.proofs.Common.{◌≡◌, ◌≢◌, ◌⊎◌, inl, inr, ℕ, zero, suc, not, Bool, true, false, if◌then◌else◌, List, [], ◌∷◌, Option, Some, None, Ok, Err, is_some, refl, ap}
 use Rattle.amqp_frame.specs.declared.frame.Frame.{Frame}
 use Rattle.amqp_frame.specs.declared.frame.Frame.TheVariants.{ProtocolHeader, Method, Raw, Heartbeat}
 use Rattle.amqp_frame.specs.declared.frame.RawKind.{RawKind}
 use Rattle.amqp_frame.specs.declared.frame.RawKind.TheVariants.{RawMethod}
 use Rattle.amqp_frame.specs.declared.method.Method.{Method as AnyMethod}
-use Rattle.amqp_frame.specs.declared.method.Method.TheVariants.{Start, Tune, OpenOk, Close, CloseOk, Blocked, Unblocked, UpdateSecretOk, ChannelOpenOk, ChannelClose, ChannelCloseOk, ChannelFlow, ChannelFlowOk}
+use Rattle.amqp_frame.specs.declared.method.Method.TheVariants.{Start, Secure, Tune, OpenOk, Close, CloseOk, Blocked, Unblocked, UpdateSecretOk, ChannelOpenOk, ChannelClose, ChannelCloseOk, ChannelFlow, ChannelFlowOk}
 use Rattle.amqp_outbox.specs.declared.reply.Reply.TheVariants.{ChannelOpened, ChannelClosed, FlowDone, SecretDone, ConnectionClosed}
 use Rattle.amqp_outbox.specs.Queued.{awaited_promise}
 use Rattle.amqp_session.specs.declared.channels.Channel.{Channel}
@@ -19,17 +19,20 @@ use Rattle.amqp_session.specs.declared.state.Phase.{Phase}
 use Rattle.amqp_session.specs.declared.state.Phase.TheVariants.{AwaitStart, AwaitTune, AwaitOpenOk}
 use Rattle.amqp_session.specs.declared.misread.Misread.{Misread}
 use Rattle.amqp_session.specs.declared.error.ErrorKind.{ErrorKind}
-use Rattle.amqp_session.specs.declared.error.ErrorKind.TheVariants.{InvalidProtocolVersion, InvalidChannel, InvalidConnectionState, Unbuilt}
+use Rattle.amqp_session.specs.declared.error.ErrorKind.TheVariants.{InvalidProtocolVersion, InvalidChannel, InvalidConnectionState, AuthProviderError}
+use Rattle.amqp_session.specs.declared.auth.asked.Question.TheVariants as question
+use Rattle.amqp_session.specs.declared.auth.asked.Asked.{Asked}
+use Rattle.amqp_session.specs.declared.auth.asked.Asked.TheVariants as answer
 use Rattle.amqp_session.specs.Talk.{Talk, hears_on, is_open, is_closing, acts, end_of}
-use Rattle.amqp_session.specs.Changes.{fail, lose, misplaced}
+use Rattle.amqp_session.specs.Changes.{lose, misplaced}
 use Rattle.amqp_session.specs.Links.{misread, dropped}
 use Rattle.amqp_session.specs.Violations.{channel_closed_with, misread_error, stray_channel_frame, stray_connection_method, unawaited}
-use Rattle.amqp_session.specs.ConnectionMethods.{connection_rule, connection_closed, secret_taken}
+use Rattle.amqp_session.specs.ConnectionMethods.{connection_rule, connection_closed, secret_taken, on_start, on_secure}
 use Rattle.amqp_session.specs.Channels.{channel_at}
 use Rattle.amqp_session.specs.ChannelMethods.{heard_on, unawaited_channel_method, channel_opened, channel_closed, channel_flowed, channel_close_by, awaits_close_ok, remove_unless_owed, on_channel_flow, channel_rule, channel_method_by, channel_method, hand_out, confirmed, is_select_ok, pass_through, raw_by}
-use Rattle.amqp_session.specs.Frames.{is_unbuilt, is_of_a_channel, method_rule, frame_rule, closed_rule, on_frame}
-use Rattle.amqp_session.specs.Causes.{IsFrameError, is_awaited, is_due, is_secret_told}
-use Rattle.amqp_session.proofs.Cases.{if_case, if_by, and-true}
+use Rattle.amqp_session.specs.Frames.{is_of_a_channel, method_questions, method_rule, frame_rule, closed_rule, on_frame}
+use Rattle.amqp_session.specs.Causes.{IsFrameError, is_awaited, is_due, is_secret_told, refused_in}
+use Rattle.amqp_session.proofs.Cases.{if_case, if_by}
 use Rattle.amqp_session.proofs.Ends.{Ends, ends-kept, ends-lose, ends-ok}
 
 pub ends-misplaced : (P : ErrorKind → Type 0) (e : ErrorKind) (t : Talk) → (is_closing t.state ≡ false → P e) → Ends P t (misplaced e t)
@@ -75,20 +78,40 @@ ends-connection-closed P (Some promise) t = ends-ok P t _ refl
 ends-secret-taken : (P : ErrorKind → Type 0) (a : Option (Option ℕ)) (t : Talk) → (is_some a ≡ false → P (InvalidConnectionState Connected))
     → Ends P t (secret_taken a t)
 ends-secret-taken P None t p = ends-lose P _ t t (p refl)
-ends-secret-taken P (Some promise) t p = ends-kept P t _ refl
+ends-secret-taken P (Some None) t p = ends-kept P t _ refl
+ends-secret-taken P (Some (Some number)) t p = ends-kept P t _ refl
 
-ends-connection : (P : ErrorKind → Type 0) (s : ConnectionState) (p : Phase) (m : AnyMethod) (t : Talk)
-    → (is_closing s ≡ false → is_due m (is_secret_told t) s p ≡ false → P (InvalidConnectionState s)) → Ends P t (connection_rule s p m t)
-ends-connection P s p (Close code text class method) t e = ends-kept P t _ refl
-ends-connection P s p (Blocked reason) t e = ends-kept P t _ refl
-ends-connection P s p Unblocked t e = ends-kept P t _ refl
-ends-connection P Closing p CloseOk t e = ends-connection-closed P (awaited_promise 0 ConnectionClosed t.outbox) t
-ends-connection P Closing p m t e = ends-kept P t t refl
-ends-connection P Connecting AwaitStart (Start a b c d x) t e = ends-kept P t _ refl
-ends-connection P Connecting AwaitTune (Tune a b c) t e = ends-kept P t _ refl
-ends-connection P Connecting AwaitOpenOk OpenOk t e = ends-kept P t _ refl
-ends-connection P Connected p UpdateSecretOk t e = ends-secret-taken P (awaited_promise 0 SecretDone t.outbox) t (e refl)
-ends-connection P held p m t e = ends-lose P _ t t (e refl refl)
+-- a start ends a session where the provider refused it
+ends-start : (P : ErrorKind → Type 0) (answers : List Asked) (t : Talk)
+    → ((text : List ℕ) → refused_in (question.Mechanism ∷ question.Starter ∷ []) answers ≡ Some text → P (AuthProviderError text))
+    → Ends P t (on_start answers t)
+ends-start P (answer.Mechanism mechanism ∷ answer.Starter (Ok response) ∷ later) t p = ends-kept P t _ refl
+ends-start P (answer.Mechanism mechanism ∷ answer.Starter (Err text) ∷ later) t p = ends-lose P (AuthProviderError text) t t (p text refl)
+ends-start P _ t p = ends-kept P t t refl
+
+-- and so does a challenge
+ends-secure : (P : ErrorKind → Type 0) (challenge : List ℕ) (answers : List Asked) (t : Talk)
+    → ((text : List ℕ) → refused_in (question.Challenge challenge ∷ []) answers ≡ Some text → P (AuthProviderError text))
+    → Ends P t (on_secure answers t)
+ends-secure P challenge (answer.Challenge (Ok response) ∷ later) t p = ends-kept P t _ refl
+ends-secure P challenge (answer.Challenge (Err text) ∷ later) t p = ends-lose P (AuthProviderError text) t t (p text refl)
+ends-secure P challenge _ t p = ends-kept P t t refl
+
+ends-connection : (P : ErrorKind → Type 0) (s : ConnectionState) (p : Phase) (m : AnyMethod) (answers : List Asked) (t : Talk)
+    → (is_closing s ≡ false → is_due m (is_secret_told t) s p ≡ false → P (InvalidConnectionState s))
+    → ((text : List ℕ) → refused_in (method_questions s p m) answers ≡ Some text → P (AuthProviderError text))
+    → Ends P t (connection_rule s p m answers t)
+ends-connection P s p (Close code text class method) answers t e r = ends-kept P t _ refl
+ends-connection P s p (Blocked reason) answers t e r = ends-kept P t _ refl
+ends-connection P s p Unblocked answers t e r = ends-kept P t _ refl
+ends-connection P Closing p CloseOk answers t e r = ends-connection-closed P (awaited_promise 0 ConnectionClosed t.outbox) t
+ends-connection P Closing p m answers t e r = ends-kept P t t refl
+ends-connection P Connecting AwaitStart (Start a b c d x) answers t e r = ends-start P answers t r
+ends-connection P Connecting AwaitTune (Secure challenge) answers t e r = ends-secure P challenge answers t r
+ends-connection P Connecting AwaitTune (Tune a b c) answers t e r = ends-kept P t _ refl
+ends-connection P Connecting AwaitOpenOk OpenOk answers t e r = ends-kept P t _ refl
+ends-connection P Connected p UpdateSecretOk answers t e r = ends-secret-taken P (awaited_promise 0 SecretDone t.outbox) t (e refl)
+ends-connection P held p m answers t e r = ends-lose P _ t t (e refl refl)
 
 ends-channel : (P : ErrorKind → Type 0) (s : ConnectionState) (n : ℕ) (c : Channel) (m : AnyMethod) (t : Talk)
     → (is_closing s ≡ false → is_awaited m n t ≡ false → c.state ≢ channel.Closing → P (unawaited m n)) → Ends P t (channel_rule s n c m t)
@@ -128,42 +151,35 @@ ends-raw P None n kind bytes t p = ends-misplaced P (InvalidChannel n) t (p refl
 ends-raw P (Some c) n kind bytes t p = ends-pass P n c kind bytes t
 
 -- the errors of a frame that is read so
-abbrev pub FrameError : Frame → ℕ → Talk → ErrorKind → Type 0
-FrameError f place t k = IsFrameError k f place t
+abbrev pub FrameError : Frame → List Asked → Talk → ErrorKind → Type 0
+FrameError f answers t k = IsFrameError k f answers t
 
--- a method that a rule takes is judged, but after our close
-judged : (m : AnyMethod) (t : Talk) → is_closing t.state ≡ false → is_unbuilt m ≡ false → (not (is_closing t.state) && not (is_unbuilt m)) ≡ true
-judged m t going built = and-true (not (is_closing t.state)) (not (is_unbuilt m)) (ap not going) (ap not built)
-
-ends-method : (n : ℕ) (m : AnyMethod) (place : ℕ) (t : Talk) → is_unbuilt m ≡ false → Ends (FrameError (Method n m) place t) t (method_rule n m t)
-ends-method zero m place t built =
-    let P : ErrorKind → Type 0 = FrameError (Method zero m) place t in
-    if_by (Ends P t) (is_of_a_channel m) (misplaced (stray_channel_frame RawMethod) t) (connection_rule t.state t.phase m t)
-    (λ h. ends-misplaced P (stray_channel_frame RawMethod) t (λ going. (judged m t going built, inl (h, refl))))
-    (λ h. ends-connection P t.state t.phase m t (λ going undue. (judged m t going built, ((h, undue), refl))))
-ends-method (suc n) m place t built =
-    let P : ErrorKind → Type 0 = FrameError (Method (suc n) m) place t in
+ends-method : (n : ℕ) (m : AnyMethod) (answers : List Asked) (t : Talk) → Ends (FrameError (Method n m) answers t) t (method_rule n m answers t)
+ends-method zero m answers t =
+    let P : ErrorKind → Type 0 = FrameError (Method zero m) answers t in
+    if_by (Ends P t) (is_of_a_channel m) (misplaced (stray_channel_frame RawMethod) t) (connection_rule t.state t.phase m answers t)
+    (λ h. ends-misplaced P (stray_channel_frame RawMethod) t (λ going. (ap not going, inl (h, refl))))
+    (λ h. ends-connection P t.state t.phase m answers t (λ going undue. (ap not going, ((h, undue), refl))) (λ text refused. refused))
+ends-method (suc n) m answers t =
+    let P : ErrorKind → Type 0 = FrameError (Method (suc n) m) answers t in
     let o : Option Channel = channel_at (suc n) t in
     if_by (Ends P t) (is_of_a_channel m) (channel_method (suc n) m t) (misplaced (stray_connection_method (suc n)) t)
     (λ h. ends-channel-by P (heard_on t.state o) (suc n) m t
-    (λ none going. (judged m t going built, ((refl, h), none-heard t.state o none)))
+    (λ none going. (ap not going, ((refl, h), none-heard t.state o none)))
     (λ c some going free kept.
     let heard = some-heard t.state o c some in
-    (judged m t going built, inr (h, (heard.0, (c, heard.1, kept)), free, refl))))
-    (λ h. ends-misplaced P (stray_connection_method (suc n)) t (λ going. (judged m t going built, inl (h, refl))))
+    (ap not going, inr (h, (heard.0, (c, heard.1, kept)), free, refl))))
+    (λ h. ends-misplaced P (stray_connection_method (suc n)) t (λ going. (ap not going, inl (h, refl))))
 
-ends-rule : (f : Frame) (place : ℕ) (t : Talk) → Ends (FrameError f place t) t (frame_rule f place t)
-ends-rule (ProtocolHeader version) place t = ends-lose (FrameError (ProtocolHeader version) place t) (InvalidProtocolVersion version) t t refl
-ends-rule Heartbeat place t = ends-kept (FrameError Heartbeat place t) t t refl
-ends-rule (Method n m) place t =
-    let P : ErrorKind → Type 0 = FrameError (Method n m) place t in
-    if_by (Ends P t) (is_unbuilt m) (fail (Unbuilt place) t) (method_rule n m t)
-    (λ h. ends-lose P (Unbuilt place) t t (h, refl)) (λ h. ends-method n m place t h)
-ends-rule (Raw zero kind bytes) place t =
-    ends-misplaced (FrameError (Raw zero kind bytes) place t) (stray_channel_frame kind) t (λ going. (ap not going, inl refl))
-ends-rule (Raw (suc n) kind bytes) place t =
+ends-rule : (f : Frame) (answers : List Asked) (t : Talk) → Ends (FrameError f answers t) t (frame_rule f answers t)
+ends-rule (ProtocolHeader version) answers t = ends-lose (FrameError (ProtocolHeader version) answers t) (InvalidProtocolVersion version) t t refl
+ends-rule Heartbeat answers t = ends-kept (FrameError Heartbeat answers t) t t refl
+ends-rule (Method n m) answers t = ends-method n m answers t
+ends-rule (Raw zero kind bytes) answers t =
+    ends-misplaced (FrameError (Raw zero kind bytes) answers t) (stray_channel_frame kind) t (λ going. (ap not going, inl refl))
+ends-rule (Raw (suc n) kind bytes) answers t =
     let o : Option Channel = channel_at (suc n) t in
-    ends-raw (FrameError (Raw (suc n) kind bytes) place t) (heard_on t.state o) (suc n) kind bytes t
+    ends-raw (FrameError (Raw (suc n) kind bytes) answers t) (heard_on t.state o) (suc n) kind bytes t
     (λ h going. (ap not going, (refl, none-heard t.state o h)))
 
 end-closed : (f : Frame) (t : Talk) → end_of (closed_rule f t) ≡ end_of t
@@ -172,11 +188,11 @@ end-closed (Method zero Unblocked) t = refl
 end-closed f t = refl
 
 -- a frame ends a session by its own errors alone
-pub ends-frame : (f : Frame) (place : ℕ) (t : Talk) → Ends (FrameError f place t) t (on_frame f place t)
-ends-frame f place t =
-    if_case (Ends (FrameError f place t) t) (acts t) (frame_rule f place t) (if hears_on t then closed_rule f t else t)
-    (ends-rule f place t)
-    (if_case (Ends (FrameError f place t) t) (hears_on t) (closed_rule f t) t
+pub ends-frame : (f : Frame) (answers : List Asked) (t : Talk) → Ends (FrameError f answers t) t (on_frame f answers t)
+ends-frame f answers t =
+    if_case (Ends (FrameError f answers t) t) (acts t) (frame_rule f answers t) (if hears_on t then closed_rule f t else t)
+    (ends-rule f answers t)
+    (if_case (Ends (FrameError f answers t) t) (hears_on t) (closed_rule f t) t
     (ends-kept _ t (closed_rule f t) (end-closed f t)) (ends-kept _ t t refl))
 
 -- what is no frame ends it by its own error alone

@@ -6,7 +6,7 @@ use Rattle.amqp_frame.specs.declared.frame.Frame.{Frame}
 use Rattle.amqp_frame.specs.declared.frame.Frame.TheVariants.{ProtocolHeader, Method, Raw, Heartbeat}
 use Rattle.amqp_frame.specs.declared.frame.RawKind.{RawKind}
 use Rattle.amqp_frame.specs.declared.method.Method.{Method as AnyMethod}
-use Rattle.amqp_frame.specs.declared.method.Method.TheVariants.{Start, Tune, OpenOk, Close, CloseOk, Blocked, Unblocked, UpdateSecretOk, ChannelOpenOk, ChannelClose, ChannelCloseOk, ChannelFlow, ChannelFlowOk}
+use Rattle.amqp_frame.specs.declared.method.Method.TheVariants.{Start, Secure, Tune, OpenOk, Close, CloseOk, Blocked, Unblocked, UpdateSecretOk, ChannelOpenOk, ChannelClose, ChannelCloseOk, ChannelFlow, ChannelFlowOk}
 use Rattle.amqp_frame.specs.RawMethods.{OtherMethod}
 use Rattle.amqp_outbox.specs.declared.reply.Reply.TheVariants.{ChannelOpened, ChannelClosed, FlowDone, SecretDone, ConnectionClosed}
 use Rattle.amqp_outbox.specs.Queued.{Queued, awaited_promise, answered}
@@ -32,22 +32,24 @@ use Rattle.amqp_session.specs.declared.command.Cmd.TheVariants.{OpenChannel, Clo
 use Rattle.amqp_session.specs.declared.command.Answer.{Answer as AnyAnswer}
 use Rattle.amqp_session.specs.declared.command.Answer.TheVariants.{Done}
 use Rattle.amqp_session.specs.declared.error.ErrorKind.{ErrorKind}
-use Rattle.amqp_session.specs.declared.error.ErrorKind.TheVariants.{NoMemory, IOError, MissingHeartbeatError, Unbuilt}
+use Rattle.amqp_session.specs.declared.error.ErrorKind.TheVariants.{NoMemory, IOError, MissingHeartbeatError}
+use Rattle.amqp_session.specs.declared.auth.asked.Asked.{Asked}
 use Rattle.amqp_session.specs.Talk.{Talk, has_ended, hears_on, is_open, is_closing, acts, end_of_link}
 use Rattle.amqp_session.specs.Changes.{Promises, present_at, queue, refuse, give_to, fail, lose, misplaced, close, finish, finish_by, starve}
 use Rattle.amqp_session.specs.Links.{dropped, lost, misread}
 use Rattle.amqp_session.specs.Violations.{channel_closed_with, misread_error}
 use Rattle.amqp_session.specs.Handshake.{new_secret}
-use Rattle.amqp_session.specs.ConnectionMethods.{connection_rule, connection_closed, secret_taken}
+use Rattle.amqp_session.specs.ConnectionMethods.{connection_rule, connection_closed, secret_taken, started, challenged}
 use Rattle.amqp_session.specs.Channels.{channel_at}
 use Rattle.amqp_session.specs.ChannelMethods.{heard_on, unawaited_channel_method, channel_opened, channel_closed, channel_flowed, channel_close_by, awaits_close_ok, remove_unless_owed, on_channel_flow, channel_rule, channel_method_by, channel_method, hand_out, confirmed, is_select_ok, pass_through, raw_by}
-use Rattle.amqp_session.specs.Frames.{is_unbuilt, is_of_a_channel, method_rule, frame_rule, closed_rule, on_frame}
+use Rattle.amqp_session.specs.Frames.{is_of_a_channel, method_rule, frame_rule, closed_rule, on_frame}
 use Rattle.amqp_session.specs.Publishing.{method_frame, publish_frames}
 use Rattle.amqp_session.specs.Commands.{open_drawn, close_target, drop_target, flow_target, queue_secret, update_secret, too_long, unless_too_long, queue_send, send_target, body_limit, queue_publish, publish_target, command, command_rule}
-use Rattle.amqp_session.specs.Ticks.{is_connected, beats, is_missed, is_due, missing_heartbeat, tick}
+use Rattle.amqp_session.specs.Ticks.{is_connected, beats, is_missed, is_due, missing_heartbeat, beat, asks_validity, refreshed, tick}
 use Rattle.amqp_session.specs.Writing.{left_in, paid_by, pay, follow, sent, sent_among, taken}
 use Rattle.amqp_session.specs.Negotiation.{grown_capacity}
 use Rattle.amqp_session.specs.Parts.{is_opening, capacity_after}
+use Rattle.amqp_session.proofs.Heard.{start-case, secure-case, secret-case}
 use Rattle.amqp_session.proofs.Cases.{if_case, if_by, if-true, if-false, and-true, and-false}
 
 -- ---- the present
@@ -120,24 +122,34 @@ keeps-connection-closed (Some promise) t =
 
 keeps-secret-taken : (o : Option (Option ℕ)) (t : Talk) → Keeps t.capacity t (secret_taken o t)
 keeps-secret-taken None t = keeps-lose _ t
-keeps-secret-taken (Some promise) t = keeps-give_to promise (Ok Done) t.capacity t _ (record { committed = refl; capacity = refl; link = inl refl })
+keeps-secret-taken (Some None) t = record { committed = refl; capacity = refl; link = inl refl }
+keeps-secret-taken (Some (Some number)) t = record { committed = refl; capacity = refl; link = inl refl }
+
+keeps-started : (mechanism : List ℕ) (said : Result (List ℕ) (List ℕ)) (t : Talk) → Keeps t.capacity t (started mechanism said t)
+keeps-started mechanism (Ok response) t = record { committed = refl; capacity = refl; link = inl refl }
+keeps-started mechanism (Err text) t = keeps-lose _ t
+
+keeps-challenged : (said : Result (List ℕ) (List ℕ)) (t : Talk) → Keeps t.capacity t (challenged said t)
+keeps-challenged (Ok response) t = record { committed = refl; capacity = refl; link = inl refl }
+keeps-challenged (Err text) t = keeps-lose _ t
 
 -- the capacity once a method of the connection class was read: open-ok makes it greater
 abbrev pub capacity_by : AnyMethod → ConnectionState → Phase → Talk → ℕ
 capacity_by OpenOk Connecting AwaitOpenOk t = grown_capacity t
 capacity_by _ s p t = t.capacity
 
-keeps-connection : (s : ConnectionState) (p : Phase) (m : AnyMethod) (t : Talk) → Keeps (capacity_by m s p t) t (connection_rule s p m t)
-keeps-connection s p (Close code text class method) t = record { committed = refl; capacity = refl; link = inl refl }
-keeps-connection s p (Blocked reason) t = record { committed = refl; capacity = refl; link = inl refl }
-keeps-connection s p Unblocked t = record { committed = refl; capacity = refl; link = inl refl }
-keeps-connection Closing p CloseOk t = keeps-connection-closed (awaited_promise 0 ConnectionClosed t.outbox) t
-keeps-connection Closing p m t = keeps-none t
-keeps-connection Connecting AwaitStart (Start a b c d e) t = record { committed = refl; capacity = refl; link = inl refl }
-keeps-connection Connecting AwaitTune (Tune a b c) t = record { committed = refl; capacity = refl; link = inl refl }
-keeps-connection Connecting AwaitOpenOk OpenOk t = record { committed = refl; capacity = refl; link = inl refl }
-keeps-connection Connected p UpdateSecretOk t = keeps-secret-taken (awaited_promise 0 SecretDone t.outbox) t
-keeps-connection held p m t = keeps-lose _ t
+keeps-connection : (s : ConnectionState) (p : Phase) (m : AnyMethod) (answers : List Asked) (t : Talk) → Keeps (capacity_by m s p t) t (connection_rule s p m answers t)
+keeps-connection s p (Close code text class method) answers t = record { committed = refl; capacity = refl; link = inl refl }
+keeps-connection s p (Blocked reason) answers t = record { committed = refl; capacity = refl; link = inl refl }
+keeps-connection s p Unblocked answers t = record { committed = refl; capacity = refl; link = inl refl }
+keeps-connection Closing p CloseOk answers t = keeps-connection-closed (awaited_promise 0 ConnectionClosed t.outbox) t
+keeps-connection Closing p m answers t = keeps-none t
+keeps-connection Connecting AwaitStart (Start a b c d e) answers t = start-case (Keeps t.capacity t) answers t (keeps-none t) (λ mechanism said. keeps-started mechanism said t)
+keeps-connection Connecting AwaitTune (Secure challenge) answers t = secure-case (Keeps t.capacity t) answers t (keeps-none t) (λ said. keeps-challenged said t)
+keeps-connection Connecting AwaitTune (Tune a b c) answers t = record { committed = refl; capacity = refl; link = inl refl }
+keeps-connection Connecting AwaitOpenOk OpenOk answers t = record { committed = refl; capacity = refl; link = inl refl }
+keeps-connection Connected p UpdateSecretOk answers t = keeps-secret-taken (awaited_promise 0 SecretDone t.outbox) t
+keeps-connection held p m answers t = keeps-lose _ t
 
 keeps-misplaced : (e : ErrorKind) (t : Talk) → Keeps t.capacity t (misplaced e t)
 keeps-misplaced e t = if_case (Keeps t.capacity t) (is_closing t.state) t (lose e t) (keeps-none t) (keeps-lose e t)
@@ -194,14 +206,10 @@ keeps-raw : (o : Option Channel) (n : ℕ) (kind : RawKind) (bytes : List ℕ) (
 keeps-raw None n kind bytes t = keeps-misplaced _ t
 keeps-raw (Some c) n kind bytes t = keeps-pass n c kind bytes t
 
--- a method of the channel class, and one that no rule takes yet, leave the capacity as it is
+-- a method of the channel class leaves the capacity as it is
 channel-capacity : (m : AnyMethod) (s : ConnectionState) (p : Phase) (t : Talk) → is_of_a_channel m ≡ true → capacity_by m s p t ≡ t.capacity
 channel-capacity OpenOk s p t h = cc
 channel-capacity _ s p t h = refl
-
-unbuilt-capacity : (m : AnyMethod) (s : ConnectionState) (p : Phase) (t : Talk) → is_unbuilt m ≡ true → capacity_by m s p t ≡ t.capacity
-unbuilt-capacity OpenOk s p t h = cc
-unbuilt-capacity _ s p t h = refl
 
 keeps-same : (m n : ℕ) (t x : Talk) → m ≡ n → Keeps n t x → Keeps m t x
 keeps-same m n t x h k = record { committed = k.committed; capacity = k.capacity ∙ sym h; link = k.link }
@@ -211,28 +219,20 @@ abbrev pub acted_capacity : Frame → Talk → ℕ
 acted_capacity (Method zero m) t = capacity_by m t.state t.phase t
 acted_capacity f t = t.capacity
 
-keeps-method : (n : ℕ) (m : AnyMethod) (t : Talk) → Keeps (acted_capacity (Method n m) t) t (method_rule n m t)
-keeps-method zero m t =
-    if_by (Keeps (capacity_by m t.state t.phase t) t) (is_of_a_channel m) (misplaced _ t) (connection_rule t.state t.phase m t)
-    (λ h. keeps-same _ t.capacity t _ (channel-capacity m t.state t.phase t h) (keeps-misplaced _ t)) (λ h. keeps-connection t.state t.phase m t)
-keeps-method (suc n) m t =
+keeps-method : (n : ℕ) (m : AnyMethod) (answers : List Asked) (t : Talk) → Keeps (acted_capacity (Method n m) t) t (method_rule n m answers t)
+keeps-method zero m answers t =
+    if_by (Keeps (capacity_by m t.state t.phase t) t) (is_of_a_channel m) (misplaced _ t) (connection_rule t.state t.phase m answers t)
+    (λ h. keeps-same _ t.capacity t _ (channel-capacity m t.state t.phase t h) (keeps-misplaced _ t)) (λ h. keeps-connection t.state t.phase m answers t)
+keeps-method (suc n) m answers t =
     if_case (Keeps t.capacity t) (is_of_a_channel m) (channel_method (suc n) m t) (misplaced _ t)
     (keeps-channel-by (heard_on t.state (channel_at (suc n) t)) (suc n) m t) (keeps-misplaced _ t)
 
--- a method that no rule takes yet, or any other
-keeps-built : (n : ℕ) (m : AnyMethod) (place : ℕ) (t : Talk) → Keeps (acted_capacity (Method n m) t) t (if is_unbuilt m then fail (Unbuilt place) t else method_rule n m t)
-keeps-built zero m place t =
-    if_by (Keeps (capacity_by m t.state t.phase t) t) (is_unbuilt m) (fail (Unbuilt place) t) (method_rule zero m t)
-    (λ h. keeps-same _ t.capacity t _ (unbuilt-capacity m t.state t.phase t h) (keeps-lose (Unbuilt place) t)) (λ h. keeps-method zero m t)
-keeps-built (suc n) m place t =
-    if_case (Keeps t.capacity t) (is_unbuilt m) (fail (Unbuilt place) t) (method_rule (suc n) m t) (keeps-lose (Unbuilt place) t) (keeps-method (suc n) m t)
-
-keeps-rule : (f : Frame) (place : ℕ) (t : Talk) → Keeps (acted_capacity f t) t (frame_rule f place t)
-keeps-rule (ProtocolHeader version) place t = keeps-lose _ t
-keeps-rule Heartbeat place t = keeps-none t
-keeps-rule (Method n m) place t = keeps-built n m place t
-keeps-rule (Raw zero kind bytes) place t = keeps-misplaced _ t
-keeps-rule (Raw (suc n) kind bytes) place t = keeps-raw (heard_on t.state (channel_at (suc n) t)) (suc n) kind bytes t
+keeps-rule : (f : Frame) (answers : List Asked) (t : Talk) → Keeps (acted_capacity f t) t (frame_rule f answers t)
+keeps-rule (ProtocolHeader version) answers t = keeps-lose _ t
+keeps-rule Heartbeat answers t = keeps-none t
+keeps-rule (Method n m) answers t = keeps-method n m answers t
+keeps-rule (Raw zero kind bytes) answers t = keeps-misplaced _ t
+keeps-rule (Raw (suc n) kind bytes) answers t = keeps-raw (heard_on t.state (channel_at (suc n) t)) (suc n) kind bytes t
 
 keeps-closed-rule : (f : Frame) (t : Talk) → Keeps t.capacity t (closed_rule f t)
 keeps-closed-rule (Method zero (Blocked reason)) t = record { committed = refl; capacity = refl; link = inl refl }
@@ -253,10 +253,10 @@ frame-capacity true f t h =
     acting-capacity f t ∙ ap (λ c. if c && is_opening f t.state t.phase then grown_capacity t else t.capacity) (sym h)
 frame-capacity false f t h = ap (λ c. if c && is_opening f t.state t.phase then grown_capacity t else t.capacity) (sym h)
 
-pub keeps-frame : (f : Frame) (place : ℕ) (t : Talk) → Keeps (capacity_after f t) t (on_frame f place t)
-keeps-frame f place t =
-    if_by (Keeps (capacity_after f t) t) (acts t) (frame_rule f place t) (if hears_on t then closed_rule f t else t)
-    (λ acting. keeps-same _ (acted_capacity f t) t _ (sym (frame-capacity true f t acting)) (keeps-rule f place t))
+pub keeps-frame : (f : Frame) (answers : List Asked) (t : Talk) → Keeps (capacity_after f t) t (on_frame f answers t)
+keeps-frame f answers t =
+    if_by (Keeps (capacity_after f t) t) (acts t) (frame_rule f answers t) (if hears_on t then closed_rule f t else t)
+    (λ acting. keeps-same _ (acted_capacity f t) t _ (sym (frame-capacity true f t acting)) (keeps-rule f answers t))
     (λ idle. keeps-same _ t.capacity t _ (sym (frame-capacity false f t idle))
     (if_case (Keeps t.capacity t) (hears_on t) (closed_rule f t) t (keeps-closed-rule f t) (keeps-none t)))
 
@@ -272,17 +272,34 @@ beats-connected t due = connected t.state (both-left (is_connected t.state) _ (b
     both-left true b h = refl
     both-left false b h = absurd cc
 
--- time commits nothing
-pub keeps-tick : (t : Talk) → Keeps t.capacity t (tick t)
-keeps-tick t =
+keeps-refreshed : (said : Result (List ℕ) (List ℕ)) (t x : Talk) → Keeps t.capacity t x → Keeps t.capacity t (refreshed said x)
+keeps-refreshed (Ok secret) t x before = record { committed = before.committed; capacity = before.capacity; link = before.link }
+keeps-refreshed (Err text) t x before = record { committed = before.committed; capacity = before.capacity; link = before.link }
+
+keeps-beat : (t : Talk) → Keeps t.capacity t (beat t)
+keeps-beat t =
     let x : Talk = missing_heartbeat t in
     let before : Keeps t.capacity t x = if_case (Keeps t.capacity t) (is_missed t) (lose MissingHeartbeatError t) t (keeps-lose _ t) (keeps-none t) in
     if_case (Keeps t.capacity t) (is_due x) (record (queue 0 Heartbeat x) { last_write = x.present }) x
     (record { committed = before.committed; capacity = before.capacity; link = before.link }) before
 
+-- a secret is asked for only while the connection is open
+pub asks-connected : (t : Talk) → asks_validity t ≡ true → t.state ≡ Connected
+asks-connected t asks = by t.state asks
+  where
+    by : (s : ConnectionState) → (is_connected s && not t.refreshing) ≡ true → s ≡ Connected
+    by Connected h = refl
+    by _ h = cc
+
+-- time commits nothing
+pub keeps-tick : (answers : List Asked) (t : Talk) → Keeps t.capacity t (tick answers t)
+keeps-tick answers t =
+    let before : Keeps t.capacity t (beat t) = keeps-beat t in
+    secret-case (Keeps t.capacity t) answers (beat t) before (λ asks said. keeps-refreshed said t (beat t) before)
+
 -- a frame that is read commits nothing
-pub frame-committed : (f : Frame) (place at : ℕ) (t : Talk) → (on_frame f place (present_at at t)).committed ≡ t.committed
-frame-committed f place at t = (keeps-frame f place (present_at at t)).committed ∙ present-keeps (λ x. x.committed) at t (λ n. refl)
+pub frame-committed : (f : Frame) (answers : List Asked) (at : ℕ) (t : Talk) → (on_frame f answers (present_at at t)).committed ≡ t.committed
+frame-committed f answers at t = (keeps-frame f answers (present_at at t)).committed ∙ present-keeps (λ x. x.committed) at t (λ n. refl)
 
 pub keeps-misread : (why : Misread) (t : Talk) → Keeps t.capacity t (misread why t)
 keeps-misread why t =
@@ -379,11 +396,21 @@ pub record Overlooks {A : Type 0} (f : Talk → A) : Type 0 where
   pub writes : (t : Talk) (w : ℕ) (ms : List Mark) → f (record t { last_write = w; committed = ms }) ≡ f t
   pub moments : (t : Talk) (n : ℕ) → f (record t { present = n }) ≡ f t
 
--- a tick leaves it as it was, where it overlooks what waits and when was written too
-pub tick-keeps : {A : Type 0} (f : Talk → A) → OverlooksEnds f → ((t : Talk) (q : Queued) (n : ℕ) → f (record t { outbox = q; last_write = n }) ≡ f t) → (t : Talk) → f (tick t) ≡ f t
-tick-keeps f h k t =
+-- what looks at none of what a tick changes beside an end: what waits, when was written, and what is known of the secret
+abbrev pub OverlooksTicks : {A : Type 0} → (Talk → A) → Type 0
+OverlooksTicks f =
+    (t : Talk) (q : Queued) (n m : ℕ) (b : Bool) → f (record t { outbox = q; last_write = n; secret_at = m; refreshing = b }) ≡ f t
+
+refreshed-keeps : {A : Type 0} (f : Talk → A) → OverlooksTicks f → (said : Result (List ℕ) (List ℕ)) (t : Talk) → f (refreshed said t) ≡ f t
+refreshed-keeps f k (Ok secret) t = k t _ t.last_write t.secret_at true
+refreshed-keeps f k (Err text) t = k t t.outbox t.last_write t.present t.refreshing
+
+-- a tick leaves it as it was, where it overlooks all that
+pub tick-keeps : {A : Type 0} (f : Talk → A) → OverlooksEnds f → OverlooksTicks f → (answers : List Asked) (t : Talk) → f (tick answers t) ≡ f t
+tick-keeps f h k answers t =
     let x : Talk = missing_heartbeat t in
-    if_case (λ (y : Talk). f y ≡ f x) (is_due x) (record (queue 0 Heartbeat x) { last_write = x.present }) x (k x _ _) refl
+    secret-case (λ (y : Talk). f y ≡ f (beat t)) answers (beat t) refl (λ asks said. refreshed-keeps f k said (beat t))
+    ∙ if_case (λ (y : Talk). f y ≡ f x) (is_due x) (record (queue 0 Heartbeat x) { last_write = x.present }) x (k x _ _ x.secret_at x.refreshing) refl
     ∙ if_case (λ (y : Talk). f y ≡ f t) (is_missed t) (lose MissingHeartbeatError t) t (h t _ _ _ _) refl
 
 finish-keeps : {A : Type 0} (f : Talk → A) → OverlooksEnds f → (o : Option ServerClose) (t : Talk) → f (finish_by o t) ≡ f t
@@ -411,9 +438,9 @@ lost-stays fault t =
     (if_case (λ (x : Talk). (x ≡ t) ⊎ (has_ended x ≡ true)) (is_open t) (finish t) t (inr (finish-ends t.server_close t)) (inl refl))
 
 -- a tick leaves the link, or ends the session
-pub tick-stays : (t : Talk) → has_ended t ≡ true → has_ended (tick t) ≡ true
-tick-stays t h =
-    elim (keeps-tick t).link [ inl same ↦ ap (λ (l : Link ErrorKind). is_some (end_of_link l)) same ∙ h | inr ended ↦ ended ]
+pub tick-stays : (answers : List Asked) (t : Talk) → has_ended t ≡ true → has_ended (tick answers t) ≡ true
+tick-stays answers t h =
+    elim (keeps-tick answers t).link [ inl same ↦ ap (λ (l : Link ErrorKind). is_some (end_of_link l)) same ∙ h | inr ended ↦ ended ]
 
 -- the link stays, or the session ended
 abbrev pub LinkKept : Talk → Talk → Type 0

@@ -12,7 +12,7 @@ use Rattle.amqp_frame.specs.declared.frame.Frame.{Frame}
 use Rattle.amqp_frame.specs.declared.frame.Frame.TheVariants.{ProtocolHeader, Method, Raw, Heartbeat}
 use Rattle.amqp_frame.specs.declared.frame.RawKind.{RawKind}
 use Rattle.amqp_frame.specs.declared.method.Method.{Method as AnyMethod}
-use Rattle.amqp_frame.specs.declared.method.Method.TheVariants.{Start, Tune, OpenOk, Close, CloseOk, Blocked, Unblocked, UpdateSecretOk, ChannelOpenOk, ChannelClose, ChannelCloseOk, ChannelFlow, ChannelFlowOk}
+use Rattle.amqp_frame.specs.declared.method.Method.TheVariants.{Start, Secure, Tune, OpenOk, Close, CloseOk, Blocked, Unblocked, UpdateSecretOk, ChannelOpenOk, ChannelClose, ChannelCloseOk, ChannelFlow, ChannelFlowOk}
 use Rattle.amqp_frame.specs.RawMethods.{OtherMethod}
 use Rattle.amqp_outbox.specs.declared.item.Item.{Item}
 use Rattle.amqp_outbox.specs.declared.reply.Reply.TheVariants.{ChannelOpened, ChannelClosed, FlowDone, SecretDone, ConnectionClosed}
@@ -47,26 +47,28 @@ use Rattle.amqp_session.specs.declared.error.ErrorKind.TheVariants.{NoMemory, IO
 use Rattle.amqp_session.specs.declared.error.ErrorKind.{ErrorKind}
 use Rattle.amqp_session.specs.Listed.{at, put, without, has}
 use Rattle.amqp_session.specs.Config.{Config}
+use Rattle.amqp_session.specs.declared.auth.asked.Asked.{Asked as ProviderAnswer}
 use Rattle.amqp_session.specs.Talk.{Talk, start, acts, hears_on, has_ended, is_acting, is_asked, is_closing, is_open, is_open_link, end_of_link}
 use Rattle.amqp_session.specs.Changes.{Promises, present_at, queue, starve, next_promise, refuse, give, give_to, rejected, rejected_each, promises_on, replies_on, without_all_on, drop_replies_of, fail, lose, misplaced, close, finish, finish_by, settled_by, settled_to, promise}
 use Rattle.amqp_session.specs.Links.{asked, asked_link, linked, link_failed, piece, dropped, misread, lost}
-use Rattle.amqp_session.specs.Handshake.{close_ok, start_ok, tune_ok, open_vhost, our_close, new_secret, channel_open, channel_flow, flow_ok, channel_close_ok, our_channel_close}
+use Rattle.amqp_session.specs.Handshake.{close_ok, start_ok, secure_ok, tune_ok, open_vhost, our_close, new_secret, channel_open, channel_flow, flow_ok, channel_close_ok, our_channel_close}
 use Rattle.amqp_session.specs.Negotiation.{lesser_wish, wish_or, tune}
 use Rattle.amqp_session.specs.Numbering.{first_number, drawn}
 use Rattle.amqp_session.specs.Violations.{channel_closed_with, misread_error}
-use Rattle.amqp_session.specs.ConnectionMethods.{connection_rule, connection_closed, secret_taken}
+use Rattle.amqp_session.specs.ConnectionMethods.{connection_rule, connection_closed, secret_taken, started, challenged}
 use Rattle.amqp_session.specs.Channels.{channel_at, set_channel, closing}
 use Rattle.amqp_session.specs.ChannelMethods.{heard_on, unawaited_channel_method, channel_opened, channel_closed, channel_flowed, channel_close_by, awaits_close_ok, remove_unless_owed, on_channel_flow, channel_rule, channel_method_by, channel_method, hand_out, confirmed, is_select_ok, pass_through, raw_by}
 use Rattle.amqp_session.specs.Publishing.{method_frame, publish_frames}
-use Rattle.amqp_session.specs.Frames.{is_unbuilt, is_of_a_channel, method_rule, frame_rule, closed_rule, on_frame}
+use Rattle.amqp_session.specs.Frames.{is_of_a_channel, method_rule, frame_rule, closed_rule, on_frame}
 use Rattle.amqp_session.specs.Commands.{is_opening, named_in, named, target_in, target_by, target, open_drawn, leave_channel, leave_connection, close_target, drop_target, flow_target, queue_secret, update_secret, too_long, unless_too_long, queue_send, send_target, body_limit, queue_publish, publish_target, command, command_rule}
 use Rattle.amqp_session.specs.Writing.{committed_as, next_within, commit, overlong, end_overlong, next_frame, paid_by, pay, follow, sent, sent_among, taken}
-use Rattle.amqp_session.specs.Ticks.{is_missed, is_due, missing_heartbeat, tick}
+use Rattle.amqp_session.specs.Ticks.{is_missed, is_due, missing_heartbeat, beat, refreshed, refresh_reason, tick}
 use Rattle.amqp_session.specs.Answers.{answer_of, take_answer, take_frames}
 use Rattle.amqp_session.specs.Laws.{IsEnded, StaysSound, is_end}
 use Rattle.amqp_session.specs.Sound.{Ascend, AscendFrom, IsSound, fits_link, is_agreed, AllBelow, Finishes, following, goes_on}
 use Rattle.amqp_session.proofs.Cases.{if_case, if_by}
-use Rattle.amqp_session.proofs.Keeping.{beats-connected}
+use Rattle.amqp_session.proofs.Heard.{start-case, secure-case, secret-case}
+use Rattle.amqp_session.proofs.Keeping.{beats-connected, asks-connected}
 use Rattle.amqp_session.proofs.Ascending.{none-below, put-ascends, put-from, put-below, without-ascends, without-from, without-below, at-below, below-greater, map_values-from}
 use Rattle.amqp_session.proofs.Finishing.{acting-finishes, acting-none, alone-last, channel-goes_on, close-goes_on, close_ok-goes_on, committed-follows, control-goes_on, flow-goes_on, flow_ok-goes_on, dropped-acts, dropped-finishes, first-goes, group-goes_on, left-goes_on, open-goes_on, publish-goes_on, queue-finishes, sent-committed, ungrouped-goes_on}
 
@@ -295,11 +297,36 @@ sound-connection-closed (Some promise) t s =
 
 sound-secret-taken : (a : Option (Option ℕ)) (t : Talk) → IsSound t → IsSound (secret_taken a t)
 sound-secret-taken None t s = sound-fail _ t s
-sound-secret-taken (Some promise) t s = sound-give_to promise (Ok Done) _ (record { link = s.link; room = s.room; acting = s.acting; finish = s.finish; listed = s.listed; promises = s.promises })
+sound-secret-taken (Some None) t s = record { link = s.link; room = s.room; acting = s.acting; finish = s.finish; listed = s.listed; promises = s.promises }
+sound-secret-taken (Some (Some number)) t s = sound-give number (Ok Done) _ (record { link = s.link; room = s.room; acting = s.acting; finish = s.finish; listed = s.listed; promises = s.promises })
 
-sound-connection : (state : ConnectionState) (p : Phase) (m : AnyMethod) (t : Talk) → t.state ≡ state → t.phase ≡ p → is_open t ≡ true
-    → is_acting t.input ≡ true → IsSound t → IsSound (connection_rule state p m t)
-sound-connection state p (Close code text class method) t hs hp opened acting s =
+sound-started : (mechanism : List ℕ) (said : Result (List ℕ) (List ℕ)) (t : Talk) → t.state ≡ Connecting → is_acting t.input ≡ true → IsSound t → IsSound (started mechanism said t)
+sound-started mechanism (Err text) t hs acting s = sound-fail _ t s
+sound-started mechanism (Ok response) t hs acting s =
+    record {
+      link = s.link;
+      acting = s.acting;
+      finish = queue-finishes t.input t.committed t.outbox (plain 0 (start_ok t.config.options mechanism response)) acting refl s.finish;
+      listed = s.listed;
+      promises = s.promises;
+      room = λ h. (let k : is_agreed Connecting AwaitTune ≡ true = subst (λ x. is_agreed x AwaitTune ≡ true) hs h in absurd cc);
+    }
+
+sound-challenged : (said : Result (List ℕ) (List ℕ)) (t : Talk) → is_acting t.input ≡ true → IsSound t → IsSound (challenged said t)
+sound-challenged (Err text) t acting s = sound-fail _ t s
+sound-challenged (Ok response) t acting s =
+    record {
+      link = s.link;
+      room = s.room;
+      acting = s.acting;
+      finish = queue-finishes t.input t.committed t.outbox (plain 0 (secure_ok response)) acting refl s.finish;
+      listed = s.listed;
+      promises = s.promises;
+    }
+
+sound-connection : (state : ConnectionState) (p : Phase) (m : AnyMethod) (answers : List ProviderAnswer) (t : Talk) → t.state ≡ state → t.phase ≡ p → is_open t ≡ true
+    → is_acting t.input ≡ true → IsSound t → IsSound (connection_rule state p m answers t)
+sound-connection state p (Close code text class method) answers t hs hp opened acting s =
     record {
       link = open-closing t.link opened;
       room = λ h. absurd cc;
@@ -310,20 +337,13 @@ sound-connection state p (Close code text class method) t hs hp opened acting s 
       listed = s.listed;
       promises = s.promises;
     }
-sound-connection state p (Blocked reason) t hs hp opened acting s = record { link = s.link; room = s.room; acting = s.acting; finish = s.finish; listed = s.listed; promises = s.promises }
-sound-connection state p Unblocked t hs hp opened acting s = record { link = s.link; room = s.room; acting = s.acting; finish = s.finish; listed = s.listed; promises = s.promises }
-sound-connection Closing p CloseOk t hs hp opened acting s = sound-connection-closed (awaited_promise 0 ConnectionClosed t.outbox) t s
-sound-connection Closing p m t hs hp opened acting s = s
-sound-connection Connecting AwaitStart (Start a b c d e) t hs hp opened acting s =
-    record {
-      link = s.link;
-      acting = s.acting;
-      finish = queue-finishes t.input t.committed t.outbox (plain 0 (start_ok t.config)) acting refl s.finish;
-      listed = s.listed;
-      promises = s.promises;
-      room = λ h. (let k : is_agreed Connecting AwaitTune ≡ true = subst (λ x. is_agreed x AwaitTune ≡ true) hs h in absurd cc);
-    }
-sound-connection Connecting AwaitTune (Tune a b c) t hs hp opened acting s =
+sound-connection state p (Blocked reason) answers t hs hp opened acting s = record { link = s.link; room = s.room; acting = s.acting; finish = s.finish; listed = s.listed; promises = s.promises }
+sound-connection state p Unblocked answers t hs hp opened acting s = record { link = s.link; room = s.room; acting = s.acting; finish = s.finish; listed = s.listed; promises = s.promises }
+sound-connection Closing p CloseOk answers t hs hp opened acting s = sound-connection-closed (awaited_promise 0 ConnectionClosed t.outbox) t s
+sound-connection Closing p m answers t hs hp opened acting s = s
+sound-connection Connecting AwaitStart (Start a b c d e) answers t hs hp opened acting s = start-case IsSound answers t s (λ mechanism said. sound-started mechanism said t hs acting s)
+sound-connection Connecting AwaitTune (Secure challenge) answers t hs hp opened acting s = secure-case IsSound answers t s (λ said. sound-challenged said t acting s)
+sound-connection Connecting AwaitTune (Tune a b c) answers t hs hp opened acting s =
     let server : Configuration = record { channel_max = a; frame_max = b; heartbeat = c } in
     let tuned : Item = plain 0 (tune_ok (tune t.configuration server)) in
     record {
@@ -336,7 +356,7 @@ sound-connection Connecting AwaitTune (Tune a b c) t hs hp opened acting s =
       listed = s.listed;
       promises = s.promises;
     }
-sound-connection Connecting AwaitOpenOk OpenOk t hs hp opened acting s =
+sound-connection Connecting AwaitOpenOk OpenOk answers t hs hp opened acting s =
     let given : IsSound (give 0 (Ok AnswerConnected) t) = sound-give 0 (Ok AnswerConnected) t s in
     record {
       link = opened-fits t.link (subst (λ x. fits_link x t.link ≡ true) hs s.link);
@@ -346,25 +366,25 @@ sound-connection Connecting AwaitOpenOk OpenOk t hs hp opened acting s =
       listed = s.listed;
       promises = given.promises;
     }
-sound-connection Connected p UpdateSecretOk t hs hp opened acting s = sound-secret-taken (awaited_promise 0 SecretDone t.outbox) t s
-sound-connection held p m t hs hp opened acting s = sound-fail _ t s
+sound-connection Connected p UpdateSecretOk answers t hs hp opened acting s = sound-secret-taken (awaited_promise 0 SecretDone t.outbox) t s
+sound-connection held p m answers t hs hp opened acting s = sound-fail _ t s
 
 -- ---- frames
 
-sound-method : (n : ℕ) (m : AnyMethod) (t : Talk) → is_open t ≡ true → is_acting t.input ≡ true → IsSound t → IsSound (method_rule n m t)
-sound-method zero m t opened acting s =
-    if_case IsSound (is_of_a_channel m) (misplaced _ t) (connection_rule t.state t.phase m t)
-    (sound-misplaced _ t s) (sound-connection t.state t.phase m t refl refl opened acting s)
-sound-method (suc n) m t opened acting s =
+sound-method : (n : ℕ) (m : AnyMethod) (answers : List ProviderAnswer) (t : Talk) → is_open t ≡ true → is_acting t.input ≡ true → IsSound t → IsSound (method_rule n m answers t)
+sound-method zero m answers t opened acting s =
+    if_case IsSound (is_of_a_channel m) (misplaced _ t) (connection_rule t.state t.phase m answers t)
+    (sound-misplaced _ t s) (sound-connection t.state t.phase m answers t refl refl opened acting s)
+sound-method (suc n) m answers t opened acting s =
     if_case IsSound (is_of_a_channel m) (channel_method (suc n) m t) (misplaced _ t)
     (sound-channel-by (heard_on t.state (channel_at (suc n) t)) (suc n) m t (omega arith) acting s) (sound-misplaced _ t s)
 
-sound-rule : (f : Frame) (place : ℕ) (t : Talk) → is_open t ≡ true → is_acting t.input ≡ true → IsSound t → IsSound (frame_rule f place t)
-sound-rule (ProtocolHeader version) place t opened acting s = sound-fail _ t s
-sound-rule Heartbeat place t opened acting s = s
-sound-rule (Method n m) place t opened acting s = if_case IsSound (is_unbuilt m) (fail _ t) (method_rule n m t) (sound-fail _ t s) (sound-method n m t opened acting s)
-sound-rule (Raw zero kind bytes) place t opened acting s = sound-misplaced _ t s
-sound-rule (Raw (suc n) kind bytes) place t opened acting s = sound-raw (heard_on t.state (channel_at (suc n) t)) (suc n) kind bytes t (omega arith) s
+sound-rule : (f : Frame) (answers : List ProviderAnswer) (t : Talk) → is_open t ≡ true → is_acting t.input ≡ true → IsSound t → IsSound (frame_rule f answers t)
+sound-rule (ProtocolHeader version) answers t opened acting s = sound-fail _ t s
+sound-rule Heartbeat answers t opened acting s = s
+sound-rule (Method n m) answers t opened acting s = sound-method n m answers t opened acting s
+sound-rule (Raw zero kind bytes) answers t opened acting s = sound-misplaced _ t s
+sound-rule (Raw (suc n) kind bytes) answers t opened acting s = sound-raw (heard_on t.state (channel_at (suc n) t)) (suc n) kind bytes t (omega arith) s
 
 sound-closed-rule : (f : Frame) (t : Talk) → IsSound t → IsSound (closed_rule f t)
 sound-closed-rule (Method zero (Blocked reason)) t s = record { link = s.link; room = s.room; acting = s.acting; finish = s.finish; listed = s.listed; promises = s.promises }
@@ -379,10 +399,10 @@ open-acting : (a b : Bool) → (a && b) ≡ true → b ≡ true
 open-acting true b h = h
 open-acting false b h = absurd cc
 
-pub sound-frame : (f : Frame) (place : ℕ) (t : Talk) → IsSound t → IsSound (on_frame f place t)
-sound-frame f place t s =
-    if_by IsSound (acts t) (frame_rule f place t) (if hears_on t then closed_rule f t else t)
-    (λ h. sound-rule f place t (acting-open (is_open t) (is_acting t.input) h) (open-acting (is_open t) (is_acting t.input) h) s)
+pub sound-frame : (f : Frame) (answers : List ProviderAnswer) (t : Talk) → IsSound t → IsSound (on_frame f answers t)
+sound-frame f answers t s =
+    if_by IsSound (acts t) (frame_rule f answers t) (if hears_on t then closed_rule f t else t)
+    (λ h. sound-rule f answers t (acting-open (is_open t) (is_acting t.input) h) (open-acting (is_open t) (is_acting t.input) h) s)
     (λ h. if_case IsSound (hears_on t) (closed_rule f t) t (sound-closed-rule f t s) s)
 
 -- ---- links
@@ -663,11 +683,25 @@ sound-heartbeat t hs s =
       promises = s.promises;
     }
 
-pub sound-tick : (t : Talk) → IsSound t → IsSound (tick t)
-sound-tick t s =
+sound-refreshed : (said : Result (List ℕ) (List ℕ)) (t : Talk) → t.state ≡ Connected → IsSound t → IsSound (refreshed said t)
+sound-refreshed (Err text) t hs s = record { link = s.link; room = s.room; acting = s.acting; finish = s.finish; listed = s.listed; promises = s.promises }
+sound-refreshed (Ok secret) t hs s =
+    record {
+      link = s.link;
+      room = s.room;
+      acting = s.acting;
+      finish = queue-finishes t.input t.committed t.outbox (plain 0 (new_secret secret refresh_reason)) (s.acting (ap goes_on hs)) refl s.finish;
+      listed = s.listed;
+      promises = s.promises;
+    }
+
+pub sound-tick : (answers : List ProviderAnswer) (t : Talk) → IsSound t → IsSound (tick answers t)
+sound-tick answers t s =
     let x : Talk = missing_heartbeat t in
     let after : IsSound x = if_case IsSound (is_missed t) (lose MissingHeartbeatError t) t (sound-fail MissingHeartbeatError t s) s in
-    if_by IsSound (is_due x) (record (queue 0 Heartbeat x) { last_write = x.present }) x (λ due. sound-heartbeat x (beats-connected x due) after) (λ rest. after)
+    let beaten : IsSound (beat t) =
+    if_by IsSound (is_due x) (record (queue 0 Heartbeat x) { last_write = x.present }) x (λ due. sound-heartbeat x (beats-connected x due) after) (λ rest. after) in
+    secret-case IsSound answers (beat t) beaten (λ asks said. sound-refreshed said (beat t) (asks-connected (beat t) asks) beaten)
 
 sound-paid : (b : Bool) (n : ℕ) (c : Channel) (t : Talk) → 0 < n → IsSound t → IsSound (paid_by b n c t)
 sound-paid true n c t some s = sound-set n (record c { debt = debt.Paid }) t some s
@@ -744,10 +778,10 @@ keeps-sound t s =
       linked = sound-linked t s;
       link_failed = sound-link_failed t s;
       piece = sound-piece t s;
-      frame = λ f place. sound-frame f place t s;
+      frame = λ f answers. sound-frame f answers t s;
       misread = λ why. sound-misread why t s;
       lost = λ fault. sound-lost fault t s;
-      tick = sound-tick t s;
+      tick = λ answers. sound-tick answers t s;
       next_frame = λ space. sound-next space t s;
       taken = λ n. sound-taken n t s;
       starve = sound-starve t s;

@@ -1,12 +1,15 @@
 -- What comes of questions to a provider.
-use Rattle.std.specs.Prelude.{◌≡◌, ◌≤◌, List, [], ◌∷◌, ◌++◌, length, Result, Ok, Err, IsErr}
+use Rattle.std.specs.Prelude.{◌≡◌, ◌≤◌, Bool, true, false, IsTrue, List, [], ◌∷◌, ◌++◌, length, Result, Ok, Err, IsErr}
 use Rattle.amqp_types.specs.declared.memory.NoMemory.{NoMemory as WantOfMemory}
 use Rattle.amqp_types.specs.declared.strings.LongString.{LongString}
 use Rattle.amqp_types.specs.declared.text.Text.{Text}
 use Rattle.amqp_session.specs.declared.auth.asked.Question.{Question}
+use Rattle.amqp_session.specs.declared.auth.asked.Question.TheVariants as question
 use Rattle.amqp_session.specs.declared.auth.asked.Asked.{Asked}
+use Rattle.amqp_session.specs.declared.auth.asked.Asked.TheVariants as answer
 use Rattle.amqp_session.specs.declared.auth.asked.Refusal.{Refusal}
 use Rattle.amqp_session.specs.declared.auth.asked.Refusal.TheVariants.{Said, NoMemory}
+use Rattle.amqp_session.specs.Talk.{Talk}
 use Rattle.amqp_session.specs.Providers.{Exchange, Allows, Leads}
 
 -- questions with answers, as far as both go
@@ -32,6 +35,53 @@ pub record Unanswered (asked : List Question) (before : Exchange → Type 0) (li
   pub within : length answers ≤ length asked
   -- the provider may give it
   pub allowed : Allows before (paired asked answers)
+
+-- an answer has its question's form
+abbrev pub fits : Question → Asked → Bool
+fits question.Mechanism (answer.Mechanism name) = true
+fits question.Starter (answer.Starter said) = true
+fits (question.Challenge challenge) (answer.Challenge said) = true
+fits question.ValidFor (answer.ValidFor time) = true
+fits question.Refresh (answer.Refreshed said) = true
+fits asked given = false
+
+-- these are answers to these questions, one to each
+abbrev pub Answer : List Question → List Asked → Type 0
+Answer [] [] = Unit {0}
+Answer (asked ∷ later) (given ∷ rest) = IsTrue (fits asked given) × Answer later rest
+Answer _ _ = ⊥
+
+-- these questions were answered so, and the answers were put last into the list
+pub record Asks (asked : List Question) (answers : List Asked) (before after : Exchange → Type 0) (list list' : List Asked)
+    : Type 0 where
+  -- the list grew by the answers
+  pub listed : list' ≡ list ++ answers
+  -- one answers each question
+  pub all : Answer asked answers
+  -- the provider may give them
+  pub allowed : (rest : Exchange) → Allows after rest → Allows before (paired asked answers ++ rest)
+
+-- a rule that asks was done with what was answered; what it asks may go by the answers to what it asked before
+pub record Hears (rule : List Asked → Talk → Talk) (asked : List Asked → Talk → List Question)
+    (before after : Exchange → Type 0) (t t' : Talk) (list list' : List Asked) : Type 0 where
+  -- what was answered
+  pub answers : List Asked
+  -- to what the rule asks
+  pub asks : Asks (asked answers t) answers before after list list'
+  -- the state is what the rule makes of it
+  pub talk : t' ≡ rule answers t
+
+-- memory was refused after some of the questions were answered that a rule asks, and no other answer was listed
+pub record Starves (asked : List Asked → Talk → List Question) (before : Exchange → Type 0) (t : Talk)
+    (list list' : List Asked) : Type 0 where
+  -- what was answered
+  pub answers : List Asked
+  -- the list grew by that
+  pub listed : list' ≡ list ++ answers
+  -- no more was answered than was asked
+  pub within : length answers ≤ length (asked answers t)
+  -- the provider may give it
+  pub allowed : Allows before (paired (asked answers t) answers)
 
 -- want of memory, apart from what was said
 abbrev pub IsSaid : Result LongString Refusal → Result (Result LongString Text) WantOfMemory → Type 0

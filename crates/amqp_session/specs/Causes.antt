@@ -1,10 +1,10 @@
 -- What brings about that a frame which is read ends a session with an error.
-use Rattle.std.specs.Prelude.{◌≡◌, ◌≢◌, ◌⊎◌, ◌&&◌, not, ℕ, zero, suc, Bool, true, false, IsTrue, IsFalse, Some, None, is_some}
+use Rattle.std.specs.Prelude.{◌≡◌, ◌≢◌, ◌⊎◌, not, ℕ, zero, suc, Bool, true, false, IsTrue, IsFalse, List, [], ◌∷◌, Option, Some, None, is_some, Err}
 use Rattle.amqp_frame.specs.declared.frame.Frame.{Frame}
 use Rattle.amqp_frame.specs.declared.frame.Frame.TheVariants.{ProtocolHeader, Method, Raw}
 use Rattle.amqp_frame.specs.declared.frame.RawKind.TheVariants.{RawMethod}
 use Rattle.amqp_frame.specs.declared.method.Method.{Method as AnyMethod}
-use Rattle.amqp_frame.specs.declared.method.Method.TheVariants.{Start, Tune, OpenOk, Close, Blocked, Unblocked, UpdateSecretOk, ChannelOpenOk, ChannelFlow, ChannelFlowOk, ChannelClose, ChannelCloseOk}
+use Rattle.amqp_frame.specs.declared.method.Method.TheVariants.{Start, Secure, Tune, OpenOk, Close, Blocked, Unblocked, UpdateSecretOk, ChannelOpenOk, ChannelFlow, ChannelFlowOk, ChannelClose, ChannelCloseOk}
 use Rattle.amqp_outbox.specs.declared.reply.Reply.TheVariants.{ChannelOpened, ChannelClosed, FlowDone, SecretDone}
 use Rattle.amqp_outbox.specs.Queued.{awaited_promise}
 use Rattle.amqp_session.specs.declared.channels.Channel.{Channel}
@@ -14,10 +14,14 @@ use Rattle.amqp_session.specs.declared.state.ConnectionState.TheVariants.{Connec
 use Rattle.amqp_session.specs.declared.state.Phase.{Phase}
 use Rattle.amqp_session.specs.declared.state.Phase.TheVariants.{AwaitStart, AwaitTune, AwaitOpenOk}
 use Rattle.amqp_session.specs.declared.error.ErrorKind.{ErrorKind}
-use Rattle.amqp_session.specs.declared.error.ErrorKind.TheVariants.{ProtocolError, InvalidProtocolVersion, InvalidConnectionState, InvalidChannel, Unbuilt}
+use Rattle.amqp_session.specs.declared.error.ErrorKind.TheVariants.{ProtocolError, InvalidProtocolVersion, InvalidConnectionState, InvalidChannel, AuthProviderError}
+use Rattle.amqp_session.specs.declared.auth.asked.Question.{Question}
+use Rattle.amqp_session.specs.declared.auth.asked.Question.TheVariants as question
+use Rattle.amqp_session.specs.declared.auth.asked.Asked.{Asked}
+use Rattle.amqp_session.specs.declared.auth.asked.Asked.TheVariants as answer
 use Rattle.amqp_session.specs.Talk.{Talk, is_closing}
 use Rattle.amqp_session.specs.Channels.{channel_at}
-use Rattle.amqp_session.specs.Frames.{is_of_a_channel, is_unbuilt}
+use Rattle.amqp_session.specs.Frames.{is_of_a_channel, questions_in}
 use Rattle.amqp_session.specs.Violations.{stray_channel_frame, stray_connection_method, unawaited}
 
 -- ---- the connection
@@ -33,6 +37,7 @@ is_due (Close code text class method) told state phase = true
 is_due (Blocked reason) told state phase = true
 is_due Unblocked told state phase = true
 is_due (Start major minor properties mechanisms locales) told Connecting AwaitStart = true
+is_due (Secure challenge) told Connecting AwaitTune = true
 is_due (Tune channel_max frame_max heartbeat) told Connecting AwaitTune = true
 is_due OpenOk told Connecting AwaitOpenOk = true
 is_due UpdateSecretOk told Connected phase = told
@@ -84,11 +89,16 @@ IsUnawaited e _ t = ⊥
 
 -- ---- a frame
 
--- a frame is judged, whether it may come: after our close of the connection none is, nor is a method that no rule takes
--- yet
-abbrev pub is_judged : Frame → Talk → Bool
-is_judged (Method n m) t = not (is_closing t.state) && not (is_unbuilt m)
-is_judged f t = not (is_closing t.state)
+-- frames are judged, whether they may come: after our close of the connection none is
+abbrev pub is_judged : Talk → Bool
+is_judged t = not (is_closing t.state)
+
+-- the text by which the provider refused what a frame asked
+abbrev pub refused_in : List Question → List Asked → Option (List ℕ)
+refused_in (question.Mechanism ∷ question.Starter ∷ []) (answer.Mechanism mechanism ∷ answer.Starter (Err text) ∷ later) =
+    Some text
+refused_in (question.Challenge challenge ∷ []) (answer.Challenge (Err text) ∷ later) = Some text
+refused_in asked answers = None
 
 -- the error that is brought by a frame which is judged
 abbrev pub IsJudgedError : ErrorKind → Frame → Talk → Type 0
@@ -97,9 +107,9 @@ IsJudgedError (InvalidChannel channel) f t = IsOfChannel channel f × IsUnheard 
 IsJudgedError (ProtocolError e) f t = IsMisplaced (ProtocolError e) f ⊎ IsUnawaited (ProtocolError e) f t
 IsJudgedError _ f t = ⊥
 
--- the error is brought by a frame that stood at a place of the link's received bytes: a protocol header has its own,
--- and so has a method that no rule takes yet
-abbrev pub IsFrameError : ErrorKind → Frame → ℕ → Talk → Type 0
-IsFrameError (InvalidProtocolVersion version) (ProtocolHeader v) place t = v ≡ version
-IsFrameError (Unbuilt built_at) (Method channel m) place t = IsTrue (is_unbuilt m) × (place ≡ built_at)
-IsFrameError e f place t = IsTrue (is_judged f t) × IsJudgedError e f t
+-- the error is brought by a frame, with what the provider answers to what it asks: a protocol header has its own, and
+-- so has the refusal of a start or of a challenge
+abbrev pub IsFrameError : ErrorKind → Frame → List Asked → Talk → Type 0
+IsFrameError (InvalidProtocolVersion version) (ProtocolHeader v) answers t = v ≡ version
+IsFrameError (AuthProviderError text) f answers t = refused_in (questions_in f t) answers ≡ Some text
+IsFrameError e f answers t = IsTrue (is_judged t) × IsJudgedError e f t

@@ -4,10 +4,7 @@ use Rattle.amqp_types.specs.Value.{FieldValue, Pair, scalar, long_string}
 use Rattle.amqp_types.specs.Table.{put}
 use Rattle.amqp_uri.specs.declared.uri.AMQPUri.{AMQPUri}
 use Rattle.amqp_uri.specs.declared.query.AMQPQuery.{AMQPQuery}
-use Rattle.amqp_uri.specs.declared.mechanism.SASLMechanism.{SASLMechanism}
-use Rattle.amqp_uri.specs.declared.mechanism.SASLMechanism.TheVariants.{Plain}
 use Rattle.amqp_uri.specs.Query.{kept_frame_max}
-use Rattle.amqp_uri.specs.Login.{Login}
 use Rattle.amqp_session.specs.declared.configuration.Configuration.{Configuration}
 
 -- what the user says of the client, as contracts see `ConnectionProperties`
@@ -51,15 +48,6 @@ abbrev pub with_name : List ℕ → Options → Options
 with_name name options = with_property (codes "connection_name") name options
 
 -- ---- what the address says
-
--- the mechanism of SASL: PLAIN, where the address has none
-abbrev pub mechanism : Config → SASLMechanism
-mechanism config = unwrap_or config.uri.query.auth_mechanism Plain
-
--- as whom the client logs in
-abbrev pub login : Config → Login
-login config =
-    record { username = config.uri.authority.userinfo.username; password = config.uri.authority.userinfo.password }
 
 -- the numbers that an address wishes, 0 where it has none
 abbrev pub own_numbers : AMQPQuery → Configuration

@@ -1,7 +1,7 @@
 -- Methods of the connection class (AMQP 0-9-1, 1.4 of its reference), on channel 0.
-use Rattle.std.specs.Prelude.{ℕ, true, false, List, Option, Some, None, Ok}
+use Rattle.std.specs.Prelude.{ℕ, true, false, List, ◌∷◌, Option, Some, None, Result, Ok, Err}
 use Rattle.amqp_frame.specs.declared.method.Method.{Method}
-use Rattle.amqp_frame.specs.declared.method.Method.TheVariants.{Start, Tune, OpenOk, Close, CloseOk, Blocked, Unblocked, UpdateSecretOk}
+use Rattle.amqp_frame.specs.declared.method.Method.TheVariants.{Start, Secure, Tune, OpenOk, Close, CloseOk, Blocked, Unblocked, UpdateSecretOk}
 use Rattle.amqp_outbox.specs.declared.reply.Reply.TheVariants.{SecretDone, ConnectionClosed}
 use Rattle.amqp_outbox.specs.Items.{plain}
 use Rattle.amqp_outbox.specs.Queued.{only, awaited_promise, answered}
@@ -12,10 +12,12 @@ use Rattle.amqp_session.specs.declared.state.Phase.TheVariants.{AwaitStart, Awai
 use Rattle.amqp_session.specs.declared.state.Input.TheVariants as input
 use Rattle.amqp_session.specs.declared.configuration.Configuration.{Configuration}
 use Rattle.amqp_session.specs.declared.command.Answer.TheVariants.{Connected as AnswerConnected, Done}
-use Rattle.amqp_session.specs.declared.error.ErrorKind.TheVariants.{InvalidConnectionState}
+use Rattle.amqp_session.specs.declared.error.ErrorKind.TheVariants.{InvalidConnectionState, AuthProviderError}
+use Rattle.amqp_session.specs.declared.auth.asked.Asked.{Asked}
+use Rattle.amqp_session.specs.declared.auth.asked.Asked.TheVariants as answer
 use Rattle.amqp_session.specs.Talk.{Talk, is_closing}
 use Rattle.amqp_session.specs.Negotiation.{tune, grown_capacity}
-use Rattle.amqp_session.specs.Handshake.{start_ok, tune_ok, open_vhost, close_ok}
+use Rattle.amqp_session.specs.Handshake.{start_ok, secure_ok, tune_ok, open_vhost, close_ok}
 use Rattle.amqp_session.specs.Violations.{closed_with}
 use Rattle.amqp_session.specs.Changes.{queue, give, give_to, close, lose}
 
@@ -25,9 +27,27 @@ unexpected_connection_method held t = lose (InvalidConnectionState held) t
 
 -- ---- the handshake
 
--- start: the client names itself and logs in, whatever the server offers
-abbrev pub on_start : Talk → Talk
-on_start t = record (queue 0 (start_ok t.config) t) { phase = AwaitTune }
+-- start, with the mechanism that the provider named, and what it says first: the client names itself and logs in,
+-- whatever the server offers; where the provider refused, that is fatal
+abbrev pub started : List ℕ → Result (List ℕ) (List ℕ) → Talk → Talk
+started mechanism (Ok response) t =
+    record (queue 0 (start_ok t.config.options mechanism response) t) { phase = AwaitTune }
+started mechanism (Err text) t = lose (AuthProviderError text) t
+
+-- start, with what the provider answers: its mechanism, then what it says first
+abbrev pub on_start : List Asked → Talk → Talk
+on_start (answer.Mechanism mechanism ∷ answer.Starter said ∷ later) t = started mechanism said t
+on_start _ t = t
+
+-- a challenge, with what the provider answers to it: that is said; where the provider refused, that is fatal
+abbrev pub challenged : Result (List ℕ) (List ℕ) → Talk → Talk
+challenged (Ok response) t = queue 0 (secure_ok response) t
+challenged (Err text) t = lose (AuthProviderError text) t
+
+-- a challenge, with what the provider answers
+abbrev pub on_secure : List Asked → Talk → Talk
+on_secure (answer.Challenge said ∷ later) t = challenged said t
+on_secure _ t = t
 
 -- tune: the numbers are agreed, and the virtual host is opened
 abbrev pub on_tune : Configuration → Talk → Talk
@@ -38,9 +58,11 @@ on_tune server t =
       phase = AwaitOpenOk;
     }
 
--- open-ok: the connection is open, its promise is answered, and more can be unsent, where longer frames were agreed
+-- open-ok: the connection is open, its promise is answered, more can be unsent, where longer frames were agreed, and
+-- from now on the secret is valid
 abbrev pub on_open_ok : Talk → Talk
-on_open_ok t = record (give 0 (Ok AnswerConnected) t) { state = Connected; capacity = grown_capacity t }
+on_open_ok t =
+    record (give 0 (Ok AnswerConnected) t) { state = Connected; capacity = grown_capacity t; secret_at = t.present }
 
 -- ---- blocking (an extension of RabbitMQ)
 
@@ -54,10 +76,13 @@ on_unblocked t = record t { blocked = false }
 
 -- ---- a new secret (an extension of RabbitMQ)
 
--- update-secret-ok, by the promise of what awaits it, which is answered; where nothing awaits it, it is fatal
+-- update-secret-ok, by the promise of what awaits it, which is answered; a refresh, which has none, is done, and from
+-- now on its secret is valid; where nothing awaits it, it is fatal
 abbrev pub secret_taken : Option (Option ℕ) → Talk → Talk
 secret_taken None t = unexpected_connection_method Connected t
-secret_taken (Some promise) t = give_to promise (Ok Done) (record t { outbox = answered 0 SecretDone t.outbox })
+secret_taken (Some None) t =
+    record t { outbox = answered 0 SecretDone t.outbox; secret_at = t.present; refreshing = false }
+secret_taken (Some (Some number)) t = give number (Ok Done) (record t { outbox = answered 0 SecretDone t.outbox })
 
 -- update-secret-ok: the server took the first new secret that it did not answer yet
 abbrev pub on_update_secret_ok : Talk → Talk
@@ -88,17 +113,18 @@ on_connection_close_ok t = connection_closed (awaited_promise 0 ConnectionClosed
 
 -- ---- the table: the first row that fits
 
--- a method of the connection class, by the state and by what the handshake awaits
-abbrev pub connection_rule : ConnectionState → Phase → Method → Talk → Talk
-connection_rule state phase (Close code text class method) t = on_connection_close code text t
-connection_rule state phase (Blocked reason) t = on_blocked t
-connection_rule state phase Unblocked t = on_unblocked t
-connection_rule Closing phase CloseOk t = on_connection_close_ok t
+-- a method of the connection class, by the state and by what the handshake awaits, with what the provider answers
+abbrev pub connection_rule : ConnectionState → Phase → Method → List Asked → Talk → Talk
+connection_rule state phase (Close code text class method) answers t = on_connection_close code text t
+connection_rule state phase (Blocked reason) answers t = on_blocked t
+connection_rule state phase Unblocked answers t = on_unblocked t
+connection_rule Closing phase CloseOk answers t = on_connection_close_ok t
 -- what else comes after our close is dropped
-connection_rule Closing phase method t = t
-connection_rule Connecting AwaitStart (Start major minor properties mechanisms locales) t = on_start t
-connection_rule Connecting AwaitTune (Tune channel_max frame_max heartbeat) t =
+connection_rule Closing phase method answers t = t
+connection_rule Connecting AwaitStart (Start major minor properties mechanisms locales) answers t = on_start answers t
+connection_rule Connecting AwaitTune (Secure challenge) answers t = on_secure answers t
+connection_rule Connecting AwaitTune (Tune channel_max frame_max heartbeat) answers t =
     on_tune (record { channel_max = channel_max; frame_max = frame_max; heartbeat = heartbeat }) t
-connection_rule Connecting AwaitOpenOk OpenOk t = on_open_ok t
-connection_rule Connected phase UpdateSecretOk t = on_update_secret_ok t
-connection_rule held phase method t = unexpected_connection_method held t
+connection_rule Connecting AwaitOpenOk OpenOk answers t = on_open_ok t
+connection_rule Connected phase UpdateSecretOk answers t = on_update_secret_ok t
+connection_rule held phase method answers t = unexpected_connection_method held t

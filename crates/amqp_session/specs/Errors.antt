@@ -9,7 +9,7 @@ use Rattle.amqp_session.specs.declared.state.ChannelState.TheVariants as channel
 use Rattle.amqp_session.specs.declared.io_fault.IoFault.{IoFault}
 use Rattle.amqp_session.specs.declared.io_fault.IoFault.TheVariants.{Aborted, Refused, Reset, BrokenPipe, WouldBlock, Interrupted, Other}
 use Rattle.amqp_session.specs.declared.error.ErrorKind.{ErrorKind}
-use Rattle.amqp_session.specs.declared.error.ErrorKind.TheVariants.{ChannelsLimitReached, InvalidProtocolVersion, InvalidChannel, InvalidChannelState, InvalidConnectionState, IOError, ParsingError, ProtocolError, SerialisationError, MissingHeartbeatError, OutOfTurns, NoMemory, Unbuilt}
+use Rattle.amqp_session.specs.declared.error.ErrorKind.TheVariants.{ChannelsLimitReached, InvalidProtocolVersion, InvalidChannel, InvalidChannelState, InvalidConnectionState, IOError, ParsingError, ProtocolError, SerialisationError, MissingHeartbeatError, OutOfTurns, NoMemory, AuthProviderError}
 use Rattle.amqp_session.specs.Shown.{shown}
 
 -- the states of a connection, by their names
@@ -62,4 +62,4 @@ text_of (SerialisationError size) = codes "failed to serialise: frame of " ++ de
 text_of MissingHeartbeatError = codes "no heartbeat received from server for too long"
 text_of OutOfTurns = codes "the given turns were all taken"
 text_of NoMemory = codes "memory was refused"
-text_of (Unbuilt place) = codes "not built: frame at byte " ++ decimal place
+text_of (AuthProviderError text) = codes "failure during authentication: " ++ text

@@ -1,24 +1,26 @@
 -- Frames: which rule a frame that was read goes by.
-use Rattle.std.specs.Prelude.{ℕ, zero, suc, if◌then◌else◌, Bool, true, false}
+use Rattle.std.specs.Prelude.{ℕ, zero, suc, if◌then◌else◌, Bool, true, false, List, [], ◌∷◌}
 use Rattle.amqp_types.specs.declared.version.ProtocolVersion.{ProtocolVersion}
 use Rattle.amqp_frame.specs.declared.frame.Frame.{Frame}
 use Rattle.amqp_frame.specs.declared.frame.Frame.TheVariants.{ProtocolHeader, Method, Raw, Heartbeat}
 use Rattle.amqp_frame.specs.declared.frame.RawKind.TheVariants.{RawMethod}
 use Rattle.amqp_frame.specs.declared.method.Method.{Method as AnyMethod}
-use Rattle.amqp_frame.specs.declared.method.Method.TheVariants.{Secure, Blocked, Unblocked, ChannelOpen, ChannelOpenOk, ChannelFlow, ChannelFlowOk, ChannelClose, ChannelCloseOk}
-use Rattle.amqp_session.specs.declared.error.ErrorKind.TheVariants.{InvalidProtocolVersion, Unbuilt}
+use Rattle.amqp_frame.specs.declared.method.Method.TheVariants.{Start, Secure, Blocked, Unblocked, ChannelOpen, ChannelOpenOk, ChannelFlow, ChannelFlowOk, ChannelClose, ChannelCloseOk}
+use Rattle.amqp_session.specs.declared.error.ErrorKind.TheVariants.{InvalidProtocolVersion}
+use Rattle.amqp_session.specs.declared.state.ConnectionState.{ConnectionState}
+use Rattle.amqp_session.specs.declared.state.ConnectionState.TheVariants.{Connecting}
+use Rattle.amqp_session.specs.declared.state.Phase.{Phase}
+use Rattle.amqp_session.specs.declared.state.Phase.TheVariants.{AwaitStart, AwaitTune}
+use Rattle.amqp_session.specs.declared.auth.asked.Question.{Question}
+use Rattle.amqp_session.specs.declared.auth.asked.Question.TheVariants as question
+use Rattle.amqp_session.specs.declared.auth.asked.Asked.{Asked}
 use Rattle.amqp_session.specs.Talk.{Talk, acts, hears_on}
 use Rattle.amqp_session.specs.Violations.{stray_connection_method, stray_channel_frame}
-use Rattle.amqp_session.specs.Changes.{fail, lose, misplaced}
+use Rattle.amqp_session.specs.Changes.{lose, misplaced}
 use Rattle.amqp_session.specs.ConnectionMethods.{on_blocked, on_unblocked, connection_rule}
 use Rattle.amqp_session.specs.ChannelMethods.{channel_method, raw_frame}
 
 -- ---- the kinds of methods
-
--- the method that no rule takes yet
-abbrev pub is_unbuilt : AnyMethod → Bool
-is_unbuilt (Secure challenge) = true
-is_unbuilt _ = false
 
 -- the methods of the channel class; all others are of the connection class
 abbrev pub is_of_a_channel : AnyMethod → Bool
@@ -41,27 +43,27 @@ abbrev pub on_heartbeat : Talk → Talk
 on_heartbeat t = t
 
 -- a method on channel 0
-abbrev pub method_on_0 : AnyMethod → Talk → Talk
-method_on_0 m t =
+abbrev pub method_on_0 : AnyMethod → List Asked → Talk → Talk
+method_on_0 m answers t =
     if is_of_a_channel m then misplaced (stray_channel_frame RawMethod) t
-    else connection_rule t.state t.phase m t
+    else connection_rule t.state t.phase m answers t
 
 -- a method on another channel
 abbrev pub method_on : ℕ → AnyMethod → Talk → Talk
 method_on n m t = if is_of_a_channel m then channel_method n m t else misplaced (stray_connection_method n) t
 
 -- the rule for a method
-abbrev pub method_rule : ℕ → AnyMethod → Talk → Talk
-method_rule zero m t = method_on_0 m t
-method_rule (suc n) m t = method_on (suc n) m t
+abbrev pub method_rule : ℕ → AnyMethod → List Asked → Talk → Talk
+method_rule zero m answers t = method_on_0 m answers t
+method_rule (suc n) m answers t = method_on (suc n) m t
 
--- the rule for a frame that stood at a place of the link's received bytes
-abbrev pub frame_rule : Frame → ℕ → Talk → Talk
-frame_rule (ProtocolHeader version) place t = on_protocol_header version t
-frame_rule Heartbeat place t = on_heartbeat t
-frame_rule (Method n m) place t = if is_unbuilt m then fail (Unbuilt place) t else method_rule n m t
-frame_rule (Raw zero kind bytes) place t = misplaced (stray_channel_frame kind) t
-frame_rule (Raw (suc n) kind bytes) place t = raw_frame (suc n) kind bytes t
+-- the rule for a frame, with what the provider answers to what it asks
+abbrev pub frame_rule : Frame → List Asked → Talk → Talk
+frame_rule (ProtocolHeader version) answers t = on_protocol_header version t
+frame_rule Heartbeat answers t = on_heartbeat t
+frame_rule (Method n m) answers t = method_rule n m answers t
+frame_rule (Raw zero kind bytes) answers t = misplaced (stray_channel_frame kind) t
+frame_rule (Raw (suc n) kind bytes) answers t = raw_frame (suc n) kind bytes t
 
 -- the rule for a frame after the server's close: only blocked and unblocked act
 abbrev pub closed_rule : Frame → Talk → Talk
@@ -69,9 +71,28 @@ closed_rule (Method zero (Blocked reason)) t = on_blocked t
 closed_rule (Method zero Unblocked) t = on_unblocked t
 closed_rule f t = t
 
--- a frame was read on the open link
-abbrev pub on_frame : Frame → ℕ → Talk → Talk
-on_frame f place t =
-    if acts t then frame_rule f place t
+-- a frame was read on the open link, with what the provider answers to what it asks
+abbrev pub on_frame : Frame → List Asked → Talk → Talk
+on_frame f answers t =
+    if acts t then frame_rule f answers t
     else if hears_on t then closed_rule f t
     else t
+
+-- ---- what is asked of the provider
+
+-- what a method of the connection class asks: start by which mechanism, and what is said first by it, and secure what
+-- is said to its challenge
+abbrev pub method_questions : ConnectionState → Phase → AnyMethod → List Question
+method_questions Connecting AwaitStart (Start major minor properties mechanisms locales) =
+    question.Mechanism ∷ question.Starter ∷ []
+method_questions Connecting AwaitTune (Secure challenge) = question.Challenge challenge ∷ []
+method_questions state phase method = []
+
+-- what a frame asks where frames act
+abbrev pub questions_in : Frame → Talk → List Question
+questions_in (Method zero m) t = method_questions t.state t.phase m
+questions_in f t = []
+
+-- what a frame asks
+abbrev pub frame_questions : Frame → Talk → List Question
+frame_questions f t = if acts t then questions_in f t else []

@@ -2,13 +2,11 @@
 use Rattle.std.specs.Prelude.{ℕ, Bool, true, ◌&&◌, if◌then◌else◌, List, [], ◌∷◌, is_some, codes}
 use Rattle.amqp_types.specs.Value.{FieldValue, Pair, scalar, table, boolean, pairs_from}
 use Rattle.amqp_types.specs.Table.{get, put}
-use Rattle.amqp_uri.specs.Mechanisms.{name_of}
-use Rattle.amqp_uri.specs.Login.{sasl_text}
 use Rattle.amqp_frame.specs.declared.frame.Frame.{Frame}
 use Rattle.amqp_frame.specs.declared.frame.Frame.TheVariants.{ProtocolHeader, Method}
-use Rattle.amqp_frame.specs.declared.method.Method.TheVariants.{StartOk, TuneOk, Open, Close, CloseOk, UpdateSecret, ChannelOpen, ChannelFlow, ChannelFlowOk, ChannelClose, ChannelCloseOk}
+use Rattle.amqp_frame.specs.declared.method.Method.TheVariants.{StartOk, SecureOk, TuneOk, Open, Close, CloseOk, UpdateSecret, ChannelOpen, ChannelFlow, ChannelFlowOk, ChannelClose, ChannelCloseOk}
 use Rattle.amqp_session.specs.declared.configuration.Configuration.{Configuration}
-use Rattle.amqp_session.specs.Config.{Config, text_value, mechanism, login}
+use Rattle.amqp_session.specs.Config.{Options, text_value}
 
 -- the header that asks for AMQP 0-9-1
 abbrev pub protocol_header : Frame
@@ -50,16 +48,14 @@ client_properties own =
     (codes "capabilities")
     (table (pairs_from capabilities))
 
--- the answer to start, by which the client names itself and logs in
-abbrev pub start_ok : Config → Frame
-start_ok config =
-    let chosen = mechanism config in
-    Method 0
-    (StartOk
-    (client_properties config.options.properties)
-    (name_of chosen)
-    (sasl_text chosen (login config))
-    config.options.locale)
+-- the answer to start, by which the client names itself and logs in: by a mechanism, with what it says first by it
+abbrev pub start_ok : Options → List ℕ → List ℕ → Frame
+start_ok options mechanism response =
+    Method 0 (StartOk (client_properties options.properties) mechanism response options.locale)
+
+-- the answer to a challenge
+abbrev pub secure_ok : List ℕ → Frame
+secure_ok response = Method 0 (SecureOk response)
 
 -- the answer to tune: the agreed numbers
 abbrev pub tune_ok : Configuration → Frame

@@ -1,5 +1,5 @@
 -- What the rules keep.
-use Rattle.std.specs.Prelude.{◌≡◌, ℕ, if◌then◌else◌, Bool, true, false, IsTrue, Some, Err}
+use Rattle.std.specs.Prelude.{◌≡◌, ℕ, if◌then◌else◌, Bool, true, false, IsTrue, List, Some, Err}
 use Rattle.amqp_frame.specs.declared.frame.Frame.{Frame}
 use Rattle.amqp_session.specs.declared.command.Cmd.{Cmd}
 use Rattle.amqp_session.specs.declared.error.ErrorKind.{ErrorKind}
@@ -8,6 +8,7 @@ use Rattle.amqp_session.specs.declared.state.ConnectionState.{ConnectionState}
 use Rattle.amqp_session.specs.declared.state.ConnectionState.TheVariants.{Closed, Error}
 use Rattle.amqp_session.specs.Listed.{at}
 use Rattle.amqp_session.specs.Talk.{Talk, has_ended}
+use Rattle.amqp_session.specs.declared.auth.asked.Asked.{Asked}
 use Rattle.amqp_session.specs.declared.misread.Misread.{Misread}
 use Rattle.amqp_session.specs.declared.io_fault.IoFault.{IoFault}
 use Rattle.amqp_session.specs.Changes as change
@@ -38,10 +39,10 @@ pub record IsOver (t : Talk) : Type 0 where
   pub linked : link.linked t ≡ t
   pub link_failed : link.link_failed t ≡ t
   pub piece : link.piece t ≡ t
-  pub frame : (f : Frame) (place : ℕ) → on_frame f place t ≡ t
+  pub frame : (f : Frame) (answers : List Asked) → on_frame f answers t ≡ t
   pub misread : (why : Misread) → link.misread why t ≡ t
   pub lost : (fault : IoFault) → link.lost fault t ≡ t
-  pub tick : ticks.tick t ≡ t
+  pub tick : (answers : List Asked) → ticks.tick answers t ≡ t
   pub next_frame : (space : ℕ) → writing.next_frame space t ≡ t
   pub taken : (n : ℕ) → writing.taken n t ≡ t
   pub starve : change.starve t ≡ t
@@ -71,10 +72,10 @@ pub record StaysSound (t : Talk) : Type 0 where
   pub linked : IsSound (link.linked t)
   pub link_failed : IsSound (link.link_failed t)
   pub piece : IsSound (link.piece t)
-  pub frame : (f : Frame) (place : ℕ) → IsSound (on_frame f place t)
+  pub frame : (f : Frame) (answers : List Asked) → IsSound (on_frame f answers t)
   pub misread : (why : Misread) → IsSound (link.misread why t)
   pub lost : (fault : IoFault) → IsSound (link.lost fault t)
-  pub tick : IsSound (ticks.tick t)
+  pub tick : (answers : List Asked) → IsSound (ticks.tick answers t)
   pub next_frame : (space : ℕ) → IsSound (writing.next_frame space t)
   pub taken : (n : ℕ) → IsSound (writing.taken n t)
   pub starve : IsSound (change.starve t)

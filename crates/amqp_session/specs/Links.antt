@@ -41,6 +41,7 @@ linked t =
       committed = [];
       last_read = t.present;
       last_write = t.present;
+      refreshing = false;
     }
     else t
 

@@ -1,5 +1,5 @@
 -- Parts of the state and of the rules, as the code takes them.
-use Rattle.std.specs.Prelude.{◌≡◌, ℕ, zero, ◌-◌, ◌&&◌, nat_le, if◌then◌else◌, Bool, true, false, List, [], ◌∷◌, Option, Some, None, option_map, Result, Ok, Err}
+use Rattle.std.specs.Prelude.{◌≡◌, ℕ, zero, ◌-◌, ◌&&◌, nat_le, if◌then◌else◌, Bool, true, false, List, [], ◌∷◌, Option, Some, None, option_map, Result, Ok, Err, IsTrue}
 use Rattle.amqp_frame.specs.declared.frame.Frame.{Frame}
 use Rattle.amqp_frame.specs.declared.frame.Frame.TheVariants.{Method}
 use Rattle.amqp_frame.specs.declared.method.Method.TheVariants.{OpenOk}
@@ -22,6 +22,13 @@ use Rattle.amqp_session.specs.declared.server_close.ServerClose.TheVariants.{Wit
 use Rattle.amqp_session.specs.declared.committed.Mark.{Mark}
 use Rattle.amqp_session.specs.declared.error.ErrorKind.{ErrorKind}
 use Rattle.amqp_session.specs.declared.error.ErrorKind.TheVariants.{ProtocolError}
+use Rattle.amqp_session.specs.declared.auth.asked.Asked.{Asked as ProviderAnswer}
+use Rattle.amqp_session.specs.declared.auth.asked.Asked.TheVariants as answer
+use Rattle.amqp_session.specs.declared.session.asking.Login.{Login}
+use Rattle.amqp_session.specs.declared.session.asking.Login.TheVariants.{Started, Challenged}
+use Rattle.amqp_session.specs.declared.session.asking.Validity.{Validity}
+use Rattle.amqp_session.specs.declared.session.asking.Validity.TheVariants.{Unasked, Valid, Expired}
+use Rattle.amqp_session.specs.Ticks.{asks_validity, has_expired}
 use Rattle.amqp_outbox.specs.Order.{seen}
 use Rattle.amqp_session.specs.Sharing.{error_at}
 use Rattle.amqp_session.specs.Talk.{Talk, is_open, acts}
@@ -121,3 +128,22 @@ is_opening f state phase = is_open_ok f && awaits_open_ok state phase
 -- how many bytes can be unsent once a frame was read: more, where it opens the connection
 abbrev pub capacity_after : Frame → Talk → ℕ
 capacity_after f t = if acts t && is_opening f t.state t.phase then grown_capacity t else t.capacity
+
+-- ---- what the provider answered
+
+-- the answers to a frame
+abbrev pub login_answers : Option Login → List ProviderAnswer
+login_answers None = []
+login_answers (Some (Started mechanism said)) = answer.Mechanism mechanism ∷ answer.Starter said ∷ []
+login_answers (Some (Challenged said)) = answer.Challenge said ∷ []
+
+-- the answers to what is asked of a secret
+abbrev pub validity_answers : Validity → List ProviderAnswer
+validity_answers Unasked = []
+validity_answers (Valid time) = answer.ValidFor time ∷ []
+validity_answers (Expired time said) = answer.ValidFor time ∷ answer.Refreshed said ∷ []
+
+-- a new secret was asked for where the old one has expired
+abbrev pub IsAsked : Validity → Talk → Type 0
+IsAsked (Expired time said) t = IsTrue (asks_validity t) × IsTrue (has_expired time t)
+IsAsked _ t = Unit {0}

@@ -56,6 +56,10 @@ pub record Talk : Type 0 where
   pub present : ℕ
   pub last_read : ℕ
   pub last_write : ℕ
+  -- the moment from which the secret is valid, in milliseconds, and whether a refresh of it is told that the server did
+  -- not answer yet
+  pub secret_at : ℕ
+  pub refreshing : Bool
 
 -- the state at the beginning: a link is wanted, and the connection's promise, number 0, waits
 abbrev pub start : Config → Talk
@@ -80,6 +84,8 @@ start config =
       present = 0;
       last_read = 0;
       last_write = 0;
+      secret_at = 0;
+      refreshing = false;
     }
 
 -- the state is Closing

@@ -1,12 +1,18 @@
--- Time: heartbeats that are missed, and those that are due (AMQP 0-9-1, 4.2.7). Moments are in milliseconds, and the
--- agreed interval is in seconds.
-use Rattle.std.specs.Prelude.{◌*◌, ◌-◌, ◌==◌, ◌&&◌, not, nat_lt, if◌then◌else◌, Bool, true, false}
+-- Time: heartbeats that are missed, and those that are due (AMQP 0-9-1, 4.2.7), and secrets that expire (an extension of
+-- RabbitMQ). Moments and validity are in milliseconds, and the agreed interval is in seconds.
+use Rattle.std.specs.Prelude.{ℕ, ◌*◌, ◌-◌, ◌==◌, ◌&&◌, not, nat_lt, nat_le, if◌then◌else◌, Bool, true, false, List, [], ◌∷◌, Option, Some, None, Result, Ok, Err, codes}
 use Rattle.amqp_frame.specs.declared.frame.Frame.TheVariants.{Heartbeat}
 use Rattle.amqp_session.specs.declared.state.ConnectionState.{ConnectionState}
 use Rattle.amqp_session.specs.declared.state.ConnectionState.TheVariants.{Connected}
 use Rattle.amqp_session.specs.declared.error.ErrorKind.TheVariants.{MissingHeartbeatError}
+use Rattle.amqp_session.specs.declared.auth.asked.Question.{Question}
+use Rattle.amqp_session.specs.declared.auth.asked.Question.TheVariants as question
+use Rattle.amqp_session.specs.declared.auth.asked.Asked.{Asked}
+use Rattle.amqp_session.specs.declared.auth.asked.Asked.TheVariants as answer
+use Rattle.amqp_outbox.specs.declared.reply.Reply.TheVariants.{SecretDone}
 use Rattle.amqp_session.specs.Talk.{Talk}
-use Rattle.amqp_session.specs.Changes.{queue, lose}
+use Rattle.amqp_session.specs.Handshake.{new_secret}
+use Rattle.amqp_session.specs.Changes.{queue, await, lose}
 
 -- the state is Connected
 abbrev pub is_connected : ConnectionState → Bool
@@ -33,6 +39,65 @@ missing_heartbeat t = if is_missed t then lose MissingHeartbeatError t else t
 abbrev pub heartbeat_due : Talk → Talk
 heartbeat_due t = if is_due t then record (queue 0 Heartbeat t) { last_write = t.present } else t
 
--- time goes by
-abbrev pub tick : Talk → Talk
-tick t = heartbeat_due (missing_heartbeat t)
+-- ---- a secret that expires
+
+-- the provider is asked how long the secret is valid: the connection is open, and no refresh is told that the server
+-- did not answer yet
+abbrev pub asks_validity : Talk → Bool
+asks_validity t = is_connected t.state && not t.refreshing
+
+-- the secret is valid for so long, where that is known, and no longer
+abbrev pub has_expired : Option ℕ → Talk → Bool
+has_expired None t = false
+has_expired (Some time) t = nat_le time (t.present - t.secret_at)
+
+-- why a secret is refreshed
+abbrev pub refresh_reason : List ℕ
+refresh_reason = codes "Automatic periodical refresh"
+
+-- the provider has a new secret: it is told, and its reply is awaited without a promise; where it has none, the old one
+-- counts as valid from now on
+abbrev pub refreshed : Result (List ℕ) (List ℕ) → Talk → Talk
+refreshed (Ok secret) t =
+    record (await 0 SecretDone None (queue 0 (new_secret secret refresh_reason) t)) { refreshing = true }
+refreshed (Err text) t = record t { secret_at = t.present }
+
+-- a secret that has expired is refreshed, with what the provider answers
+abbrev pub refresh : List Asked → Talk → Talk
+refresh (answer.Refreshed said ∷ later) t = refreshed said t
+refresh _ t = t
+
+-- how long the secret is valid, with what the provider answers
+abbrev pub validity_told : List Asked → Talk → Talk
+validity_told (answer.ValidFor time ∷ later) t = if has_expired time t then refresh later t else t
+validity_told _ t = t
+
+-- where a secret has expired, it is refreshed
+abbrev pub secret_due : List Asked → Talk → Talk
+secret_due answers t = if asks_validity t then validity_told answers t else t
+
+-- ---- a tick
+
+-- what is due but the secret: a server that is silent for too long, and a heartbeat
+abbrev pub beat : Talk → Talk
+beat t = heartbeat_due (missing_heartbeat t)
+
+-- time goes by, with what the provider answers to what is asked then
+abbrev pub tick : List Asked → Talk → Talk
+tick answers t = secret_due answers (beat t)
+
+-- ---- what is asked of the provider
+
+-- a new secret is asked for where the old one has expired
+abbrev pub refresh_questions : List Asked → Talk → List Question
+refresh_questions (answer.ValidFor time ∷ later) t = if has_expired time t then question.Refresh ∷ [] else []
+refresh_questions _ t = []
+
+-- what is asked of a secret, by what is answered to the first question
+abbrev pub secret_questions : List Asked → Talk → List Question
+secret_questions answers t =
+    if asks_validity t then question.ValidFor ∷ refresh_questions answers t else []
+
+-- what a tick asks, by what is answered to the first question
+abbrev pub tick_questions : List Asked → Talk → List Question
+tick_questions answers t = secret_questions answers (beat t)

@@ -6,7 +6,7 @@ ghost use Rattle.amqp_session.specs.Errors.{text_of};
 use crate::io_fault::IoFault;
 use crate::shown::Shown;
 use crate::state::{ChannelState, ConnectionState};
-use amqp_types::{AMQPError, ChannelId, NoMemory, ProtocolVersion, Word};
+use amqp_types::{AMQPError, ChannelId, NoMemory, ProtocolVersion, Text, Word};
 use std::alloc::Global;
 use std::fmt;
 use std::marker::Model;
@@ -38,8 +38,8 @@ pub enum ErrorKind {
     OutOfTurns,
     /// An allocation was refused.
     NoMemory,
-    /// The place, in the received bytes of its link, of what no rule takes yet.
-    Unbuilt(u64),
+    /// Who authenticates refused to, with this text.
+    AuthProviderError(Text),
 }
 
 /// An error, seen as its kind.
@@ -83,7 +83,7 @@ impl ErrorKind {
             ErrorKind::MissingHeartbeatError => ErrorKind::MissingHeartbeatError,
             ErrorKind::OutOfTurns => ErrorKind::OutOfTurns,
             ErrorKind::NoMemory => ErrorKind::NoMemory,
-            ErrorKind::Unbuilt(place) => ErrorKind::Unbuilt(*place),
+            ErrorKind::AuthProviderError(text) => ErrorKind::AuthProviderError(text.try_clone()?),
         })
     }
 }
@@ -177,7 +177,9 @@ impl fmt::Display for Error {
             }
             ErrorKind::OutOfTurns => f.write_str("the given turns were all taken"),
             ErrorKind::NoMemory => f.write_str("memory was refused"),
-            ErrorKind::Unbuilt(place) => write!(f, "not built: frame at byte {place}"),
+            ErrorKind::AuthProviderError(text) => {
+                write!(f, "failure during authentication: {}", text.as_str())
+            }
         }
     }
 }

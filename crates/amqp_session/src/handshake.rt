@@ -2,21 +2,17 @@
 
 ghost use Rattle.std.specs.Prelude.{◌≡◌, ◌<◌, length, IfOk, OnOk, codes};
 ghost use Rattle.amqp_types.specs.Table.{put};
-ghost use Rattle.amqp_session.specs.Config.{config_of, text_value};
-ghost use Rattle.amqp_session.specs.Handshake.{protocol_header, yes, capabilities, with_product, client_properties, start_ok, tune_ok, open_vhost, our_close, close_ok, new_secret, channel_open, channel_flow, flow_ok, channel_close_ok, our_channel_close};
+ghost use Rattle.amqp_session.specs.Config.{text_value};
+ghost use Rattle.amqp_session.specs.Ticks.{refresh_reason};
+ghost use Rattle.amqp_session.specs.Handshake.{protocol_header, yes, capabilities, with_product, client_properties, start_ok, secure_ok, tune_ok, open_vhost, our_close, close_ok, new_secret, channel_open, channel_flow, flow_ok, channel_close_ok, our_channel_close};
 
 use crate::configuration::Configuration;
 use crate::options::ConnectionProperties;
 use amqp_frame::{Frame, Method};
 use amqp_types::{
-    AMQPValue, ChannelId, FieldTable, LongString, NoMemory, ProtocolVersion, ReplyCode,
-    ShortString, Text,
+    AMQPValue, ChannelId, FieldTable, LongString, NoMemory, ProtocolVersion, ReplyCode, ShortString,
 };
-use amqp_uri::{AMQPUri, AMQPUserInfo, Credentials, SASLMechanism};
 use std::alloc::Global;
-
-// A user and a password are shorter together than this, so that every text of SASL is a long string.
-const LONGEST_LOGIN: usize = 2_147_483_648;
 
 /// The header of AMQP 0-9-1, the first that is said.
 pub fn protocol_header() -> Frame
@@ -98,45 +94,46 @@ fn client_properties(alloc: Global, own: &FieldTable) -> Result<FieldTable, NoMe
     Ok(table)
 }
 
-// A text as a long string.
-fn long_of(alloc: Global, text: &Text) -> Result<LongString, NoMemory>
-    ensures { IfOk result (λ s. s ≡ text.now) }
+// What the client says of itself: its properties, and its locale.
+fn introduction(
+    alloc: Global,
+    options: &ConnectionProperties,
+) -> Result<(FieldTable, ShortString), NoMemory>
+    ensures properties { IfOk result (λ said. said.0 ≡ client_properties options.now.properties) }
+    ensures locale { IfOk result (λ said. said.1 ≡ options.now.locale) }
 {
-    match LongString::new(alloc, text.as_str().as_bytes()) {
-        Ok(long) => Ok(long),
-        Err(_) => Err(NoMemory),
-    }
+    let properties = client_properties(alloc, options.client_properties())?;
+    let locale = options.locale().try_clone(alloc)?;
+    Ok((properties, locale))
 }
 
-// As whom the client logs in. A user and a password that are longer than any frame are refused as
-// memory is.
-fn credentials(alloc: Global, info: &AMQPUserInfo) -> Result<Credentials, NoMemory>
-    ensures { IfOk result (λ c. c ≡ record { username = info.now.username; password = info.now.password }) }
-{
-    let username = long_of(alloc, &info.username)?;
-    let password = long_of(alloc, &info.password)?;
-    if username.len() + password.len() >= LONGEST_LOGIN {
-        return Err(NoMemory);
-    }
-    Ok(Credentials::new(username, password))
-}
-
-/// The client's answer to start.
+/// The client's answer to start: by a mechanism, with what it says first by it.
 pub fn start_ok(
     alloc: Global,
-    uri: &AMQPUri,
     options: &ConnectionProperties,
+    mechanism: ShortString,
+    response: LongString,
 ) -> Result<Frame, NoMemory>
-    ensures { IfOk result (λ f. f ≡ start_ok (config_of uri.now options.now)) }
+    ensures { IfOk result (λ f. f ≡ start_ok options.now mechanism response) }
 {
-    let mechanism = uri.query.auth_mechanism.unwrap_or(SASLMechanism::Plain);
-    let name = short(alloc, mechanism.name().as_bytes())?;
-    let locale = options.locale().try_clone(alloc)?;
-    let credentials = credentials(alloc, &uri.authority.userinfo)?;
-    let response = credentials.sasl_auth_string(alloc, mechanism)?;
-    drop(credentials);
-    let properties = client_properties(alloc, options.client_properties())?;
-    Ok(Frame::Method(0, Method::StartOk(properties, name, response, locale)))
+    match introduction(alloc, options) {
+        Ok((properties, locale)) => {
+            let start_ok = Method::StartOk(properties, mechanism, response, locale);
+            Ok(Frame::Method(0, start_ok))
+        }
+        Err(refused) => {
+            drop(mechanism);
+            drop(response);
+            Err(refused)
+        }
+    }
+}
+
+/// The client's answer to a challenge.
+pub fn secure_ok(response: LongString) -> Frame
+    ensures { result ≡ secure_ok response }
+{
+    Frame::Method(0, Method::SecureOk(response))
 }
 
 /// The client's answer to tune.
@@ -182,6 +179,13 @@ pub fn new_secret(secret: LongString, reason: ShortString) -> Frame
     ensures { result ≡ new_secret secret reason }
 {
     Frame::Method(0, Method::UpdateSecret(secret, reason))
+}
+
+/// Why a secret is refreshed.
+pub fn refresh_reason(alloc: Global) -> Result<ShortString, NoMemory>
+    ensures { IfOk result (λ s. s ≡ refresh_reason) }
+{
+    short(alloc, b"Automatic periodical refresh")
 }
 
 /// Opens a channel.

@@ -9,6 +9,7 @@ ghost use Rattle.amqp_session.specs.declared.configuration.Configuration.{Config
 ghost use Rattle.amqp_session.specs.declared.error.ErrorKind.{ErrorKind};
 ghost use Rattle.amqp_session.specs.declared.error.ErrorKind.TheVariants.{InvalidConnectionState};
 ghost use Rattle.amqp_session.specs.declared.state.ConnectionState.TheVariants.{Connected};
+ghost use Rattle.amqp_session.specs.declared.auth.asked.Asked.{Asked};
 ghost use Rattle.amqp_session.specs.Config.{Config};
 ghost use Rattle.amqp_session.specs.Talk.{Talk, start, acts, has_ended, is_open, end_of};
 ghost use Rattle.amqp_session.specs.Negotiation.{tune};
@@ -47,10 +48,11 @@ pub fn states_stay_sound()
     ensures ended { (t : Talk) → IsSound t → IsTrue (has_ended t) → IsEnded t }
 {}
 
-/// Where frames act, a frame ends a session with the errors that it brings, and with no others.
+/// Where frames act, a frame ends a session with the errors that it brings, with what the provider
+/// answers to what it asks, and with no others.
 pub fn a_frame_ends_with_its_errors()
-    ensures { (error : ErrorKind) (f : Frame) (place : ℕ) (t : Talk) → IsTrue (acts t)
-        → (end_of (on_frame f place t) ≡ Some (Err error)) ↔ IsFrameError error f place t }
+    ensures { (error : ErrorKind) (f : Frame) (answers : List Asked) (t : Talk) → IsTrue (acts t)
+        → (end_of (on_frame f answers t) ≡ Some (Err error)) ↔ IsFrameError error f answers t }
 {}
 
 /// An ended session stays as it ended.

@@ -7,6 +7,7 @@ ghost use Rattle.amqp_session.specs.Parts.{promised};
 ghost use Rattle.amqp_session.specs.Changes.{present_at, starve, fail, lose, misplaced, close, finish, give, give_to};
 
 mod answers;
+mod asking;
 mod channel_methods;
 mod commands;
 mod connection_methods;
@@ -59,6 +60,8 @@ pub struct Session {
     present: u64,
     last_read: u64,
     last_write: u64,
+    secret_at: u64,
+    refreshing: bool,
 }
 
 impl Model for Session {
@@ -97,6 +100,8 @@ impl Model for Session {
       present = s.present;
       last_read = s.last_read;
       last_write = s.last_write;
+      secret_at = s.secret_at;
+      refreshing = s.refreshing;
     } };
 
     ghost use Rattle.amqp_session.specs.Talk.{is_acting};
@@ -191,6 +196,8 @@ impl Session {
             present: 0,
             last_read: 0,
             last_write: 0,
+            secret_at: 0,
+            refreshing: false,
         }
     }
 

@@ -3,35 +3,14 @@
 ghost use Rattle.std.specs.Bool.{OnTrue};
 ghost use Rattle.amqp_session.specs.Counts.{Rose};
 
-use crate::support::Outcome;
+use crate::support::{Outcome, long, new_token, no_token, provider_of};
 use amqp_frame::{Frame, Method};
 use amqp_session::{
-    Asked, AuthList, AuthProvider, Cmd, DefaultAuthProvider, DefaultTokenProvider, Refusal,
-    TokenAuthProvider, TokenProvider,
+    Asked, AuthList, AuthProvider, Cmd, DefaultTokenProvider, Refusal, TokenAuthProvider,
+    TokenProvider,
 };
 use amqp_types::{LongString, NoMemory, ShortString, Text};
-use amqp_uri::AMQPUri;
 use std::alloc::Global;
-
-// The provider of an address.
-fn provider_of(alloc: Global, text: &str) -> Outcome<DefaultAuthProvider> {
-    let parsed = AMQPUri::parse(alloc, text);
-    match parsed {
-        Ok(uri) => {
-            let made = DefaultAuthProvider::new(alloc, &uri);
-            drop(uri);
-            Ok(made?)
-        }
-        Err(_) => Err("no address")?,
-    }
-}
-
-fn long(alloc: Global, octets: &[u8]) -> Result<LongString, NoMemory> {
-    match LongString::new(alloc, octets) {
-        Ok(text) => Ok(text),
-        Err(_) => Err(NoMemory),
-    }
-}
 
 // Whether an answer is these octets.
 fn gives(answer: Result<LongString, Refusal>, octets: &[u8]) -> bool {
@@ -211,14 +190,6 @@ fn a_boxed_provider_answers_as_what_is_in_the_box(rt: HostRuntime) -> Outcome<()
 }
 
 // ---- by tokens
-
-fn new_token(alloc: Global) -> Result<LongString, Refusal> {
-    Ok(long(alloc, b"my new valid token")?)
-}
-
-fn no_token(alloc: Global) -> Result<LongString, Refusal> {
-    Err(Refusal::Said(Text::new(alloc, "no token today")?))
-}
 
 #[test]
 fn a_token_is_what_its_closure_makes(rt: HostRuntime) -> Outcome<()> {

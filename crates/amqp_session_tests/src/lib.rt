@@ -23,6 +23,8 @@ mod flowing;
 #[cfg(test)]
 mod handshake;
 #[cfg(test)]
+mod logins;
+#[cfg(test)]
 mod memory;
 #[cfg(test)]
 mod numbers;
@@ -30,6 +32,10 @@ mod numbers;
 mod options;
 #[cfg(test)]
 mod publishing;
+#[cfg(test)]
+mod refreshing;
+#[cfg(test)]
+mod said;
 #[cfg(test)]
 mod secrets;
 #[cfg(test)]

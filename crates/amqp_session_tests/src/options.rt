@@ -1,6 +1,6 @@
 //! What a session is made from: an address, and what its user says of the client.
 
-use crate::support::{Outcome, agreed, ended, link, read, send_all, writes};
+use crate::support::{Outcome, agreed, ended, link, long, read_at, send_all, writes};
 use amqp_session::{ConnectionProperties, Session, initial_capacity};
 use amqp_types::{LongString, NoMemory, ShortString};
 use amqp_uri::AMQPUri;
@@ -110,18 +110,16 @@ fn short(alloc: Global, content: &[u8]) -> Result<ShortString, NoMemory> {
     }
 }
 
-fn long(alloc: Global, content: &[u8]) -> Result<LongString, NoMemory> {
-    match LongString::new(alloc, content) {
-        Ok(text) => Ok(text),
-        Err(_) => Err(NoMemory),
-    }
+// Whether a new session with a server at this address says this in answer to start.
+fn says(alloc: Global, session: &mut Session, address: &str, start_ok: &str) -> Outcome<bool> {
+    hear_start(alloc, session, address)?;
+    Ok(writes(alloc, session, HEADER)? && writes(alloc, session, start_ok)?)
 }
 
-// Whether a new session says this in answer to start.
-fn says(alloc: Global, session: &mut Session, start_ok: &str) -> Outcome<bool> {
+// A new session with a server at this address reads start.
+fn hear_start(alloc: Global, session: &mut Session, address: &str) -> Outcome<()> {
     link(session)?;
-    read(alloc, session, START)?;
-    Ok(writes(alloc, session, HEADER)? && writes(alloc, session, start_ok)?)
+    read_at(alloc, session, address, START)
 }
 
 /// Start-ok with a product and a version of the user's, a name of the connection, another locale, and
@@ -141,12 +139,9 @@ const NAMED: &str =
 fn start_ok_says_what_the_user_says(rt: HostRuntime) -> Outcome<()> {
     let alloc = rt.alloc();
     let options = named(alloc)?;
-    let mut session = session_to(
-        alloc,
-        "amqp://bob:hunter@h?auth_mechanism=amqplain",
-        options,
-    )?;
-    let said = says(alloc, &mut session, NAMED);
+    let address = "amqp://bob:hunter@h?auth_mechanism=amqplain";
+    let mut session = session_to(alloc, address, options)?;
+    let said = says(alloc, &mut session, address, NAMED);
     drop(session);
     assert!(rt; said?);
     Ok(())
@@ -175,12 +170,9 @@ fn half_named(alloc: Global) -> Result<ConnectionProperties, NoMemory> {
 fn a_product_needs_its_version(rt: HostRuntime) -> Outcome<()> {
     let alloc = rt.alloc();
     let options = half_named(alloc)?;
-    let mut session = session_to(
-        alloc,
-        "amqp://bob:hunter@h?auth_mechanism=external",
-        options,
-    )?;
-    let said = says(alloc, &mut session, HALF_NAMED);
+    let address = "amqp://bob:hunter@h?auth_mechanism=external";
+    let mut session = session_to(alloc, address, options)?;
+    let said = says(alloc, &mut session, address, HALF_NAMED);
     drop(session);
     assert!(rt; said?);
     Ok(())
@@ -188,17 +180,13 @@ fn a_product_needs_its_version(rt: HostRuntime) -> Outcome<()> {
 
 // The session as its `Debug` shows it, once start was read and nothing of the answer was written.
 fn shown_at_start(alloc: Global) -> Outcome<String> {
-    let mut session = plain_session_to(alloc, "amqp://bob:hunter@h/orders")?;
-    let heard = hear_start(alloc, &mut session);
+    let address = "amqp://bob:hunter@h/orders";
+    let mut session = plain_session_to(alloc, address)?;
+    let heard = hear_start(alloc, &mut session, address);
     let shown = format!(in alloc; "{session:?}");
     drop(session);
     heard?;
     Ok(shown?)
-}
-
-fn hear_start(alloc: Global, session: &mut Session) -> Outcome<()> {
-    link(session)?;
-    read(alloc, session, START)
 }
 
 #[test]
@@ -220,14 +208,20 @@ fn ends_too_long(alloc: Global, octets: usize, error: &str) -> Outcome<bool> {
         short(alloc, b"notes")?,
         value,
     )?;
-    let mut session = session_to(alloc, "amqp://h", options)?;
-    let ended = ended_after_start(alloc, &mut session, error);
+    let address = "amqp://h";
+    let mut session = session_to(alloc, address, options)?;
+    let ended = ended_after_start(alloc, &mut session, address, error);
     drop(session);
     ended
 }
 
-fn ended_after_start(alloc: Global, session: &mut Session, error: &str) -> Outcome<bool> {
-    hear_start(alloc, session)?;
+fn ended_after_start(
+    alloc: Global,
+    session: &mut Session,
+    address: &str,
+    error: &str,
+) -> Outcome<bool> {
+    hear_start(alloc, session, address)?;
     send_all(session);
     ended(alloc, session, error)
 }

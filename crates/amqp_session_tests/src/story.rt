@@ -1,9 +1,11 @@
 //! Stories of a session, line by line.
 
+use crate::said::{Said, are_said};
 use crate::support::*;
 use amqp_frame::RawKind;
 use amqp_session::{
-    Answer, ChanRef, ChannelState, Cmd, ConnectionState, IoFault, Misread, Session,
+    Answer, AuthList, AuthProvider, ChanRef, ChannelState, Cmd, ConnectionState, IoFault, Misread,
+    Session,
 };
 use std::alloc::Global;
 use std::process::Abort;
@@ -125,6 +127,9 @@ pub enum Line {
     /// The frames handed out of the channel that a promise opened. They are taken.
     HandsOut(u64, &'static [(RawKind, &'static [u8])]),
 
+    /// All that the provider answered to this session, but for what led it where it stood at first.
+    ProviderSaid(&'static [Said]),
+
     /// The session has not ended.
     IsRunning,
     /// It ended Closed.
@@ -133,21 +138,59 @@ pub enum Line {
     Ended(&'static str),
 }
 
-/// Tells a story of a session that stands there at first. Where it fails, it prints the number of the
-/// first line that does not hold.
-pub fn tell<A: Abort>(rt: &A, alloc: Global, at: At, lines: &[Line]) -> Outcome<()> {
-    let mut session = session_at(alloc, at)?;
-    let wrong = wrong_line(alloc, &mut session, lines);
-    drop(session);
+/// Tells a story of a session that stands there at first, with the provider of the broker of this
+/// machine. Where it fails, it prints the number of the first line that does not hold.
+pub fn tell<R: Abort>(rt: &R, alloc: Global, at: At, lines: &[Line]) -> Outcome<()> {
+    let provider = local_provider(alloc)?;
+    tell_by(rt, alloc, provider, at, lines)
+}
+
+/// The same with another provider.
+pub fn tell_by<R: Abort, A: AuthProvider>(
+    rt: &R,
+    alloc: Global,
+    provider: A,
+    at: At,
+    lines: &[Line],
+) -> Outcome<()>
+    requires { A.can provider }
+{
+    let mut provider = provider;
+    let wrong = wrong_line_by(alloc, &mut provider, at, lines);
+    drop(provider);
     assert_eq!(rt; wrong?, None);
     Ok(())
 }
 
 // The number of the first line that does not hold, where one does not.
-fn wrong_line(alloc: Global, session: &mut Session, lines: &[Line]) -> Outcome<Option<u64>> {
+fn wrong_line_by<A: AuthProvider>(
+    alloc: Global,
+    provider: &mut A,
+    at: At,
+    lines: &[Line],
+) -> Outcome<Option<u64>>
+    requires { A.can provider.old }
+{
+    let mut session = session_at(alloc, at)?;
+    let mut auths = AuthList::new(alloc);
+    let wrong = wrong_line(alloc, &mut session, provider, &mut auths, lines);
+    drop(auths);
+    drop(session);
+    wrong
+}
+
+fn wrong_line<A: AuthProvider>(
+    alloc: Global,
+    session: &mut Session,
+    provider: &mut A,
+    auths: &mut AuthList,
+    lines: &[Line],
+) -> Outcome<Option<u64>>
+    requires { A.can provider.old }
+{
     let mut number: u64 = 1;
     for line in lines {
-        if !holds(alloc, session, *line)? {
+        if !holds(alloc, session, provider, auths, *line)? {
             return Ok(Some(number));
         }
         number = number.saturating_add(1);
@@ -156,18 +199,36 @@ fn wrong_line(alloc: Global, session: &mut Session, lines: &[Line]) -> Outcome<O
 }
 
 // Whether a line holds, after what it tells.
-fn holds(alloc: Global, session: &mut Session, line: Line) -> Outcome<bool> {
+fn holds<A: AuthProvider>(
+    alloc: Global,
+    session: &mut Session,
+    provider: &mut A,
+    auths: &mut AuthList,
+    line: Line,
+) -> Outcome<bool>
+    requires { A.can provider.old }
+    ensures { A.can provider.new }
+{
+    match line {
+        Line::Read(text) => read_by(alloc, session, provider, auths, text)?,
+        Line::Tick(at) => session.tick(at, provider, auths)?,
+        Line::ProviderSaid(wanted) => return Ok(are_said(auths, wanted)),
+        _ => return is_so(alloc, session, line),
+    }
+    Ok(true)
+}
+
+// The same of a line that asks no provider.
+fn is_so(alloc: Global, session: &mut Session, line: Line) -> Outcome<bool> {
     match line {
         Line::Asked => session.asked(),
         Line::Linked => session.linked(0)?,
         Line::LinkFailed => session.link_failed(0),
         Line::Piece => session.piece(0),
-        Line::Read(text) => read(alloc, session, text)?,
         Line::Misread(why) => session.misread(why, 0)?,
         Line::Lost(fault) => session.lost(fault, 0),
         Line::Starved(at) => session.starve(at),
         Line::Advance(at) => session.advance(at),
-        Line::Tick(at) => session.tick(at)?,
         Line::Take(n) => take(session, n),
         Line::SendAll => send_all(session),
         _ => return lets_go(alloc, session, line),

@@ -7,9 +7,10 @@ use amqp_frame::{
     FixedRoom, Frame, RawKind, RawMethod, Read, encoded_len, read_frame, write_frame,
 };
 use amqp_session::{
-    Answer, ChanRef, Cmd, Configuration, ConnectionProperties, Error, Handed, Properties, Session,
+    Answer, AuthList, AuthProvider, ChanRef, Cmd, Configuration, ConnectionProperties,
+    DefaultAuthProvider, Error, Handed, Properties, Refusal, Session,
 };
-use amqp_types::{LongString, Payload, ShortString};
+use amqp_types::{LongString, NoMemory, Payload, ShortString, Text};
 use amqp_uri::AMQPUri;
 use amqp_vectors::{CHANNEL_OPEN_OK_1, OPEN_OK, START, TUNE};
 use std::alloc::Global;
@@ -17,9 +18,6 @@ use std::test::Fail;
 
 /// What a test answers, and what it is made of.
 pub type Outcome<T> = Result<T, Fail>;
-
-/// The place, in the received bytes of the link, of each frame that is read.
-pub const PLACE: u64 = 138;
 
 // ---- octets and frames
 
@@ -62,10 +60,45 @@ fn frame(alloc: Global, text: &str) -> Outcome<Frame> {
     }
 }
 
-/// Reads the frame that a text spells.
-pub fn read(alloc: Global, session: &mut Session, text: &str) -> Outcome<()> {
+/// Reads the frame that a text spells. What it asks is asked of this provider.
+pub fn read_by<A: AuthProvider>(
+    alloc: Global,
+    session: &mut Session,
+    provider: &mut A,
+    auths: &mut AuthList,
+    text: &str,
+) -> Outcome<()>
+    requires { A.can provider.old }
+    ensures { A.can provider.new }
+{
     let frame = frame(alloc, text)?;
-    Ok(session.frame(frame, PLACE, 0)?)
+    Ok(session.frame(frame, 0, provider, auths)?)
+}
+
+// Reads the frame that a text spells, and lets the provider go.
+fn read_with(
+    alloc: Global,
+    session: &mut Session,
+    provider: DefaultAuthProvider,
+    text: &str,
+) -> Outcome<()> {
+    let mut provider = provider;
+    let mut auths = AuthList::new(alloc);
+    let done = read_by(alloc, session, &mut provider, &mut auths, text);
+    drop(auths);
+    drop(provider);
+    done
+}
+
+/// Reads the frame that a text spells. What it asks is asked of the provider of the broker of this
+/// machine.
+pub fn read(alloc: Global, session: &mut Session, text: &str) -> Outcome<()> {
+    read_with(alloc, session, local_provider(alloc)?, text)
+}
+
+/// The same, asked of the provider of an address.
+pub fn read_at(alloc: Global, session: &mut Session, address: &str, text: &str) -> Outcome<()> {
+    read_with(alloc, session, provider_of(alloc, address)?, text)
 }
 
 /// How many bytes could be unsent once this frame was read. It is not read.
@@ -74,6 +107,47 @@ pub fn capacity_after(alloc: Global, session: &Session, text: &str) -> Outcome<u
     let octets = session.capacity_after(&frame);
     drop(frame);
     Ok(octets)
+}
+
+// ---- providers
+
+/// The provider of the broker of this machine.
+pub fn local_provider(alloc: Global) -> Outcome<DefaultAuthProvider> {
+    let uri = AMQPUri::local(alloc)?;
+    let made = DefaultAuthProvider::new(alloc, &uri);
+    drop(uri);
+    Ok(made?)
+}
+
+/// The provider of an address.
+pub fn provider_of(alloc: Global, address: &str) -> Outcome<DefaultAuthProvider> {
+    let parsed = AMQPUri::parse(alloc, address);
+    match parsed {
+        Ok(uri) => {
+            let made = DefaultAuthProvider::new(alloc, &uri);
+            drop(uri);
+            Ok(made?)
+        }
+        Err(_) => Err("no address")?,
+    }
+}
+
+/// These octets as a long string.
+pub fn long(alloc: Global, octets: &[u8]) -> Result<LongString, NoMemory> {
+    match LongString::new(alloc, octets) {
+        Ok(text) => Ok(text),
+        Err(_) => Err(NoMemory),
+    }
+}
+
+/// A new token.
+pub fn new_token(alloc: Global) -> Result<LongString, Refusal> {
+    Ok(long(alloc, b"my new valid token")?)
+}
+
+/// There is no token.
+pub fn no_token(alloc: Global) -> Result<LongString, Refusal> {
+    Err(Refusal::Said(Text::new(alloc, "no token today")?))
 }
 
 // ---- sessions
@@ -290,11 +364,31 @@ pub const METHOD_HELLO_ON_2: &str = "01 0002 0000000e 003c0028 0000 00 0568656c6
 /// The method of class 60 and number 40 with the arguments `abc`, on channel 1.
 pub const METHOD_ABC: &str = "01 0001 00000007 003c0028 616263 ce";
 
+/// start-ok as `amqp_vectors` has it, but for what is said: nobody, and the token `my new valid token`.
+pub const START_OK_TOKEN: &str = "01 0000 0000013b 000a000b 0000010f
+    0c 6361706162696c6974696573 46 000000c7
+    1c 61757468656e7469636174696f6e5f6661696c7572655f636c6f7365 7401
+    0a 62617369632e6e61636b 7401
+    12 636f6e6e656374696f6e2e626c6f636b6564 7401
+    16 636f6e73756d65725f63616e63656c5f6e6f74696679 7401
+    13 636f6e73756d65725f7072696f726974696573 7401
+    0f 6469726563745f7265706c795f746f 7401
+    1a 65786368616e67655f65786368616e67655f62696e64696e6773 7401
+    10 7065725f636f6e73756d65725f716f73 7401
+    12 7075626c69736865725f636f6e6669726d73 7401
+    08 706c6174666f726d 53 00000004 72757374
+    07 70726f64756374 53 00000005 6c6170696e
+    07 76657273696f6e 53 00000005 342e342e30
+    05 504c41494e 00000014 0000 6d79206e65772076616c696420746f6b656e 05 656e5f5553 ce";
+
 /// The new secret `abc`, for the reason `rotate`.
 pub const SECRET_1: &str = "01 0000 00000012 000a0046 00000003 616263 06 726f74617465 ce";
 
 /// A new secret without octets, for no reason.
 pub const SECRET_2: &str = "01 0000 00000009 000a0046 00000000 00 ce";
+
+/// The server's challenge `no`.
+pub const CHALLENGE_NO: &str = "01 0000 0000000a 000a0014 00000002 6e6f ce";
 
 /// The content header of an empty body, without a property, on channel 1.
 pub const HEADER_0: &str = "02 0001 0000000e 003c 0000 0000000000000000 0000 ce";

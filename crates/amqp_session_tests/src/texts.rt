@@ -2,11 +2,11 @@
 
 use crate::support::{Outcome, shows};
 use amqp_session::{ChannelState, Cmd, ConnectionState, Error, ErrorKind, IoFault};
-use amqp_types::{AMQPError, ShortString, Word};
+use amqp_types::{AMQPError, ShortString, Text, Word};
 use std::alloc::Global;
 use std::process::Abort;
 
-/// An error that owns no text.
+/// An error. Where it owns a text, this one borrows it.
 #[derive(Clone, Copy)]
 enum Plain {
     ChannelsLimitReached,
@@ -16,11 +16,11 @@ enum Plain {
     SerialisationError(u64),
     OutOfTurns,
     NoMemory,
-    Unbuilt(u64),
+    AuthProviderError(&'static str),
 }
 
-fn kind_of(plain: Plain) -> ErrorKind {
-    match plain {
+fn kind_of(alloc: Global, plain: Plain) -> Outcome<ErrorKind> {
+    Ok(match plain {
         Plain::ChannelsLimitReached => ErrorKind::ChannelsLimitReached,
         Plain::InvalidConnectionState(state) => ErrorKind::InvalidConnectionState(state),
         Plain::InvalidChannelState(state, word) => ErrorKind::InvalidChannelState(state, word),
@@ -28,8 +28,8 @@ fn kind_of(plain: Plain) -> ErrorKind {
         Plain::SerialisationError(size) => ErrorKind::SerialisationError(size),
         Plain::OutOfTurns => ErrorKind::OutOfTurns,
         Plain::NoMemory => ErrorKind::NoMemory,
-        Plain::Unbuilt(place) => ErrorKind::Unbuilt(place),
-    }
+        Plain::AuthProviderError(text) => ErrorKind::AuthProviderError(Text::new(alloc, text)?),
+    })
 }
 
 /// Each error, and its text.
@@ -58,10 +58,9 @@ const TEXTS: &[(Plain, &str)] = &[
     ),
     (Plain::OutOfTurns, "the given turns were all taken"),
     (Plain::NoMemory, "memory was refused"),
-    (Plain::Unbuilt(0), "not built: frame at byte 0"),
     (
-        Plain::Unbuilt(u64::MAX),
-        "not built: frame at byte 18446744073709551615",
+        Plain::AuthProviderError("no token"),
+        "failure during authentication: no token",
     ),
 ];
 
@@ -71,7 +70,10 @@ fn have_their_texts<A: Abort>(
     rows: &[(Plain, &'static str)],
 ) -> Outcome<()> {
     for (plain, text) in rows {
-        assert!(rt; shows(alloc, kind_of(*plain).into(), text)?, "{text}");
+        assert!(rt;
+            shows(alloc, kind_of(alloc, *plain)?.into(), text)?,
+            "{text}"
+        );
     }
     Ok(())
 }
@@ -133,17 +135,36 @@ fn are_equal(error: Error, other: Error) -> bool {
     same
 }
 
-fn unbuilt(place: u64) -> Error {
-    ErrorKind::Unbuilt(place).into()
+// The error that a provider's refusal of this text leads to.
+fn refused_with(alloc: Global, text: &str) -> Outcome<Error> {
+    Ok(ErrorKind::AuthProviderError(Text::new(alloc, text)?).into())
+}
+
+// Whether the errors of two refusals, of these texts, are equal.
+fn are_alike(alloc: Global, text: &str, other: &str) -> Outcome<bool> {
+    let error = refused_with(alloc, text)?;
+    match refused_with(alloc, other) {
+        Ok(other) => Ok(are_equal(error, other)),
+        Err(failure) => {
+            drop(error);
+            Err(failure)
+        }
+    }
 }
 
 #[test]
 fn copies_are_equal(rt: HostRuntime) -> Outcome<()> {
     let alloc = rt.alloc();
     assert!(rt; close_is_copied(alloc)?);
-    assert!(rt; error_is_copied(alloc, unbuilt(9)));
-    assert!(rt; are_equal(unbuilt(9), unbuilt(9)));
-    assert!(rt; !are_equal(unbuilt(9), ErrorKind::OutOfTurns.into()));
+    assert!(rt; error_is_copied(alloc, refused_with(alloc, "no token")?));
+    assert!(rt; are_alike(alloc, "no token", "no token")?);
+    assert!(rt; !are_alike(alloc, "no token", "no tokens")?);
+    assert!(rt;
+        !are_equal(
+            refused_with(alloc, "no token")?,
+            ErrorKind::OutOfTurns.into()
+        )
+    );
     assert!(rt; ConnectionState::default() == ConnectionState::Initial);
     Ok(())
 }

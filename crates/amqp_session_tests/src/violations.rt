@@ -64,6 +64,18 @@ const OUT_OF_THEIR_STATE: &[Row] = &[
         what: What::Frame(SECRET_OK),
         end: "invalid connection state: Connected",
     },
+    Row {
+        name: "secure before start",
+        at: At::Linked,
+        what: What::Frame(SECURE),
+        end: "invalid connection state: Connecting",
+    },
+    Row {
+        name: "secure once the connection is open",
+        at: At::Connected,
+        what: What::Frame(SECURE),
+        end: "invalid connection state: Connected",
+    },
 ];
 
 const MISPLACED: &[Row] = &[
@@ -77,6 +89,12 @@ const MISPLACED: &[Row] = &[
         name: "update-secret-ok on a channel",
         at: At::Connected,
         what: What::Frame("01 0007 00000004 000a0047 ce"),
+        end: "protocol error: 503 connection frame received on channel 7",
+    },
+    Row {
+        name: "secure on a channel",
+        at: At::Linked,
+        what: What::Frame("01 0007 00000008 000a0014 00000000 ce"),
         end: "protocol error: 503 connection frame received on channel 7",
     },
     Row {
@@ -152,13 +170,6 @@ const UNAWAITED: &[Row] = &[
         end: "protocol error: 505 unexpected channel.close-ok received on channel 1",
     },
 ];
-
-const NOT_BUILT: &[Row] = &[Row {
-    name: "secure",
-    at: At::Connected,
-    what: What::Frame(SECURE),
-    end: "not built: frame at byte 138",
-}];
 
 const OTHER_VERSION: &[Row] = &[Row {
     name: "a header of version 0-8",
@@ -236,11 +247,6 @@ fn frames_on_channels_that_are_not_listed_are_fatal(rt: HostRuntime) -> Outcome<
 #[test]
 fn unawaited_channel_methods_are_fatal(rt: HostRuntime) -> Outcome<()> {
     are_fatal(&rt, rt.alloc(), UNAWAITED)
-}
-
-#[test]
-fn methods_that_are_not_built_end_the_session(rt: HostRuntime) -> Outcome<()> {
-    are_fatal(&rt, rt.alloc(), NOT_BUILT)
 }
 
 #[test]

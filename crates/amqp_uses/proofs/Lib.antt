@@ -2,3 +2,5 @@
 pub mod Faultless
 -- what a table has under a name that was set
 pub mod Put
+-- what comes of a rule that asks nothing
+pub mod Unasked

@@ -13,7 +13,9 @@ use Rattle.amqp_session.specs.Talk.{Talk}
 use Rattle.amqp_session.specs.Changes.{present_at, starve}
 use Rattle.amqp_session.specs.Negotiation.{frame_limit}
 use Rattle.amqp_session.specs.Links.{misread}
-use Rattle.amqp_session.specs.Frames.{on_frame}
+use Rattle.amqp_session.specs.Frames.{on_frame, frame_questions}
+use Rattle.amqp_session.specs.declared.auth.asked.Question.{Question}
+use Rattle.amqp_session.specs.declared.auth.asked.Asked.{Asked}
 use Rattle.amqp_session.specs.Writing.{unsent, next_within}
 
 -- the space for the next frame, where so many octets can still be put somewhere
@@ -33,14 +35,19 @@ next_octets free t = spelled (next_within (space_in free t) t)
 abbrev pub stands_in : List ℕ → Talk → Read
 stands_in octets t = front octets (frame_limit t)
 
--- what stood at the front, at a place, is told to the session
-abbrev pub heard : Read → ℕ → ℕ → Talk → Talk
-heard (reading.Whole f n) place at t = on_frame f place (present_at at t)
-heard reading.More place at t = t
-heard (reading.TooLarge size) place at t = misread (TooLarge size) (present_at at t)
-heard (reading.BadHeartbeat channel) place at t = misread (BadHeartbeat channel) (present_at at t)
-heard reading.Bad place at t = misread (Bad place) (present_at at t)
-heard reading.NoMemory place at t = starve (present_at at t)
+-- what stood at the front, at a place, is told to the session, with the answers to what that asks
+abbrev pub heard : Read → ℕ → ℕ → List Asked → Talk → Talk
+heard (reading.Whole f n) place at answers t = on_frame f answers (present_at at t)
+heard reading.More place at answers t = t
+heard (reading.TooLarge size) place at answers t = misread (TooLarge size) (present_at at t)
+heard (reading.BadHeartbeat channel) place at answers t = misread (BadHeartbeat channel) (present_at at t)
+heard reading.Bad place at answers t = misread (Bad place) (present_at at t)
+heard reading.NoMemory place at answers t = starve (present_at at t)
+
+-- what that asks
+abbrev pub asked_of : Read → ℕ → Talk → List Question
+asked_of (reading.Whole f n) at t = frame_questions f (present_at at t)
+asked_of _ at t = []
 
 -- how many octets were read of it
 abbrev pub read_of : Read → ℕ

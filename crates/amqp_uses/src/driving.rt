@@ -5,11 +5,25 @@ ghost use Rattle.amqp_session.specs.Changes.{present_at, starve};
 ghost use Rattle.amqp_session.specs.Writing.{next_frame};
 ghost use Rattle.amqp_session.specs.ChannelMethods.{frames_of};
 ghost use Rattle.amqp_session.specs.Answers.{answer_of, take_frames};
-ghost use Rattle.amqp_uses.specs.Driving.{space_in, next_octets, stands_in, heard, read_of, is_body};
+ghost use Rattle.amqp_session.specs.DefaultAnswers.{default_answer, AreAnswers};
+ghost use Rattle.amqp_session.specs.Asking.{Hears};
+ghost use Rattle.amqp_uses.specs.Driving.{space_in, next_octets, stands_in, heard, asked_of, read_of, is_body};
 
 use amqp_frame::{RawKind, RawMethod, Read, Room, read_frame, write_frame};
-use amqp_session::{Answer, ChanRef, Cmd, ErrorKind, Misread, Result, Session};
+use amqp_session::{
+    Answer, AuthList, ChanRef, Cmd, ConnectionProperties, DefaultAuthProvider, ErrorKind, Misread,
+    Result, Session,
+};
+use amqp_uri::AMQPUri;
 use std::alloc::Global;
+
+/// A session, with who authenticates its client and what was answered so far.
+#[derive(Drop)]
+pub struct Client {
+    pub session: Session,
+    pub provider: DefaultAuthProvider,
+    pub auths: AuthList,
+}
 
 /// Where octets stand among all that came on a link, and when they came, in milliseconds.
 #[derive(Clone, Copy)]
@@ -23,7 +37,7 @@ pub struct Came {
 /// answered once the method's last octet was taken, or nothing where the channel did not open.
 pub fn open_and_send<R: Room>(
     alloc: Global,
-    session: &mut Session,
+    client: &mut Client,
     room: &mut R,
     reply: &[u8],
     came: Came,
@@ -31,19 +45,30 @@ pub fn open_and_send<R: Room>(
 ) -> Result<Option<u64>>
     ensures { (more : List ℕ) × (R.put_so_far room.new ≡ R.put_so_far room.old ++ more) }
 {
-    session.advance(came.at);
-    let opening = session.command(Cmd::OpenChannel)?;
-    say_next(session, room);
-    hear_next(alloc, session, reply, came)?;
-    let Some(channel) = opened(session, opening.unwrap_or(0)) else {
+    client.session.advance(came.at);
+    let opening = client.session.command(Cmd::OpenChannel)?;
+    say_next(&mut client.session, room);
+    hear_next(alloc, client, reply, came)?;
+    let Some(channel) = opened(&mut client.session, opening.unwrap_or(0)) else {
         return Ok(None);
     };
-    let sending = session.command(Cmd::Send(channel, method))?;
-    say_next(session, room);
+    let sending = client.session.command(Cmd::Send(channel, method))?;
+    say_next(&mut client.session, room);
     Ok(sending)
 }
 
 // ---- its parts
+
+/// A new session with the server of an address, as the user of the address.
+pub fn new_client(alloc: Global, uri: &AMQPUri, options: ConnectionProperties) -> Result<Client> {
+    let session = Session::new(alloc, uri, options)?;
+    let provider = DefaultAuthProvider::new(alloc, uri)?;
+    Ok(Client {
+        session,
+        provider,
+        auths: AuthList::new(alloc),
+    })
+}
 
 /// Commits the next frame that fits and puts its octets into a room. Without one nothing changes, but that a next
 /// frame which is longer than the whole capacity ends the session.
@@ -59,18 +84,28 @@ pub fn say_next<R: Room>(session: &mut Session, room: &mut R)
     }
 }
 
-/// Tells a session what stands at the front of its unread octets. Gives how many of them were read, 0
-/// where more have to come first, and where no frame stood there.
-pub fn hear_next(alloc: Global, session: &mut Session, unread: &[u8], came: Came) -> Result<usize>
-    ensures ok { OnOk result (session.new ≡ heard (stands_in unread.now session.old) came.place came.at session.old) }
-    ensures read { IfOk result (λ n. n ≡ read_of (stands_in unread.now session.old)) }
-    ensures err { OnErr result (session.new ≡ starve (present_at came.at session.old)) }
+/// Tells a session what stands at the front of its unread octets. What that asks is answered by the
+/// provider. Gives how many octets were read, 0 where more have to come first, and where no frame stood
+/// there.
+pub fn hear_next(alloc: Global, client: &mut Client, unread: &[u8], came: Came) -> Result<usize>
+    ensures ok { let read = stands_in unread.now client.old.session in
+        OnOk result (Hears (heard read came.place came.at) (λ _. asked_of read came.at)
+        (AreAnswers (default_answer client.old.provider.mechanism client.old.provider.login))
+        (AreAnswers (default_answer client.new.provider.mechanism client.new.provider.login))
+        client.old.session client.new.session client.old.auths.list client.new.auths.list) }
+    ensures read { IfOk result (λ n. n ≡ read_of (stands_in unread.now client.old.session)) }
+    ensures err { OnErr result (client.new.session ≡ starve (present_at came.at client.old.session)) }
     ensures only { IfErr result (λ e. e ≡ ErrorKind.NoMemory) }
 {
     let Came { place, at } = came;
+    let Client {
+        session,
+        provider,
+        auths,
+    } = client;
     match read_frame(alloc, &unread, session.frame_limit() as u32) {
         Read::Whole(frame, n) => {
-            session.frame(frame, place, at)?;
+            session.frame(frame, at, provider, auths)?;
             return Ok(n);
         }
         Read::More => {}

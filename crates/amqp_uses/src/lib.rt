@@ -7,7 +7,9 @@ mod port;
 mod table;
 mod wire;
 
-pub use driving::{Came, bodies_received, hear_next, open_and_send, opened, say_next};
+pub use driving::{
+    Came, Client, bodies_received, hear_next, new_client, open_and_send, opened, say_next,
+};
 pub use port::{Held, converse};
 pub use table::{table_with, text_in};
 pub use wire::{frame_in, octets_of};

@@ -7,7 +7,7 @@ ghost use Rattle.amqp_engine.specs.Counts.{is_fault};
 ghost use Rattle.amqp_engine.specs.Causes.{is_counted};
 
 use amqp_engine::{IoLoop, Port, Step, Told, Wrote};
-use amqp_session::{ConnectionProperties, ErrorKind, IoFault, Result};
+use amqp_session::{ConnectionProperties, DefaultAuthProvider, ErrorKind, IoFault, Result};
 use amqp_uri::AMQPUri;
 use std::alloc::Global;
 
@@ -92,14 +92,17 @@ impl Port for Held {
     }
 }
 
-/// Runs a new session with a server at this address over such a port, and says how it ended, or that
-/// all turns were taken. It does not end by a fault that a port counts, since this one has none.
+/// Runs a new session with a server at this address over such a port, as the user of the address, and
+/// says how it ended, or that all turns were taken. It does not end by a fault that a port counts, since
+/// this one has none.
 pub fn converse(alloc: Global, uri: &AMQPUri, port: &mut Held, turns: u64) -> Result<()>
     ensures { (fault : IoFault) → IsTrue (is_counted fault) → result ≢ Err (ErrorKind.IOError fault) }
 {
     let options = ConnectionProperties::new(alloc)?;
     let mut engine = IoLoop::new(alloc, uri, options)?;
-    let end = engine.run(port, turns);
+    let mut provider = DefaultAuthProvider::new(alloc, uri)?;
+    let end = engine.run(port, &mut provider, turns);
+    drop(provider);
     drop(engine);
     end
 }

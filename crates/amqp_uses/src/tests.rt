@@ -29,16 +29,17 @@ const BODY_1: &[u8] = b"\x03\x00\x01\x00\x00\x00\x03abc\xce";
 const AT_ONCE: Came = Came { place: 0, at: 0 };
 
 // Opens the connection of a session, whose frames go into a room.
-fn connect<R: Room>(alloc: Global, session: &mut Session, room: &mut R) -> Outcome {
-    session.asked();
-    session.linked(0)?;
+fn connect<R: Room>(alloc: Global, client: &mut Client, room: &mut R) -> Outcome {
+    client.session.asked();
+    client.session.linked(0)?;
     for frame in [START, TUNE, OPEN_OK] {
-        say_next(session, room);
-        hear_next(alloc, session, frame, AT_ONCE)?;
+        say_next(&mut client.session, room);
+        hear_next(alloc, client, frame, AT_ONCE)?;
     }
-    say_next(session, room);
-    say_next(session, room);
-    session.taken(session.unsent(), 0);
+    say_next(&mut client.session, room);
+    say_next(&mut client.session, room);
+    let unsent = client.session.unsent();
+    client.session.taken(unsent, 0);
     Ok(())
 }
 
@@ -53,38 +54,39 @@ fn is_sent(session: &mut Session, promise: u64) -> bool {
 fn opens_and_sends_in<A: Abort>(
     rt: &A,
     alloc: Global,
-    session: &mut Session,
+    client: &mut Client,
     room: &mut FixedRoom,
 ) -> Outcome {
-    connect(alloc, session, room)?;
+    connect(alloc, client, room)?;
     room.clear();
     let method = RawMethod::new(alloc, 60, 40, b"abc")?;
-    let sending = open_and_send(alloc, session, room, CHANNEL_OPEN_OK_1, AT_ONCE, method)?;
+    let sending = open_and_send(alloc, client, room, CHANNEL_OPEN_OK_1, AT_ONCE, method)?;
     assert!(rt; sending == Some(2));
     assert!(rt; room.as_slice().len() == 13 + 15);
-    session.taken(session.unsent(), 0);
-    assert!(rt; is_sent(session, 2));
-    hear_next(alloc, session, BODY_1, AT_ONCE)?;
-    assert!(rt; bodies_received(session, 1)? == 1);
+    let unsent = client.session.unsent();
+    client.session.taken(unsent, 0);
+    assert!(rt; is_sent(&mut client.session, 2));
+    hear_next(alloc, client, BODY_1, AT_ONCE)?;
+    assert!(rt; bodies_received(&mut client.session, 1)? == 1);
     Ok(())
 }
 
-// A new session with the broker of this machine.
-fn new_session(alloc: Global) -> std::result::Result<Session, Fail> {
+// A new client of the broker of this machine.
+fn local_client(alloc: Global) -> std::result::Result<Client, Fail> {
     let options = ConnectionProperties::new(alloc)?;
     let uri = AMQPUri::local(alloc)?;
-    let session = Session::new(alloc, &uri, options);
+    let client = new_client(alloc, &uri, options);
     drop(uri);
-    Ok(session?)
+    Ok(client?)
 }
 
 #[test]
 fn opens_and_sends(rt: HostRuntime) -> Outcome {
     let alloc = rt.alloc();
     let mut room = FixedRoom::new(alloc, 4096)?;
-    let mut session = new_session(alloc)?;
-    let told = opens_and_sends_in(&rt, alloc, &mut session, &mut room);
-    drop(session);
+    let mut client = local_client(alloc)?;
+    let told = opens_and_sends_in(&rt, alloc, &mut client, &mut room);
+    drop(client);
     told
 }
 

@@ -1,61 +1,84 @@
 //! The rule of a step, and the reading of frames.
 
-ghost use Rattle.std.specs.Prelude.{◌≡◌, ◌≢◌, ◌≤◌, not, ◌&&◌, ◌<◌, ◌+◌, ◌*◌, ◌^◌, ℕ, List, Option, Some, true, false, if◌then◌else◌, IfOk, OnOk, OnErr, IsTrue, IsFalse, length, take};
+ghost use Rattle.std.specs.Prelude.{◌≡◌, ◌≢◌, ◌≤◌, not, ◌&&◌, ◌<◌, ◌+◌, ◌*◌, ◌^◌, ℕ, List, Option, Some, true, false, if◌then◌else◌, IfOk, OnOk, OnErr, IsTrue, IsFalse, [], ◌++◌, length, take, drop};
 ghost use Rattle.amqp_session.specs.Talk.{is_open, is_asked};
 ghost use Rattle.amqp_session.specs.Changes.{starve};
 ghost use Rattle.amqp_session.specs.Links.{link_failed, lost};
-ghost use Rattle.amqp_session.specs.Ticks.{tick};
 ghost use Rattle.amqp_session.specs.Commands.{command as command_rule};
-ghost use Rattle.amqp_engine.specs.Engine.{Engine, rule_at, step_linked, step_piece, step_engine, can_read, read_one, settle, read_badly, read_row, is_more, starve_at};
+ghost use Rattle.amqp_engine.specs.Plan.{at_most_64};
+ghost use Rattle.amqp_engine.specs.Engine.{Engine, rule_at, step_linked, step_piece, step_engine, front_of, can_read, settle, read_badly, read_row, is_more, starve_at};
+ghost use Rattle.amqp_session.specs.declared.auth.asked.Asked.{Asked};
+ghost use Rattle.amqp_session.specs.declared.auth.asked.Question.{Question};
 ghost use Rattle.amqp_engine.specs.Turn.{begun, is_part, is_piece, step_part, reading};
-ghost use Rattle.amqp_engine.specs.Making.{making, parts_of, is_command, is_whole, keeps_unread, IsSettled, joined, FewParts, Allows};
+ghost use Rattle.amqp_engine.specs.Making.{making, parts_of, is_event, is_whole, keeps_unread, IsSettled, joined, FewParts, Reaches, Heard, Broke, StepHears, RowHears, Grew};
 ghost use Rattle.amqp_frame.specs.declared.frame.Read.TheVariants as reads;
 
 use super::Wire;
 use crate::port::Step;
 use amqp_frame::{Frame, Read, read_frame};
 use amqp_ring::Buffer;
-use amqp_session::{Cmd, IoFault, Misread};
+use amqp_session::{AuthList, AuthProvider, Cmd, IoFault, Misread};
 use amqp_types::NoMemory;
 
 impl Wire {
     // The step of a turn, with the frames of its piece. Counts the parts.
-    pub(super) fn read_step(
+    pub(super) fn read_step<A: AuthProvider>(
         &mut self,
         at: u64,
         step: Step,
         bytes: &[u8],
+        provider: &mut A,
+        auths: &mut AuthList,
         parts: &mut u64,
     ) -> Result<(), NoMemory>
-        requires { parts.old ≡ 0 }
-        ensures ok { OnOk result ((cut : Option ℕ) → Allows cut parts.new
-            → reading (is_piece step) (step_part step bytes.now (begun at cut self.old))
-            ≡ making at cut self.new parts.new) }
-        ensures err { OnErr result ((e : Engine) × (starve_at at parts.new self.new ≡ starve_at at parts.new e)
-            × (reading (is_piece step) (step_part step bytes.now (begun at (Some parts.new) self.old))
-            ≡ making at (Some parts.new) e parts.new)) }
+        requires parts { parts.old ≡ 0 }
+        requires can { A.can provider.old }
+        ensures can { A.can provider.new }
+        ensures ok { OnOk result (Heard (λ answers questions. (cut : Option ℕ) (more : List Asked)
+            → Reaches cut parts.new
+            → reading (is_piece step) (step_part step bytes.now (begun at cut (answers ++ more) self.old))
+            ≡ making at cut more questions self.new parts.new)
+            (A.allows provider.old) (A.allows provider.new) auths.old.list auths.new.list) }
+        ensures err { OnErr result (Broke parts.new (λ answers questions e.
+            (starve_at at parts.new self.new ≡ starve_at at parts.new e)
+            × (reading (is_piece step) (step_part step bytes.now (begun at (Some parts.new) answers self.old))
+            ≡ making at (Some parts.new) (drop (length questions) answers) questions e parts.new))
+            (A.allows provider.old) auths.old.list auths.new.list) }
         ensures bound { FewParts parts.new }
         ensures starved { self.new.starved ≡ self.old.starved }
+        ensures never_falls { A.refusals provider.old ≤ A.refusals provider.new }
     {
         if step.is_piece() && self.session.is_open() {
             drop(step);
-            return self.read_piece(at, bytes, parts);
+            return self.read_piece(at, bytes, provider, auths, parts);
         }
-        *parts = self.take_step(at, step)?;
+        *parts = self.take_step(at, step, provider, auths)?;
         Ok(())
     }
 
     // The rule of a step, whatever its bytes are, but a piece on the open link. Says how many parts
     // of the turn it is, one or none. Where memory is refused, the session has ended, and nothing
     // else is done.
-    pub(super) fn take_step(&mut self, at: u64, step: Step) -> Result<u64, NoMemory>
-        requires { IsFalse (is_piece step && is_open self.old.talk) }
-        ensures ok { OnOk result ((bytes : List ℕ) → self.new ≡ step_engine at step bytes self.old) }
+    pub(super) fn take_step<A: AuthProvider>(
+        &mut self,
+        at: u64,
+        step: Step,
+        provider: &mut A,
+        auths: &mut AuthList,
+    ) -> Result<u64, NoMemory>
+        requires apart { IsFalse (is_piece step && is_open self.old.talk) }
+        requires can { A.can provider.old }
+        ensures can { A.can provider.new }
+        ensures ok { OnOk result (StepHears at step self.old self.new
+            (A.allows provider.old) (A.allows provider.new) auths.old.list auths.new.list) }
         ensures parts { IfOk result (λ n. n ≡ parts_of (is_part step self.old)) }
         ensures err { OnErr result (self.new ≡ rule_at at starve self.old) }
+        ensures listed { OnErr result (Grew auths.old.list auths.new.list) }
         ensures refused { OnErr result (is_part step self.old ≡ true) }
+        ensures never_falls { A.refusals provider.old ≤ A.refusals provider.new }
     {
         match step {
+            Step::Tick => self.take_tick(at, provider, auths),
             Step::Command(command) => self.take_command(at, command),
             other => {
                 let parts = self.take_event(at, &other);
@@ -65,11 +88,12 @@ impl Wire {
         }
     }
 
-    // The rule of a step that is no command.
+    // The rule of a step that is no command and no tick.
     fn take_event(&mut self, at: u64, step: &Step) -> Result<u64, NoMemory>
-        requires event { is_command step.now ≡ false }
+        requires event { is_event step.now ≡ true }
         requires apart { IsFalse (is_piece step.now && is_open self.old.talk) }
-        ensures ok { OnOk result ((bytes : List ℕ) → self.new ≡ step_engine at step.now bytes self.old) }
+        ensures ok { OnOk result ((bytes : List ℕ) (answers : List Asked)
+            → self.new ≡ step_engine at step.now bytes answers self.old) }
         ensures parts { IfOk result (λ n. n ≡ parts_of (is_part step.now self.old)) }
         ensures err { OnErr result (self.new ≡ rule_at at starve self.old) }
         ensures refused { OnErr result (is_part step.now self.old ≡ true) }
@@ -83,8 +107,7 @@ impl Wire {
                 self.session.advance(at);
                 Ok(0)
             }
-            Step::Tick => Ok(self.take_tick(at)?),
-            Step::Command(_) => unreachable!(),
+            Step::Tick | Step::Command(_) => unreachable!(),
         }
     }
 
@@ -130,12 +153,23 @@ impl Wire {
     }
 
     // Time goes by.
-    fn take_tick(&mut self, at: u64) -> Result<u64, NoMemory>
-        ensures ok { OnOk result (self.new ≡ settle (rule_at at tick self.old)) }
+    fn take_tick<A: AuthProvider>(
+        &mut self,
+        at: u64,
+        provider: &mut A,
+        auths: &mut AuthList,
+    ) -> Result<u64, NoMemory>
+        requires { A.can provider.old }
+        ensures can { A.can provider.new }
+        ensures ok { OnOk result (StepHears at Step.Tick self.old self.new
+            (A.allows provider.old) (A.allows provider.new) auths.old.list auths.new.list) }
         ensures parts { IfOk result (λ n. n ≡ 1) }
         ensures err { OnErr result (self.new ≡ rule_at at starve self.old) }
+        ensures listed { OnErr result (Grew auths.old.list auths.new.list) }
+        ensures never_falls { A.refusals provider.old ≤ A.refusals provider.new }
     {
-        if self.session.tick(at).is_err() {
+        if let Err(refused) = self.session.tick(at, provider, auths) {
+            drop(refused);
             return Err(NoMemory);
         }
         self.settle();
@@ -158,16 +192,31 @@ impl Wire {
     // A piece is read on the open link. As many of its bytes as there is room for join the unread
     // ones, and the frames that then stand whole are read, and so on with the bytes that are left.
     // Where what is received is no longer kept, they go.
-    fn read_piece(&mut self, at: u64, piece: &[u8], parts: &mut u64) -> Result<(), NoMemory>
-        requires { IsTrue (is_open self.old.talk) }
-        ensures ok { OnOk result ((cut : Option ℕ) → Allows cut parts.new
-            → reading true (making at cut (step_piece at piece.now self.old) 1) ≡ making at cut self.new parts.new) }
-        ensures err { OnErr result ((e : Engine) × (starve_at at parts.new self.new ≡ starve_at at parts.new e)
-            × (reading true (making at (Some parts.new) (step_piece at piece.now self.old) 1)
-            ≡ making at (Some parts.new) e parts.new)) }
+    fn read_piece<A: AuthProvider>(
+        &mut self,
+        at: u64,
+        piece: &[u8],
+        provider: &mut A,
+        auths: &mut AuthList,
+        parts: &mut u64,
+    ) -> Result<(), NoMemory>
+        requires opened { IsTrue (is_open self.old.talk) }
+        requires can { A.can provider.old }
+        ensures can { A.can provider.new }
+        ensures ok { OnOk result (Heard (λ answers questions. (cut : Option ℕ) (more : List Asked)
+            → Reaches cut parts.new
+            → reading true (making at cut (answers ++ more) [] (step_piece at piece.now self.old) 1)
+            ≡ making at cut more questions self.new parts.new)
+            (A.allows provider.old) (A.allows provider.new) auths.old.list auths.new.list) }
+        ensures err { OnErr result (Broke parts.new (λ answers questions e.
+            (starve_at at parts.new self.new ≡ starve_at at parts.new e)
+            × (reading true (making at (Some parts.new) answers [] (step_piece at piece.now self.old) 1)
+            ≡ making at (Some parts.new) (drop (length questions) answers) questions e parts.new))
+            (A.allows provider.old) auths.old.list auths.new.list) }
         ensures some { 1 ≤ parts.new }
         ensures bound { FewParts parts.new }
         ensures starved { self.new.starved ≡ self.old.starved }
+        ensures never_falls { A.refusals provider.old ≤ A.refusals provider.new }
     {
         self.session.piece(at);
         self.settle();
@@ -177,7 +226,7 @@ impl Wire {
         let mut joined = 0;
         'parts: loop {
             joined += self.join(&piece[joined..]);
-            self.read_all(at, parts)?;
+            self.read_all(at, provider, auths, parts)?;
             if joined == piece.len() {
                 return Ok(());
             }
@@ -203,42 +252,68 @@ impl Wire {
     }
 
     // Reads frames while there is one, and counts them as parts. It is the same whatever is still to
-    // join the unread bytes.
-    fn read_all(&mut self, at: u64, parts: &mut u64) -> Result<(), NoMemory>
+    // join the unread bytes, and whatever the provider is still to answer.
+    fn read_all<A: AuthProvider>(
+        &mut self,
+        at: u64,
+        provider: &mut A,
+        auths: &mut AuthList,
+        parts: &mut u64,
+    ) -> Result<(), NoMemory>
         requires settled { IsSettled self.old }
         requires few { parts.old + length self.old.unread < 2 ^ 63 }
-        ensures ok { OnOk result ((rest : List ℕ) (cut : Option ℕ) → Allows cut parts.new
-            → reading true (making at cut (joined rest self.old) parts.old)
-            ≡ reading true (making at cut (joined rest self.new) parts.new)) }
+        requires can { A.can provider.old }
+        ensures can { A.can provider.new }
+        ensures ok { OnOk result (Heard (λ answers questions. (rest : List ℕ) (cut : Option ℕ) (more : List Asked)
+            (before : List Question) → Reaches cut parts.new
+            → reading true (making at cut (answers ++ more) before (joined rest self.old) parts.old)
+            ≡ reading true (making at cut more (before ++ questions) (joined rest self.new) parts.new))
+            (A.allows provider.old) (A.allows provider.new) auths.old.list auths.new.list) }
         ensures done { OnOk result (can_read self.new ≡ false) }
         ensures settled { OnOk result (IsSettled self.new) }
-        ensures err { OnErr result ((e : Engine) × (self.new ≡ rule_at at starve e) × ((rest : List ℕ)
-            → reading true (making at (Some parts.new) (joined rest self.old) parts.old)
-            ≡ making at (Some parts.new) (joined rest e) parts.new)) }
+        ensures err { OnErr result (Broke parts.new (λ answers questions e. (self.new ≡ rule_at at starve e)
+            × ((rest : List ℕ) (before : List Question)
+            → reading true (making at (Some parts.new) answers before (joined rest self.old) parts.old)
+            ≡ making at (Some parts.new) (drop (length questions) answers) (before ++ questions) (joined rest e)
+            parts.new))
+            (A.allows provider.old) auths.old.list auths.new.list) }
         ensures size { OnOk result (keeps_unread self.new.talk ≡ true
             → 8 * parts.new + length self.new.unread ≤ 8 * parts.old + length self.old.unread) }
         ensures bound { 8 * parts.new ≤ 8 * parts.old + length self.old.unread + 8 }
         ensures grows { parts.old ≤ parts.new }
         ensures starved { self.new.starved ≡ self.old.starved }
+        ensures never_falls { A.refusals provider.old ≤ A.refusals provider.new }
     {
-        'frames: while self.read_next(at)? {
+        'frames: while self.read_next(at, provider, auths)? {
             *parts += 1;
         }
         Ok(())
     }
 
     // Reads a frame, or what can be none, and says whether there was one.
-    fn read_next(&mut self, at: u64) -> Result<bool, NoMemory>
+    fn read_next<A: AuthProvider>(
+        &mut self,
+        at: u64,
+        provider: &mut A,
+        auths: &mut AuthList,
+    ) -> Result<bool, NoMemory>
+        requires { A.can provider.old }
+        ensures can { A.can provider.new }
         ensures some { IfOk result (λ b. b ≡ can_read self.old) }
-        ensures ok { IfOk result (λ b. self.new ≡ (if b then read_one at self.old else self.old)) }
+        ensures ok { IfOk result (λ b. b ≡ true → RowHears at (front_of self.old) self.old self.new
+            (A.allows provider.old) (A.allows provider.new) auths.old.list auths.new.list) }
+        ensures none { IfOk result (λ b. b ≡ false → (self.new ≡ self.old) × (auths.new ≡ auths.old)
+            × (provider.new ≡ provider.old)) }
         ensures err { OnErr result (self.new ≡ rule_at at starve self.old) }
+        ensures listed { OnErr result (Grew auths.old.list auths.new.list) }
+        ensures never_falls { A.refusals provider.old ≤ A.refusals provider.new }
     {
         if !self.session.is_open() {
             return Ok(false);
         }
         let received = self.unread.parsing_context();
         match read_frame(self.alloc, &received, self.session.frame_limit() as u32) {
-            Read::Whole(frame, n) => self.read_whole(at, frame, n),
+            Read::Whole(frame, n) => self.read_whole(at, frame, n, provider, auths),
             other => {
                 let found = self.read_other(at, &other);
                 drop(other);
@@ -248,12 +323,24 @@ impl Wire {
     }
 
     // A frame is read, of so many bytes.
-    fn read_whole(&mut self, at: u64, frame: Frame, n: usize) -> Result<bool, NoMemory>
+    fn read_whole<A: AuthProvider>(
+        &mut self,
+        at: u64,
+        frame: Frame,
+        n: usize,
+        provider: &mut A,
+        auths: &mut AuthList,
+    ) -> Result<bool, NoMemory>
         requires open { IsTrue (is_open self.old.talk) }
         requires within { n ≤ length self.old.unread }
+        requires can { A.can provider.old }
+        ensures can { A.can provider.new }
         ensures some { IfOk result (λ b. b ≡ true) }
-        ensures ok { OnOk result (self.new ≡ read_row at (reads.Whole frame n) self.old) }
+        ensures ok { OnOk result (RowHears at (reads.Whole frame n) self.old self.new
+            (A.allows provider.old) (A.allows provider.new) auths.old.list auths.new.list) }
         ensures err { OnErr result (self.new ≡ rule_at at starve self.old) }
+        ensures listed { OnErr result (Grew auths.old.list auths.new.list) }
+        ensures never_falls { A.refusals provider.old ≤ A.refusals provider.new }
     {
         let capacity = self.session.capacity_after(&frame) as usize;
         if let Err(refused) = Buffer::grow_both(&mut self.unread, &mut self.unsent, capacity) {
@@ -261,23 +348,33 @@ impl Wire {
             self.session.starve(at);
             return Err(refused);
         }
-        if let Err(refused) = self.session.frame(frame, self.place, at) {
+        if let Err(refused) = self.session.frame(frame, at, provider, auths) {
             drop(refused);
             return Err(NoMemory);
         }
+        self.step_over(n);
+        Ok(true)
+    }
+
+    // So many of the unread bytes were read.
+    fn step_over(&mut self, n: usize)
+        requires { n ≤ length self.old.unread }
+        ensures { self.new
+            ≡ settle (record self.old { unread = drop n self.old.unread; place = at_most_64 (self.old.place + n) }) }
+    {
         let rest = self.unread.parsing_context().take_from(n);
         let read = self.unread.offset(rest);
         self.unread.consume(read);
         self.place = self.place.saturating_add(n as u64);
         self.settle();
-        Ok(true)
     }
 
     // What stands at the front is no whole frame.
     fn read_other(&mut self, at: u64, read: &Read) -> Result<bool, NoMemory>
         requires { is_whole read.now ≡ false }
         ensures some { IfOk result (λ b. b ≡ not (is_more read.now)) }
-        ensures ok { IfOk result (λ b. self.new ≡ (if b then read_row at read.now self.old else self.old)) }
+        ensures ok { IfOk result (λ b. (answers : List Asked)
+            → self.new ≡ (if b then read_row at read.now answers self.old else self.old)) }
         ensures err { OnErr result (self.new ≡ rule_at at starve self.old) }
         ensures held { OnOk result (read.now ≢ reads.NoMemory) }
     {

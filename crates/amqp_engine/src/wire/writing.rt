@@ -1,6 +1,8 @@
 //! The writing of frames.
 
-ghost use Rattle.std.specs.Prelude.{◌≡◌, ◌≤◌, ◌<◌, ◌+◌, ◌*◌, Some, None, true, false, IfNone, IfSome, OnOk, OnErr, IsTrue, IsFalse, option_map, length, is_some};
+ghost use Rattle.std.specs.Prelude.{◌≡◌, ◌≤◌, ◌<◌, ◌+◌, ◌*◌, List, Some, None, true, false, IfNone, IfSome, OnOk, OnErr, IsTrue, IsFalse, option_map, length, is_some};
+ghost use Rattle.amqp_session.specs.declared.auth.asked.Asked.{Asked};
+ghost use Rattle.amqp_session.specs.declared.auth.asked.Question.{Question};
 ghost use Rattle.amqp_session.specs.Talk.{is_open};
 ghost use Rattle.amqp_engine.specs.Log.{log_write, IsWithin, PlansWrite};
 ghost use Rattle.amqp_session.specs.Writing.{overlong, end_overlong};
@@ -32,11 +34,12 @@ impl Wire {
         parts: &mut u64,
     ) -> Result<(), NoMemory>
         requires { FewParts parts.old }
-        ensures ok { OnOk result (Writes
-            (making at None self.old parts.old) (making at None self.new parts.new)
+        ensures ok { OnOk result ((more : List Asked) (asked : List Question) → Writes
+            (making at None more asked self.old parts.old) (making at None more asked self.new parts.new)
             (P.log port.old) (P.log port.new) (P.faults port.old) (P.faults port.new)) }
-        ensures err { OnErr result (Writes
-            (making at (Some parts.new) self.old parts.old) (making at (Some parts.new) self.new parts.new)
+        ensures err { OnErr result ((more : List Asked) (asked : List Question) → Writes
+            (making at (Some parts.new) more asked self.old parts.old)
+            (making at (Some parts.new) more asked self.new parts.new)
             (P.log port.old) (P.log port.new) (P.faults port.old) (P.faults port.new)) }
         ensures grows { parts.old ≤ parts.new }
         ensures starved { self.new.starved ≡ self.old.starved }

@@ -5,6 +5,7 @@ use amqp_engine::MemoryPort;
 use amqp_replay::status::{CLOSED, FAILED};
 use amqp_replay::top::top;
 use amqp_replay::{MemorySink, MemorySource, ended_at, line_of_step};
+use amqp_session::DefaultAuthProvider;
 use amqp_types::Text;
 use std::alloc::Global;
 use std::test::Fail;
@@ -37,7 +38,8 @@ fn steps_told(alloc: Global, script: &[u8]) -> Result<(u8, u64), Fail> {
     let mut source = MemorySource::new(script, &[]);
     let mut sink = MemorySink::new(alloc, usize::MAX, &[]);
     let mut port = MemoryPort::new(alloc, Vec::new(alloc))?;
-    let status = top(alloc, &words, &mut source, &mut sink, &mut port);
+    let nobody: Option<DefaultAuthProvider> = None;
+    let status = top(alloc, &words, &mut source, &mut sink, &mut port, nobody);
     let steps = port.told();
     drop(port);
     Ok((status, steps))

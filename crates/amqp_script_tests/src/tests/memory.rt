@@ -7,6 +7,7 @@ use amqp_engine::{Given, MemoryPort, Port, ScriptedPort, Told, Wrote};
 use amqp_replay::status::NO_MEMORY;
 use amqp_replay::top::top;
 use amqp_replay::{MemorySink, MemorySource};
+use amqp_session::DefaultAuthProvider;
 use amqp_types::{NoMemory, Text};
 use std::alloc::Global;
 use std::test::Fail;
@@ -72,7 +73,8 @@ fn without_memory(alloc: Global, write: u64) -> Result<(u8, usize), Fail> {
         script,
         writes_left: write,
     };
-    let status = top(alloc, &words, &mut source, &mut sink, &mut port);
+    let nobody: Option<DefaultAuthProvider> = None;
+    let status = top(alloc, &words, &mut source, &mut sink, &mut port, nobody);
     drop(port);
     Ok((status, sink.held().len()))
 }

@@ -1,8 +1,11 @@
 //! Scripts through the program, and what they print.
 
+ghost use Rattle.std.specs.Prelude.{IfSome};
+
 use amqp_engine::MemoryPort;
 use amqp_replay::top::top;
 use amqp_replay::{MemorySink, MemorySource};
+use amqp_session::{AuthProvider, DefaultAuthProvider};
 use amqp_types::Text;
 use amqp_vectors::{CLOSE, CLOSE_OK, HEADER, OPEN, OPEN_OK, START, START_OK, TUNE, TUNE_OK};
 use std::alloc::Global;
@@ -24,8 +27,8 @@ pub const WELL: Ends = Ends {
     most: usize::MAX,
 };
 
-// Appends hexadecimal without what is for reading only.
-fn push_digits(text: &mut Vec<u8>, frame: &str) -> Result<(), Fail> {
+/// Appends hexadecimal without what is for reading only.
+pub fn push_digits(text: &mut Vec<u8>, frame: &str) -> Result<(), Fail> {
     for byte in frame.as_bytes() {
         if *byte != b' ' && *byte != b'\n' {
             text.push(*byte)?;
@@ -72,7 +75,8 @@ fn texts(alloc: Global, words: &[&str]) -> Result<Vec<Text>, Fail> {
     Ok(texts)
 }
 
-/// Whether these words and this script are answered by this status, and print this.
+/// Whether these words and this script are answered by this status, and print this, where no provider
+/// is handed.
 pub fn answers(
     alloc: Global,
     words: &[&str],
@@ -81,11 +85,27 @@ pub fn answers(
     status: u8,
     printed: &[u8],
 ) -> Result<bool, Fail> {
+    let nobody: Option<DefaultAuthProvider> = None;
+    answers_by(alloc, words, script, ends, nobody, status, printed)
+}
+
+/// The same, where this provider is handed, or none.
+pub fn answers_by<A: AuthProvider>(
+    alloc: Global,
+    words: &[&str],
+    script: &[u8],
+    ends: &Ends,
+    handed: Option<A>,
+    status: u8,
+    printed: &[u8],
+) -> Result<bool, Fail>
+    requires { IfSome handed A.can }
+{
     let words = texts(alloc, words)?;
     let mut source = MemorySource::new(script, ends.source_fails);
     let mut sink = MemorySink::new(alloc, ends.most, ends.sink_fails);
     let mut port = MemoryPort::new(alloc, Vec::new(alloc))?;
-    let answered = top(alloc, &words, &mut source, &mut sink, &mut port);
+    let answered = top(alloc, &words, &mut source, &mut sink, &mut port, handed);
     drop(port);
     Ok(answered == status && sink.held() == printed)
 }

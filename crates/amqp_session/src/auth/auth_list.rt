@@ -72,6 +72,14 @@ impl AuthList {
         self.spare -= 1;
     }
 
+    /// Forgets all answers, and keeps their places.
+    pub fn clear(&mut self)
+        ensures { self.new.list ≡ [] }
+    {
+        self.list.clear();
+        self.spare = self.list.capacity();
+    }
+
     /// Another list of equal answers. How many places are spare is left open.
     pub fn try_clone(&self, alloc: Global) -> Result<AuthList, NoMemory>
         ensures { IfOk result (λ copy. copy.list ≡ self.now.list) }

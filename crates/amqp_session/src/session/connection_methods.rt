@@ -1,33 +1,40 @@
 //! The methods of the connection class.
 
-ghost use Rattle.std.specs.Prelude.{◌≡◌, IsTrue, IsOk, OnOk, OnErr};
+ghost use Rattle.std.specs.Prelude.{◌≡◌, Ok, IsTrue, IsOk, OnOk, OnErr};
 ghost use Rattle.amqp_session.specs.Talk.{is_open, acts};
 ghost use Rattle.amqp_session.specs.Changes.{queue};
 ghost use Rattle.amqp_session.specs.Memory.{MakesNothing};
+ghost use Rattle.amqp_session.specs.Parts.{login_answers};
 ghost use Rattle.amqp_session.specs.Sound.{is_agreed};
-ghost use Rattle.amqp_session.specs.ConnectionMethods.{on_start, on_tune, on_open_ok, on_connection_close, on_connection_close_ok, on_update_secret_ok, connection_rule};
+ghost use Rattle.amqp_session.specs.ConnectionMethods.{started, challenged, on_start, on_secure, on_tune, on_open_ok, on_connection_close, on_connection_close_ok, on_update_secret_ok, connection_rule};
 
 use super::Session;
+use super::asking::Login;
 use super::places::{reserve_both, reserve_item};
 use crate::command::Answer;
 use crate::configuration::{Configuration, tune};
 use crate::error::ErrorKind;
-use crate::handshake::{close_ok, open_vhost, start_ok, tune_ok};
+use crate::handshake::{close_ok, open_vhost, secure_ok, start_ok, tune_ok};
 use crate::state::ConnectionState::{Closing, Connected, Connecting};
 use crate::state::Input;
 use crate::state::Phase::{AwaitOpenOk, AwaitStart, AwaitTune};
 use crate::violations::closed_with;
 use amqp_frame::{Frame, Method};
 use amqp_outbox::{Item, Reply};
-use amqp_types::{ChannelId, NoMemory, ReplyCode, ShortString};
+use amqp_types::{ChannelId, LongString, NoMemory, ReplyCode, ShortString, Text};
 
 impl Session {
-    pub(super) fn connection_method(&mut self, method: Method) -> Result<(), NoMemory>
+    pub(super) fn connection_method(
+        &mut self,
+        method: Method,
+        login: Option<Login>,
+    ) -> Result<(), NoMemory>
         requires { IsTrue (acts self.old) }
-        ensures ok { OnOk result (self.new ≡ connection_rule self.old.state self.old.phase method self.old) }
+        ensures ok { OnOk result (self.new
+            ≡ connection_rule self.old.state self.old.phase method (login_answers login) self.old) }
         ensures err { OnErr result (self.new ≡ self.old) }
-        ensures idle { MakesNothing self.old (connection_rule self.old.state self.old.phase method self.old)
-            → IsOk result }
+        ensures idle { MakesNothing self.old
+            (connection_rule self.old.state self.old.phase method (login_answers login) self.old) → IsOk result }
     {
         match (self.state, self.phase, method) {
             (_, _, Method::Close(code, text, _, _)) => self.on_connection_close(code, text),
@@ -46,7 +53,8 @@ impl Session {
             }
             // What else comes after our close is dropped.
             (Closing, _, _) => Ok(()),
-            (Connecting, AwaitStart, Method::Start(..)) => self.on_start(),
+            (Connecting, AwaitStart, Method::Start(..)) => self.on_start(login),
+            (Connecting, AwaitTune, Method::Secure(_)) => self.on_secure(login),
             (Connecting, AwaitTune, Method::Tune(channel_max, frame_max, heartbeat)) => {
                 self.on_tune(Configuration {
                     channel_max,
@@ -83,14 +91,83 @@ impl Session {
         Ok(())
     }
 
-    fn on_start(&mut self) -> Result<(), NoMemory>
-        ensures ok { OnOk result (self.new ≡ on_start self.old) }
+    fn on_start(&mut self, login: Option<Login>) -> Result<(), NoMemory>
+        requires { IsTrue (acts self.old) }
+        ensures ok { OnOk result (self.new ≡ on_start (login_answers login) self.old) }
+        ensures err { OnErr result (self.new ≡ self.old) }
+        ensures idle { MakesNothing self.old (on_start (login_answers login) self.old) → IsOk result }
+    {
+        match login {
+            Some(Login::Started(mechanism, said)) => self.started(mechanism, said),
+            Some(Login::Challenged(said)) => {
+                drop(said);
+                Ok(())
+            }
+            None => Ok(()),
+        }
+    }
+
+    // By this mechanism the client says this first, or was refused to.
+    fn started(
+        &mut self,
+        mechanism: ShortString,
+        said: Result<LongString, Text>,
+    ) -> Result<(), NoMemory>
+        ensures ok { OnOk result (self.new ≡ started mechanism said self.old) }
+        ensures err { OnErr result (self.new ≡ self.old) }
+        ensures idle { MakesNothing self.old (started mechanism said self.old) → IsOk result }
+    {
+        match said {
+            Ok(response) => self.log_in(mechanism, response),
+            Err(text) => {
+                drop(mechanism);
+                self.lose(ErrorKind::AuthProviderError(text));
+                Ok(())
+            }
+        }
+    }
+
+    // The client names itself and logs in.
+    fn log_in(&mut self, mechanism: ShortString, response: LongString) -> Result<(), NoMemory>
+        ensures ok { OnOk result (self.new ≡ started mechanism (Ok response) self.old) }
         ensures err { OnErr result (self.new ≡ self.old) }
     {
-        let frame = start_ok(self.alloc, &self.uri, &self.options)?;
+        let frame = start_ok(self.alloc, &self.options, mechanism, response)?;
         self.queue(0, frame)?;
         self.phase = AwaitTune;
         Ok(())
+    }
+
+    fn on_secure(&mut self, login: Option<Login>) -> Result<(), NoMemory>
+        requires { IsTrue (acts self.old) }
+        ensures ok { OnOk result (self.new ≡ on_secure (login_answers login) self.old) }
+        ensures err { OnErr result (self.new ≡ self.old) }
+        ensures idle { MakesNothing self.old (on_secure (login_answers login) self.old) → IsOk result }
+    {
+        match login {
+            Some(Login::Challenged(said)) => self.challenged(said),
+            Some(Login::Started(mechanism, said)) => {
+                drop(mechanism);
+                drop(said);
+                Ok(())
+            }
+            None => Ok(()),
+        }
+    }
+
+    // To the challenge this is said, or the provider refused it.
+    fn challenged(&mut self, said: Result<LongString, Text>) -> Result<(), NoMemory>
+        ensures ok { OnOk result (self.new ≡ challenged said self.old) }
+        ensures err { OnErr result (self.new ≡ self.old) }
+        ensures idle { MakesNothing self.old (challenged said self.old) → IsOk result }
+    {
+        match said {
+            Ok(response) => self.queue(0, secure_ok(response)),
+            Err(text) => {
+                self.lose(ErrorKind::AuthProviderError(text));
+                Ok(())
+            }
+        }
     }
 
     fn on_tune(&mut self, server: Configuration) -> Result<(), NoMemory>
@@ -119,13 +196,18 @@ impl Session {
         self.give(0, Answer::Connected);
         self.capacity = self.capacity.grown(self.configuration.frame_max);
         self.state = Connected;
+        self.secret_at = self.present;
     }
 
     fn on_update_secret_ok(&mut self)
         ensures { self.new ≡ on_update_secret_ok self.old }
     {
         match self.outbox.answer(0, Reply::SecretDone) {
-            Some(promise) => self.give_to(promise, Answer::Done),
+            Some(Some(number)) => self.give(number, Answer::Done),
+            Some(None) => {
+                self.secret_at = self.present;
+                self.refreshing = false;
+            }
             None => self.lose(ErrorKind::InvalidConnectionState(Connected)),
         }
     }

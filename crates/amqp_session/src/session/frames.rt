@@ -1,26 +1,49 @@
 //! The frames that are read.
 
-ghost use Rattle.std.specs.Prelude.{◌≡◌, if◌then◌else◌, IsTrue, IsOk, IfErr, OnOk, OnErr};
-ghost use Rattle.amqp_session.specs.Talk.{is_open, acts, hears_on};
+ghost use Rattle.std.specs.Prelude.{◌≡◌, ◌≤◌, if◌then◌else◌, [], Some, Err, IsTrue, IsOk, IfErr, OnOk, OnErr};
+ghost use Rattle.amqp_session.specs.Talk.{is_open, acts, hears_on, end_of};
 ghost use Rattle.amqp_session.specs.Changes.{present_at, starve, misplaced};
 ghost use Rattle.amqp_session.specs.Memory.{MakesNothing};
 ghost use Rattle.amqp_session.specs.Violations.{stray_connection_method, stray_channel_frame};
-ghost use Rattle.amqp_session.specs.Frames.{closed_rule, is_unbuilt, is_of_a_channel, method_rule, frame_rule, on_frame};
+ghost use Rattle.amqp_session.specs.Frames.{closed_rule, is_of_a_channel, method_rule, frame_rule, on_frame, questions_in, frame_questions};
+ghost use Rattle.amqp_session.specs.Asking.{Hears, Starves};
+ghost use Rattle.amqp_session.specs.Counts.{Rose};
+ghost use Rattle.amqp_session.specs.Parts.{login_answers};
 
 use super::Session;
+use super::asking::Login;
+use crate::auth::{AuthList, AuthProvider};
 use crate::error::{self, ErrorKind};
 use crate::state::ConnectionState;
 use crate::violations::{stray_channel_frame, stray_connection_method};
 use amqp_frame::{Frame, Method, RawKind};
-use amqp_types::{ChannelId, NoMemory};
+use amqp_types::{ChannelId, NoMemory, Text};
 
 impl Session {
-    /// A frame was read, which stood at a place of the link's received bytes.
-    pub fn frame(&mut self, frame: Frame, place: u64, at: u64) -> error::Result<()>
-        ensures ok { OnOk result (self.new ≡ on_frame frame place (present_at at self.old)) }
+    /// A frame was read. What it asks is asked of the provider, whose answers are put last into the
+    /// list.
+    pub fn frame<A: AuthProvider>(
+        &mut self,
+        frame: Frame,
+        at: u64,
+        provider: &mut A,
+        auths: &mut AuthList,
+    ) -> error::Result<()>
+        requires { A.can provider.old }
+        ensures can { A.can provider.new }
+        ensures ok { OnOk result (Hears (on_frame frame) (λ _. frame_questions frame)
+            (A.allows provider.old) (A.allows provider.new) (present_at at self.old) self.new
+            auths.old.list auths.new.list) }
         ensures err { OnErr result (self.new ≡ starve (present_at at self.old)) }
+        ensures unanswered { OnErr result (Starves (λ _. frame_questions frame) (A.allows provider.old)
+            (present_at at self.old) auths.old.list auths.new.list) }
         ensures only { IfErr result (λ e. e ≡ ErrorKind.NoMemory) }
-        ensures idle { let now = present_at at self.old in MakesNothing now (on_frame frame place now) → IsOk result }
+        ensures idle { let now = present_at at self.old in
+            frame_questions frame now ≡ [] → MakesNothing now (on_frame frame [] now) → IsOk result }
+        ensures counted { (text : Text) → IsTrue (acts self.old)
+            → end_of self.new ≡ Some (Err (ErrorKind.AuthProviderError text))
+            → Rose (A.refusals provider.old) (A.refusals provider.new) }
+        ensures never_falls { A.refusals provider.old ≤ A.refusals provider.new }
     {
         self.advance(at);
         if !self.acts() {
@@ -28,9 +51,39 @@ impl Session {
             drop(frame);
             return Ok(());
         }
-        match self.react(frame, place) {
+        match self.hear(frame, provider, auths) {
             Ok(()) => Ok(()),
             Err(refused) => Err(self.starved(refused)),
+        }
+    }
+
+    // What the frame asks is asked, and then its rule is done.
+    fn hear<A: AuthProvider>(
+        &mut self,
+        frame: Frame,
+        provider: &mut A,
+        auths: &mut AuthList,
+    ) -> Result<(), NoMemory>
+        requires acts { IsTrue (acts self.old) }
+        requires can { A.can provider.old }
+        ensures can { A.can provider.new }
+        ensures ok { OnOk result (Hears (frame_rule frame) (λ _. questions_in frame)
+            (A.allows provider.old) (A.allows provider.new) self.old self.new auths.old.list auths.new.list) }
+        ensures err { OnErr result (self.new ≡ self.old) }
+        ensures unanswered { OnErr result (Starves (λ _. questions_in frame) (A.allows provider.old)
+            self.old auths.old.list auths.new.list) }
+        ensures idle { questions_in frame self.old ≡ [] → MakesNothing self.old (frame_rule frame [] self.old)
+            → IsOk result }
+        ensures counted { OnOk result ((text : Text) → end_of self.new ≡ Some (Err (ErrorKind.AuthProviderError text))
+            → Rose (A.refusals provider.old) (A.refusals provider.new)) }
+        ensures never_falls { A.refusals provider.old ≤ A.refusals provider.new }
+    {
+        match self.ask(&frame, provider, auths) {
+            Ok(login) => self.react(frame, login),
+            Err(refused) => {
+                drop(frame);
+                Err(refused)
+            }
         }
     }
 
@@ -48,11 +101,11 @@ impl Session {
         }
     }
 
-    fn react(&mut self, frame: Frame, place: u64) -> Result<(), NoMemory>
+    fn react(&mut self, frame: Frame, login: Option<Login>) -> Result<(), NoMemory>
         requires { IsTrue (acts self.old) }
-        ensures ok { OnOk result (self.new ≡ frame_rule frame place self.old) }
+        ensures ok { OnOk result (self.new ≡ frame_rule frame (login_answers login) self.old) }
         ensures err { OnErr result (self.new ≡ self.old) }
-        ensures idle { MakesNothing self.old (frame_rule frame place self.old) → IsOk result }
+        ensures idle { MakesNothing self.old (frame_rule frame (login_answers login) self.old) → IsOk result }
     {
         match frame {
             Frame::ProtocolHeader(version) => {
@@ -60,38 +113,29 @@ impl Session {
                 Ok(())
             }
             Frame::Heartbeat => Ok(()),
-            Frame::Method(id, method) => self.on_method(id, method, place),
+            Frame::Method(id, method) => self.method_rule(id, method, login),
             Frame::Raw(0, kind, _) => self.stray_channel_frame(kind),
             Frame::Raw(id, kind, bytes) => self.raw_frame(id, kind, bytes),
         }
     }
 
-    fn on_method(&mut self, id: ChannelId, method: Method, place: u64) -> Result<(), NoMemory>
+    fn method_rule(
+        &mut self,
+        id: ChannelId,
+        method: Method,
+        login: Option<Login>,
+    ) -> Result<(), NoMemory>
         requires { IsTrue (acts self.old) }
-        ensures ok { OnOk result (self.new ≡ frame_rule (Frame.Method id method) place self.old) }
+        ensures ok { OnOk result (self.new ≡ method_rule id method (login_answers login) self.old) }
         ensures err { OnErr result (self.new ≡ self.old) }
-        ensures idle { MakesNothing self.old (frame_rule (Frame.Method id method) place self.old) → IsOk result }
-    {
-        if is_unbuilt(&method) {
-            drop(method);
-            self.fail(ErrorKind::Unbuilt(place));
-            return Ok(());
-        }
-        self.method_rule(id, method)
-    }
-
-    fn method_rule(&mut self, id: ChannelId, method: Method) -> Result<(), NoMemory>
-        requires { IsTrue (acts self.old) }
-        ensures ok { OnOk result (self.new ≡ method_rule id method self.old) }
-        ensures err { OnErr result (self.new ≡ self.old) }
-        ensures idle { MakesNothing self.old (method_rule id method self.old) → IsOk result }
+        ensures idle { MakesNothing self.old (method_rule id method (login_answers login) self.old) → IsOk result }
     {
         match (id, is_of_a_channel(&method)) {
             (0, true) => {
                 drop(method);
                 self.stray_channel_frame(RawKind::RawMethod)
             }
-            (0, false) => self.connection_method(method),
+            (0, false) => self.connection_method(method, login),
             (_, true) => {
                 let done = self.channel_method(id, &method);
                 drop(method);
@@ -131,13 +175,6 @@ impl Session {
         }
         Ok(())
     }
-}
-
-// The method that no rule takes yet.
-fn is_unbuilt(method: &Method) -> bool
-    ensures { result ≡ is_unbuilt method.now }
-{
-    matches!(method, Method::Secure(_))
 }
 
 // The methods of the channel class.

@@ -59,6 +59,7 @@ impl Session {
         self.blocked = false;
         self.last_read = self.present;
         self.last_write = self.present;
+        self.refreshing = false;
         Ok(())
     }
 

@@ -140,6 +140,58 @@ pub fn ask(
     Ok(())
 }
 
+/// A frame goes last in the control lane, then another, and a reply to that one is awaited on its channel.
+pub fn ask_after(
+    outbox: &mut Outbox,
+    committed: &mut Committed,
+    first: Item,
+    item: Item,
+    awaited: Awaited,
+) -> Result<(), NoMemory>
+    requires { dropped_with first ≡ dropped_with item }
+    ensures said { OnOk result (queued outbox.new
+        ≡ expected item.channel awaited (pushed_control item (pushed_control first (queued outbox.old)))) }
+    ensures same { OnErr result (queued outbox.new ≡ queued outbox.old) }
+    ensures marks { committed.new.marks.items ≡ committed.old.marks.items }
+    ensures kept { deque_capacity committed.old.marks ≤ deque_capacity committed.new.marks }
+    ensures places { OnOk result
+        (length committed.old.marks.items + (length (waiting_items (queued outbox.old)) + 2)
+        ≤ deque_capacity committed.new.marks) }
+{
+    if let Err(refused) = reserve_pair(outbox, committed, &first, &item, awaited.reply) {
+        drop(first);
+        drop(item);
+        return Err(refused);
+    }
+    let channel = item.channel;
+    outbox.push_control_reserved(first);
+    outbox.push_control_reserved(item);
+    outbox.expect_reserved(channel, awaited);
+    Ok(())
+}
+
+// Makes places for these two frames, and for one more that awaits this reply on the channel of the second.
+fn reserve_pair(
+    outbox: &mut Outbox,
+    committed: &mut Committed,
+    first: &Item,
+    second: &Item,
+    reply: Reply,
+) -> Result<(), NoMemory>
+    ensures same { queued outbox.new ≡ queued outbox.old }
+    ensures marks { committed.new.marks.items ≡ committed.old.marks.items }
+    ensures kept { deque_capacity committed.old.marks ≤ deque_capacity committed.new.marks }
+    ensures lane { OnOk result
+        (HasControlPlaces (dropped_with first.now) 2 (size_of first.now + size_of second.now) outbox.new) }
+    ensures reply { OnOk result (HasReplyPlace second.now.channel reply outbox.new) }
+    ensures places { OnOk result
+        (length committed.old.marks.items + (length (waiting_items (queued outbox.old)) + 2)
+        ≤ deque_capacity committed.new.marks) }
+{
+    reserve_both(outbox, committed, first, second)?;
+    outbox.reserve_reply(second.channel, reply)
+}
+
 /// Makes places for this group, until it is sent, and for a promise more.
 pub fn reserve_group(
     outbox: &mut Outbox,

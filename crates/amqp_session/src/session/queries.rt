@@ -1,6 +1,7 @@
 //! What a session tells of itself.
 
-ghost use Rattle.std.specs.Prelude.{IfOk, ◌≡◌, ◌<◌, ◌≤◌, ◌^◌, ℕ, IsTrue, length};
+ghost use Rattle.std.specs.Prelude.{IfOk, ◌≡◌, ◌<◌, ◌≤◌, ◌^◌, ℕ, List, IsTrue, length};
+ghost use Rattle.amqp_session.specs.declared.auth.asked.Asked.{Asked};
 ghost use Rattle.amqp_session.specs.Talk.{wants_link, is_asked, is_open, acts, hears_on, has_ended, end_of, drops_input};
 ghost use Rattle.amqp_session.specs.Changes.{present_at, next_promise};
 ghost use Rattle.amqp_session.specs.Frames.{on_frame};
@@ -165,7 +166,8 @@ impl Session {
     /// How many bytes can be unsent once this frame was read: more where it opens the connection and
     /// longer frames were agreed.
     pub fn capacity_after(&self, frame: &Frame) -> u64
-        ensures bytes { (place at : ℕ) → result ≡ (on_frame frame.now place (present_at at self.now)).capacity }
+        ensures bytes { (answers : List Asked) (at : ℕ)
+            → result ≡ (on_frame frame.now answers (present_at at self.now)).capacity }
         ensures grown { self.now.capacity ≤ result }
         ensures small { result < 2 ^ 32 }
     {

@@ -1,15 +1,24 @@
-//! Time: heartbeats that are missed, and those that are due.
+//! Time: heartbeats that are missed, those that are due, and secrets that have expired.
 
-ghost use Rattle.std.specs.Prelude.{◌≡◌, IfErr, OnOk, OnErr, IsOk, IsTrue, IsFalse};
+ghost use Rattle.std.specs.Prelude.{◌≡◌, ◌≤◌, Some, None, Ok, IfErr, OnOk, OnErr, IsOk, IsTrue, IsFalse};
+ghost use Rattle.amqp_frame.specs.declared.frame.Frame.TheVariants as frames;
+ghost use Rattle.amqp_outbox.specs.Items.{dropped_with};
 ghost use Rattle.amqp_session.specs.Talk.{has_ended};
-ghost use Rattle.amqp_session.specs.Changes.{present_at, starve};
-ghost use Rattle.amqp_session.specs.Ticks.{beats, is_missed, is_due, missing_heartbeat, heartbeat_due, tick};
+ghost use Rattle.amqp_session.specs.Asking.{Hears, Starves};
+ghost use Rattle.amqp_session.specs.Changes.{present_at, starve, await, queue, queue_item};
+ghost use Rattle.amqp_session.specs.Parts.{validity_answers, IsAsked};
+ghost use Rattle.amqp_session.specs.Ticks.{beats, is_missed, is_due, missing_heartbeat, heartbeat_due, asks_validity, secret_due, secret_questions, refreshed, tick, tick_questions};
 
 use super::Session;
+use super::asking::Validity;
+use super::places::{ask, ask_after};
+use crate::auth::{AuthList, AuthProvider};
 use crate::error::{self, ErrorKind};
+use crate::handshake::{new_secret, refresh_reason};
 use crate::state::ConnectionState;
 use amqp_frame::Frame;
-use amqp_types::NoMemory;
+use amqp_outbox::{Awaited, Item, Reply};
+use amqp_types::{LongString, NoMemory, Text};
 
 /// After how many milliseconds without reading a server is gone, for each second of the agreed
 /// interval: two intervals (AMQP 0-9-1, 4.2.7).
@@ -21,22 +30,136 @@ const DUE: u64 = 500;
 
 impl Session {
     /// Time goes by. Where nothing was read for more than two of the agreed intervals, the session ends;
-    /// and where nothing was written for more than half of one, a heartbeat is to go out.
-    pub fn tick(&mut self, at: u64) -> error::Result<()>
-        ensures ok { OnOk result (self.new ≡ tick (present_at at self.old)) }
+    /// where nothing was written for more than half of one, a heartbeat is to go out; and where the
+    /// provider says that the secret is no longer valid, a new one is asked for and to be told. The
+    /// provider's answers are put last into the list.
+    pub fn tick<A: AuthProvider>(
+        &mut self,
+        at: u64,
+        provider: &mut A,
+        auths: &mut AuthList,
+    ) -> error::Result<()>
+        requires { A.can provider.old }
+        ensures can { A.can provider.new }
+        ensures ok { OnOk result (Hears tick tick_questions (A.allows provider.old) (A.allows provider.new)
+            (present_at at self.old) self.new auths.old.list auths.new.list) }
         ensures err { OnErr result (self.new ≡ starve (present_at at self.old)) }
+        ensures unanswered { OnErr result (Starves tick_questions (A.allows provider.old)
+            (present_at at self.old) auths.old.list auths.new.list) }
         ensures only { IfErr result (λ e. e ≡ ErrorKind.NoMemory) }
-        ensures idle { IsFalse (is_due (missing_heartbeat (present_at at self.old))) → IsOk result }
+        ensures idle { let now = missing_heartbeat (present_at at self.old) in
+            IsFalse (is_due now) → IsFalse (asks_validity now) → IsOk result }
+        ensures never_falls { A.refusals provider.old ≤ A.refusals provider.new }
     {
         self.advance(at);
         if self.is_missed() {
             self.lose(ErrorKind::MissingHeartbeatError);
             return Ok(());
         }
-        match self.heartbeat_due() {
+        match self.go_on(provider, auths) {
             Ok(()) => Ok(()),
             Err(refused) => Err(self.starved(refused)),
         }
+    }
+
+    // What is due where the server was not silent for too long.
+    fn go_on<A: AuthProvider>(
+        &mut self,
+        provider: &mut A,
+        auths: &mut AuthList,
+    ) -> Result<(), NoMemory>
+        requires { A.can provider.old }
+        ensures can { A.can provider.new }
+        ensures ok { OnOk result (Hears (λ answers t. secret_due answers (heartbeat_due t)) secret_questions
+            (A.allows provider.old) (A.allows provider.new) self.old self.new auths.old.list auths.new.list) }
+        ensures err { OnErr result (self.new ≡ self.old) }
+        ensures unanswered { OnErr result (Starves secret_questions (A.allows provider.old)
+            self.old auths.old.list auths.new.list) }
+        ensures idle { IsFalse (is_due self.old) → IsFalse (asks_validity self.old) → IsOk result }
+        ensures running { OnErr result (IsFalse (has_ended self.old)) }
+        ensures never_falls { A.refusals provider.old ≤ A.refusals provider.new }
+    {
+        let validity = self.ask_validity(provider, auths)?;
+        self.due(validity)
+    }
+
+    // A heartbeat is due or not, and what was answered of the secret is done.
+    fn due(&mut self, validity: Validity) -> Result<(), NoMemory>
+        requires { IsAsked validity self.old }
+        ensures ok { OnOk result (self.new ≡ secret_due (validity_answers validity) (heartbeat_due self.old)) }
+        ensures err { OnErr result (self.new ≡ self.old) }
+        ensures idle { validity ≡ Validity.Unasked → IsFalse (is_due self.old) → IsOk result }
+        ensures running { OnErr result (IsFalse (has_ended self.old)) }
+    {
+        match validity {
+            Validity::Unasked => self.heartbeat_due(),
+            Validity::Valid(_) => self.heartbeat_due(),
+            Validity::Expired(_, said) => self.refreshed(said),
+        }
+    }
+
+    // The secret has expired, and this is what the provider had.
+    fn refreshed(&mut self, said: Result<LongString, Text>) -> Result<(), NoMemory>
+        requires { IsTrue (asks_validity self.old) }
+        ensures ok { OnOk result (self.new ≡ refreshed said (heartbeat_due self.old)) }
+        ensures err { OnErr result (self.new ≡ self.old) }
+        ensures running { IsFalse (has_ended self.old) }
+    {
+        // While the connection is open, the session goes on.
+        let _ = &self.alloc;
+        match said {
+            Ok(secret) => self.refresh(secret),
+            Err(text) => {
+                drop(text);
+                self.heartbeat_due()?;
+                self.secret_at = self.present;
+                Ok(())
+            }
+        }
+    }
+
+    // A new secret is told, and a heartbeat goes out before it where one is due.
+    fn refresh(&mut self, secret: LongString) -> Result<(), NoMemory>
+        ensures ok { OnOk result (self.new ≡ refreshed (Ok secret) (heartbeat_due self.old)) }
+        ensures err { OnErr result (self.new ≡ self.old) }
+    {
+        let reason = match refresh_reason(self.alloc) {
+            Ok(reason) => reason,
+            Err(refused) => {
+                drop(secret);
+                return Err(refused);
+            }
+        };
+        let told = Item::plain(0, new_secret(secret, reason));
+        if self.is_due() {
+            self.beat_and_tell(told)?;
+            self.last_write = self.present;
+        } else {
+            self.tell(told)?;
+        }
+        self.refreshing = true;
+        Ok(())
+    }
+
+    // This frame is to go out, and a reply to it is awaited.
+    fn tell(&mut self, told: Item) -> Result<(), NoMemory>
+        requires { told.channel ≡ 0 }
+        ensures ok { OnOk result (self.new ≡ await 0 Reply.SecretDone None (queue_item told self.old)) }
+        ensures err { OnErr result (self.new ≡ self.old) }
+    {
+        ask(&mut self.outbox, &mut self.committed, told, awaited())
+    }
+
+    // The same after a heartbeat.
+    fn beat_and_tell(&mut self, told: Item) -> Result<(), NoMemory>
+        requires channel { told.channel ≡ 0 }
+        requires key { dropped_with told ≡ Some 0 }
+        ensures ok { OnOk result (self.new
+            ≡ await 0 Reply.SecretDone None (queue_item told (queue 0 frames.Heartbeat self.old))) }
+        ensures err { OnErr result (self.new ≡ self.old) }
+    {
+        let beat = Item::plain(0, Frame::Heartbeat);
+        ask_after(&mut self.outbox, &mut self.committed, beat, told, awaited())
     }
 
     fn heartbeat_due(&mut self) -> Result<(), NoMemory>
@@ -76,5 +199,15 @@ impl Session {
         ensures running { IsTrue result → IsFalse (has_ended self.now) }
     {
         self.state() == ConnectionState::Connected && self.configuration.heartbeat != 0
+    }
+}
+
+// What awaits the reply to a refresh, for which there is no promise.
+fn awaited() -> Awaited
+    ensures { result ≡ record { reply = Reply.SecretDone; promise = None } }
+{
+    Awaited {
+        reply: Reply::SecretDone,
+        promise: None,
     }
 }

@@ -7,7 +7,7 @@ use Rattle.amqp_replay.proofs.script.parse.Given as goal
 
 abbrev pub invariant-lines : goal.invariant-lines
 invariant-lines l = record {
-  whole : steps_before l.steps.items (scenario_of l.progress l.at l.left l.lines) ≡ parsed l.text;
+  whole : steps_before l.steps.items (scenario_of l.progress l.at l.left l.lines) ≡ parsed l.has_provider l.text;
   pieces : ArePieces l.steps.items;
 }
 

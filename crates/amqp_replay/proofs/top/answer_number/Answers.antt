@@ -1,4 +1,4 @@
-use Rattle.std.proofs.Common.{inr, sym, subst}
+use Rattle.std.proofs.Common.{false, inr, sym, subst}
 use Rattle.amqp_engine.specs.Counts.{Rose}
 use Rattle.amqp_replay.specs.Grammar.{parsed}
 use Rattle.amqp_replay.specs.Generator.{generated}
@@ -11,13 +11,19 @@ pub returns-in-Ok : goal.returns-in-Ok
 returns-in-Ok g c =
     let before = g.K.Sink.held c.args.sink.now in
     let after = g.K.Sink.held c.put.new.sink in
+    let made = c.in-Ok.ensures in
     let L : Printout → Type 0 = λ p. IsLoud p.status in
     let Q : Printout → Type 0 = λ p. Prints p before after c.put.result in
-    let loud = subst L (sym c.in-Ok.ensures.printout) (generated_printout-IsLoud (generated c.args.count) (parsed (generated c.args.count))) in
+    let loud = subst L (sym made.is) (generated_printout-IsLoud (generated c.args.count) (parsed false (generated c.args.count)) made.answers) in
     let done = written (Rose (g.K.Sink.faults c.args.sink.now) (g.K.Sink.faults c.put.new.sink)) c.in-Ok.printout before after c.put.result loud c.put.ensures.cause c.put.ensures.prints in
     record {
       known = done.known;
       sink_failed = done.failed;
       silent = done.silent;
-      outcome = inr (record { told = c.in-Ok.ensures.told; prints = subst Q c.in-Ok.ensures.printout c.put.ensures.prints });
+      outcome = inr (record {
+        answers = made.answers;
+        may = made.may;
+        told = made.told;
+        prints = subst Q made.is c.put.ensures.prints;
+      });
     }

@@ -1,29 +1,32 @@
-use Rattle.std.proofs.Common.{◌≡◌, ℕ, List, take, IfSome, sym, subst}
+use Rattle.std.proofs.Common.{◌≡◌, ℕ, List, take, is_some, IfSome, sym, subst}
 use Rattle.amqp_replay.specs.declared.limits.TheConstants.{MOST_READ}
+use Rattle.amqp_replay.specs.Top.{handed_state}
 use Rattle.amqp_replay.proofs.Statuses.{ReplaysSome-read, Replays-told, IsStatus-told}
 use Rattle.amqp_replay.proofs.top.answer_source.Goals as goal
 
 pub returns-in-Ok-clause-some_script : goal.returns-in-Ok-clause-some_script
 returns-in-Ok-clause-some_script g c =
     let P : List ℕ → Type 0 = λ x. IfSome (g.S.Source.left c.args.source.now) (λ all. x ≡ take MOST_READ all) in
-    ReplaysSome-read (g.S.Source.left c.args.source.now) (g.P.Port.log c.answer.new.port) (g.K.Sink.held c.args.sink.now)
+    ReplaysSome-read (is_some c.args.handed) (handed_state g.A.AuthProvider.allows c.args.handed) (g.S.Source.left c.args.source.now) (g.P.Port.log c.answer.new.port) (g.K.Sink.held c.args.sink.now)
     (g.K.Sink.held c.answer.new.sink) c.answer.result c.deref.result.now
     (subst P (sym c.deref.ensures.value) c.in-Ok.ensures.text) c.answer.ensures.outcome
 
 pub returns-in-Ok-clause-outcome : goal.returns-in-Ok-clause-outcome
 returns-in-Ok-clause-outcome g c =
     let P : List ℕ → Type 0 = λ x. IfSome (g.S.Source.left c.args.source.now) (λ all. x ≡ take MOST_READ all) in
-    Replays-told (g.S.Source.left c.args.source.now) (g.P.Port.log c.answer.new.port) (g.K.Sink.held c.args.sink.now)
+    Replays-told (is_some c.args.handed) (handed_state g.A.AuthProvider.allows c.args.handed) (g.S.Source.left c.args.source.now) (g.P.Port.log c.answer.new.port) (g.K.Sink.held c.args.sink.now)
     (g.K.Sink.held c.answer.new.sink) c.answer.result c.deref.result.now
     (subst P (sym c.deref.ensures.value) c.in-Ok.ensures.text) c.answer.ensures.outcome
 
 pub returns-in-Ok-clause-status : goal.returns-in-Ok-clause-status
 returns-in-Ok-clause-status g c =
     let P : List ℕ → Type 0 = λ x. IfSome (g.S.Source.left c.args.source.now) (λ all. x ≡ take MOST_READ all) in
+    let is_handed = is_some c.args.handed in
+    let handed = handed_state g.A.AuthProvider.allows c.args.handed in
     let left = g.S.Source.left c.args.source.now in
     let log = g.P.Port.log c.answer.new.port in
     let before = g.K.Sink.held c.args.sink.now in
     let after = g.K.Sink.held c.answer.new.sink in
-    IsStatus-told left log before after c.answer.result
-    (Replays-told left log before after c.answer.result c.deref.result.now
+    IsStatus-told is_handed handed left log before after c.answer.result
+    (Replays-told is_handed handed left log before after c.answer.result c.deref.result.now
     (subst P (sym c.deref.ensures.value) c.in-Ok.ensures.text) c.answer.ensures.outcome)

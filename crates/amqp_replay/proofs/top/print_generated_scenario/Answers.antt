@@ -1,8 +1,10 @@
 use Rattle.std.specs.String.{string_bytes}
-use Rattle.amqp_replay.proofs.Replaying.{summed-printout}
+use Rattle.amqp_replay.specs.Top.{own_state}
+use Rattle.amqp_replay.proofs.Replaying.{IsMade-summed}
 use Rattle.amqp_replay.proofs.top.print_generated_scenario.Goals as goal
 
-pub returns-clause-printout : goal.returns-clause-printout
-returns-clause-printout g c =
-    summed-printout (string_bytes c.args.script) c.args.scenario c.in_ok-engine.engine.talk (g.P.ScriptedPort.links_taken c.replay.new.port)
-    c.in_ok-printout.field-0 c.in_ok-printout.ensures c.in_ok-engine.ensures.replayed
+pub returns : goal.returns
+returns g c =
+    IsMade-summed own_state (string_bytes c.args.script) c.args.scenario c.in_ok-engine.engine.talk
+    (g.P.ScriptedPort.links_taken c.replay_alone.new.port) (g.P.Port.log c.replay_alone.new.port) c.in_ok-printout.field-0
+    c.in_ok-printout.ensures c.in_ok-engine.ensures

@@ -2,7 +2,7 @@ use Rattle.std.proofs.Common.{◌≡◌, ◌⊎◌, ◌∙◌, false, Some, ap, 
 use Rattle.amqp_session.specs.declared.io_fault.IoFault.TheVariants.{BrokenPipe}
 use Rattle.amqp_session.specs.Talk.{has_ended}
 use Rattle.amqp_engine.specs.Engine.{Engine}
-use Rattle.amqp_engine.specs.Tell.{Applies}
+use Rattle.amqp_engine.specs.Tell.{AppliesLent}
 use Rattle.amqp_engine.specs.Saying.{HasSent, GoesOnce}
 use Rattle.amqp_engine.specs.Causes.{BringsOne, brought}
 use Rattle.amqp_engine.specs.Counts.{Rose}
@@ -20,8 +20,10 @@ returns-clause-read g c = Applies-read _ _ _ _ _ _ _ c.apply.ensures.turn.applie
 
 pub returns-clause-turn : goal.returns-clause-turn
 returns-clause-turn g c =
-    let P : Engine → Type 0 = λ x. Applies c.args.told.at c.args.told.step c.args.bytes.now x c.apply.new.self (g.P.Port.log c.args.port.now) (g.P.Port.log c.apply.new.port) in
-    subst P c.self.view_is c.apply.ensures.turn.applies
+    let P : Engine → Type 0 = λ x. AppliesLent c.args.told.at c.args.told.step c.args.bytes.now x c.apply.new.self (g.P.Port.log c.args.port.now) (g.P.Port.log c.apply.new.port)
+    (g.A.AuthProvider.allows c.args.provider.now) (g.A.AuthProvider.allows c.apply.new.provider) in
+    let t = c.apply.ensures.turn in
+    subst P c.self.view_is (record { applies = t.applies; exchanged = t.exchanged })
 
 pub returns-clause-cause : goal.returns-clause-cause
 returns-clause-cause g c k running h =
@@ -42,19 +44,21 @@ returns-clause-io_error_counted g c fault running h =
     let P : Engine → Type 0 = λ x. (brought c.args.told.step x.talk ≡ Some fault)
     ⊎ ((fault ≡ BrokenPipe) × Rose (g.P.Port.faults c.args.port.now) (g.P.Port.faults c.apply.new.port)) in
     subst P c.self.view_is
-    (applied-fault _ _ _ _ _ _ _ _ _ fault c.apply.ensures.turn (ap (λ (x : Engine). has_ended x.talk) c.self.view_is ∙ running) h)
+    (applied-fault _ _ _ _ _ _ _ _ _ _ _ fault c.apply.ensures.turn (ap (λ (x : Engine). has_ended x.talk) c.self.view_is ∙ running) h)
 
 pub returns-in_err-apply-clause-io_error_counted : goal.returns-in_err-apply-clause-io_error_counted
 returns-in_err-apply-clause-io_error_counted g c fault running h =
     let P : Engine → Type 0 = λ x. (brought c.args.told.step x.talk ≡ Some fault)
     ⊎ ((fault ≡ BrokenPipe) × Rose (g.P.Port.faults c.args.port.now) (g.P.Port.faults c.apply.new.port)) in
     subst P c.self.view_is
-    (applied-fault _ _ _ _ _ _ _ _ _ fault c.apply.ensures.turn (ap (λ (x : Engine). has_ended x.talk) c.self.view_is ∙ running) h)
+    (applied-fault _ _ _ _ _ _ _ _ _ _ _ fault c.apply.ensures.turn (ap (λ (x : Engine). has_ended x.talk) c.self.view_is ∙ running) h)
 
 pub returns-in_err-apply-clause-turn : goal.returns-in_err-apply-clause-turn
 returns-in_err-apply-clause-turn g c =
-    let P : Engine → Type 0 = λ x. Applies c.args.told.at c.args.told.step c.args.bytes.now x c.apply.new.self (g.P.Port.log c.args.port.now) (g.P.Port.log c.apply.new.port) in
-    subst P c.self.view_is c.apply.ensures.turn.applies
+    let P : Engine → Type 0 = λ x. AppliesLent c.args.told.at c.args.told.step c.args.bytes.now x c.apply.new.self (g.P.Port.log c.args.port.now) (g.P.Port.log c.apply.new.port)
+    (g.A.AuthProvider.allows c.args.provider.now) (g.A.AuthProvider.allows c.apply.new.provider) in
+    let t = c.apply.ensures.turn in
+    subst P c.self.view_is (record { applies = t.applies; exchanged = t.exchanged })
 
 pub returns-clause-legal : goal.returns-clause-legal
 returns-clause-legal g c ss running h =

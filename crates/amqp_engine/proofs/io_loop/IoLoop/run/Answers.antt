@@ -11,10 +11,10 @@ use Rattle.amqp_engine.proofs.io_loop.IoLoop.run.Goals as goal
 use Rattle.amqp_engine.proofs.io_loop.IoLoop.run.Goals.{in-Some, in-None}
 
 pub returns-clause-played : goal.returns-clause-played
-returns-clause-played g c = runs-played _ _ _ _ _ c.take_turns.ensures.turns
+returns-clause-played g c = runs-played _ _ _ _ _ _ _ c.take_turns.ensures.turns
 
 pub returns-clause-cause : goal.returns-clause-cause
-returns-clause-cause g c k running h = runs-bring _ _ _ _ _ k c.take_turns.ensures.turns running h
+returns-clause-cause g c k running h = runs-bring _ _ _ _ _ k c.take_turns.ensures.turns.runs running h
 
 -- where there is an end, no other error is answered
 otherwise : (o given : Option (Result (Unit {0}) ErrorKind)) (r : Result (Unit {0}) ErrorKind) → HandsOut o given → given ≡ Some r
@@ -37,7 +37,7 @@ returns-clause-only_out_of_turns g c running is =
     let t = c.session.result.now in
     let here : t ≡ c.take_turns.new.self.talk = c.session.ensures ∙ ap (λ (x : Engine). x.talk) c.self.view_is in
     let never : end_of t ≡ Some (Err OutOfTurns) → ⊥ =
-    λ h. not-turns _ _ (runs-bring _ _ _ _ _ OutOfTurns c.take_turns.ensures.turns running (ap end_of (sym here) ∙ h)).cause.error_read in
+    λ h. not-turns _ _ _ (runs-bring _ _ _ _ _ OutOfTurns c.take_turns.ensures.turns.runs running (ap end_of (sym here) ∙ h)).cause.error_read in
     elim c.match-end.branch [
       | in-Some w ↦ absurd (otherwise (end_of t) c.end.result c.match-end.result c.end.ensures (w.in-Some.is ∙ ap Some (sym w.result-is)) never is)
       | in-None w ↦
@@ -46,4 +46,4 @@ returns-clause-only_out_of_turns g c running is =
     ]
 
 pub returns-clause-legal : goal.returns-clause-legal
-returns-clause-legal g c ss h = runs-on _ _ _ _ _ ss c.take_turns.ensures.turns h
+returns-clause-legal g c ss h = runs-on _ _ _ _ _ ss c.take_turns.ensures.turns.runs h

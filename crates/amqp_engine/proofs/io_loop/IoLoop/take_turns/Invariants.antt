@@ -4,14 +4,17 @@ use Rattle.amqp_session.specs.declared.io_fault.IoFault.{IoFault}
 use Rattle.amqp_session.specs.Talk.{has_ended}
 use Rattle.amqp_engine.specs.Counts.{Rose}
 use Rattle.amqp_engine.specs.Causes.{fault_of, is_counted}
-use Rattle.amqp_engine.specs.Turn.{Turn, AreTold, Leads}
-use Rattle.amqp_engine.specs.Tell.{TellsTurns}
+use Rattle.amqp_engine.specs.Turn.{Turn, AreTold, exchanges, cut_of, Leads}
+use Rattle.amqp_engine.specs.Tell.{TellsTurns, MayCome}
 use Rattle.amqp_engine.proofs.io_loop.IoLoop.take_turns.Given as goal
 
 abbrev pub invariant-turns : goal.invariant-turns
 invariant-turns g l = record {
   turns : (us : List Turn) × (length us ≡ l.counter)
-      × AreTold us × Leads us l.fn.self l.self × TellsTurns us l.fn.self (g.P.Port.log l.fn.port) (g.P.Port.log l.port);
+      × AreTold us × Leads us l.fn.self l.self × TellsTurns us l.fn.self (g.P.Port.log l.fn.port) (g.P.Port.log l.port)
+      × MayCome (cut_of us) (g.A.AuthProvider.allows l.fn.provider) (g.A.AuthProvider.allows l.provider) (exchanges us l.fn.self);
+  can : g.A.AuthProvider.can l.provider;
+  never_falls : g.A.AuthProvider.refusals l.fn.provider ≤ g.A.AuthProvider.refusals l.provider;
   faults : g.P.Port.faults l.fn.port ≤ g.P.Port.faults l.port;
   io_error_counted : (fault : IoFault) → has_ended l.fn.self.talk ≡ false → fault_of l.self.talk ≡ Some fault
       → IsTrue (is_counted fault) → Rose (g.P.Port.faults l.fn.port) (g.P.Port.faults l.port);

@@ -22,11 +22,11 @@ returns-clause-turn g c =
     ap (take n) c.deref.ensures.value
     ∙ take-written space old c.self.inside.scratch.len n (piece_len told.step) sized (omega arith) c.piece_len-n.ensures in
     turns-of c.args.self.now c.ask.new.self _ (g.P.Port.log c.args.port.now) (g.P.Port.log c.ask.new.port) (g.P.Port.log c.next-told.new.self)
-    _ told.at told.step (piece_bytes told.step space) (take n c.deref.result.now)
-    c.requires
+    _ told.at told.step (piece_bytes told.step space) (take n c.deref.result.now) _ _
+    c.requires.running
     (c.ask.ensures.engine ∙ ap asks c.self.view_is)
     (c.ask.ensures.told ∙ ap (λ (m : Engine). option_map (log_asks m) (g.P.Port.log c.args.port.now)) c.self.view_is)
-    c.next-told.ensures.told bytes c.next-told.ensures.plays c.hold.ensures c.apply.ensures.turn.applies
+    c.next-told.ensures.told bytes c.next-told.ensures.plays c.hold.ensures (record { applies = c.apply.ensures.turn.applies; exchanged = c.apply.ensures.turn.exchanged })
 
 pub invariant_of-self : goal.invariant_of-self
 invariant_of-self g c =
@@ -39,6 +39,6 @@ invariant_of-self g c =
 pub returns-clause-io_error_counted : goal.returns-clause-io_error_counted
 returns-clause-io_error_counted g c fault h counted =
     let asked = c.ask.ensures.engine ∙ ap asks c.self.view_is in
-    let running : has_ended c.ask.new.self.talk ≡ false = ap (λ (x : Engine). has_ended x.talk) asked ∙ asks-running c.args.self.now c.requires in
+    let running : has_ended c.ask.new.self.talk ≡ false = ap (λ (x : Engine). has_ended x.talk) asked ∙ asks-running c.args.self.now c.requires.running in
     counted-rose c.next-told.result.step c.ask.new.self.talk fault _ _ _ _ c.ask.ensures.faults c.next-told.ensures.faults c.apply.ensures.faults
-    c.next-told.ensures.cause (applied-fault _ _ _ _ _ _ _ _ _ fault c.apply.ensures.turn running h) counted
+    c.next-told.ensures.cause (applied-fault _ _ _ _ _ _ _ _ _ _ _ fault c.apply.ensures.turn running h) counted

@@ -1,7 +1,12 @@
-use Rattle.std.proofs.Common.{◌≡◌, ◌∙◌, false, true, Some, None, ap, sym, refl, rules}
+use Rattle.std.proofs.Common.{◌≡◌, ◌∙◌, List, [], length, drop, false, true, Some, None, subst, ap, sym, refl, rules}
+use Rattle.std.proofs.lemmas.List.{append-nil}
+use Rattle.amqp_session.specs.declared.auth.asked.Asked.{Asked}
+use Rattle.amqp_session.specs.Providers.{Allows}
+use Rattle.amqp_session.specs.Asking.{paired}
 use Rattle.amqp_session.specs.Talk.{is_open, has_ended}
+use Rattle.amqp_engine.proofs.Answering.{answered-all}
 use Rattle.amqp_engine.specs.Engine.{Engine, starve_at}
-use Rattle.amqp_engine.specs.Turn.{is_piece, starved_after}
+use Rattle.amqp_engine.specs.Turn.{is_piece, begun, step_part, reading, starved_after}
 use Rattle.amqp_engine.specs.Making.{making}
 use Rattle.amqp_engine.proofs.Offers.{writes-cut}
 use Rattle.amqp_engine.proofs.Applying.{applies-of, applies-over, refused-over, step-starved}
@@ -10,8 +15,8 @@ use Rattle.amqp_session.proofs.Cases.{if_case, if-false, and-false}
 use Rattle.amqp_engine.proofs.Cases.{is_before-cut}
 use Rattle.amqp_engine.proofs.wire.Wire.apply.Goals as goal
 
-pub take_step-requires : goal.take_step-requires
-take_step-requires g c =
+pub take_step-requires-clause-apart : goal.take_step-requires-clause-apart
+take_step-requires-clause-apart g c κs within =
     let e = c.args.self.now in
     let ended : has_ended e.talk ≡ true = ap (λ (x : Engine). has_ended x.talk) (sym c.self.view_is) ∙ sym c.has_ended.ensures ∙ c.if-has_ended.true in
     and-false (is_piece c.args.told.step) (is_open e.talk) (ended-closed e.talk.link ended)
@@ -20,9 +25,10 @@ pub returns-in_err-take_step-clause-turn : goal.returns-in_err-take_step-clause-
 returns-in_err-take_step-clause-turn g c =
     let e = c.args.self.now in
     let at = c.args.told.at in
+    let f = c.in_err-take_step.ensures in
     let ended : has_ended e.talk ≡ true = ap (λ (x : Engine). has_ended x.talk) (sym c.self.view_is) ∙ sym c.has_ended.ensures ∙ c.if-has_ended.true in
-    refused-over at c.args.told.step c.args.bytes.now e _ _ _ _ _ ended c.in_err-take_step.ensures.refused
-    (c.in_err-take_step.ensures.err ∙ starve-over at e ended) refl
+    refused-over at c.args.told.step c.args.bytes.now e _ _ _ _ _ _ _ f.listed.0 ended f.refused
+    (f.err ∙ starve-over at e ended) refl
 
 pub returns-in_err-take_step-clause-over : goal.returns-in_err-take_step-clause-over
 returns-in_err-take_step-clause-over g c =
@@ -34,11 +40,13 @@ pub returns-then-has_ended-clause-turn : goal.returns-then-has_ended-clause-turn
 returns-then-has_ended-clause-turn g c =
     let e = c.args.self.now in
     let ended : has_ended e.talk ≡ true = ap (λ (x : Engine). has_ended x.talk) (sym c.self.view_is) ∙ sym c.has_ended.ensures ∙ c.if-has_ended.true in
-    applies-over c.args.told.at c.args.told.step c.args.bytes.now e _ _ _ _ _ ended (c.in_ok-take_step.ensures.ok c.args.bytes.now) refl
+    applies-over c.args.told.at c.args.told.step c.args.bytes.now e _ _ _ _ _ (g.A.AuthProvider.allows c.args.provider.now) (g.A.AuthProvider.allows c.take_step.new.provider)
+    c.args.auths.now.list c.take_step.new.auths.list c.requires.list ended c.in_ok-take_step.ensures.ok refl
 
 pub returns-then-has_ended-clause-starved : goal.returns-then-has_ended-clause-starved
 returns-then-has_ended-clause-starved g c =
-    ap (λ (x : Engine). x.starved) (c.in_ok-take_step.ensures.ok c.args.bytes.now) ∙ step-starved c.args.told.at c.args.told.step c.args.bytes.now c.args.self.now
+    let h = c.in_ok-take_step.ensures.ok in
+    ap (λ (x : Engine). x.starved) (h.engine c.args.bytes.now) ∙ step-starved c.args.told.at c.args.told.step c.args.bytes.now h.answers c.args.self.now
 
 pub returns-in-Err-clause-turn : goal.returns-in-Err-clause-turn
 returns-in-Err-clause-turn g c =
@@ -47,10 +55,10 @@ returns-in-Err-clause-turn g c =
     let running : has_ended e.talk ≡ false = ap (λ (x : Engine). has_ended x.talk) (sym c.self.view_is) ∙ sym c.has_ended.ensures ∙ c.if-has_ended.false in
     let n = c.read_step.new.parts in
     let f = c.in-Err.ensures.err in
-    let p = making at (Some n) f.0 n in
-    let same : starve_at at n f.0 ≡ c.cut.new.self = sym (c.cut.ensures ∙ f.1) in
-    applies-of at c.args.told.step c.args.bytes.now e _ _ _ _ _ p p f.2
-    (writes-cut p _ _ _ _ (is_before-cut n) refl) refl (if-false (has_ended e.talk) p.engine (starved_after (Some n) at p.engine) running ∙ same)
+    let p = making at (Some n) (drop (length f.questions) f.answers) f.questions f.engine n in
+    let same : starve_at at n f.engine ≡ c.cut.new.self = sym (c.cut.ensures ∙ f.leads.0) in
+    applies-of at c.args.told.step c.args.bytes.now e _ _ _ _ _ (g.A.AuthProvider.allows c.args.provider.now) _ f.answers p p f.leads.1
+    (writes-cut p _ _ _ _ (is_before-cut n) refl) refl (if-false (has_ended e.talk) p.engine (starved_after (Some n) at p.engine) running ∙ same) f.all f.allowed
 
 pub returns-in-Err-write_all-clause-turn : goal.returns-in-Err-write_all-clause-turn
 returns-in-Err-write_all-clause-turn g c =
@@ -60,19 +68,24 @@ returns-in-Err-write_all-clause-turn g c =
     let n = c.read_step.new.parts in
     let m = c.write_all.new.parts in
     let f = c.in-Err-write_all.ensures in
-    let p = making at (Some m) c.read_step.new.self n in
-    let p' = making at (Some m) c.write_all.new.self m in
-    applies-of at c.args.told.step c.args.bytes.now e _ _ _ _ _ p p'
-    (c.in_default.ensures.ok (Some m) f.grows) f.err refl
+    let h = c.in_default.ensures.ok in
+    let p = making at (Some m) [] h.questions c.read_step.new.self n in
+    let p' = making at (Some m) [] h.questions c.write_all.new.self m in
+    applies-of at c.args.told.step c.args.bytes.now e _ _ _ _ _ (g.A.AuthProvider.allows c.args.provider.now) (g.A.AuthProvider.allows c.read_step.new.provider) h.answers p p'
+    (ap (λ (l : List Asked). reading (is_piece c.args.told.step) (step_part c.args.told.step c.args.bytes.now (begun at (Some m) l e))) (sym (append-nil h.answers)) ∙ h.leads (Some m) [] f.grows)
+    (f.err [] h.questions) refl
     (if-false (has_ended e.talk) p'.engine (starved_after (Some m) at p'.engine) running ∙ sym c.cut-in-Err-write_all.ensures)
+    (answered-all (Some m) h.questions h.answers h.asks.all) (subst (Allows (g.A.AuthProvider.allows c.args.provider.now)) (append-nil (paired h.questions h.answers)) (h.asks.allowed [] tt))
 
 pub returns-clause-turn : goal.returns-clause-turn
 returns-clause-turn g c =
     let e = c.args.self.now in
     let at = c.args.told.at in
     let f = c.in_default-write_all.ensures in
-    let p = making at None c.read_step.new.self c.read_step.new.parts in
-    let p' = making at None c.write_all.new.self c.write_all.new.parts in
-    applies-of at c.args.told.step c.args.bytes.now e _ _ _ _ _ p p'
-    (c.in_default.ensures.ok None tt)
-    f.ok tt (if_case (λ (x : Engine). x ≡ p'.engine) (has_ended e.talk) p'.engine p'.engine refl refl)
+    let h = c.in_default.ensures.ok in
+    let p = making at None [] h.questions c.read_step.new.self c.read_step.new.parts in
+    let p' = making at None [] h.questions c.write_all.new.self c.write_all.new.parts in
+    applies-of at c.args.told.step c.args.bytes.now e _ _ _ _ _ (g.A.AuthProvider.allows c.args.provider.now) (g.A.AuthProvider.allows c.read_step.new.provider) h.answers p p'
+    (ap (λ (l : List Asked). reading (is_piece c.args.told.step) (step_part c.args.told.step c.args.bytes.now (begun at None l e))) (sym (append-nil h.answers)) ∙ h.leads None [] tt)
+    (f.ok [] h.questions) tt (if_case (λ (x : Engine). x ≡ p'.engine) (has_ended e.talk) p'.engine p'.engine refl refl)
+    (answered-all None h.questions h.answers h.asks.all) h.asks.allowed

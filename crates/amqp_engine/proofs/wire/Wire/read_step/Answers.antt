@@ -1,23 +1,94 @@
-use Rattle.std.proofs.Common.{◌∙◌, ◌&&◌, Bool, IsFalse, ap, sym}
+use Rattle.std.proofs.Common.{rules, ◌≡◌, ◌∙◌, ◌&&◌, true, Bool, IsFalse, [], ◌++◌, length, drop, Some, ap, sym, subst}
 use Rattle.amqp_session.specs.Talk.{is_open}
-use Rattle.amqp_engine.specs.Engine.{Engine}
-use Rattle.amqp_engine.specs.Turn.{is_piece}
-use Rattle.amqp_session.proofs.Cases.{and-false}
-use Rattle.amqp_engine.proofs.Applying.{step-read, step-starved}
+use Rattle.amqp_session.specs.Providers.{Allows}
+use Rattle.amqp_engine.specs.Engine.{Engine, step_questions, starve_at}
+use Rattle.amqp_engine.specs.Turn.{is_piece, begun, step_part, reading}
+use Rattle.amqp_session.proofs.Cases.{and-false, on-err-then}
+use Rattle.amqp_outbox.proofs.Cases.{on-ok}
+use Rattle.amqp_engine.specs.Making.{making, Broke}
+use Rattle.amqp_engine.proofs.Cases.{Reaches-less}
+use Rattle.amqp_engine.proofs.Applying.{starve_at-twice, step-read, step-refused, step-starved, piece-read}
+use Rattle.amqp_engine.proofs.Answering.{answered-none, paired-nothing}
 use Rattle.amqp_engine.proofs.wire.Wire.read_step.Goals as goal
 use Rattle.amqp_engine.proofs.wire.Wire.read_step.Goals.{else-is_piece-via-then-is_piece+else-is_open, else-is_piece-via-else-is_piece}
 
 pub returns-clause-ok : goal.returns-clause-ok
-returns-clause-ok c cut allows =
+returns-clause-ok g c =
     let e = c.args.self.now in
-    let apart : IsFalse (is_piece c.args.step && is_open e.talk) = elim c.else-is_piece.branch [
+    let step = c.args.step in
+    let h = c.in_ok-parts.ensures.ok in
+    let apart : IsFalse (is_piece step && is_open e.talk) = elim c.else-is_piece.branch [
       | else-is_piece-via-then-is_piece+else-is_open w ↦
-          and-false (is_piece c.args.step) (is_open e.talk) (ap (λ (x : Engine). is_open x.talk) (sym w.self.view_is) ∙ sym w.is_open.ensures ∙ w.if-is_open.false)
+          and-false (is_piece step) (is_open e.talk) (ap (λ (x : Engine). is_open x.talk) (sym w.self.view_is) ∙ sym w.is_open.ensures ∙ w.if-is_open.false)
       | else-is_piece-via-else-is_piece w ↦ ap (λ (b : Bool). b && is_open e.talk) (sym c.is_piece.ensures ∙ w.if-is_piece.false)
     ] in
-    step-read c.args.at cut c.args.step c.args.bytes.now e c.take_step.new.self c.in_ok-parts.field-0 apart c.in_ok-parts.ensures.parts
-    (c.in_ok-parts.ensures.ok c.args.bytes.now) allows
+    record {
+      questions = step_questions c.args.at step h.answers e;
+      answers = h.answers;
+      asks = h.asks;
+      leads = λ cut more allows.
+          step-read c.args.at cut step c.args.bytes.now h.answers more e c.take_step.new.self c.in_ok-parts.field-0 apart c.in_ok-parts.ensures.parts
+          (h.engine c.args.bytes.now) h.asks.all allows;
+    }
 
 pub returns-clause-starved : goal.returns-clause-starved
-returns-clause-starved c =
-    ap (λ (x : Engine). x.starved) (c.in_ok-parts.ensures.ok c.args.bytes.now) ∙ step-starved c.args.at c.args.step c.args.bytes.now c.args.self.now
+returns-clause-starved g c =
+    let h = c.in_ok-parts.ensures.ok in
+    ap (λ (x : Engine). x.starved) (h.engine c.args.bytes.now) ∙ step-starved c.args.at c.args.step c.args.bytes.now h.answers c.args.self.now
+
+pub returns-then-is_open-clause-ok : goal.returns-then-is_open-clause-ok
+returns-then-is_open-clause-ok g c =
+    let e = c.args.self.now in
+    let is : is_piece c.args.step ≡ true = sym c.is_piece.ensures ∙ c.if-is_piece.true in
+    let opened : is_open e.talk ≡ true = ap (λ (x : Engine). is_open x.talk) (sym c.self.view_is) ∙ sym c.is_open.ensures ∙ c.if-is_open.true in
+    let f = c.read_piece.ensures in
+    on-ok c.read_piece.result
+    (λ h. record {
+      questions = h.questions;
+      answers = h.answers;
+      asks = h.asks;
+      leads = λ cut more allows.
+          piece-read c.args.at cut c.args.step c.args.bytes.now (h.answers ++ more) e is opened (Reaches-less cut 1 c.read_piece.new.parts f.some allows)
+          ∙ h.leads cut more allows;
+    })
+    f.ok
+
+pub returns-then-is_open-clause-err : goal.returns-then-is_open-clause-err
+returns-then-is_open-clause-err g c =
+    let e = c.args.self.now in
+    let is : is_piece c.args.step ≡ true = sym c.is_piece.ensures ∙ c.if-is_piece.true in
+    let opened : is_open e.talk ≡ true = ap (λ (x : Engine). is_open x.talk) (sym c.self.view_is) ∙ sym c.is_open.ensures ∙ c.if-is_open.true in
+    let f = c.read_piece.ensures in
+    let n = c.read_piece.new.parts in
+    on-err-then c.read_piece.result
+    (λ h. record {
+      questions = h.questions;
+      answers = h.answers;
+      engine = h.engine;
+      listed = h.listed;
+      all = h.all;
+      allowed = h.allowed;
+      leads = (h.leads.0, piece-read c.args.at (Some n) c.args.step c.args.bytes.now h.answers e is opened f.some ∙ h.leads.1);
+    })
+    f.err
+
+pub returns-in_err-parts-clause-err : goal.returns-in_err-parts-clause-err
+returns-in_err-parts-clause-err g c =
+    let e = c.args.self.now in
+    let f = c.in_err-parts.ensures in
+    let before = g.A.AuthProvider.allows c.args.provider.now in
+    let more = f.listed.0 in
+    let fact : Broke 0 (λ answers questions x.
+    (starve_at c.args.at 0 c.take_step.new.self ≡ starve_at c.args.at 0 x)
+    × (reading (is_piece c.args.step) (step_part c.args.step c.args.bytes.now (begun c.args.at (Some 0) answers e))
+    ≡ making c.args.at (Some 0) (drop (length questions) answers) questions x 0)) before c.args.auths.now.list c.take_step.new.auths.list =
+    record {
+      questions = [];
+      answers = more;
+      engine = e;
+      listed = f.listed.1;
+      all = answered-none 0 more;
+      allowed = subst (Allows before) (sym (paired-nothing more)) tt;
+      leads = (ap (starve_at c.args.at 0) f.err ∙ starve_at-twice c.args.at 0 e, step-refused c.args.at c.args.step c.args.bytes.now more e f.refused);
+    } in
+    search (rules, fact, c.requires.parts)

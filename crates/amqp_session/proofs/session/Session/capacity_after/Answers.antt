@@ -5,7 +5,7 @@ use Rattle.amqp_session.proofs.Keeping.{present-keeps, keeps-frame}
 use Rattle.amqp_session.proofs.session.Session.capacity_after.Goals as goal
 
 pub returns-clause-bytes : goal.returns-clause-bytes
-returns-clause-bytes c place at =
+returns-clause-bytes c answers at =
     let t = c.args.self.now in
     let f = c.args.frame.now in
-    c.octets_after.ensures.octets ∙ sym (present-keeps (capacity_after f) at t (λ n. refl)) ∙ sym (keeps-frame f place (present_at at t)).capacity
+    c.octets_after.ensures.octets ∙ sym (present-keeps (capacity_after f) at t (λ n. refl)) ∙ sym (keeps-frame f answers (present_at at t)).capacity
