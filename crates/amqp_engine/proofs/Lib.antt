@@ -42,7 +42,8 @@ pub mod Committing
 pub mod LegalLinks
 pub mod GoingOn
 pub mod ToldScripts
--- What brings about an end with an error: `run: cause`, `apply: cause`, and the count of faults.
+-- What brings about an end with an error: `run: cause`, `apply: cause`, and the counts of faults and of refusals.
 pub mod ReadEnds
 pub mod TurnEnds
 pub mod Faults
+pub mod Blaming

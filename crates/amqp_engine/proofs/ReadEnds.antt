@@ -105,7 +105,7 @@ ends-badly at r w answers x p =
     ends-settled P x.talk (rule_at at (misread w) x)
     (ends-present P at x.talk (misread w (present_at at x.talk)) (ends-misread P w (present_at at x.talk) p))
 
-ends-read-row : (at : ℕ) (r : Read) (answers : List Asked) (x : Engine) → is_memory r ≡ false → Ends (λ k. IsReadError k r answers x) x.talk (read_row at r answers x).talk
+pub ends-read-row : (at : ℕ) (r : Read) (answers : List Asked) (x : Engine) → is_memory r ≡ false → Ends (λ k. IsReadError k r answers x) x.talk (read_row at r answers x).talk
 ends-read-row at (reading.Whole f n) answers x none =
     let P : ErrorKind → Type 0 = λ k. IsReadError k (reading.Whole f n) answers x in
     let now : Engine = rule_at at (λ t. t) x in

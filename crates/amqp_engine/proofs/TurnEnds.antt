@@ -321,7 +321,7 @@ ends-answered at w x =
     (ends-as (WroteError w c) P c.talk (answered at w x).talk (offer-wrote w x) (ends-wrote at w c))
 
 -- among these writes is the last, after a close with this error
-record Closes (error : AMQPError) (ws : List Wrote) (p : Progress) : Type 0 where
+pub record Closes (error : AMQPError) (ws : List Wrote) (p : Progress) : Type 0 where
   before : List Wrote
   answer : Wrote
   after : List Wrote
@@ -330,7 +330,7 @@ record Closes (error : AMQPError) (ws : List Wrote) (p : Progress) : Type 0 wher
   closed : (drain before p).engine.talk.server_close ≡ Some (WithError error)
 
 -- the error of these writes
-abbrev WritesError : List Wrote → Progress → ErrorKind → Type 0
+abbrev pub WritesError : List Wrote → Progress → ErrorKind → Type 0
 WritesError ws p (IOError fault) = (fault ≡ BrokenPipe) × IsTrue (has_failed ws)
 WritesError ws p (ProtocolError e) = Closes e ws p
 WritesError ws p (SerialisationError size) = IsTrue (goes (drain ws p)) × (overlong_next (drain ws p).engine ≡ Some size)
@@ -354,7 +354,7 @@ ends-overlong P None x p = ends-kept P x.talk x.talk refl
 ends-overlong P (Some size) x p =
     ends-settled P x.talk (with_talk (end_overlong (Some size)) (commit_all x)) (ends-lose P (SerialisationError size) x.talk (commit_all x).talk (p size refl))
 
-ends-drained : (ws : List Wrote) (p : Progress) → Ends (WritesError ws p) p.engine.talk (drained ws p).engine.talk
+pub ends-drained : (ws : List Wrote) (p : Progress) → Ends (WritesError ws p) p.engine.talk (drained ws p).engine.talk
 ends-drained [] p =
     let P : ErrorKind → Type 0 = WritesError [] p in
     if_by (λ (q : Progress). Ends P p.engine.talk q.engine.talk) (goes p) (record p { engine = refuse_overlong p.engine }) p
@@ -430,7 +430,7 @@ writes-cause u x (ProtocolError e) h =
 writes-cause u x (SerialisationError size) h = record { goes_on = h.0; next = h.1 }
 writes-cause u x _ h = absurd h
 
-starved-cause : (P : ErrorKind → Type 0) (cut : Option ℕ) (at : ℕ) (x : Engine) → (is_some cut ≡ true → P NoMemory) → Ends P x.talk (starved_after cut at x).talk
+pub starved-cause : (P : ErrorKind → Type 0) (cut : Option ℕ) (at : ℕ) (x : Engine) → (is_some cut ≡ true → P NoMemory) → Ends P x.talk (starved_after cut at x).talk
 starved-cause P None at x p = ends-kept P x.talk x.talk refl
 starved-cause P (Some j) at x p =
     let t = present_at at x.talk in

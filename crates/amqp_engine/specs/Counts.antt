@@ -1,11 +1,8 @@
 -- Counts of faults, which never fall.
-use Rattle.std.specs.Prelude.{ℕ, ◌+◌, ◌-◌, ◌^◌, ◌≤◌, min, Bool, true, false, IsTrue}
+use Rattle.std.specs.Prelude.{ℕ, Bool, true, false, IsTrue}
+pub use Rattle.amqp_session.specs.Counts.{Rose}
 use Rattle.amqp_engine.specs.declared.port.Step.{Step}
 use Rattle.amqp_engine.specs.declared.port.Step.TheVariants.{LinkFailed, Fault}
-
--- a count of faults rose, or it stands at the greatest number of 64 bits, where it stays
-abbrev pub Rose : ℕ → ℕ → Type 0
-Rose before now = min (before + 1) (2 ^ 64 - 1) ≤ now
 
 -- a step that tells a fault of the port: a link that is refused, or reading that failed
 abbrev pub is_fault : Step → Bool

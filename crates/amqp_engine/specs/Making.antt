@@ -1,12 +1,14 @@
 -- A turn in the making, as the code counts its parts.
-use Rattle.std.specs.Prelude.{◌≡◌, ◌≤◌, ◌<◌, ◌^◌, not, ◌&&◌, ℕ, if◌then◌else◌, Bool, true, false, List, [], ◌++◌, Option, Some, None}
+use Rattle.std.specs.Prelude.{◌≡◌, ◌⊎◌, ◌≤◌, ◌<◌, ◌^◌, not, ◌&&◌, ℕ, if◌then◌else◌, Bool, true, false, List, [], ◌++◌, Option, Some, None, Err}
+use Rattle.amqp_types.specs.declared.text.Text.{Text}
 use Rattle.amqp_frame.specs.declared.frame.Read.{Read}
 use Rattle.amqp_frame.specs.declared.frame.Read.TheVariants.{Whole}
 use Rattle.amqp_session.specs.declared.auth.asked.Question.{Question}
 use Rattle.amqp_session.specs.declared.auth.asked.Asked.{Asked}
 use Rattle.amqp_session.specs.Providers.{Exchange, Allows}
 use Rattle.amqp_session.specs.Asking.{Asks, paired}
-use Rattle.amqp_session.specs.Talk.{Talk, is_open, drops_input}
+use Rattle.amqp_session.specs.declared.error.ErrorKind.TheVariants.{AuthProviderError}
+use Rattle.amqp_session.specs.Talk.{Talk, is_open, drops_input, end_of}
 use Rattle.amqp_engine.specs.declared.port.Step.{Step}
 use Rattle.amqp_engine.specs.declared.port.Step.TheVariants.{Tick, Command}
 use Rattle.amqp_engine.specs.declared.port.Happening.{Happening}
@@ -61,6 +63,12 @@ pub record Broke (n : ℕ) (holds : List Asked → List Question → Engine → 
   pub all : IsAnswered (Some n) questions answers
   pub allowed : Allows before (paired questions answers)
   pub leads : holds answers questions engine
+
+-- where a session has ended since its provider refused, it had ended so before, or the count of refusals rose
+abbrev pub Blames : Talk → Talk → ℕ → ℕ → Type 0
+Blames t t' count count' =
+    (text : Text) → end_of t' ≡ Some (Err (AuthProviderError text))
+    → (end_of t ≡ Some (Err (AuthProviderError text))) ⊎ Rose count count'
 
 -- how many parts a step is
 abbrev pub parts_of : Bool → ℕ

@@ -2,6 +2,7 @@
 
 ghost use Rattle.std.specs.Prelude.{◌≡◌, ◌≤◌, ◌⊎◌, ℕ, Some, None, Err, List, true, false, IfOk, IfErr, IfSome, IsOk, OnOk, OnErr, MatchResult, IsSome, IsTrue, length, option_map};
 ghost use Rattle.amqp_ring.specs.Ring.{capacity};
+ghost use Rattle.amqp_types.specs.declared.text.Text.{Text};
 ghost use Rattle.amqp_session.specs.declared.io_fault.IoFault.{IoFault};
 ghost use Rattle.amqp_session.specs.Config.{config_of};
 ghost use Rattle.amqp_session.specs.Talk.{start, has_ended, end_of};
@@ -77,7 +78,7 @@ impl IoLoop {
     /// A loop that wants a link to a server at this address. The options are moved in. It takes the
     /// memory of both buffers and of the scratch.
     pub fn new(alloc: Global, uri: &AMQPUri, options: ConnectionProperties) -> Result<IoLoop>
-        ensures ok { IfOk result (λ l. l ≡ begin (start (config_of uri.now options))) }
+        ensures ok { IfOk result (λ l. l ≡ begin (start (config_of uri.now options.plain))) }
         ensures err { IfErr result (λ e. e ≡ ErrorKind.NoMemory) }
     {
         Ok(IoLoop::make(alloc, uri, options)?)
@@ -88,7 +89,7 @@ impl IoLoop {
         uri: &AMQPUri,
         options: ConnectionProperties,
     ) -> std::result::Result<IoLoop, NoMemory>
-        ensures { IfOk result (λ l. l ≡ begin (start (config_of uri.now options))) }
+        ensures { IfOk result (λ l. l ≡ begin (start (config_of uri.now options.plain))) }
     {
         let scratch = vec![in alloc; 0; PIECE]?;
         let wire = Wire::new(alloc, uri, options)?;
@@ -127,6 +128,9 @@ impl IoLoop {
         ensures io_error_counted { (fault : IoFault) → has_ended self.old.talk ≡ false
             → fault_of self.new.talk ≡ Some fault → IsTrue (is_counted fault)
             → Rose (P.faults port.old) (P.faults port.new) }
+        ensures refusal_counted { (text : Text) → has_ended self.old.talk ≡ false
+            → end_of self.new.talk ≡ Some (Err (ErrorKind.AuthProviderError text))
+            → Rose (A.refusals provider.old) (A.refusals provider.new) }
         ensures cause { (k : ErrorKind) → has_ended self.old.talk ≡ false → end_of self.new.talk ≡ Some (Err k)
             → Brings k self.old self.new (P.log port.old) (P.log port.new) }
     {
@@ -147,6 +151,9 @@ impl IoLoop {
         ensures io_error_counted { (fault : IoFault) → has_ended self.old.talk ≡ false
             → fault_of self.new.talk ≡ Some fault → IsTrue (is_counted fault)
             → Rose (P.faults port.old) (P.faults port.new) }
+        ensures refusal_counted { (text : Text) → has_ended self.old.talk ≡ false
+            → end_of self.new.talk ≡ Some (Err (ErrorKind.AuthProviderError text))
+            → Rose (A.refusals provider.old) (A.refusals provider.new) }
     {
         'turns: for _ in 0..turns {
             if self.wire.session().has_ended() {
@@ -174,6 +181,9 @@ impl IoLoop {
         ensures never_falls { A.refusals provider.old ≤ A.refusals provider.new }
         ensures io_error_counted { (fault : IoFault) → fault_of self.new.talk ≡ Some fault
             → IsTrue (is_counted fault) → Rose (P.faults port.old) (P.faults port.new) }
+        ensures refusal_counted { (text : Text)
+            → end_of self.new.talk ≡ Some (Err (ErrorKind.AuthProviderError text))
+            → Rose (A.refusals provider.old) (A.refusals provider.new) }
     {
         self.wire.ask(port);
         let told = port.next(&mut self.scratch);
@@ -222,6 +232,9 @@ impl IoLoop {
             → fault_of self.new.talk ≡ Some fault
             → (brought told.step self.old.talk ≡ Some fault)
             ⊎ ((fault ≡ IoFault.BrokenPipe) × Rose (P.faults port.old) (P.faults port.new)) }
+        ensures refusal_counted { (text : Text) → has_ended self.old.talk ≡ false
+            → end_of self.new.talk ≡ Some (Err (ErrorKind.AuthProviderError text))
+            → Rose (A.refusals provider.old) (A.refusals provider.new) }
     {
         told.step.hold();
         self.auths.clear();

@@ -17,7 +17,7 @@ ghost use Rattle.amqp_session.specs.Answers.{Takes, take_frames};
 ghost use Rattle.amqp_engine.specs.Engine.{Engine, begin, with_talk, starve_at};
 ghost use Rattle.amqp_engine.specs.Turn.{asks};
 ghost use Rattle.amqp_engine.specs.Tell.{log_asks};
-ghost use Rattle.amqp_engine.specs.Making.{AppliesCounted};
+ghost use Rattle.amqp_engine.specs.Making.{AppliesCounted, Blames};
 
 use crate::port::{Port, Told};
 use amqp_ring::Buffer;
@@ -78,7 +78,7 @@ impl Wire {
         uri: &AMQPUri,
         options: ConnectionProperties,
     ) -> Result<Wire, NoMemory>
-        ensures { IfOk result (λ w. w ≡ begin (start (config_of uri.now options))) }
+        ensures { IfOk result (λ w. w ≡ begin (start (config_of uri.now options.plain))) }
     {
         let capacity = initial_capacity(uri) as usize;
         let unread = Buffer::with_capacity(alloc, capacity)?;
@@ -185,6 +185,7 @@ impl Wire {
         ensures over { OnErr result (has_ended self.old.talk ≡ true → self.new ≡ self.old) }
         ensures faults { P.faults port.old ≤ P.faults port.new }
         ensures never_falls { A.refusals provider.old ≤ A.refusals provider.new }
+        ensures blames { Blames self.old.talk self.new.talk (A.refusals provider.old) (A.refusals provider.new) }
     {
         let Told { at, step } = told;
         if self.session.has_ended() {

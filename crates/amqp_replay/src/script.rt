@@ -43,7 +43,7 @@ impl Model for Scenario {
     ghost coded = { Prim.hlevel (codes, value_code) };
 
     ghost view = { λ s. record {
-      config = config_of s.uri s.options;
+      config = config_of s.uri s.options.plain;
       handed = s.handed;
       steps = s.steps.items;
     } };

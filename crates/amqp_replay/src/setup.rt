@@ -192,7 +192,7 @@ impl Model for Progress {
     ghost coded = { Prim.hlevel (codes, value_code) };
 
     ghost view = { λ p. record {
-      config = config_of p.uri p.options;
+      config = config_of p.uri p.options.plain;
       is_handed = p.is_handed;
       has_uri = p.has_uri;
       has_locale = p.has_locale;
@@ -229,7 +229,7 @@ impl Progress {
 
     /// What the session is made from.
     pub fn into_config(self) -> (AMQPUri, ConnectionProperties)
-        ensures { config_of result.0 result.1 ≡ self.config }
+        ensures { config_of result.0 result.1.plain ≡ self.config }
     {
         (self.uri, self.options)
     }

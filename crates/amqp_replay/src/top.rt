@@ -313,7 +313,7 @@ fn replay<P: ScriptedPort, A: AuthProvider>(
         (P.links_taken port.new) (P.log port.new)) }
 {
     match chosen(scenario.handed, handed) {
-        Some(mut provider) => replay_by(alloc, scenario, port, &mut provider),
+        Some(provider) => replay_by(alloc, scenario, port, provider),
         None => replay_alone(alloc, scenario, port),
     }
 }
@@ -329,7 +329,7 @@ fn replay_alone<P: ScriptedPort>(
         (P.log port.new)) }
 {
     match DefaultAuthProvider::new(alloc, &scenario.uri) {
-        Ok(mut provider) => replay_by(alloc, scenario, port, &mut provider),
+        Ok(provider) => replay_by(alloc, scenario, port, provider),
         Err(e) => {
             drop(scenario);
             Err(e)
@@ -342,11 +342,11 @@ fn replay_by<P: ScriptedPort, A: AuthProvider>(
     alloc: Global,
     scenario: Scenario,
     port: &mut P,
-    provider: &mut A,
+    provider: A,
 ) -> Result<IoLoop, NoMemory>
     requires pieces { ArePieces scenario.steps }
-    requires can { A.can provider.old }
-    ensures { IfOk result (λ e. IsReplayed (A.allows provider.old) scenario e.talk (P.links_taken port.new)
+    requires can { A.can provider }
+    ensures { IfOk result (λ e. IsReplayed (A.allows provider) scenario e.talk (P.links_taken port.new)
         (P.log port.new)) }
 {
     let Scenario {
@@ -356,23 +356,30 @@ fn replay_by<P: ScriptedPort, A: AuthProvider>(
         steps,
     } = scenario;
     let turns = steps.len() as u64;
+    let (options, mut provider) = options.with_auth_provider(provider).into_parts();
     if let Err(e) = port.load(steps) {
         drop(uri);
         drop(options);
+        drop(provider);
         return Err(e);
     }
     let engine = IoLoop::new(alloc, &uri, options);
     drop(uri);
     match engine {
-        Ok(mut engine) => match run(&mut engine, port, provider, turns) {
-            Ok(()) => Ok(engine),
-            Err(e) => {
-                drop(engine);
-                Err(e)
+        Ok(mut engine) => {
+            let ran = run(&mut engine, port, &mut provider, turns);
+            drop(provider);
+            match ran {
+                Ok(()) => Ok(engine),
+                Err(e) => {
+                    drop(engine);
+                    Err(e)
+                }
             }
-        },
+        }
         Err(e) => {
             drop(e);
+            drop(provider);
             Err(NoMemory)
         }
     }

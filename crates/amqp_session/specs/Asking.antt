@@ -25,16 +25,18 @@ pub record Answered (asked : Question) (given : Asked) (before after : Exchange 
   -- the provider may give it
   pub allowed : Leads before after asked given
 
--- memory was refused after some of these questions were answered, and no other answer was listed
-pub record Unanswered (asked : List Question) (before : Exchange → Type 0) (list list' : List Asked) : Type 0 where
+-- memory was refused after some of these questions were answered, and no other answer was listed; what is asked may go
+-- by the answers to what was asked before
+pub record Unanswered (asked : List Asked → List Question) (before : Exchange → Type 0) (list list' : List Asked)
+    : Type 0 where
   -- what was answered
   pub answers : List Asked
   -- the list grew by that
   pub listed : list' ≡ list ++ answers
   -- no more was answered than was asked
-  pub within : length answers ≤ length asked
+  pub within : length answers ≤ length (asked answers)
   -- the provider may give it
-  pub allowed : Allows before (paired asked answers)
+  pub allowed : Allows before (paired (asked answers) answers)
 
 -- an answer has its question's form
 abbrev pub fits : Question → Asked → Bool
@@ -52,8 +54,8 @@ Answer (asked ∷ later) (given ∷ rest) = IsTrue (fits asked given) × Answer 
 Answer _ _ = ⊥
 
 -- these questions were answered so, and the answers were put last into the list
-pub record Asks (asked : List Question) (answers : List Asked) (before after : Exchange → Type 0) (list list' : List Asked)
-    : Type 0 where
+pub record Asks (asked : List Question) (answers : List Asked) (before after : Exchange → Type 0)
+    (list list' : List Asked) : Type 0 where
   -- the list grew by the answers
   pub listed : list' ≡ list ++ answers
   -- one answers each question
@@ -71,17 +73,9 @@ pub record Hears (rule : List Asked → Talk → Talk) (asked : List Asked → T
   -- the state is what the rule makes of it
   pub talk : t' ≡ rule answers t
 
--- memory was refused after some of the questions were answered that a rule asks, and no other answer was listed
-pub record Starves (asked : List Asked → Talk → List Question) (before : Exchange → Type 0) (t : Talk)
-    (list list' : List Asked) : Type 0 where
-  -- what was answered
-  pub answers : List Asked
-  -- the list grew by that
-  pub listed : list' ≡ list ++ answers
-  -- no more was answered than was asked
-  pub within : length answers ≤ length (asked answers t)
-  -- the provider may give it
-  pub allowed : Allows before (paired (asked answers t) answers)
+-- memory was refused after some of the questions were answered that a rule asks
+abbrev pub Starves : (List Asked → Talk → List Question) → (Exchange → Type 0) → Talk → List Asked → List Asked → Type 0
+Starves asked before t list list' = Unanswered (λ answers. asked answers t) before list list'
 
 -- want of memory, apart from what was said
 abbrev pub IsSaid : Result LongString Refusal → Result (Result LongString Text) WantOfMemory → Type 0

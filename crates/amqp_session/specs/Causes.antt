@@ -95,7 +95,7 @@ is_judged t = not (is_closing t.state)
 
 -- the text by which the provider refused what a frame asked
 abbrev pub refused_in : List Question → List Asked → Option (List ℕ)
-refused_in (question.Mechanism ∷ question.Starter ∷ []) (answer.Mechanism mechanism ∷ answer.Starter (Err text) ∷ later) =
+refused_in (question.Mechanism ∷ question.Starter ∷ []) (answer.Mechanism name ∷ answer.Starter (Err text) ∷ later) =
     Some text
 refused_in (question.Challenge challenge ∷ []) (answer.Challenge (Err text) ∷ later) = Some text
 refused_in asked answers = None

@@ -37,6 +37,7 @@ pub mod Queries
 pub mod Causes
 pub mod Sound
 pub mod Laws
+pub mod Secrets
 -- Legal conversations, by a grammar, and decided frame by frame.
 pub mod Octets
 pub mod Legal

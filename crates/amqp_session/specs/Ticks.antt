@@ -1,5 +1,5 @@
--- Time: heartbeats that are missed, and those that are due (AMQP 0-9-1, 4.2.7), and secrets that expire (an extension of
--- RabbitMQ). Moments and validity are in milliseconds, and the agreed interval is in seconds.
+-- Time: heartbeats that are missed, and those that are due (AMQP 0-9-1, 4.2.7), and secrets that expire (an extension
+-- of RabbitMQ). Moments and validity are in milliseconds, and the agreed interval is in seconds.
 use Rattle.std.specs.Prelude.{ℕ, ◌*◌, ◌-◌, ◌==◌, ◌&&◌, not, nat_lt, nat_le, if◌then◌else◌, Bool, true, false, List, [], ◌∷◌, Option, Some, None, Result, Ok, Err, codes}
 use Rattle.amqp_frame.specs.declared.frame.Frame.TheVariants.{Heartbeat}
 use Rattle.amqp_session.specs.declared.state.ConnectionState.{ConnectionState}

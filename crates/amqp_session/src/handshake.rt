@@ -7,7 +7,7 @@ ghost use Rattle.amqp_session.specs.Ticks.{refresh_reason};
 ghost use Rattle.amqp_session.specs.Handshake.{protocol_header, yes, capabilities, with_product, client_properties, start_ok, secure_ok, tune_ok, open_vhost, our_close, close_ok, new_secret, channel_open, channel_flow, flow_ok, channel_close_ok, our_channel_close};
 
 use crate::configuration::Configuration;
-use crate::options::ConnectionProperties;
+use crate::options::Options;
 use amqp_frame::{Frame, Method};
 use amqp_types::{
     AMQPValue, ChannelId, FieldTable, LongString, NoMemory, ProtocolVersion, ReplyCode, ShortString,
@@ -95,10 +95,7 @@ fn client_properties(alloc: Global, own: &FieldTable) -> Result<FieldTable, NoMe
 }
 
 // What the client says of itself: its properties, and its locale.
-fn introduction(
-    alloc: Global,
-    options: &ConnectionProperties,
-) -> Result<(FieldTable, ShortString), NoMemory>
+fn introduction(alloc: Global, options: &Options) -> Result<(FieldTable, ShortString), NoMemory>
     ensures properties { IfOk result (λ said. said.0 ≡ client_properties options.now.properties) }
     ensures locale { IfOk result (λ said. said.1 ≡ options.now.locale) }
 {
@@ -110,7 +107,7 @@ fn introduction(
 /// The client's answer to start: by a mechanism, with what it says first by it.
 pub fn start_ok(
     alloc: Global,
-    options: &ConnectionProperties,
+    options: &Options,
     mechanism: ShortString,
     response: LongString,
 ) -> Result<Frame, NoMemory>

@@ -1,6 +1,6 @@
 //! What the rules keep.
 
-ghost use Rattle.std.specs.Prelude.{◌≡◌, ◌≢◌, ◌≤◌, ◌↔◌, ℕ, ◌+◌, true, List, length, Some, None, Err, IsTrue, IsFalse};
+ghost use Rattle.std.specs.Prelude.{◌≡◌, ◌≢◌, ◌≤◌, ◌↔◌, ℕ, ◌+◌, true, List, length, Some, None, Err, IsTrue, IsFalse, Contains};
 ghost use Rattle.amqp_frame.specs.declared.frame.Frame.{Frame};
 ghost use Rattle.amqp_frame.specs.Frames.{encoding};
 ghost use Rattle.amqp_outbox.specs.declared.item.Item.{Item};
@@ -9,12 +9,15 @@ ghost use Rattle.amqp_session.specs.declared.configuration.Configuration.{Config
 ghost use Rattle.amqp_session.specs.declared.error.ErrorKind.{ErrorKind};
 ghost use Rattle.amqp_session.specs.declared.error.ErrorKind.TheVariants.{InvalidConnectionState};
 ghost use Rattle.amqp_session.specs.declared.state.ConnectionState.TheVariants.{Connected};
+ghost use Rattle.amqp_session.specs.declared.auth.asked.Question.TheVariants.{Refresh};
 ghost use Rattle.amqp_session.specs.declared.auth.asked.Asked.{Asked};
 ghost use Rattle.amqp_session.specs.Config.{Config};
 ghost use Rattle.amqp_session.specs.Talk.{Talk, start, acts, has_ended, is_open, end_of};
 ghost use Rattle.amqp_session.specs.Negotiation.{tune};
 ghost use Rattle.amqp_session.specs.Frames.{on_frame};
 ghost use Rattle.amqp_session.specs.Commands.{command, takes_promise};
+ghost use Rattle.amqp_session.specs.Ticks.{tick_questions};
+ghost use Rattle.amqp_session.specs.Secrets.{HasExpired, KeepsSecret};
 ghost use Rattle.amqp_session.specs.Writing.{next_within, commit, taken, unsent};
 ghost use Rattle.amqp_session.specs.Answers.{answer_of, take_answer};
 ghost use Rattle.amqp_session.specs.Causes.{IsFrameError};
@@ -58,6 +61,15 @@ pub fn a_frame_ends_with_its_errors()
 /// An ended session stays as it ended.
 pub fn an_end_is_kept()
     ensures { (t : Talk) → IsEnded t → IsOver t }
+{}
+
+/// A new secret is asked for only where the secret has expired: as much time has gone by as the provider
+/// says that it is valid, since the moment from which it is. That moment is the present at an open-ok and
+/// at the update-secret-ok of a refresh, and where the provider had no new secret; nothing else moves it.
+pub fn a_secret_is_asked_for_when_it_has_expired()
+    ensures asked { (answers : List Asked) (t : Talk) → Contains (tick_questions answers t) Refresh
+        → HasExpired answers t }
+    ensures moment { (t : Talk) → KeepsSecret t }
 {}
 
 /// An answer is taken once, and a promise that was not made has none.

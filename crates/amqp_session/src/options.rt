@@ -9,14 +9,123 @@ use std::alloc::Global;
 use std::marker::Model;
 
 /// What the client says of itself to the server, beside what every client of this library says: its
-/// name, what it can do, and where it runs. A setting that finds no memory gives the rest up.
+/// name, what it can do, and where it runs; and who answers what the server asks of its client, where
+/// that is not who the address names. A session is made of the former alone, and the provider is lent
+/// to its calls. A setting that finds no memory gives the rest up.
 #[derive(Debug, Drop)]
-pub struct ConnectionProperties {
+pub struct ConnectionProperties<A = ()> {
+    plain: Options,
+    auth_provider: A,
+}
+
+impl ConnectionProperties {
+    /// The locale `en_US`, no properties, and no provider.
+    pub fn new(alloc: Global) -> Result<ConnectionProperties, NoMemory>
+        ensures { IfOk result (λ options. options.plain ≡ no_options) }
+    {
+        let plain = Options::new(alloc)?;
+        Ok(ConnectionProperties {
+            plain,
+            auth_provider: (),
+        })
+    }
+
+    // What is said of the client.
+    pub(crate) fn into_plain(self) -> Options
+        ensures { result ≡ self.plain }
+    {
+        self.plain
+    }
+}
+
+impl<A: Drop> ConnectionProperties<A> {
+    /// The same with another locale: the language in which texts of the server are wanted.
+    pub fn with_locale(self, locale: ShortString) -> ConnectionProperties<A>
+        ensures { result ≡ record self { plain = with_locale locale self.plain } }
+    {
+        ConnectionProperties {
+            plain: self.plain.with_locale(locale),
+            auth_provider: self.auth_provider,
+        }
+    }
+
+    /// The same with a property of the client, which takes the place of one with its key. The
+    /// properties `platform` and `capabilities` are this library's own all the same, and so are
+    /// `product` and `version` where one of the two is missing.
+    pub fn with_client_property(
+        self,
+        key: ShortString,
+        value: LongString,
+    ) -> Result<ConnectionProperties<A>, NoMemory>
+        ensures { IfOk result (λ options. options ≡ record self { plain = with_property key value self.plain }) }
+    {
+        match self.plain.with_property(key, value) {
+            Ok(plain) => Ok(ConnectionProperties {
+                plain,
+                auth_provider: self.auth_provider,
+            }),
+            Err(e) => {
+                drop(self.auth_provider);
+                Err(e)
+            }
+        }
+    }
+
+    /// The same with a name of the connection, the property `connection_name`, by which RabbitMQ shows
+    /// it.
+    pub fn with_connection_name(
+        self,
+        alloc: Global,
+        connection_name: LongString,
+    ) -> Result<ConnectionProperties<A>, NoMemory>
+        ensures { IfOk result (λ options. options ≡ record self { plain = with_name connection_name self.plain }) }
+    {
+        match self.plain.with_name(alloc, connection_name) {
+            Ok(plain) => Ok(ConnectionProperties {
+                plain,
+                auth_provider: self.auth_provider,
+            }),
+            Err(e) => {
+                drop(self.auth_provider);
+                Err(e)
+            }
+        }
+    }
+
+    /// The same with a provider of authentication, which takes the place of one that was given before.
+    pub fn with_auth_provider<B>(self, provider: B) -> ConnectionProperties<B>
+        ensures { result ≡ record { plain = self.plain; auth_provider = provider } }
+    {
+        drop(self.auth_provider);
+        ConnectionProperties {
+            plain: self.plain,
+            auth_provider: provider,
+        }
+    }
+
+    /// What a session is made of, and the provider that is lent to its calls.
+    pub fn into_parts(self) -> (ConnectionProperties, A)
+        ensures plain { result.0.plain ≡ self.plain }
+        ensures provider { result.1 ≡ self.auth_provider }
+    {
+        (
+            ConnectionProperties {
+                plain: self.plain,
+                auth_provider: (),
+            },
+            self.auth_provider,
+        )
+    }
+}
+
+/// What the user says of the client.
+#[derive(Debug, Drop)]
+pub(crate) struct Options {
     locale: ShortString,
     client_properties: FieldTable,
 }
 
-impl Model for ConnectionProperties {
+impl Model for Options {
     ghost use Rattle.amqp_session.specs.Config.{Options};
 
     ghost Value = { Options };
@@ -29,57 +138,42 @@ impl Model for ConnectionProperties {
     ghost view = { λ o. record { locale = o.locale; properties = o.client_properties } };
 }
 
-impl ConnectionProperties {
-    /// The locale `en_US`, and no properties.
-    pub fn new(alloc: Global) -> Result<ConnectionProperties, NoMemory>
+impl Options {
+    fn new(alloc: Global) -> Result<Options, NoMemory>
         ensures { IfOk result (λ options. options ≡ no_options) }
     {
         let locale = ShortString::from_vec(Vec::from_slice(alloc, b"en_US")?);
-        Ok(ConnectionProperties {
+        Ok(Options {
             locale,
             client_properties: FieldTable::new(alloc),
         })
     }
 
-    /// The same with another locale: the language in which texts of the server are wanted.
-    pub fn with_locale(self, locale: ShortString) -> ConnectionProperties
+    fn with_locale(self, locale: ShortString) -> Options
         ensures { result ≡ with_locale locale self }
     {
-        ConnectionProperties {
+        Options {
             locale,
             client_properties: self.client_properties,
         }
     }
 
-    /// The same with a property of the client, which takes the place of one with its key. The
-    /// properties `platform` and `capabilities` are this library's own all the same, and so are
-    /// `product` and `version` where one of the two is missing.
-    pub fn with_client_property(
-        self,
-        key: ShortString,
-        value: LongString,
-    ) -> Result<ConnectionProperties, NoMemory>
+    fn with_property(self, key: ShortString, value: LongString) -> Result<Options, NoMemory>
         ensures { IfOk result (λ options. options ≡ with_property key value self) }
     {
         let mut client_properties = self.client_properties;
         client_properties.insert(key, AMQPValue::LongString(value))?;
-        Ok(ConnectionProperties {
+        Ok(Options {
             locale: self.locale,
             client_properties,
         })
     }
 
-    /// The same with a name of the connection, the property `connection_name`, by which RabbitMQ shows
-    /// it.
-    pub fn with_connection_name(
-        self,
-        alloc: Global,
-        connection_name: LongString,
-    ) -> Result<ConnectionProperties, NoMemory>
+    fn with_name(self, alloc: Global, connection_name: LongString) -> Result<Options, NoMemory>
         ensures { IfOk result (λ options. options ≡ with_name connection_name self) }
     {
         let key = ShortString::from_vec(Vec::from_slice(alloc, b"connection_name")?);
-        self.with_client_property(key, connection_name)
+        self.with_property(key, connection_name)
     }
 
     // The language in which texts are wanted.

@@ -26,7 +26,7 @@ use crate::committed::Committed;
 use crate::configuration::{Configuration, own_numbers};
 use crate::error::{self, ErrorKind};
 use crate::handed::Backlog;
-use crate::options::ConnectionProperties;
+use crate::options::{ConnectionProperties, Options};
 use crate::promises::Promises;
 use crate::server_close::ServerClose;
 use crate::state::{ConnectionState, End, Input, Link, Phase};
@@ -43,7 +43,7 @@ use std::marker::Model;
 pub struct Session {
     alloc: Global,
     uri: AMQPUri,
-    options: ConnectionProperties,
+    options: Options,
     state: ConnectionState,
     phase: Phase,
     link: Link<End>,
@@ -134,18 +134,19 @@ impl fmt::Debug for Session {
 }
 
 impl Session {
-    /// A session with a server at this address, which wants a link. The options are moved in.
+    /// A session with a server at this address, which wants a link. The options are moved in; a provider
+    /// of authentication is parted from them before, and lent to the calls that ask.
     pub fn new(
         alloc: Global,
         uri: &AMQPUri,
         options: ConnectionProperties,
     ) -> error::Result<Session>
-        ensures ok { IfOk result (λ s. s ≡ start (config_of uri.now options)) }
+        ensures ok { IfOk result (λ s. s ≡ start (config_of uri.now options.plain)) }
         ensures err { IfErr result (λ e. e ≡ ErrorKind.NoMemory) }
     {
         let made = Session::parts(alloc, uri);
         match made {
-            Ok((uri, promises)) => Ok(Session::begin(alloc, uri, options, promises)),
+            Ok((uri, promises)) => Ok(Session::begin(alloc, uri, options.into_plain(), promises)),
             Err(refused) => {
                 drop(options);
                 Err(refused.into())
@@ -165,12 +166,7 @@ impl Session {
         Ok((uri, promises))
     }
 
-    fn begin(
-        alloc: Global,
-        uri: AMQPUri,
-        options: ConnectionProperties,
-        promises: Promises,
-    ) -> Session
+    fn begin(alloc: Global, uri: AMQPUri, options: Options, promises: Promises) -> Session
         requires made { promises.made ≡ 1 }
         requires slots { promised promises ≡ (0, None) ∷ [] }
         ensures { result ≡ start (config_of uri options) }

@@ -2,13 +2,13 @@
 
 use crate::said::Said;
 use crate::story::{Line, tell, tell_by};
-use crate::support::{At, CHALLENGE_NO, Outcome, START_OK_TOKEN, new_token, no_token, provider_of};
+use crate::support::{At, CHALLENGE_NO, Outcome, new_token, no_token, provider_of};
 use amqp_session::ConnectionState::{Connected, Connecting, Error};
 use amqp_session::{Answer, DefaultTokenProvider, TokenAuthProvider};
 use amqp_types::LongString;
 use amqp_vectors::{
-    CLOSE_320, CLOSE_OK, HEADER, OPEN, OPEN_OK, SECURE, SECURE_OK, START, START_OK_DEMO, TUNE,
-    TUNE_OK,
+    CLOSE_320, CLOSE_OK, HEADER, OPEN, OPEN_OK, SECURE, SECURE_OK, START, START_OK_DEMO,
+    START_OK_TOKEN, TUNE, TUNE_OK,
 };
 
 /// Who logs in by RABBIT-CR-DEMO.

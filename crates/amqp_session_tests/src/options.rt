@@ -92,15 +92,17 @@ fn a_capacity_is_known_beforehand(rt: HostRuntime) -> Outcome<()> {
     Ok(())
 }
 
-// Options with all settings.
-fn named(alloc: Global) -> Result<ConnectionProperties, NoMemory> {
-    ConnectionProperties::new(alloc)?
+// Options with all settings, and a provider in the place of another.
+fn named(alloc: Global) -> Result<ConnectionProperties<u64>, NoMemory> {
+    let options = ConnectionProperties::new(alloc)?
+        .with_auth_provider(false)
         .with_locale(ShortString::from_vec(Vec::from_slice(alloc, b"de_DE")?))
         .with_client_property(short(alloc, b"product")?, long(alloc, b"mine")?)?
         .with_client_property(short(alloc, b"version")?, long(alloc, b"1")?)?
         .with_client_property(short(alloc, b"platform")?, long(alloc, b"c")?)?
         .with_client_property(short(alloc, b"capabilities")?, long(alloc, b"none")?)?
-        .with_connection_name(alloc, long(alloc, b"orders")?)
+        .with_connection_name(alloc, long(alloc, b"orders")?)?;
+    Ok(options.with_auth_provider(7))
 }
 
 fn short(alloc: Global, content: &[u8]) -> Result<ShortString, NoMemory> {
@@ -138,12 +140,13 @@ const NAMED: &str =
 #[test]
 fn start_ok_says_what_the_user_says(rt: HostRuntime) -> Outcome<()> {
     let alloc = rt.alloc();
-    let options = named(alloc)?;
+    let (options, provider) = named(alloc)?.into_parts();
     let address = "amqp://bob:hunter@h?auth_mechanism=amqplain";
     let mut session = session_to(alloc, address, options)?;
     let said = says(alloc, &mut session, address, NAMED);
     drop(session);
     assert!(rt; said?);
+    assert!(rt; provider == 7);
     Ok(())
 }
 

@@ -7,7 +7,7 @@ ghost use Rattle.amqp_engine.specs.Counts.{is_fault};
 ghost use Rattle.amqp_engine.specs.Causes.{is_counted};
 
 use amqp_engine::{IoLoop, Port, Step, Told, Wrote};
-use amqp_session::{ConnectionProperties, DefaultAuthProvider, ErrorKind, IoFault, Result};
+use amqp_session::{AuthProvider, ConnectionProperties, ErrorKind, IoFault, Result};
 use amqp_uri::AMQPUri;
 use std::alloc::Global;
 
@@ -92,17 +92,30 @@ impl Port for Held {
     }
 }
 
-/// Runs a new session with a server at this address over such a port, as the user of the address, and
-/// says how it ended, or that all turns were taken. It does not end by a fault that a port counts, since
-/// this one has none.
-pub fn converse(alloc: Global, uri: &AMQPUri, port: &mut Held, turns: u64) -> Result<()>
+/// Runs a new session of these properties with a server at this address over such a port, and says how
+/// it ended, or that all turns were taken. What the server asks is answered by the provider of the
+/// properties. It does not end by a fault that a port counts, since this one has none.
+pub fn converse<A: AuthProvider>(
+    alloc: Global,
+    uri: &AMQPUri,
+    options: ConnectionProperties<A>,
+    port: &mut Held,
+    turns: u64,
+) -> Result<()>
+    requires { A.can options.auth_provider }
     ensures { (fault : IoFault) → IsTrue (is_counted fault) → result ≢ Err (ErrorKind.IOError fault) }
 {
-    let options = ConnectionProperties::new(alloc)?;
-    let mut engine = IoLoop::new(alloc, uri, options)?;
-    let mut provider = DefaultAuthProvider::new(alloc, uri)?;
-    let end = engine.run(port, &mut provider, turns);
-    drop(provider);
-    drop(engine);
-    end
+    let (options, mut provider) = options.into_parts();
+    match IoLoop::new(alloc, uri, options) {
+        Ok(mut engine) => {
+            let end = engine.run(port, &mut provider, turns);
+            drop(provider);
+            drop(engine);
+            end
+        }
+        Err(e) => {
+            drop(provider);
+            Err(e)
+        }
+    }
 }

@@ -2,7 +2,8 @@
 
 use super::*;
 use amqp_frame::{FixedRoom, Frame, RawMethod, Room, encoded_len};
-use amqp_session::{Answer, ConnectionProperties, Session};
+use amqp_session::{Answer, ConnectionProperties, DefaultAuthProvider, Session};
+use amqp_types::NoMemory;
 use amqp_uri::AMQPUri;
 use amqp_vectors::octets;
 use std::alloc::Global;
@@ -98,10 +99,28 @@ fn joined(alloc: Global) -> std::result::Result<Vec<u8>, Fail> {
     Ok(bytes)
 }
 
+// Properties with the provider of an address.
+fn properties_of(
+    alloc: Global,
+    uri: &AMQPUri,
+) -> std::result::Result<ConnectionProperties<DefaultAuthProvider>, NoMemory> {
+    let options = ConnectionProperties::new(alloc)?;
+    match DefaultAuthProvider::new(alloc, uri) {
+        Ok(provider) => Ok(options.with_auth_provider(provider)),
+        Err(e) => {
+            drop(options);
+            Err(e)
+        }
+    }
+}
+
 // How a run over such a port ends, as a text.
 fn end_of(alloc: Global, port: &mut Held) -> std::result::Result<String, Fail> {
     let uri = AMQPUri::local(alloc)?;
-    let end = converse(alloc, &uri, port, 9);
+    let end = match properties_of(alloc, &uri) {
+        Ok(options) => converse(alloc, &uri, options, port, 9),
+        Err(e) => Err(e.into()),
+    };
     drop(uri);
     match end {
         Ok(()) => Ok(String::from_str(alloc, "closed")?),

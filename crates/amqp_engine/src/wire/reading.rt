@@ -10,7 +10,7 @@ ghost use Rattle.amqp_engine.specs.Engine.{Engine, rule_at, step_linked, step_pi
 ghost use Rattle.amqp_session.specs.declared.auth.asked.Asked.{Asked};
 ghost use Rattle.amqp_session.specs.declared.auth.asked.Question.{Question};
 ghost use Rattle.amqp_engine.specs.Turn.{begun, is_part, is_piece, step_part, reading};
-ghost use Rattle.amqp_engine.specs.Making.{making, parts_of, is_event, is_whole, keeps_unread, IsSettled, joined, FewParts, Reaches, Heard, Broke, StepHears, RowHears, Grew};
+ghost use Rattle.amqp_engine.specs.Making.{making, parts_of, is_event, is_whole, keeps_unread, IsSettled, joined, FewParts, Reaches, Heard, Broke, StepHears, RowHears, Grew, Blames};
 ghost use Rattle.amqp_frame.specs.declared.frame.Read.TheVariants as reads;
 
 use super::Wire;
@@ -47,6 +47,7 @@ impl Wire {
         ensures bound { FewParts parts.new }
         ensures starved { self.new.starved ≡ self.old.starved }
         ensures never_falls { A.refusals provider.old ≤ A.refusals provider.new }
+        ensures blames { Blames self.old.talk self.new.talk (A.refusals provider.old) (A.refusals provider.new) }
     {
         if step.is_piece() && self.session.is_open() {
             drop(step);
@@ -217,6 +218,7 @@ impl Wire {
         ensures bound { FewParts parts.new }
         ensures starved { self.new.starved ≡ self.old.starved }
         ensures never_falls { A.refusals provider.old ≤ A.refusals provider.new }
+        ensures blames { Blames self.old.talk self.new.talk (A.refusals provider.old) (A.refusals provider.new) }
     {
         self.session.piece(at);
         self.settle();
@@ -283,6 +285,7 @@ impl Wire {
         ensures grows { parts.old ≤ parts.new }
         ensures starved { self.new.starved ≡ self.old.starved }
         ensures never_falls { A.refusals provider.old ≤ A.refusals provider.new }
+        ensures blames { Blames self.old.talk self.new.talk (A.refusals provider.old) (A.refusals provider.new) }
     {
         'frames: while self.read_next(at, provider, auths)? {
             *parts += 1;
@@ -307,6 +310,7 @@ impl Wire {
         ensures err { OnErr result (self.new ≡ rule_at at starve self.old) }
         ensures listed { OnErr result (Grew auths.old.list auths.new.list) }
         ensures never_falls { A.refusals provider.old ≤ A.refusals provider.new }
+        ensures blames { Blames self.old.talk self.new.talk (A.refusals provider.old) (A.refusals provider.new) }
     {
         if !self.session.is_open() {
             return Ok(false);
@@ -341,6 +345,7 @@ impl Wire {
         ensures err { OnErr result (self.new ≡ rule_at at starve self.old) }
         ensures listed { OnErr result (Grew auths.old.list auths.new.list) }
         ensures never_falls { A.refusals provider.old ≤ A.refusals provider.new }
+        ensures blames { Blames self.old.talk self.new.talk (A.refusals provider.old) (A.refusals provider.new) }
     {
         let capacity = self.session.capacity_after(&frame) as usize;
         if let Err(refused) = Buffer::grow_both(&mut self.unread, &mut self.unsent, capacity) {

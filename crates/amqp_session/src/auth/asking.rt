@@ -21,7 +21,7 @@ pub fn ask_mechanism<A: AuthProvider>(
     ensures ok { IfOk result (λ name. Answered Question.Mechanism (Asked.Mechanism name)
         (A.allows provider.now) (A.allows provider.now) auths.old.list auths.new.list) }
     ensures err { OnErr result
-        (Unanswered (Question.Mechanism ∷ []) (A.allows provider.now) auths.old.list auths.new.list) }
+        (Unanswered (λ _. Question.Mechanism ∷ []) (A.allows provider.now) auths.old.list auths.new.list) }
 {
     auths.reserve()?;
     let name = provider.mechanism()?;
@@ -41,7 +41,7 @@ pub fn ask_starter<A: AuthProvider>(
     ensures ok { IfOk result (λ answer. Answered Question.Starter (Asked.Starter answer)
         (A.allows provider.old) (A.allows provider.new) auths.old.list auths.new.list) }
     ensures err { OnErr result
-        (Unanswered (Question.Starter ∷ []) (A.allows provider.old) auths.old.list auths.new.list) }
+        (Unanswered (λ _. Question.Starter ∷ []) (A.allows provider.old) auths.old.list auths.new.list) }
     ensures counted { IfOk result
         (λ answer. IfErr answer (λ _. Rose (A.refusals provider.old) (A.refusals provider.new))) }
     ensures never_falls { A.refusals provider.old ≤ A.refusals provider.new }
@@ -65,7 +65,7 @@ pub fn ask_challenge<A: AuthProvider>(
     ensures ok { IfOk result (λ answer. Answered (Question.Challenge challenge) (Asked.Challenge answer)
         (A.allows provider.old) (A.allows provider.new) auths.old.list auths.new.list) }
     ensures err { OnErr result
-        (Unanswered (Question.Challenge challenge ∷ []) (A.allows provider.old) auths.old.list auths.new.list) }
+        (Unanswered (λ _. Question.Challenge challenge ∷ []) (A.allows provider.old) auths.old.list auths.new.list) }
     ensures counted { IfOk result
         (λ answer. IfErr answer (λ _. Rose (A.refusals provider.old) (A.refusals provider.new))) }
     ensures never_falls { A.refusals provider.old ≤ A.refusals provider.new }
@@ -86,7 +86,7 @@ pub fn ask_valid_for<A: AuthProvider>(
     ensures ok { IfOk result (λ time. Answered Question.ValidFor (Asked.ValidFor time)
         (A.allows provider.now) (A.allows provider.now) auths.old.list auths.new.list) }
     ensures err { OnErr result
-        (Unanswered (Question.ValidFor ∷ []) (A.allows provider.now) auths.old.list auths.new.list) }
+        (Unanswered (λ _. Question.ValidFor ∷ []) (A.allows provider.now) auths.old.list auths.new.list) }
 {
     auths.reserve()?;
     let time = provider.valid_for();
@@ -105,7 +105,7 @@ pub fn ask_refresh<A: AuthProvider>(
     ensures ok { IfOk result (λ answer. Answered Question.Refresh (Asked.Refreshed answer)
         (A.allows provider.old) (A.allows provider.new) auths.old.list auths.new.list) }
     ensures err { OnErr result
-        (Unanswered (Question.Refresh ∷ []) (A.allows provider.old) auths.old.list auths.new.list) }
+        (Unanswered (λ _. Question.Refresh ∷ []) (A.allows provider.old) auths.old.list auths.new.list) }
     ensures counted { IfOk result
         (λ answer. IfErr answer (λ _. Rose (A.refusals provider.old) (A.refusals provider.new))) }
     ensures never_falls { A.refusals provider.old ≤ A.refusals provider.new }

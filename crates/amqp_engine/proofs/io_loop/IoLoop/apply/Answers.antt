@@ -10,6 +10,7 @@ use Rattle.amqp_engine.proofs.LeftUnread.{Applies-read}
 use Rattle.amqp_engine.proofs.TurnEnds.{applied-cause}
 use Rattle.amqp_engine.proofs.Faults.{applied-fault}
 use Rattle.amqp_engine.proofs.GoingOn.{applies-on}
+use Rattle.amqp_engine.proofs.Blaming.{blamed}
 use Rattle.amqp_engine.proofs.io_loop.IoLoop.apply.Goals as goal
 
 pub invariant_of-self-2 : goal.invariant_of-self-2
@@ -69,3 +70,11 @@ pub returns-in_err-apply-clause-legal : goal.returns-in_err-apply-clause-legal
 returns-in_err-apply-clause-legal g c ss running h =
     let P : Engine → Type 0 = λ x. has_ended x.talk ≡ false → HasSent x ss → GoesOnce c.args.told.at c.args.told.step c.args.bytes.now ss x c.apply.new.self (g.P.Port.log c.args.port.now) (g.P.Port.log c.apply.new.port) in
     subst P c.self.view_is (applies-on _ _ _ _ _ _ _ ss c.apply.ensures.turn.applies c.hold.ensures) running h
+
+pub returns-clause-refusal_counted : goal.returns-clause-refusal_counted
+returns-clause-refusal_counted g c text running h =
+    blamed c.self.inside.wire.talk c.apply.new.self.talk _ _ text c.apply.ensures.blames (ap (λ (x : Engine). has_ended x.talk) c.self.view_is ∙ running) h
+
+pub returns-in_err-apply-clause-refusal_counted : goal.returns-in_err-apply-clause-refusal_counted
+returns-in_err-apply-clause-refusal_counted g c text running h =
+    blamed c.self.inside.wire.talk c.apply.new.self.talk _ _ text c.apply.ensures.blames (ap (λ (x : Engine). has_ended x.talk) c.self.view_is ∙ running) h

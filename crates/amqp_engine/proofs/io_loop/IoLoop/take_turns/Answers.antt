@@ -32,6 +32,7 @@ turns-preserved g c =
       never_falls = omega (arith, c.turn.ensures.never_falls, i.never_falls);
       faults = omega (arith, c.turn.ensures.faults, i.faults);
       io_error_counted = λ fault running h counted. omega (arith, c.turn.ensures.io_error_counted fault h counted, i.faults);
+      refusal_counted = λ text running h. omega (arith, c.turn.ensures.refusal_counted text h, i.never_falls);
     }
 
 pub returns-after-turns-clause-turns : goal.returns-after-turns-clause-turns

@@ -1,7 +1,9 @@
 -- The turns so far lead from the beginning to here.
-use Rattle.std.proofs.Common.{◌≡◌, ◌≤◌, List, length, false, IsTrue, Some}
+use Rattle.std.proofs.Common.{◌≡◌, ◌≤◌, List, length, false, IsTrue, Some, Err}
+use Rattle.amqp_types.specs.declared.text.Text.{Text}
 use Rattle.amqp_session.specs.declared.io_fault.IoFault.{IoFault}
-use Rattle.amqp_session.specs.Talk.{has_ended}
+use Rattle.amqp_session.specs.declared.error.ErrorKind.TheVariants.{AuthProviderError}
+use Rattle.amqp_session.specs.Talk.{has_ended, end_of}
 use Rattle.amqp_engine.specs.Counts.{Rose}
 use Rattle.amqp_engine.specs.Causes.{fault_of, is_counted}
 use Rattle.amqp_engine.specs.Turn.{Turn, AreTold, exchanges, cut_of, Leads}
@@ -18,4 +20,6 @@ invariant-turns g l = record {
   faults : g.P.Port.faults l.fn.port ≤ g.P.Port.faults l.port;
   io_error_counted : (fault : IoFault) → has_ended l.fn.self.talk ≡ false → fault_of l.self.talk ≡ Some fault
       → IsTrue (is_counted fault) → Rose (g.P.Port.faults l.fn.port) (g.P.Port.faults l.port);
+  refusal_counted : (text : Text) → has_ended l.fn.self.talk ≡ false → end_of l.self.talk ≡ Some (Err (AuthProviderError text))
+      → Rose (g.A.AuthProvider.refusals l.fn.provider) (g.A.AuthProvider.refusals l.provider);
 }

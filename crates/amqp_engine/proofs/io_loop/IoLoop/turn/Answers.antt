@@ -9,6 +9,7 @@ use Rattle.amqp_engine.proofs.LeftUnread.{asks-read, Applies-read}
 use Rattle.amqp_engine.proofs.Running.{turns-of, take-written, length-written}
 use Rattle.amqp_engine.proofs.Faults.{applied-fault, counted-rose}
 use Rattle.amqp_engine.proofs.Over.{asks-running}
+use Rattle.amqp_engine.proofs.Blaming.{blamed}
 use Rattle.amqp_engine.proofs.io_loop.IoLoop.turn.Goals as goal
 
 pub returns-clause-turn : goal.returns-clause-turn
@@ -42,3 +43,9 @@ returns-clause-io_error_counted g c fault h counted =
     let running : has_ended c.ask.new.self.talk ≡ false = ap (λ (x : Engine). has_ended x.talk) asked ∙ asks-running c.args.self.now c.requires.running in
     counted-rose c.next-told.result.step c.ask.new.self.talk fault _ _ _ _ c.ask.ensures.faults c.next-told.ensures.faults c.apply.ensures.faults
     c.next-told.ensures.cause (applied-fault _ _ _ _ _ _ _ _ _ _ _ fault c.apply.ensures.turn running h) counted
+
+pub returns-clause-refusal_counted : goal.returns-clause-refusal_counted
+returns-clause-refusal_counted g c text h =
+    let asked = c.ask.ensures.engine ∙ ap asks c.self.view_is in
+    let running : has_ended c.ask.new.self.talk ≡ false = ap (λ (x : Engine). has_ended x.talk) asked ∙ asks-running c.args.self.now c.requires.running in
+    blamed c.ask.new.self.talk c.apply.new.self.talk _ _ text c.apply.ensures.blames running h

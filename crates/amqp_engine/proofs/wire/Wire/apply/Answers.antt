@@ -1,4 +1,4 @@
-use Rattle.std.proofs.Common.{◌≡◌, ◌∙◌, List, [], length, drop, false, true, Some, None, subst, ap, sym, refl, rules}
+use Rattle.std.proofs.Common.{◌≡◌, ◌∙◌, List, [], length, drop, false, true, Some, None, subst, ap, sym, refl, rules, arith}
 use Rattle.std.proofs.lemmas.List.{append-nil}
 use Rattle.amqp_session.specs.declared.auth.asked.Asked.{Asked}
 use Rattle.amqp_session.specs.Providers.{Allows}
@@ -13,6 +13,7 @@ use Rattle.amqp_engine.proofs.Applying.{applies-of, applies-over, refused-over, 
 use Rattle.amqp_engine.proofs.Over.{ended-closed, starve-over}
 use Rattle.amqp_session.proofs.Cases.{if_case, if-false, and-false}
 use Rattle.amqp_engine.proofs.Cases.{is_before-cut}
+use Rattle.amqp_engine.proofs.Blaming.{blames-then, blames-step, blames-starve, blames-writes}
 use Rattle.amqp_engine.proofs.wire.Wire.apply.Goals as goal
 
 pub take_step-requires-clause-apart : goal.take_step-requires-clause-apart
@@ -89,3 +90,32 @@ returns-clause-turn g c =
     (ap (λ (l : List Asked). reading (is_piece c.args.told.step) (step_part c.args.told.step c.args.bytes.now (begun at None l e))) (sym (append-nil h.answers)) ∙ h.leads None [] tt)
     (f.ok [] h.questions) tt (if_case (λ (x : Engine). x ≡ p'.engine) (has_ended e.talk) p'.engine p'.engine refl refl)
     (answered-all None h.questions h.answers h.asks.all) h.asks.allowed
+
+pub returns-then-has_ended-clause-blames : goal.returns-then-has_ended-clause-blames
+returns-then-has_ended-clause-blames g c =
+    let h = c.in_ok-take_step.ensures.ok in
+    blames-step c.args.told.at c.args.told.step c.args.bytes.now h.answers c.args.self.now c.take_step.new.self _ _ (h.engine c.args.bytes.now)
+
+pub returns-in-Err-write_all-clause-blames : goal.returns-in-Err-write_all-clause-blames
+returns-in-Err-write_all-clause-blames g c =
+    let r = c.in_default.ensures in
+    let at = c.args.told.at in
+    let n = c.read_step.new.parts in
+    let m = c.write_all.new.parts in
+    let x = c.read_step.new.self in
+    let y = c.write_all.new.self in
+    let written = blames-writes (making at (Some m) [] [] x n) (making at (Some m) [] [] y m) _ _ _ _ (g.A.AuthProvider.refusals c.read_step.new.provider) (g.A.AuthProvider.refusals c.read_step.new.provider) (c.in-Err-write_all.ensures.err [] []) in
+    blames-then c.args.self.now.talk x.talk c.cut-in-Err-write_all.new.self.talk _ _ _ r.never_falls (omega arith) r.blames
+    (blames-then x.talk y.talk c.cut-in-Err-write_all.new.self.talk _ _ _ (omega arith) (omega arith) written
+    (blames-starve at y c.cut-in-Err-write_all.new.self _ _ (ap (λ (e : Engine). e.talk) c.cut-in-Err-write_all.ensures)))
+
+pub returns-clause-blames : goal.returns-clause-blames
+returns-clause-blames g c =
+    let r = c.in_default.ensures in
+    let at = c.args.told.at in
+    let n = c.read_step.new.parts in
+    let m = c.write_all.new.parts in
+    let x = c.read_step.new.self in
+    let y = c.write_all.new.self in
+    let written = blames-writes (making at None [] [] x n) (making at None [] [] y m) _ _ _ _ (g.A.AuthProvider.refusals c.read_step.new.provider) (g.A.AuthProvider.refusals c.read_step.new.provider) (c.in_default-write_all.ensures.ok [] []) in
+    blames-then c.args.self.now.talk x.talk y.talk _ _ _ r.never_falls (omega arith) r.blames written

@@ -13,6 +13,7 @@ use Rattle.amqp_engine.proofs.Answering.{asks-none, asks-then, allowed-done, ans
 use Rattle.amqp_engine.proofs.Applying.{left-answers}
 use Rattle.amqp_engine.proofs.Reading.{read_one-shortens, read_one-starved, reading-cut}
 use Rattle.amqp_engine.proofs.Joining.{reading-more, read-kept}
+use Rattle.amqp_engine.proofs.Blaming.{blames-kept, blames-then}
 use Rattle.amqp_engine.proofs.wire.Wire.read_all.Goals as goal
 
 pub frames-init : goal.frames-init
@@ -32,6 +33,7 @@ frames-init g c =
       grows = omega arith;
       starved = refl;
       never_falls = omega arith;
+      blames = blames-kept c.args.self.now.talk c.args.self.now.talk _ _ refl;
     }
 
 pub frames-preserved : goal.frames-preserved
@@ -70,6 +72,7 @@ frames-preserved g c =
       grows = omega (arith, i.grows);
       starved = ap (λ (x : Engine). x.starved) after ∙ read_one-starved at f.answers e ∙ i.starved;
       never_falls = omega (arith, c.in_ok-read_next.ensures.never_falls, i.never_falls);
+      blames = blames-then c.args.self.now.talk e.talk c.read_next.new.self.talk _ _ _ i.never_falls c.in_ok-read_next.ensures.never_falls i.blames c.in_ok-read_next.ensures.blames;
     }
 
 pub frames-smaller : goal.frames-smaller
@@ -129,3 +132,15 @@ returns-in_err-read_next-clause-err g c =
       );
     } in
     search (rules, fact)
+
+pub returns-clause-blames : goal.returns-clause-blames
+returns-clause-blames g c =
+    let i = c.frames.invariant in
+    let f = c.in_ok-read_next.ensures in
+    blames-then c.args.self.now.talk c.frames.self.talk c.read_next.new.self.talk _ _ _ i.never_falls f.never_falls i.blames f.blames
+
+pub returns-in_err-read_next-clause-blames : goal.returns-in_err-read_next-clause-blames
+returns-in_err-read_next-clause-blames g c =
+    let i = c.frames.invariant in
+    let f = c.in_err-read_next.ensures in
+    blames-then c.args.self.now.talk c.frames.self.talk c.read_next.new.self.talk _ _ _ i.never_falls f.never_falls i.blames f.blames

@@ -3,7 +3,7 @@ use Rattle.std.proofs.Common.{◌≡◌, ◌+◌, ◌*◌, ◌≤◌, ℕ, true,
 use Rattle.amqp_session.specs.declared.auth.asked.Question.{Question}
 use Rattle.amqp_session.specs.declared.auth.asked.Asked.{Asked}
 use Rattle.amqp_engine.specs.Turn.{reading}
-use Rattle.amqp_engine.specs.Making.{making, keeps_unread, IsSettled, joined, Reaches, Heard}
+use Rattle.amqp_engine.specs.Making.{making, keeps_unread, IsSettled, joined, Reaches, Heard, Blames}
 use Rattle.amqp_engine.proofs.wire.Wire.read_all.Given as goal
 
 abbrev pub invariant-frames : goal.invariant-frames
@@ -19,6 +19,7 @@ invariant-frames g l = record {
   grows : l.fn.parts ≤ l.parts;
   starved : l.self.starved ≡ l.fn.self.starved;
   never_falls : g.A.AuthProvider.refusals l.fn.provider ≤ g.A.AuthProvider.refusals l.provider;
+  blames : Blames l.fn.self.talk l.self.talk (g.A.AuthProvider.refusals l.fn.provider) (g.A.AuthProvider.refusals l.provider);
 }
 
 abbrev pub decreases-frames : goal.decreases-frames

@@ -13,6 +13,7 @@ use Rattle.amqp_engine.specs.Making.{is_whole, RowHears}
 use Rattle.std.proofs.lemmas.List.{append-nil}
 use Rattle.amqp_session.proofs.Cases.{on-err}
 use Rattle.amqp_engine.proofs.Answering.{asks-none}
+use Rattle.amqp_engine.proofs.Blaming.{blames-other}
 use Rattle.amqp_engine.proofs.wire.Wire.read_next.Goals as goal
 
 -- what was read and is no whole frame stands at the front
@@ -84,4 +85,6 @@ returns-in_default g c =
       err = c.read_other-found.ensures.err;
       listed = on-err c.read_other-found.result ([], sym (append-nil list));
       never_falls = omega arith;
+      blames = blames-other c.args.at c.read_other-found.result e c.read_other-found.new.self read _ _ c.read_other-found.ensures.ok
+          c.read_other-found.ensures.held c.read_other-found.ensures.err (not-whole read c.in_default.not-Whole);
     }

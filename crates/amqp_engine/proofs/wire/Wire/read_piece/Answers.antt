@@ -7,11 +7,12 @@ use Rattle.amqp_session.specs.Changes.{present_at}
 use Rattle.amqp_session.specs.Links.{piece}
 use Rattle.amqp_engine.specs.Engine.{Engine, step_piece, settle, rule_at, can_read, starve_at}
 use Rattle.amqp_engine.specs.Turn.{reading}
-use Rattle.amqp_engine.specs.Making.{making, keeps_unread, IsSettled, joined, Broke}
+use Rattle.amqp_engine.specs.Making.{making, keeps_unread, IsSettled, joined, Broke, Blames}
 use Rattle.amqp_engine.proofs.Settling.{settle-settled}
 use Rattle.amqp_engine.proofs.Cases.{Reaches-less, true-from}
 use Rattle.amqp_engine.proofs.Applying.{starve_at-twice}
 use Rattle.amqp_engine.proofs.Joining.{joined-keeps, joined-size, piece-joined, slice-left, part-joined, all-read, starved-joined}
+use Rattle.amqp_engine.proofs.Blaming.{blames-then, blames-piece, blames-joined}
 use Rattle.amqp_engine.proofs.wire.Wire.read_piece.Goals as goal
 
 -- the engine that its bytes are to join
@@ -62,6 +63,9 @@ parts-preserved g c =
       some = omega (arith, i.some, f.grows);
       starved = f.starved ∙ ap (λ (x : Engine). x.starved) j'.engine ∙ joined-keeps (λ (x : Engine). x.starved) (λ x bytes. refl) (take n slice) e ∙ i.starved;
       never_falls = omega (arith, f.never_falls, i.never_falls);
+      blames = blames-then c.args.self.now.talk e.talk c.read_all.new.self.talk _ _ _ i.never_falls f.never_falls i.blames
+          (blames-then e.talk c.join-joined.new.self.talk c.read_all.new.self.talk _ _ _ (omega arith) f.never_falls
+          (blames-joined (take n slice) e c.join-joined.new.self _ _ j'.engine) f.blames);
     }
 
 shrinks : (b : Bool) (before now : ℕ) → now ≤ before → (b ≡ false → now < before) → now + 0 < before + (if b then 1 else 0)
@@ -166,4 +170,30 @@ parts-init g c =
       some = omega arith;
       starved = refl;
       never_falls = omega arith;
+      blames = subst (λ (y : Engine). Blames y.talk c.settle.new.self.talk (g.A.AuthProvider.refusals c.args.provider.now) (g.A.AuthProvider.refusals c.args.provider.now)) c.self.view_is
+          (blames-piece c.args.at i.session inside c.settle.new.self _ _ c.settle.ensures c.piece.ensures);
     }
+
+pub returns-then-joined-piece-clause-blames : goal.returns-then-joined-piece-clause-blames
+returns-then-joined-piece-clause-blames g c =
+    let i = c.parts.invariant in
+    let f = c.in_ok-read_all.ensures in
+    let e = c.parts.self in
+    let j = c.parts.joined in
+    let piece = c.args.piece.now in
+    let slice = take (length piece - j) (drop j piece) in
+    blames-then c.args.self.now.talk e.talk c.read_all.new.self.talk _ _ _ i.never_falls f.never_falls i.blames
+    (blames-then e.talk c.join-joined.new.self.talk c.read_all.new.self.talk _ _ _ (omega arith) f.never_falls
+    (blames-joined (take c.join-joined.result slice) e c.join-joined.new.self _ _ c.join-joined.ensures.engine) f.blames)
+
+pub returns-in_err-read_all-clause-blames : goal.returns-in_err-read_all-clause-blames
+returns-in_err-read_all-clause-blames g c =
+    let i = c.parts.invariant in
+    let f = c.in_err-read_all.ensures in
+    let e = c.parts.self in
+    let j = c.parts.joined in
+    let piece = c.args.piece.now in
+    let slice = take (length piece - j) (drop j piece) in
+    blames-then c.args.self.now.talk e.talk c.read_all.new.self.talk _ _ _ i.never_falls f.never_falls i.blames
+    (blames-then e.talk c.join-joined.new.self.talk c.read_all.new.self.talk _ _ _ (omega arith) f.never_falls
+    (blames-joined (take c.join-joined.result slice) e c.join-joined.new.self _ _ c.join-joined.ensures.engine) f.blames)

@@ -3,7 +3,7 @@ use Rattle.std.proofs.Common.{◌≡◌, ◌+◌, ◌-◌, ◌*◌, ◌≤◌, i
 use Rattle.amqp_session.specs.declared.auth.asked.Asked.{Asked}
 use Rattle.amqp_engine.specs.Engine.{can_read}
 use Rattle.amqp_engine.specs.Turn.{reading}
-use Rattle.amqp_engine.specs.Making.{making, keeps_unread, IsSettled, joined, Reaches, Heard}
+use Rattle.amqp_engine.specs.Making.{making, keeps_unread, IsSettled, joined, Reaches, Heard, Blames}
 use Rattle.amqp_engine.proofs.wire.Wire.read_piece.Given as goal
 
 abbrev pub invariant-parts : goal.invariant-parts
@@ -20,6 +20,7 @@ invariant-parts g l = record {
   some : 1 ≤ l.parts;
   starved : l.self.starved ≡ l.initial.self.starved;
   never_falls : g.A.AuthProvider.refusals l.fn.provider ≤ g.A.AuthProvider.refusals l.provider;
+  blames : Blames l.fn.self.talk l.self.talk (g.A.AuthProvider.refusals l.fn.provider) (g.A.AuthProvider.refusals l.provider);
 }
 
 -- bytes join, but where the buffer is full of what can be read

@@ -9,6 +9,7 @@ use Rattle.amqp_engine.specs.Making.{making, Broke}
 use Rattle.amqp_engine.proofs.Cases.{Reaches-less}
 use Rattle.amqp_engine.proofs.Applying.{starve_at-twice, step-read, step-refused, step-starved, piece-read}
 use Rattle.amqp_engine.proofs.Answering.{answered-none, paired-nothing}
+use Rattle.amqp_engine.proofs.Blaming.{blames-step, blames-starve}
 use Rattle.amqp_engine.proofs.wire.Wire.read_step.Goals as goal
 use Rattle.amqp_engine.proofs.wire.Wire.read_step.Goals.{else-is_piece-via-then-is_piece+else-is_open, else-is_piece-via-else-is_piece}
 
@@ -92,3 +93,12 @@ returns-in_err-parts-clause-err g c =
       leads = (ap (starve_at c.args.at 0) f.err ∙ starve_at-twice c.args.at 0 e, step-refused c.args.at c.args.step c.args.bytes.now more e f.refused);
     } in
     search (rules, fact, c.requires.parts)
+
+pub returns-clause-blames : goal.returns-clause-blames
+returns-clause-blames g c =
+    let h = c.in_ok-parts.ensures.ok in
+    blames-step c.args.at c.args.step c.args.bytes.now h.answers c.args.self.now c.take_step.new.self _ _ (h.engine c.args.bytes.now)
+
+pub returns-in_err-parts-clause-blames : goal.returns-in_err-parts-clause-blames
+returns-in_err-parts-clause-blames g c =
+    blames-starve c.args.at c.args.self.now c.take_step.new.self _ _ (ap (λ (x : Engine). x.talk) c.in_err-parts.ensures.err)

@@ -1,0 +1,333 @@
+-- When a new secret is asked for, and from which moment one is valid.
+use Rattle.std.proofs.Common.{◌≡◌, inl, inr, ◌-◌, ℕ, zero, suc, ◌&&◌, not, nat_le, Bool, true, false, if◌then◌else◌, List, [], ◌∷◌, Option, Some, None, Result, Ok, Err, is_some, All, Contains, refl, sym, ◌∙◌, arith}
+use Rattle.std.proofs.lemmas.Bool.Decides.{nat_tests}
+use Rattle.std.proofs.lemmas.List.Elements.{All-nil, All-cons, All-contains}
+use Rattle.amqp_frame.specs.declared.frame.Frame.{Frame}
+use Rattle.amqp_frame.specs.declared.frame.Frame.TheVariants.{ProtocolHeader, Method, Raw, Heartbeat}
+use Rattle.amqp_frame.specs.declared.frame.RawKind.{RawKind}
+use Rattle.amqp_frame.specs.declared.method.Method.{Method as AnyMethod}
+use Rattle.amqp_frame.specs.declared.method.Method.TheVariants.{Start, Secure, Tune, OpenOk, Close, CloseOk, Blocked, Unblocked, UpdateSecretOk, ChannelOpenOk, ChannelClose, ChannelCloseOk, ChannelFlow, ChannelFlowOk}
+use Rattle.amqp_frame.specs.RawMethods.{OtherMethod}
+use Rattle.amqp_outbox.specs.declared.item.Item.{Item}
+use Rattle.amqp_outbox.specs.declared.reply.Reply.TheVariants.{ChannelOpened, ChannelClosed, FlowDone, SecretDone, ConnectionClosed}
+use Rattle.amqp_outbox.specs.Queued.{awaited_promise}
+use Rattle.amqp_session.specs.declared.channels.Channel.{Channel}
+use Rattle.amqp_session.specs.declared.channels.Debt.{Debt}
+use Rattle.amqp_session.specs.declared.channels.Debt.TheVariants as debt
+use Rattle.amqp_session.specs.declared.state.ConnectionState.{ConnectionState}
+use Rattle.amqp_session.specs.declared.state.ConnectionState.TheVariants.{Connecting, Connected, Closing}
+use Rattle.amqp_session.specs.declared.state.ChannelState.{ChannelState}
+use Rattle.amqp_session.specs.declared.state.ChannelState.TheVariants as channel
+use Rattle.amqp_session.specs.declared.state.Phase.{Phase}
+use Rattle.amqp_session.specs.declared.state.Phase.TheVariants.{AwaitStart, AwaitTune, AwaitOpenOk}
+use Rattle.amqp_session.specs.declared.command.Cmd.{Cmd}
+use Rattle.amqp_session.specs.declared.command.Cmd.TheVariants.{OpenChannel, CloseChannel, CloseConnection, UpdateSecret, Send, Publish, Flow, DropChannel, DropConnection}
+use Rattle.amqp_session.specs.declared.misread.Misread.{Misread}
+use Rattle.amqp_session.specs.declared.error.ErrorKind.{ErrorKind}
+use Rattle.amqp_session.specs.declared.error.ErrorKind.TheVariants.{IOError, NoMemory, MissingHeartbeatError}
+use Rattle.amqp_session.specs.declared.io_fault.IoFault.TheVariants.{Refused}
+use Rattle.amqp_session.specs.declared.auth.asked.Question.{Question}
+use Rattle.amqp_session.specs.declared.auth.asked.Question.TheVariants as question
+use Rattle.amqp_session.specs.declared.auth.asked.Asked.{Asked}
+use Rattle.amqp_session.specs.declared.auth.asked.Asked.TheVariants as answer
+use Rattle.amqp_session.specs.Talk.{Talk, has_ended, is_open, is_asked, is_closing, acts, hears_on}
+use Rattle.amqp_session.specs.Channels.{channel_at}
+use Rattle.amqp_session.specs.Changes.{queue, lose, misplaced, fail}
+use Rattle.amqp_session.specs.Links.{dropped, linked, misread}
+use Rattle.amqp_session.specs.Handshake.{new_secret}
+use Rattle.amqp_session.specs.Violations.{channel_closed_with, misread_error}
+use Rattle.amqp_session.specs.ConnectionMethods.{connection_rule, connection_closed, secret_taken, started, challenged}
+use Rattle.amqp_session.specs.ChannelMethods.{heard_on, unawaited_channel_method, channel_opened, channel_closed, channel_flowed, channel_close_by, awaits_close_ok, remove_unless_owed, on_channel_flow, channel_rule, channel_method_by, channel_method, confirmed, is_select_ok, raw_by}
+use Rattle.amqp_session.specs.Frames.{is_of_a_channel, method_rule, frame_rule, closed_rule, on_frame}
+use Rattle.amqp_session.specs.Publishing.{method_frame, publish_frames}
+use Rattle.amqp_session.specs.Commands.{open_drawn, close_target, drop_target, flow_target, queue_secret, update_secret, too_long, unless_too_long, queue_send, send_target, body_limit, queue_publish, publish_target, command_rule}
+use Rattle.amqp_session.specs.Ticks.{is_connected, is_missed, is_due, missing_heartbeat, beat, asks_validity, has_expired, refresh, validity_told, tick, refresh_questions, secret_questions, tick_questions}
+use Rattle.amqp_session.specs.Writing.{next_within, committed_as, commit, overlong, end_overlong, next_frame}
+use Rattle.amqp_session.specs.Answers.{answer_of}
+use Rattle.amqp_session.specs.Secrets.{HasExpired, may_renew, refuses, IsSameSecret, IsSameOrNew, KeepsSecret}
+use Rattle.amqp_session.proofs.Heard.{start-case, secure-case}
+use Rattle.amqp_session.proofs.Keeping.{present-keeps, lost-keeps, taken-keeps}
+use Rattle.amqp_session.proofs.Cases.{if_case, if_by}
+
+-- ---- frames
+
+secret-taken : (o : Option (Option ℕ)) (t : Talk) → IsSameOrNew true t (secret_taken o t)
+secret-taken None t = inl refl
+secret-taken (Some None) t = inr (refl, refl)
+secret-taken (Some (Some number)) t = inl refl
+
+connection-closed-secret : (o : Option (Option ℕ)) (t : Talk) → IsSameSecret t (connection_closed o t)
+connection-closed-secret None t = refl
+connection-closed-secret (Some promise) t = refl
+
+started-secret : (mechanism : List ℕ) (said : Result (List ℕ) (List ℕ)) (t : Talk) → IsSameSecret t (started mechanism said t)
+started-secret mechanism (Ok response) t = refl
+started-secret mechanism (Err text) t = refl
+
+challenged-secret : (said : Result (List ℕ) (List ℕ)) (t : Talk) → IsSameSecret t (challenged said t)
+challenged-secret (Ok response) t = refl
+challenged-secret (Err text) t = refl
+
+connection-secret : (s : ConnectionState) (p : Phase) (m : AnyMethod) (answers : List Asked) (t : Talk) → IsSameOrNew (may_renew (Method 0 m)) t (connection_rule s p m answers t)
+connection-secret s p (Close code text class method) answers t = inl refl
+connection-secret s p (Blocked reason) answers t = inl refl
+connection-secret s p Unblocked answers t = inl refl
+connection-secret Closing p CloseOk answers t = inl (connection-closed-secret (awaited_promise 0 ConnectionClosed t.outbox) t)
+connection-secret Closing p m answers t = inl refl
+connection-secret Connecting AwaitStart (Start a b c d e) answers t = inl (start-case (IsSameSecret t) answers t refl (λ mechanism said. started-secret mechanism said t))
+connection-secret Connecting AwaitTune (Secure challenge) answers t = inl (secure-case (IsSameSecret t) answers t refl (λ said. challenged-secret said t))
+connection-secret Connecting AwaitTune (Tune a b c) answers t = inl refl
+connection-secret Connecting AwaitOpenOk OpenOk answers t = inr (refl, refl)
+connection-secret Connected p UpdateSecretOk answers t = secret-taken (awaited_promise 0 SecretDone t.outbox) t
+connection-secret held p m answers t = inl refl
+
+misplaced-secret : (e : ErrorKind) (t : Talk) → IsSameSecret t (misplaced e t)
+misplaced-secret e t = if_case (IsSameSecret t) (is_closing t.state) t (lose e t) refl refl
+
+unawaited-secret : (n : ℕ) (s : ChannelState) (m : AnyMethod) (t : Talk) → IsSameSecret t (unawaited_channel_method n s m t)
+unawaited-secret n channel.Closing m t = refl
+unawaited-secret n _ m t = refl
+
+opened-secret : (n : ℕ) (c : Channel) (o : Option (Option ℕ)) (t : Talk) → IsSameSecret t (channel_opened n c o t)
+opened-secret n c None t = unawaited-secret n c.state ChannelOpenOk t
+opened-secret n c (Some promise) t = refl
+
+owed-secret : (d : Debt) (n : ℕ) (t u : Talk) → IsSameSecret t u → IsSameSecret t (remove_unless_owed d n u)
+owed-secret debt.Owed n t u same = same
+owed-secret _ n t u same = same
+
+closed-secret : (n : ℕ) (c : Channel) (o : Option (Option ℕ)) (t : Talk) → IsSameSecret t (channel_closed n c o t)
+closed-secret n c None t = unawaited-secret n c.state ChannelCloseOk t
+closed-secret n c (Some promise) t = owed-secret c.debt n t _ refl
+
+flow-secret : (s : ChannelState) (n : ℕ) (c : Channel) (active : Bool) (t : Talk) → IsSameSecret t (on_channel_flow s n c active t)
+flow-secret channel.Closing n c active t = refl
+flow-secret _ n c active t = refl
+
+flowed-secret : (n : ℕ) (c : Channel) (active : Bool) (o : Option (Option ℕ)) (t : Talk) → IsSameSecret t (channel_flowed n c active o t)
+flowed-secret n c active None t = unawaited-secret n c.state (ChannelFlowOk active) t
+flowed-secret n c active (Some promise) t = refl
+
+server-close-secret : (d : Debt) (awaits : Bool) (n : ℕ) (e : ErrorKind) (c : Channel) (t : Talk) → IsSameSecret t (channel_close_by d awaits n e c t)
+server-close-secret debt.Nothing false n e c t = refl
+server-close-secret debt.Nothing true n e c t = refl
+server-close-secret _ awaits n e c t = refl
+
+channel-secret : (s : ConnectionState) (n : ℕ) (c : Channel) (m : AnyMethod) (t : Talk) → IsSameSecret t (channel_rule s n c m t)
+channel-secret Closing n c m t = refl
+channel-secret _ n c ChannelOpenOk t = opened-secret n c (awaited_promise n ChannelOpened t.outbox) t
+channel-secret _ n c ChannelCloseOk t = closed-secret n c (awaited_promise n ChannelClosed t.outbox) t
+channel-secret _ n c (ChannelClose code text class method) t = server-close-secret c.debt (awaits_close_ok n t) n (channel_closed_with code text) c t
+channel-secret _ n c (ChannelFlow active) t = flow-secret c.state n c active t
+channel-secret _ n c (ChannelFlowOk active) t = flowed-secret n c active (awaited_promise n FlowDone t.outbox) t
+channel-secret _ n c m t = unawaited-secret n c.state m t
+
+channel-by-secret : (o : Option Channel) (n : ℕ) (m : AnyMethod) (t : Talk) → IsSameSecret t (channel_method_by o n m t)
+channel-by-secret None n m t = misplaced-secret _ t
+channel-by-secret (Some c) n m t = channel-secret t.state n c m t
+
+raw-secret : (o : Option Channel) (n : ℕ) (kind : RawKind) (bytes : List ℕ) (t : Talk) → IsSameSecret t (raw_by o n kind bytes t)
+raw-secret None n kind bytes t = misplaced-secret _ t
+raw-secret (Some c) n kind bytes t = if_case (IsSameSecret t) (is_select_ok kind bytes) (confirmed n c t) t refl refl
+
+method-secret : (n : ℕ) (m : AnyMethod) (answers : List Asked) (t : Talk) → IsSameOrNew (may_renew (Method n m)) t (method_rule n m answers t)
+method-secret zero m answers t =
+    if_case (IsSameOrNew (may_renew (Method 0 m)) t) (is_of_a_channel m) (misplaced _ t) (connection_rule t.state t.phase m answers t)
+    (inl (misplaced-secret _ t)) (connection-secret t.state t.phase m answers t)
+method-secret (suc n) m answers t =
+    inl (if_case (IsSameSecret t) (is_of_a_channel m) (channel_method (suc n) m t) (misplaced _ t)
+    (channel-by-secret (heard_on t.state (channel_at (suc n) t)) (suc n) m t) (misplaced-secret _ t))
+
+rule-secret : (f : Frame) (answers : List Asked) (t : Talk) → IsSameOrNew (may_renew f) t (frame_rule f answers t)
+rule-secret (ProtocolHeader version) answers t = inl refl
+rule-secret Heartbeat answers t = inl refl
+rule-secret (Method n m) answers t = method-secret n m answers t
+rule-secret (Raw zero kind bytes) answers t = inl (misplaced-secret _ t)
+rule-secret (Raw (suc n) kind bytes) answers t = inl (raw-secret (heard_on t.state (channel_at (suc n) t)) (suc n) kind bytes t)
+
+closed-rule-secret : (f : Frame) (t : Talk) → IsSameSecret t (closed_rule f t)
+closed-rule-secret (Method zero (Blocked reason)) t = refl
+closed-rule-secret (Method zero Unblocked) t = refl
+closed-rule-secret f t = refl
+
+frame-secret : (f : Frame) (answers : List Asked) (t : Talk) → IsSameOrNew (may_renew f) t (on_frame f answers t)
+frame-secret f answers t =
+    if_case (IsSameOrNew (may_renew f) t) (acts t) (frame_rule f answers t) (if hears_on t then closed_rule f t else t)
+    (rule-secret f answers t) (inl (if_case (IsSameSecret t) (hears_on t) (closed_rule f t) t (closed-rule-secret f t) refl))
+
+-- ---- ticks
+
+-- what is due but the secret leaves what a secret goes by
+beat-keeps : {A : Type 0} (f : Talk → A) (t : Talk) → ((e : ErrorKind) (x : Talk) → f (lose e x) ≡ f x) → ((x : Talk) → f (record (queue 0 Heartbeat x) { last_write = x.present }) ≡ f x) → f (beat t) ≡ f t
+beat-keeps f t ends beats =
+    let x : Talk = missing_heartbeat t in
+    if_case (λ (y : Talk). f y ≡ f x) (is_due x) (record (queue 0 Heartbeat x) { last_write = x.present }) x (beats x) refl
+    ∙ if_case (λ (y : Talk). f y ≡ f t) (is_missed t) (lose MissingHeartbeatError t) t (ends MissingHeartbeatError t) refl
+
+refresh-secret : (time : Option ℕ) (later : List Asked) (t : Talk) → IsSameOrNew (refuses (answer.ValidFor time ∷ later)) t (refresh later t)
+refresh-secret time (answer.Refreshed (Err text) ∷ more) t = inr (refl, refl)
+refresh-secret time (answer.Refreshed (Ok secret) ∷ more) t = inl refl
+refresh-secret time _ t = inl refl
+
+told-secret : (answers : List Asked) (t : Talk) → IsSameOrNew (refuses answers) t (validity_told answers t)
+told-secret (answer.ValidFor time ∷ later) t =
+    if_case (IsSameOrNew (refuses (answer.ValidFor time ∷ later)) t) (has_expired time t) (refresh later t) t (refresh-secret time later t) (inl refl)
+told-secret _ t = inl refl
+
+tick-secret : (answers : List Asked) (t : Talk) → IsSameOrNew (refuses answers) t (tick answers t)
+tick-secret answers t =
+    let x : Talk = beat t in
+    let secret : x.secret_at ≡ t.secret_at = beat-keeps (λ (y : Talk). y.secret_at) t (λ e y. refl) (λ y. refl) in
+    let present : x.present ≡ t.present = beat-keeps (λ (y : Talk). y.present) t (λ e y. refl) (λ y. refl) in
+    elim (if_case (IsSameOrNew (refuses answers) x) (asks_validity x) (validity_told answers x) x (told-secret answers x) (inl refl)) [
+      | inl same ↦ inl (same ∙ secret)
+      | inr new ↦ inr (new.0, new.1 ∙ present)
+    ]
+
+-- ---- commands
+
+drawn-secret : (o : Option ℕ) (first : ℕ) (t : Talk) → IsSameSecret t (open_drawn o first t)
+drawn-secret None first t = refl
+drawn-secret (Some n) first t = refl
+
+close-secret : (r : Result Channel ErrorKind) (n code : ℕ) (text : List ℕ) (t : Talk) → IsSameSecret t (close_target r n code text t)
+close-secret (Err e) n code text t = refl
+close-secret (Ok c) n code text t = refl
+
+flow-target-secret : (r : Result Channel ErrorKind) (n : ℕ) (active : Bool) (t : Talk) → IsSameSecret t (flow_target r n active t)
+flow-target-secret (Err e) n active t = refl
+flow-target-secret (Ok c) n active t = refl
+
+drop-secret : (r : Result Channel ErrorKind) (n : ℕ) (t : Talk) → IsSameSecret t (drop_target r n t)
+drop-secret (Err e) n t = refl
+drop-secret (Ok c) n t = refl
+
+unless-secret : (o : Option Frame) (rule : Talk → Talk) (t : Talk) → IsSameSecret t (rule t) → IsSameSecret t (unless_too_long o rule t)
+unless-secret None rule t same = same
+unless-secret (Some frame) rule t same = refl
+
+send-secret : (r : Result Channel ErrorKind) (n : ℕ) (m : OtherMethod) (t : Talk) → IsSameSecret t (send_target r n m t)
+send-secret (Err e) n m t = refl
+send-secret (Ok c) n m t =
+    let frame = method_frame n m in
+    unless-secret (too_long (frame ∷ []) t) (queue_send n frame) t refl
+
+update-secret : (secret reason : List ℕ) (t : Talk) → IsSameSecret t (update_secret secret reason t)
+update-secret secret reason t =
+    let frame = new_secret secret reason in
+    unless-secret (too_long (frame ∷ []) t) (queue_secret frame) t refl
+
+publish-secret : (r : Result Channel ErrorKind) (n : ℕ) (m : OtherMethod) (properties body : List ℕ) (t : Talk) → IsSameSecret t (publish_target r n m properties body t)
+publish-secret (Err e) n m properties body t = refl
+publish-secret (Ok c) n m properties body t =
+    let frames = publish_frames n m properties body (body_limit t) in
+    unless-secret (too_long frames t) (queue_publish n frames) t refl
+
+command-secret : (s : ConnectionState) (c : Cmd) (t : Talk) → IsSameSecret t (command_rule s c t)
+command-secret Connected OpenChannel t = drawn-secret _ _ t
+command-secret Connected (CloseChannel r code text) t = close-secret _ r.id code text t
+command-secret Connected (CloseConnection code text) t = refl
+command-secret Connected (UpdateSecret secret reason) t = update-secret secret reason t
+command-secret Connected (Send r method) t = send-secret _ r.id method t
+command-secret Connected (Publish r method properties body) t = publish-secret _ r.id method properties body t
+command-secret Connected (Flow r active) t = flow-target-secret _ r.id active t
+command-secret Connected (DropChannel r) t = drop-secret _ r.id t
+command-secret Connected DropConnection t = refl
+command-secret _ (DropChannel r) t = refl
+command-secret _ DropConnection t = refl
+command-secret _ c t = refl
+
+-- ---- what else happens
+
+committed-secret : (o : Option Item) (t : Talk) → IsSameSecret t (committed_as o t)
+committed-secret None t = refl
+committed-secret (Some item) t = refl
+
+overlong-secret : (o : Option ℕ) (t : Talk) → IsSameSecret t (end_overlong o t)
+overlong-secret None t = refl
+overlong-secret (Some size) t = refl
+
+next-secret : (space : ℕ) (t : Talk) → IsSameSecret t (next_frame space t)
+next-secret space t = overlong-secret (overlong t) (commit space t) ∙ committed-secret (next_within space t) t
+
+misread-secret : (why : Misread) (t : Talk) → IsSameSecret t (misread why t)
+misread-secret why t =
+    if_case (IsSameSecret t) (acts t) (lose (misread_error why) t) (if is_open t then record t { input = dropped t.input } else t) refl
+    (if_case (IsSameSecret t) (is_open t) (record t { input = dropped t.input }) t refl refl)
+
+linked-secret : (t : Talk) → IsSameSecret t (linked t)
+linked-secret t = if_case (IsSameSecret t) (is_asked t) _ t refl refl
+
+pub keeps-secret : (t : Talk) → KeepsSecret t
+keeps-secret t = record {
+  frame = λ f answers. frame-secret f answers t;
+  tick = λ answers. tick-secret answers t;
+  moment = λ at. present-keeps (λ (x : Talk). x.secret_at) at t (λ n. refl);
+  asked = refl;
+  linked = linked-secret t;
+  link_failed = if_case (IsSameSecret t) (is_asked t) (fail (IOError Refused) t) t refl refl;
+  piece = if_case (IsSameSecret t) (is_open t) (record t { last_read = t.present }) t refl refl;
+  misread = λ why. misread-secret why t;
+  lost = λ fault. lost-keeps (λ (x : Talk). x.secret_at) (λ x s l cs ps. refl) fault t;
+  next_frame = λ space. next-secret space t;
+  taken = λ n. taken-keeps (λ (x : Talk). x.secret_at) (record { ends = λ x s l cs ps. refl; writes = λ x w ms. refl; moments = λ x n. refl }) n t;
+  starve = if_case (IsSameSecret t) (has_ended t) t (fail NoMemory t) refl refl;
+  command = λ cmd. command-secret t.state cmd t;
+  answer = λ number. if_case (IsSameSecret t) (is_some (answer_of number t)) _ t refl refl;
+  frames = λ opened. refl;
+}
+
+-- ---- when a new secret is asked for
+
+connected-idle : (s : ConnectionState) (b : Bool) → (is_connected s && not b) ≡ true → (s ≡ Connected) × (b ≡ false)
+connected-idle Connected false h = (refl, refl)
+connected-idle Connected true h = cc
+connected-idle _ b h = cc
+
+-- an open connection was open before what is due but the secret
+beat-connected : (t : Talk) → (beat t).state ≡ Connected → t.state ≡ Connected
+beat-connected t h =
+    let x : Talk = missing_heartbeat t in
+    let due : (beat t).state ≡ x.state = if_case (λ (y : Talk). y.state ≡ x.state) (is_due x) (record (queue 0 Heartbeat x) { last_write = x.present }) x refl refl in
+    if_case (λ (y : Talk). y.state ≡ Connected → t.state ≡ Connected) (is_missed t) (lose MissingHeartbeatError t) t (λ over. cc) (λ same. same) (sym due ∙ h)
+
+-- each question for a new secret is one where the secret has expired
+abbrev AsksWhenExpired : List Asked → Talk → Question → Type 0
+AsksWhenExpired answers t asked = asked ≡ question.Refresh → HasExpired answers t
+
+expired-by : (answers : List Asked) (x : Talk) → asks_validity x ≡ true → All (AsksWhenExpired answers x) (refresh_questions answers x)
+expired-by (answer.ValidFor (Some time) ∷ later) x asks =
+    let P : Question → Type 0 = AsksWhenExpired (answer.ValidFor (Some time) ∷ later) x in
+    let idle = connected-idle x.state x.refreshing asks in
+    if_by (All P) (nat_le time (x.present - x.secret_at)) (question.Refresh ∷ []) []
+    (λ gone. All-cons P question.Refresh []
+    (λ is. record { opened = idle.0; idle = idle.1; time = time; later = later; told = refl; gone = grind (arith, nat_tests) }) (All-nil P))
+    (λ valid. All-nil P)
+expired-by (answer.ValidFor None ∷ later) x asks = All-nil _
+expired-by _ x asks = All-nil _
+
+asks-by : (answers : List Asked) (x : Talk) → All (AsksWhenExpired answers x) (secret_questions answers x)
+asks-by answers x =
+    let P : Question → Type 0 = AsksWhenExpired answers x in
+    if_by (All P) (asks_validity x) (question.ValidFor ∷ refresh_questions answers x) []
+    (λ asks. All-cons P question.ValidFor (refresh_questions answers x) (λ is. absurd (other is)) (expired-by answers x asks))
+    (λ idle. All-nil P)
+  where
+    other : question.ValidFor ≡ question.Refresh → ⊥
+    other is = cc
+
+pub asks-expired : (answers : List Asked) (t : Talk) → Contains (tick_questions answers t) question.Refresh → HasExpired answers t
+asks-expired answers t h =
+    let x : Talk = beat t in
+    let e : HasExpired answers x = All-contains (AsksWhenExpired answers x) (tick_questions answers t) question.Refresh (asks-by answers x) h refl in
+    let secret : x.secret_at ≡ t.secret_at = beat-keeps (λ (y : Talk). y.secret_at) t (λ e y. refl) (λ y. refl) in
+    let present : x.present ≡ t.present = beat-keeps (λ (y : Talk). y.present) t (λ e y. refl) (λ y. refl) in
+    let refreshing : x.refreshing ≡ t.refreshing = beat-keeps (λ (y : Talk). y.refreshing) t (λ e y. refl) (λ y. refl) in
+    record {
+      opened = beat-connected t e.opened;
+      idle = sym refreshing ∙ e.idle;
+      time = e.time;
+      later = e.later;
+      told = e.told;
+      gone = omega (arith, e.gone, secret, present);
+    }
