@@ -13,17 +13,16 @@ use Rattle.amqp_outbox.specs.Items.{size_of, plain}
 use Rattle.amqp_outbox.specs.Queued as queued
 use Rattle.amqp_outbox.specs.Queued.{Queued, waiting_items, after_next, only}
 use Rattle.amqp_session.specs.declared.state.Link.{Link}
-use Rattle.amqp_session.specs.declared.state.Link.TheVariants.{Wanted, Asked, Open, Ended}
+use Rattle.amqp_session.specs.declared.state.Link.TheVariants.{Due, Wanted, Asked, Open, Ended}
 use Rattle.amqp_session.specs.declared.command.Cmd.{Cmd}
 use Rattle.amqp_session.specs.declared.io_fault.IoFault.{IoFault}
-use Rattle.amqp_session.specs.declared.io_fault.IoFault.TheVariants.{Aborted, Refused, Reset, BrokenPipe}
+use Rattle.amqp_session.specs.declared.io_fault.IoFault.TheVariants.{Aborted, Reset, BrokenPipe}
 use Rattle.amqp_session.specs.declared.error.ErrorKind.{ErrorKind}
-use Rattle.amqp_session.specs.declared.error.ErrorKind.TheVariants.{IOError}
 use Rattle.amqp_session.specs.declared.misread.Misread.{Misread}
 use Rattle.amqp_session.specs.declared.misread.Misread.TheVariants as misreads
 use Rattle.amqp_session.specs.declared.auth.asked.Asked.{Asked as ProviderAnswer}
-use Rattle.amqp_session.specs.Talk.{Talk, has_ended, is_open, is_open_link, is_asked, is_asked_link, is_wanted_link, wants_link, end_of_link}
-use Rattle.amqp_session.specs.Changes.{present_at, fail}
+use Rattle.amqp_session.specs.Talk.{Talk, has_ended, is_open, is_open_link, is_asked, is_asked_link, end_of_link}
+use Rattle.amqp_session.specs.Changes.{present_at}
 use Rattle.amqp_session.specs.Handshake.{protocol_header}
 use Rattle.amqp_session.specs.Links.{asked, linked, link_failed, piece, misread, lost}
 use Rattle.amqp_session.specs.Frames.{on_frame}
@@ -44,11 +43,11 @@ use Rattle.amqp_engine.specs.Saying.{applied_sending}
 use Rattle.amqp_session.proofs.Cases.{if_case, if-true, if-false, and-true}
 use Rattle.amqp_engine.proofs.Cases.{and-left}
 use Rattle.amqp_engine.proofs.Settling.{settle-talk}
-use Rattle.amqp_session.proofs.Keeping.{LinkKept, present-keeps, starve-ends, keeps-frame, keeps-misread, keeps-tick, lost-link, taken-link, stays-command}
+use Rattle.amqp_session.proofs.Keeping.{LinkKept, lacks_link, kept-open, failed-link, present-keeps, starve-ends, keeps-frame, keeps-misread, keeps-tick, lost-link, taken-link, stays-command}
 use Rattle.amqp_engine.proofs.Commits.{commit_one-is, with_frame, commits-keep}
 use Rattle.amqp_engine.proofs.Sent.{on_last-append}
 use Rattle.amqp_engine.proofs.Over.{ended-closed}
-use Rattle.amqp_engine.proofs.LinkKept.{asked-open, kept-open}
+use Rattle.amqp_engine.proofs.LinkKept.{asked-open}
 use Rattle.amqp_engine.proofs.Sends.{all-front, all-push}
 use Rattle.amqp_engine.proofs.Lifting.{Small, applied_on, offers_on, lift-applied}
 
@@ -56,7 +55,7 @@ use Rattle.amqp_engine.proofs.Lifting.{Small, applied_on, offers_on, lift-applie
 
 -- of the frames committed on its link while it is open, and of the session while a link is wanted
 abbrev pub At : (Talk → Type 0) → (Talk → List Frame → Type 0) → Talk → List Frame → Type 0
-At I P t fs = (is_open t ≡ true → P t fs) × (wants_link t ≡ true → I t)
+At I P t fs = (is_open t ≡ true → P t fs) × (lacks_link t.link ≡ true → I t)
 
 -- a rule keeps it
 abbrev pub Keeps : (Talk → Type 0) → (Talk → List Frame → Type 0) → (Talk → Talk) → Type 0
@@ -85,17 +84,19 @@ pub record Rules (T : Cmd → Type 0) (L : List Frame → Type 0) (I : Talk → 
 
 -- ---- links
 
-open-wanted : (l : Link ErrorKind) → is_open_link l ≡ true → is_wanted_link l ≡ true → ⊥
-open-wanted Open h k = cc
-open-wanted Wanted h k = cc
-open-wanted Asked h k = cc
-open-wanted (Ended r) h k = cc
+open-lacks : (l : Link ErrorKind) → is_open_link l ≡ true → lacks_link l ≡ true → ⊥
+open-lacks (Due moment) h k = cc
+open-lacks Open h k = cc
+open-lacks Wanted h k = cc
+open-lacks Asked h k = cc
+open-lacks (Ended r) h k = cc
 
-asked-wanted : (l : Link ErrorKind) → is_asked_link l ≡ true → is_wanted_link l ≡ true
-asked-wanted Open h = cc
-asked-wanted Wanted h = refl
-asked-wanted Asked h = refl
-asked-wanted (Ended r) h = cc
+asked-lacks : (l : Link ErrorKind) → is_asked_link l ≡ true → lacks_link l ≡ true
+asked-lacks (Due moment) h = refl
+asked-lacks Open h = cc
+asked-lacks Wanted h = refl
+asked-lacks Asked h = refl
+asked-lacks (Ended r) h = cc
 
 -- a rule opens no link
 abbrev pub Opens : (Talk → Talk) → Type 0
@@ -108,7 +109,7 @@ opens-moment : (at : ℕ) → Opens (present_at at)
 opens-moment at t now = sym (present-keeps is_open at t (λ n. refl)) ∙ now
 
 opens-failed : Opens link_failed
-opens-failed t now = kept-open t (link_failed t) (if_case (LinkKept t) (is_asked t) (fail (IOError Refused) t) t (inr refl) (inl refl)) now
+opens-failed t now = kept-open t (link_failed t) (failed-link t) now
 
 opens-piece : Opens piece
 opens-piece t now = kept-open t (piece t) (if_case (LinkKept t) (is_open t) (record t { last_read = t.present }) t (inl refl) (inl refl)) now
@@ -207,13 +208,14 @@ module _ (T : Cmd → Type 0) (L : List Frame → Type 0) (I : Talk → Type 0) 
   kept-ended : (b : Bool) (t : Talk) (ss : List Sending) → AllByRecursion Holds ss → has_ended t ≡ true → Kept b t ss
   kept-ended b t ss all ended =
       let closed : is_open t ≡ false = ended-closed t.link ended in
-      record { all = all; committed = []; now = ((λ o. absurd cc), (λ w. absurd (wanted-ended t.link ended w))); last = λ o. absurd cc; some = λ o. absurd cc }
+      record { all = all; committed = []; now = ((λ o. absurd cc), (λ w. absurd (lacking-ended t.link ended w))); last = λ o. absurd cc; some = λ o. absurd cc }
     where
-      wanted-ended : (l : Link ErrorKind) → is_some (end_of_link l) ≡ true → is_wanted_link l ≡ true → ⊥
-      wanted-ended Open h w = cc
-      wanted-ended Wanted h w = cc
-      wanted-ended Asked h w = cc
-      wanted-ended (Ended r) h w = cc
+      lacking-ended : (l : Link ErrorKind) → is_some (end_of_link l) ≡ true → lacks_link l ≡ true → ⊥
+      lacking-ended (Due moment) h w = cc
+      lacking-ended Open h w = cc
+      lacking-ended Wanted h w = cc
+      lacking-ended Asked h w = cc
+      lacking-ended (Ended r) h w = cc
 
   kept-frame : (f : Frame) (answers : List ProviderAnswer) (fs : List Frame) (t : Talk) (ss : List Sending) → (h : Kept false t ss) → h.committed ≡ fs → is_open t ≡ true
       → Kept false (on_frame f answers t) ss
@@ -270,7 +272,7 @@ module _ (T : Cmd → Type 0) (L : List Frame → Type 0) (I : Talk → Type 0) 
       let opened : is_open y ≡ true = ap is_open (if-true (is_asked t) _ t asked_t) in
       let outbox : y.outbox ≡ only (plain 0 protocol_header) = ap (λ (z : Talk). z.outbox) (if-true (is_asked t) _ t asked_t) in
       let writable : y.blocked ≡ false = ap (λ (z : Talk). z.blocked) (if-true (is_asked t) _ t asked_t) in
-      let waits : I t = (kept-moment false at e.talk ss kept).now.1 (asked-wanted t.link asked_t) in
+      let waits : I t = (kept-moment false at e.talk ss kept).now.1 (asked-lacks t.link asked_t) in
       let said : P y [] = k.linked t asked_t waits in
       let capacity : y.capacity ≡ t.capacity = ap (λ (z : Talk). z.capacity) (if-true (is_asked t) _ t asked_t) in
       let room : 8 ≤ y.capacity = (let N : ℕ → Type 0 = λ n. 8 ≤ n in subst N (sym capacity) (k.room t waits)) in
@@ -282,7 +284,7 @@ module _ (T : Cmd → Type 0) (L : List Frame → Type 0) (I : Talk → Type 0) 
         record {
           all = all-push Holds ss nothing_sent kept.all k.none;
           committed = [];
-          now = ((λ o. said), (λ w. absurd (open-wanted y.link opened w)));
+          now = ((λ o. said), (λ w. absurd (open-lacks y.link opened w)));
           last = λ o. (ss, nothing_sent, refl, refl);
           some = λ o. tt;
         },
@@ -379,7 +381,7 @@ module _ (T : Cmd → Type 0) (L : List Frame → Type 0) (I : Talk → Type 0) 
       record {
         all = subst A (sym same) (all-push Holds l.0 s' front legal);
         committed = fs;
-        now = ((λ o. said), (λ w. absurd (open-wanted x.talk.link (commits-open e ∙ opened) w)));
+        now = ((λ o. said), (λ w. absurd (open-lacks x.talk.link (commits-open e ∙ opened) w)));
         last = λ o. (l.0, s', same, is);
         some = λ o. some;
       }

@@ -22,7 +22,7 @@ use Rattle.amqp_session.specs.Violations.{stray_channel_frame}
 use Rattle.amqp_session.specs.Changes.{misplaced, present_at}
 use Rattle.amqp_session.specs.ConnectionMethods.{on_start, on_secure, connection_rule}
 use Rattle.amqp_session.specs.Frames.{is_of_a_channel, method_questions, questions_in, frame_questions, frame_rule, closed_rule, on_frame}
-use Rattle.amqp_session.specs.Ticks.{beat, asks_validity, has_expired, refresh, refresh_questions, validity_told, tick, tick_questions}
+use Rattle.amqp_session.specs.Ticks.{beat, asks_validity, has_expired, refresh, refresh_questions, validity_told, link_due, tick, tick_questions}
 use Rattle.amqp_engine.specs.declared.port.Step.{Step}
 use Rattle.amqp_engine.specs.declared.port.Step.TheVariants.{Tick}
 use Rattle.amqp_engine.specs.Plan.{at_most_64}
@@ -138,7 +138,7 @@ validity-first (x ∷ xs) (y ∷ ys) t h =
     subst (λ (z : Asked). SameValidity t (x ∷ xs) (z ∷ ys)) same (validity-head x xs ys t rest)
 
 tick-first : (xs ys : List Asked) (t : Talk) → Alike (length (tick_questions xs t)) xs ys → (tick ys t ≡ tick xs t) × (tick_questions ys t ≡ tick_questions xs t)
-tick-first xs ys t h = by (asks_validity x) h
+tick-first xs ys t h = (let k = by (asks_validity x) h in (ap link_due k.0, k.1))
   where
     x : Talk
     x = beat t

@@ -16,7 +16,8 @@ use Rattle.amqp_engine.specs.Tell.{Runs, Applies, turn_of, offers_of, log_offers
 use Rattle.amqp_engine.specs.Sending.{Sending, step_sending, sendings_from}
 use Rattle.amqp_engine.specs.Saying.{HasSent, new, asked, applies, told, answer_taken, frames_taken, applied_sending, TellsLinks, GoesOn, GoesOnce, SpellLegal}
 use Rattle.amqp_session.proofs.Cases.{if_case}
-use Rattle.amqp_engine.proofs.LinkKept.{Leaves, kept-open}
+use Rattle.amqp_engine.proofs.LinkKept.{Leaves}
+use Rattle.amqp_session.proofs.Keeping.{kept-open}
 use Rattle.amqp_engine.proofs.Sends as sending
 use Rattle.amqp_engine.proofs.Sends.{Sends, sends-left, sends-asks}
 use Rattle.amqp_engine.proofs.LinkTold as telling

@@ -1,10 +1,10 @@
 -- No turn leaves a whole frame unread.
-use Rattle.std.proofs.Common.{◌≡◌, ℕ, ◌&&◌, not, if◌then◌else◌, Bool, true, false, IsTrue, List, [], drop, Option, Result, ◌⊎◌, inl, inr, Some, refl, ap, sym, ◌∙◌, subst, rules, min}
+use Rattle.std.proofs.Common.{◌≡◌, ℕ, ◌&&◌, not, if◌then◌else◌, Bool, true, false, IsTrue, List, [], drop, Option, Some, None, Result, ◌⊎◌, inl, inr, refl, ap, sym, ◌∙◌, subst, rules, min}
 use Rattle.amqp_frame.specs.declared.frame.Read.{Read}
 use Rattle.amqp_frame.specs.declared.frame.Read.TheVariants.{Whole, More, TooLarge, BadHeartbeat, Bad, NoMemory}
 use Rattle.amqp_frame.specs.FrameReading.{front}
 use Rattle.amqp_session.specs.declared.state.Link.{Link}
-use Rattle.amqp_session.specs.declared.state.Link.TheVariants.{Wanted, Asked, Open, Ended}
+use Rattle.amqp_session.specs.declared.state.Link.TheVariants.{Due, Wanted, Asked, Open, Ended}
 use Rattle.amqp_session.specs.declared.io_fault.IoFault.TheVariants.{Aborted, Reset, BrokenPipe}
 use Rattle.amqp_session.specs.declared.command.Answer.{Answer}
 use Rattle.amqp_session.specs.declared.error.ErrorKind.{ErrorKind}
@@ -12,8 +12,8 @@ use Rattle.amqp_session.specs.declared.auth.asked.Asked.{Asked as ProviderAnswer
 use Rattle.amqp_session.specs.Talk.{Talk, is_open, is_open_link, is_asked, has_ended, drops_input}
 use Rattle.amqp_session.specs.declared.configuration.Configuration.{Configuration}
 use Rattle.amqp_session.specs.Negotiation.{frame_limit, wish_or}
-use Rattle.amqp_session.specs.Changes.{present_at, fail, starve}
-use Rattle.amqp_session.specs.Links.{asked, asked_link, linked, link_failed, lost}
+use Rattle.amqp_session.specs.Changes.{present_at, starve}
+use Rattle.amqp_session.specs.Links.{asked, asked_link, linked, next_delay, refused_after, link_failed, lost}
 use Rattle.amqp_session.specs.Commands.{command}
 use Rattle.amqp_session.specs.Ticks.{tick}
 use Rattle.amqp_session.specs.Writing.{end_overlong, taken}
@@ -67,6 +67,7 @@ closed-read e h opened =
     absurd (let no : IsTrue false = subst P h opened in search rules)
 
 asked-open : (l : Link ErrorKind) → is_open_link (asked_link l) ≡ is_open_link l
+asked-open (Due moment) = refl
 asked-open Wanted = refl
 asked-open Asked = refl
 asked-open Open = refl
@@ -132,8 +133,17 @@ rule-read at f h e k =
       | inr ended ↦ closed-read (rule_at at f e) (ended-closed (f t).link ended)
     ])
 
-link_failed-stays : (t : Talk) → (link_failed t ≡ t) ⊎ (has_ended (link_failed t) ≡ true)
-link_failed-stays t = if_case (λ (x : Talk). (x ≡ t) ⊎ (has_ended x ≡ true)) (is_asked t) (fail _ t) t (inr refl) (inl refl)
+-- a link that is refused is not open
+refused-closed : (delay : Option ℕ) (t : Talk) → is_open (refused_after delay t) ≡ false
+refused-closed (Some delay) t = refl
+refused-closed None t = refl
+
+failed-read : (at : ℕ) (e : Engine) → IsRead e → IsRead (settle (rule_at at link_failed e))
+failed-read at e h =
+    let t = present_at at e.talk in
+    let x : Talk = refused_after (next_delay t) t in
+    settle-read (rule_at at link_failed e)
+    (if_case (λ (y : Talk). IsRead (record e { talk = y })) (is_asked t) x t (closed-read (record e { talk = x }) (refused-closed (next_delay t) t)) (moment-read at e h))
 
 linked-read : (at : ℕ) (e : Engine) → IsRead e → IsRead (step_linked at e)
 linked-read at e h =
@@ -150,12 +160,12 @@ tick-read at answers e h =
     let limit : frame_limit x.talk ≡ frame_limit t = tick-keeps frame_limit (λ y s l cs ps. refl) (λ y q n m b. refl) answers t in
     settle-read x (elim (keeps-tick answers t).link [
       | inl same ↦ same-read here x (ap is_open_link same) refl limit (moment-read at e h)
-      | inr ended ↦ closed-read x (ended-closed x.talk.link ended)
+      | inr off ↦ closed-read x off.opened
     ])
 
 step-read : (at : ℕ) (step : Step) (bytes : List ℕ) (answers : List ProviderAnswer) (e : Engine) → is_piece step ≡ false → IsRead e → IsRead (step_engine at step bytes answers e)
 step-read at Linked bytes answers e piece h = linked-read at e h
-step-read at LinkFailed bytes answers e piece h = rule-read at link_failed link_failed-stays e h
+step-read at LinkFailed bytes answers e piece h = failed-read at e h
 step-read at (Piece n) bytes answers e piece h = cc
 step-read at End bytes answers e piece h = rule-read at (lost Aborted) (lost-stays Aborted) e h
 step-read at Fault bytes answers e piece h = rule-read at (lost Reset) (lost-stays Reset) e h
@@ -172,7 +182,7 @@ took-read at k e h =
     taken-keeps frame_limit (record { ends = λ y s l cs ps. refl; writes = λ y w ms. refl; moments = λ y n. refl }) k t in
     settle-read x (elim (taken-link k t) [
       | inl same ↦ same-read here x (ap is_open_link same) refl limit (moment-read at e h)
-      | inr ended ↦ closed-read x (ended-closed x.talk.link ended)
+      | inr off ↦ closed-read x off.opened
     ])
 
 wrote-read : (at : ℕ) (w : Wrote) (e : Engine) → IsRead e → IsRead (wrote at w e)

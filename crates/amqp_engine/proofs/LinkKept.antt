@@ -1,19 +1,18 @@
 -- What a step, the reading of a frame and a write leave of the link, and of what is to be sent on it.
-use Rattle.std.proofs.Common.{◌≡◌, inl, inr, ℕ, ◌+◌, ◌==◌, if◌then◌else◌, true, false, List, [], ◌++◌, drop, is_some, refl, ap, sym, ◌∙◌, subst}
+use Rattle.std.proofs.Common.{◌≡◌, inl, ℕ, ◌+◌, ◌==◌, if◌then◌else◌, true, false, List, [], ◌++◌, drop, refl, ap, sym, ◌∙◌, subst}
 use Rattle.amqp_frame.specs.declared.frame.Read.{Read}
 use Rattle.amqp_frame.specs.declared.frame.Read.TheVariants.{Whole, More, TooLarge, BadHeartbeat, Bad, NoMemory as ReadNoMemory}
 use Rattle.amqp_session.specs.declared.error.ErrorKind.{ErrorKind}
 use Rattle.amqp_session.specs.declared.state.Link.{Link}
-use Rattle.amqp_session.specs.declared.state.Link.TheVariants.{Wanted, Asked, Open, Ended}
+use Rattle.amqp_session.specs.declared.state.Link.TheVariants.{Due, Wanted, Asked, Open, Ended}
 use Rattle.amqp_session.specs.declared.io_fault.IoFault.{IoFault}
-use Rattle.amqp_session.specs.declared.io_fault.IoFault.TheVariants.{Aborted, Refused, Reset, BrokenPipe}
-use Rattle.amqp_session.specs.declared.error.ErrorKind.TheVariants.{IOError}
+use Rattle.amqp_session.specs.declared.io_fault.IoFault.TheVariants.{Aborted, Reset, BrokenPipe}
 use Rattle.amqp_session.specs.declared.misread.Misread.{Misread}
 use Rattle.amqp_session.specs.declared.misread.Misread.TheVariants as misreads
 use Rattle.amqp_session.specs.declared.command.Cmd.{Cmd}
 use Rattle.amqp_session.specs.declared.auth.asked.Asked.{Asked as ProviderAnswer}
-use Rattle.amqp_session.specs.Talk.{Talk, is_open, is_open_link, is_asked, is_asked_link, end_of_link}
-use Rattle.amqp_session.specs.Changes.{present_at, fail}
+use Rattle.amqp_session.specs.Talk.{Talk, is_open, is_open_link, is_asked, is_asked_link}
+use Rattle.amqp_session.specs.Changes.{present_at}
 use Rattle.amqp_session.specs.Links.{asked_link, linked, link_failed, piece, misread, lost}
 use Rattle.amqp_session.specs.Frames.{on_frame}
 use Rattle.amqp_session.specs.Ticks.{tick}
@@ -29,33 +28,24 @@ use Rattle.amqp_session.specs.Writing.{frames_waiting}
 use Rattle.amqp_engine.specs.Turn.{answered}
 use Rattle.amqp_session.proofs.Cases.{if_case, if-false}
 use Rattle.amqp_engine.proofs.Settling.{settle-talk, settle-unsent}
-use Rattle.amqp_session.proofs.Keeping.{LinkKept, link-then, present-keeps, keeps-frame, keeps-misread, keeps-tick, stays-command, lost-keeps, lost-link, left_after, committed-taken, taken-link}
+use Rattle.amqp_session.proofs.Keeping.{LinkKept, link-then, kept-open, present-keeps, failed-keeps, failed-link, keeps-frame, keeps-misread, keeps-tick, stays-command, lost-keeps, lost-link, left_after, committed-taken, taken-link}
 use Rattle.amqp_engine.proofs.Commits.{commits-keep}
 
 -- ---- links
 
-open-not-ended : (l : Link ErrorKind) → is_open_link l ≡ true → is_some (end_of_link l) ≡ true → ⊥
-open-not-ended Open h k = cc
-open-not-ended Wanted h k = cc
-open-not-ended Asked h k = cc
-open-not-ended (Ended r) h k = cc
-
 pub asked-not-open : (l : Link ErrorKind) → is_asked_link l ≡ true → is_open_link l ≡ true → ⊥
 asked-not-open Open h k = cc
+asked-not-open (Due moment) h k = cc
 asked-not-open Wanted h k = cc
 asked-not-open Asked h k = cc
 asked-not-open (Ended r) h k = cc
 
 pub asked-open : (l : Link ErrorKind) → is_open_link (asked_link l) ≡ is_open_link l
+asked-open (Due moment) = refl
 asked-open Wanted = refl
 asked-open Asked = refl
 asked-open Open = refl
 asked-open (Ended r) = refl
-
--- the link stays, or the session ended; so no link is opened
-pub kept-open : (t t' : Talk) → LinkKept t t' → is_open t' ≡ true → is_open t ≡ true
-kept-open t t' (inl same) now = ap is_open_link (sym same) ∙ now
-kept-open t t' (inr ended) now = absurd (open-not-ended t'.link now ended)
 
 pub kept-present : (at : ℕ) (t : Talk) → LinkKept t (present_at at t)
 kept-present at t = inl (present-keeps (λ y. y.link) at t (λ n. refl))
@@ -97,8 +87,7 @@ leaves-failed : (at : ℕ) (e : Engine) → Leaves e (settle (rule_at at link_fa
 leaves-failed at e =
     let t = present_at at e.talk in
     leaves-settle e (rule_at at link_failed e) (leaves-rule at link_failed e
-    (if_case (LinkKept t) (is_asked t) (fail (IOError Refused) t) t (inr refl) (inl refl))
-    (if_case (λ (x : Talk). x.committed ≡ t.committed) (is_asked t) (fail (IOError Refused) t) t refl refl))
+    (failed-link t) (failed-keeps (λ y. y.committed) (λ t s l cs ps. refl) (λ t n. refl) t))
 
 leaves-lost : (at : ℕ) (fault : IoFault) (e : Engine) → Leaves e (settle (rule_at at (lost fault) e))
 leaves-lost at fault e =
@@ -190,7 +179,7 @@ written at Failed x opened now =
     let l = leaves-lost at BrokenPipe x now in
     record { committed = l.committed; unsent = l.unsent }
 
--- ---- the link stays, or the session ended
+-- ---- the link stays, or is off
 
 kept-settle : (t : Talk) (e : Engine) → LinkKept t e.talk → LinkKept t (settle e).talk
 kept-settle t e k = subst (LinkKept t) (sym (settle-talk e)) k

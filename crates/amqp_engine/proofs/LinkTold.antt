@@ -1,20 +1,20 @@
 -- What a port tells of its links is what was sent on them.
-use Rattle.std.proofs.Common.{◌≡◌, inl, inr, ℕ, ◌==◌, ◌&&◌, not, if◌then◌else◌, Bool, true, false, List, [], ◌∷◌, ◌++◌, length, take, map, is_some, Some, refl, ap, sym, ◌∙◌, subst, arith}
+use Rattle.std.proofs.Common.{◌≡◌, inl, inr, ℕ, ◌==◌, ◌&&◌, not, if◌then◌else◌, Bool, true, false, List, [], ◌∷◌, ◌++◌, length, take, map, is_some, Option, Some, None, ◌⊎◌, nat_le, Result, Ok, Err, refl, ap, sym, ◌∙◌, subst, arith}
 use Rattle.std.proofs.lemmas.Bool.Decides.{nat_tests}
 use Rattle.std.proofs.lemmas.List.{append-nil, map-append}
 use Rattle.amqp_session.specs.declared.error.ErrorKind.{ErrorKind}
 use Rattle.amqp_session.specs.declared.state.Link.{Link}
-use Rattle.amqp_session.specs.declared.state.Link.TheVariants.{Wanted, Asked, Open, Ended}
+use Rattle.amqp_session.specs.declared.state.Link.TheVariants.{Due, Wanted, Asked, Open, Ended}
 use Rattle.amqp_session.specs.declared.error.ErrorKind.TheVariants.{IOError}
 use Rattle.amqp_session.specs.declared.io_fault.IoFault.{IoFault}
-use Rattle.amqp_session.specs.declared.io_fault.IoFault.TheVariants.{Aborted, Refused, Reset}
+use Rattle.amqp_session.specs.declared.io_fault.IoFault.TheVariants.{Aborted, Reset}
 use Rattle.amqp_session.specs.Config.{Config}
 use Rattle.amqp_session.specs.declared.auth.asked.Asked.{Asked as ProviderAnswer}
 use Rattle.amqp_session.specs.Talk.{Talk, start, acts, is_acting, is_open, is_open_link, is_asked, is_asked_link, is_wanted_link, has_ended, end_of_link}
-use Rattle.amqp_session.specs.Changes.{present_at, fail, lose, finish}
-use Rattle.amqp_session.specs.Ticks.{tick}
+use Rattle.amqp_session.specs.Changes.{present_at, queue, lose, finish}
+use Rattle.amqp_session.specs.Ticks.{is_missed, is_due, missing_heartbeat, beat, refreshed, link_at, timed, tick}
 use Rattle.amqp_session.specs.Writing.{end_overlong}
-use Rattle.amqp_session.specs.Links.{asked, asked_link, linked, link_failed, piece, lost}
+use Rattle.amqp_session.specs.Links.{asked, asked_link, linked, next_delay, refused_after, link_failed, piece, lost}
 use Rattle.amqp_engine.specs.declared.port.Step.{Step}
 use Rattle.amqp_engine.specs.declared.port.Step.TheVariants.{Linked, LinkFailed, Piece, End, Fault, Room, Tick, Command}
 use Rattle.amqp_engine.specs.declared.port.Wrote.{Wrote}
@@ -25,9 +25,12 @@ use Rattle.amqp_engine.specs.Turn.{Turn, answers_of, Progress, asks, wants_ask, 
 use Rattle.amqp_engine.specs.Tell.{port_answer, offers_from, log_asks, log_offers, log_turns}
 use Rattle.amqp_engine.specs.Sending.{Sending, nothing_sent, link_bytes, offer_sending, offers_sending, step_sending, sendings_from, sendings}
 use Rattle.amqp_session.proofs.Cases.{if_case, if-true, if-false}
+use Rattle.amqp_session.proofs.Heard.{secret-case}
+use Rattle.amqp_frame.specs.declared.frame.Frame.TheVariants.{Heartbeat}
+use Rattle.amqp_session.specs.declared.error.ErrorKind.TheVariants.{MissingHeartbeatError}
 use Rattle.amqp_engine.proofs.Cases.{and-left}
 use Rattle.amqp_engine.proofs.Settling.{settle-talk}
-use Rattle.amqp_session.proofs.Keeping.{LinkKept, present-keeps, keeps-tick, stays-command, lost-link, starve-ends}
+use Rattle.amqp_session.proofs.Keeping.{LinkKept, present-keeps, stays-command, lost-link, starve-ends}
 use Rattle.amqp_engine.proofs.Over.{asks-end}
 use Rattle.amqp_engine.proofs.Sent.{on_last-append}
 use Rattle.amqp_engine.proofs.Agreeing.{offer-bytes}
@@ -37,10 +40,15 @@ use Rattle.amqp_engine.proofs.Lifting as lifting
 
 -- ---- whether a link is asked for
 
+both : (b : Bool) → b ≡ true → b ≡ false → ⊥
+both true h k = cc
+both false h k = cc
+
 abbrev pub IsSynced : Engine → Log → Type 0
 IsSynced e a = has_ended e.talk ≡ false → a.asked ≡ is_asked e.talk
 
 wanted-asked : (l : Link ErrorKind) → (is_wanted_link l && not (is_asked_link l)) ≡ true → is_asked_link (asked_link l) ≡ true
+wanted-asked (Due moment) h = cc
 wanted-asked Wanted h = refl
 wanted-asked Asked h = cc
 wanted-asked Open h = cc
@@ -64,27 +72,61 @@ linked-asked false at e h =
     ap (λ (y : Engine). is_asked y.talk) (if-false (is_asked e.talk) _ (rule_at at (λ t. t) e) h) ∙ present-keeps is_asked at e.talk (λ n. refl) ∙ h
 
 -- a link that is asked for and refused is asked for no more
+refused-asked : (delay : Option ℕ) (t : Talk) → is_asked (refused_after delay t) ≡ false
+refused-asked (Some delay) t = refl
+refused-asked None t = refl
+
 failed-asked : (b : Bool) (t : Talk) → is_asked t ≡ b → is_asked (link_failed t) ≡ false
-failed-asked true t h = ap is_asked (if-true (is_asked t) (fail (IOError Refused) t) t h)
-failed-asked false t h = ap is_asked (if-false (is_asked t) (fail (IOError Refused) t) t h) ∙ h
+failed-asked true t h = ap is_asked (if-true (is_asked t) (refused_after (next_delay t) t) t h) ∙ refused-asked (next_delay t) t
+failed-asked false t h = ap is_asked (if-false (is_asked t) (refused_after (next_delay t) t) t h) ∙ h
 
 open-unasked : (l : Link ErrorKind) → is_open_link l ≡ true → is_asked_link l ≡ false
 open-unasked Open h = refl
+open-unasked (Due moment) h = cc
 open-unasked Wanted h = cc
 open-unasked Asked h = cc
 open-unasked (Ended r) h = cc
 
-ended-unasked : (l : Link ErrorKind) → is_some (end_of_link l) ≡ true → is_asked_link l ≡ false
-ended-unasked Wanted h = cc
-ended-unasked Asked h = cc
-ended-unasked Open h = cc
-ended-unasked (Ended r) h = refl
+open-goes : (l : Link ErrorKind) → is_open_link l ≡ true → is_some (end_of_link l) ≡ false
+open-goes Open h = refl
+open-goes _ h = cc
+
+-- what is due but a link leaves the link, or ends the session
+timed-link : (answers : List ProviderAnswer) (t : Talk) → ((timed answers t).link ≡ t.link) ⊎ (has_ended (timed answers t) ≡ true)
+timed-link answers t =
+    let P : Talk → Type 0 = λ y. (y.link ≡ t.link) ⊎ (has_ended y ≡ true) in
+    let x : Talk = missing_heartbeat t in
+    let after : P x = if_case P (is_missed t) (lose MissingHeartbeatError t) t (inr refl) (inl refl) in
+    let beaten : P (beat t) = if_case P (is_due x) (record (queue 0 Heartbeat x) { last_write = x.present }) x after after in
+    secret-case P answers (beat t) beaten (λ asks said. told said beaten)
+  where
+    told : (said : Result (List ℕ) (List ℕ)) → ((beat t).link ≡ t.link) ⊎ (has_ended (beat t) ≡ true)
+        → ((refreshed said (beat t)).link ≡ t.link) ⊎ (has_ended (refreshed said (beat t)) ≡ true)
+    told (Ok secret) h = h
+    told (Err text) h = h
+
+due-end : (now : ℕ) (l : Link ErrorKind) → is_some (end_of_link (link_at now l)) ≡ is_some (end_of_link l)
+due-end now (Due moment) = if_case (λ (l : Link ErrorKind). is_some (end_of_link l) ≡ false) (nat_le moment now) Wanted (Due moment) refl refl
+due-end now _ = refl
+
+due-asked : (now : ℕ) (l : Link ErrorKind) → is_asked_link (link_at now l) ≡ is_asked_link l
+due-asked now (Due moment) = if_case (λ (l : Link ErrorKind). is_asked_link l ≡ false) (nat_le moment now) Wanted (Due moment) refl refl
+due-asked now _ = refl
+
+-- time asks for no link, and lets none go that was asked for
+ticked-asked : (answers : List ProviderAnswer) (t : Talk) → has_ended (tick answers t) ≡ false → is_asked (tick answers t) ≡ is_asked t
+ticked-asked answers t on =
+    let x : Talk = timed answers t in
+    due-asked x.present x.link ∙ elim (timed-link answers t) [
+      | inl same ↦ ap is_asked_link same
+      | inr ended ↦ absurd (both (has_ended x) ended (sym (due-end x.present x.link) ∙ on))
+    ]
 
 lost-asked : (b : Bool) (fault : IoFault) (t : Talk) → is_open t ≡ b → is_asked (lost fault t) ≡ is_asked t
 lost-asked true fault t h =
     elim (lost-link fault t) [
       | inl same ↦ ap is_asked_link same
-      | inr ended ↦ ended-unasked (lost fault t).link ended ∙ sym (open-unasked t.link h)
+      | inr off ↦ off.asked ∙ sym (open-unasked t.link h)
     ]
 lost-asked false fault t h =
     ap is_asked (if-false (acts t) (lose (IOError fault) t) (if is_open t then finish t else t) (idle (is_open t) (is_acting t.input) h)
@@ -101,10 +143,6 @@ faulted-asked at fault e =
 
 piece-link : (t : Talk) → (piece t).link ≡ t.link
 piece-link t = if_case (λ (x : Talk). x.link ≡ t.link) (is_open t) (record t { last_read = t.present }) t refl refl
-
-both : (b : Bool) → b ≡ true → b ≡ false → ⊥
-both true h k = cc
-both false h k = cc
 
 step-asked : (at : ℕ) (step : Step) (bytes : List ℕ) (answers : List ProviderAnswer) (e : Engine) → has_ended (step_engine at step bytes answers e).talk ≡ false
     → is_asked (step_engine at step bytes answers e).talk ≡ asked_after step (is_asked e.talk)
@@ -123,18 +161,16 @@ step-asked at Room bytes answers e on = present-keeps is_asked at e.talk (λ n. 
 step-asked at Tick bytes answers e on =
     let t = present_at at e.talk in
     let after : Engine = rule_at at (tick answers) e in
-    ap is_asked (settle-talk after) ∙ elim (keeps-tick answers t).link [
-      | inl same ↦ ap is_asked_link same ∙ present-keeps is_asked at e.talk (λ n. refl)
-      | inr ended ↦ absurd (both (has_ended after.talk) ended (sym (ap has_ended (settle-talk after)) ∙ on))
-    ]
+    ap is_asked (settle-talk after) ∙ ticked-asked answers t (sym (ap has_ended (settle-talk after)) ∙ on) ∙ present-keeps is_asked at e.talk (λ n. refl)
 step-asked at (Command c) bytes answers e on =
     ap is_asked_link (stays-command c (present_at at e.talk)).link ∙ present-keeps is_asked at e.talk (λ n. refl)
 
--- what leaves the link as it was
-synced-kept : (e e' : Engine) (a : Log) → LinkKept e.talk e'.talk → IsSynced e a → IsSynced e' a
-synced-kept e e' a (inl same) s running =
+-- what leaves an open link as it was, or off
+synced-kept : (e e' : Engine) (a : Log) → is_open e.talk ≡ true → LinkKept e.talk e'.talk → IsSynced e a → IsSynced e' a
+synced-kept e e' a opened (inl same) s running =
     s (ap (λ (l : Link ErrorKind). is_some (end_of_link l)) (sym same) ∙ running) ∙ sym (ap is_asked_link same)
-synced-kept e e' a (inr ended) s running = absurd (both (has_ended e'.talk) ended running)
+synced-kept e e' a opened (inr off) s running =
+    s (open-goes e.talk.link opened) ∙ open-unasked e.talk.link opened ∙ sym off.asked
 
 -- ---- links
 
@@ -227,7 +263,7 @@ told-offered w p x can fits h =
     let e = p.engine in
     record {
       sends = sends-offer p.at w e x.0 can fits h.sends;
-      synced = λ running. write-asked (offered e) (port_answer w p) x.1 ∙ synced-kept e (answered p.at w e) x.1 (kept-answered p.at w e) h.synced running;
+      synced = λ running. write-asked (offered e) (port_answer w p) x.1 ∙ synced-kept e (answered p.at w e) x.1 (and-left (is_open e.talk) _ can) (kept-answered p.at w e) h.synced running;
       links = told-offer w (port_answer w p) e x.0 x.1 (answer-taken w p) can fits h.sends h.links;
     }
   where
@@ -253,7 +289,7 @@ small =
       step = told-step;
       read = λ at answers e x can h. record {
         sends = sends-left e (read_one at answers e) x.0 (leaves-read at answers e) h.sends;
-        synced = synced-kept e (read_one at answers e) x.1 (kept-read at answers e) h.synced;
+        synced = synced-kept e (read_one at answers e) x.1 (and-left (is_open e.talk) _ can) (kept-read at answers e) h.synced;
         links = h.links;
       };
       offer = told-offered;

@@ -2,10 +2,9 @@
 use Rattle.std.proofs.Common.{◌≡◌, ◌⊎◌, inl, inr, ℕ, ◌&&◌, if◌then◌else◌, Bool, true, false, List, [], ◌∷◌, ◌++◌, length, is_some, refl, ap, ◌∙◌, subst}
 use Rattle.amqp_session.specs.declared.error.ErrorKind.{ErrorKind}
 use Rattle.amqp_session.specs.declared.state.Link.{Link}
-use Rattle.amqp_session.specs.declared.state.Link.TheVariants.{Wanted, Asked, Open, Ended}
+use Rattle.amqp_session.specs.declared.state.Link.TheVariants.{Due, Wanted, Asked, Open, Ended}
 use Rattle.amqp_session.specs.declared.io_fault.IoFault.{IoFault}
-use Rattle.amqp_session.specs.declared.io_fault.IoFault.TheVariants.{Aborted, Refused, Reset}
-use Rattle.amqp_session.specs.declared.error.ErrorKind.TheVariants.{IOError}
+use Rattle.amqp_session.specs.declared.io_fault.IoFault.TheVariants.{Aborted, Reset}
 use Rattle.amqp_session.specs.declared.auth.asked.Asked.{Asked as ProviderAnswer}
 use Rattle.amqp_session.specs.Talk.{Talk, is_open, is_open_link, is_asked, is_asked_link, has_ended, end_of, end_of_link}
 use Rattle.amqp_session.specs.Changes.{present_at, fail, starve}
@@ -20,12 +19,13 @@ use Rattle.amqp_session.proofs.Cases.{if_case, if-true, if-false}
 use Rattle.amqp_engine.proofs.Cases.{and-right}
 use Rattle.amqp_engine.proofs.Overlong.{closed-refuses}
 use Rattle.amqp_engine.proofs.Settling.{settle-talk}
-use Rattle.amqp_session.proofs.Keeping.{present-keeps, lost-stays, tick-stays, stays-command}
+use Rattle.amqp_session.proofs.Keeping.{present-keeps, kept-ended, failed-link, lost-stays, tick-stays, stays-command}
 use Rattle.amqp_engine.proofs.Reading.{reads-rest}
 
 -- ---- a link is asked for
 
 asked-end : (l : Link ErrorKind) → end_of_link (asked_link l) ≡ end_of_link l
+asked-end (Due moment) = refl
 asked-end Wanted = refl
 asked-end Asked = refl
 asked-end Open = refl
@@ -46,12 +46,14 @@ turn-is u e running =
 -- ---- what has ended
 
 pub ended-closed : (l : Link ErrorKind) → is_some (end_of_link l) ≡ true → is_open_link l ≡ false
+ended-closed (Due moment) h = cc
 ended-closed Wanted h = cc
 ended-closed Asked h = cc
 ended-closed Open h = cc
 ended-closed (Ended r) h = refl
 
 ended-unasked : (l : Link ErrorKind) → is_some (end_of_link l) ≡ true → is_asked_link l ≡ false
+ended-unasked (Due moment) h = cc
 ended-unasked Wanted h = cc
 ended-unasked Asked h = cc
 ended-unasked Open h = cc
@@ -85,8 +87,7 @@ step-ended at Linked bytes answers e h =
     (linked-ended t (moment-ended at e.talk h)) (moment-ended at e.talk h)
 step-ended at LinkFailed bytes answers e h =
     let t = present_at at e.talk in
-    ap has_ended (settle-talk (rule_at at link_failed e))
-    ∙ if_case (λ (x : Talk). has_ended x ≡ true) (is_asked t) (fail (IOError Refused) t) t refl (moment-ended at e.talk h)
+    ap has_ended (settle-talk (rule_at at link_failed e)) ∙ kept-ended t (link_failed t) (failed-link t) (moment-ended at e.talk h)
 step-ended at (Piece n) bytes answers e h =
     let t = present_at at e.talk in
     let x : Engine = record e { talk = piece t; unread = e.unread ++ bytes } in

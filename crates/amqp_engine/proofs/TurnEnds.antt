@@ -1,12 +1,13 @@
 -- How a turn, and a run of turns, may end a session.
-use Rattle.std.proofs.Common.{◌≡◌, ◌⊎◌, inl, inr, ℕ, ◌-◌, ◌==◌, ◌&&◌, ◌||◌, not, nat_le, Bool, true, false, if◌then◌else◌, IsTrue, List, [], ◌∷◌, ◌++◌, length, drop, map, Option, Some, None, Err, is_some, refl, ap, sym, ◌∙◌, subst, Result, Ok}
+use Rattle.std.proofs.Common.{◌≡◌, ◌⊎◌, inl, inr, ℕ, ◌-◌, ◌==◌, ◌&&◌, ◌||◌, not, nat_le, Bool, true, false, if◌then◌else◌, IsTrue, List, [], ◌∷◌, ◌++◌, length, drop, map, Option, Some, None, Err, is_some, is_none, refl, ap, sym, ◌∙◌, subst, Result, Ok}
 use Rattle.amqp_types.specs.declared.error.AMQPError.{AMQPError}
 use Rattle.amqp_session.specs.declared.committed.Mark.{Mark}
 use Rattle.amqp_session.specs.declared.committed.Then.{Then}
 use Rattle.amqp_session.specs.declared.committed.Then.TheVariants.{Nothing, Answer, Pays, Finish}
 use Rattle.amqp_frame.specs.declared.frame.Read.{Read}
 use Rattle.amqp_frame.specs.declared.frame.Read.TheVariants as reading
-use Rattle.amqp_session.specs.declared.state.Link.TheVariants.{Open}
+use Rattle.amqp_session.specs.declared.state.Link.{Link}
+use Rattle.amqp_session.specs.declared.state.Link.TheVariants.{Due, Wanted, Open}
 use Rattle.amqp_session.specs.declared.io_fault.IoFault.{IoFault}
 use Rattle.amqp_session.specs.declared.io_fault.IoFault.TheVariants.{Aborted, Refused, Reset, BrokenPipe}
 use Rattle.amqp_session.specs.declared.server_close.ServerClose.{ServerClose}
@@ -17,9 +18,9 @@ use Rattle.amqp_session.specs.declared.auth.asked.Asked.{Asked}
 use Rattle.amqp_session.specs.Talk.{Talk, has_ended, is_open, is_acting, acts, is_asked, end_of, end_of_link}
 use Rattle.amqp_session.specs.Channels.{channel_at}
 use Rattle.amqp_session.specs.Changes.{present_at, queue, fail, lose, finish, finish_by, starve}
-use Rattle.amqp_session.specs.Links.{linked, link_failed, piece, lost}
+use Rattle.amqp_session.specs.Links.{linked, next_delay, refused_after, link_failed, piece, lost}
 use Rattle.amqp_frame.specs.declared.frame.Frame.TheVariants.{Heartbeat}
-use Rattle.amqp_session.specs.Ticks.{is_missed, is_due, missing_heartbeat, beat, refreshed, tick}
+use Rattle.amqp_session.specs.Ticks.{is_missed, is_due, missing_heartbeat, beat, refreshed, link_at, timed, tick}
 use Rattle.amqp_session.specs.Commands.{command}
 use Rattle.amqp_session.specs.Writing.{follow, sent, sent_among, taken, end_overlong}
 use Rattle.amqp_engine.specs.declared.port.Step.{Step}
@@ -100,9 +101,13 @@ not-ended k h = cc
 ends-linked : (P : ErrorKind → Type 0) (t : Talk) → Ends P t (linked t)
 ends-linked P t = if_case (Ends P t) (is_asked t) _ t (record { by = λ k h. not-ended k h }) (ends-kept P t t refl)
 
-ends-refused : (P : ErrorKind → Type 0) (t : Talk) → (is_asked t ≡ true → P (IOError Refused)) → Ends P t (link_failed t)
+ends-refused : (P : ErrorKind → Type 0) (t : Talk) → (is_asked t ≡ true → next_delay t ≡ None → P (IOError Refused)) → Ends P t (link_failed t)
 ends-refused P t p =
-    if_by (Ends P t) (is_asked t) (fail (IOError Refused) t) t (λ h. ends-lose P (IOError Refused) t t (p h)) (λ h. ends-kept P t t refl)
+    if_by (Ends P t) (is_asked t) (refused_after (next_delay t) t) t (λ h. by (next_delay t) refl h) (λ h. ends-kept P t t refl)
+  where
+    by : (delay : Option ℕ) → next_delay t ≡ delay → is_asked t ≡ true → Ends P t (refused_after delay t)
+    by (Some delay) is asked = record { by = λ k h. cc }
+    by None is asked = ends-lose P (IOError Refused) t t (p asked is)
 
 ends-piece : (P : ErrorKind → Type 0) (t : Talk) → Ends P t (piece t)
 ends-piece P t = if_case (Ends P t) (is_open t) (record t { last_read = t.present }) t (ends-kept P t _ refl) (ends-kept P t t refl)
@@ -115,8 +120,14 @@ ends-tick P answers t p =
     let beaten : Ends P t (beat t) =
     if_case (Ends P t) (is_due x) (record (queue 0 Heartbeat x) { last_write = x.present }) x
     (ends-then P t x (record (queue 0 Heartbeat x) { last_write = x.present }) first (ends-kept P x (record (queue 0 Heartbeat x) { last_write = x.present }) refl)) first in
-    secret-case (Ends P t) answers (beat t) beaten (λ asks said. ends-then P t (beat t) (refreshed said (beat t)) beaten (ends-kept P (beat t) (refreshed said (beat t)) (refreshed-end said (beat t))))
+    let before : Ends P t (timed answers t) =
+    secret-case (Ends P t) answers (beat t) beaten (λ asks said. ends-then P t (beat t) (refreshed said (beat t)) beaten (ends-kept P (beat t) (refreshed said (beat t)) (refreshed-end said (beat t)))) in
+    ends-then P t (timed answers t) (tick answers t) before (ends-kept P (timed answers t) (tick answers t) (due-end (timed answers t).present (timed answers t).link))
   where
+    due-end : (now : ℕ) (l : Link ErrorKind) → end_of_link (link_at now l) ≡ end_of_link l
+    due-end now (Due moment) = if_case (λ (l : Link ErrorKind). end_of_link l ≡ None) (nat_le moment now) Wanted (Due moment) refl refl
+    due-end now _ = refl
+
     refreshed-end : (said : Result (List ℕ) (List ℕ)) (y : Talk) → end_of (refreshed said y) ≡ end_of y
     refreshed-end (Ok secret) y = refl
     refreshed-end (Err text) y = refl
@@ -131,7 +142,9 @@ ends-step at LinkFailed bytes answers x =
     let P : ErrorKind → Type 0 = StepError at LinkFailed x in
     ends-settled P x.talk (rule_at at link_failed x)
     (ends-present P at x.talk (link_failed (present_at at x.talk)) (ends-refused P (present_at at x.talk)
-    (λ h. if-true (is_asked x.talk) (Some Refused) None (sym (present-keeps is_asked at x.talk (λ n. refl)) ∙ h))))
+    (λ h none. if-true (is_asked x.talk && is_none (next_delay x.talk)) (Some Refused) None
+    (and-true (is_asked x.talk) (is_none (next_delay x.talk)) (sym (present-keeps is_asked at x.talk (λ n. refl)) ∙ h)
+    (ap (λ (o : Option ℕ). is_none o) (sym (present-keeps next_delay at x.talk (λ n. refl)) ∙ none))))))
 ends-step at (Piece n) bytes answers x =
     let P : ErrorKind → Type 0 = StepError at (Piece n) x in
     let after : Engine = record x { talk = piece (present_at at x.talk); unread = x.unread ++ bytes } in

@@ -1,5 +1,5 @@
 -- What brings about that a session ends with an error.
-use Rattle.std.specs.Prelude.{◌≡◌, ◌⊎◌, ℕ, ◌-◌, nat_le, if◌then◌else◌, ◌||◌, ◌&&◌, Bool, true, false, IsTrue, List, [], ◌∷◌, ◌++◌, Option, Some, None, is_some, Result, Err}
+use Rattle.std.specs.Prelude.{◌≡◌, ◌⊎◌, ℕ, ◌-◌, nat_le, if◌then◌else◌, ◌||◌, ◌&&◌, Bool, true, false, IsTrue, List, [], ◌∷◌, ◌++◌, Option, Some, None, is_some, is_none, Result, Err}
 use Rattle.amqp_types.specs.declared.error.AMQPError.{AMQPError}
 use Rattle.amqp_frame.specs.declared.frame.Read.{Read}
 use Rattle.amqp_frame.specs.declared.frame.Read.TheVariants as reading
@@ -14,6 +14,7 @@ use Rattle.amqp_session.specs.declared.error.ErrorKind.TheVariants.{IOError, Mis
 use Rattle.amqp_session.specs.declared.auth.asked.Asked.{Asked}
 use Rattle.amqp_session.specs.Talk.{Talk, is_acting, is_asked, is_open, end_of}
 use Rattle.amqp_session.specs.Changes.{present_at}
+use Rattle.amqp_session.specs.Links.{next_delay}
 use Rattle.amqp_session.specs.Causes.{IsFrameError}
 use Rattle.amqp_session.specs.Ticks.{is_missed}
 use Rattle.amqp_session.specs.Violations.{frame_too_large, stray_heartbeat}
@@ -47,9 +48,9 @@ abbrev pub is_counted : IoFault → Bool
 is_counted Aborted = false
 is_counted _ = true
 
--- the fault that a step brings: to the link that was asked for, or to the open one
+-- the fault that a step brings: to the link that was asked for, where no delay is left, or to the open one
 abbrev pub brought : Step → Talk → Option IoFault
-brought LinkFailed t = if is_asked t then Some Refused else None
+brought LinkFailed t = if is_asked t && is_none (next_delay t) then Some Refused else None
 brought End t = if is_open t then Some Aborted else None
 brought Fault t = if is_open t then Some Reset else None
 brought _ t = None

@@ -4,6 +4,7 @@ pub mod LineLemmas
 -- Decimal numbers (`decimals`), and bytes as a script spells them (`data`).
 pub mod DecimalLemmas
 pub mod DataLemmas
+pub mod DelayLemmas
 -- What a line says (`grammar`): zeros that are limited, bytes that are printable, what lines say, the length of a piece
 -- (`script`).
 pub mod FreeLines

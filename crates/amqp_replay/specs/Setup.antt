@@ -1,12 +1,14 @@
 -- The setup lines of a script: what a session is made from, before its steps.
-use Rattle.std.specs.Prelude.{ℕ, ◌&&◌, ◌||◌, not, nat_le, if◌then◌else◌, Bool, true, false, List, [], length, Option, Some, None, option_map, unwrap_or, codes}
+use Rattle.std.specs.Prelude.{ℕ, ◌==◌, ◌&&◌, ◌||◌, not, nat_le, if◌then◌else◌, Bool, true, false, List, [], ◌∷◌, length, Option, Some, None, option_map, unwrap_or, codes}
+use Rattle.std.specs.List.{slice_split}
 use Rattle.std.specs.Result.{result_ok}
 use Rattle.std.specs.Str.{bytes_eq}
 use Rattle.amqp_uri.specs.Address.{local, parsed as address_of}
-use Rattle.amqp_session.specs.Config.{Options, Config, config_of, no_options, with_locale, with_name, with_property}
+use Rattle.amqp_session.specs.Config.{Options, Config, config_of, no_options, with_locale, with_name, with_property, with_backoff}
 use Rattle.amqp_replay.specs.declared.limits.TheConstants.{TEXT_BYTES}
 use Rattle.amqp_replay.specs.declared.setup.Setting.{Setting}
-use Rattle.amqp_replay.specs.declared.setup.Setting.TheVariants.{Uri, Locale, Name, Property, Provider}
+use Rattle.amqp_replay.specs.declared.setup.Setting.TheVariants.{Uri, Locale, Name, Property, Delays, Provider}
+use Rattle.amqp_replay.specs.Decimals.{number_64}
 use Rattle.amqp_replay.specs.Words.{first_word, after_word}
 
 -- ---- what a line sets
@@ -16,7 +18,8 @@ abbrev pub is_setup_word : List ℕ → Bool
 is_setup_word word =
     bytes_eq word (codes "uri")
     || (bytes_eq word (codes "locale")
-    || (bytes_eq word (codes "name") || (bytes_eq word (codes "property") || bytes_eq word (codes "provider"))))
+    || (bytes_eq word (codes "name")
+    || (bytes_eq word (codes "property") || (bytes_eq word (codes "delays") || bytes_eq word (codes "provider")))))
 
 -- a line that begins with such a word
 abbrev pub is_setup : List ℕ → Bool
@@ -44,6 +47,25 @@ property_in None = None
 property_in (Some words) =
     if is_key (first_word words) then option_map (Property (first_word words)) (text_in (after_word words)) else None
 
+-- what numbers are parted by
+abbrev pub is_blank : ℕ → Bool
+is_blank b = b == 32
+
+-- a number before those that follow, where all are numbers
+abbrev pub before_numbers : Option ℕ → Option (List ℕ) → Option (List ℕ)
+before_numbers (Some n) (Some ns) = Some (n ∷ ns)
+before_numbers _ _ = None
+
+-- numbers of 64 bits, where each word is one
+abbrev pub numbers_of : List (List ℕ) → Option (List ℕ)
+numbers_of [] = Some []
+numbers_of (word ∷ words) = before_numbers (number_64 word) (numbers_of words)
+
+-- `delays N..`, with any count of numbers
+abbrev pub delays_in : Option (List ℕ) → Option Setting
+delays_in None = Some (Delays [])
+delays_in (Some text) = option_map Delays (numbers_of (slice_split is_blank text))
+
 -- `provider handed`
 abbrev pub provider_in : Option (List ℕ) → Option Setting
 provider_in None = None
@@ -55,6 +77,7 @@ option_by word rest =
     if bytes_eq word (codes "locale") then option_map Locale (text_in rest)
     else if bytes_eq word (codes "name") then option_map Name (text_in rest)
     else if bytes_eq word (codes "property") then property_in rest
+    else if bytes_eq word (codes "delays") then delays_in rest
     else if bytes_eq word (codes "provider") then provider_in rest
     else None
 
@@ -78,6 +101,7 @@ pub record Progress : Type 0 where
   pub has_uri : Bool
   pub has_locale : Bool
   pub has_name : Bool
+  pub has_delays : Bool
   pub has_provider : Bool
   pub has_step : Bool
 
@@ -90,6 +114,7 @@ no_lines is_handed =
       has_uri = false;
       has_locale = false;
       has_name = false;
+      has_delays = false;
       has_provider = false;
       has_step = false;
     }
@@ -100,6 +125,7 @@ may_stand (Uri uri) p = not (p.has_step || p.has_uri)
 may_stand (Locale locale) p = not (p.has_step || p.has_locale)
 may_stand (Name name) p = not (p.has_step || p.has_name)
 may_stand (Property key text) p = not p.has_step
+may_stand (Delays delays) p = not (p.has_step || p.has_delays)
 may_stand Provider p = p.is_handed && not (p.has_step || p.has_provider)
 
 -- the options are changed alone
@@ -112,6 +138,7 @@ after_setting (Uri uri) p = record p { config = config_of uri p.config.options; 
 after_setting (Locale locale) p = record p { config = with_options (with_locale locale) p.config; has_locale = true }
 after_setting (Name name) p = record p { config = with_options (with_name name) p.config; has_name = true }
 after_setting (Property key text) p = record p { config = with_options (with_property key text) p.config }
+after_setting (Delays delays) p = record p { config = with_options (with_backoff delays) p.config; has_delays = true }
 after_setting Provider p = record p { has_provider = true }
 
 -- after a step

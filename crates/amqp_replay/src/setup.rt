@@ -1,12 +1,14 @@
 //! The setup lines of a script: what a session is made from, before its steps.
 
-ghost use Rattle.std.specs.Prelude.{◌≡◌, ◌<◌, length, Some, IfOk, option_map};
+ghost use Rattle.std.specs.Prelude.{◌≡◌, ◌<◌, ◌∷◌, [], ◌++◌, length, Some, IfOk, OnOk, option_map};
+ghost use Rattle.std.specs.List.{slice_split};
 ghost use Rattle.std.specs.Option.{option_copied};
 ghost use Rattle.std.specs.Str.{IsAscii};
 ghost use Rattle.amqp_session.specs.Config.{config_of};
-ghost use Rattle.amqp_replay.specs.declared.setup.Setting.TheVariants.{Uri, Locale, Name, Property, Provider};
-ghost use Rattle.amqp_replay.specs.Setup.{is_setup, uri_in, text_in, property_in, provider_in, option_by, setting_of, no_lines, may_stand, after_setting, after_step, set_by};
+ghost use Rattle.amqp_replay.specs.declared.setup.Setting.TheVariants.{Uri, Locale, Name, Property, Delays, Provider};
+ghost use Rattle.amqp_replay.specs.Setup.{is_setup, uri_in, text_in, property_in, is_blank, numbers_of, delays_in, provider_in, option_by, setting_of, no_lines, may_stand, after_setting, after_step, set_by};
 
+use crate::decimals::number;
 use crate::limits::TEXT_BYTES;
 use crate::words::{cut, is};
 use amqp_session::ConnectionProperties;
@@ -26,8 +28,48 @@ pub enum Setting {
     Name(LongString),
     /// A property of the client: its key and its text.
     Property(ShortString, LongString),
+    /// How long the session waits, time after time, where it has no link and is to have one.
+    Delays(DelayList),
     /// The provider of authentication that was handed to the program.
     Provider,
+}
+
+/// Delays, in milliseconds.
+#[derive(Debug, Drop)]
+pub struct DelayList {
+    delays: Vec<u64>,
+}
+
+impl Model for DelayList {
+    ghost use Rattle.std.specs.Prelude.{ℕ, List};
+
+    ghost Value = { List ℕ };
+
+    ghost view = { λ l. l.delays.items };
+}
+
+impl DelayList {
+    fn new(alloc: Global) -> DelayList
+        ensures { result ≡ [] }
+    {
+        DelayList {
+            delays: Vec::new(alloc),
+        }
+    }
+
+    // One more, which is the last.
+    fn push(&mut self, delay: u64) -> Result<(), NoMemory>
+        ensures { OnOk result (self.new ≡ self.old ++ delay ∷ []) }
+    {
+        self.delays.push(delay)?;
+        Ok(())
+    }
+
+    fn into_vec(self) -> Vec<u64>
+        ensures { result.items ≡ self }
+    {
+        self.delays
+    }
 }
 
 /// Whether a line begins with the word of a setup line.
@@ -39,6 +81,7 @@ pub fn is_setup(content: &[u8]) -> bool
         || is(word, b"locale")
         || is(word, b"name")
         || is(word, b"property")
+        || is(word, b"delays")
         || is(word, b"provider")
 }
 
@@ -81,6 +124,9 @@ fn option(alloc: Global, word: &[u8], rest: Option<&[u8]>) -> Result<Option<Sett
     }
     if is(word, b"property") {
         return Ok(property(alloc, rest)?);
+    }
+    if is(word, b"delays") {
+        return Ok(delays(alloc, rest)?);
     }
     if is(word, b"provider") {
         return Ok(provider(rest));
@@ -143,6 +189,36 @@ fn property(alloc: Global, rest: Option<&[u8]>) -> Result<Option<Setting>, NoMem
     }
 }
 
+// `delays N..`
+fn delays(alloc: Global, rest: Option<&[u8]>) -> Result<Option<Setting>, NoMemory>
+    ensures { IfOk result (λ setting. setting ≡ delays_in (option_copied rest.entry)) }
+{
+    let Some(text) = rest else {
+        return Ok(Some(Setting::Delays(DelayList::new(alloc))));
+    };
+    match numbers(alloc, text)? {
+        Some(delays) => Ok(Some(Setting::Delays(delays))),
+        None => Ok(None),
+    }
+}
+
+// Numbers, which are parted by one blank each.
+fn numbers(alloc: Global, text: &[u8]) -> Result<Option<DelayList>, NoMemory>
+    ensures { IfOk result (λ found. found ≡ numbers_of (slice_split is_blank text.now)) }
+{
+    let mut found = DelayList::new(alloc);
+    let mut rest = Some(text);
+    'words: while let Some(more) = rest {
+        let (word, after) = cut(more, b' ');
+        let Some(delay) = number(word, u64::MAX) else {
+            return Ok(None);
+        };
+        found.push(delay)?;
+        rest = after;
+    }
+    Ok(Some(found))
+}
+
 // `provider handed`
 fn provider(rest: Option<&[u8]>) -> Option<Setting>
     ensures { result ≡ provider_in (option_copied rest.entry) }
@@ -176,6 +252,7 @@ pub struct Progress {
     has_uri: bool,
     has_locale: bool,
     has_name: bool,
+    has_delays: bool,
     has_provider: bool,
     has_step: bool,
 }
@@ -197,6 +274,7 @@ impl Model for Progress {
       has_uri = p.has_uri;
       has_locale = p.has_locale;
       has_name = p.has_name;
+      has_delays = p.has_delays;
       has_provider = p.has_provider;
       has_step = p.has_step;
     } };
@@ -217,6 +295,7 @@ impl Progress {
                 has_uri: false,
                 has_locale: false,
                 has_name: false,
+                has_delays: false,
                 has_provider: false,
                 has_step: false,
             }),
@@ -262,6 +341,7 @@ impl Progress {
             Setting::Locale(locale) => Ok(Some(self.with_locale(locale))),
             Setting::Name(name) => Ok(Some(self.with_name(alloc, name)?)),
             Setting::Property(key, text) => Ok(Some(self.with_property(key, text)?)),
+            Setting::Delays(delays) => Ok(Some(self.with_delays(delays))),
             Setting::Provider => Ok(Some(self.with_provider())),
         }
     }
@@ -276,6 +356,7 @@ impl Progress {
             Setting::Locale(_) => !(self.has_step || self.has_locale),
             Setting::Name(_) => !(self.has_step || self.has_name),
             Setting::Property(_, _) => !self.has_step,
+            Setting::Delays(_) => !(self.has_step || self.has_delays),
             Setting::Provider => self.is_handed && !(self.has_step || self.has_provider),
         }
     }
@@ -291,6 +372,7 @@ impl Progress {
             has_uri: true,
             has_locale: self.has_locale,
             has_name: self.has_name,
+            has_delays: self.has_delays,
             has_provider: self.has_provider,
             has_step: self.has_step,
         }
@@ -319,6 +401,16 @@ impl Progress {
                 drop(self.uri);
                 Err(e)
             }
+        }
+    }
+
+    fn with_delays(self, delays: DelayList) -> Progress
+        ensures { result ≡ after_setting (Delays delays) self }
+    {
+        Progress {
+            options: self.options.with_backoff(delays.into_vec()),
+            has_delays: true,
+            ..self
         }
     }
 

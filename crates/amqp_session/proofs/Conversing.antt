@@ -32,7 +32,7 @@ use Rattle.amqp_session.specs.declared.state.ChannelState.TheVariants as channel
 use Rattle.amqp_session.specs.declared.state.Phase.{Phase}
 use Rattle.amqp_session.specs.declared.state.Phase.TheVariants.{AwaitStart, AwaitTune, AwaitOpenOk}
 use Rattle.amqp_session.specs.declared.state.Link.{Link}
-use Rattle.amqp_session.specs.declared.state.Link.TheVariants.{Wanted, Asked, Open, Ended}
+use Rattle.amqp_session.specs.declared.state.Link.TheVariants.{Due, Wanted, Asked, Open, Ended}
 use Rattle.amqp_session.specs.declared.state.Input.{Input}
 use Rattle.amqp_session.specs.declared.state.Input.TheVariants as input
 use Rattle.amqp_session.specs.declared.io_fault.IoFault.{IoFault}
@@ -48,20 +48,20 @@ use Rattle.amqp_session.specs.declared.error.ErrorKind.{ErrorKind}
 use Rattle.amqp_session.specs.declared.error.ErrorKind.TheVariants.{IOError, InvalidConnectionState, InvalidProtocolVersion, InvalidChannel, InvalidChannelState, MissingHeartbeatError, AuthProviderError}
 use Rattle.amqp_session.specs.Config.{Config}
 use Rattle.amqp_session.specs.declared.auth.asked.Asked.{Asked as ProviderAnswer}
-use Rattle.amqp_session.specs.Talk.{Talk, start, has_ended, is_open, is_open_link, is_asked, is_wanted_link, wants_link, end_of_link, is_closing, is_acting, acts, hears_on}
-use Rattle.amqp_session.specs.Changes.{next_promise, present_at, fail, lose, misplaced, finish_by, starve, queue, give_to, drop_replies_of, without_all_on}
+use Rattle.amqp_session.specs.Talk.{Talk, start, has_ended, is_open, is_open_link, is_asked, is_asked_link, end_of_link, is_closing, is_acting, acts, hears_on}
+use Rattle.amqp_session.specs.Changes.{next_promise, present_at, lose, misplaced, finish_by, starve, queue, give_to, drop_replies_of, without_all_on}
 use Rattle.amqp_session.specs.Violations.{misread_error, channel_closed_with, unawaited, stray_channel_frame, stray_connection_method}
 use Rattle.amqp_session.specs.Capacities.{frame_min_size}
 use Rattle.amqp_session.specs.Negotiation.{tune}
 use Rattle.amqp_session.specs.Handshake.{start_ok, secure_ok, tune_ok, open_vhost, close_ok, our_close, new_secret, channel_open, channel_flow, flow_ok, our_channel_close, channel_close_ok, protocol_header}
-use Rattle.amqp_session.specs.Links.{asked, asked_link, linked, link_failed, piece, lost, misread, dropped}
+use Rattle.amqp_session.specs.Links.{asked, asked_link, linked, next_delay, refused_after, link_failed, piece, lost, misread, dropped}
 use Rattle.amqp_session.specs.ConnectionMethods.{connection_rule, on_connection_close, started, challenged, on_tune, on_open_ok, on_connection_close_ok, connection_closed, secret_taken}
 use Rattle.amqp_session.specs.Channels.{channel_at, set_channel}
 use Rattle.amqp_session.specs.ChannelMethods.{heard_on, unawaited_channel_method, channel_opened, remove_channel, remove_unless_owed, channel_closed, on_channel_flow, channel_flowed, awaits_close_ok, closed_by_server, crossing_close, channel_close_by, channel_rule, channel_method_by, channel_method, raw_by, pass_through, confirmed, hand_out, is_select_ok}
 use Rattle.amqp_session.specs.Frames.{is_of_a_channel, method_rule, frame_rule, closed_rule, on_frame}
 use Rattle.amqp_session.specs.Publishing.{method_frame, publish_frames}
 use Rattle.amqp_session.specs.Commands.{command, command_rule, open_drawn, open_as, named, named_in, is_opening, target, target_by, target_in, leave_channel, close_target, leave_connection, drop_target, flow_target, tell_flow, queue_secret, update_secret, too_long, unless_too_long, queue_send, send, send_target, body_limit, queue_publish, publish, publish_target}
-use Rattle.amqp_session.specs.Ticks.{is_missed, is_due, missing_heartbeat, beat, refreshed, refresh_reason, tick}
+use Rattle.amqp_session.specs.Ticks.{is_missed, is_due, missing_heartbeat, beat, refreshed, refresh_reason, link_at, link_due, timed, tick}
 use Rattle.amqp_session.specs.Writing.{flows, writes, next_item, then_of, mark_of, paid_by, pay, follow, sent, sent_among, taken}
 use Rattle.amqp_session.specs.Answers.{answer_of, take_answer, take_frames}
 use Rattle.amqp_session.specs.Listed.{put, without}
@@ -71,7 +71,7 @@ use Rattle.amqp_session.specs.Legal.{amqp_header, IsPassedThrough}
 use Rattle.amqp_session.specs.Decider.{Speech, Stage, MethodSaid, HeaderSaid, StartOkSaid, TuneOkSaid, OpenSaid, CloseSaid, CloseOkSaid, Shut, InUse, Left, NoContent, BodyMissing, now_on, greeted, say, say_all, is_amqp_header, is_legal}
 use Rattle.amqp_session.proofs.Heard.{start-case, secure-case, secret-case}
 use Rattle.amqp_session.proofs.Cases.{if_case, if_by, if-true, and-true}
-use Rattle.amqp_session.proofs.Keeping.{asks-connected, beats-connected, starve-ends, finish-ends, lost-stays}
+use Rattle.amqp_session.proofs.Keeping.{asks-connected, beats-connected, starve-ends, finish-ends, lost-stays, lacks_link}
 use Rattle.amqp_session.proofs.Truths.{append-none, same-number, other-number}
 use Rattle.amqp_session.proofs.Sayable.{IsComplete, say-append, front-said, over-stays, close-said, say-heartbeat, say-secret, say-our-close, say-flow, say-flow-ok, say-channel-close-ok, say-group, filling}
 use Rattle.amqp_session.proofs.Ties.{frames_in, LeadsTo, first_out, IsReady, IsOfControl, pays, paying, to_pay, unpaid, TiesChannels, IsNew, TiesPhase, TiesActing, Ties, Speaks, IsTied, IsSilent, IsSendable}
@@ -83,7 +83,7 @@ use Rattle.amqp_session.proofs.OnChannels.{Listed, Replies, on-alike, on-usages,
 
 -- what is known of a session: while a link is open, and while one is wanted
 abbrev pub Now : Talk → List Frame → Type 0
-Now t committed = (is_open t ≡ true → IsTied t committed) × (wants_link t ≡ true → IsSilent t)
+Now t committed = (is_open t ≡ true → IsTied t committed) × (lacks_link t.link ≡ true → IsSilent t)
 
 -- ---- conversations
 
@@ -155,8 +155,9 @@ committed-legal t (g ∷ fs) h =
 
 -- ---- ends, of which nothing is claimed
 
-closed-link : (l : Link ErrorKind) → is_some (end_of_link l) ≡ true → (is_open_link l ≡ true → ⊥) × (is_wanted_link l ≡ true → ⊥)
+closed-link : (l : Link ErrorKind) → is_some (end_of_link l) ≡ true → (is_open_link l ≡ true → ⊥) × (lacks_link l ≡ true → ⊥)
 closed-link Open h = absurd cc
+closed-link (Due moment) h = absurd cc
 closed-link Wanted h = absurd cc
 closed-link Asked h = absurd cc
 closed-link (Ended r) h = ((λ k. cc), (λ k. cc))
@@ -174,22 +175,33 @@ pub now-moment : (at : ℕ) (t : Talk) (fs : List Frame) → Now t fs → Now (p
 now-moment at t fs h = if_case (λ (x : Talk). Now x fs) (has_ended t) t (record t { present = max t.present at }) h h
 
 asked-open : (l : Link ErrorKind) → is_open_link (asked_link l) ≡ is_open_link l
+asked-open (Due moment) = refl
 asked-open Wanted = refl
 asked-open Asked = refl
 asked-open Open = refl
 asked-open (Ended r) = refl
 
-asked-wanted : (l : Link ErrorKind) → is_wanted_link (asked_link l) ≡ is_wanted_link l
-asked-wanted Wanted = refl
-asked-wanted Asked = refl
-asked-wanted Open = refl
-asked-wanted (Ended r) = refl
+asked-lacks : (l : Link ErrorKind) → lacks_link (asked_link l) ≡ lacks_link l
+asked-lacks (Due moment) = refl
+asked-lacks Wanted = refl
+asked-lacks Asked = refl
+asked-lacks Open = refl
+asked-lacks (Ended r) = refl
 
 pub now-asked : (t : Talk) (fs : List Frame) → Now t fs → Now (asked t) fs
-now-asked t fs h = ((λ o. h.0 (sym (asked-open t.link) ∙ o)), (λ w. h.1 (sym (asked-wanted t.link) ∙ w)))
+now-asked t fs h = ((λ o. h.0 (sym (asked-open t.link) ∙ o)), (λ w. h.1 (sym (asked-lacks t.link) ∙ w)))
 
 pub now-failed : (t : Talk) (fs : List Frame) → Now t fs → Now (link_failed t) fs
-now-failed t fs h = if_case (λ (x : Talk). Now x fs) (is_asked t) (fail (IOError Refused) t) t (now-lose (IOError Refused) t fs) h
+now-failed t fs h = if_by (λ (x : Talk). Now x fs) (is_asked t) (refused_after (next_delay t) t) t (λ asked. by (next_delay t) asked) (λ other. h)
+  where
+    -- a link was lacking before
+    lacking : (l : Link ErrorKind) → is_asked_link l ≡ true → lacks_link l ≡ true
+    lacking Asked asked = refl
+    lacking _ asked = cc
+
+    by : (delay : Option ℕ) → is_asked t ≡ true → Now (refused_after delay t) fs
+    by (Some delay) asked = ((λ o. absurd (true≢false (sym o))), (λ w. h.1 (lacking t.link asked)))
+    by None asked = now-lose (IOError Refused) t fs
 
 pub now-piece : (t : Talk) (fs : List Frame) → Now t fs → Now (piece t) fs
 now-piece t fs h = if_case (λ (x : Talk). Now x fs) (is_open t) (record t { last_read = t.present }) t h h
@@ -216,14 +228,15 @@ not-acting : (b c : Bool) → b ≡ true → (b && c) ≡ false → c ≡ false
 not-acting true c g h = h
 not-acting false c g h = cc
 
-open-wanted : (l : Link ErrorKind) → is_open_link l ≡ true → is_wanted_link l ≡ true → ⊥
-open-wanted Open h k = cc
-open-wanted Wanted h k = cc
-open-wanted Asked h k = cc
-open-wanted (Ended r) h k = cc
+open-lacks : (l : Link ErrorKind) → is_open_link l ≡ true → lacks_link l ≡ true → ⊥
+open-lacks (Due moment) h k = cc
+open-lacks Open h k = cc
+open-lacks Wanted h k = cc
+open-lacks Asked h k = cc
+open-lacks (Ended r) h k = cc
 
 now-open : (t : Talk) (fs : List Frame) → is_open t ≡ true → IsTied t fs → Now t fs
-now-open t fs o h = ((λ k. h), (λ w. absurd (open-wanted t.link o w)))
+now-open t fs o h = ((λ k. h), (λ w. absurd (open-lacks t.link o w)))
 
 pub now-misread : (why : Misread) (t : Talk) (fs : List Frame) → Now t fs → Now (misread why t) fs
 now-misread why t fs h =
@@ -749,7 +762,7 @@ now-told t t' fs hs link h next = (
       let acting = (talking t.input t.phase t.channels t.outbox.awaited (due_in t) s.later s.ties).0 in
       (next o acting
       (speaks-as Connected Connected t.phase t.phase t.input input.Acting t.configuration.frame_max t.outbox t.channels t.committed fs refl refl acting s)).0 o),
-  λ w. absurd (no-wait (sym (h.1 (ap is_wanted_link (sym link) ∙ w)).0 ∙ hs)),
+  λ w. absurd (no-wait (sym (h.1 (ap lacks_link (sym link) ∙ w)).0 ∙ hs)),
 )
   where
     no-wait : Initial ≡ Connected → ⊥
@@ -810,14 +823,29 @@ now-refreshed (Ok secret) t fs hs h =
     (on-await-untied 0 SecretDone t.channels t.outbox.awaited (due_in t) v None refl
     (with-content t.channels t.outbox.awaited (due_in t) s.later NoContent tt s.ties))))
 
-pub now-tick : (answers : List ProviderAnswer) (t : Talk) (fs : List Frame) → Now t fs → Now (tick answers t) fs
-now-tick answers t fs h =
+-- a link is due: none was open, and none is
+now-due-link : (t : Talk) (fs : List Frame) → Now t fs → Now (link_due t) fs
+now-due-link t fs h = ((λ o. h.0 (sym (opened t.link) ∙ o)), (λ w. h.1 (sym (lacking t.link) ∙ w)))
+  where
+    opened : (l : Link ErrorKind) → is_open_link (link_at t.present l) ≡ is_open_link l
+    opened (Due moment) = if_case (λ (x : Link ErrorKind). is_open_link x ≡ false) (nat_le moment t.present) Wanted (Due moment) refl refl
+    opened _ = refl
+
+    lacking : (l : Link ErrorKind) → lacks_link (link_at t.present l) ≡ lacks_link l
+    lacking (Due moment) = if_case (λ (x : Link ErrorKind). lacks_link x ≡ true) (nat_le moment t.present) Wanted (Due moment) refl refl
+    lacking _ = refl
+
+now-timed : (answers : List ProviderAnswer) (t : Talk) (fs : List Frame) → Now t fs → Now (timed answers t) fs
+now-timed answers t fs h =
     let P : Talk → Type 0 = λ y. Now y fs in
     let x : Talk = missing_heartbeat t in
     let after : Now x fs = if_case P (is_missed t) (lose MissingHeartbeatError t) t (now-lose MissingHeartbeatError t fs) h in
     let beaten : Now (beat t) fs =
     if_by P (is_due x) (record (queue 0 Heartbeat x) { last_write = x.present }) x (λ due. now-heartbeat x fs (beats-connected x due) after) (λ rest. after) in
     secret-case P answers (beat t) beaten (λ asks said. now-refreshed said (beat t) fs (asks-connected (beat t) asks) beaten)
+
+pub now-tick : (answers : List ProviderAnswer) (t : Talk) (fs : List Frame) → Now t fs → Now (tick answers t) fs
+now-tick answers t fs h = now-due-link (timed answers t) fs (now-timed answers t fs h)
 
 named-listed : (r : ChanRef) (o : Option Channel) (c : Channel) → named_in r.opened o ≡ Some c → o ≡ Some c
 named-listed r None c h = cc

@@ -22,7 +22,7 @@ use Rattle.amqp_session.specs.Frames.{is_of_a_channel, method_questions, questio
 use Rattle.amqp_session.specs.Changes.{queue, lose, misplaced}
 use Rattle.amqp_session.specs.Providers.{Exchange, Allows}
 use Rattle.amqp_session.specs.Asking.{paired, Answer, Asks, Hears, Starves}
-use Rattle.amqp_session.specs.Ticks.{is_due, is_missed, missing_heartbeat, heartbeat_due, beat, asks_validity, has_expired, refreshed, refresh, refresh_questions, validity_told, secret_due, secret_questions, tick, tick_questions}
+use Rattle.amqp_session.specs.Ticks.{is_due, is_missed, missing_heartbeat, heartbeat_due, beat, asks_validity, has_expired, refreshed, refresh, refresh_questions, validity_told, secret_due, secret_questions, link_due, tick, tick_questions}
 use Rattle.amqp_session.proofs.Cases.{if_case, if-true, if-false}
 
 answers-length : (asked : List Question) (answers : List Asked) → Answer asked answers → length answers ≤ length asked
@@ -87,14 +87,27 @@ expired-done time said t asks expired =
 
 -- where nothing was missed, a tick is what goes on
 pub tick-heard : (before after : Exchange → Type 0) (t t' : Talk) (list list' : List Asked) → is_missed t ≡ false
-    → Hears (λ answers t. secret_due answers (heartbeat_due t)) secret_questions before after t t' list list' → Hears tick tick_questions before after t t' list list'
+    → Hears (λ answers t. secret_due answers (heartbeat_due t)) secret_questions before after t t' list list' → Hears tick tick_questions before after t (link_due t') list list'
 tick-heard before after t t' list list' heard h =
     let same : missing_heartbeat t ≡ t = if-false (is_missed t) (lose MissingHeartbeatError t) t heard in
     let asked : tick_questions h.answers t ≡ secret_questions h.answers t = ap (λ (x : Talk). secret_questions h.answers (heartbeat_due x)) same ∙ questions-beat h.answers t in
     record {
       answers = h.answers;
       asks = subst (λ (q : List Question). Asks q h.answers before after list list') (sym asked) h.asks;
-      talk = h.talk ∙ sym (ap (λ (x : Talk). secret_due h.answers (heartbeat_due x)) same);
+      talk = ap link_due (h.talk ∙ sym (ap (λ (x : Talk). secret_due h.answers (heartbeat_due x)) same));
+    }
+
+-- where the server is missed, nothing is asked
+pub tick-missed : (state : Exchange → Type 0) (t : Talk) (list : List Asked) → is_missed t ≡ true
+    → Hears tick tick_questions state state t (link_due (lose MissingHeartbeatError t)) list list
+tick-missed state t list missed =
+    let x : Talk = lose MissingHeartbeatError t in
+    let same : missing_heartbeat t ≡ x = if-true (is_missed t) x t missed in
+    let asked : tick_questions [] t ≡ [] = ap (λ (y : Talk). secret_questions [] (heartbeat_due y)) same in
+    record {
+      answers = [];
+      asks = subst (λ (q : List Question). Asks q [] state state list list) (sym asked) (record { listed = sym (append-nil list); all = tt; allowed = λ rest h. h });
+      talk = ap link_due (sym (ap (λ (y : Talk). secret_due [] (heartbeat_due y)) same));
     }
 
 pub tick-starved : (before : Exchange → Type 0) (t : Talk) (list list' : List Asked) → is_missed t ≡ false
@@ -141,7 +154,7 @@ secret-more answers more x false h = (refl, refl)
 -- a tick goes by the answers to what it asks alone
 pub tick-more : (answers more : List Asked) (t : Talk) → Answer (tick_questions answers t) answers
     → (tick (answers ++ more) t ≡ tick answers t) × (tick_questions (answers ++ more) t ≡ tick_questions answers t)
-tick-more answers more t h = secret-more answers more (beat t) (asks_validity (beat t)) h
+tick-more answers more t h = (let k = secret-more answers more (beat t) (asks_validity (beat t)) h in (ap link_due k.0, k.1))
 
 starter-more : (mechanism : List ℕ) (answers more : List Asked) (t : Talk) → Answer (question.Starter ∷ []) answers
     → on_start (answer.Mechanism mechanism ∷ (answers ++ more)) t ≡ on_start (answer.Mechanism mechanism ∷ answers) t

@@ -1,5 +1,5 @@
 -- What the rules leave as it is.
-use Rattle.std.proofs.Common.{◌≡◌, ◌⊎◌, inl, inr, ℕ, zero, suc, ◌+◌, ◌-◌, ◌==◌, ◌&&◌, not, nat_le, max, Bool, true, false, if◌then◌else◌, List, [], ◌∷◌, length, drop, length-drop, Option, Some, None, Result, Ok, Err, is_some, refl, ap, sym, ◌∙◌, arith}
+use Rattle.std.proofs.Common.{◌≡◌, ◌⊎◌, inl, inr, ℕ, zero, suc, ◌+◌, ◌-◌, ◌==◌, ◌&&◌, not, nat_le, max, Bool, true, false, if◌then◌else◌, List, [], ◌∷◌, length, drop, length-drop, Option, Some, None, Result, Ok, Err, is_some, true≢false, refl, ap, sym, ◌∙◌, arith}
 use Rattle.std.proofs.lemmas.List.Sums.{sum_by-cons}
 use Rattle.std.proofs.lemmas.Bool.Decides.{nat_tests}
 use Rattle.amqp_frame.specs.declared.frame.Frame.{Frame}
@@ -23,6 +23,7 @@ use Rattle.amqp_session.specs.declared.state.ChannelState.TheVariants as channel
 use Rattle.amqp_session.specs.declared.state.Phase.{Phase}
 use Rattle.amqp_session.specs.declared.state.Phase.TheVariants.{AwaitStart, AwaitTune, AwaitOpenOk}
 use Rattle.amqp_session.specs.declared.state.Link.{Link}
+use Rattle.amqp_session.specs.declared.state.Link.TheVariants.{Due, Wanted, Asked, Open, Ended}
 use Rattle.amqp_session.specs.declared.io_fault.IoFault.{IoFault}
 use Rattle.amqp_session.specs.declared.server_close.ServerClose.{ServerClose}
 use Rattle.amqp_session.specs.declared.server_close.ServerClose.TheVariants.{WithoutError, WithError}
@@ -33,10 +34,11 @@ use Rattle.amqp_session.specs.declared.command.Answer.{Answer as AnyAnswer}
 use Rattle.amqp_session.specs.declared.command.Answer.TheVariants.{Done}
 use Rattle.amqp_session.specs.declared.error.ErrorKind.{ErrorKind}
 use Rattle.amqp_session.specs.declared.error.ErrorKind.TheVariants.{NoMemory, IOError, MissingHeartbeatError}
-use Rattle.amqp_session.specs.declared.auth.asked.Asked.{Asked}
-use Rattle.amqp_session.specs.Talk.{Talk, has_ended, hears_on, is_open, is_closing, acts, end_of_link}
+use Rattle.amqp_session.specs.declared.io_fault.IoFault.TheVariants.{Refused}
+use Rattle.amqp_session.specs.declared.auth.asked.Asked.{Asked as ProviderAnswer}
+use Rattle.amqp_session.specs.Talk.{Talk, has_ended, hears_on, is_open, is_open_link, is_asked, is_asked_link, is_closing, acts, end_of_link}
 use Rattle.amqp_session.specs.Changes.{Promises, present_at, queue, refuse, give_to, fail, lose, misplaced, close, finish, finish_by, starve}
-use Rattle.amqp_session.specs.Links.{dropped, lost, misread}
+use Rattle.amqp_session.specs.Links.{dropped, lost, misread, next_delay, refused_after, link_failed}
 use Rattle.amqp_session.specs.Violations.{channel_closed_with, misread_error}
 use Rattle.amqp_session.specs.Handshake.{new_secret}
 use Rattle.amqp_session.specs.ConnectionMethods.{connection_rule, connection_closed, secret_taken, started, challenged}
@@ -45,7 +47,7 @@ use Rattle.amqp_session.specs.ChannelMethods.{heard_on, unawaited_channel_method
 use Rattle.amqp_session.specs.Frames.{is_of_a_channel, method_rule, frame_rule, closed_rule, on_frame}
 use Rattle.amqp_session.specs.Publishing.{method_frame, publish_frames}
 use Rattle.amqp_session.specs.Commands.{open_drawn, close_target, drop_target, flow_target, queue_secret, update_secret, too_long, unless_too_long, queue_send, send_target, body_limit, queue_publish, publish_target, command, command_rule}
-use Rattle.amqp_session.specs.Ticks.{is_connected, beats, is_missed, is_due, missing_heartbeat, beat, asks_validity, refreshed, tick}
+use Rattle.amqp_session.specs.Ticks.{is_connected, beats, is_missed, is_due, missing_heartbeat, beat, asks_validity, refreshed, link_at, link_due, timed, tick}
 use Rattle.amqp_session.specs.Writing.{left_in, paid_by, pay, follow, sent, sent_among, taken}
 use Rattle.amqp_session.specs.Negotiation.{grown_capacity}
 use Rattle.amqp_session.specs.Parts.{is_opening, capacity_after}
@@ -93,24 +95,68 @@ starve-committed t = if_case (λ (x : Talk). x.committed ≡ t.committed) (has_e
 
 -- ---- what a rule keeps
 
--- a rule that commits nothing, makes the capacity so much, and leaves the link as it is unless the session ends
+-- no link is open or asked for, and what had ended still has
+pub record IsOff (l l' : Link ErrorKind) : Type 0 where
+  pub opened : is_open_link l' ≡ false
+  pub asked : is_asked_link l' ≡ false
+  pub ended : is_some (end_of_link l) ≡ true → is_some (end_of_link l') ≡ true
+
+-- the link stays, or is off
+abbrev pub LinkKept : Talk → Talk → Type 0
+LinkKept t t' = (t'.link ≡ t.link) ⊎ IsOff t.link t'.link
+
+ended-off : (l : Link ErrorKind) → is_some (end_of_link l) ≡ true → (is_open_link l ≡ false) × (is_asked_link l ≡ false)
+ended-off (Ended r) h = (refl, refl)
+ended-off _ h = cc
+
+-- at the end it is
+pub off-over : (t t' : Talk) → has_ended t' ≡ true → IsOff t.link t'.link
+off-over t t' h = let off = ended-off t'.link h in record { opened = off.0; asked = off.1; ended = λ before. h }
+
+pub link-then : (a b c : Talk) → LinkKept a b → LinkKept b c → LinkKept a c
+link-then a b c (inl h) (inl k) = inl (k ∙ h)
+link-then a b c (inr off) (inl k) =
+    inr (record {
+      opened = ap is_open_link k ∙ off.opened;
+      asked = ap is_asked_link k ∙ off.asked;
+      ended = λ h. ap (λ (l : Link ErrorKind). is_some (end_of_link l)) k ∙ off.ended h;
+    })
+link-then a b c (inl h) (inr off) =
+    inr (record {
+      opened = off.opened;
+      asked = off.asked;
+      ended = λ k. off.ended (ap (λ (l : Link ErrorKind). is_some (end_of_link l)) h ∙ k);
+    })
+link-then a b c (inr h) (inr off) = inr (record { opened = off.opened; asked = off.asked; ended = λ k. off.ended (h.ended k) })
+
+-- what had ended still has
+pub kept-ended : (t t' : Talk) → LinkKept t t' → has_ended t ≡ true → has_ended t' ≡ true
+kept-ended t t' (inl same) h = ap (λ (l : Link ErrorKind). is_some (end_of_link l)) same ∙ h
+kept-ended t t' (inr off) h = off.ended h
+
+-- no link opens
+pub kept-open : (t t' : Talk) → LinkKept t t' → is_open t' ≡ true → is_open t ≡ true
+kept-open t t' (inl same) now = ap is_open_link (sym same) ∙ now
+kept-open t t' (inr off) now = absurd (true≢false (sym now ∙ off.opened))
+
+-- a rule that commits nothing, makes the capacity so much, and leaves the link as it is unless it is off
 pub record Keeps (octets : ℕ) (t t' : Talk) : Type 0 where
   pub committed : t'.committed ≡ t.committed
   pub capacity : t'.capacity ≡ octets
-  pub link : (t'.link ≡ t.link) ⊎ (has_ended t' ≡ true)
+  pub link : LinkKept t t'
 
 pub keeps-none : (t : Talk) → Keeps t.capacity t t
 keeps-none t = record { committed = refl; capacity = refl; link = inl refl }
 
 keeps-lose : (e : ErrorKind) (t : Talk) → Keeps t.capacity t (lose e t)
-keeps-lose e t = record { committed = refl; capacity = refl; link = inr refl }
+keeps-lose e t = record { committed = refl; capacity = refl; link = inr (off-over t (lose e t) refl) }
 
 keeps-give_to : (promise : Option ℕ) (answer : Result AnyAnswer ErrorKind) (octets : ℕ) (t u : Talk) → Keeps octets t u → Keeps octets t (give_to promise answer u)
 keeps-give_to None answer octets t u k = k
 keeps-give_to (Some n) answer octets t u k = record { committed = k.committed; capacity = k.capacity; link = k.link }
 
 keeps-close : (octets : ℕ) (t u : Talk) → Keeps octets t u → Keeps octets t (close u)
-keeps-close octets t u k = record { committed = k.committed; capacity = k.capacity; link = inr refl }
+keeps-close octets t u k = record { committed = k.committed; capacity = k.capacity; link = inr (off-over t (close u) refl) }
 
 -- ---- frames
 
@@ -138,7 +184,7 @@ abbrev pub capacity_by : AnyMethod → ConnectionState → Phase → Talk → �
 capacity_by OpenOk Connecting AwaitOpenOk t = grown_capacity t
 capacity_by _ s p t = t.capacity
 
-keeps-connection : (s : ConnectionState) (p : Phase) (m : AnyMethod) (answers : List Asked) (t : Talk) → Keeps (capacity_by m s p t) t (connection_rule s p m answers t)
+keeps-connection : (s : ConnectionState) (p : Phase) (m : AnyMethod) (answers : List ProviderAnswer) (t : Talk) → Keeps (capacity_by m s p t) t (connection_rule s p m answers t)
 keeps-connection s p (Close code text class method) answers t = record { committed = refl; capacity = refl; link = inl refl }
 keeps-connection s p (Blocked reason) answers t = record { committed = refl; capacity = refl; link = inl refl }
 keeps-connection s p Unblocked answers t = record { committed = refl; capacity = refl; link = inl refl }
@@ -219,7 +265,7 @@ abbrev pub acted_capacity : Frame → Talk → ℕ
 acted_capacity (Method zero m) t = capacity_by m t.state t.phase t
 acted_capacity f t = t.capacity
 
-keeps-method : (n : ℕ) (m : AnyMethod) (answers : List Asked) (t : Talk) → Keeps (acted_capacity (Method n m) t) t (method_rule n m answers t)
+keeps-method : (n : ℕ) (m : AnyMethod) (answers : List ProviderAnswer) (t : Talk) → Keeps (acted_capacity (Method n m) t) t (method_rule n m answers t)
 keeps-method zero m answers t =
     if_by (Keeps (capacity_by m t.state t.phase t) t) (is_of_a_channel m) (misplaced _ t) (connection_rule t.state t.phase m answers t)
     (λ h. keeps-same _ t.capacity t _ (channel-capacity m t.state t.phase t h) (keeps-misplaced _ t)) (λ h. keeps-connection t.state t.phase m answers t)
@@ -227,7 +273,7 @@ keeps-method (suc n) m answers t =
     if_case (Keeps t.capacity t) (is_of_a_channel m) (channel_method (suc n) m t) (misplaced _ t)
     (keeps-channel-by (heard_on t.state (channel_at (suc n) t)) (suc n) m t) (keeps-misplaced _ t)
 
-keeps-rule : (f : Frame) (answers : List Asked) (t : Talk) → Keeps (acted_capacity f t) t (frame_rule f answers t)
+keeps-rule : (f : Frame) (answers : List ProviderAnswer) (t : Talk) → Keeps (acted_capacity f t) t (frame_rule f answers t)
 keeps-rule (ProtocolHeader version) answers t = keeps-lose _ t
 keeps-rule Heartbeat answers t = keeps-none t
 keeps-rule (Method n m) answers t = keeps-method n m answers t
@@ -253,7 +299,7 @@ frame-capacity true f t h =
     acting-capacity f t ∙ ap (λ c. if c && is_opening f t.state t.phase then grown_capacity t else t.capacity) (sym h)
 frame-capacity false f t h = ap (λ c. if c && is_opening f t.state t.phase then grown_capacity t else t.capacity) (sym h)
 
-pub keeps-frame : (f : Frame) (answers : List Asked) (t : Talk) → Keeps (capacity_after f t) t (on_frame f answers t)
+pub keeps-frame : (f : Frame) (answers : List ProviderAnswer) (t : Talk) → Keeps (capacity_after f t) t (on_frame f answers t)
 keeps-frame f answers t =
     if_by (Keeps (capacity_after f t) t) (acts t) (frame_rule f answers t) (if hears_on t then closed_rule f t else t)
     (λ acting. keeps-same _ (acted_capacity f t) t _ (sym (frame-capacity true f t acting)) (keeps-rule f answers t))
@@ -291,14 +337,38 @@ asks-connected t asks = by t.state asks
     by Connected h = refl
     by _ h = cc
 
--- time commits nothing
-pub keeps-tick : (answers : List Asked) (t : Talk) → Keeps t.capacity t (tick answers t)
-keeps-tick answers t =
+keeps-timed : (answers : List ProviderAnswer) (t : Talk) → Keeps t.capacity t (timed answers t)
+keeps-timed answers t =
     let before : Keeps t.capacity t (beat t) = keeps-beat t in
     secret-case (Keeps t.capacity t) answers (beat t) before (λ asks said. keeps-refreshed said t (beat t) before)
 
+-- a link that is due is neither open nor asked for, before and then
+due-link : (t : Talk) → LinkKept t (link_due t)
+due-link t = by t.link refl
+  where
+    by : (l : Link ErrorKind) → t.link ≡ l → LinkKept t (link_due t)
+    by (Due moment) is =
+        let same : link_at t.present t.link ≡ (if nat_le moment t.present then Wanted else Due moment) = ap (link_at t.present) is in
+        let off : (is_open (link_due t) ≡ false) × (is_asked (link_due t) ≡ false) = (
+          ap is_open_link same ∙ if_case (λ (l : Link ErrorKind). is_open_link l ≡ false) (nat_le moment t.present) Wanted (Due moment) refl refl,
+          ap is_asked_link same ∙ if_case (λ (l : Link ErrorKind). is_asked_link l ≡ false) (nat_le moment t.present) Wanted (Due moment) refl refl,
+        ) in
+        let going : has_ended t ≡ false = ap (λ (l : Link ErrorKind). is_some (end_of_link l)) is in
+        inr (record { opened = off.0; asked = off.1; ended = λ h. absurd (true≢false (sym h ∙ going)) })
+    by Wanted is = inl (ap (link_at t.present) is ∙ sym is)
+    by Asked is = inl (ap (link_at t.present) is ∙ sym is)
+    by Open is = inl (ap (link_at t.present) is ∙ sym is)
+    by (Ended r) is = inl (ap (link_at t.present) is ∙ sym is)
+
+-- time commits nothing
+pub keeps-tick : (answers : List ProviderAnswer) (t : Talk) → Keeps t.capacity t (tick answers t)
+keeps-tick answers t =
+    let x : Talk = timed answers t in
+    let k : Keeps t.capacity t x = keeps-timed answers t in
+    record { committed = k.committed; capacity = k.capacity; link = link-then t x (link_due x) k.link (due-link x) }
+
 -- a frame that is read commits nothing
-pub frame-committed : (f : Frame) (answers : List Asked) (at : ℕ) (t : Talk) → (on_frame f answers (present_at at t)).committed ≡ t.committed
+pub frame-committed : (f : Frame) (answers : List ProviderAnswer) (at : ℕ) (t : Talk) → (on_frame f answers (present_at at t)).committed ≡ t.committed
 frame-committed f answers at t = (keeps-frame f answers (present_at at t)).committed ∙ present-keeps (λ x. x.committed) at t (λ n. refl)
 
 pub keeps-misread : (why : Misread) (t : Talk) → Keeps t.capacity t (misread why t)
@@ -406,10 +476,12 @@ refreshed-keeps f k (Ok secret) t = k t _ t.last_write t.secret_at true
 refreshed-keeps f k (Err text) t = k t t.outbox t.last_write t.present t.refreshing
 
 -- a tick leaves it as it was, where it overlooks all that
-pub tick-keeps : {A : Type 0} (f : Talk → A) → OverlooksEnds f → OverlooksTicks f → (answers : List Asked) (t : Talk) → f (tick answers t) ≡ f t
+pub tick-keeps : {A : Type 0} (f : Talk → A) → OverlooksEnds f → OverlooksTicks f → (answers : List ProviderAnswer) (t : Talk) → f (tick answers t) ≡ f t
 tick-keeps f h k answers t =
     let x : Talk = missing_heartbeat t in
-    secret-case (λ (y : Talk). f y ≡ f (beat t)) answers (beat t) refl (λ asks said. refreshed-keeps f k said (beat t))
+    let y : Talk = timed answers t in
+    h y y.state (link_at y.present y.link) y.channels y.promises
+    ∙ secret-case (λ (y : Talk). f y ≡ f (beat t)) answers (beat t) refl (λ asks said. refreshed-keeps f k said (beat t))
     ∙ if_case (λ (y : Talk). f y ≡ f x) (is_due x) (record (queue 0 Heartbeat x) { last_write = x.present }) x (k x _ _ x.secret_at x.refreshing) refl
     ∙ if_case (λ (y : Talk). f y ≡ f t) (is_missed t) (lose MissingHeartbeatError t) t (h t _ _ _ _) refl
 
@@ -438,24 +510,39 @@ lost-stays fault t =
     (if_case (λ (x : Talk). (x ≡ t) ⊎ (has_ended x ≡ true)) (is_open t) (finish t) t (inr (finish-ends t.server_close t)) (inl refl))
 
 -- a tick leaves the link, or ends the session
-pub tick-stays : (answers : List Asked) (t : Talk) → has_ended t ≡ true → has_ended (tick answers t) ≡ true
-tick-stays answers t h =
-    elim (keeps-tick answers t).link [ inl same ↦ ap (λ (l : Link ErrorKind). is_some (end_of_link l)) same ∙ h | inr ended ↦ ended ]
-
--- the link stays, or the session ended
-abbrev pub LinkKept : Talk → Talk → Type 0
-LinkKept t t' = (t'.link ≡ t.link) ⊎ (has_ended t' ≡ true)
+pub tick-stays : (answers : List ProviderAnswer) (t : Talk) → has_ended t ≡ true → has_ended (tick answers t) ≡ true
+tick-stays answers t h = kept-ended t (tick answers t) (keeps-tick answers t).link h
 
 pub lost-link : (fault : IoFault) (t : Talk) → LinkKept t (lost fault t)
 lost-link fault t =
     if_case (LinkKept t) (acts t) (lose (IOError fault) t) (if is_open t then finish t else t)
-    (inr refl)
-    (if_case (LinkKept t) (is_open t) (finish t) t (inr (finish-ends t.server_close t)) (inl refl))
+    (inr (off-over t (lose (IOError fault) t) refl))
+    (if_case (LinkKept t) (is_open t) (finish t) t (inr (off-over t (finish t) (finish-ends t.server_close t))) (inl refl))
 
-pub link-then : (a b c : Talk) → LinkKept a b → LinkKept b c → LinkKept a c
-link-then a b c (inl h) (inl k) = inl (k ∙ h)
-link-then a b c (inr h) (inl k) = inr (ap (λ (l : Link ErrorKind). is_some (end_of_link l)) k ∙ h)
-link-then a b c h (inr k) = inr k
+-- a refused link waits for its delay, or the session ends
+refused-link : (delay : Option ℕ) (t : Talk) → is_asked t ≡ true → LinkKept t (refused_after delay t)
+refused-link (Some delay) t h =
+    inr (record { opened = refl; asked = refl; ended = λ over. absurd (true≢false (sym h ∙ (ended-off t.link over).1)) })
+refused-link None t h = inr (off-over t (fail (IOError Refused) t) refl)
+
+pub failed-link : (t : Talk) → LinkKept t (link_failed t)
+failed-link t = if_by (LinkKept t) (is_asked t) (refused_after (next_delay t) t) t (λ h. refused-link (next_delay t) t h) (λ h. inl refl)
+
+-- what does not look at what an end changes, and not at the delays, is the same once a link was refused
+pub failed-keeps : {A : Type 0} (f : Talk → A) → OverlooksEnds f → ((t : Talk) (n : ℕ) → f (record t { tried = n }) ≡ f t) → (t : Talk) → f (link_failed t) ≡ f t
+failed-keeps f h k t =
+    if_case (λ (x : Talk). f x ≡ f t) (is_asked t) (refused_after (next_delay t) t) t (by (next_delay t)) refl
+  where
+    by : (delay : Option ℕ) → f (refused_after delay t) ≡ f t
+    by (Some delay) = k (record t { link = _ }) (t.tried + 1) ∙ h t t.state _ t.channels t.promises
+    by None = h t _ _ _ t.promises
+
+-- no link is open, and the session goes on
+abbrev pub lacks_link : Link ErrorKind → Bool
+lacks_link (Due moment) = true
+lacks_link Wanted = true
+lacks_link Asked = true
+lacks_link _ = false
 
 -- ---- writing
 
@@ -484,7 +571,7 @@ pub follow-link : (th : Then) (t : Talk) → LinkKept t (follow th t)
 follow-link Nothing t = inl refl
 follow-link (Answer n) t = inl refl
 follow-link (Pays n) t = inl (pay-keeps (λ (x : Talk). x.link) (λ u cs. refl) (channel_at n t) n t)
-follow-link Finish t = inr (finish-ends t.server_close t)
+follow-link Finish t = inr (off-over t (finish t) (finish-ends t.server_close t))
 
 sent_among-keeps : {A : Type 0} (f : Talk → A) → Overlooks f → (ms : List Mark) (n : ℕ) (t : Talk) → f (sent_among ms n t) ≡ f t
 sent_among-keeps f h [] n t = refl

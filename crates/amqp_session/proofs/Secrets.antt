@@ -24,8 +24,7 @@ use Rattle.amqp_session.specs.declared.command.Cmd.{Cmd}
 use Rattle.amqp_session.specs.declared.command.Cmd.TheVariants.{OpenChannel, CloseChannel, CloseConnection, UpdateSecret, Send, Publish, Flow, DropChannel, DropConnection}
 use Rattle.amqp_session.specs.declared.misread.Misread.{Misread}
 use Rattle.amqp_session.specs.declared.error.ErrorKind.{ErrorKind}
-use Rattle.amqp_session.specs.declared.error.ErrorKind.TheVariants.{IOError, NoMemory, MissingHeartbeatError}
-use Rattle.amqp_session.specs.declared.io_fault.IoFault.TheVariants.{Refused}
+use Rattle.amqp_session.specs.declared.error.ErrorKind.TheVariants.{NoMemory, MissingHeartbeatError}
 use Rattle.amqp_session.specs.declared.auth.asked.Question.{Question}
 use Rattle.amqp_session.specs.declared.auth.asked.Question.TheVariants as question
 use Rattle.amqp_session.specs.declared.auth.asked.Asked.{Asked}
@@ -46,7 +45,7 @@ use Rattle.amqp_session.specs.Writing.{next_within, committed_as, commit, overlo
 use Rattle.amqp_session.specs.Answers.{answer_of}
 use Rattle.amqp_session.specs.Secrets.{HasExpired, may_renew, refuses, IsSameSecret, IsSameOrNew, KeepsSecret}
 use Rattle.amqp_session.proofs.Heard.{start-case, secure-case}
-use Rattle.amqp_session.proofs.Keeping.{present-keeps, lost-keeps, taken-keeps}
+use Rattle.amqp_session.proofs.Keeping.{present-keeps, lost-keeps, failed-keeps, taken-keeps}
 use Rattle.amqp_session.proofs.Cases.{if_case, if_by}
 
 -- ---- frames
@@ -265,7 +264,7 @@ keeps-secret t = record {
   moment = λ at. present-keeps (λ (x : Talk). x.secret_at) at t (λ n. refl);
   asked = refl;
   linked = linked-secret t;
-  link_failed = if_case (IsSameSecret t) (is_asked t) (fail (IOError Refused) t) t refl refl;
+  link_failed = failed-keeps (λ (x : Talk). x.secret_at) (λ x s l cs ps. refl) (λ x n. refl) t;
   piece = if_case (IsSameSecret t) (is_open t) (record t { last_read = t.present }) t refl refl;
   misread = λ why. misread-secret why t;
   lost = λ fault. lost-keeps (λ (x : Talk). x.secret_at) (λ x s l cs ps. refl) fault t;

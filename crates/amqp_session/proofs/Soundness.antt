@@ -31,7 +31,7 @@ use Rattle.amqp_session.specs.declared.state.ChannelState.TheVariants as channel
 use Rattle.amqp_session.specs.declared.state.Phase.{Phase}
 use Rattle.amqp_session.specs.declared.state.Phase.TheVariants.{AwaitStart, AwaitTune, AwaitOpenOk}
 use Rattle.amqp_session.specs.declared.state.Link.{Link}
-use Rattle.amqp_session.specs.declared.state.Link.TheVariants.{Wanted, Asked, Open, Ended}
+use Rattle.amqp_session.specs.declared.state.Link.TheVariants.{Due, Wanted, Asked, Open, Ended}
 use Rattle.amqp_session.specs.declared.io_fault.IoFault.{IoFault}
 use Rattle.amqp_session.specs.declared.configuration.Configuration.{Configuration}
 use Rattle.amqp_session.specs.declared.server_close.ServerClose.{ServerClose}
@@ -48,9 +48,9 @@ use Rattle.amqp_session.specs.declared.error.ErrorKind.{ErrorKind}
 use Rattle.amqp_session.specs.Listed.{at, put, without, has}
 use Rattle.amqp_session.specs.Config.{Config}
 use Rattle.amqp_session.specs.declared.auth.asked.Asked.{Asked as ProviderAnswer}
-use Rattle.amqp_session.specs.Talk.{Talk, start, acts, hears_on, has_ended, is_acting, is_asked, is_closing, is_open, is_open_link, end_of_link}
+use Rattle.amqp_session.specs.Talk.{Talk, start, acts, hears_on, has_ended, is_acting, is_asked, is_closing, is_open, is_open_link, is_asked_link, end_of_link}
 use Rattle.amqp_session.specs.Changes.{Promises, present_at, queue, starve, next_promise, refuse, give, give_to, rejected, rejected_each, promises_on, replies_on, without_all_on, drop_replies_of, fail, lose, misplaced, close, finish, finish_by, settled_by, settled_to, promise}
-use Rattle.amqp_session.specs.Links.{asked, asked_link, linked, link_failed, piece, dropped, misread, lost}
+use Rattle.amqp_session.specs.Links.{asked, asked_link, linked, next_delay, refused_after, link_failed, piece, dropped, misread, lost}
 use Rattle.amqp_session.specs.Handshake.{close_ok, start_ok, secure_ok, tune_ok, open_vhost, our_close, new_secret, channel_open, channel_flow, flow_ok, channel_close_ok, our_channel_close}
 use Rattle.amqp_session.specs.Negotiation.{lesser_wish, wish_or, tune}
 use Rattle.amqp_session.specs.Numbering.{first_number, drawn}
@@ -62,7 +62,7 @@ use Rattle.amqp_session.specs.Publishing.{method_frame, publish_frames}
 use Rattle.amqp_session.specs.Frames.{is_of_a_channel, method_rule, frame_rule, closed_rule, on_frame}
 use Rattle.amqp_session.specs.Commands.{is_opening, named_in, named, target_in, target_by, target, open_drawn, leave_channel, leave_connection, close_target, drop_target, flow_target, queue_secret, update_secret, too_long, unless_too_long, queue_send, send_target, body_limit, queue_publish, publish_target, command, command_rule}
 use Rattle.amqp_session.specs.Writing.{committed_as, next_within, commit, overlong, end_overlong, next_frame, paid_by, pay, follow, sent, sent_among, taken}
-use Rattle.amqp_session.specs.Ticks.{is_missed, is_due, missing_heartbeat, beat, refreshed, refresh_reason, tick}
+use Rattle.amqp_session.specs.Ticks.{is_missed, is_due, missing_heartbeat, beat, refreshed, refresh_reason, link_at, link_due, timed, tick}
 use Rattle.amqp_session.specs.Answers.{answer_of, take_answer, take_frames}
 use Rattle.amqp_session.specs.Laws.{IsEnded, StaysSound, is_end}
 use Rattle.amqp_session.specs.Sound.{Ascend, AscendFrom, IsSound, fits_link, is_agreed, AllBelow, Finishes, following, goes_on}
@@ -268,18 +268,21 @@ sound-raw (Some c) n kind bytes t some s = sound-pass n c kind bytes t some s
 
 open-closing : (l : Link ErrorKind) → is_open_link l ≡ true → fits_link Closing l ≡ true
 open-closing Open h = refl
+open-closing (Due moment) h = absurd cc
 open-closing Wanted h = absurd cc
 open-closing Asked h = absurd cc
 open-closing (Ended r) h = absurd cc
 
 opened-fits : (l : Link ErrorKind) → fits_link Connecting l ≡ true → fits_link Connected l ≡ true
 opened-fits Open h = refl
+opened-fits (Due moment) h = absurd cc
 opened-fits Wanted h = absurd cc
 opened-fits Asked h = absurd cc
 opened-fits (Ended r) h = absurd cc
 
 closing-fits : (l : Link ErrorKind) → fits_link Connected l ≡ true → fits_link Closing l ≡ true
 closing-fits Open h = refl
+closing-fits (Due moment) h = absurd cc
 closing-fits Wanted h = absurd cc
 closing-fits Asked h = absurd cc
 closing-fits (Ended r) h = absurd cc
@@ -418,8 +421,22 @@ sound-asked t s = record { link = asked-fits t.state t.link s.link; room = s.roo
 pub sound-linked : (t : Talk) → IsSound t → IsSound (linked t)
 sound-linked t s = if_case IsSound (is_asked t) _ t (record { link = refl; room = λ h. absurd cc; acting = λ h. refl; finish = (refl, tt); listed = s.listed; promises = s.promises }) s
 
+-- a link that was asked for may be one that is due
+pub due-fits : (state : ConnectionState) (l : Link ErrorKind) (moment : ℕ) → is_asked_link l ≡ true → fits_link state l ≡ true → fits_link state (Due moment) ≡ true
+due-fits Initial Asked moment h k = refl
+due-fits _ Asked moment h k = absurd cc
+due-fits state (Due n) moment h k = absurd cc
+due-fits state Wanted moment h k = absurd cc
+due-fits state Open moment h k = absurd cc
+due-fits state (Ended r) moment h k = absurd cc
+
+sound-refused : (delay : Option ℕ) (t : Talk) → is_asked t ≡ true → IsSound t → IsSound (refused_after delay t)
+sound-refused None t h s = sound-fail _ t s
+sound-refused (Some delay) t h s =
+    record { link = due-fits t.state t.link _ h s.link; room = s.room; acting = s.acting; finish = s.finish; listed = s.listed; promises = s.promises }
+
 pub sound-link_failed : (t : Talk) → IsSound t → IsSound (link_failed t)
-sound-link_failed t s = if_case IsSound (is_asked t) _ t (sound-fail _ t s) s
+sound-link_failed t s = if_by IsSound (is_asked t) (refused_after (next_delay t) t) t (λ h. sound-refused (next_delay t) t h s) (λ h. s)
 
 pub sound-piece : (t : Talk) → IsSound t → IsSound (piece t)
 sound-piece t s =
@@ -695,13 +712,24 @@ sound-refreshed (Ok secret) t hs s =
       promises = s.promises;
     }
 
-pub sound-tick : (answers : List ProviderAnswer) (t : Talk) → IsSound t → IsSound (tick answers t)
-sound-tick answers t s =
+at-fits : (now : ℕ) (state : ConnectionState) (l : Link ErrorKind) → fits_link state l ≡ true → fits_link state (link_at now l) ≡ true
+at-fits now Initial (Due moment) h = if_case (λ (l : Link ErrorKind). fits_link Initial l ≡ true) (nat_le moment now) Wanted (Due moment) refl refl
+at-fits now _ (Due moment) h = absurd cc
+at-fits now state l h = h
+
+sound-due : (t : Talk) → IsSound t → IsSound (link_due t)
+sound-due t s = record { link = at-fits t.present t.state t.link s.link; room = s.room; acting = s.acting; finish = s.finish; listed = s.listed; promises = s.promises }
+
+sound-timed : (answers : List ProviderAnswer) (t : Talk) → IsSound t → IsSound (timed answers t)
+sound-timed answers t s =
     let x : Talk = missing_heartbeat t in
     let after : IsSound x = if_case IsSound (is_missed t) (lose MissingHeartbeatError t) t (sound-fail MissingHeartbeatError t s) s in
     let beaten : IsSound (beat t) =
     if_by IsSound (is_due x) (record (queue 0 Heartbeat x) { last_write = x.present }) x (λ due. sound-heartbeat x (beats-connected x due) after) (λ rest. after) in
     secret-case IsSound answers (beat t) beaten (λ asks said. sound-refreshed said (beat t) (asks-connected (beat t) asks) beaten)
+
+pub sound-tick : (answers : List ProviderAnswer) (t : Talk) → IsSound t → IsSound (tick answers t)
+sound-tick answers t s = sound-due (timed answers t) (sound-timed answers t s)
 
 sound-paid : (b : Bool) (n : ℕ) (c : Channel) (t : Talk) → 0 < n → IsSound t → IsSound (paid_by b n c t)
 sound-paid true n c t some s = sound-set n (record c { debt = debt.Paid }) t some s
@@ -794,6 +822,7 @@ keeps-sound t s =
 ended-fits : (state : ConnectionState) (l : Link ErrorKind) → fits_link state l ≡ true → is_some (end_of_link l) ≡ true → is_end state ≡ true
 ended-fits Closed (Ended r) h k = refl
 ended-fits Error (Ended r) h k = refl
+ended-fits state (Due moment) h k = absurd cc
 ended-fits state Wanted h k = absurd cc
 ended-fits state Asked h k = absurd cc
 ended-fits state Open h k = absurd cc

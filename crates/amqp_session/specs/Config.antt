@@ -1,5 +1,5 @@
 -- What a session is made from: the address, and what its user says of the client.
-use Rattle.std.specs.Prelude.{ℕ, List, [], codes, unwrap_or}
+use Rattle.std.specs.Prelude.{ℕ, List, [], Bool, true, false, codes, unwrap_or}
 use Rattle.amqp_types.specs.Value.{FieldValue, Pair, scalar, long_string}
 use Rattle.amqp_types.specs.Table.{put}
 use Rattle.amqp_uri.specs.declared.uri.AMQPUri.{AMQPUri}
@@ -13,6 +13,10 @@ pub record Options : Type 0 where
   pub locale : List ℕ
   -- the client's properties, by name
   pub properties : List Pair
+  -- how long the session waits, time after time, where it has no link and is to have one, in milliseconds; and whether
+  -- that was said
+  pub delays : List ℕ
+  pub has_delays : Bool
 
 -- what a session is made from; no rule changes it
 pub record Config : Type 0 where
@@ -31,9 +35,9 @@ config_of uri options = record { uri = uri; options = options }
 abbrev pub text_value : List ℕ → FieldValue
 text_value content = scalar (long_string content)
 
--- nothing beside what every client says: texts in English, and no properties
+-- nothing beside what every client says: texts in English, no properties, and no delays
 abbrev pub no_options : Options
-no_options = record { locale = codes "en_US"; properties = [] }
+no_options = record { locale = codes "en_US"; properties = []; delays = []; has_delays = false }
 
 -- the same with another language
 abbrev pub with_locale : List ℕ → Options → Options
@@ -46,6 +50,10 @@ with_property name text options = record options { properties = put options.prop
 -- the same with a name of the connection, by which RabbitMQ shows it
 abbrev pub with_name : List ℕ → Options → Options
 with_name name options = with_property (codes "connection_name") name options
+
+-- the same with other delays
+abbrev pub with_backoff : List ℕ → Options → Options
+with_backoff delays options = record options { delays = delays; has_delays = true }
 
 -- ---- what the address says
 

@@ -58,11 +58,16 @@ on_tune server t =
       phase = AwaitOpenOk;
     }
 
--- open-ok: the connection is open, its promise is answered, more can be unsent, where longer frames were agreed, and
--- from now on the secret is valid
+-- open-ok: the connection is open, its promise is answered, more can be unsent, where longer frames were agreed, from
+-- now on the secret is valid, and all delays are left again
 abbrev pub on_open_ok : Talk → Talk
 on_open_ok t =
-    record (give 0 (Ok AnswerConnected) t) { state = Connected; capacity = grown_capacity t; secret_at = t.present }
+    record (give 0 (Ok AnswerConnected) t) {
+      state = Connected;
+      capacity = grown_capacity t;
+      secret_at = t.present;
+      tried = 0;
+    }
 
 -- ---- blocking (an extension of RabbitMQ)
 

@@ -1,11 +1,11 @@
 -- Links: that one is asked for, comes or does not come, gives bytes, and ends.
-use Rattle.std.specs.Prelude.{if◌then◌else◌, false, []}
+use Rattle.std.specs.Prelude.{ℕ, ◌+◌, ◌-◌, ◌^◌, min, if◌then◌else◌, false, [], Option, Some, None, slice_get}
 use Rattle.amqp_outbox.specs.Items.{plain}
 use Rattle.amqp_outbox.specs.Queued.{only}
 use Rattle.amqp_session.specs.declared.state.ConnectionState.TheVariants.{Connecting}
 use Rattle.amqp_session.specs.declared.state.Phase.TheVariants.{AwaitStart}
 use Rattle.amqp_session.specs.declared.state.Link.{Link}
-use Rattle.amqp_session.specs.declared.state.Link.TheVariants.{Wanted, Asked, Open}
+use Rattle.amqp_session.specs.declared.state.Link.TheVariants.{Wanted, Due, Asked, Open}
 use Rattle.amqp_session.specs.declared.state.Input.{Input}
 use Rattle.amqp_session.specs.declared.state.Input.TheVariants.{Acting, Closed, Dropped}
 use Rattle.amqp_session.specs.declared.io_fault.IoFault.{IoFault}
@@ -45,9 +45,22 @@ linked t =
     }
     else t
 
+-- the delay that is next, where one is left
+abbrev pub next_delay : Talk → Option ℕ
+next_delay t = slice_get t.config.options.delays t.tried
+
+-- no link is wanted until a delay is over, at a moment that stays at the greatest of 64 bits
+abbrev pub delayed : ℕ → Talk → Talk
+delayed delay t = record t { link = Due (min (t.present + delay) (2 ^ 64 - 1)); tried = t.tried + 1 }
+
+-- the link that was asked for is refused, by the delay that is next: where none is left, that is the end
+abbrev pub refused_after : Option ℕ → Talk → Talk
+refused_after (Some delay) t = delayed delay t
+refused_after None t = fail (IOError Refused) t
+
 -- the link that was asked for is refused
 abbrev pub link_failed : Talk → Talk
-link_failed t = if is_asked t then fail (IOError Refused) t else t
+link_failed t = if is_asked t then refused_after (next_delay t) t else t
 
 -- bytes were read on the open link
 abbrev pub piece : Talk → Talk

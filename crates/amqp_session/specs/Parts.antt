@@ -8,7 +8,7 @@ use Rattle.amqp_session.specs.declared.state.ConnectionState.TheVariants.{Connec
 use Rattle.amqp_session.specs.declared.state.Phase.{Phase}
 use Rattle.amqp_session.specs.declared.state.Phase.TheVariants.{AwaitOpenOk}
 use Rattle.amqp_session.specs.declared.state.Link.{Link}
-use Rattle.amqp_session.specs.declared.state.Link.TheVariants.{Wanted, Asked, Open, Ended}
+use Rattle.amqp_session.specs.declared.state.Link.TheVariants.{Wanted, Due, Asked, Open, Ended}
 use Rattle.amqp_session.specs.declared.state.End.{End}
 use Rattle.amqp_session.specs.declared.state.End.TheVariants.{ByServer, Failed}
 use Rattle.amqp_session.specs.declared.promises.Slot.{Slot}
@@ -83,6 +83,7 @@ ended_as told (Failed e) = Err e
 
 -- where a session stands with its link: the end by the server's close is told by that close
 abbrev pub link_seen : Option ServerClose → Link End → Link ErrorKind
+link_seen told (Due moment) = Due moment
 link_seen told Wanted = Wanted
 link_seen told Asked = Asked
 link_seen told Open = Open

@@ -8,7 +8,7 @@ use Rattle.amqp_session.specs.declared.state.ConnectionState.TheVariants.{Initia
 use Rattle.amqp_session.specs.declared.state.Phase.{Phase}
 use Rattle.amqp_session.specs.declared.state.Phase.TheVariants.{AwaitOpenOk}
 use Rattle.amqp_session.specs.declared.state.Link.{Link}
-use Rattle.amqp_session.specs.declared.state.Link.TheVariants.{Wanted, Asked, Open, Ended}
+use Rattle.amqp_session.specs.declared.state.Link.TheVariants.{Wanted, Due, Asked, Open, Ended}
 use Rattle.amqp_session.specs.declared.state.Input.{Input}
 use Rattle.amqp_session.specs.declared.state.Input.TheVariants.{Acting}
 use Rattle.amqp_session.specs.declared.committed.Mark.{Mark}
@@ -33,9 +33,10 @@ abbrev pub AllBelow : ℕ → List ℕ → Type 0
 AllBelow n [] = Unit {0}
 AllBelow n (k ∷ ks) = (k < n) × AllBelow n ks
 
--- a link that a state has: one is wanted at the beginning, it is open until the end, and it is ended exactly in Closed
--- and Error
+-- a link that a state has: at the beginning one is wanted, or its delay is not over, it is open until the end, and it
+-- is ended exactly in Closed and Error
 abbrev pub fits_link : ConnectionState → Link ErrorKind → Bool
+fits_link Initial (Due moment) = true
 fits_link Initial Wanted = true
 fits_link Initial Asked = true
 fits_link Connecting Open = true

@@ -60,6 +60,8 @@ pub record Talk : Type 0 where
   -- not answer yet
   pub secret_at : ℕ
   pub refreshing : Bool
+  -- how many of the delays were taken since the connection was last open
+  pub tried : ℕ
 
 -- the state at the beginning: a link is wanted, and the connection's promise, number 0, waits
 abbrev pub start : Config → Talk
@@ -86,6 +88,7 @@ start config =
       last_write = 0;
       secret_at = 0;
       refreshing = false;
+      tried = 0;
     }
 
 -- the state is Closing

@@ -1,5 +1,5 @@
--- Time: heartbeats that are missed, and those that are due (AMQP 0-9-1, 4.2.7), and secrets that expire (an extension
--- of RabbitMQ). Moments and validity are in milliseconds, and the agreed interval is in seconds.
+-- Time: heartbeats that are missed, and those that are due (AMQP 0-9-1, 4.2.7), secrets that expire (an extension of
+-- RabbitMQ), and links that are due. Moments and validity are in milliseconds, and the agreed interval is in seconds.
 use Rattle.std.specs.Prelude.{ℕ, ◌*◌, ◌-◌, ◌==◌, ◌&&◌, not, nat_lt, nat_le, if◌then◌else◌, Bool, true, false, List, [], ◌∷◌, Option, Some, None, Result, Ok, Err, codes}
 use Rattle.amqp_frame.specs.declared.frame.Frame.TheVariants.{Heartbeat}
 use Rattle.amqp_session.specs.declared.state.ConnectionState.{ConnectionState}
@@ -10,6 +10,9 @@ use Rattle.amqp_session.specs.declared.auth.asked.Question.TheVariants as questi
 use Rattle.amqp_session.specs.declared.auth.asked.Asked.{Asked}
 use Rattle.amqp_session.specs.declared.auth.asked.Asked.TheVariants as answer
 use Rattle.amqp_outbox.specs.declared.reply.Reply.TheVariants.{SecretDone}
+use Rattle.amqp_session.specs.declared.state.Link.{Link}
+use Rattle.amqp_session.specs.declared.state.Link.TheVariants.{Wanted, Due}
+use Rattle.amqp_session.specs.declared.error.ErrorKind.{ErrorKind}
 use Rattle.amqp_session.specs.Talk.{Talk}
 use Rattle.amqp_session.specs.Handshake.{new_secret}
 use Rattle.amqp_session.specs.Changes.{queue, await, lose}
@@ -76,15 +79,30 @@ validity_told _ t = t
 abbrev pub secret_due : List Asked → Talk → Talk
 secret_due answers t = if asks_validity t then validity_told answers t else t
 
+-- ---- a link that is due
+
+-- a link is wanted once its delay is over
+abbrev pub link_at : ℕ → Link ErrorKind → Link ErrorKind
+link_at now (Due moment) = if nat_le moment now then Wanted else Due moment
+link_at now link = link
+
+-- where the delay of a link is over, one is wanted
+abbrev pub link_due : Talk → Talk
+link_due t = record t { link = link_at t.present t.link }
+
 -- ---- a tick
 
--- what is due but the secret: a server that is silent for too long, and a heartbeat
+-- what is due first: a server that is silent for too long, and a heartbeat
 abbrev pub beat : Talk → Talk
 beat t = heartbeat_due (missing_heartbeat t)
 
--- time goes by, with what the provider answers to what is asked then
+-- and what is due of the secret, with what the provider answers to what is asked then
+abbrev pub timed : List Asked → Talk → Talk
+timed answers t = secret_due answers (beat t)
+
+-- time goes by
 abbrev pub tick : List Asked → Talk → Talk
-tick answers t = secret_due answers (beat t)
+tick answers t = link_due (timed answers t)
 
 -- ---- what is asked of the provider
 

@@ -1,8 +1,8 @@
 //! What the user of a session says of the client.
 
-ghost use Rattle.std.specs.Prelude.{◌≡◌, ◌<◌, length, IfOk, OnOk, codes};
+ghost use Rattle.std.specs.Prelude.{◌≡◌, ◌<◌, ◌^◌, ℕ, List, length, IfOk, IfSome, OnOk, codes, slice_get};
 ghost use Rattle.amqp_types.specs.Table.{put};
-ghost use Rattle.amqp_session.specs.Config.{no_options, with_locale, with_property, with_name, text_value};
+ghost use Rattle.amqp_session.specs.Config.{no_options, with_locale, with_property, with_name, with_backoff, text_value};
 
 use amqp_types::{AMQPValue, FieldTable, LongString, NoMemory, ShortString};
 use std::alloc::Global;
@@ -92,6 +92,36 @@ impl<A: Drop> ConnectionProperties<A> {
         }
     }
 
+    /// The same with delays, in milliseconds, which take the place of those before. Where a link that was
+    /// asked for is refused, the next one is taken, and a link is wanted again when it is over; where none
+    /// is left, the session ends. Once the connection is open, all are left again.
+    pub fn with_backoff(self, delays: Vec<u64>) -> ConnectionProperties<A>
+        ensures { result ≡ record self { plain = with_backoff delays.items self.plain } }
+    {
+        ConnectionProperties {
+            plain: self.plain.with_backoff(delays),
+            auth_provider: self.auth_provider,
+        }
+    }
+
+    /// The same with delays that are made of those before, of which there are none at first.
+    pub fn configure_backoff<F: Fn(Vec<u64>) -> Vec<u64> + Drop>(
+        self,
+        conf: F,
+    ) -> ConnectionProperties<A>
+        requires { F.IsAlwaysCallable conf }
+        ensures { (before : _) × (after : _) × (before.items ≡ self.plain.delays) × F.post conf before after
+            × (result ≡ record self { plain = with_backoff after.items self.plain }) }
+    {
+        let (delays, plain) = self.plain.take_delays();
+        let delays = conf(delays);
+        drop(conf);
+        ConnectionProperties {
+            plain: plain.with_backoff(delays),
+            auth_provider: self.auth_provider,
+        }
+    }
+
     /// The same with a provider of authentication, which takes the place of one that was given before.
     pub fn with_auth_provider<B>(self, provider: B) -> ConnectionProperties<B>
         ensures { result ≡ record { plain = self.plain; auth_provider = provider } }
@@ -123,6 +153,8 @@ impl<A: Drop> ConnectionProperties<A> {
 pub(crate) struct Options {
     locale: ShortString,
     client_properties: FieldTable,
+    delays: Vec<u64>,
+    has_delays: bool,
 }
 
 impl Model for Options {
@@ -135,7 +167,12 @@ impl Model for Options {
 
     ghost coded = { Prim.hlevel (codes, value_code) };
 
-    ghost view = { λ o. record { locale = o.locale; properties = o.client_properties } };
+    ghost view = { λ o. record {
+      locale = o.locale;
+      properties = o.client_properties;
+      delays = o.delays.items;
+      has_delays = o.has_delays;
+    } };
 }
 
 impl Options {
@@ -146,16 +183,15 @@ impl Options {
         Ok(Options {
             locale,
             client_properties: FieldTable::new(alloc),
+            delays: Vec::new(alloc),
+            has_delays: false,
         })
     }
 
     fn with_locale(self, locale: ShortString) -> Options
         ensures { result ≡ with_locale locale self }
     {
-        Options {
-            locale,
-            client_properties: self.client_properties,
-        }
+        Options { locale, ..self }
     }
 
     fn with_property(self, key: ShortString, value: LongString) -> Result<Options, NoMemory>
@@ -166,6 +202,8 @@ impl Options {
         Ok(Options {
             locale: self.locale,
             client_properties,
+            delays: self.delays,
+            has_delays: self.has_delays,
         })
     }
 
@@ -174,6 +212,39 @@ impl Options {
     {
         let key = ShortString::from_vec(Vec::from_slice(alloc, b"connection_name")?);
         self.with_property(key, connection_name)
+    }
+
+    fn with_backoff(self, delays: Vec<u64>) -> Options
+        ensures { result ≡ with_backoff delays.items self }
+    {
+        Options {
+            delays,
+            has_delays: true,
+            ..self
+        }
+    }
+
+    // The delays, and the rest.
+    fn take_delays(self) -> (Vec<u64>, Options)
+        ensures delays { result.0.items ≡ self.delays }
+        ensures rest { (delays : List ℕ) → with_backoff delays result.1 ≡ with_backoff delays self }
+    {
+        let alloc = *self.delays.allocator();
+        let rest = Options {
+            locale: self.locale,
+            client_properties: self.client_properties,
+            delays: Vec::new(alloc),
+            has_delays: self.has_delays,
+        };
+        (self.delays, rest)
+    }
+
+    // The delay of this place, in milliseconds, where there are so many.
+    pub(crate) fn delay(&self, place: usize) -> Option<u64>
+        ensures delay { result ≡ slice_get self.now.delays place }
+        ensures small { IfSome result (λ delay. place < 2 ^ 63) }
+    {
+        self.delays.get(place).copied()
     }
 
     // The language in which texts are wanted.

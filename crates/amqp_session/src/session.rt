@@ -62,6 +62,7 @@ pub struct Session {
     last_write: u64,
     secret_at: u64,
     refreshing: bool,
+    tried: usize,
 }
 
 impl Model for Session {
@@ -102,6 +103,7 @@ impl Model for Session {
       last_write = s.last_write;
       secret_at = s.secret_at;
       refreshing = s.refreshing;
+      tried = s.tried;
     } };
 
     ghost use Rattle.amqp_session.specs.Talk.{is_acting};
@@ -194,6 +196,7 @@ impl Session {
             last_write: 0,
             secret_at: 0,
             refreshing: false,
+            tried: 0,
         }
     }
 

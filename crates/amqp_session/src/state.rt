@@ -120,6 +120,8 @@ impl Input {
 /// Where a session stands with its link. At its end it has none.
 #[derive(Debug, Drop)]
 pub enum Link<E> {
+    /// Until this moment, in milliseconds, none is wanted.
+    Due(u64),
     Wanted,
     Asked,
     Open,

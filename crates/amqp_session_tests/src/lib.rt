@@ -9,6 +9,8 @@ mod answers;
 #[cfg(test)]
 mod auth;
 #[cfg(test)]
+mod backoff;
+#[cfg(test)]
 mod channels;
 #[cfg(test)]
 mod closing;

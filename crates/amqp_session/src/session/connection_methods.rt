@@ -197,6 +197,7 @@ impl Session {
         self.capacity = self.capacity.grown(self.configuration.frame_max);
         self.state = Connected;
         self.secret_at = self.present;
+        self.tried = 0;
     }
 
     fn on_update_secret_ok(&mut self)

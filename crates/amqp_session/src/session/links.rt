@@ -1,11 +1,11 @@
 //! Links: that one is asked for, comes or does not come, gives bytes, and ends.
 
-ghost use Rattle.std.specs.Prelude.{◌≡◌, IfErr, OnOk, OnErr, IsOk, IsTrue, IsFalse};
+ghost use Rattle.std.specs.Prelude.{◌≡◌, ◌<◌, ◌^◌, IfErr, OnOk, OnErr, IsOk, IsTrue, IsFalse};
 ghost use Rattle.amqp_session.specs.Talk.{is_asked, acts};
 ghost use Rattle.amqp_session.specs.Changes.{present_at, starve};
 ghost use Rattle.amqp_session.specs.Memory.{MakesNothing};
 ghost use Rattle.amqp_session.specs.declared.misread.Misread.{Misread};
-ghost use Rattle.amqp_session.specs.Links.{asked, linked, link_failed, piece, misread, lost};
+ghost use Rattle.amqp_session.specs.Links.{asked, linked, link_failed, delayed, piece, misread, lost};
 
 use super::Session;
 use crate::error::{self, ErrorKind};
@@ -63,14 +63,29 @@ impl Session {
         Ok(())
     }
 
-    /// The link that was asked for is refused.
+    /// The link that was asked for is refused. Where a delay is left, one is wanted again at the tick at
+    /// which it is over; else the session ends.
     pub fn link_failed(&mut self, at: u64)
         ensures { self.new ≡ link_failed (present_at at self.old) }
     {
         self.advance(at);
-        if self.is_asked() {
-            self.fail(ErrorKind::IOError(IoFault::Refused));
+        if !self.is_asked() {
+            return;
         }
+        match self.options.delay(self.tried) {
+            Some(delay) => self.wait(delay),
+            None => self.fail(ErrorKind::IOError(IoFault::Refused)),
+        }
+    }
+
+    // No link is wanted until a delay is over.
+    fn wait(&mut self, delay: u64)
+        requires asked { IsTrue (is_asked self.old) }
+        requires small { self.old.tried < 2 ^ 63 }
+        ensures { self.new ≡ delayed delay self.old }
+    {
+        self.link = Link::Due(self.present.saturating_add(delay));
+        self.tried += 1;
     }
 
     /// Bytes were read.

@@ -7,7 +7,7 @@ ghost use Rattle.amqp_session.specs.Talk.{has_ended};
 ghost use Rattle.amqp_session.specs.Asking.{Hears, Starves};
 ghost use Rattle.amqp_session.specs.Changes.{present_at, starve, await, queue, queue_item};
 ghost use Rattle.amqp_session.specs.Parts.{validity_answers, IsAsked};
-ghost use Rattle.amqp_session.specs.Ticks.{beats, is_missed, is_due, missing_heartbeat, heartbeat_due, asks_validity, secret_due, secret_questions, refreshed, tick, tick_questions};
+ghost use Rattle.amqp_session.specs.Ticks.{beats, is_missed, is_due, missing_heartbeat, heartbeat_due, asks_validity, secret_due, secret_questions, refreshed, link_due, tick, tick_questions};
 
 use super::Session;
 use super::asking::Validity;
@@ -15,7 +15,7 @@ use super::places::{ask, ask_after};
 use crate::auth::{AuthList, AuthProvider};
 use crate::error::{self, ErrorKind};
 use crate::handshake::{new_secret, refresh_reason};
-use crate::state::ConnectionState;
+use crate::state::{ConnectionState, Link};
 use amqp_frame::Frame;
 use amqp_outbox::{Awaited, Item, Reply};
 use amqp_types::{LongString, NoMemory, Text};
@@ -31,8 +31,8 @@ const DUE: u64 = 500;
 impl Session {
     /// Time goes by. Where nothing was read for more than two of the agreed intervals, the session ends;
     /// where nothing was written for more than half of one, a heartbeat is to go out; and where the
-    /// provider says that the secret is no longer valid, a new one is asked for and to be told. The
-    /// provider's answers are put last into the list.
+    /// provider says that the secret is no longer valid, a new one is asked for and to be told; and where
+    /// the delay of a link is over, one is wanted. The provider's answers are put last into the list.
     pub fn tick<A: AuthProvider>(
         &mut self,
         at: u64,
@@ -54,11 +54,26 @@ impl Session {
         self.advance(at);
         if self.is_missed() {
             self.lose(ErrorKind::MissingHeartbeatError);
+            self.link_due();
             return Ok(());
         }
         match self.go_on(provider, auths) {
-            Ok(()) => Ok(()),
+            Ok(()) => {
+                self.link_due();
+                Ok(())
+            }
             Err(refused) => Err(self.starved(refused)),
+        }
+    }
+
+    // Where the delay of a link is over, one is wanted.
+    fn link_due(&mut self)
+        ensures { self.new ≡ link_due self.old }
+    {
+        if let Link::Due(moment) = self.link {
+            if moment <= self.present {
+                self.link = Link::Wanted;
+            }
         }
     }
 
