@@ -5,11 +5,12 @@ use Rattle.std.specs.Ordering.{nat_cmp}
 use Rattle.std.specs.Map.{keys_of, set_value}
 use Rattle.std.specs.BTreeMap.{is_at}
 use Rattle.amqp_outbox.specs.declared.reply.Awaited.{Awaited}
+use Rattle.amqp_outbox.specs.declared.reply.Reply.{Reply}
 use Rattle.amqp_outbox.specs.declared.awaiting.Replies.{Replies}
 use Rattle.amqp_outbox.specs.Listed.{at, put}
 use Rattle.amqp_outbox.specs.Replies.{awaited_on, left_on, expected}
 use Rattle.amqp_outbox.specs.Order.{seen, seen_at, waiting}
-use Rattle.amqp_outbox.specs.Parts.{some_awaited, list_seen}
+use Rattle.amqp_outbox.specs.Parts.{some_awaited, list_seen, HasReplyPlaces}
 use Rattle.amqp_outbox.proofs.Maps.{without-absent}
 use Rattle.amqp_outbox.proofs.Seen.{Sorted, at-seen, set-alike, set-seen, set-unseen}
 
@@ -70,3 +71,7 @@ module _ (n : ℕ) (es : List (ℕ × Replies)) (sorted : Sorted (keys_of es)) (
 -- a list that is empty is not seen
 pub empty-seen : (n : ℕ) (es : List (ℕ × Replies)) (r : Replies) → at n es ≡ Some r → items r ≡ [] → seen_at list_seen (at n es) ≡ None
 empty-seen n es r there empty = ap (seen_at list_seen) there ∙ ap some_awaited empty
+
+-- what a channel has stays, and so does its place for a reply
+pub place-stays : (c : ℕ) (reply : Reply) (es es' : List (ℕ × Replies)) → at c es' ≡ at c es → HasReplyPlaces c reply es → HasReplyPlaces c reply es'
+place-stays c reply es es' same (r, there, place) = (r, same ∙ there, place)

@@ -1,8 +1,9 @@
 -- Small facts by cases.
-use Rattle.std.proofs.Common.{◌≡◌, sym, refl, ℕ, ◌<◌, ◌≤◌, ◌==◌, nat_lt, arith, true, false, Option, Some, None, is_some, Result, Ok, Err, IfOk, IfNone, OnOk}
+use Rattle.std.proofs.Common.{◌≡◌, ◌≢◌, sym, refl, ℕ, ◌<◌, ◌≤◌, ◌==◌, nat_lt, arith, true, false, Option, Some, None, is_some, Result, Ok, Err, IfOk, IfNone, OnOk}
 use Rattle.std.proofs.lemmas.Bool.Decides.{nat_tests}
+use Rattle.std.specs.declared.cmp.Ordering.{Ordering}
 use Rattle.std.specs.declared.cmp.Ordering.TheVariants.{Less, Equal, Greater}
-use Rattle.std.specs.Ordering.{nat_cmp}
+use Rattle.std.specs.Ordering.{nat_cmp, is_eq}
 use Rattle.std.specs.Cmp.{nat_cmp_is, ranked}
 
 pub on-ok : {A E P Q : Type 0} (r : Result A E) → (P → Q) → OnOk r P → OnOk r Q
@@ -53,3 +54,11 @@ to-greater a b h = sym (nat_cmp_is a b Greater h)
 
 pub nat_cmp_self : (n : ℕ) → nat_cmp n n ≡ Equal
 nat_cmp_self n = sym (nat_cmp_is n n Equal refl)
+
+-- two numbers are not compared as equal
+pub not-equal : (n c : ℕ) → c ≢ n → is_eq (nat_cmp n c) ≡ false
+not-equal n c apart = by (nat_cmp n c) refl where
+  by : (o : Ordering) → nat_cmp n c ≡ o → is_eq o ≡ false
+  by Less h = refl
+  by Equal h = absurd (apart (sym (equal-from n c h)))
+  by Greater h = refl

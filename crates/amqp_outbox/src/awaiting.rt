@@ -1,6 +1,7 @@
 //! The replies that are awaited, by channel.
 
-ghost use Rattle.std.specs.Prelude.{◌≡◌, ◌++◌, ◌∷◌, [], IfOk, IfSome, IfNone, OnOk, IsTrue, None, drop, find, is_some, length};
+ghost use Rattle.std.specs.Prelude.{◌≡◌, ◌≢◌, ℕ, ◌++◌, ◌∷◌, [], IfOk, IfSome, IfNone, OnOk, IsTrue, None, drop, find, is_some, length};
+ghost use Rattle.amqp_outbox.specs.declared.reply.Reply.{Reply};
 ghost use Rattle.amqp_outbox.specs.Lists.{head, without_first};
 ghost use Rattle.amqp_outbox.specs.Listed.{at, Ascends};
 ghost use Rattle.amqp_outbox.specs.Replies.{is_of, method_of, expected, first_awaited, answered, first_on, without_first_on};
@@ -99,6 +100,8 @@ impl Awaiting {
     pub fn reserve(&mut self, channel: ChannelId, reply: Reply) -> Result<(), NoMemory>
         ensures same { seen list_seen self.new.lists.entries ≡ seen list_seen self.old.lists.entries }
         ensures place { OnOk result (HasReplyPlaces channel reply self.new.lists.entries) }
+        ensures others { (c : ℕ) (r : Reply) → c ≢ channel
+            → HasReplyPlaces c r self.old.lists.entries → HasReplyPlaces c r self.new.lists.entries }
     {
         match self.lists.get_mut(&channel) {
             Some(list) => list.reserve(reply),
@@ -113,8 +116,10 @@ impl Awaiting {
     /// One more reply is awaited on a channel, where it has its place.
     pub fn expect_reserved(&mut self, channel: ChannelId, awaited: Awaited)
         requires { HasReplyPlaces channel awaited.reply self.old.lists.entries }
-        ensures { seen list_seen self.new.lists.entries
+        ensures expected { seen list_seen self.new.lists.entries
             ≡ expected channel awaited (seen list_seen self.old.lists.entries) }
+        ensures others { (c : ℕ) (r : Reply) → c ≢ channel
+            → HasReplyPlaces c r self.old.lists.entries → HasReplyPlaces c r self.new.lists.entries }
     {
         if let Some(list) = self.lists.get_mut(&channel) {
             list.push_reserved(awaited);

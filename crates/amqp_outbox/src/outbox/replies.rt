@@ -1,7 +1,8 @@
 //! The awaited replies.
 
-ghost use Rattle.std.specs.Prelude.{◌≡◌, ℕ, List, Option, IfNone, OnOk, OnErr, is_some};
+ghost use Rattle.std.specs.Prelude.{◌≡◌, ◌≢◌, ℕ, List, Option, IfNone, OnOk, OnErr, is_some};
 ghost use Rattle.amqp_outbox.specs.declared.item.Item.{Item};
+ghost use Rattle.amqp_outbox.specs.declared.reply.Reply.{Reply};
 ghost use Rattle.amqp_outbox.specs.Queued.{expected, awaited_promise, answered};
 ghost use Rattle.amqp_outbox.specs.Parts.{queued, HasControlPlaces, HasGroupPlace, HasReplyPlace};
 
@@ -33,6 +34,7 @@ impl Outbox {
         ensures control { (k : Option ℕ) (n octets : ℕ) → HasControlPlaces k n octets self.old
             → HasControlPlaces k n octets self.new }
         ensures group { (g : List Item) → HasGroupPlace g self.old → HasGroupPlace g self.new }
+        ensures reply { (c : ℕ) (r : Reply) → c ≢ channel → HasReplyPlace c r self.old → HasReplyPlace c r self.new }
     {
         self.awaiting.reserve(channel, reply)
     }
@@ -43,6 +45,7 @@ impl Outbox {
         ensures queued { queued self.new ≡ expected channel awaited (queued self.old) }
         ensures control { (k : Option ℕ) (n octets : ℕ) → HasControlPlaces k n octets self.old
             → HasControlPlaces k n octets self.new }
+        ensures reply { (c : ℕ) (r : Reply) → c ≢ channel → HasReplyPlace c r self.old → HasReplyPlace c r self.new }
     {
         self.awaiting.expect_reserved(channel, awaited);
     }

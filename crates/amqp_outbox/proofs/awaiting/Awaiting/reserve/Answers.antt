@@ -5,9 +5,9 @@ use Rattle.amqp_outbox.specs.declared.awaiting.Replies.{Replies}
 use Rattle.amqp_outbox.specs.Listed.{at, put}
 use Rattle.amqp_outbox.specs.Order.{seen}
 use Rattle.amqp_outbox.specs.Parts.{list_seen, some_awaited}
-use Rattle.amqp_outbox.proofs.Cases.{on-ok}
+use Rattle.amqp_outbox.proofs.Cases.{on-ok, not-equal}
 use Rattle.amqp_outbox.proofs.Seen.{put-unseen}
-use Rattle.amqp_outbox.proofs.ByChannel.{keep-seen}
+use Rattle.amqp_outbox.proofs.ByChannel.{keep-seen, place-stays}
 use Rattle.amqp_outbox.proofs.awaiting.Awaiting.reserve.Goals as goal
 
 pub returns-in-Some-clause-same : goal.returns-in-Some-clause-same
@@ -34,3 +34,24 @@ returns-in_ok-insert-in-None-clause-same c =
 pub returns-in_ok-insert-in-None-clause-place : goal.returns-in_ok-insert-in-None-clause-place
 returns-in_ok-insert-in-None-clause-place c =
     (c.in_ok-list-in-None.list, c.in_ok-insert-in-None.ensures.updates.1, c.in_ok-list-in-None.ensures.1)
+
+pub returns-in-Some-clause-others : goal.returns-in-Some-clause-others
+returns-in-Some-clause-others c ch reply apart place =
+    let there : at c.args.channel c.args.self.now.lists.entries ≡ Some c.in-Some.list.now = sym c.in-Some.ensures.value in
+    place-stays ch reply _ _ (((c.get_mut.follows.holds c.reserve.new.self).3 (ap is_some there)).2 ch (not-equal c.args.channel ch apart)) place
+
+pub returns-in_ok-insert-in-None-clause-others : goal.returns-in_ok-insert-in-None-clause-others
+returns-in_ok-insert-in-None-clause-others c ch reply apart place =
+    place-stays ch reply _ _
+    (c.in_ok-insert-in-None.ensures.updates.2 ch (not-equal c.args.channel ch apart)
+    ∙ ap (λ (m : BTreeMap ℕ Replies). at ch m.entries) c.get_mut.follows.holds-at-none) place
+
+pub returns-in_err-list-in-None-clause-others : goal.returns-in_err-list-in-None-clause-others
+returns-in_err-list-in-None-clause-others c ch reply apart place =
+    place-stays ch reply _ _ (ap (λ (m : BTreeMap ℕ Replies). at ch m.entries) c.get_mut.follows.holds-at-none) place
+
+pub returns-in_err-insert-in-None-clause-others : goal.returns-in_err-insert-in-None-clause-others
+returns-in_err-insert-in-None-clause-others c ch reply apart place =
+    place-stays ch reply _ _
+    (ap (at ch) c.in_err-insert-in-None.ensures.err
+    ∙ ap (λ (m : BTreeMap ℕ Replies). at ch m.entries) c.get_mut.follows.holds-at-none) place
