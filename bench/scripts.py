@@ -95,6 +95,17 @@ def reopened(channels, count):
     return lines
 
 
+def lost(links, channels=20, calls=10):
+    """So many links that are lost, over which the channels are kept; on each, calls wait."""
+    handshake = connected()[1:]
+    answers = pieces([open_ok(i) for i in range(1, channels + 1)])
+    waiting = [f"flow {i} off" for i in range(1, calls + 1)]
+    lines = ["recover", "delays 0", "link"] + handshake + ["open"] * channels + answers
+    for _ in range(links):
+        lines += waiting + ["end", "tick", "link"] + handshake + answers
+    return lines
+
+
 SCRIPTS = [
     ("100,000 lines, 99,700 of them one-byte pieces of one frame", one_byte_pieces),
     ("8.4 MB, 31,253 lines", as_long_as_can_be),
@@ -118,6 +129,9 @@ SCRIPTS = [
     ("2,047 channels open, and 10,000 times one closed and another opened",
      lambda: reopened(2_047, 10_000)),
     ("the same 20,000 times", lambda: reopened(2_047, 20_000)),
+    ("1,000 links lost, with 20 channels and 10 calls that wait on each", lambda: lost(1_000)),
+    ("2,000 links", lambda: lost(2_000)),
+    ("4,000 links", lambda: lost(4_000)),
 ]
 
 

@@ -24,7 +24,7 @@ use Rattle.amqp_engine.proofs.Cases.{rose-between}
 use Rattle.amqp_engine.proofs.Fronts.{is_memory}
 use Rattle.amqp_engine.proofs.Settling.{settle-talk}
 use Rattle.amqp_engine.proofs.Joining.{joined-keeps}
-use Rattle.amqp_engine.proofs.ReadEnds.{ends-read-row}
+use Rattle.amqp_engine.proofs.ReadEnds.{ReadEnd, ends-read-row}
 use Rattle.amqp_engine.proofs.TurnEnds.{StepError, WritesError, ends-step, ends-drained, starved-cause}
 
 pub blames-kept : (t t' : Talk) (m n : ℕ) → end_of t' ≡ end_of t → Blames t t' m n
@@ -85,7 +85,7 @@ pub blames-whole : (at : ℕ) (r : Read) (answers : List Asked) (x x' : Engine) 
 blames-whole at (reading.Whole f size) answers x x' m n whole same rose text h =
     elim ((ends-read-row at (reading.Whole f size) answers x refl).by (AuthProviderError text) (ap (λ (y : Engine). end_of y.talk) (sym same) ∙ h)) [
       | inl before ↦ inl before
-      | inr cause ↦ inr (rose text cause.0 h)
+      | inr cause ↦ inr (rose text cause.0.0 h)
     ]
 blames-whole at reading.More answers x x' m n whole same rose text h = cc
 blames-whole at (reading.TooLarge size) answers x x' m n whole same rose text h = cc
@@ -114,6 +114,6 @@ pub blames-other : (at : ℕ) (r : Result Bool Refused) (e e' : Engine) (read : 
     → OnOk r (read ≢ reading.NoMemory) → OnErr r (e' ≡ rule_at at starve e) → is_whole read ≡ false → Blames e.talk e'.talk m n
 blames-other at (Ok true) e e' read m n after some refused other =
     subst (λ (y : Engine). Blames e.talk y.talk m n) (sym (after []))
-    (blames-ends (λ k. IsReadError k read [] e) e.talk (read_row at read [] e).talk m n (λ text p. never-refused text read [] e other p) (ends-read-row at read [] e (no-memory read some)))
+    (blames-ends (ReadEnd read [] e) e.talk (read_row at read [] e).talk m n (λ text p. never-refused text read [] e other p.0) (ends-read-row at read [] e (no-memory read some)))
 blames-other at (Ok false) e e' read m n after some refused other = blames-kept e.talk e'.talk m n (ap (λ (y : Engine). end_of y.talk) (after []))
 blames-other at (Err x) e e' read m n after some refused other = blames-starve at e e' m n (ap (λ (y : Engine). y.talk) refused)

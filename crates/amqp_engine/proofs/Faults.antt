@@ -1,5 +1,5 @@
 -- What brings a fault, with the count of the port's.
-use Rattle.std.proofs.Common.{◌≡◌, ◌≤◌, ◌⊎◌, inl, inr, ℕ, Bool, true, false, if◌then◌else◌, IsTrue, List, Option, Some, None, Result, Ok, Err, ap, sym, refl, arith}
+use Rattle.std.proofs.Common.{◌≡◌, ◌≤◌, ◌⊎◌, inl, inr, ℕ, ◌&&◌, Bool, true, false, if◌then◌else◌, IsTrue, List, Option, Some, None, Result, Ok, Err, ap, sym, refl, arith}
 use Rattle.amqp_session.specs.declared.io_fault.IoFault.{IoFault}
 use Rattle.amqp_session.specs.declared.io_fault.IoFault.TheVariants.{Aborted, BrokenPipe}
 use Rattle.amqp_session.specs.declared.error.ErrorKind.{ErrorKind}
@@ -12,7 +12,7 @@ use Rattle.amqp_engine.specs.Counts.{Rose, HasCause, is_fault}
 use Rattle.amqp_engine.specs.Engine.{Engine}
 use Rattle.amqp_engine.specs.Log.{Log}
 use Rattle.amqp_engine.specs.Making.{AppliesCounted}
-use Rattle.amqp_engine.specs.Causes.{fault_in, fault_at, fault_of, is_counted, brought}
+use Rattle.amqp_engine.specs.Causes.{fault_in, fault_at, fault_of, is_counted, is_final, brought}
 use Rattle.amqp_engine.proofs.Cases.{rose-between}
 use Rattle.amqp_engine.proofs.TurnEnds.{applied-cause}
 
@@ -36,13 +36,13 @@ pub applied-fault : (at : ℕ) (step : Step) (bytes : List ℕ) (e e' : Engine) 
     → AppliesCounted at step bytes e e' log log' m n before after → has_ended e.talk ≡ false → fault_of e'.talk ≡ Some fault
     → (brought step e.talk ≡ Some fault) ⊎ ((fault ≡ BrokenPipe) × Rose m n)
 applied-fault at step bytes e e' log log' m n before after fault a running h =
-    elim (applied-cause at step bytes e e' log log' (IOError fault) a.applies running (fault-end (end_of e'.talk) fault h)) [ inl step_brings ↦ inl step_brings | inr failed ↦ inr (failed.0, a.counted failed.1) ]
+    elim (applied-cause at step bytes e e' log log' (IOError fault) a.applies running (fault-end (end_of e'.talk) fault h)) [ inl step_brings ↦ inl step_brings | inr failed ↦ inr (failed.0, a.counted failed.1.0) ]
 
 -- what a step brings that a port counts is a fault of the port
 brought-counted : (step : Step) (t : Talk) (fault : IoFault) → brought step t ≡ Some fault → is_counted fault ≡ true → is_fault step ≡ true
 brought-counted LinkFailed t fault h counted = refl
 brought-counted Fault t fault h counted = refl
-brought-counted End t fault h counted = by (is_open t) h
+brought-counted End t fault h counted = by (is_open t && is_final (IOError Aborted) t) h
   where
     by : (b : Bool) → (if b then Some Aborted else None) ≡ Some fault → is_fault End ≡ true
     by true k =

@@ -13,7 +13,8 @@ use Rattle.amqp_session.specs.Talk.{Talk, is_open, is_open_link, is_asked, has_e
 use Rattle.amqp_session.specs.declared.configuration.Configuration.{Configuration}
 use Rattle.amqp_session.specs.Negotiation.{frame_limit, wish_or}
 use Rattle.amqp_session.specs.Changes.{present_at, starve}
-use Rattle.amqp_session.specs.Links.{asked, asked_link, linked, next_delay, refused_after, link_failed, lost}
+use Rattle.amqp_session.specs.Recovery.{next_delay}
+use Rattle.amqp_session.specs.Links.{asked, asked_link, linked, refused_after, link_failed, lost}
 use Rattle.amqp_session.specs.Commands.{command}
 use Rattle.amqp_session.specs.Ticks.{tick}
 use Rattle.amqp_session.specs.Writing.{end_overlong, taken}
@@ -30,7 +31,7 @@ use Rattle.amqp_engine.specs.Log.{Log}
 use Rattle.amqp_engine.specs.Tell.{Applies, TakesTurn, turn_of}
 use Rattle.amqp_engine.specs.Unread.{IsRead}
 use Rattle.amqp_session.proofs.Cases.{if_case, if_by}
-use Rattle.amqp_session.proofs.Keeping.{present-keeps, stays-command, keeps-tick, tick-keeps, taken-keeps, taken-link, lost-stays, starve-ends}
+use Rattle.amqp_session.proofs.Keeping.{present-keeps, stays-command, keeps-tick, tick-keeps, taken-keeps, taken-link, IsOff, lost-off, starve-ends}
 use Rattle.amqp_engine.proofs.Commits.{commits-keep}
 use Rattle.amqp_engine.proofs.Fronts.{front-none}
 use Rattle.amqp_engine.proofs.Over.{ended-closed, applied-ended}
@@ -123,14 +124,14 @@ settle-read x h =
     (λ opened. if_case IsRead (drops_input x.talk) (record x { unread = []; place = 0 }) x (λ now. front-none (frame_limit x.talk)) h)
     (λ closed. closed-read (record x { unread = []; place = 0; unsent = [] }) closed)
 
--- a rule that does nothing or ends the session
-rule-read : (at : ℕ) (f : Talk → Talk) → ((t : Talk) → (f t ≡ t) ⊎ (has_ended (f t) ≡ true)) → (e : Engine) → IsRead e → IsRead (settle (rule_at at f e))
+-- a rule that does nothing, or after which the link is off
+rule-read : (at : ℕ) (f : Talk → Talk) → ((t : Talk) → (f t ≡ t) ⊎ IsOff t.link (f t).link) → (e : Engine) → IsRead e → IsRead (settle (rule_at at f e))
 rule-read at f h e k =
     let t = present_at at e.talk in
     let P : Talk → Type 0 = λ x. IsRead (record e { talk = x }) in
     settle-read (rule_at at f e) (elim (h t) [
       | inl same ↦ subst P (sym same) (moment-read at e k)
-      | inr ended ↦ closed-read (rule_at at f e) (ended-closed (f t).link ended)
+      | inr off ↦ closed-read (rule_at at f e) off.opened
     ])
 
 -- a link that is refused is not open
@@ -157,7 +158,7 @@ tick-read at answers e h =
     let t = present_at at e.talk in
     let here : Engine = rule_at at (λ y. y) e in
     let x : Engine = rule_at at (tick answers) e in
-    let limit : frame_limit x.talk ≡ frame_limit t = tick-keeps frame_limit (λ y s l cs ps. refl) (λ y q n m b. refl) answers t in
+    let limit : frame_limit x.talk ≡ frame_limit t = tick-keeps frame_limit (λ y s l cs ps b q ms n o. refl) (λ y q n m b. refl) answers t in
     settle-read x (elim (keeps-tick answers t).link [
       | inl same ↦ same-read here x (ap is_open_link same) refl limit (moment-read at e h)
       | inr off ↦ closed-read x off.opened
@@ -167,8 +168,8 @@ step-read : (at : ℕ) (step : Step) (bytes : List ℕ) (answers : List Provider
 step-read at Linked bytes answers e piece h = linked-read at e h
 step-read at LinkFailed bytes answers e piece h = failed-read at e h
 step-read at (Piece n) bytes answers e piece h = cc
-step-read at End bytes answers e piece h = rule-read at (lost Aborted) (lost-stays Aborted) e h
-step-read at Fault bytes answers e piece h = rule-read at (lost Reset) (lost-stays Reset) e h
+step-read at End bytes answers e piece h = rule-read at (lost Aborted) (lost-off Aborted) e h
+step-read at Fault bytes answers e piece h = rule-read at (lost Reset) (lost-off Reset) e h
 step-read at Room bytes answers e piece h = moment-read at e h
 step-read at Tick bytes answers e piece h = tick-read at answers e h
 step-read at (Command c) bytes answers e piece h = command-read c (rule_at at (λ t. t) e) (moment-read at e h)
@@ -179,7 +180,7 @@ took-read at k e h =
     let x : Engine = record e { talk = taken k t; unsent = drop k e.unsent } in
     let here : Engine = rule_at at (λ y. y) e in
     let limit : frame_limit x.talk ≡ frame_limit t =
-    taken-keeps frame_limit (record { ends = λ y s l cs ps. refl; writes = λ y w ms. refl; moments = λ y n. refl }) k t in
+    taken-keeps frame_limit (record { ends = λ y s l cs ps b q ms n o. refl; writes = λ y w ms. refl; moments = λ y n. refl }) k t in
     settle-read x (elim (taken-link k t) [
       | inl same ↦ same-read here x (ap is_open_link same) refl limit (moment-read at e h)
       | inr off ↦ closed-read x off.opened
@@ -188,7 +189,7 @@ took-read at k e h =
 wrote-read : (at : ℕ) (w : Wrote) (e : Engine) → IsRead e → IsRead (wrote at w e)
 wrote-read at (Took k) e h = took-read at k e h
 wrote-read at WroteNoMemory e h = took-read at 0 e h
-wrote-read at Failed e h = rule-read at (lost BrokenPipe) (lost-stays BrokenPipe) e h
+wrote-read at Failed e h = rule-read at (lost BrokenPipe) (lost-off BrokenPipe) e h
 
 commits-read : (n : ℕ) (e : Engine) → IsRead e → IsRead (commits n e)
 commits-read n e h =

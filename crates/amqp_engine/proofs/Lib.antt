@@ -10,7 +10,6 @@ pub mod Pieces
 pub mod Settling
 pub mod Commits
 pub mod Overlong
-pub mod Growing
 pub mod Fronts
 pub mod Reading
 pub mod Joining

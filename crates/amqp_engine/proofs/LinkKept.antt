@@ -1,5 +1,5 @@
 -- What a step, the reading of a frame and a write leave of the link, and of what is to be sent on it.
-use Rattle.std.proofs.Common.{◌≡◌, inl, ℕ, ◌+◌, ◌==◌, if◌then◌else◌, true, false, List, [], ◌++◌, drop, refl, ap, sym, ◌∙◌, subst}
+use Rattle.std.proofs.Common.{◌≡◌, inl, inr, ℕ, ◌+◌, ◌==◌, if◌then◌else◌, true, false, true≢false, List, [], ◌++◌, drop, refl, ap, sym, ◌∙◌, subst}
 use Rattle.amqp_frame.specs.declared.frame.Read.{Read}
 use Rattle.amqp_frame.specs.declared.frame.Read.TheVariants.{Whole, More, TooLarge, BadHeartbeat, Bad, NoMemory as ReadNoMemory}
 use Rattle.amqp_session.specs.declared.error.ErrorKind.{ErrorKind}
@@ -28,7 +28,7 @@ use Rattle.amqp_session.specs.Writing.{frames_waiting}
 use Rattle.amqp_engine.specs.Turn.{answered}
 use Rattle.amqp_session.proofs.Cases.{if_case, if-false}
 use Rattle.amqp_engine.proofs.Settling.{settle-talk, settle-unsent}
-use Rattle.amqp_session.proofs.Keeping.{LinkKept, link-then, kept-open, present-keeps, failed-keeps, failed-link, keeps-frame, keeps-misread, keeps-tick, stays-command, lost-keeps, lost-link, left_after, committed-taken, taken-link}
+use Rattle.amqp_session.proofs.Keeping.{LinkKept, link-then, kept-open, present-keeps, failed-keeps, failed-link, keeps-frame, keeps-misread, keeps-tick, stays-command, lost-off, lost-link, left_after, committed-taken, taken-link}
 use Rattle.amqp_engine.proofs.Commits.{commits-keep}
 
 -- ---- links
@@ -67,19 +67,19 @@ leaves-settle e x l now =
     let k = l here in
     record { opened = k.opened; committed = ap (λ (t : Talk). t.committed) (settle-talk x) ∙ k.committed; unsent = settle-unsent x here ∙ k.unsent }
 
--- a rule that commits nothing, and opens no link
+-- a rule that opens no link, and commits nothing where one is open then
 pub leaves-rule : (at : ℕ) (f : Talk → Talk) (e : Engine) → LinkKept (present_at at e.talk) (f (present_at at e.talk))
-    → (f (present_at at e.talk)).committed ≡ (present_at at e.talk).committed → Leaves e (rule_at at f e)
+    → (is_open (f (present_at at e.talk)) ≡ true → (f (present_at at e.talk)).committed ≡ (present_at at e.talk).committed) → Leaves e (rule_at at f e)
 leaves-rule at f e k same now =
     let t = present_at at e.talk in
     record {
       opened = kept-open e.talk (f t) (link-then e.talk t (f t) (kept-present at e.talk) k) now;
-      committed = same ∙ present-keeps (λ y. y.committed) at e.talk (λ n. refl);
+      committed = same now ∙ present-keeps (λ y. y.committed) at e.talk (λ n. refl);
       unsent = refl;
     }
 
 leaves-moment : (at : ℕ) (e : Engine) → Leaves e (rule_at at (λ t. t) e)
-leaves-moment at e = leaves-rule at (λ t. t) e (inl refl) refl
+leaves-moment at e = leaves-rule at (λ t. t) e (inl refl) (λ now. refl)
 
 -- ---- steps
 
@@ -87,13 +87,18 @@ leaves-failed : (at : ℕ) (e : Engine) → Leaves e (settle (rule_at at link_fa
 leaves-failed at e =
     let t = present_at at e.talk in
     leaves-settle e (rule_at at link_failed e) (leaves-rule at link_failed e
-    (failed-link t) (failed-keeps (λ y. y.committed) (λ t s l cs ps. refl) (λ t n. refl) t))
+    (failed-link t) (λ now. failed-keeps (λ y. y.committed) (λ t s l cs ps. refl) (λ t n. refl) t))
+
+-- what is committed is as it was, where the link is still open
+lost-committed : (fault : IoFault) (t : Talk) → is_open (lost fault t) ≡ true → (lost fault t).committed ≡ t.committed
+lost-committed fault t now =
+    elim (lost-off fault t) [ inl same ↦ ap (λ (y : Talk). y.committed) same | inr off ↦ absurd (true≢false (sym now ∙ off.opened)) ]
 
 leaves-lost : (at : ℕ) (fault : IoFault) (e : Engine) → Leaves e (settle (rule_at at (lost fault) e))
 leaves-lost at fault e =
     let t = present_at at e.talk in
     leaves-settle e (rule_at at (lost fault) e)
-    (leaves-rule at (lost fault) e (lost-link fault t) (lost-keeps (λ y. y.committed) (λ t s l cs ps. refl) fault t))
+    (leaves-rule at (lost fault) e (lost-link fault t) (lost-committed fault t))
 
 leaves-tick : (at : ℕ) (answers : List ProviderAnswer) (e : Engine) → Leaves e (settle (rule_at at (tick answers) e))
 leaves-tick at answers e =
@@ -108,14 +113,14 @@ leaves-piece at bytes e =
     if_case (Leaves e) (is_open e.talk) (settle x) (rule_at at (λ y. y) e)
     (leaves-settle e x (λ now.
     let l = leaves-rule at piece e (if_case (LinkKept t) (is_open t) read t (inl refl) (inl refl))
-    (if_case (λ (y : Talk). y.committed ≡ t.committed) (is_open t) read t refl refl) now in
+    (λ still. if_case (λ (y : Talk). y.committed ≡ t.committed) (is_open t) read t refl refl) now in
     record { opened = l.opened; committed = l.committed; unsent = refl }))
     (leaves-moment at e)
 
 leaves-command : (at : ℕ) (c : Cmd) (e : Engine) → Leaves e (rule_at at (command c) e)
 leaves-command at c e =
     let k = stays-command c (present_at at e.talk) in
-    leaves-rule at (command c) e (inl k.link) k.committed
+    leaves-rule at (command c) e (inl k.link) (λ now. k.committed)
 
 -- a step that brings no link
 pub leaves-step : (at : ℕ) (step : Step) (bytes : List ℕ) (answers : List ProviderAnswer) (e : Engine) → (step ≡ Linked → is_asked e.talk ≡ false) → Leaves e (step_engine at step bytes answers e)

@@ -14,7 +14,8 @@ use Rattle.amqp_session.specs.Talk.{Talk, start, acts, is_acting, is_open, is_op
 use Rattle.amqp_session.specs.Changes.{present_at, queue, lose, finish}
 use Rattle.amqp_session.specs.Ticks.{is_missed, is_due, missing_heartbeat, beat, refreshed, link_at, timed, tick}
 use Rattle.amqp_session.specs.Writing.{end_overlong}
-use Rattle.amqp_session.specs.Links.{asked, asked_link, linked, next_delay, refused_after, link_failed, piece, lost}
+use Rattle.amqp_session.specs.Recovery.{next_delay}
+use Rattle.amqp_session.specs.Links.{asked, asked_link, linked, refused_after, link_failed, piece, lost}
 use Rattle.amqp_engine.specs.declared.port.Step.{Step}
 use Rattle.amqp_engine.specs.declared.port.Step.TheVariants.{Linked, LinkFailed, Piece, End, Fault, Room, Tick, Command}
 use Rattle.amqp_engine.specs.declared.port.Wrote.{Wrote}
@@ -31,6 +32,7 @@ use Rattle.amqp_session.specs.declared.error.ErrorKind.TheVariants.{MissingHeart
 use Rattle.amqp_engine.proofs.Cases.{and-left}
 use Rattle.amqp_engine.proofs.Settling.{settle-talk}
 use Rattle.amqp_session.proofs.Keeping.{LinkKept, present-keeps, stays-command, lost-link, starve-ends}
+use Rattle.amqp_session.proofs.Recovering.{lose-by, recovers-open}
 use Rattle.amqp_engine.proofs.Over.{asks-end}
 use Rattle.amqp_engine.proofs.Sent.{on_last-append}
 use Rattle.amqp_engine.proofs.Agreeing.{offer-bytes}
@@ -91,17 +93,26 @@ open-goes : (l : Link ErrorKind) → is_open_link l ≡ true → is_some (end_of
 open-goes Open h = refl
 open-goes _ h = cc
 
--- what is due but a link leaves the link, or ends the session
-timed-link : (answers : List ProviderAnswer) (t : Talk) → ((timed answers t).link ≡ t.link) ⊎ (has_ended (timed answers t) ≡ true)
-timed-link answers t =
-    let P : Talk → Type 0 = λ y. (y.link ≡ t.link) ⊎ (has_ended y ≡ true) in
+-- a link is asked for where one was, or the session has ended
+abbrev IsAskedAs : Talk → Talk → Type 0
+IsAskedAs t y = (is_asked y ≡ is_asked t) ⊎ (has_ended y ≡ true)
+
+-- where nothing was read for too long, an open link is lost
+missed-asked : (t : Talk) → IsAskedAs t (lose MissingHeartbeatError t)
+missed-asked t =
+    lose-by (IsAskedAs t) MissingHeartbeatError t
+    (λ delay is. inl (sym (open-unasked t.link (recovers-open MissingHeartbeatError t delay is)))) (λ none. inr refl)
+
+-- what is due but a link asks for none
+timed-asked : (answers : List ProviderAnswer) (t : Talk) → IsAskedAs t (timed answers t)
+timed-asked answers t =
+    let P : Talk → Type 0 = IsAskedAs t in
     let x : Talk = missing_heartbeat t in
-    let after : P x = if_case P (is_missed t) (lose MissingHeartbeatError t) t (inr refl) (inl refl) in
+    let after : P x = if_case P (is_missed t) (lose MissingHeartbeatError t) t (missed-asked t) (inl refl) in
     let beaten : P (beat t) = if_case P (is_due x) (record (queue 0 Heartbeat x) { last_write = x.present }) x after after in
     secret-case P answers (beat t) beaten (λ asks said. told said beaten)
   where
-    told : (said : Result (List ℕ) (List ℕ)) → ((beat t).link ≡ t.link) ⊎ (has_ended (beat t) ≡ true)
-        → ((refreshed said (beat t)).link ≡ t.link) ⊎ (has_ended (refreshed said (beat t)) ≡ true)
+    told : (said : Result (List ℕ) (List ℕ)) → IsAskedAs t (beat t) → IsAskedAs t (refreshed said (beat t))
     told (Ok secret) h = h
     told (Err text) h = h
 
@@ -117,8 +128,8 @@ due-asked now _ = refl
 ticked-asked : (answers : List ProviderAnswer) (t : Talk) → has_ended (tick answers t) ≡ false → is_asked (tick answers t) ≡ is_asked t
 ticked-asked answers t on =
     let x : Talk = timed answers t in
-    due-asked x.present x.link ∙ elim (timed-link answers t) [
-      | inl same ↦ ap is_asked_link same
+    due-asked x.present x.link ∙ elim (timed-asked answers t) [
+      | inl same ↦ same
       | inr ended ↦ absurd (both (has_ended x) ended (sym (due-end x.present x.link) ∙ on))
     ]
 

@@ -1,14 +1,20 @@
 -- Offers one by one.
-use Rattle.std.proofs.Common.{◌≡◌, ◌≤◌, ◌<◌, ℕ, ◌+◌, ◌==◌, not, ◌&&◌, Bool, true, false, IsTrue, IsFalse, MatchBool, IfSome, List, [], ◌∷◌, length, drop, Option, Some, None, is_some, option_map, refl, ap, sym, ◌∙◌, subst, arith, rules, length-drop}
+use Rattle.std.proofs.Common.{◌≡◌, ◌≤◌, ◌<◌, ℕ, ◌+◌, ◌-◌, ◌==◌, nat_le, if◌then◌else◌, not, ◌&&◌, Bool, true, false, IsTrue, IsFalse, MatchBool, IfSome, List, [], ◌∷◌, length, drop, Option, Some, None, is_some, option_map, refl, ap, sym, ◌∙◌, subst, arith, rules, length-drop}
 use Rattle.std.proofs.lemmas.Bool.Decides.{nat_tests}
-use Rattle.amqp_outbox.specs.Queued.{Queued, waiting_items}
 use Rattle.amqp_session.specs.declared.io_fault.IoFault.TheVariants.{BrokenPipe}
+use Rattle.amqp_session.specs.declared.committed.Mark.{Mark}
+use Rattle.amqp_session.specs.declared.committed.Then.{Then}
+use Rattle.amqp_session.specs.declared.committed.Then.TheVariants.{Nothing, Answer, Pays, Finish}
+use Rattle.amqp_session.specs.declared.server_close.ServerClose.{ServerClose}
+use Rattle.amqp_session.specs.declared.server_close.ServerClose.TheVariants.{WithoutError, WithError}
+use Rattle.amqp_session.specs.declared.error.ErrorKind.TheVariants.{ProtocolError}
 use Rattle.amqp_session.specs.declared.auth.asked.Question.{Question}
 use Rattle.amqp_session.specs.declared.auth.asked.Asked.{Asked}
 use Rattle.amqp_session.specs.Talk.{Talk, is_open}
-use Rattle.amqp_session.specs.Changes.{present_at}
+use Rattle.amqp_session.specs.Channels.{channel_at}
+use Rattle.amqp_session.specs.Changes.{present_at, finish_by}
 use Rattle.amqp_session.specs.Links.{lost}
-use Rattle.amqp_session.specs.Writing.{taken}
+use Rattle.amqp_session.specs.Writing.{follow, sent, sent_among, taken}
 use Rattle.amqp_engine.specs.declared.port.Wrote.{Wrote}
 use Rattle.amqp_engine.specs.declared.port.Wrote.TheVariants.{Took, Failed, NoMemory}
 use Rattle.amqp_engine.specs.Log.{Log, log_write, IsWithin, PlansWrite}
@@ -19,34 +25,63 @@ use Rattle.amqp_engine.specs.Making.{making, Reaches, Writes}
 use Rattle.amqp_engine.specs.Counts.{Rose}
 use Rattle.amqp_engine.specs.Tell.{port_answer, offers_from, log_offers, PlaysOffers, TellsOffers}
 use Rattle.amqp_engine.specs.Play.{waiting, noted, no_notes}
-use Rattle.amqp_session.proofs.Cases.{if-true, if-false, and-false}
+use Rattle.amqp_session.proofs.Cases.{if_case, if-true, if-false, and-false}
 use Rattle.amqp_engine.proofs.Cases.{is_before-Reaches, is_before-cut, some-unsent, rose-between}
-use Rattle.amqp_session.proofs.Keeping.{present-keeps, taken-keeps, lost-keeps}
+use Rattle.amqp_session.proofs.Keeping.{present-keeps, pay-keeps}
+use Rattle.amqp_session.proofs.Recovering.{lose-case}
 use Rattle.amqp_engine.proofs.Settling.{settle-talk, settle-less, settle-starved}
 use Rattle.amqp_engine.proofs.Telling.{tells-then, tells-none}
 use Rattle.amqp_engine.proofs.Commits.{commits-keep, waiting-commits}
 
-outbox-took : (at k : ℕ) (e : Engine) → (took at k e).talk.outbox ≡ e.talk.outbox
-outbox-took at k e =
-    ap (λ (t : Talk). t.outbox) (settle-talk (record e { talk = taken k (present_at at e.talk); unsent = drop k e.unsent }))
-    ∙ taken-keeps (λ t. t.outbox) (record { ends = λ t s l cs ps. refl; writes = λ t w ms. refl; moments = λ t n. refl }) k (present_at at e.talk)
-    ∙ present-keeps (λ t. t.outbox) at e.talk (λ n. refl)
+-- ---- what waits after a write
 
--- what is taken was queued no longer
-outbox-wrote : (at : ℕ) (w : Wrote) (e : Engine) → (wrote at w e).talk.outbox ≡ e.talk.outbox
-outbox-wrote at (Took k) e = outbox-took at k e
-outbox-wrote at NoMemory e = outbox-took at 0 e
-outbox-wrote at Failed e =
-    ap (λ (t : Talk). t.outbox) (settle-talk (rule_at at (lost BrokenPipe) e)) ∙ lost-keeps (λ t. t.outbox) (λ t s l cs ps. refl) BrokenPipe (present_at at e.talk)
-    ∙ present-keeps (λ t. t.outbox) at e.talk (λ n. refl)
+-- no more frames wait than before
+abbrev WaitsAsMuch : Talk → Talk → Type 0
+WaitsAsMuch t y = frames_waiting y ≤ frames_waiting t
+
+-- after the server's close as many wait, or none where the link is lost and the session goes on
+finish-waits : (o : Option ServerClose) (t : Talk) → WaitsAsMuch t (finish_by o t)
+finish-waits None t = omega arith
+finish-waits (Some WithoutError) t = omega arith
+finish-waits (Some (WithError e)) t = lose-case (WaitsAsMuch t) (ProtocolError e) t (λ delay. omega arith) (omega arith)
+
+follow-waits : (th : Then) (t : Talk) → WaitsAsMuch t (follow th t)
+follow-waits Nothing t = omega arith
+follow-waits (Answer n) t = omega arith
+follow-waits (Pays n) t = omega (arith, pay-keeps frames_waiting (λ u cs. refl) (channel_at n t) n t)
+follow-waits Finish t = finish-waits t.server_close t
+
+sent-waits : (ms : List Mark) (n : ℕ) (t : Talk) → WaitsAsMuch t (sent_among ms n t)
+sent-waits [] n t = omega arith
+sent-waits (m ∷ ms) n t =
+    let first : Talk = record t { committed = drop 1 t.committed } in
+    let rest : Talk = record t { committed = record m { left = m.left - n } ∷ ms } in
+    let on : Talk = sent_among ms (n - m.left) (sent m t) in
+    if_case (WaitsAsMuch t) (is_open t) (if nat_le m.left n then on else rest) t
+    (if_case (WaitsAsMuch t) (nat_le m.left n) on rest
+    (omega (arith, sent-waits ms (n - m.left) (sent m t), follow-waits m.«then» first)) (omega arith)) (omega arith)
+
+taken-waits : (n : ℕ) (t : Talk) → WaitsAsMuch t (taken n t)
+taken-waits n t =
+    if_case (WaitsAsMuch t) (is_open t && not (n == 0)) (sent_among t.committed n (record t { last_write = t.present })) t
+    (sent-waits t.committed n (record t { last_write = t.present })) (omega arith)
+
+took-waits : (at k : ℕ) (e : Engine) → WaitsAsMuch e.talk (took at k e).talk
+took-waits at k e =
+    let t = present_at at e.talk in
+    omega (
+      arith,
+      ap frames_waiting (settle-talk (record e { talk = taken k t; unsent = drop k e.unsent })),
+      taken-waits k t,
+      present-keeps frames_waiting at e.talk (λ n. refl),
+    )
 
 -- where all was taken, fewer writes may come
 pub waiting-wrote : (at : ℕ) (w : Wrote) (e : Engine) → 0 < length (offered e)
     → is_all w (length (offered e)) ≡ true → waiting (answered at w e) < waiting e
 waiting-wrote at (Took k) e some all =
     let same : k ≡ length (offered e) = grind (arith, nat_tests) in
-    let waits : frames_waiting (answered at (Took k) e).talk ≡ frames_waiting (commit_all e).talk =
-    ap (λ (q : Queued). length (waiting_items q)) (outbox-wrote at (Took k) (commit_all e)) in
+    let waits : frames_waiting (answered at (Took k) e).talk ≤ frames_waiting (commit_all e).talk = took-waits at k (commit_all e) in
     let unsent : length (answered at (Took k) e).unsent ≤ length (drop k (offered e)) =
     settle-less (record (commit_all e) { talk = taken k (present_at at (commit_all e).talk); unsent = drop k (offered e) }) in
     omega (arith, waits, unsent, length-drop k (offered e), waiting-commits (frames_waiting e.talk) e)

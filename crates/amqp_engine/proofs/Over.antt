@@ -19,7 +19,7 @@ use Rattle.amqp_session.proofs.Cases.{if_case, if-true, if-false}
 use Rattle.amqp_engine.proofs.Cases.{and-right}
 use Rattle.amqp_engine.proofs.Overlong.{closed-refuses}
 use Rattle.amqp_engine.proofs.Settling.{settle-talk}
-use Rattle.amqp_session.proofs.Keeping.{present-keeps, kept-ended, failed-link, lost-stays, tick-stays, stays-command}
+use Rattle.amqp_session.proofs.Keeping.{present-keeps, kept-ended, failed-link, lost-link, tick-stays, stays-command}
 use Rattle.amqp_engine.proofs.Reading.{reads-rest}
 
 -- ---- a link is asked for
@@ -73,7 +73,7 @@ moment-ended : (at : ℕ) (t : Talk) → has_ended t ≡ true → has_ended (pre
 moment-ended at t h = present-keeps has_ended at t (λ n. refl) ∙ h
 
 lost-ended : (fault : IoFault) (t : Talk) → has_ended t ≡ true → has_ended (lost fault t) ≡ true
-lost-ended fault t h = elim (lost-stays fault t) [ inl same ↦ ap has_ended same ∙ h | inr ended ↦ ended ]
+lost-ended fault t h = kept-ended t (lost fault t) (lost-link fault t) h
 
 linked-ended : (t : Talk) → has_ended t ≡ true → has_ended (linked t) ≡ true
 linked-ended t h = ap has_ended (if-false (is_asked t) _ t (ended-unasked t.link h)) ∙ h

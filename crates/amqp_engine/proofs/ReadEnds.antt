@@ -1,5 +1,5 @@
 -- How reading may end a session.
-use Rattle.std.proofs.Common.{◌≡◌, ◌⊎◌, inl, inr, ℕ, zero, suc, ◌+◌, ◌&&◌, Bool, true, false, if◌then◌else◌, IsTrue, drop, Some, Err, refl, ap, sym, ◌∙◌, subst, List}
+use Rattle.std.proofs.Common.{◌≡◌, ◌⊎◌, inl, inr, ℕ, zero, suc, ◌+◌, ◌&&◌, Bool, true, false, if◌then◌else◌, IsTrue, drop, Option, Some, None, is_none, Err, refl, ap, sym, ◌∙◌, subst, List}
 use Rattle.amqp_frame.specs.declared.frame.Frame.{Frame}
 use Rattle.amqp_frame.specs.declared.frame.Frame.TheVariants.{ProtocolHeader, Method}
 use Rattle.amqp_frame.specs.declared.frame.Read.{Read}
@@ -14,31 +14,36 @@ use Rattle.amqp_session.specs.declared.auth.asked.Question.{Question}
 use Rattle.amqp_session.specs.declared.auth.asked.Asked.{Asked}
 use Rattle.amqp_session.specs.Talk.{Talk, is_acting, acts, hears_on, is_open, has_ended, end_of}
 use Rattle.amqp_session.specs.Negotiation.{frame_limit}
-use Rattle.amqp_session.specs.Changes.{present_at}
-use Rattle.amqp_session.specs.Links.{misread}
+use Rattle.amqp_session.specs.Recovery.{recovery_delay}
+use Rattle.amqp_session.specs.Changes.{present_at, lose}
+use Rattle.amqp_session.specs.Links.{dropped, misread}
 use Rattle.amqp_session.specs.Violations.{misread_error}
 use Rattle.amqp_session.specs.Frames.{questions_in, frame_rule, closed_rule, on_frame}
 use Rattle.amqp_engine.specs.Plan.{at_most_64}
 use Rattle.amqp_engine.specs.Engine.{Engine, settle, front_of, can_read, read_row, read_badly, read_one, rule_at}
 use Rattle.amqp_engine.specs.Turn.{Progress, goes, reads, read_part}
 use Rattle.amqp_session.specs.Causes.{IsFrameError, IsJudgedError, IsUnawaited, IsUndue, is_awaited, refused_in}
-use Rattle.amqp_engine.specs.Causes.{IsReadError}
+use Rattle.amqp_engine.specs.Causes.{is_final, IsReadError}
 use Rattle.amqp_session.proofs.Cases.{if_case, if_by, if-true, if-false}
 use Rattle.amqp_engine.proofs.Cases.{and-left, and-right}
-use Rattle.amqp_session.proofs.Ends.{Ends, ends-kept, ends-to, ends-as, ends-then, ends-present}
+use Rattle.amqp_session.proofs.Ends.{Ends, ends-kept, ends-unrecovered, ends-to, ends-as, ends-then, ends-present}
+use Rattle.amqp_session.proofs.Keeping.{present-keeps}
 use Rattle.amqp_engine.proofs.Fronts.{is_memory, says-front}
 use Rattle.amqp_engine.proofs.Settling.{settle-talk}
-use Rattle.amqp_session.proofs.FrameEnds.{ends-frame, ends-misread}
+use Rattle.amqp_session.proofs.FrameErrors.{frame-errors}
 
 -- ---- the errors of a frame
 
 abbrev FrameCause : Frame → List Asked → Talk → ErrorKind → Type 0
-FrameCause f answers t k = IsTrue (is_acting t.input) × IsFrameError k f answers t
+FrameCause f answers t k = (IsTrue (is_acting t.input) × IsFrameError k f answers t) × IsTrue (is_final k t)
 
 closed-end : (f : Frame) (t : Talk) → end_of (closed_rule f t) ≡ end_of t
 closed-end (Method zero (Blocked reason)) t = refl
 closed-end (Method zero Unblocked) t = refl
 closed-end f t = refl
+
+final-from : (k : ErrorKind) (t : Talk) → recovery_delay k t ≡ None → is_final k t ≡ true
+final-from k t none = ap (λ (o : Option ℕ). is_none o) none
 
 ends-acting : (f : Frame) (answers : List Asked) (t : Talk) → Ends (FrameCause f answers t) t (on_frame f answers t)
 ends-acting f answers t = record { by = λ k h. by (acts t) refl k h }
@@ -50,7 +55,8 @@ ends-acting f answers t = record { by = λ k h. by (acts t) refl k h }
         if_case (λ (x : Talk). end_of x ≡ end_of t) (hears_on t) (closed_rule f t) t (closed-end f t) refl in
         inl (sym (ap end_of (if-false (acts t) (frame_rule f answers t) otherwise idle) ∙ kept) ∙ h)
     by true acting k h =
-        elim ((ends-frame f answers t).by k h) [ inl before ↦ inl before | inr cause ↦ inr (and-right (is_open t) (is_acting t.input) acting, cause) ]
+        let cause = (frame-errors k f answers t acting).0 h in
+        inr ((and-right (is_open t) (is_acting t.input) acting, cause.0), final-from k t cause.1)
 
 -- ---- errors do not look at the moment
 
@@ -94,31 +100,50 @@ present-error at r answers x k =
     if_case (λ (t : Talk). IsReadError k r answers (record x { talk = t }) → IsReadError k r answers x) (has_ended x.talk) x.talk (record x.talk { present = _ })
     (λ h. h) (λ h. moment-error _ k r answers x h)
 
+-- what stands at the front ends the session by this error
+abbrev pub ReadEnd : Read → List Asked → Engine → ErrorKind → Type 0
+ReadEnd r answers x k = IsReadError k r answers x × IsTrue (is_final k x.talk)
+
+-- that a session does not recover does not look at the moment
+pub final-present : (at : ℕ) (k : ErrorKind) (t : Talk) → is_final k (present_at at t) ≡ is_final k t
+final-present at k t = present-keeps (is_final k) at t (λ n. refl)
+
+present-end : (at : ℕ) (r : Read) (answers : List Asked) (x : Engine) (k : ErrorKind) → ReadEnd r answers (rule_at at (λ t. t) x) k → ReadEnd r answers x k
+present-end at r answers x k h = (present-error at r answers x k h.0, sym (final-present at k x.talk) ∙ h.1)
+
 pub ends-settled : (P : ErrorKind → Type 0) (t : Talk) (x : Engine) → Ends P t x.talk → Ends P t (settle x).talk
 ends-settled P t x e = ends-to P t x.talk (settle x).talk (settle-talk x) e
 
 -- ---- reading
 
-ends-badly : (at : ℕ) (r : Read) (w : Misread) (answers : List Asked) (x : Engine) → IsReadError (misread_error w) r answers x → Ends (λ k. IsReadError k r answers x) x.talk (read_badly at w x).talk
-ends-badly at r w answers x p =
-    let P : ErrorKind → Type 0 = λ k. IsReadError k r answers x in
-    ends-settled P x.talk (rule_at at (misread w) x)
-    (ends-present P at x.talk (misread w (present_at at x.talk)) (ends-misread P w (present_at at x.talk) p))
+ends-misread : (P : ErrorKind → Type 0) (w : Misread) (t : Talk) → (recovery_delay (misread_error w) t ≡ None → P (misread_error w)) → Ends P t (misread w t)
+ends-misread P w t p =
+    if_case (Ends P t) (acts t) (lose (misread_error w) t) (if is_open t then record t { input = dropped t.input } else t)
+    (ends-unrecovered P (misread_error w) t t p)
+    (if_case (Ends P t) (is_open t) (record t { input = dropped t.input }) t (ends-kept P t _ refl) (ends-kept P t t refl))
 
-pub ends-read-row : (at : ℕ) (r : Read) (answers : List Asked) (x : Engine) → is_memory r ≡ false → Ends (λ k. IsReadError k r answers x) x.talk (read_row at r answers x).talk
+ends-badly : (at : ℕ) (r : Read) (w : Misread) (answers : List Asked) (x : Engine) → IsReadError (misread_error w) r answers x → Ends (ReadEnd r answers x) x.talk (read_badly at w x).talk
+ends-badly at r w answers x p =
+    let P : ErrorKind → Type 0 = ReadEnd r answers x in
+    let t = present_at at x.talk in
+    ends-settled P x.talk (rule_at at (misread w) x)
+    (ends-present P at x.talk (misread w t)
+    (ends-misread P w t (λ none. (p, sym (final-present at (misread_error w) x.talk) ∙ final-from (misread_error w) t none))))
+
+pub ends-read-row : (at : ℕ) (r : Read) (answers : List Asked) (x : Engine) → is_memory r ≡ false → Ends (ReadEnd r answers x) x.talk (read_row at r answers x).talk
 ends-read-row at (reading.Whole f n) answers x none =
-    let P : ErrorKind → Type 0 = λ k. IsReadError k (reading.Whole f n) answers x in
+    let P : ErrorKind → Type 0 = ReadEnd (reading.Whole f n) answers x in
     let now : Engine = rule_at at (λ t. t) x in
     let after : Engine = record x { talk = on_frame f answers (present_at at x.talk); unread = drop n x.unread; place = at_most_64 (x.place + n) } in
     ends-settled P x.talk after
-    (ends-present P at x.talk after.talk (ends-as (FrameCause f answers now.talk) P now.talk after.talk (present-error at (reading.Whole f n) answers x) (ends-acting f answers now.talk)))
+    (ends-present P at x.talk after.talk (ends-as (FrameCause f answers now.talk) P now.talk after.talk (present-end at (reading.Whole f n) answers x) (ends-acting f answers now.talk)))
 ends-read-row at (reading.TooLarge size) answers x none = ends-badly at (reading.TooLarge size) (why.TooLarge size) answers x refl
 ends-read-row at (reading.BadHeartbeat channel) answers x none = ends-badly at (reading.BadHeartbeat channel) (why.BadHeartbeat channel) answers x refl
 ends-read-row at reading.More answers x none = ends-kept _ x.talk x.talk refl
 ends-read-row at reading.Bad answers x none = ends-badly at reading.Bad (why.Bad x.place) answers x refl
 ends-read-row at reading.NoMemory answers x none = cc
 
-pub ends-read-one : (at : ℕ) (answers : List Asked) (x : Engine) → Ends (λ k. IsReadError k (front_of x) answers x) x.talk (read_one at answers x).talk
+pub ends-read-one : (at : ℕ) (answers : List Asked) (x : Engine) → Ends (ReadEnd (front_of x) answers x) x.talk (read_one at answers x).talk
 ends-read-one at answers x = ends-read-row at (front_of x) answers x ((says-front (frame_limit x.talk)).held x.unread)
 
 -- the reading from here on comes to what brings this error
@@ -127,6 +152,7 @@ pub record Comes (p : Progress) (k : ErrorKind) : Type 0 where
   pub goes_on : IsTrue (goes (reads before p))
   pub readable : IsTrue (can_read (reads before p).engine)
   pub error_read : IsReadError k (front_of (reads before p).engine) (reads before p).answers (reads before p).engine
+  pub final : IsTrue (is_final k (reads before p).engine.talk)
 
 comes-later : (p : Progress) (k : ErrorKind) → (goes p && can_read p.engine) ≡ true → Comes (read_part p) k → Comes p k
 comes-later p k h c =
@@ -134,11 +160,13 @@ comes-later p k h c =
     let G : Progress → Type 0 = λ x. IsTrue (goes x) in
     let P : Progress → Type 0 = λ x. IsTrue (can_read x.engine) in
     let Q : Progress → Type 0 = λ x. IsReadError k (front_of x.engine) x.answers x.engine in
+    let F : Progress → Type 0 = λ x. IsTrue (is_final k x.engine.talk) in
     record {
       before = suc c.before;
       goes_on = subst G (sym same) c.goes_on;
       readable = subst P (sym same) c.readable;
       error_read = subst Q (sym same) c.error_read;
+      final = subst F (sym same) c.final;
     }
 
 pub ends-reads : (n : ℕ) (p : Progress) → Ends (Comes p) p.engine.talk (reads n p).engine.talk
@@ -149,7 +177,13 @@ ends-reads (suc n) p =
     let x = read_part p in
     if_by (λ (y : Progress). Ends P t y.engine.talk) (goes p && can_read p.engine) (reads n x) p
     (λ h. ends-then P t x.engine.talk (reads n x).engine.talk
-    (ends-as (λ k. IsReadError k (front_of p.engine) p.answers p.engine) P t x.engine.talk
-    (λ k e. record { before = zero; goes_on = and-left (goes p) (can_read p.engine) h; readable = and-right (goes p) (can_read p.engine) h; error_read = e }) (ends-read-one p.at p.answers p.engine))
+    (ends-as (ReadEnd (front_of p.engine) p.answers p.engine) P t x.engine.talk
+    (λ k e. record {
+      before = zero;
+      goes_on = and-left (goes p) (can_read p.engine) h;
+      readable = and-right (goes p) (can_read p.engine) h;
+      error_read = e.0;
+      final = e.1;
+    }) (ends-read-one p.at p.answers p.engine))
     (ends-as (Comes x) P x.engine.talk (reads n x).engine.talk (λ k c. comes-later p k h c) (ends-reads n x)))
     (λ h. ends-kept P t t refl)

@@ -24,6 +24,7 @@ use Rattle.amqp_engine.proofs.Cases.{and-left, and-right, is_before-Reaches}
 use Rattle.amqp_engine.proofs.Fronts.{says-front, front-none}
 use Rattle.amqp_engine.proofs.Settling.{settle-talk, settle-unread, settle-settled, settle-starved}
 use Rattle.amqp_session.proofs.Keeping.{present-keeps}
+use Rattle.amqp_session.proofs.Recovering.{lose-case}
 
 -- where nothing can be read, reading is over
 pub reads-rest : (n : ℕ) (p : Progress) → can_read p.engine ≡ false → reads n p ≡ p
@@ -71,7 +72,7 @@ misread-over at why t opened =
     let still : is_open x ≡ true = present-keeps is_open at t (λ n. refl) ∙ opened in
     let gone : Talk = record x { input = dropped x.input } in
     let P : Talk → Type 0 = λ y. keeps_unread y ≡ false in
-    if_by P (acts x) (lose (misread_error why) x) (if is_open x then gone else x) (λ acting. refl)
+    if_by P (acts x) (lose (misread_error why) x) (if is_open x then gone else x) (λ acting. lose-case P (misread_error why) x (λ delay. refl) refl)
     (λ idle. if_by P (is_open x) gone x (λ on. dropped-over (is_open x) x.input on idle) (λ closed. absurd cc))
 
 -- the bytes of what is read go: eight at least, where those behind are kept

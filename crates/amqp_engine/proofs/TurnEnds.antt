@@ -1,5 +1,5 @@
 -- How a turn, and a run of turns, may end a session.
-use Rattle.std.proofs.Common.{◌≡◌, ◌⊎◌, inl, inr, ℕ, ◌-◌, ◌==◌, ◌&&◌, ◌||◌, not, nat_le, Bool, true, false, if◌then◌else◌, IsTrue, List, [], ◌∷◌, ◌++◌, length, drop, map, Option, Some, None, Err, is_some, is_none, refl, ap, sym, ◌∙◌, subst, Result, Ok}
+use Rattle.std.proofs.Common.{◌≡◌, ◌⊎◌, inl, inr, ℕ, ◌-◌, ◌==◌, ◌&&◌, ◌||◌, not, nat_le, Bool, true, false, if◌then◌else◌, IsTrue, List, [], ◌∷◌, ◌++◌, length, drop, map, Option, Some, None, Err, is_some, is_none, true≢false, refl, ap, sym, ◌∙◌, subst, Result, Ok}
 use Rattle.amqp_types.specs.declared.error.AMQPError.{AMQPError}
 use Rattle.amqp_session.specs.declared.committed.Mark.{Mark}
 use Rattle.amqp_session.specs.declared.committed.Then.{Then}
@@ -18,7 +18,8 @@ use Rattle.amqp_session.specs.declared.auth.asked.Asked.{Asked}
 use Rattle.amqp_session.specs.Talk.{Talk, has_ended, is_open, is_acting, acts, is_asked, end_of, end_of_link}
 use Rattle.amqp_session.specs.Channels.{channel_at}
 use Rattle.amqp_session.specs.Changes.{present_at, queue, fail, lose, finish, finish_by, starve}
-use Rattle.amqp_session.specs.Links.{linked, next_delay, refused_after, link_failed, piece, lost}
+use Rattle.amqp_session.specs.Recovery.{next_delay}
+use Rattle.amqp_session.specs.Links.{linked, refused_after, link_failed, piece, lost}
 use Rattle.amqp_frame.specs.declared.frame.Frame.TheVariants.{Heartbeat}
 use Rattle.amqp_session.specs.Ticks.{is_missed, is_due, missing_heartbeat, beat, refreshed, link_at, timed, tick}
 use Rattle.amqp_session.specs.Commands.{command}
@@ -32,43 +33,52 @@ use Rattle.amqp_engine.specs.Engine.{Engine, settle, rule_at, with_talk, step_en
 use Rattle.amqp_session.specs.Writing.{frames_waiting}
 use Rattle.amqp_engine.specs.Turn.{Turn, answers_of, Progress, asks, goes, reads, part, questioned, is_piece, step_part, is_part, begun, drain, drained, offer_part, offered, is_all, answered, read, written, applied, turn, turns, starved_after, AreTurns, Leads}
 use Rattle.amqp_engine.specs.Tell.{TellsTurns, Applies, Runs, turn_of}
-use Rattle.amqp_engine.specs.Causes.{IsReadError, Misreads, LosesClosed, IsCause, Brings, brought, is_tick, is_last, sends_close_ok, is_finish}
+use Rattle.amqp_engine.specs.Causes.{is_final, FailsToWrite, IsReadError, Misreads, LosesClosed, IsCause, Brings, brought, is_tick, is_last, sends_close_ok, is_finish}
 use Rattle.amqp_session.proofs.Heard.{secret-case}
 use Rattle.amqp_session.proofs.Cases.{if_case, if_by, if-true, if-false, and-true, and-false}
 use Rattle.amqp_engine.proofs.Cases.{none-from, and-left}
-use Rattle.amqp_session.proofs.Keeping.{present-keeps, pay-keeps, stays-command}
+use Rattle.amqp_session.proofs.Keeping.{present-keeps, kept-open, pay-keeps, off-finish, follow-link, stays-command}
+use Rattle.amqp_session.proofs.Recovering.{lose-case}
 use Rattle.amqp_engine.proofs.Commits.{commits-keep}
-use Rattle.amqp_session.proofs.Ends.{Ends, ends-kept, ends-lose, ends-close, ends-as, ends-then, ends-present, ends-moment}
-use Rattle.amqp_engine.proofs.ReadEnds.{ends-settled}
+use Rattle.amqp_session.proofs.Ends.{Ends, ends-kept, ends-fail, ends-unrecovered, ends-close, ends-as, ends-then, ends-present, ends-moment}
+use Rattle.amqp_engine.proofs.ReadEnds.{final-present, ends-settled}
 use Rattle.amqp_engine.proofs.Over.{asks-end}
 use Rattle.amqp_engine.proofs.ReadEnds.{Comes, ends-reads}
 
 -- ---- steps
 
--- the link is lost, by this fault or after the server's close
+-- the link is lost, by this fault or after the server's close, and the session does not recover
 abbrev LostError : IoFault → Talk → ErrorKind → Type 0
-LostError fault t (IOError f) = IsTrue (is_open t) × (f ≡ fault)
-LostError fault t (ProtocolError e) = IsTrue (is_open t) × (t.server_close ≡ Some (WithError e))
+LostError fault t (IOError f) = IsTrue (is_open t) × (f ≡ fault) × IsTrue (is_final (IOError fault) t)
+LostError fault t (ProtocolError e) = IsTrue (is_open t) × (t.server_close ≡ Some (WithError e)) × IsTrue (is_final (ProtocolError e) t)
 LostError fault t _ = ⊥
 
-ends-finish : (P : ErrorKind → Type 0) (o : Option ServerClose) (t u : Talk) → ((e : AMQPError) → o ≡ Some (WithError e) → P (ProtocolError e)) → Ends P t (finish_by o u)
+-- a link that is lost ends a session by an error from which it does not recover
+ends-final : (P : ErrorKind → Type 0) (e : ErrorKind) (t u : Talk) → (is_final e u ≡ true → P e) → Ends P t (lose e u)
+ends-final P e t u p = ends-unrecovered P e t u (λ none. p (ap (λ (o : Option ℕ). is_none o) none))
+
+ends-finish : (P : ErrorKind → Type 0) (o : Option ServerClose) (t u : Talk)
+    → ((e : AMQPError) → o ≡ Some (WithError e) → is_final (ProtocolError e) u ≡ true → P (ProtocolError e)) → Ends P t (finish_by o u)
 ends-finish P None t u p = ends-close P t u
 ends-finish P (Some WithoutError) t u p = ends-close P t u
-ends-finish P (Some (WithError e)) t u p = ends-lose P (ProtocolError e) t u (p e refl)
+ends-finish P (Some (WithError e)) t u p = ends-final P (ProtocolError e) t u (p e refl)
 
 ends-lost : (fault : IoFault) (t : Talk) → Ends (LostError fault t) t (lost fault t)
 ends-lost fault t =
     let P : ErrorKind → Type 0 = LostError fault t in
     if_by (Ends P t) (acts t) (lose (IOError fault) t) (if is_open t then finish t else t)
-    (λ acting. ends-lose P (IOError fault) t t (and-left (is_open t) (is_acting t.input) acting, refl))
+    (λ acting. ends-final P (IOError fault) t t (λ last. (and-left (is_open t) (is_acting t.input) acting, refl, last)))
     (λ idle. if_by (Ends P t) (is_open t) (finish t) t
-    (λ opened. ends-finish P t.server_close t t (λ e h. (opened, h)))
+    (λ opened. ends-finish P t.server_close t t (λ e h last. (opened, h, last)))
     (λ closed. ends-kept P t t refl))
 
 present-lost : (at : ℕ) (fault : IoFault) (t : Talk) (k : ErrorKind) → LostError fault (present_at at t) k → LostError fault t k
-present-lost at fault t (IOError f) h = (sym (present-keeps is_open at t (λ n. refl)) ∙ h.0, h.1)
-present-lost at fault t (ProtocolError e) h =
-    (sym (present-keeps is_open at t (λ n. refl)) ∙ h.0, sym (present-keeps (λ x. x.server_close) at t (λ n. refl)) ∙ h.1)
+present-lost at fault t (IOError f) h = (sym (present-keeps is_open at t (λ n. refl)) ∙ h.0, h.1, sym (final-present at (IOError fault) t) ∙ h.2)
+present-lost at fault t (ProtocolError e) h = (
+  sym (present-keeps is_open at t (λ n. refl)) ∙ h.0,
+  sym (present-keeps (λ x. x.server_close) at t (λ n. refl)) ∙ h.1,
+  sym (final-present at (ProtocolError e) t) ∙ h.2,
+)
 present-lost at fault t _ h = h
 
 ends-lost-at : (at : ℕ) (fault : IoFault) (x : Engine) → Ends (LostError fault x.talk) x.talk (settle (rule_at at (lost fault) x)).talk
@@ -82,17 +92,19 @@ ends-lost-at at fault x =
 abbrev pub StepError : ℕ → Step → Engine → ErrorKind → Type 0
 StepError at step x (IOError fault) = brought step x.talk ≡ Some fault
 StepError at step x (ProtocolError e) = LosesClosed e step x
-StepError at step x MissingHeartbeatError = IsTrue (is_tick step) × IsTrue (is_missed (present_at at x.talk))
+StepError at step x MissingHeartbeatError = IsTrue (is_tick step) × IsTrue (is_missed (present_at at x.talk)) × IsTrue (is_final MissingHeartbeatError x.talk)
 StepError at step x _ = ⊥
 
 end-lost : (at : ℕ) (x : Engine) (k : ErrorKind) → LostError Aborted x.talk k → StepError at End x k
-end-lost at x (IOError fault) h = if-true (is_open x.talk) (Some Aborted) None h.0 ∙ ap Some (sym h.1)
-end-lost at x (ProtocolError e) h = record { loss = refl; opened = h.0; closed = h.1 }
+end-lost at x (IOError fault) h =
+    if-true (is_open x.talk && is_final (IOError Aborted) x.talk) (Some Aborted) None (and-true (is_open x.talk) _ h.0 h.2) ∙ ap Some (sym h.1)
+end-lost at x (ProtocolError e) h = record { loss = refl; opened = h.0; closed = h.1; final = h.2 }
 end-lost at x _ h = absurd h
 
 fault-lost : (at : ℕ) (x : Engine) (k : ErrorKind) → LostError Reset x.talk k → StepError at Fault x k
-fault-lost at x (IOError fault) h = if-true (is_open x.talk) (Some Reset) None h.0 ∙ ap Some (sym h.1)
-fault-lost at x (ProtocolError e) h = record { loss = refl; opened = h.0; closed = h.1 }
+fault-lost at x (IOError fault) h =
+    if-true (is_open x.talk && is_final (IOError Reset) x.talk) (Some Reset) None (and-true (is_open x.talk) _ h.0 h.2) ∙ ap Some (sym h.1)
+fault-lost at x (ProtocolError e) h = record { loss = refl; opened = h.0; closed = h.1; final = h.2 }
 fault-lost at x _ h = absurd h
 
 not-ended : {A : Type 0} (k : ErrorKind) → end_of_link Open ≡ Some (Err k) → A
@@ -107,16 +119,17 @@ ends-refused P t p =
   where
     by : (delay : Option ℕ) → next_delay t ≡ delay → is_asked t ≡ true → Ends P t (refused_after delay t)
     by (Some delay) is asked = record { by = λ k h. cc }
-    by None is asked = ends-lose P (IOError Refused) t t (p asked is)
+    by None is asked = ends-fail P (IOError Refused) t t (p asked is)
 
 ends-piece : (P : ErrorKind → Type 0) (t : Talk) → Ends P t (piece t)
 ends-piece P t = if_case (Ends P t) (is_open t) (record t { last_read = t.present }) t (ends-kept P t _ refl) (ends-kept P t t refl)
 
-ends-tick : (P : ErrorKind → Type 0) (answers : List Asked) (t : Talk) → (is_missed t ≡ true → P MissingHeartbeatError) → Ends P t (tick answers t)
+ends-tick : (P : ErrorKind → Type 0) (answers : List Asked) (t : Talk) → (is_missed t ≡ true → is_final MissingHeartbeatError t ≡ true → P MissingHeartbeatError)
+    → Ends P t (tick answers t)
 ends-tick P answers t p =
     let x : Talk = missing_heartbeat t in
     let first : Ends P t x =
-    if_by (Ends P t) (is_missed t) (lose MissingHeartbeatError t) t (λ h. ends-lose P MissingHeartbeatError t t (p h)) (λ h. ends-kept P t t refl) in
+    if_by (Ends P t) (is_missed t) (lose MissingHeartbeatError t) t (λ h. ends-final P MissingHeartbeatError t t (p h)) (λ h. ends-kept P t t refl) in
     let beaten : Ends P t (beat t) =
     if_case (Ends P t) (is_due x) (record (queue 0 Heartbeat x) { last_write = x.present }) x
     (ends-then P t x (record (queue 0 Heartbeat x) { last_write = x.present }) first (ends-kept P x (record (queue 0 Heartbeat x) { last_write = x.present }) refl)) first in
@@ -156,7 +169,8 @@ ends-step at Room bytes answers x = ends-moment _ at x.talk
 ends-step at Tick bytes answers x =
     let P : ErrorKind → Type 0 = StepError at Tick x in
     ends-settled P x.talk (rule_at at (tick answers) x)
-    (ends-present P at x.talk (tick answers (present_at at x.talk)) (ends-tick P answers (present_at at x.talk) (λ missed. (refl, missed))))
+    (ends-present P at x.talk (tick answers (present_at at x.talk))
+    (ends-tick P answers (present_at at x.talk) (λ missed last. (refl, missed, sym (final-present at MissingHeartbeatError x.talk) ∙ last))))
 ends-step at (Command c) bytes answers x =
     let P : ErrorKind → Type 0 = StepError at (Command c) x in
     let t = present_at at x.talk in
@@ -186,7 +200,7 @@ ends-read u x =
     if_by (λ (y : Progress). Ends P x.talk y.engine.talk) (is_piece u.step) (reads n p) p
     (λ h. ends-then P x.talk p.engine.talk (reads n p).engine.talk e
     (ends-as (Comes p) P p.engine.talk (reads n p).engine.talk
-    (λ k c. inr (record { piece = h; before = c.before; goes_on = c.goes_on; readable = c.readable; error_read = c.error_read })) (ends-reads n p)))
+    (λ k c. inr (record { piece = h; before = c.before; goes_on = c.goes_on; readable = c.readable; error_read = c.error_read; final = c.final })) (ends-reads n p)))
     (λ h. e)
 
 -- ---- writes
@@ -199,40 +213,52 @@ or-right : (a b : Bool) → b ≡ true → (a || b) ≡ true
 or-right true b h = refl
 or-right false b h = h
 
--- close-ok was sent after a close with this error
+-- close-ok was sent after a close with this error, and the session does not recover
 abbrev SentError : Bool → Talk → ErrorKind → Type 0
-SentError is_sent t (ProtocolError e) = IsTrue is_sent × (t.server_close ≡ Some (WithError e))
+SentError is_sent t (ProtocolError e) =
+    IsTrue is_sent × (t.server_close ≡ Some (WithError e)) × IsTrue (is_open t) × IsTrue (is_final (ProtocolError e) t)
 SentError is_sent t _ = ⊥
 
-ends-follow : (th : Then) (t : Talk) → Ends (SentError (is_finish th) t) t (follow th t)
-ends-follow Nothing t = ends-kept _ t t refl
-ends-follow (Answer n) t = ends-kept _ t _ refl
-ends-follow (Pays n) t = ends-kept _ t _ (pay-keeps end_of (λ u cs. refl) (channel_at n t) n t)
-ends-follow Finish t = ends-finish _ t.server_close t _ (λ e h. (refl, h))
+ends-follow : (th : Then) (t : Talk) → is_open t ≡ true → Ends (SentError (is_finish th) t) t (follow th t)
+ends-follow Nothing t opened = ends-kept _ t t refl
+ends-follow (Answer n) t opened = ends-kept _ t _ refl
+ends-follow (Pays n) t opened = ends-kept _ t _ (pay-keeps end_of (λ u cs. refl) (channel_at n t) n t)
+ends-follow Finish t opened = ends-finish _ t.server_close t t (λ e h last. (refl, h, opened, last))
 
-finish-closed : (o : Option ServerClose) (t : Talk) → (finish_by o t).server_close ≡ t.server_close
-finish-closed None t = refl
-finish-closed (Some WithoutError) t = refl
-finish-closed (Some (WithError e)) t = refl
+finish-closed : (o : Option ServerClose) (t : Talk) (e : AMQPError) → (finish_by o t).server_close ≡ Some (WithError e) → t.server_close ≡ Some (WithError e)
+finish-closed None t e h = h
+finish-closed (Some WithoutError) t e h = h
+finish-closed (Some (WithError told)) t e h =
+    lose-case (λ (x : Talk). x.server_close ≡ Some (WithError e) → t.server_close ≡ Some (WithError e)) (ProtocolError told) t (λ delay none. cc) (λ same. same) h
 
 follow-closed : (th : Then) (t : Talk) (e : AMQPError) → (follow th t).server_close ≡ Some (WithError e) → t.server_close ≡ Some (WithError e)
 follow-closed Nothing t e h = h
 follow-closed (Answer n) t e h = h
 follow-closed (Pays n) t e h = sym (pay-keeps (λ (x : Talk). x.server_close) (λ u cs. refl) (channel_at n t) n t) ∙ h
-follow-closed Finish t e h = sym (finish-closed t.server_close t) ∙ h
+follow-closed Finish t e h = finish-closed t.server_close t e h
+
+-- where the link is still open, the session recovers as before
+follow-final : (th : Then) (t : Talk) (k : ErrorKind) → is_open (follow th t) ≡ true → is_final k (follow th t) ≡ is_final k t
+follow-final Nothing t k now = refl
+follow-final (Answer n) t k now = refl
+follow-final (Pays n) t k now = pay-keeps (is_final k) (λ u cs. refl) (channel_at n t) n t
+follow-final Finish t k now = absurd (true≢false (sym now ∙ (off-finish t.server_close t).opened))
 
 sent-first : (m : Mark) (ms : List Mark) (n : ℕ) (t : Talk) → nat_le m.left n ≡ true → (k : ErrorKind)
     → SentError (is_finish m.«then») (record t { committed = drop 1 t.committed }) k → SentError (sends_close_ok n (m ∷ ms)) t k
 sent-first m ms n t le (ProtocolError e) h =
-    (and-true (nat_le m.left n) _ le (or-left (is_finish m.«then») (sends_close_ok (n - m.left) ms) h.0), h.1)
+    (and-true (nat_le m.left n) _ le (or-left (is_finish m.«then») (sends_close_ok (n - m.left) ms) h.0), h.1, h.2, h.3)
 sent-first m ms n t le _ h = h
 
 sent-later : (m : Mark) (ms : List Mark) (n : ℕ) (t : Talk) → nat_le m.left n ≡ true → (k : ErrorKind)
     → SentError (sends_close_ok (n - m.left) ms) (sent m t) k → SentError (sends_close_ok n (m ∷ ms)) t k
-sent-later m ms n t le (ProtocolError e) h = (
-  and-true (nat_le m.left n) _ le (or-right (is_finish m.«then») (sends_close_ok (n - m.left) ms) h.0),
-  follow-closed m.«then» (record t { committed = drop 1 t.committed }) e h.1,
-)
+sent-later m ms n t le (ProtocolError e) h =
+    let first : Talk = record t { committed = drop 1 t.committed } in (
+      and-true (nat_le m.left n) _ le (or-right (is_finish m.«then») (sends_close_ok (n - m.left) ms) h.0),
+      follow-closed m.«then» first e h.1,
+      kept-open first (sent m t) (follow-link m.«then» first) h.2,
+      sym (follow-final m.«then» first (ProtocolError e) h.2) ∙ h.3,
+    )
 sent-later m ms n t le _ h = h
 
 ends-sent : (ms : List Mark) (n : ℕ) (t : Talk) → Ends (SentError (sends_close_ok n ms) t) t (sent_among ms n t)
@@ -243,33 +269,23 @@ ends-sent (m ∷ ms) n t =
     let first : Talk = record t { committed = drop 1 t.committed } in
     let last = sent_among ms (n - m.left) x in
     let part : Talk = record t { committed = record m { left = m.left - n } ∷ ms } in
-    if_case (Ends P t) (is_open t) (if nat_le m.left n then last else part) t
-    (if_by (Ends P t) (nat_le m.left n) last part
+    if_by (Ends P t) (is_open t) (if nat_le m.left n then last else part) t
+    (λ opened. if_by (Ends P t) (nat_le m.left n) last part
     (λ h. ends-then P t x last (ends-then P t first x (ends-kept P t first refl)
-    (ends-as (SentError (is_finish m.«then») first) P first x (sent-first m ms n t h) (ends-follow m.«then» first)))
+    (ends-as (SentError (is_finish m.«then») first) P first x (sent-first m ms n t h) (ends-follow m.«then» first opened)))
     (ends-as (SentError (sends_close_ok (n - m.left) ms) x) P x last (sent-later m ms n t h) (ends-sent ms (n - m.left) x)))
     (λ h. ends-kept P t part refl))
-    (ends-kept P t t refl)
-
--- a write failed
-abbrev pub is_failed : Wrote → Bool
-is_failed Failed = true
-is_failed _ = false
-
--- one of these writes failed
-abbrev has_failed : List Wrote → Bool
-has_failed [] = false
-has_failed (w ∷ ws) = is_failed w || has_failed ws
+    (λ closed. ends-kept P t t refl)
 
 -- the error of a write that is answered so
 abbrev WroteError : Wrote → Engine → ErrorKind → Type 0
-WroteError w x (IOError fault) = (fault ≡ BrokenPipe) × IsTrue (is_failed w)
-WroteError w x (ProtocolError e) = IsTrue (is_last w x) × (x.talk.server_close ≡ Some (WithError e))
+WroteError w x (IOError fault) = (fault ≡ BrokenPipe) × (w ≡ Failed) × IsTrue (is_final (IOError BrokenPipe) x.talk)
+WroteError w x (ProtocolError e) = IsTrue (is_last w x) × (x.talk.server_close ≡ Some (WithError e)) × IsTrue (is_final (ProtocolError e) x.talk)
 WroteError w x _ = ⊥
 
 failed-lost : (x : Engine) (k : ErrorKind) → LostError BrokenPipe x.talk k → WroteError Failed x k
-failed-lost x (IOError fault) h = (h.1, refl)
-failed-lost x (ProtocolError e) h = (refl, h.1)
+failed-lost x (IOError fault) h = (h.1, refl, h.2)
+failed-lost x (ProtocolError e) h = (refl, h.1, h.2)
 failed-lost x _ h = h
 
 took-sent : (at n : ℕ) (x : Engine) (k : ErrorKind)
@@ -277,6 +293,7 @@ took-sent : (at n : ℕ) (x : Engine) (k : ErrorKind)
 took-sent at n x (ProtocolError e) h = (
   ap (sends_close_ok n) (sym (present-keeps (λ t. t.committed) at x.talk (λ m. refl))) ∙ h.0,
   sym (present-keeps (λ t. t.server_close) at x.talk (λ m. refl)) ∙ h.1,
+  sym (final-present at (ProtocolError e) x.talk) ∙ h.3,
 )
 took-sent at n x _ h = absurd h
 
@@ -315,14 +332,21 @@ ends-wrote at WroteNoMemory x =
 
 -- the error of an offer that is answered so
 abbrev pub OfferError : Wrote → Engine → ErrorKind → Type 0
-OfferError w x (IOError fault) = (fault ≡ BrokenPipe) × IsTrue (is_failed w)
-OfferError w x (ProtocolError e) = IsTrue (is_last w (commit_all x)) × (x.talk.server_close ≡ Some (WithError e))
+OfferError w x (IOError fault) = (fault ≡ BrokenPipe) × (w ≡ Failed) × IsTrue (is_final (IOError BrokenPipe) x.talk)
+OfferError w x (ProtocolError e) =
+    IsTrue (is_last w (commit_all x)) × (x.talk.server_close ≡ Some (WithError e)) × IsTrue (is_final (ProtocolError e) x.talk)
 OfferError w x _ = ⊥
 
+commits-final : (k : ErrorKind) (x : Engine) → is_final k (commit_all x).talk ≡ is_final k x.talk
+commits-final k x = commits-keep (λ (y : Engine). is_final k y.talk) (λ y fs ms bytes. refl) (frames_waiting x.talk) x
+
 offer-wrote : (w : Wrote) (x : Engine) (k : ErrorKind) → WroteError w (commit_all x) k → OfferError w x k
-offer-wrote w x (IOError fault) h = h
-offer-wrote w x (ProtocolError e) h =
-    (h.0, sym (commits-keep (λ (y : Engine). y.talk.server_close) (λ y fs ms bytes. refl) (frames_waiting x.talk) x) ∙ h.1)
+offer-wrote w x (IOError fault) h = (h.0, h.1, sym (commits-final (IOError BrokenPipe) x) ∙ h.2)
+offer-wrote w x (ProtocolError e) h = (
+  h.0,
+  sym (commits-keep (λ (y : Engine). y.talk.server_close) (λ y fs ms bytes. refl) (frames_waiting x.talk) x) ∙ h.1,
+  sym (commits-final (ProtocolError e) x) ∙ h.2,
+)
 offer-wrote w x _ h = h
 
 pub ends-answered : (at : ℕ) (w : Wrote) (x : Engine) → Ends (OfferError w x) x.talk (answered at w x).talk
@@ -341,31 +365,40 @@ pub record Closes (error : AMQPError) (ws : List Wrote) (p : Progress) : Type 0 
   answers : ws ≡ before ++ answer ∷ after
   last : IsTrue (is_last answer (commit_all (drain before p).engine))
   closed : (drain before p).engine.talk.server_close ≡ Some (WithError error)
+  final : IsTrue (is_final (ProtocolError error) (drain before p).engine.talk)
+
+-- one of these writes failed, and the session does not recover
+pub record Fails (ws : List Wrote) (p : Progress) : Type 0 where
+  before : List Wrote
+  after : List Wrote
+  answers : ws ≡ before ++ Failed ∷ after
+  final : IsTrue (is_final (IOError BrokenPipe) (drain before p).engine.talk)
 
 -- the error of these writes
 abbrev pub WritesError : List Wrote → Progress → ErrorKind → Type 0
-WritesError ws p (IOError fault) = (fault ≡ BrokenPipe) × IsTrue (has_failed ws)
+WritesError ws p (IOError fault) = (fault ≡ BrokenPipe) × Fails ws p
 WritesError ws p (ProtocolError e) = Closes e ws p
 WritesError ws p (SerialisationError size) = IsTrue (goes (drain ws p)) × (overlong_next (drain ws p).engine ≡ Some size)
 WritesError ws p _ = ⊥
 
 writes-first : (w : Wrote) (ws : List Wrote) (p : Progress) (k : ErrorKind) → OfferError w p.engine k → WritesError (w ∷ ws) p k
-writes-first w ws p (IOError fault) h = (h.0, or-left (is_failed w) (has_failed ws) h.1)
-writes-first w ws p (ProtocolError e) h = record { before = []; answer = w; after = ws; answers = refl; last = h.0; closed = h.1 }
+writes-first w ws p (IOError fault) h = (h.0, record { before = []; after = ws; answers = ap (λ v. v ∷ ws) h.1; final = h.2 })
+writes-first w ws p (ProtocolError e) h = record { before = []; answer = w; after = ws; answers = refl; last = h.0; closed = h.1; final = h.2 }
 writes-first w ws p (SerialisationError size) h = absurd h
 writes-first w ws p _ h = h
 
 writes-later : (w : Wrote) (ws : List Wrote) (p : Progress) (k : ErrorKind) → WritesError ws (offer_part w p) k → WritesError (w ∷ ws) p k
-writes-later w ws p (IOError fault) h = (h.0, or-right (is_failed w) (has_failed ws) h.1)
+writes-later w ws p (IOError fault) h =
+    (h.0, record { before = w ∷ h.1.before; after = h.1.after; answers = ap (λ vs. w ∷ vs) h.1.answers; final = h.1.final })
 writes-later w ws p (ProtocolError e) h =
-    record { before = w ∷ h.before; answer = h.answer; after = h.after; answers = ap (λ vs. w ∷ vs) h.answers; last = h.last; closed = h.closed }
+    record { before = w ∷ h.before; answer = h.answer; after = h.after; answers = ap (λ vs. w ∷ vs) h.answers; last = h.last; closed = h.closed; final = h.final }
 writes-later w ws p _ h = h
 
 -- a frame that can't go out is in the way
 ends-overlong : (P : ErrorKind → Type 0) (o : Option ℕ) (x : Engine) → ((size : ℕ) → o ≡ Some size → P (SerialisationError size)) → Ends P x.talk (ended_overlong o x).talk
 ends-overlong P None x p = ends-kept P x.talk x.talk refl
 ends-overlong P (Some size) x p =
-    ends-settled P x.talk (with_talk (end_overlong (Some size)) (commit_all x)) (ends-lose P (SerialisationError size) x.talk (commit_all x).talk (p size refl))
+    ends-settled P x.talk (with_talk (end_overlong (Some size)) (commit_all x)) (ends-fail P (SerialisationError size) x.talk (commit_all x).talk (p size refl))
 
 pub ends-drained : (ws : List Wrote) (p : Progress) → Ends (WritesError ws p) p.engine.talk (drained ws p).engine.talk
 ends-drained [] p =
@@ -430,16 +463,31 @@ early-cause u x (SerialisationError size) h = elim h [ inl e ↦ absurd e | inr 
 early-cause u x NoMemory h = elim h [ inl e ↦ absurd e | inr r ↦ absurd (not-memory _ _ _ r.error_read) ]
 early-cause u x _ h = elim h [ inl e ↦ absurd e | inr r ↦ r ]
 
--- that one failed is noted
-failed-noted : (ks : List ℕ) (b : Bool) → has_failed (map Took ks ++ (if b then Failed ∷ [] else [])) ≡ true → b ≡ true
-failed-noted [] true h = refl
-failed-noted [] false h = h
-failed-noted (k ∷ ks) b h = failed-noted ks b h
+-- that one failed is noted, and those before it took bytes
+failed-noted : (ks : List ℕ) (b : Bool) (before after : List Wrote) → (map Took ks ++ (if b then Failed ∷ [] else [])) ≡ (before ++ Failed ∷ after)
+    → (b ≡ true) × (map Took ks ≡ before)
+failed-noted [] true [] after h = (refl, refl)
+failed-noted [] true (w ∷ []) after h = cc
+failed-noted [] true (w ∷ (v ∷ vs)) after h = cc
+failed-noted [] false [] after h = cc
+failed-noted [] false (w ∷ ws) after h = cc
+failed-noted (k ∷ ks) b [] after h = cc
+failed-noted (k ∷ ks) b (w ∷ ws) after h =
+    let rest : map Took ks ++ (if b then Failed ∷ [] else []) ≡ ws ++ Failed ∷ after = cc in
+    let later = failed-noted ks b ws after rest in
+    let first : Took k ≡ w = cc in
+    (later.0, ap (λ vs. Took k ∷ vs) later.1 ∙ ap (λ v. v ∷ ws) first)
+
+fails-to-write : (u : Turn) (x : Engine) → Fails (answers_of u.notes) (read u x) → FailsToWrite u x
+fails-to-write u x h =
+    let noted = failed-noted u.notes.tooks u.notes.failed h.before h.after h.answers in
+    let Q : List Wrote → Type 0 = λ ws. IsTrue (is_final (IOError BrokenPipe) (drain ws (read u x)).engine.talk) in
+    (noted.0, subst Q (sym noted.1) h.final)
 
 writes-cause : (u : Turn) (x : Engine) (k : ErrorKind) → WritesError (answers_of u.notes) (read u x) k → IsCause k u x
-writes-cause u x (IOError fault) h = inr (h.0, failed-noted u.notes.tooks u.notes.failed h.1)
+writes-cause u x (IOError fault) h = inr (h.0, fails-to-write u x h.1)
 writes-cause u x (ProtocolError e) h =
-    inr (inr (record { before = h.before; answer = h.answer; after = h.after; answers = h.answers; last = h.last; closed = h.closed }))
+    inr (inr (record { before = h.before; answer = h.answer; after = h.after; answers = h.answers; last = h.last; closed = h.closed; final = h.final }))
 writes-cause u x (SerialisationError size) h = record { goes_on = h.0; next = h.1 }
 writes-cause u x _ h = absurd h
 
@@ -447,7 +495,7 @@ pub starved-cause : (P : ErrorKind → Type 0) (cut : Option ℕ) (at : ℕ) (x 
 starved-cause P None at x p = ends-kept P x.talk x.talk refl
 starved-cause P (Some j) at x p =
     let t = present_at at x.talk in
-    ends-present P at x.talk (starve t) (if_case (Ends P t) (has_ended t) t (fail NoMemory t) (ends-kept P t t refl) (ends-lose P NoMemory t t (p refl)))
+    ends-present P at x.talk (starve t) (if_case (Ends P t) (has_ended t) t (fail NoMemory t) (ends-kept P t t refl) (ends-fail P NoMemory t t (p refl)))
 
 ends-applied : (u : Turn) (x : Engine) → Ends (λ k. IsCause k u x) x.talk (applied u x).talk
 ends-applied u x =

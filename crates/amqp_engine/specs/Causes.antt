@@ -1,5 +1,5 @@
--- What brings about that a session ends with an error.
-use Rattle.std.specs.Prelude.{◌≡◌, ◌⊎◌, ℕ, ◌-◌, nat_le, if◌then◌else◌, ◌||◌, ◌&&◌, Bool, true, false, IsTrue, List, [], ◌∷◌, ◌++◌, Option, Some, None, is_some, is_none, Result, Err}
+-- What brings about that a session ends with an error, from which it does not recover.
+use Rattle.std.specs.Prelude.{◌≡◌, ◌⊎◌, ℕ, ◌-◌, nat_le, if◌then◌else◌, ◌||◌, ◌&&◌, Bool, true, false, IsTrue, List, [], ◌∷◌, ◌++◌, map, Option, Some, None, is_some, is_none, Result, Err}
 use Rattle.amqp_types.specs.declared.error.AMQPError.{AMQPError}
 use Rattle.amqp_frame.specs.declared.frame.Read.{Read}
 use Rattle.amqp_frame.specs.declared.frame.Read.TheVariants as reading
@@ -14,7 +14,7 @@ use Rattle.amqp_session.specs.declared.error.ErrorKind.TheVariants.{IOError, Mis
 use Rattle.amqp_session.specs.declared.auth.asked.Asked.{Asked}
 use Rattle.amqp_session.specs.Talk.{Talk, is_acting, is_asked, is_open, end_of}
 use Rattle.amqp_session.specs.Changes.{present_at}
-use Rattle.amqp_session.specs.Links.{next_delay}
+use Rattle.amqp_session.specs.Recovery.{next_delay, recovery_delay}
 use Rattle.amqp_session.specs.Causes.{IsFrameError}
 use Rattle.amqp_session.specs.Ticks.{is_missed}
 use Rattle.amqp_session.specs.Violations.{frame_too_large, stray_heartbeat}
@@ -48,22 +48,33 @@ abbrev pub is_counted : IoFault → Bool
 is_counted Aborted = false
 is_counted _ = true
 
--- the fault that a step brings: to the link that was asked for, where no delay is left, or to the open one
+-- where the link is lost by this error, the session does not recover
+abbrev pub is_final : ErrorKind → Talk → Bool
+is_final k t = is_none (recovery_delay k t)
+
+-- the fault by which a step ends a session: that of the link that was asked for, where no delay is left, or that of the
+-- open one, where the session does not recover
 abbrev pub brought : Step → Talk → Option IoFault
 brought LinkFailed t = if is_asked t && is_none (next_delay t) then Some Refused else None
-brought End t = if is_open t then Some Aborted else None
-brought Fault t = if is_open t then Some Reset else None
+brought End t = if is_open t && is_final (IOError Aborted) t then Some Aborted else None
+brought Fault t = if is_open t && is_final (IOError Reset) t then Some Reset else None
 brought _ t = None
 
--- a turn brings about a fault: its step brings it, or one of its writes failed
+-- the last write of a turn failed, and the session does not recover
+abbrev pub FailsToWrite : Turn → Engine → Type 0
+FailsToWrite u e =
+    IsTrue u.notes.failed
+    × IsTrue (is_final (IOError BrokenPipe) (drain (map Took u.notes.tooks) (read u e)).engine.talk)
+
+-- a turn brings about a fault: its step brings it, or its last write failed
 abbrev pub IsFaultOf : IoFault → Turn → Engine → Type 0
-IsFaultOf fault u e = (brought u.step e.talk ≡ Some fault) ⊎ ((fault ≡ BrokenPipe) × IsTrue u.notes.failed)
+IsFaultOf fault u e = (brought u.step e.talk ≡ Some fault) ⊎ ((fault ≡ BrokenPipe) × FailsToWrite u e)
 
 -- ---- what is read
 
--- the error that is brought by what stands at the front of the unread bytes, with what the provider answers to what it
--- asks: a frame, which acts only before the server's close; 501 for one that is too large, and for a heartbeat on
--- another channel than 0
+-- the link is lost by this error, by what stands at the front of the unread bytes, with what the provider answers to
+-- what it asks: a frame, which acts only before the server's close; 501 for one that is too large, and for a heartbeat
+-- on another channel than 0
 abbrev pub IsReadError : ErrorKind → Read → List Asked → Engine → Type 0
 IsReadError k (reading.Whole f n) answers x = IsTrue (is_acting x.talk.input) × IsFrameError k f answers x.talk
 IsReadError k (reading.TooLarge size) answers x = k ≡ frame_too_large size
@@ -84,9 +95,11 @@ pub record Misreads (error : ErrorKind) (u : Turn) (e : Engine) : Type 0 where
   pub goes_on : IsTrue (goes (after_frames before u e))
   -- the link is open, and there is what can be read
   pub readable : IsTrue (can_read (after_frames before u e).engine)
-  -- and it brings the error
+  -- it brings the error
   pub error_read :
       let p = after_frames before u e in IsReadError error (front_of p.engine) p.answers p.engine
+  -- and the session does not recover
+  pub final : IsTrue (is_final error (after_frames before u e).engine.talk)
 
 -- ---- the server's close
 
@@ -112,13 +125,14 @@ is_loss End = true
 is_loss Fault = true
 is_loss _ = false
 
--- the server closed with this error, and the step loses the link
+-- the server closed with this error, and the step loses the link, without which the session does not go on
 pub record LosesClosed (error : AMQPError) (step : Step) (e : Engine) : Type 0 where
   pub loss : IsTrue (is_loss step)
   pub opened : IsTrue (is_open e.talk)
   pub closed : e.talk.server_close ≡ Some (WithError error)
+  pub final : IsTrue (is_final (ProtocolError error) e.talk)
 
--- the server closed with this error, and a write of the turn is the last
+-- the server closed with this error, and a write of the turn is the last, after which the session does not go on
 pub record WritesLast (error : AMQPError) (u : Turn) (e : Engine) : Type 0 where
   -- the answers to the writes before, to this one, and to those after it
   pub before : List Wrote
@@ -127,6 +141,7 @@ pub record WritesLast (error : AMQPError) (u : Turn) (e : Engine) : Type 0 where
   pub answers : answers_of u.notes ≡ before ++ answer ∷ after
   pub last : IsTrue (is_last answer (commit_all (drain before (read u e)).engine))
   pub closed : (drain before (read u e)).engine.talk.server_close ≡ Some (WithError error)
+  pub final : IsTrue (is_final (ProtocolError error) (drain before (read u e)).engine.talk)
 
 -- ---- time, and what can't go out
 
@@ -135,9 +150,11 @@ abbrev pub is_tick : Step → Bool
 is_tick Tick = true
 is_tick _ = false
 
--- a tick at which nothing was read for too long
+-- a tick at which nothing was read for too long, and the session does not recover
 abbrev pub IsSilence : Turn → Engine → Type 0
-IsSilence u e = IsTrue (is_tick u.step) × IsTrue (is_missed (present_at u.at e.talk))
+IsSilence u e =
+    IsTrue (is_tick u.step) × IsTrue (is_missed (present_at u.at e.talk))
+    × IsTrue (is_final MissingHeartbeatError e.talk)
 
 -- after its writes a turn goes on, and the frame that is next is longer than the whole capacity
 pub record IsOverlong (size : ℕ) (u : Turn) (e : Engine) : Type 0 where

@@ -11,6 +11,8 @@ mod ends;
 #[cfg(test)]
 mod parts;
 #[cfg(test)]
+mod recovering;
+#[cfg(test)]
 mod runs;
 #[cfg(test)]
 mod story;

@@ -1,9 +1,10 @@
 //! Stories of an engine and a port that plays a script, line by line.
 
-use crate::support::{Happens, Outcome, our_close, port, shows, took};
+use crate::support::{Happens, Outcome, our_close, port, shows, took, took_on};
 use amqp_engine::{IoLoop, MemoryPort, Port, ScriptedPort};
 use amqp_ring::Buffer;
 use amqp_session::{Answer, ConnectionProperties, DefaultAuthProvider};
+use amqp_types::NoMemory;
 use amqp_uri::AMQPUri;
 use std::alloc::Global;
 use std::process::Abort;
@@ -34,6 +35,8 @@ pub enum Line {
     Links(usize),
     /// The one link took these frames, each a text in hexadecimal.
     Took(&'static [&'static str]),
+    /// The link of this place, from 0 on, took these frames.
+    TookOn(usize, &'static [&'static str]),
     /// The answer to a promise. It is taken.
     Answers(u64, Answer),
     /// The error that is the answer to a promise, as its text. It is taken.
@@ -56,6 +59,31 @@ pub fn tell<A: Abort>(rt: &A, alloc: Global, script: &[Happens], lines: &[Line])
     Ok(())
 }
 
+/// The same of an engine that recovers, twice and without a delay.
+pub fn tell_recovering<A: Abort>(
+    rt: &A,
+    alloc: Global,
+    script: &[Happens],
+    lines: &[Line],
+) -> Outcome<()> {
+    let mut port = port(alloc, script)?;
+    let wrong = wrong_line_recovering(alloc, &mut port, lines);
+    drop(port);
+    assert_eq!(rt; wrong?, None);
+    Ok(())
+}
+
+fn wrong_line_recovering(
+    alloc: Global,
+    port: &mut MemoryPort,
+    lines: &[Line],
+) -> Outcome<Option<u64>> {
+    let mut driven = engine_by(alloc, recovering(alloc)?)?;
+    let wrong = wrong_line_of(alloc, port, &mut driven, lines);
+    drop(driven);
+    wrong
+}
+
 /// The number of the first line that does not hold, where one does not.
 pub fn wrong_line(alloc: Global, script: &[Happens], lines: &[Line]) -> Outcome<Option<u64>> {
     let mut port = port(alloc, script)?;
@@ -73,14 +101,37 @@ pub struct Driven {
 
 /// A new engine for the broker of this machine, with the user of its address.
 pub fn new_engine(alloc: Global) -> Outcome<Driven> {
-    let uri = AMQPUri::local(alloc)?;
-    let made = engine_at(alloc, &uri);
-    drop(uri);
-    made
+    engine_by(alloc, ConnectionProperties::new(alloc)?)
 }
 
-fn engine_at(alloc: Global, uri: &AMQPUri) -> Outcome<Driven> {
-    let options = ConnectionProperties::new(alloc)?;
+// Properties of an engine that recovers, twice and without a delay.
+fn recovering(alloc: Global) -> Result<ConnectionProperties, NoMemory> {
+    let delays = Vec::from_slice(alloc, &[0, 0])?;
+    match ConnectionProperties::new(alloc) {
+        Ok(options) => options.with_backoff(delays).enable_auto_recover(alloc),
+        Err(e) => {
+            drop(delays);
+            Err(e)
+        }
+    }
+}
+
+// A new engine of these properties.
+fn engine_by(alloc: Global, options: ConnectionProperties) -> Outcome<Driven> {
+    match AMQPUri::local(alloc) {
+        Ok(uri) => {
+            let made = engine_at(alloc, &uri, options);
+            drop(uri);
+            made
+        }
+        Err(e) => {
+            drop(options);
+            Err(e)?
+        }
+    }
+}
+
+fn engine_at(alloc: Global, uri: &AMQPUri, options: ConnectionProperties) -> Outcome<Driven> {
     let engine = IoLoop::new(alloc, uri, options)?;
     let provider = DefaultAuthProvider::new(alloc, uri)?;
     Ok(Driven { engine, provider })
@@ -133,6 +184,7 @@ fn gives(alloc: Global, port: &MemoryPort, engine: &mut IoLoop, line: Line) -> O
         Line::IsNotAsked => Ok(!engine.session().is_asked()),
         Line::Links(n) => Ok(port.links() == n),
         Line::Took(frames) => took(alloc, port, frames),
+        Line::TookOn(place, frames) => took_on(alloc, port, place, frames),
         Line::Answers(number, answer) => Ok(answers(engine, number, answer)),
         Line::Refuses(number, text) => refuses(alloc, engine, number, text),
         Line::IsUnanswered(number) => Ok(is_unanswered(engine, number)),

@@ -199,7 +199,17 @@ pub fn port(alloc: Global, script: &[Happens]) -> Outcome<MemoryPort> {
 
 /// Whether a port had one link, which took these frames.
 pub fn took(alloc: Global, port: &MemoryPort, frames: &[&'static str]) -> Outcome<bool> {
-    if port.links() != 1 {
+    Ok(port.links() == 1 && took_on(alloc, port, 0, frames)?)
+}
+
+/// Whether the link of this place, from 0 on, took these frames.
+pub fn took_on(
+    alloc: Global,
+    port: &MemoryPort,
+    place: usize,
+    frames: &[&'static str],
+) -> Outcome<bool> {
+    if place >= port.links() {
         return Ok(false);
     }
     let mut expected: Vec<u8> = Vec::new(alloc);
@@ -207,7 +217,7 @@ pub fn took(alloc: Global, port: &MemoryPort, frames: &[&'static str]) -> Outcom
         let bytes = octets(alloc, frame)?;
         expected.extend_from_slice(&bytes)?;
     }
-    Ok(port.link(0) == expected.as_slice())
+    Ok(port.link(place) == expected.as_slice())
 }
 
 /// Whether an error has this text.

@@ -4,10 +4,10 @@ use Rattle.std.specs.List.{slice_split}
 use Rattle.std.specs.Result.{result_ok}
 use Rattle.std.specs.Str.{bytes_eq}
 use Rattle.amqp_uri.specs.Address.{local, parsed as address_of}
-use Rattle.amqp_session.specs.Config.{Options, Config, config_of, no_options, with_locale, with_name, with_property, with_backoff}
+use Rattle.amqp_session.specs.Config.{Options, Config, config_of, no_options, with_locale, with_name, with_property, with_backoff, with_recovery}
 use Rattle.amqp_replay.specs.declared.limits.TheConstants.{TEXT_BYTES}
 use Rattle.amqp_replay.specs.declared.setup.Setting.{Setting}
-use Rattle.amqp_replay.specs.declared.setup.Setting.TheVariants.{Uri, Locale, Name, Property, Delays, Provider}
+use Rattle.amqp_replay.specs.declared.setup.Setting.TheVariants.{Uri, Locale, Name, Property, Recover, Delays, Provider}
 use Rattle.amqp_replay.specs.Decimals.{number_64}
 use Rattle.amqp_replay.specs.Words.{first_word, after_word}
 
@@ -19,7 +19,9 @@ is_setup_word word =
     bytes_eq word (codes "uri")
     || (bytes_eq word (codes "locale")
     || (bytes_eq word (codes "name")
-    || (bytes_eq word (codes "property") || (bytes_eq word (codes "delays") || bytes_eq word (codes "provider")))))
+    || (bytes_eq word (codes "property")
+    || (bytes_eq word (codes "recover")
+    || (bytes_eq word (codes "delays") || bytes_eq word (codes "provider"))))))
 
 -- a line that begins with such a word
 abbrev pub is_setup : List ℕ → Bool
@@ -46,6 +48,11 @@ abbrev pub property_in : Option (List ℕ) → Option Setting
 property_in None = None
 property_in (Some words) =
     if is_key (first_word words) then option_map (Property (first_word words)) (text_in (after_word words)) else None
+
+-- `recover`, alone
+abbrev pub recover_in : Option (List ℕ) → Option Setting
+recover_in None = Some Recover
+recover_in (Some text) = None
 
 -- what numbers are parted by
 abbrev pub is_blank : ℕ → Bool
@@ -77,6 +84,7 @@ option_by word rest =
     if bytes_eq word (codes "locale") then option_map Locale (text_in rest)
     else if bytes_eq word (codes "name") then option_map Name (text_in rest)
     else if bytes_eq word (codes "property") then property_in rest
+    else if bytes_eq word (codes "recover") then recover_in rest
     else if bytes_eq word (codes "delays") then delays_in rest
     else if bytes_eq word (codes "provider") then provider_in rest
     else None
@@ -101,6 +109,7 @@ pub record Progress : Type 0 where
   pub has_uri : Bool
   pub has_locale : Bool
   pub has_name : Bool
+  pub has_recover : Bool
   pub has_delays : Bool
   pub has_provider : Bool
   pub has_step : Bool
@@ -114,6 +123,7 @@ no_lines is_handed =
       has_uri = false;
       has_locale = false;
       has_name = false;
+      has_recover = false;
       has_delays = false;
       has_provider = false;
       has_step = false;
@@ -125,6 +135,7 @@ may_stand (Uri uri) p = not (p.has_step || p.has_uri)
 may_stand (Locale locale) p = not (p.has_step || p.has_locale)
 may_stand (Name name) p = not (p.has_step || p.has_name)
 may_stand (Property key text) p = not p.has_step
+may_stand Recover p = not (p.has_step || p.has_recover)
 may_stand (Delays delays) p = not (p.has_step || p.has_delays)
 may_stand Provider p = p.is_handed && not (p.has_step || p.has_provider)
 
@@ -138,6 +149,7 @@ after_setting (Uri uri) p = record p { config = config_of uri p.config.options; 
 after_setting (Locale locale) p = record p { config = with_options (with_locale locale) p.config; has_locale = true }
 after_setting (Name name) p = record p { config = with_options (with_name name) p.config; has_name = true }
 after_setting (Property key text) p = record p { config = with_options (with_property key text) p.config }
+after_setting Recover p = record p { config = with_options with_recovery p.config; has_recover = true }
 after_setting (Delays delays) p = record p { config = with_options (with_backoff delays) p.config; has_delays = true }
 after_setting Provider p = record p { has_provider = true }
 

@@ -5,8 +5,8 @@ ghost use Rattle.std.specs.List.{slice_split};
 ghost use Rattle.std.specs.Option.{option_copied};
 ghost use Rattle.std.specs.Str.{IsAscii};
 ghost use Rattle.amqp_session.specs.Config.{config_of};
-ghost use Rattle.amqp_replay.specs.declared.setup.Setting.TheVariants.{Uri, Locale, Name, Property, Delays, Provider};
-ghost use Rattle.amqp_replay.specs.Setup.{is_setup, uri_in, text_in, property_in, is_blank, numbers_of, delays_in, provider_in, option_by, setting_of, no_lines, may_stand, after_setting, after_step, set_by};
+ghost use Rattle.amqp_replay.specs.declared.setup.Setting.TheVariants.{Uri, Locale, Name, Property, Recover, Delays, Provider};
+ghost use Rattle.amqp_replay.specs.Setup.{is_setup, uri_in, text_in, property_in, recover_in, is_blank, numbers_of, delays_in, provider_in, option_by, setting_of, no_lines, may_stand, after_setting, after_step, set_by};
 
 use crate::decimals::number;
 use crate::limits::TEXT_BYTES;
@@ -28,6 +28,8 @@ pub enum Setting {
     Name(LongString),
     /// A property of the client: its key and its text.
     Property(ShortString, LongString),
+    /// That the session goes on where its link is lost.
+    Recover,
     /// How long the session waits, time after time, where it has no link and is to have one.
     Delays(DelayList),
     /// The provider of authentication that was handed to the program.
@@ -81,6 +83,7 @@ pub fn is_setup(content: &[u8]) -> bool
         || is(word, b"locale")
         || is(word, b"name")
         || is(word, b"property")
+        || is(word, b"recover")
         || is(word, b"delays")
         || is(word, b"provider")
 }
@@ -124,6 +127,9 @@ fn option(alloc: Global, word: &[u8], rest: Option<&[u8]>) -> Result<Option<Sett
     }
     if is(word, b"property") {
         return Ok(property(alloc, rest)?);
+    }
+    if is(word, b"recover") {
+        return Ok(recover(rest));
     }
     if is(word, b"delays") {
         return Ok(delays(alloc, rest)?);
@@ -186,6 +192,16 @@ fn property(alloc: Global, rest: Option<&[u8]>) -> Result<Option<Setting>, NoMem
     match read_text(alloc, rest)? {
         Some(text) => Ok(Some(keyed(alloc, key, text)?)),
         None => Ok(None),
+    }
+}
+
+// `recover`
+fn recover(rest: Option<&[u8]>) -> Option<Setting>
+    ensures { result ≡ recover_in (option_copied rest.entry) }
+{
+    match rest {
+        None => Some(Setting::Recover),
+        Some(_) => None,
     }
 }
 
@@ -252,6 +268,7 @@ pub struct Progress {
     has_uri: bool,
     has_locale: bool,
     has_name: bool,
+    has_recover: bool,
     has_delays: bool,
     has_provider: bool,
     has_step: bool,
@@ -274,6 +291,7 @@ impl Model for Progress {
       has_uri = p.has_uri;
       has_locale = p.has_locale;
       has_name = p.has_name;
+      has_recover = p.has_recover;
       has_delays = p.has_delays;
       has_provider = p.has_provider;
       has_step = p.has_step;
@@ -295,6 +313,7 @@ impl Progress {
                 has_uri: false,
                 has_locale: false,
                 has_name: false,
+                has_recover: false,
                 has_delays: false,
                 has_provider: false,
                 has_step: false,
@@ -341,6 +360,7 @@ impl Progress {
             Setting::Locale(locale) => Ok(Some(self.with_locale(locale))),
             Setting::Name(name) => Ok(Some(self.with_name(alloc, name)?)),
             Setting::Property(key, text) => Ok(Some(self.with_property(key, text)?)),
+            Setting::Recover => Ok(Some(self.with_recovery(alloc)?)),
             Setting::Delays(delays) => Ok(Some(self.with_delays(delays))),
             Setting::Provider => Ok(Some(self.with_provider())),
         }
@@ -356,6 +376,7 @@ impl Progress {
             Setting::Locale(_) => !(self.has_step || self.has_locale),
             Setting::Name(_) => !(self.has_step || self.has_name),
             Setting::Property(_, _) => !self.has_step,
+            Setting::Recover => !(self.has_step || self.has_recover),
             Setting::Delays(_) => !(self.has_step || self.has_delays),
             Setting::Provider => self.is_handed && !(self.has_step || self.has_provider),
         }
@@ -372,6 +393,7 @@ impl Progress {
             has_uri: true,
             has_locale: self.has_locale,
             has_name: self.has_name,
+            has_recover: self.has_recover,
             has_delays: self.has_delays,
             has_provider: self.has_provider,
             has_step: self.has_step,
@@ -395,6 +417,22 @@ impl Progress {
             Ok(options) => Ok(Progress {
                 options,
                 has_name: true,
+                ..self
+            }),
+            Err(e) => {
+                drop(self.uri);
+                Err(e)
+            }
+        }
+    }
+
+    fn with_recovery(self, alloc: Global) -> Result<Progress, NoMemory>
+        ensures { IfOk result (λ p. p ≡ after_setting Recover self) }
+    {
+        match self.options.enable_auto_recover(alloc) {
+            Ok(options) => Ok(Progress {
+                options,
+                has_recover: true,
                 ..self
             }),
             Err(e) => {

@@ -4,12 +4,13 @@ use Rattle.std.specs.declared.cmp.Ordering.{Ordering}
 use Rattle.std.specs.declared.cmp.Ordering.TheVariants.{Less, Equal, Greater}
 use Rattle.std.specs.Ordering.{nat_cmp, is_eq, match_ordering, MatchOrdering}
 use Rattle.std.specs.Cmp.{nat_cmp_is, ranks}
+use Rattle.std.specs.Prelude.{filter}
 use Rattle.std.specs.Map.{keys_of}
 use Rattle.std.specs.BTreeMap.{is_at}
 use Rattle.amqp_session.specs.Listed.{at, put, without, map_values}
 use Rattle.amqp_session.specs.Sound.{AscendFrom, Ascend, AllBelow}
 
-ranked : (n k : ℕ) (r : Ordering) → nat_cmp n k ≡ r → MatchOrdering r (n < k) (n ≡ k) (k < n)
+pub ranked : (n k : ℕ) (r : Ordering) → nat_cmp n k ≡ r → MatchOrdering r (n < k) (n ≡ k) (k < n)
 ranked n k r h = subst (λ r. MatchOrdering r (n < k) (n ≡ k) (k < n)) h (ranks n k)
 
 -- what is above a number is above a lesser one
@@ -124,6 +125,17 @@ module _ {X : Type 0} (n : ℕ) where
   pub at-gone : (es : List (ℕ × X)) → Ascend (keys_of es) → at n (without n es) ≡ None
   at-gone [] s = refl
   at-gone (e ∷ es) s = taken-head (nat_cmp n e.0) e es refl s (at-gone es (ascend-from e.0 (keys_of es) s))
+
+module _ {X : Type 0} (p : ℕ × X → Bool) where
+  left-head : (b : Bool) (m : ℕ) (e : ℕ × X) (es : List (ℕ × X)) → AscendFrom m (keys_of (e ∷ es)) → AscendFrom e.0 (keys_of (filter p es))
+      → AscendFrom m (keys_of (cond b (e ∷ filter p es) (filter p es)))
+  left-head true m e es s rest = (s.0, rest)
+  left-head false m e es s rest = ascend-below m e.0 (keys_of (filter p es)) (omega (arith, s.0)) rest
+
+  -- entries that go leave the others in their order
+  pub filter-from : (m : ℕ) (es : List (ℕ × X)) → AscendFrom m (keys_of es) → AscendFrom m (keys_of (filter p es))
+  filter-from m [] s = tt
+  filter-from m (e ∷ es) s = left-head (p e) m e es s (filter-from e.0 es s.1)
 
 -- values that change leave the numbers
 pub map_values-from : {X : Type 0} (f : X → X) (m : ℕ) (es : List (ℕ × X)) → AscendFrom m (keys_of es) → AscendFrom m (keys_of (map_values f es))

@@ -2,6 +2,7 @@
 use Rattle.std.proofs.Common.{◌≡◌, ◌≢◌, ◌<◌, ◌≤◌, ◌^◌, ℕ, zero, suc, ◌+◌, ◌-◌, ◌&&◌, ◌==◌, not, nat_le, max, if◌then◌else◌, Bool, true, false, List, [], ◌∷◌, ◌++◌, length, drop, Option, Some, None, is_some, Result, Ok, Err, inl, inr, refl, ap, sym, ◌∙◌, subst, append_assoc, true≢false, arith}
 use Rattle.std.proofs.lemmas.List.{map-append}
 use Rattle.std.specs.List.{AllByRecursion}
+use Rattle.std.specs.Map.{keys_of}
 use Rattle.std.specs.Prelude.{codes}
 use Rattle.std.proofs.lemmas.Nat.{from_be_bytes-to_be_bytes_2}
 use Rattle.amqp_types.specs.declared.word.Word.{Word}
@@ -26,7 +27,7 @@ use Rattle.amqp_session.specs.declared.committed.Then.{Then}
 use Rattle.amqp_session.specs.declared.committed.Then.TheVariants.{Nothing, Answer, Pays, Finish}
 use Rattle.amqp_session.specs.declared.configuration.Configuration.{Configuration}
 use Rattle.amqp_session.specs.declared.state.ConnectionState.{ConnectionState}
-use Rattle.amqp_session.specs.declared.state.ConnectionState.TheVariants.{Initial, Connecting, Connected, Closing}
+use Rattle.amqp_session.specs.declared.state.ConnectionState.TheVariants.{Connecting, Connected, Closing}
 use Rattle.amqp_session.specs.declared.state.ChannelState.{ChannelState}
 use Rattle.amqp_session.specs.declared.state.ChannelState.TheVariants as channel
 use Rattle.amqp_session.specs.declared.state.Phase.{Phase}
@@ -45,18 +46,19 @@ use Rattle.amqp_session.specs.declared.command.Answer.TheVariants.{Done}
 use Rattle.amqp_session.specs.declared.server_close.ServerClose.{ServerClose}
 use Rattle.amqp_session.specs.declared.server_close.ServerClose.TheVariants.{WithoutError, WithError}
 use Rattle.amqp_session.specs.declared.error.ErrorKind.{ErrorKind}
-use Rattle.amqp_session.specs.declared.error.ErrorKind.TheVariants.{IOError, InvalidConnectionState, InvalidProtocolVersion, InvalidChannel, InvalidChannelState, MissingHeartbeatError, AuthProviderError}
+use Rattle.amqp_session.specs.declared.error.ErrorKind.TheVariants.{IOError, ProtocolError, InvalidConnectionState, InvalidProtocolVersion, InvalidChannel, InvalidChannelState, MissingHeartbeatError, AuthProviderError}
 use Rattle.amqp_session.specs.Config.{Config}
 use Rattle.amqp_session.specs.declared.auth.asked.Asked.{Asked as ProviderAnswer}
 use Rattle.amqp_session.specs.Talk.{Talk, start, has_ended, is_open, is_open_link, is_asked, is_asked_link, end_of_link, is_closing, is_acting, acts, hears_on}
-use Rattle.amqp_session.specs.Changes.{next_promise, present_at, lose, misplaced, finish_by, starve, queue, give_to, drop_replies_of, without_all_on}
+use Rattle.amqp_session.specs.Changes.{next_promise, present_at, close, fail, lose, misplaced, finish, finish_by, starve, queue, await, give_to, drop_replies_of, without_all_on}
 use Rattle.amqp_session.specs.Violations.{misread_error, channel_closed_with, unawaited, stray_channel_frame, stray_connection_method}
 use Rattle.amqp_session.specs.Capacities.{frame_min_size}
 use Rattle.amqp_session.specs.Negotiation.{tune}
 use Rattle.amqp_session.specs.Handshake.{start_ok, secure_ok, tune_ok, open_vhost, close_ok, our_close, new_secret, channel_open, channel_flow, flow_ok, our_channel_close, channel_close_ok, protocol_header}
-use Rattle.amqp_session.specs.Links.{asked, asked_link, linked, next_delay, refused_after, link_failed, piece, lost, misread, dropped}
-use Rattle.amqp_session.specs.ConnectionMethods.{connection_rule, on_connection_close, started, challenged, on_tune, on_open_ok, on_connection_close_ok, connection_closed, secret_taken}
-use Rattle.amqp_session.specs.Channels.{channel_at, set_channel}
+use Rattle.amqp_session.specs.Links.{asked, asked_link, linked, refused_after, link_failed, piece, lost, misread, dropped}
+use Rattle.amqp_session.specs.Recovery.{next_delay, reconnect}
+use Rattle.amqp_session.specs.ConnectionMethods.{connection_rule, on_connection_close, started, challenged, on_tune, connected, reopen_each, on_open_ok, on_connection_close_ok, connection_closed, secret_taken}
+use Rattle.amqp_session.specs.Channels.{closing, channel_at, set_channel}
 use Rattle.amqp_session.specs.ChannelMethods.{heard_on, unawaited_channel_method, channel_opened, remove_channel, remove_unless_owed, channel_closed, on_channel_flow, channel_flowed, awaits_close_ok, closed_by_server, crossing_close, channel_close_by, channel_rule, channel_method_by, channel_method, raw_by, pass_through, confirmed, hand_out, is_select_ok}
 use Rattle.amqp_session.specs.Frames.{is_of_a_channel, method_rule, frame_rule, closed_rule, on_frame}
 use Rattle.amqp_session.specs.Publishing.{method_frame, publish_frames}
@@ -67,19 +69,22 @@ use Rattle.amqp_session.specs.Answers.{answer_of, take_answer, take_frames}
 use Rattle.amqp_session.specs.Listed.{put, without}
 use Rattle.amqp_session.specs.Numbering.{first_number, drawn}
 use Rattle.amqp_session.specs.Octets.{class_in}
+use Rattle.amqp_session.specs.Sound.{AscendFrom}
 use Rattle.amqp_session.specs.Legal.{amqp_header, IsPassedThrough}
 use Rattle.amqp_session.specs.Decider.{Speech, Stage, MethodSaid, HeaderSaid, StartOkSaid, TuneOkSaid, OpenSaid, CloseSaid, CloseOkSaid, Shut, InUse, Left, NoContent, BodyMissing, now_on, greeted, say, say_all, is_amqp_header, is_legal}
 use Rattle.amqp_session.proofs.Heard.{start-case, secure-case, secret-case}
 use Rattle.amqp_session.proofs.Cases.{if_case, if_by, if-true, and-true}
-use Rattle.amqp_session.proofs.Keeping.{asks-connected, beats-connected, starve-ends, finish-ends, lost-stays, lacks_link}
+use Rattle.amqp_session.proofs.Recovering.{lose-by, recovers-open}
+use Rattle.amqp_session.proofs.Keeping.{asks-connected, beats-connected, starve-ends, lacks_link, follow-open}
+use Rattle.amqp_session.proofs.Ascending.{put-from, without-from, map_values-from}
 use Rattle.amqp_session.proofs.Truths.{append-none, same-number, other-number}
 use Rattle.amqp_session.proofs.Sayable.{IsComplete, say-append, front-said, over-stays, close-said, say-heartbeat, say-secret, say-our-close, say-flow, say-flow-ok, say-channel-close-ok, say-group, filling}
-use Rattle.amqp_session.proofs.Ties.{frames_in, LeadsTo, first_out, IsReady, IsOfControl, pays, paying, to_pay, unpaid, TiesChannels, IsNew, TiesPhase, TiesActing, Ties, Speaks, IsTied, IsSilent, IsSendable}
+use Rattle.amqp_session.proofs.Ties.{frames_in, LeadsTo, first_out, IsReady, IsOfControl, pays, paying, to_pay, unpaid, TiesChannels, IsNew, TiesPhase, TiesActing, Ties, Speaks, IsTied, Rests, IsSilent, IsSendable}
 use Rattle.amqp_session.proofs.Ready.{stay-ready, open-ready, others-ready, unused-ready, never-ready, publish-content, publish-ready, pieces-fit}
 use Rattle.amqp_session.proofs.Expecting.{first-by-promise}
 use Rattle.amqp_session.proofs.Paying.{left_in_lane, none-more, one-more, moved-on, sent-off, group-pays-none, pays-own, pays-others, lane-pays-none, others-unpaid, none-unpaid, lane-left}
 use Rattle.amqp_session.proofs.Losing.{Alike, lane-loses}
-use Rattle.amqp_session.proofs.OnChannels.{Listed, Replies, on-alike, on-usages, ties-of, with-content, on-open, on-close, on-send, on-same, on-await-untied, on-answered-untied, on-opened, left_listed, on-closed, is-used, on-server-close, is-left, on-crossing, none-due, one-due, on-paid, on-paid-gone, listed-some, used-open, all-append, drawn-free}
+use Rattle.amqp_session.proofs.OnChannels.{Listed, Replies, on-alike, on-usages, ties-of, with-content, on-open, on-close, on-send, on-same, on-await-untied, on-answered-untied, on-opened, left_listed, on-closed, Reopening, none-reopened, all-reopened, on-reopened, on-passed, reopening-due, kept-from, all-kept, above-zero, never-zero, is-used, on-server-close, is-left, on-crossing, none-due, one-due, on-paid, on-paid-gone, listed-some, used-open, all-append, drawn-free}
 
 -- what is known of a session: while a link is open, and while one is wanted
 abbrev pub Now : Talk → List Frame → Type 0
@@ -166,8 +171,23 @@ now-ended : (t : Talk) (fs : List Frame) → has_ended t ≡ true → Now t fs
 now-ended t fs h =
     let c = closed-link t.link h in ((λ k. absurd (c.0 k)), (λ k. absurd (c.1 k)))
 
-now-lose : (e : ErrorKind) (t : Talk) (fs : List Frame) → Now (lose e t) fs
-now-lose e t fs = now-ended (lose e t) fs refl
+-- a link is lost, and another is waited for
+now-reconnect : (e : ErrorKind) (delay : ℕ) (t : Talk) (fs : List Frame) → is_open t ≡ true → Now t fs → Now (reconnect e delay t) fs
+now-reconnect e delay t fs o h =
+    let said : IsTied t fs = h.0 o in (
+      (λ k. absurd (true≢false (sym k))),
+      (λ w. record { rests = tt; listed = kept-from t.channels said.listed; kept = λ n. all-kept n t.channels; room = said.room }),
+    )
+
+now-lose : (e : ErrorKind) (t : Talk) (fs : List Frame) → Now t fs → Now (lose e t) fs
+now-lose e t fs h =
+    lose-by (λ (x : Talk). Now x fs) e t (λ delay is. now-reconnect e delay t fs (recovers-open e t delay is) h) (λ none. now-ended (fail e t) fs refl)
+
+-- after the server's close a link is lost, or the session ends
+now-finish : (o : Option ServerClose) (t : Talk) (fs : List Frame) → Now t fs → Now (finish_by o t) fs
+now-finish None t fs h = now-ended (close t) fs refl
+now-finish (Some WithoutError) t fs h = now-ended (close t) fs refl
+now-finish (Some (WithError e)) t fs h = now-lose (ProtocolError e) t fs h
 
 -- ---- links, moments and writing
 
@@ -201,17 +221,16 @@ now-failed t fs h = if_by (λ (x : Talk). Now x fs) (is_asked t) (refused_after 
 
     by : (delay : Option ℕ) → is_asked t ≡ true → Now (refused_after delay t) fs
     by (Some delay) asked = ((λ o. absurd (true≢false (sym o))), (λ w. h.1 (lacking t.link asked)))
-    by None asked = now-lose (IOError Refused) t fs
+    by None asked = now-ended (fail (IOError Refused) t) fs refl
 
 pub now-piece : (t : Talk) (fs : List Frame) → Now t fs → Now (piece t) fs
 now-piece t fs h = if_case (λ (x : Talk). Now x fs) (is_open t) (record t { last_read = t.present }) t h h
 
 pub now-lost : (fault : IoFault) (t : Talk) (fs : List Frame) → Now t fs → Now (lost fault t) fs
 now-lost fault t fs h =
-    elim (lost-stays fault t) [
-      | inl is ↦ (let Q : Talk → Type 0 = λ x. Now x fs in subst Q (sym is) h)
-      | inr ended ↦ now-ended (lost fault t) fs ended
-    ]
+    let Q : Talk → Type 0 = λ x. Now x fs in
+    if_case Q (acts t) (lose (IOError fault) t) (if is_open t then finish t else t) (now-lose (IOError fault) t fs h)
+    (if_case Q (is_open t) (finish t) t (now-finish t.server_close t fs h) h)
 
 pub now-starve : (t : Talk) (fs : List Frame) → Now t fs → Now (starve t) fs
 now-starve t fs h = now-ended (starve t) fs (starve-ends t)
@@ -242,7 +261,7 @@ pub now-misread : (why : Misread) (t : Talk) (fs : List Frame) → Now t fs → 
 now-misread why t fs h =
     let Q : Talk → Type 0 = λ x. Now x fs in
     let x : Talk = record t { input = dropped t.input } in
-    if_by Q (acts t) (lose (misread_error why) t) (if is_open t then x else t) (λ acting. now-lose (misread_error why) t fs)
+    if_by Q (acts t) (lose (misread_error why) t) (if is_open t then x else t) (λ acting. now-lose (misread_error why) t fs h)
     (λ idle. if_by Q (is_open t) x t
     (λ o. (let said = h.0 o in
     now-open x fs o
@@ -253,6 +272,8 @@ now-misread why t fs h =
       groups = said.groups;
       ties = ties-dropped t.input t.state t.phase t.channels t.outbox.awaited (unpaid t.committed (first_out t.outbox)) said.later (not-acting (is_open t) (is_acting t.input) o idle) said.ties;
       agreed = said.agreed;
+      listed = said.listed;
+      room = said.room;
     })))
     (λ closed. h))
 
@@ -280,23 +301,23 @@ not-over Closing p cs ws due v h over = none (sym h ∙ over) where
 not-over _ p cs ws due v h over = h
 
 -- the same, where state, phase and input are known
-speaks-as : (s s' : ConnectionState) (p p' : Phase) (i i' : Input) (frame_max : ℕ) (q : Queued) (cs : Listed) (ms : List Mark) (fs : List Frame)
-    → s ≡ s' → p ≡ p' → i ≡ i' → Speaks s p i frame_max q cs ms fs → Speaks s' p' i' frame_max q cs ms fs
-speaks-as s s' p p' i i' frame_max q cs ms fs hs hp hi h =
-    let A : ConnectionState → Type 0 = λ x. Speaks x p i frame_max q cs ms fs in
-    let B : Phase → Type 0 = λ x. Speaks s' x i frame_max q cs ms fs in
-    let C : Input → Type 0 = λ x. Speaks s' p' x frame_max q cs ms fs in
+speaks-as : (s s' : ConnectionState) (p p' : Phase) (i i' : Input) (frame_max capacity : ℕ) (q : Queued) (cs : Listed) (ms : List Mark) (fs : List Frame)
+    → s ≡ s' → p ≡ p' → i ≡ i' → Speaks s p i frame_max capacity q cs ms fs → Speaks s' p' i' frame_max capacity q cs ms fs
+speaks-as s s' p p' i i' frame_max capacity q cs ms fs hs hp hi h =
+    let A : ConnectionState → Type 0 = λ x. Speaks x p i frame_max capacity q cs ms fs in
+    let B : Phase → Type 0 = λ x. Speaks s' x i frame_max capacity q cs ms fs in
+    let C : Input → Type 0 = λ x. Speaks s' p' x frame_max capacity q cs ms fs in
     subst C hi (subst B hp (subst A hs h))
 
 -- the same of a session
 tied-as : (s : ConnectionState) (p : Phase) (i : Input) (t : Talk) (fs : List Frame) → t.state ≡ s → t.phase ≡ p → t.input ≡ i
-    → Speaks s p i t.configuration.frame_max t.outbox t.channels t.committed fs → IsTied t fs
+    → Speaks s p i t.configuration.frame_max t.capacity t.outbox t.channels t.committed fs → IsTied t fs
 tied-as s p i t fs hs hp hi h =
-    speaks-as s t.state p t.phase i t.input t.configuration.frame_max t.outbox t.channels t.committed fs (sym hs) (sym hp) (sym hi) h
+    speaks-as s t.state p t.phase i t.input t.configuration.frame_max t.capacity t.outbox t.channels t.committed fs (sym hs) (sym hp) (sym hi) h
 
 -- while frames act, in this state
 abbrev pub In : ConnectionState → Phase → Talk → List Frame → Type 0
-In s p t fs = Speaks s p input.Acting t.configuration.frame_max t.outbox t.channels t.committed fs
+In s p t fs = Speaks s p input.Acting t.configuration.frame_max t.capacity t.outbox t.channels t.committed fs
 
 -- a session with an open link on which something was committed, and whose frames act
 pub record Hears (s : ConnectionState) (t : Talk) (fs : List Frame) : Type 0 where
@@ -312,7 +333,7 @@ now-server-close : (s : ConnectionState) (p : Phase) (t : Talk) (g : Frame) (fs 
 now-server-close s p t g fs code text o h =
     let r = closed-over (first_out t.outbox) (plain 0 close_ok) g fs h.later refl h.leads (not-over s p t.channels t.outbox.awaited (unpaid t.committed (first_out t.outbox)) h.later h.ties) in
     now-open (on_connection_close code text t) (g ∷ fs) o
-    (record { later = r.0; leads = r.1; lane = ((tt, refl), tt); groups = tt; ties = tt; agreed = λ k. absurd (true≢false (sym k)) })
+    (record { later = r.0; leads = r.1; lane = ((tt, refl), tt); groups = tt; ties = tt; agreed = λ k. absurd (true≢false (sym k)); listed = h.listed; room = h.room })
 
 -- before the connection is opened, no group waits
 not-opened : (v : Speech) (g : Stage) → v ≡ record greeted { stage = g } → g ≢ OpenSaid → v.stage ≢ OpenSaid
@@ -320,12 +341,12 @@ not-opened v g is ne h = ne (sym (ap (λ (x : Speech). x.stage) is) ∙ h)
 
 -- as many close-oks are on their way
 still-new : (cs : Listed) (ws : Replies) (due due' : ℕ → ℕ) → ((n : ℕ) → due' n ≡ due n) → IsNew cs ws due → IsNew cs ws due'
-still-new cs ws due due' same h = record { no_channels = h.no_channels; none_awaited = h.none_awaited; none_due = λ n. same n ∙ h.none_due n }
+still-new cs ws due due' same h = record { kept = h.kept; none_awaited = h.none_awaited; none_due = λ n. same n ∙ h.none_due n }
 
 now-started : (mechanism : List ℕ) (reply : Result (List ℕ) (List ℕ)) (t : Talk) (fs : List Frame) → is_open t ≡ true → t.input ≡ input.Acting → t.state ≡ Connecting
-    → In Connecting AwaitStart t fs → Now (started mechanism reply t) fs
-now-started mechanism (Err text) t fs o hi hs h = now-lose (AuthProviderError text) t fs
-now-started mechanism (Ok response) t fs o hi hs h =
+    → Now t fs → In Connecting AwaitStart t fs → Now (started mechanism reply t) fs
+now-started mechanism (Err text) t fs o hi hs now h = now-lose (AuthProviderError text) t fs now
+now-started mechanism (Ok response) t fs o hi hs now h =
     let f : Frame = start_ok t.config.options mechanism response in
     let v : Speech = record greeted { stage = StartOkSaid } in
     let said : say f h.later ≡ Some v = ap (say f) h.ties.0 in
@@ -339,13 +360,15 @@ now-started mechanism (Ok response) t fs o hi hs h =
       groups = never-ready h.later v t.outbox.publish (not-opened h.later HeaderSaid h.ties.0 (λ k. cc)) h.groups;
       ties = (refl, still-new t.channels t.outbox.awaited (unpaid t.committed (first_out t.outbox)) _ (none-more t.committed t.outbox (plain 0 f) tt) h.ties.1);
       agreed = λ k. absurd (true≢false (sym k));
+      listed = h.listed;
+      room = h.room;
     }))
 
 -- an answer to a challenge may be said as often as the server challenges
 now-challenged : (reply : Result (List ℕ) (List ℕ)) (t : Talk) (fs : List Frame) → is_open t ≡ true → t.input ≡ input.Acting → t.state ≡ Connecting → t.phase ≡ AwaitTune
-    → In Connecting AwaitTune t fs → Now (challenged reply t) fs
-now-challenged (Err text) t fs o hi hs hp h = now-lose (AuthProviderError text) t fs
-now-challenged (Ok response) t fs o hi hs hp h =
+    → Now t fs → In Connecting AwaitTune t fs → Now (challenged reply t) fs
+now-challenged (Err text) t fs o hi hs hp now h = now-lose (AuthProviderError text) t fs now
+now-challenged (Ok response) t fs o hi hs hp now h =
     let f : Frame = secure_ok response in
     let v : Speech = record greeted { stage = StartOkSaid } in
     let said : say f h.later ≡ Some v = ap (say f) h.ties.0 in
@@ -359,6 +382,8 @@ now-challenged (Ok response) t fs o hi hs hp h =
       groups = never-ready h.later v t.outbox.publish (not-opened h.later StartOkSaid h.ties.0 (λ k. cc)) h.groups;
       ties = (refl, still-new t.channels t.outbox.awaited (unpaid t.committed (first_out t.outbox)) _ (none-more t.committed t.outbox (plain 0 f) tt) h.ties.1);
       agreed = λ k. absurd (true≢false (sym k));
+      listed = h.listed;
+      room = h.room;
     }))
 
 now-tune : (server : Configuration) (t : Talk) (fs : List Frame) → is_open t ≡ true → t.input ≡ input.Acting → t.state ≡ Connecting → In Connecting AwaitTune t fs
@@ -386,67 +411,80 @@ now-tune server t fs o hi hs h =
             (λ n. none-more t.committed q (plain 0 (open_vhost t.config.uri.vhost)) tt n ∙ none-more t.committed t.outbox (plain 0 f) tt n) h.ties.1,
       );
       agreed = λ k. tuned-size t.configuration server;
+      listed = h.listed;
+      room = h.room;
     }))
   where
     tuned-size : (own server : Configuration) → frame_min_size ≤ (tune own server).frame_max
     tuned-size own server = omega arith
 
--- nothing was said on any channel
-new-ties : (cs : Listed) (ws : Replies) (due : ℕ → ℕ) (v : Speech) → v ≡ record greeted { stage = OpenSaid } → IsNew cs ws due → TiesChannels cs ws due v
-new-ties cs ws due v is new =
-    let x : Speech = record greeted { stage = OpenSaid } in
-    let none : TiesChannels [] [] due x =
-    record { speaking = refl; complete = tt; sorted = tt; awaited_sorted = tt; each = λ n. (refl, shut); owes = new.none_due } in
-    let A : Speech → Type 0 = λ y. TiesChannels cs ws due y in
-    let B : Listed → Type 0 = λ y. TiesChannels y ws due x in
-    let C : Replies → Type 0 = λ y. TiesChannels [] y due x in
-    subst A (sym is) (subst B (sym new.no_channels) (subst C (sym new.none_awaited) none))
-  where
-    shut : Shut ≡ InUse → ⊥
-    shut h = cc
+-- the close-oks of a session that are on their way
+abbrev due_in : Talk → ℕ → ℕ
+due_in t = unpaid t.committed (first_out t.outbox)
+
+-- once the connection is open
+now-ties : (t t' : Talk) (fs : List Frame) (v : Speech) → is_open t' ≡ true → t.input ≡ input.Acting → t'.input ≡ t.input → t'.state ≡ Connected
+    → frame_min_size ≤ t'.configuration.frame_max → 8 ≤ t'.capacity → LeadsTo (first_out t'.outbox) fs v → AllByRecursion IsOfControl t'.outbox.control
+    → AllByRecursion (IsReady v) t'.outbox.publish
+    → TiesChannels t'.channels t'.outbox.awaited (unpaid t'.committed (first_out t'.outbox)) v → Now t' fs
+now-ties t t' fs v o hi same hs agreed room r lane ready ties =
+    now-open t' fs o
+    (tied-as Connected t'.phase input.Acting t' fs hs refl (same ∙ hi)
+    (record { later = v; leads = r; lane = lane; groups = ready; ties = ties; agreed = λ k. agreed; listed = ties.sorted; room = room }))
+
+-- no channel is in use before the connection is open
+shut-used : Shut ≡ InUse → ⊥
+shut-used h = cc
+
+ties-phase : (p : Phase) (n : ℕ) (v : Speech) → v.usage n ≡ InUse → TiesPhase p v → ⊥
+ties-phase AwaitStart n v used h = shut-used (sym (ap (λ (x : Speech). x.usage n) h) ∙ used)
+ties-phase AwaitTune n v used h = shut-used (sym (ap (λ (x : Speech). x.usage n) h) ∙ used)
+ties-phase AwaitOpenOk n v used h = shut-used (sym (ap (λ (x : Speech). x.usage n) h) ∙ used)
+
+-- channels that were kept are opened again
+now-reopened : (pending : Listed) (t : Talk) (fs : List Frame) (v : Speech) → is_open t ≡ true → t.input ≡ input.Acting → t.state ≡ Connected
+    → frame_min_size ≤ t.configuration.frame_max → 8 ≤ t.capacity → LeadsTo (first_out t.outbox) fs v → AllByRecursion IsOfControl t.outbox.control
+    → AllByRecursion (IsReady v) t.outbox.publish → Reopening pending t.channels t.outbox.awaited (due_in t) v → Now (reopen_each pending t) fs
+now-reopened [] t fs v o hi hs agreed room r lane ready ties =
+    now-ties t t fs v o hi refl hs agreed room r lane ready (all-reopened t.channels t.outbox.awaited (due_in t) v ties)
+now-reopened (e ∷ pending) t fs v o hi hs agreed room r lane ready ties =
+    let n : ℕ = e.0 in
+    let item : Item = plain n (channel_open n) in
+    let x : Talk = await n ChannelOpened None (queue n (channel_open n) t) in
+    let y : Talk = remove_channel n t in
+    let k = on-reopened n e.1 pending t.channels t.outbox.awaited (due_in t) v ties in
+    if_case (λ (z : Talk). Now (reopen_each pending z) fs) (nat_le n t.configuration.channel_max) x y
+    (now-reopened pending x fs (now_on n InUse v) o hi hs agreed room (pushed t.outbox item fs v (now_on n InUse v) r k.may)
+    (all-append IsOfControl t.outbox.control (item ∷ []) lane ((tt, refl), tt)) (open-ready n v t.outbox.publish ties.speaking ready)
+    (reopening-due pending x.channels x.outbox.awaited (due_in t) (due_in x) (now_on n InUse v) (none-more t.committed t.outbox item tt) k.ties))
+    (now-reopened pending y fs v o hi hs agreed room r lane ready (on-passed n e.1 pending t.channels t.outbox.awaited (due_in t) v ties))
 
 now-open-ok : (t : Talk) (fs : List Frame) → is_open t ≡ true → t.input ≡ input.Acting → In Connecting AwaitOpenOk t fs → Now (on_open_ok t) fs
 now-open-ok t fs o hi h =
-    let x : Talk = on_open_ok t in
-    now-open x fs o
-    (tied-as Connected t.phase input.Acting x fs refl refl hi
-    (record {
-      later = h.later;
-      leads = h.leads;
-      lane = h.lane;
-      groups = h.groups;
-      ties = new-ties t.channels t.outbox.awaited (unpaid t.committed (first_out t.outbox)) h.later h.ties.0 h.ties.1;
-      agreed = λ k. h.agreed refl;
-    }))
+    let v : Speech = h.later in
+    let x : Talk = connected t in
+    let whole : IsComplete v.content = (let Q : Speech → Type 0 = λ y. IsComplete y.content in subst Q (sym h.ties.0) tt) in
+    let none : Reopening t.channels t.channels [] (due_in t) v =
+    none-reopened t.channels (due_in t) v (ap (λ (y : Speech). y.stage) h.ties.0) whole (λ n used. ties-phase AwaitOpenOk n v used h.ties.0)
+    h.listed h.ties.1.kept h.ties.1.none_due in
+    let Q : Replies → Type 0 = λ ws. Reopening t.channels t.channels ws (due_in t) v in
+    now-reopened t.channels x fs v o hi refl (h.agreed refl) (omega (arith, h.room)) h.leads h.lane h.groups (subst Q (sym h.ties.1.none_awaited) none)
 
 close-ok-ends : (a : Option (Option ℕ)) (t : Talk) → has_ended (connection_closed a t) ≡ true
 close-ok-ends None t = refl
 close-ok-ends (Some promise) t = refl
 
--- once the connection is open
-now-ties : (t t' : Talk) (fs : List Frame) (v : Speech) → is_open t' ≡ true → t.input ≡ input.Acting → t'.input ≡ t.input → t'.state ≡ Connected
-    → frame_min_size ≤ t'.configuration.frame_max → LeadsTo (first_out t'.outbox) fs v → AllByRecursion IsOfControl t'.outbox.control
-    → AllByRecursion (IsReady v) t'.outbox.publish
-    → TiesChannels t'.channels t'.outbox.awaited (unpaid t'.committed (first_out t'.outbox)) v → Now t' fs
-now-ties t t' fs v o hi same hs agreed r lane ready ties =
-    now-open t' fs o
-    (tied-as Connected t'.phase input.Acting t' fs hs refl (same ∙ hi) (record { later = v; leads = r; lane = lane; groups = ready; ties = ties; agreed = λ k. agreed }))
-
--- the close-oks of a session that are on their way
-abbrev due_in : Talk → ℕ → ℕ
-due_in t = unpaid t.committed (first_out t.outbox)
-
 -- update-secret-ok came
 now-secret-taken : (promise : Option (Option ℕ)) (p : Phase) (t : Talk) (fs : List Frame) → is_open t ≡ true → t.input ≡ input.Acting → t.state ≡ Connected
-    → In Connected p t fs → Now (secret_taken promise t) fs
-now-secret-taken None p t fs o hi hs h = now-lose (InvalidConnectionState Connected) t fs
-now-secret-taken (Some None) p t fs o hi hs h =
+    → Now t fs → In Connected p t fs → Now (secret_taken promise t) fs
+now-secret-taken None p t fs o hi hs now h = now-lose (InvalidConnectionState Connected) t fs now
+now-secret-taken (Some None) p t fs o hi hs now h =
     let x : Talk = secret_taken (Some None) t in
-    now-ties t x fs h.later o hi refl hs (h.agreed refl) h.leads h.lane h.groups
+    now-ties t x fs h.later o hi refl hs (h.agreed refl) h.room h.leads h.lane h.groups
     (on-answered-untied 0 SecretDone t.channels t.outbox.awaited (due_in t) h.later refl h.ties)
-now-secret-taken (Some (Some number)) p t fs o hi hs h =
+now-secret-taken (Some (Some number)) p t fs o hi hs now h =
     let x : Talk = secret_taken (Some (Some number)) t in
-    now-ties t x fs h.later o hi refl hs (h.agreed refl) h.leads h.lane h.groups
+    now-ties t x fs h.later o hi refl hs (h.agreed refl) h.room h.leads h.lane h.groups
     (on-answered-untied 0 SecretDone t.channels t.outbox.awaited (due_in t) h.later refl h.ties)
 
 now-connection : (s : ConnectionState) (p : Phase) (m : AnyMethod) (answers : List ProviderAnswer) (t : Talk) (g : Frame) (fs : List Frame) → is_open t ≡ true → t.input ≡ input.Acting → t.state ≡ s → t.phase ≡ p
@@ -457,19 +495,19 @@ now-connection s p Unblocked answers t g fs o hi hs hp now h = now
 now-connection Closing p CloseOk answers t g fs o hi hs hp now h = now-ended (on_connection_close_ok t) (g ∷ fs) (close-ok-ends (awaited_promise 0 ConnectionClosed t.outbox) t)
 now-connection Closing p m answers t g fs o hi hs hp now h = now
 now-connection Connecting AwaitStart (Start a b c d e) answers t g fs o hi hs hp now h =
-    start-case (λ (x : Talk). Now x (g ∷ fs)) answers t now (λ mechanism said. now-started mechanism said t (g ∷ fs) o hi hs h)
+    start-case (λ (x : Talk). Now x (g ∷ fs)) answers t now (λ mechanism said. now-started mechanism said t (g ∷ fs) o hi hs now h)
 now-connection Connecting AwaitTune (Secure challenge) answers t g fs o hi hs hp now h =
-    secure-case (λ (x : Talk). Now x (g ∷ fs)) answers t now (λ said. now-challenged said t (g ∷ fs) o hi hs hp h)
+    secure-case (λ (x : Talk). Now x (g ∷ fs)) answers t now (λ said. now-challenged said t (g ∷ fs) o hi hs hp now h)
 now-connection Connecting AwaitTune (Tune a b c) answers t g fs o hi hs hp now h = now-tune (record { channel_max = a; frame_max = b; heartbeat = c }) t (g ∷ fs) o hi hs h
 now-connection Connecting AwaitOpenOk OpenOk answers t g fs o hi hs hp now h = now-open-ok t (g ∷ fs) o hi h
-now-connection Connected p UpdateSecretOk answers t g fs o hi hs hp now h = now-secret-taken (awaited_promise 0 SecretDone t.outbox) p t (g ∷ fs) o hi hs h
-now-connection held p m answers t g fs o hi hs hp now h = now-lose (InvalidConnectionState held) t (g ∷ fs)
+now-connection Connected p UpdateSecretOk answers t g fs o hi hs hp now h = now-secret-taken (awaited_promise 0 SecretDone t.outbox) p t (g ∷ fs) o hi hs now h
+now-connection held p m answers t g fs o hi hs hp now h = now-lose (InvalidConnectionState held) t (g ∷ fs) now
 
 -- ---- frames of channels
 
 now-unawaited : (n : ℕ) (s : ChannelState) (m : AnyMethod) (t : Talk) (fs : List Frame) → Now t fs → Now (unawaited_channel_method n s m t) fs
 now-unawaited n channel.Closing m t fs h = h
-now-unawaited n _ m t fs h = now-lose (unawaited m n) t fs
+now-unawaited n _ m t fs h = now-lose (unawaited m n) t fs h
 
 now-opened : (n : ℕ) (c : Channel) (promise : Option (Option ℕ)) (t : Talk) (fs : List Frame) → Hears Connected t fs → channel_at n t ≡ Some c
     → awaited_promise n ChannelOpened t.outbox ≡ promise → Now (channel_opened n c promise t) fs
@@ -477,16 +515,16 @@ now-opened n c None t fs h listed first = now-unawaited n c.state ChannelOpenOk 
 now-opened n c (Some promise) t fs h listed first =
     let a = first-by-promise n ChannelOpened t.outbox promise first in
     let x : Talk = channel_opened n c (Some promise) t in
-    now-ties t x fs h.tied.later h.opened h.acting refl h.state (h.tied.agreed refl) h.tied.leads h.tied.lane h.tied.groups
+    now-ties t x fs h.tied.later h.opened h.acting refl h.state (h.tied.agreed refl) h.tied.room h.tied.leads h.tied.lane h.tied.groups
     (on-opened n t.channels t.outbox.awaited (due_in t) h.tied.later c a.0 listed a.1 h.tied.ties)
 
 -- our close was answered, and the channel goes where nothing is owed
 now-left : (d : Debt) (n : ℕ) (t x : Talk) (fs : List Frame) (v : Speech) → is_open x ≡ true → t.input ≡ input.Acting → x.input ≡ t.input → x.state ≡ Connected
-    → frame_min_size ≤ x.configuration.frame_max → LeadsTo (first_out x.outbox) fs v → AllByRecursion IsOfControl x.outbox.control
+    → frame_min_size ≤ x.configuration.frame_max → 8 ≤ x.capacity → LeadsTo (first_out x.outbox) fs v → AllByRecursion IsOfControl x.outbox.control
     → AllByRecursion (IsReady v) x.outbox.publish → TiesChannels (left_listed d n x.channels) x.outbox.awaited (due_in x) v → Now (remove_unless_owed d n x) fs
-now-left debt.Owed n t x fs v o hi same hs agreed r lane ready ties = now-ties t x fs v o hi same hs agreed r lane ready ties
-now-left debt.Nothing n t x fs v o hi same hs agreed r lane ready ties = now-ties t (remove_channel n x) fs v o hi same hs agreed r lane ready ties
-now-left debt.Paid n t x fs v o hi same hs agreed r lane ready ties = now-ties t (remove_channel n x) fs v o hi same hs agreed r lane ready ties
+now-left debt.Owed n t x fs v o hi same hs agreed room r lane ready ties = now-ties t x fs v o hi same hs agreed room r lane ready ties
+now-left debt.Nothing n t x fs v o hi same hs agreed room r lane ready ties = now-ties t (remove_channel n x) fs v o hi same hs agreed room r lane ready ties
+now-left debt.Paid n t x fs v o hi same hs agreed room r lane ready ties = now-ties t (remove_channel n x) fs v o hi same hs agreed room r lane ready ties
 
 now-closed : (n : ℕ) (c : Channel) (promise : Option (Option ℕ)) (t : Talk) (fs : List Frame) → Hears Connected t fs → channel_at n t ≡ Some c
     → awaited_promise n ChannelClosed t.outbox ≡ promise → Now (channel_closed n c promise t) fs
@@ -496,7 +534,7 @@ now-closed n c (Some promise) t fs h listed first =
     let v : Speech = h.tied.later in
     let closed : Talk = give_to promise (Ok Done) (record t { outbox = queued.answered n ChannelClosed t.outbox }) in
     let x : Talk = drop_replies_of n (InvalidChannelState channel.Closed word.ChannelCloseOkReceived) closed in
-    now-left c.debt n t x fs v h.opened h.acting refl h.state (h.tied.agreed refl) h.tied.leads h.tied.lane h.tied.groups
+    now-left c.debt n t x fs v h.opened h.acting refl h.state (h.tied.agreed refl) h.tied.room h.tied.leads h.tied.lane h.tied.groups
     (on-closed n t.channels t.outbox.awaited (due_in t) v c a.0 listed a.1 h.tied.ties)
 
 -- the server lets content be published or not, which is answered
@@ -511,7 +549,7 @@ now-flow-used n c active t fs h listed used =
     let x : Talk = queue n (flow_ok n active) (set_channel n c' t) in
     let some : n ≢ 0 = listed-some n t.channels t.outbox.awaited (due_in t) v c listed ties in
     let same : TiesChannels x.channels t.outbox.awaited (due_in t) v = on-same n t.channels t.outbox.awaited (due_in t) v c c' listed refl refl ties in
-    now-ties t x fs w h.opened h.acting refl h.state (h.tied.agreed refl)
+    now-ties t x fs w h.opened h.acting refl h.state (h.tied.agreed refl) h.tied.room
     (pushed t.outbox item fs v w h.tied.leads (say-flow-ok n active v some ties.speaking ties.complete used))
     (all-append IsOfControl t.outbox.control (item ∷ []) h.tied.lane ((tt, refl), tt))
     (stay-ready v w t.outbox.publish ties.speaking tt (λ m used. used) h.tied.groups)
@@ -523,6 +561,8 @@ now-flow : (s : ChannelState) (n : ℕ) (c : Channel) (active : Bool) (t : Talk)
 now-flow channel.Closing n c active t fs h listed is = h.now
 now-flow channel.Initial n c active t fs h listed is =
     now-flow-used n c active t fs h listed (ties-of n t.channels t.outbox.awaited (due_in t) h.tied.later c channel.Initial listed is h.tied.ties).1
+now-flow channel.Reconnecting n c active t fs h listed is =
+    now-flow-used n c active t fs h listed (ties-of n t.channels t.outbox.awaited (due_in t) h.tied.later c channel.Reconnecting listed is h.tied.ties).1
 now-flow channel.Connected n c active t fs h listed is =
     now-flow-used n c active t fs h listed (ties-of n t.channels t.outbox.awaited (due_in t) h.tied.later c channel.Connected listed is h.tied.ties).1
 now-flow s n c active t fs h listed is = absurd (ties-of n t.channels t.outbox.awaited (due_in t) h.tied.later c s listed is h.tied.ties)
@@ -533,7 +573,7 @@ now-flowed : (n : ℕ) (c : Channel) (active : Bool) (promise : Option (Option �
 now-flowed n c active None t fs h listed = now-unawaited n c.state (ChannelFlowOk active) t fs h.now
 now-flowed n c active (Some promise) t fs h listed =
     let x : Talk = channel_flowed n c active (Some promise) t in
-    now-ties t x fs h.tied.later h.opened h.acting refl h.state (h.tied.agreed refl) h.tied.leads h.tied.lane h.tied.groups
+    now-ties t x fs h.tied.later h.opened h.acting refl h.state (h.tied.agreed refl) h.tied.room h.tied.leads h.tied.lane h.tied.groups
     (on-answered-untied n FlowDone t.channels t.outbox.awaited (due_in t) h.tied.later refl h.tied.ties)
 
 -- a lane that lost the frames of a channel
@@ -594,7 +634,7 @@ now-closed-by-server n e c t g fs h listed is none =
     (let more : due_in x m ≡ unpaid t.committed (first_out left) m + pays m (then_of item) = one-more m t.committed left item in
     let same : unpaid t.committed (first_out left) m ≡ due_in t m = others-unpaid m n t.committed q.begun q.control ne h.tied.lane in
     omega (arith, more, same, pays-others m n ne)) in
-    now-ties t x (g ∷ fs) (now_on n Shut w) h.opened h.acting refl h.state (h.tied.agreed refl)
+    now-ties t x (g ∷ fs) (now_on n Shut w) h.opened h.acting refl h.state (h.tied.agreed refl) h.tied.room
     (pushed left item (g ∷ fs) w (now_on n Shut w) l.leads (say-channel-close-ok n w some tied.speaking tied.complete (λ k. used-shut (sym used ∙ k))))
     (all-append IsOfControl left.control (item ∷ []) (lane-left n q.control h.tied.lane) ((tt, refl), tt))
     (others-ready n Shut w q.publish tied.speaking
@@ -621,7 +661,7 @@ now-crossing n c t fs h listed is awaits =
     let others : (m : ℕ) → m ≢ n → due_in x m ≡ due_in t m =
     λ m ne.
     (let more : due_in x m ≡ due_in t m + pays m (then_of item) = one-more m t.committed q item in omega (arith, more, pays-others m n ne)) in
-    now-ties t x fs (now_on n Shut v) h.opened h.acting refl h.state (h.tied.agreed refl)
+    now-ties t x fs (now_on n Shut v) h.opened h.acting refl h.state (h.tied.agreed refl) h.tied.room
     (pushed q item fs v (now_on n Shut v) h.tied.leads (say-channel-close-ok n v some ties.speaking ties.complete (λ k. left-shut (sym left.unused ∙ k))))
     (all-append IsOfControl q.control (item ∷ []) h.tied.lane ((tt, refl), tt))
     (unused-ready n Shut Left v q.publish ties.speaking left.unused (λ k. left-used k) h.tied.groups)
@@ -640,7 +680,7 @@ now-channel-close debt.Nothing true n e c t g fs h listed is awaits = now-crossi
 now-channel-close _ b n e c t g fs h listed is awaits = h.now
 
 now-misplaced : (e : ErrorKind) (t : Talk) (fs : List Frame) → Now t fs → Now (misplaced e t) fs
-now-misplaced e t fs h = if_case (λ (x : Talk). Now x fs) (is_closing t.state) t (lose e t) h (now-lose e t fs)
+now-misplaced e t fs h = if_case (λ (x : Talk). Now x fs) (is_closing t.state) t (lose e t) h (now-lose e t fs h)
 
 now-channel : (s : ConnectionState) (n : ℕ) (c : Channel) (m : AnyMethod) (t : Talk) (g : Frame) (fs : List Frame) → Hears s t (g ∷ fs) → s ≢ Connecting
     → channel_at n t ≡ Some c → Now (channel_rule s n c m t) (g ∷ fs)
@@ -658,7 +698,6 @@ now-channel _ n c m t g fs h ne listed = absurd h.tied.ties
 -- a frame is heard on a listed channel only once the connection was open
 heard-listed : (s : ConnectionState) (o : Option Channel) (c : Channel) → heard_on s o ≡ Some c → (s ≢ Connecting) × (o ≡ Some c)
 heard-listed Connecting o c h = absurd cc
-heard-listed Initial o c h = ((λ k. absurd cc), h)
 heard-listed Connected o c h = ((λ k. absurd cc), h)
 heard-listed Closing o c h = ((λ k. absurd cc), h)
 heard-listed _ o c h = ((λ k. absurd cc), h)
@@ -678,14 +717,23 @@ now-pass s n c kind bytes t fs h ne listed =
     in_state : (s : ConnectionState) → Hears s t fs → s ≢ Connecting → Now (confirmed n c t) fs
     in_state Connecting h ne = absurd (ne refl)
     in_state Connected h ne =
-        now-ties t (confirmed n c t) fs h.tied.later h.opened h.acting refl h.state (h.tied.agreed refl) h.tied.leads h.tied.lane h.tied.groups
+        now-ties t (confirmed n c t) fs h.tied.later h.opened h.acting refl h.state (h.tied.agreed refl) h.tied.room h.tied.leads h.tied.lane h.tied.groups
         (on-same n t.channels t.outbox.awaited (due_in t) h.tied.later c (record c { confirm = true }) listed refl refl h.tied.ties)
     -- our close of the connection was said, and what ties channels no longer counts
     in_state Closing h ne =
         let x : Talk = confirmed n c t in
         now-open x fs h.opened
         (tied-as Closing t.phase input.Acting x fs h.state refl h.acting
-        (record { later = h.tied.later; leads = h.tied.leads; lane = h.tied.lane; groups = h.tied.groups; ties = h.tied.ties; agreed = h.tied.agreed }))
+        (record {
+          later = h.tied.later;
+          leads = h.tied.leads;
+          lane = h.tied.lane;
+          groups = h.tied.groups;
+          ties = h.tied.ties;
+          agreed = h.tied.agreed;
+          listed = put-from n (record c { confirm = true }) 0 t.channels (above-zero n (never-zero n t.channels c listed h.tied.listed)) h.tied.listed;
+          room = h.tied.room;
+        }))
     in_state _ h ne = absurd h.tied.ties
 
 now-raw : (o : Option Channel) (n : ℕ) (kind : RawKind) (bytes : List ℕ) (t : Talk) (fs : List Frame) → Hears t.state t fs → heard_on t.state (channel_at n t) ≡ o
@@ -705,7 +753,7 @@ now-method (suc n) m answers t g fs h =
     (now-channel-method (heard_on t.state (channel_at (suc n) t)) (suc n) m t g fs h refl) (now-misplaced (stray_connection_method (suc n)) t (g ∷ fs) h.now)
 
 now-rule : (f : Frame) (answers : List ProviderAnswer) (t : Talk) (g : Frame) (fs : List Frame) → Hears t.state t (g ∷ fs) → Now (frame_rule f answers t) (g ∷ fs)
-now-rule (ProtocolHeader version) answers t g fs h = now-lose (InvalidProtocolVersion version) t (g ∷ fs)
+now-rule (ProtocolHeader version) answers t g fs h = now-lose (InvalidProtocolVersion version) t (g ∷ fs) h.now
 now-rule Heartbeat answers t g fs h = h.now
 now-rule (Method n m) answers t g fs h = now-method n m answers t g fs h
 now-rule (Raw zero kind bytes) answers t g fs h = now-misplaced (stray_channel_frame kind) t (g ∷ fs) h.now
@@ -739,7 +787,7 @@ now-frame f answers t g fs now =
       acting = is;
       state = refl;
       now = now;
-      tied = speaks-as t.state t.state t.phase t.phase t.input input.Acting t.configuration.frame_max t.outbox t.channels t.committed (g ∷ fs) refl refl is (now.0 k.0);
+      tied = speaks-as t.state t.state t.phase t.phase t.input input.Acting t.configuration.frame_max t.capacity t.outbox t.channels t.committed (g ∷ fs) refl refl is (now.0 k.0);
     })))
     (λ idle. if_case (λ (x : Talk). Now x (g ∷ fs)) (hears_on t) (closed_rule f t) t (now-hears-on f t (g ∷ fs) now) now)
 
@@ -757,16 +805,13 @@ now-told : (t t' : Talk) (fs : List Frame) → t.state ≡ Connected → t'.link
 now-told t t' fs hs link h next = (
   (λ o.
       let said : IsTied t fs = h.0 (ap is_open_link (sym link) ∙ o) in
-      let s : Speaks Connected t.phase t.input t.configuration.frame_max t.outbox t.channels t.committed fs =
-      speaks-as t.state Connected t.phase t.phase t.input t.input t.configuration.frame_max t.outbox t.channels t.committed fs hs refl refl said in
+      let s : Speaks Connected t.phase t.input t.configuration.frame_max t.capacity t.outbox t.channels t.committed fs =
+      speaks-as t.state Connected t.phase t.phase t.input t.input t.configuration.frame_max t.capacity t.outbox t.channels t.committed fs hs refl refl said in
       let acting = (talking t.input t.phase t.channels t.outbox.awaited (due_in t) s.later s.ties).0 in
       (next o acting
-      (speaks-as Connected Connected t.phase t.phase t.input input.Acting t.configuration.frame_max t.outbox t.channels t.committed fs refl refl acting s)).0 o),
-  λ w. absurd (no-wait (sym (h.1 (ap lacks_link (sym link) ∙ w)).0 ∙ hs)),
+      (speaks-as Connected Connected t.phase t.phase t.input input.Acting t.configuration.frame_max t.capacity t.outbox t.channels t.committed fs refl refl acting s)).0 o),
+  λ w. absurd (let Q : ConnectionState → Type 0 = Rests in subst Q hs (h.1 (ap lacks_link (sym link) ∙ w)).rests),
 )
-  where
-    no-wait : Initial ≡ Connected → ⊥
-    no-wait k = cc
 
 -- what was said pays for no channel
 now-due : (x : Talk) (due : ℕ → ℕ) (v : Speech) → ((m : ℕ) → due_in x m ≡ due m) → TiesChannels x.channels x.outbox.awaited due v
@@ -783,7 +828,7 @@ now-drawn (Some n) t fs hs is h =
     (λ o hi s.
     let x : Talk = open_as n t in
     let k = on-open n t.channels t.outbox.awaited (due_in t) s.later (next_promise t) free.1 free.0 s.ties in
-    now-ties t x fs (now_on n InUse s.later) o hi refl hs (s.agreed refl)
+    now-ties t x fs (now_on n InUse s.later) o hi refl hs (s.agreed refl) s.room
     (pushed t.outbox item fs s.later (now_on n InUse s.later) s.leads k.may)
     (all-append IsOfControl t.outbox.control (item ∷ []) s.lane ((tt, refl), tt))
     (open-ready n s.later t.outbox.publish s.ties.speaking s.groups)
@@ -798,7 +843,7 @@ now-heartbeat t fs hs h =
     (λ o hi s.
     let v : Speech = s.later in
     let w : Speech = record v { content = NoContent } in
-    now-ties t x fs w o hi refl hs (s.agreed refl)
+    now-ties t x fs w o hi refl hs (s.agreed refl) s.room
     (pushed t.outbox item fs v w s.leads (say-heartbeat v s.ties.speaking s.ties.complete))
     (all-append IsOfControl t.outbox.control (item ∷ []) s.lane ((tt, refl), tt))
     (stay-ready v w t.outbox.publish s.ties.speaking tt (λ m used. used) s.groups)
@@ -815,7 +860,7 @@ now-refreshed (Ok secret) t fs hs h =
     now-told t x fs hs refl h
     (λ o hi s.
     let v : Speech = record s.later { content = NoContent } in
-    now-ties t x fs v o hi refl hs (s.agreed refl)
+    now-ties t x fs v o hi refl hs (s.agreed refl) s.room
     (pushed t.outbox item fs s.later v s.leads (say-secret secret refresh_reason s.later s.ties.speaking s.ties.complete))
     (all-append IsOfControl t.outbox.control (item ∷ []) s.lane ((tt, refl), tt))
     (stay-ready s.later v t.outbox.publish s.ties.speaking tt (λ m used. used) s.groups)
@@ -839,7 +884,7 @@ now-timed : (answers : List ProviderAnswer) (t : Talk) (fs : List Frame) → Now
 now-timed answers t fs h =
     let P : Talk → Type 0 = λ y. Now y fs in
     let x : Talk = missing_heartbeat t in
-    let after : Now x fs = if_case P (is_missed t) (lose MissingHeartbeatError t) t (now-lose MissingHeartbeatError t fs) h in
+    let after : Now x fs = if_case P (is_missed t) (lose MissingHeartbeatError t) t (now-lose MissingHeartbeatError t fs h) h in
     let beaten : Now (beat t) fs =
     if_by P (is_due x) (record (queue 0 Heartbeat x) { last_write = x.present }) x (λ due. now-heartbeat x fs (beats-connected x due) after) (λ rest. after) in
     secret-case P answers (beat t) beaten (λ asks said. now-refreshed said (beat t) fs (asks-connected (beat t) asks) beaten)
@@ -880,7 +925,7 @@ now-leave r c code text answers t fs hs at h =
     now-told t x fs hs refl h
     (λ o hi s.
     let k = on-close n t.channels t.outbox.awaited (due_in t) s.later c code text answers at.listed at.open_state s.ties in
-    now-ties t x fs (now_on n Left s.later) o hi refl hs (s.agreed refl)
+    now-ties t x fs (now_on n Left s.later) o hi refl hs (s.agreed refl) s.room
     (pushed t.outbox item fs s.later (now_on n Left s.later) s.leads k.may)
     (all-append IsOfControl t.outbox.control (item ∷ []) s.lane ((tt, refl), tt))
     (others-ready n Left s.later t.outbox.publish s.ties.speaking s.groups)
@@ -910,7 +955,7 @@ now-flow-target (Ok c) r active t fs hs is h =
     let v : Speech = record s.later { content = NoContent } in
     let some : n ≢ 0 = listed-some n t.channels t.outbox.awaited (due_in t) s.later c at.listed s.ties in
     let used = used-open n t.channels t.outbox.awaited (due_in t) s.later c at.listed at.open_state s.ties in
-    now-ties t x fs v o hi refl hs (s.agreed refl)
+    now-ties t x fs v o hi refl hs (s.agreed refl) s.room
     (pushed t.outbox item fs s.later v s.leads (say-flow n active s.later some s.ties.speaking s.ties.complete used))
     (all-append IsOfControl t.outbox.control (item ∷ []) s.lane ((tt, refl), tt))
     (stay-ready s.later v t.outbox.publish s.ties.speaking tt (λ m used. used) s.groups)
@@ -945,7 +990,7 @@ now-send r m c t fs told hs at h =
     (λ o hi s.
     let k = on-send n t.channels t.outbox.awaited (due_in t) s.later c (spell_raw_method m) (passed-through m told.0 told.1 told.2) at.listed at.open_state s.ties in
     let v : Speech = record s.later { content = MethodSaid n (class_in (spell_raw_method m)) } in
-    now-ties t x fs v o hi refl hs (s.agreed refl) (pushed t.outbox item fs s.later v s.leads k.may)
+    now-ties t x fs v o hi refl hs (s.agreed refl) s.room (pushed t.outbox item fs s.later v s.leads k.may)
     (all-append IsOfControl t.outbox.control (item ∷ []) s.lane ((tt, refl), tt))
     (stay-ready s.later v t.outbox.publish s.ties.speaking tt (λ m used. used) s.groups)
     (now-due x (due_in t) v (none-more t.committed t.outbox item tt) k.ties)))
@@ -969,7 +1014,7 @@ now-publish r m properties body c t fs told hs at h =
     let content = publish-content m properties body (body_limit t) told.3 told.4 (pieces-fit n m properties body t (s.agreed refl) fits) in
     let ready : IsReady s.later (group_of n frames (next_promise t)) =
     publish-ready n m properties body (body_limit t) (next_promise t) s.later some s.ties.speaking s.ties.complete used (passed-through m told.0 told.1 told.2) content in
-    now-ties t x fs s.later o hi refl hs (s.agreed refl) s.leads s.lane
+    now-ties t x fs s.later o hi refl hs (s.agreed refl) s.room s.leads s.lane
     (all-append (IsReady s.later) t.outbox.publish (group_of n frames (next_promise t) ∷ []) s.groups (ready, tt)) s.ties))
 
 now-publish-target : (o : Result Channel ErrorKind) (r : ChanRef) (m : OtherMethod) (properties body : List ℕ) (t : Talk) (fs : List Frame)
@@ -988,7 +1033,7 @@ now-update-secret secret reason t fs hs h =
     (λ fits. now-told t x fs hs refl h
     (λ o hi s.
     let v : Speech = record s.later { content = NoContent } in
-    now-ties t x fs v o hi refl hs (s.agreed refl)
+    now-ties t x fs v o hi refl hs (s.agreed refl) s.room
     (pushed t.outbox item fs s.later v s.leads (say-secret secret reason s.later s.ties.speaking s.ties.complete))
     (all-append IsOfControl t.outbox.control (item ∷ []) s.lane ((tt, refl), tt))
     (stay-ready s.later v t.outbox.publish s.ties.speaking tt (λ m used. used) s.groups)
@@ -1013,6 +1058,8 @@ now-leave-connection code text answers t fs hs h =
       groups = tt;
       ties = refl;
       agreed = λ k. absurd (true≢false (sym k));
+      listed = map_values-from closing 0 t.channels s.listed;
+      room = s.room;
     })))
 
 now-command-rule : (s : ConnectionState) (c : Cmd) (t : Talk) (fs : List Frame) → IsSendable c → t.state ≡ s → Now t fs → Now (command_rule s c t) fs
@@ -1079,6 +1126,8 @@ now-marks ms t fs o same h =
       groups = said.groups;
       ties = ties-due t.input t.state t.phase t.channels t.outbox.awaited (due_in t) (due_in x) said.later same said.ties;
       agreed = said.agreed;
+      listed = said.listed;
+      room = said.room;
     })
 
 -- it was no close-ok of a channel
@@ -1092,8 +1141,8 @@ now-passed m ms t fs hc none o h =
 now-changed : (k : ℕ) (cs' : Listed) (m : Mark) (ms : List Mark) (t : Talk) (fs : List Frame) → t.committed ≡ m ∷ ms → m.then ≡ Pays k → is_open t ≡ true
     → ((v : Speech) → due_in t k ≡ suc (due_in (first_sent_off t) k) → ((n : ℕ) → n ≢ k → due_in (first_sent_off t) n ≡ due_in t n)
     → TiesChannels t.channels t.outbox.awaited (due_in t) v → TiesChannels cs' t.outbox.awaited (due_in (first_sent_off t)) v)
-    → Now t fs → Now (record t { committed = drop 1 t.committed; channels = cs' }) fs
-now-changed k cs' m ms t fs hc is o f h =
+    → (AscendFrom 0 (keys_of t.channels) → AscendFrom 0 (keys_of cs')) → Now t fs → Now (record t { committed = drop 1 t.committed; channels = cs' }) fs
+now-changed k cs' m ms t fs hc is o f ascend h =
     let said = h.0 o in
     let y : Talk = first_sent_off t in
     let x : Talk = record t { committed = drop 1 t.committed; channels = cs' } in
@@ -1114,6 +1163,8 @@ now-changed k cs' m ms t fs hc is o f h =
           ties-listed t.input t.state t.phase t.channels cs' t.outbox.awaited (due_in t) (due_in y) said.later
           (λ none. (let a : due_in t k ≡ 0 = none k in absurd (omega (arith, a, own)))) (f said.later own others) said.ties;
       agreed = said.agreed;
+      listed = ascend said.listed;
+      room = said.room;
     })
 
 now-paid : (b : Bool) (k : ℕ) (c : Channel) (m : Mark) (ms : List Mark) (t : Talk) (fs : List Frame) → t.committed ≡ m ∷ ms → m.then ≡ Pays k → is_open t ≡ true
@@ -1122,18 +1173,20 @@ now-paid true k c m ms t fs hc is o listed awaits h =
     now-changed k (put k (record c { debt = debt.Paid }) t.channels) m ms t fs hc is o
     (λ v own others ties.
     let one = one-due k (due_in (first_sent_off t) k) t.channels t.outbox.awaited (due_in t) v c listed own ties in
-    on-paid k t.channels t.outbox (due_in t) (due_in (first_sent_off t)) v c listed one.1 awaits one.0 others ties) h
+    on-paid k t.channels t.outbox (due_in t) (due_in (first_sent_off t)) v c listed one.1 awaits one.0 others ties)
+    (λ s. put-from k (record c { debt = debt.Paid }) 0 t.channels (above-zero k (never-zero k t.channels c listed s)) s) h
 now-paid false k c m ms t fs hc is o listed awaits h =
     now-changed k (without k t.channels) m ms t fs hc is o
     (λ v own others ties.
     let one = one-due k (due_in (first_sent_off t) k) t.channels t.outbox.awaited (due_in t) v c listed own ties in
-    on-paid-gone k t.channels t.outbox (due_in t) (due_in (first_sent_off t)) v c listed one.1 awaits one.0 others ties) h
+    on-paid-gone k t.channels t.outbox (due_in t) (due_in (first_sent_off t)) v c listed one.1 awaits one.0 others ties)
+    (λ s. without-from k 0 t.channels s) h
 
 now-pay : (c : Option Channel) (k : ℕ) (m : Mark) (ms : List Mark) (t : Talk) (fs : List Frame) → t.committed ≡ m ∷ ms → m.then ≡ Pays k → is_open t ≡ true
     → channel_at k t ≡ c → Now t fs → Now (pay c k (first_sent_off t)) fs
 now-pay None k m ms t fs hc is o listed h =
     now-changed k t.channels m ms t fs hc is o
-    (λ v own others ties. absurd (none-due k (due_in (first_sent_off t) k) t.channels t.outbox.awaited (due_in t) v listed own ties)) h
+    (λ v own others ties. absurd (none-due k (due_in (first_sent_off t) k) t.channels t.outbox.awaited (due_in t) v listed own ties)) (λ s. s) h
 now-pay (Some c) k m ms t fs hc is o listed h = now-paid (awaits_close_ok k t) k c m ms t fs hc is o listed refl h
 
 now-follow : (th : Then) (m : Mark) (ms : List Mark) (t : Talk) (fs : List Frame) → t.committed ≡ m ∷ ms → m.then ≡ th → is_open t ≡ true → Now t fs
@@ -1141,26 +1194,7 @@ now-follow : (th : Then) (m : Mark) (ms : List Mark) (t : Talk) (fs : List Frame
 now-follow Nothing m ms t fs hc is o h = now-passed m ms t fs hc (λ n. ap (pays n) is) o h
 now-follow (Answer number) m ms t fs hc is o h = now-passed m ms t fs hc (λ n. ap (pays n) is) o h
 now-follow (Pays k) m ms t fs hc is o h = now-pay (channel_at k t) k m ms t fs hc is o refl h
-now-follow Finish m ms t fs hc is o h = now-ended (finish_by t.server_close (first_sent_off t)) fs (finish-ends t.server_close (first_sent_off t))
-
--- what follows commits nothing
-finish-committed : (o : Option ServerClose) (t : Talk) → (finish_by o t).committed ≡ t.committed
-finish-committed None t = refl
-finish-committed (Some WithoutError) t = refl
-finish-committed (Some (WithError e)) t = refl
-
-pay-committed : (o : Option Channel) (b : Bool) (k : ℕ) (t : Talk) → awaits_close_ok k t ≡ b → (pay o k t).committed ≡ t.committed
-pay-committed None b k t is = refl
-pay-committed (Some c) b k t is = ap (λ b. (paid_by b k c t).committed) is ∙ by b where
-  by : (b : Bool) → (paid_by b k c t).committed ≡ t.committed
-  by true = refl
-  by false = refl
-
-follow-committed : (th : Then) (t : Talk) → (follow th t).committed ≡ t.committed
-follow-committed Nothing t = refl
-follow-committed (Answer number) t = refl
-follow-committed (Pays k) t = pay-committed (channel_at k t) (awaits_close_ok k t) k t refl
-follow-committed Finish t = finish-committed t.server_close t
+now-follow Finish m ms t fs hc is o h = now-finish t.server_close (first_sent_off t) fs (now-passed m ms t fs hc (λ n. ap (pays n) is) o h)
 
 -- a part of the first committed frame was sent
 now-part : (m : Mark) (ms : List Mark) (n : ℕ) (t : Talk) (fs : List Frame) → t.committed ≡ m ∷ ms → is_open t ≡ true → Now t fs
@@ -1170,28 +1204,35 @@ now-part m ms n t fs hc o h =
     let items : List Item = first_out t.outbox in
     now-marks (m' ∷ ms) t fs o (λ k. sent-off m' ms items k ∙ sym (sent-off m ms items k) ∙ ap (λ marks. unpaid marks items k) (sym hc)) h
 
-now-sent : (ms : List Mark) (n : ℕ) (t : Talk) (fs : List Frame) → t.committed ≡ ms → Now t fs → Now (sent_among ms n t) fs
+now-sent : (ms : List Mark) (n : ℕ) (t : Talk) (fs : List Frame) → (is_open t ≡ true → t.committed ≡ ms) → Now t fs → Now (sent_among ms n t) fs
 now-sent [] n t fs hc h = h
 now-sent (m ∷ ms) n t fs hc h =
     let some : Talk = sent_among ms (n - m.left) (sent m t) in
     let part : Talk = record t { committed = record m { left = m.left - n } ∷ ms } in
+    -- what follows commits nothing, while the link is open
+    let rest : is_open t ≡ true → is_open (sent m t) ≡ true → (sent m t).committed ≡ ms =
+    λ o still.
+    elim (follow-open (λ (x : Talk). x.committed) (λ t s l cs ps. refl) m.then (first_sent_off t)) [
+      | inl same ↦ same ∙ ap (drop 1) (hc o)
+      | inr shut ↦ absurd (true≢false (sym still ∙ shut))
+    ] in
     if_by (λ (x : Talk). Now x fs) (is_open t) (if nat_le m.left n then some else part) t
     (λ o.
     if_case (λ (x : Talk). Now x fs) (nat_le m.left n) some part
-    (now-sent ms (n - m.left) (sent m t) fs (follow-committed m.then (first_sent_off t) ∙ ap (drop 1) hc) (now-follow m.then m ms t fs hc refl o h))
-    (now-part m ms n t fs hc o h))
+    (now-sent ms (n - m.left) (sent m t) fs (rest o) (now-follow m.then m ms t fs (hc o) refl o h))
+    (now-part m ms n t fs (hc o) o h))
     (λ closed. h)
 
 pub now-taken : (n : ℕ) (t : Talk) (fs : List Frame) → Now t fs → Now (taken n t) fs
 now-taken n t fs h =
     let u : Talk = record t { last_write = t.present } in
-    if_case (λ (x : Talk). Now x fs) (is_open t && not (n == 0)) (sent_among t.committed n u) t (now-sent t.committed n u fs refl h) h
+    if_case (λ (x : Talk). Now x fs) (is_open t && not (n == 0)) (sent_among t.committed n u) t (now-sent t.committed n u fs (λ o. refl) h) h
 
 -- ---- links and commits
 
 -- a new session is silent
 pub start-silent : (config : Config) → IsSilent (start config)
-start-silent config = (refl, refl, omega arith)
+start-silent config = record { rests = tt; listed = tt; kept = λ n. tt; room = omega arith }
 
 -- a session whose link has come
 abbrev on_new_link : Talk → Talk
@@ -1222,8 +1263,10 @@ tied-linked t asked_t h =
       leads = record { said = []; frames = refl; may = refl };
       lane = ((tt, refl), tt);
       groups = tt;
-      ties = (refl, record { no_channels = h.1; none_awaited = refl; none_due = λ n. refl });
+      ties = (refl, record { kept = h.kept; none_awaited = refl; none_due = λ n. refl });
       agreed = λ k. absurd (true≢false (sym k));
+      listed = h.listed;
+      room = h.room;
     })
 
 -- the server of a new link has not blocked it, and the header may go out
@@ -1232,16 +1275,7 @@ linked-writes t asked_t = ap writes (is-linked t asked_t)
 
 -- a new link has room for the header
 pub silent-room : (t : Talk) → IsSilent t → 8 ≤ t.capacity
-silent-room t h = h.2
-
--- no channel is in use before the connection is open
-shut-used : Shut ≡ InUse → ⊥
-shut-used h = cc
-
-ties-phase : (p : Phase) (n : ℕ) (v : Speech) → v.usage n ≡ InUse → TiesPhase p v → ⊥
-ties-phase AwaitStart n v used h = shut-used (sym (ap (λ (x : Speech). x.usage n) h) ∙ used)
-ties-phase AwaitTune n v used h = shut-used (sym (ap (λ (x : Speech). x.usage n) h) ∙ used)
-ties-phase AwaitOpenOk n v used h = shut-used (sym (ap (λ (x : Speech). x.usage n) h) ∙ used)
+silent-room t h = h.room
 
 -- a group that begins leaves a session tied
 ties-begun : (i : Input) (s : ConnectionState) (p : Phase) (cs : Listed) (ws : Replies) (due : ℕ → ℕ) (n : ℕ) (v : Speech) → v.usage n ≡ InUse
@@ -1254,15 +1288,15 @@ ties-begun (input.Closed crossed) s p cs ws due n v used h = h
 ties-begun (input.Dropped crossed) s p cs ws due n v used h = h
 
 -- the next frame goes out, by what waits
-next-speaks : (flow : Bool) (begun control : List Item) (publish : List (List Item)) (awaited : Replies) (s : ConnectionState) (p : Phase) (i : Input) (frame_max : ℕ)
+next-speaks : (flow : Bool) (begun control : List Item) (publish : List (List Item)) (awaited : Replies) (s : ConnectionState) (p : Phase) (i : Input) (frame_max capacity : ℕ)
     (cs : Listed) (ms : List Mark) (fs : List Frame) (item : Item)
     → queued.next_item flow (record { control = control; publish = publish; begun = begun; awaited = awaited }) ≡ Some item
-    → Speaks s p i frame_max (record { control = control; publish = publish; begun = begun; awaited = awaited }) cs ms fs
-    → Speaks s p i frame_max (after_next flow (record { control = control; publish = publish; begun = begun; awaited = awaited })) cs (ms ++ mark_of item ∷ []) (fs ++ item.frame ∷ [])
-next-speaks flow (x ∷ begun) control publish awaited s p i frame_max cs ms fs item is h =
+    → Speaks s p i frame_max capacity (record { control = control; publish = publish; begun = begun; awaited = awaited }) cs ms fs
+    → Speaks s p i frame_max capacity (after_next flow (record { control = control; publish = publish; begun = begun; awaited = awaited })) cs (ms ++ mark_of item ∷ []) (fs ++ item.frame ∷ [])
+next-speaks flow (x ∷ begun) control publish awaited s p i frame_max capacity cs ms fs item is h =
     let same : x ≡ item = cc in
     let q : Queued = record { control = control; publish = publish; begun = begun; awaited = awaited } in
-    let Q : Item → Type 0 = λ y. Speaks s p i frame_max q cs (ms ++ mark_of y ∷ []) (fs ++ y.frame ∷ []) in
+    let Q : Item → Type 0 = λ y. Speaks s p i frame_max capacity q cs (ms ++ mark_of y ∷ []) (fs ++ y.frame ∷ []) in
     subst Q same
     (record {
       later = h.later;
@@ -1273,11 +1307,13 @@ next-speaks flow (x ∷ begun) control publish awaited s p i frame_max cs ms fs 
           ties-due i s p cs awaited (unpaid ms (x ∷ begun ++ control)) (unpaid (ms ++ mark_of x ∷ []) (begun ++ control)) h.later
           (moved-on ms x (begun ++ control)) h.ties;
       agreed = h.agreed;
+      listed = h.listed;
+      room = h.room;
     })
-next-speaks flow [] (x ∷ control) publish awaited s p i frame_max cs ms fs item is h =
+next-speaks flow [] (x ∷ control) publish awaited s p i frame_max capacity cs ms fs item is h =
     let same : x ≡ item = cc in
     let q : Queued = record { control = control; publish = publish; begun = []; awaited = awaited } in
-    let Q : Item → Type 0 = λ y. Speaks s p i frame_max q cs (ms ++ mark_of y ∷ []) (fs ++ y.frame ∷ []) in
+    let Q : Item → Type 0 = λ y. Speaks s p i frame_max capacity q cs (ms ++ mark_of y ∷ []) (fs ++ y.frame ∷ []) in
     subst Q same
     (record {
       later = h.later;
@@ -1286,15 +1322,17 @@ next-speaks flow [] (x ∷ control) publish awaited s p i frame_max cs ms fs ite
       groups = h.groups;
       ties = ties-due i s p cs awaited (unpaid ms (x ∷ control)) (unpaid (ms ++ mark_of x ∷ []) control) h.later (moved-on ms x control) h.ties;
       agreed = h.agreed;
+      listed = h.listed;
+      room = h.room;
     })
-next-speaks false [] [] publish awaited s p i frame_max cs ms fs item is h = absurd cc
-next-speaks true [] [] [] awaited s p i frame_max cs ms fs item is h = absurd cc
-next-speaks true [] [] ([] ∷ groups) awaited s p i frame_max cs ms fs item is h = absurd cc
+next-speaks false [] [] publish awaited s p i frame_max capacity cs ms fs item is h = absurd cc
+next-speaks true [] [] [] awaited s p i frame_max capacity cs ms fs item is h = absurd cc
+next-speaks true [] [] ([] ∷ groups) awaited s p i frame_max capacity cs ms fs item is h = absurd cc
 -- a group begins, and the rest of it goes before all else
-next-speaks true [] [] ((x ∷ group) ∷ groups) awaited s p i frame_max cs ms fs item is h =
+next-speaks true [] [] ((x ∷ group) ∷ groups) awaited s p i frame_max capacity cs ms fs item is h =
     let same : x ≡ item = cc in
     let q : Queued = record { control = []; publish = groups; begun = group; awaited = awaited } in
-    let Q : Item → Type 0 = λ y. Speaks s p i frame_max q cs (ms ++ mark_of y ∷ []) (fs ++ y.frame ∷ []) in
+    let Q : Item → Type 0 = λ y. Speaks s p i frame_max capacity q cs (ms ++ mark_of y ∷ []) (fs ++ y.frame ∷ []) in
     let v : Speech = h.later in
     let w = h.groups.0 in
     let gs : List Frame = x.frame ∷ frames_in group in
@@ -1325,13 +1363,15 @@ next-speaks true [] [] ((x ∷ group) ∷ groups) awaited s p i frame_max cs ms 
           ties-due i s p cs awaited (unpaid ms []) (unpaid (ms ++ mark_of x ∷ []) (group ++ [])) (filling w.channel 0 v) due
           (ties-begun i s p cs awaited (unpaid ms []) w.channel v w.used h.ties);
       agreed = h.agreed;
+      listed = h.listed;
+      room = h.room;
     })
 
 -- a frame is committed
 pub tied-commit : (t : Talk) (fs : List Frame) (item : Item) → next_item t ≡ Some item → IsTied t fs
     → IsTied (record t { outbox = after_next (flows t) t.outbox; committed = t.committed ++ mark_of item ∷ [] }) (fs ++ item.frame ∷ [])
 tied-commit t fs item is h =
-    next-speaks (flows t) t.outbox.begun t.outbox.control t.outbox.publish t.outbox.awaited t.state t.phase t.input t.configuration.frame_max t.channels t.committed fs item
+    next-speaks (flows t) t.outbox.begun t.outbox.control t.outbox.publish t.outbox.awaited t.state t.phase t.input t.configuration.frame_max t.capacity t.channels t.committed fs item
     (while-open (writes t) (queued.next_item (flows t) t.outbox) is) h
   where
     while-open : (b : Bool) (o : Option Item) → (if b then o else None) ≡ Some item → o ≡ Some item

@@ -1,10 +1,12 @@
 -- How a change of the state may end a session with an error.
-use Rattle.std.proofs.Common.{◌≡◌, ◌⊎◌, inl, inr, ℕ, Some, Ok, Err, refl, ap, sym, ◌∙◌, subst}
+use Rattle.std.proofs.Common.{◌≡◌, ◌⊎◌, inl, inr, ℕ, Some, None, Ok, Err, refl, ap, sym, ◌∙◌, subst}
 use Rattle.amqp_session.specs.declared.state.Link.TheVariants.{Ended}
 use Rattle.amqp_session.specs.declared.error.ErrorKind.{ErrorKind}
 use Rattle.amqp_session.specs.Talk.{Talk, end_of, end_of_link}
-use Rattle.amqp_session.specs.Changes.{present_at, lose, close}
+use Rattle.amqp_session.specs.Recovery.{recovery_delay, reconnect}
+use Rattle.amqp_session.specs.Changes.{present_at, fail, lose, close}
 use Rattle.amqp_session.proofs.Keeping.{present-keeps}
+use Rattle.amqp_session.proofs.Recovering.{lose-by}
 
 -- where the session ends with an error, it had ended so before, or the error is one of these
 pub record Ends (P : ErrorKind → Type 0) (t t' : Talk) : Type 0 where
@@ -18,8 +20,20 @@ error-is P e k p h =
     let same : e ≡ k = cc in
     subst P same p
 
+pub ends-fail : (P : ErrorKind → Type 0) (e : ErrorKind) (t u : Talk) → P e → Ends P t (fail e u)
+ends-fail P e t u p = record { by = λ k h. inr (error-is P e k p h) }
+
+-- a session that goes on does not end
+ends-none : (P : ErrorKind → Type 0) (t t' : Talk) → end_of t' ≡ None → Ends P t t'
+ends-none P t t' going = record { by = λ k h. cc }
+
+-- a link that is lost ends a session that does not recover
+pub ends-unrecovered : (P : ErrorKind → Type 0) (e : ErrorKind) (t u : Talk) → (recovery_delay e u ≡ None → P e) → Ends P t (lose e u)
+ends-unrecovered P e t u p =
+    lose-by (Ends P t) e u (λ delay is. ends-none P t (reconnect e delay u) refl) (λ none. ends-fail P e t u (p none))
+
 pub ends-lose : (P : ErrorKind → Type 0) (e : ErrorKind) (t u : Talk) → P e → Ends P t (lose e u)
-ends-lose P e t u p = record { by = λ k h. inr (error-is P e k p h) }
+ends-lose P e t u p = ends-unrecovered P e t u (λ none. p)
 
 -- the session ended Closed
 pub ends-ok : (P : ErrorKind → Type 0) (t t' : Talk) → end_of t' ≡ Some (Ok tt) → Ends P t t'

@@ -1,5 +1,5 @@
 -- What finishes a session is the last that is sent.
-use Rattle.std.proofs.Common.{◌≡◌, ◌∙◌, ap, sym, subst, refl, ℕ, zero, suc, ◌+◌, ◌-◌, ◌≤◌, ◌==◌, ◌&&◌, not, nat_le, if◌then◌else◌, cond, Bool, true, false, List, [], ◌∷◌, ◌++◌, length, drop, map, Option, Some, None, arith}
+use Rattle.std.proofs.Common.{◌≡◌, inl, inr, true≢false, ◌∙◌, ap, sym, subst, refl, ℕ, zero, suc, ◌+◌, ◌-◌, ◌≤◌, ◌==◌, ◌&&◌, not, nat_le, if◌then◌else◌, cond, Bool, true, false, List, [], ◌∷◌, ◌++◌, length, drop, map, Option, Some, None, arith}
 use Rattle.std.proofs.lemmas.Bool.Decides.{nat_tests}
 use Rattle.std.specs.Prelude.{IsTrue, filter}
 use Rattle.amqp_frame.specs.declared.frame.Frame.TheVariants.{Raw}
@@ -14,19 +14,23 @@ use Rattle.amqp_outbox.proofs.Waiting.{next-waits}
 use Rattle.amqp_session.specs.declared.committed.Mark.{Mark}
 use Rattle.amqp_session.specs.declared.committed.Then.{Then}
 use Rattle.amqp_session.specs.declared.committed.Then.TheVariants.{Nothing, Answer, Pays, Finish}
+use Rattle.amqp_session.specs.declared.server_close.ServerClose.{ServerClose}
+use Rattle.amqp_session.specs.declared.server_close.ServerClose.TheVariants.{WithoutError, WithError}
+use Rattle.amqp_session.specs.declared.error.ErrorKind.TheVariants.{ProtocolError}
 use Rattle.amqp_session.specs.declared.state.Input.{Input}
 use Rattle.amqp_session.specs.declared.state.Input.TheVariants.{Acting, Closed, Dropped}
 use Rattle.amqp_session.specs.Talk.{Talk, is_open, is_acting}
 use Rattle.amqp_session.specs.Handshake.{channel_open, channel_flow, flow_ok, channel_close_ok, our_channel_close}
 use Rattle.amqp_session.specs.Links.{dropped}
 use Rattle.amqp_session.specs.Publishing.{content_header, body_pieces, publish_frames}
-use Rattle.amqp_session.specs.Changes.{without_all_on}
+use Rattle.amqp_session.specs.Changes.{without_all_on, finish_by}
 use Rattle.amqp_session.specs.Channels.{channel_at}
 use Rattle.amqp_session.specs.Writing.{left_in, unsent, taken, sent_among, sent, follow, writes, flows, fitting, next_item, next_within, then_of, mark_of}
 use Rattle.amqp_session.specs.Sound.{is_finish, following, NoneFinishes, LastFinishes, Finishes}
 use Rattle.amqp_session.proofs.Cases.{if-true, if-false}
 use Rattle.amqp_session.proofs.Counting.{other-false}
-use Rattle.amqp_session.proofs.Keeping.{left_after, left_in-left_after, follow-keeps, pay-keeps}
+use Rattle.amqp_session.proofs.Keeping.{OverlooksEnds, left_after, left_in-left_after, follow-open, pay-keeps}
+use Rattle.amqp_session.proofs.Recovering.{lose-case}
 
 -- ---- nothing finishes, or the last does
 
@@ -39,7 +43,7 @@ acting-none Acting ths a h = h
 acting-none (Closed c) ths a h = absurd cc
 acting-none (Dropped c) ths a h = absurd cc
 
-none-finishes : (i : Input) (ths : List Then) → NoneFinishes ths → Finishes i ths
+pub none-finishes : (i : Input) (ths : List Then) → NoneFinishes ths → Finishes i ths
 none-finishes Acting ths h = h
 none-finishes (Closed c) ths h = none-last ths h
 none-finishes (Dropped c) ths h = none-last ths h
@@ -239,9 +243,23 @@ pub first-goes : (i : Input) (ms : List Mark) (is : List Item) → Finishes i (f
 first-goes i [] is h = h
 first-goes i (m ∷ ms) is h = tail-finishes i m.then (following ms is) h
 
-pub sent-committed : (m : Mark) (ms : List Mark) (t : Talk) → t.committed ≡ m ∷ ms → (sent m t).committed ≡ ms
-sent-committed m ms t h =
-    follow-keeps (λ (x : Talk). x.committed) (λ t s l cs ps. refl) m.then (record t { committed = drop 1 t.committed }) ∙ ap (drop 1) h
+-- what does not look at what an end changes is as it was, while the link is open
+sent-keeps : {A : Type 0} (f : Talk → A) → OverlooksEnds f → (m : Mark) (t : Talk) → is_open (sent m t) ≡ true → f (sent m t) ≡ f (record t { committed = drop 1 t.committed })
+sent-keeps f h m t still =
+    elim (follow-open f h m.then (record t { committed = drop 1 t.committed })) [
+      | inl same ↦ same
+      | inr shut ↦ absurd (true≢false (sym still ∙ shut))
+    ]
+
+-- while the link is open, the first committed frame is the one that went
+pub sent-committed : (m : Mark) (ms : List Mark) (t : Talk) → is_open (sent m t) ≡ true → t.committed ≡ m ∷ ms → (sent m t).committed ≡ ms
+sent-committed m ms t still h = sent-keeps (λ (x : Talk). x.committed) (λ t s l cs ps. refl) m t still ∙ ap (drop 1) h
+
+-- where nothing was left, nothing is after the server's close
+finish-empty : (o : Option ServerClose) (t : Talk) → t.committed ≡ [] → (finish_by o t).committed ≡ []
+finish-empty None t h = h
+finish-empty (Some WithoutError) t h = h
+finish-empty (Some (WithError e)) t h = lose-case (λ (x : Talk). x.committed ≡ []) (ProtocolError e) t (λ delay. refl) h
 
 module _ (m : Mark) (ms : List Mark) (k : ℕ) (t : Talk) (h : t.committed ≡ m ∷ ms) (opened : is_open t ≡ true)
     (last : LastFinishes (m.then ∷ following ms (waiting_items t.outbox)))
@@ -255,7 +273,9 @@ module _ (m : Mark) (ms : List Mark) (k : ℕ) (t : Talk) (h : t.committed ≡ m
   sent-first Finish e =
       let none : following ms (waiting_items t.outbox) ≡ [] = last.0 (ap is_finish e) in
       let empty : ms ≡ [] = no-marks ms (waiting_items t.outbox) none in
-      subst (λ (xs : List Mark). (sent_among xs k (sent m t)).committed ≡ left_after xs k) (sym empty) (sent-committed m ms t h ∙ empty)
+      subst (λ (xs : List Mark). (sent_among xs k (sent m t)).committed ≡ left_after xs k) (sym empty)
+      (ap (λ (th : Then). (follow th (record t { committed = drop 1 t.committed })).committed) e
+      ∙ finish-empty t.server_close (record t { committed = drop 1 t.committed }) (ap (drop 1) h ∙ empty))
     where
       no-marks : (ms : List Mark) (is : List Item) → following ms is ≡ [] → ms ≡ []
       no-marks [] is h = refl
@@ -281,9 +301,9 @@ open-committed (m ∷ ms) n t h opened last =
     ap (λ (x : Talk). x.committed) (if-true (is_open t) (if nat_le m.left n then gone_on m ms n t else left_here m ms n t) t opened)
     ∙ one-left m ms n t (nat_le m.left n)
     (sent-first m ms (n - m.left) t h opened last
-    (λ still. open-committed ms (n - m.left) (sent m t) (sent-committed m ms t h) still
+    (λ still. open-committed ms (n - m.left) (sent m t) (sent-committed m ms t still h) still
     (subst (λ (is : List Item). LastFinishes (following ms is))
-    (sym (follow-keeps (λ (x : Talk). waiting_items x.outbox) (λ t s l cs ps. refl) m.then (record t { committed = drop 1 t.committed }))) last.1))
+    (sym (sent-keeps (λ (x : Talk). waiting_items x.outbox) (λ t s l cs ps. refl) m t still)) last.1))
     m.then refl)
 
 module _ (n : ℕ) (t : Talk) (opened : is_open t ≡ true) (last : LastFinishes (following t.committed (waiting_items t.outbox))) (within : n ≤ unsent t) where

@@ -1,5 +1,5 @@
--- How a frame that is read may end a session, row by row.
-use Rattle.std.proofs.Common.{◌≡◌, ◌≢◌, ◌⊎◌, inl, inr, ℕ, zero, suc, not, Bool, true, false, if◌then◌else◌, List, [], ◌∷◌, Option, Some, None, Ok, Err, is_some, refl, ap}
+-- How a frame that is read may end a session, or make it wait for another link, row by row.
+use Rattle.std.proofs.Common.{◌≡◌, ◌≢◌, ◌⊎◌, inl, inr, ℕ, zero, suc, not, Bool, true, false, if◌then◌else◌, List, [], ◌∷◌, Option, Some, None, Ok, Err, is_some, refl, ap, sym, ◌∙◌}
 use Rattle.amqp_frame.specs.declared.frame.Frame.{Frame}
 use Rattle.amqp_frame.specs.declared.frame.Frame.TheVariants.{ProtocolHeader, Method, Raw, Heartbeat}
 use Rattle.amqp_frame.specs.declared.frame.RawKind.{RawKind}
@@ -12,7 +12,7 @@ use Rattle.amqp_session.specs.declared.channels.Channel.{Channel}
 use Rattle.amqp_session.specs.declared.channels.Debt.{Debt}
 use Rattle.amqp_session.specs.declared.channels.Debt.TheVariants as debt
 use Rattle.amqp_session.specs.declared.state.ConnectionState.{ConnectionState}
-use Rattle.amqp_session.specs.declared.state.ConnectionState.TheVariants.{Connecting, Connected, Closing}
+use Rattle.amqp_session.specs.declared.state.ConnectionState.TheVariants.{Connecting, Connected, Closing, Reconnecting}
 use Rattle.amqp_session.specs.declared.state.ChannelState.{ChannelState}
 use Rattle.amqp_session.specs.declared.state.ChannelState.TheVariants as channel
 use Rattle.amqp_session.specs.declared.state.Phase.{Phase}
@@ -27,109 +27,138 @@ use Rattle.amqp_session.specs.Talk.{Talk, hears_on, is_open, is_closing, acts, e
 use Rattle.amqp_session.specs.Changes.{lose, misplaced}
 use Rattle.amqp_session.specs.Links.{misread, dropped}
 use Rattle.amqp_session.specs.Violations.{channel_closed_with, misread_error, stray_channel_frame, stray_connection_method, unawaited}
-use Rattle.amqp_session.specs.ConnectionMethods.{connection_rule, connection_closed, secret_taken, on_start, on_secure}
+use Rattle.amqp_session.specs.ConnectionMethods.{connected, connection_rule, connection_closed, secret_taken, on_start, on_secure, on_open_ok}
 use Rattle.amqp_session.specs.Channels.{channel_at}
 use Rattle.amqp_session.specs.ChannelMethods.{heard_on, unawaited_channel_method, channel_opened, channel_closed, channel_flowed, channel_close_by, awaits_close_ok, remove_unless_owed, on_channel_flow, channel_rule, channel_method_by, channel_method, hand_out, confirmed, is_select_ok, pass_through, raw_by}
 use Rattle.amqp_session.specs.Frames.{is_of_a_channel, method_questions, method_rule, frame_rule, closed_rule, on_frame}
 use Rattle.amqp_session.specs.Causes.{IsFrameError, is_awaited, is_due, is_secret_told, refused_in}
 use Rattle.amqp_session.proofs.Cases.{if_case, if_by}
+use Rattle.amqp_session.proofs.Recovering.{reopened-keeps}
 use Rattle.amqp_session.proofs.Ends.{Ends, ends-kept, ends-lose, ends-ok}
 
-pub ends-misplaced : (P : ErrorKind → Type 0) (e : ErrorKind) (t : Talk) → (is_closing t.state ≡ false → P e) → Ends P t (misplaced e t)
-ends-misplaced P e t p = if_by (Ends P t) (is_closing t.state) t (lose e t) (λ h. ends-kept P t t refl) (λ h. ends-lose P e t t (p h))
+-- the session ends with an error, or waits for another link, as it did before, or one of these errors is brought
+record Brings (P : ErrorKind → Type 0) (t t' : Talk) : Type 0 where
+  ends : Ends P t t'
+  waits : t'.state ≡ Reconnecting → (t.state ≡ Reconnecting) ⊎ ((k : ErrorKind) × P k)
 
-ends-unawaited : (P : ErrorKind → Type 0) (n : ℕ) (s : ChannelState) (m : AnyMethod) (t : Talk) → (s ≢ channel.Closing → P (unawaited m n)) → Ends P t (unawaited_channel_method n s m t)
-ends-unawaited P n channel.Closing m t p = ends-kept P t t refl
-ends-unawaited P n _ m t p = ends-lose P _ t t (p (λ e. cc))
+brings-kept : (P : ErrorKind → Type 0) (t t' : Talk) → end_of t' ≡ end_of t → t'.state ≡ t.state → Brings P t t'
+brings-kept P t t' same held = record { ends = ends-kept P t t' same; waits = λ h. inl (sym held ∙ h) }
 
-ends-opened : (P : ErrorKind → Type 0) (n : ℕ) (c : Channel) (a : Option (Option ℕ)) (t : Talk)
-    → (is_some a ≡ false → c.state ≢ channel.Closing → P (unawaited ChannelOpenOk n)) → Ends P t (channel_opened n c a t)
-ends-opened P n c None t p = ends-unawaited P n c.state ChannelOpenOk t (p refl)
-ends-opened P n c (Some promise) t p = ends-kept P t (channel_opened n c (Some promise) t) refl
+brings-none : (P : ErrorKind → Type 0) (t : Talk) → Brings P t t
+brings-none P t = brings-kept P t t refl refl
+
+-- what waits for no other link
+brings-other : (P : ErrorKind → Type 0) (t t' : Talk) → Ends P t t' → t'.state ≢ Reconnecting → Brings P t t'
+brings-other P t t' e other = record { ends = e; waits = λ h. absurd (other h) }
+
+brings-lose : (P : ErrorKind → Type 0) (e : ErrorKind) (t : Talk) → P e → Brings P t (lose e t)
+brings-lose P e t p = record { ends = ends-lose P e t t p; waits = λ h. inr (e, p) }
+
+brings-misplaced : (P : ErrorKind → Type 0) (e : ErrorKind) (t : Talk) → (is_closing t.state ≡ false → P e) → Brings P t (misplaced e t)
+brings-misplaced P e t p = if_by (Brings P t) (is_closing t.state) t (lose e t) (λ h. brings-none P t) (λ h. brings-lose P e t (p h))
+
+brings-unawaited : (P : ErrorKind → Type 0) (n : ℕ) (s : ChannelState) (m : AnyMethod) (t : Talk) → (s ≢ channel.Closing → P (unawaited m n)) → Brings P t (unawaited_channel_method n s m t)
+brings-unawaited P n channel.Closing m t p = brings-none P t
+brings-unawaited P n _ m t p = brings-lose P (unawaited m n) t (p (λ e. cc))
+
+brings-opened : (P : ErrorKind → Type 0) (n : ℕ) (c : Channel) (a : Option (Option ℕ)) (t : Talk)
+    → (is_some a ≡ false → c.state ≢ channel.Closing → P (unawaited ChannelOpenOk n)) → Brings P t (channel_opened n c a t)
+brings-opened P n c None t p = brings-unawaited P n c.state ChannelOpenOk t (p refl)
+brings-opened P n c (Some promise) t p = brings-kept P t (channel_opened n c (Some promise) t) refl refl
 
 -- a channel that goes ends nothing
 end-owed : (d : Debt) (n : ℕ) (t : Talk) → end_of (remove_unless_owed d n t) ≡ end_of t
 end-owed debt.Owed n t = refl
 end-owed _ n t = refl
 
-ends-closed : (P : ErrorKind → Type 0) (n : ℕ) (c : Channel) (a : Option (Option ℕ)) (t : Talk)
-    → (is_some a ≡ false → c.state ≢ channel.Closing → P (unawaited ChannelCloseOk n)) → Ends P t (channel_closed n c a t)
-ends-closed P n c None t p = ends-unawaited P n c.state ChannelCloseOk t (p refl)
-ends-closed P n c (Some promise) t p = ends-kept P t (channel_closed n c (Some promise) t) (end-owed c.debt n _)
+state-owed : (d : Debt) (n : ℕ) (t : Talk) → (remove_unless_owed d n t).state ≡ t.state
+state-owed debt.Owed n t = refl
+state-owed _ n t = refl
 
-ends-flow : (P : ErrorKind → Type 0) (s : ChannelState) (n : ℕ) (c : Channel) (active : Bool) (t : Talk) → Ends P t (on_channel_flow s n c active t)
-ends-flow P channel.Closing n c active t = ends-kept P t t refl
-ends-flow P _ n c active t = ends-kept P t _ refl
+brings-closed : (P : ErrorKind → Type 0) (n : ℕ) (c : Channel) (a : Option (Option ℕ)) (t : Talk)
+    → (is_some a ≡ false → c.state ≢ channel.Closing → P (unawaited ChannelCloseOk n)) → Brings P t (channel_closed n c a t)
+brings-closed P n c None t p = brings-unawaited P n c.state ChannelCloseOk t (p refl)
+brings-closed P n c (Some promise) t p = brings-kept P t (channel_closed n c (Some promise) t) (end-owed c.debt n _) (state-owed c.debt n _)
 
-ends-flowed : (P : ErrorKind → Type 0) (n : ℕ) (c : Channel) (active : Bool) (a : Option (Option ℕ)) (t : Talk)
-    → (is_some a ≡ false → c.state ≢ channel.Closing → P (unawaited (ChannelFlowOk active) n)) → Ends P t (channel_flowed n c active a t)
-ends-flowed P n c active None t p = ends-unawaited P n c.state (ChannelFlowOk active) t (p refl)
-ends-flowed P n c active (Some promise) t p = ends-kept P t (channel_flowed n c active (Some promise) t) refl
+brings-flow : (P : ErrorKind → Type 0) (s : ChannelState) (n : ℕ) (c : Channel) (active : Bool) (t : Talk) → Brings P t (on_channel_flow s n c active t)
+brings-flow P channel.Closing n c active t = brings-none P t
+brings-flow P _ n c active t = brings-kept P t _ refl refl
 
-ends-server-close : (P : ErrorKind → Type 0) (d : Debt) (awaits : Bool) (n : ℕ) (e : ErrorKind) (c : Channel) (t : Talk) → Ends P t (channel_close_by d awaits n e c t)
-ends-server-close P debt.Nothing false n e c t = ends-kept P t _ refl
-ends-server-close P debt.Nothing true n e c t = ends-kept P t _ refl
-ends-server-close P _ awaits n e c t = ends-kept P t t refl
+brings-flowed : (P : ErrorKind → Type 0) (n : ℕ) (c : Channel) (active : Bool) (a : Option (Option ℕ)) (t : Talk)
+    → (is_some a ≡ false → c.state ≢ channel.Closing → P (unawaited (ChannelFlowOk active) n)) → Brings P t (channel_flowed n c active a t)
+brings-flowed P n c active None t p = brings-unawaited P n c.state (ChannelFlowOk active) t (p refl)
+brings-flowed P n c active (Some promise) t p = brings-kept P t (channel_flowed n c active (Some promise) t) refl refl
 
-ends-connection-closed : (P : ErrorKind → Type 0) (a : Option (Option ℕ)) (t : Talk) → Ends P t (connection_closed a t)
-ends-connection-closed P None t = ends-ok P t _ refl
-ends-connection-closed P (Some promise) t = ends-ok P t _ refl
+brings-server-close : (P : ErrorKind → Type 0) (d : Debt) (awaits : Bool) (n : ℕ) (e : ErrorKind) (c : Channel) (t : Talk) → Brings P t (channel_close_by d awaits n e c t)
+brings-server-close P debt.Nothing false n e c t = brings-kept P t _ refl refl
+brings-server-close P debt.Nothing true n e c t = brings-kept P t _ refl refl
+brings-server-close P _ awaits n e c t = brings-none P t
 
-ends-secret-taken : (P : ErrorKind → Type 0) (a : Option (Option ℕ)) (t : Talk) → (is_some a ≡ false → P (InvalidConnectionState Connected))
-    → Ends P t (secret_taken a t)
-ends-secret-taken P None t p = ends-lose P _ t t (p refl)
-ends-secret-taken P (Some None) t p = ends-kept P t _ refl
-ends-secret-taken P (Some (Some number)) t p = ends-kept P t _ refl
+brings-connection-closed : (P : ErrorKind → Type 0) (a : Option (Option ℕ)) (t : Talk) → Brings P t (connection_closed a t)
+brings-connection-closed P None t = brings-other P t _ (ends-ok P t _ refl) (λ h. cc)
+brings-connection-closed P (Some promise) t = brings-other P t _ (ends-ok P t _ refl) (λ h. cc)
+
+brings-secret-taken : (P : ErrorKind → Type 0) (a : Option (Option ℕ)) (t : Talk) → (is_some a ≡ false → P (InvalidConnectionState Connected))
+    → Brings P t (secret_taken a t)
+brings-secret-taken P None t p = brings-lose P (InvalidConnectionState Connected) t (p refl)
+brings-secret-taken P (Some None) t p = brings-kept P t _ refl refl
+brings-secret-taken P (Some (Some number)) t p = brings-kept P t _ refl refl
 
 -- a start ends a session where the provider refused it
-ends-start : (P : ErrorKind → Type 0) (answers : List Asked) (t : Talk)
+brings-start : (P : ErrorKind → Type 0) (answers : List Asked) (t : Talk)
     → ((text : List ℕ) → refused_in (question.Mechanism ∷ question.Starter ∷ []) answers ≡ Some text → P (AuthProviderError text))
-    → Ends P t (on_start answers t)
-ends-start P (answer.Mechanism mechanism ∷ answer.Starter (Ok response) ∷ later) t p = ends-kept P t _ refl
-ends-start P (answer.Mechanism mechanism ∷ answer.Starter (Err text) ∷ later) t p = ends-lose P (AuthProviderError text) t t (p text refl)
-ends-start P _ t p = ends-kept P t t refl
+    → Brings P t (on_start answers t)
+brings-start P (answer.Mechanism mechanism ∷ answer.Starter (Ok response) ∷ later) t p = brings-kept P t _ refl refl
+brings-start P (answer.Mechanism mechanism ∷ answer.Starter (Err text) ∷ later) t p = brings-lose P (AuthProviderError text) t (p text refl)
+brings-start P _ t p = brings-none P t
 
 -- and so does a challenge
-ends-secure : (P : ErrorKind → Type 0) (challenge : List ℕ) (answers : List Asked) (t : Talk)
+brings-secure : (P : ErrorKind → Type 0) (challenge : List ℕ) (answers : List Asked) (t : Talk)
     → ((text : List ℕ) → refused_in (question.Challenge challenge ∷ []) answers ≡ Some text → P (AuthProviderError text))
-    → Ends P t (on_secure answers t)
-ends-secure P challenge (answer.Challenge (Ok response) ∷ later) t p = ends-kept P t _ refl
-ends-secure P challenge (answer.Challenge (Err text) ∷ later) t p = ends-lose P (AuthProviderError text) t t (p text refl)
-ends-secure P challenge _ t p = ends-kept P t t refl
+    → Brings P t (on_secure answers t)
+brings-secure P challenge (answer.Challenge (Ok response) ∷ later) t p = brings-kept P t _ refl refl
+brings-secure P challenge (answer.Challenge (Err text) ∷ later) t p = brings-lose P (AuthProviderError text) t (p text refl)
+brings-secure P challenge _ t p = brings-none P t
 
-ends-connection : (P : ErrorKind → Type 0) (s : ConnectionState) (p : Phase) (m : AnyMethod) (answers : List Asked) (t : Talk)
+-- the connection is open, which ends nothing
+brings-open-ok : (P : ErrorKind → Type 0) (t : Talk) → Brings P t (on_open_ok t)
+brings-open-ok P t =
+    let held : (on_open_ok t).state ≡ Connected = reopened-keeps (λ (x : Talk). x.state) (λ x q cs. refl) t.channels (connected t) in
+    brings-other P t (on_open_ok t) (ends-kept P t (on_open_ok t) (reopened-keeps end_of (λ x q cs. refl) t.channels (connected t))) (λ h. cc)
+
+brings-connection : (P : ErrorKind → Type 0) (s : ConnectionState) (p : Phase) (m : AnyMethod) (answers : List Asked) (t : Talk)
     → (is_closing s ≡ false → is_due m (is_secret_told t) s p ≡ false → P (InvalidConnectionState s))
     → ((text : List ℕ) → refused_in (method_questions s p m) answers ≡ Some text → P (AuthProviderError text))
-    → Ends P t (connection_rule s p m answers t)
-ends-connection P s p (Close code text class method) answers t e r = ends-kept P t _ refl
-ends-connection P s p (Blocked reason) answers t e r = ends-kept P t _ refl
-ends-connection P s p Unblocked answers t e r = ends-kept P t _ refl
-ends-connection P Closing p CloseOk answers t e r = ends-connection-closed P (awaited_promise 0 ConnectionClosed t.outbox) t
-ends-connection P Closing p m answers t e r = ends-kept P t t refl
-ends-connection P Connecting AwaitStart (Start a b c d x) answers t e r = ends-start P answers t r
-ends-connection P Connecting AwaitTune (Secure challenge) answers t e r = ends-secure P challenge answers t r
-ends-connection P Connecting AwaitTune (Tune a b c) answers t e r = ends-kept P t _ refl
-ends-connection P Connecting AwaitOpenOk OpenOk answers t e r = ends-kept P t _ refl
-ends-connection P Connected p UpdateSecretOk answers t e r = ends-secret-taken P (awaited_promise 0 SecretDone t.outbox) t (e refl)
-ends-connection P held p m answers t e r = ends-lose P _ t t (e refl refl)
+    → Brings P t (connection_rule s p m answers t)
+brings-connection P s p (Close code text class method) answers t e r = brings-other P t _ (ends-kept P t _ refl) (λ h. cc)
+brings-connection P s p (Blocked reason) answers t e r = brings-kept P t _ refl refl
+brings-connection P s p Unblocked answers t e r = brings-kept P t _ refl refl
+brings-connection P Closing p CloseOk answers t e r = brings-connection-closed P (awaited_promise 0 ConnectionClosed t.outbox) t
+brings-connection P Closing p m answers t e r = brings-none P t
+brings-connection P Connecting AwaitStart (Start a b c d x) answers t e r = brings-start P answers t r
+brings-connection P Connecting AwaitTune (Secure challenge) answers t e r = brings-secure P challenge answers t r
+brings-connection P Connecting AwaitTune (Tune a b c) answers t e r = brings-kept P t _ refl refl
+brings-connection P Connecting AwaitOpenOk OpenOk answers t e r = brings-open-ok P t
+brings-connection P Connected p UpdateSecretOk answers t e r = brings-secret-taken P (awaited_promise 0 SecretDone t.outbox) t (e refl)
+brings-connection P held p m answers t e r = brings-lose P (InvalidConnectionState held) t (e refl refl)
 
-ends-channel : (P : ErrorKind → Type 0) (s : ConnectionState) (n : ℕ) (c : Channel) (m : AnyMethod) (t : Talk)
-    → (is_closing s ≡ false → is_awaited m n t ≡ false → c.state ≢ channel.Closing → P (unawaited m n)) → Ends P t (channel_rule s n c m t)
-ends-channel P Closing n c m t p = ends-kept P t t refl
-ends-channel P _ n c ChannelOpenOk t p = ends-opened P n c (awaited_promise n ChannelOpened t.outbox) t (p refl)
-ends-channel P _ n c ChannelCloseOk t p = ends-closed P n c (awaited_promise n ChannelClosed t.outbox) t (p refl)
-ends-channel P _ n c (ChannelClose code text class method) t p =
-    ends-server-close P c.debt (awaits_close_ok n t) n (channel_closed_with code text) c t
-ends-channel P _ n c (ChannelFlow active) t p = ends-flow P c.state n c active t
-ends-channel P _ n c (ChannelFlowOk active) t p = ends-flowed P n c active (awaited_promise n FlowDone t.outbox) t (p refl)
-ends-channel P _ n c m t p = ends-unawaited P n c.state m t (p refl refl)
+brings-channel : (P : ErrorKind → Type 0) (s : ConnectionState) (n : ℕ) (c : Channel) (m : AnyMethod) (t : Talk)
+    → (is_closing s ≡ false → is_awaited m n t ≡ false → c.state ≢ channel.Closing → P (unawaited m n)) → Brings P t (channel_rule s n c m t)
+brings-channel P Closing n c m t p = brings-none P t
+brings-channel P _ n c ChannelOpenOk t p = brings-opened P n c (awaited_promise n ChannelOpened t.outbox) t (p refl)
+brings-channel P _ n c ChannelCloseOk t p = brings-closed P n c (awaited_promise n ChannelClosed t.outbox) t (p refl)
+brings-channel P _ n c (ChannelClose code text class method) t p =
+    brings-server-close P c.debt (awaits_close_ok n t) n (channel_closed_with code text) c t
+brings-channel P _ n c (ChannelFlow active) t p = brings-flow P c.state n c active t
+brings-channel P _ n c (ChannelFlowOk active) t p = brings-flowed P n c active (awaited_promise n FlowDone t.outbox) t (p refl)
+brings-channel P _ n c m t p = brings-unawaited P n c.state m t (p refl refl)
 
-ends-channel-by : (P : ErrorKind → Type 0) (o : Option Channel) (n : ℕ) (m : AnyMethod) (t : Talk)
+brings-channel-by : (P : ErrorKind → Type 0) (o : Option Channel) (n : ℕ) (m : AnyMethod) (t : Talk)
     → (o ≡ None → is_closing t.state ≡ false → P (InvalidChannel n))
     → ((c : Channel) → o ≡ Some c → is_closing t.state ≡ false → is_awaited m n t ≡ false → c.state ≢ channel.Closing → P (unawaited m n))
-    → Ends P t (channel_method_by o n m t)
-ends-channel-by P None n m t none p = ends-misplaced P (InvalidChannel n) t (none refl)
-ends-channel-by P (Some c) n m t none p = ends-channel P t.state n c m t (p c refl)
+    → Brings P t (channel_method_by o n m t)
+brings-channel-by P None n m t none p = brings-misplaced P (InvalidChannel n) t (none refl)
+brings-channel-by P (Some c) n m t none p = brings-channel P t.state n c m t (p c refl)
 
 -- a frame is heard on a listed channel, and not while Connecting
 none-heard : (s : ConnectionState) (o : Option Channel) → heard_on s o ≡ None → (o ≡ None) ⊎ (s ≡ Connecting)
@@ -140,46 +169,46 @@ some-heard : (s : ConnectionState) (o : Option Channel) (c : Channel) → heard_
 some-heard Connecting o c h = cc
 some-heard _ o c h = (λ e. cc, h)
 
-ends-pass : (P : ErrorKind → Type 0) (n : ℕ) (c : Channel) (kind : RawKind) (bytes : List ℕ) (t : Talk) → Ends P t (pass_through n c kind bytes t)
-ends-pass P n c kind bytes t =
-    if_case (λ (x : Talk). Ends P t (hand_out c.opened (record { channel = n; kind = kind; bytes = bytes }) x)) (is_select_ok kind bytes) (confirmed n c t) t
-    (ends-kept P t _ refl) (ends-kept P t _ refl)
+brings-pass : (P : ErrorKind → Type 0) (n : ℕ) (c : Channel) (kind : RawKind) (bytes : List ℕ) (t : Talk) → Brings P t (pass_through n c kind bytes t)
+brings-pass P n c kind bytes t =
+    if_case (λ (x : Talk). Brings P t (hand_out c.opened (record { channel = n; kind = kind; bytes = bytes }) x)) (is_select_ok kind bytes) (confirmed n c t) t
+    (brings-kept P t _ refl refl) (brings-kept P t _ refl refl)
 
-ends-raw : (P : ErrorKind → Type 0) (o : Option Channel) (n : ℕ) (kind : RawKind) (bytes : List ℕ) (t : Talk)
-    → (o ≡ None → is_closing t.state ≡ false → P (InvalidChannel n)) → Ends P t (raw_by o n kind bytes t)
-ends-raw P None n kind bytes t p = ends-misplaced P (InvalidChannel n) t (p refl)
-ends-raw P (Some c) n kind bytes t p = ends-pass P n c kind bytes t
+brings-raw : (P : ErrorKind → Type 0) (o : Option Channel) (n : ℕ) (kind : RawKind) (bytes : List ℕ) (t : Talk)
+    → (o ≡ None → is_closing t.state ≡ false → P (InvalidChannel n)) → Brings P t (raw_by o n kind bytes t)
+brings-raw P None n kind bytes t p = brings-misplaced P (InvalidChannel n) t (p refl)
+brings-raw P (Some c) n kind bytes t p = brings-pass P n c kind bytes t
 
 -- the errors of a frame that is read so
 abbrev pub FrameError : Frame → List Asked → Talk → ErrorKind → Type 0
 FrameError f answers t k = IsFrameError k f answers t
 
-ends-method : (n : ℕ) (m : AnyMethod) (answers : List Asked) (t : Talk) → Ends (FrameError (Method n m) answers t) t (method_rule n m answers t)
-ends-method zero m answers t =
+brings-method : (n : ℕ) (m : AnyMethod) (answers : List Asked) (t : Talk) → Brings (FrameError (Method n m) answers t) t (method_rule n m answers t)
+brings-method zero m answers t =
     let P : ErrorKind → Type 0 = FrameError (Method zero m) answers t in
-    if_by (Ends P t) (is_of_a_channel m) (misplaced (stray_channel_frame RawMethod) t) (connection_rule t.state t.phase m answers t)
-    (λ h. ends-misplaced P (stray_channel_frame RawMethod) t (λ going. (ap not going, inl (h, refl))))
-    (λ h. ends-connection P t.state t.phase m answers t (λ going undue. (ap not going, ((h, undue), refl))) (λ text refused. refused))
-ends-method (suc n) m answers t =
+    if_by (Brings P t) (is_of_a_channel m) (misplaced (stray_channel_frame RawMethod) t) (connection_rule t.state t.phase m answers t)
+    (λ h. brings-misplaced P (stray_channel_frame RawMethod) t (λ going. (ap not going, inl (h, refl))))
+    (λ h. brings-connection P t.state t.phase m answers t (λ going undue. (ap not going, ((h, undue), refl))) (λ text refused. refused))
+brings-method (suc n) m answers t =
     let P : ErrorKind → Type 0 = FrameError (Method (suc n) m) answers t in
     let o : Option Channel = channel_at (suc n) t in
-    if_by (Ends P t) (is_of_a_channel m) (channel_method (suc n) m t) (misplaced (stray_connection_method (suc n)) t)
-    (λ h. ends-channel-by P (heard_on t.state o) (suc n) m t
+    if_by (Brings P t) (is_of_a_channel m) (channel_method (suc n) m t) (misplaced (stray_connection_method (suc n)) t)
+    (λ h. brings-channel-by P (heard_on t.state o) (suc n) m t
     (λ none going. (ap not going, ((refl, h), none-heard t.state o none)))
     (λ c some going free kept.
     let heard = some-heard t.state o c some in
     (ap not going, inr (h, (heard.0, (c, heard.1, kept)), free, refl))))
-    (λ h. ends-misplaced P (stray_connection_method (suc n)) t (λ going. (ap not going, inl (h, refl))))
+    (λ h. brings-misplaced P (stray_connection_method (suc n)) t (λ going. (ap not going, inl (h, refl))))
 
-ends-rule : (f : Frame) (answers : List Asked) (t : Talk) → Ends (FrameError f answers t) t (frame_rule f answers t)
-ends-rule (ProtocolHeader version) answers t = ends-lose (FrameError (ProtocolHeader version) answers t) (InvalidProtocolVersion version) t t refl
-ends-rule Heartbeat answers t = ends-kept (FrameError Heartbeat answers t) t t refl
-ends-rule (Method n m) answers t = ends-method n m answers t
-ends-rule (Raw zero kind bytes) answers t =
-    ends-misplaced (FrameError (Raw zero kind bytes) answers t) (stray_channel_frame kind) t (λ going. (ap not going, inl refl))
-ends-rule (Raw (suc n) kind bytes) answers t =
+brings-rule : (f : Frame) (answers : List Asked) (t : Talk) → Brings (FrameError f answers t) t (frame_rule f answers t)
+brings-rule (ProtocolHeader version) answers t = brings-lose (FrameError (ProtocolHeader version) answers t) (InvalidProtocolVersion version) t refl
+brings-rule Heartbeat answers t = brings-none (FrameError Heartbeat answers t) t
+brings-rule (Method n m) answers t = brings-method n m answers t
+brings-rule (Raw zero kind bytes) answers t =
+    brings-misplaced (FrameError (Raw zero kind bytes) answers t) (stray_channel_frame kind) t (λ going. (ap not going, inl refl))
+brings-rule (Raw (suc n) kind bytes) answers t =
     let o : Option Channel = channel_at (suc n) t in
-    ends-raw (FrameError (Raw (suc n) kind bytes) answers t) (heard_on t.state o) (suc n) kind bytes t
+    brings-raw (FrameError (Raw (suc n) kind bytes) answers t) (heard_on t.state o) (suc n) kind bytes t
     (λ h going. (ap not going, (refl, none-heard t.state o h)))
 
 end-closed : (f : Frame) (t : Talk) → end_of (closed_rule f t) ≡ end_of t
@@ -187,13 +216,26 @@ end-closed (Method zero (Blocked reason)) t = refl
 end-closed (Method zero Unblocked) t = refl
 end-closed f t = refl
 
+state-closed : (f : Frame) (t : Talk) → (closed_rule f t).state ≡ t.state
+state-closed (Method zero (Blocked reason)) t = refl
+state-closed (Method zero Unblocked) t = refl
+state-closed f t = refl
+
+brings-frame : (f : Frame) (answers : List Asked) (t : Talk) → Brings (FrameError f answers t) t (on_frame f answers t)
+brings-frame f answers t =
+    let P : ErrorKind → Type 0 = FrameError f answers t in
+    if_case (Brings P t) (acts t) (frame_rule f answers t) (if hears_on t then closed_rule f t else t)
+    (brings-rule f answers t)
+    (if_case (Brings P t) (hears_on t) (closed_rule f t) t (brings-kept P t (closed_rule f t) (end-closed f t) (state-closed f t)) (brings-none P t))
+
 -- a frame ends a session by its own errors alone
 pub ends-frame : (f : Frame) (answers : List Asked) (t : Talk) → Ends (FrameError f answers t) t (on_frame f answers t)
-ends-frame f answers t =
-    if_case (Ends (FrameError f answers t) t) (acts t) (frame_rule f answers t) (if hears_on t then closed_rule f t else t)
-    (ends-rule f answers t)
-    (if_case (Ends (FrameError f answers t) t) (hears_on t) (closed_rule f t) t
-    (ends-kept _ t (closed_rule f t) (end-closed f t)) (ends-kept _ t t refl))
+ends-frame f answers t = (brings-frame f answers t).ends
+
+-- a frame after which the session waits for another link, as it did not before, brings an error
+pub waits-frame : (f : Frame) (answers : List Asked) (t : Talk) → t.state ≢ Reconnecting → (on_frame f answers t).state ≡ Reconnecting
+    → (k : ErrorKind) × IsFrameError k f answers t
+waits-frame f answers t other h = elim ((brings-frame f answers t).waits h) [ inl before ↦ absurd (other before) | inr brought ↦ brought ]
 
 -- what is no frame ends it by its own error alone
 pub ends-misread : (P : ErrorKind → Type 0) (w : Misread) (t : Talk) → P (misread_error w) → Ends P t (misread w t)

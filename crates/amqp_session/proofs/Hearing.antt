@@ -24,6 +24,7 @@ use Rattle.amqp_session.specs.Providers.{Exchange, Allows}
 use Rattle.amqp_session.specs.Asking.{paired, Answer, Asks, Hears, Starves}
 use Rattle.amqp_session.specs.Ticks.{is_due, is_missed, missing_heartbeat, heartbeat_due, beat, asks_validity, has_expired, refreshed, refresh, refresh_questions, validity_told, secret_due, secret_questions, link_due, tick, tick_questions}
 use Rattle.amqp_session.proofs.Cases.{if_case, if-true, if-false}
+use Rattle.amqp_session.proofs.Recovering.{lose-case}
 
 answers-length : (asked : List Question) (answers : List Asked) → Answer asked answers → length answers ≤ length asked
 answers-length [] [] h = omega arith
@@ -97,17 +98,24 @@ tick-heard before after t t' list list' heard h =
       talk = ap link_due (h.talk ∙ sym (ap (λ (x : Talk). secret_due h.answers (heartbeat_due x)) same));
     }
 
+-- where the link was lost, nothing is due, and nothing is asked
+lost-asks : (t : Talk) → secret_questions [] (heartbeat_due (lose MissingHeartbeatError t)) ≡ []
+lost-asks t = lose-case (λ (x : Talk). secret_questions [] (heartbeat_due x) ≡ []) MissingHeartbeatError t (λ delay. refl) refl
+
+lost-done : (t : Talk) → secret_due [] (heartbeat_due (lose MissingHeartbeatError t)) ≡ lose MissingHeartbeatError t
+lost-done t = lose-case (λ (x : Talk). secret_due [] (heartbeat_due x) ≡ x) MissingHeartbeatError t (λ delay. refl) refl
+
 -- where the server is missed, nothing is asked
 pub tick-missed : (state : Exchange → Type 0) (t : Talk) (list : List Asked) → is_missed t ≡ true
     → Hears tick tick_questions state state t (link_due (lose MissingHeartbeatError t)) list list
 tick-missed state t list missed =
     let x : Talk = lose MissingHeartbeatError t in
     let same : missing_heartbeat t ≡ x = if-true (is_missed t) x t missed in
-    let asked : tick_questions [] t ≡ [] = ap (λ (y : Talk). secret_questions [] (heartbeat_due y)) same in
+    let asked : tick_questions [] t ≡ [] = ap (λ (y : Talk). secret_questions [] (heartbeat_due y)) same ∙ lost-asks t in
     record {
       answers = [];
       asks = subst (λ (q : List Question). Asks q [] state state list list) (sym asked) (record { listed = sym (append-nil list); all = tt; allowed = λ rest h. h });
-      talk = ap link_due (sym (ap (λ (y : Talk). secret_due [] (heartbeat_due y)) same));
+      talk = ap link_due (sym (ap (λ (y : Talk). secret_due [] (heartbeat_due y)) same ∙ lost-done t));
     }
 
 pub tick-starved : (before : Exchange → Type 0) (t : Talk) (list list' : List Asked) → is_missed t ≡ false

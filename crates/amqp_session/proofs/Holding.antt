@@ -1,5 +1,5 @@
--- Promises that are answered with shared errors: these are counted, and what is held is seen as before.
-use Rattle.std.proofs.Common.{◌≡◌, ◌∙◌, ap, sym, refl, subst, ℕ, ◌+◌, ◌-◌, ◌≤◌, ◌<◌, ◌^◌, ◌==◌, ◌&&◌, arith, Bool, true, false, if◌then◌else◌, List, [], ◌∷◌, length, Option, Some, None, IsSome, option_map, unwrap_or, Result, Ok, Err, OnOk, OnErr}
+-- Promises that share errors: these are counted, and what is held is seen as before.
+use Rattle.std.proofs.Common.{◌≡◌, ◌∙◌, ap, sym, refl, subst, ℕ, ◌+◌, ◌-◌, ◌≤◌, ◌<◌, ◌^◌, ◌==◌, ◌&&◌, arith, Bool, true, false, if◌then◌else◌, List, [], ◌∷◌, length, Option, Some, None, option_map, unwrap_or, Result, Ok, Err, OnOk, OnErr}
 use Rattle.std.proofs.lemmas.Bool.Decides.{nat_tests}
 use Rattle.std.specs.Ordering.{nat_cmp}
 use Rattle.std.specs.Cmp.{nat_cmp_total}
@@ -17,9 +17,8 @@ use Rattle.amqp_session.specs.declared.shared_errors.SharedError.{SharedError}
 use Rattle.amqp_session.specs.declared.promises.Slot.{Slot}
 use Rattle.amqp_session.specs.declared.promises.Slot.TheVariants.{Place, Waiting, Answered, Shared}
 use Rattle.amqp_session.specs.Listed.{at, put, without}
-use Rattle.amqp_session.specs.Answers.{answer_in, IsRejected}
-use Rattle.amqp_session.specs.Sharing.{error_at, holders_at, holds, holds_any, AreCounted, KeepsHeld}
-use Rattle.amqp_session.specs.Parts.{slot_seen, slot_settled, shared_answer}
+use Rattle.amqp_session.specs.Sharing.{shared_at, unheld, holders_at, holds, holds_any, AreCounted, KeepsHeld}
+use Rattle.amqp_session.specs.Parts.{slot_seen}
 
 abbrev pub Slots : Type 0
 Slots = List (ℕ × Slot)
@@ -29,26 +28,29 @@ Errors = List (ℕ × SharedError)
 
 -- ---- what a slot holds
 
-one-held : (n : ℕ) → 1 ≤ holds n (Shared n)
+pub one-held : (n : ℕ) → 1 ≤ holds n (Shared n)
 one-held n = by (n == n) (grind (arith, nat_tests)) where
   by : (b : Bool) → b ≡ true → 1 ≤ (if b then 1 else 0)
   by true is = omega arith
   by false is = absurd cc
 
 -- a slot that is seen with other errors, where the one that it holds is the same
-slot-kept : (s : Slot) (errors errors' : Errors) → ((n : ℕ) → 1 ≤ holds n s → error_at n errors' ≡ error_at n errors)
+slot-kept : (s : Slot) (errors errors' : Errors) → ((n : ℕ) → 1 ≤ holds n s → shared_at n errors' ≡ shared_at n errors)
     → slot_seen errors' s ≡ slot_seen errors s
 slot-kept Place errors errors' same = refl
 slot-kept Waiting errors errors' same = refl
 slot-kept (Answered a) errors errors' same = refl
 slot-kept (Shared n) errors errors' same =
-    ap (λ (o : Option ErrorKind). option_map Some (option_map Err o)) (same n (one-held n))
+    ap (λ (o : Option (Option ErrorKind)). option_map (option_map (λ (e : ErrorKind). refused e)) o) (same n (one-held n))
+  where
+    refused : ErrorKind → Result Answer ErrorKind
+    refused e = Err e
 
 sum-more : (n : ℕ) (e : ℕ × Slot) (es : Slots) → sum_by (holds n) (values_of (e ∷ es)) ≡ holds n e.1 + sum_by (holds n) (values_of es)
 sum-more n e es = sum_by-cons (holds n) e.1 (values_of es)
 
 -- promises that are seen with other errors
-pub seen-held : (es : Slots) (errors errors' : Errors) → ((n : ℕ) → 1 ≤ sum_by (holds n) (values_of es) → error_at n errors' ≡ error_at n errors)
+pub seen-held : (es : Slots) (errors errors' : Errors) → ((n : ℕ) → 1 ≤ sum_by (holds n) (values_of es) → shared_at n errors' ≡ shared_at n errors)
     → seen (slot_seen errors') es ≡ seen (slot_seen errors) es
 seen-held [] errors errors' same = refl
 seen-held (e ∷ es) errors errors' same =
@@ -65,17 +67,17 @@ seen-kept es errors errors' counted kept =
 
 -- ---- errors that come and go
 
--- an error that comes is held by none
-pub kept-come : (number : ℕ) (e : ErrorKind) (errors errors' : Errors) → at number errors ≡ None
-    → ((n : ℕ) → error_at n errors' ≡ (if number == n then Some e else error_at n errors))
+-- what comes is held by none
+pub kept-come : (number : ℕ) (e : Option ErrorKind) (errors errors' : Errors) → at number errors ≡ None
+    → ((n : ℕ) → shared_at n errors' ≡ (if number == n then Some e else shared_at n errors))
     → ((n : ℕ) → holders_at n errors' ≡ holders_at n errors) → KeepsHeld errors errors'
 kept-come number e errors errors' fresh is holders n held = by (number == n) refl where
-  by : (b : Bool) → (number == n) ≡ b → error_at n errors' ≡ error_at n errors
+  by : (b : Bool) → (number == n) ≡ b → shared_at n errors' ≡ shared_at n errors
   by true test =
       let none : holders_at n errors ≡ 0 =
       ap (λ m. holders_at m errors) (sym (same-from number n test)) ∙ ap (λ o. unwrap_or (option_map (λ (s : SharedError). s.holders) o) 0) fresh in
       let same = holders n in absurd (omega (arith, held, none, same))
-  by false test = is n ∙ ap (λ b. if b then Some e else error_at n errors) test
+  by false test = is n ∙ ap (λ b. if b then Some e else shared_at n errors) test
 
 kept-where : {X : Type 0} (b : Bool) (held : ℕ) (x y : X) → 1 ≤ held → (if b && (held == 0) then x else y) ≡ y
 kept-where false held x y h = refl
@@ -83,11 +85,11 @@ kept-where true held x y h = let some : (held == 0) ≡ false = grind (arith, na
 
 -- an error that goes is held by none
 pub kept-gone : (number : ℕ) (errors errors' : Errors)
-    → ((n : ℕ) → error_at n errors' ≡ (if number == n && holders_at n errors == 0 then None else error_at n errors))
+    → ((n : ℕ) → shared_at n errors' ≡ (if number == n && holders_at n errors == 0 then unheld (shared_at n errors) else shared_at n errors))
     → ((n : ℕ) → holders_at n errors' ≡ holders_at n errors) → KeepsHeld errors errors'
 kept-gone number errors errors' is holders n held =
     let same = holders n in
-    is n ∙ kept-where (number == n) (holders_at n errors) None (error_at n errors) (omega (arith, held, same))
+    is n ∙ kept-where (number == n) (holders_at n errors) (unheld (shared_at n errors)) (shared_at n errors) (omega (arith, held, same))
 
 -- ---- counting
 
@@ -149,17 +151,16 @@ module _ (n : ℕ) (es es' : Slots) (errors errors' : Errors) (counted : AreCoun
       let h = holders k in let c : holders_at k errors ≡ sum k es = counted k in
       let goal : holders_at k errors' ≡ sum k es' = omega (arith, now, sums, h, c) in goal
 
-  -- a promise that waits takes its place
-  pub counted-anew : (s s' was : Slot) → at n es ≡ Some s → es' ≡ set_value (is_at (nat_cmp n)) es s' → s' ≡ Waiting → was ≡ s
-      → ((k : ℕ) → holders_at k errors' ≡ holders_at k errors - holds k was)
+  -- a promise that is made takes its place
+  pub counted-anew : (s s' was : Slot) → at n es ≡ Some s → es' ≡ set_value (is_at (nat_cmp n)) es s' → was ≡ s
+      → ((k : ℕ) → holders_at k errors' ≡ (holders_at k errors + holds k s') - holds k was)
       → AreCounted es' errors'
-  counted-anew s s' was there is waits same holders =
+  counted-anew s s' was there is same holders =
       counted-set s s' there is (λ k.
       let less = less-held n k s es errors counted there in
       let h = holders k in
-      let none : holds k s' ≡ 0 = ap (holds k) waits in
       let old : holds k was ≡ holds k s = ap (holds k) same in
-      omega (arith, less, h, none, old))
+      omega (arith, less, h, old))
 
 -- a place that is made, where memory for it may be refused
 pub counted-placed : {O E : Type 0} (r : Result O E) (n : ℕ) (es es' : Slots) (errors : Errors) → AreCounted es errors → Sorted (keys_of es) → at n es ≡ None
@@ -169,23 +170,3 @@ counted-placed (Ok old) n es es' errors counted sorted none ok err =
     (λ k. let z : holds_any k (at n es) ≡ 0 = ap (holds_any k) none in omega (arith, z))
 counted-placed (Err e) n es es' errors counted sorted none ok err =
     subst (λ (slots : Slots). AreCounted slots errors) (sym err) counted
-
--- an answer that is not shared holds none
-pub holds-settled : (k : ℕ) (answer : Result Answer ErrorKind) (s : Slot) → holds k (slot_settled answer s) ≡ holds k s
-holds-settled k answer Place = refl
-holds-settled k answer Waiting = refl
-holds-settled k answer (Answered a) = refl
-holds-settled k answer (Shared n) = refl
-
--- ---- answers that are taken
-
--- a shared error, once it is known to be kept, is an answer
-pub shared-rejects : (ended : Option (Result (Unit {0}) ErrorKind)) (n : ℕ) (errors : Errors) → IsSome (shared_answer n errors)
-    → IsRejected (answer_in ended (option_map Some (shared_answer n errors)))
-shared-rejects ended n errors kept = by (error_at n errors) kept where
-  told : ErrorKind → Result Answer ErrorKind
-  told e = Err e
-
-  by : (o : Option ErrorKind) → IsSome (option_map told o) → IsRejected (answer_in ended (option_map Some (option_map told o)))
-  by None kept = absurd cc
-  by (Some e) kept = (e, refl)

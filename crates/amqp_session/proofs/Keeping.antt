@@ -5,6 +5,7 @@ use Rattle.std.proofs.lemmas.Bool.Decides.{nat_tests}
 use Rattle.amqp_frame.specs.declared.frame.Frame.{Frame}
 use Rattle.amqp_frame.specs.declared.frame.Frame.TheVariants.{ProtocolHeader, Method, Raw, Heartbeat}
 use Rattle.amqp_frame.specs.declared.frame.RawKind.{RawKind}
+use Rattle.amqp_frame.specs.declared.frame.RawKind.TheVariants.{RawMethod}
 use Rattle.amqp_frame.specs.declared.method.Method.{Method as AnyMethod}
 use Rattle.amqp_frame.specs.declared.method.Method.TheVariants.{Start, Secure, Tune, OpenOk, Close, CloseOk, Blocked, Unblocked, UpdateSecretOk, ChannelOpenOk, ChannelClose, ChannelCloseOk, ChannelFlow, ChannelFlowOk}
 use Rattle.amqp_frame.specs.RawMethods.{OtherMethod}
@@ -33,15 +34,16 @@ use Rattle.amqp_session.specs.declared.command.Cmd.TheVariants.{OpenChannel, Clo
 use Rattle.amqp_session.specs.declared.command.Answer.{Answer as AnyAnswer}
 use Rattle.amqp_session.specs.declared.command.Answer.TheVariants.{Done}
 use Rattle.amqp_session.specs.declared.error.ErrorKind.{ErrorKind}
-use Rattle.amqp_session.specs.declared.error.ErrorKind.TheVariants.{NoMemory, IOError, MissingHeartbeatError}
+use Rattle.amqp_session.specs.declared.error.ErrorKind.TheVariants.{InvalidProtocolVersion, InvalidChannel, InvalidConnectionState, AuthProviderError, ProtocolError, NoMemory, IOError, MissingHeartbeatError}
 use Rattle.amqp_session.specs.declared.io_fault.IoFault.TheVariants.{Refused}
 use Rattle.amqp_session.specs.declared.auth.asked.Asked.{Asked as ProviderAnswer}
 use Rattle.amqp_session.specs.Talk.{Talk, has_ended, hears_on, is_open, is_open_link, is_asked, is_asked_link, is_closing, acts, end_of_link}
 use Rattle.amqp_session.specs.Changes.{Promises, present_at, queue, refuse, give_to, fail, lose, misplaced, close, finish, finish_by, starve}
-use Rattle.amqp_session.specs.Links.{dropped, lost, misread, next_delay, refused_after, link_failed}
-use Rattle.amqp_session.specs.Violations.{channel_closed_with, misread_error}
+use Rattle.amqp_session.specs.Recovery.{next_delay, recovery_delay, reconnect}
+use Rattle.amqp_session.specs.Links.{dropped, lost, misread, refused_after, link_failed}
+use Rattle.amqp_session.specs.Violations.{channel_closed_with, misread_error, stray_channel_frame, stray_connection_method, unawaited}
 use Rattle.amqp_session.specs.Handshake.{new_secret}
-use Rattle.amqp_session.specs.ConnectionMethods.{connection_rule, connection_closed, secret_taken, started, challenged}
+use Rattle.amqp_session.specs.ConnectionMethods.{connected, reopen, reopen_each, connection_rule, connection_closed, secret_taken, started, challenged}
 use Rattle.amqp_session.specs.Channels.{channel_at}
 use Rattle.amqp_session.specs.ChannelMethods.{heard_on, unawaited_channel_method, channel_opened, channel_closed, channel_flowed, channel_close_by, awaits_close_ok, remove_unless_owed, on_channel_flow, channel_rule, channel_method_by, channel_method, hand_out, confirmed, is_select_ok, pass_through, raw_by}
 use Rattle.amqp_session.specs.Frames.{is_of_a_channel, method_rule, frame_rule, closed_rule, on_frame}
@@ -53,6 +55,7 @@ use Rattle.amqp_session.specs.Negotiation.{grown_capacity}
 use Rattle.amqp_session.specs.Parts.{is_opening, capacity_after}
 use Rattle.amqp_session.proofs.Heard.{start-case, secure-case, secret-case}
 use Rattle.amqp_session.proofs.Cases.{if_case, if_by, if-true, if-false, and-true, and-false}
+use Rattle.amqp_session.proofs.Recovering.{lose-by, lose-case, lose-keeps, recovers-open}
 
 -- ---- the present
 
@@ -113,6 +116,16 @@ ended-off _ h = cc
 pub off-over : (t t' : Talk) → has_ended t' ≡ true → IsOff t.link t'.link
 off-over t t' h = let off = ended-off t'.link h in record { opened = off.0; asked = off.1; ended = λ before. h }
 
+-- where the session recovers, it had not ended, and no link is open or asked for
+pub off-reconnect : (e : ErrorKind) (t : Talk) (delay : ℕ) → recovery_delay e t ≡ Some delay → IsOff t.link (reconnect e delay t).link
+off-reconnect e t delay is =
+    record { opened = refl; asked = refl; ended = λ over. absurd (true≢false (sym (recovers-open e t delay is) ∙ (ended-off t.link over).0)) }
+
+-- a link that is lost is off
+pub off-lost : (e : ErrorKind) (t : Talk) → IsOff t.link (lose e t).link
+off-lost e t =
+    lose-by (λ (x : Talk). IsOff t.link x.link) e t (off-reconnect e t) (λ none. off-over t (fail e t) refl)
+
 pub link-then : (a b c : Talk) → LinkKept a b → LinkKept b c → LinkKept a c
 link-then a b c (inl h) (inl k) = inl (k ∙ h)
 link-then a b c (inr off) (inl k) =
@@ -139,24 +152,29 @@ pub kept-open : (t t' : Talk) → LinkKept t t' → is_open t' ≡ true → is_o
 kept-open t t' (inl same) now = ap is_open_link (sym same) ∙ now
 kept-open t t' (inr off) now = absurd (true≢false (sym now ∙ off.opened))
 
--- a rule that commits nothing, makes the capacity so much, and leaves the link as it is unless it is off
+-- a rule that commits nothing where a link is open then, makes the capacity so much, and leaves the link as it is unless
+-- it is off
 pub record Keeps (octets : ℕ) (t t' : Talk) : Type 0 where
-  pub committed : t'.committed ≡ t.committed
+  pub committed : is_open t' ≡ true → t'.committed ≡ t.committed
   pub capacity : t'.capacity ≡ octets
   pub link : LinkKept t t'
 
 pub keeps-none : (t : Talk) → Keeps t.capacity t t
-keeps-none t = record { committed = refl; capacity = refl; link = inl refl }
+keeps-none t = record { committed = λ now. refl; capacity = refl; link = inl refl }
+
+-- where no link is open
+keeps-off : (octets : ℕ) (t t' : Talk) → t'.capacity ≡ octets → IsOff t.link t'.link → Keeps octets t t'
+keeps-off octets t t' same off = record { committed = λ now. absurd (true≢false (sym now ∙ off.opened)); capacity = same; link = inr off }
 
 keeps-lose : (e : ErrorKind) (t : Talk) → Keeps t.capacity t (lose e t)
-keeps-lose e t = record { committed = refl; capacity = refl; link = inr (off-over t (lose e t) refl) }
+keeps-lose e t = keeps-off t.capacity t (lose e t) (lose-keeps (λ (x : Talk). x.capacity) e t (λ delay. refl) refl) (off-lost e t)
 
 keeps-give_to : (promise : Option ℕ) (answer : Result AnyAnswer ErrorKind) (octets : ℕ) (t u : Talk) → Keeps octets t u → Keeps octets t (give_to promise answer u)
 keeps-give_to None answer octets t u k = k
 keeps-give_to (Some n) answer octets t u k = record { committed = k.committed; capacity = k.capacity; link = k.link }
 
 keeps-close : (octets : ℕ) (t u : Talk) → Keeps octets t u → Keeps octets t (close u)
-keeps-close octets t u k = record { committed = k.committed; capacity = k.capacity; link = inr (off-over t (close u) refl) }
+keeps-close octets t u k = keeps-off octets t (close u) k.capacity (off-over t (close u) refl)
 
 -- ---- frames
 
@@ -164,20 +182,29 @@ keeps-connection-closed : (o : Option (Option ℕ)) (t : Talk) → Keeps t.capac
 keeps-connection-closed None t = keeps-close t.capacity t t (keeps-none t)
 keeps-connection-closed (Some promise) t =
     keeps-close t.capacity t _ (keeps-give_to promise (Ok Done) t.capacity t
-    (record t { outbox = answered 0 ConnectionClosed t.outbox }) (record { committed = refl; capacity = refl; link = inl refl }))
+    (record t { outbox = answered 0 ConnectionClosed t.outbox }) (record { committed = λ now. refl; capacity = refl; link = inl refl }))
 
 keeps-secret-taken : (o : Option (Option ℕ)) (t : Talk) → Keeps t.capacity t (secret_taken o t)
-keeps-secret-taken None t = keeps-lose _ t
-keeps-secret-taken (Some None) t = record { committed = refl; capacity = refl; link = inl refl }
-keeps-secret-taken (Some (Some number)) t = record { committed = refl; capacity = refl; link = inl refl }
+keeps-secret-taken None t = keeps-lose (InvalidConnectionState Connected) t
+keeps-secret-taken (Some None) t = record { committed = λ now. refl; capacity = refl; link = inl refl }
+keeps-secret-taken (Some (Some number)) t = record { committed = λ now. refl; capacity = refl; link = inl refl }
+
+-- a channel that is opened again, or goes, commits nothing
+pub keeps-reopened : (cs : List (ℕ × Channel)) (octets : ℕ) (t u : Talk) → Keeps octets t u → Keeps octets t (reopen_each cs u)
+keeps-reopened [] octets t u k = k
+keeps-reopened (c ∷ cs) octets t u k =
+    keeps-reopened cs octets t (reopen c.0 u)
+    (if_case (Keeps octets t) (nat_le c.0 u.configuration.channel_max) _ _
+    (record { committed = k.committed; capacity = k.capacity; link = k.link })
+    (record { committed = k.committed; capacity = k.capacity; link = k.link }))
 
 keeps-started : (mechanism : List ℕ) (said : Result (List ℕ) (List ℕ)) (t : Talk) → Keeps t.capacity t (started mechanism said t)
-keeps-started mechanism (Ok response) t = record { committed = refl; capacity = refl; link = inl refl }
-keeps-started mechanism (Err text) t = keeps-lose _ t
+keeps-started mechanism (Ok response) t = record { committed = λ now. refl; capacity = refl; link = inl refl }
+keeps-started mechanism (Err text) t = keeps-lose (AuthProviderError text) t
 
 keeps-challenged : (said : Result (List ℕ) (List ℕ)) (t : Talk) → Keeps t.capacity t (challenged said t)
-keeps-challenged (Ok response) t = record { committed = refl; capacity = refl; link = inl refl }
-keeps-challenged (Err text) t = keeps-lose _ t
+keeps-challenged (Ok response) t = record { committed = λ now. refl; capacity = refl; link = inl refl }
+keeps-challenged (Err text) t = keeps-lose (AuthProviderError text) t
 
 -- the capacity once a method of the connection class was read: open-ok makes it greater
 abbrev pub capacity_by : AnyMethod → ConnectionState → Phase → Talk → ℕ
@@ -185,28 +212,29 @@ capacity_by OpenOk Connecting AwaitOpenOk t = grown_capacity t
 capacity_by _ s p t = t.capacity
 
 keeps-connection : (s : ConnectionState) (p : Phase) (m : AnyMethod) (answers : List ProviderAnswer) (t : Talk) → Keeps (capacity_by m s p t) t (connection_rule s p m answers t)
-keeps-connection s p (Close code text class method) answers t = record { committed = refl; capacity = refl; link = inl refl }
-keeps-connection s p (Blocked reason) answers t = record { committed = refl; capacity = refl; link = inl refl }
-keeps-connection s p Unblocked answers t = record { committed = refl; capacity = refl; link = inl refl }
+keeps-connection s p (Close code text class method) answers t = record { committed = λ now. refl; capacity = refl; link = inl refl }
+keeps-connection s p (Blocked reason) answers t = record { committed = λ now. refl; capacity = refl; link = inl refl }
+keeps-connection s p Unblocked answers t = record { committed = λ now. refl; capacity = refl; link = inl refl }
 keeps-connection Closing p CloseOk answers t = keeps-connection-closed (awaited_promise 0 ConnectionClosed t.outbox) t
 keeps-connection Closing p m answers t = keeps-none t
 keeps-connection Connecting AwaitStart (Start a b c d e) answers t = start-case (Keeps t.capacity t) answers t (keeps-none t) (λ mechanism said. keeps-started mechanism said t)
 keeps-connection Connecting AwaitTune (Secure challenge) answers t = secure-case (Keeps t.capacity t) answers t (keeps-none t) (λ said. keeps-challenged said t)
-keeps-connection Connecting AwaitTune (Tune a b c) answers t = record { committed = refl; capacity = refl; link = inl refl }
-keeps-connection Connecting AwaitOpenOk OpenOk answers t = record { committed = refl; capacity = refl; link = inl refl }
+keeps-connection Connecting AwaitTune (Tune a b c) answers t = record { committed = λ now. refl; capacity = refl; link = inl refl }
+keeps-connection Connecting AwaitOpenOk OpenOk answers t =
+    keeps-reopened t.channels (grown_capacity t) t (connected t) (record { committed = λ now. refl; capacity = refl; link = inl refl })
 keeps-connection Connected p UpdateSecretOk answers t = keeps-secret-taken (awaited_promise 0 SecretDone t.outbox) t
-keeps-connection held p m answers t = keeps-lose _ t
+keeps-connection held p m answers t = keeps-lose (InvalidConnectionState held) t
 
 keeps-misplaced : (e : ErrorKind) (t : Talk) → Keeps t.capacity t (misplaced e t)
 keeps-misplaced e t = if_case (Keeps t.capacity t) (is_closing t.state) t (lose e t) (keeps-none t) (keeps-lose e t)
 
 keeps-unawaited : (n : ℕ) (s : ChannelState) (m : AnyMethod) (t : Talk) → Keeps t.capacity t (unawaited_channel_method n s m t)
 keeps-unawaited n channel.Closing m t = keeps-none t
-keeps-unawaited n _ m t = keeps-lose _ t
+keeps-unawaited n _ m t = keeps-lose (unawaited m n) t
 
 keeps-opened : (n : ℕ) (c : Channel) (o : Option (Option ℕ)) (t : Talk) → Keeps t.capacity t (channel_opened n c o t)
 keeps-opened n c None t = keeps-unawaited n c.state ChannelOpenOk t
-keeps-opened n c (Some promise) t = keeps-give_to promise _ t.capacity t _ (record { committed = refl; capacity = refl; link = inl refl })
+keeps-opened n c (Some promise) t = keeps-give_to promise _ t.capacity t _ (record { committed = λ now. refl; capacity = refl; link = inl refl })
 
 keeps-owed : (d : Debt) (n octets : ℕ) (t u : Talk) → Keeps octets t u → Keeps octets t (remove_unless_owed d n u)
 keeps-owed debt.Owed n octets t u k = k
@@ -214,19 +242,19 @@ keeps-owed _ n octets t u k = record { committed = k.committed; capacity = k.cap
 
 keeps-closed : (n : ℕ) (c : Channel) (o : Option (Option ℕ)) (t : Talk) → Keeps t.capacity t (channel_closed n c o t)
 keeps-closed n c None t = keeps-unawaited n c.state ChannelCloseOk t
-keeps-closed n c (Some promise) t = keeps-owed c.debt n t.capacity t _ (record { committed = refl; capacity = refl; link = inl refl })
+keeps-closed n c (Some promise) t = keeps-owed c.debt n t.capacity t _ (record { committed = λ now. refl; capacity = refl; link = inl refl })
 
 keeps-flow : (s : ChannelState) (n : ℕ) (c : Channel) (active : Bool) (t : Talk) → Keeps t.capacity t (on_channel_flow s n c active t)
 keeps-flow channel.Closing n c active t = keeps-none t
-keeps-flow _ n c active t = record { committed = refl; capacity = refl; link = inl refl }
+keeps-flow _ n c active t = record { committed = λ now. refl; capacity = refl; link = inl refl }
 
 keeps-flowed : (n : ℕ) (c : Channel) (active : Bool) (o : Option (Option ℕ)) (t : Talk) → Keeps t.capacity t (channel_flowed n c active o t)
 keeps-flowed n c active None t = keeps-unawaited n c.state (ChannelFlowOk active) t
-keeps-flowed n c active (Some promise) t = keeps-give_to promise _ t.capacity t _ (record { committed = refl; capacity = refl; link = inl refl })
+keeps-flowed n c active (Some promise) t = keeps-give_to promise _ t.capacity t _ (record { committed = λ now. refl; capacity = refl; link = inl refl })
 
 keeps-server-close : (d : Debt) (awaits : Bool) (n : ℕ) (e : ErrorKind) (c : Channel) (t : Talk) → Keeps t.capacity t (channel_close_by d awaits n e c t)
-keeps-server-close debt.Nothing false n e c t = record { committed = refl; capacity = refl; link = inl refl }
-keeps-server-close debt.Nothing true n e c t = record { committed = refl; capacity = refl; link = inl refl }
+keeps-server-close debt.Nothing false n e c t = record { committed = λ now. refl; capacity = refl; link = inl refl }
+keeps-server-close debt.Nothing true n e c t = record { committed = λ now. refl; capacity = refl; link = inl refl }
 keeps-server-close _ awaits n e c t = keeps-none t
 
 keeps-channel : (s : ConnectionState) (n : ℕ) (c : Channel) (m : AnyMethod) (t : Talk) → Keeps t.capacity t (channel_rule s n c m t)
@@ -239,17 +267,17 @@ keeps-channel _ n c (ChannelFlowOk active) t = keeps-flowed n c active (awaited_
 keeps-channel _ n c m t = keeps-unawaited n c.state m t
 
 keeps-channel-by : (o : Option Channel) (n : ℕ) (m : AnyMethod) (t : Talk) → Keeps t.capacity t (channel_method_by o n m t)
-keeps-channel-by None n m t = keeps-misplaced _ t
+keeps-channel-by None n m t = keeps-misplaced (InvalidChannel n) t
 keeps-channel-by (Some c) n m t = keeps-channel t.state n c m t
 
 keeps-pass : (n : ℕ) (c : Channel) (kind : RawKind) (bytes : List ℕ) (t : Talk) → Keeps t.capacity t (pass_through n c kind bytes t)
 keeps-pass n c kind bytes t =
     if_case (λ (x : Talk). Keeps t.capacity t (hand_out c.opened (record { channel = n; kind = kind; bytes = bytes }) x)) (is_select_ok kind bytes) (confirmed n c t) t
-    (record { committed = refl; capacity = refl; link = inl refl })
-    (record { committed = refl; capacity = refl; link = inl refl })
+    (record { committed = λ now. refl; capacity = refl; link = inl refl })
+    (record { committed = λ now. refl; capacity = refl; link = inl refl })
 
 keeps-raw : (o : Option Channel) (n : ℕ) (kind : RawKind) (bytes : List ℕ) (t : Talk) → Keeps t.capacity t (raw_by o n kind bytes t)
-keeps-raw None n kind bytes t = keeps-misplaced _ t
+keeps-raw None n kind bytes t = keeps-misplaced (InvalidChannel n) t
 keeps-raw (Some c) n kind bytes t = keeps-pass n c kind bytes t
 
 -- a method of the channel class leaves the capacity as it is
@@ -267,22 +295,22 @@ acted_capacity f t = t.capacity
 
 keeps-method : (n : ℕ) (m : AnyMethod) (answers : List ProviderAnswer) (t : Talk) → Keeps (acted_capacity (Method n m) t) t (method_rule n m answers t)
 keeps-method zero m answers t =
-    if_by (Keeps (capacity_by m t.state t.phase t) t) (is_of_a_channel m) (misplaced _ t) (connection_rule t.state t.phase m answers t)
-    (λ h. keeps-same _ t.capacity t _ (channel-capacity m t.state t.phase t h) (keeps-misplaced _ t)) (λ h. keeps-connection t.state t.phase m answers t)
+    if_by (Keeps (capacity_by m t.state t.phase t) t) (is_of_a_channel m) (misplaced (stray_channel_frame RawMethod) t) (connection_rule t.state t.phase m answers t)
+    (λ h. keeps-same _ t.capacity t _ (channel-capacity m t.state t.phase t h) (keeps-misplaced (stray_channel_frame RawMethod) t)) (λ h. keeps-connection t.state t.phase m answers t)
 keeps-method (suc n) m answers t =
-    if_case (Keeps t.capacity t) (is_of_a_channel m) (channel_method (suc n) m t) (misplaced _ t)
-    (keeps-channel-by (heard_on t.state (channel_at (suc n) t)) (suc n) m t) (keeps-misplaced _ t)
+    if_case (Keeps t.capacity t) (is_of_a_channel m) (channel_method (suc n) m t) (misplaced (stray_connection_method (suc n)) t)
+    (keeps-channel-by (heard_on t.state (channel_at (suc n) t)) (suc n) m t) (keeps-misplaced (stray_connection_method (suc n)) t)
 
 keeps-rule : (f : Frame) (answers : List ProviderAnswer) (t : Talk) → Keeps (acted_capacity f t) t (frame_rule f answers t)
-keeps-rule (ProtocolHeader version) answers t = keeps-lose _ t
+keeps-rule (ProtocolHeader version) answers t = keeps-lose (InvalidProtocolVersion version) t
 keeps-rule Heartbeat answers t = keeps-none t
 keeps-rule (Method n m) answers t = keeps-method n m answers t
-keeps-rule (Raw zero kind bytes) answers t = keeps-misplaced _ t
+keeps-rule (Raw zero kind bytes) answers t = keeps-misplaced (stray_channel_frame kind) t
 keeps-rule (Raw (suc n) kind bytes) answers t = keeps-raw (heard_on t.state (channel_at (suc n) t)) (suc n) kind bytes t
 
 keeps-closed-rule : (f : Frame) (t : Talk) → Keeps t.capacity t (closed_rule f t)
-keeps-closed-rule (Method zero (Blocked reason)) t = record { committed = refl; capacity = refl; link = inl refl }
-keeps-closed-rule (Method zero Unblocked) t = record { committed = refl; capacity = refl; link = inl refl }
+keeps-closed-rule (Method zero (Blocked reason)) t = record { committed = λ now. refl; capacity = refl; link = inl refl }
+keeps-closed-rule (Method zero Unblocked) t = record { committed = λ now. refl; capacity = refl; link = inl refl }
 keeps-closed-rule f t = keeps-none t
 
 -- it is greater exactly where the frame opens the connection
@@ -306,13 +334,13 @@ keeps-frame f answers t =
     (λ idle. keeps-same _ t.capacity t _ (sym (frame-capacity false f t idle))
     (if_case (Keeps t.capacity t) (hears_on t) (closed_rule f t) t (keeps-closed-rule f t) (keeps-none t)))
 
-connected : (s : ConnectionState) → is_connected s ≡ true → s ≡ Connected
-connected Connected h = refl
-connected _ h = cc
+is-connected : (s : ConnectionState) → is_connected s ≡ true → s ≡ Connected
+is-connected Connected h = refl
+is-connected _ h = cc
 
 -- heartbeats are exchanged only while the connection is open
 pub beats-connected : (t : Talk) → is_due t ≡ true → t.state ≡ Connected
-beats-connected t due = connected t.state (both-left (is_connected t.state) _ (both-left (beats t) _ due))
+beats-connected t due = is-connected t.state (both-left (is_connected t.state) _ (both-left (beats t) _ due))
   where
     both-left : (a b : Bool) → (a && b) ≡ true → a ≡ true
     both-left true b h = refl
@@ -325,7 +353,7 @@ keeps-refreshed (Err text) t x before = record { committed = before.committed; c
 keeps-beat : (t : Talk) → Keeps t.capacity t (beat t)
 keeps-beat t =
     let x : Talk = missing_heartbeat t in
-    let before : Keeps t.capacity t x = if_case (Keeps t.capacity t) (is_missed t) (lose MissingHeartbeatError t) t (keeps-lose _ t) (keeps-none t) in
+    let before : Keeps t.capacity t x = if_case (Keeps t.capacity t) (is_missed t) (lose MissingHeartbeatError t) t (keeps-lose MissingHeartbeatError t) (keeps-none t) in
     if_case (Keeps t.capacity t) (is_due x) (record (queue 0 Heartbeat x) { last_write = x.present }) x
     (record { committed = before.committed; capacity = before.capacity; link = before.link }) before
 
@@ -365,20 +393,25 @@ pub keeps-tick : (answers : List ProviderAnswer) (t : Talk) → Keeps t.capacity
 keeps-tick answers t =
     let x : Talk = timed answers t in
     let k : Keeps t.capacity t x = keeps-timed answers t in
-    record { committed = k.committed; capacity = k.capacity; link = link-then t x (link_due x) k.link (due-link x) }
+    record {
+      committed = λ now. k.committed (kept-open x (link_due x) (due-link x) now);
+      capacity = k.capacity;
+      link = link-then t x (link_due x) k.link (due-link x);
+    }
 
--- a frame that is read commits nothing
-pub frame-committed : (f : Frame) (answers : List ProviderAnswer) (at : ℕ) (t : Talk) → (on_frame f answers (present_at at t)).committed ≡ t.committed
-frame-committed f answers at t = (keeps-frame f answers (present_at at t)).committed ∙ present-keeps (λ x. x.committed) at t (λ n. refl)
+-- a frame that is read commits nothing, while the link stays open
+pub frame-committed : (f : Frame) (answers : List ProviderAnswer) (at : ℕ) (t : Talk) → is_open (on_frame f answers (present_at at t)) ≡ true
+    → (on_frame f answers (present_at at t)).committed ≡ t.committed
+frame-committed f answers at t now = (keeps-frame f answers (present_at at t)).committed now ∙ present-keeps (λ x. x.committed) at t (λ n. refl)
 
 pub keeps-misread : (why : Misread) (t : Talk) → Keeps t.capacity t (misread why t)
 keeps-misread why t =
     if_case (Keeps t.capacity t) (acts t) (lose (misread_error why) t) (if is_open t then record t { input = dropped t.input } else t)
-    (keeps-lose _ t)
-    (if_case (Keeps t.capacity t) (is_open t) (record t { input = dropped t.input }) t (record { committed = refl; capacity = refl; link = inl refl }) (keeps-none t))
+    (keeps-lose (misread_error why) t)
+    (if_case (Keeps t.capacity t) (is_open t) (record t { input = dropped t.input }) t (record { committed = λ now. refl; capacity = refl; link = inl refl }) (keeps-none t))
 
-pub misread-committed : (why : Misread) (at : ℕ) (t : Talk) → (misread why (present_at at t)).committed ≡ t.committed
-misread-committed why at t = (keeps-misread why (present_at at t)).committed ∙ present-keeps (λ x. x.committed) at t (λ n. refl)
+pub misread-committed : (why : Misread) (at : ℕ) (t : Talk) → is_open (misread why (present_at at t)) ≡ true → (misread why (present_at at t)).committed ≡ t.committed
+misread-committed why at t now = (keeps-misread why (present_at at t)).committed now ∙ present-keeps (λ x. x.committed) at t (λ n. refl)
 
 -- ---- commands
 
@@ -460,9 +493,33 @@ OverlooksEnds f =
     (t : Talk) (s : ConnectionState) (l : Link ErrorKind) (cs : List (ℕ × Channel)) (ps : Promises)
     → f (record t { state = s; link = l; channels = cs; promises = ps }) ≡ f t
 
+-- the same, and at none of what changes where a link is lost and the session goes on
+abbrev pub OverlooksLosses : {A : Type 0} → (Talk → A) → Type 0
+OverlooksLosses f =
+    (t : Talk) (s : ConnectionState) (l : Link ErrorKind) (cs : List (ℕ × Channel)) (ps : Promises)
+    (b : Bool) (q : Queued) (ms : List Mark) (n : ℕ) (o : Option ServerClose)
+    → f (record t {
+      state = s;
+      link = l;
+      channels = cs;
+      promises = ps;
+      blocked = b;
+      outbox = q;
+      committed = ms;
+      tried = n;
+      server_close = o;
+    }) ≡ f t
+
+pub overlooks-ends : {A : Type 0} (f : Talk → A) → OverlooksLosses f → OverlooksEnds f
+overlooks-ends f h t s l cs ps = h t s l cs ps t.blocked t.outbox t.committed t.tried t.server_close
+
+-- a link that is lost leaves it as it was
+pub loss-keeps : {A : Type 0} (f : Talk → A) → OverlooksLosses f → (e : ErrorKind) (t : Talk) → f (lose e t) ≡ f t
+loss-keeps f h e t = lose-keeps f e t (λ delay. h t _ _ _ _ _ _ _ _ _) (overlooks-ends f h t _ _ _ _)
+
 -- the same of what writing changes, and of a moment
 pub record Overlooks {A : Type 0} (f : Talk → A) : Type 0 where
-  pub ends : OverlooksEnds f
+  pub ends : OverlooksLosses f
   pub writes : (t : Talk) (w : ℕ) (ms : List Mark) → f (record t { last_write = w; committed = ms }) ≡ f t
   pub moments : (t : Talk) (n : ℕ) → f (record t { present = n }) ≡ f t
 
@@ -476,48 +533,46 @@ refreshed-keeps f k (Ok secret) t = k t _ t.last_write t.secret_at true
 refreshed-keeps f k (Err text) t = k t t.outbox t.last_write t.present t.refreshing
 
 -- a tick leaves it as it was, where it overlooks all that
-pub tick-keeps : {A : Type 0} (f : Talk → A) → OverlooksEnds f → OverlooksTicks f → (answers : List ProviderAnswer) (t : Talk) → f (tick answers t) ≡ f t
+pub tick-keeps : {A : Type 0} (f : Talk → A) → OverlooksLosses f → OverlooksTicks f → (answers : List ProviderAnswer) (t : Talk) → f (tick answers t) ≡ f t
 tick-keeps f h k answers t =
     let x : Talk = missing_heartbeat t in
     let y : Talk = timed answers t in
-    h y y.state (link_at y.present y.link) y.channels y.promises
+    overlooks-ends f h y y.state (link_at y.present y.link) y.channels y.promises
     ∙ secret-case (λ (y : Talk). f y ≡ f (beat t)) answers (beat t) refl (λ asks said. refreshed-keeps f k said (beat t))
     ∙ if_case (λ (y : Talk). f y ≡ f x) (is_due x) (record (queue 0 Heartbeat x) { last_write = x.present }) x (k x _ _ x.secret_at x.refreshing) refl
-    ∙ if_case (λ (y : Talk). f y ≡ f t) (is_missed t) (lose MissingHeartbeatError t) t (h t _ _ _ _) refl
+    ∙ if_case (λ (y : Talk). f y ≡ f t) (is_missed t) (lose MissingHeartbeatError t) t (loss-keeps f h MissingHeartbeatError t) refl
 
-finish-keeps : {A : Type 0} (f : Talk → A) → OverlooksEnds f → (o : Option ServerClose) (t : Talk) → f (finish_by o t) ≡ f t
-finish-keeps f h None t = h t _ _ _ _
-finish-keeps f h (Some WithoutError) t = h t _ _ _ _
-finish-keeps f h (Some (WithError e)) t = h t _ _ _ _
+finish-keeps : {A : Type 0} (f : Talk → A) → OverlooksLosses f → (o : Option ServerClose) (t : Talk) → f (finish_by o t) ≡ f t
+finish-keeps f h None t = overlooks-ends f h t _ _ _ _
+finish-keeps f h (Some WithoutError) t = overlooks-ends f h t _ _ _ _
+finish-keeps f h (Some (WithError e)) t = loss-keeps f h (ProtocolError e) t
 
 -- a lost link leaves it as it was
-pub lost-keeps : {A : Type 0} (f : Talk → A) → OverlooksEnds f → (fault : IoFault) (t : Talk) → f (lost fault t) ≡ f t
+pub lost-keeps : {A : Type 0} (f : Talk → A) → OverlooksLosses f → (fault : IoFault) (t : Talk) → f (lost fault t) ≡ f t
 lost-keeps f h fault t =
     if_case (λ (x : Talk). f x ≡ f t) (acts t) (lose (IOError fault) t) (if is_open t then finish t else t)
-    (h t _ _ _ _)
+    (loss-keeps f h (IOError fault) t)
     (if_case (λ (x : Talk). f x ≡ f t) (is_open t) (finish t) t (finish-keeps f h t.server_close t) refl)
 
-pub finish-ends : (o : Option ServerClose) (t : Talk) → has_ended (finish_by o t) ≡ true
-finish-ends None t = refl
-finish-ends (Some WithoutError) t = refl
-finish-ends (Some (WithError e)) t = refl
+-- after the server's close the link is off
+pub off-finish : (o : Option ServerClose) (t : Talk) → IsOff t.link (finish_by o t).link
+off-finish None t = off-over t (close t) refl
+off-finish (Some WithoutError) t = off-over t (close t) refl
+off-finish (Some (WithError e)) t = off-lost (ProtocolError e) t
 
--- a link that is lost ends the session, where there is one
-pub lost-stays : (fault : IoFault) (t : Talk) → (lost fault t ≡ t) ⊎ (has_ended (lost fault t) ≡ true)
-lost-stays fault t =
-    if_case (λ (x : Talk). (x ≡ t) ⊎ (has_ended x ≡ true)) (acts t) (lose (IOError fault) t) (if is_open t then finish t else t)
-    (inr refl)
-    (if_case (λ (x : Talk). (x ≡ t) ⊎ (has_ended x ≡ true)) (is_open t) (finish t) t (inr (finish-ends t.server_close t)) (inl refl))
+-- a link that is lost is off, where there is one
+pub lost-off : (fault : IoFault) (t : Talk) → (lost fault t ≡ t) ⊎ IsOff t.link (lost fault t).link
+lost-off fault t =
+    if_case (λ (x : Talk). (x ≡ t) ⊎ IsOff t.link x.link) (acts t) (lose (IOError fault) t) (if is_open t then finish t else t)
+    (inr (off-lost (IOError fault) t))
+    (if_case (λ (x : Talk). (x ≡ t) ⊎ IsOff t.link x.link) (is_open t) (finish t) t (inr (off-finish t.server_close t)) (inl refl))
 
 -- a tick leaves the link, or ends the session
 pub tick-stays : (answers : List ProviderAnswer) (t : Talk) → has_ended t ≡ true → has_ended (tick answers t) ≡ true
 tick-stays answers t h = kept-ended t (tick answers t) (keeps-tick answers t).link h
 
 pub lost-link : (fault : IoFault) (t : Talk) → LinkKept t (lost fault t)
-lost-link fault t =
-    if_case (LinkKept t) (acts t) (lose (IOError fault) t) (if is_open t then finish t else t)
-    (inr (off-over t (lose (IOError fault) t) refl))
-    (if_case (LinkKept t) (is_open t) (finish t) t (inr (off-over t (finish t) (finish-ends t.server_close t))) (inl refl))
+lost-link fault t = elim (lost-off fault t) [ inl same ↦ inl (ap (λ (x : Talk). x.link) same) | inr off ↦ inr off ]
 
 -- a refused link waits for its delay, or the session ends
 refused-link : (delay : Option ℕ) (t : Talk) → is_asked t ≡ true → LinkKept t (refused_after delay t)
@@ -561,17 +616,24 @@ pay-keeps f h (Some c) n t = by (awaits_close_ok n t)
     by true = h t _
     by false = h t _
 
-pub follow-keeps : {A : Type 0} (f : Talk → A) → OverlooksEnds f → (th : Then) (t : Talk) → f (follow th t) ≡ f t
+pub follow-keeps : {A : Type 0} (f : Talk → A) → OverlooksLosses f → (th : Then) (t : Talk) → f (follow th t) ≡ f t
 follow-keeps f h Nothing t = refl
-follow-keeps f h (Answer n) t = h t t.state t.link t.channels _
-follow-keeps f h (Pays n) t = pay-keeps f (λ u cs. h u u.state u.link cs u.promises) (channel_at n t) n t
+follow-keeps f h (Answer n) t = overlooks-ends f h t t.state t.link t.channels _
+follow-keeps f h (Pays n) t = pay-keeps f (λ u cs. overlooks-ends f h u u.state u.link cs u.promises) (channel_at n t) n t
 follow-keeps f h Finish t = finish-keeps f h t.server_close t
+
+-- what does not look at what an end changes is as it was, or the link is off
+pub follow-open : {A : Type 0} (f : Talk → A) → OverlooksEnds f → (th : Then) (t : Talk) → (f (follow th t) ≡ f t) ⊎ (is_open (follow th t) ≡ false)
+follow-open f h Nothing t = inl refl
+follow-open f h (Answer n) t = inl (h t t.state t.link t.channels _)
+follow-open f h (Pays n) t = inl (pay-keeps f (λ u cs. h u u.state u.link cs u.promises) (channel_at n t) n t)
+follow-open f h Finish t = inr (off-finish t.server_close t).opened
 
 pub follow-link : (th : Then) (t : Talk) → LinkKept t (follow th t)
 follow-link Nothing t = inl refl
 follow-link (Answer n) t = inl refl
 follow-link (Pays n) t = inl (pay-keeps (λ (x : Talk). x.link) (λ u cs. refl) (channel_at n t) n t)
-follow-link Finish t = inr (off-over t (finish t) (finish-ends t.server_close t))
+follow-link Finish t = inr (off-finish t.server_close t)
 
 sent_among-keeps : {A : Type 0} (f : Talk → A) → Overlooks f → (ms : List Mark) (n : ℕ) (t : Talk) → f (sent_among ms n t) ≡ f t
 sent_among-keeps f h [] n t = refl
@@ -596,7 +658,7 @@ sent_among-link (m ∷ ms) n t =
     (inl refl))
     (inl refl)
 
-sent_among-closed : (ms : List Mark) (n : ℕ) (t : Talk) → is_open t ≡ false → sent_among ms n t ≡ t
+pub sent_among-closed : (ms : List Mark) (n : ℕ) (t : Talk) → is_open t ≡ false → sent_among ms n t ≡ t
 sent_among-closed [] n t h = refl
 sent_among-closed (m ∷ ms) n t h = if-false (is_open t) _ t h
 
@@ -621,15 +683,22 @@ module _ (m : Mark) (ms : List Mark) (n : ℕ) (t : Talk)
   outer false k opened =
       let shut : is_open (sent_among (m ∷ ms) n t) ≡ false = ap is_open (sent_among-closed (m ∷ ms) n t k) ∙ k in absurd cc
 
+-- once the first frame was sent, where the link is still open
+sent-on : (m : Mark) (ms : List Mark) (n : ℕ) (t : Talk) → t.committed ≡ m ∷ ms
+    → ((sent m t).committed ≡ ms → is_open (sent_among ms n (sent m t)) ≡ true → (sent_among ms n (sent m t)).committed ≡ left_after ms n)
+    → is_open (sent_among ms n (sent m t)) ≡ true → (sent_among ms n (sent m t)).committed ≡ left_after ms n
+sent-on m ms n t h on now =
+    elim (follow-open (λ (x : Talk). x.committed) (λ t s l cs ps. refl) m.then (record t { committed = drop 1 t.committed })) [
+      | inl same ↦ on (same ∙ ap (drop 1) h) now
+      | inr shut ↦ absurd (true≢false (sym now ∙ ap is_open (sent_among-closed ms n (sent m t) shut) ∙ shut))
+    ]
+
 -- while the link is open, the frames whose last byte was taken are no longer committed
 pub sent_among-committed : (ms : List Mark) (n : ℕ) (t : Talk) → t.committed ≡ ms → is_open (sent_among ms n t) ≡ true
     → (sent_among ms n t).committed ≡ left_after ms n
 sent_among-committed [] n t h opened = h
 sent_among-committed (m ∷ ms) n t h opened =
-    outer m ms n t
-    (sent_among-committed ms (n - m.left) (sent m t)
-    (follow-keeps (λ (x : Talk). x.committed) (λ t s l cs ps. refl) m.then (record t { committed = drop 1 t.committed }) ∙ ap (drop 1) h))
-    (is_open t) refl opened
+    outer m ms n t (sent-on m ms (n - m.left) t h (sent_among-committed ms (n - m.left) (sent m t))) (is_open t) refl opened
 
 pub taken-keeps : {A : Type 0} (f : Talk → A) → Overlooks f → (n : ℕ) (t : Talk) → f (taken n t) ≡ f t
 taken-keeps f h n t =

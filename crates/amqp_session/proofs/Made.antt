@@ -17,7 +17,7 @@ use Rattle.amqp_session.proofs.Numbered.{put-same}
 use Rattle.amqp_session.proofs.Truths.{append-none}
 
 -- what is added to a list that stays as it is
-none-added : {A : Type 0} (xs ys : List A) → xs ++ ys ≡ xs → ys ≡ []
+pub none-added : {A : Type 0} (xs ys : List A) → xs ++ ys ≡ xs → ys ≡ []
 none-added xs ys h = append_cancel_left xs ys [] (h ∙ sym (append-none xs))
 
 -- frames of which one is handed out more

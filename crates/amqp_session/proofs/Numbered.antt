@@ -34,6 +34,13 @@ pub is_other : (k n : ℕ) → n ≢ k → is_at (nat_cmp k) n ≡ false
 is_other k n ne = other (nat_cmp k n) k n refl (λ e. ne (sym e))
 
 module _ {X : Type 0} where
+  -- what stands first is there, and no other number
+  pub at-first : (n : ℕ) (x : X) (es : List (ℕ × X)) → at n ((n, x) ∷ es) ≡ Some x
+  at-first n x es = ap (λ o. cond (is_eq o) (Some x) (at n es)) (itself n)
+
+  pub at-later : (m n : ℕ) (x : X) (es : List (ℕ × X)) → m ≢ n → at m ((n, x) ∷ es) ≡ at m es
+  at-later m n x es ne = ap (λ b. cond b (Some x) (at m es)) (other (nat_cmp m n) m n refl ne)
+
   pub put-same-by : (o : Ordering) (n : ℕ) (x : X) (e : ℕ × X) (es : List (ℕ × X)) → nat_cmp n e.0 ≡ o → at n (put n x es) ≡ Some x
       → at n (match_ordering o ((n, x) ∷ e ∷ es) ((e.0, x) ∷ es) (e ∷ put n x es)) ≡ Some x
   put-same-by Less n x e es h rest = ap (λ o. cond (is_eq o) (Some x) (at n (e ∷ es))) (itself n)

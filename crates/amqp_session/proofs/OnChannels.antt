@@ -3,8 +3,10 @@ use Rattle.std.proofs.Common.{◌≡◌, ◌≢◌, ◌<◌, ◌≤◌, ℕ, zer
 use Rattle.std.proofs.lemmas.Bool.{cases_eq}
 use Rattle.std.proofs.lemmas.Bool.Decides.{nat_tests}
 use Rattle.std.specs.Map.{keys_of}
-use Rattle.std.specs.Prelude.{find}
+use Rattle.std.specs.Prelude.{find, filter, cond}
 use Rattle.std.specs.List.{AllByRecursion, range_with_len}
+use Rattle.std.specs.BTreeMap.{is_at}
+use Rattle.std.specs.Ordering.{nat_cmp}
 use Rattle.amqp_frame.specs.declared.frame.Frame.TheVariants.{Method, Raw}
 use Rattle.amqp_frame.specs.declared.frame.RawKind.TheVariants.{RawMethod}
 use Rattle.amqp_frame.specs.declared.method.Method.{Method as AnyMethod}
@@ -20,18 +22,19 @@ use Rattle.amqp_session.specs.declared.channels.Debt.TheVariants.{Nothing, Owed,
 use Rattle.amqp_session.specs.declared.state.ChannelState.{ChannelState}
 use Rattle.amqp_session.specs.declared.state.ChannelState.TheVariants as channel
 use Rattle.amqp_session.specs.Handshake.{channel_open, our_channel_close}
-use Rattle.amqp_session.specs.Listed.{at, put, without, has}
+use Rattle.amqp_session.specs.Listed.{at, put, without, has, map_values}
 use Rattle.amqp_session.specs.Numbering.{first_number, cycle, drawn}
 use Rattle.amqp_session.specs.Channels.{new_channel, closing}
+use Rattle.amqp_session.specs.Recovery.{is_kept_in, reconnecting, kept}
 use Rattle.amqp_session.specs.Octets.{class_in}
 use Rattle.amqp_session.specs.Decider.{Speech, Usage, Shut, InUse, Left, OpenSaid, Content, MethodSaid, say, say_open, say_use, say_close, now_on}
 use Rattle.amqp_session.specs.Legal.{IsPassedThrough}
 use Rattle.amqp_session.proofs.Truths.{same-number, other-number, append-none}
 use Rattle.amqp_session.proofs.Sayable.{IsComplete, say-on, say-raw}
 use Rattle.amqp_session.specs.Sound.{AscendFrom, Ascend}
-use Rattle.amqp_session.proofs.Ascending.{put-from, without-from, without-ascends, at-gone, none-below}
-use Rattle.amqp_session.proofs.Numbered.{put-same, put-other, without-other}
-use Rattle.amqp_session.proofs.Ties.{is_tied, tied_on, owing, TiesClosing, TiesState, TiesOn, TiesChannels}
+use Rattle.amqp_session.proofs.Ascending.{ascend-below, put-from, without-from, without-ascends, at-gone, none-below, map_values-from, filter-from}
+use Rattle.amqp_session.proofs.Numbered.{at-first, at-later, put-same, put-other, without-other}
+use Rattle.amqp_session.proofs.Ties.{is_tied, tied_on, owing, TiesClosing, TiesState, TiesOn, TiesChannels, IsKept}
 use Rattle.amqp_session.proofs.Expecting.{expected-same, expected-other, expected-ascend, answered-other, answered-ascend, none-awaited, one-answered, first-by-test, one-awaited, untied-answered, gone-same, gone-other}
 
 -- the awaited replies, by channel
@@ -43,7 +46,7 @@ Listed = List (ℕ × Channel)
 
 -- ---- what changes on one channel
 
-above-zero : (n : ℕ) → n ≢ 0 → 0 < n
+pub above-zero : (n : ℕ) → n ≢ 0 → 0 < n
 above-zero zero some = absurd (some refl)
 above-zero (suc n) some = omega arith
 
@@ -146,10 +149,13 @@ ties-of n cs ws due v c s listed is h =
     subst R is (subst Q listed (h.each n))
 
 -- it is no channel 0
-pub listed-some : (n : ℕ) (cs : Listed) (ws : Replies) (due : ℕ → ℕ) (v : Speech) (c : Channel) → at n cs ≡ Some c → TiesChannels cs ws due v → n ≢ 0
-listed-some n cs ws due v c listed h is = clash (at 0 cs) c (none-below 0 cs h.sorted) (ap (λ k. at k cs) (sym is) ∙ listed) where
+pub never-zero : (n : ℕ) (cs : Listed) (c : Channel) → at n cs ≡ Some c → AscendFrom 0 (keys_of cs) → n ≢ 0
+never-zero n cs c listed sorted is = clash (at 0 cs) c (none-below 0 cs sorted) (ap (λ k. at k cs) (sym is) ∙ listed) where
   clash : (o : Option Channel) (c : Channel) → o ≡ None → o ≡ Some c → ⊥
   clash o c g k = cc
+
+pub listed-some : (n : ℕ) (cs : Listed) (ws : Replies) (due : ℕ → ℕ) (v : Speech) (c : Channel) → at n cs ≡ Some c → TiesChannels cs ws due v → n ≢ 0
+listed-some n cs ws due v c listed h = never-zero n cs c listed h.sorted
 
 -- an open one is in use
 pub used-open : (n : ℕ) (cs : Listed) (ws : Replies) (due : ℕ → ℕ) (v : Speech) (c : Channel) → at n cs ≡ Some c → c.state ≡ channel.Connected → TiesChannels cs ws due v
@@ -173,6 +179,14 @@ owing-by c d is = sym (debt-owing c (record c { debt = d }) (sym is))
 
 -- ---- what is told
 
+-- the opening of a channel that is not in use may be said
+say-opening : (n : ℕ) (v : Speech) → n ≢ 0 → v.stage ≡ OpenSaid → IsComplete v.content → v.usage n ≢ InUse → say (channel_open n) v ≡ Some (now_on n InUse v)
+say-opening n v some speaking complete unused =
+    let k = above n some in
+    let said : say (Method n ChannelOpen) v ≡ say_open (v.usage n) n v =
+    (let Q : ℕ → Type 0 = λ i. say (Method i ChannelOpen) v ≡ say_open (v.usage i) i v in subst Q (sym k.1) (say-on k.0 ChannelOpen v speaking complete)) in
+    said ∙ open-free (v.usage n) n v unused
+
 -- the channel of a number that is not listed is opened
 pub record Opens (n : ℕ) (cs : Listed) (ws : Replies) (due : ℕ → ℕ) (v : Speech) (number : ℕ) : Type 0 where
   pub may : say (channel_open n) v ≡ Some (now_on n InUse v)
@@ -183,12 +197,9 @@ on-open n cs ws due v number some absent h =
     let c : Channel = new_channel number in
     let a : Awaited = record { reply = ChannelOpened; promise = Some number } in
     let ties : TiesOn None (tied_on n ws) (v.usage n) = (let Q : Option Channel → Type 0 = λ o. TiesOn o (tied_on n ws) (v.usage n) in subst Q absent (h.each n)) in
-    let k = above n some in
-    let said : say (Method n ChannelOpen) v ≡ say_open (v.usage n) n v =
-    (let Q : ℕ → Type 0 = λ i. say (Method i ChannelOpen) v ≡ say_open (v.usage i) i v in subst Q (sym k.1) (say-on k.0 ChannelOpen v h.speaking h.complete)) in
     let replies : tied_on n (expected n a ws) ≡ ChannelOpened ∷ [] = expected-same n a ws ∙ ap (λ rs. rs ++ ChannelOpened ∷ []) ties.0 in
     record {
-      may = said ∙ open-free (v.usage n) n v ties.1;
+      may = say-opening n v some h.speaking h.complete ties.1;
       ties =
           on-change n cs (put n c cs) ws (expected n a ws) due due v (now_on n InUse v) h h.speaking tt
           (ties-as (Some c) (at n (put n c cs)) (ChannelOpened ∷ []) (tied_on n (expected n a ws)) InUse ((now_on n InUse v).usage n)
@@ -324,17 +335,23 @@ opened-closing Paid n ws u a sorted first h = opened-not-closed n ws a sorted fi
 opened-state : (s : ChannelState) (d : Debt) (n : ℕ) (ws : Replies) (u : Usage) (a : Awaited) → Ascend (keys_of ws) → first_awaited n ChannelOpened ws ≡ Some a
     → TiesState s d (tied_on n ws) u → (tied_on n (answered n ChannelOpened ws) ≡ []) × (u ≡ InUse) × (d ≡ Nothing)
 opened-state channel.Initial d n ws u a sorted first h = ((one-answered n ChannelOpened ChannelOpened ws a refl sorted first h.0).none, h.1, h.2)
+opened-state channel.Reconnecting d n ws u a sorted first h = ((one-answered n ChannelOpened ChannelOpened ws a refl sorted first h.0).none, h.1, h.2)
 opened-state channel.Connected d n ws u a sorted first h = absurd (none-awaited n ChannelOpened ws a refl first h.0)
 opened-state channel.Closing d n ws u a sorted first h = absurd (opened-closing d n ws u a sorted first h)
 opened-state _ d n ws u a sorted first h = absurd h
+
+-- where open-ok is awaited alone, close-ok is not
+closed-not-opened : (n : ℕ) (ws : Replies) (a : Awaited) → Ascend (keys_of ws) → first_awaited n ChannelClosed ws ≡ Some a → tied_on n ws ≡ ChannelOpened ∷ [] → ⊥
+closed-not-opened n ws a sorted first h = differ (one-answered n ChannelClosed ChannelOpened ws a refl sorted first h).same where
+  differ : method_of ChannelOpened ≡ method_of ChannelClosed → ⊥
+  differ k = omega (arith, k)
 
 closed-state : (s : ChannelState) (d : Debt) (n : ℕ) (ws : Replies) (u : Usage) (a : Awaited) → Ascend (keys_of ws) → first_awaited n ChannelClosed ws ≡ Some a
     → TiesState s d (tied_on n ws) u → (s ≡ channel.Closing) × TiesClosing d (tied_on n ws) u
 closed-state channel.Closing d n ws u a sorted first h = (refl, h)
 closed-state channel.Connected d n ws u a sorted first h = absurd (none-awaited n ChannelClosed ws a refl first h.0)
-closed-state channel.Initial d n ws u a sorted first h = absurd (differ (one-answered n ChannelClosed ChannelOpened ws a refl sorted first h.0).same) where
-  differ : method_of ChannelOpened ≡ method_of ChannelClosed → ⊥
-  differ k = omega (arith, k)
+closed-state channel.Initial d n ws u a sorted first h = absurd (closed-not-opened n ws a sorted first h.0)
+closed-state channel.Reconnecting d n ws u a sorted first h = absurd (closed-not-opened n ws a sorted first h.0)
 closed-state _ d n ws u a sorted first h = absurd h
 
 pub on-opened : (n : ℕ) (cs : Listed) (ws : Replies) (due : ℕ → ℕ) (v : Speech) (c : Channel) (a : Awaited) → at n cs ≡ Some c → first_awaited n ChannelOpened ws ≡ Some a
@@ -440,6 +457,7 @@ used-state : (s : ChannelState) (d : Debt) (n : ℕ) (q : Queued) (u : Usage) �
     → TiesState s d (tied_on n q.awaited) u → u ≡ InUse
 used-state channel.Initial d n q u is none h = h.1
 used-state channel.Connected d n q u is none h = h.1
+used-state channel.Reconnecting d n q u is none h = h.1
 used-state channel.Closing d n q u is none h =
     let Q : Debt → Type 0 = λ x. TiesClosing x (tied_on n q.awaited) u in absurd (not-awaited n q none (subst Q is h).0)
 used-state _ d n q u is none h = absurd h
@@ -530,6 +548,7 @@ one-due n k cs ws due v c listed owed h =
     in_state channel.Closing ties = (refl, ties)
     in_state channel.Initial ties = absurd cc
     in_state channel.Connected ties = absurd cc
+    in_state channel.Reconnecting ties = absurd cc
     in_state _ ties = absurd ties
 
     by : (d : Debt) → c.debt ≡ d → owing (Some c) ≡ suc k → TiesState c.state c.debt (tied_on n ws) (v.usage n) → (k ≡ 0) × IsOwed n ws v c
@@ -621,3 +640,192 @@ drawn-free channel_max cursor cs n h =
     absent : (o : Option Channel) → not (is_some o) ≡ true → o ≡ None
     absent None h = refl
     absent (Some c) h = cc
+
+-- ---- channels that were kept over the loss of a link
+
+-- one that is still to be opened again is not used, and nothing is awaited on it; another number is tied
+abbrev pub TiesPending : Option Channel → Option Channel → List Reply → Usage → Type 0
+TiesPending None o replies u = TiesOn o replies u
+TiesPending (Some c) o replies u = (o ≡ Some c) × IsKept (Some c) × (replies ≡ []) × (u ≢ InUse)
+
+-- while they are opened again, with those that are still to be
+pub record Reopening (pending cs : Listed) (ws : Replies) (due : ℕ → ℕ) (v : Speech) : Type 0 where
+  pub speaking : v.stage ≡ OpenSaid
+  pub complete : IsComplete v.content
+  pub sorted : AscendFrom 0 (keys_of cs)
+  pub pending_sorted : AscendFrom 0 (keys_of pending)
+  pub awaited_sorted : Ascend (keys_of ws)
+  pub each : (n : ℕ) → TiesPending (at n pending) (at n cs) (tied_on n ws) (v.usage n)
+  pub owes : (n : ℕ) → due n ≡ owing (at n cs)
+
+-- all of them were
+pub all-reopened : (cs : Listed) (ws : Replies) (due : ℕ → ℕ) (v : Speech) → Reopening [] cs ws due v → TiesChannels cs ws due v
+all-reopened cs ws due v h =
+    record { speaking = h.speaking; complete = h.complete; sorted = h.sorted; awaited_sorted = h.awaited_sorted; each = h.each; owes = h.owes }
+
+kept-owes : (o : Option Channel) → IsKept o → owing o ≡ 0
+kept-owes None h = refl
+kept-owes (Some c) h = owing-by c Nothing h.1
+
+-- the connection is open, and none was yet
+pub none-reopened : (cs : Listed) (due : ℕ → ℕ) (v : Speech) → v.stage ≡ OpenSaid → IsComplete v.content → ((n : ℕ) → v.usage n ≢ InUse) → AscendFrom 0 (keys_of cs)
+    → ((n : ℕ) → IsKept (at n cs)) → ((n : ℕ) → due n ≡ 0) → Reopening cs cs [] due v
+none-reopened cs due v speaking complete unused sorted kept none =
+    record {
+      speaking = speaking;
+      complete = complete;
+      sorted = sorted;
+      pending_sorted = sorted;
+      awaited_sorted = tt;
+      each = λ n. by n (at n cs) (kept n);
+      owes = λ n. none n ∙ sym (kept-owes (at n cs) (kept n));
+    }
+  where
+    by : (n : ℕ) (o : Option Channel) → IsKept o → TiesPending o o [] (v.usage n)
+    by n None h = (refl, unused n)
+    by n (Some c) h = (refl, h, refl, unused n)
+
+-- the first of those that are still to be opened again
+pub record IsNext (n : ℕ) (c : Channel) (pending cs : Listed) (ws : Replies) (v : Speech) : Type 0 where
+  pub not_zero : n ≢ 0
+  pub listed : at n cs ≡ Some c
+  pub kept : IsKept (Some c)
+  pub awaited : tied_on n ws ≡ []
+  pub unused : v.usage n ≢ InUse
+  -- it is not among the others
+  pub absent : at n pending ≡ None
+  pub others : (m : ℕ) → m ≢ n → at m ((n, c) ∷ pending) ≡ at m pending
+  pub others_sorted : AscendFrom 0 (keys_of pending)
+
+next-of : (n : ℕ) (c : Channel) (pending cs : Listed) (ws : Replies) (due : ℕ → ℕ) (v : Speech) → Reopening ((n, c) ∷ pending) cs ws due v → IsNext n c pending cs ws v
+next-of n c pending cs ws due v h =
+    let Q : Option Channel → Type 0 = λ o. TiesPending o (at n cs) (tied_on n ws) (v.usage n) in
+    let k : TiesPending (Some c) (at n cs) (tied_on n ws) (v.usage n) = subst Q (at-first n c pending) (h.each n) in
+    let low : 0 < n = h.pending_sorted.0 in
+    record {
+      not_zero = λ is. absurd (omega (arith, low, is));
+      listed = k.0;
+      kept = k.1;
+      awaited = k.2;
+      unused = k.3;
+      absent = none-below n pending h.pending_sorted.1;
+      others = λ m ne. at-later m n c pending ne;
+      others_sorted = ascend-below 0 n (keys_of pending) (omega arith) h.pending_sorted.1;
+    }
+
+pending-as : (p p' o o' : Option Channel) (rs rs' : List Reply) (u u' : Usage) → p' ≡ p → o' ≡ o → rs' ≡ rs → u' ≡ u → TiesPending p o rs u → TiesPending p' o' rs' u'
+pending-as p p' o o' rs rs' u u' hp ho hr hu h =
+    let A : Option Channel → Type 0 = λ x. TiesPending x o rs u in
+    let B : Option Channel → Type 0 = λ x. TiesPending p' x rs u in
+    let C : List Reply → Type 0 = λ x. TiesPending p' o' x u in
+    let D : Usage → Type 0 = λ x. TiesPending p' o' rs' x in
+    subst D (sym hu) (subst C (sym hr) (subst B (sym ho) (subst A (sym hp) h)))
+
+-- it is no longer pending
+no-longer : (n : ℕ) (c : Channel) (pending cs cs' : Listed) (ws ws' : Replies) (due : ℕ → ℕ) (v v' : Speech) → Reopening ((n, c) ∷ pending) cs ws due v → IsNext n c pending cs ws v
+    → v'.stage ≡ OpenSaid → IsComplete v'.content → TiesOn (at n cs') (tied_on n ws') (v'.usage n) → due n ≡ owing (at n cs') → Others n cs cs' ws ws' due due v v'
+    → Reopening pending cs' ws' due v'
+no-longer n c pending cs cs' ws ws' due v v' h first speaking complete here owed others =
+    let P : Option Channel → Type 0 = λ o. TiesPending o (at n cs') (tied_on n ws') (v'.usage n) in
+    let own : P (at n pending) = subst P (sym first.absent) here in
+    record {
+      speaking = speaking;
+      complete = complete;
+      sorted = others.sorted;
+      pending_sorted = first.others_sorted;
+      awaited_sorted = others.awaited_sorted;
+      each = λ m.
+          (let Q : ℕ → Type 0 = λ k. TiesPending (at k pending) (at k cs') (tied_on k ws') (v'.usage k) in
+          elim (cases_eq m n) [
+            | inl is ↦ subst Q (sym is) own
+            | inr ne ↦
+                pending-as (at m ((n, c) ∷ pending)) (at m pending) (at m cs) (at m cs') (tied_on m ws) (tied_on m ws') (v.usage m) (v'.usage m)
+                (sym (first.others m ne)) (others.listed m ne) (others.awaited m ne) (others.used m ne) (h.each m)
+          ]);
+      owes = λ m.
+          (let Q : ℕ → Type 0 = λ k. due k ≡ owing (at k cs') in
+          elim (cases_eq m n) [
+            | inl is ↦ subst Q (sym is) owed
+            | inr ne ↦ h.owes m ∙ ap owing (sym (others.listed m ne))
+          ]);
+    }
+
+-- it is opened again
+pub record Reopens (n : ℕ) (pending cs : Listed) (ws : Replies) (due : ℕ → ℕ) (v : Speech) : Type 0 where
+  pub may : say (channel_open n) v ≡ Some (now_on n InUse v)
+  pub ties : Reopening pending cs (expected n (record { reply = ChannelOpened; promise = None }) ws) due (now_on n InUse v)
+
+pub on-reopened : (n : ℕ) (c : Channel) (pending cs : Listed) (ws : Replies) (due : ℕ → ℕ) (v : Speech) → Reopening ((n, c) ∷ pending) cs ws due v → Reopens n pending cs ws due v
+on-reopened n c pending cs ws due v h =
+    let first = next-of n c pending cs ws due v h in
+    let a : Awaited = record { reply = ChannelOpened; promise = None } in
+    let replies : tied_on n (expected n a ws) ≡ ChannelOpened ∷ [] = expected-same n a ws ∙ ap (λ rs. rs ++ ChannelOpened ∷ []) first.awaited in
+    let here : TiesState c.state c.debt (ChannelOpened ∷ []) InUse =
+    (let Q : ChannelState → Type 0 = λ s. TiesState s c.debt (ChannelOpened ∷ []) InUse in subst Q (sym first.kept.0) (refl, refl, first.kept.1)) in
+    record {
+      may = say-opening n v first.not_zero h.speaking h.complete first.unused;
+      ties =
+          no-longer n c pending cs cs ws (expected n a ws) due v (now_on n InUse v) h first h.speaking tt
+          (ties-as (Some c) (at n cs) (ChannelOpened ∷ []) (tied_on n (expected n a ws)) InUse ((now_on n InUse v).usage n)
+          first.listed replies (used-same n InUse v) here)
+          (h.owes n)
+          (record {
+            sorted = h.sorted;
+            awaited_sorted = expected-ascend n a ws h.awaited_sorted;
+            listed = λ m ne. refl;
+            awaited = λ m ne. expected-other m n a ws ne;
+            owed = λ m ne. refl;
+            used = λ m ne. used-other n InUse v m ne;
+          });
+    }
+
+-- its number is no longer agreed, and it goes
+pub on-passed : (n : ℕ) (c : Channel) (pending cs : Listed) (ws : Replies) (due : ℕ → ℕ) (v : Speech) → Reopening ((n, c) ∷ pending) cs ws due v
+    → Reopening pending (without n cs) ws due v
+on-passed n c pending cs ws due v h =
+    let first = next-of n c pending cs ws due v h in
+    let gone : at n (without n cs) ≡ None = at-gone n cs (ascends cs h.sorted) in
+    no-longer n c pending cs (without n cs) ws ws due v v h first h.speaking h.complete
+    (ties-as None (at n (without n cs)) [] (tied_on n ws) (v.usage n) (v.usage n) gone first.awaited refl (refl, first.unused))
+    (h.owes n ∙ ap owing first.listed ∙ kept-owes (Some c) first.kept ∙ ap owing (sym gone))
+    (record {
+      sorted = without-from n 0 cs h.sorted;
+      awaited_sorted = h.awaited_sorted;
+      listed = λ m ne. without-other m n cs ne;
+      awaited = λ m ne. refl;
+      owed = λ m ne. refl;
+      used = λ m ne. refl;
+    })
+
+-- as many close-oks are on their way
+pub reopening-due : (pending cs : Listed) (ws : Replies) (due due' : ℕ → ℕ) (v : Speech) → ((n : ℕ) → due' n ≡ due n) → Reopening pending cs ws due v
+    → Reopening pending cs ws due' v
+reopening-due pending cs ws due due' v same h =
+    record {
+      speaking = h.speaking;
+      complete = h.complete;
+      sorted = h.sorted;
+      pending_sorted = h.pending_sorted;
+      awaited_sorted = h.awaited_sorted;
+      each = h.each;
+      owes = λ n. same n ∙ h.owes n;
+    }
+
+-- ---- a link is lost
+
+-- the channels that are kept stand in their order
+pub kept-from : (cs : Listed) → AscendFrom 0 (keys_of cs) → AscendFrom 0 (keys_of (kept cs))
+kept-from cs s = map_values-from reconnecting 0 (filter (λ e. is_kept_in (e.1).state) cs) (filter-from (λ e. is_kept_in (e.1).state) 0 cs s)
+
+-- and are to be opened again
+pub all-kept : (n : ℕ) (cs : Listed) → IsKept (at n (kept cs))
+all-kept n [] = tt
+all-kept n (e ∷ cs) = by (is_kept_in (e.1).state) (all-kept n cs) where
+  here : (b : Bool) → IsKept (at n (kept cs)) → IsKept (cond b (Some (reconnecting e.1)) (at n (kept cs)))
+  here true rest = (refl, refl)
+  here false rest = rest
+
+  by : (b : Bool) → IsKept (at n (kept cs))
+      → IsKept (at n (map_values reconnecting (cond b (e ∷ filter (λ e. is_kept_in (e.1).state) cs) (filter (λ e. is_kept_in (e.1).state) cs))))
+  by true rest = here (is_at (nat_cmp n) e.0) rest
+  by false rest = rest

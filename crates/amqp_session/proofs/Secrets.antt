@@ -1,10 +1,11 @@
 -- When a new secret is asked for, and from which moment one is valid.
-use Rattle.std.proofs.Common.{◌≡◌, inl, inr, ◌-◌, ℕ, zero, suc, ◌&&◌, not, nat_le, Bool, true, false, if◌then◌else◌, List, [], ◌∷◌, Option, Some, None, Result, Ok, Err, is_some, All, Contains, refl, sym, ◌∙◌, arith}
+use Rattle.std.proofs.Common.{◌≡◌, inl, inr, ◌-◌, ℕ, zero, suc, ◌&&◌, not, nat_le, Bool, true, false, if◌then◌else◌, List, [], ◌∷◌, Option, Some, None, Result, Ok, Err, is_some, All, Contains, refl, ap, sym, ◌∙◌, arith}
 use Rattle.std.proofs.lemmas.Bool.Decides.{nat_tests}
 use Rattle.std.proofs.lemmas.List.Elements.{All-nil, All-cons, All-contains}
 use Rattle.amqp_frame.specs.declared.frame.Frame.{Frame}
 use Rattle.amqp_frame.specs.declared.frame.Frame.TheVariants.{ProtocolHeader, Method, Raw, Heartbeat}
 use Rattle.amqp_frame.specs.declared.frame.RawKind.{RawKind}
+use Rattle.amqp_frame.specs.declared.frame.RawKind.TheVariants.{RawMethod}
 use Rattle.amqp_frame.specs.declared.method.Method.{Method as AnyMethod}
 use Rattle.amqp_frame.specs.declared.method.Method.TheVariants.{Start, Secure, Tune, OpenOk, Close, CloseOk, Blocked, Unblocked, UpdateSecretOk, ChannelOpenOk, ChannelClose, ChannelCloseOk, ChannelFlow, ChannelFlowOk}
 use Rattle.amqp_frame.specs.RawMethods.{OtherMethod}
@@ -24,7 +25,7 @@ use Rattle.amqp_session.specs.declared.command.Cmd.{Cmd}
 use Rattle.amqp_session.specs.declared.command.Cmd.TheVariants.{OpenChannel, CloseChannel, CloseConnection, UpdateSecret, Send, Publish, Flow, DropChannel, DropConnection}
 use Rattle.amqp_session.specs.declared.misread.Misread.{Misread}
 use Rattle.amqp_session.specs.declared.error.ErrorKind.{ErrorKind}
-use Rattle.amqp_session.specs.declared.error.ErrorKind.TheVariants.{NoMemory, MissingHeartbeatError}
+use Rattle.amqp_session.specs.declared.error.ErrorKind.TheVariants.{InvalidChannel, InvalidConnectionState, NoMemory, MissingHeartbeatError}
 use Rattle.amqp_session.specs.declared.auth.asked.Question.{Question}
 use Rattle.amqp_session.specs.declared.auth.asked.Question.TheVariants as question
 use Rattle.amqp_session.specs.declared.auth.asked.Asked.{Asked}
@@ -34,8 +35,8 @@ use Rattle.amqp_session.specs.Channels.{channel_at}
 use Rattle.amqp_session.specs.Changes.{queue, lose, misplaced, fail}
 use Rattle.amqp_session.specs.Links.{dropped, linked, misread}
 use Rattle.amqp_session.specs.Handshake.{new_secret}
-use Rattle.amqp_session.specs.Violations.{channel_closed_with, misread_error}
-use Rattle.amqp_session.specs.ConnectionMethods.{connection_rule, connection_closed, secret_taken, started, challenged}
+use Rattle.amqp_session.specs.Violations.{channel_closed_with, misread_error, stray_channel_frame, stray_connection_method, unawaited}
+use Rattle.amqp_session.specs.ConnectionMethods.{connected, connection_rule, connection_closed, secret_taken, started, challenged}
 use Rattle.amqp_session.specs.ChannelMethods.{heard_on, unawaited_channel_method, channel_opened, channel_closed, channel_flowed, channel_close_by, awaits_close_ok, remove_unless_owed, on_channel_flow, channel_rule, channel_method_by, channel_method, confirmed, is_select_ok, raw_by}
 use Rattle.amqp_session.specs.Frames.{is_of_a_channel, method_rule, frame_rule, closed_rule, on_frame}
 use Rattle.amqp_session.specs.Publishing.{method_frame, publish_frames}
@@ -43,17 +44,38 @@ use Rattle.amqp_session.specs.Commands.{open_drawn, close_target, drop_target, f
 use Rattle.amqp_session.specs.Ticks.{is_connected, is_missed, is_due, missing_heartbeat, beat, asks_validity, has_expired, refresh, validity_told, tick, refresh_questions, secret_questions, tick_questions}
 use Rattle.amqp_session.specs.Writing.{next_within, committed_as, commit, overlong, end_overlong, next_frame}
 use Rattle.amqp_session.specs.Answers.{answer_of}
-use Rattle.amqp_session.specs.Secrets.{HasExpired, may_renew, refuses, IsSameSecret, IsSameOrNew, KeepsSecret}
+use Rattle.amqp_session.specs.Parts.{awaits_open_ok}
+use Rattle.amqp_session.specs.Secrets.{HasExpired, is_refresh, renews, refuses, IsSameSecret, IsSameOrNew, KeepsSecret}
 use Rattle.amqp_session.proofs.Heard.{start-case, secure-case}
-use Rattle.amqp_session.proofs.Keeping.{present-keeps, lost-keeps, failed-keeps, taken-keeps}
-use Rattle.amqp_session.proofs.Cases.{if_case, if_by}
+use Rattle.amqp_session.proofs.Keeping.{present-keeps, loss-keeps, lost-keeps, failed-keeps, taken-keeps}
+use Rattle.amqp_session.proofs.Cases.{if_case, if_by, if-false}
+use Rattle.amqp_session.proofs.Recovering.{lose-case, reopened-keeps}
 
 -- ---- frames
 
-secret-taken : (o : Option (Option ℕ)) (t : Talk) → IsSameOrNew true t (secret_taken o t)
-secret-taken None t = inl refl
-secret-taken (Some None) t = inr (refl, refl)
-secret-taken (Some (Some number)) t = inl refl
+-- where a link is lost, the secret is valid from the same moment as before
+lose-secret : (e : ErrorKind) (t : Talk) → IsSameSecret t (lose e t)
+lose-secret e t = loss-keeps (λ (x : Talk). x.secret_at) (λ x s l cs ps b q ms n o. refl) e t
+
+-- where a secret is new it is valid from now on, and else from the same moment as before
+abbrev IsSecretBy : Bool → Talk → Talk → Type 0
+IsSecretBy renewed t t' = t'.secret_at ≡ (if renewed then t.present else t.secret_at)
+
+-- a method of the connection class from which on a secret is valid
+abbrev renews_by : AnyMethod → ConnectionState → Phase → Talk → Bool
+renews_by OpenOk s p t = awaits_open_ok s p
+renews_by UpdateSecretOk s p t = is_connected s && is_refresh (awaited_promise 0 SecretDone t.outbox)
+renews_by m s p t = false
+
+renews-method : (m : AnyMethod) (t : Talk) → renews_by m t.state t.phase t ≡ renews (Method 0 m) t
+renews-method OpenOk t = refl
+renews-method UpdateSecretOk t = refl
+renews-method _ t = refl
+
+secret-taken : (o : Option (Option ℕ)) (t : Talk) → IsSecretBy (is_refresh o) t (secret_taken o t)
+secret-taken None t = lose-secret (InvalidConnectionState Connected) t
+secret-taken (Some None) t = refl
+secret-taken (Some (Some number)) t = refl
 
 connection-closed-secret : (o : Option (Option ℕ)) (t : Talk) → IsSameSecret t (connection_closed o t)
 connection-closed-secret None t = refl
@@ -67,25 +89,25 @@ challenged-secret : (said : Result (List ℕ) (List ℕ)) (t : Talk) → IsSameS
 challenged-secret (Ok response) t = refl
 challenged-secret (Err text) t = refl
 
-connection-secret : (s : ConnectionState) (p : Phase) (m : AnyMethod) (answers : List Asked) (t : Talk) → IsSameOrNew (may_renew (Method 0 m)) t (connection_rule s p m answers t)
-connection-secret s p (Close code text class method) answers t = inl refl
-connection-secret s p (Blocked reason) answers t = inl refl
-connection-secret s p Unblocked answers t = inl refl
-connection-secret Closing p CloseOk answers t = inl (connection-closed-secret (awaited_promise 0 ConnectionClosed t.outbox) t)
-connection-secret Closing p m answers t = inl refl
-connection-secret Connecting AwaitStart (Start a b c d e) answers t = inl (start-case (IsSameSecret t) answers t refl (λ mechanism said. started-secret mechanism said t))
-connection-secret Connecting AwaitTune (Secure challenge) answers t = inl (secure-case (IsSameSecret t) answers t refl (λ said. challenged-secret said t))
-connection-secret Connecting AwaitTune (Tune a b c) answers t = inl refl
-connection-secret Connecting AwaitOpenOk OpenOk answers t = inr (refl, refl)
+connection-secret : (s : ConnectionState) (p : Phase) (m : AnyMethod) (answers : List Asked) (t : Talk) → IsSecretBy (renews_by m s p t) t (connection_rule s p m answers t)
+connection-secret s p (Close code text class method) answers t = refl
+connection-secret s p (Blocked reason) answers t = refl
+connection-secret s p Unblocked answers t = refl
+connection-secret Closing p CloseOk answers t = connection-closed-secret (awaited_promise 0 ConnectionClosed t.outbox) t
+connection-secret Closing p m answers t = refl
+connection-secret Connecting AwaitStart (Start a b c d e) answers t = start-case (IsSameSecret t) answers t refl (λ mechanism said. started-secret mechanism said t)
+connection-secret Connecting AwaitTune (Secure challenge) answers t = secure-case (IsSameSecret t) answers t refl (λ said. challenged-secret said t)
+connection-secret Connecting AwaitTune (Tune a b c) answers t = refl
+connection-secret Connecting AwaitOpenOk OpenOk answers t = reopened-keeps (λ (x : Talk). x.secret_at) (λ x q cs. refl) t.channels (connected t)
 connection-secret Connected p UpdateSecretOk answers t = secret-taken (awaited_promise 0 SecretDone t.outbox) t
-connection-secret held p m answers t = inl refl
+connection-secret held p m answers t = lose-secret (InvalidConnectionState held) t
 
 misplaced-secret : (e : ErrorKind) (t : Talk) → IsSameSecret t (misplaced e t)
-misplaced-secret e t = if_case (IsSameSecret t) (is_closing t.state) t (lose e t) refl refl
+misplaced-secret e t = if_case (IsSameSecret t) (is_closing t.state) t (lose e t) refl (lose-secret e t)
 
 unawaited-secret : (n : ℕ) (s : ChannelState) (m : AnyMethod) (t : Talk) → IsSameSecret t (unawaited_channel_method n s m t)
 unawaited-secret n channel.Closing m t = refl
-unawaited-secret n _ m t = refl
+unawaited-secret n _ m t = lose-secret (unawaited m n) t
 
 opened-secret : (n : ℕ) (c : Channel) (o : Option (Option ℕ)) (t : Talk) → IsSameSecret t (channel_opened n c o t)
 opened-secret n c None t = unawaited-secret n c.state ChannelOpenOk t
@@ -122,37 +144,51 @@ channel-secret _ n c (ChannelFlowOk active) t = flowed-secret n c active (awaite
 channel-secret _ n c m t = unawaited-secret n c.state m t
 
 channel-by-secret : (o : Option Channel) (n : ℕ) (m : AnyMethod) (t : Talk) → IsSameSecret t (channel_method_by o n m t)
-channel-by-secret None n m t = misplaced-secret _ t
+channel-by-secret None n m t = misplaced-secret (InvalidChannel n) t
 channel-by-secret (Some c) n m t = channel-secret t.state n c m t
 
 raw-secret : (o : Option Channel) (n : ℕ) (kind : RawKind) (bytes : List ℕ) (t : Talk) → IsSameSecret t (raw_by o n kind bytes t)
-raw-secret None n kind bytes t = misplaced-secret _ t
+raw-secret None n kind bytes t = misplaced-secret (InvalidChannel n) t
 raw-secret (Some c) n kind bytes t = if_case (IsSameSecret t) (is_select_ok kind bytes) (confirmed n c t) t refl refl
 
-method-secret : (n : ℕ) (m : AnyMethod) (answers : List Asked) (t : Talk) → IsSameOrNew (may_renew (Method n m)) t (method_rule n m answers t)
-method-secret zero m answers t =
-    if_case (IsSameOrNew (may_renew (Method 0 m)) t) (is_of_a_channel m) (misplaced _ t) (connection_rule t.state t.phase m answers t)
-    (inl (misplaced-secret _ t)) (connection-secret t.state t.phase m answers t)
-method-secret (suc n) m answers t =
-    inl (if_case (IsSameSecret t) (is_of_a_channel m) (channel_method (suc n) m t) (misplaced _ t)
-    (channel-by-secret (heard_on t.state (channel_at (suc n) t)) (suc n) m t) (misplaced-secret _ t))
+-- a method of the channel class makes no secret valid
+channel-renews : (m : AnyMethod) (s : ConnectionState) (p : Phase) (t : Talk) → is_of_a_channel m ≡ true → renews_by m s p t ≡ false
+channel-renews OpenOk s p t h = cc
+channel-renews UpdateSecretOk s p t h = cc
+channel-renews _ s p t h = refl
 
-rule-secret : (f : Frame) (answers : List Asked) (t : Talk) → IsSameOrNew (may_renew f) t (frame_rule f answers t)
-rule-secret (ProtocolHeader version) answers t = inl refl
-rule-secret Heartbeat answers t = inl refl
+secret-same : (b : Bool) (t x : Talk) → b ≡ false → IsSameSecret t x → IsSecretBy b t x
+secret-same b t x h same = same ∙ sym (if-false b t.present t.secret_at h)
+
+method-secret : (n : ℕ) (m : AnyMethod) (answers : List Asked) (t : Talk) → IsSecretBy (renews (Method n m) t) t (method_rule n m answers t)
+method-secret zero m answers t =
+    let by : IsSecretBy (renews_by m t.state t.phase t) t (method_rule 0 m answers t) =
+    if_by (IsSecretBy (renews_by m t.state t.phase t) t) (is_of_a_channel m) (misplaced (stray_channel_frame RawMethod) t) (connection_rule t.state t.phase m answers t)
+    (λ h. secret-same (renews_by m t.state t.phase t) t (misplaced (stray_channel_frame RawMethod) t) (channel-renews m t.state t.phase t h) (misplaced-secret (stray_channel_frame RawMethod) t))
+    (λ h. connection-secret t.state t.phase m answers t) in
+    by ∙ ap (λ (b : Bool). if b then t.present else t.secret_at) (renews-method m t)
+method-secret (suc n) m answers t =
+    if_case (IsSameSecret t) (is_of_a_channel m) (channel_method (suc n) m t) (misplaced (stray_connection_method (suc n)) t)
+    (channel-by-secret (heard_on t.state (channel_at (suc n) t)) (suc n) m t) (misplaced-secret (stray_connection_method (suc n)) t)
+
+rule-secret : (f : Frame) (answers : List Asked) (t : Talk) → IsSecretBy (renews f t) t (frame_rule f answers t)
+rule-secret (ProtocolHeader version) answers t = refl
+rule-secret Heartbeat answers t = refl
 rule-secret (Method n m) answers t = method-secret n m answers t
-rule-secret (Raw zero kind bytes) answers t = inl (misplaced-secret _ t)
-rule-secret (Raw (suc n) kind bytes) answers t = inl (raw-secret (heard_on t.state (channel_at (suc n) t)) (suc n) kind bytes t)
+rule-secret (Raw zero kind bytes) answers t = misplaced-secret (stray_channel_frame kind) t
+rule-secret (Raw (suc n) kind bytes) answers t = raw-secret (heard_on t.state (channel_at (suc n) t)) (suc n) kind bytes t
 
 closed-rule-secret : (f : Frame) (t : Talk) → IsSameSecret t (closed_rule f t)
 closed-rule-secret (Method zero (Blocked reason)) t = refl
 closed-rule-secret (Method zero Unblocked) t = refl
 closed-rule-secret f t = refl
 
-frame-secret : (f : Frame) (answers : List Asked) (t : Talk) → IsSameOrNew (may_renew f) t (on_frame f answers t)
-frame-secret f answers t =
-    if_case (IsSameOrNew (may_renew f) t) (acts t) (frame_rule f answers t) (if hears_on t then closed_rule f t else t)
-    (rule-secret f answers t) (inl (if_case (IsSameSecret t) (hears_on t) (closed_rule f t) t (closed-rule-secret f t) refl))
+frame-secret : (f : Frame) (answers : List Asked) (t : Talk) → IsSecretBy (acts t && renews f t) t (on_frame f answers t)
+frame-secret f answers t = by (acts t)
+  where
+    by : (b : Bool) → IsSecretBy (b && renews f t) t (if b then frame_rule f answers t else if hears_on t then closed_rule f t else t)
+    by true = rule-secret f answers t
+    by false = if_case (IsSameSecret t) (hears_on t) (closed_rule f t) t (closed-rule-secret f t) refl
 
 -- ---- ticks
 
@@ -176,8 +212,8 @@ told-secret _ t = inl refl
 tick-secret : (answers : List Asked) (t : Talk) → IsSameOrNew (refuses answers) t (tick answers t)
 tick-secret answers t =
     let x : Talk = beat t in
-    let secret : x.secret_at ≡ t.secret_at = beat-keeps (λ (y : Talk). y.secret_at) t (λ e y. refl) (λ y. refl) in
-    let present : x.present ≡ t.present = beat-keeps (λ (y : Talk). y.present) t (λ e y. refl) (λ y. refl) in
+    let secret : x.secret_at ≡ t.secret_at = beat-keeps (λ (y : Talk). y.secret_at) t lose-secret (λ y. refl) in
+    let present : x.present ≡ t.present = beat-keeps (λ (y : Talk). y.present) t (loss-keeps (λ (y : Talk). y.present) (λ x s l cs ps b q ms n o. refl)) (λ y. refl) in
     elim (if_case (IsSameOrNew (refuses answers) x) (asks_validity x) (validity_told answers x) x (told-secret answers x) (inl refl)) [
       | inl same ↦ inl (same ∙ secret)
       | inr new ↦ inr (new.0, new.1 ∙ present)
@@ -251,7 +287,7 @@ next-secret space t = overlong-secret (overlong t) (commit space t) ∙ committe
 
 misread-secret : (why : Misread) (t : Talk) → IsSameSecret t (misread why t)
 misread-secret why t =
-    if_case (IsSameSecret t) (acts t) (lose (misread_error why) t) (if is_open t then record t { input = dropped t.input } else t) refl
+    if_case (IsSameSecret t) (acts t) (lose (misread_error why) t) (if is_open t then record t { input = dropped t.input } else t) (lose-secret (misread_error why) t)
     (if_case (IsSameSecret t) (is_open t) (record t { input = dropped t.input }) t refl refl)
 
 linked-secret : (t : Talk) → IsSameSecret t (linked t)
@@ -267,9 +303,9 @@ keeps-secret t = record {
   link_failed = failed-keeps (λ (x : Talk). x.secret_at) (λ x s l cs ps. refl) (λ x n. refl) t;
   piece = if_case (IsSameSecret t) (is_open t) (record t { last_read = t.present }) t refl refl;
   misread = λ why. misread-secret why t;
-  lost = λ fault. lost-keeps (λ (x : Talk). x.secret_at) (λ x s l cs ps. refl) fault t;
+  lost = λ fault. lost-keeps (λ (x : Talk). x.secret_at) (λ x s l cs ps b q ms n o. refl) fault t;
   next_frame = λ space. next-secret space t;
-  taken = λ n. taken-keeps (λ (x : Talk). x.secret_at) (record { ends = λ x s l cs ps. refl; writes = λ x w ms. refl; moments = λ x n. refl }) n t;
+  taken = λ n. taken-keeps (λ (x : Talk). x.secret_at) (record { ends = λ x s l cs ps b q ms n o. refl; writes = λ x w ms. refl; moments = λ x n. refl }) n t;
   starve = if_case (IsSameSecret t) (has_ended t) t (fail NoMemory t) refl refl;
   command = λ cmd. command-secret t.state cmd t;
   answer = λ number. if_case (IsSameSecret t) (is_some (answer_of number t)) _ t refl refl;
@@ -288,7 +324,7 @@ beat-connected : (t : Talk) → (beat t).state ≡ Connected → t.state ≡ Con
 beat-connected t h =
     let x : Talk = missing_heartbeat t in
     let due : (beat t).state ≡ x.state = if_case (λ (y : Talk). y.state ≡ x.state) (is_due x) (record (queue 0 Heartbeat x) { last_write = x.present }) x refl refl in
-    if_case (λ (y : Talk). y.state ≡ Connected → t.state ≡ Connected) (is_missed t) (lose MissingHeartbeatError t) t (λ over. cc) (λ same. same) (sym due ∙ h)
+    if_case (λ (y : Talk). y.state ≡ Connected → t.state ≡ Connected) (is_missed t) (lose MissingHeartbeatError t) t (lose-case (λ (y : Talk). y.state ≡ Connected → t.state ≡ Connected) MissingHeartbeatError t (λ delay on. cc) (λ over. cc)) (λ same. same) (sym due ∙ h)
 
 -- each question for a new secret is one where the secret has expired
 abbrev AsksWhenExpired : List Asked → Talk → Question → Type 0
@@ -319,9 +355,9 @@ pub asks-expired : (answers : List Asked) (t : Talk) → Contains (tick_question
 asks-expired answers t h =
     let x : Talk = beat t in
     let e : HasExpired answers x = All-contains (AsksWhenExpired answers x) (tick_questions answers t) question.Refresh (asks-by answers x) h refl in
-    let secret : x.secret_at ≡ t.secret_at = beat-keeps (λ (y : Talk). y.secret_at) t (λ e y. refl) (λ y. refl) in
-    let present : x.present ≡ t.present = beat-keeps (λ (y : Talk). y.present) t (λ e y. refl) (λ y. refl) in
-    let refreshing : x.refreshing ≡ t.refreshing = beat-keeps (λ (y : Talk). y.refreshing) t (λ e y. refl) (λ y. refl) in
+    let secret : x.secret_at ≡ t.secret_at = beat-keeps (λ (y : Talk). y.secret_at) t lose-secret (λ y. refl) in
+    let present : x.present ≡ t.present = beat-keeps (λ (y : Talk). y.present) t (loss-keeps (λ (y : Talk). y.present) (λ x s l cs ps b q ms n o. refl)) (λ y. refl) in
+    let refreshing : x.refreshing ≡ t.refreshing = beat-keeps (λ (y : Talk). y.refreshing) t (loss-keeps (λ (y : Talk). y.refreshing) (λ x s l cs ps b q ms n o. refl)) (λ y. refl) in
     record {
       opened = beat-connected t e.opened;
       idle = sym refreshing ∙ e.idle;

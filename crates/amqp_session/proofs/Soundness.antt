@@ -11,6 +11,7 @@ use Rattle.std.specs.Map.{keys_of}
 use Rattle.amqp_frame.specs.declared.frame.Frame.{Frame}
 use Rattle.amqp_frame.specs.declared.frame.Frame.TheVariants.{ProtocolHeader, Method, Raw, Heartbeat}
 use Rattle.amqp_frame.specs.declared.frame.RawKind.{RawKind}
+use Rattle.amqp_frame.specs.declared.frame.RawKind.TheVariants.{RawMethod}
 use Rattle.amqp_frame.specs.declared.method.Method.{Method as AnyMethod}
 use Rattle.amqp_frame.specs.declared.method.Method.TheVariants.{Start, Secure, Tune, OpenOk, Close, CloseOk, Blocked, Unblocked, UpdateSecretOk, ChannelOpenOk, ChannelClose, ChannelCloseOk, ChannelFlow, ChannelFlowOk}
 use Rattle.amqp_frame.specs.RawMethods.{OtherMethod}
@@ -25,7 +26,7 @@ use Rattle.amqp_session.specs.declared.committed.Mark.{Mark}
 use Rattle.amqp_session.specs.declared.committed.Then.{Then}
 use Rattle.amqp_session.specs.declared.committed.Then.TheVariants.{Nothing, Answer, Pays, Finish}
 use Rattle.amqp_session.specs.declared.state.ConnectionState.{ConnectionState}
-use Rattle.amqp_session.specs.declared.state.ConnectionState.TheVariants.{Initial, Connecting, Connected, Closing, Closed, Error}
+use Rattle.amqp_session.specs.declared.state.ConnectionState.TheVariants.{Initial, Reconnecting, Connecting, Connected, Closing, Closed, Error}
 use Rattle.amqp_session.specs.declared.state.ChannelState.{ChannelState}
 use Rattle.amqp_session.specs.declared.state.ChannelState.TheVariants as channel
 use Rattle.amqp_session.specs.declared.state.Phase.{Phase}
@@ -33,6 +34,7 @@ use Rattle.amqp_session.specs.declared.state.Phase.TheVariants.{AwaitStart, Awai
 use Rattle.amqp_session.specs.declared.state.Link.{Link}
 use Rattle.amqp_session.specs.declared.state.Link.TheVariants.{Due, Wanted, Asked, Open, Ended}
 use Rattle.amqp_session.specs.declared.io_fault.IoFault.{IoFault}
+use Rattle.amqp_session.specs.declared.io_fault.IoFault.TheVariants.{Refused}
 use Rattle.amqp_session.specs.declared.configuration.Configuration.{Configuration}
 use Rattle.amqp_session.specs.declared.server_close.ServerClose.{ServerClose}
 use Rattle.amqp_session.specs.declared.server_close.ServerClose.TheVariants.{WithoutError, WithError}
@@ -43,21 +45,22 @@ use Rattle.amqp_session.specs.declared.command.Answer.TheVariants.{Connected as 
 use Rattle.amqp_session.specs.declared.command.ChanRef.{ChanRef}
 use Rattle.amqp_session.specs.declared.handed.Handed.{Handed}
 use Rattle.amqp_session.specs.declared.misread.Misread.{Misread}
-use Rattle.amqp_session.specs.declared.error.ErrorKind.TheVariants.{NoMemory, IOError, ChannelsLimitReached, InvalidChannelState, InvalidConnectionState, MissingHeartbeatError, SerialisationError}
+use Rattle.amqp_session.specs.declared.error.ErrorKind.TheVariants.{NoMemory, IOError, ProtocolError, InvalidChannel, AuthProviderError, InvalidProtocolVersion, ChannelsLimitReached, InvalidChannelState, InvalidConnectionState, MissingHeartbeatError, SerialisationError}
 use Rattle.amqp_session.specs.declared.error.ErrorKind.{ErrorKind}
 use Rattle.amqp_session.specs.Listed.{at, put, without, has}
 use Rattle.amqp_session.specs.Config.{Config}
 use Rattle.amqp_session.specs.declared.auth.asked.Asked.{Asked as ProviderAnswer}
 use Rattle.amqp_session.specs.Talk.{Talk, start, acts, hears_on, has_ended, is_acting, is_asked, is_closing, is_open, is_open_link, is_asked_link, end_of_link}
-use Rattle.amqp_session.specs.Changes.{Promises, present_at, queue, starve, next_promise, refuse, give, give_to, rejected, rejected_each, promises_on, replies_on, without_all_on, drop_replies_of, fail, lose, misplaced, close, finish, finish_by, settled_by, settled_to, promise}
-use Rattle.amqp_session.specs.Links.{asked, asked_link, linked, next_delay, refused_after, link_failed, piece, dropped, misread, lost}
+use Rattle.amqp_session.specs.Changes.{Promises, present_at, queue, await, starve, next_promise, refuse, give, give_to, rejected, rejected_each, promises_on, replies_on, without_all_on, drop_replies_of, fail, lose, misplaced, close, finish, finish_by, settled_by, settled_to, promise}
+use Rattle.amqp_session.specs.Links.{asked, asked_link, linked, refused_after, link_failed, piece, dropped, misread, lost}
+use Rattle.amqp_session.specs.Recovery.{next_delay, is_kept_in, reconnecting, reconnect}
 use Rattle.amqp_session.specs.Handshake.{close_ok, start_ok, secure_ok, tune_ok, open_vhost, our_close, new_secret, channel_open, channel_flow, flow_ok, channel_close_ok, our_channel_close}
 use Rattle.amqp_session.specs.Negotiation.{lesser_wish, wish_or, tune}
 use Rattle.amqp_session.specs.Numbering.{first_number, drawn}
-use Rattle.amqp_session.specs.Violations.{channel_closed_with, misread_error}
-use Rattle.amqp_session.specs.ConnectionMethods.{connection_rule, connection_closed, secret_taken, started, challenged}
+use Rattle.amqp_session.specs.Violations.{channel_closed_with, misread_error, stray_channel_frame, stray_connection_method, unawaited}
+use Rattle.amqp_session.specs.ConnectionMethods.{connected, reopen, reopen_each, connection_rule, connection_closed, secret_taken, started, challenged}
 use Rattle.amqp_session.specs.Channels.{channel_at, set_channel, closing}
-use Rattle.amqp_session.specs.ChannelMethods.{heard_on, unawaited_channel_method, channel_opened, channel_closed, channel_flowed, channel_close_by, awaits_close_ok, remove_unless_owed, on_channel_flow, channel_rule, channel_method_by, channel_method, hand_out, confirmed, is_select_ok, pass_through, raw_by}
+use Rattle.amqp_session.specs.ChannelMethods.{heard_on, unawaited_channel_method, channel_opened, channel_closed, channel_flowed, channel_close_by, awaits_close_ok, remove_channel, remove_unless_owed, on_channel_flow, channel_rule, channel_method_by, channel_method, hand_out, confirmed, is_select_ok, pass_through, raw_by}
 use Rattle.amqp_session.specs.Publishing.{method_frame, publish_frames}
 use Rattle.amqp_session.specs.Frames.{is_of_a_channel, method_rule, frame_rule, closed_rule, on_frame}
 use Rattle.amqp_session.specs.Commands.{is_opening, named_in, named, target_in, target_by, target, open_drawn, leave_channel, leave_connection, close_target, drop_target, flow_target, queue_secret, update_secret, too_long, unless_too_long, queue_send, send_target, body_limit, queue_publish, publish_target, command, command_rule}
@@ -68,9 +71,10 @@ use Rattle.amqp_session.specs.Laws.{IsEnded, StaysSound, is_end}
 use Rattle.amqp_session.specs.Sound.{Ascend, AscendFrom, IsSound, fits_link, is_agreed, AllBelow, Finishes, following, goes_on}
 use Rattle.amqp_session.proofs.Cases.{if_case, if_by}
 use Rattle.amqp_session.proofs.Heard.{start-case, secure-case, secret-case}
-use Rattle.amqp_session.proofs.Keeping.{beats-connected, asks-connected}
-use Rattle.amqp_session.proofs.Ascending.{none-below, put-ascends, put-from, put-below, without-ascends, without-from, without-below, at-below, below-greater, map_values-from}
-use Rattle.amqp_session.proofs.Finishing.{acting-finishes, acting-none, alone-last, channel-goes_on, close-goes_on, close_ok-goes_on, committed-follows, control-goes_on, flow-goes_on, flow_ok-goes_on, dropped-acts, dropped-finishes, first-goes, group-goes_on, left-goes_on, open-goes_on, publish-goes_on, queue-finishes, sent-committed, ungrouped-goes_on}
+use Rattle.amqp_session.proofs.Keeping.{sent_among-closed, beats-connected, asks-connected}
+use Rattle.amqp_session.proofs.Recovering.{lose-case, rejected_all-keys}
+use Rattle.amqp_session.proofs.Ascending.{filter-from, none-below, put-ascends, put-from, put-below, without-ascends, without-from, without-below, at-below, below-greater, map_values-from}
+use Rattle.amqp_session.proofs.Finishing.{none-finishes, acting-finishes, acting-none, alone-last, channel-goes_on, close-goes_on, close_ok-goes_on, committed-follows, control-goes_on, flow-goes_on, flow_ok-goes_on, dropped-acts, dropped-finishes, first-goes, group-goes_on, left-goes_on, open-goes_on, publish-goes_on, queue-finishes, sent-committed, ungrouped-goes_on}
 
 -- ---- promises
 
@@ -137,16 +141,31 @@ sound-refuse e t s = record { link = s.link; room = s.room; acting = s.acting; f
 pub sound-fail : (e : ErrorKind) (t : Talk) → IsSound t → IsSound (fail e t)
 sound-fail e t s = record { link = refl; room = λ h. absurd cc; acting = λ h. absurd cc; finish = s.finish; listed = tt; promises = s.promises }
 
+-- a session whose link is lost waits for another, or ends
+sound-reconnect : (e : ErrorKind) (delay : ℕ) (t : Talk) → IsSound t → IsSound (reconnect e delay t)
+sound-reconnect e delay t s =
+    record {
+      link = refl;
+      room = λ h. absurd cc;
+      acting = λ h. absurd cc;
+      finish = none-finishes t.input [] tt;
+      listed = map_values-from reconnecting 0 (filter (λ e. is_kept_in (e.1).state) t.channels) (filter-from (λ e. is_kept_in (e.1).state) 0 t.channels s.listed);
+      promises = subst (λ ks. Ascend ks × AllBelow t.made ks) (sym (rejected_all-keys e t.promises)) s.promises;
+    }
+
+pub sound-lose : (e : ErrorKind) (t : Talk) → IsSound t → IsSound (lose e t)
+sound-lose e t s = lose-case IsSound e t (λ delay. sound-reconnect e delay t s) (sound-fail e t s)
+
 pub sound-close : (t : Talk) → IsSound t → IsSound (close t)
 sound-close t s = record { link = refl; room = λ h. absurd cc; acting = λ h. absurd cc; finish = s.finish; listed = tt; promises = s.promises }
 
 pub sound-finish : (o : Option ServerClose) (t : Talk) → IsSound t → IsSound (finish_by o t)
 sound-finish None t s = sound-close t s
 sound-finish (Some WithoutError) t s = sound-close t s
-sound-finish (Some (WithError e)) t s = sound-fail _ t s
+sound-finish (Some (WithError e)) t s = sound-lose (ProtocolError e) t s
 
 pub sound-misplaced : (e : ErrorKind) (t : Talk) → IsSound t → IsSound (misplaced e t)
-sound-misplaced e t s = if_case IsSound (is_closing t.state) t (lose e t) s (sound-fail e t s)
+sound-misplaced e t s = if_case IsSound (is_closing t.state) t (lose e t) s (sound-lose e t s)
 
 pub sound-starve : (t : Talk) → IsSound t → IsSound (starve t)
 sound-starve t s = if_case IsSound (has_ended t) t (fail NoMemory t) s (sound-fail NoMemory t s)
@@ -162,7 +181,7 @@ sound-set n c t some s = record { link = s.link; room = s.room; acting = s.actin
 
 sound-unawaited : (n : ℕ) (held : ChannelState) (m : AnyMethod) (t : Talk) → IsSound t → IsSound (unawaited_channel_method n held m t)
 sound-unawaited n channel.Closing m t s = s
-sound-unawaited n _ m t s = sound-fail _ t s
+sound-unawaited n _ m t s = sound-lose (unawaited m n) t s
 
 sound-opened : (n : ℕ) (c : Channel) (a : Option (Option ℕ)) (t : Talk) → 0 < n → IsSound t → IsSound (channel_opened n c a t)
 sound-opened n c None t some s = sound-unawaited n c.state ChannelOpenOk t s
@@ -250,7 +269,7 @@ sound-channel _ n c m t some acting s = sound-unawaited n c.state m t s
 
 sound-channel-by : (o : Option Channel) (n : ℕ) (m : AnyMethod) (t : Talk) → 0 < n → is_acting t.input ≡ true → IsSound t
     → IsSound (channel_method_by o n m t)
-sound-channel-by None n m t some acting s = sound-misplaced _ t s
+sound-channel-by None n m t some acting s = sound-misplaced (InvalidChannel n) t s
 sound-channel-by (Some c) n m t some acting s = sound-channel t.state n c m t some acting s
 
 sound-hand : (opened : ℕ) (h : Handed) (t : Talk) → IsSound t → IsSound (hand_out opened h t)
@@ -261,7 +280,7 @@ sound-pass n c kind bytes t some s =
     sound-hand c.opened _ _ (if_case IsSound (is_select_ok kind bytes) (confirmed n c t) t (sound-set n (record c { confirm = true }) t some s) s)
 
 sound-raw : (o : Option Channel) (n : ℕ) (kind : RawKind) (bytes : List ℕ) (t : Talk) → 0 < n → IsSound t → IsSound (raw_by o n kind bytes t)
-sound-raw None n kind bytes t some s = sound-misplaced _ t s
+sound-raw None n kind bytes t some s = sound-misplaced (InvalidChannel n) t s
 sound-raw (Some c) n kind bytes t some s = sound-pass n c kind bytes t some s
 
 -- ---- the connection
@@ -299,12 +318,12 @@ sound-connection-closed (Some promise) t s =
     sound-close _ (sound-give_to promise (Ok Done) _ (record { link = s.link; room = s.room; acting = s.acting; finish = s.finish; listed = s.listed; promises = s.promises }))
 
 sound-secret-taken : (a : Option (Option ℕ)) (t : Talk) → IsSound t → IsSound (secret_taken a t)
-sound-secret-taken None t s = sound-fail _ t s
+sound-secret-taken None t s = sound-lose (InvalidConnectionState Connected) t s
 sound-secret-taken (Some None) t s = record { link = s.link; room = s.room; acting = s.acting; finish = s.finish; listed = s.listed; promises = s.promises }
 sound-secret-taken (Some (Some number)) t s = sound-give number (Ok Done) _ (record { link = s.link; room = s.room; acting = s.acting; finish = s.finish; listed = s.listed; promises = s.promises })
 
 sound-started : (mechanism : List ℕ) (said : Result (List ℕ) (List ℕ)) (t : Talk) → t.state ≡ Connecting → is_acting t.input ≡ true → IsSound t → IsSound (started mechanism said t)
-sound-started mechanism (Err text) t hs acting s = sound-fail _ t s
+sound-started mechanism (Err text) t hs acting s = sound-fail (AuthProviderError text) t s
 sound-started mechanism (Ok response) t hs acting s =
     record {
       link = s.link;
@@ -316,7 +335,7 @@ sound-started mechanism (Ok response) t hs acting s =
     }
 
 sound-challenged : (said : Result (List ℕ) (List ℕ)) (t : Talk) → is_acting t.input ≡ true → IsSound t → IsSound (challenged said t)
-sound-challenged (Err text) t acting s = sound-fail _ t s
+sound-challenged (Err text) t acting s = sound-fail (AuthProviderError text) t s
 sound-challenged (Ok response) t acting s =
     record {
       link = s.link;
@@ -326,6 +345,38 @@ sound-challenged (Ok response) t acting s =
       listed = s.listed;
       promises = s.promises;
     }
+
+sound-connected : (t : Talk) → t.state ≡ Connecting → t.phase ≡ AwaitOpenOk → is_acting t.input ≡ true → IsSound t → IsSound (connected t)
+sound-connected t hs hp acting s =
+    let given : IsSound (give 0 (Ok AnswerConnected) t) = sound-give 0 (Ok AnswerConnected) t s in
+    record {
+      link = opened-fits t.link (subst (λ x. fits_link x t.link ≡ true) hs s.link);
+      room = λ h. s.room (ap (λ x. is_agreed x t.phase) hs ∙ ap (is_agreed Connecting) hp);
+      acting = λ h. acting;
+      finish = s.finish;
+      listed = s.listed;
+      promises = given.promises;
+    }
+
+-- a channel that was kept is opened again, or goes
+sound-reopen : (n : ℕ) (t : Talk) → is_acting t.input ≡ true → IsSound t → IsSound (reopen n t)
+sound-reopen n t acting s =
+    if_case IsSound (nat_le n t.configuration.channel_max) (await n ChannelOpened None (queue n (channel_open n) t)) (remove_channel n t)
+    (record {
+      link = s.link;
+      room = s.room;
+      acting = s.acting;
+      finish = queue-finishes t.input t.committed t.outbox (plain n (channel_open n)) acting (open-goes_on n) s.finish;
+      listed = s.listed;
+      promises = s.promises;
+    })
+    (record { link = s.link; room = s.room; acting = s.acting; finish = s.finish; listed = without-from n 0 t.channels s.listed; promises = s.promises })
+
+sound-reopened : (cs : List (ℕ × Channel)) (t : Talk) → is_acting t.input ≡ true → IsSound t → IsSound (reopen_each cs t)
+sound-reopened [] t acting s = s
+sound-reopened (c ∷ cs) t acting s =
+    let still : (reopen c.0 t).input ≡ t.input = if_case (λ (x : Talk). x.input ≡ t.input) (nat_le c.0 t.configuration.channel_max) _ _ refl refl in
+    sound-reopened cs (reopen c.0 t) (ap is_acting still ∙ acting) (sound-reopen c.0 t acting s)
 
 sound-connection : (state : ConnectionState) (p : Phase) (m : AnyMethod) (answers : List ProviderAnswer) (t : Talk) → t.state ≡ state → t.phase ≡ p → is_open t ≡ true
     → is_acting t.input ≡ true → IsSound t → IsSound (connection_rule state p m answers t)
@@ -359,34 +410,25 @@ sound-connection Connecting AwaitTune (Tune a b c) answers t hs hp opened acting
       listed = s.listed;
       promises = s.promises;
     }
-sound-connection Connecting AwaitOpenOk OpenOk answers t hs hp opened acting s =
-    let given : IsSound (give 0 (Ok AnswerConnected) t) = sound-give 0 (Ok AnswerConnected) t s in
-    record {
-      link = opened-fits t.link (subst (λ x. fits_link x t.link ≡ true) hs s.link);
-      room = λ h. s.room (ap (λ x. is_agreed x t.phase) hs ∙ ap (is_agreed Connecting) hp);
-      acting = λ h. acting;
-      finish = s.finish;
-      listed = s.listed;
-      promises = given.promises;
-    }
+sound-connection Connecting AwaitOpenOk OpenOk answers t hs hp opened acting s = sound-reopened t.channels (connected t) acting (sound-connected t hs hp acting s)
 sound-connection Connected p UpdateSecretOk answers t hs hp opened acting s = sound-secret-taken (awaited_promise 0 SecretDone t.outbox) t s
-sound-connection held p m answers t hs hp opened acting s = sound-fail _ t s
+sound-connection held p m answers t hs hp opened acting s = sound-lose (InvalidConnectionState held) t s
 
 -- ---- frames
 
 sound-method : (n : ℕ) (m : AnyMethod) (answers : List ProviderAnswer) (t : Talk) → is_open t ≡ true → is_acting t.input ≡ true → IsSound t → IsSound (method_rule n m answers t)
 sound-method zero m answers t opened acting s =
-    if_case IsSound (is_of_a_channel m) (misplaced _ t) (connection_rule t.state t.phase m answers t)
-    (sound-misplaced _ t s) (sound-connection t.state t.phase m answers t refl refl opened acting s)
+    if_case IsSound (is_of_a_channel m) (misplaced (stray_channel_frame RawMethod) t) (connection_rule t.state t.phase m answers t)
+    (sound-misplaced (stray_channel_frame RawMethod) t s) (sound-connection t.state t.phase m answers t refl refl opened acting s)
 sound-method (suc n) m answers t opened acting s =
-    if_case IsSound (is_of_a_channel m) (channel_method (suc n) m t) (misplaced _ t)
-    (sound-channel-by (heard_on t.state (channel_at (suc n) t)) (suc n) m t (omega arith) acting s) (sound-misplaced _ t s)
+    if_case IsSound (is_of_a_channel m) (channel_method (suc n) m t) (misplaced (stray_connection_method (suc n)) t)
+    (sound-channel-by (heard_on t.state (channel_at (suc n) t)) (suc n) m t (omega arith) acting s) (sound-misplaced (stray_connection_method (suc n)) t s)
 
 sound-rule : (f : Frame) (answers : List ProviderAnswer) (t : Talk) → is_open t ≡ true → is_acting t.input ≡ true → IsSound t → IsSound (frame_rule f answers t)
-sound-rule (ProtocolHeader version) answers t opened acting s = sound-fail _ t s
+sound-rule (ProtocolHeader version) answers t opened acting s = sound-fail (InvalidProtocolVersion version) t s
 sound-rule Heartbeat answers t opened acting s = s
 sound-rule (Method n m) answers t opened acting s = sound-method n m answers t opened acting s
-sound-rule (Raw zero kind bytes) answers t opened acting s = sound-misplaced _ t s
+sound-rule (Raw zero kind bytes) answers t opened acting s = sound-misplaced (stray_channel_frame kind) t s
 sound-rule (Raw (suc n) kind bytes) answers t opened acting s = sound-raw (heard_on t.state (channel_at (suc n) t)) (suc n) kind bytes t (omega arith) s
 
 sound-closed-rule : (f : Frame) (t : Talk) → IsSound t → IsSound (closed_rule f t)
@@ -412,6 +454,7 @@ sound-frame f answers t s =
 
 asked-fits : (state : ConnectionState) (l : Link ErrorKind) → fits_link state l ≡ true → fits_link state (asked_link l) ≡ true
 asked-fits Initial Wanted h = refl
+asked-fits Reconnecting Wanted h = refl
 asked-fits _ Wanted h = absurd cc
 asked-fits state l h = h
 
@@ -424,6 +467,7 @@ sound-linked t s = if_case IsSound (is_asked t) _ t (record { link = refl; room 
 -- a link that was asked for may be one that is due
 pub due-fits : (state : ConnectionState) (l : Link ErrorKind) (moment : ℕ) → is_asked_link l ≡ true → fits_link state l ≡ true → fits_link state (Due moment) ≡ true
 due-fits Initial Asked moment h k = refl
+due-fits Reconnecting Asked moment h k = refl
 due-fits _ Asked moment h k = absurd cc
 due-fits state (Due n) moment h k = absurd cc
 due-fits state Wanted moment h k = absurd cc
@@ -431,7 +475,7 @@ due-fits state Open moment h k = absurd cc
 due-fits state (Ended r) moment h k = absurd cc
 
 sound-refused : (delay : Option ℕ) (t : Talk) → is_asked t ≡ true → IsSound t → IsSound (refused_after delay t)
-sound-refused None t h s = sound-fail _ t s
+sound-refused None t h s = sound-fail (IOError Refused) t s
 sound-refused (Some delay) t h s =
     record { link = due-fits t.state t.link _ h s.link; room = s.room; acting = s.acting; finish = s.finish; listed = s.listed; promises = s.promises }
 
@@ -445,14 +489,14 @@ sound-piece t s =
 pub sound-misread : (why : Misread) (t : Talk) → IsSound t → IsSound (misread why t)
 sound-misread why t s =
     if_case IsSound (acts t) (lose (misread_error why) t) (if is_open t then record t { input = dropped t.input } else t)
-    (sound-fail _ t s)
+    (sound-lose (misread_error why) t s)
     (if_case IsSound (is_open t) (record t { input = dropped t.input }) t
     (record { link = s.link; room = s.room; acting = λ h. dropped-acts t.input (s.acting h); finish = dropped-finishes t.input (following t.committed (waiting_items t.outbox)) s.finish; listed = s.listed; promises = s.promises }) s)
 
 pub sound-lost : (fault : IoFault) (t : Talk) → IsSound t → IsSound (lost fault t)
 sound-lost fault t s =
     if_case IsSound (acts t) (lose (IOError fault) t) (if is_open t then finish t else t)
-    (sound-fail _ t s)
+    (sound-lose (IOError fault) t s)
     (if_case IsSound (is_open t) (finish t) t (sound-finish t.server_close t s) s)
 
 -- ---- commands
@@ -714,6 +758,7 @@ sound-refreshed (Ok secret) t hs s =
 
 at-fits : (now : ℕ) (state : ConnectionState) (l : Link ErrorKind) → fits_link state l ≡ true → fits_link state (link_at now l) ≡ true
 at-fits now Initial (Due moment) h = if_case (λ (l : Link ErrorKind). fits_link Initial l ≡ true) (nat_le moment now) Wanted (Due moment) refl refl
+at-fits now Reconnecting (Due moment) h = if_case (λ (l : Link ErrorKind). fits_link Reconnecting l ≡ true) (nat_le moment now) Wanted (Due moment) refl refl
 at-fits now _ (Due moment) h = absurd cc
 at-fits now state l h = h
 
@@ -723,7 +768,7 @@ sound-due t s = record { link = at-fits t.present t.state t.link s.link; room = 
 sound-timed : (answers : List ProviderAnswer) (t : Talk) → IsSound t → IsSound (timed answers t)
 sound-timed answers t s =
     let x : Talk = missing_heartbeat t in
-    let after : IsSound x = if_case IsSound (is_missed t) (lose MissingHeartbeatError t) t (sound-fail MissingHeartbeatError t s) s in
+    let after : IsSound x = if_case IsSound (is_missed t) (lose MissingHeartbeatError t) t (sound-lose MissingHeartbeatError t s) s in
     let beaten : IsSound (beat t) =
     if_by IsSound (is_due x) (record (queue 0 Heartbeat x) { last_write = x.present }) x (λ due. sound-heartbeat x (beats-connected x due) after) (λ rest. after) in
     secret-case IsSound answers (beat t) beaten (λ asks said. sound-refreshed said (beat t) (asks-connected (beat t) asks) beaten)
@@ -759,6 +804,12 @@ sound-first m t s =
       promises = s.promises;
     })
 
+-- once the first was sent, the others follow while the link is open
+sound-on : (b : Bool) (m : Mark) (ms : List Mark) (n : ℕ) (t : Talk) → is_open (sent m t) ≡ b → t.committed ≡ m ∷ ms → IsSound (sent m t)
+    → ((sent m t).committed ≡ ms → IsSound (sent m t) → IsSound (sent_among ms n (sent m t))) → IsSound (sent_among ms n (sent m t))
+sound-on true m ms n t still h s on = on (sent-committed m ms t still h) s
+sound-on false m ms n t shut h s on = subst IsSound (sym (sent_among-closed ms n (sent m t) shut)) s
+
 sound-sent : (ms : List Mark) (n : ℕ) (t : Talk) → t.committed ≡ ms → IsSound t → IsSound (sent_among ms n t)
 sound-sent [] n t h s = s
 sound-sent (m ∷ ms) n t h s =
@@ -766,7 +817,7 @@ sound-sent (m ∷ ms) n t h s =
     let on : Talk = sent_among ms (n - m.left) (sent m t) in
     if_case IsSound (is_open t) (if nat_le m.left n then on else rest) t
     (if_case IsSound (nat_le m.left n) on rest
-    (sound-sent ms (n - m.left) (sent m t) (sent-committed m ms t h) (sound-first m t s))
+    (sound-on (is_open (sent m t)) m ms (n - m.left) t refl h (sound-first m t s) (sound-sent ms (n - m.left) (sent m t)))
     (record {
       link = s.link;
       room = s.room;

@@ -23,7 +23,7 @@ use Rattle.amqp_session.specs.declared.committed.Then.TheVariants.{Pays}
 use Rattle.amqp_session.specs.declared.state.ChannelState.{ChannelState}
 use Rattle.amqp_session.specs.declared.state.ChannelState.TheVariants as channel
 use Rattle.amqp_session.specs.declared.state.ConnectionState.{ConnectionState}
-use Rattle.amqp_session.specs.declared.state.ConnectionState.TheVariants.{Initial, Connecting, Connected, Closing}
+use Rattle.amqp_session.specs.declared.state.ConnectionState.TheVariants.{Initial, Connecting, Connected, Closing, Reconnecting}
 use Rattle.amqp_session.specs.declared.state.Phase.{Phase}
 use Rattle.amqp_session.specs.declared.state.Phase.TheVariants.{AwaitStart, AwaitTune, AwaitOpenOk}
 use Rattle.amqp_session.specs.declared.state.Input.{Input}
@@ -128,6 +128,8 @@ TiesClosing Paid replies u = (replies ≡ ChannelClosed ∷ []) × (u ≡ Shut)
 abbrev pub TiesState : ChannelState → Debt → List Reply → Usage → Type 0
 TiesState channel.Initial d replies u = (replies ≡ ChannelOpened ∷ []) × (u ≡ InUse) × (d ≡ Nothing)
 TiesState channel.Connected d replies u = (replies ≡ []) × (u ≡ InUse) × (d ≡ Nothing)
+-- it was kept over the loss of a link, and is opened again
+TiesState channel.Reconnecting d replies u = (replies ≡ ChannelOpened ∷ []) × (u ≡ InUse) × (d ≡ Nothing)
 TiesState channel.Closing d replies u = TiesClosing d replies u
 TiesState _ d replies u = ⊥
 
@@ -148,9 +150,14 @@ pub record TiesChannels (channels : List (ℕ × Channel)) (awaited : List (ℕ 
 
 -- ---- the connection
 
--- no channel was opened, nothing is awaited, and no close-ok of a channel is on its way
+-- a number that is not listed, or whose channel was kept over the loss of a link, and is to be opened again
+abbrev pub IsKept : Option Channel → Type 0
+IsKept None = Unit {0}
+IsKept (Some c) = (c.state ≡ channel.Reconnecting) × (c.debt ≡ Nothing)
+
+-- no channel was opened on this link, nothing is awaited, and no close-ok of a channel is on its way
 pub record IsNew (channels : List (ℕ × Channel)) (awaited : List (ℕ × List Awaited)) (due : ℕ → ℕ) : Type 0 where
-  pub no_channels : channels ≡ []
+  pub kept : (n : ℕ) → IsKept (at n channels)
   pub none_awaited : awaited ≡ []
   pub none_due : (n : ℕ) → due n ≡ 0
 
@@ -176,7 +183,7 @@ Ties Acting state phase channels awaited due s = TiesActing state phase channels
 Ties _ state phase channels awaited due s = IsClosing state
 
 -- the same by the parts of a session that count: a rule that changes none of them keeps it as it is
-pub record Speaks (state : ConnectionState) (phase : Phase) (input : Input) (frame_max : ℕ) (outbox : Queued)
+pub record Speaks (state : ConnectionState) (phase : Phase) (input : Input) (frame_max capacity : ℕ) (outbox : Queued)
     (channels : List (ℕ × Channel)) (marks : List Mark) (committed : List Frame) : Type 0 where
   pub later : Speech
   pub leads : LeadsTo (first_out outbox) committed later
@@ -185,14 +192,31 @@ pub record Speaks (state : ConnectionState) (phase : Phase) (input : Input) (fra
   pub ties : Ties input state phase channels outbox.awaited (unpaid marks (first_out outbox)) later
   -- a frame of a body is never empty
   pub agreed : IsTrue (is_agreed state phase) → frame_min_size ≤ frame_max
+  -- the channels stand in the order of their numbers, and none has the number 0
+  pub listed : AscendFrom 0 (keys_of channels)
+  -- the header of another link will fit
+  pub room : 8 ≤ capacity
 
 -- a session with an open link is tied to the frames that were committed on it
 abbrev pub IsTied : Talk → List Frame → Type 0
-IsTied t committed = Speaks t.state t.phase t.input t.configuration.frame_max t.outbox t.channels t.committed committed
+IsTied t committed = Speaks t.state t.phase t.input t.configuration.frame_max t.capacity t.outbox t.channels t.committed committed
 
--- a session that wants a link has no channel, and the header will fit
+-- while no link is open nothing is said: at the beginning, or after the loss of a link
+abbrev pub Rests : ConnectionState → Type 0
+Rests Initial = Unit {0}
+Rests Reconnecting = Unit {0}
+Rests _ = ⊥
+
+-- the same by the parts of a session that count: it has the channels that were kept alone, and the header will fit
+pub record Waits (state : ConnectionState) (channels : List (ℕ × Channel)) (capacity : ℕ) : Type 0 where
+  pub rests : Rests state
+  pub listed : AscendFrom 0 (keys_of channels)
+  pub kept : (n : ℕ) → IsKept (at n channels)
+  pub room : 8 ≤ capacity
+
+-- a session that goes on without a link says nothing
 abbrev pub IsSilent : Talk → Type 0
-IsSilent t = (t.state ≡ Initial) × (t.channels ≡ []) × (8 ≤ t.capacity)
+IsSilent t = Waits t.state t.channels t.capacity
 
 -- ---- what may be told
 

@@ -1,4 +1,4 @@
--- What brings about that a frame which is read ends a session with an error.
+-- By which errors a frame that is read loses the link: the session recovers from each of them, or ends with it.
 use Rattle.std.specs.Prelude.{◌≡◌, ◌≢◌, ◌⊎◌, not, ℕ, zero, suc, Bool, true, false, IsTrue, IsFalse, List, [], ◌∷◌, Option, Some, None, is_some, Err}
 use Rattle.amqp_frame.specs.declared.frame.Frame.{Frame}
 use Rattle.amqp_frame.specs.declared.frame.Frame.TheVariants.{ProtocolHeader, Method, Raw}
@@ -69,8 +69,8 @@ abbrev pub IsUnheard : ℕ → Talk → Type 0
 IsUnheard n t = (channel_at n t ≡ None) ⊎ (t.state ≡ Connecting)
 
 -- a channel is heard, and we did not close it
-abbrev pub IsKept : ℕ → Talk → Type 0
-IsKept n t = (t.state ≢ Connecting) × ((c : Channel) × (channel_at n t ≡ Some c) × (c.state ≢ channel.Closing))
+abbrev pub IsInUse : ℕ → Talk → Type 0
+IsInUse n t = (t.state ≢ Connecting) × ((c : Channel) × (channel_at n t ≡ Some c) × (c.state ≢ channel.Closing))
 
 -- a reply is awaited that this method is; flow and close are replies to nothing, and may come at any time
 abbrev pub is_awaited : AnyMethod → ℕ → Talk → Bool
@@ -84,7 +84,7 @@ is_awaited _ n t = false
 -- 505 for a method of the channel class that nothing awaits
 abbrev pub IsUnawaited : ErrorKind → Frame → Talk → Type 0
 IsUnawaited e (Method (suc n) m) t =
-    IsTrue (is_of_a_channel m) × IsKept (suc n) t × IsFalse (is_awaited m (suc n) t) × (e ≡ unawaited m (suc n))
+    IsTrue (is_of_a_channel m) × IsInUse (suc n) t × IsFalse (is_awaited m (suc n) t) × (e ≡ unawaited m (suc n))
 IsUnawaited e _ t = ⊥
 
 -- ---- a frame

@@ -16,6 +16,7 @@ use Rattle.amqp_session.specs.declared.error.ErrorKind.{ErrorKind}
 use Rattle.amqp_session.specs.declared.error.ErrorKind.TheVariants.{ProtocolError, NoMemory}
 use Rattle.amqp_session.specs.Listed.{at, put, without}
 use Rattle.amqp_session.specs.Talk.{Talk, is_closing, has_ended}
+use Rattle.amqp_session.specs.Recovery.{recovery_delay, reconnect}
 
 -- the present is the greatest moment so far
 abbrev pub present_at : ℕ → Talk → Talk
@@ -157,7 +158,7 @@ drop_replies_of n e t =
       promises = rejected_each e (replies_on n t.outbox) t.promises;
     }
 
--- ---- ends, at which all channels go
+-- ---- losses and ends; at an end all channels go
 
 -- the session ends Closed
 abbrev pub close : Talk → Talk
@@ -167,16 +168,22 @@ close t = record t { state = Closed; link = Ended (Ok tt); channels = [] }
 abbrev pub fail : ErrorKind → Talk → Talk
 fail e t = record t { state = Error; link = Ended (Err e); channels = [] }
 
--- the link is of no more use, for this error, and the session, which does not recover, ends with it
-abbrev pub lose : ErrorKind → Talk → Talk
-lose e t = fail e t
+-- the link is lost by an error, by the delay after which the session wants another: without one, that is the end
+abbrev pub lose_by : Option ℕ → ErrorKind → Talk → Talk
+lose_by (Some delay) e t = reconnect e delay t
+lose_by None e t = fail e t
 
--- the end after the server's close, by how it closed
+-- the link is of no more use, for this error: the session recovers from it, or ends with it
+abbrev pub lose : ErrorKind → Talk → Talk
+lose e t = lose_by (recovery_delay e t) e t
+
+-- what follows the server's close, by how it closed: where its code was none of an error the session ends Closed, and
+-- else the link is lost by that error
 abbrev pub finish_by : Option ServerClose → Talk → Talk
 finish_by (Some (WithError e)) t = lose (ProtocolError e) t
 finish_by _ t = close t
 
--- the end after the server's close: Closed where its code was none of an error
+-- the session finishes after the server's close
 abbrev pub finish : Talk → Talk
 finish t = finish_by t.server_close t
 

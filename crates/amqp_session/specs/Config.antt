@@ -1,5 +1,5 @@
 -- What a session is made from: the address, and what its user says of the client.
-use Rattle.std.specs.Prelude.{ℕ, List, [], Bool, true, false, codes, unwrap_or}
+use Rattle.std.specs.Prelude.{ℕ, if◌then◌else◌, List, [], ◌∷◌, Bool, true, false, codes, unwrap_or}
 use Rattle.amqp_types.specs.Value.{FieldValue, Pair, scalar, long_string}
 use Rattle.amqp_types.specs.Table.{put}
 use Rattle.amqp_uri.specs.declared.uri.AMQPUri.{AMQPUri}
@@ -17,6 +17,8 @@ pub record Options : Type 0 where
   -- that was said
   pub delays : List ℕ
   pub has_delays : Bool
+  -- whether the session goes on where its link is lost
+  pub recover : Bool
 
 -- what a session is made from; no rule changes it
 pub record Config : Type 0 where
@@ -35,9 +37,9 @@ config_of uri options = record { uri = uri; options = options }
 abbrev pub text_value : List ℕ → FieldValue
 text_value content = scalar (long_string content)
 
--- nothing beside what every client says: texts in English, no properties, and no delays
+-- nothing beside what every client says: texts in English, no properties, no delays, and no recovery
 abbrev pub no_options : Options
-no_options = record { locale = codes "en_US"; properties = []; delays = []; has_delays = false }
+no_options = record { locale = codes "en_US"; properties = []; delays = []; has_delays = false; recover = false }
 
 -- the same with another language
 abbrev pub with_locale : List ℕ → Options → Options
@@ -54,6 +56,22 @@ with_name name options = with_property (codes "connection_name") name options
 -- the same with other delays
 abbrev pub with_backoff : List ℕ → Options → Options
 with_backoff delays options = record options { delays = delays; has_delays = true }
+
+-- the delays of a session that recovers, where its user said none: from a second on each is twice the one before, and
+-- ten more of a minute
+abbrev pub default_delays : List ℕ
+default_delays =
+    1000 ∷ 2000 ∷ 4000 ∷ 8000 ∷ 16000 ∷ 32000
+    ∷ 60000 ∷ 60000 ∷ 60000 ∷ 60000 ∷ 60000 ∷ 60000 ∷ 60000 ∷ 60000 ∷ 60000 ∷ 60000
+    ∷ []
+
+-- the delays of a session that recovers: those that were said, where some were
+abbrev pub recovery_delays : Options → List ℕ
+recovery_delays options = if options.has_delays then options.delays else default_delays
+
+-- the same, and the session goes on where its link is lost, with delays of its own where none were said
+abbrev pub with_recovery : Options → Options
+with_recovery options = record options { delays = recovery_delays options; recover = true }
 
 -- ---- what the address says
 

@@ -1,8 +1,8 @@
 -- Methods of the connection class (AMQP 0-9-1, 1.4 of its reference), on channel 0.
-use Rattle.std.specs.Prelude.{ℕ, true, false, List, ◌∷◌, Option, Some, None, Result, Ok, Err}
+use Rattle.std.specs.Prelude.{ℕ, nat_le, if◌then◌else◌, true, false, List, [], ◌∷◌, Option, Some, None, Result, Ok, Err}
 use Rattle.amqp_frame.specs.declared.method.Method.{Method}
 use Rattle.amqp_frame.specs.declared.method.Method.TheVariants.{Start, Secure, Tune, OpenOk, Close, CloseOk, Blocked, Unblocked, UpdateSecretOk}
-use Rattle.amqp_outbox.specs.declared.reply.Reply.TheVariants.{SecretDone, ConnectionClosed}
+use Rattle.amqp_outbox.specs.declared.reply.Reply.TheVariants.{ChannelOpened, SecretDone, ConnectionClosed}
 use Rattle.amqp_outbox.specs.Items.{plain}
 use Rattle.amqp_outbox.specs.Queued.{only, awaited_promise, answered}
 use Rattle.amqp_session.specs.declared.state.ConnectionState.{ConnectionState}
@@ -11,15 +11,17 @@ use Rattle.amqp_session.specs.declared.state.Phase.{Phase}
 use Rattle.amqp_session.specs.declared.state.Phase.TheVariants.{AwaitStart, AwaitTune, AwaitOpenOk}
 use Rattle.amqp_session.specs.declared.state.Input.TheVariants as input
 use Rattle.amqp_session.specs.declared.configuration.Configuration.{Configuration}
+use Rattle.amqp_session.specs.declared.channels.Channel.{Channel}
 use Rattle.amqp_session.specs.declared.command.Answer.TheVariants.{Connected as AnswerConnected, Done}
 use Rattle.amqp_session.specs.declared.error.ErrorKind.TheVariants.{InvalidConnectionState, AuthProviderError}
 use Rattle.amqp_session.specs.declared.auth.asked.Asked.{Asked}
 use Rattle.amqp_session.specs.declared.auth.asked.Asked.TheVariants as answer
 use Rattle.amqp_session.specs.Talk.{Talk, is_closing}
 use Rattle.amqp_session.specs.Negotiation.{tune, grown_capacity}
-use Rattle.amqp_session.specs.Handshake.{start_ok, secure_ok, tune_ok, open_vhost, close_ok}
+use Rattle.amqp_session.specs.Handshake.{start_ok, secure_ok, tune_ok, open_vhost, close_ok, channel_open}
 use Rattle.amqp_session.specs.Violations.{closed_with}
-use Rattle.amqp_session.specs.Changes.{queue, give, give_to, close, lose}
+use Rattle.amqp_session.specs.ChannelMethods.{remove_channel}
+use Rattle.amqp_session.specs.Changes.{queue, await, give, give_to, close, lose}
 
 -- any other method, and one of these out of its state, is fatal
 abbrev pub unexpected_connection_method : ConnectionState → Talk → Talk
@@ -58,16 +60,32 @@ on_tune server t =
       phase = AwaitOpenOk;
     }
 
--- open-ok: the connection is open, its promise is answered, more can be unsent, where longer frames were agreed, from
--- now on the secret is valid, and all delays are left again
-abbrev pub on_open_ok : Talk → Talk
-on_open_ok t =
+-- the connection is open, its promise is answered, more can be unsent, where longer frames were agreed, from now on the
+-- secret is valid, and all delays are left again
+abbrev pub connected : Talk → Talk
+connected t =
     record (give 0 (Ok AnswerConnected) t) {
       state = Connected;
       capacity = grown_capacity t;
       secret_at = t.present;
       tried = 0;
     }
+
+-- a channel that was kept is opened again, without a promise; one above the greatest number that is agreed goes
+abbrev pub reopen : ℕ → Talk → Talk
+reopen n t =
+    if nat_le n t.configuration.channel_max
+    then await n ChannelOpened None (queue n (channel_open n) t)
+    else remove_channel n t
+
+-- the channels that were kept are opened again, in the order of their numbers
+abbrev pub reopen_each : List (ℕ × Channel) → Talk → Talk
+reopen_each [] t = t
+reopen_each (c ∷ cs) t = reopen_each cs (reopen c.0 t)
+
+-- open-ok: the connection is open, and the channels that were kept are opened again
+abbrev pub on_open_ok : Talk → Talk
+on_open_ok t = reopen_each t.channels (connected t)
 
 -- ---- blocking (an extension of RabbitMQ)
 

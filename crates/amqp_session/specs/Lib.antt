@@ -18,14 +18,15 @@ pub mod Tokens
 pub mod AuthList
 pub mod Asking
 -- The rules: what each happening does to the state.
+pub mod Numbering
+pub mod Channels
+pub mod Recovery
 pub mod Changes
 pub mod Links
-pub mod ConnectionMethods
-pub mod Numbering
-pub mod Sequence
-pub mod Channels
-pub mod Memory
 pub mod ChannelMethods
+pub mod ConnectionMethods
+pub mod Sequence
+pub mod Memory
 pub mod Frames
 pub mod Ticks
 pub mod Publishing
@@ -48,3 +49,4 @@ pub mod Parts
 pub mod NumberSet
 pub mod Openings
 pub mod Stopped
+pub mod Reopening

@@ -1,11 +1,11 @@
 -- Links: that one is asked for, comes or does not come, gives bytes, and ends.
-use Rattle.std.specs.Prelude.{ℕ, ◌+◌, ◌-◌, ◌^◌, min, if◌then◌else◌, false, [], Option, Some, None, slice_get}
+use Rattle.std.specs.Prelude.{ℕ, if◌then◌else◌, false, [], Option, Some, None}
 use Rattle.amqp_outbox.specs.Items.{plain}
 use Rattle.amqp_outbox.specs.Queued.{only}
 use Rattle.amqp_session.specs.declared.state.ConnectionState.TheVariants.{Connecting}
 use Rattle.amqp_session.specs.declared.state.Phase.TheVariants.{AwaitStart}
 use Rattle.amqp_session.specs.declared.state.Link.{Link}
-use Rattle.amqp_session.specs.declared.state.Link.TheVariants.{Wanted, Due, Asked, Open}
+use Rattle.amqp_session.specs.declared.state.Link.TheVariants.{Wanted, Asked, Open}
 use Rattle.amqp_session.specs.declared.state.Input.{Input}
 use Rattle.amqp_session.specs.declared.state.Input.TheVariants.{Acting, Closed, Dropped}
 use Rattle.amqp_session.specs.declared.io_fault.IoFault.{IoFault}
@@ -16,6 +16,7 @@ use Rattle.amqp_session.specs.declared.misread.Misread.{Misread}
 use Rattle.amqp_session.specs.Talk.{Talk, is_asked, is_open, acts}
 use Rattle.amqp_session.specs.Handshake.{protocol_header}
 use Rattle.amqp_session.specs.Violations.{misread_error}
+use Rattle.amqp_session.specs.Recovery.{next_delay, delayed}
 use Rattle.amqp_session.specs.Changes.{fail, lose, finish}
 
 -- a link that is wanted is asked for
@@ -45,14 +46,6 @@ linked t =
     }
     else t
 
--- the delay that is next, where one is left
-abbrev pub next_delay : Talk → Option ℕ
-next_delay t = slice_get t.config.options.delays t.tried
-
--- no link is wanted until a delay is over, at a moment that stays at the greatest of 64 bits
-abbrev pub delayed : ℕ → Talk → Talk
-delayed delay t = record t { link = Due (min (t.present + delay) (2 ^ 64 - 1)); tried = t.tried + 1 }
-
 -- the link that was asked for is refused, by the delay that is next: where none is left, that is the end
 abbrev pub refused_after : Option ℕ → Talk → Talk
 refused_after (Some delay) t = delayed delay t
@@ -78,7 +71,7 @@ misread why t =
     else if is_open t then record t { input = dropped t.input }
     else t
 
--- the open link is lost: that is a fault, but after the server's close it is the end
+-- the open link is lost: that is a fault, but after the server's close the session finishes
 abbrev pub lost : IoFault → Talk → Talk
 lost fault t =
     if acts t then lose (IOError fault) t

@@ -1,5 +1,5 @@
 -- Parts of the state and of the rules, as the code takes them.
-use Rattle.std.specs.Prelude.{◌≡◌, ℕ, zero, ◌-◌, ◌&&◌, nat_le, if◌then◌else◌, Bool, true, false, List, [], ◌∷◌, Option, Some, None, option_map, Result, Ok, Err, IsTrue}
+use Rattle.std.specs.Prelude.{◌≡◌, ℕ, zero, ◌-◌, ◌&&◌, nat_le, if◌then◌else◌, Bool, true, false, List, [], ◌∷◌, Option, Some, None, option_map, is_some, IsSome, Result, Ok, Err, IsTrue}
 use Rattle.amqp_frame.specs.declared.frame.Frame.{Frame}
 use Rattle.amqp_frame.specs.declared.frame.Frame.TheVariants.{Method}
 use Rattle.amqp_frame.specs.declared.method.Method.TheVariants.{OpenOk}
@@ -30,26 +30,27 @@ use Rattle.amqp_session.specs.declared.session.asking.Validity.{Validity}
 use Rattle.amqp_session.specs.declared.session.asking.Validity.TheVariants.{Unasked, Valid, Expired}
 use Rattle.amqp_session.specs.Ticks.{asks_validity, has_expired}
 use Rattle.amqp_outbox.specs.Order.{seen}
-use Rattle.amqp_session.specs.Sharing.{error_at}
+use Rattle.amqp_session.specs.Listed.{at}
+use Rattle.amqp_session.specs.Sharing.{shared_at, error_at, waits}
 use Rattle.amqp_session.specs.Talk.{Talk, is_open, acts}
 use Rattle.amqp_session.specs.Negotiation.{grown_capacity}
 
 -- ---- promises
 
--- the answer that the shared error of a number gives
-abbrev pub shared_answer : ℕ → List (ℕ × SharedError) → Option (Result Answer ErrorKind)
-shared_answer number errors = option_map Err (error_at number errors)
-
--- a promise as it is seen: a place that is made for one is none, and an error that is shared is the one of its number
+-- a promise as it is seen: a place that is made for one is none, and one that shares an error waits until it is known
 abbrev pub slot_seen : List (ℕ × SharedError) → Slot → Option (Option (Result Answer ErrorKind))
 slot_seen errors Place = None
 slot_seen errors Waiting = Some None
 slot_seen errors (Answered answer) = Some (Some answer)
-slot_seen errors (Shared number) = option_map Some (shared_answer number errors)
+slot_seen errors (Shared number) = option_map (option_map Err) (shared_at number errors)
 
 -- the promises as they are seen, by number
 abbrev pub promised : Promises → List (ℕ × Option (Result Answer ErrorKind))
 promised promises = seen (slot_seen promises.errors.errors.entries) promises.slots.entries
+
+-- there is a place for one more promise, and for the error that it shares
+abbrev pub HasPlace : Promises → Type 0
+HasPlace promises = IsSome (at promises.made promises.slots.entries) × IsSome promises.loss
 
 -- the error that is given for a reason, where it is kept
 abbrev pub error_of : Why → Promises → Option ErrorKind
@@ -60,16 +61,20 @@ abbrev pub HasWhy : Why → ErrorKind → Promises → Type 0
 HasWhy why e promises = error_of why promises ≡ Some e
 
 -- a promise, once it got an answer: where it waits
-abbrev pub slot_settled : Result Answer ErrorKind → Slot → Slot
-slot_settled answer Waiting = Answered answer
-slot_settled answer slot = slot
+abbrev pub slot_settled : List (ℕ × SharedError) → Result Answer ErrorKind → Slot → Slot
+slot_settled errors answer slot = if waits errors slot then Answered answer else slot
 
--- a promise, once it is answered with the shared error of a number: where it waits
-abbrev pub slot_shared : ℕ → Slot → Slot
-slot_shared number Waiting = Shared number
-slot_shared number slot = slot
+-- a promise, once it is answered with the shared error of a number: where it waits, and the error is kept
+abbrev pub slot_shared : List (ℕ × SharedError) → ℕ → Slot → Slot
+slot_shared errors number slot =
+    if waits errors slot && is_some (error_at number errors) then Shared number else slot
 
 -- ---- how a session ended
+
+-- the server closed with an error
+abbrev pub is_with_error : Option ServerClose → Bool
+is_with_error (Some (WithError e)) = true
+is_with_error _ = false
 
 -- how a session ends after the server's close, by how it closed
 abbrev pub ended_by : Option ServerClose → Result (Unit {0}) ErrorKind

@@ -1,5 +1,5 @@
 -- Time for secrets: when a new one is asked for, and from which moment one is valid (an extension of RabbitMQ).
-use Rattle.std.specs.Prelude.{◌≡◌, ◌⊎◌, ◌≤◌, ◌-◌, ℕ, zero, Bool, true, false, IsTrue, List, ◌∷◌, Some, Err}
+use Rattle.std.specs.Prelude.{◌≡◌, ◌⊎◌, ◌≤◌, ◌-◌, ◌&&◌, if◌then◌else◌, ℕ, zero, Bool, true, false, IsTrue, List, ◌∷◌, Option, Some, None, Err}
 use Rattle.amqp_frame.specs.declared.frame.Frame.{Frame}
 use Rattle.amqp_frame.specs.declared.frame.Frame.TheVariants.{Method}
 use Rattle.amqp_frame.specs.declared.method.Method.TheVariants.{OpenOk, UpdateSecretOk}
@@ -9,11 +9,14 @@ use Rattle.amqp_session.specs.declared.misread.Misread.{Misread}
 use Rattle.amqp_session.specs.declared.state.ConnectionState.TheVariants.{Connected}
 use Rattle.amqp_session.specs.declared.auth.asked.Asked.{Asked}
 use Rattle.amqp_session.specs.declared.auth.asked.Asked.TheVariants as answer
-use Rattle.amqp_session.specs.Talk.{Talk}
+use Rattle.amqp_outbox.specs.declared.reply.Reply.TheVariants.{SecretDone}
+use Rattle.amqp_outbox.specs.Queued.{awaited_promise}
+use Rattle.amqp_session.specs.Talk.{Talk, acts}
+use Rattle.amqp_session.specs.Parts.{awaits_open_ok}
 use Rattle.amqp_session.specs.Changes as change
 use Rattle.amqp_session.specs.Links as link
 use Rattle.amqp_session.specs.Frames.{on_frame}
-use Rattle.amqp_session.specs.Ticks.{tick}
+use Rattle.amqp_session.specs.Ticks.{is_connected, tick}
 use Rattle.amqp_session.specs.Commands.{command}
 use Rattle.amqp_session.specs.Writing as writing
 use Rattle.amqp_session.specs.Answers.{take_answer, take_frames}
@@ -28,11 +31,18 @@ pub record HasExpired (answers : List Asked) (t : Talk) : Type 0 where
   pub told : answers ≡ answer.ValidFor (Some time) ∷ later
   pub gone : time ≤ t.present - t.secret_at
 
--- the frames from which on a secret may be valid: open-ok, and update-secret-ok
-abbrev pub may_renew : Frame → Bool
-may_renew (Method zero OpenOk) = true
-may_renew (Method zero UpdateSecretOk) = true
-may_renew f = false
+-- what awaits a reply is a refresh: it has no promise
+abbrev pub is_refresh : Option (Option ℕ) → Bool
+is_refresh (Some None) = true
+is_refresh _ = false
+
+-- a frame from which on, where it acts, the secret is valid: the open-ok that opens the connection, and the
+-- update-secret-ok of a refresh
+abbrev pub renews : Frame → Talk → Bool
+renews (Method zero OpenOk) t = awaits_open_ok t.state t.phase
+renews (Method zero UpdateSecretOk) t =
+    is_connected t.state && is_refresh (awaited_promise 0 SecretDone t.outbox)
+renews f t = false
 
 -- the provider had no new secret
 abbrev pub refuses : List Asked → Bool
@@ -49,7 +59,8 @@ IsSameOrNew may t t' = IsSameSecret t t' ⊎ (IsTrue may × (t'.secret_at ≡ t.
 
 -- from which moment the secret is valid after each rule
 pub record KeepsSecret (t : Talk) : Type 0 where
-  pub frame : (f : Frame) (answers : List Asked) → IsSameOrNew (may_renew f) t (on_frame f answers t)
+  pub frame : (f : Frame) (answers : List Asked)
+      → (on_frame f answers t).secret_at ≡ (if acts t && renews f t then t.present else t.secret_at)
   pub tick : (answers : List Asked) → IsSameOrNew (refuses answers) t (tick answers t)
   -- no other rule changes it
   pub moment : (at : ℕ) → IsSameSecret t (change.present_at at t)

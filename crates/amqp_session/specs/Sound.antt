@@ -4,7 +4,7 @@ use Rattle.std.specs.Map.{keys_of}
 use Rattle.amqp_outbox.specs.declared.item.Item.{Item}
 use Rattle.amqp_outbox.specs.Queued.{waiting_items}
 use Rattle.amqp_session.specs.declared.state.ConnectionState.{ConnectionState}
-use Rattle.amqp_session.specs.declared.state.ConnectionState.TheVariants.{Initial, Connecting, Connected, Closing, Closed, Error}
+use Rattle.amqp_session.specs.declared.state.ConnectionState.TheVariants.{Initial, Connecting, Connected, Closing, Closed, Reconnecting, Error}
 use Rattle.amqp_session.specs.declared.state.Phase.{Phase}
 use Rattle.amqp_session.specs.declared.state.Phase.TheVariants.{AwaitOpenOk}
 use Rattle.amqp_session.specs.declared.state.Link.{Link}
@@ -33,12 +33,15 @@ abbrev pub AllBelow : ℕ → List ℕ → Type 0
 AllBelow n [] = Unit {0}
 AllBelow n (k ∷ ks) = (k < n) × AllBelow n ks
 
--- a link that a state has: at the beginning one is wanted, or its delay is not over, it is open until the end, and it
--- is ended exactly in Closed and Error
+-- a link that a state has: at the beginning and once a link was lost, one is wanted or its delay is not over; then it
+-- is open until it is lost or the session ends, and it is ended exactly in Closed and Error
 abbrev pub fits_link : ConnectionState → Link ErrorKind → Bool
 fits_link Initial (Due moment) = true
 fits_link Initial Wanted = true
 fits_link Initial Asked = true
+fits_link Reconnecting (Due moment) = true
+fits_link Reconnecting Wanted = true
+fits_link Reconnecting Asked = true
 fits_link Connecting Open = true
 fits_link Connected Open = true
 fits_link Closing Open = true

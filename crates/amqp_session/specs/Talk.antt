@@ -50,7 +50,7 @@ pub record Talk : Type 0 where
   pub made : ℕ
   -- the promises that wait, and those whose answer was not taken, with that answer
   pub promises : List (ℕ × Option (Result Answer ErrorKind))
-  -- how the server closed the connection, once it did
+  -- how the server closed the connection on the link, once it did
   pub server_close : Option ServerClose
   -- the moments of the last happening, of the last reading and of the last writing, in milliseconds
   pub present : ℕ
@@ -60,7 +60,7 @@ pub record Talk : Type 0 where
   -- not answer yet
   pub secret_at : ℕ
   pub refreshing : Bool
-  -- how many of the delays were taken since the connection was last open
+  -- how many of the delays were taken since the connection was last opened
   pub tried : ℕ
 
 -- the state at the beginning: a link is wanted, and the connection's promise, number 0, waits

@@ -1,4 +1,4 @@
--- What a server may not do, and the error, by reply code and text, with which the session then ends (AMQP 0-9-1, 4.8.2
+-- What a server may not do, and the error, by reply code and text, by which the link is then lost (AMQP 0-9-1, 4.8.2
 -- and the reply codes of its reference). The server is not told: no close is written.
 use Rattle.std.specs.Prelude.{ℕ, ◌+◌, List, ◌++◌, codes, is_some, if◌then◌else◌}
 use Rattle.std.specs.Fmt.{decimal}

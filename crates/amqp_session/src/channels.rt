@@ -1,11 +1,14 @@
 //! The listed channels.
 
-ghost use Rattle.std.specs.Prelude.{◌≡◌, ◌≤◌, ◌+◌, ◌↔◌, ◌⊎◌, [], None, Some, Err, IfOk, IfErr, IfSome, OnOk, OnErr, length};
+ghost use Rattle.std.specs.Prelude.{◌≡◌, ◌≤◌, ◌+◌, ◌↔◌, ◌⊎◌, [], ◌∷◌, None, Some, Err, IfOk, IfErr, IfSome, IfNone, OnOk, OnErr, length};
+ghost use Rattle.amqp_outbox.specs.Listed.{Ascends};
 ghost use Rattle.amqp_session.specs.Listed.{at, put, without, map_values};
 ghost use Rattle.amqp_session.specs.Numbering.{drawn};
 ghost use Rattle.amqp_session.specs.Channels.{closing, new_channel, opening_in, all_flow, AllListed, next_free, list_next, pass_over, create_as, opened_until};
 ghost use Rattle.amqp_session.specs.Stopped.{stops};
 ghost use Rattle.amqp_session.specs.Openings.{opener};
+ghost use Rattle.amqp_session.specs.Recovery.{is_kept_in, reconnecting, kept};
+ghost use Rattle.amqp_session.specs.Reopening.{listed_after, agreed, numbers_after};
 
 use crate::error::{self, ErrorKind};
 use crate::id_sequence::IdSequence;
@@ -15,6 +18,7 @@ use amqp_types::{ChannelId, NoMemory};
 use std::alloc::Global;
 use std::collections::BTreeMap;
 use std::marker::Model;
+use std::ops::Bound;
 
 /// What we owe to a server that closed a channel.
 #[derive(Clone, Copy, Debug, PartialEq, Eq)]
@@ -62,6 +66,26 @@ impl Channel {
         Channel {
             state: ChannelState::Closing,
             ..self
+        }
+    }
+
+    /// Whether it is opened again on another link.
+    pub fn is_kept(self) -> bool
+        ensures { result ≡ is_kept_in self.state }
+    {
+        matches!(
+            self.state,
+            ChannelState::Connected | ChannelState::Reconnecting
+        )
+    }
+
+    /// The same channel as it waits for another link: with flow, and without confirm mode.
+    pub fn reconnecting(self) -> Channel
+        ensures { result ≡ reconnecting self }
+    {
+        Channel {
+            state: ChannelState::Reconnecting,
+            ..Channel::opened_by(self.opened)
         }
     }
 
@@ -296,6 +320,62 @@ impl Channels {
             channel.state = ChannelState::Closing;
             true
         });
+    }
+
+    /// The channels that are opened again on another link stay, and wait for it. The others go.
+    pub(crate) fn keep_open(&mut self)
+        ensures kept { self.new ≡ record self.old { listed = kept self.old.listed } }
+        ensures until { opened_until self.new.listed ≤ opened_until self.old.listed }
+    {
+        let mut last = None;
+        'channels: while let Some((id, channel)) = self.next_after(last) {
+            if channel.is_kept() {
+                self.set(id, channel.reconnecting());
+            } else {
+                self.remove(id);
+            }
+            last = Some(id);
+        }
+    }
+
+    /// The first channel after the last, where there is one: the channels are gone over by number.
+    pub(crate) fn next_after(&self, last: Option<ChannelId>) -> Option<(ChannelId, Channel)>
+        ensures next { IfSome result (λ e.
+            listed_after last self.now.listed ≡ e ∷ listed_after (Some e.0) self.now.listed) }
+        ensures none { IfNone result (listed_after last self.now.listed ≡ []) }
+        ensures ordered { Ascends self.now.listed }
+    {
+        let from = match last {
+            Some(id) => Bound::Excluded(id),
+            None => Bound::Unbounded,
+        };
+        let (id, channel) = self.listed.range((from, Bound::Unbounded)).next()?;
+        Some((*id, *channel))
+    }
+
+    /// The number of the first channel after the last, where it is at most the greatest.
+    pub(crate) fn next_up_to(
+        &self,
+        last: Option<ChannelId>,
+        channel_max: ChannelId,
+    ) -> Option<ChannelId>
+        ensures next { IfSome result (λ id. numbers_after last channel_max self.now.listed
+            ≡ id ∷ numbers_after (Some id) channel_max self.now.listed) }
+        ensures none { IfNone result (numbers_after last channel_max self.now.listed ≡ []) }
+        ensures ordered { Ascends self.now.listed }
+    {
+        let (id, _) = self.next_after(last)?;
+        if id <= channel_max { Some(id) } else { None }
+    }
+
+    /// The channels go whose numbers are above the greatest.
+    pub(crate) fn remove_above(&mut self, channel_max: ChannelId)
+        ensures agreed { self.new ≡ record self.old { listed = agreed channel_max self.old.listed } }
+        ensures until { opened_until self.new.listed ≤ opened_until self.old.listed }
+    {
+        'channels: while let Some((id, _)) = self.next_after(Some(channel_max)) {
+            self.remove(id);
+        }
     }
 
     /// The number of the channel that a promise opened.

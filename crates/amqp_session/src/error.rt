@@ -2,6 +2,7 @@
 
 ghost use Rattle.std.specs.Prelude.{◌≡◌, IfOk};
 ghost use Rattle.amqp_session.specs.Errors.{text_of};
+ghost use Rattle.amqp_session.specs.Recovery.{can_be_recovered};
 
 use crate::io_fault::IoFault;
 use crate::shown::Shown;
@@ -62,6 +63,21 @@ impl Model for Error {
 }
 
 impl ErrorKind {
+    // Whether another link may serve after it.
+    pub(crate) fn can_be_recovered(&self) -> bool
+        ensures { result ≡ can_be_recovered self.now }
+    {
+        matches!(
+            self,
+            ErrorKind::InvalidChannel(_)
+                | ErrorKind::InvalidChannelState(_, _)
+                | ErrorKind::InvalidConnectionState(_)
+                | ErrorKind::IOError(_)
+                | ErrorKind::ProtocolError(_)
+                | ErrorKind::MissingHeartbeatError
+        )
+    }
+
     // An equal kind.
     fn try_clone(&self, alloc: Global) -> std::result::Result<ErrorKind, NoMemory>
         ensures { IfOk result (λ kind. kind ≡ self.now) }
@@ -94,6 +110,13 @@ impl Error {
         ensures { result.now ≡ self.now }
     {
         &self.kind
+    }
+
+    /// Whether another link may serve after it. A session that recovers goes on then.
+    pub fn can_be_recovered(&self) -> bool
+        ensures { result ≡ can_be_recovered self.now }
+    {
+        self.kind.can_be_recovered()
     }
 
     /// An equal error.

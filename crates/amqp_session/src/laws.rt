@@ -1,22 +1,30 @@
 //! What the rules keep.
 
-ghost use Rattle.std.specs.Prelude.{◌≡◌, ◌≢◌, ◌≤◌, ◌↔◌, ℕ, ◌+◌, true, List, length, Some, None, Err, IsTrue, IsFalse, Contains};
+ghost use Rattle.std.specs.Prelude.{◌≡◌, ◌≢◌, ◌≤◌, ◌↔◌, ℕ, ◌+◌, true, List, length, Result, Some, None, Err, IsTrue, IsFalse, Contains};
 ghost use Rattle.amqp_frame.specs.declared.frame.Frame.{Frame};
 ghost use Rattle.amqp_frame.specs.Frames.{encoding};
 ghost use Rattle.amqp_outbox.specs.declared.item.Item.{Item};
 ghost use Rattle.amqp_session.specs.declared.command.Cmd.{Cmd};
 ghost use Rattle.amqp_session.specs.declared.configuration.Configuration.{Configuration};
 ghost use Rattle.amqp_session.specs.declared.error.ErrorKind.{ErrorKind};
-ghost use Rattle.amqp_session.specs.declared.error.ErrorKind.TheVariants.{InvalidConnectionState};
-ghost use Rattle.amqp_session.specs.declared.state.ConnectionState.TheVariants.{Connected};
+ghost use Rattle.amqp_session.specs.declared.error.ErrorKind.TheVariants.{InvalidConnectionState, IOError, MissingHeartbeatError};
+ghost use Rattle.amqp_session.specs.declared.command.Answer.{Answer};
+ghost use Rattle.amqp_session.specs.declared.io_fault.IoFault.{IoFault};
+ghost use Rattle.amqp_session.specs.declared.misread.Misread.{Misread};
+ghost use Rattle.amqp_session.specs.declared.state.ConnectionState.TheVariants.{Connected, Reconnecting};
 ghost use Rattle.amqp_session.specs.declared.auth.asked.Question.TheVariants.{Refresh};
 ghost use Rattle.amqp_session.specs.declared.auth.asked.Asked.{Asked};
 ghost use Rattle.amqp_session.specs.Config.{Config};
 ghost use Rattle.amqp_session.specs.Talk.{Talk, start, acts, has_ended, is_open, end_of};
 ghost use Rattle.amqp_session.specs.Negotiation.{tune};
+ghost use Rattle.amqp_session.specs.Recovery.{recovery_delay};
+ghost use Rattle.amqp_session.specs.Changes.{lose};
 ghost use Rattle.amqp_session.specs.Frames.{on_frame};
 ghost use Rattle.amqp_session.specs.Commands.{command, takes_promise};
-ghost use Rattle.amqp_session.specs.Ticks.{tick_questions};
+ghost use Rattle.amqp_session.specs.Listed.{at};
+ghost use Rattle.amqp_session.specs.Links.{misread, lost};
+ghost use Rattle.amqp_session.specs.Violations.{misread_error};
+ghost use Rattle.amqp_session.specs.Ticks.{is_missed, tick, tick_questions};
 ghost use Rattle.amqp_session.specs.Secrets.{HasExpired, KeepsSecret};
 ghost use Rattle.amqp_session.specs.Writing.{next_within, commit, taken, unsent};
 ghost use Rattle.amqp_session.specs.Answers.{answer_of, take_answer};
@@ -51,11 +59,38 @@ pub fn states_stay_sound()
     ensures ended { (t : Talk) → IsSound t → IsTrue (has_ended t) → IsEnded t }
 {}
 
-/// Where frames act, a frame ends a session with the errors that it brings, with what the provider
-/// answers to what it asks, and with no others.
+/// Where frames act, a frame ends a session exactly with an error that it brings, with what the provider
+/// answers to what it asks, and from which the session does not recover. By each error that it brings the
+/// link is lost, and a frame after which the session waits for another link, as it did not before, brings
+/// one.
 pub fn a_frame_ends_with_its_errors()
-    ensures { (error : ErrorKind) (f : Frame) (answers : List Asked) (t : Talk) → IsTrue (acts t)
-        → (end_of (on_frame f answers t) ≡ Some (Err error)) ↔ IsFrameError error f answers t }
+    ensures ends { (error : ErrorKind) (f : Frame) (answers : List Asked) (t : Talk) → IsTrue (acts t)
+        → (end_of (on_frame f answers t) ≡ Some (Err error))
+        ↔ (IsFrameError error f answers t × (recovery_delay error t ≡ None)) }
+    ensures lost { (error : ErrorKind) (f : Frame) (answers : List Asked) (t : Talk) → IsTrue (acts t)
+        → IsFrameError error f answers t → on_frame f answers t ≡ lose error t }
+    ensures recovered { (f : Frame) (answers : List Asked) (t : Talk) → IsTrue (acts t)
+        → t.state ≢ Reconnecting → (on_frame f answers t).state ≡ Reconnecting
+        → (error : ErrorKind) × IsFrameError error f answers t }
+{}
+
+/// What is no frame, the end of the input, a fault, and a server that is silent for too long lose the open
+/// link while frames act, each by its error: the session ends with it exactly where it does not recover
+/// from it. Where it recovers, each promise that waits gets the error, but that of the connection, which
+/// goes on to wait, and an answer that was given stays.
+pub fn a_lost_link_answers_what_waits()
+    ensures misread { (why : Misread) (e : ErrorKind) (t : Talk) → IsTrue (acts t)
+        → (end_of (misread why t) ≡ Some (Err e)) ↔ ((e ≡ misread_error why) × (recovery_delay e t ≡ None)) }
+    ensures lost { (fault : IoFault) (e : ErrorKind) (t : Talk) → IsTrue (acts t)
+        → (end_of (lost fault t) ≡ Some (Err e)) ↔ ((e ≡ IOError fault) × (recovery_delay e t ≡ None)) }
+    ensures silence { (answers : List Asked) (e : ErrorKind) (t : Talk) → IsTrue (is_open t)
+        → (end_of (tick answers t) ≡ Some (Err e))
+        ↔ (IsTrue (is_missed t) × (e ≡ MissingHeartbeatError) × (recovery_delay e t ≡ None)) }
+    ensures answered { (e : ErrorKind) (t : Talk) (delay number : ℕ) → recovery_delay e t ≡ Some delay → number ≢ 0
+        → at number t.promises ≡ Some None → at number (lose e t).promises ≡ Some (Some (Err e)) }
+    ensures stays { (e : ErrorKind) (t : Talk) (number : ℕ) (answer : Result Answer ErrorKind)
+        → at number t.promises ≡ Some (Some answer) → at number (lose e t).promises ≡ Some (Some answer) }
+    ensures waits { (e : ErrorKind) (t : Talk) → at 0 t.promises ≡ Some None → at 0 (lose e t).promises ≡ Some None }
 {}
 
 /// An ended session stays as it ended.
@@ -64,8 +99,9 @@ pub fn an_end_is_kept()
 {}
 
 /// A new secret is asked for only where the secret has expired: as much time has gone by as the provider
-/// says that it is valid, since the moment from which it is. That moment is the present at an open-ok and
-/// at the update-secret-ok of a refresh, and where the provider had no new secret; nothing else moves it.
+/// says that it is valid, since the moment from which it is. That moment is the present at each open-ok
+/// that opens the connection, at the update-secret-ok of a refresh, and where the provider had no new
+/// secret; nothing else moves it.
 pub fn a_secret_is_asked_for_when_it_has_expired()
     ensures asked { (answers : List Asked) (t : Talk) → Contains (tick_questions answers t) Refresh
         → HasExpired answers t }

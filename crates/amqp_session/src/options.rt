@@ -2,7 +2,7 @@
 
 ghost use Rattle.std.specs.Prelude.{◌≡◌, ◌<◌, ◌^◌, ℕ, List, length, IfOk, IfSome, OnOk, codes, slice_get};
 ghost use Rattle.amqp_types.specs.Table.{put};
-ghost use Rattle.amqp_session.specs.Config.{no_options, with_locale, with_property, with_name, with_backoff, text_value};
+ghost use Rattle.amqp_session.specs.Config.{no_options, with_locale, with_property, with_name, with_backoff, with_recovery, text_value};
 
 use amqp_types::{AMQPValue, FieldTable, LongString, NoMemory, ShortString};
 use std::alloc::Global;
@@ -94,7 +94,8 @@ impl<A: Drop> ConnectionProperties<A> {
 
     /// The same with delays, in milliseconds, which take the place of those before. Where a link that was
     /// asked for is refused, the next one is taken, and a link is wanted again when it is over; where none
-    /// is left, the session ends. Once the connection is open, all are left again.
+    /// is left, the session ends. So it is where a link is lost, if `enable_auto_recover` was called. Once
+    /// the connection is open, all are left again.
     pub fn with_backoff(self, delays: Vec<u64>) -> ConnectionProperties<A>
         ensures { result ≡ record self { plain = with_backoff delays.items self.plain } }
     {
@@ -119,6 +120,25 @@ impl<A: Drop> ConnectionProperties<A> {
         ConnectionProperties {
             plain: plain.with_backoff(delays),
             auth_provider: self.auth_provider,
+        }
+    }
+
+    /// The same, and where its link is lost by an error that another link may not have, the session goes on:
+    /// it takes the next delay as where a link is refused, and opens the channels that were open again, with
+    /// flow and without confirm mode. Where no delays were given it has 16: 1, 2, 4, 8, 16 and 32 seconds, and
+    /// ten times a minute.
+    pub fn enable_auto_recover(self, alloc: Global) -> Result<ConnectionProperties<A>, NoMemory>
+        ensures { IfOk result (λ options. options ≡ record self { plain = with_recovery self.plain }) }
+    {
+        match self.plain.with_recovery(alloc) {
+            Ok(plain) => Ok(ConnectionProperties {
+                plain,
+                auth_provider: self.auth_provider,
+            }),
+            Err(e) => {
+                drop(self.auth_provider);
+                Err(e)
+            }
         }
     }
 
@@ -155,7 +175,14 @@ pub(crate) struct Options {
     client_properties: FieldTable,
     delays: Vec<u64>,
     has_delays: bool,
+    recover: bool,
 }
+
+// The delays of a session that recovers and to which none were given, in milliseconds.
+const DEFAULT_DELAYS: [u64; 16] = [
+    1000, 2000, 4000, 8000, 16000, 32000, 60000, 60000, 60000, 60000, 60000, 60000, 60000, 60000,
+    60000, 60000,
+];
 
 impl Model for Options {
     ghost use Rattle.amqp_session.specs.Config.{Options};
@@ -172,6 +199,7 @@ impl Model for Options {
       properties = o.client_properties;
       delays = o.delays.items;
       has_delays = o.has_delays;
+      recover = o.recover;
     } };
 }
 
@@ -185,6 +213,7 @@ impl Options {
             client_properties: FieldTable::new(alloc),
             delays: Vec::new(alloc),
             has_delays: false,
+            recover: false,
         })
     }
 
@@ -204,6 +233,7 @@ impl Options {
             client_properties,
             delays: self.delays,
             has_delays: self.has_delays,
+            recover: self.recover,
         })
     }
 
@@ -235,8 +265,33 @@ impl Options {
             client_properties: self.client_properties,
             delays: Vec::new(alloc),
             has_delays: self.has_delays,
+            recover: self.recover,
         };
         (self.delays, rest)
+    }
+
+    fn with_recovery(self, alloc: Global) -> Result<Options, NoMemory>
+        ensures { IfOk result (λ options. options ≡ with_recovery self) }
+    {
+        if self.has_delays {
+            return Ok(Options {
+                recover: true,
+                ..self
+            });
+        }
+        let delays = Vec::from_slice(alloc, &DEFAULT_DELAYS)?;
+        Ok(Options {
+            delays,
+            recover: true,
+            ..self
+        })
+    }
+
+    // Whether the session goes on where its link is lost.
+    pub(crate) fn recovers(&self) -> bool
+        ensures { result ≡ self.now.recover }
+    {
+        self.recover
     }
 
     // The delay of this place, in milliseconds, where there are so many.

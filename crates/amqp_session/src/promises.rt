@@ -1,10 +1,9 @@
 //! The promises of a session, by number.
 
-ghost use Rattle.std.specs.Prelude.{◌≡◌, ◌+◌, ◌-◌, ◌<◌, ◌^◌, ℕ, [], None, Some, Err, IsSome, IfOk, OnOk, OnErr, option_copied};
+ghost use Rattle.std.specs.Prelude.{◌≡◌, ◌+◌, ◌-◌, ◌<◌, ◌≤◌, ◌^◌, ℕ, [], None, Some, Err, IsSome, IsTrue, IfOk, OnOk, OnErr};
 ghost use Rattle.std.proofs.Props.{props};
 ghost use Rattle.amqp_session.specs.Listed.{at, put, without};
-ghost use Rattle.amqp_outbox.specs.Order.{seen_at};
-ghost use Rattle.amqp_session.specs.Sharing.{error_at, holders_at, holds, holds_any, AreCounted, KeepsHeld, FreesUnheld};
+ghost use Rattle.amqp_session.specs.Sharing.{shared_at, holders_at, holds, holds_any, is_awaited, waits, any_waits, new_slot, AreCounted, KeepsHeld, FreesUnheld, AwaitsLoss, AllSuit};
 
 use crate::command::Answer;
 use crate::error::{self, ErrorKind};
@@ -19,9 +18,10 @@ use std::mem;
 pub enum Slot {
     /// It is not made yet, but has its place.
     Place,
+    /// It waits, whatever becomes of the link.
     Waiting,
     Answered(error::Result<Answer>),
-    /// It is answered with the shared error of this number.
+    /// It is answered with the shared error of this number, and waits while that is awaited.
     Shared(u64),
 }
 
@@ -38,12 +38,21 @@ pub struct Promises {
     slots: BTreeMap<u64, Slot>,
     /// The errors that answer several of them.
     errors: SharedErrors,
+    /// The number of the error by which the link will be lost, which is awaited: each promise that
+    /// waits shares it, but that of the connection, number 0.
+    loss: Option<u64>,
     ghost counted: { AreCounted slots.entries errors.errors.entries } by { Prim.hlevel props },
+    ghost awaited: { AwaitsLoss loss errors.errors.entries } by { Prim.hlevel props },
+    ghost suited: { AllSuit slots.entries errors.errors.entries } by { Prim.hlevel props },
 }
 
 impl Promises {
     ghost use Rattle.amqp_session.specs.Changes.{settled, settled_to};
-    ghost use Rattle.amqp_session.specs.Parts.{slot_seen, shared_answer, promised, error_of, HasWhy};
+    ghost use Rattle.std.specs.Prelude.{◌↔◌};
+    ghost use Rattle.std.specs.Option.{option_flatten};
+    ghost use Rattle.amqp_session.specs.Answers.{IsRejected};
+    ghost use Rattle.amqp_session.specs.Recovery.{rejected_all};
+    ghost use Rattle.amqp_session.specs.Parts.{promised, error_of, HasPlace, HasWhy};
 
     /// No promise was made.
     pub fn new(alloc: Global) -> Promises
@@ -54,6 +63,7 @@ impl Promises {
             made: 0,
             slots: BTreeMap::new(alloc),
             errors: SharedErrors::new(alloc),
+            loss: None,
         }
     }
 
@@ -64,17 +74,28 @@ impl Promises {
         self.made
     }
 
-    /// Makes a place for one more. Their count stays within its type.
+    /// Makes a place for one more, and for the error that it shares. Their count stays within its type.
     pub fn reserve(&mut self) -> Result<(), NoMemory>
         ensures made { self.new.made ≡ self.old.made }
         ensures slots { promised self.new ≡ promised self.old }
-        ensures place { OnOk result (IsSome (at self.new.made self.new.slots.entries)) }
+        ensures place { OnOk result (HasPlace self.new) }
         ensures count { OnOk result (self.new.made + 1 < 2 ^ 64) }
         ensures whys { (why : Why) → error_of why self.new ≡ error_of why self.old }
     {
         if self.made == u64::MAX {
             return Err(NoMemory);
         }
+        self.reserve_slot()?;
+        self.reserve_loss()
+    }
+
+    // Makes a place for one more.
+    fn reserve_slot(&mut self) -> Result<(), NoMemory>
+        ensures made { self.new.made ≡ self.old.made }
+        ensures slots { promised self.new ≡ promised self.old }
+        ensures slot { OnOk result (IsSome (at self.new.made self.new.slots.entries)) }
+        ensures whys { (why : Why) → error_of why self.new ≡ error_of why self.old }
+    {
         if self.slots.contains_key(&self.made) {
             return Ok(());
         }
@@ -82,17 +103,34 @@ impl Promises {
         Ok(())
     }
 
+    // Makes a place for the error by which the link will be lost, where there is none.
+    fn reserve_loss(&mut self) -> Result<(), NoMemory>
+        ensures made { self.new.made ≡ self.old.made }
+        ensures slots { promised self.new ≡ promised self.old }
+        ensures slot { IsSome (at self.old.made self.old.slots.entries)
+            → IsSome (at self.new.made self.new.slots.entries) }
+        ensures loss { OnOk result (IsSome self.new.loss) }
+        ensures whys { (why : Why) → error_of why self.new ≡ error_of why self.old }
+    {
+        if self.loss.is_none() {
+            self.loss = Some(self.errors.put(None)?);
+        }
+        Ok(())
+    }
+
     /// One more is made, which waits.
     pub fn promise_reserved(&mut self)
-        requires place { IsSome (at self.old.made self.old.slots.entries) }
+        requires place { HasPlace self.old }
         requires count { self.old.made + 1 < 2 ^ 64 }
         ensures made { self.new.made ≡ self.old.made + 1 }
         ensures slots { promised self.new ≡ put self.old.made None (promised self.old) }
     {
         let number = self.made;
         self.made += 1;
+        let _ = self.slots.len();
+        let slot = new_slot(number, self.loss, &mut self.errors);
         if let Some(place) = self.slots.get_mut(&number) {
-            let old = place.replace(Slot::Waiting);
+            let old = place.replace(slot);
             let_go_of(&mut self.errors, Some(old));
         }
     }
@@ -119,11 +157,11 @@ impl Promises {
     pub fn settle(&mut self, number: u64, answer: error::Result<Answer>)
         ensures made { self.new.made ≡ self.old.made }
         ensures slots { promised self.new ≡ settled number answer (promised self.old) }
-        ensures places { (n : ℕ) → IsSome (at n self.old.slots.entries) → IsSome (at n self.new.slots.entries) }
+        ensures place { HasPlace self.old → HasPlace self.new }
         ensures whys { (why : Why) → error_of why self.new ≡ error_of why self.old }
     {
         match self.slots.get_mut(&number) {
-            Some(slot) => slot.settle(answer),
+            Some(slot) => slot.settle(answer, &mut self.errors),
             None => drop(answer),
         }
     }
@@ -132,7 +170,7 @@ impl Promises {
     pub fn reject(&mut self, promise: Option<u64>, kind: ErrorKind)
         ensures made { self.new.made ≡ self.old.made }
         ensures slots { promised self.new ≡ settled_to promise (Err kind) (promised self.old) }
-        ensures places { (n : ℕ) → IsSome (at n self.old.slots.entries) → IsSome (at n self.new.slots.entries) }
+        ensures place { HasPlace self.old → HasPlace self.new }
         ensures whys { (why : Why) → error_of why self.new ≡ error_of why self.old }
     {
         match promise {
@@ -145,11 +183,11 @@ impl Promises {
     pub fn why(&mut self, kind: ErrorKind) -> Result<Why, NoMemory>
         ensures made { self.new.made ≡ self.old.made }
         ensures slots { promised self.new ≡ promised self.old }
-        ensures places { (n : ℕ) → IsSome (at n self.old.slots.entries) → IsSome (at n self.new.slots.entries) }
+        ensures place { HasPlace self.old → HasPlace self.new }
         ensures why { IfOk result (λ why. HasWhy why kind self.new) }
     {
         Ok(Why {
-            number: self.errors.put(kind.into())?,
+            number: self.errors.put(Some(kind.into()))?,
         })
     }
 
@@ -158,7 +196,7 @@ impl Promises {
         ensures made { self.new.made ≡ self.old.made }
         ensures slots { (e : ErrorKind) → HasWhy why.now e self.old
             → promised self.new ≡ settled number (Err e) (promised self.old) }
-        ensures places { (n : ℕ) → IsSome (at n self.old.slots.entries) → IsSome (at n self.new.slots.entries) }
+        ensures place { HasPlace self.old → HasPlace self.new }
         ensures whys { (why : Why) → error_of why self.new ≡ error_of why self.old }
     {
         let _ = self.slots.len();
@@ -173,7 +211,7 @@ impl Promises {
         ensures made { self.new.made ≡ self.old.made }
         ensures slots { (e : ErrorKind) → HasWhy why.now e self.old
             → promised self.new ≡ settled_to promise (Err e) (promised self.old) }
-        ensures places { (n : ℕ) → IsSome (at n self.old.slots.entries) → IsSome (at n self.new.slots.entries) }
+        ensures place { HasPlace self.old → HasPlace self.new }
         ensures whys { (why : Why) → error_of why self.new ≡ error_of why self.old }
     {
         if let Some(number) = promise {
@@ -185,34 +223,53 @@ impl Promises {
     pub fn let_go(&mut self, why: Why)
         ensures made { self.new.made ≡ self.old.made }
         ensures slots { promised self.new ≡ promised self.old }
-        ensures places { (n : ℕ) → IsSome (at n self.old.slots.entries) → IsSome (at n self.new.slots.entries) }
+        ensures place { HasPlace self.old → HasPlace self.new }
         ensures freed { holders_at why.number self.new.errors.errors.entries ≡ 0 → error_of why self.new ≡ None }
     {
         self.errors.tidy(why.number);
     }
 
-    /// What has become of a promise, where its answer was not taken.
-    pub fn get(&self, number: u64) -> Option<&Slot>
-        ensures slot { option_copied result ≡ at number self.now.slots.entries }
-        ensures seen { at number (promised self.now)
-            ≡ seen_at (slot_seen self.now.errors.errors.entries) (at number self.now.slots.entries) }
+    /// The link is lost: each promise that waits, but that of the connection, number 0, is rejected with
+    /// this error. No memory is taken.
+    pub fn reject_all(&mut self, kind: ErrorKind)
+        ensures made { self.new.made ≡ self.old.made }
+        ensures slots { promised self.new ≡ rejected_all kind (promised self.old) }
     {
-        // Its clause tells that the numbers ascend.
         let _ = self.slots.len();
-        self.slots.get(&number)
+        match self.loss.take() {
+            Some(number) => {
+                self.errors.fill(number, kind.into());
+                self.errors.tidy(number);
+            }
+            None => drop(kind),
+        }
     }
 
-    /// The answer that the shared error of a number gives; an Err where memory for its copy was refused.
-    pub fn shared(
+    /// Whether a promise waits.
+    pub fn waits(&self, number: u64) -> bool
+        ensures { IsTrue result ↔ at number (promised self.now) ≡ Some None }
+    {
+        let _ = self.slots.len();
+        match self.slots.get(&number) {
+            Some(slot) => slot.waits(&self.errors),
+            None => false,
+        }
+    }
+
+    /// The answer to a promise, where there is one that was not taken; an Err where memory for its copy
+    /// was refused.
+    pub fn answer(
         &self,
         alloc: Global,
         number: u64,
     ) -> Result<Option<error::Result<Answer>>, NoMemory>
-        ensures answer { IfOk result (λ answer. answer ≡ shared_answer number self.now.errors.errors.entries) }
-        ensures refused { OnErr result (IsSome (shared_answer number self.now.errors.errors.entries)) }
+        ensures answer { IfOk result (λ answer. answer ≡ option_flatten (at number (promised self.now))) }
+        ensures refused { OnErr result (IsRejected (option_flatten (at number (promised self.now)))) }
     {
-        match self.errors.get(number) {
-            Some(error) => Ok(Some(Err(error.try_clone(alloc)?))),
+        // Its clause tells that the numbers ascend.
+        let _ = self.slots.len();
+        match self.slots.get(&number) {
+            Some(slot) => slot.answer(alloc, &self.errors),
             None => Ok(None),
         }
     }
@@ -228,10 +285,31 @@ impl Promises {
     }
 }
 
+// What a promise of this number is that is made: it waits, and shares the error of this loss.
+fn new_slot(number: u64, loss: Option<u64>, errors: &mut SharedErrors) -> Slot
+    requires awaited { AwaitsLoss loss errors.old.errors.entries }
+    requires few { (n : ℕ) → holders_at n errors.old.errors.entries + 1 < 2 ^ 64 }
+    ensures slot { result ≡ new_slot number loss }
+    ensures errors { (n : ℕ) → shared_at n errors.new.errors.entries ≡ shared_at n errors.old.errors.entries }
+    ensures holders { (n : ℕ) → holders_at n errors.new.errors.entries
+        ≡ holders_at n errors.old.errors.entries + holds n result }
+{
+    match loss {
+        Some(loss) if number != 0 => {
+            errors.hold(loss);
+            Slot::Shared(loss)
+        }
+        _ => Slot::Waiting,
+    }
+}
+
 // What became of a promise goes, and with it its hold of a shared error.
 fn let_go_of(errors: &mut SharedErrors, slot: Option<Slot>)
     ensures kept { KeepsHeld errors.old.errors.entries errors.new.errors.entries }
     ensures freed { FreesUnheld errors.old.errors.entries errors.new.errors.entries }
+    ensures awaited { (n : ℕ) → is_awaited n errors.new.errors.entries ≡ is_awaited n errors.old.errors.entries }
+    ensures waited { IsTrue (any_waits errors.old.errors.entries slot)
+        → (n : ℕ) → shared_at n errors.new.errors.entries ≡ shared_at n errors.old.errors.entries }
     ensures holders { (n : ℕ) → holders_at n errors.new.errors.entries
         ≡ holders_at n errors.old.errors.entries - holds_any n slot }
 {
@@ -242,7 +320,9 @@ fn let_go_of(errors: &mut SharedErrors, slot: Option<Slot>)
 }
 
 impl Slot {
-    ghost use Rattle.amqp_session.specs.Parts.{slot_settled, slot_shared};
+    ghost use Rattle.std.specs.Option.{option_flatten};
+    ghost use Rattle.amqp_session.specs.Answers.{IsRejected};
+    ghost use Rattle.amqp_session.specs.Parts.{slot_seen, slot_settled, slot_shared};
 
     // It becomes this one; what it was.
     fn replace(&mut self, slot: Slot) -> Slot
@@ -252,31 +332,67 @@ impl Slot {
         mem::replace(self, slot)
     }
 
-    // Where it waits it gets this answer.
-    fn settle(&mut self, answer: error::Result<Answer>)
-        ensures { self.new ≡ slot_settled answer self.old }
+    // Whether it waits.
+    fn waits(&self, errors: &SharedErrors) -> bool
+        ensures { result ≡ waits errors.now.errors.entries self.now }
     {
         match self {
-            Slot::Waiting => *self = Slot::Answered(answer),
-            Slot::Place | Slot::Answered(_) | Slot::Shared(_) => drop(answer),
+            Slot::Waiting => true,
+            Slot::Shared(number) => errors.is_awaited(*number),
+            Slot::Place | Slot::Answered(_) => false,
+        }
+    }
+
+    // Its answer, where it has one; an Err where memory for its copy was refused.
+    fn answer(
+        &self,
+        alloc: Global,
+        errors: &SharedErrors,
+    ) -> Result<Option<error::Result<Answer>>, NoMemory>
+        ensures answer { IfOk result (λ answer.
+            answer ≡ option_flatten (slot_seen errors.now.errors.entries self.now)) }
+        ensures refused { OnErr result (IsRejected (option_flatten (slot_seen errors.now.errors.entries self.now))) }
+    {
+        match self {
+            Slot::Answered(Ok(answer)) => Ok(Some(Ok(*answer))),
+            Slot::Answered(Err(error)) => Ok(Some(Err(error.try_clone(alloc)?))),
+            Slot::Shared(number) => match errors.get(*number) {
+                Some(error) => Ok(Some(Err(error.try_clone(alloc)?))),
+                None => Ok(None),
+            },
+            Slot::Place | Slot::Waiting => Ok(None),
+        }
+    }
+
+    // Where it waits it gets this answer.
+    fn settle(&mut self, answer: error::Result<Answer>, errors: &mut SharedErrors)
+        requires { (n : ℕ) → holds n self.old ≤ holders_at n errors.old.errors.entries }
+        ensures slot { self.new ≡ slot_settled errors.old.errors.entries answer self.old }
+        ensures errors { (n : ℕ) → shared_at n errors.new.errors.entries ≡ shared_at n errors.old.errors.entries }
+        ensures holders { (n : ℕ) → holders_at n errors.new.errors.entries + holds n self.old
+            ≡ holders_at n errors.old.errors.entries + holds n self.new }
+    {
+        if self.waits(errors) {
+            let old = self.replace(Slot::Answered(answer));
+            let_go_of(errors, Some(old));
+        } else {
+            drop(answer);
         }
     }
 
     // Where it waits it is answered with the error of this number, if that is kept.
     fn share(&mut self, number: u64, errors: &mut SharedErrors)
-        requires { holders_at number errors.old.errors.entries + 1 < 2 ^ 64 }
-        ensures slot { IsSome (error_at number errors.old.errors.entries) → self.new ≡ slot_shared number self.old }
-        ensures errors { (n : ℕ) → error_at n errors.new.errors.entries ≡ error_at n errors.old.errors.entries }
+        requires few { holders_at number errors.old.errors.entries + 1 < 2 ^ 64 }
+        requires held { (n : ℕ) → holds n self.old ≤ holders_at n errors.old.errors.entries }
+        ensures slot { self.new ≡ slot_shared errors.old.errors.entries number self.old }
+        ensures errors { (n : ℕ) → shared_at n errors.new.errors.entries ≡ shared_at n errors.old.errors.entries }
         ensures holders { (n : ℕ) → holders_at n errors.new.errors.entries + holds n self.old
             ≡ holders_at n errors.old.errors.entries + holds n self.new }
     {
-        match self {
-            Slot::Waiting => {
-                if errors.hold(number) {
-                    *self = Slot::Shared(number);
-                }
-            }
-            Slot::Place | Slot::Answered(_) | Slot::Shared(_) => {}
+        if self.waits(errors) && errors.get(number).is_some() {
+            errors.hold(number);
+            let old = self.replace(Slot::Shared(number));
+            let_go_of(errors, Some(old));
         }
     }
 }

@@ -1,9 +1,13 @@
 //! The session, and its queries.
 
-ghost use Rattle.std.specs.Prelude.{◌≡◌, ◌∷◌, [], None, Ok, IfOk, IfErr};
+ghost use Rattle.std.specs.Prelude.{◌≡◌, ◌∷◌, ◌<◌, ◌^◌, [], None, Some, Ok, IfOk, IfErr, IfSome, IsTrue};
+ghost use Rattle.amqp_types.specs.declared.error.AMQPError.{AMQPError};
 ghost use Rattle.amqp_session.specs.Config.{config_of};
-ghost use Rattle.amqp_session.specs.Talk.{start};
-ghost use Rattle.amqp_session.specs.Parts.{promised};
+ghost use Rattle.amqp_session.specs.declared.error.ErrorKind.TheVariants.{ProtocolError};
+ghost use Rattle.amqp_session.specs.declared.server_close.ServerClose.TheVariants.{WithError};
+ghost use Rattle.amqp_session.specs.Talk.{start, is_open};
+ghost use Rattle.amqp_session.specs.Parts.{promised, is_with_error};
+ghost use Rattle.amqp_session.specs.Recovery.{was_up, reconnect_delay, reconnect};
 ghost use Rattle.amqp_session.specs.Changes.{present_at, starve, fail, lose, misplaced, close, finish, give, give_to};
 
 mod answers;
@@ -16,6 +20,7 @@ mod frames;
 mod links;
 mod places;
 mod queries;
+mod reopening;
 mod ticks;
 mod writing;
 
@@ -227,11 +232,58 @@ impl Session {
         self.channels.clear();
     }
 
-    // The link is lost, and without recovery the session ends.
+    // The link is lost. The session recovers from the error, or ends with it. No memory is taken.
     fn lose(&mut self, kind: ErrorKind)
         ensures { self.new ≡ lose kind self.old }
     {
-        self.fail(kind);
+        if !kind.can_be_recovered() {
+            self.fail(kind);
+            return;
+        }
+        match self.reconnect_delay() {
+            Some(delay) => self.reconnect(kind, delay),
+            None => self.fail(kind),
+        }
+    }
+
+    // How long the session waits for another link, where it may go on without this one and a delay is left.
+    fn reconnect_delay(&self) -> Option<u64>
+        ensures delay { result ≡ reconnect_delay self.now }
+        ensures small { IfSome result (λ delay. self.now.tried < 2 ^ 63) }
+        ensures opened { IfSome result (λ delay. IsTrue (is_open self.now)) }
+    {
+        if self.options.recovers() && self.is_open() && self.was_up() {
+            return self.options.delay(self.tried);
+        }
+        None
+    }
+
+    // Whether the connection is being opened or is open, or was when the server closed it.
+    fn was_up(&self) -> bool
+        ensures { result ≡ was_up self.now.state self.now.input }
+    {
+        match self.state {
+            ConnectionState::Connecting | ConnectionState::Connected => true,
+            ConnectionState::Closing => self.input.is_uncrossed(),
+            _ => false,
+        }
+    }
+
+    // What waited or was committed goes with the link, whoever waits for it is told why, and the channels
+    // that were open wait for another link.
+    fn reconnect(&mut self, kind: ErrorKind, delay: u64)
+        requires { self.old.tried < 2 ^ 63 }
+        ensures { self.new ≡ reconnect kind delay self.old }
+    {
+        self.state = ConnectionState::Reconnecting;
+        self.link = Link::Due(self.present.saturating_add(delay));
+        self.tried += 1;
+        self.blocked = false;
+        self.outbox.drop_all();
+        self.committed.clear();
+        self.channels.keep_open();
+        self.promises.reject_all(kind);
+        self.server_close = None;
     }
 
     fn close(&mut self)
@@ -242,18 +294,52 @@ impl Session {
         self.channels.clear();
     }
 
-    // The end after the server's close.
+    // The session finishes after the server's close. No memory is taken.
     fn finish(&mut self)
         ensures { self.new ≡ finish self.old }
     {
-        match self.server_close {
-            Some(ServerClose::WithError(_)) => {
-                self.state = ConnectionState::Error;
-                self.link = Link::Ended(Err(End::ByServer));
-                self.channels.clear();
-            }
-            Some(ServerClose::WithoutError) | None => self.close(),
+        if !self.is_closed_with_error() {
+            self.close();
+            return;
         }
+        match self.reconnect_delay() {
+            Some(delay) => self.reconnect_closed(delay),
+            None => self.fail_closed(),
+        }
+    }
+
+    // Whether the server closed the connection with an error.
+    fn is_closed_with_error(&self) -> bool
+        ensures { result ≡ is_with_error self.now.server_close }
+    {
+        matches!(self.server_close, Some(ServerClose::WithError(_)))
+    }
+
+    // The session recovers from the error with which the server closed.
+    fn reconnect_closed(&mut self, delay: u64)
+        requires small { self.old.tried < 2 ^ 63 }
+        requires opened { IsTrue (is_open self.old) }
+        ensures { (e : AMQPError) → self.old.server_close ≡ Some (WithError e)
+            → self.new ≡ reconnect (ProtocolError e) delay self.old }
+    {
+        match self.server_close.take() {
+            Some(ServerClose::WithError(error)) => self.reconnect(
+                ErrorKind::ProtocolError(error),
+                delay,
+            ),
+            told => self.server_close = told,
+        }
+    }
+
+    // The session ends by the error with which the server closed, which is kept there.
+    fn fail_closed(&mut self)
+        requires { IsTrue (is_with_error self.old.server_close) }
+        ensures { (e : AMQPError) → self.old.server_close ≡ Some (WithError e)
+            → self.new ≡ fail (ProtocolError e) self.old }
+    {
+        self.state = ConnectionState::Error;
+        self.link = Link::Ended(Err(End::ByServer));
+        self.channels.clear();
     }
 
     // Memory was refused to a rule, which had not begun.

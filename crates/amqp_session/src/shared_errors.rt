@@ -1,18 +1,18 @@
-//! Errors that several answers share: each is kept once, with its text.
+//! Errors that several promises share: each is kept once, with its text.
 
-ghost use Rattle.std.specs.Prelude.{◌≡◌, ℕ, ◌+◌, ◌-◌, ◌<◌, ◌^◌, ◌==◌, ◌&&◌, if◌then◌else◌, not, [], None, Some, is_some, IfOk, OnErr, option_copied};
+ghost use Rattle.std.specs.Prelude.{◌≡◌, ℕ, ◌+◌, ◌-◌, ◌<◌, ◌^◌, ◌==◌, ◌&&◌, if◌then◌else◌, [], None, Some, is_some, option_map, Option, IfOk, OnErr, option_copied};
 ghost use Rattle.amqp_session.specs.Listed.{at};
-ghost use Rattle.amqp_session.specs.Sharing.{error_at, holders_at};
+ghost use Rattle.amqp_session.specs.Sharing.{shared_at, error_at, is_awaited, unheld, holders_at};
 
 use crate::error::Error;
 use amqp_types::NoMemory;
 use std::alloc::Global;
 use std::collections::BTreeMap;
 
-/// An error, and how many answers hold it.
+/// An error, where it is known already, and how many promises hold it.
 #[derive(Debug, Drop)]
 pub struct SharedError {
-    error: Error,
+    error: Option<Error>,
     holders: u64,
 }
 
@@ -24,6 +24,12 @@ impl SharedError {
         self.holders += 1;
     }
 
+    fn fill(&mut self, error: Error)
+        ensures { self.new ≡ record self.old { error = Some error } }
+    {
+        drop(self.error.replace(error));
+    }
+
     fn release(&mut self)
         ensures { self.new ≡ record self.old { holders = self.old.holders - 1 } }
     {
@@ -31,7 +37,7 @@ impl SharedError {
     }
 }
 
-/// Errors by number.
+/// Errors by number, of which some are awaited.
 #[derive(Debug, Drop)]
 pub struct SharedErrors {
     errors: BTreeMap<u64, SharedError>,
@@ -47,11 +53,12 @@ impl SharedErrors {
         }
     }
 
-    /// Keeps an error, which nothing holds yet, and answers its number, which no other error has.
-    pub fn put(&mut self, error: Error) -> Result<u64, NoMemory>
+    /// Keeps an error, or awaits one, which nothing holds yet, and answers its number, which no other
+    /// error has.
+    pub fn put(&mut self, error: Option<Error>) -> Result<u64, NoMemory>
         ensures fresh { IfOk result (λ number. at number self.old.errors.entries ≡ None) }
-        ensures errors { IfOk result (λ number. (n : ℕ) → error_at n self.new.errors.entries
-            ≡ (if number == n then Some error else error_at n self.old.errors.entries)) }
+        ensures errors { IfOk result (λ number. (n : ℕ) → shared_at n self.new.errors.entries
+            ≡ (if number == n then Some error else shared_at n self.old.errors.entries)) }
         ensures holders { (n : ℕ) → holders_at n self.new.errors.entries ≡ holders_at n self.old.errors.entries }
         ensures err { OnErr result (self.new.errors.entries ≡ self.old.errors.entries) }
     {
@@ -79,39 +86,59 @@ impl SharedErrors {
         }
     }
 
+    /// The error of a number is known now, where one is kept or awaited.
+    pub fn fill(&mut self, number: u64, error: Error)
+        ensures errors { (n : ℕ) → shared_at n self.new.errors.entries
+            ≡ (if number == n then option_map (λ _. Some error) (shared_at n self.old.errors.entries)
+            else shared_at n self.old.errors.entries) }
+        ensures holders { (n : ℕ) → holders_at n self.new.errors.entries ≡ holders_at n self.old.errors.entries }
+    {
+        match self.errors.get_mut(&number) {
+            Some(shared) => shared.fill(error),
+            None => drop(error),
+        }
+    }
+
     /// The error of a number, where it is kept.
     pub fn get(&self, number: u64) -> Option<&Error>
         ensures { option_copied result ≡ error_at number self.now.errors.entries }
     {
         match self.errors.get(&number) {
-            Some(shared) => Some(&shared.error),
+            Some(shared) => shared.error.as_ref(),
             None => None,
         }
     }
 
-    /// One answer more holds an error, where it is kept; whether it is.
-    pub fn hold(&mut self, number: u64) -> bool
-        requires { holders_at number self.old.errors.entries + 1 < 2 ^ 64 }
-        ensures kept { result ≡ is_some (error_at number self.old.errors.entries) }
-        ensures errors { (n : ℕ) → error_at n self.new.errors.entries ≡ error_at n self.old.errors.entries }
-        ensures holders { (n : ℕ) → holders_at n self.new.errors.entries
-            ≡ (if result && number == n then holders_at n self.old.errors.entries + 1
-            else holders_at n self.old.errors.entries) }
+    /// Whether the error of a number is awaited.
+    pub fn is_awaited(&self, number: u64) -> bool
+        ensures { result ≡ is_awaited number self.now.errors.entries }
     {
-        match self.errors.get_mut(&number) {
-            Some(shared) => {
-                shared.hold();
-                true
-            }
+        match self.errors.get(&number) {
+            Some(shared) => shared.error.is_none(),
             None => false,
         }
     }
 
-    /// One answer less holds an error. Where it was the last, the error goes.
+    /// One promise more holds an error, where it is kept or awaited.
+    pub fn hold(&mut self, number: u64)
+        requires { holders_at number self.old.errors.entries + 1 < 2 ^ 64 }
+        ensures errors { (n : ℕ) → shared_at n self.new.errors.entries ≡ shared_at n self.old.errors.entries }
+        ensures holders { (n : ℕ) → holders_at n self.new.errors.entries
+            ≡ (if number == n && is_some (at n self.old.errors.entries)
+            then holders_at n self.old.errors.entries + 1
+            else holders_at n self.old.errors.entries) }
+    {
+        if let Some(shared) = self.errors.get_mut(&number) {
+            shared.hold();
+        }
+    }
+
+    /// One promise less holds an error. Where it was the last, the error goes; one that is awaited stays.
     pub fn release(&mut self, number: u64)
-        ensures errors { (n : ℕ) → error_at n self.new.errors.entries
-            ≡ (if number == n && holders_at n self.new.errors.entries == 0 then None
-            else error_at n self.old.errors.entries) }
+        ensures errors { (n : ℕ) → shared_at n self.new.errors.entries
+            ≡ (if number == n && holders_at n self.new.errors.entries == 0
+            then unheld (shared_at n self.old.errors.entries)
+            else shared_at n self.old.errors.entries) }
         ensures holders { (n : ℕ) → holders_at n self.new.errors.entries
             ≡ (if number == n then holders_at n self.old.errors.entries - 1
             else holders_at n self.old.errors.entries) }
@@ -121,7 +148,7 @@ impl SharedErrors {
     }
 
     fn release_one(&mut self, number: u64)
-        ensures errors { (n : ℕ) → error_at n self.new.errors.entries ≡ error_at n self.old.errors.entries }
+        ensures errors { (n : ℕ) → shared_at n self.new.errors.entries ≡ shared_at n self.old.errors.entries }
         ensures holders { (n : ℕ) → holders_at n self.new.errors.entries
             ≡ (if number == n then holders_at n self.old.errors.entries - 1
             else holders_at n self.old.errors.entries) }
@@ -131,24 +158,27 @@ impl SharedErrors {
         }
     }
 
-    /// An error that no answer holds goes.
+    /// An error that no promise holds goes.
     pub fn tidy(&mut self, number: u64)
-        ensures errors { (n : ℕ) → error_at n self.new.errors.entries
-            ≡ (if number == n && holders_at n self.old.errors.entries == 0 then None
-            else error_at n self.old.errors.entries) }
+        ensures errors { (n : ℕ) → shared_at n self.new.errors.entries
+            ≡ (if number == n && holders_at n self.old.errors.entries == 0
+            then unheld (shared_at n self.old.errors.entries)
+            else shared_at n self.old.errors.entries) }
         ensures holders { (n : ℕ) → holders_at n self.new.errors.entries ≡ holders_at n self.old.errors.entries }
     {
-        if !self.is_held(number) {
+        if self.is_unheld(number) {
             let _ = self.errors.len();
             drop(self.errors.remove(&number));
         }
     }
 
-    fn is_held(&self, number: u64) -> bool
-        ensures { result ≡ not (holders_at number self.now.errors.entries == 0) }
+    // Whether an error is known, and no promise holds it.
+    fn is_unheld(&self, number: u64) -> bool
+        ensures { result ≡ (is_some (error_at number self.now.errors.entries)
+            && holders_at number self.now.errors.entries == 0) }
     {
         match self.errors.get(&number) {
-            Some(shared) => shared.holders != 0,
+            Some(shared) => shared.error.is_some() && shared.holders == 0,
             None => false,
         }
     }

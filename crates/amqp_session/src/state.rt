@@ -3,6 +3,7 @@
 ghost use Rattle.std.specs.Prelude.{◌≡◌};
 ghost use Rattle.amqp_session.specs.Errors.{state_name, channel_state_name};
 ghost use Rattle.amqp_session.specs.Links.{dropped};
+ghost use Rattle.amqp_session.specs.Recovery.{is_uncrossed};
 
 use crate::error::Error;
 use std::fmt;
@@ -113,6 +114,16 @@ impl Input {
         match self {
             Input::Acting => Input::Acting,
             Input::Closed { crossed } | Input::Dropped { crossed } => Input::Dropped { crossed },
+        }
+    }
+
+    /// Whether the server closed the connection, and we had not closed it before.
+    pub fn is_uncrossed(self) -> bool
+        ensures { result ≡ is_uncrossed self }
+    {
+        match self {
+            Input::Acting => false,
+            Input::Closed { crossed } | Input::Dropped { crossed } => !crossed,
         }
     }
 }

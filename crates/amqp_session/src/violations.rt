@@ -1,4 +1,4 @@
-//! The errors with which a session ends where a server does what it may not.
+//! The errors by which a link is lost where a server does what it may not.
 
 ghost use Rattle.std.specs.Prelude.{◌≡◌, ◌≤◌, Some, IfOk, IsOk, IsFalse, length};
 ghost use Rattle.std.specs.String.{string_bytes};

@@ -1,11 +1,9 @@
 //! Links that are refused, and the delays after which one is wanted again.
 
-use crate::support::{Outcome, local_provider};
+use crate::support::{At, Outcome, local_provider, session_at, session_by};
 use amqp_session::{AuthList, ConnectionProperties, DefaultAuthProvider, Session};
 use amqp_types::NoMemory;
-use amqp_uri::AMQPUri;
 use std::alloc::Global;
-use std::process::Abort;
 
 // Properties with a delay of 50 milliseconds, and then one of 100.
 fn patient(alloc: Global) -> Result<ConnectionProperties, NoMemory> {
@@ -27,18 +25,7 @@ fn patient(alloc: Global) -> Result<ConnectionProperties, NoMemory> {
 }
 
 fn patient_session(alloc: Global) -> Outcome<Session> {
-    let options = patient(alloc)?;
-    match AMQPUri::local(alloc) {
-        Ok(uri) => {
-            let session = Session::new(alloc, &uri, options);
-            drop(uri);
-            Ok(session?)
-        }
-        Err(e) => {
-            drop(options);
-            Err(e)?
-        }
-    }
+    session_by(alloc, patient(alloc)?)
 }
 
 // Whether a link is wanted once time went by.
@@ -87,6 +74,69 @@ fn a_refused_link_is_wanted_again(rt: HostRuntime) -> Outcome<()> {
     };
     drop(auths);
     drop(provider);
+    assert!(rt; told?);
+    Ok(())
+}
+
+/// The delays of a session that recovers, where no others were given.
+const DELAYS: [u64; 16] = [
+    1000, 2000, 4000, 8000, 16_000, 32_000, 60_000, 60_000, 60_000, 60_000, 60_000, 60_000, 60_000,
+    60_000, 60_000, 60_000,
+];
+
+fn recovering_session(alloc: Global) -> Outcome<Session> {
+    let options = ConnectionProperties::new(alloc)?.enable_auto_recover(alloc)?;
+    session_by(alloc, options)
+}
+
+// Whether a link that is refused each time is wanted again when each of these delays is over, no sooner,
+// and not once more.
+fn waits_for(
+    session: &mut Session,
+    provider: &mut DefaultAuthProvider,
+    auths: &mut AuthList,
+    delays: &[u64],
+) -> Outcome<bool> {
+    let mut at: u64 = 0;
+    for delay in delays {
+        session.asked();
+        session.link_failed(at);
+        at = at.saturating_add(*delay);
+        if wants_at(session, provider, auths, at.saturating_sub(1))?
+            || !wants_at(session, provider, auths, at)?
+        {
+            return Ok(false);
+        }
+    }
+    session.asked();
+    session.link_failed(at);
+    Ok(session.has_ended())
+}
+
+// The same with the provider of the broker of this machine.
+fn has_delays(alloc: Global, session: &mut Session, delays: &[u64]) -> Outcome<bool> {
+    let mut provider = local_provider(alloc)?;
+    let mut auths = AuthList::new(alloc);
+    let waits = waits_for(session, &mut provider, &mut auths, delays);
+    drop(auths);
+    drop(provider);
+    waits
+}
+
+#[test]
+fn a_session_that_recovers_has_sixteen_delays(rt: HostRuntime) -> Outcome<()> {
+    let mut session = recovering_session(rt.alloc())?;
+    let told = has_delays(rt.alloc(), &mut session, &DELAYS);
+    drop(session);
+    assert!(rt; told?);
+    Ok(())
+}
+
+#[test]
+fn given_delays_stay_where_a_session_recovers(rt: HostRuntime) -> Outcome<()> {
+    let mut session = session_at(rt.alloc(), At::Recovering)?;
+    let told = has_delays(rt.alloc(), &mut session, &[50, 100]);
+    drop(session);
     assert!(rt; told?);
     Ok(())
 }

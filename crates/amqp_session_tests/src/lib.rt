@@ -35,6 +35,8 @@ mod options;
 #[cfg(test)]
 mod publishing;
 #[cfg(test)]
+mod recovering;
+#[cfg(test)]
 mod refreshing;
 #[cfg(test)]
 mod said;

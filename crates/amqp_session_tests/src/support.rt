@@ -165,20 +165,55 @@ pub enum At {
     ConnectedBy(&'static str),
     /// The same as `Connected`, with channel 1 open, which promise 1 opened.
     WithChannel,
+    /// The same as `New`, and it recovers, by a delay of 50 milliseconds, and then one of 100.
+    Recovering,
+    /// The same as `WithChannel`, and it recovers so.
+    RecoveringWithChannel,
 }
 
 /// A new session with the broker of this machine.
 pub fn new_session(alloc: Global) -> Outcome<Session> {
-    let options = ConnectionProperties::new(alloc)?;
-    let uri = AMQPUri::local(alloc)?;
-    let session = Session::new(alloc, &uri, options);
-    drop(uri);
-    Ok(session?)
+    session_by(alloc, ConnectionProperties::new(alloc)?)
+}
+
+/// The same, of these properties.
+pub fn session_by(alloc: Global, options: ConnectionProperties) -> Outcome<Session> {
+    match AMQPUri::local(alloc) {
+        Ok(uri) => {
+            let session = Session::new(alloc, &uri, options);
+            drop(uri);
+            Ok(session?)
+        }
+        Err(e) => {
+            drop(options);
+            Err(e)?
+        }
+    }
+}
+
+// Properties of a session that recovers, by a delay of 50 milliseconds, and then one of 100.
+fn recovering(alloc: Global) -> Result<ConnectionProperties, NoMemory> {
+    let delays = Vec::from_slice(alloc, &[50, 100])?;
+    match ConnectionProperties::new(alloc) {
+        Ok(options) => options.with_backoff(delays).enable_auto_recover(alloc),
+        Err(e) => {
+            drop(delays);
+            Err(e)
+        }
+    }
+}
+
+// A new session, which recovers or not.
+fn session_for(alloc: Global, at: At) -> Outcome<Session> {
+    match at {
+        At::Recovering | At::RecoveringWithChannel => session_by(alloc, recovering(alloc)?),
+        _ => new_session(alloc),
+    }
 }
 
 /// A session that stands there.
 pub fn session_at(alloc: Global, at: At) -> Outcome<Session> {
-    let mut session = new_session(alloc)?;
+    let mut session = session_for(alloc, at)?;
     match lead(alloc, &mut session, at) {
         Ok(()) => Ok(session),
         Err(failure) => {
@@ -190,11 +225,11 @@ pub fn session_at(alloc: Global, at: At) -> Outcome<Session> {
 
 fn lead(alloc: Global, session: &mut Session, at: At) -> Outcome<()> {
     match at {
-        At::New => Ok(()),
+        At::New | At::Recovering => Ok(()),
         At::Linked => link(session),
         At::Connected => connect(alloc, session, TUNE),
         At::ConnectedBy(tune) => connect(alloc, session, tune),
-        At::WithChannel => {
+        At::WithChannel | At::RecoveringWithChannel => {
             connect(alloc, session, TUNE)?;
             open_channel(session);
             read(alloc, session, CHANNEL_OPEN_OK_1)?;

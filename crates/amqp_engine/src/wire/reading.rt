@@ -2,7 +2,9 @@
 
 ghost use Rattle.std.specs.Prelude.{◌≡◌, ◌≢◌, ◌≤◌, not, ◌&&◌, ◌<◌, ◌+◌, ◌*◌, ◌^◌, ℕ, List, Option, Some, true, false, if◌then◌else◌, IfOk, OnOk, OnErr, IsTrue, IsFalse, [], ◌++◌, length, take, drop};
 ghost use Rattle.amqp_session.specs.Talk.{is_open, is_asked};
-ghost use Rattle.amqp_session.specs.Changes.{starve};
+ghost use Rattle.amqp_ring.specs.Ring.{capacity as room};
+ghost use Rattle.amqp_session.specs.Changes.{present_at, starve};
+ghost use Rattle.amqp_session.specs.Frames.{on_frame};
 ghost use Rattle.amqp_session.specs.Links.{link_failed, lost};
 ghost use Rattle.amqp_session.specs.Commands.{command as command_rule};
 ghost use Rattle.amqp_engine.specs.Plan.{at_most_64};
@@ -19,6 +21,21 @@ use amqp_frame::{Frame, Read, read_frame};
 use amqp_ring::Buffer;
 use amqp_session::{AuthList, AuthProvider, Cmd, IoFault, Misread};
 use amqp_types::NoMemory;
+use std::alloc::Global;
+
+// What a buffer keeps, in one of so many bytes.
+fn copy(alloc: Global, buffer: &Buffer, capacity: usize) -> Result<Buffer, NoMemory>
+    requires some { 1 ≤ capacity }
+    requires grows { room buffer.now ≤ capacity }
+    ensures kept { IfOk result (λ copied. copied.kept ≡ buffer.now.kept) }
+    ensures room { IfOk result (λ copied. room copied ≡ capacity) }
+{
+    let mut copied = Buffer::with_capacity(alloc, capacity)?;
+    let (first, second) = buffer.slices();
+    copied.write(first);
+    copied.write(second);
+    Ok(copied)
+}
 
 impl Wire {
     // The step of a turn, with the frames of its piece. Counts the parts.
@@ -348,10 +365,8 @@ impl Wire {
         ensures blames { Blames self.old.talk self.new.talk (A.refusals provider.old) (A.refusals provider.new) }
     {
         let capacity = self.session.capacity_after(&frame) as usize;
-        if let Err(refused) = Buffer::grow_both(&mut self.unread, &mut self.unsent, capacity) {
-            drop(frame);
-            self.session.starve(at);
-            return Err(refused);
+        if capacity > self.session.capacity() as usize {
+            return self.read_growing(at, frame, n, capacity, provider, auths);
         }
         if let Err(refused) = self.session.frame(frame, at, provider, auths) {
             drop(refused);
@@ -359,6 +374,61 @@ impl Wire {
         }
         self.step_over(n);
         Ok(true)
+    }
+
+    // The same of a frame that makes the capacity greater. Both buffers are copied before, and the
+    // copies take their place once it was read, since memory may be refused for what it makes.
+    fn read_growing<A: AuthProvider>(
+        &mut self,
+        at: u64,
+        frame: Frame,
+        n: usize,
+        capacity: usize,
+        provider: &mut A,
+        auths: &mut AuthList,
+    ) -> Result<bool, NoMemory>
+        requires open { IsTrue (is_open self.old.talk) }
+        requires within { n ≤ length self.old.unread }
+        requires after { (answers : List Asked)
+            → capacity ≡ (on_frame frame answers (present_at at self.old.talk)).capacity }
+        requires grows { self.old.talk.capacity ≤ capacity }
+        requires can { A.can provider.old }
+        ensures can { A.can provider.new }
+        ensures some { IfOk result (λ b. b ≡ true) }
+        ensures ok { OnOk result (RowHears at (reads.Whole frame n) self.old self.new
+            (A.allows provider.old) (A.allows provider.new) auths.old.list auths.new.list) }
+        ensures err { OnErr result (self.new ≡ rule_at at starve self.old) }
+        ensures listed { OnErr result (Grew auths.old.list auths.new.list) }
+        ensures never_falls { A.refusals provider.old ≤ A.refusals provider.new }
+        ensures blames { Blames self.old.talk self.new.talk (A.refusals provider.old) (A.refusals provider.new) }
+    {
+        let (unread, unsent) = match self.copies(capacity) {
+            Ok(both) => both,
+            Err(refused) => {
+                drop(frame);
+                self.session.starve(at);
+                return Err(refused);
+            }
+        };
+        if let Err(refused) = self.session.frame(frame, at, provider, auths) {
+            drop(refused);
+            return Err(NoMemory);
+        }
+        self.unread = unread;
+        self.unsent = unsent;
+        self.step_over(n);
+        Ok(true)
+    }
+
+    // Both buffers with what they keep, of so many bytes each.
+    fn copies(&self, capacity: usize) -> Result<(Buffer, Buffer), NoMemory>
+        requires { self.now.talk.capacity ≤ capacity }
+        ensures unread { IfOk result (λ both. (both.0.kept ≡ self.now.unread) × (room both.0 ≡ capacity)) }
+        ensures unsent { IfOk result (λ both. (both.1.kept ≡ self.now.unsent) × (room both.1 ≡ capacity)) }
+    {
+        let unread = copy(self.alloc, &self.unread, capacity)?;
+        let unsent = copy(self.alloc, &self.unsent, capacity)?;
+        Ok((unread, unsent))
     }
 
     // So many of the unread bytes were read.

@@ -9,7 +9,6 @@ use super::Session;
 use crate::command::Answer;
 use crate::error::{self, ErrorKind};
 use crate::handed::Handed;
-use crate::promises::Slot;
 use crate::server_close::ServerClose;
 use crate::state::{ConnectionState, End, Link};
 use amqp_types::NoMemory;
@@ -36,13 +35,10 @@ impl Session {
         ensures answer { IfOk result (λ answer. answer ≡ answer_of number self.now) }
         ensures refused { OnErr result (IsRejected (answer_of number self.now)) }
     {
-        match self.promises.get(number) {
-            Some(Slot::Waiting) => self.rejection(),
-            Some(Slot::Answered(Ok(answer))) => Ok(Some(Ok(*answer))),
-            Some(Slot::Answered(Err(error))) => Ok(Some(Err(error.try_clone(self.alloc)?))),
-            Some(Slot::Shared(number)) => self.promises.shared(self.alloc, *number),
-            Some(Slot::Place) | None => Ok(None),
+        if self.promises.waits(number) {
+            return self.rejection();
         }
+        self.promises.answer(self.alloc, number)
     }
 
     // How the end answers a promise that still waits.

@@ -6,11 +6,12 @@ ghost use Rattle.amqp_session.specs.Changes.{queue};
 ghost use Rattle.amqp_session.specs.Memory.{MakesNothing};
 ghost use Rattle.amqp_session.specs.Parts.{login_answers};
 ghost use Rattle.amqp_session.specs.Sound.{is_agreed};
-ghost use Rattle.amqp_session.specs.ConnectionMethods.{started, challenged, on_start, on_secure, on_tune, on_open_ok, on_connection_close, on_connection_close_ok, on_update_secret_ok, connection_rule};
+ghost use Rattle.amqp_session.specs.ConnectionMethods.{started, challenged, on_start, on_secure, on_tune, connected, on_open_ok, on_connection_close, on_connection_close_ok, on_update_secret_ok, connection_rule};
 
 use super::Session;
 use super::asking::Login;
 use super::places::{reserve_both, reserve_item};
+use super::reopening::{reopen, reserve_reopening};
 use crate::command::Answer;
 use crate::configuration::{Configuration, tune};
 use crate::error::ErrorKind;
@@ -62,10 +63,7 @@ impl Session {
                     heartbeat,
                 })
             }
-            (Connecting, AwaitOpenOk, Method::OpenOk) => {
-                self.on_open_ok();
-                Ok(())
-            }
+            (Connecting, AwaitOpenOk, Method::OpenOk) => self.on_open_ok(),
             (Connected, _, Method::UpdateSecretOk) => {
                 self.on_update_secret_ok();
                 Ok(())
@@ -189,9 +187,30 @@ impl Session {
         Ok(())
     }
 
-    fn on_open_ok(&mut self)
+    // The channels that were kept are opened again, but those whose numbers are no longer agreed go.
+    fn on_open_ok(&mut self) -> Result<(), NoMemory>
         requires { IsTrue (is_agreed self.old.state self.old.phase) }
-        ensures { self.new ≡ on_open_ok self.old }
+        ensures ok { OnOk result (self.new ≡ on_open_ok self.old) }
+        ensures err { OnErr result (self.new ≡ self.old) }
+        ensures idle { MakesNothing self.old (on_open_ok self.old) → IsOk result }
+    {
+        let channel_max = self.configuration.channel_max;
+        reserve_reopening(
+            &mut self.outbox,
+            &mut self.committed,
+            &self.channels,
+            channel_max,
+        )?;
+        reopen(&mut self.outbox, &self.channels, channel_max);
+        self.channels.remove_above(channel_max);
+        self.connected();
+        Ok(())
+    }
+
+    // The connection is open, and its promise is answered.
+    fn connected(&mut self)
+        requires { IsTrue (is_agreed self.old.state self.old.phase) }
+        ensures { self.new ≡ connected self.old }
     {
         self.give(0, Answer::Connected);
         self.capacity = self.capacity.grown(self.configuration.frame_max);

@@ -1,12 +1,11 @@
 //! What goes where a channel or the connection is closed.
 
-ghost use Rattle.std.specs.Prelude.{◌≡◌, ◌≤◌, ℕ, Option, IsSome, filter, length};
+ghost use Rattle.std.specs.Prelude.{◌≡◌, ◌≤◌, ℕ, Option, filter, length};
 ghost use Rattle.amqp_types.specs.declared.word.Word.TheVariants as word;
 ghost use Rattle.amqp_outbox.specs.Parts.{queued, HasControlPlaces};
 ghost use Rattle.amqp_outbox.specs.Queued.{is_on, waiting_items};
-ghost use Rattle.amqp_session.specs.Listed.{at};
 ghost use Rattle.amqp_session.specs.Changes.{rejected, rejected_each, without_groups_of, without_groups, promises_on, without_all_on, replies_on, without_replies_on};
-ghost use Rattle.amqp_session.specs.Parts.{promised, HasWhy};
+ghost use Rattle.amqp_session.specs.Parts.{promised, HasPlace, HasWhy};
 
 use crate::error::ErrorKind;
 use crate::promises::{Promises, Why};
@@ -23,7 +22,7 @@ pub fn drop_groups_of(outbox: &mut Outbox, promises: &mut Promises, id: ChannelI
     ensures slots { promised promises.new ≡
         rejected (ErrorKind.InvalidChannelState ChannelState.Closing word.ChannelClose)
         (filter (is_on id) (queued outbox.old).publish) (promised promises.old) }
-    ensures places { (n : ℕ) → IsSome (at n promises.old.slots.entries) → IsSome (at n promises.new.slots.entries) }
+    ensures place { HasPlace promises.old → HasPlace promises.new }
 {
     'groups: while let Some(promise) = outbox.drop_channel(id, Scope::Unbegun) {
         let closing = ErrorKind::InvalidChannelState(ChannelState::Closing, Word::ChannelClose);
@@ -39,7 +38,7 @@ pub fn drop_groups(outbox: &mut Outbox, promises: &mut Promises)
     ensures slots { promised promises.new ≡
         rejected (ErrorKind.InvalidConnectionState ConnectionState.Closing)
         (queued outbox.old).publish (promised promises.old) }
-    ensures places { (n : ℕ) → IsSome (at n promises.old.slots.entries) → IsSome (at n promises.new.slots.entries) }
+    ensures place { HasPlace promises.old → HasPlace promises.new }
 {
     'groups: while let Some(promise) = outbox.drop_unbegun() {
         let closing = ErrorKind::InvalidConnectionState(ConnectionState::Closing);

@@ -5,7 +5,8 @@ ghost use Rattle.amqp_session.specs.Talk.{is_asked, acts};
 ghost use Rattle.amqp_session.specs.Changes.{present_at, starve};
 ghost use Rattle.amqp_session.specs.Memory.{MakesNothing};
 ghost use Rattle.amqp_session.specs.declared.misread.Misread.{Misread};
-ghost use Rattle.amqp_session.specs.Links.{asked, linked, link_failed, delayed, piece, misread, lost};
+ghost use Rattle.amqp_session.specs.Recovery.{delayed};
+ghost use Rattle.amqp_session.specs.Links.{asked, linked, link_failed, piece, misread, lost};
 
 use super::Session;
 use crate::error::{self, ErrorKind};

@@ -1,12 +1,12 @@
 //! The places for what a rule adds, which are all made before anything is changed.
 
-ghost use Rattle.std.specs.Prelude.{◌≡◌, ◌+◌, ◌<◌, ◌≤◌, ◌^◌, Some, IfOk, IsSome, length, OnOk, OnErr};
+ghost use Rattle.std.specs.Prelude.{◌≡◌, ℕ, ◌+◌, ◌<◌, ◌≤◌, ◌^◌, IfOk, length, OnOk, OnErr};
 ghost use Rattle.std.specs.VecDeque.{deque_capacity};
+ghost use Rattle.amqp_outbox.specs.declared.reply.Reply.{Reply};
 ghost use Rattle.amqp_outbox.specs.Items.{dropped_with, size_of};
 ghost use Rattle.amqp_outbox.specs.Parts.{queued, HasControlPlaces, HasGroupPlace, HasReplyPlace};
 ghost use Rattle.amqp_outbox.specs.Queued.{waiting_items, pushed_control, expected};
-ghost use Rattle.amqp_session.specs.Listed.{at};
-ghost use Rattle.amqp_session.specs.Parts.{promised};
+ghost use Rattle.amqp_session.specs.Parts.{promised, HasPlace};
 
 use crate::committed::Committed;
 use crate::promises::Promises;
@@ -25,6 +25,7 @@ pub fn reserve_frames(
     ensures marks { committed.new.marks.items ≡ committed.old.marks.items }
     ensures kept { deque_capacity committed.old.marks ≤ deque_capacity committed.new.marks }
     ensures lane { OnOk result (HasControlPlaces dropped_with frames octets outbox.new) }
+    ensures reply { (c : ℕ) (r : Reply) → HasReplyPlace c r outbox.old → HasReplyPlace c r outbox.new }
     ensures places { OnOk result
         (length committed.old.marks.items + (length (waiting_items (queued outbox.old)) + frames)
         ≤ deque_capacity committed.new.marks) }
@@ -87,7 +88,7 @@ pub fn reserve_promised(
         ≤ deque_capacity committed.new.marks) }
     ensures made { promises.new.made ≡ promises.old.made }
     ensures slots { promised promises.new ≡ promised promises.old }
-    ensures place { OnOk result (IsSome (at promises.new.made promises.new.slots.entries)) }
+    ensures place { OnOk result (HasPlace promises.new) }
     ensures count { OnOk result (promises.new.made + 1 < 2 ^ 64) }
 {
     reserve_item(outbox, committed, item)?;
@@ -208,7 +209,7 @@ pub fn reserve_group(
         ≤ deque_capacity committed.new.marks) }
     ensures made { promises.new.made ≡ promises.old.made }
     ensures slots { promised promises.new ≡ promised promises.old }
-    ensures place { OnOk result (IsSome (at promises.new.made promises.new.slots.entries)) }
+    ensures place { OnOk result (HasPlace promises.new) }
     ensures count { OnOk result (promises.new.made + 1 < 2 ^ 64) }
 {
     outbox.reserve_group(group)?;

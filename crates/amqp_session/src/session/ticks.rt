@@ -29,7 +29,7 @@ const MISSED: u64 = 2000;
 const DUE: u64 = 500;
 
 impl Session {
-    /// Time goes by. Where nothing was read for more than two of the agreed intervals, the session ends;
+    /// Time goes by. Where nothing was read for more than two of the agreed intervals, the link is lost;
     /// where nothing was written for more than half of one, a heartbeat is to go out; and where the
     /// provider says that the secret is no longer valid, a new one is asked for and to be told; and where
     /// the delay of a link is over, one is wanted. The provider's answers are put last into the list.

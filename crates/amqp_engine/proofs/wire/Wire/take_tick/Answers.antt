@@ -1,6 +1,7 @@
 use Rattle.std.proofs.Common.{◌≡◌, ◌∙◌, true, ap, refl, sym, subst, arith}
 use Rattle.amqp_session.specs.Talk.{Talk, is_open}
 use Rattle.amqp_session.specs.Changes.{present_at}
+use Rattle.amqp_session.specs.Ticks.{tick}
 use Rattle.amqp_session.specs.Writing.{left_in}
 use Rattle.amqp_session.proofs.Keeping.{present-keeps, keeps-tick}
 use Rattle.amqp_engine.specs.declared.port.Step.TheVariants.{Tick}
@@ -16,11 +17,11 @@ invariant_of-self-2 g c =
     let x : Talk = present_at at t in
     let h = c.in_default.ensures.ok in
     let k = keeps-tick h.answers x in
-    let capacity = ap (λ (y : Talk). y.capacity) h.talk ∙ k.capacity ∙ present-keeps (λ y. y.capacity) at t (λ n. refl) in
-    let committed = ap (λ (y : Talk). y.committed) h.talk ∙ k.committed ∙ present-keeps (λ y. y.committed) at t (λ n. refl) in (
+    let capacity = ap (λ (y : Talk). y.capacity) h.talk ∙ k.capacity ∙ present-keeps (λ y. y.capacity) at t (λ n. refl) in (
       λ now.
-          let opened : is_open t ≡ true =
-          sym (present-keeps is_open at t (λ n. refl)) ∙ opens-tick h.answers x (sym (ap is_open h.talk) ∙ now) in
+          let still : is_open (tick h.answers x) ≡ true = sym (ap is_open h.talk) ∙ now in
+          let opened : is_open t ≡ true = sym (present-keeps is_open at t (λ n. refl)) ∙ opens-tick h.answers x still in
+          let committed = ap (λ (y : Talk). y.committed) h.talk ∙ k.committed still ∙ present-keeps (λ y. y.committed) at t (λ n. refl) in
           c.self.invariant.0 opened ∙ sym (ap left_in committed),
       c.self.invariant.1 ∙ sym capacity,
       c.self.invariant.2 ∙ sym capacity,

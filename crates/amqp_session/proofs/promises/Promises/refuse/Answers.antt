@@ -6,6 +6,7 @@ use Rattle.amqp_session.specs.declared.promises.Slot.TheVariants.{Answered}
 use Rattle.amqp_session.specs.Sharing.{holders_at, holds_any}
 use Rattle.amqp_session.specs.Parts.{slot_seen}
 use Rattle.amqp_session.proofs.Holding.{counted-put, seen-kept}
+use Rattle.amqp_session.proofs.Losses.{suits-same, suits-updated}
 use Rattle.amqp_session.proofs.promises.Promises.refuse.Goals as goal
 
 pub invariant_of-self-2 : goal.invariant_of-self-2
@@ -16,6 +17,10 @@ invariant_of-self-2 c =
       counted =
           counted-put self.made self.slots.entries _ errors _ self.counted (Answered (Err c.into.result)) c.insert.ensures.was_ordered c.in_ok-old.ensures.entries (λ k. refl)
           (λ k. c.let_go_of.ensures.holders k ∙ ap (λ o. holders_at k errors - holds_any k o) c.in_ok-old.ensures.old);
+      awaited = λ n. c.let_go_of.ensures.awaited n ∙ self.awaited n;
+      suited =
+          suits-same c.insert.new.self.entries errors c.let_go_of.new.errors.errors.entries c.let_go_of.ensures.awaited
+          (suits-updated self.made (Some (Answered (Err c.into.result))) self.slots.entries _ errors c.in_ok-old.ensures.updates.0 refl self.suited);
     }
 
 pub returns-clause-slots : goal.returns-clause-slots

@@ -1,6 +1,19 @@
-use Rattle.std.proofs.Common.{◌∙◌}
+use Rattle.std.proofs.Common.{◌∙◌, Some}
 use Rattle.amqp_session.proofs.Holding.{seen-kept, kept-come}
+use Rattle.amqp_session.proofs.Losses.{awaited-put, suits-same}
 use Rattle.amqp_session.proofs.promises.Promises.why.Goals as goal
+
+pub invariant_of-self : goal.invariant_of-self
+invariant_of-self c =
+    let self = c.args.self.now in
+    let errors = self.errors.errors.entries in
+    let errors' = c.put.new.self.errors.entries in
+    let same = awaited-put c.put.result c.into.result errors errors' c.put.ensures.fresh c.put.ensures.errors c.put.ensures.err in
+    record {
+      counted = λ n. c.put.ensures.holders n ∙ self.counted n;
+      awaited = λ n. same n ∙ self.awaited n;
+      suited = suits-same self.slots.entries errors errors' same self.suited;
+    }
 
 pub returns-clause-slots : goal.returns-clause-slots
 returns-clause-slots c =
@@ -8,4 +21,4 @@ returns-clause-slots c =
     let errors = self.errors.errors.entries in
     let errors' = c.put.new.self.errors.entries in
     seen-kept self.slots.entries errors errors' (λ n. c.put.ensures.holders n ∙ self.counted n)
-    (kept-come c.in_ok-put.field-0 c.into.result errors errors' c.in_ok-put.ensures.fresh c.in_ok-put.ensures.errors c.put.ensures.holders)
+    (kept-come c.in_ok-put.field-0 (Some c.into.result) errors errors' c.in_ok-put.ensures.fresh c.in_ok-put.ensures.errors c.put.ensures.holders)

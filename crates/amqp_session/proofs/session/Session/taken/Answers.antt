@@ -1,7 +1,7 @@
-use Rattle.std.proofs.Common.{◌≡◌, ◌∙◌, ◌-◌, ap, sym}
+use Rattle.std.proofs.Common.{◌≡◌, ◌∙◌, ◌-◌, ap, sym, length, arith}
 use Rattle.amqp_session.specs.Talk.{Talk}
 use Rattle.amqp_session.specs.Writing.{follow, sent_among}
-use Rattle.amqp_session.proofs.Taken.{first-goes}
+use Rattle.amqp_session.proofs.Taken.{first-goes, sent-fewer}
 use Rattle.amqp_session.proofs.session.Session.taken.Goals as goal
 
 pub loop-mark-preserved : goal.loop-mark-preserved
@@ -13,3 +13,9 @@ loop-mark-preserved c =
           ∙ first-goes c.loop-mark.left c.loop-mark.self c.in-Some.mark (sym c.in-Some.ensures.first)
           ∙ c.loop-mark.invariant.goes_on;
     }
+
+pub loop-mark-smaller : goal.loop-mark-smaller
+loop-mark-smaller c =
+    let less = sent-fewer c.loop-mark.left c.loop-mark.self c.in-Some.mark (sym c.in-Some.ensures.first) in
+    let reached : c.follow.new.self ≡ _ = c.follow.ensures ∙ ap (follow c.in-Some.mark.then) c.in-Some.ensures.rest in
+    omega (arith, less, ap (λ (x : Talk). length x.committed) reached)

@@ -1,27 +1,50 @@
-use Rattle.std.proofs.Common.{◌≡◌, ◌∙◌, ap, sym, subst, Option, Some, option_map, Result}
-use Rattle.std.specs.Option.{option_copied}
-use Rattle.amqp_outbox.specs.Order.{seen_at}
+use Rattle.std.proofs.Common.{◌≡◌, ◌∙◌, ap, sym, refl, subst, Option, None, Some, Result, IfOk, OnErr}
+use Rattle.std.specs.Option.{option_flatten}
 use Rattle.amqp_session.specs.declared.command.Answer.{Answer}
 use Rattle.amqp_session.specs.declared.error.ErrorKind.{ErrorKind}
-use Rattle.amqp_session.specs.declared.promises.Slot.TheVariants.{Shared}
 use Rattle.amqp_session.specs.Listed.{at}
 use Rattle.amqp_session.specs.Talk.{Talk, end_of}
-use Rattle.amqp_session.specs.Answers.{answer_in, IsRejected}
-use Rattle.amqp_session.specs.Parts.{slot_seen, shared_answer}
-use Rattle.amqp_session.proofs.Holding.{shared-rejects}
-use Rattle.amqp_session.proofs.Cases.{on-err-then}
+use Rattle.amqp_session.specs.Answers.{answer_in, answer_of, IsRejected}
+use Rattle.amqp_session.specs.Parts.{promised}
 use Rattle.amqp_session.proofs.session.Session.untaken.Goals as goal
 
-pub returns-in-Some-Shared-clause-refused : goal.returns-in-Some-Shared-clause-refused
-returns-in-Some-Shared-clause-refused c =
-    let number = c.args.number in
-    let errors = c.self.inside.promises.errors.errors.entries in
-    let n = c.in-Some-Shared.number in
-    let slot : at number c.self.inside.promises.slots.entries ≡ Some (Shared n) =
-    sym c.get.ensures.slot ∙ ap option_copied c.in-Some-Shared.is ∙ ap Some c.in-Some-Shared.field-0-is in
-    let is : at number c.args.self.now.promises ≡ option_map Some (shared_answer n errors) =
-    ap (λ (t : Talk). at number t.promises) (sym c.self.view_is) ∙ c.get.ensures.seen ∙ ap (seen_at (slot_seen errors)) slot in
-    on-err-then c.shared.result
-    (λ kept. subst (λ (o : Option (Option (Result Answer ErrorKind))). IsRejected (answer_in (end_of c.args.self.now) o)) (sym is)
-    (shared-rejects (end_of c.args.self.now) n errors kept))
-    c.shared.ensures.refused
+-- a promise that does not wait has the answer that is kept
+answer-kept : (ended : Option (Result (Unit {0}) ErrorKind)) (o : Option (Option (Result Answer ErrorKind))) → (o ≡ Some None → ⊥)
+    → option_flatten o ≡ answer_in ended o
+answer-kept ended None waits = refl
+answer-kept ended (Some None) waits = absurd (waits refl)
+answer-kept ended (Some (Some answer)) waits = refl
+
+pub returns-then-waits-clause-answer : goal.returns-then-waits-clause-answer
+returns-then-waits-clause-answer c =
+    let n = c.args.number in
+    let is : at n c.args.self.now.promises ≡ Some None =
+    ap (λ (t : Talk). at n t.promises) (sym c.self.view_is) ∙ c.waits.ensures.0 c.if-waits.true in
+    subst (λ o. IfOk c.rejection.result (λ answer. answer ≡ answer_in (end_of c.args.self.now) o)) (sym is) c.rejection.ensures.answer
+
+pub returns-then-waits-clause-refused : goal.returns-then-waits-clause-refused
+returns-then-waits-clause-refused c =
+    let n = c.args.number in
+    let is : at n c.args.self.now.promises ≡ Some None =
+    ap (λ (t : Talk). at n t.promises) (sym c.self.view_is) ∙ c.waits.ensures.0 c.if-waits.true in
+    subst (λ o. OnErr c.rejection.result (IsRejected (answer_in (end_of c.args.self.now) o))) (sym is) c.rejection.ensures.refused
+
+pub returns-clause-answer : goal.returns-clause-answer
+returns-clause-answer c =
+    let n = c.args.number in
+    let ended = end_of c.args.self.now in
+    let kept = at n (promised c.self.inside.promises) in
+    let is : option_flatten kept ≡ answer_of n c.args.self.now =
+    answer-kept ended kept (λ h. let k = c.waits.ensures.1 h in let no = c.if-waits.false in absurd cc)
+    ∙ ap (λ (t : Talk). answer_in ended (at n t.promises)) c.self.view_is in
+    subst (λ o. IfOk c.answer.result (λ answer. answer ≡ o)) is c.answer.ensures.answer
+
+pub returns-clause-refused : goal.returns-clause-refused
+returns-clause-refused c =
+    let n = c.args.number in
+    let ended = end_of c.args.self.now in
+    let kept = at n (promised c.self.inside.promises) in
+    let is : option_flatten kept ≡ answer_of n c.args.self.now =
+    answer-kept ended kept (λ h. let k = c.waits.ensures.1 h in let no = c.if-waits.false in absurd cc)
+    ∙ ap (λ (t : Talk). answer_in ended (at n t.promises)) c.self.view_is in
+    subst (λ o. OnErr c.answer.result (IsRejected o)) is c.answer.ensures.refused

@@ -1,12 +1,11 @@
 -- What is then left to do leads where the whole does.
-use Rattle.std.proofs.Common.{◌≡◌, ◌≤◌, ℕ, IsSome, length}
+use Rattle.std.proofs.Common.{◌≡◌, ◌≤◌, length}
 use Rattle.amqp_outbox.specs.Parts.{queued}
 use Rattle.amqp_outbox.specs.Queued.{waiting_items}
 use Rattle.amqp_session.specs.declared.state.ConnectionState.TheVariants.{Closing}
 use Rattle.amqp_session.specs.declared.error.ErrorKind.TheVariants.{InvalidConnectionState}
-use Rattle.amqp_session.specs.Listed.{at}
 use Rattle.amqp_session.specs.Changes.{drop_groups}
-use Rattle.amqp_session.specs.Parts.{promised}
+use Rattle.amqp_session.specs.Parts.{promised, HasPlace}
 use Rattle.amqp_session.proofs.Rejecting.{with_parts}
 use Rattle.amqp_session.proofs.session.dropping.drop_groups.Given as goal
 
@@ -15,7 +14,7 @@ invariant-groups l = record {
   goes_on : drop_groups (InvalidConnectionState Closing) (with_parts (queued l.outbox) (promised l.promises))
       ≡ drop_groups (InvalidConnectionState Closing) (with_parts (queued l.fn.outbox) (promised l.fn.promises));
   made : l.promises.made ≡ l.fn.promises.made;
-  places : (n : ℕ) → IsSome (at n l.fn.promises.slots.entries) → IsSome (at n l.promises.slots.entries);
+  place : HasPlace l.fn.promises → HasPlace l.promises;
   fewer : length (waiting_items (queued l.outbox)) ≤ length (waiting_items (queued l.fn.outbox));
 }
 

@@ -38,7 +38,7 @@ groups-preserved c =
           ∙ one-dropped n closed (with_parts q promises) c.in-Some.promise there
           ∙ c.groups.invariant.goes_on;
       made = c.reject.ensures.made ∙ c.groups.invariant.made;
-      places = λ m h. c.reject.ensures.places m (c.groups.invariant.places m h);
+      place = λ h. c.reject.ensures.place (c.groups.invariant.place h);
       fewer =
           omega (
             arith,

@@ -3,10 +3,12 @@ use Rattle.amqp_session.specs.declared.promises.Slot.TheVariants.{Place}
 use Rattle.amqp_session.specs.Listed.{at}
 use Rattle.amqp_outbox.specs.Order.{seen}
 use Rattle.amqp_session.specs.Parts.{slot_seen}
+use Rattle.amqp_outbox.proofs.Cases.{on-ok}
 use Rattle.amqp_session.proofs.Maps.{at-absent}
 use Rattle.amqp_session.proofs.Holding.{counted-placed}
+use Rattle.amqp_session.proofs.Losses.{suits-placed}
 use Rattle.amqp_outbox.proofs.Seen.{put-unseen}
-use Rattle.amqp_session.proofs.promises.Promises.reserve.Goals as goal
+use Rattle.amqp_session.proofs.promises.Promises.reserve_slot.Goals as goal
 
 pub invariant_of-self-2 : goal.invariant_of-self-2
 invariant_of-self-2 c =
@@ -16,6 +18,8 @@ invariant_of-self-2 c =
     record {
       counted =
           counted-placed c.insert.result self.made es _ self.errors.errors.entries self.counted c.insert.ensures.was_ordered none c.insert.ensures.entries c.insert.ensures.err;
+      awaited = self.awaited;
+      suited = suits-placed c.insert.result self.made es _ self.errors.errors.entries (on-ok c.insert.result (λ u. u.0) c.insert.ensures.updates) c.insert.ensures.err self.suited;
     }
 
 pub returns-clause-slots : goal.returns-clause-slots

@@ -1,0 +1,65 @@
+use Rattle.std.proofs.Common.{◌≡◌, ◌∙◌, ap, sym, subst, ℕ, true, false, List, length, None, inl, inr, arith}
+use Rattle.std.proofs.lemmas.Bool.{cases_eq}
+use Rattle.amqp_outbox.specs.Listed.{Ascends}
+use Rattle.amqp_outbox.specs.Parts.{queued}
+use Rattle.amqp_outbox.specs.Queued.{Queued, waiting_items}
+use Rattle.amqp_session.specs.contracts.session.Session.{the_view}
+use Rattle.amqp_session.specs.declared.committed.Mark.{Mark}
+use Rattle.amqp_session.specs.Talk.{Talk}
+use Rattle.amqp_session.specs.Channels.{Listing}
+use Rattle.amqp_session.specs.ConnectionMethods.{connected, on_open_ok}
+use Rattle.amqp_session.specs.Reopening.{numbers_after, reopened_each}
+use Rattle.amqp_session.specs.Writing.{left_in}
+use Rattle.amqp_session.proofs.Reopening.{reopened-more, on-open-ok, none-opened}
+use Rattle.amqp_session.proofs.session.Session.on_open_ok.Goals as goal
+
+pub returns-in_err-reserve_reopening-clause-idle :
+    goal.returns-in_err-reserve_reopening-clause-idle
+returns-in_err-reserve_reopening-clause-idle c m =
+    let t = c.args.self.now in
+    let P : Talk → Type 0 = λ x. Ascends x.channels in
+    let sorted : Ascends t.channels = subst P c.self.view_is c.in_err-reserve_reopening.ensures.ordered in
+    let taken : false ≡ true =
+    c.in_err-reserve_reopening.ensures.idle
+    (ap (λ (x : Talk). numbers_after None x.configuration.channel_max x.channels) c.self.view_is ∙ none-opened t sorted m) in
+    absurd cc
+
+pub invariant_of-self-2 : goal.invariant_of-self-2
+invariant_of-self-2 c =
+    let waits : Queued → ℕ = λ q. length (waiting_items q) in
+    let listed = c.self.inside.channels.listed in
+    let ns : List ℕ = numbers_after None c.self.inside.configuration.channel_max listed in
+    let said = ap waits c.reopen.ensures in
+    let before = ap waits c.in_ok-reserve_reopening.ensures.same in
+    let more = reopened-more ns (queued c.reserve_reopening.new.outbox) in
+    let marks = ap (λ (ms : List Mark). length ms) c.in_ok-reserve_reopening.ensures.marks in
+    let left = ap left_in c.in_ok-reserve_reopening.ensures.marks in
+    let held = c.self.invariant.0 in
+    let kept = c.in_ok-reserve_reopening.ensures.kept in
+    let until = c.remove_above.ensures.until in
+    let made = c.self.invariant.6 in (
+      elim (cases_eq (length ns) 0) [
+        | inl none ↦ omega (arith, said, before, more, marks, held, kept, none)
+        | inr some ↦
+            let places = c.in_ok-reserve_reopening.ensures.places (omega (arith, some)) in
+            omega (arith, said, before, more, marks, places)
+      ],
+      omega (arith, left, c.self.invariant.1),
+      c.self.invariant.2,
+      c.self.invariant.3,
+      c.self.invariant.4,
+      c.self.invariant.5,
+      omega (arith, until, made),
+    )
+
+pub returns-clause-ok : goal.returns-clause-ok
+returns-clause-ok c =
+    let t : Talk = the_view c.self.inside in
+    let ns : List ℕ = numbers_after None t.configuration.channel_max t.channels in
+    let waits : queued c.reopen.new.outbox ≡ reopened_each ns t.outbox =
+    c.reopen.ensures ∙ ap (reopened_each ns) c.in_ok-reserve_reopening.ensures.same in
+    let state : Queued → List Mark → Listing → Talk = λ q ms l. record t { outbox = q; committed = ms; channels = l.listed; cursor = l.cursor } in
+    c.connected.ensures
+    ∙ ap connected (λ i. state (waits i) (c.in_ok-reserve_reopening.ensures.marks i) (c.remove_above.ensures.agreed i))
+    ∙ sym (on-open-ok t c.in_ok-reserve_reopening.ensures.ordered)
+    ∙ ap on_open_ok c.self.view_is

@@ -1,0 +1,104 @@
+-- Recovery: when a session whose link is lost goes on, how long it waits for another, and what it keeps.
+use Rattle.std.specs.Prelude.{ℕ, zero, suc, ◌+◌, ◌-◌, ◌^◌, min, not, ◌&&◌, if◌then◌else◌, Bool, true, false, List, [], filter, map, Option, Some, None, Result, Err, slice_get}
+use Rattle.amqp_outbox.specs.Queued.{nothing}
+use Rattle.amqp_session.specs.declared.state.ConnectionState.{ConnectionState}
+use Rattle.amqp_session.specs.declared.state.ConnectionState.TheVariants.{Connecting, Connected, Closing, Reconnecting}
+use Rattle.amqp_session.specs.declared.state.ChannelState.{ChannelState}
+use Rattle.amqp_session.specs.declared.state.ChannelState.TheVariants as channel
+use Rattle.amqp_session.specs.declared.state.Link.TheVariants.{Due}
+use Rattle.amqp_session.specs.declared.state.Input.{Input}
+use Rattle.amqp_session.specs.declared.state.Input.TheVariants.{Acting, Closed, Dropped}
+use Rattle.amqp_session.specs.declared.channels.Channel.{Channel}
+use Rattle.amqp_session.specs.declared.command.Answer.{Answer}
+use Rattle.amqp_session.specs.declared.error.ErrorKind.{ErrorKind}
+use Rattle.amqp_session.specs.declared.error.ErrorKind.TheVariants.{InvalidChannel, InvalidChannelState, InvalidConnectionState, IOError, ProtocolError, MissingHeartbeatError}
+use Rattle.amqp_session.specs.Listed.{map_values}
+use Rattle.amqp_session.specs.Talk.{Talk, is_open}
+use Rattle.amqp_session.specs.Channels.{new_channel}
+
+-- ---- delays
+
+-- the delay that is next, where one is left
+abbrev pub next_delay : Talk → Option ℕ
+next_delay t = slice_get t.config.options.delays t.tried
+
+-- no link is wanted until a delay is over, at a moment that is at most the greatest number of 64 bits
+abbrev pub delayed : ℕ → Talk → Talk
+delayed delay t = record t { link = Due (min (t.present + delay) (2 ^ 64 - 1)); tried = t.tried + 1 }
+
+-- ---- when the session goes on
+
+-- errors after which another link may serve
+abbrev pub can_be_recovered : ErrorKind → Bool
+can_be_recovered (InvalidChannel n) = true
+can_be_recovered (InvalidChannelState held word) = true
+can_be_recovered (InvalidConnectionState held) = true
+can_be_recovered (IOError fault) = true
+can_be_recovered (ProtocolError e) = true
+can_be_recovered MissingHeartbeatError = true
+can_be_recovered _ = false
+
+-- the server closed, and we had not closed before
+abbrev pub is_uncrossed : Input → Bool
+is_uncrossed Acting = false
+is_uncrossed (Closed crossed) = not crossed
+is_uncrossed (Dropped crossed) = not crossed
+
+-- the connection is being opened or is open, or it was when the server closed it
+abbrev pub was_up : ConnectionState → Input → Bool
+was_up Connecting input = true
+was_up Connected input = true
+was_up Closing input = is_uncrossed input
+was_up _ input = false
+
+-- the session may go on where its link is lost: its user wants it to, and the connection on the open link was up
+abbrev pub may_reconnect : Talk → Bool
+may_reconnect t = t.config.options.recover && (is_open t && was_up t.state t.input)
+
+-- how long the session then waits for another link, where it may go on and a delay is left
+abbrev pub reconnect_delay : Talk → Option ℕ
+reconnect_delay t = if may_reconnect t then next_delay t else None
+
+-- the same, where the link is lost by this error: none where another link may not serve
+abbrev pub recovery_delay : ErrorKind → Talk → Option ℕ
+recovery_delay e t = if can_be_recovered e then reconnect_delay t else None
+
+-- ---- what it keeps
+
+-- a channel that stays listed while the session waits for another link: one that is open, or stays so already
+abbrev pub is_kept_in : ChannelState → Bool
+is_kept_in channel.Connected = true
+is_kept_in channel.Reconnecting = true
+is_kept_in _ = false
+
+-- the channel as it stays: as new, with flow and without confirm mode
+abbrev pub reconnecting : Channel → Channel
+reconnecting c = record (new_channel c.opened) { state = channel.Reconnecting }
+
+-- the channels that stay listed while the session waits for another link
+abbrev pub kept : List (ℕ × Channel) → List (ℕ × Channel)
+kept channels = map_values reconnecting (filter (λ e. is_kept_in (e.1).state) channels)
+
+-- a promise that waits gets an error; that of the connection, number 0, goes on to wait
+abbrev pub rejected_slot : ErrorKind → ℕ → Option (Result Answer ErrorKind) → Option (Result Answer ErrorKind)
+rejected_slot e (suc number) None = Some (Err e)
+rejected_slot e number slot = slot
+
+-- the promises, once each that waits but that of the connection got an error
+abbrev pub rejected_all :
+    ErrorKind → List (ℕ × Option (Result Answer ErrorKind)) → List (ℕ × Option (Result Answer ErrorKind))
+rejected_all e promises = map (λ p. (p.0, rejected_slot e p.0 p.1)) promises
+
+-- the link is lost, and the session waits for another: what waited or was committed is dropped with its link, each
+-- promise that waits, but that of the connection, gets the error, and the channels that were open stay listed
+abbrev pub reconnect : ErrorKind → ℕ → Talk → Talk
+reconnect e delay t =
+    record (delayed delay t) {
+      state = Reconnecting;
+      blocked = false;
+      outbox = nothing;
+      committed = [];
+      channels = kept t.channels;
+      promises = rejected_all e t.promises;
+      server_close = None;
+    }
