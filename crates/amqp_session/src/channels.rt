@@ -69,7 +69,7 @@ impl Channel {
         }
     }
 
-    /// Whether it is opened again on another link.
+    /// Whether it stays listed while the session waits for another link.
     pub fn is_kept(self) -> bool
         ensures { result ≡ is_kept_in self.state }
     {
@@ -322,7 +322,7 @@ impl Channels {
         });
     }
 
-    /// The channels that are opened again on another link stay, and wait for it. The others go.
+    /// The channels that are open, or stay listed already, wait for another link. The others go.
     pub(crate) fn keep_open(&mut self)
         ensures kept { self.new ≡ record self.old { listed = kept self.old.listed } }
         ensures until { opened_until self.new.listed ≤ opened_until self.old.listed }
