@@ -5,7 +5,7 @@ use Rattle.amqp_session.specs.declared.auth.asked.Asked.{Asked}
 use Rattle.amqp_session.specs.Providers.{Exchange}
 use Rattle.amqp_session.specs.Asking.{Answer, paired}
 use Rattle.amqp_session.specs.Talk.{Talk, is_asked, is_open, has_ended}
-use Rattle.amqp_session.specs.declared.io_fault.IoFault.TheVariants.{Aborted, Reset}
+use Rattle.amqp_promise.specs.declared.io_fault.IoFault.TheVariants.{Aborted, Reset}
 use Rattle.amqp_session.specs.Changes.{present_at, starve}
 use Rattle.amqp_session.specs.Links.{linked, link_failed, piece, lost}
 use Rattle.amqp_session.specs.Ticks.{tick}

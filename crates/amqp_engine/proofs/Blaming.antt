@@ -4,8 +4,8 @@ use Rattle.amqp_types.specs.declared.memory.NoMemory.{NoMemory as Refused}
 use Rattle.amqp_types.specs.declared.text.Text.{Text}
 use Rattle.amqp_frame.specs.declared.frame.Read.{Read}
 use Rattle.amqp_frame.specs.declared.frame.Read.TheVariants as reading
-use Rattle.amqp_session.specs.declared.error.ErrorKind.{ErrorKind}
-use Rattle.amqp_session.specs.declared.error.ErrorKind.TheVariants.{AuthProviderError, NoMemory}
+use Rattle.amqp_promise.specs.declared.error.ErrorKind.{ErrorKind}
+use Rattle.amqp_promise.specs.declared.error.ErrorKind.TheVariants.{AuthProviderError, NoMemory}
 use Rattle.amqp_session.specs.declared.auth.asked.Asked.{Asked}
 use Rattle.amqp_session.specs.Talk.{Talk, is_open, is_acting, has_ended, end_of}
 use Rattle.amqp_session.specs.Changes.{present_at, starve}

@@ -15,9 +15,9 @@ use Rattle.amqp_outbox.specs.Queued.{Queued, waiting_items, after_next, only}
 use Rattle.amqp_session.specs.declared.state.Link.{Link}
 use Rattle.amqp_session.specs.declared.state.Link.TheVariants.{Due, Wanted, Asked, Open, Ended}
 use Rattle.amqp_session.specs.declared.command.Cmd.{Cmd}
-use Rattle.amqp_session.specs.declared.io_fault.IoFault.{IoFault}
-use Rattle.amqp_session.specs.declared.io_fault.IoFault.TheVariants.{Aborted, Reset, BrokenPipe}
-use Rattle.amqp_session.specs.declared.error.ErrorKind.{ErrorKind}
+use Rattle.amqp_promise.specs.declared.io_fault.IoFault.{IoFault}
+use Rattle.amqp_promise.specs.declared.io_fault.IoFault.TheVariants.{Aborted, Reset, BrokenPipe}
+use Rattle.amqp_promise.specs.declared.error.ErrorKind.{ErrorKind}
 use Rattle.amqp_session.specs.declared.misread.Misread.{Misread}
 use Rattle.amqp_session.specs.declared.misread.Misread.TheVariants as misreads
 use Rattle.amqp_session.specs.declared.auth.asked.Asked.{Asked as ProviderAnswer}
@@ -28,7 +28,7 @@ use Rattle.amqp_session.specs.Links.{asked, linked, link_failed, piece, misread,
 use Rattle.amqp_session.specs.Frames.{on_frame}
 use Rattle.amqp_session.specs.Ticks.{tick}
 use Rattle.amqp_session.specs.Commands.{command}
-use Rattle.amqp_session.specs.Answers.{answer_of, take_answer}
+use Rattle.amqp_session.specs.Answers.{answer_of, take_answer, take_event}
 use Rattle.amqp_session.specs.Listed.{without}
 use Rattle.amqp_session.specs.Writing.{frames_waiting, taken, flows, next_item, mark_of, fitting, end_overlong}
 use Rattle.amqp_engine.specs.declared.port.Step.{Step}
@@ -41,6 +41,7 @@ use Rattle.amqp_engine.specs.Turn.{Turn, answers_of, Progress, asks, wants_ask, 
 use Rattle.amqp_engine.specs.Sending.{Sending, nothing_sent, frames, offer_sending, offers_sending, step_sending, committed_in, committed_before}
 use Rattle.amqp_engine.specs.Saying.{applied_sending}
 use Rattle.amqp_session.proofs.Cases.{if_case, if-true, if-false, and-true}
+use Rattle.amqp_engine.proofs.EventTaken.{event-case}
 use Rattle.amqp_engine.proofs.Cases.{and-left}
 use Rattle.amqp_engine.proofs.Settling.{settle-talk}
 use Rattle.amqp_session.proofs.Keeping.{LinkKept, lacks_link, kept-open, failed-link, present-keeps, starve-ends, keeps-frame, keeps-misread, keeps-tick, lost-link, taken-link, stays-command}
@@ -132,6 +133,9 @@ opens-command c t now = kept-open t (command c t) (inl (stays-command c t).link)
 pub opens-answer : (number : ℕ) → Opens (take_answer number)
 opens-answer number t now =
     kept-open t (take_answer number t) (if_case (LinkKept t) (is_some (answer_of number t)) (record t { promises = without number t.promises }) t (inl refl) (inl refl)) now
+
+pub opens-event : Opens take_event
+opens-event t now = kept-open t (take_event t) (event-case (LinkKept t) t (λ noted. inl refl) (inl refl)) now
 
 opens-taken : (n : ℕ) → Opens (taken n)
 opens-taken n t now = kept-open t (taken n t) (taken-link n t) now

@@ -13,8 +13,8 @@ use Rattle.amqp_session.specs.declared.auth.asked.Question.{Question}
 use Rattle.amqp_session.specs.declared.auth.asked.Question.TheVariants as question
 use Rattle.amqp_session.specs.declared.auth.asked.Asked.{Asked}
 use Rattle.amqp_session.specs.declared.auth.asked.Asked.TheVariants as answer
-use Rattle.amqp_session.specs.declared.state.ConnectionState.{ConnectionState}
-use Rattle.amqp_session.specs.declared.state.ConnectionState.TheVariants.{Connecting, Connected, Closing}
+use Rattle.amqp_promise.specs.declared.state.ConnectionState.{ConnectionState}
+use Rattle.amqp_promise.specs.declared.state.ConnectionState.TheVariants.{Connecting, Connected, Closing}
 use Rattle.amqp_session.specs.declared.state.Phase.{Phase}
 use Rattle.amqp_session.specs.declared.state.Phase.TheVariants.{AwaitStart, AwaitTune, AwaitOpenOk}
 use Rattle.amqp_session.specs.Talk.{Talk, acts, hears_on}

@@ -2,21 +2,21 @@
 use Rattle.std.proofs.Common.{◌≡◌, ◌∙◌, ℕ, false, List, [], Option, Some, None, IfSome, is_some, inl, refl, ap, sym, subst}
 use Rattle.std.specs.Prelude.{option_map}
 use Rattle.amqp_session.specs.declared.command.Cmd.{Cmd}
-use Rattle.amqp_session.specs.Config.{Config}
-use Rattle.amqp_session.specs.Talk.{Talk, start, has_ended}
+use Rattle.amqp_session.specs.Talk.{Talk, has_ended}
 use Rattle.amqp_session.specs.Commands.{command}
-use Rattle.amqp_session.specs.Answers.{answer_of, take_answer, take_frames}
+use Rattle.amqp_session.specs.Answers.{answer_of, take_answer, take_event, take_frames}
 use Rattle.amqp_session.specs.Listed.{without}
 use Rattle.amqp_session.proofs.Keeping.{stays-command}
 use Rattle.amqp_engine.specs.declared.port.Step.{Step}
 use Rattle.amqp_engine.specs.Log.{Log, log_step}
-use Rattle.amqp_engine.specs.Engine.{Engine, begin, with_talk}
+use Rattle.amqp_engine.specs.Engine.{Engine, with_talk}
 use Rattle.amqp_engine.specs.Turn.{Turn, answers_of, read, turns, applied, AreTurns, IsApplied, IsTold}
 use Rattle.amqp_engine.specs.Tell.{Runs, Applies, turn_of, offers_of, log_offers, log_turns}
 use Rattle.amqp_engine.specs.Sending.{Sending, step_sending, sendings_from}
-use Rattle.amqp_engine.specs.Saying.{HasSent, new, asked, applies, told, answer_taken, frames_taken, applied_sending, TellsLinks, GoesOn, GoesOnce, SpellLegal}
+use Rattle.amqp_engine.specs.Saying.{HasSent, new, asked, applies, told, answer_taken, event_taken, frames_taken, applied_sending, TellsLinks, GoesOn, GoesOnce, SpellLegal}
 use Rattle.amqp_session.proofs.Cases.{if_case}
 use Rattle.amqp_engine.proofs.LinkKept.{Leaves}
+use Rattle.amqp_engine.proofs.EventTaken.{event-case}
 use Rattle.amqp_session.proofs.Keeping.{kept-open}
 use Rattle.amqp_engine.proofs.Sends as sending
 use Rattle.amqp_engine.proofs.Sends.{Sends, sends-left, sends-asks}
@@ -37,6 +37,11 @@ leaves-answer number e =
     if_case (λ (t : Talk). Leaves e (record e { talk = t })) (is_some (answer_of number e.talk)) (record e.talk { promises = without number e.talk.promises }) e.talk
     (λ now. record { opened = now; committed = refl; unsent = refl }) (λ now. record { opened = now; committed = refl; unsent = refl })
 
+leaves-event : (e : Engine) → Leaves e (with_talk take_event e)
+leaves-event e =
+    event-case (λ (t : Talk). Leaves e (record e { talk = t })) e.talk (λ noted now. record { opened = now; committed = refl; unsent = refl })
+    (λ now. record { opened = now; committed = refl; unsent = refl })
+
 -- what is known of what was sent
 pub sends-said : (e : Engine) (ss : List Sending) → HasSent e ss → Sends e ss
 sends-said e ss (new config) = record { all = tt; last = λ now. cc }
@@ -48,13 +53,14 @@ sends-said e ss (applies {e = e'} {ss = ss'} u running may told_step h) =
     (lifting.simply (List Sending) sending.asking sending.stepping sending.offering Sends sending.small) u e' ss' running may (sends-said e' ss' h))
 sends-said e ss (told {e = e'} c may h) = sends-left e' (with_talk (command c) e') ss (leaves-told c e') (sends-said e' ss h)
 sends-said e ss (answer_taken {e = e'} number h) = sends-left e' (with_talk (take_answer number) e') ss (leaves-answer number e') (sends-said e' ss h)
+sends-said e ss (event_taken {e = e'} h) = sends-left e' (with_talk take_event e') ss (leaves-event e') (sends-said e' ss h)
 sends-said e ss (frames_taken {e = e'} opened h) =
     sends-left e' (with_talk (take_frames opened) e') ss (λ now. record { opened = now; committed = refl; unsent = refl }) (sends-said e' ss h)
 
 -- ---- told
 
 -- turns are told, whatever was sent before them
-told-on : (us : List Turn) (e : Engine) (ss : List Sending) (a : Log) → AreTurns us e → Sends e ss → TellsLinks e ss a
+pub told-on : (us : List Turn) (e : Engine) (ss : List Sending) (a : Log) → AreTurns us e → Sends e ss → TellsLinks e ss a
     → TellsLinks (turns us e) (sendings_from us e ss) (log_turns us e a)
 told-on us e ss a may sends tells =
     let P : Both → Type 0 = λ x. Told (turns us e) x in
@@ -120,14 +126,11 @@ applies-on at step bytes e e' log log' ss f may running h =
           subst T (sym after) (subst R f.leaves (told-applied u e ss a running f.may (sends-said e ss h) before)));
     }
 
--- what is told of the links of an engine that was new, over a port that had none
-pub spell-legal : (config : Config) (e e' : Engine) (a b : Log) (o o' : Option Log) → e ≡ begin (start config) → o ≡ Some a → o' ≡ Some b → a.links ≡ [] → a.asked ≡ false
+-- what is told of the links of an engine that has sent nothing, over a port that had none
+pub spell-legal : (e e' : Engine) (a b : Log) (o o' : Option Log) → HasSent e [] → TellsLinks e [] a → o ≡ Some a → o' ≡ Some b
     → ((ss : List Sending) → HasSent e ss → GoesOn ss e e' o o') → SpellLegal b.links
-spell-legal config e e' a b o o' fresh is is' links none goes =
-    let H : Engine → Type 0 = λ x. HasSent x [] in
-    let k : GoesOn [] e e' o o' = goes [] (subst H (sym fresh) (new config)) in
-    let T : Engine → Type 0 = λ x. TellsLinks x [] a in
-    let before : TellsLinks e [] a = subst T (sym fresh) (record { links = links; asked = λ running. none }) in
+spell-legal e e' a b o o' silent before is is' goes =
+    let k : GoesOn [] e e' o o' = goes [] silent in
     let P : Option Log → Type 0 = λ x. IfSome x (λ y. TellsLinks e [] y → IfSome o' (λ z. TellsLinks e' (sendings_from k.us e []) z)) in
     let Q : Option Log → Type 0 = λ x. IfSome x (λ z. TellsLinks e' (sendings_from k.us e []) z) in
     let after : TellsLinks e' (sendings_from k.us e []) b = subst Q is' (subst P is k.tells before) in

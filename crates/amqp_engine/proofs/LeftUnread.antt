@@ -5,9 +5,10 @@ use Rattle.amqp_frame.specs.declared.frame.Read.TheVariants.{Whole, More, TooLar
 use Rattle.amqp_frame.specs.FrameReading.{front}
 use Rattle.amqp_session.specs.declared.state.Link.{Link}
 use Rattle.amqp_session.specs.declared.state.Link.TheVariants.{Due, Wanted, Asked, Open, Ended}
-use Rattle.amqp_session.specs.declared.io_fault.IoFault.TheVariants.{Aborted, Reset, BrokenPipe}
+use Rattle.amqp_promise.specs.declared.io_fault.IoFault.TheVariants.{Aborted, Reset, BrokenPipe}
 use Rattle.amqp_session.specs.declared.command.Answer.{Answer}
-use Rattle.amqp_session.specs.declared.error.ErrorKind.{ErrorKind}
+use Rattle.amqp_session.specs.declared.event.Event.{Event}
+use Rattle.amqp_promise.specs.declared.error.ErrorKind.{ErrorKind}
 use Rattle.amqp_session.specs.declared.auth.asked.Asked.{Asked as ProviderAnswer}
 use Rattle.amqp_session.specs.Talk.{Talk, is_open, is_open_link, is_asked, has_ended, drops_input}
 use Rattle.amqp_session.specs.declared.configuration.Configuration.{Configuration}
@@ -18,7 +19,7 @@ use Rattle.amqp_session.specs.Links.{asked, asked_link, linked, refused_after, l
 use Rattle.amqp_session.specs.Commands.{command}
 use Rattle.amqp_session.specs.Ticks.{tick}
 use Rattle.amqp_session.specs.Writing.{end_overlong, taken}
-use Rattle.amqp_session.specs.Answers.{take_answer, take_frames, Takes}
+use Rattle.amqp_session.specs.Answers.{take_answer, take_frames, Takes, TakesEvent}
 use Rattle.amqp_session.specs.declared.command.Cmd.{Cmd}
 use Rattle.amqp_engine.specs.declared.port.Step.{Step}
 use Rattle.amqp_engine.specs.declared.port.Step.TheVariants.{Linked, LinkFailed, Piece, End, Fault, Room, Tick, Command}
@@ -32,6 +33,7 @@ use Rattle.amqp_engine.specs.Tell.{Applies, TakesTurn, turn_of}
 use Rattle.amqp_engine.specs.Unread.{IsRead}
 use Rattle.amqp_session.proofs.Cases.{if_case, if_by}
 use Rattle.amqp_session.proofs.Keeping.{present-keeps, stays-command, keeps-tick, tick-keeps, taken-keeps, taken-link, IsOff, lost-off, starve-ends}
+use Rattle.amqp_engine.proofs.EventTaken.{taken-case}
 use Rattle.amqp_engine.proofs.Commits.{commits-keep}
 use Rattle.amqp_engine.proofs.Fronts.{front-none}
 use Rattle.amqp_engine.proofs.Over.{ended-closed, applied-ended}
@@ -113,6 +115,12 @@ taken-read number given e e' takes rest h =
       | inr refused ↦ subst P (sym refused.2) h
     ])
 
+-- an event that is taken too, or whose copy was refused
+pub event-read : (given : Option Event) (e e' : Engine) → TakesEvent given e.talk e'.talk → e' ≡ record e { talk = e'.talk } → IsRead e → IsRead e'
+event-read given e e' takes rest h =
+    let P : Talk → Type 0 = λ t. IsRead (record e { talk = t }) in
+    subst IsRead (sym rest) (taken-case P given e.talk e'.talk takes (λ noted. same-read e (record e { talk = record e.talk { noted = noted } }) refl refl refl h) h)
+
 -- and of frames that are taken
 pub frames-read : (opened : ℕ) (e : Engine) → IsRead e → IsRead (with_talk (take_frames opened) e)
 frames-read opened e h = same-read e (with_talk (take_frames opened) e) refl refl refl h
@@ -158,7 +166,7 @@ tick-read at answers e h =
     let t = present_at at e.talk in
     let here : Engine = rule_at at (λ y. y) e in
     let x : Engine = rule_at at (tick answers) e in
-    let limit : frame_limit x.talk ≡ frame_limit t = tick-keeps frame_limit (λ y s l cs ps b q ms n o. refl) (λ y q n m b. refl) answers t in
+    let limit : frame_limit x.talk ≡ frame_limit t = tick-keeps frame_limit (λ y s l cs ps b q ms n o ns. refl) (λ y q n m b. refl) answers t in
     settle-read x (elim (keeps-tick answers t).link [
       | inl same ↦ same-read here x (ap is_open_link same) refl limit (moment-read at e h)
       | inr off ↦ closed-read x off.opened
@@ -180,7 +188,7 @@ took-read at k e h =
     let x : Engine = record e { talk = taken k t; unsent = drop k e.unsent } in
     let here : Engine = rule_at at (λ y. y) e in
     let limit : frame_limit x.talk ≡ frame_limit t =
-    taken-keeps frame_limit (record { ends = λ y s l cs ps b q ms n o. refl; writes = λ y w ms. refl; moments = λ y n. refl }) k t in
+    taken-keeps frame_limit (record { ends = λ y s l cs ps b q ms n o ns. refl; writes = λ y w ms. refl; moments = λ y n. refl }) k t in
     settle-read x (elim (taken-link k t) [
       | inl same ↦ same-read here x (ap is_open_link same) refl limit (moment-read at e h)
       | inr off ↦ closed-read x off.opened

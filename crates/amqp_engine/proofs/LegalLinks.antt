@@ -4,24 +4,26 @@ use Rattle.std.specs.List.{AllByRecursion}
 use Rattle.amqp_frame.specs.declared.frame.Frame.{Frame}
 use Rattle.amqp_outbox.specs.declared.item.Item.{Item}
 use Rattle.amqp_session.specs.declared.command.Cmd.{Cmd}
-use Rattle.amqp_session.specs.declared.command.Cmd.TheVariants.{OpenChannel, CloseChannel, CloseConnection, UpdateSecret, Send, Publish, Flow, DropChannel, DropConnection}
+use Rattle.amqp_session.specs.declared.command.Cmd.TheVariants.{OpenChannel, CloseChannel, CloseConnection, UpdateSecret, Send, Publish, Flow, DropChannel, DropConnection, Listen}
+use Rattle.amqp_session.specs.Talk.{Talk}
 use Rattle.amqp_session.specs.Commands.{command}
-use Rattle.amqp_session.specs.Answers.{take_answer, take_frames}
+use Rattle.amqp_session.specs.Answers.{take_answer, take_event, take_frames}
 use Rattle.amqp_session.specs.Legal.{Legal}
 use Rattle.amqp_session.specs.Decider.{Speech, greeted, say, say_all, is_amqp_header, is_legal}
 use Rattle.amqp_session.proofs.Cases.{and-true}
 use Rattle.amqp_session.proofs.Ties.{IsTied, IsSilent, IsSendable}
 use Rattle.amqp_session.proofs.TakenIsLegal.{sound}
-use Rattle.amqp_session.proofs.Conversing.{now-moment, now-asked, now-failed, now-piece, now-lost, now-misread, now-frame, now-tick, now-command, now-taken, now-answer, now-frames, committed-legal, start-silent, silent-room, tied-linked, tied-commit}
+use Rattle.amqp_session.proofs.Conversing.{Now, now-moment, now-asked, now-failed, now-piece, now-lost, now-misread, now-frame, now-tick, now-command, now-taken, now-answer, now-frames, committed-legal, start-silent, silent-room, tied-linked, tied-commit}
 use Rattle.amqp_engine.specs.declared.port.Step.{Step}
 use Rattle.amqp_engine.specs.declared.port.Step.TheVariants.{Linked, LinkFailed, Piece, End, Fault, Room, Tick, Command}
 use Rattle.amqp_engine.specs.Engine.{Engine}
 use Rattle.amqp_engine.specs.Turn.{Turn, IsToldCommand, IsTold, AreTold, IsTurn, AreTurns, turn, turns}
 use Rattle.amqp_engine.specs.Sending.{Sending, sendings_from, frames, frames_sent, turn_sending}
-use Rattle.amqp_engine.specs.Saying.{HasSent, new, asked, applies, told, answer_taken, frames_taken}
+use Rattle.amqp_engine.specs.Saying.{HasSent, new, asked, applies, told, answer_taken, event_taken, frames_taken}
 use Rattle.amqp_engine.proofs.Over.{asks-running}
+use Rattle.amqp_engine.proofs.EventTaken.{event-case}
 use Rattle.amqp_engine.proofs.Cases.{and-left, and-right}
-use Rattle.amqp_engine.proofs.Committing.{Rules, Kept, kept-applied, kept-asks, kept-rule-same, Tells, opens-command, opens-answer}
+use Rattle.amqp_engine.proofs.Committing.{Rules, Kept, kept-applied, kept-asks, kept-rule-same, Tells, opens-command, opens-answer, opens-event}
 
 -- what the decider takes
 abbrev pub Taken : List Frame → Type 0
@@ -60,6 +62,7 @@ sendable (UpdateSecret secret reason) h = tt
 sendable (Flow channel active) h = tt
 sendable (DropChannel channel) h = tt
 sendable DropConnection h = tt
+sendable Listen h = tt
 
 tells : (step : Step) → IsTold step → Tells IsSendable Taken IsSilent IsTied rules step
 tells (Command c) h = sendable c h
@@ -71,6 +74,9 @@ tells Fault h = tt
 tells Room h = tt
 tells Tick h = tt
 
+now-event : (t : Talk) (fs : List Frame) → Now t fs → Now (take_event t) fs
+now-event t fs h = event-case (λ (x : Talk). Now x fs) t (λ noted. h) h
+
 -- what is known of an engine that was new
 pub saying : (e : Engine) (ss : List Sending) → HasSent e ss → Saying e ss
 saying e ss (new config) = record { all = tt; committed = []; now = ((λ o. absurd cc), (λ w. start-silent config)); last = λ o. absurd cc; some = λ o. absurd cc }
@@ -81,6 +87,8 @@ saying e ss (told {e = e'} c may h) =
     kept-rule-same IsSendable Taken IsSilent IsTied rules (command c) e'.talk ss (λ t fs. now-command c t fs (sendable c may)) (opens-command c) (saying e' ss h)
 saying e ss (answer_taken {e = e'} number h) =
     kept-rule-same IsSendable Taken IsSilent IsTied rules (take_answer number) e'.talk ss (now-answer number) (opens-answer number) (saying e' ss h)
+saying e ss (event_taken {e = e'} h) =
+    kept-rule-same IsSendable Taken IsSilent IsTied rules take_event e'.talk ss now-event opens-event (saying e' ss h)
 saying e ss (frames_taken {e = e'} opened h) =
     kept-rule-same IsSendable Taken IsSilent IsTied rules (take_frames opened) e'.talk ss (now-frames opened) (λ t o. o) (saying e' ss h)
 

@@ -25,9 +25,10 @@ pub mod Running
 -- What is done goes by as many answers as were asked for, and the turns of a script: `run: played`, and the law that a script has its turns.
 pub mod FirstAnswers
 pub mod Playing
--- No whole frame is left unread: `read`, and its law, by lifting.
+-- What an event that is taken leaves as it was. No whole frame is left unread: `read`, and its law, by lifting.
+pub mod EventTaken
 pub mod LeftUnread
--- What is left where a command was obeyed or refused memory: the invariants of a wire and of a loop.
+-- What is left where a command was obeyed or refused memory, and where an event was taken: the invariants of a wire and of a loop.
 pub mod Obeying
 -- The bytes of each link, by lifting: the frames as their bytes are taken, what is left of the link at each step, the order in which they are sent, and
 -- what a port tells of it.

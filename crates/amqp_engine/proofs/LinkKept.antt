@@ -2,11 +2,11 @@
 use Rattle.std.proofs.Common.{◌≡◌, inl, inr, ℕ, ◌+◌, ◌==◌, if◌then◌else◌, true, false, true≢false, List, [], ◌++◌, drop, refl, ap, sym, ◌∙◌, subst}
 use Rattle.amqp_frame.specs.declared.frame.Read.{Read}
 use Rattle.amqp_frame.specs.declared.frame.Read.TheVariants.{Whole, More, TooLarge, BadHeartbeat, Bad, NoMemory as ReadNoMemory}
-use Rattle.amqp_session.specs.declared.error.ErrorKind.{ErrorKind}
+use Rattle.amqp_promise.specs.declared.error.ErrorKind.{ErrorKind}
 use Rattle.amqp_session.specs.declared.state.Link.{Link}
 use Rattle.amqp_session.specs.declared.state.Link.TheVariants.{Due, Wanted, Asked, Open, Ended}
-use Rattle.amqp_session.specs.declared.io_fault.IoFault.{IoFault}
-use Rattle.amqp_session.specs.declared.io_fault.IoFault.TheVariants.{Aborted, Reset, BrokenPipe}
+use Rattle.amqp_promise.specs.declared.io_fault.IoFault.{IoFault}
+use Rattle.amqp_promise.specs.declared.io_fault.IoFault.TheVariants.{Aborted, Reset, BrokenPipe}
 use Rattle.amqp_session.specs.declared.misread.Misread.{Misread}
 use Rattle.amqp_session.specs.declared.misread.Misread.TheVariants as misreads
 use Rattle.amqp_session.specs.declared.command.Cmd.{Cmd}
@@ -87,7 +87,7 @@ leaves-failed : (at : ℕ) (e : Engine) → Leaves e (settle (rule_at at link_fa
 leaves-failed at e =
     let t = present_at at e.talk in
     leaves-settle e (rule_at at link_failed e) (leaves-rule at link_failed e
-    (failed-link t) (λ now. failed-keeps (λ y. y.committed) (λ t s l cs ps. refl) (λ t n. refl) t))
+    (failed-link t) (λ now. failed-keeps (λ y. y.committed) (λ t s l cs ps ns. refl) (λ t n. refl) t))
 
 -- what is committed is as it was, where the link is still open
 lost-committed : (fault : IoFault) (t : Talk) → is_open (lost fault t) ≡ true → (lost fault t).committed ≡ t.committed

@@ -1,16 +1,15 @@
 -- What a port tells of its links is what was sent on them.
-use Rattle.std.proofs.Common.{◌≡◌, inl, inr, ℕ, ◌==◌, ◌&&◌, not, if◌then◌else◌, Bool, true, false, List, [], ◌∷◌, ◌++◌, length, take, map, is_some, Option, Some, None, ◌⊎◌, nat_le, Result, Ok, Err, refl, ap, sym, ◌∙◌, subst, arith}
+use Rattle.std.proofs.Common.{◌≡◌, inl, inr, ℕ, ◌==◌, ◌&&◌, not, if◌then◌else◌, Bool, true, false, List, [], ◌∷◌, ◌++◌, length, take, map, is_some, Option, Some, None, ◌⊎◌, nat_le, Result, Ok, Err, refl, ap, sym, ◌∙◌, arith}
 use Rattle.std.proofs.lemmas.Bool.Decides.{nat_tests}
 use Rattle.std.proofs.lemmas.List.{append-nil, map-append}
-use Rattle.amqp_session.specs.declared.error.ErrorKind.{ErrorKind}
+use Rattle.amqp_promise.specs.declared.error.ErrorKind.{ErrorKind}
 use Rattle.amqp_session.specs.declared.state.Link.{Link}
 use Rattle.amqp_session.specs.declared.state.Link.TheVariants.{Due, Wanted, Asked, Open, Ended}
-use Rattle.amqp_session.specs.declared.error.ErrorKind.TheVariants.{IOError}
-use Rattle.amqp_session.specs.declared.io_fault.IoFault.{IoFault}
-use Rattle.amqp_session.specs.declared.io_fault.IoFault.TheVariants.{Aborted, Reset}
-use Rattle.amqp_session.specs.Config.{Config}
+use Rattle.amqp_promise.specs.declared.error.ErrorKind.TheVariants.{IOError}
+use Rattle.amqp_promise.specs.declared.io_fault.IoFault.{IoFault}
+use Rattle.amqp_promise.specs.declared.io_fault.IoFault.TheVariants.{Aborted, Reset}
 use Rattle.amqp_session.specs.declared.auth.asked.Asked.{Asked as ProviderAnswer}
-use Rattle.amqp_session.specs.Talk.{Talk, start, acts, is_acting, is_open, is_open_link, is_asked, is_asked_link, is_wanted_link, has_ended, end_of_link}
+use Rattle.amqp_session.specs.Talk.{Talk, acts, is_acting, is_open, is_open_link, is_asked, is_asked_link, is_wanted_link, has_ended, end_of_link}
 use Rattle.amqp_session.specs.Changes.{present_at, queue, lose, finish}
 use Rattle.amqp_session.specs.Ticks.{is_missed, is_due, missing_heartbeat, beat, refreshed, link_at, timed, tick}
 use Rattle.amqp_session.specs.Writing.{end_overlong}
@@ -21,14 +20,14 @@ use Rattle.amqp_engine.specs.declared.port.Step.TheVariants.{Linked, LinkFailed,
 use Rattle.amqp_engine.specs.declared.port.Wrote.{Wrote}
 use Rattle.amqp_engine.specs.declared.port.Wrote.TheVariants.{Took, Failed, NoMemory}
 use Rattle.amqp_engine.specs.Log.{Log, on_last, log_ask, log_step, log_write, links_after, asked_after, IsWithin}
-use Rattle.amqp_engine.specs.Engine.{Engine, begin, with_talk, rule_at, step_engine, step_linked, settle, commit_all, ended_overlong, can_write, read_one, taken_by, starve_at}
-use Rattle.amqp_engine.specs.Turn.{Turn, answers_of, Progress, asks, wants_ask, goes, offer_part, offered, answered, read, turn, AreTurns}
+use Rattle.amqp_engine.specs.Engine.{Engine, with_talk, rule_at, step_engine, step_linked, settle, commit_all, ended_overlong, can_write, read_one, taken_by, starve_at}
+use Rattle.amqp_engine.specs.Turn.{Turn, answers_of, Progress, asks, wants_ask, goes, offer_part, offered, answered, read, turn}
 use Rattle.amqp_engine.specs.Tell.{port_answer, offers_from, log_asks, log_offers, log_turns}
-use Rattle.amqp_engine.specs.Sending.{Sending, nothing_sent, link_bytes, offer_sending, offers_sending, step_sending, sendings_from, sendings}
+use Rattle.amqp_engine.specs.Sending.{Sending, nothing_sent, link_bytes, offer_sending, offers_sending, step_sending, sendings_from}
 use Rattle.amqp_session.proofs.Cases.{if_case, if-true, if-false}
 use Rattle.amqp_session.proofs.Heard.{secret-case}
 use Rattle.amqp_frame.specs.declared.frame.Frame.TheVariants.{Heartbeat}
-use Rattle.amqp_session.specs.declared.error.ErrorKind.TheVariants.{MissingHeartbeatError}
+use Rattle.amqp_promise.specs.declared.error.ErrorKind.TheVariants.{MissingHeartbeatError}
 use Rattle.amqp_engine.proofs.Cases.{and-left}
 use Rattle.amqp_engine.proofs.Settling.{settle-talk}
 use Rattle.amqp_session.proofs.Keeping.{LinkKept, present-keeps, stays-command, lost-link, starve-ends}
@@ -323,11 +322,3 @@ turns-same (u ∷ us) e x =
     let y = lifting.turn_on Both asking stepping offering u e x in
     let same = offers-same (answers_of u.notes) (read u (asks e)) (stepping u.at u.step u.bytes (asks e) (asking e x)) in
     turns-same us (turn u e) y ∙ ap (λ (z : Both). (sendings_from us (turn u e) z.0, log_turns us (turn u e) z.1)) same
-
-pub told : (config : Config) (us : List Turn) (a : Log) → AreTurns us (begin (start config)) → a.links ≡ [] → a.asked ≡ false
-    → (log_turns us (begin (start config)) a).links ≡ map link_bytes (sendings config us)
-told config us a may links asked_none =
-    let P : Both → Type 0 = λ x. x.1.links ≡ map link_bytes x.0 in
-    subst P (turns-same us (begin (start config)) ([], a))
-    (lifting.lift-turns Both asking stepping offering Told (λ b. Told) Told (lifting.simply Both asking stepping offering Told small) us (begin (start config)) ([], a) may
-    (record { sends = record { all = tt; last = λ now. cc }; synced = λ running. asked_none; links = links })).links

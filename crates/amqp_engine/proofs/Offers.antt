@@ -1,13 +1,13 @@
 -- Offers one by one.
 use Rattle.std.proofs.Common.{◌≡◌, ◌≤◌, ◌<◌, ℕ, ◌+◌, ◌-◌, ◌==◌, nat_le, if◌then◌else◌, not, ◌&&◌, Bool, true, false, IsTrue, IsFalse, MatchBool, IfSome, List, [], ◌∷◌, length, drop, Option, Some, None, is_some, option_map, refl, ap, sym, ◌∙◌, subst, arith, rules, length-drop}
 use Rattle.std.proofs.lemmas.Bool.Decides.{nat_tests}
-use Rattle.amqp_session.specs.declared.io_fault.IoFault.TheVariants.{BrokenPipe}
+use Rattle.amqp_promise.specs.declared.io_fault.IoFault.TheVariants.{BrokenPipe}
 use Rattle.amqp_session.specs.declared.committed.Mark.{Mark}
 use Rattle.amqp_session.specs.declared.committed.Then.{Then}
 use Rattle.amqp_session.specs.declared.committed.Then.TheVariants.{Nothing, Answer, Pays, Finish}
 use Rattle.amqp_session.specs.declared.server_close.ServerClose.{ServerClose}
 use Rattle.amqp_session.specs.declared.server_close.ServerClose.TheVariants.{WithoutError, WithError}
-use Rattle.amqp_session.specs.declared.error.ErrorKind.TheVariants.{ProtocolError}
+use Rattle.amqp_promise.specs.declared.error.ErrorKind.TheVariants.{ProtocolError}
 use Rattle.amqp_session.specs.declared.auth.asked.Question.{Question}
 use Rattle.amqp_session.specs.declared.auth.asked.Asked.{Asked}
 use Rattle.amqp_session.specs.Talk.{Talk, is_open}
@@ -48,7 +48,7 @@ finish-waits (Some (WithError e)) t = lose-case (WaitsAsMuch t) (ProtocolError e
 follow-waits : (th : Then) (t : Talk) → WaitsAsMuch t (follow th t)
 follow-waits Nothing t = omega arith
 follow-waits (Answer n) t = omega arith
-follow-waits (Pays n) t = omega (arith, pay-keeps frames_waiting (λ u cs. refl) (channel_at n t) n t)
+follow-waits (Pays n) t = omega (arith, pay-keeps frames_waiting (λ u cs ns. refl) (channel_at n t) n t)
 follow-waits Finish t = finish-waits t.server_close t
 
 sent-waits : (ms : List Mark) (n : ℕ) (t : Talk) → WaitsAsMuch t (sent_among ms n t)

@@ -2,19 +2,18 @@
 use Rattle.std.proofs.Common.{◌≡◌, ℕ, ◌==◌, if◌then◌else◌, true, false, List, [], ◌∷◌, ◌++◌, length, drop, Some, refl, ap, sym, ◌∙◌, subst}
 use Rattle.std.specs.List.{AllByRecursion}
 use Rattle.amqp_session.specs.declared.committed.Mark.{Mark}
-use Rattle.amqp_session.specs.Config.{Config}
 use Rattle.amqp_session.specs.declared.auth.asked.Asked.{Asked}
-use Rattle.amqp_session.specs.Talk.{Talk, start, is_open, is_asked}
+use Rattle.amqp_session.specs.Talk.{Talk, is_open, is_asked}
 use Rattle.amqp_session.specs.Changes.{present_at}
 use Rattle.amqp_session.specs.Links.{asked, linked}
 use Rattle.amqp_engine.specs.declared.port.Step.{Step}
 use Rattle.amqp_engine.specs.declared.port.Step.TheVariants.{Linked, LinkFailed, Piece, End, Fault, Room, Tick, Command}
 use Rattle.amqp_engine.specs.declared.port.Wrote.{Wrote}
 use Rattle.amqp_engine.specs.Log.{on_last, IsWithin}
-use Rattle.amqp_engine.specs.Engine.{Engine, begin, with_talk, rule_at, step_engine, step_linked, read_one, settle, commit_all, ended_overlong, can_write, taken_by, starve_at}
+use Rattle.amqp_engine.specs.Engine.{Engine, with_talk, rule_at, step_engine, step_linked, read_one, settle, commit_all, ended_overlong, can_write, taken_by, starve_at}
 use Rattle.amqp_session.specs.Writing.{frames_waiting, end_overlong}
 use Rattle.amqp_engine.specs.Turn.{Turn, answers_of, Progress, asks, wants_ask, offer_part, offered, answered, read, turn, AreTurns}
-use Rattle.amqp_engine.specs.Sending.{Sending, nothing_sent, offer_sending, offers_sending, step_sending, sendings_from, sendings, SendsInOrder}
+use Rattle.amqp_engine.specs.Sending.{Sending, nothing_sent, offer_sending, offers_sending, step_sending, sendings_from, SendsInOrder}
 use Rattle.amqp_session.proofs.Cases.{if_case, if_by, if-true}
 use Rattle.amqp_engine.proofs.Cases.{and-left}
 use Rattle.amqp_engine.proofs.Settling.{settle-talk}
@@ -181,9 +180,9 @@ turns-same (u ∷ us) e ss =
     turns-same us (turn u e) (lifting.turn_on (List Sending) asking stepping offering u e ss)
     ∙ ap (sendings_from us (turn u e)) (offers-same (answers_of u.notes) (read u (asks e)) (step_sending u.step (asks e) ss))
 
-pub order : (config : Config) (us : List Turn) → AreTurns us (begin (start config)) → AllByRecursion SendsInOrder (sendings config us)
-order config us may =
-    let P : List Sending → Type 0 = λ ss. AllByRecursion SendsInOrder ss in
-    subst P (turns-same us (begin (start config)) [])
+pub order : (us : List Turn) (e : Engine) (ss : List Sending) → AreTurns us e → Sends e ss → AllByRecursion SendsInOrder (sendings_from us e ss)
+order us e ss may sends =
+    let P : List Sending → Type 0 = λ xs. AllByRecursion SendsInOrder xs in
+    subst P (turns-same us e ss)
     (lifting.lift-turns (List Sending) asking stepping offering Sends (λ b. Sends) Sends
-    (lifting.simply (List Sending) asking stepping offering Sends small) us (begin (start config)) [] may (record { all = tt; last = λ now. cc })).all
+    (lifting.simply (List Sending) asking stepping offering Sends small) us e ss may sends).all

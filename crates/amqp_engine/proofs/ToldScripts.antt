@@ -3,8 +3,7 @@ use Rattle.std.proofs.Common.{◌≡◌, ℕ, zero, suc, Bool, List, [], ◌∷�
 use Rattle.std.specs.Prelude.{option_map}
 use Rattle.std.specs.List.{AllByRecursion}
 use Rattle.amqp_session.specs.declared.auth.asked.Asked.{Asked}
-use Rattle.amqp_session.specs.Config.{Config}
-use Rattle.amqp_session.specs.Talk.{has_ended, start}
+use Rattle.amqp_session.specs.Talk.{Talk, has_ended}
 use Rattle.amqp_session.specs.Legal.{Legal}
 use Rattle.amqp_session.proofs.Cases.{if_case}
 use Rattle.amqp_engine.specs.declared.given.Given.{Given}
@@ -17,7 +16,7 @@ use Rattle.amqp_engine.specs.Turn.{Turn, IsTold, AreTold, asks, wants_ask, turn,
 use Rattle.amqp_engine.specs.Tell.{Offer, offers_of, log_asks, log_stepped, log_offers, log_turn}
 use Rattle.amqp_engine.specs.Sending.{Sending, sendings, frames_sent}
 use Rattle.amqp_engine.specs.Play.{played_step, played_turn, played_turns, replayed, AreAnswered}
-use Rattle.amqp_engine.specs.Saying.{AreGivenTold, new}
+use Rattle.amqp_engine.specs.Saying.{HasSent, AreGivenTold}
 use Rattle.amqp_engine.proofs.Playing.{played-are-turns}
 use Rattle.amqp_engine.proofs.LegalLinks.{sent_legal, turns-sent}
 
@@ -70,10 +69,9 @@ played-told (suc most) answers e a h =
     (step-told (log_asks e a).plan (asks-told e a h), played-told most left (turn u e) (log_turn u e a) (turn-told u e a h))
 
 -- what a script says is legal, where its commands are told and what its turns ask is answered
-pub script_legal : (config : Config) (gs : List Given) (answers : List Asked) → AreGivenTold gs → AreAnswered (replayed config gs answers) (begin (start config))
-    → AllByRecursion (λ (s : Sending). Legal (frames_sent s)) (sendings config (replayed config gs answers))
-script_legal config gs answers h all =
-    let us = replayed config gs answers in
-    let may = played-are-turns (length gs) answers (begin (start config)) (loaded gs) all in
-    sent_legal (turns us (begin (start config))) (sendings config us)
-    (turns-sent us (begin (start config)) [] may (played-told (length gs) answers (begin (start config)) (loaded gs) h) (new config))
+pub script_legal : (t : Talk) (gs : List Given) (answers : List Asked) → HasSent (begin t) [] → AreGivenTold gs → AreAnswered (replayed t gs answers) (begin t)
+    → AllByRecursion (λ (s : Sending). Legal (frames_sent s)) (sendings t (replayed t gs answers))
+script_legal t gs answers silent h all =
+    let us = replayed t gs answers in
+    let may = played-are-turns (length gs) answers (begin t) (loaded gs) all in
+    sent_legal (turns us (begin t)) (sendings t us) (turns-sent us (begin t) [] may (played-told (length gs) answers (begin t) (loaded gs) h) silent)

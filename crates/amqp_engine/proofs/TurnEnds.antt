@@ -8,12 +8,12 @@ use Rattle.amqp_frame.specs.declared.frame.Read.{Read}
 use Rattle.amqp_frame.specs.declared.frame.Read.TheVariants as reading
 use Rattle.amqp_session.specs.declared.state.Link.{Link}
 use Rattle.amqp_session.specs.declared.state.Link.TheVariants.{Due, Wanted, Open}
-use Rattle.amqp_session.specs.declared.io_fault.IoFault.{IoFault}
-use Rattle.amqp_session.specs.declared.io_fault.IoFault.TheVariants.{Aborted, Refused, Reset, BrokenPipe}
+use Rattle.amqp_promise.specs.declared.io_fault.IoFault.{IoFault}
+use Rattle.amqp_promise.specs.declared.io_fault.IoFault.TheVariants.{Aborted, Refused, Reset, BrokenPipe}
 use Rattle.amqp_session.specs.declared.server_close.ServerClose.{ServerClose}
 use Rattle.amqp_session.specs.declared.server_close.ServerClose.TheVariants.{WithoutError, WithError}
-use Rattle.amqp_session.specs.declared.error.ErrorKind.{ErrorKind}
-use Rattle.amqp_session.specs.declared.error.ErrorKind.TheVariants.{IOError, ProtocolError, SerialisationError, MissingHeartbeatError, NoMemory, OutOfTurns}
+use Rattle.amqp_promise.specs.declared.error.ErrorKind.{ErrorKind}
+use Rattle.amqp_promise.specs.declared.error.ErrorKind.TheVariants.{IOError, ProtocolError, SerialisationError, MissingHeartbeatError, NoMemory, OutOfTurns}
 use Rattle.amqp_session.specs.declared.auth.asked.Asked.{Asked}
 use Rattle.amqp_session.specs.Talk.{Talk, has_ended, is_open, is_acting, acts, is_asked, end_of, end_of_link}
 use Rattle.amqp_session.specs.Channels.{channel_at}
@@ -222,7 +222,7 @@ SentError is_sent t _ = ⊥
 ends-follow : (th : Then) (t : Talk) → is_open t ≡ true → Ends (SentError (is_finish th) t) t (follow th t)
 ends-follow Nothing t opened = ends-kept _ t t refl
 ends-follow (Answer n) t opened = ends-kept _ t _ refl
-ends-follow (Pays n) t opened = ends-kept _ t _ (pay-keeps end_of (λ u cs. refl) (channel_at n t) n t)
+ends-follow (Pays n) t opened = ends-kept _ t _ (pay-keeps end_of (λ u cs ns. refl) (channel_at n t) n t)
 ends-follow Finish t opened = ends-finish _ t.server_close t t (λ e h last. (refl, h, opened, last))
 
 finish-closed : (o : Option ServerClose) (t : Talk) (e : AMQPError) → (finish_by o t).server_close ≡ Some (WithError e) → t.server_close ≡ Some (WithError e)
@@ -234,14 +234,14 @@ finish-closed (Some (WithError told)) t e h =
 follow-closed : (th : Then) (t : Talk) (e : AMQPError) → (follow th t).server_close ≡ Some (WithError e) → t.server_close ≡ Some (WithError e)
 follow-closed Nothing t e h = h
 follow-closed (Answer n) t e h = h
-follow-closed (Pays n) t e h = sym (pay-keeps (λ (x : Talk). x.server_close) (λ u cs. refl) (channel_at n t) n t) ∙ h
+follow-closed (Pays n) t e h = sym (pay-keeps (λ (x : Talk). x.server_close) (λ u cs ns. refl) (channel_at n t) n t) ∙ h
 follow-closed Finish t e h = finish-closed t.server_close t e h
 
 -- where the link is still open, the session recovers as before
 follow-final : (th : Then) (t : Talk) (k : ErrorKind) → is_open (follow th t) ≡ true → is_final k (follow th t) ≡ is_final k t
 follow-final Nothing t k now = refl
 follow-final (Answer n) t k now = refl
-follow-final (Pays n) t k now = pay-keeps (is_final k) (λ u cs. refl) (channel_at n t) n t
+follow-final (Pays n) t k now = pay-keeps (is_final k) (λ u cs ns. refl) (channel_at n t) n t
 follow-final Finish t k now = absurd (true≢false (sym now ∙ (off-finish t.server_close t).opened))
 
 sent-first : (m : Mark) (ms : List Mark) (n : ℕ) (t : Talk) → nat_le m.left n ≡ true → (k : ErrorKind)

@@ -6,11 +6,11 @@ use Rattle.amqp_frame.specs.declared.frame.Read.TheVariants as reading
 use Rattle.amqp_session.specs.declared.committed.Mark.{Mark}
 use Rattle.amqp_session.specs.declared.committed.Then.{Then}
 use Rattle.amqp_session.specs.declared.committed.Then.TheVariants.{Finish}
-use Rattle.amqp_session.specs.declared.io_fault.IoFault.{IoFault}
-use Rattle.amqp_session.specs.declared.io_fault.IoFault.TheVariants.{Aborted, Refused, Reset, BrokenPipe}
+use Rattle.amqp_promise.specs.declared.io_fault.IoFault.{IoFault}
+use Rattle.amqp_promise.specs.declared.io_fault.IoFault.TheVariants.{Aborted, Refused, Reset, BrokenPipe}
 use Rattle.amqp_session.specs.declared.server_close.ServerClose.TheVariants.{WithError}
-use Rattle.amqp_session.specs.declared.error.ErrorKind.{ErrorKind}
-use Rattle.amqp_session.specs.declared.error.ErrorKind.TheVariants.{IOError, MissingHeartbeatError, NoMemory, ParsingError, ProtocolError, SerialisationError}
+use Rattle.amqp_promise.specs.declared.error.ErrorKind.{ErrorKind}
+use Rattle.amqp_promise.specs.declared.error.ErrorKind.TheVariants.{IOError, MissingHeartbeatError, NoMemory, ParsingError, ProtocolError, SerialisationError}
 use Rattle.amqp_session.specs.declared.auth.asked.Asked.{Asked}
 use Rattle.amqp_session.specs.Talk.{Talk, is_acting, is_asked, is_open, end_of}
 use Rattle.amqp_session.specs.Changes.{present_at}

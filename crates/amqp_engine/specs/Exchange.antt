@@ -8,8 +8,7 @@ use Rattle.amqp_frame.specs.declared.frame.Read.TheVariants.{Whole}
 use Rattle.amqp_outbox.specs.declared.item.Item.{Item}
 use Rattle.amqp_session.specs.declared.channels.Channel.{Channel}
 use Rattle.amqp_session.specs.declared.handed.Handed.{Handed}
-use Rattle.amqp_session.specs.Config.{Config}
-use Rattle.amqp_session.specs.Talk.{Talk, start, acts, is_asked}
+use Rattle.amqp_session.specs.Talk.{Talk, acts, is_asked}
 use Rattle.amqp_session.specs.Channels.{channel_at}
 use Rattle.amqp_session.specs.ChannelMethods.{heard_on}
 use Rattle.amqp_engine.specs.declared.port.Step.{Step}
@@ -100,6 +99,6 @@ abbrev pub exchange_from : List Turn → Engine → List Sending → List (List 
 exchange_from [] e ss xs = xs
 exchange_from (u ∷ us) e ss xs = exchange_from us (turn u e) (turn_sending u e ss) (turn_exchange u e ss xs)
 
--- what these turns of a new engine heard and said, link by link
-abbrev pub exchange : Config → List Turn → List (List Event)
-exchange config us = exchange_from us (begin (start config)) [] []
+-- what these turns of a new engine of this session heard and said, link by link
+abbrev pub exchange : Talk → List Turn → List (List Event)
+exchange t us = exchange_from us (begin t) [] []

@@ -7,7 +7,7 @@ use Rattle.amqp_session.specs.declared.auth.asked.Question.{Question}
 use Rattle.amqp_session.specs.declared.auth.asked.Asked.{Asked}
 use Rattle.amqp_session.specs.Providers.{Exchange, Allows}
 use Rattle.amqp_session.specs.Asking.{Asks, paired}
-use Rattle.amqp_session.specs.declared.error.ErrorKind.TheVariants.{AuthProviderError}
+use Rattle.amqp_promise.specs.declared.error.ErrorKind.TheVariants.{AuthProviderError}
 use Rattle.amqp_session.specs.Talk.{Talk, is_open, drops_input, end_of}
 use Rattle.amqp_engine.specs.declared.port.Step.{Step}
 use Rattle.amqp_engine.specs.declared.port.Step.TheVariants.{Tick, Command}

@@ -3,8 +3,7 @@ use Rattle.std.specs.Prelude.{◌≡◌, ℕ, zero, suc, ◌+◌, min, Bool, fal
 use Rattle.amqp_session.specs.declared.auth.asked.Asked.{Asked}
 use Rattle.amqp_session.specs.Providers.{Exchange, Allows}
 use Rattle.amqp_session.specs.Asking.{Answer}
-use Rattle.amqp_session.specs.Config.{Config}
-use Rattle.amqp_session.specs.Talk.{has_ended, start}
+use Rattle.amqp_session.specs.Talk.{Talk, has_ended}
 use Rattle.amqp_session.specs.Writing.{frames_waiting}
 use Rattle.amqp_engine.specs.declared.port.Step.TheVariants.{Tick}
 use Rattle.amqp_engine.specs.declared.port.Wrote.{Wrote}
@@ -94,9 +93,9 @@ played_turns (suc most) answers e a =
     if has_ended e.talk then []
     else u ∷ played_turns most (drop (length u.notes.auths) answers) (turn u e) (log_turn u e a)
 
--- the turns of a new engine over a port that plays these steps, where the provider answers so
-abbrev pub replayed : Config → List Given → List Asked → List Turn
-replayed config gs answers = played_turns (length gs) answers (begin (start config)) (loaded gs)
+-- the turns of a new engine of this session over a port that plays these steps, where the provider answers so
+abbrev pub replayed : Talk → List Given → List Asked → List Turn
+replayed t gs answers = played_turns (length gs) answers (begin t) (loaded gs)
 
 -- these are answers to all that is asked in these turns, one to each question
 abbrev pub AreAnswered : List Turn → Engine → Type 0

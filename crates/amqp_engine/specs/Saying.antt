@@ -5,7 +5,7 @@ use Rattle.amqp_session.specs.declared.command.Cmd.{Cmd}
 use Rattle.amqp_session.specs.Config.{Config}
 use Rattle.amqp_session.specs.Talk.{start, is_asked, has_ended}
 use Rattle.amqp_session.specs.Commands.{command}
-use Rattle.amqp_session.specs.Answers.{take_answer, take_frames}
+use Rattle.amqp_session.specs.Answers.{take_answer, take_event, take_frames}
 use Rattle.amqp_session.specs.Legal.{Legal}
 use Rattle.amqp_engine.specs.declared.given.Given.{Given}
 use Rattle.amqp_engine.specs.declared.port.Step.{Step}
@@ -33,6 +33,7 @@ pub data HasSent : Engine → List Sending → Type 0 where
       → HasSent (with_talk (command c) e) ss
   answer_taken : {e : Engine} {ss : List Sending} (number : ℕ) → HasSent e ss
       → HasSent (with_talk (take_answer number) e) ss
+  event_taken : {e : Engine} {ss : List Sending} → HasSent e ss → HasSent (with_talk take_event e) ss
   frames_taken : {e : Engine} {ss : List Sending} (opened : ℕ) → HasSent e ss
       → HasSent (with_talk (take_frames opened) e) ss
 

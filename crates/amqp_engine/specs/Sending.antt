@@ -5,8 +5,7 @@ use Rattle.amqp_frame.specs.declared.frame.Frame.{Frame}
 use Rattle.amqp_frame.specs.Frames.{encoding}
 use Rattle.amqp_outbox.specs.declared.item.Item.{Item}
 use Rattle.amqp_session.specs.declared.committed.Mark.{Mark}
-use Rattle.amqp_session.specs.Config.{Config}
-use Rattle.amqp_session.specs.Talk.{is_asked, start}
+use Rattle.amqp_session.specs.Talk.{Talk, is_asked}
 use Rattle.amqp_session.specs.Writing.{frames_waiting}
 use Rattle.amqp_engine.specs.declared.port.Step.{Step}
 use Rattle.amqp_engine.specs.declared.port.Step.TheVariants.{Linked}
@@ -92,9 +91,9 @@ abbrev pub sendings_from : List Turn → Engine → List Sending → List Sendin
 sendings_from [] e ss = ss
 sendings_from (u ∷ us) e ss = sendings_from us (turn u e) (turn_sending u e ss)
 
--- what these turns of a new engine sent, link by link
-abbrev pub sendings : Config → List Turn → List Sending
-sendings config us = sendings_from us (begin (start config)) []
+-- what these turns of a new engine of this session sent, link by link
+abbrev pub sendings : Talk → List Turn → List Sending
+sendings t us = sendings_from us (begin t) []
 
 -- ---- what is claimed of it
 

@@ -2,8 +2,7 @@
 -- tells.
 use Rattle.std.specs.Prelude.{◌≡◌, ◌≢◌, ◌<◌, ◌≤◌, ℕ, zero, suc, ◌+◌, ◌^◌, not, ◌&&◌, ◌==◌, if◌then◌else◌, nat_lt, Bool, true, false, IsTrue, IsFalse, MatchBool, List, [], ◌∷◌, ◌++◌, length, drop, map, Option, Some, None}
 use Rattle.std.specs.Option.{option_or}
-use Rattle.amqp_session.specs.Config.{Config}
-use Rattle.amqp_session.specs.Talk.{Talk, start, wants_link, is_asked, is_open, has_ended}
+use Rattle.amqp_session.specs.Talk.{Talk, wants_link, is_asked, is_open, has_ended}
 use Rattle.amqp_session.specs.Links.{asked}
 use Rattle.amqp_session.specs.declared.auth.asked.Question.{Question}
 use Rattle.amqp_session.specs.declared.auth.asked.Asked.{Asked}
@@ -193,9 +192,9 @@ abbrev pub turns : List Turn → Engine → Engine
 turns [] e = e
 turns (u ∷ us) e = turns us (turn u e)
 
--- the state of a session of this configuration that these turns of a new engine lead to
-abbrev pub talk : Config → List Turn → Talk
-talk config us = (turns us (begin (start config))).talk
+-- the state of this session that these turns of a new engine of it lead to
+abbrev pub talk : Talk → List Turn → Talk
+talk t us = (turns us (begin t)).talk
 
 -- ---- which turns there may be
 

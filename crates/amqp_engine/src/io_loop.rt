@@ -3,12 +3,12 @@
 ghost use Rattle.std.specs.Prelude.{◌≡◌, ◌≤◌, ◌⊎◌, ℕ, Some, None, Err, List, true, false, IfOk, IfErr, IfSome, IsOk, OnOk, OnErr, MatchResult, IsSome, IsTrue, length, option_map};
 ghost use Rattle.amqp_ring.specs.Ring.{capacity};
 ghost use Rattle.amqp_types.specs.declared.text.Text.{Text};
-ghost use Rattle.amqp_session.specs.declared.io_fault.IoFault.{IoFault};
+ghost use Rattle.amqp_promise.specs.declared.io_fault.IoFault.{IoFault};
 ghost use Rattle.amqp_session.specs.Config.{config_of};
 ghost use Rattle.amqp_session.specs.Talk.{start, has_ended, end_of};
 ghost use Rattle.amqp_session.specs.ChannelMethods.{frames_of};
 ghost use Rattle.amqp_session.specs.Commands.{command as command_rule, promise_of};
-ghost use Rattle.amqp_session.specs.Answers.{HandsOut, Takes, take_frames};
+ghost use Rattle.amqp_session.specs.Answers.{HandsOut, Takes, TakesEvent, take_frames};
 ghost use Rattle.amqp_engine.specs.Engine.{Engine, begin, with_talk};
 ghost use Rattle.amqp_engine.specs.Turn.{asks};
 ghost use Rattle.amqp_engine.specs.Tell.{AppliesLent, TakesTurnLent, RunsLent, log_asks};
@@ -24,8 +24,8 @@ use crate::port::{Port, Told, hold};
 use crate::wire::Wire;
 use amqp_ring::Buffer;
 use amqp_session::{
-    Answer, AuthList, AuthProvider, Cmd, ConnectionProperties, ErrorKind, Handed, IoFault, Result,
-    Session,
+    Answer, AuthList, AuthProvider, Cmd, ConnectionProperties, ErrorKind, Event, Handed, IoFault,
+    Result, Session,
 };
 use amqp_types::NoMemory;
 use amqp_uri::AMQPUri;
@@ -265,6 +265,16 @@ impl IoLoop {
         ensures rest { self.new ≡ record self.old { talk = self.new.talk } }
     {
         self.wire.answer(number)
+    }
+
+    /// Takes the first event that was not taken, where there is one. Where it is that of the end and
+    /// memory for the copy of its error is refused, that is told in its place, and the event can still be
+    /// taken.
+    pub fn event(&mut self) -> Option<Event>
+        ensures taken { TakesEvent result self.old.talk self.new.talk }
+        ensures rest { self.new ≡ record self.old { talk = self.new.talk } }
+    {
+        self.wire.event()
     }
 
     /// Takes the frames handed out of the channel that a promise opened, in order, as many as were

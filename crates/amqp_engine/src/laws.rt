@@ -3,8 +3,7 @@
 ghost use Rattle.std.specs.Prelude.{◌≡◌, ℕ, ◌+◌, [], false, true, List, Option, map};
 ghost use Rattle.std.specs.List.{AllByRecursion};
 ghost use Rattle.amqp_session.specs.declared.auth.asked.Asked.{Asked};
-ghost use Rattle.amqp_session.specs.Config.{Config};
-ghost use Rattle.amqp_session.specs.Talk.{Talk, start, has_ended};
+ghost use Rattle.amqp_session.specs.Talk.{Talk, has_ended};
 ghost use Rattle.amqp_session.specs.Legal.{Legal};
 ghost use Rattle.amqp_engine.specs.declared.given.Given.{Given};
 ghost use Rattle.amqp_engine.specs.Log.{Log, loaded};
@@ -13,7 +12,7 @@ ghost use Rattle.amqp_engine.specs.Turn.{Turn, turn, IsTurn, AreTurns, AreTold};
 ghost use Rattle.amqp_engine.specs.Tell.{Runs, PlaysTurns, log_turns};
 ghost use Rattle.amqp_engine.specs.Play.{replayed, AreAnswered};
 ghost use Rattle.amqp_engine.specs.Sending.{Sending, sendings, frames, frames_sent, link_bytes, SendsInOrder};
-ghost use Rattle.amqp_engine.specs.Saying.{HasSent, AreGivenTold};
+ghost use Rattle.amqp_engine.specs.Saying.{HasSent, TellsLinks, AreGivenTold};
 ghost use Rattle.amqp_engine.specs.Unread.{IsRead};
 
 /// A run that may take no turn, and one of a session that had ended, take no step and write
@@ -36,22 +35,22 @@ pub fn a_run_goes_on()
 /// The turns of a script are turns of a new engine over a port that plays the script, where what they
 /// ask is answered. So what holds of all turns holds of these.
 pub fn a_script_has_its_turns()
-    ensures turns { (config : Config) (gs : List Given) (answers : List Asked)
-        → AreAnswered (replayed config gs answers) (begin (start config))
-        → AreTurns (replayed config gs answers) (begin (start config)) }
-    ensures plays { (config : Config) (gs : List Given) (answers : List Asked)
-        → PlaysTurns (replayed config gs answers) (begin (start config)) (loaded gs) }
+    ensures turns { (t : Talk) (gs : List Given) (answers : List Asked)
+        → AreAnswered (replayed t gs answers) (begin t)
+        → AreTurns (replayed t gs answers) (begin t) }
+    ensures plays { (t : Talk) (gs : List Given) (answers : List Asked)
+        → PlaysTurns (replayed t gs answers) (begin t) (loaded gs) }
 {}
 
-/// What a port tells of its links, which had none before a new engine ran over it, are the bytes of
-/// the frames that were committed on each, as many as were taken: the spellings of the frames that
-/// were sent, in order, and then a part of the next one.
+/// What a port tells of its links, which had none before an engine that has sent nothing ran over it,
+/// are the bytes of the frames that were committed on each, as many as were taken: the spellings of the
+/// frames that were sent, in order, and then a part of the next one.
 pub fn a_link_has_the_frames_sent()
-    ensures told { (config : Config) (us : List Turn) (log : Log) → AreTurns us (begin (start config))
-        → log.links ≡ [] → log.asked ≡ false
-        → (log_turns us (begin (start config)) log).links ≡ map link_bytes (sendings config us) }
-    ensures order { (config : Config) (us : List Turn) → AreTurns us (begin (start config))
-        → AllByRecursion SendsInOrder (sendings config us) }
+    ensures told { (t : Talk) (us : List Turn) (log : Log) → HasSent (begin t) [] → AreTurns us (begin t)
+        → TellsLinks (begin t) [] log
+        → (log_turns us (begin t) log).links ≡ map link_bytes (sendings t us) }
+    ensures order { (t : Talk) (us : List Turn) → HasSent (begin t) [] → AreTurns us (begin t)
+        → AllByRecursion SendsInOrder (sendings t us) }
 {}
 
 /// While a link is open, no turn leaves a whole frame unread.
@@ -68,9 +67,9 @@ pub fn conversations_are_legal()
         → AllByRecursion (λ (s : Sending). Legal (frames_sent s)) ss }
     ensures committed { (e : Engine) (ss : List Sending) → HasSent e ss
         → AllByRecursion (λ (s : Sending). Legal (frames s.committed)) ss }
-    ensures turns { (config : Config) (us : List Turn) → AreTurns us (begin (start config)) → AreTold us
-        → AllByRecursion (λ (s : Sending). Legal (frames_sent s)) (sendings config us) }
-    ensures script { (config : Config) (gs : List Given) (answers : List Asked) → AreGivenTold gs
-        → AreAnswered (replayed config gs answers) (begin (start config))
-        → AllByRecursion (λ (s : Sending). Legal (frames_sent s)) (sendings config (replayed config gs answers)) }
+    ensures turns { (t : Talk) (us : List Turn) → HasSent (begin t) [] → AreTurns us (begin t) → AreTold us
+        → AllByRecursion (λ (s : Sending). Legal (frames_sent s)) (sendings t us) }
+    ensures script { (t : Talk) (gs : List Given) (answers : List Asked) → HasSent (begin t) []
+        → AreGivenTold gs → AreAnswered (replayed t gs answers) (begin t)
+        → AllByRecursion (λ (s : Sending). Legal (frames_sent s)) (sendings t (replayed t gs answers)) }
 {}

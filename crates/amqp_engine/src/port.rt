@@ -97,7 +97,7 @@ pub(crate) fn hold(command: &Cmd)
         }
         Cmd::OpenChannel | Cmd::CloseChannel(..) | Cmd::CloseConnection(..) => {}
         Cmd::UpdateSecret(..) | Cmd::Flow(..) => {}
-        Cmd::DropChannel(_) | Cmd::DropConnection => {}
+        Cmd::DropChannel(_) | Cmd::DropConnection | Cmd::Listen => {}
     }
 }
 

@@ -13,7 +13,7 @@ ghost use Rattle.amqp_session.specs.Config.{config_of};
 ghost use Rattle.amqp_session.specs.Talk.{start, is_open, has_ended};
 ghost use Rattle.amqp_session.specs.Commands.{command as command_rule, promise_of};
 ghost use Rattle.amqp_session.specs.ChannelMethods.{frames_of};
-ghost use Rattle.amqp_session.specs.Answers.{Takes, take_frames};
+ghost use Rattle.amqp_session.specs.Answers.{Takes, TakesEvent, take_frames};
 ghost use Rattle.amqp_engine.specs.Engine.{Engine, begin, with_talk, starve_at};
 ghost use Rattle.amqp_engine.specs.Turn.{asks};
 ghost use Rattle.amqp_engine.specs.Tell.{log_asks};
@@ -22,7 +22,7 @@ ghost use Rattle.amqp_engine.specs.Making.{AppliesCounted, Blames};
 use crate::port::{Port, Told};
 use amqp_ring::Buffer;
 use amqp_session::{
-    Answer, AuthList, AuthProvider, Cmd, ConnectionProperties, ErrorKind, Handed, Session,
+    Answer, AuthList, AuthProvider, Cmd, ConnectionProperties, ErrorKind, Event, Handed, Session,
     initial_capacity,
 };
 use amqp_types::NoMemory;
@@ -142,6 +142,14 @@ impl Wire {
         ensures rest { self.new ≡ record self.old { talk = self.new.talk } }
     {
         self.session.answer(number)
+    }
+
+    /// Takes the first event that was not taken.
+    pub fn event(&mut self) -> Option<Event>
+        ensures taken { TakesEvent result self.old.talk self.new.talk }
+        ensures rest { self.new ≡ record self.old { talk = self.new.talk } }
+    {
+        self.session.event()
     }
 
     /// Takes the frames that were handed out to the promise that opened a channel.

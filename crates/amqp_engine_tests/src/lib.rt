@@ -9,6 +9,8 @@ mod copies;
 #[cfg(test)]
 mod ends;
 #[cfg(test)]
+mod listening;
+#[cfg(test)]
 mod parts;
 #[cfg(test)]
 mod recovering;

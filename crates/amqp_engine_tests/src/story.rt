@@ -3,7 +3,7 @@
 use crate::support::{Happens, Outcome, our_close, port, shows, took, took_on};
 use amqp_engine::{IoLoop, MemoryPort, Port, ScriptedPort};
 use amqp_ring::Buffer;
-use amqp_session::{Answer, ConnectionProperties, DefaultAuthProvider};
+use amqp_session::{Answer, Cmd, ConnectionProperties, DefaultAuthProvider, Event};
 use amqp_types::NoMemory;
 use amqp_uri::AMQPUri;
 use std::alloc::Global;
@@ -26,6 +26,8 @@ pub enum Line {
     ApplyNext,
     /// Closes the connection; the promise.
     Close(u64),
+    /// Keeps events from then on. It makes no promise.
+    Listen,
 
     /// The session asked for a link.
     IsAsked,
@@ -43,6 +45,12 @@ pub enum Line {
     Refuses(u64, &'static str),
     /// There is no answer to a promise, or none that was not taken.
     IsUnanswered(u64),
+    /// The first event that was not taken is that the connection is open. It is taken.
+    TellsConnected,
+    /// It is this error, as its text. It is taken.
+    TellsError(&'static str),
+    /// There is no event that was not taken.
+    TellsNothing,
     /// The payloads handed out of the channel that a promise opened. They are taken.
     HandsOut(u64, &'static [&'static [u8]]),
     /// Each buffer has room for so many bytes; so many are received and not read, and so many are not
@@ -172,6 +180,7 @@ fn holds(alloc: Global, port: &mut MemoryPort, driven: &mut Driven, line: Line) 
         Line::Ask => driven.engine.ask(port),
         Line::ApplyNext => apply_next(port, driven)?,
         Line::Close(promise) => return closes(alloc, &mut driven.engine, promise),
+        Line::Listen => return listens(&mut driven.engine),
         _ => return gives(alloc, port, &mut driven.engine, line),
     }
     Ok(true)
@@ -188,6 +197,9 @@ fn gives(alloc: Global, port: &MemoryPort, engine: &mut IoLoop, line: Line) -> O
         Line::Answers(number, answer) => Ok(answers(engine, number, answer)),
         Line::Refuses(number, text) => refuses(alloc, engine, number, text),
         Line::IsUnanswered(number) => Ok(is_unanswered(engine, number)),
+        Line::TellsConnected => Ok(tells_connected(engine)),
+        Line::TellsError(text) => tells_error(alloc, engine, text),
+        Line::TellsNothing => Ok(tells_nothing(engine)),
         Line::HandsOut(opened, payloads) => hands_out(engine, opened, payloads),
         Line::Keeps(capacity, received, unsent) => Ok(
             has_kept(engine.received(), capacity, received)
@@ -229,6 +241,11 @@ fn closes(alloc: Global, engine: &mut IoLoop, promise: u64) -> Outcome<bool> {
     Ok(engine.command(close)? == Some(promise))
 }
 
+// Whether the engine listens, for no promise.
+fn listens(engine: &mut IoLoop) -> Outcome<bool> {
+    Ok(engine.command(Cmd::Listen)?.is_none())
+}
+
 fn is_unanswered(engine: &mut IoLoop, number: u64) -> bool {
     let answer = engine.answer(number);
     let none = answer.is_none();
@@ -251,6 +268,30 @@ fn refuses(alloc: Global, engine: &mut IoLoop, number: u64, text: &str) -> Outco
         Some(Err(error)) => shows(alloc, error, text),
         _ => Ok(false),
     }
+}
+
+fn tells_connected(engine: &mut IoLoop) -> bool {
+    let event = engine.event();
+    let same = matches!(&event, Some(Event::Connected));
+    drop(event);
+    same
+}
+
+fn tells_error(alloc: Global, engine: &mut IoLoop, text: &str) -> Outcome<bool> {
+    match engine.event() {
+        Some(Event::Error(error)) => shows(alloc, error, text),
+        other => {
+            drop(other);
+            Ok(false)
+        }
+    }
+}
+
+fn tells_nothing(engine: &mut IoLoop) -> bool {
+    let event = engine.event();
+    let none = event.is_none();
+    drop(event);
+    none
 }
 
 fn hands_out(engine: &mut IoLoop, opened: u64, wanted: &[&'static [u8]]) -> Outcome<bool> {

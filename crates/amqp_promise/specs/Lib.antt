@@ -1,3 +1,7 @@
+-- what is believed of errors: their texts, and what is asked of them
+pub mod Shown
+pub mod Errors
+pub mod Kinds
 -- what is believed: what places for wakers are, a cell and its steps, and what all steps on one lead to
 pub mod Places
 pub mod Cell

@@ -1,55 +1,46 @@
 //! The last error that was set.
 
-ghost use Rattle.std.specs.Prelude.{◌≡◌, None, Some, IfOk};
-ghost use Rattle.amqp_types.specs.declared.memory.NoMemory.{NoMemory};
+ghost use Rattle.std.specs.Prelude.{◌≡◌, None, Some};
 ghost use Rattle.amqp_promise.specs.Checks.{Checks};
 
-use amqp_types::NoMemory;
+use crate::{Error, Result};
 use std::alloc::Global;
 use std::marker::Model;
 
-/// What can be copied, unless memory for the copy is refused.
-pub trait TryClone: Drop {
-    /// An equal value.
-    fn try_clone(&self, alloc: Global) -> Result<Self, NoMemory>
-        ensures { IfOk result (λ copy. copy ≡ self.now) };
-}
-
 /// The last error that was set, kept once.
 #[derive(Debug, Drop)]
-pub struct ErrorHolder<E> {
-    error: Option<E>,
+pub struct ErrorHolder {
+    error: Option<Error>,
 }
 
-impl<E> Model for ErrorHolder<E> {
+impl Model for ErrorHolder {
     ghost use Rattle.std.specs.Prelude.{Option};
+    ghost use Rattle.amqp_promise.specs.declared.error.ErrorKind.{ErrorKind};
 
-    ghost Value = { Option E };
+    ghost Value = { Option ErrorKind };
 
     ghost view = { λ holder. holder.error };
 }
 
-impl<E: Drop> ErrorHolder<E> {
+impl ErrorHolder {
     /// No error was set.
-    pub fn new() -> ErrorHolder<E>
+    pub fn new() -> ErrorHolder
         ensures { result ≡ None }
     {
         ErrorHolder { error: None }
     }
 
     /// Sets an error in place of the last one.
-    pub fn set(&mut self, error: E)
+    pub fn set(&mut self, error: Error)
         ensures { self.new ≡ Some error }
     {
         self.error = Some(error);
     }
-}
 
-impl<E: TryClone + From<NoMemory>> ErrorHolder<E> {
     /// A copy of the last error that was set, as an error; want of memory in its place, where memory
     /// for the copy is refused.
-    pub fn check(&self, alloc: Global) -> Result<(), E>
-        ensures { Checks (λ e. (refused : NoMemory) × E.from_gives refused e) self.now result }
+    pub fn check(&self, alloc: Global) -> Result<()>
+        ensures { Checks self.now result }
     {
         match &self.error {
             None => Ok(()),

@@ -6,7 +6,7 @@ ghost use Rattle.futures.specs.Poll.{OnPending};
 ghost use Rattle.std.specs.Arc.{arc_value};
 ghost use Rattle.amqp_promise.specs.Ends.{promise_source, resolver_source, promise_marker, resolver_marker};
 
-use crate::Slot;
+use crate::{Error, Result, Slot};
 use amqp_types::NoMemory;
 use futures::task::{Context, Poll, Source};
 use std::alloc::Global;
@@ -14,36 +14,36 @@ use std::sync::{Arc, Mutex, Wait};
 
 // What the ends of a promise share: what it was made for, where a task waits for it, and its cell.
 #[derive(Drop)]
-struct Shared<T, E> {
+struct Shared<T> {
     marker: &'static str,
     source: Source,
-    slot: Mutex<Slot<T, E>>,
+    slot: Mutex<Slot<T>>,
 }
 
 /// The end of a promise at which its result is taken.
 #[derive(Drop)]
-pub struct Promise<T, E> {
-    shared: Arc<Shared<T, E>>,
+pub struct Promise<T> {
+    shared: Arc<Shared<T>>,
 }
 
 /// The end of a promise at which it is completed. The first completion counts, whichever resolver of
 /// the cell it comes from.
 #[derive(Drop)]
-pub struct PromiseResolver<T, E> {
-    shared: Arc<Shared<T, E>>,
+pub struct PromiseResolver<T> {
+    shared: Arc<Shared<T>>,
 }
 
 /// What is completed with an error where nothing else will complete it.
-pub trait Cancelable<E> {
+pub trait Cancelable {
     /// One completion with this error; it changes nothing after another.
-    fn cancel<R: Wait>(&self, rt: &R, error: E);
+    fn cancel<R: Wait>(&self, rt: &R, error: Error);
 }
 
-fn share<T: Drop, E: Drop>(
+fn share<T: Drop>(
     alloc: Global,
     marker: &'static str,
-    slot: Slot<T, E>,
-) -> Result<Arc<Shared<T, E>>, NoMemory>
+    slot: Slot<T>,
+) -> std::result::Result<Arc<Shared<T>>, NoMemory>
     ensures { IfOk result (λ shared. (arc_value shared).marker.now ≡ marker.now) }
 {
     let shared = Shared {
@@ -54,12 +54,12 @@ fn share<T: Drop, E: Drop>(
     Ok(Arc::new(alloc, shared)?)
 }
 
-impl<T: Drop, E: Drop> Promise<T, E> {
+impl<T: Drop> Promise<T> {
     /// Both ends of a cell that waits. The marker says what it was made for.
     pub fn new(
         alloc: Global,
         marker: &'static str,
-    ) -> Result<(Promise<T, E>, PromiseResolver<T, E>), NoMemory>
+    ) -> std::result::Result<(Promise<T>, PromiseResolver<T>), NoMemory>
         ensures one_cell { IfOk result (λ ends. promise_source ends.0 ≡ resolver_source ends.1) }
         ensures promise_marked { IfOk result (λ ends. promise_marker ends.0 ≡ marker.now) }
         ensures resolver_marked { IfOk result (λ ends. resolver_marker ends.1 ≡ marker.now) }
@@ -75,8 +75,8 @@ impl<T: Drop, E: Drop> Promise<T, E> {
     pub fn new_with_data(
         alloc: Global,
         marker: &'static str,
-        outcome: Result<T, E>,
-    ) -> Result<Promise<T, E>, NoMemory>
+        outcome: Result<T>,
+    ) -> std::result::Result<Promise<T>, NoMemory>
         ensures { IfOk result (λ promise. promise_marker promise ≡ marker.now) }
     {
         let mut slot = Slot::new(alloc);
@@ -93,7 +93,7 @@ impl<T: Drop, E: Drop> Promise<T, E> {
     }
 
     /// Takes the result, where the cell has one that was not taken.
-    pub fn try_wait<R: Wait>(&self, rt: &R) -> Option<Result<T, E>> {
+    pub fn try_wait<R: Wait>(&self, rt: &R) -> Option<Result<T>> {
         self.shared.slot.lock(rt).take()
     }
 
@@ -103,7 +103,7 @@ impl<T: Drop, E: Drop> Promise<T, E> {
         &self,
         rt: &R,
         cx: &mut Context<'_>,
-    ) -> Poll<Result<Result<T, E>, NoMemory>>
+    ) -> Poll<std::result::Result<Result<T>, NoMemory>>
         ensures registered { OnPending result (Covers cx.new (λ s. s ≡ promise_source self.now)) }
         ensures kept { Keeps cx.old cx.new }
     {
@@ -111,7 +111,7 @@ impl<T: Drop, E: Drop> Promise<T, E> {
     }
 }
 
-impl<T: Drop, E: Drop> PromiseResolver<T, E> {
+impl<T: Drop> PromiseResolver<T> {
     /// What the promise was made for.
     pub fn marker(&self) -> &'static str
         ensures { result.now ≡ resolver_marker self.now }
@@ -120,7 +120,7 @@ impl<T: Drop, E: Drop> PromiseResolver<T, E> {
     }
 
     /// One completion with this result.
-    pub fn complete<R: Wait>(&self, rt: &R, outcome: Result<T, E>) {
+    pub fn complete<R: Wait>(&self, rt: &R, outcome: Result<T>) {
         self.shared.slot.lock(rt).complete(outcome);
     }
 
@@ -130,12 +130,12 @@ impl<T: Drop, E: Drop> PromiseResolver<T, E> {
     }
 
     /// One completion with this error.
-    pub fn reject<R: Wait>(&self, rt: &R, error: E) {
+    pub fn reject<R: Wait>(&self, rt: &R, error: Error) {
         self.complete(rt, Err(error));
     }
 
     /// Another resolver of the same cell.
-    pub fn try_clone(&self) -> Result<PromiseResolver<T, E>, NoMemory>
+    pub fn try_clone(&self) -> std::result::Result<PromiseResolver<T>, NoMemory>
         ensures one_cell { IfOk result (λ other. resolver_source other ≡ resolver_source self.now) }
         ensures marked { IfOk result (λ other. resolver_marker other ≡ resolver_marker self.now) }
     {
@@ -145,8 +145,8 @@ impl<T: Drop, E: Drop> PromiseResolver<T, E> {
     }
 }
 
-impl<T: Drop, E: Drop> Cancelable<E> for PromiseResolver<T, E> {
-    fn cancel<R: Wait>(&self, rt: &R, error: E) {
+impl<T: Drop> Cancelable for PromiseResolver<T> {
+    fn cancel<R: Wait>(&self, rt: &R, error: Error) {
         self.reject(rt, error);
     }
 }

@@ -6,7 +6,7 @@ ghost use Rattle.futures.specs.Poll.{OnPending};
 ghost use Rattle.amqp_promise.specs.Cell.{new_cell, completed, taken, left, is_complete};
 ghost use Rattle.amqp_promise.specs.Polls.{Registers, Polls};
 
-use crate::Wakers;
+use crate::{Result, Wakers};
 use amqp_types::NoMemory;
 use futures::task::{Context, Poll, Source};
 use std::alloc::Global;
@@ -15,32 +15,33 @@ use std::mem;
 
 // How far a cell has come. What is completed keeps no waker.
 #[derive(Drop)]
-enum Stage<T, E> {
+enum Stage<T> {
     Waiting(Wakers),
-    Kept(Result<T, E>),
+    Kept(Result<T>),
     Taken,
 }
 
 /// A cell for one result. The first completion alone is kept, and is taken once.
 #[derive(Drop)]
-pub struct Slot<T, E> {
-    stage: Stage<T, E>,
+pub struct Slot<T> {
+    stage: Stage<T>,
 }
 
-impl<T, E> Model for Slot<T, E> {
+impl<T> Model for Slot<T> {
     ghost use Rattle.std.specs.Prelude.{Result};
+    ghost use Rattle.amqp_promise.specs.declared.error.ErrorKind.{ErrorKind};
     ghost use Rattle.amqp_promise.specs.Cell.{Cell};
 
-    ghost Value = { Cell (Result T E) };
+    ghost Value = { Cell (Result T ErrorKind) };
 
     ghost use Rattle.amqp_promise.specs.Stages.{cell_of};
 
     ghost view = { λ s. cell_of s.stage };
 }
 
-impl<T: Drop, E: Drop> Slot<T, E> {
+impl<T: Drop> Slot<T> {
     /// A cell that waits, with no place for a waker.
-    pub fn new(alloc: Global) -> Slot<T, E>
+    pub fn new(alloc: Global) -> Slot<T>
         ensures { result ≡ new_cell }
     {
         Slot {
@@ -50,7 +51,7 @@ impl<T: Drop, E: Drop> Slot<T, E> {
 
     /// Keeps the result and wakes who waits, where it is the first completion. A later one changes
     /// nothing, and its result is dropped.
-    pub fn complete(&mut self, outcome: Result<T, E>)
+    pub fn complete(&mut self, outcome: Result<T>)
         ensures { self.new ≡ completed outcome self.old }
     {
         match &mut self.stage {
@@ -63,7 +64,7 @@ impl<T: Drop, E: Drop> Slot<T, E> {
     }
 
     /// Takes the result of the first completion, where it is there and was not taken.
-    pub fn take(&mut self) -> Option<Result<T, E>>
+    pub fn take(&mut self) -> Option<Result<T>>
         ensures given { result ≡ taken self.old }
         ensures left { self.new ≡ left self.old }
     {
@@ -78,7 +79,11 @@ impl<T: Drop, E: Drop> Slot<T, E> {
 
     /// Makes a place for the waker of the polled task, which then waits at this source. A completed
     /// slot registers nothing.
-    pub fn register(&mut self, source: &Source, cx: &mut Context<'_>) -> Result<(), NoMemory>
+    pub fn register(
+        &mut self,
+        source: &Source,
+        cx: &mut Context<'_>,
+    ) -> std::result::Result<(), NoMemory>
         ensures place { OnOk result (Registers cx.old cx.new self.old self.new) }
         ensures armed { OnOk result (is_complete self.old ≡ false → IsArmed cx.new) }
         ensures heard { OnOk result (is_complete self.old ≡ false → Hears cx.new source.now.id) }
@@ -99,7 +104,7 @@ impl<T: Drop, E: Drop> Slot<T, E> {
         &mut self,
         source: &Source,
         cx: &mut Context<'_>,
-    ) -> Poll<Result<Result<T, E>, NoMemory>>
+    ) -> Poll<std::result::Result<Result<T>, NoMemory>>
         ensures answer { Polls cx.old cx.new self.old self.new result }
         ensures registered { OnPending result (Covers cx.new (λ s. s ≡ source.now.id)) }
         ensures kept { Keeps cx.old cx.new }

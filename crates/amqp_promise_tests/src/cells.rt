@@ -1,8 +1,9 @@
 //! The cells by themselves.
 
-use crate::support::{Outcome, Refusal};
+use crate::support::{Polled, same};
 use amqp_promise::{
-    ErrorHolder, KillSwitch, Notifier, Slot, Wakers, a_first_completion_is_taken_once,
+    ErrorHolder, ErrorKind, KillSwitch, Notifier, Result, Slot, Wakers,
+    a_first_completion_is_taken_once,
 };
 use amqp_types::NoMemory;
 use futures::task::{Poll, Source};
@@ -12,36 +13,40 @@ use std::sync::Wait;
 use std::test::Fail;
 
 // Whether a task could register.
-fn registers(source: &Source, task: &MockTask, slot: &mut Slot<u8, Refusal>) -> bool {
+fn registers(source: &Source, task: &MockTask, slot: &mut Slot<u8>) -> bool {
     task.enter(|cx| slot.register(source, cx).is_ok())
 }
 
 // Whether a poll by this task answers this.
-fn polls(
-    source: &Source,
-    task: &MockTask,
-    slot: &mut Slot<u8, Refusal>,
-    wanted: Poll<Result<Outcome, NoMemory>>,
-) -> bool {
-    task.enter(|cx| slot.poll(source, cx) == wanted)
+fn polls(source: &Source, task: &MockTask, slot: &mut Slot<u8>, wanted: Polled) -> bool {
+    let polled = task.enter(|cx| slot.poll(source, cx));
+    same(polled, wanted)
 }
 
-fn is_woken_by_a_slot(source: &Source, task: &MockTask, slot: &mut Slot<u8, Refusal>) -> bool {
+// Whether a take gets this.
+fn gives(slot: &mut Slot<u8>, wanted: Option<Result<u8>>) -> bool {
+    same(slot.take(), wanted)
+}
+
+fn is_woken_by_a_slot(source: &Source, task: &MockTask, slot: &mut Slot<u8>) -> bool {
     let polled = polls(source, task, slot, Poll::Pending);
     let waits = registers(source, task, slot) && !task.is_woken();
     slot.complete(Ok(5));
     polled && waits && task.is_woken()
 }
 
-fn is_taken_once(source: &Source, task: &MockTask, slot: &mut Slot<u8, Refusal>) -> bool {
+// A completed slot registers nothing, so a task that registers there is not woken.
+fn is_taken_once(source: &Source, task: &MockTask, slot: &mut Slot<u8>) -> bool {
     slot.complete(Ok(6));
     let registered = registers(source, task, slot);
+    slot.complete(Ok(7));
+    let undisturbed = !task.is_woken();
     let given = polls(source, task, slot, Poll::Ready(Ok(Ok(5))));
-    registered && given && slot.take().is_none()
+    registered && undisturbed && given && gives(slot, None)
 }
 
 #[test]
-fn a_slot_wakes_who_registered(rt: HostRuntime) -> Result<(), Fail> {
+fn a_slot_wakes_who_registered(rt: HostRuntime) -> std::result::Result<(), Fail> {
     a_first_completion_is_taken_once::<u8>();
     let task = MockTask::new(&rt)?;
     let source = Source::new();
@@ -52,6 +57,24 @@ fn a_slot_wakes_who_registered(rt: HostRuntime) -> Result<(), Fail> {
     drop(task);
     assert!(rt; woken && taken);
     Ok(())
+}
+
+fn is_taken_between_completions(slot: &mut Slot<u8>) -> bool {
+    let nothing = gives(slot, None);
+    slot.complete(Err(ErrorKind::OutOfTurns.into()));
+    slot.complete(Ok(6));
+    let first = gives(slot, Some(Err(ErrorKind::OutOfTurns.into())));
+    let taken = gives(slot, None);
+    slot.complete(Ok(7));
+    nothing && first && taken && gives(slot, None)
+}
+
+#[test]
+fn a_slot_keeps_its_first_completion(rt: HostRuntime) {
+    let mut slot = Slot::new(rt.alloc());
+    let told = is_taken_between_completions(&mut slot);
+    drop(slot);
+    assert!(rt; told);
 }
 
 // Whether a task that registered is woken once.
@@ -66,7 +89,7 @@ fn is_woken_once(source: &Source, task: &MockTask, wakers: &mut Wakers) -> bool 
 }
 
 #[test]
-fn places_are_empty_once_woken(rt: HostRuntime) -> Result<(), Fail> {
+fn places_are_empty_once_woken(rt: HostRuntime) -> std::result::Result<(), Fail> {
     let task = MockTask::new(&rt)?;
     let mut wakers = Wakers::new(rt.alloc());
     let told = is_woken_once(&Source::new(), &task, &mut wakers);
@@ -81,7 +104,7 @@ fn is_told<R: Wait>(
     rt: &R,
     task: &MockTask,
     notifier: &Notifier,
-    wanted: Poll<Result<(), NoMemory>>,
+    wanted: Poll<std::result::Result<(), NoMemory>>,
 ) -> bool {
     task.enter(|cx| notifier.poll(rt, cx) == wanted)
 }
@@ -89,19 +112,25 @@ fn is_told<R: Wait>(
 fn is_woken_by_a_notice<R: Wait>(rt: &R, task: &MockTask, notifier: &Notifier) -> bool {
     let waits = is_told(rt, task, notifier, Poll::Pending) && !task.is_woken();
     notifier.notify_all(rt);
-    let woken = task.is_woken() && is_told(rt, task, notifier, Poll::Ready(Ok(())));
+    waits && task.is_woken()
+}
+
+// A notifier that has told keeps no waker, so who asks then is not woken by it any more.
+fn is_told_at_once<R: Wait>(rt: &R, task: &MockTask, notifier: &Notifier) -> bool {
+    let told = is_told(rt, task, notifier, Poll::Ready(Ok(())));
     notifier.notify_all(rt);
-    waits && woken && is_told(rt, task, notifier, Poll::Ready(Ok(())))
+    told && !task.is_woken() && is_told(rt, task, notifier, Poll::Ready(Ok(())))
 }
 
 #[test]
-fn a_notifier_tells_who_waits(rt: HostRuntime) -> Result<(), Fail> {
+fn a_notifier_tells_who_waits(rt: HostRuntime) -> std::result::Result<(), Fail> {
     let task = MockTask::new(&rt)?;
     let told = match Notifier::new(rt.alloc()) {
         Ok(notifier) => {
-            let told = is_woken_by_a_notice(&rt, &task, &notifier);
+            let woken = is_woken_by_a_notice(&rt, &task, &notifier);
+            let told = is_told_at_once(&rt, &task, &notifier);
             drop(notifier);
-            told
+            woken && told
         }
         Err(_) => false,
     };
@@ -123,20 +152,23 @@ fn a_switch_is_killed_once(rt: HostRuntime) {
     assert!(rt; is_killed_once());
 }
 
-fn tells(alloc: Global, holder: &ErrorHolder<Refusal>, wanted: Result<(), Refusal>) -> bool {
-    holder.check(alloc) == wanted
+fn tells(alloc: Global, holder: &ErrorHolder, wanted: Result<()>) -> bool {
+    same(holder.check(alloc), wanted)
 }
 
-fn tells_the_last(alloc: Global) -> bool {
-    let mut holder = ErrorHolder::new();
-    let none = tells(alloc, &holder, Ok(()));
-    holder.set(Refusal::Code(320));
-    let first = tells(alloc, &holder, Err(Refusal::Code(320)));
-    holder.set(Refusal::NoMemory);
-    none && first && tells(alloc, &holder, Err(Refusal::NoMemory))
+fn tells_the_last(alloc: Global, holder: &mut ErrorHolder) -> bool {
+    let none = tells(alloc, holder, Ok(()));
+    holder.set(ErrorKind::InvalidChannel(3).into());
+    let first = tells(alloc, holder, Err(ErrorKind::InvalidChannel(3).into()));
+    holder.set(NoMemory.into());
+    let last = tells(alloc, holder, Err(NoMemory.into()));
+    none && first && last && tells(alloc, holder, Err(NoMemory.into()))
 }
 
 #[test]
 fn the_last_error_is_told(rt: HostRuntime) {
-    assert!(rt; tells_the_last(rt.alloc()));
+    let mut holder = ErrorHolder::new();
+    let told = tells_the_last(rt.alloc(), &mut holder);
+    drop(holder);
+    assert!(rt; told);
 }

@@ -4,6 +4,8 @@
 #[cfg(test)]
 mod cells;
 #[cfg(test)]
+mod errors;
+#[cfg(test)]
 mod promises;
 #[cfg(test)]
 mod support;

@@ -1,51 +1,38 @@
-//! Promises with an error of their own, and what they tell.
+//! Promises of a number, and what they tell.
+//!
+//! An error is let go by a call of `drop`, and never where a scope ends: at such a place the check goes
+//! through each kind of it.
 
-use amqp_promise::{Promise, PromiseResolver, TryClone};
+use amqp_promise::{Promise, PromiseResolver, Result};
 use amqp_types::NoMemory;
 use futures::task::Poll;
 use futures::test::MockTask;
-use std::alloc::Global;
 use std::sync::Wait;
 
-/// Why there is no answer.
-#[derive(Clone, Copy, PartialEq)]
-pub enum Refusal {
-    Code(u16),
-    NoMemory,
-}
-
-impl TryClone for Refusal {
-    fn try_clone(&self, _alloc: Global) -> Result<Refusal, NoMemory> {
-        Ok(*self)
-    }
-}
-
-impl From<NoMemory> for Refusal {
-    fn from(_refused: NoMemory) -> Refusal {
-        Refusal::NoMemory
-    }
-}
-
 /// The end at which an answer is taken.
-pub type Answer = Promise<u8, Refusal>;
+pub type Answer = Promise<u8>;
 
 /// The end at which it is given.
-pub type Resolver = PromiseResolver<u8, Refusal>;
+pub type Resolver = PromiseResolver<u8>;
 
-/// What is given.
-pub type Outcome = Result<u8, Refusal>;
+/// What a poll of such a promise answers.
+pub type Polled = Poll<std::result::Result<Result<u8>, NoMemory>>;
+
+/// Whether two values are equal. It takes both.
+pub fn same<T: PartialEq + Drop>(value: T, other: T) -> bool {
+    let same = value == other;
+    drop(value);
+    drop(other);
+    same
+}
 
 /// Whether a promise gives this now.
-pub fn gives<R: Wait>(rt: &R, promise: &Answer, wanted: Option<Outcome>) -> bool {
-    promise.try_wait(rt) == wanted
+pub fn gives<R: Wait>(rt: &R, promise: &Answer, wanted: Option<Result<u8>>) -> bool {
+    same(promise.try_wait(rt), wanted)
 }
 
 /// Whether a poll of a promise by this task answers this.
-pub fn polls<R: Wait>(
-    rt: &R,
-    task: &MockTask,
-    promise: &Answer,
-    wanted: Poll<Result<Outcome, NoMemory>>,
-) -> bool {
-    task.enter(|cx| promise.poll(rt, cx) == wanted)
+pub fn polls<R: Wait>(rt: &R, task: &MockTask, promise: &Answer, wanted: Polled) -> bool {
+    let polled = task.enter(|cx| promise.poll(rt, cx));
+    same(polled, wanted)
 }

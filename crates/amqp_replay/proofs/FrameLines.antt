@@ -4,7 +4,7 @@ use Rattle.std.specs.List.{flat_map}
 use Rattle.amqp_session.specs.declared.handed.Handed.{Handed}
 use Rattle.amqp_session.specs.Talk.{Talk, end_of}
 use Rattle.amqp_session.specs.ChannelMethods.{frames_of}
-use Rattle.amqp_session.specs.Answers.{take_frames}
+use Rattle.amqp_session.specs.Answers.{take_frames, events_of}
 use Rattle.amqp_replay.specs.Report.{frame_line}
 use Rattle.amqp_replay.proofs.Entries.{at-without}
 use Rattle.amqp_replay.proofs.Reports.{drop_from, lines_from}
@@ -28,9 +28,10 @@ lines_of_opening t number = flat_map frame_line (frames_of number t)
 abbrev pub frames_from : Talk → ℕ → ℕ → List ℕ
 frames_from t number count = lines_from (lines_of_opening t) number count
 
--- the frames of the openings from one on are those of before, and so is the end
+-- the frames of the openings from one on are those of before, and so are the events and the end
 pub record KeepsFrames (number : ℕ) (before now : Talk) : Type 0 where
   pub frames : (k : ℕ) → number ≤ k → frames_of k now ≡ frames_of k before
+  pub events : events_of now ≡ events_of before
   pub end : end_of now ≡ end_of before
 
 pub KeepsFrames-step : (number : ℕ) (before now : Talk) → KeepsFrames number before now
@@ -38,5 +39,6 @@ pub KeepsFrames-step : (number : ℕ) (before now : Talk) → KeepsFrames number
 KeepsFrames-step number before now keeps =
     record {
       frames = λ k le. ap (λ o. unwrap_or o []) (at-without number k now.handed (omega (arith, le))) ∙ keeps.frames k (omega (arith, le));
+      events = keeps.events;
       end = keeps.end;
     }

@@ -4,7 +4,7 @@ use Rattle.std.specs.Prelude.{codes}
 use Rattle.std.specs.Int.{w16, to_be_bytes}
 use Rattle.std.specs.List.{fold, range_with_len}
 use Rattle.amqp_session.specs.declared.command.Answer.{Answer}
-use Rattle.amqp_session.specs.declared.error.ErrorKind.{ErrorKind}
+use Rattle.amqp_promise.specs.declared.error.ErrorKind.{ErrorKind}
 use Rattle.amqp_session.specs.Talk.{Talk, end_of}
 use Rattle.amqp_session.specs.Answers.{answer_of, Takes}
 use Rattle.amqp_replay.specs.Report.{hexadecimal, end_line}
@@ -65,6 +65,7 @@ later number before now keeps =
     record {
       answers = λ k le. keeps.answers k (omega (arith, le));
       frames = keeps.frames;
+      events = keeps.events;
       end = keeps.end;
     }
 

@@ -19,6 +19,7 @@ pub mod MostRead
 pub mod Entries
 pub mod Reports
 pub mod FrameLines
+pub mod EventLines
 -- A generated script, and its summary (`generator`, `summary`).
 pub mod Generating
 -- What was read and what was written (`transfer`).

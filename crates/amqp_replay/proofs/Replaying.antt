@@ -3,15 +3,28 @@ use Rattle.std.proofs.Common.{◌≡◌, ℕ, List, [], ◌∷◌, Bool, true, f
 use Rattle.std.specs.Prelude.{IsSome, MatchBool}
 use Rattle.amqp_session.specs.Providers.{Exchange, Allows}
 use Rattle.amqp_session.specs.DefaultAnswers.{DefaultAuth}
-use Rattle.amqp_session.specs.Talk.{Talk, start}
+use Rattle.amqp_session.specs.declared.command.Cmd.TheVariants.{Listen}
+use Rattle.amqp_session.specs.Config.{Config}
+use Rattle.amqp_session.specs.Talk.{Talk}
+use Rattle.amqp_engine.specs.declared.given.Given.{Given}
 use Rattle.amqp_engine.specs.Log.{Log, loaded}
 use Rattle.amqp_engine.specs.Engine.{Engine, begin}
 use Rattle.amqp_engine.specs.Play.{IsPlayed}
-use Rattle.amqp_engine.specs.Saying.{SpellLegal}
+use Rattle.amqp_engine.specs.Saying.{HasSent, new, told, TellsLinks, SpellLegal}
 use Rattle.amqp_replay.specs.Grammar.{Scenario}
-use Rattle.amqp_replay.specs.Top.{replayed_log, replayed_links, replayed_exchange, handed_state, answers_of, reported, summed, printout, generated_printout}
+use Rattle.amqp_replay.specs.Top.{set_up, engine_of, replayed_log, replayed_links, replayed_exchange, handed_state, answers_of, reported, summed, printout, generated_printout}
 use Rattle.amqp_replay.specs.Runs.{IsReplayed, IsMade}
 use Rattle.amqp_replay.specs.Report.{Printout}
+
+-- an engine has sent nothing before its first step
+pub silent : (listens : Bool) (config : Config) → HasSent (begin (set_up listens config)) []
+silent true config = told Listen tt (new config)
+silent false config = new config
+
+-- and a port that was loaded tells so
+pub tells-nothing : (listens : Bool) (config : Config) (gs : List Given) → TellsLinks (begin (set_up listens config)) [] (loaded gs)
+tells-nothing true config gs = record { links = refl; asked = λ running. refl }
+tells-nothing false config gs = record { links = refl; asked = λ running. refl }
 
 -- a run of a loaded script, where memory was not refused
 abbrev pub Plays : ℕ → Engine → Engine → Option Log → Option Log → (Exchange → Type 0) → Type 0
@@ -24,14 +37,14 @@ ties_at log a links h ties =
 
 -- it leads to the state and the links of the replay, and the port tells of it
 pub IsReplayed-run : (s : Scenario) (n : ℕ) (e e' : Engine) (before after : Option Log) (links : List (List ℕ)) (state : Exchange → Type 0)
-    → n ≡ length s.steps → e ≡ begin (start s.config) → before ≡ Some (loaded s.steps) → Plays n e e' before after state → e'.starved ≡ None
+    → n ≡ length s.steps → e ≡ engine_of s → before ≡ Some (loaded s.steps) → Plays n e e' before after state → e'.starved ≡ None
     → IfSome after (λ a. a.links ≡ links) → ((a : Log) → after ≡ Some a → SpellLegal a.links) → IsReplayed state s e'.talk links after
-IsReplayed-run s n e e' before after links state count new loads plays whole ties legal =
+IsReplayed-run s n e e' before after links state count fresh loads plays whole ties legal =
     let A : ℕ → Type 0 = λ x. Plays x e e' before after state in
     let B : Engine → Type 0 = λ x. Plays (length s.steps) x e' before after state in
-    let C : Option Log → Type 0 = λ x. Plays (length s.steps) (begin (start s.config)) e' x after state in
-    let played : IsPlayed (length s.steps) (begin (start s.config)) e' (loaded s.steps) after state =
-    subst C loads (subst B new (subst A count plays)) refl whole in
+    let C : Option Log → Type 0 = λ x. Plays (length s.steps) (engine_of s) e' x after state in
+    let played : IsPlayed (length s.steps) (engine_of s) e' (loaded s.steps) after state =
+    subst C loads (subst B fresh (subst A count plays)) refl whole in
     let answers = played.answers in
     record {
       answers = answers;

@@ -4,12 +4,12 @@ use Rattle.std.proofs.Math.Seq.{drop-cons}
 use Rattle.std.proofs.lemmas.Option.{slice_get_within, get_or_from_slice_get}
 use Rattle.std.specs.List.{flat_map, enumerate_from, range_with_len}
 use Rattle.amqp_session.specs.declared.command.Answer.{Answer}
-use Rattle.amqp_session.specs.declared.error.ErrorKind.{ErrorKind}
-use Rattle.amqp_session.specs.declared.error.ErrorKind.TheVariants.{NoMemory}
+use Rattle.amqp_promise.specs.declared.error.ErrorKind.{ErrorKind}
+use Rattle.amqp_promise.specs.declared.error.ErrorKind.TheVariants.{NoMemory}
 use Rattle.amqp_session.specs.Listed.{without}
 use Rattle.amqp_session.specs.Talk.{Talk, end_of}
-use Rattle.amqp_session.specs.Answers.{answer_in, answer_of, take_answer, Takes}
-use Rattle.amqp_replay.specs.Report.{link_line, link_lines, answer_line, answer_lines, frame_lines, end_line, report}
+use Rattle.amqp_session.specs.Answers.{answer_in, answer_of, take_answer, Takes, events_of}
+use Rattle.amqp_replay.specs.Report.{link_line, link_lines, answer_line, answer_lines, frame_lines, event_lines, end_line, report}
 use Rattle.amqp_replay.proofs.Entries.{at-without}
 
 -- ---- lists, one by one
@@ -59,10 +59,11 @@ line_of t number = answer_line number (answer_of number t)
 abbrev pub answers_from : Talk → ℕ → ℕ → List ℕ
 answers_from t number count = lines_from (line_of t) number count
 
--- the answers from a promise on are those of before, and so are all frames and the end
+-- the answers from a promise on are those of before, and so are all frames, the events and the end
 pub record Keeps (number : ℕ) (before now : Talk) : Type 0 where
   pub answers : (k : ℕ) → number ≤ k → answer_of k now ≡ answer_of k before
   pub frames : frame_lines now ≡ frame_lines before
+  pub events : events_of now ≡ events_of before
   pub end : end_of now ≡ end_of before
 
 -- an answer that is not a refusal of memory was taken as it was kept
@@ -82,6 +83,10 @@ taken_frames : (b : Bool) (number : ℕ) (t : Talk) → frame_lines (taken_if b 
 taken_frames true number t = refl
 taken_frames false number t = refl
 
+taken_events : (b : Bool) (number : ℕ) (t : Talk) → events_of (taken_if b number t) ≡ events_of t
+taken_events true number t = refl
+taken_events false number t = refl
+
 taken_answer : (b : Bool) (number k : ℕ) (t : Talk) → number < k → answer_of k (taken_if b number t) ≡ answer_of k t
 taken_answer true number k t h = ap (answer_in (end_of t)) (at-without number k t.promises h)
 taken_answer false number k t h = refl
@@ -92,24 +97,30 @@ Keeps-step number before now keeps =
     record {
       answers = λ k le. taken_answer b number k now (omega (arith, le)) ∙ keeps.answers k (omega (arith, le));
       frames = taken_frames b number now ∙ keeps.frames;
+      events = taken_events b number now ∙ keeps.events;
       end = taken_end b number now ∙ keeps.end;
     }
 
 -- ---- the whole report
 
 -- the parts, written one after another
-pub report-parts : (links : List (List ℕ)) (t : Talk) (out with_links with_answers with_frames whole frames : List ℕ)
+pub report-parts : (links : List (List ℕ)) (t : Talk) (out with_links with_answers with_frames with_events whole frames events : List ℕ)
     (end : Option (Result (Unit {0}) ErrorKind))
     → with_links ≡ out ++ link_lines links → with_answers ≡ with_links ++ answer_lines t
-    → frames ≡ frame_lines t → with_frames ≡ with_answers ++ frames → end ≡ end_of t → whole ≡ with_frames ++ end_line end
+    → frames ≡ frame_lines t → with_frames ≡ with_answers ++ frames → events ≡ event_lines t → with_events ≡ with_frames ++ events
+    → end ≡ end_of t → whole ≡ with_events ++ end_line end
     → whole ≡ out ++ report links t
-report-parts links t out with_links with_answers with_frames whole frames end first second same third ended last =
+report-parts links t out with_links with_answers with_frames with_events whole frames events end first second same third told fourth ended last =
     let two = link_lines links ++ answer_lines t in
     let three = two ++ frame_lines t in
+    let four = three ++ event_lines t in
     let answered : with_answers ≡ out ++ two =
     second ∙ ap (λ (x : List ℕ). x ++ answer_lines t) first ∙ append_assoc out (link_lines links) (answer_lines t) in
     let framed : with_frames ≡ out ++ three =
     third ∙ ap (λ (x : List ℕ). with_answers ++ x) same ∙ ap (λ (x : List ℕ). x ++ frame_lines t) answered
     ∙ append_assoc out two (frame_lines t) in
-    last ∙ ap (λ x. with_frames ++ end_line x) ended ∙ ap (λ (x : List ℕ). x ++ end_line (end_of t)) framed
-    ∙ append_assoc out three (end_line (end_of t))
+    let noted : with_events ≡ out ++ four =
+    fourth ∙ ap (λ (x : List ℕ). with_frames ++ x) told ∙ ap (λ (x : List ℕ). x ++ event_lines t) framed
+    ∙ append_assoc out three (event_lines t) in
+    last ∙ ap (λ x. with_events ++ end_line x) ended ∙ ap (λ (x : List ℕ). x ++ end_line (end_of t)) noted
+    ∙ append_assoc out four (end_line (end_of t))

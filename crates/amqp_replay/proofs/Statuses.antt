@@ -1,7 +1,7 @@
 -- Which statuses a printout has.
 use Rattle.std.proofs.Common.{◌≡◌, ◌≢◌, ◌<◌, ◌⊎◌, sym, inl, inr, refl, ℕ, Bool, List, take, Option, Some, None, IfSome, Result, Ok, Err, ap, ◌∙◌, subst, arith}
 use Rattle.amqp_session.specs.declared.auth.asked.Asked.{Asked}
-use Rattle.amqp_session.specs.declared.error.ErrorKind.{ErrorKind}
+use Rattle.amqp_promise.specs.declared.error.ErrorKind.{ErrorKind}
 use Rattle.amqp_session.specs.Providers.{Exchange}
 use Rattle.amqp_session.specs.Talk.{end_of}
 use Rattle.amqp_engine.specs.Log.{Log}

@@ -295,11 +295,12 @@ limited left said = said
 
 -- ---- scripts
 
--- what a script says: what the session is made from, whether the provider that was handed authenticates it, and the
--- steps that are played
+-- what a script says: what the session is made from, whether the provider that was handed authenticates it, whether its
+-- events are kept, and the steps that are played
 pub record Scenario : Type 0 where
   pub config : Config
   pub handed : Bool
+  pub listens : Bool
   pub steps : List Given
 
 -- a setting that may not stand where the lines have come is refused
@@ -342,7 +343,8 @@ before at _ number rest = rest
 -- what these lines say where the lines before them have come so far, after a step of this moment, or the number of the
 -- first one that is refused, where so many zeros may still be spelled by numbers
 abbrev pub scenario_of : Progress → ℕ → ℕ → List Line → Result Scenario ℕ
-scenario_of p at left [] = Ok (record { config = p.config; handed = p.has_provider; steps = [] })
+scenario_of p at left [] =
+    Ok (record { config = p.config; handed = p.has_provider; listens = p.has_listen; steps = [] })
 scenario_of p at left (line ∷ lines) =
     let said = placed p (limited left (says line)) in
     let now = moment_after at said line.content in

@@ -8,11 +8,13 @@ use Rattle.amqp_session.specs.declared.command.Answer.TheVariants.{Connected, Ch
 use Rattle.amqp_frame.specs.declared.frame.RawKind.{RawKind}
 use Rattle.amqp_frame.specs.declared.frame.RawKind.TheVariants.{RawMethod, Header, Body}
 use Rattle.amqp_session.specs.declared.handed.Handed.{Handed}
-use Rattle.amqp_session.specs.declared.error.ErrorKind.{ErrorKind}
+use Rattle.amqp_promise.specs.declared.error.ErrorKind.{ErrorKind}
+use Rattle.amqp_session.specs.declared.event.Event.{Event}
+use Rattle.amqp_session.specs.declared.event.Event.TheVariants as event
 use Rattle.amqp_session.specs.Talk.{Talk, end_of}
-use Rattle.amqp_session.specs.Errors.{text_of}
+use Rattle.amqp_promise.specs.Errors.{text_of}
 use Rattle.amqp_session.specs.ChannelMethods.{frames_of}
-use Rattle.amqp_session.specs.Answers.{answer_of}
+use Rattle.amqp_session.specs.Answers.{answer_of, events_of}
 
 -- bytes as two lower-case digits each, or `-` for none
 abbrev pub hexadecimal : List ℕ → List ℕ
@@ -60,6 +62,19 @@ frame_line h =
     ++ hexadecimal h.bytes
     ++ codes "\n"
 
+-- what is told to those who listen
+abbrev pub event_text : Event → List ℕ
+event_text event.Connected = codes "connected"
+event_text (event.ConnectionBlocked reason) = codes "blocked " ++ reason
+event_text event.ConnectionUnblocked = codes "unblocked"
+event_text (event.SendFlow true) = codes "flow on"
+event_text (event.SendFlow false) = codes "flow off"
+event_text (event.Error e) = codes "error " ++ text_of e
+
+-- an event
+abbrev pub event_line : Event → List ℕ
+event_line event = codes "event " ++ event_text event ++ codes "\n"
+
 -- how the session ended, or that it has not
 abbrev pub end_text : Option (Result (Unit {0}) ErrorKind) → List ℕ
 end_text None = codes "running"
@@ -84,9 +99,14 @@ abbrev pub frame_lines : Talk → List ℕ
 frame_lines talk =
     flat_map (λ number. flat_map frame_line (frames_of number talk)) (range_with_len 0 talk.made)
 
--- the bytes of each link, the answer to each promise, the frames handed out, and the end
+-- the events, in order: those that were kept, which are none where nobody listened
+abbrev pub event_lines : Talk → List ℕ
+event_lines talk = flat_map event_line (events_of talk)
+
+-- the bytes of each link, the answer to each promise, the frames handed out, the events, and the end
 abbrev pub report : List (List ℕ) → Talk → List ℕ
-report links talk = link_lines links ++ answer_lines talk ++ frame_lines talk ++ end_line (end_of talk)
+report links talk =
+    link_lines links ++ answer_lines talk ++ frame_lines talk ++ event_lines talk ++ end_line (end_of talk)
 
 -- what is printed of a script with a refused line
 abbrev pub refusal : ℕ → List ℕ

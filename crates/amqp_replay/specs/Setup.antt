@@ -7,7 +7,7 @@ use Rattle.amqp_uri.specs.Address.{local, parsed as address_of}
 use Rattle.amqp_session.specs.Config.{Options, Config, config_of, no_options, with_locale, with_name, with_property, with_backoff, with_recovery}
 use Rattle.amqp_replay.specs.declared.limits.TheConstants.{TEXT_BYTES}
 use Rattle.amqp_replay.specs.declared.setup.Setting.{Setting}
-use Rattle.amqp_replay.specs.declared.setup.Setting.TheVariants.{Uri, Locale, Name, Property, Recover, Delays, Provider}
+use Rattle.amqp_replay.specs.declared.setup.Setting.TheVariants.{Uri, Locale, Name, Property, Recover, Delays, Provider, Listen}
 use Rattle.amqp_replay.specs.Decimals.{number_64}
 use Rattle.amqp_replay.specs.Words.{first_word, after_word}
 
@@ -21,7 +21,8 @@ is_setup_word word =
     || (bytes_eq word (codes "name")
     || (bytes_eq word (codes "property")
     || (bytes_eq word (codes "recover")
-    || (bytes_eq word (codes "delays") || bytes_eq word (codes "provider"))))))
+    || (bytes_eq word (codes "delays")
+    || (bytes_eq word (codes "provider") || bytes_eq word (codes "listen")))))))
 
 -- a line that begins with such a word
 abbrev pub is_setup : List ℕ → Bool
@@ -78,6 +79,11 @@ abbrev pub provider_in : Option (List ℕ) → Option Setting
 provider_in None = None
 provider_in (Some text) = if bytes_eq text (codes "handed") then Some Provider else None
 
+-- `listen`, alone
+abbrev pub listen_in : Option (List ℕ) → Option Setting
+listen_in None = Some Listen
+listen_in (Some text) = None
+
 -- a line that says something of the client: it begins with this word and goes on like this
 abbrev pub option_by : List ℕ → Option (List ℕ) → Option Setting
 option_by word rest =
@@ -87,6 +93,7 @@ option_by word rest =
     else if bytes_eq word (codes "recover") then recover_in rest
     else if bytes_eq word (codes "delays") then delays_in rest
     else if bytes_eq word (codes "provider") then provider_in rest
+    else if bytes_eq word (codes "listen") then listen_in rest
     else None
 
 -- a line that begins with this word and goes on like this
@@ -112,6 +119,7 @@ pub record Progress : Type 0 where
   pub has_recover : Bool
   pub has_delays : Bool
   pub has_provider : Bool
+  pub has_listen : Bool
   pub has_step : Bool
 
 -- before the first line: the broker of this machine, and nothing said of the client; a provider was handed or not
@@ -126,6 +134,7 @@ no_lines is_handed =
       has_recover = false;
       has_delays = false;
       has_provider = false;
+      has_listen = false;
       has_step = false;
     }
 
@@ -138,6 +147,7 @@ may_stand (Property key text) p = not p.has_step
 may_stand Recover p = not (p.has_step || p.has_recover)
 may_stand (Delays delays) p = not (p.has_step || p.has_delays)
 may_stand Provider p = p.is_handed && not (p.has_step || p.has_provider)
+may_stand Listen p = not (p.has_step || p.has_listen)
 
 -- the options are changed alone
 abbrev pub with_options : (Options → Options) → Config → Config
@@ -152,6 +162,7 @@ after_setting (Property key text) p = record p { config = with_options (with_pro
 after_setting Recover p = record p { config = with_options with_recovery p.config; has_recover = true }
 after_setting (Delays delays) p = record p { config = with_options (with_backoff delays) p.config; has_delays = true }
 after_setting Provider p = record p { has_provider = true }
+after_setting Listen p = record p { has_listen = true }
 
 -- after a step
 abbrev pub after_step : Progress → Progress

@@ -1,12 +1,15 @@
 -- What the program promises: the status, what is printed, and what the port tells.
-use Rattle.std.specs.Prelude.{◌≡◌, ◌⊎◌, ◌++◌, ℕ, Bool, false, MatchBool, List, take, Option, Some, None, IfSome, option_map, Result, Ok, Err}
+use Rattle.std.specs.Prelude.{◌≡◌, ◌⊎◌, ◌++◌, ℕ, Bool, true, false, MatchBool, List, take, Option, Some, None, IfSome, option_map, Result, Ok, Err}
 use Rattle.amqp_session.specs.declared.auth.asked.Asked.{Asked}
-use Rattle.amqp_session.specs.declared.error.ErrorKind.{ErrorKind}
+use Rattle.amqp_promise.specs.declared.error.ErrorKind.{ErrorKind}
 use Rattle.amqp_session.specs.Providers.{Exchange, Allows}
 use Rattle.amqp_session.specs.DefaultAnswers.{DefaultAuth, default_of, default_answer, AreAnswers}
+use Rattle.amqp_session.specs.declared.command.Cmd.TheVariants.{Listen}
+use Rattle.amqp_session.specs.Config.{Config}
 use Rattle.amqp_session.specs.Talk.{Talk, start, end_of}
+use Rattle.amqp_session.specs.Commands.{command}
 use Rattle.amqp_engine.specs.Log.{Log, loaded}
-use Rattle.amqp_engine.specs.Engine.{begin}
+use Rattle.amqp_engine.specs.Engine.{Engine, begin}
 use Rattle.amqp_engine.specs.Turn.{Turn, talk, exchanges}
 use Rattle.amqp_engine.specs.Tell.{log_turns}
 use Rattle.amqp_engine.specs.Play.{replayed, AreAnswered}
@@ -18,15 +21,30 @@ use Rattle.amqp_replay.specs.Generator.{generated}
 use Rattle.amqp_replay.specs.Report.{Printout, report, refusal}
 use Rattle.amqp_replay.specs.Summary.{summary}
 
+-- ---- before the first step
+
+-- the session of this configuration: it is told to keep its events, or not
+abbrev pub set_up : Bool → Config → Talk
+set_up true config = command Listen (start config)
+set_up false config = start config
+
+-- the session of a script
+abbrev pub session_of : Scenario → Talk
+session_of s = set_up s.listens s.config
+
+-- the engine of a script
+abbrev pub engine_of : Scenario → Engine
+engine_of s = begin (session_of s)
+
 -- ---- a replay, as a function of what its script says, and of what the provider answers in all turns, in order
 
 -- its turns
 abbrev pub replayed_turns : Scenario → List Asked → List Turn
-replayed_turns s answers = replayed s.config s.steps answers
+replayed_turns s answers = replayed (session_of s) s.steps answers
 
 -- what the port tells
 abbrev pub replayed_log : Scenario → List Asked → Log
-replayed_log s answers = log_turns (replayed_turns s answers) (begin (start s.config)) (loaded s.steps)
+replayed_log s answers = log_turns (replayed_turns s answers) (engine_of s) (loaded s.steps)
 
 -- the bytes of each link
 abbrev pub replayed_links : Scenario → List Asked → List (List ℕ)
@@ -34,11 +52,11 @@ replayed_links s answers = (replayed_log s answers).links
 
 -- the state of the session that it leads to
 abbrev pub replayed_talk : Scenario → List Asked → Talk
-replayed_talk s answers = talk s.config (replayed_turns s answers)
+replayed_talk s answers = talk (session_of s) (replayed_turns s answers)
 
 -- what the provider is asked, with these answers
 abbrev pub replayed_exchange : Scenario → List Asked → Exchange
-replayed_exchange s answers = exchanges (replayed_turns s answers) (begin (start s.config))
+replayed_exchange s answers = exchanges (replayed_turns s answers) (engine_of s)
 
 -- ---- who authenticates, and what may be answered
 
@@ -62,7 +80,7 @@ provider_state handed s exchange = MatchBool s.handed (handed exchange) (own_sta
 
 -- these are the answers of a run: one to each question, and a provider in this state may give them
 pub record AreRunAnswers (state : Exchange → Type 0) (s : Scenario) (answers : List Asked) : Type 0 where
-  pub answered : AreAnswered (replayed_turns s answers) (begin (start s.config))
+  pub answered : AreAnswered (replayed_turns s answers) (engine_of s)
   pub allowed : Allows state (replayed_exchange s answers)
 
 -- these are the answers of the run of a script, where none of its lines is refused

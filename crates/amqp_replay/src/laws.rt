@@ -3,12 +3,10 @@
 ghost use Rattle.std.specs.Prelude.{◌≡◌, List, ℕ, Ok, false, map};
 ghost use Rattle.std.specs.List.{AllByRecursion};
 ghost use Rattle.amqp_session.specs.declared.auth.asked.Asked.{Asked};
-ghost use Rattle.amqp_session.specs.Talk.{start};
-ghost use Rattle.amqp_engine.specs.Engine.{begin};
 ghost use Rattle.amqp_engine.specs.Play.{AreAnswered};
 ghost use Rattle.amqp_engine.specs.Sending.{sendings, link_bytes, SendsInOrder};
 ghost use Rattle.amqp_replay.specs.Grammar.{Scenario, parsed};
-ghost use Rattle.amqp_replay.specs.Top.{replayed_turns, replayed_links};
+ghost use Rattle.amqp_replay.specs.Top.{session_of, engine_of, replayed_turns, replayed_links};
 
 use amqp_engine::{a_link_has_the_frames_sent, a_script_has_its_turns};
 
@@ -16,11 +14,11 @@ use amqp_engine::{a_link_has_the_frames_sent, a_script_has_its_turns};
 /// in order, and then a part of the next one, whatever the provider answers.
 pub fn a_report_has_the_frames_sent()
     ensures bytes { (s : Scenario) (answers : List Asked)
-        → AreAnswered (replayed_turns s answers) (begin (start s.config))
-        → replayed_links s answers ≡ map link_bytes (sendings s.config (replayed_turns s answers)) }
+        → AreAnswered (replayed_turns s answers) (engine_of s)
+        → replayed_links s answers ≡ map link_bytes (sendings (session_of s) (replayed_turns s answers)) }
     ensures order { (s : Scenario) (answers : List Asked)
-        → AreAnswered (replayed_turns s answers) (begin (start s.config))
-        → AllByRecursion SendsInOrder (sendings s.config (replayed_turns s answers)) }
+        → AreAnswered (replayed_turns s answers) (engine_of s)
+        → AllByRecursion SendsInOrder (sendings (session_of s) (replayed_turns s answers)) }
 {
     a_script_has_its_turns();
     a_link_has_the_frames_sent();

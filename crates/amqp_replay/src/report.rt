@@ -4,13 +4,13 @@ ghost use Rattle.std.specs.Prelude.{◌≡◌, ◌≢◌, ◌++◌, ◌+◌, ◌
 ghost use Rattle.std.specs.List.{flat_map};
 ghost use Rattle.std.specs.String.{string_bytes};
 ghost use Rattle.amqp_session.specs.Talk.{end_of};
-ghost use Rattle.amqp_session.specs.Answers.{answer_of};
-ghost use Rattle.amqp_replay.specs.Report.{link_line, link_lines, answer_line, answer_lines, answer_text, kind_text, frame_line, frame_lines, hexadecimal, end_line, report, refusal};
+ghost use Rattle.amqp_session.specs.Answers.{answer_of, events_of};
+ghost use Rattle.amqp_replay.specs.Report.{link_line, link_lines, answer_line, answer_lines, answer_text, kind_text, frame_line, frame_lines, event_text, event_line, event_lines, hexadecimal, end_line, report, refusal};
 
 use amqp_engine::{IoLoop, ScriptedPort};
 use amqp_frame::RawKind;
-use amqp_session::{Answer, ErrorKind, Handed};
-use amqp_types::NoMemory;
+use amqp_session::{Answer, ErrorKind, Event, Handed};
+use amqp_types::{NoMemory, Text};
 use std::alloc::Global;
 use std::marker::Model;
 
@@ -53,7 +53,8 @@ impl Printout {
     }
 }
 
-/// The report of an engine over its port. It takes the answers to the promises.
+/// The report of an engine over its port. It takes the answers to the promises, the frames handed out
+/// and the events.
 pub fn report<P: ScriptedPort>(
     alloc: Global,
     engine: &mut IoLoop,
@@ -84,6 +85,7 @@ fn put_report<P: ScriptedPort>(
     put_links(alloc, out, port)?;
     put_answers(out, engine)?;
     put_frames(alloc, out, engine)?;
+    put_events(out, engine)?;
     let end = ended(engine)?;
     let put = put_end(out, &end);
     drop(end);
@@ -106,6 +108,7 @@ fn put_links<P: ScriptedPort>(alloc: Global, out: &mut String, port: &P) -> Resu
 fn put_answers(out: &mut String, engine: &mut IoLoop) -> Result<(), NoMemory>
     ensures answers { OnOk result (string_bytes out.new ≡ string_bytes out.old ++ answer_lines engine.old.talk) }
     ensures frames { frame_lines engine.new.talk ≡ frame_lines engine.old.talk }
+    ensures events { events_of engine.new.talk ≡ events_of engine.old.talk }
     ensures end { end_of engine.new.talk ≡ end_of engine.old.talk }
 {
     let count = engine.session().promises();
@@ -216,6 +219,7 @@ fn put_value(out: &mut String, value: Answer) -> Result<(), NoMemory>
 // The frames handed out, of the channel that each promise opened.
 fn put_frames(alloc: Global, out: &mut String, engine: &mut IoLoop) -> Result<(), NoMemory>
     ensures frames { OnOk result (string_bytes out.new ≡ string_bytes out.old ++ frame_lines engine.old.talk) }
+    ensures events { events_of engine.new.talk ≡ events_of engine.old.talk }
     ensures end { end_of engine.new.talk ≡ end_of engine.old.talk }
 {
     let count = engine.session().promises();
@@ -256,6 +260,68 @@ fn kind_text(kind: RawKind) -> &'static str
         RawKind::Header => "header",
         RawKind::Body => "body",
     }
+}
+
+// The lines of the events. It takes them.
+fn put_events(out: &mut String, engine: &mut IoLoop) -> Result<(), NoMemory>
+    ensures events { OnOk result (string_bytes out.new ≡ string_bytes out.old ++ event_lines engine.old.talk) }
+    ensures end { end_of engine.new.talk ≡ end_of engine.old.talk }
+{
+    'events: while let Some(event) = engine.event() {
+        let put = put_event(out, &event);
+        drop(event);
+        put?;
+    }
+    Ok(())
+}
+
+// Whether memory was refused for the copy of the error of an event.
+fn is_untold(event: &Event) -> bool
+    ensures { IsTrue result ↔ (event.now ≡ Event.Error ErrorKind.NoMemory) }
+{
+    match event {
+        Event::Error(error) => *error.kind() == ErrorKind::NoMemory,
+        _ => false,
+    }
+}
+
+// The line of an event, unless memory was refused for the copy of its error.
+fn put_event(out: &mut String, event: &Event) -> Result<(), NoMemory>
+    ensures line { OnOk result (string_bytes out.new ≡ string_bytes out.old ++ event_line event.now) }
+    ensures whole { OnOk result (event.now ≢ Event.Error ErrorKind.NoMemory) }
+{
+    if is_untold(event) {
+        return Err(NoMemory);
+    }
+    out.push_str("event ")?;
+    put_event_text(out, event)?;
+    out.push_str("\n")?;
+    Ok(())
+}
+
+// What is told to those who listen.
+fn put_event_text(out: &mut String, event: &Event) -> Result<(), NoMemory>
+    ensures { OnOk result (string_bytes out.new ≡ string_bytes out.old ++ event_text event.now) }
+{
+    match event {
+        Event::Connected => out.push_str("connected")?,
+        Event::ConnectionBlocked(reason) => put_blocked(out, reason)?,
+        Event::ConnectionUnblocked => out.push_str("unblocked")?,
+        Event::SendFlow(true) => out.push_str("flow on")?,
+        Event::SendFlow(false) => out.push_str("flow off")?,
+        Event::Error(error) => write!(out, "error {error}")?,
+    }
+    Ok(())
+}
+
+// The server blocks, for this reason.
+fn put_blocked(out: &mut String, reason: &Text) -> Result<(), NoMemory>
+    ensures { OnOk result (string_bytes out.new
+        ≡ string_bytes out.old ++ event_text (Event.ConnectionBlocked reason.now)) }
+{
+    let text = reason.as_str();
+    write!(out, "blocked {text}")?;
+    Ok(())
 }
 
 /// The last line.

@@ -27,6 +27,8 @@ pub struct Scenario {
     pub options: ConnectionProperties,
     /// Whether the provider of authentication that was handed to the program is used.
     pub handed: bool,
+    /// Whether the events of the session are kept.
+    pub listens: bool,
     /// The steps that are played.
     pub steps: Vec<Given>,
 }
@@ -45,6 +47,7 @@ impl Model for Scenario {
     ghost view = { λ s. record {
       config = config_of s.uri s.options.plain;
       handed = s.handed;
+      listens = s.listens;
       steps = s.steps.items;
     } };
 }
@@ -86,11 +89,13 @@ pub fn parse(alloc: Global, has_provider: bool, text: &[u8]) -> Result<Script, N
         }
     }
     let handed = progress.has_provider();
+    let listens = progress.has_listen();
     let (uri, options) = progress.into_config();
     Ok(Script::Played(Scenario {
         uri,
         options,
         handed,
+        listens,
         steps,
     }))
 }

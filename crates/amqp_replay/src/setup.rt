@@ -5,8 +5,8 @@ ghost use Rattle.std.specs.List.{slice_split};
 ghost use Rattle.std.specs.Option.{option_copied};
 ghost use Rattle.std.specs.Str.{IsAscii};
 ghost use Rattle.amqp_session.specs.Config.{config_of};
-ghost use Rattle.amqp_replay.specs.declared.setup.Setting.TheVariants.{Uri, Locale, Name, Property, Recover, Delays, Provider};
-ghost use Rattle.amqp_replay.specs.Setup.{is_setup, uri_in, text_in, property_in, recover_in, is_blank, numbers_of, delays_in, provider_in, option_by, setting_of, no_lines, may_stand, after_setting, after_step, set_by};
+ghost use Rattle.amqp_replay.specs.declared.setup.Setting.TheVariants.{Uri, Locale, Name, Property, Recover, Delays, Provider, Listen};
+ghost use Rattle.amqp_replay.specs.Setup.{is_setup, uri_in, text_in, property_in, recover_in, is_blank, numbers_of, delays_in, provider_in, listen_in, option_by, setting_of, no_lines, may_stand, after_setting, after_step, set_by};
 
 use crate::decimals::number;
 use crate::limits::TEXT_BYTES;
@@ -34,6 +34,8 @@ pub enum Setting {
     Delays(DelayList),
     /// The provider of authentication that was handed to the program.
     Provider,
+    /// That events are kept.
+    Listen,
 }
 
 /// Delays, in milliseconds.
@@ -86,6 +88,7 @@ pub fn is_setup(content: &[u8]) -> bool
         || is(word, b"recover")
         || is(word, b"delays")
         || is(word, b"provider")
+        || is(word, b"listen")
 }
 
 /// What a line sets, where it sets anything.
@@ -136,6 +139,9 @@ fn option(alloc: Global, word: &[u8], rest: Option<&[u8]>) -> Result<Option<Sett
     }
     if is(word, b"provider") {
         return Ok(provider(rest));
+    }
+    if is(word, b"listen") {
+        return Ok(listen(rest));
     }
     Ok(None)
 }
@@ -245,6 +251,16 @@ fn provider(rest: Option<&[u8]>) -> Option<Setting>
     }
 }
 
+// `listen`
+fn listen(rest: Option<&[u8]>) -> Option<Setting>
+    ensures { result ≡ listen_in (option_copied rest.entry) }
+{
+    match rest {
+        None => Some(Setting::Listen),
+        Some(_) => None,
+    }
+}
+
 // A property of this key and this text.
 fn keyed(alloc: Global, key: &[u8], text: ShortString) -> Result<Setting, NoMemory>
     requires { length key.now < 256 }
@@ -271,6 +287,7 @@ pub struct Progress {
     has_recover: bool,
     has_delays: bool,
     has_provider: bool,
+    has_listen: bool,
     has_step: bool,
 }
 
@@ -294,6 +311,7 @@ impl Model for Progress {
       has_recover = p.has_recover;
       has_delays = p.has_delays;
       has_provider = p.has_provider;
+      has_listen = p.has_listen;
       has_step = p.has_step;
     } };
 }
@@ -316,6 +334,7 @@ impl Progress {
                 has_recover: false,
                 has_delays: false,
                 has_provider: false,
+                has_listen: false,
                 has_step: false,
             }),
             Err(e) => {
@@ -337,6 +356,13 @@ impl Progress {
         ensures { result ≡ self.now.has_provider }
     {
         self.has_provider
+    }
+
+    /// Whether events are kept.
+    pub fn has_listen(&self) -> bool
+        ensures { result ≡ self.now.has_listen }
+    {
+        self.has_listen
     }
 
     /// A line said a step.
@@ -363,6 +389,7 @@ impl Progress {
             Setting::Recover => Ok(Some(self.with_recovery(alloc)?)),
             Setting::Delays(delays) => Ok(Some(self.with_delays(delays))),
             Setting::Provider => Ok(Some(self.with_provider())),
+            Setting::Listen => Ok(Some(self.with_listen())),
         }
     }
 
@@ -379,6 +406,7 @@ impl Progress {
             Setting::Recover => !(self.has_step || self.has_recover),
             Setting::Delays(_) => !(self.has_step || self.has_delays),
             Setting::Provider => self.is_handed && !(self.has_step || self.has_provider),
+            Setting::Listen => !(self.has_step || self.has_listen),
         }
     }
 
@@ -396,6 +424,7 @@ impl Progress {
             has_recover: self.has_recover,
             has_delays: self.has_delays,
             has_provider: self.has_provider,
+            has_listen: self.has_listen,
             has_step: self.has_step,
         }
     }
@@ -457,6 +486,15 @@ impl Progress {
     {
         Progress {
             has_provider: true,
+            ..self
+        }
+    }
+
+    fn with_listen(self) -> Progress
+        ensures { result ≡ after_setting Listen self }
+    {
+        Progress {
+            has_listen: true,
             ..self
         }
     }

@@ -2,16 +2,18 @@
 
 ghost use Rattle.std.specs.Prelude.{◌≡◌, ◌≢◌, ◌⊎◌, ◌↔◌, ℕ, length, is_some, false, Some, None, Ok, IfOk, IfSome, OnOk, if◌then◌else◌};
 ghost use Rattle.std.specs.String.{string_bytes};
-ghost use Rattle.amqp_session.specs.Talk.{start, end_of};
+ghost use Rattle.amqp_session.specs.Config.{config_of};
+ghost use Rattle.amqp_session.specs.Talk.{end_of};
+ghost use Rattle.amqp_session.specs.Commands.{command};
 ghost use Rattle.amqp_engine.specs.Log.{loaded};
-ghost use Rattle.amqp_engine.specs.Engine.{begin};
+ghost use Rattle.amqp_engine.specs.Engine.{begin, with_talk};
 ghost use Rattle.amqp_engine.specs.Plan.{ArePieces};
 ghost use Rattle.amqp_engine.specs.Counts.{Rose};
 ghost use Rattle.amqp_replay.specs.Asked.{asked};
 ghost use Rattle.amqp_replay.specs.Grammar.{Scenario, parsed};
 ghost use Rattle.amqp_replay.specs.Generator.{generated};
 ghost use Rattle.amqp_replay.specs.Scripts.{script_read, ScriptArePieces};
-ghost use Rattle.amqp_replay.specs.Top.{handed_state, own_state, provider_state, end_status, reported, summed, printout, generated_printout, Prints, Replays, ReplaysSome, Generates, IsSilent, IsStatus};
+ghost use Rattle.amqp_replay.specs.Top.{set_up, engine_of, handed_state, own_state, provider_state, end_status, reported, summed, printout, generated_printout, Prints, Replays, ReplaysSome, Generates, IsSilent, IsStatus};
 ghost use Rattle.amqp_replay.specs.Runs.{IsReplayed, IsMade};
 
 use crate::asked::{Asked, asked_by};
@@ -25,8 +27,9 @@ use crate::status::{
 use crate::summary::put_summary;
 use crate::transfer::{ReadFault, SinkFailed, read_all, write_all};
 use amqp_engine::{IoLoop, ScriptedPort};
-use amqp_session::{AuthProvider, DefaultAuthProvider};
+use amqp_session::{AuthProvider, Cmd, ConnectionProperties, DefaultAuthProvider};
 use amqp_types::{NoMemory, Text};
+use amqp_uri::AMQPUri;
 use std::alloc::Global;
 
 /// Answers the words of a command line, and gives the exit status. Asked to replay, it reads a script
@@ -353,6 +356,7 @@ fn replay_by<P: ScriptedPort, A: AuthProvider>(
         uri,
         options,
         handed: _,
+        listens,
         steps,
     } = scenario;
     let turns = steps.len() as u64;
@@ -363,7 +367,7 @@ fn replay_by<P: ScriptedPort, A: AuthProvider>(
         drop(provider);
         return Err(e);
     }
-    let engine = IoLoop::new(alloc, &uri, options);
+    let engine = engine_of(alloc, &uri, options, listens);
     drop(uri);
     match engine {
         Ok(mut engine) => {
@@ -378,14 +382,44 @@ fn replay_by<P: ScriptedPort, A: AuthProvider>(
             }
         }
         Err(e) => {
-            drop(e);
             drop(provider);
-            Err(NoMemory)
+            Err(e)
         }
     }
 }
 
-// Runs a new engine over a port that was loaded with as many steps as there are turns.
+// The engine of a script before its first step, which keeps its events where it is told to.
+fn engine_of(
+    alloc: Global,
+    uri: &AMQPUri,
+    options: ConnectionProperties,
+    listens: bool,
+) -> Result<IoLoop, NoMemory>
+    ensures { IfOk result (λ e. e ≡ begin (set_up listens (config_of uri.now options.plain))) }
+{
+    let Ok(engine) = IoLoop::new(alloc, uri, options) else {
+        return Err(NoMemory);
+    };
+    if listens {
+        return listening(engine);
+    }
+    Ok(engine)
+}
+
+// The engine, once it was told to keep its events.
+fn listening(engine: IoLoop) -> Result<IoLoop, NoMemory>
+    ensures { IfOk result (λ e. e ≡ with_talk (command Cmd.Listen) engine) }
+{
+    let mut engine = engine;
+    let told = engine.command(Cmd::Listen).is_ok();
+    if !told {
+        drop(engine);
+        return Err(NoMemory);
+    }
+    Ok(engine)
+}
+
+// Runs the engine of a script over a port that was loaded with as many steps as there are turns.
 fn run<P: ScriptedPort, A: AuthProvider>(
     engine: &mut IoLoop,
     port: &mut P,
@@ -393,7 +427,7 @@ fn run<P: ScriptedPort, A: AuthProvider>(
     turns: u64,
 ) -> Result<(), NoMemory>
     requires { A.can provider.old }
-    ensures { (s : Scenario) → engine.old ≡ begin (start s.config) → turns ≡ length s.steps
+    ensures { (s : Scenario) → engine.old ≡ engine_of s → turns ≡ length s.steps
         → P.log port.old ≡ Some (loaded s.steps)
         → OnOk result (IsReplayed (A.allows provider.old) s engine.new.talk (P.links_taken port.new)
         (P.log port.new)) }

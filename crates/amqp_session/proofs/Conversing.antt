@@ -26,31 +26,31 @@ use Rattle.amqp_session.specs.declared.committed.Mark.{Mark}
 use Rattle.amqp_session.specs.declared.committed.Then.{Then}
 use Rattle.amqp_session.specs.declared.committed.Then.TheVariants.{Nothing, Answer, Pays, Finish}
 use Rattle.amqp_session.specs.declared.configuration.Configuration.{Configuration}
-use Rattle.amqp_session.specs.declared.state.ConnectionState.{ConnectionState}
-use Rattle.amqp_session.specs.declared.state.ConnectionState.TheVariants.{Connecting, Connected, Closing}
-use Rattle.amqp_session.specs.declared.state.ChannelState.{ChannelState}
-use Rattle.amqp_session.specs.declared.state.ChannelState.TheVariants as channel
+use Rattle.amqp_promise.specs.declared.state.ConnectionState.{ConnectionState}
+use Rattle.amqp_promise.specs.declared.state.ConnectionState.TheVariants.{Connecting, Connected, Closing}
+use Rattle.amqp_promise.specs.declared.state.ChannelState.{ChannelState}
+use Rattle.amqp_promise.specs.declared.state.ChannelState.TheVariants as channel
 use Rattle.amqp_session.specs.declared.state.Phase.{Phase}
 use Rattle.amqp_session.specs.declared.state.Phase.TheVariants.{AwaitStart, AwaitTune, AwaitOpenOk}
 use Rattle.amqp_session.specs.declared.state.Link.{Link}
 use Rattle.amqp_session.specs.declared.state.Link.TheVariants.{Due, Wanted, Asked, Open, Ended}
 use Rattle.amqp_session.specs.declared.state.Input.{Input}
 use Rattle.amqp_session.specs.declared.state.Input.TheVariants as input
-use Rattle.amqp_session.specs.declared.io_fault.IoFault.{IoFault}
-use Rattle.amqp_session.specs.declared.io_fault.IoFault.TheVariants.{Refused}
+use Rattle.amqp_promise.specs.declared.io_fault.IoFault.{IoFault}
+use Rattle.amqp_promise.specs.declared.io_fault.IoFault.TheVariants.{Refused}
 use Rattle.amqp_session.specs.declared.misread.Misread.{Misread}
 use Rattle.amqp_session.specs.declared.command.Cmd.{Cmd}
-use Rattle.amqp_session.specs.declared.command.Cmd.TheVariants.{OpenChannel, CloseChannel, CloseConnection, UpdateSecret, Send, Publish, Flow, DropChannel, DropConnection}
+use Rattle.amqp_session.specs.declared.command.Cmd.TheVariants.{OpenChannel, CloseChannel, CloseConnection, UpdateSecret, Send, Publish, Flow, DropChannel, DropConnection, Listen}
 use Rattle.amqp_session.specs.declared.command.ChanRef.{ChanRef}
 use Rattle.amqp_session.specs.declared.command.Answer.TheVariants.{Done}
 use Rattle.amqp_session.specs.declared.server_close.ServerClose.{ServerClose}
 use Rattle.amqp_session.specs.declared.server_close.ServerClose.TheVariants.{WithoutError, WithError}
-use Rattle.amqp_session.specs.declared.error.ErrorKind.{ErrorKind}
-use Rattle.amqp_session.specs.declared.error.ErrorKind.TheVariants.{IOError, ProtocolError, InvalidConnectionState, InvalidProtocolVersion, InvalidChannel, InvalidChannelState, MissingHeartbeatError, AuthProviderError}
+use Rattle.amqp_promise.specs.declared.error.ErrorKind.{ErrorKind}
+use Rattle.amqp_promise.specs.declared.error.ErrorKind.TheVariants.{IOError, ProtocolError, InvalidConnectionState, InvalidProtocolVersion, InvalidChannel, InvalidChannelState, MissingHeartbeatError, AuthProviderError}
 use Rattle.amqp_session.specs.Config.{Config}
 use Rattle.amqp_session.specs.declared.auth.asked.Asked.{Asked as ProviderAnswer}
 use Rattle.amqp_session.specs.Talk.{Talk, start, has_ended, is_open, is_open_link, is_asked, is_asked_link, end_of_link, is_closing, is_acting, acts, hears_on}
-use Rattle.amqp_session.specs.Changes.{next_promise, present_at, close, fail, lose, misplaced, finish, finish_by, starve, queue, await, give_to, drop_replies_of, without_all_on}
+use Rattle.amqp_session.specs.Changes.{next_promise, present_at, close, fail, lose, misplaced, finish, finish_by, starve, queue, await, give_to, tell_owed, drop_replies_of, without_all_on}
 use Rattle.amqp_session.specs.Violations.{misread_error, channel_closed_with, unawaited, stray_channel_frame, stray_connection_method}
 use Rattle.amqp_session.specs.Capacities.{frame_min_size}
 use Rattle.amqp_session.specs.Negotiation.{tune}
@@ -645,9 +645,9 @@ now-closed-by-server n e c t g fs h listed is none =
     used-shut k = cc
 
 -- it closes a channel that we closed
-now-crossing : (n : ℕ) (c : Channel) (t : Talk) (fs : List Frame) → Hears Connected t fs → channel_at n t ≡ Some c → c.debt ≡ debt.Nothing
-    → awaits_close_ok n t ≡ true → Now (crossing_close n c t) fs
-now-crossing n c t fs h listed is awaits =
+now-crossing : (n : ℕ) (e : ErrorKind) (c : Channel) (t : Talk) (fs : List Frame) → Hears Connected t fs → channel_at n t ≡ Some c → c.debt ≡ debt.Nothing
+    → awaits_close_ok n t ≡ true → Now (crossing_close n e c t) fs
+now-crossing n e c t fs h listed is awaits =
     let v : Speech = h.tied.later in
     let q : Queued = t.outbox in
     let ws : Replies = q.awaited in
@@ -655,7 +655,7 @@ now-crossing n c t fs h listed is awaits =
     let some : n ≢ 0 = listed-some n t.channels ws (due_in t) v c listed ties in
     let left = is-left n t.channels q (due_in t) v c listed is awaits ties in
     let item : Item = plain n (channel_close_ok n) in
-    let x : Talk = crossing_close n c t in
+    let x : Talk = crossing_close n e c t in
     let one : due_in x n ≡ 1 =
     (let more : due_in x n ≡ due_in t n + pays n (then_of item) = one-more n t.committed q item in omega (arith, more, left.none_due, pays-own n)) in
     let others : (m : ℕ) → m ≢ n → due_in x m ≡ due_in t m =
@@ -676,7 +676,7 @@ now-crossing n c t fs h listed is awaits =
 now-channel-close : (d : Debt) (b : Bool) (n : ℕ) (e : ErrorKind) (c : Channel) (t : Talk) (g : Frame) (fs : List Frame) → Hears Connected t (g ∷ fs)
     → channel_at n t ≡ Some c → c.debt ≡ d → awaits_close_ok n t ≡ b → Now (channel_close_by d b n e c t) (g ∷ fs)
 now-channel-close debt.Nothing false n e c t g fs h listed is awaits = now-closed-by-server n e c t g fs h listed is awaits
-now-channel-close debt.Nothing true n e c t g fs h listed is awaits = now-crossing n c t (g ∷ fs) h listed is awaits
+now-channel-close debt.Nothing true n e c t g fs h listed is awaits = now-crossing n e c t (g ∷ fs) h listed is awaits
 now-channel-close _ b n e c t g fs h listed is awaits = h.now
 
 now-misplaced : (e : ErrorKind) (t : Talk) (fs : List Frame) → Now t fs → Now (misplaced e t) fs
@@ -1073,8 +1073,10 @@ now-command-rule Connected (Publish r method properties body) t fs told hs h =
 now-command-rule Connected (Flow r active) t fs told hs h = now-flow-target (target r word.ChannelFlow t) r active t fs hs refl h
 now-command-rule Connected (DropChannel r) t fs told hs h = now-drop-target (target r word.ChannelClose t) r t fs hs refl h
 now-command-rule Connected DropConnection t fs told hs h = now-leave-connection 200 (codes "OK") None t fs hs h
+now-command-rule Connected Listen t fs told hs h = h
 now-command-rule _ (DropChannel r) t fs told hs h = h
 now-command-rule _ DropConnection t fs told hs h = h
+now-command-rule _ Listen t fs told hs h = h
 now-command-rule _ c t fs told hs h = h
 
 pub now-command : (c : Cmd) (t : Talk) (fs : List Frame) → IsSendable c → Now t fs → Now (command c t) fs
@@ -1168,7 +1170,7 @@ now-changed k cs' m ms t fs hc is o f ascend h =
     })
 
 now-paid : (b : Bool) (k : ℕ) (c : Channel) (m : Mark) (ms : List Mark) (t : Talk) (fs : List Frame) → t.committed ≡ m ∷ ms → m.then ≡ Pays k → is_open t ≡ true
-    → channel_at k t ≡ Some c → awaits_close_ok k t ≡ b → Now t fs → Now (paid_by b k c (first_sent_off t)) fs
+    → channel_at k t ≡ Some c → awaits_close_ok k t ≡ b → Now t fs → Now (paid_by b k c (tell_owed k (first_sent_off t))) fs
 now-paid true k c m ms t fs hc is o listed awaits h =
     now-changed k (put k (record c { debt = debt.Paid }) t.channels) m ms t fs hc is o
     (λ v own others ties.
@@ -1212,7 +1214,7 @@ now-sent (m ∷ ms) n t fs hc h =
     -- what follows commits nothing, while the link is open
     let rest : is_open t ≡ true → is_open (sent m t) ≡ true → (sent m t).committed ≡ ms =
     λ o still.
-    elim (follow-open (λ (x : Talk). x.committed) (λ t s l cs ps. refl) m.then (first_sent_off t)) [
+    elim (follow-open (λ (x : Talk). x.committed) (λ t s l cs ps ns. refl) m.then (first_sent_off t)) [
       | inl same ↦ same ∙ ap (drop 1) (hc o)
       | inr shut ↦ absurd (true≢false (sym still ∙ shut))
     ] in

@@ -1,7 +1,7 @@
 -- How a change of the state may end a session with an error.
 use Rattle.std.proofs.Common.{◌≡◌, ◌⊎◌, inl, inr, ℕ, Some, None, Ok, Err, refl, ap, sym, ◌∙◌, subst}
 use Rattle.amqp_session.specs.declared.state.Link.TheVariants.{Ended}
-use Rattle.amqp_session.specs.declared.error.ErrorKind.{ErrorKind}
+use Rattle.amqp_promise.specs.declared.error.ErrorKind.{ErrorKind}
 use Rattle.amqp_session.specs.Talk.{Talk, end_of, end_of_link}
 use Rattle.amqp_session.specs.Recovery.{recovery_delay, reconnect}
 use Rattle.amqp_session.specs.Changes.{present_at, fail, lose, close}

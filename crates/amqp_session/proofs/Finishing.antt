@@ -16,7 +16,7 @@ use Rattle.amqp_session.specs.declared.committed.Then.{Then}
 use Rattle.amqp_session.specs.declared.committed.Then.TheVariants.{Nothing, Answer, Pays, Finish}
 use Rattle.amqp_session.specs.declared.server_close.ServerClose.{ServerClose}
 use Rattle.amqp_session.specs.declared.server_close.ServerClose.TheVariants.{WithoutError, WithError}
-use Rattle.amqp_session.specs.declared.error.ErrorKind.TheVariants.{ProtocolError}
+use Rattle.amqp_promise.specs.declared.error.ErrorKind.TheVariants.{ProtocolError}
 use Rattle.amqp_session.specs.declared.state.Input.{Input}
 use Rattle.amqp_session.specs.declared.state.Input.TheVariants.{Acting, Closed, Dropped}
 use Rattle.amqp_session.specs.Talk.{Talk, is_open, is_acting}
@@ -253,7 +253,7 @@ sent-keeps f h m t still =
 
 -- while the link is open, the first committed frame is the one that went
 pub sent-committed : (m : Mark) (ms : List Mark) (t : Talk) → is_open (sent m t) ≡ true → t.committed ≡ m ∷ ms → (sent m t).committed ≡ ms
-sent-committed m ms t still h = sent-keeps (λ (x : Talk). x.committed) (λ t s l cs ps. refl) m t still ∙ ap (drop 1) h
+sent-committed m ms t still h = sent-keeps (λ (x : Talk). x.committed) (λ t s l cs ps ns. refl) m t still ∙ ap (drop 1) h
 
 -- where nothing was left, nothing is after the server's close
 finish-empty : (o : Option ServerClose) (t : Talk) → t.committed ≡ [] → (finish_by o t).committed ≡ []
@@ -269,7 +269,7 @@ module _ (m : Mark) (ms : List Mark) (k : ℕ) (t : Talk) (h : t.committed ≡ m
   sent-first (Answer n) e = later (ap (λ (th : Then). is_open (follow th (record t { committed = drop 1 t.committed }))) e ∙ opened)
   sent-first (Pays n) e =
       later (ap (λ (th : Then). is_open (follow th (record t { committed = drop 1 t.committed }))) e
-      ∙ pay-keeps is_open (λ u cs. refl) (channel_at n t) n (record t { committed = drop 1 t.committed }) ∙ opened)
+      ∙ pay-keeps is_open (λ u cs ns. refl) (channel_at n t) n (record t { committed = drop 1 t.committed }) ∙ opened)
   sent-first Finish e =
       let none : following ms (waiting_items t.outbox) ≡ [] = last.0 (ap is_finish e) in
       let empty : ms ≡ [] = no-marks ms (waiting_items t.outbox) none in
@@ -303,7 +303,7 @@ open-committed (m ∷ ms) n t h opened last =
     (sent-first m ms (n - m.left) t h opened last
     (λ still. open-committed ms (n - m.left) (sent m t) (sent-committed m ms t still h) still
     (subst (λ (is : List Item). LastFinishes (following ms is))
-    (sym (sent-keeps (λ (x : Talk). waiting_items x.outbox) (λ t s l cs ps. refl) m t still)) last.1))
+    (sym (sent-keeps (λ (x : Talk). waiting_items x.outbox) (λ t s l cs ps ns. refl) m t still)) last.1))
     m.then refl)
 
 module _ (n : ℕ) (t : Talk) (opened : is_open t ≡ true) (last : LastFinishes (following t.committed (waiting_items t.outbox))) (within : n ≤ unsent t) where

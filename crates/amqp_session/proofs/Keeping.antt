@@ -17,28 +17,29 @@ use Rattle.amqp_session.specs.declared.channels.Debt.TheVariants as debt
 use Rattle.amqp_session.specs.declared.committed.Mark.{Mark}
 use Rattle.amqp_session.specs.declared.committed.Then.{Then}
 use Rattle.amqp_session.specs.declared.committed.Then.TheVariants.{Nothing, Answer, Pays, Finish}
-use Rattle.amqp_session.specs.declared.state.ConnectionState.{ConnectionState}
-use Rattle.amqp_session.specs.declared.state.ConnectionState.TheVariants.{Connecting, Connected, Closing}
-use Rattle.amqp_session.specs.declared.state.ChannelState.{ChannelState}
-use Rattle.amqp_session.specs.declared.state.ChannelState.TheVariants as channel
+use Rattle.amqp_promise.specs.declared.state.ConnectionState.{ConnectionState}
+use Rattle.amqp_promise.specs.declared.state.ConnectionState.TheVariants.{Connecting, Connected, Closing}
+use Rattle.amqp_promise.specs.declared.state.ChannelState.{ChannelState}
+use Rattle.amqp_promise.specs.declared.state.ChannelState.TheVariants as channel
 use Rattle.amqp_session.specs.declared.state.Phase.{Phase}
 use Rattle.amqp_session.specs.declared.state.Phase.TheVariants.{AwaitStart, AwaitTune, AwaitOpenOk}
 use Rattle.amqp_session.specs.declared.state.Link.{Link}
 use Rattle.amqp_session.specs.declared.state.Link.TheVariants.{Due, Wanted, Asked, Open, Ended}
-use Rattle.amqp_session.specs.declared.io_fault.IoFault.{IoFault}
+use Rattle.amqp_promise.specs.declared.io_fault.IoFault.{IoFault}
 use Rattle.amqp_session.specs.declared.server_close.ServerClose.{ServerClose}
 use Rattle.amqp_session.specs.declared.server_close.ServerClose.TheVariants.{WithoutError, WithError}
 use Rattle.amqp_session.specs.declared.misread.Misread.{Misread}
 use Rattle.amqp_session.specs.declared.command.Cmd.{Cmd}
-use Rattle.amqp_session.specs.declared.command.Cmd.TheVariants.{OpenChannel, CloseChannel, CloseConnection, UpdateSecret, Send, Publish, Flow, DropChannel, DropConnection}
+use Rattle.amqp_session.specs.declared.command.Cmd.TheVariants.{OpenChannel, CloseChannel, CloseConnection, UpdateSecret, Send, Publish, Flow, DropChannel, DropConnection, Listen}
 use Rattle.amqp_session.specs.declared.command.Answer.{Answer as AnyAnswer}
 use Rattle.amqp_session.specs.declared.command.Answer.TheVariants.{Done}
-use Rattle.amqp_session.specs.declared.error.ErrorKind.{ErrorKind}
-use Rattle.amqp_session.specs.declared.error.ErrorKind.TheVariants.{InvalidProtocolVersion, InvalidChannel, InvalidConnectionState, AuthProviderError, ProtocolError, NoMemory, IOError, MissingHeartbeatError}
-use Rattle.amqp_session.specs.declared.io_fault.IoFault.TheVariants.{Refused}
+use Rattle.amqp_promise.specs.declared.error.ErrorKind.{ErrorKind}
+use Rattle.amqp_promise.specs.declared.error.ErrorKind.TheVariants.{InvalidProtocolVersion, InvalidChannel, InvalidConnectionState, AuthProviderError, ProtocolError, NoMemory, IOError, MissingHeartbeatError}
+use Rattle.amqp_promise.specs.declared.io_fault.IoFault.TheVariants.{Refused}
 use Rattle.amqp_session.specs.declared.auth.asked.Asked.{Asked as ProviderAnswer}
+use Rattle.amqp_session.specs.Events.{Noted}
 use Rattle.amqp_session.specs.Talk.{Talk, has_ended, hears_on, is_open, is_open_link, is_asked, is_asked_link, is_closing, acts, end_of_link}
-use Rattle.amqp_session.specs.Changes.{Promises, present_at, queue, refuse, give_to, fail, lose, misplaced, close, finish, finish_by, starve}
+use Rattle.amqp_session.specs.Changes.{Promises, present_at, queue, refuse, give_to, tell_owed, fail, lose, misplaced, close, finish, finish_by, starve}
 use Rattle.amqp_session.specs.Recovery.{next_delay, recovery_delay, reconnect}
 use Rattle.amqp_session.specs.Links.{dropped, lost, misread, refused_after, link_failed}
 use Rattle.amqp_session.specs.Violations.{channel_closed_with, misread_error, stray_channel_frame, stray_connection_method, unawaited}
@@ -55,7 +56,7 @@ use Rattle.amqp_session.specs.Negotiation.{grown_capacity}
 use Rattle.amqp_session.specs.Parts.{is_opening, capacity_after}
 use Rattle.amqp_session.proofs.Heard.{start-case, secure-case, secret-case}
 use Rattle.amqp_session.proofs.Cases.{if_case, if_by, if-true, if-false, and-true, and-false}
-use Rattle.amqp_session.proofs.Recovering.{lose-by, lose-case, lose-keeps, recovers-open}
+use Rattle.amqp_session.proofs.Recovering.{lose-by, lose-keeps, recovers-open}
 
 -- ---- the present
 
@@ -197,6 +198,13 @@ keeps-reopened (c ∷ cs) octets t u k =
     (if_case (Keeps octets t) (nat_le c.0 u.configuration.channel_max) _ _
     (record { committed = k.committed; capacity = k.capacity; link = k.link })
     (record { committed = k.committed; capacity = k.capacity; link = k.link }))
+
+-- and tells nothing
+pub reopened-noted : (cs : List (ℕ × Channel)) (u : Talk) → (reopen_each cs u).noted ≡ u.noted
+reopened-noted [] u = refl
+reopened-noted (c ∷ cs) u =
+    reopened-noted cs (reopen c.0 u)
+    ∙ if_case (λ (x : Talk). x.noted ≡ u.noted) (nat_le c.0 u.configuration.channel_max) _ _ refl refl
 
 keeps-started : (mechanism : List ℕ) (said : Result (List ℕ) (List ℕ)) (t : Talk) → Keeps t.capacity t (started mechanism said t)
 keeps-started mechanism (Ok response) t = record { committed = λ now. refl; capacity = refl; link = inl refl }
@@ -478,8 +486,10 @@ stays-rule Connected (Publish r method properties body) t = stays-publish _ r.id
 stays-rule Connected (Flow r active) t = stays-flow _ r.id active t
 stays-rule Connected (DropChannel r) t = stays-drop _ r.id t
 stays-rule Connected DropConnection t = record { link = refl; committed = refl; configuration = refl; capacity = refl; input = refl; server_close = refl }
+stays-rule Connected Listen t = record { link = refl; committed = refl; configuration = refl; capacity = refl; input = refl; server_close = refl }
 stays-rule _ (DropChannel r) t = record { link = refl; committed = refl; configuration = refl; capacity = refl; input = refl; server_close = refl }
 stays-rule _ DropConnection t = record { link = refl; committed = refl; configuration = refl; capacity = refl; input = refl; server_close = refl }
+stays-rule _ Listen t = record { link = refl; committed = refl; configuration = refl; capacity = refl; input = refl; server_close = refl }
 stays-rule _ c t = stays-refuse _ t
 
 pub stays-command : (c : Cmd) (t : Talk) → Stays t (command c t)
@@ -490,14 +500,14 @@ stays-command c t = stays-rule t.state c t
 -- what looks at none of what an end or an answer changes
 abbrev pub OverlooksEnds : {A : Type 0} → (Talk → A) → Type 0
 OverlooksEnds f =
-    (t : Talk) (s : ConnectionState) (l : Link ErrorKind) (cs : List (ℕ × Channel)) (ps : Promises)
-    → f (record t { state = s; link = l; channels = cs; promises = ps }) ≡ f t
+    (t : Talk) (s : ConnectionState) (l : Link ErrorKind) (cs : List (ℕ × Channel)) (ps : Promises) (ns : Noted)
+    → f (record t { state = s; link = l; channels = cs; promises = ps; noted = ns }) ≡ f t
 
 -- the same, and at none of what changes where a link is lost and the session goes on
 abbrev pub OverlooksLosses : {A : Type 0} → (Talk → A) → Type 0
 OverlooksLosses f =
     (t : Talk) (s : ConnectionState) (l : Link ErrorKind) (cs : List (ℕ × Channel)) (ps : Promises)
-    (b : Bool) (q : Queued) (ms : List Mark) (n : ℕ) (o : Option ServerClose)
+    (b : Bool) (q : Queued) (ms : List Mark) (n : ℕ) (o : Option ServerClose) (ns : Noted)
     → f (record t {
       state = s;
       link = l;
@@ -508,14 +518,15 @@ OverlooksLosses f =
       committed = ms;
       tried = n;
       server_close = o;
+      noted = ns;
     }) ≡ f t
 
 pub overlooks-ends : {A : Type 0} (f : Talk → A) → OverlooksLosses f → OverlooksEnds f
-overlooks-ends f h t s l cs ps = h t s l cs ps t.blocked t.outbox t.committed t.tried t.server_close
+overlooks-ends f h t s l cs ps ns = h t s l cs ps t.blocked t.outbox t.committed t.tried t.server_close ns
 
 -- a link that is lost leaves it as it was
 pub loss-keeps : {A : Type 0} (f : Talk → A) → OverlooksLosses f → (e : ErrorKind) (t : Talk) → f (lose e t) ≡ f t
-loss-keeps f h e t = lose-keeps f e t (λ delay. h t _ _ _ _ _ _ _ _ _) (overlooks-ends f h t _ _ _ _)
+loss-keeps f h e t = lose-keeps f e t (λ delay. h t _ _ _ _ _ _ _ _ _ _) (overlooks-ends f h t _ _ _ _ _)
 
 -- the same of what writing changes, and of a moment
 pub record Overlooks {A : Type 0} (f : Talk → A) : Type 0 where
@@ -537,14 +548,14 @@ pub tick-keeps : {A : Type 0} (f : Talk → A) → OverlooksLosses f → Overloo
 tick-keeps f h k answers t =
     let x : Talk = missing_heartbeat t in
     let y : Talk = timed answers t in
-    overlooks-ends f h y y.state (link_at y.present y.link) y.channels y.promises
+    overlooks-ends f h y y.state (link_at y.present y.link) y.channels y.promises y.noted
     ∙ secret-case (λ (y : Talk). f y ≡ f (beat t)) answers (beat t) refl (λ asks said. refreshed-keeps f k said (beat t))
     ∙ if_case (λ (y : Talk). f y ≡ f x) (is_due x) (record (queue 0 Heartbeat x) { last_write = x.present }) x (k x _ _ x.secret_at x.refreshing) refl
     ∙ if_case (λ (y : Talk). f y ≡ f t) (is_missed t) (lose MissingHeartbeatError t) t (loss-keeps f h MissingHeartbeatError t) refl
 
 finish-keeps : {A : Type 0} (f : Talk → A) → OverlooksLosses f → (o : Option ServerClose) (t : Talk) → f (finish_by o t) ≡ f t
-finish-keeps f h None t = overlooks-ends f h t _ _ _ _
-finish-keeps f h (Some WithoutError) t = overlooks-ends f h t _ _ _ _
+finish-keeps f h None t = overlooks-ends f h t _ _ _ _ _
+finish-keeps f h (Some WithoutError) t = overlooks-ends f h t _ _ _ _ _
 finish-keeps f h (Some (WithError e)) t = loss-keeps f h (ProtocolError e) t
 
 -- a lost link leaves it as it was
@@ -589,8 +600,8 @@ failed-keeps f h k t =
     if_case (λ (x : Talk). f x ≡ f t) (is_asked t) (refused_after (next_delay t) t) t (by (next_delay t)) refl
   where
     by : (delay : Option ℕ) → f (refused_after delay t) ≡ f t
-    by (Some delay) = k (record t { link = _ }) (t.tried + 1) ∙ h t t.state _ t.channels t.promises
-    by None = h t _ _ _ t.promises
+    by (Some delay) = k (record t { link = _ }) (t.tried + 1) ∙ h t t.state _ t.channels t.promises t.noted
+    by None = h t _ _ _ t.promises _
 
 -- no link is open, and the session goes on
 abbrev pub lacks_link : Link ErrorKind → Bool
@@ -606,33 +617,33 @@ abbrev pub left_after : List Mark → ℕ → List Mark
 left_after [] n = []
 left_after (m ∷ ms) n = if nat_le m.left n then left_after ms (n - m.left) else record m { left = m.left - n } ∷ ms
 
--- what does not look at the channels is the same once a close-ok of one was sent
-pub pay-keeps : {A : Type 0} (f : Talk → A) → ((t : Talk) (cs : List (ℕ × Channel)) → f (record t { channels = cs }) ≡ f t)
+-- what does not look at the channels, and at what is kept for those who listen, is the same once a close-ok of one was sent
+pub pay-keeps : {A : Type 0} (f : Talk → A) → ((t : Talk) (cs : List (ℕ × Channel)) (ns : Noted) → f (record t { channels = cs; noted = ns }) ≡ f t)
     → (o : Option Channel) (n : ℕ) (t : Talk) → f (pay o n t) ≡ f t
 pay-keeps f h None n t = refl
 pay-keeps f h (Some c) n t = by (awaits_close_ok n t)
   where
-    by : (b : Bool) → f (paid_by b n c t) ≡ f t
-    by true = h t _
-    by false = h t _
+    by : (b : Bool) → f (paid_by b n c (tell_owed n t)) ≡ f t
+    by true = h t _ _
+    by false = h t _ _
 
 pub follow-keeps : {A : Type 0} (f : Talk → A) → OverlooksLosses f → (th : Then) (t : Talk) → f (follow th t) ≡ f t
 follow-keeps f h Nothing t = refl
-follow-keeps f h (Answer n) t = overlooks-ends f h t t.state t.link t.channels _
-follow-keeps f h (Pays n) t = pay-keeps f (λ u cs. overlooks-ends f h u u.state u.link cs u.promises) (channel_at n t) n t
+follow-keeps f h (Answer n) t = overlooks-ends f h t t.state t.link t.channels _ t.noted
+follow-keeps f h (Pays n) t = pay-keeps f (λ u cs ns. overlooks-ends f h u u.state u.link cs u.promises ns) (channel_at n t) n t
 follow-keeps f h Finish t = finish-keeps f h t.server_close t
 
 -- what does not look at what an end changes is as it was, or the link is off
 pub follow-open : {A : Type 0} (f : Talk → A) → OverlooksEnds f → (th : Then) (t : Talk) → (f (follow th t) ≡ f t) ⊎ (is_open (follow th t) ≡ false)
 follow-open f h Nothing t = inl refl
-follow-open f h (Answer n) t = inl (h t t.state t.link t.channels _)
-follow-open f h (Pays n) t = inl (pay-keeps f (λ u cs. h u u.state u.link cs u.promises) (channel_at n t) n t)
+follow-open f h (Answer n) t = inl (h t t.state t.link t.channels _ t.noted)
+follow-open f h (Pays n) t = inl (pay-keeps f (λ u cs ns. h u u.state u.link cs u.promises ns) (channel_at n t) n t)
 follow-open f h Finish t = inr (off-finish t.server_close t).opened
 
 pub follow-link : (th : Then) (t : Talk) → LinkKept t (follow th t)
 follow-link Nothing t = inl refl
 follow-link (Answer n) t = inl refl
-follow-link (Pays n) t = inl (pay-keeps (λ (x : Talk). x.link) (λ u cs. refl) (channel_at n t) n t)
+follow-link (Pays n) t = inl (pay-keeps (λ (x : Talk). x.link) (λ u cs ns. refl) (channel_at n t) n t)
 follow-link Finish t = inr (off-finish t.server_close t)
 
 sent_among-keeps : {A : Type 0} (f : Talk → A) → Overlooks f → (ms : List Mark) (n : ℕ) (t : Talk) → f (sent_among ms n t) ≡ f t
@@ -688,7 +699,7 @@ sent-on : (m : Mark) (ms : List Mark) (n : ℕ) (t : Talk) → t.committed ≡ m
     → ((sent m t).committed ≡ ms → is_open (sent_among ms n (sent m t)) ≡ true → (sent_among ms n (sent m t)).committed ≡ left_after ms n)
     → is_open (sent_among ms n (sent m t)) ≡ true → (sent_among ms n (sent m t)).committed ≡ left_after ms n
 sent-on m ms n t h on now =
-    elim (follow-open (λ (x : Talk). x.committed) (λ t s l cs ps. refl) m.then (record t { committed = drop 1 t.committed })) [
+    elim (follow-open (λ (x : Talk). x.committed) (λ t s l cs ps ns. refl) m.then (record t { committed = drop 1 t.committed })) [
       | inl same ↦ on (same ∙ ap (drop 1) h) now
       | inr shut ↦ absurd (true≢false (sym now ∙ ap is_open (sent_among-closed ms n (sent m t) shut) ∙ shut))
     ]

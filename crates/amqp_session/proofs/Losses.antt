@@ -16,7 +16,7 @@ use Rattle.amqp_outbox.specs.Order.{seen, seen_first}
 use Rattle.amqp_outbox.proofs.Cases.{same-from, equal-from, nat_cmp_self}
 use Rattle.amqp_outbox.proofs.Seen.{Sorted}
 use Rattle.amqp_session.specs.declared.command.Answer.{Answer}
-use Rattle.amqp_session.specs.declared.error.ErrorKind.{ErrorKind}
+use Rattle.amqp_promise.specs.declared.error.ErrorKind.{ErrorKind}
 use Rattle.amqp_session.specs.declared.shared_errors.SharedError.{SharedError}
 use Rattle.amqp_session.specs.declared.promises.Slot.{Slot}
 use Rattle.amqp_session.specs.declared.promises.Slot.TheVariants.{Place, Waiting, Answered, Shared}

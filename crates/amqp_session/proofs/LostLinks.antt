@@ -6,11 +6,11 @@ use Rattle.std.specs.Ordering.{nat_cmp, is_eq}
 use Rattle.amqp_frame.specs.declared.frame.Frame.TheVariants.{Heartbeat}
 use Rattle.amqp_session.specs.declared.state.Link.{Link}
 use Rattle.amqp_session.specs.declared.state.Link.TheVariants.{Due, Wanted, Open}
-use Rattle.amqp_session.specs.declared.io_fault.IoFault.{IoFault}
+use Rattle.amqp_promise.specs.declared.io_fault.IoFault.{IoFault}
 use Rattle.amqp_session.specs.declared.misread.Misread.{Misread}
 use Rattle.amqp_session.specs.declared.command.Answer.{Answer}
-use Rattle.amqp_session.specs.declared.error.ErrorKind.{ErrorKind}
-use Rattle.amqp_session.specs.declared.error.ErrorKind.TheVariants.{IOError, MissingHeartbeatError}
+use Rattle.amqp_promise.specs.declared.error.ErrorKind.{ErrorKind}
+use Rattle.amqp_promise.specs.declared.error.ErrorKind.TheVariants.{IOError, MissingHeartbeatError}
 use Rattle.amqp_session.specs.declared.auth.asked.Asked.{Asked}
 use Rattle.amqp_session.specs.Listed.{at}
 use Rattle.amqp_session.specs.Talk.{Talk, is_open, is_open_link, acts, end_of, end_of_link}

@@ -1,16 +1,18 @@
 -- A frame that is handed out is something new.
-use Rattle.std.proofs.Common.{◌≡◌, ◌∙◌, ap, sym, ℕ, List, [], ◌∷◌, ◌++◌, true, false, Option, Some, unwrap_or}
+use Rattle.std.proofs.Common.{◌≡◌, ◌∙◌, refl, ap, sym, ℕ, Bool, List, [], ◌∷◌, ◌++◌, true, false, Option, Some, unwrap_or}
 use Rattle.std.proofs.lemmas.List.{append_cancel_left}
 use Rattle.amqp_frame.specs.declared.frame.RawKind.{RawKind}
 use Rattle.amqp_session.specs.declared.channels.Channel.{Channel}
 use Rattle.amqp_session.specs.declared.handed.Handed.{Handed}
+use Rattle.amqp_session.specs.declared.event.Event.{Event}
+use Rattle.amqp_session.specs.Events.{kept}
 use Rattle.amqp_session.specs.Listed.{at, put}
 use Rattle.amqp_session.specs.Talk.{Talk}
 use Rattle.amqp_session.specs.Memory.{MakesNothing, owes, owes_on}
 use Rattle.amqp_session.specs.Channels.{channel_at, is_owed}
 use Rattle.amqp_session.specs.declared.channels.Debt.TheVariants.{Nothing, Owed}
-use Rattle.amqp_session.specs.declared.state.ChannelState.TheVariants as channel
-use Rattle.amqp_session.specs.declared.error.ErrorKind.{ErrorKind}
+use Rattle.amqp_promise.specs.declared.state.ChannelState.TheVariants as channel
+use Rattle.amqp_promise.specs.declared.error.ErrorKind.{ErrorKind}
 use Rattle.amqp_session.specs.ChannelMethods.{closed_by_server, confirmed, hand_out, is_select_ok, pass_through}
 use Rattle.amqp_session.proofs.Cases.{if_case}
 use Rattle.amqp_session.proofs.Numbered.{put-same}
@@ -32,6 +34,11 @@ pub handed-made : (n : ℕ) (c : Channel) (kind : RawKind) (bytes : List ℕ) (t
 handed-made n c kind bytes t m =
     if_case (λ (x : Talk). (hand_out c.opened (record { channel = n; kind = kind; bytes = bytes }) x).handed ≡ t.handed → ⊥)
     (is_select_ok kind bytes) (confirmed n c t) t (more-handed c.opened _ t.handed) (more-handed c.opened _ t.handed) m.handed
+
+-- an event is something new, where someone listens
+pub unheard-made : (listens : Bool) (event : Event) (events : List Event) → kept listens event events ≡ events → listens ≡ false
+unheard-made true event events same = let no = none-added events (event ∷ []) same in absurd cc
+unheard-made false event events same = refl
 
 -- a close of the server that is new makes that close-ok is owed
 pub owed-made : (n : ℕ) (e : ErrorKind) (c : Channel) (t : Talk) → channel_at n t ≡ Some c → c.debt ≡ Nothing

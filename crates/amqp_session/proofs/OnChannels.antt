@@ -19,8 +19,8 @@ use Rattle.amqp_outbox.specs.Queued.{Queued, awaited_promise}
 use Rattle.amqp_session.specs.declared.channels.Channel.{Channel}
 use Rattle.amqp_session.specs.declared.channels.Debt.{Debt}
 use Rattle.amqp_session.specs.declared.channels.Debt.TheVariants.{Nothing, Owed, Paid}
-use Rattle.amqp_session.specs.declared.state.ChannelState.{ChannelState}
-use Rattle.amqp_session.specs.declared.state.ChannelState.TheVariants as channel
+use Rattle.amqp_promise.specs.declared.state.ChannelState.{ChannelState}
+use Rattle.amqp_promise.specs.declared.state.ChannelState.TheVariants as channel
 use Rattle.amqp_session.specs.Handshake.{channel_open, our_channel_close}
 use Rattle.amqp_session.specs.Listed.{at, put, without, has, map_values}
 use Rattle.amqp_session.specs.Numbering.{first_number, cycle, drawn}

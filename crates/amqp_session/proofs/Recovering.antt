@@ -1,12 +1,13 @@
 -- Where a link is lost: the session goes on without it, or ends.
-use Rattle.std.proofs.Common.{◌≡◌, ℕ, Bool, true, false, ◌&&◌, nat_le, if◌then◌else◌, List, [], ◌∷◌, Option, Some, None, Result, refl, ap, sym, ◌∙◌}
+use Rattle.std.proofs.Common.{◌≡◌, ℕ, Bool, true, false, ◌&&◌, nat_le, if◌then◌else◌, List, [], ◌∷◌, Option, Some, None, Result, refl, ap, ◌∙◌}
 use Rattle.std.specs.Map.{keys_of}
 use Rattle.amqp_outbox.specs.Queued.{Queued}
 use Rattle.amqp_session.specs.declared.channels.Channel.{Channel}
 use Rattle.amqp_session.specs.declared.command.Answer.{Answer}
-use Rattle.amqp_session.specs.declared.error.ErrorKind.{ErrorKind}
+use Rattle.amqp_promise.specs.declared.error.ErrorKind.{ErrorKind}
 use Rattle.amqp_session.specs.Talk.{Talk, is_open}
-use Rattle.amqp_session.specs.Recovery.{next_delay, can_be_recovered, was_up, recovery_delay, rejected_all, reconnect}
+use Rattle.amqp_promise.specs.Kinds.{can_be_recovered}
+use Rattle.amqp_session.specs.Recovery.{next_delay, was_up, recovery_delay, rejected_all, reconnect}
 use Rattle.amqp_session.specs.Changes.{fail, lose_by, lose}
 use Rattle.amqp_session.specs.ConnectionMethods.{reopen, reopen_each}
 use Rattle.amqp_session.proofs.Cases.{if_case}

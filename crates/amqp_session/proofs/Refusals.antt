@@ -7,12 +7,12 @@ use Rattle.amqp_frame.specs.declared.frame.Frame.{Frame}
 use Rattle.amqp_outbox.specs.Queued.{is_on}
 use Rattle.amqp_session.specs.declared.channels.Channel.{Channel}
 use Rattle.amqp_session.specs.declared.command.Cmd.{Cmd}
-use Rattle.amqp_session.specs.declared.command.Cmd.TheVariants.{OpenChannel, CloseChannel, CloseConnection, UpdateSecret, Send, Publish, Flow, DropChannel, DropConnection}
-use Rattle.amqp_session.specs.declared.state.ConnectionState.{ConnectionState}
-use Rattle.amqp_session.specs.declared.state.ConnectionState.TheVariants.{Connected, Closing}
-use Rattle.amqp_session.specs.declared.state.ChannelState.TheVariants as channel
-use Rattle.amqp_session.specs.declared.error.ErrorKind.{ErrorKind}
-use Rattle.amqp_session.specs.declared.error.ErrorKind.TheVariants.{ChannelsLimitReached, InvalidChannelState, InvalidConnectionState}
+use Rattle.amqp_session.specs.declared.command.Cmd.TheVariants.{OpenChannel, CloseChannel, CloseConnection, UpdateSecret, Send, Publish, Flow, DropChannel, DropConnection, Listen}
+use Rattle.amqp_promise.specs.declared.state.ConnectionState.{ConnectionState}
+use Rattle.amqp_promise.specs.declared.state.ConnectionState.TheVariants.{Connected, Closing}
+use Rattle.amqp_promise.specs.declared.state.ChannelState.TheVariants as channel
+use Rattle.amqp_promise.specs.declared.error.ErrorKind.{ErrorKind}
+use Rattle.amqp_promise.specs.declared.error.ErrorKind.TheVariants.{ChannelsLimitReached, InvalidChannelState, InvalidConnectionState}
 use Rattle.amqp_session.specs.Listed.{at, put}
 use Rattle.amqp_session.specs.Talk.{Talk}
 use Rattle.amqp_session.specs.Changes.{Promises, rejected, refuse}
@@ -94,6 +94,7 @@ told-rule Connected (Publish r method properties body) e t takes = told-publish 
 told-rule Connected (Flow r active) e t takes = told-flow _ r.id active e t
 told-rule _ (DropChannel r) e t takes = absurd cc
 told-rule _ DropConnection e t takes = absurd cc
+told-rule _ Listen e t takes = absurd cc
 told-rule _ c e t takes = told-refuse _ e t
 
 -- a command that is refused changes nothing else
@@ -104,18 +105,20 @@ refused-rule : (s : ConnectionState) (c : Cmd) (t : Talk) → s ≢ Connected �
 refused-rule Connected c t other takes = absurd (other refl)
 refused-rule _ (DropChannel r) t other takes = absurd cc
 refused-rule _ DropConnection t other takes = absurd cc
+refused-rule _ Listen t other takes = absurd cc
 refused-rule _ c t other takes = refl
 
 -- out of the state Connected a command that takes a promise is refused
 pub refused-out : (c : Cmd) (t : Talk) → t.state ≢ Connected → takes_promise c ≡ true → command c t ≡ refuse (InvalidConnectionState t.state) t
 refused-out c t other takes = refused-rule t.state c t other takes
 
-idle-rule : (s : ConnectionState) (c : Cmd) (t : Talk) → s ≢ Connected → takes_promise c ≡ false → command_rule s c t ≡ t
-idle-rule Connected c t other takes = absurd (other refl)
-idle-rule _ (DropChannel r) t other takes = refl
-idle-rule _ DropConnection t other takes = refl
-idle-rule _ c t other takes = absurd cc
+idle-rule : (s : ConnectionState) (c : Cmd) (t : Talk) → s ≢ Connected → takes_promise c ≡ false → c ≢ Listen → command_rule s c t ≡ t
+idle-rule Connected c t other takes lets_go = absurd (other refl)
+idle-rule _ (DropChannel r) t other takes lets_go = refl
+idle-rule _ DropConnection t other takes lets_go = refl
+idle-rule _ Listen t other takes lets_go = absurd (lets_go refl)
+idle-rule _ c t other takes lets_go = absurd cc
 
--- one that takes none does nothing then
-pub idle-out : (c : Cmd) (t : Talk) → t.state ≢ Connected → takes_promise c ≡ false → command c t ≡ t
-idle-out c t other takes = idle-rule t.state c t other takes
+-- one that lets a channel or the connection go does nothing then
+pub idle-out : (c : Cmd) (t : Talk) → t.state ≢ Connected → takes_promise c ≡ false → c ≢ Listen → command c t ≡ t
+idle-out c t other takes lets_go = idle-rule t.state c t other takes lets_go

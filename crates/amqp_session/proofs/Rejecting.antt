@@ -6,7 +6,7 @@ use Rattle.amqp_outbox.specs.Lists.{without_first}
 use Rattle.amqp_outbox.specs.Items.{promise_of}
 use Rattle.amqp_outbox.specs.Queued.{Queued, is_on, group_promise, without_group}
 use Rattle.amqp_outbox.proofs.Taking.{none-left_out}
-use Rattle.amqp_session.specs.declared.error.ErrorKind.{ErrorKind}
+use Rattle.amqp_promise.specs.declared.error.ErrorKind.{ErrorKind}
 use Rattle.amqp_uri.specs.Address.{local}
 use Rattle.amqp_session.specs.Config.{config_of, no_options}
 use Rattle.amqp_session.specs.Talk.{Talk, start}

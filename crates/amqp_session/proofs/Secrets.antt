@@ -15,22 +15,23 @@ use Rattle.amqp_outbox.specs.Queued.{awaited_promise}
 use Rattle.amqp_session.specs.declared.channels.Channel.{Channel}
 use Rattle.amqp_session.specs.declared.channels.Debt.{Debt}
 use Rattle.amqp_session.specs.declared.channels.Debt.TheVariants as debt
-use Rattle.amqp_session.specs.declared.state.ConnectionState.{ConnectionState}
-use Rattle.amqp_session.specs.declared.state.ConnectionState.TheVariants.{Connecting, Connected, Closing}
-use Rattle.amqp_session.specs.declared.state.ChannelState.{ChannelState}
-use Rattle.amqp_session.specs.declared.state.ChannelState.TheVariants as channel
+use Rattle.amqp_promise.specs.declared.state.ConnectionState.{ConnectionState}
+use Rattle.amqp_promise.specs.declared.state.ConnectionState.TheVariants.{Connecting, Connected, Closing}
+use Rattle.amqp_promise.specs.declared.state.ChannelState.{ChannelState}
+use Rattle.amqp_promise.specs.declared.state.ChannelState.TheVariants as channel
 use Rattle.amqp_session.specs.declared.state.Phase.{Phase}
 use Rattle.amqp_session.specs.declared.state.Phase.TheVariants.{AwaitStart, AwaitTune, AwaitOpenOk}
 use Rattle.amqp_session.specs.declared.command.Cmd.{Cmd}
-use Rattle.amqp_session.specs.declared.command.Cmd.TheVariants.{OpenChannel, CloseChannel, CloseConnection, UpdateSecret, Send, Publish, Flow, DropChannel, DropConnection}
+use Rattle.amqp_session.specs.declared.command.Cmd.TheVariants.{OpenChannel, CloseChannel, CloseConnection, UpdateSecret, Send, Publish, Flow, DropChannel, DropConnection, Listen}
 use Rattle.amqp_session.specs.declared.misread.Misread.{Misread}
-use Rattle.amqp_session.specs.declared.error.ErrorKind.{ErrorKind}
-use Rattle.amqp_session.specs.declared.error.ErrorKind.TheVariants.{InvalidChannel, InvalidConnectionState, NoMemory, MissingHeartbeatError}
+use Rattle.amqp_promise.specs.declared.error.ErrorKind.{ErrorKind}
+use Rattle.amqp_promise.specs.declared.error.ErrorKind.TheVariants.{InvalidChannel, InvalidConnectionState, NoMemory, MissingHeartbeatError}
 use Rattle.amqp_session.specs.declared.auth.asked.Question.{Question}
 use Rattle.amqp_session.specs.declared.auth.asked.Question.TheVariants as question
 use Rattle.amqp_session.specs.declared.auth.asked.Asked.{Asked}
 use Rattle.amqp_session.specs.declared.auth.asked.Asked.TheVariants as answer
-use Rattle.amqp_session.specs.Talk.{Talk, has_ended, is_open, is_asked, is_closing, acts, hears_on}
+use Rattle.amqp_session.specs.declared.event.Event.{Event}
+use Rattle.amqp_session.specs.Talk.{Talk, has_ended, end_of, is_open, is_asked, is_closing, acts, hears_on}
 use Rattle.amqp_session.specs.Channels.{channel_at}
 use Rattle.amqp_session.specs.Changes.{queue, lose, misplaced, fail}
 use Rattle.amqp_session.specs.Links.{dropped, linked, misread}
@@ -43,7 +44,7 @@ use Rattle.amqp_session.specs.Publishing.{method_frame, publish_frames}
 use Rattle.amqp_session.specs.Commands.{open_drawn, close_target, drop_target, flow_target, queue_secret, update_secret, too_long, unless_too_long, queue_send, send_target, body_limit, queue_publish, publish_target, command_rule}
 use Rattle.amqp_session.specs.Ticks.{is_connected, is_missed, is_due, missing_heartbeat, beat, asks_validity, has_expired, refresh, validity_told, tick, refresh_questions, secret_questions, tick_questions}
 use Rattle.amqp_session.specs.Writing.{next_within, committed_as, commit, overlong, end_overlong, next_frame}
-use Rattle.amqp_session.specs.Answers.{answer_of}
+use Rattle.amqp_session.specs.Answers.{answer_of, end_event, without_event}
 use Rattle.amqp_session.specs.Parts.{awaits_open_ok}
 use Rattle.amqp_session.specs.Secrets.{HasExpired, is_refresh, renews, refuses, IsSameSecret, IsSameOrNew, KeepsSecret}
 use Rattle.amqp_session.proofs.Heard.{start-case, secure-case}
@@ -55,7 +56,7 @@ use Rattle.amqp_session.proofs.Recovering.{lose-case, reopened-keeps}
 
 -- where a link is lost, the secret is valid from the same moment as before
 lose-secret : (e : ErrorKind) (t : Talk) → IsSameSecret t (lose e t)
-lose-secret e t = loss-keeps (λ (x : Talk). x.secret_at) (λ x s l cs ps b q ms n o. refl) e t
+lose-secret e t = loss-keeps (λ (x : Talk). x.secret_at) (λ x s l cs ps b q ms n o ns. refl) e t
 
 -- where a secret is new it is valid from now on, and else from the same moment as before
 abbrev IsSecretBy : Bool → Talk → Talk → Type 0
@@ -213,7 +214,7 @@ tick-secret : (answers : List Asked) (t : Talk) → IsSameOrNew (refuses answers
 tick-secret answers t =
     let x : Talk = beat t in
     let secret : x.secret_at ≡ t.secret_at = beat-keeps (λ (y : Talk). y.secret_at) t lose-secret (λ y. refl) in
-    let present : x.present ≡ t.present = beat-keeps (λ (y : Talk). y.present) t (loss-keeps (λ (y : Talk). y.present) (λ x s l cs ps b q ms n o. refl)) (λ y. refl) in
+    let present : x.present ≡ t.present = beat-keeps (λ (y : Talk). y.present) t (loss-keeps (λ (y : Talk). y.present) (λ x s l cs ps b q ms n o ns. refl)) (λ y. refl) in
     elim (if_case (IsSameOrNew (refuses answers) x) (asks_validity x) (validity_told answers x) x (told-secret answers x) (inl refl)) [
       | inl same ↦ inl (same ∙ secret)
       | inr new ↦ inr (new.0, new.1 ∙ present)
@@ -268,8 +269,10 @@ command-secret Connected (Publish r method properties body) t = publish-secret _
 command-secret Connected (Flow r active) t = flow-target-secret _ r.id active t
 command-secret Connected (DropChannel r) t = drop-secret _ r.id t
 command-secret Connected DropConnection t = refl
+command-secret Connected Listen t = refl
 command-secret _ (DropChannel r) t = refl
 command-secret _ DropConnection t = refl
+command-secret _ Listen t = refl
 command-secret _ c t = refl
 
 -- ---- what else happens
@@ -293,6 +296,11 @@ misread-secret why t =
 linked-secret : (t : Talk) → IsSameSecret t (linked t)
 linked-secret t = if_case (IsSameSecret t) (is_asked t) _ t refl refl
 
+event-secret : (events at_end : List Event) (t : Talk) → IsSameSecret t (without_event events at_end t)
+event-secret (event ∷ later) at_end t = refl
+event-secret [] (event ∷ later) t = refl
+event-secret [] [] t = refl
+
 pub keeps-secret : (t : Talk) → KeepsSecret t
 keeps-secret t = record {
   frame = λ f answers. frame-secret f answers t;
@@ -300,15 +308,16 @@ keeps-secret t = record {
   moment = λ at. present-keeps (λ (x : Talk). x.secret_at) at t (λ n. refl);
   asked = refl;
   linked = linked-secret t;
-  link_failed = failed-keeps (λ (x : Talk). x.secret_at) (λ x s l cs ps. refl) (λ x n. refl) t;
+  link_failed = failed-keeps (λ (x : Talk). x.secret_at) (λ x s l cs ps ns. refl) (λ x n. refl) t;
   piece = if_case (IsSameSecret t) (is_open t) (record t { last_read = t.present }) t refl refl;
   misread = λ why. misread-secret why t;
-  lost = λ fault. lost-keeps (λ (x : Talk). x.secret_at) (λ x s l cs ps b q ms n o. refl) fault t;
+  lost = λ fault. lost-keeps (λ (x : Talk). x.secret_at) (λ x s l cs ps b q ms n o ns. refl) fault t;
   next_frame = λ space. next-secret space t;
-  taken = λ n. taken-keeps (λ (x : Talk). x.secret_at) (record { ends = λ x s l cs ps b q ms n o. refl; writes = λ x w ms. refl; moments = λ x n. refl }) n t;
+  taken = λ n. taken-keeps (λ (x : Talk). x.secret_at) (record { ends = λ x s l cs ps b q ms n o ns. refl; writes = λ x w ms. refl; moments = λ x n. refl }) n t;
   starve = if_case (IsSameSecret t) (has_ended t) t (fail NoMemory t) refl refl;
   command = λ cmd. command-secret t.state cmd t;
   answer = λ number. if_case (IsSameSecret t) (is_some (answer_of number t)) _ t refl refl;
+  event = event-secret t.noted.events (end_event t.noted.tells_end (end_of t)) t;
   frames = λ opened. refl;
 }
 
@@ -356,8 +365,8 @@ asks-expired answers t h =
     let x : Talk = beat t in
     let e : HasExpired answers x = All-contains (AsksWhenExpired answers x) (tick_questions answers t) question.Refresh (asks-by answers x) h refl in
     let secret : x.secret_at ≡ t.secret_at = beat-keeps (λ (y : Talk). y.secret_at) t lose-secret (λ y. refl) in
-    let present : x.present ≡ t.present = beat-keeps (λ (y : Talk). y.present) t (loss-keeps (λ (y : Talk). y.present) (λ x s l cs ps b q ms n o. refl)) (λ y. refl) in
-    let refreshing : x.refreshing ≡ t.refreshing = beat-keeps (λ (y : Talk). y.refreshing) t (loss-keeps (λ (y : Talk). y.refreshing) (λ x s l cs ps b q ms n o. refl)) (λ y. refl) in
+    let present : x.present ≡ t.present = beat-keeps (λ (y : Talk). y.present) t (loss-keeps (λ (y : Talk). y.present) (λ x s l cs ps b q ms n o ns. refl)) (λ y. refl) in
+    let refreshing : x.refreshing ≡ t.refreshing = beat-keeps (λ (y : Talk). y.refreshing) t (loss-keeps (λ (y : Talk). y.refreshing) (λ x s l cs ps b q ms n o ns. refl)) (λ y. refl) in
     record {
       opened = beat-connected t e.opened;
       idle = sym refreshing ∙ e.idle;

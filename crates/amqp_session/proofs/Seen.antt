@@ -7,7 +7,7 @@ use Rattle.std.specs.BTreeMap.{is_at}
 use Rattle.amqp_outbox.specs.Order.{seen, seen_at}
 use Rattle.amqp_outbox.proofs.Seen.{Sorted, at-seen, set-seen}
 use Rattle.amqp_session.specs.declared.command.Answer.{Answer}
-use Rattle.amqp_session.specs.declared.error.ErrorKind.{ErrorKind}
+use Rattle.amqp_promise.specs.declared.error.ErrorKind.{ErrorKind}
 use Rattle.amqp_session.specs.declared.promises.Slot.{Slot}
 use Rattle.amqp_session.specs.declared.promises.Slot.TheVariants.{Place, Waiting, Answered, Shared}
 use Rattle.amqp_session.specs.declared.shared_errors.SharedError.{SharedError}

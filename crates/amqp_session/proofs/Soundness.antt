@@ -25,33 +25,33 @@ use Rattle.amqp_session.specs.declared.channels.Debt.TheVariants as debt
 use Rattle.amqp_session.specs.declared.committed.Mark.{Mark}
 use Rattle.amqp_session.specs.declared.committed.Then.{Then}
 use Rattle.amqp_session.specs.declared.committed.Then.TheVariants.{Nothing, Answer, Pays, Finish}
-use Rattle.amqp_session.specs.declared.state.ConnectionState.{ConnectionState}
-use Rattle.amqp_session.specs.declared.state.ConnectionState.TheVariants.{Initial, Reconnecting, Connecting, Connected, Closing, Closed, Error}
-use Rattle.amqp_session.specs.declared.state.ChannelState.{ChannelState}
-use Rattle.amqp_session.specs.declared.state.ChannelState.TheVariants as channel
+use Rattle.amqp_promise.specs.declared.state.ConnectionState.{ConnectionState}
+use Rattle.amqp_promise.specs.declared.state.ConnectionState.TheVariants.{Initial, Reconnecting, Connecting, Connected, Closing, Closed, Error}
+use Rattle.amqp_promise.specs.declared.state.ChannelState.{ChannelState}
+use Rattle.amqp_promise.specs.declared.state.ChannelState.TheVariants as channel
 use Rattle.amqp_session.specs.declared.state.Phase.{Phase}
 use Rattle.amqp_session.specs.declared.state.Phase.TheVariants.{AwaitStart, AwaitTune, AwaitOpenOk}
 use Rattle.amqp_session.specs.declared.state.Link.{Link}
 use Rattle.amqp_session.specs.declared.state.Link.TheVariants.{Due, Wanted, Asked, Open, Ended}
-use Rattle.amqp_session.specs.declared.io_fault.IoFault.{IoFault}
-use Rattle.amqp_session.specs.declared.io_fault.IoFault.TheVariants.{Refused}
+use Rattle.amqp_promise.specs.declared.io_fault.IoFault.{IoFault}
+use Rattle.amqp_promise.specs.declared.io_fault.IoFault.TheVariants.{Refused}
 use Rattle.amqp_session.specs.declared.configuration.Configuration.{Configuration}
 use Rattle.amqp_session.specs.declared.server_close.ServerClose.{ServerClose}
 use Rattle.amqp_session.specs.declared.server_close.ServerClose.TheVariants.{WithoutError, WithError}
 use Rattle.amqp_session.specs.declared.command.Cmd.{Cmd}
-use Rattle.amqp_session.specs.declared.command.Cmd.TheVariants.{OpenChannel, CloseChannel, CloseConnection, UpdateSecret, Send, Publish, Flow, DropChannel, DropConnection}
+use Rattle.amqp_session.specs.declared.command.Cmd.TheVariants.{OpenChannel, CloseChannel, CloseConnection, UpdateSecret, Send, Publish, Flow, DropChannel, DropConnection, Listen}
 use Rattle.amqp_session.specs.declared.command.Answer.{Answer as AnyAnswer}
 use Rattle.amqp_session.specs.declared.command.Answer.TheVariants.{Connected as AnswerConnected, Done, Sent}
 use Rattle.amqp_session.specs.declared.command.ChanRef.{ChanRef}
 use Rattle.amqp_session.specs.declared.handed.Handed.{Handed}
 use Rattle.amqp_session.specs.declared.misread.Misread.{Misread}
-use Rattle.amqp_session.specs.declared.error.ErrorKind.TheVariants.{NoMemory, IOError, ProtocolError, InvalidChannel, AuthProviderError, InvalidProtocolVersion, ChannelsLimitReached, InvalidChannelState, InvalidConnectionState, MissingHeartbeatError, SerialisationError}
-use Rattle.amqp_session.specs.declared.error.ErrorKind.{ErrorKind}
+use Rattle.amqp_promise.specs.declared.error.ErrorKind.TheVariants.{NoMemory, IOError, ProtocolError, InvalidChannel, AuthProviderError, InvalidProtocolVersion, ChannelsLimitReached, InvalidChannelState, InvalidConnectionState, MissingHeartbeatError, SerialisationError}
+use Rattle.amqp_promise.specs.declared.error.ErrorKind.{ErrorKind}
 use Rattle.amqp_session.specs.Listed.{at, put, without, has}
 use Rattle.amqp_session.specs.Config.{Config}
 use Rattle.amqp_session.specs.declared.auth.asked.Asked.{Asked as ProviderAnswer}
-use Rattle.amqp_session.specs.Talk.{Talk, start, acts, hears_on, has_ended, is_acting, is_asked, is_closing, is_open, is_open_link, is_asked_link, end_of_link}
-use Rattle.amqp_session.specs.Changes.{Promises, present_at, queue, await, starve, next_promise, refuse, give, give_to, rejected, rejected_each, promises_on, replies_on, without_all_on, drop_replies_of, fail, lose, misplaced, close, finish, finish_by, settled_by, settled_to, promise}
+use Rattle.amqp_session.specs.Talk.{Talk, start, acts, hears_on, has_ended, end_of, is_acting, is_asked, is_closing, is_open, is_open_link, is_asked_link, end_of_link}
+use Rattle.amqp_session.specs.Changes.{Promises, present_at, queue, await, starve, next_promise, refuse, give, give_to, rejected, rejected_each, promises_on, replies_on, without_all_on, drop_replies_of, fail, lose, misplaced, close, finish, finish_by, settled_by, settled_to, promise, tell_owed}
 use Rattle.amqp_session.specs.Links.{asked, asked_link, linked, refused_after, link_failed, piece, dropped, misread, lost}
 use Rattle.amqp_session.specs.Recovery.{next_delay, is_kept_in, reconnecting, reconnect}
 use Rattle.amqp_session.specs.Handshake.{close_ok, start_ok, secure_ok, tune_ok, open_vhost, our_close, new_secret, channel_open, channel_flow, flow_ok, channel_close_ok, our_channel_close}
@@ -66,7 +66,9 @@ use Rattle.amqp_session.specs.Frames.{is_of_a_channel, method_rule, frame_rule, 
 use Rattle.amqp_session.specs.Commands.{is_opening, named_in, named, target_in, target_by, target, open_drawn, leave_channel, leave_connection, close_target, drop_target, flow_target, queue_secret, update_secret, too_long, unless_too_long, queue_send, send_target, body_limit, queue_publish, publish_target, command, command_rule}
 use Rattle.amqp_session.specs.Writing.{committed_as, next_within, commit, overlong, end_overlong, next_frame, paid_by, pay, follow, sent, sent_among, taken}
 use Rattle.amqp_session.specs.Ticks.{is_missed, is_due, missing_heartbeat, beat, refreshed, refresh_reason, link_at, link_due, timed, tick}
-use Rattle.amqp_session.specs.Answers.{answer_of, take_answer, take_frames}
+use Rattle.amqp_session.specs.declared.event.Event.{Event}
+use Rattle.amqp_session.specs.Events.{Noted}
+use Rattle.amqp_session.specs.Answers.{answer_of, take_answer, end_event, without_event, take_event, take_frames}
 use Rattle.amqp_session.specs.Laws.{IsEnded, StaysSound, is_end}
 use Rattle.amqp_session.specs.Sound.{Ascend, AscendFrom, IsSound, fits_link, is_agreed, AllBelow, Finishes, following, goes_on}
 use Rattle.amqp_session.proofs.Cases.{if_case, if_by}
@@ -229,6 +231,10 @@ sound-flowed n c active None t s = sound-unawaited n c.state (ChannelFlowOk acti
 sound-flowed n c active (Some promise) t s =
     sound-give_to promise _ _ (record { link = s.link; room = s.room; acting = s.acting; finish = s.finish; listed = s.listed; promises = s.promises })
 
+-- what is kept for those who listen is looked at by none
+sound-noted : (ns : Noted) (t : Talk) → IsSound t → IsSound (record t { noted = ns })
+sound-noted ns t s = record { link = s.link; room = s.room; acting = s.acting; finish = s.finish; listed = s.listed; promises = s.promises }
+
 -- close-ok is queued on a channel, whose debt it will pay
 sound-server-close : (d : Debt) (awaits : Bool) (n : ℕ) (e : ErrorKind) (c : Channel) (t : Talk) → 0 < n → is_acting t.input ≡ true → IsSound t
     → IsSound (channel_close_by d awaits n e c t)
@@ -315,7 +321,8 @@ tune-room own server = wish-some 65535 (lesser_wish own.channel_max server.chann
 sound-connection-closed : (a : Option (Option ℕ)) (t : Talk) → IsSound t → IsSound (connection_closed a t)
 sound-connection-closed None t s = sound-close t s
 sound-connection-closed (Some promise) t s =
-    sound-close _ (sound-give_to promise (Ok Done) _ (record { link = s.link; room = s.room; acting = s.acting; finish = s.finish; listed = s.listed; promises = s.promises }))
+    let closed : Talk = record t { outbox = answered 0 ConnectionClosed t.outbox } in
+    sound-close (give_to promise (Ok Done) closed) (sound-give_to promise (Ok Done) closed (record { link = s.link; room = s.room; acting = s.acting; finish = s.finish; listed = s.listed; promises = s.promises }))
 
 sound-secret-taken : (a : Option (Option ℕ)) (t : Talk) → IsSound t → IsSound (secret_taken a t)
 sound-secret-taken None t s = sound-lose (InvalidConnectionState Connected) t s
@@ -700,8 +707,10 @@ sound-command-rule Connected (Flow r active) t hs s = sound-flow-target (target 
 sound-command-rule Connected (DropChannel r) t hs s =
     sound-drop-target (target r word.ChannelClose t) r.id t (λ c h. target-some r word.ChannelClose t c s.listed h) (acts-on Connected t hs refl s) s
 sound-command-rule Connected DropConnection t hs s = sound-leave-connection 200 (codes "OK") None t hs s
+sound-command-rule Connected Listen t hs s = sound-noted _ t s
 sound-command-rule _ (DropChannel r) t hs s = s
 sound-command-rule _ DropConnection t hs s = s
+sound-command-rule _ Listen t hs s = sound-noted _ t s
 sound-command-rule _ c t hs s = sound-refuse _ t s
 
 pub sound-command : (c : Cmd) (t : Talk) → IsSound t → IsSound (command c t)
@@ -783,7 +792,8 @@ sound-paid false n c t some s =
 
 sound-pay : (o : Option Channel) (n : ℕ) (t : Talk) → channel_at n t ≡ o → IsSound t → IsSound (pay o n t)
 sound-pay None n t h s = s
-sound-pay (Some c) n t h s = sound-paid (awaits_close_ok n t) n c t (listed-some n c t.channels s.listed h) s
+sound-pay (Some c) n t h s =
+    sound-paid (awaits_close_ok n t) n c (tell_owed n t) (listed-some n c t.channels s.listed h) (sound-noted _ t s)
 
 sound-follow : (th : Then) (t : Talk) → IsSound t → IsSound (follow th t)
 sound-follow Nothing t s = s
@@ -841,6 +851,14 @@ sound-answer n t s =
     if_case IsSound (is_some (answer_of n t)) (record t { promises = without n t.promises }) t
     (record { link = s.link; room = s.room; acting = s.acting; finish = s.finish; listed = s.listed; promises = (without-ascends n t.promises s.promises.0, without-below n t.made t.promises s.promises.1) }) s
 
+sound-event-by : (events at_end : List Event) (t : Talk) → IsSound t → IsSound (without_event events at_end t)
+sound-event-by (event ∷ later) at_end t s = sound-noted _ t s
+sound-event-by [] (event ∷ later) t s = sound-noted _ t s
+sound-event-by [] [] t s = s
+
+pub sound-event : (t : Talk) → IsSound t → IsSound (take_event t)
+sound-event t s = sound-event-by t.noted.events (end_event t.noted.tells_end (end_of t)) t s
+
 pub sound-frames : (opened : ℕ) (t : Talk) → IsSound t → IsSound (take_frames opened t)
 sound-frames opened t s = record { link = s.link; room = s.room; acting = s.acting; finish = s.finish; listed = s.listed; promises = s.promises }
 
@@ -866,6 +884,7 @@ keeps-sound t s =
       starve = sound-starve t s;
       command = λ cmd. sound-command cmd t s;
       answer = λ number. sound-answer number t s;
+      event = sound-event t s;
       frames = λ opened. sound-frames opened t s;
     }
 

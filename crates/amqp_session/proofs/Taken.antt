@@ -5,7 +5,7 @@ use Rattle.amqp_session.specs.declared.committed.Then.{Then}
 use Rattle.amqp_session.specs.declared.committed.Then.TheVariants.{Nothing, Answer, Pays, Finish}
 use Rattle.amqp_session.specs.declared.server_close.ServerClose.{ServerClose}
 use Rattle.amqp_session.specs.declared.server_close.ServerClose.TheVariants.{WithoutError, WithError}
-use Rattle.amqp_session.specs.declared.error.ErrorKind.TheVariants.{ProtocolError}
+use Rattle.amqp_promise.specs.declared.error.ErrorKind.TheVariants.{ProtocolError}
 use Rattle.amqp_session.specs.Talk.{Talk, is_open}
 use Rattle.amqp_session.specs.Changes.{finish_by}
 use Rattle.amqp_session.specs.Channels.{channel_at}
@@ -21,7 +21,7 @@ follow-left : (m : Mark) (t : Talk) (ms : List Mark) (k : ℕ)
     ≡ sent_among ms k (follow m.then (record t { committed = ms }))
 follow-left m t ms k =
     let u : Talk = follow m.then (record t { committed = ms }) in
-    elim (follow-open (λ (x : Talk). x.committed) (λ t s l cs ps. refl) m.then (record t { committed = ms })) [
+    elim (follow-open (λ (x : Talk). x.committed) (λ t s l cs ps ns. refl) m.then (record t { committed = ms })) [
       | inl same ↦ ap (λ (x : List Mark). sent_among x k u) same
       | inr shut ↦ sent_among-closed u.committed k u shut ∙ sym (sent_among-closed ms k u shut)
     ]
@@ -80,7 +80,7 @@ follow-fewer : (th : Then) (t : Talk) → length (follow th t).committed ≤ len
 follow-fewer Nothing t = omega arith
 follow-fewer (Answer n) t = omega arith
 follow-fewer (Pays n) t =
-    let same : (follow (Pays n) t).committed ≡ t.committed = pay-keeps (λ (x : Talk). x.committed) (λ u cs. refl) (channel_at n t) n t in
+    let same : (follow (Pays n) t).committed ≡ t.committed = pay-keeps (λ (x : Talk). x.committed) (λ u cs ns. refl) (channel_at n t) n t in
     omega (arith, ap length same)
 follow-fewer Finish t = finish-fewer t.server_close t
 

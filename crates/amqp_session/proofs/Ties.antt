@@ -20,10 +20,10 @@ use Rattle.amqp_session.specs.declared.channels.Debt.TheVariants.{Nothing, Owed,
 use Rattle.amqp_session.specs.declared.committed.Mark.{Mark}
 use Rattle.amqp_session.specs.declared.committed.Then.{Then}
 use Rattle.amqp_session.specs.declared.committed.Then.TheVariants.{Pays}
-use Rattle.amqp_session.specs.declared.state.ChannelState.{ChannelState}
-use Rattle.amqp_session.specs.declared.state.ChannelState.TheVariants as channel
-use Rattle.amqp_session.specs.declared.state.ConnectionState.{ConnectionState}
-use Rattle.amqp_session.specs.declared.state.ConnectionState.TheVariants.{Initial, Connecting, Connected, Closing, Reconnecting}
+use Rattle.amqp_promise.specs.declared.state.ChannelState.{ChannelState}
+use Rattle.amqp_promise.specs.declared.state.ChannelState.TheVariants as channel
+use Rattle.amqp_promise.specs.declared.state.ConnectionState.{ConnectionState}
+use Rattle.amqp_promise.specs.declared.state.ConnectionState.TheVariants.{Initial, Connecting, Connected, Closing, Reconnecting}
 use Rattle.amqp_session.specs.declared.state.Phase.{Phase}
 use Rattle.amqp_session.specs.declared.state.Phase.TheVariants.{AwaitStart, AwaitTune, AwaitOpenOk}
 use Rattle.amqp_session.specs.declared.state.Input.{Input}

@@ -7,14 +7,17 @@ use Rattle.amqp_outbox.specs.declared.reply.Awaited.{Awaited}
 use Rattle.amqp_outbox.specs.Items.{plain, promise_of}
 use Rattle.amqp_outbox.specs.Replies.{awaited_on}
 use Rattle.amqp_outbox.specs.Queued.{Queued, pushed_control, pushed_group, expected, is_on, goes_with}
-use Rattle.amqp_session.specs.declared.state.ConnectionState.TheVariants.{Closed, Error}
+use Rattle.amqp_promise.specs.declared.state.ConnectionState.TheVariants.{Closed, Error}
 use Rattle.amqp_session.specs.declared.state.Link.TheVariants.{Ended}
 use Rattle.amqp_session.specs.declared.command.Answer.{Answer}
 use Rattle.amqp_session.specs.declared.server_close.ServerClose.{ServerClose}
 use Rattle.amqp_session.specs.declared.server_close.ServerClose.TheVariants.{WithError}
-use Rattle.amqp_session.specs.declared.error.ErrorKind.{ErrorKind}
-use Rattle.amqp_session.specs.declared.error.ErrorKind.TheVariants.{ProtocolError, NoMemory}
+use Rattle.amqp_promise.specs.declared.error.ErrorKind.{ErrorKind}
+use Rattle.amqp_promise.specs.declared.error.ErrorKind.TheVariants.{ProtocolError, NoMemory}
+use Rattle.amqp_session.specs.declared.event.Event.{Event}
 use Rattle.amqp_session.specs.Listed.{at, put, without}
+use Rattle.amqp_session.specs.Events as events
+use Rattle.amqp_session.specs.Events.{noted, error_named, paid, forgotten, failed}
 use Rattle.amqp_session.specs.Talk.{Talk, is_closing, has_ended}
 use Rattle.amqp_session.specs.Recovery.{recovery_delay, reconnect}
 
@@ -80,6 +83,21 @@ promise t = record t { made = t.made + 1; promises = put t.made None t.promises 
 -- a promise is made, which is answered at once with an error
 abbrev pub refuse : ErrorKind → Talk → Talk
 refuse e t = record t { made = t.made + 1; promises = put t.made (Some (Err e)) t.promises }
+
+-- ---- events
+
+-- an event is kept, where someone listens
+abbrev pub note : Event → Talk → Talk
+note event t = record t { noted = noted event t.noted }
+
+-- the error with which the server closed a channel, where its code was one of an error, is told once our close-ok is
+-- sent
+abbrev pub owe : ℕ → ErrorKind → Talk → Talk
+owe n e t = record t { noted = events.owe n (error_named e) t.noted }
+
+-- the error that is owed on a channel is told
+abbrev pub tell_owed : ℕ → Talk → Talk
+tell_owed n t = record t { noted = paid n t.noted }
 
 -- ---- what goes
 
@@ -162,11 +180,11 @@ drop_replies_of n e t =
 
 -- the session ends Closed
 abbrev pub close : Talk → Talk
-close t = record t { state = Closed; link = Ended (Ok tt); channels = [] }
+close t = record t { state = Closed; link = Ended (Ok tt); channels = []; noted = forgotten t.noted }
 
--- the session ends with an error
+-- the session ends with an error, which those who listen are told
 abbrev pub fail : ErrorKind → Talk → Talk
-fail e t = record t { state = Error; link = Ended (Err e); channels = [] }
+fail e t = record t { state = Error; link = Ended (Err e); channels = []; noted = failed t.noted }
 
 -- the link is lost by an error, by the delay after which the session wants another: without one, that is the end
 abbrev pub lose_by : Option ℕ → ErrorKind → Talk → Talk

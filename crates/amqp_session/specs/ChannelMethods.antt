@@ -9,23 +9,24 @@ use Rattle.amqp_frame.specs.declared.method.Method.{Method}
 use Rattle.amqp_frame.specs.declared.method.Method.TheVariants.{ChannelOpenOk, ChannelClose, ChannelCloseOk, ChannelFlow, ChannelFlowOk}
 use Rattle.amqp_outbox.specs.declared.reply.Reply.TheVariants.{ChannelOpened, ChannelClosed, FlowDone}
 use Rattle.amqp_outbox.specs.Queued.{awaited_promise, answered}
-use Rattle.amqp_session.specs.declared.state.ConnectionState.{ConnectionState}
-use Rattle.amqp_session.specs.declared.state.ConnectionState.TheVariants.{Connecting, Closing}
-use Rattle.amqp_session.specs.declared.state.ChannelState.{ChannelState}
-use Rattle.amqp_session.specs.declared.state.ChannelState.TheVariants as channel
+use Rattle.amqp_promise.specs.declared.state.ConnectionState.{ConnectionState}
+use Rattle.amqp_promise.specs.declared.state.ConnectionState.TheVariants.{Connecting, Closing}
+use Rattle.amqp_promise.specs.declared.state.ChannelState.{ChannelState}
+use Rattle.amqp_promise.specs.declared.state.ChannelState.TheVariants as channel
 use Rattle.amqp_session.specs.declared.channels.Channel.{Channel}
 use Rattle.amqp_session.specs.declared.channels.Debt.{Debt}
 use Rattle.amqp_session.specs.declared.channels.Debt.TheVariants.{Nothing, Owed}
 use Rattle.amqp_session.specs.declared.handed.Handed.{Handed}
 use Rattle.amqp_session.specs.declared.command.Answer.TheVariants.{Channel as AnswerChannel, Done, Flow}
-use Rattle.amqp_session.specs.declared.error.ErrorKind.{ErrorKind}
-use Rattle.amqp_session.specs.declared.error.ErrorKind.TheVariants.{InvalidChannel, InvalidChannelState}
+use Rattle.amqp_promise.specs.declared.error.ErrorKind.{ErrorKind}
+use Rattle.amqp_promise.specs.declared.error.ErrorKind.TheVariants.{InvalidChannel, InvalidChannelState}
 use Rattle.amqp_session.specs.Listed.{at, put, without}
 use Rattle.amqp_session.specs.Talk.{Talk}
 use Rattle.amqp_session.specs.Channels.{channel_at, set_channel}
 use Rattle.amqp_session.specs.Violations.{channel_closed_with, unawaited}
 use Rattle.amqp_session.specs.Handshake.{channel_close_ok, flow_ok}
-use Rattle.amqp_session.specs.Changes.{queue, give_to, drop_channel_of, drop_replies_of, lose, misplaced}
+use Rattle.amqp_session.specs.declared.event.Event.TheVariants.{SendFlow}
+use Rattle.amqp_session.specs.Changes.{queue, give_to, note, owe, drop_channel_of, drop_replies_of, lose, misplaced}
 
 -- the listed channel that a frame comes on: until the connection is open there is none
 abbrev pub heard_on : ConnectionState → Option Channel → Option Channel
@@ -76,11 +77,12 @@ channel_closed n c (Some promise) t =
 abbrev pub on_channel_close_ok : ℕ → Channel → Talk → Talk
 on_channel_close_ok n c t = channel_closed n c (awaited_promise n ChannelClosed t.outbox) t
 
--- flow on a listed channel: the server lets content be published on it or not, which is answered; after our close of
--- the channel it is dropped
+-- flow on a listed channel: the server lets content be published on it or not, which is answered, and told; after our
+-- close of the channel it is dropped
 abbrev pub on_channel_flow : ChannelState → ℕ → Channel → Bool → Talk → Talk
 on_channel_flow channel.Closing n c active t = t
-on_channel_flow _ n c active t = queue n (flow_ok n active) (set_channel n (record c { flow = active }) t)
+on_channel_flow _ n c active t =
+    note (SendFlow active) (queue n (flow_ok n active) (set_channel n (record c { flow = active }) t))
 
 -- flow-ok on a listed channel, by the promise of what awaits it
 abbrev pub channel_flowed : ℕ → Channel → Bool → Option (Option ℕ) → Talk → Talk
@@ -100,17 +102,18 @@ awaits_close_ok n t = is_some (awaited_promise n ChannelClosed t.outbox)
 -- goes out first
 abbrev pub closed_by_server : ℕ → ErrorKind → Channel → Talk → Talk
 closed_by_server n e c t =
-    queue n (channel_close_ok n)
-    (drop_channel_of n e (set_channel n (record c { state = channel.Closing; debt = Owed }) t))
+    owe n e
+    (queue n (channel_close_ok n)
+    (drop_channel_of n e (set_channel n (record c { state = channel.Closing; debt = Owed }) t)))
 
 -- it closes a channel that we closed: close-ok is owed too
-abbrev pub crossing_close : ℕ → Channel → Talk → Talk
-crossing_close n c t = queue n (channel_close_ok n) (set_channel n (record c { debt = Owed }) t)
+abbrev pub crossing_close : ℕ → ErrorKind → Channel → Talk → Talk
+crossing_close n e c t = owe n e (queue n (channel_close_ok n) (set_channel n (record c { debt = Owed }) t))
 
 -- the server's close of a channel, by what is owed, and by whether we closed it
 abbrev pub channel_close_by : Debt → Bool → ℕ → ErrorKind → Channel → Talk → Talk
 channel_close_by Nothing false n e c t = closed_by_server n e c t
-channel_close_by Nothing true n e c t = crossing_close n c t
+channel_close_by Nothing true n e c t = crossing_close n e c t
 channel_close_by _ awaits n e c t = t
 
 -- the server's close of a channel, which is answered once

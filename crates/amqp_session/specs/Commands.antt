@@ -1,5 +1,5 @@
 -- Commands: what a session is told to do. Each takes the next promise, but for those that let a channel or the
--- connection go; a refused one is answered at once.
+-- connection go, and that which listens; a refused one is answered at once.
 use Rattle.std.specs.Prelude.{ℕ, ◌-◌, ◌==◌, nat_lt, if◌then◌else◌, Bool, true, false, List, [], ◌∷◌, length, find, Option, Some, None, Result, Ok, Err, codes}
 use Rattle.amqp_frame.specs.declared.frame.Frame.{Frame}
 use Rattle.amqp_frame.specs.RawMethods.{OtherMethod}
@@ -8,18 +8,18 @@ use Rattle.amqp_types.specs.declared.word.Word.{Word}
 use Rattle.amqp_types.specs.declared.word.Word.TheVariants as word
 use Rattle.amqp_outbox.specs.declared.reply.Reply.TheVariants.{ChannelOpened, ChannelClosed, FlowDone, SecretDone, ConnectionClosed}
 use Rattle.amqp_outbox.specs.Items.{promised, group_of}
-use Rattle.amqp_session.specs.declared.state.ConnectionState.{ConnectionState}
-use Rattle.amqp_session.specs.declared.state.ConnectionState.TheVariants.{Connected, Closing}
-use Rattle.amqp_session.specs.declared.state.ChannelState.{ChannelState}
-use Rattle.amqp_session.specs.declared.state.ChannelState.TheVariants as channel
+use Rattle.amqp_promise.specs.declared.state.ConnectionState.{ConnectionState}
+use Rattle.amqp_promise.specs.declared.state.ConnectionState.TheVariants.{Connected, Closing}
+use Rattle.amqp_promise.specs.declared.state.ChannelState.{ChannelState}
+use Rattle.amqp_promise.specs.declared.state.ChannelState.TheVariants as channel
 use Rattle.amqp_session.specs.declared.channels.Channel.{Channel}
 use Rattle.amqp_session.specs.declared.command.ChanRef.{ChanRef}
 use Rattle.amqp_session.specs.declared.command.Cmd.{Cmd}
-use Rattle.amqp_session.specs.declared.command.Cmd.TheVariants.{OpenChannel, CloseChannel, CloseConnection, UpdateSecret, Send, Publish, Flow, DropChannel, DropConnection}
-use Rattle.amqp_session.specs.declared.error.ErrorKind.{ErrorKind}
-use Rattle.amqp_session.specs.declared.error.ErrorKind.TheVariants.{ChannelsLimitReached, InvalidChannel, InvalidChannelState, InvalidConnectionState, SerialisationError}
+use Rattle.amqp_session.specs.declared.command.Cmd.TheVariants.{OpenChannel, CloseChannel, CloseConnection, UpdateSecret, Send, Publish, Flow, DropChannel, DropConnection, Listen}
+use Rattle.amqp_promise.specs.declared.error.ErrorKind.{ErrorKind}
+use Rattle.amqp_promise.specs.declared.error.ErrorKind.TheVariants.{ChannelsLimitReached, InvalidChannel, InvalidChannelState, InvalidConnectionState, SerialisationError}
 use Rattle.amqp_session.specs.Listed.{map_values}
-use Rattle.amqp_session.specs.Talk.{Talk}
+use Rattle.amqp_session.specs.Talk.{Talk, has_ended}
 use Rattle.amqp_session.specs.Numbering.{first_number, after, drawn}
 use Rattle.amqp_session.specs.Handshake.{our_close, new_secret, channel_open, channel_flow, our_channel_close}
 use Rattle.amqp_session.specs.Negotiation.{frame_limit}
@@ -189,17 +189,22 @@ leave_connection code text answers t =
 abbrev pub close_connection : ℕ → List ℕ → Talk → Talk
 close_connection code text t = promise (leave_connection code text (Some (next_promise t)) t)
 
--- ---- what is let go, for which no promise is made
+-- ---- what takes no promise
 
 -- the channel that was found is closed with 200 `OK`; where none was, nothing happens
 abbrev pub drop_target : Result Channel ErrorKind → ℕ → Talk → Talk
 drop_target (Err e) n t = t
 drop_target (Ok c) n t = leave_channel n 200 (codes "OK") c None t
 
--- a command takes a promise, but for one that lets a channel or the connection go
+-- events are kept from now on, until the session ends
+abbrev pub listen : Talk → Talk
+listen t = record t { noted = record t.noted { listens = if has_ended t then t.noted.listens else true } }
+
+-- a command takes a promise, but for one that lets a channel or the connection go, and one that listens
 abbrev pub takes_promise : Cmd → Bool
 takes_promise (DropChannel r) = false
 takes_promise DropConnection = false
+takes_promise Listen = false
 takes_promise _ = true
 
 -- the number of the promise that a command takes
@@ -220,8 +225,10 @@ command_rule Connected (Publish r method properties body) t =
 command_rule Connected (Flow r active) t = flow_target (target r word.ChannelFlow t) r.id active t
 command_rule Connected (DropChannel r) t = drop_target (target r word.ChannelClose t) r.id t
 command_rule Connected DropConnection t = leave_connection 200 (codes "OK") None t
+command_rule Connected Listen t = listen t
 command_rule held (DropChannel r) t = t
 command_rule held DropConnection t = t
+command_rule held Listen t = listen t
 command_rule held cmd t = refuse (InvalidConnectionState held) t
 
 -- a command is told

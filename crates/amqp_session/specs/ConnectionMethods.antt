@@ -5,23 +5,25 @@ use Rattle.amqp_frame.specs.declared.method.Method.TheVariants.{Start, Secure, T
 use Rattle.amqp_outbox.specs.declared.reply.Reply.TheVariants.{ChannelOpened, SecretDone, ConnectionClosed}
 use Rattle.amqp_outbox.specs.Items.{plain}
 use Rattle.amqp_outbox.specs.Queued.{only, awaited_promise, answered}
-use Rattle.amqp_session.specs.declared.state.ConnectionState.{ConnectionState}
-use Rattle.amqp_session.specs.declared.state.ConnectionState.TheVariants.{Connecting, Connected, Closing}
+use Rattle.amqp_promise.specs.declared.state.ConnectionState.{ConnectionState}
+use Rattle.amqp_promise.specs.declared.state.ConnectionState.TheVariants.{Connecting, Connected, Closing}
 use Rattle.amqp_session.specs.declared.state.Phase.{Phase}
 use Rattle.amqp_session.specs.declared.state.Phase.TheVariants.{AwaitStart, AwaitTune, AwaitOpenOk}
 use Rattle.amqp_session.specs.declared.state.Input.TheVariants as input
 use Rattle.amqp_session.specs.declared.configuration.Configuration.{Configuration}
 use Rattle.amqp_session.specs.declared.channels.Channel.{Channel}
 use Rattle.amqp_session.specs.declared.command.Answer.TheVariants.{Connected as AnswerConnected, Done}
-use Rattle.amqp_session.specs.declared.error.ErrorKind.TheVariants.{InvalidConnectionState, AuthProviderError}
+use Rattle.amqp_promise.specs.declared.error.ErrorKind.TheVariants.{InvalidConnectionState, AuthProviderError}
 use Rattle.amqp_session.specs.declared.auth.asked.Asked.{Asked}
 use Rattle.amqp_session.specs.declared.auth.asked.Asked.TheVariants as answer
+use Rattle.amqp_promise.specs.Shown.{shown}
+use Rattle.amqp_session.specs.declared.event.Event.TheVariants as event
 use Rattle.amqp_session.specs.Talk.{Talk, is_closing}
 use Rattle.amqp_session.specs.Negotiation.{tune, grown_capacity}
 use Rattle.amqp_session.specs.Handshake.{start_ok, secure_ok, tune_ok, open_vhost, close_ok, channel_open}
 use Rattle.amqp_session.specs.Violations.{closed_with}
 use Rattle.amqp_session.specs.ChannelMethods.{remove_channel}
-use Rattle.amqp_session.specs.Changes.{queue, await, give, give_to, close, lose}
+use Rattle.amqp_session.specs.Changes.{queue, await, give, give_to, note, close, lose}
 
 -- any other method, and one of these out of its state, is fatal
 abbrev pub unexpected_connection_method : ConnectionState → Talk → Talk
@@ -60,11 +62,11 @@ on_tune server t =
       phase = AwaitOpenOk;
     }
 
--- the connection is open, its promise is answered, more can be unsent, where longer frames were agreed, from now on the
--- secret is valid, and all delays are left again
+-- the connection is open, which is told, its promise is answered, more can be unsent, where longer frames were agreed,
+-- from now on the secret is valid, and all delays are left again
 abbrev pub connected : Talk → Talk
 connected t =
-    record (give 0 (Ok AnswerConnected) t) {
+    record (note event.Connected (give 0 (Ok AnswerConnected) t)) {
       state = Connected;
       capacity = grown_capacity t;
       secret_at = t.present;
@@ -89,13 +91,13 @@ on_open_ok t = reopen_each t.channels (connected t)
 
 -- ---- blocking (an extension of RabbitMQ)
 
--- blocked: nothing more is written
-abbrev pub on_blocked : Talk → Talk
-on_blocked t = record t { blocked = true }
+-- blocked: nothing more is written, and the reason is told
+abbrev pub on_blocked : List ℕ → Talk → Talk
+on_blocked reason t = note (event.ConnectionBlocked (shown reason)) (record t { blocked = true })
 
--- unblocked: writing goes on
+-- unblocked: writing goes on, which is told
 abbrev pub on_unblocked : Talk → Talk
-on_unblocked t = record t { blocked = false }
+on_unblocked t = note event.ConnectionUnblocked (record t { blocked = false })
 
 -- ---- a new secret (an extension of RabbitMQ)
 
@@ -139,7 +141,7 @@ on_connection_close_ok t = connection_closed (awaited_promise 0 ConnectionClosed
 -- a method of the connection class, by the state and by what the handshake awaits, with what the provider answers
 abbrev pub connection_rule : ConnectionState → Phase → Method → List Asked → Talk → Talk
 connection_rule state phase (Close code text class method) answers t = on_connection_close code text t
-connection_rule state phase (Blocked reason) answers t = on_blocked t
+connection_rule state phase (Blocked reason) answers t = on_blocked reason t
 connection_rule state phase Unblocked answers t = on_unblocked t
 connection_rule Closing phase CloseOk answers t = on_connection_close_ok t
 -- what else comes after our close is dropped

@@ -10,7 +10,7 @@ use Rattle.amqp_session.specs.declared.auth.asked.Question.{Question}
 use Rattle.amqp_session.specs.declared.auth.asked.Question.TheVariants as question
 use Rattle.amqp_session.specs.declared.auth.asked.Asked.{Asked}
 use Rattle.amqp_session.specs.declared.auth.asked.Asked.TheVariants as answer
-use Rattle.amqp_session.specs.Shown.{shown}
+use Rattle.amqp_promise.specs.Shown.{shown}
 use Rattle.amqp_session.specs.Providers.{Exchange}
 
 -- what contracts see of a `DefaultAuthProvider`

@@ -6,9 +6,9 @@ use Rattle.amqp_frame.specs.declared.frame.Frame.TheVariants.{ProtocolHeader, Me
 use Rattle.amqp_frame.specs.declared.frame.RawKind.TheVariants.{RawMethod}
 use Rattle.amqp_frame.specs.declared.method.Method.{Method as AnyMethod}
 use Rattle.amqp_frame.specs.declared.method.Method.TheVariants.{Start, Secure, Blocked, Unblocked, ChannelOpen, ChannelOpenOk, ChannelFlow, ChannelFlowOk, ChannelClose, ChannelCloseOk}
-use Rattle.amqp_session.specs.declared.error.ErrorKind.TheVariants.{InvalidProtocolVersion}
-use Rattle.amqp_session.specs.declared.state.ConnectionState.{ConnectionState}
-use Rattle.amqp_session.specs.declared.state.ConnectionState.TheVariants.{Connecting}
+use Rattle.amqp_promise.specs.declared.error.ErrorKind.TheVariants.{InvalidProtocolVersion}
+use Rattle.amqp_promise.specs.declared.state.ConnectionState.{ConnectionState}
+use Rattle.amqp_promise.specs.declared.state.ConnectionState.TheVariants.{Connecting}
 use Rattle.amqp_session.specs.declared.state.Phase.{Phase}
 use Rattle.amqp_session.specs.declared.state.Phase.TheVariants.{AwaitStart, AwaitTune}
 use Rattle.amqp_session.specs.declared.auth.asked.Question.{Question}
@@ -67,7 +67,7 @@ frame_rule (Raw (suc n) kind bytes) answers t = raw_frame (suc n) kind bytes t
 
 -- the rule for a frame after the server's close: only blocked and unblocked act
 abbrev pub closed_rule : Frame → Talk → Talk
-closed_rule (Method zero (Blocked reason)) t = on_blocked t
+closed_rule (Method zero (Blocked reason)) t = on_blocked reason t
 closed_rule (Method zero Unblocked) t = on_unblocked t
 closed_rule f t = t
 

@@ -2,15 +2,15 @@
 use Rattle.std.specs.Prelude.{◌≡◌, ℕ, if◌then◌else◌, Bool, true, false, IsTrue, List, Some, Err}
 use Rattle.amqp_frame.specs.declared.frame.Frame.{Frame}
 use Rattle.amqp_session.specs.declared.command.Cmd.{Cmd}
-use Rattle.amqp_session.specs.declared.error.ErrorKind.{ErrorKind}
-use Rattle.amqp_session.specs.declared.error.ErrorKind.TheVariants.{ChannelsLimitReached, InvalidConnectionState}
-use Rattle.amqp_session.specs.declared.state.ConnectionState.{ConnectionState}
-use Rattle.amqp_session.specs.declared.state.ConnectionState.TheVariants.{Closed, Error}
+use Rattle.amqp_promise.specs.declared.error.ErrorKind.{ErrorKind}
+use Rattle.amqp_promise.specs.declared.error.ErrorKind.TheVariants.{ChannelsLimitReached, InvalidConnectionState}
+use Rattle.amqp_promise.specs.declared.state.ConnectionState.{ConnectionState}
+use Rattle.amqp_promise.specs.declared.state.ConnectionState.TheVariants.{Closed, Error}
 use Rattle.amqp_session.specs.Listed.{at}
 use Rattle.amqp_session.specs.Talk.{Talk, has_ended}
 use Rattle.amqp_session.specs.declared.auth.asked.Asked.{Asked}
 use Rattle.amqp_session.specs.declared.misread.Misread.{Misread}
-use Rattle.amqp_session.specs.declared.io_fault.IoFault.{IoFault}
+use Rattle.amqp_promise.specs.declared.io_fault.IoFault.{IoFault}
 use Rattle.amqp_session.specs.Changes as change
 use Rattle.amqp_session.specs.Changes.{next_promise, refuse}
 use Rattle.amqp_session.specs.Links as link
@@ -18,7 +18,7 @@ use Rattle.amqp_session.specs.Frames.{on_frame}
 use Rattle.amqp_session.specs.Ticks as ticks
 use Rattle.amqp_session.specs.Commands as told
 use Rattle.amqp_session.specs.Writing as writing
-use Rattle.amqp_session.specs.Answers.{take_answer, take_frames}
+use Rattle.amqp_session.specs.Answers.{take_answer, take_event, take_frames}
 use Rattle.amqp_session.specs.Sound.{IsSound}
 
 -- the states in which a session ends
@@ -31,8 +31,8 @@ is_end _ = false
 abbrev pub IsEnded : Talk → Type 0
 IsEnded t = IsTrue (has_ended t) × IsTrue (is_end t.state)
 
--- nothing changes the state, but that commands which take a promise are counted, each refused, and that answers and
--- frames are taken
+-- nothing changes the state, but that commands which take a promise are counted, each refused, and that answers, events
+-- and frames are taken
 pub record IsOver (t : Talk) : Type 0 where
   pub moment : (at : ℕ) → change.present_at at t ≡ t
   pub asked : link.asked t ≡ t
@@ -49,6 +49,7 @@ pub record IsOver (t : Talk) : Type 0 where
   pub command : (cmd : Cmd) →
       told.command cmd t ≡ (if told.takes_promise cmd then refuse (InvalidConnectionState t.state) t else t)
   pub answer : (number : ℕ) → take_answer number t ≡ record t { promises = (take_answer number t).promises }
+  pub event : take_event t ≡ record t { noted = (take_event t).noted }
   pub frames : (opened : ℕ) → take_frames opened t ≡ record t { handed = (take_frames opened t).handed }
 
 -- the promises alone change: one more is made, which is answered with this error
@@ -81,4 +82,5 @@ pub record StaysSound (t : Talk) : Type 0 where
   pub starve : IsSound (change.starve t)
   pub command : (cmd : Cmd) → IsSound (told.command cmd t)
   pub answer : (number : ℕ) → IsSound (take_answer number t)
+  pub event : IsSound (take_event t)
   pub frames : (opened : ℕ) → IsSound (take_frames opened t)

@@ -2,13 +2,12 @@
 pub mod Config
 pub mod Capacities
 pub mod Listed
+pub mod Events
 pub mod Talk
 -- What is agreed, and what the client says to open and close.
 pub mod Negotiation
 pub mod Handshake
--- What goes wrong, and its texts.
-pub mod Shown
-pub mod Errors
+-- What goes wrong.
 pub mod Violations
 -- Who logs in a client, and what is answered to a server's questions.
 pub mod Counts

@@ -1,9 +1,9 @@
 -- Memory: for which changes by what is read it is taken.
 use Rattle.std.specs.Prelude.{◌≡◌, ◌≢◌, ℕ, Bool, true, false, IsTrue, IsFalse, Option, Some, None, Result, Err}
-use Rattle.amqp_session.specs.declared.error.ErrorKind.{ErrorKind}
-use Rattle.amqp_session.specs.declared.error.ErrorKind.TheVariants.{ProtocolError}
+use Rattle.amqp_promise.specs.declared.error.ErrorKind.{ErrorKind}
+use Rattle.amqp_promise.specs.declared.error.ErrorKind.TheVariants.{ProtocolError}
 use Rattle.amqp_session.specs.declared.channels.Channel.{Channel}
-use Rattle.amqp_session.specs.declared.state.ConnectionState.TheVariants.{Reconnecting}
+use Rattle.amqp_promise.specs.declared.state.ConnectionState.TheVariants.{Reconnecting}
 use Rattle.amqp_session.specs.Channels.{channel_at, is_owed}
 use Rattle.amqp_session.specs.Talk.{Talk, is_acting, is_open, end_of}
 
@@ -27,7 +27,7 @@ abbrev pub owes : ℕ → Talk → Bool
 owes n t = owes_on (channel_at n t)
 
 -- what is read makes nothing for which memory is taken: no frame that will be said, no frame that is handed out, no
--- text of an error by which a session ends, and no loss from which it recovers
+-- event, no text of an error by which a session ends, and no loss from which it recovers
 pub record MakesNothing (before after : Talk) : Type 0 where
   -- the same frames wait to be said
   pub control : after.outbox.control ≡ before.outbox.control
@@ -35,6 +35,8 @@ pub record MakesNothing (before after : Talk) : Type 0 where
   pub owed : (n : ℕ) → IsTrue (owes n after) → IsTrue (owes n before)
   -- the same frames are handed out
   pub handed : after.handed ≡ before.handed
+  -- the same events are kept
+  pub events : after.noted.events ≡ before.noted.events
   -- the server did not close, whose error is kept, and which is answered
   pub input : is_acting after.input ≡ is_acting before.input
   -- the link was not lost by an error from which the session recovers

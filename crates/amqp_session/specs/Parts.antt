@@ -1,10 +1,10 @@
 -- Parts of the state and of the rules, as the code takes them.
-use Rattle.std.specs.Prelude.{◌≡◌, ℕ, zero, ◌-◌, ◌&&◌, nat_le, if◌then◌else◌, Bool, true, false, List, [], ◌∷◌, Option, Some, None, option_map, is_some, IsSome, Result, Ok, Err, IsTrue}
+use Rattle.std.specs.Prelude.{◌≡◌, ℕ, zero, ◌-◌, ◌+◌, ◌≤◌, length, ◌&&◌, nat_le, if◌then◌else◌, Bool, true, false, List, [], ◌∷◌, Option, Some, None, option_map, is_some, IsSome, Result, Ok, Err, IsTrue}
 use Rattle.amqp_frame.specs.declared.frame.Frame.{Frame}
 use Rattle.amqp_frame.specs.declared.frame.Frame.TheVariants.{Method}
 use Rattle.amqp_frame.specs.declared.method.Method.TheVariants.{OpenOk}
-use Rattle.amqp_session.specs.declared.state.ConnectionState.{ConnectionState}
-use Rattle.amqp_session.specs.declared.state.ConnectionState.TheVariants.{Connecting}
+use Rattle.amqp_promise.specs.declared.state.ConnectionState.{ConnectionState}
+use Rattle.amqp_promise.specs.declared.state.ConnectionState.TheVariants.{Connecting}
 use Rattle.amqp_session.specs.declared.state.Phase.{Phase}
 use Rattle.amqp_session.specs.declared.state.Phase.TheVariants.{AwaitOpenOk}
 use Rattle.amqp_session.specs.declared.state.Link.{Link}
@@ -15,13 +15,16 @@ use Rattle.amqp_session.specs.declared.promises.Slot.{Slot}
 use Rattle.amqp_session.specs.declared.promises.Slot.TheVariants.{Place, Waiting, Answered, Shared}
 use Rattle.amqp_session.specs.declared.promises.Promises.{Promises}
 use Rattle.amqp_session.specs.declared.promises.Why.{Why}
+use Rattle.amqp_session.specs.declared.events.Events.{Events}
+use Rattle.std.specs.VecDeque.{deque_capacity}
+use Rattle.amqp_session.specs.Events.{Noted}
 use Rattle.amqp_session.specs.declared.shared_errors.SharedError.{SharedError}
 use Rattle.amqp_session.specs.declared.command.Answer.{Answer}
 use Rattle.amqp_session.specs.declared.server_close.ServerClose.{ServerClose}
 use Rattle.amqp_session.specs.declared.server_close.ServerClose.TheVariants.{WithError}
 use Rattle.amqp_session.specs.declared.committed.Mark.{Mark}
-use Rattle.amqp_session.specs.declared.error.ErrorKind.{ErrorKind}
-use Rattle.amqp_session.specs.declared.error.ErrorKind.TheVariants.{ProtocolError}
+use Rattle.amqp_promise.specs.declared.error.ErrorKind.{ErrorKind}
+use Rattle.amqp_promise.specs.declared.error.ErrorKind.TheVariants.{ProtocolError}
 use Rattle.amqp_session.specs.declared.auth.asked.Asked.{Asked as ProviderAnswer}
 use Rattle.amqp_session.specs.declared.auth.asked.Asked.TheVariants as answer
 use Rattle.amqp_session.specs.declared.session.asking.Login.{Login}
@@ -51,6 +54,14 @@ promised promises = seen (slot_seen promises.errors.errors.entries) promises.slo
 -- there is a place for one more promise, and for the error that it shares
 abbrev pub HasPlace : Promises → Type 0
 HasPlace promises = IsSome (at promises.made promises.slots.entries) × IsSome promises.loss
+
+-- the events of a session but that of its end, as they are kept
+abbrev pub noted_in : Events → Noted
+noted_in e = record { listens = e.listens; events = e.events.items; tells_end = e.tells_end; owed = e.owed.entries }
+
+-- where events are kept, there is a place for one more
+abbrev pub HasEventPlace : Events → Type 0
+HasEventPlace e = IsTrue e.listens → length e.owed.entries + (length e.events.items + 1) ≤ deque_capacity e.events
 
 -- the error that is given for a reason, where it is kept
 abbrev pub error_of : Why → Promises → Option ErrorKind

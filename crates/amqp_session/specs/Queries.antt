@@ -1,9 +1,9 @@
 -- What is told of a channel.
 use Rattle.std.specs.Prelude.{ℕ, Bool, false, Option, Some, None, option_map, unwrap_or}
-use Rattle.amqp_session.specs.declared.state.ConnectionState.{ConnectionState}
-use Rattle.amqp_session.specs.declared.state.ConnectionState.TheVariants.{Error}
-use Rattle.amqp_session.specs.declared.state.ChannelState.{ChannelState}
-use Rattle.amqp_session.specs.declared.state.ChannelState.TheVariants as channel
+use Rattle.amqp_promise.specs.declared.state.ConnectionState.{ConnectionState}
+use Rattle.amqp_promise.specs.declared.state.ConnectionState.TheVariants.{Error}
+use Rattle.amqp_promise.specs.declared.state.ChannelState.{ChannelState}
+use Rattle.amqp_promise.specs.declared.state.ChannelState.TheVariants as channel
 use Rattle.amqp_session.specs.declared.channels.Channel.{Channel}
 use Rattle.amqp_session.specs.declared.command.ChanRef.{ChanRef}
 use Rattle.amqp_session.specs.Talk.{Talk}

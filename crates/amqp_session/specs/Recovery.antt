@@ -1,20 +1,21 @@
 -- Recovery: when a session whose link is lost goes on, how long it waits for another, and what it keeps.
-use Rattle.std.specs.Prelude.{ℕ, zero, suc, ◌+◌, ◌-◌, ◌^◌, min, not, ◌&&◌, if◌then◌else◌, Bool, true, false, List, [], filter, map, Option, Some, None, Result, Err, slice_get}
+use Rattle.std.specs.Prelude.{ℕ, suc, ◌+◌, ◌-◌, ◌^◌, min, not, ◌&&◌, if◌then◌else◌, Bool, true, false, List, [], filter, map, Option, Some, None, Result, Err, slice_get}
 use Rattle.amqp_outbox.specs.Queued.{nothing}
-use Rattle.amqp_session.specs.declared.state.ConnectionState.{ConnectionState}
-use Rattle.amqp_session.specs.declared.state.ConnectionState.TheVariants.{Connecting, Connected, Closing, Reconnecting}
-use Rattle.amqp_session.specs.declared.state.ChannelState.{ChannelState}
-use Rattle.amqp_session.specs.declared.state.ChannelState.TheVariants as channel
+use Rattle.amqp_promise.specs.declared.state.ConnectionState.{ConnectionState}
+use Rattle.amqp_promise.specs.declared.state.ConnectionState.TheVariants.{Connecting, Connected, Closing, Reconnecting}
+use Rattle.amqp_promise.specs.declared.state.ChannelState.{ChannelState}
+use Rattle.amqp_promise.specs.declared.state.ChannelState.TheVariants as channel
 use Rattle.amqp_session.specs.declared.state.Link.TheVariants.{Due}
 use Rattle.amqp_session.specs.declared.state.Input.{Input}
 use Rattle.amqp_session.specs.declared.state.Input.TheVariants.{Acting, Closed, Dropped}
 use Rattle.amqp_session.specs.declared.channels.Channel.{Channel}
 use Rattle.amqp_session.specs.declared.command.Answer.{Answer}
-use Rattle.amqp_session.specs.declared.error.ErrorKind.{ErrorKind}
-use Rattle.amqp_session.specs.declared.error.ErrorKind.TheVariants.{InvalidChannel, InvalidChannelState, InvalidConnectionState, IOError, ProtocolError, MissingHeartbeatError}
+use Rattle.amqp_promise.specs.declared.error.ErrorKind.{ErrorKind}
+use Rattle.amqp_promise.specs.Kinds.{can_be_recovered}
 use Rattle.amqp_session.specs.Listed.{map_values}
 use Rattle.amqp_session.specs.Talk.{Talk, is_open}
 use Rattle.amqp_session.specs.Channels.{new_channel}
+use Rattle.amqp_session.specs.Events.{forgotten}
 
 -- ---- delays
 
@@ -27,16 +28,6 @@ abbrev pub delayed : ℕ → Talk → Talk
 delayed delay t = record t { link = Due (min (t.present + delay) (2 ^ 64 - 1)); tried = t.tried + 1 }
 
 -- ---- when the session goes on
-
--- errors after which another link may serve
-abbrev pub can_be_recovered : ErrorKind → Bool
-can_be_recovered (InvalidChannel n) = true
-can_be_recovered (InvalidChannelState held word) = true
-can_be_recovered (InvalidConnectionState held) = true
-can_be_recovered (IOError fault) = true
-can_be_recovered (ProtocolError e) = true
-can_be_recovered MissingHeartbeatError = true
-can_be_recovered _ = false
 
 -- the server closed, and we had not closed before
 abbrev pub is_uncrossed : Input → Bool
@@ -101,4 +92,5 @@ reconnect e delay t =
       channels = kept t.channels;
       promises = rejected_all e t.promises;
       server_close = None;
+      noted = forgotten t.noted;
     }

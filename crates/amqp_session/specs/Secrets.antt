@@ -4,9 +4,9 @@ use Rattle.amqp_frame.specs.declared.frame.Frame.{Frame}
 use Rattle.amqp_frame.specs.declared.frame.Frame.TheVariants.{Method}
 use Rattle.amqp_frame.specs.declared.method.Method.TheVariants.{OpenOk, UpdateSecretOk}
 use Rattle.amqp_session.specs.declared.command.Cmd.{Cmd}
-use Rattle.amqp_session.specs.declared.io_fault.IoFault.{IoFault}
+use Rattle.amqp_promise.specs.declared.io_fault.IoFault.{IoFault}
 use Rattle.amqp_session.specs.declared.misread.Misread.{Misread}
-use Rattle.amqp_session.specs.declared.state.ConnectionState.TheVariants.{Connected}
+use Rattle.amqp_promise.specs.declared.state.ConnectionState.TheVariants.{Connected}
 use Rattle.amqp_session.specs.declared.auth.asked.Asked.{Asked}
 use Rattle.amqp_session.specs.declared.auth.asked.Asked.TheVariants as answer
 use Rattle.amqp_outbox.specs.declared.reply.Reply.TheVariants.{SecretDone}
@@ -19,7 +19,7 @@ use Rattle.amqp_session.specs.Frames.{on_frame}
 use Rattle.amqp_session.specs.Ticks.{is_connected, tick}
 use Rattle.amqp_session.specs.Commands.{command}
 use Rattle.amqp_session.specs.Writing as writing
-use Rattle.amqp_session.specs.Answers.{take_answer, take_frames}
+use Rattle.amqp_session.specs.Answers.{take_answer, take_event, take_frames}
 
 -- the secret has expired: the connection is open, no refresh awaits its reply, and since the moment from which the
 -- secret is valid as much time has gone by as the provider says that it is valid
@@ -75,4 +75,5 @@ pub record KeepsSecret (t : Talk) : Type 0 where
   pub starve : IsSameSecret t (change.starve t)
   pub command : (cmd : Cmd) → IsSameSecret t (command cmd t)
   pub answer : (number : ℕ) → IsSameSecret t (take_answer number t)
+  pub event : IsSameSecret t (take_event t)
   pub frames : (opened : ℕ) → IsSameSecret t (take_frames opened t)

@@ -4,7 +4,7 @@ use Rattle.std.specs.Prelude.{◌≡◌, ℕ, zero, suc, ◌≤◌, ◌==◌, no
 use Rattle.std.specs.Option.{is_none}
 use Rattle.std.specs.List.{sum_by}
 use Rattle.std.specs.Map.{values_of}
-use Rattle.amqp_session.specs.declared.error.ErrorKind.{ErrorKind}
+use Rattle.amqp_promise.specs.declared.error.ErrorKind.{ErrorKind}
 use Rattle.amqp_session.specs.declared.shared_errors.SharedError.{SharedError}
 use Rattle.amqp_session.specs.declared.promises.Slot.{Slot}
 use Rattle.amqp_session.specs.declared.promises.Slot.TheVariants.{Waiting, Shared}

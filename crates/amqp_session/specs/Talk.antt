@@ -1,8 +1,8 @@
 -- The plain state of a session, in enums, numbers, lists and finite maps.
 use Rattle.std.specs.Prelude.{ℕ, Bool, false, true, ◌&&◌, List, [], ◌∷◌, Option, Some, None, Result, is_some}
 use Rattle.amqp_outbox.specs.Queued.{Queued, nothing}
-use Rattle.amqp_session.specs.declared.state.ConnectionState.{ConnectionState}
-use Rattle.amqp_session.specs.declared.state.ConnectionState.TheVariants.{Initial, Closing}
+use Rattle.amqp_promise.specs.declared.state.ConnectionState.{ConnectionState}
+use Rattle.amqp_promise.specs.declared.state.ConnectionState.TheVariants.{Initial, Closing}
 use Rattle.amqp_session.specs.declared.state.Phase.{Phase}
 use Rattle.amqp_session.specs.declared.state.Phase.TheVariants.{AwaitStart}
 use Rattle.amqp_session.specs.declared.state.Link.{Link}
@@ -15,9 +15,10 @@ use Rattle.amqp_session.specs.declared.committed.Mark.{Mark}
 use Rattle.amqp_session.specs.declared.handed.Handed.{Handed}
 use Rattle.amqp_session.specs.declared.command.Answer.{Answer}
 use Rattle.amqp_session.specs.declared.server_close.ServerClose.{ServerClose}
-use Rattle.amqp_session.specs.declared.error.ErrorKind.{ErrorKind}
+use Rattle.amqp_promise.specs.declared.error.ErrorKind.{ErrorKind}
 use Rattle.amqp_session.specs.Capacities.{capacity_for}
 use Rattle.amqp_session.specs.Config.{Config, own_numbers}
+use Rattle.amqp_session.specs.Events.{Noted, unheard}
 
 -- the state of a session
 pub record Talk : Type 0 where
@@ -52,6 +53,8 @@ pub record Talk : Type 0 where
   pub promises : List (ℕ × Option (Result Answer ErrorKind))
   -- how the server closed the connection on the link, once it did
   pub server_close : Option ServerClose
+  -- what is kept for those who listen
+  pub noted : Noted
   -- the moments of the last happening, of the last reading and of the last writing, in milliseconds
   pub present : ℕ
   pub last_read : ℕ
@@ -83,6 +86,7 @@ start config =
       made = 1;
       promises = (0, None) ∷ [];
       server_close = None;
+      noted = unheard;
       present = 0;
       last_read = 0;
       last_write = 0;

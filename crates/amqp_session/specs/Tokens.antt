@@ -11,7 +11,7 @@ use Rattle.amqp_session.specs.declared.auth.asked.Asked.{Asked}
 use Rattle.amqp_session.specs.declared.auth.asked.Asked.TheVariants as answer
 use Rattle.amqp_session.specs.declared.auth.asked.Refusal.{Refusal}
 use Rattle.amqp_session.specs.declared.auth.asked.Refusal.TheVariants.{Said, NoMemory}
-use Rattle.amqp_session.specs.Shown.{shown}
+use Rattle.amqp_promise.specs.Shown.{shown}
 use Rattle.amqp_session.specs.Providers.{Exchange}
 
 -- ---- a provider of tokens

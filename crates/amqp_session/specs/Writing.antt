@@ -16,8 +16,8 @@ use Rattle.amqp_session.specs.declared.channels.Channel.{Channel}
 use Rattle.amqp_session.specs.declared.channels.Debt.TheVariants.{Paid}
 use Rattle.amqp_session.specs.Channels.{all_flow, channel_at, set_channel}
 use Rattle.amqp_session.specs.ChannelMethods.{awaits_close_ok, remove_channel}
-use Rattle.amqp_session.specs.declared.error.ErrorKind.TheVariants.{SerialisationError}
-use Rattle.amqp_session.specs.Changes.{give, lose, finish}
+use Rattle.amqp_promise.specs.declared.error.ErrorKind.TheVariants.{SerialisationError}
+use Rattle.amqp_session.specs.Changes.{give, tell_owed, lose, finish}
 
 -- how many frames wait to be committed
 abbrev pub frames_waiting : Talk → ℕ
@@ -116,10 +116,10 @@ abbrev pub paid_by : Bool → ℕ → Channel → Talk → Talk
 paid_by true n c t = set_channel n (record c { debt = Paid }) t
 paid_by false n c t = remove_channel n t
 
--- our close-ok was sent on a channel, where it is listed
+-- our close-ok was sent on a channel, where it is listed: the error of the server's close is told
 abbrev pub pay : Option Channel → ℕ → Talk → Talk
 pay None n t = t
-pay (Some c) n t = paid_by (awaits_close_ok n t) n c t
+pay (Some c) n t = paid_by (awaits_close_ok n t) n c (tell_owed n t)
 
 -- our answer to the server's close of a channel was sent
 abbrev pub channel_close_ok_sent : ℕ → Talk → Talk

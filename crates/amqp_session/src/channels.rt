@@ -10,10 +10,9 @@ ghost use Rattle.amqp_session.specs.Openings.{opener};
 ghost use Rattle.amqp_session.specs.Recovery.{is_kept_in, reconnecting, kept};
 ghost use Rattle.amqp_session.specs.Reopening.{listed_after, agreed, numbers_after};
 
-use crate::error::{self, ErrorKind};
 use crate::id_sequence::IdSequence;
 use crate::numbers::Numbers;
-use crate::state::ChannelState;
+use amqp_promise::{ChannelState, ErrorKind};
 use amqp_types::{ChannelId, NoMemory};
 use std::alloc::Global;
 use std::collections::BTreeMap;
@@ -150,7 +149,7 @@ impl Channels {
     /// Lists a new channel and gives its number: in the cycle from 1 to `max`, the first from the cursor on that is not
     /// listed. The cursor is then the number after it. Where all of them are listed, the answer is
     /// `ChannelsLimitReached`, and the cursor goes on by one; where memory is refused, all is as before.
-    pub fn create(&mut self, max: ChannelId) -> error::Result<ChannelId>
+    pub fn create(&mut self, max: ChannelId) -> amqp_promise::Result<ChannelId>
         requires { 1 ≤ max }
         ensures number { IfOk result (λ id. next_free max self.old ≡ Some id) }
         ensures created { IfOk result (λ id. self.new ≡ create_as max id self.old) }

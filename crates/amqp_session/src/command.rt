@@ -37,6 +37,8 @@ pub enum Cmd {
     DropChannel(ChanRef),
     /// Lets the connection go: where it is open it is closed, with 200 and `OK`. It takes no promise.
     DropConnection,
+    /// Keeps events from now on. It takes no promise.
+    Listen,
 }
 
 impl fmt::Debug for Cmd {
@@ -75,6 +77,7 @@ impl fmt::Debug for Cmd {
                 .finish(),
             Cmd::DropChannel(channel) => f.debug_tuple("DropChannel").field(channel).finish(),
             Cmd::DropConnection => f.write_str("DropConnection"),
+            Cmd::Listen => f.write_str("Listen"),
         }
     }
 }
@@ -100,6 +103,7 @@ impl Cmd {
             Cmd::Flow(channel, active) => Ok(Cmd::Flow(*channel, *active)),
             Cmd::DropChannel(channel) => Ok(Cmd::DropChannel(*channel)),
             Cmd::DropConnection => Ok(Cmd::DropConnection),
+            Cmd::Listen => Ok(Cmd::Listen),
             Cmd::Publish(channel, method, properties, body) => {
                 let method = method.try_clone(alloc)?;
                 let properties = properties.try_clone(alloc)?;

@@ -1,24 +1,25 @@
 //! What the rules keep.
 
-ghost use Rattle.std.specs.Prelude.{◌≡◌, ◌≢◌, ◌≤◌, ◌↔◌, ℕ, ◌+◌, true, List, length, Result, Some, None, Err, IsTrue, IsFalse, Contains};
+ghost use Rattle.std.specs.Prelude.{◌≡◌, ◌≢◌, ◌≤◌, ◌↔◌, ℕ, ◌+◌, ◌++◌, ◌∷◌, [], true, List, length, Result, Some, None, Err, IsTrue, IsFalse, Contains};
 ghost use Rattle.amqp_frame.specs.declared.frame.Frame.{Frame};
 ghost use Rattle.amqp_frame.specs.Frames.{encoding};
 ghost use Rattle.amqp_outbox.specs.declared.item.Item.{Item};
 ghost use Rattle.amqp_session.specs.declared.command.Cmd.{Cmd};
+ghost use Rattle.amqp_session.specs.declared.command.Cmd.TheVariants.{Listen};
 ghost use Rattle.amqp_session.specs.declared.configuration.Configuration.{Configuration};
-ghost use Rattle.amqp_session.specs.declared.error.ErrorKind.{ErrorKind};
-ghost use Rattle.amqp_session.specs.declared.error.ErrorKind.TheVariants.{InvalidConnectionState, IOError, MissingHeartbeatError};
+ghost use Rattle.amqp_promise.specs.declared.error.ErrorKind.{ErrorKind};
+ghost use Rattle.amqp_promise.specs.declared.error.ErrorKind.TheVariants.{InvalidConnectionState, IOError, MissingHeartbeatError};
 ghost use Rattle.amqp_session.specs.declared.command.Answer.{Answer};
-ghost use Rattle.amqp_session.specs.declared.io_fault.IoFault.{IoFault};
+ghost use Rattle.amqp_promise.specs.declared.io_fault.IoFault.{IoFault};
 ghost use Rattle.amqp_session.specs.declared.misread.Misread.{Misread};
-ghost use Rattle.amqp_session.specs.declared.state.ConnectionState.TheVariants.{Connected, Reconnecting};
+ghost use Rattle.amqp_promise.specs.declared.state.ConnectionState.TheVariants.{Connected, Reconnecting};
 ghost use Rattle.amqp_session.specs.declared.auth.asked.Question.TheVariants.{Refresh};
 ghost use Rattle.amqp_session.specs.declared.auth.asked.Asked.{Asked};
 ghost use Rattle.amqp_session.specs.Config.{Config};
 ghost use Rattle.amqp_session.specs.Talk.{Talk, start, acts, has_ended, is_open, end_of};
 ghost use Rattle.amqp_session.specs.Negotiation.{tune};
 ghost use Rattle.amqp_session.specs.Recovery.{recovery_delay};
-ghost use Rattle.amqp_session.specs.Changes.{lose};
+ghost use Rattle.amqp_session.specs.Changes.{fail, lose, note};
 ghost use Rattle.amqp_session.specs.Frames.{on_frame};
 ghost use Rattle.amqp_session.specs.Commands.{command, takes_promise};
 ghost use Rattle.amqp_session.specs.Listed.{at};
@@ -27,7 +28,9 @@ ghost use Rattle.amqp_session.specs.Violations.{misread_error};
 ghost use Rattle.amqp_session.specs.Ticks.{is_missed, tick, tick_questions};
 ghost use Rattle.amqp_session.specs.Secrets.{HasExpired, KeepsSecret};
 ghost use Rattle.amqp_session.specs.Writing.{next_within, commit, taken, unsent};
-ghost use Rattle.amqp_session.specs.Answers.{answer_of, take_answer};
+ghost use Rattle.amqp_session.specs.declared.event.Event.{Event};
+ghost use Rattle.amqp_session.specs.declared.event.Event.TheVariants as told;
+ghost use Rattle.amqp_session.specs.Answers.{answer_of, take_answer, events_of, event_of, take_event};
 ghost use Rattle.amqp_session.specs.Causes.{IsFrameError};
 ghost use Rattle.amqp_session.specs.Sound.{IsSound};
 ghost use Rattle.amqp_session.specs.Laws.{IsEnded, IsOver, StaysSound, IsRefused, IsAnsweredAtOnce, IsRefusal};
@@ -48,7 +51,8 @@ pub fn a_refusal_changes_promises_alone()
         → IsRefused (InvalidConnectionState t.state) t (command cmd t) }
     ensures alone { (cmd : Cmd) (t : Talk) (e : ErrorKind) → IsTrue (takes_promise cmd)
         → IsAnsweredAtOnce e t (command cmd t) → IsRefusal e t (command cmd t) }
-    ensures dropped { (cmd : Cmd) (t : Talk) → t.state ≢ Connected → IsFalse (takes_promise cmd) → command cmd t ≡ t }
+    ensures dropped { (cmd : Cmd) (t : Talk) → t.state ≢ Connected → IsFalse (takes_promise cmd) → cmd ≢ Listen
+        → command cmd t ≡ t }
 {}
 
 /// A session is in a sound state at the beginning, and each rule leads from a sound state to one; so
@@ -112,6 +116,20 @@ pub fn a_secret_is_asked_for_when_it_has_expired()
 pub fn an_answer_is_taken_once()
     ensures once { (number : ℕ) (t : Talk) → IsSound t → answer_of number (take_answer number t) ≡ None }
     ensures unmade { (number : ℕ) (t : Talk) → IsSound t → t.made ≤ number → answer_of number t ≡ None }
+{}
+
+/// Events are told once each, and in order, and once none is left, nothing changes. While someone listens
+/// and the session goes on, an event that comes is the last of those that are kept, and so is that of an
+/// end by an error; while nobody listens none is kept.
+pub fn events_are_told_once()
+    ensures told { (t : Talk) (event : Event) (later : List Event) → events_of t ≡ event ∷ later
+        → (event_of t ≡ Some event) × (events_of (take_event t) ≡ later) }
+    ensures none { (t : Talk) → events_of t ≡ [] → (event_of t ≡ None) × (take_event t ≡ t) }
+    ensures kept { (event : Event) (t : Talk) → IsFalse (has_ended t) → IsTrue t.noted.listens
+        → events_of (note event t) ≡ events_of t ++ event ∷ [] }
+    ensures unheard { (event : Event) (t : Talk) → IsFalse t.noted.listens → note event t ≡ t }
+    ensures ended { (error : ErrorKind) (t : Talk) → IsFalse (has_ended t) → IsTrue t.noted.listens
+        → events_of (fail error t) ≡ events_of t ++ told.Error error ∷ [] }
 {}
 
 /// What is committed is unsent, and what is taken is no longer so, while the link is open; in a sound

@@ -12,11 +12,11 @@ mod channels;
 mod command;
 mod committed;
 mod configuration;
-mod error;
+mod event;
+mod events;
 mod handed;
 mod handshake;
 mod id_sequence;
-mod io_fault;
 mod laws;
 mod misread;
 mod numbers;
@@ -27,10 +27,10 @@ mod publishing;
 mod server_close;
 mod session;
 mod shared_errors;
-mod shown;
 mod state;
 mod violations;
 
+pub use amqp_promise::{ChannelState, ConnectionState, Error, ErrorKind, IoFault, Result};
 pub use auth::{
     Asked, AuthList, AuthProvider, DefaultAuthProvider, DefaultTokenProvider, Question, Refusal,
     TokenAuthProvider, TokenProvider,
@@ -39,18 +39,16 @@ pub use capacity::{LEAST_CAPACITY, initial_capacity};
 pub use channels::Channels;
 pub use command::{Answer, ChanRef, Cmd};
 pub use configuration::{Configuration, tune};
-pub use error::{Error, ErrorKind, Result};
+pub use event::Event;
 pub use handed::Handed;
 pub use id_sequence::{Id, IdSequence};
-pub use io_fault::IoFault;
 pub use laws::{
     a_frame_ends_with_its_errors, a_lost_link_answers_what_waits, a_refusal_changes_promises_alone,
     a_secret_is_asked_for_when_it_has_expired, an_answer_is_taken_once, an_end_is_kept,
-    negotiation_leaves_room, states_stay_sound, the_decider_takes_legal_conversations,
-    unsent_bytes_are_counted,
+    events_are_told_once, negotiation_leaves_room, states_stay_sound,
+    the_decider_takes_legal_conversations, unsent_bytes_are_counted,
 };
 pub use misread::Misread;
 pub use options::ConnectionProperties;
 pub use properties::Properties;
 pub use session::Session;
-pub use state::{ChannelState, ConnectionState};

@@ -6,8 +6,8 @@ ghost use Rattle.amqp_session.specs.Listed.{at, put, without};
 ghost use Rattle.amqp_session.specs.Sharing.{shared_at, holders_at, holds, holds_any, is_awaited, waits, any_waits, new_slot, AreCounted, KeepsHeld, FreesUnheld, AwaitsLoss, AllSuit};
 
 use crate::command::Answer;
-use crate::error::{self, ErrorKind};
 use crate::shared_errors::SharedErrors;
+use amqp_promise::ErrorKind;
 use amqp_types::NoMemory;
 use std::alloc::Global;
 use std::collections::BTreeMap;
@@ -20,7 +20,7 @@ pub enum Slot {
     Place,
     /// It waits, whatever becomes of the link.
     Waiting,
-    Answered(error::Result<Answer>),
+    Answered(amqp_promise::Result<Answer>),
     /// It is answered with the shared error of this number, and waits while that is awaited.
     Shared(u64),
 }
@@ -154,7 +154,7 @@ impl Promises {
     }
 
     /// A promise that waits gets this answer.
-    pub fn settle(&mut self, number: u64, answer: error::Result<Answer>)
+    pub fn settle(&mut self, number: u64, answer: amqp_promise::Result<Answer>)
         ensures made { self.new.made ≡ self.old.made }
         ensures slots { promised self.new ≡ settled number answer (promised self.old) }
         ensures place { HasPlace self.old → HasPlace self.new }
@@ -262,7 +262,7 @@ impl Promises {
         &self,
         alloc: Global,
         number: u64,
-    ) -> Result<Option<error::Result<Answer>>, NoMemory>
+    ) -> Result<Option<amqp_promise::Result<Answer>>, NoMemory>
         ensures answer { IfOk result (λ answer. answer ≡ option_flatten (at number (promised self.now))) }
         ensures refused { OnErr result (IsRejected (option_flatten (at number (promised self.now)))) }
     {
@@ -348,7 +348,7 @@ impl Slot {
         &self,
         alloc: Global,
         errors: &SharedErrors,
-    ) -> Result<Option<error::Result<Answer>>, NoMemory>
+    ) -> Result<Option<amqp_promise::Result<Answer>>, NoMemory>
         ensures answer { IfOk result (λ answer.
             answer ≡ option_flatten (slot_seen errors.now.errors.entries self.now)) }
         ensures refused { OnErr result (IsRejected (option_flatten (slot_seen errors.now.errors.entries self.now))) }
@@ -365,7 +365,7 @@ impl Slot {
     }
 
     // Where it waits it gets this answer.
-    fn settle(&mut self, answer: error::Result<Answer>, errors: &mut SharedErrors)
+    fn settle(&mut self, answer: amqp_promise::Result<Answer>, errors: &mut SharedErrors)
         requires { (n : ℕ) → holds n self.old ≤ holders_at n errors.old.errors.entries }
         ensures slot { self.new ≡ slot_settled errors.old.errors.entries answer self.old }
         ensures errors { (n : ℕ) → shared_at n errors.new.errors.entries ≡ shared_at n errors.old.errors.entries }

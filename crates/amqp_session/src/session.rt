@@ -3,7 +3,7 @@
 ghost use Rattle.std.specs.Prelude.{◌≡◌, ◌∷◌, ◌<◌, ◌^◌, [], None, Some, Ok, IfOk, IfErr, IfSome, IsTrue};
 ghost use Rattle.amqp_types.specs.declared.error.AMQPError.{AMQPError};
 ghost use Rattle.amqp_session.specs.Config.{config_of};
-ghost use Rattle.amqp_session.specs.declared.error.ErrorKind.TheVariants.{ProtocolError};
+ghost use Rattle.amqp_promise.specs.declared.error.ErrorKind.TheVariants.{ProtocolError};
 ghost use Rattle.amqp_session.specs.declared.server_close.ServerClose.TheVariants.{WithError};
 ghost use Rattle.amqp_session.specs.Talk.{start, is_open};
 ghost use Rattle.amqp_session.specs.Parts.{promised, is_with_error};
@@ -16,6 +16,7 @@ mod channel_methods;
 mod commands;
 mod connection_methods;
 mod dropping;
+mod events;
 mod frames;
 mod links;
 mod places;
@@ -29,13 +30,14 @@ use crate::channels::Channels;
 use crate::command::Answer;
 use crate::committed::Committed;
 use crate::configuration::{Configuration, own_numbers};
-use crate::error::{self, ErrorKind};
+use crate::events::Events;
 use crate::handed::Backlog;
 use crate::options::{ConnectionProperties, Options};
 use crate::promises::Promises;
 use crate::server_close::ServerClose;
-use crate::state::{ConnectionState, End, Input, Link, Phase};
+use crate::state::{End, Input, Link, Phase};
 use amqp_outbox::Outbox;
+use amqp_promise::{ConnectionState, ErrorKind};
 use amqp_types::NoMemory;
 use amqp_uri::AMQPUri;
 use std::alloc::Global;
@@ -62,6 +64,7 @@ pub struct Session {
     backlog: Backlog,
     promises: Promises,
     server_close: Option<ServerClose>,
+    events: Events,
     present: u64,
     last_read: u64,
     last_write: u64,
@@ -77,7 +80,7 @@ impl Model for Session {
     ghost use Rattle.amqp_session.specs.Talk.{Talk};
     ghost use Rattle.amqp_outbox.specs.Parts.{queued};
     ghost use Rattle.amqp_outbox.specs.Queued.{waiting_items};
-    ghost use Rattle.amqp_session.specs.Parts.{link_seen, promised};
+    ghost use Rattle.amqp_session.specs.Parts.{link_seen, promised, noted_in};
 
     ghost Value = { Talk };
 
@@ -103,6 +106,7 @@ impl Model for Session {
       made = s.promises.made;
       promises = promised s.promises;
       server_close = s.server_close;
+      noted = noted_in s.events;
       present = s.present;
       last_read = s.last_read;
       last_write = s.last_write;
@@ -147,7 +151,7 @@ impl Session {
         alloc: Global,
         uri: &AMQPUri,
         options: ConnectionProperties,
-    ) -> error::Result<Session>
+    ) -> amqp_promise::Result<Session>
         ensures ok { IfOk result (λ s. s ≡ start (config_of uri.now options.plain)) }
         ensures err { IfErr result (λ e. e ≡ ErrorKind.NoMemory) }
     {
@@ -196,6 +200,7 @@ impl Session {
             backlog: Backlog::new(alloc),
             promises,
             server_close: None,
+            events: Events::new(alloc),
             present: 0,
             last_read: 0,
             last_write: 0,
@@ -230,6 +235,7 @@ impl Session {
         self.state = ConnectionState::Error;
         self.link = Link::Ended(Err(End::Failed(kind.into())));
         self.channels.clear();
+        self.events.fail();
     }
 
     // The link is lost. The session recovers from the error, or ends with it. No memory is taken.
@@ -284,6 +290,7 @@ impl Session {
         self.channels.keep_open();
         self.promises.reject_all(kind);
         self.server_close = None;
+        self.events.forget();
     }
 
     fn close(&mut self)
@@ -292,6 +299,7 @@ impl Session {
         self.state = ConnectionState::Closed;
         self.link = Link::Ended(Ok(()));
         self.channels.clear();
+        self.events.forget();
     }
 
     // The session finishes after the server's close. No memory is taken.
@@ -340,10 +348,11 @@ impl Session {
         self.state = ConnectionState::Error;
         self.link = Link::Ended(Err(End::ByServer));
         self.channels.clear();
+        self.events.fail();
     }
 
     // Memory was refused to a rule, which had not begun.
-    fn starved(&mut self, refused: NoMemory) -> error::Error
+    fn starved(&mut self, refused: NoMemory) -> amqp_promise::Error
         ensures error { result ≡ ErrorKind.NoMemory }
         ensures end { self.new ≡ fail ErrorKind.NoMemory self.old }
     {

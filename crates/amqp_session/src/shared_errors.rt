@@ -4,7 +4,7 @@ ghost use Rattle.std.specs.Prelude.{◌≡◌, ℕ, ◌+◌, ◌-◌, ◌<◌, �
 ghost use Rattle.amqp_session.specs.Listed.{at};
 ghost use Rattle.amqp_session.specs.Sharing.{shared_at, error_at, is_awaited, unheld, holders_at};
 
-use crate::error::Error;
+use amqp_promise::Error;
 use amqp_types::NoMemory;
 use std::alloc::Global;
 use std::collections::BTreeMap;

@@ -1,90 +1,10 @@
-//! Where a connection stands.
+//! Where a connection stands with its handshake and its link, and how it ended.
 
 ghost use Rattle.std.specs.Prelude.{◌≡◌};
-ghost use Rattle.amqp_session.specs.Errors.{state_name, channel_state_name};
 ghost use Rattle.amqp_session.specs.Links.{dropped};
 ghost use Rattle.amqp_session.specs.Recovery.{is_uncrossed};
 
-use crate::error::Error;
-use std::fmt;
-
-/// The state of a connection.
-#[derive(Clone, Copy, Debug, Default, PartialEq, Eq)]
-pub enum ConnectionState {
-    #[default]
-    Initial,
-    Connecting,
-    Connected,
-    Closing,
-    Closed,
-    Reconnecting,
-    Error,
-}
-
-impl ConnectionState {
-    pub(crate) fn name(self) -> &'static str
-        ensures { result.now ≡ state_name self }
-    {
-        match self {
-            ConnectionState::Initial => "Initial",
-            ConnectionState::Connecting => "Connecting",
-            ConnectionState::Connected => "Connected",
-            ConnectionState::Closing => "Closing",
-            ConnectionState::Closed => "Closed",
-            ConnectionState::Reconnecting => "Reconnecting",
-            ConnectionState::Error => "Error",
-        }
-    }
-}
-
-impl fmt::Display for ConnectionState {
-    ghost use Rattle.std.specs.Prelude.{Some};
-    ghost use Rattle.amqp_session.specs.Errors.{state_name};
-
-    ghost output = { λ s. Some (state_name s) };
-
-    fn fmt<W: fmt::Write>(&self, f: &mut fmt::Formatter<W>) -> fmt::Result {
-        f.write_str(self.name())
-    }
-}
-
-/// The state of a channel.
-#[derive(Clone, Copy, Debug, Default, PartialEq, Eq)]
-pub enum ChannelState {
-    #[default]
-    Initial,
-    Reconnecting,
-    Connected,
-    Closing,
-    Closed,
-    Error,
-}
-
-impl ChannelState {
-    pub(crate) fn name(self) -> &'static str
-        ensures { result.now ≡ channel_state_name self }
-    {
-        match self {
-            ChannelState::Initial => "Initial",
-            ChannelState::Reconnecting => "Reconnecting",
-            ChannelState::Connected => "Connected",
-            ChannelState::Closing => "Closing",
-            ChannelState::Closed => "Closed",
-            ChannelState::Error => "Error",
-        }
-    }
-}
-
-impl fmt::Display for ChannelState {
-    ghost use Rattle.std.specs.Prelude.{Some};
-    ghost use Rattle.amqp_session.specs.Errors.{channel_state_name};
-
-    ghost output = { λ s. Some (channel_state_name s) };
-
-    fn fmt<W: fmt::Write>(&self, f: &mut fmt::Formatter<W>) -> fmt::Result {
-        f.write_str(self.name())
-    }
-}
+use amqp_promise::Error;
 
 /// What the handshake awaits.
 #[derive(Clone, Copy, Debug, PartialEq, Eq)]

@@ -5,13 +5,13 @@ ghost use Rattle.std.specs.String.{string_bytes};
 ghost use Rattle.amqp_types.specs.Codes.{kind_of};
 ghost use Rattle.amqp_types.specs.declared.error.AMQPErrorKind.TheVariants.{Hard};
 ghost use Rattle.amqp_session.specs.Memory.{has_text};
+ghost use Rattle.amqp_session.specs.Events.{error_named};
 ghost use Rattle.amqp_session.specs.Violations.{protocol_error, frame_too_large, stray_heartbeat, misread_error, stray_connection_method, raw_name, stray_channel_frame, method_name, unawaited, channel_closed_with, closed_with};
 
-use crate::error::ErrorKind;
 use crate::misread::Misread;
 use crate::server_close::ServerClose;
-use crate::state::ChannelState;
 use amqp_frame::{Method, RawKind};
+use amqp_promise::{ChannelState, ErrorKind};
 use amqp_types::{AMQPError, ChannelId, NoMemory, ReplyCode, ShortString, Word};
 use std::alloc::Global;
 
@@ -125,6 +125,17 @@ pub fn channel_closed_with(
         Some(error) => Ok(ErrorKind::ProtocolError(error)),
         None => Ok(ErrorKind::InvalidChannelState(ChannelState::Closing, Word::ChannelCloseOkSent)),
     }
+}
+
+/// The error with which the server closed a channel, where its code is one of an error.
+pub fn channel_error(
+    alloc: Global,
+    code: ReplyCode,
+    text: &ShortString,
+) -> Result<Option<AMQPError>, NoMemory>
+    ensures { IfOk result (λ error. error ≡ error_named (channel_closed_with code text.now)) }
+{
+    AMQPError::from_code(code, text.try_clone(alloc)?)
 }
 
 /// What the server's close tells.

@@ -21,6 +21,8 @@ mod dropping;
 #[cfg(test)]
 mod ends;
 #[cfg(test)]
+mod events;
+#[cfg(test)]
 mod flowing;
 #[cfg(test)]
 mod handshake;
@@ -56,5 +58,7 @@ mod support;
 mod texts;
 #[cfg(test)]
 mod ticks;
+#[cfg(test)]
+mod told;
 #[cfg(test)]
 mod violations;

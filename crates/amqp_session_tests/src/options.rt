@@ -1,6 +1,7 @@
 //! What a session is made from: an address, and what its user says of the client.
 
-use crate::support::{Outcome, agreed, ended, link, long, read_at, send_all, writes};
+use crate::support::{Outcome, agreed, ended, link, listen, long, read_at, send_all, writes};
+use crate::told::{self, Told};
 use amqp_session::{ConnectionProperties, Session, initial_capacity};
 use amqp_types::{LongString, NoMemory, ShortString};
 use amqp_uri::AMQPUri;
@@ -201,7 +202,7 @@ fn a_password_is_not_shown(rt: HostRuntime) -> Outcome<()> {
 
 // Whether a session ends since its answer to start, with a property of so many octets, is longer than
 // what can be unsent. The frame has 334 octets beside.
-fn ends_too_long(alloc: Global, octets: usize, error: &str) -> Outcome<bool> {
+fn ends_too_long(alloc: Global, octets: usize, error: &'static str) -> Outcome<bool> {
     let value = vec![in alloc; b'x'; octets]?;
     let value = LongString::new(alloc, &value);
     let Ok(value) = value else {
@@ -218,15 +219,17 @@ fn ends_too_long(alloc: Global, octets: usize, error: &str) -> Outcome<bool> {
     ended
 }
 
+// Whether it ended so, and tells that to those who listen.
 fn ended_after_start(
     alloc: Global,
     session: &mut Session,
     address: &str,
-    error: &str,
+    error: &'static str,
 ) -> Outcome<bool> {
+    listen(session);
     hear_start(alloc, session, address)?;
     send_all(session);
-    ended(alloc, session, error)
+    Ok(ended(alloc, session, error)? && told::tells(alloc, session, Told::Error(error))?)
 }
 
 #[test]

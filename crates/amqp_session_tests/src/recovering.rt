@@ -3,10 +3,7 @@
 use crate::story::{Line, Link, tell};
 use crate::support::{At, CHANNEL_1, NUMBER_1, NUMBER_2, Outcome};
 use amqp_frame::RawKind;
-use amqp_session::{
-    Answer, ChanRef, ChannelState, ConnectionState, Error, ErrorKind, IoFault, Misread,
-};
-use amqp_types::{ProtocolVersion, Word};
+use amqp_session::{Answer, ChanRef, ChannelState, ConnectionState, IoFault, Misread};
 use amqp_vectors::{
     BLOCKED, BODY_1, CHANNEL_FLOW_OFF_1, CHANNEL_OPEN_1, CHANNEL_OPEN_2, CHANNEL_OPEN_OK_1,
     CHANNEL_OPEN_OK_2, CLOSE, CLOSE_320, CLOSE_OK, HEADER, OPEN_OK, SELECT_OK_1, START, TUNE,
@@ -292,30 +289,4 @@ fn another_link_may_serve_after_a_violation(rt: HostRuntime) -> Outcome<()> {
         Line::LinkIs(Link::Wanted),
     ];
     tell(&rt, rt.alloc(), At::RecoveringWithChannel, STORY)
-}
-
-// Whether another link may serve after an error.
-fn can_be_recovered(kind: ErrorKind) -> bool {
-    let error = Error::from(kind);
-    let recovered = error.can_be_recovered();
-    drop(error);
-    recovered
-}
-
-#[test]
-fn another_link_may_serve_after_some_errors(rt: HostRuntime) -> Outcome<()> {
-    let closing = ErrorKind::InvalidChannelState(ChannelState::Closing, Word::ChannelClose);
-    assert!(rt; can_be_recovered(closing));
-    assert!(rt; can_be_recovered(ErrorKind::InvalidChannel(3)));
-    assert!(rt; can_be_recovered(ErrorKind::InvalidConnectionState(ConnectionState::Closed)));
-    assert!(rt; can_be_recovered(ErrorKind::IOError(IoFault::Reset)));
-    assert!(rt; can_be_recovered(ErrorKind::MissingHeartbeatError));
-    let version = ErrorKind::InvalidProtocolVersion(ProtocolVersion::amqp_0_9_1());
-    assert!(rt; !can_be_recovered(version));
-    assert!(rt; !can_be_recovered(ErrorKind::ChannelsLimitReached));
-    assert!(rt; !can_be_recovered(ErrorKind::ParsingError(0)));
-    assert!(rt; !can_be_recovered(ErrorKind::SerialisationError(131_073)));
-    assert!(rt; !can_be_recovered(ErrorKind::OutOfTurns));
-    assert!(rt; !can_be_recovered(ErrorKind::NoMemory));
-    Ok(())
 }

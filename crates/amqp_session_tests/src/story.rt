@@ -2,6 +2,7 @@
 
 use crate::said::{Said, are_said};
 use crate::support::*;
+use crate::told::{Told, tells, tells_nothing};
 use amqp_frame::RawKind;
 use amqp_session::{
     Answer, AuthList, AuthProvider, ChanRef, ChannelState, Cmd, ConnectionState, IoFault, Misread,
@@ -79,9 +80,13 @@ pub enum Line {
     DropChannel(ChanRef),
     /// Lets the connection go.
     DropConnection,
+    /// Keeps events from now on.
+    Listen,
 
     /// The connection stands so.
     IsIn(ConnectionState),
+    /// Whether the server wants nothing to be written.
+    Blocks(bool),
     /// The link stands so.
     LinkIs(Link),
     /// A channel stands so.
@@ -126,6 +131,11 @@ pub enum Line {
     IsUnanswered(u64),
     /// The frames handed out of the channel that a promise opened. They are taken.
     HandsOut(u64, &'static [(RawKind, &'static [u8])]),
+
+    /// The next event. It is taken.
+    Tells(Told),
+    /// There is no event, or none that was not taken.
+    TellsNothing,
 
     /// All that the provider answered to this session, but for what led it where it stood at first.
     ProviderSaid(&'static [Said]),
@@ -231,16 +241,17 @@ fn is_so(alloc: Global, session: &mut Session, line: Line) -> Outcome<bool> {
         Line::Advance(at) => session.advance(at),
         Line::Take(n) => take(session, n),
         Line::SendAll => send_all(session),
-        _ => return lets_go(alloc, session, line),
+        _ => return promises_nothing(alloc, session, line),
     }
     Ok(true)
 }
 
-// Whether what is let go takes no promise, or another line holds.
-fn lets_go(alloc: Global, session: &mut Session, line: Line) -> Outcome<bool> {
+// Whether a command takes no promise, or another line holds.
+fn promises_nothing(alloc: Global, session: &mut Session, line: Line) -> Outcome<bool> {
     let command = match line {
         Line::DropChannel(channel) => Cmd::DropChannel(channel),
         Line::DropConnection => Cmd::DropConnection,
+        Line::Listen => Cmd::Listen,
         _ => return obeys(alloc, session, line),
     };
     let before = session.promises();
@@ -286,6 +297,8 @@ fn shows(alloc: Global, session: &mut Session, line: Line) -> Outcome<bool> {
         Line::Refuses(number, text) => refuses(alloc, session, number, text),
         Line::IsUnanswered(number) => Ok(is_unanswered(session, number)),
         Line::HandsOut(opened, frames) => hands_out(session, opened, frames),
+        Line::Tells(event) => tells(alloc, session, event),
+        Line::TellsNothing => Ok(tells_nothing(session)),
         Line::Ended(text) => ended(alloc, session, text),
         _ => Ok(is_seen(session, line)),
     }
@@ -295,6 +308,7 @@ fn shows(alloc: Global, session: &mut Session, line: Line) -> Outcome<bool> {
 fn is_seen(session: &Session, line: Line) -> bool {
     match line {
         Line::IsIn(state) => session.state() == state,
+        Line::Blocks(blocks) => session.blocked() == blocks,
         Line::LinkIs(link) => link_of(session) == link,
         Line::ChannelIs(channel, state) => session.channel_state(channel) == state,
         Line::Confirms(channel) => session.confirm(channel),

@@ -268,6 +268,11 @@ pub fn tell(session: &mut Session, command: Cmd) -> Option<u64> {
     }
 }
 
+/// Keeps events from now on.
+pub fn listen(session: &mut Session) {
+    let _ = tell(session, Cmd::Listen);
+}
+
 /// Tells to open a channel, and gives the promise.
 pub fn open_channel(session: &mut Session) -> Option<u64> {
     tell(session, Cmd::OpenChannel)

@@ -1,9 +1,9 @@
 -- A session over a port that never fails ends by no fault that a port counts.
 use Rattle.std.proofs.Common.{rules, arith, ◌≡◌, ◌≢◌, inl, inr, false, Option, Some, None, Result, Ok, Err, is_some, refl, ap}
 use Rattle.std.specs.Prelude.{IfSome}
-use Rattle.amqp_session.specs.declared.error.ErrorKind.{ErrorKind}
-use Rattle.amqp_session.specs.declared.error.ErrorKind.TheVariants.{IOError, OutOfTurns, NoMemory}
-use Rattle.amqp_session.specs.declared.io_fault.IoFault.{IoFault}
+use Rattle.amqp_promise.specs.declared.error.ErrorKind.{ErrorKind}
+use Rattle.amqp_promise.specs.declared.error.ErrorKind.TheVariants.{IOError, OutOfTurns, NoMemory}
+use Rattle.amqp_promise.specs.declared.io_fault.IoFault.{IoFault}
 use Rattle.amqp_session.specs.Answers.{HandsOut}
 use Rattle.amqp_engine.specs.Causes.{fault_at}
 use Rattle.amqp_engine.specs.Counts.{Rose}

@@ -1,7 +1,7 @@
 //! A port of one's own, and a session that runs over it.
 
 ghost use Rattle.std.specs.Prelude.{◌≡◌, ◌≢◌, ◌≤◌, [], None, Err, false, IsTrue, length};
-ghost use Rattle.amqp_session.specs.declared.io_fault.IoFault.{IoFault};
+ghost use Rattle.amqp_promise.specs.declared.io_fault.IoFault.{IoFault};
 ghost use Rattle.amqp_engine.specs.Log.{IsPiece};
 ghost use Rattle.amqp_engine.specs.Counts.{is_fault};
 ghost use Rattle.amqp_engine.specs.Causes.{is_counted};

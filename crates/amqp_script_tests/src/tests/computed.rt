@@ -26,13 +26,13 @@ fn what_is_said_is_spelled_so()
 
 // A step has the moment that its line names, or that of the step before it.
 fn moments_are_read_so()
-    ensures falling { parsed false (codes "link\n@05 tick\n\n# 7\ntick\n@3 end\ntick") ≡ Ok (record { config = config_of local no_options; handed = false; steps = given 0 (Link None) ∷ given 5 Tick ∷ given 5 Tick ∷ given 3 End ∷ given 3 Tick ∷ [] }) }
-    ensures greatest { parsed false (codes "@18446744073709551615 link\n") ≡ Ok (record { config = config_of local no_options; handed = false; steps = given 18446744073709551615 (Link None) ∷ [] }) }
+    ensures falling { parsed false (codes "link\n@05 tick\n\n# 7\ntick\n@3 end\ntick") ≡ Ok (record { config = config_of local no_options; handed = false; listens = false; steps = given 0 (Link None) ∷ given 5 Tick ∷ given 5 Tick ∷ given 3 End ∷ given 3 Tick ∷ [] }) }
+    ensures greatest { parsed false (codes "@18446744073709551615 link\n") ≡ Ok (record { config = config_of local no_options; handed = false; listens = false; steps = given 18446744073709551615 (Link None) ∷ [] }) }
 {}
 
 // Settings are made in the order of their lines, before all steps.
 fn settings_are_read_so()
-    ensures made { parsed false (codes "locale de\n# one\nproperty a b c\nname n\nproperty a\n@1 tick\n") ≡ Ok (record { config = config_of local (with_property (codes "a") [] (with_name (codes "n") (with_property (codes "a") (codes "b c") (with_locale (codes "de") no_options)))); handed = false; steps = given 1 Tick ∷ [] }) }
+    ensures made { parsed false (codes "locale de\n# one\nproperty a b c\nname n\nproperty a\n@1 tick\n") ≡ Ok (record { config = config_of local (with_property (codes "a") [] (with_name (codes "n") (with_property (codes "a") (codes "b c") (with_locale (codes "de") no_options)))); handed = false; listens = false; steps = given 1 Tick ∷ [] }) }
     ensures twice { parsed false (codes "locale de\nname n\nlocale de\n") ≡ Err 3 }
     ensures late { parsed false (codes "tick\nproperty a b\n") ≡ Err 2 }
     ensures timed { parsed false (codes "@1 name n\n") ≡ Err 1 }
@@ -40,12 +40,27 @@ fn settings_are_read_so()
 
 // That the provider which was handed is used is said once, before all steps, and only where one was.
 fn a_provider_is_named_so()
-    ensures named { parsed true (codes "provider handed\n@1 tick\n") ≡ Ok (record { config = config_of local no_options; handed = true; steps = given 1 Tick ∷ [] }) }
+    ensures named { parsed true (codes "provider handed\n@1 tick\n") ≡ Ok (record { config = config_of local no_options; handed = true; listens = false; steps = given 1 Tick ∷ [] }) }
     ensures twice { parsed true (codes "provider handed\nprovider handed\n") ≡ Err 2 }
     ensures late { parsed true (codes "tick\nprovider handed\n") ≡ Err 2 }
     ensures other { parsed true (codes "provider own\n") ≡ Err 1 }
     ensures more { parsed true (codes "provider handed now\n") ≡ Err 1 }
     ensures none { parsed false (codes "provider handed\n") ≡ Err 1 }
+{}
+
+// That events are kept is said once, before all steps, and by one word.
+fn listening_is_read_so()
+    ensures made { parsed false (codes "listen\n@1 tick\n") ≡ Ok (record { config = config_of local no_options; handed = false; listens = true; steps = given 1 Tick ∷ [] }) }
+    ensures twice { parsed false (codes "listen\nlisten\n") ≡ Err 2 }
+    ensures late { parsed false (codes "tick\nlisten\n") ≡ Err 2 }
+    ensures more { parsed false (codes "listen x\n") ≡ Err 1 }
+    ensures timed { parsed false (codes "@1 listen\n") ≡ Err 1 }
+{}
+
+// An error that ends the session is told to those who listen.
+fn an_error_is_reported_so()
+    ensures told { printout (parsed false (codes "listen\nrefuse\n")) [] ≡ record { status = 5; text = codes "answer 0 err IO error: connection refused\nevent error IO error: connection refused\nend error IO error: connection refused\n" } }
+    ensures unheard { printout (parsed false (codes "refuse\n")) [] ≡ record { status = 5; text = codes "answer 0 err IO error: connection refused\nend error IO error: connection refused\n" } }
 {}
 
 // A header of another version.

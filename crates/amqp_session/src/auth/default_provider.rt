@@ -6,7 +6,7 @@ ghost use Rattle.amqp_session.specs.DefaultAnswers.{login_of, default_of, stray_
 
 use crate::auth::asked::{Refusal, refused};
 use crate::auth::provider::AuthProvider;
-use crate::shown::Shown;
+use amqp_promise::Shown;
 use amqp_types::{LongString, NoMemory, ShortString, Text};
 use amqp_uri::{AMQPUri, AMQPUserInfo, Credentials, SASLMechanism};
 use std::alloc::Global;

@@ -6,7 +6,7 @@ ghost use Rattle.amqp_session.specs.Tokens.{starter_of, unknown_challenge};
 use crate::auth::asked::{Refusal, refused};
 use crate::auth::provider::AuthProvider;
 use crate::auth::tokens::TokenProvider;
-use crate::shown::Shown;
+use amqp_promise::Shown;
 use amqp_types::{LongString, NoMemory, ShortString, Text};
 use amqp_uri::{Credentials, SASLMechanism};
 use std::alloc::Global;

@@ -1,22 +1,23 @@
-//! The answers to promises, and the frames handed out.
+//! The answers to promises, the events, and the frames handed out.
 
-ghost use Rattle.std.specs.Prelude.{◌≡◌, IfOk, OnErr, IsOk};
+ghost use Rattle.std.specs.Prelude.{◌≡◌, [], IfOk, OnErr, IsOk};
 ghost use Rattle.amqp_session.specs.Talk.{end_of};
 ghost use Rattle.amqp_session.specs.ChannelMethods.{frames_of};
-ghost use Rattle.amqp_session.specs.Answers.{rejection, answer_of, take_frames, Takes, IsRejected, IsFailed};
+ghost use Rattle.amqp_session.specs.Answers.{rejection, answer_of, take_frames, Takes, TakesEvent, IsRejected, IsFailed};
 
 use super::Session;
 use crate::command::Answer;
-use crate::error::{self, ErrorKind};
+use crate::event::Event;
 use crate::handed::Handed;
 use crate::server_close::ServerClose;
-use crate::state::{ConnectionState, End, Link};
+use crate::state::{End, Link};
+use amqp_promise::{ConnectionState, ErrorKind};
 use amqp_types::NoMemory;
 
 impl Session {
     /// Takes the answer to a promise, where there is one that was not taken. Where it is an error and
     /// memory for its copy is refused, that is told in its place, and the answer can still be taken.
-    pub fn answer(&mut self, number: u64) -> Option<error::Result<Answer>>
+    pub fn answer(&mut self, number: u64) -> Option<amqp_promise::Result<Answer>>
         ensures { Takes number result self.old self.new }
     {
         match self.untaken(number) {
@@ -31,7 +32,7 @@ impl Session {
     }
 
     // The untaken answer to a promise; an Err where memory for an error's copy was refused.
-    fn untaken(&self, number: u64) -> Result<Option<error::Result<Answer>>, NoMemory>
+    fn untaken(&self, number: u64) -> Result<Option<amqp_promise::Result<Answer>>, NoMemory>
         ensures answer { IfOk result (λ answer. answer ≡ answer_of number self.now) }
         ensures refused { OnErr result (IsRejected (answer_of number self.now)) }
     {
@@ -42,7 +43,7 @@ impl Session {
     }
 
     // How the end answers a promise that still waits.
-    fn rejection(&self) -> Result<Option<error::Result<Answer>>, NoMemory>
+    fn rejection(&self) -> Result<Option<amqp_promise::Result<Answer>>, NoMemory>
         ensures answer { IfOk result (λ answer. answer ≡ rejection (end_of self.now)) }
         ensures refused { OnErr result (IsRejected (rejection (end_of self.now))) }
     {
@@ -57,7 +58,7 @@ impl Session {
     }
 
     // The end; an Err where memory for its error's copy was refused.
-    pub(super) fn ended(&self) -> Result<Option<error::Result<()>>, NoMemory>
+    pub(super) fn ended(&self) -> Result<Option<amqp_promise::Result<()>>, NoMemory>
         ensures end { IfOk result (λ end. end ≡ end_of self.now) }
         ensures refused { OnErr result (IsFailed (end_of self.now)) }
     {
@@ -72,6 +73,36 @@ impl Session {
                 _ => Ok(Some(Ok(()))),
             },
             _ => Ok(None),
+        }
+    }
+
+    /// Takes the first event that was not taken, where there is one. Where it is that of the end and
+    /// memory for the copy of its error is refused, that is told in its place, and the event can still be
+    /// taken.
+    pub fn event(&mut self) -> Option<Event>
+        ensures { TakesEvent result self.old self.new }
+    {
+        match self.events.take() {
+            Some(event) => Some(event),
+            None => self.end_event(),
+        }
+    }
+
+    // Takes the event of the end, where no other is left.
+    fn end_event(&mut self) -> Option<Event>
+        requires { self.old.noted.events ≡ [] }
+        ensures { TakesEvent result self.old self.new }
+    {
+        if !self.events.tells_end() {
+            return None;
+        }
+        match self.ended() {
+            Ok(Some(Err(error))) => {
+                self.events.tell_end();
+                Some(Event::Error(error))
+            }
+            Ok(_) => None,
+            Err(refused) => Some(Event::Error(refused.into())),
         }
     }
 

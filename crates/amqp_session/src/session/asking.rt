@@ -13,9 +13,9 @@ use super::Session;
 use crate::auth::{
     AuthList, AuthProvider, ask_challenge, ask_mechanism, ask_refresh, ask_starter, ask_valid_for,
 };
-use crate::state::ConnectionState::{Connected, Connecting};
 use crate::state::Phase::{AwaitStart, AwaitTune};
 use amqp_frame::{Frame, Method};
+use amqp_promise::ConnectionState::{Connected, Connecting};
 use amqp_types::{LongString, NoMemory, ShortString, Text};
 
 /// What the provider answered to a frame of the handshake.

@@ -9,16 +9,16 @@ ghost use Rattle.amqp_session.specs.ChannelMethods.{heard_on, unawaited_channel_
 
 use super::Session;
 use super::dropping::{drop_channel_of, drop_replies_of};
-use super::places::reserve_item;
+use super::places::{reserve_item, reserve_owing};
 use crate::channels::{Channel, Debt};
 use crate::command::Answer;
-use crate::error::ErrorKind;
+use crate::event::Event;
 use crate::handed::Handed;
 use crate::handshake::{channel_close_ok, flow_ok};
-use crate::state::{ChannelState, ConnectionState};
-use crate::violations::{channel_closed_with, unawaited};
+use crate::violations::{channel_closed_with, channel_error, unawaited};
 use amqp_frame::{Method, RawKind};
 use amqp_outbox::{Item, Reply};
+use amqp_promise::{ChannelState, ConnectionState, ErrorKind};
 use amqp_types::{ChannelId, NoMemory, Payload, ReplyCode, ShortString};
 
 impl Session {
@@ -149,23 +149,42 @@ impl Session {
     {
         match (channel.debt, self.outbox.awaits(id, Reply::ChannelClosed)) {
             (Debt::Nothing, false) => self.close_by_server(id, channel, code, text),
-            (Debt::Nothing, true) => self.crossing_close(id, channel),
+            (Debt::Nothing, true) => self.crossing_close(id, channel, code, text),
             _ => Ok(()),
         }
     }
 
     // The server closes a channel that we closed.
-    fn crossing_close(&mut self, id: ChannelId, channel: Channel) -> Result<(), NoMemory>
+    fn crossing_close(
+        &mut self,
+        id: ChannelId,
+        channel: Channel,
+        code: ReplyCode,
+        text: &ShortString,
+    ) -> Result<(), NoMemory>
         requires { channel_at id self.old ≡ Some channel }
-        ensures ok { OnOk result (self.new ≡ crossing_close id channel self.old) }
+        ensures ok { OnOk result (self.new
+            ≡ crossing_close id (channel_closed_with code text.now) channel self.old) }
         ensures err { OnErr result (self.new ≡ self.old) }
     {
-        self.queue(id, channel_close_ok(id))?;
+        let error = channel_error(self.alloc, code, text)?;
+        let item = Item::plain(id, channel_close_ok(id));
+        if let Err(refused) = reserve_owing(
+            &mut self.outbox,
+            &mut self.committed,
+            &mut self.events,
+            &item,
+            error,
+        ) {
+            drop(item);
+            return Err(refused);
+        }
         let owing = Channel {
             debt: Debt::Owed,
             ..channel
         };
         self.channels.set(id, owing);
+        self.outbox.push_control_reserved(item);
         Ok(())
     }
 
@@ -185,10 +204,18 @@ impl Session {
             → MakesNothing self.old (closed_by_server id (channel_closed_with code text.now) channel self.old)
             → IsOk result }
     {
-        let kind = channel_closed_with(self.alloc, code, text)?;
-        let why = self.promises.why(kind)?;
+        let error = channel_error(self.alloc, code, text)?;
+        let why = self
+            .promises
+            .why(channel_closed_with(self.alloc, code, text)?)?;
         let item = Item::plain(id, channel_close_ok(id));
-        if let Err(refused) = reserve_item(&mut self.outbox, &mut self.committed, &item) {
+        if let Err(refused) = reserve_owing(
+            &mut self.outbox,
+            &mut self.committed,
+            &mut self.events,
+            &item,
+            error,
+        ) {
             drop(item);
             self.promises.let_go(why);
             return Err(refused);
@@ -218,12 +245,19 @@ impl Session {
         if channel.state == ChannelState::Closing {
             return Ok(());
         }
-        self.queue(id, flow_ok(id, active))?;
+        self.events.reserve()?;
+        let item = Item::plain(id, flow_ok(id, active));
+        if let Err(refused) = reserve_item(&mut self.outbox, &mut self.committed, &item) {
+            drop(item);
+            return Err(refused);
+        }
+        self.outbox.push_control_reserved(item);
         let flowing = Channel {
             flow: active,
             ..channel
         };
         self.channels.set(id, flowing);
+        self.events.note_reserved(Event::SendFlow(active));
         Ok(())
     }
 

@@ -14,21 +14,20 @@ use super::dropping::{drop_groups, drop_groups_of};
 use super::places::{ask, reserve_group, reserve_promised, reserve_reply};
 use crate::channels::Channel;
 use crate::command::{ChanRef, Cmd};
-use crate::error::{self, ErrorKind};
 use crate::handshake::{
     channel_flow, channel_open, new_secret, ok_text, our_channel_close, our_close,
 };
 use crate::properties::Properties;
 use crate::publishing::{content_header, publish_frames};
-use crate::state::{ChannelState, ConnectionState};
 use amqp_frame::{Frame, RawKind, RawMethod, encoded_len};
 use amqp_outbox::{Awaited, Group, Item, Reply};
+use amqp_promise::{ChannelState, ConnectionState, ErrorKind};
 use amqp_types::{ChannelId, LongString, NoMemory, Payload, ReplyCode, ShortString, Word};
 
 impl Session {
     /// Does what it is told or refuses it, and gives the number of the promise that will be answered,
     /// where the command takes one.
-    pub fn command(&mut self, cmd: Cmd) -> error::Result<Option<u64>>
+    pub fn command(&mut self, cmd: Cmd) -> amqp_promise::Result<Option<u64>>
         ensures ok { OnOk result (self.new ≡ command cmd self.old) }
         ensures number { IfOk result (λ number. number ≡ promise_of cmd self.old) }
         ensures err { OnErr result (self.new ≡ self.old) }
@@ -41,6 +40,10 @@ impl Session {
             }
             Cmd::DropConnection => {
                 self.drop_connection()?;
+                Ok(None)
+            }
+            Cmd::Listen => {
+                self.listen();
                 Ok(None)
             }
             cmd => {
@@ -71,7 +74,7 @@ impl Session {
                 self.publish_named(channel, method, properties, body)
             }
             Cmd::Flow(channel, active) => self.flow_named(channel, active),
-            Cmd::DropChannel(_) | Cmd::DropConnection => unreachable!(),
+            Cmd::DropChannel(_) | Cmd::DropConnection | Cmd::Listen => unreachable!(),
         }
     }
 

@@ -14,14 +14,15 @@ use super::places::{reserve_both, reserve_item};
 use super::reopening::{reopen, reserve_reopening};
 use crate::command::Answer;
 use crate::configuration::{Configuration, tune};
-use crate::error::ErrorKind;
+use crate::event::Event;
 use crate::handshake::{close_ok, open_vhost, secure_ok, start_ok, tune_ok};
-use crate::state::ConnectionState::{Closing, Connected, Connecting};
 use crate::state::Input;
 use crate::state::Phase::{AwaitOpenOk, AwaitStart, AwaitTune};
 use crate::violations::closed_with;
 use amqp_frame::{Frame, Method};
 use amqp_outbox::{Item, Reply};
+use amqp_promise::ConnectionState::{Closing, Connected, Connecting};
+use amqp_promise::ErrorKind;
 use amqp_types::{ChannelId, LongString, NoMemory, ReplyCode, ShortString, Text};
 
 impl Session {
@@ -40,14 +41,11 @@ impl Session {
         match (self.state, self.phase, method) {
             (_, _, Method::Close(code, text, _, _)) => self.on_connection_close(code, text),
             (_, _, Method::Blocked(reason)) => {
+                let done = self.on_blocked(&reason);
                 drop(reason);
-                self.blocked = true;
-                Ok(())
+                done
             }
-            (_, _, Method::Unblocked) => {
-                self.blocked = false;
-                Ok(())
-            }
+            (_, _, Method::Unblocked) => self.on_unblocked(),
             (Closing, _, Method::CloseOk) => {
                 self.on_connection_close_ok();
                 Ok(())
@@ -195,22 +193,24 @@ impl Session {
         ensures idle { MakesNothing self.old (on_open_ok self.old) → IsOk result }
     {
         let channel_max = self.configuration.channel_max;
+        self.events.reserve()?;
         reserve_reopening(
             &mut self.outbox,
             &mut self.committed,
             &self.channels,
             channel_max,
         )?;
+        self.events.note_reserved(Event::Connected);
         reopen(&mut self.outbox, &self.channels, channel_max);
         self.channels.remove_above(channel_max);
         self.connected();
         Ok(())
     }
 
-    // The connection is open, and its promise is answered.
+    // The connection is open, and its promise is answered. That is told elsewhere.
     fn connected(&mut self)
         requires { IsTrue (is_agreed self.old.state self.old.phase) }
-        ensures { self.new ≡ connected self.old }
+        ensures { self.new ≡ record (connected self.old) { noted = self.old.noted } }
     {
         self.give(0, Answer::Connected);
         self.capacity = self.capacity.grown(self.configuration.frame_max);

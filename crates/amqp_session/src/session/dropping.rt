@@ -7,10 +7,9 @@ ghost use Rattle.amqp_outbox.specs.Queued.{is_on, waiting_items};
 ghost use Rattle.amqp_session.specs.Changes.{rejected, rejected_each, without_groups_of, without_groups, promises_on, without_all_on, replies_on, without_replies_on};
 ghost use Rattle.amqp_session.specs.Parts.{promised, HasPlace, HasWhy};
 
-use crate::error::ErrorKind;
 use crate::promises::{Promises, Why};
-use crate::state::{ChannelState, ConnectionState};
 use amqp_outbox::{Outbox, Scope};
+use amqp_promise::{ChannelState, ConnectionState, ErrorKind};
 use amqp_types::{ChannelId, Word};
 
 /// The groups of a channel that have not begun go, and the promise of each is answered: we closed the

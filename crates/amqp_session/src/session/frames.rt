@@ -13,10 +13,9 @@ ghost use Rattle.amqp_session.specs.Parts.{login_answers};
 use super::Session;
 use super::asking::Login;
 use crate::auth::{AuthList, AuthProvider};
-use crate::error::{self, ErrorKind};
-use crate::state::ConnectionState;
 use crate::violations::{stray_channel_frame, stray_connection_method};
 use amqp_frame::{Frame, Method, RawKind};
+use amqp_promise::{ConnectionState, ErrorKind};
 use amqp_types::{ChannelId, NoMemory, Text};
 
 impl Session {
@@ -28,7 +27,7 @@ impl Session {
         at: u64,
         provider: &mut A,
         auths: &mut AuthList,
-    ) -> error::Result<()>
+    ) -> amqp_promise::Result<()>
         requires { A.can provider.old }
         ensures can { A.can provider.new }
         ensures ok { OnOk result (Hears (on_frame frame) (λ _. frame_questions frame)
@@ -47,9 +46,10 @@ impl Session {
     {
         self.advance(at);
         if !self.acts() {
-            self.react_closed(&frame);
-            drop(frame);
-            return Ok(());
+            return match self.hear_closed(frame) {
+                Ok(()) => Ok(()),
+                Err(refused) => Err(self.starved(refused)),
+            };
         }
         match self.hear(frame, provider, auths) {
             Ok(()) => Ok(()),
@@ -88,16 +88,31 @@ impl Session {
     }
 
     // After the server's close only blocked and unblocked act.
-    fn react_closed(&mut self, frame: &Frame)
-        ensures { self.new ≡ (if hears_on self.old then closed_rule frame.now self.old else self.old) }
+    fn hear_closed(&mut self, frame: Frame) -> Result<(), NoMemory>
+        ensures ok { OnOk result (self.new
+            ≡ (if hears_on self.old then closed_rule frame self.old else self.old)) }
+        ensures err { OnErr result (self.new ≡ self.old) }
+        ensures idle { MakesNothing self.old (if hears_on self.old then closed_rule frame self.old else self.old)
+            → IsOk result }
     {
-        if !self.hears_on() {
-            return;
-        }
+        let done = if self.hears_on() {
+            self.react_closed(&frame)
+        } else {
+            Ok(())
+        };
+        drop(frame);
+        done
+    }
+
+    fn react_closed(&mut self, frame: &Frame) -> Result<(), NoMemory>
+        ensures ok { OnOk result (self.new ≡ closed_rule frame.now self.old) }
+        ensures err { OnErr result (self.new ≡ self.old) }
+        ensures idle { MakesNothing self.old (closed_rule frame.now self.old) → IsOk result }
+    {
         match frame {
-            Frame::Method(0, Method::Blocked(_)) => self.blocked = true,
-            Frame::Method(0, Method::Unblocked) => self.blocked = false,
-            _ => {}
+            Frame::Method(0, Method::Blocked(reason)) => self.on_blocked(reason),
+            Frame::Method(0, Method::Unblocked) => self.on_unblocked(),
+            _ => Ok(()),
         }
     }
 

@@ -9,13 +9,12 @@ ghost use Rattle.amqp_session.specs.Recovery.{delayed};
 ghost use Rattle.amqp_session.specs.Links.{asked, linked, link_failed, piece, misread, lost};
 
 use super::Session;
-use crate::error::{self, ErrorKind};
 use crate::handshake::protocol_header;
-use crate::io_fault::IoFault;
 use crate::misread::Misread;
-use crate::state::{ConnectionState, Input, Link, Phase};
+use crate::state::{Input, Link, Phase};
 use crate::violations::misread_error;
 use amqp_outbox::Item;
+use amqp_promise::{ConnectionState, ErrorKind, IoFault};
 use amqp_types::NoMemory;
 
 impl Session {
@@ -29,7 +28,7 @@ impl Session {
     }
 
     /// The link that was asked for is there.
-    pub fn linked(&mut self, at: u64) -> error::Result<()>
+    pub fn linked(&mut self, at: u64) -> amqp_promise::Result<()>
         ensures ok { OnOk result (self.new ≡ linked (present_at at self.old)) }
         ensures err { OnErr result (self.new ≡ starve (present_at at self.old)) }
         ensures only { IfErr result (λ e. e ≡ ErrorKind.NoMemory) }
@@ -100,7 +99,7 @@ impl Session {
     }
 
     /// What was read is no frame.
-    pub fn misread(&mut self, why: Misread, at: u64) -> error::Result<()>
+    pub fn misread(&mut self, why: Misread, at: u64) -> amqp_promise::Result<()>
         ensures ok { OnOk result (self.new ≡ misread why (present_at at self.old)) }
         ensures err { OnErr result (self.new ≡ starve (present_at at self.old)) }
         ensures only { IfErr result (λ e. e ≡ ErrorKind.NoMemory) }

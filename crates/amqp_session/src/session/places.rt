@@ -6,12 +6,14 @@ ghost use Rattle.amqp_outbox.specs.declared.reply.Reply.{Reply};
 ghost use Rattle.amqp_outbox.specs.Items.{dropped_with, size_of};
 ghost use Rattle.amqp_outbox.specs.Parts.{queued, HasControlPlaces, HasGroupPlace, HasReplyPlace};
 ghost use Rattle.amqp_outbox.specs.Queued.{waiting_items, pushed_control, expected};
-ghost use Rattle.amqp_session.specs.Parts.{promised, HasPlace};
+ghost use Rattle.amqp_session.specs.Events.{owe};
+ghost use Rattle.amqp_session.specs.Parts.{promised, noted_in, HasPlace};
 
 use crate::committed::Committed;
+use crate::events::Events;
 use crate::promises::Promises;
 use amqp_outbox::{Awaited, Group, Item, Outbox, Reply};
-use amqp_types::{ChannelId, NoMemory};
+use amqp_types::{AMQPError, ChannelId, NoMemory};
 
 /// Makes places for so many frames more, which together are so many octets, until they are sent.
 pub fn reserve_frames(
@@ -70,6 +72,32 @@ pub fn reserve_item(
 {
     let octets = item.octets()?;
     reserve_frames(outbox, committed, item.dropped_with(), 1, octets)
+}
+
+/// Makes places for this frame, which answers the server's close of its channel: with this error, which is
+/// owed from now on, or without one.
+pub fn reserve_owing(
+    outbox: &mut Outbox,
+    committed: &mut Committed,
+    events: &mut Events,
+    item: &Item,
+    error: Option<AMQPError>,
+) -> Result<(), NoMemory>
+    ensures same { queued outbox.new ≡ queued outbox.old }
+    ensures marks { committed.new.marks.items ≡ committed.old.marks.items }
+    ensures kept { deque_capacity committed.old.marks ≤ deque_capacity committed.new.marks }
+    ensures lane { OnOk result (HasControlPlaces (dropped_with item.now) 1 (size_of item.now) outbox.new) }
+    ensures places { OnOk result
+        (length committed.old.marks.items + (length (waiting_items (queued outbox.old)) + 1)
+        ≤ deque_capacity committed.new.marks) }
+    ensures owed { OnOk result (noted_in events.new ≡ owe item.now.channel error (noted_in events.old)) }
+    ensures events { OnErr result (noted_in events.new ≡ noted_in events.old) }
+{
+    if let Err(refused) = reserve_item(outbox, committed, item) {
+        drop(error);
+        return Err(refused);
+    }
+    events.owe(item.channel, error)
 }
 
 /// Makes places for this frame and for a promise more.

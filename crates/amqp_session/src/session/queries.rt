@@ -17,9 +17,9 @@ ghost use Rattle.amqp_session.specs.Parts.{is_open_ok, awaits_open_ok, capacity_
 use super::Session;
 use crate::command::ChanRef;
 use crate::configuration::Configuration;
-use crate::error;
-use crate::state::{ChannelState, ConnectionState, Input, Link, Phase};
+use crate::state::{Input, Link, Phase};
 use amqp_frame::{Frame, Method};
+use amqp_promise::{ChannelState, ConnectionState};
 use amqp_types::{ChannelId, NoMemory, ShortString, Text};
 
 impl Session {
@@ -131,7 +131,7 @@ impl Session {
 
     /// The end: Ok where the session ended Closed, else the error with which it ended. Where memory
     /// for the error's copy is refused, that is told in its place.
-    pub fn end(&self) -> Option<error::Result<()>>
+    pub fn end(&self) -> Option<amqp_promise::Result<()>>
         ensures { HandsOut (end_of self.now) result }
     {
         match self.ended() {

@@ -13,11 +13,11 @@ use super::Session;
 use super::asking::Validity;
 use super::places::{ask, ask_after};
 use crate::auth::{AuthList, AuthProvider};
-use crate::error::{self, ErrorKind};
 use crate::handshake::{new_secret, refresh_reason};
-use crate::state::{ConnectionState, Link};
+use crate::state::Link;
 use amqp_frame::Frame;
 use amqp_outbox::{Awaited, Item, Reply};
+use amqp_promise::{ConnectionState, ErrorKind};
 use amqp_types::{LongString, NoMemory, Text};
 
 /// After how many milliseconds without reading a server is gone, for each second of the agreed
@@ -38,7 +38,7 @@ impl Session {
         at: u64,
         provider: &mut A,
         auths: &mut AuthList,
-    ) -> error::Result<()>
+    ) -> amqp_promise::Result<()>
         requires { A.can provider.old }
         ensures can { A.can provider.new }
         ensures ok { OnOk result (Hears tick tick_questions (A.allows provider.old) (A.allows provider.new)

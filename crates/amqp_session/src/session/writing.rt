@@ -10,9 +10,9 @@ use super::Session;
 use crate::channels::{Channel, Debt};
 use crate::command::Answer;
 use crate::committed::{Mark, Then};
-use crate::error::ErrorKind;
 use amqp_frame::Frame;
 use amqp_outbox::{Item, Reply};
+use amqp_promise::ErrorKind;
 use amqp_types::ChannelId;
 
 impl Session {
@@ -114,6 +114,7 @@ impl Session {
         let Some(channel) = self.channels.get(id) else {
             return;
         };
+        self.events.pay(id);
         if self.outbox.awaits(id, Reply::ChannelClosed) {
             let paid = Channel {
                 debt: Debt::Paid,

@@ -1,5 +1,5 @@
 use Rattle.std.proofs.Common.{◌≡◌, ◌⊎◌, ◌∙◌, false, Some, ap, subst}
-use Rattle.amqp_session.specs.declared.io_fault.IoFault.TheVariants.{BrokenPipe}
+use Rattle.amqp_promise.specs.declared.io_fault.IoFault.TheVariants.{BrokenPipe}
 use Rattle.amqp_session.specs.Talk.{has_ended}
 use Rattle.amqp_engine.specs.Engine.{Engine}
 use Rattle.amqp_engine.specs.Tell.{AppliesLent}

@@ -1,6 +1,6 @@
 use Rattle.std.proofs.Common.{◌≡◌, ◌∙◌, inl, inr, false, Option, Some, None, Result, Ok, Err, is_some, refl, ap, sym, subst}
-use Rattle.amqp_session.specs.declared.error.ErrorKind.{ErrorKind}
-use Rattle.amqp_session.specs.declared.error.ErrorKind.TheVariants.{OutOfTurns}
+use Rattle.amqp_promise.specs.declared.error.ErrorKind.{ErrorKind}
+use Rattle.amqp_promise.specs.declared.error.ErrorKind.TheVariants.{OutOfTurns}
 use Rattle.amqp_session.specs.Talk.{end_of, has_ended}
 use Rattle.amqp_engine.specs.Engine.{Engine}
 use Rattle.amqp_session.specs.Answers.{HandsOut}

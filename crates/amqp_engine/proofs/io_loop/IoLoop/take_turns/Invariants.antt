@@ -1,8 +1,8 @@
 -- The turns so far lead from the beginning to here.
 use Rattle.std.proofs.Common.{◌≡◌, ◌≤◌, List, length, false, IsTrue, Some, Err}
 use Rattle.amqp_types.specs.declared.text.Text.{Text}
-use Rattle.amqp_session.specs.declared.io_fault.IoFault.{IoFault}
-use Rattle.amqp_session.specs.declared.error.ErrorKind.TheVariants.{AuthProviderError}
+use Rattle.amqp_promise.specs.declared.io_fault.IoFault.{IoFault}
+use Rattle.amqp_promise.specs.declared.error.ErrorKind.TheVariants.{AuthProviderError}
 use Rattle.amqp_session.specs.Talk.{has_ended, end_of}
 use Rattle.amqp_engine.specs.Counts.{Rose}
 use Rattle.amqp_engine.specs.Causes.{fault_of, is_counted}

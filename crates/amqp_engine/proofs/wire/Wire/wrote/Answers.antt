@@ -14,7 +14,7 @@ invariant_of-self-in-Took c =
     let n = c.taken-taken.result in
     let capacity : c.taken.new.self.capacity ≡ inside.session.capacity =
     ap (λ (t : Talk). t.capacity) c.taken.ensures
-    ∙ taken-keeps (λ t. t.capacity) (record { ends = λ t s l cs ps b q ms n o. refl; writes = λ t w ms. refl; moments = λ t m. refl }) n (present_at c.args.at inside.session)
+    ∙ taken-keeps (λ t. t.capacity) (record { ends = λ t s l cs ps b q ms n o ns. refl; writes = λ t w ms. refl; moments = λ t m. refl }) n (present_at c.args.at inside.session)
     ∙ present-keeps (λ t. t.capacity) c.args.at inside.session (λ m. refl) in (
       λ now.
           let opened : is_open inside.session ≡ true = ap (λ (x : Engine). is_open x.talk) c.self.view_is ∙ c.requires.open in

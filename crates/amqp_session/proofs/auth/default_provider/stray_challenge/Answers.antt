@@ -2,7 +2,7 @@ use Rattle.std.proofs.Common.{◌≡◌, ◌∙◌, ℕ, List, ◌++◌, ap, sub
 use Rattle.std.specs.Prelude.{codes, IfOk}
 use Rattle.std.specs.String.{string_bytes}
 use Rattle.amqp_uri.specs.Mechanisms.{name_of}
-use Rattle.amqp_session.specs.Shown.{shown}
+use Rattle.amqp_promise.specs.Shown.{shown}
 use Rattle.amqp_session.proofs.auth.default_provider.stray_challenge.Goals as goal
 
 pub returns : goal.returns

@@ -3,7 +3,7 @@ use Rattle.std.specs.Prelude.{codes, IfOk}
 use Rattle.std.specs.String.{string_bytes}
 use Rattle.amqp_uri.specs.declared.mechanism.SASLMechanism.TheVariants.{Plain}
 use Rattle.amqp_uri.specs.Mechanisms.{name_of}
-use Rattle.amqp_session.specs.Shown.{shown}
+use Rattle.amqp_promise.specs.Shown.{shown}
 use Rattle.amqp_session.proofs.auth.token_auth.unknown_challenge.Goals as goal
 
 pub returns : goal.returns

@@ -3,7 +3,7 @@ use Rattle.std.specs.Option.{option_flatten}
 use Rattle.amqp_outbox.specs.Order.{seen_at}
 use Rattle.amqp_outbox.proofs.Seen.{at-seen}
 use Rattle.amqp_session.specs.declared.command.Answer.{Answer}
-use Rattle.amqp_session.specs.declared.error.ErrorKind.{ErrorKind}
+use Rattle.amqp_promise.specs.declared.error.ErrorKind.{ErrorKind}
 use Rattle.amqp_session.specs.Listed.{at}
 use Rattle.amqp_session.specs.Answers.{IsRejected}
 use Rattle.amqp_session.specs.Parts.{slot_seen, promised}

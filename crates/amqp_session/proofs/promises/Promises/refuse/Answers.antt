@@ -1,7 +1,7 @@
 use Rattle.std.proofs.Common.{◌≡◌, ◌∙◌, ap, refl, ◌-◌, Some, Err}
 use Rattle.amqp_outbox.specs.Order.{seen}
 use Rattle.amqp_outbox.proofs.Seen.{put-seen}
-use Rattle.amqp_session.specs.declared.error.ErrorKind.{ErrorKind}
+use Rattle.amqp_promise.specs.declared.error.ErrorKind.{ErrorKind}
 use Rattle.amqp_session.specs.declared.promises.Slot.TheVariants.{Answered}
 use Rattle.amqp_session.specs.Sharing.{holders_at, holds_any}
 use Rattle.amqp_session.specs.Parts.{slot_seen}

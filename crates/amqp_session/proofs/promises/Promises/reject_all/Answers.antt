@@ -1,5 +1,5 @@
 use Rattle.std.proofs.Common.{◌≡◌, ◌∙◌, ap, sym, ℕ, ◌==◌, ◌&&◌, if◌then◌else◌, false, Some}
-use Rattle.amqp_session.specs.declared.error.ErrorKind.{ErrorKind}
+use Rattle.amqp_promise.specs.declared.error.ErrorKind.{ErrorKind}
 use Rattle.amqp_session.specs.Recovery.{rejected_all}
 use Rattle.amqp_session.specs.Sharing.{shared_at, is_awaited, holders_at, is_loss}
 use Rattle.amqp_session.specs.Parts.{promised}

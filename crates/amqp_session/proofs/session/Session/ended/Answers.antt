@@ -1,5 +1,5 @@
 use Rattle.std.proofs.Common.{rules}
-use Rattle.amqp_session.specs.declared.error.ErrorKind.TheVariants.{ProtocolError}
+use Rattle.amqp_promise.specs.declared.error.ErrorKind.TheVariants.{ProtocolError}
 use Rattle.amqp_session.specs.Talk.{end_of}
 use Rattle.amqp_session.specs.Answers.{IsFailed}
 use Rattle.amqp_session.proofs.Cases.{on-err}

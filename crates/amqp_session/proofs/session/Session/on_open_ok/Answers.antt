@@ -5,13 +5,26 @@ use Rattle.amqp_outbox.specs.Parts.{queued}
 use Rattle.amqp_outbox.specs.Queued.{Queued, waiting_items}
 use Rattle.amqp_session.specs.contracts.session.Session.{the_view}
 use Rattle.amqp_session.specs.declared.committed.Mark.{Mark}
+use Rattle.amqp_session.specs.declared.event.Event.TheVariants as event
+use Rattle.amqp_session.specs.Events.{Noted, noted}
+use Rattle.amqp_session.specs.Parts.{noted_in}
 use Rattle.amqp_session.specs.Talk.{Talk}
 use Rattle.amqp_session.specs.Channels.{Listing}
 use Rattle.amqp_session.specs.ConnectionMethods.{connected, on_open_ok}
 use Rattle.amqp_session.specs.Reopening.{numbers_after, reopened_each}
 use Rattle.amqp_session.specs.Writing.{left_in}
+use Rattle.amqp_session.proofs.Made.{unheard-made}
+use Rattle.amqp_session.proofs.Keeping.{reopened-noted}
 use Rattle.amqp_session.proofs.Reopening.{reopened-more, on-open-ok, none-opened}
 use Rattle.amqp_session.proofs.session.Session.on_open_ok.Goals as goal
+
+pub returns-in_err-reserve-clause-idle : goal.returns-in_err-reserve-clause-idle
+returns-in_err-reserve-clause-idle c m =
+    let t = c.args.self.now in
+    let same = sym (ap (λ (n : Noted). n.events) (reopened-noted t.channels (connected t))) ∙ m.events in
+    let unheard = unheard-made t.noted.listens event.Connected t.noted.events same in
+    let taken : false ≡ true = c.in_err-reserve.ensures.idle (ap (λ (x : Talk). x.noted.listens) c.self.view_is ∙ unheard) in
+    absurd cc
 
 pub returns-in_err-reserve_reopening-clause-idle :
     goal.returns-in_err-reserve_reopening-clause-idle
@@ -58,8 +71,12 @@ returns-clause-ok c =
     let ns : List ℕ = numbers_after None t.configuration.channel_max t.channels in
     let waits : queued c.reopen.new.outbox ≡ reopened_each ns t.outbox =
     c.reopen.ensures ∙ ap (reopened_each ns) c.in_ok-reserve_reopening.ensures.same in
-    let state : Queued → List Mark → Listing → Talk = λ q ms l. record t { outbox = q; committed = ms; channels = l.listed; cursor = l.cursor } in
+    let state : Queued → List Mark → Listing → Noted → Talk =
+    λ q ms l n. record t { outbox = q; committed = ms; channels = l.listed; cursor = l.cursor; noted = n } in
+    let told : noted_in c.note_reserved.new.self ≡ noted event.Connected t.noted =
+    c.note_reserved.ensures ∙ ap (noted event.Connected) c.in_ok-reserve.ensures.same in
     c.connected.ensures
-    ∙ ap connected (λ i. state (waits i) (c.in_ok-reserve_reopening.ensures.marks i) (c.remove_above.ensures.agreed i))
+    ∙ ap (λ (x : Talk). record (connected x) { noted = x.noted })
+    (λ i. state (waits i) (c.in_ok-reserve_reopening.ensures.marks i) (c.remove_above.ensures.agreed i) (told i))
     ∙ sym (on-open-ok t c.in_ok-reserve_reopening.ensures.ordered)
     ∙ ap on_open_ok c.self.view_is

@@ -1,7 +1,7 @@
 use Rattle.std.proofs.Common.{◌≡◌, sym, subst, List, false, true}
 use Rattle.amqp_session.specs.declared.auth.asked.Asked.{Asked}
 use Rattle.amqp_session.specs.Talk.{Talk}
-use Rattle.amqp_session.specs.declared.error.ErrorKind.TheVariants.{MissingHeartbeatError}
+use Rattle.amqp_promise.specs.declared.error.ErrorKind.TheVariants.{MissingHeartbeatError}
 use Rattle.amqp_session.specs.Changes.{present_at, lose}
 use Rattle.amqp_session.specs.Asking.{Hears}
 use Rattle.amqp_session.specs.Ticks.{is_missed, link_due, tick, tick_questions}

@@ -2,7 +2,7 @@
 use Rattle.std.proofs.Common.{◌≡◌, ◌≤◌, ℕ, Option, length}
 use Rattle.amqp_outbox.specs.Parts.{queued, HasControlPlaces}
 use Rattle.amqp_outbox.specs.Queued.{waiting_items}
-use Rattle.amqp_session.specs.declared.error.ErrorKind.{ErrorKind}
+use Rattle.amqp_promise.specs.declared.error.ErrorKind.{ErrorKind}
 use Rattle.amqp_session.specs.declared.promises.Why.{Why}
 use Rattle.amqp_session.specs.Changes.{rejected_each, promises_on, without_all_on}
 use Rattle.amqp_session.specs.Parts.{promised, error_of, HasWhy}

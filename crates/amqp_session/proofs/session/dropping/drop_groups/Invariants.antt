@@ -2,8 +2,8 @@
 use Rattle.std.proofs.Common.{◌≡◌, ◌≤◌, length}
 use Rattle.amqp_outbox.specs.Parts.{queued}
 use Rattle.amqp_outbox.specs.Queued.{waiting_items}
-use Rattle.amqp_session.specs.declared.state.ConnectionState.TheVariants.{Closing}
-use Rattle.amqp_session.specs.declared.error.ErrorKind.TheVariants.{InvalidConnectionState}
+use Rattle.amqp_promise.specs.declared.state.ConnectionState.TheVariants.{Closing}
+use Rattle.amqp_promise.specs.declared.error.ErrorKind.TheVariants.{InvalidConnectionState}
 use Rattle.amqp_session.specs.Changes.{drop_groups}
 use Rattle.amqp_session.specs.Parts.{promised, HasPlace}
 use Rattle.amqp_session.proofs.Rejecting.{with_parts}

@@ -3,9 +3,9 @@ use Rattle.amqp_types.specs.declared.word.Word.TheVariants as word
 use Rattle.amqp_outbox.specs.Parts.{queued}
 use Rattle.amqp_outbox.specs.Queued.{Queued, waiting_items, group_promise, without_group}
 use Rattle.amqp_outbox.proofs.Waiting.{group-no-more}
-use Rattle.amqp_session.specs.declared.state.ChannelState.TheVariants as channel
-use Rattle.amqp_session.specs.declared.error.ErrorKind.{ErrorKind}
-use Rattle.amqp_session.specs.declared.error.ErrorKind.TheVariants.{InvalidChannelState}
+use Rattle.amqp_promise.specs.declared.state.ChannelState.TheVariants as channel
+use Rattle.amqp_promise.specs.declared.error.ErrorKind.{ErrorKind}
+use Rattle.amqp_promise.specs.declared.error.ErrorKind.TheVariants.{InvalidChannelState}
 use Rattle.amqp_session.specs.Talk.{Talk}
 use Rattle.amqp_session.specs.Changes.{Promises, drop_groups_of}
 use Rattle.amqp_session.specs.Parts.{promised}

@@ -3,8 +3,8 @@ use Rattle.std.proofs.Common.{◌≡◌, ◌≤◌, length}
 use Rattle.amqp_types.specs.declared.word.Word.TheVariants as word
 use Rattle.amqp_outbox.specs.Parts.{queued}
 use Rattle.amqp_outbox.specs.Queued.{waiting_items}
-use Rattle.amqp_session.specs.declared.state.ChannelState.TheVariants as channel
-use Rattle.amqp_session.specs.declared.error.ErrorKind.TheVariants.{InvalidChannelState}
+use Rattle.amqp_promise.specs.declared.state.ChannelState.TheVariants as channel
+use Rattle.amqp_promise.specs.declared.error.ErrorKind.TheVariants.{InvalidChannelState}
 use Rattle.amqp_session.specs.Changes.{drop_groups_of}
 use Rattle.amqp_session.specs.Parts.{promised, HasPlace}
 use Rattle.amqp_session.proofs.Rejecting.{with_parts}

@@ -2,9 +2,9 @@ use Rattle.std.proofs.Common.{◌≡◌, ◌∙◌, ap, sym, ℕ, List, Option, 
 use Rattle.amqp_types.specs.declared.word.Word.TheVariants as word
 use Rattle.amqp_outbox.specs.Parts.{queued}
 use Rattle.amqp_outbox.specs.Queued.{Queued, reply_promise, without_reply}
-use Rattle.amqp_session.specs.declared.state.ChannelState.TheVariants as channel
-use Rattle.amqp_session.specs.declared.error.ErrorKind.{ErrorKind}
-use Rattle.amqp_session.specs.declared.error.ErrorKind.TheVariants.{InvalidChannelState}
+use Rattle.amqp_promise.specs.declared.state.ChannelState.TheVariants as channel
+use Rattle.amqp_promise.specs.declared.error.ErrorKind.{ErrorKind}
+use Rattle.amqp_promise.specs.declared.error.ErrorKind.TheVariants.{InvalidChannelState}
 use Rattle.amqp_session.specs.Changes.{Promises, rejected_each, replies_on, without_replies_on}
 use Rattle.amqp_session.specs.Parts.{promised}
 use Rattle.amqp_session.proofs.Going.{ReplyGoes, reply-goes, no-replies, replies-gone}

@@ -2,8 +2,8 @@
 use Rattle.std.proofs.Common.{◌≡◌, length}
 use Rattle.amqp_types.specs.declared.word.Word.TheVariants as word
 use Rattle.amqp_outbox.specs.Parts.{queued}
-use Rattle.amqp_session.specs.declared.state.ChannelState.TheVariants as channel
-use Rattle.amqp_session.specs.declared.error.ErrorKind.TheVariants.{InvalidChannelState}
+use Rattle.amqp_promise.specs.declared.state.ChannelState.TheVariants as channel
+use Rattle.amqp_promise.specs.declared.error.ErrorKind.TheVariants.{InvalidChannelState}
 use Rattle.amqp_session.specs.Changes.{rejected_each, replies_on, without_replies_on}
 use Rattle.amqp_session.specs.Parts.{promised}
 use Rattle.amqp_session.proofs.session.dropping.drop_replies_of.Given as goal

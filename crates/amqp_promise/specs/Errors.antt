@@ -2,15 +2,15 @@
 use Rattle.std.specs.Prelude.{ℕ, List, ◌++◌, codes}
 use Rattle.std.specs.Fmt.{decimal}
 use Rattle.amqp_types.specs.Words.{text_of as word_text}
-use Rattle.amqp_session.specs.declared.state.ConnectionState.{ConnectionState}
-use Rattle.amqp_session.specs.declared.state.ConnectionState.TheVariants as connection
-use Rattle.amqp_session.specs.declared.state.ChannelState.{ChannelState}
-use Rattle.amqp_session.specs.declared.state.ChannelState.TheVariants as channel
-use Rattle.amqp_session.specs.declared.io_fault.IoFault.{IoFault}
-use Rattle.amqp_session.specs.declared.io_fault.IoFault.TheVariants.{Aborted, Refused, Reset, BrokenPipe, WouldBlock, Interrupted, Other}
-use Rattle.amqp_session.specs.declared.error.ErrorKind.{ErrorKind}
-use Rattle.amqp_session.specs.declared.error.ErrorKind.TheVariants.{ChannelsLimitReached, InvalidProtocolVersion, InvalidChannel, InvalidChannelState, InvalidConnectionState, IOError, ParsingError, ProtocolError, SerialisationError, MissingHeartbeatError, OutOfTurns, NoMemory, AuthProviderError}
-use Rattle.amqp_session.specs.Shown.{shown}
+use Rattle.amqp_promise.specs.declared.state.ConnectionState.{ConnectionState}
+use Rattle.amqp_promise.specs.declared.state.ConnectionState.TheVariants as connection
+use Rattle.amqp_promise.specs.declared.state.ChannelState.{ChannelState}
+use Rattle.amqp_promise.specs.declared.state.ChannelState.TheVariants as channel
+use Rattle.amqp_promise.specs.declared.io_fault.IoFault.{IoFault}
+use Rattle.amqp_promise.specs.declared.io_fault.IoFault.TheVariants.{Aborted, Refused, Reset, BrokenPipe, WouldBlock, Interrupted, Other}
+use Rattle.amqp_promise.specs.declared.error.ErrorKind.{ErrorKind}
+use Rattle.amqp_promise.specs.declared.error.ErrorKind.TheVariants.{ChannelsLimitReached, InvalidProtocolVersion, InvalidChannel, InvalidChannelState, InvalidConnectionState, IOError, ParsingError, ProtocolError, SerialisationError, MissingHeartbeatError, OutOfTurns, ForeignPass, NoMemory, AuthProviderError}
+use Rattle.amqp_promise.specs.Shown.{shown}
 
 -- the states of a connection, by their names
 abbrev pub state_name : ConnectionState → List ℕ
@@ -61,5 +61,6 @@ text_of (ProtocolError e) = codes "protocol error: " ++ decimal e.code ++ codes 
 text_of (SerialisationError size) = codes "failed to serialise: frame of " ++ decimal size ++ codes " bytes"
 text_of MissingHeartbeatError = codes "no heartbeat received from server for too long"
 text_of OutOfTurns = codes "the given turns were all taken"
+text_of (ForeignPass number place promise) = codes "foreign pass: " ++ decimal number
 text_of NoMemory = codes "memory was refused"
 text_of (AuthProviderError text) = codes "failure during authentication: " ++ text

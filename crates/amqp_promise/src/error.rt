@@ -1,13 +1,13 @@
-//! The errors of a session.
+//! What goes wrong with a connection.
 
 ghost use Rattle.std.specs.Prelude.{◌≡◌, IfOk};
-ghost use Rattle.amqp_session.specs.Errors.{text_of};
-ghost use Rattle.amqp_session.specs.Recovery.{can_be_recovered};
+ghost use Rattle.amqp_promise.specs.Errors.{text_of};
+ghost use Rattle.amqp_promise.specs.Kinds.{is_io_error, is_amqp_error, is_amqp_soft_error, is_amqp_hard_error, would_block, is_interrupted, can_be_recovered};
 
 use crate::io_fault::IoFault;
 use crate::shown::Shown;
 use crate::state::{ChannelState, ConnectionState};
-use amqp_types::{AMQPError, ChannelId, NoMemory, ProtocolVersion, Text, Word};
+use amqp_types::{AMQPError, AMQPErrorKind, ChannelId, NoMemory, ProtocolVersion, Text, Word};
 use std::alloc::Global;
 use std::fmt;
 use std::marker::Model;
@@ -37,23 +37,26 @@ pub enum ErrorKind {
     MissingHeartbeatError,
     /// A run took all its turns.
     OutOfTurns,
+    /// The number of a pass that another connection gave, its place there, and its promise, where it
+    /// has one.
+    ForeignPass(u32, u64, Option<u64>),
     /// An allocation was refused.
     NoMemory,
     /// Who authenticates refused to, with this text.
     AuthProviderError(Text),
 }
 
-/// An error, seen as its kind.
-#[derive(Debug, PartialEq, Eq, Drop)]
+/// An error, seen as its kind. Two are equal where their kinds are.
+#[derive(Debug, Drop)]
 pub struct Error {
     kind: ErrorKind,
 }
 
-/// What a call of the session answers.
+/// The answer of a call that may fail.
 pub type Result<T> = std::result::Result<T, Error>;
 
 impl Model for Error {
-    ghost use Rattle.amqp_session.specs.declared.error.ErrorKind.{ErrorKind};
+    ghost use Rattle.amqp_promise.specs.declared.error.ErrorKind.{ErrorKind};
 
     ghost Value = { ErrorKind };
 
@@ -63,8 +66,8 @@ impl Model for Error {
 }
 
 impl ErrorKind {
-    // Whether another link may serve after it.
-    pub(crate) fn can_be_recovered(&self) -> bool
+    /// Whether another link may serve after it.
+    pub fn can_be_recovered(&self) -> bool
         ensures { result ≡ can_be_recovered self.now }
     {
         matches!(
@@ -98,6 +101,9 @@ impl ErrorKind {
             ErrorKind::SerialisationError(size) => ErrorKind::SerialisationError(*size),
             ErrorKind::MissingHeartbeatError => ErrorKind::MissingHeartbeatError,
             ErrorKind::OutOfTurns => ErrorKind::OutOfTurns,
+            ErrorKind::ForeignPass(number, place, promise) => {
+                ErrorKind::ForeignPass(*number, *place, *promise)
+            }
             ErrorKind::NoMemory => ErrorKind::NoMemory,
             ErrorKind::AuthProviderError(text) => ErrorKind::AuthProviderError(text.try_clone()?),
         })
@@ -110,6 +116,54 @@ impl Error {
         ensures { result.now ≡ self.now }
     {
         &self.kind
+    }
+
+    /// Whether the link failed.
+    pub fn is_io_error(&self) -> bool
+        ensures { result ≡ is_io_error self.now }
+    {
+        matches!(self.kind, ErrorKind::IOError(_))
+    }
+
+    /// Whether it is an error of the protocol, found here or named by the server.
+    pub fn is_amqp_error(&self) -> bool
+        ensures { result ≡ is_amqp_error self.now }
+    {
+        matches!(self.kind, ErrorKind::ProtocolError(_))
+    }
+
+    /// Whether it is an error of the protocol that closes a channel.
+    pub fn is_amqp_soft_error(&self) -> bool
+        ensures { result ≡ is_amqp_soft_error self.now }
+    {
+        match &self.kind {
+            ErrorKind::ProtocolError(error) => matches!(error.kind(), AMQPErrorKind::Soft),
+            _ => false,
+        }
+    }
+
+    /// Whether it is an error of the protocol that closes the connection.
+    pub fn is_amqp_hard_error(&self) -> bool
+        ensures { result ≡ is_amqp_hard_error self.now }
+    {
+        match &self.kind {
+            ErrorKind::ProtocolError(error) => matches!(error.kind(), AMQPErrorKind::Hard),
+            _ => false,
+        }
+    }
+
+    /// Whether nothing could be done at the link without waiting.
+    pub fn wouldblock(&self) -> bool
+        ensures { result ≡ would_block self.now }
+    {
+        matches!(self.kind, ErrorKind::IOError(IoFault::WouldBlock))
+    }
+
+    /// Whether a call at the link was interrupted.
+    pub fn interrupted(&self) -> bool
+        ensures { result ≡ is_interrupted self.now }
+    {
+        matches!(self.kind, ErrorKind::IOError(IoFault::Interrupted))
     }
 
     /// Whether another link may serve after it. A session that recovers goes on then.
@@ -129,6 +183,29 @@ impl Error {
     }
 }
 
+impl PartialEq for Error {
+    ghost use Rattle.std.specs.Prelude.{◌≡◌, ◌↔◌, IsTrue};
+    ghost use Rattle.amqp_promise.specs.contracts.error.ErrorKindPartialEq.TheImpl as kind;
+    ghost use Rattle.amqp_promise.specs.contracts.error.ErrorKindPartialEq.TheImpl.Laws as kind_laws;
+
+    ghost eq = { kind.ghosts.eq };
+
+    ghost laws = { kind_laws.lawful.laws };
+
+    fn eq(&self, other: &Self) -> bool
+        ensures answers { result ≡ kind.ghosts.eq self.now other.now }
+        ensures equal { IsTrue result ↔ (self.now ≡ other.now) }
+    {
+        self.kind == other.kind
+    }
+}
+
+impl Eq for Error {
+    ghost use Rattle.amqp_promise.specs.contracts.error.ErrorKindEq.TheImpl.Laws as kind_laws;
+
+    ghost laws = { kind_laws.lawful.laws };
+}
+
 impl From<ErrorKind> for Error {
     ghost use Rattle.std.specs.Prelude.{◌≡◌};
 
@@ -139,9 +216,22 @@ impl From<ErrorKind> for Error {
     }
 }
 
+impl From<IoFault> for Error {
+    ghost use Rattle.std.specs.Prelude.{◌≡◌};
+    ghost use Rattle.amqp_promise.specs.declared.error.ErrorKind.TheVariants as kind;
+
+    ghost from_gives = { λ fault e. e ≡ kind.IOError fault };
+
+    fn from(fault: IoFault) -> Error {
+        Error {
+            kind: ErrorKind::IOError(fault),
+        }
+    }
+}
+
 impl From<NoMemory> for Error {
     ghost use Rattle.std.specs.Prelude.{◌≡◌};
-    ghost use Rattle.amqp_session.specs.declared.error.ErrorKind.TheVariants as kind;
+    ghost use Rattle.amqp_promise.specs.declared.error.ErrorKind.TheVariants as kind;
 
     ghost from_gives = { λ _ e. e ≡ kind.NoMemory };
 
@@ -154,7 +244,7 @@ impl From<NoMemory> for Error {
 
 impl fmt::Display for Error {
     ghost use Rattle.std.specs.Prelude.{Some};
-    ghost use Rattle.amqp_session.specs.Errors.{text_of};
+    ghost use Rattle.amqp_promise.specs.Errors.{text_of};
 
     ghost output = { λ e. Some (text_of e) };
 
@@ -199,6 +289,7 @@ impl fmt::Display for Error {
                 f.write_str("no heartbeat received from server for too long")
             }
             ErrorKind::OutOfTurns => f.write_str("the given turns were all taken"),
+            ErrorKind::ForeignPass(number, _, _) => write!(f, "foreign pass: {number}"),
             ErrorKind::NoMemory => f.write_str("memory was refused"),
             ErrorKind::AuthProviderError(text) => {
                 write!(f, "failure during authentication: {}", text.as_str())

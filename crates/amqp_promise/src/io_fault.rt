@@ -1,12 +1,14 @@
 //! The faults of a link.
 
 ghost use Rattle.std.specs.Prelude.{◌≡◌};
-ghost use Rattle.amqp_session.specs.Errors.{fault_text};
+ghost use Rattle.amqp_promise.specs.Errors.{fault_text};
 
 use amqp_types::Word;
+use thiserror::Error;
 
 /// What went wrong with a link.
-#[derive(Clone, Copy, Debug, PartialEq, Eq)]
+#[derive(Clone, Copy, Debug, PartialEq, Eq, Error)]
+#[error("{0}", self.text())]
 pub enum IoFault {
     /// Its input ended.
     Aborted,
@@ -25,7 +27,8 @@ pub enum IoFault {
 }
 
 impl IoFault {
-    pub(crate) fn text(self) -> &'static str
+    /// Its text.
+    pub fn text(self) -> &'static str
         ensures { result.now ≡ fault_text self }
     {
         match self {

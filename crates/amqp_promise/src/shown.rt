@@ -1,7 +1,7 @@
 //! Octets as a text that can be printed.
 
 ghost use Rattle.std.specs.Prelude.{◌≡◌, ◌<◌, Some};
-ghost use Rattle.amqp_session.specs.Shown.{shown, shown_octet, is_plain, hexadecimal_digit};
+ghost use Rattle.amqp_promise.specs.Shown.{shown, shown_octet, is_plain, hexadecimal_digit};
 
 use std::fmt;
 use std::marker::Model;
@@ -15,7 +15,7 @@ pub struct Shown<'a> {
 
 impl fmt::Display for Shown<'_> {
     ghost use Rattle.std.specs.Prelude.{Some};
-    ghost use Rattle.amqp_session.specs.Shown.{shown};
+    ghost use Rattle.amqp_promise.specs.Shown.{shown};
 
     ghost output = { λ s. Some (shown s.octets.now) };
 
@@ -34,7 +34,7 @@ struct ShownOctet {
 
 impl fmt::Display for ShownOctet {
     ghost use Rattle.std.specs.Prelude.{Some};
-    ghost use Rattle.amqp_session.specs.Shown.{shown_octet};
+    ghost use Rattle.amqp_promise.specs.Shown.{shown_octet};
 
     ghost output = { λ s. Some (shown_octet s.octet) };
 
