@@ -47,3 +47,21 @@ pub mod ReadEnds
 pub mod TurnEnds
 pub mod Faults
 pub mod Blaming
+-- What a client was told to send is what went out: what a session still has to say of what it was told, what each rule and each command leave of it, what is
+-- known of all links once frames were sent, and so through turns.
+pub mod Bearing
+pub mod Queueing
+pub mod Borne
+pub mod Bearers
+pub mod Commanding
+pub mod Leaving
+pub mod History
+pub mod Departing
+pub mod Passing
+pub mod Conveying
+pub mod WentOut
+-- What was handed out was read: what each frame hands out, and the invariant through the turns.
+pub mod Handing
+pub mod CameIn
+-- Both together, and through runs and single turns: the law that what is told is carried, `run: carried` and `apply: carried`.
+pub mod Carrying

@@ -15,7 +15,7 @@ use Rattle.amqp_engine.specs.Plan.{Plan, Coming, plan_write, plan_failure, plan_
 use Rattle.amqp_engine.specs.Log.{Log, PlansWrite, log_ask, log_step, log_write}
 use Rattle.amqp_engine.specs.Engine.{Engine, can_write, overlong_next, commit_all}
 use Rattle.amqp_session.specs.Writing.{frames_waiting}
-use Rattle.amqp_engine.specs.Turn.{is_before, Progress, Notes, Turn, answers_of, asks, wants_ask, goes, offer_part, offered, is_all, AreAnswers, read, written, turn, turns, starved_after, IsCut, IsAnswered, IsTurn, AreTurns, exchanges, cut_of}
+use Rattle.amqp_engine.specs.Turn.{is_before, Progress, Notes, Turn, answers_of, asks, wants_ask, goes, offer_part, offered, is_all, AreAnswers, read, written, turn, turns, starved_after, IsCut, IsAnswered, IsTurn, AreTurns, AreTold, exchanges, cut_of}
 use Rattle.amqp_engine.specs.Tell.{Offer, port_answer, offers_from, offers_of, turn_of, log_asks, log_stepped, log_offers, log_turn, log_turns, PlaysOffers, PlaysTurn, PlaysTurns, MayCome, RunsLent}
 use Rattle.amqp_engine.specs.Play.{waiting, room_of, fails_of, played_answer, played_writes, played_step, told_turn, played_turn_of, played_turn, played_turns, no_notes, noted, AreAnswered, IsPlayed}
 use Rattle.amqp_engine.proofs.Answering.{answer-size, answered-all}
@@ -269,6 +269,7 @@ Runs-played n e e' a log before after lent planned whole =
       engine = ap (λ us. turns us e) (sym is) ∙ r.leads.leaves;
       told = r.tells.told ∙ ap (λ us. Some (log_turns us e a)) is;
       answered = subst A is (turns-answered r.us e r.leads.may ends);
+      steps_told = subst AreTold is r.told;
       exchanged = subst X is (whole-allows (cut_of r.us) before after (exchanges r.us e) (turns-whole r.us e r.leads.may ends) lent.exchanged);
     }
 

@@ -23,7 +23,7 @@ are-append : (us vs : List Turn) (e : Engine) → AreTurns us e → AreTurns vs 
 are-append [] vs e h k = k
 are-append (u ∷ us) vs e h k = (h.0, are-append us vs (turn u e) h.1 k)
 
-Leads-append : (us vs : List Turn) (a b c : Engine) → Leads us a b → Leads vs b c → Leads (us ++ vs) a c
+pub Leads-append : (us vs : List Turn) (a b c : Engine) → Leads us a b → Leads vs b c → Leads (us ++ vs) a c
 Leads-append us vs a b c l m =
     let P : Engine → Type 0 = λ x. AreTurns vs x in
     record {

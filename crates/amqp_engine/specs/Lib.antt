@@ -12,6 +12,9 @@ pub mod Sending
 pub mod Exchange
 pub mod Unread
 pub mod Saying
+-- What was told is what went out, and what was handed out came.
+pub mod Carried
+pub mod Account
 -- The turns of a script that is played.
 pub mod Play
 -- What the contracts of private calls are stated with.

@@ -12,7 +12,7 @@ use Rattle.amqp_engine.specs.declared.given.Given.{Given}
 use Rattle.amqp_engine.specs.Plan.{Plan, Coming, next_coming, room_for}
 use Rattle.amqp_engine.specs.Log.{Log, loaded, log_write}
 use Rattle.amqp_engine.specs.Engine.{Engine, begin, can_write}
-use Rattle.amqp_engine.specs.Turn.{Turn, Notes, Progress, asks, offered, offer_part, is_all, read, turn, turns, exchanges}
+use Rattle.amqp_engine.specs.Turn.{Turn, Notes, Progress, asks, offered, offer_part, is_all, read, turn, turns, exchanges, AreTold}
 use Rattle.amqp_engine.specs.Tell.{turn_of, log_asks, log_stepped, log_turn, log_turns}
 
 -- ---- the answers to the writes of a turn
@@ -110,4 +110,5 @@ pub record IsPlayed (allowed : ℕ) (e e' : Engine) (log : Log) (log' : Option L
   pub engine : turns (played_turns allowed answers e log) e ≡ e'
   pub told : log' ≡ Some (log_turns (played_turns allowed answers e log) e log)
   pub answered : AreAnswered (played_turns allowed answers e log) e
+  pub steps_told : AreTold (played_turns allowed answers e log)
   pub exchanged : Allows before (exchanges (played_turns allowed answers e log) e)

@@ -5,7 +5,7 @@ ghost use Rattle.amqp_ring.specs.Ring.{capacity};
 ghost use Rattle.amqp_types.specs.declared.text.Text.{Text};
 ghost use Rattle.amqp_promise.specs.declared.io_fault.IoFault.{IoFault};
 ghost use Rattle.amqp_session.specs.Config.{config_of};
-ghost use Rattle.amqp_session.specs.Talk.{start, has_ended, end_of};
+ghost use Rattle.amqp_session.specs.Talk.{Talk, start, has_ended, end_of};
 ghost use Rattle.amqp_session.specs.ChannelMethods.{frames_of};
 ghost use Rattle.amqp_session.specs.Commands.{command as command_rule, promise_of};
 ghost use Rattle.amqp_session.specs.Answers.{HandsOut, Takes, TakesEvent, take_frames};
@@ -15,6 +15,7 @@ ghost use Rattle.amqp_engine.specs.Tell.{AppliesLent, TakesTurnLent, RunsLent, l
 ghost use Rattle.amqp_engine.specs.Log.{Log};
 ghost use Rattle.amqp_engine.specs.Unread.{IsRead};
 ghost use Rattle.amqp_engine.specs.Sending.{Sending};
+ghost use Rattle.amqp_engine.specs.Account.{IsNew, HasCarried};
 ghost use Rattle.amqp_engine.specs.Saying.{HasSent, TellsLinks, GoesOn, GoesOnce};
 ghost use Rattle.amqp_engine.specs.Causes.{Brings, BringsOne, brought, fault_of, is_counted};
 ghost use Rattle.amqp_engine.specs.Counts.{Rose};
@@ -122,6 +123,7 @@ impl IoLoop {
             → IsPlayed turns self.old self.new log (P.log port.new) (A.allows provider.old)) }
         ensures legal { (ss : List Sending) → HasSent self.old ss
             → GoesOn ss self.old self.new (P.log port.old) (P.log port.new) }
+        ensures carried { (t : Talk) → IsNew t → HasCarried t self.old → HasCarried t self.new }
         ensures read { IsRead self.new }
         ensures faults { P.faults port.old ≤ P.faults port.new }
         ensures never_falls { A.refusals provider.old ≤ A.refusals provider.new }
@@ -223,6 +225,8 @@ impl IoLoop {
         ensures only { IfErr result (λ e. e ≡ ErrorKind.NoMemory) }
         ensures legal { (ss : List Sending) → has_ended self.old.talk ≡ false → HasSent self.old ss
             → GoesOnce told.at told.step bytes.now ss self.old self.new (P.log port.old) (P.log port.new) }
+        ensures carried { (t : Talk) (before : Engine) → IsNew t → HasCarried t before
+            → has_ended before.talk ≡ false → self.old ≡ asks before → HasCarried t self.new }
         ensures read { IsRead self.new }
         ensures faults { P.faults port.old ≤ P.faults port.new }
         ensures never_falls { A.refusals provider.old ≤ A.refusals provider.new }

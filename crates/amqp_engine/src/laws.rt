@@ -14,6 +14,8 @@ ghost use Rattle.amqp_engine.specs.Play.{replayed, AreAnswered};
 ghost use Rattle.amqp_engine.specs.Sending.{Sending, sendings, frames, frames_sent, link_bytes, SendsInOrder};
 ghost use Rattle.amqp_engine.specs.Saying.{HasSent, TellsLinks, AreGivenTold};
 ghost use Rattle.amqp_engine.specs.Unread.{IsRead};
+ghost use Rattle.amqp_engine.specs.Carried.{Carried};
+ghost use Rattle.amqp_engine.specs.Account.{IsNew, account};
 
 /// A run that may take no turn, and one of a session that had ended, take no step and write
 /// nothing.
@@ -72,4 +74,10 @@ pub fn conversations_are_legal()
     ensures script { (t : Talk) (gs : List Given) (answers : List Asked) → HasSent (begin t) []
         → AreGivenTold gs → AreAnswered (replayed t gs answers) (begin t)
         → AllByRecursion (λ (s : Sending). Legal (frames_sent s)) (sendings t (replayed t gs answers)) }
+{}
+
+/// Nothing is torn, swapped or sent twice, and nothing is handed out that did not come: so through all
+/// turns of an engine that was new.
+pub fn what_is_told_is_carried()
+    ensures { (t : Talk) (us : List Turn) → IsNew t → AreTurns us (begin t) → AreTold us → Carried (account t us) }
 {}

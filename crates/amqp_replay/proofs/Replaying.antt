@@ -1,5 +1,5 @@
 -- A replay, from the contracts of the port and the engine.
-use Rattle.std.proofs.Common.{◌≡◌, ℕ, List, [], ◌∷◌, Bool, true, false, Option, Some, None, is_some, IfSome, IfOk, Result, Ok, Err, length, if◌then◌else◌, ap, sym, subst, refl, ◌∙◌}
+use Rattle.std.proofs.Common.{◌≡◌, inl, inr, ℕ, List, [], ◌∷◌, Bool, true, false, Option, Some, None, is_some, IfSome, IfOk, Result, Ok, Err, length, if◌then◌else◌, ap, sym, subst, refl, ◌∙◌}
 use Rattle.std.specs.Prelude.{IsSome, MatchBool}
 use Rattle.amqp_session.specs.Providers.{Exchange, Allows}
 use Rattle.amqp_session.specs.DefaultAnswers.{DefaultAuth}
@@ -11,8 +11,11 @@ use Rattle.amqp_engine.specs.Log.{Log, loaded}
 use Rattle.amqp_engine.specs.Engine.{Engine, begin}
 use Rattle.amqp_engine.specs.Play.{IsPlayed}
 use Rattle.amqp_engine.specs.Saying.{HasSent, new, told, TellsLinks, SpellLegal}
+use Rattle.amqp_engine.specs.Account.{IsNew}
+use Rattle.amqp_engine.proofs.Carrying.{all-carried}
+use Rattle.amqp_engine.proofs.Playing.{played-are-turns}
 use Rattle.amqp_replay.specs.Grammar.{Scenario}
-use Rattle.amqp_replay.specs.Top.{set_up, engine_of, replayed_log, replayed_links, replayed_exchange, handed_state, answers_of, reported, summed, printout, generated_printout}
+use Rattle.amqp_replay.specs.Top.{set_up, session_of, engine_of, replayed_turns, replayed_log, replayed_links, replayed_exchange, handed_state, answers_of, reported, summed, printout, generated_printout}
 use Rattle.amqp_replay.specs.Runs.{IsReplayed, IsMade}
 use Rattle.amqp_replay.specs.Report.{Printout}
 
@@ -20,6 +23,11 @@ use Rattle.amqp_replay.specs.Report.{Printout}
 pub silent : (listens : Bool) (config : Config) → HasSent (begin (set_up listens config)) []
 silent true config = told Listen tt (new config)
 silent false config = new config
+
+-- its session was told nothing, but perhaps to listen
+is-new : (listens : Bool) (config : Config) → IsNew (set_up listens config)
+is-new true config = (config, inr refl)
+is-new false config = (config, inl refl)
 
 -- and a port that was loaded tells so
 pub tells-nothing : (listens : Bool) (config : Config) (gs : List Given) → TellsLinks (begin (set_up listens config)) [] (loaded gs)
@@ -51,7 +59,12 @@ IsReplayed-run s n e e' before after links state count fresh loads plays whole t
       may = record { answered = played.answered; allowed = played.exchanged };
       talk_is = sym (ap (λ (x : Engine). x.talk) played.engine);
       links_are = sym (ties_at after (replayed_log s answers) links played.told ties);
-      told = record { told = played.told; legal = legal (replayed_log s answers) played.told };
+      told = record {
+        told = played.told;
+        legal = legal (replayed_log s answers) played.told;
+        carried = all-carried (session_of s) (replayed_turns s answers) (is-new s.listens s.config)
+            (played-are-turns (length s.steps) answers (engine_of s) (loaded s.steps) played.answered) played.steps_told;
+      };
     }
 
 pub none_from : {A : Type 0} (o : Option A) → is_some o ≡ false → o ≡ None

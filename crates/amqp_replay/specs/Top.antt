@@ -14,6 +14,8 @@ use Rattle.amqp_engine.specs.Turn.{Turn, talk, exchanges}
 use Rattle.amqp_engine.specs.Tell.{log_turns}
 use Rattle.amqp_engine.specs.Play.{replayed, AreAnswered}
 use Rattle.amqp_engine.specs.Saying.{SpellLegal}
+use Rattle.amqp_engine.specs.Carried.{Carried}
+use Rattle.amqp_engine.specs.Account.{account}
 use Rattle.amqp_replay.specs.declared.limits.TheConstants.{MOST_READ}
 use Rattle.amqp_replay.specs.declared.status.TheConstants.{CLOSED, REFUSED, USAGE, SOURCE_FAILED, SINK_FAILED, FAILED, RUNNING, NO_MEMORY}
 use Rattle.amqp_replay.specs.Grammar.{Scenario, parsed}
@@ -117,10 +119,12 @@ generated_printout script (Err number) answers = record { status = REFUSED; text
 generated_printout script (Ok s) answers = summed script (replayed_links s answers) (replayed_talk s answers)
 
 -- the port tells of the run: its steps, the writes to it with their answers, and the bytes of the links, which are
--- printed; on each link they spell the frames of a legal conversation, in order, and then a part of one more
+-- printed; on each link they spell the frames of a legal conversation, in order, and then a part of one more; and
+-- nothing is torn, swapped or sent twice, nor handed out that did not come
 pub record TellsRun (s : Scenario) (answers : List Asked) (log : Option Log) : Type 0 where
   pub told : log ≡ Some (replayed_log s answers)
   pub legal : SpellLegal (replayed_links s answers)
+  pub carried : Carried (account (session_of s) (replayed_turns s answers))
 
 -- the port tells of the run of a script of which no line is refused
 abbrev pub TellsReplay : Result Scenario ℕ → List Asked → Option Log → Type 0

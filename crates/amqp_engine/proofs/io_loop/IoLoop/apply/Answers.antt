@@ -10,6 +10,7 @@ use Rattle.amqp_engine.proofs.LeftUnread.{Applies-read}
 use Rattle.amqp_engine.proofs.TurnEnds.{applied-cause}
 use Rattle.amqp_engine.proofs.Faults.{applied-fault}
 use Rattle.amqp_engine.proofs.GoingOn.{applies-on}
+use Rattle.amqp_engine.proofs.Carrying.{turn-carried}
 use Rattle.amqp_engine.proofs.Blaming.{blamed}
 use Rattle.amqp_engine.proofs.io_loop.IoLoop.apply.Goals as goal
 
@@ -78,3 +79,11 @@ returns-clause-refusal_counted g c text running h =
 pub returns-in_err-apply-clause-refusal_counted : goal.returns-in_err-apply-clause-refusal_counted
 returns-in_err-apply-clause-refusal_counted g c text running h =
     blamed c.self.inside.wire.talk c.apply.new.self.talk _ _ text c.apply.ensures.blames (ap (λ (x : Engine). has_ended x.talk) c.self.view_is ∙ running) h
+
+pub returns-clause-carried : goal.returns-clause-carried
+returns-clause-carried g c t before new h running asked =
+    turn-carried _ _ _ before _ _ _ _ t c.apply.ensures.turn.applies c.hold.ensures running (c.self.view_is ∙ asked) new h
+
+pub returns-in_err-apply-clause-carried : goal.returns-in_err-apply-clause-carried
+returns-in_err-apply-clause-carried g c t before new h running asked =
+    turn-carried _ _ _ before _ _ _ _ t c.apply.ensures.turn.applies c.hold.ensures running (c.self.view_is ∙ asked) new h

@@ -7,6 +7,7 @@ use Rattle.amqp_session.specs.Answers.{HandsOut}
 use Rattle.amqp_engine.proofs.Playing.{runs-played}
 use Rattle.amqp_engine.proofs.TurnEnds.{runs-bring, not-turns}
 use Rattle.amqp_engine.proofs.GoingOn.{runs-on}
+use Rattle.amqp_engine.proofs.Carrying.{run-carried}
 use Rattle.amqp_engine.proofs.io_loop.IoLoop.run.Goals as goal
 use Rattle.amqp_engine.proofs.io_loop.IoLoop.run.Goals.{in-Some, in-None}
 
@@ -47,3 +48,6 @@ returns-clause-only_out_of_turns g c running is =
 
 pub returns-clause-legal : goal.returns-clause-legal
 returns-clause-legal g c ss h = runs-on _ _ _ _ _ ss c.take_turns.ensures.turns.runs h
+
+pub returns-clause-carried : goal.returns-clause-carried
+returns-clause-carried g c t new h = run-carried _ _ _ _ _ t c.take_turns.ensures.turns.runs new h

@@ -1,0 +1,152 @@
+-- Nothing is torn, swapped or sent twice: what a client was told to send is what went out, and what was handed out
+-- came. It is said of what can be seen, and shares nothing with the rules of the session.
+use Rattle.std.specs.Prelude.{◌≡◌, ◌≢◌, ◌≤◌, ◌⊎◌, ℕ, suc, ◌==◌, ◌&&◌, Bool, true, false, List, [], ◌∷◌, ◌++◌, length, map, filter, slice_get, Some, unwrap_or}
+use Rattle.std.specs.List.{flat_map, AllByRecursion}
+use Rattle.amqp_frame.specs.declared.frame.Frame.{Frame}
+use Rattle.amqp_frame.specs.declared.frame.Frame.TheVariants.{Raw}
+use Rattle.amqp_frame.specs.declared.frame.RawKind.TheVariants.{RawMethod, Header, Body}
+use Rattle.amqp_frame.specs.RawMethods.{OtherMethod, spell_raw_method}
+use Rattle.amqp_session.specs.declared.command.Cmd.{Cmd}
+use Rattle.amqp_session.specs.declared.command.Cmd.TheVariants.{Send, Publish}
+use Rattle.amqp_session.specs.declared.handed.Handed.{Handed}
+use Rattle.amqp_session.specs.Publishing.{content_header}
+use Rattle.amqp_session.specs.Listed.{at}
+
+-- what can be seen of a client and its links
+pub record Account : Type 0 where
+  -- what it was told that is answered, in order: the first has the number 1
+  pub commands : List Cmd
+  -- by number, whether a command was answered Sent
+  pub answered_sent : ℕ → Bool
+  -- the frames that were sent on each link, in order
+  pub sent : List (List Frame)
+  -- the frames that were read on each link, in order
+  pub read : List (List Frame)
+  -- the frames that were handed out, by the promise that opened their channel
+  pub handed : List (ℕ × List Handed)
+
+-- ---- the frames of a command
+
+-- a method, one header with that method's class, the length of the body and the properties, and the body in frames,
+-- none of which is empty
+pub record IsContent (n : ℕ) (method : OtherMethod) (properties body : List ℕ) (fs : List Frame) : Type 0 where
+  pub pieces : List (List ℕ)
+  pub not_empty : AllByRecursion (λ piece. 1 ≤ length piece) pieces
+  pub joined : flat_map (λ piece. piece) pieces ≡ body
+  pub frames : fs
+      ≡ Raw n RawMethod (spell_raw_method method)
+      ∷ Raw n Header (content_header method.class (length body) properties)
+      ∷ map (Raw n Body) pieces
+
+-- the frames of a send, and of a publish; other commands have none
+abbrev pub AreFramesOf : Cmd → List Frame → Type 0
+AreFramesOf (Send channel method) fs = fs ≡ Raw channel.id RawMethod (spell_raw_method method) ∷ []
+AreFramesOf (Publish channel method properties body) fs = IsContent channel.id method properties body fs
+AreFramesOf _ fs = ⊥
+
+-- a command that sends one method
+abbrev pub is_send : Cmd → Bool
+is_send (Send channel method) = true
+is_send _ = false
+
+-- a command that publishes
+abbrev pub is_publish : Cmd → Bool
+is_publish (Publish channel method properties body) = true
+is_publish _ = false
+
+-- the frames of the commands of a kind that were answered Sent, in order of number, command after command; the first of
+-- the commands has this number
+pub data AreSent (is_kind : Cmd → Bool) (answered_sent : ℕ → Bool) : ℕ → List Cmd → List (List Frame) → Type 0 where
+  none : {n : ℕ} → AreSent is_kind answered_sent n [] []
+  other : {n : ℕ} {c : Cmd} {cs : List Cmd} {fss : List (List Frame)} → (is_kind c && answered_sent n) ≡ false
+      → AreSent is_kind answered_sent (suc n) cs fss → AreSent is_kind answered_sent n (c ∷ cs) fss
+  sent : {n : ℕ} {c : Cmd} {cs : List Cmd} {fs : List Frame} {fss : List (List Frame)}
+      → (is_kind c && answered_sent n) ≡ true → AreFramesOf c fs
+      → AreSent is_kind answered_sent (suc n) cs fss → AreSent is_kind answered_sent n (c ∷ cs) (fs ∷ fss)
+
+-- ---- what is set aside
+
+-- a frame that is passed through
+abbrev pub is_raw : Frame → Bool
+is_raw (Raw n kind bytes) = true
+is_raw _ = false
+
+-- those that are passed through
+abbrev pub raw_frames : List Frame → List Frame
+raw_frames fs = filter is_raw fs
+
+-- the first frames of a publish that was not answered Sent, but not all of its frames
+pub record IsTorn (a : Account) (part : List Frame) : Type 0 where
+  -- how many commands came before it
+  pub before : ℕ
+  pub command : Cmd
+  pub told : slice_get a.commands before ≡ Some command
+  pub publish : is_publish command ≡ true
+  pub unanswered : a.answered_sent (suc before) ≡ false
+  pub rest : List Frame
+  pub proper : rest ≢ []
+  pub frames : AreFramesOf command (part ++ rest)
+
+-- of the frames of a link the last are set aside: none, or such a part of a publish
+pub record IsCut (a : Account) (fs kept : List Frame) : Type 0 where
+  pub part : List Frame
+  pub frames : fs ≡ kept ++ part
+  pub torn : (part ≡ []) ⊎ IsTorn a part
+
+-- so on each link
+abbrev pub AreCut : Account → List (List Frame) → List (List Frame) → Type 0
+AreCut a [] [] = Unit {0}
+AreCut a (fs ∷ links) (kept ∷ more) = IsCut a fs kept × AreCut a links more
+AreCut a _ _ = ⊥
+
+-- ---- what is claimed
+
+-- the elements of two lists, in the order of each
+pub data Merges {A : Type 0} : List A → List A → List A → Type 0 where
+  none : Merges [] [] []
+  left : {x : A} {xs ys zs : List A} → Merges xs ys zs → Merges (x ∷ xs) ys (x ∷ zs)
+  right : {y : A} {xs ys zs : List A} → Merges xs ys zs → Merges xs (y ∷ ys) (y ∷ zs)
+
+-- the elements of a list without some of them, in order
+pub data IsWithin {A : Type 0} : List A → List A → Type 0 where
+  none : IsWithin [] []
+  kept : {x : A} {xs ys : List A} → IsWithin xs ys → IsWithin (x ∷ xs) (x ∷ ys)
+  left_out : {y : A} {xs ys : List A} → IsWithin xs ys → IsWithin xs (y ∷ ys)
+
+-- one list after another
+abbrev pub joined : {A : Type 0} → List (List A) → List A
+joined xss = flat_map (λ xs. xs) xss
+
+-- the frames of the sends that were answered Sent and those of the publishes that were answered Sent, each in order of
+-- number, went out in turns, command after command, and nothing else of what is passed through went out but what is set
+-- aside
+pub record WentOut (a : Account) : Type 0 where
+  pub kept : List (List Frame)
+  pub cut : AreCut a (map raw_frames a.sent) kept
+  pub sends : List (List Frame)
+  pub publishes : List (List Frame)
+  pub are_sends : AreSent is_send a.answered_sent 1 a.commands sends
+  pub are_publishes : AreSent is_publish a.answered_sent 1 a.commands publishes
+  pub order : List (List Frame)
+  pub in_turns : Merges sends publishes order
+  pub whole : joined kept ≡ joined order
+
+-- a frame that was handed out, as it was read
+abbrev pub frame_of : Handed → Frame
+frame_of h = Raw h.channel h.kind h.bytes
+
+-- what was handed out on the channel that a promise opened, of what was handed out on all
+abbrev pub handed_on : ℕ → List (ℕ × Handed) → List Handed
+handed_on opened hs = map (λ h. h.1) (filter (λ h. h.0 == opened) hs)
+
+-- what was handed out was read, once each and in order
+pub record CameIn (a : Account) : Type 0 where
+  -- all of it, in order, with the promise that opened its channel
+  pub handed : List (ℕ × Handed)
+  pub each : (opened : ℕ) → handed_on opened handed ≡ unwrap_or (at opened a.handed) []
+  pub read : IsWithin (map (λ h. frame_of h.1) handed) (raw_frames (joined a.read))
+
+-- nothing is torn, swapped or sent twice, and nothing is handed out that did not come
+pub record Carried (a : Account) : Type 0 where
+  pub went_out : WentOut a
+  pub came_in : CameIn a

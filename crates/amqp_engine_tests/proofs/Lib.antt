@@ -1,0 +1,2 @@
+-- Which clients carried what they were told.
+pub mod Accounting

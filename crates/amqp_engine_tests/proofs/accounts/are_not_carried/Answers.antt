@@ -1,0 +1,13 @@
+use Rattle.amqp_engine_tests.proofs.Accounting.{torn-not-carried, swapped-not-carried, twice-not-carried, on-two-links-not-carried, other-body-not-carried, made-up-not-carried}
+use Rattle.amqp_engine_tests.proofs.accounts.are_not_carried.Goals as goal
+
+pub returns : goal.returns
+returns c =
+    record {
+      torn = torn-not-carried;
+      swapped = swapped-not-carried;
+      twice = twice-not-carried;
+      on_two_links = on-two-links-not-carried;
+      other_body = other-body-not-carried;
+      made_up = made-up-not-carried;
+    }

@@ -1,0 +1,2 @@
+-- What can be seen of some clients.
+pub mod Accounts

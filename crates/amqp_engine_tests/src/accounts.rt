@@ -1,0 +1,32 @@
+//! Which accounts of a client are carried, by the definition alone.
+
+ghost use Rattle.amqp_engine.specs.Carried.{Carried};
+ghost use Rattle.amqp_engine_tests.specs.Accounts.{all_sent, cut_off, torn_and_sent, swapped, twice, on_two_links, other_body, made_up};
+
+// Sends and publishes that went out whole and in turns, and a frame that came, are carried; so is a
+// publish that was cut off with its link and not answered Sent.
+fn are_carried()
+    ensures whole { Carried all_sent }
+    ensures cut_off { Carried cut_off }
+{}
+
+// A torn publish that was answered Sent, two sends that were swapped, one that was sent twice, or on two
+// links, a publish with another body, and a frame that was handed out and did not come are not carried.
+fn are_not_carried()
+    ensures torn { Carried torn_and_sent → ⊥ }
+    ensures swapped { Carried swapped → ⊥ }
+    ensures twice { Carried twice → ⊥ }
+    ensures on_two_links { Carried on_two_links → ⊥ }
+    ensures other_body { Carried other_body → ⊥ }
+    ensures made_up { Carried made_up → ⊥ }
+{}
+
+#[test]
+fn what_went_out_is_carried() {
+    are_carried();
+}
+
+#[test]
+fn what_is_torn_swapped_or_made_up_is_not_carried() {
+    are_not_carried();
+}
