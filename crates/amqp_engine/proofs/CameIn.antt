@@ -26,6 +26,8 @@ use Rattle.amqp_session.specs.Links.{asked, linked, link_failed, piece, misread,
 use Rattle.amqp_session.specs.Ticks.{tick}
 use Rattle.amqp_session.specs.Commands.{command}
 use Rattle.amqp_session.specs.Writing.{frames_waiting, taken, end_overlong}
+use Rattle.amqp_session.specs.HandingOut.{HandedOut, handed_of, hands_out}
+use Rattle.amqp_session.specs.CommandFrames.{is_raw}
 use Rattle.amqp_engine.specs.declared.port.Step.{Step}
 use Rattle.amqp_engine.specs.declared.port.Step.TheVariants.{Linked, LinkFailed, Piece, End, Fault, Room, Tick, Command}
 use Rattle.amqp_engine.specs.declared.port.Wrote.{Wrote}
@@ -35,10 +37,11 @@ use Rattle.amqp_engine.specs.Plan.{at_most_64}
 use Rattle.amqp_engine.specs.Engine.{Engine, begin, with_talk, rule_at, settle, step_engine, step_questions, front_of, can_read, read_row, read_badly, commit_all, overlong_next, ended_overlong, refuse_overlong, took, wrote}
 use Rattle.amqp_engine.specs.Turn.{Turn, answers_of, Progress, asks, wants_ask, begun, goes, part, questioned, is_part, is_piece, step_part, reads, read_part, reading, offered, answered, offer_part, drained, is_all, read, written, applied, turn, turns, starved_after, IsTurn, AreTurns}
 use Rattle.amqp_engine.specs.Sending.{Sending, offer_sending, offers_sending, step_sending, turn_sending, nothing_sent}
-use Rattle.amqp_engine.specs.Exchange.{HandedOut, handed_of, hands_out, Event, Heard, Said, heard_in, heard_by, heard_of, said_of, step_exchange, turn_exchange, exchange_from, exchange}
-use Rattle.amqp_engine.specs.Carried.{IsWithin, none, kept, left_out, is_raw, raw_frames, joined, frame_of, CameIn}
+use Rattle.amqp_engine.specs.Exchange.{Event, Heard, Said, heard_in, heard_by, heard_of, said_of, step_exchange, turn_exchange, exchange_from, exchange}
+use Rattle.amqp_engine.specs.Carried.{IsWithin, none, kept, left_out, raw_frames, joined, frame_of, CameIn}
 use Rattle.amqp_engine.specs.Account.{heard_frame, IsNew, account}
 use Rattle.amqp_session.proofs.Cases.{if_case, if-false, and-false}
+use Rattle.amqp_session.proofs.Handing.{AreHanded, as_pairs, Hands, IsSameHanded, hands-none, frame-hands, command-handed, present-handed, linked-handed, failed-handed, piece-handed, lost-handed, tick-handed, misread-handed, taken-handed, overlong-handed, starve-handed, present-hands_out}
 use Rattle.amqp_engine.proofs.Settling.{settle-talk}
 use Rattle.amqp_engine.proofs.Commits.{commits-keep}
 use Rattle.amqp_engine.proofs.LinkKept.{leaves-step}
@@ -46,7 +49,6 @@ use Rattle.amqp_engine.proofs.Sent.{on_last-append}
 use Rattle.amqp_engine.proofs.Sends as sends
 use Rattle.amqp_engine.proofs.Sends.{Sends, offers-same}
 use Rattle.amqp_engine.proofs.Lifting as lifting
-use Rattle.amqp_engine.proofs.Handing.{AreHanded, as_pairs, Hands, IsSameHanded, hands-none, frame-hands, command-handed, present-handed, linked-handed, failed-handed, piece-handed, lost-handed, tick-handed, misread-handed, taken-handed, overlong-handed, starve-handed, present-hands_out}
 
 -- ---- what is handed out, one after the other
 

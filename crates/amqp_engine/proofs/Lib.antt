@@ -47,21 +47,46 @@ pub mod ReadEnds
 pub mod TurnEnds
 pub mod Faults
 pub mod Blaming
--- What a client was told to send is what went out: what a session still has to say of what it was told, what each rule and each command leave of it, what is
--- known of all links once frames were sent, and so through turns.
-pub mod Bearing
-pub mod Queueing
-pub mod Borne
-pub mod Bearers
-pub mod Commanding
-pub mod Leaving
+-- What a client was told to send is what went out: what is known of all links once frames were sent, and so through turns.
 pub mod History
 pub mod Departing
 pub mod Passing
 pub mod Conveying
 pub mod WentOut
--- What was handed out was read: what each frame hands out, and the invariant through the turns.
-pub mod Handing
+-- What was handed out was read: the invariant through the turns.
 pub mod CameIn
 -- Both together, and through runs and single turns: the law that what is told is carried, `run: carried` and `apply: carried`.
 pub mod Carrying
+-- A script of a faultless server ends closed: what is committed is said to the server.
+pub mod SpeaksAll
+-- The parts of a turn keep the tie of server and session: the step, what stands at the front, and all that is read of what has come.
+pub mod Follows
+pub mod Serving
+pub mod Heeding
+pub mod Short
+pub mod Asks
+pub mod Offering
+-- The writes of a turn keep it: all that may go out is sent and said, and nothing is left unsent.
+pub mod Goes
+pub mod Draining
+pub mod Voicing
+pub mod Drained
+-- A script whose link takes all and stays is played on: its steps come in order, and all that is offered is taken.
+pub mod PlayedOn
+-- No heartbeat is missed where the server is timely; no turn is cut; what the provider answers in a turn; what was sent stays; and the first tune-ok that was
+-- said has what was agreed.
+pub mod Timely
+pub mod Clocks
+pub mod Uncut
+pub mod Replies
+pub mod Grown
+pub mod TunedWrites
+-- A turn keeps it, and so do turns, until the session has ended Closed.
+pub mod OnReading
+pub mod Hearkens
+pub mod Stepping
+pub mod Farewell
+pub mod Begun
+pub mod Turned
+pub mod Rounds
+pub mod Closed

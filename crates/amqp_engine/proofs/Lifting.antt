@@ -22,7 +22,7 @@ stays-reads f h zero p = refl
 stays-reads f h (suc n) p =
     if_case (λ (x : Progress). f x ≡ f p) (goes p && can_read p.engine) (reads n (read_part p)) p (stays-reads f h n (read_part p) ∙ h _ _ _ _ p) refl
 
-stays-step : {A : Type 0} (f : Progress → A) (h : (e : Engine) (n : ℕ) (left : List Asked) (qs : List Question) (p : Progress) → f (record p { engine = e; done = n; answers = left; questions = qs }) ≡ f p) (step : Step) (bytes : List ℕ) (p : Progress)
+pub stays-step : {A : Type 0} (f : Progress → A) (h : (e : Engine) (n : ℕ) (left : List Asked) (qs : List Question) (p : Progress) → f (record p { engine = e; done = n; answers = left; questions = qs }) ≡ f p) (step : Step) (bytes : List ℕ) (p : Progress)
     → f (step_part step bytes p) ≡ f p
 stays-step f h step bytes p =
     let after = step_engine p.at step bytes p.answers p.engine in

@@ -134,7 +134,7 @@ step-played None h planned plays = cc
 step-played (Some p) h planned plays = plays
 
 -- what is noted of the writes does not go by the answers that are left
-played-any : (n : ℕ) (left : List Asked) (p : Progress) (a : Log) → played_writes n (with_answers left p) a ≡ played_writes n p a
+pub played-any : (n : ℕ) (left : List Asked) (p : Progress) (a : Log) → played_writes n (with_answers left p) a ≡ played_writes n p a
 played-any zero left p a = refl
 played-any (suc n) left p a =
     let w = played_answer p.engine a in
@@ -342,7 +342,7 @@ due-played (suc n) p a cut le =
     (λ cannot. due-none p a cannot)
 
 -- and no turn is cut
-whole-played : (n : ℕ) (p : Progress) (a : Log) → (played_writes n p a).starved ≡ None
+pub whole-played : (n : ℕ) (p : Progress) (a : Log) → (played_writes n p a).starved ≡ None
 whole-played zero p a = refl
 whole-played (suc n) p a =
     let w = played_answer p.engine a in

@@ -15,7 +15,7 @@ use Rattle.amqp_engine.proofs.Over.{turn-is}
 use Rattle.amqp_engine.proofs.Telling.{tells-then, tells-as, tells-freely}
 
 -- turns after turns
-turns-append : (us vs : List Turn) (e : Engine) → turns (us ++ vs) e ≡ turns vs (turns us e)
+pub turns-append : (us vs : List Turn) (e : Engine) → turns (us ++ vs) e ≡ turns vs (turns us e)
 turns-append [] vs e = refl
 turns-append (u ∷ us) vs e = turns-append us vs (turn u e)
 

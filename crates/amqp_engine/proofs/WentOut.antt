@@ -30,13 +30,16 @@ use Rattle.amqp_session.specs.Writing.{frames_waiting, next_item, fitting, mark_
 use Rattle.amqp_session.proofs.Cases.{if_case, if_by, if-true, if-false, and-false}
 use Rattle.amqp_session.proofs.Soundness.{sound-commit, sound-taken, sound-present, sound-asked, sound-link_failed, sound-piece, sound-lost, sound-misread, sound-frame, sound-tick, sound-starve, sound-lose, sound-start, sound-command}
 use Rattle.amqp_session.proofs.Keeping.{present-keeps, kept-open, failed-link, failed-keeps, lost-off, keeps-misread, keeps-frame, keeps-tick, off-lost, starve-ends}
+use Rattle.amqp_session.proofs.Bearing.{Reading, IsAt, told-made, command_at}
+use Rattle.amqp_session.proofs.Bearers.{at-moment, at-asked, at-failed, at-piece, at-lost, at-misread, at-frame, at-tick, at-starve, at-lose}
+use Rattle.amqp_session.proofs.Leaving.{at-commit}
 use Rattle.amqp_engine.specs.declared.port.Step.{Step}
 use Rattle.amqp_engine.specs.declared.port.Step.TheVariants.{Linked, LinkFailed, Piece, End, Fault, Room, Tick, Command}
 use Rattle.amqp_engine.specs.declared.port.Wrote.{Wrote}
 use Rattle.amqp_engine.specs.declared.port.Wrote.TheVariants.{Took, Failed, NoMemory}
 use Rattle.amqp_engine.specs.Log.{on_last}
-use Rattle.amqp_engine.specs.Carried.{is_raw, raw_frames, joined, none, AreSent, Account, AreCut, WentOut, is_send, is_publish}
-use Rattle.amqp_engine.specs.Account.{command_of, commands_in, commands, is_sent, account, IsNew}
+use Rattle.amqp_engine.specs.Carried.{raw_frames, joined, none, AreSent, Account, AreCut, WentOut}
+use Rattle.amqp_engine.specs.Account.{command_of, commands_in, commands, account, IsNew}
 use Rattle.amqp_engine.specs.Engine.{Engine, begin, with_talk, rule_at, settle, step_engine, step_linked, front_of, read_badly, read_row, can_read, commit_one, commits, commit_all, committed_as, fitting_next, taken_by, overlong_next, ended_overlong, refuse_overlong, can_write}
 use Rattle.amqp_engine.specs.Turn.{Turn, answers_of, Progress, asks, wants_ask, begun, goes, part, questioned, is_part, step_part, reads, read_part, reading, is_piece, answered, offered, offer_part, drained, is_all, AreAnswers, read, written, turn, turns, starved_after, IsTurn, AreTurns, AreTold, talk}
 use Rattle.amqp_engine.specs.Engine.{step_questions}
@@ -48,11 +51,9 @@ use Rattle.amqp_engine.proofs.Lifting.{all-rest}
 use Rattle.amqp_engine.proofs.Over.{ended-closed}
 use Rattle.amqp_engine.proofs.Overlong.{closed-overlong}
 use Rattle.amqp_session.specs.Talk.{has_ended}
+use Rattle.amqp_session.specs.CommandFrames.{is_raw, is_send, is_publish, is_sent}
 use Rattle.amqp_engine.proofs.LinkKept.{asked-open}
 use Rattle.amqp_engine.proofs.Sent.{on_last-append}
-use Rattle.amqp_engine.proofs.Bearing.{Reading, IsAt, told-made, command_at}
-use Rattle.amqp_engine.proofs.Bearers.{at-moment, at-asked, at-failed, at-piece, at-lost, at-misread, at-frame, at-tick, at-starve, at-lose}
-use Rattle.amqp_engine.proofs.Leaving.{at-commit}
 use Rattle.amqp_engine.proofs.History.{same-sent, kind-front}
 use Rattle.amqp_engine.proofs.Departing.{AreOver}
 use Rattle.amqp_engine.proofs.Passing.{AreMarks, sound-last, AreSentOn, taken-on}

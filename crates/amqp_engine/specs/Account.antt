@@ -1,16 +1,14 @@
 -- What can be seen of a client through its turns.
-use Rattle.std.specs.Prelude.{◌≡◌, ◌⊎◌, if◌then◌else◌, Bool, true, false, List, [], ◌∷◌, map, Option, Some, Result, Ok}
+use Rattle.std.specs.Prelude.{◌≡◌, ◌⊎◌, if◌then◌else◌, List, [], ◌∷◌, map}
 use Rattle.std.specs.List.{flat_map}
 use Rattle.amqp_frame.specs.declared.frame.Frame.{Frame}
-use Rattle.amqp_promise.specs.declared.error.ErrorKind.{ErrorKind}
 use Rattle.amqp_session.specs.declared.command.Cmd.{Cmd}
-use Rattle.amqp_session.specs.declared.command.Answer.{Answer}
-use Rattle.amqp_session.specs.declared.command.Answer.TheVariants.{Sent}
 use Rattle.amqp_session.specs.Config.{Config}
 use Rattle.amqp_session.specs.Talk.{Talk, start}
 use Rattle.amqp_session.specs.Listed.{at}
 use Rattle.amqp_session.specs.declared.command.Cmd.TheVariants.{Listen}
-use Rattle.amqp_session.specs.Commands.{takes_promise, command}
+use Rattle.amqp_session.specs.Commands.{command}
+use Rattle.amqp_session.specs.CommandFrames.{is_sent, answered_command}
 use Rattle.amqp_engine.specs.declared.port.Step.{Step}
 use Rattle.amqp_engine.specs.declared.port.Step.TheVariants.{Command}
 use Rattle.amqp_engine.specs.Engine.{Engine, begin}
@@ -18,10 +16,6 @@ use Rattle.amqp_engine.specs.Turn.{Turn, is_before, talk, AreTold, Leads}
 use Rattle.amqp_engine.specs.Sending.{frames_sent, sendings}
 use Rattle.amqp_engine.specs.Exchange.{Event, Heard, Said, exchange}
 use Rattle.amqp_engine.specs.Carried.{Account, Carried}
-
--- a command that is answered
-abbrev pub answered_command : Cmd → List Cmd
-answered_command c = if takes_promise c then c ∷ [] else []
 
 -- what a step tells that is answered
 abbrev pub command_of : Step → List Cmd
@@ -35,11 +29,6 @@ commands_in u = if is_before u.notes.starved 0 then command_of u.step else []
 -- what turns tell that is answered, in order
 abbrev pub commands : List Turn → List Cmd
 commands us = flat_map commands_in us
-
--- a promise that was answered Sent
-abbrev pub is_sent : Option (Option (Result Answer ErrorKind)) → Bool
-is_sent (Some (Some (Ok Sent))) = true
-is_sent _ = false
 
 -- a frame that was heard
 abbrev pub heard_frame : Event → List Frame

@@ -1,16 +1,14 @@
 -- Nothing is torn, swapped or sent twice: what a client was told to send is what went out, and what was handed out
 -- came. It is said of what can be seen, and shares nothing with the rules of the session.
-use Rattle.std.specs.Prelude.{◌≡◌, ◌≢◌, ◌≤◌, ◌⊎◌, ℕ, suc, ◌==◌, ◌&&◌, Bool, true, false, List, [], ◌∷◌, ◌++◌, length, map, filter, slice_get, Some, unwrap_or}
-use Rattle.std.specs.List.{flat_map, AllByRecursion}
+use Rattle.std.specs.Prelude.{◌≡◌, ◌≢◌, ◌⊎◌, ℕ, suc, ◌&&◌, Bool, true, false, List, [], ◌∷◌, ◌++◌, map, filter, slice_get, Some, unwrap_or}
+use Rattle.std.specs.List.{flat_map}
 use Rattle.amqp_frame.specs.declared.frame.Frame.{Frame}
 use Rattle.amqp_frame.specs.declared.frame.Frame.TheVariants.{Raw}
-use Rattle.amqp_frame.specs.declared.frame.RawKind.TheVariants.{RawMethod, Header, Body}
-use Rattle.amqp_frame.specs.RawMethods.{OtherMethod, spell_raw_method}
 use Rattle.amqp_session.specs.declared.command.Cmd.{Cmd}
-use Rattle.amqp_session.specs.declared.command.Cmd.TheVariants.{Send, Publish}
 use Rattle.amqp_session.specs.declared.handed.Handed.{Handed}
-use Rattle.amqp_session.specs.Publishing.{content_header}
 use Rattle.amqp_session.specs.Listed.{at}
+use Rattle.amqp_session.specs.CommandFrames.{AreFramesOf, is_send, is_publish, is_raw}
+use Rattle.amqp_session.specs.HandingOut.{handed_on}
 
 -- what can be seen of a client and its links
 pub record Account : Type 0 where
@@ -25,34 +23,7 @@ pub record Account : Type 0 where
   -- the frames that were handed out, by the promise that opened their channel
   pub handed : List (ℕ × List Handed)
 
--- ---- the frames of a command
-
--- a method, one header with that method's class, the length of the body and the properties, and the body in frames,
--- none of which is empty
-pub record IsContent (n : ℕ) (method : OtherMethod) (properties body : List ℕ) (fs : List Frame) : Type 0 where
-  pub pieces : List (List ℕ)
-  pub not_empty : AllByRecursion (λ piece. 1 ≤ length piece) pieces
-  pub joined : flat_map (λ piece. piece) pieces ≡ body
-  pub frames : fs
-      ≡ Raw n RawMethod (spell_raw_method method)
-      ∷ Raw n Header (content_header method.class (length body) properties)
-      ∷ map (Raw n Body) pieces
-
--- the frames of a send, and of a publish; other commands have none
-abbrev pub AreFramesOf : Cmd → List Frame → Type 0
-AreFramesOf (Send channel method) fs = fs ≡ Raw channel.id RawMethod (spell_raw_method method) ∷ []
-AreFramesOf (Publish channel method properties body) fs = IsContent channel.id method properties body fs
-AreFramesOf _ fs = ⊥
-
--- a command that sends one method
-abbrev pub is_send : Cmd → Bool
-is_send (Send channel method) = true
-is_send _ = false
-
--- a command that publishes
-abbrev pub is_publish : Cmd → Bool
-is_publish (Publish channel method properties body) = true
-is_publish _ = false
+-- ---- the frames of the commands that were answered Sent
 
 -- the frames of the commands of a kind that were answered Sent, in order of number, command after command; the first of
 -- the commands has this number
@@ -66,12 +37,7 @@ pub data AreSent (is_kind : Cmd → Bool) (answered_sent : ℕ → Bool) : ℕ �
 
 -- ---- what is set aside
 
--- a frame that is passed through
-abbrev pub is_raw : Frame → Bool
-is_raw (Raw n kind bytes) = true
-is_raw _ = false
-
--- those that are passed through
+-- the frames that are passed through
 abbrev pub raw_frames : List Frame → List Frame
 raw_frames fs = filter is_raw fs
 
@@ -134,10 +100,6 @@ pub record WentOut (a : Account) : Type 0 where
 -- a frame that was handed out, as it was read
 abbrev pub frame_of : Handed → Frame
 frame_of h = Raw h.channel h.kind h.bytes
-
--- what was handed out on the channel that a promise opened, of what was handed out on all
-abbrev pub handed_on : ℕ → List (ℕ × Handed) → List Handed
-handed_on opened hs = map (λ h. h.1) (filter (λ h. h.0 == opened) hs)
 
 -- what was handed out was read, once each and in order
 pub record CameIn (a : Account) : Type 0 where

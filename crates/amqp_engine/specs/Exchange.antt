@@ -2,41 +2,17 @@
 -- is heard comes before what is said.
 use Rattle.std.specs.Prelude.{ℕ, zero, suc, ◌-◌, ◌&&◌, if◌then◌else◌, List, [], ◌∷◌, ◌++◌, length, drop, map, slice_get, Option, Some, None}
 use Rattle.amqp_frame.specs.declared.frame.Frame.{Frame}
-use Rattle.amqp_frame.specs.declared.frame.Frame.TheVariants.{Raw}
 use Rattle.amqp_frame.specs.declared.frame.Read.{Read}
 use Rattle.amqp_frame.specs.declared.frame.Read.TheVariants.{Whole}
 use Rattle.amqp_outbox.specs.declared.item.Item.{Item}
-use Rattle.amqp_session.specs.declared.channels.Channel.{Channel}
-use Rattle.amqp_session.specs.declared.handed.Handed.{Handed}
-use Rattle.amqp_session.specs.Talk.{Talk, acts, is_asked}
-use Rattle.amqp_session.specs.Channels.{channel_at}
-use Rattle.amqp_session.specs.ChannelMethods.{heard_on}
+use Rattle.amqp_session.specs.Talk.{Talk, is_asked}
+use Rattle.amqp_session.specs.HandingOut.{HandedOut, hands_out}
 use Rattle.amqp_engine.specs.declared.port.Step.{Step}
 use Rattle.amqp_engine.specs.declared.port.Step.TheVariants.{Linked}
 use Rattle.amqp_engine.specs.Log.{on_last}
 use Rattle.amqp_engine.specs.Engine.{Engine, begin, front_of, can_read}
 use Rattle.amqp_engine.specs.Turn.{Turn, Progress, asks, begun, step_part, goes, read_part, is_piece, turn}
 use Rattle.amqp_engine.specs.Sending.{Sending, nothing_sent, items_sent, step_sending, turn_sending}
-
--- ---- what is handed out
-
--- a frame, with the promise that opened its channel
-pub record HandedOut : Type 0 where
-  pub opened : ℕ
-  pub frame : Handed
-
--- a frame is handed out, where its channel is listed
-abbrev pub handed_of : Option Channel → Handed → List HandedOut
-handed_of None h = []
-handed_of (Some c) h = record { opened = c.opened; frame = h } ∷ []
-
--- what a frame that is read hands out
-abbrev pub hands_out : Frame → Talk → List HandedOut
-hands_out (Raw (suc n) kind bytes) t =
-    if acts t
-    then handed_of (heard_on t.state (channel_at (suc n) t)) (record { channel = suc n; kind = kind; bytes = bytes })
-    else []
-hands_out _ t = []
 
 -- ---- what is heard, and what is said
 

@@ -17,5 +17,7 @@ pub mod Carried
 pub mod Account
 -- The turns of a script that is played.
 pub mod Play
+-- Scripts of a faultless server.
+pub mod Valid
 -- What the contracts of private calls are stated with.
 pub mod Making

@@ -12,7 +12,8 @@ ghost use Rattle.amqp_session.specs.Answers.{HandsOut, Takes, TakesEvent, take_f
 ghost use Rattle.amqp_engine.specs.Engine.{Engine, begin, with_talk};
 ghost use Rattle.amqp_engine.specs.Turn.{asks};
 ghost use Rattle.amqp_engine.specs.Tell.{AppliesLent, TakesTurnLent, RunsLent, log_asks};
-ghost use Rattle.amqp_engine.specs.Log.{Log};
+ghost use Rattle.amqp_engine.specs.declared.given.Given.{Given};
+ghost use Rattle.amqp_engine.specs.Log.{Log, loaded};
 ghost use Rattle.amqp_engine.specs.Unread.{IsRead};
 ghost use Rattle.amqp_engine.specs.Sending.{Sending};
 ghost use Rattle.amqp_engine.specs.Account.{IsNew, HasCarried};
@@ -20,6 +21,7 @@ ghost use Rattle.amqp_engine.specs.Saying.{HasSent, TellsLinks, GoesOn, GoesOnce
 ghost use Rattle.amqp_engine.specs.Causes.{Brings, BringsOne, brought, fault_of, is_counted};
 ghost use Rattle.amqp_engine.specs.Counts.{Rose};
 ghost use Rattle.amqp_engine.specs.Play.{IsPlayed};
+ghost use Rattle.amqp_engine.specs.Valid.{RunsValid};
 
 use crate::port::{Port, Told, hold};
 use crate::wire::Wire;
@@ -124,6 +126,9 @@ impl IoLoop {
         ensures legal { (ss : List Sending) → HasSent self.old ss
             → GoesOn ss self.old self.new (P.log port.old) (P.log port.new) }
         ensures carried { (t : Talk) → IsNew t → HasCarried t self.old → HasCarried t self.new }
+        ensures valid { (t : Talk) (gs : List Given) → IsNew t → self.old ≡ begin t
+            → P.log port.old ≡ Some (loaded gs) → length gs ≤ turns → self.new.starved ≡ None
+            → RunsValid turns t gs self.new (P.log port.new) (A.allows provider.old) }
         ensures read { IsRead self.new }
         ensures faults { P.faults port.old ≤ P.faults port.new }
         ensures never_falls { A.refusals provider.old ≤ A.refusals provider.new }

@@ -1,14 +1,16 @@
 //! What holds of all turns.
 
-ghost use Rattle.std.specs.Prelude.{◌≡◌, ℕ, ◌+◌, [], false, true, List, Option, map};
+ghost use Rattle.std.specs.Prelude.{◌≡◌, ℕ, ◌+◌, [], false, true, List, Option, Some, Ok, map};
 ghost use Rattle.std.specs.List.{AllByRecursion};
 ghost use Rattle.amqp_session.specs.declared.auth.asked.Asked.{Asked};
-ghost use Rattle.amqp_session.specs.Talk.{Talk, has_ended};
+ghost use Rattle.amqp_session.specs.declared.command.Answer.TheVariants.{Connected};
+ghost use Rattle.amqp_session.specs.Listed.{at};
+ghost use Rattle.amqp_session.specs.Talk.{Talk, end_of, has_ended};
 ghost use Rattle.amqp_session.specs.Legal.{Legal};
 ghost use Rattle.amqp_engine.specs.declared.given.Given.{Given};
 ghost use Rattle.amqp_engine.specs.Log.{Log, loaded};
 ghost use Rattle.amqp_engine.specs.Engine.{Engine, begin};
-ghost use Rattle.amqp_engine.specs.Turn.{Turn, turn, IsTurn, AreTurns, AreTold};
+ghost use Rattle.amqp_engine.specs.Turn.{Turn, turn, talk, IsTurn, AreTurns, AreTold};
 ghost use Rattle.amqp_engine.specs.Tell.{Runs, PlaysTurns, log_turns};
 ghost use Rattle.amqp_engine.specs.Play.{replayed, AreAnswered};
 ghost use Rattle.amqp_engine.specs.Sending.{Sending, sendings, frames, frames_sent, link_bytes, SendsInOrder};
@@ -16,6 +18,7 @@ ghost use Rattle.amqp_engine.specs.Saying.{HasSent, TellsLinks, AreGivenTold};
 ghost use Rattle.amqp_engine.specs.Unread.{IsRead};
 ghost use Rattle.amqp_engine.specs.Carried.{Carried};
 ghost use Rattle.amqp_engine.specs.Account.{IsNew, account};
+ghost use Rattle.amqp_engine.specs.Valid.{Valid};
 
 /// A run that may take no turn, and one of a session that had ended, take no step and write
 /// nothing.
@@ -80,4 +83,14 @@ pub fn conversations_are_legal()
 /// turns of an engine that was new.
 pub fn what_is_told_is_carried()
     ensures { (t : Talk) (us : List Turn) → IsNew t → AreTurns us (begin t) → AreTold us → Carried (account t us) }
+{}
+
+/// A script of a faultless server opens the connection and leaves the session Closed.
+pub fn a_valid_script_ends_closed()
+    ensures opened { (t : Talk) (gs : List Given) (answers : List Asked) → IsNew t
+        → AreAnswered (replayed t gs answers) (begin t) → Valid t gs answers
+        → at 0 (talk t (replayed t gs answers)).promises ≡ Some (Some (Ok Connected)) }
+    ensures closed { (t : Talk) (gs : List Given) (answers : List Asked) → IsNew t
+        → AreAnswered (replayed t gs answers) (begin t) → Valid t gs answers
+        → end_of (talk t (replayed t gs answers)) ≡ Some (Ok tt) }
 {}

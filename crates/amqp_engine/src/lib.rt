@@ -19,8 +19,8 @@ pub use given::{Given, GivenStep};
 pub use io_loop::IoLoop;
 pub use laws::{
     a_link_has_the_frames_sent, a_run_goes_on, a_run_without_turns_touches_nothing,
-    a_script_has_its_turns, conversations_are_legal, nothing_whole_is_left_unread,
-    what_is_told_is_carried,
+    a_script_has_its_turns, a_valid_script_ends_closed, conversations_are_legal,
+    nothing_whole_is_left_unread, what_is_told_is_carried,
 };
 pub use memory_port::MemoryPort;
 pub use port::{Happening, Port, ScriptedPort, Step, Told, Write, Wrote};

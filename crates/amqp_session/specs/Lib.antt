@@ -42,6 +42,10 @@ pub mod Secrets
 pub mod Octets
 pub mod Legal
 pub mod Decider
+-- The frames of a command, what a frame hands out, and what a faultless server says.
+pub mod CommandFrames
+pub mod HandingOut
+pub mod Faultless
 -- What the contracts of private calls are stated with.
 pub mod Sharing
 pub mod Parts

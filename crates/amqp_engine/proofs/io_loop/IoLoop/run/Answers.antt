@@ -8,6 +8,7 @@ use Rattle.amqp_engine.proofs.Playing.{runs-played}
 use Rattle.amqp_engine.proofs.TurnEnds.{runs-bring, not-turns}
 use Rattle.amqp_engine.proofs.GoingOn.{runs-on}
 use Rattle.amqp_engine.proofs.Carrying.{run-carried}
+use Rattle.amqp_engine.proofs.Closed.{run-valid}
 use Rattle.amqp_engine.proofs.io_loop.IoLoop.run.Goals as goal
 use Rattle.amqp_engine.proofs.io_loop.IoLoop.run.Goals.{in-Some, in-None}
 
@@ -51,3 +52,7 @@ returns-clause-legal g c ss h = runs-on _ _ _ _ _ ss c.take_turns.ensures.turns.
 
 pub returns-clause-carried : goal.returns-clause-carried
 returns-clause-carried g c t new h = run-carried _ _ _ _ _ t c.take_turns.ensures.turns.runs new h
+
+pub returns-clause-valid : goal.returns-clause-valid
+returns-clause-valid g c t gs new from plays all fed =
+    run-valid _ _ _ _ _ _ (runs-played _ _ _ _ _ _ _ c.take_turns.ensures.turns) t gs new from plays all fed

@@ -21,9 +21,8 @@ use Rattle.amqp_session.specs.Changes.{Promises, settled_by, settled, settled_to
 use Rattle.amqp_session.specs.Recovery.{rejected_slot, rejected_all}
 use Rattle.amqp_session.specs.Capacities.{frame_min_size}
 use Rattle.amqp_session.specs.Sound.{is_agreed}
+use Rattle.amqp_session.specs.CommandFrames.{AreFramesOf, is_send, is_publish, is_raw, is_sent}
 use Rattle.amqp_session.proofs.Numbered.{put-same, put-other}
-use Rattle.amqp_engine.specs.Carried.{AreFramesOf, is_send, is_publish, is_raw}
-use Rattle.amqp_engine.specs.Account.{is_sent}
 
 -- ---- commands by number
 

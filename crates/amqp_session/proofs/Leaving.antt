@@ -15,9 +15,9 @@ use Rattle.amqp_session.specs.Listed.{at}
 use Rattle.amqp_session.specs.Talk.{Talk}
 use Rattle.amqp_session.specs.Changes.{Promises}
 use Rattle.amqp_session.specs.Writing.{flows, writes, next_item, then_of, then_by, answers, is_close_ok, mark_of}
-use Rattle.amqp_engine.specs.Carried.{is_send, is_publish, is_raw}
-use Rattle.amqp_engine.proofs.Bearing.{command_at, carries, frames-carry, Reading, floor, closed, waits-map, Lines, none, other, more, whole, Lane, empty, besides, sends, Groups, Ends, Bears, IsAt}
-use Rattle.amqp_engine.proofs.Queueing.{lines-append, group-goes, send-goes, same-grows}
+use Rattle.amqp_session.specs.CommandFrames.{is_send, is_publish, is_raw}
+use Rattle.amqp_session.proofs.Bearing.{command_at, carries, frames-carry, Reading, floor, closed, waits-map, Lines, none, other, more, whole, Lane, empty, besides, sends, Groups, Ends, Bears, IsAt}
+use Rattle.amqp_session.proofs.Queueing.{lines-append, group-goes, send-goes, same-grows}
 
 -- ---- commits
 

@@ -29,16 +29,15 @@ use Rattle.amqp_session.specs.Sound.{is_agreed}
 use Rattle.amqp_session.proofs.Ready.{pieces-fit}
 use Rattle.amqp_session.specs.Commands.{listen}
 use Rattle.amqp_session.specs.Publishing.{body_pieces, cut}
+use Rattle.amqp_session.specs.CommandFrames.{AreFramesOf, IsContent, is_send, is_publish, is_sent, answered_command}
 use Rattle.amqp_session.proofs.Numbered.{put-same, put-other}
+use Rattle.amqp_session.proofs.Bearing.{command_at, carries, IsOther, each-sent, rejected-is, Reading, closed, Lines, none, other, more, whole, Bears, IsAt, Sized, Ends, AwaitsOthers, Grows, told-made, lines-map, lane-map, groups-map, part-map}
+use Rattle.amqp_session.proofs.Queueing.{lane-send, groups-push}
+use Rattle.amqp_session.proofs.Borne.{AreOthers, bears-push, bears-expected, bears-groups-of, bears-groups}
+use Rattle.amqp_session.proofs.Bearers.{moved}
 use Rattle.amqp_outbox.specs.declared.reply.Awaited.{Awaited}
 use Rattle.std.specs.List.{AllByRecursion, flat_map}
 use Rattle.std.proofs.lemmas.Bool.{cases_eq}
-use Rattle.amqp_engine.specs.Carried.{AreFramesOf, IsContent, is_send, is_publish}
-use Rattle.amqp_engine.specs.Account.{is_sent, answered_command}
-use Rattle.amqp_engine.proofs.Bearing.{command_at, carries, IsOther, each-sent, rejected-is, Reading, closed, Lines, none, other, more, whole, Bears, IsAt, Sized, Ends, AwaitsOthers, Grows, told-made, lines-map, lane-map, groups-map, part-map}
-use Rattle.amqp_engine.proofs.Queueing.{lane-send, groups-push}
-use Rattle.amqp_engine.proofs.Borne.{AreOthers, bears-push, bears-expected, bears-groups-of, bears-groups}
-use Rattle.amqp_engine.proofs.Bearers.{moved}
 
 get-front : (cs : List Cmd) (c : Cmd) (i : ℕ) → i < length cs → slice_get (cs ++ c ∷ []) i ≡ slice_get cs i
 get-front [] c i h = absurd (omega (arith, h))

@@ -23,10 +23,9 @@ use Rattle.amqp_session.specs.declared.command.Cmd.{Cmd}
 use Rattle.amqp_session.specs.declared.command.Cmd.TheVariants.{Send, Publish}
 use Rattle.amqp_session.specs.Listed.{at, put, without}
 use Rattle.amqp_session.specs.Changes.{Promises, settled_to, rejected, rejected_each, without_groups_of, without_groups, without_all_on, without_replies_on, promises_on, replies_on}
-use Rattle.amqp_engine.specs.Carried.{is_send, is_publish, is_raw}
-use Rattle.amqp_engine.specs.Account.{is_sent}
-use Rattle.amqp_engine.proofs.Bearing.{command_at, carries, IsOther, NotIn, NotSent, to-sent, to-elsewhere, each-sent, each-elsewhere, rejected-is, Reading, floor, Lines, empty, besides, IsPart, IsPlain, Ends, AwaitsOthers, Bears, same-command, lines-map, lane-map, groups-map, part-map}
-use Rattle.amqp_engine.proofs.Queueing.{kinds-differ, lines-split, open-before, lane-plain, groups-differ, lane-differ, plain-differ, same-grows, groups-left, lane-left, plain-left}
+use Rattle.amqp_session.specs.CommandFrames.{is_send, is_publish, is_raw, is_sent}
+use Rattle.amqp_session.proofs.Bearing.{command_at, carries, IsOther, NotIn, NotSent, to-sent, to-elsewhere, each-sent, each-elsewhere, rejected-is, Reading, floor, Lines, empty, besides, IsPart, IsPlain, Ends, AwaitsOthers, Bears, same-command, lines-map, lane-map, groups-map, part-map}
+use Rattle.amqp_session.proofs.Queueing.{kinds-differ, lines-split, open-before, lane-plain, groups-differ, lane-differ, plain-differ, same-grows, groups-left, lane-left, plain-left}
 
 -- ---- awaited replies
 

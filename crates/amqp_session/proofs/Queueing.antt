@@ -12,9 +12,8 @@ use Rattle.amqp_session.specs.declared.command.Cmd.{Cmd}
 use Rattle.amqp_session.specs.declared.command.Cmd.TheVariants.{Send, Publish}
 use Rattle.amqp_session.specs.Listed.{at}
 use Rattle.amqp_session.specs.Changes.{Promises}
-use Rattle.amqp_engine.specs.Carried.{IsContent, AreFramesOf, is_send, is_publish, is_raw}
-use Rattle.amqp_engine.specs.Account.{is_sent}
-use Rattle.amqp_engine.proofs.Bearing.{command_at, carries, NotIn, Reading, floor, closed, Waits, waits-map, Grows, Lines, none, other, more, whole, Lane, empty, besides, sends, IsGroup, Groups, IsPart, told-made, frames-carry}
+use Rattle.amqp_session.specs.CommandFrames.{IsContent, AreFramesOf, is_send, is_publish, is_raw, is_sent}
+use Rattle.amqp_session.proofs.Bearing.{command_at, carries, NotIn, Reading, floor, closed, Waits, waits-map, Grows, Lines, none, other, more, whole, Lane, empty, besides, sends, IsGroup, Groups, IsPart, told-made, frames-carry}
 
 -- a send is no publish
 pub kinds-differ : (c : Cmd) → is_send c ≡ true → is_publish c ≡ true → ⊥

@@ -49,12 +49,11 @@ use Rattle.amqp_session.specs.Writing.{end_overlong}
 use Rattle.amqp_session.specs.Ticks.{is_missed, is_due, missing_heartbeat, beat, refreshed, refresh_reason, link_at, link_due, timed, tick}
 use Rattle.amqp_session.proofs.Cases.{if_case}
 use Rattle.amqp_session.proofs.Heard.{start-case, secure-case, secret-case}
-use Rattle.amqp_engine.specs.Carried.{is_raw}
 use Rattle.amqp_session.proofs.Recovering.{lose-case}
-use Rattle.amqp_engine.specs.Account.{is_sent}
-use Rattle.amqp_engine.proofs.Bearing.{settled-sent, to-sent, each-sent, all-sent, Reading, Bears, IsAt, Sized}
+use Rattle.amqp_session.proofs.Bearing.{settled-sent, to-sent, each-sent, all-sent, Reading, Bears, IsAt, Sized}
+use Rattle.amqp_session.proofs.Borne.{awaited-other, bears-push, bears-expected, bears-answered, bears-give, bears-replies, bears-channel, bears-over}
 use Rattle.amqp_session.specs.Sound.{is_agreed}
-use Rattle.amqp_engine.proofs.Borne.{awaited-other, bears-push, bears-expected, bears-answered, bears-give, bears-replies, bears-channel, bears-over}
+use Rattle.amqp_session.specs.CommandFrames.{is_raw, is_sent}
 
 closing-not : (s : ConnectionState) → s ≡ Connecting → s ≡ Closing → ⊥
 closing-not Connecting h k = cc

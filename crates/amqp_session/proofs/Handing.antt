@@ -49,12 +49,11 @@ use Rattle.amqp_session.specs.Publishing.{method_frame, publish_frames}
 use Rattle.amqp_session.specs.Commands.{open_drawn, close_target, drop_target, flow_target, queue_secret, update_secret, too_long, unless_too_long, queue_send, send_target, body_limit, queue_publish, publish_target, command, command_rule}
 use Rattle.amqp_session.specs.Ticks.{tick}
 use Rattle.amqp_session.specs.Writing.{end_overlong, taken}
+use Rattle.amqp_session.specs.HandingOut.{handed_on, HandedOut, handed_of, hands_out}
 use Rattle.amqp_session.proofs.Heard.{start-case, secure-case}
 use Rattle.amqp_session.proofs.Keeping.{present-keeps, loss-keeps, lost-keeps, failed-keeps, taken-keeps, tick-keeps}
 use Rattle.amqp_session.proofs.Cases.{if_case}
 use Rattle.amqp_session.proofs.Recovering.{reopened-keeps}
-use Rattle.amqp_engine.specs.Carried.{handed_on}
-use Rattle.amqp_engine.specs.Exchange.{HandedOut, handed_of, hands_out}
 
 -- ---- maps
 
