@@ -25,7 +25,7 @@ silent true config = told Listen tt (new config)
 silent false config = new config
 
 -- its session was told nothing, but perhaps to listen
-is-new : (listens : Bool) (config : Config) → IsNew (set_up listens config)
+pub is-new : (listens : Bool) (config : Config) → IsNew (set_up listens config)
 is-new true config = (config, inr refl)
 is-new false config = (config, inl refl)
 

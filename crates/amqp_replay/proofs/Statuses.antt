@@ -3,14 +3,21 @@ use Rattle.std.proofs.Common.{◌≡◌, ◌≢◌, ◌<◌, ◌⊎◌, sym, inl
 use Rattle.amqp_session.specs.declared.auth.asked.Asked.{Asked}
 use Rattle.amqp_promise.specs.declared.error.ErrorKind.{ErrorKind}
 use Rattle.amqp_session.specs.Providers.{Exchange}
-use Rattle.amqp_session.specs.Talk.{end_of}
+use Rattle.amqp_session.specs.Talk.{Talk, end_of}
+use Rattle.amqp_engine.specs.declared.given.Given.{Given}
 use Rattle.amqp_engine.specs.Log.{Log}
+use Rattle.amqp_engine.specs.Engine.{begin}
+use Rattle.amqp_engine.specs.Turn.{talk}
+use Rattle.amqp_engine.specs.Play.{replayed, AreAnswered}
+use Rattle.amqp_engine.specs.Account.{IsNew}
+use Rattle.amqp_engine.specs.Valid.{Valid}
 use Rattle.amqp_replay.specs.declared.limits.TheConstants.{MOST_READ}
 use Rattle.amqp_replay.specs.declared.status.TheConstants.{CLOSED, REFUSED, USAGE, SOURCE_FAILED, SINK_FAILED, FAILED, RUNNING, NO_MEMORY}
 use Rattle.amqp_replay.specs.Grammar.{Scenario, parsed}
 use Rattle.amqp_replay.proofs.MostRead.{parsed-most}
 use Rattle.amqp_replay.specs.Report.{Printout}
-use Rattle.amqp_replay.specs.Top.{provider_state, MayAnswer, end_status, replayed_talk, printout, generated_printout, TellsReplay, Prints, Replays, ReplaysSome, IsSilent, IsStatus}
+use Rattle.amqp_replay.specs.Top.{session_of, provider_state, MayAnswer, IsValid, end_status, replayed_talk, printout, generated_printout, TellsReplay, Prints, Replays, ReplaysSome, IsSilent, IsStatus}
+use Rattle.amqp_replay.proofs.Replaying.{is-new}
 
 -- a status with which something is printed, though nothing failed
 pub record IsLoud (status : ℕ) : Type 0 where
@@ -82,6 +89,33 @@ pub written : (R : Type 0) (p : Printout) (before after : Option (List ℕ)) (st
 written R p before after status loud cause (inl whole) = written_whole R before after status p.status loud whole.0
 written R p before after status loud cause (inr front) = written_front R before after status p.status loud cause front.0
 
+-- ---- the scripts of a faultless server
+
+-- they leave the session Closed, as the engine says of them
+abbrev pub EndClosed : Type 0
+EndClosed =
+    (t : Talk) (gs : List Given) (answers : List Asked) → IsNew t → AreAnswered (replayed t gs answers) (begin t) → Valid t gs answers
+    → end_of (talk t (replayed t gs answers)) ≡ Some (Ok tt)
+
+-- so the status of what is printed of them says so
+pub valid-closed : EndClosed → (state : Scenario → Exchange → Type 0) (read : Result Scenario ℕ) (answers : List Asked)
+    → MayAnswer state read answers → IsValid read answers → (printout read answers).status ≡ CLOSED
+valid-closed end state (Err number) answers may valid = absurd valid
+valid-closed end state (Ok s) answers may valid =
+    ap end_status (end (session_of s) s.steps answers (is-new s.listens s.config) may.answered valid)
+
+pub generated-closed : EndClosed → (script : List ℕ) (state : Scenario → Exchange → Type 0) (read : Result Scenario ℕ) (answers : List Asked)
+    → MayAnswer state read answers → IsValid read answers → (generated_printout script read answers).status ≡ CLOSED
+generated-closed end script state (Err number) answers may valid = absurd valid
+generated-closed end script state (Ok s) answers may valid =
+    ap end_status (end (session_of s) s.steps answers (is-new s.listens s.config) may.answered valid)
+
+-- and so is the status that is answered, unless the sink failed
+pub closed-printed : (p : Printout) (before after : Option (List ℕ)) (status : ℕ) → Prints p before after status → p.status ≡ CLOSED
+    → (status ≡ CLOSED) ⊎ (status ≡ SINK_FAILED)
+closed-printed p before after status (inl whole) closed = inl (whole.0 ∙ closed)
+closed-printed p before after status (inr front) closed = inr front.0
+
 -- ---- a script that was read and answered
 
 pub ReplaysSome-read : (is_handed : Bool) (handed : Exchange → Type 0) (left : Option (List ℕ)) (log : Option Log) (before after : Option (List ℕ))
@@ -105,20 +139,34 @@ Replays-told is_handed handed (Some all) log before after status script read (in
     let M : Result Scenario ℕ → Type 0 = λ r. MayAnswer (provider_state handed) r answers in
     let P : Result Scenario ℕ → Type 0 = λ r. TellsReplay r answers log in
     let Q : Result Scenario ℕ → Type 0 = λ r. Prints (printout r answers) before after status in
+    let C : Result Scenario ℕ → Type 0 = λ r. IsValid r answers → (status ≡ CLOSED) ⊎ (status ≡ SINK_FAILED) in
     inr (record {
       answers = answers;
       may = subst M same replays.may;
       told = subst P same replays.told;
       prints = subst Q same replays.prints;
+      closed = subst C same replays.closed;
     })
+
+-- a printout that was written has no status of a sink that failed
+not-failed : (read : Result Scenario ℕ) (answers : List Asked) (status : ℕ) → status ≡ (printout read answers).status
+    → (status ≡ CLOSED) ⊎ (status ≡ SINK_FAILED) → status ≡ CLOSED
+not-failed read answers status is (inl closed) = closed
+not-failed read answers status is (inr failed) = absurd ((printout-IsLoud read answers).written (sym is ∙ failed))
 
 of_prints : (is_handed : Bool) (handed : Exchange → Type 0) (script : List ℕ) (answers : List Asked) (before after : Option (List ℕ)) (status : ℕ)
     → MayAnswer (provider_state handed) (parsed is_handed script) answers
     → Prints (printout (parsed is_handed script) answers) before after status
+    → (IsValid (parsed is_handed script) answers → (status ≡ CLOSED) ⊎ (status ≡ SINK_FAILED))
     → IsStatus is_handed handed script status
-of_prints is_handed handed script answers before after status may (inl whole) =
-    inr (inr (record { answers = answers; may = may; is = whole.0 }))
-of_prints is_handed handed script answers before after status may (inr front) = inr (inl front.0)
+of_prints is_handed handed script answers before after status may (inl whole) closed =
+    inr (inr (record {
+      answers = answers;
+      may = may;
+      is = whole.0;
+      closed = λ valid. not-failed (parsed is_handed script) answers status whole.0 (closed valid);
+    }))
+of_prints is_handed handed script answers before after status may (inr front) closed = inr (inl front.0)
 
 pub IsStatus-told : (is_handed : Bool) (handed : Exchange → Type 0) (left : Option (List ℕ)) (log : Option Log) (before after : Option (List ℕ))
     (status : ℕ) → IfSome left (λ all. IsSilent status ⊎ Replays is_handed handed all log before after status)
@@ -126,4 +174,4 @@ pub IsStatus-told : (is_handed : Bool) (handed : Exchange → Type 0) (left : Op
 IsStatus-told is_handed handed None log before after status outcome = tt
 IsStatus-told is_handed handed (Some all) log before after status (inl silent) = inl silent
 IsStatus-told is_handed handed (Some all) log before after status (inr replays) =
-    of_prints is_handed handed all replays.answers before after status replays.may replays.prints
+    of_prints is_handed handed all replays.answers before after status replays.may replays.prints replays.closed

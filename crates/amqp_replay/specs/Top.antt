@@ -16,6 +16,7 @@ use Rattle.amqp_engine.specs.Play.{replayed, AreAnswered}
 use Rattle.amqp_engine.specs.Saying.{SpellLegal}
 use Rattle.amqp_engine.specs.Carried.{Carried}
 use Rattle.amqp_engine.specs.Account.{account}
+use Rattle.amqp_engine.specs.Valid.{Valid}
 use Rattle.amqp_replay.specs.declared.limits.TheConstants.{MOST_READ}
 use Rattle.amqp_replay.specs.declared.status.TheConstants.{CLOSED, REFUSED, USAGE, SOURCE_FAILED, SINK_FAILED, FAILED, RUNNING, NO_MEMORY}
 use Rattle.amqp_replay.specs.Grammar.{Scenario, parsed}
@@ -80,7 +81,7 @@ own_state s exchange = answers_of (default_of s.config.uri) exchange
 abbrev pub provider_state : (Exchange → Type 0) → Scenario → Exchange → Type 0
 provider_state handed s exchange = MatchBool s.handed (handed exchange) (own_state s exchange)
 
--- these are the answers of a run: one to each question, and a provider in this state may give them
+-- of these, the first are the answers of a run, one to each question, and a provider in this state may give those
 pub record AreRunAnswers (state : Exchange → Type 0) (s : Scenario) (answers : List Asked) : Type 0 where
   pub answered : AreAnswered (replayed_turns s answers) (engine_of s)
   pub allowed : Allows state (replayed_exchange s answers)
@@ -89,6 +90,12 @@ pub record AreRunAnswers (state : Exchange → Type 0) (s : Scenario) (answers :
 abbrev pub MayAnswer : (Scenario → Exchange → Type 0) → Result Scenario ℕ → List Asked → Type 0
 MayAnswer state (Err number) answers = Unit {0}
 MayAnswer state (Ok s) answers = AreRunAnswers (state s) s answers
+
+-- none of the lines of a script is refused, and its steps are those of a faultless server, with these answers of who
+-- authenticates
+abbrev pub IsValid : Result Scenario ℕ → List Asked → Type 0
+IsValid (Err number) answers = ⊥
+IsValid (Ok s) answers = Valid (session_of s) s.steps answers
 
 -- ---- what is printed of a run, and with which status
 
@@ -149,13 +156,15 @@ Prints p before after status =
 -- ---- what the program did
 
 -- a script was answered, a provider being handed in this state or none: with some answers that who authenticates may
--- give, the sink took what is printed of it, and the port tells of its run
+-- give, the sink took what is printed of it, and the port tells of its run; the status of a valid script says that its
+-- session ended Closed, or that the sink failed
 pub record Replays (is_handed : Bool) (handed : Exchange → Type 0) (script : List ℕ) (log : Option Log)
     (before after : Option (List ℕ)) (status : ℕ) : Type 0 where
   pub answers : List Asked
   pub may : MayAnswer (provider_state handed) (parsed is_handed script) answers
   pub told : TellsReplay (parsed is_handed script) answers log
   pub prints : Prints (printout (parsed is_handed script) answers) before after status
+  pub closed : IsValid (parsed is_handed script) answers → (status ≡ CLOSED) ⊎ (status ≡ SINK_FAILED)
 
 -- some script was answered, which is all that the source had, or as much of it as is ever read
 pub record ReplaysSome (is_handed : Bool) (handed : Exchange → Type 0) (left : Option (List ℕ)) (log : Option Log)
@@ -165,23 +174,27 @@ pub record ReplaysSome (is_handed : Bool) (handed : Exchange → Type 0) (left :
   pub replays : Replays is_handed handed script log before after status
 
 -- a number was answered: with the answers of the provider of the address, the sink took the script that the number
--- makes, with the summary of its run, and the port tells of that run
+-- makes, with the summary of its run, and the port tells of that run; where the script is valid, the status says that
+-- its session ended Closed, or that the sink failed
 pub record Generates (count : ℕ) (log : Option Log) (before after : Option (List ℕ)) (status : ℕ) : Type 0 where
   pub answers : List Asked
   pub may : MayAnswer own_state (parsed false (generated count)) answers
   pub told : TellsReplay (parsed false (generated count)) answers log
   pub prints :
       Prints (generated_printout (generated count) (parsed false (generated count)) answers) before after status
+  pub closed : IsValid (parsed false (generated count)) answers → (status ≡ CLOSED) ⊎ (status ≡ SINK_FAILED)
 
 -- wrong words, a source that failed, and want of memory print nothing
 abbrev pub IsSilent : ℕ → Type 0
 IsSilent status = (status ≡ USAGE) ⊎ (status ≡ SOURCE_FAILED) ⊎ (status ≡ NO_MEMORY)
 
--- the status is that of the printout, with some answers that who authenticates may give
+-- the status is that of the printout, with some answers that who authenticates may give; that of a valid script says
+-- that its session ended Closed
 pub record IsPrinted (is_handed : Bool) (handed : Exchange → Type 0) (script : List ℕ) (status : ℕ) : Type 0 where
   pub answers : List Asked
   pub may : MayAnswer (provider_state handed) (parsed is_handed script) answers
   pub is : status ≡ (printout (parsed is_handed script) answers).status
+  pub closed : IsValid (parsed is_handed script) answers → status ≡ CLOSED
 
 -- unless something failed, the status is that of the printout
 abbrev pub IsStatus : Bool → (Exchange → Type 0) → List ℕ → ℕ → Type 0

@@ -26,7 +26,7 @@ use crate::status::{
 };
 use crate::summary::put_summary;
 use crate::transfer::{ReadFault, SinkFailed, read_all, write_all};
-use amqp_engine::{IoLoop, ScriptedPort};
+use amqp_engine::{IoLoop, ScriptedPort, a_valid_script_ends_closed};
 use amqp_session::{AuthProvider, Cmd, ConnectionProperties, DefaultAuthProvider};
 use amqp_types::{NoMemory, Text};
 use amqp_uri::AMQPUri;
@@ -119,6 +119,8 @@ fn answer<K: Sink, P: ScriptedPort, A: AuthProvider>(
         ⊎ Replays (is_some handed) (handed_state A.allows handed) script.now (P.log port.new)
         (K.held sink.old) (K.held sink.new) result }
 {
+    // What is printed of a script of a faultless server says that its session ended Closed.
+    a_valid_script_ends_closed();
     match print(alloc, script, port, handed) {
         Ok(printout) => put(sink, printout),
         Err(NoMemory) => NO_MEMORY,
@@ -138,6 +140,8 @@ fn answer_number<K: Sink, P: ScriptedPort>(
     ensures outcome { (result ≡ NO_MEMORY)
         ⊎ Generates count (P.log port.new) (K.held sink.old) (K.held sink.new) result }
 {
+    // What is printed of a script of a faultless server says that its session ended Closed.
+    a_valid_script_ends_closed();
     match print_number(alloc, count, port) {
         Ok(printout) => put(sink, printout),
         Err(NoMemory) => NO_MEMORY,

@@ -2,8 +2,8 @@ use Rattle.std.proofs.Common.{is_some, inr, sym, subst}
 use Rattle.amqp_engine.specs.Counts.{Rose}
 use Rattle.amqp_replay.specs.Grammar.{parsed}
 use Rattle.amqp_replay.specs.Report.{Printout}
-use Rattle.amqp_replay.specs.Top.{Prints}
-use Rattle.amqp_replay.proofs.Statuses.{IsLoud, printout-IsLoud, written}
+use Rattle.amqp_replay.specs.Top.{handed_state, provider_state, printout, Prints}
+use Rattle.amqp_replay.proofs.Statuses.{IsLoud, printout-IsLoud, written, valid-closed, closed-printed}
 use Rattle.amqp_replay.proofs.top.answer.Goals as goal
 
 pub returns-in-Ok : goal.returns-in-Ok
@@ -13,7 +13,10 @@ returns-in-Ok g c =
     let made = c.in-Ok.ensures in
     let L : Printout → Type 0 = λ p. IsLoud p.status in
     let Q : Printout → Type 0 = λ p. Prints p before after c.put.result in
-    let loud = subst L (sym made.is) (printout-IsLoud (parsed (is_some c.args.handed) c.args.script.now) made.answers) in
+    let state = provider_state (handed_state g.A.AuthProvider.allows c.args.handed) in
+    let read = parsed (is_some c.args.handed) c.args.script.now in
+    let prints = subst Q made.is c.put.ensures.prints in
+    let loud = subst L (sym made.is) (printout-IsLoud read made.answers) in
     let done = written (Rose (g.K.Sink.faults c.args.sink.now) (g.K.Sink.faults c.put.new.sink)) c.in-Ok.printout before after c.put.result loud c.put.ensures.cause c.put.ensures.prints in
     record {
       known = done.known;
@@ -23,6 +26,8 @@ returns-in-Ok g c =
         answers = made.answers;
         may = made.may;
         told = made.told;
-        prints = subst Q made.is c.put.ensures.prints;
+        prints = prints;
+        closed = λ valid. closed-printed (printout read made.answers) before after c.put.result prints
+            (valid-closed c.a_valid_script_ends_closed.ensures.closed state read made.answers made.may valid);
       });
     }

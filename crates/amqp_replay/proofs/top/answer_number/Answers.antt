@@ -3,8 +3,8 @@ use Rattle.amqp_engine.specs.Counts.{Rose}
 use Rattle.amqp_replay.specs.Grammar.{parsed}
 use Rattle.amqp_replay.specs.Generator.{generated}
 use Rattle.amqp_replay.specs.Report.{Printout}
-use Rattle.amqp_replay.specs.Top.{Prints}
-use Rattle.amqp_replay.proofs.Statuses.{IsLoud, generated_printout-IsLoud, written}
+use Rattle.amqp_replay.specs.Top.{own_state, generated_printout, Prints}
+use Rattle.amqp_replay.proofs.Statuses.{IsLoud, generated_printout-IsLoud, written, generated-closed, closed-printed}
 use Rattle.amqp_replay.proofs.top.answer_number.Goals as goal
 
 pub returns-in-Ok : goal.returns-in-Ok
@@ -14,7 +14,10 @@ returns-in-Ok g c =
     let made = c.in-Ok.ensures in
     let L : Printout → Type 0 = λ p. IsLoud p.status in
     let Q : Printout → Type 0 = λ p. Prints p before after c.put.result in
-    let loud = subst L (sym made.is) (generated_printout-IsLoud (generated c.args.count) (parsed false (generated c.args.count)) made.answers) in
+    let script = generated c.args.count in
+    let read = parsed false script in
+    let prints = subst Q made.is c.put.ensures.prints in
+    let loud = subst L (sym made.is) (generated_printout-IsLoud script read made.answers) in
     let done = written (Rose (g.K.Sink.faults c.args.sink.now) (g.K.Sink.faults c.put.new.sink)) c.in-Ok.printout before after c.put.result loud c.put.ensures.cause c.put.ensures.prints in
     record {
       known = done.known;
@@ -24,6 +27,8 @@ returns-in-Ok g c =
         answers = made.answers;
         may = made.may;
         told = made.told;
-        prints = subst Q made.is c.put.ensures.prints;
+        prints = prints;
+        closed = λ valid. closed-printed (generated_printout script read made.answers) before after c.put.result prints
+            (generated-closed c.a_valid_script_ends_closed.ensures.closed script own_state read made.answers made.may valid);
       });
     }
