@@ -1,2 +1,7 @@
 -- Which clients carried what they were told.
 pub mod Accounting
+-- How a server is shown to be none that is faultless.
+pub mod NotServed
+-- The octets of frames, and which scripts are those of a faultless server.
+pub mod Octets
+pub mod ValidScripts

@@ -19,6 +19,10 @@ mod recovering;
 #[cfg(test)]
 mod runs;
 #[cfg(test)]
+mod sayings;
+#[cfg(test)]
+mod scripts;
+#[cfg(test)]
 mod story;
 #[cfg(test)]
 mod support;

@@ -1,0 +1,12 @@
+use Rattle.amqp_engine_tests.proofs.ValidScripts.{closed_by_us-valid, in_pieces-valid, closed_by_them-valid, blocked_a_while-valid, heard_in_time-valid}
+use Rattle.amqp_engine_tests.proofs.scripts.are_valid.Goals as goal
+
+pub returns : goal.returns
+returns c =
+    record {
+      closed_by_us = closed_by_us-valid;
+      in_pieces = in_pieces-valid;
+      closed_by_them = closed_by_them-valid;
+      blocked_a_while = blocked_a_while-valid;
+      heard_in_time = heard_in_time-valid;
+    }
