@@ -11,7 +11,7 @@ use Rattle.amqp_session.specs.Talk.{Talk, is_open, is_acting, has_ended, end_of}
 use Rattle.amqp_session.specs.Changes.{present_at, starve}
 use Rattle.amqp_session.specs.Links.{piece}
 use Rattle.amqp_engine.specs.declared.port.Step.{Step}
-use Rattle.amqp_engine.specs.Counts.{Rose}
+use Rattle.amqp_types.specs.Counts.{Rose}
 use Rattle.amqp_engine.specs.Log.{Log}
 use Rattle.amqp_engine.specs.Engine.{Engine, settle, rule_at, step_engine, read_row}
 use Rattle.amqp_engine.specs.Turn.{Progress, answers_of, drained}

@@ -1,7 +1,7 @@
 -- Small facts by cases.
 use Rattle.std.proofs.Common.{◌≡◌, ◌≤◌, ◌<◌, ℕ, ◌+◌, Bool, true, false, not, ◌&&◌, ◌||◌, IsTrue, IsFalse, nat_lt, Option, Some, None, is_some, refl, arith, rules}
 use Rattle.std.proofs.lemmas.Bool.Decides.{nat_tests}
-use Rattle.amqp_engine.specs.Counts.{Rose}
+use Rattle.amqp_types.specs.Counts.{Rose}
 use Rattle.amqp_engine.specs.Turn.{is_before}
 use Rattle.amqp_engine.specs.Making.{Reaches}
 

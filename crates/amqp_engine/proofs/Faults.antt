@@ -8,7 +8,8 @@ use Rattle.amqp_session.specs.Providers.{Exchange}
 use Rattle.amqp_session.specs.Talk.{Talk, has_ended, is_open, end_of}
 use Rattle.amqp_engine.specs.declared.port.Step.{Step}
 use Rattle.amqp_engine.specs.declared.port.Step.TheVariants.{LinkFailed, End, Fault}
-use Rattle.amqp_engine.specs.Counts.{Rose, HasCause, is_fault}
+use Rattle.amqp_engine.specs.Counts.{HasCause, is_fault}
+use Rattle.amqp_types.specs.Counts.{Rose}
 use Rattle.amqp_engine.specs.Engine.{Engine}
 use Rattle.amqp_engine.specs.Log.{Log}
 use Rattle.amqp_engine.specs.Making.{AppliesCounted}

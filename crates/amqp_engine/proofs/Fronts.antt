@@ -6,7 +6,8 @@ use Rattle.std.specs.Int.{Width, w16, w32, byte_len, from_be_bytes}
 use Rattle.std.proofs.lemmas.Bool.{ltb-true, ltb-false, le-ltb}
 use Rattle.std.proofs.lemmas.List.{take-append-le, drop-append-le}
 use Rattle.amqp_types.specs.Reading.{Reader, ◌>>=◌, octet_at, octets_at, number_at, ◌⊗◌}
-use Rattle.amqp_types.proofs.Readers.{some_is, bind_some, guard_some}
+use Rattle.amqp_types.proofs.Readers.{bind_some, guard_some}
+use Rattle.amqp_types.proofs.Small.{some_is}
 use Rattle.amqp_frame.specs.declared.frame.Frame.{Frame}
 use Rattle.amqp_frame.specs.declared.frame.Frame.TheVariants.{ProtocolHeader, Heartbeat}
 use Rattle.amqp_frame.specs.declared.frame.Read.{Read}

@@ -22,7 +22,7 @@ use Rattle.amqp_engine.specs.Engine.{Engine, rule_at, can_write, overlong_next, 
 use Rattle.amqp_session.specs.Writing.{frames_waiting}
 use Rattle.amqp_engine.specs.Turn.{Notes, answers_of, Progress, goes, offer_part, closing, drained, offered, answered, is_all, AreAnswers}
 use Rattle.amqp_engine.specs.Making.{making, Reaches, Writes}
-use Rattle.amqp_engine.specs.Counts.{Rose}
+use Rattle.amqp_types.specs.Counts.{Rose}
 use Rattle.amqp_engine.specs.Tell.{port_answer, offers_from, log_offers, PlaysOffers, TellsOffers}
 use Rattle.amqp_engine.specs.Play.{waiting, noted, no_notes}
 use Rattle.amqp_session.proofs.Cases.{if_case, if-true, if-false, and-false}

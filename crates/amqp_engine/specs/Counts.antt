@@ -1,6 +1,6 @@
 -- Counts of faults, which never fall.
 use Rattle.std.specs.Prelude.{ℕ, Bool, true, false, IsTrue}
-pub use Rattle.amqp_session.specs.Counts.{Rose}
+use Rattle.amqp_types.specs.Counts.{Rose}
 use Rattle.amqp_engine.specs.declared.port.Step.{Step}
 use Rattle.amqp_engine.specs.declared.port.Step.TheVariants.{LinkFailed, Fault}
 

@@ -14,7 +14,7 @@ use Rattle.amqp_engine.specs.declared.port.Step.TheVariants.{Tick, Command}
 use Rattle.amqp_engine.specs.declared.port.Happening.{Happening}
 use Rattle.amqp_engine.specs.declared.given.Given.{Given}
 use Rattle.amqp_engine.specs.Plan.{step_of, bytes_of}
-use Rattle.amqp_engine.specs.Counts.{Rose}
+use Rattle.amqp_types.specs.Counts.{Rose}
 use Rattle.amqp_engine.specs.Engine.{Engine, step_engine, step_questions, read_row, row_questions}
 use Rattle.amqp_engine.specs.Turn.{Notes, answers_of, Progress, AreAnswers, IsAnswered, drained, exchange_of}
 use Rattle.amqp_engine.specs.Log.{Log}

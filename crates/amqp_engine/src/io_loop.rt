@@ -19,7 +19,7 @@ ghost use Rattle.amqp_engine.specs.Sending.{Sending};
 ghost use Rattle.amqp_engine.specs.Account.{IsNew, HasCarried};
 ghost use Rattle.amqp_engine.specs.Saying.{HasSent, TellsLinks, GoesOn, GoesOnce};
 ghost use Rattle.amqp_engine.specs.Causes.{Brings, BringsOne, brought, fault_of, is_counted};
-ghost use Rattle.amqp_engine.specs.Counts.{Rose};
+ghost use Rattle.amqp_types.specs.Counts.{Rose};
 ghost use Rattle.amqp_engine.specs.Play.{IsPlayed};
 ghost use Rattle.amqp_engine.specs.Valid.{RunsValid};
 

@@ -1,7 +1,8 @@
 //! Ports, over which an engine runs.
 
 ghost use Rattle.std.specs.Prelude.{◌≡◌, ◌≤◌, ◌<◌, ◌++◌, ℕ, List, Option, Some, IfOk, IfSome, OnOk, OnErr, length, slice_get, option_map};
-ghost use Rattle.amqp_engine.specs.Counts.{Rose, HasCause};
+ghost use Rattle.amqp_engine.specs.Counts.{HasCause};
+ghost use Rattle.amqp_types.specs.Counts.{Rose};
 ghost use Rattle.amqp_engine.specs.Plan.{ArePieces};
 ghost use Rattle.amqp_engine.specs.Turn.{IsToldMethod, IsToldCommand};
 ghost use Rattle.amqp_engine.specs.Log.{Log, loaded, log_ask, log_step, log_write, piece_len, piece_bytes, IsPiece, IsWithin, PlansStep, PlansWrite};

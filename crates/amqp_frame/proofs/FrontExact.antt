@@ -7,7 +7,8 @@ use Rattle.std.specs.Int.{w16, w32, from_be_bytes, to_be_bytes}
 use mathlib.Core.Bool.{false≢true}
 use Rattle.amqp_types.specs.Forms.{IsOctets, ◌▸◌, OctetOf, NumberOf}
 use Rattle.amqp_types.specs.Reading.{◌>>=◌, octet_at, octets_at, number_at, ◌⊗◌}
-use Rattle.amqp_types.proofs.Readers.{IsOctets-rest, IsOctets-first, some_is, octet_reader, octets_reader, number16_reader, number32_reader, both_reader}
+use Rattle.amqp_types.proofs.Readers.{IsOctets-rest, IsOctets-first, octet_reader, octets_reader, number16_reader, number32_reader, both_reader}
+use Rattle.amqp_types.proofs.Small.{some_is}
 use Rattle.amqp_frame.specs.declared.frame.Frame.{Frame}
 use Rattle.amqp_frame.specs.declared.frame.Frame.TheVariants as f
 use Rattle.amqp_frame.specs.declared.frame.Read.{Read}

@@ -6,7 +6,8 @@ use Rattle.std.proofs.lemmas.List.{append-nil, nil_from_length}
 use Rattle.std.specs.Int.{w16}
 use Rattle.amqp_types.specs.Forms.{Form, IsOctets, NumberOf}
 use Rattle.amqp_types.specs.Reading.{Reader, ◌>>=◌, number_at, read_map}
-use Rattle.amqp_types.proofs.Readers.{IsReader, IsOctets-rest, some_is, bind_some, octet_reader, number16_reader, map_takes, short_string_reader, long_string_reader}
+use Rattle.amqp_types.proofs.Readers.{IsReader, IsOctets-rest, bind_some, octet_reader, number16_reader, map_takes, short_string_reader, long_string_reader}
+use Rattle.amqp_types.proofs.Small.{some_is}
 use Rattle.amqp_types.proofs.FieldReaders.{pick}
 use Rattle.amqp_frame.specs.declared.method.Method.{Method}
 use Rattle.amqp_frame.specs.declared.method.Method.TheVariants as m

@@ -1,7 +1,7 @@
 -- The texts of errors.
 use Rattle.std.specs.Prelude.{ℕ, List, ◌++◌, codes}
 use Rattle.std.specs.Fmt.{decimal}
-use Rattle.amqp_types.specs.Words.{text_of as word_text}
+use Rattle.amqp_types.specs.Words.{word_text}
 use Rattle.amqp_promise.specs.declared.state.ConnectionState.{ConnectionState}
 use Rattle.amqp_promise.specs.declared.state.ConnectionState.TheVariants as connection
 use Rattle.amqp_promise.specs.declared.state.ChannelState.{ChannelState}

@@ -1,7 +1,7 @@
 //! Where a script comes from, and where a report goes.
 
 ghost use Rattle.std.specs.Prelude.{◌≡◌, ◌≤◌, ◌<◌, ◌++◌, [], ℕ, List, Option, IfSome, length, take, drop, option_map};
-ghost use Rattle.amqp_engine.specs.Counts.{Rose};
+ghost use Rattle.amqp_types.specs.Counts.{Rose};
 ghost use Rattle.amqp_replay.specs.Ends.{count_given, count_taken};
 
 /// What a source answers.

@@ -2,7 +2,7 @@
 
 ghost use Rattle.std.specs.Prelude.{◌≡◌, ◌≤◌, ◌++◌, Some};
 ghost use Rattle.std.specs.Bool.{OnTrue, OnFalse};
-ghost use Rattle.amqp_engine.specs.Counts.{Rose};
+ghost use Rattle.amqp_types.specs.Counts.{Rose};
 
 use crate::ends::{Gave, Put, Sink, Source};
 use std::alloc::Global;

@@ -3,7 +3,7 @@
 
 ghost use Rattle.std.specs.Prelude.{◌≡◌, ◌≤◌, None};
 ghost use Rattle.std.specs.Io.{ReadsAtMost, WritesAtMost};
-ghost use Rattle.amqp_engine.specs.Counts.{Rose};
+ghost use Rattle.amqp_types.specs.Counts.{Rose};
 
 use crate::ends::{Gave, Put, Sink, Source};
 use std::alloc::Global;

@@ -8,7 +8,7 @@ ghost use Rattle.amqp_session.specs.Commands.{command};
 ghost use Rattle.amqp_engine.specs.Log.{loaded};
 ghost use Rattle.amqp_engine.specs.Engine.{begin, with_talk};
 ghost use Rattle.amqp_engine.specs.Plan.{ArePieces};
-ghost use Rattle.amqp_engine.specs.Counts.{Rose};
+ghost use Rattle.amqp_types.specs.Counts.{Rose};
 ghost use Rattle.amqp_replay.specs.Asked.{asked};
 ghost use Rattle.amqp_replay.specs.Grammar.{Scenario, parsed};
 ghost use Rattle.amqp_replay.specs.Generator.{generated};

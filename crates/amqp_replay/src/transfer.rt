@@ -1,7 +1,7 @@
 //! Reading all of a source, and writing all to a sink.
 
 ghost use Rattle.std.specs.Prelude.{◌≡◌, ◌≤◌, ◌<◌, ◌+◌, ◌++◌, [], length, drop, option_map, IfOk, IfSome, OnOk, OnErr, take};
-ghost use Rattle.amqp_engine.specs.Counts.{Rose};
+ghost use Rattle.amqp_types.specs.Counts.{Rose};
 ghost use Rattle.amqp_replay.specs.Top.{TookAll, TookFront};
 
 use crate::ends::{Gave, Put, Sink, Source};

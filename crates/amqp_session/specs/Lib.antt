@@ -10,7 +10,6 @@ pub mod Handshake
 -- What goes wrong.
 pub mod Violations
 -- Who logs in a client, and what is answered to a server's questions.
-pub mod Counts
 pub mod Providers
 pub mod DefaultAnswers
 pub mod Tokens

@@ -10,7 +10,7 @@ use Rattle.amqp_session.specs.declared.auth.asked.Asked.{Asked}
 use Rattle.amqp_session.specs.declared.auth.asked.Asked.TheVariants as answer
 use Rattle.amqp_session.specs.declared.auth.asked.Refusal.{Refusal}
 use Rattle.amqp_session.specs.declared.auth.asked.Refusal.TheVariants.{Said, NoMemory}
-use Rattle.amqp_session.specs.Counts.{Rose}
+use Rattle.amqp_types.specs.Counts.{Rose}
 
 -- questions with their answers, in order
 abbrev pub Exchange : Type 0

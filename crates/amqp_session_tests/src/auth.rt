@@ -1,7 +1,7 @@
 //! Providers of authentication: what they answer, and what they refuse.
 
 ghost use Rattle.std.specs.Bool.{OnTrue};
-ghost use Rattle.amqp_session.specs.Counts.{Rose};
+ghost use Rattle.amqp_types.specs.Counts.{Rose};
 
 use crate::support::{Outcome, long, new_token, no_token, provider_of};
 use amqp_frame::{Frame, Method};

@@ -8,7 +8,8 @@ use Rattle.amqp_types.specs.Forms.{Form, IsOctets, Nothing, ◌▸◌, OctetOf, 
 use Rattle.amqp_types.specs.Forms as form
 use Rattle.amqp_types.specs.Spelling.{tag_of, ScalarOf, ArrayOf, PairOf, TableOf, Tagged, Spells}
 use Rattle.amqp_types.specs.Reading.{Reader, ◌>>=◌, octet_at, short_string_at, long_string_at, read_map, scalar_at, row_at, array_with, pair_with, table_with, tagged_with, value_with, value_at, array_at, table_at}
-use Rattle.amqp_types.proofs.Readers.{IsReader, some_is, bind_some, octet_reader, octets_reader, number16_reader, number32_reader, number64_reader, then_again, then_takes, joined, inner_fits, both_reader, map_again, map_takes, short_string_reader, long_string_reader, row_again, row_takes}
+use Rattle.amqp_types.proofs.Readers.{IsReader, bind_some, octet_reader, octets_reader, number16_reader, number32_reader, number64_reader, then_again, then_takes, joined, inner_fits, both_reader, map_again, map_takes, short_string_reader, long_string_reader, row_again, row_takes}
+use Rattle.amqp_types.proofs.Small.{some_is}
 
 -- ---- values that hold no other
 pub scalar_again :

@@ -6,6 +6,7 @@ use Rattle.std.proofs.lemmas.List.{take_at, drop_at, take-append-drop, length-ap
 use Rattle.std.proofs.lemmas.Nat.{be_bytes_2, be_bytes_4, be_bytes_8, from_be_bytes-to_be_bytes_2, from_be_bytes-to_be_bytes_4, from_be_bytes-to_be_bytes_8}
 use Rattle.amqp_types.specs.Forms.{Form, IsOctets, ◌▸◌, OctetOf, NumberOf, OctetsOf, ShortStringOf, LongStringOf, Row}
 use Rattle.amqp_types.specs.Reading.{Reader, ◌>>=◌, octet_at, octets_at, number_at, short_string_at, long_string_at, ◌⊗◌, read_map, row_at}
+use Rattle.amqp_types.proofs.Small.{some_is}
 
 pub record IsReader {A : Type 0} (F : A → Form) (read : Reader A) : Type 0 where
   -- what is spelled is read
@@ -37,8 +38,6 @@ pub IsOctets-rest : (bytes text rest : List ℕ) → bytes ≡ text ++ rest → 
 IsOctets-rest bytes text rest e h = IsOctets-second text rest (subst IsOctets e h)
 
 -- ---- options
-pub some_is : {A : Type 0} (x y : A) → Some x ≡ Some y → x ≡ y
-some_is x y e = cc
 
 pub bind_some :
     {A B : Type 0} (o : Option A) (f : A → Option B) (y : B) → (o >>= f) ≡ Some y →

@@ -9,7 +9,7 @@ use Rattle.std.proofs.lemmas.Map.Lookups.{exact_bytes}
 use Rattle.std.proofs.lemmas.Grind.{fold-append}
 use Rattle.amqp_types.specs.declared.value.AMQPValue.{AMQPValue}
 use Rattle.amqp_types.specs.Value.{FieldValue, Pair}
-use Rattle.amqp_types.specs.View.{value_of, named}
+use Rattle.amqp_types.specs.View.{value_of, named_value}
 use Rattle.amqp_types.specs.Table.{name_cmp, IsInOrder, get, put, map_of}
 use Rattle.amqp_types.specs.Spelling.{max_depth}
 use Rattle.amqp_types.specs.Laws.{LastOfEqualNamesCounts, LastPairCounts, NamesStandOnce, PutSetsOneName}
@@ -116,10 +116,10 @@ map_of_ordered pairs h = kept_after [] pairs h
 -- ---- an ordered map of values
 pub named_insert :
     (es : List (List ℕ × AMQPValue)) (name : List ℕ) (v : AMQPValue) →
-    map named (insert_entry name_cmp es name v) ≡ put (map named es) name (value_of v)
+    map named_value (insert_entry name_cmp es name v) ≡ put (map named_value es) name (value_of v)
 named_insert [] name v = refl
 named_insert (e ∷ es) name v = elim (split_order (name_cmp name e.0)) [
-  | inl o ↦ ap (λ x. map named (match_ordering x ((name, v) ∷ e ∷ es) ((e.0, v) ∷ es) (e ∷ insert_entry name_cmp es name v))) o ∙ sym (put_less (named e) (map named es) name (value_of v) o)
-  | inr (inl o) ↦ ap (λ x. map named (match_ordering x ((name, v) ∷ e ∷ es) ((e.0, v) ∷ es) (e ∷ insert_entry name_cmp es name v))) o ∙ sym (put_equal (named e) (map named es) name (value_of v) o)
-  | inr (inr o) ↦ ap (λ x. map named (match_ordering x ((name, v) ∷ e ∷ es) ((e.0, v) ∷ es) (e ∷ insert_entry name_cmp es name v))) o ∙ ap (λ t. named e ∷ t) (named_insert es name v) ∙ sym (put_greater (named e) (map named es) name (value_of v) o)
+  | inl o ↦ ap (λ x. map named_value (match_ordering x ((name, v) ∷ e ∷ es) ((e.0, v) ∷ es) (e ∷ insert_entry name_cmp es name v))) o ∙ sym (put_less (named_value e) (map named_value es) name (value_of v) o)
+  | inr (inl o) ↦ ap (λ x. map named_value (match_ordering x ((name, v) ∷ e ∷ es) ((e.0, v) ∷ es) (e ∷ insert_entry name_cmp es name v))) o ∙ sym (put_equal (named_value e) (map named_value es) name (value_of v) o)
+  | inr (inr o) ↦ ap (λ x. map named_value (match_ordering x ((name, v) ∷ e ∷ es) ((e.0, v) ∷ es) (e ∷ insert_entry name_cmp es name v))) o ∙ ap (λ t. named_value e ∷ t) (named_insert es name v) ∙ sym (put_greater (named_value e) (map named_value es) name (value_of v) o)
 ]

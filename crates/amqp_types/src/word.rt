@@ -1,7 +1,7 @@
 //! The fixed texts that errors hold.
 
 ghost use Rattle.std.specs.Prelude.{◌≡◌};
-ghost use Rattle.amqp_types.specs.Words.{text_of};
+ghost use Rattle.amqp_types.specs.Words.{word_text};
 
 /// A fixed text: the key of an address's query whose number is bad, what a channel's state did not
 /// allow or what closed it, or why a connection could not be made.
@@ -44,7 +44,7 @@ pub enum Word {
 impl Word {
     /// The text.
     pub fn text(self) -> &'static str
-        ensures { result.now ≡ text_of self }
+        ensures { result.now ≡ word_text self }
     {
         match self {
             Word::FrameMax => "frame_max",

@@ -7,9 +7,9 @@ use Rattle.amqp_uri.specs.declared.fault.UriFault.TheVariants.{NotAmqp, Amqps, V
 
 -- the text of a fault, which is a fixed one, and at a bad number the key that has it
 abbrev pub text_of : UriFault → List ℕ
-text_of NotAmqp = word.text_of NotAnAmqpUri
-text_of Amqps = word.text_of AmqpsIsNotSupported
-text_of VhostTooLong = word.text_of VirtualHostTooLong
-text_of (BadNumber key) = word.text_of BadNumberInUri ++ codes ": " ++ word.text_of key
-text_of BadMechanism = word.text_of BadMechanismInUri
+text_of NotAmqp = word.word_text NotAnAmqpUri
+text_of Amqps = word.word_text AmqpsIsNotSupported
+text_of VhostTooLong = word.word_text VirtualHostTooLong
+text_of (BadNumber key) = word.word_text BadNumberInUri ++ codes ": " ++ word.word_text key
+text_of BadMechanism = word.word_text BadMechanismInUri
 text_of NoMemory = codes "memory was refused"

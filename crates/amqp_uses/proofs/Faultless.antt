@@ -6,7 +6,7 @@ use Rattle.amqp_promise.specs.declared.error.ErrorKind.TheVariants.{IOError, Out
 use Rattle.amqp_promise.specs.declared.io_fault.IoFault.{IoFault}
 use Rattle.amqp_session.specs.Answers.{HandsOut}
 use Rattle.amqp_engine.specs.Causes.{fault_at}
-use Rattle.amqp_engine.specs.Counts.{Rose}
+use Rattle.amqp_types.specs.Counts.{Rose}
 
 abbrev pub End : Type 0
 End = Result (Unit {0}) ErrorKind

@@ -9,7 +9,7 @@ ghost use Rattle.amqp_session.specs.Writing.{overlong, end_overlong};
 ghost use Rattle.amqp_engine.specs.Engine.{taken_by, with_talk, wrote, fitting_next, commit_one, commit_all, overlong_next, refuse_overlong, can_write};
 ghost use Rattle.amqp_engine.specs.Turn.{offered, answered, is_all};
 ghost use Rattle.amqp_engine.specs.Making.{making, FewParts, Writes};
-ghost use Rattle.amqp_engine.specs.Counts.{Rose};
+ghost use Rattle.amqp_types.specs.Counts.{Rose};
 
 use super::Wire;
 use crate::port::{Port, Wrote};

@@ -1,7 +1,7 @@
 //! What a provider of authentication is asked, and what it answers.
 
 ghost use Rattle.std.specs.Prelude.{◌≡◌, ◌≤◌, IfOk};
-ghost use Rattle.amqp_session.specs.Counts.{Rose};
+ghost use Rattle.amqp_types.specs.Counts.{Rose};
 ghost use Rattle.amqp_session.specs.declared.auth.asked.Refusal.TheVariants.{Said};
 
 use amqp_types::{LongString, NoMemory, ShortString, Text};

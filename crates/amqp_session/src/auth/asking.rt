@@ -2,7 +2,7 @@
 //! before anything else is done with it.
 
 ghost use Rattle.std.specs.Prelude.{◌≤◌, ◌∷◌, [], IfOk, IfErr, OnErr};
-ghost use Rattle.amqp_session.specs.Counts.{Rose};
+ghost use Rattle.amqp_types.specs.Counts.{Rose};
 ghost use Rattle.amqp_session.specs.Asking.{Answered, Unanswered, IsSaid};
 
 use crate::auth::asked::{Asked, Question, Refusal, copied};

@@ -3,7 +3,7 @@
 ghost use Rattle.std.specs.Prelude.{◌≡◌, ◌≤◌, [], Some, Ok, None, IfOk, OnErr, IsTrue, IsFalse};
 ghost use Rattle.amqp_session.specs.Asking.{Asks, Starves};
 ghost use Rattle.amqp_session.specs.Causes.{refused_in};
-ghost use Rattle.amqp_session.specs.Counts.{Rose};
+ghost use Rattle.amqp_types.specs.Counts.{Rose};
 ghost use Rattle.amqp_session.specs.Frames.{questions_in};
 ghost use Rattle.amqp_session.specs.Parts.{login_answers, validity_answers, IsAsked};
 ghost use Rattle.amqp_session.specs.Talk.{has_ended};

@@ -7,7 +7,7 @@ ghost use Rattle.amqp_session.specs.Memory.{MakesNothing};
 ghost use Rattle.amqp_session.specs.Violations.{stray_connection_method, stray_channel_frame};
 ghost use Rattle.amqp_session.specs.Frames.{closed_rule, is_of_a_channel, method_rule, frame_rule, on_frame, questions_in, frame_questions};
 ghost use Rattle.amqp_session.specs.Asking.{Hears, Starves};
-ghost use Rattle.amqp_session.specs.Counts.{Rose};
+ghost use Rattle.amqp_types.specs.Counts.{Rose};
 ghost use Rattle.amqp_session.specs.Parts.{login_answers};
 
 use super::Session;

@@ -1,5 +1,5 @@
 use Rattle.std.proofs.Common.{is_some, inr, sym, subst}
-use Rattle.amqp_engine.specs.Counts.{Rose}
+use Rattle.amqp_types.specs.Counts.{Rose}
 use Rattle.amqp_replay.specs.Grammar.{parsed}
 use Rattle.amqp_replay.specs.Report.{Printout}
 use Rattle.amqp_replay.specs.Top.{handed_state, provider_state, printout, Prints}

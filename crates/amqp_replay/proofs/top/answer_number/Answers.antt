@@ -1,5 +1,5 @@
 use Rattle.std.proofs.Common.{false, inr, sym, subst}
-use Rattle.amqp_engine.specs.Counts.{Rose}
+use Rattle.amqp_types.specs.Counts.{Rose}
 use Rattle.amqp_replay.specs.Grammar.{parsed}
 use Rattle.amqp_replay.specs.Generator.{generated}
 use Rattle.amqp_replay.specs.Report.{Printout}

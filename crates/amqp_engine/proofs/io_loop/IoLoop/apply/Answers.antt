@@ -5,7 +5,7 @@ use Rattle.amqp_engine.specs.Engine.{Engine}
 use Rattle.amqp_engine.specs.Tell.{AppliesLent}
 use Rattle.amqp_engine.specs.Saying.{HasSent, GoesOnce}
 use Rattle.amqp_engine.specs.Causes.{BringsOne, brought}
-use Rattle.amqp_engine.specs.Counts.{Rose}
+use Rattle.amqp_types.specs.Counts.{Rose}
 use Rattle.amqp_engine.proofs.LeftUnread.{Applies-read}
 use Rattle.amqp_engine.proofs.TurnEnds.{applied-cause}
 use Rattle.amqp_engine.proofs.Faults.{applied-fault}

@@ -4,7 +4,7 @@ use Rattle.amqp_types.specs.declared.text.Text.{Text}
 use Rattle.amqp_promise.specs.declared.io_fault.IoFault.{IoFault}
 use Rattle.amqp_promise.specs.declared.error.ErrorKind.TheVariants.{AuthProviderError}
 use Rattle.amqp_session.specs.Talk.{has_ended, end_of}
-use Rattle.amqp_engine.specs.Counts.{Rose}
+use Rattle.amqp_types.specs.Counts.{Rose}
 use Rattle.amqp_engine.specs.Causes.{fault_of, is_counted}
 use Rattle.amqp_engine.specs.Turn.{Turn, AreTold, exchanges, cut_of, Leads}
 use Rattle.amqp_engine.specs.Tell.{TellsTurns, MayCome}
