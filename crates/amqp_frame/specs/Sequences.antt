@@ -1,5 +1,5 @@
--- Frames one after another in octets, as a peer sends them (AMQP 0-9-1, 2.3.5 and 4.2.3): where they stand, and how the
--- octets end behind them. A place is a number of octets from the start.
+-- Frames one after another in octets, as a peer sends them (AMQP 0-9-1, 4.2.3): where they stand, and how the octets end
+-- behind them. A place is a number of octets from the start.
 use Rattle.std.specs.Prelude.{◌≡◌, ℕ, ◌+◌, ◌<◌, Bool, true, false, List, [], ◌∷◌, length, drop, ⊤}
 use Rattle.amqp_frame.specs.declared.frame.Frame.{Frame}
 use Rattle.amqp_frame.specs.declared.frame.Read.{Read}
@@ -28,16 +28,16 @@ Stand bytes limit start [] end = start ≡ end
 Stand bytes limit start (f ∷ frames) end =
     (n : ℕ) × (front_at bytes limit start ≡ Whole f n) × Stand bytes limit (start + n) frames end
 
--- how octets end behind the last whole frame
+-- how octets end behind whole frames
 pub data Ending : Type 0 where
-  -- with that frame: nothing is left
+  -- with the last of them: nothing is left
   Complete : Ending
   -- in the midst of a frame
   Cut : Ending
   -- in what is no frame, whatever follows
   Broken : Ending
 
--- the last whole frame ends at the place, and the octets end so behind it
+-- the octets end so behind the place, where the last whole frame ends
 abbrev pub EndsAt : List ℕ → ℕ → ℕ → Ending → Type 0
 EndsAt bytes limit place Complete = place ≡ length bytes
 EndsAt bytes limit place Cut = (place < length bytes) × (front_at bytes limit place ≡ More)

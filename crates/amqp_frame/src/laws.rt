@@ -1,4 +1,4 @@
-//! What holds of every spelling, whatever reads it.
+//! What holds of every spelling, and of frames one after another, whatever reads them.
 
 ghost use Rattle.std.specs.Prelude.{◌≡◌, ◌≢◌, ℕ, ◌≤◌, List, ◌++◌, length};
 ghost use Rattle.amqp_frame.specs.declared.frame.Frame.{Frame};
