@@ -9,7 +9,7 @@ use Rattle.amqp_frame.proofs.FrontLaws.{front_again, within_all}
 use Rattle.amqp_session.proofs.Cases.{if-false}
 use Rattle.amqp_session.proofs.Truths.{at-most, append-none}
 use Rattle.amqp_engine.specs.Valid.{Spelled, AreSpelled, whole_in, later_than, begun_in}
-use Rattle.amqp_engine.proofs.Fronts.{says-front}
+use Rattle.amqp_frame.proofs.FrontStays.{says-front}
 use Rattle.amqp_engine.proofs.Heeding.{flat}
 
 -- so many octets of the first have come, and not all

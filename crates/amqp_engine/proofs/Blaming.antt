@@ -21,7 +21,7 @@ use Rattle.amqp_session.proofs.Cases.{if_case}
 use Rattle.amqp_session.proofs.Ends.{Ends}
 use Rattle.amqp_session.proofs.Keeping.{present-keeps}
 use Rattle.amqp_engine.proofs.Cases.{rose-between}
-use Rattle.amqp_engine.proofs.Fronts.{is_memory}
+use Rattle.amqp_frame.proofs.FrontStays.{is_memory}
 use Rattle.amqp_engine.proofs.Settling.{settle-talk}
 use Rattle.amqp_engine.proofs.Joining.{joined-keeps}
 use Rattle.amqp_engine.proofs.ReadEnds.{ReadEnd, ends-read-row}

@@ -37,7 +37,7 @@ use Rattle.amqp_engine.specs.declared.port.Step.TheVariants.{Linked, LinkFailed,
 use Rattle.amqp_engine.specs.Account.{IsNew}
 use Rattle.amqp_engine.specs.Engine.{Engine, with_talk, rule_at, settle, step_piece, step_engine, front_of, is_more, read_row, read_one, commit_all, took}
 use Rattle.amqp_engine.specs.Turn.{wants_ask, asks}
-use Rattle.amqp_engine.proofs.Fronts.{says-front}
+use Rattle.amqp_frame.proofs.FrontStays.{says-front}
 use Rattle.amqp_engine.proofs.Settling.{settle-talk}
 use Rattle.amqp_engine.proofs.SpeaksAll.{met-commit-all}
 

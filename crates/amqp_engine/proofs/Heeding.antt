@@ -20,7 +20,7 @@ use Rattle.amqp_engine.specs.Engine.{Engine, front_of, is_more, can_read, settle
 use Rattle.amqp_engine.specs.Turn.{Progress, is_before, goes, read_part, reads}
 use Rattle.amqp_engine.specs.Valid.{Spelled, Saying, Theirs, AreSpelled, after_sayings, whole_in, later_than, begun_in}
 use Rattle.amqp_engine.specs.Making.{keeps_unread}
-use Rattle.amqp_engine.proofs.Fronts.{says-front}
+use Rattle.amqp_frame.proofs.FrontStays.{says-front}
 use Rattle.amqp_engine.proofs.Reading.{reads-rest, none-read}
 use Rattle.amqp_engine.proofs.Settling.{settle-unread}
 use Rattle.amqp_engine.proofs.Follows.{read-heard, read-unread, read_whole}

@@ -19,7 +19,7 @@ use Rattle.amqp_engine.specs.Making.{making, keeps_unread, IsSettled, joined, Re
 use Rattle.amqp_session.proofs.Cases.{if_case, if-true, if-false}
 use Rattle.amqp_engine.proofs.Cases.{and-left, and-right, and-other, from-not-false, from-not-true}
 use Rattle.amqp_engine.proofs.Settling.{settle-talk, settle-kept, settle-bytes}
-use Rattle.amqp_engine.proofs.Fronts.{says-front}
+use Rattle.amqp_frame.proofs.FrontStays.{says-front}
 use Rattle.amqp_engine.proofs.Reading.{none-read, read_one-shortens, reads-rest, after_read, reads-more, reads-enough}
 
 -- ---- bytes that join

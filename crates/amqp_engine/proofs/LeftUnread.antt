@@ -35,7 +35,7 @@ use Rattle.amqp_session.proofs.Cases.{if_case, if_by}
 use Rattle.amqp_session.proofs.Keeping.{present-keeps, stays-command, keeps-tick, tick-keeps, taken-keeps, taken-link, IsOff, lost-off, starve-ends}
 use Rattle.amqp_engine.proofs.EventTaken.{taken-case}
 use Rattle.amqp_engine.proofs.Commits.{commits-keep}
-use Rattle.amqp_engine.proofs.Fronts.{front-none}
+use Rattle.amqp_frame.proofs.FrontStays.{front-none}
 use Rattle.amqp_engine.proofs.Over.{ended-closed, applied-ended}
 use Rattle.amqp_engine.proofs.Lifting as lifting
 

@@ -5,12 +5,10 @@ pub mod Cases
 pub mod Answering
 pub mod Bytes
 pub mod Pieces
--- What settling leaves, what committing a frame does, what is said of the front of octets, that reading goes on to the end, and that a piece is read
--- part by part as at once.
+-- What settling leaves, what committing a frame does, that reading goes on to the end, and that a piece is read part by part as at once.
 pub mod Settling
 pub mod Commits
 pub mod Overlong
-pub mod Fronts
 pub mod Reading
 pub mod Joining
 -- What a turn does to a session that had ended: `apply: over`.

@@ -28,7 +28,7 @@ use Rattle.amqp_session.proofs.Cases.{if_case, if_by, if-true, if-false}
 use Rattle.amqp_engine.proofs.Cases.{and-left, and-right}
 use Rattle.amqp_session.proofs.Ends.{Ends, ends-kept, ends-unrecovered, ends-to, ends-as, ends-then, ends-present}
 use Rattle.amqp_session.proofs.Keeping.{present-keeps}
-use Rattle.amqp_engine.proofs.Fronts.{is_memory, says-front}
+use Rattle.amqp_frame.proofs.FrontStays.{is_memory, says-front}
 use Rattle.amqp_engine.proofs.Settling.{settle-talk}
 use Rattle.amqp_session.proofs.FrameErrors.{frame-errors}
 

@@ -21,7 +21,7 @@ use Rattle.amqp_engine.specs.Turn.{Progress, reads, reading, goes, read_part, is
 use Rattle.amqp_engine.specs.Making.{making, keeps_unread, IsSettled, Reaches}
 use Rattle.amqp_session.proofs.Cases.{if_by, if-true, if-false, and-true, and-false}
 use Rattle.amqp_engine.proofs.Cases.{and-left, and-right, is_before-Reaches}
-use Rattle.amqp_engine.proofs.Fronts.{says-front, front-none}
+use Rattle.amqp_frame.proofs.FrontStays.{says-front, front-none}
 use Rattle.amqp_engine.proofs.Settling.{settle-talk, settle-unread, settle-settled, settle-starved}
 use Rattle.amqp_session.proofs.Keeping.{present-keeps}
 use Rattle.amqp_session.proofs.Recovering.{lose-case}

@@ -1,8 +1,9 @@
 -- The engine: the session, with the bytes of its link that are not yet read, and those that are not yet taken.
-use Rattle.std.specs.Prelude.{ℕ, zero, suc, ◌+◌, ◌-◌, not, ◌&&◌, if◌then◌else◌, nat_lt, Bool, true, false, List, [], ◌++◌, length, drop, Option, Some, None, is_some}
+use Rattle.std.specs.Prelude.{ℕ, zero, suc, ◌+◌, ◌-◌, not, ◌&&◌, if◌then◌else◌, nat_lt, Bool, List, [], ◌++◌, length, drop, Option, Some, None, is_some}
 use Rattle.amqp_frame.specs.declared.frame.Read.{Read}
 use Rattle.amqp_frame.specs.declared.frame.Read.TheVariants as reading
 use Rattle.amqp_frame.specs.FrameReading.{front}
+pub use Rattle.amqp_frame.specs.Sequences.{is_more}
 use Rattle.amqp_frame.specs.Frames.{encoding}
 use Rattle.amqp_outbox.specs.declared.item.Item.{Item}
 use Rattle.amqp_promise.specs.declared.io_fault.IoFault.TheVariants.{Aborted, Reset, BrokenPipe}
@@ -94,11 +95,6 @@ step_questions at step answers e = []
 -- what stands at the front of the unread bytes
 abbrev pub front_of : Engine → Read
 front_of e = front e.unread (frame_limit e.talk)
-
--- what was received is not yet a whole frame
-abbrev pub is_more : Read → Bool
-is_more reading.More = true
-is_more _ = false
 
 -- there is a frame to be read, or what can be none
 abbrev pub can_read : Engine → Bool

@@ -1,6 +1,6 @@
-//! What holds of every spelling, whatever reads it.
+//! What holds of every spelling, and of frames one after another, whatever reads them.
 
-ghost use Rattle.std.specs.Prelude.{◌≡◌, ℕ, ◌≤◌, List, ◌++◌, length};
+ghost use Rattle.std.specs.Prelude.{◌≡◌, ◌≢◌, ℕ, ◌≤◌, List, ◌++◌, length};
 ghost use Rattle.amqp_frame.specs.declared.frame.Frame.{Frame};
 ghost use Rattle.amqp_frame.specs.declared.frame.Read.TheVariants as read;
 ghost use Rattle.amqp_frame.specs.Frames.{FrameOf, encoding, Writable};
@@ -9,6 +9,7 @@ ghost use Rattle.amqp_types.specs.Forms.{IsOctets};
 ghost use Rattle.amqp_frame.specs.declared.frame.Read.{Read};
 ghost use Rattle.amqp_frame.specs.Fronts.{IsWithin, IsFront};
 ghost use Rattle.amqp_frame.specs.FrameReading.{front};
+ghost use Rattle.amqp_frame.specs.Sequences.{Stand, Ending, IsSequence};
 
 /// Each spelling of a frame is read as that frame, whatever follows it.
 pub fn spelled_is_read()
@@ -39,9 +40,40 @@ pub fn one_frame()
         → (first ≡ second) × (a ≡ b) }
 {}
 
-/// Exactly one answer holds at the front of octets, and `front` is it.
+/// Exactly one answer holds at the front of octets, and `front` is it. A whole frame has at least eight
+/// octets, all of them there.
 pub fn exactly_one_answer()
     ensures holds { (bytes : List ℕ) (limit : ℕ) → IsOctets bytes → IsFront bytes limit (front bytes limit) }
     ensures only { (bytes : List ℕ) (limit : ℕ) (answer : Read) → IsOctets bytes → IsFront bytes limit answer
         → front bytes limit ≡ answer }
+    ensures size { (bytes : List ℕ) (limit n : ℕ) (frame : Frame) → front bytes limit ≡ read.Whole frame n
+        → (8 ≤ n) × (n ≤ length bytes) }
+{}
+
+/// What is said of the front of octets stays when more octets come.
+pub fn answer_stays()
+    ensures { (bytes more : List ℕ) (limit : ℕ) → front bytes limit ≢ read.More
+        → front (bytes ++ more) limit ≡ front bytes limit }
+{}
+
+/// Frames that stand one after another stay where they are when more octets come.
+pub fn frames_stay()
+    ensures { (bytes more : List ℕ) (limit start end : ℕ) (frames : List Frame) → Stand bytes limit start frames end
+        → Stand (bytes ++ more) limit start frames end }
+{}
+
+/// Of two sequences of frames that start at the same place, the one that ends first begins the other,
+/// and the rest of the other stands behind it.
+pub fn sequences_agree()
+    ensures { (bytes : List ℕ) (limit start end later : ℕ) (frames others : List Frame)
+        → Stand bytes limit start frames end → Stand bytes limit start others later → end ≤ later
+        → (rest : List Frame) × (others ≡ frames ++ rest) × Stand bytes limit end rest later }
+{}
+
+/// All whole frames that octets are, where the last of them ends, and how the octets end behind it, are
+/// one.
+pub fn one_sequence()
+    ensures { (bytes : List ℕ) (limit place other : ℕ) (frames others : List Frame) (ending another : Ending)
+        → IsSequence bytes limit frames place ending → IsSequence bytes limit others other another
+        → (frames ≡ others) × (place ≡ other) × (ending ≡ another) }
 {}

@@ -7,6 +7,8 @@ mod errors;
 #[cfg(test)]
 mod reading;
 #[cfg(test)]
+mod sequences;
+#[cfg(test)]
 mod strings;
 #[cfg(test)]
 mod support;

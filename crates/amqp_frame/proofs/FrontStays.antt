@@ -13,7 +13,7 @@ use Rattle.amqp_frame.specs.declared.frame.Frame.TheVariants.{ProtocolHeader, He
 use Rattle.amqp_frame.specs.declared.frame.Read.{Read}
 use Rattle.amqp_frame.specs.declared.frame.Read.TheVariants.{Whole, More, TooLarge, BadHeartbeat, Bad, NoMemory}
 use Rattle.amqp_frame.specs.FrameReading.{front, header, version, expect, framed, sized, ended, content, is_type_octet}
-use Rattle.amqp_engine.specs.Engine.{is_more}
+use Rattle.amqp_frame.specs.Sequences.{is_more}
 
 -- ---- readers of so many octets
 

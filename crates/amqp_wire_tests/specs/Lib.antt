@@ -1,0 +1,2 @@
+-- Octets that stand in tests.
+pub mod Octets
