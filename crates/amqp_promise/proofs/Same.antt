@@ -51,7 +51,7 @@ kind_test = enum_test kind.enum (
                     no_field,
                     (
                       no_field,
-                      (next number (next number (last (maybe number))), (no_field, (last octets, tt))),
+                      (next number (next number (last (maybe number))), (last number, (no_field, (last octets, tt)))),
                     ),
                   ),
                 ),

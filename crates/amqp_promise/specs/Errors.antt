@@ -9,7 +9,7 @@ use Rattle.amqp_promise.specs.declared.state.ChannelState.TheVariants as channel
 use Rattle.amqp_promise.specs.declared.io_fault.IoFault.{IoFault}
 use Rattle.amqp_promise.specs.declared.io_fault.IoFault.TheVariants.{Aborted, Refused, Reset, BrokenPipe, WouldBlock, Interrupted, Other}
 use Rattle.amqp_promise.specs.declared.error.ErrorKind.{ErrorKind}
-use Rattle.amqp_promise.specs.declared.error.ErrorKind.TheVariants.{ChannelsLimitReached, InvalidProtocolVersion, InvalidChannel, InvalidChannelState, InvalidConnectionState, IOError, ParsingError, ProtocolError, SerialisationError, MissingHeartbeatError, OutOfTurns, ForeignPass, NoMemory, AuthProviderError}
+use Rattle.amqp_promise.specs.declared.error.ErrorKind.TheVariants.{ChannelsLimitReached, InvalidProtocolVersion, InvalidChannel, InvalidChannelState, InvalidConnectionState, IOError, ParsingError, ProtocolError, SerialisationError, MissingHeartbeatError, OutOfTurns, ForeignPass, OutboxFull, NoMemory, AuthProviderError}
 use Rattle.amqp_promise.specs.Shown.{shown}
 
 -- the states of a connection, by their names
@@ -62,5 +62,6 @@ text_of (SerialisationError size) = codes "failed to serialise: frame of " ++ de
 text_of MissingHeartbeatError = codes "no heartbeat received from server for too long"
 text_of OutOfTurns = codes "the given turns were all taken"
 text_of (ForeignPass number place promise) = codes "foreign pass: " ++ decimal number
+text_of (OutboxFull size) = codes "outbox full: " ++ decimal size ++ codes " bytes"
 text_of NoMemory = codes "memory was refused"
 text_of (AuthProviderError text) = codes "failure during authentication: " ++ text

@@ -40,6 +40,8 @@ pub enum ErrorKind {
     /// The number of a pass that another connection gave, its place there, and its promise, where it
     /// has one.
     ForeignPass(u32, u64, Option<u64>),
+    /// How many bytes would be queued, which is more than the limit that was set.
+    OutboxFull(u64),
     /// An allocation was refused.
     NoMemory,
     /// Who authenticates refused to, with this text.
@@ -104,6 +106,7 @@ impl ErrorKind {
             ErrorKind::ForeignPass(number, place, promise) => {
                 ErrorKind::ForeignPass(*number, *place, *promise)
             }
+            ErrorKind::OutboxFull(size) => ErrorKind::OutboxFull(*size),
             ErrorKind::NoMemory => ErrorKind::NoMemory,
             ErrorKind::AuthProviderError(text) => ErrorKind::AuthProviderError(text.try_clone()?),
         })
@@ -290,6 +293,7 @@ impl fmt::Display for Error {
             }
             ErrorKind::OutOfTurns => f.write_str("the given turns were all taken"),
             ErrorKind::ForeignPass(number, _, _) => write!(f, "foreign pass: {number}"),
+            ErrorKind::OutboxFull(size) => write!(f, "outbox full: {size} bytes"),
             ErrorKind::NoMemory => f.write_str("memory was refused"),
             ErrorKind::AuthProviderError(text) => {
                 write!(f, "failure during authentication: {}", text.as_str())

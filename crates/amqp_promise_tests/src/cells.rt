@@ -1,6 +1,6 @@
 //! The cells by themselves.
 
-use crate::support::{Polled, same};
+use crate::support::{Polled, registers, same};
 use amqp_promise::{
     ErrorHolder, ErrorKind, KillSwitch, Notifier, Result, Slot, Wakers,
     a_first_completion_is_taken_once,
@@ -11,11 +11,6 @@ use futures::test::MockTask;
 use std::alloc::Global;
 use std::sync::Wait;
 use std::test::Fail;
-
-// Whether a task could register.
-fn registers(source: &Source, task: &MockTask, slot: &mut Slot<u8>) -> bool {
-    task.enter(|cx| slot.register(source, cx).is_ok())
-}
 
 // Whether a poll by this task answers this.
 fn polls(source: &Source, task: &MockTask, slot: &mut Slot<u8>, wanted: Polled) -> bool {
@@ -59,6 +54,49 @@ fn a_slot_wakes_who_registered(rt: HostRuntime) -> std::result::Result<(), Fail>
     Ok(())
 }
 
+// Whether two tasks wait at a slot, and one completion wakes both.
+fn wakes_both(source: &Source, one: &MockTask, other: &MockTask, slot: &mut Slot<u8>) -> bool {
+    let one_waits = polls(source, one, slot, Poll::Pending) && !one.is_woken();
+    let other_waits = polls(source, other, slot, Poll::Pending) && !other.is_woken();
+    slot.complete(Ok(5));
+    one_waits && other_waits && one.is_woken() && other.is_woken()
+}
+
+#[test]
+fn a_slot_wakes_two_tasks(rt: HostRuntime) -> std::result::Result<(), Fail> {
+    let (one, other) = (MockTask::new(&rt)?, MockTask::new(&rt)?);
+    let mut slot = Slot::new(rt.alloc());
+    let woken = wakes_both(&Source::new(), &one, &other, &mut slot);
+    drop(slot);
+    drop(other);
+    drop(one);
+    assert!(rt; woken);
+    Ok(())
+}
+
+// What a slot says once its result was taken: who registers is left alone, and who polls is to poll
+// again.
+fn asks_to_be_polled_again(source: &Source, task: &MockTask, slot: &mut Slot<u8>) -> bool {
+    slot.complete(Ok(5));
+    let taken = gives(slot, Some(Ok(5)));
+    let registered = registers(source, task, slot);
+    slot.complete(Ok(6));
+    let left_alone = !task.is_woken();
+    let polled = polls(source, task, slot, Poll::Pending);
+    taken && registered && left_alone && polled && task.is_woken()
+}
+
+#[test]
+fn a_taken_slot_has_nothing_more(rt: HostRuntime) -> std::result::Result<(), Fail> {
+    let task = MockTask::new(&rt)?;
+    let mut slot = Slot::new(rt.alloc());
+    let told = asks_to_be_polled_again(&Source::new(), &task, &mut slot);
+    drop(slot);
+    drop(task);
+    assert!(rt; told);
+    Ok(())
+}
+
 fn is_taken_between_completions(slot: &mut Slot<u8>) -> bool {
     let nothing = gives(slot, None);
     slot.complete(Err(ErrorKind::OutOfTurns.into()));
@@ -99,6 +137,32 @@ fn places_are_empty_once_woken(rt: HostRuntime) -> std::result::Result<(), Fail>
     Ok(())
 }
 
+// Whether two tasks that registered are woken at once.
+fn are_woken_at_once(
+    source: &Source,
+    one: &MockTask,
+    other: &MockTask,
+    wakers: &mut Wakers,
+) -> bool {
+    let registered = one.enter(|cx| wakers.register(source, cx).is_ok())
+        && other.enter(|cx| wakers.register(source, cx).is_ok());
+    let wait = !one.is_woken() && !other.is_woken();
+    wakers.wake();
+    registered && wait && one.is_woken() && other.is_woken()
+}
+
+#[test]
+fn places_of_two_tasks_are_woken(rt: HostRuntime) -> std::result::Result<(), Fail> {
+    let (one, other) = (MockTask::new(&rt)?, MockTask::new(&rt)?);
+    let mut wakers = Wakers::new(rt.alloc());
+    let told = are_woken_at_once(&Source::new(), &one, &other, &mut wakers);
+    drop(wakers);
+    drop(other);
+    drop(one);
+    assert!(rt; told);
+    Ok(())
+}
+
 // Whether a poll by this task answers this.
 fn is_told<R: Wait>(
     rt: &R,
@@ -135,6 +199,31 @@ fn a_notifier_tells_who_waits(rt: HostRuntime) -> std::result::Result<(), Fail> 
         Err(_) => false,
     };
     drop(task);
+    assert!(rt; told);
+    Ok(())
+}
+
+// Whether two tasks wait for a notice that wakes both.
+fn notifies_both<R: Wait>(rt: &R, one: &MockTask, other: &MockTask, notifier: &Notifier) -> bool {
+    let one_waits = is_told(rt, one, notifier, Poll::Pending) && !one.is_woken();
+    let other_waits = is_told(rt, other, notifier, Poll::Pending) && !other.is_woken();
+    notifier.notify_all(rt);
+    one_waits && other_waits && one.is_woken() && other.is_woken()
+}
+
+#[test]
+fn a_notifier_tells_two_tasks(rt: HostRuntime) -> std::result::Result<(), Fail> {
+    let (one, other) = (MockTask::new(&rt)?, MockTask::new(&rt)?);
+    let told = match Notifier::new(rt.alloc()) {
+        Ok(notifier) => {
+            let told = notifies_both(&rt, &one, &other, &notifier);
+            drop(notifier);
+            told
+        }
+        Err(_) => false,
+    };
+    drop(other);
+    drop(one);
     assert!(rt; told);
     Ok(())
 }

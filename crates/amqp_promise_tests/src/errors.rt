@@ -48,6 +48,7 @@ enum Plain {
     MissingHeartbeatError,
     OutOfTurns,
     ForeignPass(u32, u64, Option<u64>),
+    OutboxFull(u64),
     NoMemory,
 }
 
@@ -153,6 +154,7 @@ const ROWS: &[Row] = &[
     ),
     Row(Plain::OutOfTurns, "the given turns were all taken", &[]),
     Row(Plain::ForeignPass(3, 4, Some(5)), "foreign pass: 3", &[]),
+    Row(Plain::OutboxFull(4152), "outbox full: 4152 bytes", &[]),
     Row(Plain::NoMemory, "memory was refused", &[]),
 ];
 
@@ -188,6 +190,7 @@ fn kind_of(alloc: Global, plain: Plain) -> Outcome<ErrorKind> {
         Plain::ForeignPass(number, place, promise) => {
             ErrorKind::ForeignPass(number, place, promise)
         }
+        Plain::OutboxFull(size) => ErrorKind::OutboxFull(size),
         Plain::NoMemory => ErrorKind::NoMemory,
     })
 }
@@ -330,12 +333,13 @@ fn each_row_is_equal_to_itself_alone(rt: HostRuntime) -> Outcome<()> {
 }
 
 /// Pairs of errors that differ in one thing that they hold.
-const UNLIKE: [(Plain, Plain); 4] = [
+const UNLIKE: [(Plain, Plain); 5] = [
     (Plain::ParsingError(0), Plain::ParsingError(1)),
     (
         Plain::ForeignPass(3, 4, Some(5)),
         Plain::ForeignPass(3, 4, None),
     ),
+    (Plain::OutboxFull(4152), Plain::OutboxFull(4153)),
     (
         Plain::AuthProviderError("no token"),
         Plain::AuthProviderError("no tokens"),
@@ -375,6 +379,12 @@ fn faults_and_want_of_memory_are_errors(rt: HostRuntime) {
     assert!(rt; is_of(fault.into(), ErrorKind::IOError(fault)));
     assert!(rt; is_of(NoMemory.into(), ErrorKind::NoMemory));
     assert!(rt; is_of(ErrorKind::OutOfTurns.into(), ErrorKind::OutOfTurns));
+}
+
+#[test]
+fn states_begin_as_initial(rt: HostRuntime) {
+    assert!(rt; ChannelState::default() == ChannelState::Initial);
+    assert!(rt; ConnectionState::default() == ConnectionState::Initial);
 }
 
 const FAULTS: [(IoFault, &str); 7] = [

@@ -6,6 +6,8 @@ mod cells;
 #[cfg(test)]
 mod errors;
 #[cfg(test)]
+mod memory;
+#[cfg(test)]
 mod promises;
 #[cfg(test)]
 mod support;

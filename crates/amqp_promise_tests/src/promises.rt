@@ -143,3 +143,69 @@ fn a_completion_wakes_who_polled(rt: HostRuntime) -> std::result::Result<(), Fai
     assert!(rt; told?);
     Ok(())
 }
+
+// Whether who polled waits on, for ever, once the one resolver was dropped. It takes the resolver.
+fn waits_on<R: Wait>(rt: &R, task: &MockTask, promise: &Answer, resolver: Resolver) -> bool {
+    let waits = polls(rt, task, promise, Poll::Pending);
+    drop(resolver);
+    let left_alone = !task.is_woken() && gives(rt, promise, None);
+    let polled = polls(rt, task, promise, Poll::Pending);
+    waits && left_alone && polled && !task.is_woken()
+}
+
+fn outlives<R: Wait>(
+    rt: &R,
+    alloc: Global,
+    task: &MockTask,
+) -> std::result::Result<bool, NoMemory> {
+    let (promise, resolver) = Promise::new(alloc, "answer")?;
+    let told = waits_on(rt, task, &promise, resolver);
+    drop(promise);
+    Ok(told)
+}
+
+#[test]
+fn a_dropped_resolver_completes_nothing(rt: HostRuntime) -> std::result::Result<(), Fail> {
+    let task = MockTask::new(&rt)?;
+    let told = outlives(&rt, rt.alloc(), &task);
+    drop(task);
+    assert!(rt; told?);
+    Ok(())
+}
+
+// Whether a completion finds who polled, though the promise was dropped. It takes the promise.
+fn finds_who_polled<R: Wait>(
+    rt: &R,
+    task: &MockTask,
+    promise: Answer,
+    resolver: &Resolver,
+) -> bool {
+    let waits = polls(rt, task, &promise, Poll::Pending);
+    drop(promise);
+    let left_alone = !task.is_woken();
+    resolver.resolve(rt, 5);
+    resolver.reject(rt, ErrorKind::OutOfTurns.into());
+    waits && left_alone && task.is_woken() && resolver.marker() == "answer"
+}
+
+fn completes_alone<R: Wait>(
+    rt: &R,
+    alloc: Global,
+    task: &MockTask,
+) -> std::result::Result<bool, NoMemory> {
+    let (promise, resolver) = Promise::new(alloc, "answer")?;
+    let told = finds_who_polled(rt, task, promise, &resolver);
+    drop(resolver);
+    Ok(told)
+}
+
+#[test]
+fn a_promise_may_be_dropped_before_its_completion(
+    rt: HostRuntime,
+) -> std::result::Result<(), Fail> {
+    let task = MockTask::new(&rt)?;
+    let told = completes_alone(&rt, rt.alloc(), &task);
+    drop(task);
+    assert!(rt; told?);
+    Ok(())
+}

@@ -3,9 +3,9 @@
 //! An error is let go by a call of `drop`, and never where a scope ends: at such a place the check goes
 //! through each kind of it.
 
-use amqp_promise::{Promise, PromiseResolver, Result};
+use amqp_promise::{Promise, PromiseResolver, Result, Slot};
 use amqp_types::NoMemory;
-use futures::task::Poll;
+use futures::task::{Poll, Source};
 use futures::test::MockTask;
 use std::sync::Wait;
 
@@ -35,4 +35,9 @@ pub fn gives<R: Wait>(rt: &R, promise: &Answer, wanted: Option<Result<u8>>) -> b
 pub fn polls<R: Wait>(rt: &R, task: &MockTask, promise: &Answer, wanted: Polled) -> bool {
     let polled = task.enter(|cx| promise.poll(rt, cx));
     same(polled, wanted)
+}
+
+/// Whether a task could register at a slot.
+pub fn registers(source: &Source, task: &MockTask, slot: &mut Slot<u8>) -> bool {
+    task.enter(|cx| slot.register(source, cx).is_ok())
 }

@@ -9,6 +9,7 @@ use amqp_types::NoMemory;
 use futures::Future;
 use futures::executor::block_on;
 use futures::task::Context;
+use std::alloc::Global;
 use std::sync::Wait;
 use std::thread::{self, Threads};
 
@@ -87,14 +88,66 @@ fn take<R: Wait>(rt: &R, promise: &Answer, times: u32) -> Got {
     got
 }
 
+// Four resolvers of one cell.
+#[derive(Drop)]
+struct Resolvers {
+    first: Resolver,
+    second: Resolver,
+    third: Resolver,
+    fourth: Resolver,
+}
+
+// Three more resolvers of the cell that this one completes, beside itself.
+fn four_of(first: Resolver) -> std::result::Result<Resolvers, NoMemory> {
+    let second = first.try_clone()?;
+    let third = first.try_clone()?;
+    let fourth = first.try_clone()?;
+    Ok(Resolvers {
+        first,
+        second,
+        third,
+        fourth,
+    })
+}
+
+// Two threads that complete, each by a resolver of its own.
+fn complete_twice<R: Wait + Threads + Sync>(
+    rt: &R,
+    resolver: Resolver,
+    value: u8,
+    other_resolver: Resolver,
+    other_value: u8,
+) {
+    thread::join(
+        rt,
+        move || resolver.resolve(rt, value),
+        move || other_resolver.resolve(rt, other_value),
+    );
+}
+
+// Four threads that complete, each by a resolver of its own and with a value of its own.
+fn complete_four_times<R: Wait + Threads + Sync>(rt: &R, resolvers: Resolvers) {
+    let Resolvers {
+        first,
+        second,
+        third,
+        fourth,
+    } = resolvers;
+    thread::join(
+        rt,
+        move || complete_twice(rt, first, 1, second, 2),
+        move || complete_twice(rt, third, 3, fourth, 4),
+    );
+}
+
 // What two threads got by so many takes each, while four completed the promise.
 fn take_while_four_complete<R: Wait + Threads + Sync>(
     rt: &R,
     promise: &Answer,
-    resolver: &Resolver,
+    resolvers: Resolvers,
     times: u32,
 ) -> (Got, Got) {
-    let (got, _) = thread::join(
+    let (got, ()) = thread::join(
         rt,
         move || {
             thread::join(
@@ -103,25 +156,7 @@ fn take_while_four_complete<R: Wait + Threads + Sync>(
                 move || take(rt, promise, times),
             )
         },
-        move || {
-            thread::join(
-                rt,
-                move || {
-                    thread::join(
-                        rt,
-                        move || resolver.resolve(rt, 1),
-                        move || resolver.resolve(rt, 2),
-                    )
-                },
-                move || {
-                    thread::join(
-                        rt,
-                        move || resolver.resolve(rt, 3),
-                        move || resolver.resolve(rt, 4),
-                    )
-                },
-            )
-        },
+        move || complete_four_times(rt, resolvers),
     );
     got
 }
@@ -136,13 +171,25 @@ fn is_one_of(first: Got, second: Got, last: Got, values: &[u8]) -> bool {
     }
 }
 
+// A promise, and four resolvers of its cell.
+fn with_four_resolvers(alloc: Global) -> std::result::Result<(Answer, Resolvers), NoMemory> {
+    let (promise, resolver): (Answer, Resolver) = Promise::new(alloc, "answer")?;
+    match four_of(resolver) {
+        Ok(resolvers) => Ok((promise, resolvers)),
+        Err(refused) => {
+            drop(promise);
+            Err(refused)
+        }
+    }
+}
+
+// One take gets a value, which is that of one of the four completions.
 #[test]
-fn one_take_gets_one_of_four_completions(rt: HostRuntime) -> std::result::Result<(), NoMemory> {
+fn many_resolvers(rt: HostRuntime) -> std::result::Result<(), NoMemory> {
     for _ in 0..50 {
-        let (promise, resolver): (Answer, Resolver) = Promise::new(rt.alloc(), "answer")?;
-        let (first, second) = take_while_four_complete(&rt, &promise, &resolver, 20);
+        let (promise, resolvers) = with_four_resolvers(rt.alloc())?;
+        let (first, second) = take_while_four_complete(&rt, &promise, resolvers, 20);
         let last = take(&rt, &promise, 1);
-        drop(resolver);
         drop(promise);
         assert!(rt; is_one_of(first, second, last, &[1, 2, 3, 4]));
     }
@@ -151,15 +198,12 @@ fn one_take_gets_one_of_four_completions(rt: HostRuntime) -> std::result::Result
 
 // The first completion was there before, and the four come too late.
 #[test]
-fn one_of_two_threads_takes_the_first_completion(
-    rt: HostRuntime,
-) -> std::result::Result<(), NoMemory> {
+fn many_resolvers_after_the_first_completion(rt: HostRuntime) -> std::result::Result<(), NoMemory> {
     for _ in 0..50 {
-        let (promise, resolver): (Answer, Resolver) = Promise::new(rt.alloc(), "answer")?;
-        resolver.resolve(&rt, 5);
-        let (first, second) = take_while_four_complete(&rt, &promise, &resolver, 1);
+        let (promise, resolvers) = with_four_resolvers(rt.alloc())?;
+        resolvers.first.resolve(&rt, 5);
+        let (first, second) = take_while_four_complete(&rt, &promise, resolvers, 1);
         let last = take(&rt, &promise, 1);
-        drop(resolver);
         drop(promise);
         assert!(rt; last.count == 0 && is_one_of(first, second, last, &[5]));
     }

@@ -1,5 +1,6 @@
 -- What is read, in two pieces.
-use Rattle.std.specs.Prelude.{◌≡◌, map, ℕ, ◌<◌, List, ◌++◌, take, length, Bool, true, false}
+use Rattle.std.specs.Prelude.{◌≡◌, map, ℕ, ◌<◌, List, ◌++◌, take, length, Bool, true, false, codes}
+use Rattle.std.specs.Fmt.{decimal}
 use Rattle.std.specs.List.{AllWithin, HoldsAt}
 use Rattle.std.specs.Char.{to_ascii_lowercase}
 use Rattle.amqp_ring.specs.declared.context.ParsingContext.{ParsingContext}
@@ -9,6 +10,10 @@ use Rattle.amqp_ring.specs.declared.compare.CompareResult.TheVariants.{Ok, Incom
 -- the bytes of a context are those of its first piece and then those of its second
 abbrev pub seen : ParsingContext → List ℕ
 seen c = c.first.now ++ c.second.now
+
+-- what a programmer is shown of a context: how many bytes it has, and none of them
+abbrev pub debug_text : ParsingContext → List ℕ
+debug_text c = codes "ParsingContext { len: " ++ decimal (length (seen c)) ++ codes ", .. }"
 
 -- these bytes are those but for the case of ASCII letters
 abbrev pub IsSameNoCase : List ℕ → List ℕ → Type 0

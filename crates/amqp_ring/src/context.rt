@@ -7,20 +7,34 @@ ghost use Rattle.amqp_ring.specs.Contexts.{seen, IsFirst, NonePasses};
 use amqp_frame::View;
 use amqp_types::NoMemory;
 use std::alloc::Global;
+use std::fmt;
+use thiserror::Error;
 
 /// Two slices that are read as one list of bytes, the second behind the first. Copying it copies no
-/// byte.
+/// byte. Its `Debug` shows their number alone, since what is to be sent may be secret.
 ///
 /// A loop over many bytes does best on `copy_range`, which copies slice by slice; `at` is for the
 /// few bytes of a header, and `iter_elements` asks at each byte which slice it is in.
-#[derive(Clone, Copy, Debug)]
+#[derive(Clone, Copy)]
 pub struct ParsingContext<'a> {
     pub(crate) first: &'a [u8],
     pub(crate) second: &'a [u8],
 }
 
+impl fmt::Debug for ParsingContext<'_> {
+    ghost use Rattle.std.specs.Prelude.{Some};
+    ghost use Rattle.amqp_ring.specs.Contexts.{debug_text};
+
+    ghost debug_output = { λ c. Some (debug_text c) };
+
+    fn fmt<W: fmt::Write>(&self, f: &mut fmt::Formatter<W>) -> fmt::Result {
+        write!(f, "ParsingContext {{ len: {}, .. }}", self.input_len())
+    }
+}
+
 /// How many bytes are missing.
-#[derive(Clone, Copy, Debug, PartialEq, Eq)]
+#[derive(Clone, Copy, Debug, PartialEq, Eq, Error)]
+#[error("bytes missing: {0}")]
 pub struct Needed(pub usize);
 
 impl<'a> From<&'a [u8]> for ParsingContext<'a> {

@@ -4,7 +4,7 @@ use crate::steps::is;
 use amqp_frame::{Frame, Method, Read, View};
 use amqp_ring::{CompareResult, Needed, ParsingContext, read_in_pieces};
 use amqp_types::NoMemory;
-use std::alloc::Global;
+use std::alloc::{AllocError, Global};
 
 // A start, an end, and the bytes between them in `abc` and `de`.
 const PARTS: &[(usize, usize, &[u8])] = &[
@@ -71,6 +71,21 @@ fn what_is_missing_is_told(rt: HostRuntime) {
     let context = ParsingContext::from_slices(b"abc", b"de");
     assert!(rt; context.slice_index(5) == Ok(5));
     assert!(rt; context.slice_index(8) == Err(Needed(3)));
+}
+
+// Whether bytes and what is missing are shown so.
+fn are_shown(alloc: Global) -> Result<bool, AllocError> {
+    let context = ParsingContext::from_slices(b"abc", b"de");
+    let shown = format!(in alloc; "{context:?}")?;
+    let missing = Needed(3).to_string(alloc)?;
+    Ok(shown.as_str() == "ParsingContext { len: 5, .. }" && missing.as_str() == "bytes missing: 3")
+}
+
+// What is to be sent may be a password, and is not shown.
+#[test]
+fn no_byte_is_shown(rt: HostRuntime) -> Result<(), AllocError> {
+    assert!(rt; are_shown(rt.alloc())?);
+    Ok(())
 }
 
 #[test]

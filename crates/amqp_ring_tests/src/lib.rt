@@ -6,4 +6,6 @@ mod buffers;
 #[cfg(test)]
 mod contexts;
 #[cfg(test)]
+mod memory;
+#[cfg(test)]
 mod steps;

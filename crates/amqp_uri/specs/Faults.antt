@@ -1,6 +1,7 @@
 -- Why a text is no address, and how that reads.
-use Rattle.std.specs.Prelude.{ℕ, List, ◌++◌, codes}
+use Rattle.std.specs.Prelude.{ℕ, List, ◌++◌, codes, Option, Some, None}
 use Rattle.amqp_types.specs.Words as word
+use Rattle.amqp_types.specs.declared.word.Word.{Word}
 use Rattle.amqp_types.specs.declared.word.Word.TheVariants.{NotAnAmqpUri, AmqpsIsNotSupported, VirtualHostTooLong, BadNumberInUri, BadMechanismInUri}
 use Rattle.amqp_uri.specs.declared.fault.UriFault.{UriFault}
 use Rattle.amqp_uri.specs.declared.fault.UriFault.TheVariants.{NotAmqp, Amqps, VhostTooLong, BadNumber, BadMechanism, NoMemory}
@@ -13,3 +14,12 @@ text_of VhostTooLong = word.word_text VirtualHostTooLong
 text_of (BadNumber key) = word.word_text BadNumberInUri ++ codes ": " ++ word.word_text key
 text_of BadMechanism = word.word_text BadMechanismInUri
 text_of NoMemory = codes "memory was refused"
+
+-- the word of a fault, which at a bad number names no key; refused memory is no fault of the text and has none
+abbrev pub word_of : UriFault → Option Word
+word_of NotAmqp = Some NotAnAmqpUri
+word_of Amqps = Some AmqpsIsNotSupported
+word_of VhostTooLong = Some VirtualHostTooLong
+word_of (BadNumber key) = Some BadNumberInUri
+word_of BadMechanism = Some BadMechanismInUri
+word_of NoMemory = None

@@ -1,5 +1,9 @@
 //! Why a text is no address.
 
+ghost use Rattle.std.specs.Prelude.{◌≡◌, ◌↔◌, None};
+ghost use Rattle.amqp_uri.specs.Faults.{word_of};
+ghost use Rattle.amqp_uri.specs.declared.fault.UriFault.TheVariants as fault;
+
 use amqp_types::{NoMemory, Word};
 use std::alloc::AllocError;
 use std::fmt;
@@ -20,6 +24,25 @@ pub enum UriFault {
     BadMechanism,
     /// An allocation was refused.
     NoMemory,
+}
+
+impl UriFault {
+    /// The word that an error of a connection holds which such a text was given to: it says which fault
+    /// it is, and does not name the key of a bad number. None for want of memory, which is an error of
+    /// its own.
+    pub fn word(self) -> Option<Word>
+        ensures word { result ≡ word_of self }
+        ensures none { (result ≡ None) ↔ (self ≡ fault.NoMemory) }
+    {
+        match self {
+            UriFault::NotAmqp => Some(Word::NotAnAmqpUri),
+            UriFault::Amqps => Some(Word::AmqpsIsNotSupported),
+            UriFault::VhostTooLong => Some(Word::VirtualHostTooLong),
+            UriFault::BadNumber(_) => Some(Word::BadNumberInUri),
+            UriFault::BadMechanism => Some(Word::BadMechanismInUri),
+            UriFault::NoMemory => None,
+        }
+    }
 }
 
 impl fmt::Display for UriFault {

@@ -44,6 +44,10 @@ const VIRTUAL_HOSTS: &[(&str, Parts)] = &[
     ("amqp://h/%00", ("\0", "guest", "guest", "h", 5672)),
     ("amqp://a%00b:%00@h/v%00", ("v\0", "a\0b", "\0", "h", 5672)),
     ("amqp://h/%zz%4", ("%zz%4", "guest", "guest", "h", 5672)),
+    (
+        "amqp://h/%c3%28",
+        ("\u{fffd}(", "guest", "guest", "h", 5672),
+    ),
 ];
 
 #[test]
@@ -59,6 +63,8 @@ const URLS: &[(&str, Parts)] = &[
     ("amqp:vh", ("vh", "guest", "guest", "localhost", 5672)),
     ("amqp:/vh", ("vh", "guest", "guest", "localhost", 5672)),
     ("amqp:///vh", ("vh", "guest", "guest", "localhost", 5672)),
+    ("amqp:////vh", ("/vh", "guest", "guest", "localhost", 5672)),
+    ("amqp:%2fvh", ("vh", "guest", "guest", "localhost", 5672)),
     ("amqp://h/a/../vh", ("vh", "guest", "guest", "h", 5672)),
     ("amqp://h/a/%2e%2E/vh", ("vh", "guest", "guest", "h", 5672)),
     (
@@ -72,6 +78,7 @@ const URLS: &[(&str, Parts)] = &[
     ),
     ("AMQP://h/VH", ("VH", "guest", "guest", "h", 5672)),
     (" amqp://h/vh\n", ("vh", "guest", "guest", "h", 5672)),
+    ("amqp://h/v\th", ("vh", "guest", "guest", "h", 5672)),
 ];
 
 #[test]
@@ -79,7 +86,8 @@ fn an_address_is_a_url(rt: HostRuntime) -> Result<(), Fail> {
     are_read(&rt, rt.alloc(), URLS)
 }
 
-/// An empty user is none, whatever its password; a user without password has the empty one.
+/// An empty user is none, whatever its password; a user without password has the empty one. The case
+/// of a name stays, but an IPv6 address is written anew.
 const AUTHORITIES: &[(&str, Parts)] = &[
     ("amqp://bob:hunter@h", ("/", "bob", "hunter", "h", 5672)),
     ("amqp://bob:@h", ("/", "bob", "", "h", 5672)),
@@ -96,12 +104,24 @@ const AUTHORITIES: &[(&str, Parts)] = &[
         ("/", "\u{e9}", "\u{fffd}", "h", 5672),
     ),
     ("amqp://a@b:c@h", ("/", "a@b", "c", "h", 5672)),
+    ("amqp://u:p:w@h", ("/", "u", "p:w", "h", 5672)),
+    ("amqp://u%3Av:w@h", ("/", "u:v", "w", "h", 5672)),
     ("amqp://h:5673", ("/", "guest", "guest", "h", 5673)),
+    ("amqp://h:0005673", ("/", "guest", "guest", "h", 5673)),
     ("amqp://h:", ("/", "guest", "guest", "h", 5672)),
     ("amqp://h:0", ("/", "guest", "guest", "h", 0)),
     ("amqp://h:65535", ("/", "guest", "guest", "h", 65535)),
     ("amqp://[::1]:5673", ("/", "guest", "guest", "[::1]", 5673)),
+    (
+        "amqp://[2001:DB8::1]",
+        ("/", "guest", "guest", "[2001:db8::1]", 5672),
+    ),
+    (
+        "amqp://[::FFFF:1.2.3.4]",
+        ("/", "guest", "guest", "[::ffff:102:304]", 5672),
+    ),
     ("amqp://ho%73t", ("/", "guest", "guest", "host", 5672)),
+    ("amqp://h%25", ("/", "guest", "guest", "h%", 5672)),
     (
         "amqp://Rabbit.Example",
         ("/", "guest", "guest", "Rabbit.Example", 5672),

@@ -17,7 +17,9 @@ const FAULTS: &[(&str, UriFault)] = &[
     ("amqp://h:x", UriFault::NotAmqp),
     ("amqp://bob:hunter@", UriFault::NotAmqp),
     ("amqp://[::1", UriFault::NotAmqp),
+    ("amqp://[fe80::1%25eth0]", UriFault::NotAmqp),
     ("amqp://a b", UriFault::NotAmqp),
+    ("amqp://h^x", UriFault::NotAmqp),
     ("amqps://h:65536", UriFault::NotAmqp),
     ("amqps://h", UriFault::Amqps),
     ("amqps:", UriFault::Amqps),
@@ -94,24 +96,42 @@ fn texts_and_virtual_hosts_have_a_greatest_length(rt: HostRuntime) -> Result<(),
     Ok(())
 }
 
-/// Each fault, and its text.
-const TEXTS: &[(UriFault, &str)] = &[
-    (UriFault::NotAmqp, "not an AMQP URI"),
-    (UriFault::Amqps, "amqps is not supported"),
-    (UriFault::VhostTooLong, "virtual host too long"),
+/// Each fault, its text, and the word that an error of a connection holds.
+const TEXTS: &[(UriFault, &str, Option<Word>)] = &[
+    (
+        UriFault::NotAmqp,
+        "not an AMQP URI",
+        Some(Word::NotAnAmqpUri),
+    ),
+    (
+        UriFault::Amqps,
+        "amqps is not supported",
+        Some(Word::AmqpsIsNotSupported),
+    ),
+    (
+        UriFault::VhostTooLong,
+        "virtual host too long",
+        Some(Word::VirtualHostTooLong),
+    ),
     (
         UriFault::BadNumber(Word::FrameMax),
         "bad number in URI: frame_max",
+        Some(Word::BadNumberInUri),
     ),
-    (UriFault::BadMechanism, "bad mechanism in URI"),
-    (UriFault::NoMemory, "memory was refused"),
+    (
+        UriFault::BadMechanism,
+        "bad mechanism in URI",
+        Some(Word::BadMechanismInUri),
+    ),
+    (UriFault::NoMemory, "memory was refused", None),
 ];
 
 #[test]
-fn faults_have_their_texts(rt: HostRuntime) -> Result<(), Fail> {
-    for (fault, text) in TEXTS {
+fn faults_have_their_texts_and_words(rt: HostRuntime) -> Result<(), Fail> {
+    for (fault, text, word) in TEXTS {
         let shown = format!(in rt.alloc(); "{fault}")?;
         assert!(rt; shown.as_str() == *text, "{text}");
+        assert!(rt; fault.word() == *word, "{text}");
     }
     Ok(())
 }

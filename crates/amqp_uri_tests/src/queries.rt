@@ -46,6 +46,7 @@ const PAIRS: &[(&str, Wishes)] = &[
     ("amqp:vh?heartbeat=60", (None, None, Some(60), None)),
     ("amqp://h?heart%62eat=%36%30", (None, None, Some(60), None)),
     ("amqp://h?heartbeat=00060", (None, None, Some(60), None)),
+    ("amqp://h?heartbeat=65535", (None, None, Some(65535), None)),
     (
         "amqp://h?heartbeat=1&heartbeat=2",
         (None, None, Some(2), None),
@@ -91,6 +92,7 @@ fn small_frames_are_not_wished(rt: HostRuntime) -> Result<(), Fail> {
 const MECHANISMS: &[(&str, SASLMechanism)] = &[
     ("amqp://h?auth_mechanism=plain", SASLMechanism::Plain),
     ("amqp://h?auth_mechanism=PLAIN", SASLMechanism::Plain),
+    ("amqp://h?auth_mechanism=%50lain", SASLMechanism::Plain),
     ("amqp://h?auth_mechanism=AMQPlain", SASLMechanism::AMQPlain),
     ("amqp://h?auth_mechanism=External", SASLMechanism::External),
     (
@@ -158,6 +160,10 @@ const REFUSED: &[(&str, UriFault)] = &[
         UriFault::BadNumber(Word::Heartbeat),
     ),
     (
+        "amqp://h?heartbeat=%D9%A1",
+        UriFault::BadNumber(Word::Heartbeat),
+    ),
+    (
         "amqp://h?heartbeat=5=5",
         UriFault::BadNumber(Word::Heartbeat),
     ),
@@ -180,6 +186,7 @@ const REFUSED: &[(&str, UriFault)] = &[
     ("amqp://h?auth_mechanism=x", UriFault::BadMechanism),
     ("amqp://h?auth_mechanism", UriFault::BadMechanism),
     ("amqp://h?auth_mechanism=plain+", UriFault::BadMechanism),
+    ("amqp://h?auth_mechanism=pla%C4%B1n", UriFault::BadMechanism),
     (
         "amqp://h?auth_mechanism=x&heartbeat=x",
         UriFault::BadMechanism,

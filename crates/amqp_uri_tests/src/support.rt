@@ -17,16 +17,22 @@ fn has(uri: &AMQPUri, parts: Parts) -> bool {
         && uri.authority.port == port
 }
 
-/// Whether the text is an address of these parts.
-pub fn is_read(alloc: Global, text: &str, parts: Parts) -> bool {
+/// Whether the text is an address of these parts, where memory for it was found.
+pub fn reads(alloc: Global, text: &str, parts: Parts) -> Result<bool, NoMemory> {
     match AMQPUri::parse(alloc, text) {
         Ok(uri) => {
             let same = has(&uri, parts);
             drop(uri);
-            same
+            Ok(same)
         }
-        Err(_) => false,
+        Err(UriFault::NoMemory) => Err(NoMemory),
+        Err(_) => Ok(false),
     }
+}
+
+/// Whether the text is an address of these parts.
+pub fn is_read(alloc: Global, text: &str, parts: Parts) -> bool {
+    reads(alloc, text, parts) == Ok(true)
 }
 
 /// Whether the local address has these parts, and wishes nothing.
