@@ -7,7 +7,7 @@ use Rattle.amqp_frame.specs.FrameReading.{front}
 use Rattle.amqp_frame.specs.Frames.{FrameOf}
 use Rattle.amqp_frame.proofs.FrontLaws.{front_again, within_all}
 use Rattle.amqp_session.proofs.Cases.{if-false}
-use Rattle.amqp_session.proofs.Truths.{at-most, append-none}
+use Rattle.amqp_legal.proofs.Truths.{at-most, append-none}
 use Rattle.amqp_engine.specs.Valid.{Spelled, AreSpelled, whole_in, later_than, begun_in}
 use Rattle.amqp_frame.proofs.FrontStays.{says-front}
 use Rattle.amqp_engine.proofs.Heeding.{flat}

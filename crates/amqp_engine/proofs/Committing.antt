@@ -40,7 +40,8 @@ use Rattle.amqp_engine.specs.Engine.{Engine, with_talk, rule_at, step_engine, st
 use Rattle.amqp_engine.specs.Turn.{Turn, answers_of, Progress, asks, wants_ask, is_piece, offer_part, answered, read, applied, IsApplied}
 use Rattle.amqp_engine.specs.Sending.{Sending, nothing_sent, frames, offer_sending, offers_sending, step_sending, committed_in, committed_before}
 use Rattle.amqp_engine.specs.Saying.{applied_sending}
-use Rattle.amqp_session.proofs.Cases.{if_case, if-true, if-false, and-true}
+use Rattle.amqp_session.proofs.Cases.{if_case, if-true, if-false}
+use Rattle.amqp_legal.proofs.Truths.{and-true}
 use Rattle.amqp_engine.proofs.EventTaken.{event-case}
 use Rattle.amqp_engine.proofs.Cases.{and-left}
 use Rattle.amqp_engine.proofs.Settling.{settle-talk}

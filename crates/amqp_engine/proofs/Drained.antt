@@ -8,7 +8,7 @@ use Rattle.amqp_outbox.specs.declared.item.Item.{Item}
 use Rattle.amqp_session.specs.Sound.{IsSound}
 use Rattle.amqp_session.specs.Faultless.{Server}
 use Rattle.amqp_session.proofs.Cases.{if_case, if-true}
-use Rattle.amqp_session.proofs.Truths.{same-number, append-none}
+use Rattle.amqp_legal.proofs.Truths.{same-number, append-none}
 use Rattle.amqp_session.proofs.Greeted.{IsMet}
 use Rattle.amqp_session.proofs.Speaks.{said_all, said_all-append}
 use Rattle.amqp_engine.specs.declared.port.Wrote.{Wrote}

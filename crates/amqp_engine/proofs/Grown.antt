@@ -7,7 +7,7 @@ use Rattle.amqp_frame.specs.declared.frame.Frame.{Frame}
 use Rattle.amqp_outbox.specs.declared.item.Item.{Item}
 use Rattle.amqp_session.specs.Talk.{Talk, is_asked}
 use Rattle.amqp_session.proofs.Cases.{if_case}
-use Rattle.amqp_session.proofs.Truths.{append-none}
+use Rattle.amqp_legal.proofs.Truths.{append-none}
 use Rattle.amqp_engine.specs.declared.port.Step.{Step}
 use Rattle.amqp_engine.specs.declared.port.Step.TheVariants.{Linked, LinkFailed, Piece, End, Fault, Room, Tick, Command}
 use Rattle.amqp_engine.specs.declared.port.Wrote.{Wrote}

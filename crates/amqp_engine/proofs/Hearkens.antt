@@ -7,7 +7,7 @@ use Rattle.amqp_session.specs.declared.auth.asked.Question.{Question}
 use Rattle.amqp_session.specs.Asking.{Answer}
 use Rattle.amqp_session.specs.Config.{Options}
 use Rattle.amqp_session.specs.Faultless.{Server}
-use Rattle.amqp_session.proofs.Truths.{append-none}
+use Rattle.amqp_legal.proofs.Truths.{append-none}
 use Rattle.amqp_session.proofs.Greeted.{IsMet}
 use Rattle.amqp_session.proofs.Limits.{limit_at}
 use Rattle.amqp_engine.specs.declared.given.Given.{Given}

@@ -12,8 +12,8 @@ use Rattle.amqp_session.specs.Frames.{frame_questions}
 use Rattle.amqp_session.specs.Negotiation.{frame_limit}
 use Rattle.amqp_session.specs.Faultless.{Server, heard_from}
 use Rattle.amqp_session.specs.Faultless.Stage.{Gone}
-use Rattle.amqp_session.proofs.Cases.{if_case, if-true, if-false, and-true}
-use Rattle.amqp_session.proofs.Truths.{at-most}
+use Rattle.amqp_session.proofs.Cases.{if_case, if-true, if-false}
+use Rattle.amqp_legal.proofs.Truths.{and-true, at-most}
 use Rattle.amqp_session.proofs.Greeted.{IsMet, IsOver, Leaves, Heard, AreSaid}
 use Rattle.amqp_session.proofs.Limits.{limit_at, stage-limit}
 use Rattle.amqp_engine.specs.Engine.{Engine, front_of, is_more, can_read, settle, read_row, read_one}

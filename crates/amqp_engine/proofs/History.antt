@@ -6,8 +6,8 @@ use Rattle.amqp_frame.specs.declared.frame.Frame.{Frame}
 use Rattle.amqp_session.specs.declared.command.Cmd.{Cmd}
 use Rattle.amqp_session.specs.declared.command.Cmd.TheVariants.{Send, Publish}
 use Rattle.amqp_session.specs.CommandFrames.{AreFramesOf, is_send, is_publish}
-use Rattle.amqp_session.proofs.Cases.{and-true, and-false}
-use Rattle.amqp_session.proofs.Truths.{same-number, other-number}
+use Rattle.amqp_session.proofs.Cases.{and-false}
+use Rattle.amqp_legal.proofs.Truths.{and-true, same-number, other-number}
 use Rattle.amqp_session.proofs.Bearing.{command_at, Reading, closed, same-command}
 use Rattle.amqp_session.proofs.Commanding.{same-below}
 use Rattle.amqp_engine.specs.Carried.{AreSent, none, other, sent, Merges, left, right, joined}

@@ -8,11 +8,11 @@ use Rattle.amqp_session.specs.declared.command.Cmd.TheVariants.{OpenChannel, Clo
 use Rattle.amqp_session.specs.Talk.{Talk}
 use Rattle.amqp_session.specs.Commands.{command}
 use Rattle.amqp_session.specs.Answers.{take_answer, take_event, take_frames}
-use Rattle.amqp_session.specs.Legal.{Legal}
-use Rattle.amqp_session.specs.Decider.{Speech, greeted, say, say_all, is_amqp_header, is_legal}
-use Rattle.amqp_session.proofs.Cases.{and-true}
+use Rattle.amqp_legal.specs.Legal.{Legal}
+use Rattle.amqp_legal.specs.Decider.{Speech, greeted, say, say_all, is_amqp_header, is_legal}
+use Rattle.amqp_legal.proofs.Truths.{and-true}
 use Rattle.amqp_session.proofs.Ties.{IsTied, IsSilent, IsSendable}
-use Rattle.amqp_session.proofs.TakenIsLegal.{sound}
+use Rattle.amqp_legal.proofs.TakenIsLegal.{sound}
 use Rattle.amqp_session.proofs.Conversing.{Now, now-moment, now-asked, now-failed, now-piece, now-lost, now-misread, now-frame, now-tick, now-command, now-taken, now-answer, now-frames, committed-legal, start-silent, silent-room, tied-linked, tied-commit}
 use Rattle.amqp_engine.specs.declared.port.Step.{Step}
 use Rattle.amqp_engine.specs.declared.port.Step.TheVariants.{Linked, LinkFailed, Piece, End, Fault, Room, Tick, Command}

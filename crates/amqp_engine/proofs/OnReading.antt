@@ -14,7 +14,8 @@ use Rattle.amqp_session.specs.Frames.{on_frame, frame_questions}
 use Rattle.amqp_session.specs.Negotiation.{frame_limit}
 use Rattle.amqp_session.specs.Faultless.{Server, Stage, AreSayable, heard_from}
 use Rattle.amqp_session.specs.Faultless.Stage.{BeforeStart, BeforeTune, BeforeOpenOk, Serving, Gone}
-use Rattle.amqp_session.proofs.Cases.{if_case, if-true, and-true}
+use Rattle.amqp_session.proofs.Cases.{if_case, if-true}
+use Rattle.amqp_legal.proofs.Truths.{and-true}
 use Rattle.amqp_session.proofs.Soundness.{sound-frame, sound-present}
 use Rattle.amqp_session.proofs.Greeted.{IsMet, AreSaid}
 use Rattle.amqp_session.proofs.Limits.{limit_at, met-least, met-agreed, met-open, met-gone}

@@ -13,7 +13,7 @@ use Rattle.amqp_session.specs.Sound.{IsSound}
 use Rattle.amqp_session.specs.Writing.{next_item, frames_waiting, taken, committed_as as committed_in_session}
 use Rattle.amqp_session.specs.Faultless.{Server, said_to}
 use Rattle.amqp_session.proofs.Keeping.{present-keeps}
-use Rattle.amqp_session.proofs.Truths.{append-none}
+use Rattle.amqp_legal.proofs.Truths.{append-none}
 use Rattle.amqp_session.proofs.Greeted.{IsMet}
 use Rattle.amqp_session.proofs.Speaks.{GoOn, said_all, said_all-append}
 use Rattle.amqp_session.proofs.Tuned.{first_tune, Tuned}

@@ -35,7 +35,8 @@ use Rattle.amqp_engine.specs.Turn.{Turn, answers_of, Progress, asks, goes, reads
 use Rattle.amqp_engine.specs.Tell.{TellsTurns, Applies, Runs, turn_of}
 use Rattle.amqp_engine.specs.Causes.{is_final, FailsToWrite, IsReadError, Misreads, LosesClosed, IsCause, Brings, brought, is_tick, is_last, sends_close_ok, is_finish}
 use Rattle.amqp_session.proofs.Heard.{secret-case}
-use Rattle.amqp_session.proofs.Cases.{if_case, if_by, if-true, if-false, and-true, and-false}
+use Rattle.amqp_session.proofs.Cases.{if_case, if_by, if-true, if-false, and-false}
+use Rattle.amqp_legal.proofs.Truths.{and-true}
 use Rattle.amqp_engine.proofs.Cases.{none-from, and-left}
 use Rattle.amqp_session.proofs.Keeping.{present-keeps, kept-open, pay-keeps, off-finish, follow-link, stays-command}
 use Rattle.amqp_session.proofs.Recovering.{lose-case}

@@ -10,7 +10,7 @@ use Rattle.amqp_session.specs.Talk.{Talk, is_open}
 use Rattle.amqp_session.specs.Writing.{mark_of, sent, sent_among, frames_waiting}
 use Rattle.amqp_session.specs.Writing as writing
 use Rattle.amqp_session.proofs.Cases.{if-true}
-use Rattle.amqp_session.proofs.Truths.{is-at-most, append-none}
+use Rattle.amqp_legal.proofs.Truths.{is-at-most, append-none, other-number}
 use Rattle.amqp_engine.specs.Engine.{Engine, fitting_next, committed_as, commit_one, commits, commit_all}
 use Rattle.amqp_engine.specs.Sending.{committed_in, committed_before, encodings, sent_in}
 use Rattle.amqp_engine.specs.Valid.{Saying, Ours, after_sayings}
@@ -20,7 +20,6 @@ use Rattle.amqp_session.specs.Writing.{taken}
 use Rattle.amqp_session.specs.Faultless.{Server, said_to}
 use Rattle.amqp_session.proofs.Keeping.{present-keeps}
 use Rattle.amqp_session.proofs.Cases.{if_by}
-use Rattle.amqp_session.proofs.Truths.{other-number}
 use Rattle.amqp_session.proofs.Greeted.{IsMet}
 use Rattle.amqp_session.proofs.Tells.{met-present}
 use Rattle.amqp_session.proofs.Speaks.{said_all, GoOn, met-sent, sent-committed, met-taken}

@@ -6,7 +6,7 @@ use Rattle.amqp_session.specs.Config.{Config}
 use Rattle.amqp_session.specs.Talk.{start, is_asked, has_ended}
 use Rattle.amqp_session.specs.Commands.{command}
 use Rattle.amqp_session.specs.Answers.{take_answer, take_event, take_frames}
-use Rattle.amqp_session.specs.Legal.{Legal}
+use Rattle.amqp_legal.specs.Legal.{Legal}
 use Rattle.amqp_engine.specs.declared.given.Given.{Given}
 use Rattle.amqp_engine.specs.declared.port.Step.{Step}
 use Rattle.amqp_engine.specs.Plan.{step_of}

@@ -6,7 +6,7 @@ ghost use Rattle.amqp_session.specs.declared.auth.asked.Asked.{Asked};
 ghost use Rattle.amqp_session.specs.declared.command.Answer.TheVariants.{Connected};
 ghost use Rattle.amqp_session.specs.Listed.{at};
 ghost use Rattle.amqp_session.specs.Talk.{Talk, end_of, has_ended};
-ghost use Rattle.amqp_session.specs.Legal.{Legal};
+ghost use Rattle.amqp_legal.specs.Legal.{Legal};
 ghost use Rattle.amqp_engine.specs.declared.given.Given.{Given};
 ghost use Rattle.amqp_engine.specs.Log.{Log, loaded};
 ghost use Rattle.amqp_engine.specs.Engine.{Engine, begin};

@@ -68,17 +68,17 @@ use Rattle.amqp_session.specs.Writing.{flows, writes, next_item, then_of, mark_o
 use Rattle.amqp_session.specs.Answers.{answer_of, take_answer, take_frames}
 use Rattle.amqp_session.specs.Listed.{put, without}
 use Rattle.amqp_session.specs.Numbering.{first_number, drawn}
-use Rattle.amqp_session.specs.Octets.{class_in}
+use Rattle.amqp_legal.specs.Octets.{class_in}
 use Rattle.amqp_session.specs.Sound.{AscendFrom}
-use Rattle.amqp_session.specs.Legal.{amqp_header, IsPassedThrough}
-use Rattle.amqp_session.specs.Decider.{Speech, Stage, MethodSaid, HeaderSaid, StartOkSaid, TuneOkSaid, OpenSaid, CloseSaid, CloseOkSaid, Shut, InUse, Left, NoContent, BodyMissing, now_on, greeted, say, say_all, is_amqp_header, is_legal}
+use Rattle.amqp_legal.specs.Legal.{amqp_header, IsPassedThrough}
+use Rattle.amqp_legal.specs.Decider.{Speech, Stage, MethodSaid, HeaderSaid, StartOkSaid, TuneOkSaid, OpenSaid, CloseSaid, CloseOkSaid, Shut, InUse, Left, NoContent, BodyMissing, now_on, greeted, say, say_all, is_amqp_header, is_legal}
 use Rattle.amqp_session.proofs.Heard.{start-case, secure-case, secret-case}
-use Rattle.amqp_session.proofs.Cases.{if_case, if_by, if-true, and-true}
+use Rattle.amqp_session.proofs.Cases.{if_case, if_by, if-true}
+use Rattle.amqp_legal.proofs.Truths.{and-true, append-none, same-number, other-number}
 use Rattle.amqp_session.proofs.Recovering.{lose-by, recovers-open}
 use Rattle.amqp_session.proofs.Keeping.{asks-connected, beats-connected, starve-ends, lacks_link, follow-open}
 use Rattle.amqp_session.proofs.Ascending.{put-from, without-from, map_values-from}
-use Rattle.amqp_session.proofs.Truths.{append-none, same-number, other-number}
-use Rattle.amqp_session.proofs.Sayable.{IsComplete, say-append, front-said, over-stays, close-said, say-heartbeat, say-secret, say-our-close, say-flow, say-flow-ok, say-channel-close-ok, say-group, filling}
+use Rattle.amqp_legal.proofs.Sayable.{IsComplete, say-append, front-said, over-stays, close-said, say-heartbeat, say-secret, say-our-close, say-flow, say-flow-ok, say-channel-close-ok, say-group, filling}
 use Rattle.amqp_session.proofs.Ties.{frames_in, LeadsTo, first_out, IsReady, IsOfControl, pays, paying, to_pay, unpaid, TiesChannels, IsNew, TiesPhase, TiesActing, Ties, Speaks, IsTied, Rests, IsSilent, IsSendable}
 use Rattle.amqp_session.proofs.Ready.{stay-ready, open-ready, others-ready, unused-ready, never-ready, publish-content, publish-ready, pieces-fit}
 use Rattle.amqp_session.proofs.Expecting.{first-by-promise}

@@ -13,7 +13,7 @@ use Rattle.amqp_outbox.specs.Replies.{method_of, is_of, awaited_on, left_on, exp
 use Rattle.amqp_outbox.specs.Queued.{Queued, awaited_promise}
 use Rattle.amqp_session.specs.Listed.{without}
 use Rattle.amqp_session.specs.Sound.{Ascend}
-use Rattle.amqp_session.proofs.Truths.{the-number, equal-numbers}
+use Rattle.amqp_legal.proofs.Truths.{the-number, equal-numbers}
 use Rattle.amqp_session.proofs.Ascending.{put-ascends, without-ascends, at-gone}
 use Rattle.amqp_session.proofs.Numbered.{put-same, put-other, without-other}
 use Rattle.amqp_session.proofs.Ties.{is_tied, tied_on}

@@ -7,7 +7,7 @@ use Rattle.amqp_outbox.specs.Items.{plain}
 use Rattle.amqp_session.specs.declared.command.Answer.TheVariants.{Connected as AnswerConnected}
 use Rattle.amqp_session.specs.declared.committed.Mark.{Mark}
 use Rattle.amqp_session.specs.declared.committed.Then.TheVariants.{Finish}
-use Rattle.amqp_session.proofs.Truths.{is-at-most}
+use Rattle.amqp_legal.proofs.Truths.{is-at-most, and-true}
 use Rattle.amqp_outbox.specs.Queued as queued
 use Rattle.amqp_session.specs.declared.server_close.ServerClose.{ServerClose}
 use Rattle.amqp_session.specs.declared.server_close.ServerClose.TheVariants.{WithoutError}
@@ -17,7 +17,7 @@ use Rattle.amqp_session.specs.Links.{linked}
 use Rattle.amqp_session.specs.Handshake.{close_ok}
 use Rattle.amqp_session.specs.Writing.{taken, writes, flows, next_item, sent_among}
 use Rattle.amqp_session.specs.Faultless.{silent}
-use Rattle.amqp_session.proofs.Cases.{if-true, and-true}
+use Rattle.amqp_session.proofs.Cases.{if-true}
 use Rattle.amqp_session.proofs.Ordinary.{First}
 use Rattle.amqp_session.proofs.Greeted.{IsMet, IsOver, Leaves}
 

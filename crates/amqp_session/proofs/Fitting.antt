@@ -10,7 +10,7 @@ use Rattle.amqp_session.specs.Talk.{Talk}
 use Rattle.amqp_session.specs.Changes.{without_all_on}
 use Rattle.amqp_session.specs.Writing.{fitting, next_item, next_within, longer_than, overlong}
 use Rattle.amqp_session.proofs.Cases.{if-true, if-false}
-use Rattle.amqp_session.proofs.Truths.{is-at-most}
+use Rattle.amqp_legal.proofs.Truths.{is-at-most}
 use Rattle.amqp_session.proofs.Finishing.{next-first}
 
 -- ---- items of at most so many octets

@@ -32,7 +32,7 @@ use Rattle.amqp_session.specs.ChannelMethods.{heard_on, unawaited_channel_method
 use Rattle.amqp_session.specs.Frames.{is_of_a_channel, method_questions, questions_in, frame_rule, closed_rule, on_frame}
 use Rattle.amqp_session.specs.Causes.{IsFrameError, IsJudgedError, IsMisplaced, IsUnawaited, IsOfChannel, IsUndue, IsUnheard, IsInUse, is_awaited, is_due, is_secret_told, is_judged, refused_in}
 use Rattle.amqp_session.proofs.Cases.{if_by, if-true, if-false}
-use Rattle.amqp_session.proofs.Truths.{and-left}
+use Rattle.amqp_legal.proofs.Truths.{and-left}
 use Rattle.amqp_session.proofs.LostLinks.{open-goes_on, lose-ends}
 use Rattle.amqp_session.proofs.FrameEnds.{ends-frame}
 

@@ -46,7 +46,8 @@ use Rattle.amqp_session.specs.Talk.{hears_on}
 use Rattle.amqp_session.specs.Writing.{then_of}
 use Rattle.amqp_session.specs.Faultless.{Use, unused, Stage, Server, used_as, provided, one_less, serves_on, serves}
 use Rattle.amqp_session.specs.Faultless.Stage.{BeforeStart, BeforeTune, BeforeOpenOk, Serving, Gone}
-use Rattle.amqp_session.proofs.Cases.{if_case, if-true, if-false, and-true}
+use Rattle.amqp_session.proofs.Cases.{if_case, if-true, if-false}
+use Rattle.amqp_legal.proofs.Truths.{and-true}
 use Rattle.amqp_session.proofs.Ties.{pays, paying, to_pay}
 use Rattle.amqp_session.proofs.Paying.{IsNoPayment, pays-none}
 use Rattle.amqp_session.proofs.Ordinary.{is_close, AreOthers, all-append, First, Ordinary, method-goes, raw-goes, secret-goes, to-given, same}

@@ -9,10 +9,10 @@ use Rattle.amqp_frame.specs.declared.method.Method.TheVariants.{StartOk, SecureO
 use Rattle.amqp_outbox.specs.declared.item.Item.{Item}
 use Rattle.amqp_outbox.specs.Items.{outlives}
 use Rattle.amqp_outbox.specs.Queued.{goes_with}
-use Rattle.amqp_session.specs.Octets.{class_in}
+use Rattle.amqp_legal.specs.Octets.{class_in}
 use Rattle.amqp_session.specs.Writing.{then_of}
-use Rattle.amqp_session.specs.Decider.{Speech, Stage, HeaderSaid, StartOkSaid, TuneOkSaid, OpenSaid, CloseSaid, CloseOkSaid, Usage, Shut, InUse, Left, Content, NoContent, MethodSaid, BodyMissing, say, say_all, in_stage, in_content, say_block, say_open, say_use, say_close, say_close_ok, is_passed_through, now_on}
-use Rattle.amqp_session.proofs.Sayable.{IsComplete, IsControl, complete-block, none-said, no-some}
+use Rattle.amqp_legal.specs.Decider.{Speech, Stage, HeaderSaid, StartOkSaid, TuneOkSaid, OpenSaid, CloseSaid, CloseOkSaid, Usage, Shut, InUse, Left, Content, NoContent, MethodSaid, BodyMissing, say, say_all, in_stage, in_content, say_block, say_open, say_use, say_close, say_close_ok, is_passed_through, now_on}
+use Rattle.amqp_legal.proofs.Sayable.{IsComplete, IsControl, complete-block, none-said, no-some}
 use Rattle.amqp_session.proofs.Ties.{frames_in, channel_in, IsOfControl, pays, to_pay}
 use Rattle.amqp_session.proofs.Paying.{IsNoPayment, no-payment, left_in_lane, goes-on}
 

@@ -16,7 +16,7 @@ use Rattle.amqp_promise.specs.declared.error.ErrorKind.{ErrorKind}
 use Rattle.amqp_session.specs.ChannelMethods.{closed_by_server, confirmed, hand_out, is_select_ok, pass_through}
 use Rattle.amqp_session.proofs.Cases.{if_case}
 use Rattle.amqp_session.proofs.Numbered.{put-same}
-use Rattle.amqp_session.proofs.Truths.{append-none}
+use Rattle.amqp_legal.proofs.Truths.{append-none}
 
 -- what is added to a list that stays as it is
 pub none-added : {A : Type 0} (xs ys : List A) → xs ++ ys ≡ xs → ys ≡ []

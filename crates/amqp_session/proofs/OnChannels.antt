@@ -26,11 +26,11 @@ use Rattle.amqp_session.specs.Listed.{at, put, without, has, map_values}
 use Rattle.amqp_session.specs.Numbering.{first_number, cycle, drawn}
 use Rattle.amqp_session.specs.Channels.{new_channel, closing}
 use Rattle.amqp_session.specs.Recovery.{is_kept_in, reconnecting, kept}
-use Rattle.amqp_session.specs.Octets.{class_in}
-use Rattle.amqp_session.specs.Decider.{Speech, Usage, Shut, InUse, Left, OpenSaid, Content, MethodSaid, say, say_open, say_use, say_close, now_on}
-use Rattle.amqp_session.specs.Legal.{IsPassedThrough}
-use Rattle.amqp_session.proofs.Truths.{same-number, other-number, append-none}
-use Rattle.amqp_session.proofs.Sayable.{IsComplete, say-on, say-raw}
+use Rattle.amqp_legal.specs.Octets.{class_in}
+use Rattle.amqp_legal.specs.Decider.{Speech, Usage, Shut, InUse, Left, OpenSaid, Content, MethodSaid, say, say_open, say_use, say_close, now_on}
+use Rattle.amqp_legal.specs.Legal.{IsPassedThrough}
+use Rattle.amqp_legal.proofs.Truths.{same-number, other-number, append-none}
+use Rattle.amqp_legal.proofs.Sayable.{IsComplete, say-on, say-raw}
 use Rattle.amqp_session.specs.Sound.{AscendFrom, Ascend}
 use Rattle.amqp_session.proofs.Ascending.{ascend-below, put-from, without-from, without-ascends, at-gone, none-below, map_values-from, filter-from}
 use Rattle.amqp_session.proofs.Numbered.{at-first, at-later, put-same, put-other, without-other}

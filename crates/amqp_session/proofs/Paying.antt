@@ -15,10 +15,10 @@ use Rattle.amqp_session.specs.declared.committed.Mark.{Mark}
 use Rattle.amqp_session.specs.declared.committed.Then.{Then}
 use Rattle.amqp_session.specs.declared.committed.Then.TheVariants.{Finish}
 use Rattle.amqp_session.specs.Handshake.{channel_close_ok}
-use Rattle.amqp_session.specs.Legal.{body_frames}
+use Rattle.amqp_legal.specs.Legal.{body_frames}
 use Rattle.amqp_session.specs.Writing.{answers, then_by, then_of, is_close_ok, mark_of}
 use Rattle.amqp_session.proofs.Cases.{if_case}
-use Rattle.amqp_session.proofs.Truths.{same-number, other-number, the-number}
+use Rattle.amqp_legal.proofs.Truths.{same-number, other-number, the-number}
 use Rattle.amqp_session.proofs.Ties.{frames_in, first_out, channel_in, IsOfControl, pays, paying, to_pay, unpaid}
 
 -- ---- one frame

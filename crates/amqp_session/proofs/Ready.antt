@@ -17,11 +17,11 @@ use Rattle.amqp_session.specs.Capacities.{frame_min_size}
 use Rattle.amqp_session.specs.Negotiation.{wish_or}
 use Rattle.amqp_session.specs.Publishing.{method_frame, content_header, cut, body_pieces, publish_frames}
 use Rattle.amqp_session.specs.Commands.{too_long, body_limit}
-use Rattle.amqp_session.specs.Legal.{IsPassedThrough, IsContent}
-use Rattle.amqp_session.specs.Decider.{Speech, Usage, InUse, OpenSaid, now_on}
+use Rattle.amqp_legal.specs.Legal.{IsPassedThrough, IsContent}
+use Rattle.amqp_legal.specs.Decider.{Speech, Usage, InUse, OpenSaid, now_on}
 use Rattle.amqp_session.proofs.Cases.{if_case}
-use Rattle.amqp_session.proofs.Truths.{the-number}
-use Rattle.amqp_session.proofs.Sayable.{IsComplete}
+use Rattle.amqp_legal.proofs.Truths.{the-number}
+use Rattle.amqp_legal.proofs.Sayable.{IsComplete}
 use Rattle.amqp_session.proofs.Ties.{frames_in, IsReady}
 
 -- ---- groups that wait

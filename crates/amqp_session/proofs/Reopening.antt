@@ -17,7 +17,7 @@ use Rattle.amqp_session.specs.Memory.{MakesNothing}
 use Rattle.amqp_session.specs.ConnectionMethods.{connected, reopen, reopen_each, on_open_ok}
 use Rattle.amqp_session.specs.Reopening.{listed_after, agreed, numbers_after, open_item, reopened, reopened_each, is_among}
 use Rattle.amqp_session.proofs.Made.{none-added}
-use Rattle.amqp_session.proofs.Truths.{append-none, same-number, the-number, other-number}
+use Rattle.amqp_legal.proofs.Truths.{append-none, same-number, the-number, other-number}
 use Rattle.amqp_session.proofs.Walking.{all-left, without-before}
 
 -- ---- numbers among others

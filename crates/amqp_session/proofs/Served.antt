@@ -36,7 +36,7 @@ use Rattle.amqp_session.specs.Handshake.{flow_ok, channel_close_ok}
 use Rattle.amqp_session.specs.Writing.{then_of}
 use Rattle.amqp_session.specs.Faultless.{Use, unused, Server, used_as, provided, one_less}
 use Rattle.amqp_session.specs.Faultless.Stage.{Serving}
-use Rattle.amqp_session.proofs.Truths.{same-number, other-number, the-number}
+use Rattle.amqp_legal.proofs.Truths.{same-number, other-number, the-number}
 use Rattle.amqp_session.proofs.Numbered.{put-same, put-other, without-other}
 use Rattle.amqp_session.proofs.Ties.{pays, to_pay, unpaid, owing}
 use Rattle.amqp_session.proofs.Paying.{pays-none, pays-own, pays-others, goes-on}

@@ -31,7 +31,7 @@ use Rattle.amqp_session.specs.ChannelMethods.{awaits_close_ok}
 use Rattle.amqp_session.specs.Writing.{flows, writes, next_item, is_close_ok, then_by, then_of, mark_of, paid_by, pay, follow, sent, sent_among, taken}
 use Rattle.amqp_session.specs.Faultless.{Use, Stage, Server, said_to}
 use Rattle.amqp_session.proofs.Cases.{if_case}
-use Rattle.amqp_session.proofs.Truths.{same-number}
+use Rattle.amqp_legal.proofs.Truths.{same-number}
 use Rattle.amqp_session.proofs.Numbered.{put-other, without-other}
 use Rattle.amqp_session.proofs.Ties.{pays, to_pay, unpaid, owing}
 use Rattle.amqp_session.proofs.Paying.{IsNoPayment, pays-none, moved-on, sent-off}

@@ -47,7 +47,7 @@ use Rattle.amqp_session.specs.Faultless.{Server}
 use Rattle.amqp_session.proofs.Cases.{if_case, if_by, if-false}
 use Rattle.amqp_session.proofs.Heard.{secret-case}
 use Rattle.amqp_session.proofs.Keeping.{beats-connected, asks-connected, stays-command}
-use Rattle.amqp_session.proofs.Truths.{same-number, other-number}
+use Rattle.amqp_legal.proofs.Truths.{same-number, other-number}
 use Rattle.amqp_session.proofs.Numbered.{put-same, put-other}
 use Rattle.amqp_session.proofs.OnChannels.{drawn-free}
 use Rattle.amqp_session.proofs.Ties.{pays, unpaid, owing}

@@ -34,9 +34,9 @@ use Rattle.amqp_session.specs.Channels.{is_owed}
 use Rattle.amqp_session.specs.Writing.{then_of}
 use Rattle.amqp_session.specs.Capacities.{frame_min_size}
 use Rattle.amqp_session.specs.Sound.{AscendFrom, Ascend, is_agreed}
-use Rattle.amqp_session.specs.Legal.{amqp_header, body_frames, IsPassedThrough, IsContent}
-use Rattle.amqp_session.specs.Decider.{Speech, Usage, Shut, InUse, Left, StartOkSaid, OpenSaid, CloseSaid, greeted, say_all}
-use Rattle.amqp_session.proofs.Sayable.{IsComplete, IsControl}
+use Rattle.amqp_legal.specs.Legal.{amqp_header, body_frames, IsPassedThrough, IsContent}
+use Rattle.amqp_legal.specs.Decider.{Speech, Usage, Shut, InUse, Left, StartOkSaid, OpenSaid, CloseSaid, greeted, say_all}
+use Rattle.amqp_legal.proofs.Sayable.{IsComplete, IsControl}
 
 -- the frames that wait
 abbrev pub frames_in : List Item → List Frame

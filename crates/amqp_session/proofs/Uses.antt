@@ -16,7 +16,7 @@ use Rattle.amqp_session.specs.declared.channels.Channel.{Channel}
 use Rattle.amqp_session.specs.declared.channels.Debt.{Debt}
 use Rattle.amqp_session.specs.declared.channels.Debt.TheVariants as debt
 use Rattle.amqp_session.specs.Faultless.{Use, unused, Server, said_to, used_as}
-use Rattle.amqp_session.proofs.Truths.{same-number, the-number}
+use Rattle.amqp_legal.proofs.Truths.{same-number, the-number}
 use Rattle.amqp_session.proofs.Numbered.{put-same, put-other, without-other}
 
 -- ---- what is awaited

@@ -21,7 +21,7 @@ use Rattle.amqp_session.specs.Listed.{at, put, without, map_values}
 use Rattle.amqp_session.specs.Recovery.{is_kept_in, reconnecting, kept}
 use Rattle.amqp_session.specs.Reopening.{is_after, listed_after, agreed}
 use Rattle.amqp_session.proofs.Numbered.{is_itself}
-use Rattle.amqp_session.proofs.Truths.{append-none, is-at-most}
+use Rattle.amqp_legal.proofs.Truths.{append-none, is-at-most}
 
 -- ---- what holds of each of a list
 

@@ -37,10 +37,6 @@ pub mod Causes
 pub mod Sound
 pub mod Laws
 pub mod Secrets
--- Legal conversations, by a grammar, and decided frame by frame.
-pub mod Octets
-pub mod Legal
-pub mod Decider
 -- The frames of a command, what a frame hands out, and what a faultless server says.
 pub mod CommandFrames
 pub mod HandingOut

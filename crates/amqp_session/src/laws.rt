@@ -1,6 +1,6 @@
 //! What the rules keep.
 
-ghost use Rattle.std.specs.Prelude.{◌≡◌, ◌≢◌, ◌≤◌, ◌↔◌, ℕ, ◌+◌, ◌++◌, ◌∷◌, [], true, List, length, Result, Some, None, Err, IsTrue, IsFalse, Contains};
+ghost use Rattle.std.specs.Prelude.{◌≡◌, ◌≢◌, ◌≤◌, ◌↔◌, ℕ, ◌+◌, ◌++◌, ◌∷◌, [], List, length, Result, Some, None, Err, IsTrue, IsFalse, Contains};
 ghost use Rattle.amqp_frame.specs.declared.frame.Frame.{Frame};
 ghost use Rattle.amqp_frame.specs.Frames.{encoding};
 ghost use Rattle.amqp_outbox.specs.declared.item.Item.{Item};
@@ -34,8 +34,6 @@ ghost use Rattle.amqp_session.specs.Answers.{answer_of, take_answer, events_of, 
 ghost use Rattle.amqp_session.specs.Causes.{IsFrameError};
 ghost use Rattle.amqp_session.specs.Sound.{IsSound};
 ghost use Rattle.amqp_session.specs.Laws.{IsEnded, IsOver, StaysSound, IsRefused, IsAnsweredAtOnce, IsRefusal};
-ghost use Rattle.amqp_session.specs.Legal.{Legal};
-ghost use Rattle.amqp_session.specs.Decider.{is_legal};
 
 /// Negotiation leaves a channel to open, and frames of at least 4,096 octets.
 pub fn negotiation_leaves_room()
@@ -141,10 +139,4 @@ pub fn unsent_bytes_are_counted()
         → unsent (taken n t) + n ≡ unsent t }
     ensures sound { (n : ℕ) (t : Talk) → IsSound t → IsTrue (is_open t) → n ≤ unsent t
         → unsent (taken n t) + n ≡ unsent t }
-{}
-
-/// A decider takes the legal conversations, and no others.
-pub fn the_decider_takes_legal_conversations()
-    ensures sound { (frames : List Frame) → is_legal frames ≡ true → Legal frames }
-    ensures complete { (frames : List Frame) → Legal frames → is_legal frames ≡ true }
 {}

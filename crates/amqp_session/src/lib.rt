@@ -46,7 +46,7 @@ pub use laws::{
     a_frame_ends_with_its_errors, a_lost_link_answers_what_waits, a_refusal_changes_promises_alone,
     a_secret_is_asked_for_when_it_has_expired, an_answer_is_taken_once, an_end_is_kept,
     events_are_told_once, negotiation_leaves_room, states_stay_sound,
-    the_decider_takes_legal_conversations, unsent_bytes_are_counted,
+    unsent_bytes_are_counted,
 };
 pub use misread::Misread;
 pub use options::ConnectionProperties;
