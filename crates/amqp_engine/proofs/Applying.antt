@@ -20,7 +20,7 @@ use Rattle.std.proofs.lemmas.List.{append-nil}
 use Rattle.std.proofs.Math.Seq.{drop-append_seam}
 use Rattle.amqp_session.proofs.Hearing.{tick-more}
 use Rattle.amqp_engine.proofs.Answering.{answer-size, answered-all, answered-none}
-use Rattle.amqp_session.proofs.Cases.{if_case, if-true, if-false}
+use Rattle.amqp_types.proofs.Small.{if_case, if-true, if-false}
 use Rattle.amqp_engine.proofs.Cases.{is_before-Reaches}
 use Rattle.amqp_engine.proofs.Settling.{settle-starved}
 use Rattle.amqp_session.proofs.Keeping.{present-keeps, starve-twice}

@@ -16,11 +16,11 @@ use Rattle.amqp_session.specs.Asking.{Answer}
 use Rattle.amqp_session.specs.Config.{Options}
 use Rattle.amqp_session.specs.Talk.{Talk, acts}
 use Rattle.amqp_session.specs.Frames.{method_questions, questions_in, frame_questions}
-use Rattle.amqp_session.specs.Faultless.{Server, AreSayable, heard_from, said_to}
-use Rattle.amqp_session.specs.Faultless.Stage.{Gone}
-use Rattle.amqp_session.proofs.Greeted.{AreSaid}
-use Rattle.amqp_session.proofs.Speaks.{said-keeps}
-use Rattle.amqp_session.proofs.Sayings.{said-start, said-challenge}
+use Rattle.amqp_faultless.specs.Faultless.{Server, AreSayable, heard_from, said_to}
+use Rattle.amqp_faultless.specs.Faultless.Stage.{Gone}
+use Rattle.amqp_faultless.proofs.Greeted.{AreSaid}
+use Rattle.amqp_faultless.proofs.Speaks.{said-keeps}
+use Rattle.amqp_faultless.proofs.Sayings.{said-start, said-challenge}
 use Rattle.amqp_engine.specs.declared.given.Given.{Given}
 use Rattle.amqp_engine.specs.Plan.{bytes_of}
 use Rattle.amqp_engine.specs.Engine.{can_read, read_questions}

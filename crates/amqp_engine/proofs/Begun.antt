@@ -1,13 +1,12 @@
 -- Of spelled frames, what is left once some octets have come.
-use Rattle.std.proofs.Common.{◌≡◌, ◌≤◌, ℕ, ◌-◌, nat_le, if◌then◌else◌, Bool, true, false, List, [], ◌∷◌, ◌++◌, length, length-append, refl, ap, sym, ◌∙◌, arith}
+use Rattle.std.proofs.Common.{◌≡◌, ◌≤◌, ℕ, ◌-◌, nat_le, if◌then◌else◌, Bool, true, false, List, [], ◌∷◌, ◌++◌, length, length-append, refl, ap, sym, ◌∙◌, arith, append-nil}
 use Rattle.std.proofs.lemmas.Bool.Decides.{nat_tests}
 use Rattle.amqp_frame.specs.declared.frame.Frame.{Frame}
 use Rattle.amqp_frame.specs.declared.frame.Read.TheVariants.{Whole}
 use Rattle.amqp_frame.specs.FrameReading.{front}
 use Rattle.amqp_frame.specs.Frames.{FrameOf}
 use Rattle.amqp_frame.proofs.FrontLaws.{front_again, within_all}
-use Rattle.amqp_session.proofs.Cases.{if-false}
-use Rattle.amqp_legal.proofs.Truths.{at-most, append-none}
+use Rattle.amqp_types.proofs.Small.{if-false, at-most}
 use Rattle.amqp_engine.specs.Valid.{Spelled, AreSpelled, whole_in, later_than, begun_in}
 use Rattle.amqp_frame.proofs.FrontStays.{says-front}
 use Rattle.amqp_engine.proofs.Heeding.{flat}
@@ -37,7 +36,7 @@ spelled-some : (f : Frame) (octets : List ℕ) → FrameOf f octets → 8 ≤ le
 spelled-some f octets spelled =
     let whole : front (octets ++ []) (length octets) ≡ Whole f (length octets) =
     front_again f octets [] (length octets) spelled (within_all f (length octets) (length octets) (omega arith)) in
-    ((says-front (length octets)).size octets f (length octets) (ap (λ x. front x (length octets)) (sym (append-none octets)) ∙ whole)).0
+    ((says-front (length octets)).size octets f (length octets) (ap (λ x. front x (length octets)) (sym (append-nil octets)) ∙ whole)).0
 
 -- nothing has come
 pub part-none : (most agreed : ℕ) (spelled : List Spelled) → AreSpelled most agreed spelled → IsPart 0 spelled

@@ -17,7 +17,7 @@ use Rattle.amqp_engine.specs.Engine.{Engine, settle, rule_at, step_engine, read_
 use Rattle.amqp_engine.specs.Turn.{Progress, answers_of, drained}
 use Rattle.amqp_engine.specs.Making.{is_whole, joined, Writes, Blames}
 use Rattle.amqp_engine.specs.Causes.{IsReadError}
-use Rattle.amqp_session.proofs.Cases.{if_case}
+use Rattle.amqp_types.proofs.Small.{if_case}
 use Rattle.amqp_session.proofs.Ends.{Ends}
 use Rattle.amqp_session.proofs.Keeping.{present-keeps}
 use Rattle.amqp_engine.proofs.Cases.{rose-between}

@@ -26,8 +26,8 @@ use Rattle.amqp_session.specs.Links.{asked, linked, link_failed, piece, misread,
 use Rattle.amqp_session.specs.Ticks.{tick}
 use Rattle.amqp_session.specs.Commands.{command}
 use Rattle.amqp_session.specs.Writing.{frames_waiting, taken, end_overlong}
-use Rattle.amqp_session.specs.HandingOut.{HandedOut, handed_of, hands_out}
-use Rattle.amqp_session.specs.CommandFrames.{is_raw}
+use Rattle.amqp_carried_rules.specs.HandingOut.{HandedOut, handed_of, hands_out}
+use Rattle.amqp_carried_rules.specs.CommandFrames.{is_raw}
 use Rattle.amqp_engine.specs.declared.port.Step.{Step}
 use Rattle.amqp_engine.specs.declared.port.Step.TheVariants.{Linked, LinkFailed, Piece, End, Fault, Room, Tick, Command}
 use Rattle.amqp_engine.specs.declared.port.Wrote.{Wrote}
@@ -40,8 +40,8 @@ use Rattle.amqp_engine.specs.Sending.{Sending, offer_sending, offers_sending, st
 use Rattle.amqp_engine.specs.Exchange.{Event, Heard, Said, heard_in, heard_by, heard_of, said_of, step_exchange, turn_exchange, exchange_from, exchange}
 use Rattle.amqp_engine.specs.Carried.{IsWithin, none, kept, left_out, raw_frames, joined, frame_of, CameIn}
 use Rattle.amqp_engine.specs.Account.{heard_frame, IsNew, account}
-use Rattle.amqp_session.proofs.Cases.{if_case, if-false, and-false}
-use Rattle.amqp_session.proofs.Handing.{AreHanded, as_pairs, Hands, IsSameHanded, hands-none, frame-hands, command-handed, present-handed, linked-handed, failed-handed, piece-handed, lost-handed, tick-handed, misread-handed, taken-handed, overlong-handed, starve-handed, present-hands_out}
+use Rattle.amqp_types.proofs.Small.{if_case, if-false, and-false}
+use Rattle.amqp_carried_rules.proofs.Handing.{AreHanded, as_pairs, Hands, IsSameHanded, hands-none, frame-hands, command-handed, present-handed, linked-handed, failed-handed, piece-handed, lost-handed, tick-handed, misread-handed, taken-handed, overlong-handed, starve-handed, present-hands_out}
 use Rattle.amqp_engine.proofs.Settling.{settle-talk}
 use Rattle.amqp_engine.proofs.Commits.{commits-keep}
 use Rattle.amqp_engine.proofs.LinkKept.{leaves-step}

@@ -4,26 +4,11 @@ use Rattle.std.proofs.lemmas.Bool.Decides.{nat_tests}
 use Rattle.amqp_types.specs.Counts.{Rose}
 use Rattle.amqp_engine.specs.Turn.{is_before}
 use Rattle.amqp_engine.specs.Making.{Reaches}
+use Rattle.amqp_types.proofs.Small.{and-left, and-right, and-other, none-from, from-not-true}
 
 pub or-true : (a : Bool) → (a || true) ≡ true
 or-true true = refl
 or-true false = refl
-
-pub and-left : (a b : Bool) → (a && b) ≡ true → a ≡ true
-and-left true b h = refl
-and-left false b h = h
-
-pub and-right : (a b : Bool) → (a && b) ≡ true → b ≡ true
-and-right true b h = h
-and-right false b h = cc
-
-pub and-other : (a b : Bool) → a ≡ true → (a && b) ≡ false → b ≡ false
-and-other true b g h = h
-and-other false b g h = cc
-
-pub none-from : {A : Type 0} (o : Option A) → is_some o ≡ false → o ≡ None
-none-from None h = refl
-none-from (Some x) h = cc
 
 -- what is allowed after one part more may be done before it
 pub is_before-Reaches : (cut : Option ℕ) (n : ℕ) → Reaches cut (n + 1) → is_before cut n ≡ true
@@ -61,7 +46,3 @@ true-from false h = absurd (h refl)
 pub from-not-false : (b : Bool) → not b ≡ false → b ≡ true
 from-not-false true h = refl
 from-not-false false h = cc
-
-pub from-not-true : (b : Bool) → not b ≡ true → b ≡ false
-from-not-true true h = cc
-from-not-true false h = refl

@@ -11,12 +11,12 @@ use Rattle.amqp_session.specs.Frames.{on_frame}
 use Rattle.amqp_session.specs.Links.{linked, misread, piece}
 use Rattle.amqp_session.specs.Ticks.{tick}
 use Rattle.amqp_session.specs.Writing.{frames_waiting, taken}
-use Rattle.amqp_session.specs.Faultless.{Server}
-use Rattle.amqp_session.proofs.Cases.{if-true}
+use Rattle.amqp_faultless.specs.Faultless.{Server}
+use Rattle.amqp_types.proofs.Small.{if-true}
 use Rattle.amqp_session.proofs.Keeping.{present-keeps}
-use Rattle.amqp_session.proofs.Greeted.{IsMet}
-use Rattle.amqp_session.proofs.Clock.{IsClock, clock-present, clock-piece, clock-linked, clock-tick, clock-early, clock-same, clock-misread, clock-frame, clock-taken, clock-command}
-use Rattle.amqp_session.proofs.Open.{open-runs}
+use Rattle.amqp_faultless.proofs.Greeted.{IsMet}
+use Rattle.amqp_faultless.proofs.Clock.{IsClock, clock-present, clock-piece, clock-linked, clock-tick, clock-early, clock-same, clock-misread, clock-frame, clock-taken, clock-command}
+use Rattle.amqp_faultless.proofs.Open.{open-runs}
 use Rattle.amqp_engine.specs.declared.port.Step.{Step}
 use Rattle.amqp_engine.specs.declared.port.Step.TheVariants.{Linked, LinkFailed, Piece, End, Fault, Room, Tick, Command}
 use Rattle.amqp_engine.specs.Plan.{at_most_64}

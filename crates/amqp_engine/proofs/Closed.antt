@@ -19,18 +19,18 @@ use Rattle.amqp_session.specs.declared.state.Link.TheVariants.{Due, Wanted, Aske
 use Rattle.amqp_session.specs.Talk.{Talk, start, end_of, has_ended, is_asked, is_asked_link, is_wanted_link}
 use Rattle.amqp_session.specs.Changes.{present_at}
 use Rattle.amqp_session.specs.Ticks.{is_missed}
-use Rattle.amqp_session.proofs.Cases.{if_case, if-true, if-false}
+use Rattle.amqp_types.proofs.Small.{if_case, if-true, if-false}
 use Rattle.amqp_session.proofs.Soundness.{sound-start, sound-command, sound-asked, sound-present, sound-linked}
-use Rattle.amqp_session.proofs.Greeted.{IsMet, IsOver}
-use Rattle.amqp_session.proofs.FirstAndLast.{IsFresh, met-linked}
-use Rattle.amqp_session.proofs.Limits.{limit_at}
-use Rattle.amqp_session.proofs.Modest.{Modest}
-use Rattle.amqp_session.proofs.Brief.{modest-command}
-use Rattle.amqp_session.proofs.Modesty.{modest-start, modest-present, modest-linked}
-use Rattle.amqp_session.proofs.Clock.{IsClock, clock-asked}
-use Rattle.amqp_session.proofs.Tuned.{first_tune, Tuned, tuned-connected}
-use Rattle.amqp_session.proofs.TunedRules.{tuned-linked}
-use Rattle.amqp_session.proofs.Open.{open-runs}
+use Rattle.amqp_faultless.proofs.Greeted.{IsMet, IsOver}
+use Rattle.amqp_faultless.proofs.FirstAndLast.{IsFresh, met-linked}
+use Rattle.amqp_faultless.proofs.Limits.{limit_at}
+use Rattle.amqp_faultless.proofs.Modest.{Modest}
+use Rattle.amqp_faultless.proofs.Brief.{modest-command}
+use Rattle.amqp_faultless.proofs.Modesty.{modest-start, modest-present, modest-linked}
+use Rattle.amqp_faultless.proofs.Clock.{IsClock, clock-asked}
+use Rattle.amqp_faultless.proofs.Tuned.{first_tune, Tuned, tuned-connected}
+use Rattle.amqp_faultless.proofs.TunedRules.{tuned-linked}
+use Rattle.amqp_faultless.proofs.Open.{open-runs}
 use Rattle.amqp_engine.specs.declared.given.Given.{Given}
 use Rattle.amqp_engine.specs.declared.given.GivenStep.{GivenStep}
 use Rattle.amqp_engine.specs.declared.port.Step.TheVariants.{Linked, Tick}
@@ -43,8 +43,8 @@ use Rattle.amqp_engine.proofs.Lifting.{stays-step}
 use Rattle.amqp_engine.specs.Tell.{log_turn, log_stepped}
 use Rattle.amqp_engine.specs.Sending.{Sending, nothing_sent, step_sending, frames, frames_sent, turn_sending, sendings, sendings_from}
 use Rattle.amqp_session.specs.Providers.{Exchange}
-use Rattle.amqp_session.specs.Faultless.{Server, Stage, silent, AreSayable}
-use Rattle.amqp_session.specs.Faultless.Stage.{Gone}
+use Rattle.amqp_faultless.specs.Faultless.{Server, Stage, silent, AreSayable}
+use Rattle.amqp_faultless.specs.Faultless.Stage.{Gone}
 use Rattle.amqp_engine.specs.Play.{played_turn_of, played_turn, played_turns, replayed, AreAnswered, IsPlayed}
 use Rattle.amqp_engine.specs.Exchange.{said_of}
 use Rattle.amqp_engine.specs.Valid.{Spelled, Theirs, Ours, AreSpelled, IsShort, IsTimely, IsLinkedOnce, MomentsRise, EndsWithBytes, Valid, after_sayings, whole_in, later_than, begun_in, all_bytes, said_frame, sent_by_turns, sayings_of, last_piece, agreed_limit, agreed_frame_max, agreed_heartbeat, answered_in, RunsValid}

@@ -1,5 +1,5 @@
 -- What the rules of a session keep of the frames committed on its link, turns keep.
-use Rattle.std.proofs.Common.{◌≡◌, ◌≢◌, ◌≤◌, ◌⊎◌, inl, inr, ℕ, zero, suc, ◌-◌, ◌&&◌, not, nat_le, nat_lt, if◌then◌else◌, Bool, true, false, List, [], ◌∷◌, ◌++◌, length, Option, Some, None, is_some, refl, ap, sym, ◌∙◌, subst, append_assoc, arith}
+use Rattle.std.proofs.Common.{◌≡◌, ◌≢◌, ◌≤◌, ◌⊎◌, inl, inr, ℕ, zero, suc, ◌-◌, ◌&&◌, not, nat_le, nat_lt, if◌then◌else◌, Bool, true, false, List, [], ◌∷◌, ◌++◌, length, Option, Some, None, is_some, refl, ap, sym, ◌∙◌, subst, append_assoc, arith, append-nil}
 use Rattle.std.proofs.lemmas.Bool.Decides.{nat_tests}
 use Rattle.std.proofs.lemmas.List.{map-append}
 use Rattle.std.specs.Prelude.{option_to_list}
@@ -40,17 +40,15 @@ use Rattle.amqp_engine.specs.Engine.{Engine, with_talk, rule_at, step_engine, st
 use Rattle.amqp_engine.specs.Turn.{Turn, answers_of, Progress, asks, wants_ask, is_piece, offer_part, answered, read, applied, IsApplied}
 use Rattle.amqp_engine.specs.Sending.{Sending, nothing_sent, frames, offer_sending, offers_sending, step_sending, committed_in, committed_before}
 use Rattle.amqp_engine.specs.Saying.{applied_sending}
-use Rattle.amqp_session.proofs.Cases.{if_case, if-true, if-false}
-use Rattle.amqp_legal.proofs.Truths.{and-true}
+use Rattle.amqp_types.proofs.Small.{if_case, if-true, if-false, and-true, and-left, all-push}
 use Rattle.amqp_engine.proofs.EventTaken.{event-case}
-use Rattle.amqp_engine.proofs.Cases.{and-left}
 use Rattle.amqp_engine.proofs.Settling.{settle-talk}
 use Rattle.amqp_session.proofs.Keeping.{LinkKept, lacks_link, kept-open, failed-link, present-keeps, starve-ends, keeps-frame, keeps-misread, keeps-tick, lost-link, taken-link, stays-command}
 use Rattle.amqp_engine.proofs.Commits.{commit_one-is, with_frame, commits-keep}
 use Rattle.amqp_engine.proofs.Sent.{on_last-append}
 use Rattle.amqp_engine.proofs.Over.{ended-closed}
 use Rattle.amqp_engine.proofs.LinkKept.{asked-open}
-use Rattle.amqp_engine.proofs.Sends.{all-front, all-push}
+use Rattle.amqp_engine.proofs.Sends.{all-front}
 use Rattle.amqp_engine.proofs.Lifting.{Small, applied_on, offers_on, lift-applied}
 
 -- ---- what is known of a session
@@ -146,10 +144,6 @@ opens-taken n t now = kept-open t (taken n t) (taken-link n t) now
 all-last : {A : Type 0} (Q : A → Type 0) (xs : List A) (y : A) → AllByRecursion Q (xs ++ y ∷ []) → Q y
 all-last Q [] y h = h.0
 all-last Q (x ∷ xs) y h = all-last Q xs y h.1
-
-append-none : {A : Type 0} (xs : List A) → xs ++ [] ≡ xs
-append-none [] = refl
-append-none (x ∷ xs) = ap (λ ys. x ∷ ys) (append-none xs)
 
 push-some : (fs gs : List Frame) (f : Frame) → gs ≡ f ∷ [] → (fs ++ gs) ≢ []
 push-some [] gs f is none = cc
@@ -350,12 +344,12 @@ module _ (T : Cmd → Type 0) (L : List Frame → Type 0) (I : Talk → Type 0) 
 
   commit-at : (o : Option Item) (e : Engine) (fs : List Frame) → fitting_next e ≡ o → P e.talk fs → P (with_frame o e).talk (fs ++ frames (option_to_list o))
   commit-at None e fs h p =
-      let Q : List Frame → Type 0 = λ x. P e.talk x in subst Q (sym (append-none fs)) p
+      let Q : List Frame → Type 0 = λ x. P e.talk x in subst Q (sym (append-nil fs)) p
   commit-at (Some item) e fs h p = k.commit e.talk fs item (fitting-some (e.talk.capacity - length e.unsent) (next_item e.talk) item h) p
 
   commits-at : (n : ℕ) (e : Engine) (fs : List Frame) → P e.talk fs → P (commits n e).talk (fs ++ frames (committed_in n e))
   commits-at zero e fs p =
-      let Q : List Frame → Type 0 = λ x. P e.talk x in subst Q (sym (append-none fs)) p
+      let Q : List Frame → Type 0 = λ x. P e.talk x in subst Q (sym (append-nil fs)) p
   commits-at (suc n) e fs p =
       let first : List Item = option_to_list (fitting_next e) in
       let rest : List Item = committed_in n (commit_one e) in

@@ -13,13 +13,13 @@ use Rattle.amqp_session.specs.Talk.{Talk, is_open, is_open_link, is_asked, is_as
 use Rattle.amqp_session.specs.Commands.{command, takes_promise}
 use Rattle.amqp_session.specs.Links.{linked}
 use Rattle.amqp_session.specs.Sound.{IsSound}
-use Rattle.amqp_session.specs.CommandFrames.{answered_command}
-use Rattle.amqp_session.proofs.Cases.{if_case, if-true}
+use Rattle.amqp_carried_rules.specs.CommandFrames.{answered_command}
+use Rattle.amqp_types.proofs.Small.{if_case, if-true}
 use Rattle.amqp_session.proofs.Soundness.{sound-command, sound-linked}
 use Rattle.amqp_session.proofs.Keeping.{stays-command}
-use Rattle.amqp_session.proofs.Bearing.{Reading, IsAt, none, empty, besides}
-use Rattle.amqp_session.proofs.Commanding.{grows-more, one-more, at-command}
-use Rattle.amqp_session.proofs.Queueing.{same-grows}
+use Rattle.amqp_carried_rules.proofs.Bearing.{Reading, IsAt, none, empty, besides}
+use Rattle.amqp_carried_rules.proofs.Commanding.{grows-more, one-more, at-command}
+use Rattle.amqp_carried_rules.proofs.Queueing.{same-grows}
 use Rattle.amqp_engine.specs.Carried.{raw_frames, joined}
 use Rattle.amqp_engine.specs.Sending.{Sending, nothing_sent, frames, frames_sent}
 use Rattle.amqp_engine.proofs.History.{past-flow, past-grows}

@@ -18,13 +18,13 @@ use Rattle.amqp_session.specs.Changes.{Promises, give, settled, settled_by, tell
 use Rattle.amqp_session.specs.Channels.{channel_at}
 use Rattle.amqp_session.specs.ChannelMethods.{awaits_close_ok}
 use Rattle.amqp_session.specs.Writing.{then_of, answers, paid_by, pay, follow, sent}
-use Rattle.amqp_session.specs.CommandFrames.{AreFramesOf, is_publish, is_raw, is_sent}
+use Rattle.amqp_carried_rules.specs.CommandFrames.{AreFramesOf, is_publish, is_raw, is_sent}
 use Rattle.amqp_session.proofs.Numbered.{put-same}
-use Rattle.amqp_session.proofs.Bearing.{floor-own, settled-elsewhere, command_at, Reading, floor, closed, Lines, other, more, whole, IsPart, Ends, Bears, IsAt, Grows, told-made, same-command, floors-rise}
-use Rattle.amqp_session.proofs.Queueing.{content-raw, open-before, same-grows}
-use Rattle.amqp_session.proofs.Borne.{floor-send, floor-publish}
-use Rattle.amqp_session.proofs.Bearers.{moved, at-finish}
-use Rattle.amqp_session.proofs.Leaving.{answer-promise, raw-then, lines-from, lane-from, groups-from}
+use Rattle.amqp_carried_rules.proofs.Bearing.{floor-own, settled-elsewhere, command_at, Reading, floor, closed, Lines, other, more, whole, IsPart, Ends, Bears, IsAt, Grows, told-made, same-command, floors-rise}
+use Rattle.amqp_carried_rules.proofs.Queueing.{content-raw, open-before, same-grows}
+use Rattle.amqp_carried_rules.proofs.Borne.{floor-send, floor-publish}
+use Rattle.amqp_carried_rules.proofs.Bearers.{moved, at-finish}
+use Rattle.amqp_carried_rules.proofs.Leaving.{answer-promise, raw-then, lines-from, lane-from, groups-from}
 use Rattle.amqp_engine.specs.Carried.{raw_frames, joined}
 use Rattle.amqp_engine.proofs.History.{marked, marked-here, marked-other, Past, past-flow, past-whole}
 

@@ -1,16 +1,15 @@
 -- The writes of a turn over a port that takes all: what they leave, and what they send.
-use Rattle.std.proofs.Common.{◌≡◌, ◌≤◌, ℕ, zero, suc, ◌==◌, if◌then◌else◌, true, List, [], ◌∷◌, ◌++◌, length, take, drop, length-append, ◌-◌, slice_get, arith, append_assoc, Some, None, refl, ap, sym, ◌∙◌, subst}
+use Rattle.std.proofs.Common.{◌≡◌, ◌≤◌, ℕ, zero, suc, ◌==◌, if◌then◌else◌, true, List, [], ◌∷◌, ◌++◌, length, take, drop, length-append, ◌-◌, slice_get, arith, append_assoc, Some, None, refl, ap, sym, ◌∙◌, subst, append-nil}
 use Rattle.std.specs.Prelude.{map}
 use Rattle.std.specs.List.{flat_map}
 use Rattle.std.proofs.lemmas.List.{take_all}
 use Rattle.std.proofs.Math.Seq.{drop-append_seam}
 use Rattle.amqp_outbox.specs.declared.item.Item.{Item}
 use Rattle.amqp_session.specs.Sound.{IsSound}
-use Rattle.amqp_session.specs.Faultless.{Server}
-use Rattle.amqp_session.proofs.Cases.{if_case, if-true}
-use Rattle.amqp_legal.proofs.Truths.{same-number, append-none}
-use Rattle.amqp_session.proofs.Greeted.{IsMet}
-use Rattle.amqp_session.proofs.Speaks.{said_all, said_all-append}
+use Rattle.amqp_faultless.specs.Faultless.{Server}
+use Rattle.amqp_types.proofs.Small.{if_case, if-true, same-number}
+use Rattle.amqp_faultless.proofs.Greeted.{IsMet}
+use Rattle.amqp_faultless.proofs.Speaks.{said_all, said_all-append}
 use Rattle.amqp_engine.specs.declared.port.Wrote.{Wrote}
 use Rattle.amqp_engine.specs.declared.port.Wrote.TheVariants.{Took}
 use Rattle.amqp_engine.specs.Log.{Log, log_write}
@@ -63,7 +62,7 @@ module _ (Short : Server → Sending → Engine → Type 0) (moment : ℕ) (fits
           sending = x;
           sent = refl;
           all = all;
-          items = sym (append-none x.committed);
+          items = sym (append-nil x.committed);
         }
 
     pub drained-all : (n : ℕ) (p : Progress) (a : Log) (s : Server) (x : Sending) → p.at ≤ moment → IsFree a.plan → IsSound p.engine.talk → Short s x p.engine → IsClear p.engine

@@ -1,7 +1,7 @@
 -- Over a port that takes all, a turn says all that may go out.
 use Rattle.std.proofs.Common.{◌≡◌, ℕ, false, List, [], ◌∷◌, ◌++◌, length, Option, Some, None, refl, ap, ◌∙◌}
 use Rattle.amqp_outbox.specs.declared.item.Item.{Item}
-use Rattle.amqp_session.proofs.Cases.{if-false}
+use Rattle.amqp_types.proofs.Small.{if-false}
 use Rattle.amqp_engine.specs.declared.port.Wrote.{Wrote}
 use Rattle.amqp_engine.specs.declared.port.Wrote.TheVariants.{Took, Failed}
 use Rattle.std.specs.Prelude.{option_map}

@@ -16,12 +16,11 @@ use Rattle.amqp_session.specs.Changes.{present_at}
 use Rattle.amqp_session.specs.Handshake.{close_ok}
 use Rattle.amqp_session.specs.Writing.{frames_waiting, fitting, mark_of, taken}
 use Rattle.amqp_session.specs.Writing as writing
-use Rattle.amqp_session.proofs.Cases.{if_case, if-true, if-false}
-use Rattle.amqp_legal.proofs.Truths.{and-true, same-number, other-number, is-at-most}
+use Rattle.amqp_types.proofs.Small.{if_case, if-true, if-false, and-true, same-number, other-number, is-at-most}
 use Rattle.amqp_session.proofs.Keeping.{present-keeps}
-use Rattle.amqp_session.proofs.Ordinary.{First}
-use Rattle.amqp_session.proofs.Greeted.{IsOver, Leaves, Ready}
-use Rattle.amqp_session.proofs.FirstAndLast.{leaves-next, finish-sent}
+use Rattle.amqp_faultless.proofs.Ordinary.{First}
+use Rattle.amqp_faultless.proofs.Greeted.{IsOver, Leaves, Ready}
+use Rattle.amqp_faultless.proofs.FirstAndLast.{leaves-next, finish-sent}
 use Rattle.amqp_engine.specs.declared.port.Wrote.{Wrote}
 use Rattle.amqp_engine.specs.declared.port.Wrote.TheVariants.{Took}
 use Rattle.amqp_engine.specs.Log.{Log, log_write}

@@ -28,7 +28,7 @@ use Rattle.amqp_engine.specs.declared.port.Step.TheVariants.{Tick}
 use Rattle.amqp_engine.specs.Plan.{at_most_64}
 use Rattle.amqp_engine.specs.Engine.{Engine, settle, step_engine, step_questions, can_read, front_of, read_row, row_questions, read_one, read_questions}
 use Rattle.amqp_engine.specs.Turn.{Progress, begun, goes, part, questioned, is_part, is_piece, step_part, is_before, reads, read_part, reading as reads_after}
-use Rattle.amqp_session.proofs.Cases.{if_case}
+use Rattle.amqp_types.proofs.Small.{if_case}
 use Rattle.amqp_engine.proofs.Applying.{no-questions}
 
 -- ---- two lists of answers

@@ -25,13 +25,13 @@ use Rattle.amqp_session.specs.Links.{asked, piece}
 use Rattle.amqp_session.specs.Frames.{on_frame, frame_questions}
 use Rattle.amqp_session.specs.Ticks.{is_missed, tick}
 use Rattle.amqp_session.specs.Writing.{taken}
-use Rattle.amqp_session.specs.Faultless.{Server, heard_from}
-use Rattle.amqp_session.proofs.Cases.{if_case, if-true, if-false}
-use Rattle.amqp_session.proofs.Greeted.{IsMet, Heard, AreSaid}
-use Rattle.amqp_session.proofs.Hears.{heard-met}
-use Rattle.amqp_session.proofs.Tells.{met-command, met-present, met-piece, met-tick}
-use Rattle.amqp_session.proofs.Speaks.{GoOn, met-taken, said_all}
-use Rattle.amqp_session.proofs.FirstAndLast.{IsFresh, kept-least}
+use Rattle.amqp_faultless.specs.Faultless.{Server, heard_from}
+use Rattle.amqp_types.proofs.Small.{if_case, if-true, if-false}
+use Rattle.amqp_faultless.proofs.Greeted.{IsMet, Heard, AreSaid}
+use Rattle.amqp_faultless.proofs.Hears.{heard-met}
+use Rattle.amqp_faultless.proofs.Tells.{met-command, met-present, met-piece, met-tick}
+use Rattle.amqp_faultless.proofs.Speaks.{GoOn, met-taken, said_all}
+use Rattle.amqp_faultless.proofs.FirstAndLast.{IsFresh, kept-least}
 use Rattle.amqp_engine.specs.declared.port.Step.{Step}
 use Rattle.amqp_engine.specs.declared.port.Step.TheVariants.{Linked, LinkFailed, Piece, End, Fault, Room, Tick, Command}
 use Rattle.amqp_engine.specs.Account.{IsNew}

@@ -8,10 +8,10 @@ use Rattle.amqp_session.specs.declared.state.Input.TheVariants.{Acting, Closed, 
 use Rattle.amqp_session.specs.Sound.{IsSound, following, Finishes, NoneFinishes}
 use Rattle.amqp_session.specs.Talk.{Talk, is_acting}
 use Rattle.amqp_session.specs.Writing.{frames_waiting}
-use Rattle.amqp_session.specs.Faultless.{Server}
+use Rattle.amqp_faultless.specs.Faultless.{Server}
 use Rattle.amqp_session.proofs.Soundness.{sound-commit, sound-present, sound-taken}
-use Rattle.amqp_session.proofs.Greeted.{IsMet}
-use Rattle.amqp_session.proofs.Speaks.{GoOn, said_all}
+use Rattle.amqp_faultless.proofs.Greeted.{IsMet}
+use Rattle.amqp_faultless.proofs.Speaks.{GoOn, said_all}
 use Rattle.amqp_engine.specs.Engine.{Engine, fitting_next, committed_as, commit_one, commits, commit_all, took}
 use Rattle.amqp_engine.proofs.Settling.{settle-talk}
 use Rattle.amqp_engine.specs.Sending.{committed_before}

@@ -14,7 +14,7 @@ use Rattle.amqp_engine.specs.Turn.{Turn, answers_of, read, turns, applied, AreTu
 use Rattle.amqp_engine.specs.Tell.{Runs, Applies, turn_of, offers_of, log_offers, log_turns}
 use Rattle.amqp_engine.specs.Sending.{Sending, step_sending, sendings_from}
 use Rattle.amqp_engine.specs.Saying.{HasSent, new, asked, applies, told, answer_taken, event_taken, frames_taken, applied_sending, TellsLinks, GoesOn, GoesOnce, SpellLegal}
-use Rattle.amqp_session.proofs.Cases.{if_case}
+use Rattle.amqp_types.proofs.Small.{if_case}
 use Rattle.amqp_engine.proofs.LinkKept.{Leaves}
 use Rattle.amqp_engine.proofs.EventTaken.{event-case}
 use Rattle.amqp_session.proofs.Keeping.{kept-open}

@@ -1,13 +1,12 @@
 -- Turns one after another send more and more: what was sent is sent, whatever comes after.
-use Rattle.std.proofs.Common.{◌≡◌, ◌⊎◌, inl, inr, ℕ, zero, suc, ◌+◌, List, [], ◌∷◌, ◌++◌, take, refl, ap, sym, ◌∙◌, arith, append_assoc}
+use Rattle.std.proofs.Common.{◌≡◌, ◌⊎◌, inl, inr, ℕ, zero, suc, ◌+◌, List, [], ◌∷◌, ◌++◌, take, refl, ap, sym, ◌∙◌, arith, append_assoc, append-nil}
 use Rattle.std.specs.List.{flat_map}
 use Rattle.std.proofs.lemmas.List.{map-append}
 use Rattle.std.proofs.lemmas.List.Concat.{flat_map-append}
 use Rattle.amqp_frame.specs.declared.frame.Frame.{Frame}
 use Rattle.amqp_outbox.specs.declared.item.Item.{Item}
 use Rattle.amqp_session.specs.Talk.{Talk, is_asked}
-use Rattle.amqp_session.proofs.Cases.{if_case}
-use Rattle.amqp_legal.proofs.Truths.{append-none}
+use Rattle.amqp_types.proofs.Small.{if_case}
 use Rattle.amqp_engine.specs.declared.port.Step.{Step}
 use Rattle.amqp_engine.specs.declared.port.Step.TheVariants.{Linked, LinkFailed, Piece, End, Fault, Room, Tick, Command}
 use Rattle.amqp_engine.specs.declared.port.Wrote.{Wrote}
@@ -34,7 +33,7 @@ abbrev More : List Frame → List Frame → Type 0
 More fs gs = (more : List Frame) × (gs ≡ fs ++ more)
 
 more-none : (fs : List Frame) → More fs fs
-more-none fs = ([], sym (append-none fs))
+more-none fs = ([], sym (append-nil fs))
 
 more-more : (fs gs hs : List Frame) → More fs gs → More gs hs → More fs hs
 more-more fs gs hs h k = (h.0 ++ k.0, k.1 ∙ ap (λ xs. xs ++ k.0) h.1 ∙ append_assoc fs h.0 k.0)
@@ -70,14 +69,14 @@ last-or (x ∷ xs) =
 more-last : (f : Sending → Sending) → ((s : Sending) → More (frames_sent s) (frames_sent (f s))) → (ss : List Sending) → More (all_sent ss) (all_sent (on_last f ss))
 more-last f each ss =
     elim (last-or ss) [
-      | inl none ↦ ([], ap (λ xs. all_sent (on_last f xs)) none ∙ sym (append-none []) ∙ ap (λ xs. all_sent xs ++ []) (sym none))
+      | inl none ↦ ([], ap (λ xs. all_sent (on_last f xs)) none ∙ sym (append-nil []) ∙ ap (λ xs. all_sent xs ++ []) (sym none))
       | inr l ↦
           (let one = each l.1 in
           let old : all_sent ss ≡ all_sent l.0 ++ frames_sent l.1 =
-          ap all_sent l.2 ∙ flat_map-append frames_sent l.0 (l.1 ∷ []) ∙ ap (λ xs. all_sent l.0 ++ xs) (append-none (frames_sent l.1)) in
+          ap all_sent l.2 ∙ flat_map-append frames_sent l.0 (l.1 ∷ []) ∙ ap (λ xs. all_sent l.0 ++ xs) (append-nil (frames_sent l.1)) in
           let new : all_sent (on_last f ss) ≡ all_sent l.0 ++ frames_sent (f l.1) =
           ap (λ xs. all_sent (on_last f xs)) l.2 ∙ ap all_sent (on_last-append f l.0 l.1) ∙ flat_map-append frames_sent l.0 (f l.1 ∷ [])
-          ∙ ap (λ xs. all_sent l.0 ++ xs) (append-none (frames_sent (f l.1))) in
+          ∙ ap (λ xs. all_sent l.0 ++ xs) (append-nil (frames_sent (f l.1))) in
           (one.0, new ∙ ap (λ xs. all_sent l.0 ++ xs) one.1 ∙ sym (append_assoc (all_sent l.0) (frames_sent l.1) one.0) ∙ ap (λ xs. xs ++ one.0) (sym old)))
     ]
 

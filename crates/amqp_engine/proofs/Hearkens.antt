@@ -1,15 +1,14 @@
 -- All frames of a faultless server that have come are read, where its provider answers and never refuses.
-use Rattle.std.proofs.Common.{◌≡◌, ◌≤◌, ℕ, zero, suc, ◌&&◌, if◌then◌else◌, Bool, true, false, ◌++◌, append_assoc, List, [], length, Some, ap, sym, ◌∙◌, subst}
+use Rattle.std.proofs.Common.{◌≡◌, ◌≤◌, ℕ, zero, suc, ◌&&◌, if◌then◌else◌, Bool, true, false, ◌++◌, append_assoc, List, [], length, Some, ap, sym, ◌∙◌, subst, append-nil}
 use Rattle.std.specs.Prelude.{map}
 use Rattle.amqp_frame.specs.declared.frame.Frame.{Frame}
 use Rattle.amqp_session.specs.declared.auth.asked.Asked.{Asked}
 use Rattle.amqp_session.specs.declared.auth.asked.Question.{Question}
 use Rattle.amqp_session.specs.Asking.{Answer}
 use Rattle.amqp_session.specs.Config.{Options}
-use Rattle.amqp_session.specs.Faultless.{Server}
-use Rattle.amqp_legal.proofs.Truths.{append-none}
-use Rattle.amqp_session.proofs.Greeted.{IsMet}
-use Rattle.amqp_session.proofs.Limits.{limit_at}
+use Rattle.amqp_faultless.specs.Faultless.{Server}
+use Rattle.amqp_faultless.proofs.Greeted.{IsMet}
+use Rattle.amqp_faultless.proofs.Limits.{limit_at}
 use Rattle.amqp_engine.specs.declared.given.Given.{Given}
 use Rattle.amqp_engine.specs.Engine.{can_read, read_questions}
 use Rattle.amqp_engine.specs.Turn.{Progress, goes, read_part, reads}
@@ -40,7 +39,7 @@ hearkens options agreed moment last before fs gs sent end spelled n p s fuel met
 
 -- it is added to what was asked before
 pub asked-reads : (n : ℕ) (p : Progress) → (reads n p).questions ≡ p.questions ++ asked_in n p
-asked-reads zero p = sym (append-none p.questions)
+asked-reads zero p = sym (append-nil p.questions)
 asked-reads (suc n) p =
     by (goes p && can_read p.engine) (asked-reads n (read_part p))
   where
@@ -48,7 +47,7 @@ asked-reads (suc n) p =
         → (if b then reads n (read_part p) else p).questions
         ≡ p.questions ++ (if b then read_questions p.at p.engine ++ asked_in n (read_part p) else [])
     by true rest = rest ∙ append_assoc p.questions (read_questions p.at p.engine) (asked_in n (read_part p))
-    by false rest = sym (append-none p.questions)
+    by false rest = sym (append-nil p.questions)
 
 -- where nothing was asked before, the answers are to that
 pub answers-reads : (n : ℕ) (p : Progress) (answers : List Asked) → p.questions ≡ [] → Answer (reads n p).questions answers → Answer (asked_in n p) answers

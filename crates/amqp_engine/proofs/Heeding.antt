@@ -10,12 +10,11 @@ use Rattle.amqp_session.specs.Talk.{is_open}
 use Rattle.amqp_session.specs.Changes.{present_at}
 use Rattle.amqp_session.specs.Frames.{frame_questions}
 use Rattle.amqp_session.specs.Negotiation.{frame_limit}
-use Rattle.amqp_session.specs.Faultless.{Server, heard_from}
-use Rattle.amqp_session.specs.Faultless.Stage.{Gone}
-use Rattle.amqp_session.proofs.Cases.{if_case, if-true, if-false}
-use Rattle.amqp_legal.proofs.Truths.{and-true, at-most}
-use Rattle.amqp_session.proofs.Greeted.{IsMet, IsOver, Leaves, Heard, AreSaid}
-use Rattle.amqp_session.proofs.Limits.{limit_at, stage-limit}
+use Rattle.amqp_faultless.specs.Faultless.{Server, heard_from}
+use Rattle.amqp_faultless.specs.Faultless.Stage.{Gone}
+use Rattle.amqp_types.proofs.Small.{if_case, if-true, if-false, and-true, at-most}
+use Rattle.amqp_faultless.proofs.Greeted.{IsMet, IsOver, Leaves, Heard, AreSaid}
+use Rattle.amqp_faultless.proofs.Limits.{limit_at, stage-limit}
 use Rattle.amqp_engine.specs.Engine.{Engine, front_of, is_more, can_read, settle, read_row, read_one}
 use Rattle.amqp_engine.specs.Turn.{Progress, is_before, goes, read_part, reads}
 use Rattle.amqp_engine.specs.Valid.{Spelled, Saying, Theirs, AreSpelled, after_sayings, whole_in, later_than, begun_in}

@@ -5,13 +5,11 @@ use Rattle.std.proofs.lemmas.List.Concat.{flat_map-append}
 use Rattle.amqp_frame.specs.declared.frame.Frame.{Frame}
 use Rattle.amqp_session.specs.declared.command.Cmd.{Cmd}
 use Rattle.amqp_session.specs.declared.command.Cmd.TheVariants.{Send, Publish}
-use Rattle.amqp_session.specs.CommandFrames.{AreFramesOf, is_send, is_publish}
-use Rattle.amqp_session.proofs.Cases.{and-false}
-use Rattle.amqp_legal.proofs.Truths.{and-true, same-number, other-number}
-use Rattle.amqp_session.proofs.Bearing.{command_at, Reading, closed, same-command}
-use Rattle.amqp_session.proofs.Commanding.{same-below}
+use Rattle.amqp_carried_rules.specs.CommandFrames.{AreFramesOf, is_send, is_publish}
+use Rattle.amqp_types.proofs.Small.{and-false, and-true, same-number, other-number, and-left, and-right}
+use Rattle.amqp_carried_rules.proofs.Bearing.{command_at, Reading, closed, same-command}
+use Rattle.amqp_carried_rules.proofs.Commanding.{same-below}
 use Rattle.amqp_engine.specs.Carried.{AreSent, none, other, sent, Merges, left, right, joined}
-use Rattle.amqp_engine.proofs.Cases.{and-left, and-right}
 
 -- a promise more that was answered Sent
 abbrev pub marked : ℕ → (ℕ → Bool) → ℕ → Bool

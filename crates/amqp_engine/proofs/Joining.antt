@@ -16,8 +16,8 @@ use Rattle.amqp_engine.specs.Plan.{at_most_64}
 use Rattle.amqp_engine.specs.Engine.{Engine, rule_at, settle, step_piece, front_of, is_more, can_read, read_row, row_questions, read_one, read_questions, starve_at}
 use Rattle.amqp_engine.specs.Turn.{reads, reading}
 use Rattle.amqp_engine.specs.Making.{making, keeps_unread, IsSettled, joined, Reaches}
-use Rattle.amqp_session.proofs.Cases.{if_case, if-true, if-false}
-use Rattle.amqp_engine.proofs.Cases.{and-left, and-right, and-other, from-not-false, from-not-true}
+use Rattle.amqp_types.proofs.Small.{if_case, if-true, if-false, and-left, and-right, and-other, from-not-true}
+use Rattle.amqp_engine.proofs.Cases.{from-not-false}
 use Rattle.amqp_engine.proofs.Settling.{settle-talk, settle-kept, settle-bytes}
 use Rattle.amqp_frame.proofs.FrontStays.{says-front}
 use Rattle.amqp_engine.proofs.Reading.{none-read, read_one-shortens, reads-rest, after_read, reads-more, reads-enough}

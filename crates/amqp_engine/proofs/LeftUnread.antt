@@ -31,7 +31,7 @@ use Rattle.amqp_engine.specs.Turn.{Turn, Progress, asks, wants_ask, is_piece, an
 use Rattle.amqp_engine.specs.Log.{Log}
 use Rattle.amqp_engine.specs.Tell.{Applies, TakesTurn, turn_of}
 use Rattle.amqp_engine.specs.Unread.{IsRead}
-use Rattle.amqp_session.proofs.Cases.{if_case, if_by}
+use Rattle.amqp_types.proofs.Small.{if_case, if_by}
 use Rattle.amqp_session.proofs.Keeping.{present-keeps, stays-command, keeps-tick, tick-keeps, taken-keeps, taken-link, IsOff, lost-off, starve-ends}
 use Rattle.amqp_engine.proofs.EventTaken.{taken-case}
 use Rattle.amqp_engine.proofs.Commits.{commits-keep}

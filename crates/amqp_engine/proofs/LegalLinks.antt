@@ -10,10 +10,10 @@ use Rattle.amqp_session.specs.Commands.{command}
 use Rattle.amqp_session.specs.Answers.{take_answer, take_event, take_frames}
 use Rattle.amqp_legal.specs.Legal.{Legal}
 use Rattle.amqp_legal.specs.Decider.{Speech, greeted, say, say_all, is_amqp_header, is_legal}
-use Rattle.amqp_legal.proofs.Truths.{and-true}
-use Rattle.amqp_session.proofs.Ties.{IsTied, IsSilent, IsSendable}
+use Rattle.amqp_types.proofs.Small.{and-true, and-left, and-right}
+use Rattle.amqp_legal_rules.proofs.Ties.{IsTied, IsSilent, IsSendable}
 use Rattle.amqp_legal.proofs.TakenIsLegal.{sound}
-use Rattle.amqp_session.proofs.Conversing.{Now, now-moment, now-asked, now-failed, now-piece, now-lost, now-misread, now-frame, now-tick, now-command, now-taken, now-answer, now-frames, committed-legal, start-silent, silent-room, tied-linked, tied-commit}
+use Rattle.amqp_legal_rules.proofs.Conversing.{Now, now-moment, now-asked, now-failed, now-piece, now-lost, now-misread, now-frame, now-tick, now-command, now-taken, now-answer, now-frames, committed-legal, start-silent, silent-room, tied-linked, tied-commit}
 use Rattle.amqp_engine.specs.declared.port.Step.{Step}
 use Rattle.amqp_engine.specs.declared.port.Step.TheVariants.{Linked, LinkFailed, Piece, End, Fault, Room, Tick, Command}
 use Rattle.amqp_engine.specs.Engine.{Engine}
@@ -22,7 +22,6 @@ use Rattle.amqp_engine.specs.Sending.{Sending, sendings_from, frames, frames_sen
 use Rattle.amqp_engine.specs.Saying.{HasSent, new, asked, applies, told, answer_taken, event_taken, frames_taken}
 use Rattle.amqp_engine.proofs.Over.{asks-running}
 use Rattle.amqp_engine.proofs.EventTaken.{event-case}
-use Rattle.amqp_engine.proofs.Cases.{and-left, and-right}
 use Rattle.amqp_engine.proofs.Committing.{Rules, Kept, kept-applied, kept-asks, kept-rule-same, Tells, opens-command, opens-answer, opens-event}
 
 -- what the decider takes

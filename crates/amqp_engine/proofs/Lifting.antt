@@ -9,8 +9,7 @@ use Rattle.amqp_engine.specs.declared.port.Wrote.{Wrote}
 use Rattle.amqp_engine.specs.Log.{IsWithin}
 use Rattle.amqp_engine.specs.Engine.{Engine, step_engine, step_questions, can_read, read_one, overlong_next, ended_overlong, refuse_overlong, can_write, starve_at}
 use Rattle.amqp_engine.specs.Turn.{Turn, answers_of, Progress, asks, begun, goes, is_before, part, questioned, is_part, is_piece, step_part, reads, read_part, reading, drain, offer_part, closing, drained, offered, answered, is_all, AreAnswers, read, written, applied, turn, turns, starved_after, IsCut, IsApplied, IsTurn, AreTurns}
-use Rattle.amqp_session.proofs.Cases.{if_case, if_by, if-true, if-false}
-use Rattle.amqp_engine.proofs.Cases.{and-left, and-right, and-other}
+use Rattle.amqp_types.proofs.Small.{if_case, if_by, if-true, if-false, and-left, and-right, and-other}
 use Rattle.amqp_engine.proofs.Over.{asks-running}
 use Rattle.amqp_engine.proofs.Reading.{reads-done, reading-cut}
 

@@ -24,11 +24,10 @@ use Rattle.amqp_engine.specs.Engine.{Engine, with_talk, rule_at, step_engine, st
 use Rattle.amqp_engine.specs.Turn.{Turn, answers_of, Progress, asks, wants_ask, goes, offer_part, offered, answered, read, turn}
 use Rattle.amqp_engine.specs.Tell.{port_answer, offers_from, log_asks, log_offers, log_turns}
 use Rattle.amqp_engine.specs.Sending.{Sending, nothing_sent, link_bytes, offer_sending, offers_sending, step_sending, sendings_from}
-use Rattle.amqp_session.proofs.Cases.{if_case, if-true, if-false}
+use Rattle.amqp_types.proofs.Small.{if_case, if-true, if-false, and-left}
 use Rattle.amqp_session.proofs.Heard.{secret-case}
 use Rattle.amqp_frame.specs.declared.frame.Frame.TheVariants.{Heartbeat}
 use Rattle.amqp_promise.specs.declared.error.ErrorKind.TheVariants.{MissingHeartbeatError}
-use Rattle.amqp_engine.proofs.Cases.{and-left}
 use Rattle.amqp_engine.proofs.Settling.{settle-talk}
 use Rattle.amqp_session.proofs.Keeping.{LinkKept, present-keeps, stays-command, lost-link, starve-ends}
 use Rattle.amqp_session.proofs.Recovering.{lose-by, recovers-open}

@@ -6,9 +6,9 @@ use Rattle.amqp_session.specs.Talk.{Talk}
 use Rattle.amqp_session.specs.Changes.{present_at}
 use Rattle.amqp_session.specs.Writing.{frames_waiting, taken}
 use Rattle.amqp_session.proofs.Finishing.{next-first}
-use Rattle.amqp_session.proofs.Fitting.{Fit}
-use Rattle.amqp_session.proofs.Modest.{Modest}
-use Rattle.amqp_session.proofs.Modesty.{modest-taken, modest-present}
+use Rattle.amqp_faultless.proofs.Fitting.{Fit}
+use Rattle.amqp_faultless.proofs.Modest.{Modest}
+use Rattle.amqp_faultless.proofs.Modesty.{modest-taken, modest-present}
 use Rattle.amqp_engine.specs.Engine.{Engine, fitting_next, commit_one, commits, commit_all, overlong_next, took}
 use Rattle.amqp_engine.proofs.Commits.{with_frame, commit_one-is}
 use Rattle.amqp_engine.proofs.Settling.{settle-talk}

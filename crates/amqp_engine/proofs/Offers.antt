@@ -25,7 +25,7 @@ use Rattle.amqp_engine.specs.Making.{making, Reaches, Writes}
 use Rattle.amqp_types.specs.Counts.{Rose}
 use Rattle.amqp_engine.specs.Tell.{port_answer, offers_from, log_offers, PlaysOffers, TellsOffers}
 use Rattle.amqp_engine.specs.Play.{waiting, noted, no_notes}
-use Rattle.amqp_session.proofs.Cases.{if_case, if-true, if-false, and-false}
+use Rattle.amqp_types.proofs.Small.{if_case, if-true, if-false, and-false}
 use Rattle.amqp_engine.proofs.Cases.{is_before-Reaches, is_before-cut, some-unsent, rose-between}
 use Rattle.amqp_session.proofs.Keeping.{present-keeps, pay-keeps}
 use Rattle.amqp_session.proofs.Recovering.{lose-case}

@@ -12,18 +12,17 @@ use Rattle.amqp_session.specs.Talk.{Talk, is_open, has_ended}
 use Rattle.amqp_session.specs.Changes.{present_at}
 use Rattle.amqp_session.specs.Frames.{on_frame, frame_questions}
 use Rattle.amqp_session.specs.Negotiation.{frame_limit}
-use Rattle.amqp_session.specs.Faultless.{Server, Stage, AreSayable, heard_from}
-use Rattle.amqp_session.specs.Faultless.Stage.{BeforeStart, BeforeTune, BeforeOpenOk, Serving, Gone}
-use Rattle.amqp_session.proofs.Cases.{if_case, if-true}
-use Rattle.amqp_legal.proofs.Truths.{and-true}
+use Rattle.amqp_faultless.specs.Faultless.{Server, Stage, AreSayable, heard_from}
+use Rattle.amqp_faultless.specs.Faultless.Stage.{BeforeStart, BeforeTune, BeforeOpenOk, Serving, Gone}
+use Rattle.amqp_types.proofs.Small.{if_case, if-true, and-true}
 use Rattle.amqp_session.proofs.Soundness.{sound-frame, sound-present}
-use Rattle.amqp_session.proofs.Greeted.{IsMet, AreSaid}
-use Rattle.amqp_session.proofs.Limits.{limit_at, met-least, met-agreed, met-open, met-gone}
-use Rattle.amqp_session.proofs.Tells.{met-present}
-use Rattle.amqp_session.proofs.Modest.{Modest, modest-frame}
-use Rattle.amqp_session.proofs.Tuned.{first_tune, Tuned, tuned-heard, tuned-serving}
-use Rattle.amqp_session.proofs.TunedRules.{tuned-present}
-use Rattle.amqp_session.proofs.Clock.{IsClock}
+use Rattle.amqp_faultless.proofs.Greeted.{IsMet, AreSaid}
+use Rattle.amqp_faultless.proofs.Limits.{limit_at, met-least, met-agreed, met-open, met-gone}
+use Rattle.amqp_faultless.proofs.Tells.{met-present}
+use Rattle.amqp_faultless.proofs.Modest.{Modest, modest-frame}
+use Rattle.amqp_faultless.proofs.Tuned.{first_tune, Tuned, tuned-heard, tuned-serving}
+use Rattle.amqp_faultless.proofs.TunedRules.{tuned-present}
+use Rattle.amqp_faultless.proofs.Clock.{IsClock}
 use Rattle.amqp_engine.specs.Plan.{at_most_64}
 use Rattle.amqp_engine.specs.Engine.{Engine, front_of, is_more, can_read, read_row, read_questions, row_questions}
 use Rattle.amqp_engine.specs.Turn.{Progress, is_before, goes, read_part}

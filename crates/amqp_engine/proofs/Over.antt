@@ -15,8 +15,7 @@ use Rattle.amqp_engine.specs.declared.port.Step.TheVariants.{Linked, LinkFailed,
 use Rattle.amqp_engine.specs.declared.port.Wrote.{Wrote}
 use Rattle.amqp_engine.specs.Engine.{Engine, rule_at, with_talk, settle, step_engine, step_questions, can_write, refuse_overlong}
 use Rattle.amqp_engine.specs.Turn.{Turn, answers_of, Progress, asks, wants_ask, begun, goes, part, questioned, is_part, is_piece, step_part, reading, drained, AreAnswers, read, written, applied, turn, starved_after}
-use Rattle.amqp_session.proofs.Cases.{if_case, if-true, if-false}
-use Rattle.amqp_engine.proofs.Cases.{and-right}
+use Rattle.amqp_types.proofs.Small.{if_case, if-true, if-false, and-right}
 use Rattle.amqp_engine.proofs.Overlong.{closed-refuses}
 use Rattle.amqp_engine.proofs.Settling.{settle-talk}
 use Rattle.amqp_session.proofs.Keeping.{present-keeps, kept-ended, failed-link, lost-link, tick-stays, stays-command}

@@ -14,12 +14,12 @@ use Rattle.amqp_session.specs.Talk.{Talk, is_open}
 use Rattle.amqp_session.specs.Channels.{channel_at}
 use Rattle.amqp_session.specs.Sound.{IsSound, Finishes, NoneFinishes, LastFinishes, following, is_finish}
 use Rattle.amqp_session.specs.Writing.{then_of, follow, sent, sent_among, taken}
-use Rattle.amqp_session.specs.CommandFrames.{is_raw}
-use Rattle.amqp_session.proofs.Cases.{if-true, if-false}
+use Rattle.amqp_carried_rules.specs.CommandFrames.{is_raw}
+use Rattle.amqp_types.proofs.Small.{if-true, if-false}
 use Rattle.amqp_session.proofs.Keeping.{pay-keeps}
 use Rattle.amqp_session.proofs.Finishing.{sent-committed}
-use Rattle.amqp_session.proofs.Bearing.{Reading, IsAt}
-use Rattle.amqp_session.proofs.Bearers.{moved}
+use Rattle.amqp_carried_rules.proofs.Bearing.{Reading, IsAt}
+use Rattle.amqp_carried_rules.proofs.Bearers.{moved}
 use Rattle.amqp_engine.specs.Carried.{raw_frames}
 use Rattle.amqp_engine.specs.Sending.{frames, sent_in}
 use Rattle.amqp_engine.proofs.Departing.{IsKnown, IsSentOn, sent-on}

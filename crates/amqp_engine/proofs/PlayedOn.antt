@@ -3,7 +3,7 @@ use Rattle.std.proofs.Common.{◌≡◌, inl, inr, ℕ, Bool, true, false, List,
 use Rattle.std.specs.List.{AllByRecursion}
 use Rattle.amqp_session.specs.declared.auth.asked.Asked.{Asked}
 use Rattle.amqp_session.specs.Talk.{Talk}
-use Rattle.amqp_session.proofs.Cases.{if_case, if-true}
+use Rattle.amqp_types.proofs.Small.{if_case, if-true}
 use Rattle.amqp_engine.specs.declared.given.Given.{Given}
 use Rattle.amqp_engine.specs.declared.given.GivenStep.{GivenStep}
 use Rattle.amqp_engine.specs.declared.given.GivenStep.TheVariants as given

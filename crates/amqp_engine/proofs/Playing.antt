@@ -22,9 +22,8 @@ use Rattle.amqp_engine.proofs.Answering.{answer-size, answered-all}
 use Rattle.amqp_engine.proofs.FirstAnswers.{Alike, with_answers, read_with, read-first}
 use Rattle.amqp_engine.proofs.Over.{turn-is}
 use Rattle.amqp_engine.proofs.Lifting.{read-cut}
-use Rattle.amqp_session.proofs.Cases.{if_case, if_by, if-true, if-false, and-false}
-use Rattle.amqp_legal.proofs.Truths.{and-true}
-use Rattle.amqp_engine.proofs.Cases.{and-right, and-other, some-unsent}
+use Rattle.amqp_types.proofs.Small.{if_case, if_by, if-true, if-false, and-false, and-true, and-right, and-other}
+use Rattle.amqp_engine.proofs.Cases.{some-unsent}
 use Rattle.amqp_session.proofs.Keeping.{starve-ends}
 use Rattle.amqp_engine.proofs.Commits.{waiting-commits}
 use Rattle.amqp_engine.proofs.Offers.{waiting-wrote, goes-answer}

@@ -24,8 +24,7 @@ use Rattle.amqp_engine.specs.Engine.{Engine, settle, front_of, can_read, read_ro
 use Rattle.amqp_engine.specs.Turn.{Progress, goes, reads, read_part}
 use Rattle.amqp_session.specs.Causes.{IsFrameError, IsJudgedError, IsUnawaited, IsUndue, is_awaited, refused_in}
 use Rattle.amqp_engine.specs.Causes.{is_final, IsReadError}
-use Rattle.amqp_session.proofs.Cases.{if_case, if_by, if-true, if-false}
-use Rattle.amqp_engine.proofs.Cases.{and-left, and-right}
+use Rattle.amqp_types.proofs.Small.{if_case, if_by, if-true, if-false, and-left, and-right}
 use Rattle.amqp_session.proofs.Ends.{Ends, ends-kept, ends-unrecovered, ends-to, ends-as, ends-then, ends-present}
 use Rattle.amqp_session.proofs.Keeping.{present-keeps}
 use Rattle.amqp_frame.proofs.FrontStays.{is_memory, says-front}

@@ -19,9 +19,8 @@ use Rattle.amqp_engine.specs.Plan.{at_most_64}
 use Rattle.amqp_engine.specs.Engine.{Engine, front_of, can_read, is_more, read_one, read_questions, read_row, read_badly, settle, rule_at}
 use Rattle.amqp_engine.specs.Turn.{Progress, reads, reading, goes, read_part, is_before}
 use Rattle.amqp_engine.specs.Making.{making, keeps_unread, IsSettled, Reaches}
-use Rattle.amqp_session.proofs.Cases.{if_by, if-true, if-false, and-false}
-use Rattle.amqp_legal.proofs.Truths.{and-true}
-use Rattle.amqp_engine.proofs.Cases.{and-left, and-right, is_before-Reaches}
+use Rattle.amqp_types.proofs.Small.{if_by, if-true, if-false, and-false, and-true, and-left, and-right}
+use Rattle.amqp_engine.proofs.Cases.{is_before-Reaches}
 use Rattle.amqp_frame.proofs.FrontStays.{says-front, front-none}
 use Rattle.amqp_engine.proofs.Settling.{settle-talk, settle-unread, settle-settled, settle-starved}
 use Rattle.amqp_session.proofs.Keeping.{present-keeps}

@@ -21,8 +21,8 @@ use Rattle.amqp_session.specs.Talk.{Talk, acts}
 use Rattle.amqp_session.specs.Changes.{present_at}
 use Rattle.amqp_session.specs.Frames.{method_questions, questions_in, frame_questions}
 use Rattle.amqp_session.specs.Ticks.{beat, asks_validity, has_expired, refresh_questions, tick_questions}
-use Rattle.amqp_session.specs.Faultless.{AreSayable}
-use Rattle.amqp_session.proofs.Cases.{if_case}
+use Rattle.amqp_faultless.specs.Faultless.{AreSayable}
+use Rattle.amqp_types.proofs.Small.{if_case}
 use Rattle.amqp_engine.specs.declared.port.Step.{Step}
 use Rattle.amqp_engine.specs.declared.port.Step.TheVariants.{Tick}
 use Rattle.amqp_engine.specs.Engine.{Engine, can_read, front_of, step_engine, step_questions, row_questions, read_questions}

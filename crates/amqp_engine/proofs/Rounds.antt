@@ -8,16 +8,16 @@ use Rattle.amqp_session.specs.Asking.{Answer}
 use Rattle.amqp_session.specs.Config.{Options}
 use Rattle.amqp_session.specs.Sound.{IsSound}
 use Rattle.amqp_session.specs.Talk.{Talk, has_ended}
-use Rattle.amqp_session.specs.Faultless.{Server, Stage, AreSayable}
-use Rattle.amqp_session.specs.Faultless.Stage.{Gone}
-use Rattle.amqp_session.proofs.Cases.{if-true, if-false}
-use Rattle.amqp_session.proofs.Greeted.{IsMet, IsOver, Leaves}
-use Rattle.amqp_session.proofs.Speaks.{said_all}
-use Rattle.amqp_session.proofs.Limits.{limit_at}
-use Rattle.amqp_session.proofs.Modest.{Modest}
-use Rattle.amqp_session.proofs.Clock.{IsClock}
-use Rattle.amqp_session.proofs.Tuned.{first_tune, Tuned}
-use Rattle.amqp_session.proofs.Open.{open-runs}
+use Rattle.amqp_faultless.specs.Faultless.{Server, Stage, AreSayable}
+use Rattle.amqp_faultless.specs.Faultless.Stage.{Gone}
+use Rattle.amqp_types.proofs.Small.{if-true, if-false}
+use Rattle.amqp_faultless.proofs.Greeted.{IsMet, IsOver, Leaves}
+use Rattle.amqp_faultless.proofs.Speaks.{said_all}
+use Rattle.amqp_faultless.proofs.Limits.{limit_at}
+use Rattle.amqp_faultless.proofs.Modest.{Modest}
+use Rattle.amqp_faultless.proofs.Clock.{IsClock}
+use Rattle.amqp_faultless.proofs.Tuned.{first_tune, Tuned}
+use Rattle.amqp_faultless.proofs.Open.{open-runs}
 use Rattle.amqp_engine.specs.declared.given.Given.{Given}
 use Rattle.amqp_engine.specs.declared.given.GivenStep.{GivenStep}
 use Rattle.amqp_engine.specs.declared.given.GivenStep.TheVariants as given

@@ -14,8 +14,7 @@ use Rattle.amqp_engine.specs.Engine.{Engine, with_talk, rule_at, step_engine, st
 use Rattle.amqp_session.specs.Writing.{frames_waiting, end_overlong}
 use Rattle.amqp_engine.specs.Turn.{Turn, answers_of, Progress, asks, wants_ask, offer_part, offered, answered, read, turn, AreTurns}
 use Rattle.amqp_engine.specs.Sending.{Sending, nothing_sent, offer_sending, offers_sending, step_sending, sendings_from, SendsInOrder}
-use Rattle.amqp_session.proofs.Cases.{if_case, if_by, if-true}
-use Rattle.amqp_engine.proofs.Cases.{and-left}
+use Rattle.amqp_types.proofs.Small.{if_case, if_by, if-true, and-left, all-push}
 use Rattle.amqp_engine.proofs.Settling.{settle-talk}
 use Rattle.amqp_session.proofs.Keeping.{present-keeps, starve-ends, left_after}
 use Rattle.amqp_engine.proofs.Commits.{commits-keep}
@@ -30,10 +29,6 @@ use Rattle.amqp_engine.proofs.Lifting as lifting
 pub all-front : {A : Type 0} (P : A → Type 0) (xs ys : List A) → AllByRecursion P (xs ++ ys) → AllByRecursion P xs
 all-front P [] ys h = tt
 all-front P (x ∷ xs) ys h = (h.0, all-front P xs ys h.1)
-
-pub all-push : {A : Type 0} (P : A → Type 0) (xs : List A) (y : A) → AllByRecursion P xs → P y → AllByRecursion P (xs ++ y ∷ [])
-all-push P [] y h p = (p, tt)
-all-push P (x ∷ xs) y h p = (h.0, all-push P xs y h.1 p)
 
 -- ---- what is known of what was sent
 

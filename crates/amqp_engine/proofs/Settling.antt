@@ -3,7 +3,7 @@ use Rattle.std.proofs.Common.{◌≡◌, ◌≤◌, ◌&&◌, not, if◌then◌e
 use Rattle.amqp_session.specs.Talk.{is_open, drops_input}
 use Rattle.amqp_engine.specs.Engine.{Engine, settle}
 use Rattle.amqp_engine.specs.Making.{keeps_unread, IsSettled}
-use Rattle.amqp_session.proofs.Cases.{if_case, if-true, if-false}
+use Rattle.amqp_types.proofs.Small.{if_case, if-true, if-false}
 
 -- what is not looked at is what stays
 settle-keeps : {A : Type 0} (f : Engine → A) → ((e : Engine) (bytes : List ℕ) → f (record e { unread = []; place = 0; unsent = bytes }) ≡ f e) → (e : Engine) → f (settle e) ≡ f e

@@ -3,7 +3,7 @@ use Rattle.std.proofs.Common.{◌≡◌, ℕ, zero, suc, List, Option, Some, Non
 use Rattle.amqp_outbox.specs.declared.item.Item.{Item}
 use Rattle.amqp_session.specs.Writing.{frames_waiting}
 use Rattle.amqp_session.proofs.Finishing.{next-first}
-use Rattle.amqp_session.proofs.Fitting.{Fit, IsFit, fit-next}
+use Rattle.amqp_faultless.proofs.Fitting.{Fit, IsFit, fit-next}
 use Rattle.amqp_engine.specs.Engine.{Engine, fitting_next, commit_one, commits, commit_all, overlong_next}
 use Rattle.amqp_engine.proofs.Commits.{with_frame, commit_one-is}
 

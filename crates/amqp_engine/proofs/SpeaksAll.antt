@@ -4,10 +4,10 @@ use Rattle.std.specs.Prelude.{option_to_list}
 use Rattle.amqp_outbox.specs.declared.item.Item.{Item}
 use Rattle.amqp_session.specs.Writing.{next_item, fitting, frames_waiting}
 use Rattle.amqp_session.specs.Writing.{committed_as as committed_in_session}
-use Rattle.amqp_session.specs.Faultless.{Server, said_to}
+use Rattle.amqp_faultless.specs.Faultless.{Server, said_to}
 use Rattle.amqp_outbox.specs.Items.{size_of}
-use Rattle.amqp_session.proofs.Greeted.{IsMet}
-use Rattle.amqp_session.proofs.Speaks.{met-commit, said_all, said_all-append}
+use Rattle.amqp_faultless.proofs.Greeted.{IsMet}
+use Rattle.amqp_faultless.proofs.Speaks.{met-commit, said_all, said_all-append}
 use Rattle.amqp_engine.specs.Engine.{Engine, fitting_next, committed_as, commit_one, commits, commit_all}
 use Rattle.amqp_engine.specs.Sending.{committed_in, committed_before}
 

@@ -10,16 +10,16 @@ use Rattle.amqp_session.specs.Changes.{present_at}
 use Rattle.amqp_session.specs.Commands.{command}
 use Rattle.amqp_session.specs.Links.{piece}
 use Rattle.amqp_session.specs.Ticks.{is_missed, tick}
-use Rattle.amqp_session.specs.Faultless.{Server, AreSayable}
-use Rattle.amqp_session.proofs.Cases.{if_case, if-true}
+use Rattle.amqp_faultless.specs.Faultless.{Server, AreSayable}
+use Rattle.amqp_types.proofs.Small.{if_case, if-true}
 use Rattle.amqp_session.proofs.Soundness.{sound-present, sound-piece, sound-tick, sound-command}
-use Rattle.amqp_session.proofs.Greeted.{IsMet}
-use Rattle.amqp_session.proofs.Tells.{met-present}
-use Rattle.amqp_session.proofs.Modest.{Modest}
-use Rattle.amqp_session.proofs.Brief.{modest-command, modest-tick}
-use Rattle.amqp_session.proofs.Modesty.{modest-present, modest-piece}
-use Rattle.amqp_session.proofs.Tuned.{Tuned}
-use Rattle.amqp_session.proofs.TunedRules.{tuned-present, tuned-piece, tuned-command, tuned-tick}
+use Rattle.amqp_faultless.proofs.Greeted.{IsMet}
+use Rattle.amqp_faultless.proofs.Tells.{met-present}
+use Rattle.amqp_faultless.proofs.Modest.{Modest}
+use Rattle.amqp_faultless.proofs.Brief.{modest-command, modest-tick}
+use Rattle.amqp_faultless.proofs.Modesty.{modest-present, modest-piece}
+use Rattle.amqp_faultless.proofs.Tuned.{Tuned}
+use Rattle.amqp_faultless.proofs.TunedRules.{tuned-present, tuned-piece, tuned-command, tuned-tick}
 use Rattle.amqp_engine.specs.declared.given.GivenStep.TheVariants as given
 use Rattle.amqp_engine.specs.declared.port.Step.{Step}
 use Rattle.amqp_engine.specs.declared.port.Step.TheVariants.{Linked, LinkFailed, Piece, End, Fault, Room, Tick, Command}

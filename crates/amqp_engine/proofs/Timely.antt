@@ -5,8 +5,8 @@ use Rattle.std.specs.List.{flat_map}
 use Rattle.amqp_session.specs.Talk.{Talk, has_ended}
 use Rattle.amqp_session.specs.Changes.{present_at}
 use Rattle.amqp_session.specs.Ticks.{is_connected, is_missed, tick}
-use Rattle.amqp_session.proofs.Cases.{if-false}
-use Rattle.amqp_session.proofs.Clock.{IsClock}
+use Rattle.amqp_types.proofs.Small.{if-false}
+use Rattle.amqp_faultless.proofs.Clock.{IsClock}
 use Rattle.amqp_engine.specs.declared.port.Step.TheVariants.{Tick}
 use Rattle.amqp_engine.specs.Turn.{Turn, is_piece}
 use Rattle.amqp_engine.specs.Account.{IsNew}

@@ -1,5 +1,5 @@
 -- The first tune-ok that was said carries the numbers that are agreed; and all that may go out leaves it so.
-use Rattle.std.proofs.Common.{◌≡◌, ℕ, zero, suc, ◌-◌, List, [], ◌∷◌, ◌++◌, length, drop, append_assoc, Option, Some, None, refl, ap, sym, ◌∙◌, subst}
+use Rattle.std.proofs.Common.{◌≡◌, ℕ, zero, suc, ◌-◌, List, [], ◌∷◌, ◌++◌, length, drop, append_assoc, Option, Some, None, refl, ap, sym, ◌∙◌, subst, append-nil}
 use Rattle.std.specs.Prelude.{option_to_list}
 use Rattle.std.proofs.lemmas.List.{map-append}
 use Rattle.amqp_frame.specs.declared.frame.Frame.{Frame}
@@ -11,13 +11,12 @@ use Rattle.amqp_session.specs.Talk.{Talk}
 use Rattle.amqp_session.specs.Changes.{present_at}
 use Rattle.amqp_session.specs.Sound.{IsSound}
 use Rattle.amqp_session.specs.Writing.{next_item, frames_waiting, taken, committed_as as committed_in_session}
-use Rattle.amqp_session.specs.Faultless.{Server, said_to}
+use Rattle.amqp_faultless.specs.Faultless.{Server, said_to}
 use Rattle.amqp_session.proofs.Keeping.{present-keeps}
-use Rattle.amqp_legal.proofs.Truths.{append-none}
-use Rattle.amqp_session.proofs.Greeted.{IsMet}
-use Rattle.amqp_session.proofs.Speaks.{GoOn, said_all, said_all-append}
-use Rattle.amqp_session.proofs.Tuned.{first_tune, Tuned}
-use Rattle.amqp_session.proofs.TunedRules.{tuned-commit, tuned-present, tuned-taken}
+use Rattle.amqp_faultless.proofs.Greeted.{IsMet}
+use Rattle.amqp_faultless.proofs.Speaks.{GoOn, said_all, said_all-append}
+use Rattle.amqp_faultless.proofs.Tuned.{first_tune, Tuned}
+use Rattle.amqp_faultless.proofs.TunedRules.{tuned-commit, tuned-present, tuned-taken}
 use Rattle.amqp_engine.specs.Engine.{Engine, fitting_next, committed_as, commit_one, commits, commit_all, took}
 use Rattle.amqp_engine.specs.Sending.{frames, committed_in, committed_before}
 use Rattle.amqp_engine.specs.Valid.{agreed_heartbeat, agreed_frame_max}
@@ -47,7 +46,7 @@ tuned-commit-one : (fs : List Frame) (s : Server) (e : Engine) → IsMet s e.tal
     → Tuned (fs ++ frames (option_to_list (fitting_next e))) (said_all (option_to_list (fitting_next e)) s) (commit_one e).talk
 tuned-commit-one fs s e m h = by (fitting_next e) refl where
   by : (x : Option Item) → fitting_next e ≡ x → Tuned (fs ++ frames (option_to_list x)) (said_all (option_to_list x) s) (committed_as x e).talk
-  by None is = let P : List Frame → Type 0 = λ x. Tuned x s e.talk in subst P (sym (append-none fs)) h
+  by None is = let P : List Frame → Type 0 = λ x. Tuned x s e.talk in subst P (sym (append-nil fs)) h
   by (Some i) is =
       let P : Option Item → Type 0 = λ x. Tuned (fs ++ i.frame ∷ []) (said_to i.frame s) (committed_in_session x e.talk) in
       subst P (sym is) (tuned-commit fs s e.talk i (fitting-next (e.talk.capacity - length e.unsent) (next_item e.talk) i is) m h)
@@ -55,11 +54,11 @@ tuned-commit-one fs s e m h = by (fitting_next e) refl where
 met-one : (s : Server) (e : Engine) → IsMet s e.talk → IsMet (said_all (option_to_list (fitting_next e)) s) (commit_one e).talk
 met-one s e m =
     let P : List Item → Type 0 = λ x. IsMet (said_all x s) (commit_one e).talk in
-    subst P (append-none (option_to_list (fitting_next e))) (met-commits 1 e s m)
+    subst P (append-nil (option_to_list (fitting_next e))) (met-commits 1 e s m)
 
 tuned-commits : (n : ℕ) (fs : List Frame) (s : Server) (e : Engine) → IsMet s e.talk → Tuned fs s e.talk
     → Tuned (fs ++ frames (committed_in n e)) (said_all (committed_in n e) s) (commits n e).talk
-tuned-commits zero fs s e m h = let P : List Frame → Type 0 = λ x. Tuned x s e.talk in subst P (sym (append-none fs)) h
+tuned-commits zero fs s e m h = let P : List Frame → Type 0 = λ x. Tuned x s e.talk in subst P (sym (append-nil fs)) h
 tuned-commits (suc n) fs s e m h =
     let items = option_to_list (fitting_next e) in
     let next = commit_one e in

@@ -35,9 +35,7 @@ use Rattle.amqp_engine.specs.Turn.{Turn, answers_of, Progress, asks, goes, reads
 use Rattle.amqp_engine.specs.Tell.{TellsTurns, Applies, Runs, turn_of}
 use Rattle.amqp_engine.specs.Causes.{is_final, FailsToWrite, IsReadError, Misreads, LosesClosed, IsCause, Brings, brought, is_tick, is_last, sends_close_ok, is_finish}
 use Rattle.amqp_session.proofs.Heard.{secret-case}
-use Rattle.amqp_session.proofs.Cases.{if_case, if_by, if-true, if-false, and-false}
-use Rattle.amqp_legal.proofs.Truths.{and-true}
-use Rattle.amqp_engine.proofs.Cases.{none-from, and-left}
+use Rattle.amqp_types.proofs.Small.{if_case, if_by, if-true, if-false, and-false, and-true, none-from, and-left, or-right}
 use Rattle.amqp_session.proofs.Keeping.{present-keeps, kept-open, pay-keeps, off-finish, follow-link, stays-command}
 use Rattle.amqp_session.proofs.Recovering.{lose-case}
 use Rattle.amqp_engine.proofs.Commits.{commits-keep}
@@ -209,10 +207,6 @@ ends-read u x =
 or-left : (a b : Bool) → a ≡ true → (a || b) ≡ true
 or-left true b h = refl
 or-left false b h = cc
-
-or-right : (a b : Bool) → b ≡ true → (a || b) ≡ true
-or-right true b h = refl
-or-right false b h = h
 
 -- close-ok was sent after a close with this error, and the session does not recover
 abbrev SentError : Bool → Talk → ErrorKind → Type 0

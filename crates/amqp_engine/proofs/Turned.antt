@@ -9,12 +9,12 @@ use Rattle.amqp_session.specs.Sound.{IsSound}
 use Rattle.amqp_session.specs.Talk.{Talk}
 use Rattle.amqp_session.specs.Changes.{present_at}
 use Rattle.amqp_session.specs.Writing.{frames_waiting, taken}
-use Rattle.amqp_session.specs.Faultless.{Server, said_to}
-use Rattle.amqp_session.proofs.Greeted.{IsMet}
-use Rattle.amqp_session.proofs.Speaks.{said-keeps, said_all}
-use Rattle.amqp_session.proofs.Modest.{Modest}
-use Rattle.amqp_session.proofs.Clock.{IsClock}
-use Rattle.amqp_session.proofs.Tuned.{Tuned}
+use Rattle.amqp_faultless.specs.Faultless.{Server, said_to}
+use Rattle.amqp_faultless.proofs.Greeted.{IsMet}
+use Rattle.amqp_faultless.proofs.Speaks.{said-keeps, said_all}
+use Rattle.amqp_faultless.proofs.Modest.{Modest}
+use Rattle.amqp_faultless.proofs.Clock.{IsClock}
+use Rattle.amqp_faultless.proofs.Tuned.{Tuned}
 use Rattle.amqp_engine.specs.declared.port.Wrote.{Wrote}
 use Rattle.amqp_engine.specs.declared.port.Wrote.TheVariants.{Took}
 use Rattle.amqp_engine.specs.Plan.{Coming}

@@ -1,5 +1,5 @@
 -- What was committed and taken whole was said, and nothing is left of it.
-use Rattle.std.proofs.Common.{◌≡◌, ℕ, zero, suc, ◌+◌, ◌-◌, ◌==◌, ◌&&◌, not, nat_le, if◌then◌else◌, Bool, true, false, true≢false, List, [], ◌∷◌, ◌++◌, length, drop, length-append, append_assoc, Option, Some, None, refl, ap, sym, ◌∙◌, subst, arith}
+use Rattle.std.proofs.Common.{◌≡◌, ℕ, zero, suc, ◌+◌, ◌-◌, ◌==◌, ◌&&◌, not, nat_le, if◌then◌else◌, Bool, true, false, true≢false, List, [], ◌∷◌, ◌++◌, length, drop, length-append, append_assoc, Option, Some, None, refl, ap, sym, ◌∙◌, subst, arith, append-nil}
 use Rattle.std.specs.Prelude.{map, option_to_list}
 use Rattle.std.proofs.lemmas.List.{map-append}
 use Rattle.amqp_frame.specs.Frames.{encoding}
@@ -9,20 +9,18 @@ use Rattle.amqp_session.specs.declared.committed.Mark.{Mark}
 use Rattle.amqp_session.specs.Talk.{Talk, is_open}
 use Rattle.amqp_session.specs.Writing.{mark_of, sent, sent_among, frames_waiting}
 use Rattle.amqp_session.specs.Writing as writing
-use Rattle.amqp_session.proofs.Cases.{if-true}
-use Rattle.amqp_legal.proofs.Truths.{is-at-most, append-none, other-number}
+use Rattle.amqp_types.proofs.Small.{if-true, is-at-most, other-number, if_by}
 use Rattle.amqp_engine.specs.Engine.{Engine, fitting_next, committed_as, commit_one, commits, commit_all}
 use Rattle.amqp_engine.specs.Sending.{committed_in, committed_before, encodings, sent_in}
 use Rattle.amqp_engine.specs.Valid.{Saying, Ours, after_sayings}
 use Rattle.amqp_session.specs.Sound.{IsSound}
 use Rattle.amqp_session.specs.Changes.{present_at}
 use Rattle.amqp_session.specs.Writing.{taken}
-use Rattle.amqp_session.specs.Faultless.{Server, said_to}
+use Rattle.amqp_faultless.specs.Faultless.{Server, said_to}
 use Rattle.amqp_session.proofs.Keeping.{present-keeps}
-use Rattle.amqp_session.proofs.Cases.{if_by}
-use Rattle.amqp_session.proofs.Greeted.{IsMet}
-use Rattle.amqp_session.proofs.Tells.{met-present}
-use Rattle.amqp_session.proofs.Speaks.{said_all, GoOn, met-sent, sent-committed, met-taken}
+use Rattle.amqp_faultless.proofs.Greeted.{IsMet}
+use Rattle.amqp_faultless.proofs.Tells.{met-present}
+use Rattle.amqp_faultless.proofs.Speaks.{said_all, GoOn, met-sent, sent-committed, met-taken}
 use Rattle.amqp_engine.specs.Engine.{took}
 use Rattle.amqp_engine.specs.Turn.{offered}
 use Rattle.amqp_engine.specs.Sending.{Sending, offer_sending}
@@ -63,7 +61,7 @@ commits-both a b c items later h k =
     spelled-append (x ∷ xs) ys = ap (λ z. encoding x.frame ++ z) (spelled-append xs ys) ∙ sym (append_assoc (encoding x.frame) (encodings xs) (encodings ys))
 
 commits-none : (e : Engine) → Commits e e []
-commits-none e = record { marks = sym (append-none e.talk.committed); bytes = sym (append-none e.unsent) }
+commits-none e = record { marks = sym (append-nil e.talk.committed); bytes = sym (append-nil e.unsent) }
 
 commits-one : (e : Engine) → Commits e (commit_one e) (option_to_list (fitting_next e))
 commits-one e = by (fitting_next e) refl where
@@ -72,7 +70,7 @@ commits-one e = by (fitting_next e) refl where
   by (Some i) is =
       record {
         marks = ap (λ (o : Option Item). (writing.committed_as o e.talk).committed) is;
-        bytes = ap (λ x. e.unsent ++ x) (sym (append-none (encoding i.frame)));
+        bytes = ap (λ x. e.unsent ++ x) (sym (append-nil (encoding i.frame)));
       }
 
 pub commits-so : (n : ℕ) (e : Engine) → Commits e (commits n e) (committed_in n e)

@@ -27,12 +27,12 @@ use Rattle.amqp_session.specs.Ticks.{tick}
 use Rattle.amqp_session.specs.Commands.{command}
 use Rattle.amqp_session.specs.Sound.{IsSound}
 use Rattle.amqp_session.specs.Writing.{frames_waiting, next_item, fitting, mark_of, taken, end_overlong}
-use Rattle.amqp_session.proofs.Cases.{if_case, if_by, if-true, if-false, and-false}
+use Rattle.amqp_types.proofs.Small.{if_case, if_by, if-true, if-false, and-false, and-left, and-right}
 use Rattle.amqp_session.proofs.Soundness.{sound-commit, sound-taken, sound-present, sound-asked, sound-link_failed, sound-piece, sound-lost, sound-misread, sound-frame, sound-tick, sound-starve, sound-lose, sound-start, sound-command}
 use Rattle.amqp_session.proofs.Keeping.{present-keeps, kept-open, failed-link, failed-keeps, lost-off, keeps-misread, keeps-frame, keeps-tick, off-lost, starve-ends}
-use Rattle.amqp_session.proofs.Bearing.{Reading, IsAt, told-made, command_at}
-use Rattle.amqp_session.proofs.Bearers.{at-moment, at-asked, at-failed, at-piece, at-lost, at-misread, at-frame, at-tick, at-starve, at-lose}
-use Rattle.amqp_session.proofs.Leaving.{at-commit}
+use Rattle.amqp_carried_rules.proofs.Bearing.{Reading, IsAt, told-made, command_at}
+use Rattle.amqp_carried_rules.proofs.Bearers.{at-moment, at-asked, at-failed, at-piece, at-lost, at-misread, at-frame, at-tick, at-starve, at-lose}
+use Rattle.amqp_carried_rules.proofs.Leaving.{at-commit}
 use Rattle.amqp_engine.specs.declared.port.Step.{Step}
 use Rattle.amqp_engine.specs.declared.port.Step.TheVariants.{Linked, LinkFailed, Piece, End, Fault, Room, Tick, Command}
 use Rattle.amqp_engine.specs.declared.port.Wrote.{Wrote}
@@ -44,14 +44,13 @@ use Rattle.amqp_engine.specs.Engine.{Engine, begin, with_talk, rule_at, settle, 
 use Rattle.amqp_engine.specs.Turn.{Turn, answers_of, Progress, asks, wants_ask, begun, goes, part, questioned, is_part, step_part, reads, read_part, reading, is_piece, answered, offered, offer_part, drained, is_all, AreAnswers, read, written, turn, turns, starved_after, IsTurn, AreTurns, AreTold, talk}
 use Rattle.amqp_engine.specs.Engine.{step_questions}
 use Rattle.amqp_engine.specs.Sending.{Sending, nothing_sent, frames, frames_sent, items_sent, committed_in, committed_before, sent_in, offer_sending, offers_sending, step_sending, turn_sending, sendings_from, sendings}
-use Rattle.amqp_engine.proofs.Cases.{and-left, and-right}
 use Rattle.amqp_engine.proofs.Settling.{settle-talk}
 use Rattle.amqp_engine.proofs.Commits.{with_frame, commit_one-is, encoding-some, commits-keep}
 use Rattle.amqp_engine.proofs.Lifting.{all-rest}
 use Rattle.amqp_engine.proofs.Over.{ended-closed}
 use Rattle.amqp_engine.proofs.Overlong.{closed-overlong}
 use Rattle.amqp_session.specs.Talk.{has_ended}
-use Rattle.amqp_session.specs.CommandFrames.{is_raw, is_send, is_publish, is_sent}
+use Rattle.amqp_carried_rules.specs.CommandFrames.{is_raw, is_send, is_publish, is_sent}
 use Rattle.amqp_engine.proofs.LinkKept.{asked-open}
 use Rattle.amqp_engine.proofs.Sent.{on_last-append}
 use Rattle.amqp_engine.proofs.History.{same-sent, kind-front}

@@ -8,7 +8,7 @@ use Rattle.amqp_session.specs.Talk.{Talk, start}
 use Rattle.amqp_session.specs.Listed.{at}
 use Rattle.amqp_session.specs.declared.command.Cmd.TheVariants.{Listen}
 use Rattle.amqp_session.specs.Commands.{command}
-use Rattle.amqp_session.specs.CommandFrames.{is_sent, answered_command}
+use Rattle.amqp_carried_rules.specs.CommandFrames.{is_sent, answered_command}
 use Rattle.amqp_engine.specs.declared.port.Step.{Step}
 use Rattle.amqp_engine.specs.declared.port.Step.TheVariants.{Command}
 use Rattle.amqp_engine.specs.Engine.{Engine, begin}

@@ -7,8 +7,8 @@ use Rattle.amqp_frame.specs.declared.frame.Frame.TheVariants.{Raw}
 use Rattle.amqp_session.specs.declared.command.Cmd.{Cmd}
 use Rattle.amqp_session.specs.declared.handed.Handed.{Handed}
 use Rattle.amqp_session.specs.Listed.{at}
-use Rattle.amqp_session.specs.CommandFrames.{AreFramesOf, is_send, is_publish, is_raw}
-use Rattle.amqp_session.specs.HandingOut.{handed_on}
+use Rattle.amqp_carried_rules.specs.CommandFrames.{AreFramesOf, is_send, is_publish, is_raw}
+use Rattle.amqp_carried_rules.specs.HandingOut.{handed_on}
 
 -- what can be seen of a client and its links
 pub record Account : Type 0 where

@@ -6,7 +6,7 @@ use Rattle.amqp_frame.specs.declared.frame.Read.{Read}
 use Rattle.amqp_frame.specs.declared.frame.Read.TheVariants.{Whole}
 use Rattle.amqp_outbox.specs.declared.item.Item.{Item}
 use Rattle.amqp_session.specs.Talk.{Talk, is_asked}
-use Rattle.amqp_session.specs.HandingOut.{HandedOut, hands_out}
+use Rattle.amqp_carried_rules.specs.HandingOut.{HandedOut, hands_out}
 use Rattle.amqp_engine.specs.declared.port.Step.{Step}
 use Rattle.amqp_engine.specs.declared.port.Step.TheVariants.{Linked}
 use Rattle.amqp_engine.specs.Log.{on_last}

@@ -12,8 +12,8 @@ use Rattle.amqp_session.specs.declared.command.Answer.TheVariants.{Connected}
 use Rattle.amqp_session.specs.Listed.{at}
 use Rattle.amqp_session.specs.Talk.{Talk, end_of}
 use Rattle.amqp_session.specs.Providers.{Exchange}
-use Rattle.amqp_session.specs.Faultless.{Server, silent, said_to, heard_from, is_open_ok, AreSayable, IsShortCommand}
-use Rattle.amqp_session.specs.Faultless.Stage.{Gone}
+use Rattle.amqp_faultless.specs.Faultless.{Server, silent, said_to, heard_from, is_open_ok, AreSayable, IsShortCommand}
+use Rattle.amqp_faultless.specs.Faultless.Stage.{Gone}
 use Rattle.amqp_engine.specs.declared.given.Given.{Given}
 use Rattle.amqp_engine.specs.declared.given.GivenStep.{GivenStep}
 use Rattle.amqp_engine.specs.declared.given.GivenStep.TheVariants as given

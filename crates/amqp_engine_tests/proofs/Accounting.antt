@@ -8,10 +8,10 @@ use Rattle.amqp_session.specs.declared.command.Cmd.{Cmd}
 use Rattle.amqp_session.specs.declared.command.Cmd.TheVariants.{Send}
 use Rattle.amqp_session.specs.declared.handed.Handed.{Handed}
 use Rattle.amqp_session.specs.Listed.{at}
-use Rattle.amqp_session.specs.CommandFrames.{AreFramesOf, IsContent, is_publish}
-use Rattle.amqp_session.specs.HandingOut.{handed_on}
+use Rattle.amqp_carried_rules.specs.CommandFrames.{AreFramesOf, IsContent, is_publish}
+use Rattle.amqp_carried_rules.specs.HandingOut.{handed_on}
 use Rattle.std.proofs.lemmas.Bool.{cases_eq}
-use Rattle.amqp_legal.proofs.Truths.{other-number}
+use Rattle.amqp_types.proofs.Small.{other-number}
 use Rattle.amqp_session.proofs.Numbered.{put-other}
 use Rattle.amqp_engine.specs.Carried.{Account, Carried, WentOut, IsTorn, AreCut, AreSent, Merges, IsWithin, joined, raw_frames, frame_of}
 use Rattle.amqp_engine_tests.specs.Accounts.{one, no_properties, publish, sent_by, qos, get, basic_publish, body, said, header, content, delivery, all_sent, cut_off, torn_and_sent, swapped, twice, on_two_links, other_body, made_up}

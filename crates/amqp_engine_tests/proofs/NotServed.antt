@@ -1,7 +1,7 @@
 -- How a server is shown to be none that is faultless.
 use Rattle.std.proofs.Common.{◌≡◌, ◌≢◌, List, Some, None, ap, sym, ◌∙◌}
-use Rattle.amqp_session.specs.Faultless.{Server, silent}
-use Rattle.amqp_session.specs.Faultless.Stage.{Gone}
+use Rattle.amqp_faultless.specs.Faultless.{Server, silent}
+use Rattle.amqp_faultless.specs.Faultless.Stage.{Gone}
 use Rattle.amqp_engine.specs.Valid.{Saying, after_sayings, IsServed}
 
 -- a server said what it may not

@@ -8,7 +8,7 @@ use Rattle.amqp_frame.specs.Frames.{encoding, FrameOf}
 use Rattle.amqp_frame.specs.Rules.{KeepsRules}
 use Rattle.amqp_frame.proofs.Written.{frame_written}
 use Rattle.amqp_frame.proofs.FrontLaws.{one_frame}
-use Rattle.amqp_session.specs.Faultless.{is_open_ok}
+use Rattle.amqp_faultless.specs.Faultless.{is_open_ok}
 use Rattle.amqp_engine.specs.Valid.{Spelled, AreSpelled, AreFrames}
 use Rattle.amqp_engine_tests.specs.Scripts.{started, tuned, opened, blocked, unblocked, answered, closed, channel_opened, channel_closed, heartbeat}
 

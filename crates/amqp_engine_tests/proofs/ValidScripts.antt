@@ -6,7 +6,7 @@ use Rattle.amqp_types.specs.Reading.{short_string_at, long_string_at, scalar_at,
 use Rattle.amqp_frame.specs.FrameReading.{front, framed, sized, ended, content, method_payload, connection_arguments_at, channel_arguments_at, start_at, tune_at, close_at, channel_close_at}
 use Rattle.amqp_session.specs.declared.auth.asked.Asked.{Asked}
 use Rattle.amqp_session.specs.Talk.{Talk}
-use Rattle.amqp_session.specs.Faultless.{silent, AreSayable}
+use Rattle.amqp_faultless.specs.Faultless.{silent, AreSayable}
 use Rattle.amqp_engine.specs.declared.given.Given.{Given}
 use Rattle.amqp_engine.specs.declared.given.GivenStep.TheVariants as given
 use Rattle.amqp_engine.specs.declared.port.Step.{Step}
@@ -20,6 +20,7 @@ use Rattle.amqp_engine.specs.Valid.{Spelled, AreFrames, AreSpelled, all_bytes, s
 use Rattle.amqp_engine_tests.specs.Scripts.{client, guest, started, tuned, opened, blocked, unblocked, answered, closed, channel_opened, channel_closed, heartbeat, steps_at, comes, shut, closed_by_us, in_pieces, closed_by_them, blocked_a_while, heard_in_time, tunes_at_once, closes_cross, missed}
 use Rattle.amqp_engine_tests.proofs.Octets.{started-spells, tuned-spells, opened-spells, blocked-spells, unblocked-spells, answered-spells, closed-spells, channel-opened-spells, channel-closed-spells, heartbeat-spells, one-reading}
 use Rattle.amqp_engine_tests.proofs.NotServed.{not-served}
+use Rattle.amqp_types.proofs.Small.{and-left, and-right, and-true}
 
 -- ---- whether turns are timely, tick by tick
 
@@ -41,14 +42,6 @@ abbrev are_timely : Talk → List Turn → List Turn → Bool
 are_timely t before [] = true
 are_timely t before (u ∷ us) = comes_in_time t before u && are_timely t (before ++ u ∷ []) us
 
-both-first : (a b : Bool) → (a && b) ≡ true → a ≡ true
-both-first true b h = refl
-both-first false b h = absurd (true≢false (sym h))
-
-both-second : (a b : Bool) → (a && b) ≡ true → b ≡ true
-both-second true b h = h
-both-second false b h = absurd (true≢false (sym h))
-
 each-tick : (t : Talk) (seen us before later : List Turn) (u : Turn) → are_timely t seen us ≡ true → us ≡ before ++ u ∷ later
     → comes_in_time t (seen ++ before) u ≡ true
 each-tick t seen [] [] later u h is = absurd cc
@@ -56,11 +49,11 @@ each-tick t seen [] (v ∷ before) later u h is = absurd cc
 each-tick t seen (v ∷ us) [] later u h is =
     let same : v ≡ u = cc in
     let P : Turn → Type 0 = λ x. comes_in_time t (seen ++ []) x ≡ true in
-    subst P same (ap (λ (bs : List Turn). comes_in_time t bs v) (append-nil seen) ∙ both-first _ _ h)
+    subst P same (ap (λ (bs : List Turn). comes_in_time t bs v) (append-nil seen) ∙ and-left _ _ h)
 each-tick t seen (v ∷ us) (w ∷ before) later u h is =
     let same : v ≡ w = cc in
     let rest : us ≡ before ++ u ∷ later = cc in
-    let after = each-tick t (seen ++ v ∷ []) us before later u (both-second _ _ h) rest in
+    let after = each-tick t (seen ++ v ∷ []) us before later u (and-right _ _ h) rest in
     let seen-all : (seen ++ v ∷ []) ++ before ≡ seen ++ w ∷ before =
     append_assoc seen (v ∷ []) before ∙ ap (λ (x : Turn). seen ++ x ∷ before) same in
     ap (λ (bs : List Turn). comes_in_time t bs u) (sym seen-all) ∙ after
@@ -76,10 +69,6 @@ timely t us h before later u heartbeat is tick agreed some =
     let P : Step → Type 0 = λ step. (not (is_tick step) || is_in_time sent silence) ≡ true in
     let Q : Option ℕ → Type 0 = λ o. is_in_time o silence ≡ true in
     in-time heartbeat silence (subst Q agreed (subst P tick (each-tick t [] us before later u h is))) some
-
-both-true : (a b : Bool) → a ≡ true → b ≡ true → (a && b) ≡ true
-both-true true b h k = k
-both-true false b h k = absurd (true≢false (sym h))
 
 -- where the turns are timely, each tick comes in time
 ticks-timely : (t : Talk) (before later : List Turn) (u : Turn) → IsTimely t (before ++ u ∷ later) → comes_in_time t before u ≡ true
@@ -111,7 +100,7 @@ ticks-timely t before later u is = by u.step refl where
 each-timely : (t : Talk) (all : List Turn) → IsTimely t all → (seen us : List Turn) → all ≡ seen ++ us → are_timely t seen us ≡ true
 each-timely t all is seen [] whole = refl
 each-timely t all is seen (u ∷ us) whole =
-    both-true _ _ (ticks-timely t seen us u (subst (IsTimely t) whole is))
+    and-true _ _ (ticks-timely t seen us u (subst (IsTimely t) whole is))
     (each-timely t all is (seen ++ u ∷ []) us (whole ∙ sym (append_assoc seen (u ∷ []) us)))
 
 -- ---- whole scripts

@@ -5,7 +5,7 @@ ghost use Rattle.amqp_promise.specs.declared.error.ErrorKind.TheVariants.{Missin
 ghost use Rattle.amqp_session.specs.declared.auth.asked.Asked.TheVariants as answer;
 ghost use Rattle.amqp_session.specs.Config.{no_options};
 ghost use Rattle.amqp_session.specs.Talk.{end_of};
-ghost use Rattle.amqp_session.specs.Faultless.{AreSayable};
+ghost use Rattle.amqp_faultless.specs.Faultless.{AreSayable};
 ghost use Rattle.amqp_engine.specs.declared.given.GivenStep.TheVariants as given;
 ghost use Rattle.amqp_engine.specs.Turn.{talk};
 ghost use Rattle.amqp_engine.specs.Play.{replayed};

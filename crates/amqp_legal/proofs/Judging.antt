@@ -10,7 +10,7 @@ use Rattle.amqp_frame.specs.declared.frame.Frame.TheVariants.{ProtocolHeader, Me
 use Rattle.amqp_frame.specs.declared.frame.RawKind.TheVariants.{RawMethod, Header, Body}
 use Rattle.amqp_frame.specs.declared.method.Method.{Method as AnyMethod}
 use Rattle.amqp_frame.specs.declared.method.Method.TheVariants as m
-use Rattle.amqp_legal.proofs.Truths.{other-number}
+use Rattle.amqp_types.proofs.Small.{other-number}
 use Rattle.amqp_legal.specs.Octets.{class_in, weight_in, body_size_in}
 use Rattle.amqp_legal.specs.Decider.{Speech, Stage, HeaderSaid, StartOkSaid, TuneOkSaid, OpenSaid, CloseSaid, CloseOkSaid, Usage, Shut, Content, NoContent, MethodSaid, BodyMissing, say, say_block, in_stage, in_content, is_passed_through, say_use, say_content_header, is_content_header, say_method}
 use Rattle.amqp_legal.specs.declared.kind.Kind.{Kind}

@@ -1,5 +1,3 @@
--- Booleans, numbers and lists.
-pub mod Truths
 -- The decider takes the legal conversations, and no others.
 pub mod Words
 pub mod Sayable

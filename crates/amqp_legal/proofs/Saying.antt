@@ -5,7 +5,7 @@ use Rattle.amqp_legal.specs.declared.speech.Speech.{Speech as Spoken}
 use Rattle.amqp_legal.specs.Legal.{Legal, amqp_header}
 use Rattle.amqp_legal.specs.Decider.{Speech, greeted, say, say_all, is_amqp_header, is_legal}
 use Rattle.amqp_legal.specs.Speeches.{speech_of, after_header, HasSaid}
-use Rattle.amqp_legal.proofs.Truths.{and-left, and-right, and-true}
+use Rattle.amqp_types.proofs.Small.{and-left, and-right, and-true}
 use Rattle.amqp_legal.proofs.Sayable.{say-append, none-said}
 use Rattle.amqp_legal.proofs.TakenIsLegal.{sound}
 use Rattle.amqp_legal.proofs.LegalIsTaken.{complete}

@@ -6,6 +6,7 @@ use Rattle.std.proofs.lemmas.Str.{IsAscii-drop}
 use Rattle.std.proofs.lemmas.Bool.Decides.{nat_tests}
 use Rattle.amqp_replay.specs.Words.{rest_after, after_byte}
 use Rattle.amqp_replay.specs.Grammar.{is_printable}
+use Rattle.amqp_types.proofs.Small.{and-right}
 
 nil_ascii : IsAscii []
 nil_ascii i = omega arith
@@ -17,14 +18,10 @@ cons_ascii b bs low rest (suc i) = rest i
 below : (b : ℕ) (rest : Bool) → (is_printable b && rest) ≡ true → b < 128
 below b rest h = grind (arith, nat_tests)
 
-and_rest : (x y : Bool) → (x && y) ≡ true → y ≡ true
-and_rest true y h = h
-and_rest false y h = cc
-
 pub IsAscii-printable : (content : List ℕ) → list_all is_printable content ≡ true → IsAscii content
 IsAscii-printable [] h = nil_ascii
 IsAscii-printable (b ∷ bs) h =
-    cons_ascii b bs (below b (list_all is_printable bs) h) (IsAscii-printable bs (and_rest (is_printable b) (list_all is_printable bs) h))
+    cons_ascii b bs (below b (list_all is_printable bs) h) (IsAscii-printable bs (and-right (is_printable b) (list_all is_printable bs) h))
 
 rest_ascii : (at : Option ℕ) (text : List ℕ) → IsAscii text → IsAscii (unwrap_or (rest_after at text) [])
 rest_ascii None text h = nil_ascii

@@ -18,6 +18,7 @@ use Rattle.amqp_replay.specs.Grammar.{Scenario}
 use Rattle.amqp_replay.specs.Top.{set_up, session_of, engine_of, replayed_turns, replayed_log, replayed_links, replayed_exchange, handed_state, answers_of, reported, summed, printout, generated_printout}
 use Rattle.amqp_replay.specs.Runs.{IsReplayed, IsMade}
 use Rattle.amqp_replay.specs.Report.{Printout}
+use Rattle.amqp_types.proofs.Small.{none-from}
 
 -- an engine has sent nothing before its first step
 pub silent : (listens : Bool) (config : Config) → HasSent (begin (set_up listens config)) []
@@ -66,10 +67,6 @@ IsReplayed-run s n e e' before after links state count fresh loads plays whole t
             (played-are-turns (length s.steps) answers (engine_of s) (loaded s.steps) played.answered) played.steps_told;
       };
     }
-
-pub none_from : {A : Type 0} (o : Option A) → is_some o ≡ false → o ≡ None
-none_from None h = refl
-none_from (Some x) h = cc
 
 -- ---- who authenticates
 

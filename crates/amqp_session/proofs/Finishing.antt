@@ -27,7 +27,7 @@ use Rattle.amqp_session.specs.Changes.{without_all_on, finish_by}
 use Rattle.amqp_session.specs.Channels.{channel_at}
 use Rattle.amqp_session.specs.Writing.{left_in, unsent, taken, sent_among, sent, follow, writes, flows, fitting, next_item, next_within, then_of, mark_of}
 use Rattle.amqp_session.specs.Sound.{is_finish, following, NoneFinishes, LastFinishes, Finishes}
-use Rattle.amqp_session.proofs.Cases.{if-true, if-false}
+use Rattle.amqp_types.proofs.Small.{if-true, if-false}
 use Rattle.amqp_session.proofs.Counting.{other-false}
 use Rattle.amqp_session.proofs.Keeping.{OverlooksEnds, left_after, left_in-left_after, follow-open, pay-keeps}
 use Rattle.amqp_session.proofs.Recovering.{lose-case}

@@ -31,13 +31,12 @@ use Rattle.amqp_session.specs.Channels.{channel_at}
 use Rattle.amqp_session.specs.ChannelMethods.{heard_on, unawaited_channel_method, channel_opened, channel_closed, channel_flowed, channel_rule, channel_method_by, channel_method, raw_by, raw_frame}
 use Rattle.amqp_session.specs.Frames.{is_of_a_channel, method_questions, questions_in, frame_rule, closed_rule, on_frame}
 use Rattle.amqp_session.specs.Causes.{IsFrameError, IsJudgedError, IsMisplaced, IsUnawaited, IsOfChannel, IsUndue, IsUnheard, IsInUse, is_awaited, is_due, is_secret_told, is_judged, refused_in}
-use Rattle.amqp_session.proofs.Cases.{if_by, if-true, if-false}
-use Rattle.amqp_legal.proofs.Truths.{and-left}
+use Rattle.amqp_types.proofs.Small.{if_by, if-true, if-false, and-left, from-not-true}
 use Rattle.amqp_session.proofs.LostLinks.{open-goes_on, lose-ends}
 use Rattle.amqp_session.proofs.FrameEnds.{ends-frame}
 
 misplaced-lost : (e : ErrorKind) (t : Talk) → is_closing t.state ≡ false → misplaced e t ≡ lose e t
-misplaced-lost e t going = if-false (is_closing t.state) t (lose e t) going
+misplaced-lost e t from-not-true = if-false (is_closing t.state) t (lose e t) from-not-true
 
 secret-lost : (a : Option (Option ℕ)) (t : Talk) → is_some a ≡ false → secret_taken a t ≡ lose (InvalidConnectionState Connected) t
 secret-lost None t free = refl
@@ -45,16 +44,16 @@ secret-lost (Some promise) t free = cc
 
 undue-lost : (s : ConnectionState) (p : Phase) (m : AnyMethod) (answers : List Asked) (t : Talk) → is_closing s ≡ false → is_due m (is_secret_told t) s p ≡ false
     → connection_rule s p m answers t ≡ lose (InvalidConnectionState s) t
-undue-lost s p (Close code text class method) answers t going undue = cc
-undue-lost s p (Blocked reason) answers t going undue = cc
-undue-lost s p Unblocked answers t going undue = cc
-undue-lost Closing p m answers t going undue = cc
-undue-lost Connecting AwaitStart (Start a b c d e) answers t going undue = cc
-undue-lost Connecting AwaitTune (Secure challenge) answers t going undue = cc
-undue-lost Connecting AwaitTune (Tune a b c) answers t going undue = cc
-undue-lost Connecting AwaitOpenOk OpenOk answers t going undue = cc
-undue-lost Connected p UpdateSecretOk answers t going undue = secret-lost (awaited_promise 0 SecretDone t.outbox) t undue
-undue-lost s p m answers t going undue = refl
+undue-lost s p (Close code text class method) answers t from-not-true undue = cc
+undue-lost s p (Blocked reason) answers t from-not-true undue = cc
+undue-lost s p Unblocked answers t from-not-true undue = cc
+undue-lost Closing p m answers t from-not-true undue = cc
+undue-lost Connecting AwaitStart (Start a b c d e) answers t from-not-true undue = cc
+undue-lost Connecting AwaitTune (Secure challenge) answers t from-not-true undue = cc
+undue-lost Connecting AwaitTune (Tune a b c) answers t from-not-true undue = cc
+undue-lost Connecting AwaitOpenOk OpenOk answers t from-not-true undue = cc
+undue-lost Connected p UpdateSecretOk answers t from-not-true undue = secret-lost (awaited_promise 0 SecretDone t.outbox) t undue
+undue-lost s p m answers t from-not-true undue = refl
 
 -- by the refusal of a start or of a challenge the link is lost
 refused-lost : (s : ConnectionState) (p : Phase) (m : AnyMethod) (answers : List Asked) (text : List ℕ) (t : Talk) → refused_in (method_questions s p m) answers ≡ Some text
@@ -113,17 +112,13 @@ flowed-lost n c active (Some promise) t free kept = cc
 
 channel-lost : (s : ConnectionState) (n : ℕ) (c : Channel) (m : AnyMethod) (t : Talk) → is_closing s ≡ false → is_awaited m n t ≡ false → c.state ≢ channel.Closing
     → channel_rule s n c m t ≡ lose (unawaited m n) t
-channel-lost Closing n c m t going free kept = cc
-channel-lost _ n c ChannelOpenOk t going free kept = opened-lost n c (awaited_promise n ChannelOpened t.outbox) t free kept
-channel-lost _ n c ChannelCloseOk t going free kept = closed-lost n c (awaited_promise n ChannelClosed t.outbox) t free kept
-channel-lost _ n c (ChannelClose code text class method) t going free kept = cc
-channel-lost _ n c (ChannelFlow active) t going free kept = cc
-channel-lost _ n c (ChannelFlowOk active) t going free kept = flowed-lost n c active (awaited_promise n FlowDone t.outbox) t free kept
-channel-lost _ n c m t going free kept = unawaited-lost n c.state m t kept
-
-going : (a : Bool) → not a ≡ true → a ≡ false
-going true h = cc
-going false h = refl
+channel-lost Closing n c m t from-not-true free kept = cc
+channel-lost _ n c ChannelOpenOk t from-not-true free kept = opened-lost n c (awaited_promise n ChannelOpened t.outbox) t free kept
+channel-lost _ n c ChannelCloseOk t from-not-true free kept = closed-lost n c (awaited_promise n ChannelClosed t.outbox) t free kept
+channel-lost _ n c (ChannelClose code text class method) t from-not-true free kept = cc
+channel-lost _ n c (ChannelFlow active) t from-not-true free kept = cc
+channel-lost _ n c (ChannelFlowOk active) t from-not-true free kept = flowed-lost n c active (awaited_promise n FlowDone t.outbox) t free kept
+channel-lost _ n c m t from-not-true free kept = unawaited-lost n c.state m t kept
 
 undue-method : (m : AnyMethod) (answers : List Asked) (t : Talk) → is_closing t.state ≡ false → is_of_a_channel m ≡ false → is_due m (is_secret_told t) t.state t.phase ≡ false
     → frame_rule (Method zero m) answers t ≡ lose (InvalidConnectionState t.state) t
@@ -170,33 +165,33 @@ misplaced-method (suc n) m answers e t on h =
 -- the same, where the frame is any
 misplaced-brings : (f : Frame) (answers : List Asked) (e : ErrorKind) (t : Talk) → is_judged t ≡ true → IsMisplaced e f → frame_rule f answers t ≡ lose e t
 misplaced-brings (Method n m) answers e t on h =
-    let free = going (is_closing t.state) on in
+    let free = from-not-true (is_closing t.state) on in
     misplaced-method n m answers e t free h
 misplaced-brings (Raw zero kind bytes) answers e t on h =
-    misplaced-lost (stray_channel_frame kind) t (going (is_closing t.state) on) ∙ ap (λ (k : ErrorKind). lose k t) (sym h)
+    misplaced-lost (stray_channel_frame kind) t (from-not-true (is_closing t.state) on) ∙ ap (λ (k : ErrorKind). lose k t) (sym h)
 misplaced-brings _ answers e t on h = absurd h
 
 unawaited-brings : (f : Frame) (answers : List Asked) (e : ErrorKind) (t : Talk) → is_judged t ≡ true → IsUnawaited e f t → frame_rule f answers t ≡ lose e t
 unawaited-brings (Method (suc n) m) answers e t on h =
-    let free = going (is_closing t.state) on in
+    let free = from-not-true (is_closing t.state) on in
     unawaited-method n m answers t free h.0 h.1 h.2 ∙ ap (λ (k : ErrorKind). lose k t) (sym h.3)
 unawaited-brings _ answers e t on h = absurd h
 
 undue-brings : (f : Frame) (answers : List Asked) (t : Talk) → is_judged t ≡ true → IsUndue f t → frame_rule f answers t ≡ lose (InvalidConnectionState t.state) t
 undue-brings (Method zero m) answers t on h =
-    let free = going (is_closing t.state) on in
+    let free = from-not-true (is_closing t.state) on in
     undue-method m answers t free h.0 h.1
 undue-brings _ answers t on h = absurd h
 
 unheard-brings : (n : ℕ) (f : Frame) (answers : List Asked) (t : Talk) → is_judged t ≡ true → IsOfChannel n f → IsUnheard n t → frame_rule f answers t ≡ lose (InvalidChannel n) t
 unheard-brings (suc n) (Method zero m) answers t on of none = cc
 unheard-brings (suc n) (Method (suc c) m) answers t on of none =
-    let free = going (is_closing t.state) on in
+    let free = from-not-true (is_closing t.state) on in
     let same : suc n ≡ suc c = sym of.0 in
     unheard-method c m answers t free of.1 (subst (λ (x : ℕ). IsUnheard x t) same none) ∙ ap (λ (x : ℕ). lose (InvalidChannel x) t) of.0
 unheard-brings (suc n) (Raw zero kind bytes) answers t on of none = cc
 unheard-brings (suc n) (Raw (suc c) kind bytes) answers t on of none =
-    unheard-raw c kind bytes t (going (is_closing t.state) on) (subst (λ (x : ℕ). IsUnheard x t) (sym of) none) ∙ ap (λ (x : ℕ). lose (InvalidChannel x) t) of
+    unheard-raw c kind bytes t (from-not-true (is_closing t.state) on) (subst (λ (x : ℕ). IsUnheard x t) (sym of) none) ∙ ap (λ (x : ℕ). lose (InvalidChannel x) t) of
 unheard-brings _ f answers t on of none = absurd of
 
 judged-brings : (k : ErrorKind) (f : Frame) (answers : List Asked) (t : Talk) → is_judged t ≡ true → IsJudgedError k f t → frame_rule f answers t ≡ lose k t

@@ -5,7 +5,7 @@ use Rattle.amqp_session.specs.declared.auth.asked.Asked.TheVariants as answer
 use Rattle.amqp_session.specs.Talk.{Talk}
 use Rattle.amqp_session.specs.ConnectionMethods.{started, on_start, challenged, on_secure}
 use Rattle.amqp_session.specs.Ticks.{asks_validity, has_expired, refreshed, refresh, validity_told, secret_due}
-use Rattle.amqp_session.proofs.Cases.{if_case, if_by}
+use Rattle.amqp_types.proofs.Small.{if_case, if_by}
 
 -- nothing is done by other answers than those that were asked for
 pub start-case : (P : Talk → Type 0) (answers : List Asked) (t : Talk) → P t

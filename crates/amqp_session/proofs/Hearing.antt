@@ -23,7 +23,7 @@ use Rattle.amqp_session.specs.Changes.{queue, lose, misplaced}
 use Rattle.amqp_session.specs.Providers.{Exchange, Allows}
 use Rattle.amqp_session.specs.Asking.{paired, Answer, Asks, Hears, Starves}
 use Rattle.amqp_session.specs.Ticks.{is_due, is_missed, missing_heartbeat, heartbeat_due, beat, asks_validity, has_expired, refreshed, refresh, refresh_questions, validity_told, secret_due, secret_questions, link_due, tick, tick_questions}
-use Rattle.amqp_session.proofs.Cases.{if_case, if-true, if-false}
+use Rattle.amqp_types.proofs.Small.{if_case, if-true, if-false}
 use Rattle.amqp_session.proofs.Recovering.{lose-case}
 
 answers-length : (asked : List Question) (answers : List Asked) → Answer asked answers → length answers ≤ length asked

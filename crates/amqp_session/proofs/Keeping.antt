@@ -55,8 +55,7 @@ use Rattle.amqp_session.specs.Writing.{left_in, paid_by, pay, follow, sent, sent
 use Rattle.amqp_session.specs.Negotiation.{grown_capacity}
 use Rattle.amqp_session.specs.Parts.{is_opening, capacity_after}
 use Rattle.amqp_session.proofs.Heard.{start-case, secure-case, secret-case}
-use Rattle.amqp_session.proofs.Cases.{if_case, if_by, if-true, if-false, and-false}
-use Rattle.amqp_legal.proofs.Truths.{and-true}
+use Rattle.amqp_types.proofs.Small.{if_case, if_by, if-true, if-false, and-false, and-true}
 use Rattle.amqp_session.proofs.Recovering.{lose-by, lose-keeps, recovers-open}
 
 -- ---- the present

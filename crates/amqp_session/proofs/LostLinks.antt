@@ -19,7 +19,7 @@ use Rattle.amqp_session.specs.Changes.{queue, fail, lose_by, lose, finish}
 use Rattle.amqp_session.specs.Links.{misread, lost, dropped}
 use Rattle.amqp_session.specs.Violations.{misread_error}
 use Rattle.amqp_session.specs.Ticks.{is_missed, is_due, missing_heartbeat, beat, refreshed, link_at, timed, tick}
-use Rattle.amqp_session.proofs.Cases.{if_case, if-true}
+use Rattle.amqp_types.proofs.Small.{if_case, if-true}
 use Rattle.amqp_session.proofs.Heard.{secret-case}
 use Rattle.amqp_session.proofs.Ascending.{ranked}
 use Rattle.amqp_session.proofs.Recovering.{lose-by, lose-case}

@@ -1,5 +1,5 @@
 -- A frame that is handed out is something new.
-use Rattle.std.proofs.Common.{◌≡◌, ◌∙◌, refl, ap, sym, ℕ, Bool, List, [], ◌∷◌, ◌++◌, true, false, Option, Some, unwrap_or}
+use Rattle.std.proofs.Common.{◌≡◌, ◌∙◌, refl, ap, sym, ℕ, Bool, List, [], ◌∷◌, ◌++◌, true, false, Option, Some, unwrap_or, append-nil}
 use Rattle.std.proofs.lemmas.List.{append_cancel_left}
 use Rattle.amqp_frame.specs.declared.frame.RawKind.{RawKind}
 use Rattle.amqp_session.specs.declared.channels.Channel.{Channel}
@@ -14,13 +14,12 @@ use Rattle.amqp_session.specs.declared.channels.Debt.TheVariants.{Nothing, Owed}
 use Rattle.amqp_promise.specs.declared.state.ChannelState.TheVariants as channel
 use Rattle.amqp_promise.specs.declared.error.ErrorKind.{ErrorKind}
 use Rattle.amqp_session.specs.ChannelMethods.{closed_by_server, confirmed, hand_out, is_select_ok, pass_through}
-use Rattle.amqp_session.proofs.Cases.{if_case}
+use Rattle.amqp_types.proofs.Small.{if_case}
 use Rattle.amqp_session.proofs.Numbered.{put-same}
-use Rattle.amqp_legal.proofs.Truths.{append-none}
 
 -- what is added to a list that stays as it is
 pub none-added : {A : Type 0} (xs ys : List A) → xs ++ ys ≡ xs → ys ≡ []
-none-added xs ys h = append_cancel_left xs ys [] (h ∙ sym (append-none xs))
+none-added xs ys h = append_cancel_left xs ys [] (h ∙ sym (append-nil xs))
 
 -- frames of which one is handed out more
 more-handed : (opened : ℕ) (h : Handed) (handed : List (ℕ × List Handed)) → put opened (unwrap_or (at opened handed) [] ++ h ∷ []) handed ≡ handed → ⊥

@@ -13,13 +13,11 @@ use Rattle.std.proofs.lemmas.Map.Keys.{sorted_head, sorted_tail}
 use Rattle.amqp_outbox.specs.Listed.{Ascends}
 use Rattle.amqp_outbox.proofs.Maps.{without-absent}
 use Rattle.amqp_session.specs.Listed.{at, put, without}
+use Rattle.amqp_types.proofs.Small.{nat_cmp_self}
 
 means : (x y : ℕ) (o : Ordering) → nat_cmp x y ≡ o → MatchOrdering o (x < y) (x ≡ y) (y < x)
 means x y o h =
     let Q : Ordering → Type 0 = λ r. MatchOrdering r (x < y) (x ≡ y) (y < x) in subst Q h (ranks x y)
-
-itself : (n : ℕ) → nat_cmp n n ≡ Equal
-itself n = sym (nat_cmp_is n n Equal refl)
 
 other : (o : Ordering) (m n : ℕ) → nat_cmp m n ≡ o → m ≢ n → is_eq o ≡ false
 other Less m n h ne = refl
@@ -28,7 +26,7 @@ other Greater m n h ne = refl
 
 -- whether a number is the one that is asked for
 pub is_itself : (k n : ℕ) → n ≡ k → is_at (nat_cmp k) n ≡ true
-is_itself k n e = ap (λ m. is_eq (nat_cmp k m)) e ∙ ap is_eq (itself k)
+is_itself k n e = ap (λ m. is_eq (nat_cmp k m)) e ∙ ap is_eq (nat_cmp_self k)
 
 pub is_other : (k n : ℕ) → n ≢ k → is_at (nat_cmp k) n ≡ false
 is_other k n ne = other (nat_cmp k n) k n refl (λ e. ne (sym e))
@@ -36,19 +34,19 @@ is_other k n ne = other (nat_cmp k n) k n refl (λ e. ne (sym e))
 module _ {X : Type 0} where
   -- what stands first is there, and no other number
   pub at-first : (n : ℕ) (x : X) (es : List (ℕ × X)) → at n ((n, x) ∷ es) ≡ Some x
-  at-first n x es = ap (λ o. cond (is_eq o) (Some x) (at n es)) (itself n)
+  at-first n x es = ap (λ o. cond (is_eq o) (Some x) (at n es)) (nat_cmp_self n)
 
   pub at-later : (m n : ℕ) (x : X) (es : List (ℕ × X)) → m ≢ n → at m ((n, x) ∷ es) ≡ at m es
   at-later m n x es ne = ap (λ b. cond b (Some x) (at m es)) (other (nat_cmp m n) m n refl ne)
 
   pub put-same-by : (o : Ordering) (n : ℕ) (x : X) (e : ℕ × X) (es : List (ℕ × X)) → nat_cmp n e.0 ≡ o → at n (put n x es) ≡ Some x
       → at n (match_ordering o ((n, x) ∷ e ∷ es) ((e.0, x) ∷ es) (e ∷ put n x es)) ≡ Some x
-  put-same-by Less n x e es h rest = ap (λ o. cond (is_eq o) (Some x) (at n (e ∷ es))) (itself n)
+  put-same-by Less n x e es h rest = ap (λ o. cond (is_eq o) (Some x) (at n (e ∷ es))) (nat_cmp_self n)
   put-same-by Equal n x e es h rest = ap (λ o. cond (is_eq o) (Some x) (at n es)) h
   put-same-by Greater n x e es h rest = ap (λ o. cond (is_eq o) (Some e.1) (at n (put n x es))) h ∙ rest
 
   pub put-same : (n : ℕ) (x : X) (es : List (ℕ × X)) → at n (put n x es) ≡ Some x
-  put-same n x [] = ap (λ o. cond (is_eq o) (Some x) (at n [])) (itself n)
+  put-same n x [] = ap (λ o. cond (is_eq o) (Some x) (at n [])) (nat_cmp_self n)
   put-same n x (e ∷ es) = put-same-by (nat_cmp n e.0) n x e es refl (put-same n x es)
 
   pub put-other-by : (o : Ordering) (m n : ℕ) (x : X) (e : ℕ × X) (es : List (ℕ × X)) → m ≢ n → nat_cmp n e.0 ≡ o → at m (put n x es) ≡ at m es
@@ -97,13 +95,13 @@ module _ {X : Type 0} (n : ℕ) where
 
   -- what was put there before is gone with it
   pub without-put : (x : X) (es : List (ℕ × X)) → Ascends es → without n (put n x es) ≡ without n es
-  without-put x [] sorted = ap (λ o. cond (is_eq o) [] ((n, x) ∷ [])) (itself n)
+  without-put x [] sorted = ap (λ o. cond (is_eq o) [] ((n, x) ∷ [])) (nat_cmp_self n)
   without-put x (e ∷ es) sorted = by (nat_cmp n e.0) refl (without-put x es (sorted_tail nat_cmp e.0 (keys_of es) sorted)) where
     by : (o : Ordering) → nat_cmp n e.0 ≡ o → without n (put n x es) ≡ without n es
         → without n (match_ordering o ((n, x) ∷ e ∷ es) ((e.0, x) ∷ es) (e ∷ put n x es)) ≡ cond (is_eq o) es (e ∷ without n es)
     by Less is rest =
         let none : at n (e ∷ es) ≡ None = lookup-none (is_at (nat_cmp n)) (e ∷ es) (none_below_head nat_cmp_total n e es sorted is) in
-        ap (λ o. cond (is_eq o) (e ∷ es) ((n, x) ∷ without n (e ∷ es))) (itself n)
+        ap (λ o. cond (is_eq o) (e ∷ es) ((n, x) ∷ without n (e ∷ es))) (nat_cmp_self n)
         ∙ sym (without-absent n (e ∷ es) none) ∙ ap (λ o. cond (is_eq o) es (e ∷ without n es)) is
     by Equal is rest = ap (λ o. cond (is_eq o) es ((e.0, x) ∷ without n es)) is
     by Greater is rest = ap (λ o. cond (is_eq o) (put n x es) (e ∷ without n (put n x es))) is ∙ ap (λ ys. e ∷ ys) rest

@@ -10,7 +10,7 @@ use Rattle.amqp_promise.specs.Kinds.{can_be_recovered}
 use Rattle.amqp_session.specs.Recovery.{next_delay, was_up, recovery_delay, rejected_all, reconnect}
 use Rattle.amqp_session.specs.Changes.{fail, lose_by, lose}
 use Rattle.amqp_session.specs.ConnectionMethods.{reopen, reopen_each}
-use Rattle.amqp_session.proofs.Cases.{if_case}
+use Rattle.amqp_types.proofs.Small.{if_case}
 
 -- by whether the session recovers
 pub lose-by : (P : Talk → Type 0) (e : ErrorKind) (t : Talk) → ((delay : ℕ) → recovery_delay e t ≡ Some delay → P (reconnect e delay t))

@@ -1,5 +1,5 @@
 -- The channels that are opened again.
-use Rattle.std.proofs.Common.{◌≡◌, ◌≢◌, ◌∙◌, ◌<◌, ◌≤◌, ◌+◌, ap, sym, refl, subst, ℕ, nat_lt, nat_le, ◌==◌, ◌||◌, if◌then◌else◌, Bool, true, false, cond, List, [], ◌∷◌, ◌++◌, length, Some, None, arith}
+use Rattle.std.proofs.Common.{◌≡◌, ◌≢◌, ◌∙◌, ◌<◌, ◌≤◌, ◌+◌, ap, sym, refl, subst, ℕ, nat_lt, nat_le, ◌==◌, ◌||◌, if◌then◌else◌, Bool, true, false, cond, List, [], ◌∷◌, ◌++◌, length, Some, None, arith, append-nil}
 use Rattle.std.specs.Prelude.{filter, map}
 use Rattle.std.specs.List.{AllByRecursion}
 use Rattle.std.specs.Map.{keys_of}
@@ -17,7 +17,7 @@ use Rattle.amqp_session.specs.Memory.{MakesNothing}
 use Rattle.amqp_session.specs.ConnectionMethods.{connected, reopen, reopen_each, on_open_ok}
 use Rattle.amqp_session.specs.Reopening.{listed_after, agreed, numbers_after, open_item, reopened, reopened_each, is_among}
 use Rattle.amqp_session.proofs.Made.{none-added}
-use Rattle.amqp_legal.proofs.Truths.{append-none, same-number, the-number, other-number}
+use Rattle.amqp_types.proofs.Small.{same-number, the-number, other-number, or-right}
 use Rattle.amqp_session.proofs.Walking.{all-left, without-before}
 
 -- ---- numbers among others
@@ -47,10 +47,6 @@ pub others-after : (n top : ℕ) (es : List (ℕ × Channel)) (m : ℕ) → is_a
 others-after n top es m is same =
     let past = among-all (λ k. n < k) (numbers_after (Some n) top es) m (numbers-past n top es) is in
     absurd (omega (arith, past, same))
-
-or-right : (a b : Bool) → b ≡ true → (a || b) ≡ true
-or-right true b h = refl
-or-right false b h = h
 
 module _ (n : ℕ) (rest ns : List ℕ) (is : ns ≡ n ∷ rest) (m : ℕ) where
   -- what is among the others is among all
@@ -91,7 +87,7 @@ reopened-more (n ∷ ns) q =
 
 -- these frames are said
 pub reopened-control : (ns : List ℕ) (q : Queued) → (reopened_each ns q).control ≡ q.control ++ map open_item ns
-reopened-control [] q = sym (append-none q.control)
+reopened-control [] q = sym (append-nil q.control)
 reopened-control (n ∷ ns) q = reopened-control ns (reopened n q) ∙ append_assoc q.control (open_item n ∷ []) (map open_item ns)
 
 -- ---- in the state of a session
@@ -140,7 +136,7 @@ agreed-append top ds cs = filter-append (λ (e : ℕ × Channel). nat_le e.0 top
 -- those that are left are the agreed ones
 removed-agreed : (top : ℕ) (cs ds : List (ℕ × Channel)) → Ascends (ds ++ cs) → removed top cs (agreed top ds ++ cs) ≡ agreed top (ds ++ cs)
 unfolding removed
-removed-agreed top [] ds sorted = append-none (agreed top ds) ∙ ap (agreed top) (sym (append-none ds))
+removed-agreed top [] ds sorted = append-nil (agreed top ds) ∙ ap (agreed top) (sym (append-nil ds))
 removed-agreed top (c ∷ cs) ds sorted =
     let P : List (ℕ × Channel) → Type 0 = λ es. Ascends es in
     let joined : (ds ++ c ∷ []) ++ cs ≡ ds ++ c ∷ cs = append_assoc ds (c ∷ []) cs in
@@ -151,7 +147,7 @@ removed-agreed top (c ∷ cs) ds sorted =
     by : (b : Bool) → nat_le c.0 top ≡ b
         → (if b then agreed top ds ++ c ∷ cs else without c.0 (agreed top ds ++ c ∷ cs)) ≡ (agreed top ds ++ cond b (c ∷ []) []) ++ cs
     by true h = sym (append_assoc (agreed top ds) (c ∷ []) cs)
-    by false h = without-before top c ds cs sorted ∙ ap (λ es. es ++ cs) (sym (append-none (agreed top ds)))
+    by false h = without-before top c ds cs sorted ∙ ap (λ es. es ++ cs) (sym (append-nil (agreed top ds)))
 
 module _ (t : Talk) (sorted : Ascends t.channels) where
   abbrev top : ℕ

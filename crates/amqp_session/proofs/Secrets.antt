@@ -49,7 +49,7 @@ use Rattle.amqp_session.specs.Parts.{awaits_open_ok}
 use Rattle.amqp_session.specs.Secrets.{HasExpired, is_refresh, renews, refuses, IsSameSecret, IsSameOrNew, KeepsSecret}
 use Rattle.amqp_session.proofs.Heard.{start-case, secure-case}
 use Rattle.amqp_session.proofs.Keeping.{present-keeps, loss-keeps, lost-keeps, failed-keeps, taken-keeps}
-use Rattle.amqp_session.proofs.Cases.{if_case, if_by, if-false}
+use Rattle.amqp_types.proofs.Small.{if_case, if_by, if-false}
 use Rattle.amqp_session.proofs.Recovering.{lose-case, reopened-keeps}
 
 -- ---- frames

@@ -71,7 +71,7 @@ use Rattle.amqp_session.specs.Events.{Noted}
 use Rattle.amqp_session.specs.Answers.{answer_of, take_answer, end_event, without_event, take_event, take_frames}
 use Rattle.amqp_session.specs.Laws.{IsEnded, StaysSound, is_end}
 use Rattle.amqp_session.specs.Sound.{Ascend, AscendFrom, IsSound, fits_link, is_agreed, AllBelow, Finishes, following, goes_on}
-use Rattle.amqp_session.proofs.Cases.{if_case, if_by}
+use Rattle.amqp_types.proofs.Small.{if_case, if_by, and-right, and-left}
 use Rattle.amqp_session.proofs.Heard.{start-case, secure-case, secret-case}
 use Rattle.amqp_session.proofs.Keeping.{sent_among-closed, beats-connected, asks-connected}
 use Rattle.amqp_session.proofs.Recovering.{lose-case, rejected_all-keys}
@@ -443,18 +443,10 @@ sound-closed-rule (Method zero (Blocked reason)) t s = record { link = s.link; r
 sound-closed-rule (Method zero Unblocked) t s = record { link = s.link; room = s.room; acting = s.acting; finish = s.finish; listed = s.listed; promises = s.promises }
 sound-closed-rule f t s = s
 
-acting-open : (a b : Bool) → (a && b) ≡ true → a ≡ true
-acting-open true b h = refl
-acting-open false b h = h
-
-open-acting : (a b : Bool) → (a && b) ≡ true → b ≡ true
-open-acting true b h = h
-open-acting false b h = absurd cc
-
 pub sound-frame : (f : Frame) (answers : List ProviderAnswer) (t : Talk) → IsSound t → IsSound (on_frame f answers t)
 sound-frame f answers t s =
     if_by IsSound (acts t) (frame_rule f answers t) (if hears_on t then closed_rule f t else t)
-    (λ h. sound-rule f answers t (acting-open (is_open t) (is_acting t.input) h) (open-acting (is_open t) (is_acting t.input) h) s)
+    (λ h. sound-rule f answers t (and-left (is_open t) (is_acting t.input) h) (and-right (is_open t) (is_acting t.input) h) s)
     (λ h. if_case IsSound (hears_on t) (closed_rule f t) t (sound-closed-rule f t s) s)
 
 -- ---- links

@@ -11,7 +11,7 @@ use Rattle.amqp_session.specs.Changes.{finish_by}
 use Rattle.amqp_session.specs.Channels.{channel_at}
 use Rattle.amqp_session.specs.Writing.{follow, sent, sent_among}
 use Rattle.amqp_session.specs.Parts.{first_among, after_first, first_sent, after_sent}
-use Rattle.amqp_session.proofs.Cases.{if-true}
+use Rattle.amqp_types.proofs.Small.{if-true}
 use Rattle.amqp_session.proofs.Recovering.{lose-case}
 use Rattle.amqp_session.proofs.Keeping.{pay-keeps, follow-open, sent_among-closed}
 

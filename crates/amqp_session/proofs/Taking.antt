@@ -5,12 +5,8 @@ use Rattle.amqp_session.specs.Listed.{without}
 use Rattle.amqp_session.specs.Talk.{Talk, end_of}
 use Rattle.amqp_session.specs.Answers.{answer_in, answer_of, take_answer}
 use Rattle.amqp_session.specs.Sound.{Ascend, AllBelow}
-use Rattle.amqp_session.proofs.Cases.{if-true, if-false}
+use Rattle.amqp_types.proofs.Small.{if-true, if-false, none-from}
 use Rattle.amqp_session.proofs.Ascending.{at-gone, none-above}
-
-none-from : {A : Type 0} (o : Option A) → is_some o ≡ false → o ≡ None
-none-from None h = refl
-none-from (Some x) h = absurd cc
 
 pub taken-once : (number : ℕ) (t : Talk) → Ascend (keys_of t.promises) → answer_of number (take_answer number t) ≡ None
 taken-once number t sorted = by (is_some (answer_of number t)) refl

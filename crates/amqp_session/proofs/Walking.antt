@@ -1,5 +1,5 @@
 -- The listed channels, as the code goes over them by ascending number.
-use Rattle.std.proofs.Common.{◌≡◌, ◌∙◌, ◌<◌, ◌≤◌, ap, sym, refl, subst, ℕ, nat_lt, nat_le, ◌&&◌, Bool, true, false, cond, List, [], ◌∷◌, ◌++◌, length, Option, Some, None, arith}
+use Rattle.std.proofs.Common.{◌≡◌, ◌∙◌, ◌<◌, ◌≤◌, ap, sym, refl, subst, ℕ, nat_lt, nat_le, ◌&&◌, Bool, true, false, cond, List, [], ◌∷◌, ◌++◌, length, Option, Some, None, arith, append-nil}
 use Rattle.std.specs.Prelude.{filter}
 use Rattle.std.specs.List.{AllByRecursion}
 use Rattle.std.specs.declared.cmp.Ordering.{Ordering}
@@ -21,7 +21,7 @@ use Rattle.amqp_session.specs.Listed.{at, put, without, map_values}
 use Rattle.amqp_session.specs.Recovery.{is_kept_in, reconnecting, kept}
 use Rattle.amqp_session.specs.Reopening.{is_after, listed_after, agreed}
 use Rattle.amqp_session.proofs.Numbered.{is_itself}
-use Rattle.amqp_legal.proofs.Truths.{append-none, is-at-most}
+use Rattle.amqp_types.proofs.Small.{is-at-most, not-below}
 
 -- ---- what holds of each of a list
 
@@ -80,9 +80,6 @@ module _ (e : ℕ × Channel) (ys : List (ℕ × Channel)) where
 is-past : (m n : ℕ) → m < n → nat_lt m n ≡ true
 is-past m n h = grind (arith, nat_tests)
 
-not-past : (m n : ℕ) → n ≤ m → nat_lt m n ≡ false
-not-past m n h = not-below m n h
-
 not-most : (m n : ℕ) → n < m → nat_le m n ≡ false
 not-most m n h = grind (arith, nat_tests)
 
@@ -122,10 +119,10 @@ after-first last e rest (f ∷ fs) sorted is =
           let number : f.0 ≡ e.0 = ap (λ (x : ℕ × Channel). x.0) same in
           others
           (ap (λ n. listed_after (Some n) fs) (sym number) ∙ past-itself f.0 fs past ∙ sym (all-past last f.0 fs after past) ∙ tail)
-          (not-past e.0 f.0 (omega (arith, number)))
+          (not-below e.0 f.0 (omega (arith, number)))
       by false after h before =
           let less : f.0 < e.0 = first-passes (λ (x : ℕ × Channel). f.0 < x.0) (λ (x : ℕ × Channel). is_after last x.0) e fs rest past h in
-          others (before h) (not-past e.0 f.0 (omega (arith, less)))
+          others (before h) (not-below e.0 f.0 (omega (arith, less)))
 
 -- ---- as a range of a map
 
@@ -138,8 +135,8 @@ past-same : (last n : ℕ) → (is_lt (nat_cmp last n) && true) ≡ nat_lt last 
 past-same last n = by (nat_cmp last n) refl where
   by : (o : Ordering) → nat_cmp last n ≡ o → (is_lt o && true) ≡ nat_lt last n
   by Less h = sym (is-past last n (less-from last n h))
-  by Equal h = sym (not-past last n (omega (arith, equal-from last n h)))
-  by Greater h = let less = greater-from last n h in sym (not-past last n (omega (arith, less)))
+  by Equal h = sym (not-below last n (omega (arith, equal-from last n h)))
+  by Greater h = let less = greater-from last n h in sym (not-below last n (omega (arith, less)))
 
 pub range-after : (last : Option ℕ) (es : List (ℕ × Channel)) → entries_between nat_cmp (from_bound last) Unbounded es ≡ listed_after last es
 range-after None es = refl
@@ -168,7 +165,7 @@ module _ (n : ℕ) (ys : List (ℕ × Channel)) where
       ∙ ap (λ zs. e ∷ zs) (without-within xs x before.1)
 
   skip : (e : ℕ × Channel) (es : List (ℕ × Channel)) → e.0 ≤ n → listed_after (Some n) (e ∷ es) ≡ listed_after (Some n) es
-  skip e es h = ap (λ b. cond b (e ∷ listed_after (Some n) es) (listed_after (Some n) es)) (not-past n e.0 h)
+  skip e es h = ap (λ b. cond b (e ∷ listed_after (Some n) es) (listed_after (Some n) es)) (not-below n e.0 h)
 
   after-within : (xs : List (ℕ × Channel)) → Before n xs → Past n ys → listed_after (Some n) (xs ++ ys) ≡ ys
   after-within [] before past = past-itself n ys past
@@ -283,8 +280,8 @@ walked-begin es = record { done = []; rest = es; was = refl; is = refl; left = a
 pub walked-end : (last : Option ℕ) (begun now : List (ℕ × Channel)) → Walked last begun now → listed_after last now ≡ [] → now ≡ kept begun
 walked-end last begun now w none =
     let empty : w.rest ≡ [] = sym w.left ∙ none in
-    let all : begun ≡ w.done = w.was ∙ ap (λ xs. w.done ++ xs) empty ∙ append-none w.done in
-    w.is ∙ ap (λ xs. kept w.done ++ xs) empty ∙ append-none (kept w.done) ∙ ap kept (sym all)
+    let all : begun ≡ w.done = w.was ∙ ap (λ xs. w.done ++ xs) empty ∙ append-nil w.done in
+    w.is ∙ ap (λ xs. kept w.done ++ xs) empty ∙ append-nil (kept w.done) ∙ ap kept (sym all)
 
 kept-append : (xs ys : List (ℕ × Channel)) → kept (xs ++ ys) ≡ kept xs ++ kept ys
 kept-append xs ys =
@@ -362,6 +359,6 @@ module _ (last : Option ℕ) (begun now : List (ℕ × Channel)) (e : ℕ × Cha
         was = was-more;
         is =
             without-now
-            ∙ ap (λ xs. xs ++ others) (sym (kept-append w.done (e ∷ []) ∙ ap (λ xs. kept w.done ++ xs) (kept-nowhere e h) ∙ append-none (kept w.done)));
+            ∙ ap (λ xs. xs ++ others) (sym (kept-append w.done (e ∷ []) ∙ ap (λ xs. kept w.done ++ xs) (kept-nowhere e h) ∙ append-nil (kept w.done)));
         left = left-without;
       }

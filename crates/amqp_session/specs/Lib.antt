@@ -37,10 +37,6 @@ pub mod Causes
 pub mod Sound
 pub mod Laws
 pub mod Secrets
--- The frames of a command, what a frame hands out, and what a faultless server says.
-pub mod CommandFrames
-pub mod HandingOut
-pub mod Faultless
 -- What the contracts of private calls are stated with.
 pub mod Sharing
 pub mod Parts

@@ -11,7 +11,7 @@ use Rattle.amqp_engine.specs.Making.{making}
 use Rattle.amqp_engine.proofs.Offers.{writes-cut}
 use Rattle.amqp_engine.proofs.Applying.{applies-of, applies-over, refused-over, step-starved}
 use Rattle.amqp_engine.proofs.Over.{ended-closed, starve-over}
-use Rattle.amqp_session.proofs.Cases.{if_case, if-false, and-false}
+use Rattle.amqp_types.proofs.Small.{if_case, if-false, and-false}
 use Rattle.amqp_engine.proofs.Cases.{is_before-cut}
 use Rattle.amqp_engine.proofs.Blaming.{blames-then, blames-step, blames-starve, blames-writes}
 use Rattle.amqp_engine.proofs.wire.Wire.apply.Goals as goal

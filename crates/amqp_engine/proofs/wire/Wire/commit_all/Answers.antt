@@ -1,7 +1,7 @@
 use Rattle.std.proofs.Common.{◌≡◌, ◌∙◌, None, ap, sym}
 use Rattle.amqp_session.specs.Writing.{frames_waiting, overlong, end_overlong}
 use Rattle.amqp_engine.specs.Engine.{Engine, with_talk, fitting_next, committed_as, commit_one, commit_all}
-use Rattle.amqp_engine.proofs.Cases.{none-from}
+use Rattle.amqp_types.proofs.Small.{none-from}
 use Rattle.amqp_engine.proofs.Commits.{commits-rest, commits-first, some-fits}
 use Rattle.amqp_engine.proofs.Overlong.{fitting-short}
 use Rattle.amqp_engine.proofs.wire.Wire.commit_all.Goals as goal

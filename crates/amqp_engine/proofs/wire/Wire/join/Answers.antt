@@ -2,7 +2,7 @@ use Rattle.std.proofs.Common.{◌≡◌, ◌∙◌, not, true, length, ap, sym, 
 use Rattle.amqp_session.specs.Talk.{is_open, drops_input}
 use Rattle.amqp_engine.specs.Engine.{Engine}
 use Rattle.amqp_engine.specs.Making.{keeps_unread}
-use Rattle.amqp_legal.proofs.Truths.{and-true}
+use Rattle.amqp_types.proofs.Small.{and-true}
 use Rattle.amqp_engine.proofs.Joining.{has-room}
 use Rattle.amqp_engine.proofs.wire.Wire.join.Goals as goal
 

@@ -11,7 +11,7 @@ use Rattle.amqp_session.specs.Talk.{is_open}
 use Rattle.amqp_engine.specs.Engine.{Engine, front_of, is_more, can_read, read_row, row_questions}
 use Rattle.amqp_engine.specs.Making.{is_whole, RowHears}
 use Rattle.std.proofs.lemmas.List.{append-nil}
-use Rattle.amqp_session.proofs.Cases.{on-err}
+use Rattle.amqp_types.proofs.Small.{on-err}
 use Rattle.amqp_engine.proofs.Answering.{asks-none}
 use Rattle.amqp_engine.proofs.Blaming.{blames-other}
 use Rattle.amqp_engine.proofs.wire.Wire.read_next.Goals as goal

@@ -3,7 +3,7 @@ use Rattle.amqp_session.specs.Talk.{is_open}
 use Rattle.amqp_session.specs.Providers.{Allows}
 use Rattle.amqp_engine.specs.Engine.{Engine, step_questions, starve_at}
 use Rattle.amqp_engine.specs.Turn.{is_piece, begun, step_part, reading}
-use Rattle.amqp_session.proofs.Cases.{and-false, on-err-then}
+use Rattle.amqp_types.proofs.Small.{and-false, on-err-then}
 use Rattle.amqp_outbox.proofs.Cases.{on-ok}
 use Rattle.amqp_engine.specs.Making.{making, Broke}
 use Rattle.amqp_engine.proofs.Cases.{Reaches-less}

@@ -6,7 +6,8 @@ use Rattle.amqp_engine.specs.Engine.{Engine, commit_all, overlong_next}
 use Rattle.amqp_engine.specs.Turn.{is_all, offered, answered}
 use Rattle.amqp_engine.specs.Making.{making}
 use Rattle.amqp_engine.specs.Play.{waiting}
-use Rattle.amqp_engine.proofs.Cases.{Reaches-less, is_before-Reaches, some-unsent, from-not-false, from-not-true}
+use Rattle.amqp_engine.proofs.Cases.{Reaches-less, is_before-Reaches, some-unsent, from-not-false}
+use Rattle.amqp_types.proofs.Small.{from-not-true}
 use Rattle.amqp_engine.proofs.Offers.{writes-more, writes-last, writes-refused, writes-none, waiting-wrote, answered-starved}
 use Rattle.amqp_engine.proofs.Overlong.{refuses-starved}
 use Rattle.amqp_engine.proofs.wire.Wire.write_all.Goals as goal

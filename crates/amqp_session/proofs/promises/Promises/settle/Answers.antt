@@ -9,7 +9,7 @@ use Rattle.amqp_outbox.specs.Order.{seen}
 use Rattle.amqp_session.specs.Sharing.{waits, suits}
 use Rattle.amqp_session.specs.Parts.{slot_seen}
 use Rattle.amqp_session.specs.Listed.{at}
-use Rattle.amqp_session.proofs.Cases.{if_case}
+use Rattle.amqp_types.proofs.Small.{if_case}
 use Rattle.amqp_session.proofs.Maps.{still-there}
 use Rattle.amqp_session.proofs.Seen.{answer-seen, settle-none}
 use Rattle.amqp_session.proofs.Holding.{counted-set, less-held, seen-held}

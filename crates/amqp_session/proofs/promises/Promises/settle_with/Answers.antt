@@ -9,8 +9,7 @@ use Rattle.amqp_session.specs.declared.promises.Slot.TheVariants.{Shared}
 use Rattle.amqp_session.specs.Listed.{at}
 use Rattle.amqp_session.specs.Sharing.{error_at, waits, suits}
 use Rattle.amqp_session.specs.Parts.{slot_seen}
-use Rattle.amqp_session.proofs.Cases.{if_by}
-use Rattle.amqp_legal.proofs.Truths.{and-right}
+use Rattle.amqp_types.proofs.Small.{if_by, and-right}
 use Rattle.amqp_session.proofs.Maps.{still-there}
 use Rattle.amqp_session.proofs.Seen.{error-seen, answer-where, settle-none}
 use Rattle.amqp_session.proofs.Holding.{few-hold, less-held, counted-set, seen-held}

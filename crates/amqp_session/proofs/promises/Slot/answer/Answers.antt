@@ -4,7 +4,7 @@ use Rattle.std.specs.Option.{option_flatten}
 use Rattle.amqp_session.specs.Sharing.{error_at}
 use Rattle.amqp_session.specs.Answers.{IsRejected}
 use Rattle.amqp_session.specs.Parts.{slot_seen}
-use Rattle.amqp_session.proofs.Cases.{on-err}
+use Rattle.amqp_types.proofs.Small.{on-err}
 use Rattle.amqp_session.proofs.Seen.{error-rejects}
 use Rattle.amqp_session.proofs.promises.Slot.answer.Goals as goal
 

@@ -4,7 +4,7 @@ use Rattle.amqp_session.specs.Talk.{end_of}
 use Rattle.amqp_session.specs.Frames.{questions_in}
 use Rattle.amqp_session.specs.Parts.{login_answers}
 use Rattle.amqp_outbox.proofs.Cases.{on-ok}
-use Rattle.amqp_session.proofs.Cases.{on-err}
+use Rattle.amqp_types.proofs.Small.{on-err}
 use Rattle.amqp_session.proofs.FrameErrors.{refused-by}
 use Rattle.amqp_session.proofs.Hearing.{asked-all}
 use Rattle.amqp_session.proofs.session.Session.hear.Goals as goal

@@ -1,0 +1,9 @@
+-- What a session still has to say of what it was told: what each rule, each command and each frame that is sent leave of it.
+pub mod Bearing
+pub mod Queueing
+pub mod Borne
+pub mod Bearers
+pub mod Commanding
+pub mod Leaving
+-- What each frame hands out.
+pub mod Handing
