@@ -46,7 +46,7 @@ use Rattle.amqp_session.specs.Channels.{channel_at}
 use Rattle.amqp_session.specs.ChannelMethods.{heard_on, unawaited_channel_method, channel_opened, channel_closed, channel_flowed, channel_close_by, awaits_close_ok, remove_channel, remove_unless_owed, on_channel_flow, channel_rule, channel_method_by, channel_method, hand_out, confirmed, is_select_ok, pass_through, raw_by}
 use Rattle.amqp_session.specs.Frames.{is_of_a_channel, method_rule, frame_rule, closed_rule, on_frame}
 use Rattle.amqp_session.specs.Writing.{end_overlong}
-use Rattle.amqp_session.specs.Ticks.{is_missed, is_due, missing_heartbeat, beat, refreshed, refresh_reason, link_at, link_due, timed, tick}
+use Rattle.amqp_session.specs.Ticks.{is_missed, is_heartbeat_due, missing_heartbeat, beat, refreshed, refresh_reason, link_at, link_due, timed, tick}
 use Rattle.amqp_types.proofs.Small.{if_case}
 use Rattle.amqp_session.proofs.Heard.{start-case, secure-case, secret-case}
 use Rattle.amqp_session.proofs.Recovering.{lose-case}
@@ -320,7 +320,7 @@ module _ (cs : List Cmd) (answers_sent : ℕ → Bool) (r : Reading) (left : Lis
   at-beat t h =
       let x : Talk = missing_heartbeat t in
       let after : At x = if_case At (is_missed t) (lose MissingHeartbeatError t) t (at-lose MissingHeartbeatError t h) h in
-      if_case At (is_due x) (record (queue 0 Heartbeat x) { last_write = x.present }) x (at-queue 0 Heartbeat x _ refl refl refl refl refl refl (λ z. z) after) after
+      if_case At (is_heartbeat_due x) (record (queue 0 Heartbeat x) { last_write = x.present }) x (at-queue 0 Heartbeat x _ refl refl refl refl refl refl (λ z. z) after) after
 
   at-refreshed : (said : Result (List ℕ) (List ℕ)) (t : Talk) → At t → At (refreshed said t)
   at-refreshed (Err text) t h = moved t _ refl (λ z. z) (λ n. refl) (λ o. o) (λ b. b) h

@@ -29,7 +29,7 @@ use Rattle.amqp_session.specs.Sound.{is_agreed}
 use Rattle.amqp_legal_rules.proofs.Ready.{pieces-fit}
 use Rattle.amqp_session.specs.Commands.{listen}
 use Rattle.amqp_session.specs.Publishing.{body_pieces, cut}
-use Rattle.amqp_carried_rules.specs.CommandFrames.{AreFramesOf, IsContent, is_send, is_publish, is_sent, answered_command}
+use Rattle.amqp_carried_rules.specs.CommandFrames.{AreFramesOf, AreContentFrames, is_send, is_publish, is_sent, answered_command}
 use Rattle.amqp_session.proofs.Numbered.{put-same, put-other}
 use Rattle.amqp_carried_rules.proofs.Bearing.{command_at, carries, IsOther, each-sent, rejected-is, Reading, closed, Lines, none, other, more, whole, Bears, IsAt, Sized, Ends, AwaitsOthers, Grows, told-made, lines-map, lane-map, groups-map, part-map}
 use Rattle.amqp_carried_rules.proofs.Queueing.{lane-send, groups-push}
@@ -98,7 +98,7 @@ pieces-joined (suc pieces) size (octet ∷ octets) some fit =
     ap (λ k. take size all ++ k) (pieces-joined pieces size (drop size all) some fewer) ∙ take-append-drop size all
 
 -- the frames of a publish are its content
-publish-content : (n : ℕ) (m : OtherMethod) (properties body : List ℕ) (size : ℕ) → 1 ≤ size → IsContent n m properties body (publish_frames n m properties body size)
+publish-content : (n : ℕ) (m : OtherMethod) (properties body : List ℕ) (size : ℕ) → 1 ≤ size → AreContentFrames n m properties body (publish_frames n m properties body size)
 publish-content n m properties body size some =
     record { pieces = body_pieces size body; not_empty = pieces-some (length body) size body some; joined = pieces-joined (length body) size body some (omega arith); frames = refl }
 

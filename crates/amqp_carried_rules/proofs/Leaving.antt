@@ -14,7 +14,7 @@ use Rattle.amqp_session.specs.declared.command.Cmd.TheVariants.{Send, Publish}
 use Rattle.amqp_session.specs.Listed.{at}
 use Rattle.amqp_session.specs.Talk.{Talk}
 use Rattle.amqp_session.specs.Changes.{Promises}
-use Rattle.amqp_session.specs.Writing.{flows, writes, next_item, then_of, then_by, answers, is_close_ok, mark_of}
+use Rattle.amqp_session.specs.Writing.{flows, writes, next_out, then_of, then_by, answers, is_close_ok, mark_of}
 use Rattle.amqp_carried_rules.specs.CommandFrames.{is_send, is_publish, is_raw}
 use Rattle.amqp_carried_rules.proofs.Bearing.{command_at, carries, frames-carry, Reading, floor, closed, waits-map, Lines, none, other, more, whole, Lane, empty, besides, sends, Groups, Ends, Bears, IsAt}
 use Rattle.amqp_carried_rules.proofs.Queueing.{lines-append, group-goes, send-goes, same-grows}
@@ -73,7 +73,7 @@ module _ (cs : List Cmd) (r : Reading) (left : List Item) (ps : Promises) (state
 
 module _ (cs : List Cmd) (answered : ℕ → Bool) (r : Reading) (left : List Item) where
   -- the next frame is committed
-  pub at-commit : (t : Talk) (item : Item) → next_item t ≡ Some item → IsAt cs answered r left t
+  pub at-commit : (t : Talk) (item : Item) → next_out t ≡ Some item → IsAt cs answered r left t
       → IsAt cs answered r (left ++ item ∷ []) (record t { outbox = after_next (flows t) t.outbox; committed = t.committed ++ mark_of item ∷ [] })
   at-commit t item is h =
       record {

@@ -12,7 +12,7 @@ use Rattle.amqp_session.specs.declared.command.Cmd.{Cmd}
 use Rattle.amqp_session.specs.declared.command.Cmd.TheVariants.{Send, Publish}
 use Rattle.amqp_session.specs.Listed.{at}
 use Rattle.amqp_session.specs.Changes.{Promises}
-use Rattle.amqp_carried_rules.specs.CommandFrames.{IsContent, AreFramesOf, is_send, is_publish, is_raw, is_sent}
+use Rattle.amqp_carried_rules.specs.CommandFrames.{AreContentFrames, AreFramesOf, is_send, is_publish, is_raw, is_sent}
 use Rattle.amqp_carried_rules.proofs.Bearing.{command_at, carries, NotIn, Reading, floor, closed, Waits, waits-map, Grows, Lines, none, other, more, whole, Lane, empty, besides, sends, IsGroup, Groups, IsPart, told-made, frames-carry}
 
 -- a send is no publish
@@ -30,12 +30,12 @@ bodies-raw n [] = tt
 bodies-raw n (p ∷ pieces) = (refl, bodies-raw n pieces)
 
 -- all frames of a publish are passed through
-pub content-raw : (n : ℕ) (m : OtherMethod) (x y : List ℕ) (fs : List Frame) → IsContent n m x y fs → AllByRecursion (λ f. is_raw f ≡ true) fs
+pub content-raw : (n : ℕ) (m : OtherMethod) (x y : List ℕ) (fs : List Frame) → AreContentFrames n m x y fs → AllByRecursion (λ f. is_raw f ≡ true) fs
 content-raw n m x y fs h =
     let Q : List Frame → Type 0 = λ fs. AllByRecursion (λ f. is_raw f ≡ true) fs in
     subst Q (sym h.frames) (refl, (refl, bodies-raw n h.pieces))
 
-content-some : (n : ℕ) (m : OtherMethod) (x y : List ℕ) (fs : List Frame) → IsContent n m x y fs → fs ≢ []
+content-some : (n : ℕ) (m : OtherMethod) (x y : List ℕ) (fs : List Frame) → AreContentFrames n m x y fs → fs ≢ []
 content-some n m x y fs h e = let no = sym h.frames ∙ e in cc
 
 module _ (cs : List Cmd) (ps : Promises) where

@@ -15,7 +15,7 @@ use Rattle.amqp_session.specs.Commands.{takes_promise}
 
 -- a method, one header with that method's class, the length of the body and the properties, and the body in frames,
 -- none of which is empty
-pub record IsContent (n : ℕ) (method : OtherMethod) (properties body : List ℕ) (fs : List Frame) : Type 0 where
+pub record AreContentFrames (n : ℕ) (method : OtherMethod) (properties body : List ℕ) (fs : List Frame) : Type 0 where
   pub pieces : List (List ℕ)
   pub not_empty : AllByRecursion (λ piece. 1 ≤ length piece) pieces
   pub joined : flat_map (λ piece. piece) pieces ≡ body
@@ -27,7 +27,7 @@ pub record IsContent (n : ℕ) (method : OtherMethod) (properties body : List �
 -- the frames of a send, and of a publish; other commands have none
 abbrev pub AreFramesOf : Cmd → List Frame → Type 0
 AreFramesOf (Send channel method) fs = fs ≡ Raw channel.id RawMethod (spell_raw_method method) ∷ []
-AreFramesOf (Publish channel method properties body) fs = IsContent channel.id method properties body fs
+AreFramesOf (Publish channel method properties body) fs = AreContentFrames channel.id method properties body fs
 AreFramesOf _ fs = ⊥
 
 -- a command that sends one method

@@ -11,7 +11,7 @@ use Rattle.amqp_session.specs.declared.committed.Mark.{Mark}
 use Rattle.amqp_session.specs.Writing.{mark_of}
 use Rattle.amqp_engine.specs.declared.port.Wrote.{Wrote}
 use Rattle.amqp_engine.specs.declared.port.Wrote.TheVariants.{Took, Failed, NoMemory}
-use Rattle.amqp_engine.specs.Log.{IsWithin}
+use Rattle.amqp_engine.specs.Log.{TookAtMost}
 use Rattle.amqp_engine.specs.Engine.{Engine, commits, commit_one, commit_all, fitting_next, taken_by}
 use Rattle.amqp_session.specs.Writing.{frames_waiting}
 use Rattle.amqp_engine.specs.Turn.{offered}
@@ -159,10 +159,10 @@ agrees-taken false ms unsent s n is a le =
 
 -- ---- an offer
 
-module _ (w : Wrote) (e : Engine) (s : Sending) (a : AgreesOn e s) (fits : IsWithin (length (offered e)) w) where
+module _ (w : Wrote) (e : Engine) (s : Sending) (a : AgreesOn e s) (fits : TookAtMost (length (offered e)) w) where
   within : taken_by w ≤ length (offered e)
   within = by w fits where
-    by : (w : Wrote) → IsWithin (length (offered e)) w → taken_by w ≤ length (offered e)
+    by : (w : Wrote) → TookAtMost (length (offered e)) w → taken_by w ≤ length (offered e)
     by (Took k) h = h
     by Failed h = omega arith
     by NoMemory h = omega arith

@@ -13,7 +13,7 @@ use Rattle.amqp_engine.specs.declared.port.Step.{Step}
 use Rattle.amqp_engine.specs.declared.port.Step.TheVariants.{Linked, LinkFailed, Piece, End, Fault, Room, Tick, Command}
 use Rattle.amqp_engine.specs.Log.{Log}
 use Rattle.amqp_engine.specs.Engine.{Engine, step_piece, step_engine, step_questions, settle, starve_at, rule_at, front_of, is_more, can_write}
-use Rattle.amqp_engine.specs.Turn.{Notes, answers_of, Progress, begun, goes, reading, is_part, is_piece, step_part, part, questioned, IsAnswered, read, drained, AreAnswers, IsCut, starved_after}
+use Rattle.amqp_engine.specs.Turn.{Notes, write_answers, Progress, begun, goes, reading, is_part, is_piece, step_part, part, questioned, IsAnswered, read, drained, AreAnswers, IsCut, starved_after}
 use Rattle.amqp_engine.specs.Making.{making, parts_of, Reaches, Writes, StepHears, AppliesCounted}
 use Rattle.amqp_engine.specs.Tell.{MayCome, TellsOffers, offers_from, turn_of}
 use Rattle.std.proofs.lemmas.List.{append-nil}
@@ -135,7 +135,7 @@ applies-of at step bytes e e' log log' m n before after auths p p' reads w cut l
     let notes : Notes = record w.notes { auths = auths } in
     let here : read (turn_of at step bytes notes) e ≡ p =
     ap (λ (c : Option ℕ). reading (is_piece step) (step_part step bytes (begun at c auths e))) w.cut ∙ reads in
-    let ws = answers_of w.notes in
+    let ws = write_answers w.notes in
     let leads : drained ws (read (turn_of at step bytes notes) e) ≡ p' = ap (drained ws) here ∙ w.leaves in
     let P : Progress → Type 0 = λ x. AreAnswers ws x in
     let Q : Progress → Type 0 = λ x. IsCut p.cut x.done in

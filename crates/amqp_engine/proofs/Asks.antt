@@ -17,7 +17,7 @@ use Rattle.amqp_session.specs.Config.{Options}
 use Rattle.amqp_session.specs.Talk.{Talk, acts}
 use Rattle.amqp_session.specs.Frames.{method_questions, questions_in, frame_questions}
 use Rattle.amqp_faultless.specs.Faultless.{Server, AreSayable, heard_from, said_to}
-use Rattle.amqp_faultless.specs.Faultless.Stage.{Gone}
+use Rattle.amqp_faultless.specs.Faultless.ServerStage.{Gone}
 use Rattle.amqp_faultless.proofs.Greeted.{AreSaid}
 use Rattle.amqp_faultless.proofs.Speaks.{said-keeps}
 use Rattle.amqp_faultless.proofs.Sayings.{said-start, said-challenge}
@@ -25,18 +25,18 @@ use Rattle.amqp_engine.specs.declared.given.Given.{Given}
 use Rattle.amqp_engine.specs.Plan.{bytes_of}
 use Rattle.amqp_engine.specs.Engine.{can_read, read_questions}
 use Rattle.amqp_engine.specs.Turn.{Progress, goes, read_part}
-use Rattle.amqp_engine.specs.Valid.{Spelled, Saying, Theirs, Ours, after_sayings, whole_in, later_than, begun_in, all_bytes, sayings_of}
+use Rattle.amqp_engine.specs.Valid.{SpelledFrame, LinkSaying, Theirs, Ours, after_sayings, whole_in, later_than, begun_in, all_bytes, sayings_of}
 use Rattle.amqp_engine.proofs.Heeding.{flat}
 
 -- ---- none comes once the server is gone
 
 -- what we say leaves it gone
-gone-ours : (fs : List Frame) (rest : List Saying) (s end : Server) → s.stage ≡ Gone → after_sayings (map Ours fs ++ rest) (Some s) ≡ Some end
+gone-ours : (fs : List Frame) (rest : List LinkSaying) (s end : Server) → s.stage ≡ Gone → after_sayings (map Ours fs ++ rest) (Some s) ≡ Some end
     → (s' : Server) × (s'.stage ≡ Gone) × (after_sayings rest (Some s') ≡ Some end)
 gone-ours [] rest s end gone h = (s, gone, h)
 gone-ours (f ∷ fs) rest s end gone h = gone-ours fs rest (said_to f s) end ((said-keeps f s).0 ∙ gone) h
 
-sayings-none : (rest : List Saying) → after_sayings rest None ≡ None
+sayings-none : (rest : List LinkSaying) → after_sayings rest None ≡ None
 sayings-none [] = refl
 sayings-none (x ∷ rest) = refl
 
@@ -46,11 +46,11 @@ gone-none f s is = ap (λ x. heard_from x f s) is ∙ none f where
   none : (f : Frame) → heard_from Gone f s ≡ None
   none f = refl
 
-gone-silent : (f : Frame) (rest : List Saying) (s end : Server) → s.stage ≡ Gone → (after_sayings (Theirs f ∷ rest) (Some s) ≡ Some end) → None ≡ Some end
+gone-silent : (f : Frame) (rest : List LinkSaying) (s end : Server) → s.stage ≡ Gone → (after_sayings (Theirs f ∷ rest) (Some s) ≡ Some end) → None ≡ Some end
 gone-silent f rest s end gone h = sym (ap (after_sayings rest) (gone-none f s gone) ∙ sayings-none rest) ∙ h
 
 -- of a frame that is begun, the last byte comes
-pub gone-ends : (gs : List Given) (sent : List (List Frame)) (n : ℕ) (y : Spelled) (ys : List Spelled) (s end : Server) → s.stage ≡ Gone
+pub gone-ends : (gs : List Given) (sent : List (List Frame)) (n : ℕ) (y : SpelledFrame) (ys : List SpelledFrame) (s end : Server) → s.stage ≡ Gone
     → n < length y.octets → n + length (all_bytes gs) ≡ length (flat (y ∷ ys)) → (after_sayings (sayings_of gs sent n (y ∷ ys)) (Some s) ≡ Some end) → None ≡ Some end
 gone-ends [] sent n y ys s end gone part size h = absurd (let sum = length-append y.octets (flat ys) in omega (arith, part, size, sum))
 gone-ends (g ∷ gs) [] n y ys s end gone part size h =
@@ -88,11 +88,11 @@ gone-ends (g ∷ gs) (fs ∷ sent) n y ys s end gone part size h =
         again x.0 x.1 (grind (arith, nat_tests, is)) x.2
 
 -- what is said later in the step and in those after it
-abbrev pub said_later : List Frame → List Given → List (List Frame) → ℕ → List Spelled → List Saying
+abbrev pub said_later : List Frame → List Given → List (List Frame) → ℕ → List SpelledFrame → List LinkSaying
 said_later fs gs sent n spelled = map Ours fs ++ sayings_of gs sent n spelled
 
 -- after its last frame no frame follows
-pub gone-last : (fs : List Frame) (gs : List Given) (sent : List (List Frame)) (end : Server) (m : ℕ) (ys : List Spelled) (s : Server) → s.stage ≡ Gone
+pub gone-last : (fs : List Frame) (gs : List Given) (sent : List (List Frame)) (end : Server) (m : ℕ) (ys : List SpelledFrame) (s : Server) → s.stage ≡ Gone
     → m + length (all_bytes gs) ≡ length (flat ys)
     → after_sayings (map Theirs (whole_in m ys) ++ said_later fs gs sent (begun_in m ys) (later_than m ys)) (Some s) ≡ Some end → ys ≡ []
 gone-last fs gs sent end m [] s gone size h = refl

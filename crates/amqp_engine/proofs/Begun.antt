@@ -7,18 +7,18 @@ use Rattle.amqp_frame.specs.FrameReading.{front}
 use Rattle.amqp_frame.specs.Frames.{FrameOf}
 use Rattle.amqp_frame.proofs.FrontLaws.{front_again, within_all}
 use Rattle.amqp_types.proofs.Small.{if-false, at-most}
-use Rattle.amqp_engine.specs.Valid.{Spelled, AreSpelled, whole_in, later_than, begun_in}
+use Rattle.amqp_engine.specs.Valid.{SpelledFrame, AreSpelled, whole_in, later_than, begun_in}
 use Rattle.amqp_frame.proofs.FrontStays.{says-front}
 use Rattle.amqp_engine.proofs.Heeding.{flat}
 
 -- so many octets of the first have come, and not all
-pub record IsPart (n : ℕ) (spelled : List Spelled) : Type 0 where
+pub record IsPart (n : ℕ) (spelled : List SpelledFrame) : Type 0 where
   pub whole : whole_in n spelled ≡ []
   pub later : later_than n spelled ≡ spelled
   pub begun : begun_in n spelled ≡ n
 
 -- so it is of what is left
-pub part-left : (m : ℕ) (spelled : List Spelled) → IsPart (begun_in m spelled) (later_than m spelled)
+pub part-left : (m : ℕ) (spelled : List SpelledFrame) → IsPart (begun_in m spelled) (later_than m spelled)
 part-left m [] = record { whole = refl; later = refl; begun = refl }
 part-left m (x ∷ xs) = by (nat_le (length x.octets) m) refl (part-left (m - length x.octets) xs) where
   by : (b : Bool) → nat_le (length x.octets) m ≡ b → IsPart (begun_in (m - length x.octets) xs) (later_than (m - length x.octets) xs)
@@ -39,7 +39,7 @@ spelled-some f octets spelled =
     ((says-front (length octets)).size octets f (length octets) (ap (λ x. front x (length octets)) (sym (append-nil octets)) ∙ whole)).0
 
 -- nothing has come
-pub part-none : (most agreed : ℕ) (spelled : List Spelled) → AreSpelled most agreed spelled → IsPart 0 spelled
+pub part-none : (most agreed : ℕ) (spelled : List SpelledFrame) → AreSpelled most agreed spelled → IsPart 0 spelled
 part-none most agreed [] h = record { whole = refl; later = refl; begun = refl }
 part-none most agreed (x ∷ xs) h =
     let some = spelled-some x.frame x.octets h.0 in
@@ -51,7 +51,7 @@ part-none most agreed (x ∷ xs) h =
     }
 
 -- where no frame is left, all octets have come
-pub none-left : (m : ℕ) (spelled : List Spelled) → later_than m spelled ≡ [] → length (flat spelled) ≤ m
+pub none-left : (m : ℕ) (spelled : List SpelledFrame) → later_than m spelled ≡ [] → length (flat spelled) ≤ m
 none-left m [] h = omega arith
 none-left m (x ∷ xs) h = by (nat_le (length x.octets) m) refl h (none-left (m - length x.octets) xs) where
   by : (b : Bool) → nat_le (length x.octets) m ≡ b → (if b then later_than (m - length x.octets) xs else x ∷ xs) ≡ []

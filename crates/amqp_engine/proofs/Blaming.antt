@@ -14,8 +14,8 @@ use Rattle.amqp_engine.specs.declared.port.Step.{Step}
 use Rattle.amqp_types.specs.Counts.{Rose}
 use Rattle.amqp_engine.specs.Log.{Log}
 use Rattle.amqp_engine.specs.Engine.{Engine, settle, rule_at, step_engine, read_row}
-use Rattle.amqp_engine.specs.Turn.{Progress, answers_of, drained}
-use Rattle.amqp_engine.specs.Making.{is_whole, joined, Writes, Blames}
+use Rattle.amqp_engine.specs.Turn.{Progress, write_answers, drained}
+use Rattle.amqp_engine.specs.Making.{is_whole, piece_joined, Writes, Blames}
 use Rattle.amqp_engine.specs.Causes.{IsReadError}
 use Rattle.amqp_types.proofs.Small.{if_case}
 use Rattle.amqp_session.proofs.Ends.{Ends}
@@ -64,7 +64,7 @@ blames-starve at x x' m n same =
 -- writes
 pub blames-writes : (p q : Progress) (log log' : Option Log) (count count' m n : ℕ) → Writes p q log log' count count' → Blames p.engine.talk q.engine.talk m n
 blames-writes p q log log' count count' m n w =
-    let ws = answers_of w.notes in
+    let ws = write_answers w.notes in
     subst (λ (r : Progress). Blames p.engine.talk r.engine.talk m n) w.leaves
     (blames-ends (WritesError ws p) p.engine.talk (drained ws p).engine.talk m n (λ text e. e) (ends-drained ws p))
 
@@ -75,7 +75,7 @@ blames-piece at t x x' m n settled told =
     let moved : end_of (piece u) ≡ end_of u = if_case (λ (y : Talk). end_of y ≡ end_of u) (is_open u) (record u { last_read = u.present }) u refl refl in
     blames-kept t x'.talk m n (ap (λ (y : Engine). end_of y.talk) settled ∙ ap end_of (settle-talk x) ∙ ap end_of told ∙ moved ∙ present-keeps end_of at t (λ k. refl))
 
-pub blames-joined : (bytes : List ℕ) (x x' : Engine) (m n : ℕ) → x' ≡ joined bytes x → Blames x.talk x'.talk m n
+pub blames-joined : (bytes : List ℕ) (x x' : Engine) (m n : ℕ) → x' ≡ piece_joined bytes x → Blames x.talk x'.talk m n
 blames-joined bytes x x' m n same =
     blames-kept x.talk x'.talk m n (ap (λ (y : Engine). end_of y.talk) same ∙ joined-keeps (λ (y : Engine). end_of y.talk) (λ y more. refl) bytes x)
 

@@ -35,10 +35,10 @@ use Rattle.amqp_engine.specs.declared.port.Wrote.TheVariants.{Took, Failed, NoMe
 use Rattle.amqp_engine.specs.Log.{on_last}
 use Rattle.amqp_engine.specs.Plan.{at_most_64}
 use Rattle.amqp_engine.specs.Engine.{Engine, begin, with_talk, rule_at, settle, step_engine, step_questions, front_of, can_read, read_row, read_badly, commit_all, overlong_next, ended_overlong, refuse_overlong, took, wrote}
-use Rattle.amqp_engine.specs.Turn.{Turn, answers_of, Progress, asks, wants_ask, begun, goes, part, questioned, is_part, is_piece, step_part, reads, read_part, reading, offered, answered, offer_part, drained, is_all, read, written, applied, turn, turns, starved_after, IsTurn, AreTurns}
+use Rattle.amqp_engine.specs.Turn.{Turn, write_answers, Progress, asks, wants_ask, begun, goes, part, questioned, is_part, is_piece, step_part, reads, read_part, reading, offered, answered, offer_part, drained, is_all, read, after_writes, applied, turn, turns, starved_after, IsTurn, AreTurns}
 use Rattle.amqp_engine.specs.Sending.{Sending, offer_sending, offers_sending, step_sending, turn_sending, nothing_sent}
 use Rattle.amqp_engine.specs.Exchange.{Event, Heard, Said, heard_in, heard_by, heard_of, said_of, step_exchange, turn_exchange, exchange_from, exchange}
-use Rattle.amqp_engine.specs.Carried.{IsWithin, none, kept, left_out, raw_frames, joined, frame_of, CameIn}
+use Rattle.amqp_engine.specs.Carried.{IsSubsequence, none, kept, left_out, raw_frames, concatenated, frame_of, CameIn}
 use Rattle.amqp_engine.specs.Account.{heard_frame, IsNew, account}
 use Rattle.amqp_types.proofs.Small.{if_case, if-false, and-false}
 use Rattle.amqp_carried_rules.proofs.Handing.{AreHanded, as_pairs, Hands, IsSameHanded, hands-none, frame-hands, command-handed, present-handed, linked-handed, failed-handed, piece-handed, lost-handed, tick-handed, misread-handed, taken-handed, overlong-handed, starve-handed, present-hands_out}
@@ -220,9 +220,9 @@ starved-handed (Some j) at e = starve-handed (present_at at e.talk) ∙ present-
 applied-hands : (u : Turn) (e : Engine) → Hands (handed_by (heard_of u e)) e.talk (applied u e).talk
 applied-hands u e =
     let r = read u e in
-    let after = (written u e).engine in
+    let after = (after_writes u e).engine in
     let hs = handed_by (heard_of u e) in
-    let done : Hands hs e.talk after.talk = hands-after hs e.talk r.engine.talk after.talk (read-hands u e) (drained-handed (answers_of u.notes) r) in
+    let done : Hands hs e.talk after.talk = hands-after hs e.talk r.engine.talk after.talk (read-hands u e) (drained-handed (write_answers u.notes) r) in
     if_case (λ (x : Engine). Hands hs e.talk x.talk) (has_ended e.talk) after (starved_after u.notes.starved u.at after) done
     (hands-after hs e.talk after.talk (starved_after u.notes.starved u.at after).talk done (starved-handed u.notes.starved u.at after))
 
@@ -233,10 +233,10 @@ turn-hands u e = hands-before (handed_by (heard_of u (asks e))) e.talk (asks e).
 
 -- of these events: what was handed out is within the frames that are passed through
 abbrev IsReadIn : List Event → Type 0
-IsReadIn events = IsWithin (map (λ h. frame_of h.1) (as_pairs (handed_by events))) (raw_frames (heard_frames events))
+IsReadIn events = IsSubsequence (map (λ h. frame_of h.1) (as_pairs (handed_by events))) (raw_frames (heard_frames events))
 
 -- within two lists, one after the other
-within-append : {A : Type 0} {ws xs ys zs : List A} → IsWithin ws xs → IsWithin ys zs → IsWithin (ws ++ ys) (xs ++ zs)
+within-append : {A : Type 0} {ws xs ys zs : List A} → IsSubsequence ws xs → IsSubsequence ys zs → IsSubsequence (ws ++ ys) (xs ++ zs)
 within-append none more = more
 within-append (kept h) more = kept (within-append h more)
 within-append (left_out h) more = left_out (within-append h more)
@@ -250,11 +250,11 @@ read-append first later h k =
     ap (λ x. map frame (as_pairs x)) (flat_map-append handed_in first later) ∙ ap (map frame) (map-append _ a b) ∙ map-append frame (as_pairs a) (as_pairs b) in
     let frames : raw_frames (heard_frames (first ++ later)) ≡ raw_frames (heard_frames first) ++ raw_frames (heard_frames later) =
     ap raw_frames (flat_map-append heard_frame first later) ∙ filter-append is_raw (heard_frames first) (heard_frames later) in
-    subst (λ (x : List Frame). IsWithin (map frame (as_pairs (handed_by (first ++ later)))) x) (sym frames)
-    (subst (λ (x : List Frame). IsWithin x (raw_frames (heard_frames first) ++ raw_frames (heard_frames later))) (sym handed) (within-append h k))
+    subst (λ (x : List Frame). IsSubsequence (map frame (as_pairs (handed_by (first ++ later)))) x) (sym frames)
+    (subst (λ (x : List Frame). IsSubsequence x (raw_frames (heard_frames first) ++ raw_frames (heard_frames later))) (sym handed) (within-append h k))
 
 channel-read : (o : Option Channel) (n : ℕ) (kind : RawKind) (bytes : List ℕ)
-    → IsWithin (map (λ h. frame_of h.1) (as_pairs (handed_of o (record { channel = n; kind = kind; bytes = bytes })))) (Raw n kind bytes ∷ [])
+    → IsSubsequence (map (λ h. frame_of h.1) (as_pairs (handed_of o (record { channel = n; kind = kind; bytes = bytes })))) (Raw n kind bytes ∷ [])
 channel-read None n kind bytes = left_out none
 channel-read (Some c) n kind bytes = kept none
 
@@ -271,7 +271,7 @@ frame-read (Raw (suc n) kind bytes) t = by (acts t)
 
     by : (b : Bool) → IsReadIn (Heard (Raw (suc n) kind bytes) (if b then hs else []) ∷ [])
     by true =
-        subst (λ (x : List HandedOut). IsWithin (map (λ h. frame_of h.1) (as_pairs x)) (Raw (suc n) kind bytes ∷ [])) (sym (append-nil hs))
+        subst (λ (x : List HandedOut). IsSubsequence (map (λ h. frame_of h.1) (as_pairs x)) (Raw (suc n) kind bytes ∷ [])) (sym (append-nil hs))
         (channel-read (heard_on t.state (channel_at (suc n) t)) (suc n) kind bytes)
     by false = left_out none
 
@@ -374,29 +374,29 @@ offers-length (w ∷ ws) p ss =
 
 -- more events on the last link are more events
 joined-last : (more : List Event) (before : List (List Event)) (events : List Event)
-    → joined (before ++ (events ++ more) ∷ []) ≡ joined (before ++ events ∷ []) ++ more
+    → concatenated (before ++ (events ++ more) ∷ []) ≡ concatenated (before ++ events ∷ []) ++ more
 joined-last more before events =
     let own : List Event → List Event = λ xs. xs in
-    flat_map-append own before ((events ++ more) ∷ []) ∙ ap (λ x. joined before ++ x) (append-nil (events ++ more))
-    ∙ sym (append_assoc (joined before) events more)
-    ∙ ap (λ x. x ++ more) (ap (λ x. joined before ++ x) (sym (append-nil events)) ∙ sym (flat_map-append own before (events ∷ [])))
+    flat_map-append own before ((events ++ more) ∷ []) ∙ ap (λ x. concatenated before ++ x) (append-nil (events ++ more))
+    ∙ sym (append_assoc (concatenated before) events more)
+    ∙ ap (λ x. x ++ more) (ap (λ x. concatenated before ++ x) (sym (append-nil events)) ∙ sym (flat_map-append own before (events ∷ [])))
 
 joined-on_last : (heard said : List Event) (xs : List (List Event))
-    → (xs ≡ []) ⊎ (joined (on_last (λ events. events ++ heard ++ said) xs) ≡ joined xs ++ (heard ++ said))
+    → (xs ≡ []) ⊎ (concatenated (on_last (λ events. events ++ heard ++ said) xs) ≡ concatenated xs ++ (heard ++ said))
 joined-on_last heard said xs =
     elim (last-or xs) [
       | inl same ↦ inl same
       | inr l ↦
-          inr (ap (λ ys. joined (on_last (λ events. events ++ heard ++ said) ys)) l.2 ∙ ap joined (on_last-append (λ events. events ++ heard ++ said) l.0 l.1)
-          ∙ ap (λ x. joined (l.0 ++ x ∷ [])) (append_assoc l.1 heard said) ∙ joined-last (heard ++ said) l.0 l.1
-          ∙ ap (λ ys. joined ys ++ (heard ++ said)) (sym l.2))
+          inr (ap (λ ys. concatenated (on_last (λ events. events ++ heard ++ said) ys)) l.2 ∙ ap concatenated (on_last-append (λ events. events ++ heard ++ said) l.0 l.1)
+          ∙ ap (λ x. concatenated (l.0 ++ x ∷ [])) (append_assoc l.1 heard said) ∙ joined-last (heard ++ said) l.0 l.1
+          ∙ ap (λ ys. concatenated ys ++ (heard ++ said)) (sym l.2))
     ]
 
 -- a new link has no events
-step-joined : (step : Step) (e : Engine) (xs : List (List Event)) → joined (step_exchange step e xs) ≡ joined xs
+step-joined : (step : Step) (e : Engine) (xs : List (List Event)) → concatenated (step_exchange step e xs) ≡ concatenated xs
 step-joined Linked e xs =
-    if_case (λ (ys : List (List Event)). joined ys ≡ joined xs) (is_asked e.talk) (xs ++ [] ∷ []) xs
-    (flat_map-append (λ x. x) xs ([] ∷ []) ∙ append-nil (joined xs)) refl
+    if_case (λ (ys : List (List Event)). concatenated ys ≡ concatenated xs) (is_asked e.talk) (xs ++ [] ∷ []) xs
+    (flat_map-append (λ x. x) xs ([] ∷ []) ∙ append-nil (concatenated xs)) refl
 step-joined LinkFailed e xs = refl
 step-joined (Piece n) e xs = refl
 step-joined End e xs = refl
@@ -439,13 +439,13 @@ step-more (Command c) e xs = omega arith
 record Came (e : Engine) (ss : List Sending) (xs : List (List Event)) : Type 0 where
   pub sent : Sends e ss
   pub links : length xs ≡ length ss
-  pub handed : AreHanded (as_pairs (handed_by (joined xs))) e.talk.handed
-  pub read : IsReadIn (joined xs)
+  pub handed : AreHanded (as_pairs (handed_by (concatenated xs))) e.talk.handed
+  pub read : IsReadIn (concatenated xs)
 
 -- what is known of what was sent, through a turn
 turn-sent : (u : Turn) (e : Engine) (ss : List Sending) → IsTurn u e → Sends e ss → Sends (turn u e) (turn_sending u e ss)
 turn-sent u e ss may h =
-    subst (λ (x : List Sending). Sends (turn u e) x) (offers-same (answers_of u.notes) (read u (asks e)) (step_sending u.step (asks e) ss))
+    subst (λ (x : List Sending). Sends (turn u e) x) (offers-same (write_answers u.notes) (read u (asks e)) (step_sending u.step (asks e) ss))
     (lifting.lift-turn (List Sending) sends.asking sends.stepping sends.offering Sends (λ b. Sends) Sends
     (lifting.simply (List Sending) sends.asking sends.stepping sends.offering Sends sends.small) u e ss may h)
 
@@ -460,11 +460,11 @@ none-open e ss h few =
 -- a link has more events, or nothing was heard
 record Grown (xs : List (List Event)) (heard : List Event) (ys : List (List Event)) : Type 0 where
   pub later : List Event
-  pub joins : joined ys ≡ joined xs ++ later
+  pub joins : concatenated ys ≡ concatenated xs ++ later
   pub handed : handed_by later ≡ handed_by heard
   pub read : IsReadIn later
 
-grown-by : (heard : List Event) (items : List Item) (xs xs' : List (List Event)) → joined xs' ≡ joined xs → (xs' ≡ [] → heard ≡ []) → IsReadIn heard
+grown-by : (heard : List Event) (items : List Item) (xs xs' : List (List Event)) → concatenated xs' ≡ concatenated xs → (xs' ≡ [] → heard ≡ []) → IsReadIn heard
     → Grown xs heard (on_last (λ events. events ++ heard ++ map Said items) xs')
 grown-by heard items xs xs' same none_heard are_read =
     let more : List Event = heard ++ map Said items in
@@ -473,7 +473,7 @@ grown-by heard items xs xs' same none_heard are_read =
           record {
             later = [];
             joins =
-                ap (λ ys. joined (on_last (λ events. events ++ heard ++ map Said items) ys)) no_link ∙ sym (ap joined no_link) ∙ same ∙ sym (append-nil (joined xs));
+                ap (λ ys. concatenated (on_last (λ events. events ++ heard ++ map Said items) ys)) no_link ∙ sym (ap concatenated no_link) ∙ same ∙ sym (append-nil (concatenated xs));
             handed = sym (ap handed_by (none_heard no_link));
             read = none;
           }
@@ -504,18 +504,18 @@ turn-came : (u : Turn) (e : Engine) (ss : List Sending) (xs : List (List Event))
 turn-came u e ss xs may h =
     let a = asks e in
     let g = grown u e ss xs h in
-    let before = handed_by (joined xs) in
+    let before = handed_by (concatenated xs) in
     let later = handed_by (heard_of u a) in
-    let pairs : as_pairs (handed_by (joined (turn_exchange u e ss xs))) ≡ as_pairs before ++ as_pairs later =
-    ap (λ x. as_pairs (handed_by x)) g.joins ∙ ap as_pairs (flat_map-append handed_in (joined xs) g.later ∙ ap (λ x. before ++ x) g.handed)
+    let pairs : as_pairs (handed_by (concatenated (turn_exchange u e ss xs))) ≡ as_pairs before ++ as_pairs later =
+    ap (λ x. as_pairs (handed_by x)) g.joins ∙ ap as_pairs (flat_map-append handed_in (concatenated xs) g.later ∙ ap (λ x. before ++ x) g.handed)
     ∙ map-append _ before later in
     record {
       sent = turn-sent u e ss may h.sent;
       links =
           on_last-length (λ events. events ++ heard_of u a ++ said_of u e ss) (step_exchange u.step a xs)
-          ∙ step-length u.step a ss xs h.links ∙ sym (offers-length (answers_of u.notes) (read u a) (step_sending u.step a ss));
+          ∙ step-length u.step a ss xs h.links ∙ sym (offers-length (write_answers u.notes) (read u a) (step_sending u.step a ss));
       handed = subst (λ (x : List (ℕ × Handed)). AreHanded x (turn u e).talk.handed) (sym pairs) (turn-hands u e (as_pairs before) h.handed);
-      read = subst IsReadIn (sym g.joins) (read-append (joined xs) g.later h.read g.read);
+      read = subst IsReadIn (sym g.joins) (read-append (concatenated xs) g.later h.read g.read);
     }
 
 -- and so do turns
@@ -527,9 +527,9 @@ turns-came (u ∷ us) e ss xs may h = turns-came us (turn u e) (turn_sending u e
 -- ---- the law
 
 -- the frames that were heard on all links are those of all their events
-joined-map : (xs : List (List Event)) → joined (map (flat_map heard_frame) xs) ≡ heard_frames (joined xs)
+joined-map : (xs : List (List Event)) → concatenated (map (flat_map heard_frame) xs) ≡ heard_frames (concatenated xs)
 joined-map [] = refl
-joined-map (x ∷ xs) = ap (λ fs. heard_frames x ++ fs) (joined-map xs) ∙ sym (flat_map-append heard_frame x (joined xs))
+joined-map (x ∷ xs) = ap (λ fs. heard_frames x ++ fs) (joined-map xs) ∙ sym (flat_map-append heard_frame x (concatenated xs))
 
 -- a new session has no link, and handed nothing out
 new-quiet : (t : Talk) → IsNew t → (is_open t ≡ false) × (t.handed ≡ [])
@@ -550,9 +550,9 @@ came-from t us quiet empty may =
     } in
     let c = turns-came us e [] [] may begins in
     record {
-      handed = as_pairs (handed_by (joined (exchange t us)));
+      handed = as_pairs (handed_by (concatenated (exchange t us)));
       each = c.1.handed;
-      read = subst (λ (fs : List Frame). IsWithin (map (λ h. frame_of h.1) (as_pairs (handed_by (joined (exchange t us))))) (raw_frames fs)) (sym (joined-map (exchange t us))) c.1.read;
+      read = subst (λ (fs : List Frame). IsSubsequence (map (λ h. frame_of h.1) (as_pairs (handed_by (concatenated (exchange t us))))) (raw_frames fs)) (sym (joined-map (exchange t us))) c.1.read;
     }
 
 -- what was handed out was read, once each and in order

@@ -43,11 +43,11 @@ use Rattle.amqp_engine.proofs.Lifting.{stays-step}
 use Rattle.amqp_engine.specs.Tell.{log_turn, log_stepped}
 use Rattle.amqp_engine.specs.Sending.{Sending, nothing_sent, step_sending, frames, frames_sent, turn_sending, sendings, sendings_from}
 use Rattle.amqp_session.specs.Providers.{Exchange}
-use Rattle.amqp_faultless.specs.Faultless.{Server, Stage, silent, AreSayable}
-use Rattle.amqp_faultless.specs.Faultless.Stage.{Gone}
+use Rattle.amqp_faultless.specs.Faultless.{Server, ServerStage, silent, AreSayable}
+use Rattle.amqp_faultless.specs.Faultless.ServerStage.{Gone}
 use Rattle.amqp_engine.specs.Play.{played_turn_of, played_turn, played_turns, replayed, AreAnswered, IsPlayed}
 use Rattle.amqp_engine.specs.Exchange.{said_of}
-use Rattle.amqp_engine.specs.Valid.{Spelled, Theirs, Ours, AreSpelled, IsShort, IsTimely, IsLinkedOnce, MomentsRise, EndsWithBytes, Valid, after_sayings, whole_in, later_than, begun_in, all_bytes, said_frame, sent_by_turns, sayings_of, last_piece, agreed_limit, agreed_frame_max, agreed_heartbeat, answered_in, RunsValid}
+use Rattle.amqp_engine.specs.Valid.{SpelledFrame, Theirs, Ours, AreSpelled, IsShort, IsTimely, IsLinkedOnce, MomentsRise, EndsWithBytes, Valid, after_sayings, whole_in, later_than, begun_in, all_bytes, said_frame, sent_by_turns, sayings_of, last_piece, agreed_limit, agreed_frame_max, agreed_heartbeat, answered_in, RunsValid}
 use Rattle.amqp_engine.proofs.Follows.{new-fresh}
 use Rattle.amqp_engine.proofs.Heeding.{flat}
 use Rattle.amqp_engine.proofs.Voicing.{IsClear}
@@ -116,7 +116,7 @@ module _ (t : Talk) (options : Options) (whole : List Turn) (timely : IsTimely t
   -- the turns of the steps that are left end the session Closed
   abbrev GoesOver : List Given → Type 0
   GoesOver gs =
-      (answers : List Asked) (e : Engine) (a : Log) (before : List Turn) (moment : ℕ) (s : Server) (x : Sending) (spelled : List Spelled)
+      (answers : List Asked) (e : Engine) (a : Log) (before : List Turn) (moment : ℕ) (s : Server) (x : Sending) (spelled : List SpelledFrame)
       → whole ≡ before ++ played_turns (length gs) answers e a → Stands t options before moment s x e → IsOn gs a.plan
       → AllByRecursion (λ (g : Given). IsShort g.what) gs → MomentsRise moment gs → AreAnswered (played_turns (length gs) answers e a) e
       → AreSayable options (answered_in (played_turns (length gs) answers e a))
@@ -350,7 +350,7 @@ valid-over t (g ∷ gs) answers new answered v =
         let tail : (gs ≡ []) ⊎ EndsWithBytes gs = ends-tail g gs v.last in
         let I : List ℕ → Type 0 = λ bs. IsPart (length bs) v.spelled in
         let B : List ℕ → Type 0 = λ bs. bs ++ all_bytes gs ≡ flat v.spelled in
-        let L : Stage → Type 0 = λ st. AreSpelled (limit_at agreed st) agreed v.spelled in
+        let L : ServerStage → Type 0 = λ st. AreSpelled (limit_at agreed st) agreed v.spelled in
         let W : List ℕ → Type 0 = λ bs. after_sayings (sayings_of gs sent (length bs) v.spelled) (Some r.server) ≡ Some end in
         let S : List Sending → Type 0 = λ ss. Awaits agreed gs (sent_by_turns vs (turn u e0) ss) end r.server (turn u e0) v.spelled in
         let awaits : Awaits agreed gs sent end r.server (turn u e0) v.spelled =

@@ -9,14 +9,14 @@ use Rattle.amqp_session.specs.declared.committed.Mark.{Mark}
 use Rattle.amqp_session.specs.Writing as writing
 use Rattle.amqp_session.specs.Writing.{flows, frames_waiting, mark_of}
 use Rattle.amqp_session.proofs.Finishing.{next-first}
-use Rattle.amqp_engine.specs.Engine.{Engine, commit_one, committed_as, commits, fitting_next}
+use Rattle.amqp_engine.specs.Engine.{Engine, commit_one, committed_with_bytes, commits, fitting_next}
 use Rattle.amqp_engine.specs.Play.{waiting}
 
 -- where no frame fits, nothing more is committed
 pub commits-rest : (n : ℕ) (e : Engine) → fitting_next e ≡ None → commits n e ≡ e
 commits-rest zero e h = refl
 commits-rest (suc n) e h =
-    let same : commit_one e ≡ e = ap (λ o. committed_as o e) h in
+    let same : commit_one e ≡ e = ap (λ o. committed_with_bytes o e) h in
     ap (commits n) same ∙ commits-rest n e h
 
 -- each frame has bytes
@@ -27,7 +27,7 @@ encoding-some (Raw channel kind payload) = omega arith
 encoding-some Heartbeat = omega arith
 
 -- where nothing is unsent afterwards, nothing was committed
-pub committed-none : (o : Option Item) (e : Engine) → length (committed_as o e).unsent ≡ 0 → committed_as o e ≡ e
+pub committed-none : (o : Option Item) (e : Engine) → length (committed_with_bytes o e).unsent ≡ 0 → committed_with_bytes o e ≡ e
 committed-none None e h = refl
 committed-none (Some item) e h = absurd (omega (arith, encoding-some item.frame, length-append e.unsent (encoding item.frame)))
 
@@ -47,7 +47,7 @@ with_frame (Some item) e =
       unsent = e.unsent ++ encoding item.frame;
     }
 
-committed_as-is : (o : Option Item) (e : Engine) → fitting_next e ≡ o → committed_as o e ≡ with_frame o e
+committed_as-is : (o : Option Item) (e : Engine) → fitting_next e ≡ o → committed_with_bytes o e ≡ with_frame o e
 committed_as-is None e h = refl
 committed_as-is (Some item) e h =
     ap (λ (x : Option Item). record e { talk = writing.committed_as x e.talk; unsent = e.unsent ++ encoding item.frame }) h

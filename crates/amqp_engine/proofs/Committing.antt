@@ -30,14 +30,14 @@ use Rattle.amqp_session.specs.Ticks.{tick}
 use Rattle.amqp_session.specs.Commands.{command}
 use Rattle.amqp_session.specs.Answers.{answer_of, take_answer, take_event}
 use Rattle.amqp_session.specs.Listed.{without}
-use Rattle.amqp_session.specs.Writing.{frames_waiting, taken, flows, next_item, mark_of, fitting, end_overlong}
+use Rattle.amqp_session.specs.Writing.{frames_waiting, taken, flows, next_out, mark_of, fitting, end_overlong}
 use Rattle.amqp_engine.specs.declared.port.Step.{Step}
 use Rattle.amqp_engine.specs.declared.port.Step.TheVariants.{Linked, LinkFailed, Piece, End, Fault, Room, Tick, Command}
 use Rattle.amqp_engine.specs.declared.port.Wrote.{Wrote}
 use Rattle.amqp_engine.specs.declared.port.Wrote.TheVariants.{Took, Failed, NoMemory}
 use Rattle.amqp_engine.specs.Log.{on_last}
 use Rattle.amqp_engine.specs.Engine.{Engine, with_talk, rule_at, step_engine, step_linked, step_piece, front_of, read_badly, read_row, settle, wrote, took, commit_one, commits, commit_all, fitting_next, overlong_next, ended_overlong, can_write}
-use Rattle.amqp_engine.specs.Turn.{Turn, answers_of, Progress, asks, wants_ask, is_piece, offer_part, answered, read, applied, IsApplied}
+use Rattle.amqp_engine.specs.Turn.{Turn, write_answers, Progress, asks, wants_ask, is_piece, offer_part, answered, read, applied, IsApplied}
 use Rattle.amqp_engine.specs.Sending.{Sending, nothing_sent, frames, offer_sending, offers_sending, step_sending, committed_in, committed_before}
 use Rattle.amqp_engine.specs.Saying.{applied_sending}
 use Rattle.amqp_types.proofs.Small.{if_case, if-true, if-false, and-true, and-left, all-push}
@@ -68,7 +68,7 @@ pub record Rules (T : Cmd → Type 0) (L : List Frame → Type 0) (I : Talk → 
   -- the header will fit
   pub room : (t : Talk) → I t → 8 ≤ t.capacity
   pub linked : (t : Talk) → is_asked t ≡ true → I t → P (linked t) []
-  pub commit : (t : Talk) (fs : List Frame) (item : Item) → next_item t ≡ Some item → P t fs
+  pub commit : (t : Talk) (fs : List Frame) (item : Item) → next_out t ≡ Some item → P t fs
       → P (record t { outbox = after_next (flows t) t.outbox; committed = t.committed ++ mark_of item ∷ [] }) (fs ++ item.frame ∷ [])
   pub asked : Keeps I P asked
   pub moment : (at : ℕ) → Keeps I P (present_at at)
@@ -345,7 +345,7 @@ module _ (T : Cmd → Type 0) (L : List Frame → Type 0) (I : Talk → Type 0) 
   commit-at : (o : Option Item) (e : Engine) (fs : List Frame) → fitting_next e ≡ o → P e.talk fs → P (with_frame o e).talk (fs ++ frames (option_to_list o))
   commit-at None e fs h p =
       let Q : List Frame → Type 0 = λ x. P e.talk x in subst Q (sym (append-nil fs)) p
-  commit-at (Some item) e fs h p = k.commit e.talk fs item (fitting-some (e.talk.capacity - length e.unsent) (next_item e.talk) item h) p
+  commit-at (Some item) e fs h p = k.commit e.talk fs item (fitting-some (e.talk.capacity - length e.unsent) (next_out e.talk) item h) p
 
   commits-at : (n : ℕ) (e : Engine) (fs : List Frame) → P e.talk fs → P (commits n e).talk (fs ++ frames (committed_in n e))
   commits-at zero e fs p =
@@ -517,6 +517,6 @@ module _ (T : Cmd → Type 0) (L : List Frame → Type 0) (I : Talk → Type 0) 
       let x : Story = record { sendings = ss; told = [] } in
       let y : Story = applied_on Story story_asked story_stepped story_offering u e x in
       let known : Known (applied u e) y = lift-applied Story story_asked story_stepped story_offering Known Written Known kept-small u e x running may (λ none. h) in
-      let is = offers-story (answers_of u.notes) (read u e) (story_stepped u.at u.step u.bytes e x) in
+      let is = offers-story (write_answers u.notes) (read u e) (story_stepped u.at u.step u.bytes e x) in
       let Q : Story → Type 0 = λ z. AllByRecursion T z.told → Kept false (applied u e).talk z.sendings in
       (subst Q is known) (one-told u.step told)

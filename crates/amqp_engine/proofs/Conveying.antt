@@ -20,7 +20,7 @@ use Rattle.amqp_session.proofs.Keeping.{stays-command}
 use Rattle.amqp_carried_rules.proofs.Bearing.{Reading, IsAt, none, empty, besides}
 use Rattle.amqp_carried_rules.proofs.Commanding.{grows-more, one-more, at-command}
 use Rattle.amqp_carried_rules.proofs.Queueing.{same-grows}
-use Rattle.amqp_engine.specs.Carried.{raw_frames, joined}
+use Rattle.amqp_engine.specs.Carried.{raw_frames, concatenated}
 use Rattle.amqp_engine.specs.Sending.{Sending, nothing_sent, frames, frames_sent}
 use Rattle.amqp_engine.proofs.History.{past-flow, past-grows}
 use Rattle.amqp_engine.proofs.Departing.{IsTornBelow, IsOver, AreOver, over-map, IsKnown}
@@ -85,7 +85,7 @@ known-grows cs c answered r before sofar fresh k =
       kept = k.kept;
       now = k.now;
       over = over-map cs (cs ++ c ∷ []) answered answered r.publishes r.publishes (omega arith) (grows-more cs c) (λ n d told s below. refl) before k.kept k.over;
-      past = past-grows cs c answered r (joined k.kept ++ k.now) fresh k.past;
+      past = past-grows cs c answered r (concatenated k.kept ++ k.now) fresh k.past;
       unclosed = elim k.unclosed [
         | inl e ↦ inl e
         | inr e ↦
@@ -157,8 +157,8 @@ renew-over : (cs : List Cmd) (answered : ℕ → Bool) (r : Reading) (n : ℕ) (
     → r.sends ≤ suc (length cs) → n ≤ suc (length cs) → (r.part ≡ []) ⊎ IsTornBelow cs answered n r.part → IsRenewed cs answered (before ++ sofar ∷ [])
 renew-over cs answered r n before sofar k le low low' torn =
     let r' : Reading = record { part = []; sends = r.sends; publishes = n } in
-    let flow : joined k.kept ++ k.now ≡ joined (k.kept ++ k.now ∷ []) ++ [] =
-    ap (λ fs. joined k.kept ++ fs) (sym (append-nil k.now)) ∙ sym (flat_map-append (λ xs. xs) k.kept (k.now ∷ [])) ∙ sym (append-nil (joined (k.kept ++ k.now ∷ []))) in
+    let flow : concatenated k.kept ++ k.now ≡ concatenated (k.kept ++ k.now ∷ []) ++ [] =
+    ap (λ fs. concatenated k.kept ++ fs) (sym (append-nil k.now)) ∙ sym (flat_map-append (λ xs. xs) k.kept (k.now ∷ [])) ∙ sym (append-nil (concatenated (k.kept ++ k.now ∷ []))) in
     record {
       reading = r';
       part = refl;
@@ -169,7 +169,7 @@ renew-over cs answered r n before sofar k le low low' torn =
         over =
             over-push cs answered n before k.kept sofar k.now (over-map cs cs answered answered r.publishes n le (same-grows cs) (λ m d told s below. refl) before k.kept k.over)
             (record { part = r.part; frames = k.split; torn = torn });
-        past = past-flow cs answered r r' (joined k.kept ++ k.now) _ (omega arith) le flow k.past;
+        past = past-flow cs answered r r' (concatenated k.kept ++ k.now) _ (omega arith) le flow k.past;
         unclosed = inl refl;
         split = refl;
       };
@@ -210,7 +210,7 @@ renew cs answered r before sofar links k low (inr is) =
         kept = k.kept;
         now = [];
         over = k.over;
-        past = past-flow cs answered r r' (joined k.kept ++ k.now) (joined k.kept ++ []) (omega arith) (omega arith) (ap (λ fs. joined k.kept ++ fs) nothing) k.past;
+        past = past-flow cs answered r r' (concatenated k.kept ++ k.now) (concatenated k.kept ++ []) (omega arith) (omega arith) (ap (λ fs. concatenated k.kept ++ fs) nothing) k.past;
         unclosed = inl refl;
         split = refl;
       };

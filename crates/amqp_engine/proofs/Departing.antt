@@ -25,7 +25,7 @@ use Rattle.amqp_carried_rules.proofs.Queueing.{content-raw, open-before, same-gr
 use Rattle.amqp_carried_rules.proofs.Borne.{floor-send, floor-publish}
 use Rattle.amqp_carried_rules.proofs.Bearers.{moved, at-finish}
 use Rattle.amqp_carried_rules.proofs.Leaving.{answer-promise, raw-then, lines-from, lane-from, groups-from}
-use Rattle.amqp_engine.specs.Carried.{raw_frames, joined}
+use Rattle.amqp_engine.specs.Carried.{raw_frames, concatenated}
 use Rattle.amqp_engine.proofs.History.{marked, marked-here, marked-other, Past, past-flow, past-whole}
 
 -- ---- links
@@ -63,7 +63,7 @@ pub record IsKnown (cs : List Cmd) (answered : ℕ → Bool) (r : Reading) (befo
   pub kept : List (List Frame)
   pub now : List Frame
   pub over : AreOver cs answered r.publishes before kept
-  pub past : Past cs answered r (joined kept ++ now)
+  pub past : Past cs answered r (concatenated kept ++ now)
   pub unclosed : (r.part ≡ []) ⊎ IsOpenAt cs answered r
   pub split : sofar ≡ now ++ r.part
 
@@ -295,7 +295,7 @@ sent-on cs answered r before sofar i left m t is opened h known = by b.lines whe
       } in
       let A : Then → Type 0 = λ th. IsAt cs answered' r' left (follow th t0) in
       let raw : raw_frames (f ∷ []) ≡ f ∷ [] = ap (λ b. cond b (f ∷ []) []) x in
-      let kept = joined known.kept in
+      let kept = concatenated known.kept in
       let split : sofar ++ raw_frames (f ∷ []) ≡ (known.now ++ fs) ++ r'.part =
       ap (λ gs. sofar ++ gs) raw ∙ ap (λ gs. gs ++ f ∷ []) known.split ∙ append_assoc known.now r.part (f ∷ [])
       ∙ sym (append-nil (known.now ++ fs)) ∙ ap (λ gs. (known.now ++ fs) ++ gs) (sym (closed-part c k r fs w.frames)) in

@@ -14,9 +14,9 @@ use Rattle.amqp_engine.specs.declared.port.Wrote.{Wrote}
 use Rattle.amqp_engine.specs.declared.port.Wrote.TheVariants.{Took}
 use Rattle.amqp_engine.specs.Log.{Log, log_write}
 use Rattle.amqp_engine.specs.Engine.{Engine, commit_all, overlong_next, ended_overlong, refuse_overlong, can_write, took}
-use Rattle.amqp_engine.specs.Turn.{Notes, Progress, answers_of, goes, offered, offer_part, closing, is_all, drained}
+use Rattle.amqp_engine.specs.Turn.{Notes, Progress, write_answers, goes, offered, offer_part, closing, is_all, drained}
 use Rattle.amqp_engine.specs.Sending.{Sending, items_sent, committed_before, offer_sending, offers_sending}
-use Rattle.amqp_engine.specs.Play.{no_notes, noted, played_writes}
+use Rattle.amqp_engine.specs.Play.{no_notes, answer_noted, played_writes}
 use Rattle.amqp_engine.specs.Exchange.{Said, sending_or, last_sending}
 use Rattle.amqp_engine.specs.Valid.{said_frame}
 use Rattle.amqp_engine.proofs.Sent.{on_last-append}
@@ -45,7 +45,7 @@ module _ (Short : Server → Sending → Engine → Type 0) (moment : ℕ) (fits
 
   module _ (xs : List Sending) where
     abbrev Drains : Progress → Server → Sending → Notes → Type 0
-    Drains p s x m = Drained p (drained (answers_of m) p) s (answers_of m) xs x
+    Drains p s x m = Drained p (drained (write_answers m) p) s (write_answers m) xs x
 
     nothing-more : (p : Progress) (s : Server) (x : Sending) → IsSound p.engine.talk → Short s x p.engine → IsClear p.engine → x.sent ≡ length x.committed → IsMet s p.engine.talk
         → Drains p s x no_notes
@@ -77,33 +77,33 @@ module _ (Short : Server → Sending → Engine → Type 0) (moment : ℕ) (fits
         let Q : Wrote → Type 0 = λ y.
         Drains p s x
         (if can_write p.engine
-        then noted y (if is_all y k then played_writes n (offer_part y p) (log_write (offered p.engine) y a) else no_notes)
+        then answer_noted y (if is_all y k then played_writes n (offer_part y p) (log_write (offered p.engine) y a) else no_notes)
         else no_notes) in
         let whole : (k == k) ≡ true = same-number k in
         let D : Notes → Type 0 = Drains p s x in
-        let N : Notes → Type 0 = λ y. Drains p s x (noted w y) in
+        let N : Notes → Type 0 = λ y. Drains p s x (answer_noted w y) in
         let sent = sound-offer p.at k s p.engine sound m in
         let x' : Sending = offer_sending w p.engine x in
         let rest = drained-all n p' (log_write (offered p.engine) w a) (said_all items s) x' early (free-write (offered p.engine) k a free) sent.1
         (kept p.at k s x p.engine early sound m short) (clear-offer p.at s p.engine clear sound m) (offer-sends p.engine x clear all) sent.0 in
-        let S : Server → Type 0 = λ y. IsMet y (drained (answers_of next) p').engine.talk in
-        let H : Server → Type 0 = λ y. Short y rest.sending (drained (answers_of next) p').engine in
-        let E : Progress → Type 0 = λ y. Drained p y s (Took k ∷ answers_of next) xs x in
-        let joined = said_all-append items (said_in (answers_of next) p') s in
-        let here : Drains p s x (noted w next) =
-        subst E (sym (if-true (k == k) (drained (answers_of next) p') p' whole))
+        let S : Server → Type 0 = λ y. IsMet y (drained (write_answers next) p').engine.talk in
+        let H : Server → Type 0 = λ y. Short y rest.sending (drained (write_answers next) p').engine in
+        let E : Progress → Type 0 = λ y. Drained p y s (Took k ∷ write_answers next) xs x in
+        let joined = said_all-append items (said_in (write_answers next) p') s in
+        let here : Drains p s x (answer_noted w next) =
+        subst E (sym (if-true (k == k) (drained (write_answers next) p') p' whole))
         (record {
           met = subst S (sym joined) rest.met;
           sound = rest.sound;
           clear = rest.clear;
           sending = rest.sending;
-          sent = ap (offers_sending (answers_of next) p') (on_last-append (offer_sending w p.engine) xs x) ∙ rest.sent;
+          sent = ap (offers_sending (write_answers next) p') (on_last-append (offer_sending w p.engine) xs x) ∙ rest.sent;
           all = rest.all;
-          items = rest.items ∙ append_assoc x.committed items (said_in (answers_of next) p');
+          items = rest.items ∙ append_assoc x.committed items (said_in (write_answers next) p');
           short = subst H (sym joined) rest.short;
         }) in
         subst Q (sym (free-answer p.engine a free))
-        (if_case D (can_write p.engine) (noted w (if k == k then next else no_notes)) no_notes (subst N (sym (if-true (k == k) next no_notes whole)) here)
+        (if_case D (can_write p.engine) (answer_noted w (if k == k then next else no_notes)) no_notes (subst N (sym (if-true (k == k) next no_notes whole)) here)
         (nothing-more p s x sound short clear all m))
 
 -- ---- what a turn says

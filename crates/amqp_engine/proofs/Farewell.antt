@@ -24,9 +24,9 @@ use Rattle.amqp_faultless.proofs.FirstAndLast.{leaves-next, finish-sent}
 use Rattle.amqp_engine.specs.declared.port.Wrote.{Wrote}
 use Rattle.amqp_engine.specs.declared.port.Wrote.TheVariants.{Took}
 use Rattle.amqp_engine.specs.Log.{Log, log_write}
-use Rattle.amqp_engine.specs.Engine.{Engine, fitting_next, committed_as, commits, commit_all, overlong_next, can_write, refuse_overlong, took}
-use Rattle.amqp_engine.specs.Turn.{Notes, Progress, answers_of, goes, offered, offer_part, closing, is_all, drained}
-use Rattle.amqp_engine.specs.Play.{no_notes, noted, played_writes, waiting}
+use Rattle.amqp_engine.specs.Engine.{Engine, fitting_next, committed_with_bytes, commits, commit_all, overlong_next, can_write, refuse_overlong, took}
+use Rattle.amqp_engine.specs.Turn.{Notes, Progress, write_answers, goes, offered, offer_part, closing, is_all, drained}
+use Rattle.amqp_engine.specs.Play.{no_notes, answer_noted, played_writes, waiting}
 use Rattle.amqp_engine.proofs.Settling.{settle-talk}
 use Rattle.amqp_engine.proofs.Overlong.{closed-refuses}
 use Rattle.amqp_engine.proofs.Draining.{IsFree, free-answer}
@@ -55,7 +55,7 @@ over-closing p h =
     if_case P (goes p) (record p { engine = refuse_overlong p.engine }) p (subst Q (sym (closed-refuses p.engine (over-shut p.engine.talk h))) h) h
 
 abbrev Ends : Notes → Progress → Type 0
-Ends m p = IsOver (drained (answers_of m) p).engine.talk
+Ends m p = IsOver (drained (write_answers m) p).engine.talk
 
 -- the session has ended already
 over-drained : (n : ℕ) (p : Progress) (a : Log) → IsOver p.engine.talk → Ends (played_writes n p a) p
@@ -91,8 +91,8 @@ module _ (options : Options) (p : Progress) (bye : Goodbye options p) (h : Leave
   abbrev x : Engine
   x = commit_all e
 
-  committed : x ≡ committed_as (Some last) e
-  committed = ap (λ n. commits n e) one-waits ∙ ap (λ o. committed_as o e) fits
+  committed : x ≡ committed_with_bytes (Some last) e
+  committed = ap (λ n. commits n e) one-waits ∙ ap (λ o. committed_with_bytes o e) fits
 
   unsent : x.unsent ≡ encoding close_ok
   unsent = ap (λ (y : Engine). y.unsent) committed ∙ ap (λ bytes. bytes ++ encoding close_ok) clear.bytes
@@ -141,19 +141,19 @@ module _ (options : Options) (p : Progress) (bye : Goodbye options p) (h : Leave
       let w : Wrote = Took k in
       let next : Notes = played_writes n (offer_part w p) (log_write (offered e) w a) in
       let E : Notes → Type 0 = λ m. Ends m p in
-      let Q : Wrote → Type 0 = λ y. Ends (noted y (if is_all y k then played_writes n (offer_part y p) (log_write (offered e) y a) else no_notes)) p in
-      let N : Notes → Type 0 = λ m. Ends (noted w m) p in
+      let Q : Wrote → Type 0 = λ y. Ends (answer_noted y (if is_all y k then played_writes n (offer_part y p) (log_write (offered e) y a) else no_notes)) p in
+      let N : Notes → Type 0 = λ m. Ends (answer_noted w m) p in
       let O : Progress → Type 0 = λ q. IsOver q.engine.talk in
       let whole : (k == k) ≡ true = same-number k in
-      let here : Ends (noted w next) p =
-      subst O (sym (if-true (k == k) (drained (answers_of next) (offer_part w p)) (offer_part w p) whole))
+      let here : Ends (answer_noted w next) p =
+      subst O (sym (if-true (k == k) (drained (write_answers next) (offer_part w p)) (offer_part w p) whole))
       (over-drained n (offer_part w p) (log_write (offered e) w a) (sent-over p.at)) in
       subst E (sym (if-true (can_write e) _ no_notes writes))
       (subst Q (sym (free-answer e a free)) (subst N (sym (if-true (k == k) next no_notes whole)) here))
 
 -- the turn ends the session
 pub farewell : (options : Options) (p : Progress) (a : Log) → Goodbye options p → IsFree a.plan → IsOver p.engine.talk ⊎ Leaves p.engine.talk
-    → IsOver (drained (answers_of (played_writes (waiting p.engine) p a)) p).engine.talk
+    → IsOver (drained (write_answers (played_writes (waiting p.engine) p a)) p).engine.talk
 farewell options p a bye free (inl over) = over-drained (waiting p.engine) p a over
 farewell options p a bye free (inr leaves) =
     let E : ℕ → Type 0 = λ n. Ends (played_writes n p a) p in

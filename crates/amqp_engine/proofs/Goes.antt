@@ -12,7 +12,7 @@ use Rattle.amqp_faultless.specs.Faultless.{Server}
 use Rattle.amqp_session.proofs.Soundness.{sound-commit, sound-present, sound-taken}
 use Rattle.amqp_faultless.proofs.Greeted.{IsMet}
 use Rattle.amqp_faultless.proofs.Speaks.{GoOn, said_all}
-use Rattle.amqp_engine.specs.Engine.{Engine, fitting_next, committed_as, commit_one, commits, commit_all, took}
+use Rattle.amqp_engine.specs.Engine.{Engine, fitting_next, committed_with_bytes, commit_one, commits, commit_all, took}
 use Rattle.amqp_engine.proofs.Settling.{settle-talk}
 use Rattle.amqp_engine.specs.Sending.{committed_before}
 use Rattle.amqp_engine.proofs.SpeaksAll.{met-commit-all}
@@ -33,7 +33,7 @@ sound-goes t sound acting = by t.input acting sound.finish where
 -- what is committed leaves a sound state
 sound-commit-one : (e : Engine) → IsSound e.talk → IsSound (commit_one e).talk
 sound-commit-one e sound = by (fitting_next e) refl where
-  by : (x : Option Item) → fitting_next e ≡ x → IsSound (committed_as x e).talk
+  by : (x : Option Item) → fitting_next e ≡ x → IsSound (committed_with_bytes x e).talk
   by None is = sound
   by (Some i) is = sound-commit _ e.talk sound
 

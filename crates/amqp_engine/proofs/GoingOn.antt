@@ -10,7 +10,7 @@ use Rattle.amqp_session.proofs.Keeping.{stays-command}
 use Rattle.amqp_engine.specs.declared.port.Step.{Step}
 use Rattle.amqp_engine.specs.Log.{Log, log_step}
 use Rattle.amqp_engine.specs.Engine.{Engine, with_talk}
-use Rattle.amqp_engine.specs.Turn.{Turn, answers_of, read, turns, applied, AreTurns, IsApplied, IsTold}
+use Rattle.amqp_engine.specs.Turn.{Turn, write_answers, read, turns, applied, AreTurns, IsApplied, IsTold}
 use Rattle.amqp_engine.specs.Tell.{Runs, Applies, turn_of, offers_of, log_offers, log_turns}
 use Rattle.amqp_engine.specs.Sending.{Sending, step_sending, sendings_from}
 use Rattle.amqp_engine.specs.Saying.{HasSent, new, asked, applies, told, answer_taken, event_taken, frames_taken, applied_sending, TellsLinks, GoesOn, GoesOnce, SpellLegal}
@@ -48,7 +48,7 @@ sends-said e ss (new config) = record { all = tt; last = λ now. cc }
 sends-said e ss (asked {e = e'} h) = sends-asks e' ss (sends-said e' ss h)
 sends-said e ss (applies {e = e'} {ss = ss'} u running may told_step h) =
     let Q : List Sending → Type 0 = λ xs. Sends (applied u e') xs in
-    subst Q (sending.offers-same (answers_of u.notes) (read u e') (step_sending u.step e' ss'))
+    subst Q (sending.offers-same (write_answers u.notes) (read u e') (step_sending u.step e' ss'))
     (lifting.lift-applied (List Sending) sending.asking sending.stepping sending.offering Sends (λ b. Sends) Sends
     (lifting.simply (List Sending) sending.asking sending.stepping sending.offering Sends sending.small) u e' ss' running may (sends-said e' ss' h))
 sends-said e ss (told {e = e'} c may h) = sends-left e' (with_talk (command c) e') ss (leaves-told c e') (sends-said e' ss h)
@@ -100,7 +100,7 @@ told-applied : (u : Turn) (e : Engine) (ss : List Sending) (a : Log) → has_end
     → TellsLinks (applied u e) (applied_sending u e ss) (log_offers (offers_of u e) (log_step u.at u.step u.bytes a))
 told-applied u e ss a running may sends tells =
     let P : Both → Type 0 = λ x. Told (applied u e) x in
-    let k = subst P (telling.offers-same (answers_of u.notes) (read u e) (telling.stepping u.at u.step u.bytes e (ss, a)))
+    let k = subst P (telling.offers-same (write_answers u.notes) (read u e) (telling.stepping u.at u.step u.bytes e (ss, a)))
     (lifting.lift-applied Both telling.asking telling.stepping telling.offering Told (λ b. Told) Told
     (lifting.simply Both telling.asking telling.stepping telling.offering Told telling.small) u e (ss, a) running may
     (record { sends = sends; synced = tells.asked; links = tells.links })) in

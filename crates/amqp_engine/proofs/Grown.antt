@@ -12,7 +12,7 @@ use Rattle.amqp_engine.specs.declared.port.Step.TheVariants.{Linked, LinkFailed,
 use Rattle.amqp_engine.specs.declared.port.Wrote.{Wrote}
 use Rattle.amqp_engine.specs.Log.{on_last}
 use Rattle.amqp_engine.specs.Engine.{Engine, begin, commit_all, taken_by}
-use Rattle.amqp_engine.specs.Turn.{Turn, answers_of, Progress, asks, offer_part, read, turn, turns}
+use Rattle.amqp_engine.specs.Turn.{Turn, write_answers, Progress, asks, offer_part, read, turn, turns}
 use Rattle.amqp_engine.specs.Sending.{Sending, nothing_sent, frames, frames_sent, committed_before, sent_in, offer_sending, offers_sending, step_sending, turn_sending, sendings_from, sendings}
 use Rattle.amqp_engine.proofs.Sent.{on_last-append}
 
@@ -108,5 +108,5 @@ frames-grow (u ∷ us) e ss =
     let next = turn_sending u e ss in
     more-more (all_sent ss) (all_sent next) (all_sent (sendings_from us (turn u e) next))
     (more-more (all_sent ss) (all_sent stepped) (all_sent next)
-    (more-step u.step (asks e) ss) (more-offers (answers_of u.notes) (read u (asks e)) stepped))
+    (more-step u.step (asks e) ss) (more-offers (write_answers u.notes) (read u (asks e)) stepped))
     (frames-grow us (turn u e) next)

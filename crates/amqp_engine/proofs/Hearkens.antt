@@ -12,14 +12,14 @@ use Rattle.amqp_faultless.proofs.Limits.{limit_at}
 use Rattle.amqp_engine.specs.declared.given.Given.{Given}
 use Rattle.amqp_engine.specs.Engine.{can_read, read_questions}
 use Rattle.amqp_engine.specs.Turn.{Progress, goes, read_part, reads}
-use Rattle.amqp_engine.specs.Valid.{Spelled, AreSpelled, Theirs, after_sayings, whole_in, later_than, begun_in, all_bytes}
+use Rattle.amqp_engine.specs.Valid.{SpelledFrame, AreSpelled, Theirs, after_sayings, whole_in, later_than, begun_in, all_bytes}
 use Rattle.amqp_engine.proofs.Heeding.{flat, Heeded, reads-all}
 use Rattle.amqp_engine.proofs.Asks.{said_later, gone-last, asked_in}
 use Rattle.amqp_engine.proofs.OnReading.{GoesOn, Goodbye, enough-read, said-read, kept-read, gives-read}
 
 -- what follows in the step and in those after it is what is said later
 pub hearkens : (options : Options) (agreed moment last : ℕ) (before : List Frame) (fs : List Frame) (gs : List Given) (sent : List (List Frame)) (end : Server)
-    → (spelled : List Spelled) (n : ℕ) (p : Progress) (s : Server) → length p.engine.unread ≤ n → IsMet s p.engine.talk → GoesOn options agreed moment last before n s p
+    → (spelled : List SpelledFrame) (n : ℕ) (p : Progress) (s : Server) → length p.engine.unread ≤ n → IsMet s p.engine.talk → GoesOn options agreed moment last before n s p
     → p.engine.unread ++ all_bytes gs ≡ flat spelled → AreSpelled (limit_at agreed s.stage) agreed spelled
     → after_sayings
     (map Theirs (whole_in (length p.engine.unread) spelled)

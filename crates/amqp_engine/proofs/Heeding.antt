@@ -11,13 +11,13 @@ use Rattle.amqp_session.specs.Changes.{present_at}
 use Rattle.amqp_session.specs.Frames.{frame_questions}
 use Rattle.amqp_session.specs.Negotiation.{frame_limit}
 use Rattle.amqp_faultless.specs.Faultless.{Server, heard_from}
-use Rattle.amqp_faultless.specs.Faultless.Stage.{Gone}
+use Rattle.amqp_faultless.specs.Faultless.ServerStage.{Gone}
 use Rattle.amqp_types.proofs.Small.{if_case, if-true, if-false, and-true, at-most}
 use Rattle.amqp_faultless.proofs.Greeted.{IsMet, IsOver, Leaves, Heard, AreSaid}
 use Rattle.amqp_faultless.proofs.Limits.{limit_at, stage-limit}
 use Rattle.amqp_engine.specs.Engine.{Engine, front_of, is_more, can_read, settle, read_row, read_one}
 use Rattle.amqp_engine.specs.Turn.{Progress, is_before, goes, read_part, reads}
-use Rattle.amqp_engine.specs.Valid.{Spelled, Saying, Theirs, AreSpelled, after_sayings, whole_in, later_than, begun_in}
+use Rattle.amqp_engine.specs.Valid.{SpelledFrame, LinkSaying, Theirs, AreSpelled, after_sayings, whole_in, later_than, begun_in}
 use Rattle.amqp_engine.specs.Making.{keeps_unread}
 use Rattle.amqp_frame.proofs.FrontStays.{says-front}
 use Rattle.amqp_engine.proofs.Reading.{reads-rest, none-read}
@@ -56,15 +56,15 @@ none-front (x ∷ a) b h = absurd cc
 
 -- ---- reading
 
-abbrev pub flat : List Spelled → List ℕ
-flat spelled = flat_map (λ (s : Spelled). s.octets) spelled
+abbrev pub flat : List SpelledFrame → List ℕ
+flat spelled = flat_map (λ (s : SpelledFrame). s.octets) spelled
 
 -- so it stands once all that has come was read: the session is met, what holds while frames are read holds, and it has the beginning of the next frame; or
 -- the server said its last frame
-pub record Heeded (agreed : ℕ) (rest : List ℕ) (later : ℕ → List Spelled → List Saying) (end : Server) (K : ℕ → Server → Progress → Type 0) (G : Progress → Type 0)
-    (p : Progress) (m : ℕ) (spelled : List Spelled) : Type 0 where
+pub record Heeded (agreed : ℕ) (rest : List ℕ) (later : ℕ → List SpelledFrame → List LinkSaying) (end : Server) (K : ℕ → Server → Progress → Type 0) (G : Progress → Type 0)
+    (p : Progress) (m : ℕ) (spelled : List SpelledFrame) : Type 0 where
   pub server : Server
-  pub left : List Spelled
+  pub left : List SpelledFrame
   pub is_left : later_than m spelled ≡ left
   pub begun : ℕ
   pub is_begun : begun_in m spelled ≡ begun
@@ -74,7 +74,7 @@ pub record Heeded (agreed : ℕ) (rest : List ℕ) (later : ℕ → List Spelled
       × AreSpelled (limit_at agreed server.stage) agreed left)
       ⊎ ((server.stage ≡ Gone) × (left ≡ []) × G p × (IsOver p.engine.talk ⊎ Leaves p.engine.talk))
 
-module _ (agreed : ℕ) (later : ℕ → List Spelled → List Saying) (end : Server) (rest : List ℕ) (K : ℕ → Server → Progress → Type 0) (G : Progress → Type 0)
+module _ (agreed : ℕ) (later : ℕ → List SpelledFrame → List LinkSaying) (end : Server) (rest : List ℕ) (K : ℕ → Server → Progress → Type 0) (G : Progress → Type 0)
     (enough : (n : ℕ) (p : Progress) (s : Server) → K n s p → IsMet s p.engine.talk → limit_at agreed s.stage ≤ frame_limit p.engine.talk)
     (said : (n : ℕ) (p : Progress) (s s' : Server) (f : Frame) (size : ℕ) → K (suc n) s p → IsMet s p.engine.talk → front_of p.engine ≡ Whole f size
     → heard_from s.stage f s ≡ Some s' → AreSaid (frame_questions f (present_at p.at p.engine.talk)) p.answers)
@@ -82,18 +82,18 @@ module _ (agreed : ℕ) (later : ℕ → List Spelled → List Saying) (end : Se
     → heard_from s.stage f s ≡ Some s' → IsMet s' (read_part p).engine.talk → K n s' (read_part p))
     (gives : (n : ℕ) (p : Progress) (s s' : Server) (f : Frame) (size : ℕ) → K (suc n) s p → IsMet s p.engine.talk → front_of p.engine ≡ Whole f size
     → heard_from s.stage f s ≡ Some s' → G (read_part p))
-    (ends : (m : ℕ) (ys : List Spelled) (s' : Server) → s'.stage ≡ Gone → m + length rest ≡ length (flat ys)
+    (ends : (m : ℕ) (ys : List SpelledFrame) (s' : Server) → s'.stage ≡ Gone → m + length rest ≡ length (flat ys)
     → after_sayings (map Theirs (whole_in m ys) ++ later (begun_in m ys) (later_than m ys)) (Some s') ≡ Some end → ys ≡ [])
   where
-    abbrev Reads : Progress → ℕ → List Spelled → Type 0
+    abbrev Reads : Progress → ℕ → List SpelledFrame → Type 0
     Reads p m spelled = Heeded agreed rest later end K G p m spelled
 
     -- what remains to be said
-    abbrev Remains : ℕ → List Spelled → Option Server → Type 0
+    abbrev Remains : ℕ → List SpelledFrame → Option Server → Type 0
     Remains m spelled o = after_sayings (map Theirs (whole_in m spelled) ++ later (begun_in m spelled) (later_than m spelled)) o ≡ Some end
 
     -- nothing more can be read
-    rests : (n : ℕ) (p : Progress) (s : Server) (m : ℕ) (spelled : List Spelled) → can_read p.engine ≡ false → whole_in m spelled ≡ [] → later_than m spelled ≡ spelled
+    rests : (n : ℕ) (p : Progress) (s : Server) (m : ℕ) (spelled : List SpelledFrame) → can_read p.engine ≡ false → whole_in m spelled ≡ [] → later_than m spelled ≡ spelled
         → begun_in m spelled ≡ m → length p.engine.unread ≡ m → IsMet s p.engine.talk → K n s p → p.engine.unread ++ rest ≡ flat spelled
         → AreSpelled (limit_at agreed s.stage) agreed spelled → Remains m spelled (Some s) → Reads (reads n p) m spelled
     rests n p s m spelled over none same begun size met k bytes spells remains =
@@ -116,7 +116,7 @@ module _ (agreed : ℕ) (later : ℕ → List Spelled → List Saying) (end : Se
     one-more n p whole can =
         if-true (goes p && can_read p.engine) (reads n (read_part p)) p (and-true (goes p) (can_read p.engine) (ap (λ c. is_before c p.done) whole) can)
 
-    pub reads-all : (spelled : List Spelled) (n : ℕ) (p : Progress) (s : Server) → p.cut ≡ None → length p.engine.unread ≤ n → IsMet s p.engine.talk → K n s p
+    pub reads-all : (spelled : List SpelledFrame) (n : ℕ) (p : Progress) (s : Server) → p.cut ≡ None → length p.engine.unread ≤ n → IsMet s p.engine.talk → K n s p
         → p.engine.unread ++ rest ≡ flat spelled → AreSpelled (limit_at agreed s.stage) agreed spelled → Remains (length p.engine.unread) spelled (Some s)
         → Reads (reads n p) (length p.engine.unread) spelled
     reads-all [] n p s whole fuel met k bytes spells remains =

@@ -9,7 +9,7 @@ use Rattle.amqp_carried_rules.specs.CommandFrames.{AreFramesOf, is_send, is_publ
 use Rattle.amqp_types.proofs.Small.{and-false, and-true, same-number, other-number, and-left, and-right}
 use Rattle.amqp_carried_rules.proofs.Bearing.{command_at, Reading, closed, same-command}
 use Rattle.amqp_carried_rules.proofs.Commanding.{same-below}
-use Rattle.amqp_engine.specs.Carried.{AreSent, none, other, sent, Merges, left, right, joined}
+use Rattle.amqp_engine.specs.Carried.{AreSent, none, other, sent, Merges, left, right, concatenated}
 
 -- a promise more that was answered Sent
 abbrev pub marked : ℕ → (ℕ → Bool) → ℕ → Bool
@@ -114,7 +114,7 @@ pub record Past (cs : List Cmd) (answered : ℕ → Bool) (r : Reading) (flow : 
   pub are_sends : AreSent is_send answered 1 cs sends
   pub are_publishes : AreSent is_publish answered 1 cs publishes
   pub in_turns : Merges sends publishes order
-  pub whole : flow ≡ joined order
+  pub whole : flow ≡ concatenated order
   pub sends_over : (k : ℕ) (c : Cmd) → command_at cs k ≡ Some c → is_send c ≡ true → r.sends ≤ k → answered k ≡ false
   pub publishes_over : (k : ℕ) (c : Cmd) → command_at cs k ≡ Some c → is_publish c ≡ true → r.publishes ≤ k → answered k ≡ false
 
@@ -184,7 +184,7 @@ past-whole cs answered r flow fs (Send a b) k told w p low low' =
           (λ j d m g t q le. p.sends_over m d (told-at cs m j d q g) t (omega (arith, low refl, le))) p.are_sends;
       are_publishes = same-sent is_publish answered (marked k answered) 1 cs p.publishes (λ j d m g t q. marked-other m k answered (apart is_publish cs m k d c (told-at cs m j d q g) told t (λ h. cc))) p.are_publishes;
       in_turns = merges-left fs p.sends p.publishes p.order p.in_turns;
-      whole = ap (λ xs. xs ++ fs) p.whole ∙ ap (λ ys. joined p.order ++ ys) (sym (append-nil fs)) ∙ sym (flat_map-append (λ xs. xs) p.order (fs ∷ []));
+      whole = ap (λ xs. xs ++ fs) p.whole ∙ ap (λ ys. concatenated p.order ++ ys) (sym (append-nil fs)) ∙ sym (flat_map-append (λ xs. xs) p.order (fs ∷ []));
       sends_over = λ n d g t le. marked-other n k answered (λ z. omega (arith, z, le)) ∙ p.sends_over n d g t (omega (arith, low refl, le));
       publishes_over = λ n d g t le. marked-other n k answered (apart is_publish cs n k d c g told t (λ h. cc)) ∙ p.publishes_over n d g t le;
     }
@@ -200,7 +200,7 @@ past-whole cs answered r flow fs (Publish a b x y) k told w p low low' =
           (λ j d m g t q le. p.publishes_over m d (told-at cs m j d q g) t (omega (arith, low' refl, le))) p.are_publishes;
       are_sends = same-sent is_send answered (marked k answered) 1 cs p.sends (λ j d m g t q. marked-other m k answered (apart is_send cs m k d c (told-at cs m j d q g) told t (λ h. cc))) p.are_sends;
       in_turns = merges-right fs p.sends p.publishes p.order p.in_turns;
-      whole = ap (λ xs. xs ++ fs) p.whole ∙ ap (λ ys. joined p.order ++ ys) (sym (append-nil fs)) ∙ sym (flat_map-append (λ xs. xs) p.order (fs ∷ []));
+      whole = ap (λ xs. xs ++ fs) p.whole ∙ ap (λ ys. concatenated p.order ++ ys) (sym (append-nil fs)) ∙ sym (flat_map-append (λ xs. xs) p.order (fs ∷ []));
       publishes_over = λ n d g t le. marked-other n k answered (λ z. omega (arith, z, le)) ∙ p.publishes_over n d g t (omega (arith, low' refl, le));
       sends_over = λ n d g t le. marked-other n k answered (apart is_send cs n k d c g told t (λ h. cc)) ∙ p.sends_over n d g t le;
     }

@@ -15,7 +15,7 @@ use Rattle.amqp_session.specs.Frames.{on_frame}
 use Rattle.amqp_engine.specs.Plan.{at_most_64}
 use Rattle.amqp_engine.specs.Engine.{Engine, rule_at, settle, step_piece, front_of, is_more, can_read, read_row, row_questions, read_one, read_questions, starve_at}
 use Rattle.amqp_engine.specs.Turn.{reads, reading}
-use Rattle.amqp_engine.specs.Making.{making, keeps_unread, IsSettled, joined, Reaches}
+use Rattle.amqp_engine.specs.Making.{making, keeps_unread, IsSettled, piece_joined, Reaches}
 use Rattle.amqp_types.proofs.Small.{if_case, if-true, if-false, and-left, and-right, and-other, from-not-true}
 use Rattle.amqp_engine.proofs.Cases.{from-not-false}
 use Rattle.amqp_engine.proofs.Settling.{settle-talk, settle-kept, settle-bytes}
@@ -24,58 +24,58 @@ use Rattle.amqp_engine.proofs.Reading.{none-read, read_one-shortens, reads-rest,
 
 -- ---- bytes that join
 
-joined-kept : (rest : List ℕ) (e : Engine) → keeps_unread e.talk ≡ true → joined rest e ≡ record e { unread = e.unread ++ rest }
+joined-kept : (rest : List ℕ) (e : Engine) → keeps_unread e.talk ≡ true → piece_joined rest e ≡ record e { unread = e.unread ++ rest }
 joined-kept rest e h = if-true (keeps_unread e.talk) (record e { unread = e.unread ++ rest }) e h
 
-pub joined-over : (rest : List ℕ) (e : Engine) → keeps_unread e.talk ≡ false → joined rest e ≡ e
+pub joined-over : (rest : List ℕ) (e : Engine) → keeps_unread e.talk ≡ false → piece_joined rest e ≡ e
 joined-over rest e h = if-false (keeps_unread e.talk) (record e { unread = e.unread ++ rest }) e h
 
-pub joined-none : (e : Engine) → joined [] e ≡ e
+pub joined-none : (e : Engine) → piece_joined [] e ≡ e
 joined-none e =
     if_case (λ (x : Engine). x ≡ e) (keeps_unread e.talk) (record e { unread = e.unread ++ [] }) e
     (ap (λ bytes. record e { unread = bytes }) (append-nil e.unread)) refl
 
 -- no more than these change
 pub joined-keeps : {A : Type 0} (f : Engine → A) → ((x : Engine) (bytes : List ℕ) → f (record x { unread = bytes }) ≡ f x) → (rest : List ℕ) (e : Engine)
-    → f (joined rest e) ≡ f e
+    → f (piece_joined rest e) ≡ f e
 joined-keeps f h rest e =
     if_case (λ (x : Engine). f x ≡ f e) (keeps_unread e.talk) (record e { unread = e.unread ++ rest }) e (h e (e.unread ++ rest)) refl
 
 -- some of them, and then the others
-pub joined-part : (n : ℕ) (rest : List ℕ) (e : Engine) → joined rest e ≡ joined (drop n rest) (joined (take n rest) e)
+pub joined-part : (n : ℕ) (rest : List ℕ) (e : Engine) → piece_joined rest e ≡ piece_joined (drop n rest) (piece_joined (take n rest) e)
 joined-part n rest e = by (keeps_unread e.talk) refl
   where
-    by : (b : Bool) → keeps_unread e.talk ≡ b → joined rest e ≡ joined (drop n rest) (joined (take n rest) e)
+    by : (b : Bool) → keeps_unread e.talk ≡ b → piece_joined rest e ≡ piece_joined (drop n rest) (piece_joined (take n rest) e)
     by true kept =
         let x : Engine = record e { unread = e.unread ++ take n rest } in
         let bytes : (e.unread ++ take n rest) ++ drop n rest ≡ e.unread ++ rest =
         append_assoc e.unread (take n rest) (drop n rest) ∙ ap (λ (r : List ℕ). e.unread ++ r) (take-append-drop n rest) in
         joined-kept rest e kept ∙ ap (λ bytes. record e { unread = bytes }) (sym bytes)
-        ∙ sym (joined-kept (drop n rest) x kept) ∙ ap (joined (drop n rest)) (sym (joined-kept (take n rest) e kept))
+        ∙ sym (joined-kept (drop n rest) x kept) ∙ ap (piece_joined (drop n rest)) (sym (joined-kept (take n rest) e kept))
     by false over =
-        joined-over rest e over ∙ sym (joined-over (drop n rest) e over) ∙ ap (joined (drop n rest)) (sym (joined-over (take n rest) e over))
+        joined-over rest e over ∙ sym (joined-over (drop n rest) e over) ∙ ap (piece_joined (drop n rest)) (sym (joined-over (take n rest) e over))
 
 -- before they are settled or after
-joined-settle : (rest : List ℕ) (e : Engine) → joined rest (settle e) ≡ settle (record e { unread = e.unread ++ rest })
+joined-settle : (rest : List ℕ) (e : Engine) → piece_joined rest (settle e) ≡ settle (record e { unread = e.unread ++ rest })
 joined-settle rest e = by (keeps_unread e.talk) refl
   where
-    by : (b : Bool) → keeps_unread e.talk ≡ b → joined rest (settle e) ≡ settle (record e { unread = e.unread ++ rest })
+    by : (b : Bool) → keeps_unread e.talk ≡ b → piece_joined rest (settle e) ≡ settle (record e { unread = e.unread ++ rest })
     by true kept =
-        ap (joined rest) (settle-kept e kept) ∙ joined-kept rest e kept ∙ sym (settle-kept (record e { unread = e.unread ++ rest }) kept)
+        ap (piece_joined rest) (settle-kept e kept) ∙ joined-kept rest e kept ∙ sym (settle-kept (record e { unread = e.unread ++ rest }) kept)
     by false over = joined-over rest (settle e) (ap keeps_unread (settle-talk e) ∙ over) ∙ sym (settle-bytes e (e.unread ++ rest) over)
 
 -- a piece that is read on the open link
-pub piece-joined : (at : ℕ) (bytes : List ℕ) (e : Engine) → is_open e.talk ≡ true → step_piece at bytes e ≡ joined bytes (settle (rule_at at piece e))
+pub piece-joined : (at : ℕ) (bytes : List ℕ) (e : Engine) → is_open e.talk ≡ true → step_piece at bytes e ≡ piece_joined bytes (settle (rule_at at piece e))
 piece-joined at bytes e opened =
     let x : Engine = rule_at at piece e in
     if-true (is_open e.talk) (settle (record x { unread = x.unread ++ bytes })) (rule_at at (λ t. t) e) opened ∙ sym (joined-settle bytes x)
 
 -- memory that is refused does not look at them
-pub starved-joined : (at n : ℕ) (rest : List ℕ) (e : Engine) → starve_at at n (joined rest e) ≡ starve_at at n e
+pub starved-joined : (at n : ℕ) (rest : List ℕ) (e : Engine) → starve_at at n (piece_joined rest e) ≡ starve_at at n e
 starved-joined at n rest e = joined-keeps (starve_at at n) (λ x bytes. refl) rest e
 
 -- there are no more with them
-pub joined-size : (rest : List ℕ) (e : Engine) → length (joined rest e).unread ≤ length e.unread + length rest
+pub joined-size : (rest : List ℕ) (e : Engine) → length (piece_joined rest e).unread ≤ length e.unread + length rest
 joined-size rest e =
     if_case (λ (x : Engine). length x.unread ≤ length e.unread + length rest) (keeps_unread e.talk) (record e { unread = e.unread ++ rest }) e
     (omega (arith, length-append e.unread rest)) (omega arith)
@@ -94,7 +94,7 @@ read-kept e settled can = by (keeps_unread e.talk) refl
     by false over = absurd (let none : can_read e ≡ false = over-read e settled over in cc)
 
 row-joined : (at : ℕ) (r : Read) (rest : List ℕ) (answers : List Asked) (e : Engine) → front_of e ≡ r → not (is_more r) ≡ true
-    → read_row at r answers (record e { unread = e.unread ++ rest }) ≡ joined rest (read_row at r answers e)
+    → read_row at r answers (record e { unread = e.unread ++ rest }) ≡ piece_joined rest (read_row at r answers e)
 row-joined at (Whole f n) rest answers e is some =
     let x : Engine = record e { talk = on_frame f answers (present_at at e.talk); unread = drop n e.unread; place = at_most_64 (e.place + n) } in
     let within : n ≤ length e.unread = omega (arith, ((says-front (frame_limit e.talk)).size e.unread f n is).1) in
@@ -111,15 +111,15 @@ row-asks at (Whole f n) rest e = refl
 row-asks at _ rest e = refl
 
 record ReadsAlike (at : ℕ) (rest : List ℕ) (answers : List Asked) (e : Engine) : Type 0 where
-  can : can_read (joined rest e) ≡ true
-  same : read_one at answers (joined rest e) ≡ joined rest (read_one at answers e)
-  questions : read_questions at (joined rest e) ≡ read_questions at e
+  can : can_read (piece_joined rest e) ≡ true
+  same : read_one at answers (piece_joined rest e) ≡ piece_joined rest (read_one at answers e)
+  questions : read_questions at (piece_joined rest e) ≡ read_questions at e
 
 -- what stands at the front stands there with the rest behind it
 read-joined : (at : ℕ) (rest : List ℕ) (answers : List Asked) (e : Engine) → IsSettled e → can_read e ≡ true → ReadsAlike at rest answers e
 read-joined at rest answers e settled can =
     let g : Engine = record e { unread = e.unread ++ rest } in
-    let all : joined rest e ≡ g = joined-kept rest e (read-kept e settled can) in
+    let all : piece_joined rest e ≡ g = joined-kept rest e (read-kept e settled can) in
     let some : not (is_more (front_of e)) ≡ true = and-right (is_open e.talk) (not (is_more (front_of e))) can in
     let front : front_of g ≡ front_of e = (says-front (frame_limit e.talk)).stays e.unread rest (from-not-true (is_more (front_of e)) some) in
     record {
@@ -130,10 +130,10 @@ read-joined at rest answers e settled can =
 
 -- reading goes on after one frame
 pub reading-more : (at : ℕ) (cut : Option ℕ) (rest : List ℕ) (answers : List Asked) (questions : List Question) (e : Engine) (parts : ℕ) → IsSettled e → can_read e ≡ true → Reaches cut (parts + 1)
-    → reading true (making at cut answers questions (joined rest e) parts)
-    ≡ reading true (making at cut (drop (length (read_questions at e)) answers) (questions ++ read_questions at e) (joined rest (read_one at answers e)) (parts + 1))
+    → reading true (making at cut answers questions (piece_joined rest e) parts)
+    ≡ reading true (making at cut (drop (length (read_questions at e)) answers) (questions ++ read_questions at e) (piece_joined rest (read_one at answers e)) (parts + 1))
 reading-more at cut rest answers questions e parts settled can allows =
-    let g = joined rest e in
+    let g = piece_joined rest e in
     let alike = read-joined at rest answers e settled can in
     let less = (read_one-shortens at answers g alike.can).less in
     let m = length g.unread - 1 in
@@ -141,7 +141,7 @@ reading-more at cut rest answers questions e parts settled can allows =
     ap (λ (k : ℕ). reads k (making at cut answers questions g parts)) left ∙ reads-more m at cut answers questions g parts alike.can allows
     ∙ reads-enough m (length (read_one at answers g).unread) (after_read at cut answers questions g parts) (omega (arith, less)) (omega arith)
     ∙ ap (λ (x : Engine). reading true (making at cut (drop (length (read_questions at g)) answers) (questions ++ read_questions at g) x (parts + 1))) alike.same
-    ∙ ap (λ (q : List Question). reading true (making at cut (drop (length q) answers) (questions ++ q) (joined rest (read_one at answers e)) (parts + 1))) alike.questions
+    ∙ ap (λ (q : List Question). reading true (making at cut (drop (length q) answers) (questions ++ q) (piece_joined rest (read_one at answers e)) (parts + 1))) alike.questions
 
 -- and is over where nothing can be read
 reading-over : (at : ℕ) (cut : Option ℕ) (answers : List Asked) (questions : List Question) (e : Engine) (parts : ℕ) → can_read e ≡ false
@@ -161,17 +161,17 @@ pub slice-left : (j : ℕ) (piece : List ℕ) → take (length piece - j) (drop 
 slice-left j piece = take_all (length piece - j) (drop j piece) (omega (arith, length-drop j piece))
 
 -- a part of it has joined, and the others are still to join
-pub part-joined : (n j : ℕ) (piece : List ℕ) (e e' : Engine) → e' ≡ joined (take n (take (length piece - j) (drop j piece))) e
-    → joined (drop j piece) e ≡ joined (drop (j + n) piece) e'
+pub part-joined : (n j : ℕ) (piece : List ℕ) (e e' : Engine) → e' ≡ piece_joined (take n (take (length piece - j) (drop j piece))) e
+    → piece_joined (drop j piece) e ≡ piece_joined (drop (j + n) piece) e'
 part-joined n j piece e e' is =
-    joined-part n (drop j piece) e ∙ ap (joined (drop n (drop j piece))) (sym (is ∙ ap (λ (rest : List ℕ). joined (take n rest) e) (slice-left j piece)))
-    ∙ ap (λ (rest : List ℕ). joined rest e') (drop-drop n j piece)
+    joined-part n (drop j piece) e ∙ ap (piece_joined (drop n (drop j piece))) (sym (is ∙ ap (λ (rest : List ℕ). piece_joined (take n rest) e) (slice-left j piece)))
+    ∙ ap (λ (rest : List ℕ). piece_joined rest e') (drop-drop n j piece)
 
 -- all of it has joined, and was read as far as it goes
 pub all-read : (at : ℕ) (cut : Option ℕ) (answers : List Asked) (questions : List Question) (n : ℕ) (piece : List ℕ) (e : Engine) (parts : ℕ) → n ≡ length piece → can_read e ≡ false
-    → reading true (making at cut answers questions (joined (drop n piece) e) parts) ≡ making at cut answers questions e parts
+    → reading true (making at cut answers questions (piece_joined (drop n piece) e) parts) ≡ making at cut answers questions e parts
 all-read at cut answers questions n piece e parts all none =
     let rest : drop n piece ≡ [] = nil_from_length (drop n piece) (omega (arith, length-drop n piece)) in
-    ap (λ (bytes : List ℕ). reading true (making at cut answers questions (joined bytes e) parts)) rest
+    ap (λ (bytes : List ℕ). reading true (making at cut answers questions (piece_joined bytes e) parts)) rest
     ∙ ap (λ (x : Engine). reading true (making at cut answers questions x parts)) (joined-none e)
     ∙ reading-over at cut answers questions e parts none

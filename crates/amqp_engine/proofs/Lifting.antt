@@ -6,9 +6,9 @@ use Rattle.amqp_session.specs.Talk.{has_ended}
 use Rattle.amqp_engine.specs.declared.port.Step.{Step}
 use Rattle.amqp_engine.specs.declared.port.Step.TheVariants.{Linked, LinkFailed, Piece, End, Fault, Room, Tick, Command}
 use Rattle.amqp_engine.specs.declared.port.Wrote.{Wrote}
-use Rattle.amqp_engine.specs.Log.{IsWithin}
+use Rattle.amqp_engine.specs.Log.{TookAtMost}
 use Rattle.amqp_engine.specs.Engine.{Engine, step_engine, step_questions, can_read, read_one, overlong_next, ended_overlong, refuse_overlong, can_write, starve_at}
-use Rattle.amqp_engine.specs.Turn.{Turn, answers_of, Progress, asks, begun, goes, is_before, part, questioned, is_part, is_piece, step_part, reads, read_part, reading, drain, offer_part, closing, drained, offered, answered, is_all, AreAnswers, read, written, applied, turn, turns, starved_after, IsCut, IsApplied, IsTurn, AreTurns}
+use Rattle.amqp_engine.specs.Turn.{Turn, write_answers, Progress, asks, begun, goes, is_before, part, questioned, is_part, is_piece, step_part, reads, read_part, reading, drain, offer_part, closing, drained, offered, answered, is_all, AreAnswers, read, after_writes, applied, turn, turns, starved_after, IsCut, IsApplied, IsTurn, AreTurns}
 use Rattle.amqp_types.proofs.Small.{if_case, if_by, if-true, if-false, and-left, and-right, and-other}
 use Rattle.amqp_engine.proofs.Over.{asks-running}
 use Rattle.amqp_engine.proofs.Reading.{reads-done, reading-cut}
@@ -67,7 +67,7 @@ module _ (X : Type 0) (ask : Engine → X → X) (stepped : ℕ → Step → Lis
   offers_on (w ∷ ws) p x = offers_on ws (offer_part w p) (offering w p x)
 
   abbrev pub applied_on : Turn → Engine → X → X
-  applied_on u e x = offers_on (answers_of u.notes) (read u e) (stepped u.at u.step u.bytes e x)
+  applied_on u e x = offers_on (write_answers u.notes) (read u e) (stepped u.at u.step u.bytes e x)
 
   abbrev pub turn_on : Turn → Engine → X → X
   turn_on u e x = applied_on u (asks e) (ask e x)
@@ -84,7 +84,7 @@ module _ (X : Type 0) (ask : Engine → X → X) (stepped : ℕ → Step → Lis
     pub piece : (at n : ℕ) (bytes : List ℕ) (answers : List Asked) (e : Engine) (x : X) → has_ended e.talk ≡ false → P e x → R (step_engine at (Piece n) bytes answers e) (stepped at (Piece n) bytes e x)
     pub read : (at : ℕ) (answers : List Asked) (e : Engine) (x : X) → can_read e ≡ true → R e x → R (read_one at answers e) x
     pub heard : (b : Bool) (e : Engine) (x : X) → (b ≡ true → can_read e ≡ false) → R e x → W b e x
-    pub offer : (w : Wrote) (p : Progress) (x : X) → can_write p.engine ≡ true → IsWithin (length (offered p.engine)) w → W true p.engine x → P (answered p.at w p.engine) (offering w p x)
+    pub offer : (w : Wrote) (p : Progress) (x : X) → can_write p.engine ≡ true → TookAtMost (length (offered p.engine)) w → W true p.engine x → P (answered p.at w p.engine) (offering w p x)
     pub rest : (e : Engine) (x : X) → can_write e ≡ false → overlong_next e ≡ None → W true e x → P e x
     pub overlong : (size : ℕ) (e : Engine) (x : X) → overlong_next e ≡ Some size → W true e x → P (ended_overlong (Some size) e) x
     pub less : (b : Bool) (e : Engine) (x : X) → P e x → W b e x
@@ -206,21 +206,21 @@ module _ (X : Type 0) (ask : Engine → X → X) (stepped : ℕ → Step → Lis
     pub lift-applied : (u : Turn) (e : Engine) (x : X) → has_ended e.talk ≡ false → IsApplied u e → P e x → P (applied u e) (applied_on u e x)
     lift-applied u e x running may h =
         let r = read u e in
-        let ws = answers_of u.notes in
+        let ws = write_answers u.notes in
         let y = stepped u.at u.step u.bytes e x in
-        let after = (written u e).engine in
+        let after = (after_writes u e).engine in
         let D : Engine → Type 0 = λ z. P z (applied_on u e x) in
         let is : applied u e ≡ starved_after u.notes.starved u.at after =
         if-false (has_ended e.talk) after (starved_after u.notes.starved u.at after) running in
         subst D (sym is) (elim (lift-read u e x running h) [
           | inl w ↦
               let out : Out (drained ws r) (offers_on ws r y) = lift-drain ws r y may.answers w in
-              lift-starved u.notes.starved u.at (written u e) (applied_on u e x)
+              lift-starved u.notes.starved u.at (after_writes u e) (applied_on u e x)
               (stays-drained (λ (p : Progress). p.cut) (λ f n left qs p. refl) ws r ∙ read-cut u e) out
           | inr t ↦
               let none : ws ≡ [] = stops-none ws r t.1 may.answers in
               let stopped : closing r ≡ r = if-false (goes r) (record r { engine = refuse_overlong r.engine }) r t.1 in
-              let same : written u e ≡ begun u.at u.notes.starved u.notes.auths e = ap (λ vs. drained vs r) none ∙ stopped ∙ t.0 in
+              let same : after_writes u e ≡ begun u.at u.notes.starved u.notes.auths e = ap (λ vs. drained vs r) none ∙ stopped ∙ t.0 in
               let said : applied_on u e x ≡ y = ap (λ vs. offers_on vs r y) none in
               let E : Engine → Type 0 = λ z. P (starved_after u.notes.starved u.at z) (applied_on u e x) in
               let F : X → Type 0 = λ z. P (starve_at u.at 0 e) z in
@@ -242,7 +242,7 @@ module _ (X : Type 0) (ask : Engine → X → X) (stepped : ℕ → Step → Lis
     pub asked : (e : Engine) (x : X) → P e x → P (asks e) (ask e x)
     pub step : (at : ℕ) (step : Step) (bytes : List ℕ) (answers : List Asked) (e : Engine) (x : X) → has_ended e.talk ≡ false → P e x → P (step_engine at step bytes answers e) (stepped at step bytes e x)
     pub read : (at : ℕ) (answers : List Asked) (e : Engine) (x : X) → can_read e ≡ true → P e x → P (read_one at answers e) x
-    pub offer : (w : Wrote) (p : Progress) (x : X) → can_write p.engine ≡ true → IsWithin (length (offered p.engine)) w → P p.engine x → P (answered p.at w p.engine) (offering w p x)
+    pub offer : (w : Wrote) (p : Progress) (x : X) → can_write p.engine ≡ true → TookAtMost (length (offered p.engine)) w → P p.engine x → P (answered p.at w p.engine) (offering w p x)
     pub overlong : (size : ℕ) (e : Engine) (x : X) → overlong_next e ≡ Some size → P e x → P (ended_overlong (Some size) e) x
     pub starve : (at j : ℕ) (e : Engine) (x : X) → P e x → P (starve_at at j e) x
     pub cut : (at : ℕ) (step : Step) (bytes : List ℕ) (e : Engine) (x : X) → has_ended e.talk ≡ false → is_part step e ≡ true → P e x → P (starve_at at 0 e) (stepped at step bytes e x)

@@ -11,7 +11,7 @@ use Rattle.amqp_promise.specs.declared.io_fault.IoFault.TheVariants.{Aborted, Re
 use Rattle.amqp_session.specs.declared.auth.asked.Asked.{Asked as ProviderAnswer}
 use Rattle.amqp_session.specs.Talk.{Talk, acts, is_acting, is_open, is_open_link, is_asked, is_asked_link, is_wanted_link, has_ended, end_of_link}
 use Rattle.amqp_session.specs.Changes.{present_at, queue, lose, finish}
-use Rattle.amqp_session.specs.Ticks.{is_missed, is_due, missing_heartbeat, beat, refreshed, link_at, timed, tick}
+use Rattle.amqp_session.specs.Ticks.{is_missed, is_heartbeat_due, missing_heartbeat, beat, refreshed, link_at, timed, tick}
 use Rattle.amqp_session.specs.Writing.{end_overlong}
 use Rattle.amqp_session.specs.Recovery.{next_delay}
 use Rattle.amqp_session.specs.Links.{asked, asked_link, linked, refused_after, link_failed, piece, lost}
@@ -19,9 +19,9 @@ use Rattle.amqp_engine.specs.declared.port.Step.{Step}
 use Rattle.amqp_engine.specs.declared.port.Step.TheVariants.{Linked, LinkFailed, Piece, End, Fault, Room, Tick, Command}
 use Rattle.amqp_engine.specs.declared.port.Wrote.{Wrote}
 use Rattle.amqp_engine.specs.declared.port.Wrote.TheVariants.{Took, Failed, NoMemory}
-use Rattle.amqp_engine.specs.Log.{Log, on_last, log_ask, log_step, log_write, links_after, asked_after, IsWithin}
+use Rattle.amqp_engine.specs.Log.{Log, on_last, log_ask, log_step, log_write, links_after, asked_after, TookAtMost}
 use Rattle.amqp_engine.specs.Engine.{Engine, with_talk, rule_at, step_engine, step_linked, settle, commit_all, ended_overlong, can_write, read_one, taken_by, starve_at}
-use Rattle.amqp_engine.specs.Turn.{Turn, answers_of, Progress, asks, wants_ask, goes, offer_part, offered, answered, read, turn}
+use Rattle.amqp_engine.specs.Turn.{Turn, write_answers, Progress, asks, wants_ask, goes, offer_part, offered, answered, read, turn}
 use Rattle.amqp_engine.specs.Tell.{port_answer, offers_from, log_asks, log_offers, log_turns}
 use Rattle.amqp_engine.specs.Sending.{Sending, nothing_sent, link_bytes, offer_sending, offers_sending, step_sending, sendings_from}
 use Rattle.amqp_types.proofs.Small.{if_case, if-true, if-false, and-left}
@@ -107,7 +107,7 @@ timed-asked answers t =
     let P : Talk → Type 0 = IsAskedAs t in
     let x : Talk = missing_heartbeat t in
     let after : P x = if_case P (is_missed t) (lose MissingHeartbeatError t) t (missed-asked t) (inl refl) in
-    let beaten : P (beat t) = if_case P (is_due x) (record (queue 0 Heartbeat x) { last_write = x.present }) x after after in
+    let beaten : P (beat t) = if_case P (is_heartbeat_due x) (record (queue 0 Heartbeat x) { last_write = x.present }) x after after in
     secret-case P answers (beat t) beaten (λ asks said. told said beaten)
   where
     told : (said : Result (List ℕ) (List ℕ)) → IsAskedAs t (beat t) → IsAskedAs t (refreshed said (beat t))
@@ -208,7 +208,7 @@ answer-taken (Took k) p = by (k == 0) refl where
 answer-taken Failed p = refl
 answer-taken NoMemory p = refl
 
-told-offer : (w v : Wrote) (e : Engine) (ss : List Sending) (a : Log) → taken_by v ≡ taken_by w → can_write e ≡ true → IsWithin (length (offered e)) w
+told-offer : (w v : Wrote) (e : Engine) (ss : List Sending) (a : Log) → taken_by v ≡ taken_by w → can_write e ≡ true → TookAtMost (length (offered e)) w
     → Sends e ss → a.links ≡ map link_bytes ss
     → (log_write (offered e) v a).links ≡ map link_bytes (on_last (offer_sending w e) ss)
 told-offer w v e ss a same can fits h links =
@@ -266,7 +266,7 @@ told-step at step bytes answers e x running h =
       links = told-links step e x.0 x.1 asked_is h.links;
     }
 
-told-offered : (w : Wrote) (p : Progress) (x : Both) → can_write p.engine ≡ true → IsWithin (length (offered p.engine)) w → Told p.engine x
+told-offered : (w : Wrote) (p : Progress) (x : Both) → can_write p.engine ≡ true → TookAtMost (length (offered p.engine)) w → Told p.engine x
     → Told (answered p.at w p.engine) (offering w p x)
 told-offered w p x can fits h =
     let e = p.engine in
@@ -319,5 +319,5 @@ turns-same [] e x = refl
 turns-same (u ∷ us) e x =
     let P : Both → Type 0 = λ y. lifting.turns_on Both asking stepping offering us (turn u e) y ≡ (sendings_from us (turn u e) y.0, log_turns us (turn u e) y.1) in
     let y = lifting.turn_on Both asking stepping offering u e x in
-    let same = offers-same (answers_of u.notes) (read u (asks e)) (stepping u.at u.step u.bytes (asks e) (asking e x)) in
+    let same = offers-same (write_answers u.notes) (read u (asks e)) (stepping u.at u.step u.bytes (asks e) (asking e x)) in
     turns-same us (turn u e) y ∙ ap (λ (z : Both). (sendings_from us (turn u e) z.0, log_turns us (turn u e) z.1)) same

@@ -17,14 +17,14 @@ use Rattle.amqp_session.specs.Links.{lost}
 use Rattle.amqp_session.specs.Writing.{follow, sent, sent_among, taken}
 use Rattle.amqp_engine.specs.declared.port.Wrote.{Wrote}
 use Rattle.amqp_engine.specs.declared.port.Wrote.TheVariants.{Took, Failed, NoMemory}
-use Rattle.amqp_engine.specs.Log.{Log, log_write, IsWithin, PlansWrite}
+use Rattle.amqp_engine.specs.Log.{Log, log_write, TookAtMost, PlansWrite}
 use Rattle.amqp_engine.specs.Engine.{Engine, rule_at, can_write, overlong_next, refuse_overlong, commit_all, wrote, took}
 use Rattle.amqp_session.specs.Writing.{frames_waiting}
-use Rattle.amqp_engine.specs.Turn.{Notes, answers_of, Progress, goes, offer_part, closing, drained, offered, answered, is_all, AreAnswers}
+use Rattle.amqp_engine.specs.Turn.{Notes, write_answers, Progress, goes, offer_part, closing, drained, offered, answered, is_all, AreAnswers}
 use Rattle.amqp_engine.specs.Making.{making, Reaches, Writes}
 use Rattle.amqp_types.specs.Counts.{Rose}
 use Rattle.amqp_engine.specs.Tell.{port_answer, offers_from, log_offers, PlaysOffers, TellsOffers}
-use Rattle.amqp_engine.specs.Play.{waiting, noted, no_notes}
+use Rattle.amqp_engine.specs.Play.{waiting, answer_noted, no_notes}
 use Rattle.amqp_types.proofs.Small.{if_case, if-true, if-false, and-false}
 use Rattle.amqp_engine.proofs.Cases.{is_before-Reaches, is_before-cut, some-unsent, rose-between}
 use Rattle.amqp_session.proofs.Keeping.{present-keeps, pay-keeps}
@@ -167,11 +167,11 @@ writes-cut p log log' m n off told =
 -- one write more, of which all was taken
 pub writes-more : (more : List Asked) (asked : List Question) → (at : ℕ) (cut : Option ℕ) (e : Engine) (n : ℕ) (w : Wrote) (e' : Engine) (last : Progress) (log mid log' : Option Log) (a b c : ℕ)
     → e' ≡ answered at w e → mid ≡ option_map (log_write (offered e) w) log → IfSome log (PlansWrite (length (offered e)) w)
-    → Reaches cut (n + 1) → IsTrue (can_write e) → IsWithin (length (offered e)) w → is_all w (length (offered e)) ≡ true → a ≤ b
+    → Reaches cut (n + 1) → IsTrue (can_write e) → TookAtMost (length (offered e)) w → is_all w (length (offered e)) ≡ true → a ≤ b
     → Writes (making at cut more asked e' (n + 1)) last mid log' b c → Writes (making at cut more asked e n) last log log' a c
 writes-more more asked at cut e n (Took k) e' last log mid log' a b c he told plays allows can fits all le rest =
     let p = making at cut more asked e n in
-    let ws = answers_of rest.notes in
+    let ws = write_answers rest.notes in
     let same : making at cut more asked e' (n + 1) ≡ offer_part (Took k) p = offer-making more asked at cut e n (Took k) e' he in
     let some : 0 < length (offered e) = some-unsent (is_open e.talk) (not e.talk.blocked) (not (is_some (overlong_next e))) (length (offered e)) can in
     let is : k ≡ length (offered e) = grind (arith, nat_tests) in
@@ -181,7 +181,7 @@ writes-more more asked at cut e n (Took k) e' last log mid log' a b c he told pl
     let R : Progress → Type 0 = λ x. TellsOffers (offers_from ws x) mid log' in
     let tail : MatchBool (is_all (Took k) (length (offered e))) (AreAnswers ws (offer_part (Took k) p)) (ws ≡ []) = rw all (subst P same rest.answers) in
     record {
-      notes = noted (Took k) rest.notes;
+      notes = answer_noted (Took k) rest.notes;
       cut = rest.cut;
       answers = (due, fits, tail);
       leaves = if-true (is_all (Took k) (length (offered e))) (drained ws (offer_part (Took k) p)) (offer_part (Took k) p) all ∙ subst Q same rest.leaves;
@@ -193,9 +193,9 @@ writes-more more asked at cut e n NoMemory e' last log mid log' a b c he told pl
 
 -- one write alone, with what is noted of it
 writes-one : (more : List Asked) (asked : List Question) → (at : ℕ) (cut : Option ℕ) (e : Engine) (n : ℕ) (w v : Wrote) (notes : Notes) (e' : Engine) (log log' : Option Log) (a b : ℕ)
-    → answers_of notes ≡ w ∷ [] → notes.starved ≡ cut → port_answer w (making at cut more asked e n) ≡ v
+    → write_answers notes ≡ w ∷ [] → notes.starved ≡ cut → port_answer w (making at cut more asked e n) ≡ v
     → e' ≡ answered at w e → log' ≡ option_map (log_write (offered e) v) log → IfSome log (PlansWrite (length (offered e)) v)
-    → Reaches cut (n + 1) → IsTrue (can_write e) → IsWithin (length (offered e)) w → is_all w (length (offered e)) ≡ false
+    → Reaches cut (n + 1) → IsTrue (can_write e) → TookAtMost (length (offered e)) w → is_all w (length (offered e)) ≡ false
     → (notes.failed ≡ true → Rose a b) → Writes (making at cut more asked e n) (making at cut more asked e' (n + 1)) log log' a b
 writes-one more asked at cut e n w v notes e' log log' a b one same is he told plays allows can fits less counted =
     let p = making at cut more asked e n in
@@ -218,14 +218,14 @@ writes-one more asked at cut e n w v notes e' log log' a b one same is he told p
 -- a last one, of which less was taken
 pub writes-last : (more : List Asked) (asked : List Question) → (at : ℕ) (e : Engine) (n : ℕ) (w : Wrote) (e' : Engine) (log log' : Option Log) (a b : ℕ)
     → e' ≡ answered at w e → log' ≡ option_map (log_write (offered e) w) log → IfSome log (PlansWrite (length (offered e)) w)
-    → IsTrue (can_write e) → IsWithin (length (offered e)) w → is_all w (length (offered e)) ≡ false
+    → IsTrue (can_write e) → TookAtMost (length (offered e)) w → is_all w (length (offered e)) ≡ false
     → (w ≡ NoMemory → ⊥) → (w ≡ Failed → Rose a b)
     → Writes (making at None more asked e n) (making at None more asked e' (n + 1)) log log' a b
 writes-last more asked at e n (Took k) e' log log' a b he told plays can fits less other cause =
-    writes-one more asked at None e n (Took k) (Took k) (noted (Took k) no_notes) e' log log' a b refl refl
+    writes-one more asked at None e n (Took k) (Took k) (answer_noted (Took k) no_notes) e' log log' a b refl refl
     (goes-answer (Took k) (making at None more asked e n) refl) he told plays tt can fits less none-failed
 writes-last more asked at e n Failed e' log log' a b he told plays can fits less other cause =
-    writes-one more asked at None e n Failed Failed (noted Failed no_notes) e' log log' a b refl refl refl he told plays tt can fits less (λ failed. cause refl)
+    writes-one more asked at None e n Failed Failed (answer_noted Failed no_notes) e' log log' a b refl refl refl he told plays tt can fits less (λ failed. cause refl)
 writes-last more asked at e n NoMemory e' log log' a b he told plays can fits less other cause = absurd (other refl)
 
 -- a last one, for which the port found no memory

@@ -12,8 +12,8 @@ use Rattle.amqp_session.specs.Talk.{Talk, is_open, has_ended}
 use Rattle.amqp_session.specs.Changes.{present_at}
 use Rattle.amqp_session.specs.Frames.{on_frame, frame_questions}
 use Rattle.amqp_session.specs.Negotiation.{frame_limit}
-use Rattle.amqp_faultless.specs.Faultless.{Server, Stage, AreSayable, heard_from}
-use Rattle.amqp_faultless.specs.Faultless.Stage.{BeforeStart, BeforeTune, BeforeOpenOk, Serving, Gone}
+use Rattle.amqp_faultless.specs.Faultless.{Server, ServerStage, AreSayable, heard_from}
+use Rattle.amqp_faultless.specs.Faultless.ServerStage.{BeforeStart, BeforeTune, BeforeOpenOk, Serving, Gone}
 use Rattle.amqp_types.proofs.Small.{if_case, if-true, and-true}
 use Rattle.amqp_session.proofs.Soundness.{sound-frame, sound-present}
 use Rattle.amqp_faultless.proofs.Greeted.{IsMet, AreSaid}
@@ -63,7 +63,7 @@ module _ (options : Options) (agreed moment last : ℕ) (fs : List Frame) where
     least : 4096 ≤ frame_limit p.engine.talk
     least = met-least s p.engine.talk m
 
-    by : (st : Stage) → s.stage ≡ st → limit_at agreed st ≤ frame_limit p.engine.talk
+    by : (st : ServerStage) → s.stage ≡ st → limit_at agreed st ≤ frame_limit p.engine.talk
     by BeforeStart is = least
     by BeforeTune is = least
     by BeforeOpenOk is = least

@@ -14,7 +14,7 @@ use Rattle.amqp_engine.specs.declared.port.Step.{Step}
 use Rattle.amqp_engine.specs.declared.port.Step.TheVariants.{Linked, LinkFailed, Piece, End, Fault, Room, Tick, Command}
 use Rattle.amqp_engine.specs.declared.port.Wrote.{Wrote}
 use Rattle.amqp_engine.specs.Engine.{Engine, rule_at, with_talk, settle, step_engine, step_questions, can_write, refuse_overlong}
-use Rattle.amqp_engine.specs.Turn.{Turn, answers_of, Progress, asks, wants_ask, begun, goes, part, questioned, is_part, is_piece, step_part, reading, drained, AreAnswers, read, written, applied, turn, starved_after}
+use Rattle.amqp_engine.specs.Turn.{Turn, write_answers, Progress, asks, wants_ask, begun, goes, part, questioned, is_part, is_piece, step_part, reading, drained, AreAnswers, read, after_writes, applied, turn, starved_after}
 use Rattle.amqp_types.proofs.Small.{if_case, if-true, if-false, and-right}
 use Rattle.amqp_engine.proofs.Overlong.{closed-refuses}
 use Rattle.amqp_engine.proofs.Settling.{settle-talk}
@@ -37,9 +37,9 @@ pub asks-running : (e : Engine) → has_ended e.talk ≡ false → has_ended (as
 asks-running e running = ap is_some (asks-end e) ∙ running
 
 -- a turn of a session that goes on ends it where it was cut
-pub turn-is : (u : Turn) (e : Engine) → has_ended e.talk ≡ false → turn u e ≡ starved_after u.notes.starved u.at (written u (asks e)).engine
+pub turn-is : (u : Turn) (e : Engine) → has_ended e.talk ≡ false → turn u e ≡ starved_after u.notes.starved u.at (after_writes u (asks e)).engine
 turn-is u e running =
-    let after = (written u (asks e)).engine in
+    let after = (after_writes u (asks e)).engine in
     if-false (has_ended (asks e).talk) after (starved_after u.notes.starved u.at after) (asks-running e running)
 
 -- ---- what has ended
@@ -131,7 +131,7 @@ no-answers (w ∷ ws) p h may =
     cc
 
 -- it takes the step at most
-pub applied-over : (u : Turn) (e : Engine) → has_ended e.talk ≡ true → AreAnswers (answers_of u.notes) (read u e)
+pub applied-over : (u : Turn) (e : Engine) → has_ended e.talk ≡ true → AreAnswers (write_answers u.notes) (read u e)
     → (applied u e ≡ e) ⊎ (applied u e ≡ step_engine u.at u.step u.bytes u.notes.auths e)
 applied-over u e h may =
     let p = begun u.at u.notes.starved u.notes.auths e in
@@ -145,15 +145,15 @@ applied-over u e h may =
     let over : has_ended s.engine.talk ≡ true =
     elim stepped [ inl same ↦ ap (λ (y : Engine). has_ended y.talk) same ∙ h | inr same ↦ ap (λ (y : Engine). has_ended y.talk) same ∙ step-ended u.at u.step u.bytes u.notes.auths e h ] in
     let here : read u e ≡ s = over-reads (is_piece u.step) s over in
-    let ws = answers_of u.notes in
+    let ws = write_answers u.notes in
     let A : Progress → Type 0 = λ y. AreAnswers ws y in
-    let done : written u e ≡ s = ap (drained ws) here ∙ no-answers ws s over (subst A here may) in
+    let done : after_writes u e ≡ s = ap (drained ws) here ∙ no-answers ws s over (subst A here may) in
     let is : applied u e ≡ s.engine =
-    if-true (has_ended e.talk) (written u e).engine (starved_after u.notes.starved u.at (written u e).engine) h ∙ ap (λ (y : Progress). y.engine) done in
+    if-true (has_ended e.talk) (after_writes u e).engine (starved_after u.notes.starved u.at (after_writes u e).engine) h ∙ ap (λ (y : Progress). y.engine) done in
     elim stepped [ inl same ↦ inl (is ∙ same) | inr same ↦ inr (is ∙ same) ]
 
 -- and stays ended
-pub applied-ended : (u : Turn) (e : Engine) → has_ended e.talk ≡ true → AreAnswers (answers_of u.notes) (read u e) → has_ended (applied u e).talk ≡ true
+pub applied-ended : (u : Turn) (e : Engine) → has_ended e.talk ≡ true → AreAnswers (write_answers u.notes) (read u e) → has_ended (applied u e).talk ≡ true
 applied-ended u e h may =
     elim (applied-over u e h may) [
       | inl same ↦ ap (λ (x : Engine). has_ended x.talk) same ∙ h

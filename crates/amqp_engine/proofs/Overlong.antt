@@ -6,7 +6,7 @@ use Rattle.amqp_outbox.specs.declared.item.Item.{Item}
 use Rattle.amqp_outbox.specs.Items.{size_of}
 use Rattle.amqp_outbox.specs.Queued as queued
 use Rattle.amqp_session.specs.Talk.{Talk, is_open}
-use Rattle.amqp_session.specs.Writing.{frames_waiting, writes, flows, fitting, next_item, next_within, longer_than, overlong, end_overlong, commit, next_frame}
+use Rattle.amqp_session.specs.Writing.{frames_waiting, writes, flows, fitting, next_out, next_within, longer_than, overlong, end_overlong, commit, next_frame}
 use Rattle.amqp_engine.specs.Engine.{Engine, with_talk, settle, commit_all, fitting_next, overlong_next, ended_overlong, refuse_overlong, can_write}
 use Rattle.amqp_engine.proofs.Cases.{none-unsent}
 use Rattle.amqp_types.proofs.Small.{and-left}
@@ -57,11 +57,11 @@ fits-short (Some i) space most item le h = by (nat_le (size_of i) space) refl h
 pub fitting-short : (e : Engine) (item : Item) → fitting_next e ≡ Some item → overlong e.talk ≡ None
 fitting-short e item h =
     let space : ℕ = e.talk.capacity - length e.unsent in
-    fits-short (next_item e.talk) space e.talk.capacity item (omega arith) h
+    fits-short (next_out e.talk) space e.talk.capacity item (omega arith) h
 
 -- and is committed
 pub next-commits : (space : ℕ) (t : Talk) (item : Item) → space ≤ t.capacity → next_within space t ≡ Some item → next_frame space t ≡ commit space t
-next-commits space t item le h = ap (λ o. end_overlong o (commit space t)) (fits-short (next_item t) space t.capacity item le h)
+next-commits space t item le h = ap (λ o. end_overlong o (commit space t)) (fits-short (next_out t) space t.capacity item le h)
 
 -- its frame is given, and it fits
 pub given-item : (o : Option Item) (frame : Frame) → option_map (λ (i : Item). i.frame) o ≡ Some frame → (item : Item) × (o ≡ Some item) × (item.frame ≡ frame)

@@ -15,9 +15,9 @@ use Rattle.amqp_engine.specs.Plan.{Plan, Coming, plan_write, plan_failure, plan_
 use Rattle.amqp_engine.specs.Log.{Log, PlansWrite, log_ask, log_step, log_write}
 use Rattle.amqp_engine.specs.Engine.{Engine, can_write, overlong_next, commit_all}
 use Rattle.amqp_session.specs.Writing.{frames_waiting}
-use Rattle.amqp_engine.specs.Turn.{is_before, Progress, Notes, Turn, answers_of, asks, wants_ask, goes, offer_part, offered, is_all, AreAnswers, read, written, turn, turns, starved_after, IsCut, IsAnswered, IsTurn, AreTurns, AreTold, exchanges, cut_of}
+use Rattle.amqp_engine.specs.Turn.{is_before, Progress, Notes, Turn, write_answers, asks, wants_ask, goes, offer_part, offered, is_all, AreAnswers, read, after_writes, turn, turns, starved_after, IsCut, IsAnswered, IsTurn, AreTurns, AreTold, exchanges, cut_of}
 use Rattle.amqp_engine.specs.Tell.{Offer, port_answer, offers_from, offers_of, turn_of, log_asks, log_stepped, log_offers, log_turn, log_turns, PlaysOffers, PlaysTurn, PlaysTurns, MayCome, RunsLent}
-use Rattle.amqp_engine.specs.Play.{waiting, room_of, fails_of, played_answer, played_writes, played_step, told_turn, played_turn_of, played_turn, played_turns, no_notes, noted, AreAnswered, IsPlayed}
+use Rattle.amqp_engine.specs.Play.{waiting, room_of, fails_of, played_answer, played_writes, played_step, told_turn, played_turn_of, played_turn, played_turns, no_notes, answer_noted, AreAnswered, IsPlayed}
 use Rattle.amqp_engine.proofs.Answering.{answer-size, answered-all}
 use Rattle.amqp_engine.proofs.FirstAnswers.{Alike, with_answers, read_with, read-first}
 use Rattle.amqp_engine.proofs.Over.{turn-is}
@@ -79,12 +79,12 @@ abbrev pub whole_notes : List ℕ → Bool → Notes
 whole_notes ks failed = record { tooks = ks; failed = failed; auths = []; starved = None }
 
 -- where no answer is left, nothing more is noted
-none-noted : (ks : List ℕ) (failed : Bool) → answers_of (whole_notes ks failed) ≡ [] → whole_notes ks failed ≡ no_notes
+none-noted : (ks : List ℕ) (failed : Bool) → write_answers (whole_notes ks failed) ≡ [] → whole_notes ks failed ≡ no_notes
 none-noted [] true h = cc
 none-noted [] false h = refl
 none-noted (k ∷ ks) failed h = cc
 
-tail-played : {A : Type 0} (b : Bool) (ks : List ℕ) (failed : Bool) (rest : Notes) → MatchBool b A (answers_of (whole_notes ks failed) ≡ [])
+tail-played : {A : Type 0} (b : Bool) (ks : List ℕ) (failed : Bool) (rest : Notes) → MatchBool b A (write_answers (whole_notes ks failed) ≡ [])
     → (b ≡ true → A → whole_notes ks failed ≡ rest) → whole_notes ks failed ≡ (if b then rest else no_notes)
 tail-played true ks failed rest m f = f refl m
 tail-played false ks failed rest m f = none-noted ks failed m
@@ -94,20 +94,20 @@ later n w p a = if is_all w (length (offered p.engine)) then played_writes n (of
 
 -- one answer that is due is the one of the script
 due-answer : (n : ℕ) (w : Wrote) (p : Progress) (a : Log) → can_write p.engine ≡ true → w ≡ played_answer p.engine a
-    → noted w (later n w p a) ≡ played_writes (suc n) p a
+    → answer_noted w (later n w p a) ≡ played_writes (suc n) p a
 due-answer n w p a can is =
     let x = played_answer p.engine a in
-    ap (λ (x : Wrote). noted x (later n x p a)) is ∙ sym (ap (λ (b : Bool). if b then noted x (later n x p a) else no_notes) can)
+    ap (λ (x : Wrote). answer_noted x (later n x p a)) is ∙ sym (ap (λ (b : Bool). if b then answer_noted x (later n x p a) else no_notes) can)
 
 -- what is noted of the writes is determined
 writes-played : (ks : List ℕ) (failed : Bool) (n : ℕ) (p : Progress) (a : Log) → p.cut ≡ None → is_some a.plan ≡ true
-    → AreAnswers (answers_of (whole_notes ks failed)) p → PlaysOffers (offers_from (answers_of (whole_notes ks failed)) p) a → waiting p.engine ≤ n
+    → AreAnswers (write_answers (whole_notes ks failed)) p → PlaysOffers (offers_from (write_answers (whole_notes ks failed)) p) a → waiting p.engine ≤ n
     → whole_notes ks failed ≡ played_writes n p a
 writes-played [] false zero p a cut planned h plays le = refl
 writes-played [] false (suc n) p a cut planned h plays le =
     let can : can_write p.engine ≡ false = and-other (goes p) (can_write p.engine) (goes-on p cut) h in
     let w = played_answer p.engine a in
-    sym (ap (λ (b : Bool). if b then noted w (later n w p a) else no_notes) can)
+    sym (ap (λ (b : Bool). if b then answer_noted w (later n w p a) else no_notes) can)
 writes-played [] true zero p a cut planned h plays le = absurd (omega (arith, due-waiting p.engine (and-right (goes p) (can_write p.engine) h.0)))
 writes-played [] true (suc n) p a cut planned h plays le =
     due-answer n Failed p a (and-right (goes p) (can_write p.engine) h.0) (answer-plan Failed a.plan (length (offered p.engine)) planned plays.0 (λ is. cc))
@@ -120,13 +120,13 @@ writes-played (k ∷ ks) failed (suc n) p a cut planned h plays le =
     let some : 0 < length (offered e) = some-unsent (is_open e.talk) (not e.talk.blocked) (not (is_some (overlong_next e))) (length (offered e)) can in
     let told : port_answer w p ≡ w = uncut-answer w p cut in
     let P : Wrote → Type 0 = λ x. PlansWrite (length (offered e)) x a in
-    let Q : Wrote → Type 0 = λ x. PlaysOffers (offers_from (answers_of (whole_notes ks failed)) (offer_part w p)) (log_write (offered e) x a) in
+    let Q : Wrote → Type 0 = λ x. PlaysOffers (offers_from (write_answers (whole_notes ks failed)) (offer_part w p)) (log_write (offered e) x a) in
     let tail : whole_notes ks failed ≡ later n w p a =
-    tail-played {A = AreAnswers (answers_of (whole_notes ks failed)) (offer_part w p)} (is_all w (length (offered e))) ks failed
+    tail-played {A = AreAnswers (write_answers (whole_notes ks failed)) (offer_part w p)} (is_all w (length (offered e))) ks failed
     (played_writes n (offer_part w p) (log_write (offered e) w a)) h.2
     (λ whole rest. writes-played ks failed n (offer_part w p) (log_write (offered e) w a) cut (planned-write (offered e) w a ∙ planned) rest (subst Q told plays.1)
     (omega (arith, waiting-wrote p.at w e some whole, le))) in
-    ap (noted w) tail ∙ due-answer n w p a can (answer-plan w a.plan (length (offered e)) planned (subst P told plays.0) (λ is. cc))
+    ap (answer_noted w) tail ∙ due-answer n w p a can (answer-plan w a.plan (length (offered e)) planned (subst P told plays.0) (λ is. cc))
 
 -- the step is determined
 step-played : (p : Option Plan) (h : Coming) → is_some p ≡ true → IfSome p (λ q. next_coming q ≡ h) → played_step p ≡ h
@@ -140,7 +140,7 @@ played-any (suc n) left p a =
     let w = played_answer p.engine a in
     let some = can_write p.engine in
     let whole = is_all w (length (offered p.engine)) in
-    ap (λ (m : Notes). if some then noted w (if whole then m else no_notes) else no_notes)
+    ap (λ (m : Notes). if some then answer_noted w (if whole then m else no_notes) else no_notes)
     (played-any n left (offer_part w p) (log_write (offered p.engine) w a))
 
 -- where no turn was cut, one answers each question
@@ -206,7 +206,7 @@ first-whole u us e may whole =
     let is_turn = turn-is u e may.0.running in
     let A : Engine → Type 0 = λ x. AreTurns us x in
     let W : Engine → Type 0 = λ x. (turns us x).starved ≡ None in
-    whole-end u.notes.starved u.at (written u (asks e)).engine us (subst A is_turn may.1) (subst W is_turn whole)
+    whole-end u.notes.starved u.at (after_writes u (asks e)).engine us (subst A is_turn may.1) (subst W is_turn whole)
 
 -- none of these turns was cut
 turns-whole : (us : List Turn) (e : Engine) → AreTurns us e → (turns us e).starved ≡ None → cut_of us ≡ None
@@ -305,17 +305,17 @@ record Due (ws : List Wrote) (p : Progress) (a : Log) : Type 0 where
 due-none : (p : Progress) (a : Log) → can_write p.engine ≡ false → Due [] p a
 due-none p a h = record { may = and-false (goes p) (can_write p.engine) h; plays = tt }
 
-due-tail : (b : Bool) (m : Notes) (p : Progress) (a : Log) → (b ≡ true → Due (answers_of m) p a)
-    → MatchBool b (AreAnswers (answers_of (if b then m else no_notes)) p) (answers_of (if b then m else no_notes) ≡ [])
-    × PlaysOffers (offers_from (answers_of (if b then m else no_notes)) p) a
+due-tail : (b : Bool) (m : Notes) (p : Progress) (a : Log) → (b ≡ true → Due (write_answers m) p a)
+    → MatchBool b (AreAnswers (write_answers (if b then m else no_notes)) p) (write_answers (if b then m else no_notes) ≡ [])
+    × PlaysOffers (offers_from (write_answers (if b then m else no_notes)) p) a
 due-tail true m p a f = ((f refl).may, (f refl).plays)
 due-tail false m p a f = (refl, tt)
 
-due-failed : (n : ℕ) (p : Progress) (a : Log) → p.cut ≡ None → can_write p.engine ≡ true → fails_of a.plan ≡ true → Due (answers_of (noted Failed (later n Failed p a))) p a
+due-failed : (n : ℕ) (p : Progress) (a : Log) → p.cut ≡ None → can_write p.engine ≡ true → fails_of a.plan ≡ true → Due (write_answers (answer_noted Failed (later n Failed p a))) p a
 due-failed n p a cut can fails =
     record { may = (and-true (goes p) (can_write p.engine) (goes-on p cut) can, tt, refl); plays = (plans-failure a.plan (length (offered p.engine)) fails, tt) }
 
-due-played : (n : ℕ) (p : Progress) (a : Log) → p.cut ≡ None → waiting p.engine ≤ n → Due (answers_of (played_writes n p a)) p a
+due-played : (n : ℕ) (p : Progress) (a : Log) → p.cut ≡ None → waiting p.engine ≤ n → Due (write_answers (played_writes n p a)) p a
 due-played zero p a cut le = by (can_write p.engine) refl where
   by : (b : Bool) → can_write p.engine ≡ b → Due [] p a
   by true h = absurd (omega (arith, due-waiting p.engine h))
@@ -327,9 +327,9 @@ due-played (suc n) p a cut le =
     let a' = log_write (offered e) w a in
     let told : port_answer w p ≡ w = uncut-answer w p cut in
     let P : Wrote → Type 0 = λ x. PlansWrite (length (offered e)) x a in
-    let Q : Wrote → Type 0 = λ x. PlaysOffers (offers_from (answers_of (later n w p a)) (offer_part w p)) (log_write (offered e) x a) in
-    let D : Wrote → Type 0 = λ x. Due (answers_of (noted x (later n x p a))) p a in
-    if_by (λ (m : Notes). Due (answers_of m) p a) (can_write e) (noted (played_answer e a) (later n (played_answer e a) p a)) no_notes
+    let Q : Wrote → Type 0 = λ x. PlaysOffers (offers_from (write_answers (later n w p a)) (offer_part w p)) (log_write (offered e) x a) in
+    let D : Wrote → Type 0 = λ x. Due (write_answers (answer_noted x (later n x p a))) p a in
+    if_by (λ (m : Notes). Due (write_answers m) p a) (can_write e) (answer_noted (played_answer e a) (later n (played_answer e a) p a)) no_notes
     (λ can. if_by D (fails_of a.plan) Failed w (due-failed n p a cut can)
     (λ works.
     let some : 0 < length (offered e) = some-unsent (is_open e.talk) (not e.talk.blocked) (not (is_some (overlong_next e))) (length (offered e)) can in
@@ -346,12 +346,12 @@ pub whole-played : (n : ℕ) (p : Progress) (a : Log) → (played_writes n p a).
 whole-played zero p a = refl
 whole-played (suc n) p a =
     let w = played_answer p.engine a in
-    if_case (λ (m : Notes). m.starved ≡ None) (can_write p.engine) (noted w (later n w p a)) no_notes
+    if_case (λ (m : Notes). m.starved ≡ None) (can_write p.engine) (answer_noted w (later n w p a)) no_notes
     (noted-whole w (later n w p a) (if_case (λ (m : Notes). m.starved ≡ None) (is_all w (length (offered p.engine)))
     (played_writes n (offer_part w p) (log_write (offered p.engine) w a)) no_notes
     (whole-played n (offer_part w p) (log_write (offered p.engine) w a)) refl)) refl
   where
-    noted-whole : (w : Wrote) (m : Notes) → m.starved ≡ None → (noted w m).starved ≡ None
+    noted-whole : (w : Wrote) (m : Notes) → m.starved ≡ None → (answer_noted w m).starved ≡ None
     noted-whole (Took k) m h = h
     noted-whole Failed m h = h
     noted-whole NoMemory m h = h
@@ -379,7 +379,7 @@ played-reads answers e a =
 
 -- its writes are those that are due
 played-due : (answers : List Asked) (e : Engine) (a : Log)
-    → Due (answers_of (played_turn answers e a).notes) (read (played_turn answers e a) (asks e)) (log_stepped (played_turn answers e a) e a)
+    → Due (write_answers (played_turn answers e a).notes) (read (played_turn answers e a) (asks e)) (log_stepped (played_turn answers e a) e a)
 played-due answers e a =
     let u = played_turn answers e a in
     let q = played_read answers e a in
@@ -387,8 +387,8 @@ played-due answers e a =
     let n = waiting q.engine in
     let left = drop (length q.questions) u.notes.auths in
     let r = with_answers left q in
-    let N : Notes → Type 0 = λ m. Due (answers_of m) r b in
-    let R : Progress → Type 0 = λ x. Due (answers_of u.notes) x b in
+    let N : Notes → Type 0 = λ m. Due (write_answers m) r b in
+    let R : Progress → Type 0 = λ x. Due (write_answers u.notes) x b in
     subst R (sym (played-reads answers e a))
     (subst N (played-any n left q b) (due-played n r b (read-cut (told_turn (played_step (log_asks e a).plan) answers) (asks e)) (omega arith)))
 
@@ -398,7 +398,7 @@ played-is-turn answers e a running asked =
     let u = played_turn answers e a in
     let q = played_read answers e a in
     let whole : u.notes.starved ≡ None = whole-played (waiting q.engine) q (log_stepped u e a) in
-    let C : Option ℕ → Type 0 = λ x. IsCut x (written u (asks e)).done in
+    let C : Option ℕ → Type 0 = λ x. IsCut x (after_writes u (asks e)).done in
     record {
       running = running;
       applied = record {

@@ -8,8 +8,8 @@ use Rattle.amqp_session.specs.Asking.{Answer}
 use Rattle.amqp_session.specs.Config.{Options}
 use Rattle.amqp_session.specs.Sound.{IsSound}
 use Rattle.amqp_session.specs.Talk.{Talk, has_ended}
-use Rattle.amqp_faultless.specs.Faultless.{Server, Stage, AreSayable}
-use Rattle.amqp_faultless.specs.Faultless.Stage.{Gone}
+use Rattle.amqp_faultless.specs.Faultless.{Server, ServerStage, AreSayable}
+use Rattle.amqp_faultless.specs.Faultless.ServerStage.{Gone}
 use Rattle.amqp_types.proofs.Small.{if-true, if-false}
 use Rattle.amqp_faultless.proofs.Greeted.{IsMet, IsOver, Leaves}
 use Rattle.amqp_faultless.proofs.Speaks.{said_all}
@@ -26,12 +26,12 @@ use Rattle.amqp_engine.specs.Plan.{coming_of, step_of, bytes_of}
 use Rattle.amqp_engine.specs.Log.{Log}
 use Rattle.amqp_engine.specs.Engine.{Engine, begin, step_engine, step_piece}
 use Rattle.amqp_engine.specs.declared.port.Wrote.{Wrote}
-use Rattle.amqp_engine.specs.Turn.{Turn, Progress, answers_of, asks, begun, part, questioned, step_part, reads, read, written, drained, turn, turns, starved_after, is_piece}
+use Rattle.amqp_engine.specs.Turn.{Turn, Progress, write_answers, asks, begun, part, questioned, step_part, reads, read, after_writes, drained, turn, turns, starved_after, is_piece}
 use Rattle.amqp_engine.specs.Tell.{log_stepped}
 use Rattle.amqp_engine.specs.Sending.{Sending, frames, step_sending, turn_sending, sendings, offers_sending}
 use Rattle.amqp_engine.specs.Play.{waiting, played_writes, played_turn_of}
 use Rattle.amqp_engine.specs.Exchange.{said_of}
-use Rattle.amqp_engine.specs.Valid.{Spelled, Saying, Theirs, Ours, AreSpelled, IsQuiet, IsShort, after_sayings, whole_in, later_than, begun_in, all_bytes, said_frame, sayings_of, last_piece}
+use Rattle.amqp_engine.specs.Valid.{SpelledFrame, LinkSaying, Theirs, Ours, AreSpelled, IsQuiet, IsShort, after_sayings, whole_in, later_than, begun_in, all_bytes, said_frame, sayings_of, last_piece}
 use Rattle.amqp_engine.proofs.Over.{turn-is}
 use Rattle.amqp_engine.proofs.Lifting.{stays-step}
 use Rattle.amqp_engine.proofs.Follows.{IsCalm, met-step, met-asks, piece-unread}
@@ -70,8 +70,8 @@ pub record Stands (t : Talk) (options : Options) (before : List Turn) (moment : 
 -- ---- the writes of a turn
 
 -- a turn that is not cut is its writes
-whole-turn : (u : Turn) (e : Engine) → has_ended e.talk ≡ false → u.notes.starved ≡ None → turn u e ≡ (written u (asks e)).engine
-whole-turn u e running whole = turn-is u e running ∙ ap (λ o. starved_after o u.at (written u (asks e)).engine) whole
+whole-turn : (u : Turn) (e : Engine) → has_ended e.talk ≡ false → u.notes.starved ≡ None → turn u e ≡ (after_writes u (asks e)).engine
+whole-turn u e running whole = turn-is u e running ∙ ap (λ o. starved_after o u.at (after_writes u (asks e)).engine) whole
 
 -- what a turn says, and where it stands after it
 pub record Rounded (t : Talk) (options : Options) (before : List Turn) (u : Turn) (e : Engine) (ss : List Sending) (s : Server) (unread : List ℕ) : Type 0 where
@@ -81,7 +81,7 @@ pub record Rounded (t : Talk) (options : Options) (before : List Turn) (u : Turn
   pub stage : server.stage ≡ s.stage
   pub sends : turn_sending u e ss ≡ sending ∷ []
   pub unread_is : (turn u e).unread ≡ unread
-  pub says : (rest : List Saying) → after_sayings (map Ours (flat_map said_frame (said_of u e ss)) ++ rest) (Some s) ≡ after_sayings rest (Some server)
+  pub says : (rest : List LinkSaying) → after_sayings (map Ours (flat_map said_frame (said_of u e ss)) ++ rest) (Some s) ≡ after_sayings rest (Some server)
 
 module _ (t : Talk) (options : Options) (before : List Turn) (u : Turn) (e : Engine) (ss : List Sending) (x : Sending) (a : Log) where
   abbrev p : Progress
@@ -92,20 +92,20 @@ module _ (t : Talk) (options : Options) (before : List Turn) (u : Turn) (e : Eng
 
   -- from what was read on
   pub rounds : (s : Server) → has_ended e.talk ≡ false → u.notes.starved ≡ None → p.at ≤ u.at
-      → answers_of u.notes ≡ answers_of (played_writes (waiting p.engine) p a) → IsFree a.plan
+      → write_answers u.notes ≡ write_answers (played_writes (waiting p.engine) p a) → IsFree a.plan
       → step_sending u.step (asks e) ss ≡ x ∷ [] → turns before (begin t) ≡ e → sendings t before ≡ ss
       → IsSound p.engine.talk → IsClear p.engine → x.sent ≡ length x.committed → IsMet s p.engine.talk
       → Modest options p.engine.talk → IsClock u.at last p.engine.talk → Tuned (frames x.committed) s p.engine.talk
       → Rounded t options before u e ss s p.engine.unread
   rounds s running whole early notes free linked leads only sound clear all met modest clock tuned =
       let unread = p.engine.unread in
-      let played = answers_of (played_writes (waiting p.engine) p a) in
+      let played = write_answers (played_writes (waiting p.engine) p a) in
       let W : List Wrote → Type 0 = λ zs. IsWritten options u.at last unread p (drained zs p) s zs [] x in
       let d = subst W (sym notes) (is-written options u.at last unread [] (waiting p.engine) p a s x early free sound (modest, clock, tuned, refl) clear all met) in
-      let after : turn u e ≡ (drained (answers_of u.notes) p).engine = whole-turn u e running whole in
-      let items = said_in (answers_of u.notes) p in
+      let after : turn u e ≡ (drained (write_answers u.notes) p).engine = whole-turn u e running whole in
+      let items = said_in (write_answers u.notes) p in
       let server : Server = said_all items s in
-      let sends : turn_sending u e ss ≡ d.sending ∷ [] = ap (offers_sending (answers_of u.notes) p) linked ∙ d.sent in
+      let sends : turn_sending u e ss ≡ d.sending ∷ [] = ap (offers_sending (write_answers u.notes) p) linked ∙ d.sent in
       let M : Engine → Type 0 = λ y. IsMet server y.talk in
       let S : Engine → Type 0 = λ y. IsSound y.talk in
       let F : Engine → Type 0 = λ y. Writes options u.at last unread server d.sending y in
@@ -171,7 +171,7 @@ unlinked given.Tick e ss q = refl
 unlinked (given.Command c) e ss q = refl
 
 -- where all spelled octets that have come were read, and what is still to come
-pub record Awaits (agreed : ℕ) (gs : List Given) (sent : List (List Frame)) (end : Server) (s : Server) (e : Engine) (spelled : List Spelled) : Type 0 where
+pub record Awaits (agreed : ℕ) (gs : List Given) (sent : List (List Frame)) (end : Server) (s : Server) (e : Engine) (spelled : List SpelledFrame) : Type 0 where
   pub part : IsPart (length e.unread) spelled
   pub bytes : e.unread ++ all_bytes gs ≡ flat spelled
   pub spells : AreSpelled (limit_at agreed s.stage) agreed spelled
@@ -182,13 +182,13 @@ pub record Onward (t : Talk) (options : Options) (agreed : ℕ) (before : List T
     : Type 0 where
   pub server : Server
   pub sending : Sending
-  pub spelled : List Spelled
+  pub spelled : List SpelledFrame
   pub stands : Stands t options (before ++ u ∷ []) u.at server sending (turn u e)
   pub sends : turn_sending u e ss ≡ sending ∷ []
   pub awaits : Awaits agreed gs sent end server (turn u e) spelled
 
 module _ (t : Talk) (options : Options) (agreed : ℕ) (before : List Turn) (moment : ℕ) (g : Given) (gs : List Given) (answers : List Asked) (e : Engine) (a : Log) (s : Server) (x : Sending)
-    (sent : List (List Frame)) (end : Server) (spelled : List Spelled) where
+    (sent : List (List Frame)) (end : Server) (spelled : List SpelledFrame) where
   abbrev u : Turn
   u = played_turn_of (coming_of g) answers e a
 
@@ -260,7 +260,7 @@ module _ (t : Talk) (options : Options) (agreed : ℕ) (before : List Turn) (mom
     whole1 = stays-step (λ (q : Progress). q.cut) (λ f n left qs q. refl) (step_of g.what) (bytes_of g.what) p0 ∙ whole
 
     -- it writes what it may, and the rest is to come
-    goes-further : (q : Progress) → read u (asks e) ≡ q → (s2 : Server) (left : List Spelled) → q.at ≤ g.at → IsMet s2 q.engine.talk → IsSound q.engine.talk → Modest options q.engine.talk
+    goes-further : (q : Progress) → read u (asks e) ≡ q → (s2 : Server) (left : List SpelledFrame) → q.at ≤ g.at → IsMet s2 q.engine.talk → IsSound q.engine.talk → Modest options q.engine.talk
         → IsClear q.engine → IsClock g.at (last_piece 0 (before ++ u ∷ [])) q.engine.talk → Tuned (frames x.committed) s2 q.engine.talk
         → IsPart (length q.engine.unread) left → q.engine.unread ++ all_bytes gs ≡ flat left → AreSpelled (limit_at agreed s2.stage) agreed left
         → after_sayings (map Ours said ++ sayings_of gs sent (length q.engine.unread) left) (Some s2) ≡ Some end
@@ -283,7 +283,7 @@ module _ (t : Talk) (options : Options) (agreed : ℕ) (before : List Turn) (mom
         let same : (turn u e).unread ≡ q.engine.unread = r.unread_is in
         let I : List ℕ → Type 0 = λ bs. IsPart (length bs) left in
         let B : List ℕ → Type 0 = λ bs. bs ++ all_bytes gs ≡ flat left in
-        let L : Stage → Type 0 = λ st. AreSpelled (limit_at agreed st) agreed left in
+        let L : ServerStage → Type 0 = λ st. AreSpelled (limit_at agreed st) agreed left in
         let R : List ℕ → Type 0 = λ bs. after_sayings (sayings_of gs sent (length bs) left) (Some r.server) ≡ Some end in
         record {
           server = r.server;
@@ -374,7 +374,7 @@ module _ (t : Talk) (options : Options) (agreed : ℕ) (before : List Turn) (mom
             limit = limit;
           }
 
-      later : List Saying
+      later : List LinkSaying
       later = sayings_of gs sent (begun_in n spelled) (later_than n spelled)
 
       remains : after_sayings (map Theirs (whole_in n spelled) ++ (map Ours said ++ later)) (Some s) ≡ Some end
@@ -400,7 +400,7 @@ module _ (t : Talk) (options : Options) (agreed : ℕ) (before : List Turn) (mom
       heard_all (inl stands) =
           let k = stands.1.1 in
           let I : ℕ → Type 0 = λ m. IsPart m (later_than n spelled) in
-          let J : List Spelled → Type 0 = λ ys. IsPart (length q.engine.unread) ys in
+          let J : List SpelledFrame → Type 0 = λ ys. IsPart (length q.engine.unread) ys in
           let part : IsPart (length q.engine.unread) d.left = subst J d.is_left (subst I (d.is_begun ∙ sym stands.3) (part-left n spelled)) in
           let R : ℕ → Type 0 = λ m. after_sayings (map Ours said ++ sayings_of gs sent m d.left) (Some d.server) ≡ Some end in
           inl (goes-further q is d.server d.left k.early stands.0 k.sound k.modest k.clear k.clock k.tuned part stands.2 stands.4 (subst R (sym stands.3) d.after))
@@ -411,9 +411,9 @@ module _ (t : Talk) (options : Options) (agreed : ℕ) (before : List Turn) (mom
           let none : all_bytes gs ≡ [] = none-of (all_bytes gs) (omega (arith, came, sum, parts)) in
           let b = log_stepped u e a in
           let P : Engine → Type 0 = λ y. IsOver y.talk in
-          let over : IsOver (drained (answers_of (played_writes (waiting q.engine) q b)) q).engine.talk =
+          let over : IsOver (drained (write_answers (played_writes (waiting q.engine) q b)) q).engine.talk =
           farewell options q b gone.2 (on-free gs b.plan (on-stepped u e g gs a on)) gone.3 in
-          let E : Progress → Type 0 = λ y. IsOver (drained (answers_of (played_writes (waiting y.engine) y b)) y).engine.talk in
+          let E : Progress → Type 0 = λ y. IsOver (drained (write_answers (played_writes (waiting y.engine) y b)) y).engine.talk in
           let N : List Wrote → Type 0 = λ ws. IsOver (drained ws (read u (asks e))).engine.talk in
           inr (tail none, subst P (sym (whole-turn u e running whole)) (subst N (sym (writes-of (coming_of g) answers e a)) (subst E (sym is) over)))
 

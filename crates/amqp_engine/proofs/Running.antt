@@ -8,7 +8,7 @@ use Rattle.amqp_session.specs.Talk.{has_ended}
 use Rattle.amqp_engine.specs.declared.port.Step.{Step}
 use Rattle.amqp_engine.specs.Log.{Log, log_step, PlansStep}
 use Rattle.amqp_engine.specs.Engine.{Engine, starve_at}
-use Rattle.amqp_engine.specs.Turn.{Turn, asks, written, starved_after, turn, turns, IsTurn, IsTold, AreTurns, AreTold, exchange_of, exchanges, cut_of, Leads}
+use Rattle.amqp_engine.specs.Turn.{Turn, asks, after_writes, starved_after, turn, turns, IsTurn, IsTold, AreTurns, AreTold, exchange_of, exchanges, cut_of, Leads}
 use Rattle.amqp_engine.specs.Tell.{Tells, turn_of, log_asks, log_offers, log_turn, log_turns, offers_of, PlaysOffers, PlaysTurn, PlaysTurns, TellsOffers, TellsTurn, TellsTurns, MayCome, AppliesLent, TakesTurnLent, Runs}
 use Rattle.amqp_session.proofs.Keeping.{starve-ends}
 use Rattle.amqp_engine.proofs.Over.{turn-is}
@@ -167,7 +167,7 @@ uncut (u ∷ us) e may running =
     by u.notes.starved (subst E is may.1) (subst R is running) (uncut us (turn u e) may.1 running)
   where
     after : Engine
-    after = (written u (asks e)).engine
+    after = (after_writes u (asks e)).engine
 
     by : (s : Option ℕ) → AreTurns us (starved_after s u.at after) → has_ended (turns us (starved_after s u.at after)).talk ≡ false → cut_of us ≡ None
         → option_or s (cut_of us) ≡ None

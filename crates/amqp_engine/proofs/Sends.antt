@@ -9,10 +9,10 @@ use Rattle.amqp_session.specs.Links.{asked, linked}
 use Rattle.amqp_engine.specs.declared.port.Step.{Step}
 use Rattle.amqp_engine.specs.declared.port.Step.TheVariants.{Linked, LinkFailed, Piece, End, Fault, Room, Tick, Command}
 use Rattle.amqp_engine.specs.declared.port.Wrote.{Wrote}
-use Rattle.amqp_engine.specs.Log.{on_last, IsWithin}
+use Rattle.amqp_engine.specs.Log.{on_last, TookAtMost}
 use Rattle.amqp_engine.specs.Engine.{Engine, with_talk, rule_at, step_engine, step_linked, read_one, settle, commit_all, ended_overlong, can_write, taken_by, starve_at}
 use Rattle.amqp_session.specs.Writing.{frames_waiting, end_overlong}
-use Rattle.amqp_engine.specs.Turn.{Turn, answers_of, Progress, asks, wants_ask, offer_part, offered, answered, read, turn, AreTurns}
+use Rattle.amqp_engine.specs.Turn.{Turn, write_answers, Progress, asks, wants_ask, offer_part, offered, answered, read, turn, AreTurns}
 use Rattle.amqp_engine.specs.Sending.{Sending, nothing_sent, offer_sending, offers_sending, step_sending, sendings_from, SendsInOrder}
 use Rattle.amqp_types.proofs.Small.{if_case, if_by, if-true, and-left, all-push}
 use Rattle.amqp_engine.proofs.Settling.{settle-talk}
@@ -95,7 +95,7 @@ still-open : (e : Engine) → can_write e ≡ true → is_open (commit_all e).ta
 still-open e can =
     commits-keep (λ (y : Engine). is_open y.talk) (λ y fs ms bytes. refl) (frames_waiting e.talk) e ∙ and-left (is_open e.talk) _ can
 
-pub sends-offer : (at : ℕ) (w : Wrote) (e : Engine) (ss : List Sending) → can_write e ≡ true → IsWithin (length (offered e)) w → Sends e ss
+pub sends-offer : (at : ℕ) (w : Wrote) (e : Engine) (ss : List Sending) → can_write e ≡ true → TookAtMost (length (offered e)) w → Sends e ss
     → Sends (answered at w e) (on_last (offer_sending w e) ss)
 sends-offer at w e ss can fits h =
     let l = h.last (and-left (is_open e.talk) _ can) in
@@ -173,7 +173,7 @@ turns-same : (us : List Turn) (e : Engine) (ss : List Sending) → lifting.turns
 turns-same [] e ss = refl
 turns-same (u ∷ us) e ss =
     turns-same us (turn u e) (lifting.turn_on (List Sending) asking stepping offering u e ss)
-    ∙ ap (sendings_from us (turn u e)) (offers-same (answers_of u.notes) (read u (asks e)) (step_sending u.step (asks e) ss))
+    ∙ ap (sendings_from us (turn u e)) (offers-same (write_answers u.notes) (read u (asks e)) (step_sending u.step (asks e) ss))
 
 pub order : (us : List Turn) (e : Engine) (ss : List Sending) → AreTurns us e → Sends e ss → AllByRecursion SendsInOrder (sendings_from us e ss)
 order us e ss may sends =

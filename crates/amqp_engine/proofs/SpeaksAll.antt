@@ -2,13 +2,13 @@
 use Rattle.std.proofs.Common.{◌≡◌, ℕ, zero, suc, ◌-◌, nat_le, if◌then◌else◌, Bool, true, false, length, Option, Some, None, refl, sym, subst}
 use Rattle.std.specs.Prelude.{option_to_list}
 use Rattle.amqp_outbox.specs.declared.item.Item.{Item}
-use Rattle.amqp_session.specs.Writing.{next_item, fitting, frames_waiting}
+use Rattle.amqp_session.specs.Writing.{next_out, fitting, frames_waiting}
 use Rattle.amqp_session.specs.Writing.{committed_as as committed_in_session}
 use Rattle.amqp_faultless.specs.Faultless.{Server, said_to}
 use Rattle.amqp_outbox.specs.Items.{size_of}
 use Rattle.amqp_faultless.proofs.Greeted.{IsMet}
 use Rattle.amqp_faultless.proofs.Speaks.{met-commit, said_all, said_all-append}
-use Rattle.amqp_engine.specs.Engine.{Engine, fitting_next, committed_as, commit_one, commits, commit_all}
+use Rattle.amqp_engine.specs.Engine.{Engine, fitting_next, committed_with_bytes, commit_one, commits, commit_all}
 use Rattle.amqp_engine.specs.Sending.{committed_in, committed_before}
 
 -- ---- all that fits is committed
@@ -23,11 +23,11 @@ fitting-next space (Some j) i h = by (nat_le (size_of j) space) h where
 
 met-commit-one : (e : Engine) (s : Server) → IsMet s e.talk → IsMet (said_all (option_to_list (fitting_next e)) s) (commit_one e).talk
 met-commit-one e s m = by (fitting_next e) refl where
-  by : (x : Option Item) → fitting_next e ≡ x → IsMet (said_all (option_to_list x) s) (committed_as x e).talk
+  by : (x : Option Item) → fitting_next e ≡ x → IsMet (said_all (option_to_list x) s) (committed_with_bytes x e).talk
   by None is = m
   by (Some i) is =
       let P : Option Item → Type 0 = λ x. IsMet (said_to i.frame s) (committed_in_session x e.talk) in
-      subst P (sym is) (met-commit s e.talk i (fitting-next (e.talk.capacity - length e.unsent) (next_item e.talk) i is) m)
+      subst P (sym is) (met-commit s e.talk i (fitting-next (e.talk.capacity - length e.unsent) (next_out e.talk) i is) m)
 
 pub met-commits : (n : ℕ) (e : Engine) (s : Server) → IsMet s e.talk → IsMet (said_all (committed_in n e) s) (commits n e).talk
 met-commits zero e s m = m

@@ -10,14 +10,14 @@ use Rattle.amqp_session.specs.declared.committed.Mark.{Mark}
 use Rattle.amqp_session.specs.Talk.{Talk}
 use Rattle.amqp_session.specs.Changes.{present_at}
 use Rattle.amqp_session.specs.Sound.{IsSound}
-use Rattle.amqp_session.specs.Writing.{next_item, frames_waiting, taken, committed_as as committed_in_session}
+use Rattle.amqp_session.specs.Writing.{next_out, frames_waiting, taken, committed_as as committed_in_session}
 use Rattle.amqp_faultless.specs.Faultless.{Server, said_to}
 use Rattle.amqp_session.proofs.Keeping.{present-keeps}
 use Rattle.amqp_faultless.proofs.Greeted.{IsMet}
 use Rattle.amqp_faultless.proofs.Speaks.{GoOn, said_all, said_all-append}
 use Rattle.amqp_faultless.proofs.Tuned.{first_tune, Tuned}
 use Rattle.amqp_faultless.proofs.TunedRules.{tuned-commit, tuned-present, tuned-taken}
-use Rattle.amqp_engine.specs.Engine.{Engine, fitting_next, committed_as, commit_one, commits, commit_all, took}
+use Rattle.amqp_engine.specs.Engine.{Engine, fitting_next, committed_with_bytes, commit_one, commits, commit_all, took}
 use Rattle.amqp_engine.specs.Sending.{frames, committed_in, committed_before}
 use Rattle.amqp_engine.specs.Valid.{agreed_heartbeat, agreed_frame_max}
 use Rattle.amqp_engine.proofs.Settling.{settle-talk}
@@ -45,11 +45,11 @@ first-heartbeat (f ∷ fs) more m h is = first-heartbeat fs more m h is
 tuned-commit-one : (fs : List Frame) (s : Server) (e : Engine) → IsMet s e.talk → Tuned fs s e.talk
     → Tuned (fs ++ frames (option_to_list (fitting_next e))) (said_all (option_to_list (fitting_next e)) s) (commit_one e).talk
 tuned-commit-one fs s e m h = by (fitting_next e) refl where
-  by : (x : Option Item) → fitting_next e ≡ x → Tuned (fs ++ frames (option_to_list x)) (said_all (option_to_list x) s) (committed_as x e).talk
+  by : (x : Option Item) → fitting_next e ≡ x → Tuned (fs ++ frames (option_to_list x)) (said_all (option_to_list x) s) (committed_with_bytes x e).talk
   by None is = let P : List Frame → Type 0 = λ x. Tuned x s e.talk in subst P (sym (append-nil fs)) h
   by (Some i) is =
       let P : Option Item → Type 0 = λ x. Tuned (fs ++ i.frame ∷ []) (said_to i.frame s) (committed_in_session x e.talk) in
-      subst P (sym is) (tuned-commit fs s e.talk i (fitting-next (e.talk.capacity - length e.unsent) (next_item e.talk) i is) m h)
+      subst P (sym is) (tuned-commit fs s e.talk i (fitting-next (e.talk.capacity - length e.unsent) (next_out e.talk) i is) m h)
 
 met-one : (s : Server) (e : Engine) → IsMet s e.talk → IsMet (said_all (option_to_list (fitting_next e)) s) (commit_one e).talk
 met-one s e m =

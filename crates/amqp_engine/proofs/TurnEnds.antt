@@ -21,7 +21,7 @@ use Rattle.amqp_session.specs.Changes.{present_at, queue, fail, lose, finish, fi
 use Rattle.amqp_session.specs.Recovery.{next_delay}
 use Rattle.amqp_session.specs.Links.{linked, refused_after, link_failed, piece, lost}
 use Rattle.amqp_frame.specs.declared.frame.Frame.TheVariants.{Heartbeat}
-use Rattle.amqp_session.specs.Ticks.{is_missed, is_due, missing_heartbeat, beat, refreshed, link_at, timed, tick}
+use Rattle.amqp_session.specs.Ticks.{is_missed, is_heartbeat_due, missing_heartbeat, beat, refreshed, link_at, timed, tick}
 use Rattle.amqp_session.specs.Commands.{command}
 use Rattle.amqp_session.specs.Writing.{follow, sent, sent_among, taken, end_overlong}
 use Rattle.amqp_engine.specs.declared.port.Step.{Step}
@@ -31,9 +31,10 @@ use Rattle.amqp_engine.specs.declared.port.Wrote.TheVariants.{Took, Failed, NoMe
 use Rattle.amqp_engine.specs.Log.{Log}
 use Rattle.amqp_engine.specs.Engine.{Engine, settle, rule_at, with_talk, step_engine, step_questions, took, wrote, commit_all, overlong_next, ended_overlong, refuse_overlong}
 use Rattle.amqp_session.specs.Writing.{frames_waiting}
-use Rattle.amqp_engine.specs.Turn.{Turn, answers_of, Progress, asks, goes, reads, part, questioned, is_piece, step_part, is_part, begun, drain, drained, offer_part, offered, is_all, answered, read, written, applied, turn, turns, starved_after, AreTurns, Leads}
+use Rattle.amqp_engine.specs.Turn.{Turn, write_answers, Progress, asks, goes, reads, part, questioned, is_piece, step_part, is_part, begun, drain, drained, offer_part, offered, is_all, answered, read, after_writes, applied, turn, turns, starved_after, AreTurns, Leads}
 use Rattle.amqp_engine.specs.Tell.{TellsTurns, Applies, Runs, turn_of}
-use Rattle.amqp_engine.specs.Causes.{is_final, FailsToWrite, IsReadError, Misreads, LosesClosed, IsCause, Brings, brought, is_tick, is_last, sends_close_ok, is_finish}
+use Rattle.amqp_engine.specs.Causes.{is_final, FailsToWrite, IsReadError, Misreads, LosesClosed, IsCause, Brings, brought, is_tick, is_last, sends_close_ok}
+use Rattle.amqp_session.specs.Sound.{is_finish}
 use Rattle.amqp_session.proofs.Heard.{secret-case}
 use Rattle.amqp_types.proofs.Small.{if_case, if_by, if-true, if-false, and-false, and-true, none-from, and-left, or-right}
 use Rattle.amqp_session.proofs.Keeping.{present-keeps, kept-open, pay-keeps, off-finish, follow-link, stays-command}
@@ -130,7 +131,7 @@ ends-tick P answers t p =
     let first : Ends P t x =
     if_by (Ends P t) (is_missed t) (lose MissingHeartbeatError t) t (λ h. ends-final P MissingHeartbeatError t t (p h)) (λ h. ends-kept P t t refl) in
     let beaten : Ends P t (beat t) =
-    if_case (Ends P t) (is_due x) (record (queue 0 Heartbeat x) { last_write = x.present }) x
+    if_case (Ends P t) (is_heartbeat_due x) (record (queue 0 Heartbeat x) { last_write = x.present }) x
     (ends-then P t x (record (queue 0 Heartbeat x) { last_write = x.present }) first (ends-kept P x (record (queue 0 Heartbeat x) { last_write = x.present }) refl)) first in
     let before : Ends P t (timed answers t) =
     secret-case (Ends P t) answers (beat t) beaten (λ asks said. ends-then P t (beat t) (refreshed said (beat t)) beaten (ends-kept P (beat t) (refreshed said (beat t)) (refreshed-end said (beat t)))) in
@@ -473,13 +474,13 @@ failed-noted (k ∷ ks) b (w ∷ ws) after h =
     let first : Took k ≡ w = cc in
     (later.0, ap (λ vs. Took k ∷ vs) later.1 ∙ ap (λ v. v ∷ ws) first)
 
-fails-to-write : (u : Turn) (x : Engine) → Fails (answers_of u.notes) (read u x) → FailsToWrite u x
+fails-to-write : (u : Turn) (x : Engine) → Fails (write_answers u.notes) (read u x) → FailsToWrite u x
 fails-to-write u x h =
     let noted = failed-noted u.notes.tooks u.notes.failed h.before h.after h.answers in
     let Q : List Wrote → Type 0 = λ ws. IsTrue (is_final (IOError BrokenPipe) (drain ws (read u x)).engine.talk) in
     (noted.0, subst Q (sym noted.1) h.final)
 
-writes-cause : (u : Turn) (x : Engine) (k : ErrorKind) → WritesError (answers_of u.notes) (read u x) k → IsCause k u x
+writes-cause : (u : Turn) (x : Engine) (k : ErrorKind) → WritesError (write_answers u.notes) (read u x) k → IsCause k u x
 writes-cause u x (IOError fault) h = inr (h.0, fails-to-write u x h.1)
 writes-cause u x (ProtocolError e) h =
     inr (inr (record { before = h.before; answer = h.answer; after = h.after; answers = h.answers; last = h.last; closed = h.closed; final = h.final }))
@@ -496,11 +497,11 @@ ends-applied : (u : Turn) (x : Engine) → Ends (λ k. IsCause k u x) x.talk (ap
 ends-applied u x =
     let P : ErrorKind → Type 0 = λ k. IsCause k u x in
     let r = read u x in
-    let w = written u x in
+    let w = after_writes u x in
     ends-then P x.talk w.engine.talk (applied u x).talk
     (ends-then P x.talk r.engine.talk w.engine.talk
     (ends-as (EarlyError u x) P x.talk r.engine.talk (early-cause u x) (ends-read u x))
-    (ends-as (WritesError (answers_of u.notes) r) P r.engine.talk w.engine.talk (writes-cause u x) (ends-drained (answers_of u.notes) r)))
+    (ends-as (WritesError (write_answers u.notes) r) P r.engine.talk w.engine.talk (writes-cause u x) (ends-drained (write_answers u.notes) r)))
     (if_case (λ (y : Engine). Ends P w.engine.talk y.talk) (has_ended x.talk) w.engine (starved_after u.notes.starved u.at w.engine)
     (ends-kept P w.engine.talk w.engine.talk refl) (starved-cause P u.notes.starved u.at w.engine (λ h. h)))
 

@@ -20,7 +20,7 @@ use Rattle.amqp_engine.specs.declared.port.Wrote.TheVariants.{Took}
 use Rattle.amqp_engine.specs.Plan.{Coming}
 use Rattle.amqp_engine.specs.Log.{Log}
 use Rattle.amqp_engine.specs.Engine.{Engine, commit_all, overlong_next, took}
-use Rattle.amqp_engine.specs.Turn.{Progress, answers_of, asks, read, drained}
+use Rattle.amqp_engine.specs.Turn.{Progress, write_answers, asks, read, drained}
 use Rattle.amqp_engine.specs.Tell.{log_stepped}
 use Rattle.amqp_engine.specs.Sending.{Sending, committed_before, frames, offer_sending}
 use Rattle.amqp_engine.specs.Play.{waiting, played_writes, told_turn, played_turn_of}
@@ -52,15 +52,15 @@ reads-of c answers e a =
 
 -- its writes are those that are played from there
 pub writes-of : (c : Coming) (answers : List Asked) (e : Engine) (a : Log)
-    → answers_of (played_turn_of c answers e a).notes
-    ≡ answers_of
+    → write_answers (played_turn_of c answers e a).notes
+    ≡ write_answers
     (played_writes (waiting (read (played_turn_of c answers e a) (asks e)).engine) (read (played_turn_of c answers e a) (asks e)) (log_stepped (played_turn_of c answers e a) e a))
 writes-of c answers e a =
     let u = played_turn_of c answers e a in
     let q = read (told_turn c answers) (asks e) in
     let b = log_stepped u e a in
-    ap answers_of (sym (played-any (waiting q.engine) (drop (length q.questions) u.notes.auths) q b))
-    ∙ ap (λ (x : Progress). answers_of (played_writes (waiting x.engine) x b)) (sym (reads-of c answers e a))
+    ap write_answers (sym (played-any (waiting q.engine) (drop (length q.questions) u.notes.auths) q b))
+    ∙ ap (λ (x : Progress). write_answers (played_writes (waiting x.engine) x b)) (sym (reads-of c answers e a))
 
 -- ---- what holds while it is written
 
@@ -104,6 +104,6 @@ module _ (options : Options) (moment last : ℕ) (unread : List ℕ) where
   -- the writes of a turn
   pub is-written : (xs : List Sending) (n : ℕ) (p : Progress) (a : Log) (s : Server) (x : Sending) → p.at ≤ moment → IsFree a.plan → IsSound p.engine.talk
       → Writes s x p.engine → IsClear p.engine → x.sent ≡ length x.committed → IsMet s p.engine.talk
-      → IsWritten p (drained (answers_of (played_writes n p a)) p) s (answers_of (played_writes n p a)) xs x
+      → IsWritten p (drained (write_answers (played_writes n p a)) p) s (write_answers (played_writes n p a)) xs x
   is-written xs n p a s x early free sound h clear all m =
       drained-all Writes moment writes-fit writes-kept xs n p a s x early free sound h clear all m

@@ -10,9 +10,9 @@ use Rattle.amqp_session.specs.Talk.{Talk, is_open}
 use Rattle.amqp_session.specs.Writing.{mark_of, sent, sent_among, frames_waiting}
 use Rattle.amqp_session.specs.Writing as writing
 use Rattle.amqp_types.proofs.Small.{if-true, is-at-most, other-number, if_by}
-use Rattle.amqp_engine.specs.Engine.{Engine, fitting_next, committed_as, commit_one, commits, commit_all}
+use Rattle.amqp_engine.specs.Engine.{Engine, fitting_next, committed_with_bytes, commit_one, commits, commit_all}
 use Rattle.amqp_engine.specs.Sending.{committed_in, committed_before, encodings, sent_in}
-use Rattle.amqp_engine.specs.Valid.{Saying, Ours, after_sayings}
+use Rattle.amqp_engine.specs.Valid.{LinkSaying, Ours, after_sayings}
 use Rattle.amqp_session.specs.Sound.{IsSound}
 use Rattle.amqp_session.specs.Changes.{present_at}
 use Rattle.amqp_session.specs.Writing.{taken}
@@ -33,7 +33,7 @@ use Rattle.amqp_engine.proofs.SpeaksAll.{met-commit-all}
 -- ---- sayings
 
 -- the frames of some items are said
-pub ours-said : (items : List Item) (rest : List Saying) (s : Server)
+pub ours-said : (items : List Item) (rest : List LinkSaying) (s : Server)
     → after_sayings (map Ours (map (λ (i : Item). i.frame) items) ++ rest) (Some s) ≡ after_sayings rest (Some (said_all items s))
 ours-said [] rest s = refl
 ours-said (i ∷ items) rest s = ours-said items rest (said_to i.frame s)
@@ -65,7 +65,7 @@ commits-none e = record { marks = sym (append-nil e.talk.committed); bytes = sym
 
 commits-one : (e : Engine) → Commits e (commit_one e) (option_to_list (fitting_next e))
 commits-one e = by (fitting_next e) refl where
-  by : (x : Option Item) → fitting_next e ≡ x → Commits e (committed_as x e) (option_to_list x)
+  by : (x : Option Item) → fitting_next e ≡ x → Commits e (committed_with_bytes x e) (option_to_list x)
   by None is = commits-none e
   by (Some i) is =
       record {

@@ -26,7 +26,7 @@ use Rattle.amqp_session.specs.Frames.{on_frame}
 use Rattle.amqp_session.specs.Ticks.{tick}
 use Rattle.amqp_session.specs.Commands.{command}
 use Rattle.amqp_session.specs.Sound.{IsSound}
-use Rattle.amqp_session.specs.Writing.{frames_waiting, next_item, fitting, mark_of, taken, end_overlong}
+use Rattle.amqp_session.specs.Writing.{frames_waiting, next_out, fitting, mark_of, taken, end_overlong}
 use Rattle.amqp_types.proofs.Small.{if_case, if_by, if-true, if-false, and-false, and-left, and-right}
 use Rattle.amqp_session.proofs.Soundness.{sound-commit, sound-taken, sound-present, sound-asked, sound-link_failed, sound-piece, sound-lost, sound-misread, sound-frame, sound-tick, sound-starve, sound-lose, sound-start, sound-command}
 use Rattle.amqp_session.proofs.Keeping.{present-keeps, kept-open, failed-link, failed-keeps, lost-off, keeps-misread, keeps-frame, keeps-tick, off-lost, starve-ends}
@@ -38,10 +38,10 @@ use Rattle.amqp_engine.specs.declared.port.Step.TheVariants.{Linked, LinkFailed,
 use Rattle.amqp_engine.specs.declared.port.Wrote.{Wrote}
 use Rattle.amqp_engine.specs.declared.port.Wrote.TheVariants.{Took, Failed, NoMemory}
 use Rattle.amqp_engine.specs.Log.{on_last}
-use Rattle.amqp_engine.specs.Carried.{raw_frames, joined, none, AreSent, Account, AreCut, WentOut}
+use Rattle.amqp_engine.specs.Carried.{raw_frames, concatenated, none, AreSent, Account, AreCut, WentOut}
 use Rattle.amqp_engine.specs.Account.{command_of, commands_in, commands, account, IsNew}
-use Rattle.amqp_engine.specs.Engine.{Engine, begin, with_talk, rule_at, settle, step_engine, step_linked, front_of, read_badly, read_row, can_read, commit_one, commits, commit_all, committed_as, fitting_next, taken_by, overlong_next, ended_overlong, refuse_overlong, can_write}
-use Rattle.amqp_engine.specs.Turn.{Turn, answers_of, Progress, asks, wants_ask, begun, goes, part, questioned, is_part, step_part, reads, read_part, reading, is_piece, answered, offered, offer_part, drained, is_all, AreAnswers, read, written, turn, turns, starved_after, IsTurn, AreTurns, AreTold, talk}
+use Rattle.amqp_engine.specs.Engine.{Engine, begin, with_talk, rule_at, settle, step_engine, step_linked, front_of, read_badly, read_row, can_read, commit_one, commits, commit_all, committed_with_bytes, fitting_next, taken_by, overlong_next, ended_overlong, refuse_overlong, can_write}
+use Rattle.amqp_engine.specs.Turn.{Turn, write_answers, Progress, asks, wants_ask, begun, goes, part, questioned, is_part, step_part, reads, read_part, reading, is_piece, answered, offered, offer_part, drained, is_all, AreAnswers, read, after_writes, turn, turns, starved_after, IsTurn, AreTurns, AreTold, talk}
 use Rattle.amqp_engine.specs.Engine.{step_questions}
 use Rattle.amqp_engine.specs.Sending.{Sending, nothing_sent, frames, frames_sent, items_sent, committed_in, committed_before, sent_in, offer_sending, offers_sending, step_sending, turn_sending, sendings_from, sendings}
 use Rattle.amqp_engine.proofs.Settling.{settle-talk}
@@ -241,13 +241,13 @@ record AreCommitted (cs : List Cmd) (answered_sent : ℕ → Bool) (r : Reading)
 module _ (cs : List Cmd) (a : ℕ → Bool) (r : Reading) where
   sound-one : (e : Engine) → IsSound e.talk → IsSound (commit_one e).talk
   sound-one e s = by (fitting_next e) where
-    by : (o : Option Item) → IsSound (committed_as o e).talk
+    by : (o : Option Item) → IsSound (committed_with_bytes o e).talk
     by None = s
     by (Some item) = sound-commit (e.talk.capacity - length e.unsent) e.talk s
 
   one-at : (o : Option Item) (e : Engine) (left : List Item) → fitting_next e ≡ o → IsAt cs a r left e.talk → IsAt cs a r (left ++ option_to_list o) (with_frame o e).talk
   one-at None e left h k = (let Q : List Item → Type 0 = λ x. IsAt cs a r x e.talk in subst Q (sym (append-nil left)) k)
-  one-at (Some item) e left h k = at-commit cs a r left e.talk item (fitting-some (e.talk.capacity - length e.unsent) (next_item e.talk) item h) k
+  one-at (Some item) e left h k = at-commit cs a r left e.talk item (fitting-some (e.talk.capacity - length e.unsent) (next_out e.talk) item h) k
 
   one-marks : (o : Option Item) (e : Engine) (left : List Item) → AreMarks e.talk.committed left → AreMarks (with_frame o e).talk.committed (left ++ option_to_list o)
   one-marks None e left k = (let Q : List Item → Type 0 = λ x. AreMarks e.talk.committed x in subst Q (sym (append-nil left)) k)
@@ -420,10 +420,10 @@ carries-turn u e cs ss may h =
     let stepped : Carries (cs ++ commands_in u) (step_part u.step u.bytes p).engine.talk (step_sending u.step x ss) = carries-part u.step u.bytes p cs ss asked_then in
     let heard : Carries (cs ++ commands_in u) (read u x).engine.talk (step_sending u.step x ss) =
     carries-reading (cs ++ commands_in u) (step_sending u.step x ss) (is_piece u.step) (step_part u.step u.bytes p) stepped in
-    let after : Carries (cs ++ commands_in u) (written u x).engine.talk (turn_sending u e ss) =
-    carries-drain (answers_of u.notes) (read u x) (cs ++ commands_in u) (step_sending u.step x ss) may.applied.answers heard in
-    if_case (λ (y : Engine). Carries (cs ++ commands_in u) y.talk (turn_sending u e ss)) (has_ended x.talk) (written u x).engine (starved_after u.notes.starved u.at (written u x).engine)
-    after (carries-starved u.notes.starved u.at (written u x).engine (cs ++ commands_in u) (turn_sending u e ss) after)
+    let after : Carries (cs ++ commands_in u) (after_writes u x).engine.talk (turn_sending u e ss) =
+    carries-drain (write_answers u.notes) (read u x) (cs ++ commands_in u) (step_sending u.step x ss) may.applied.answers heard in
+    if_case (λ (y : Engine). Carries (cs ++ commands_in u) y.talk (turn_sending u e ss)) (has_ended x.talk) (after_writes u x).engine (starved_after u.notes.starved u.at (after_writes u x).engine)
+    after (carries-starved u.notes.starved u.at (after_writes u x).engine (cs ++ commands_in u) (turn_sending u e ss) after)
 
 -- turns, one after another
 carries-turns : (us : List Turn) (e : Engine) (cs : List Cmd) (ss : List Sending) → AreTurns us e → Carries cs e.talk ss → Carries (cs ++ commands us) (turns us e).talk (sendings_from us e ss)
@@ -537,5 +537,5 @@ went-out t us new may told =
       are_publishes = same-at is_publish cs h.answered a.answered_sent p.publishes same p.are_publishes;
       order = p.order;
       in_turns = p.in_turns;
-      whole = sym (append-nil (joined k.kept)) ∙ ap (λ fs. joined k.kept ++ fs) (sym nothing) ∙ p.whole;
+      whole = sym (append-nil (concatenated k.kept)) ∙ ap (λ fs. concatenated k.kept ++ fs) (sym nothing) ∙ p.whole;
     }

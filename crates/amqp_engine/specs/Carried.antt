@@ -54,7 +54,7 @@ pub record IsTorn (a : Account) (part : List Frame) : Type 0 where
   pub frames : AreFramesOf command (part ++ rest)
 
 -- of the frames of a link the last are set aside: none, or such a part of a publish
-pub record IsCut (a : Account) (fs kept : List Frame) : Type 0 where
+pub record IsCutOff (a : Account) (fs kept : List Frame) : Type 0 where
   pub part : List Frame
   pub frames : fs ≡ kept ++ part
   pub torn : (part ≡ []) ⊎ IsTorn a part
@@ -62,7 +62,7 @@ pub record IsCut (a : Account) (fs kept : List Frame) : Type 0 where
 -- so on each link
 abbrev pub AreCut : Account → List (List Frame) → List (List Frame) → Type 0
 AreCut a [] [] = Unit {0}
-AreCut a (fs ∷ links) (kept ∷ more) = IsCut a fs kept × AreCut a links more
+AreCut a (fs ∷ links) (kept ∷ more) = IsCutOff a fs kept × AreCut a links more
 AreCut a _ _ = ⊥
 
 -- ---- what is claimed
@@ -74,14 +74,14 @@ pub data Merges {A : Type 0} : List A → List A → List A → Type 0 where
   right : {y : A} {xs ys zs : List A} → Merges xs ys zs → Merges xs (y ∷ ys) (y ∷ zs)
 
 -- the elements of a list without some of them, in order
-pub data IsWithin {A : Type 0} : List A → List A → Type 0 where
-  none : IsWithin [] []
-  kept : {x : A} {xs ys : List A} → IsWithin xs ys → IsWithin (x ∷ xs) (x ∷ ys)
-  left_out : {y : A} {xs ys : List A} → IsWithin xs ys → IsWithin xs (y ∷ ys)
+pub data IsSubsequence {A : Type 0} : List A → List A → Type 0 where
+  none : IsSubsequence [] []
+  kept : {x : A} {xs ys : List A} → IsSubsequence xs ys → IsSubsequence (x ∷ xs) (x ∷ ys)
+  left_out : {y : A} {xs ys : List A} → IsSubsequence xs ys → IsSubsequence xs (y ∷ ys)
 
 -- one list after another
-abbrev pub joined : {A : Type 0} → List (List A) → List A
-joined xss = flat_map (λ xs. xs) xss
+abbrev pub concatenated : {A : Type 0} → List (List A) → List A
+concatenated xss = flat_map (λ xs. xs) xss
 
 -- the frames of the sends that were answered Sent and those of the publishes that were answered Sent, each in order of
 -- number, went out in turns, command after command, and nothing else of what is passed through went out but what is set
@@ -95,7 +95,7 @@ pub record WentOut (a : Account) : Type 0 where
   pub are_publishes : AreSent is_publish a.answered_sent 1 a.commands publishes
   pub order : List (List Frame)
   pub in_turns : Merges sends publishes order
-  pub whole : joined kept ≡ joined order
+  pub whole : concatenated kept ≡ concatenated order
 
 -- a frame that was handed out, as it was read
 abbrev pub frame_of : Handed → Frame
@@ -106,7 +106,7 @@ pub record CameIn (a : Account) : Type 0 where
   -- all of it, in order, with the promise that opened its channel
   pub handed : List (ℕ × Handed)
   pub each : (opened : ℕ) → handed_on opened handed ≡ unwrap_or (at opened a.handed) []
-  pub read : IsWithin (map (λ h. frame_of h.1) handed) (raw_frames (joined a.read))
+  pub read : IsSubsequence (map (λ h. frame_of h.1) handed) (raw_frames (concatenated a.read))
 
 -- nothing is torn, swapped or sent twice, and nothing is handed out that did not come
 pub record Carried (a : Account) : Type 0 where

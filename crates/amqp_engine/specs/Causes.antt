@@ -4,8 +4,6 @@ use Rattle.amqp_types.specs.declared.error.AMQPError.{AMQPError}
 use Rattle.amqp_frame.specs.declared.frame.Read.{Read}
 use Rattle.amqp_frame.specs.declared.frame.Read.TheVariants as reading
 use Rattle.amqp_session.specs.declared.committed.Mark.{Mark}
-use Rattle.amqp_session.specs.declared.committed.Then.{Then}
-use Rattle.amqp_session.specs.declared.committed.Then.TheVariants.{Finish}
 use Rattle.amqp_promise.specs.declared.io_fault.IoFault.{IoFault}
 use Rattle.amqp_promise.specs.declared.io_fault.IoFault.TheVariants.{Aborted, Refused, Reset, BrokenPipe}
 use Rattle.amqp_session.specs.declared.server_close.ServerClose.TheVariants.{WithError}
@@ -16,6 +14,7 @@ use Rattle.amqp_session.specs.Talk.{Talk, is_acting, is_asked, is_open, end_of}
 use Rattle.amqp_session.specs.Changes.{present_at}
 use Rattle.amqp_session.specs.Recovery.{next_delay, recovery_delay}
 use Rattle.amqp_session.specs.Causes.{IsFrameError}
+use Rattle.amqp_session.specs.Sound.{is_finish}
 use Rattle.amqp_session.specs.Ticks.{is_missed}
 use Rattle.amqp_session.specs.Violations.{frame_too_large, stray_heartbeat}
 use Rattle.amqp_engine.specs.declared.port.Step.{Step}
@@ -24,7 +23,7 @@ use Rattle.amqp_engine.specs.declared.port.Wrote.{Wrote}
 use Rattle.amqp_engine.specs.declared.port.Wrote.TheVariants.{Took, Failed, NoMemory as WroteNoMemory}
 use Rattle.amqp_engine.specs.Log.{Log}
 use Rattle.amqp_engine.specs.Engine.{Engine, front_of, can_read, commit_all, overlong_next}
-use Rattle.amqp_engine.specs.Turn.{Turn, answers_of, Progress, asks, begun, drain, goes, is_piece, read, reads, step_part, turns, Leads}
+use Rattle.amqp_engine.specs.Turn.{Turn, write_answers, Progress, asks, begun, drain, goes, is_piece, read, reads, step_part, turns, Leads}
 use Rattle.amqp_engine.specs.Tell.{TellsTurns, Applies, turn_of}
 
 -- ---- faults
@@ -103,11 +102,6 @@ pub record Misreads (error : ErrorKind) (u : Turn) (e : Engine) : Type 0 where
 
 -- ---- the server's close
 
--- close-ok was sent, and the session finishes
-abbrev pub is_finish : Then → Bool
-is_finish Finish = true
-is_finish _ = false
-
 -- close-ok is among the committed frames whose last byte is among so many bytes
 abbrev pub sends_close_ok : ℕ → List Mark → Bool
 sends_close_ok n [] = false
@@ -138,7 +132,7 @@ pub record WritesLast (error : AMQPError) (u : Turn) (e : Engine) : Type 0 where
   pub before : List Wrote
   pub answer : Wrote
   pub after : List Wrote
-  pub answers : answers_of u.notes ≡ before ++ answer ∷ after
+  pub answers : write_answers u.notes ≡ before ++ answer ∷ after
   pub last : IsTrue (is_last answer (commit_all (drain before (read u e)).engine))
   pub closed : (drain before (read u e)).engine.talk.server_close ≡ Some (WithError error)
   pub final : IsTrue (is_final (ProtocolError error) (drain before (read u e)).engine.talk)
@@ -158,8 +152,8 @@ IsSilence u e =
 
 -- after its writes a turn goes on, and the frame that is next is longer than the whole capacity
 pub record IsOverlong (size : ℕ) (u : Turn) (e : Engine) : Type 0 where
-  pub goes_on : IsTrue (goes (drain (answers_of u.notes) (read u e)))
-  pub next : overlong_next (drain (answers_of u.notes) (read u e)).engine ≡ Some size
+  pub goes_on : IsTrue (goes (drain (write_answers u.notes) (read u e)))
+  pub next : overlong_next (drain (write_answers u.notes) (read u e)).engine ≡ Some size
 
 -- ---- the turn that ends a session
 

@@ -138,14 +138,14 @@ abbrev pub fitting_next : Engine → Option Item
 fitting_next e = next_within (e.talk.capacity - length e.unsent) e.talk
 
 -- the frame that is to go out, where there is one, is committed, and its bytes are unsent
-abbrev pub committed_as : Option Item → Engine → Engine
-committed_as None e = e
-committed_as (Some item) e =
+abbrev pub committed_with_bytes : Option Item → Engine → Engine
+committed_with_bytes None e = e
+committed_with_bytes (Some item) e =
     record e { talk = commit (e.talk.capacity - length e.unsent) e.talk; unsent = e.unsent ++ encoding item.frame }
 
 -- the next frame is committed, where it fits
 abbrev pub commit_one : Engine → Engine
-commit_one e = committed_as (fitting_next e) e
+commit_one e = committed_with_bytes (fitting_next e) e
 
 -- frames are committed while there is one that fits, and at most so many
 abbrev pub commits : ℕ → Engine → Engine

@@ -16,7 +16,7 @@ use Rattle.amqp_engine.specs.declared.given.Given.{Given}
 use Rattle.amqp_engine.specs.Plan.{step_of, bytes_of}
 use Rattle.amqp_types.specs.Counts.{Rose}
 use Rattle.amqp_engine.specs.Engine.{Engine, step_engine, step_questions, read_row, row_questions}
-use Rattle.amqp_engine.specs.Turn.{Notes, answers_of, Progress, AreAnswers, IsAnswered, drained, exchange_of}
+use Rattle.amqp_engine.specs.Turn.{Notes, write_answers, Progress, AreAnswers, IsAnswered, drained, exchange_of}
 use Rattle.amqp_engine.specs.Log.{Log}
 use Rattle.amqp_engine.specs.Tell.{Applies, MayCome, TellsOffers, offers_from, turn_of}
 
@@ -103,17 +103,17 @@ abbrev pub IsSettled : Engine → Type 0
 IsSettled e = keeps_unread e.talk ≡ false → e.unread ≡ []
 
 -- the engine when the rest of a piece has joined the unread bytes, where they are kept
-abbrev pub joined : List ℕ → Engine → Engine
-joined rest e = if keeps_unread e.talk then record e { unread = e.unread ++ rest } else e
+abbrev pub piece_joined : List ℕ → Engine → Engine
+piece_joined rest e = if keeps_unread e.talk then record e { unread = e.unread ++ rest } else e
 
 -- the writes that are due, with what is noted of them, lead from here to there and are told; and where one of them
 -- failed, the port's count of faults rose
 pub record Writes (before after : Progress) (log log' : Option Log) (count count' : ℕ) : Type 0 where
   pub notes : Notes
   pub cut : notes.starved ≡ before.cut
-  pub answers : AreAnswers (answers_of notes) before
-  pub leaves : drained (answers_of notes) before ≡ after
-  pub tells : TellsOffers (offers_from (answers_of notes) before) log log'
+  pub answers : AreAnswers (write_answers notes) before
+  pub leaves : drained (write_answers notes) before ≡ after
+  pub tells : TellsOffers (offers_from (write_answers notes) before) log log'
   pub counted : notes.failed ≡ true → Rose count count'
 
 -- a turn is applied, and where one of its writes failed, the port's count of faults rose; what was asked in it may come

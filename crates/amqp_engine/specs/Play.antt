@@ -40,10 +40,10 @@ abbrev pub no_notes : Notes
 no_notes = record { tooks = []; failed = false; auths = []; starved = None }
 
 -- the answer to a write is noted, before what is noted of those that follow; a port that finds no memory takes nothing
-abbrev pub noted : Wrote → Notes → Notes
-noted (Took k) n = record n { tooks = k ∷ n.tooks }
-noted Failed n = record n { failed = true }
-noted NoMemory n = record n { tooks = 0 ∷ n.tooks }
+abbrev pub answer_noted : Wrote → Notes → Notes
+answer_noted (Took k) n = record n { tooks = k ∷ n.tooks }
+answer_noted Failed n = record n { failed = true }
+answer_noted NoMemory n = record n { tooks = 0 ∷ n.tooks }
 
 -- what is noted of at most so many offers
 abbrev pub played_writes : ℕ → Progress → Log → Notes
@@ -51,7 +51,7 @@ played_writes zero p a = no_notes
 played_writes (suc most) p a =
     let w = played_answer p.engine a in
     if can_write p.engine
-    then noted w (if is_all w (length (offered p.engine))
+    then answer_noted w (if is_all w (length (offered p.engine))
     then played_writes most (offer_part w p) (log_write (offered p.engine) w a)
     else no_notes)
     else no_notes

@@ -12,13 +12,13 @@ use Rattle.amqp_engine.specs.declared.port.Step.{Step}
 use Rattle.amqp_engine.specs.Plan.{step_of}
 use Rattle.amqp_engine.specs.Log.{Log, log_step}
 use Rattle.amqp_engine.specs.Engine.{Engine, begin, with_talk}
-use Rattle.amqp_engine.specs.Turn.{Turn, answers_of, IsToldCommand, IsTold, asks, read, applied, IsApplied, Leads}
+use Rattle.amqp_engine.specs.Turn.{Turn, write_answers, IsToldCommand, IsTold, asks, read, applied, IsApplied, Leads}
 use Rattle.amqp_engine.specs.Tell.{Applies, turn_of}
 use Rattle.amqp_engine.specs.Sending.{Sending, frames_sent, link_bytes, step_sending, offers_sending, sendings_from, SendsInOrder}
 
 -- what was sent, once a turn was taken from its step on
 abbrev pub applied_sending : Turn → Engine → List Sending → List Sending
-applied_sending u e ss = offers_sending (answers_of u.notes) (read u e) (step_sending u.step e ss)
+applied_sending u e ss = offers_sending (write_answers u.notes) (read u e) (step_sending u.step e ss)
 
 -- an engine that was new has sent this on its links, one after another: through its turns, and through what it was told
 -- and what was taken of it between them

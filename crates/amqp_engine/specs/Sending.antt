@@ -12,7 +12,7 @@ use Rattle.amqp_engine.specs.declared.port.Step.TheVariants.{Linked}
 use Rattle.amqp_engine.specs.declared.port.Wrote.{Wrote}
 use Rattle.amqp_engine.specs.Log.{on_last}
 use Rattle.amqp_engine.specs.Engine.{Engine, begin, fitting_next, commit_one, commit_all, taken_by}
-use Rattle.amqp_engine.specs.Turn.{Turn, answers_of, Progress, asks, offer_part, read, turn}
+use Rattle.amqp_engine.specs.Turn.{Turn, write_answers, Progress, asks, offer_part, read, turn}
 
 -- what was committed on a link, and how far it was sent
 pub record Sending : Type 0 where
@@ -84,7 +84,7 @@ step_sending _ e ss = ss
 
 -- what was sent, link by link, after one turn more
 abbrev pub turn_sending : Turn → Engine → List Sending → List Sending
-turn_sending u e ss = offers_sending (answers_of u.notes) (read u (asks e)) (step_sending u.step (asks e) ss)
+turn_sending u e ss = offers_sending (write_answers u.notes) (read u (asks e)) (step_sending u.step (asks e) ss)
 
 -- what was sent, link by link, after these turns more
 abbrev pub sendings_from : List Turn → Engine → List Sending → List Sending

@@ -7,7 +7,7 @@ use Rattle.amqp_engine.specs.declared.port.Wrote.{Wrote}
 use Rattle.amqp_engine.specs.declared.port.Wrote.TheVariants.{Took, NoMemory}
 use Rattle.amqp_engine.specs.Log.{Log, log_ask, log_step, log_write, PlansStep, PlansWrite}
 use Rattle.amqp_engine.specs.Engine.{Engine}
-use Rattle.amqp_engine.specs.Turn.{Turn, Notes, answers_of, IsTold, AreTold, asks, wants_ask, Progress, goes, offered, offer_part, read, turn, applied, IsApplied, IsTurn, exchange_of, exchanges, cut_of, Leads}
+use Rattle.amqp_engine.specs.Turn.{Turn, Notes, write_answers, IsTold, AreTold, asks, wants_ask, Progress, goes, offered, offer_part, read, turn, applied, IsApplied, IsTurn, exchange_of, exchanges, cut_of, Leads}
 
 -- ---- what is told
 
@@ -28,7 +28,7 @@ offers_from (w ∷ ws) p = record { bytes = offered p.engine; answer = port_answ
 
 -- the offers of a turn, from its step on
 abbrev pub offers_of : Turn → Engine → List Offer
-offers_of u e = offers_from (answers_of u.notes) (read u e)
+offers_of u e = offers_from (write_answers u.notes) (read u e)
 
 -- offers are told
 abbrev pub log_offers : List Offer → Log → Log

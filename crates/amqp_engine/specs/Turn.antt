@@ -15,7 +15,7 @@ use Rattle.amqp_engine.specs.declared.port.Step.{Step}
 use Rattle.amqp_engine.specs.declared.port.Step.TheVariants.{Linked, LinkFailed, Piece, End, Fault, Room, Tick, Command}
 use Rattle.amqp_engine.specs.declared.port.Wrote.{Wrote}
 use Rattle.amqp_engine.specs.declared.port.Wrote.TheVariants.{Took, Failed, NoMemory}
-use Rattle.amqp_engine.specs.Log.{IsWithin}
+use Rattle.amqp_engine.specs.Log.{TookAtMost}
 use Rattle.amqp_engine.specs.Engine.{Engine, begin, with_talk, step_engine, step_questions, read_one, read_questions, can_read, commit_all, refuse_overlong, can_write, wrote, starve_at}
 
 -- what is noted of a turn: how many bytes each of its writes took, in order, and whether one more write failed; what
@@ -28,8 +28,8 @@ pub record Notes : Type 0 where
   pub starved : Option ℕ
 
 -- the answers to its writes: bytes were taken by each, and then one failed, where that is noted
-abbrev pub answers_of : Notes → List Wrote
-answers_of n = map Took n.tooks ++ (if n.failed then Failed ∷ [] else [])
+abbrev pub write_answers : Notes → List Wrote
+write_answers n = map Took n.tooks ++ (if n.failed then Failed ∷ [] else [])
 
 -- a step that was taken at a moment, with the bytes of its piece
 pub record Turn : Type 0 where
@@ -159,7 +159,7 @@ abbrev pub AreAnswers : List Wrote → Progress → Type 0
 AreAnswers [] p = IsFalse (goes p && can_write p.engine)
 AreAnswers (w ∷ ws) p =
     IsTrue (goes p && can_write p.engine)
-    × IsWithin (length (offered p.engine)) w
+    × TookAtMost (length (offered p.engine)) w
     × MatchBool (is_all w (length (offered p.engine))) (AreAnswers ws (offer_part w p)) (ws ≡ [])
 
 -- ---- a turn
@@ -169,8 +169,8 @@ abbrev pub read : Turn → Engine → Progress
 read u e = reading (is_piece u.step) (step_part u.step u.bytes (begun u.at u.notes.starved u.notes.auths e))
 
 -- a turn up to the end of its writes
-abbrev pub written : Turn → Engine → Progress
-written u e = drained (answers_of u.notes) (read u e)
+abbrev pub after_writes : Turn → Engine → Progress
+after_writes u e = drained (write_answers u.notes) (read u e)
 
 -- the session ends, where memory was refused after so many parts
 abbrev pub starved_after : Option ℕ → ℕ → Engine → Engine
@@ -180,7 +180,7 @@ starved_after (Some j) at e = starve_at at j e
 -- a turn from its step on; where it was cut, a session that had not ended before ends for want of memory
 abbrev pub applied : Turn → Engine → Engine
 applied u e =
-    let after = (written u e).engine in
+    let after = (after_writes u e).engine in
     if has_ended e.talk then after else starved_after u.notes.starved u.at after
 
 -- a turn: a link is asked for where one is wanted, then the step is taken, with all that follows it
@@ -215,9 +215,9 @@ IsAnswered _ _ _ = ⊥
 -- the writes are those that are due, the provider answered what it was asked, and where the turn was cut, so many of
 -- its parts were done
 pub record IsApplied (u : Turn) (e : Engine) : Type 0 where
-  pub answers : AreAnswers (answers_of u.notes) (read u e)
+  pub answers : AreAnswers (write_answers u.notes) (read u e)
   pub asked : IsAnswered u.notes.starved (read u e).questions u.notes.auths
-  pub cut : IsCut u.notes.starved (written u e).done
+  pub cut : IsCut u.notes.starved (after_writes u e).done
 
 -- what was asked in a turn, from its step on, with the answers
 abbrev pub exchange_of : Turn → Engine → Exchange

@@ -12,8 +12,8 @@ use Rattle.amqp_session.specs.declared.command.Answer.TheVariants.{Connected}
 use Rattle.amqp_session.specs.Listed.{at}
 use Rattle.amqp_session.specs.Talk.{Talk, end_of}
 use Rattle.amqp_session.specs.Providers.{Exchange}
-use Rattle.amqp_faultless.specs.Faultless.{Server, silent, said_to, heard_from, is_open_ok, AreSayable, IsShortCommand}
-use Rattle.amqp_faultless.specs.Faultless.Stage.{Gone}
+use Rattle.amqp_faultless.specs.Faultless.{Server, silent, said_to, heard_from, opens_connection, AreSayable, IsShortCommand}
+use Rattle.amqp_faultless.specs.Faultless.ServerStage.{Gone}
 use Rattle.amqp_engine.specs.declared.given.Given.{Given}
 use Rattle.amqp_engine.specs.declared.given.GivenStep.{GivenStep}
 use Rattle.amqp_engine.specs.declared.given.GivenStep.TheVariants as given
@@ -29,25 +29,25 @@ use Rattle.amqp_engine.specs.Exchange.{Event, Heard, Said, said_of}
 -- ---- what a server may say, after what was said to it
 
 -- what is said on a link
-pub data Saying : Type 0 where
+pub data LinkSaying : Type 0 where
   -- by the server
-  Theirs : Frame → Saying
+  Theirs : Frame → LinkSaying
   -- by the client
-  Ours : Frame → Saying
+  Ours : Frame → LinkSaying
 
 -- one thing more was said
-abbrev pub after_saying : Saying → Server → Option Server
+abbrev pub after_saying : LinkSaying → Server → Option Server
 after_saying (Theirs f) s = heard_from s.stage f s
 after_saying (Ours f) s = Some (said_to f s)
 
 -- all this was said, and the server may say what it said
-abbrev pub after_sayings : List Saying → Option Server → Option Server
+abbrev pub after_sayings : List LinkSaying → Option Server → Option Server
 after_sayings sayings None = None
 after_sayings [] (Some s) = Some s
 after_sayings (saying ∷ sayings) (Some s) = after_sayings sayings (after_saying saying s)
 
 -- the server said what it may, and is gone
-pub record IsServed (sayings : List Saying) : Type 0 where
+pub record IsServed (sayings : List LinkSaying) : Type 0 where
   pub server : Server
   pub said : after_sayings sayings (Some silent) ≡ Some server
   pub gone : server.stage ≡ Gone
@@ -59,37 +59,37 @@ abbrev pub all_bytes : List Given → List ℕ
 all_bytes gs = flat_map (λ (g : Given). bytes_of g.what) gs
 
 -- a frame, and the octets that spell it
-pub record Spelled : Type 0 where
+pub record SpelledFrame : Type 0 where
   pub octets : List ℕ
   pub frame : Frame
 
 -- octets spell frames of at most so many: 4096 up to open-ok, and then as many as were agreed
-abbrev pub AreSpelled : ℕ → ℕ → List Spelled → Type 0
+abbrev pub AreSpelled : ℕ → ℕ → List SpelledFrame → Type 0
 AreSpelled most agreed [] = Unit {0}
 AreSpelled most agreed (s ∷ rest) =
     FrameOf s.frame s.octets × (length s.octets ≤ most)
-    × AreSpelled (if is_open_ok s.frame then agreed else most) agreed rest
+    × AreSpelled (if opens_connection s.frame then agreed else most) agreed rest
 
 -- bytes are spellings of frames, and nothing else
-pub record AreFrames (agreed : ℕ) (bytes : List ℕ) (spelled : List Spelled) : Type 0 where
-  pub joined : bytes ≡ flat_map (λ (s : Spelled). s.octets) spelled
+pub record AreFrames (agreed : ℕ) (bytes : List ℕ) (spelled : List SpelledFrame) : Type 0 where
+  pub joined : bytes ≡ flat_map (λ (s : SpelledFrame). s.octets) spelled
   pub frames : AreSpelled 4096 agreed spelled
 
 -- ---- what is said on the link, step by step: the server's frames come with their last byte, and then the client says
 -- its own
 
 -- the first of these frames, as many as are whole in so many bytes
-abbrev pub whole_in : ℕ → List Spelled → List Frame
+abbrev pub whole_in : ℕ → List SpelledFrame → List Frame
 whole_in n [] = []
 whole_in n (s ∷ rest) = if nat_le (length s.octets) n then s.frame ∷ whole_in (n - length s.octets) rest else []
 
 -- those that are not
-abbrev pub later_than : ℕ → List Spelled → List Spelled
+abbrev pub later_than : ℕ → List SpelledFrame → List SpelledFrame
 later_than n [] = []
 later_than n (s ∷ rest) = if nat_le (length s.octets) n then later_than (n - length s.octets) rest else s ∷ rest
 
 -- how many bytes of the first of those came already
-abbrev pub begun_in : ℕ → List Spelled → ℕ
+abbrev pub begun_in : ℕ → List SpelledFrame → ℕ
 begun_in n [] = n
 begun_in n (s ∷ rest) = if nat_le (length s.octets) n then begun_in (n - length s.octets) rest else n
 
@@ -106,7 +106,7 @@ sent_by_turns (u ∷ us) e ss =
 
 -- what is said in these steps, where so many bytes of the first frame came already and each step sends this; steps
 -- after the session's end send nothing
-abbrev pub sayings_of : List Given → List (List Frame) → ℕ → List Spelled → List Saying
+abbrev pub sayings_of : List Given → List (List Frame) → ℕ → List SpelledFrame → List LinkSaying
 sayings_of [] sent n spelled = []
 sayings_of (g ∷ gs) [] n spelled =
     let came = n + length (bytes_of g.what) in
@@ -196,7 +196,7 @@ pub record Valid (t : Talk) (gs : List Given) (answers : List Asked) : Type 0 wh
   pub short : AllByRecursion (λ (g : Given). IsShort g.what) gs
   pub moments : MomentsRise 0 gs
   pub timely : IsTimely t (replayed t gs answers)
-  pub spelled : List Spelled
+  pub spelled : List SpelledFrame
   pub frames : AreFrames (agreed_limit t (replayed t gs answers)) (all_bytes gs) spelled
   pub served : IsServed (sayings_of gs (sent_by_turns (replayed t gs answers) (begin t) []) 0 spelled)
   pub last : EndsWithBytes gs

@@ -5,7 +5,7 @@ ghost use Rattle.amqp_engine.specs.Counts.{HasCause};
 ghost use Rattle.amqp_types.specs.Counts.{Rose};
 ghost use Rattle.amqp_engine.specs.Plan.{ArePieces};
 ghost use Rattle.amqp_engine.specs.Turn.{IsToldMethod, IsToldCommand};
-ghost use Rattle.amqp_engine.specs.Log.{Log, loaded, log_ask, log_step, log_write, piece_len, piece_bytes, IsPiece, IsWithin, PlansStep, PlansWrite};
+ghost use Rattle.amqp_engine.specs.Log.{Log, loaded, log_ask, log_step, log_write, piece_len, piece_bytes, IsPiece, TookAtMost, PlansStep, PlansWrite};
 
 use crate::given::Given;
 use amqp_frame::RawMethod;
@@ -192,7 +192,7 @@ pub trait Port {
 
     /// Takes the first of the bytes of both slices together onto the last link.
     fn write(&mut self, first: &[u8], second: &[u8]) -> Wrote
-        ensures within { IsWithin (length (first.now ++ second.now)) result }
+        ensures within { TookAtMost (length (first.now ++ second.now)) result }
         ensures told { log self.new ≡ option_map (log_write (first.now ++ second.now) result) (log self.old) }
         ensures plays { IfSome (log self.old) (PlansWrite (length (first.now ++ second.now)) result) }
         ensures cause { result ≡ Wrote.Failed → Rose (faults self.old) (faults self.new) }

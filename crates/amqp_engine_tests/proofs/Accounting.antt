@@ -8,12 +8,12 @@ use Rattle.amqp_session.specs.declared.command.Cmd.{Cmd}
 use Rattle.amqp_session.specs.declared.command.Cmd.TheVariants.{Send}
 use Rattle.amqp_session.specs.declared.handed.Handed.{Handed}
 use Rattle.amqp_session.specs.Listed.{at}
-use Rattle.amqp_carried_rules.specs.CommandFrames.{AreFramesOf, IsContent, is_publish}
+use Rattle.amqp_carried_rules.specs.CommandFrames.{AreFramesOf, AreContentFrames, is_publish}
 use Rattle.amqp_carried_rules.specs.HandingOut.{handed_on}
 use Rattle.std.proofs.lemmas.Bool.{cases_eq}
 use Rattle.amqp_types.proofs.Small.{other-number}
 use Rattle.amqp_session.proofs.Numbered.{put-other}
-use Rattle.amqp_engine.specs.Carried.{Account, Carried, WentOut, IsTorn, AreCut, AreSent, Merges, IsWithin, joined, raw_frames, frame_of}
+use Rattle.amqp_engine.specs.Carried.{Account, Carried, WentOut, IsTorn, AreCut, AreSent, Merges, IsSubsequence, concatenated, raw_frames, frame_of}
 use Rattle.amqp_engine_tests.specs.Accounts.{one, no_properties, publish, sent_by, qos, get, basic_publish, body, said, header, content, delivery, all_sent, cut_off, torn_and_sent, swapped, twice, on_two_links, other_body, made_up}
 
 -- what was handed out on a channel, and on no other
@@ -50,7 +50,7 @@ all-sent-carried =
           record {
             handed = (1, delivery) ∷ [];
             each = each-one;
-            read = IsWithin.left_out (IsWithin.kept IsWithin.none);
+            read = IsSubsequence.left_out (IsSubsequence.kept IsSubsequence.none);
           };
     }
 
@@ -64,7 +64,7 @@ nothing-torn : (a : Account) (part : List Frame) → AllPublished a → IsTorn a
 nothing-torn a part all torn = true≢false (sym (all torn.before torn.command torn.told torn.publish) ∙ torn.unanswered)
 
 -- then nothing is set aside
-nothing-cut : (a : Account) (links kept : List (List Frame)) → AllPublished a → AreCut a links kept → joined kept ≡ joined links
+nothing-cut : (a : Account) (links kept : List (List Frame)) → AllPublished a → AreCut a links kept → concatenated kept ≡ concatenated links
 nothing-cut a [] [] all cut = refl
 nothing-cut a [] (kept ∷ more) all cut = absurd cut
 nothing-cut a (fs ∷ links) [] all cut = absurd cut
@@ -73,7 +73,7 @@ nothing-cut a (fs ∷ links) (kept ∷ more) all cut =
     elim cut.0.torn [
       | inl none ↦
           let whole : fs ≡ kept = cut.0.frames ∙ ap (λ (part : List Frame). kept ++ part) none ∙ append-nil kept in
-          ap (λ (xs : List Frame). xs ++ joined more) (sym whole) ∙ ap (λ (xs : List Frame). fs ++ xs) rest
+          ap (λ (xs : List Frame). xs ++ concatenated more) (sym whole) ∙ ap (λ (xs : List Frame). fs ++ xs) rest
       | inr torn ↦ absurd (nothing-torn a cut.0.part all torn)
     ]
 
@@ -122,16 +122,16 @@ one-send links a is before d told publish =
     absurd (true≢false (sym publish ∙ sym (ap is_publish first.0)))
 
 -- one send that was answered Sent: nothing but it went out
-one-sent : (links : List (List Frame)) → WentOut (sent_by (Send one qos ∷ []) (λ n. n == 1) links) → joined (map raw_frames links) ≡ said qos ∷ []
+one-sent : (links : List (List Frame)) → WentOut (sent_by (Send one qos ∷ []) (λ n. n == 1) links) → concatenated (map raw_frames links) ≡ said qos ∷ []
 one-sent links w =
     let a : Account = sent_by (Send one qos ∷ []) (λ n. n == 1) links in
-    let uncut : joined w.kept ≡ joined (map raw_frames links) = nothing-cut a (map raw_frames links) w.kept (one-send links a refl) w.cut in
+    let uncut : concatenated w.kept ≡ concatenated (map raw_frames links) = nothing-cut a (map raw_frames links) w.kept (one-send links a refl) w.cut in
     let first = sent-first w.are_sends refl in
     let sends : w.sends ≡ (said qos ∷ []) ∷ [] =
     first.both ∙ ap (λ (fs : List Frame). fs ∷ first.later) first.are ∙ ap (λ (fss : List (List Frame)). (said qos ∷ []) ∷ fss) (sent-none first.rest) in
     let publishes : w.publishes ≡ [] = sent-none (sent-other w.are_publishes refl) in
     let order : w.order ≡ (said qos ∷ []) ∷ [] = merged-left w.in_turns publishes ∙ sends in
-    sym uncut ∙ w.whole ∙ ap joined order
+    sym uncut ∙ w.whole ∙ ap concatenated order
 
 pub twice-not-carried : Carried twice → ⊥
 twice-not-carried c = let same = one-sent ((said qos ∷ said qos ∷ []) ∷ []) c.went_out in cc
@@ -145,16 +145,16 @@ one-publish links a is answered before d told publishes =
     let first = only publish before d (ap (λ (cs : List Cmd). slice_get cs before) (sym is) ∙ told) in
     ap (λ (n : ℕ). a.answered_sent (suc n)) first.1 ∙ answered
 
-one-published : (links : List (List Frame)) → WentOut (sent_by (publish ∷ []) (λ n. n == 1) links) → IsContent 1 basic_publish no_properties body (joined (map raw_frames links))
+one-published : (links : List (List Frame)) → WentOut (sent_by (publish ∷ []) (λ n. n == 1) links) → AreContentFrames 1 basic_publish no_properties body (concatenated (map raw_frames links))
 one-published links w =
     let a : Account = sent_by (publish ∷ []) (λ n. n == 1) links in
-    let uncut : joined w.kept ≡ joined (map raw_frames links) = nothing-cut a (map raw_frames links) w.kept (one-publish links a refl refl) w.cut in
+    let uncut : concatenated w.kept ≡ concatenated (map raw_frames links) = nothing-cut a (map raw_frames links) w.kept (one-publish links a refl refl) w.cut in
     let first = sent-first w.are_publishes refl in
     let sends : w.sends ≡ [] = sent-none (sent-other w.are_sends refl) in
     let publishes : w.publishes ≡ first.frames ∷ [] = first.both ∙ ap (λ (fss : List (List Frame)). first.frames ∷ fss) (sent-none first.rest) in
     let order : w.order ≡ first.frames ∷ [] = merged-right w.in_turns sends ∙ publishes in
-    let all : first.frames ≡ joined (map raw_frames links) = sym (append-nil first.frames) ∙ sym (ap joined order) ∙ sym w.whole ∙ uncut in
-    let P : List Frame → Type 0 = λ fs. IsContent 1 basic_publish no_properties body fs in
+    let all : first.frames ≡ concatenated (map raw_frames links) = sym (append-nil first.frames) ∙ sym (ap concatenated order) ∙ sym w.whole ∙ uncut in
+    let P : List Frame → Type 0 = λ fs. AreContentFrames 1 basic_publish no_properties body fs in
     subst P all first.are
 
 -- a content has as many octets of body as it says
@@ -192,12 +192,12 @@ two-sends (suc (suc n)) c told publish = absurd cc
 pub swapped-not-carried : Carried swapped → ⊥
 swapped-not-carried c =
     let w = c.went_out in
-    let uncut : joined w.kept ≡ said get ∷ said qos ∷ [] = nothing-cut swapped ((said get ∷ said qos ∷ []) ∷ []) w.kept two-sends w.cut in
+    let uncut : concatenated w.kept ≡ said get ∷ said qos ∷ [] = nothing-cut swapped ((said get ∷ said qos ∷ []) ∷ []) w.kept two-sends w.cut in
     let first = sent-first w.are_sends refl in
     let publishes : w.publishes ≡ [] = sent-none (sent-other (sent-other w.are_publishes refl) refl) in
     let order : w.order ≡ (said qos ∷ []) ∷ first.later =
     merged-left w.in_turns publishes ∙ first.both ∙ ap (λ (fs : List Frame). fs ∷ first.later) first.are in
-    let same : said get ∷ said qos ∷ [] ≡ said qos ∷ joined first.later = sym uncut ∙ w.whole ∙ ap joined order in
+    let same : said get ∷ said qos ∷ [] ≡ said qos ∷ concatenated first.later = sym uncut ∙ w.whole ∙ ap concatenated order in
     cc
 
 pub made-up-not-carried : Carried made_up → ⊥
@@ -206,7 +206,7 @@ made-up-not-carried c =
     let is : handed_on 1 came.handed ≡ delivery ∷ [] = came.each 1 in
     none-handed came.handed is came.read
   where
-    none-handed : (hs : List (ℕ × Handed)) → handed_on 1 hs ≡ delivery ∷ [] → IsWithin (map (λ h. frame_of h.1) hs) [] → ⊥
+    none-handed : (hs : List (ℕ × Handed)) → handed_on 1 hs ≡ delivery ∷ [] → IsSubsequence (map (λ h. frame_of h.1) hs) [] → ⊥
     none-handed [] is read = cc
     none-handed (h ∷ hs) is read = elim read [ ]
 
@@ -243,5 +243,5 @@ cut-off-carried =
             in_turns = Merges.left Merges.none;
             whole = refl;
           };
-      came_in = record { handed = []; each = λ opened. refl; read = IsWithin.none };
+      came_in = record { handed = []; each = λ opened. refl; read = IsSubsequence.none };
     }

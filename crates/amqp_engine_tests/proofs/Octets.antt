@@ -8,12 +8,12 @@ use Rattle.amqp_frame.specs.Frames.{encoding, FrameOf}
 use Rattle.amqp_frame.specs.Rules.{KeepsRules}
 use Rattle.amqp_frame.proofs.Written.{frame_written}
 use Rattle.amqp_frame.proofs.FrontLaws.{one_frame}
-use Rattle.amqp_faultless.specs.Faultless.{is_open_ok}
-use Rattle.amqp_engine.specs.Valid.{Spelled, AreSpelled, AreFrames}
+use Rattle.amqp_faultless.specs.Faultless.{opens_connection}
+use Rattle.amqp_engine.specs.Valid.{SpelledFrame, AreSpelled, AreFrames}
 use Rattle.amqp_engine_tests.specs.Scripts.{started, tuned, opened, blocked, unblocked, answered, closed, channel_opened, channel_closed, heartbeat}
 
 -- the octets are the written ones
-spells : (s : Spelled) → KeepsRules s.frame → length (encoding s.frame) < 2 ^ 32 → encoding s.frame ≡ s.octets → FrameOf s.frame s.octets
+spells : (s : SpelledFrame) → KeepsRules s.frame → length (encoding s.frame) < 2 ^ 32 → encoding s.frame ≡ s.octets → FrameOf s.frame s.octets
 spells s keeps short is =
     let P : List ℕ → Type 0 = λ bytes. FrameOf s.frame bytes in
     subst P is (frame_written s.frame keeps short)
@@ -65,11 +65,11 @@ pub two-heartbeats : AreFrames 131072 (heartbeat.octets ++ heartbeat.octets) (he
 two-heartbeats = record { joined = refl; frames = (refl, omega arith, (refl, omega arith, tt)) }
 
 -- the octets of the frames after the first
-abbrev later : List Spelled → List ℕ
-later rest = flat_map (λ (s : Spelled). s.octets) rest
+abbrev later : List SpelledFrame → List ℕ
+later rest = flat_map (λ (s : SpelledFrame). s.octets) rest
 
 -- a heartbeat without its last octet is no frame, since no frame begins another
-pub part-of-heartbeat : (spelled : List Spelled) → AreFrames 131072 (take 7 heartbeat.octets) spelled → ⊥
+pub part-of-heartbeat : (spelled : List SpelledFrame) → AreFrames 131072 (take 7 heartbeat.octets) spelled → ⊥
 part-of-heartbeat [] are = let none : take 7 heartbeat.octets ≡ [] = are.joined in cc
 part-of-heartbeat (s ∷ rest) are =
     let joined : take 7 heartbeat.octets ≡ s.octets ++ later rest = are.joined in
@@ -81,7 +81,7 @@ part-of-heartbeat (s ∷ rest) are =
     absurd (omega (arith, eight, seven, length-append s.octets (later rest)))
 
 -- no frame has no octets, since no frame begins another
-no-octets : (s : Spelled) → FrameOf s.frame s.octets → s.octets ≡ [] → ⊥
+no-octets : (s : SpelledFrame) → FrameOf s.frame s.octets → s.octets ≡ [] → ⊥
 no-octets s is none =
     let same = one_frame s.frame Heartbeat s.octets heartbeat.octets heartbeat.octets [] is refl (ap (λ (bytes : List ℕ). bytes ++ heartbeat.octets) none) in
     let both : heartbeat.octets ≡ [] = sym same.1 ∙ none in
@@ -92,7 +92,7 @@ nothing-first [] ys h = refl
 nothing-first (x ∷ xs) ys h = cc
 
 -- the same bytes are spellings of no other frames
-pub one-reading : (most most' agreed agreed' : ℕ) (xs ys : List Spelled) → AreSpelled most agreed xs → AreSpelled most' agreed' ys → later xs ≡ later ys → xs ≡ ys
+pub one-reading : (most most' agreed agreed' : ℕ) (xs ys : List SpelledFrame) → AreSpelled most agreed xs → AreSpelled most' agreed' ys → later xs ≡ later ys → xs ≡ ys
 one-reading most most' agreed agreed' [] [] are are' h = refl
 one-reading most most' agreed agreed' [] (r ∷ ys) are are' h =
     let joined : [] ≡ r.octets ++ later ys = h in
@@ -103,9 +103,9 @@ one-reading most most' agreed agreed' (s ∷ xs) [] are are' h =
 one-reading most most' agreed agreed' (s ∷ xs) (r ∷ ys) are are' h =
     let joined : s.octets ++ later xs ≡ r.octets ++ later ys = h in
     let one = one_frame s.frame r.frame s.octets r.octets (later xs) (later ys) are.0 are'.0 joined in
-    let made : List ℕ → Frame → Spelled = λ octets frame. record { octets = octets; frame = frame } in
+    let made : List ℕ → Frame → SpelledFrame = λ octets frame. record { octets = octets; frame = frame } in
     let same : s ≡ r = ap (λ (octets : List ℕ). made octets s.frame) one.1 ∙ ap (made r.octets) one.0 in
     let rest : later xs ≡ later ys =
     append_cancel_left s.octets (later xs) (later ys) (joined ∙ ap (λ (bytes : List ℕ). bytes ++ later ys) (sym one.1)) in
-    let others = one-reading (if is_open_ok s.frame then agreed else most) (if is_open_ok r.frame then agreed' else most') agreed agreed' xs ys are.2 are'.2 rest in
-    ap (λ (x : Spelled). x ∷ xs) same ∙ ap (λ (zs : List Spelled). r ∷ zs) others
+    let others = one-reading (if opens_connection s.frame then agreed else most) (if opens_connection r.frame then agreed' else most') agreed agreed' xs ys are.2 are'.2 rest in
+    ap (λ (x : SpelledFrame). x ∷ xs) same ∙ ap (λ (zs : List SpelledFrame). r ∷ zs) others

@@ -16,7 +16,7 @@ use Rattle.amqp_engine.specs.Engine.{begin}
 use Rattle.amqp_engine.specs.Turn.{Turn}
 use Rattle.amqp_engine.specs.Sending.{frames_sent, sendings}
 use Rattle.amqp_engine.specs.Play.{replayed}
-use Rattle.amqp_engine.specs.Valid.{Spelled, AreFrames, AreSpelled, all_bytes, sent_by_turns, sayings_of, after_sayings, IsServed, IsLinkedOnce, MomentsRise, IsShort, EndsWithBytes, IsTimely, agreed_heartbeat, last_piece, agreed_limit, Valid}
+use Rattle.amqp_engine.specs.Valid.{SpelledFrame, AreFrames, AreSpelled, all_bytes, sent_by_turns, sayings_of, after_sayings, IsServed, IsLinkedOnce, MomentsRise, IsShort, EndsWithBytes, IsTimely, agreed_heartbeat, last_piece, agreed_limit, Valid}
 use Rattle.amqp_engine_tests.specs.Scripts.{client, guest, started, tuned, opened, blocked, unblocked, answered, closed, channel_opened, channel_closed, heartbeat, steps_at, comes, shut, closed_by_us, in_pieces, closed_by_them, blocked_a_while, heard_in_time, tunes_at_once, closes_cross, missed}
 use Rattle.amqp_engine_tests.proofs.Octets.{started-spells, tuned-spells, opened-spells, blocked-spells, unblocked-spells, answered-spells, closed-spells, channel-opened-spells, channel-closed-spells, heartbeat-spells, one-reading}
 use Rattle.amqp_engine_tests.proofs.NotServed.{not-served}
@@ -107,7 +107,7 @@ each-timely t all is seen (u ∷ us) whole =
 
 -- what is computed of a script whose bytes spell these frames: what its provider answers, which greatest frame is
 -- agreed, that its server says what it may and is gone, and that it is timely
-record Computes (gs : List Given) (spelled : List Spelled) : Type 0 where
+record Computes (gs : List Given) (spelled : List SpelledFrame) : Type 0 where
   answers : flat_map (λ (u : Turn). u.notes.auths) (replayed client gs guest) ≡ guest
   limit : agreed_limit client (replayed client gs guest) ≡ 131072
   served : IsServed (sayings_of gs (sent_by_turns (replayed client gs guest) (begin client) []) 0 spelled)
@@ -120,7 +120,7 @@ login-sayable answers is =
     subst (AreSayable client.config.options) (sym is) login
 
 -- such a script is valid, where its steps are as they are to be
-all-valid : (gs : List Given) (spelled : List Spelled) → Computes gs spelled → IsLinkedOnce gs → AllByRecursion (λ (g : Given). IsShort g.what) gs
+all-valid : (gs : List Given) (spelled : List SpelledFrame) → Computes gs spelled → IsLinkedOnce gs → AllByRecursion (λ (g : Given). IsShort g.what) gs
     → MomentsRise 0 gs → AreFrames 131072 (all_bytes gs) spelled → EndsWithBytes gs → Valid client gs guest
 all-valid gs spelled computes linked short moments are last =
     let F : ℕ → Type 0 = λ limit. AreFrames limit (all_bytes gs) spelled in
@@ -138,11 +138,11 @@ all-valid gs spelled computes linked short moments are last =
     }
 
 -- the frames of the handshake, before others
-abbrev opening : List Spelled → List Spelled
+abbrev opening : List SpelledFrame → List SpelledFrame
 opening rest = started ∷ tuned ∷ opened ∷ rest
 
 -- they are spelled, where those after them are
-opening-spelled : (rest : List Spelled) → AreSpelled 131072 131072 rest → AreSpelled 4096 131072 (opening rest)
+opening-spelled : (rest : List SpelledFrame) → AreSpelled 131072 131072 rest → AreSpelled 4096 131072 (opening rest)
 opening-spelled rest are = (started-spells, omega arith, (tuned-spells, omega arith, (opened-spells, omega arith, are)))
 
 -- closed by us
@@ -238,13 +238,13 @@ pub at-once-not-valid : Valid client tunes_at_once guest → ⊥
 at-once-not-valid valid =
     let same : valid.spelled ≡ opening (answered ∷ []) =
     one-reading 4096 4096 _ 131072 valid.spelled (opening (answered ∷ [])) valid.frames.frames at-once-spelled.frames (sym valid.frames.joined ∙ at-once-spelled.joined) in
-    let P : List Spelled → Type 0 = λ xs. IsServed (sayings_of tunes_at_once (sent_by_turns (replayed client tunes_at_once guest) (begin client) []) 0 xs) in
+    let P : List SpelledFrame → Type 0 = λ xs. IsServed (sayings_of tunes_at_once (sent_by_turns (replayed client tunes_at_once guest) (begin client) []) 0 xs) in
     not-served _ at-once-not-served (subst P same valid.served)
 
 -- ---- a script in which closes of a channel cross
 
 -- its frames
-abbrev crossing : List Spelled
+abbrev crossing : List SpelledFrame
 crossing = opening (channel_opened ∷ channel_closed ∷ answered ∷ [])
 
 crossing-spelled : AreFrames 131072 (all_bytes closes_cross) crossing
@@ -264,7 +264,7 @@ pub crossing-not-valid : Valid client closes_cross guest → ⊥
 crossing-not-valid valid =
     let same : valid.spelled ≡ crossing =
     one-reading 4096 4096 _ 131072 valid.spelled crossing valid.frames.frames crossing-spelled.frames (sym valid.frames.joined ∙ crossing-spelled.joined) in
-    let P : List Spelled → Type 0 = λ xs. IsServed (sayings_of closes_cross (sent_by_turns (replayed client closes_cross guest) (begin client) []) 0 xs) in
+    let P : List SpelledFrame → Type 0 = λ xs. IsServed (sayings_of closes_cross (sent_by_turns (replayed client closes_cross guest) (begin client) []) 0 xs) in
     not-served _ crossing-not-served (subst P same valid.served)
 
 -- ---- what comes last

@@ -12,7 +12,7 @@ use Rattle.amqp_session.specs.Talk.{Talk, start as new}
 use Rattle.amqp_engine.specs.declared.given.Given.{Given}
 use Rattle.amqp_engine.specs.declared.given.GivenStep.{GivenStep}
 use Rattle.amqp_engine.specs.declared.given.GivenStep.TheVariants.{Link, Bytes, Tick, Command}
-use Rattle.amqp_engine.specs.Valid.{Spelled}
+use Rattle.amqp_engine.specs.Valid.{SpelledFrame}
 use Rattle.amqp_engine_tests.specs.Accounts.{one}
 use Rattle.amqp_engine_tests.specs.Sayings.{start}
 
@@ -27,7 +27,7 @@ guest = answer.Mechanism (codes "PLAIN") ∷ answer.Starter (Ok (0 ∷ codes "gu
 -- ---- frames of a server, with their octets (AMQP 0-9-1, 4.2; blocked and unblocked are RabbitMQ's)
 
 -- start
-abbrev pub started : Spelled
+abbrev pub started : SpelledFrame
 started =
     record {
       octets =
@@ -42,7 +42,7 @@ started =
     }
 
 -- tune: 2047 channels, frames of 131072 octets, a heartbeat a minute
-abbrev pub tuned : Spelled
+abbrev pub tuned : SpelledFrame
 tuned =
     record {
       octets = 1 ∷ 0 ∷ 0 ∷ 0 ∷ 0 ∷ 0 ∷ 12 ∷ 0 ∷ 10 ∷ 0 ∷ 30 ∷ 7 ∷ 255 ∷ 0 ∷ 2 ∷ 0 ∷ 0 ∷ 0 ∷ 60 ∷ 206 ∷ [];
@@ -50,7 +50,7 @@ tuned =
     }
 
 -- open-ok
-abbrev pub opened : Spelled
+abbrev pub opened : SpelledFrame
 opened =
     record {
       octets = 1 ∷ 0 ∷ 0 ∷ 0 ∷ 0 ∷ 0 ∷ 5 ∷ 0 ∷ 10 ∷ 0 ∷ 41 ∷ 0 ∷ 206 ∷ [];
@@ -58,7 +58,7 @@ opened =
     }
 
 -- blocked
-abbrev pub blocked : Spelled
+abbrev pub blocked : SpelledFrame
 blocked =
     record {
       octets = 1 ∷ 0 ∷ 0 ∷ 0 ∷ 0 ∷ 0 ∷ 8 ∷ 0 ∷ 10 ∷ 0 ∷ 60 ∷ 3 ∷ codes "low" ++ 206 ∷ [];
@@ -66,7 +66,7 @@ blocked =
     }
 
 -- unblocked
-abbrev pub unblocked : Spelled
+abbrev pub unblocked : SpelledFrame
 unblocked =
     record {
       octets = 1 ∷ 0 ∷ 0 ∷ 0 ∷ 0 ∷ 0 ∷ 4 ∷ 0 ∷ 10 ∷ 0 ∷ 61 ∷ 206 ∷ [];
@@ -74,7 +74,7 @@ unblocked =
     }
 
 -- close-ok
-abbrev pub answered : Spelled
+abbrev pub answered : SpelledFrame
 answered =
     record {
       octets = 1 ∷ 0 ∷ 0 ∷ 0 ∷ 0 ∷ 0 ∷ 4 ∷ 0 ∷ 10 ∷ 0 ∷ 51 ∷ 206 ∷ [];
@@ -82,7 +82,7 @@ answered =
     }
 
 -- close, without an error
-abbrev pub closed : Spelled
+abbrev pub closed : SpelledFrame
 closed =
     record {
       octets =
@@ -91,7 +91,7 @@ closed =
     }
 
 -- channel.open-ok of channel 1
-abbrev pub channel_opened : Spelled
+abbrev pub channel_opened : SpelledFrame
 channel_opened =
     record {
       octets = 1 ∷ 0 ∷ 1 ∷ 0 ∷ 0 ∷ 0 ∷ 8 ∷ 0 ∷ 20 ∷ 0 ∷ 11 ∷ 0 ∷ 0 ∷ 0 ∷ 0 ∷ 206 ∷ [];
@@ -99,7 +99,7 @@ channel_opened =
     }
 
 -- channel.close of channel 1, since a queue is not there
-abbrev pub channel_closed : Spelled
+abbrev pub channel_closed : SpelledFrame
 channel_closed =
     record {
       octets =
@@ -109,7 +109,7 @@ channel_closed =
     }
 
 -- heartbeat
-abbrev pub heartbeat : Spelled
+abbrev pub heartbeat : SpelledFrame
 heartbeat = record { octets = 8 ∷ 0 ∷ 0 ∷ 0 ∷ 0 ∷ 0 ∷ 0 ∷ 206 ∷ []; frame = Heartbeat }
 
 -- ---- steps
@@ -119,8 +119,8 @@ abbrev pub steps_at : ℕ → List GivenStep → List Given
 steps_at moment steps = map (λ what. record { at = moment; what = what }) steps
 
 -- each of these frames comes in a piece of its own
-abbrev pub comes : List Spelled → List GivenStep
-comes spelled = map (λ (s : Spelled). Bytes s.octets) spelled
+abbrev pub comes : List SpelledFrame → List GivenStep
+comes spelled = map (λ (s : SpelledFrame). Bytes s.octets) spelled
 
 -- our command to close the connection
 abbrev pub shut : GivenStep

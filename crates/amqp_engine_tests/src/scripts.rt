@@ -9,7 +9,7 @@ ghost use Rattle.amqp_faultless.specs.Faultless.{AreSayable};
 ghost use Rattle.amqp_engine.specs.declared.given.GivenStep.TheVariants as given;
 ghost use Rattle.amqp_engine.specs.Turn.{talk};
 ghost use Rattle.amqp_engine.specs.Play.{replayed};
-ghost use Rattle.amqp_engine.specs.Valid.{Spelled, AreSpelled, AreFrames, IsLinkedOnce, MomentsRise, EndsWithBytes, IsTimely, Valid};
+ghost use Rattle.amqp_engine.specs.Valid.{SpelledFrame, AreSpelled, AreFrames, IsLinkedOnce, MomentsRise, EndsWithBytes, IsTimely, Valid};
 ghost use Rattle.amqp_engine_tests.specs.Scripts.{client, guest, opened, channel_opened, heartbeat, steps_at, comes, shut, closed_by_us, in_pieces, closed_by_them, blocked_a_while, heard_in_time, tunes_at_once, closes_cross, missed};
 
 // Whole scripts: closed by the client, cut into other pieces, closed by the server, one in which the close
@@ -47,7 +47,7 @@ fn sessions_end_so()
 // Two heartbeats are frames, and a part of one is not.
 fn heartbeats_are_frames()
     ensures two { AreFrames 131072 (heartbeat.octets ++ heartbeat.octets) (heartbeat ∷ heartbeat ∷ []) }
-    ensures part { (spelled : List Spelled) → AreFrames 131072 (take 7 heartbeat.octets) spelled → ⊥ }
+    ensures part { (spelled : List SpelledFrame) → AreFrames 131072 (take 7 heartbeat.octets) spelled → ⊥ }
 {}
 
 // Frames of at most so many octets, up to open-ok, and of at most so many after it.

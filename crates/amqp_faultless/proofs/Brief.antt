@@ -28,7 +28,7 @@ use Rattle.amqp_session.specs.Handshake.{our_close, our_channel_close, new_secre
 use Rattle.amqp_session.specs.Numbering.{first_number, drawn}
 use Rattle.amqp_session.specs.Publishing.{method_frame, publish_frames}
 use Rattle.amqp_session.specs.Commands.{target, open_drawn, leave_channel, close_target, drop_target, flow_target, queue_secret, update_secret, too_long, unless_too_long, queue_send, send_target, body_limit, queue_publish, publish_target, leave_connection, command, command_rule}
-use Rattle.amqp_session.specs.Ticks.{is_missed, is_due, missing_heartbeat, beat, asks_validity, has_expired, refresh_reason, refresh, validity_told, tick}
+use Rattle.amqp_session.specs.Ticks.{is_missed, is_heartbeat_due, missing_heartbeat, beat, asks_validity, has_expired, refresh_reason, refresh, validity_told, tick}
 use Rattle.amqp_faultless.specs.Faultless.{AreSayable, IsShortCommand}
 use Rattle.amqp_types.proofs.Small.{if_case}
 use Rattle.amqp_faultless.proofs.Fitting.{Fit, fit-control, fit-group, fit-left, fit-ungrouped}
@@ -154,7 +154,7 @@ module _ (options : Options) where
   brief-beat t h =
       let x : Talk = missing_heartbeat t in
       let before : M x = if_case M (is_missed t) (lose MissingHeartbeatError t) t (says-lose options MissingHeartbeatError t h) h in
-      if_case M (is_due x) (record (queue 0 Heartbeat x) { last_write = x.present }) x (says-queue options 0 Heartbeat x (omega arith) before) before
+      if_case M (is_heartbeat_due x) (record (queue 0 Heartbeat x) { last_write = x.present }) x (says-queue options 0 Heartbeat x (omega arith) before) before
 
   brief-refresh : (answers : List ProviderAnswer) (t : Talk) → AreSayable options answers → M t → M (refresh answers t)
   brief-refresh (answer.Refreshed (Ok secret) ∷ rest) t k h = says-queue options 0 (new_secret secret refresh_reason) t k.0 h

@@ -38,7 +38,7 @@ use Rattle.amqp_session.specs.Numbering.{first_number, drawn}
 use Rattle.amqp_session.specs.Publishing.{method_frame, publish_frames}
 use Rattle.amqp_session.specs.Commands.{target, open_drawn, close_target, drop_target, flow_target, queue_secret, update_secret, too_long, unless_too_long, queue_send, send_target, body_limit, queue_publish, publish_target, command, command_rule}
 use Rattle.amqp_session.specs.Links.{dropped, linked, misread, piece, asked}
-use Rattle.amqp_session.specs.Ticks.{tick, is_missed, is_due, missing_heartbeat, beat, refreshed}
+use Rattle.amqp_session.specs.Ticks.{tick, is_missed, is_heartbeat_due, missing_heartbeat, beat, refreshed}
 use Rattle.amqp_session.specs.Writing.{follow, sent, sent_among, taken}
 use Rattle.amqp_types.proofs.Small.{if_case, if-true, if-false}
 use Rattle.amqp_session.proofs.Heard.{start-case, secure-case, secret-case}
@@ -85,7 +85,7 @@ clock-tick moment last answers t heard h =
     let x : Talk = missing_heartbeat t in
     let first : C x = subst C (sym (if-false (is_missed t) (lose MissingHeartbeatError t) t heard)) h in
     let beaten : C (beat t) =
-    if_case C (is_due x) (record (queue 0 Heartbeat x) { last_write = x.present }) x (first) first in
+    if_case C (is_heartbeat_due x) (record (queue 0 Heartbeat x) { last_write = x.present }) x (first) first in
     let done = secret-case C answers (beat t) beaten (λ asks said. told said (beat t) beaten) in
     done
   where

@@ -15,7 +15,7 @@ use Rattle.amqp_session.specs.Talk.{Talk, is_open, is_asked, is_wanted_link}
 use Rattle.amqp_session.specs.Changes.{finish, finish_by, close}
 use Rattle.amqp_session.specs.Links.{linked}
 use Rattle.amqp_session.specs.Handshake.{close_ok}
-use Rattle.amqp_session.specs.Writing.{taken, writes, flows, next_item, sent_among}
+use Rattle.amqp_session.specs.Writing.{taken, writes, flows, next_out, sent_among}
 use Rattle.amqp_faultless.specs.Faultless.{silent}
 use Rattle.amqp_faultless.proofs.Ordinary.{First}
 use Rattle.amqp_faultless.proofs.Greeted.{IsMet, IsOver, Leaves}
@@ -64,7 +64,7 @@ met-linked t is h =
 -- ---- the end
 
 -- our close-ok is next, where the server does not block
-pub leaves-next : (t : Talk) → Leaves t → next_item t ≡ Some (plain 0 close_ok)
+pub leaves-next : (t : Talk) → Leaves t → next_out t ≡ Some (plain 0 close_ok)
 leaves-next t h =
     if-true (writes t) (queued.next_item (flows t) t.outbox) None (and-true (is_open t) (not t.blocked) h.opened (ap not h.blocked))
     ∙ ap (queued.next_item (flows t)) h.only_close

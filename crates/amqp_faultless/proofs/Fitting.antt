@@ -8,7 +8,7 @@ use Rattle.amqp_outbox.specs.Items.{size_of, frames_of}
 use Rattle.amqp_outbox.specs.Queued.{Queued, waiting_items, pushed_control, pushed_group, is_on, goes_with}
 use Rattle.amqp_session.specs.Talk.{Talk}
 use Rattle.amqp_session.specs.Changes.{without_all_on}
-use Rattle.amqp_session.specs.Writing.{fitting, next_item, next_within, longer_than, overlong}
+use Rattle.amqp_session.specs.Writing.{fitting, next_out, next_within, longer_than, overlong}
 use Rattle.amqp_types.proofs.Small.{if-true, if-false, is-at-most}
 use Rattle.amqp_session.proofs.Finishing.{next-first}
 
@@ -102,8 +102,8 @@ IsFit t = Fit t.capacity (waiting_items t.outbox)
 
 -- then the next one is not
 pub fit-next : (t : Talk) → IsFit t → overlong t ≡ None
-fit-next t h = by (next_item t) refl where
-  by : (o : Option Item) → next_item t ≡ o → longer_than t.capacity o ≡ None
+fit-next t h = by (next_out t) refl where
+  by : (o : Option Item) → next_out t ≡ o → longer_than t.capacity o ≡ None
   by None is = refl
   by (Some i) is =
       let k = size_of i in

@@ -44,8 +44,8 @@ use Rattle.amqp_session.specs.Violations.{channel_closed_with, stray_connection_
 use Rattle.amqp_session.specs.Frames.{is_of_a_channel, method_on, frame_rule, on_frame, questions_in, frame_questions, closed_rule}
 use Rattle.amqp_session.specs.Talk.{hears_on}
 use Rattle.amqp_session.specs.Writing.{then_of}
-use Rattle.amqp_faultless.specs.Faultless.{Use, unused, Stage, Server, used_as, provided, one_less, serves_on, serves}
-use Rattle.amqp_faultless.specs.Faultless.Stage.{BeforeStart, BeforeTune, BeforeOpenOk, Serving, Gone}
+use Rattle.amqp_faultless.specs.Faultless.{Use, unused, ServerStage, Server, used_as, provided, one_less, serves_on, serves}
+use Rattle.amqp_faultless.specs.Faultless.ServerStage.{BeforeStart, BeforeTune, BeforeOpenOk, Serving, Gone}
 use Rattle.amqp_types.proofs.Small.{if_case, if-true, if-false, and-true, from-not-true, some_is}
 use Rattle.amqp_legal_rules.proofs.Ties.{pays, paying, to_pay}
 use Rattle.amqp_legal_rules.proofs.Paying.{IsNoPayment, pays-none}
@@ -73,7 +73,7 @@ abbrev pub IsSilentMark : Mark → Type 0
 IsSilentMark m = m.then ≡ Nothing
 
 -- nothing was said of channels or secrets, and nothing waits but what opens the connection
-pub record Greets (stage : Stage) (s : Server) (q : Queued) (cs : Channels) (ms : List Mark) : Type 0 where
+pub record Greets (stage : ServerStage) (s : Server) (q : Queued) (cs : Channels) (ms : List Mark) : Type 0 where
   pub at_stage : s.stage ≡ stage
   pub uses : (n : ℕ) → lives (s.uses n) ≡ false
   pub secrets : s.secrets ≡ 0
@@ -553,7 +553,7 @@ greeting-plain i h =
     record { idle = λ n. greeting-idle i.frame n h.0; other = o.0; secret = o.1; unpaying = λ n. pays-none i n o.2 }
 
 -- such a frame waits more
-pub greets-push : (stage : Stage) (s : Server) (q : Queued) (cs : Channels) (ms : List Mark) (i : Item) → IsGreeting i → Greets stage s q cs ms
+pub greets-push : (stage : ServerStage) (s : Server) (q : Queued) (cs : Channels) (ms : List Mark) (i : Item) → IsGreeting i → Greets stage s q cs ms
     → Greets stage s (record q { control = q.control ++ i ∷ [] }) cs ms
 greets-push stage s q cs ms i greeting h =
     record {
@@ -569,7 +569,7 @@ greets-push stage s q cs ms i greeting h =
     }
 
 -- the server answers
-pub greets-answered : (stage later : Stage) (asked : Bool) (s : Server) (q : Queued) (cs : Channels) (ms : List Mark) → Greets stage s q cs ms
+pub greets-answered : (stage later : ServerStage) (asked : Bool) (s : Server) (q : Queued) (cs : Channels) (ms : List Mark) → Greets stage s q cs ms
     → Greets later (record s { stage = later; asked = asked }) q cs ms
 greets-answered stage later asked s q cs ms h =
     record { at_stage = refl; uses = h.uses; secrets = h.secrets; staying = h.staying; none = h.none; begun = h.begun; groups = h.groups; lane = h.lane; marks = h.marks }

@@ -26,8 +26,8 @@ use Rattle.amqp_session.specs.Negotiation.{tune}
 use Rattle.amqp_session.specs.Handshake.{start_ok, secure_ok, tune_ok, open_vhost}
 use Rattle.amqp_session.specs.ConnectionMethods.{connection_rule, on_start, on_secure, on_tune, connected, reopen_each, on_open_ok}
 use Rattle.amqp_session.specs.Frames.{method_questions, frame_rule, on_frame, questions_in, frame_questions}
-use Rattle.amqp_faultless.specs.Faultless.{Stage, Server, answers_to, is_frame_max, heard_from}
-use Rattle.amqp_faultless.specs.Faultless.Stage.{BeforeStart, BeforeTune, BeforeOpenOk, Serving}
+use Rattle.amqp_faultless.specs.Faultless.{ServerStage, Server, answers_to, is_frame_max, heard_from}
+use Rattle.amqp_faultless.specs.Faultless.ServerStage.{BeforeStart, BeforeTune, BeforeOpenOk, Serving}
 use Rattle.amqp_session.proofs.Numbered.{put-same}
 use Rattle.amqp_faultless.proofs.Served.{Channels, given-by}
 use Rattle.amqp_faultless.proofs.Greeted.{Meets, IsMet, IsLimited, limit-in, Heard, meets-in, first-in, frame-acts, questions-act, connection-in, AreSaid, greets-push, greets-answered, greets-opened, heard-connected, heard-closing}
@@ -155,8 +155,8 @@ heard-met f answers s s' t m h said =
     let Q : List Question → Type 0 = λ x. AreSaid x answers in
     subst P (sym (frame-acts s t m f answers)) (by t.state t.phase refl refl (subst Q (questions-act s t m f) said))
   where
-    from : (stage : Stage) → s.stage ≡ stage → heard_from stage f s ≡ Some s'
-    from stage same = ap (λ (x : Stage). heard_from x f s) (sym same) ∙ h
+    from : (stage : ServerStage) → s.stage ≡ stage → heard_from stage f s ≡ Some s'
+    from stage same = ap (λ (x : ServerStage). heard_from x f s) (sym same) ∙ h
 
     by : (st : ConnectionState) (p : Phase) → t.state ≡ st → t.phase ≡ p → AreSaid (questions_in f t) answers → Heard s' (frame_rule f answers t)
     by Connecting AwaitStart is phase said = heard-start s t m is phase f answers s' (from BeforeStart (meets-at s t m AwaitStart is phase).at_stage) said

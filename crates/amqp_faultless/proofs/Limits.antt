@@ -12,8 +12,8 @@ use Rattle.amqp_session.specs.Talk.{Talk}
 use Rattle.amqp_session.specs.Negotiation.{frame_limit}
 use Rattle.amqp_outbox.specs.Queued.{Queued}
 use Rattle.amqp_session.specs.declared.committed.Mark.{Mark}
-use Rattle.amqp_faultless.specs.Faultless.{Stage, Server, is_open_ok, is_frame_max, answers_to, serves, heard_from}
-use Rattle.amqp_faultless.specs.Faultless.Stage.{BeforeStart, BeforeTune, BeforeOpenOk, Serving, Gone}
+use Rattle.amqp_faultless.specs.Faultless.{ServerStage, Server, opens_connection, is_frame_max, answers_to, serves, heard_from}
+use Rattle.amqp_faultless.specs.Faultless.ServerStage.{BeforeStart, BeforeTune, BeforeOpenOk, Serving, Gone}
 use Rattle.amqp_faultless.proofs.Served.{given-by, less-by, Channels}
 use Rattle.amqp_faultless.proofs.Greeted.{IsMet, IsLimited, serves-on-keeps, Meets}
 use Rattle.amqp_types.proofs.Small.{some_is}
@@ -61,7 +61,7 @@ met-agreed s t m opened = by t.state t.phase refl m.limit where
 -- ---- by how far the server is
 
 -- how long its frames are at most
-abbrev pub limit_at : ℕ → Stage → ℕ
+abbrev pub limit_at : ℕ → ServerStage → ℕ
 limit_at agreed Serving = agreed
 limit_at agreed Gone = agreed
 limit_at agreed _ = 4096
@@ -93,13 +93,13 @@ gone-none f s is = ap (λ x. heard_from x f s) is ∙ none f where
   none f = refl
 
 -- open-ok alone changes how long frames are
-pub stage-limit : (agreed : ℕ) (f : Frame) (s s' : Server) → heard_from s.stage f s ≡ Some s' → (if is_open_ok f then agreed else limit_at agreed s.stage) ≡ limit_at agreed s'.stage
+pub stage-limit : (agreed : ℕ) (f : Frame) (s s' : Server) → heard_from s.stage f s ≡ Some s' → (if opens_connection f then agreed else limit_at agreed s.stage) ≡ limit_at agreed s'.stage
 stage-limit agreed f s s' h = by s.stage refl h where
-  start : (f : Frame) → heard_from BeforeStart f s ≡ Some s' → (if is_open_ok f then agreed else 4096) ≡ limit_at agreed s'.stage
+  start : (f : Frame) → heard_from BeforeStart f s ≡ Some s' → (if opens_connection f then agreed else 4096) ≡ limit_at agreed s'.stage
   start (Method zero (Start a b c d e)) h = let Q : Server → Type 0 = λ x. 4096 ≡ limit_at agreed x.stage in subst Q (some_is (record s { stage = BeforeTune }) s' h) refl
   start f h = absurd cc
 
-  tune : (f : Frame) → heard_from BeforeTune f s ≡ Some s' → (if is_open_ok f then agreed else 4096) ≡ limit_at agreed s'.stage
+  tune : (f : Frame) → heard_from BeforeTune f s ≡ Some s' → (if opens_connection f then agreed else 4096) ≡ limit_at agreed s'.stage
   tune (Method zero (Secure a)) h =
       let Q : Server → Type 0 = λ x. 4096 ≡ limit_at agreed x.stage in subst Q (given-by s.asked (record s { stage = BeforeTune; asked = false }) s' h).1 refl
   tune (Method zero (Tune a b c)) h = may (is_frame_max b) h where
@@ -108,23 +108,23 @@ stage-limit agreed f s s' h = by s.stage refl h where
     may false h = absurd cc
   tune f h = absurd cc
 
-  open_ok : (f : Frame) → s.stage ≡ BeforeOpenOk → heard_from BeforeOpenOk f s ≡ Some s' → (if is_open_ok f then agreed else 4096) ≡ limit_at agreed s'.stage
+  open_ok : (f : Frame) → s.stage ≡ BeforeOpenOk → heard_from BeforeOpenOk f s ≡ Some s' → (if opens_connection f then agreed else 4096) ≡ limit_at agreed s'.stage
   open_ok Heartbeat is h = let Q : Server → Type 0 = λ x. 4096 ≡ limit_at agreed x.stage in subst Q (some_is s s' h) (sym (ap (limit_at agreed) is))
   open_ok (Method zero OpenOk) is h =
       let Q : Server → Type 0 = λ x. agreed ≡ limit_at agreed x.stage in subst Q (given-by s.asked (record s { stage = Serving; asked = false }) s' h).1 refl
   open_ok f is h = absurd cc
 
-  either : (b : Bool) (st : Stage) → (st ≡ Serving) ⊎ (st ≡ Gone) → (if b then agreed else agreed) ≡ limit_at agreed st
+  either : (b : Bool) (st : ServerStage) → (st ≡ Serving) ⊎ (st ≡ Gone) → (if b then agreed else agreed) ≡ limit_at agreed st
   either true st (inl is) = sym (ap (limit_at agreed) is)
   either true st (inr is) = sym (ap (limit_at agreed) is)
   either false st (inl is) = sym (ap (limit_at agreed) is)
   either false st (inr is) = sym (ap (limit_at agreed) is)
 
-  by : (st : Stage) → s.stage ≡ st → heard_from st f s ≡ Some s' → (if is_open_ok f then agreed else limit_at agreed st) ≡ limit_at agreed s'.stage
+  by : (st : ServerStage) → s.stage ≡ st → heard_from st f s ≡ Some s' → (if opens_connection f then agreed else limit_at agreed st) ≡ limit_at agreed s'.stage
   by BeforeStart is h = start f h
   by BeforeTune is h = tune f h
   by BeforeOpenOk is h = open_ok f is h
-  by Serving is h = either (is_open_ok f) s'.stage (serves-stage f s s' is h)
+  by Serving is h = either (opens_connection f) s'.stage (serves-stage f s s' is h)
   by Gone is h = absurd (let k : None ≡ Some s' = sym (ap (λ x. heard_from x f s) (sym is) ∙ gone-none f s is) ∙ h in cc)
 
 -- ---- where the session is, by how far the server is

@@ -42,7 +42,7 @@ use Rattle.amqp_session.specs.Commands.{target, leave_channel, leave_connection,
 use Rattle.amqp_session.specs.Handshake.{new_secret, channel_open, channel_flow, our_channel_close}
 use Rattle.amqp_session.specs.Numbering.{first_number, drawn}
 use Rattle.amqp_frame.specs.Frames.{encoding}
-use Rattle.amqp_session.specs.Ticks.{is_connected, is_missed, is_due, missing_heartbeat, beat, refreshed, link_at, link_due, timed, tick}
+use Rattle.amqp_session.specs.Ticks.{is_connected, is_missed, is_heartbeat_due, missing_heartbeat, beat, refreshed, link_at, link_due, timed, tick}
 use Rattle.amqp_session.specs.Violations.{unawaited, stray_connection_method}
 use Rattle.amqp_session.proofs.Heard.{secret-case}
 use Rattle.amqp_types.proofs.Small.{if_case}
@@ -255,7 +255,7 @@ module _ (slot : Option (Result Answer ErrorKind)) where
       let x : Talk = missing_heartbeat t in
       let missed : Goes slot t x = if_case (Goes slot t) (is_missed t) (lose MissingHeartbeatError t) t (goes-lose MissingHeartbeatError t) (λ o. same t) in
       let beats : Goes slot t (beat t) =
-      if_case (Goes slot t) (is_due x) (record (queue 0 Heartbeat x) { last_write = x.present }) x
+      if_case (Goes slot t) (is_heartbeat_due x) (record (queue 0 Heartbeat x) { last_write = x.present }) x
       (goes-on t x _ missed
       (record {
         opened = λ o. o;

@@ -35,7 +35,7 @@ use Rattle.amqp_session.specs.ChannelMethods.{channel_opened, channel_closed, ch
 use Rattle.amqp_session.specs.Handshake.{flow_ok, channel_close_ok}
 use Rattle.amqp_session.specs.Writing.{then_of}
 use Rattle.amqp_faultless.specs.Faultless.{Use, unused, Server, used_as, provided, one_less}
-use Rattle.amqp_faultless.specs.Faultless.Stage.{Serving}
+use Rattle.amqp_faultless.specs.Faultless.ServerStage.{Serving}
 use Rattle.amqp_types.proofs.Small.{same-number, other-number, the-number}
 use Rattle.amqp_session.proofs.Numbered.{put-same, put-other, without-other}
 use Rattle.amqp_legal_rules.proofs.Ties.{pays, to_pay, unpaid, owing}

@@ -28,8 +28,8 @@ use Rattle.amqp_session.specs.Channels.{channel_at, is_owed}
 use Rattle.amqp_session.specs.Changes.{tell_owed, give}
 use Rattle.amqp_session.specs.Sound.{is_finish}
 use Rattle.amqp_session.specs.ChannelMethods.{awaits_close_ok}
-use Rattle.amqp_session.specs.Writing.{flows, writes, next_item, is_close_ok, then_by, then_of, mark_of, paid_by, pay, follow, sent, sent_among, taken}
-use Rattle.amqp_faultless.specs.Faultless.{Use, Stage, Server, said_to}
+use Rattle.amqp_session.specs.Writing.{flows, writes, next_out, is_close_ok, then_by, then_of, mark_of, paid_by, pay, follow, sent, sent_among, taken}
+use Rattle.amqp_faultless.specs.Faultless.{Use, ServerStage, Server, said_to}
 use Rattle.amqp_types.proofs.Small.{if_case, same-number}
 use Rattle.amqp_session.proofs.Numbered.{put-other, without-other}
 use Rattle.amqp_legal_rules.proofs.Ties.{pays, to_pay, unpaid, owing}
@@ -161,7 +161,7 @@ greeting-nothing (Method zero (OpenMethod a)) None h k = refl
 greeting-nothing f (Some number) h k = absurd cc
 greeting-nothing f promise h k = absurd (true≢false (sym h))
 
-greets-commit : (stage : Stage) (s : Server) (cs : Channels) (ms : List Mark) (flow : Bool) (q : Queued) (i : Item) → queued.next_item flow q ≡ Some i → Greets stage s q cs ms
+greets-commit : (stage : ServerStage) (s : Server) (cs : Channels) (ms : List Mark) (flow : Bool) (q : Queued) (i : Item) → queued.next_item flow q ≡ Some i → Greets stage s q cs ms
     → Greets stage (said_to i.frame s) (after_next flow q) cs (ms ++ mark_of i ∷ [])
 greets-commit stage s cs ms flow q i next h = by q.begun q.control q.publish q.awaited flow next h where
   by : (begun control : List Item) (publish : List (List Item)) (awaited : List (ℕ × List Awaited)) (flow : Bool)
@@ -191,7 +191,7 @@ greets-commit stage s cs ms flow q i next h = by q.begun q.control q.publish q.a
   by [] [] publish awaited false next h = absurd cc
 
 -- the next frame is committed
-pub met-commit : (s : Server) (t : Talk) (i : Item) → next_item t ≡ Some i → IsMet s t
+pub met-commit : (s : Server) (t : Talk) (i : Item) → next_out t ≡ Some i → IsMet s t
     → IsMet (said_to i.frame s) (record t { outbox = after_next (flows t) t.outbox; committed = t.committed ++ mark_of i ∷ [] })
 met-commit s t i next m =
     record {

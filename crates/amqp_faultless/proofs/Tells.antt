@@ -35,13 +35,13 @@ use Rattle.amqp_promise.specs.declared.error.ErrorKind.TheVariants.{MissingHeart
 use Rattle.amqp_session.specs.Listed.{at, put}
 use Rattle.amqp_session.specs.Talk.{Talk, is_open, is_open_link, is_acting, has_ended}
 use Rattle.amqp_session.specs.Links.{piece}
-use Rattle.amqp_session.specs.Channels.{channel_at, new_channel, closing}
+use Rattle.amqp_session.specs.Channels.{channel_at, new_channel, made_closing}
 use Rattle.amqp_session.specs.Changes.{next_promise, lose, queue, present_at}
 use Rattle.amqp_session.specs.Handshake.{new_secret, channel_open, channel_flow, our_channel_close}
 use Rattle.amqp_session.specs.Numbering.{first_number, drawn}
 use Rattle.amqp_session.specs.Publishing.{method_frame, body_pieces, publish_frames}
 use Rattle.amqp_session.specs.Commands.{named, named_in, is_opening, target, target_by, target_in, open_drawn, close_target, drop_target, flow_target, too_long, unless_too_long, queue_secret, update_secret, queue_send, send_target, queue_publish, publish_target, body_limit, command, command_rule}
-use Rattle.amqp_session.specs.Ticks.{is_connected, is_missed, is_due, missing_heartbeat, heartbeat_due, beat, refreshed, refresh_reason, link_at, timed, tick}
+use Rattle.amqp_session.specs.Ticks.{is_connected, is_missed, is_heartbeat_due, missing_heartbeat, heartbeat_due, beat, refreshed, refresh_reason, link_at, timed, tick}
 use Rattle.amqp_session.specs.Writing.{then_of}
 use Rattle.amqp_faultless.specs.Faultless.{Server}
 use Rattle.amqp_types.proofs.Small.{if_case, if_by, if-false, same-number, other-number}
@@ -132,7 +132,7 @@ serves-flow s q cs ms n active promise h =
       listed = y.listed;
       asked = λ x. (let z = y.asked x in let w = more ChannelOpened in omega (arith, z, w));
       flows = (let z = y.flows in omega (arith, z, one));
-      closing = λ x. (let z = y.closing x in let w = more ChannelClosed in omega (arith, z, w));
+      made_closing = λ x. (let z = y.closing x in let w = more ChannelClosed in omega (arith, z, w));
       single = y.single;
     }))
     (acts n q.control) (s.uses n) (h.each n)))
@@ -146,15 +146,15 @@ serves-leave : (s : Server) (q : Queued) (cs : Channels) (ms : List Mark) (n cod
       control = q.control ++ plain n (our_channel_close n code text) ∷ [];
       awaited = expected n (record { reply = ChannelClosed; promise = promise }) q.awaited;
       publish = filter (λ group. not (is_on n group)) q.publish;
-    }) (put n (closing c) cs) ms
+    }) (put n (made_closing c) cs) ms
 serves-leave s q cs ms n code text c promise listed h =
     let a : Awaited = record { reply = ChannelClosed; promise = promise } in
     let i : Item = plain n (our_channel_close n code text) in
-    let cs' : Channels = put n (closing c) cs in
+    let cs' : Channels = put n (made_closing c) cs in
     let ws = expected n a q.awaited in
     let one = expected-count n a q.awaited ChannelClosed in
     let more = expected-more n n a q.awaited in
-    let free = put-free n c (closing c) cs listed refl in
+    let free = put-free n c (made_closing c) cs listed refl in
     let g = serves-push s q cs cs' ms i ws h refl (no-secret s q cs ms h n a (our_channel_close n code text) (secret-close n code text))
     (by-number (λ m. Along (acts m q.control ++ act_on m i.frame ∷ []) (s.uses m) (at m cs') (awaited_on m ws)) n
     (act-cast s q cs ms h n a n (act_on n i.frame) Closes cs' (own-act n Closes)
@@ -164,12 +164,12 @@ serves-leave s q cs ms n code text c promise listed h =
       listed = free y.listed;
       asked = λ x. (let z = y.asked x in let w = more ChannelOpened in omega (arith, z, w));
       flows = (let z = y.flows in let w = more FlowDone in omega (arith, z, w));
-      closing = λ x. omega (arith, one);
+      made_closing = λ x. omega (arith, one);
       single = y.single;
     }))
     (acts n q.control) (s.uses n) (h.each n)))
-    (λ m ne. other-along s q cs ms h n a m (act_on m i.frame) cs' ne (other-act m n Closes ne) (put-other m n (closing c) cs ne)))
-    (λ m. (let x = h.due m in let y = pays-none i m tt in let z = put-owing n c (closing c) cs listed refl m in omega (arith, x, y, z))) in
+    (λ m ne. other-along s q cs ms h n a m (act_on m i.frame) cs' ne (other-act m n Closes ne) (put-other m n (made_closing c) cs ne)))
+    (λ m. (let x = h.due m in let y = pays-none i m tt in let z = put-owing n c (made_closing c) cs listed refl m in omega (arith, x, y, z))) in
     record {
       stage = g.stage;
       staying = g.staying;
@@ -404,7 +404,7 @@ heartbeat-plain = record { idle = λ m. refl; other = refl; secret = refl; unpay
 
 met-heartbeat : (s : Server) (t : Talk) → IsMet s t → IsMet s (heartbeat_due t)
 met-heartbeat s t m =
-    if_by (IsMet s) (is_due t) (record (queue 0 Heartbeat t) { last_write = t.present }) t
+    if_by (IsMet s) (is_heartbeat_due t) (record (queue 0 Heartbeat t) { last_write = t.present }) t
     (λ due.
     (let is = beats-connected t due in
     let q : Queued = record t.outbox { control = t.outbox.control ++ plain 0 Heartbeat ∷ [] } in

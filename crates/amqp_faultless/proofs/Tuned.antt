@@ -28,8 +28,8 @@ use Rattle.amqp_session.specs.Handshake.{start_ok, secure_ok, tune_ok, open_vhos
 use Rattle.amqp_session.specs.ConnectionMethods.{connection_rule, on_start, on_secure, on_tune, connected, reopen_each, on_open_ok}
 use Rattle.amqp_session.specs.Frames.{method_questions, frame_rule, on_frame, questions_in, frame_questions}
 use Rattle.amqp_session.specs.Ticks.{is_connected}
-use Rattle.amqp_faultless.specs.Faultless.{Stage, Server, answers_to, is_frame_max, serves, heard_from}
-use Rattle.amqp_faultless.specs.Faultless.Stage.{BeforeStart, BeforeTune, BeforeOpenOk, Serving, Gone}
+use Rattle.amqp_faultless.specs.Faultless.{ServerStage, Server, answers_to, is_frame_max, serves, heard_from}
+use Rattle.amqp_faultless.specs.Faultless.ServerStage.{BeforeStart, BeforeTune, BeforeOpenOk, Serving, Gone}
 use Rattle.amqp_faultless.proofs.Ordinary.{all-append, method-goes, raw-goes, secret-goes, goes-lose}
 use Rattle.amqp_faultless.proofs.Served.{Channels, given-by}
 use Rattle.amqp_faultless.proofs.Greeted.{IsMet, meets-in, frame-acts, questions-act, connection-in, AreSaid}
@@ -302,8 +302,8 @@ tuned-heard f answers fs s s' t m h heard said m' =
     let acts = frame-acts s t m f answers in
     subst P (sym acts) (by t.state t.phase refl refl (subst Q (questions-act s t m f) said) (subst M acts m'))
   where
-    from : (stage : Stage) → s.stage ≡ stage → heard_from stage f s ≡ Some s'
-    from stage same = ap (λ (x : Stage). heard_from x f s) (sym same) ∙ heard
+    from : (stage : ServerStage) → s.stage ≡ stage → heard_from stage f s ≡ Some s'
+    from stage same = ap (λ (x : ServerStage). heard_from x f s) (sym same) ∙ heard
 
     by : (st : ConnectionState) (p : Phase) → t.state ≡ st → t.phase ≡ p → AreSaid (questions_in f t) answers → IsMet s' (frame_rule f answers t)
         → Tuned fs s' (frame_rule f answers t)

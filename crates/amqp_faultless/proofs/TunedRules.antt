@@ -31,8 +31,8 @@ use Rattle.amqp_session.specs.Changes.{queue, lose, present_at, tell_owed}
 use Rattle.amqp_session.specs.Commands.{command, command_rule}
 use Rattle.amqp_session.specs.Sound.{is_finish}
 use Rattle.amqp_session.specs.Links.{linked, piece}
-use Rattle.amqp_session.specs.Ticks.{is_connected, is_missed, is_due, missing_heartbeat, beat, refreshed, timed, tick}
-use Rattle.amqp_session.specs.Writing.{writes, flows, next_item, mark_of, paid_by, pay, follow, sent, sent_among, taken}
+use Rattle.amqp_session.specs.Ticks.{is_connected, is_missed, is_heartbeat_due, missing_heartbeat, beat, refreshed, timed, tick}
+use Rattle.amqp_session.specs.Writing.{writes, flows, next_out, mark_of, paid_by, pay, follow, sent, sent_among, taken}
 use Rattle.amqp_faultless.specs.Faultless.{Server, silent, said_to}
 use Rattle.amqp_types.proofs.Small.{if_case, if_by, if-true, if-false}
 use Rattle.amqp_session.proofs.Heard.{secret-case}
@@ -110,7 +110,7 @@ tuned-tick answers fs s t timely m h =
     let x : Talk = missing_heartbeat t in
     let a : P x = subst P (sym (if-false (is_missed t) (lose MissingHeartbeatError t) t timely)) h in
     let b : P (beat t) =
-    if_by P (is_due x) (record (queue 0 Heartbeat x) { last_write = x.present }) x
+    if_by P (is_heartbeat_due x) (record (queue 0 Heartbeat x) { last_write = x.present }) x
     (λ due. tuned-lane fs s x (beats-connected x due) a (x.outbox.control ++ plain 0 Heartbeat ∷ [])) (λ idle. a) in
     let d : P (timed answers t) = secret-case P answers (beat t) b (λ asks said. refreshed-tuned said (asks-connected (beat t) asks) b) in
     d
@@ -176,7 +176,7 @@ module _ (fs : List Frame) (s : Server) (i : Item) (lane : List Item) (agreed : 
   commit-open (inr (none, idle, inl now)) = inl (first-next fs (i.frame ∷ []) none ∙ ap (λ (o : Option (ℕ × ℕ)). option_or o None) now)
   commit-open (inr (none, idle, inr (other, plain_frame, later))) = inr (none-said none other, said-asked i.frame s plain_frame ∙ idle, later)
 
-pub tuned-commit : (fs : List Frame) (s : Server) (t : Talk) (i : Item) → next_item t ≡ Some i → IsMet s t → Tuned fs s t
+pub tuned-commit : (fs : List Frame) (s : Server) (t : Talk) (i : Item) → next_out t ≡ Some i → IsMet s t → Tuned fs s t
     → Tuned (fs ++ i.frame ∷ []) (said_to i.frame s) (record t { outbox = after_next (flows t) t.outbox; committed = t.committed ++ mark_of i ∷ [] })
 tuned-commit fs s t i next m h = by t.state t.phase m.meets h where
   may : (b : Bool) (x : Option Item) → (if b then x else None) ≡ Some i → x ≡ Some i

@@ -32,16 +32,16 @@ abbrev pub unused : Use
 unused = record { asked = false; opened = false; flows = 0; closing = false }
 
 -- how far the server is: what it says next, up to open-ok; after that it serves until it is gone
-pub data Stage : Type 0 where
-  BeforeStart : Stage
-  BeforeTune : Stage
-  BeforeOpenOk : Stage
-  Serving : Stage
-  Gone : Stage
+pub data ServerStage : Type 0 where
+  BeforeStart : ServerStage
+  BeforeTune : ServerStage
+  BeforeOpenOk : ServerStage
+  Serving : ServerStage
+  Gone : ServerStage
 
 -- what a server knows of a connection
 pub record Server : Type 0 where
-  pub stage : Stage
+  pub stage : ServerStage
   -- our start-ok, secure-ok or open is not answered
   pub asked : Bool
   -- it blocks
@@ -88,7 +88,7 @@ one_less zero after = None
 one_less (suc n) after = Some (after n)
 
 -- the server answers what was asked
-abbrev pub answers_to : Stage → Server → Option Server
+abbrev pub answers_to : ServerStage → Server → Option Server
 answers_to stage s = provided s.asked (record s { stage = stage; asked = false })
 
 -- what a server that serves says on a channel
@@ -122,7 +122,7 @@ abbrev pub is_frame_max : ℕ → Bool
 is_frame_max n = n == 0 || nat_le 4096 n
 
 -- what a server says: first start, any number of secure, tune and open-ok, with heartbeats from tune on
-abbrev pub heard_from : Stage → Frame → Server → Option Server
+abbrev pub heard_from : ServerStage → Frame → Server → Option Server
 heard_from BeforeStart (Method zero (Start major minor properties mechanisms locales)) s =
     Some (record s { stage = BeforeTune })
 heard_from BeforeTune (Method zero (Secure challenge)) s = answers_to BeforeTune s
@@ -134,9 +134,9 @@ heard_from Serving f s = serves f s
 heard_from _ f s = None
 
 -- open-ok
-abbrev pub is_open_ok : Frame → Bool
-is_open_ok (Method n OpenOk) = true
-is_open_ok _ = false
+abbrev pub opens_connection : Frame → Bool
+opens_connection (Method n OpenOk) = true
+opens_connection _ = false
 
 -- ---- what a client is told, and what its provider answers
 

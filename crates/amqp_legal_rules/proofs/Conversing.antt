@@ -58,13 +58,13 @@ use Rattle.amqp_session.specs.Handshake.{start_ok, secure_ok, tune_ok, open_vhos
 use Rattle.amqp_session.specs.Links.{asked, asked_link, linked, refused_after, link_failed, piece, lost, misread, dropped}
 use Rattle.amqp_session.specs.Recovery.{next_delay, reconnect}
 use Rattle.amqp_session.specs.ConnectionMethods.{connection_rule, on_connection_close, started, challenged, on_tune, connected, reopen_each, on_open_ok, on_connection_close_ok, connection_closed, secret_taken}
-use Rattle.amqp_session.specs.Channels.{closing, channel_at, set_channel}
+use Rattle.amqp_session.specs.Channels.{made_closing, channel_at, set_channel}
 use Rattle.amqp_session.specs.ChannelMethods.{heard_on, unawaited_channel_method, channel_opened, remove_channel, remove_unless_owed, channel_closed, on_channel_flow, channel_flowed, awaits_close_ok, closed_by_server, crossing_close, channel_close_by, channel_rule, channel_method_by, channel_method, raw_by, pass_through, confirmed, hand_out, is_select_ok}
 use Rattle.amqp_session.specs.Frames.{is_of_a_channel, method_rule, frame_rule, closed_rule, on_frame}
 use Rattle.amqp_session.specs.Publishing.{method_frame, publish_frames}
 use Rattle.amqp_session.specs.Commands.{command, command_rule, open_drawn, open_as, named, named_in, is_opening, target, target_by, target_in, leave_channel, close_target, leave_connection, drop_target, flow_target, tell_flow, queue_secret, update_secret, too_long, unless_too_long, queue_send, send, send_target, body_limit, queue_publish, publish, publish_target}
-use Rattle.amqp_session.specs.Ticks.{is_missed, is_due, missing_heartbeat, beat, refreshed, refresh_reason, link_at, link_due, timed, tick}
-use Rattle.amqp_session.specs.Writing.{flows, writes, next_item, then_of, mark_of, paid_by, pay, follow, sent, sent_among, taken}
+use Rattle.amqp_session.specs.Ticks.{is_missed, is_heartbeat_due, missing_heartbeat, beat, refreshed, refresh_reason, link_at, link_due, timed, tick}
+use Rattle.amqp_session.specs.Writing.{flows, writes, next_out, then_of, mark_of, paid_by, pay, follow, sent, sent_among, taken}
 use Rattle.amqp_session.specs.Answers.{answer_of, take_answer, take_frames}
 use Rattle.amqp_session.specs.Listed.{put, without}
 use Rattle.amqp_session.specs.Numbering.{first_number, drawn}
@@ -881,7 +881,7 @@ now-timed answers t fs h =
     let x : Talk = missing_heartbeat t in
     let after : Now x fs = if_case P (is_missed t) (lose MissingHeartbeatError t) t (now-lose MissingHeartbeatError t fs h) h in
     let beaten : Now (beat t) fs =
-    if_by P (is_due x) (record (queue 0 Heartbeat x) { last_write = x.present }) x (λ due. now-heartbeat x fs (beats-connected x due) after) (λ rest. after) in
+    if_by P (is_heartbeat_due x) (record (queue 0 Heartbeat x) { last_write = x.present }) x (λ due. now-heartbeat x fs (beats-connected x due) after) (λ rest. after) in
     secret-case P answers (beat t) beaten (λ asks said. now-refreshed said (beat t) fs (asks-connected (beat t) asks) beaten)
 
 pub now-tick : (answers : List ProviderAnswer) (t : Talk) (fs : List Frame) → Now t fs → Now (tick answers t) fs
@@ -1053,7 +1053,7 @@ now-leave-connection code text answers t fs hs h =
       groups = tt;
       ties = refl;
       agreed = λ k. absurd (true≢false (sym k));
-      listed = map_values-from closing 0 t.channels s.listed;
+      listed = map_values-from made_closing 0 t.channels s.listed;
       room = s.room;
     })))
 
@@ -1365,7 +1365,7 @@ next-speaks true [] [] ((x ∷ group) ∷ groups) awaited s p i frame_max capaci
     })
 
 -- a frame is committed
-pub tied-commit : (t : Talk) (fs : List Frame) (item : Item) → next_item t ≡ Some item → IsTied t fs
+pub tied-commit : (t : Talk) (fs : List Frame) (item : Item) → next_out t ≡ Some item → IsTied t fs
     → IsTied (record t { outbox = after_next (flows t) t.outbox; committed = t.committed ++ mark_of item ∷ [] }) (fs ++ item.frame ∷ [])
 tied-commit t fs item is h =
     next-speaks (flows t) t.outbox.begun t.outbox.control t.outbox.publish t.outbox.awaited t.state t.phase t.input t.configuration.frame_max t.capacity t.channels t.committed fs item

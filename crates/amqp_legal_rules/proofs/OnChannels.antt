@@ -24,7 +24,7 @@ use Rattle.amqp_promise.specs.declared.state.ChannelState.TheVariants as channel
 use Rattle.amqp_session.specs.Handshake.{channel_open, our_channel_close}
 use Rattle.amqp_session.specs.Listed.{at, put, without, has, map_values}
 use Rattle.amqp_session.specs.Numbering.{first_number, cycle, drawn}
-use Rattle.amqp_session.specs.Channels.{new_channel, closing}
+use Rattle.amqp_session.specs.Channels.{new_channel, made_closing}
 use Rattle.amqp_session.specs.Recovery.{is_kept_in, reconnecting, kept}
 use Rattle.amqp_legal.specs.Octets.{class_in}
 use Rattle.amqp_legal.specs.Decider.{Speech, Usage, Shut, InUse, Left, OpenSaid, Content, MethodSaid, say, say_open, say_use, say_close, now_on}
@@ -218,13 +218,13 @@ on-open n cs ws due v number some absent h =
 -- an open channel is closed
 pub record Closes (n : ℕ) (cs : Listed) (ws : Replies) (due : ℕ → ℕ) (v : Speech) (c : Channel) (code : ℕ) (text : List ℕ) (promise : Option ℕ) : Type 0 where
   pub may : say (our_channel_close n code text) v ≡ Some (now_on n Left v)
-  pub ties : TiesChannels (put n (closing c) cs) (expected n (record { reply = ChannelClosed; promise = promise }) ws) due (now_on n Left v)
+  pub ties : TiesChannels (put n (made_closing c) cs) (expected n (record { reply = ChannelClosed; promise = promise }) ws) due (now_on n Left v)
 
 pub on-close : (n : ℕ) (cs : Listed) (ws : Replies) (due : ℕ → ℕ) (v : Speech) (c : Channel) (code : ℕ) (text : List ℕ) (promise : Option ℕ)
     → at n cs ≡ Some c → c.state ≡ channel.Connected → TiesChannels cs ws due v → Closes n cs ws due v c code text promise
 on-close n cs ws due v c code text promise listed is h =
     let a : Awaited = record { reply = ChannelClosed; promise = promise } in
-    let c' : Channel = closing c in
+    let c' : Channel = made_closing c in
     let m : AnyMethod = ChannelClose code text 0 0 in
     let some : n ≢ 0 = listed-some n cs ws due v c listed h in
     let ties : TiesState channel.Connected c.debt (tied_on n ws) (v.usage n) = ties-of n cs ws due v c channel.Connected listed is h in

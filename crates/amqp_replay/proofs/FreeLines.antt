@@ -14,7 +14,7 @@ use Rattle.amqp_replay.specs.declared.limits.TheConstants.{TEXT_BYTES}
 use Rattle.amqp_replay.specs.Words.{first_word, after_word}
 use Rattle.amqp_replay.specs.Decimals.{number_16}
 use Rattle.amqp_replay.specs.Budgets.{affordable_publish}
-use Rattle.amqp_replay.specs.Grammar.{limited, closes_by, closes, shut_line, numbered, close_of, close_line, number_in, rest_of, is_passed_through, sent_method, Published, zeros_published, publishes_data, switch_in, flows, flow_line, is_printable, is_ignored, setup_or_refused, step_line, content_says}
+use Rattle.amqp_replay.specs.Grammar.{limited, closes_by, closes, shut_line, numbered, closes_numbered, close_line, number_in, rest_of, is_passed_class, sent_method, Published, zeros_published, publishes_data, switch_in, flow_said, flow_line, is_printable, is_ignored, setup_or_refused, step_line, content_says}
 
 -- a step without such zeros is always within the limit
 free_step : (left : ℕ) (what : GivenStep) → limited left (Step what 0) ≡ Step what 0
@@ -34,7 +34,7 @@ free_closes : (left : ℕ) (cmd : ℕ → List ℕ → Cmd) (o : Option (List �
 free_closes left cmd None = refl
 free_closes left cmd (Some words) = free_closes_by left cmd (number_16 (first_word words)) (unwrap_or (after_word words) [])
 
-free_close_of : (left : ℕ) (n : Option ℕ) (rest : Option (List ℕ)) → limited left (close_of n rest) ≡ close_of n rest
+free_close_of : (left : ℕ) (n : Option ℕ) (rest : Option (List ℕ)) → limited left (closes_numbered n rest) ≡ closes_numbered n rest
 free_close_of left None rest = refl
 free_close_of left (Some n) rest = free_closes left (CloseChannel (numbered n)) rest
 
@@ -45,7 +45,7 @@ limited-close_line left (Some words) = free_close_of left (number_16 (first_word
 pub limited-shut_line : (left : ℕ) (o : Option (List ℕ)) → limited left (shut_line o) ≡ shut_line o
 limited-shut_line left o = free_closes left CloseConnection o
 
-free_flows : (left : ℕ) (n : Option ℕ) (active : Option Bool) → limited left (flows n active) ≡ flows n active
+free_flows : (left : ℕ) (n : Option ℕ) (active : Option Bool) → limited left (flow_said n active) ≡ flow_said n active
 free_flows left (Some n) (Some active) = free_step left (Command (Flow (numbered n) active))
 free_flows left None active = refl
 free_flows left (Some n) None = refl
@@ -73,7 +73,7 @@ pub limited-publishes_data : (left n class method : ℕ) (o : Option Published)
 limited-publishes_data left n class method None = refl
 limited-publishes_data left n class method (Some p) =
     lifted (nat_le (zeros_published p) left) n class method p
-    ∙ by_fit (nat_le (zeros_published p) left) (is_passed_through class && nat_le 2 (length p.properties.bytes)) left (zeros_published p)
+    ∙ by_fit (nat_le (zeros_published p) left) (is_passed_class class && nat_le 2 (length p.properties.bytes)) left (zeros_published p)
     (Command (Publish (numbered n) (sent_method class method p.arguments.bytes) p.properties.bytes p.body.bytes)) refl
 
 -- ---- settings

@@ -8,7 +8,7 @@ use Rattle.amqp_promise.specs.declared.error.ErrorKind.{ErrorKind}
 use Rattle.amqp_session.specs.Talk.{Talk, end_of}
 use Rattle.amqp_session.specs.Answers.{answer_of, Takes}
 use Rattle.amqp_replay.specs.Report.{hexadecimal, end_line}
-use Rattle.amqp_replay.specs.Generator.{opening}
+use Rattle.amqp_replay.specs.Generator.{opening_lines}
 use Rattle.amqp_replay.specs.Summary.{first_len, is_ok, count_ok, sent_text, answered_text, summary}
 use Rattle.amqp_replay.proofs.Reports.{Keeps, Keeps-step}
 
@@ -23,7 +23,7 @@ three out one two whole a b c first second third =
 
 pub opening-parts : (id : ℕ) (digits out one two whole : List ℕ) → digits ≡ to_be_bytes w16 id
     → one ≡ out ++ codes "open\nbytes 01" → two ≡ one ++ hexadecimal digits → whole ≡ two ++ codes "000000080014000b00000000ce\n"
-    → whole ≡ out ++ opening id
+    → whole ≡ out ++ opening_lines id
 opening-parts id digits out one two whole same first second third =
     three out one two whole (codes "open\nbytes 01") (hexadecimal (to_be_bytes w16 id)) (codes "000000080014000b00000000ce\n")
     first (second ∙ ap (λ (x : List ℕ). one ++ hexadecimal x) same) third

@@ -6,15 +6,15 @@ use Rattle.amqp_replay.specs.declared.limits.TheConstants.{ZERO_BYTES}
 use Rattle.amqp_replay.specs.declared.setup.Setting.{Setting}
 use Rattle.amqp_replay.specs.declared.setup.Setting.TheVariants.{Uri, Locale, Name, Property, Recover, Delays, Provider, Listen}
 use Rattle.amqp_replay.specs.Lines.{Line, lines as lines_of}
-use Rattle.amqp_replay.specs.Setup.{Progress, no_lines, may_stand}
+use Rattle.amqp_replay.specs.Setup.{SetupSoFar, no_lines, may_stand}
 use Rattle.amqp_replay.specs.Grammar.{Scenario, placed, progress_after, says, limited, moment_after, zeros_in, before, scenario_of, parsed}
 
 -- no provider was handed, and no line said that one is used
-record IsUnhanded (p : Progress) : Type 0 where
+record IsUnhanded (p : SetupSoFar) : Type 0 where
   none : p.is_handed ≡ false
   unsaid : p.has_provider ≡ false
 
-by_standing : (p : Progress) (setting : Setting) (b : Bool) → may_stand setting p ≡ b → IsUnhanded p → IsUnhanded (progress_after p (if b then Setup setting else Refused))
+by_standing : (p : SetupSoFar) (setting : Setting) (b : Bool) → may_stand setting p ≡ b → IsUnhanded p → IsUnhanded (progress_after p (if b then Setup setting else Refused))
 by_standing p setting false is h = h
 by_standing p (Uri uri) true is h = record { none = h.none; unsaid = h.unsaid }
 by_standing p (Locale locale) true is h = record { none = h.none; unsaid = h.unsaid }
@@ -28,7 +28,7 @@ by_standing p Provider true is h =
     let both : true ≡ false = sym is ∙ fails in
     cc
 
-kept : (p : Progress) (said : Said) → IsUnhanded p → IsUnhanded (progress_after p (placed p said))
+kept : (p : SetupSoFar) (said : Said) → IsUnhanded p → IsUnhanded (progress_after p (placed p said))
 kept p Nothing h = h
 kept p Refused h = h
 kept p (Setup setting) h = by_standing p setting (may_stand setting p) refl h
@@ -47,7 +47,7 @@ by_first at (Setup setting) number rest s h = record { q = s; is = h; same = ref
 by_first at (Step what n) number (Ok q) s h = record { q = q; is = refl; same = cc }
 by_first at (Step what n) number (Err line) s h = cc
 
-unhanded : (lines : List Line) (p : Progress) (at left : ℕ) (s : Scenario) → IsUnhanded p → scenario_of p at left lines ≡ Ok s → s.handed ≡ false
+unhanded : (lines : List Line) (p : SetupSoFar) (at left : ℕ) (s : Scenario) → IsUnhanded p → scenario_of p at left lines ≡ Ok s → s.handed ≡ false
 unhanded [] p at left s none h =
     let same : s.handed ≡ p.has_provider = cc in
     same ∙ none.unsaid

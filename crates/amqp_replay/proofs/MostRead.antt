@@ -9,7 +9,7 @@ use Rattle.amqp_replay.specs.declared.grammar.Said.{Said}
 use Rattle.amqp_replay.specs.declared.grammar.Said.TheVariants.{Refused}
 use Rattle.amqp_replay.specs.declared.limits.TheConstants.{MOST_READ, SCRIPT_BYTES, SCRIPT_LINES, ZERO_BYTES}
 use Rattle.amqp_replay.specs.Lines.{Line, is_line_feed, last_line, lines_of_parts, lines_from}
-use Rattle.amqp_replay.specs.Setup.{Progress, no_lines}
+use Rattle.amqp_replay.specs.Setup.{SetupSoFar, no_lines}
 use Rattle.amqp_replay.specs.Grammar.{placed, progress_after, content_says, says, limited, moment_after, zeros_in, before as before_rest, scenario_of, parsed}
 use Rattle.amqp_replay.proofs.LineLemmas.{fed_line, first_of_parts, some_part, last_line-some}
 use Rattle.amqp_replay.proofs.Steps.{scenario_of-refused}
@@ -33,7 +33,7 @@ beyond : (a b : Bool) (said : Said) → b ≡ false → (if a && b then said els
 beyond true b said h = ap (λ (x : Bool). if x then said else Refused) h
 beyond false b said h = refl
 
-refused_beyond : (p : Progress) (at left : ℕ) (line : Line) (more : List Line) → SCRIPT_BYTES < line.end → scenario_of p at left (line ∷ more) ≡ Err line.number
+refused_beyond : (p : SetupSoFar) (at left : ℕ) (line : Line) (more : List Line) → SCRIPT_BYTES < line.end → scenario_of p at left (line ∷ more) ≡ Err line.number
 refused_beyond p at left line more h =
     let over : nat_le line.end SCRIPT_BYTES ≡ false = grind (arith, nat_tests) in
     scenario_of-refused p at left line more
@@ -45,12 +45,12 @@ no_feed_yet k d lt = absurd (omega arith)
 longer : (front : List ℕ) (b : ℕ) → length (front ++ b ∷ []) ≡ length front + 1
 longer front b = grind (arith, common_steps)
 
-moved : (p : Progress) (at left number before : ℕ) (front : List ℕ) (b : ℕ) (rest : List ℕ)
+moved : (p : SetupSoFar) (at left number before : ℕ) (front : List ℕ) (b : ℕ) (rest : List ℕ)
     → scenario_of p at left (lines_from number before (front ++ b ∷ rest)) ≡ scenario_of p at left (lines_from number before ((front ++ b ∷ []) ++ rest))
 moved p at left number before front b rest =
     ap (λ (x : List ℕ). scenario_of p at left (lines_from number before x)) (sym (append_assoc front (b ∷ []) rest))
 
-beyond_at : (feed : Bool) (b : ℕ) (rest : List ℕ) (p : Progress) (at left number before : ℕ) (front : List ℕ) → is_line_feed b ≡ feed → NoFeed front
+beyond_at : (feed : Bool) (b : ℕ) (rest : List ℕ) (p : SetupSoFar) (at left number before : ℕ) (front : List ℕ) → is_line_feed b ≡ feed → NoFeed front
     → SCRIPT_BYTES < before + length front
     → ((f : List ℕ) → NoFeed f → 0 < length f → SCRIPT_BYTES < before + length f → scenario_of p at left (lines_from number before (f ++ rest)) ≡ Err number)
     → scenario_of p at left (lines_from number before (front ++ b ∷ rest)) ≡ Err number
@@ -63,7 +63,7 @@ beyond_at false b rest p at left number before front is none over later =
     ∙ later (front ++ b ∷ []) (All-push (λ x. is_line_feed x ≡ false) front b none is) (omega (arith, len)) (omega (arith, len, over))
 
 -- the first line holds a byte beyond the limit
-first_beyond : (rest : List ℕ) (p : Progress) (at left number before : ℕ) (front : List ℕ) → NoFeed front → 0 < length front → SCRIPT_BYTES < before + length front
+first_beyond : (rest : List ℕ) (p : SetupSoFar) (at left number before : ℕ) (front : List ℕ) → NoFeed front → 0 < length front → SCRIPT_BYTES < before + length front
     → scenario_of p at left (lines_from number before (front ++ rest)) ≡ Err number
 first_beyond [] p at left number before front none some over =
     ap (λ (x : List ℕ). scenario_of p at left (lines_from number before x)) (append-nil front)
@@ -75,22 +75,22 @@ first_beyond (b ∷ rest) p at left number before front none some over =
 -- ---- what follows the most that is read
 
 -- what a line says where the lines before it have come so far
-abbrev said_by : Progress → ℕ → Line → Said
+abbrev said_by : SetupSoFar → ℕ → Line → Said
 said_by p left line = placed p (limited left (says line))
 
 -- how far the lines have come after it
-abbrev next_after : Progress → ℕ → Line → Progress
+abbrev next_after : SetupSoFar → ℕ → Line → SetupSoFar
 next_after p left line = progress_after p (said_by p left line)
 
 -- how many zeros may be spelled by numbers after it
-abbrev left_after : Progress → ℕ → Line → ℕ
+abbrev left_after : SetupSoFar → ℕ → Line → ℕ
 left_after p left line = left - zeros_in (said_by p left line)
 
 -- the moment of the last step after it
-abbrev at_after : Progress → ℕ → ℕ → Line → ℕ
+abbrev at_after : SetupSoFar → ℕ → ℕ → Line → ℕ
 at_after p at left line = moment_after at (said_by p left line) line.content
 
-by_says : (p : Progress) (at left : ℕ) (line : Line) (xs ys : List Line)
+by_says : (p : SetupSoFar) (at left : ℕ) (line : Line) (xs ys : List Line)
     → scenario_of (next_after p left line) (at_after p at left line) (left_after p left line) xs
     ≡ scenario_of (next_after p left line) (at_after p at left line) (left_after p left line) ys
     → scenario_of p at left (line ∷ xs) ≡ scenario_of p at left (line ∷ ys)
@@ -98,10 +98,10 @@ by_says p at left line xs ys same = ap (before_rest (at_after p at left line) (s
 
 -- what is claimed of a text, of which k bytes and one more are read
 abbrev Reads : List ℕ → Type 0
-Reads text = (p : Progress) (at left number before k : ℕ) (front : List ℕ) → NoFeed front → before + length front + suc k ≡ MOST_READ
+Reads text = (p : SetupSoFar) (at left number before k : ℕ) (front : List ℕ) → NoFeed front → before + length front + suc k ≡ MOST_READ
     → scenario_of p at left (lines_from number before (front ++ take (suc k) text)) ≡ scenario_of p at left (lines_from number before (front ++ text))
 
-reads_at : (feed : Bool) (b : ℕ) (rest : List ℕ) (p : Progress) (at left number before k : ℕ) (front : List ℕ) → is_line_feed b ≡ feed → NoFeed front
+reads_at : (feed : Bool) (b : ℕ) (rest : List ℕ) (p : SetupSoFar) (at left number before k : ℕ) (front : List ℕ) → is_line_feed b ≡ feed → NoFeed front
     → before + length front + suc k ≡ MOST_READ → Reads rest
     → scenario_of p at left (lines_from number before (front ++ b ∷ take k rest)) ≡ scenario_of p at left (lines_from number before (front ++ b ∷ rest))
 reads_at true b rest p at left number before zero front is none most later =

@@ -15,10 +15,10 @@ use Rattle.amqp_replay.specs.declared.limits.TheConstants.{PIECE_BYTES, SECRET_B
 use Rattle.amqp_replay.specs.Lines.{Line}
 use Rattle.amqp_replay.specs.Words.{first_word, after_word}
 use Rattle.amqp_replay.specs.Decimals.{number_16, number_64}
-use Rattle.amqp_replay.specs.Data.{Spelled, spelled}
+use Rattle.amqp_replay.specs.Data.{SpelledBytes, spelled}
 use Rattle.amqp_replay.specs.declared.setup.Setting.{Setting}
 use Rattle.amqp_replay.specs.Setup.{is_setup, setting_of}
-use Rattle.amqp_replay.specs.Grammar.{step_or_refused, lone, link_line, room_line, piece, bytes_line, closes_by, closes, shut_line, numbered, close_of, close_line, number_in, rest_of, is_passed_through, sent_method, sends_data, data_in, sends, send_line, Published, zeros_published, published_in, publishes_data, publishes, publish_line, switch_in, flows, flow_line, first_data_in, secrets, secret_line, command_of_words, line_of_words, words_say, timed, is_at_sign, step_line, is_ignored, is_printable, setup_or_refused, content_says, is_within_limits, says, limited}
+use Rattle.amqp_replay.specs.Grammar.{step_or_refused, lone, link_line, room_line, piece_said, bytes_line, closes_by, closes, shut_line, numbered, closes_numbered, close_line, number_in, rest_of, is_passed_class, sent_method, sends_data, data_in, sends, send_line, Published, zeros_published, published_in, publishes_data, publishes, publish_line, switch_in, flow_said, flow_line, first_data_in, secrets, secret_line, command_of_words, line_of_words, words_say, words_timed, is_at_sign, step_line, is_ignored, is_printable, setup_or_refused, content_says, is_within_limits, says, limited}
 
 abbrev pub SaysPiece : Said → Type 0
 SaysPiece (Step what n) = IsGivenPiece what
@@ -59,7 +59,7 @@ of_closes : (cmd : ℕ → List ℕ → Cmd) (o : Option (List ℕ)) → SaysPie
 of_closes cmd None = tt
 of_closes cmd (Some words) = of_closes_by cmd (number_16 (first_word words)) (unwrap_or (after_word words) [])
 
-of_close_of : (o : Option ℕ) (rest : Option (List ℕ)) → SaysPiece (close_of o rest)
+of_close_of : (o : Option ℕ) (rest : Option (List ℕ)) → SaysPiece (closes_numbered o rest)
 of_close_of None rest = tt
 of_close_of (Some n) rest = of_closes (CloseChannel (numbered n)) rest
 
@@ -67,12 +67,12 @@ of_close_line : (o : Option (List ℕ)) → SaysPiece (close_line o)
 of_close_line None = tt
 of_close_line (Some words) = of_close_of (number_16 (first_word words)) (after_word words)
 
-of_sends_data : (n class method : ℕ) (o : Option Spelled) → SaysPiece (sends_data n class method o)
+of_sends_data : (n class method : ℕ) (o : Option SpelledBytes) → SaysPiece (sends_data n class method o)
 of_sends_data n class method None = tt
 of_sends_data n class method (Some found) =
-    if_case (is_passed_through class) (Step (Command (Send (numbered n) (sent_method class method found.bytes))) found.zeros) Refused tt tt
+    if_case (is_passed_class class) (Step (Command (Send (numbered n) (sent_method class method found.bytes))) found.zeros) Refused tt tt
 
-of_sends : (n class method : Option ℕ) (o : Option Spelled) → SaysPiece (sends n class method o)
+of_sends : (n class method : Option ℕ) (o : Option SpelledBytes) → SaysPiece (sends n class method o)
 of_sends (Some n) (Some class) (Some method) o = of_sends_data n class method o
 of_sends None class method o = tt
 of_sends (Some n) None method o = tt
@@ -85,7 +85,7 @@ of_send_line o =
 of_publishes_data : (n class method : ℕ) (o : Option Published) → SaysPiece (publishes_data n class method o)
 of_publishes_data n class method None = tt
 of_publishes_data n class method (Some p) =
-    if_case (is_passed_through class && nat_le 2 (length p.properties.bytes))
+    if_case (is_passed_class class && nat_le 2 (length p.properties.bytes))
     (Step (Command (Publish (numbered n) (sent_method class method p.arguments.bytes) p.properties.bytes p.body.bytes)) (zeros_published p))
     Refused tt tt
 
@@ -99,12 +99,12 @@ of_publish_line : (o : Option (List ℕ)) → SaysPiece (publish_line o)
 of_publish_line o =
     of_publishes (number_in o) (number_in (rest_of o)) (number_in (rest_of (rest_of o))) (published_in (rest_of (rest_of (rest_of o))))
 
-of_flows : (n : Option ℕ) (active : Option Bool) → SaysPiece (flows n active)
+of_flows : (n : Option ℕ) (active : Option Bool) → SaysPiece (flow_said n active)
 of_flows (Some n) (Some active) = tt
 of_flows None active = tt
 of_flows (Some n) None = tt
 
-of_secrets : (o : Option Spelled) (reason : List ℕ) → SaysPiece (secrets o reason)
+of_secrets : (o : Option SpelledBytes) (reason : List ℕ) → SaysPiece (secrets o reason)
 of_secrets None reason = tt
 of_secrets (Some found) reason =
     if_case (nat_le (length found.bytes) SECRET_BYTES && nat_le (length reason) TEXT_BYTES)
@@ -120,7 +120,7 @@ sized : (b : Bool) (bytes : List ℕ) (n : ℕ) → (nat_le 1 (length bytes) && 
 sized true bytes n h = both (length bytes) h
 sized false bytes n h = tt
 
-of_piece : (o : Option Spelled) → SaysPiece (piece o)
+of_piece : (o : Option SpelledBytes) → SaysPiece (piece_said o)
 of_piece None = tt
 of_piece (Some found) = sized (nat_le 1 (length found.bytes) && nat_le (length found.bytes) PIECE_BYTES) found.bytes found.zeros refl
 
@@ -155,7 +155,7 @@ of_words word rest =
 of_words_say : (text : List ℕ) → SaysPiece (words_say text)
 of_words_say text = of_words (first_word text) (after_word text)
 
-of_timed : (at : Option ℕ) (rest : Option (List ℕ)) → SaysPiece (timed at rest)
+of_timed : (at : Option ℕ) (rest : Option (List ℕ)) → SaysPiece (words_timed at rest)
 of_timed (Some at) (Some text) = of_words_say text
 of_timed (Some at) None = tt
 of_timed None rest = tt
@@ -163,7 +163,7 @@ of_timed None rest = tt
 of_step_line : (content : List ℕ) → SaysPiece (step_line content)
 of_step_line [] = tt
 of_step_line (b ∷ bs) =
-    if_case (is_at_sign b) (timed (number_64 (first_word bs)) (after_word bs)) (words_say (b ∷ bs))
+    if_case (is_at_sign b) (words_timed (number_64 (first_word bs)) (after_word bs)) (words_say (b ∷ bs))
     (of_timed (number_64 (first_word bs)) (after_word bs)) (of_words_say (b ∷ bs))
 
 of_setup : (o : Option Setting) → SaysPiece (setup_or_refused o)
@@ -187,5 +187,5 @@ says_piece left line =
     of_limited left (says line) (if_case (is_within_limits line) (content_says line.content) Refused (of_content line.content) tt)
 
 pub ArePieces-push : (gs : List Given) (g : Given) → ArePieces gs → IsGivenPiece g.what → ArePieces (gs ++ g ∷ [])
-ArePieces-push [] g pieces piece = (piece, tt)
-ArePieces-push (h ∷ gs) g pieces piece = (pieces.0, ArePieces-push gs g pieces.1 piece)
+ArePieces-push [] g pieces piece_said = (piece_said, tt)
+ArePieces-push (h ∷ gs) g pieces piece_said = (pieces.0, ArePieces-push gs g pieces.1 piece_said)

@@ -15,7 +15,7 @@ use Rattle.amqp_engine.specs.Account.{IsNew}
 use Rattle.amqp_engine.proofs.Carrying.{all-carried}
 use Rattle.amqp_engine.proofs.Playing.{played-are-turns}
 use Rattle.amqp_replay.specs.Grammar.{Scenario}
-use Rattle.amqp_replay.specs.Top.{set_up, session_of, engine_of, replayed_turns, replayed_log, replayed_links, replayed_exchange, handed_state, answers_of, reported, summed, printout, generated_printout}
+use Rattle.amqp_replay.specs.Top.{set_up, session_of, engine_of, replayed_turns, replayed_log, replayed_links, replayed_exchange, handed_state, AreProvidersAnswers, reported, summed, printout, generated_printout}
 use Rattle.amqp_replay.specs.Runs.{IsReplayed, IsMade}
 use Rattle.amqp_replay.specs.Report.{Printout}
 use Rattle.amqp_types.proofs.Small.{none-from}
@@ -113,9 +113,9 @@ chosen-own allows true handed own is x h =
 
 -- the provider that goes by an address
 pub by-address : {E : Type 0} (ran : Result Engine E) (own made : DefaultAuth) (s : Scenario) (links : List (List ℕ)) (log : Option Log)
-    → own ≡ made → IfOk ran (λ e. IsReplayed (answers_of own) s e.talk links log) → IfOk ran (λ e. IsReplayed (answers_of made) s e.talk links log)
+    → own ≡ made → IfOk ran (λ e. IsReplayed (AreProvidersAnswers own) s e.talk links log) → IfOk ran (λ e. IsReplayed (AreProvidersAnswers made) s e.talk links log)
 by-address ran own made s links log is h =
-    let P : DefaultAuth → Type 0 = λ d. IfOk ran (λ e. IsReplayed (answers_of d) s e.talk links log) in
+    let P : DefaultAuth → Type 0 = λ d. IfOk ran (λ e. IsReplayed (AreProvidersAnswers d) s e.talk links log) in
     subst P is h
 
 -- ---- what is printed of it

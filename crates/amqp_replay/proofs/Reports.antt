@@ -9,7 +9,7 @@ use Rattle.amqp_promise.specs.declared.error.ErrorKind.TheVariants.{NoMemory}
 use Rattle.amqp_session.specs.Listed.{without}
 use Rattle.amqp_session.specs.Talk.{Talk, end_of}
 use Rattle.amqp_session.specs.Answers.{answer_in, answer_of, take_answer, Takes, events_of}
-use Rattle.amqp_replay.specs.Report.{link_line, link_lines, answer_line, answer_lines, frame_lines, event_lines, end_line, report}
+use Rattle.amqp_replay.specs.Report.{link_report, link_lines, answer_line, answer_lines, frame_lines, event_lines, end_line, report}
 use Rattle.amqp_replay.proofs.Entries.{at-without}
 
 -- ---- lists, one by one
@@ -32,14 +32,14 @@ lines_from-step line number count h =
 
 -- the lines of the links from one on
 abbrev pub links_from : ℕ → List (List ℕ) → List ℕ
-links_from k links = flat_map link_line (enumerate_from (k + 1) (drop k links))
+links_from k links = flat_map link_report (enumerate_from (k + 1) (drop k links))
 
 pub links_from-step : (k : ℕ) (links : List (List ℕ)) (link : List ℕ) → slice_get links k ≡ Some link
-    → links_from k links ≡ link_line (k + 1, link) ++ links_from (k + 1) links
+    → links_from k links ≡ link_report (k + 1, link) ++ links_from (k + 1) links
 links_from-step k links link h =
     let there : k < length links = slice_get_within links k link h in
     let same : get_or links k link ≡ link = get_or_from_slice_get links k link link h in
-    ap (λ (x : List (List ℕ)). flat_map link_line (enumerate_from (k + 1) x)) (drop_from k links link there (sym same))
+    ap (λ (x : List (List ℕ)). flat_map link_report (enumerate_from (k + 1) x)) (drop_from k links link there (sym same))
 
 drop_all : (links : List (List ℕ)) (k : ℕ) → length links ≤ k → drop k links ≡ []
 drop_all [] zero h = refl
@@ -48,7 +48,7 @@ drop_all (x ∷ links) zero h = absurd (omega arith)
 drop_all (x ∷ links) (suc k) h = drop_all links k (omega arith)
 
 pub links_from-end : (k : ℕ) (links : List (List ℕ)) → length links ≤ k → links_from k links ≡ []
-links_from-end k links h = ap (λ (x : List (List ℕ)). flat_map link_line (enumerate_from (k + 1) x)) (drop_all links k h)
+links_from-end k links h = ap (λ (x : List (List ℕ)). flat_map link_report (enumerate_from (k + 1) x)) (drop_all links k h)
 
 -- ---- promises
 

@@ -4,7 +4,7 @@ use Rattle.std.specs.Str.{bytes_eq}
 use Rattle.amqp_replay.specs.declared.asked.Asked.{Asked}
 use Rattle.amqp_replay.specs.declared.asked.Asked.TheVariants.{Replay, Generate}
 use Rattle.amqp_replay.specs.declared.limits.TheConstants.{MOST_GENERATED}
-use Rattle.amqp_replay.specs.Decimals.{number_of}
+use Rattle.amqp_replay.specs.Decimals.{decimal_number}
 
 -- `replay`
 abbrev pub one_word : List ℕ → Option Asked
@@ -13,10 +13,10 @@ one_word word = if bytes_eq word (codes "replay") then Some Replay else None
 -- `generate N`, N being decimal digits of a number from 0 to 2,000
 abbrev pub two_words : List ℕ → List ℕ → Option Asked
 two_words word digits =
-    if bytes_eq word (codes "generate") then option_map Generate (number_of MOST_GENERATED digits) else None
+    if bytes_eq word (codes "generate") then option_map Generate (decimal_number MOST_GENERATED digits) else None
 
 -- what the words ask for, where they are known
-abbrev pub asked : List (List ℕ) → Option Asked
-asked (word ∷ []) = one_word word
-asked (word ∷ digits ∷ []) = two_words word digits
-asked _ = None
+abbrev pub asked_by_words : List (List ℕ) → Option Asked
+asked_by_words (word ∷ []) = one_word word
+asked_by_words (word ∷ digits ∷ []) = two_words word digits
+asked_by_words _ = None

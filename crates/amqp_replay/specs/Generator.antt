@@ -18,8 +18,8 @@ opened =
     ++ codes "bytes 01000000000005000a002900ce\n"
 
 -- a channel is opened, and the server says channel.open-ok
-abbrev pub opening : ℕ → List ℕ
-opening id =
+abbrev pub opening_lines : ℕ → List ℕ
+opening_lines id =
     codes "open\n" ++ codes "bytes 01" ++ hexadecimal (to_be_bytes w16 id) ++ codes "000000080014000b00000000ce\n"
 
 -- so many zeros, or `-` for none
@@ -44,6 +44,6 @@ ending = codes "shut 200 OK\n" ++ codes "bytes 01000000000004000a0033ce\n"
 abbrev pub generated : ℕ → List ℕ
 generated count =
     opened
-    ++ flat_map opening (range_with_len 1 count)
+    ++ flat_map opening_lines (range_with_len 1 count)
     ++ flat_map publishing (range_with_len 1 count)
     ++ ending

@@ -16,9 +16,9 @@ use Rattle.amqp_replay.specs.declared.limits.TheConstants.{PIECE_BYTES, SECRET_B
 use Rattle.amqp_replay.specs.Lines.{Line, lines}
 use Rattle.amqp_replay.specs.Words.{first_word, after_word}
 use Rattle.amqp_replay.specs.Decimals.{number_16, number_64}
-use Rattle.amqp_replay.specs.Data.{Spelled, spelled}
+use Rattle.amqp_replay.specs.Data.{SpelledBytes, spelled}
 use Rattle.amqp_replay.specs.declared.setup.Setting.{Setting}
-use Rattle.amqp_replay.specs.Setup.{is_setup, setting_of, Progress, no_lines, may_stand, after_setting, after_step}
+use Rattle.amqp_replay.specs.Setup.{is_setup, setting_of, SetupSoFar, no_lines, may_stand, after_setting, after_step}
 
 -- ---- lines
 
@@ -43,9 +43,9 @@ room_line None = Refused
 room_line (Some digits) = step_or_refused (option_map Room (number_64 digits))
 
 -- a piece of 1 to 4,096 bytes
-abbrev pub piece : Option Spelled → Said
-piece None = Refused
-piece (Some found) =
+abbrev pub piece_said : Option SpelledBytes → Said
+piece_said None = Refused
+piece_said (Some found) =
     if nat_le 1 (length found.bytes) && nat_le (length found.bytes) PIECE_BYTES
     then Step (Bytes found.bytes) found.zeros
     else Refused
@@ -53,7 +53,7 @@ piece (Some found) =
 -- `bytes DATA`
 abbrev pub bytes_line : Option (List ℕ) → Said
 bytes_line None = Refused
-bytes_line (Some text) = piece (spelled text)
+bytes_line (Some text) = piece_said (spelled text)
 
 -- a command with a code and a text, which may be missing, and is empty then
 abbrev pub closes_by : (ℕ → List ℕ → Cmd) → Option ℕ → List ℕ → Said
@@ -74,14 +74,14 @@ abbrev pub numbered : ℕ → ChanRef
 numbered n = record { id = n; opened = None }
 
 -- what follows the number of a channel that is to be closed
-abbrev pub close_of : Option ℕ → Option (List ℕ) → Said
-close_of None rest = Refused
-close_of (Some n) rest = closes (CloseChannel (numbered n)) rest
+abbrev pub closes_numbered : Option ℕ → Option (List ℕ) → Said
+closes_numbered None rest = Refused
+closes_numbered (Some n) rest = closes (CloseChannel (numbered n)) rest
 
 -- `close CH CODE TEXT`
 abbrev pub close_line : Option (List ℕ) → Said
 close_line None = Refused
-close_line (Some words) = close_of (number_16 (first_word words)) (after_word words)
+close_line (Some words) = closes_numbered (number_16 (first_word words)) (after_word words)
 
 -- a number at the front of the words that are left
 abbrev pub number_in : Option (List ℕ) → Option ℕ
@@ -94,28 +94,28 @@ rest_of None = None
 rest_of (Some words) = after_word words
 
 -- a class whose methods are not read
-abbrev pub is_passed_through : ℕ → Bool
-is_passed_through class = not (class == 10 || class == 20)
+abbrev pub is_passed_class : ℕ → Bool
+is_passed_class class = not (class == 10 || class == 20)
 
 -- a method with arguments that are not read
 abbrev pub sent_method : ℕ → ℕ → List ℕ → OtherMethod
 sent_method class method arguments = record { class = class; method = method; arguments = arguments }
 
 -- a method with these arguments is sent, where they are spelled
-abbrev pub sends_data : ℕ → ℕ → ℕ → Option Spelled → Said
+abbrev pub sends_data : ℕ → ℕ → ℕ → Option SpelledBytes → Said
 sends_data n class method None = Refused
 sends_data n class method (Some found) =
-    if is_passed_through class
+    if is_passed_class class
     then Step (Command (Send (numbered n) (sent_method class method found.bytes))) found.zeros
     else Refused
 
 -- the bytes that the last words spell
-abbrev pub data_in : Option (List ℕ) → Option Spelled
+abbrev pub data_in : Option (List ℕ) → Option SpelledBytes
 data_in None = None
 data_in (Some text) = spelled text
 
 -- a method is sent, where its three numbers are there
-abbrev pub sends : Option ℕ → Option ℕ → Option ℕ → Option Spelled → Said
+abbrev pub sends : Option ℕ → Option ℕ → Option ℕ → Option SpelledBytes → Said
 sends (Some n) (Some class) (Some method) arguments = sends_data n class method arguments
 sends _ _ _ arguments = Refused
 
@@ -128,22 +128,22 @@ send_line rest =
 
 -- what is published: the arguments of the method, the properties and the body
 pub record Published : Type 0 where
-  pub arguments : Spelled
-  pub properties : Spelled
-  pub body : Spelled
+  pub arguments : SpelledBytes
+  pub properties : SpelledBytes
+  pub body : SpelledBytes
 
 -- how many of their bytes are zeros that a number spells
 abbrev pub zeros_published : Published → ℕ
 zeros_published p = p.arguments.zeros + p.properties.zeros + p.body.zeros
 
 -- the three, where each is spelled
-abbrev pub all_spelled : Option Spelled → Option Spelled → Option Spelled → Option Published
+abbrev pub all_spelled : Option SpelledBytes → Option SpelledBytes → Option SpelledBytes → Option Published
 all_spelled (Some arguments) (Some properties) (Some body) =
     Some (record { arguments = arguments; properties = properties; body = body })
 all_spelled _ _ _ = None
 
 -- the bytes that the first word spells
-abbrev pub first_data_in : Option (List ℕ) → Option Spelled
+abbrev pub first_data_in : Option (List ℕ) → Option SpelledBytes
 first_data_in None = None
 first_data_in (Some words) = spelled (first_word words)
 
@@ -157,7 +157,7 @@ published_in rest =
 abbrev pub publishes_data : ℕ → ℕ → ℕ → Option Published → Said
 publishes_data n class method None = Refused
 publishes_data n class method (Some p) =
-    if is_passed_through class && nat_le 2 (length p.properties.bytes)
+    if is_passed_class class && nat_le 2 (length p.properties.bytes)
     then
     Step
     (Command
@@ -190,16 +190,16 @@ switch_in None = None
 switch_in (Some text) = switch_of text
 
 -- the server is told to start or to stop sending content, where the channel and the switch are there
-abbrev pub flows : Option ℕ → Option Bool → Said
-flows (Some n) (Some active) = Step (Command (Flow (numbered n) active)) 0
-flows _ _ = Refused
+abbrev pub flow_said : Option ℕ → Option Bool → Said
+flow_said (Some n) (Some active) = Step (Command (Flow (numbered n) active)) 0
+flow_said _ _ = Refused
 
 -- `flow CH on`, `flow CH off`
 abbrev pub flow_line : Option (List ℕ) → Said
-flow_line rest = flows (number_in rest) (switch_in (rest_of rest))
+flow_line rest = flow_said (number_in rest) (switch_in (rest_of rest))
 
 -- a new secret is told, where it is spelled, for a reason
-abbrev pub secrets : Option Spelled → List ℕ → Said
+abbrev pub secrets : Option SpelledBytes → List ℕ → Said
 secrets None reason = Refused
 secrets (Some found) reason =
     if nat_le (length found.bytes) SECRET_BYTES && nat_le (length reason) TEXT_BYTES
@@ -240,9 +240,9 @@ abbrev pub words_say : List ℕ → Said
 words_say text = line_of_words (first_word text) (after_word text)
 
 -- a line of these words, where a moment stands before them
-abbrev pub timed : Option ℕ → Option (List ℕ) → Said
-timed (Some at) (Some text) = words_say text
-timed _ _ = Refused
+abbrev pub words_timed : Option ℕ → Option (List ℕ) → Said
+words_timed (Some at) (Some text) = words_say text
+words_timed _ _ = Refused
 
 -- what stands before a moment
 abbrev pub is_at_sign : ℕ → Bool
@@ -251,7 +251,7 @@ is_at_sign b = b == 64
 -- a line that says a step: its words, or `@N ` and then its words
 abbrev pub step_line : List ℕ → Said
 step_line [] = Refused
-step_line (b ∷ bs) = if is_at_sign b then timed (number_64 (first_word bs)) (after_word bs) else words_say (b ∷ bs)
+step_line (b ∷ bs) = if is_at_sign b then words_timed (number_64 (first_word bs)) (after_word bs) else words_say (b ∷ bs)
 
 -- the moment that such a line names, where it names one
 abbrev pub moment : List ℕ → Option ℕ
@@ -304,12 +304,12 @@ pub record Scenario : Type 0 where
   pub steps : List Given
 
 -- a setting that may not stand where the lines have come is refused
-abbrev pub placed : Progress → Said → Said
+abbrev pub placed : SetupSoFar → Said → Said
 placed p (Setup setting) = if may_stand setting p then Setup setting else Refused
 placed p said = said
 
 -- how far the lines have come after a line
-abbrev pub progress_after : Progress → Said → Progress
+abbrev pub progress_after : SetupSoFar → Said → SetupSoFar
 progress_after p (Setup setting) = after_setting setting p
 progress_after p (Step what n) = after_step p
 progress_after p _ = p
@@ -342,7 +342,7 @@ before at _ number rest = rest
 
 -- what these lines say where the lines before them have come so far, after a step of this moment, or the number of the
 -- first one that is refused, where so many zeros may still be spelled by numbers
-abbrev pub scenario_of : Progress → ℕ → ℕ → List Line → Result Scenario ℕ
+abbrev pub scenario_of : SetupSoFar → ℕ → ℕ → List Line → Result Scenario ℕ
 scenario_of p at left [] =
     Ok (record { config = p.config; handed = p.has_provider; listens = p.has_listen; steps = [] })
 scenario_of p at left (line ∷ lines) =

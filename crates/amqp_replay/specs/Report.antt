@@ -22,8 +22,8 @@ hexadecimal [] = codes "-"
 hexadecimal (b ∷ bytes) = encode_lower (b ∷ bytes)
 
 -- the bytes of a link
-abbrev pub link_line : ℕ × List ℕ → List ℕ
-link_line (k, bytes) = codes "link " ++ decimal k ++ codes " " ++ hexadecimal bytes ++ codes "\n"
+abbrev pub link_report : ℕ × List ℕ → List ℕ
+link_report (k, bytes) = codes "link " ++ decimal k ++ codes " " ++ hexadecimal bytes ++ codes "\n"
 
 -- what a promise was answered with
 abbrev pub value_text : Answer → List ℕ
@@ -87,7 +87,7 @@ end_line end = codes "end " ++ end_text end ++ codes "\n"
 
 -- the links, counted from 1
 abbrev pub link_lines : List (List ℕ) → List ℕ
-link_lines links = flat_map link_line (enumerate_from 1 links)
+link_lines links = flat_map link_report (enumerate_from 1 links)
 
 -- the promises, counted from 0
 abbrev pub answer_lines : Talk → List ℕ

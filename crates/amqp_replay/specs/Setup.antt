@@ -107,7 +107,7 @@ setting_of content = setting_by (first_word content) (after_word content)
 -- ---- how far the lines have come
 
 -- how far the lines of a script have come
-pub record Progress : Type 0 where
+pub record SetupSoFar : Type 0 where
   -- what the session is made from, by the settings so far
   pub config : Config
   -- whether a provider was handed to the program
@@ -123,7 +123,7 @@ pub record Progress : Type 0 where
   pub has_step : Bool
 
 -- before the first line: the broker of this machine, and nothing said of the client; a provider was handed or not
-abbrev pub no_lines : Bool → Progress
+abbrev pub no_lines : Bool → SetupSoFar
 no_lines is_handed =
     record {
       config = config_of local no_options;
@@ -139,7 +139,7 @@ no_lines is_handed =
     }
 
 -- a setting may stand before all steps alone, and each but a property once; a provider must have been handed
-abbrev pub may_stand : Setting → Progress → Bool
+abbrev pub may_stand : Setting → SetupSoFar → Bool
 may_stand (Uri uri) p = not (p.has_step || p.has_uri)
 may_stand (Locale locale) p = not (p.has_step || p.has_locale)
 may_stand (Name name) p = not (p.has_step || p.has_name)
@@ -154,7 +154,7 @@ abbrev pub with_options : (Options → Options) → Config → Config
 with_options f config = record config { options = f config.options }
 
 -- after a setting that may stand there
-abbrev pub after_setting : Setting → Progress → Progress
+abbrev pub after_setting : Setting → SetupSoFar → SetupSoFar
 after_setting (Uri uri) p = record p { config = config_of uri p.config.options; has_uri = true }
 after_setting (Locale locale) p = record p { config = with_options (with_locale locale) p.config; has_locale = true }
 after_setting (Name name) p = record p { config = with_options (with_name name) p.config; has_name = true }
@@ -165,9 +165,9 @@ after_setting Provider p = record p { has_provider = true }
 after_setting Listen p = record p { has_listen = true }
 
 -- after a step
-abbrev pub after_step : Progress → Progress
+abbrev pub after_step : SetupSoFar → SetupSoFar
 after_step p = record p { has_step = true }
 
 -- after a setting, unless it may not stand there
-abbrev pub set_by : Setting → Progress → Option Progress
+abbrev pub set_by : Setting → SetupSoFar → Option SetupSoFar
 set_by setting p = if may_stand setting p then Some (after_setting setting p) else None

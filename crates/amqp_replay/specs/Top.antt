@@ -3,7 +3,7 @@ use Rattle.std.specs.Prelude.{◌≡◌, ◌⊎◌, ◌++◌, ℕ, Bool, true, f
 use Rattle.amqp_session.specs.declared.auth.asked.Asked.{Asked}
 use Rattle.amqp_promise.specs.declared.error.ErrorKind.{ErrorKind}
 use Rattle.amqp_session.specs.Providers.{Exchange, Allows}
-use Rattle.amqp_session.specs.DefaultAnswers.{DefaultAuth, default_of, default_answer, AreAnswers}
+use Rattle.amqp_session.specs.DefaultAnswers.{DefaultAuth, default_of, default_answer, AnswersEach}
 use Rattle.amqp_session.specs.declared.command.Cmd.TheVariants.{Listen}
 use Rattle.amqp_session.specs.Config.{Config}
 use Rattle.amqp_session.specs.Talk.{Talk, start, end_of}
@@ -69,12 +69,12 @@ handed_state allows None exchange = Unit {0}
 handed_state allows (Some a) exchange = allows a exchange
 
 -- the exchanges of a provider
-abbrev pub answers_of : DefaultAuth → Exchange → Type 0
-answers_of own exchange = AreAnswers (default_answer own.mechanism own.login) exchange
+abbrev pub AreProvidersAnswers : DefaultAuth → Exchange → Type 0
+AreProvidersAnswers own exchange = AnswersEach (default_answer own.mechanism own.login) exchange
 
 -- those of the provider that goes by the address of a scenario
 abbrev pub own_state : Scenario → Exchange → Type 0
-own_state s exchange = answers_of (default_of s.config.uri) exchange
+own_state s exchange = AreProvidersAnswers (default_of s.config.uri) exchange
 
 -- the state of who authenticates: of the provider that was handed, where the script says so, and else of that of the
 -- address

@@ -1,7 +1,7 @@
 //! What the words of a command line ask for.
 
 ghost use Rattle.std.specs.Prelude.{◌≡◌};
-ghost use Rattle.amqp_replay.specs.Asked.{one_word, two_words, asked};
+ghost use Rattle.amqp_replay.specs.Asked.{one_word, two_words, asked_by_words};
 
 use crate::decimals::number;
 use crate::limits::MOST_GENERATED;
@@ -19,7 +19,7 @@ pub enum Asked {
 
 /// What the words ask for, where they are known.
 pub fn asked_by(words: &[Text]) -> Option<Asked>
-    ensures { result ≡ asked words.now }
+    ensures { result ≡ asked_by_words words.now }
 {
     match words {
         [word] => one_word(word.as_str().as_bytes()),

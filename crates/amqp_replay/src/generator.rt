@@ -3,7 +3,7 @@
 ghost use Rattle.std.specs.Prelude.{◌≡◌, ◌++◌, OnOk, IfOk};
 ghost use Rattle.std.specs.List.{flat_map, range_with_len};
 ghost use Rattle.std.specs.String.{string_bytes};
-ghost use Rattle.amqp_replay.specs.Generator.{opened, opening, publishing, body_text, ending, generated};
+ghost use Rattle.amqp_replay.specs.Generator.{opened, opening_lines, publishing, body_text, ending, generated};
 
 use crate::report::put_digits;
 use amqp_types::NoMemory;
@@ -54,7 +54,7 @@ fn put_opened(out: &mut String) -> Result<(), NoMemory>
 // The lines that open the channels.
 fn put_openings(alloc: Global, out: &mut String, count: u16) -> Result<(), NoMemory>
     ensures { OnOk result (string_bytes out.new
-        ≡ string_bytes out.old ++ flat_map opening (range_with_len 1 count)) }
+        ≡ string_bytes out.old ++ flat_map opening_lines (range_with_len 1 count)) }
 {
     'channels: for id in 1..=count {
         put_opening(alloc, out, id)?;
@@ -64,7 +64,7 @@ fn put_openings(alloc: Global, out: &mut String, count: u16) -> Result<(), NoMem
 
 // The lines that open a channel.
 fn put_opening(alloc: Global, out: &mut String, id: u16) -> Result<(), NoMemory>
-    ensures { OnOk result (string_bytes out.new ≡ string_bytes out.old ++ opening id) }
+    ensures { OnOk result (string_bytes out.new ≡ string_bytes out.old ++ opening_lines id) }
 {
     out.push_str("open\nbytes 01")?;
     put_digits(alloc, out, &id.to_be_bytes())?;

@@ -5,7 +5,7 @@ ghost use Rattle.std.specs.List.{flat_map};
 ghost use Rattle.std.specs.String.{string_bytes};
 ghost use Rattle.amqp_session.specs.Talk.{end_of};
 ghost use Rattle.amqp_session.specs.Answers.{answer_of, events_of};
-ghost use Rattle.amqp_replay.specs.Report.{link_line, link_lines, answer_line, answer_lines, answer_text, kind_text, frame_line, frame_lines, event_text, event_line, event_lines, hexadecimal, end_line, report, refusal};
+ghost use Rattle.amqp_replay.specs.Report.{link_report, link_lines, answer_line, answer_lines, answer_text, kind_text, frame_line, frame_lines, event_text, event_line, event_lines, hexadecimal, end_line, report, refusal};
 
 use amqp_engine::{IoLoop, ScriptedPort};
 use amqp_frame::RawKind;
@@ -145,7 +145,7 @@ pub fn ended(engine: &IoLoop) -> Result<Option<amqp_session::Result<()>>, NoMemo
 
 // The line of a link.
 fn put_link(alloc: Global, out: &mut String, number: u64, bytes: &[u8]) -> Result<(), NoMemory>
-    ensures { OnOk result (string_bytes out.new ≡ string_bytes out.old ++ link_line (number, bytes.now)) }
+    ensures { OnOk result (string_bytes out.new ≡ string_bytes out.old ++ link_report (number, bytes.now)) }
 {
     write!(out, "link {number} ")?;
     put_digits(alloc, out, bytes)?;

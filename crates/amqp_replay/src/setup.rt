@@ -293,9 +293,9 @@ pub struct Progress {
 
 impl Model for Progress {
     ghost use Rattle.amqp_session.specs.Config.{config_of};
-    ghost use Rattle.amqp_replay.specs.Setup.{Progress};
+    ghost use Rattle.amqp_replay.specs.Setup.{SetupSoFar};
 
-    ghost Value = { Progress };
+    ghost Value = { SetupSoFar };
 
     ghost use Rattle.std.specs.Coded.{codes};
     ghost use Rattle.amqp_types.specs.ValueCode.{value_code};

@@ -9,7 +9,7 @@ ghost use Rattle.amqp_engine.specs.Log.{loaded};
 ghost use Rattle.amqp_engine.specs.Engine.{begin, with_talk};
 ghost use Rattle.amqp_engine.specs.Plan.{ArePieces};
 ghost use Rattle.amqp_types.specs.Counts.{Rose};
-ghost use Rattle.amqp_replay.specs.Asked.{asked};
+ghost use Rattle.amqp_replay.specs.Asked.{asked_by_words};
 ghost use Rattle.amqp_replay.specs.Grammar.{Scenario, parsed};
 ghost use Rattle.amqp_replay.specs.Generator.{generated};
 ghost use Rattle.amqp_replay.specs.Scripts.{script_read, ScriptArePieces};
@@ -46,23 +46,23 @@ pub fn top<S: Source, K: Sink, P: ScriptedPort, A: AuthProvider>(
     handed: Option<A>,
 ) -> u8
     requires { IfSome handed A.can }
-    ensures usage { (result ≡ USAGE) ↔ (asked words.now ≡ None) }
+    ensures usage { (result ≡ USAGE) ↔ (asked_by_words words.now ≡ None) }
     ensures source_failed { result ≡ SOURCE_FAILED → Rose (S.faults source.old) (S.faults source.new) }
     ensures sink_failed { result ≡ SINK_FAILED → Rose (K.faults sink.old) (K.faults sink.new) }
     ensures silent { IsSilent result → K.held sink.new ≡ K.held sink.old }
-    ensures status { asked words.now ≡ Some Asked.Replay
+    ensures status { asked_by_words words.now ≡ Some Asked.Replay
         → IfSome (S.left source.old)
         (λ script. IsStatus (is_some handed) (handed_state A.allows handed) script result) }
-    ensures outcome { asked words.now ≡ Some Asked.Replay
+    ensures outcome { asked_by_words words.now ≡ Some Asked.Replay
         → IfSome (S.left source.old) (λ script. IsSilent result
         ⊎ Replays (is_some handed) (handed_state A.allows handed) script (P.log port.new)
         (K.held sink.old) (K.held sink.new) result) }
-    ensures some_script { asked words.now ≡ Some Asked.Replay → IsSilent result
+    ensures some_script { asked_by_words words.now ≡ Some Asked.Replay → IsSilent result
         ⊎ ReplaysSome (is_some handed) (handed_state A.allows handed) (S.left source.old) (P.log port.new)
         (K.held sink.old) (K.held sink.new) result }
-    ensures generated { (count : ℕ) → asked words.now ≡ Some (Asked.Generate count) → (result ≡ NO_MEMORY)
+    ensures generated { (count : ℕ) → asked_by_words words.now ≡ Some (Asked.Generate count) → (result ≡ NO_MEMORY)
         ⊎ Generates count (P.log port.new) (K.held sink.old) (K.held sink.new) result }
-    ensures unread { asked words.now ≢ Some Asked.Replay
+    ensures unread { asked_by_words words.now ≢ Some Asked.Replay
         → (S.left source.new ≡ S.left source.old) × (S.faults source.new ≡ S.faults source.old) }
 {
     let Some(what) = asked_by(words) else {

@@ -9,21 +9,21 @@ use Rattle.amqp_session.specs.declared.auth.asked.Asked.{Asked}
 use Rattle.amqp_session.specs.declared.auth.asked.Refusal.{Refusal}
 use Rattle.amqp_session.specs.declared.auth.asked.Refusal.TheVariants.{Said}
 use Rattle.amqp_session.specs.Providers.{Exchange, Allows, Replies}
-use Rattle.amqp_session.specs.DefaultAnswers.{default_answer, AreAnswers}
+use Rattle.amqp_session.specs.DefaultAnswers.{default_answer, AnswersEach}
 
-answers-rest : (f : Question → Asked) (rest : Exchange) → Allows (AreAnswers f) rest → AreAnswers f rest
+answers-rest : (f : Question → Asked) (rest : Exchange) → Allows (AnswersEach f) rest → AnswersEach f rest
 answers-rest f [] h = tt
 answers-rest f (first ∷ rest) h = h
 
 by-function : (f g : Question → Asked) (asked : Question) (form : Result LongString Text → Asked) (text : Text) (r : Refusal) → g ≡ f
-    → r ≡ Said text → form (Err text) ≡ f asked → Replies (AreAnswers f) (AreAnswers g) asked form (Err r)
+    → r ≡ Said text → form (Err text) ≡ f asked → Replies (AnswersEach f) (AnswersEach g) asked form (Err r)
 by-function f g asked form text r kept said same =
-    subst (λ (h : Question → Asked). Replies (AreAnswers f) (AreAnswers h) asked form (Err r)) (sym kept)
-    (subst (λ (x : Refusal). Replies (AreAnswers f) (AreAnswers f) asked form (Err x)) (sym said) (λ rest allowed. (same, answers-rest f rest allowed)))
+    subst (λ (h : Question → Asked). Replies (AnswersEach f) (AnswersEach h) asked form (Err r)) (sym kept)
+    (subst (λ (x : Refusal). Replies (AnswersEach f) (AnswersEach f) asked form (Err x)) (sym said) (λ rest allowed. (same, answers-rest f rest allowed)))
 
 pub refuses : (m m' : SASLMechanism) (l l' : Login) (asked : Question) (form : Result LongString Text → Asked) (text : Text) (r : Refusal)
     → m' ≡ m → l' ≡ l → r ≡ Said text → form (Err text) ≡ default_answer m l asked
-    → Replies (AreAnswers (default_answer m l)) (AreAnswers (default_answer m' l')) asked form (Err r)
+    → Replies (AnswersEach (default_answer m l)) (AnswersEach (default_answer m' l')) asked form (Err r)
 refuses m m' l l' asked form text r mechanism login said same =
     by-function (default_answer m l) (default_answer m' l') asked form text r
     (ap (λ (x : SASLMechanism). default_answer x l') mechanism ∙ ap (default_answer m) login) said same

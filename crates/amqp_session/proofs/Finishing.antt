@@ -25,7 +25,7 @@ use Rattle.amqp_session.specs.Links.{dropped}
 use Rattle.amqp_session.specs.Publishing.{content_header, body_pieces, publish_frames}
 use Rattle.amqp_session.specs.Changes.{without_all_on, finish_by}
 use Rattle.amqp_session.specs.Channels.{channel_at}
-use Rattle.amqp_session.specs.Writing.{left_in, unsent, taken, sent_among, sent, follow, writes, flows, fitting, next_item, next_within, then_of, mark_of}
+use Rattle.amqp_session.specs.Writing.{left_in, unsent, taken, sent_among, sent, follow, writes, flows, fitting, next_out, next_within, then_of, mark_of}
 use Rattle.amqp_session.specs.Sound.{is_finish, following, NoneFinishes, LastFinishes, Finishes}
 use Rattle.amqp_types.proofs.Small.{if-true, if-false}
 use Rattle.amqp_session.proofs.Counting.{other-false}
@@ -221,7 +221,7 @@ pub next-first : (space : ℕ) (t : Talk) (item : Item) → next_within space t 
     → waiting_items t.outbox ≡ item ∷ waiting_items (after_next (flows t) t.outbox)
 next-first space t item h =
     next-waits (flows t) t.outbox item
-    (if-some (writes t) (queued.next_item (flows t) t.outbox) item (fitting-some space (next_item t) item h))
+    (if-some (writes t) (queued.next_item (flows t) t.outbox) item (fitting-some space (next_out t) item h))
 
 -- what follows stays where a frame is committed
 pub committed-follows : (space : ℕ) (t : Talk) (item : Item) → next_within space t ≡ Some item

@@ -12,7 +12,7 @@ use Rattle.std.specs.Map.{keys_of, values_of}
 use Rattle.std.specs.BTreeMap.{is_at}
 use Rattle.amqp_session.specs.declared.channels.Channel.{Channel}
 use Rattle.amqp_session.specs.Listed.{at, put, without, map_values}
-use Rattle.amqp_session.specs.Channels.{closing, all_flow}
+use Rattle.amqp_session.specs.Channels.{made_closing, all_flow}
 use Rattle.amqp_session.specs.Stopped.{stops, count_stopped}
 
 -- what a place counts for
@@ -40,10 +40,10 @@ module _ (n : ℕ) (es : List (ℕ × Channel)) where
       omega (arith, all, here)
 
 -- all channels are closing
-pub stopped-closing : (es : List (ℕ × Channel)) → count_stopped (map_values closing es) ≡ count_stopped es
+pub stopped-closing : (es : List (ℕ × Channel)) → count_stopped (map_values made_closing es) ≡ count_stopped es
 stopped-closing [] = refl
 stopped-closing (e ∷ es) =
-    sum_by-cons stops (closing e.1) (values_of (map_values closing es))
+    sum_by-cons stops (made_closing e.1) (values_of (map_values made_closing es))
     ∙ ap (λ k. stops e.1 + k) (stopped-closing es)
     ∙ sym (sum_by-cons stops e.1 (values_of es))
 

@@ -22,7 +22,7 @@ use Rattle.amqp_session.specs.Frames.{is_of_a_channel, method_questions, questio
 use Rattle.amqp_session.specs.Changes.{queue, lose, misplaced}
 use Rattle.amqp_session.specs.Providers.{Exchange, Allows}
 use Rattle.amqp_session.specs.Asking.{paired, Answer, Asks, Hears, Starves}
-use Rattle.amqp_session.specs.Ticks.{is_due, is_missed, missing_heartbeat, heartbeat_due, beat, asks_validity, has_expired, refreshed, refresh, refresh_questions, validity_told, secret_due, secret_questions, link_due, tick, tick_questions}
+use Rattle.amqp_session.specs.Ticks.{is_heartbeat_due, is_missed, missing_heartbeat, heartbeat_due, beat, asks_validity, has_expired, refreshed, refresh, refresh_questions, validity_told, secret_due, secret_questions, link_due, tick, tick_questions}
 use Rattle.amqp_types.proofs.Small.{if_case, if-true, if-false}
 use Rattle.amqp_session.proofs.Recovering.{lose-case}
 
@@ -58,15 +58,15 @@ secret-same (answer.Refreshed x ∷ later) t q n = refl
 
 pub questions-beat : (answers : List Asked) (t : Talk) → secret_questions answers (heartbeat_due t) ≡ secret_questions answers t
 questions-beat answers t =
-    if_case (λ (x : Talk). secret_questions answers x ≡ secret_questions answers t) (is_due t) (record (queue 0 Heartbeat t) { last_write = t.present }) t
+    if_case (λ (x : Talk). secret_questions answers x ≡ secret_questions answers t) (is_heartbeat_due t) (record (queue 0 Heartbeat t) { last_write = t.present }) t
     (secret-same answers t _ t.present) refl
 
 asks-beat : (t : Talk) → asks_validity (heartbeat_due t) ≡ asks_validity t
-asks-beat t = if_case (λ (x : Talk). asks_validity x ≡ asks_validity t) (is_due t) (record (queue 0 Heartbeat t) { last_write = t.present }) t refl refl
+asks-beat t = if_case (λ (x : Talk). asks_validity x ≡ asks_validity t) (is_heartbeat_due t) (record (queue 0 Heartbeat t) { last_write = t.present }) t refl refl
 
 expired-beat : (time : Option ℕ) (t : Talk) → has_expired time (heartbeat_due t) ≡ has_expired time t
 expired-beat time t =
-    if_case (λ (x : Talk). has_expired time x ≡ has_expired time t) (is_due t) (record (queue 0 Heartbeat t) { last_write = t.present }) t (same time) refl
+    if_case (λ (x : Talk). has_expired time x ≡ has_expired time t) (is_heartbeat_due t) (record (queue 0 Heartbeat t) { last_write = t.present }) t (same time) refl
   where
     same : (time : Option ℕ) → has_expired time (record (queue 0 Heartbeat t) { last_write = t.present }) ≡ has_expired time t
     same None = refl

@@ -50,10 +50,10 @@ use Rattle.amqp_session.specs.ChannelMethods.{heard_on, unawaited_channel_method
 use Rattle.amqp_session.specs.Frames.{is_of_a_channel, method_rule, frame_rule, closed_rule, on_frame}
 use Rattle.amqp_session.specs.Publishing.{method_frame, publish_frames}
 use Rattle.amqp_session.specs.Commands.{open_drawn, close_target, drop_target, flow_target, queue_secret, update_secret, too_long, unless_too_long, queue_send, send_target, body_limit, queue_publish, publish_target, command, command_rule}
-use Rattle.amqp_session.specs.Ticks.{is_connected, beats, is_missed, is_due, missing_heartbeat, beat, asks_validity, refreshed, link_at, link_due, timed, tick}
+use Rattle.amqp_session.specs.Ticks.{is_connected, beats, is_missed, is_heartbeat_due, missing_heartbeat, beat, asks_validity, refreshed, link_at, link_due, timed, tick}
 use Rattle.amqp_session.specs.Writing.{left_in, paid_by, pay, follow, sent, sent_among, taken}
 use Rattle.amqp_session.specs.Negotiation.{grown_capacity}
-use Rattle.amqp_session.specs.Parts.{is_opening, capacity_after}
+use Rattle.amqp_session.specs.Parts.{is_opening_frame, capacity_after}
 use Rattle.amqp_session.proofs.Heard.{start-case, secure-case, secret-case}
 use Rattle.amqp_types.proofs.Small.{if_case, if_by, if-true, if-false, and-false, and-true}
 use Rattle.amqp_session.proofs.Recovering.{lose-by, lose-keeps, recovers-open}
@@ -322,18 +322,18 @@ keeps-closed-rule (Method zero Unblocked) t = record { committed = λ now. refl;
 keeps-closed-rule f t = keeps-none t
 
 -- it is greater exactly where the frame opens the connection
-opened-capacity : (m : AnyMethod) (s : ConnectionState) (p : Phase) (t : Talk) → capacity_by m s p t ≡ (if is_opening (Method 0 m) s p then grown_capacity t else t.capacity)
+opened-capacity : (m : AnyMethod) (s : ConnectionState) (p : Phase) (t : Talk) → capacity_by m s p t ≡ (if is_opening_frame (Method 0 m) s p then grown_capacity t else t.capacity)
 opened-capacity OpenOk Connecting AwaitOpenOk t = refl
 opened-capacity _ s p t = refl
 
-acting-capacity : (f : Frame) (t : Talk) → acted_capacity f t ≡ (if is_opening f t.state t.phase then grown_capacity t else t.capacity)
+acting-capacity : (f : Frame) (t : Talk) → acted_capacity f t ≡ (if is_opening_frame f t.state t.phase then grown_capacity t else t.capacity)
 acting-capacity (Method zero m) t = opened-capacity m t.state t.phase t
 acting-capacity f t = refl
 
 frame-capacity : (b : Bool) (f : Frame) (t : Talk) → acts t ≡ b → (if b then acted_capacity f t else t.capacity) ≡ capacity_after f t
 frame-capacity true f t h =
-    acting-capacity f t ∙ ap (λ c. if c && is_opening f t.state t.phase then grown_capacity t else t.capacity) (sym h)
-frame-capacity false f t h = ap (λ c. if c && is_opening f t.state t.phase then grown_capacity t else t.capacity) (sym h)
+    acting-capacity f t ∙ ap (λ c. if c && is_opening_frame f t.state t.phase then grown_capacity t else t.capacity) (sym h)
+frame-capacity false f t h = ap (λ c. if c && is_opening_frame f t.state t.phase then grown_capacity t else t.capacity) (sym h)
 
 pub keeps-frame : (f : Frame) (answers : List ProviderAnswer) (t : Talk) → Keeps (capacity_after f t) t (on_frame f answers t)
 keeps-frame f answers t =
@@ -347,7 +347,7 @@ is-connected Connected h = refl
 is-connected _ h = cc
 
 -- heartbeats are exchanged only while the connection is open
-pub beats-connected : (t : Talk) → is_due t ≡ true → t.state ≡ Connected
+pub beats-connected : (t : Talk) → is_heartbeat_due t ≡ true → t.state ≡ Connected
 beats-connected t due = is-connected t.state (both-left (is_connected t.state) _ (both-left (beats t) _ due))
   where
     both-left : (a b : Bool) → (a && b) ≡ true → a ≡ true
@@ -362,7 +362,7 @@ keeps-beat : (t : Talk) → Keeps t.capacity t (beat t)
 keeps-beat t =
     let x : Talk = missing_heartbeat t in
     let before : Keeps t.capacity t x = if_case (Keeps t.capacity t) (is_missed t) (lose MissingHeartbeatError t) t (keeps-lose MissingHeartbeatError t) (keeps-none t) in
-    if_case (Keeps t.capacity t) (is_due x) (record (queue 0 Heartbeat x) { last_write = x.present }) x
+    if_case (Keeps t.capacity t) (is_heartbeat_due x) (record (queue 0 Heartbeat x) { last_write = x.present }) x
     (record { committed = before.committed; capacity = before.capacity; link = before.link }) before
 
 -- a secret is asked for only while the connection is open
@@ -550,7 +550,7 @@ tick-keeps f h k answers t =
     let y : Talk = timed answers t in
     overlooks-ends f h y y.state (link_at y.present y.link) y.channels y.promises y.noted
     ∙ secret-case (λ (y : Talk). f y ≡ f (beat t)) answers (beat t) refl (λ asks said. refreshed-keeps f k said (beat t))
-    ∙ if_case (λ (y : Talk). f y ≡ f x) (is_due x) (record (queue 0 Heartbeat x) { last_write = x.present }) x (k x _ _ x.secret_at x.refreshing) refl
+    ∙ if_case (λ (y : Talk). f y ≡ f x) (is_heartbeat_due x) (record (queue 0 Heartbeat x) { last_write = x.present }) x (k x _ _ x.secret_at x.refreshing) refl
     ∙ if_case (λ (y : Talk). f y ≡ f t) (is_missed t) (lose MissingHeartbeatError t) t (loss-keeps f h MissingHeartbeatError t) refl
 
 finish-keeps : {A : Type 0} (f : Talk → A) → OverlooksLosses f → (o : Option ServerClose) (t : Talk) → f (finish_by o t) ≡ f t

@@ -22,7 +22,7 @@ use Rattle.amqp_session.specs.declared.promises.Slot.{Slot}
 use Rattle.amqp_session.specs.declared.promises.Slot.TheVariants.{Place, Waiting, Answered, Shared}
 use Rattle.amqp_session.specs.Listed.{at}
 use Rattle.amqp_session.specs.Recovery.{rejected_slot, rejected_all}
-use Rattle.amqp_session.specs.Sharing.{shared_at, error_at, is_awaited, unheld, holders_at, is_loss, suits, new_slot, AreCounted, AwaitsLoss, AllSuit}
+use Rattle.amqp_session.specs.Sharing.{shared_at, error_at, is_error_awaited, unheld, holders_at, is_loss_number, suits, new_slot, AreCounted, AwaitsLoss, AllSuit}
 use Rattle.amqp_session.specs.Parts.{slot_seen}
 use Rattle.amqp_session.proofs.Holding.{Slots, Errors, less-held, one-held}
 
@@ -33,13 +33,13 @@ abbrev waits_in : Option (Option ErrorKind) → Bool
 waits_in o = unwrap_or (option_map is_none o) false
 
 -- where what is kept is the same, the same is awaited
-pub awaited-same : (errors errors' : Errors) → ((n : ℕ) → shared_at n errors' ≡ shared_at n errors) → (n : ℕ) → is_awaited n errors' ≡ is_awaited n errors
+pub awaited-same : (errors errors' : Errors) → ((n : ℕ) → shared_at n errors' ≡ shared_at n errors) → (n : ℕ) → is_error_awaited n errors' ≡ is_error_awaited n errors
 awaited-same errors errors' same n = ap waits_in (same n)
 
 -- an error that goes was not awaited
 pub awaited-gone : (test : ℕ → Bool) (errors errors' : Errors)
     → ((n : ℕ) → shared_at n errors' ≡ (if test n then unheld (shared_at n errors) else shared_at n errors))
-    → (n : ℕ) → is_awaited n errors' ≡ is_awaited n errors
+    → (n : ℕ) → is_error_awaited n errors' ≡ is_error_awaited n errors
 awaited-gone test errors errors' is n = ap waits_in (is n) ∙ by (test n) (shared_at n errors) where
   by : (b : Bool) (o : Option (Option ErrorKind)) → waits_in (if b then unheld o else o) ≡ waits_in o
   by false o = refl
@@ -50,43 +50,43 @@ awaited-gone test errors errors' is n = ap waits_in (is n) ∙ by (test n) (shar
 -- what comes is awaited, where it is no error yet
 awaited-come : (number : ℕ) (e : Option ErrorKind) (errors errors' : Errors)
     → ((n : ℕ) → shared_at n errors' ≡ (if number == n then Some e else shared_at n errors))
-    → (n : ℕ) → is_awaited n errors' ≡ (if number == n then is_none e else is_awaited n errors)
+    → (n : ℕ) → is_error_awaited n errors' ≡ (if number == n then is_none e else is_error_awaited n errors)
 awaited-come number e errors errors' is n = ap waits_in (is n) ∙ by (number == n) where
-  by : (b : Bool) → waits_in (if b then Some e else shared_at n errors) ≡ (if b then is_none e else is_awaited n errors)
+  by : (b : Bool) → waits_in (if b then Some e else shared_at n errors) ≡ (if b then is_none e else is_error_awaited n errors)
   by true = refl
   by false = refl
 
 -- an error that comes under a number which is not kept is not awaited
 awaited-why : (number : ℕ) (e : ErrorKind) (errors errors' : Errors) → at number errors ≡ None
     → ((n : ℕ) → shared_at n errors' ≡ (if number == n then Some (Some e) else shared_at n errors))
-    → (n : ℕ) → is_awaited n errors' ≡ is_awaited n errors
+    → (n : ℕ) → is_error_awaited n errors' ≡ is_error_awaited n errors
 awaited-why number e errors errors' fresh is n = awaited-come number (Some e) errors errors' is n ∙ by (number == n) refl where
-  by : (b : Bool) → (number == n) ≡ b → (if b then false else is_awaited n errors) ≡ is_awaited n errors
+  by : (b : Bool) → (number == n) ≡ b → (if b then false else is_error_awaited n errors) ≡ is_error_awaited n errors
   by false test = refl
   by true test =
-      sym (ap (λ m. is_awaited m errors) (sym (same-from number n test))
+      sym (ap (λ m. is_error_awaited m errors) (sym (same-from number n test))
       ∙ ap (λ (o : Option SharedError). waits_in (option_map (λ (s : SharedError). s.error) o)) fresh)
 
 -- the same, where memory for it may be refused
 pub awaited-put : {E : Type 0} (r : Result ℕ E) (e : ErrorKind) (errors errors' : Errors) → IfOk r (λ number. at number errors ≡ None)
     → IfOk r (λ number. (n : ℕ) → shared_at n errors' ≡ (if number == n then Some (Some e) else shared_at n errors))
-    → OnErr r (errors' ≡ errors) → (n : ℕ) → is_awaited n errors' ≡ is_awaited n errors
+    → OnErr r (errors' ≡ errors) → (n : ℕ) → is_error_awaited n errors' ≡ is_error_awaited n errors
 awaited-put (Ok number) e errors errors' fresh is same n = awaited-why number e errors errors' fresh is n
-awaited-put (Err refused) e errors errors' fresh is same n = ap (is_awaited n) same
+awaited-put (Err refused) e errors errors' fresh is same n = ap (is_error_awaited n) same
 
 -- the error by which the link will be lost comes
 pub awaits-come : (loss : Option ℕ) (number : ℕ) (errors errors' : Errors) → is_some loss ≡ false → AwaitsLoss loss errors
     → ((n : ℕ) → shared_at n errors' ≡ (if number == n then Some None else shared_at n errors)) → AwaitsLoss (Some number) errors'
 awaits-come (Some k) number errors errors' none awaits is n = absurd cc
 awaits-come None number errors errors' none awaits is n = awaited-come number None errors errors' is n ∙ by (number == n) where
-  by : (b : Bool) → (if b then true else is_awaited n errors) ≡ b
+  by : (b : Bool) → (if b then true else is_error_awaited n errors) ≡ b
   by true = refl
   by false = awaits n
 
 -- ---- promises that suit their numbers
 
 -- what waits for fewer errors suits as before
-pub suits-fewer : (es : Slots) (errors errors' : Errors) → ((n : ℕ) → is_awaited n errors' ≡ true → is_awaited n errors ≡ true) → AllSuit es errors → AllSuit es errors'
+pub suits-fewer : (es : Slots) (errors errors' : Errors) → ((n : ℕ) → is_error_awaited n errors' ≡ true → is_error_awaited n errors ≡ true) → AllSuit es errors → AllSuit es errors'
 suits-fewer es errors errors' fewer suit n = by (at n es) n (suit n) where
   shared : (b b' : Bool) → (b' ≡ true → b ≡ true) → not b ≡ true → not b' ≡ true
   shared b false less h = refl
@@ -99,11 +99,11 @@ suits-fewer es errors errors' fewer suit n = by (at n es) n (suit n) where
   by (Some Waiting) zero h = refl
   by (Some Waiting) (suc m) h = h
   by (Some (Answered a)) m h = refl
-  by (Some (Shared k)) zero h = shared (is_awaited k errors) (is_awaited k errors') (fewer k) h
+  by (Some (Shared k)) zero h = shared (is_error_awaited k errors) (is_error_awaited k errors') (fewer k) h
   by (Some (Shared k)) (suc m) h = refl
 
 -- the same, where the same is awaited
-pub suits-same : (es : Slots) (errors errors' : Errors) → ((n : ℕ) → is_awaited n errors' ≡ is_awaited n errors) → AllSuit es errors → AllSuit es errors'
+pub suits-same : (es : Slots) (errors errors' : Errors) → ((n : ℕ) → is_error_awaited n errors' ≡ is_error_awaited n errors) → AllSuit es errors → AllSuit es errors'
 suits-same es errors errors' same = suits-fewer es errors errors' (λ n h. sym (same n) ∙ h)
 
 -- no promise shares what comes
@@ -113,8 +113,8 @@ suits-come number es errors errors' fresh counted is suit n = by (at n es) n ref
   unheld-there : holders_at number errors ≡ 0
   unheld-there = ap (λ o. unwrap_or (option_map (λ (s : SharedError). s.holders) o) 0) fresh
 
-  shared : (k : ℕ) (b : Bool) → (number == k) ≡ b → at n es ≡ Some (Shared k) → not (is_awaited k errors) ≡ true
-      → not (if b then true else is_awaited k errors) ≡ true
+  shared : (k : ℕ) (b : Bool) → (number == k) ≡ b → at n es ≡ Some (Shared k) → not (is_error_awaited k errors) ≡ true
+      → not (if b then true else is_error_awaited k errors) ≡ true
   shared k false test there h = h
   shared k true test there h =
       let held = less-held n k (Shared k) es errors counted there in
@@ -195,7 +195,7 @@ suits-later e es errors sorted all n = by (at n es) refl where
   by (Some s) there = ap (λ o. suits errors o n) (sym (later-there n e es s sorted there)) ∙ all n
 
 module _ (e : ErrorKind) (errors errors' : Errors)
-    (known : (n : ℕ) → shared_at n errors' ≡ (if is_awaited n errors then Some (Some e) else shared_at n errors)) where
+    (known : (n : ℕ) → shared_at n errors' ≡ (if is_error_awaited n errors then Some (Some e) else shared_at n errors)) where
   abbrev told : ErrorKind → Result Answer ErrorKind
   told x = Err x
 
@@ -235,7 +235,7 @@ module _ (e : ErrorKind) (errors errors' : Errors)
       ∙ first-lost x.0 (slot_seen errors x.1) (seen (slot_seen errors) es)
 
   -- and nothing is awaited any more
-  pub none-awaited : (n : ℕ) → is_awaited n errors' ≡ false
+  pub none-awaited : (n : ℕ) → is_error_awaited n errors' ≡ false
   none-awaited n = ap waits_in (known n) ∙ by (shared_at n errors) where
     by : (o : Option (Option ErrorKind)) → waits_in (if waits_in o then Some (Some e) else o) ≡ false
     by None = refl
@@ -245,7 +245,7 @@ module _ (e : ErrorKind) (errors errors' : Errors)
 -- the error by which the link is lost is the one that was awaited
 pub known-lost : (number : ℕ) (e : ErrorKind) (errors errors' : Errors) → AwaitsLoss (Some number) errors
     → ((n : ℕ) → shared_at n errors' ≡ (if number == n then option_map (λ (o : Option ErrorKind). Some e) (shared_at n errors) else shared_at n errors))
-    → (n : ℕ) → shared_at n errors' ≡ (if is_awaited n errors then Some (Some e) else shared_at n errors)
+    → (n : ℕ) → shared_at n errors' ≡ (if is_error_awaited n errors then Some (Some e) else shared_at n errors)
 known-lost number e errors errors' awaits is n = is n ∙ by (number == n) (shared_at n errors) (awaits n) where
   by : (b : Bool) (o : Option (Option ErrorKind)) → waits_in o ≡ b
       → (if b then option_map (λ (x : Option ErrorKind). Some e) o else o) ≡ (if waits_in o then Some (Some e) else o)
@@ -256,6 +256,6 @@ known-lost number e errors errors' awaits is n = is n ∙ by (number == n) (shar
 
 -- where none was awaited, all is as before
 pub none-lost : (loss : Option ℕ) (e : ErrorKind) (errors : Errors) → loss ≡ None → AwaitsLoss loss errors
-    → (n : ℕ) → shared_at n errors ≡ (if is_awaited n errors then Some (Some e) else shared_at n errors)
+    → (n : ℕ) → shared_at n errors ≡ (if is_error_awaited n errors then Some (Some e) else shared_at n errors)
 none-lost loss e errors none awaits n =
-    sym (ap (λ b. if b then Some (Some e) else shared_at n errors) (awaits n ∙ ap (λ l. is_loss l n) none))
+    sym (ap (λ b. if b then Some (Some e) else shared_at n errors) (awaits n ∙ ap (λ l. is_loss_number l n) none))

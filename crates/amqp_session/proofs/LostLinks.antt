@@ -18,7 +18,7 @@ use Rattle.amqp_session.specs.Recovery.{recovery_delay, rejected_slot, rejected_
 use Rattle.amqp_session.specs.Changes.{queue, fail, lose_by, lose, finish}
 use Rattle.amqp_session.specs.Links.{misread, lost, dropped}
 use Rattle.amqp_session.specs.Violations.{misread_error}
-use Rattle.amqp_session.specs.Ticks.{is_missed, is_due, missing_heartbeat, beat, refreshed, link_at, timed, tick}
+use Rattle.amqp_session.specs.Ticks.{is_missed, is_heartbeat_due, missing_heartbeat, beat, refreshed, link_at, timed, tick}
 use Rattle.amqp_types.proofs.Small.{if_case, if-true}
 use Rattle.amqp_session.proofs.Heard.{secret-case}
 use Rattle.amqp_session.proofs.Ascending.{ranked}
@@ -80,7 +80,7 @@ tick-end answers t =
     let x : Talk = missing_heartbeat t in
     due-end (timed answers t).present (timed answers t).link
     ∙ secret-case (λ (y : Talk). end_of y ≡ end_of (beat t)) answers (beat t) refl (λ asks said. refreshed-end said (beat t))
-    ∙ if_case (λ (y : Talk). end_of y ≡ end_of x) (is_due x) (record (queue 0 Heartbeat x) { last_write = x.present }) x refl refl
+    ∙ if_case (λ (y : Talk). end_of y ≡ end_of x) (is_heartbeat_due x) (record (queue 0 Heartbeat x) { last_write = x.present }) x refl refl
 
 -- a server that is silent for too long
 pub silence-ends : (answers : List Asked) (e : ErrorKind) (t : Talk) → is_open t ≡ true

@@ -5,7 +5,7 @@ use Rattle.amqp_frame.specs.declared.frame.RawKind.{RawKind}
 use Rattle.amqp_session.specs.declared.channels.Channel.{Channel}
 use Rattle.amqp_session.specs.declared.handed.Handed.{Handed}
 use Rattle.amqp_session.specs.declared.event.Event.{Event}
-use Rattle.amqp_session.specs.Events.{kept}
+use Rattle.amqp_session.specs.Events.{events_kept}
 use Rattle.amqp_session.specs.Listed.{at, put}
 use Rattle.amqp_session.specs.Talk.{Talk}
 use Rattle.amqp_session.specs.Memory.{MakesNothing, owes, owes_on}
@@ -35,7 +35,7 @@ handed-made n c kind bytes t m =
     (is_select_ok kind bytes) (confirmed n c t) t (more-handed c.opened _ t.handed) (more-handed c.opened _ t.handed) m.handed
 
 -- an event is something new, where someone listens
-pub unheard-made : (listens : Bool) (event : Event) (events : List Event) → kept listens event events ≡ events → listens ≡ false
+pub unheard-made : (listens : Bool) (event : Event) (events : List Event) → events_kept listens event events ≡ events → listens ≡ false
 unheard-made true event events same = let no = none-added events (event ∷ []) same in absurd cc
 unheard-made false event events same = refl
 

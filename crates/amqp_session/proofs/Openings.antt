@@ -11,7 +11,7 @@ use Rattle.std.specs.Map.{keys_of}
 use Rattle.std.specs.BTreeMap.{is_at}
 use Rattle.amqp_session.specs.declared.channels.Channel.{Channel}
 use Rattle.amqp_session.specs.Listed.{at, put, without, map_values, has}
-use Rattle.amqp_session.specs.Channels.{closing, opening_in, opened_until}
+use Rattle.amqp_session.specs.Channels.{made_closing, opening_in, opened_until}
 use Rattle.amqp_session.specs.NumberSet.{is_member, HasUpTo}
 use Rattle.amqp_session.specs.Openings.{is_number, opener, Indexes}
 use Rattle.amqp_session.proofs.Numbered.{is_itself, is_other}
@@ -168,13 +168,13 @@ undone p n es es' es'' none placed gone q =
 
 -- all channels are closing
 closing-head : (b : Bool) (d : Channel) (x y : Option Channel) → option_map (λ (z : Channel). z.opened) x ≡ option_map (λ (z : Channel). z.opened) y
-    → option_map (λ (z : Channel). z.opened) (cond b (Some (closing d)) x) ≡ option_map (λ (z : Channel). z.opened) (cond b (Some d) y)
+    → option_map (λ (z : Channel). z.opened) (cond b (Some (made_closing d)) x) ≡ option_map (λ (z : Channel). z.opened) (cond b (Some d) y)
 closing-head true d x y h = refl
 closing-head false d x y h = h
 
-pub opener-closing : (listed : List (ℕ × Channel)) (n : ℕ) → opener n (map_values closing listed) ≡ opener n listed
+pub opener-closing : (listed : List (ℕ × Channel)) (n : ℕ) → opener n (map_values made_closing listed) ≡ opener n listed
 opener-closing [] n = refl
-opener-closing (e ∷ es) n = closing-head (is_at (nat_cmp n) e.0) e.1 (at n (map_values closing es)) (at n es) (opener-closing es n)
+opener-closing (e ∷ es) n = closing-head (is_at (nat_cmp n) e.0) e.1 (at n (map_values made_closing es)) (at n es) (opener-closing es n)
 
 -- ---- what is found among the channels
 
@@ -257,7 +257,7 @@ pub until-without : (n : ℕ) (es : List (ℕ × Channel)) → opened_until (wit
 until-without n [] = omega arith
 until-without n (e ∷ es) = gone-head (is_at (nat_cmp n) e.0) e es (without n es) (until-without n es)
 
-pub until-closing : (es : List (ℕ × Channel)) → opened_until (map_values closing es) ≡ opened_until es
+pub until-closing : (es : List (ℕ × Channel)) → opened_until (map_values made_closing es) ≡ opened_until es
 until-closing [] = refl
 until-closing (e ∷ es) = ap (max ((e.1).opened + 1)) (until-closing es)
 

@@ -42,7 +42,7 @@ use Rattle.amqp_session.specs.ChannelMethods.{heard_on, unawaited_channel_method
 use Rattle.amqp_session.specs.Frames.{is_of_a_channel, method_rule, frame_rule, closed_rule, on_frame}
 use Rattle.amqp_session.specs.Publishing.{method_frame, publish_frames}
 use Rattle.amqp_session.specs.Commands.{open_drawn, close_target, drop_target, flow_target, queue_secret, update_secret, too_long, unless_too_long, queue_send, send_target, body_limit, queue_publish, publish_target, command_rule}
-use Rattle.amqp_session.specs.Ticks.{is_connected, is_missed, is_due, missing_heartbeat, beat, asks_validity, has_expired, refresh, validity_told, tick, refresh_questions, secret_questions, tick_questions}
+use Rattle.amqp_session.specs.Ticks.{is_connected, is_missed, is_heartbeat_due, missing_heartbeat, beat, asks_validity, has_expired, refresh, validity_told, tick, refresh_questions, secret_questions, tick_questions}
 use Rattle.amqp_session.specs.Writing.{next_within, committed_as, commit, overlong, end_overlong, next_frame}
 use Rattle.amqp_session.specs.Answers.{answer_of, end_event, without_event}
 use Rattle.amqp_session.specs.Parts.{awaits_open_ok}
@@ -197,7 +197,7 @@ frame-secret f answers t = by (acts t)
 beat-keeps : {A : Type 0} (f : Talk → A) (t : Talk) → ((e : ErrorKind) (x : Talk) → f (lose e x) ≡ f x) → ((x : Talk) → f (record (queue 0 Heartbeat x) { last_write = x.present }) ≡ f x) → f (beat t) ≡ f t
 beat-keeps f t ends beats =
     let x : Talk = missing_heartbeat t in
-    if_case (λ (y : Talk). f y ≡ f x) (is_due x) (record (queue 0 Heartbeat x) { last_write = x.present }) x (beats x) refl
+    if_case (λ (y : Talk). f y ≡ f x) (is_heartbeat_due x) (record (queue 0 Heartbeat x) { last_write = x.present }) x (beats x) refl
     ∙ if_case (λ (y : Talk). f y ≡ f t) (is_missed t) (lose MissingHeartbeatError t) t (ends MissingHeartbeatError t) refl
 
 refresh-secret : (time : Option ℕ) (later : List Asked) (t : Talk) → IsSameOrNew (refuses (answer.ValidFor time ∷ later)) t (refresh later t)
@@ -332,7 +332,7 @@ connected-idle _ b h = cc
 beat-connected : (t : Talk) → (beat t).state ≡ Connected → t.state ≡ Connected
 beat-connected t h =
     let x : Talk = missing_heartbeat t in
-    let due : (beat t).state ≡ x.state = if_case (λ (y : Talk). y.state ≡ x.state) (is_due x) (record (queue 0 Heartbeat x) { last_write = x.present }) x refl refl in
+    let due : (beat t).state ≡ x.state = if_case (λ (y : Talk). y.state ≡ x.state) (is_heartbeat_due x) (record (queue 0 Heartbeat x) { last_write = x.present }) x refl refl in
     if_case (λ (y : Talk). y.state ≡ Connected → t.state ≡ Connected) (is_missed t) (lose MissingHeartbeatError t) t (lose-case (λ (y : Talk). y.state ≡ Connected → t.state ≡ Connected) MissingHeartbeatError t (λ delay on. cc) (λ over. cc)) (λ same. same) (sym due ∙ h)
 
 -- each question for a new secret is one where the secret has expired

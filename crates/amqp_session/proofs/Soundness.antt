@@ -59,13 +59,13 @@ use Rattle.amqp_session.specs.Negotiation.{lesser_wish, wish_or, tune}
 use Rattle.amqp_session.specs.Numbering.{first_number, drawn}
 use Rattle.amqp_session.specs.Violations.{channel_closed_with, misread_error, stray_channel_frame, stray_connection_method, unawaited}
 use Rattle.amqp_session.specs.ConnectionMethods.{connected, reopen, reopen_each, connection_rule, connection_closed, secret_taken, started, challenged}
-use Rattle.amqp_session.specs.Channels.{channel_at, set_channel, closing}
+use Rattle.amqp_session.specs.Channels.{channel_at, set_channel, made_closing}
 use Rattle.amqp_session.specs.ChannelMethods.{heard_on, unawaited_channel_method, channel_opened, channel_closed, channel_flowed, channel_close_by, awaits_close_ok, remove_channel, remove_unless_owed, on_channel_flow, channel_rule, channel_method_by, channel_method, hand_out, confirmed, is_select_ok, pass_through, raw_by}
 use Rattle.amqp_session.specs.Publishing.{method_frame, publish_frames}
 use Rattle.amqp_session.specs.Frames.{is_of_a_channel, method_rule, frame_rule, closed_rule, on_frame}
 use Rattle.amqp_session.specs.Commands.{is_opening, named_in, named, target_in, target_by, target, open_drawn, leave_channel, leave_connection, close_target, drop_target, flow_target, queue_secret, update_secret, too_long, unless_too_long, queue_send, send_target, body_limit, queue_publish, publish_target, command, command_rule}
 use Rattle.amqp_session.specs.Writing.{committed_as, next_within, commit, overlong, end_overlong, next_frame, paid_by, pay, follow, sent, sent_among, taken}
-use Rattle.amqp_session.specs.Ticks.{is_missed, is_due, missing_heartbeat, beat, refreshed, refresh_reason, link_at, link_due, timed, tick}
+use Rattle.amqp_session.specs.Ticks.{is_missed, is_heartbeat_due, missing_heartbeat, beat, refreshed, refresh_reason, link_at, link_due, timed, tick}
 use Rattle.amqp_session.specs.declared.event.Event.{Event}
 use Rattle.amqp_session.specs.Events.{Noted}
 use Rattle.amqp_session.specs.Answers.{answer_of, take_answer, end_event, without_event, take_event, take_frames}
@@ -676,7 +676,7 @@ sound-leave-connection code text answers t hs s =
           acting-finishes t.input t.committed (waiting_items t.outbox) (waiting_items (record (pushed_control said t.outbox) { publish = [] }))
           (acts-on Connected t hs refl s)
           (λ goes. ungrouped-goes_on (pushed_control said t.outbox) (control-goes_on t.outbox goes said refl)) s.finish;
-      listed = map_values-from closing 0 t.channels s.listed;
+      listed = map_values-from made_closing 0 t.channels s.listed;
       promises = rejected-kept closed t.outbox.publish t.made t.promises s.promises;
     }
 
@@ -771,7 +771,7 @@ sound-timed answers t s =
     let x : Talk = missing_heartbeat t in
     let after : IsSound x = if_case IsSound (is_missed t) (lose MissingHeartbeatError t) t (sound-lose MissingHeartbeatError t s) s in
     let beaten : IsSound (beat t) =
-    if_by IsSound (is_due x) (record (queue 0 Heartbeat x) { last_write = x.present }) x (λ due. sound-heartbeat x (beats-connected x due) after) (λ rest. after) in
+    if_by IsSound (is_heartbeat_due x) (record (queue 0 Heartbeat x) { last_write = x.present }) x (λ due. sound-heartbeat x (beats-connected x due) after) (λ rest. after) in
     secret-case IsSound answers (beat t) beaten (λ asks said. sound-refreshed said (beat t) (asks-connected (beat t) asks) beaten)
 
 pub sound-tick : (answers : List ProviderAnswer) (t : Talk) → IsSound t → IsSound (tick answers t)

@@ -10,7 +10,7 @@ use Rattle.amqp_session.specs.declared.auth.asked.Asked.TheVariants as answer
 use Rattle.amqp_session.specs.declared.auth.asked.Refusal.{Refusal}
 use Rattle.amqp_session.specs.declared.auth.asked.Refusal.TheVariants.{Said, NoMemory}
 use Rattle.amqp_session.specs.Talk.{Talk}
-use Rattle.amqp_session.specs.Providers.{Exchange, Allows, Leads}
+use Rattle.amqp_session.specs.Providers.{Exchange, Allows, GoesBefore}
 
 -- questions with answers, as far as both go
 abbrev pub paired : List Question → List Asked → Exchange
@@ -23,7 +23,7 @@ pub record Answered (asked : Question) (given : Asked) (before after : Exchange 
   -- the list grew by the answer
   pub listed : list' ≡ list ++ given ∷ []
   -- the provider may give it
-  pub allowed : Leads before after asked given
+  pub allowed : GoesBefore before after asked given
 
 -- memory was refused after some of these questions were answered, and no other answer was listed; what is asked may go
 -- by the answers to what was asked before

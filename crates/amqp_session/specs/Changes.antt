@@ -17,7 +17,7 @@ use Rattle.amqp_promise.specs.declared.error.ErrorKind.TheVariants.{ProtocolErro
 use Rattle.amqp_session.specs.declared.event.Event.{Event}
 use Rattle.amqp_session.specs.Listed.{at, put, without}
 use Rattle.amqp_session.specs.Events as events
-use Rattle.amqp_session.specs.Events.{noted, error_named, paid, forgotten, failed}
+use Rattle.amqp_session.specs.Events.{event_noted, error_named, paid, forgotten, failed}
 use Rattle.amqp_session.specs.Talk.{Talk, is_closing, has_ended}
 use Rattle.amqp_session.specs.Recovery.{recovery_delay, reconnect}
 
@@ -88,12 +88,12 @@ refuse e t = record t { made = t.made + 1; promises = put t.made (Some (Err e)) 
 
 -- an event is kept, where someone listens
 abbrev pub note : Event → Talk → Talk
-note event t = record t { noted = noted event t.noted }
+note event t = record t { noted = event_noted event t.noted }
 
 -- the error with which the server closed a channel, where its code was one of an error, is told once our close-ok is
 -- sent
 abbrev pub owe : ℕ → ErrorKind → Talk → Talk
-owe n e t = record t { noted = events.owe n (error_named e) t.noted }
+owe n e t = record t { noted = events.owe_event n (error_named e) t.noted }
 
 -- the error that is owed on a channel is told
 abbrev pub tell_owed : ℕ → Talk → Talk

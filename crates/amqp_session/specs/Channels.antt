@@ -25,8 +25,8 @@ new_channel opened =
     record { state = channel.Initial; flow = true; confirm = false; opened = opened; debt = Nothing }
 
 -- a channel that is closing
-abbrev pub closing : Channel → Channel
-closing c = record c { state = channel.Closing }
+abbrev pub made_closing : Channel → Channel
+made_closing c = record c { state = channel.Closing }
 
 -- the number of the listed channel that a promise opened
 abbrev pub opening_in : ℕ → List (ℕ × Channel) → Option ℕ

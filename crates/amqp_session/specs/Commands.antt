@@ -25,12 +25,12 @@ use Rattle.amqp_session.specs.Handshake.{our_close, new_secret, channel_open, ch
 use Rattle.amqp_session.specs.Negotiation.{frame_limit}
 use Rattle.amqp_session.specs.Publishing.{method_frame, publish_frames}
 use Rattle.amqp_session.specs.Changes.{queue, queue_item, queue_group, await, next_promise, promise, refuse, drop_groups_of, drop_groups}
-use Rattle.amqp_session.specs.Channels.{new_channel, closing, channel_at, set_channel}
+use Rattle.amqp_session.specs.Channels.{new_channel, made_closing, channel_at, set_channel}
 
 -- what `Debug` shows of a command that carries a secret; of all others nothing is said
-abbrev pub debug_of : Cmd → Option (List ℕ)
-debug_of (UpdateSecret secret reason) = Some (codes "UpdateSecret(..)")
-debug_of _ = None
+abbrev pub command_debug : Cmd → Option (List ℕ)
+command_debug (UpdateSecret secret reason) = Some (codes "UpdateSecret(..)")
+command_debug _ = None
 
 -- ---- opening a channel
 
@@ -92,7 +92,7 @@ target r word t = target_by (named r t) r.id word
 -- groups of the channel that have not begun go
 abbrev pub leave_channel : ℕ → ℕ → List ℕ → Channel → Option ℕ → Talk → Talk
 leave_channel n code text c answers t =
-    let is_closing = set_channel n (closing c) t in
+    let is_closing = set_channel n (made_closing c) t in
     drop_groups_of n (InvalidChannelState channel.Closing word.ChannelClose)
     (await n ChannelClosed answers (queue n (our_channel_close n code text) is_closing))
 
@@ -181,7 +181,7 @@ update_secret secret reason t =
 -- and all groups that have not begun go
 abbrev pub leave_connection : ℕ → List ℕ → Option ℕ → Talk → Talk
 leave_connection code text answers t =
-    let all_closing = record t { state = Closing; channels = map_values closing t.channels } in
+    let all_closing = record t { state = Closing; channels = map_values made_closing t.channels } in
     drop_groups (InvalidConnectionState Closing)
     (await 0 ConnectionClosed answers (queue 0 (our_close code text) all_closing))
 

@@ -70,6 +70,6 @@ default_answer mechanism login question.ValidFor = answer.ValidFor None
 default_answer mechanism login question.Refresh = answer.Refreshed (Err no_refresh)
 
 -- all answers of an exchange are those of a function
-abbrev pub AreAnswers : (Question → Asked) → Exchange → Type 0
-AreAnswers answers [] = Unit {0}
-AreAnswers answers ((asked, given) ∷ rest) = (given ≡ answers asked) × AreAnswers answers rest
+abbrev pub AnswersEach : (Question → Asked) → Exchange → Type 0
+AnswersEach answers [] = Unit {0}
+AnswersEach answers ((asked, given) ∷ rest) = (given ≡ answers asked) × AnswersEach answers rest

@@ -23,13 +23,13 @@ abbrev pub unheard : Noted
 unheard = record { listens = false; events = []; tells_end = false; owed = [] }
 
 -- the events that are kept, once another came: it is kept where someone listens
-abbrev pub kept : Bool → Event → List Event → List Event
-kept true event events = events ++ event ∷ []
-kept false event events = events
+abbrev pub events_kept : Bool → Event → List Event → List Event
+events_kept true event events = events ++ event ∷ []
+events_kept false event events = events
 
 -- an event came
-abbrev pub noted : Event → Noted → Noted
-noted event n = record n { events = kept n.listens event n.events }
+abbrev pub event_noted : Event → Noted → Noted
+event_noted event n = record n { events = events_kept n.listens event n.events }
 
 -- an error that has a code
 abbrev pub error_named : ErrorKind → Option NamedError
@@ -42,13 +42,13 @@ owing n None owed = owed
 owing n (Some e) owed = put n e owed
 
 -- the server closed a channel: with an error, or without one
-abbrev pub owe : ℕ → Option NamedError → Noted → Noted
-owe n error noted = record noted { owed = owing n error noted.owed }
+abbrev pub owe_event : ℕ → Option NamedError → Noted → Noted
+owe_event n error noted = record noted { owed = owing n error noted.owed }
 
 -- the events that are kept, once our close-ok was sent on a channel that the server closed: with an error, or without
 abbrev pub told : Bool → Option NamedError → List Event → List Event
 told listens None events = events
-told listens (Some e) events = kept listens (event.Error (ProtocolError e)) events
+told listens (Some e) events = events_kept listens (event.Error (ProtocolError e)) events
 
 -- our close-ok was sent on a channel, and the error that is owed there is told
 abbrev pub paid : ℕ → Noted → Noted

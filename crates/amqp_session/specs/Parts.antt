@@ -139,12 +139,12 @@ awaits_open_ok Connecting AwaitOpenOk = true
 awaits_open_ok _ _ = false
 
 -- a frame that opens the connection
-abbrev pub is_opening : Frame → ConnectionState → Phase → Bool
-is_opening f state phase = is_open_ok f && awaits_open_ok state phase
+abbrev pub is_opening_frame : Frame → ConnectionState → Phase → Bool
+is_opening_frame f state phase = is_open_ok f && awaits_open_ok state phase
 
 -- how many bytes can be unsent once a frame was read: more, where it opens the connection
 abbrev pub capacity_after : Frame → Talk → ℕ
-capacity_after f t = if acts t && is_opening f t.state t.phase then grown_capacity t else t.capacity
+capacity_after f t = if acts t && is_opening_frame f t.state t.phase then grown_capacity t else t.capacity
 
 -- ---- what the provider answered
 

@@ -22,24 +22,24 @@ Allows state [] = Unit {0}
 Allows state (first ∷ rest) = state (first ∷ rest)
 
 -- what the later state allows is allowed by the earlier one with this question and its answer in front
-abbrev pub Leads : (Exchange → Type 0) → (Exchange → Type 0) → Question → Asked → Type 0
-Leads before after asked given = (rest : Exchange) → Allows after rest → before ((asked, given) ∷ rest)
+abbrev pub GoesBefore : (Exchange → Type 0) → (Exchange → Type 0) → Question → Asked → Type 0
+GoesBefore before after asked given = (rest : Exchange) → Allows after rest → before ((asked, given) ∷ rest)
 
 -- a question was answered; nothing is said where memory was refused
 abbrev pub Replies : (Exchange → Type 0) → (Exchange → Type 0) → Question → (Result LongString Text → Asked)
     → Result LongString Refusal → Type 0
-Replies before after asked form (Ok octets) = Leads before after asked (form (Ok octets))
-Replies before after asked form (Err (Said text)) = Leads before after asked (form (Err text))
+Replies before after asked form (Ok octets) = GoesBefore before after asked (form (Ok octets))
+Replies before after asked form (Err (Said text)) = GoesBefore before after asked (form (Err text))
 Replies before after asked form (Err NoMemory) = Unit {0}
 
 -- the mechanism was named; nothing is said where memory was refused
 abbrev pub Names : (Exchange → Type 0) → Result ShortString WantOfMemory → Type 0
-Names state (Ok name) = Leads state state question.Mechanism (answer.Mechanism name)
+Names state (Ok name) = GoesBefore state state question.Mechanism (answer.Mechanism name)
 Names state (Err refused) = Unit {0}
 
 -- the time was told for which the secret is valid
 abbrev pub Lasts : (Exchange → Type 0) → Option ℕ → Type 0
-Lasts state time = Leads state state question.ValidFor (answer.ValidFor time)
+Lasts state time = GoesBefore state state question.ValidFor (answer.ValidFor time)
 
 -- a text is said only where the count of refusals rose
 abbrev pub Counts : ℕ → ℕ → Result LongString Refusal → Type 0

@@ -21,8 +21,8 @@ abbrev pub error_at : ℕ → List (ℕ × SharedError) → Option ErrorKind
 error_at n errors = unwrap_or (shared_at n errors) None
 
 -- the error of a number is awaited
-abbrev pub is_awaited : ℕ → List (ℕ × SharedError) → Bool
-is_awaited n errors = unwrap_or (option_map is_none (shared_at n errors)) false
+abbrev pub is_error_awaited : ℕ → List (ℕ × SharedError) → Bool
+is_error_awaited n errors = unwrap_or (option_map is_none (shared_at n errors)) false
 
 -- what stays of what is kept, where no promise holds it: an error goes
 abbrev pub unheld : Option (Option ErrorKind) → Option (Option ErrorKind)
@@ -57,18 +57,18 @@ FreesUnheld before after = (n : ℕ) → 1 ≤ holders_at n before → holders_a
 -- ---- what is awaited
 
 -- a number is that of the error by which the link will be lost
-abbrev pub is_loss : Option ℕ → ℕ → Bool
-is_loss None n = false
-is_loss (Some loss) n = loss == n
+abbrev pub is_loss_number : Option ℕ → ℕ → Bool
+is_loss_number None n = false
+is_loss_number (Some loss) n = loss == n
 
 -- the error by which the link will be lost is awaited, and no other
 abbrev pub AwaitsLoss : Option ℕ → List (ℕ × SharedError) → Type 0
-AwaitsLoss loss errors = (n : ℕ) → is_awaited n errors ≡ is_loss loss n
+AwaitsLoss loss errors = (n : ℕ) → is_error_awaited n errors ≡ is_loss_number loss n
 
 -- a promise waits: of itself, or for an error
 abbrev pub waits : List (ℕ × SharedError) → Slot → Bool
 waits errors Waiting = true
-waits errors (Shared number) = is_awaited number errors
+waits errors (Shared number) = is_error_awaited number errors
 waits errors slot = false
 
 -- the same of a promise that may be none
@@ -79,7 +79,7 @@ any_waits errors slot = unwrap_or (option_map (waits errors) slot) false
 -- connection, number 0, waits of itself
 abbrev pub suits : List (ℕ × SharedError) → Option Slot → ℕ → Bool
 suits errors (Some Waiting) (suc n) = false
-suits errors (Some (Shared number)) zero = not (is_awaited number errors)
+suits errors (Some (Shared number)) zero = not (is_error_awaited number errors)
 suits errors slot n = true
 
 -- each promise suits its number

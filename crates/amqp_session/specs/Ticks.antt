@@ -31,8 +31,8 @@ abbrev pub is_missed : Talk → Bool
 is_missed t = beats t && nat_lt (t.configuration.heartbeat * 2000) (t.present - t.last_read)
 
 -- nothing was written for more than half an interval
-abbrev pub is_due : Talk → Bool
-is_due t = beats t && nat_lt (t.configuration.heartbeat * 500) (t.present - t.last_write)
+abbrev pub is_heartbeat_due : Talk → Bool
+is_heartbeat_due t = beats t && nat_lt (t.configuration.heartbeat * 500) (t.present - t.last_write)
 
 -- where the server is silent for too long, the link is of no more use
 abbrev pub missing_heartbeat : Talk → Talk
@@ -40,7 +40,7 @@ missing_heartbeat t = if is_missed t then lose MissingHeartbeatError t else t
 
 -- where we are silent for long, a heartbeat is to go out, which counts as written at once
 abbrev pub heartbeat_due : Talk → Talk
-heartbeat_due t = if is_due t then record (queue 0 Heartbeat t) { last_write = t.present } else t
+heartbeat_due t = if is_heartbeat_due t then record (queue 0 Heartbeat t) { last_write = t.present } else t
 
 -- ---- a secret that expires
 

@@ -95,14 +95,14 @@ OverTokens state exchange = AreTokenAnswers exchange × AllowsTokens state (toke
 -- ---- tokens by two closures
 
 -- for how long the last token is valid: by what the closure states, and unknown before there is a token
-abbrev pub Tells : (List ℕ → Option ℕ → Type 0) → Option (List ℕ) → Option ℕ → Type 0
-Tells valid None time = time ≡ None
-Tells valid (Some token) time = valid token time
+abbrev pub IsValidFor : (List ℕ → Option ℕ → Type 0) → Option (List ℕ) → Option ℕ → Type 0
+IsValidFor valid None time = time ≡ None
+IsValidFor valid (Some token) time = valid token time
 
 -- answers by what the two closures state of theirs, and by the last token, which each new one replaces
 abbrev pub ByClosures : (List ℕ → Option ℕ → Type 0) → (Result LongString Refusal → Type 0) → Option (List ℕ)
     → Tokens → Type 0
 ByClosures valid make last [] = Unit {0}
-ByClosures valid make last (lasts time ∷ rest) = Tells valid last time × ByClosures valid make last rest
+ByClosures valid make last (lasts time ∷ rest) = IsValidFor valid last time × ByClosures valid make last rest
 ByClosures valid make last (created (Ok token) ∷ rest) = make (Ok token) × ByClosures valid make (Some token) rest
 ByClosures valid make last (created (Err text) ∷ rest) = make (Err (Said text)) × ByClosures valid make last rest

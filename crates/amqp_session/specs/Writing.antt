@@ -33,8 +33,8 @@ writes t = is_open t && not t.blocked
 
 -- the next frame to go out: of the group that has begun, else of the control lane, else of the publish lane where
 -- publishes flow
-abbrev pub next_item : Talk → Option Item
-next_item t = if writes t then queued.next_item (flows t) t.outbox else None
+abbrev pub next_out : Talk → Option Item
+next_out t = if writes t then queued.next_item (flows t) t.outbox else None
 
 -- a frame that is to go out, where it is at most so many bytes long
 abbrev pub fitting : ℕ → Option Item → Option Item
@@ -43,7 +43,7 @@ fitting space (Some item) = if nat_le (size_of item) space then Some item else N
 
 -- the next frame, where it is at most so many bytes long
 abbrev pub next_within : ℕ → Talk → Option Item
-next_within space t = fitting space (next_item t)
+next_within space t = fitting space (next_out t)
 
 -- close-ok of the connection, our answer to the server's close
 abbrev pub is_close_ok : Frame → Bool
@@ -87,7 +87,7 @@ longer_than most (Some item) = if nat_lt most (size_of item) then Some (size_of 
 -- how many octets spell the next frame, where it is longer than the whole capacity: no command queues such a one, but
 -- what the client says of itself may be so long
 abbrev pub overlong : Talk → Option ℕ
-overlong t = longer_than t.capacity (next_item t)
+overlong t = longer_than t.capacity (next_out t)
 
 -- a frame of so many octets can't go out, and ends the session
 abbrev pub end_overlong : Option ℕ → Talk → Talk

@@ -4,7 +4,7 @@ ghost use Rattle.std.specs.Prelude.{◌≡◌, ◌≤◌, ◌+◌, ◌↔◌, �
 ghost use Rattle.amqp_outbox.specs.Listed.{Ascends};
 ghost use Rattle.amqp_session.specs.Listed.{at, put, without, map_values};
 ghost use Rattle.amqp_session.specs.Numbering.{drawn};
-ghost use Rattle.amqp_session.specs.Channels.{closing, new_channel, opening_in, all_flow, AllListed, next_free, list_next, pass_over, create_as, opened_until};
+ghost use Rattle.amqp_session.specs.Channels.{made_closing, new_channel, opening_in, all_flow, AllListed, next_free, list_next, pass_over, create_as, opened_until};
 ghost use Rattle.amqp_session.specs.Stopped.{stops};
 ghost use Rattle.amqp_session.specs.Openings.{opener};
 ghost use Rattle.amqp_session.specs.Recovery.{is_kept_in, reconnecting, kept};
@@ -60,7 +60,7 @@ impl Channel {
 
     /// The same channel, which is closing.
     pub fn closing(self) -> Channel
-        ensures { result ≡ closing self }
+        ensures { result ≡ made_closing self }
     {
         Channel {
             state: ChannelState::Closing,
@@ -312,7 +312,7 @@ impl Channels {
 
     /// All channels are closing.
     pub(crate) fn close_all(&mut self)
-        ensures all { self.new ≡ record self.old { listed = map_values closing self.old.listed } }
+        ensures all { self.new ≡ record self.old { listed = map_values made_closing self.old.listed } }
         ensures until { opened_until self.new.listed ≡ opened_until self.old.listed }
     {
         self.listed.retain(|_, channel| {

@@ -42,9 +42,9 @@ pub enum Cmd {
 }
 
 impl fmt::Debug for Cmd {
-    ghost use Rattle.amqp_session.specs.Commands.{debug_of};
+    ghost use Rattle.amqp_session.specs.Commands.{command_debug};
 
-    ghost debug_output = { debug_of };
+    ghost debug_output = { command_debug };
 
     fn fmt<W: fmt::Write>(&self, f: &mut fmt::Formatter<W>) -> fmt::Result {
         match self {

@@ -1,7 +1,7 @@
 //! What is kept for those who listen.
 
 ghost use Rattle.std.specs.Prelude.{◌≡◌, ◌+◌, ◌≤◌, ◌∷◌, [], length, true, false, Some, IfSome, IfNone, IsOk, OnOk, OnErr};
-ghost use Rattle.amqp_session.specs.Events.{unheard, noted, owe, paid, forgotten, failed};
+ghost use Rattle.amqp_session.specs.Events.{unheard, event_noted, owe_event, paid, forgotten, failed};
 ghost use Rattle.std.specs.VecDeque.{deque_capacity};
 
 use crate::event::Event;
@@ -67,7 +67,7 @@ impl Events {
     /// An event is kept, where events are. Its place was made.
     pub fn note_reserved(&mut self, event: Event)
         requires { HasEventPlace self.old }
-        ensures { noted_in self.new ≡ noted event (noted_in self.old) }
+        ensures { noted_in self.new ≡ event_noted event (noted_in self.old) }
     {
         if self.listens {
             self.events.push_back_reserved(event);
@@ -78,7 +78,7 @@ impl Events {
 
     /// The server closed a channel with this error, or without one. A place for its event is made.
     pub fn owe(&mut self, id: ChannelId, error: Option<AMQPError>) -> Result<(), NoMemory>
-        ensures ok { OnOk result (noted_in self.new ≡ owe id error (noted_in self.old)) }
+        ensures ok { OnOk result (noted_in self.new ≡ owe_event id error (noted_in self.old)) }
         ensures err { OnErr result (noted_in self.new ≡ noted_in self.old) }
     {
         match error {
@@ -89,7 +89,7 @@ impl Events {
 
     // The server closed a channel with this error.
     fn keep_owed(&mut self, id: ChannelId, error: AMQPError) -> Result<(), NoMemory>
-        ensures ok { OnOk result (noted_in self.new ≡ owe id (Some error) (noted_in self.old)) }
+        ensures ok { OnOk result (noted_in self.new ≡ owe_event id (Some error) (noted_in self.old)) }
         ensures err { OnErr result (noted_in self.new ≡ noted_in self.old) }
     {
         if let Err(refused) = self.events.reserve(self.owed.len() + 1) {

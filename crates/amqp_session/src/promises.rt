@@ -3,7 +3,7 @@
 ghost use Rattle.std.specs.Prelude.{◌≡◌, ◌+◌, ◌-◌, ◌<◌, ◌≤◌, ◌^◌, ℕ, [], None, Some, Err, IsSome, IsTrue, IfOk, OnOk, OnErr};
 ghost use Rattle.std.proofs.Props.{props};
 ghost use Rattle.amqp_session.specs.Listed.{at, put, without};
-ghost use Rattle.amqp_session.specs.Sharing.{shared_at, holders_at, holds, holds_any, is_awaited, waits, any_waits, new_slot, AreCounted, KeepsHeld, FreesUnheld, AwaitsLoss, AllSuit};
+ghost use Rattle.amqp_session.specs.Sharing.{shared_at, holders_at, holds, holds_any, is_error_awaited, waits, any_waits, new_slot, AreCounted, KeepsHeld, FreesUnheld, AwaitsLoss, AllSuit};
 
 use crate::command::Answer;
 use crate::shared_errors::SharedErrors;
@@ -307,7 +307,7 @@ fn new_slot(number: u64, loss: Option<u64>, errors: &mut SharedErrors) -> Slot
 fn let_go_of(errors: &mut SharedErrors, slot: Option<Slot>)
     ensures kept { KeepsHeld errors.old.errors.entries errors.new.errors.entries }
     ensures freed { FreesUnheld errors.old.errors.entries errors.new.errors.entries }
-    ensures awaited { (n : ℕ) → is_awaited n errors.new.errors.entries ≡ is_awaited n errors.old.errors.entries }
+    ensures awaited { (n : ℕ) → is_error_awaited n errors.new.errors.entries ≡ is_error_awaited n errors.old.errors.entries }
     ensures waited { IsTrue (any_waits errors.old.errors.entries slot)
         → (n : ℕ) → shared_at n errors.new.errors.entries ≡ shared_at n errors.old.errors.entries }
     ensures holders { (n : ℕ) → holders_at n errors.new.errors.entries

@@ -2,7 +2,7 @@
 
 ghost use Rattle.std.specs.Prelude.{◌≡◌, ℕ, ◌+◌, ◌-◌, ◌<◌, ◌^◌, ◌==◌, ◌&&◌, if◌then◌else◌, [], None, Some, is_some, option_map, Option, IfOk, OnErr, option_copied};
 ghost use Rattle.amqp_session.specs.Listed.{at};
-ghost use Rattle.amqp_session.specs.Sharing.{shared_at, error_at, is_awaited, unheld, holders_at};
+ghost use Rattle.amqp_session.specs.Sharing.{shared_at, error_at, is_error_awaited, unheld, holders_at};
 
 use amqp_promise::Error;
 use amqp_types::NoMemory;
@@ -111,7 +111,7 @@ impl SharedErrors {
 
     /// Whether the error of a number is awaited.
     pub fn is_awaited(&self, number: u64) -> bool
-        ensures { result ≡ is_awaited number self.now.errors.entries }
+        ensures { result ≡ is_error_awaited number self.now.errors.entries }
     {
         match self.errors.get(&number) {
             Some(shared) => shared.error.is_none(),

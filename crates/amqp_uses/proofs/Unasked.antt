@@ -5,12 +5,12 @@ use Rattle.amqp_session.specs.declared.auth.asked.Question.{Question}
 use Rattle.amqp_session.specs.declared.auth.asked.Asked.{Asked}
 use Rattle.amqp_session.specs.Talk.{Talk}
 use Rattle.amqp_session.specs.Providers.{Exchange}
-use Rattle.amqp_session.specs.DefaultAnswers.{DefaultAuth, default_answer, AreAnswers}
+use Rattle.amqp_session.specs.DefaultAnswers.{DefaultAuth, default_answer, AnswersEach}
 use Rattle.amqp_session.specs.Asking.{Asks, Hears}
 use Rattle.amqp_uses.specs.Driving.{heard, asked_of}
 
 abbrev May : DefaultAuth → Exchange → Type 0
-May p = AreAnswers (default_answer p.mechanism p.login)
+May p = AnswersEach (default_answer p.mechanism p.login)
 
 -- no question, and no answer
 asks-none : (questions : List Question) (before : Exchange → Type 0) (list : List Asked) → questions ≡ []

@@ -23,13 +23,13 @@ abbrev pub space_in : ℕ → Talk → ℕ
 space_in free t = min free (t.capacity - unsent t)
 
 -- the octets of a frame that goes out, where one does
-abbrev pub spelled : Option Item → List ℕ
-spelled None = []
-spelled (Some item) = encoding item.frame
+abbrev pub item_octets : Option Item → List ℕ
+item_octets None = []
+item_octets (Some item) = encoding item.frame
 
 -- the octets of the next frame, where it fits
 abbrev pub next_octets : ℕ → Talk → List ℕ
-next_octets free t = spelled (next_within (space_in free t) t)
+next_octets free t = item_octets (next_within (space_in free t) t)
 
 -- what stands at the front of octets, within the limit that was agreed
 abbrev pub stands_in : List ℕ → Talk → Read

@@ -5,7 +5,7 @@ ghost use Rattle.amqp_session.specs.Changes.{present_at, starve};
 ghost use Rattle.amqp_session.specs.Writing.{next_frame};
 ghost use Rattle.amqp_session.specs.ChannelMethods.{frames_of};
 ghost use Rattle.amqp_session.specs.Answers.{answer_of, take_frames};
-ghost use Rattle.amqp_session.specs.DefaultAnswers.{default_answer, AreAnswers};
+ghost use Rattle.amqp_session.specs.DefaultAnswers.{default_answer, AnswersEach};
 ghost use Rattle.amqp_session.specs.Asking.{Hears};
 ghost use Rattle.amqp_uses.specs.Driving.{space_in, next_octets, stands_in, heard, asked_of, read_of, is_body};
 
@@ -90,8 +90,8 @@ pub fn say_next<R: Room>(session: &mut Session, room: &mut R)
 pub fn hear_next(alloc: Global, client: &mut Client, unread: &[u8], came: Came) -> Result<usize>
     ensures ok { let read = stands_in unread.now client.old.session in
         OnOk result (Hears (heard read came.place came.at) (λ _. asked_of read came.at)
-        (AreAnswers (default_answer client.old.provider.mechanism client.old.provider.login))
-        (AreAnswers (default_answer client.new.provider.mechanism client.new.provider.login))
+        (AnswersEach (default_answer client.old.provider.mechanism client.old.provider.login))
+        (AnswersEach (default_answer client.new.provider.mechanism client.new.provider.login))
         client.old.session client.new.session client.old.auths.list client.new.auths.list) }
     ensures read { IfOk result (λ n. n ≡ read_of (stands_in unread.now client.old.session)) }
     ensures err { OnErr result (client.new.session ≡ starve (present_at came.at client.old.session)) }

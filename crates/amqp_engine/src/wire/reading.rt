@@ -12,7 +12,7 @@ ghost use Rattle.amqp_engine.specs.Engine.{Engine, rule_at, step_linked, step_pi
 ghost use Rattle.amqp_session.specs.declared.auth.asked.Asked.{Asked};
 ghost use Rattle.amqp_session.specs.declared.auth.asked.Question.{Question};
 ghost use Rattle.amqp_engine.specs.Turn.{begun, is_part, is_piece, step_part, reading};
-ghost use Rattle.amqp_engine.specs.Making.{making, parts_of, is_event, is_whole, keeps_unread, IsSettled, joined, FewParts, Reaches, Heard, Broke, StepHears, RowHears, Grew, Blames};
+ghost use Rattle.amqp_engine.specs.Making.{making, parts_of, is_event, is_whole, keeps_unread, IsSettled, piece_joined, FewParts, Reaches, Heard, Broke, StepHears, RowHears, Grew, Blames};
 ghost use Rattle.amqp_frame.specs.declared.frame.Read.TheVariants as reads;
 
 use super::Wire;
@@ -257,7 +257,7 @@ impl Wire {
     fn join(&mut self, bytes: &[u8]) -> usize
         requires { IsSettled self.old }
         ensures within { result ≤ length bytes.now }
-        ensures engine { self.new ≡ joined (take result bytes.now) self.old }
+        ensures engine { self.new ≡ piece_joined (take result bytes.now) self.old }
         ensures over { keeps_unread self.old.talk ≡ false → result ≡ length bytes.now }
         ensures some { can_read self.old ≡ false → 1 ≤ length bytes.now → 1 ≤ result }
         ensures small { length self.new.unread < 2 ^ 32 }
@@ -285,15 +285,15 @@ impl Wire {
         ensures can { A.can provider.new }
         ensures ok { OnOk result (Heard (λ answers questions. (rest : List ℕ) (cut : Option ℕ) (more : List Asked)
             (before : List Question) → Reaches cut parts.new
-            → reading true (making at cut (answers ++ more) before (joined rest self.old) parts.old)
-            ≡ reading true (making at cut more (before ++ questions) (joined rest self.new) parts.new))
+            → reading true (making at cut (answers ++ more) before (piece_joined rest self.old) parts.old)
+            ≡ reading true (making at cut more (before ++ questions) (piece_joined rest self.new) parts.new))
             (A.allows provider.old) (A.allows provider.new) auths.old.list auths.new.list) }
         ensures done { OnOk result (can_read self.new ≡ false) }
         ensures settled { OnOk result (IsSettled self.new) }
         ensures err { OnErr result (Broke parts.new (λ answers questions e. (self.new ≡ rule_at at starve e)
             × ((rest : List ℕ) (before : List Question)
-            → reading true (making at (Some parts.new) answers before (joined rest self.old) parts.old)
-            ≡ making at (Some parts.new) (drop (length questions) answers) (before ++ questions) (joined rest e)
+            → reading true (making at (Some parts.new) answers before (piece_joined rest self.old) parts.old)
+            ≡ making at (Some parts.new) (drop (length questions) answers) (before ++ questions) (piece_joined rest e)
             parts.new))
             (A.allows provider.old) auths.old.list auths.new.list) }
         ensures size { OnOk result (keeps_unread self.new.talk ≡ true

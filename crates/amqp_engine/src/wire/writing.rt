@@ -4,7 +4,7 @@ ghost use Rattle.std.specs.Prelude.{◌≡◌, ◌≤◌, ◌<◌, ◌+◌, ◌*
 ghost use Rattle.amqp_session.specs.declared.auth.asked.Asked.{Asked};
 ghost use Rattle.amqp_session.specs.declared.auth.asked.Question.{Question};
 ghost use Rattle.amqp_session.specs.Talk.{is_open};
-ghost use Rattle.amqp_engine.specs.Log.{log_write, IsWithin, PlansWrite};
+ghost use Rattle.amqp_engine.specs.Log.{log_write, TookAtMost, PlansWrite};
 ghost use Rattle.amqp_session.specs.Writing.{overlong, end_overlong};
 ghost use Rattle.amqp_engine.specs.Engine.{taken_by, with_talk, wrote, fitting_next, commit_one, commit_all, overlong_next, refuse_overlong, can_write};
 ghost use Rattle.amqp_engine.specs.Turn.{offered, answered, is_all};
@@ -64,7 +64,7 @@ impl Wire {
         ensures none { IfNone result
             (IsFalse (can_write self.old) × (self.new ≡ refuse_overlong self.old) × (P.log port.new ≡ P.log port.old)) }
         ensures due { IfSome result (λ r. IsTrue (can_write self.old)) }
-        ensures within { IfSome result (λ r. IsWithin (length (offered self.old)) r.answer) }
+        ensures within { IfSome result (λ r. TookAtMost (length (offered self.old)) r.answer) }
         ensures plays { IfSome result
             (λ r. IfSome (P.log port.old) (PlansWrite (length (offered self.old)) r.answer)) }
         ensures all { IfSome result (λ r. r.all ≡ is_all r.answer (length (offered self.old))) }

@@ -61,13 +61,13 @@ impl DefaultAuthProvider {
 
 impl AuthProvider for DefaultAuthProvider {
     ghost use Rattle.std.specs.Prelude.{⊤};
-    ghost use Rattle.amqp_session.specs.DefaultAnswers.{default_answer, AreAnswers};
+    ghost use Rattle.amqp_session.specs.DefaultAnswers.{default_answer, AnswersEach};
 
     ghost can = { λ p. ⊤ };
 
     ghost refusals = { λ p. p.refusals };
 
-    ghost allows = { λ p. AreAnswers (default_answer p.mechanism p.login) };
+    ghost allows = { λ p. AnswersEach (default_answer p.mechanism p.login) };
 
     fn mechanism(&self) -> Result<ShortString, NoMemory> {
         name_of(self.alloc, self.mechanism)

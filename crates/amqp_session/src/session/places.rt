@@ -6,7 +6,7 @@ ghost use Rattle.amqp_outbox.specs.declared.reply.Reply.{Reply};
 ghost use Rattle.amqp_outbox.specs.Items.{dropped_with, size_of};
 ghost use Rattle.amqp_outbox.specs.Parts.{queued, HasControlPlaces, HasGroupPlace, HasReplyPlace};
 ghost use Rattle.amqp_outbox.specs.Queued.{waiting_items, pushed_control, expected};
-ghost use Rattle.amqp_session.specs.Events.{owe};
+ghost use Rattle.amqp_session.specs.Events.{owe_event};
 ghost use Rattle.amqp_session.specs.Parts.{promised, noted_in, HasPlace};
 
 use crate::committed::Committed;
@@ -90,7 +90,7 @@ pub fn reserve_owing(
     ensures places { OnOk result
         (length committed.old.marks.items + (length (waiting_items (queued outbox.old)) + 1)
         ≤ deque_capacity committed.new.marks) }
-    ensures owed { OnOk result (noted_in events.new ≡ owe item.now.channel error (noted_in events.old)) }
+    ensures owed { OnOk result (noted_in events.new ≡ owe_event item.now.channel error (noted_in events.old)) }
     ensures events { OnErr result (noted_in events.new ≡ noted_in events.old) }
 {
     if let Err(refused) = reserve_item(outbox, committed, item) {

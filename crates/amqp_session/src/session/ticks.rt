@@ -7,7 +7,7 @@ ghost use Rattle.amqp_session.specs.Talk.{has_ended};
 ghost use Rattle.amqp_session.specs.Asking.{Hears, Starves};
 ghost use Rattle.amqp_session.specs.Changes.{present_at, starve, await, queue, queue_item};
 ghost use Rattle.amqp_session.specs.Parts.{validity_answers, IsAsked};
-ghost use Rattle.amqp_session.specs.Ticks.{beats, is_missed, is_due, missing_heartbeat, heartbeat_due, asks_validity, secret_due, secret_questions, refreshed, link_due, tick, tick_questions};
+ghost use Rattle.amqp_session.specs.Ticks.{beats, is_missed, is_heartbeat_due, missing_heartbeat, heartbeat_due, asks_validity, secret_due, secret_questions, refreshed, link_due, tick, tick_questions};
 
 use super::Session;
 use super::asking::Validity;
@@ -48,7 +48,7 @@ impl Session {
             (present_at at self.old) auths.old.list auths.new.list) }
         ensures only { IfErr result (λ e. e ≡ ErrorKind.NoMemory) }
         ensures idle { let now = missing_heartbeat (present_at at self.old) in
-            IsFalse (is_due now) → IsFalse (asks_validity now) → IsOk result }
+            IsFalse (is_heartbeat_due now) → IsFalse (asks_validity now) → IsOk result }
         ensures never_falls { A.refusals provider.old ≤ A.refusals provider.new }
     {
         self.advance(at);
@@ -90,7 +90,7 @@ impl Session {
         ensures err { OnErr result (self.new ≡ self.old) }
         ensures unanswered { OnErr result (Starves secret_questions (A.allows provider.old)
             self.old auths.old.list auths.new.list) }
-        ensures idle { IsFalse (is_due self.old) → IsFalse (asks_validity self.old) → IsOk result }
+        ensures idle { IsFalse (is_heartbeat_due self.old) → IsFalse (asks_validity self.old) → IsOk result }
         ensures running { OnErr result (IsFalse (has_ended self.old)) }
         ensures never_falls { A.refusals provider.old ≤ A.refusals provider.new }
     {
@@ -103,7 +103,7 @@ impl Session {
         requires { IsAsked validity self.old }
         ensures ok { OnOk result (self.new ≡ secret_due (validity_answers validity) (heartbeat_due self.old)) }
         ensures err { OnErr result (self.new ≡ self.old) }
-        ensures idle { validity ≡ Validity.Unasked → IsFalse (is_due self.old) → IsOk result }
+        ensures idle { validity ≡ Validity.Unasked → IsFalse (is_heartbeat_due self.old) → IsOk result }
         ensures running { OnErr result (IsFalse (has_ended self.old)) }
     {
         match validity {
@@ -146,7 +146,7 @@ impl Session {
             }
         };
         let told = Item::plain(0, new_secret(secret, reason));
-        if self.is_due() {
+        if self.is_heartbeat_due() {
             self.beat_and_tell(told)?;
             self.last_write = self.present;
         } else {
@@ -180,10 +180,10 @@ impl Session {
     fn heartbeat_due(&mut self) -> Result<(), NoMemory>
         ensures ok { OnOk result (self.new ≡ heartbeat_due self.old) }
         ensures err { OnErr result (self.new ≡ self.old) }
-        ensures idle { IsFalse (is_due self.old) → IsOk result }
+        ensures idle { IsFalse (is_heartbeat_due self.old) → IsOk result }
         ensures running { OnErr result (IsFalse (has_ended self.old)) }
     {
-        if !self.is_due() {
+        if !self.is_heartbeat_due() {
             return Ok(());
         }
         self.queue(0, Frame::Heartbeat)?;
@@ -200,8 +200,8 @@ impl Session {
     }
 
     // Whether nothing was written for more than half an interval.
-    fn is_due(&self) -> bool
-        ensures due { result ≡ is_due self.now }
+    fn is_heartbeat_due(&self) -> bool
+        ensures due { result ≡ is_heartbeat_due self.now }
         ensures running { IsTrue result → IsFalse (has_ended self.now) }
     {
         let silence = self.present.saturating_sub(self.last_write);

@@ -4,7 +4,7 @@ use Rattle.amqp_engine.specs.Plan.{ArePieces}
 use Rattle.amqp_replay.specs.declared.grammar.Said.{Said}
 use Rattle.amqp_replay.specs.declared.grammar.Said.TheVariants.{Nothing, Refused, Setup, Step}
 use Rattle.amqp_replay.specs.Lines.{Line}
-use Rattle.amqp_replay.specs.Setup.{Progress, set_by}
+use Rattle.amqp_replay.specs.Setup.{SetupSoFar, set_by}
 use Rattle.amqp_replay.specs.Grammar.{says, limited, given, moment, scenario_of}
 use Rattle.amqp_replay.proofs.LineLemmas.{first_left}
 use Rattle.amqp_replay.proofs.Steps.{steps_before, steps_before-more, scenario_of-refused, scenario_of-nothing, scenario_of-set, scenario_of-misset, scenario_of-step, limited-within}
@@ -52,7 +52,7 @@ lines-preserved c =
     record {
       whole = ap (λ (x : List Given). steps_before x (scenario_of next at (left - n) rest)) c.in_ok-push-in-Step.ensures.items
           ∙ sym (steps_before-more gs g (scenario_of next at (left - n) rest))
-          ∙ ap (λ (x : Progress). steps_before gs (steps_before (g ∷ []) (scenario_of x at (left - n) rest))) c.note_step.ensures
+          ∙ ap (λ (x : SetupSoFar). steps_before gs (steps_before (g ∷ []) (scenario_of x at (left - n) rest))) c.note_step.ensures
           ∙ ap (steps_before gs) (sym (scenario_of-step p c.lines.at at left n line rest c.in-Step.what moment said))
           ∙ sym (ap (λ (x : List Line). steps_before gs (scenario_of p c.lines.at left x)) lines)
           ∙ c.lines.invariant.whole;

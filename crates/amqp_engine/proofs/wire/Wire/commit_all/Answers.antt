@@ -1,6 +1,6 @@
 use Rattle.std.proofs.Common.{◌≡◌, ◌∙◌, None, ap, sym}
 use Rattle.amqp_session.specs.Writing.{frames_waiting, overlong, end_overlong}
-use Rattle.amqp_engine.specs.Engine.{Engine, with_talk, fitting_next, committed_as, commit_one, commit_all}
+use Rattle.amqp_engine.specs.Engine.{Engine, with_talk, fitting_next, committed_with_bytes, commit_one, commit_all}
 use Rattle.amqp_types.proofs.Small.{none-from}
 use Rattle.amqp_engine.proofs.Commits.{commits-rest, commits-first, some-fits}
 use Rattle.amqp_engine.proofs.Overlong.{fitting-short}
@@ -12,7 +12,7 @@ returns c =
     let none : fitting_next e ≡ None = none-from (fitting_next e) (sym c.commit_next.ensures.some ∙ c.commits-test.false) in
     let end : Engine → Engine = λ x. with_talk (end_overlong (overlong x.talk)) x in
     let all : e ≡ commit_all c.args.self.now = sym (commits-rest (frames_waiting e.talk) e none) ∙ c.commits.invariant in
-    c.commit_next.ensures.commit ∙ ap (λ o. with_talk (end_overlong (overlong e.talk)) (committed_as o e)) none ∙ ap end all
+    c.commit_next.ensures.commit ∙ ap (λ o. with_talk (end_overlong (overlong e.talk)) (committed_with_bytes o e)) none ∙ ap end all
 
 pub commits-preserved : goal.commits-preserved
 commits-preserved c =

@@ -7,7 +7,7 @@ use Rattle.amqp_session.specs.Providers.{Exchange}
 use Rattle.amqp_session.specs.Changes.{starve}
 use Rattle.amqp_engine.specs.Engine.{Engine, front_of, can_read, read_one, read_questions, rule_at}
 use Rattle.amqp_engine.specs.Turn.{reading}
-use Rattle.amqp_engine.specs.Making.{making, IsSettled, joined, Reaches, Heard, Broke}
+use Rattle.amqp_engine.specs.Making.{making, IsSettled, piece_joined, Reaches, Heard, Broke}
 use Rattle.amqp_engine.proofs.Cases.{is_before-cut, Reaches-less}
 use Rattle.amqp_engine.proofs.Answering.{asks-none, asks-then, allowed-done, answered-more, row-more}
 use Rattle.amqp_engine.proofs.Applying.{left-answers}
@@ -24,7 +24,7 @@ frames-init g c =
         answers = [];
         asks = asks-none (g.A.AuthProvider.allows c.args.provider.now) c.args.auths.now.list (append-nil c.args.auths.now.list);
         leads = λ rest cut more before allows.
-            ap (λ (asked : List Question). reading true (making c.args.at cut more asked (joined rest c.args.self.now) c.args.parts.now)) (sym (append-nil before));
+            ap (λ (asked : List Question). reading true (making c.args.at cut more asked (piece_joined rest c.args.self.now) c.args.parts.now)) (sym (append-nil before));
       };
       can = c.requires.can;
       settled = c.requires.settled;
@@ -56,13 +56,13 @@ frames-preserved g c =
         asks = asks-then h.questions qs h.answers f.answers (g.A.AuthProvider.allows c.args.provider.now) (g.A.AuthProvider.allows c.frames.provider) (g.A.AuthProvider.allows c.read_next.new.provider)
             c.args.auths.now.list c.frames.auths.list c.read_next.new.auths.list h.asks f.asks;
         leads = λ rest cut more before allows.
-            ap (λ (left : List Asked). reading true (making at cut left before (joined rest c.args.self.now) c.args.parts.now)) (append_assoc h.answers f.answers more)
+            ap (λ (left : List Asked). reading true (making at cut left before (piece_joined rest c.args.self.now) c.args.parts.now)) (append_assoc h.answers f.answers more)
             ∙ h.leads rest cut (f.answers ++ more) before (Reaches-less cut parts (parts + 1) (omega arith) allows)
             ∙ reading-more at cut rest (f.answers ++ more) (before ++ h.questions) e parts i.settled can allows
-            ∙ ap (λ (left : List Asked). reading true (making at cut left ((before ++ h.questions) ++ qs) (joined rest (read_one at (f.answers ++ more) e)) (parts + 1)))
+            ∙ ap (λ (left : List Asked). reading true (making at cut left ((before ++ h.questions) ++ qs) (piece_joined rest (read_one at (f.answers ++ more) e)) (parts + 1)))
             (left-answers qs f.answers more f.asks.all)
-            ∙ ap (λ (asked : List Question). reading true (making at cut more asked (joined rest (read_one at (f.answers ++ more) e)) (parts + 1))) (append_assoc before h.questions qs)
-            ∙ ap (λ (x : Engine). reading true (making at cut more (before ++ (h.questions ++ qs)) (joined rest x) (parts + 1)))
+            ∙ ap (λ (asked : List Question). reading true (making at cut more asked (piece_joined rest (read_one at (f.answers ++ more) e)) (parts + 1))) (append_assoc before h.questions qs)
+            ∙ ap (λ (x : Engine). reading true (making at cut more (before ++ (h.questions ++ qs)) (piece_joined rest x) (parts + 1)))
             (row-more at (front_of e) f.answers more e f.asks.all ∙ sym after);
       };
       can = c.in_ok-read_next.ensures.can;
@@ -90,8 +90,8 @@ returns-clause-ok g c =
     let start = c.args.self.now in
     let H : Engine → (Exchange → Type 0) → List Asked → Type 0 =
     λ x state list. Heard (λ answers questions. (rest : List ℕ) (cut : Option ℕ) (more : List Asked) (first : List Question) → Reaches cut c.frames.parts
-    → reading true (making c.args.at cut (answers ++ more) first (joined rest start) c.args.parts.now)
-    ≡ reading true (making c.args.at cut more (first ++ questions) (joined rest x) c.frames.parts)) before state c.args.auths.now.list list in
+    → reading true (making c.args.at cut (answers ++ more) first (piece_joined rest start) c.args.parts.now)
+    ≡ reading true (making c.args.at cut more (first ++ questions) (piece_joined rest x) c.frames.parts)) before state c.args.auths.now.list list in
     let after = g.A.AuthProvider.allows c.read_next.new.provider in
     let between = g.A.AuthProvider.allows c.frames.provider in
     let same : after ≡ between = ap g.A.AuthProvider.allows none.2 in
@@ -114,8 +114,8 @@ returns-in_err-read_next-clause-err g c =
     let left : drop (length h.questions) (h.answers ++ more) ≡ more = left-answers h.questions h.answers more h.asks.all in
     let fact : Broke parts (λ answers questions x. (c.read_next.new.self ≡ rule_at at starve x)
     × ((rest : List ℕ) (first : List Question)
-    → reading true (making at (Some parts) answers first (joined rest start) c.args.parts.now)
-    ≡ making at (Some parts) (drop (length questions) answers) (first ++ questions) (joined rest x) parts)) before c.args.auths.now.list c.read_next.new.auths.list =
+    → reading true (making at (Some parts) answers first (piece_joined rest start) c.args.parts.now)
+    ≡ making at (Some parts) (drop (length questions) answers) (first ++ questions) (piece_joined rest x) parts)) before c.args.auths.now.list c.read_next.new.auths.list =
     record {
       questions = h.questions;
       answers = h.answers ++ more;
@@ -127,8 +127,8 @@ returns-in_err-read_next-clause-err g c =
         f.err,
         λ rest first.
             h.leads rest (Some parts) more first (omega arith)
-            ∙ reading-cut true (making at (Some parts) more (first ++ h.questions) (joined rest e) parts) (is_before-cut parts)
-            ∙ ap (λ (l : List Asked). making at (Some parts) l (first ++ h.questions) (joined rest e) parts) (sym left),
+            ∙ reading-cut true (making at (Some parts) more (first ++ h.questions) (piece_joined rest e) parts) (is_before-cut parts)
+            ∙ ap (λ (l : List Asked). making at (Some parts) l (first ++ h.questions) (piece_joined rest e) parts) (sym left),
       );
     } in
     search (rules, fact)

@@ -3,14 +3,14 @@ use Rattle.std.proofs.Common.{◌≡◌, ◌+◌, ◌*◌, ◌≤◌, ℕ, true,
 use Rattle.amqp_session.specs.declared.auth.asked.Question.{Question}
 use Rattle.amqp_session.specs.declared.auth.asked.Asked.{Asked}
 use Rattle.amqp_engine.specs.Turn.{reading}
-use Rattle.amqp_engine.specs.Making.{making, keeps_unread, IsSettled, joined, Reaches, Heard, Blames}
+use Rattle.amqp_engine.specs.Making.{making, keeps_unread, IsSettled, piece_joined, Reaches, Heard, Blames}
 use Rattle.amqp_engine.proofs.wire.Wire.read_all.Given as goal
 
 abbrev pub invariant-frames : goal.invariant-frames
 invariant-frames g l = record {
   heard : Heard (λ answers questions. (rest : List ℕ) (cut : Option ℕ) (more : List Asked) (before : List Question) → Reaches cut l.parts
-      → reading true (making l.at cut (answers ++ more) before (joined rest l.fn.self) l.fn.parts)
-      ≡ reading true (making l.at cut more (before ++ questions) (joined rest l.self) l.parts))
+      → reading true (making l.at cut (answers ++ more) before (piece_joined rest l.fn.self) l.fn.parts)
+      ≡ reading true (making l.at cut more (before ++ questions) (piece_joined rest l.self) l.parts))
       (g.A.AuthProvider.allows l.fn.provider) (g.A.AuthProvider.allows l.provider) l.fn.auths.list l.auths.list;
   can : g.A.AuthProvider.can l.provider;
   settled : IsSettled l.self;

@@ -7,7 +7,7 @@ use Rattle.amqp_session.specs.Changes.{present_at}
 use Rattle.amqp_session.specs.Links.{piece}
 use Rattle.amqp_engine.specs.Engine.{Engine, step_piece, settle, rule_at, can_read, starve_at}
 use Rattle.amqp_engine.specs.Turn.{reading}
-use Rattle.amqp_engine.specs.Making.{making, keeps_unread, IsSettled, joined, Broke, Blames}
+use Rattle.amqp_engine.specs.Making.{making, keeps_unread, IsSettled, piece_joined, Broke, Blames}
 use Rattle.amqp_engine.proofs.Settling.{settle-settled}
 use Rattle.amqp_engine.proofs.Cases.{Reaches-less, true-from}
 use Rattle.amqp_engine.proofs.Applying.{starve_at-twice}
@@ -17,10 +17,10 @@ use Rattle.amqp_engine.proofs.wire.Wire.read_piece.Goals as goal
 
 -- the engine that its bytes are to join
 begins : (at : ℕ) (bytes : List ℕ) (x e e' : Engine) (t : Talk) → is_open e.talk ≡ true → x ≡ e → t ≡ piece (present_at at x.talk) → e' ≡ settle (record x { talk = t })
-    → step_piece at bytes e ≡ joined bytes e'
+    → step_piece at bytes e ≡ piece_joined bytes e'
 begins at bytes x e e' t opened view told settled =
     piece-joined at bytes e opened
-    ∙ ap (joined bytes) (sym (settled ∙ ap (λ (y : Talk). settle (record x { talk = y })) told ∙ ap (λ (y : Engine). settle (rule_at at piece y)) view))
+    ∙ ap (piece_joined bytes) (sym (settled ∙ ap (λ (y : Talk). settle (record x { talk = y })) told ∙ ap (λ (y : Engine). settle (rule_at at piece y)) view))
 
 settled-now : (x y : Engine) → y ≡ settle x → IsSettled y
 settled-now x y is = subst IsSettled (sym is) (settle-settled x)
@@ -50,7 +50,7 @@ parts-preserved g c =
         asks = asks-then h.questions k.questions h.answers k.answers (g.A.AuthProvider.allows c.args.provider.now) (g.A.AuthProvider.allows c.parts.provider) (g.A.AuthProvider.allows c.read_all.new.provider)
             c.args.auths.now.list c.parts.auths.list c.read_all.new.auths.list h.asks k.asks;
         leads = λ cut more allows.
-            ap (λ (l : List Asked). reading true (making at cut l [] (joined piece c.settle.new.self) 1)) (append_assoc h.answers k.answers more)
+            ap (λ (l : List Asked). reading true (making at cut l [] (piece_joined piece c.settle.new.self) 1)) (append_assoc h.answers k.answers more)
             ∙ h.leads cut (k.answers ++ more) (Reaches-less cut c.parts.parts c.read_all.new.parts c.read_all.ensures.grows allows)
             ∙ ap (λ (x : Engine). reading true (making at cut (k.answers ++ more) h.questions x c.parts.parts)) (part-joined n j piece e c.join-joined.new.self j'.engine)
             ∙ k.leads (drop (j + n) piece) cut more h.questions allows;
@@ -97,7 +97,7 @@ returns-then-joined-piece-clause-ok g c =
     let j = c.parts.joined in
     let piece = c.args.piece.now in
     let at = c.args.at in
-    let begin : step_piece at piece c.args.self.now ≡ joined piece c.settle.new.self =
+    let begin : step_piece at piece c.args.self.now ≡ piece_joined piece c.settle.new.self =
     begins at piece _ c.args.self.now c.settle.new.self c.piece.new.self c.requires.opened c.self.view_is c.piece.ensures c.settle.ensures in
     record {
       questions = h.questions ++ k.questions;
@@ -106,7 +106,7 @@ returns-then-joined-piece-clause-ok g c =
           c.args.auths.now.list c.parts.auths.list c.read_all.new.auths.list h.asks k.asks;
       leads = λ cut more allows.
           ap (λ (x : Engine). reading true (making at cut ((h.answers ++ k.answers) ++ more) [] x 1)) begin
-          ∙ ap (λ (l : List Asked). reading true (making at cut l [] (joined piece c.settle.new.self) 1)) (append_assoc h.answers k.answers more)
+          ∙ ap (λ (l : List Asked). reading true (making at cut l [] (piece_joined piece c.settle.new.self) 1)) (append_assoc h.answers k.answers more)
           ∙ h.leads cut (k.answers ++ more) (Reaches-less cut c.parts.parts c.read_all.new.parts c.read_all.ensures.grows allows)
           ∙ ap (λ (x : Engine). reading true (making at cut (k.answers ++ more) h.questions x c.parts.parts)) (part-joined n j piece c.parts.self c.join-joined.new.self c.join-joined.ensures.engine)
           ∙ k.leads (drop (j + n) piece) cut more h.questions allows
@@ -123,9 +123,9 @@ returns-in_err-read_all-clause-err g c =
     let k = c.read_all.new.parts in
     let piece = c.args.piece.now in
     let at = c.args.at in
-    let begin : step_piece at piece c.args.self.now ≡ joined piece c.settle.new.self =
+    let begin : step_piece at piece c.args.self.now ≡ piece_joined piece c.settle.new.self =
     begins at piece _ c.args.self.now c.settle.new.self c.piece.new.self c.requires.opened c.self.view_is c.piece.ensures c.settle.ensures in
-    let x = joined (drop (j + n) piece) f.engine in
+    let x = piece_joined (drop (j + n) piece) f.engine in
     let before = g.A.AuthProvider.allows c.args.provider.now in
     let between = g.A.AuthProvider.allows c.parts.provider in
     let qs = h.questions ++ f.questions in

@@ -3,14 +3,14 @@ use Rattle.std.proofs.Common.{◌≡◌, ◌+◌, ◌-◌, ◌*◌, ◌≤◌, i
 use Rattle.amqp_session.specs.declared.auth.asked.Asked.{Asked}
 use Rattle.amqp_engine.specs.Engine.{can_read}
 use Rattle.amqp_engine.specs.Turn.{reading}
-use Rattle.amqp_engine.specs.Making.{making, keeps_unread, IsSettled, joined, Reaches, Heard, Blames}
+use Rattle.amqp_engine.specs.Making.{making, keeps_unread, IsSettled, piece_joined, Reaches, Heard, Blames}
 use Rattle.amqp_engine.proofs.wire.Wire.read_piece.Given as goal
 
 abbrev pub invariant-parts : goal.invariant-parts
 invariant-parts g l = record {
   heard : Heard (λ answers questions. (cut : Option ℕ) (more : List Asked) → Reaches cut l.parts
-      → reading true (making l.at cut (answers ++ more) [] (joined l.piece l.initial.self) 1)
-      ≡ reading true (making l.at cut more questions (joined (drop l.joined l.piece) l.self) l.parts))
+      → reading true (making l.at cut (answers ++ more) [] (piece_joined l.piece l.initial.self) 1)
+      ≡ reading true (making l.at cut more questions (piece_joined (drop l.joined l.piece) l.self) l.parts))
       (g.A.AuthProvider.allows l.fn.provider) (g.A.AuthProvider.allows l.provider) l.fn.auths.list l.auths.list;
   can : g.A.AuthProvider.can l.provider;
   settled : IsSettled l.self;

@@ -6,7 +6,7 @@ use Rattle.amqp_outbox.specs.Order.{seen}
 use Rattle.amqp_outbox.proofs.Seen.{set-seen}
 use Rattle.amqp_session.specs.declared.promises.Slot.{Slot}
 use Rattle.amqp_session.specs.Listed.{at}
-use Rattle.amqp_session.specs.Sharing.{holders_at, holds, is_awaited, suits, new_slot, AreCounted}
+use Rattle.amqp_session.specs.Sharing.{holders_at, holds, is_error_awaited, suits, new_slot, AreCounted}
 use Rattle.amqp_session.specs.Parts.{slot_seen}
 use Rattle.amqp_session.proofs.Holding.{few-hold, counted-anew, seen-kept, seen-held}
 use Rattle.amqp_session.proofs.Losses.{awaited-same, suits-same, suits-updated, suits-new, seen-new}
@@ -30,7 +30,7 @@ invariant_of-self c =
     let left = c.let_go_of.new.errors.errors.entries in
     let slot = c.replace-old.new.self in
     let there : at n es ≡ Some c.in-Some.place.now = sym c.in-Some.ensures.value in
-    let same : (k : ℕ) → is_awaited k left ≡ is_awaited k errors =
+    let same : (k : ℕ) → is_error_awaited k left ≡ is_error_awaited k errors =
     λ k. c.let_go_of.ensures.awaited k ∙ awaited-same errors held c.new_slot-slot.ensures.errors k in
     let fits : suits errors (Some slot) n ≡ true =
     ap (λ (x : Slot). suits errors (Some x) n) (c.replace-old.ensures.is ∙ c.new_slot-slot.ensures.slot) ∙ suits-new n self.loss errors c.requires.place.1 in

@@ -1,7 +1,7 @@
 use Rattle.std.proofs.Common.{◌≡◌, ◌∙◌, ap, sym, ℕ, ◌==◌, ◌&&◌, if◌then◌else◌, false, Some}
 use Rattle.amqp_promise.specs.declared.error.ErrorKind.{ErrorKind}
 use Rattle.amqp_session.specs.Recovery.{rejected_all}
-use Rattle.amqp_session.specs.Sharing.{shared_at, is_awaited, holders_at, is_loss}
+use Rattle.amqp_session.specs.Sharing.{shared_at, is_error_awaited, holders_at, is_loss_number}
 use Rattle.amqp_session.specs.Parts.{promised}
 use Rattle.amqp_session.proofs.Holding.{seen-kept, kept-gone}
 use Rattle.amqp_session.proofs.Losses.{awaited-gone, suits-fewer, known-lost, none-lost, none-awaited, seen-lost}
@@ -14,14 +14,14 @@ invariant_of-self c =
     let filled = c.fill.new.self.errors.entries in
     let left = c.tidy.new.self.errors.entries in
     let number = c.in-Some.number in
-    let known : (n : ℕ) → shared_at n filled ≡ (if is_awaited n errors then Some (Some c.into.result) else shared_at n errors) =
-    known-lost number c.into.result errors filled (λ n. self.awaited n ∙ ap (λ l. is_loss l n) (sym c.in-Some.ensures.value)) c.fill.ensures.errors in
-    let none : (n : ℕ) → is_awaited n left ≡ false =
+    let known : (n : ℕ) → shared_at n filled ≡ (if is_error_awaited n errors then Some (Some c.into.result) else shared_at n errors) =
+    known-lost number c.into.result errors filled (λ n. self.awaited n ∙ ap (λ l. is_loss_number l n) (sym c.in-Some.ensures.value)) c.fill.ensures.errors in
+    let none : (n : ℕ) → is_error_awaited n left ≡ false =
     λ n. awaited-gone (λ k. number == k && holders_at k filled == 0) filled left c.tidy.ensures.errors n
     ∙ none-awaited c.into.result errors filled known n in
     record {
       counted = λ n. c.tidy.ensures.holders n ∙ c.fill.ensures.holders n ∙ self.counted n;
-      awaited = λ n. none n ∙ sym (ap (λ l. is_loss l n) c.take.ensures.after);
+      awaited = λ n. none n ∙ sym (ap (λ l. is_loss_number l n) c.take.ensures.after);
       suited = suits-fewer self.slots.entries errors left (λ n h. let k = none n in absurd cc) self.suited;
     }
 
@@ -33,8 +33,8 @@ returns-in-Some-clause-slots c =
     let filled = c.fill.new.self.errors.entries in
     let left = c.tidy.new.self.errors.entries in
     let number = c.in-Some.number in
-    let known : (n : ℕ) → shared_at n filled ≡ (if is_awaited n errors then Some (Some c.into.result) else shared_at n errors) =
-    known-lost number c.into.result errors filled (λ n. self.awaited n ∙ ap (λ l. is_loss l n) (sym c.in-Some.ensures.value)) c.fill.ensures.errors in
+    let known : (n : ℕ) → shared_at n filled ≡ (if is_error_awaited n errors then Some (Some c.into.result) else shared_at n errors) =
+    known-lost number c.into.result errors filled (λ n. self.awaited n ∙ ap (λ l. is_loss_number l n) (sym c.in-Some.ensures.value)) c.fill.ensures.errors in
     seen-kept es filled left (λ n. c.tidy.ensures.holders n ∙ c.fill.ensures.holders n ∙ self.counted n)
     (kept-gone number filled left c.tidy.ensures.errors c.tidy.ensures.holders)
     ∙ seen-lost c.into.result errors filled known es c.len.ensures.ordered self.suited

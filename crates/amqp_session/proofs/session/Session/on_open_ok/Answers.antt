@@ -6,7 +6,7 @@ use Rattle.amqp_outbox.specs.Queued.{Queued, waiting_items}
 use Rattle.amqp_session.specs.contracts.session.Session.{the_view}
 use Rattle.amqp_session.specs.declared.committed.Mark.{Mark}
 use Rattle.amqp_session.specs.declared.event.Event.TheVariants as event
-use Rattle.amqp_session.specs.Events.{Noted, noted}
+use Rattle.amqp_session.specs.Events.{Noted, event_noted}
 use Rattle.amqp_session.specs.Parts.{noted_in}
 use Rattle.amqp_session.specs.Talk.{Talk}
 use Rattle.amqp_session.specs.Channels.{Listing}
@@ -73,8 +73,8 @@ returns-clause-ok c =
     c.reopen.ensures ∙ ap (reopened_each ns) c.in_ok-reserve_reopening.ensures.same in
     let state : Queued → List Mark → Listing → Noted → Talk =
     λ q ms l n. record t { outbox = q; committed = ms; channels = l.listed; cursor = l.cursor; noted = n } in
-    let told : noted_in c.note_reserved.new.self ≡ noted event.Connected t.noted =
-    c.note_reserved.ensures ∙ ap (noted event.Connected) c.in_ok-reserve.ensures.same in
+    let told : noted_in c.note_reserved.new.self ≡ event_noted event.Connected t.noted =
+    c.note_reserved.ensures ∙ ap (event_noted event.Connected) c.in_ok-reserve.ensures.same in
     c.connected.ensures
     ∙ ap (λ (x : Talk). record (connected x) { noted = x.noted })
     (λ i. state (waits i) (c.in_ok-reserve_reopening.ensures.marks i) (c.remove_above.ensures.agreed i) (told i))
