@@ -1,10 +1,9 @@
 -- Conversations that keep the numbers of their tune-ok, and some that do not.
-use Rattle.std.proofs.Common.{◌≡◌, refl, ℕ, zero, suc, ◌≤◌, ◌≢◌, ◌+◌, List, [], ◌∷◌, ◌++◌, length, arith}
-use Rattle.std.specs.Prelude.{codes}
+use Rattle.std.proofs.Common.{refl, ℕ, ◌≤◌, List, [], ◌∷◌, ◌++◌, arith}
 use Rattle.amqp_frame.specs.declared.frame.Frame.{Frame}
 use Rattle.amqp_frame.specs.declared.frame.Frame.TheVariants.{Method, Raw, Heartbeat}
-use Rattle.amqp_frame.specs.declared.frame.RawKind.TheVariants.{RawMethod, Header, Body}
-use Rattle.amqp_frame.specs.declared.method.Method.TheVariants.{TuneOk, Open, ChannelOpen}
+use Rattle.amqp_frame.specs.declared.frame.RawKind.TheVariants.{Body}
+use Rattle.amqp_frame.specs.declared.method.Method.TheVariants.{TuneOk, ChannelOpen}
 use Rattle.amqp_legal.specs.Agreed.{Numbers, KeepsNumbers, KeepsAgreed, agreed_after}
 
 -- what begins a conversation that keeps its numbers keeps them
