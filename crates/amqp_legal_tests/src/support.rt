@@ -13,6 +13,9 @@ use std::test::Fail;
 /// may not be said.
 pub type Row = (&'static str, &'static [&'static [u8]], Option<usize>);
 
+/// What opens the connection, after the header.
+pub const OPENING: &[&[u8]] = &[START_OK, TUNE_OK, OPEN];
+
 // The limit that RabbitMQ proposes.
 const USUAL: u32 = 131_072;
 
@@ -49,18 +52,29 @@ pub fn refused(
     Ok(None)
 }
 
-/// The header was said.
-pub fn greeted(alloc: Global) -> Result<Speech, Fail> {
-    Ok(Speech::new(alloc)?)
+/// A speech in which these frames were said after the header.
+pub fn said(alloc: Global, frames: &[&[u8]]) -> Result<Speech, Fail> {
+    let mut speech = Speech::new(alloc)?;
+    match refused(alloc, &mut speech, frames)? {
+        None => Ok(speech),
+        Some(_) => Err("refused")?,
+    }
 }
 
-/// The connection is opened.
-pub fn opened(alloc: Global) -> Result<Speech, Fail> {
-    let mut speech = greeted(alloc)?;
-    match refused(alloc, &mut speech, &[START_OK, TUNE_OK, OPEN])? {
-        None => Ok(speech),
-        Some(_) => Err("not opened")?,
+fn is_judged(alloc: Global, before: &[&[u8]], row: &Row) -> Result<bool, Fail> {
+    let mut speech = said(alloc, before)?;
+    Ok(refused(alloc, &mut speech, row.1)? == row.2)
+}
+
+/// The number, counted from 1, of the first row that is judged otherwise once the header and some
+/// frames were said; 0 where there is none.
+pub fn wrong_row(alloc: Global, before: &[&[u8]], rows: &[Row]) -> Result<usize, Fail> {
+    for (i, row) in rows.iter().enumerate() {
+        if !is_judged(alloc, before, row)? {
+            return Ok(i + 1);
+        }
     }
+    Ok(0)
 }
 
 /// Whether octets spell the header of the protocol's version.
