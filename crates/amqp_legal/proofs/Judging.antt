@@ -1,8 +1,7 @@
 -- What may be said by what a frame is, is what may be said.
-use Rattle.std.proofs.Common.{◌≡◌, ◌≢◌, ◌<◌, ◌≤◌, ◌∙◌, ap, sym, refl, ℕ, zero, suc, ◌==◌, ◌&&◌, nat_le, nat_lt, if◌then◌else◌, Bool, true, false, List, length, Option, Some, None, slice_index_or, replicate, arith, inl, inr}
+use Rattle.std.proofs.Common.{◌≡◌, ◌≢◌, ◌≤◌, ◌∙◌, ap, sym, refl, ℕ, zero, suc, ◌==◌, ◌&&◌, nat_le, nat_lt, if◌then◌else◌, Bool, true, false, List, length, Option, Some, None, slice_index_or, replicate, arith}
 use Rattle.std.proofs.lemmas.List.{get_or-replicate, get_or_past, length-replicate}
 use Rattle.std.proofs.lemmas.Bool.{ltb-true, ltb-false}
-use Rattle.std.proofs.lemmas.Bool.Decides.{nat_tests}
 use Rattle.amqp_types.specs.declared.version.ProtocolVersion.{ProtocolVersion}
 use Rattle.amqp_frame.specs.declared.frame.Frame.{Frame}
 use Rattle.amqp_frame.specs.declared.frame.RawKind.{RawKind}
@@ -12,7 +11,7 @@ use Rattle.amqp_frame.specs.declared.method.Method.{Method as AnyMethod}
 use Rattle.amqp_frame.specs.declared.method.Method.TheVariants as m
 use Rattle.amqp_types.proofs.Small.{other-number}
 use Rattle.amqp_legal.specs.Octets.{class_in, weight_in, body_size_in}
-use Rattle.amqp_legal.specs.Decider.{Speech, Stage, HeaderSaid, StartOkSaid, TuneOkSaid, OpenSaid, CloseSaid, CloseOkSaid, Usage, Shut, Content, NoContent, MethodSaid, BodyMissing, say, say_block, in_stage, in_content, is_passed_through, say_use, say_content_header, is_content_header, say_method}
+use Rattle.amqp_legal.specs.Decider.{Speech, Stage, HeaderSaid, StartOkSaid, TuneOkSaid, OpenSaid, CloseSaid, CloseOkSaid, Usage, Shut, Content, NoContent, MethodSaid, BodyMissing, say, say_block, in_stage, in_content, is_passed_through, say_use}
 use Rattle.amqp_legal.specs.declared.kind.Kind.{Kind}
 use Rattle.amqp_legal.specs.declared.kind.Kind.TheVariants as k
 use Rattle.amqp_legal.specs.Kinds.{connection_kind, channel_kind, raw_kind, header_kind, frame_kind, introduced, is_close_ok}

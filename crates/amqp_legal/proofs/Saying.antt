@@ -1,5 +1,5 @@
 -- What is said frame by frame: a front of it is legal, and one frame more is where it may be said.
-use Rattle.std.proofs.Common.{◌≡◌, ◌↔◌, ◌∙◌, ap, sym, refl, subst, ◌&&◌, Bool, true, false, List, [], ◌∷◌, ◌++◌, Option, Some, None, is_some, IsTrue}
+use Rattle.std.proofs.Common.{◌≡◌, ◌↔◌, ◌∙◌, ap, sym, refl, subst, Bool, true, List, [], ◌∷◌, ◌++◌, Option, Some, None, is_some, IsTrue}
 use Rattle.amqp_frame.specs.declared.frame.Frame.{Frame}
 use Rattle.amqp_legal.specs.declared.speech.Speech.{Speech as Spoken}
 use Rattle.amqp_legal.specs.Legal.{Legal, amqp_header}

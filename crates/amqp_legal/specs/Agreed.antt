@@ -1,5 +1,5 @@
 -- That a conversation keeps the numbers of its own tune-ok (AMQP 0-9-1, 1.4.2.6: channel-max, frame-max).
-use Rattle.std.specs.Prelude.{ℕ, zero, suc, ◌≢◌, ◌≤◌, ◌+◌, List, [], ◌∷◌, length}
+use Rattle.std.specs.Prelude.{ℕ, ◌≢◌, ◌≤◌, ◌+◌, List, [], ◌∷◌, length}
 use Rattle.amqp_frame.specs.declared.frame.Frame.{Frame}
 use Rattle.amqp_frame.specs.declared.frame.Frame.TheVariants.{Method, Raw}
 use Rattle.amqp_frame.specs.declared.frame.RawKind.TheVariants.{Body}

@@ -1,4 +1,4 @@
-use Rattle.std.proofs.Common.{◌≡◌, ap, ℕ}
+use Rattle.std.proofs.Common.{ap, ℕ}
 use Rattle.amqp_legal.specs.Decider.{Speech, HeaderSaid, NoContent, Usage}
 use Rattle.amqp_legal.proofs.Judging.{all-shut}
 use Rattle.amqp_legal.proofs.speech.Speech.new.Goals as goal

@@ -1,4 +1,4 @@
-use Rattle.std.proofs.Common.{◌≡◌, ◌∙◌, sym, Option, Some, None, is_some, IsTrue, IsFalse, Bool, true, false, ap}
+use Rattle.std.proofs.Common.{◌≡◌, ◌∙◌, sym, Some, None, is_some, IsTrue, IsFalse, Bool, true, false, ap}
 use Rattle.amqp_frame.specs.declared.frame.Frame.{Frame}
 use Rattle.amqp_legal.specs.Decider.{Speech, say}
 use Rattle.amqp_legal.specs.Kinds.{frame_kind}
