@@ -1,17 +1,11 @@
 -- What stands at the front of octets before anything of it is copied, and what becomes of it.
-use Rattle.std.specs.Prelude.{ℕ, ◌+◌, Bool, true, false, not, List, length, Option, nat_lt}
-use Rattle.std.specs.Option.{option_map_or}
-use Rattle.amqp_frame.specs.declared.frame.Frame.{Frame}
+use Rattle.std.specs.Prelude.{ℕ, ◌+◌, Bool, true, false, not, length, nat_lt}
 use Rattle.amqp_frame.specs.declared.frame.Frame.TheVariants as f
 use Rattle.amqp_frame.specs.declared.frame.Read.{Read}
 use Rattle.amqp_frame.specs.declared.frame.Read.TheVariants as r
 use Rattle.amqp_frame.specs.declared.read.Shape.{Shape}
 use Rattle.amqp_frame.specs.declared.read.Shape.TheVariants.{More, TooLarge, BadHeartbeat, Bad, Heartbeat, Version, Content, Method}
-use Rattle.amqp_frame.specs.FrameReading.{method_payload}
-
--- the answer for a frame of a size, which is bad where its payload holds none
-abbrev pub payload_answer : ℕ → Option Frame → Read
-payload_answer size frame = option_map_or (λ frame. r.Whole frame (size + 8)) frame r.Bad
+use Rattle.amqp_frame.specs.FrameReading.{method_payload, payload_answer}
 
 -- the answer, once the payload is copied
 abbrev pub completed : {V : Type 0} → Shape V → Read
