@@ -44,7 +44,8 @@ use Rattle.amqp_session.specs.Handshake.{new_secret}
 use Rattle.amqp_session.specs.Violations.{channel_closed_with, misread_error, stray_channel_frame, stray_connection_method, unawaited}
 use Rattle.amqp_session.specs.ConnectionMethods.{connected, connection_rule, connection_closed, secret_taken, started, challenged}
 use Rattle.amqp_session.specs.ChannelMethods.{heard_on, unawaited_channel_method, channel_opened, channel_closed, channel_flowed, channel_close_by, awaits_close_ok, remove_unless_owed, on_channel_flow, channel_rule, channel_method_by, channel_method, confirmed, is_select_ok, frames_of, hand_out, raw_by}
-use Rattle.amqp_session.specs.Frames.{is_of_a_channel, method_rule, frame_rule, closed_rule, on_frame}
+use Rattle.amqp_frame.specs.Methods.{is_of_a_channel}
+use Rattle.amqp_session.specs.Frames.{method_rule, frame_rule, closed_rule, on_frame}
 use Rattle.amqp_session.specs.Publishing.{method_frame, publish_frames}
 use Rattle.amqp_session.specs.Commands.{open_drawn, close_target, drop_target, flow_target, queue_secret, update_secret, too_long, unless_too_long, queue_send, send_target, body_limit, queue_publish, publish_target, command, command_rule}
 use Rattle.amqp_session.specs.Ticks.{tick}

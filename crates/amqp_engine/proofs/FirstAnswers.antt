@@ -21,7 +21,8 @@ use Rattle.amqp_session.specs.Talk.{Talk, acts, hears_on}
 use Rattle.amqp_session.specs.Violations.{stray_channel_frame}
 use Rattle.amqp_session.specs.Changes.{misplaced, present_at}
 use Rattle.amqp_session.specs.ConnectionMethods.{on_start, on_secure, connection_rule}
-use Rattle.amqp_session.specs.Frames.{is_of_a_channel, method_questions, questions_in, frame_questions, frame_rule, closed_rule, on_frame}
+use Rattle.amqp_frame.specs.Methods.{is_of_a_channel}
+use Rattle.amqp_session.specs.Frames.{method_questions, questions_in, frame_questions, frame_rule, closed_rule, on_frame}
 use Rattle.amqp_session.specs.Ticks.{beat, asks_validity, has_expired, refresh, refresh_questions, validity_told, link_due, tick, tick_questions}
 use Rattle.amqp_engine.specs.declared.port.Step.{Step}
 use Rattle.amqp_engine.specs.declared.port.Step.TheVariants.{Tick}

@@ -41,7 +41,8 @@ use Rattle.amqp_session.specs.Handshake.{close_ok}
 use Rattle.amqp_session.specs.ConnectionMethods.{connection_rule, secret_taken, connection_closed, on_connection_close, on_blocked, on_unblocked}
 use Rattle.amqp_session.specs.ChannelMethods.{confirmed, is_select_ok, heard_on, channel_rule, channel_method_by, channel_method, raw_by, raw_frame, awaits_close_ok}
 use Rattle.amqp_session.specs.Violations.{channel_closed_with, stray_connection_method}
-use Rattle.amqp_session.specs.Frames.{is_of_a_channel, method_on, frame_rule, on_frame, questions_in, frame_questions, closed_rule}
+use Rattle.amqp_frame.specs.Methods.{is_of_a_channel}
+use Rattle.amqp_session.specs.Frames.{method_on, frame_rule, on_frame, questions_in, frame_questions, closed_rule}
 use Rattle.amqp_session.specs.Talk.{hears_on}
 use Rattle.amqp_session.specs.Writing.{then_of}
 use Rattle.amqp_faultless.specs.Faultless.{Use, unused, ServerStage, Server, used_as, provided, one_less, serves_on, serves}

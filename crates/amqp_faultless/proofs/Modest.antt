@@ -32,7 +32,8 @@ use Rattle.amqp_session.specs.Handshake.{start_ok, secure_ok, tune_ok, open_vhos
 use Rattle.amqp_session.specs.ConnectionMethods.{connected, reopen, reopen_each, connection_rule, connection_closed, secret_taken, on_start, on_secure, on_tune}
 use Rattle.amqp_session.specs.Channels.{channel_at}
 use Rattle.amqp_session.specs.ChannelMethods.{heard_on, unawaited_channel_method, channel_opened, channel_closed, channel_flowed, channel_close_by, awaits_close_ok, on_channel_flow, channel_rule, channel_method_by, channel_method, hand_out, confirmed, is_select_ok, raw_by}
-use Rattle.amqp_session.specs.Frames.{is_of_a_channel, method_rule, frame_rule, closed_rule, on_frame}
+use Rattle.amqp_frame.specs.Methods.{is_of_a_channel}
+use Rattle.amqp_session.specs.Frames.{method_rule, frame_rule, closed_rule, on_frame}
 use Rattle.amqp_session.specs.Negotiation.{tune, grown_capacity}
 use Rattle.amqp_faultless.specs.Faultless.{AreSayable}
 use Rattle.amqp_types.proofs.Small.{if_case}

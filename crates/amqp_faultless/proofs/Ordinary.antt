@@ -36,7 +36,8 @@ use Rattle.amqp_session.specs.Changes.{Promises, next_promise, replies_on, promi
 use Rattle.amqp_session.specs.ConnectionMethods.{secret_taken}
 use Rattle.amqp_session.specs.Channels.{channel_at}
 use Rattle.amqp_session.specs.ChannelMethods.{heard_on, unawaited_channel_method, channel_opened, channel_closed, channel_flowed, channel_close_by, awaits_close_ok, remove_unless_owed, on_channel_flow, channel_rule, channel_method_by, channel_method, hand_out, confirmed, is_select_ok, raw_by, raw_frame}
-use Rattle.amqp_session.specs.Frames.{is_of_a_channel, method_on}
+use Rattle.amqp_frame.specs.Methods.{is_of_a_channel}
+use Rattle.amqp_session.specs.Frames.{method_on}
 use Rattle.amqp_session.specs.Publishing.{method_frame, body_pieces, publish_frames}
 use Rattle.amqp_session.specs.Commands.{target, leave_channel, leave_connection, open_drawn, close_target, drop_target, flow_target, queue_secret, update_secret, too_long, unless_too_long, queue_send, send_target, body_limit, queue_publish, publish_target, command_rule}
 use Rattle.amqp_session.specs.Handshake.{new_secret, channel_open, channel_flow, our_channel_close}

@@ -14,7 +14,7 @@ use Rattle.amqp_frame.specs.declared.frame.Frame.TheVariants as f
 use Rattle.amqp_frame.specs.declared.frame.RawKind.{RawKind}
 use Rattle.amqp_frame.specs.declared.frame.RawKind.TheVariants.{RawMethod, Header, Body}
 use Rattle.amqp_frame.specs.declared.frame.Read.TheVariants.{Whole, More}
-use Rattle.amqp_frame.specs.Methods.{class_of, number_of, ArgumentsOf, MethodOf}
+use Rattle.amqp_frame.specs.Methods.{is_of_a_channel, class_of, number_of, ArgumentsOf, MethodOf}
 use Rattle.amqp_frame.specs.Frames.{spell_heartbeat, type_of, Framed, RawPayload, FrameOf}
 use Rattle.amqp_frame.specs.Fronts.{IsWithin}
 use Rattle.amqp_frame.specs.FrameReading.{exactly, method_content, method_payload, content, ended, sized, framed, version, header, front}
@@ -97,26 +97,11 @@ whole_again type limit channel payload text rest frame other f within holds =
 
 -- ---- what frames hold
 class_cases : (method : Method) → ((class_of method ≡ 10) ⊎ (class_of method ≡ 20))
-class_cases (m.Start a b p q l) = inl refl
-class_cases (m.StartOk p a b l) = inl refl
-class_cases (m.Secure c) = inl refl
-class_cases (m.SecureOk c) = inl refl
-class_cases (m.Tune a b c) = inl refl
-class_cases (m.TuneOk a b c) = inl refl
-class_cases (m.Open v) = inl refl
-class_cases m.OpenOk = inl refl
-class_cases (m.Close a b c d) = inl refl
-class_cases m.CloseOk = inl refl
-class_cases (m.Blocked r) = inl refl
-class_cases m.Unblocked = inl refl
-class_cases (m.UpdateSecret a b) = inl refl
-class_cases m.UpdateSecretOk = inl refl
-class_cases m.ChannelOpen = inr refl
-class_cases m.ChannelOpenOk = inr refl
-class_cases (m.ChannelFlow a) = inr refl
-class_cases (m.ChannelFlowOk a) = inr refl
-class_cases (m.ChannelClose a b c d) = inr refl
-class_cases m.ChannelCloseOk = inr refl
+class_cases method = by (is_of_a_channel method)
+  where
+    by : (t : Bool) → ((cond {A = ℕ} t 20 10 ≡ 10) ⊎ (cond {A = ℕ} t 20 10 ≡ 20))
+    by true = inr refl
+    by false = inl refl
 
 exactly_again :
     (method : Method) (channel : ℕ) (text : List ℕ) → ArgumentsOf method text →

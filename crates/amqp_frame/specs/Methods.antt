@@ -1,6 +1,6 @@
 -- How the methods of the connection class (10) and the channel class (20) are spelled (AMQP 0-9-1, 4.2.4 and the class
 -- reference).
-use Rattle.std.specs.Prelude.{◌≡◌, ℕ, ◌%◌, Bool, List, [], ◌∷◌, ◌++◌, ◌==◌, if◌then◌else◌, codes, Option, Some, None}
+use Rattle.std.specs.Prelude.{◌≡◌, ℕ, ◌%◌, Bool, true, false, List, [], ◌∷◌, ◌++◌, ◌==◌, if◌then◌else◌, codes, Option, Some, None}
 use Rattle.std.specs.Int.{w16, w32, to_be_bytes}
 use Rattle.amqp_types.specs.Forms.{Form, Nothing, ◌▸◌, OctetOf, NumberOf, ShortStringOf, LongStringOf, spell_short_string, spell_long_string}
 use Rattle.amqp_types.specs.Spelling.{SpellsTable, spell_table}
@@ -14,28 +14,19 @@ debug_of (SecureOk response) = Some (codes "SecureOk(..)")
 debug_of (UpdateSecret secret reason) = Some (codes "UpdateSecret(..)")
 debug_of _ = None
 
+-- the methods of the channel class; all others are of the connection class
+abbrev pub is_of_a_channel : Method → Bool
+is_of_a_channel ChannelOpen = true
+is_of_a_channel ChannelOpenOk = true
+is_of_a_channel (ChannelFlow active) = true
+is_of_a_channel (ChannelFlowOk active) = true
+is_of_a_channel (ChannelClose code text class method) = true
+is_of_a_channel ChannelCloseOk = true
+is_of_a_channel _ = false
+
 -- the number of a method's class
 abbrev pub class_of : Method → ℕ
-class_of (Start major minor properties mechanisms locales) = 10
-class_of (StartOk properties mechanism response locale) = 10
-class_of (Secure challenge) = 10
-class_of (SecureOk response) = 10
-class_of (Tune channel_max frame_max heartbeat) = 10
-class_of (TuneOk channel_max frame_max heartbeat) = 10
-class_of (Open vhost) = 10
-class_of OpenOk = 10
-class_of (Close code text class method) = 10
-class_of CloseOk = 10
-class_of (Blocked reason) = 10
-class_of Unblocked = 10
-class_of (UpdateSecret secret reason) = 10
-class_of UpdateSecretOk = 10
-class_of ChannelOpen = 20
-class_of ChannelOpenOk = 20
-class_of (ChannelFlow active) = 20
-class_of (ChannelFlowOk active) = 20
-class_of (ChannelClose code text class method) = 20
-class_of ChannelCloseOk = 20
+class_of m = if is_of_a_channel m then 20 else 10
 
 -- the number of a method in its class
 abbrev pub number_of : Method → ℕ

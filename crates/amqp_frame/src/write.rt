@@ -16,9 +16,13 @@ use crate::room::Room;
 use crate::write::methods::{arguments_len, put_arguments};
 use crate::write::values::{put_number16, put_octet};
 use amqp_types::ChannelId;
+pub use lengths::table_len;
+use thiserror::Error;
+pub use values::{put_long, put_short, put_table};
 
 /// There was too little space.
-#[derive(Clone, Copy, Debug, PartialEq, Eq)]
+#[derive(Clone, Copy, Debug, PartialEq, Eq, Error)]
+#[error("the room has too little space for the frame")]
 pub struct Full;
 
 /// The length of a frame's written spelling, or the greatest number where that is less.

@@ -60,7 +60,8 @@ use Rattle.amqp_session.specs.Recovery.{next_delay, reconnect}
 use Rattle.amqp_session.specs.ConnectionMethods.{connection_rule, on_connection_close, started, challenged, on_tune, connected, reopen_each, on_open_ok, on_connection_close_ok, connection_closed, secret_taken}
 use Rattle.amqp_session.specs.Channels.{made_closing, channel_at, set_channel}
 use Rattle.amqp_session.specs.ChannelMethods.{heard_on, unawaited_channel_method, channel_opened, remove_channel, remove_unless_owed, channel_closed, on_channel_flow, channel_flowed, awaits_close_ok, closed_by_server, crossing_close, channel_close_by, channel_rule, channel_method_by, channel_method, raw_by, pass_through, confirmed, hand_out, is_select_ok}
-use Rattle.amqp_session.specs.Frames.{is_of_a_channel, method_rule, frame_rule, closed_rule, on_frame}
+use Rattle.amqp_frame.specs.Methods.{is_of_a_channel}
+use Rattle.amqp_session.specs.Frames.{method_rule, frame_rule, closed_rule, on_frame}
 use Rattle.amqp_session.specs.Publishing.{method_frame, publish_frames}
 use Rattle.amqp_session.specs.Commands.{command, command_rule, open_drawn, open_as, named, named_in, is_opening, target, target_by, target_in, leave_channel, close_target, leave_connection, drop_target, flow_target, tell_flow, queue_secret, update_secret, too_long, unless_too_long, queue_send, send, send_target, body_limit, queue_publish, publish, publish_target}
 use Rattle.amqp_session.specs.Ticks.{is_missed, is_heartbeat_due, missing_heartbeat, beat, refreshed, refresh_reason, link_at, link_due, timed, tick}

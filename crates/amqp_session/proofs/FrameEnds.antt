@@ -30,7 +30,8 @@ use Rattle.amqp_session.specs.Violations.{channel_closed_with, misread_error, st
 use Rattle.amqp_session.specs.ConnectionMethods.{connected, connection_rule, connection_closed, secret_taken, on_start, on_secure, on_open_ok}
 use Rattle.amqp_session.specs.Channels.{channel_at}
 use Rattle.amqp_session.specs.ChannelMethods.{heard_on, unawaited_channel_method, channel_opened, channel_closed, channel_flowed, channel_close_by, awaits_close_ok, remove_unless_owed, on_channel_flow, channel_rule, channel_method_by, channel_method, hand_out, confirmed, is_select_ok, pass_through, raw_by}
-use Rattle.amqp_session.specs.Frames.{is_of_a_channel, method_questions, method_rule, frame_rule, closed_rule, on_frame}
+use Rattle.amqp_frame.specs.Methods.{is_of_a_channel}
+use Rattle.amqp_session.specs.Frames.{method_questions, method_rule, frame_rule, closed_rule, on_frame}
 use Rattle.amqp_session.specs.Causes.{IsFrameError, is_awaited, is_due, is_secret_told, refused_in}
 use Rattle.amqp_types.proofs.Small.{if_case, if_by}
 use Rattle.amqp_session.proofs.Recovering.{reopened-keeps}

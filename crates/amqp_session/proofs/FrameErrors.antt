@@ -29,7 +29,8 @@ use Rattle.amqp_session.specs.Violations.{stray_channel_frame, stray_connection_
 use Rattle.amqp_session.specs.ConnectionMethods.{connection_rule, secret_taken, on_start, on_secure}
 use Rattle.amqp_session.specs.Channels.{channel_at}
 use Rattle.amqp_session.specs.ChannelMethods.{heard_on, unawaited_channel_method, channel_opened, channel_closed, channel_flowed, channel_rule, channel_method_by, channel_method, raw_by, raw_frame}
-use Rattle.amqp_session.specs.Frames.{is_of_a_channel, method_questions, questions_in, frame_rule, closed_rule, on_frame}
+use Rattle.amqp_frame.specs.Methods.{is_of_a_channel}
+use Rattle.amqp_session.specs.Frames.{method_questions, questions_in, frame_rule, closed_rule, on_frame}
 use Rattle.amqp_session.specs.Causes.{IsFrameError, IsJudgedError, IsMisplaced, IsUnawaited, IsOfChannel, IsUndue, IsUnheard, IsInUse, is_awaited, is_due, is_secret_told, is_judged, refused_in}
 use Rattle.amqp_types.proofs.Small.{if_by, if-true, if-false, and-left, from-not-true}
 use Rattle.amqp_session.proofs.LostLinks.{open-goes_on, lose-ends}

@@ -18,7 +18,8 @@ use Rattle.amqp_session.specs.declared.state.Phase.TheVariants.{AwaitStart, Awai
 use Rattle.amqp_session.specs.Talk.{Talk, acts, hears_on}
 use Rattle.amqp_session.specs.Violations.{stray_channel_frame}
 use Rattle.amqp_session.specs.ConnectionMethods.{on_start, on_secure, connection_rule}
-use Rattle.amqp_session.specs.Frames.{is_of_a_channel, method_questions, questions_in, frame_questions, frame_rule, closed_rule, on_frame}
+use Rattle.amqp_frame.specs.Methods.{is_of_a_channel}
+use Rattle.amqp_session.specs.Frames.{method_questions, questions_in, frame_questions, frame_rule, closed_rule, on_frame}
 use Rattle.amqp_session.specs.Changes.{queue, lose, misplaced}
 use Rattle.amqp_session.specs.Providers.{Exchange, Allows}
 use Rattle.amqp_session.specs.Asking.{paired, Answer, Asks, Hears, Starves}

@@ -62,7 +62,8 @@ use Rattle.amqp_session.specs.ConnectionMethods.{connected, reopen, reopen_each,
 use Rattle.amqp_session.specs.Channels.{channel_at, set_channel, made_closing}
 use Rattle.amqp_session.specs.ChannelMethods.{heard_on, unawaited_channel_method, channel_opened, channel_closed, channel_flowed, channel_close_by, awaits_close_ok, remove_channel, remove_unless_owed, on_channel_flow, channel_rule, channel_method_by, channel_method, hand_out, confirmed, is_select_ok, pass_through, raw_by}
 use Rattle.amqp_session.specs.Publishing.{method_frame, publish_frames}
-use Rattle.amqp_session.specs.Frames.{is_of_a_channel, method_rule, frame_rule, closed_rule, on_frame}
+use Rattle.amqp_frame.specs.Methods.{is_of_a_channel}
+use Rattle.amqp_session.specs.Frames.{method_rule, frame_rule, closed_rule, on_frame}
 use Rattle.amqp_session.specs.Commands.{is_opening, named_in, named, target_in, target_by, target, open_drawn, leave_channel, leave_connection, close_target, drop_target, flow_target, queue_secret, update_secret, too_long, unless_too_long, queue_send, send_target, body_limit, queue_publish, publish_target, command, command_rule}
 use Rattle.amqp_session.specs.Writing.{committed_as, next_within, commit, overlong, end_overlong, next_frame, paid_by, pay, follow, sent, sent_among, taken}
 use Rattle.amqp_session.specs.Ticks.{is_missed, is_heartbeat_due, missing_heartbeat, beat, refreshed, refresh_reason, link_at, link_due, timed, tick}

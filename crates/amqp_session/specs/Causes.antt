@@ -21,7 +21,8 @@ use Rattle.amqp_session.specs.declared.auth.asked.Asked.{Asked}
 use Rattle.amqp_session.specs.declared.auth.asked.Asked.TheVariants as answer
 use Rattle.amqp_session.specs.Talk.{Talk, is_closing}
 use Rattle.amqp_session.specs.Channels.{channel_at}
-use Rattle.amqp_session.specs.Frames.{is_of_a_channel, questions_in}
+use Rattle.amqp_frame.specs.Methods.{is_of_a_channel}
+use Rattle.amqp_session.specs.Frames.{questions_in}
 use Rattle.amqp_session.specs.Violations.{stray_channel_frame, stray_connection_method, unawaited}
 
 -- ---- the connection

@@ -1,11 +1,12 @@
 -- Frames: which rule a frame that was read goes by.
-use Rattle.std.specs.Prelude.{ℕ, zero, suc, if◌then◌else◌, Bool, true, false, List, [], ◌∷◌}
+use Rattle.std.specs.Prelude.{ℕ, zero, suc, if◌then◌else◌, List, [], ◌∷◌}
 use Rattle.amqp_types.specs.declared.version.ProtocolVersion.{ProtocolVersion}
 use Rattle.amqp_frame.specs.declared.frame.Frame.{Frame}
 use Rattle.amqp_frame.specs.declared.frame.Frame.TheVariants.{ProtocolHeader, Method, Raw, Heartbeat}
 use Rattle.amqp_frame.specs.declared.frame.RawKind.TheVariants.{RawMethod}
 use Rattle.amqp_frame.specs.declared.method.Method.{Method as AnyMethod}
-use Rattle.amqp_frame.specs.declared.method.Method.TheVariants.{Start, Secure, Blocked, Unblocked, ChannelOpen, ChannelOpenOk, ChannelFlow, ChannelFlowOk, ChannelClose, ChannelCloseOk}
+use Rattle.amqp_frame.specs.declared.method.Method.TheVariants.{Start, Secure, Blocked, Unblocked}
+use Rattle.amqp_frame.specs.Methods.{is_of_a_channel}
 use Rattle.amqp_promise.specs.declared.error.ErrorKind.TheVariants.{InvalidProtocolVersion}
 use Rattle.amqp_promise.specs.declared.state.ConnectionState.{ConnectionState}
 use Rattle.amqp_promise.specs.declared.state.ConnectionState.TheVariants.{Connecting}
@@ -19,18 +20,6 @@ use Rattle.amqp_session.specs.Violations.{stray_connection_method, stray_channel
 use Rattle.amqp_session.specs.Changes.{lose, misplaced}
 use Rattle.amqp_session.specs.ConnectionMethods.{on_blocked, on_unblocked, connection_rule}
 use Rattle.amqp_session.specs.ChannelMethods.{channel_method, raw_frame}
-
--- ---- the kinds of methods
-
--- the methods of the channel class; all others are of the connection class
-abbrev pub is_of_a_channel : AnyMethod → Bool
-is_of_a_channel ChannelOpen = true
-is_of_a_channel ChannelOpenOk = true
-is_of_a_channel (ChannelFlow active) = true
-is_of_a_channel (ChannelFlowOk active) = true
-is_of_a_channel (ChannelClose code text class method) = true
-is_of_a_channel ChannelCloseOk = true
-is_of_a_channel _ = false
 
 -- ---- the table
 

@@ -1,8 +1,11 @@
 //! Frames that are written into a room.
 
-use crate::support::octets;
-use amqp_frame::{FixedRoom, Frame, Method, RawMethod, Room, encoded_len, write_frame};
-use amqp_types::NoMemory;
+use crate::support::{octets, short};
+use amqp_frame::{
+    FixedRoom, Frame, Full, Method, RawMethod, Room, encoded_len, put_long, put_short, put_table,
+    table_len, write_frame,
+};
+use amqp_types::{AMQPValue, FieldTable, NoMemory, TypeFault};
 use amqp_vectors::{CHANNEL_OPEN_1, octets as said};
 use std::alloc::Global;
 
@@ -43,6 +46,63 @@ fn a_frame_is_written_whole_or_not_at_all(rt: HostRuntime) -> Result<(), NoMemor
 fn a_frame_fills_a_room_of_its_length(rt: HostRuntime) -> Result<(), NoMemory> {
     let mut room = FixedRoom::new(rt.alloc(), 13)?;
     assert!(rt; puts_open(&mut room) == Some(true) && is_room(&room, said::CHANNEL_OPEN_1, 0));
+    Ok(())
+}
+
+#[test]
+fn a_room_that_is_full_says_so(rt: HostRuntime) -> Result<(), NoMemory> {
+    let text = format!(in rt.alloc(); "{}", Full)?;
+    assert!(rt; text.as_str() == "the room has too little space for the frame");
+    Ok(())
+}
+
+// ---- arguments of methods that are passed through
+
+#[test]
+fn a_short_string_is_put(rt: HostRuntime) -> Result<(), NoMemory> {
+    let mut room = FixedRoom::new(rt.alloc(), 8)?;
+    put_short(b"jobs", &mut room);
+    assert!(rt; is_room(&room, b"\x04jobs", 3));
+    Ok(())
+}
+
+#[test]
+fn a_long_string_is_put(rt: HostRuntime) -> Result<(), NoMemory> {
+    let mut room = FixedRoom::new(rt.alloc(), 12)?;
+    put_long(b"PLAIN", &mut room);
+    assert!(rt; is_room(&room, b"\x00\x00\x00\x05PLAIN", 3));
+    Ok(())
+}
+
+// The arguments of a queue that holds a thousand messages at most.
+fn thousand_at_most(alloc: Global) -> Result<FieldTable, TypeFault> {
+    let name = short(alloc, "x-max-length")?;
+    let mut table = FieldTable::new(alloc);
+    table.insert(name, AMQPValue::LongInt(1000))?;
+    Ok(table)
+}
+
+// Puts a table into a room where it has the space. Whether it did.
+fn puts_table(table: &FieldTable, room: &mut FixedRoom) -> bool {
+    let length = table_len(table);
+    if length > 4_294_967_295 || length > room.space() as u64 {
+        return false;
+    }
+    put_table(table, room);
+    true
+}
+
+/// The table of `x-max-length` and 1000, without a tag.
+const THOUSAND_AT_MOST: &[u8] = b"\x00\x00\x00\x12\x0cx-max-lengthI\x00\x00\x03\xe8";
+
+#[test]
+fn a_table_takes_the_space_that_is_told(rt: HostRuntime) -> Result<(), TypeFault> {
+    let mut room = FixedRoom::new(rt.alloc(), 23)?;
+    let table = thousand_at_most(rt.alloc())?;
+    let once = puts_table(&table, &mut room);
+    let twice = puts_table(&table, &mut room);
+    drop(table);
+    assert!(rt; once && !twice && is_room(&room, THOUSAND_AT_MOST, 1));
     Ok(())
 }
 

@@ -1,7 +1,7 @@
 //! How long the written values are.
 
 ghost use Rattle.std.specs.Prelude.{◌≡◌, ◌+◌, length};
-ghost use Rattle.amqp_types.specs.Spelling.{spell};
+ghost use Rattle.amqp_types.specs.Spelling.{spell, spell_table};
 ghost use Rattle.amqp_types.specs.View.{value_of};
 ghost use Rattle.amqp_frame.specs.Lengths.{capped, spell_list, spell_pair_list};
 
@@ -64,4 +64,13 @@ pub fn pairs_len(table: &FieldTable) -> u64
             .saturating_add(value_len(&entry.value));
     }
     total
+}
+
+/// How many octets a field table takes without a tag, as `put_table` puts it, or the greatest number where
+/// that is less.
+#[tactic(auto, using(crate::proofs::Texts::method_lengths))]
+pub fn table_len(table: &FieldTable) -> u64
+    ensures { result ≡ capped (length (spell_table table.now)) }
+{
+    pairs_len(table).saturating_add(4)
 }

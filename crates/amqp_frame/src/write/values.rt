@@ -38,7 +38,14 @@ pub fn put_number32<R: Room>(number: u32, room: &mut R)
     room.put(&number.to_be_bytes());
 }
 
-/// An octet of length, and the octets.
+/// Puts a short string into a room: an octet of length, and the content, of at most 255 octets. It takes
+/// an octet of space more than the content has, which the room must have, and it cannot fail.
+///
+/// With `put_long`, `put_table` and the room's own `put` this spells what is passed through: the arguments
+/// of a method of another class, and the properties of a content header. Those of queue.declare are two
+/// octets 0, the queue's name by `put_short`, an octet of bits (1 is passive, 2 durable, 4 exclusive,
+/// 8 auto-delete and 16 no-wait), and the arguments by `put_table`. A content-type among the properties
+/// of basic is put by `put_short`, and the headers by `put_table`.
 pub fn put_short<R: Room>(content: &[u8], room: &mut R)
     requires short { length content.now < 256 }
     requires fits { length content.now + 1 ≤ R.free room.old }
@@ -49,7 +56,9 @@ pub fn put_short<R: Room>(content: &[u8], room: &mut R)
     room.put(content);
 }
 
-/// Four octets of length, and the octets.
+/// Puts a long string into a room: four octets of length, the highest first, and the content, of less than
+/// 2 ^ 32 octets. It takes four octets of space more than the content has, which the room must have, and it
+/// cannot fail. An example is the response to a challenge.
 pub fn put_long<R: Room>(content: &[u8], room: &mut R)
     requires long { length content.now < 2 ^ 32 }
     requires fits { length content.now + 4 ≤ R.free room.old }
@@ -176,13 +185,17 @@ fn put_array<R: Room>(values: &Values, room: &mut R)
     }
 }
 
-/// A table without a tag.
+/// Puts a field table without a tag into a room: four octets of length, and the pairs, in the order of
+/// their names' octets. It takes `table_len` octets of space, which the room must have and which must be
+/// less than 2 ^ 32, and it cannot fail. The arguments of queue.declare are such a table, as with a number
+/// under the name `x-max-length`.
 #[cycle(put)]
+#[tactic(auto, using(crate::proofs::Texts::method_lengths))]
 pub fn put_table<R: Room>(table: &FieldTable, room: &mut R)
-    requires small { length (spell_pair_list table.now) + 4 < 2 ^ 32 }
-    requires fits { length (spell_pair_list table.now) + 4 ≤ R.free room.old }
-    ensures bytes { R.put_so_far room.new ≡ R.put_so_far room.old ++ spell_long_string (spell_pair_list table.now) }
-    ensures space { R.free room.new + (length (spell_pair_list table.now) + 4) ≡ R.free room.old }
+    requires small { length (spell_table table.now) < 2 ^ 32 }
+    requires fits { length (spell_table table.now) ≤ R.free room.old }
+    ensures bytes { R.put_so_far room.new ≡ R.put_so_far room.old ++ spell_table table.now }
+    ensures space { R.free room.new + length (spell_table table.now) ≡ R.free room.old }
 {
     room.put(&(pairs_len(table) as u32).to_be_bytes());
     for entry in table.entries() {

@@ -1,5 +1,5 @@
-use Rattle.std.proofs.Common.{◌≡◌, ℕ, List, refl, sym, subst, ◌∙◌}
-use Rattle.amqp_frame.specs.FrameReading.{expect, version, header, Yields}
+use Rattle.std.proofs.Common.{◌≡◌, ℕ, List, refl, ◌∙◌}
+use Rattle.amqp_frame.specs.FrameReading.{expect, version, header}
 use Rattle.amqp_frame.proofs.read.header.Goals as goal
 
 header_is : (bytes : List ℕ) → header bytes ≡ expect 77 (expect 81 (expect 80 version)) bytes
@@ -8,8 +8,7 @@ header_is bytes = refl
 
 pub returns-in-Ok-clause-answer : goal.returns-in-Ok-clause-answer
 returns-in-Ok-clause-answer g c =
-    subst (Yields c.version.result) (sym (header_is c.args.cursor.now ∙ c.in-Ok.ensures version))
-    c.version.ensures.answer
+    header_is c.args.cursor.now ∙ c.in-Ok.ensures version ∙ c.version.ensures.answer
 
 pub returns-in-Err-Short-clause-answer : goal.returns-in-Err-Short-clause-answer
 returns-in-Err-Short-clause-answer g c =

@@ -5,7 +5,7 @@ use Rattle.amqp_types.specs.Spelling.{spell}
 use Rattle.amqp_types.specs.TableSize.{value_size, values_size, pairs_size}
 use Rattle.amqp_frame.specs.Lengths.{spell_list, spell_pair_list, spell_pair}
 use Rattle.amqp_types.proofs.Sameness.{value_in, pair_in}
-use Rattle.amqp_frame.proofs.Texts.{length-array, length-table, next_value, next_pair, tagged_text}
+use Rattle.amqp_frame.proofs.Texts.{length-array, length-table, length-spell_table, next_value, next_pair, tagged_text}
 use Rattle.amqp_frame.proofs.write.values.+put.Goals as goal
 
 pub put_value-returns-in-FieldArray-clause-bytes : goal.put_value-returns-in-FieldArray-clause-bytes
@@ -33,6 +33,7 @@ put_value-returns-in-FieldTable-clause-space g t c =
     (omega (
       arith,
       length-table c.in-FieldTable.table,
+      length-spell_table c.in-FieldTable.table,
       c.put_octet-in-FieldTable.ensures.space,
       c.put_table.ensures.space,
     ))
@@ -52,6 +53,7 @@ pub put_value-put_table-requires : goal.put_value-put_table-requires
 put_value-put_table-requires g t c κs within =
     let len : length (spell (value_of c.args.value.now)) ≡ length (spell_pair_list c.in-FieldTable.table) + 5 =
     rw c.in-FieldTable.is (length-table c.in-FieldTable.table) in
+    let text = length-spell_table c.in-FieldTable.table in
     let size : value_size (value_of c.args.value.now) ≡ pairs_size c.in-FieldTable.table + 1 =
     rw c.in-FieldTable.is (omega arith) in
     let smaller : 3 * pairs_size c.in-FieldTable.table + 2 < t = omega (arith, size, c.decreases) in (
@@ -59,8 +61,8 @@ put_value-put_table-requires g t c κs within =
       (
         within,
         (
-          omega (arith, len, c.requires.small),
-          omega (arith, len, c.requires.fits, c.put_octet-in-FieldTable.ensures.space),
+          omega (arith, len, text, c.requires.small),
+          omega (arith, len, text, c.requires.fits, c.put_octet-in-FieldTable.ensures.space),
         ),
       ),
     )
