@@ -6,7 +6,7 @@ use Rattle.std.specs.Map.{keys_of, set_value}
 use Rattle.std.specs.BTreeMap.{is_at}
 use Rattle.amqp_outbox.specs.declared.reply.Awaited.{Awaited}
 use Rattle.amqp_outbox.specs.declared.reply.Reply.{Reply}
-use Rattle.amqp_outbox.specs.declared.awaiting.Replies.{Replies}
+use Rattle.amqp_outbox.specs.declared.replies.Replies.{Replies}
 use Rattle.amqp_outbox.specs.Listed.{at, put}
 use Rattle.amqp_outbox.specs.Replies.{awaited_on, left_on, expected}
 use Rattle.amqp_outbox.specs.Order.{seen, seen_at, waiting}
@@ -24,7 +24,7 @@ some-appended (b ∷ list) a = refl
 
 -- the replies of a channel, in order
 abbrev items : Replies → List Awaited
-items r = waiting r.lane.slots.entries
+items r = r.list.items
 
 module _ (n : ℕ) (es : List (ℕ × Replies)) (sorted : Sorted (keys_of es)) (r : Replies) (there : at n es ≡ Some r) where
   -- what is awaited on a channel that has a list

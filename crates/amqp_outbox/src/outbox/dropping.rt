@@ -53,7 +53,10 @@ impl Outbox {
             → HasControlPlaces k n octets self.new }
         ensures awaiting { self.new.awaiting ≡ self.old.awaiting }
     {
-        let group = self.publish.take(channel)?;
+        let Some(group) = self.publish.take(channel) else {
+            self.publish.tidy(channel);
+            return None;
+        };
         self.tally.take_group(&group);
         Some(group.promise())
     }
@@ -67,7 +70,7 @@ impl Outbox {
     {
         let item = self.control.take(channel)?;
         self.tally.take(&item);
-        Some(item.promise)
+        Some(item.promise())
     }
 
     /// Takes out the first reply that is awaited on a channel, and gives its promise. `None` where none
