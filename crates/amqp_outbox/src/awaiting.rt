@@ -160,6 +160,8 @@ impl Awaiting {
     pub fn try_clone(&self, alloc: Global) -> Result<Awaiting, NoMemory>
         ensures { IfOk result (λ a. seen list_seen a.lists.entries ≡ seen list_seen self.now.lists.entries) }
     {
+        // Its clause tells that the numbers ascend.
+        let _ = self.lists.len();
         let mut copy = Awaiting::new(alloc);
         for (channel, list) in &self.lists {
             copy.add_copy(*channel, list)?;

@@ -27,7 +27,7 @@ pub struct Replies {
 impl Replies {
     /// None, with a place for one.
     pub fn with_place(alloc: Global) -> Result<Replies, NoMemory>
-        ensures { IfOk result (λ r. (r.list.items ≡ []) × (0 < deque_capacity r.list)) }
+        ensures { IfOk result (λ r. (r.list.items ≡ []) × (length r.list.items < deque_capacity r.list)) }
     {
         Ok(Replies {
             list: VecDeque::with_capacity(alloc, 1)?,
@@ -38,7 +38,7 @@ impl Replies {
     /// Makes a place for one more.
     pub fn reserve(&mut self) -> Result<(), NoMemory>
         ensures items { self.new.list.items ≡ self.old.list.items }
-        ensures place { OnOk result (length self.old.list.items < deque_capacity self.new.list) }
+        ensures place { OnOk result (length self.new.list.items < deque_capacity self.new.list) }
     {
         self.list.reserve(1)?;
         Ok(())

@@ -53,12 +53,17 @@ impl Outbox {
             → HasControlPlaces k n octets self.new }
         ensures awaiting { self.new.awaiting ≡ self.old.awaiting }
     {
-        let Some(group) = self.publish.take(channel) else {
-            self.publish.tidy(channel);
-            return None;
-        };
-        self.tally.take_group(&group);
-        Some(group.promise())
+        match self.publish.take(channel) {
+            Some(group) => {
+                self.tally.take_group(&group);
+                Some(group.promise())
+            }
+            None => {
+                // No publish tidies here, as these numbers can lie idle for as long as the link lasts.
+                self.publish.tidy(channel);
+                None
+            }
+        }
     }
 
     fn drop_frame(&mut self, channel: ChannelId) -> Option<Option<u64>>
