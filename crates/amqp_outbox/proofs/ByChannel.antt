@@ -1,18 +1,22 @@
 -- The replies that are awaited, by channel, as they are seen.
-use Rattle.std.proofs.Common.{◌≡◌, ◌∙◌, ap, sym, refl, ℕ, List, [], ◌∷◌, ◌++◌, Some, None}
+use Rattle.std.proofs.Common.{◌≡◌, ◌∙◌, ap, sym, subst, refl, ℕ, ◌==◌, false, List, [], ◌∷◌, ◌++◌, Option, Some, None, append_assoc, length}
+use Rattle.std.specs.List.{AllByRecursion}
+use Rattle.std.specs.declared.cmp.Ordering.TheVariants.{Less, Greater}
 use Rattle.std.specs.Prelude.{unwrap_or}
-use Rattle.std.specs.Ordering.{nat_cmp}
+use Rattle.std.specs.Ordering.{nat_cmp, match_ordering}
+use Rattle.std.proofs.lemmas.Map.Keys.{sorted_head, sorted_tail}
 use Rattle.std.specs.Map.{keys_of, set_value}
 use Rattle.std.specs.BTreeMap.{is_at}
 use Rattle.amqp_outbox.specs.declared.reply.Awaited.{Awaited}
 use Rattle.amqp_outbox.specs.declared.reply.Reply.{Reply}
-use Rattle.amqp_outbox.specs.declared.awaiting.Replies.{Replies}
+use Rattle.amqp_outbox.specs.declared.replies.Replies.{Replies}
 use Rattle.amqp_outbox.specs.Listed.{at, put}
 use Rattle.amqp_outbox.specs.Replies.{awaited_on, left_on, expected}
-use Rattle.amqp_outbox.specs.Order.{seen, seen_at, waiting}
+use Rattle.amqp_outbox.specs.Order.{seen, seen_at, seen_first, put_seen}
 use Rattle.amqp_outbox.specs.Parts.{some_awaited, list_seen, HasReplyPlaces}
+use Rattle.amqp_outbox.proofs.Cases.{less-from, to-greater}
 use Rattle.amqp_outbox.proofs.Maps.{without-absent}
-use Rattle.amqp_outbox.proofs.Seen.{Sorted, at-seen, set-alike, set-seen, set-unseen}
+use Rattle.amqp_outbox.proofs.Seen.{Sorted, at-seen, put-seen, set-alike, set-seen, set-unseen}
 
 shown : (list : List Awaited) → unwrap_or (some_awaited list) [] ≡ list
 shown [] = refl
@@ -24,7 +28,7 @@ some-appended (b ∷ list) a = refl
 
 -- the replies of a channel, in order
 abbrev items : Replies → List Awaited
-items r = waiting r.lane.slots.entries
+items r = r.list.items
 
 module _ (n : ℕ) (es : List (ℕ × Replies)) (sorted : Sorted (keys_of es)) (r : Replies) (there : at n es ≡ Some r) where
   -- what is awaited on a channel that has a list
@@ -75,3 +79,36 @@ empty-seen n es r there empty = ap (seen_at list_seen) there ∙ ap some_awaited
 -- what a channel has stays, and so does its place for a reply
 pub place-stays : (c : ℕ) (reply : Reply) (es es' : List (ℕ × Replies)) → at c es' ≡ at c es → HasReplyPlaces c reply es → HasReplyPlaces c reply es'
 place-stays c reply es es' same (r, there, place) = (r, same ∙ there, place)
+
+-- ---- a copy
+
+-- a list that is copied is seen as it was
+pub copy-seen : (n : ℕ) (es : List (ℕ × Replies)) (r r' : Replies) → Sorted (keys_of es) → (length (items r) == 0) ≡ false → items r' ≡ items r
+    → seen list_seen (put n r' es) ≡ put_seen n (list_seen r) (seen list_seen es)
+copy-seen n es r r' sorted some same = by (items r) refl some where
+  by : (list : List Awaited) → items r ≡ list → (length list == 0) ≡ false → seen list_seen (put n r' es) ≡ put_seen n (list_seen r) (seen list_seen es)
+  by [] is some = absurd cc
+  by (a ∷ list) is some =
+      put-seen list_seen n r' (a ∷ list) es (ap some_awaited (same ∙ is)) sorted
+      ∙ ap (λ o. put_seen n o (seen list_seen es)) (sym (ap some_awaited is))
+
+module _ {X : Type 0} (n : ℕ) (x : X) (rest : List (ℕ × X)) where
+  above-last : (m : ℕ) (xs : List (ℕ × X)) → AllByRecursion (λ k. nat_cmp m k ≡ Less) (keys_of (xs ++ (n, x) ∷ rest)) → nat_cmp m n ≡ Less
+  above-last m [] above = above.0
+  above-last m (e ∷ es) above = above-last m es above.1
+
+  -- what is put behind all others goes last
+  put-last : (xs : List (ℕ × X)) → Sorted (keys_of (xs ++ (n, x) ∷ rest)) → put n x xs ≡ xs ++ (n, x) ∷ []
+  put-last [] sorted = refl
+  put-last (e ∷ es) sorted =
+      let keys = keys_of (es ++ (n, x) ∷ rest) in
+      let past : nat_cmp n e.0 ≡ Greater = to-greater n e.0 (less-from e.0 n (above-last e.0 es (sorted_head nat_cmp e.0 keys sorted))) in
+      ap (λ r. match_ordering r ((n, x) ∷ e ∷ es) ((e.0, x) ∷ es) (e ∷ put n x es)) past
+      ∙ ap (λ l. e ∷ l) (put-last es (sorted_tail nat_cmp e.0 keys sorted))
+
+-- one more was copied
+pub one-copied : {X : Type 0} (n : ℕ) (o : Option X) (done rest whole : List (ℕ × X)) → Sorted (keys_of whole) → done ++ seen_first n o rest ≡ whole
+    → put_seen n o done ++ rest ≡ whole
+one-copied n None done rest whole sorted is = is
+one-copied n (Some x) done rest whole sorted is =
+    ap (λ l. l ++ rest) (put-last n x rest done (subst (λ l. Sorted (keys_of l)) (sym is) sorted)) ∙ append_assoc done ((n, x) ∷ []) rest ∙ is

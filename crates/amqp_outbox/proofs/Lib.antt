@@ -4,6 +4,7 @@ pub mod Seen
 pub mod Listing
 pub mod Lanes
 pub mod Taking
+pub mod FirstOfKind
 pub mod Sound
 pub mod Places
 pub mod ByChannel

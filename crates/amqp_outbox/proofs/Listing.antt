@@ -68,9 +68,9 @@ none-to-drop key k es none = by (key == k) refl where
       empty ∙ sym (ap (λ l. drop 1 l) empty)
   by false is = refl
 
-pub empty-list : (list : List ℕ) → (length list == 0) ≡ true → list ≡ []
+pub empty-list : {X : Type 0} (list : List X) → (length list == 0) ≡ true → list ≡ []
 empty-list [] h = refl
-empty-list (n ∷ ns) h = let none : length (n ∷ ns) ≡ 0 = same-from (length (n ∷ ns)) 0 h in absurd (omega arith)
+empty-list (x ∷ xs) h = let none : length (x ∷ xs) ≡ 0 = same-from (length (x ∷ xs)) 0 h in absurd (omega arith)
 
 -- what loses its first is no longer
 pub shorter : (xs ys : List ℕ) → ys ≡ drop 1 xs → length ys ≤ length xs

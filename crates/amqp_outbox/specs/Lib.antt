@@ -1,5 +1,6 @@
 -- What waits, and what is awaited.
 pub mod Lists
+pub mod QueuedFrame
 pub mod Items
 pub mod Listed
 pub mod Replies
@@ -7,4 +8,5 @@ pub mod Replies
 pub mod Queued
 -- What the contracts of private calls are stated with.
 pub mod Order
+pub mod Kinds
 pub mod Parts

@@ -4,7 +4,7 @@ use Rattle.std.specs.List.{AllByRecursion}
 use Rattle.std.specs.Map.{values_of}
 use Rattle.std.specs.VecDeque.{deque_capacity}
 use Rattle.amqp_outbox.specs.declared.numbers.Queue.{Queue}
-use Rattle.amqp_outbox.specs.Listed.{at}
+use Rattle.amqp_outbox.specs.Listed.{at, put}
 use Rattle.amqp_outbox.specs.Lists.{is_number}
 
 -- one more entry, where there is a value
@@ -21,6 +21,11 @@ seen f (e ∷ es) = seen_first e.0 (f e.1) (seen f es)
 abbrev pub seen_at : {X Y : Type 0} → (Y → Option X) → Option Y → Option X
 seen_at f None = None
 seen_at f (Some y) = f y
+
+-- a map with what is seen of a value at a number, where something is
+abbrev pub put_seen : {X : Type 0} → ℕ → Option X → List (ℕ × X) → List (ℕ × X)
+put_seen n None entries = entries
+put_seen n (Some x) entries = put n x entries
 
 -- ---- what waits
 

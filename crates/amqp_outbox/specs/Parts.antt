@@ -1,12 +1,12 @@
 -- The outbox as the code keeps it, and how it is seen.
 use Rattle.std.specs.Prelude.{◌≡◌, ℕ, ◌+◌, ◌<◌, ◌^◌, List, [], ◌∷◌, length, Option, Some, None}
+use Rattle.std.specs.VecDeque.{deque_capacity}
 use Rattle.amqp_outbox.specs.declared.item.Item.{Item}
 use Rattle.amqp_outbox.specs.declared.reply.Awaited.{Awaited}
 use Rattle.amqp_outbox.specs.declared.reply.Reply.{Reply}
-use Rattle.amqp_outbox.specs.declared.awaiting.Replies.{Replies}
+use Rattle.amqp_outbox.specs.declared.replies.Replies.{Replies}
 use Rattle.amqp_outbox.specs.declared.outbox.Outbox.{Outbox}
 use Rattle.amqp_outbox.specs.Listed.{at}
-use Rattle.amqp_outbox.specs.Replies.{method_of}
 use Rattle.amqp_outbox.specs.Items.{octets_of, channel_of}
 use Rattle.amqp_outbox.specs.Queued.{Queued, waiting_items, unsent_octets}
 use Rattle.amqp_outbox.specs.Order.{seen, waiting, HasPlaces}
@@ -18,15 +18,15 @@ some_awaited (a ∷ list) = Some (a ∷ list)
 
 -- what is awaited on a channel as it is seen: no reply is none
 abbrev pub list_seen : Replies → Option (List Awaited)
-list_seen r = some_awaited (waiting r.lane.slots.entries)
+list_seen r = some_awaited r.list.items
 
--- there is a place for this reply among those of a channel
-abbrev pub HasPlaceFor : Reply → Replies → Type 0
-HasPlaceFor reply r = HasPlaces (Some (method_of reply)) 1 r.lane.made r.lane.slots.entries r.lane.numbers.lists.entries
+-- there is a place for one more among those of a channel
+abbrev pub HasPlace : Replies → Type 0
+HasPlace r = length r.list.items < deque_capacity r.list
 
--- a channel has a place for this reply
+-- a channel has a place for this reply, as it has for any
 abbrev pub HasReplyPlaces : ℕ → Reply → List (ℕ × Replies) → Type 0
-HasReplyPlaces channel reply lists = (r : Replies) × (at channel lists ≡ Some r) × HasPlaceFor reply r
+HasReplyPlaces channel reply lists = (r : Replies) × (at channel lists ≡ Some r) × HasPlace r
 
 -- ---- the outbox
 

@@ -14,10 +14,6 @@ method_of FlowDone = 21
 method_of SecretDone = 71
 method_of ConnectionClosed = 51
 
--- what is awaited is found by its method
-abbrev pub key_of : Awaited → Option ℕ
-key_of a = Some (method_of a.reply)
-
 -- what awaits this reply
 abbrev pub is_of : Reply → Awaited → Bool
 is_of reply a = method_of a.reply == method_of reply

@@ -1,82 +1,17 @@
 //! The replies that are awaited, by channel.
 
-ghost use Rattle.std.specs.Prelude.{◌≡◌, ◌≢◌, ℕ, ◌++◌, ◌∷◌, [], IfOk, IfSome, IfNone, OnOk, IsTrue, None, drop, find, is_some, length};
+ghost use Rattle.std.specs.Prelude.{◌≡◌, ◌≢◌, ℕ, [], IfOk, IfNone, OnOk, IsTrue, None, is_some, length};
 ghost use Rattle.amqp_outbox.specs.declared.reply.Reply.{Reply};
-ghost use Rattle.amqp_outbox.specs.Lists.{head, without_first};
 ghost use Rattle.amqp_outbox.specs.Listed.{at, Ascends};
-ghost use Rattle.amqp_outbox.specs.Replies.{is_of, method_of, expected, first_awaited, answered, first_on, without_first_on};
-ghost use Rattle.amqp_outbox.specs.Order.{seen, seen_at, waiting};
-ghost use Rattle.amqp_outbox.specs.Parts.{list_seen, HasReplyPlaces, HasPlaceFor};
+ghost use Rattle.amqp_outbox.specs.Replies.{expected, first_awaited, answered, first_on, without_first_on};
+ghost use Rattle.amqp_outbox.specs.Order.{seen, seen_at, put_seen};
+ghost use Rattle.amqp_outbox.specs.Parts.{list_seen, HasReplyPlaces};
 
-use crate::lane::Lane;
+use crate::replies::Replies;
 use crate::reply::{Awaited, Reply};
 use amqp_types::{ChannelId, NoMemory};
 use std::alloc::Global;
 use std::collections::BTreeMap;
-
-/// The replies that are awaited on one channel, in order.
-#[derive(Debug, Drop)]
-pub struct Replies {
-    lane: Lane<Awaited>,
-}
-
-impl Replies {
-    // None, with a place for one.
-    fn with_place(alloc: Global, reply: Reply) -> Result<Replies, NoMemory>
-        ensures { IfOk result (λ r. (waiting r.lane.slots.entries ≡ []) × HasPlaceFor reply r) }
-    {
-        let mut replies = Replies {
-            lane: Lane::new(alloc),
-        };
-        replies.reserve(reply)?;
-        Ok(replies)
-    }
-
-    // Makes a place for one more.
-    fn reserve(&mut self, reply: Reply) -> Result<(), NoMemory>
-        ensures items { waiting self.new.lane.slots.entries ≡ waiting self.old.lane.slots.entries }
-        ensures place { OnOk result (HasPlaceFor reply self.new) }
-    {
-        self.lane.reserve(Some(reply.method()), 1)
-    }
-
-    fn push_reserved(&mut self, awaited: Awaited)
-        requires { HasPlaceFor awaited.reply self.old }
-        ensures { waiting self.new.lane.slots.entries ≡ waiting self.old.lane.slots.entries ++ awaited ∷ [] }
-    {
-        self.lane.push_reserved(awaited);
-    }
-
-    fn is_empty(&self) -> bool
-        ensures { IsTrue result → waiting self.now.lane.slots.entries ≡ [] }
-    {
-        self.lane.front().is_none()
-    }
-
-    // Whether one awaits this reply.
-    fn awaits(&self, reply: Reply) -> bool
-        ensures { result ≡ is_some (find (is_of reply) (waiting self.now.lane.slots.entries)) }
-    {
-        self.lane.has(reply.method())
-    }
-
-    // Takes out the first that awaits this reply.
-    fn take(&mut self, reply: Reply) -> Option<Awaited>
-        ensures first { result ≡ find (is_of reply) (waiting self.old.lane.slots.entries) }
-        ensures rest { waiting self.new.lane.slots.entries
-            ≡ without_first (is_of reply) (waiting self.old.lane.slots.entries) }
-    {
-        self.lane.take(reply.method())
-    }
-
-    // Takes out the first.
-    fn next(&mut self) -> Option<Awaited>
-        ensures first { result ≡ head (waiting self.old.lane.slots.entries) }
-        ensures rest { waiting self.new.lane.slots.entries ≡ drop 1 (waiting self.old.lane.slots.entries) }
-    {
-        self.lane.next()
-    }
-}
 
 /// The replies that are awaited, by channel.
 #[derive(Debug, Drop)]
@@ -104,9 +39,9 @@ impl Awaiting {
             → HasReplyPlaces c r self.old.lists.entries → HasReplyPlaces c r self.new.lists.entries }
     {
         match self.lists.get_mut(&channel) {
-            Some(list) => list.reserve(reply),
+            Some(list) => list.reserve(),
             None => {
-                let list = Replies::with_place(self.alloc, reply)?;
+                let list = Replies::with_place(self.alloc)?;
                 drop(self.lists.insert(channel, list)?);
                 Ok(())
             }
@@ -219,5 +154,31 @@ impl Awaiting {
         ensures { seen list_seen self.new.lists.entries ≡ [] }
     {
         self.lists.clear();
+    }
+
+    /// The same replies on each channel. Places that were made are not copied.
+    pub fn try_clone(&self, alloc: Global) -> Result<Awaiting, NoMemory>
+        ensures { IfOk result (λ a. seen list_seen a.lists.entries ≡ seen list_seen self.now.lists.entries) }
+    {
+        // Its clause tells that the numbers ascend.
+        let _ = self.lists.len();
+        let mut copy = Awaiting::new(alloc);
+        for (channel, list) in &self.lists {
+            copy.add_copy(*channel, list)?;
+        }
+        Ok(copy)
+    }
+
+    // A channel awaits from now on what is in a list, where something is.
+    fn add_copy(&mut self, channel: ChannelId, list: &Replies) -> Result<(), NoMemory>
+        ensures { OnOk result (seen list_seen self.new.lists.entries
+            ≡ put_seen channel (list_seen list.now) (seen list_seen self.old.lists.entries)) }
+    {
+        if list.is_empty() {
+            return Ok(());
+        }
+        let copy = list.try_clone(self.alloc)?;
+        drop(self.lists.insert(channel, copy)?);
+        Ok(())
     }
 }

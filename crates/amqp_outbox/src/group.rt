@@ -112,10 +112,33 @@ impl Group {
         ensures { result ≡ promise_of self.now }
     {
         match self.rest.back() {
-            Some(last) => last.promise,
-            None => self.first.promise,
+            Some(last) => last.promise(),
+            None => self.first.promise(),
         }
     }
+
+    /// Equal frames in the same order.
+    pub fn try_clone(&self, alloc: Global) -> Result<Group, NoMemory>
+        ensures { IfOk result (λ g. g ≡ self.now) }
+    {
+        let rest = copies(alloc, &self.rest)?;
+        Ok(Group {
+            first: self.first.try_clone(alloc)?,
+            rest,
+            octets: self.octets,
+        })
+    }
+}
+
+// Equal frames in the same order.
+pub(crate) fn copies(alloc: Global, items: &VecDeque<Item>) -> Result<VecDeque<Item>, NoMemory>
+    ensures { IfOk result (λ q. q.items ≡ items.now.items) }
+{
+    let mut copies = VecDeque::with_capacity(alloc, items.len())?;
+    for item in items {
+        copies.push_back(item.try_clone(alloc)?)?;
+    }
+    Ok(copies)
 }
 
 // How many octets spell some frames, where 64 bits can tell.
@@ -158,6 +181,10 @@ impl Keyed for Group {
     ghost key_of = { channel_of };
 
     fn key(&self) -> Option<u16> {
-        Some(self.first.channel)
+        Some(self.first.channel())
+    }
+
+    fn copied(&self, alloc: Global) -> Result<Group, NoMemory> {
+        self.try_clone(alloc)
     }
 }

@@ -1,6 +1,6 @@
 //! A lane: what waits, in order, of which the first of a kind is found at once.
 
-ghost use Rattle.std.specs.Prelude.{◌≡◌, ℕ, suc, ◌+◌, ◌<◌, ◌≤◌, ◌^◌, ◌++◌, ◌∷◌, [], Option, None, Some, IsSome, IfSome, OnOk, option_copied, drop, find, is_some};
+ghost use Rattle.std.specs.Prelude.{◌≡◌, ℕ, suc, ◌+◌, ◌<◌, ◌≤◌, ◌^◌, ◌++◌, ◌∷◌, [], Option, None, Some, IsSome, IfOk, IfSome, OnOk, option_copied, option_to_list, drop, find};
 ghost use Rattle.std.proofs.Props.{props};
 ghost use Rattle.amqp_outbox.specs.Lists.{head, without_first};
 ghost use Rattle.amqp_outbox.specs.Listed.{at};
@@ -18,6 +18,10 @@ pub trait Keyed: Drop {
     /// Its key, where it has one.
     fn key(&self) -> Option<u16>
         ensures { result ≡ key_of self.now };
+
+    /// An equal thing.
+    fn copied(&self, alloc: Global) -> Result<Self, NoMemory>
+        ensures { IfOk result (λ t. t ≡ self.now) };
 }
 
 /// Things that wait, in order. Each has a number, one more than the thing before it got.
@@ -115,13 +119,6 @@ impl<T: Keyed> Lane<T> {
         }
     }
 
-    /// Whether a thing waits under a key.
-    pub fn has(&self, key: u16) -> bool
-        ensures { result ≡ is_some (find (has_key T.key_of key) (waiting self.now.slots.entries)) }
-    {
-        self.numbers.has(key)
-    }
-
     /// Takes out the first thing.
     pub fn next(&mut self) -> Option<T>
         ensures first { result ≡ head (waiting self.old.slots.entries) }
@@ -149,6 +146,46 @@ impl<T: Keyed> Lane<T> {
             Some(slot) => slot,
             None => None,
         }
+    }
+
+    /// Lets go of the room under a key, where nothing waits under it.
+    pub fn tidy(&mut self, key: u16)
+        ensures { waiting self.new.slots.entries ≡ waiting self.old.slots.entries }
+    {
+        self.numbers.tidy(key);
+    }
+
+    /// Equal things in the same order. Places that were made are not copied.
+    pub fn try_clone(&self, alloc: Global) -> Result<Lane<T>, NoMemory>
+        ensures { IfOk result (λ l. waiting l.slots.entries ≡ waiting self.now.slots.entries) }
+    {
+        let mut copy = Lane::new(alloc);
+        for (_, slot) in &self.slots {
+            copy.push_copy(alloc, slot)?;
+        }
+        Ok(copy)
+    }
+
+    // A thing equal to that of a slot goes last, where the slot holds one.
+    fn push_copy(&mut self, alloc: Global, slot: &Option<T>) -> Result<(), NoMemory>
+        ensures { OnOk result (waiting self.new.slots.entries
+            ≡ waiting self.old.slots.entries ++ option_to_list slot.now) }
+    {
+        match slot {
+            Some(thing) => self.push(thing.copied(alloc)?),
+            None => Ok(()),
+        }
+    }
+
+    fn push(&mut self, thing: T) -> Result<(), NoMemory>
+        ensures { OnOk result (waiting self.new.slots.entries ≡ waiting self.old.slots.entries ++ thing ∷ []) }
+    {
+        if let Err(refused) = self.reserve(thing.key(), 1) {
+            drop(thing);
+            return Err(refused);
+        }
+        self.push_reserved(thing);
+        Ok(())
     }
 
     /// Nothing waits any more.

@@ -9,9 +9,11 @@
 mod awaiting;
 mod group;
 mod item;
+mod kinds;
 mod lane;
 mod numbers;
 mod outbox;
+mod replies;
 mod reply;
 mod scope;
 mod tally;

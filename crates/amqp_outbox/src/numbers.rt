@@ -1,6 +1,6 @@
 //! The numbers of what waits, by key.
 
-ghost use Rattle.std.specs.Prelude.{◌≡◌, ℕ, suc, ◌+◌, ◌<◌, ◌≤◌, ◌==◌, ◌++◌, ◌∷◌, [], IfSome, IfOk, OnOk, IsTrue, if◌then◌else◌, drop, length, not};
+ghost use Rattle.std.specs.Prelude.{◌≡◌, ℕ, suc, ◌+◌, ◌<◌, ◌≤◌, ◌==◌, ◌++◌, ◌∷◌, [], IfSome, IfOk, OnOk, IsTrue, if◌then◌else◌, drop, length};
 ghost use Rattle.std.specs.VecDeque.{deque_capacity};
 ghost use Rattle.amqp_outbox.specs.Lists.{head, is_number};
 ghost use Rattle.amqp_outbox.specs.Order.{listed, HasRoom};
@@ -124,22 +124,6 @@ impl Numbers {
         }
     }
 
-    /// Whether a number is listed under a key.
-    pub fn has(&self, key: u16) -> bool
-        ensures { result ≡ not (length (listed key self.now.lists.entries) == 0) }
-    {
-        !self.is_none(key)
-    }
-
-    fn is_none(&self, key: u16) -> bool
-        ensures { result ≡ (length (listed key self.now.lists.entries) == 0) }
-    {
-        match self.lists.get(&key) {
-            Some(queue) => queue.is_empty(),
-            None => true,
-        }
-    }
-
     /// Takes out the first number of a key. The room that was made stays.
     pub fn take_first(&mut self, key: u16) -> Option<u64>
         ensures first { result ≡ head (listed key self.old.lists.entries) }
@@ -164,7 +148,8 @@ impl Numbers {
         }
     }
 
-    fn tidy(&mut self, key: u16)
+    /// A key without numbers has no list.
+    pub fn tidy(&mut self, key: u16)
         ensures { (k : ℕ) → listed k self.new.lists.entries ≡ listed k self.old.lists.entries }
     {
         if self.is_idle(key) {

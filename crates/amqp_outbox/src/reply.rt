@@ -1,9 +1,7 @@
 //! A reply that is awaited.
 
 ghost use Rattle.std.specs.Prelude.{◌≡◌, Some};
-ghost use Rattle.amqp_outbox.specs.Replies.{method_of, key_of};
-
-use crate::lane::Keyed;
+ghost use Rattle.amqp_outbox.specs.Replies.{method_of, is_of};
 
 /// What the server answers with.
 #[derive(Clone, Copy, Debug, PartialEq, Eq)]
@@ -52,12 +50,11 @@ impl Awaited {
             promise: Some(number),
         }
     }
-}
 
-impl Keyed for Awaited {
-    ghost key_of = { key_of };
-
-    fn key(&self) -> Option<u16> {
-        Some(self.reply.method())
+    /// Whether it awaits this reply.
+    pub(crate) fn is_of(self, reply: Reply) -> bool
+        ensures { result ≡ is_of reply self }
+    {
+        self.reply.method() == reply.method()
     }
 }

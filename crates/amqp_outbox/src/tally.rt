@@ -5,10 +5,9 @@ ghost use Rattle.amqp_outbox.specs.Items.{size_of, octets_of};
 
 use crate::group::Group;
 use crate::item::Item;
-use amqp_frame::encoded_len;
 
 /// How many frames wait, and how many octets spell them.
-#[derive(Debug, Drop)]
+#[derive(Clone, Copy, Debug)]
 pub struct Tally {
     pub frames: u64,
     pub octets: u64,
@@ -41,7 +40,7 @@ impl Tally {
         ensures octets { self.new.octets ≡ self.old.octets + size_of item.now }
     {
         self.frames += 1;
-        self.octets += encoded_len(&item.frame);
+        self.octets += item.encoded_len();
     }
 
     /// A frame no longer waits.
@@ -52,7 +51,7 @@ impl Tally {
         ensures octets { self.new.octets + size_of item.now ≡ self.old.octets }
     {
         self.frames -= 1;
-        self.octets -= encoded_len(&item.frame);
+        self.octets -= item.encoded_len();
     }
 
     /// The frames of a group wait.

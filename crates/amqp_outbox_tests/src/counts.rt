@@ -1,16 +1,12 @@
 //! How much waits. A frame that is passed through has 8 octets around its payload, here of 4; a
 //! heartbeat has 8, and channel.open 13 (AMQP 0-9-1, 4.2.3 and 1.5.2.1).
 
-use crate::support::{Told, group, next, publish};
+use crate::support::{Told, counts, group, next, publish};
 use amqp_frame::{Frame, Method};
 use amqp_outbox::{Item, Outbox, Scope};
 use amqp_types::NoMemory;
 use std::alloc::Global;
 use std::process::Abort;
-
-fn counts(outbox: &Outbox) -> (u64, u64) {
-    (outbox.len(), outbox.unsent_len())
-}
 
 fn frames_are_counted_in<A: Abort>(
     rt: &A,

@@ -1,6 +1,6 @@
 //! The replies that are awaited.
 
-use amqp_outbox::{Outbox, Reply, Scope};
+use amqp_outbox::{Awaited, Outbox, Reply, Scope};
 use amqp_types::NoMemory;
 use std::process::Abort;
 
@@ -31,6 +31,25 @@ fn replies_come_in_order_in<A: Abort>(rt: &A, outbox: &mut Outbox) -> Result<(),
 fn replies_come_in_order(rt: HostRuntime) -> Result<(), NoMemory> {
     let mut outbox = Outbox::new(rt.alloc());
     let told = replies_come_in_order_in(&rt, &mut outbox);
+    drop(outbox);
+    told
+}
+
+fn a_reply_takes_its_place_in<A: Abort>(rt: &A, outbox: &mut Outbox) -> Result<(), NoMemory> {
+    outbox.reserve_reply(1, Reply::FlowDone)?;
+    assert!(rt; !outbox.awaits(1, Reply::FlowDone));
+    outbox.expect_reserved(1, Awaited::by(Reply::FlowDone, 5));
+    assert!(rt; outbox.awaits(1, Reply::FlowDone));
+    assert!(rt; !outbox.awaits(1, Reply::ChannelClosed));
+    assert!(rt; outbox.answer(1, Reply::FlowDone) == Some(Some(5)));
+    assert!(rt; outbox.answer(1, Reply::FlowDone) == None);
+    Ok(())
+}
+
+#[test]
+fn a_reply_takes_its_place(rt: HostRuntime) -> Result<(), NoMemory> {
+    let mut outbox = Outbox::new(rt.alloc());
+    let told = a_reply_takes_its_place_in(&rt, &mut outbox);
     drop(outbox);
     told
 }

@@ -19,7 +19,8 @@ pub enum Told {
     Other,
 }
 
-fn kind(frame: &Frame) -> Told {
+/// Which frame it is.
+pub fn kind(frame: &Frame) -> Told {
     match frame {
         Frame::Raw(channel, RawKind::RawMethod, _) => Told::Method(*channel),
         Frame::Raw(channel, RawKind::Header, _) => Told::Header(*channel),
@@ -34,7 +35,7 @@ fn kind(frame: &Frame) -> Told {
 pub fn next(outbox: &mut Outbox, flow: bool) -> (Told, Option<u64>) {
     match outbox.next(flow) {
         Some(item) => {
-            let told = (kind(&item.frame), item.promise);
+            let told = (kind(item.frame()), item.promise());
             drop(item);
             told
         }
@@ -45,9 +46,14 @@ pub fn next(outbox: &mut Outbox, flow: bool) -> (Told, Option<u64>) {
 /// The frame that would go next.
 pub fn front(outbox: &Outbox, flow: bool) -> Told {
     match outbox.front(flow) {
-        Some(item) => kind(&item.frame),
+        Some(item) => kind(item.frame()),
         None => Told::Nothing,
     }
+}
+
+/// How many frames wait, and how many octets spell them.
+pub fn counts(outbox: &Outbox) -> (u64, u64) {
+    (outbox.len(), outbox.unsent_len())
 }
 
 fn raw(alloc: Global, channel: ChannelId, kind: RawKind) -> Result<Frame, NoMemory> {

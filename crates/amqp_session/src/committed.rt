@@ -6,7 +6,7 @@ ghost use Rattle.amqp_outbox.specs.Items.{size_of};
 ghost use Rattle.amqp_session.specs.Writing.{left_in, is_close_ok, answers, then_of, mark_of};
 ghost use Rattle.amqp_session.specs.Parts.{first_among, after_first};
 
-use amqp_frame::{Frame, Method, encoded_len};
+use amqp_frame::{Frame, Method};
 use amqp_outbox::Item;
 use amqp_types::{ChannelId, NoMemory};
 use std::alloc::Global;
@@ -39,7 +39,7 @@ impl Mark {
         ensures fits { IfSome result (λ m. (m ≡ mark_of item.now) × (size_of item.now ≤ space)) }
         ensures long { IfNone result (space < size_of item.now) }
     {
-        let left = encoded_len(&item.frame);
+        let left = item.encoded_len();
         if left > space {
             return None;
         }
@@ -52,12 +52,12 @@ impl Mark {
 fn then_of(item: &Item) -> Then
     ensures { result ≡ then_of item.now }
 {
-    if is_close_ok(&item.frame) {
+    if is_close_ok(item.frame()) {
         return Then::Finish;
     }
-    match &item.frame {
+    match item.frame() {
         Frame::Method(id, Method::ChannelCloseOk) => Then::Pays(*id),
-        _ => answers(item.promise),
+        _ => answers(item.promise()),
     }
 }
 

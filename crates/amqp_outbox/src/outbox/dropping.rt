@@ -53,9 +53,17 @@ impl Outbox {
             → HasControlPlaces k n octets self.new }
         ensures awaiting { self.new.awaiting ≡ self.old.awaiting }
     {
-        let group = self.publish.take(channel)?;
-        self.tally.take_group(&group);
-        Some(group.promise())
+        match self.publish.take(channel) {
+            Some(group) => {
+                self.tally.take_group(&group);
+                Some(group.promise())
+            }
+            None => {
+                // No publish tidies here, as these numbers can lie idle for as long as the link lasts.
+                self.publish.tidy(channel);
+                None
+            }
+        }
     }
 
     fn drop_frame(&mut self, channel: ChannelId) -> Option<Option<u64>>
@@ -67,7 +75,7 @@ impl Outbox {
     {
         let item = self.control.take(channel)?;
         self.tally.take(&item);
-        Some(item.promise)
+        Some(item.promise())
     }
 
     /// Takes out the first reply that is awaited on a channel, and gives its promise. `None` where none

@@ -1,6 +1,6 @@
 //! The two lanes, and the group that has begun.
 
-ghost use Rattle.std.specs.Prelude.{◌≡◌, ◌+◌, ◌<◌, ℕ, suc, List, Option, OnOk, OnErr, length, option_copied};
+ghost use Rattle.std.specs.Prelude.{◌≡◌, ◌+◌, ◌<◌, ℕ, suc, List, Option, IfOk, OnOk, OnErr, length, option_copied};
 ghost use Rattle.amqp_outbox.specs.declared.item.Item.{Item};
 ghost use Rattle.amqp_outbox.specs.declared.reply.Reply.{Reply};
 ghost use Rattle.amqp_outbox.specs.Items.{size_of, dropped_with, group_of};
@@ -9,7 +9,7 @@ ghost use Rattle.amqp_outbox.specs.Parts.{queued, HasControlPlaces, HasGroupPlac
 
 use super::Outbox;
 use crate::awaiting::Awaiting;
-use crate::group::Group;
+use crate::group::{Group, copies};
 use crate::item::Item;
 use crate::lane::{Keyed, Lane};
 use crate::tally::Tally;
@@ -31,6 +31,24 @@ impl Outbox {
             awaiting: Awaiting::new(alloc),
             tally: Tally::none(),
         }
+    }
+
+    /// An outbox of equal frames and of the same awaited replies. Places that were made are not copied.
+    pub fn try_clone(&self, alloc: Global) -> Result<Outbox, NoMemory>
+        ensures { IfOk result (λ o. queued o ≡ queued self.now) }
+    {
+        let control = self.control.try_clone(alloc)?;
+        let publish = self.publish.try_clone(alloc)?;
+        let begun = copies(alloc, &self.begun)?;
+        let awaiting = self.awaiting.try_clone(alloc)?;
+        Ok(Outbox {
+            alloc,
+            control,
+            publish,
+            begun,
+            awaiting,
+            tally: self.tally,
+        })
     }
 
     /// How many frames wait: in the two lanes, and of the group that has begun.

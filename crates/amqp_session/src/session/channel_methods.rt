@@ -147,9 +147,12 @@ impl Session {
         ensures err { OnErr result (self.new ≡ self.old) }
         ensures idle { MakesNothing self.old (on_channel_close id code text.now channel self.old) → IsOk result }
     {
-        match (channel.debt, self.outbox.awaits(id, Reply::ChannelClosed)) {
-            (Debt::Nothing, false) => self.close_by_server(id, channel, code, text),
-            (Debt::Nothing, true) => self.crossing_close(id, channel, code, text),
+        // Asked only where nothing is owed, so that closes that say nothing new walk no list.
+        match channel.debt {
+            Debt::Nothing if self.outbox.awaits(id, Reply::ChannelClosed) => {
+                self.crossing_close(id, channel, code, text)
+            }
+            Debt::Nothing => self.close_by_server(id, channel, code, text),
             _ => Ok(()),
         }
     }

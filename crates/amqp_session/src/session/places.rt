@@ -97,7 +97,7 @@ pub fn reserve_owing(
         drop(error);
         return Err(refused);
     }
-    events.owe(item.channel, error)
+    events.owe(item.channel(), error)
 }
 
 /// Makes places for this frame and for a promise more.
@@ -140,7 +140,7 @@ pub fn reserve_reply(
         ≤ deque_capacity committed.new.marks) }
 {
     reserve_item(outbox, committed, item)?;
-    outbox.reserve_reply(item.channel, reply)
+    outbox.reserve_reply(item.channel(), reply)
 }
 
 /// A frame goes last in the control lane, and a reply to it is awaited on its channel.
@@ -163,7 +163,7 @@ pub fn ask(
         drop(item);
         return Err(refused);
     }
-    let channel = item.channel;
+    let channel = item.channel();
     outbox.push_control_reserved(item);
     outbox.expect_reserved(channel, awaited);
     Ok(())
@@ -192,7 +192,7 @@ pub fn ask_after(
         drop(item);
         return Err(refused);
     }
-    let channel = item.channel;
+    let channel = item.channel();
     outbox.push_control_reserved(first);
     outbox.push_control_reserved(item);
     outbox.expect_reserved(channel, awaited);
@@ -218,7 +218,7 @@ fn reserve_pair(
         ≤ deque_capacity committed.new.marks) }
 {
     reserve_both(outbox, committed, first, second)?;
-    outbox.reserve_reply(second.channel, reply)
+    outbox.reserve_reply(second.channel(), reply)
 }
 
 /// Makes places for this group, until it is sent, and for a promise more.

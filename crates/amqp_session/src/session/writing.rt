@@ -11,7 +11,7 @@ use crate::channels::{Channel, Debt};
 use crate::command::Answer;
 use crate::committed::{Mark, Then};
 use amqp_frame::Frame;
-use amqp_outbox::{Item, Reply};
+use amqp_outbox::Reply;
 use amqp_promise::ErrorKind;
 use amqp_types::ChannelId;
 
@@ -46,12 +46,8 @@ impl Session {
         let flow = self.channels.flows();
         let mark = Mark::of_item(self.outbox.front(flow)?, space)?;
         self.committed.push(mark);
-        let Item {
-            channel: _,
-            frame,
-            promise: _,
-        } = self.outbox.next(flow)?;
-        Some(frame)
+        let item = self.outbox.next(flow)?;
+        Some(item.into_frame())
     }
 
     // How many octets spell the next frame, where it is longer than the whole capacity.
@@ -61,7 +57,7 @@ impl Session {
         // What waits is counted in 64 bits.
         let _ = self.outbox.unsent_len();
         match self.outbox.front(self.channels.flows()) {
-            Some(item) if self.writes() => self.excess(&item.frame),
+            Some(item) if self.writes() => self.excess(item.frame()),
             _ => None,
         }
     }

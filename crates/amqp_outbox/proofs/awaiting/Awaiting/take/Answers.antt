@@ -2,7 +2,7 @@ use Rattle.std.proofs.Common.{◌≡◌, ◌∙◌, ap, sym, refl, ℕ, None}
 use Rattle.std.specs.Prelude.{find}
 use Rattle.std.specs.BTreeMap.{BTreeMap}
 use Rattle.std.specs.Option.{option_copied_mut}
-use Rattle.amqp_outbox.specs.declared.awaiting.Replies.{Replies}
+use Rattle.amqp_outbox.specs.declared.replies.Replies.{Replies}
 use Rattle.amqp_outbox.specs.Lists.{without_first}
 use Rattle.amqp_outbox.specs.Listed.{at}
 use Rattle.amqp_outbox.specs.Replies.{is_of}
@@ -44,7 +44,7 @@ returns-in-Some-clause-none c =
     on-none c.take.result (λ h.
     ap (seen list_seen) (c.get_mut.follows.holds c.take.new.self).0
     ∙ keep-seen c.args.channel es c.get_mut.ensures.ordered list (sym c.in-Some.ensures.value) c.take.new.self
-    (c.take.ensures.rest ∙ none-left_out (is_of c.args.reply) (waiting list.lane.slots.entries) (sym c.take.ensures.first ∙ h)))
+    (c.take.ensures.rest ∙ none-left_out (is_of c.args.reply) list.list.items (sym c.take.ensures.first ∙ h)))
 
 pub returns-in-None-clause-none : goal.returns-in-None-clause-none
 returns-in-None-clause-none c = ap (λ (m : BTreeMap ℕ Replies). seen list_seen m.entries) c.get_mut.follows.holds-at-none

@@ -9,6 +9,6 @@ returns-in-Some c =
     let rest = c.self.inside.rest in
     let last = c.in-Some.last.now in
     let some : 0 < length rest.items = subst (λ n. 0 < n) rest.ok.0 (c.in-Some.ensures.variant.0 refl) in
-    ap (λ (i : Item). i.promise) (c.in-Some.ensures.lookup ∙ ap (λ n. slice_index_or rest.items (n - 1) last) rest.ok.0)
+    c.promise.ensures ∙ ap (λ (i : Item). i.promise) (c.in-Some.ensures.lookup ∙ ap (λ n. slice_index_or rest.items (n - 1) last) rest.ok.0)
     ∙ sym (promise-at c.self.inside.first rest.items last some)
     ∙ ap promise_of c.self.view_is

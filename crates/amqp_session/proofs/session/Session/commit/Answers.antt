@@ -14,23 +14,24 @@ pub returns-clause-frame : goal.returns-clause-frame
 returns-clause-frame c =
     let t = c.args.self.now in
     let q = queued c.self.inside.outbox in
-    let item = c.in_ok-frame.field-0 in
+    let item = c.in_ok-item.item in
     let opened : writes t ≡ true = sym c.writes.ensures ∙ c.if-not-writes.false in
-    let next : next_item c.flows-flow.result q ≡ Some item = sym c.next.ensures.item ∙ c.in_ok-frame.was in
+    let next : next_item c.flows-flow.result q ≡ Some item = sym c.next.ensures.item ∙ c.in_ok-item.was in
     let first : next_item (flows t) t.outbox ≡ Some item =
     ap (λ (u : Talk). next_item (flows u) u.outbox) (sym c.self.view_is) ∙ ap (λ b. next_item b q) (sym c.flows-flow.ensures) ∙ next in
     let lent : Some c.in_ok-front.field-0.now ≡ Some item = sym (ap option_copied c.in_ok-front.was) ∙ c.front.ensures ∙ next in
     let front : c.in_ok-front.field-0.now ≡ item = cc in
     let fits : size_of item ≤ c.args.space = subst (λ (i : Item). size_of i ≤ c.args.space) front c.in_ok-mark.ensures.fits.1 in
-    ap (option_map (λ (i : Item). i.frame)) (sym (next-fits c.args.space t item opened first fits))
+    ap Some c.into_frame.ensures
+    ∙ ap (option_map (λ (i : Item). i.frame)) (sym (next-fits c.args.space t item opened first fits))
 
 pub returns-clause-commit : goal.returns-clause-commit
 returns-clause-commit c =
     let t = c.args.self.now in
     let q = queued c.self.inside.outbox in
-    let item = c.in_ok-frame.field-0 in
+    let item = c.in_ok-item.item in
     let opened : writes t ≡ true = sym c.writes.ensures ∙ c.if-not-writes.false in
-    let next : next_item c.flows-flow.result q ≡ Some item = sym c.next.ensures.item ∙ c.in_ok-frame.was in
+    let next : next_item c.flows-flow.result q ≡ Some item = sym c.next.ensures.item ∙ c.in_ok-item.was in
     let first : next_item (flows t) t.outbox ≡ Some item =
     ap (λ (u : Talk). next_item (flows u) u.outbox) (sym c.self.view_is) ∙ ap (λ b. next_item b q) (sym c.flows-flow.ensures) ∙ next in
     let lent : Some c.in_ok-front.field-0.now ≡ Some item = sym (ap option_copied c.in_ok-front.was) ∙ c.front.ensures ∙ next in
