@@ -5,6 +5,7 @@ use Rattle.std.specs.declared.cmp.Ordering.{Ordering}
 use Rattle.std.specs.declared.cmp.Ordering.TheVariants.{Less, Equal, Greater}
 use Rattle.std.specs.Ordering.{nat_cmp, is_eq}
 use Rattle.std.specs.Cmp.{nat_cmp_is, ranked}
+use Rattle.amqp_types.proofs.Small.{none-from, not-below, nat_cmp_self}
 
 pub on-ok : {A E P Q : Type 0} (r : Result A E) → (P → Q) → OnOk r P → OnOk r Q
 on-ok (Ok x) f p = f p
@@ -22,17 +23,10 @@ pub on-none : {X P : Type 0} (o : Option X) → (o ≡ None → P) → IfNone o 
 on-none None f = f refl
 on-none (Some x) f = tt
 
-pub none-from : {X : Type 0} (o : Option X) → is_some o ≡ false → o ≡ None
-none-from None h = refl
-none-from (Some x) h = absurd cc
-
 -- ---- numbers
 
-pub same-from : (a b : ℕ) → (a == b) ≡ true → a ≡ b
-same-from a b h = grind (arith, nat_tests)
-
-pub not-below : (a b : ℕ) → b ≤ a → nat_lt a b ≡ false
-not-below a b h = grind (arith, nat_tests)
+pub the-number : (a b : ℕ) → (a == b) ≡ true → a ≡ b
+the-number a b h = grind (arith, nat_tests)
 
 pub below-from : (a b : ℕ) → nat_lt a b ≡ true → a < b
 below-from a b h = grind (arith, nat_tests)
@@ -51,9 +45,6 @@ greater-from a b h = ranked a b Greater (sym h)
 
 pub to-greater : (a b : ℕ) → b < a → nat_cmp a b ≡ Greater
 to-greater a b h = sym (nat_cmp_is a b Greater h)
-
-pub nat_cmp_self : (n : ℕ) → nat_cmp n n ≡ Equal
-nat_cmp_self n = sym (nat_cmp_is n n Equal refl)
 
 -- two numbers are not compared as equal
 pub not-equal : (n c : ℕ) → c ≢ n → is_eq (nat_cmp n c) ≡ false

@@ -12,7 +12,8 @@ use Rattle.std.proofs.lemmas.List.{map-append}
 use Rattle.amqp_outbox.specs.Lists.{head}
 use Rattle.amqp_outbox.specs.Listed.{at}
 use Rattle.amqp_outbox.specs.Order.{seen_first, held, waiting, has_key, numbers_of, IsHeldBelow}
-use Rattle.amqp_outbox.proofs.Cases.{none-from, not-below, below-from, from-not-below, less-from, equal-from, greater-from}
+use Rattle.amqp_outbox.proofs.Cases.{below-from, from-not-below, less-from, equal-from, greater-from}
+use Rattle.amqp_types.proofs.Small.{none-from, not-below}
 use Rattle.amqp_outbox.proofs.Seen.{Sorted}
 
 -- numbers from one on

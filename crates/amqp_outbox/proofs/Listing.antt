@@ -8,12 +8,12 @@ use Rattle.std.specs.VecDeque.{deque_capacity}
 use Rattle.amqp_outbox.specs.declared.numbers.Queue.{Queue}
 use Rattle.amqp_outbox.specs.Listed.{at}
 use Rattle.amqp_outbox.specs.Order.{listed, numbers_in, HasRoom}
-use Rattle.amqp_outbox.proofs.Cases.{same-from}
+use Rattle.amqp_types.proofs.Small.{the-number}
 
 -- what is at the number that a test finds
 same-at : {X : Type 0} (n k : ℕ) (es : List (ℕ × X)) (o : Option X) → at n es ≡ o → is_at (nat_cmp n) k ≡ true → at k es ≡ o
 same-at n k es o there test =
-    let is : n ≡ k = same-from n k (sym (unsigned_tied n k) ∙ test) in ap (λ m. at m es) (sym is) ∙ there
+    let is : n ≡ k = the-number n k (sym (unsigned_tied n k) ∙ test) in ap (λ m. at m es) (sym is) ∙ there
 
 module _ (key k : ℕ) (es es' : List (ℕ × Queue)) where
   -- the lists once that of a key is another one, or none
@@ -64,13 +64,13 @@ pub none-to-drop : (key k : ℕ) (es : List (ℕ × Queue)) → listed key es �
 none-to-drop key k es none = by (key == k) refl where
   by : (b : Bool) → (key == k) ≡ b → listed k es ≡ (if b then drop 1 (listed k es) else listed k es)
   by true is =
-      let empty : listed k es ≡ [] = ap (λ m. listed m es) (sym (same-from key k is)) ∙ none in
+      let empty : listed k es ≡ [] = ap (λ m. listed m es) (sym (the-number key k is)) ∙ none in
       empty ∙ sym (ap (λ l. drop 1 l) empty)
   by false is = refl
 
 pub empty-list : {X : Type 0} (list : List X) → (length list == 0) ≡ true → list ≡ []
 empty-list [] h = refl
-empty-list (x ∷ xs) h = let none : length (x ∷ xs) ≡ 0 = same-from (length (x ∷ xs)) 0 h in absurd (omega arith)
+empty-list (x ∷ xs) h = let none : length (x ∷ xs) ≡ 0 = the-number (length (x ∷ xs)) 0 h in absurd (omega arith)
 
 -- what loses its first is no longer
 pub shorter : (xs ys : List ℕ) → ys ≡ drop 1 xs → length ys ≤ length xs

@@ -8,7 +8,7 @@ use Rattle.std.specs.VecDeque.{deque_capacity}
 use Rattle.amqp_outbox.specs.declared.numbers.Queue.{Queue}
 use Rattle.amqp_outbox.specs.Listed.{at}
 use Rattle.amqp_outbox.specs.Order.{HasRoom, HasPlaces}
-use Rattle.amqp_outbox.proofs.Cases.{same-from}
+use Rattle.amqp_types.proofs.Small.{the-number}
 
 -- a queue with one more number has one place less
 pub room-pushed : (key n number : ℕ) (es es' : List (ℕ × Queue)) (q q' : Queue) → at key es ≡ Some q → at key es' ≡ Some q'
@@ -32,7 +32,7 @@ module _ {Y : Type 0} (m : ℕ) (es es' : List (ℕ × Y)) where
 
 other-number : (m n : ℕ) → m < n → is_at (nat_cmp m) n ≡ true → {A : Type 0} → A
 other-number m n less test =
-    let is : m ≡ n = same-from m n (sym (unsigned_tied m n) ∙ test) in absurd (omega (arith, less, is))
+    let is : m ≡ n = the-number m n (sym (unsigned_tied m n) ∙ test) in absurd (omega (arith, less, is))
 
 module _ {X : Type 0} (made : ℕ) (es es' : List (ℕ × Option X)) (ls ls' : List (ℕ × Queue)) where
   -- a thing takes a place

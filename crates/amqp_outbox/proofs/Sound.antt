@@ -11,7 +11,8 @@ use Rattle.amqp_outbox.specs.declared.numbers.Queue.{Queue}
 use Rattle.amqp_outbox.specs.Lists.{head, without_first, is_number}
 use Rattle.amqp_outbox.specs.Listed.{at, put, without}
 use Rattle.amqp_outbox.specs.Order.{seen_at, held, waiting, listed, has_key, numbers_of, IsHeldBelow, IsSound}
-use Rattle.amqp_outbox.proofs.Cases.{not-below, equal-from}
+use Rattle.amqp_outbox.proofs.Cases.{equal-from}
+use Rattle.amqp_types.proofs.Small.{not-below}
 use Rattle.amqp_outbox.proofs.Maps.{all-without}
 use Rattle.amqp_outbox.proofs.Seen.{Sorted, at-seen, put-unseen, without-seen}
 use Rattle.amqp_outbox.proofs.Lanes.{held-pushed, all-pushed, all-given, none-waits, values-pushed, numbers-pushed}

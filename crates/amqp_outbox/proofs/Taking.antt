@@ -10,7 +10,8 @@ use Rattle.std.proofs.lemmas.Map.Keys.{sorted_head, sorted_tail}
 use Rattle.amqp_outbox.specs.Lists.{head, without_first, is_number}
 use Rattle.amqp_outbox.specs.Listed.{at, without}
 use Rattle.amqp_outbox.specs.Order.{seen_first, held, has_key, numbers_of}
-use Rattle.amqp_outbox.proofs.Cases.{same-from, nat_cmp_self, less-from, to-greater}
+use Rattle.amqp_outbox.proofs.Cases.{less-from, to-greater}
+use Rattle.amqp_types.proofs.Small.{the-number, nat_cmp_self}
 use Rattle.amqp_outbox.proofs.Seen.{Sorted, sorted-seen}
 
 -- ---- what waits is in order
@@ -36,7 +37,7 @@ module _ {X : Type 0} (key_of : X → Option ℕ) where
   -- a thing of one key has no other
   same-key : (j k : ℕ) (o : Option ℕ) → is_number k o ≡ true → is_number j o ≡ (k == j)
   same-key j k None h = absurd cc
-  same-key j k (Some m) h = ap (λ i. i == j) (same-from m k h)
+  same-key j k (Some m) h = ap (λ i. i == j) (the-number m k h)
 
   module _ (k n : ℕ) where
     -- what is taken out of what waits: the value, what is left of it, and the numbers by key
@@ -57,7 +58,7 @@ module _ {X : Type 0} (key_of : X → Option ℕ) where
     kept-one m list list' false false apart is = is
 
     other : (j : ℕ) (o : Option ℕ) → is_number k o ≡ false → (k == j) ≡ true → is_number j o ≡ false
-    other j o h is = ap (λ i. is_number i o) (sym (same-from k j is)) ∙ h
+    other j o h is = ap (λ i. is_number i o) (sym (the-number k j is)) ∙ h
 
     -- the first entry has the key
     takes-first : (e : ℕ × X) (xs : List (ℕ × X)) → has_key key_of k e.1 ≡ true → e.0 ≡ n → Takes (e ∷ xs)

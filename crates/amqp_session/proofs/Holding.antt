@@ -9,7 +9,7 @@ use Rattle.std.specs.BTreeMap.{is_at}
 use Rattle.std.proofs.lemmas.List.Sums.{sum_by-cons}
 use Rattle.std.proofs.lemmas.Map.Entries.{sum_by-insert_entry, sum_by-set_value, sum_by-remove_entry}
 use Rattle.amqp_outbox.specs.Order.{seen, seen_first}
-use Rattle.amqp_outbox.proofs.Cases.{same-from}
+use Rattle.amqp_types.proofs.Small.{the-number}
 use Rattle.amqp_outbox.proofs.Seen.{Sorted}
 use Rattle.amqp_session.specs.declared.command.Answer.{Answer}
 use Rattle.amqp_promise.specs.declared.error.ErrorKind.{ErrorKind}
@@ -75,7 +75,7 @@ kept-come number e errors errors' fresh is holders n held = by (number == n) ref
   by : (b : Bool) → (number == n) ≡ b → shared_at n errors' ≡ shared_at n errors
   by true test =
       let none : holders_at n errors ≡ 0 =
-      ap (λ m. holders_at m errors) (sym (same-from number n test)) ∙ ap (λ o. unwrap_or (option_map (λ (s : SharedError). s.holders) o) 0) fresh in
+      ap (λ m. holders_at m errors) (sym (the-number number n test)) ∙ ap (λ o. unwrap_or (option_map (λ (s : SharedError). s.holders) o) 0) fresh in
       let same = holders n in absurd (omega (arith, held, none, same))
   by false test = is n ∙ ap (λ b. if b then Some e else shared_at n errors) test
 

@@ -13,7 +13,8 @@ use Rattle.std.proofs.lemmas.Map.{lookup-none}
 use Rattle.std.proofs.lemmas.Map.Entries.{none_past_head}
 use Rattle.std.proofs.lemmas.Map.Keys.{IsDistinct-from_sorted, sorted_tail}
 use Rattle.amqp_outbox.specs.Order.{seen, seen_first}
-use Rattle.amqp_outbox.proofs.Cases.{same-from, equal-from, nat_cmp_self}
+use Rattle.amqp_outbox.proofs.Cases.{equal-from}
+use Rattle.amqp_types.proofs.Small.{the-number, nat_cmp_self}
 use Rattle.amqp_outbox.proofs.Seen.{Sorted}
 use Rattle.amqp_session.specs.declared.command.Answer.{Answer}
 use Rattle.amqp_promise.specs.declared.error.ErrorKind.{ErrorKind}
@@ -64,7 +65,7 @@ awaited-why number e errors errors' fresh is n = awaited-come number (Some e) er
   by : (b : Bool) → (number == n) ≡ b → (if b then false else is_error_awaited n errors) ≡ is_error_awaited n errors
   by false test = refl
   by true test =
-      sym (ap (λ m. is_error_awaited m errors) (sym (same-from number n test))
+      sym (ap (λ m. is_error_awaited m errors) (sym (the-number number n test))
       ∙ ap (λ (o : Option SharedError). waits_in (option_map (λ (s : SharedError). s.error) o)) fresh)
 
 -- the same, where memory for it may be refused
@@ -119,7 +120,7 @@ suits-come number es errors errors' fresh counted is suit n = by (at n es) n ref
   shared k true test there h =
       let held = less-held n k (Shared k) es errors counted there in
       let one = one-held k in
-      let none : holders_at k errors ≡ 0 = ap (λ m. holders_at m errors) (sym (same-from number k test)) ∙ unheld-there in
+      let none : holders_at k errors ≡ 0 = ap (λ m. holders_at m errors) (sym (the-number number k test)) ∙ unheld-there in
       absurd (omega (arith, held, one, none))
 
   by : (o : Option Slot) (m : ℕ) → at n es ≡ o → suits errors o m ≡ true → suits errors' o m ≡ true

@@ -3,7 +3,7 @@ use Rattle.std.proofs.Common.{◌≡◌, ap, sym, refl, ℕ, Bool, true, false, 
 use Rattle.std.specs.Ordering.{nat_cmp}
 use Rattle.std.specs.Map.{set_value}
 use Rattle.std.specs.BTreeMap.{is_at}
-use Rattle.amqp_outbox.proofs.Cases.{none-from}
+use Rattle.amqp_types.proofs.Small.{none-from}
 use Rattle.amqp_session.specs.Listed.{at, has, map_values}
 
 module _ {X : Type 0} (n : ℕ) (v : X) where

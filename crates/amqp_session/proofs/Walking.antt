@@ -15,13 +15,13 @@ use Rattle.std.proofs.lemmas.List.{map-append, append_assoc}
 use Rattle.std.proofs.lemmas.List.Elements.{filter-append}
 use Rattle.std.proofs.lemmas.Map.Keys.{sorted_head, sorted_tail}
 use Rattle.amqp_outbox.specs.Listed.{Ascends}
-use Rattle.amqp_outbox.proofs.Cases.{less-from, equal-from, greater-from, to-greater, nat_cmp_self, not-below, below-from, from-not-below}
+use Rattle.amqp_outbox.proofs.Cases.{less-from, equal-from, greater-from, to-greater, below-from, from-not-below}
 use Rattle.amqp_session.specs.declared.channels.Channel.{Channel}
 use Rattle.amqp_session.specs.Listed.{at, put, without, map_values}
 use Rattle.amqp_session.specs.Recovery.{is_kept_in, reconnecting, kept}
 use Rattle.amqp_session.specs.Reopening.{is_after, listed_after, agreed}
 use Rattle.amqp_session.proofs.Numbered.{is_itself}
-use Rattle.amqp_types.proofs.Small.{is-at-most, not-below}
+use Rattle.amqp_types.proofs.Small.{is-at-most, not-below, nat_cmp_self}
 
 -- ---- what holds of each of a list
 

@@ -1,7 +1,7 @@
 use Rattle.std.proofs.Common.{◌≡◌, ◌∙◌, ap, sym, None}
 use Rattle.std.specs.Map.{values_of}
 use Rattle.amqp_outbox.specs.Listed.{at}
-use Rattle.amqp_outbox.proofs.Cases.{none-from}
+use Rattle.amqp_types.proofs.Small.{none-from}
 use Rattle.amqp_outbox.proofs.Sound.{waits-placed, sound-inserted}
 use Rattle.amqp_outbox.proofs.lane.Lane.reserve_slot.Goals as goal
 

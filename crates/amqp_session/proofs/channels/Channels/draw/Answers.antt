@@ -2,7 +2,7 @@ use Rattle.std.proofs.Common.{◌≡◌, ◌∙◌, ◌≤◌, ap, sym, not, Non
 use Rattle.amqp_session.specs.Channels.{Listing}
 use Rattle.amqp_session.specs.Numbering.{drawn}
 use Rattle.amqp_session.proofs.Drawing.{none-drawn, all-listed}
-use Rattle.amqp_outbox.proofs.Cases.{none-from}
+use Rattle.amqp_types.proofs.Small.{none-from}
 use Rattle.amqp_session.proofs.channels.Channels.draw.Goals as goal
 
 pub returns-then-channel_max-self-clause-drawn : goal.returns-then-channel_max-self-clause-drawn
