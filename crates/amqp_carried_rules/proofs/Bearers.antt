@@ -8,8 +8,8 @@ use Rattle.amqp_frame.specs.declared.method.Method.{Method as AnyMethod}
 use Rattle.amqp_frame.specs.declared.method.Method.TheVariants.{Start, Secure, Tune, OpenOk, Close, CloseOk, Blocked, Unblocked, UpdateSecretOk, ChannelOpenOk, ChannelClose, ChannelCloseOk, ChannelFlow, ChannelFlowOk}
 use Rattle.amqp_outbox.specs.declared.item.Item.{Item}
 use Rattle.amqp_outbox.specs.declared.reply.Reply.TheVariants.{ChannelOpened, ChannelClosed, FlowDone, SecretDone, ConnectionClosed}
-use Rattle.amqp_outbox.specs.Items.{plain}
-use Rattle.amqp_outbox.specs.Queued.{Queued, pushed_control, awaited_promise, answered}
+use Rattle.amqp_outbox.specs.Items.{plain_item}
+use Rattle.amqp_outbox.specs.Queued.{Queued, pushed_control, awaited_promise, without_awaited}
 use Rattle.amqp_session.specs.declared.channels.Channel.{Channel}
 use Rattle.amqp_session.specs.declared.channels.Debt.{Debt}
 use Rattle.amqp_session.specs.declared.channels.Debt.TheVariants as debt
@@ -109,7 +109,7 @@ module _ (cs : List Cmd) (answers_sent : ℕ → Bool) (r : Reading) (left : Lis
   at-opened n c None t is h = at-unawaited n c.state ChannelOpenOk t h
   at-opened n c (Some promise) t is h =
       moved t _ refl (λ z. z) (λ k. to-sent k promise _ t.promises refl) (λ o. o)
-      (λ b. bears-give cs r left t.promises t.state (answered n ChannelOpened t.outbox) promise _ (awaited-other cs n ChannelOpened t.outbox promise b.awaited is) refl
+      (λ b. bears-give cs r left t.promises t.state (without_awaited n ChannelOpened t.outbox) promise _ (awaited-other cs n ChannelOpened t.outbox promise b.awaited is) refl
       (bears-answered cs r left t.promises t.state t.outbox n ChannelOpened b)) h
 
   at-owed : (d : Debt) (n : ℕ) (t : Talk) → At t → At (remove_unless_owed d n t)
@@ -123,30 +123,30 @@ module _ (cs : List Cmd) (answers_sent : ℕ → Bool) (r : Reading) (left : Lis
   at-closed : (n : ℕ) (c : Channel) (a : Option (Option ℕ)) (t : Talk) → awaited_promise n ChannelClosed t.outbox ≡ a → At t → At (channel_closed n c a t)
   at-closed n c None t is h = at-unawaited n c.state ChannelCloseOk t h
   at-closed n c (Some promise) t is h =
-      let x : Talk = give_to promise (Ok Done) (record t { outbox = answered n ChannelClosed t.outbox }) in
+      let x : Talk = give_to promise (Ok Done) (record t { outbox = without_awaited n ChannelClosed t.outbox }) in
       let k : At x =
       moved t x refl (λ z. z) (λ k. to-sent k promise (Ok Done) t.promises refl) (λ o. o)
-      (λ b. bears-give cs r left t.promises t.state (answered n ChannelClosed t.outbox) promise (Ok Done) (awaited-other cs n ChannelClosed t.outbox promise b.awaited is) refl
+      (λ b. bears-give cs r left t.promises t.state (without_awaited n ChannelClosed t.outbox) promise (Ok Done) (awaited-other cs n ChannelClosed t.outbox promise b.awaited is) refl
       (bears-answered cs r left t.promises t.state t.outbox n ChannelClosed b)) h in
       at-owed c.debt n _ (at-replies n _ x k)
 
   at-flow : (held : ChannelState) (n : ℕ) (c : Channel) (active : Bool) (t : Talk) → At t → At (on_channel_flow held n c active t)
   at-flow channel.Closing n c active t h = h
-  at-flow _ n c active t h = moved t _ refl (λ z. z) (λ k. refl) (λ o. o) (λ b. bears-push cs r left t.promises t.state t.outbox (plain n (flow_ok n active)) refl refl b) h
+  at-flow _ n c active t h = moved t _ refl (λ z. z) (λ k. refl) (λ o. o) (λ b. bears-push cs r left t.promises t.state t.outbox (plain_item n (flow_ok n active)) refl refl b) h
 
   at-flowed : (n : ℕ) (c : Channel) (active : Bool) (a : Option (Option ℕ)) (t : Talk) → awaited_promise n FlowDone t.outbox ≡ a → At t → At (channel_flowed n c active a t)
   at-flowed n c active None t is h = at-unawaited n c.state (ChannelFlowOk active) t h
   at-flowed n c active (Some promise) t is h =
       moved t _ refl (λ z. z) (λ k. to-sent k promise _ t.promises refl) (λ o. o)
-      (λ b. bears-give cs r left t.promises t.state (answered n FlowDone t.outbox) promise _ (awaited-other cs n FlowDone t.outbox promise b.awaited is) refl
+      (λ b. bears-give cs r left t.promises t.state (without_awaited n FlowDone t.outbox) promise _ (awaited-other cs n FlowDone t.outbox promise b.awaited is) refl
       (bears-answered cs r left t.promises t.state t.outbox n FlowDone b)) h
 
   at-server-close : (d : Debt) (awaits : Bool) (n : ℕ) (e : ErrorKind) (c : Channel) (t : Talk) → At t → At (channel_close_by d awaits n e c t)
   at-server-close debt.Nothing false n e c t h =
       moved t _ refl (λ z. z) (λ k. each-sent k e (promises_on n t.outbox) t.promises) (λ o. o)
-      (λ b. bears-push cs r left _ t.state (without_all_on n t.outbox) (plain n (channel_close_ok n)) refl refl (bears-channel cs r left t.promises t.state t.outbox n e b)) h
+      (λ b. bears-push cs r left _ t.state (without_all_on n t.outbox) (plain_item n (channel_close_ok n)) refl refl (bears-channel cs r left t.promises t.state t.outbox n e b)) h
   at-server-close debt.Nothing true n e c t h =
-      moved t _ refl (λ z. z) (λ k. refl) (λ o. o) (λ b. bears-push cs r left t.promises t.state t.outbox (plain n (channel_close_ok n)) refl refl b) h
+      moved t _ refl (λ z. z) (λ k. refl) (λ o. o) (λ b. bears-push cs r left t.promises t.state t.outbox (plain_item n (channel_close_ok n)) refl refl b) h
   at-server-close _ awaits n e c t h = h
 
   at-channel : (state : ConnectionState) (n : ℕ) (c : Channel) (m : AnyMethod) (t : Talk) → At t → At (channel_rule state n c m t)
@@ -184,17 +184,17 @@ module _ (cs : List Cmd) (answers_sent : ℕ → Bool) (r : Reading) (left : Lis
   at-secret-taken (Some None) t is h = moved t _ refl (λ z. z) (λ n. refl) (λ o. o) (λ b. bears-answered cs r left t.promises t.state t.outbox 0 SecretDone b) h
   at-secret-taken (Some (Some number)) t is h =
       moved t _ refl (λ z. z) (λ k. settled-sent k number (Ok Done) t.promises refl) (λ o. o)
-      (λ b. bears-give cs r left t.promises t.state (answered 0 SecretDone t.outbox) (Some number) (Ok Done) (awaited-other cs 0 SecretDone t.outbox (Some number) b.awaited is) refl
+      (λ b. bears-give cs r left t.promises t.state (without_awaited 0 SecretDone t.outbox) (Some number) (Ok Done) (awaited-other cs 0 SecretDone t.outbox (Some number) b.awaited is) refl
       (bears-answered cs r left t.promises t.state t.outbox 0 SecretDone b)) h
 
   at-queue : (n : ℕ) (f : Frame) (t t' : Talk) → is_raw f ≡ false → t'.made ≡ t.made → t'.promises ≡ t.promises → t'.link ≡ t.link → t'.state ≡ t.state
-      → t'.outbox ≡ pushed_control (plain n f) t.outbox → (Sized t → Sized t') → At t → At t'
+      → t'.outbox ≡ pushed_control (plain_item n f) t.outbox → (Sized t → Sized t') → At t → At t'
   at-queue n f t t' raw made same link state outbox size h =
       let Q : Queued → Type 0 = λ q. Bears cs r left q t.promises t.state in
       let P : Promises → Type 0 = λ p. Bears cs r left t'.outbox p t.state in
       let S : ConnectionState → Type 0 = λ s. Bears cs r left t'.outbox t'.promises s in
       moved t t' made size (λ k. ap (λ p. is_sent (at k p)) same) (λ o. sym (ap is_open_link link) ∙ o)
-      (λ b. subst S (sym state) (subst P (sym same) (subst Q (sym outbox) (bears-push cs r left t.promises t.state t.outbox (plain n f) raw refl b)))) h
+      (λ b. subst S (sym state) (subst P (sym same) (subst Q (sym outbox) (bears-push cs r left t.promises t.state t.outbox (plain_item n f) raw refl b)))) h
 
   at-started : (mechanism : List ℕ) (said : Result (List ℕ) (List ℕ)) (t : Talk) → t.state ≡ Connecting → At t → At (started mechanism said t)
   at-started mechanism (Err text) t hs h = at-lose (AuthProviderError text) t h
@@ -226,7 +226,7 @@ module _ (cs : List Cmd) (answers_sent : ℕ → Bool) (r : Reading) (left : Lis
   at-reopen n t h =
       if_case At (nat_le n t.configuration.channel_max) (await n ChannelOpened None (queue n (channel_open n) t)) (remove_channel n t)
       (moved t _ refl (λ z. z) (λ k. refl) (λ o. o)
-      (λ b. bears-expected cs r left t.promises t.state _ n _ tt (bears-push cs r left t.promises t.state t.outbox (plain n (channel_open n)) refl refl b)) h)
+      (λ b. bears-expected cs r left t.promises t.state _ n _ tt (bears-push cs r left t.promises t.state t.outbox (plain_item n (channel_open n)) refl refl b)) h)
       (moved t (remove_channel n t) refl (λ z. z) (λ n. refl) (λ o. o) (λ b. b) h)
 
   at-reopened : (channels : List (ℕ × Channel)) (t : Talk) → At t → At (reopen_each channels t)
@@ -235,7 +235,7 @@ module _ (cs : List Cmd) (answers_sent : ℕ → Bool) (r : Reading) (left : Lis
 
   at-connection : (state : ConnectionState) (p : Phase) (m : AnyMethod) (answers : List ProviderAnswer) (t : Talk) → t.state ≡ state → t.phase ≡ p → At t → At (connection_rule state p m answers t)
   at-connection state p (Close code text class method) answers t hs hp h =
-      moved t _ refl (λ z k. absurd cc) (λ k. refl) (λ o. o) (λ b. bears-over cs r left t.promises t.state t.outbox (plain 0 close_ok) refl refl b) h
+      moved t _ refl (λ z k. absurd cc) (λ k. refl) (λ o. o) (λ b. bears-over cs r left t.promises t.state t.outbox (plain_item 0 close_ok) refl refl b) h
   at-connection state p (Blocked reason) answers t hs hp h = moved t _ refl (λ z. z) (λ n. refl) (λ o. o) (λ b. b) h
   at-connection state p Unblocked answers t hs hp h = moved t _ refl (λ z. z) (λ n. refl) (λ o. o) (λ b. b) h
   at-connection Closing p CloseOk answers t hs hp h = at-connection-closed (awaited_promise 0 ConnectionClosed t.outbox) t h
@@ -327,7 +327,7 @@ module _ (cs : List Cmd) (answers_sent : ℕ → Bool) (r : Reading) (left : Lis
   at-refreshed (Err text) t h = moved t _ refl (λ z. z) (λ n. refl) (λ o. o) (λ b. b) h
   at-refreshed (Ok secret) t h =
       moved t _ refl (λ z. z) (λ k. refl) (λ o. o)
-      (λ b. bears-expected cs r left t.promises t.state _ 0 _ tt (bears-push cs r left t.promises t.state t.outbox (plain 0 (new_secret secret refresh_reason)) refl refl b)) h
+      (λ b. bears-expected cs r left t.promises t.state _ 0 _ tt (bears-push cs r left t.promises t.state t.outbox (plain_item 0 (new_secret secret refresh_reason)) refl refl b)) h
 
   at-due : (t : Talk) → At t → At (link_due t)
   at-due t h = moved t (link_due t) refl (λ z. z) (λ n. refl) (λ o. by t.link o) (λ b. b) h where

@@ -7,7 +7,7 @@ use Rattle.std.specs.BTreeMap.{is_at}
 use Rattle.amqp_frame.specs.declared.frame.Frame.{Frame}
 use Rattle.amqp_outbox.specs.declared.item.Item.{Item}
 use Rattle.amqp_outbox.specs.declared.reply.Awaited.{Awaited}
-use Rattle.amqp_outbox.specs.Items.{group_of, promise_of}
+use Rattle.amqp_outbox.specs.Items.{group_of, promise_of_group}
 use Rattle.amqp_outbox.specs.Queued.{Queued}
 use Rattle.amqp_promise.specs.declared.error.ErrorKind.{ErrorKind}
 use Rattle.amqp_promise.specs.declared.state.ConnectionState.{ConnectionState}
@@ -101,9 +101,9 @@ each-elsewhere n e [] ps h = refl
 each-elsewhere n e (o ∷ os) ps h = each-elsewhere n e os (settled_to o (Err e) ps) h.1 ∙ to-elsewhere n o (Err e) ps h.0
 
 -- the promises of groups are rejected one after another
-pub rejected-is : (e : ErrorKind) (groups : List (List Item)) (ps : Promises) → rejected e groups ps ≡ rejected_each e (map promise_of groups) ps
+pub rejected-is : (e : ErrorKind) (groups : List (List Item)) (ps : Promises) → rejected e groups ps ≡ rejected_each e (map promise_of_group groups) ps
 rejected-is e [] ps = refl
-rejected-is e (g ∷ groups) ps = rejected-is e groups (settled_to (promise_of g) (Err e) ps)
+rejected-is e (g ∷ groups) ps = rejected-is e groups (settled_to (promise_of_group g) (Err e) ps)
 
 -- the loss of a link makes no promise one that was answered Sent
 slot-sent : (e : ErrorKind) (n : ℕ) (v : Option (Result Answer ErrorKind)) → is_sent (Some (rejected_slot e n v)) ≡ is_sent (Some v)

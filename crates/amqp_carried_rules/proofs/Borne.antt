@@ -10,11 +10,11 @@ use Rattle.std.specs.BTreeMap.{is_at}
 use Rattle.amqp_outbox.specs.declared.item.Item.{Item}
 use Rattle.amqp_outbox.specs.declared.reply.Awaited.{Awaited}
 use Rattle.amqp_outbox.specs.declared.reply.Reply.{Reply}
-use Rattle.amqp_outbox.specs.Items.{promise_of}
+use Rattle.amqp_outbox.specs.Items.{promise_of_group}
 use Rattle.amqp_outbox.specs.Lists.{without_first}
 use Rattle.amqp_outbox.specs.Replies as replies
 use Rattle.amqp_outbox.specs.Replies.{awaited_on, left_on, is_of, first_awaited}
-use Rattle.amqp_outbox.specs.Queued.{Queued, only, pushed_control, expected, answered, awaited_promise, goes_with, is_on}
+use Rattle.amqp_outbox.specs.Queued.{Queued, only, pushed_control, with_awaited, without_awaited, awaited_promise, goes_with, is_on}
 use Rattle.amqp_promise.specs.declared.error.ErrorKind.{ErrorKind}
 use Rattle.amqp_promise.specs.declared.state.ConnectionState.{ConnectionState}
 use Rattle.amqp_promise.specs.declared.state.ConnectionState.TheVariants.{Closing}
@@ -82,7 +82,7 @@ awaits-left cs n [] ws l h = all-gone (λ e. AreOthers cs e.1) n ws h
 awaits-left cs n (a ∷ list) ws l h = all-put (λ e. AreOthers cs e.1) n (a ∷ list) ws (λ m. l) h
 
 -- a reply came
-awaits-answered : (cs : List Cmd) (n : ℕ) (reply : Reply) (ws : List (ℕ × List Awaited)) → AwaitsOthers cs ws → AwaitsOthers cs (replies.answered n reply ws)
+awaits-answered : (cs : List Cmd) (n : ℕ) (reply : Reply) (ws : List (ℕ × List Awaited)) → AwaitsOthers cs ws → AwaitsOthers cs (replies.left_awaited n reply ws)
 awaits-answered cs n reply ws h =
     awaits-left cs n (without_first (is_of reply) (awaited_on n ws)) ws (all-out (λ (a : Awaited). IsOther cs a.promise) (is_of reply) (awaited_on n ws) (others-on cs n ws h)) h
 
@@ -148,27 +148,27 @@ module _ (cs : List Cmd) (r : Reading) (left : List Item) (ps : Promises) (state
     ends (inr x) = inr (x.0, all-push IsPlain q.control i x.1 (a, b), x.2, x.3)
 
   -- one more reply is awaited
-  pub bears-expected : (q : Queued) (n : ℕ) (a : Awaited) → IsOther cs a.promise → Now q → Now (expected n a q)
+  pub bears-expected : (q : Queued) (n : ℕ) (a : Awaited) → IsOther cs a.promise → Now q → Now (with_awaited n a q)
   bears-expected q n a other h = record { last = h.last; lines = h.lines; ends = h.ends; awaited = awaits-expected cs n a q.awaited other h.awaited }
 
   -- a reply came
-  pub bears-answered : (q : Queued) (n : ℕ) (reply : Reply) → Now q → Now (answered n reply q)
+  pub bears-answered : (q : Queued) (n : ℕ) (reply : Reply) → Now q → Now (without_awaited n reply q)
   bears-answered q n reply h = record { last = h.last; lines = h.lines; ends = h.ends; awaited = awaits-answered cs n reply q.awaited h.awaited }
 
   -- some groups and some frames of the lane go, and their promises are answered
   pub bears-drop : (q : Queued) (p : List Item → Bool) (c : Item → Bool) (ws : List (ℕ × List Awaited)) (ps' : Promises) → AwaitsOthers cs ws
       → ((n : ℕ) → is_sent (at n ps') ≡ is_sent (at n ps))
-      → ((k : ℕ) → carries (command_at cs k) ≡ true → NotIn k (map promise_of (filter p q.publish)) → NotIn k (map (λ (i : Item). i.promise) (filter c q.control)) → at k ps' ≡ at k ps)
+      → ((k : ℕ) → carries (command_at cs k) ≡ true → NotIn k (map promise_of_group (filter p q.publish)) → NotIn k (map (λ (i : Item). i.promise) (filter c q.control)) → at k ps' ≡ at k ps)
       → Now q
       → Bears cs r left (record { control = filter (λ i. not (c i)) q.control; publish = filter (λ g. not (p g)) q.publish; begun = q.begun; awaited = ws }) ps' state
   bears-drop q p c ws ps' others sent stays h =
       record { last = h.last; lines = by-lines h.ends; ends = by-ends h.ends; awaited = others } where
-        waits : (d : Cmd) (k : ℕ) → command_at cs k ≡ Some d → carries (Some d) ≡ true → NotIn k (map promise_of (filter p q.publish)) → NotIn k (map (λ (i : Item). i.promise) (filter c q.control))
+        waits : (d : Cmd) (k : ℕ) → command_at cs k ≡ Some d → carries (Some d) ≡ true → NotIn k (map promise_of_group (filter p q.publish)) → NotIn k (map (λ (i : Item). i.promise) (filter c q.control))
             → at k ps ≡ Some None → at k ps' ≡ Some None
         waits d k told carry a b w = stays k (ap carries told ∙ carry) a b ∙ w
 
-        none-there : (k : ℕ) (gs : List (List Item)) → gs ≡ [] → NotIn k (map promise_of (filter p gs))
-        none-there k gs is = (let N : List (List Item) → Type 0 = λ gs. NotIn k (map promise_of (filter p gs)) in subst N (sym is) tt)
+        none-there : (k : ℕ) (gs : List (List Item)) → gs ≡ [] → NotIn k (map promise_of_group (filter p gs))
+        none-there k gs is = (let N : List (List Item) → Type 0 = λ gs. NotIn k (map promise_of_group (filter p gs)) in subst N (sym is) tt)
 
         carried : (d : Cmd) → (is_send d ≡ true) ⊎ (is_publish d ≡ true) → carries (Some d) ≡ true
         carried (Send a b) h = refl
@@ -232,7 +232,7 @@ module _ (cs : List Cmd) (r : Reading) (left : List Item) (ps : Promises) (state
   -- the groups of a channel go
   pub bears-groups-of : (q : Queued) (n : ℕ) (e : ErrorKind) → Now q → Bears cs r left (without_groups_of n q) (rejected e (filter (is_on n) q.publish) ps) state
   bears-groups-of q n e h =
-      let os = map promise_of (filter (is_on n) q.publish) in
+      let os = map promise_of_group (filter (is_on n) q.publish) in
       let P : Promises → Type 0 = λ ps'. Bears cs r left (without_groups_of n q) ps' state in
       let Q : List Item → Type 0 = λ control. Bears cs r left (record { control = control; publish = filter (λ g. not (is_on n g)) q.publish; begun = q.begun; awaited = q.awaited }) (rejected_each e os ps) state in
       subst P (sym (rejected-is e (filter (is_on n) q.publish) ps))
@@ -242,8 +242,8 @@ module _ (cs : List Cmd) (r : Reading) (left : List Item) (ps : Promises) (state
   -- all groups go
   pub bears-groups : (q : Queued) (e : ErrorKind) → Now q → Bears cs r left (without_groups q) (rejected e q.publish ps) state
   bears-groups q e h =
-      let os = map promise_of (filter (λ g. true) q.publish) in
-      let same : rejected_each e os ps ≡ rejected e q.publish ps = ap (λ gs. rejected_each e (map promise_of gs) ps) (filter-all q.publish) ∙ sym (rejected-is e q.publish ps) in
+      let os = map promise_of_group (filter (λ g. true) q.publish) in
+      let same : rejected_each e os ps ≡ rejected e q.publish ps = ap (λ gs. rejected_each e (map promise_of_group gs) ps) (filter-all q.publish) ∙ sym (rejected-is e q.publish ps) in
       let P : Promises → Type 0 = λ ps'. Bears cs r left (without_groups q) ps' state in
       let Q : List Item → Type 0 = λ control. Bears cs r left (record { control = control; publish = []; begun = q.begun; awaited = q.awaited }) (rejected_each e os ps) state in
       let R : List (List Item) → Type 0 = λ publish. Bears cs r left (record { control = filter (λ i. true) q.control; publish = publish; begun = q.begun; awaited = q.awaited }) (rejected_each e os ps) state in
@@ -267,8 +267,8 @@ module _ (cs : List Cmd) (r : Reading) (left : List Item) (ps : Promises) (state
       bears-drop q (is_on n) (goes_with n) (without n q.awaited) (rejected_each e os ps) (all-gone (λ e. AreOthers cs e.1) n q.awaited h.awaited) (λ k. each-sent k e os ps)
       (λ k carry a b.
       each-elsewhere k e os ps
-      (notin-append k (map promise_of (filter (is_on n) q.publish) ++ map (λ (i : Item). i.promise) (filter (goes_with n) q.control)) (replies_on n q)
-      (notin-append k (map promise_of (filter (is_on n) q.publish)) (map (λ (i : Item). i.promise) (filter (goes_with n) q.control)) a b)
+      (notin-append k (map promise_of_group (filter (is_on n) q.publish) ++ map (λ (i : Item). i.promise) (filter (goes_with n) q.control)) (replies_on n q)
+      (notin-append k (map promise_of_group (filter (is_on n) q.publish)) (map (λ (i : Item). i.promise) (filter (goes_with n) q.control)) a b)
       (other-notin cs k (awaited_on n q.awaited) carry (others-on cs n q.awaited h.awaited)))) h
 
   -- after the server's close nothing waits but our answer

@@ -5,7 +5,7 @@ use Rattle.amqp_types.specs.declared.word.Word.TheVariants as word
 use Rattle.amqp_frame.specs.declared.frame.Frame.{Frame}
 use Rattle.amqp_frame.specs.RawMethods.{OtherMethod}
 use Rattle.amqp_outbox.specs.declared.item.Item.{Item}
-use Rattle.amqp_outbox.specs.Items.{plain, promised, group_of, promise_of}
+use Rattle.amqp_outbox.specs.Items.{plain_item, promised_item, group_of, promise_of_group}
 use Rattle.amqp_outbox.specs.Queued.{Queued, pushed_control, pushed_group, is_on}
 use Rattle.amqp_session.specs.declared.channels.Channel.{Channel}
 use Rattle.amqp_promise.specs.declared.state.ConnectionState.{ConnectionState}
@@ -151,7 +151,7 @@ module _ (cs : List Cmd) (c : Cmd) (m : ℕ) (is : m ≡ suc (length cs)) where
 
     -- a send more
     pub bears-send : (q : Queued) (n : ℕ) (f : Frame) (ps : Promises) → (state ≡ Closing → ⊥) → is_send c ≡ true → AreFramesOf c (f ∷ []) → r.sends ≤ suc (length cs) → Bears cs r left q ps state
-        → Bears cs' r left (pushed_control (promised n f m) q) (put m None ps) state
+        → Bears cs' r left (pushed_control (promised_item n f m) q) (put m None ps) state
     bears-send q n f ps goes s fs low h =
         record {
           last = h.last;
@@ -159,11 +159,11 @@ module _ (cs : List Cmd) (c : Cmd) (m : ℕ) (is : m ≡ suc (length cs)) where
           ends = ends h.ends;
           awaited = awaits-grow q.awaited h.awaited;
         } where
-          ends : Ends cs ps state q.control q.publish h.last → Ends cs' (put m None ps) state (q.control ++ promised n f m ∷ []) q.publish h.last
+          ends : Ends cs ps state q.control q.publish h.last → Ends cs' (put m None ps) state (q.control ++ promised_item n f m ∷ []) q.publish h.last
           ends (inl x) =
               inl (
                 x.0,
-                lane-send cs cs' ps (put m None ps) (grows-more cs c) (λ d k told carry w. stays None ps d k told w) h.last.sends q.control (promised n f m) c s (ap (λ (k : ℕ). Some k) is)
+                lane-send cs cs' ps (put m None ps) (grows-more cs c) (λ d k told carry w. stays None ps d k told w) h.last.sends q.control (promised_item n f m) c s (ap (λ (k : ℕ). Some k) is)
                     (sends-bound cs ps r (left ++ q.begun) h.last h.lines low)
                     (record { told = get-last cs c; frames = fs; waits = ap (λ k. at k (put m None ps)) (sym is) ∙ put-same m None ps; above = omega arith }) x.1,
                 groups-map cs cs' ps (put m None ps) (grows-more cs c) h.last.publishes q.publish x.2 (λ d k told carry w. stays None ps d k told w),
@@ -246,17 +246,17 @@ module _ (cs : List Cmd) (answered : ℕ → Bool) (r : Reading) (left : List It
       raised OpenChannel t _ None t.promises refl refl refl (λ n. refl) (λ z. z) (λ o. o)
       (λ m low z b.
       bears-expected (cs ++ OpenChannel ∷ []) r left _ t.state _ n _ (new-other cs OpenChannel t.made m refl)
-      (bears-push (cs ++ OpenChannel ∷ []) r left _ t.state t.outbox (plain n (channel_open n)) refl refl (bears-grow cs OpenChannel t.made m r left t.state t.outbox None t.promises b))) h
+      (bears-push (cs ++ OpenChannel ∷ []) r left _ t.state t.outbox (plain_item n (channel_open n)) refl refl (bears-grow cs OpenChannel t.made m r left t.state t.outbox None t.promises b))) h
 
   -- a channel is closed
   at-close-target : (x : Result Channel ErrorKind) (ref : ChanRef) (n code : ℕ) (text : List ℕ) (t : Talk) → Was t → Raised (CloseChannel ref code text) (close_target x n code text t)
   at-close-target (Err e) ref n code text t h = at-refuse (CloseChannel ref code text) e t _ refl refl refl refl refl (λ z. z) h
   at-close-target (Ok d) ref n code text t h =
       let c : Cmd = CloseChannel ref code text in
-      let said : Item = plain n (our_channel_close n code text) in
+      let said : Item = plain_item n (our_channel_close n code text) in
       let e : ErrorKind = InvalidChannelState channel.Closing word.ChannelClose in
       raised c t _ None (rejected e (filter (is_on n) t.outbox.publish) t.promises) refl refl refl
-      (λ k. ap (λ p. is_sent (at k p)) (rejected-is e (filter (is_on n) t.outbox.publish) t.promises) ∙ each-sent k e (map promise_of (filter (is_on n) t.outbox.publish)) t.promises)
+      (λ k. ap (λ p. is_sent (at k p)) (rejected-is e (filter (is_on n) t.outbox.publish) t.promises) ∙ each-sent k e (map promise_of_group (filter (is_on n) t.outbox.publish)) t.promises)
       (λ z. z) (λ o. o)
       (λ m low z b.
       bears-expected (cs ++ c ∷ []) r left _ t.state _ n _ (new-other cs c t.made m refl)
@@ -280,10 +280,10 @@ module _ (cs : List Cmd) (answered : ℕ → Bool) (r : Reading) (left : List It
   at-close-connection : (code : ℕ) (text : List ℕ) (t : Talk) → Was t → Raised (CloseConnection code text) (promise (leave_connection code text (Some (next_promise t)) t))
   at-close-connection code text t h =
       let c : Cmd = CloseConnection code text in
-      let said : Item = plain 0 (our_close code text) in
+      let said : Item = plain_item 0 (our_close code text) in
       let e : ErrorKind = InvalidConnectionState Closing in
       raised c t _ None (rejected e t.outbox.publish t.promises) refl refl refl
-      (λ k. ap (λ p. is_sent (at k p)) (rejected-is e t.outbox.publish t.promises) ∙ each-sent k e (map promise_of t.outbox.publish) t.promises)
+      (λ k. ap (λ p. is_sent (at k p)) (rejected-is e t.outbox.publish t.promises) ∙ each-sent k e (map promise_of_group t.outbox.publish) t.promises)
       (λ z k. absurd cc) (λ o. o)
       (λ m low z b.
       bears-expected (cs ++ c ∷ []) r left _ Closing _ 0 _ (new-other cs c t.made m refl)
@@ -298,7 +298,7 @@ module _ (cs : List Cmd) (answered : ℕ → Bool) (r : Reading) (left : List It
       raised c t _ None t.promises refl refl refl (λ n. refl) (λ z. z) (λ o. o)
       (λ m low z b.
       bears-expected (cs ++ c ∷ []) r left _ t.state _ n _ (new-other cs c t.made m refl)
-      (bears-push (cs ++ c ∷ []) r left _ t.state t.outbox (plain n (channel_flow n active)) refl refl (bears-grow cs c t.made m r left t.state t.outbox None t.promises b))) h
+      (bears-push (cs ++ c ∷ []) r left _ t.state t.outbox (plain_item n (channel_flow n active)) refl refl (bears-grow cs c t.made m r left t.state t.outbox None t.promises b))) h
 
   -- a command with a frame that is too long is refused
   at-unless : (c : Cmd) (o : Option Frame) (rule : Talk → Talk) (t : Talk) → Was t → (o ≡ None → Raised c (rule t)) → Raised c (unless_too_long o rule t)
@@ -315,7 +315,7 @@ module _ (cs : List Cmd) (answered : ℕ → Bool) (r : Reading) (left : List It
       raised c t _ None t.promises refl refl refl (λ n. refl) (λ z. z) (λ o. o)
       (λ m low z b.
       bears-expected (cs ++ c ∷ []) r left _ t.state _ 0 _ (new-other cs c t.made m refl)
-      (bears-push (cs ++ c ∷ []) r left _ t.state t.outbox (plain 0 frame) refl refl (bears-grow cs c t.made m r left t.state t.outbox None t.promises b))) h)
+      (bears-push (cs ++ c ∷ []) r left _ t.state t.outbox (plain_item 0 frame) refl refl (bears-grow cs c t.made m r left t.state t.outbox None t.promises b))) h)
 
   -- a method is sent
   at-send : (x : Result Channel ErrorKind) (ref : ChanRef) (method : OtherMethod) (t : Talk) → t.state ≡ Connected → Was t → Raised (Send ref method) (send_target x ref.id method t)
@@ -348,10 +348,10 @@ module _ (cs : List Cmd) (answered : ℕ → Bool) (r : Reading) (left : List It
   at-leave : (x : Result Channel ErrorKind) (n : ℕ) (t : Talk) → Was t → Was (drop_target x n t)
   at-leave (Err e) n t h = h
   at-leave (Ok c) n t h =
-      let said : Item = plain n (our_channel_close n 200 (codes "OK")) in
+      let said : Item = plain_item n (our_channel_close n 200 (codes "OK")) in
       let e : ErrorKind = InvalidChannelState channel.Closing word.ChannelClose in
       moved cs answered r left t _ refl (λ z. z)
-      (λ k. ap (λ p. is_sent (at k p)) (rejected-is e (filter (is_on n) t.outbox.publish) t.promises) ∙ each-sent k e (map promise_of (filter (is_on n) t.outbox.publish)) t.promises)
+      (λ k. ap (λ p. is_sent (at k p)) (rejected-is e (filter (is_on n) t.outbox.publish) t.promises) ∙ each-sent k e (map promise_of_group (filter (is_on n) t.outbox.publish)) t.promises)
       (λ o. o)
       (λ b.
       bears-expected cs r left _ t.state _ n _ tt
@@ -360,10 +360,10 @@ module _ (cs : List Cmd) (answered : ℕ → Bool) (r : Reading) (left : List It
   -- the connection is let go
   at-leave-connection : (t : Talk) → Was t → Was (leave_connection 200 (codes "OK") None t)
   at-leave-connection t h =
-      let said : Item = plain 0 (our_close 200 (codes "OK")) in
+      let said : Item = plain_item 0 (our_close 200 (codes "OK")) in
       let e : ErrorKind = InvalidConnectionState Closing in
       moved cs answered r left t _ refl (λ z k. absurd cc)
-      (λ k. ap (λ p. is_sent (at k p)) (rejected-is e t.outbox.publish t.promises) ∙ each-sent k e (map promise_of t.outbox.publish) t.promises)
+      (λ k. ap (λ p. is_sent (at k p)) (rejected-is e t.outbox.publish t.promises) ∙ each-sent k e (map promise_of_group t.outbox.publish) t.promises)
       (λ o. o)
       (λ b.
       bears-expected cs r left _ Closing _ 0 _ tt

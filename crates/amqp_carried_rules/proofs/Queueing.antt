@@ -7,7 +7,7 @@ use Rattle.amqp_frame.specs.declared.frame.Frame.TheVariants.{Raw}
 use Rattle.amqp_frame.specs.declared.frame.RawKind.TheVariants.{Body}
 use Rattle.amqp_frame.specs.RawMethods.{OtherMethod}
 use Rattle.amqp_outbox.specs.declared.item.Item.{Item}
-use Rattle.amqp_outbox.specs.Items.{group_of, promise_of}
+use Rattle.amqp_outbox.specs.Items.{group_of, promise_of_group}
 use Rattle.amqp_session.specs.declared.command.Cmd.{Cmd}
 use Rattle.amqp_session.specs.declared.command.Cmd.TheVariants.{Send, Publish}
 use Rattle.amqp_session.specs.Listed.{at}
@@ -216,7 +216,7 @@ module _ (cs cs' : List Cmd) (ps ps' : Promises) (grows : Grows cs cs')
 -- ---- what goes with a channel
 
 -- the promise of a group stands at its last frame
-group-promise : (m k : ℕ) (fs : List Frame) → fs ≢ [] → promise_of (group_of m fs k) ≡ Some k
+group-promise : (m k : ℕ) (fs : List Frame) → fs ≢ [] → promise_of_group (group_of m fs k) ≡ Some k
 group-promise m k [] some = absurd (some refl)
 group-promise m k (f ∷ []) some = refl
 group-promise m k (f ∷ g ∷ []) some = refl
@@ -227,8 +227,8 @@ publish-some (Publish a b x y) fs p h = content-some a.id b x y fs h
 publish-some _ fs p h = absurd cc
 
 -- so a group has the promise of its publish
-pub is-promise : (cs : List Cmd) (ps : Promises) (low k : ℕ) (g : List Item) → IsGroup cs ps low k g → promise_of g ≡ Some k
-is-promise cs ps low k g h = ap promise_of h.items ∙ group-promise h.channel k h.frames (publish-some h.command h.frames h.publish h.waits.frames)
+pub is-promise : (cs : List Cmd) (ps : Promises) (low k : ℕ) (g : List Item) → IsGroup cs ps low k g → promise_of_group g ≡ Some k
+is-promise cs ps low k g h = ap promise_of_group h.items ∙ group-promise h.channel k h.frames (publish-some h.command h.frames h.publish h.waits.frames)
 
 -- the number is another where the promise is
 other-promise : (o : Option ℕ) (j k : ℕ) → o ≡ Some j → j ≢ k → o ≢ Some k
@@ -237,11 +237,11 @@ other-promise o j k is ne e = let same : Some j ≡ Some k = sym is ∙ e in ne 
 module _ (cs : List Cmd) (ps : Promises) (k : ℕ) where
   -- a number that is none of the groups' is none of theirs that go
   pub groups-differ : (p : List Item → Bool) (n : ℕ) (gs : List (List Item)) → Groups cs ps n gs
-      → ((j : ℕ) (c : Cmd) → command_at cs j ≡ Some c → is_publish c ≡ true → n ≤ j → j ≢ k) → NotIn k (map promise_of (filter p gs))
+      → ((j : ℕ) (c : Cmd) → command_at cs j ≡ Some c → is_publish c ≡ true → n ≤ j → j ≢ k) → NotIn k (map promise_of_group (filter p gs))
   groups-differ p n [] h f = tt
   groups-differ p n (g ∷ gs) h f = by (p g) (groups-differ p (suc h.0) gs h.2 (λ j c told is le. f j c told is (omega (arith, le, h.1.waits.above)))) where
-    by : (b : Bool) → NotIn k (map promise_of (filter p gs)) → NotIn k (map promise_of (cond b (g ∷ filter p gs) (filter p gs)))
-    by true rest = (other-promise (promise_of g) h.0 k (is-promise cs ps n h.0 g h.1) (f h.0 h.1.command h.1.waits.told h.1.publish h.1.waits.above), rest)
+    by : (b : Bool) → NotIn k (map promise_of_group (filter p gs)) → NotIn k (map promise_of_group (cond b (g ∷ filter p gs) (filter p gs)))
+    by true rest = (other-promise (promise_of_group g) h.0 k (is-promise cs ps n h.0 g h.1) (f h.0 h.1.command h.1.waits.told h.1.publish h.1.waits.above), rest)
     by false rest = rest
 
   -- the same of the frames of the control lane
@@ -286,21 +286,21 @@ module _ (cs : List Cmd) (ps ps' : Promises) where
       (k : ℕ) (c : Cmd) → command_at cs k ≡ Some c → is_kind c ≡ true → n ≤ k → NotIn k os → at k ps ≡ Some None → at k ps' ≡ Some None
 
   -- some groups go, and the promises of the others wait as before
-  pub groups-left : (p : List Item → Bool) (n : ℕ) (gs : List (List Item)) → Groups cs ps n gs → StaysBut is_publish n (map promise_of (filter p gs))
+  pub groups-left : (p : List Item → Bool) (n : ℕ) (gs : List (List Item)) → Groups cs ps n gs → StaysBut is_publish n (map promise_of_group (filter p gs))
       → Groups cs ps' n (filter (λ g. not (p g)) gs)
   groups-left p n [] h f = tt
   groups-left p n (g ∷ gs) h f = by (p g) f (λ y. groups-left p (suc h.0) gs h.2 y) where
-    by : (b : Bool) → StaysBut is_publish n (map promise_of (cond b (g ∷ filter p gs) (filter p gs)))
-        → (StaysBut is_publish (suc h.0) (map promise_of (filter p gs)) → Groups cs ps' (suc h.0) (filter (λ g. not (p g)) gs))
+    by : (b : Bool) → StaysBut is_publish n (map promise_of_group (cond b (g ∷ filter p gs) (filter p gs)))
+        → (StaysBut is_publish (suc h.0) (map promise_of_group (filter p gs)) → Groups cs ps' (suc h.0) (filter (λ g. not (p g)) gs))
         → Groups cs ps' n (cond (not b) (g ∷ filter (λ g. not (p g)) gs) (filter (λ g. not (p g)) gs))
     by true f rest =
         groups-weaker cs ps' n (suc h.0) (filter (λ g. not (p g)) gs) (omega (arith, h.1.waits.above))
         (rest
         (λ k c told is le out.
-        f k c told is (omega (arith, le, h.1.waits.above)) (other-promise (promise_of g) h.0 k (is-promise cs ps n h.0 g h.1) (λ e. omega (arith, e, le)), out)))
+        f k c told is (omega (arith, le, h.1.waits.above)) (other-promise (promise_of_group g) h.0 k (is-promise cs ps n h.0 g h.1) (λ e. omega (arith, e, le)), out)))
     by false f rest =
         let w = h.1.waits in
-        let out : NotIn h.0 (map promise_of (filter p gs)) = groups-differ cs ps h.0 p (suc h.0) gs h.2 (λ j c told is le e. omega (arith, e, le)) in (
+        let out : NotIn h.0 (map promise_of_group (filter p gs)) = groups-differ cs ps h.0 p (suc h.0) gs h.2 (λ j c told is le e. omega (arith, e, le)) in (
           h.0,
           record {
             command = h.1.command;

@@ -9,7 +9,7 @@ use Rattle.amqp_frame.specs.declared.frame.Read.{Read}
 use Rattle.amqp_frame.specs.declared.frame.Read.TheVariants.{Whole, More, TooLarge, BadHeartbeat, Bad, NoMemory as ReadNoMemory}
 use Rattle.amqp_frame.specs.Frames.{encoding}
 use Rattle.amqp_outbox.specs.declared.item.Item.{Item}
-use Rattle.amqp_outbox.specs.Items.{size_of, plain}
+use Rattle.amqp_outbox.specs.Items.{size_of, plain_item}
 use Rattle.amqp_outbox.specs.Queued as queued
 use Rattle.amqp_outbox.specs.Queued.{Queued, waiting_items, after_next, only}
 use Rattle.amqp_session.specs.declared.state.Link.{Link}
@@ -252,7 +252,7 @@ module _ (T : Cmd → Type 0) (L : List Frame → Type 0) (I : Talk → Type 0) 
   pub record Fresh (e : Engine) : Type 0 where
     pub opened : is_open e.talk ≡ true
     pub writable : e.talk.blocked ≡ false
-    pub outbox : e.talk.outbox ≡ only (plain 0 protocol_header)
+    pub outbox : e.talk.outbox ≡ only (plain_item 0 protocol_header)
     pub unsent : e.unsent ≡ []
     pub room : 8 ≤ e.talk.capacity
 
@@ -269,7 +269,7 @@ module _ (T : Cmd → Type 0) (L : List Frame → Type 0) (I : Talk → Type 0) 
       let asked_t : is_asked t ≡ true = present-keeps is_asked at e.talk (λ n. refl) ∙ h in
       let y : Talk = linked t in
       let opened : is_open y ≡ true = ap is_open (if-true (is_asked t) _ t asked_t) in
-      let outbox : y.outbox ≡ only (plain 0 protocol_header) = ap (λ (z : Talk). z.outbox) (if-true (is_asked t) _ t asked_t) in
+      let outbox : y.outbox ≡ only (plain_item 0 protocol_header) = ap (λ (z : Talk). z.outbox) (if-true (is_asked t) _ t asked_t) in
       let writable : y.blocked ≡ false = ap (λ (z : Talk). z.blocked) (if-true (is_asked t) _ t asked_t) in
       let waits : I t = (kept-moment false at e.talk ss kept).now.1 (asked-lacks t.link asked_t) in
       let said : P y [] = k.linked t asked_t waits in
@@ -395,12 +395,12 @@ module _ (T : Cmd → Type 0) (L : List Frame → Type 0) (I : Talk → Type 0) 
 
   -- ---- the first offer on a link
 
-  header-fits : (space : ℕ) → 8 ≤ space → fitting space (Some (plain 0 protocol_header)) ≡ Some (plain 0 protocol_header)
+  header-fits : (space : ℕ) → 8 ≤ space → fitting space (Some (plain_item 0 protocol_header)) ≡ Some (plain_item 0 protocol_header)
   header-fits space h =
       let fits : nat_le 8 space ≡ true = grind (arith, nat_tests) in
-      ap (λ b. if b then Some (plain 0 protocol_header) else None) fits
+      ap (λ b. if b then Some (plain_item 0 protocol_header) else None) fits
 
-  fresh-fits : (e : Engine) → Fresh e → fitting_next e ≡ Some (plain 0 protocol_header)
+  fresh-fits : (e : Engine) → Fresh e → fitting_next e ≡ Some (plain_item 0 protocol_header)
   fresh-fits e h =
       let space : ℕ = e.talk.capacity - length e.unsent in
       let none : length e.unsent ≡ 0 = ap length h.unsent in
@@ -412,7 +412,7 @@ module _ (T : Cmd → Type 0) (L : List Frame → Type 0) (I : Talk → Type 0) 
   one-waits : (e : Engine) → Fresh e → frames_waiting e.talk ≡ 1
   one-waits e h = ap (λ (q : Queued). length (waiting_items q)) h.outbox
 
-  fresh-commits : (e : Engine) → Fresh e → committed_before e ≡ plain 0 protocol_header ∷ []
+  fresh-commits : (e : Engine) → Fresh e → committed_before e ≡ plain_item 0 protocol_header ∷ []
   fresh-commits e h = ap (λ n. committed_in n e) (one-waits e h) ∙ ap (λ o. option_to_list o ++ []) (fresh-fits e h)
 
   fresh-unsent : (e : Engine) → Fresh e → (commit_all e).unsent ≡ encoding protocol_header

@@ -3,7 +3,7 @@ use Rattle.std.proofs.Common.{◌≡◌, ◌⊎◌, inl, inr, ℕ, zero, suc, �
 use Rattle.std.proofs.lemmas.Bool.Decides.{nat_tests}
 use Rattle.amqp_frame.specs.Frames.{encoding}
 use Rattle.amqp_outbox.specs.declared.item.Item.{Item}
-use Rattle.amqp_outbox.specs.Items.{plain, size_of}
+use Rattle.amqp_outbox.specs.Items.{plain_item, size_of}
 use Rattle.amqp_outbox.specs.Queued.{Queued}
 use Rattle.amqp_promise.specs.declared.error.ErrorKind.{ErrorKind}
 use Rattle.amqp_session.specs.declared.committed.Then.TheVariants.{Finish}
@@ -71,7 +71,7 @@ module _ (options : Options) (p : Progress) (bye : Goodbye options p) (h : Leave
   e = p.engine
 
   abbrev last : Item
-  last = plain 0 close_ok
+  last = plain_item 0 close_ok
 
   clear : IsClear e
   clear = bye.clear h.opened

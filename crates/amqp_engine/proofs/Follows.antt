@@ -6,7 +6,7 @@ use Rattle.amqp_frame.specs.declared.frame.Read.{Read}
 use Rattle.amqp_frame.specs.declared.frame.Read.TheVariants.{Whole}
 use Rattle.amqp_frame.specs.FrameReading.{front}
 use Rattle.amqp_frame.specs.Frames.{FrameOf}
-use Rattle.amqp_frame.specs.Fronts.{IsWithin}
+use Rattle.amqp_frame.specs.Fronts.{IsWithinLimit}
 use Rattle.amqp_frame.proofs.FrontLaws.{front_again}
 use Rattle.amqp_session.specs.declared.auth.asked.Asked.{Asked}
 use Rattle.amqp_session.specs.declared.state.Input.{Input}
@@ -55,7 +55,7 @@ new-fresh t (config, inr is) =
 -- ---- the front of what is unread
 
 -- a frame that is begun, and not whole
-pub front-begun : (f : Frame) (begun rest : List ℕ) (limit : ℕ) → FrameOf f (begun ++ rest) → IsWithin limit (length (begun ++ rest)) f → rest ≢ []
+pub front-begun : (f : Frame) (begun rest : List ℕ) (limit : ℕ) → FrameOf f (begun ++ rest) → IsWithinLimit limit (length (begun ++ rest)) f → rest ≢ []
     → is_more (front begun limit) ≡ true
 front-begun f begun rest limit spelled within some = by (is_more (front begun limit)) refl where
   nothing : (xs : List ℕ) → length xs ≡ 0 → xs ≡ []

@@ -9,7 +9,7 @@ use Rattle.amqp_frame.specs.declared.frame.Frame.TheVariants.{Heartbeat}
 use Rattle.amqp_frame.specs.RawMethods.{OtherMethod}
 use Rattle.amqp_frame.specs.Frames.{encoding}
 use Rattle.amqp_outbox.specs.declared.item.Item.{Item}
-use Rattle.amqp_outbox.specs.Items.{plain, promised, group_of}
+use Rattle.amqp_outbox.specs.Items.{plain_item, promised_item, group_of}
 use Rattle.amqp_outbox.specs.Queued.{pushed_control, is_on}
 use Rattle.amqp_promise.specs.declared.state.ConnectionState.{ConnectionState}
 use Rattle.amqp_promise.specs.declared.state.ConnectionState.TheVariants.{Connected}
@@ -80,7 +80,7 @@ module _ (options : Options) where
 
   brief-leave : (n code : ℕ) (text : List ℕ) (c : Channel) (answers : Option ℕ) (t : Talk) → length text ≤ 255 → M t → M (leave_channel n code text c answers t)
   brief-leave n code text c answers t le h =
-      let x : Item = plain n (our_channel_close n code text) in
+      let x : Item = plain_item n (our_channel_close n code text) in
       let k = says-queue options n (our_channel_close n code text) t (channel-close-short n code text le) h in
       (h.0, h.1, h.2, fit-left t.capacity (pushed_control x t.outbox) k.3 (λ group. not (is_on n group)))
 
@@ -94,7 +94,7 @@ module _ (options : Options) where
 
   brief-go : (code : ℕ) (text : List ℕ) (answers : Option ℕ) (t : Talk) → length text ≤ 255 → M t → M (leave_connection code text answers t)
   brief-go code text answers t le h =
-      let x : Item = plain 0 (our_close code text) in
+      let x : Item = plain_item 0 (our_close code text) in
       let k = says-queue options 0 (our_close code text) t (close-short code text le) h in
       (h.0, h.1, h.2, fit-ungrouped t.capacity (pushed_control x t.outbox) k.3)
 
@@ -103,7 +103,7 @@ module _ (options : Options) where
   brief-send (Ok c) n m t h =
       let f : Frame = method_frame n m in
       unless (too_long (f ∷ []) t) (queue_send n f) t h
-      (λ none. (h.0, h.1, h.2, fit-control t.capacity t.outbox h.3 (promised n f (next_promise t)) (none-long t.capacity (f ∷ []) none).0))
+      (λ none. (h.0, h.1, h.2, fit-control t.capacity t.outbox h.3 (promised_item n f (next_promise t)) (none-long t.capacity (f ∷ []) none).0))
 
   brief-publish : (r : Result Channel ErrorKind) (n : ℕ) (m : OtherMethod) (properties body : List ℕ) (t : Talk) → M t → M (publish_target r n m properties body t)
   brief-publish (Err e) n m properties body t h = h
@@ -125,7 +125,7 @@ module _ (options : Options) where
   brief-secret secret reason t h =
       let f : Frame = new_secret secret reason in
       unless (too_long (f ∷ []) t) (queue_secret f) t h
-      (λ none. (h.0, h.1, h.2, fit-control t.capacity t.outbox h.3 (plain 0 f) (none-long t.capacity (f ∷ []) none).0))
+      (λ none. (h.0, h.1, h.2, fit-control t.capacity t.outbox h.3 (plain_item 0 f) (none-long t.capacity (f ∷ []) none).0))
 
   brief-rule : (s : ConnectionState) (c : Cmd) (t : Talk) → IsShortCommand c → M t → M (command_rule s c t)
   brief-rule Connected OpenChannel t k h =

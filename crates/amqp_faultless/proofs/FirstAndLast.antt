@@ -3,7 +3,7 @@ use Rattle.std.proofs.Common.{◌≡◌, ◌≤◌, ◌⊎◌, inl, inr, ℕ, �
 use Rattle.std.specs.Prelude.{nat_lt}
 use Rattle.std.proofs.lemmas.Bool.Decides.{nat_tests}
 use Rattle.amqp_uri.specs.Query.{kept_frame_max}
-use Rattle.amqp_outbox.specs.Items.{plain}
+use Rattle.amqp_outbox.specs.Items.{plain_item}
 use Rattle.amqp_session.specs.declared.command.Answer.TheVariants.{Connected as AnswerConnected}
 use Rattle.amqp_session.specs.declared.committed.Mark.{Mark}
 use Rattle.amqp_session.specs.declared.committed.Then.TheVariants.{Finish}
@@ -64,7 +64,7 @@ met-linked t is h =
 -- ---- the end
 
 -- our close-ok is next, where the server does not block
-pub leaves-next : (t : Talk) → Leaves t → next_out t ≡ Some (plain 0 close_ok)
+pub leaves-next : (t : Talk) → Leaves t → next_out t ≡ Some (plain_item 0 close_ok)
 leaves-next t h =
     if-true (writes t) (queued.next_item (flows t) t.outbox) None (and-true (is_open t) (not t.blocked) h.opened (ap not h.blocked))
     ∙ ap (queued.next_item (flows t)) h.only_close

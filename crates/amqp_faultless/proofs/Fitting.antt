@@ -4,7 +4,7 @@ use Rattle.std.specs.Prelude.{filter}
 use Rattle.std.specs.List.{AllByRecursion}
 use Rattle.std.proofs.lemmas.Bool.Decides.{nat_tests}
 use Rattle.amqp_outbox.specs.declared.item.Item.{Item}
-use Rattle.amqp_outbox.specs.Items.{size_of, frames_of}
+use Rattle.amqp_outbox.specs.Items.{size_of, items_of_groups}
 use Rattle.amqp_outbox.specs.Queued.{Queued, waiting_items, pushed_control, pushed_group, is_on, goes_with}
 use Rattle.amqp_session.specs.Talk.{Talk}
 use Rattle.amqp_session.specs.Changes.{without_all_on}
@@ -35,18 +35,18 @@ module _ (c : ℕ) where
   fit-behind [] ys h = h
   fit-behind (x ∷ xs) ys h = fit-behind xs ys h.1
 
-  fit-group-more : (groups : List (List Item)) (group : List Item) → Fit c group → Fit c (frames_of groups) → Fit c (frames_of (groups ++ group ∷ []))
+  fit-group-more : (groups : List (List Item)) (group : List Item) → Fit c group → Fit c (items_of_groups groups) → Fit c (items_of_groups (groups ++ group ∷ []))
   fit-group-more [] group g h = fit-joined group [] g tt
   fit-group-more (x ∷ groups) group g h =
-      fit-joined x (frames_of (groups ++ group ∷ [])) (fit-front x (frames_of groups) h) (fit-group-more groups group g (fit-behind x (frames_of groups) h))
+      fit-joined x (items_of_groups (groups ++ group ∷ [])) (fit-front x (items_of_groups groups) h) (fit-group-more groups group g (fit-behind x (items_of_groups groups) h))
 
   -- groups that are left
-  fit-groups-left : (test : List Item → Bool) (groups : List (List Item)) → Fit c (frames_of groups) → Fit c (frames_of (filter test groups))
+  fit-groups-left : (test : List Item → Bool) (groups : List (List Item)) → Fit c (items_of_groups groups) → Fit c (items_of_groups (filter test groups))
   fit-groups-left test [] h = tt
-  fit-groups-left test (group ∷ groups) h = by (test group) (fit-groups-left test groups (fit-behind group (frames_of groups) h))
+  fit-groups-left test (group ∷ groups) h = by (test group) (fit-groups-left test groups (fit-behind group (items_of_groups groups) h))
     where
-      by : (b : Bool) → Fit c (frames_of (filter test groups)) → Fit c (frames_of (cond b (group ∷ filter test groups) (filter test groups)))
-      by true rest = fit-joined group (frames_of (filter test groups)) (fit-front group (frames_of groups) h) rest
+      by : (b : Bool) → Fit c (items_of_groups (filter test groups)) → Fit c (items_of_groups (cond b (group ∷ filter test groups) (filter test groups)))
+      by true rest = fit-joined group (items_of_groups (filter test groups)) (fit-front group (items_of_groups groups) h) rest
       by false rest = rest
 
   -- frames that are left
@@ -60,15 +60,15 @@ module _ (c : ℕ) where
 
   module _ (q : Queued) (h : Fit c (waiting_items q)) where
     first-lanes : Fit c (q.begun ++ q.control)
-    first-lanes = fit-front (q.begun ++ q.control) (frames_of q.publish) h
+    first-lanes = fit-front (q.begun ++ q.control) (items_of_groups q.publish) h
 
-    last-lane : Fit c (frames_of q.publish)
-    last-lane = fit-behind (q.begun ++ q.control) (frames_of q.publish) h
+    last-lane : Fit c (items_of_groups q.publish)
+    last-lane = fit-behind (q.begun ++ q.control) (items_of_groups q.publish) h
 
     -- a frame goes last in the control lane that is as short
     pub fit-control : (x : Item) → size_of x ≤ c → Fit c (waiting_items (pushed_control x q))
     fit-control x f =
-        fit-joined (q.begun ++ (q.control ++ x ∷ [])) (frames_of q.publish)
+        fit-joined (q.begun ++ (q.control ++ x ∷ [])) (items_of_groups q.publish)
         (fit-joined q.begun (q.control ++ x ∷ []) (fit-front q.begun q.control first-lanes)
         (fit-joined q.control (x ∷ []) (fit-behind q.begun q.control first-lanes) (f, tt)))
         last-lane
@@ -76,17 +76,17 @@ module _ (c : ℕ) where
     -- a group goes last of frames that are as short
     pub fit-group : (group : List Item) → Fit c group → Fit c (waiting_items (pushed_group group q))
     fit-group group g =
-        fit-joined (q.begun ++ q.control) (frames_of (q.publish ++ group ∷ [])) first-lanes (fit-group-more q.publish group g last-lane)
+        fit-joined (q.begun ++ q.control) (items_of_groups (q.publish ++ group ∷ [])) first-lanes (fit-group-more q.publish group g last-lane)
 
     -- some groups go
     pub fit-left : (test : List Item → Bool) → Fit c (waiting_items (record q { publish = filter test q.publish }))
     fit-left test =
-        fit-joined (q.begun ++ q.control) (frames_of (filter test q.publish)) first-lanes (fit-groups-left test q.publish last-lane)
+        fit-joined (q.begun ++ q.control) (items_of_groups (filter test q.publish)) first-lanes (fit-groups-left test q.publish last-lane)
 
     -- all of a channel goes
     pub fit-channel : (n : ℕ) → Fit c (waiting_items (without_all_on n q))
     fit-channel n =
-        fit-joined (q.begun ++ filter (λ item. not (goes_with n item)) q.control) (frames_of (filter (λ group. not (is_on n group)) q.publish))
+        fit-joined (q.begun ++ filter (λ item. not (goes_with n item)) q.control) (items_of_groups (filter (λ group. not (is_on n group)) q.publish))
         (fit-joined q.begun (filter (λ item. not (goes_with n item)) q.control) (fit-front q.begun q.control first-lanes)
         (fit-items-left (λ item. not (goes_with n item)) q.control (fit-behind q.begun q.control first-lanes)))
         (fit-groups-left (λ group. not (is_on n group)) q.publish last-lane)

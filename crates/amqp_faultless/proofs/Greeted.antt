@@ -13,8 +13,8 @@ use Rattle.amqp_frame.specs.declared.method.Method.TheVariants.{StartOk, SecureO
 use Rattle.amqp_outbox.specs.declared.item.Item.{Item}
 use Rattle.amqp_outbox.specs.declared.reply.Awaited.{Awaited}
 use Rattle.amqp_outbox.specs.declared.reply.Reply.TheVariants.{SecretDone, ConnectionClosed}
-use Rattle.amqp_outbox.specs.Items.{plain}
-use Rattle.amqp_outbox.specs.Replies.{is_of, awaited_on, answered}
+use Rattle.amqp_outbox.specs.Items.{plain_item}
+use Rattle.amqp_outbox.specs.Replies.{is_of, awaited_on, left_awaited}
 use Rattle.amqp_outbox.specs.Queued.{Queued, awaited_promise, only}
 use Rattle.amqp_session.specs.declared.channels.Channel.{Channel}
 use Rattle.amqp_session.specs.declared.committed.Mark.{Mark}
@@ -128,7 +128,7 @@ pub record Leaves (t : Talk) : Type 0 where
   pub input : t.input ≡ ClosedInput crossed
   pub closed : t.server_close ≡ Some WithoutError
   pub blocked : t.blocked ≡ false
-  pub only_close : t.outbox ≡ only (plain 0 close_ok)
+  pub only_close : t.outbox ≡ only (plain_item 0 close_ok)
   pub first : First (Some (Ok AnswerConnected)) t
 
 -- once a frame was heard
@@ -328,7 +328,7 @@ module _ (s : Server) (t : Talk) (m : IsMet s t) (is : t.state ≡ Connected) wh
         some-promise (Some a) found = refl
         some-promise None found = absurd (true≢false (sym found))
 
-      after-secret : Serves (record s { secrets = left }) (record t.outbox { awaited = answered 0 SecretDone t.outbox.awaited }) t.channels t.committed
+      after-secret : Serves (record s { secrets = left }) (record t.outbox { awaited = left_awaited 0 SecretDone t.outbox.awaited }) t.channels t.committed
       after-secret = serves-secret s t.outbox t.channels t.committed left owed serving-now
 
       by : (x : Option (Option ℕ)) → is_some x ≡ true → Goes (record s { secrets = left }) (secret_taken x t)

@@ -5,7 +5,7 @@ use Rattle.amqp_frame.specs.declared.frame.Frame.TheVariants.{Method, Heartbeat}
 use Rattle.amqp_frame.specs.declared.method.Method.{Method as AnyMethod}
 use Rattle.amqp_frame.specs.declared.method.Method.TheVariants.{Start, Secure, Tune, OpenOk}
 use Rattle.amqp_outbox.specs.declared.item.Item.{Item}
-use Rattle.amqp_outbox.specs.Items.{plain}
+use Rattle.amqp_outbox.specs.Items.{plain_item}
 use Rattle.amqp_outbox.specs.Queued.{Queued}
 use Rattle.amqp_session.specs.declared.configuration.Configuration.{Configuration}
 use Rattle.amqp_session.specs.declared.state.Phase.{Phase}
@@ -75,7 +75,7 @@ heard-start s t m is phase (Method zero (Start a b c d e)) answers s' h said =
     by (answer.Mechanism name ∷ answer.Starter (Ok text) ∷ rest) said =
         let P : Server → Type 0 = λ x. Heard x (on_start (answer.Mechanism name ∷ answer.Starter (Ok text) ∷ rest) t) in
         let g = meets-at s t m AwaitStart is phase in
-        let i : Item = plain 0 (start_ok t.config.options name text) in
+        let i : Item = plain_item 0 (start_ok t.config.options name text) in
         subst P (some_is (record s { stage = BeforeTune }) s' h)
         (inl (met-at s t m AwaitStart is phase (record s { stage = BeforeTune }) AwaitTune (record t.outbox { control = t.outbox.control ++ i ∷ [] }) t.configuration refl (limit-at s t m AwaitStart is phase)
         (greets-push BeforeTune (record s { stage = BeforeTune }) t.outbox t.channels t.committed i (refl, refl)
@@ -94,7 +94,7 @@ heard-tune s t m is phase (Method zero (Secure challenge)) answers s' h said =
         let P : Server → Type 0 = λ x. Heard x (on_secure (answer.Challenge (Ok text) ∷ rest) t) in
         let g = meets-at s t m AwaitTune is phase in
         let k = given-by s.asked (record s { stage = BeforeTune; asked = false }) s' h in
-        let i : Item = plain 0 (secure_ok text) in
+        let i : Item = plain_item 0 (secure_ok text) in
         let P2 : Phase → Type 0 = λ x. IsMet (record s { stage = BeforeTune; asked = false }) (record t { phase = x; outbox = record t.outbox { control = t.outbox.control ++ i ∷ [] } }) in
         subst P k.1
         (inl (subst P2 (sym phase) (met-at s t m AwaitTune is phase (record s { stage = BeforeTune; asked = false }) AwaitTune (record t.outbox { control = t.outbox.control ++ i ∷ [] }) t.configuration refl (limit-at s t m AwaitTune is phase)
@@ -113,8 +113,8 @@ heard-tune s t m is phase (Method zero (Tune channel_max frame_max heartbeat)) a
         let g = meets-at s t m AwaitTune is phase in
         let k = given-by s.asked (record s { stage = BeforeOpenOk; asked = false }) s' h in
         let x : Server = record s { stage = BeforeOpenOk; asked = false } in
-        let i : Item = plain 0 (tune_ok agreed) in
-        let j : Item = plain 0 (open_vhost t.config.uri.vhost) in
+        let i : Item = plain_item 0 (tune_ok agreed) in
+        let j : Item = plain_item 0 (open_vhost t.config.uri.vhost) in
         let q : Queued = record t.outbox { control = t.outbox.control ++ i ∷ [] } in
         subst P k.1
         (inl (met-at s t m AwaitTune is phase x AwaitOpenOk (record q { control = q.control ++ j ∷ [] }) agreed refl ((limit-at s t m AwaitTune is phase).0, omega arith)

@@ -8,7 +8,7 @@ use Rattle.amqp_frame.specs.declared.method.Method.{Method as AnyMethod}
 use Rattle.amqp_frame.specs.declared.method.Method.TheVariants.{Start, Secure, Tune, OpenOk, Close, CloseOk, Blocked, Unblocked, UpdateSecretOk, ChannelOpenOk, ChannelClose, ChannelCloseOk, ChannelFlow, ChannelFlowOk}
 use Rattle.amqp_frame.specs.Frames.{encoding}
 use Rattle.amqp_outbox.specs.declared.reply.Reply.TheVariants.{ChannelOpened, ChannelClosed, FlowDone, SecretDone, ConnectionClosed}
-use Rattle.amqp_outbox.specs.Items.{plain}
+use Rattle.amqp_outbox.specs.Items.{plain_item}
 use Rattle.amqp_outbox.specs.Queued.{Queued, waiting_items, awaited_promise}
 use Rattle.amqp_session.specs.declared.channels.Channel.{Channel}
 use Rattle.amqp_session.specs.declared.channels.Debt.{Debt}
@@ -61,7 +61,7 @@ module _ (options : Options) where
   M t = Modest options t
 
   pub says-queue : (n : ℕ) (f : Frame) (t : Talk) → length (encoding f) ≤ 131072 → M t → M (queue n f t)
-  says-queue n f t le h = let large = h.2 in (h.0, h.1, h.2, fit-control t.capacity t.outbox h.3 (plain n f) (omega (arith, le, large)))
+  says-queue n f t le h = let large = h.2 in (h.0, h.1, h.2, fit-control t.capacity t.outbox h.3 (plain_item n f) (omega (arith, le, large)))
 
   pub says-lose : (e : ErrorKind) (t : Talk) → M t → M (lose e t)
   says-lose e t h = lose-case M e t (λ delay. (h.0, h.1, h.2, tt)) h
@@ -153,7 +153,7 @@ module _ (options : Options) where
         h.0,
         h.1,
         h.2,
-        fit-control t.capacity (without_all_on n t.outbox) (fit-channel t.capacity t.outbox h.3 n) (plain n (channel_close_ok n)) (omega (arith, large)),
+        fit-control t.capacity (without_all_on n t.outbox) (fit-channel t.capacity t.outbox h.3 n) (plain_item n (channel_close_ok n)) (omega (arith, large)),
       )
   says-server-close debt.Nothing true n e c t h = says-queue n (channel_close_ok n) t (omega arith) h
   says-server-close _ awaits n e c t h = h

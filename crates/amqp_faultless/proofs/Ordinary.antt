@@ -11,8 +11,8 @@ use Rattle.amqp_frame.specs.declared.method.Method.TheVariants.{Close, ChannelOp
 use Rattle.amqp_frame.specs.RawMethods.{OtherMethod}
 use Rattle.amqp_outbox.specs.declared.item.Item.{Item}
 use Rattle.amqp_outbox.specs.declared.reply.Reply.TheVariants.{ChannelOpened, ChannelClosed, FlowDone}
-use Rattle.amqp_outbox.specs.Items.{plain, promised, group_of, promise_of}
-use Rattle.amqp_outbox.specs.Queued.{Queued, awaited_promise, answered, is_on, goes_with}
+use Rattle.amqp_outbox.specs.Items.{plain_item, promised_item, group_of, promise_of_group}
+use Rattle.amqp_outbox.specs.Queued.{Queued, awaited_promise, without_awaited, is_on, goes_with}
 use Rattle.amqp_session.specs.declared.channels.Channel.{Channel}
 use Rattle.amqp_session.specs.declared.channels.Debt.{Debt}
 use Rattle.amqp_session.specs.declared.channels.Debt.TheVariants as debt
@@ -121,7 +121,7 @@ each-given e (o ∷ os) r ps h = each-given e os r (settled_to o (Err e) ps) (to
 
 pub rejected-given : (e : ErrorKind) (groups : List (List Item)) (r : Result Answer ErrorKind) (ps : Promises) → Given r ps → Given r (rejected e groups ps)
 rejected-given e [] r ps h = h
-rejected-given e (g ∷ gs) r ps h = rejected-given e gs r (settled_to (promise_of g) (Err e) ps) (to-given (promise_of g) r (Err e) ps h)
+rejected-given e (g ∷ gs) r ps h = rejected-given e gs r (settled_to (promise_of_group g) (Err e) ps) (to-given (promise_of_group g) r (Err e) ps h)
 
 made-first : (slot : Option (Result Answer ErrorKind)) (x : Option (Result Answer ErrorKind)) (t : Talk) → First slot t → at 0 (put t.made x t.promises) ≡ Some slot
 made-first slot x t h = put-other 0 t.made x t.promises (λ same. omega (arith, h.made)) ∙ h.held
@@ -176,7 +176,7 @@ module _ (slot : Option (Result Answer ErrorKind)) where
 
   pub said : (n : ℕ) (f : Frame) (t : Talk) → is_close f ≡ false → Ordinary slot t (queue n f t)
   said n f t h =
-      record { opened = λ o. o; state = refl; input = refl; blocked = refl; room = omega arith; agreed = refl; first = λ x. x; says = pushed (plain n f) t.outbox h }
+      record { opened = λ o. o; state = refl; input = refl; blocked = refl; room = omega arith; agreed = refl; first = λ x. x; says = pushed (plain_item n f) t.outbox h }
 
   pub refused : (e : ErrorKind) (t : Talk) → Ordinary slot t (refuse e t)
   refused e t =
@@ -266,7 +266,7 @@ module _ (slot : Option (Result Answer ErrorKind)) where
         room = omega arith;
         agreed = refl;
         first = λ x. x;
-        says = λ k. pushed (plain 0 Heartbeat) x.outbox refl k;
+        says = λ k. pushed (plain_item 0 Heartbeat) x.outbox refl k;
       })) missed in
       let told : Goes slot t (timed answers t) =
       secret-case (Goes slot t) answers (beat t) beats (λ asks said_so. goes-on t (beat t) (refreshed said_so (beat t)) beats (refreshed-keeps said_so (beat t))) in
@@ -318,7 +318,7 @@ module _ (r : Result Answer ErrorKind) where
         blocked = refl;
         room = omega arith;
         agreed = refl;
-        first = λ x. record { made = x.made; held = each-given (InvalidChannelState channel.Closed word.ChannelCloseOkReceived) (replies_on n (answered n ChannelClosed t.outbox)) r (settled_to o (Ok Done) t.promises) (to-given o r (Ok Done) t.promises x.held) };
+        first = λ x. record { made = x.made; held = each-given (InvalidChannelState channel.Closed word.ChannelCloseOkReceived) (replies_on n (without_awaited n ChannelClosed t.outbox)) r (settled_to o (Ok Done) t.promises) (to-given o r (Ok Done) t.promises x.held) };
         says = λ x. x;
       })
 
@@ -333,7 +333,7 @@ module _ (r : Result Answer ErrorKind) where
         room = omega arith;
         agreed = refl;
         first = λ x. x;
-        says = pushed (Some r) (plain n (Method n (ChannelFlowOk active))) t.outbox refl;
+        says = pushed (Some r) (plain_item n (Method n (ChannelFlowOk active))) t.outbox refl;
       }
 
   flowed-goes : (n : ℕ) (c : Channel) (active : Bool) (o : Option (Option ℕ)) (t : Talk) → GoesOn t (channel_flowed n c active o t)
@@ -375,7 +375,7 @@ module _ (r : Result Answer ErrorKind) where
         room = omega arith;
         agreed = refl;
         first = λ x. x;
-        says = pushed (Some r) (plain n (Method n ChannelCloseOk)) t.outbox refl;
+        says = pushed (Some r) (plain_item n (Method n ChannelCloseOk)) t.outbox refl;
       }
   server-close-goes debt.Owed awaits n e c t = λ _. same (Some r) t
   server-close-goes debt.Paid awaits n e c t = λ _. same (Some r) t
@@ -494,7 +494,7 @@ module _ (r : Result Answer ErrorKind) where
         room = omega arith;
         agreed = refl;
         first = (promises (Some r) t).first;
-        says = pushed (Some r) (plain n (channel_open n)) t.outbox refl;
+        says = pushed (Some r) (plain_item n (channel_open n)) t.outbox refl;
       }
 
   left-stays : (n code : ℕ) (text : List ℕ) (c : Channel) (o : Option ℕ) (t : Talk) → Stays t (leave_channel n code text c o t)
@@ -509,7 +509,7 @@ module _ (r : Result Answer ErrorKind) where
         first = λ x. record { made = x.made; held = rejected-given (InvalidChannelState channel.Closing word.ChannelClose) (filter (is_on n) t.outbox.publish) r t.promises x.held };
         says = λ x. record {
           begun = x.begun;
-          control = all-append IsOther t.outbox.control (plain n (our_channel_close n code text) ∷ []) x.control (refl, tt);
+          control = all-append IsOther t.outbox.control (plain_item n (our_channel_close n code text) ∷ []) x.control (refl, tt);
           publish = all-filter AreOthers (λ group. not (is_on n group)) t.outbox.publish x.publish;
         };
       }
@@ -535,7 +535,7 @@ module _ (r : Result Answer ErrorKind) where
         room = omega arith;
         agreed = refl;
         first = (promises (Some r) t).first;
-        says = pushed (Some r) (plain n (channel_flow n active)) t.outbox refl;
+        says = pushed (Some r) (plain_item n (channel_flow n active)) t.outbox refl;
       }
 
   unless-stays : (o : Option Frame) (rule : Talk → Talk) (t : Talk) → Stays t (rule t) → Stays t (unless_too_long o rule t)
@@ -555,7 +555,7 @@ module _ (r : Result Answer ErrorKind) where
         room = omega arith;
         agreed = refl;
         first = (promises (Some r) t).first;
-        says = pushed (Some r) (promised n f (next_promise t)) t.outbox refl;
+        says = pushed (Some r) (promised_item n f (next_promise t)) t.outbox refl;
       })
 
   secret-stays : (secret reason : List ℕ) (t : Talk) → Stays t (update_secret secret reason t)
@@ -570,7 +570,7 @@ module _ (r : Result Answer ErrorKind) where
         room = omega arith;
         agreed = refl;
         first = (promises (Some r) t).first;
-        says = pushed (Some r) (plain 0 f) t.outbox refl;
+        says = pushed (Some r) (plain_item 0 f) t.outbox refl;
       })
 
   publish-stays : (o : Result Channel ErrorKind) (n : ℕ) (m : OtherMethod) (properties body : List ℕ) (t : Talk) → Stays t (publish_target o n m properties body t)

@@ -12,9 +12,9 @@ use Rattle.amqp_outbox.specs.declared.item.Item.{Item}
 use Rattle.amqp_outbox.specs.declared.reply.Awaited.{Awaited}
 use Rattle.amqp_outbox.specs.declared.reply.Reply.{Reply}
 use Rattle.amqp_outbox.specs.declared.reply.Reply.TheVariants.{ChannelOpened, ChannelClosed, FlowDone, SecretDone}
-use Rattle.amqp_outbox.specs.Items.{plain, outlives}
+use Rattle.amqp_outbox.specs.Items.{plain_item, outlives}
 use Rattle.amqp_outbox.specs.Lists.{without_first}
-use Rattle.amqp_outbox.specs.Replies.{method_of, is_of, awaited_on, answered}
+use Rattle.amqp_outbox.specs.Replies.{method_of, is_of, awaited_on, left_awaited}
 use Rattle.amqp_outbox.specs.Queued.{Queued, awaited_promise, is_on, goes_with}
 use Rattle.amqp_outbox.specs.Queued as queued
 use Rattle.amqp_session.specs.declared.channels.Channel.{Channel}
@@ -243,29 +243,29 @@ module _ (n : ℕ) (c : Channel) (s : Server) (t : Talk) (o : is_open t ≡ true
   none : lives u ≡ true → NoneOpens (acts n t.outbox.control)
   none l = along-none (acts n t.outbox.control) u (at n t.channels) (awaited_on n ws) (h.each n) l
 
-  answered-others : (r q : Reply) → method_of q ≢ method_of r → waiting_for q (awaited_on n ws) ≤ waiting_for q (awaited_on n (answered n r ws))
+  answered-others : (r q : Reply) → method_of q ≢ method_of r → waiting_for q (awaited_on n ws) ≤ waiting_for q (awaited_on n (left_awaited n r ws))
   answered-others r q ne =
       let a = waiting-others q r (awaited_on n ws) ne in
       let b = left-more n (without_first (is_of r) (awaited_on n ws)) ws q in omega (arith, a, b)
 
-  answered-one : (r : Reply) → waiting_for r (awaited_on n ws) ≤ suc (waiting_for r (awaited_on n (answered n r ws)))
+  answered-one : (r : Reply) → waiting_for r (awaited_on n ws) ≤ suc (waiting_for r (awaited_on n (left_awaited n r ws)))
   answered-one r =
       let a = waiting-without r (awaited_on n ws) in
       let b = left-more n (without_first (is_of r) (awaited_on n ws)) ws r in omega (arith, a, b)
 
   -- a reply came that ties nothing on channel 0
-  answered-secrets : (r : Reply) → method_of SecretDone ≢ method_of r → waiting_for SecretDone (awaited_on 0 ws) ≤ waiting_for SecretDone (awaited_on 0 (answered n r ws))
+  answered-secrets : (r : Reply) → method_of SecretDone ≢ method_of r → waiting_for SecretDone (awaited_on 0 ws) ≤ waiting_for SecretDone (awaited_on 0 (left_awaited n r ws))
   answered-secrets r ne = by (0 == n) refl where
-    by : (b : Bool) → (0 == n) ≡ b → waiting_for SecretDone (awaited_on 0 ws) ≤ waiting_for SecretDone (awaited_on 0 (answered n r ws))
+    by : (b : Bool) → (0 == n) ≡ b → waiting_for SecretDone (awaited_on 0 ws) ≤ waiting_for SecretDone (awaited_on 0 (left_awaited n r ws))
     by true is =
-        let P : ℕ → Type 0 = λ k. waiting_for SecretDone (awaited_on k ws) ≤ waiting_for SecretDone (awaited_on k (answered n r ws)) in
+        let P : ℕ → Type 0 = λ k. waiting_for SecretDone (awaited_on k ws) ≤ waiting_for SecretDone (awaited_on k (left_awaited n r ws)) in
         subst P (sym (the-number 0 n is)) (answered-others r SecretDone ne)
     by false is = let same = ap (waiting_for SecretDone) (left-other 0 n (without_first (is_of r) (awaited_on n ws)) ws (differ 0 n is)) in omega (arith, same)
 
   others-answered : (r : Reply) (cs : Channels) → ((m : ℕ) → m ≢ n → at m cs ≡ at m t.channels)
-      → (m : ℕ) → m ≢ n → Along (acts m t.outbox.control) (s.uses m) (at m cs) (awaited_on m (answered n r ws))
+      → (m : ℕ) → m ≢ n → Along (acts m t.outbox.control) (s.uses m) (at m cs) (awaited_on m (left_awaited n r ws))
   others-answered r cs same m ne =
-      along-cast (acts m t.outbox.control) (s.uses m) (at m t.channels) (at m cs) (awaited_on m ws) (awaited_on m (answered n r ws)) (same m ne)
+      along-cast (acts m t.outbox.control) (s.uses m) (at m t.channels) (at m cs) (awaited_on m ws) (awaited_on m (left_awaited n r ws)) (same m ne)
       (left-other m n (without_first (is_of r) (awaited_on n ws)) ws ne) (h.each m)
 
   promise-found : (r : Reply) → 1 ≤ waiting_for r (awaited_on n ws) → is_some (awaited_promise n r t.outbox) ≡ true
@@ -276,15 +276,15 @@ module _ (n : ℕ) (c : Channel) (s : Server) (t : Talk) (o : is_open t ≡ true
 
   -- a reply came, and the channel is used otherwise
   replied : (r : Reply) → method_of SecretDone ≢ method_of r → (u' : Use) (cs : Channels) → ((m : ℕ) → m ≢ n → at m cs ≡ at m t.channels)
-      → ((m : ℕ) → owing (at m cs) ≡ owing (at m t.channels)) → Along (acts n t.outbox.control) u' (at n cs) (awaited_on n (answered n r ws))
-      → Serves (used_as n u' s) (record t.outbox { awaited = answered n r ws }) cs t.committed
+      → ((m : ℕ) → owing (at m cs) ≡ owing (at m t.channels)) → Along (acts n t.outbox.control) u' (at n cs) (awaited_on n (left_awaited n r ws))
+      → Serves (used_as n u' s) (record t.outbox { awaited = left_awaited n r ws }) cs t.committed
   replied r ne u' cs same owes own =
       record {
         stage = h.stage;
         staying = h.staying;
         ours = h.ours;
         secrets = (let a = h.secrets in let b = answered-secrets r ne in omega (arith, a, b));
-        each = each-by n u' s t.outbox.control cs (answered n r ws) own (others-answered r cs same);
+        each = each-by n u' s t.outbox.control cs (left_awaited n r ws) own (others-answered r cs same);
         due = λ m. (let a = h.due m in let b = owes m in omega (arith, a, b));
         begun = h.begun;
         groups = h.groups;
@@ -327,8 +327,8 @@ module _ (n : ℕ) (c : Channel) (s : Server) (t : Talk) (o : is_open t ≡ true
       o,
       replied ChannelOpened (λ same. absurd (omega (arith, same))) (record u { asked = false; opened = true }) (put n c' t.channels) (λ m ne. put-other m n c' t.channels ne)
           (put-owing n c c' t.channels listed refl)
-          (along-related (at n t.channels) (at n (put n c' t.channels)) (awaited_on n ws) (awaited_on n (answered n ChannelOpened ws)) Opened opened-step
-          (opened-stands (at n t.channels) (at n (put n c' t.channels)) (awaited_on n ws) (awaited_on n (answered n ChannelOpened ws))
+          (along-related (at n t.channels) (at n (put n c' t.channels)) (awaited_on n ws) (awaited_on n (left_awaited n ChannelOpened ws)) Opened opened-step
+          (opened-stands (at n t.channels) (at n (put n c' t.channels)) (awaited_on n ws) (awaited_on n (left_awaited n ChannelOpened ws))
           (put-free n c c' t.channels listed refl)
           (answered-others ChannelOpened FlowDone (λ same. absurd (omega (arith, same))))
           (answered-others ChannelOpened ChannelClosed (λ same. absurd (omega (arith, same)))))
@@ -371,16 +371,16 @@ module _ (n : ℕ) (c : Channel) (s : Server) (t : Talk) (o : is_open t ≡ true
       by (Some promise) found = (
         o,
         replied FlowDone (λ same. absurd (omega (arith, same))) (record u { flows = left }) t.channels (λ m ne. refl) (λ m. refl)
-            (along-related (at n t.channels) (at n t.channels) (awaited_on n ws) (awaited_on n (answered n FlowDone ws)) Flowed flowed-step
-            (flowed-stands (at n t.channels) (awaited_on n ws) (awaited_on n (answered n FlowDone ws)) (answered-one FlowDone)
+            (along-related (at n t.channels) (at n t.channels) (awaited_on n ws) (awaited_on n (left_awaited n FlowDone ws)) Flowed flowed-step
+            (flowed-stands (at n t.channels) (awaited_on n ws) (awaited_on n (left_awaited n FlowDone ws)) (answered-one FlowDone)
             (answered-others FlowDone ChannelClosed (λ same. absurd (omega (arith, same)))))
             (acts n t.outbox.control) u (record u { flows = left }) (none (opened-lives u opened))
             (record { opened = opened; flows = flows; asked = refl; closing = refl }) (h.each n)),
       )
 
   -- flow
-  plain-flow-ok : (active : Bool) → IsPlain (plain n (flow_ok n active))
-  plain-flow-ok active = record { idle = λ m. refl; other = refl; secret = secret-none n; unpaying = λ m. pays-none (plain n (flow_ok n active)) m tt } where
+  plain-flow-ok : (active : Bool) → IsPlain (plain_item n (flow_ok n active))
+  plain-flow-ok active = record { idle = λ m. refl; other = refl; secret = secret-none n; unpaying = λ m. pays-none (plain_item n (flow_ok n active)) m tt } where
     secret-none : (k : ℕ) → secret_by (flow_ok k active) ≡ 0
     secret-none zero = refl
     secret-none (suc k) = refl
@@ -390,7 +390,7 @@ module _ (n : ℕ) (c : Channel) (s : Server) (t : Talk) (o : is_open t ≡ true
   goes-flow _ active =
       let c' : Channel = record c { flow = active } in (
         o,
-        serves-plain s t.outbox (put n c' t.channels) t.committed (plain n (flow_ok n active)) (plain-flow-ok active)
+        serves-plain s t.outbox (put n c' t.channels) t.committed (plain_item n (flow_ok n active)) (plain-flow-ok active)
             (serves-put n c c' t.channels listed refl s t.outbox t.committed h),
       )
 
@@ -409,13 +409,13 @@ module _ (n : ℕ) (c : Channel) (s : Server) (t : Talk) (o : is_open t ≡ true
   module _ (some : 0 ≢ n) where
     -- close-ok
     gone-others : (cs : Channels) → ((m : ℕ) → m ≢ n → at m cs ≡ at m t.channels)
-        → (m : ℕ) → m ≢ n → Along (acts m t.outbox.control) (s.uses m) (at m cs) (awaited_on m (without n (answered n ChannelClosed ws)))
+        → (m : ℕ) → m ≢ n → Along (acts m t.outbox.control) (s.uses m) (at m cs) (awaited_on m (without n (left_awaited n ChannelClosed ws)))
     gone-others cs same m ne =
-        along-cast (acts m t.outbox.control) (s.uses m) (at m cs) (at m cs) (awaited_on m (answered n ChannelClosed ws)) (awaited_on m (without n (answered n ChannelClosed ws))) refl
-        (ap (λ x. unwrap_or x []) (without-other m n (answered n ChannelClosed ws) ne)) (others-answered ChannelClosed cs same m ne)
+        along-cast (acts m t.outbox.control) (s.uses m) (at m cs) (at m cs) (awaited_on m (left_awaited n ChannelClosed ws)) (awaited_on m (without n (left_awaited n ChannelClosed ws))) refl
+        (ap (λ x. unwrap_or x []) (without-other m n (left_awaited n ChannelClosed ws) ne)) (others-answered ChannelClosed cs same m ne)
 
     gone : (cs : Channels) → ((m : ℕ) → m ≢ n → at m cs ≡ at m t.channels) → unpaid t.committed t.outbox.control n ≤ owing (at n cs) → lives u ≡ true
-        → Serves (used_as n unused s) (record t.outbox { awaited = without n (answered n ChannelClosed ws) }) cs t.committed
+        → Serves (used_as n unused s) (record t.outbox { awaited = without n (left_awaited n ChannelClosed ws) }) cs t.committed
     gone cs same own l =
         record {
           stage = h.stage;
@@ -423,9 +423,9 @@ module _ (n : ℕ) (c : Channel) (s : Server) (t : Talk) (o : is_open t ≡ true
           ours = h.ours;
           secrets =
               (let a = h.secrets in let b = answered-secrets ChannelClosed (λ k. absurd (omega (arith, k))) in
-              let e = ap (λ x. waiting_for SecretDone (unwrap_or x [])) (without-other 0 n (answered n ChannelClosed ws) some) in omega (arith, a, b, e));
-          each = each-by n unused s t.outbox.control cs (without n (answered n ChannelClosed ws))
-              (along-dead (at n cs) (awaited_on n (without n (answered n ChannelClosed ws))) (acts n t.outbox.control) unused (none l) refl) (gone-others cs same);
+              let e = ap (λ x. waiting_for SecretDone (unwrap_or x [])) (without-other 0 n (left_awaited n ChannelClosed ws) some) in omega (arith, a, b, e));
+          each = each-by n unused s t.outbox.control cs (without n (left_awaited n ChannelClosed ws))
+              (along-dead (at n cs) (awaited_on n (without n (left_awaited n ChannelClosed ws))) (acts n t.outbox.control) unused (none l) refl) (gone-others cs same);
           due = by-number (λ m. unpaid t.committed t.outbox.control m ≤ owing (at m cs)) n own
               (λ m ne. (let a = h.due m in let b = ap owing (same m ne) in omega (arith, a, b)));
           begun = h.begun;
@@ -443,7 +443,7 @@ module _ (n : ℕ) (c : Channel) (s : Server) (t : Talk) (o : is_open t ≡ true
 
     abbrev closed_talk : Option ℕ → Talk
     closed_talk promise =
-        drop_replies_of n (InvalidChannelState channel.Closed word.ChannelCloseOkReceived) (give_to promise (Ok Done) (record t { outbox = queued.answered n ChannelClosed t.outbox }))
+        drop_replies_of n (InvalidChannelState channel.Closed word.ChannelCloseOkReceived) (give_to promise (Ok Done) (record t { outbox = queued.without_awaited n ChannelClosed t.outbox }))
 
     goes-left : (promise : Option ℕ) → lives u ≡ true → (d : Debt) → c.debt ≡ d → Goes (used_as n unused s) (remove_unless_owed d n (closed_talk promise))
     goes-left promise l debt.Owed is = (o, gone t.channels (λ m ne. refl) (h.due n) l)
@@ -461,7 +461,7 @@ module _ (n : ℕ) (c : Channel) (s : Server) (t : Talk) (o : is_open t ≡ true
         by (Some promise) found = goes-left promise (opened-lives u opened) c.debt refl
 
     -- the server closes the channel
-    pays-one : (m : ℕ) → m ≢ n → pays m (then_of (plain n (channel_close_ok n))) ≡ 0
+    pays-one : (m : ℕ) → m ≢ n → pays m (then_of (plain_item n (channel_close_ok n))) ≡ 0
     pays-one m ne = pays-others m n ne
 
     abbrev kept_item : Item → Bool
@@ -539,11 +539,11 @@ module _ (n : ℕ) (c : Channel) (s : Server) (t : Talk) (o : is_open t ≡ true
         }
 
     plain-close-ok : (s' : Server) (q : Queued) (cs : Channels) (ms : List Mark) → Serves s' q cs ms → unpaid ms q.control n ≡ 0 → owing (at n cs) ≡ 1
-        → Serves s' (record q { control = q.control ++ plain n (channel_close_ok n) ∷ [] }) cs ms
+        → Serves s' (record q { control = q.control ++ plain_item n (channel_close_ok n) ∷ [] }) cs ms
     plain-close-ok s' q cs ms g unpaid_none owed =
-        serves-push s' q cs cs ms (plain n (channel_close_ok n)) q.awaited g refl (let a = secret-none n in omega (arith, a))
+        serves-push s' q cs cs ms (plain_item n (channel_close_ok n)) q.awaited g refl (let a = secret-none n in omega (arith, a))
         (λ m. idle-push (act_on m (channel_close_ok n)) (acts m q.control) (s'.uses m) (at m cs) (awaited_on m q.awaited) refl (g.each m))
-        (by-number (λ m. unpaid ms q.control m + pays m (then_of (plain n (channel_close_ok n))) ≤ owing (at m cs)) n
+        (by-number (λ m. unpaid ms q.control m + pays m (then_of (plain_item n (channel_close_ok n))) ≤ owing (at m cs)) n
         (let a = pays-own n in omega (arith, a, unpaid_none, owed))
         (λ m ne. (let a = g.due m in let b = pays-one m ne in omega (arith, a, b))))
       where
@@ -613,7 +613,7 @@ stands-three x list list' a b e v h l =
 
 -- one was answered
 pub serves-secret : (s : Server) (q : Queued) (cs : Channels) (ms : List Mark) (left : ℕ) → s.secrets ≡ suc left → Serves s q cs ms
-    → Serves (record s { secrets = left }) (record q { awaited = answered 0 SecretDone q.awaited }) cs ms
+    → Serves (record s { secrets = left }) (record q { awaited = left_awaited 0 SecretDone q.awaited }) cs ms
 serves-secret s q cs ms left owed h =
     let ws = q.awaited in
     let list = awaited_on 0 ws in
@@ -624,14 +624,14 @@ serves-secret s q cs ms left owed h =
       ours = h.ours;
       secrets =
           (let a = h.secrets in let b = waiting-without SecretDone list in let e = left-more 0 rest ws SecretDone in omega (arith, a, b, e, owed));
-      each = by-number (λ m. Along (acts m q.control) (s.uses m) (at m cs) (awaited_on m (answered 0 SecretDone ws))) 0
-          (along-map (at 0 cs) (at 0 cs) list (awaited_on 0 (answered 0 SecretDone ws))
-          (stands-three (at 0 cs) list (awaited_on 0 (answered 0 SecretDone ws))
+      each = by-number (λ m. Along (acts m q.control) (s.uses m) (at m cs) (awaited_on m (left_awaited 0 SecretDone ws))) 0
+          (along-map (at 0 cs) (at 0 cs) list (awaited_on 0 (left_awaited 0 SecretDone ws))
+          (stands-three (at 0 cs) list (awaited_on 0 (left_awaited 0 SecretDone ws))
           (let a = waiting-others ChannelOpened SecretDone list (λ same. absurd (omega (arith, same))) in let b = left-more 0 rest ws ChannelOpened in omega (arith, a, b))
           (let a = waiting-others FlowDone SecretDone list (λ same. absurd (omega (arith, same))) in let b = left-more 0 rest ws FlowDone in omega (arith, a, b))
           (let a = waiting-others ChannelClosed SecretDone list (λ same. absurd (omega (arith, same))) in let b = left-more 0 rest ws ChannelClosed in omega (arith, a, b)))
           (acts 0 q.control) (s.uses 0) (h.each 0))
-          (λ m ne. along-cast (acts m q.control) (s.uses m) (at m cs) (at m cs) (awaited_on m ws) (awaited_on m (answered 0 SecretDone ws)) refl
+          (λ m ne. along-cast (acts m q.control) (s.uses m) (at m cs) (at m cs) (awaited_on m ws) (awaited_on m (left_awaited 0 SecretDone ws)) refl
           (left-other m 0 rest ws ne) (h.each m));
       due = h.due;
       begun = h.begun;

@@ -12,7 +12,7 @@ use Rattle.amqp_types.specs.declared.word.Word.TheVariants as word
 use Rattle.amqp_outbox.specs.declared.item.Item.{Item}
 use Rattle.amqp_outbox.specs.declared.reply.Awaited.{Awaited}
 use Rattle.amqp_outbox.specs.declared.reply.Reply.TheVariants.{ChannelOpened, ChannelClosed, FlowDone, SecretDone}
-use Rattle.amqp_outbox.specs.Items.{plain, promised, group_of}
+use Rattle.amqp_outbox.specs.Items.{plain_item, promised_item, group_of}
 use Rattle.amqp_outbox.specs.Replies.{awaited_on, expected}
 use Rattle.amqp_outbox.specs.Queued.{Queued, is_on}
 use Rattle.amqp_session.specs.declared.channels.Channel.{Channel}
@@ -95,12 +95,12 @@ secret-close (suc k) code text = refl
 
 -- a channel is opened that is not listed
 serves-open : (s : Server) (q : Queued) (cs : Channels) (ms : List Mark) (n number : ℕ) → at n cs ≡ None → Serves s q cs ms
-    → Serves s (record q { control = q.control ++ plain n (channel_open n) ∷ []; awaited = expected n (record { reply = ChannelOpened; promise = Some number }) q.awaited })
+    → Serves s (record q { control = q.control ++ plain_item n (channel_open n) ∷ []; awaited = expected n (record { reply = ChannelOpened; promise = Some number }) q.awaited })
     (put n (new_channel number) cs) ms
 serves-open s q cs ms n number free h =
     let a : Awaited = record { reply = ChannelOpened; promise = Some number } in
     let c : Channel = new_channel number in
-    let i : Item = plain n (channel_open n) in
+    let i : Item = plain_item n (channel_open n) in
     let ws = expected n a q.awaited in
     let waits : 1 ≤ waiting_for ChannelOpened (awaited_on n ws) = (let e = expected-count n a q.awaited ChannelOpened in omega (arith, e)) in
     let own : Along (acts n q.control) (s.uses n) None (awaited_on n q.awaited) =
@@ -116,10 +116,10 @@ serves-open s q cs ms n number free h =
 
 -- the server is told to start or to stop
 serves-flow : (s : Server) (q : Queued) (cs : Channels) (ms : List Mark) (n : ℕ) (active : Bool) (promise : Option ℕ) → Serves s q cs ms
-    → Serves s (record q { control = q.control ++ plain n (channel_flow n active) ∷ []; awaited = expected n (record { reply = FlowDone; promise = promise }) q.awaited }) cs ms
+    → Serves s (record q { control = q.control ++ plain_item n (channel_flow n active) ∷ []; awaited = expected n (record { reply = FlowDone; promise = promise }) q.awaited }) cs ms
 serves-flow s q cs ms n active promise h =
     let a : Awaited = record { reply = FlowDone; promise = promise } in
-    let i : Item = plain n (channel_flow n active) in
+    let i : Item = plain_item n (channel_flow n active) in
     let ws = expected n a q.awaited in
     let one = expected-count n a q.awaited FlowDone in
     let more = expected-more n n a q.awaited in
@@ -143,13 +143,13 @@ serves-flow s q cs ms n active promise h =
 serves-leave : (s : Server) (q : Queued) (cs : Channels) (ms : List Mark) (n code : ℕ) (text : List ℕ) (c : Channel) (promise : Option ℕ) → at n cs ≡ Some c → Serves s q cs ms
     → Serves s
     (record q {
-      control = q.control ++ plain n (our_channel_close n code text) ∷ [];
+      control = q.control ++ plain_item n (our_channel_close n code text) ∷ [];
       awaited = expected n (record { reply = ChannelClosed; promise = promise }) q.awaited;
       publish = filter (λ group. not (is_on n group)) q.publish;
     }) (put n (made_closing c) cs) ms
 serves-leave s q cs ms n code text c promise listed h =
     let a : Awaited = record { reply = ChannelClosed; promise = promise } in
-    let i : Item = plain n (our_channel_close n code text) in
+    let i : Item = plain_item n (our_channel_close n code text) in
     let cs' : Channels = put n (made_closing c) cs in
     let ws = expected n a q.awaited in
     let one = expected-count n a q.awaited ChannelClosed in
@@ -183,10 +183,10 @@ serves-leave s q cs ms n code text c promise listed h =
 
 -- a new secret is told
 serves-new-secret : (s : Server) (q : Queued) (cs : Channels) (ms : List Mark) (secret reason : List ℕ) (promise : Option ℕ) → Serves s q cs ms
-    → Serves s (record q { control = q.control ++ plain 0 (new_secret secret reason) ∷ []; awaited = expected 0 (record { reply = SecretDone; promise = promise }) q.awaited }) cs ms
+    → Serves s (record q { control = q.control ++ plain_item 0 (new_secret secret reason) ∷ []; awaited = expected 0 (record { reply = SecretDone; promise = promise }) q.awaited }) cs ms
 serves-new-secret s q cs ms secret reason promise h =
     let a : Awaited = record { reply = SecretDone; promise = promise } in
-    let i : Item = plain 0 (new_secret secret reason) in
+    let i : Item = plain_item 0 (new_secret secret reason) in
     let ws = expected 0 a q.awaited in
     serves-push s q cs cs ms i ws h refl (let e = expected-count 0 a q.awaited SecretDone in omega (arith, e))
     (λ m.
@@ -197,9 +197,9 @@ serves-new-secret s q cs ms secret reason promise h =
 
 -- ---- what is sent and published
 
-raw-plain : (n : ℕ) (kind : RawKind) (bytes : List ℕ) (channel : ℕ) (promise : ℕ) → IsPlain (promised channel (Raw n kind bytes) promise)
+raw-plain : (n : ℕ) (kind : RawKind) (bytes : List ℕ) (channel : ℕ) (promise : ℕ) → IsPlain (promised_item channel (Raw n kind bytes) promise)
 raw-plain n kind bytes channel promise =
-    record { idle = λ m. refl; other = refl; secret = refl; unpaying = λ m. pays-none (promised channel (Raw n kind bytes) promise) m tt }
+    record { idle = λ m. refl; other = refl; secret = refl; unpaying = λ m. pays-none (promised_item channel (Raw n kind bytes) promise) m tt }
 
 grouped-raw : (n : ℕ) (fs : List Frame) (promise : ℕ) → AllByRecursion (λ (f : Frame). is_raw f ≡ true) fs → AreRaw (group_of n fs promise)
 grouped-raw n [] promise h = tt
@@ -269,7 +269,7 @@ module _ (s : Server) (t : Talk) (h : IsServing s t) where
   send-serving (Err e) n m = h
   send-serving (Ok c) n m =
       unless-serving (too_long (method_frame n m ∷ []) t) (queue_send n (method_frame n m))
-      (serves-plain s t.outbox t.channels t.committed (promised n (method_frame n m) (next_promise t)) (raw-plain n RawMethod _ n (next_promise t)) h)
+      (serves-plain s t.outbox t.channels t.committed (promised_item n (method_frame n m) (next_promise t)) (raw-plain n RawMethod _ n (next_promise t)) h)
 
   publish-serving : (o : Result Channel ErrorKind) (n : ℕ) (m : OtherMethod) (properties body : List ℕ) → NoneCloses (publish_target o n m properties body t).outbox
       → IsServing s (publish_target o n m properties body t)
@@ -399,15 +399,15 @@ met-piece s t m =
     if_case (IsMet s) (is_open t) (record t { last_read = t.present }) t
     (record { opened = m.opened; acting = m.acting; blocked = m.blocked; first = m.first; limit = m.limit; meets = m.meets }) m
 
-heartbeat-plain : IsPlain (plain 0 Heartbeat)
-heartbeat-plain = record { idle = λ m. refl; other = refl; secret = refl; unpaying = λ m. pays-none (plain 0 Heartbeat) m tt }
+heartbeat-plain : IsPlain (plain_item 0 Heartbeat)
+heartbeat-plain = record { idle = λ m. refl; other = refl; secret = refl; unpaying = λ m. pays-none (plain_item 0 Heartbeat) m tt }
 
 met-heartbeat : (s : Server) (t : Talk) → IsMet s t → IsMet s (heartbeat_due t)
 met-heartbeat s t m =
     if_by (IsMet s) (is_heartbeat_due t) (record (queue 0 Heartbeat t) { last_write = t.present }) t
     (λ due.
     (let is = beats-connected t due in
-    let q : Queued = record t.outbox { control = t.outbox.control ++ plain 0 Heartbeat ∷ [] } in
+    let q : Queued = record t.outbox { control = t.outbox.control ++ plain_item 0 Heartbeat ∷ [] } in
     let P : ConnectionState → Type 0 = λ x. Meets x t.phase s q t.channels t.committed in
     record {
       opened = m.opened;
@@ -415,7 +415,7 @@ met-heartbeat s t m =
       blocked = m.blocked;
       first = m.first;
       limit = m.limit;
-      meets = subst P (sym is) (serves-plain s t.outbox t.channels t.committed (plain 0 Heartbeat) heartbeat-plain (meets-in s t m Connected is));
+      meets = subst P (sym is) (serves-plain s t.outbox t.channels t.committed (plain_item 0 Heartbeat) heartbeat-plain (meets-in s t m Connected is));
     }))
     (λ idle. m)
 

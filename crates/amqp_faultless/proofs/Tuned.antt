@@ -9,7 +9,7 @@ use Rattle.amqp_frame.specs.declared.method.Method.{Method as AnyMethod}
 use Rattle.amqp_frame.specs.declared.method.Method.TheVariants.{Start, StartOk, Secure, SecureOk, Tune, TuneOk, Open as OpenMethod, OpenOk, Close, CloseOk, Blocked, Unblocked, UpdateSecretOk}
 use Rattle.amqp_outbox.specs.declared.item.Item.{Item}
 use Rattle.amqp_outbox.specs.declared.reply.Reply.TheVariants.{SecretDone}
-use Rattle.amqp_outbox.specs.Items.{plain}
+use Rattle.amqp_outbox.specs.Items.{plain_item}
 use Rattle.amqp_outbox.specs.Queued.{awaited_promise}
 use Rattle.amqp_promise.specs.declared.state.ConnectionState.{ConnectionState}
 use Rattle.amqp_promise.specs.declared.state.ConnectionState.TheVariants.{Initial, Connecting, Connected, Closing, Closed, Reconnecting, Error}
@@ -183,7 +183,7 @@ module _ (fs : List Frame) (s s' : Server) (t : Talk) (answers : List Asked) (is
       by : (given : List Asked) → AreSaid (question.Mechanism ∷ question.Starter ∷ []) given → Tuned fs s' (on_start given t)
       by (answer.Mechanism name ∷ answer.Starter (Ok text) ∷ rest) said =
           let P : Server → Type 0 = λ x. Tuned fs x (on_start (answer.Mechanism name ∷ answer.Starter (Ok text) ∷ rest) t) in
-          let i : Item = plain 0 (start_ok t.config.options name text) in
+          let i : Item = plain_item 0 (start_ok t.config.options name text) in
           let k = in-phase AwaitStart phase in
           let one = asking-push t.outbox.control i in
           let none = k.2 in
@@ -201,7 +201,7 @@ module _ (fs : List Frame) (s s' : Server) (t : Talk) (answers : List Asked) (is
       by : (given : List Asked) → AreSaid (question.Challenge challenge ∷ []) given → Tuned fs s' (on_secure given t)
       by (answer.Challenge (Ok text) ∷ rest) said =
           let g = given-by s.asked (record s { stage = BeforeTune; asked = false }) s' heard in
-          let i : Item = plain 0 (secure_ok text) in
+          let i : Item = plain_item 0 (secure_ok text) in
           let k = in-phase AwaitTune phase in
           let one = asking-push t.outbox.control i in
           let most = k.2 in
@@ -222,8 +222,8 @@ module _ (fs : List Frame) (s s' : Server) (t : Talk) (answers : List Asked) (is
           let server : Configuration = record { channel_max = channel_max; frame_max = frame_max; heartbeat = heartbeat } in
           let agreed : Configuration = tune t.configuration server in
           let g = given-by s.asked (record s { stage = BeforeOpenOk; asked = false }) s' heard in
-          let i : Item = plain 0 (tune_ok agreed) in
-          let j : Item = plain 0 (open_vhost t.config.uri.vhost) in
+          let i : Item = plain_item 0 (tune_ok agreed) in
+          let j : Item = plain_item 0 (open_vhost t.config.uri.vhost) in
           let k = in-phase AwaitTune phase in
           let most = k.2 in
           let busy = ap as_one g.0 in

@@ -7,7 +7,7 @@ use Rattle.amqp_frame.specs.declared.frame.Frame.TheVariants.{Method, Heartbeat}
 use Rattle.amqp_frame.specs.declared.method.Method.TheVariants.{StartOk, SecureOk, Open as OpenMethod, ChannelOpen}
 use Rattle.amqp_outbox.specs.declared.item.Item.{Item}
 use Rattle.amqp_outbox.specs.declared.reply.Awaited.{Awaited}
-use Rattle.amqp_outbox.specs.Items.{plain}
+use Rattle.amqp_outbox.specs.Items.{plain_item}
 use Rattle.amqp_outbox.specs.Queued.{Queued, after_next}
 use Rattle.amqp_outbox.specs.Queued as queued
 use Rattle.amqp_promise.specs.declared.state.ConnectionState.{ConnectionState}
@@ -111,7 +111,7 @@ tuned-tick answers fs s t timely m h =
     let a : P x = subst P (sym (if-false (is_missed t) (lose MissingHeartbeatError t) t timely)) h in
     let b : P (beat t) =
     if_by P (is_heartbeat_due x) (record (queue 0 Heartbeat x) { last_write = x.present }) x
-    (λ due. tuned-lane fs s x (beats-connected x due) a (x.outbox.control ++ plain 0 Heartbeat ∷ [])) (λ idle. a) in
+    (λ due. tuned-lane fs s x (beats-connected x due) a (x.outbox.control ++ plain_item 0 Heartbeat ∷ [])) (λ idle. a) in
     let d : P (timed answers t) = secret-case P answers (beat t) b (λ asks said. refreshed-tuned said (asks-connected (beat t) asks) b) in
     d
   where

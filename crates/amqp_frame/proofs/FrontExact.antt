@@ -14,7 +14,7 @@ use Rattle.amqp_frame.specs.declared.frame.Frame.TheVariants as f
 use Rattle.amqp_frame.specs.declared.frame.Read.{Read}
 use Rattle.amqp_frame.specs.declared.frame.Read.TheVariants.{Whole, More, TooLarge, BadHeartbeat, Bad}
 use Rattle.amqp_frame.specs.Frames.{Anything, Framed, FrameOf}
-use Rattle.amqp_frame.specs.Fronts.{IsTypeOctet, Names, IsFront}
+use Rattle.amqp_frame.specs.Fronts.{IsTypeOctet, NamesSize, IsFront}
 use Rattle.amqp_frame.specs.FrameReading.{content, ended, sized, framed, expect, version, header, is_type_octet, front}
 use Rattle.amqp_frame.proofs.FrontLaws.{within_all, not_eqb}
 use Rattle.amqp_frame.proofs.MethodTakes.{content_makes}
@@ -341,7 +341,7 @@ module _
 
 names_form :
     (type channel size : ℕ) (a b rest : List ℕ) → IsTypeOctet type → NumberOf w16 channel a → NumberOf w32 size b →
-    Names type size (type ∷ (a ++ (b ++ rest)))
+    NamesSize type size (type ∷ (a ++ (b ++ rest)))
 names_form type channel size a b rest types chan num = (
   type ∷ [],
   a ++ (b ++ rest),
@@ -360,7 +360,7 @@ sized_sound :
 unfolding sized
 sized_sound type limit channel size a b rest types chan num fits = by_limit (ltb limit (size + 8)) refl
   where
-    names : Names type size (type ∷ (a ++ (b ++ rest)))
+    names : NamesSize type size (type ∷ (a ++ (b ++ rest)))
     names = names_form type channel size a b rest types chan num
 
     by_end :

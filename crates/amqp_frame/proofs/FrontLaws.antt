@@ -16,7 +16,7 @@ use Rattle.amqp_frame.specs.declared.frame.RawKind.TheVariants.{RawMethod, Heade
 use Rattle.amqp_frame.specs.declared.frame.Read.TheVariants.{Whole, More}
 use Rattle.amqp_frame.specs.Methods.{is_of_a_channel, class_of, number_of, ArgumentsOf, MethodOf}
 use Rattle.amqp_frame.specs.Frames.{spell_heartbeat, type_of, Framed, RawPayload, FrameOf}
-use Rattle.amqp_frame.specs.Fronts.{IsWithin}
+use Rattle.amqp_frame.specs.Fronts.{IsWithinLimit}
 use Rattle.amqp_frame.specs.FrameReading.{exactly, method_content, method_payload, content, ended, sized, framed, version, header, front}
 use Rattle.amqp_frame.proofs.FrameReaders.{arguments_at, arguments_again}
 
@@ -241,7 +241,7 @@ heartbeat_front limit rest within =
 
 -- a frame that is spelled at the front is read there
 pub front_again :
-    (frame : Frame) (text rest : List ℕ) (limit : ℕ) → FrameOf frame text → IsWithin limit (length text) frame →
+    (frame : Frame) (text rest : List ℕ) (limit : ℕ) → FrameOf frame text → IsWithinLimit limit (length text) frame →
     front (text ++ rest) limit ≡ Whole frame (length text)
 front_again (f.ProtocolHeader v) text rest limit p within =
     let is : text ≡ 65 ∷ 77 ∷ 81 ∷ 80 ∷ p.4.3.0 ∷ v.major ∷ v.minor ∷ v.revision ∷ [] =
@@ -262,7 +262,7 @@ front_again f.Heartbeat text rest limit p within =
     ∙ ap (Whole f.Heartbeat) (sym eight)
 
 -- ---- no octets spell two frames
-pub within_all : (frame : Frame) (n limit : ℕ) → n ≤ limit → IsWithin limit n frame
+pub within_all : (frame : Frame) (n limit : ℕ) → n ≤ limit → IsWithinLimit limit n frame
 within_all (f.ProtocolHeader v) n limit le = tt
 within_all (f.Method channel method) n limit le = le
 within_all (f.Raw channel kind payload) n limit le = le

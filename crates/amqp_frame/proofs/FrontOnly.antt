@@ -10,7 +10,7 @@ use Rattle.amqp_types.proofs.Readers.{number32_reader}
 use Rattle.amqp_frame.specs.declared.frame.Frame.{Frame}
 use Rattle.amqp_frame.specs.declared.frame.Read.{Read}
 use Rattle.amqp_frame.specs.declared.frame.Read.TheVariants.{Whole, More, TooLarge, BadHeartbeat, Bad, NoMemory}
-use Rattle.amqp_frame.specs.Fronts.{IsTypeOctet, Names, IsWithin, IsWhole, IsBadHeartbeat, IsTooLarge, BeginsHeader, IsShort, IsUnfinished, IsMore, IsBad, IsFront}
+use Rattle.amqp_frame.specs.Fronts.{IsTypeOctet, NamesSize, IsWithinLimit, IsWhole, IsBadHeartbeat, IsTooLarge, BeginsHeader, LacksSize, IsUnfinished, IsMore, IsBad, IsFront}
 use Rattle.amqp_frame.specs.FrameReading.{ended, sized, framed, expect, version, header, front, Yields}
 use Rattle.amqp_frame.proofs.FrontLaws.{front_again, framed_again, framed_is, not_eqb}
 use Rattle.amqp_frame.proofs.FrontExact.{then_octet, with_number, then_number, front_sound}
@@ -38,7 +38,7 @@ number16_any c rest len =
 
 -- the channel and the size that a frame names
 named :
-    (type size limit : ℕ) (bytes : List ℕ) → IsTypeOctet type → (n : Names type size bytes) →
+    (type size limit : ℕ) (bytes : List ℕ) → IsTypeOctet type → (n : NamesSize type size bytes) →
     front bytes limit ≡ sized type limit (from_be_bytes w16 n.4.0) size n.4.4.1
 named type size limit bytes types n =
     let c = n.4.0 in
@@ -161,7 +161,7 @@ unfolding framed
 framed_more type limit rest e =
     ap (λ (o : Option ((ℕ × ℕ) × List ℕ)). option_map_or (λ p. sized type limit p.0.0 p.0.1 p.1) o More) e
 
-short_only : (bytes : List ℕ) (limit : ℕ) → IsShort bytes → front bytes limit ≡ More
+short_only : (bytes : List ℕ) (limit : ℕ) → LacksSize bytes → front bytes limit ≡ More
 short_only bytes limit h =
     ap (λ (x : List ℕ). front x limit) h.2
     ∙ type_is_front h.0 limit h.1 h.3
@@ -215,7 +215,7 @@ whole_only :
     front bytes limit ≡ Whole frame n
 whole_only bytes limit frame n h =
     ap (λ (x : List ℕ). front x limit) h.2
-    ∙ front_again frame h.0 h.1 limit h.4 (subst (λ (k : ℕ). IsWithin limit k frame) (sym h.3) h.5)
+    ∙ front_again frame h.0 h.1 limit h.4 (subst (λ (k : ℕ). IsWithinLimit limit k frame) (sym h.3) h.5)
     ∙ ap (Whole frame) h.3
 
 -- ---- exactly one answer

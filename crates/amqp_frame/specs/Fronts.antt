@@ -15,19 +15,19 @@ abbrev pub IsTypeOctet : ℕ → Type 0
 IsTypeOctet n = (n ≡ 1) ⊎ ((n ≡ 2) ⊎ ((n ≡ 3) ⊎ (n ≡ 8)))
 
 -- the octets begin with a type, a channel and a size
-abbrev pub Names : ℕ → ℕ → Form
-Names type size = OctetOf type ▸ (λ channel. length channel ≡ 2) ▸ NumberOf w32 size ▸ Anything
+abbrev pub NamesSize : ℕ → ℕ → Form
+NamesSize type size = OctetOf type ▸ (λ channel. length channel ≡ 2) ▸ NumberOf w32 size ▸ Anything
 
 -- a protocol header is not held to the limit
-abbrev pub IsWithin : ℕ → ℕ → Frame → Type 0
-IsWithin limit n (ProtocolHeader v) = ⊤
-IsWithin limit n _ = n ≤ limit
+abbrev pub IsWithinLimit : ℕ → ℕ → Frame → Type 0
+IsWithinLimit limit n (ProtocolHeader v) = ⊤
+IsWithinLimit limit n _ = n ≤ limit
 
 -- the first n octets spell the frame
 abbrev pub IsWhole : List ℕ → ℕ → Frame → ℕ → Type 0
 IsWhole bytes limit f n =
     (text : List ℕ) × (rest : List ℕ) × (bytes ≡ text ++ rest) × (length text ≡ n)
-    × FrameOf f text × IsWithin limit n f
+    × FrameOf f text × IsWithinLimit limit n f
 
 -- a heartbeat on another channel than 0
 abbrev pub IsBadHeartbeat : List ℕ → ℕ → ℕ → Type 0
@@ -37,7 +37,7 @@ IsBadHeartbeat bytes limit channel =
 
 -- the size is that of a frame above the limit
 abbrev pub IsTooLarge : List ℕ → ℕ → ℕ → Type 0
-IsTooLarge bytes limit size = (type : ℕ) × IsTypeOctet type × Names type size bytes × (limit < size + 8)
+IsTooLarge bytes limit size = (type : ℕ) × IsTypeOctet type × NamesSize type size bytes × (limit < size + 8)
 
 -- the beginning of a protocol header, and not the whole of it
 abbrev pub BeginsHeader : List ℕ → Type 0
@@ -45,19 +45,19 @@ BeginsHeader bytes =
     (more : List ℕ) × (v : ProtocolVersion) × (bytes ≢ []) × (more ≢ []) × FrameOf (ProtocolHeader v) (bytes ++ more)
 
 -- a type octet, and less than a channel and a size behind it
-abbrev pub IsShort : List ℕ → Type 0
-IsShort bytes =
+abbrev pub LacksSize : List ℕ → Type 0
+LacksSize bytes =
     (type : ℕ) × (rest : List ℕ) × (bytes ≡ type ∷ rest) × IsTypeOctet type × (length bytes < 7)
 
 -- less than a frame of the size that they name, which is within the limit, and 0 for a heartbeat
 abbrev pub IsUnfinished : List ℕ → ℕ → Type 0
 IsUnfinished bytes limit =
-    (type : ℕ) × (size : ℕ) × IsTypeOctet type × Names type size bytes
+    (type : ℕ) × (size : ℕ) × IsTypeOctet type × NamesSize type size bytes
     × (size + 8 ≤ limit) × (length bytes < size + 8) × (type ≡ 8 → size ≡ 0)
 
 -- nothing can be said before more octets come
 abbrev pub IsMore : List ℕ → ℕ → Type 0
-IsMore bytes limit = (bytes ≡ []) ⊎ (BeginsHeader bytes ⊎ (IsShort bytes ⊎ IsUnfinished bytes limit))
+IsMore bytes limit = (bytes ≡ []) ⊎ (BeginsHeader bytes ⊎ (LacksSize bytes ⊎ IsUnfinished bytes limit))
 
 -- none of the other answers
 pub record IsBad (bytes : List ℕ) (limit : ℕ) : Type 0 where

@@ -7,13 +7,13 @@ ghost use Rattle.amqp_frame.specs.Frames.{FrameOf, encoding, Writable};
 ghost use Rattle.amqp_frame.specs.Rules.{KeepsRules};
 ghost use Rattle.amqp_types.specs.Forms.{IsOctets};
 ghost use Rattle.amqp_frame.specs.declared.frame.Read.{Read};
-ghost use Rattle.amqp_frame.specs.Fronts.{IsWithin, IsFront};
+ghost use Rattle.amqp_frame.specs.Fronts.{IsWithinLimit, IsFront};
 ghost use Rattle.amqp_frame.specs.FrameReading.{front};
 ghost use Rattle.amqp_frame.specs.Sequences.{Stand, Ending, IsSequence};
 
 /// Each spelling of a frame is read as that frame, whatever follows it.
 pub fn spelled_is_read()
-    ensures { (frame : Frame) (text rest : List ℕ) (limit : ℕ) → FrameOf frame text → IsWithin limit (length text) frame
+    ensures { (frame : Frame) (text rest : List ℕ) (limit : ℕ) → FrameOf frame text → IsWithinLimit limit (length text) frame
         → front (text ++ rest) limit ≡ read.Whole frame (length text) }
 {}
 
@@ -27,10 +27,10 @@ pub fn what_is_writable()
 /// keeps the rules.
 pub fn written_is_read()
     ensures writable { (frame : Frame) (rest : List ℕ) (limit : ℕ) → Writable frame
-        → IsWithin limit (length (encoding frame)) frame
+        → IsWithinLimit limit (length (encoding frame)) frame
         → front (encoding frame ++ rest) limit ≡ read.Whole frame (length (encoding frame)) }
     ensures rules { (frame : Frame) (rest : List ℕ) (limit : ℕ) → KeepsRules frame
-        → length (encoding frame) ≤ 4294967295 → IsWithin limit (length (encoding frame)) frame
+        → length (encoding frame) ≤ 4294967295 → IsWithinLimit limit (length (encoding frame)) frame
         → front (encoding frame ++ rest) limit ≡ read.Whole frame (length (encoding frame)) }
 {}
 

@@ -16,7 +16,7 @@ use Rattle.amqp_frame.specs.declared.method.Method.TheVariants.{Start, Secure, T
 use Rattle.amqp_frame.specs.RawMethods.{OtherMethod, spell_raw_method}
 use Rattle.amqp_outbox.specs.declared.item.Item.{Item}
 use Rattle.amqp_outbox.specs.declared.reply.Reply.TheVariants.{ChannelOpened, ChannelClosed, FlowDone, SecretDone, ConnectionClosed}
-use Rattle.amqp_outbox.specs.Items.{plain, promised, group_of}
+use Rattle.amqp_outbox.specs.Items.{plain_item, promised_item, group_of}
 use Rattle.amqp_outbox.specs.Queued as queued
 use Rattle.amqp_outbox.specs.Queued.{Queued, pushed_control, only, awaited_promise, after_next}
 use Rattle.amqp_session.specs.declared.channels.Channel.{Channel}
@@ -327,7 +327,7 @@ pub record Hears (s : ConnectionState) (t : Talk) (fs : List Frame) : Type 0 whe
 now-server-close : (s : ConnectionState) (p : Phase) (t : Talk) (g : Frame) (fs : List Frame) (code : ℕ) (text : List ℕ)
     → is_open t ≡ true → In s p t (g ∷ fs) → Now (on_connection_close code text t) (g ∷ fs)
 now-server-close s p t g fs code text o h =
-    let r = closed-over (first_out t.outbox) (plain 0 close_ok) g fs h.later refl h.leads (not-over s p t.channels t.outbox.awaited (unpaid t.committed (first_out t.outbox)) h.later h.ties) in
+    let r = closed-over (first_out t.outbox) (plain_item 0 close_ok) g fs h.later refl h.leads (not-over s p t.channels t.outbox.awaited (unpaid t.committed (first_out t.outbox)) h.later h.ties) in
     now-open (on_connection_close code text t) (g ∷ fs) o
     (record { later = r.0; leads = r.1; lane = ((tt, refl), tt); groups = tt; ties = tt; agreed = λ k. absurd (true≢false (sym k)); listed = h.listed; room = h.room })
 
@@ -351,10 +351,10 @@ now-started mechanism (Ok response) t fs o hi hs now h =
     (tied-as Connecting AwaitTune input.Acting x fs hs refl hi
     (record {
       later = v;
-      leads = pushed t.outbox (plain 0 f) fs h.later v h.leads said;
-      lane = all-append IsOfControl t.outbox.control (plain 0 f ∷ []) h.lane ((tt, refl), tt);
+      leads = pushed t.outbox (plain_item 0 f) fs h.later v h.leads said;
+      lane = all-append IsOfControl t.outbox.control (plain_item 0 f ∷ []) h.lane ((tt, refl), tt);
       groups = never-ready h.later v t.outbox.publish (not-opened h.later HeaderSaid h.ties.0 (λ k. cc)) h.groups;
-      ties = (refl, still-new t.channels t.outbox.awaited (unpaid t.committed (first_out t.outbox)) _ (none-more t.committed t.outbox (plain 0 f) tt) h.ties.1);
+      ties = (refl, still-new t.channels t.outbox.awaited (unpaid t.committed (first_out t.outbox)) _ (none-more t.committed t.outbox (plain_item 0 f) tt) h.ties.1);
       agreed = λ k. absurd (true≢false (sym k));
       listed = h.listed;
       room = h.room;
@@ -373,10 +373,10 @@ now-challenged (Ok response) t fs o hi hs hp now h =
     (tied-as Connecting AwaitTune input.Acting x fs hs hp hi
     (record {
       later = v;
-      leads = pushed t.outbox (plain 0 f) fs h.later v h.leads said;
-      lane = all-append IsOfControl t.outbox.control (plain 0 f ∷ []) h.lane ((tt, refl), tt);
+      leads = pushed t.outbox (plain_item 0 f) fs h.later v h.leads said;
+      lane = all-append IsOfControl t.outbox.control (plain_item 0 f ∷ []) h.lane ((tt, refl), tt);
       groups = never-ready h.later v t.outbox.publish (not-opened h.later StartOkSaid h.ties.0 (λ k. cc)) h.groups;
-      ties = (refl, still-new t.channels t.outbox.awaited (unpaid t.committed (first_out t.outbox)) _ (none-more t.committed t.outbox (plain 0 f) tt) h.ties.1);
+      ties = (refl, still-new t.channels t.outbox.awaited (unpaid t.committed (first_out t.outbox)) _ (none-more t.committed t.outbox (plain_item 0 f) tt) h.ties.1);
       agreed = λ k. absurd (true≢false (sym k));
       listed = h.listed;
       room = h.room;
@@ -388,23 +388,23 @@ now-tune server t fs o hi hs h =
     let f = tune_ok (tune t.configuration server) in
     let tuned : Speech = record greeted { stage = TuneOkSaid } in
     let first : say f h.later ≡ Some tuned = ap (say f) h.ties.0 in
-    let r = pushed t.outbox (plain 0 f) fs h.later tuned h.leads first in
-    let q : Queued = pushed_control (plain 0 f) t.outbox in
+    let r = pushed t.outbox (plain_item 0 f) fs h.later tuned h.leads first in
+    let q : Queued = pushed_control (plain_item 0 f) t.outbox in
     let v : Speech = record greeted { stage = OpenSaid } in
     let x : Talk = on_tune server t in
     now-open x fs o
     (tied-as Connecting AwaitOpenOk input.Acting x fs hs refl hi
     (record {
       later = v;
-      leads = pushed q (plain 0 (open_vhost t.config.uri.vhost)) fs tuned v r refl;
+      leads = pushed q (plain_item 0 (open_vhost t.config.uri.vhost)) fs tuned v r refl;
       lane =
-          all-append IsOfControl q.control (plain 0 (open_vhost t.config.uri.vhost) ∷ [])
-          (all-append IsOfControl t.outbox.control (plain 0 f ∷ []) h.lane ((tt, refl), tt)) ((tt, refl), tt);
+          all-append IsOfControl q.control (plain_item 0 (open_vhost t.config.uri.vhost) ∷ [])
+          (all-append IsOfControl t.outbox.control (plain_item 0 f ∷ []) h.lane ((tt, refl), tt)) ((tt, refl), tt);
       groups = never-ready h.later v t.outbox.publish (not-opened h.later StartOkSaid h.ties.0 (λ k. cc)) h.groups;
       ties = (
         refl,
         still-new t.channels t.outbox.awaited (unpaid t.committed (first_out t.outbox)) _
-            (λ n. none-more t.committed q (plain 0 (open_vhost t.config.uri.vhost)) tt n ∙ none-more t.committed t.outbox (plain 0 f) tt n) h.ties.1,
+            (λ n. none-more t.committed q (plain_item 0 (open_vhost t.config.uri.vhost)) tt n ∙ none-more t.committed t.outbox (plain_item 0 f) tt n) h.ties.1,
       );
       agreed = λ k. tuned-size t.configuration server;
       listed = h.listed;
@@ -445,7 +445,7 @@ now-reopened [] t fs v o hi hs agreed room r lane ready ties =
     now-ties t t fs v o hi refl hs agreed room r lane ready (all-reopened t.channels t.outbox.awaited (due_in t) v ties)
 now-reopened (e ∷ pending) t fs v o hi hs agreed room r lane ready ties =
     let n : ℕ = e.0 in
-    let item : Item = plain n (channel_open n) in
+    let item : Item = plain_item n (channel_open n) in
     let x : Talk = await n ChannelOpened None (queue n (channel_open n) t) in
     let y : Talk = remove_channel n t in
     let k = on-reopened n e.1 pending t.channels t.outbox.awaited (due_in t) v ties in
@@ -528,7 +528,7 @@ now-closed n c None t fs h listed first = now-unawaited n c.state ChannelCloseOk
 now-closed n c (Some promise) t fs h listed first =
     let a = first-by-promise n ChannelClosed t.outbox promise first in
     let v : Speech = h.tied.later in
-    let closed : Talk = give_to promise (Ok Done) (record t { outbox = queued.answered n ChannelClosed t.outbox }) in
+    let closed : Talk = give_to promise (Ok Done) (record t { outbox = queued.without_awaited n ChannelClosed t.outbox }) in
     let x : Talk = drop_replies_of n (InvalidChannelState channel.Closed word.ChannelCloseOkReceived) closed in
     now-left c.debt n t x fs v h.opened h.acting refl h.state (h.tied.agreed refl) h.tied.room h.tied.leads h.tied.lane h.tied.groups
     (on-closed n t.channels t.outbox.awaited (due_in t) v c a.0 listed a.1 h.tied.ties)
@@ -541,7 +541,7 @@ now-flow-used n c active t fs h listed used =
     let w : Speech = record v { content = NoContent } in
     let ties : TiesChannels t.channels t.outbox.awaited (due_in t) v = h.tied.ties in
     let c' : Channel = record c { flow = active } in
-    let item : Item = plain n (flow_ok n active) in
+    let item : Item = plain_item n (flow_ok n active) in
     let x : Talk = queue n (flow_ok n active) (set_channel n c' t) in
     let some : n ≢ 0 = listed-some n t.channels t.outbox.awaited (due_in t) v c listed ties in
     let same : TiesChannels x.channels t.outbox.awaited (due_in t) v = on-same n t.channels t.outbox.awaited (due_in t) v c c' listed refl refl ties in
@@ -618,7 +618,7 @@ now-closed-by-server n e c t g fs h listed is none =
     let tied : TiesChannels t.channels ws (due_in t) w =
     on-usages t.channels ws (due_in t) v w (sym l.alike.stages) l.alike.right_complete (λ m. sym (l.alike.usages m)) ties in
     let used : w.usage n ≡ InUse = sym (l.alike.usages n) ∙ still.used in
-    let item : Item = plain n (channel_close_ok n) in
+    let item : Item = plain_item n (channel_close_ok n) in
     let left : Queued = without_all_on n q in
     let x : Talk = closed_by_server n e c t in
     let one : due_in x n ≡ 1 =
@@ -650,7 +650,7 @@ now-crossing n e c t fs h listed is awaits =
     let ties : TiesChannels t.channels ws (due_in t) v = h.tied.ties in
     let some : n ≢ 0 = listed-some n t.channels ws (due_in t) v c listed ties in
     let left = is-left n t.channels q (due_in t) v c listed is awaits ties in
-    let item : Item = plain n (channel_close_ok n) in
+    let item : Item = plain_item n (channel_close_ok n) in
     let x : Talk = crossing_close n e c t in
     let one : due_in x n ≡ 1 =
     (let more : due_in x n ≡ due_in t n + pays n (then_of item) = one-more n t.committed q item in omega (arith, more, left.none_due, pays-own n)) in
@@ -819,7 +819,7 @@ now-drawn : (o : Option ℕ) (t : Talk) (fs : List Frame) → t.state ≡ Connec
 now-drawn None t fs hs is h = h
 now-drawn (Some n) t fs hs is h =
     let free = drawn-free t.configuration.channel_max t.cursor t.channels n is in
-    let item : Item = plain n (channel_open n) in
+    let item : Item = plain_item n (channel_open n) in
     now-told t (open_as n t) fs hs refl h
     (λ o hi s.
     let x : Talk = open_as n t in
@@ -833,7 +833,7 @@ now-drawn (Some n) t fs hs is h =
 -- a heartbeat is to go out
 now-heartbeat : (t : Talk) (fs : List Frame) → t.state ≡ Connected → Now t fs → Now (record (queue 0 Heartbeat t) { last_write = t.present }) fs
 now-heartbeat t fs hs h =
-    let item : Item = plain 0 Heartbeat in
+    let item : Item = plain_item 0 Heartbeat in
     let x : Talk = record (queue 0 Heartbeat t) { last_write = t.present } in
     now-told t x fs hs refl h
     (λ o hi s.
@@ -851,7 +851,7 @@ now-refreshed : (said : Result (List ℕ) (List ℕ)) (t : Talk) (fs : List Fram
 now-refreshed (Err text) t fs hs h = h
 now-refreshed (Ok secret) t fs hs h =
     let f : Frame = new_secret secret refresh_reason in
-    let item : Item = plain 0 f in
+    let item : Item = plain_item 0 f in
     let x : Talk = refreshed (Ok secret) t in
     now-told t x fs hs refl h
     (λ o hi s.
@@ -917,7 +917,7 @@ now-leave : (r : ChanRef) (c : Channel) (code : ℕ) (text : List ℕ) (answers 
 now-leave r c code text answers t fs hs at h =
     let n : ℕ = r.id in
     let x : Talk = leave_channel n code text c answers t in
-    let item : Item = plain n (our_channel_close n code text) in
+    let item : Item = plain_item n (our_channel_close n code text) in
     now-told t x fs hs refl h
     (λ o hi s.
     let k = on-close n t.channels t.outbox.awaited (due_in t) s.later c code text answers at.listed at.open_state s.ties in
@@ -945,7 +945,7 @@ now-flow-target (Ok c) r active t fs hs is h =
     let n : ℕ = r.id in
     let at = target-is r word.ChannelFlow t (named r t) c refl is in
     let x : Talk = tell_flow n active t in
-    let item : Item = plain n (channel_flow n active) in
+    let item : Item = plain_item n (channel_flow n active) in
     now-told t x fs hs refl h
     (λ o hi s.
     let v : Speech = record s.later { content = NoContent } in
@@ -979,7 +979,7 @@ now-send : (r : ChanRef) (m : OtherMethod) (c : Channel) (t : Talk) (fs : List F
 now-send r m c t fs told hs at h =
     let n : ℕ = r.id in
     let f = method_frame n m in
-    let item : Item = promised n f (next_promise t) in
+    let item : Item = promised_item n f (next_promise t) in
     let x : Talk = queue_send n f t in
     now-unless (too_long (f ∷ []) t) (queue_send n f) t fs h
     (λ fits. now-told t x fs hs refl h
@@ -1023,7 +1023,7 @@ now-publish-target (Ok c) r m properties body t fs told hs is h =
 now-update-secret : (secret reason : List ℕ) (t : Talk) (fs : List Frame) → t.state ≡ Connected → Now t fs → Now (update_secret secret reason t) fs
 now-update-secret secret reason t fs hs h =
     let f = new_secret secret reason in
-    let item : Item = plain 0 f in
+    let item : Item = plain_item 0 f in
     let x : Talk = queue_secret f t in
     now-unless (too_long (f ∷ []) t) (queue_secret f) t fs h
     (λ fits. now-told t x fs hs refl h
@@ -1041,7 +1041,7 @@ now-leave-connection : (code : ℕ) (text : List ℕ) (answers : Option ℕ) (t 
     → Now (leave_connection code text answers t) fs
 now-leave-connection code text answers t fs hs h =
     let x : Talk = leave_connection code text answers t in
-    let item : Item = plain 0 (our_close code text) in
+    let item : Item = plain_item 0 (our_close code text) in
     now-told t x fs hs refl h
     (λ o hi s.
     let v : Speech = record s.later { stage = CloseSaid; content = NoContent } in
@@ -1241,7 +1241,7 @@ on_new_link t =
       link = Open;
       input = input.Acting;
       blocked = false;
-      outbox = only (plain 0 protocol_header);
+      outbox = only (plain_item 0 protocol_header);
       committed = [];
       last_read = t.present;
       last_write = t.present;

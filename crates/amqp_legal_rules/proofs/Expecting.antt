@@ -9,7 +9,7 @@ use Rattle.amqp_outbox.specs.declared.reply.Awaited.{Awaited}
 use Rattle.amqp_outbox.specs.declared.reply.Reply.{Reply}
 use Rattle.amqp_outbox.specs.declared.reply.Reply.TheVariants.{ChannelOpened, ChannelClosed, FlowDone, SecretDone, ConnectionClosed}
 use Rattle.amqp_outbox.specs.Lists.{without_first}
-use Rattle.amqp_outbox.specs.Replies.{method_of, is_of, awaited_on, left_on, expected, first_awaited, answered}
+use Rattle.amqp_outbox.specs.Replies.{method_of, is_of, awaited_on, left_on, expected, first_awaited, left_awaited}
 use Rattle.amqp_outbox.specs.Queued.{Queued, awaited_promise}
 use Rattle.amqp_session.specs.Listed.{without}
 use Rattle.amqp_session.specs.Sound.{Ascend}
@@ -62,10 +62,10 @@ left-ascend : (n : ℕ) (list : List Awaited) (ws : List (ℕ × List Awaited)) 
 left-ascend n [] ws h = without-ascends n ws h
 left-ascend n (a ∷ list) ws h = put-ascends n (a ∷ list) ws h
 
-pub answered-ascend : (n : ℕ) (r : Reply) (ws : List (ℕ × List Awaited)) → Ascend (keys_of ws) → Ascend (keys_of (answered n r ws))
+pub answered-ascend : (n : ℕ) (r : Reply) (ws : List (ℕ × List Awaited)) → Ascend (keys_of ws) → Ascend (keys_of (left_awaited n r ws))
 answered-ascend n r ws h = left-ascend n (without_first (is_of r) (awaited_on n ws)) ws h
 
-pub answered-other : (m n : ℕ) (r : Reply) (ws : List (ℕ × List Awaited)) → m ≢ n → tied_on m (answered n r ws) ≡ tied_on m ws
+pub answered-other : (m n : ℕ) (r : Reply) (ws : List (ℕ × List Awaited)) → m ≢ n → tied_on m (left_awaited n r ws) ≡ tied_on m ws
 answered-other m n r ws ne = left-other m n (without_first (is_of r) (awaited_on n ws)) ws ne
 
 first-none : (r : Reply) (list : List Awaited) (a : Awaited) → is_tied r ≡ true → find (is_of r) list ≡ Some a → kinds list ≡ [] → ⊥
@@ -80,7 +80,7 @@ first-none r (x ∷ list) a tied first is = by (is_of r x) (is_tied x.reply) ref
 
 -- what came is the only one that is awaited, and none is any more
 pub record IsAnswered (n : ℕ) (r only : Reply) (ws : List (ℕ × List Awaited)) : Type 0 where
-  pub none : tied_on n (answered n r ws) ≡ []
+  pub none : tied_on n (left_awaited n r ws) ≡ []
   pub same : method_of only ≡ method_of r
 
 abbrev OnlyOne : Reply → Reply → List Awaited → Type 0
@@ -161,11 +161,11 @@ untied-first r (x ∷ list) untied = by (is_of r x) (is_tied x.reply) refl refl 
   by false c hb hc rest = ap (λ others. if is_tied x.reply then x.reply ∷ others else others) rest
 
 pub untied-answered : (m n : ℕ) (r : Reply) (ws : List (ℕ × List Awaited)) → is_tied r ≡ false → Ascend (keys_of ws)
-    → tied_on m (answered n r ws) ≡ tied_on m ws
+    → tied_on m (left_awaited n r ws) ≡ tied_on m ws
 untied-answered m n r ws untied h =
     elim (cases_eq m n) [
       | inl is ↦
-          ap (λ k. tied_on k (answered n r ws)) is ∙ left-same n (without_first (is_of r) (awaited_on n ws)) ws h
+          ap (λ k. tied_on k (left_awaited n r ws)) is ∙ left-same n (without_first (is_of r) (awaited_on n ws)) ws h
           ∙ untied-first r (awaited_on n ws) untied ∙ ap (λ k. tied_on k ws) (sym is)
       | inr ne ↦ answered-other m n r ws ne
     ]

@@ -14,7 +14,7 @@ use Rattle.amqp_frame.specs.declared.method.Method.TheVariants.{ChannelOpen, Cha
 use Rattle.amqp_outbox.specs.declared.reply.Awaited.{Awaited}
 use Rattle.amqp_outbox.specs.declared.reply.Reply.{Reply}
 use Rattle.amqp_outbox.specs.declared.reply.Reply.TheVariants.{ChannelOpened, ChannelClosed}
-use Rattle.amqp_outbox.specs.Replies.{method_of, expected, first_awaited, answered}
+use Rattle.amqp_outbox.specs.Replies.{method_of, expected, first_awaited, left_awaited}
 use Rattle.amqp_outbox.specs.Queued.{Queued, awaited_promise}
 use Rattle.amqp_session.specs.declared.channels.Channel.{Channel}
 use Rattle.amqp_session.specs.declared.channels.Debt.{Debt}
@@ -309,9 +309,9 @@ on-await-untied n reply cs ws due v promise untied h =
     (λ m. refl) h
 
 pub on-answered-untied : (n : ℕ) (reply : Reply) (cs : Listed) (ws : Replies) (due : ℕ → ℕ) (v : Speech) → is_tied reply ≡ false → TiesChannels cs ws due v
-    → TiesChannels cs (answered n reply ws) due v
+    → TiesChannels cs (left_awaited n reply ws) due v
 on-answered-untied n reply cs ws due v untied h =
-    on-alike cs ws (answered n reply ws) due due v (answered-ascend n reply ws h.awaited_sorted)
+    on-alike cs ws (left_awaited n reply ws) due due v (answered-ascend n reply ws h.awaited_sorted)
     (λ m. untied-answered m n reply ws untied h.awaited_sorted) (λ m. refl) h
 
 -- ---- open-ok and close-ok
@@ -333,7 +333,7 @@ opened-closing Paid n ws u a sorted first h = opened-not-closed n ws a sorted fi
 
 -- what an awaited reply tells of a channel's state
 opened-state : (s : ChannelState) (d : Debt) (n : ℕ) (ws : Replies) (u : Usage) (a : Awaited) → Ascend (keys_of ws) → first_awaited n ChannelOpened ws ≡ Some a
-    → TiesState s d (tied_on n ws) u → (tied_on n (answered n ChannelOpened ws) ≡ []) × (u ≡ InUse) × (d ≡ Nothing)
+    → TiesState s d (tied_on n ws) u → (tied_on n (left_awaited n ChannelOpened ws) ≡ []) × (u ≡ InUse) × (d ≡ Nothing)
 opened-state channel.Initial d n ws u a sorted first h = ((one-answered n ChannelOpened ChannelOpened ws a refl sorted first h.0).none, h.1, h.2)
 opened-state channel.Reconnecting d n ws u a sorted first h = ((one-answered n ChannelOpened ChannelOpened ws a refl sorted first h.0).none, h.1, h.2)
 opened-state channel.Connected d n ws u a sorted first h = absurd (none-awaited n ChannelOpened ws a refl first h.0)
@@ -355,10 +355,10 @@ closed-state channel.Reconnecting d n ws u a sorted first h = absurd (closed-not
 closed-state _ d n ws u a sorted first h = absurd h
 
 pub on-opened : (n : ℕ) (cs : Listed) (ws : Replies) (due : ℕ → ℕ) (v : Speech) (c : Channel) (a : Awaited) → at n cs ≡ Some c → first_awaited n ChannelOpened ws ≡ Some a
-    → TiesChannels cs ws due v → TiesChannels (put n (record c { state = channel.Connected }) cs) (answered n ChannelOpened ws) due v
+    → TiesChannels cs ws due v → TiesChannels (put n (record c { state = channel.Connected }) cs) (left_awaited n ChannelOpened ws) due v
 on-opened n cs ws due v c a listed first h =
     let c' : Channel = record c { state = channel.Connected } in
-    let ws' = answered n ChannelOpened ws in
+    let ws' = left_awaited n ChannelOpened ws in
     let k = opened-state c.state c.debt n ws (v.usage n) a h.awaited_sorted first (ties-of n cs ws due v c c.state listed refl h) in
     on-change n cs (put n c' cs) ws ws' due due v v h h.speaking h.complete
     (ties-as (Some c') (at n (put n c' cs)) [] (tied_on n ws') InUse (v.usage n) (put-same n c' cs) k.0 k.1 (refl, refl, k.2))
@@ -403,9 +403,9 @@ on-gone n cs ws ws' due due' v u unused used owed others sorted replies awaited 
 
 -- close-ok came, and what else was awaited on the channel goes
 pub on-closed : (n : ℕ) (cs : Listed) (ws : Replies) (due : ℕ → ℕ) (v : Speech) (c : Channel) (a : Awaited) → at n cs ≡ Some c → first_awaited n ChannelClosed ws ≡ Some a
-    → TiesChannels cs ws due v → TiesChannels (left_listed c.debt n cs) (without n (answered n ChannelClosed ws)) due v
+    → TiesChannels cs ws due v → TiesChannels (left_listed c.debt n cs) (without n (left_awaited n ChannelClosed ws)) due v
 on-closed n cs ws due v c a listed first h =
-    let ws1 : Replies = answered n ChannelClosed ws in
+    let ws1 : Replies = left_awaited n ChannelClosed ws in
     let ws' : Replies = without n ws1 in
     let ascend1 = answered-ascend n ChannelClosed ws h.awaited_sorted in
     let ascend' = without-ascends n ws1 ascend1 in
@@ -414,18 +414,18 @@ on-closed n cs ws due v c a listed first h =
     let k = closed-state c.state c.debt n ws (v.usage n) a h.awaited_sorted first (ties-of n cs ws due v c c.state listed refl h) in
     by c.debt refl k.0 k.1 ascend' none others
   where
-    by : (d : Debt) → c.debt ≡ d → c.state ≡ channel.Closing → TiesClosing d (tied_on n ws) (v.usage n) → Ascend (keys_of (without n (answered n ChannelClosed ws)))
-        → tied_on n (without n (answered n ChannelClosed ws)) ≡ []
-        → ((m : ℕ) → m ≢ n → tied_on m (without n (answered n ChannelClosed ws)) ≡ tied_on m ws)
-        → TiesChannels (left_listed d n cs) (without n (answered n ChannelClosed ws)) due v
+    by : (d : Debt) → c.debt ≡ d → c.state ≡ channel.Closing → TiesClosing d (tied_on n ws) (v.usage n) → Ascend (keys_of (without n (left_awaited n ChannelClosed ws)))
+        → tied_on n (without n (left_awaited n ChannelClosed ws)) ≡ []
+        → ((m : ℕ) → m ≢ n → tied_on m (without n (left_awaited n ChannelClosed ws)) ≡ tied_on m ws)
+        → TiesChannels (left_listed d n cs) (without n (left_awaited n ChannelClosed ws)) due v
     by Nothing is state ties sorted none others =
-        on-gone n cs ws (without n (answered n ChannelClosed ws)) due due v Left left-not-used ties.1
+        on-gone n cs ws (without n (left_awaited n ChannelClosed ws)) due due v Left left-not-used ties.1
         (owed-of n cs ws due v c listed h ∙ owing-by c Nothing is) (λ m ne. refl) sorted none others h
     by Paid is state ties sorted none others =
-        on-gone n cs ws (without n (answered n ChannelClosed ws)) due due v Shut shut-not-used ties.1
+        on-gone n cs ws (without n (left_awaited n ChannelClosed ws)) due due v Shut shut-not-used ties.1
         (owed-of n cs ws due v c listed h ∙ owing-by c Paid is) (λ m ne. refl) sorted none others h
     by Owed is state ties sorted none others =
-        let ws' : Replies = without n (answered n ChannelClosed ws) in
+        let ws' : Replies = without n (left_awaited n ChannelClosed ws) in
         let here : TiesState c.state c.debt [] Shut =
         (let Q : ChannelState → Type 0 = λ s. TiesState s c.debt [] Shut in
         let R : Debt → Type 0 = λ d. TiesClosing d [] Shut in

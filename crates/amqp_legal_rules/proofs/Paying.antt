@@ -8,8 +8,8 @@ use Rattle.amqp_frame.specs.declared.frame.Frame.TheVariants.{Method, Raw}
 use Rattle.amqp_frame.specs.declared.frame.RawKind.TheVariants.{RawMethod, Header}
 use Rattle.amqp_frame.specs.declared.method.Method.TheVariants.{ChannelCloseOk}
 use Rattle.amqp_outbox.specs.declared.item.Item.{Item}
-use Rattle.amqp_outbox.specs.Items.{plain, outlives}
-use Rattle.amqp_outbox.specs.Lists.{is_number}
+use Rattle.amqp_outbox.specs.Items.{plain_item, outlives}
+use Rattle.amqp_outbox.specs.Lists.{is_the_number}
 use Rattle.amqp_outbox.specs.Queued.{Queued, pushed_control, goes_with}
 use Rattle.amqp_session.specs.declared.committed.Mark.{Mark}
 use Rattle.amqp_session.specs.declared.committed.Then.{Then}
@@ -50,12 +50,12 @@ pays-other item n ne =
     by f promise ne = answers-none promise n
 
 -- our close-ok pays for its channel
-pub pays-own : (n : ℕ) → pays n (then_of (plain n (channel_close_ok n))) ≡ 1
+pub pays-own : (n : ℕ) → pays n (then_of (plain_item n (channel_close_ok n))) ≡ 1
 pays-own zero = refl
 pays-own (suc n) = ap (λ b. if b then 1 else 0) (same-number (suc n))
 
-pub pays-others : (m n : ℕ) → m ≢ n → pays m (then_of (plain n (channel_close_ok n))) ≡ 0
-pays-others m n ne = pays-other (plain n (channel_close_ok n)) m (λ is. ne (sym is))
+pub pays-others : (m n : ℕ) → m ≢ n → pays m (then_of (plain_item n (channel_close_ok n))) ≡ 0
+pays-others m n ne = pays-other (plain_item n (channel_close_ok n)) m (λ is. ne (sym is))
 
 -- a frame that does not pay for its channel is no close-ok of it
 pub no-payment : (item : Item) (k : ℕ) → channel_in item.frame ≡ suc k → pays (suc k) (then_of item) ≡ 0 → IsNoPayment item.frame
@@ -141,7 +141,7 @@ left_in_lane n items = filter (λ item. not (goes_with n item)) items
 -- what goes is on the channel, and neither opens nor closes it
 pub goes-on : (n : ℕ) (item : Item) → goes_with n item ≡ true → (item.channel ≡ n) × (outlives item.frame ≡ false)
 goes-on n item h = by (outlives item.frame) refl h where
-  by : (b : Bool) → outlives item.frame ≡ b → is_number n (if b then None else Some item.channel) ≡ true → (item.channel ≡ n) × (outlives item.frame ≡ false)
+  by : (b : Bool) → outlives item.frame ≡ b → is_the_number n (if b then None else Some item.channel) ≡ true → (item.channel ≡ n) × (outlives item.frame ≡ false)
   by true is h = absurd cc
   by false is h = (the-number item.channel n h, is)
 

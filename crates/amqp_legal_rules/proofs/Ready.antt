@@ -9,7 +9,7 @@ use Rattle.amqp_frame.specs.declared.frame.Frame.{Frame}
 use Rattle.amqp_frame.specs.Frames.{encoding}
 use Rattle.amqp_frame.specs.RawMethods.{OtherMethod, spell_raw_method}
 use Rattle.amqp_outbox.specs.declared.item.Item.{Item}
-use Rattle.amqp_outbox.specs.Lists.{is_number}
+use Rattle.amqp_outbox.specs.Lists.{is_the_number}
 use Rattle.amqp_outbox.specs.Items.{group_of}
 use Rattle.amqp_outbox.specs.Queued.{is_on}
 use Rattle.amqp_session.specs.Talk.{Talk}
@@ -64,7 +64,7 @@ other-ready : (b : Bool) (n : ℕ) (u : Usage) (v : Speech) (group : List Item) 
     → AllByRecursion (IsReady (now_on n u v)) (if not b then group ∷ other_groups n groups else other_groups n groups)
 other-ready true n u v group groups is speaking h rest = rest
 other-ready false n u v group groups is speaking h rest =
-    let other : (h.channel == n) ≡ false = sym (ap (is_number n) h.on_channel) ∙ is in
+    let other : (h.channel == n) ≡ false = sym (ap (is_the_number n) h.on_channel) ∙ is in
     (ready-as v (now_on n u v) group h speaking tt (ap (λ b. if b then u else v.usage h.channel) other ∙ h.used), rest)
 
 -- the groups of other channels stay ready once a channel is used otherwise

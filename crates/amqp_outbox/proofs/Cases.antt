@@ -5,7 +5,7 @@ use Rattle.std.specs.declared.cmp.Ordering.{Ordering}
 use Rattle.std.specs.declared.cmp.Ordering.TheVariants.{Less, Equal, Greater}
 use Rattle.std.specs.Ordering.{nat_cmp, is_eq}
 use Rattle.std.specs.Cmp.{nat_cmp_is, ranked}
-use Rattle.amqp_types.proofs.Small.{none-from, not-below, nat_cmp_self}
+use Rattle.amqp_types.proofs.Small.{none-from, not-below, nat_cmp_self, the-number}
 
 pub on-ok : {A E P Q : Type 0} (r : Result A E) → (P → Q) → OnOk r P → OnOk r Q
 on-ok (Ok x) f p = f p
@@ -24,9 +24,6 @@ on-none None f = f refl
 on-none (Some x) f = tt
 
 -- ---- numbers
-
-pub the-number : (a b : ℕ) → (a == b) ≡ true → a ≡ b
-the-number a b h = grind (arith, nat_tests)
 
 pub below-from : (a b : ℕ) → nat_lt a b ≡ true → a < b
 below-from a b h = grind (arith, nat_tests)

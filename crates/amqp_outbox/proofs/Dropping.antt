@@ -3,7 +3,7 @@ use Rattle.std.proofs.Common.{◌≡◌, ◌∙◌, ap, refl, ℕ, Bool, false, 
 use Rattle.std.specs.Prelude.{find}
 use Rattle.std.specs.Option.{option_map}
 use Rattle.amqp_outbox.specs.declared.item.Item.{Item}
-use Rattle.amqp_outbox.specs.Items.{promise_of}
+use Rattle.amqp_outbox.specs.Items.{promise_of_group}
 use Rattle.amqp_outbox.specs.Queued.{Queued, goes_with, is_on, group_promise, without_group, frame_promise, without_frame, without_reply, without_any}
 use Rattle.amqp_outbox.proofs.Taking.{none-left_out}
 
@@ -18,7 +18,7 @@ module _ (channel : ℕ) (q : Queued) where
   -- no group of the channel waits
   pub none-group : None ≡ group_promise channel q → without_group channel q ≡ q
   none-group none =
-      ap (λ l. record q { publish = l }) (none-left_out (is_on channel) q.publish (none-before promise_of (find (is_on channel) q.publish) none))
+      ap (λ l. record q { publish = l }) (none-left_out (is_on channel) q.publish (none-before promise_of_group (find (is_on channel) q.publish) none))
 
   -- no frame of the channel waits that is dropped with it
   pub none-frame : None ≡ frame_promise channel q → without_frame channel q ≡ q

@@ -11,7 +11,7 @@ use Rattle.std.proofs.lemmas.Map.Keys.{sorted_head, sorted_tail}
 use Rattle.std.proofs.lemmas.List.{map-append}
 use Rattle.amqp_outbox.specs.Lists.{head}
 use Rattle.amqp_outbox.specs.Listed.{at}
-use Rattle.amqp_outbox.specs.Order.{seen_first, held, waiting, has_key, numbers_of, IsHeldBelow}
+use Rattle.amqp_outbox.specs.Order.{seen_first, held, things_waiting, has_key, numbers_under, IsHeldBelow}
 use Rattle.amqp_outbox.proofs.Cases.{below-from, from-not-below, less-from, equal-from, greater-from}
 use Rattle.amqp_types.proofs.Small.{none-from, not-below}
 use Rattle.amqp_outbox.proofs.Seen.{Sorted}
@@ -125,10 +125,10 @@ first-waits e es x is = ap (λ o. seen_first e.0 o (held es)) is
 
 -- the first slot tells what waits first
 pub head-slot : {X : Type 0} (made : ℕ) (es : List (ℕ × Option X)) (e : ℕ × Option X) → AllByRecursion (IsHeldBelow made) es → Sorted (keys_of es)
-    → slice_get es 0 ≡ Some e → head (waiting es) ≡ e.1
+    → slice_get es 0 ≡ Some e → head (things_waiting es) ≡ e.1
 head-slot made [] e all sorted h = absurd cc
 head-slot {X} made (f ∷ es) e all sorted h = let same : f ≡ e = cc in by f.1 refl ∙ ap (λ (x : ℕ × Option X). x.1) same where
-  by : (o : Option X) → f.1 ≡ o → head (waiting (f ∷ es)) ≡ f.1
+  by : (o : Option X) → f.1 ≡ o → head (things_waiting (f ∷ es)) ≡ f.1
   by None is = ap (λ l. head (values_of l)) (none-waits made f es all sorted is) ∙ sym is
   by (Some x) is = ap (λ l. head (values_of l)) (first-waits f es x is) ∙ sym is
 
@@ -154,11 +154,11 @@ module _ {X : Type 0} (key_of : X → Option ℕ) (k n : ℕ) (v : X) where
 
   -- the numbers of a key, once one more thing waits
   pub numbers-pushed : (xs : List (ℕ × X))
-      → numbers_of key_of k (xs ++ (n, v) ∷ []) ≡ (if has_key key_of k v then numbers_of key_of k xs ++ n ∷ [] else numbers_of key_of k xs)
+      → numbers_under key_of k (xs ++ (n, v) ∷ []) ≡ (if has_key key_of k v then numbers_under key_of k xs ++ n ∷ [] else numbers_under key_of k xs)
   numbers-pushed [] = refl
   numbers-pushed (e ∷ es) = by (has_key key_of k e.1) (numbers-pushed es) where
-    by : (b : Bool) → numbers_of key_of k (es ++ (n, v) ∷ []) ≡ (if has_key key_of k v then numbers_of key_of k es ++ n ∷ [] else numbers_of key_of k es)
-        → (if b then e.0 ∷ numbers_of key_of k (es ++ (n, v) ∷ []) else numbers_of key_of k (es ++ (n, v) ∷ []))
-        ≡ (if has_key key_of k v then (if b then e.0 ∷ numbers_of key_of k es else numbers_of key_of k es) ++ n ∷ [] else (if b then e.0 ∷ numbers_of key_of k es else numbers_of key_of k es))
-    by true rest = ap (λ list. e.0 ∷ list) rest ∙ cons-last e.0 (has_key key_of k v) (numbers_of key_of k es)
+    by : (b : Bool) → numbers_under key_of k (es ++ (n, v) ∷ []) ≡ (if has_key key_of k v then numbers_under key_of k es ++ n ∷ [] else numbers_under key_of k es)
+        → (if b then e.0 ∷ numbers_under key_of k (es ++ (n, v) ∷ []) else numbers_under key_of k (es ++ (n, v) ∷ []))
+        ≡ (if has_key key_of k v then (if b then e.0 ∷ numbers_under key_of k es else numbers_under key_of k es) ++ n ∷ [] else (if b then e.0 ∷ numbers_under key_of k es else numbers_under key_of k es))
+    by true rest = ap (λ list. e.0 ∷ list) rest ∙ cons-last e.0 (has_key key_of k v) (numbers_under key_of k es)
     by false rest = rest

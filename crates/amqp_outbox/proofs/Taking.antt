@@ -7,9 +7,9 @@ use Rattle.std.specs.Ordering.{nat_cmp, is_eq}
 use Rattle.std.specs.List.Sorted.{IsStrictlySortedBy}
 use Rattle.std.specs.Map.{keys_of, values_of}
 use Rattle.std.proofs.lemmas.Map.Keys.{sorted_head, sorted_tail}
-use Rattle.amqp_outbox.specs.Lists.{head, without_first, is_number}
+use Rattle.amqp_outbox.specs.Lists.{head, without_first, is_the_number}
 use Rattle.amqp_outbox.specs.Listed.{at, without}
-use Rattle.amqp_outbox.specs.Order.{seen_first, held, has_key, numbers_of}
+use Rattle.amqp_outbox.specs.Order.{seen_first, held, has_key, numbers_under}
 use Rattle.amqp_outbox.proofs.Cases.{less-from, to-greater}
 use Rattle.amqp_types.proofs.Small.{the-number, nat_cmp_self}
 use Rattle.amqp_outbox.proofs.Seen.{Sorted, sorted-seen}
@@ -23,10 +23,10 @@ sorted-held es sorted = sorted-seen (λ o. o) es sorted
 
 module _ {X : Type 0} (key_of : X → Option ℕ) where
   -- what holds of all numbers holds of those of a key
-  pub all-numbers : (P : ℕ → Type 0) (k : ℕ) (xs : List (ℕ × X)) → AllByRecursion P (keys_of xs) → AllByRecursion P (numbers_of key_of k xs)
+  pub all-numbers : (P : ℕ → Type 0) (k : ℕ) (xs : List (ℕ × X)) → AllByRecursion P (keys_of xs) → AllByRecursion P (numbers_under key_of k xs)
   all-numbers P k [] all = tt
   all-numbers P k (e ∷ es) all = by (has_key key_of k e.1) (all-numbers P k es all.1) where
-    by : (b : Bool) → AllByRecursion P (numbers_of key_of k es) → AllByRecursion P (if b then e.0 ∷ numbers_of key_of k es else numbers_of key_of k es)
+    by : (b : Bool) → AllByRecursion P (numbers_under key_of k es) → AllByRecursion P (if b then e.0 ∷ numbers_under key_of k es else numbers_under key_of k es)
     by true rest = (all.0, rest)
     by false rest = rest
 
@@ -35,7 +35,7 @@ module _ {X : Type 0} (key_of : X → Option ℕ) where
   all-head P n (m ∷ list) all h = let is : m ≡ n = cc in subst P is all.0
 
   -- a thing of one key has no other
-  same-key : (j k : ℕ) (o : Option ℕ) → is_number k o ≡ true → is_number j o ≡ (k == j)
+  same-key : (j k : ℕ) (o : Option ℕ) → is_the_number k o ≡ true → is_the_number j o ≡ (k == j)
   same-key j k None h = absurd cc
   same-key j k (Some m) h = ap (λ i. i == j) (the-number m k h)
 
@@ -44,7 +44,7 @@ module _ {X : Type 0} (key_of : X → Option ℕ) where
     pub record Takes (xs : List (ℕ × X)) : Type 0 where
       pub there : at n xs ≡ find (has_key key_of k) (values_of xs)
       pub rest : values_of (without n xs) ≡ without_first (has_key key_of k) (values_of xs)
-      pub numbers : (j : ℕ) → numbers_of key_of j (without n xs) ≡ (if k == j then drop 1 (numbers_of key_of j xs) else numbers_of key_of j xs)
+      pub numbers : (j : ℕ) → numbers_under key_of j (without n xs) ≡ (if k == j then drop 1 (numbers_under key_of j xs) else numbers_under key_of j xs)
 
     dropped-one : (m : ℕ) (list : List ℕ) (b : Bool) → list ≡ (if b then drop 1 (if b then m ∷ list else list) else (if b then m ∷ list else list))
     dropped-one m list true = refl
@@ -57,8 +57,8 @@ module _ {X : Type 0} (key_of : X → Option ℕ) where
     kept-one m list list' true false apart is = ap (λ l. m ∷ l) is
     kept-one m list list' false false apart is = is
 
-    other : (j : ℕ) (o : Option ℕ) → is_number k o ≡ false → (k == j) ≡ true → is_number j o ≡ false
-    other j o h is = ap (λ i. is_number i o) (sym (the-number k j is)) ∙ h
+    other : (j : ℕ) (o : Option ℕ) → is_the_number k o ≡ false → (k == j) ≡ true → is_the_number j o ≡ false
+    other j o h is = ap (λ i. is_the_number i o) (sym (the-number k j is)) ∙ h
 
     -- the first entry has the key
     takes-first : (e : ℕ × X) (xs : List (ℕ × X)) → has_key key_of k e.1 ≡ true → e.0 ≡ n → Takes (e ∷ xs)
@@ -69,9 +69,9 @@ module _ {X : Type 0} (key_of : X → Option ℕ) where
           there = ap (λ r. cond (is_eq r) (Some e.1) (at n xs)) same ∙ sym (ap (λ b. cond b (Some e.1) (find (has_key key_of k) (values_of xs))) has);
           rest = ap values_of out ∙ sym (ap (λ b. if b then values_of xs else e.1 ∷ without_first (has_key key_of k) (values_of xs)) has);
           numbers =
-              λ j. ap (numbers_of key_of j) out
-              ∙ dropped-one e.0 (numbers_of key_of j xs) (k == j)
-              ∙ sym (ap (λ b. if k == j then drop 1 (if b then e.0 ∷ numbers_of key_of j xs else numbers_of key_of j xs) else (if b then e.0 ∷ numbers_of key_of j xs else numbers_of key_of j xs)) (same-key j k (key_of e.1) has));
+              λ j. ap (numbers_under key_of j) out
+              ∙ dropped-one e.0 (numbers_under key_of j xs) (k == j)
+              ∙ sym (ap (λ b. if k == j then drop 1 (if b then e.0 ∷ numbers_under key_of j xs else numbers_under key_of j xs) else (if b then e.0 ∷ numbers_under key_of j xs else numbers_under key_of j xs)) (same-key j k (key_of e.1) has));
         }
 
     -- the first entry has it not
@@ -85,39 +85,39 @@ module _ {X : Type 0} (key_of : X → Option ℕ) where
               ap values_of out ∙ ap (λ l. e.1 ∷ l) later.rest
               ∙ sym (ap (λ b. if b then values_of xs else e.1 ∷ without_first (has_key key_of k) (values_of xs)) has);
           numbers =
-              λ j. ap (numbers_of key_of j) out
-              ∙ kept-one e.0 (numbers_of key_of j xs) (numbers_of key_of j (without n xs)) (has_key key_of j e.1) (k == j) (other j (key_of e.1) has) (later.numbers j);
+              λ j. ap (numbers_under key_of j) out
+              ∙ kept-one e.0 (numbers_under key_of j xs) (numbers_under key_of j (without n xs)) (has_key key_of j e.1) (k == j) (other j (key_of e.1) has) (later.numbers j);
         }
 
     -- the first number of a key is that of the first thing of the key
-    pub takes : (xs : List (ℕ × X)) → Sorted (keys_of xs) → head (numbers_of key_of k xs) ≡ Some n → Takes xs
+    pub takes : (xs : List (ℕ × X)) → Sorted (keys_of xs) → head (numbers_under key_of k xs) ≡ Some n → Takes xs
     takes [] sorted h = absurd cc
     takes (e ∷ es) sorted h = by (has_key key_of k e.1) refl h (takes es (sorted_tail nat_cmp e.0 (keys_of es) sorted)) where
-      by : (b : Bool) → has_key key_of k e.1 ≡ b → head (if b then e.0 ∷ numbers_of key_of k es else numbers_of key_of k es) ≡ Some n
-          → (head (numbers_of key_of k es) ≡ Some n → Takes es) → Takes (e ∷ es)
+      by : (b : Bool) → has_key key_of k e.1 ≡ b → head (if b then e.0 ∷ numbers_under key_of k es else numbers_under key_of k es) ≡ Some n
+          → (head (numbers_under key_of k es) ≡ Some n → Takes es) → Takes (e ∷ es)
       by true has h rest = let is : e.0 ≡ n = cc in takes-first e es has is
       by false has h rest =
           let above : nat_cmp e.0 n ≡ Less =
-          all-head (λ m. nat_cmp e.0 m ≡ Less) n (numbers_of key_of k es) (all-numbers (λ m. nat_cmp e.0 m ≡ Less) k es (sorted_head nat_cmp e.0 (keys_of es) sorted)) h in
+          all-head (λ m. nat_cmp e.0 m ≡ Less) n (numbers_under key_of k es) (all-numbers (λ m. nat_cmp e.0 m ≡ Less) k es (sorted_head nat_cmp e.0 (keys_of es) sorted)) h in
           takes-later e es has (less-from e.0 n above) (rest h)
 
   -- where a key has no number, no thing has the key
-  pub none-taken : (k : ℕ) (xs : List (ℕ × X)) → head (numbers_of key_of k xs) ≡ None → find (has_key key_of k) (values_of xs) ≡ None
+  pub none-taken : (k : ℕ) (xs : List (ℕ × X)) → head (numbers_under key_of k xs) ≡ None → find (has_key key_of k) (values_of xs) ≡ None
   none-taken k [] h = refl
   none-taken k (e ∷ es) h = by (has_key key_of k e.1) h (none-taken k es) where
-    by : (b : Bool) → head (if b then e.0 ∷ numbers_of key_of k es else numbers_of key_of k es) ≡ None
-        → (head (numbers_of key_of k es) ≡ None → find (has_key key_of k) (values_of es) ≡ None)
+    by : (b : Bool) → head (if b then e.0 ∷ numbers_under key_of k es else numbers_under key_of k es) ≡ None
+        → (head (numbers_under key_of k es) ≡ None → find (has_key key_of k) (values_of es) ≡ None)
         → cond b (Some e.1) (find (has_key key_of k) (values_of es)) ≡ None
     by true h rest = absurd cc
     by false h rest = rest h
 
   -- a key has a number where a thing has the key
   pub has-found : (k : ℕ) (xs : List (ℕ × X))
-      → not (length (numbers_of key_of k xs) == 0) ≡ is_some (find (has_key key_of k) (values_of xs))
+      → not (length (numbers_under key_of k xs) == 0) ≡ is_some (find (has_key key_of k) (values_of xs))
   has-found k [] = refl
   has-found k (e ∷ es) = by (has_key key_of k e.1) (has-found k es) where
-    by : (b : Bool) → not (length (numbers_of key_of k es) == 0) ≡ is_some (find (has_key key_of k) (values_of es))
-        → not (length (if b then e.0 ∷ numbers_of key_of k es else numbers_of key_of k es) == 0)
+    by : (b : Bool) → not (length (numbers_under key_of k es) == 0) ≡ is_some (find (has_key key_of k) (values_of es))
+        → not (length (if b then e.0 ∷ numbers_under key_of k es else numbers_under key_of k es) == 0)
         ≡ is_some (cond b (Some e.1) (find (has_key key_of k) (values_of es)))
     by true rest = grind (arith, tests)
     by false rest = rest

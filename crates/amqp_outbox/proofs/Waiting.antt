@@ -6,7 +6,7 @@ use Rattle.std.proofs.lemmas.List.Sums.{sum_by-append}
 use Rattle.amqp_outbox.specs.declared.item.Item.{Item}
 use Rattle.amqp_outbox.specs.declared.reply.Awaited.{Awaited}
 use Rattle.amqp_outbox.specs.Lists.{head, without_first}
-use Rattle.amqp_outbox.specs.Items.{size_of, octets_of, frames_of}
+use Rattle.amqp_outbox.specs.Items.{size_of, octets_of, items_of_groups}
 use Rattle.amqp_outbox.specs.Queued.{Queued, next_item, after_next, waiting_items, unsent_octets, pushed_control, pushed_group, without_unbegun, goes_with, is_on, group_promise, frame_promise, without_group, without_frame, without_reply, without_any}
 use Rattle.amqp_outbox.specs.declared.numbers.Queue.{Queue}
 use Rattle.amqp_outbox.specs.declared.outbox.Outbox.{Outbox}
@@ -18,16 +18,16 @@ use Rattle.amqp_outbox.proofs.Taking.{none-left_out}
 
 next-of : (flow : Bool) (control : List Item) (publish : List (List Item)) (begun : List Item) (awaited : List (ℕ × List Awaited)) (item : Item)
     → next_item flow (record { control = control; publish = publish; begun = begun; awaited = awaited }) ≡ Some item
-    → begun ++ control ++ frames_of publish
+    → begun ++ control ++ items_of_groups publish
     ≡ item ∷ waiting_items (after_next flow (record { control = control; publish = publish; begun = begun; awaited = awaited }))
-next-of flow control publish (first ∷ begun) awaited item h = let same : first ≡ item = cc in ap (λ i. i ∷ (begun ++ control ++ frames_of publish)) same
-next-of flow (first ∷ control) publish [] awaited item h = let same : first ≡ item = cc in ap (λ i. i ∷ (control ++ frames_of publish)) same
+next-of flow control publish (first ∷ begun) awaited item h = let same : first ≡ item = cc in ap (λ i. i ∷ (begun ++ control ++ items_of_groups publish)) same
+next-of flow (first ∷ control) publish [] awaited item h = let same : first ≡ item = cc in ap (λ i. i ∷ (control ++ items_of_groups publish)) same
 next-of false [] publish [] awaited item h = absurd cc
 next-of true [] [] [] awaited item h = absurd cc
 next-of true [] ([] ∷ groups) [] awaited item h = absurd cc
 next-of true [] ((first ∷ items) ∷ groups) [] awaited item h =
     let same : first ≡ item = cc in
-    ap (λ i. i ∷ (items ++ frames_of groups)) same ∙ ap (λ l. item ∷ (l ++ frames_of groups)) (sym (append-nil items))
+    ap (λ i. i ∷ (items ++ items_of_groups groups)) same ∙ ap (λ l. item ∷ (l ++ items_of_groups groups)) (sym (append-nil items))
 
 -- the frame that goes next is the first of those that wait, and the others wait then
 pub next-waits : (flow : Bool) (q : Queued) (item : Item) → next_item flow q ≡ Some item → waiting_items q ≡ item ∷ waiting_items (after_next flow q)
@@ -60,25 +60,25 @@ module _ (w : List Item → ℕ) (joined : (xs ys : List Item) → w (xs ++ ys) 
   alone : (group : List Item) → w (group ++ []) ≡ w group
   alone group = ap w (append-nil group)
 
-  with-group : (group : List Item) (groups : List (List Item)) → w (frames_of (group ∷ groups)) ≡ w (frames_of (group ∷ [])) + w (frames_of groups)
-  with-group group groups = omega (arith, joined group (frames_of groups), alone group)
+  with-group : (group : List Item) (groups : List (List Item)) → w (items_of_groups (group ∷ groups)) ≡ w (items_of_groups (group ∷ [])) + w (items_of_groups groups)
+  with-group group groups = omega (arith, joined group (items_of_groups groups), alone group)
 
-  of-all : (q : Queued) → w (waiting_items q) ≡ w q.begun + w q.control + w (frames_of q.publish)
-  of-all q = omega (arith, joined (q.begun ++ q.control) (frames_of q.publish), joined q.begun q.control)
+  of-all : (q : Queued) → w (waiting_items q) ≡ w q.begun + w q.control + w (items_of_groups q.publish)
+  of-all q = omega (arith, joined (q.begun ++ q.control) (items_of_groups q.publish), joined q.begun q.control)
 
   more-control : (item : Item) (q : Queued) → w (waiting_items (pushed_control item q)) ≡ w (waiting_items q) + w (item ∷ [])
   more-control item q = omega (arith, of-all q, of-all (pushed_control item q), joined q.control (item ∷ []))
 
   more-group : (group : List Item) (q : Queued) → w (waiting_items (pushed_group group q)) ≡ w (waiting_items q) + w group
   more-group group q =
-      let last : w (frames_of (q.publish ++ group ∷ [])) ≡ w (frames_of q.publish ++ (group ++ [])) = ap w (flat_map-append (λ g. g) q.publish (group ∷ [])) in
-      omega (arith, of-all q, of-all (pushed_group group q), last, joined (frames_of q.publish) (group ++ []), alone group)
+      let last : w (items_of_groups (q.publish ++ group ∷ [])) ≡ w (items_of_groups q.publish ++ (group ++ [])) = ap w (flat_map-append (λ g. g) q.publish (group ∷ [])) in
+      omega (arith, of-all q, of-all (pushed_group group q), last, joined (items_of_groups q.publish) (group ++ []), alone group)
 
   less-group : (channel : ℕ) (q : Queued) (group : List Item) → find (is_on channel) q.publish ≡ Some group
       → w (waiting_items (without_group channel q)) + w group ≡ w (waiting_items q)
   less-group channel q group is =
-      let less : w (frames_of (without_first (is_on channel) q.publish)) + w (group ++ []) ≡ w (frames_of q.publish) =
-      less-one (λ groups. w (frames_of groups)) with-group (is_on channel) q.publish group is in
+      let less : w (items_of_groups (without_first (is_on channel) q.publish)) + w (group ++ []) ≡ w (items_of_groups q.publish) =
+      less-one (λ groups. w (items_of_groups groups)) with-group (is_on channel) q.publish group is in
       omega (arith, of-all q, of-all (without_group channel q), less, alone group)
 
   less-frame : (channel : ℕ) (q : Queued) (item : Item) → find (goes_with channel) q.control ≡ Some item
@@ -86,10 +86,10 @@ module _ (w : List Item → ℕ) (joined : (xs ys : List Item) → w (xs ++ ys) 
   less-frame channel q item is =
       omega (arith, of-all q, of-all (without_frame channel q), less-one w with-frame (goes_with channel) q.control item is)
 
-  less-first : (groups : List (List Item)) (group : List Item) → head groups ≡ Some group → w (frames_of (drop 1 groups)) + w group ≡ w (frames_of groups)
+  less-first : (groups : List (List Item)) (group : List Item) → head groups ≡ Some group → w (items_of_groups (drop 1 groups)) + w group ≡ w (items_of_groups groups)
   less-first [] group is = absurd cc
   less-first (first ∷ groups) group is =
-      let same : first ≡ group = cc in omega (arith, ap w same, joined first (frames_of groups))
+      let same : first ≡ group = cc in omega (arith, ap w same, joined first (items_of_groups groups))
 
   less-unbegun : (q : Queued) (group : List Item) → head q.publish ≡ Some group
       → w (waiting_items (without_unbegun q)) + w group ≡ w (waiting_items q)
@@ -97,17 +97,17 @@ module _ (w : List Item → ℕ) (joined : (xs ys : List Item) → w (xs ++ ys) 
 
   -- ---- nothing more
 
-  no-more-first : (groups : List (List Item)) → w (frames_of (drop 1 groups)) ≤ w (frames_of groups)
+  no-more-first : (groups : List (List Item)) → w (items_of_groups (drop 1 groups)) ≤ w (items_of_groups groups)
   no-more-first [] = omega arith
-  no-more-first (group ∷ groups) = omega (arith, joined group (frames_of groups))
+  no-more-first (group ∷ groups) = omega (arith, joined group (items_of_groups groups))
 
   no-more-unbegun : (q : Queued) → w (waiting_items (without_unbegun q)) ≤ w (waiting_items q)
   no-more-unbegun q = omega (arith, of-all q, of-all (without_unbegun q), no-more-first q.publish)
 
   no-more-group : (channel : ℕ) (q : Queued) → w (waiting_items (without_group channel q)) ≤ w (waiting_items q)
   no-more-group channel q =
-      let less : w (frames_of (without_first (is_on channel) q.publish)) ≤ w (frames_of q.publish) =
-      no-longer (λ groups. w (frames_of groups)) with-group (is_on channel) q.publish in
+      let less : w (items_of_groups (without_first (is_on channel) q.publish)) ≤ w (items_of_groups q.publish) =
+      no-longer (λ groups. w (items_of_groups groups)) with-group (is_on channel) q.publish in
       omega (arith, of-all q, of-all (without_group channel q), less)
 
   no-more-frame : (channel : ℕ) (q : Queued) → w (waiting_items (without_frame channel q)) ≤ w (waiting_items q)

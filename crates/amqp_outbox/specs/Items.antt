@@ -7,12 +7,12 @@ use Rattle.amqp_frame.specs.Frames.{encoding}
 use Rattle.amqp_outbox.specs.declared.item.Item.{Item}
 
 -- a frame on a channel, which answers no promise
-abbrev pub plain : ℕ → Frame → Item
-plain channel frame = record { channel = channel; frame = frame; promise = None }
+abbrev pub plain_item : ℕ → Frame → Item
+plain_item channel frame = record { channel = channel; frame = frame; promise = None }
 
 -- a frame on a channel, and the promise that it answers once it was sent whole
-abbrev pub promised : ℕ → Frame → ℕ → Item
-promised channel frame number = record { channel = channel; frame = frame; promise = Some number }
+abbrev pub promised_item : ℕ → Frame → ℕ → Item
+promised_item channel frame number = record { channel = channel; frame = frame; promise = Some number }
 
 -- how many bytes spell a frame
 abbrev pub size_of : Item → ℕ
@@ -39,12 +39,12 @@ dropped_with item = if outlives item.frame then None else Some item.channel
 -- the frames of one publish, in order; the promise stands at the last
 abbrev pub group_of : ℕ → List Frame → ℕ → List Item
 group_of channel [] promise = []
-group_of channel (frame ∷ []) promise = promised channel frame promise ∷ []
-group_of channel (frame ∷ next ∷ frames) promise = plain channel frame ∷ group_of channel (next ∷ frames) promise
+group_of channel (frame ∷ []) promise = promised_item channel frame promise ∷ []
+group_of channel (frame ∷ next ∷ frames) promise = plain_item channel frame ∷ group_of channel (next ∷ frames) promise
 
 -- the frames of some groups, group after group
-abbrev pub frames_of : List (List Item) → List Item
-frames_of groups = flat_map (λ group. group) groups
+abbrev pub items_of_groups : List (List Item) → List Item
+items_of_groups groups = flat_map (λ group. group) groups
 
 -- the channel of a group
 abbrev pub channel_of : List Item → Option ℕ
@@ -52,7 +52,7 @@ channel_of [] = None
 channel_of (item ∷ items) = Some item.channel
 
 -- the promise of a group
-abbrev pub promise_of : List Item → Option ℕ
-promise_of [] = None
-promise_of (item ∷ []) = item.promise
-promise_of (item ∷ next ∷ items) = promise_of (next ∷ items)
+abbrev pub promise_of_group : List Item → Option ℕ
+promise_of_group [] = None
+promise_of_group (item ∷ []) = item.promise
+promise_of_group (item ∷ next ∷ items) = promise_of_group (next ∷ items)

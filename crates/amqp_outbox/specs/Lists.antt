@@ -17,6 +17,6 @@ IsFirstAt {X} test i xs =
     (find test (take i xs) ≡ None) × (i < length xs) × ((x : X) → test (slice_index_or xs i x) ≡ true)
 
 -- a number is this one, where there is one
-abbrev pub is_number : ℕ → Option ℕ → Bool
-is_number n None = false
-is_number n (Some m) = m == n
+abbrev pub is_the_number : ℕ → Option ℕ → Bool
+is_the_number n None = false
+is_the_number n (Some m) = m == n

@@ -5,7 +5,7 @@ use Rattle.std.specs.Map.{values_of}
 use Rattle.std.specs.VecDeque.{deque_capacity}
 use Rattle.amqp_outbox.specs.declared.numbers.Queue.{Queue}
 use Rattle.amqp_outbox.specs.Listed.{at, put}
-use Rattle.amqp_outbox.specs.Lists.{is_number}
+use Rattle.amqp_outbox.specs.Lists.{is_the_number}
 
 -- one more entry, where there is a value
 abbrev pub seen_first : {X : Type 0} → ℕ → Option X → List (ℕ × X) → List (ℕ × X)
@@ -13,9 +13,9 @@ seen_first n None entries = entries
 seen_first n (Some x) entries = (n, x) ∷ entries
 
 -- the entries whose values are seen, as what is seen of them
-abbrev pub seen : {X Y : Type 0} → (Y → Option X) → List (ℕ × Y) → List (ℕ × X)
-seen f [] = []
-seen f (e ∷ es) = seen_first e.0 (f e.1) (seen f es)
+abbrev pub entries_seen : {X Y : Type 0} → (Y → Option X) → List (ℕ × Y) → List (ℕ × X)
+entries_seen f [] = []
+entries_seen f (e ∷ es) = seen_first e.0 (f e.1) (entries_seen f es)
 
 -- what is seen of an entry, where there is one
 abbrev pub seen_at : {X Y : Type 0} → (Y → Option X) → Option Y → Option X
@@ -31,20 +31,20 @@ put_seen n (Some x) entries = put n x entries
 
 -- the things that wait, by their numbers: a place that is made for one is none
 abbrev pub held : {X : Type 0} → List (ℕ × Option X) → List (ℕ × X)
-held slots = seen (λ o. o) slots
+held slots = entries_seen (λ o. o) slots
 
 -- the things that wait, in order
-abbrev pub waiting : {X : Type 0} → List (ℕ × Option X) → List X
-waiting slots = values_of (held slots)
+abbrev pub things_waiting : {X : Type 0} → List (ℕ × Option X) → List X
+things_waiting slots = values_of (held slots)
 
 -- a thing has this key
 abbrev pub has_key : {X : Type 0} → (X → Option ℕ) → ℕ → X → Bool
-has_key key_of k x = is_number k (key_of x)
+has_key key_of k x = is_the_number k (key_of x)
 
 -- the numbers of the things of a key, in order
-abbrev pub numbers_of : {X : Type 0} → (X → Option ℕ) → ℕ → List (ℕ × X) → List ℕ
-numbers_of key_of k [] = []
-numbers_of key_of k (e ∷ es) = if has_key key_of k e.1 then e.0 ∷ numbers_of key_of k es else numbers_of key_of k es
+abbrev pub numbers_under : {X : Type 0} → (X → Option ℕ) → ℕ → List (ℕ × X) → List ℕ
+numbers_under key_of k [] = []
+numbers_under key_of k (e ∷ es) = if has_key key_of k e.1 then e.0 ∷ numbers_under key_of k es else numbers_under key_of k es
 
 -- ---- the numbers by key
 
@@ -69,9 +69,9 @@ abbrev pub IsHeldBelow : {X : Type 0} → ℕ → (ℕ × Option X) → Type 0
 IsHeldBelow made e = is_some e.1 ≡ nat_lt e.0 made
 
 -- what waits under a key is what is listed under it, and places come after all that waits
-abbrev pub IsSound : {X : Type 0} → (X → Option ℕ) → ℕ → List (ℕ × Option X) → List (ℕ × Queue) → Type 0
-IsSound key_of made slots lists =
-    AllByRecursion (IsHeldBelow made) slots × ((k : ℕ) → listed k lists ≡ numbers_of key_of k (held slots))
+abbrev pub IsSoundLane : {X : Type 0} → (X → Option ℕ) → ℕ → List (ℕ × Option X) → List (ℕ × Queue) → Type 0
+IsSoundLane key_of made slots lists =
+    AllByRecursion (IsHeldBelow made) slots × ((k : ℕ) → listed k lists ≡ numbers_under key_of k (held slots))
 
 -- there are slots for so many things more, from a number on
 abbrev pub HasSlots : {X : Type 0} → ℕ → ℕ → List (ℕ × Option X) → Type 0

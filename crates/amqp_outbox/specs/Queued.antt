@@ -6,8 +6,8 @@ use Rattle.amqp_outbox.specs.declared.reply.Awaited.{Awaited}
 use Rattle.amqp_outbox.specs.declared.reply.Reply.{Reply}
 use Rattle.amqp_outbox.specs.declared.scope.Scope.{Scope}
 use Rattle.amqp_outbox.specs.declared.scope.Scope.TheVariants.{Unbegun, Control, All}
-use Rattle.amqp_outbox.specs.Lists.{head, without_first, is_number}
-use Rattle.amqp_outbox.specs.Items.{octets_of, dropped_with, frames_of, channel_of, promise_of}
+use Rattle.amqp_outbox.specs.Lists.{head, without_first, is_the_number}
+use Rattle.amqp_outbox.specs.Items.{octets_of, dropped_with, items_of_groups, channel_of, promise_of_group}
 use Rattle.amqp_outbox.specs.Replies
 
 -- what waits to go out, and what is awaited
@@ -22,8 +22,8 @@ pub record Queued : Type 0 where
   pub awaited : List (ℕ × List Awaited)
 
 -- nothing waits, and nothing is awaited
-abbrev pub nothing : Queued
-nothing = record { control = []; publish = []; begun = []; awaited = [] }
+abbrev pub nothing_queued : Queued
+nothing_queued = record { control = []; publish = []; begun = []; awaited = [] }
 
 -- ---- what goes out
 
@@ -42,14 +42,14 @@ abbrev pub next_item : Bool → Queued → Option Item
 next_item flow q = option_or (head q.begun) (option_or (head q.control) (next_publish flow q.publish))
 
 -- a group begins: its first frame went, and the others go before all else
-abbrev pub begin : List (List Item) → Queued → Queued
-begin [] q = q
-begin (group ∷ groups) q = record q { publish = groups; begun = drop 1 group }
+abbrev pub begin_group : List (List Item) → Queued → Queued
+begin_group [] q = q
+begin_group (group ∷ groups) q = record q { publish = groups; begun = drop 1 group }
 
 -- the next frame went, where it is not of the begun group
 abbrev pub after_control : Bool → List Item → Queued → Queued
 after_control flow (item ∷ items) q = record q { control = items }
-after_control true [] q = begin q.publish q
+after_control true [] q = begin_group q.publish q
 after_control false [] q = q
 
 -- the next frame went, by what is left of the begun group
@@ -63,7 +63,7 @@ after_next flow q = after_begun flow q.begun q
 
 -- the frames that wait, in the order in which they go out where publishes flow and nothing comes between
 abbrev pub waiting_items : Queued → List Item
-waiting_items q = q.begun ++ q.control ++ frames_of q.publish
+waiting_items q = q.begun ++ q.control ++ items_of_groups q.publish
 
 -- how many bytes spell the frames that wait
 abbrev pub unsent_octets : Queued → ℕ
@@ -81,13 +81,13 @@ pushed_group group q = record q { publish = q.publish ++ group ∷ [] }
 
 -- a frame alone waits, and nothing is awaited
 abbrev pub only : Item → Queued
-only item = record nothing { control = item ∷ [] }
+only item = record nothing_queued { control = item ∷ [] }
 
 -- ---- replies
 
 -- one more reply is awaited on a channel
-abbrev pub expected : ℕ → Awaited → Queued → Queued
-expected channel a q = record q { awaited = Replies.expected channel a q.awaited }
+abbrev pub with_awaited : ℕ → Awaited → Queued → Queued
+with_awaited channel a q = record q { awaited = Replies.expected channel a q.awaited }
 
 -- the promise of the first that awaits a reply on a channel, where one does
 abbrev pub awaited_promise : ℕ → Reply → Queued → Option (Option ℕ)
@@ -95,14 +95,14 @@ awaited_promise channel reply q =
     option_map (λ (a : Awaited). a.promise) (Replies.first_awaited channel reply q.awaited)
 
 -- the reply came that the first such one awaited
-abbrev pub answered : ℕ → Reply → Queued → Queued
-answered channel reply q = record q { awaited = Replies.answered channel reply q.awaited }
+abbrev pub without_awaited : ℕ → Reply → Queued → Queued
+without_awaited channel reply q = record q { awaited = Replies.left_awaited channel reply q.awaited }
 
 -- ---- groups that have not begun
 
 -- the promise of the first group that has not begun
 abbrev pub unbegun_promise : Queued → Option (Option ℕ)
-unbegun_promise q = option_map promise_of (head q.publish)
+unbegun_promise q = option_map promise_of_group (head q.publish)
 
 -- all but the first group that has not begun
 abbrev pub without_unbegun : Queued → Queued
@@ -112,15 +112,15 @@ without_unbegun q = record q { publish = drop 1 q.publish }
 
 -- a frame of the control lane that is dropped with a channel
 abbrev pub goes_with : ℕ → Item → Bool
-goes_with channel item = is_number channel (dropped_with item)
+goes_with channel item = is_the_number channel (dropped_with item)
 
 -- a group of a channel
 abbrev pub is_on : ℕ → List Item → Bool
-is_on channel group = is_number channel (channel_of group)
+is_on channel group = is_the_number channel (channel_of group)
 
 -- the promise of the first group of a channel that has not begun
 abbrev pub group_promise : ℕ → Queued → Option (Option ℕ)
-group_promise channel q = option_map promise_of (find (is_on channel) q.publish)
+group_promise channel q = option_map promise_of_group (find (is_on channel) q.publish)
 
 -- all but the first group of a channel that has not begun
 abbrev pub without_group : ℕ → Queued → Queued
@@ -144,10 +144,10 @@ without_reply channel q = record q { awaited = Replies.without_first_on channel 
 
 -- the promise of the first thing of a channel in a scope: of its groups, then of its frames in the control lane, then
 -- of its awaited replies
-abbrev pub dropped : ℕ → Scope → Queued → Option (Option ℕ)
-dropped channel Unbegun q = group_promise channel q
-dropped channel Control q = frame_promise channel q
-dropped channel All q =
+abbrev pub dropped_promise : ℕ → Scope → Queued → Option (Option ℕ)
+dropped_promise channel Unbegun q = group_promise channel q
+dropped_promise channel Control q = frame_promise channel q
+dropped_promise channel All q =
     option_or (group_promise channel q) (option_or (frame_promise channel q) (reply_promise channel q))
 
 -- all but the first thing of a channel, whatever it is

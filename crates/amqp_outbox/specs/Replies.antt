@@ -36,8 +36,8 @@ abbrev pub first_awaited : ℕ → Reply → List (ℕ × List Awaited) → Opti
 first_awaited channel reply awaited = find (is_of reply) (awaited_on channel awaited)
 
 -- all but the first that awaits a reply on a channel
-abbrev pub answered : ℕ → Reply → List (ℕ × List Awaited) → List (ℕ × List Awaited)
-answered channel reply awaited = left_on channel (without_first (is_of reply) (awaited_on channel awaited)) awaited
+abbrev pub left_awaited : ℕ → Reply → List (ℕ × List Awaited) → List (ℕ × List Awaited)
+left_awaited channel reply awaited = left_on channel (without_first (is_of reply) (awaited_on channel awaited)) awaited
 
 -- the first that is awaited on a channel, whatever the reply
 abbrev pub first_on : ℕ → List (ℕ × List Awaited) → Option Awaited

@@ -2,7 +2,7 @@
 
 ghost use Rattle.std.specs.Prelude.{◌≡◌, ◌+◌, ◌<◌, ◌++◌, ◌∷◌, [], IfOk, drop, length, map, sum_by};
 ghost use Rattle.amqp_frame.specs.Frames.{encoding};
-ghost use Rattle.amqp_outbox.specs.Items.{plain, octets_of, channel_of, promise_of, group_of};
+ghost use Rattle.amqp_outbox.specs.Items.{plain_item, octets_of, channel_of, promise_of_group, group_of};
 
 use crate::item::Item;
 use crate::lane::Keyed;
@@ -109,7 +109,7 @@ impl Group {
 
     /// The promise that it answers.
     pub fn promise(&self) -> Option<u64>
-        ensures { result ≡ promise_of self.now }
+        ensures { result ≡ promise_of_group self.now }
     {
         match self.rest.back() {
             Some(last) => last.promise(),
@@ -168,7 +168,7 @@ fn items_of(
     channel: ChannelId,
     frames: Vec<Frame>,
 ) -> Result<VecDeque<Item>, NoMemory>
-    ensures { IfOk result (λ q. q.items ≡ map (plain channel) frames.items) }
+    ensures { IfOk result (λ q. q.items ≡ map (plain_item channel) frames.items) }
 {
     let mut items = VecDeque::with_capacity(alloc, frames.len() + 1)?;
     for frame in frames {

@@ -2,7 +2,7 @@
 
 ghost use Rattle.std.specs.Prelude.{◌≡◌, ◌+◌, ◌≤◌, ◌^◌, IfOk, OnErr};
 ghost use Rattle.amqp_frame.specs.Lengths.{capped};
-ghost use Rattle.amqp_outbox.specs.Items.{plain, promised, size_of, outlives, dropped_with};
+ghost use Rattle.amqp_outbox.specs.Items.{plain_item, promised_item, size_of, outlives, dropped_with};
 
 use crate::lane::Keyed;
 use amqp_frame::{Frame, Method, encoded_len};
@@ -40,7 +40,7 @@ impl Model for Item {
 impl Item {
     /// A frame that answers no promise.
     pub fn plain(channel: ChannelId, frame: Frame) -> Item
-        ensures { result ≡ plain channel frame }
+        ensures { result ≡ plain_item channel frame }
     {
         let octets = encoded_len(&frame);
         Item {
@@ -53,7 +53,7 @@ impl Item {
 
     /// A frame that answers a promise.
     pub fn promised(channel: ChannelId, frame: Frame, number: u64) -> Item
-        ensures { result ≡ promised channel frame number }
+        ensures { result ≡ promised_item channel frame number }
     {
         let octets = encoded_len(&frame);
         Item {

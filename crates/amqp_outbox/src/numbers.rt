@@ -2,7 +2,7 @@
 
 ghost use Rattle.std.specs.Prelude.{◌≡◌, ℕ, suc, ◌+◌, ◌<◌, ◌≤◌, ◌==◌, ◌++◌, ◌∷◌, [], IfSome, IfOk, OnOk, IsTrue, if◌then◌else◌, drop, length};
 ghost use Rattle.std.specs.VecDeque.{deque_capacity};
-ghost use Rattle.amqp_outbox.specs.Lists.{head, is_number};
+ghost use Rattle.amqp_outbox.specs.Lists.{head, is_the_number};
 ghost use Rattle.amqp_outbox.specs.Order.{listed, HasRoom};
 
 use amqp_types::NoMemory;
@@ -103,7 +103,7 @@ impl Numbers {
     pub fn push_reserved(&mut self, key: Option<u16>, number: u64)
         requires { IfSome key (λ k. HasRoom k 1 self.old.lists.entries) }
         ensures listed { (k : ℕ) → listed k self.new.lists.entries
-            ≡ (if is_number k key then listed k self.old.lists.entries ++ number ∷ []
+            ≡ (if is_the_number k key then listed k self.old.lists.entries ++ number ∷ []
             else listed k self.old.lists.entries) }
         ensures room { (n : ℕ) → IfSome key (λ k. HasRoom k (suc n) self.old.lists.entries)
             → IfSome key (λ k. HasRoom k n self.new.lists.entries) }
@@ -140,7 +140,7 @@ impl Numbers {
     /// Forgets the first number of a key, where there is one. A key without numbers has no list then.
     pub fn forget_first(&mut self, key: Option<u16>)
         ensures { (k : ℕ) → listed k self.new.lists.entries
-            ≡ (if is_number k key then drop 1 (listed k self.old.lists.entries) else listed k self.old.lists.entries) }
+            ≡ (if is_the_number k key then drop 1 (listed k self.old.lists.entries) else listed k self.old.lists.entries) }
     {
         if let Some(key) = key {
             let _ = self.take_first(key);

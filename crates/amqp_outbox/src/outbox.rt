@@ -1,8 +1,8 @@
 //! The outbox.
 
 ghost use Rattle.std.specs.Prelude.{◌≡◌, ◌++◌, length};
-ghost use Rattle.amqp_outbox.specs.Items.{octets_of, frames_of};
-ghost use Rattle.amqp_outbox.specs.Order.{waiting};
+ghost use Rattle.amqp_outbox.specs.Items.{octets_of, items_of_groups};
+ghost use Rattle.amqp_outbox.specs.Order.{things_waiting};
 
 mod dropping;
 mod lanes;
@@ -32,7 +32,7 @@ pub struct Outbox {
     /// How much waits in the two lanes and of the begun group.
     tally: Tally,
     ghost counted: { tally.frames
-        ≡ length (begun.items ++ waiting control.slots.entries ++ frames_of (waiting publish.slots.entries)) },
+        ≡ length (begun.items ++ things_waiting control.slots.entries ++ items_of_groups (things_waiting publish.slots.entries)) },
     ghost measured: { tally.octets
-        ≡ octets_of (begun.items ++ waiting control.slots.entries ++ frames_of (waiting publish.slots.entries)) },
+        ≡ octets_of (begun.items ++ things_waiting control.slots.entries ++ items_of_groups (things_waiting publish.slots.entries)) },
 }

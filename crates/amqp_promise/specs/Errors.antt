@@ -42,26 +42,26 @@ fault_text Interrupted = codes "operation interrupted"
 fault_text (Other word) = word_text word
 
 -- the text of an error
-abbrev pub text_of : ErrorKind → List ℕ
-text_of ChannelsLimitReached = codes "the maximum number of channels for this connection has been reached"
-text_of (InvalidProtocolVersion v) =
+abbrev pub error_text : ErrorKind → List ℕ
+error_text ChannelsLimitReached = codes "the maximum number of channels for this connection has been reached"
+error_text (InvalidProtocolVersion v) =
     codes "the server only supports AMQP "
     ++ decimal v.major
     ++ codes "-"
     ++ decimal v.minor
     ++ codes "-"
     ++ decimal v.revision
-text_of (InvalidChannel n) = codes "invalid channel: " ++ decimal n
-text_of (InvalidChannelState held word) =
+error_text (InvalidChannel n) = codes "invalid channel: " ++ decimal n
+error_text (InvalidChannelState held word) =
     codes "invalid channel state: " ++ channel_state_name held ++ codes " (" ++ word_text word ++ codes ")"
-text_of (InvalidConnectionState held) = codes "invalid connection state: " ++ state_name held
-text_of (IOError fault) = codes "IO error: " ++ fault_text fault
-text_of (ParsingError place) = codes "failed to parse: frame at byte " ++ decimal place
-text_of (ProtocolError e) = codes "protocol error: " ++ decimal e.code ++ codes " " ++ shown e.message
-text_of (SerialisationError size) = codes "failed to serialise: frame of " ++ decimal size ++ codes " bytes"
-text_of MissingHeartbeatError = codes "no heartbeat received from server for too long"
-text_of OutOfTurns = codes "the given turns were all taken"
-text_of (ForeignPass number place promise) = codes "foreign pass: " ++ decimal number
-text_of (OutboxFull size) = codes "outbox full: " ++ decimal size ++ codes " bytes"
-text_of NoMemory = codes "memory was refused"
-text_of (AuthProviderError text) = codes "failure during authentication: " ++ text
+error_text (InvalidConnectionState held) = codes "invalid connection state: " ++ state_name held
+error_text (IOError fault) = codes "IO error: " ++ fault_text fault
+error_text (ParsingError place) = codes "failed to parse: frame at byte " ++ decimal place
+error_text (ProtocolError e) = codes "protocol error: " ++ decimal e.code ++ codes " " ++ shown e.message
+error_text (SerialisationError size) = codes "failed to serialise: frame of " ++ decimal size ++ codes " bytes"
+error_text MissingHeartbeatError = codes "no heartbeat received from server for too long"
+error_text OutOfTurns = codes "the given turns were all taken"
+error_text (ForeignPass number place promise) = codes "foreign pass: " ++ decimal number
+error_text (OutboxFull size) = codes "outbox full: " ++ decimal size ++ codes " bytes"
+error_text NoMemory = codes "memory was refused"
+error_text (AuthProviderError text) = codes "failure during authentication: " ++ text

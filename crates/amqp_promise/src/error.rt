@@ -1,7 +1,7 @@
 //! What goes wrong with a connection.
 
 ghost use Rattle.std.specs.Prelude.{◌≡◌, IfOk};
-ghost use Rattle.amqp_promise.specs.Errors.{text_of};
+ghost use Rattle.amqp_promise.specs.Errors.{error_text};
 ghost use Rattle.amqp_promise.specs.Kinds.{is_io_error, is_amqp_error, is_amqp_soft_error, is_amqp_hard_error, would_block, is_interrupted, can_be_recovered};
 
 use crate::io_fault::IoFault;
@@ -247,9 +247,9 @@ impl From<NoMemory> for Error {
 
 impl fmt::Display for Error {
     ghost use Rattle.std.specs.Prelude.{Some};
-    ghost use Rattle.amqp_promise.specs.Errors.{text_of};
+    ghost use Rattle.amqp_promise.specs.Errors.{error_text};
 
-    ghost output = { λ e. Some (text_of e) };
+    ghost output = { λ e. Some (error_text e) };
 
     fn fmt<W: fmt::Write>(&self, f: &mut fmt::Formatter<W>) -> fmt::Result {
         match &self.kind {

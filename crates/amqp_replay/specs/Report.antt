@@ -12,7 +12,7 @@ use Rattle.amqp_promise.specs.declared.error.ErrorKind.{ErrorKind}
 use Rattle.amqp_session.specs.declared.event.Event.{Event}
 use Rattle.amqp_session.specs.declared.event.Event.TheVariants as event
 use Rattle.amqp_session.specs.Talk.{Talk, end_of}
-use Rattle.amqp_promise.specs.Errors.{text_of}
+use Rattle.amqp_promise.specs.Errors.{error_text}
 use Rattle.amqp_session.specs.ChannelMethods.{frames_of}
 use Rattle.amqp_session.specs.Answers.{answer_of, events_of}
 
@@ -38,7 +38,7 @@ value_text (Flow false) = codes "flow off"
 abbrev pub answer_text : Option (Result Answer ErrorKind) → List ℕ
 answer_text None = codes "pending"
 answer_text (Some (Ok answer)) = codes "ok " ++ value_text answer
-answer_text (Some (Err e)) = codes "err " ++ text_of e
+answer_text (Some (Err e)) = codes "err " ++ error_text e
 
 -- the answer to a promise
 abbrev pub answer_line : ℕ → Option (Result Answer ErrorKind) → List ℕ
@@ -69,7 +69,7 @@ event_text (event.ConnectionBlocked reason) = codes "blocked " ++ reason
 event_text event.ConnectionUnblocked = codes "unblocked"
 event_text (event.SendFlow true) = codes "flow on"
 event_text (event.SendFlow false) = codes "flow off"
-event_text (event.Error e) = codes "error " ++ text_of e
+event_text (event.Error e) = codes "error " ++ error_text e
 
 -- an event
 abbrev pub event_line : Event → List ℕ
@@ -79,7 +79,7 @@ event_line event = codes "event " ++ event_text event ++ codes "\n"
 abbrev pub end_text : Option (Result (Unit {0}) ErrorKind) → List ℕ
 end_text None = codes "running"
 end_text (Some (Ok closed)) = codes "closed"
-end_text (Some (Err e)) = codes "error " ++ text_of e
+end_text (Some (Err e)) = codes "error " ++ error_text e
 
 -- how the session ended
 abbrev pub end_line : Option (Result (Unit {0}) ErrorKind) → List ℕ

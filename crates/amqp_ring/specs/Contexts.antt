@@ -8,12 +8,12 @@ use Rattle.amqp_ring.specs.declared.compare.CompareResult.{CompareResult}
 use Rattle.amqp_ring.specs.declared.compare.CompareResult.TheVariants.{Ok, Incomplete, Error}
 
 -- the bytes of a context are those of its first piece and then those of its second
-abbrev pub seen : ParsingContext → List ℕ
-seen c = c.first.now ++ c.second.now
+abbrev pub context_bytes : ParsingContext → List ℕ
+context_bytes c = c.first.now ++ c.second.now
 
 -- what a programmer is shown of a context: how many bytes it has, and none of them
 abbrev pub debug_text : ParsingContext → List ℕ
-debug_text c = codes "ParsingContext { len: " ++ decimal (length (seen c)) ++ codes ", .. }"
+debug_text c = codes "ParsingContext { len: " ++ decimal (length (context_bytes c)) ++ codes ", .. }"
 
 -- these bytes are those but for the case of ASCII letters
 abbrev pub IsSameNoCase : List ℕ → List ℕ → Type 0

@@ -1,7 +1,7 @@
 //! A buffer of bytes that are kept, and of room for more.
 
 ghost use Rattle.std.specs.Prelude.{◌≡◌, ◌<◌, ◌≤◌, ◌+◌, ◌++◌, [], length, replicate, min, nat_lt, IfOk, OnOk, OnErr};
-ghost use Rattle.amqp_ring.specs.Contexts.{seen};
+ghost use Rattle.amqp_ring.specs.Contexts.{context_bytes};
 ghost use Rattle.amqp_ring.specs.Ring.{capacity, consumed, filled, written, rolled_back, grown, emptied};
 
 use crate::checkpoint::Checkpoint;
@@ -172,7 +172,7 @@ impl Buffer {
 
     /// The kept bytes, to be read.
     pub fn parsing_context(&self) -> ParsingContext<'_>
-        ensures { seen result ≡ self.now.kept }
+        ensures { context_bytes result ≡ self.now.kept }
     {
         let (first, second) = self.slices();
         ParsingContext::from_slices(first, second)
@@ -180,8 +180,8 @@ impl Buffer {
 
     /// How many kept bytes lie before a rest of them: what was read, and can be consumed.
     pub fn offset(&self, rest: ParsingContext<'_>) -> usize
-        requires { length (seen rest) ≤ length self.now.kept }
-        ensures { result + length (seen rest.entry) ≡ length self.now.kept }
+        requires { length (context_bytes rest) ≤ length self.now.kept }
+        ensures { result + length (context_bytes rest.entry) ≡ length self.now.kept }
     {
         self.kept - rest.input_len()
     }

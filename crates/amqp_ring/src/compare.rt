@@ -1,7 +1,7 @@
 //! Bytes that are read, compared with others.
 
 ghost use Rattle.std.specs.Prelude.{◌≡◌, length, IsTrue, ◌↔◌};
-ghost use Rattle.amqp_ring.specs.Contexts.{seen, Compares, IsSameNoCase};
+ghost use Rattle.amqp_ring.specs.Contexts.{context_bytes, Compares, IsSameNoCase};
 
 use crate::context::ParsingContext;
 
@@ -19,7 +19,7 @@ pub enum CompareResult {
 impl ParsingContext<'_> {
     /// Whether these bytes stand at the front, or may once there are more.
     pub fn compare(&self, bytes: &[u8]) -> CompareResult
-        ensures { Compares ◌≡◌ (seen self.now) bytes.now result }
+        ensures { Compares ◌≡◌ (context_bytes self.now) bytes.now result }
     {
         let len = self.input_len();
         let common = bytes.len().min(len);
@@ -34,7 +34,7 @@ impl ParsingContext<'_> {
 
     /// The same without regard to the case of ASCII letters.
     pub fn compare_no_case(&self, bytes: &[u8]) -> CompareResult
-        ensures { Compares IsSameNoCase (seen self.now) bytes.now result }
+        ensures { Compares IsSameNoCase (context_bytes self.now) bytes.now result }
     {
         let len = self.input_len();
         let common = bytes.len().min(len);
@@ -50,8 +50,8 @@ impl ParsingContext<'_> {
 
 // Whether what is read is these bytes, which are as many.
 fn is_equal(read: ParsingContext<'_>, bytes: &[u8]) -> bool
-    requires { length bytes.now ≡ length (seen read) }
-    ensures { IsTrue result ↔ (seen read.entry ≡ bytes.now) }
+    requires { length bytes.now ≡ length (context_bytes read) }
+    ensures { IsTrue result ↔ (context_bytes read.entry ≡ bytes.now) }
 {
     let (first, second) = bytes.split_at(read.first.len());
     read.first == first && read.second == second
@@ -59,8 +59,8 @@ fn is_equal(read: ParsingContext<'_>, bytes: &[u8]) -> bool
 
 // The same without regard to the case of ASCII letters.
 fn is_equal_no_case(read: ParsingContext<'_>, bytes: &[u8]) -> bool
-    requires { length bytes.now ≡ length (seen read) }
-    ensures { IsTrue result ↔ IsSameNoCase (seen read.entry) bytes.now }
+    requires { length bytes.now ≡ length (context_bytes read) }
+    ensures { IsTrue result ↔ IsSameNoCase (context_bytes read.entry) bytes.now }
 {
     let (first, second) = bytes.split_at(read.first.len());
     read.first.eq_ignore_ascii_case(first) && read.second.eq_ignore_ascii_case(second)

@@ -2,7 +2,7 @@
 
 ghost use Rattle.std.specs.Prelude.{◌≡◌, ◌<◌, ◌≤◌, ◌+◌, ◌++◌, length, take, drop, IfSome, IfNone, IfOk, IfErr, OnOk, OnErr};
 ghost use Rattle.std.specs.Iterator.{YieldsFirst};
-ghost use Rattle.amqp_ring.specs.Contexts.{seen, IsFirst, NonePasses};
+ghost use Rattle.amqp_ring.specs.Contexts.{context_bytes, IsFirst, NonePasses};
 
 use amqp_frame::View;
 use amqp_types::NoMemory;
@@ -38,7 +38,7 @@ impl fmt::Debug for ParsingContext<'_> {
 pub struct Needed(pub usize);
 
 impl<'a> From<&'a [u8]> for ParsingContext<'a> {
-    ghost from_gives = { λ bytes c. seen c ≡ bytes.now };
+    ghost from_gives = { λ bytes c. context_bytes c ≡ bytes.now };
 
     fn from(bytes: &'a [u8]) -> ParsingContext<'a> {
         ParsingContext {
@@ -51,22 +51,22 @@ impl<'a> From<&'a [u8]> for ParsingContext<'a> {
 impl<'a> ParsingContext<'a> {
     /// The bytes of both slices, as one list.
     pub fn from_slices(first: &'a [u8], second: &'a [u8]) -> ParsingContext<'a>
-        ensures { seen result ≡ first.now ++ second.now }
+        ensures { context_bytes result ≡ first.now ++ second.now }
     {
         ParsingContext { first, second }
     }
 
     /// How many bytes there are.
     pub fn input_len(&self) -> usize
-        ensures { result ≡ length (seen self.now) }
+        ensures { result ≡ length (context_bytes self.now) }
     {
         self.first.len() + self.second.len()
     }
 
     /// The first `count` bytes.
     pub fn take(&self, count: usize) -> ParsingContext<'a>
-        requires { count ≤ length (seen self.now) }
-        ensures { seen result ≡ take count (seen self.now) }
+        requires { count ≤ length (context_bytes self.now) }
+        ensures { context_bytes result ≡ take count (context_bytes self.now) }
     {
         if count <= self.first.len() {
             ParsingContext {
@@ -83,8 +83,8 @@ impl<'a> ParsingContext<'a> {
 
     /// The bytes from the place `index` on, counted from 0.
     pub fn take_from(&self, index: usize) -> ParsingContext<'a>
-        requires { index ≤ length (seen self.now) }
-        ensures { seen result ≡ drop index (seen self.now) }
+        requires { index ≤ length (context_bytes self.now) }
+        ensures { context_bytes result ≡ drop index (context_bytes self.now) }
     {
         if index <= self.first.len() {
             ParsingContext {
@@ -101,9 +101,9 @@ impl<'a> ParsingContext<'a> {
 
     /// The bytes from the place `index` on, and then those before it.
     pub fn take_split(&self, index: usize) -> (ParsingContext<'a>, ParsingContext<'a>)
-        requires { index ≤ length (seen self.now) }
-        ensures rest { seen result.0 ≡ drop index (seen self.now) }
-        ensures front { seen result.1 ≡ take index (seen self.now) }
+        requires { index ≤ length (context_bytes self.now) }
+        ensures rest { context_bytes result.0 ≡ drop index (context_bytes self.now) }
+        ensures front { context_bytes result.1 ≡ take index (context_bytes self.now) }
     {
         (self.take_from(index), self.take(index))
     }
@@ -111,9 +111,9 @@ impl<'a> ParsingContext<'a> {
     /// `count`, where there are so many bytes, or how many are missing.
     pub fn slice_index(&self, count: usize) -> Result<usize, Needed>
         ensures count { IfOk result (λ n. n ≡ count) }
-        ensures enough { OnOk result (count ≤ length (seen self.now)) }
-        ensures missing { IfErr result (λ needed. length (seen self.now) + needed.0 ≡ count) }
-        ensures short { OnErr result (length (seen self.now) < count) }
+        ensures enough { OnOk result (count ≤ length (context_bytes self.now)) }
+        ensures missing { IfErr result (λ needed. length (context_bytes self.now) + needed.0 ≡ count) }
+        ensures short { OnErr result (length (context_bytes self.now) < count) }
     {
         let len = self.input_len();
         if count <= len {
@@ -126,8 +126,8 @@ impl<'a> ParsingContext<'a> {
     /// The first place whose byte passes a test, counted from 0.
     pub fn position<F: Fn(u8) -> bool>(&self, predicate: F) -> Option<usize>
         requires { F.IsAlwaysCallable predicate }
-        ensures some { IfSome result (IsFirst (F.post predicate) (seen self.now)) }
-        ensures none { IfNone result (NonePasses (F.post predicate) (seen self.now) (length (seen self.now))) }
+        ensures some { IfSome result (IsFirst (F.post predicate) (context_bytes self.now)) }
+        ensures none { IfNone result (NonePasses (F.post predicate) (context_bytes self.now) (length (context_bytes self.now))) }
     {
         for (i, byte) in self.first.iter().enumerate() {
             if predicate(*byte) {
@@ -144,7 +144,7 @@ impl<'a> ParsingContext<'a> {
 
     // Takes out the first byte.
     pub(crate) fn next(&mut self) -> Option<u8>
-        ensures { YieldsFirst seen self.old result self.new }
+        ensures { YieldsFirst context_bytes self.old result self.new }
     {
         if let Some((byte, rest)) = self.first.split_first() {
             self.first = rest;
@@ -157,7 +157,7 @@ impl<'a> ParsingContext<'a> {
 }
 
 impl View for ParsingContext<'_> {
-    ghost bytes = { seen };
+    ghost bytes = { context_bytes };
 
     fn len(&self) -> usize {
         // The clauses of both say that they hold octets.

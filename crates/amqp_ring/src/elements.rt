@@ -2,7 +2,7 @@
 
 ghost use Rattle.std.specs.Prelude.{◌≡◌};
 ghost use Rattle.std.specs.Iterator.{YieldsFirst, item_count};
-ghost use Rattle.amqp_ring.specs.Contexts.{seen};
+ghost use Rattle.amqp_ring.specs.Contexts.{context_bytes};
 ghost use Rattle.amqp_ring.specs.Iterators.{bytes_left};
 
 use crate::context::ParsingContext;
@@ -16,7 +16,7 @@ pub struct Elements<'a> {
 impl<'a> ParsingContext<'a> {
     /// The bytes in order.
     pub fn iter_elements(&self) -> Elements<'a>
-        ensures { bytes_left result ≡ seen self.now }
+        ensures { bytes_left result ≡ context_bytes self.now }
     {
         Elements { rest: *self }
     }

@@ -1,7 +1,7 @@
 //! The bytes that are read with their places, one after another.
 
 ghost use Rattle.std.specs.Prelude.{◌<◌, ◌+◌, ◌^◌, length};
-ghost use Rattle.amqp_ring.specs.Contexts.{seen};
+ghost use Rattle.amqp_ring.specs.Contexts.{context_bytes};
 
 use crate::context::ParsingContext;
 
@@ -10,7 +10,7 @@ use crate::context::ParsingContext;
 pub struct Indices<'a> {
     place: usize,
     rest: ParsingContext<'a>,
-    ghost fits: { place + length (seen rest) < 2 ^ 64 },
+    ghost fits: { place + length (context_bytes rest) < 2 ^ 64 },
 }
 
 impl<'a> ParsingContext<'a> {
@@ -20,7 +20,7 @@ impl<'a> ParsingContext<'a> {
 
     /// The pairs of a place and its byte in order, the places being counted from 0.
     pub fn iter_indices(&self) -> Indices<'a>
-        ensures { pairs_left result ≡ enumerate_from 0 (seen self.now) }
+        ensures { pairs_left result ≡ enumerate_from 0 (context_bytes self.now) }
     {
         // Its clause says that the places fit.
         let _fits = self.input_len();

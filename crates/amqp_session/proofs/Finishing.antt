@@ -7,7 +7,7 @@ use Rattle.amqp_frame.specs.declared.frame.RawKind.{RawKind}
 use Rattle.amqp_frame.specs.declared.frame.RawKind.TheVariants.{Header, Body}
 use Rattle.amqp_frame.specs.RawMethods.{OtherMethod}
 use Rattle.amqp_outbox.specs.declared.item.Item.{Item}
-use Rattle.amqp_outbox.specs.Items.{plain, group_of, frames_of}
+use Rattle.amqp_outbox.specs.Items.{plain_item, group_of, items_of_groups}
 use Rattle.amqp_outbox.specs.Queued as queued
 use Rattle.amqp_outbox.specs.Queued.{Queued, waiting_items, after_next, pushed_control, pushed_group, is_on, goes_with}
 use Rattle.amqp_outbox.proofs.Waiting.{next-waits}
@@ -100,18 +100,18 @@ behind : (xs ys : List Item) → GoesOn (xs ++ ys) → GoesOn ys
 behind [] ys h = h
 behind (x ∷ xs) ys h = behind xs ys h.1
 
-one-group-more : (groups : List (List Item)) (group : List Item) → GoesOn group → GoesOn (frames_of groups) → GoesOn (frames_of (groups ++ group ∷ []))
+one-group-more : (groups : List (List Item)) (group : List Item) → GoesOn group → GoesOn (items_of_groups groups) → GoesOn (items_of_groups (groups ++ group ∷ []))
 one-group-more [] group g h = joined group [] g tt
 one-group-more (x ∷ groups) group g h =
-    joined x (frames_of (groups ++ group ∷ [])) (front x (frames_of groups) h) (one-group-more groups group g (behind x (frames_of groups) h))
+    joined x (items_of_groups (groups ++ group ∷ [])) (front x (items_of_groups groups) h) (one-group-more groups group g (behind x (items_of_groups groups) h))
 
 -- groups that are left go on
-groups-left : (test : List Item → Bool) (groups : List (List Item)) → GoesOn (frames_of groups) → GoesOn (frames_of (filter test groups))
+groups-left : (test : List Item → Bool) (groups : List (List Item)) → GoesOn (items_of_groups groups) → GoesOn (items_of_groups (filter test groups))
 groups-left test [] h = tt
-groups-left test (group ∷ groups) h = by (test group) (groups-left test groups (behind group (frames_of groups) h))
+groups-left test (group ∷ groups) h = by (test group) (groups-left test groups (behind group (items_of_groups groups) h))
   where
-    by : (b : Bool) → GoesOn (frames_of (filter test groups)) → GoesOn (frames_of (cond b (group ∷ filter test groups) (filter test groups)))
-    by true rest = joined group (frames_of (filter test groups)) (front group (frames_of groups) h) rest
+    by : (b : Bool) → GoesOn (items_of_groups (filter test groups)) → GoesOn (items_of_groups (cond b (group ∷ filter test groups) (filter test groups)))
+    by true rest = joined group (items_of_groups (filter test groups)) (front group (items_of_groups groups) h) rest
     by false rest = rest
 
 -- frames that are left go on
@@ -125,15 +125,15 @@ items-left test (item ∷ is) h = by (test item) (items-left test is h.1)
 
 module _ (q : Queued) (h : GoesOn (waiting_items q)) where
   first-lanes : GoesOn (q.begun ++ q.control)
-  first-lanes = front (q.begun ++ q.control) (frames_of q.publish) h
+  first-lanes = front (q.begun ++ q.control) (items_of_groups q.publish) h
 
-  last-lane : GoesOn (frames_of q.publish)
-  last-lane = behind (q.begun ++ q.control) (frames_of q.publish) h
+  last-lane : GoesOn (items_of_groups q.publish)
+  last-lane = behind (q.begun ++ q.control) (items_of_groups q.publish) h
 
   -- a frame goes last in the control lane that does not finish
   pub control-goes_on : (x : Item) → is_finish (then_of x) ≡ false → GoesOn (waiting_items (pushed_control x q))
   control-goes_on x f =
-      joined (q.begun ++ (q.control ++ x ∷ [])) (frames_of q.publish)
+      joined (q.begun ++ (q.control ++ x ∷ [])) (items_of_groups q.publish)
       (joined q.begun (q.control ++ x ∷ []) (front q.begun q.control first-lanes)
       (joined q.control (x ∷ []) (behind q.begun q.control first-lanes) (f, tt)))
       last-lane
@@ -141,17 +141,17 @@ module _ (q : Queued) (h : GoesOn (waiting_items q)) where
   -- a group goes last of which no frame finishes
   pub group-goes_on : (group : List Item) → GoesOn group → GoesOn (waiting_items (pushed_group group q))
   group-goes_on group g =
-      joined (q.begun ++ q.control) (frames_of (q.publish ++ group ∷ [])) first-lanes (one-group-more q.publish group g last-lane)
+      joined (q.begun ++ q.control) (items_of_groups (q.publish ++ group ∷ [])) first-lanes (one-group-more q.publish group g last-lane)
 
   -- some groups go
   pub left-goes_on : (test : List Item → Bool) → GoesOn (waiting_items (record q { publish = filter test q.publish }))
   left-goes_on test =
-      joined (q.begun ++ q.control) (frames_of (filter test q.publish)) first-lanes (groups-left test q.publish last-lane)
+      joined (q.begun ++ q.control) (items_of_groups (filter test q.publish)) first-lanes (groups-left test q.publish last-lane)
 
   -- all of a channel goes
   pub channel-goes_on : (n : ℕ) → GoesOn (waiting_items (without_all_on n q))
   channel-goes_on n =
-      joined (q.begun ++ filter (λ item. not (goes_with n item)) q.control) (frames_of (filter (λ group. not (is_on n group)) q.publish))
+      joined (q.begun ++ filter (λ item. not (goes_with n item)) q.control) (items_of_groups (filter (λ group. not (is_on n group)) q.publish))
       (joined q.begun (filter (λ item. not (goes_with n item)) q.control) (front q.begun q.control first-lanes)
       (items-left (λ item. not (goes_with n item)) q.control (behind q.begun q.control first-lanes)))
       (groups-left (λ group. not (is_on n group)) q.publish last-lane)
@@ -172,23 +172,23 @@ alone-last [] is x h = ((λ f. refl), tt)
 alone-last (m ∷ ms) is x h =
     let no : is_finish m.then ≡ false = h.0 in ((λ (f : IsTrue (is_finish m.then)). absurd cc), alone-last ms is x h.1)
 
-pub open-goes_on : (n : ℕ) → is_finish (then_of (plain n (channel_open n))) ≡ false
+pub open-goes_on : (n : ℕ) → is_finish (then_of (plain_item n (channel_open n))) ≡ false
 open-goes_on zero = refl
 open-goes_on (suc n) = refl
 
-pub close-goes_on : (n code : ℕ) (text : List ℕ) → is_finish (then_of (plain n (our_channel_close n code text))) ≡ false
+pub close-goes_on : (n code : ℕ) (text : List ℕ) → is_finish (then_of (plain_item n (our_channel_close n code text))) ≡ false
 close-goes_on zero code text = refl
 close-goes_on (suc n) code text = refl
 
-pub flow-goes_on : (n : ℕ) (active : Bool) → is_finish (then_of (plain n (channel_flow n active))) ≡ false
+pub flow-goes_on : (n : ℕ) (active : Bool) → is_finish (then_of (plain_item n (channel_flow n active))) ≡ false
 flow-goes_on zero active = refl
 flow-goes_on (suc n) active = refl
 
-pub flow_ok-goes_on : (n : ℕ) (active : Bool) → is_finish (then_of (plain n (flow_ok n active))) ≡ false
+pub flow_ok-goes_on : (n : ℕ) (active : Bool) → is_finish (then_of (plain_item n (flow_ok n active))) ≡ false
 flow_ok-goes_on zero active = refl
 flow_ok-goes_on (suc n) active = refl
 
-pub close_ok-goes_on : (n : ℕ) → is_finish (then_of (plain n (channel_close_ok n))) ≡ false
+pub close_ok-goes_on : (n : ℕ) → is_finish (then_of (plain_item n (channel_close_ok n))) ≡ false
 close_ok-goes_on zero = refl
 close_ok-goes_on (suc n) = refl
 

@@ -7,9 +7,9 @@ use Rattle.amqp_outbox.specs.declared.reply.Awaited.{Awaited}
 use Rattle.amqp_outbox.specs.declared.scope.Scope.TheVariants.{All}
 use Rattle.amqp_outbox.specs.Lists.{head, without_first}
 use Rattle.amqp_outbox.specs.Listed.{Ascends}
-use Rattle.amqp_outbox.specs.Items.{promise_of}
+use Rattle.amqp_outbox.specs.Items.{promise_of_group}
 use Rattle.amqp_outbox.specs.Replies.{awaited_on, left_on}
-use Rattle.amqp_outbox.specs.Queued.{Queued, is_on, goes_with, without_group, frame_promise, without_frame, reply_promise, without_reply, dropped, without_any}
+use Rattle.amqp_outbox.specs.Queued.{Queued, is_on, goes_with, without_group, frame_promise, without_frame, reply_promise, without_reply, dropped_promise, without_any}
 use Rattle.amqp_outbox.proofs.Maps.{without-absent}
 use Rattle.amqp_session.specs.Listed.{without}
 use Rattle.amqp_session.specs.Changes.{replies_on, without_replies_on, promises_on, without_all_on}
@@ -87,7 +87,7 @@ module _ (n : ℕ) (q : Queued) where
 
   abbrev promises-in : List (List Item) → List Item → List Awaited → List (Option ℕ)
   promises-in groups items replies =
-      map promise_of groups ++ map (λ (i : Item). i.promise) items ++ map (λ (a : Awaited). a.promise) replies
+      map promise_of_group groups ++ map (λ (i : Item). i.promise) items ++ map (λ (a : Awaited). a.promise) replies
 
   abbrev all-left : List (List Item) → List Item → Awaiting → Queued
   all-left groups items awaited = record q { publish = groups; control = items; awaited = awaited }
@@ -104,10 +104,10 @@ module _ (n : ℕ) (q : Queued) where
   abbrev kept : List Item
   kept = filter (λ item. not (goes_with n item)) q.control
 
-  group-goes : (p : Option ℕ) (g : List Item) → find (is_on n) q.publish ≡ Some g → promise_of g ≡ p → Goes p
+  group-goes : (p : Option ℕ) (g : List Item) → find (is_on n) q.publish ≡ Some g → promise_of_group g ≡ p → Goes p
   group-goes p g is same =
       goes-to p (without_group n q)
-      (ap (λ o. choice (option_map promise_of o) (frame_promise n q)) is)
+      (ap (λ o. choice (option_map promise_of_group o) (frame_promise n q)) is)
       (ap (λ gs. all-left gs kept (without n q.awaited)) (same-fail (is_on n) q.publish))
       (ap (λ gs. promises-in gs items (awaited_on n q.awaited)) (first-pass (is_on n) q.publish g is)
       ∙ ap (λ x. x ∷ promises_on n (without_group n q)) same)
@@ -116,7 +116,7 @@ module _ (n : ℕ) (q : Queued) where
   frame-goes p i none is same =
       let later = filter (goes_with n) (without_first (goes_with n) q.control) in
       goes-to p (without_frame n q)
-      (ap (λ o. choice (option_map promise_of o) (frame_promise n q)) none
+      (ap (λ o. choice (option_map promise_of_group o) (frame_promise n q)) none
       ∙ ap (λ o. choice None (option_map (λ (i : Item). i.promise) o)) is)
       (ap (λ is. all-left others is (without n q.awaited)) (same-fail (goes_with n) q.control))
       (ap (λ gs. promises-in gs items (awaited_on n q.awaited)) (none-pass (is_on n) q.publish none)
@@ -134,12 +134,12 @@ module _ (n : ℕ) (q : Queued) where
       ap (λ gs. promises-in gs items (awaited_on n (without_reply n q).awaited)) (none-pass (is_on n) q.publish none)
       ∙ ap (λ is. promises-in [] is (awaited_on n (without_reply n q).awaited)) (none-pass (goes_with n) q.control no_frame) in
       goes-to p (without_reply n q)
-      (ap (λ o. choice (option_map promise_of o) (frame_promise n q)) none
+      (ap (λ o. choice (option_map promise_of_group o) (frame_promise n q)) none
       ∙ ap (λ o. choice None (option_map (λ (i : Item). i.promise) o)) no_frame)
       (ap (λ aw. all-left others kept aw) (reply_left sorted))
       (whole ∙ reply_first sorted p is ∙ ap (λ ps. p ∷ ps) (sym left))
 
-  pub goes : Ascends q.awaited → (p : Option ℕ) → dropped n All q ≡ Some p → Goes p
+  pub goes : Ascends q.awaited → (p : Option ℕ) → dropped_promise n All q ≡ Some p → Goes p
   goes sorted p h = by-group (find (is_on n) q.publish) refl h where
     by-frame : find (is_on n) q.publish ≡ None → (o : Option Item) → find (goes_with n) q.control ≡ o
         → option_or (option_map (λ (i : Item). i.promise) o) (reply_promise n q) ≡ Some p → Goes p
@@ -147,9 +147,9 @@ module _ (n : ℕ) (q : Queued) where
     by-frame none (Some i) is k = let same : i.promise ≡ p = cc in frame-goes p i none is same
 
     by-group : (o : Option (List Item)) → find (is_on n) q.publish ≡ o
-        → option_or (option_map promise_of o) (option_or (frame_promise n q) (reply_promise n q)) ≡ Some p → Goes p
+        → option_or (option_map promise_of_group o) (option_or (frame_promise n q) (reply_promise n q)) ≡ Some p → Goes p
     by-group None is k = by-frame is (find (goes_with n) q.control) refl k
-    by-group (Some g) is k = let same : promise_of g ≡ p = cc in group-goes p g is same
+    by-group (Some g) is k = let same : promise_of_group g ≡ p = cc in group-goes p g is same
 
   -- where nothing is left, all is gone
   pub record AllGone : Type 0 where
@@ -163,14 +163,14 @@ module _ (n : ℕ) (q : Queued) where
         ∙ ap (λ is. promises-in [] is (awaited_on n q.awaited)) (none-pass (goes_with n) q.control no_frame)
         ∙ no-replies no_reply;
     left =
-        ap (λ o. choice (option_map promise_of o) (frame_promise n q)) none
+        ap (λ o. choice (option_map promise_of_group o) (frame_promise n q)) none
         ∙ ap (λ o. choice None (option_map (λ (i : Item). i.promise) o)) no_frame
         ∙ replies-gone no_reply
         ∙ ap (λ gs. all-left gs q.control (without n q.awaited)) (sym (all-fail (is_on n) q.publish none))
         ∙ ap (λ is. all-left others is (without n q.awaited)) (sym (all-fail (goes_with n) q.control no_frame));
   }
 
-  pub all-gone : dropped n All q ≡ None → AllGone
+  pub all-gone : dropped_promise n All q ≡ None → AllGone
   all-gone h = by-group (find (is_on n) q.publish) refl h where
     by-frame : find (is_on n) q.publish ≡ None → (o : Option Item) → find (goes_with n) q.control ≡ o
         → option_or (option_map (λ (i : Item). i.promise) o) (reply_promise n q) ≡ None → AllGone
@@ -178,6 +178,6 @@ module _ (n : ℕ) (q : Queued) where
     by-frame none (Some i) is k = absurd cc
 
     by-group : (o : Option (List Item)) → find (is_on n) q.publish ≡ o
-        → option_or (option_map promise_of o) (option_or (frame_promise n q) (reply_promise n q)) ≡ None → AllGone
+        → option_or (option_map promise_of_group o) (option_or (frame_promise n q) (reply_promise n q)) ≡ None → AllGone
     by-group None is k = by-frame is (find (goes_with n) q.control) refl k
     by-group (Some g) is k = absurd cc

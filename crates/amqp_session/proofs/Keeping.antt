@@ -10,7 +10,7 @@ use Rattle.amqp_frame.specs.declared.method.Method.{Method as AnyMethod}
 use Rattle.amqp_frame.specs.declared.method.Method.TheVariants.{Start, Secure, Tune, OpenOk, Close, CloseOk, Blocked, Unblocked, UpdateSecretOk, ChannelOpenOk, ChannelClose, ChannelCloseOk, ChannelFlow, ChannelFlowOk}
 use Rattle.amqp_frame.specs.RawMethods.{OtherMethod}
 use Rattle.amqp_outbox.specs.declared.reply.Reply.TheVariants.{ChannelOpened, ChannelClosed, FlowDone, SecretDone, ConnectionClosed}
-use Rattle.amqp_outbox.specs.Queued.{Queued, awaited_promise, answered}
+use Rattle.amqp_outbox.specs.Queued.{Queued, awaited_promise, without_awaited}
 use Rattle.amqp_session.specs.declared.channels.Channel.{Channel}
 use Rattle.amqp_session.specs.declared.channels.Debt.{Debt}
 use Rattle.amqp_session.specs.declared.channels.Debt.TheVariants as debt
@@ -184,7 +184,7 @@ keeps-connection-closed : (o : Option (Option ℕ)) (t : Talk) → Keeps t.capac
 keeps-connection-closed None t = keeps-close t.capacity t t (keeps-none t)
 keeps-connection-closed (Some promise) t =
     keeps-close t.capacity t _ (keeps-give_to promise (Ok Done) t.capacity t
-    (record t { outbox = answered 0 ConnectionClosed t.outbox }) (record { committed = λ now. refl; capacity = refl; link = inl refl }))
+    (record t { outbox = without_awaited 0 ConnectionClosed t.outbox }) (record { committed = λ now. refl; capacity = refl; link = inl refl }))
 
 keeps-secret-taken : (o : Option (Option ℕ)) (t : Talk) → Keeps t.capacity t (secret_taken o t)
 keeps-secret-taken None t = keeps-lose (InvalidConnectionState Connected) t

@@ -3,7 +3,7 @@ use Rattle.std.proofs.Common.{◌≡◌, ◌∙◌, ap, sym, refl, ℕ, suc, ◌
 use Rattle.std.specs.Prelude.{filter, find}
 use Rattle.amqp_outbox.specs.declared.item.Item.{Item}
 use Rattle.amqp_outbox.specs.Lists.{without_first}
-use Rattle.amqp_outbox.specs.Items.{promise_of}
+use Rattle.amqp_outbox.specs.Items.{promise_of_group}
 use Rattle.amqp_outbox.specs.Queued.{Queued, is_on, group_promise, without_group}
 use Rattle.amqp_outbox.proofs.Taking.{none-left_out}
 use Rattle.amqp_promise.specs.declared.error.ErrorKind.{ErrorKind}
@@ -82,11 +82,11 @@ module _ (n : ℕ) (e : ErrorKind) (t : Talk) where
   pub one-dropped : (promise : Option ℕ) → group_promise n t.outbox ≡ Some promise
       → drop_groups_of n e (give_to promise (Err e) (record t { outbox = without_group n t.outbox })) ≡ drop_groups_of n e t
   one-dropped promise = by (find (is_on n) t.outbox.publish) refl where
-    by : (o : Option (List Item)) → find (is_on n) t.outbox.publish ≡ o → option_map promise_of o ≡ Some promise
+    by : (o : Option (List Item)) → find (is_on n) t.outbox.publish ≡ o → option_map promise_of_group o ≡ Some promise
         → drop_groups_of n e (give_to promise (Err e) (record t { outbox = without_group n t.outbox })) ≡ drop_groups_of n e t
     by None is h = absurd cc
     by (Some g) is h =
-        let same : promise_of g ≡ promise = cc in
+        let same : promise_of_group g ≡ promise = cc in
         let left = filter (λ group. not (is_on n group)) t.outbox.publish in
         let later = filter (is_on n) (without_first (is_on n) t.outbox.publish) in
         ap (λ gs. dropped-to gs (rejected e later (settled_to promise (Err e) t.promises))) (same-fail (is_on n) t.outbox.publish)
@@ -95,7 +95,7 @@ module _ (n : ℕ) (e : ErrorKind) (t : Talk) where
 
   pub fewer-groups : (promise : Option ℕ) → group_promise n t.outbox ≡ Some promise → length (without_group n t.outbox).publish < length t.outbox.publish
   fewer-groups promise = by (find (is_on n) t.outbox.publish) refl where
-    by : (o : Option (List Item)) → find (is_on n) t.outbox.publish ≡ o → option_map promise_of o ≡ Some promise
+    by : (o : Option (List Item)) → find (is_on n) t.outbox.publish ≡ o → option_map promise_of_group o ≡ Some promise
         → length (without_first (is_on n) t.outbox.publish) < length t.outbox.publish
     by None is h = absurd cc
     by (Some g) is h = one-less (is_on n) t.outbox.publish g is
@@ -103,11 +103,11 @@ module _ (n : ℕ) (e : ErrorKind) (t : Talk) where
   -- where none is left, all is done
   pub none-dropped : group_promise n t.outbox ≡ None → drop_groups_of n e t ≡ t
   none-dropped h =
-      let none = none-mapped promise_of (find (is_on n) t.outbox.publish) h in
+      let none = none-mapped promise_of_group (find (is_on n) t.outbox.publish) h in
       ap (λ gs. dropped-to gs (rejected e (filter (is_on n) t.outbox.publish) t.promises)) (all-fail (is_on n) t.outbox.publish none)
       ∙ ap (λ gs. dropped-to t.outbox.publish (rejected e gs t.promises)) (none-pass (is_on n) t.outbox.publish none)
 
   pub none-less : group_promise n t.outbox ≡ None → without_group n t.outbox ≡ t.outbox
   none-less h =
       ap (λ gs. record t.outbox { publish = gs })
-      (none-left_out (is_on n) t.outbox.publish (none-mapped promise_of (find (is_on n) t.outbox.publish) h))
+      (none-left_out (is_on n) t.outbox.publish (none-mapped promise_of_group (find (is_on n) t.outbox.publish) h))

@@ -17,8 +17,8 @@ use Rattle.amqp_frame.specs.declared.method.Method.TheVariants.{Start, Secure, T
 use Rattle.amqp_frame.specs.RawMethods.{OtherMethod}
 use Rattle.amqp_outbox.specs.declared.item.Item.{Item}
 use Rattle.amqp_outbox.specs.declared.reply.Reply.TheVariants.{ChannelOpened, ChannelClosed, FlowDone, SecretDone, ConnectionClosed}
-use Rattle.amqp_outbox.specs.Items.{plain, promised, group_of, promise_of}
-use Rattle.amqp_outbox.specs.Queued.{Queued, waiting_items, pushed_control, pushed_group, awaited_promise, answered, is_on}
+use Rattle.amqp_outbox.specs.Items.{plain_item, promised_item, group_of, promise_of_group}
+use Rattle.amqp_outbox.specs.Queued.{Queued, waiting_items, pushed_control, pushed_group, awaited_promise, without_awaited, is_on}
 use Rattle.amqp_session.specs.declared.channels.Channel.{Channel}
 use Rattle.amqp_session.specs.declared.channels.Debt.{Debt}
 use Rattle.amqp_session.specs.declared.channels.Debt.TheVariants as debt
@@ -104,7 +104,7 @@ to-kept (Some n) answer made ps s = settled-kept (at n ps) n answer made ps refl
 rejected-kept : (e : ErrorKind) (groups : List (List Item)) (made : ℕ) (ps : Promises) → Promised made ps → Promised made (rejected e groups ps)
 rejected-kept e [] made ps s = s
 rejected-kept e (group ∷ groups) made ps s =
-    rejected-kept e groups made (settled_to (promise_of group) (Err e) ps) (to-kept (promise_of group) (Err e) made ps s)
+    rejected-kept e groups made (settled_to (promise_of_group group) (Err e) ps) (to-kept (promise_of_group group) (Err e) made ps s)
 
 each-kept : (e : ErrorKind) (named : List (Option ℕ)) (made : ℕ) (ps : Promises) → Promised made ps → Promised made (rejected_each e named ps)
 each-kept e [] made ps s = s
@@ -210,7 +210,7 @@ sound-replies n e t s =
 sound-closed : (n : ℕ) (c : Channel) (a : Option (Option ℕ)) (t : Talk) → IsSound t → IsSound (channel_closed n c a t)
 sound-closed n c None t s = sound-unawaited n c.state ChannelCloseOk t s
 sound-closed n c (Some promise) t s =
-    let closed : IsSound (give_to promise (Ok Done) (record t { outbox = answered n ChannelClosed t.outbox })) =
+    let closed : IsSound (give_to promise (Ok Done) (record t { outbox = without_awaited n ChannelClosed t.outbox })) =
     sound-give_to promise (Ok Done) _ (record { link = s.link; room = s.room; acting = s.acting; finish = s.finish; listed = s.listed; promises = s.promises }) in
     sound-owed c.debt n _ (sound-replies n _ _ closed)
 
@@ -222,7 +222,7 @@ sound-flow _ n c active t some acting s =
       link = s.link;
       room = s.room;
       acting = s.acting;
-      finish = queue-finishes t.input t.committed t.outbox (plain n (flow_ok n active)) acting (flow_ok-goes_on n active) s.finish;
+      finish = queue-finishes t.input t.committed t.outbox (plain_item n (flow_ok n active)) acting (flow_ok-goes_on n active) s.finish;
       listed = put-from n _ 0 t.channels some s.listed;
       promises = s.promises;
     }
@@ -240,7 +240,7 @@ sound-noted ns t s = record { link = s.link; room = s.room; acting = s.acting; f
 sound-server-close : (d : Debt) (awaits : Bool) (n : ℕ) (e : ErrorKind) (c : Channel) (t : Talk) → 0 < n → is_acting t.input ≡ true → IsSound t
     → IsSound (channel_close_by d awaits n e c t)
 sound-server-close debt.Nothing false n e c t some acting s =
-    let said : Item = plain n (channel_close_ok n) in
+    let said : Item = plain_item n (channel_close_ok n) in
     let left : Queued = without_all_on n t.outbox in
     record {
       link = s.link;
@@ -257,7 +257,7 @@ sound-server-close debt.Nothing true n e c t some acting s =
       link = s.link;
       room = s.room;
       acting = s.acting;
-      finish = queue-finishes t.input t.committed t.outbox (plain n (channel_close_ok n)) acting (close_ok-goes_on n) s.finish;
+      finish = queue-finishes t.input t.committed t.outbox (plain_item n (channel_close_ok n)) acting (close_ok-goes_on n) s.finish;
       listed = put-from n _ 0 t.channels some s.listed;
       promises = s.promises;
     }
@@ -322,7 +322,7 @@ tune-room own server = wish-some 65535 (lesser_wish own.channel_max server.chann
 sound-connection-closed : (a : Option (Option ℕ)) (t : Talk) → IsSound t → IsSound (connection_closed a t)
 sound-connection-closed None t s = sound-close t s
 sound-connection-closed (Some promise) t s =
-    let closed : Talk = record t { outbox = answered 0 ConnectionClosed t.outbox } in
+    let closed : Talk = record t { outbox = without_awaited 0 ConnectionClosed t.outbox } in
     sound-close (give_to promise (Ok Done) closed) (sound-give_to promise (Ok Done) closed (record { link = s.link; room = s.room; acting = s.acting; finish = s.finish; listed = s.listed; promises = s.promises }))
 
 sound-secret-taken : (a : Option (Option ℕ)) (t : Talk) → IsSound t → IsSound (secret_taken a t)
@@ -336,7 +336,7 @@ sound-started mechanism (Ok response) t hs acting s =
     record {
       link = s.link;
       acting = s.acting;
-      finish = queue-finishes t.input t.committed t.outbox (plain 0 (start_ok t.config.options mechanism response)) acting refl s.finish;
+      finish = queue-finishes t.input t.committed t.outbox (plain_item 0 (start_ok t.config.options mechanism response)) acting refl s.finish;
       listed = s.listed;
       promises = s.promises;
       room = λ h. (let k : is_agreed Connecting AwaitTune ≡ true = subst (λ x. is_agreed x AwaitTune ≡ true) hs h in absurd cc);
@@ -349,7 +349,7 @@ sound-challenged (Ok response) t acting s =
       link = s.link;
       room = s.room;
       acting = s.acting;
-      finish = queue-finishes t.input t.committed t.outbox (plain 0 (secure_ok response)) acting refl s.finish;
+      finish = queue-finishes t.input t.committed t.outbox (plain_item 0 (secure_ok response)) acting refl s.finish;
       listed = s.listed;
       promises = s.promises;
     }
@@ -374,7 +374,7 @@ sound-reopen n t acting s =
       link = s.link;
       room = s.room;
       acting = s.acting;
-      finish = queue-finishes t.input t.committed t.outbox (plain n (channel_open n)) acting (open-goes_on n) s.finish;
+      finish = queue-finishes t.input t.committed t.outbox (plain_item n (channel_open n)) acting (open-goes_on n) s.finish;
       listed = s.listed;
       promises = s.promises;
     })
@@ -394,7 +394,7 @@ sound-connection state p (Close code text class method) answers t hs hp opened a
       room = λ h. absurd cc;
       acting = λ h. absurd cc;
       finish =
-          alone-last t.committed (waiting_items t.outbox) (plain 0 close_ok)
+          alone-last t.committed (waiting_items t.outbox) (plain_item 0 close_ok)
           (acting-none t.input (following t.committed (waiting_items t.outbox)) acting s.finish);
       listed = s.listed;
       promises = s.promises;
@@ -407,13 +407,13 @@ sound-connection Connecting AwaitStart (Start a b c d e) answers t hs hp opened 
 sound-connection Connecting AwaitTune (Secure challenge) answers t hs hp opened acting s = secure-case IsSound answers t s (λ said. sound-challenged said t acting s)
 sound-connection Connecting AwaitTune (Tune a b c) answers t hs hp opened acting s =
     let server : Configuration = record { channel_max = a; frame_max = b; heartbeat = c } in
-    let tuned : Item = plain 0 (tune_ok (tune t.configuration server)) in
+    let tuned : Item = plain_item 0 (tune_ok (tune t.configuration server)) in
     record {
       link = s.link;
       room = λ h. tune-room t.configuration server;
       acting = s.acting;
       finish =
-          queue-finishes t.input t.committed (pushed_control tuned t.outbox) (plain 0 (open_vhost t.config.uri.vhost)) acting refl
+          queue-finishes t.input t.committed (pushed_control tuned t.outbox) (plain_item 0 (open_vhost t.config.uri.vhost)) acting refl
           (queue-finishes t.input t.committed t.outbox tuned acting refl s.finish);
       listed = s.listed;
       promises = s.promises;
@@ -535,7 +535,7 @@ sound-drawn (Some n) first t some acting s =
       link = s.link;
       room = s.room;
       acting = s.acting;
-      finish = queue-finishes t.input t.committed t.outbox (plain n (channel_open n)) acting (open-goes_on n) s.finish;
+      finish = queue-finishes t.input t.committed t.outbox (plain_item n (channel_open n)) acting (open-goes_on n) s.finish;
       listed = put-from n _ 0 t.channels (some n refl) s.listed;
       promises = one-more t.made None t.promises s.promises;
     }
@@ -543,7 +543,7 @@ sound-drawn (Some n) first t some acting s =
 sound-leave : (n code : ℕ) (text : List ℕ) (c : Channel) (answers : Option ℕ) (t : Talk) → 0 < n → is_acting t.input ≡ true → IsSound t
     → IsSound (leave_channel n code text c answers t)
 sound-leave n code text c answers t some acting s =
-    let said : Item = plain n (our_channel_close n code text) in
+    let said : Item = plain_item n (our_channel_close n code text) in
     let closed : ErrorKind = InvalidChannelState channel.Closing word.ChannelClose in
     let gone : List (List Item) = filter (is_on n) t.outbox.publish in
     let left : Queued = record (pushed_control said t.outbox) { publish = filter (λ group. not (is_on n group)) t.outbox.publish } in
@@ -579,7 +579,7 @@ sound-flow-target (Ok c) n active t acting s =
       link = s.link;
       room = s.room;
       acting = s.acting;
-      finish = queue-finishes t.input t.committed t.outbox (plain n (channel_flow n active)) acting (flow-goes_on n active) s.finish;
+      finish = queue-finishes t.input t.committed t.outbox (plain_item n (channel_flow n active)) acting (flow-goes_on n active) s.finish;
       listed = s.listed;
       promises = one-more t.made None t.promises s.promises;
     }
@@ -598,7 +598,7 @@ sound-send (Ok c) n m t acting s =
       link = s.link;
       room = s.room;
       acting = s.acting;
-      finish = queue-finishes t.input t.committed t.outbox (promised n frame (next_promise t)) acting refl s.finish;
+      finish = queue-finishes t.input t.committed t.outbox (promised_item n frame (next_promise t)) acting refl s.finish;
       listed = s.listed;
       promises = one-more t.made None t.promises s.promises;
     })
@@ -611,7 +611,7 @@ sound-update-secret secret reason t acting s =
       link = s.link;
       room = s.room;
       acting = s.acting;
-      finish = queue-finishes t.input t.committed t.outbox (plain 0 frame) acting refl s.finish;
+      finish = queue-finishes t.input t.committed t.outbox (plain_item 0 frame) acting refl s.finish;
       listed = s.listed;
       promises = one-more t.made None t.promises s.promises;
     })
@@ -667,7 +667,7 @@ acts-on state t hs h s = s.acting (ap goes_on hs ∙ h)
 sound-leave-connection : (code : ℕ) (text : List ℕ) (answers : Option ℕ) (t : Talk) → t.state ≡ Connected → IsSound t
     → IsSound (leave_connection code text answers t)
 sound-leave-connection code text answers t hs s =
-    let said : Item = plain 0 (our_close code text) in
+    let said : Item = plain_item 0 (our_close code text) in
     let closed : ErrorKind = InvalidConnectionState Closing in
     record {
       link = closing-fits t.link (subst (λ x. fits_link x t.link ≡ true) hs s.link);
@@ -741,7 +741,7 @@ sound-heartbeat t hs s =
       link = s.link;
       room = s.room;
       acting = s.acting;
-      finish = queue-finishes t.input t.committed t.outbox (plain 0 Heartbeat) (s.acting (ap goes_on hs)) refl s.finish;
+      finish = queue-finishes t.input t.committed t.outbox (plain_item 0 Heartbeat) (s.acting (ap goes_on hs)) refl s.finish;
       listed = s.listed;
       promises = s.promises;
     }
@@ -753,7 +753,7 @@ sound-refreshed (Ok secret) t hs s =
       link = s.link;
       room = s.room;
       acting = s.acting;
-      finish = queue-finishes t.input t.committed t.outbox (plain 0 (new_secret secret refresh_reason)) (s.acting (ap goes_on hs)) refl s.finish;
+      finish = queue-finishes t.input t.committed t.outbox (plain_item 0 (new_secret secret refresh_reason)) (s.acting (ap goes_on hs)) refl s.finish;
       listed = s.listed;
       promises = s.promises;
     }

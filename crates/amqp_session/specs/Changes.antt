@@ -4,9 +4,9 @@ use Rattle.amqp_frame.specs.declared.frame.Frame.{Frame}
 use Rattle.amqp_outbox.specs.declared.item.Item.{Item}
 use Rattle.amqp_outbox.specs.declared.reply.Reply.{Reply}
 use Rattle.amqp_outbox.specs.declared.reply.Awaited.{Awaited}
-use Rattle.amqp_outbox.specs.Items.{plain, promise_of}
+use Rattle.amqp_outbox.specs.Items.{plain_item, promise_of_group}
 use Rattle.amqp_outbox.specs.Replies.{awaited_on}
-use Rattle.amqp_outbox.specs.Queued.{Queued, pushed_control, pushed_group, expected, is_on, goes_with}
+use Rattle.amqp_outbox.specs.Queued.{Queued, pushed_control, pushed_group, with_awaited, is_on, goes_with}
 use Rattle.amqp_promise.specs.declared.state.ConnectionState.TheVariants.{Closed, Error}
 use Rattle.amqp_session.specs.declared.state.Link.TheVariants.{Ended}
 use Rattle.amqp_session.specs.declared.command.Answer.{Answer}
@@ -33,7 +33,7 @@ queue_item item t = record t { outbox = pushed_control item t.outbox }
 
 -- a frame of a channel that answers no promise goes last into the control lane
 abbrev pub queue : ℕ → Frame → Talk → Talk
-queue channel f t = queue_item (plain channel f) t
+queue channel f t = queue_item (plain_item channel f) t
 
 -- a group goes last into the publish lane
 abbrev pub queue_group : List Item → Talk → Talk
@@ -42,7 +42,7 @@ queue_group group t = record t { outbox = pushed_group group t.outbox }
 -- a reply is awaited on a channel, and will answer a promise
 abbrev pub await : ℕ → Reply → Option ℕ → Talk → Talk
 await channel reply promise t =
-    record t { outbox = expected channel (record { reply = reply; promise = promise }) t.outbox }
+    record t { outbox = with_awaited channel (record { reply = reply; promise = promise }) t.outbox }
 
 -- ---- promises
 
@@ -109,7 +109,7 @@ rejected_each e (named ∷ others) promises = rejected_each e others (settled_to
 -- the promises, once that of each of these groups got an error
 abbrev pub rejected : ErrorKind → List (List Item) → Promises → Promises
 rejected e [] promises = promises
-rejected e (group ∷ groups) promises = rejected e groups (settled_to (promise_of group) (Err e) promises)
+rejected e (group ∷ groups) promises = rejected e groups (settled_to (promise_of_group group) (Err e) promises)
 
 -- what waits, without the groups of a channel that have not begun
 abbrev pub without_groups_of : ℕ → Queued → Queued
@@ -143,7 +143,7 @@ replies_on n q = map (λ (a : Awaited). a.promise) (awaited_on n q.awaited)
 -- but channel.open and channel.close, then of its awaited replies
 abbrev pub promises_on : ℕ → Queued → List (Option ℕ)
 promises_on n q =
-    map promise_of (filter (is_on n) q.publish)
+    map promise_of_group (filter (is_on n) q.publish)
     ++ map (λ (i : Item). i.promise) (filter (goes_with n) q.control)
     ++ replies_on n q
 

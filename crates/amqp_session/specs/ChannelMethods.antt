@@ -8,7 +8,7 @@ use Rattle.amqp_frame.specs.declared.frame.RawKind.TheVariants.{RawMethod}
 use Rattle.amqp_frame.specs.declared.method.Method.{Method}
 use Rattle.amqp_frame.specs.declared.method.Method.TheVariants.{ChannelOpenOk, ChannelClose, ChannelCloseOk, ChannelFlow, ChannelFlowOk}
 use Rattle.amqp_outbox.specs.declared.reply.Reply.TheVariants.{ChannelOpened, ChannelClosed, FlowDone}
-use Rattle.amqp_outbox.specs.Queued.{awaited_promise, answered}
+use Rattle.amqp_outbox.specs.Queued.{awaited_promise, without_awaited}
 use Rattle.amqp_promise.specs.declared.state.ConnectionState.{ConnectionState}
 use Rattle.amqp_promise.specs.declared.state.ConnectionState.TheVariants.{Connecting, Closing}
 use Rattle.amqp_promise.specs.declared.state.ChannelState.{ChannelState}
@@ -48,7 +48,7 @@ unawaited_channel_method n _ method t = lose (unawaited method n) t
 abbrev pub channel_opened : ℕ → Channel → Option (Option ℕ) → Talk → Talk
 channel_opened n c None t = unawaited_channel_method n c.state ChannelOpenOk t
 channel_opened n c (Some promise) t =
-    let opened = record t { outbox = answered n ChannelOpened t.outbox } in
+    let opened = record t { outbox = without_awaited n ChannelOpened t.outbox } in
     give_to promise (Ok (AnswerChannel n c.opened)) (set_channel n (record c { state = channel.Connected }) opened)
 
 -- open-ok, where it is awaited: the channel is open
@@ -68,7 +68,7 @@ remove_unless_owed _ n t = remove_channel n t
 abbrev pub channel_closed : ℕ → Channel → Option (Option ℕ) → Talk → Talk
 channel_closed n c None t = unawaited_channel_method n c.state ChannelCloseOk t
 channel_closed n c (Some promise) t =
-    let closed = give_to promise (Ok Done) (record t { outbox = answered n ChannelClosed t.outbox }) in
+    let closed = give_to promise (Ok Done) (record t { outbox = without_awaited n ChannelClosed t.outbox }) in
     remove_unless_owed c.debt n
     (drop_replies_of n (InvalidChannelState channel.Closed word.ChannelCloseOkReceived) closed)
 
@@ -88,7 +88,7 @@ on_channel_flow _ n c active t =
 abbrev pub channel_flowed : ℕ → Channel → Bool → Option (Option ℕ) → Talk → Talk
 channel_flowed n c active None t = unawaited_channel_method n c.state (ChannelFlowOk active) t
 channel_flowed n c active (Some promise) t =
-    give_to promise (Ok (Flow active)) (record t { outbox = answered n FlowDone t.outbox })
+    give_to promise (Ok (Flow active)) (record t { outbox = without_awaited n FlowDone t.outbox })
 
 -- flow-ok, where it is awaited: the server starts or stops to send content, as it was told
 abbrev pub on_channel_flow_ok : ℕ → Channel → Bool → Talk → Talk

@@ -7,7 +7,7 @@ use Rattle.amqp_frame.specs.Frames.{encoding}
 use Rattle.amqp_types.specs.declared.word.Word.{Word}
 use Rattle.amqp_types.specs.declared.word.Word.TheVariants as word
 use Rattle.amqp_outbox.specs.declared.reply.Reply.TheVariants.{ChannelOpened, ChannelClosed, FlowDone, SecretDone, ConnectionClosed}
-use Rattle.amqp_outbox.specs.Items.{promised, group_of}
+use Rattle.amqp_outbox.specs.Items.{promised_item, group_of}
 use Rattle.amqp_promise.specs.declared.state.ConnectionState.{ConnectionState}
 use Rattle.amqp_promise.specs.declared.state.ConnectionState.TheVariants.{Connected, Closing}
 use Rattle.amqp_promise.specs.declared.state.ChannelState.{ChannelState}
@@ -118,7 +118,7 @@ unless_too_long None rule t = rule t
 
 -- the frame is queued, and its promise waits until its last byte is sent
 abbrev pub queue_send : ℕ → Frame → Talk → Talk
-queue_send n frame t = promise (queue_item (promised n frame (next_promise t)) t)
+queue_send n frame t = promise (queue_item (promised_item n frame (next_promise t)) t)
 
 -- a method is sent on a channel
 abbrev pub send : ℕ → OtherMethod → Talk → Talk

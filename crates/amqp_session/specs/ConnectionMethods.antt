@@ -3,8 +3,8 @@ use Rattle.std.specs.Prelude.{ℕ, nat_le, if◌then◌else◌, true, false, Lis
 use Rattle.amqp_frame.specs.declared.method.Method.{Method}
 use Rattle.amqp_frame.specs.declared.method.Method.TheVariants.{Start, Secure, Tune, OpenOk, Close, CloseOk, Blocked, Unblocked, UpdateSecretOk}
 use Rattle.amqp_outbox.specs.declared.reply.Reply.TheVariants.{ChannelOpened, SecretDone, ConnectionClosed}
-use Rattle.amqp_outbox.specs.Items.{plain}
-use Rattle.amqp_outbox.specs.Queued.{only, awaited_promise, answered}
+use Rattle.amqp_outbox.specs.Items.{plain_item}
+use Rattle.amqp_outbox.specs.Queued.{only, awaited_promise, without_awaited}
 use Rattle.amqp_promise.specs.declared.state.ConnectionState.{ConnectionState}
 use Rattle.amqp_promise.specs.declared.state.ConnectionState.TheVariants.{Connecting, Connected, Closing}
 use Rattle.amqp_session.specs.declared.state.Phase.{Phase}
@@ -106,8 +106,8 @@ on_unblocked t = note event.ConnectionUnblocked (record t { blocked = false })
 abbrev pub secret_taken : Option (Option ℕ) → Talk → Talk
 secret_taken None t = unexpected_connection_method Connected t
 secret_taken (Some None) t =
-    record t { outbox = answered 0 SecretDone t.outbox; secret_at = t.present; refreshing = false }
-secret_taken (Some (Some number)) t = give number (Ok Done) (record t { outbox = answered 0 SecretDone t.outbox })
+    record t { outbox = without_awaited 0 SecretDone t.outbox; secret_at = t.present; refreshing = false }
+secret_taken (Some (Some number)) t = give number (Ok Done) (record t { outbox = without_awaited 0 SecretDone t.outbox })
 
 -- update-secret-ok: the server took the first new secret that it did not answer yet
 abbrev pub on_update_secret_ok : Talk → Talk
@@ -123,14 +123,14 @@ on_connection_close code text t =
       state = Closing;
       input = input.Closed (is_closing t.state);
       server_close = Some (closed_with code text);
-      outbox = only (plain 0 close_ok);
+      outbox = only (plain_item 0 close_ok);
     }
 
 -- close-ok after our close, by the promise of what awaits it
 abbrev pub connection_closed : Option (Option ℕ) → Talk → Talk
 connection_closed None t = close t
 connection_closed (Some promise) t =
-    close (give_to promise (Ok Done) (record t { outbox = answered 0 ConnectionClosed t.outbox }))
+    close (give_to promise (Ok Done) (record t { outbox = without_awaited 0 ConnectionClosed t.outbox }))
 
 -- close-ok: our close is answered, and the session ends Closed
 abbrev pub on_connection_close_ok : Talk → Talk

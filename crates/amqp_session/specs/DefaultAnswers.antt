@@ -4,7 +4,7 @@ use Rattle.amqp_uri.specs.declared.authority.AMQPUserInfo.{AMQPUserInfo}
 use Rattle.amqp_uri.specs.declared.uri.AMQPUri.{AMQPUri}
 use Rattle.amqp_uri.specs.declared.mechanism.SASLMechanism.{SASLMechanism}
 use Rattle.amqp_uri.specs.declared.mechanism.SASLMechanism.TheVariants.{Plain, RabbitCrDemo}
-use Rattle.amqp_uri.specs.Login.{Login, sasl_text, challenge_text, answer_text}
+use Rattle.amqp_uri.specs.Login.{Login, sasl_text, challenge_text, login_text}
 use Rattle.amqp_uri.specs.Mechanisms.{name_of}
 use Rattle.amqp_session.specs.declared.auth.asked.Question.{Question}
 use Rattle.amqp_session.specs.declared.auth.asked.Question.TheVariants as question
@@ -49,7 +49,7 @@ wrong_challenge challenge =
 -- the answer to a challenge by RABBIT-CR-DEMO
 abbrev pub demo_answer : Login → List ℕ → Result (List ℕ) (List ℕ)
 demo_answer login challenge =
-    if bytes_eq challenge challenge_text then Ok (answer_text login) else Err (wrong_challenge challenge)
+    if bytes_eq challenge challenge_text then Ok (login_text login) else Err (wrong_challenge challenge)
 
 -- the answer to a challenge; the other mechanisms know none
 abbrev pub challenge_answer : SASLMechanism → Login → List ℕ → Result (List ℕ) (List ℕ)

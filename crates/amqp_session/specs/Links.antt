@@ -1,6 +1,6 @@
 -- Links: that one is asked for, comes or does not come, gives bytes, and ends.
 use Rattle.std.specs.Prelude.{ℕ, if◌then◌else◌, false, [], Option, Some, None}
-use Rattle.amqp_outbox.specs.Items.{plain}
+use Rattle.amqp_outbox.specs.Items.{plain_item}
 use Rattle.amqp_outbox.specs.Queued.{only}
 use Rattle.amqp_promise.specs.declared.state.ConnectionState.TheVariants.{Connecting}
 use Rattle.amqp_session.specs.declared.state.Phase.TheVariants.{AwaitStart}
@@ -38,7 +38,7 @@ linked t =
       link = Open;
       input = Acting;
       blocked = false;
-      outbox = only (plain 0 protocol_header);
+      outbox = only (plain_item 0 protocol_header);
       committed = [];
       last_read = t.present;
       last_write = t.present;

@@ -1,6 +1,6 @@
 -- Recovery: when a session whose link is lost goes on, how long it waits for another, and what it keeps.
 use Rattle.std.specs.Prelude.{ℕ, suc, ◌+◌, ◌-◌, ◌^◌, min, not, ◌&&◌, if◌then◌else◌, Bool, true, false, List, [], filter, map, Option, Some, None, Result, Err, slice_get}
-use Rattle.amqp_outbox.specs.Queued.{nothing}
+use Rattle.amqp_outbox.specs.Queued.{nothing_queued}
 use Rattle.amqp_promise.specs.declared.state.ConnectionState.{ConnectionState}
 use Rattle.amqp_promise.specs.declared.state.ConnectionState.TheVariants.{Connecting, Connected, Closing, Reconnecting}
 use Rattle.amqp_promise.specs.declared.state.ChannelState.{ChannelState}
@@ -87,7 +87,7 @@ reconnect e delay t =
     record (delayed delay t) {
       state = Reconnecting;
       blocked = false;
-      outbox = nothing;
+      outbox = nothing_queued;
       committed = [];
       channels = kept t.channels;
       promises = rejected_all e t.promises;

@@ -5,8 +5,8 @@ use Rattle.std.specs.Map.{keys_of}
 use Rattle.amqp_outbox.specs.declared.item.Item.{Item}
 use Rattle.amqp_outbox.specs.declared.outbox.Outbox.{Outbox}
 use Rattle.amqp_outbox.specs.declared.reply.Reply.TheVariants.{ChannelOpened}
-use Rattle.amqp_outbox.specs.Items.{plain}
-use Rattle.amqp_outbox.specs.Queued.{Queued, pushed_control, expected}
+use Rattle.amqp_outbox.specs.Items.{plain_item}
+use Rattle.amqp_outbox.specs.Queued.{Queued, pushed_control, with_awaited}
 use Rattle.amqp_outbox.specs.Parts.{HasControlPlaces, HasReplyPlace}
 use Rattle.amqp_session.specs.declared.channels.Channel.{Channel}
 use Rattle.amqp_session.specs.Handshake.{channel_open}
@@ -32,11 +32,11 @@ numbers_after last channel_max listed = filter (λ n. nat_le n channel_max) (key
 
 -- channel.open for a number
 abbrev pub open_item : ℕ → Item
-open_item n = plain n (channel_open n)
+open_item n = plain_item n (channel_open n)
 
 -- a channel is opened again, without a promise
 abbrev pub reopened : ℕ → Queued → Queued
-reopened n q = expected n (record { reply = ChannelOpened; promise = None }) (pushed_control (open_item n) q)
+reopened n q = with_awaited n (record { reply = ChannelOpened; promise = None }) (pushed_control (open_item n) q)
 
 -- channels are opened again, one after another
 abbrev pub reopened_each : List ℕ → Queued → Queued

@@ -1,6 +1,6 @@
 -- The plain state of a session, in enums, numbers, lists and finite maps.
 use Rattle.std.specs.Prelude.{ℕ, Bool, false, true, ◌&&◌, List, [], ◌∷◌, Option, Some, None, Result, is_some}
-use Rattle.amqp_outbox.specs.Queued.{Queued, nothing}
+use Rattle.amqp_outbox.specs.Queued.{Queued, nothing_queued}
 use Rattle.amqp_promise.specs.declared.state.ConnectionState.{ConnectionState}
 use Rattle.amqp_promise.specs.declared.state.ConnectionState.TheVariants.{Initial, Closing}
 use Rattle.amqp_session.specs.declared.state.Phase.{Phase}
@@ -80,7 +80,7 @@ start config =
       capacity = capacity_for (own_numbers config.uri.query).frame_max;
       channels = [];
       cursor = 0;
-      outbox = nothing;
+      outbox = nothing_queued;
       committed = [];
       handed = [];
       made = 1;

@@ -46,8 +46,8 @@ address_in (Ok url) = address_by_scheme url
 address_in (Err error) = Err NotAmqp
 
 -- the address that a text is, or the first fault that it has
-abbrev pub parsed : List ℕ → Result AMQPUri UriFault
-parsed text = if nat_lt most_octets (length text) then Err NotAmqp else address_in (parse_url None text)
+abbrev pub address_of_text : List ℕ → Result AMQPUri UriFault
+address_of_text text = if nat_lt most_octets (length text) then Err NotAmqp else address_in (parse_url None text)
 
 -- an address that says nothing: the broker of this machine, and its virtual host `/`
 abbrev pub local : AMQPUri

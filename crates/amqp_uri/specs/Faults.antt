@@ -7,13 +7,13 @@ use Rattle.amqp_uri.specs.declared.fault.UriFault.{UriFault}
 use Rattle.amqp_uri.specs.declared.fault.UriFault.TheVariants.{NotAmqp, Amqps, VhostTooLong, BadNumber, BadMechanism, NoMemory}
 
 -- the text of a fault, which is a fixed one, and at a bad number the key that has it
-abbrev pub text_of : UriFault → List ℕ
-text_of NotAmqp = word.word_text NotAnAmqpUri
-text_of Amqps = word.word_text AmqpsIsNotSupported
-text_of VhostTooLong = word.word_text VirtualHostTooLong
-text_of (BadNumber key) = word.word_text BadNumberInUri ++ codes ": " ++ word.word_text key
-text_of BadMechanism = word.word_text BadMechanismInUri
-text_of NoMemory = codes "memory was refused"
+abbrev pub uri_fault_text : UriFault → List ℕ
+uri_fault_text NotAmqp = word.word_text NotAnAmqpUri
+uri_fault_text Amqps = word.word_text AmqpsIsNotSupported
+uri_fault_text VhostTooLong = word.word_text VirtualHostTooLong
+uri_fault_text (BadNumber key) = word.word_text BadNumberInUri ++ codes ": " ++ word.word_text key
+uri_fault_text BadMechanism = word.word_text BadMechanismInUri
+uri_fault_text NoMemory = codes "memory was refused"
 
 -- the word of a fault, which at a bad number names no key; refused memory is no fault of the text and has none
 abbrev pub word_of : UriFault → Option Word

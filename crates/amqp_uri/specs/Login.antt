@@ -36,5 +36,5 @@ abbrev pub challenge_text : List ℕ
 challenge_text = codes "Please tell me your password"
 
 -- by RABBIT-CR-DEMO: what the client answers
-abbrev pub answer_text : Login → List ℕ
-answer_text login = codes "My password is " ++ login.password
+abbrev pub login_text : Login → List ℕ
+login_text login = codes "My password is " ++ login.password

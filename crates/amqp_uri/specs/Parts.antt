@@ -9,7 +9,7 @@ use Rattle.url.specs.declared.error.ParseError.TheVariants.{Overflow, OutOfMemor
 use Rattle.amqp_uri.specs.declared.fault.UriFault.{UriFault}
 use Rattle.amqp_uri.specs.declared.fault.UriFault.TheVariants.{NotAmqp, NoMemory}
 use Rattle.amqp_uri.specs.declared.query.AMQPQuery.{AMQPQuery}
-use Rattle.amqp_uri.specs.Query.{Pair, frame_max_in, channel_max_in, heartbeat_in, auth_mechanism_in, refusal_of, unless}
+use Rattle.amqp_uri.specs.Query.{QueryPair, pair_frame_max, pair_channel_max, pair_heartbeat, pair_mechanism, refusal_of, unless}
 
 -- why a URL could not be made: for want of room, or since the text is none
 abbrev pub of_parsing : ParseError → UriFault
@@ -18,16 +18,16 @@ of_parsing Overflow = NoMemory
 of_parsing _ = NotAmqp
 
 -- what a pair wishes, over what was wished before
-abbrev pub onto : AMQPQuery → Pair → AMQPQuery
+abbrev pub onto : AMQPQuery → QueryPair → AMQPQuery
 onto query pair = record {
-  frame_max = option_or (frame_max_in pair) query.frame_max;
-  channel_max = option_or (channel_max_in pair) query.channel_max;
-  heartbeat = option_or (heartbeat_in pair) query.heartbeat;
-  auth_mechanism = option_or (auth_mechanism_in pair) query.auth_mechanism;
+  frame_max = option_or (pair_frame_max pair) query.frame_max;
+  channel_max = option_or (pair_channel_max pair) query.channel_max;
+  heartbeat = option_or (pair_heartbeat pair) query.heartbeat;
+  auth_mechanism = option_or (pair_mechanism pair) query.auth_mechanism;
 }
 
 -- the same, unless the pair is refused
-abbrev pub with_pair : AMQPQuery → Pair → Result AMQPQuery UriFault
+abbrev pub with_pair : AMQPQuery → QueryPair → Result AMQPQuery UriFault
 with_pair query pair = unless (refusal_of pair) (onto query pair)
 
 -- a pair of a field table whose value is a long string

@@ -13,16 +13,16 @@ use Rattle.amqp_uri.specs.Decoding.{decoded}
 use Rattle.amqp_uri.specs.Mechanisms.{mechanism_named}
 
 -- a name and a value, decoded
-abbrev pub Pair : Type 0
-Pair = List ℕ × List ℕ
+abbrev pub QueryPair : Type 0
+QueryPair = List ℕ × List ℕ
 
 -- both sides of an encoded pair, decoded
-abbrev pub decoded_pair : List ℕ × List ℕ → Pair
+abbrev pub decoded_pair : List ℕ × List ℕ → QueryPair
 decoded_pair pair = (decoded pair.0, decoded pair.1)
 
 -- the pairs of a query, which stand between its `&`, each parted at its first `=`; a `+` stands for itself
-abbrev pub pairs_of : Option (List ℕ) → List Pair
-pairs_of query = map decoded_pair (raw_pairs (unwrap_or query []))
+abbrev pub query_pairs : Option (List ℕ) → List QueryPair
+query_pairs query = map decoded_pair (raw_pairs (unwrap_or query []))
 
 -- ---- one pair
 
@@ -38,31 +38,31 @@ abbrev pub kept_frame_max : ℕ → ℕ
 kept_frame_max n = if nat_lt 0 n && nat_lt n 4096 then 4096 else n
 
 -- what a reading says of a pair's value, if the pair has this name
-abbrev pub under : {A : Type 0} → List ℕ → (List ℕ → Option A) → Pair → Option A
+abbrev pub under : {A : Type 0} → List ℕ → (List ℕ → Option A) → QueryPair → Option A
 under name reading pair = if bytes_eq pair.0 name then reading pair.1 else None
 
 -- what a pair wishes of each kind
-abbrev pub frame_max_in : Pair → Option ℕ
-frame_max_in = under (codes "frame_max") (λ value. option_map kept_frame_max (number 32 value))
+abbrev pub pair_frame_max : QueryPair → Option ℕ
+pair_frame_max = under (codes "frame_max") (λ value. option_map kept_frame_max (number 32 value))
 
 -- the same of channels
-abbrev pub channel_max_in : Pair → Option ℕ
-channel_max_in = under (codes "channel_max") (number 16)
+abbrev pub pair_channel_max : QueryPair → Option ℕ
+pair_channel_max = under (codes "channel_max") (number 16)
 
 -- the same of heartbeats
-abbrev pub heartbeat_in : Pair → Option ℕ
-heartbeat_in = under (codes "heartbeat") (number 16)
+abbrev pub pair_heartbeat : QueryPair → Option ℕ
+pair_heartbeat = under (codes "heartbeat") (number 16)
 
 -- the same of the mechanism
-abbrev pub auth_mechanism_in : Pair → Option SASLMechanism
-auth_mechanism_in = under (codes "auth_mechanism") mechanism_named
+abbrev pub pair_mechanism : QueryPair → Option SASLMechanism
+pair_mechanism = under (codes "auth_mechanism") mechanism_named
 
 -- the fault, unless there is a value
 abbrev pub missing : {A : Type 0} → UriFault → Option A → Option UriFault
 missing fault value = if is_some value then None else Some fault
 
 -- why a pair is refused: its name is known, and its value is none for it
-abbrev pub refusal_of : Pair → Option UriFault
+abbrev pub refusal_of : QueryPair → Option UriFault
 refusal_of pair =
     if bytes_eq pair.0 (codes "frame_max") then missing (BadNumber FrameMax) (number 32 pair.1)
     else (if bytes_eq pair.0 (codes "channel_max") then missing (BadNumber ChannelMax) (number 16 pair.1)
@@ -73,22 +73,22 @@ refusal_of pair =
 -- ---- all pairs
 
 -- what the first pair says that says something
-abbrev pub first_of : {A : Type 0} → (Pair → Option A) → List Pair → Option A
+abbrev pub first_of : {A : Type 0} → (QueryPair → Option A) → List QueryPair → Option A
 first_of says [] = None
 first_of says (pair ∷ pairs) = option_or (says pair) (first_of says pairs)
 
 -- what the last pair says that says something
-abbrev pub last_of : {A : Type 0} → (Pair → Option A) → List Pair → Option A
+abbrev pub last_of : {A : Type 0} → (QueryPair → Option A) → List QueryPair → Option A
 last_of says [] = None
 last_of says (pair ∷ pairs) = option_or (last_of says pairs) (says pair)
 
 -- what all pairs wish: of equal names the last counts
-abbrev pub wishes_of : List Pair → AMQPQuery
+abbrev pub wishes_of : List QueryPair → AMQPQuery
 wishes_of pairs = record {
-  frame_max = last_of frame_max_in pairs;
-  channel_max = last_of channel_max_in pairs;
-  heartbeat = last_of heartbeat_in pairs;
-  auth_mechanism = last_of auth_mechanism_in pairs;
+  frame_max = last_of pair_frame_max pairs;
+  channel_max = last_of pair_channel_max pairs;
+  heartbeat = last_of pair_heartbeat pairs;
+  auth_mechanism = last_of pair_mechanism pairs;
 }
 
 -- a value, unless there is a fault
@@ -98,4 +98,4 @@ unless (Some fault) value = Err fault
 
 -- what a query wishes, unless one of its pairs is refused: the first such one decides
 abbrev pub query_of : Option (List ℕ) → Result AMQPQuery UriFault
-query_of query = unless (first_of refusal_of (pairs_of query)) (wishes_of (pairs_of query))
+query_of query = unless (first_of refusal_of (query_pairs query)) (wishes_of (query_pairs query))

@@ -1,7 +1,7 @@
 //! What a client says to log in.
 
 ghost use Rattle.std.specs.Prelude.{◌≡◌, ◌<◌, ◌+◌, ◌^◌, ◌++◌, ◌∷◌, length, codes, IfOk, OnOk};
-ghost use Rattle.amqp_uri.specs.Login.{sasl_text, challenge_text, answer_text, plain_text, amqplain_text};
+ghost use Rattle.amqp_uri.specs.Login.{sasl_text, challenge_text, login_text, plain_text, amqplain_text};
 ghost use Rattle.amqp_uri.specs.Parts.{spell_field};
 
 use crate::mechanism::SASLMechanism;
@@ -98,7 +98,7 @@ impl Credentials {
 
     /// The answer to the challenge of RABBIT-CR-DEMO.
     pub fn rabbit_cr_demo_answer(&self, alloc: Global) -> Result<LongString, NoMemory>
-        ensures { IfOk result (λ text. text ≡ answer_text self.now) }
+        ensures { IfOk result (λ text. text ≡ login_text self.now) }
     {
         let mut text = Vec::from_slice(alloc, b"My password is ")?;
         text.extend_from_slice(self.password.as_bytes())?;

@@ -47,9 +47,9 @@ impl UriFault {
 
 impl fmt::Display for UriFault {
     ghost use Rattle.std.specs.Prelude.{Some};
-    ghost use Rattle.amqp_uri.specs.Faults.{text_of};
+    ghost use Rattle.amqp_uri.specs.Faults.{uri_fault_text};
 
-    ghost output = { λ e. Some (text_of e) };
+    ghost output = { λ e. Some (uri_fault_text e) };
 
     fn fmt<W: fmt::Write>(&self, f: &mut fmt::Formatter<W>) -> fmt::Result {
         match self {

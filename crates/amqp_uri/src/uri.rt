@@ -1,7 +1,7 @@
 //! AMQP addresses.
 
 ghost use Rattle.std.specs.Prelude.{◌≡◌, ◌<◌, ◌≤◌, ◌⊎◌, length, IfOk, IfErr, OnOk, Ok, Err};
-ghost use Rattle.amqp_uri.specs.Address.{vhost_of, address_of, parsed, local};
+ghost use Rattle.amqp_uri.specs.Address.{vhost_of, address_of, address_of_text, local};
 ghost use Rattle.amqp_uri.specs.declared.fault.UriFault.TheVariants as fault;
 
 use crate::authority::AMQPAuthority;
@@ -31,8 +31,8 @@ impl AMQPUri {
     /// leaves out is as in [`AMQPUri::local`]. Of several faults the answer is the first in the
     /// order of [`UriFault`].
     pub fn parse(alloc: Global, text: &str) -> Result<AMQPUri, UriFault>
-        ensures ok { IfOk result (λ uri. parsed text.now ≡ Ok uri) }
-        ensures fault { IfErr result (λ e. (e ≡ fault.NoMemory) ⊎ (parsed text.now ≡ Err e)) }
+        ensures ok { IfOk result (λ uri. address_of_text text.now ≡ Ok uri) }
+        ensures fault { IfErr result (λ e. (e ≡ fault.NoMemory) ⊎ (address_of_text text.now ≡ Err e)) }
     {
         if text.len() > MOST_OCTETS {
             return Err(UriFault::NotAmqp);

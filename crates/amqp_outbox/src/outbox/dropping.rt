@@ -4,7 +4,7 @@ ghost use Rattle.std.specs.Prelude.{◌≡◌, ◌≢◌, ℕ, Option, OnOk, OnE
 ghost use Rattle.amqp_outbox.specs.declared.scope.Scope.TheVariants.{All};
 ghost use Rattle.amqp_outbox.specs.declared.reply.Reply.{Reply};
 ghost use Rattle.amqp_outbox.specs.Listed.{Ascends};
-ghost use Rattle.amqp_outbox.specs.Queued.{nothing, only, unbegun_promise, without_unbegun, dropped, without_channel, group_promise, without_group, frame_promise, without_frame, reply_promise, without_reply, without_any};
+ghost use Rattle.amqp_outbox.specs.Queued.{nothing_queued, only, unbegun_promise, without_unbegun, dropped_promise, without_channel, group_promise, without_group, frame_promise, without_frame, reply_promise, without_reply, without_any};
 ghost use Rattle.amqp_outbox.specs.Parts.{queued, HasControlPlaces, HasReplyPlace};
 
 use super::Outbox;
@@ -18,7 +18,7 @@ impl Outbox {
     /// not begun, then of frames in the control lane, then of awaited replies. `None` where none is
     /// left.
     pub fn drop_channel(&mut self, channel: ChannelId, scope: Scope) -> Option<Option<u64>>
-        ensures promise { result ≡ dropped channel scope (queued self.old) }
+        ensures promise { result ≡ dropped_promise channel scope (queued self.old) }
         ensures rest { queued self.new ≡ without_channel channel scope (queued self.old) }
         ensures control { (k : Option ℕ) (n octets : ℕ) → HasControlPlaces k n octets self.old
             → HasControlPlaces k n octets self.new }
@@ -92,7 +92,7 @@ impl Outbox {
     }
 
     fn drop_any(&mut self, channel: ChannelId) -> Option<Option<u64>>
-        ensures promise { result ≡ dropped channel All (queued self.old) }
+        ensures promise { result ≡ dropped_promise channel All (queued self.old) }
         ensures rest { queued self.new ≡ without_any channel (queued self.old) }
         ensures ordered { Ascends (queued self.old).awaited }
         ensures control { (k : Option ℕ) (n octets : ℕ) → HasControlPlaces k n octets self.old
@@ -111,7 +111,7 @@ impl Outbox {
 
     /// Nothing waits any more, and nothing is awaited.
     pub fn drop_all(&mut self)
-        ensures { queued self.new ≡ nothing }
+        ensures { queued self.new ≡ nothing_queued }
     {
         self.control.clear();
         self.publish.clear();

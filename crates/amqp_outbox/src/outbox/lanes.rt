@@ -4,7 +4,7 @@ ghost use Rattle.std.specs.Prelude.{◌≡◌, ◌+◌, ◌<◌, ℕ, suc, List,
 ghost use Rattle.amqp_outbox.specs.declared.item.Item.{Item};
 ghost use Rattle.amqp_outbox.specs.declared.reply.Reply.{Reply};
 ghost use Rattle.amqp_outbox.specs.Items.{size_of, dropped_with, group_of};
-ghost use Rattle.amqp_outbox.specs.Queued.{nothing, next_item, after_next, waiting_items, unsent_octets, pushed_control, pushed_group};
+ghost use Rattle.amqp_outbox.specs.Queued.{nothing_queued, next_item, after_next, waiting_items, unsent_octets, pushed_control, pushed_group};
 ghost use Rattle.amqp_outbox.specs.Parts.{queued, HasControlPlaces, HasGroupPlace, HasReplyPlace};
 
 use super::Outbox;
@@ -21,7 +21,7 @@ use std::collections::VecDeque;
 impl Outbox {
     /// Nothing waits, and nothing is awaited.
     pub fn new(alloc: Global) -> Outbox
-        ensures { queued result ≡ nothing }
+        ensures { queued result ≡ nothing_queued }
     {
         Outbox {
             alloc,

@@ -3,7 +3,7 @@
 ghost use Rattle.std.specs.Prelude.{◌≡◌, ◌≢◌, ℕ, List, Option, IfNone, OnOk, OnErr, is_some};
 ghost use Rattle.amqp_outbox.specs.declared.item.Item.{Item};
 ghost use Rattle.amqp_outbox.specs.declared.reply.Reply.{Reply};
-ghost use Rattle.amqp_outbox.specs.Queued.{expected, awaited_promise, answered};
+ghost use Rattle.amqp_outbox.specs.Queued.{with_awaited, awaited_promise, without_awaited};
 ghost use Rattle.amqp_outbox.specs.Parts.{queued, HasControlPlaces, HasGroupPlace, HasReplyPlace};
 
 use super::Outbox;
@@ -19,7 +19,7 @@ impl Outbox {
         promise: Option<u64>,
     ) -> Result<(), NoMemory>
         ensures ok { OnOk result (queued self.new
-            ≡ expected channel (record { reply = reply; promise = promise }) (queued self.old)) }
+            ≡ with_awaited channel (record { reply = reply; promise = promise }) (queued self.old)) }
         ensures err { OnErr result (queued self.new ≡ queued self.old) }
     {
         self.reserve_reply(channel, reply)?;
@@ -42,7 +42,7 @@ impl Outbox {
     /// A reply is awaited on a channel, after the others, where it has its place.
     pub fn expect_reserved(&mut self, channel: ChannelId, awaited: Awaited)
         requires { HasReplyPlace channel awaited.reply self.old }
-        ensures queued { queued self.new ≡ expected channel awaited (queued self.old) }
+        ensures queued { queued self.new ≡ with_awaited channel awaited (queued self.old) }
         ensures control { (k : Option ℕ) (n octets : ℕ) → HasControlPlaces k n octets self.old
             → HasControlPlaces k n octets self.new }
         ensures reply { (c : ℕ) (r : Reply) → c ≢ channel → HasReplyPlace c r self.old → HasReplyPlace c r self.new }
@@ -54,7 +54,7 @@ impl Outbox {
     /// where none does.
     pub fn answer(&mut self, channel: ChannelId, reply: Reply) -> Option<Option<u64>>
         ensures promise { result ≡ awaited_promise channel reply (queued self.old) }
-        ensures rest { queued self.new ≡ answered channel reply (queued self.old) }
+        ensures rest { queued self.new ≡ without_awaited channel reply (queued self.old) }
         ensures none { IfNone result (queued self.new ≡ queued self.old) }
     {
         let awaited = self.awaiting.answered(channel, reply)?;

@@ -5,7 +5,7 @@ ghost use Rattle.std.specs.VecDeque.{deque_capacity};
 ghost use Rattle.amqp_outbox.specs.declared.reply.Reply.{Reply};
 ghost use Rattle.amqp_outbox.specs.Items.{dropped_with, size_of};
 ghost use Rattle.amqp_outbox.specs.Parts.{queued, HasControlPlaces, HasGroupPlace, HasReplyPlace};
-ghost use Rattle.amqp_outbox.specs.Queued.{waiting_items, pushed_control, expected};
+ghost use Rattle.amqp_outbox.specs.Queued.{waiting_items, pushed_control, with_awaited};
 ghost use Rattle.amqp_session.specs.Events.{owe_event};
 ghost use Rattle.amqp_session.specs.Parts.{promised, noted_in, HasPlace};
 
@@ -151,7 +151,7 @@ pub fn ask(
     awaited: Awaited,
 ) -> Result<(), NoMemory>
     ensures said { OnOk result (queued outbox.new
-        ≡ expected item.channel awaited (pushed_control item (queued outbox.old))) }
+        ≡ with_awaited item.channel awaited (pushed_control item (queued outbox.old))) }
     ensures same { OnErr result (queued outbox.new ≡ queued outbox.old) }
     ensures marks { committed.new.marks.items ≡ committed.old.marks.items }
     ensures kept { deque_capacity committed.old.marks ≤ deque_capacity committed.new.marks }
@@ -179,7 +179,7 @@ pub fn ask_after(
 ) -> Result<(), NoMemory>
     requires { dropped_with first ≡ dropped_with item }
     ensures said { OnOk result (queued outbox.new
-        ≡ expected item.channel awaited (pushed_control item (pushed_control first (queued outbox.old)))) }
+        ≡ with_awaited item.channel awaited (pushed_control item (pushed_control first (queued outbox.old)))) }
     ensures same { OnErr result (queued outbox.new ≡ queued outbox.old) }
     ensures marks { committed.new.marks.items ≡ committed.old.marks.items }
     ensures kept { deque_capacity committed.old.marks ≤ deque_capacity committed.new.marks }

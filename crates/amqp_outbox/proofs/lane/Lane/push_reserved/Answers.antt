@@ -2,7 +2,7 @@ use Rattle.std.proofs.Common.{◌≡◌, ◌∙◌, ap, sym, subst, ℕ, suc, co
 use Rattle.std.specs.Ordering.{nat_cmp}
 use Rattle.std.specs.Map.{set_value}
 use Rattle.std.specs.BTreeMap.{is_at}
-use Rattle.amqp_outbox.specs.Lists.{is_number}
+use Rattle.amqp_outbox.specs.Lists.{is_the_number}
 use Rattle.amqp_outbox.specs.Listed.{at}
 use Rattle.amqp_outbox.specs.Order.{listed, HasRoom}
 use Rattle.amqp_outbox.proofs.Sound.{waits-pushed, sound-pushed}
@@ -13,7 +13,7 @@ pub invariant_of-self : goal.invariant_of-self
 invariant_of-self g c =
     let self = c.args.self.now in
     let es = self.slots.entries in
-    let list : ℕ → Option ℕ → List ℕ = λ k o. if is_number k o then listed k self.numbers.lists.entries ++ self.made ∷ [] else listed k self.numbers.lists.entries in
+    let list : ℕ → Option ℕ → List ℕ = λ k o. if is_the_number k o then listed k self.numbers.lists.entries ++ self.made ∷ [] else listed k self.numbers.lists.entries in
     record {
       sound =
           sound-pushed g.T.Keyed.key_of self.made es self.numbers.lists.entries self.sound c.args.thing c.in-Some.place.now _ c.get_mut.ensures.ordered (sym c.in-Some.ensures.value)

@@ -1,5 +1,5 @@
 use Rattle.std.proofs.Common.{rules, ◌≡◌, ◌+◌, ◌∙◌, ap, sym, subst, ℕ, length, Option, Some, arith}
-use Rattle.amqp_outbox.specs.Items.{plain, size_of, dropped_with}
+use Rattle.amqp_outbox.specs.Items.{plain_item, size_of, dropped_with}
 use Rattle.amqp_outbox.specs.Parts.{queued, HasControlPlaces}
 use Rattle.amqp_outbox.specs.Queued.{Queued, waiting_items}
 use Rattle.amqp_outbox.proofs.Waiting.{control-more}
@@ -18,8 +18,8 @@ pub push_control_reserved-requires-2 : goal.push_control_reserved-requires-2
 push_control_reserved-requires-2 c =
     let first = c.plain-tune_ok.result in
     let second = c.plain-open.result in
-    let key : dropped_with first ≡ Some 0 = ap dropped_with (c.plain-tune_ok.ensures ∙ ap (plain 0) c.tune_ok.ensures) in
-    let key-2 : dropped_with second ≡ Some 0 = ap dropped_with (c.plain-open.ensures ∙ ap (plain 0) c.in_ok-open_vhost.ensures) in
+    let key : dropped_with first ≡ Some 0 = ap dropped_with (c.plain-tune_ok.ensures ∙ ap (plain_item 0) c.tune_ok.ensures) in
+    let key-2 : dropped_with second ≡ Some 0 = ap dropped_with (c.plain-open.ensures ∙ ap (plain_item 0) c.in_ok-open_vhost.ensures) in
     subst (λ (k : Option ℕ). HasControlPlaces k 1 (size_of second) c.push_control_reserved.new.self) (key ∙ sym key-2)
     (c.push_control_reserved.ensures.control 1 (size_of second) c.in_default.ensures.lane)
 

@@ -1,7 +1,7 @@
 use Rattle.std.proofs.Common.{◌≡◌, ◌∙◌, ap, sym, refl, ℕ, List, Option, Some, length, arith}
 use Rattle.amqp_outbox.specs.declared.scope.Scope.TheVariants.{All}
 use Rattle.amqp_outbox.specs.Parts.{queued}
-use Rattle.amqp_outbox.specs.Queued.{Queued, waiting_items, dropped, without_any}
+use Rattle.amqp_outbox.specs.Queued.{Queued, waiting_items, dropped_promise, without_any}
 use Rattle.amqp_outbox.proofs.Waiting.{any-no-more}
 use Rattle.amqp_session.specs.Changes.{Promises, rejected_each, promises_on, without_all_on}
 use Rattle.amqp_session.specs.Parts.{promised}
@@ -12,7 +12,7 @@ pub things-smaller : goal.things-smaller
 things-smaller c =
     let n = c.args.id in
     let q : Queued = queued c.things.outbox in
-    let there : dropped n All q ≡ Some c.in-Some.promise = sym c.drop_channel.ensures.promise ∙ c.in-Some.is in
+    let there : dropped_promise n All q ≡ Some c.in-Some.promise = sym c.drop_channel.ensures.promise ∙ c.in-Some.is in
     let one : Goes n q c.in-Some.promise = goes n q (c.drop_channel.ensures.ordered refl) c.in-Some.promise there in
     omega (
       arith,
@@ -24,7 +24,7 @@ pub things-preserved : goal.things-preserved
 things-preserved c =
     let n = c.args.id in
     let q : Queued = queued c.things.outbox in
-    let there : dropped n All q ≡ Some c.in-Some.promise = sym c.drop_channel.ensures.promise ∙ c.in-Some.is in
+    let there : dropped_promise n All q ≡ Some c.in-Some.promise = sym c.drop_channel.ensures.promise ∙ c.in-Some.is in
     let one : Goes n q c.in-Some.promise = goes n q (c.drop_channel.ensures.ordered refl) c.in-Some.promise there in
     record {
       left = ap (without_all_on n) c.drop_channel.ensures.rest ∙ one.left ∙ c.things.invariant.left;

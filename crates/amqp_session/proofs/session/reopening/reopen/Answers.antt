@@ -1,8 +1,8 @@
 use Rattle.std.proofs.Common.{◌≡◌, ◌∙◌, ◌+◌, ◌*◌, ap, sym, subst, ℕ, suc, List, ◌∷◌, length, None, Some, arith}
 use Rattle.amqp_outbox.specs.declared.item.Item.{Item}
 use Rattle.amqp_outbox.specs.declared.reply.Reply.TheVariants.{ChannelOpened}
-use Rattle.amqp_outbox.specs.Items.{plain, size_of, dropped_with}
-use Rattle.amqp_outbox.specs.Queued.{Queued, pushed_control, expected}
+use Rattle.amqp_outbox.specs.Items.{plain_item, size_of, dropped_with}
+use Rattle.amqp_outbox.specs.Queued.{Queued, pushed_control, with_awaited}
 use Rattle.amqp_outbox.specs.Parts.{queued, HasControlPlaces}
 use Rattle.amqp_session.specs.Reopening.{numbers_after, open_item, reopened, reopened_each, HasOpenPlaces}
 use Rattle.amqp_session.proofs.Room.{fewer-places}
@@ -26,10 +26,10 @@ channels-preserved c =
     let rest = numbers_after (Some id) top listed in
     let left = numbers_after c.channels.last top listed in
     let q : Queued = queued c.channels.outbox in
-    let item : c.plain.result ≡ open_item id = c.plain.ensures ∙ ap (plain id) c.channel_open.ensures in
+    let item : c.plain.result ≡ open_item id = c.plain.ensures ∙ ap (plain_item id) c.channel_open.ensures in
     let said : queued c.expect_reserved.new.self ≡ reopened id q =
     c.expect_reserved.ensures.queued
-    ∙ ap (expected id (record { reply = ChannelOpened; promise = None })) (c.push_control_reserved.ensures.queued ∙ ap (λ (i : Item). pushed_control i q) item) in
+    ∙ ap (with_awaited id (record { reply = ChannelOpened; promise = None })) (c.push_control_reserved.ensures.queued ∙ ap (λ (i : Item). pushed_control i q) item) in
     let Lane : Item → Type 0 = λ i. (n octets : ℕ) → HasControlPlaces (dropped_with i) (suc n) (size_of i + octets) c.channels.outbox
     → HasControlPlaces (dropped_with i) n octets c.push_control_reserved.new.self in
     let lane : Lane (open_item id) = subst Lane item c.push_control_reserved.ensures.control in
