@@ -11,7 +11,13 @@ use Rattle.amqp_frame.specs.declared.method.Method.{Method as AnyMethod}
 use Rattle.amqp_frame.specs.declared.method.Method.TheVariants as m
 use Rattle.amqp_types.proofs.Small.{other-number}
 use Rattle.amqp_legal.specs.Octets.{class_in, weight_in, body_size_in}
-use Rattle.amqp_legal.specs.Decider.{Speech, Stage, HeaderSaid, StartOkSaid, TuneOkSaid, OpenSaid, CloseSaid, CloseOkSaid, Usage, Shut, Content, NoContent, MethodSaid, BodyMissing, say, say_block, in_stage, in_content, is_passed_through, say_use}
+use Rattle.amqp_legal.specs.Decider.{Speech, say, say_block, in_stage, in_content, is_passed_through, say_use}
+use Rattle.amqp_legal.specs.declared.progress.Stage.{Stage}
+use Rattle.amqp_legal.specs.declared.progress.Stage.TheVariants.{HeaderSaid, StartOkSaid, TuneOkSaid, OpenSaid, CloseSaid, CloseOkSaid}
+use Rattle.amqp_legal.specs.declared.progress.Usage.{Usage}
+use Rattle.amqp_legal.specs.declared.progress.Usage.TheVariants.{Shut}
+use Rattle.amqp_legal.specs.declared.progress.Content.{Content}
+use Rattle.amqp_legal.specs.declared.progress.Content.TheVariants.{NoContent, MethodSaid, BodyMissing}
 use Rattle.amqp_legal.specs.declared.kind.Kind.{Kind}
 use Rattle.amqp_legal.specs.declared.kind.Kind.TheVariants as k
 use Rattle.amqp_legal.specs.Kinds.{connection_kind, channel_kind, raw_kind, header_kind, frame_kind, introduced, is_close_ok}

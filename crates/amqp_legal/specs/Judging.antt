@@ -1,8 +1,11 @@
 -- What may be said next, by what a frame is.
 use Rattle.std.specs.Prelude.{◌≡◌, ℕ, ◌-◌, ◌==◌, ◌&&◌, nat_le, if◌then◌else◌}
 use Rattle.std.specs.Prelude.{Bool, true, false, Option, Some, None}
-use Rattle.amqp_legal.specs.Decider.{Speech, Stage, OpenSaid, CloseSaid, CloseOkSaid}
-use Rattle.amqp_legal.specs.Decider.{Content, NoContent, MethodSaid, BodyMissing}
+use Rattle.amqp_legal.specs.Decider.{Speech}
+use Rattle.amqp_legal.specs.declared.progress.Stage.{Stage}
+use Rattle.amqp_legal.specs.declared.progress.Stage.TheVariants.{OpenSaid, CloseSaid, CloseOkSaid}
+use Rattle.amqp_legal.specs.declared.progress.Content.{Content}
+use Rattle.amqp_legal.specs.declared.progress.Content.TheVariants.{NoContent, MethodSaid, BodyMissing}
 use Rattle.amqp_legal.specs.Decider.{say_open, say_use, say_close, say_close_ok}
 use Rattle.amqp_legal.specs.declared.speech.Speech.{Speech as Spoken}
 use Rattle.amqp_legal.specs.declared.kind.Kind.{Kind}

@@ -7,7 +7,9 @@ use Rattle.amqp_frame.specs.declared.frame.RawKind.TheVariants.{RawMethod, Heade
 use Rattle.amqp_frame.specs.declared.method.Method.{Method as AnyMethod}
 use Rattle.amqp_frame.specs.declared.method.Method.TheVariants as m
 use Rattle.amqp_legal.specs.Octets.{class_in, weight_in, body_size_in}
-use Rattle.amqp_legal.specs.Decider.{Stage, HeaderSaid, StartOkSaid, TuneOkSaid, OpenSaid, is_passed_through}
+use Rattle.amqp_legal.specs.Decider.{is_passed_through}
+use Rattle.amqp_legal.specs.declared.progress.Stage.{Stage}
+use Rattle.amqp_legal.specs.declared.progress.Stage.TheVariants.{HeaderSaid, StartOkSaid, TuneOkSaid, OpenSaid}
 use Rattle.amqp_legal.specs.declared.kind.Kind.{Kind}
 use Rattle.amqp_legal.specs.declared.kind.Kind.TheVariants as k
 

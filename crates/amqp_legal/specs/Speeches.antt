@@ -2,7 +2,9 @@
 use Rattle.std.specs.Prelude.{◌≡◌, ℕ, List, Option, Some, slice_index_or}
 use Rattle.amqp_frame.specs.declared.frame.Frame.{Frame}
 use Rattle.amqp_legal.specs.declared.speech.Speech.{Speech as Spoken}
-use Rattle.amqp_legal.specs.Decider.{Speech, Usage, Shut, greeted, say_all}
+use Rattle.amqp_legal.specs.Decider.{Speech, greeted, say_all}
+use Rattle.amqp_legal.specs.declared.progress.Usage.{Usage}
+use Rattle.amqp_legal.specs.declared.progress.Usage.TheVariants.{Shut}
 
 -- the usage of each channel, of a list by number; a channel that is not listed is not open
 abbrev pub usage_in : List Usage → ℕ → Usage

@@ -72,7 +72,11 @@ use Rattle.amqp_session.specs.Numbering.{first_number, drawn}
 use Rattle.amqp_legal.specs.Octets.{class_in}
 use Rattle.amqp_session.specs.Sound.{AscendFrom}
 use Rattle.amqp_legal.specs.Legal.{amqp_header, IsPassedThrough}
-use Rattle.amqp_legal.specs.Decider.{Speech, Stage, MethodSaid, HeaderSaid, StartOkSaid, TuneOkSaid, OpenSaid, CloseSaid, CloseOkSaid, Shut, InUse, Left, NoContent, BodyMissing, now_on, greeted, say, say_all, is_amqp_header, is_legal}
+use Rattle.amqp_legal.specs.Decider.{Speech, now_on, greeted, say, say_all, is_amqp_header, is_legal}
+use Rattle.amqp_legal.specs.declared.progress.Stage.{Stage}
+use Rattle.amqp_legal.specs.declared.progress.Stage.TheVariants.{HeaderSaid, StartOkSaid, TuneOkSaid, OpenSaid, CloseSaid, CloseOkSaid}
+use Rattle.amqp_legal.specs.declared.progress.Usage.TheVariants.{Shut, InUse, Left}
+use Rattle.amqp_legal.specs.declared.progress.Content.TheVariants.{NoContent, MethodSaid, BodyMissing}
 use Rattle.amqp_session.proofs.Heard.{start-case, secure-case, secret-case}
 use Rattle.amqp_types.proofs.Small.{if_case, if_by, if-true, and-true, same-number, other-number, and-other}
 use Rattle.amqp_session.proofs.Recovering.{lose-by, recovers-open}

@@ -11,7 +11,13 @@ use Rattle.amqp_outbox.specs.Items.{outlives}
 use Rattle.amqp_outbox.specs.Queued.{goes_with}
 use Rattle.amqp_legal.specs.Octets.{class_in}
 use Rattle.amqp_session.specs.Writing.{then_of}
-use Rattle.amqp_legal.specs.Decider.{Speech, Stage, HeaderSaid, StartOkSaid, TuneOkSaid, OpenSaid, CloseSaid, CloseOkSaid, Usage, Shut, InUse, Left, Content, NoContent, MethodSaid, BodyMissing, say, say_all, in_stage, in_content, say_block, say_open, say_use, say_close, say_close_ok, is_passed_through, now_on}
+use Rattle.amqp_legal.specs.Decider.{Speech, say, say_all, in_stage, in_content, say_block, say_open, say_use, say_close, say_close_ok, is_passed_through, now_on}
+use Rattle.amqp_legal.specs.declared.progress.Stage.{Stage}
+use Rattle.amqp_legal.specs.declared.progress.Stage.TheVariants.{HeaderSaid, StartOkSaid, TuneOkSaid, OpenSaid, CloseSaid, CloseOkSaid}
+use Rattle.amqp_legal.specs.declared.progress.Usage.{Usage}
+use Rattle.amqp_legal.specs.declared.progress.Usage.TheVariants.{Shut, InUse, Left}
+use Rattle.amqp_legal.specs.declared.progress.Content.{Content}
+use Rattle.amqp_legal.specs.declared.progress.Content.TheVariants.{NoContent, MethodSaid, BodyMissing}
 use Rattle.amqp_legal.proofs.Sayable.{IsComplete, IsControl, complete-block, none-said, no-some}
 use Rattle.amqp_legal_rules.proofs.Ties.{frames_in, channel_in, IsOfControl, pays, to_pay}
 use Rattle.amqp_legal_rules.proofs.Paying.{IsNoPayment, no-payment, left_in_lane, goes-on}

@@ -27,7 +27,12 @@ use Rattle.amqp_session.specs.Numbering.{first_number, cycle, drawn}
 use Rattle.amqp_session.specs.Channels.{new_channel, made_closing}
 use Rattle.amqp_session.specs.Recovery.{is_kept_in, reconnecting, kept}
 use Rattle.amqp_legal.specs.Octets.{class_in}
-use Rattle.amqp_legal.specs.Decider.{Speech, Usage, Shut, InUse, Left, OpenSaid, Content, MethodSaid, say, say_open, say_use, say_close, now_on}
+use Rattle.amqp_legal.specs.Decider.{Speech, say, say_open, say_use, say_close, now_on}
+use Rattle.amqp_legal.specs.declared.progress.Stage.TheVariants.{OpenSaid}
+use Rattle.amqp_legal.specs.declared.progress.Usage.{Usage}
+use Rattle.amqp_legal.specs.declared.progress.Usage.TheVariants.{Shut, InUse, Left}
+use Rattle.amqp_legal.specs.declared.progress.Content.{Content}
+use Rattle.amqp_legal.specs.declared.progress.Content.TheVariants.{MethodSaid}
 use Rattle.amqp_legal.specs.Legal.{IsPassedThrough}
 use Rattle.amqp_types.proofs.Small.{same-number, other-number}
 use Rattle.amqp_legal.proofs.Sayable.{IsComplete, say-on, say-raw}

@@ -18,7 +18,10 @@ use Rattle.amqp_session.specs.Negotiation.{wish_or}
 use Rattle.amqp_session.specs.Publishing.{method_frame, content_header, cut, body_pieces, publish_frames}
 use Rattle.amqp_session.specs.Commands.{too_long, body_limit}
 use Rattle.amqp_legal.specs.Legal.{IsPassedThrough, IsContent}
-use Rattle.amqp_legal.specs.Decider.{Speech, Usage, InUse, OpenSaid, now_on}
+use Rattle.amqp_legal.specs.Decider.{Speech, now_on}
+use Rattle.amqp_legal.specs.declared.progress.Stage.TheVariants.{OpenSaid}
+use Rattle.amqp_legal.specs.declared.progress.Usage.{Usage}
+use Rattle.amqp_legal.specs.declared.progress.Usage.TheVariants.{InUse}
 use Rattle.amqp_types.proofs.Small.{if_case, the-number}
 use Rattle.amqp_legal.proofs.Sayable.{IsComplete}
 use Rattle.amqp_legal_rules.proofs.Ties.{frames_in, IsReady}

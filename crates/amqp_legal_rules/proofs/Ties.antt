@@ -35,7 +35,10 @@ use Rattle.amqp_session.specs.Writing.{then_of}
 use Rattle.amqp_session.specs.Capacities.{frame_min_size}
 use Rattle.amqp_session.specs.Sound.{AscendFrom, Ascend, is_agreed}
 use Rattle.amqp_legal.specs.Legal.{amqp_header, body_frames, IsPassedThrough, IsContent}
-use Rattle.amqp_legal.specs.Decider.{Speech, Usage, Shut, InUse, Left, StartOkSaid, OpenSaid, CloseSaid, greeted, say_all}
+use Rattle.amqp_legal.specs.Decider.{Speech, greeted, say_all}
+use Rattle.amqp_legal.specs.declared.progress.Stage.TheVariants.{StartOkSaid, OpenSaid, CloseSaid}
+use Rattle.amqp_legal.specs.declared.progress.Usage.{Usage}
+use Rattle.amqp_legal.specs.declared.progress.Usage.TheVariants.{Shut, InUse, Left}
 use Rattle.amqp_legal.proofs.Sayable.{IsComplete, IsControl}
 
 -- the frames that wait

@@ -1,5 +1,8 @@
 use Rattle.std.proofs.Common.{ap, ℕ}
-use Rattle.amqp_legal.specs.Decider.{Speech, HeaderSaid, NoContent, Usage}
+use Rattle.amqp_legal.specs.Decider.{Speech}
+use Rattle.amqp_legal.specs.declared.progress.Stage.TheVariants.{HeaderSaid}
+use Rattle.amqp_legal.specs.declared.progress.Usage.{Usage}
+use Rattle.amqp_legal.specs.declared.progress.Content.TheVariants.{NoContent}
 use Rattle.amqp_legal.proofs.Judging.{all-shut}
 use Rattle.amqp_legal.proofs.speech.Speech.new.Goals as goal
 
