@@ -27,9 +27,8 @@ pub enum UriFault {
 }
 
 impl UriFault {
-    /// The word that an error of a connection holds which such a text was given to: it says which fault
-    /// it is, and does not name the key of a bad number. None for want of memory, which is an error of
-    /// its own.
+    /// The word by which a connection that was given such a text says so in its error; it leaves out the
+    /// key of a bad number. None for want of memory, which is an error of its own.
     pub fn word(self) -> Option<Word>
         ensures word { result ≡ word_of self }
         ensures none { (result ≡ None) ↔ (self ≡ fault.NoMemory) }
