@@ -163,9 +163,9 @@ pub fn ask(
         drop(item);
         return Err(refused);
     }
-    let channel = item.channel();
+    let id = item.channel();
     outbox.push_control_reserved(item);
-    outbox.expect_reserved(channel, awaited);
+    outbox.expect_reserved(id, awaited);
     Ok(())
 }
 
@@ -192,10 +192,10 @@ pub fn ask_after(
         drop(item);
         return Err(refused);
     }
-    let channel = item.channel();
+    let id = item.channel();
     outbox.push_control_reserved(first);
     outbox.push_control_reserved(item);
-    outbox.expect_reserved(channel, awaited);
+    outbox.expect_reserved(id, awaited);
     Ok(())
 }
 

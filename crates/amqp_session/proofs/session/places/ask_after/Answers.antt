@@ -1,6 +1,6 @@
-use Rattle.std.proofs.Common.{◌+◌, subst, ℕ, Option, arith}
+use Rattle.std.proofs.Common.{◌+◌, sym, subst, ℕ, Option, arith}
 use Rattle.amqp_outbox.specs.Items.{size_of, dropped_with}
-use Rattle.amqp_outbox.specs.Parts.{HasControlPlaces}
+use Rattle.amqp_outbox.specs.Parts.{HasControlPlaces, HasReplyPlace}
 use Rattle.amqp_session.proofs.Room.{fewer-places}
 use Rattle.amqp_session.proofs.session.places.ask_after.Goals as goal
 
@@ -19,5 +19,6 @@ push_control_reserved-requires-2 c =
 
 pub expect_reserved-requires : goal.expect_reserved-requires
 expect_reserved-requires c =
-    c.push_control_reserved-2.ensures.reply c.args.item.channel c.args.awaited.reply
-    (c.push_control_reserved.ensures.reply c.args.item.channel c.args.awaited.reply c.in_default.ensures.reply)
+    subst (λ (n : ℕ). HasReplyPlace n c.args.awaited.reply c.push_control_reserved-2.new.self) (sym c.channel-id.ensures)
+    (c.push_control_reserved-2.ensures.reply c.args.item.channel c.args.awaited.reply
+    (c.push_control_reserved.ensures.reply c.args.item.channel c.args.awaited.reply c.in_default.ensures.reply))
