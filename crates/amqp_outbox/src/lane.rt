@@ -93,7 +93,7 @@ impl<T: Keyed> Lane<T> {
     /// A thing goes last, where it has its place.
     pub fn push_reserved(&mut self, thing: T)
         requires { HasPlaces (T.key_of thing) 1 self.old.made self.old.slots.entries self.old.numbers.lists.entries }
-        ensures things_waiting { things_waiting self.new.slots.entries ≡ things_waiting self.old.slots.entries ++ thing ∷ [] }
+        ensures waiting { things_waiting self.new.slots.entries ≡ things_waiting self.old.slots.entries ++ thing ∷ [] }
         ensures places { (n : ℕ)
             → HasPlaces (T.key_of thing) (suc n) self.old.made self.old.slots.entries self.old.numbers.lists.entries
             → HasPlaces (T.key_of thing) n self.new.made self.new.slots.entries self.new.numbers.lists.entries }
