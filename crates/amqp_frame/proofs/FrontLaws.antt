@@ -8,7 +8,6 @@ use Rattle.amqp_types.specs.Forms.{Form, ◌▸◌, OctetOf, NumberOf, LongStrin
 use Rattle.amqp_types.specs.Reading.{◌>>=◌, octet_at, octets_at, number_at, ◌⊗◌, read_map}
 use Rattle.amqp_types.proofs.Readers.{octet_reader, octets_reader, number16_reader, number32_reader, both_reader}
 use Rattle.amqp_frame.specs.declared.method.Method.{Method}
-use Rattle.amqp_frame.specs.declared.method.Method.TheVariants as m
 use Rattle.amqp_frame.specs.declared.frame.Frame.{Frame}
 use Rattle.amqp_frame.specs.declared.frame.Frame.TheVariants as f
 use Rattle.amqp_frame.specs.declared.frame.RawKind.{RawKind}

@@ -1,5 +1,5 @@
 -- What stands at the front of octets before anything of it is copied, and what becomes of it.
-use Rattle.std.specs.Prelude.{ℕ, ◌+◌, Bool, true, false, not, length, nat_lt}
+use Rattle.std.specs.Prelude.{◌+◌, Bool, true, false, not, length, nat_lt}
 use Rattle.amqp_frame.specs.declared.frame.Frame.TheVariants as f
 use Rattle.amqp_frame.specs.declared.frame.Read.{Read}
 use Rattle.amqp_frame.specs.declared.frame.Read.TheVariants as r
