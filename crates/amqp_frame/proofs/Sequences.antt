@@ -6,8 +6,8 @@ use Rattle.amqp_frame.specs.declared.frame.Frame.{Frame}
 use Rattle.amqp_frame.specs.declared.frame.Read.{Read}
 use Rattle.amqp_frame.specs.declared.frame.Read.TheVariants.{Whole, More, TooLarge, BadHeartbeat, Bad, NoMemory}
 use Rattle.amqp_frame.specs.FrameReading.{front}
-use Rattle.amqp_frame.specs.Sequences.{is_more, front_at, IsNoFrame, Stand, Ending, EndsAt, IsSequence}
-use Rattle.amqp_frame.specs.Sequences.Ending.{Complete, Cut, Broken}
+use Rattle.amqp_frame.specs.Sequences.{is_more, front_at, IsNoFrame, Stand, SequenceEnd, EndsAt, IsSequence}
+use Rattle.amqp_frame.specs.Sequences.SequenceEnd.{Complete, Cut, Broken}
 use Rattle.amqp_frame.proofs.FrontStays.{says-front, front-none}
 
 -- ---- one frame
@@ -100,12 +100,12 @@ no-frame-more Bad h is = cc
 no-frame-more NoMemory h is = h
 
 -- where the octets end no frame stands
-end-stands : (bytes : List ℕ) (limit place n : ℕ) (ending : Ending) (f : Frame) → EndsAt bytes limit place ending → front_at bytes limit place ≡ Whole f n → ⊥
+end-stands : (bytes : List ℕ) (limit place n : ℕ) (ending : SequenceEnd) (f : Frame) → EndsAt bytes limit place ending → front_at bytes limit place ≡ Whole f n → ⊥
 end-stands bytes limit place n Complete f h is = let none = none-behind bytes limit place (omega (arith, h)) in cc
 end-stands bytes limit place n Cut f h is = let more = h.1 in cc
 end-stands bytes limit place n Broken f h is = no-frame-whole (front_at bytes limit place) f n h is
 
-ending-same : (bytes : List ℕ) (limit place : ℕ) (ending another : Ending) → EndsAt bytes limit place ending → EndsAt bytes limit place another → ending ≡ another
+ending-same : (bytes : List ℕ) (limit place : ℕ) (ending another : SequenceEnd) → EndsAt bytes limit place ending → EndsAt bytes limit place another → ending ≡ another
 ending-same bytes limit place Complete Complete h k = refl
 ending-same bytes limit place Complete Cut h k = absurd (omega (arith, h, k.0))
 ending-same bytes limit place Complete Broken h k = absurd (no-frame-more (front_at bytes limit place) k (none-behind bytes limit place (omega (arith, h))))
@@ -117,12 +117,12 @@ ending-same bytes limit place Broken Cut h k = absurd (no-frame-more (front_at b
 ending-same bytes limit place Broken Broken h k = refl
 
 -- behind an end no frame stands
-no-rest : (bytes : List ℕ) (limit place later : ℕ) (frames others rest : List Frame) (ending : Ending) → EndsAt bytes limit place ending → others ≡ frames ++ rest
+no-rest : (bytes : List ℕ) (limit place later : ℕ) (frames others rest : List Frame) (ending : SequenceEnd) → EndsAt bytes limit place ending → others ≡ frames ++ rest
     → Stand bytes limit place rest later → (frames ≡ others) × (place ≡ later)
 no-rest bytes limit place later frames others [] ending h is s = (sym (is ∙ append-nil frames), s)
 no-rest bytes limit place later frames others (g ∷ rest) ending h is s = absurd (end-stands bytes limit place s.0 ending g h s.1)
 
-stand-same : (bytes : List ℕ) (limit start place other : ℕ) (frames others : List Frame) (ending another : Ending) → Stand bytes limit start frames place
+stand-same : (bytes : List ℕ) (limit start place other : ℕ) (frames others : List Frame) (ending another : SequenceEnd) → Stand bytes limit start frames place
     → EndsAt bytes limit place ending → Stand bytes limit start others other → EndsAt bytes limit other another → (frames ≡ others) × (place ≡ other)
 stand-same bytes limit start place other frames others ending another s h t k = by (cases_lt other place)
   where
@@ -135,7 +135,7 @@ stand-same bytes limit start place other frames others ending another s h t k = 
         let rest = stand-begins bytes limit start place other frames others s t most in
         no-rest bytes limit place other frames others rest.0 ending h rest.1 rest.2
 
-pub sequence-same : (bytes : List ℕ) (limit place other : ℕ) (frames others : List Frame) (ending another : Ending) → IsSequence bytes limit frames place ending
+pub sequence-same : (bytes : List ℕ) (limit place other : ℕ) (frames others : List Frame) (ending another : SequenceEnd) → IsSequence bytes limit frames place ending
     → IsSequence bytes limit others other another → (frames ≡ others) × (place ≡ other) × (ending ≡ another)
 sequence-same bytes limit place other frames others ending another s t =
     let same = stand-same bytes limit 0 place other frames others ending another s.0 s.1 t.0 t.1 in

@@ -29,20 +29,20 @@ Stand bytes limit start (f ∷ frames) end =
     (n : ℕ) × (front_at bytes limit start ≡ Whole f n) × Stand bytes limit (start + n) frames end
 
 -- how octets end behind whole frames
-pub data Ending : Type 0 where
+pub data SequenceEnd : Type 0 where
   -- with the last of them: nothing is left
-  Complete : Ending
+  Complete : SequenceEnd
   -- in the midst of a frame
-  Cut : Ending
+  Cut : SequenceEnd
   -- in what is no frame, whatever follows
-  Broken : Ending
+  Broken : SequenceEnd
 
 -- the octets end so behind the place, where the last whole frame ends
-abbrev pub EndsAt : List ℕ → ℕ → ℕ → Ending → Type 0
+abbrev pub EndsAt : List ℕ → ℕ → ℕ → SequenceEnd → Type 0
 EndsAt bytes limit place Complete = place ≡ length bytes
 EndsAt bytes limit place Cut = (place < length bytes) × (front_at bytes limit place ≡ More)
 EndsAt bytes limit place Broken = IsNoFrame (front_at bytes limit place)
 
 -- the octets are these whole frames, up to the place, and end so behind them
-abbrev pub IsSequence : List ℕ → ℕ → List Frame → ℕ → Ending → Type 0
+abbrev pub IsSequence : List ℕ → ℕ → List Frame → ℕ → SequenceEnd → Type 0
 IsSequence bytes limit frames place ending = Stand bytes limit 0 frames place × EndsAt bytes limit place ending

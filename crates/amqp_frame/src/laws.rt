@@ -9,7 +9,7 @@ ghost use Rattle.amqp_types.specs.Forms.{IsOctets};
 ghost use Rattle.amqp_frame.specs.declared.frame.Read.{Read};
 ghost use Rattle.amqp_frame.specs.Fronts.{IsWithinLimit, IsFront};
 ghost use Rattle.amqp_frame.specs.FrameReading.{front};
-ghost use Rattle.amqp_frame.specs.Sequences.{Stand, Ending, IsSequence};
+ghost use Rattle.amqp_frame.specs.Sequences.{Stand, SequenceEnd, IsSequence};
 
 /// Each spelling of a frame is read as that frame, whatever follows it.
 pub fn spelled_is_read()
@@ -73,7 +73,7 @@ pub fn sequences_agree()
 /// All whole frames that octets are, where the last of them ends, and how the octets end behind it, are
 /// one.
 pub fn one_sequence()
-    ensures { (bytes : List ℕ) (limit place other : ℕ) (frames others : List Frame) (ending another : Ending)
+    ensures { (bytes : List ℕ) (limit place other : ℕ) (frames others : List Frame) (ending another : SequenceEnd)
         → IsSequence bytes limit frames place ending → IsSequence bytes limit others other another
         → (frames ≡ others) × (place ≡ other) × (ending ≡ another) }
 {}

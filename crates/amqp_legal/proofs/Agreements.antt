@@ -4,10 +4,10 @@ use Rattle.amqp_frame.specs.declared.frame.Frame.{Frame}
 use Rattle.amqp_frame.specs.declared.frame.Frame.TheVariants.{Method, Raw, Heartbeat}
 use Rattle.amqp_frame.specs.declared.frame.RawKind.TheVariants.{Body}
 use Rattle.amqp_frame.specs.declared.method.Method.TheVariants.{TuneOk, ChannelOpen}
-use Rattle.amqp_legal.specs.Agreed.{Numbers, KeepsNumbers, KeepsAgreed, agreed_after}
+use Rattle.amqp_legal.specs.Agreed.{AgreedNumbers, KeepsNumbers, KeepsAgreed, agreed_after}
 
 -- what begins a conversation that keeps its numbers keeps them
-pub keeps-front : (agreed : Numbers) (fs gs : List Frame) → KeepsNumbers agreed (fs ++ gs) → KeepsNumbers agreed fs
+pub keeps-front : (agreed : AgreedNumbers) (fs gs : List Frame) → KeepsNumbers agreed (fs ++ gs) → KeepsNumbers agreed fs
 keeps-front agreed [] gs h = tt
 keeps-front agreed (f ∷ fs) gs h = (h.0, keeps-front (agreed_after f agreed) fs gs h.1)
 

@@ -20,7 +20,7 @@ use Rattle.amqp_legal.specs.declared.progress.Content.{Content}
 use Rattle.amqp_legal.specs.declared.progress.Content.TheVariants.{NoContent, MethodSaid, BodyMissing}
 use Rattle.amqp_legal.specs.declared.kind.Kind.{Kind}
 use Rattle.amqp_legal.specs.declared.kind.Kind.TheVariants as k
-use Rattle.amqp_legal.specs.Kinds.{connection_kind, channel_kind, raw_kind, header_kind, frame_kind, introduced, is_close_ok}
+use Rattle.amqp_legal.specs.Kinds.{connection_kind, channel_kind, raw_kind, header_kind, frame_kind, introduced, is_close_ok_kind}
 use Rattle.amqp_legal.specs.Speeches.{usage_in}
 use Rattle.amqp_legal.specs.Judging.{block_by_kind, behind_method, in_body, open_by_kind, to_stage, stage_by_kind, close_ok_at, say_by_kind}
 
@@ -169,7 +169,7 @@ open-same c Heartbeat s = open-plain c k.Quiet Heartbeat s refl refl (λ n class
 
 -- what is not our close-ok
 abbrev by-kind : Stage → Kind → Speech → Option Speech
-by-kind g kind s = if is_close_ok kind then close_ok_at g s else stage_by_kind g kind s
+by-kind g kind s = if is_close_ok_kind kind then close_ok_at g s else stage_by_kind g kind s
 
 -- a kind that leads on in no introduction, and is no close-ok
 abbrev is_late : Kind → Bool
@@ -193,7 +193,7 @@ late-none OpenSaid _ h = refl
 late-none CloseSaid _ h = refl
 late-none CloseOkSaid _ h = refl
 
-late-close_ok : (kind : Kind) → is_late kind ≡ true → is_close_ok kind ≡ false
+late-close_ok : (kind : Kind) → is_late kind ≡ true → is_close_ok_kind kind ≡ false
 late-close_ok k.CloseOk h = cc
 late-close_ok _ h = refl
 

@@ -10,7 +10,7 @@ use Rattle.amqp_legal.specs.Decider.{say_open, say_use, say_close, say_close_ok}
 use Rattle.amqp_legal.specs.declared.speech.Speech.{Speech as Spoken}
 use Rattle.amqp_legal.specs.declared.kind.Kind.{Kind}
 use Rattle.amqp_legal.specs.declared.kind.Kind.TheVariants as k
-use Rattle.amqp_legal.specs.Kinds.{introduced, is_close_ok}
+use Rattle.amqp_legal.specs.Kinds.{introduced, is_close_ok_kind}
 use Rattle.amqp_legal.specs.Speeches.{speech_of}
 
 -- a frame may be said, and this was said then; or it may not, and nothing changes
@@ -99,4 +99,4 @@ our_close_ok s = close_ok_at s.stage s
 
 -- the next frame, by what it is, where it may be said
 abbrev pub say_by_kind : Kind → Speech → Option Speech
-say_by_kind kind s = if is_close_ok kind then our_close_ok s else stage_by_kind s.stage kind s
+say_by_kind kind s = if is_close_ok_kind kind then our_close_ok s else stage_by_kind s.stage kind s

@@ -62,6 +62,6 @@ introduced TuneOkSaid k.Open = Some OpenSaid
 introduced _ _ = None
 
 -- a frame that is our close-ok of the connection
-abbrev pub is_close_ok : Kind → Bool
-is_close_ok k.CloseOk = true
-is_close_ok _ = false
+abbrev pub is_close_ok_kind : Kind → Bool
+is_close_ok_kind k.CloseOk = true
+is_close_ok_kind _ = false

@@ -4,7 +4,7 @@ ghost use Rattle.std.specs.Prelude.{◌≡◌, ◌≤◌, length};
 ghost use Rattle.amqp_legal.specs.Octets.{class_in, weight_in, body_size_in};
 ghost use Rattle.amqp_legal.specs.Decider.{is_amqp_header as is_header};
 ghost use Rattle.amqp_legal.specs.Kinds.{connection_kind, channel_kind, raw_kind, header_kind, frame_kind};
-ghost use Rattle.amqp_legal.specs.Kinds.{introduced as introduced_by, is_close_ok as is_our_close_ok};
+ghost use Rattle.amqp_legal.specs.Kinds.{introduced as introduced_by, is_close_ok_kind as is_our_close_ok};
 
 use crate::progress::Stage;
 use amqp_frame::{Frame, Method, RawKind};

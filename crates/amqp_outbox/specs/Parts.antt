@@ -21,12 +21,12 @@ abbrev pub list_seen : Replies → Option (List Awaited)
 list_seen r = some_awaited r.list.items
 
 -- there is a place for one more among those of a channel
-abbrev pub HasPlace : Replies → Type 0
-HasPlace r = length r.list.items < deque_capacity r.list
+abbrev pub HasRoomForReply : Replies → Type 0
+HasRoomForReply r = length r.list.items < deque_capacity r.list
 
 -- a channel has a place for this reply, as it has for any
 abbrev pub HasReplyPlaces : ℕ → Reply → List (ℕ × Replies) → Type 0
-HasReplyPlaces channel reply lists = (r : Replies) × (at channel lists ≡ Some r) × HasPlace r
+HasReplyPlaces channel reply lists = (r : Replies) × (at channel lists ≡ Some r) × HasRoomForReply r
 
 -- ---- the outbox
 

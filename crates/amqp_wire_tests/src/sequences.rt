@@ -4,7 +4,7 @@ ghost use Rattle.std.specs.Prelude.{List, [], ◌∷◌, ◌++◌, take};
 ghost use Rattle.amqp_frame.specs.declared.frame.Frame.TheVariants.{ProtocolHeader, Method, Heartbeat};
 ghost use Rattle.amqp_frame.specs.declared.method.Method.TheVariants.{CloseOk};
 ghost use Rattle.amqp_frame.specs.Sequences.{IsSequence};
-ghost use Rattle.amqp_frame.specs.Sequences.Ending.{Complete, Cut, Broken};
+ghost use Rattle.amqp_frame.specs.Sequences.SequenceEnd.{Complete, Cut, Broken};
 ghost use Rattle.amqp_wire_tests.specs.Octets.{limit, version, header, heartbeat, heartbeat_on_1, close_ok, large};
 
 // Whole frames, and each way in which octets end behind them.

@@ -1,7 +1,7 @@
 use Rattle.std.proofs.Common.{◌≡◌, ◌∙◌, ap, sym, subst, Some, is_some}
 use Rattle.amqp_outbox.specs.Listed.{at}
 use Rattle.amqp_outbox.specs.Order.{entries_seen}
-use Rattle.amqp_outbox.specs.Parts.{list_seen, HasPlace}
+use Rattle.amqp_outbox.specs.Parts.{list_seen, HasRoomForReply}
 use Rattle.amqp_outbox.proofs.Cases.{not-equal}
 use Rattle.amqp_outbox.proofs.ByChannel.{expect-seen, place-stays}
 use Rattle.amqp_outbox.proofs.awaiting.Awaiting.expect_reserved.Goals as goal
@@ -9,7 +9,7 @@ use Rattle.amqp_outbox.proofs.awaiting.Awaiting.expect_reserved.Goals as goal
 pub push_reserved-requires : goal.push_reserved-requires
 push_reserved-requires c =
     let same : c.requires.0 ≡ c.in-Some.list.now = cc (c.requires.1, c.in-Some.ensures.value) in
-    subst (HasPlace) same c.requires.2
+    subst (HasRoomForReply) same c.requires.2
 
 pub returns-in-Some-clause-expected : goal.returns-in-Some-clause-expected
 returns-in-Some-clause-expected c =
