@@ -1,4 +1,4 @@
--- Frames one after another in octets, as a peer sends them (AMQP 0-9-1, 4.2.3): where they stand, and how the octets end
+-- Frames one after another in octets, as a peer sends them (AMQP 0-9-1, 4.2.3): where they stand, and how octets end
 -- behind them. A place is a number of octets from the start.
 use Rattle.std.specs.Prelude.{◌≡◌, ℕ, ◌+◌, ◌<◌, Bool, true, false, List, [], ◌∷◌, length, drop, ⊤}
 use Rattle.amqp_frame.specs.declared.frame.Frame.{Frame}
