@@ -111,17 +111,6 @@ module _ {X : Type 0} (key_of : X → Option ℕ) where
     by true h rest = absurd cc
     by false h rest = rest h
 
-  -- a key has a number where a thing has the key
-  pub has-found : (k : ℕ) (xs : List (ℕ × X))
-      → not (length (numbers_under key_of k xs) == 0) ≡ is_some (find (has_key key_of k) (values_of xs))
-  has-found k [] = refl
-  has-found k (e ∷ es) = by (has_key key_of k e.1) (has-found k es) where
-    by : (b : Bool) → not (length (numbers_under key_of k es) == 0) ≡ is_some (find (has_key key_of k) (values_of es))
-        → not (length (if b then e.0 ∷ numbers_under key_of k es else numbers_under key_of k es) == 0)
-        ≡ is_some (cond b (Some e.1) (find (has_key key_of k) (values_of es)))
-    by true rest = grind (arith, tests)
-    by false rest = rest
-
 -- what passes no test is not taken out
 pub none-left_out : {X : Type 0} (test : X → Bool) (xs : List X) → find test xs ≡ None → without_first test xs ≡ xs
 none-left_out test [] h = refl

@@ -59,7 +59,7 @@ impl Outbox {
                 Some(group.promise())
             }
             None => {
-                // No publish tidies here, as these numbers can lie idle for as long as the link lasts.
+                // What went out would tidy, but perhaps no publish comes on this channel again.
                 self.publish.tidy(channel);
                 None
             }
