@@ -1,0 +1,4 @@
+pub mod Reading
+pub mod Hearing
+pub mod Blame
+pub mod Uniqueness

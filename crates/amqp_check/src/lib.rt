@@ -1,0 +1,19 @@
+//! A checker of captured links: whether both sides of one are frames of AMQP 0-9-1 and nothing else,
+//! and whether what its client said is a legal conversation.
+//!
+//! `check` answers one verdict on the octets of both sides, and `first_illegal` tells of the first
+//! frame that the client might not say: where it stands, and what was said before it. The grammar of
+//! legal conversations is that of `amqp_legal`. Of the server's side it only matters that it is
+//! frames: what the server says makes nothing legal, and nothing illegal.
+#![tactic(auto)]
+
+mod capture;
+mod end;
+mod finding;
+mod frames;
+mod judge;
+mod laws;
+
+pub use capture::{Verdict, check};
+pub use finding::{Finding, first_illegal};
+pub use laws::captures_have_one_verdict;
