@@ -1,21 +1,23 @@
 -- What is found of the first frame that may not be said.
-use Rattle.std.proofs.Common.{subst, ◌≡◌, ◌≤◌, ◌<◌, ◌∙◌, ap, sym, refl, ℕ, suc, ◌+◌, List, [], ◌∷◌, ◌++◌, length, take, drop, Option, Some, None, arith, length-append}
+use Rattle.std.proofs.Common.{subst, ◌≡◌, ◌≤◌, ◌<◌, ◌∙◌, ap, sym, refl, ℕ, suc, ◌+◌, List, [], ◌∷◌, ◌++◌, length, take, drop, Option, Some, None, arith, length-append, length-drop}
 use Rattle.std.proofs.lemmas.List.{take-append-le, take-append-drop}
 use Rattle.amqp_frame.specs.declared.frame.Frame.{Frame}
 use Rattle.amqp_frame.specs.declared.frame.Read.TheVariants.{Whole}
 use Rattle.amqp_frame.specs.Sequences.{front_at, Stand, Ending, IsSequence}
 use Rattle.amqp_frame.specs.Sequences.Ending.{Complete, Cut, Broken}
+use Rattle.amqp_frame.proofs.Sequences.{frame-size, stand-push, stand-begins}
 use Rattle.amqp_legal.specs.Legal.{Legal}
 use Rattle.amqp_legal.specs.declared.speech.Speech.{Speech as Spoken}
 use Rattle.amqp_legal.proofs.Saying.{front-legal}
-use Rattle.amqp_check.specs.Verdicts.{no_limit, IsFirstIllegal}
+use Rattle.amqp_check.specs.Verdicts.{no_limit, AreFrames, IsWhole, IsFirstIllegal, IsVerdict}
 use Rattle.amqp_check.specs.Hearing.{EndsHere, IsHeard, Heard}
 use Rattle.amqp_check.specs.Findings.{IsSaid, IsFinding, IsLegalSide}
 use Rattle.amqp_check.specs.declared.judge.Judge.{Judge}
 use Rattle.amqp_check.specs.declared.end.End.{End}
 use Rattle.amqp_check.specs.declared.end.End.TheVariants as at
 use Rattle.amqp_check.specs.declared.finding.Finding.{Finding}
-use Rattle.amqp_check.proofs.Hearing.{all-heard, all-taken}
+use Rattle.amqp_check.specs.declared.capture.Verdict.TheVariants as verdict
+use Rattle.amqp_check.proofs.Hearing.{all-heard, all-taken, illegal-more, illegal-now}
 
 -- it is none of those that are legal
 pub not-before : (frames : List Frame) (g : Frame) (i : ℕ) → Legal frames → IsFirstIllegal (frames ++ g ∷ []) i → i < length frames → ⊥
@@ -55,3 +57,16 @@ pub legal-side : (client : List ℕ) (frames : List Frame) (place : ℕ) (end : 
 legal-side client frames place end judge stand ends none h =
     let e = ended client frames place end stand ends in
     (frames, place, e.0, e.1, (all-heard frames judge none h).legal)
+
+-- it is the verdict on a capture that is frames and nothing else
+pub finding-is-first : (client : List ℕ) (frames : List Frame) (f : Finding) → IsFinding client f → AreFrames client frames → IsFirstIllegal frames f.number
+finding-is-first client frames f is whole =
+    let size = frame-size (drop f.place client) no_limit is.size f.frame is.here in
+    let within : f.place + is.size ≤ length client = omega (arith, size.0, size.1, length-drop f.place client) in
+    let stand = stand-push client no_limit 0 f.place is.size is.before f.frame is.stand is.here in
+    let rest = stand-begins client no_limit 0 (f.place + is.size) (length client) (is.before ++ f.frame ∷ []) frames stand whole.0 within in
+    let first = illegal-now is.before f.frame f.number is.count is.so_far.legal is.illegal in
+    subst (λ (fs : List Frame). IsFirstIllegal fs f.number) (sym rest.1) (illegal-more (is.before ++ f.frame ∷ []) rest.0 f.number first)
+
+pub found-verdict : (client server : List ℕ) (f : Finding) → IsFinding client f → IsWhole client → IsWhole server → IsVerdict client server (verdict.Illegal f.number)
+found-verdict client server f is whole answered = (whole.0, whole.1, answered, finding-is-first client whole.0 f is whole.1)

@@ -16,11 +16,12 @@ use Rattle.amqp_check.specs.declared.judge.Judge.{Judge}
 
 -- ---- the first that may not be said
 
-pub illegal-more : (fs : List Frame) (g : Frame) (i : ℕ) → IsFirstIllegal fs i → IsFirstIllegal (fs ++ g ∷ []) i
-illegal-more fs g i is = record {
-  within = omega (arith, length-append fs (g ∷ []), is.within);
-  illegal = λ legal. is.illegal (subst Legal (take-append-le (suc i) fs (g ∷ []) (omega (arith, is.within))) legal);
-  least = λ j below. subst Legal (sym (take-append-le (suc j) fs (g ∷ []) (omega (arith, is.within)))) (is.least j below);
+-- it stays the first, whatever is said behind it
+pub illegal-more : (fs more : List Frame) (i : ℕ) → IsFirstIllegal fs i → IsFirstIllegal (fs ++ more) i
+illegal-more fs more i is = record {
+  within = omega (arith, length-append fs more, is.within);
+  illegal = λ legal. is.illegal (subst Legal (take-append-le (suc i) fs more (omega (arith, is.within))) legal);
+  least = λ j below. subst Legal (sym (take-append-le (suc j) fs more (omega (arith, is.within)))) (is.least j below);
 }
 
 pub all-taken : {A : Type 0} (xs : List A) (n : ℕ) → n ≡ length xs → take n xs ≡ xs
@@ -96,7 +97,7 @@ hear-still frames g judge i is h = record {
   count = count-more frames g judge.frames h.count;
   judged =
       subst (λ (o : Option ℕ). IsHeard (frames ++ g ∷ []) o judge.said) (sym is)
-      (illegal-more frames g i (subst (λ (o : Option ℕ). IsHeard frames o judge.said) is h.judged));
+      (illegal-more frames (g ∷ []) i (subst (λ (o : Option ℕ). IsHeard frames o judge.said) is h.judged));
 }
 
 -- a frame that was said

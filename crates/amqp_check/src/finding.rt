@@ -3,6 +3,7 @@
 ghost use Rattle.std.specs.Prelude.{IfOk, IfSome, IfNone};
 ghost use Rattle.amqp_check.specs.Findings.{IsFinding, IsLegalSide};
 
+use crate::expected::{Expected, behind_header};
 use crate::frames::{Next, read_next};
 use crate::judge::Judge;
 use amqp_frame::Frame;
@@ -21,6 +22,22 @@ pub struct Finding {
     pub frame: Frame,
     /// What was said before it; before the first frame, as if the protocol header alone were said.
     pub said: Speech,
+}
+
+impl Finding {
+    ghost use Rattle.std.specs.Prelude.{◌≡◌};
+    ghost use Rattle.amqp_legal.specs.Speeches.{speech_of};
+    ghost use Rattle.amqp_check.specs.Expected.{expected_after};
+
+    /// What the client might have said in its place.
+    pub fn expected(&self) -> Expected
+        ensures { result ≡ expected_after self.now.number (speech_of self.now.said) }
+    {
+        if self.number == 0 {
+            return Expected::Header;
+        }
+        behind_header(self.said.stage(), self.said.content())
+    }
 }
 
 /// The first frame by which what a client said is not legal, with all that decides so; none where its
