@@ -150,7 +150,7 @@ fn the_place_and_what_was_said_before_it_are_told(rt: HostRuntime) -> Result<(),
 fn nothing_is_told_of_what_may_be_said(rt: HostRuntime) -> Result<(), NoMemory> {
     assert!(rt; told_on(rt.alloc(), &[])? == None);
     assert!(rt;
-        told(
+        told_on(
             rt.alloc(),
             &[HEADER, START_OK, TUNE_OK, OPEN, HEARTBEAT, CLOSE]
         )? == None
