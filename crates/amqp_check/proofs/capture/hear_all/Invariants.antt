@@ -1,4 +1,4 @@
-use Rattle.std.proofs.Common.{◌≡◌, ◌≤◌, ◌-◌, List, length}
+use Rattle.std.proofs.Common.{◌≤◌, ◌-◌, List, length}
 use Rattle.amqp_frame.specs.declared.frame.Frame.{Frame}
 use Rattle.amqp_frame.specs.Sequences.{Stand}
 use Rattle.amqp_check.specs.Verdicts.{no_limit}
