@@ -1,0 +1,52 @@
+-- The verdict on a captured link: the octets of its client, and those of its server (AMQP 0-9-1, 4.2.2 and 4.2.3).
+use Rattle.std.specs.Prelude.{◌≡◌, ℕ, suc, ◌<◌, List, length, take}
+use Rattle.amqp_frame.specs.declared.frame.Frame.{Frame}
+use Rattle.amqp_frame.specs.Sequences.{IsSequence}
+use Rattle.amqp_frame.specs.Sequences.Ending.{Complete, Cut, Broken}
+use Rattle.amqp_legal.specs.Legal.{Legal}
+use Rattle.amqp_check.specs.declared.capture.Verdict.{Verdict}
+use Rattle.amqp_check.specs.declared.capture.Verdict.TheVariants as verdict
+
+-- ---- one side
+
+-- no frame is refused for its size: this is the greatest limit
+abbrev pub no_limit : ℕ
+no_limit = 4294967295
+
+-- the octets are these frames, one after another, and nothing else
+abbrev pub AreFrames : List ℕ → List Frame → Type 0
+AreFrames bytes frames = IsSequence bytes no_limit frames (length bytes) Complete
+
+-- the octets are frames and nothing else
+abbrev pub IsWhole : List ℕ → Type 0
+IsWhole bytes = (frames : List Frame) × AreFrames bytes frames
+
+-- at this place, behind whole frames, no frame stands, whatever follows
+abbrev pub IsBadAt : List ℕ → ℕ → Type 0
+IsBadAt bytes place = (frames : List Frame) × IsSequence bytes no_limit frames place Broken
+
+-- at this place, behind whole frames, a frame begins that is not all there
+abbrev pub IsCutAt : List ℕ → ℕ → Type 0
+IsCutAt bytes place = (frames : List Frame) × IsSequence bytes no_limit frames place Cut
+
+-- ---- the conversation
+
+-- the frame of this number, counted from 0, is the first by which a conversation is not legal
+pub record IsFirstIllegal (frames : List Frame) (i : ℕ) : Type 0 where
+  pub within : i < length frames
+  pub illegal : Legal (take (suc i) frames) → ⊥
+  pub least : (j : ℕ) → j < i → Legal (take (suc j) frames)
+
+-- ---- both sides
+
+-- the client's side is looked at first, then the server's, and then what the client said
+abbrev pub IsVerdict : List ℕ → List ℕ → Verdict → Type 0
+IsVerdict client server (verdict.BadClient place) = IsBadAt client place
+IsVerdict client server (verdict.CutClient place) = IsCutAt client place
+IsVerdict client server (verdict.BadServer place) = IsWhole client × IsBadAt server place
+IsVerdict client server (verdict.CutServer place) = IsWhole client × IsCutAt server place
+IsVerdict client server (verdict.Illegal i) =
+    (said : List Frame) × AreFrames client said × IsWhole server × IsFirstIllegal said i
+IsVerdict client server (verdict.Legal frames others) =
+    (said : List Frame) × (answered : List Frame) × AreFrames client said × AreFrames server answered
+    × Legal said × (frames ≡ length said) × (others ≡ length answered)
