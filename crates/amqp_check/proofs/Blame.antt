@@ -3,8 +3,8 @@ use Rattle.std.proofs.Common.{subst, ◌≡◌, ◌≤◌, ◌<◌, sym, ℕ, su
 use Rattle.std.proofs.lemmas.List.{take-append-le, take-append-drop}
 use Rattle.amqp_frame.specs.declared.frame.Frame.{Frame}
 use Rattle.amqp_frame.specs.declared.frame.Read.TheVariants.{Whole}
-use Rattle.amqp_frame.specs.Sequences.{front_at, Stand, Ending, IsSequence}
-use Rattle.amqp_frame.specs.Sequences.Ending.{Complete, Cut, Broken}
+use Rattle.amqp_frame.specs.Sequences.{front_at, Stand, SequenceEnd, IsSequence}
+use Rattle.amqp_frame.specs.Sequences.SequenceEnd.{Complete, Cut, Broken}
 use Rattle.amqp_frame.proofs.Sequences.{frame-size, stand-push, stand-begins}
 use Rattle.amqp_legal.specs.Legal.{Legal}
 use Rattle.amqp_legal.specs.declared.speech.Speech.{Speech as Spoken}
@@ -47,7 +47,7 @@ finding-of client frames place f n old new number stand here none h some same k 
     }
 
 ended : (client : List ℕ) (frames : List Frame) (place : ℕ) (end : End) → Stand client no_limit 0 frames place → EndsHere client place end
-    → (ending : Ending) × IsSequence client no_limit frames place ending
+    → (ending : SequenceEnd) × IsSequence client no_limit frames place ending
 ended client frames place at.Whole s h = (Complete, (s, h))
 ended client frames place (at.Bad p) s h = (Broken, (s, h.1))
 ended client frames place (at.Cut p) s h = (Cut, (s, h.1))

@@ -2,8 +2,8 @@
 use Rattle.std.proofs.Common.{subst, ◌≡◌, ◌<◌, ◌∙◌, ap, sym, refl, ℕ, suc, List, length, take, drop, arith}
 use Rattle.std.proofs.lemmas.List.{take-append-drop}
 use Rattle.amqp_frame.specs.declared.frame.Frame.{Frame}
-use Rattle.amqp_frame.specs.Sequences.{Ending, IsSequence}
-use Rattle.amqp_frame.specs.Sequences.Ending.{Complete, Cut, Broken}
+use Rattle.amqp_frame.specs.Sequences.{SequenceEnd, IsSequence}
+use Rattle.amqp_frame.specs.Sequences.SequenceEnd.{Complete, Cut, Broken}
 use Rattle.amqp_frame.proofs.Sequences.{sequence-same}
 use Rattle.amqp_legal.specs.Legal.{Legal}
 use Rattle.amqp_legal.proofs.Saying.{front-legal}
@@ -33,7 +33,7 @@ OnFrames said answered (verdict.Illegal i) = IsFirstIllegal said i
 OnFrames said answered _ = ⊥
 
 -- by how the server's side ends
-abbrev OnServer : Ending → ℕ → List Frame → List Frame → Verdict → Type 0
+abbrev OnServer : SequenceEnd → ℕ → List Frame → List Frame → Verdict → Type 0
 OnServer Broken place said answered v = v ≡ verdict.BadServer place
 OnServer Cut place said answered v = v ≡ verdict.CutServer place
 OnServer Complete place said answered v = OnFrames said answered v
@@ -42,12 +42,12 @@ OnServer Complete place said answered v = OnFrames said answered v
 record ByServer (server : List ℕ) (said : List Frame) (v : Verdict) : Type 0 where
   frames : List Frame
   place : ℕ
-  ending : Ending
+  ending : SequenceEnd
   side : IsSequence server no_limit frames place ending
   on : OnServer ending place said frames v
 
 -- by how the client's side ends
-abbrev OnClient : Ending → ℕ → List Frame → List ℕ → Verdict → Type 0
+abbrev OnClient : SequenceEnd → ℕ → List Frame → List ℕ → Verdict → Type 0
 OnClient Broken place said server v = v ≡ verdict.BadClient place
 OnClient Cut place said server v = v ≡ verdict.CutClient place
 OnClient Complete place said server v = ByServer server said v
@@ -56,7 +56,7 @@ OnClient Complete place said server v = ByServer server said v
 record ByClient (client server : List ℕ) (v : Verdict) : Type 0 where
   frames : List Frame
   place : ℕ
-  ending : Ending
+  ending : SequenceEnd
   side : IsSequence client no_limit frames place ending
   on : OnClient ending place frames server v
 
@@ -112,7 +112,7 @@ on-frames-same said answered (verdict.CutClient p) w h k = absurd h
 on-frames-same said answered (verdict.BadServer p) w h k = absurd h
 on-frames-same said answered (verdict.CutServer p) w h k = absurd h
 
-on-server-same : (ending : Ending) (place : ℕ) (said answered : List Frame) (v w : Verdict) → OnServer ending place said answered v → OnServer ending place said answered w → v ≡ w
+on-server-same : (ending : SequenceEnd) (place : ℕ) (said answered : List Frame) (v w : Verdict) → OnServer ending place said answered v → OnServer ending place said answered w → v ≡ w
 on-server-same Complete place said answered v w h k = on-frames-same said answered v w h k
 on-server-same Broken place said answered v w h k = h ∙ sym k
 on-server-same Cut place said answered v w h k = h ∙ sym k
@@ -122,9 +122,9 @@ by-server-same server said v w h k =
     let same = sequence-same server no_limit k.place h.place k.frames h.frames k.ending h.ending k.side h.side in
     let framed = subst (λ (fs : List Frame). OnServer k.ending k.place said fs w) same.0 k.on in
     let placed = subst (λ (p : ℕ). OnServer k.ending p said h.frames w) same.1 framed in
-    on-server-same h.ending h.place said h.frames v w h.on (subst (λ (e : Ending). OnServer e h.place said h.frames w) same.2 placed)
+    on-server-same h.ending h.place said h.frames v w h.on (subst (λ (e : SequenceEnd). OnServer e h.place said h.frames w) same.2 placed)
 
-on-client-same : (ending : Ending) (place : ℕ) (said : List Frame) (server : List ℕ) (v w : Verdict) → OnClient ending place said server v → OnClient ending place said server w → v ≡ w
+on-client-same : (ending : SequenceEnd) (place : ℕ) (said : List Frame) (server : List ℕ) (v w : Verdict) → OnClient ending place said server v → OnClient ending place said server w → v ≡ w
 on-client-same Complete place said server v w h k = by-server-same server said v w h k
 on-client-same Broken place said server v w h k = h ∙ sym k
 on-client-same Cut place said server v w h k = h ∙ sym k
@@ -134,7 +134,7 @@ by-client-same client server v w h k =
     let same = sequence-same client no_limit k.place h.place k.frames h.frames k.ending h.ending k.side h.side in
     let framed = subst (λ (fs : List Frame). OnClient k.ending k.place fs server w) same.0 k.on in
     let placed = subst (λ (p : ℕ). OnClient k.ending p h.frames server w) same.1 framed in
-    on-client-same h.ending h.place h.frames server v w h.on (subst (λ (e : Ending). OnClient e h.place h.frames server w) same.2 placed)
+    on-client-same h.ending h.place h.frames server v w h.on (subst (λ (e : SequenceEnd). OnClient e h.place h.frames server w) same.2 placed)
 
 pub one-verdict : (client server : List ℕ) (v w : Verdict) → IsVerdict client server v → IsVerdict client server w → v ≡ w
 one-verdict client server v w h k = by-client-same client server v w (in-turn client server v h) (in-turn client server w k)

@@ -2,7 +2,7 @@
 use Rattle.std.specs.Prelude.{◌≡◌, ℕ, List, [], ◌∷◌, ◌++◌, length}
 use Rattle.amqp_frame.specs.declared.frame.Frame.{Frame}
 use Rattle.amqp_frame.specs.declared.frame.Read.TheVariants.{Whole}
-use Rattle.amqp_frame.specs.Sequences.{front_at, Stand, Ending, IsSequence}
+use Rattle.amqp_frame.specs.Sequences.{front_at, Stand, SequenceEnd, IsSequence}
 use Rattle.amqp_legal.specs.Legal.{Legal}
 use Rattle.amqp_legal.specs.Speeches.{HasSaid}
 use Rattle.amqp_legal.specs.declared.speech.Speech.{Speech}
@@ -33,5 +33,5 @@ pub record IsFinding (client : List ℕ) (f : Finding) : Type 0 where
 -- the whole frames of one side, however it ends behind them, are legal
 abbrev pub IsLegalSide : List ℕ → Type 0
 IsLegalSide client =
-    (frames : List Frame) × (place : ℕ) × (ending : Ending) × IsSequence client no_limit frames place ending
+    (frames : List Frame) × (place : ℕ) × (ending : SequenceEnd) × IsSequence client no_limit frames place ending
     × Legal frames

@@ -3,7 +3,7 @@ use Rattle.std.specs.Prelude.{◌≡◌, ℕ, ◌+◌, ◌≤◌, List, length, 
 use Rattle.amqp_frame.specs.declared.frame.Frame.{Frame}
 use Rattle.amqp_frame.specs.declared.frame.Read.TheVariants.{Whole}
 use Rattle.amqp_frame.specs.Sequences.{front_at, EndsAt, IsSequence}
-use Rattle.amqp_frame.specs.Sequences.Ending.{Complete, Cut, Broken}
+use Rattle.amqp_frame.specs.Sequences.SequenceEnd.{Complete, Cut, Broken}
 use Rattle.amqp_legal.specs.declared.speech.Speech.{Speech}
 use Rattle.amqp_check.specs.Verdicts.{no_limit, AreFrames, IsFirstIllegal}
 pub use Rattle.amqp_check.specs.Findings.{IsSaid}

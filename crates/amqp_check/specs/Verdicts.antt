@@ -2,7 +2,7 @@
 use Rattle.std.specs.Prelude.{◌≡◌, ℕ, suc, ◌<◌, List, length, take}
 use Rattle.amqp_frame.specs.declared.frame.Frame.{Frame}
 use Rattle.amqp_frame.specs.Sequences.{IsSequence}
-use Rattle.amqp_frame.specs.Sequences.Ending.{Complete, Cut, Broken}
+use Rattle.amqp_frame.specs.Sequences.SequenceEnd.{Complete, Cut, Broken}
 use Rattle.amqp_legal.specs.Legal.{Legal}
 use Rattle.amqp_check.specs.declared.capture.Verdict.{Verdict}
 use Rattle.amqp_check.specs.declared.capture.Verdict.TheVariants as verdict
