@@ -54,7 +54,12 @@ fn a_copied_outbox_is_equal(rt: HostRuntime) -> Result<(), NoMemory> {
 // The channel, the frame, its promise and its octets of a copy.
 fn copied(alloc: Global, item: &Item) -> Result<(ChannelId, Told, Option<u64>, u64), NoMemory> {
     let copy = item.try_clone(alloc)?;
-    let told = (copy.channel(), kind(copy.frame()), copy.promise(), copy.encoded_len());
+    let told = (
+        copy.channel(),
+        kind(copy.frame()),
+        copy.promise(),
+        copy.encoded_len(),
+    );
     drop(copy);
     Ok(told)
 }
@@ -71,7 +76,12 @@ fn a_copied_frame_is_equal(rt: HostRuntime) -> Result<(), NoMemory> {
 // How many frames a copy has and their octets, its first frame, and its promise.
 fn copied_group(alloc: Global, group: &Group) -> Result<(u64, u64, Told, Option<u64>), NoMemory> {
     let copy = group.try_clone(alloc)?;
-    let told = (copy.len(), copy.octets(), kind(copy.first().frame()), copy.promise());
+    let told = (
+        copy.len(),
+        copy.octets(),
+        kind(copy.first().frame()),
+        copy.promise(),
+    );
     drop(copy);
     Ok(told)
 }

@@ -45,8 +45,7 @@ pub use id_sequence::{Id, IdSequence};
 pub use laws::{
     a_frame_ends_with_its_errors, a_lost_link_answers_what_waits, a_refusal_changes_promises_alone,
     a_secret_is_asked_for_when_it_has_expired, an_answer_is_taken_once, an_end_is_kept,
-    events_are_told_once, negotiation_leaves_room, states_stay_sound,
-    unsent_bytes_are_counted,
+    events_are_told_once, negotiation_leaves_room, states_stay_sound, unsent_bytes_are_counted,
 };
 pub use misread::Misread;
 pub use options::ConnectionProperties;
