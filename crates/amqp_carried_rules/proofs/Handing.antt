@@ -1,10 +1,9 @@
 -- What the rules of the session do to the frames that were handed out: each leaves them as they are, but for the rule of a frame that is passed
 -- through, which hands it out.
-use Rattle.std.proofs.Common.{◌≡◌, ℕ, zero, suc, ◌==◌, cond, Bool, true, false, if◌then◌else◌, List, [], ◌∷◌, ◌++◌, map, filter, Option, Some, None, unwrap_or, Result, Ok, Err, refl, ap, sym, ◌∙◌, arith}
+use Rattle.std.proofs.Common.{◌≡◌, ℕ, zero, suc, ◌==◌, cond, Bool, true, false, if◌then◌else◌, List, [], ◌∷◌, ◌++◌, map, filter, Option, Some, None, unwrap_or, refl, ap, sym, ◌∙◌, arith}
 use Rattle.std.specs.declared.cmp.Ordering.{Ordering}
 use Rattle.std.specs.declared.cmp.Ordering.TheVariants.{Less, Equal, Greater}
 use Rattle.std.specs.Ordering.{nat_cmp, is_eq, match_ordering}
-use Rattle.std.specs.Cmp.{nat_cmp_is}
 use Rattle.std.proofs.lemmas.Bool.Decides.{nat_tests}
 use Rattle.std.proofs.lemmas.Map.Lookups.{exact_unsigned}
 use Rattle.std.proofs.lemmas.List.{append-nil, map-append}
@@ -12,49 +11,30 @@ use Rattle.std.proofs.lemmas.List.Elements.{filter-append}
 use Rattle.amqp_frame.specs.declared.frame.Frame.{Frame}
 use Rattle.amqp_frame.specs.declared.frame.Frame.TheVariants.{ProtocolHeader, Method, Raw, Heartbeat}
 use Rattle.amqp_frame.specs.declared.frame.RawKind.{RawKind}
-use Rattle.amqp_frame.specs.declared.frame.RawKind.TheVariants.{RawMethod}
 use Rattle.amqp_frame.specs.declared.method.Method.{Method as AnyMethod}
-use Rattle.amqp_frame.specs.declared.method.Method.TheVariants.{Start, Secure, Tune, OpenOk, Close, CloseOk, Blocked, Unblocked, UpdateSecretOk, ChannelOpenOk, ChannelClose, ChannelCloseOk, ChannelFlow, ChannelFlowOk}
-use Rattle.amqp_frame.specs.RawMethods.{OtherMethod}
-use Rattle.amqp_outbox.specs.declared.reply.Reply.TheVariants.{ChannelOpened, ChannelClosed, FlowDone, SecretDone, ConnectionClosed}
-use Rattle.amqp_outbox.specs.Queued.{awaited_promise}
 use Rattle.amqp_session.specs.declared.channels.Channel.{Channel}
-use Rattle.amqp_session.specs.declared.channels.Debt.{Debt}
-use Rattle.amqp_session.specs.declared.channels.Debt.TheVariants as debt
 use Rattle.amqp_session.specs.declared.handed.Handed.{Handed}
-use Rattle.amqp_promise.specs.declared.state.ConnectionState.{ConnectionState}
-use Rattle.amqp_promise.specs.declared.state.ConnectionState.TheVariants.{Connecting, Connected, Closing}
-use Rattle.amqp_promise.specs.declared.state.ChannelState.{ChannelState}
-use Rattle.amqp_promise.specs.declared.state.ChannelState.TheVariants as channel
-use Rattle.amqp_session.specs.declared.state.Phase.{Phase}
-use Rattle.amqp_session.specs.declared.state.Phase.TheVariants.{AwaitStart, AwaitTune, AwaitOpenOk}
 use Rattle.amqp_session.specs.declared.command.Cmd.{Cmd}
-use Rattle.amqp_session.specs.declared.command.Cmd.TheVariants.{OpenChannel, CloseChannel, CloseConnection, UpdateSecret, Send, Publish, Flow, DropChannel, DropConnection, Listen}
 use Rattle.amqp_session.specs.declared.misread.Misread.{Misread}
 use Rattle.amqp_promise.specs.declared.error.ErrorKind.{ErrorKind}
-use Rattle.amqp_promise.specs.declared.error.ErrorKind.TheVariants.{InvalidProtocolVersion, InvalidChannel, InvalidConnectionState, AuthProviderError, NoMemory, SerialisationError}
+use Rattle.amqp_promise.specs.declared.error.ErrorKind.TheVariants.{InvalidProtocolVersion, InvalidChannel, NoMemory, SerialisationError}
 use Rattle.amqp_promise.specs.declared.io_fault.IoFault.{IoFault}
 use Rattle.amqp_session.specs.declared.auth.asked.Asked.{Asked}
 use Rattle.amqp_session.specs.Listed.{at, put}
-use Rattle.amqp_session.specs.Talk.{Talk, has_ended, is_open, is_asked, is_closing, acts, hears_on}
+use Rattle.amqp_session.specs.Talk.{Talk, has_ended, is_open, is_asked, acts, hears_on}
 use Rattle.amqp_session.specs.Channels.{channel_at}
 use Rattle.amqp_session.specs.Changes.{present_at, lose, misplaced, fail, starve}
-use Rattle.amqp_session.specs.Links.{dropped, linked, link_failed, piece, misread, lost}
-use Rattle.amqp_session.specs.Handshake.{new_secret}
-use Rattle.amqp_session.specs.Violations.{channel_closed_with, misread_error, stray_channel_frame, stray_connection_method, unawaited}
-use Rattle.amqp_session.specs.ConnectionMethods.{connected, connection_rule, connection_closed, secret_taken, started, challenged}
-use Rattle.amqp_session.specs.ChannelMethods.{heard_on, unawaited_channel_method, channel_opened, channel_closed, channel_flowed, channel_close_by, awaits_close_ok, remove_unless_owed, on_channel_flow, channel_rule, channel_method_by, channel_method, confirmed, is_select_ok, frames_of, hand_out, raw_by}
-use Rattle.amqp_frame.specs.Methods.{is_of_a_channel}
+use Rattle.amqp_session.specs.Links.{linked, link_failed, piece, misread, lost}
+use Rattle.amqp_session.specs.Violations.{stray_channel_frame}
+use Rattle.amqp_session.specs.ChannelMethods.{heard_on, confirmed, is_select_ok, frames_of, hand_out, raw_by}
 use Rattle.amqp_session.specs.Frames.{method_rule, frame_rule, closed_rule, on_frame}
-use Rattle.amqp_session.specs.Publishing.{method_frame, publish_frames}
-use Rattle.amqp_session.specs.Commands.{open_drawn, close_target, drop_target, flow_target, queue_secret, update_secret, too_long, unless_too_long, queue_send, send_target, body_limit, queue_publish, publish_target, command, command_rule}
+use Rattle.amqp_session.specs.Commands.{command}
 use Rattle.amqp_session.specs.Ticks.{tick}
 use Rattle.amqp_session.specs.Writing.{end_overlong, taken}
 use Rattle.amqp_carried_rules.specs.HandingOut.{handed_on, HandedOut, handed_of, hands_out}
-use Rattle.amqp_session.proofs.Heard.{start-case, secure-case}
+use Rattle.amqp_session.proofs.Walk.{ChannelRows, ConnectionRows, CommandRows, misplaced-keeps, misread-keeps, start-keeps, secure-keeps, method-keeps, acting-keeps, command-keeps}
 use Rattle.amqp_session.proofs.Keeping.{present-keeps, loss-keeps, lost-keeps, failed-keeps, taken-keeps, tick-keeps}
 use Rattle.amqp_types.proofs.Small.{if_case, nat_cmp_self}
-use Rattle.amqp_session.proofs.Recovering.{reopened-keeps}
 
 -- ---- maps
 
@@ -152,100 +132,47 @@ hands-one o h t x same hs are opened =
 lose-handed : (e : ErrorKind) (t : Talk) → IsSameHanded t (lose e t)
 lose-handed e t = loss-keeps (λ (x : Talk). x.handed) (λ x s l cs ps b q ms n o ns. refl) e t
 
-secret-handed : (o : Option (Option ℕ)) (t : Talk) → IsSameHanded t (secret_taken o t)
-secret-handed None t = lose-handed (InvalidConnectionState Connected) t
-secret-handed (Some None) t = refl
-secret-handed (Some (Some number)) t = refl
+then-lost : (t : Talk) (e : ErrorKind) (u : Talk) → IsSameHanded t u → IsSameHanded t (lose e u)
+then-lost t e u h = lose-handed e u ∙ h
 
-connection-closed-handed : (o : Option (Option ℕ)) (t : Talk) → IsSameHanded t (connection_closed o t)
-connection-closed-handed None t = refl
-connection-closed-handed (Some promise) t = refl
+on-channels : (t : Talk) → ChannelRows (IsSameHanded t)
+on-channels t = record {
+  lost = then-lost t;
+  opened = λ n c promise u is h. h;
+  closed = λ n promise u is h. h;
+  removed = λ n u h. h;
+  flow = λ n c active u h. h;
+  flowed = λ n c active promise u is h. h;
+  server_closed = λ n e c u h. h;
+  crossed = λ n e c u h. h;
+}
 
-started-handed : (mechanism : List ℕ) (said : Result (List ℕ) (List ℕ)) (t : Talk) → IsSameHanded t (started mechanism said t)
-started-handed mechanism (Ok response) t = refl
-started-handed mechanism (Err text) t = lose-handed (AuthProviderError text) t
-
-challenged-handed : (said : Result (List ℕ) (List ℕ)) (t : Talk) → IsSameHanded t (challenged said t)
-challenged-handed (Ok response) t = refl
-challenged-handed (Err text) t = lose-handed (AuthProviderError text) t
-
-connection-handed : (s : ConnectionState) (p : Phase) (m : AnyMethod) (answers : List Asked) (t : Talk) → IsSameHanded t (connection_rule s p m answers t)
-connection-handed s p (Close code text class method) answers t = refl
-connection-handed s p (Blocked reason) answers t = refl
-connection-handed s p Unblocked answers t = refl
-connection-handed Closing p CloseOk answers t = connection-closed-handed (awaited_promise 0 ConnectionClosed t.outbox) t
-connection-handed Closing p m answers t = refl
-connection-handed Connecting AwaitStart (Start a b c d e) answers t = start-case (IsSameHanded t) answers t refl (λ mechanism said. started-handed mechanism said t)
-connection-handed Connecting AwaitTune (Secure challenge) answers t = secure-case (IsSameHanded t) answers t refl (λ said. challenged-handed said t)
-connection-handed Connecting AwaitTune (Tune a b c) answers t = refl
-connection-handed Connecting AwaitOpenOk OpenOk answers t = reopened-keeps (λ (x : Talk). x.handed) (λ x q cs. refl) t.channels (connected t)
-connection-handed Connected p UpdateSecretOk answers t = secret-handed (awaited_promise 0 SecretDone t.outbox) t
-connection-handed held p m answers t = lose-handed (InvalidConnectionState held) t
+on-connection : (answers : List Asked) (t : Talk) → ConnectionRows (IsSameHanded t) answers
+on-connection answers t = record {
+  starts = λ u on h. start-keeps (IsSameHanded t) (then-lost t) answers u h (λ mechanism response. h);
+  secures = λ u h. secure-keeps (IsSameHanded t) (then-lost t) answers u h (λ response. h);
+  tunes = λ server u h. h;
+  connects = λ u on phase h. h;
+  reopens = λ n u h. h;
+  blocks = λ reason u h. h;
+  unblocks = λ u h. h;
+  refreshes = λ u is h. h;
+  renews = λ number u is h. h;
+  server_closes = λ code text u h. h;
+  closes = λ u h. h;
+  answers_close = λ promise u h. h;
+}
 
 misplaced-handed : (e : ErrorKind) (t : Talk) → IsSameHanded t (misplaced e t)
-misplaced-handed e t = if_case (IsSameHanded t) (is_closing t.state) t (lose e t) refl (lose-handed e t)
-
-unawaited-handed : (n : ℕ) (s : ChannelState) (m : AnyMethod) (t : Talk) → IsSameHanded t (unawaited_channel_method n s m t)
-unawaited-handed n channel.Closing m t = refl
-unawaited-handed n _ m t = lose-handed (unawaited m n) t
-
-opened-handed : (n : ℕ) (c : Channel) (o : Option (Option ℕ)) (t : Talk) → IsSameHanded t (channel_opened n c o t)
-opened-handed n c None t = unawaited-handed n c.state ChannelOpenOk t
-opened-handed n c (Some promise) t = refl
-
-owed-handed : (d : Debt) (n : ℕ) (t u : Talk) → IsSameHanded t u → IsSameHanded t (remove_unless_owed d n u)
-owed-handed debt.Owed n t u same = same
-owed-handed _ n t u same = same
-
-closed-handed : (n : ℕ) (c : Channel) (o : Option (Option ℕ)) (t : Talk) → IsSameHanded t (channel_closed n c o t)
-closed-handed n c None t = unawaited-handed n c.state ChannelCloseOk t
-closed-handed n c (Some promise) t = owed-handed c.debt n t _ refl
-
-flow-handed : (s : ChannelState) (n : ℕ) (c : Channel) (active : Bool) (t : Talk) → IsSameHanded t (on_channel_flow s n c active t)
-flow-handed channel.Closing n c active t = refl
-flow-handed _ n c active t = refl
-
-flowed-handed : (n : ℕ) (c : Channel) (active : Bool) (o : Option (Option ℕ)) (t : Talk) → IsSameHanded t (channel_flowed n c active o t)
-flowed-handed n c active None t = unawaited-handed n c.state (ChannelFlowOk active) t
-flowed-handed n c active (Some promise) t = refl
-
-server-close-handed : (d : Debt) (awaits : Bool) (n : ℕ) (e : ErrorKind) (c : Channel) (t : Talk) → IsSameHanded t (channel_close_by d awaits n e c t)
-server-close-handed debt.Nothing false n e c t = refl
-server-close-handed debt.Nothing true n e c t = refl
-server-close-handed _ awaits n e c t = refl
-
-channel-handed : (s : ConnectionState) (n : ℕ) (c : Channel) (m : AnyMethod) (t : Talk) → IsSameHanded t (channel_rule s n c m t)
-channel-handed Closing n c m t = refl
-channel-handed _ n c ChannelOpenOk t = opened-handed n c (awaited_promise n ChannelOpened t.outbox) t
-channel-handed _ n c ChannelCloseOk t = closed-handed n c (awaited_promise n ChannelClosed t.outbox) t
-channel-handed _ n c (ChannelClose code text class method) t = server-close-handed c.debt (awaits_close_ok n t) n (channel_closed_with code text) c t
-channel-handed _ n c (ChannelFlow active) t = flow-handed c.state n c active t
-channel-handed _ n c (ChannelFlowOk active) t = flowed-handed n c active (awaited_promise n FlowDone t.outbox) t
-channel-handed _ n c m t = unawaited-handed n c.state m t
-
-channel-by-handed : (o : Option Channel) (n : ℕ) (m : AnyMethod) (t : Talk) → IsSameHanded t (channel_method_by o n m t)
-channel-by-handed None n m t = misplaced-handed (InvalidChannel n) t
-channel-by-handed (Some c) n m t = channel-handed t.state n c m t
+misplaced-handed e t = misplaced-keeps (IsSameHanded t) (then-lost t) e t refl
 
 -- a method hands nothing out
 method-handed : (n : ℕ) (m : AnyMethod) (answers : List Asked) (t : Talk) → IsSameHanded t (method_rule n m answers t)
-method-handed zero m answers t =
-    if_case (IsSameHanded t) (is_of_a_channel m) (misplaced (stray_channel_frame RawMethod) t) (connection_rule t.state t.phase m answers t)
-    (misplaced-handed (stray_channel_frame RawMethod) t) (connection-handed t.state t.phase m answers t)
-method-handed (suc n) m answers t =
-    if_case (IsSameHanded t) (is_of_a_channel m) (channel_method (suc n) m t) (misplaced (stray_connection_method (suc n)) t)
-    (channel-by-handed (heard_on t.state (channel_at (suc n) t)) (suc n) m t) (misplaced-handed (stray_connection_method (suc n)) t)
-
-closed-rule-handed : (f : Frame) (t : Talk) → IsSameHanded t (closed_rule f t)
-closed-rule-handed (Method zero (Blocked reason)) t = refl
-closed-rule-handed (Method zero Unblocked) t = refl
-closed-rule-handed f t = refl
+method-handed n m answers t = method-keeps (IsSameHanded t) answers (on-channels t) (on-connection answers t) n m t refl
 
 -- a frame by whose rule nothing is handed out
 plain-handed : (f : Frame) (answers : List Asked) (t : Talk) → IsSameHanded t (frame_rule f answers t) → IsSameHanded t (on_frame f answers t)
-plain-handed f answers t same =
-    if_case (IsSameHanded t) (acts t) (frame_rule f answers t) (if hears_on t then closed_rule f t else t) same
-    (if_case (IsSameHanded t) (hears_on t) (closed_rule f t) t (closed-rule-handed f t) refl)
+plain-handed f answers t same = acting-keeps (IsSameHanded t) answers (on-channels t) (on-connection answers t) f t refl same
 
 -- a frame that is passed through, by the listed channel that it comes on
 raw-hands : (o : Option Channel) (n : ℕ) (kind : RawKind) (bytes : List ℕ) (t : Talk)
@@ -280,62 +207,23 @@ frame-hands (Raw (suc n) kind bytes) answers t = by (acts t)
 
 -- ---- commands
 
-drawn-handed : (o : Option ℕ) (first : ℕ) (t : Talk) → IsSameHanded t (open_drawn o first t)
-drawn-handed None first t = refl
-drawn-handed (Some n) first t = refl
-
-close-handed : (r : Result Channel ErrorKind) (n code : ℕ) (text : List ℕ) (t : Talk) → IsSameHanded t (close_target r n code text t)
-close-handed (Err e) n code text t = refl
-close-handed (Ok c) n code text t = refl
-
-flow-target-handed : (r : Result Channel ErrorKind) (n : ℕ) (active : Bool) (t : Talk) → IsSameHanded t (flow_target r n active t)
-flow-target-handed (Err e) n active t = refl
-flow-target-handed (Ok c) n active t = refl
-
-drop-handed : (r : Result Channel ErrorKind) (n : ℕ) (t : Talk) → IsSameHanded t (drop_target r n t)
-drop-handed (Err e) n t = refl
-drop-handed (Ok c) n t = refl
-
-unless-handed : (o : Option Frame) (rule : Talk → Talk) (t : Talk) → IsSameHanded t (rule t) → IsSameHanded t (unless_too_long o rule t)
-unless-handed None rule t same = same
-unless-handed (Some frame) rule t same = refl
-
-send-handed : (r : Result Channel ErrorKind) (n : ℕ) (m : OtherMethod) (t : Talk) → IsSameHanded t (send_target r n m t)
-send-handed (Err e) n m t = refl
-send-handed (Ok c) n m t =
-    let frame = method_frame n m in
-    unless-handed (too_long (frame ∷ []) t) (queue_send n frame) t refl
-
-update-handed : (secret reason : List ℕ) (t : Talk) → IsSameHanded t (update_secret secret reason t)
-update-handed secret reason t =
-    let frame = new_secret secret reason in
-    unless-handed (too_long (frame ∷ []) t) (queue_secret frame) t refl
-
-publish-handed : (r : Result Channel ErrorKind) (n : ℕ) (m : OtherMethod) (properties body : List ℕ) (t : Talk) → IsSameHanded t (publish_target r n m properties body t)
-publish-handed (Err e) n m properties body t = refl
-publish-handed (Ok c) n m properties body t =
-    let frames = publish_frames n m properties body (body_limit t) in
-    unless-handed (too_long frames t) (queue_publish n frames) t refl
-
-rule-handed : (s : ConnectionState) (c : Cmd) (t : Talk) → IsSameHanded t (command_rule s c t)
-rule-handed Connected OpenChannel t = drawn-handed _ _ t
-rule-handed Connected (CloseChannel r code text) t = close-handed _ r.id code text t
-rule-handed Connected (CloseConnection code text) t = refl
-rule-handed Connected (UpdateSecret secret reason) t = update-handed secret reason t
-rule-handed Connected (Send r method) t = send-handed _ r.id method t
-rule-handed Connected (Publish r method properties body) t = publish-handed _ r.id method properties body t
-rule-handed Connected (Flow r active) t = flow-target-handed _ r.id active t
-rule-handed Connected (DropChannel r) t = drop-handed _ r.id t
-rule-handed Connected DropConnection t = refl
-rule-handed Connected Listen t = refl
-rule-handed _ (DropChannel r) t = refl
-rule-handed _ DropConnection t = refl
-rule-handed _ Listen t = refl
-rule-handed _ c t = refl
+told : (t : Talk) → CommandRows (IsSameHanded t)
+told t = record {
+  refuses = λ e u h. h;
+  promises = λ u h. h;
+  opens = λ n u h. h;
+  opens_none = λ first u h. h;
+  leaves_channel = λ n code text c answers u h. h;
+  sends = λ n m u h. h;
+  publishes = λ n m properties body u h. h;
+  flows = λ n active u h. h;
+  tells_secret = λ secret reason u h. h;
+  listens = λ u h. h;
+}
 
 -- a command hands nothing out
 pub command-handed : (c : Cmd) (t : Talk) → IsSameHanded t (command c t)
-command-handed c t = rule-handed t.state c t
+command-handed c t = command-keeps (IsSameHanded t) (told t) (λ code text answers u h. h) c t refl
 
 -- ---- what else happens
 
@@ -358,9 +246,7 @@ pub tick-handed : (answers : List Asked) (t : Talk) → IsSameHanded t (tick ans
 tick-handed answers t = tick-keeps (λ (x : Talk). x.handed) (λ x s l cs ps b q ms n o ns. refl) (λ x q n m b. refl) answers t
 
 pub misread-handed : (why : Misread) (t : Talk) → IsSameHanded t (misread why t)
-misread-handed why t =
-    if_case (IsSameHanded t) (acts t) (lose (misread_error why) t) (if is_open t then record t { input = dropped t.input } else t) (lose-handed (misread_error why) t)
-    (if_case (IsSameHanded t) (is_open t) (record t { input = dropped t.input }) t refl refl)
+misread-handed why t = misread-keeps (IsSameHanded t) (then-lost t) (λ u h. h) why t refl
 
 pub taken-handed : (n : ℕ) (t : Talk) → IsSameHanded t (taken n t)
 taken-handed n t = taken-keeps (λ (x : Talk). x.handed) (record { ends = λ x s l cs ps b q ms n o ns. refl; writes = λ x w ms. refl; moments = λ x n. refl }) n t

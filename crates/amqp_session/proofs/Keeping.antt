@@ -4,58 +4,52 @@ use Rattle.std.proofs.lemmas.List.Sums.{sum_by-cons}
 use Rattle.std.proofs.lemmas.Bool.Decides.{nat_tests}
 use Rattle.amqp_frame.specs.declared.frame.Frame.{Frame}
 use Rattle.amqp_frame.specs.declared.frame.Frame.TheVariants.{ProtocolHeader, Method, Raw, Heartbeat}
-use Rattle.amqp_frame.specs.declared.frame.RawKind.{RawKind}
 use Rattle.amqp_frame.specs.declared.frame.RawKind.TheVariants.{RawMethod}
 use Rattle.amqp_frame.specs.declared.method.Method.{Method as AnyMethod}
-use Rattle.amqp_frame.specs.declared.method.Method.TheVariants.{Start, Secure, Tune, OpenOk, Close, CloseOk, Blocked, Unblocked, UpdateSecretOk, ChannelOpenOk, ChannelClose, ChannelCloseOk, ChannelFlow, ChannelFlowOk}
-use Rattle.amqp_frame.specs.RawMethods.{OtherMethod}
-use Rattle.amqp_outbox.specs.declared.reply.Reply.TheVariants.{ChannelOpened, ChannelClosed, FlowDone, SecretDone, ConnectionClosed}
+use Rattle.amqp_frame.specs.declared.method.Method.TheVariants.{Start, Secure, Tune, OpenOk, Close, CloseOk, Blocked, Unblocked, UpdateSecretOk}
+use Rattle.amqp_outbox.specs.declared.reply.Reply.TheVariants.{SecretDone, ConnectionClosed}
 use Rattle.amqp_outbox.specs.Queued.{Queued, awaited_promise, without_awaited}
 use Rattle.amqp_session.specs.declared.channels.Channel.{Channel}
-use Rattle.amqp_session.specs.declared.channels.Debt.{Debt}
-use Rattle.amqp_session.specs.declared.channels.Debt.TheVariants as debt
 use Rattle.amqp_session.specs.declared.committed.Mark.{Mark}
 use Rattle.amqp_session.specs.declared.committed.Then.{Then}
 use Rattle.amqp_session.specs.declared.committed.Then.TheVariants.{Nothing, Answer, Pays, Finish}
 use Rattle.amqp_promise.specs.declared.state.ConnectionState.{ConnectionState}
 use Rattle.amqp_promise.specs.declared.state.ConnectionState.TheVariants.{Connecting, Connected, Closing}
-use Rattle.amqp_promise.specs.declared.state.ChannelState.{ChannelState}
-use Rattle.amqp_promise.specs.declared.state.ChannelState.TheVariants as channel
 use Rattle.amqp_session.specs.declared.state.Phase.{Phase}
 use Rattle.amqp_session.specs.declared.state.Phase.TheVariants.{AwaitStart, AwaitTune, AwaitOpenOk}
 use Rattle.amqp_session.specs.declared.state.Link.{Link}
+use Rattle.amqp_session.specs.declared.state.Input.{Input}
+use Rattle.amqp_session.specs.declared.configuration.Configuration.{Configuration}
 use Rattle.amqp_session.specs.declared.state.Link.TheVariants.{Due, Wanted, Asked, Open, Ended}
 use Rattle.amqp_promise.specs.declared.io_fault.IoFault.{IoFault}
 use Rattle.amqp_session.specs.declared.server_close.ServerClose.{ServerClose}
 use Rattle.amqp_session.specs.declared.server_close.ServerClose.TheVariants.{WithoutError, WithError}
 use Rattle.amqp_session.specs.declared.misread.Misread.{Misread}
 use Rattle.amqp_session.specs.declared.command.Cmd.{Cmd}
-use Rattle.amqp_session.specs.declared.command.Cmd.TheVariants.{OpenChannel, CloseChannel, CloseConnection, UpdateSecret, Send, Publish, Flow, DropChannel, DropConnection, Listen}
-use Rattle.amqp_session.specs.declared.command.Answer.{Answer as AnyAnswer}
 use Rattle.amqp_session.specs.declared.command.Answer.TheVariants.{Done}
 use Rattle.amqp_promise.specs.declared.error.ErrorKind.{ErrorKind}
-use Rattle.amqp_promise.specs.declared.error.ErrorKind.TheVariants.{InvalidProtocolVersion, InvalidChannel, InvalidConnectionState, AuthProviderError, ProtocolError, NoMemory, IOError, MissingHeartbeatError}
+use Rattle.amqp_promise.specs.declared.error.ErrorKind.TheVariants.{InvalidProtocolVersion, InvalidConnectionState, AuthProviderError, ProtocolError, NoMemory, IOError, MissingHeartbeatError}
 use Rattle.amqp_promise.specs.declared.io_fault.IoFault.TheVariants.{Refused}
 use Rattle.amqp_session.specs.declared.auth.asked.Asked.{Asked as ProviderAnswer}
 use Rattle.amqp_session.specs.Events.{Noted}
-use Rattle.amqp_session.specs.Talk.{Talk, has_ended, hears_on, is_open, is_open_link, is_asked, is_asked_link, is_closing, acts, end_of_link}
-use Rattle.amqp_session.specs.Changes.{Promises, present_at, queue, refuse, give_to, tell_owed, fail, lose, misplaced, close, finish, finish_by, starve}
+use Rattle.amqp_session.specs.Talk.{Talk, has_ended, hears_on, is_open, is_open_link, is_asked, is_asked_link, acts, end_of_link}
+use Rattle.amqp_session.specs.Changes.{Promises, present_at, queue, give_to, tell_owed, fail, lose, misplaced, close, finish, finish_by, starve}
 use Rattle.amqp_session.specs.Recovery.{next_delay, recovery_delay, reconnect}
-use Rattle.amqp_session.specs.Links.{dropped, lost, misread, refused_after, link_failed}
-use Rattle.amqp_session.specs.Violations.{channel_closed_with, misread_error, stray_channel_frame, stray_connection_method, unawaited}
-use Rattle.amqp_session.specs.Handshake.{new_secret}
+use Rattle.amqp_session.specs.Links.{lost, misread, refused_after, link_failed}
+use Rattle.amqp_session.specs.Violations.{stray_channel_frame}
 use Rattle.amqp_session.specs.ConnectionMethods.{connected, reopen, reopen_each, connection_rule, connection_closed, secret_taken, started, challenged}
 use Rattle.amqp_session.specs.Channels.{channel_at}
-use Rattle.amqp_session.specs.ChannelMethods.{heard_on, unawaited_channel_method, channel_opened, channel_closed, channel_flowed, channel_close_by, awaits_close_ok, remove_unless_owed, on_channel_flow, channel_rule, channel_method_by, channel_method, hand_out, confirmed, is_select_ok, pass_through, raw_by}
-use Rattle.amqp_frame.specs.Methods.{is_of_a_channel}
+use Rattle.amqp_session.specs.ChannelMethods.{awaits_close_ok}
 use Rattle.amqp_session.specs.Frames.{method_rule, frame_rule, closed_rule, on_frame}
-use Rattle.amqp_session.specs.Publishing.{method_frame, publish_frames}
-use Rattle.amqp_session.specs.Commands.{open_drawn, close_target, drop_target, flow_target, queue_secret, update_secret, too_long, unless_too_long, queue_send, send_target, body_limit, queue_publish, publish_target, command, command_rule}
+use Rattle.amqp_frame.specs.Methods.{is_of_a_channel}
+use Rattle.amqp_session.specs.Commands.{command}
 use Rattle.amqp_session.specs.Ticks.{is_connected, beats, is_missed, is_heartbeat_due, missing_heartbeat, beat, asks_validity, refreshed, link_at, link_due, timed, tick}
 use Rattle.amqp_session.specs.Writing.{left_in, paid_by, pay, follow, sent, sent_among, taken}
 use Rattle.amqp_session.specs.Negotiation.{grown_capacity}
 use Rattle.amqp_session.specs.Parts.{is_opening_frame, capacity_after}
 use Rattle.amqp_session.proofs.Heard.{start-case, secure-case, secret-case}
+use Rattle.amqp_session.proofs.Walk as walk
+use Rattle.amqp_session.proofs.Walk.{ChannelRows, PassedRows, CommandRows, misplaced-keeps, misread-keeps, channel-method-keeps, raw-keeps, command-keeps}
 use Rattle.amqp_types.proofs.Small.{if_case, if_by, if-true, if-false, and-false, and-true}
 use Rattle.amqp_session.proofs.Recovering.{lose-by, lose-keeps, recovers-open}
 
@@ -171,9 +165,31 @@ keeps-off octets t t' same off = record { committed = λ now. absurd (true≢fal
 keeps-lose : (e : ErrorKind) (t : Talk) → Keeps t.capacity t (lose e t)
 keeps-lose e t = keeps-off t.capacity t (lose e t) (lose-keeps (λ (x : Talk). x.capacity) e t (λ delay. refl) refl) (off-lost e t)
 
-keeps-give_to : (promise : Option ℕ) (answer : Result AnyAnswer ErrorKind) (octets : ℕ) (t u : Talk) → Keeps octets t u → Keeps octets t (give_to promise answer u)
-keeps-give_to None answer octets t u k = k
-keeps-give_to (Some n) answer octets t u k = record { committed = k.committed; capacity = k.capacity; link = k.link }
+-- what a rule may change where it keeps all that
+abbrev Held : Type 0
+Held = Link ErrorKind × List Mark × ℕ
+
+abbrev held_of : Talk → Held
+held_of t = (t.link, t.committed, t.capacity)
+
+-- a rule that leaves the link, the committed frames and the capacity as they are
+keeps-same-held : (octets : ℕ) (t u v : Talk) → held_of v ≡ held_of u → Keeps octets t u → Keeps octets t v
+keeps-same-held octets t u v same h =
+    let link : v.link ≡ u.link = ap (λ (x : Held). x.0) same in
+    record {
+      committed = λ now. ap (λ (x : Held). x.1) same ∙ h.committed (ap is_open_link (sym link) ∙ now);
+      capacity = ap (λ (x : Held). x.2) same ∙ h.capacity;
+      link = link-then t u v h.link (inl link);
+    }
+
+-- a rule by which the link is lost
+keeps-lost : (octets : ℕ) (t : Talk) (e : ErrorKind) (u : Talk) → Keeps octets t u → Keeps octets t (lose e u)
+keeps-lost octets t e u h =
+    record {
+      committed = λ now. absurd (true≢false (sym now ∙ (off-lost e u).opened));
+      capacity = lose-keeps (λ (x : Talk). x.capacity) e u (λ delay. refl) refl ∙ h.capacity;
+      link = link-then t u (lose e u) h.link (inr (off-lost e u));
+    }
 
 keeps-close : (octets : ℕ) (t u : Talk) → Keeps octets t u → Keeps octets t (close u)
 keeps-close octets t u k = keeps-off octets t (close u) k.capacity (off-over t (close u) refl)
@@ -183,8 +199,7 @@ keeps-close octets t u k = keeps-off octets t (close u) k.capacity (off-over t (
 keeps-connection-closed : (o : Option (Option ℕ)) (t : Talk) → Keeps t.capacity t (connection_closed o t)
 keeps-connection-closed None t = keeps-close t.capacity t t (keeps-none t)
 keeps-connection-closed (Some promise) t =
-    keeps-close t.capacity t _ (keeps-give_to promise (Ok Done) t.capacity t
-    (record t { outbox = without_awaited 0 ConnectionClosed t.outbox }) (record { committed = λ now. refl; capacity = refl; link = inl refl }))
+    keeps-close t.capacity t (give_to promise (Ok Done) (record t { outbox = without_awaited 0 ConnectionClosed t.outbox })) (keeps-same-held t.capacity t t _ refl (keeps-none t))
 
 keeps-secret-taken : (o : Option (Option ℕ)) (t : Talk) → Keeps t.capacity t (secret_taken o t)
 keeps-secret-taken None t = keeps-lose (InvalidConnectionState Connected) t
@@ -235,59 +250,22 @@ keeps-connection Connected p UpdateSecretOk answers t = keeps-secret-taken (awai
 keeps-connection held p m answers t = keeps-lose (InvalidConnectionState held) t
 
 keeps-misplaced : (e : ErrorKind) (t : Talk) → Keeps t.capacity t (misplaced e t)
-keeps-misplaced e t = if_case (Keeps t.capacity t) (is_closing t.state) t (lose e t) (keeps-none t) (keeps-lose e t)
+keeps-misplaced e t = misplaced-keeps (Keeps t.capacity t) (keeps-lost t.capacity t) e t (keeps-none t)
 
-keeps-unawaited : (n : ℕ) (s : ChannelState) (m : AnyMethod) (t : Talk) → Keeps t.capacity t (unawaited_channel_method n s m t)
-keeps-unawaited n channel.Closing m t = keeps-none t
-keeps-unawaited n _ m t = keeps-lose (unawaited m n) t
+keeps-channels : (octets : ℕ) (t : Talk) → ChannelRows (Keeps octets t)
+keeps-channels octets t = record {
+  lost = keeps-lost octets t;
+  opened = λ n c promise u is. keeps-same-held octets t u _ refl;
+  closed = λ n promise u is. keeps-same-held octets t u _ refl;
+  removed = λ n u. keeps-same-held octets t u _ refl;
+  flow = λ n c active u. keeps-same-held octets t u _ refl;
+  flowed = λ n c active promise u is. keeps-same-held octets t u _ refl;
+  server_closed = λ n e c u. keeps-same-held octets t u _ refl;
+  crossed = λ n e c u. keeps-same-held octets t u _ refl;
+}
 
-keeps-opened : (n : ℕ) (c : Channel) (o : Option (Option ℕ)) (t : Talk) → Keeps t.capacity t (channel_opened n c o t)
-keeps-opened n c None t = keeps-unawaited n c.state ChannelOpenOk t
-keeps-opened n c (Some promise) t = keeps-give_to promise _ t.capacity t _ (record { committed = λ now. refl; capacity = refl; link = inl refl })
-
-keeps-owed : (d : Debt) (n octets : ℕ) (t u : Talk) → Keeps octets t u → Keeps octets t (remove_unless_owed d n u)
-keeps-owed debt.Owed n octets t u k = k
-keeps-owed _ n octets t u k = record { committed = k.committed; capacity = k.capacity; link = k.link }
-
-keeps-closed : (n : ℕ) (c : Channel) (o : Option (Option ℕ)) (t : Talk) → Keeps t.capacity t (channel_closed n c o t)
-keeps-closed n c None t = keeps-unawaited n c.state ChannelCloseOk t
-keeps-closed n c (Some promise) t = keeps-owed c.debt n t.capacity t _ (record { committed = λ now. refl; capacity = refl; link = inl refl })
-
-keeps-flow : (s : ChannelState) (n : ℕ) (c : Channel) (active : Bool) (t : Talk) → Keeps t.capacity t (on_channel_flow s n c active t)
-keeps-flow channel.Closing n c active t = keeps-none t
-keeps-flow _ n c active t = record { committed = λ now. refl; capacity = refl; link = inl refl }
-
-keeps-flowed : (n : ℕ) (c : Channel) (active : Bool) (o : Option (Option ℕ)) (t : Talk) → Keeps t.capacity t (channel_flowed n c active o t)
-keeps-flowed n c active None t = keeps-unawaited n c.state (ChannelFlowOk active) t
-keeps-flowed n c active (Some promise) t = keeps-give_to promise _ t.capacity t _ (record { committed = λ now. refl; capacity = refl; link = inl refl })
-
-keeps-server-close : (d : Debt) (awaits : Bool) (n : ℕ) (e : ErrorKind) (c : Channel) (t : Talk) → Keeps t.capacity t (channel_close_by d awaits n e c t)
-keeps-server-close debt.Nothing false n e c t = record { committed = λ now. refl; capacity = refl; link = inl refl }
-keeps-server-close debt.Nothing true n e c t = record { committed = λ now. refl; capacity = refl; link = inl refl }
-keeps-server-close _ awaits n e c t = keeps-none t
-
-keeps-channel : (s : ConnectionState) (n : ℕ) (c : Channel) (m : AnyMethod) (t : Talk) → Keeps t.capacity t (channel_rule s n c m t)
-keeps-channel Closing n c m t = keeps-none t
-keeps-channel _ n c ChannelOpenOk t = keeps-opened n c (awaited_promise n ChannelOpened t.outbox) t
-keeps-channel _ n c ChannelCloseOk t = keeps-closed n c (awaited_promise n ChannelClosed t.outbox) t
-keeps-channel _ n c (ChannelClose code text class method) t = keeps-server-close c.debt (awaits_close_ok n t) n (channel_closed_with code text) c t
-keeps-channel _ n c (ChannelFlow active) t = keeps-flow c.state n c active t
-keeps-channel _ n c (ChannelFlowOk active) t = keeps-flowed n c active (awaited_promise n FlowDone t.outbox) t
-keeps-channel _ n c m t = keeps-unawaited n c.state m t
-
-keeps-channel-by : (o : Option Channel) (n : ℕ) (m : AnyMethod) (t : Talk) → Keeps t.capacity t (channel_method_by o n m t)
-keeps-channel-by None n m t = keeps-misplaced (InvalidChannel n) t
-keeps-channel-by (Some c) n m t = keeps-channel t.state n c m t
-
-keeps-pass : (n : ℕ) (c : Channel) (kind : RawKind) (bytes : List ℕ) (t : Talk) → Keeps t.capacity t (pass_through n c kind bytes t)
-keeps-pass n c kind bytes t =
-    if_case (λ (x : Talk). Keeps t.capacity t (hand_out c.opened (record { channel = n; kind = kind; bytes = bytes }) x)) (is_select_ok kind bytes) (confirmed n c t) t
-    (record { committed = λ now. refl; capacity = refl; link = inl refl })
-    (record { committed = λ now. refl; capacity = refl; link = inl refl })
-
-keeps-raw : (o : Option Channel) (n : ℕ) (kind : RawKind) (bytes : List ℕ) (t : Talk) → Keeps t.capacity t (raw_by o n kind bytes t)
-keeps-raw None n kind bytes t = keeps-misplaced (InvalidChannel n) t
-keeps-raw (Some c) n kind bytes t = keeps-pass n c kind bytes t
+keeps-passed : (octets : ℕ) (t : Talk) → PassedRows (Keeps octets t)
+keeps-passed octets t = record { confirms = λ n c u. keeps-same-held octets t u _ refl; hands = λ opened h u. keeps-same-held octets t u _ refl }
 
 -- a method of the channel class leaves the capacity as it is
 channel-capacity : (m : AnyMethod) (s : ConnectionState) (p : Phase) (t : Talk) → is_of_a_channel m ≡ true → capacity_by m s p t ≡ t.capacity
@@ -306,16 +284,15 @@ keeps-method : (n : ℕ) (m : AnyMethod) (answers : List ProviderAnswer) (t : Ta
 keeps-method zero m answers t =
     if_by (Keeps (capacity_by m t.state t.phase t) t) (is_of_a_channel m) (misplaced (stray_channel_frame RawMethod) t) (connection_rule t.state t.phase m answers t)
     (λ h. keeps-same _ t.capacity t _ (channel-capacity m t.state t.phase t h) (keeps-misplaced (stray_channel_frame RawMethod) t)) (λ h. keeps-connection t.state t.phase m answers t)
-keeps-method (suc n) m answers t =
-    if_case (Keeps t.capacity t) (is_of_a_channel m) (channel_method (suc n) m t) (misplaced (stray_connection_method (suc n)) t)
-    (keeps-channel-by (heard_on t.state (channel_at (suc n) t)) (suc n) m t) (keeps-misplaced (stray_connection_method (suc n)) t)
+keeps-method (suc n) m answers t = channel-method-keeps (Keeps t.capacity t) (keeps-channels t.capacity t) (suc n) m t (keeps-none t)
 
 keeps-rule : (f : Frame) (answers : List ProviderAnswer) (t : Talk) → Keeps (acted_capacity f t) t (frame_rule f answers t)
 keeps-rule (ProtocolHeader version) answers t = keeps-lose (InvalidProtocolVersion version) t
 keeps-rule Heartbeat answers t = keeps-none t
 keeps-rule (Method n m) answers t = keeps-method n m answers t
 keeps-rule (Raw zero kind bytes) answers t = keeps-misplaced (stray_channel_frame kind) t
-keeps-rule (Raw (suc n) kind bytes) answers t = keeps-raw (heard_on t.state (channel_at (suc n) t)) (suc n) kind bytes t
+keeps-rule (Raw (suc n) kind bytes) answers t =
+    raw-keeps (Keeps t.capacity t) (keeps-lost t.capacity t) (keeps-passed t.capacity t) (suc n) kind bytes t (keeps-none t)
 
 keeps-closed-rule : (f : Frame) (t : Talk) → Keeps t.capacity t (closed_rule f t)
 keeps-closed-rule (Method zero (Blocked reason)) t = record { committed = λ now. refl; capacity = refl; link = inl refl }
@@ -355,17 +332,6 @@ beats-connected t due = is-connected t.state (both-left (is_connected t.state) _
     both-left true b h = refl
     both-left false b h = absurd cc
 
-keeps-refreshed : (said : Result (List ℕ) (List ℕ)) (t x : Talk) → Keeps t.capacity t x → Keeps t.capacity t (refreshed said x)
-keeps-refreshed (Ok secret) t x before = record { committed = before.committed; capacity = before.capacity; link = before.link }
-keeps-refreshed (Err text) t x before = record { committed = before.committed; capacity = before.capacity; link = before.link }
-
-keeps-beat : (t : Talk) → Keeps t.capacity t (beat t)
-keeps-beat t =
-    let x : Talk = missing_heartbeat t in
-    let before : Keeps t.capacity t x = if_case (Keeps t.capacity t) (is_missed t) (lose MissingHeartbeatError t) t (keeps-lose MissingHeartbeatError t) (keeps-none t) in
-    if_case (Keeps t.capacity t) (is_heartbeat_due x) (record (queue 0 Heartbeat x) { last_write = x.present }) x
-    (record { committed = before.committed; capacity = before.capacity; link = before.link }) before
-
 -- a secret is asked for only while the connection is open
 pub asks-connected : (t : Talk) → asks_validity t ≡ true → t.state ≡ Connected
 asks-connected t asks = by t.state asks
@@ -373,11 +339,6 @@ asks-connected t asks = by t.state asks
     by : (s : ConnectionState) → (is_connected s && not t.refreshing) ≡ true → s ≡ Connected
     by Connected h = refl
     by _ h = cc
-
-keeps-timed : (answers : List ProviderAnswer) (t : Talk) → Keeps t.capacity t (timed answers t)
-keeps-timed answers t =
-    let before : Keeps t.capacity t (beat t) = keeps-beat t in
-    secret-case (Keeps t.capacity t) answers (beat t) before (λ asks said. keeps-refreshed said t (beat t) before)
 
 -- a link that is due is neither open nor asked for, before and then
 due-link : (t : Talk) → LinkKept t (link_due t)
@@ -399,13 +360,19 @@ due-link t = by t.link refl
 
 -- time commits nothing
 pub keeps-tick : (answers : List ProviderAnswer) (t : Talk) → Keeps t.capacity t (tick answers t)
-keeps-tick answers t =
-    let x : Talk = timed answers t in
-    let k : Keeps t.capacity t x = keeps-timed answers t in
-    record {
-      committed = λ now. k.committed (kept-open x (link_due x) (due-link x) now);
-      capacity = k.capacity;
-      link = link-then t x (link_due x) k.link (due-link x);
+keeps-tick answers t = walk.tick-keeps (Keeps t.capacity t) rows answers t (keeps-none t)
+  where
+    rows : walk.TickRows (Keeps t.capacity t)
+    rows = record {
+      lost = keeps-lost t.capacity t;
+      beats = λ u. keeps-same-held t.capacity t u _ refl;
+      refreshes = λ secret u. keeps-same-held t.capacity t u _ refl;
+      retains = λ text u. keeps-same-held t.capacity t u _ refl;
+      wants = λ u h. record {
+        committed = λ now. h.committed (kept-open u (link_due u) (due-link u) now);
+        capacity = h.capacity;
+        link = link-then t u (link_due u) h.link (due-link u);
+      };
     }
 
 -- a frame that is read commits nothing, while the link stays open
@@ -415,9 +382,7 @@ frame-committed f answers at t now = (keeps-frame f answers (present_at at t)).c
 
 pub keeps-misread : (why : Misread) (t : Talk) → Keeps t.capacity t (misread why t)
 keeps-misread why t =
-    if_case (Keeps t.capacity t) (acts t) (lose (misread_error why) t) (if is_open t then record t { input = dropped t.input } else t)
-    (keeps-lose (misread_error why) t)
-    (if_case (Keeps t.capacity t) (is_open t) (record t { input = dropped t.input }) t (record { committed = λ now. refl; capacity = refl; link = inl refl }) (keeps-none t))
+    misread-keeps (Keeps t.capacity t) (keeps-lost t.capacity t) (λ u. keeps-same-held t.capacity t u _ refl) why t (keeps-none t)
 
 pub misread-committed : (why : Misread) (at : ℕ) (t : Talk) → is_open (misread why (present_at at t)) ≡ true → (misread why (present_at at t)).committed ≡ t.committed
 misread-committed why at t now = (keeps-misread why (present_at at t)).committed now ∙ present-keeps (λ x. x.committed) at t (λ n. refl)
@@ -433,68 +398,38 @@ pub record Stays (t t' : Talk) : Type 0 where
   pub input : t'.input ≡ t.input
   pub server_close : t'.server_close ≡ t.server_close
 
-stays-refuse : (e : ErrorKind) (t : Talk) → Stays t (refuse e t)
-stays-refuse e t = record { link = refl; committed = refl; configuration = refl; capacity = refl; input = refl; server_close = refl }
+-- what a command leaves as it is
+abbrev Staying : Type 0
+Staying = Link ErrorKind × List Mark × Configuration × ℕ × Input × Option ServerClose
 
-stays-drawn : (o : Option ℕ) (first : ℕ) (t : Talk) → Stays t (open_drawn o first t)
-stays-drawn None first t = record { link = refl; committed = refl; configuration = refl; capacity = refl; input = refl; server_close = refl }
-stays-drawn (Some n) first t = record { link = refl; committed = refl; configuration = refl; capacity = refl; input = refl; server_close = refl }
+abbrev staying : Talk → Staying
+staying t = (t.link, t.committed, t.configuration, t.capacity, t.input, t.server_close)
 
-stays-close : (r : Result Channel ErrorKind) (n code : ℕ) (text : List ℕ) (t : Talk) → Stays t (close_target r n code text t)
-stays-close (Err e) n code text t = stays-refuse e t
-stays-close (Ok c) n code text t = record { link = refl; committed = refl; configuration = refl; capacity = refl; input = refl; server_close = refl }
-
-stays-flow : (r : Result Channel ErrorKind) (n : ℕ) (active : Bool) (t : Talk) → Stays t (flow_target r n active t)
-stays-flow (Err e) n active t = stays-refuse e t
-stays-flow (Ok c) n active t = record { link = refl; committed = refl; configuration = refl; capacity = refl; input = refl; server_close = refl }
-
-stays-drop : (r : Result Channel ErrorKind) (n : ℕ) (t : Talk) → Stays t (drop_target r n t)
-stays-drop (Err e) n t = record { link = refl; committed = refl; configuration = refl; capacity = refl; input = refl; server_close = refl }
-stays-drop (Ok c) n t = record { link = refl; committed = refl; configuration = refl; capacity = refl; input = refl; server_close = refl }
-
-stays-unless : (o : Option Frame) (rule : Talk → Talk) (t : Talk) → Stays t (rule t) → Stays t (unless_too_long o rule t)
-stays-unless None rule t s = s
-stays-unless (Some frame) rule t s = stays-refuse _ t
-
-stays-send : (r : Result Channel ErrorKind) (n : ℕ) (m : OtherMethod) (t : Talk) → Stays t (send_target r n m t)
-stays-send (Err e) n m t = stays-refuse e t
-stays-send (Ok c) n m t =
-    let frame = method_frame n m in
-    stays-unless (too_long (frame ∷ []) t) (queue_send n frame) t
-    (record { link = refl; committed = refl; configuration = refl; capacity = refl; input = refl; server_close = refl })
-
-stays-update-secret : (secret reason : List ℕ) (t : Talk) → Stays t (update_secret secret reason t)
-stays-update-secret secret reason t =
-    let frame = new_secret secret reason in
-    stays-unless (too_long (frame ∷ []) t) (queue_secret frame) t
-    (record { link = refl; committed = refl; configuration = refl; capacity = refl; input = refl; server_close = refl })
-
-stays-publish : (r : Result Channel ErrorKind) (n : ℕ) (m : OtherMethod) (properties body : List ℕ) (t : Talk)
-    → Stays t (publish_target r n m properties body t)
-stays-publish (Err e) n m properties body t = stays-refuse e t
-stays-publish (Ok c) n m properties body t =
-    let frames = publish_frames n m properties body (body_limit t) in
-    stays-unless (too_long frames t) (queue_publish n frames) t
-    (record { link = refl; committed = refl; configuration = refl; capacity = refl; input = refl; server_close = refl })
-
-stays-rule : (s : ConnectionState) (c : Cmd) (t : Talk) → Stays t (command_rule s c t)
-stays-rule Connected OpenChannel t = stays-drawn _ _ t
-stays-rule Connected (CloseChannel r code text) t = stays-close _ r.id code text t
-stays-rule Connected (CloseConnection code text) t = record { link = refl; committed = refl; configuration = refl; capacity = refl; input = refl; server_close = refl }
-stays-rule Connected (UpdateSecret secret reason) t = stays-update-secret secret reason t
-stays-rule Connected (Send r method) t = stays-send _ r.id method t
-stays-rule Connected (Publish r method properties body) t = stays-publish _ r.id method properties body t
-stays-rule Connected (Flow r active) t = stays-flow _ r.id active t
-stays-rule Connected (DropChannel r) t = stays-drop _ r.id t
-stays-rule Connected DropConnection t = record { link = refl; committed = refl; configuration = refl; capacity = refl; input = refl; server_close = refl }
-stays-rule Connected Listen t = record { link = refl; committed = refl; configuration = refl; capacity = refl; input = refl; server_close = refl }
-stays-rule _ (DropChannel r) t = record { link = refl; committed = refl; configuration = refl; capacity = refl; input = refl; server_close = refl }
-stays-rule _ DropConnection t = record { link = refl; committed = refl; configuration = refl; capacity = refl; input = refl; server_close = refl }
-stays-rule _ Listen t = record { link = refl; committed = refl; configuration = refl; capacity = refl; input = refl; server_close = refl }
-stays-rule _ c t = stays-refuse _ t
+told : (s : Staying) → CommandRows (λ (u : Talk). staying u ≡ s)
+told s = record {
+  refuses = λ e u h. h;
+  promises = λ u h. h;
+  opens = λ n u h. h;
+  opens_none = λ first u h. h;
+  leaves_channel = λ n code text c answers u h. h;
+  sends = λ n m u h. h;
+  publishes = λ n m properties body u h. h;
+  flows = λ n active u h. h;
+  tells_secret = λ secret reason u h. h;
+  listens = λ u h. h;
+}
 
 pub stays-command : (c : Cmd) (t : Talk) → Stays t (command c t)
-stays-command c t = stays-rule t.state c t
+stays-command c t =
+    let same : staying (command c t) ≡ staying t = command-keeps (λ (u : Talk). staying u ≡ staying t) (told (staying t)) (λ code text answers u h. h) c t refl in
+    record {
+      link = ap (λ (s : Staying). s.0) same;
+      committed = ap (λ (s : Staying). s.1) same;
+      configuration = ap (λ (s : Staying). s.2) same;
+      capacity = ap (λ (s : Staying). s.3) same;
+      input = ap (λ (s : Staying). s.4) same;
+      server_close = ap (λ (s : Staying). s.5) same;
+    }
 
 -- ---- ends
 

@@ -4,51 +4,40 @@ use Rattle.std.proofs.lemmas.Bool.Decides.{nat_tests}
 use Rattle.std.proofs.lemmas.List.Elements.{All-nil, All-cons, All-contains}
 use Rattle.amqp_frame.specs.declared.frame.Frame.{Frame}
 use Rattle.amqp_frame.specs.declared.frame.Frame.TheVariants.{ProtocolHeader, Method, Raw, Heartbeat}
-use Rattle.amqp_frame.specs.declared.frame.RawKind.{RawKind}
 use Rattle.amqp_frame.specs.declared.frame.RawKind.TheVariants.{RawMethod}
 use Rattle.amqp_frame.specs.declared.method.Method.{Method as AnyMethod}
-use Rattle.amqp_frame.specs.declared.method.Method.TheVariants.{Start, Secure, Tune, OpenOk, Close, CloseOk, Blocked, Unblocked, UpdateSecretOk, ChannelOpenOk, ChannelClose, ChannelCloseOk, ChannelFlow, ChannelFlowOk}
-use Rattle.amqp_frame.specs.RawMethods.{OtherMethod}
+use Rattle.amqp_frame.specs.declared.method.Method.TheVariants.{Start, Secure, Tune, OpenOk, Close, CloseOk, Blocked, Unblocked, UpdateSecretOk}
 use Rattle.amqp_outbox.specs.declared.item.Item.{Item}
-use Rattle.amqp_outbox.specs.declared.reply.Reply.TheVariants.{ChannelOpened, ChannelClosed, FlowDone, SecretDone, ConnectionClosed}
+use Rattle.amqp_outbox.specs.declared.reply.Reply.TheVariants.{SecretDone, ConnectionClosed}
 use Rattle.amqp_outbox.specs.Queued.{awaited_promise}
-use Rattle.amqp_session.specs.declared.channels.Channel.{Channel}
-use Rattle.amqp_session.specs.declared.channels.Debt.{Debt}
-use Rattle.amqp_session.specs.declared.channels.Debt.TheVariants as debt
 use Rattle.amqp_promise.specs.declared.state.ConnectionState.{ConnectionState}
 use Rattle.amqp_promise.specs.declared.state.ConnectionState.TheVariants.{Connecting, Connected, Closing}
-use Rattle.amqp_promise.specs.declared.state.ChannelState.{ChannelState}
-use Rattle.amqp_promise.specs.declared.state.ChannelState.TheVariants as channel
 use Rattle.amqp_session.specs.declared.state.Phase.{Phase}
 use Rattle.amqp_session.specs.declared.state.Phase.TheVariants.{AwaitStart, AwaitTune, AwaitOpenOk}
 use Rattle.amqp_session.specs.declared.command.Cmd.{Cmd}
-use Rattle.amqp_session.specs.declared.command.Cmd.TheVariants.{OpenChannel, CloseChannel, CloseConnection, UpdateSecret, Send, Publish, Flow, DropChannel, DropConnection, Listen}
 use Rattle.amqp_session.specs.declared.misread.Misread.{Misread}
 use Rattle.amqp_promise.specs.declared.error.ErrorKind.{ErrorKind}
-use Rattle.amqp_promise.specs.declared.error.ErrorKind.TheVariants.{InvalidChannel, InvalidConnectionState, NoMemory, MissingHeartbeatError}
+use Rattle.amqp_promise.specs.declared.error.ErrorKind.TheVariants.{InvalidConnectionState, NoMemory, MissingHeartbeatError}
 use Rattle.amqp_session.specs.declared.auth.asked.Question.{Question}
 use Rattle.amqp_session.specs.declared.auth.asked.Question.TheVariants as question
 use Rattle.amqp_session.specs.declared.auth.asked.Asked.{Asked}
 use Rattle.amqp_session.specs.declared.auth.asked.Asked.TheVariants as answer
 use Rattle.amqp_session.specs.declared.event.Event.{Event}
-use Rattle.amqp_session.specs.Talk.{Talk, has_ended, end_of, is_open, is_asked, is_closing, acts, hears_on}
-use Rattle.amqp_session.specs.Channels.{channel_at}
+use Rattle.amqp_session.specs.Talk.{Talk, has_ended, end_of, is_open, is_asked, acts, hears_on}
 use Rattle.amqp_session.specs.Changes.{queue, lose, misplaced, fail}
-use Rattle.amqp_session.specs.Links.{dropped, linked, misread}
-use Rattle.amqp_session.specs.Handshake.{new_secret}
-use Rattle.amqp_session.specs.Violations.{channel_closed_with, misread_error, stray_channel_frame, stray_connection_method, unawaited}
+use Rattle.amqp_session.specs.Links.{linked, misread}
+use Rattle.amqp_session.specs.Violations.{stray_channel_frame}
 use Rattle.amqp_session.specs.ConnectionMethods.{connected, connection_rule, connection_closed, secret_taken, started, challenged}
-use Rattle.amqp_session.specs.ChannelMethods.{heard_on, unawaited_channel_method, channel_opened, channel_closed, channel_flowed, channel_close_by, awaits_close_ok, remove_unless_owed, on_channel_flow, channel_rule, channel_method_by, channel_method, confirmed, is_select_ok, raw_by}
-use Rattle.amqp_frame.specs.Methods.{is_of_a_channel}
 use Rattle.amqp_session.specs.Frames.{method_rule, frame_rule, closed_rule, on_frame}
-use Rattle.amqp_session.specs.Publishing.{method_frame, publish_frames}
-use Rattle.amqp_session.specs.Commands.{open_drawn, close_target, drop_target, flow_target, queue_secret, update_secret, too_long, unless_too_long, queue_send, send_target, body_limit, queue_publish, publish_target, command_rule}
+use Rattle.amqp_frame.specs.Methods.{is_of_a_channel}
+use Rattle.amqp_session.specs.Commands.{command}
 use Rattle.amqp_session.specs.Ticks.{is_connected, is_missed, is_heartbeat_due, missing_heartbeat, beat, asks_validity, has_expired, refresh, validity_told, tick, refresh_questions, secret_questions, tick_questions}
 use Rattle.amqp_session.specs.Writing.{next_within, committed_as, commit, overlong, end_overlong, next_frame}
 use Rattle.amqp_session.specs.Answers.{answer_of, end_event, without_event}
 use Rattle.amqp_session.specs.Parts.{awaits_open_ok}
 use Rattle.amqp_session.specs.Secrets.{HasExpired, is_refresh, renews, refuses, IsSameSecret, IsSameOrNew, KeepsSecret}
 use Rattle.amqp_session.proofs.Heard.{start-case, secure-case}
+use Rattle.amqp_session.proofs.Walk.{ChannelRows, CommandRows, misplaced-keeps, misread-keeps, channel-method-keeps, raw-keeps, command-keeps}
 use Rattle.amqp_session.proofs.Keeping.{present-keeps, loss-keeps, lost-keeps, failed-keeps, taken-keeps}
 use Rattle.amqp_types.proofs.Small.{if_case, if_by, if-false}
 use Rattle.amqp_session.proofs.Recovering.{lose-case, reopened-keeps}
@@ -104,54 +93,23 @@ connection-secret Connecting AwaitOpenOk OpenOk answers t = reopened-keeps (λ (
 connection-secret Connected p UpdateSecretOk answers t = secret-taken (awaited_promise 0 SecretDone t.outbox) t
 connection-secret held p m answers t = lose-secret (InvalidConnectionState held) t
 
+then-lost : (t : Talk) (e : ErrorKind) (u : Talk) → IsSameSecret t u → IsSameSecret t (lose e u)
+then-lost t e u h = lose-secret e u ∙ h
+
+on-channels : (t : Talk) → ChannelRows (IsSameSecret t)
+on-channels t = record {
+  lost = then-lost t;
+  opened = λ n c promise u is h. h;
+  closed = λ n promise u is h. h;
+  removed = λ n u h. h;
+  flow = λ n c active u h. h;
+  flowed = λ n c active promise u is h. h;
+  server_closed = λ n e c u h. h;
+  crossed = λ n e c u h. h;
+}
+
 misplaced-secret : (e : ErrorKind) (t : Talk) → IsSameSecret t (misplaced e t)
-misplaced-secret e t = if_case (IsSameSecret t) (is_closing t.state) t (lose e t) refl (lose-secret e t)
-
-unawaited-secret : (n : ℕ) (s : ChannelState) (m : AnyMethod) (t : Talk) → IsSameSecret t (unawaited_channel_method n s m t)
-unawaited-secret n channel.Closing m t = refl
-unawaited-secret n _ m t = lose-secret (unawaited m n) t
-
-opened-secret : (n : ℕ) (c : Channel) (o : Option (Option ℕ)) (t : Talk) → IsSameSecret t (channel_opened n c o t)
-opened-secret n c None t = unawaited-secret n c.state ChannelOpenOk t
-opened-secret n c (Some promise) t = refl
-
-owed-secret : (d : Debt) (n : ℕ) (t u : Talk) → IsSameSecret t u → IsSameSecret t (remove_unless_owed d n u)
-owed-secret debt.Owed n t u same = same
-owed-secret _ n t u same = same
-
-closed-secret : (n : ℕ) (c : Channel) (o : Option (Option ℕ)) (t : Talk) → IsSameSecret t (channel_closed n c o t)
-closed-secret n c None t = unawaited-secret n c.state ChannelCloseOk t
-closed-secret n c (Some promise) t = owed-secret c.debt n t _ refl
-
-flow-secret : (s : ChannelState) (n : ℕ) (c : Channel) (active : Bool) (t : Talk) → IsSameSecret t (on_channel_flow s n c active t)
-flow-secret channel.Closing n c active t = refl
-flow-secret _ n c active t = refl
-
-flowed-secret : (n : ℕ) (c : Channel) (active : Bool) (o : Option (Option ℕ)) (t : Talk) → IsSameSecret t (channel_flowed n c active o t)
-flowed-secret n c active None t = unawaited-secret n c.state (ChannelFlowOk active) t
-flowed-secret n c active (Some promise) t = refl
-
-server-close-secret : (d : Debt) (awaits : Bool) (n : ℕ) (e : ErrorKind) (c : Channel) (t : Talk) → IsSameSecret t (channel_close_by d awaits n e c t)
-server-close-secret debt.Nothing false n e c t = refl
-server-close-secret debt.Nothing true n e c t = refl
-server-close-secret _ awaits n e c t = refl
-
-channel-secret : (s : ConnectionState) (n : ℕ) (c : Channel) (m : AnyMethod) (t : Talk) → IsSameSecret t (channel_rule s n c m t)
-channel-secret Closing n c m t = refl
-channel-secret _ n c ChannelOpenOk t = opened-secret n c (awaited_promise n ChannelOpened t.outbox) t
-channel-secret _ n c ChannelCloseOk t = closed-secret n c (awaited_promise n ChannelClosed t.outbox) t
-channel-secret _ n c (ChannelClose code text class method) t = server-close-secret c.debt (awaits_close_ok n t) n (channel_closed_with code text) c t
-channel-secret _ n c (ChannelFlow active) t = flow-secret c.state n c active t
-channel-secret _ n c (ChannelFlowOk active) t = flowed-secret n c active (awaited_promise n FlowDone t.outbox) t
-channel-secret _ n c m t = unawaited-secret n c.state m t
-
-channel-by-secret : (o : Option Channel) (n : ℕ) (m : AnyMethod) (t : Talk) → IsSameSecret t (channel_method_by o n m t)
-channel-by-secret None n m t = misplaced-secret (InvalidChannel n) t
-channel-by-secret (Some c) n m t = channel-secret t.state n c m t
-
-raw-secret : (o : Option Channel) (n : ℕ) (kind : RawKind) (bytes : List ℕ) (t : Talk) → IsSameSecret t (raw_by o n kind bytes t)
-raw-secret None n kind bytes t = misplaced-secret (InvalidChannel n) t
-raw-secret (Some c) n kind bytes t = if_case (IsSameSecret t) (is_select_ok kind bytes) (confirmed n c t) t refl refl
+misplaced-secret e t = misplaced-keeps (IsSameSecret t) (then-lost t) e t refl
 
 -- a method of the channel class makes no secret valid
 channel-renews : (m : AnyMethod) (s : ConnectionState) (p : Phase) (t : Talk) → is_of_a_channel m ≡ true → renews_by m s p t ≡ false
@@ -169,16 +127,15 @@ method-secret zero m answers t =
     (λ h. secret-same (renews_by m t.state t.phase t) t (misplaced (stray_channel_frame RawMethod) t) (channel-renews m t.state t.phase t h) (misplaced-secret (stray_channel_frame RawMethod) t))
     (λ h. connection-secret t.state t.phase m answers t) in
     by ∙ ap (λ (b : Bool). if b then t.present else t.secret_at) (renews-method m t)
-method-secret (suc n) m answers t =
-    if_case (IsSameSecret t) (is_of_a_channel m) (channel_method (suc n) m t) (misplaced (stray_connection_method (suc n)) t)
-    (channel-by-secret (heard_on t.state (channel_at (suc n) t)) (suc n) m t) (misplaced-secret (stray_connection_method (suc n)) t)
+method-secret (suc n) m answers t = channel-method-keeps (IsSameSecret t) (on-channels t) (suc n) m t refl
 
 rule-secret : (f : Frame) (answers : List Asked) (t : Talk) → IsSecretBy (renews f t) t (frame_rule f answers t)
 rule-secret (ProtocolHeader version) answers t = refl
 rule-secret Heartbeat answers t = refl
 rule-secret (Method n m) answers t = method-secret n m answers t
 rule-secret (Raw zero kind bytes) answers t = misplaced-secret (stray_channel_frame kind) t
-rule-secret (Raw (suc n) kind bytes) answers t = raw-secret (heard_on t.state (channel_at (suc n) t)) (suc n) kind bytes t
+rule-secret (Raw (suc n) kind bytes) answers t =
+    raw-keeps (IsSameSecret t) (then-lost t) (record { confirms = λ m c u h. h; hands = λ opened x u h. h }) (suc n) kind bytes t refl
 
 closed-rule-secret : (f : Frame) (t : Talk) → IsSameSecret t (closed_rule f t)
 closed-rule-secret (Method zero (Blocked reason)) t = refl
@@ -223,58 +180,22 @@ tick-secret answers t =
 
 -- ---- commands
 
-drawn-secret : (o : Option ℕ) (first : ℕ) (t : Talk) → IsSameSecret t (open_drawn o first t)
-drawn-secret None first t = refl
-drawn-secret (Some n) first t = refl
+told : (t : Talk) → CommandRows (IsSameSecret t)
+told t = record {
+  refuses = λ e u h. h;
+  promises = λ u h. h;
+  opens = λ n u h. h;
+  opens_none = λ first u h. h;
+  leaves_channel = λ n code text c answers u h. h;
+  sends = λ n m u h. h;
+  publishes = λ n m properties body u h. h;
+  flows = λ n active u h. h;
+  tells_secret = λ secret reason u h. h;
+  listens = λ u h. h;
+}
 
-close-secret : (r : Result Channel ErrorKind) (n code : ℕ) (text : List ℕ) (t : Talk) → IsSameSecret t (close_target r n code text t)
-close-secret (Err e) n code text t = refl
-close-secret (Ok c) n code text t = refl
-
-flow-target-secret : (r : Result Channel ErrorKind) (n : ℕ) (active : Bool) (t : Talk) → IsSameSecret t (flow_target r n active t)
-flow-target-secret (Err e) n active t = refl
-flow-target-secret (Ok c) n active t = refl
-
-drop-secret : (r : Result Channel ErrorKind) (n : ℕ) (t : Talk) → IsSameSecret t (drop_target r n t)
-drop-secret (Err e) n t = refl
-drop-secret (Ok c) n t = refl
-
-unless-secret : (o : Option Frame) (rule : Talk → Talk) (t : Talk) → IsSameSecret t (rule t) → IsSameSecret t (unless_too_long o rule t)
-unless-secret None rule t same = same
-unless-secret (Some frame) rule t same = refl
-
-send-secret : (r : Result Channel ErrorKind) (n : ℕ) (m : OtherMethod) (t : Talk) → IsSameSecret t (send_target r n m t)
-send-secret (Err e) n m t = refl
-send-secret (Ok c) n m t =
-    let frame = method_frame n m in
-    unless-secret (too_long (frame ∷ []) t) (queue_send n frame) t refl
-
-update-secret : (secret reason : List ℕ) (t : Talk) → IsSameSecret t (update_secret secret reason t)
-update-secret secret reason t =
-    let frame = new_secret secret reason in
-    unless-secret (too_long (frame ∷ []) t) (queue_secret frame) t refl
-
-publish-secret : (r : Result Channel ErrorKind) (n : ℕ) (m : OtherMethod) (properties body : List ℕ) (t : Talk) → IsSameSecret t (publish_target r n m properties body t)
-publish-secret (Err e) n m properties body t = refl
-publish-secret (Ok c) n m properties body t =
-    let frames = publish_frames n m properties body (body_limit t) in
-    unless-secret (too_long frames t) (queue_publish n frames) t refl
-
-command-secret : (s : ConnectionState) (c : Cmd) (t : Talk) → IsSameSecret t (command_rule s c t)
-command-secret Connected OpenChannel t = drawn-secret _ _ t
-command-secret Connected (CloseChannel r code text) t = close-secret _ r.id code text t
-command-secret Connected (CloseConnection code text) t = refl
-command-secret Connected (UpdateSecret secret reason) t = update-secret secret reason t
-command-secret Connected (Send r method) t = send-secret _ r.id method t
-command-secret Connected (Publish r method properties body) t = publish-secret _ r.id method properties body t
-command-secret Connected (Flow r active) t = flow-target-secret _ r.id active t
-command-secret Connected (DropChannel r) t = drop-secret _ r.id t
-command-secret Connected DropConnection t = refl
-command-secret Connected Listen t = refl
-command-secret _ (DropChannel r) t = refl
-command-secret _ DropConnection t = refl
-command-secret _ Listen t = refl
-command-secret _ c t = refl
+command-secret : (c : Cmd) (t : Talk) → IsSameSecret t (command c t)
+command-secret c t = command-keeps (IsSameSecret t) (told t) (λ code text answers u h. h) c t refl
 
 -- ---- what else happens
 
@@ -290,9 +211,7 @@ next-secret : (space : ℕ) (t : Talk) → IsSameSecret t (next_frame space t)
 next-secret space t = overlong-secret (overlong t) (commit space t) ∙ committed-secret (next_within space t) t
 
 misread-secret : (why : Misread) (t : Talk) → IsSameSecret t (misread why t)
-misread-secret why t =
-    if_case (IsSameSecret t) (acts t) (lose (misread_error why) t) (if is_open t then record t { input = dropped t.input } else t) (lose-secret (misread_error why) t)
-    (if_case (IsSameSecret t) (is_open t) (record t { input = dropped t.input }) t refl refl)
+misread-secret why t = misread-keeps (IsSameSecret t) (then-lost t) (λ u h. h) why t refl
 
 linked-secret : (t : Talk) → IsSameSecret t (linked t)
 linked-secret t = if_case (IsSameSecret t) (is_asked t) _ t refl refl
@@ -316,7 +235,7 @@ keeps-secret t = record {
   next_frame = λ space. next-secret space t;
   taken = λ n. taken-keeps (λ (x : Talk). x.secret_at) (record { ends = λ x s l cs ps b q ms n o ns. refl; writes = λ x w ms. refl; moments = λ x n. refl }) n t;
   starve = if_case (IsSameSecret t) (has_ended t) t (fail NoMemory t) refl refl;
-  command = λ cmd. command-secret t.state cmd t;
+  command = λ cmd. command-secret cmd t;
   answer = λ number. if_case (IsSameSecret t) (is_some (answer_of number t)) _ t refl refl;
   event = event-secret t.noted.events (end_event t.noted.tells_end (end_of t)) t;
   frames = λ opened. refl;
