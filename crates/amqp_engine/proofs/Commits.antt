@@ -10,7 +10,7 @@ use Rattle.amqp_session.specs.Writing as writing
 use Rattle.amqp_session.specs.Writing.{flows, frames_waiting, mark_of}
 use Rattle.amqp_session.proofs.Finishing.{next-first}
 use Rattle.amqp_engine.specs.Engine.{Engine, commit_one, committed_with_bytes, commits, fitting_next}
-use Rattle.amqp_engine.specs.Play.{waiting}
+use Rattle.amqp_engine.specs.Play.{offers_waiting}
 
 -- where no frame fits, nothing more is committed
 pub commits-rest : (n : ℕ) (e : Engine) → fitting_next e ≡ None → commits n e ≡ e
@@ -87,7 +87,7 @@ some-fits None h = absurd cc
 some-fits (Some item) h = (item, refl)
 
 -- a committed frame was the first of those that waited
-waiting-with_frame : (o : Option Item) (e : Engine) → fitting_next e ≡ o → waiting (with_frame o e) ≤ waiting e
+waiting-with_frame : (o : Option Item) (e : Engine) → fitting_next e ≡ o → offers_waiting (with_frame o e) ≤ offers_waiting e
 waiting-with_frame None e h = omega arith
 waiting-with_frame (Some f) e h =
     let q' : Queued = after_next (flows e.talk) e.talk.outbox in
@@ -95,7 +95,7 @@ waiting-with_frame (Some f) e h =
     ap length (next-first (e.talk.capacity - length e.unsent) e.talk f h) in
     omega (arith, waits)
 
-pub waiting-commits : (n : ℕ) (e : Engine) → waiting (commits n e) ≤ waiting e
+pub waiting-commits : (n : ℕ) (e : Engine) → offers_waiting (commits n e) ≤ offers_waiting e
 waiting-commits zero e = omega arith
 waiting-commits (suc n) e =
-    omega (arith, waiting-commits n (commit_one e), waiting-with_frame (fitting_next e) e refl, ap waiting (commit_one-is e))
+    omega (arith, waiting-commits n (commit_one e), waiting-with_frame (fitting_next e) e refl, ap offers_waiting (commit_one-is e))

@@ -26,7 +26,7 @@ use Rattle.amqp_engine.specs.declared.port.Wrote.TheVariants.{Took}
 use Rattle.amqp_engine.specs.Log.{Log, log_write}
 use Rattle.amqp_engine.specs.Engine.{Engine, fitting_next, committed_with_bytes, commits, commit_all, overlong_next, can_write, refuse_overlong, took}
 use Rattle.amqp_engine.specs.Turn.{Notes, Progress, write_answers, goes, offered, offer_part, closing, is_all, drained}
-use Rattle.amqp_engine.specs.Play.{no_notes, answer_noted, played_writes, waiting}
+use Rattle.amqp_engine.specs.Play.{no_notes, answer_noted, played_writes, offers_waiting}
 use Rattle.amqp_engine.proofs.Settling.{settle-talk}
 use Rattle.amqp_engine.proofs.Overlong.{closed-refuses}
 use Rattle.amqp_engine.proofs.Draining.{IsFree, free-answer}
@@ -153,9 +153,9 @@ module _ (options : Options) (p : Progress) (bye : Goodbye options p) (h : Leave
 
 -- the turn ends the session
 pub farewell : (options : Options) (p : Progress) (a : Log) → Goodbye options p → IsFree a.plan → IsOver p.engine.talk ⊎ Leaves p.engine.talk
-    → IsOver (drained (write_answers (played_writes (waiting p.engine) p a)) p).engine.talk
-farewell options p a bye free (inl over) = over-drained (waiting p.engine) p a over
+    → IsOver (drained (write_answers (played_writes (offers_waiting p.engine) p a)) p).engine.talk
+farewell options p a bye free (inl over) = over-drained (offers_waiting p.engine) p a over
 farewell options p a bye free (inr leaves) =
     let E : ℕ → Type 0 = λ n. Ends (played_writes n p a) p in
-    let some : waiting p.engine ≡ suc (min 1 (length p.engine.unsent)) = (let one = one-waits options p bye leaves in omega (arith, one)) in
+    let some : offers_waiting p.engine ≡ suc (min 1 (length p.engine.unsent)) = (let one = one-waits options p bye leaves in omega (arith, one)) in
     subst E (sym some) (leaves-drained options p bye leaves (min 1 (length p.engine.unsent)) a free)

@@ -24,7 +24,7 @@ use Rattle.amqp_engine.specs.Turn.{Notes, write_answers, Progress, goes, offer_p
 use Rattle.amqp_engine.specs.Making.{making, Reaches, Writes}
 use Rattle.amqp_types.specs.Counts.{Rose}
 use Rattle.amqp_engine.specs.Tell.{port_answer, offers_from, log_offers, PlaysOffers, TellsOffers}
-use Rattle.amqp_engine.specs.Play.{waiting, answer_noted, no_notes}
+use Rattle.amqp_engine.specs.Play.{offers_waiting, answer_noted, no_notes}
 use Rattle.amqp_types.proofs.Small.{if_case, if-true, if-false, and-false}
 use Rattle.amqp_engine.proofs.Cases.{is_before-Reaches, is_before-cut, some-unsent, rose-between}
 use Rattle.amqp_session.proofs.Keeping.{present-keeps, pay-keeps}
@@ -78,7 +78,7 @@ took-waits at k e =
 
 -- where all was taken, fewer writes may come
 pub waiting-wrote : (at : ℕ) (w : Wrote) (e : Engine) → 0 < length (offered e)
-    → is_all w (length (offered e)) ≡ true → waiting (answered at w e) < waiting e
+    → is_all w (length (offered e)) ≡ true → offers_waiting (answered at w e) < offers_waiting e
 waiting-wrote at (Took k) e some all =
     let same : k ≡ length (offered e) = grind (arith, nat_tests) in
     let waits : frames_waiting (answered at (Took k) e).talk ≤ frames_waiting (commit_all e).talk = took-waits at k (commit_all e) in

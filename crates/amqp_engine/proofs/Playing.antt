@@ -17,7 +17,7 @@ use Rattle.amqp_engine.specs.Engine.{Engine, can_write, overlong_next, commit_al
 use Rattle.amqp_session.specs.Writing.{frames_waiting}
 use Rattle.amqp_engine.specs.Turn.{is_before, Progress, Notes, Turn, write_answers, asks, wants_ask, goes, offer_part, offered, is_all, AreAnswers, read, after_writes, turn, turns, starved_after, IsCut, IsAnswered, IsTurn, AreTurns, AreTold, exchanges, cut_of}
 use Rattle.amqp_engine.specs.Tell.{Offer, port_answer, offers_from, offers_of, turn_of, log_asks, log_stepped, log_offers, log_turn, log_turns, PlaysOffers, PlaysTurn, PlaysTurns, MayCome, RunsLent}
-use Rattle.amqp_engine.specs.Play.{waiting, room_of, fails_of, played_answer, played_writes, played_step, told_turn, played_turn_of, played_turn, played_turns, no_notes, answer_noted, AreAnswered, IsPlayed}
+use Rattle.amqp_engine.specs.Play.{offers_waiting, room_of, fails_of, played_answer, played_writes, played_step, told_turn, played_turn_of, played_turn, played_turns, no_notes, answer_noted, AreAnswered, IsPlayed}
 use Rattle.amqp_engine.proofs.Answering.{answer-size, answered-all}
 use Rattle.amqp_engine.proofs.FirstAnswers.{Alike, with_answers, read_with, read-first}
 use Rattle.amqp_engine.proofs.Over.{turn-is}
@@ -55,7 +55,7 @@ planned-turn : (u : Turn) (e : Engine) (a : Log) → is_some (log_turn u e a).pl
 planned-turn u e a = planned-offers (offers_of u (asks e)) (log_stepped u e a) ∙ planned-stepped u e a
 
 -- a write that is due can come
-due-waiting : (e : Engine) → can_write e ≡ true → 0 < waiting e
+due-waiting : (e : Engine) → can_write e ≡ true → 0 < offers_waiting e
 due-waiting e h =
     let some = some-unsent (is_open e.talk) (not e.talk.blocked) (not (is_some (overlong_next e))) (length (commit_all e).unsent) h in
     omega (arith, waiting-commits (frames_waiting e.talk) e)
@@ -101,7 +101,7 @@ due-answer n w p a can is =
 
 -- what is noted of the writes is determined
 writes-played : (ks : List ℕ) (failed : Bool) (n : ℕ) (p : Progress) (a : Log) → p.cut ≡ None → is_some a.plan ≡ true
-    → AreAnswers (write_answers (whole_notes ks failed)) p → PlaysOffers (offers_from (write_answers (whole_notes ks failed)) p) a → waiting p.engine ≤ n
+    → AreAnswers (write_answers (whole_notes ks failed)) p → PlaysOffers (offers_from (write_answers (whole_notes ks failed)) p) a → offers_waiting p.engine ≤ n
     → whole_notes ks failed ≡ played_writes n p a
 writes-played [] false zero p a cut planned h plays le = refl
 writes-played [] false (suc n) p a cut planned h plays le =
@@ -173,12 +173,12 @@ turn-played u e a more may plays whole planned =
     ap (λ (x : Option ℕ). read_with u.at x u.step u.bytes all (asks e)) (sym whole)
     ∙ read-first u.at u.notes.starved u.step u.bytes auths all (asks e) alike in
     let cut : p.cut ≡ None = read-cut u (asks e) ∙ whole in
-    let notes : whole_notes u.notes.tooks u.notes.failed ≡ played_writes (waiting p.engine) p b =
-    writes-played u.notes.tooks u.notes.failed (waiting p.engine) p b cut (planned-stepped u e a ∙ planned) may.applied.answers plays.1 (omega arith) in
+    let notes : whole_notes u.notes.tooks u.notes.failed ≡ played_writes (offers_waiting p.engine) p b =
+    writes-played u.notes.tooks u.notes.failed (offers_waiting p.engine) p b cut (planned-stepped u e a ∙ planned) may.applied.answers plays.1 (omega arith) in
     ap (λ (x : Option ℕ). turn_of u.at u.step u.bytes (record u.notes { starved = x })) whole
-    ∙ ap (λ (m : Notes). turn_of u.at u.step u.bytes (record m { auths = auths })) (notes ∙ sym (played-any (waiting p.engine) (drop n all) p b))
-    ∙ ap (λ (xs : List Asked). turn_of u.at u.step u.bytes (record (played_writes (waiting p.engine) (with_answers (drop n all) p) b) { auths = xs })) first
-    ∙ ap (λ (x : Progress). turn_of u.at u.step u.bytes (record (played_writes (waiting x.engine) x b) { auths = take (length x.questions) all })) (sym same)
+    ∙ ap (λ (m : Notes). turn_of u.at u.step u.bytes (record m { auths = auths })) (notes ∙ sym (played-any (offers_waiting p.engine) (drop n all) p b))
+    ∙ ap (λ (xs : List Asked). turn_of u.at u.step u.bytes (record (played_writes (offers_waiting p.engine) (with_answers (drop n all) p) b) { auths = xs })) first
+    ∙ ap (λ (x : Progress). turn_of u.at u.step u.bytes (record (played_writes (offers_waiting x.engine) x b) { auths = take (length x.questions) all })) (sym same)
     ∙ sym (ap (λ (h : Coming). played_turn_of h all e a) (step-played (log_asks e a).plan _ (planned-asks e a ∙ planned) plays.0))
 
 -- a turn that was cut is the last
@@ -315,7 +315,7 @@ due-failed : (n : ℕ) (p : Progress) (a : Log) → p.cut ≡ None → can_write
 due-failed n p a cut can fails =
     record { may = (and-true (goes p) (can_write p.engine) (goes-on p cut) can, tt, refl); plays = (plans-failure a.plan (length (offered p.engine)) fails, tt) }
 
-due-played : (n : ℕ) (p : Progress) (a : Log) → p.cut ≡ None → waiting p.engine ≤ n → Due (write_answers (played_writes n p a)) p a
+due-played : (n : ℕ) (p : Progress) (a : Log) → p.cut ≡ None → offers_waiting p.engine ≤ n → Due (write_answers (played_writes n p a)) p a
 due-played zero p a cut le = by (can_write p.engine) refl where
   by : (b : Bool) → can_write p.engine ≡ b → Due [] p a
   by true h = absurd (omega (arith, due-waiting p.engine h))
@@ -374,7 +374,7 @@ played-reads answers e a =
     let q = played_read answers e a in
     let n = length q.questions in
     let b = log_stepped u e a in
-    ap (λ (x : Option ℕ). read_with u.at x u.step u.bytes u.notes.auths (asks e)) (whole-played (waiting q.engine) q b)
+    ap (λ (x : Option ℕ). read_with u.at x u.step u.bytes u.notes.auths (asks e)) (whole-played (offers_waiting q.engine) q b)
     ∙ read-first u.at None u.step u.bytes answers u.notes.auths (asks e) (sym (take-take n n answers (omega arith)))
 
 -- its writes are those that are due
@@ -384,7 +384,7 @@ played-due answers e a =
     let u = played_turn answers e a in
     let q = played_read answers e a in
     let b = log_stepped u e a in
-    let n = waiting q.engine in
+    let n = offers_waiting q.engine in
     let left = drop (length q.questions) u.notes.auths in
     let r = with_answers left q in
     let N : Notes → Type 0 = λ m. Due (write_answers m) r b in
@@ -397,7 +397,7 @@ played-is-turn : (answers : List Asked) (e : Engine) (a : Log) → has_ended e.t
 played-is-turn answers e a running asked =
     let u = played_turn answers e a in
     let q = played_read answers e a in
-    let whole : u.notes.starved ≡ None = whole-played (waiting q.engine) q (log_stepped u e a) in
+    let whole : u.notes.starved ≡ None = whole-played (offers_waiting q.engine) q (log_stepped u e a) in
     let C : Option ℕ → Type 0 = λ x. IsCut x (after_writes u (asks e)).done in
     record {
       running = running;

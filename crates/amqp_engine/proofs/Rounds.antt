@@ -29,7 +29,7 @@ use Rattle.amqp_engine.specs.declared.port.Wrote.{Wrote}
 use Rattle.amqp_engine.specs.Turn.{Turn, Progress, write_answers, asks, begun, part, questioned, step_part, reads, read, after_writes, drained, turn, turns, starved_after, is_piece}
 use Rattle.amqp_engine.specs.Tell.{log_stepped}
 use Rattle.amqp_engine.specs.Sending.{Sending, frames, step_sending, turn_sending, sendings, offers_sending}
-use Rattle.amqp_engine.specs.Play.{waiting, played_writes, played_turn_of}
+use Rattle.amqp_engine.specs.Play.{offers_waiting, played_writes, played_turn_of}
 use Rattle.amqp_engine.specs.Exchange.{said_of}
 use Rattle.amqp_engine.specs.Valid.{SpelledFrame, LinkSaying, Theirs, Ours, AreSpelled, IsQuiet, IsShort, after_sayings, whole_in, later_than, begun_in, all_bytes, said_frame, sayings_of, last_piece}
 use Rattle.amqp_engine.proofs.Over.{turn-is}
@@ -92,16 +92,16 @@ module _ (t : Talk) (options : Options) (before : List Turn) (u : Turn) (e : Eng
 
   -- from what was read on
   pub rounds : (s : Server) → has_ended e.talk ≡ false → u.notes.starved ≡ None → p.at ≤ u.at
-      → write_answers u.notes ≡ write_answers (played_writes (waiting p.engine) p a) → IsFree a.plan
+      → write_answers u.notes ≡ write_answers (played_writes (offers_waiting p.engine) p a) → IsFree a.plan
       → step_sending u.step (asks e) ss ≡ x ∷ [] → turns before (begin t) ≡ e → sendings t before ≡ ss
       → IsSound p.engine.talk → IsClear p.engine → x.sent ≡ length x.committed → IsMet s p.engine.talk
       → Modest options p.engine.talk → IsClock u.at last p.engine.talk → Tuned (frames x.committed) s p.engine.talk
       → Rounded t options before u e ss s p.engine.unread
   rounds s running whole early notes free linked leads only sound clear all met modest clock tuned =
       let unread = p.engine.unread in
-      let played = write_answers (played_writes (waiting p.engine) p a) in
+      let played = write_answers (played_writes (offers_waiting p.engine) p a) in
       let W : List Wrote → Type 0 = λ zs. IsWritten options u.at last unread p (drained zs p) s zs [] x in
-      let d = subst W (sym notes) (is-written options u.at last unread [] (waiting p.engine) p a s x early free sound (modest, clock, tuned, refl) clear all met) in
+      let d = subst W (sym notes) (is-written options u.at last unread [] (offers_waiting p.engine) p a s x early free sound (modest, clock, tuned, refl) clear all met) in
       let after : turn u e ≡ (drained (write_answers u.notes) p).engine = whole-turn u e running whole in
       let items = said_in (write_answers u.notes) p in
       let server : Server = said_all items s in
@@ -411,9 +411,9 @@ module _ (t : Talk) (options : Options) (agreed : ℕ) (before : List Turn) (mom
           let none : all_bytes gs ≡ [] = none-of (all_bytes gs) (omega (arith, came, sum, parts)) in
           let b = log_stepped u e a in
           let P : Engine → Type 0 = λ y. IsOver y.talk in
-          let over : IsOver (drained (write_answers (played_writes (waiting q.engine) q b)) q).engine.talk =
+          let over : IsOver (drained (write_answers (played_writes (offers_waiting q.engine) q b)) q).engine.talk =
           farewell options q b gone.2 (on-free gs b.plan (on-stepped u e g gs a on)) gone.3 in
-          let E : Progress → Type 0 = λ y. IsOver (drained (write_answers (played_writes (waiting y.engine) y b)) y).engine.talk in
+          let E : Progress → Type 0 = λ y. IsOver (drained (write_answers (played_writes (offers_waiting y.engine) y b)) y).engine.talk in
           let N : List Wrote → Type 0 = λ ws. IsOver (drained ws (read u (asks e))).engine.talk in
           inr (tail none, subst P (sym (whole-turn u e running whole)) (subst N (sym (writes-of (coming_of g) answers e a)) (subst E (sym is) over)))
 

@@ -23,7 +23,7 @@ use Rattle.amqp_engine.specs.Engine.{Engine, commit_all, overlong_next, took}
 use Rattle.amqp_engine.specs.Turn.{Progress, write_answers, asks, read, drained}
 use Rattle.amqp_engine.specs.Tell.{log_stepped}
 use Rattle.amqp_engine.specs.Sending.{Sending, committed_before, frames, offer_sending}
-use Rattle.amqp_engine.specs.Play.{waiting, played_writes, told_turn, played_turn_of}
+use Rattle.amqp_engine.specs.Play.{offers_waiting, played_writes, told_turn, played_turn_of}
 use Rattle.amqp_engine.proofs.Commits.{commits-keep}
 use Rattle.amqp_engine.proofs.FirstAnswers.{with_answers, read_with, read-first}
 use Rattle.amqp_engine.proofs.Playing.{played-any, whole-played}
@@ -47,20 +47,20 @@ reads-of c answers e a =
     let u = played_turn_of c answers e a in
     let q = read (told_turn c answers) (asks e) in
     let n = length q.questions in
-    ap (λ (x : Option ℕ). read_with u.at x u.step u.bytes u.notes.auths (asks e)) (whole-played (waiting q.engine) q (log_stepped u e a))
+    ap (λ (x : Option ℕ). read_with u.at x u.step u.bytes u.notes.auths (asks e)) (whole-played (offers_waiting q.engine) q (log_stepped u e a))
     ∙ read-first u.at None u.step u.bytes answers u.notes.auths (asks e) (sym (take-take n n answers (omega arith)))
 
 -- its writes are those that are played from there
 pub writes-of : (c : Coming) (answers : List Asked) (e : Engine) (a : Log)
     → write_answers (played_turn_of c answers e a).notes
     ≡ write_answers
-    (played_writes (waiting (read (played_turn_of c answers e a) (asks e)).engine) (read (played_turn_of c answers e a) (asks e)) (log_stepped (played_turn_of c answers e a) e a))
+    (played_writes (offers_waiting (read (played_turn_of c answers e a) (asks e)).engine) (read (played_turn_of c answers e a) (asks e)) (log_stepped (played_turn_of c answers e a) e a))
 writes-of c answers e a =
     let u = played_turn_of c answers e a in
     let q = read (told_turn c answers) (asks e) in
     let b = log_stepped u e a in
-    ap write_answers (sym (played-any (waiting q.engine) (drop (length q.questions) u.notes.auths) q b))
-    ∙ ap (λ (x : Progress). write_answers (played_writes (waiting x.engine) x b)) (sym (reads-of c answers e a))
+    ap write_answers (sym (played-any (offers_waiting q.engine) (drop (length q.questions) u.notes.auths) q b))
+    ∙ ap (λ (x : Progress). write_answers (played_writes (offers_waiting x.engine) x b)) (sym (reads-of c answers e a))
 
 -- ---- what holds while it is written
 

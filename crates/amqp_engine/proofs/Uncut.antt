@@ -8,7 +8,7 @@ use Rattle.amqp_engine.specs.Log.{Log}
 use Rattle.amqp_engine.specs.Engine.{Engine}
 use Rattle.amqp_engine.specs.Tell.{log_stepped, log_turn}
 use Rattle.amqp_engine.specs.Turn.{Turn, asks, read, turn, turns}
-use Rattle.amqp_engine.specs.Play.{waiting, told_turn, played_turn_of, played_turn, played_turns, AreAnswered}
+use Rattle.amqp_engine.specs.Play.{offers_waiting, told_turn, played_turn_of, played_turn, played_turns, AreAnswered}
 use Rattle.amqp_engine.proofs.Playing.{whole-played}
 
 -- memory is not refused
@@ -16,7 +16,7 @@ pub played-uncut : (c : Coming) (answers : List Asked) (e : Engine) (a : Log) â†
 played-uncut c answers e a =
     let u = told_turn c answers in
     let p = read u (asks e) in
-    whole-played (waiting p.engine) p (log_stepped u e a)
+    whole-played (offers_waiting p.engine) p (log_stepped u e a)
 
 -- ---- once the session has ended
 

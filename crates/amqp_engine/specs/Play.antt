@@ -32,8 +32,8 @@ abbrev pub played_answer : Engine → Log → Wrote
 played_answer e a = if fails_of a.plan then Failed else Took (room_of a.plan (length (offered e)))
 
 -- how many offers may still come: one for each frame that waits, and one for what is unsent
-abbrev pub waiting : Engine → ℕ
-waiting e = frames_waiting e.talk + min 1 (length e.unsent)
+abbrev pub offers_waiting : Engine → ℕ
+offers_waiting e = frames_waiting e.talk + min 1 (length e.unsent)
 
 -- nothing is noted of a turn
 abbrev pub no_notes : Notes
@@ -71,7 +71,7 @@ told_turn h answers = turn_of h.at h.step h.bytes (record no_notes { auths = ans
 abbrev pub played_notes : Turn → Engine → Log → Notes
 played_notes u e a =
     let before = read u (asks e) in
-    record (played_writes (waiting before.engine) before (log_stepped u e a)) {
+    record (played_writes (offers_waiting before.engine) before (log_stepped u e a)) {
       auths = take (length before.questions) u.notes.auths;
     }
 

@@ -13,7 +13,8 @@ ghost use Rattle.amqp_frame.specs.Sequences.{Stand, SequenceEnd, IsSequence};
 
 /// Each spelling of a frame is read as that frame, whatever follows it.
 pub fn spelled_is_read()
-    ensures { (frame : Frame) (text rest : List ℕ) (limit : ℕ) → FrameOf frame text → IsWithinLimit limit (length text) frame
+    ensures { (frame : Frame) (text rest : List ℕ) (limit : ℕ) → FrameOf frame text
+        → IsWithinLimit limit (length text) frame
         → front (text ++ rest) limit ≡ read.Whole frame (length text) }
 {}
 

@@ -131,7 +131,7 @@ fn kind_of_header(channel: ChannelId, payload: &[u8]) -> Kind
     Kind::Header(channel, class_of(payload), size_of_body(payload))
 }
 
-// What a frame is.
+/// What a frame is.
 pub fn kind_of(frame: &Frame) -> Kind
     ensures { result ≡ frame_kind frame.now }
 {
@@ -153,7 +153,7 @@ pub fn kind_of(frame: &Frame) -> Kind
     }
 }
 
-// What leads from one turning point of the introduction to the next.
+/// What leads from one turning point of the introduction to the next.
 pub fn introduced(stage: Stage, kind: Kind) -> Option<Stage>
     ensures { result ≡ introduced_by stage kind }
 {
@@ -167,7 +167,7 @@ pub fn introduced(stage: Stage, kind: Kind) -> Option<Stage>
     }
 }
 
-// Whether a frame is our close-ok of the connection.
+/// Whether a frame is our close-ok of the connection.
 pub fn is_close_ok(kind: Kind) -> bool
     ensures { result ≡ is_our_close_ok kind }
 {

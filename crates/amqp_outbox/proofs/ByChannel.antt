@@ -12,7 +12,7 @@ use Rattle.amqp_outbox.specs.declared.reply.Reply.{Reply}
 use Rattle.amqp_outbox.specs.declared.replies.Replies.{Replies}
 use Rattle.amqp_outbox.specs.Listed.{at, put}
 use Rattle.amqp_outbox.specs.Replies.{awaited_on, left_on, expected}
-use Rattle.amqp_outbox.specs.Order.{entries_seen, seen_at, seen_first, put_seen}
+use Rattle.amqp_outbox.specs.Order.{seen, seen_at, seen_first, put_seen}
 use Rattle.amqp_outbox.specs.Parts.{some_awaited, list_seen, HasReplyPlaces}
 use Rattle.amqp_outbox.proofs.Cases.{less-from, to-greater}
 use Rattle.amqp_outbox.proofs.Maps.{without-absent}
@@ -32,45 +32,45 @@ items r = r.list.items
 
 module _ (n : ℕ) (es : List (ℕ × Replies)) (sorted : Sorted (keys_of es)) (r : Replies) (there : at n es ≡ Some r) where
   -- what is awaited on a channel that has a list
-  pub awaited-seen : awaited_on n (entries_seen list_seen es) ≡ items r
+  pub awaited-seen : awaited_on n (seen list_seen es) ≡ items r
   awaited-seen = ap (λ o. unwrap_or o []) (at-seen list_seen n es sorted ∙ ap (seen_at list_seen) there) ∙ shown (items r)
 
   -- one more is awaited
   pub expect-seen : (r' : Replies) (a : Awaited) → items r' ≡ items r ++ a ∷ []
-      → entries_seen list_seen (set_value (is_at (nat_cmp n)) es r') ≡ expected n a (entries_seen list_seen es)
+      → seen list_seen (set_value (is_at (nat_cmp n)) es r') ≡ expected n a (seen list_seen es)
   expect-seen r' a is =
       set-seen list_seen n r r' (items r ++ a ∷ []) es (ap some_awaited is ∙ some-appended (items r) a) there sorted
-      ∙ ap (λ list. put n (list ++ a ∷ []) (entries_seen list_seen es)) (sym awaited-seen)
+      ∙ ap (λ list. put n (list ++ a ∷ []) (seen list_seen es)) (sym awaited-seen)
 
   -- some are left
   left-seen : (r' : Replies) (list : List Awaited) → items r' ≡ list
-      → entries_seen list_seen (set_value (is_at (nat_cmp n)) es r') ≡ left_on n list (entries_seen list_seen es)
+      → seen list_seen (set_value (is_at (nat_cmp n)) es r') ≡ left_on n list (seen list_seen es)
   left-seen r' [] is = set-unseen list_seen n r r' es (ap some_awaited is) there sorted
   left-seen r' (a ∷ list) is = set-seen list_seen n r r' (a ∷ list) es (ap some_awaited is) there sorted
 
   -- some are taken out
   pub take-seen : (f : List Awaited → List Awaited) (r' : Replies) → items r' ≡ f (items r)
-      → entries_seen list_seen (set_value (is_at (nat_cmp n)) es r') ≡ left_on n (f (awaited_on n (entries_seen list_seen es))) (entries_seen list_seen es)
-  take-seen f r' is = left-seen r' (f (items r)) is ∙ ap (λ list. left_on n (f list) (entries_seen list_seen es)) (sym awaited-seen)
+      → seen list_seen (set_value (is_at (nat_cmp n)) es r') ≡ left_on n (f (awaited_on n (seen list_seen es))) (seen list_seen es)
+  take-seen f r' is = left-seen r' (f (items r)) is ∙ ap (λ list. left_on n (f list) (seen list_seen es)) (sym awaited-seen)
 
   -- none is taken out
-  pub keep-seen : (r' : Replies) → items r' ≡ items r → entries_seen list_seen (set_value (is_at (nat_cmp n)) es r') ≡ entries_seen list_seen es
+  pub keep-seen : (r' : Replies) → items r' ≡ items r → seen list_seen (set_value (is_at (nat_cmp n)) es r') ≡ seen list_seen es
   keep-seen r' is = set-alike list_seen n r r' es (ap some_awaited is) there
 
 -- on a channel that has no list nothing is awaited
 module _ (n : ℕ) (es : List (ℕ × Replies)) (sorted : Sorted (keys_of es)) (none : at n es ≡ None) where
-  unseen : at n (entries_seen list_seen es) ≡ None
+  unseen : at n (seen list_seen es) ≡ None
   unseen = at-seen list_seen n es sorted ∙ ap (seen_at list_seen) none
 
-  pub none-awaited : awaited_on n (entries_seen list_seen es) ≡ []
+  pub none-awaited : awaited_on n (seen list_seen es) ≡ []
   none-awaited = ap (λ o. unwrap_or o []) unseen
 
   -- and nothing is taken out
   pub none-taken-out : (f : List Awaited → List Awaited) → f [] ≡ []
-      → entries_seen list_seen es ≡ left_on n (f (awaited_on n (entries_seen list_seen es))) (entries_seen list_seen es)
+      → seen list_seen es ≡ left_on n (f (awaited_on n (seen list_seen es))) (seen list_seen es)
   none-taken-out f is =
-      sym (without-absent n (entries_seen list_seen es) unseen)
-      ∙ sym (ap (λ list. left_on n list (entries_seen list_seen es)) (ap f none-awaited ∙ is))
+      sym (without-absent n (seen list_seen es) unseen)
+      ∙ sym (ap (λ list. left_on n list (seen list_seen es)) (ap f none-awaited ∙ is))
 
 -- a list that is empty is not seen
 pub empty-seen : (n : ℕ) (es : List (ℕ × Replies)) (r : Replies) → at n es ≡ Some r → items r ≡ [] → seen_at list_seen (at n es) ≡ None
@@ -84,13 +84,13 @@ place-stays c reply es es' same (r, there, place) = (r, same ∙ there, place)
 
 -- a list that is copied is seen as it was
 pub copy-seen : (n : ℕ) (es : List (ℕ × Replies)) (r r' : Replies) → Sorted (keys_of es) → (length (items r) == 0) ≡ false → items r' ≡ items r
-    → entries_seen list_seen (put n r' es) ≡ put_seen n (list_seen r) (entries_seen list_seen es)
+    → seen list_seen (put n r' es) ≡ put_seen n (list_seen r) (seen list_seen es)
 copy-seen n es r r' sorted some same = by (items r) refl some where
-  by : (list : List Awaited) → items r ≡ list → (length list == 0) ≡ false → entries_seen list_seen (put n r' es) ≡ put_seen n (list_seen r) (entries_seen list_seen es)
+  by : (list : List Awaited) → items r ≡ list → (length list == 0) ≡ false → seen list_seen (put n r' es) ≡ put_seen n (list_seen r) (seen list_seen es)
   by [] is some = absurd cc
   by (a ∷ list) is some =
       put-seen list_seen n r' (a ∷ list) es (ap some_awaited (same ∙ is)) sorted
-      ∙ ap (λ o. put_seen n o (entries_seen list_seen es)) (sym (ap some_awaited is))
+      ∙ ap (λ o. put_seen n o (seen list_seen es)) (sym (ap some_awaited is))
 
 module _ {X : Type 0} (n : ℕ) (x : X) (rest : List (ℕ × X)) where
   above-last : (m : ℕ) (xs : List (ℕ × X)) → AllByRecursion (λ k. nat_cmp m k ≡ Less) (keys_of (xs ++ (n, x) ∷ rest)) → nat_cmp m n ≡ Less

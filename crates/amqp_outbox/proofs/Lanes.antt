@@ -11,7 +11,7 @@ use Rattle.std.proofs.lemmas.Map.Keys.{sorted_head, sorted_tail}
 use Rattle.std.proofs.lemmas.List.{map-append}
 use Rattle.amqp_outbox.specs.Lists.{head}
 use Rattle.amqp_outbox.specs.Listed.{at}
-use Rattle.amqp_outbox.specs.Order.{seen_first, held, things_waiting, has_key, numbers_under, IsHeldBelow}
+use Rattle.amqp_outbox.specs.Order.{seen_first, held, waiting, has_key, numbers_under, IsHeldBelow}
 use Rattle.amqp_outbox.proofs.Cases.{below-from, from-not-below, less-from, equal-from, greater-from}
 use Rattle.amqp_types.proofs.Small.{none-from, not-below}
 use Rattle.amqp_outbox.proofs.Seen.{Sorted}
@@ -125,10 +125,10 @@ first-waits e es x is = ap (λ o. seen_first e.0 o (held es)) is
 
 -- the first slot tells what waits first
 pub head-slot : {X : Type 0} (made : ℕ) (es : List (ℕ × Option X)) (e : ℕ × Option X) → AllByRecursion (IsHeldBelow made) es → Sorted (keys_of es)
-    → slice_get es 0 ≡ Some e → head (things_waiting es) ≡ e.1
+    → slice_get es 0 ≡ Some e → head (waiting es) ≡ e.1
 head-slot made [] e all sorted h = absurd cc
 head-slot {X} made (f ∷ es) e all sorted h = let same : f ≡ e = cc in by f.1 refl ∙ ap (λ (x : ℕ × Option X). x.1) same where
-  by : (o : Option X) → f.1 ≡ o → head (things_waiting (f ∷ es)) ≡ f.1
+  by : (o : Option X) → f.1 ≡ o → head (waiting (f ∷ es)) ≡ f.1
   by None is = ap (λ l. head (values_of l)) (none-waits made f es all sorted is) ∙ sym is
   by (Some x) is = ap (λ l. head (values_of l)) (first-waits f es x is) ∙ sym is
 

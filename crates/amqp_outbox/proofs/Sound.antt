@@ -10,7 +10,7 @@ use Rattle.std.specs.BTreeMap.{is_at}
 use Rattle.amqp_outbox.specs.declared.numbers.Queue.{Queue}
 use Rattle.amqp_outbox.specs.Lists.{head, without_first, is_the_number}
 use Rattle.amqp_outbox.specs.Listed.{at, put, without}
-use Rattle.amqp_outbox.specs.Order.{seen_at, held, things_waiting, listed, has_key, numbers_under, IsHeldBelow, IsSoundLane}
+use Rattle.amqp_outbox.specs.Order.{seen_at, held, waiting, listed, has_key, numbers_under, IsHeldBelow, IsSoundLane}
 use Rattle.amqp_outbox.proofs.Cases.{equal-from}
 use Rattle.amqp_types.proofs.Small.{not-below}
 use Rattle.amqp_outbox.proofs.Maps.{all-without}
@@ -55,7 +55,7 @@ module _ {X : Type 0} (key_of : X → Option ℕ) where
 
     module _ (v : X) (o : Option X) (es' : Slots X) (sorted : Sorted (keys_of es)) (there : at made es ≡ Some o)
         (is : es' ≡ set_value (is_at (nat_cmp made)) es (Some v)) where
-      pub waits-pushed : things_waiting es' ≡ things_waiting es ++ v ∷ []
+      pub waits-pushed : waiting es' ≡ waiting es ++ v ∷ []
       waits-pushed =
           ap values_of (ap held is ∙ held-pushed made v o es sound.0 sorted there) ∙ values-pushed (held es) made v
 
@@ -92,13 +92,13 @@ module _ {X : Type 0} (key_of : X → Option ℕ) where
       taken-below =
           all-head key_of (λ m. m < made) n (numbers_under key_of k (held es)) (all-numbers key_of (λ m. m < made) k (held es) (all-given made es sound.0)) (sym (first ∙ ap head (sound.1 k)))
 
-      pub found : seen_at (λ o. o) (at n es) ≡ find (has_key key_of k) (things_waiting es)
+      pub found : seen_at (λ o. o) (at n es) ≡ find (has_key key_of k) (waiting es)
       found = sym (at-seen (λ o. o) n es sorted) ∙ taken.there
 
       out : (es' : Slots X) → es' ≡ without n es → held es' ≡ without n (held es)
       out es' is = ap held is ∙ without-seen (λ o. o) n es sorted
 
-      pub waits-without : (es' : Slots X) → es' ≡ without n es → things_waiting es' ≡ without_first (has_key key_of k) (things_waiting es)
+      pub waits-without : (es' : Slots X) → es' ≡ without n es → waiting es' ≡ without_first (has_key key_of k) (waiting es)
       waits-without es' is = ap values_of (out es' is) ∙ taken.rest
 
       pub sound-without : (es' : Slots X) (ls' : Lists) → es' ≡ without n es
@@ -112,8 +112,8 @@ module _ {X : Type 0} (key_of : X → Option ℕ) where
 
     -- where a key has no number, nothing of it waits
     module _ (k : ℕ) (none : None ≡ head (listed k ls)) where
-      pub none-found : find (has_key key_of k) (things_waiting es) ≡ None
+      pub none-found : find (has_key key_of k) (waiting es) ≡ None
       none-found = none-taken key_of k (held es) (sym (none ∙ ap head (sound.1 k)))
 
-      pub none-out : without_first (has_key key_of k) (things_waiting es) ≡ things_waiting es
-      none-out = none-left_out (has_key key_of k) (things_waiting es) none-found
+      pub none-out : without_first (has_key key_of k) (waiting es) ≡ waiting es
+      none-out = none-left_out (has_key key_of k) (waiting es) none-found

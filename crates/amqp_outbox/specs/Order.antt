@@ -13,9 +13,9 @@ seen_first n None entries = entries
 seen_first n (Some x) entries = (n, x) ∷ entries
 
 -- the entries whose values are seen, as what is seen of them
-abbrev pub entries_seen : {X Y : Type 0} → (Y → Option X) → List (ℕ × Y) → List (ℕ × X)
-entries_seen f [] = []
-entries_seen f (e ∷ es) = seen_first e.0 (f e.1) (entries_seen f es)
+abbrev pub seen : {X Y : Type 0} → (Y → Option X) → List (ℕ × Y) → List (ℕ × X)
+seen f [] = []
+seen f (e ∷ es) = seen_first e.0 (f e.1) (seen f es)
 
 -- what is seen of an entry, where there is one
 abbrev pub seen_at : {X Y : Type 0} → (Y → Option X) → Option Y → Option X
@@ -31,11 +31,11 @@ put_seen n (Some x) entries = put n x entries
 
 -- the things that wait, by their numbers: a place that is made for one is none
 abbrev pub held : {X : Type 0} → List (ℕ × Option X) → List (ℕ × X)
-held slots = entries_seen (λ o. o) slots
+held slots = seen (λ o. o) slots
 
 -- the things that wait, in order
-abbrev pub things_waiting : {X : Type 0} → List (ℕ × Option X) → List X
-things_waiting slots = values_of (held slots)
+abbrev pub waiting : {X : Type 0} → List (ℕ × Option X) → List X
+waiting slots = values_of (held slots)
 
 -- a thing has this key
 abbrev pub has_key : {X : Type 0} → (X → Option ℕ) → ℕ → X → Bool
@@ -44,7 +44,8 @@ has_key key_of k x = is_the_number k (key_of x)
 -- the numbers of the things of a key, in order
 abbrev pub numbers_under : {X : Type 0} → (X → Option ℕ) → ℕ → List (ℕ × X) → List ℕ
 numbers_under key_of k [] = []
-numbers_under key_of k (e ∷ es) = if has_key key_of k e.1 then e.0 ∷ numbers_under key_of k es else numbers_under key_of k es
+numbers_under key_of k (e ∷ es) =
+    if has_key key_of k e.1 then e.0 ∷ numbers_under key_of k es else numbers_under key_of k es
 
 -- ---- the numbers by key
 

@@ -9,7 +9,7 @@ use Rattle.amqp_outbox.specs.declared.outbox.Outbox.{Outbox}
 use Rattle.amqp_outbox.specs.Listed.{at}
 use Rattle.amqp_outbox.specs.Items.{octets_of, channel_of}
 use Rattle.amqp_outbox.specs.Queued.{Queued, waiting_items, unsent_octets}
-use Rattle.amqp_outbox.specs.Order.{entries_seen, things_waiting, HasPlaces}
+use Rattle.amqp_outbox.specs.Order.{seen, waiting, HasPlaces}
 
 -- awaited replies, where there is one
 abbrev pub some_awaited : List Awaited → Option (List Awaited)
@@ -34,10 +34,10 @@ HasReplyPlaces channel reply lists = (r : Replies) × (at channel lists ≡ Some
 abbrev pub queued : Outbox → Queued
 queued o =
     record {
-      control = things_waiting o.control.slots.entries;
-      publish = things_waiting o.publish.slots.entries;
+      control = waiting o.control.slots.entries;
+      publish = waiting o.publish.slots.entries;
       begun = o.begun.items;
-      awaited = entries_seen list_seen o.awaiting.lists.entries;
+      awaited = seen list_seen o.awaiting.lists.entries;
     }
 
 -- so many frames more, of so many bytes in all, leave the number of frames that wait, and that of their bytes, within

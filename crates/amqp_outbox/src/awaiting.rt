@@ -4,7 +4,7 @@ ghost use Rattle.std.specs.Prelude.{◌≡◌, ◌≢◌, ℕ, [], IfOk, IfNone,
 ghost use Rattle.amqp_outbox.specs.declared.reply.Reply.{Reply};
 ghost use Rattle.amqp_outbox.specs.Listed.{at, Ascends};
 ghost use Rattle.amqp_outbox.specs.Replies.{expected, first_awaited, left_awaited, first_on, without_first_on};
-ghost use Rattle.amqp_outbox.specs.Order.{entries_seen, seen_at, put_seen};
+ghost use Rattle.amqp_outbox.specs.Order.{seen, seen_at, put_seen};
 ghost use Rattle.amqp_outbox.specs.Parts.{list_seen, HasReplyPlaces};
 
 use crate::replies::Replies;
@@ -23,7 +23,7 @@ pub struct Awaiting {
 impl Awaiting {
     /// No reply is awaited.
     pub fn new(alloc: Global) -> Awaiting
-        ensures { entries_seen list_seen result.lists.entries ≡ [] }
+        ensures { seen list_seen result.lists.entries ≡ [] }
     {
         Awaiting {
             alloc,
@@ -33,7 +33,7 @@ impl Awaiting {
 
     /// Makes a place for one reply more on a channel.
     pub fn reserve(&mut self, channel: ChannelId, reply: Reply) -> Result<(), NoMemory>
-        ensures same { entries_seen list_seen self.new.lists.entries ≡ entries_seen list_seen self.old.lists.entries }
+        ensures same { seen list_seen self.new.lists.entries ≡ seen list_seen self.old.lists.entries }
         ensures place { OnOk result (HasReplyPlaces channel reply self.new.lists.entries) }
         ensures others { (c : ℕ) (r : Reply) → c ≢ channel
             → HasReplyPlaces c r self.old.lists.entries → HasReplyPlaces c r self.new.lists.entries }
@@ -51,8 +51,8 @@ impl Awaiting {
     /// One more reply is awaited on a channel, where it has its place.
     pub fn expect_reserved(&mut self, channel: ChannelId, awaited: Awaited)
         requires { HasReplyPlaces channel awaited.reply self.old.lists.entries }
-        ensures expected { entries_seen list_seen self.new.lists.entries
-            ≡ expected channel awaited (entries_seen list_seen self.old.lists.entries) }
+        ensures expected { seen list_seen self.new.lists.entries
+            ≡ expected channel awaited (seen list_seen self.old.lists.entries) }
         ensures others { (c : ℕ) (r : Reply) → c ≢ channel
             → HasReplyPlaces c r self.old.lists.entries → HasReplyPlaces c r self.new.lists.entries }
     {
@@ -63,10 +63,10 @@ impl Awaiting {
 
     /// Takes out the first that awaits this reply on this channel.
     pub fn answered(&mut self, channel: ChannelId, reply: Reply) -> Option<Awaited>
-        ensures first { result ≡ first_awaited channel reply (entries_seen list_seen self.old.lists.entries) }
-        ensures rest { entries_seen list_seen self.new.lists.entries
-            ≡ left_awaited channel reply (entries_seen list_seen self.old.lists.entries) }
-        ensures none { IfNone result (entries_seen list_seen self.new.lists.entries ≡ entries_seen list_seen self.old.lists.entries) }
+        ensures first { result ≡ first_awaited channel reply (seen list_seen self.old.lists.entries) }
+        ensures rest { seen list_seen self.new.lists.entries
+            ≡ left_awaited channel reply (seen list_seen self.old.lists.entries) }
+        ensures none { IfNone result (seen list_seen self.new.lists.entries ≡ seen list_seen self.old.lists.entries) }
     {
         let found = self.take(channel, reply);
         self.tidy(channel);
@@ -74,10 +74,10 @@ impl Awaiting {
     }
 
     fn take(&mut self, channel: ChannelId, reply: Reply) -> Option<Awaited>
-        ensures first { result ≡ first_awaited channel reply (entries_seen list_seen self.old.lists.entries) }
-        ensures rest { entries_seen list_seen self.new.lists.entries
-            ≡ left_awaited channel reply (entries_seen list_seen self.old.lists.entries) }
-        ensures none { IfNone result (entries_seen list_seen self.new.lists.entries ≡ entries_seen list_seen self.old.lists.entries) }
+        ensures first { result ≡ first_awaited channel reply (seen list_seen self.old.lists.entries) }
+        ensures rest { seen list_seen self.new.lists.entries
+            ≡ left_awaited channel reply (seen list_seen self.old.lists.entries) }
+        ensures none { IfNone result (seen list_seen self.new.lists.entries ≡ seen list_seen self.old.lists.entries) }
     {
         match self.lists.get_mut(&channel) {
             Some(list) => list.take(reply),
@@ -87,7 +87,7 @@ impl Awaiting {
 
     /// Whether one awaits this reply on this channel.
     pub fn awaits(&self, channel: ChannelId, reply: Reply) -> bool
-        ensures { result ≡ is_some (first_awaited channel reply (entries_seen list_seen self.now.lists.entries)) }
+        ensures { result ≡ is_some (first_awaited channel reply (seen list_seen self.now.lists.entries)) }
     {
         // Its clause tells that the numbers ascend.
         let _ = self.lists.len();
@@ -100,17 +100,17 @@ impl Awaiting {
     /// How many channels have places for replies.
     pub fn channels(&self) -> usize
         ensures count { result ≡ length self.now.lists.entries }
-        ensures ordered { Ascends (entries_seen list_seen self.now.lists.entries) }
+        ensures ordered { Ascends (seen list_seen self.now.lists.entries) }
     {
         self.lists.len()
     }
 
     /// Takes out the first that is awaited on a channel.
     pub fn drop_first(&mut self, channel: ChannelId) -> Option<Awaited>
-        ensures ordered { Ascends (entries_seen list_seen self.old.lists.entries) }
-        ensures first { result ≡ first_on channel (entries_seen list_seen self.old.lists.entries) }
-        ensures rest { entries_seen list_seen self.new.lists.entries
-            ≡ without_first_on channel (entries_seen list_seen self.old.lists.entries) }
+        ensures ordered { Ascends (seen list_seen self.old.lists.entries) }
+        ensures first { result ≡ first_on channel (seen list_seen self.old.lists.entries) }
+        ensures rest { seen list_seen self.new.lists.entries
+            ≡ without_first_on channel (seen list_seen self.old.lists.entries) }
     {
         let found = self.take_first(channel);
         self.tidy(channel);
@@ -118,10 +118,10 @@ impl Awaiting {
     }
 
     fn take_first(&mut self, channel: ChannelId) -> Option<Awaited>
-        ensures ordered { Ascends (entries_seen list_seen self.old.lists.entries) }
-        ensures first { result ≡ first_on channel (entries_seen list_seen self.old.lists.entries) }
-        ensures rest { entries_seen list_seen self.new.lists.entries
-            ≡ without_first_on channel (entries_seen list_seen self.old.lists.entries) }
+        ensures ordered { Ascends (seen list_seen self.old.lists.entries) }
+        ensures first { result ≡ first_on channel (seen list_seen self.old.lists.entries) }
+        ensures rest { seen list_seen self.new.lists.entries
+            ≡ without_first_on channel (seen list_seen self.old.lists.entries) }
     {
         match self.lists.get_mut(&channel) {
             Some(list) => list.next(),
@@ -131,7 +131,7 @@ impl Awaiting {
 
     // A channel on which nothing is awaited has no list.
     fn tidy(&mut self, channel: ChannelId)
-        ensures { entries_seen list_seen self.new.lists.entries ≡ entries_seen list_seen self.old.lists.entries }
+        ensures { seen list_seen self.new.lists.entries ≡ seen list_seen self.old.lists.entries }
     {
         if self.is_idle(channel) {
             // Its clause tells that the numbers ascend.
@@ -151,14 +151,14 @@ impl Awaiting {
 
     /// Nothing is awaited any more.
     pub fn clear(&mut self)
-        ensures { entries_seen list_seen self.new.lists.entries ≡ [] }
+        ensures { seen list_seen self.new.lists.entries ≡ [] }
     {
         self.lists.clear();
     }
 
     /// The same replies on each channel. Places that were made are not copied.
     pub fn try_clone(&self, alloc: Global) -> Result<Awaiting, NoMemory>
-        ensures { IfOk result (λ a. entries_seen list_seen a.lists.entries ≡ entries_seen list_seen self.now.lists.entries) }
+        ensures { IfOk result (λ a. seen list_seen a.lists.entries ≡ seen list_seen self.now.lists.entries) }
     {
         // Its clause tells that the numbers ascend.
         let _ = self.lists.len();
@@ -171,8 +171,8 @@ impl Awaiting {
 
     // A channel awaits from now on what is in a list, where something is.
     fn add_copy(&mut self, channel: ChannelId, list: &Replies) -> Result<(), NoMemory>
-        ensures { OnOk result (entries_seen list_seen self.new.lists.entries
-            ≡ put_seen channel (list_seen list.now) (entries_seen list_seen self.old.lists.entries)) }
+        ensures { OnOk result (seen list_seen self.new.lists.entries
+            ≡ put_seen channel (list_seen list.now) (seen list_seen self.old.lists.entries)) }
     {
         if list.is_empty() {
             return Ok(());

@@ -4,7 +4,7 @@ ghost use Rattle.std.specs.Prelude.{◌≡◌, ℕ, suc, ◌+◌, ◌<◌, ◌�
 ghost use Rattle.std.proofs.Props.{props};
 ghost use Rattle.amqp_outbox.specs.Lists.{head, without_first};
 ghost use Rattle.amqp_outbox.specs.Listed.{at};
-ghost use Rattle.amqp_outbox.specs.Order.{held, things_waiting, listed, has_key, IsSoundLane, HasSlots, HasPlaces};
+ghost use Rattle.amqp_outbox.specs.Order.{held, waiting, listed, has_key, IsSoundLane, HasSlots, HasPlaces};
 
 use crate::numbers::Numbers;
 use amqp_types::NoMemory;
@@ -39,7 +39,7 @@ pub struct Lane<T: Keyed> {
 impl<T: Keyed> Lane<T> {
     /// Nothing waits.
     pub fn new(alloc: Global) -> Lane<T>
-        ensures { things_waiting result.slots.entries ≡ [] }
+        ensures { waiting result.slots.entries ≡ [] }
     {
         Lane {
             made: 0,
@@ -50,7 +50,7 @@ impl<T: Keyed> Lane<T> {
 
     /// Makes places for so many things more, under a key or none. The count stays within its type.
     pub fn reserve(&mut self, key: Option<u16>, things: usize) -> Result<(), NoMemory>
-        ensures same { things_waiting self.new.slots.entries ≡ things_waiting self.old.slots.entries }
+        ensures same { waiting self.new.slots.entries ≡ waiting self.old.slots.entries }
         ensures places { OnOk result
             (HasPlaces key things self.new.made self.new.slots.entries self.new.numbers.lists.entries) }
     {
@@ -64,7 +64,7 @@ impl<T: Keyed> Lane<T> {
     fn reserve_slots(&mut self, things: usize) -> Result<(), NoMemory>
         requires { self.old.made + things < 2 ^ 64 }
         ensures made { self.new.made ≡ self.old.made }
-        ensures same { things_waiting self.new.slots.entries ≡ things_waiting self.old.slots.entries }
+        ensures same { waiting self.new.slots.entries ≡ waiting self.old.slots.entries }
         ensures numbers { self.new.numbers ≡ self.old.numbers }
         ensures count { self.new.made + things < 2 ^ 64 }
         ensures slots { OnOk result (HasSlots self.new.made things self.new.slots.entries) }
@@ -78,7 +78,7 @@ impl<T: Keyed> Lane<T> {
     fn reserve_slot(&mut self, number: u64) -> Result<(), NoMemory>
         requires { self.old.made ≤ number }
         ensures made { self.new.made ≡ self.old.made }
-        ensures same { things_waiting self.new.slots.entries ≡ things_waiting self.old.slots.entries }
+        ensures same { waiting self.new.slots.entries ≡ waiting self.old.slots.entries }
         ensures numbers { self.new.numbers ≡ self.old.numbers }
         ensures slot { OnOk result (IsSome (at number self.new.slots.entries)) }
         ensures kept { (n : ℕ) → IsSome (at n self.old.slots.entries) → IsSome (at n self.new.slots.entries) }
@@ -93,7 +93,7 @@ impl<T: Keyed> Lane<T> {
     /// A thing goes last, where it has its place.
     pub fn push_reserved(&mut self, thing: T)
         requires { HasPlaces (T.key_of thing) 1 self.old.made self.old.slots.entries self.old.numbers.lists.entries }
-        ensures waiting { things_waiting self.new.slots.entries ≡ things_waiting self.old.slots.entries ++ thing ∷ [] }
+        ensures waiting { waiting self.new.slots.entries ≡ waiting self.old.slots.entries ++ thing ∷ [] }
         ensures places { (n : ℕ)
             → HasPlaces (T.key_of thing) (suc n) self.old.made self.old.slots.entries self.old.numbers.lists.entries
             → HasPlaces (T.key_of thing) n self.new.made self.new.slots.entries self.new.numbers.lists.entries }
@@ -109,7 +109,7 @@ impl<T: Keyed> Lane<T> {
 
     /// The first thing, where there is one.
     pub fn front(&self) -> Option<&T>
-        ensures { option_copied result ≡ head (things_waiting self.now.slots.entries) }
+        ensures { option_copied result ≡ head (waiting self.now.slots.entries) }
     {
         // Its clause tells that the numbers ascend.
         let _ = self.slots.len();
@@ -121,8 +121,8 @@ impl<T: Keyed> Lane<T> {
 
     /// Takes out the first thing.
     pub fn next(&mut self) -> Option<T>
-        ensures first { result ≡ head (things_waiting self.old.slots.entries) }
-        ensures rest { things_waiting self.new.slots.entries ≡ drop 1 (things_waiting self.old.slots.entries) }
+        ensures first { result ≡ head (waiting self.old.slots.entries) }
+        ensures rest { waiting self.new.slots.entries ≡ drop 1 (waiting self.old.slots.entries) }
     {
         let _ = self.slots.len();
         let (_, slot) = self.slots.pop_first()?;
@@ -133,9 +133,9 @@ impl<T: Keyed> Lane<T> {
 
     /// Takes out the first thing under a key. The places that were made stay.
     pub fn take(&mut self, key: u16) -> Option<T>
-        ensures first { result ≡ find (has_key T.key_of key) (things_waiting self.old.slots.entries) }
-        ensures rest { things_waiting self.new.slots.entries
-            ≡ without_first (has_key T.key_of key) (things_waiting self.old.slots.entries) }
+        ensures first { result ≡ find (has_key T.key_of key) (waiting self.old.slots.entries) }
+        ensures rest { waiting self.new.slots.entries
+            ≡ without_first (has_key T.key_of key) (waiting self.old.slots.entries) }
         ensures places { (k : Option ℕ) (n : ℕ)
             → HasPlaces k n self.old.made self.old.slots.entries self.old.numbers.lists.entries
             → HasPlaces k n self.new.made self.new.slots.entries self.new.numbers.lists.entries }
@@ -150,14 +150,14 @@ impl<T: Keyed> Lane<T> {
 
     /// Lets go of the room under a key, where nothing waits under it.
     pub fn tidy(&mut self, key: u16)
-        ensures { things_waiting self.new.slots.entries ≡ things_waiting self.old.slots.entries }
+        ensures { waiting self.new.slots.entries ≡ waiting self.old.slots.entries }
     {
         self.numbers.tidy(key);
     }
 
     /// Equal things in the same order. Places that were made are not copied.
     pub fn try_clone(&self, alloc: Global) -> Result<Lane<T>, NoMemory>
-        ensures { IfOk result (λ l. things_waiting l.slots.entries ≡ things_waiting self.now.slots.entries) }
+        ensures { IfOk result (λ l. waiting l.slots.entries ≡ waiting self.now.slots.entries) }
     {
         let mut copy = Lane::new(alloc);
         for (_, slot) in &self.slots {
@@ -168,8 +168,8 @@ impl<T: Keyed> Lane<T> {
 
     // A thing equal to that of a slot goes last, where the slot holds one.
     fn push_copy(&mut self, alloc: Global, slot: &Option<T>) -> Result<(), NoMemory>
-        ensures { OnOk result (things_waiting self.new.slots.entries
-            ≡ things_waiting self.old.slots.entries ++ option_to_list slot.now) }
+        ensures { OnOk result (waiting self.new.slots.entries
+            ≡ waiting self.old.slots.entries ++ option_to_list slot.now) }
     {
         match slot {
             Some(thing) => self.push(thing.copied(alloc)?),
@@ -178,7 +178,7 @@ impl<T: Keyed> Lane<T> {
     }
 
     fn push(&mut self, thing: T) -> Result<(), NoMemory>
-        ensures { OnOk result (things_waiting self.new.slots.entries ≡ things_waiting self.old.slots.entries ++ thing ∷ []) }
+        ensures { OnOk result (waiting self.new.slots.entries ≡ waiting self.old.slots.entries ++ thing ∷ []) }
     {
         if let Err(refused) = self.reserve(thing.key(), 1) {
             drop(thing);
@@ -190,7 +190,7 @@ impl<T: Keyed> Lane<T> {
 
     /// Nothing waits any more.
     pub fn clear(&mut self)
-        ensures { things_waiting self.new.slots.entries ≡ [] }
+        ensures { waiting self.new.slots.entries ≡ [] }
     {
         self.slots.clear();
         self.numbers.clear();

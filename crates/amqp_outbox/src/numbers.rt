@@ -140,7 +140,8 @@ impl Numbers {
     /// Forgets the first number of a key, where there is one. A key without numbers has no list then.
     pub fn forget_first(&mut self, key: Option<u16>)
         ensures { (k : ℕ) → listed k self.new.lists.entries
-            ≡ (if is_the_number k key then drop 1 (listed k self.old.lists.entries) else listed k self.old.lists.entries) }
+            ≡ (if is_the_number k key then drop 1 (listed k self.old.lists.entries)
+            else listed k self.old.lists.entries) }
     {
         if let Some(key) = key {
             let _ = self.take_first(key);

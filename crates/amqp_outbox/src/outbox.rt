@@ -2,7 +2,7 @@
 
 ghost use Rattle.std.specs.Prelude.{◌≡◌, ◌++◌, length};
 ghost use Rattle.amqp_outbox.specs.Items.{octets_of, items_of_groups};
-ghost use Rattle.amqp_outbox.specs.Order.{things_waiting};
+ghost use Rattle.amqp_outbox.specs.Order.{waiting};
 
 mod dropping;
 mod lanes;
@@ -32,7 +32,7 @@ pub struct Outbox {
     /// How much waits in the two lanes and of the begun group.
     tally: Tally,
     ghost counted: { tally.frames
-        ≡ length (begun.items ++ things_waiting control.slots.entries ++ items_of_groups (things_waiting publish.slots.entries)) },
+        ≡ length (begun.items ++ waiting control.slots.entries ++ items_of_groups (waiting publish.slots.entries)) },
     ghost measured: { tally.octets
-        ≡ octets_of (begun.items ++ things_waiting control.slots.entries ++ items_of_groups (things_waiting publish.slots.entries)) },
+        ≡ octets_of (begun.items ++ waiting control.slots.entries ++ items_of_groups (waiting publish.slots.entries)) },
 }

@@ -251,7 +251,8 @@ is_at_sign b = b == 64
 -- a line that says a step: its words, or `@N ` and then its words
 abbrev pub step_line : List ℕ → Said
 step_line [] = Refused
-step_line (b ∷ bs) = if is_at_sign b then words_timed (number_64 (first_word bs)) (after_word bs) else words_say (b ∷ bs)
+step_line (b ∷ bs) =
+    if is_at_sign b then words_timed (number_64 (first_word bs)) (after_word bs) else words_say (b ∷ bs)
 
 -- the moment that such a line names, where it names one
 abbrev pub moment : List ℕ → Option ℕ

@@ -127,7 +127,8 @@ impl<'a> ParsingContext<'a> {
     pub fn position<F: Fn(u8) -> bool>(&self, predicate: F) -> Option<usize>
         requires { F.IsAlwaysCallable predicate }
         ensures some { IfSome result (IsFirst (F.post predicate) (context_bytes self.now)) }
-        ensures none { IfNone result (NonePasses (F.post predicate) (context_bytes self.now) (length (context_bytes self.now))) }
+        ensures none { IfNone result
+            (NonePasses (F.post predicate) (context_bytes self.now) (length (context_bytes self.now))) }
     {
         for (i, byte) in self.first.iter().enumerate() {
             if predicate(*byte) {

@@ -8,7 +8,7 @@ use Rattle.std.specs.Map.{keys_of, values_of, set_value}
 use Rattle.std.specs.BTreeMap.{is_at}
 use Rattle.std.proofs.lemmas.List.Sums.{sum_by-cons}
 use Rattle.std.proofs.lemmas.Map.Entries.{sum_by-insert_entry, sum_by-set_value, sum_by-remove_entry}
-use Rattle.amqp_outbox.specs.Order.{entries_seen, seen_first}
+use Rattle.amqp_outbox.specs.Order.{seen, seen_first}
 use Rattle.amqp_types.proofs.Small.{the-number}
 use Rattle.amqp_outbox.proofs.Seen.{Sorted}
 use Rattle.amqp_session.specs.declared.command.Answer.{Answer}
@@ -51,17 +51,17 @@ sum-more n e es = sum_by-cons (holds n) e.1 (values_of es)
 
 -- promises that are seen with other errors
 pub seen-held : (es : Slots) (errors errors' : Errors) → ((n : ℕ) → 1 ≤ sum_by (holds n) (values_of es) → shared_at n errors' ≡ shared_at n errors)
-    → entries_seen (slot_seen errors') es ≡ entries_seen (slot_seen errors) es
+    → seen (slot_seen errors') es ≡ seen (slot_seen errors) es
 seen-held [] errors errors' same = refl
 seen-held (e ∷ es) errors errors' same =
     let first : slot_seen errors' e.1 ≡ slot_seen errors e.1 =
     slot-kept e.1 errors errors' (λ n h. same n (let more = sum-more n e es in omega (arith, h, more))) in
     let rest = seen-held es errors errors' (λ n h. same n (let more = sum-more n e es in omega (arith, h, more))) in
-    ap (λ o. seen_first e.0 o (entries_seen (slot_seen errors') es)) first ∙ ap (seen_first e.0 (slot_seen errors e.1)) rest
+    ap (λ o. seen_first e.0 o (seen (slot_seen errors') es)) first ∙ ap (seen_first e.0 (slot_seen errors e.1)) rest
 
 -- the same, where those that are held are kept
 pub seen-kept : (es : Slots) (errors errors' : Errors) → AreCounted es errors' → KeepsHeld errors errors'
-    → entries_seen (slot_seen errors') es ≡ entries_seen (slot_seen errors) es
+    → seen (slot_seen errors') es ≡ seen (slot_seen errors) es
 seen-kept es errors errors' counted kept =
     seen-held es errors errors' (λ n h. kept n (let k = counted n in omega (arith, h, k)))
 

@@ -12,7 +12,7 @@ use Rattle.std.specs.BTreeMap.{is_at}
 use Rattle.std.proofs.lemmas.Map.{lookup-none}
 use Rattle.std.proofs.lemmas.Map.Entries.{none_past_head}
 use Rattle.std.proofs.lemmas.Map.Keys.{IsDistinct-from_sorted, sorted_tail}
-use Rattle.amqp_outbox.specs.Order.{entries_seen, seen_first}
+use Rattle.amqp_outbox.specs.Order.{seen, seen_first}
 use Rattle.amqp_outbox.proofs.Cases.{equal-from}
 use Rattle.amqp_types.proofs.Small.{the-number, nat_cmp_self}
 use Rattle.amqp_outbox.proofs.Seen.{Sorted}
@@ -225,15 +225,15 @@ module _ (e : ErrorKind) (errors errors' : Errors)
   first-lost n (Some p) ps = refl
 
   -- the promises are rejected, once the error is known that was awaited
-  pub seen-lost : (es : Slots) → Sorted (keys_of es) → AllSuit es errors → entries_seen (slot_seen errors') es ≡ rejected_all e (entries_seen (slot_seen errors) es)
+  pub seen-lost : (es : Slots) → Sorted (keys_of es) → AllSuit es errors → seen (slot_seen errors') es ≡ rejected_all e (seen (slot_seen errors) es)
   seen-lost [] sorted all = refl
   seen-lost (x ∷ es) sorted all =
       let first : suits errors (Some x.1) x.0 ≡ true =
       ap (λ r. suits errors (cond (is_eq r) (Some x.1) (at x.0 es)) x.0) (sym (nat_cmp_self x.0)) ∙ all x.0 in
-      ap (λ o. seen_first x.0 o (entries_seen (slot_seen errors') es)) (slot-lost x.1 x.0 first)
+      ap (λ o. seen_first x.0 o (seen (slot_seen errors') es)) (slot-lost x.1 x.0 first)
       ∙ ap (seen_first x.0 (option_map (rejected_slot e x.0) (slot_seen errors x.1)))
       (seen-lost es (sorted_tail nat_cmp x.0 (keys_of es) sorted) (suits-later x es errors sorted all))
-      ∙ first-lost x.0 (slot_seen errors x.1) (entries_seen (slot_seen errors) es)
+      ∙ first-lost x.0 (slot_seen errors x.1) (seen (slot_seen errors) es)
 
   -- and nothing is awaited any more
   pub none-awaited : (n : ℕ) → is_error_awaited n errors' ≡ false

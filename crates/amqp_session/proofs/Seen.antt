@@ -4,7 +4,7 @@ use Rattle.std.specs.Option.{is_none, option_flatten}
 use Rattle.std.specs.Ordering.{nat_cmp}
 use Rattle.std.specs.Map.{keys_of, set_value}
 use Rattle.std.specs.BTreeMap.{is_at}
-use Rattle.amqp_outbox.specs.Order.{entries_seen, seen_at}
+use Rattle.amqp_outbox.specs.Order.{seen, seen_at}
 use Rattle.amqp_outbox.proofs.Seen.{Sorted, at-seen, set-seen}
 use Rattle.amqp_session.specs.declared.command.Answer.{Answer}
 use Rattle.amqp_promise.specs.declared.error.ErrorKind.{ErrorKind}
@@ -44,17 +44,17 @@ waits-slot errors (Shared k) = by (shared_at k errors) where
 
 -- a promise waits where that is seen
 pub waits-seen : (errors : List (ℕ × SharedError)) (n : ℕ) (es : List (ℕ × Slot)) → Sorted (keys_of es) → (s : Slot) → at n es ≡ Some s
-    → (b : Bool) → b ≡ waits errors s → b ≡ true ↔ at n (entries_seen (slot_seen errors) es) ≡ Some None
+    → (b : Bool) → b ≡ waits errors s → b ≡ true ↔ at n (seen (slot_seen errors) es) ≡ Some None
 waits-seen errors n es sorted s there b test =
-    let is : at n (entries_seen (slot_seen errors) es) ≡ slot_seen errors s =
+    let is : at n (seen (slot_seen errors) es) ≡ slot_seen errors s =
     at-seen (slot_seen errors) n es sorted ∙ ap (seen_at (slot_seen errors)) there in
     (λ h. is ∙ (waits-slot errors s).0 (sym test ∙ h), λ h. test ∙ (waits-slot errors s).1 (sym is ∙ h))
 
 -- one that is not there does not
 pub none-waits : (errors : List (ℕ × SharedError)) (n : ℕ) (es : List (ℕ × Slot)) → Sorted (keys_of es) → at n es ≡ None
-    → false ≡ true ↔ at n (entries_seen (slot_seen errors) es) ≡ Some None
+    → false ≡ true ↔ at n (seen (slot_seen errors) es) ≡ Some None
 none-waits errors n es sorted there =
-    let is : at n (entries_seen (slot_seen errors) es) ≡ None =
+    let is : at n (seen (slot_seen errors) es) ≡ None =
     at-seen (slot_seen errors) n es sorted ∙ ap (seen_at (slot_seen errors)) there in
     (λ h. absurd cc, λ h. absurd cc)
 
@@ -66,35 +66,35 @@ module _ (errors : List (ℕ × SharedError)) (n : ℕ) (answer : Result Answer 
   abbrev see : Slot → Option (Option (Result Answer ErrorKind))
   see = slot_seen errors
 
-  settled-found : (s : Slot) → at n es ≡ Some s → settled_by (see s) n answer (entries_seen see es) ≡ settled n answer (entries_seen see es)
-  settled-found s h = sym (ap (λ o. settled_by o n answer (entries_seen see es)) (at-seen see n es sorted ∙ ap (seen_at see) h))
+  settled-found : (s : Slot) → at n es ≡ Some s → settled_by (see s) n answer (seen see es) ≡ settled n answer (seen see es)
+  settled-found s h = sym (ap (λ o. settled_by o n answer (seen see es)) (at-seen see n es sorted ∙ ap (seen_at see) h))
 
   module _ (y : Slot) (is : see y ≡ Some (Some answer)) where
     shared-answered : (k : ℕ) (o : Option (Option ErrorKind)) → at n es ≡ Some (Shared k)
-        → entries_seen see (set_value (is_at (nat_cmp n)) es (if unwrap_or (option_map is_none o) false then y else Shared k))
-        ≡ settled_by (option_map (option_map told) o) n answer (entries_seen see es)
-    shared-answered k None h = ap (entries_seen see) (set_value-same n (Shared k) es h)
+        → seen see (set_value (is_at (nat_cmp n)) es (if unwrap_or (option_map is_none o) false then y else Shared k))
+        ≡ settled_by (option_map (option_map told) o) n answer (seen see es)
+    shared-answered k None h = ap (seen see) (set_value-same n (Shared k) es h)
     shared-answered k (Some None) h = set-seen see n (Shared k) y (Some answer) es is h sorted
-    shared-answered k (Some (Some e)) h = ap (entries_seen see) (set_value-same n (Shared k) es h)
+    shared-answered k (Some (Some e)) h = ap (seen see) (set_value-same n (Shared k) es h)
 
     answer-at : (s : Slot) → at n es ≡ Some s
-        → entries_seen see (set_value (is_at (nat_cmp n)) es (if waits errors s then y else s)) ≡ settled_by (see s) n answer (entries_seen see es)
-    answer-at Place h = ap (entries_seen see) (set_value-same n Place es h)
+        → seen see (set_value (is_at (nat_cmp n)) es (if waits errors s then y else s)) ≡ settled_by (see s) n answer (seen see es)
+    answer-at Place h = ap (seen see) (set_value-same n Place es h)
     answer-at Waiting h = set-seen see n Waiting y (Some answer) es is h sorted
-    answer-at (Answered a) h = ap (entries_seen see) (set_value-same n (Answered a) es h)
+    answer-at (Answered a) h = ap (seen see) (set_value-same n (Answered a) es h)
     answer-at (Shared k) h = shared-answered k (shared_at k errors) h
 
     -- a promise that has its place gets an answer where it waits: it becomes what is seen as that
     pub answer-seen : (s : Slot) → at n es ≡ Some s
-        → entries_seen see (set_value (is_at (nat_cmp n)) es (if waits errors s then y else s)) ≡ settled n answer (entries_seen see es)
+        → seen see (set_value (is_at (nat_cmp n)) es (if waits errors s then y else s)) ≡ settled n answer (seen see es)
     answer-seen s h = answer-at s h ∙ settled-found s h
 
     -- where the promise becomes that only under a further condition, which holds
     pub answer-where : (b : Bool) → b ≡ true → (s : Slot) → at n es ≡ Some s
-        → entries_seen see (set_value (is_at (nat_cmp n)) es (if waits errors s && b then y else s)) ≡ settled n answer (entries_seen see es)
+        → seen see (set_value (is_at (nat_cmp n)) es (if waits errors s && b then y else s)) ≡ settled n answer (seen see es)
     answer-where false is s h = absurd cc
-    answer-where true is s h = ap (λ t. entries_seen see (set_value (is_at (nat_cmp n)) es (if t then y else s))) (and-here (waits errors s)) ∙ answer-seen s h
+    answer-where true is s h = ap (λ t. seen see (set_value (is_at (nat_cmp n)) es (if t then y else s))) (and-here (waits errors s)) ∙ answer-seen s h
 
   -- one that has none gets none
-  pub settle-none : at n es ≡ None → entries_seen see es ≡ settled n answer (entries_seen see es)
-  settle-none h = sym (ap (λ o. settled_by o n answer (entries_seen see es)) (at-seen see n es sorted ∙ ap (seen_at see) h))
+  pub settle-none : at n es ≡ None → seen see es ≡ settled n answer (seen see es)
+  settle-none h = sym (ap (λ o. settled_by o n answer (seen see es)) (at-seen see n es sorted ∙ ap (seen_at see) h))

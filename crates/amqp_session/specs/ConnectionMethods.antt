@@ -107,7 +107,8 @@ abbrev pub secret_taken : Option (Option ℕ) → Talk → Talk
 secret_taken None t = unexpected_connection_method Connected t
 secret_taken (Some None) t =
     record t { outbox = without_awaited 0 SecretDone t.outbox; secret_at = t.present; refreshing = false }
-secret_taken (Some (Some number)) t = give number (Ok Done) (record t { outbox = without_awaited 0 SecretDone t.outbox })
+secret_taken (Some (Some number)) t =
+    give number (Ok Done) (record t { outbox = without_awaited 0 SecretDone t.outbox })
 
 -- update-secret-ok: the server took the first new secret that it did not answer yet
 abbrev pub on_update_secret_ok : Talk → Talk

@@ -32,7 +32,7 @@ use Rattle.amqp_session.specs.declared.session.asking.Login.TheVariants.{Started
 use Rattle.amqp_session.specs.declared.session.asking.Validity.{Validity}
 use Rattle.amqp_session.specs.declared.session.asking.Validity.TheVariants.{Unasked, Valid, Expired}
 use Rattle.amqp_session.specs.Ticks.{asks_validity, has_expired}
-use Rattle.amqp_outbox.specs.Order.{entries_seen}
+use Rattle.amqp_outbox.specs.Order.{seen}
 use Rattle.amqp_session.specs.Listed.{at}
 use Rattle.amqp_session.specs.Sharing.{shared_at, error_at, waits}
 use Rattle.amqp_session.specs.Talk.{Talk, is_open, acts}
@@ -49,7 +49,7 @@ slot_seen errors (Shared number) = option_map (option_map Err) (shared_at number
 
 -- the promises as they are seen, by number
 abbrev pub promised : Promises → List (ℕ × Option (Result Answer ErrorKind))
-promised promises = entries_seen (slot_seen promises.errors.errors.entries) promises.slots.entries
+promised promises = seen (slot_seen promises.errors.errors.entries) promises.slots.entries
 
 -- there is a place for one more promise, and for the error that it shares
 abbrev pub HasPlace : Promises → Type 0

@@ -307,7 +307,8 @@ fn new_slot(number: u64, loss: Option<u64>, errors: &mut SharedErrors) -> Slot
 fn let_go_of(errors: &mut SharedErrors, slot: Option<Slot>)
     ensures kept { KeepsHeld errors.old.errors.entries errors.new.errors.entries }
     ensures freed { FreesUnheld errors.old.errors.entries errors.new.errors.entries }
-    ensures awaited { (n : ℕ) → is_error_awaited n errors.new.errors.entries ≡ is_error_awaited n errors.old.errors.entries }
+    ensures awaited { (n : ℕ)
+        → is_error_awaited n errors.new.errors.entries ≡ is_error_awaited n errors.old.errors.entries }
     ensures waited { IsTrue (any_waits errors.old.errors.entries slot)
         → (n : ℕ) → shared_at n errors.new.errors.entries ≡ shared_at n errors.old.errors.entries }
     ensures holders { (n : ℕ) → holders_at n errors.new.errors.entries

@@ -37,7 +37,8 @@ fn texts_have_these_faults()
     ensures not_amqp { address_of_text (codes "http://h") ≡ Err NotAmqp }
     ensures no_url { address_of_text (codes "amqp://h:65536") ≡ Err NotAmqp }
     ensures amqps { address_of_text (codes "amqps://h?heartbeat=x") ≡ Err Amqps }
-    ensures bad_number { address_of_text (codes "amqp://h?heartbeat=65536&auth_mechanism=x") ≡ Err (BadNumber Heartbeat) }
+    ensures bad_number { address_of_text (codes "amqp://h?heartbeat=65536&auth_mechanism=x")
+        ≡ Err (BadNumber Heartbeat) }
     ensures bad_mechanism { address_of_text (codes "amqp://h?auth_mechanism=x&heartbeat=65536") ≡ Err BadMechanism }
 {}
 

@@ -5,7 +5,7 @@ use Rattle.amqp_session.specs.Talk.{is_open}
 use Rattle.amqp_engine.specs.Engine.{Engine, commit_all, overlong_next}
 use Rattle.amqp_engine.specs.Turn.{is_all, offered, answered}
 use Rattle.amqp_engine.specs.Making.{making}
-use Rattle.amqp_engine.specs.Play.{waiting}
+use Rattle.amqp_engine.specs.Play.{offers_waiting}
 use Rattle.amqp_engine.proofs.Cases.{Reaches-less, is_before-Reaches, some-unsent, from-not-false}
 use Rattle.amqp_types.proofs.Small.{from-not-true}
 use Rattle.amqp_engine.proofs.Offers.{writes-more, writes-last, writes-refused, writes-none, waiting-wrote, answered-starved}
@@ -19,7 +19,7 @@ writes-preserved g c =
     let w = c.in-Some.offered.answer in
     let n = c.writes.parts in
     let all : is_all w (length (commit_all e).unsent) ≡ true = sym f.all ∙ from-not-false _ c.if-not-offered.false in
-    let lower : waiting c.offer.new.self < waiting e =
+    let lower : offers_waiting c.offer.new.self < offers_waiting e =
     rw f.engine (waiting-wrote c.args.at w e (some-unsent (is_open e.talk) (not e.talk.blocked) (not (is_some (overlong_next e))) (length (commit_all e).unsent) f.due) all) in
     record {
       goes_on = λ more asked cut last log count allows next.
@@ -39,7 +39,7 @@ writes-smaller g c =
     let e = c.writes.self in
     let w = c.in-Some.offered.answer in
     let all : is_all w (length (commit_all e).unsent) ≡ true = sym f.all ∙ from-not-false _ c.if-not-offered.false in
-    let lower : waiting c.offer.new.self < waiting e =
+    let lower : offers_waiting c.offer.new.self < offers_waiting e =
     rw f.engine (waiting-wrote c.args.at w e (some-unsent (is_open e.talk) (not e.talk.blocked) (not (is_some (overlong_next e))) (length (commit_all e).unsent) f.due) all) in
     lower
 

@@ -5,7 +5,7 @@ use Rattle.amqp_session.specs.declared.auth.asked.Asked.{Asked}
 use Rattle.amqp_engine.specs.Log.{Log}
 use Rattle.amqp_engine.specs.Turn.{Progress}
 use Rattle.amqp_engine.specs.Making.{making, Reaches, Writes}
-use Rattle.amqp_engine.specs.Play.{waiting}
+use Rattle.amqp_engine.specs.Play.{offers_waiting}
 use Rattle.amqp_engine.proofs.wire.Wire.write_all.Given as goal
 
 abbrev pub invariant-writes : goal.invariant-writes
@@ -13,11 +13,11 @@ invariant-writes g l = record {
   goes_on : (more : List Asked) (asked : List Question) (cut : Option ℕ) (last : Progress) (log : Option Log) (count : ℕ) → Reaches cut l.parts
       → Writes (making l.at cut more asked l.self l.parts) last (g.P.Port.log l.port) log (g.P.Port.faults l.port) count
       → Writes (making l.at cut more asked l.fn.self l.fn.parts) last (g.P.Port.log l.fn.port) log (g.P.Port.faults l.fn.port) count;
-  bound : l.parts + waiting l.self ≤ l.fn.parts + waiting l.fn.self;
+  bound : l.parts + offers_waiting l.self ≤ l.fn.parts + offers_waiting l.fn.self;
   grows : l.fn.parts ≤ l.parts;
   starved : l.self.starved ≡ l.fn.self.starved;
   faults : g.P.Port.faults l.fn.port ≤ g.P.Port.faults l.port;
 }
 
 abbrev pub decreases-writes : goal.decreases-writes
-decreases-writes g l = waiting l.self
+decreases-writes g l = offers_waiting l.self

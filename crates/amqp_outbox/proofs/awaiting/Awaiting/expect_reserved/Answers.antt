@@ -1,6 +1,6 @@
 use Rattle.std.proofs.Common.{◌≡◌, ◌∙◌, ap, sym, subst, Some, is_some}
 use Rattle.amqp_outbox.specs.Listed.{at}
-use Rattle.amqp_outbox.specs.Order.{entries_seen}
+use Rattle.amqp_outbox.specs.Order.{seen}
 use Rattle.amqp_outbox.specs.Parts.{list_seen, HasRoomForReply}
 use Rattle.amqp_outbox.proofs.Cases.{not-equal}
 use Rattle.amqp_outbox.proofs.ByChannel.{expect-seen, place-stays}
@@ -14,7 +14,7 @@ push_reserved-requires c =
 pub returns-in-Some-clause-expected : goal.returns-in-Some-clause-expected
 returns-in-Some-clause-expected c =
     let es = c.args.self.now.lists.entries in
-    ap (entries_seen list_seen) (c.get_mut.follows.holds c.push_reserved.new.self).0
+    ap (seen list_seen) (c.get_mut.follows.holds c.push_reserved.new.self).0
     ∙ expect-seen c.args.channel es c.get_mut.ensures.ordered c.in-Some.list.now (sym c.in-Some.ensures.value) c.push_reserved.new.self c.args.awaited c.push_reserved.ensures
 
 pub returns-in-Some-clause-others : goal.returns-in-Some-clause-others

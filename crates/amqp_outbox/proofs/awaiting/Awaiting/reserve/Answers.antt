@@ -3,7 +3,7 @@ use Rattle.std.specs.BTreeMap.{BTreeMap}
 use Rattle.std.specs.Option.{option_copied_mut}
 use Rattle.amqp_outbox.specs.declared.replies.Replies.{Replies}
 use Rattle.amqp_outbox.specs.Listed.{at, put}
-use Rattle.amqp_outbox.specs.Order.{entries_seen}
+use Rattle.amqp_outbox.specs.Order.{seen}
 use Rattle.amqp_outbox.specs.Parts.{list_seen, some_awaited}
 use Rattle.amqp_outbox.proofs.Cases.{on-ok, not-equal}
 use Rattle.amqp_outbox.proofs.Seen.{put-unseen}
@@ -13,7 +13,7 @@ use Rattle.amqp_outbox.proofs.awaiting.Awaiting.reserve.Goals as goal
 pub returns-in-Some-clause-same : goal.returns-in-Some-clause-same
 returns-in-Some-clause-same c =
     let es = c.args.self.now.lists.entries in
-    ap (entries_seen list_seen) (c.get_mut.follows.holds c.reserve.new.self).0
+    ap (seen list_seen) (c.get_mut.follows.holds c.reserve.new.self).0
     ∙ keep-seen c.args.channel es c.get_mut.ensures.ordered c.in-Some.list.now (sym c.in-Some.ensures.value) c.reserve.new.self c.reserve.ensures.items
 
 pub returns-in-Some-clause-place : goal.returns-in-Some-clause-place
@@ -27,8 +27,8 @@ returns-in_ok-insert-in-None-clause-same c =
     let es = c.args.self.now.lists.entries in
     let list = c.in_ok-list-in-None.list in
     let none : at c.args.channel es ≡ None = sym c.get_mut.ensures.value ∙ ap option_copied_mut c.in-None.is in
-    ap (entries_seen list_seen) c.in_ok-insert-in-None.ensures.entries
-    ∙ ap (λ (m : BTreeMap ℕ Replies). entries_seen list_seen (put c.args.channel list m.entries)) c.get_mut.follows.holds-at-none
+    ap (seen list_seen) c.in_ok-insert-in-None.ensures.entries
+    ∙ ap (λ (m : BTreeMap ℕ Replies). seen list_seen (put c.args.channel list m.entries)) c.get_mut.follows.holds-at-none
     ∙ put-unseen list_seen c.args.channel list es (ap some_awaited c.in_ok-list-in-None.ensures.0) none
 
 pub returns-in_ok-insert-in-None-clause-place : goal.returns-in_ok-insert-in-None-clause-place

@@ -1,5 +1,5 @@
 use Rattle.std.proofs.Common.{◌∙◌, ap, sym, ◌++◌}
-use Rattle.amqp_outbox.specs.Order.{entries_seen}
+use Rattle.amqp_outbox.specs.Order.{seen}
 use Rattle.amqp_outbox.specs.Parts.{list_seen}
 use Rattle.amqp_outbox.proofs.Seen.{sorted-seen}
 use Rattle.amqp_outbox.proofs.ByChannel.{one-copied}
@@ -7,9 +7,9 @@ use Rattle.amqp_outbox.proofs.awaiting.Awaiting.try_clone.Goals as goal
 
 pub loop-channel-preserved : goal.loop-channel-preserved
 loop-channel-preserved c =
-    let whole = entries_seen list_seen c.args.self.now.lists.entries in
-    let done = entries_seen list_seen c.loop-channel.copy.lists.entries in
-    ap (λ l. l ++ entries_seen list_seen c.next.new.self) c.in_ok-add_copy.ensures
-    ∙ one-copied c.in-Some.channel.now (list_seen c.in-Some.list.now) done (entries_seen list_seen c.next.new.self) whole
+    let whole = seen list_seen c.args.self.now.lists.entries in
+    let done = seen list_seen c.loop-channel.copy.lists.entries in
+    ap (λ l. l ++ seen list_seen c.next.new.self) c.in_ok-add_copy.ensures
+    ∙ one-copied c.in-Some.channel.now (list_seen c.in-Some.list.now) done (seen list_seen c.next.new.self) whole
     (sorted-seen list_seen c.args.self.now.lists.entries c.len.ensures.ordered)
-    (ap (λ l. done ++ entries_seen list_seen l) (sym c.in-Some.ensures.steps) ∙ c.loop-channel.invariant)
+    (ap (λ l. done ++ seen list_seen l) (sym c.in-Some.ensures.steps) ∙ c.loop-channel.invariant)

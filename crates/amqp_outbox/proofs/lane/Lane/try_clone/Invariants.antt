@@ -1,7 +1,7 @@
 -- What waits in the copy, and what is still to be copied.
 use Rattle.std.proofs.Common.{◌≡◌, ◌++◌}
-use Rattle.amqp_outbox.specs.Order.{things_waiting}
+use Rattle.amqp_outbox.specs.Order.{waiting}
 use Rattle.amqp_outbox.proofs.lane.Lane.try_clone.Given as goal
 
 abbrev pub invariant-loop-slot : goal.invariant-loop-slot
-invariant-loop-slot g l = things_waiting l.copy.slots.entries ++ things_waiting l.slot-iterator ≡ things_waiting l.self.slots.entries
+invariant-loop-slot g l = waiting l.copy.slots.entries ++ waiting l.slot-iterator ≡ waiting l.self.slots.entries

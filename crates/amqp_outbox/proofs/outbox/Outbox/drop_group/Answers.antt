@@ -2,7 +2,7 @@ use Rattle.std.proofs.Common.{◌≡◌, ◌∙◌, sym, subst, arith, Some, Non
 use Rattle.std.specs.Prelude.{find}
 use Rattle.amqp_outbox.specs.Items.{octets_of}
 use Rattle.amqp_outbox.specs.Queued.{is_on, without_group}
-use Rattle.amqp_outbox.specs.Order.{things_waiting}
+use Rattle.amqp_outbox.specs.Order.{waiting}
 use Rattle.amqp_outbox.specs.Parts.{queued}
 use Rattle.amqp_outbox.proofs.Taking.{none-left_out}
 use Rattle.amqp_outbox.proofs.Waiting.{Counted, counted-less, group-less}
@@ -26,7 +26,7 @@ invariant_of-self c =
     let rest : Counted tally.frames tally.octets (without_group c.args.channel q) =
     counted-less (length group) (octets_of group) self.tally.frames self.tally.octets tally.frames tally.octets q (without_group c.args.channel q)
     (group-less c.args.channel q group (sym there)) (self.counted, self.measured) c.take_group.ensures.frames c.take_group.ensures.octets in
-    let counted : Counted tally.frames tally.octets (record q { publish = things_waiting c.take.new.self.slots.entries }) =
+    let counted : Counted tally.frames tally.octets (record q { publish = waiting c.take.new.self.slots.entries }) =
     subst (λ l. Counted tally.frames tally.octets (record q { publish = l })) (sym c.take.ensures.rest) rest in
     record { counted = counted.0; measured = counted.1 }
 
@@ -35,8 +35,8 @@ invariant_of-self-in-None c =
     let self = c.args.self.now in
     let q = queued self in
     let none : None ≡ find (is_on c.args.channel) q.publish = c.in-None.ensures.first in
-    let same : things_waiting c.tidy.new.self.slots.entries ≡ q.publish =
+    let same : waiting c.tidy.new.self.slots.entries ≡ q.publish =
     c.tidy.ensures ∙ c.in-None.ensures.rest ∙ none-left_out (is_on c.args.channel) q.publish (sym none) in
-    let counted : Counted self.tally.frames self.tally.octets (record q { publish = things_waiting c.tidy.new.self.slots.entries }) =
+    let counted : Counted self.tally.frames self.tally.octets (record q { publish = waiting c.tidy.new.self.slots.entries }) =
     subst (λ l. Counted self.tally.frames self.tally.octets (record q { publish = l })) (sym same) (self.counted, self.measured) in
     record { counted = counted.0; measured = counted.1 }

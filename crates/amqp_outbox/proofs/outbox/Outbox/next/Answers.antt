@@ -5,7 +5,7 @@ use Rattle.amqp_outbox.specs.declared.item.Item.{Item}
 use Rattle.amqp_outbox.specs.Lists.{head}
 use Rattle.amqp_outbox.specs.Items.{size_of}
 use Rattle.amqp_outbox.specs.Queued.{Queued}
-use Rattle.amqp_outbox.specs.Order.{things_waiting}
+use Rattle.amqp_outbox.specs.Order.{waiting}
 use Rattle.amqp_outbox.specs.Parts.{queued}
 use Rattle.amqp_outbox.proofs.Waiting.{Counted, counted-less, first-less}
 use Rattle.amqp_outbox.proofs.outbox.Outbox.next.Goals as goal
@@ -25,8 +25,8 @@ invariant_of-self-2 c =
     counted-less 1 (size_of first) self.tally.frames self.tally.octets tally.frames tally.octets q (left (drop 1 q.control) (drop 1 q.publish))
     (first-less q first rest none c.in_default-next.ensures.first there) (self.counted, self.measured)
     c.take-2.ensures.frames c.take-2.ensures.octets in
-    let control : Counted tally.frames tally.octets (left (things_waiting c.next.new.self.slots.entries) (drop 1 q.publish)) =
+    let control : Counted tally.frames tally.octets (left (waiting c.next.new.self.slots.entries) (drop 1 q.publish)) =
     subst (λ l. Counted tally.frames tally.octets (left l (drop 1 q.publish))) (sym c.next.ensures.rest) went in
-    let counted : Counted tally.frames tally.octets (left (things_waiting c.next.new.self.slots.entries) (things_waiting c.next-2.new.self.slots.entries)) =
-    subst (λ l. Counted tally.frames tally.octets (left (things_waiting c.next.new.self.slots.entries) l)) (sym c.next-2.ensures.rest) control in
+    let counted : Counted tally.frames tally.octets (left (waiting c.next.new.self.slots.entries) (waiting c.next-2.new.self.slots.entries)) =
+    subst (λ l. Counted tally.frames tally.octets (left (waiting c.next.new.self.slots.entries) l)) (sym c.next-2.ensures.rest) control in
     record { counted = counted.0; measured = counted.1 }

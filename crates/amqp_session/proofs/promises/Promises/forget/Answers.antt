@@ -1,5 +1,5 @@
 use Rattle.std.proofs.Common.{◌∙◌, ap, refl, ◌-◌, None}
-use Rattle.amqp_outbox.specs.Order.{entries_seen}
+use Rattle.amqp_outbox.specs.Order.{seen}
 use Rattle.amqp_outbox.proofs.Seen.{without-seen}
 use Rattle.amqp_session.specs.Sharing.{holders_at, holds_any}
 use Rattle.amqp_session.specs.Parts.{slot_seen}
@@ -29,5 +29,5 @@ returns-clause-slots c =
     (counted-without c.args.number self.slots.entries _ errors _ self.counted c.remove.ensures.entries
     (λ n. c.let_go_of.ensures.holders n ∙ ap (λ o. holders_at n errors - holds_any n o) c.remove.ensures.value))
     c.let_go_of.ensures.kept
-    ∙ ap (entries_seen (slot_seen errors)) c.remove.ensures.entries
+    ∙ ap (seen (slot_seen errors)) c.remove.ensures.entries
     ∙ without-seen (slot_seen errors) c.args.number self.slots.entries c.len.ensures.ordered

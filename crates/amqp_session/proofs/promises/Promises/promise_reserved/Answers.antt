@@ -2,7 +2,7 @@ use Rattle.std.proofs.Common.{◌≡◌, ◌∙◌, ap, sym, ℕ, ◌+◌, ◌-�
 use Rattle.std.specs.Ordering.{nat_cmp}
 use Rattle.std.specs.Map.{set_value}
 use Rattle.std.specs.BTreeMap.{is_at}
-use Rattle.amqp_outbox.specs.Order.{entries_seen}
+use Rattle.amqp_outbox.specs.Order.{seen}
 use Rattle.amqp_outbox.proofs.Seen.{set-seen}
 use Rattle.amqp_session.specs.declared.promises.Slot.{Slot}
 use Rattle.amqp_session.specs.Listed.{at}
@@ -64,6 +64,6 @@ returns-in-Some-clause-slots c =
     (c.new_slot-slot.ensures.holders k ∙ ap (λ (x : Slot). holders_at k errors + holds k x) (sym c.replace-old.ensures.is))) in
     seen-kept es' held left counted c.let_go_of.ensures.kept
     ∙ seen-held es' errors held (λ k h. c.new_slot-slot.ensures.errors k)
-    ∙ ap (entries_seen (slot_seen errors))
+    ∙ ap (seen (slot_seen errors))
     ((c.get_mut.follows.holds slot).0 ∙ ap (set_value (is_at (nat_cmp n)) es) (c.replace-old.ensures.is ∙ c.new_slot-slot.ensures.slot))
     ∙ set-seen (slot_seen errors) n c.in-Some.place.now (new_slot n self.loss) None es (seen-new n self.loss errors self.awaited) there c.get_mut.ensures.ordered

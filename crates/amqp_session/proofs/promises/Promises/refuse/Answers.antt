@@ -1,5 +1,5 @@
 use Rattle.std.proofs.Common.{◌≡◌, ◌∙◌, ap, refl, ◌-◌, Some, Err}
-use Rattle.amqp_outbox.specs.Order.{entries_seen}
+use Rattle.amqp_outbox.specs.Order.{seen}
 use Rattle.amqp_outbox.proofs.Seen.{put-seen}
 use Rattle.amqp_promise.specs.declared.error.ErrorKind.{ErrorKind}
 use Rattle.amqp_session.specs.declared.promises.Slot.TheVariants.{Answered}
@@ -32,6 +32,6 @@ returns-clause-slots c =
     (counted-put self.made self.slots.entries _ errors _ self.counted (Answered (Err c.into.result)) c.insert.ensures.was_ordered c.in_ok-old.ensures.entries (λ k. refl)
     (λ k. c.let_go_of.ensures.holders k ∙ ap (λ o. holders_at k errors - holds_any k o) c.in_ok-old.ensures.old))
     c.let_go_of.ensures.kept
-    ∙ ap (entries_seen (slot_seen errors)) c.in_ok-old.ensures.entries
+    ∙ ap (seen (slot_seen errors)) c.in_ok-old.ensures.entries
     ∙ put-seen (slot_seen errors) self.made (Answered (Err c.into.result)) (Some (Err c.args.kind)) self.slots.entries
     (ap (λ (e : ErrorKind). Some (Some (Err e))) same) c.insert.ensures.was_ordered

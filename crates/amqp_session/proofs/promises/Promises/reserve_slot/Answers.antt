@@ -1,7 +1,7 @@
 use Rattle.std.proofs.Common.{◌≡◌, ◌∙◌, ap, sym, refl, None}
 use Rattle.amqp_session.specs.declared.promises.Slot.TheVariants.{Place}
 use Rattle.amqp_session.specs.Listed.{at}
-use Rattle.amqp_outbox.specs.Order.{entries_seen}
+use Rattle.amqp_outbox.specs.Order.{seen}
 use Rattle.amqp_session.specs.Parts.{slot_seen}
 use Rattle.amqp_outbox.proofs.Cases.{on-ok}
 use Rattle.amqp_session.proofs.Maps.{at-absent}
@@ -28,4 +28,4 @@ returns-clause-slots c =
     let es = self.slots.entries in
     let see = slot_seen self.errors.errors.entries in
     let none : at self.made es ≡ None = at-absent self.made es (sym c.contains_key.ensures ∙ c.if-contains_key.false) in
-    ap (entries_seen see) c.in_ok-insert.ensures.entries ∙ put-unseen see self.made Place es refl none
+    ap (seen see) c.in_ok-insert.ensures.entries ∙ put-unseen see self.made Place es refl none

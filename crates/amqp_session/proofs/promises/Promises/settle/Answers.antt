@@ -5,7 +5,7 @@ use Rattle.std.specs.BTreeMap.{BTreeMap, is_at}
 use Rattle.std.specs.Option.{option_copied_mut}
 use Rattle.amqp_session.specs.declared.promises.Slot.{Slot}
 use Rattle.amqp_session.specs.declared.promises.Slot.TheVariants.{Answered}
-use Rattle.amqp_outbox.specs.Order.{entries_seen}
+use Rattle.amqp_outbox.specs.Order.{seen}
 use Rattle.amqp_session.specs.Sharing.{waits, suits}
 use Rattle.amqp_session.specs.Parts.{slot_seen}
 use Rattle.amqp_session.specs.Listed.{at}
@@ -50,7 +50,7 @@ returns-in-Some-clause-slots c =
     let es = c.args.self.now.slots.entries in
     let errors = c.args.self.now.errors.errors.entries in
     seen-held (c.get_mut.follows.lender c.settle.new.self).entries errors c.settle.new.errors.errors.entries (λ m h. c.settle.ensures.errors m)
-    ∙ ap (entries_seen (slot_seen errors))
+    ∙ ap (seen (slot_seen errors))
     ((c.get_mut.follows.holds c.settle.new.self).0 ∙ ap (set_value (is_at (nat_cmp n)) es) c.settle.ensures.slot)
     ∙ answer-seen errors n c.args.answer es c.get_mut.ensures.ordered (Answered c.args.answer) refl c.in-Some.slot.now (sym c.in-Some.ensures.value)
 
@@ -58,7 +58,7 @@ pub returns-in-None-clause-slots : goal.returns-in-None-clause-slots
 returns-in-None-clause-slots c =
     let es = c.args.self.now.slots.entries in
     let errors = c.args.self.now.errors.errors.entries in
-    ap (λ (m : BTreeMap ℕ Slot). entries_seen (slot_seen errors) m.entries) c.get_mut.follows.holds-at-none
+    ap (λ (m : BTreeMap ℕ Slot). seen (slot_seen errors) m.entries) c.get_mut.follows.holds-at-none
     ∙ settle-none errors c.args.number c.args.answer es c.get_mut.ensures.ordered (sym c.get_mut.ensures.value ∙ ap option_copied_mut c.in-None.is)
 
 pub returns-in-Some-clause-place : goal.returns-in-Some-clause-place

@@ -3,7 +3,7 @@ use Rattle.std.specs.Ordering.{nat_cmp}
 use Rattle.std.specs.Map.{set_value}
 use Rattle.std.specs.BTreeMap.{BTreeMap, is_at}
 use Rattle.std.specs.Option.{option_copied_mut}
-use Rattle.amqp_outbox.specs.Order.{entries_seen}
+use Rattle.amqp_outbox.specs.Order.{seen}
 use Rattle.amqp_session.specs.declared.promises.Slot.{Slot}
 use Rattle.amqp_session.specs.declared.promises.Slot.TheVariants.{Shared}
 use Rattle.amqp_session.specs.Listed.{at}
@@ -54,7 +54,7 @@ returns-in-Some-clause-slots c e kept =
     let errors = self.errors.errors.entries in
     let k = c.args.why.now.number in
     seen-held (c.get_mut.follows.lender c.share.new.self).entries errors c.share.new.errors.errors.entries (λ n h. c.share.ensures.errors n)
-    ∙ ap (entries_seen (slot_seen errors))
+    ∙ ap (seen (slot_seen errors))
     ((c.get_mut.follows.holds c.share.new.self).0 ∙ ap (set_value (is_at (nat_cmp c.args.number)) es) c.share.ensures.slot)
     ∙ answer-where errors c.args.number (Err e) es c.get_mut.ensures.ordered (Shared k) (error-seen errors k e kept)
     (is_some (error_at k errors)) (ap is_some kept) c.in-Some.slot.now (sym c.in-Some.ensures.value)
@@ -63,7 +63,7 @@ pub returns-in-None-clause-slots : goal.returns-in-None-clause-slots
 returns-in-None-clause-slots c e kept =
     let es = c.args.self.now.slots.entries in
     let errors = c.args.self.now.errors.errors.entries in
-    ap (λ (m : BTreeMap ℕ Slot). entries_seen (slot_seen errors) m.entries) c.get_mut.follows.holds-at-none
+    ap (λ (m : BTreeMap ℕ Slot). seen (slot_seen errors) m.entries) c.get_mut.follows.holds-at-none
     ∙ settle-none errors c.args.number (Err e) es c.get_mut.ensures.ordered (sym c.get_mut.ensures.value ∙ ap option_copied_mut c.in-None.is)
 
 pub returns-in-Some-clause-place : goal.returns-in-Some-clause-place
