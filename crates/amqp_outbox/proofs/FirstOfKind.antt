@@ -1,5 +1,5 @@
 -- The first of a list that awaits a reply.
-use Rattle.std.proofs.Common.{◌≡◌, ◌∙◌, ap, sym, refl, ℕ, zero, suc, ◌<◌, ◌==◌, arith, Bool, true, false, cond, List, [], ◌∷◌, ◌++◌, Option, Some, None, length, take, drop}
+use Rattle.std.proofs.Common.{◌≡◌, ◌∙◌, ap, sym, refl, ℕ, zero, suc, ◌<◌, ◌==◌, arith, Bool, true, false, cond, List, [], ◌∷◌, ◌++◌, Option, Some, None, length, take}
 use Rattle.std.specs.Prelude.{find, is_some, IfSome, IfNone, OnSome, if◌then◌else◌, slice_index_or}
 use Rattle.std.specs.List.{AllByRecursion, remove}
 use Rattle.amqp_outbox.specs.declared.kinds.Kinds.{Kinds}

@@ -1,15 +1,14 @@
 -- The first thing of a key, which is taken out of a lane.
-use Rattle.std.proofs.Common.{◌≡◌, ◌∙◌, ap, sym, refl, subst, ℕ, ◌<◌, ◌==◌, Bool, true, false, cond, if◌then◌else◌, List, [], ◌∷◌, Option, Some, None, arith, tests}
-use Rattle.std.specs.Prelude.{drop, find, length, not, is_some}
+use Rattle.std.proofs.Common.{◌≡◌, ◌∙◌, ap, sym, refl, subst, ℕ, ◌<◌, ◌==◌, Bool, true, false, cond, if◌then◌else◌, List, [], ◌∷◌, Option, Some, None}
+use Rattle.std.specs.Prelude.{drop, find}
 use Rattle.std.specs.List.{AllByRecursion}
 use Rattle.std.specs.declared.cmp.Ordering.TheVariants.{Less, Equal, Greater}
 use Rattle.std.specs.Ordering.{nat_cmp, is_eq}
-use Rattle.std.specs.List.Sorted.{IsStrictlySortedBy}
 use Rattle.std.specs.Map.{keys_of, values_of}
 use Rattle.std.proofs.lemmas.Map.Keys.{sorted_head, sorted_tail}
 use Rattle.amqp_outbox.specs.Lists.{head, without_first, is_the_number}
 use Rattle.amqp_outbox.specs.Listed.{at, without}
-use Rattle.amqp_outbox.specs.Order.{seen_first, held, has_key, numbers_under}
+use Rattle.amqp_outbox.specs.Order.{held, has_key, numbers_under}
 use Rattle.amqp_outbox.proofs.Cases.{less-from, to-greater}
 use Rattle.amqp_types.proofs.Small.{the-number, nat_cmp_self}
 use Rattle.amqp_outbox.proofs.Seen.{Sorted, sorted-seen}

@@ -6,7 +6,7 @@ use Rattle.amqp_outbox.specs.declared.replies.Replies.{Replies}
 use Rattle.amqp_outbox.specs.Lists.{without_first}
 use Rattle.amqp_outbox.specs.Listed.{at}
 use Rattle.amqp_outbox.specs.Replies.{is_of}
-use Rattle.amqp_outbox.specs.Order.{seen, waiting}
+use Rattle.amqp_outbox.specs.Order.{seen}
 use Rattle.amqp_outbox.specs.Parts.{list_seen}
 use Rattle.amqp_outbox.proofs.Cases.{on-none}
 use Rattle.amqp_outbox.proofs.ByChannel.{awaited-seen, take-seen, keep-seen, none-awaited, none-taken-out}

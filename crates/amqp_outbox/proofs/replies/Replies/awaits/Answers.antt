@@ -1,7 +1,4 @@
-use Rattle.std.proofs.Common.{◌≡◌, ◌∙◌, ap, sym, ℕ, Option, Some, None, IfSome, IfNone}
-use Rattle.std.specs.Prelude.{find, is_some}
-use Rattle.amqp_outbox.specs.declared.reply.Awaited.{Awaited}
-use Rattle.amqp_outbox.specs.Lists.{IsFirstAt}
+use Rattle.std.proofs.Common.{◌∙◌}
 use Rattle.amqp_outbox.specs.Replies.{is_of}
 use Rattle.amqp_outbox.proofs.FirstOfKind.{there-found}
 use Rattle.amqp_outbox.proofs.replies.Replies.awaits.Goals as goal
