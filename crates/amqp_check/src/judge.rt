@@ -1,6 +1,7 @@
 //! A client that is heard frame by frame.
 
-ghost use Rattle.std.specs.Prelude.{◌≡◌, ◌<◌, ◌+◌, ◌^◌, ℕ, [], ◌∷◌, ◌++◌, List, Some, None, IfOk, IsTrue, IsFalse, is_some};
+ghost use Rattle.std.specs.Prelude.{◌≡◌, ◌<◌, ◌+◌, ◌^◌, ℕ, [], ◌∷◌, ◌++◌, List, Some, None, IfOk};
+ghost use Rattle.std.specs.Prelude.{IsTrue, IsFalse, is_some};
 ghost use Rattle.amqp_frame.specs.declared.frame.Frame.{Frame};
 
 use amqp_frame::Frame;

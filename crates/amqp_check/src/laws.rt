@@ -14,8 +14,8 @@ ghost use Rattle.amqp_check.specs.declared.finding.Finding.{Finding};
 
 /// No capture has two verdicts.
 pub fn captures_have_one_verdict()
-    ensures { (client server : List ℕ) (one other : Verdict) → IsVerdict client server one → IsVerdict client server other
-        → one ≡ other }
+    ensures { (client server : List ℕ) (one other : Verdict) → IsVerdict client server one
+        → IsVerdict client server other → one ≡ other }
 {}
 
 /// What is found is the verdict, where both sides are frames and nothing else.
@@ -28,5 +28,6 @@ pub fn what_is_found_is_the_verdict()
 /// expected there, by the usage of the channels.
 pub fn what_may_follow()
     ensures { (frames : List Frame) (s : Speech) (f : Frame) → IsSaid frames s
-        → Legal (frames ++ f ∷ []) ↔ IsTrue (fits (expected_after (length frames) (speech_of s)) (speech_of s).usage f) }
+        → Legal (frames ++ f ∷ []) ↔ IsTrue
+        (fits (expected_after (length frames) (speech_of s)) (speech_of s).usage f) }
 {}
