@@ -1,5 +1,5 @@
 -- What a client may say next (AMQP 0-9-1, 2.2.4, and the grammars of its classes connection and channel).
-use Rattle.std.specs.Prelude.{ℕ, zero, suc, ◌==◌, ◌&&◌, ◌||◌, not, nat_le, Bool, true, false, length}
+use Rattle.std.specs.Prelude.{ℕ, zero, suc, ◌==◌, ◌&&◌, ◌||◌, not, nat_le, Bool, true, false, IsTrue, List, length}
 use Rattle.amqp_frame.specs.declared.frame.Frame.{Frame}
 use Rattle.amqp_frame.specs.declared.frame.Frame.TheVariants as f
 use Rattle.amqp_frame.specs.declared.frame.RawKind.TheVariants as raw
@@ -107,3 +107,7 @@ fits (next.ContentHeader n class) usage frame =
 fits (next.Body n missing) usage frame = is_close_ok frame || is_body_of n missing frame
 fits next.CloseOk usage frame = is_close_ok frame
 fits next.Nothing usage frame = false
+
+-- a frame is what is expected behind these frames, which led there
+abbrev pub IsExpected : List Frame → Speech → Frame → Type 0
+IsExpected frames s frame = IsTrue (fits (expected_after (length frames) s) s.usage frame)

@@ -1,12 +1,12 @@
 //! What holds of each capture.
 
-ghost use Rattle.std.specs.Prelude.{◌≡◌, ◌↔◌, ◌++◌, ◌∷◌, [], ℕ, List, IsTrue, length};
+ghost use Rattle.std.specs.Prelude.{◌≡◌, ◌↔◌, ◌++◌, ◌∷◌, [], ℕ, List};
 ghost use Rattle.amqp_frame.specs.declared.frame.Frame.{Frame};
 ghost use Rattle.amqp_legal.specs.Legal.{Legal};
 ghost use Rattle.amqp_legal.specs.Speeches.{speech_of};
 ghost use Rattle.amqp_legal.specs.declared.speech.Speech.{Speech};
 ghost use Rattle.amqp_check.specs.Findings.{IsSaid, IsFinding};
-ghost use Rattle.amqp_check.specs.Expected.{expected_after, fits};
+ghost use Rattle.amqp_check.specs.Expected.{IsExpected};
 ghost use Rattle.amqp_check.specs.Verdicts.{IsWhole, IsVerdict};
 ghost use Rattle.amqp_check.specs.declared.capture.Verdict.{Verdict};
 ghost use Rattle.amqp_check.specs.declared.capture.Verdict.TheVariants as verdict;
@@ -28,6 +28,5 @@ pub fn what_is_found_is_the_verdict()
 /// expected there, by the usage of the channels.
 pub fn what_may_follow()
     ensures { (frames : List Frame) (s : Speech) (f : Frame) → IsSaid frames s
-        → Legal (frames ++ f ∷ []) ↔ IsTrue
-        (fits (expected_after (length frames) (speech_of s)) (speech_of s).usage f) }
+        → Legal (frames ++ f ∷ []) ↔ IsExpected frames (speech_of s) f }
 {}

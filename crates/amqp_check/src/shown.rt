@@ -50,6 +50,14 @@ fn frame_name(frame: &Frame) -> &'static str {
     }
 }
 
+// The channel that a content goes on on; 0 where none goes on.
+fn channel_in(content: Content) -> ChannelId {
+    match content {
+        Content::NoContent => 0,
+        Content::MethodSaid(channel, _) | Content::BodyMissing(channel, _) => channel,
+    }
+}
+
 // The channel that a frame names.
 fn channel_of(frame: &Frame) -> ChannelId {
     match frame {
@@ -93,21 +101,33 @@ fn show_content<W: fmt::Write>(content: Content, f: &mut fmt::Formatter<W>) -> f
     }
 }
 
-// What was said before, as far as it matters for a channel.
-fn show_said<W: fmt::Write>(
-    finding: &Finding,
-    channel: ChannelId,
-    f: &mut fmt::Formatter<W>,
-) -> fmt::Result {
+// What was said before, as far as it matters for the frame.
+fn show_said<W: fmt::Write>(finding: &Finding, f: &mut fmt::Formatter<W>) -> fmt::Result {
     if finding.number == 0 {
         return f.write_str("nothing");
     }
+    let content = finding.said.content();
+    let channel = match channel_of(&finding.frame) {
+        0 => channel_in(content),
+        channel => channel,
+    };
     f.write_str(stage_name(finding.said.stage()))?;
     if channel != 0 {
         let usage = usage_name(finding.said.usage(channel));
         write!(f, "; channel {channel} {usage}")?;
     }
-    show_content(finding.said.content(), f)
+    show_content(content, f)
+}
+
+// Where which frame stands.
+fn show_frame<W: fmt::Write>(finding: &Finding, f: &mut fmt::Formatter<W>) -> fmt::Result {
+    let (place, number) = (finding.place, finding.number);
+    let name = frame_name(&finding.frame);
+    write!(f, "client byte {place}: frame {number} is {name}")?;
+    match channel_of(&finding.frame) {
+        0 => Ok(()),
+        channel => write!(f, " on channel {channel}"),
+    }
 }
 
 impl fmt::Display for Expected {
@@ -140,14 +160,9 @@ impl fmt::Display for Expected {
 
 impl fmt::Display for Finding {
     fn fmt<W: fmt::Write>(&self, f: &mut fmt::Formatter<W>) -> fmt::Result {
-        let (place, number) = (self.place, self.number);
-        let name = frame_name(&self.frame);
-        let channel = channel_of(&self.frame);
-        write!(
-            f,
-            "client byte {place}: frame {number} is {name} on channel {channel}\nsaid so far: "
-        )?;
-        show_said(self, channel, f)?;
+        show_frame(self, f)?;
+        f.write_str("\nsaid so far: ")?;
+        show_said(self, f)?;
         let expected = self.expected();
         write!(f, "\n{expected}")
     }
