@@ -41,7 +41,8 @@ impl Judge {
     /// Hears the next frame.
     pub fn hear(&mut self, frame: &Frame)
         requires { self.old.frames + 1 < 2 ^ 64 }
-        ensures heard { (frames : List Frame) → HasHeard frames self.old → HasHeard (frames ++ frame.now ∷ []) self.new }
+        ensures heard { (frames : List Frame) → HasHeard frames self.old
+            → HasHeard (frames ++ frame.now ∷ []) self.new }
         ensures count { self.new.frames ≡ self.old.frames + 1 }
         ensures before { IsTrue (is_some self.new.illegal) → self.new.said ≡ self.old.said }
     {

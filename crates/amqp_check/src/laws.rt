@@ -20,8 +20,8 @@ pub fn captures_have_one_verdict()
 
 /// What is found is the verdict, where both sides are frames and nothing else.
 pub fn what_is_found_is_the_verdict()
-    ensures { (client server : List ℕ) (finding : Finding) → IsFinding client finding → IsOnlyFrames client → IsOnlyFrames server
-        → IsVerdict client server (verdict.Illegal finding.number) }
+    ensures { (client server : List ℕ) (finding : Finding) → IsFinding client finding
+        → IsOnlyFrames client → IsOnlyFrames server → IsVerdict client server (verdict.Illegal finding.number) }
 {}
 
 /// Behind frames that are a legal conversation, a frame may be said exactly where it is what is
