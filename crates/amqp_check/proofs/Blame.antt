@@ -9,9 +9,9 @@ use Rattle.amqp_frame.proofs.Sequences.{frame-size, stand-push, stand-begins}
 use Rattle.amqp_legal.specs.Legal.{Legal}
 use Rattle.amqp_legal.specs.declared.speech.Speech.{Speech as Spoken}
 use Rattle.amqp_legal.proofs.Saying.{front-legal}
-use Rattle.amqp_check.specs.Verdicts.{no_limit, AreFrames, IsWhole, IsFirstIllegal, IsVerdict}
-use Rattle.amqp_check.specs.Hearing.{EndsHere, IsHeard, Heard}
-use Rattle.amqp_check.specs.Findings.{IsSaid, IsFinding, IsLegalSide}
+use Rattle.amqp_check.specs.Verdicts.{no_limit, OnlyFrames, IsOnlyFrames, IsFirstIllegal, IsVerdict}
+use Rattle.amqp_check.specs.Hearing.{EndsHere, IsHeard, HasHeard}
+use Rattle.amqp_check.specs.Findings.{IsLegallySaid, IsFinding, IsLegalSide}
 use Rattle.amqp_check.specs.declared.judge.Judge.{Judge}
 use Rattle.amqp_check.specs.declared.end.End.{End}
 use Rattle.amqp_check.specs.declared.end.End.TheVariants as at
@@ -29,8 +29,8 @@ last-one : (m n : ℕ) → m < n + 1 → (m < n → ⊥) → m ≡ n
 last-one m n h k = omega (arith, h, k)
 
 pub finding-of : (client : List ℕ) (frames : List Frame) (place : ℕ) (f : Frame) (n : ℕ) (old new : Judge) (number : ℕ)
-    → Stand client no_limit 0 frames place → front_at client no_limit place ≡ Whole f n → old.illegal ≡ None → Heard frames old
-    → new.illegal ≡ Some number → new.said ≡ old.said → Heard (frames ++ f ∷ []) new
+    → Stand client no_limit 0 frames place → front_at client no_limit place ≡ Whole f n → old.illegal ≡ None → HasHeard frames old
+    → new.illegal ≡ Some number → new.said ≡ old.said → HasHeard (frames ++ f ∷ []) new
     → IsFinding client (record { number = number; place = place; frame = f; said = new.said })
 finding-of client frames place f n old new number stand here none h some same k =
     let all = all-heard frames old none h in
@@ -42,7 +42,7 @@ finding-of client frames place f n old new number stand here none h some same k 
       stand = stand;
       here = here;
       count = count;
-      so_far = subst (λ (s : Spoken). IsSaid frames s) (sym same) all;
+      so_far = subst (λ (s : Spoken). IsLegallySaid frames s) (sym same) all;
       illegal = λ legal. first.illegal (subst Legal (sym (all-taken (frames ++ f ∷ []) (suc number) (omega (arith, count, length-append frames (f ∷ []))))) legal);
     }
 
@@ -53,13 +53,13 @@ ended client frames place (at.Bad p) s h = (Broken, (s, h.1))
 ended client frames place (at.Cut p) s h = (Cut, (s, h.1))
 
 pub legal-side : (client : List ℕ) (frames : List Frame) (place : ℕ) (end : End) (judge : Judge) → Stand client no_limit 0 frames place → EndsHere client place end
-    → judge.illegal ≡ None → Heard frames judge → IsLegalSide client
+    → judge.illegal ≡ None → HasHeard frames judge → IsLegalSide client
 legal-side client frames place end judge stand ends none h =
     let e = ended client frames place end stand ends in
     (frames, place, e.0, e.1, (all-heard frames judge none h).legal)
 
 -- it is the verdict on a capture that is frames and nothing else
-pub finding-is-first : (client : List ℕ) (frames : List Frame) (f : Finding) → IsFinding client f → AreFrames client frames → IsFirstIllegal frames f.number
+pub finding-is-first : (client : List ℕ) (frames : List Frame) (f : Finding) → IsFinding client f → OnlyFrames client frames → IsFirstIllegal frames f.number
 finding-is-first client frames f is whole =
     let size = frame-size (drop f.place client) no_limit is.size f.frame is.here in
     let within : f.place + is.size ≤ length client = omega (arith, size.0, size.1, length-drop f.place client) in
@@ -68,5 +68,5 @@ finding-is-first client frames f is whole =
     let first = illegal-now is.before f.frame f.number is.count is.so_far.legal is.illegal in
     subst (λ (fs : List Frame). IsFirstIllegal fs f.number) (sym rest.1) (illegal-more (is.before ++ f.frame ∷ []) rest.0 f.number first)
 
-pub found-verdict : (client server : List ℕ) (f : Finding) → IsFinding client f → IsWhole client → IsWhole server → IsVerdict client server (verdict.Illegal f.number)
+pub found-verdict : (client server : List ℕ) (f : Finding) → IsFinding client f → IsOnlyFrames client → IsOnlyFrames server → IsVerdict client server (verdict.Illegal f.number)
 found-verdict client server f is whole answered = (whole.0, whole.1, answered, finding-is-first client whole.0 f is whole.1)

@@ -16,8 +16,8 @@ use Rattle.amqp_legal.specs.Octets.{class_in, body_size_in}
 use Rattle.amqp_legal.specs.Speeches.{speech_of, after_header}
 use Rattle.amqp_legal.specs.declared.speech.Speech.{Speech as Spoken}
 use Rattle.amqp_legal.proofs.Saying.{all-said, one-more}
-use Rattle.amqp_check.specs.Findings.{IsSaid}
-use Rattle.amqp_check.specs.Expected.{expected_at, expected_behind, expected_after, is_in_use, is_shut, is_close_ok, is_start_ok, is_secure_ok_or_tune_ok, is_open, is_method, is_header_of, is_body_of, fits}
+use Rattle.amqp_check.specs.Findings.{IsLegallySaid}
+use Rattle.amqp_check.specs.Expected.{expected_at, expected_behind, expected_after, is_in_use, is_shut, is_our_close_ok, is_start_ok, is_secure_ok_or_tune_ok, is_opening, is_method, is_header_of, is_body_of, is_as_expected}
 
 -- ---- on a channel
 
@@ -86,23 +86,23 @@ in-body n missing _ s = refl
 
 -- ---- at each stage
 
-header-said : (g : Frame) (s : Speech) → is_some (in_stage HeaderSaid g s) ≡ (is_close_ok g || is_start_ok g)
+header-said : (g : Frame) (s : Speech) → is_some (in_stage HeaderSaid g s) ≡ (is_our_close_ok g || is_start_ok g)
 header-said (f.Method zero m.CloseOk) s = refl
 header-said (f.Method zero (m.StartOk properties mechanism response locale)) s = refl
 header-said _ s = refl
 
-start-ok-said : (g : Frame) (s : Speech) → is_some (in_stage StartOkSaid g s) ≡ (is_close_ok g || is_secure_ok_or_tune_ok g)
+start-ok-said : (g : Frame) (s : Speech) → is_some (in_stage StartOkSaid g s) ≡ (is_our_close_ok g || is_secure_ok_or_tune_ok g)
 start-ok-said (f.Method zero m.CloseOk) s = refl
 start-ok-said (f.Method zero (m.SecureOk response)) s = refl
 start-ok-said (f.Method zero (m.TuneOk channel_max frame_max heartbeat)) s = refl
 start-ok-said _ s = refl
 
-tune-ok-said : (g : Frame) (s : Speech) → is_some (in_stage TuneOkSaid g s) ≡ (is_close_ok g || is_open g)
+tune-ok-said : (g : Frame) (s : Speech) → is_some (in_stage TuneOkSaid g s) ≡ (is_our_close_ok g || is_opening g)
 tune-ok-said (f.Method zero m.CloseOk) s = refl
 tune-ok-said (f.Method zero (m.Open vhost)) s = refl
 tune-ok-said _ s = refl
 
-close-said : (g : Frame) (s : Speech) → is_some (in_stage CloseSaid g s) ≡ is_close_ok g
+close-said : (g : Frame) (s : Speech) → is_some (in_stage CloseSaid g s) ≡ is_our_close_ok g
 close-said (f.Method zero m.CloseOk) s = refl
 close-said _ s = refl
 
@@ -110,23 +110,23 @@ or-none : (a b : Bool) → a ≡ false → b ≡ (a || b)
 or-none true b h = cc
 or-none false b h = refl
 
-content-fits : (c : Content) (g : Frame) (s : Speech) → is_close_ok g ≡ false → is_some (in_content c g s) ≡ fits (expected_behind c) s.usage g
-content-fits NoContent g s other = block-fits g s ∙ or-none (is_close_ok g) (is_method s.usage g) other
-content-fits (MethodSaid n class) g s other = behind-method n class g s ∙ or-none (is_close_ok g) (is_header_of n class g || is_method s.usage g) other
-content-fits (BodyMissing n zero) g s other = block-fits g s ∙ or-none (is_close_ok g) (is_method s.usage g) other
-content-fits (BodyMissing n (suc missing)) g s other = in-body n missing g s ∙ or-none (is_close_ok g) (is_body_of n (suc missing) g) other
+content-fits : (c : Content) (g : Frame) (s : Speech) → is_our_close_ok g ≡ false → is_some (in_content c g s) ≡ is_as_expected (expected_behind c) s.usage g
+content-fits NoContent g s other = block-fits g s ∙ or-none (is_our_close_ok g) (is_method s.usage g) other
+content-fits (MethodSaid n class) g s other = behind-method n class g s ∙ or-none (is_our_close_ok g) (is_header_of n class g || is_method s.usage g) other
+content-fits (BodyMissing n zero) g s other = block-fits g s ∙ or-none (is_our_close_ok g) (is_method s.usage g) other
+content-fits (BodyMissing n (suc missing)) g s other = in-body n missing g s ∙ or-none (is_our_close_ok g) (is_body_of n (suc missing) g) other
 
-close-ok-fits : (c : Content) (usage : ℕ → Usage) → true ≡ fits (expected_behind c) usage (f.Method 0 m.CloseOk)
+close-ok-fits : (c : Content) (usage : ℕ → Usage) → true ≡ is_as_expected (expected_behind c) usage (f.Method 0 m.CloseOk)
 close-ok-fits NoContent usage = refl
 close-ok-fits (MethodSaid n class) usage = refl
 close-ok-fits (BodyMissing n zero) usage = refl
 close-ok-fits (BodyMissing n (suc missing)) usage = refl
 
-open-said : (g : Frame) (s : Speech) → is_some (in_stage OpenSaid g s) ≡ fits (expected_behind s.content) s.usage g
+open-said : (g : Frame) (s : Speech) → is_some (in_stage OpenSaid g s) ≡ is_as_expected (expected_behind s.content) s.usage g
 open-said (f.Method zero m.CloseOk) s = close-ok-fits s.content s.usage
 open-said g s = content-fits s.content g s refl
 
-stage-fits : (stage : Stage) (g : Frame) (s : Speech) → is_some (in_stage stage g s) ≡ fits (expected_at stage s.content) s.usage g
+stage-fits : (stage : Stage) (g : Frame) (s : Speech) → is_some (in_stage stage g s) ≡ is_as_expected (expected_at stage s.content) s.usage g
 stage-fits HeaderSaid g s = header-said g s
 stage-fits StartOkSaid g s = start-ok-said g s
 stage-fits TuneOkSaid g s = tune-ok-said g s
@@ -136,15 +136,15 @@ stage-fits CloseOkSaid g s = refl
 
 -- ---- behind what was said
 
-pub what-follows : (frames : List Frame) (s : Spoken) (g : Frame) → IsSaid frames s
-    → Legal (frames ++ g ∷ []) ↔ IsTrue (fits (expected_after (length frames) (speech_of s)) (speech_of s).usage g)
+pub what-follows : (frames : List Frame) (s : Spoken) (g : Frame) → IsLegallySaid frames s
+    → Legal (frames ++ g ∷ []) ↔ IsTrue (is_as_expected (expected_after (length frames) (speech_of s)) (speech_of s).usage g)
 what-follows [] s g is = (λ legal. ((all-said g []).0 legal).0, λ header. (all-said g []).1 (header, refl))
 what-follows (first ∷ fs) s g is = (there, back) where
-  same : is_some (after_header (fs ++ g ∷ [])) ≡ fits (expected_at s.stage s.content) (speech_of s).usage g
+  same : is_some (after_header (fs ++ g ∷ [])) ≡ is_as_expected (expected_at s.stage s.content) (speech_of s).usage g
   same = ap is_some (one-more fs g (speech_of s) is.said) ∙ stage-fits s.stage g (speech_of s)
 
-  there : Legal (first ∷ fs ++ g ∷ []) → IsTrue (fits (expected_at s.stage s.content) (speech_of s).usage g)
+  there : Legal (first ∷ fs ++ g ∷ []) → IsTrue (is_as_expected (expected_at s.stage s.content) (speech_of s).usage g)
   there legal = sym same ∙ ((all-said first (fs ++ g ∷ [])).0 legal).1
 
-  back : IsTrue (fits (expected_at s.stage s.content) (speech_of s).usage g) → Legal (first ∷ fs ++ g ∷ [])
+  back : IsTrue (is_as_expected (expected_at s.stage s.content) (speech_of s).usage g) → Legal (first ∷ fs ++ g ∷ [])
   back h = (all-said first (fs ++ g ∷ [])).1 (((all-said first fs).0 is.legal).0, same ∙ h)

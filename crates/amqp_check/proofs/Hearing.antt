@@ -9,8 +9,8 @@ use Rattle.amqp_legal.specs.Speeches.{speech_of, HasSaid}
 use Rattle.amqp_legal.specs.declared.speech.Speech.{Speech as Spoken}
 use Rattle.amqp_legal.proofs.TakenIsLegal.{sound}
 use Rattle.amqp_legal.proofs.Saying.{front-legal, all-said, one-more, begun, gone-on}
-use Rattle.amqp_check.specs.Findings.{IsSaid}
-use Rattle.amqp_check.specs.Hearing.{IsHeard, Heard}
+use Rattle.amqp_check.specs.Findings.{IsLegallySaid}
+use Rattle.amqp_check.specs.Hearing.{IsHeard, HasHeard}
 use Rattle.amqp_check.specs.Verdicts.{IsFirstIllegal}
 use Rattle.amqp_check.specs.declared.judge.Judge.{Judge}
 
@@ -42,45 +42,45 @@ illegal-now fs g i is legal refused = record {
 -- ---- what was said
 
 -- all was said
-pub all-heard : (frames : List Frame) (judge : Judge) → judge.illegal ≡ None → Heard frames judge → IsSaid frames judge.said
+pub all-heard : (frames : List Frame) (judge : Judge) → judge.illegal ≡ None → HasHeard frames judge → IsLegallySaid frames judge.said
 all-heard frames judge none h = subst (λ (o : Option ℕ). IsHeard frames o judge.said) none h.judged
 
 -- nothing is
-pub nothing-heard : (s : Spoken) → speech_of s ≡ greeted → Heard [] (record { said = s; frames = 0; illegal = None })
+pub nothing-heard : (s : Spoken) → speech_of s ≡ greeted → HasHeard [] (record { said = s; frames = 0; illegal = None })
 nothing-heard s is = record { count = refl; judged = record { legal = sound [] refl; said = begun s is } }
 
 -- the header begins it
-pub said-first : (frames : List Frame) (g : Frame) (judge : Judge) → judge.illegal ≡ None → judge.frames ≡ 0 → Heard frames judge
-    → is_amqp_header g ≡ true → IsSaid (frames ++ g ∷ []) judge.said
+pub said-first : (frames : List Frame) (g : Frame) (judge : Judge) → judge.illegal ≡ None → judge.frames ≡ 0 → HasHeard frames judge
+    → is_amqp_header g ≡ true → IsLegallySaid (frames ++ g ∷ []) judge.said
 said-first [] g judge none zeroth h header = record {
   legal = (all-said g []).1 (header, refl);
   said = (all-heard [] judge none h).said;
 }
 said-first (f ∷ frames) g judge none zeroth h header = absurd (omega (arith, zeroth, h.count))
 
-pub refused-first : (frames : List Frame) (g : Frame) (judge : Judge) → judge.frames ≡ 0 → Heard frames judge
+pub refused-first : (frames : List Frame) (g : Frame) (judge : Judge) → judge.frames ≡ 0 → HasHeard frames judge
     → is_amqp_header g ≡ false → Legal (frames ++ g ∷ []) → ⊥
 refused-first [] g judge zeroth h header legal = let is = ((all-said g []).0 legal).0 in absurd cc
 refused-first (f ∷ frames) g judge zeroth h header legal = absurd (omega (arith, zeroth, h.count))
 
 -- then one frame more
-said-more : (f g : Frame) (fs : List Frame) (old new : Spoken) → IsSaid (f ∷ fs) old → say g (speech_of old) ≡ Some (speech_of new) → IsSaid ((f ∷ fs) ++ g ∷ []) new
+said-more : (f g : Frame) (fs : List Frame) (old new : Spoken) → IsLegallySaid (f ∷ fs) old → say g (speech_of old) ≡ Some (speech_of new) → IsLegallySaid ((f ∷ fs) ++ g ∷ []) new
 said-more f g fs old new is said =
     let on : HasSaid (fs ++ g ∷ []) new = gone-on fs g old new is.said said in
     record { legal = (all-said f (fs ++ g ∷ [])).1 (((all-said f fs).0 is.legal).0, ap is_some on); said = on }
 
-refused-more : (f g : Frame) (fs : List Frame) (s : Spoken) → IsSaid (f ∷ fs) s → say g (speech_of s) ≡ None → Legal ((f ∷ fs) ++ g ∷ []) → ⊥
+refused-more : (f g : Frame) (fs : List Frame) (s : Spoken) → IsLegallySaid (f ∷ fs) s → say g (speech_of s) ≡ None → Legal ((f ∷ fs) ++ g ∷ []) → ⊥
 refused-more f g fs s is refused legal =
     let said = ((all-said f (fs ++ g ∷ [])).0 legal).1 in
     let none = ap is_some (one-more fs g (speech_of s) is.said ∙ refused) in
     absurd cc
 
-pub said-next : (frames : List Frame) (g : Frame) (judge : Judge) (new : Spoken) → judge.illegal ≡ None → judge.frames ≢ 0 → Heard frames judge
-    → say g (speech_of judge.said) ≡ Some (speech_of new) → IsSaid (frames ++ g ∷ []) new
+pub said-next : (frames : List Frame) (g : Frame) (judge : Judge) (new : Spoken) → judge.illegal ≡ None → judge.frames ≢ 0 → HasHeard frames judge
+    → say g (speech_of judge.said) ≡ Some (speech_of new) → IsLegallySaid (frames ++ g ∷ []) new
 said-next [] g judge new none some h said = absurd (some h.count)
 said-next (f ∷ frames) g judge new none some h said = said-more f g frames judge.said new (all-heard (f ∷ frames) judge none h) said
 
-pub refused-next : (frames : List Frame) (g : Frame) (judge : Judge) → judge.illegal ≡ None → judge.frames ≢ 0 → Heard frames judge
+pub refused-next : (frames : List Frame) (g : Frame) (judge : Judge) → judge.illegal ≡ None → judge.frames ≢ 0 → HasHeard frames judge
     → say g (speech_of judge.said) ≡ None → Legal (frames ++ g ∷ []) → ⊥
 refused-next [] g judge none some h refused legal = some h.count
 refused-next (f ∷ frames) g judge none some h refused legal = refused-more f g frames judge.said (all-heard (f ∷ frames) judge none h) refused legal
@@ -91,8 +91,8 @@ count-more : (frames : List Frame) (g : Frame) (n : ℕ) → n ≡ length frames
 count-more frames g n e = omega (arith, length-append frames (g ∷ []))
 
 -- a frame behind one that was refused
-pub hear-still : (frames : List Frame) (g : Frame) (judge : Judge) (i : ℕ) → judge.illegal ≡ Some i → Heard frames judge
-    → Heard (frames ++ g ∷ []) (record judge { frames = judge.frames + 1 })
+pub hear-still : (frames : List Frame) (g : Frame) (judge : Judge) (i : ℕ) → judge.illegal ≡ Some i → HasHeard frames judge
+    → HasHeard (frames ++ g ∷ []) (record judge { frames = judge.frames + 1 })
 hear-still frames g judge i is h = record {
   count = count-more frames g judge.frames h.count;
   judged =
@@ -101,16 +101,16 @@ hear-still frames g judge i is h = record {
 }
 
 -- a frame that was said
-pub hear-said : (frames : List Frame) (g : Frame) (old judge : Judge) → judge.frames ≡ old.frames → judge.illegal ≡ None → Heard frames old
-    → IsSaid (frames ++ g ∷ []) judge.said → Heard (frames ++ g ∷ []) (record judge { frames = judge.frames + 1 })
+pub hear-said : (frames : List Frame) (g : Frame) (old judge : Judge) → judge.frames ≡ old.frames → judge.illegal ≡ None → HasHeard frames old
+    → IsLegallySaid (frames ++ g ∷ []) judge.said → HasHeard (frames ++ g ∷ []) (record judge { frames = judge.frames + 1 })
 hear-said frames g old judge same none h said = record {
   count = count-more frames g judge.frames (same ∙ h.count);
   judged = subst (λ (o : Option ℕ). IsHeard (frames ++ g ∷ []) o judge.said) (sym none) said;
 }
 
 -- a frame that was refused
-pub hear-refused : (frames : List Frame) (g : Frame) (old judge : Judge) → judge.frames ≡ old.frames → old.illegal ≡ None → Heard frames old
-    → (Legal (frames ++ g ∷ []) → ⊥) → Heard (frames ++ g ∷ []) (record judge { frames = judge.frames + 1; illegal = Some judge.frames })
+pub hear-refused : (frames : List Frame) (g : Frame) (old judge : Judge) → judge.frames ≡ old.frames → old.illegal ≡ None → HasHeard frames old
+    → (Legal (frames ++ g ∷ []) → ⊥) → HasHeard (frames ++ g ∷ []) (record judge { frames = judge.frames + 1; illegal = Some judge.frames })
 hear-refused frames g old judge same none h refused = record {
   count = count-more frames g judge.frames (same ∙ h.count);
   judged = illegal-now frames g judge.frames (same ∙ h.count) (all-heard frames old none h).legal refused;

@@ -1,5 +1,5 @@
 -- What a client may say next (AMQP 0-9-1, 2.2.4, and the grammars of its classes connection and channel).
-use Rattle.std.specs.Prelude.{ℕ, zero, suc, ◌==◌, ◌&&◌, ◌||◌, not, nat_le, Bool, true, false, length}
+use Rattle.std.specs.Prelude.{ℕ, zero, suc, ◌==◌, ◌&&◌, ◌||◌, not, nat_le, Bool, true, false, IsTrue, List, length}
 use Rattle.amqp_frame.specs.declared.frame.Frame.{Frame}
 use Rattle.amqp_frame.specs.declared.frame.Frame.TheVariants as f
 use Rattle.amqp_frame.specs.declared.frame.RawKind.TheVariants as raw
@@ -51,9 +51,9 @@ is_shut Shut = true
 is_shut _ = false
 
 -- our close-ok of the connection
-abbrev pub is_close_ok : Frame → Bool
-is_close_ok (f.Method zero m.CloseOk) = true
-is_close_ok _ = false
+abbrev pub is_our_close_ok : Frame → Bool
+is_our_close_ok (f.Method zero m.CloseOk) = true
+is_our_close_ok _ = false
 
 -- start-ok
 abbrev pub is_start_ok : Frame → Bool
@@ -67,9 +67,9 @@ is_secure_ok_or_tune_ok (f.Method zero (m.TuneOk channel_max frame_max heartbeat
 is_secure_ok_or_tune_ok _ = false
 
 -- open
-abbrev pub is_open : Frame → Bool
-is_open (f.Method zero (m.Open vhost)) = true
-is_open _ = false
+abbrev pub is_opening : Frame → Bool
+is_opening (f.Method zero (m.Open vhost)) = true
+is_opening _ = false
 
 -- a heartbeat, update-secret or close of the connection; or a method on a channel whose usage allows it: open where
 -- the channel is not open, close-ok where it is open or left, and any other where it is open
@@ -96,14 +96,18 @@ is_body_of n missing (f.Raw o raw.Body body) = o == n && (nat_le 1 (length body)
 is_body_of n missing _ = false
 
 -- a frame is what is expected, by the usage of the channels
-abbrev pub fits : Expected → (ℕ → Usage) → Frame → Bool
-fits next.Header usage frame = is_amqp_header frame
-fits next.StartOk usage frame = is_close_ok frame || is_start_ok frame
-fits next.SecureOkOrTuneOk usage frame = is_close_ok frame || is_secure_ok_or_tune_ok frame
-fits next.Open usage frame = is_close_ok frame || is_open frame
-fits next.Method usage frame = is_close_ok frame || is_method usage frame
-fits (next.ContentHeader n class) usage frame =
-    is_close_ok frame || (is_header_of n class frame || is_method usage frame)
-fits (next.Body n missing) usage frame = is_close_ok frame || is_body_of n missing frame
-fits next.CloseOk usage frame = is_close_ok frame
-fits next.Nothing usage frame = false
+abbrev pub is_as_expected : Expected → (ℕ → Usage) → Frame → Bool
+is_as_expected next.Header usage frame = is_amqp_header frame
+is_as_expected next.StartOk usage frame = is_our_close_ok frame || is_start_ok frame
+is_as_expected next.SecureOkOrTuneOk usage frame = is_our_close_ok frame || is_secure_ok_or_tune_ok frame
+is_as_expected next.Open usage frame = is_our_close_ok frame || is_opening frame
+is_as_expected next.Method usage frame = is_our_close_ok frame || is_method usage frame
+is_as_expected (next.ContentHeader n class) usage frame =
+    is_our_close_ok frame || (is_header_of n class frame || is_method usage frame)
+is_as_expected (next.Body n missing) usage frame = is_our_close_ok frame || is_body_of n missing frame
+is_as_expected next.CloseOk usage frame = is_our_close_ok frame
+is_as_expected next.Nothing usage frame = false
+
+-- a frame is what is expected behind these frames, which led there
+abbrev pub IsExpected : List Frame → Speech → Frame → Type 0
+IsExpected frames s frame = IsTrue (is_as_expected (expected_after (length frames) s) s.usage frame)

@@ -15,7 +15,7 @@ behind_first [] = []
 behind_first (f ∷ frames) = frames
 
 -- frames that are a legal conversation, and the speech that says them; of no frame it is that of the header alone
-pub record IsSaid (frames : List Frame) (s : Speech) : Type 0 where
+pub record IsLegallySaid (frames : List Frame) (s : Speech) : Type 0 where
   pub legal : Legal frames
   pub said : HasSaid (behind_first frames) s
 
@@ -27,7 +27,7 @@ pub record IsFinding (client : List ℕ) (f : Finding) : Type 0 where
   pub stand : Stand client no_limit 0 before f.place
   pub here : front_at client no_limit f.place ≡ Whole f.frame size
   pub count : f.number ≡ length before
-  pub so_far : IsSaid before f.said
+  pub so_far : IsLegallySaid before f.said
   pub illegal : Legal (before ++ f.frame ∷ []) → ⊥
 
 -- the whole frames of one side, however it ends behind them, are legal

@@ -5,8 +5,8 @@ use Rattle.amqp_frame.specs.declared.frame.Read.TheVariants.{Whole}
 use Rattle.amqp_frame.specs.Sequences.{front_at, EndsAt, IsSequence}
 use Rattle.amqp_frame.specs.Sequences.SequenceEnd.{Complete, Cut, Broken}
 use Rattle.amqp_legal.specs.declared.speech.Speech.{Speech}
-use Rattle.amqp_check.specs.Verdicts.{no_limit, AreFrames, IsFirstIllegal}
-pub use Rattle.amqp_check.specs.Findings.{IsSaid}
+use Rattle.amqp_check.specs.Verdicts.{no_limit, OnlyFrames, IsFirstIllegal}
+pub use Rattle.amqp_check.specs.Findings.{IsLegallySaid}
 use Rattle.amqp_check.specs.declared.end.End.{End}
 use Rattle.amqp_check.specs.declared.end.End.TheVariants as at
 use Rattle.amqp_check.specs.declared.frames.Next.{Next}
@@ -21,7 +21,7 @@ EndsHere bytes place (at.Cut p) = (place ≡ p) × EndsAt bytes no_limit place C
 
 -- the whole frames of one side, and how it ends
 abbrev pub IsSide : List ℕ → List Frame → End → Type 0
-IsSide bytes frames at.Whole = AreFrames bytes frames
+IsSide bytes frames at.Whole = OnlyFrames bytes frames
 IsSide bytes frames (at.Bad place) = IsSequence bytes no_limit frames place Broken
 IsSide bytes frames (at.Cut place) = IsSequence bytes no_limit frames place Cut
 
@@ -33,10 +33,10 @@ IsNext bytes place (next.End end) = EndsHere bytes place end
 
 -- all may be said; or a first one may not
 abbrev pub IsHeard : List Frame → Option ℕ → Speech → Type 0
-IsHeard frames None s = IsSaid frames s
+IsHeard frames None s = IsLegallySaid frames s
 IsHeard frames (Some i) s = IsFirstIllegal frames i
 
 -- these frames were heard
-pub record Heard (frames : List Frame) (judge : Judge) : Type 0 where
+pub record HasHeard (frames : List Frame) (judge : Judge) : Type 0 where
   pub count : judge.frames ≡ length frames
   pub judged : IsHeard frames judge.illegal judge.said

@@ -14,12 +14,12 @@ abbrev pub no_limit : ℕ
 no_limit = 4294967295
 
 -- the octets are these frames, one after another, and nothing else
-abbrev pub AreFrames : List ℕ → List Frame → Type 0
-AreFrames bytes frames = IsSequence bytes no_limit frames (length bytes) Complete
+abbrev pub OnlyFrames : List ℕ → List Frame → Type 0
+OnlyFrames bytes frames = IsSequence bytes no_limit frames (length bytes) Complete
 
 -- the octets are frames and nothing else
-abbrev pub IsWhole : List ℕ → Type 0
-IsWhole bytes = (frames : List Frame) × AreFrames bytes frames
+abbrev pub IsOnlyFrames : List ℕ → Type 0
+IsOnlyFrames bytes = (frames : List Frame) × OnlyFrames bytes frames
 
 -- at this place, behind whole frames, no frame stands, whatever follows
 abbrev pub IsBadAt : List ℕ → ℕ → Type 0
@@ -43,10 +43,10 @@ pub record IsFirstIllegal (frames : List Frame) (i : ℕ) : Type 0 where
 abbrev pub IsVerdict : List ℕ → List ℕ → Verdict → Type 0
 IsVerdict client server (verdict.BadClient place) = IsBadAt client place
 IsVerdict client server (verdict.CutClient place) = IsCutAt client place
-IsVerdict client server (verdict.BadServer place) = IsWhole client × IsBadAt server place
-IsVerdict client server (verdict.CutServer place) = IsWhole client × IsCutAt server place
+IsVerdict client server (verdict.BadServer place) = IsOnlyFrames client × IsBadAt server place
+IsVerdict client server (verdict.CutServer place) = IsOnlyFrames client × IsCutAt server place
 IsVerdict client server (verdict.Illegal i) =
-    (said : List Frame) × AreFrames client said × IsWhole server × IsFirstIllegal said i
+    (said : List Frame) × OnlyFrames client said × IsOnlyFrames server × IsFirstIllegal said i
 IsVerdict client server (verdict.Legal frames others) =
-    (said : List Frame) × (answered : List Frame) × AreFrames client said × AreFrames server answered
+    (said : List Frame) × (answered : List Frame) × OnlyFrames client said × OnlyFrames server answered
     × Legal said × (frames ≡ length said) × (others ≡ length answered)

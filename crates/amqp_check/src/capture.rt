@@ -2,8 +2,8 @@
 
 ghost use Rattle.std.specs.Prelude.{◌≡◌, ℕ, List, [], IfOk, length};
 ghost use Rattle.amqp_frame.specs.declared.frame.Frame.{Frame};
-ghost use Rattle.amqp_check.specs.Hearing.{IsSide, Heard};
-ghost use Rattle.amqp_check.specs.Verdicts.{AreFrames, IsVerdict};
+ghost use Rattle.amqp_check.specs.Hearing.{IsSide, HasHeard};
+ghost use Rattle.amqp_check.specs.Verdicts.{OnlyFrames, IsVerdict};
 
 use crate::end::End;
 use crate::frames::{Next, read_next};
@@ -32,9 +32,9 @@ pub enum Verdict {
 
 // Hears the frames of one side, up to its end.
 fn hear_all(alloc: Global, bytes: &[u8], judge: &mut Judge) -> Result<End, NoMemory>
-    requires nothing { Heard [] judge.old }
+    requires nothing { HasHeard [] judge.old }
     requires count { judge.old.frames ≡ 0 }
-    ensures { IfOk result (λ end. (frames : List Frame) × IsSide bytes.now frames end × Heard frames judge.new) }
+    ensures { IfOk result (λ end. (frames : List Frame) × IsSide bytes.now frames end × HasHeard frames judge.new) }
 {
     let mut place = 0;
     'frames: loop {
@@ -70,7 +70,7 @@ fn count_all(alloc: Global, bytes: &[u8]) -> Result<(u64, End), NoMemory>
 
 // The verdict where the client's side is frames and nothing else.
 fn on_server(judge: &Judge, count: u64, end: End) -> Verdict
-    ensures { (client server : List ℕ) (said answered : List Frame) → AreFrames client said → Heard said judge.now
+    ensures { (client server : List ℕ) (said answered : List Frame) → OnlyFrames client said → HasHeard said judge.now
         → IsSide server answered end → count ≡ length answered → IsVerdict client server result }
 {
     match (end, judge.illegal) {

@@ -1,6 +1,7 @@
 //! A client that is heard frame by frame.
 
-ghost use Rattle.std.specs.Prelude.{◌≡◌, ◌<◌, ◌+◌, ◌^◌, ℕ, [], ◌∷◌, ◌++◌, List, Some, None, IfOk, IsTrue, IsFalse, is_some};
+ghost use Rattle.std.specs.Prelude.{◌≡◌, ◌<◌, ◌+◌, ◌^◌, ℕ, [], ◌∷◌, ◌++◌, List, Some, None, IfOk};
+ghost use Rattle.std.specs.Prelude.{IsTrue, IsFalse, is_some};
 ghost use Rattle.amqp_frame.specs.declared.frame.Frame.{Frame};
 
 use amqp_frame::Frame;
@@ -22,11 +23,11 @@ pub struct Judge {
 
 impl Judge {
     ghost use Rattle.amqp_legal.specs.Legal.{Legal};
-    ghost use Rattle.amqp_check.specs.Hearing.{Heard, IsSaid};
+    ghost use Rattle.amqp_check.specs.Hearing.{HasHeard, IsLegallySaid};
 
     /// Nothing was heard.
     pub fn new(alloc: Global) -> Result<Judge, NoMemory>
-        ensures heard { IfOk result (λ judge. Heard [] judge) }
+        ensures heard { IfOk result (λ judge. HasHeard [] judge) }
         ensures count { IfOk result (λ judge. judge.frames ≡ 0) }
         ensures legal { IfOk result (λ judge. judge.illegal ≡ None) }
     {
@@ -40,7 +41,8 @@ impl Judge {
     /// Hears the next frame.
     pub fn hear(&mut self, frame: &Frame)
         requires { self.old.frames + 1 < 2 ^ 64 }
-        ensures heard { (frames : List Frame) → Heard frames self.old → Heard (frames ++ frame.now ∷ []) self.new }
+        ensures heard { (frames : List Frame) → HasHeard frames self.old
+            → HasHeard (frames ++ frame.now ∷ []) self.new }
         ensures count { self.new.frames ≡ self.old.frames + 1 }
         ensures before { IsTrue (is_some self.new.illegal) → self.new.said ≡ self.old.said }
     {
@@ -55,9 +57,9 @@ impl Judge {
         requires { self.old.illegal ≡ None }
         ensures count { self.new.frames ≡ self.old.frames }
         ensures legal { self.new.illegal ≡ None }
-        ensures said { IsTrue result → (frames : List Frame) → Heard frames self.old
-            → IsSaid (frames ++ frame.now ∷ []) self.new.said }
-        ensures refused { IsFalse result → (frames : List Frame) → Heard frames self.old
+        ensures said { IsTrue result → (frames : List Frame) → HasHeard frames self.old
+            → IsLegallySaid (frames ++ frame.now ∷ []) self.new.said }
+        ensures refused { IsFalse result → (frames : List Frame) → HasHeard frames self.old
             → Legal (frames ++ frame.now ∷ []) → ⊥ }
         ensures before { IsFalse result → self.new.said ≡ self.old.said }
     {

@@ -15,6 +15,7 @@ mod finding;
 mod frames;
 mod judge;
 mod laws;
+mod shown;
 
 pub use capture::{Verdict, check};
 pub use expected::Expected;

@@ -45,10 +45,10 @@ fn told_on(alloc: Global, client: &[&str]) -> Result<Option<Told>, NoMemory> {
     Ok(told)
 }
 
-/// A heartbeat that stands where it may not: behind which frames, and what is told of it.
+/// A client's frames, and what is told of the first heartbeat, which stands where it may not.
 const ROWS: [(&[&str], Told); 5] = [
     (
-        &[],
+        &[HEARTBEAT, HEARTBEAT],
         Told {
             number: 0,
             place: 0,
@@ -60,7 +60,7 @@ const ROWS: [(&[&str], Told); 5] = [
         },
     ),
     (
-        &[HEADER],
+        &[HEADER, HEARTBEAT],
         Told {
             number: 1,
             place: 8,
@@ -73,7 +73,7 @@ const ROWS: [(&[&str], Told); 5] = [
     ),
     // start-ok has 315 octets, and tune-ok 20.
     (
-        &[HEADER, START_OK, TUNE_OK],
+        &[HEADER, START_OK, TUNE_OK, HEARTBEAT, OPEN],
         Told {
             number: 3,
             place: 343,
@@ -94,6 +94,7 @@ const ROWS: [(&[&str], Told); 5] = [
             CHANNEL_OPEN_1,
             METHOD_1,
             CONTENT_HEADER_1,
+            HEARTBEAT,
         ],
         Told {
             number: 7,
@@ -107,7 +108,15 @@ const ROWS: [(&[&str], Told); 5] = [
     ),
     // close has 21 octets.
     (
-        &[HEADER, START_OK, TUNE_OK, OPEN, CHANNEL_OPEN_1, CLOSE],
+        &[
+            HEADER,
+            START_OK,
+            TUNE_OK,
+            OPEN,
+            CHANNEL_OPEN_1,
+            CLOSE,
+            HEARTBEAT,
+        ],
         Told {
             number: 6,
             place: 393,
@@ -120,20 +129,9 @@ const ROWS: [(&[&str], Told); 5] = [
     ),
 ];
 
-// Whether this is told of a heartbeat behind these frames, and of the first of two.
-fn is_told(alloc: Global, before: &[&str], wanted: Told) -> Result<bool, NoMemory> {
-    let mut client = Vec::new(alloc);
-    for frame in before {
-        client.push(*frame)?;
-    }
-    client.push(HEARTBEAT)?;
-    client.push(HEARTBEAT)?;
-    Ok(told_on(alloc, &client)? == Some(wanted))
-}
-
 fn first_other(alloc: Global) -> Result<Option<u64>, NoMemory> {
-    for (before, wanted) in ROWS {
-        if !is_told(alloc, before, wanted)? {
+    for (client, wanted) in ROWS {
+        if told_on(alloc, client)? != Some(wanted) {
             return Ok(Some(wanted.number));
         }
     }
@@ -161,5 +159,61 @@ fn nothing_is_told_of_what_may_be_said(rt: HostRuntime) -> Result<(), NoMemory> 
 #[test]
 fn nothing_is_told_of_a_frame_that_is_not_all_there(rt: HostRuntime) -> Result<(), NoMemory> {
     assert!(rt; told_on(rt.alloc(), &[HEADER, "08 0000"])? == None);
+    Ok(())
+}
+
+/// A client's frames, and the three lines on the first that it may not say.
+const TEXTS: [(&[&str], &str); 3] = [
+    (
+        &[
+            HEADER,
+            START_OK,
+            TUNE_OK,
+            OPEN,
+            CHANNEL_OPEN_1,
+            METHOD_1,
+            CONTENT_HEADER_1,
+            HEARTBEAT,
+        ],
+        "client byte 406: frame 7 is a heartbeat
+said so far: open; channel 1 is open; of the body on channel 1 2 octets are missing
+only a body frame on channel 1 may follow, not empty and of at most 2 octets",
+    ),
+    (
+        &[HEARTBEAT],
+        "client byte 0: frame 0 is a heartbeat
+said so far: nothing
+a conversation begins with the protocol header of AMQP 0-9-1",
+    ),
+    (
+        &[HEADER, START_OK, TUNE_OK, OPEN, METHOD_1],
+        "client byte 359: frame 4 is a method of another class on channel 1
+said so far: open; channel 1 is not open
+a method comes next, or a heartbeat",
+    ),
+];
+
+fn is_shown(alloc: Global, finding: &Finding, text: &str) -> Result<bool, NoMemory> {
+    let shown = format!(in alloc; "{finding}")?;
+    Ok(shown.as_str() == text)
+}
+
+// Whether what is found of these frames is shown so.
+fn shows(alloc: Global, client: &[&str], text: &str) -> Result<bool, NoMemory> {
+    let bytes = octets(alloc, client)?;
+    let finding = first_illegal(alloc, &bytes)?;
+    let shown = match &finding {
+        Some(finding) => is_shown(alloc, finding, text),
+        None => Ok(false),
+    };
+    drop(finding);
+    shown
+}
+
+#[test]
+fn a_finding_is_shown_in_three_lines(rt: HostRuntime) -> Result<(), NoMemory> {
+    for (client, text) in TEXTS {
+        assert!(rt; shows(rt.alloc(), client, text)?, "{text}");
+    }
     Ok(())
 }
