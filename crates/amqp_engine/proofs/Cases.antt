@@ -1,10 +1,9 @@
 -- Small facts by cases.
-use Rattle.std.proofs.Common.{◌≡◌, ◌≤◌, ◌<◌, ℕ, ◌+◌, Bool, true, false, not, ◌&&◌, ◌||◌, IsTrue, IsFalse, nat_lt, Option, Some, None, is_some, refl, arith, rules}
+use Rattle.std.proofs.Common.{◌≡◌, ◌≤◌, ◌<◌, ℕ, ◌+◌, Bool, true, false, not, ◌&&◌, ◌||◌, IsTrue, IsFalse, nat_lt, Option, Some, None, refl, arith, rules}
 use Rattle.std.proofs.lemmas.Bool.Decides.{nat_tests}
 use Rattle.amqp_types.specs.Counts.{Rose}
 use Rattle.amqp_engine.specs.Turn.{is_before}
 use Rattle.amqp_engine.specs.Making.{Reaches}
-use Rattle.amqp_types.proofs.Small.{and-left, and-right, and-other, none-from, from-not-true}
 
 pub or-true : (a : Bool) → (a || true) ≡ true
 or-true true = refl

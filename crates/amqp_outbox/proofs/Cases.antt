@@ -1,11 +1,10 @@
 -- Small facts by cases.
-use Rattle.std.proofs.Common.{◌≡◌, ◌≢◌, sym, refl, ℕ, ◌<◌, ◌≤◌, ◌==◌, nat_lt, arith, true, false, Option, Some, None, is_some, Result, Ok, Err, IfOk, IfNone, OnOk}
+use Rattle.std.proofs.Common.{◌≡◌, ◌≢◌, sym, refl, ℕ, ◌<◌, ◌≤◌, ◌==◌, nat_lt, arith, true, false, Option, Some, None, Result, Ok, Err, IfOk, IfNone, OnOk}
 use Rattle.std.proofs.lemmas.Bool.Decides.{nat_tests}
 use Rattle.std.specs.declared.cmp.Ordering.{Ordering}
 use Rattle.std.specs.declared.cmp.Ordering.TheVariants.{Less, Equal, Greater}
 use Rattle.std.specs.Ordering.{nat_cmp, is_eq}
 use Rattle.std.specs.Cmp.{nat_cmp_is, ranked}
-use Rattle.amqp_types.proofs.Small.{none-from, not-below, nat_cmp_self, the-number}
 
 pub on-ok : {A E P Q : Type 0} (r : Result A E) → (P → Q) → OnOk r P → OnOk r Q
 on-ok (Ok x) f p = f p

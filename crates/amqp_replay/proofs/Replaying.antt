@@ -1,5 +1,5 @@
 -- A replay, from the contracts of the port and the engine.
-use Rattle.std.proofs.Common.{◌≡◌, inl, inr, ℕ, List, [], ◌∷◌, Bool, true, false, Option, Some, None, is_some, IfSome, IfOk, Result, Ok, Err, length, if◌then◌else◌, ap, sym, subst, refl, ◌∙◌}
+use Rattle.std.proofs.Common.{◌≡◌, inl, inr, ℕ, List, [], ◌∷◌, Bool, true, false, Option, Some, None, IfSome, IfOk, Result, Ok, Err, length, if◌then◌else◌, ap, sym, subst, refl, ◌∙◌}
 use Rattle.std.specs.Prelude.{IsSome, MatchBool}
 use Rattle.amqp_session.specs.Providers.{Exchange, Allows}
 use Rattle.amqp_session.specs.DefaultAnswers.{DefaultAuth}
@@ -18,7 +18,6 @@ use Rattle.amqp_replay.specs.Grammar.{Scenario}
 use Rattle.amqp_replay.specs.Top.{set_up, session_of, engine_of, replayed_turns, replayed_log, replayed_links, replayed_exchange, handed_state, AreProvidersAnswers, reported, summed, printout, generated_printout}
 use Rattle.amqp_replay.specs.Runs.{IsReplayed, IsMade}
 use Rattle.amqp_replay.specs.Report.{Printout}
-use Rattle.amqp_types.proofs.Small.{none-from}
 
 -- an engine has sent nothing before its first step
 pub silent : (listens : Bool) (config : Config) → HasSent (begin (set_up listens config)) []

@@ -1,5 +1,5 @@
 -- Answers are taken once, and of promises alone that were made.
-use Rattle.std.proofs.Common.{◌≡◌, ◌∙◌, ◌≤◌, ap, refl, ℕ, Bool, true, false, Option, Some, None, is_some}
+use Rattle.std.proofs.Common.{◌≡◌, ◌∙◌, ◌≤◌, ap, refl, ℕ, Bool, true, false, None, is_some}
 use Rattle.std.specs.Map.{keys_of}
 use Rattle.amqp_session.specs.Listed.{without}
 use Rattle.amqp_session.specs.Talk.{Talk, end_of}
