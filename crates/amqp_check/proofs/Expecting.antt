@@ -17,7 +17,7 @@ use Rattle.amqp_legal.specs.Speeches.{speech_of, after_header}
 use Rattle.amqp_legal.specs.declared.speech.Speech.{Speech as Spoken}
 use Rattle.amqp_legal.proofs.Saying.{all-said, one-more}
 use Rattle.amqp_check.specs.Findings.{IsLegallySaid}
-use Rattle.amqp_check.specs.Expected.{expected_at, expected_behind, expected_after, is_in_use, is_shut, is_our_close_ok, is_start_ok, is_secure_ok_or_tune_ok, is_opening, is_method, is_header_of, is_body_of, is_as_expected}
+use Rattle.amqp_check.specs.Expected.{expected_at, expected_behind, expected_after, is_in_use, is_shut, is_our_close_ok, is_start_ok, is_secure_ok_or_tune_ok, opens_the_connection, is_method, is_header_of, is_body_of, is_as_expected}
 
 -- ---- on a channel
 
@@ -97,7 +97,7 @@ start-ok-said (f.Method zero (m.SecureOk response)) s = refl
 start-ok-said (f.Method zero (m.TuneOk channel_max frame_max heartbeat)) s = refl
 start-ok-said _ s = refl
 
-tune-ok-said : (g : Frame) (s : Speech) → is_some (in_stage TuneOkSaid g s) ≡ (is_our_close_ok g || is_opening g)
+tune-ok-said : (g : Frame) (s : Speech) → is_some (in_stage TuneOkSaid g s) ≡ (is_our_close_ok g || opens_the_connection g)
 tune-ok-said (f.Method zero m.CloseOk) s = refl
 tune-ok-said (f.Method zero (m.Open vhost)) s = refl
 tune-ok-said _ s = refl

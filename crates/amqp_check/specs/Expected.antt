@@ -67,9 +67,9 @@ is_secure_ok_or_tune_ok (f.Method zero (m.TuneOk channel_max frame_max heartbeat
 is_secure_ok_or_tune_ok _ = false
 
 -- open
-abbrev pub is_opening : Frame → Bool
-is_opening (f.Method zero (m.Open vhost)) = true
-is_opening _ = false
+abbrev pub opens_the_connection : Frame → Bool
+opens_the_connection (f.Method zero (m.Open vhost)) = true
+opens_the_connection _ = false
 
 -- a heartbeat, update-secret or close of the connection; or a method on a channel whose usage allows it: open where
 -- the channel is not open, close-ok where it is open or left, and any other where it is open
@@ -100,7 +100,7 @@ abbrev pub is_as_expected : Expected → (ℕ → Usage) → Frame → Bool
 is_as_expected next.Header usage frame = is_amqp_header frame
 is_as_expected next.StartOk usage frame = is_our_close_ok frame || is_start_ok frame
 is_as_expected next.SecureOkOrTuneOk usage frame = is_our_close_ok frame || is_secure_ok_or_tune_ok frame
-is_as_expected next.Open usage frame = is_our_close_ok frame || is_opening frame
+is_as_expected next.Open usage frame = is_our_close_ok frame || opens_the_connection frame
 is_as_expected next.Method usage frame = is_our_close_ok frame || is_method usage frame
 is_as_expected (next.ContentHeader n class) usage frame =
     is_our_close_ok frame || (is_header_of n class frame || is_method usage frame)
