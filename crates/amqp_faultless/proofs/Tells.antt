@@ -132,7 +132,7 @@ serves-flow s q cs ms n active promise h =
       listed = y.listed;
       asked = λ x. (let z = y.asked x in let w = more ChannelOpened in omega (arith, z, w));
       flows = (let z = y.flows in omega (arith, z, one));
-      made_closing = λ x. (let z = y.closing x in let w = more ChannelClosed in omega (arith, z, w));
+      closing = λ x. (let z = y.closing x in let w = more ChannelClosed in omega (arith, z, w));
       single = y.single;
     }))
     (acts n q.control) (s.uses n) (h.each n)))
@@ -164,7 +164,7 @@ serves-leave s q cs ms n code text c promise listed h =
       listed = free y.listed;
       asked = λ x. (let z = y.asked x in let w = more ChannelOpened in omega (arith, z, w));
       flows = (let z = y.flows in let w = more FlowDone in omega (arith, z, w));
-      made_closing = λ x. omega (arith, one);
+      closing = λ x. omega (arith, one);
       single = y.single;
     }))
     (acts n q.control) (s.uses n) (h.each n)))
