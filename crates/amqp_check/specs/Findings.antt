@@ -5,7 +5,7 @@ use Rattle.amqp_frame.specs.declared.frame.Read.TheVariants.{Whole}
 use Rattle.amqp_frame.specs.Sequences.{front_at, Stand, SequenceEnd, IsSequence}
 use Rattle.amqp_legal.specs.Legal.{Legal}
 use Rattle.amqp_legal.specs.Speeches.{HasSaid}
-use Rattle.amqp_legal.specs.declared.speech.Speech.{Speech}
+use Rattle.amqp_legal.specs.declared.speech.Speech.{Speech as Spoken}
 use Rattle.amqp_check.specs.Verdicts.{no_limit}
 use Rattle.amqp_check.specs.declared.finding.Finding.{Finding}
 
@@ -15,7 +15,7 @@ behind_first [] = []
 behind_first (f ∷ frames) = frames
 
 -- frames that are a legal conversation, and the speech that says them; of no frame it is that of the header alone
-pub record IsLegallySaid (frames : List Frame) (s : Speech) : Type 0 where
+pub record IsLegallySaid (frames : List Frame) (s : Spoken) : Type 0 where
   pub legal : Legal frames
   pub said : HasSaid (behind_first frames) s
 

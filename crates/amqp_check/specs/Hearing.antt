@@ -4,7 +4,7 @@ use Rattle.amqp_frame.specs.declared.frame.Frame.{Frame}
 use Rattle.amqp_frame.specs.declared.frame.Read.TheVariants.{Whole}
 use Rattle.amqp_frame.specs.Sequences.{front_at, EndsAt, IsSequence}
 use Rattle.amqp_frame.specs.Sequences.SequenceEnd.{Complete, Cut, Broken}
-use Rattle.amqp_legal.specs.declared.speech.Speech.{Speech}
+use Rattle.amqp_legal.specs.declared.speech.Speech.{Speech as Spoken}
 use Rattle.amqp_check.specs.Verdicts.{no_limit, OnlyFrames, IsFirstIllegal}
 pub use Rattle.amqp_check.specs.Findings.{IsLegallySaid}
 use Rattle.amqp_check.specs.declared.end.End.{End}
@@ -32,7 +32,7 @@ IsNext bytes place (next.Frame f n) =
 IsNext bytes place (next.End end) = EndsHere bytes place end
 
 -- all may be said; or a first one may not
-abbrev pub IsHeard : List Frame → Option ℕ → Speech → Type 0
+abbrev pub IsHeard : List Frame → Option ℕ → Spoken → Type 0
 IsHeard frames None s = IsLegallySaid frames s
 IsHeard frames (Some i) s = IsFirstIllegal frames i
 

@@ -9,7 +9,7 @@ use Rattle.amqp_check.specs.declared.capture.Verdict.TheVariants as verdict
 
 -- ---- one side
 
--- no frame is refused for its size: this is the greatest limit
+-- the greatest limit: of sizes only one that no limit admits is refused
 abbrev pub no_limit : ℕ
 no_limit = 4294967295
 

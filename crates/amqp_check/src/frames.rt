@@ -17,7 +17,7 @@ pub enum Next {
     End(End),
 }
 
-/// What stands at a place. Its size alone makes no frame bad: none is above the limit.
+/// What stands at a place. Its size alone makes a frame bad only where no limit admits it.
 #[tactic(auto, using(crate::proofs::Reading::whole_next))]
 pub fn read_next(alloc: Global, bytes: &[u8], place: usize) -> Result<Next, NoMemory>
     requires { place ≤ length bytes.now }

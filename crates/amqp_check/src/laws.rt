@@ -4,7 +4,7 @@ ghost use Rattle.std.specs.Prelude.{◌≡◌, ◌↔◌, ◌++◌, ◌∷◌, [
 ghost use Rattle.amqp_frame.specs.declared.frame.Frame.{Frame};
 ghost use Rattle.amqp_legal.specs.Legal.{Legal};
 ghost use Rattle.amqp_legal.specs.Speeches.{speech_of};
-ghost use Rattle.amqp_legal.specs.declared.speech.Speech.{Speech};
+ghost use Rattle.amqp_legal.specs.declared.speech.Speech.{Speech as Spoken};
 ghost use Rattle.amqp_check.specs.Findings.{IsLegallySaid, IsFinding};
 ghost use Rattle.amqp_check.specs.Expected.{IsExpected};
 ghost use Rattle.amqp_check.specs.Verdicts.{IsOnlyFrames, IsVerdict};
@@ -27,6 +27,6 @@ pub fn what_is_found_is_the_verdict()
 /// Behind frames that are a legal conversation, a frame may be said exactly where it is what is
 /// expected there, by the usage of the channels.
 pub fn what_may_follow()
-    ensures { (frames : List Frame) (s : Speech) (f : Frame) → IsLegallySaid frames s
+    ensures { (frames : List Frame) (s : Spoken) (f : Frame) → IsLegallySaid frames s
         → Legal (frames ++ f ∷ []) ↔ IsExpected frames (speech_of s) f }
 {}

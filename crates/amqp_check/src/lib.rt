@@ -3,9 +3,9 @@
 //!
 //! `check` answers one verdict on the octets of both sides, and `first_illegal` tells of the first
 //! frame that the client might not say: where it stands, what was said before it, and what might have
-//! been said in its place. The grammar of
-//! legal conversations is that of `amqp_legal`. Of the server's side it only matters that it is
-//! frames: what the server says makes nothing legal, and nothing illegal.
+//! been said in its place. The grammar of legal conversations is that of `amqp_legal`. Of the
+//! server's side it only matters that it is frames: what the server says makes nothing legal, and
+//! nothing illegal.
 #![tactic(auto)]
 
 mod capture;

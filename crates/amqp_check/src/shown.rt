@@ -50,7 +50,7 @@ fn frame_name(frame: &Frame) -> &'static str {
     }
 }
 
-// The channel that a content goes on on; 0 where none goes on.
+// The channel on which a content goes on; 0 where none does.
 fn channel_in(content: Content) -> ChannelId {
     match content {
         Content::NoContent => 0,
@@ -139,7 +139,9 @@ impl fmt::Display for Expected {
             Expected::StartOk => f.write_str("start-ok comes next"),
             Expected::SecureOkOrTuneOk => f.write_str("secure-ok or tune-ok comes next"),
             Expected::Open => f.write_str("open comes next"),
-            Expected::Method => f.write_str("a method comes next, or a heartbeat"),
+            Expected::Method => f.write_str(
+                "a heartbeat comes next, or a method that its channel allows",
+            ),
             Expected::ContentHeader(channel, class) => {
                 write!(
                     f,
@@ -149,7 +151,7 @@ impl fmt::Display for Expected {
             Expected::Body(channel, missing) => {
                 write!(
                     f,
-                    "only a body frame on channel {channel} may follow, not empty and of at most {missing} octets"
+                    "a body frame on channel {channel} comes next, not empty and of at most {missing} octets"
                 )
             }
             Expected::CloseOk => f.write_str("after our close comes close-ok alone"),

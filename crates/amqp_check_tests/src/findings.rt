@@ -177,7 +177,7 @@ const TEXTS: [(&[&str], &str); 3] = [
         ],
         "client byte 406: frame 7 is a heartbeat
 said so far: open; channel 1 is open; of the body on channel 1 2 octets are missing
-only a body frame on channel 1 may follow, not empty and of at most 2 octets",
+a body frame on channel 1 comes next, not empty and of at most 2 octets",
     ),
     (
         &[HEARTBEAT],
@@ -189,7 +189,7 @@ a conversation begins with the protocol header of AMQP 0-9-1",
         &[HEADER, START_OK, TUNE_OK, OPEN, METHOD_1],
         "client byte 359: frame 4 is a method of another class on channel 1
 said so far: open; channel 1 is not open
-a method comes next, or a heartbeat",
+a heartbeat comes next, or a method that its channel allows",
     ),
 ];
 
