@@ -4,3 +4,7 @@ pub mod Faultless
 pub mod Put
 -- what comes of a rule that asks nothing
 pub mod Unasked
+-- what an engine has said stays legal
+pub mod Legally
+-- how far the frames of a message reach
+pub mod Deliveries

@@ -1,12 +1,16 @@
 //! Each use once, over frames of a broker.
 
+ghost use Rattle.amqp_engine.specs.Plan.{IsGivenPiece, ArePieces};
+
 use super::*;
-use amqp_frame::{FixedRoom, Frame, RawMethod, Room, encoded_len};
-use amqp_session::{Answer, ConnectionProperties, DefaultAuthProvider, Session};
-use amqp_types::NoMemory;
+use amqp_engine::{Given, GivenStep, MemoryPort};
+use amqp_frame::{FixedRoom, Frame, RawKind, RawMethod, Room, encoded_len};
+use amqp_session::{Answer, ConnectionProperties, DefaultAuthProvider, Handed, Session};
+use amqp_types::{NoMemory, Payload, ShortString};
 use amqp_uri::AMQPUri;
 use amqp_vectors::octets;
 use std::alloc::Global;
+use std::ops::Range;
 use std::process::Abort;
 use std::test::Fail;
 
@@ -176,5 +180,123 @@ fn a_table_has_its_text(rt: HostRuntime) -> Outcome {
     let table = table_with(rt.alloc(), b"product", b"lapin")?;
     assert!(rt; text_in(&table, b"product") == Some(b"lapin".as_slice()));
     assert!(rt; text_in(&table, b"version").is_none());
+    Ok(())
+}
+
+// A step goes last.
+fn push(steps: &mut Vec<Given>, what: GivenStep) -> Outcome
+    requires piece { IsGivenPiece what }
+    requires before { ArePieces steps.old.items }
+    ensures { ArePieces steps.new.items }
+{
+    steps.push(Given { at: 0, what })?;
+    Ok(())
+}
+
+// A piece goes last.
+fn push_piece(alloc: Global, steps: &mut Vec<Given>, bytes: &[u8]) -> Outcome
+    requires { ArePieces steps.old.items }
+    ensures { ArePieces steps.new.items }
+{
+    if bytes.is_empty() || bytes.len() > 4096 {
+        return Err("no piece")?;
+    }
+    let payload = Payload::new(alloc, bytes)?;
+    push(steps, GivenStep::Bytes(payload))
+}
+
+// A port that gives a link, and what a server says when a connection is opened, and a channel on it.
+fn server_of_one_channel(alloc: Global) -> std::result::Result<MemoryPort, Fail> {
+    let mut steps = Vec::new(alloc);
+    push(&mut steps, GivenStep::Link(None))?;
+    push_piece(alloc, &mut steps, START)?;
+    push_piece(alloc, &mut steps, TUNE)?;
+    push_piece(alloc, &mut steps, OPEN_OK)?;
+    push_piece(alloc, &mut steps, CHANNEL_OPEN_OK_1)?;
+    Ok(MemoryPort::new(alloc, steps)?)
+}
+
+// Whether a publish over an open channel is answered by Sent after one more turn.
+fn publishes_in(
+    alloc: Global,
+    connection: &mut Connection,
+    port: &mut MemoryPort,
+) -> std::result::Result<bool, Fail> {
+    let Some(channel) = connection.channel else {
+        return Ok(false);
+    };
+    let queue = ShortString::new(alloc, b"hello")?;
+    let sending = publish_text(alloc, &mut connection.engine, channel, &queue, b"world")?;
+    drop(connection.engine.run(port, &mut connection.provider, 1));
+    let answer = connection.engine.answer(sending.unwrap_or(0));
+    let sent = matches!(answer, Some(Ok(Answer::Sent)));
+    drop(answer);
+    Ok(sent)
+}
+
+#[test]
+fn opens_and_publishes(rt: HostRuntime) -> Outcome {
+    let alloc = rt.alloc();
+    let uri = AMQPUri::local(alloc)?;
+    let mut port = server_of_one_channel(alloc)?;
+    let mut connection = open_over(alloc, &uri, &mut port, 4)?;
+    let sent = publishes_in(alloc, &mut connection, &mut port);
+    drop(connection);
+    drop(port);
+    drop(uri);
+    assert!(rt; sent?);
+    Ok(())
+}
+
+// The frames of a message of five octets, as a broker delivers it to the consumer `tag1`.
+fn delivered(alloc: Global) -> std::result::Result<Vec<Handed>, NoMemory> {
+    let mut frames = Vec::new(alloc);
+    for (kind, octets) in [
+        (
+            RawKind::RawMethod,
+            b"\0\x3c\0\x3c\x04tag1\0\0\0\0\0\0\0\x01\0\0\x05hello".as_slice(),
+        ),
+        (
+            RawKind::Header,
+            b"\0\x3c\0\0\0\0\0\0\0\0\0\x05\0\0".as_slice(),
+        ),
+        (RawKind::Body, b"wor".as_slice()),
+        (RawKind::Body, b"ld".as_slice()),
+    ] {
+        let bytes = Payload::new(alloc, octets)?;
+        frames.push(Handed {
+            channel: 1,
+            kind,
+            bytes,
+        })?;
+    }
+    Ok(frames)
+}
+
+// How many frames the first message of a part of these has, where its body is this.
+fn frames_of(
+    alloc: Global,
+    frames: &[Handed],
+    part: Range<usize>,
+    body: &[u8],
+) -> std::result::Result<Option<usize>, NoMemory> {
+    let Some(frames) = frames.get(part) else {
+        return Ok(None);
+    };
+    let Some(delivery) = next_delivery(alloc, frames)? else {
+        return Ok(None);
+    };
+    let count = (delivery.body.as_slice() == body).then_some(delivery.frames);
+    drop(delivery);
+    Ok(count)
+}
+
+#[test]
+fn finds_a_delivery(rt: HostRuntime) -> Outcome {
+    let alloc = rt.alloc();
+    let frames = delivered(alloc)?;
+    assert!(rt; frames_of(alloc, &frames, 0..4, b"world")? == Some(4));
+    assert!(rt; frames_of(alloc, &frames, 0..3, b"wor")?.is_none());
+    assert!(rt; frames_of(alloc, &frames, 1..4, b"world")?.is_none());
     Ok(())
 }
