@@ -3,7 +3,7 @@
 #![tactic(auto)]
 
 use amqp_engine::MemoryPort;
-use amqp_replay::status::{NO_MEMORY, SINK_FAILED, SOURCE_FAILED, USAGE};
+use amqp_replay::status::{NO_MEMORY, REFUSED, SINK_FAILED, SOURCE_FAILED, USAGE};
 use amqp_replay::top::top;
 use amqp_replay::{Reading, Writing, ended_at};
 use amqp_session::{DefaultTokenProvider, Refusal, TokenAuthProvider};
@@ -14,6 +14,12 @@ use std::io::{self, ErrorKind};
 use std::process::ExitCode;
 
 const USAGE_TEXT: &str = "usage: amqp_script replay | generate N";
+
+/// Which page says what a script may have, and what is printed.
+const PAGE_TEXT: &str = "docs/SCRIPTS.md says what a script may have, and what is printed";
+
+/// Which page says why a line was refused.
+const REFUSED_TEXT: &str = "docs/SCRIPTS.md says under \"Your line was refused\" what to look for";
 
 /// The token by which the client logs in, where a script says `provider handed`.
 const TOKEN: &[u8] = b"my new valid token";
@@ -66,14 +72,18 @@ fn replay(rt: &HostRuntime) -> Result<(u8, Option<u64>), NoMemory> {
     Ok((status, line))
 }
 
-// Says why nothing more is printed, or where an error came.
+// Says why nothing more is printed, where an error came, or which page to read.
 fn note(rt: &HostRuntime, status: u8, line: Option<u64>) -> io::Result<()> {
     match (status, line) {
-        (USAGE, _) => rt.eprintln(USAGE_TEXT),
+        (USAGE, _) => {
+            rt.eprintln(USAGE_TEXT)?;
+            rt.eprintln(PAGE_TEXT)
+        }
+        (REFUSED, _) => rt.eprintln(REFUSED_TEXT),
         (SOURCE_FAILED, _) => rt.eprintln("standard input failed"),
         (SINK_FAILED, _) => rt.eprintln("standard output failed"),
         (NO_MEMORY, _) => rt.eprintln("out of memory"),
-        (_, Some(line)) => eprintln!(rt; "line {line}"),
+        (_, Some(line)) => eprintln!(rt; "the session ended with an error at line {line}"),
         (_, None) => Ok(()),
     }
 }

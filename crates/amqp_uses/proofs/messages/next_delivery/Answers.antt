@@ -1,8 +1,7 @@
-use Rattle.std.proofs.Common.{◌≡◌, ◌+◌, ℕ, suc, List, length, take, drop, Some, IsSome, Vec, Global, Option, ap, arith, rules, subst, sym, ◌∙◌}
-use Rattle.std.specs.Prelude.{IfSome}
+use Rattle.std.proofs.Common.{◌≡◌, ◌+◌, ℕ, suc, List, length, take, drop, Some, IsSome, arith, rules, subst, sym, ◌∙◌}
 use Rattle.amqp_session.specs.declared.handed.Handed.{Handed}
 use Rattle.amqp_uses.specs.Messages.{IsMessage, AreBodies, announced}
-use Rattle.amqp_uses.proofs.Deliveries.{announced-on, without-two, behind-two, message, clash}
+use Rattle.amqp_uses.proofs.Deliveries.{announced-on, without-two, behind-two, message}
 use Rattle.amqp_uses.proofs.messages.next_delivery.Goals as goal
 
 pub returns-in_default-clause-found : goal.returns-in_default-clause-found
