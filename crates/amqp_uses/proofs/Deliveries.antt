@@ -75,6 +75,13 @@ message [] count body size is are long = absurd (grind rules)
 message (f ∷ []) count body size is are long = absurd (grind rules)
 message (f ∷ g ∷ fs) count body size is are long = record { begins = is ∙ ap Some (sym long); bodies = are }
 
+-- bodies behind what was announced are among the frames
+pub within : (frames : List Handed) (count size : ℕ) → announced frames ≡ Some size → count ≤ length (drop 2 frames)
+    → count + 2 ≤ length frames
+within [] count size is le = absurd (grind rules)
+within (f ∷ []) count size is le = absurd (grind rules)
+within (f ∷ g ∷ fs) count size is le = let among : count ≤ length fs = le in omega (arith, among)
+
 -- what a slice has behind its first two
 pub behind-two : (frames : List Handed) → take (length frames - 2) (drop 2 frames) ≡ drop 2 frames
 behind-two frames = grind (arith, common_steps)

@@ -72,6 +72,7 @@ pub fn next_delivery(
 ) -> std::result::Result<Option<Delivery>, NoMemory>
     ensures some { IfOk result (λ found. IfSome found
         (λ delivery. IsMessage delivery.body.items (take delivery.frames frames.now))) }
+    ensures within { IfOk result (λ found. IfSome found (λ delivery. delivery.frames ≤ length frames.now)) }
     ensures found { (n : ℕ) (body : List ℕ) → IsMessage body (take n frames.now) → IfOk result IsSome }
 {
     let Some(size) = announced(frames) else {

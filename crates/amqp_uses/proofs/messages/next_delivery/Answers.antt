@@ -1,7 +1,7 @@
-use Rattle.std.proofs.Common.{◌≡◌, ◌+◌, ℕ, suc, List, length, take, drop, Some, IsSome, arith, rules, subst, sym, ◌∙◌}
+use Rattle.std.proofs.Common.{◌≡◌, ◌≤◌, ◌+◌, ℕ, suc, List, length, take, drop, Some, IsSome, arith, rules, subst, sym, ◌∙◌}
 use Rattle.amqp_session.specs.declared.handed.Handed.{Handed}
 use Rattle.amqp_uses.specs.Messages.{IsMessage, AreBodies, announced}
-use Rattle.amqp_uses.proofs.Deliveries.{announced-on, without-two, behind-two, message}
+use Rattle.amqp_uses.proofs.Deliveries.{announced-on, without-two, within, behind-two, message}
 use Rattle.amqp_uses.proofs.messages.next_delivery.Goals as goal
 
 pub returns-in_default-clause-found : goal.returns-in_default-clause-found
@@ -31,3 +31,12 @@ returns-clause-some c =
     let two : suc (suc count) ≡ count + 2 = omega arith in
     subst (λ (k : ℕ). IsMessage c.in-Some-2.body.items (take k frames)) two
     (message frames count c.in-Some-2.body.items c.in-Some.size is bodies whole.1)
+
+pub returns-clause-within : goal.returns-clause-within
+returns-clause-within c =
+    let frames = c.args.frames.now in
+    let count = c.in-Some-2.count in
+    let is : announced frames ≡ Some c.in-Some.size = sym c.announced.ensures ∙ c.in-Some.is in
+    let whole = rw c.in-Some-2.is at c.in_ok-count.ensures.some in
+    let among : count ≤ length (drop 2 frames) = subst (λ (fs : List Handed). count ≤ length fs) (behind-two frames) whole.2 in
+    within frames count c.in-Some.size is among
