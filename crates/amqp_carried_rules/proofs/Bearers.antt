@@ -25,7 +25,7 @@ use Rattle.amqp_session.specs.declared.misread.Misread.{Misread}
 use Rattle.amqp_promise.specs.declared.error.ErrorKind.TheVariants.{NoMemory, IOError, ProtocolError, SerialisationError}
 use Rattle.amqp_promise.specs.declared.error.ErrorKind.{ErrorKind}
 use Rattle.amqp_session.specs.Listed.{at}
-use Rattle.amqp_session.specs.declared.auth.asked.Asked.{Asked as ProviderAnswer}
+use Rattle.amqp_auth.specs.declared.asked.Asked.{Asked as ProviderAnswer}
 use Rattle.amqp_session.specs.Talk.{Talk, acts, has_ended, is_asked, is_open, is_open_link}
 use Rattle.amqp_session.specs.Changes.{Promises, present_at, queue, await, starve, give_to, promises_on, replies_on, without_all_on, drop_replies_of, fail, lose, close, finish, finish_by, promise}
 use Rattle.amqp_session.specs.Links.{asked, asked_link, refused_after, link_failed, piece, dropped, misread, lost}
@@ -113,6 +113,7 @@ module _ (cs : List Cmd) (answers_sent : ℕ → Bool) (r : Reading) (left : Lis
     lost = at-lose;
     opened = at-opened;
     closed = λ n promise t is h. at-replies n _ (give_to promise (Ok Done) (record t { outbox = without_awaited n ChannelClosed t.outbox })) (at-answered n ChannelClosed promise (Ok Done) t refl is h);
+    answered = λ n c t. moved t _ refl (λ z. z) (λ k. refl) (λ o. o) (λ b. b);
     removed = λ n t. moved t (remove_channel n t) refl (λ z. z) (λ k. refl) (λ o. o) (λ b. b);
     flow = λ n c active t. moved t _ refl (λ z. z) (λ k. refl) (λ o. o) (λ b. bears-push cs r left t.promises t.state t.outbox (plain_item n (flow_ok n active)) refl refl b);
     flowed = λ n c active promise t. at-answered n FlowDone promise (Ok (Flow active)) t refl;

@@ -23,7 +23,7 @@ use Rattle.amqp_session.specs.Changes.{Promises, next_promise, rejected, promise
 use Rattle.amqp_session.specs.Handshake.{our_close, new_secret, channel_open, channel_flow, our_channel_close}
 use Rattle.amqp_session.specs.Numbering.{first_number, drawn}
 use Rattle.amqp_session.specs.Publishing.{method_frame, publish_frames}
-use Rattle.amqp_session.specs.Commands.{target, open_drawn, leave_connection, close_target, drop_target, flow_target, queue_secret, update_secret, too_long, unless_too_long, queue_send, send_target, body_limit, queue_publish, publish_target, command, command_rule}
+use Rattle.amqp_session.specs.Commands.{target, open_drawn, leave_connection, close_target, drop_target, flow_target, queue_secret, update_secret, too_long, unless_too_long, too_full, unless_full, queue_send, send_target, body_limit, queue_publish, publish_target, command, command_rule}
 use Rattle.std.proofs.lemmas.List.{take-append-drop}
 use Rattle.amqp_session.specs.Sound.{is_agreed}
 use Rattle.amqp_legal_rules.proofs.Ready.{pieces-fit}
@@ -305,6 +305,11 @@ module _ (cs : List Cmd) (answered : ℕ → Bool) (r : Reading) (left : List It
   at-unless c (Some frame) rule t h k = at-refuse c _ t _ refl refl refl refl refl (λ z. z) h
   at-unless c None rule t h k = k refl
 
+  -- a command by which too much would wait is refused
+  at-room : (c : Cmd) (o : Option ℕ) (rule : Talk → Talk) (t : Talk) → Was t → Raised c (rule t) → Raised c (unless_full o rule t)
+  at-room c (Some octets) rule t h k = at-refuse c _ t _ refl refl refl refl refl (λ z. z) h
+  at-room c None rule t h k = k
+
   -- a new secret is told
   at-update-secret : (secret reason : List ℕ) (t : Talk) → Was t → Raised (UpdateSecret secret reason) (update_secret secret reason t)
   at-update-secret secret reason t h =
@@ -323,10 +328,11 @@ module _ (cs : List Cmd) (answered : ℕ → Bool) (r : Reading) (left : List It
   at-send (Ok d) ref method t hs h =
       let c : Cmd = Send ref method in
       let frame = method_frame ref.id method in
-      at-unless c (too_long (frame ∷ []) t) (queue_send ref.id frame) t h
+      at-unless c (too_long (frame ∷ []) t) (unless_full (too_full (frame ∷ []) t) (queue_send ref.id frame)) t h
       (λ fits.
-      raised c t _ None t.promises refl refl refl (λ n. refl) (λ z. z) (λ o. o)
-      (λ m low z b. bears-send cs c t.made m r left t.state t.outbox ref.id frame t.promises (not-closing t.state hs) refl refl low.0 b) h)
+      at-room c (too_full (frame ∷ []) t) (queue_send ref.id frame) t h
+      (raised c t _ None t.promises refl refl refl (λ n. refl) (λ z. z) (λ o. o)
+      (λ m low z b. bears-send cs c t.made m r left t.state t.outbox ref.id frame t.promises (not-closing t.state hs) refl refl low.0 b) h))
 
   -- a method is published
   at-publish : (x : Result Channel ErrorKind) (ref : ChanRef) (method : OtherMethod) (properties body : List ℕ) (t : Talk) → t.state ≡ Connected → Was t
@@ -335,12 +341,13 @@ module _ (cs : List Cmd) (answered : ℕ → Bool) (r : Reading) (left : List It
   at-publish (Ok d) ref method properties body t hs h =
       let c : Cmd = Publish ref method properties body in
       let frames = publish_frames ref.id method properties body (body_limit t) in
-      at-unless c (too_long frames t) (queue_publish ref.id frames) t h
+      at-unless c (too_long frames t) (unless_full (too_full frames t) (queue_publish ref.id frames)) t h
       (λ fits.
-      raised c t _ None t.promises refl refl refl (λ n. refl) (λ z. z) (λ o. o)
+      at-room c (too_full frames t) (queue_publish ref.id frames) t h
+      (raised c t _ None t.promises refl refl refl (λ n. refl) (λ z. z) (λ o. o)
       (λ m low z b.
       bears-publish cs c t.made m r left t.state t.outbox ref.id frames t.promises (not-closing t.state hs) refl
-      (publish-content ref.id method properties body (body_limit t) (pieces-fit ref.id method properties body t (z (ap (λ s. is_agreed s t.phase) hs)) fits)) low.1 b) h)
+      (publish-content ref.id method properties body (body_limit t) (pieces-fit ref.id method properties body t (z (ap (λ s. is_agreed s t.phase) hs)) fits)) low.1 b) h))
 
   -- ---- commands that take no promise
 

@@ -19,7 +19,7 @@ use Rattle.amqp_session.specs.declared.misread.Misread.{Misread}
 use Rattle.amqp_promise.specs.declared.error.ErrorKind.{ErrorKind}
 use Rattle.amqp_promise.specs.declared.error.ErrorKind.TheVariants.{InvalidProtocolVersion, InvalidChannel, NoMemory, SerialisationError}
 use Rattle.amqp_promise.specs.declared.io_fault.IoFault.{IoFault}
-use Rattle.amqp_session.specs.declared.auth.asked.Asked.{Asked}
+use Rattle.amqp_auth.specs.declared.asked.Asked.{Asked}
 use Rattle.amqp_session.specs.Listed.{at, put}
 use Rattle.amqp_session.specs.Talk.{Talk, has_ended, is_open, is_asked, acts, hears_on}
 use Rattle.amqp_session.specs.Channels.{channel_at}
@@ -140,6 +140,7 @@ on-channels t = record {
   lost = then-lost t;
   opened = λ n c promise u is h. h;
   closed = λ n promise u is h. h;
+  answered = λ n c u h. h;
   removed = λ n u h. h;
   flow = λ n c active u h. h;
   flowed = λ n c active promise u is h. h;

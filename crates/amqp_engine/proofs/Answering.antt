@@ -1,9 +1,9 @@
 -- Answers to what was asked, one part after another.
 use Rattle.std.proofs.Common.{◌≡◌, ◌∙◌, sym, ap, subst, refl, ℕ, ◌+◌, length, drop, List, [], ◌∷◌, ◌++◌, append_assoc, Option, Some, arith}
-use Rattle.amqp_session.specs.declared.auth.asked.Question.{Question}
-use Rattle.amqp_session.specs.declared.auth.asked.Asked.{Asked}
-use Rattle.amqp_session.specs.Providers.{Exchange, Allows}
-use Rattle.amqp_session.specs.Asking.{paired, Answer, Asks}
+use Rattle.amqp_auth.specs.declared.asked.Question.{Question}
+use Rattle.amqp_auth.specs.declared.asked.Asked.{Asked}
+use Rattle.amqp_auth.specs.Providers.{Exchange, Allows}
+use Rattle.amqp_auth.specs.Asking.{paired, Answer, Asks}
 use Rattle.amqp_frame.specs.declared.frame.Read.{Read}
 use Rattle.amqp_frame.specs.declared.frame.Read.TheVariants.{Whole, More, TooLarge, BadHeartbeat, Bad, NoMemory}
 use Rattle.amqp_session.specs.Talk.{Talk}

@@ -1,9 +1,9 @@
 -- A turn from its step on, out of the contracts of its parts.
 use Rattle.std.proofs.Common.{◌≡◌, ℕ, not, ◌&&◌, if◌then◌else◌, Bool, true, false, IsFalse, List, [], ◌++◌, length, drop, Option, Some, None, refl, ap, sym, ◌∙◌, subst}
-use Rattle.amqp_session.specs.declared.auth.asked.Question.{Question}
-use Rattle.amqp_session.specs.declared.auth.asked.Asked.{Asked}
-use Rattle.amqp_session.specs.Providers.{Exchange}
-use Rattle.amqp_session.specs.Asking.{Answer, paired}
+use Rattle.amqp_auth.specs.declared.asked.Question.{Question}
+use Rattle.amqp_auth.specs.declared.asked.Asked.{Asked}
+use Rattle.amqp_auth.specs.Providers.{Exchange}
+use Rattle.amqp_auth.specs.Asking.{Answer, paired}
 use Rattle.amqp_session.specs.Talk.{Talk, is_asked, is_open, has_ended}
 use Rattle.amqp_promise.specs.declared.io_fault.IoFault.TheVariants.{Aborted, Reset}
 use Rattle.amqp_session.specs.Changes.{present_at, starve}

@@ -6,7 +6,7 @@ use Rattle.amqp_frame.specs.declared.frame.Read.{Read}
 use Rattle.amqp_frame.specs.declared.frame.Read.TheVariants as reading
 use Rattle.amqp_promise.specs.declared.error.ErrorKind.{ErrorKind}
 use Rattle.amqp_promise.specs.declared.error.ErrorKind.TheVariants.{AuthProviderError, NoMemory}
-use Rattle.amqp_session.specs.declared.auth.asked.Asked.{Asked}
+use Rattle.amqp_auth.specs.declared.asked.Asked.{Asked}
 use Rattle.amqp_session.specs.Talk.{Talk, is_open, is_acting, has_ended, end_of}
 use Rattle.amqp_session.specs.Changes.{present_at, starve}
 use Rattle.amqp_session.specs.Links.{piece}

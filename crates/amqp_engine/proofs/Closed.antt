@@ -4,7 +4,7 @@ use Rattle.std.specs.Prelude.{map}
 use Rattle.std.specs.List.{flat_map, AllByRecursion}
 use Rattle.std.proofs.lemmas.List.{take_all}
 use Rattle.amqp_frame.specs.declared.frame.Frame.{Frame}
-use Rattle.amqp_session.specs.declared.auth.asked.Asked.{Asked}
+use Rattle.amqp_auth.specs.declared.asked.Asked.{Asked}
 use Rattle.amqp_session.specs.declared.command.Answer.TheVariants.{Connected}
 use Rattle.amqp_session.specs.declared.command.Cmd.TheVariants.{Listen}
 use Rattle.amqp_session.specs.Commands.{command}
@@ -20,7 +20,9 @@ use Rattle.amqp_session.specs.Talk.{Talk, start, end_of, has_ended, is_asked, is
 use Rattle.amqp_session.specs.Changes.{present_at}
 use Rattle.amqp_session.specs.Ticks.{is_missed}
 use Rattle.amqp_types.proofs.Small.{if_case, if-true, if-false}
-use Rattle.amqp_session.proofs.Soundness.{sound-start, sound-command, sound-asked, sound-present, sound-linked}
+use Rattle.amqp_session.proofs.SoundChanges.{sound-present}
+use Rattle.amqp_session.proofs.SoundCommands.{sound-command}
+use Rattle.amqp_session.proofs.Soundness.{sound-start, sound-asked, sound-linked}
 use Rattle.amqp_faultless.proofs.Greeted.{IsMet, IsOver}
 use Rattle.amqp_faultless.proofs.FirstAndLast.{IsFresh, met-linked}
 use Rattle.amqp_faultless.proofs.Limits.{limit_at}
@@ -42,7 +44,7 @@ use Rattle.amqp_engine.specs.Turn.{Turn, Progress, asks, wants_ask, begun, step_
 use Rattle.amqp_engine.proofs.Lifting.{stays-step}
 use Rattle.amqp_engine.specs.Tell.{log_turn, log_stepped}
 use Rattle.amqp_engine.specs.Sending.{Sending, nothing_sent, step_sending, frames, frames_sent, turn_sending, sendings, sendings_from}
-use Rattle.amqp_session.specs.Providers.{Exchange}
+use Rattle.amqp_auth.specs.Providers.{Exchange}
 use Rattle.amqp_faultless.specs.Faultless.{Server, ServerStage, silent, AreSayable}
 use Rattle.amqp_faultless.specs.Faultless.ServerStage.{Gone}
 use Rattle.amqp_engine.specs.Play.{played_turn_of, played_turn, played_turns, replayed, AreAnswered, IsPlayed}

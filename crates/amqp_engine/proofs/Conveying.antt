@@ -15,7 +15,8 @@ use Rattle.amqp_session.specs.Links.{linked}
 use Rattle.amqp_session.specs.Sound.{IsSound}
 use Rattle.amqp_carried_rules.specs.CommandFrames.{answered_command}
 use Rattle.amqp_types.proofs.Small.{if_case, if-true}
-use Rattle.amqp_session.proofs.Soundness.{sound-command, sound-linked}
+use Rattle.amqp_session.proofs.SoundCommands.{sound-command}
+use Rattle.amqp_session.proofs.Soundness.{sound-linked}
 use Rattle.amqp_session.proofs.Keeping.{stays-command}
 use Rattle.amqp_carried_rules.proofs.Bearing.{Reading, IsAt, none, empty, besides}
 use Rattle.amqp_carried_rules.proofs.Commanding.{grows-more, one-more, at-command}

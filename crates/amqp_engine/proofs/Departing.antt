@@ -15,9 +15,8 @@ use Rattle.amqp_session.specs.declared.command.Cmd.TheVariants.{Send, Publish}
 use Rattle.amqp_session.specs.Listed.{at, put}
 use Rattle.amqp_session.specs.Talk.{Talk, is_open}
 use Rattle.amqp_session.specs.Changes.{Promises, give, settled, settled_by, tell_owed}
-use Rattle.amqp_session.specs.Channels.{channel_at}
-use Rattle.amqp_session.specs.ChannelMethods.{awaits_close_ok}
-use Rattle.amqp_session.specs.Writing.{then_of, answers, paid_by, pay, follow, sent}
+use Rattle.amqp_session.specs.Channels.{channel_at, set_channel}
+use Rattle.amqp_session.specs.Writing.{then_of, answers, pay, follow, sent}
 use Rattle.amqp_carried_rules.specs.CommandFrames.{AreFramesOf, is_publish, is_raw, is_sent}
 use Rattle.amqp_session.proofs.Numbered.{put-same}
 use Rattle.amqp_carried_rules.proofs.Bearing.{floor-own, settled-elsewhere, command_at, Reading, floor, closed, Lines, other, more, whole, IsPart, Ends, Bears, IsAt, Grows, told-made, same-command, floors-rise}
@@ -27,6 +26,9 @@ use Rattle.amqp_carried_rules.proofs.Bearers.{moved, at-finish}
 use Rattle.amqp_carried_rules.proofs.Leaving.{answer-promise, raw-then, lines-from, lane-from, groups-from}
 use Rattle.amqp_engine.specs.Carried.{raw_frames, concatenated}
 use Rattle.amqp_engine.proofs.History.{marked, marked-here, marked-other, Past, past-flow, past-whole}
+use Rattle.amqp_session.proofs.Walk.{pay-case}
+use Rattle.amqp_session.specs.ChannelMethods.{remove_channel}
+use Rattle.amqp_session.specs.declared.channels.Debt.TheVariants as debt
 
 -- ---- links
 
@@ -72,11 +74,10 @@ pub record IsKnown (cs : List Cmd) (answered : ℕ → Bool) (r : Reading) (befo
 module _ (cs : List Cmd) (answered : ℕ → Bool) (r : Reading) (left : List Item) where
   -- our close-ok was sent on a channel
   at-pay : (o : Option Channel) (n : ℕ) (t : Talk) → IsAt cs answered r left t → IsAt cs answered r left (pay o n t)
-  at-pay None n t h = h
-  at-pay (Some c) n t h = by (awaits_close_ok n t) where
-    by : (b : Bool) → IsAt cs answered r left (paid_by b n c (tell_owed n t))
-    by true = moved cs answered r left t (paid_by true n c (tell_owed n t)) refl (λ z. z) (λ n. refl) (λ o. o) (λ b. b) h
-    by false = moved cs answered r left t (paid_by false n c (tell_owed n t)) refl (λ z. z) (λ n. refl) (λ o. o) (λ b. b) h
+  at-pay o n t h =
+      pay-case (IsAt cs answered r left) o n t (λ is. h) (λ c is unowed. h)
+      (λ c is owes awaits. moved cs answered r left t (set_channel n (record c { debt = debt.Paid }) (tell_owed n t)) refl (λ z. z) (λ n. refl) (λ o. o) (λ b. b) h)
+      (λ c is owes gone. moved cs answered r left t (remove_channel n (tell_owed n t)) refl (λ z. z) (λ n. refl) (λ o. o) (λ b. b) h)
 
   -- what follows a frame without a promise
   at-follow : (th : Then) (t : Talk) → ((k : ℕ) → th ≡ Answer k → ⊥) → IsAt cs answered r left t → IsAt cs answered r left (follow th t)

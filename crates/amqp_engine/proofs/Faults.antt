@@ -4,7 +4,7 @@ use Rattle.amqp_promise.specs.declared.io_fault.IoFault.{IoFault}
 use Rattle.amqp_promise.specs.declared.io_fault.IoFault.TheVariants.{Aborted, BrokenPipe}
 use Rattle.amqp_promise.specs.declared.error.ErrorKind.{ErrorKind}
 use Rattle.amqp_promise.specs.declared.error.ErrorKind.TheVariants.{IOError}
-use Rattle.amqp_session.specs.Providers.{Exchange}
+use Rattle.amqp_auth.specs.Providers.{Exchange}
 use Rattle.amqp_session.specs.Talk.{Talk, has_ended, is_open, end_of}
 use Rattle.amqp_engine.specs.declared.port.Step.{Step}
 use Rattle.amqp_engine.specs.declared.port.Step.TheVariants.{LinkFailed, End, Fault}

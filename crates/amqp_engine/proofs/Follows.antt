@@ -8,7 +8,7 @@ use Rattle.amqp_frame.specs.FrameReading.{front}
 use Rattle.amqp_frame.specs.Frames.{FrameOf}
 use Rattle.amqp_frame.specs.Fronts.{IsWithinLimit}
 use Rattle.amqp_frame.proofs.FrontLaws.{front_again}
-use Rattle.amqp_session.specs.declared.auth.asked.Asked.{Asked}
+use Rattle.amqp_auth.specs.declared.asked.Asked.{Asked}
 use Rattle.amqp_session.specs.declared.state.Input.{Input}
 use Rattle.amqp_session.specs.declared.state.Input.TheVariants.{Acting, Closed, Dropped}
 use Rattle.amqp_session.specs.declared.state.Link.{Link}

@@ -9,7 +9,8 @@ use Rattle.amqp_session.specs.Sound.{IsSound, following, Finishes, NoneFinishes}
 use Rattle.amqp_session.specs.Talk.{Talk, is_acting}
 use Rattle.amqp_session.specs.Writing.{frames_waiting}
 use Rattle.amqp_faultless.specs.Faultless.{Server}
-use Rattle.amqp_session.proofs.Soundness.{sound-commit, sound-present, sound-taken}
+use Rattle.amqp_session.proofs.SoundChanges.{sound-present}
+use Rattle.amqp_session.proofs.Soundness.{sound-commit, sound-taken}
 use Rattle.amqp_faultless.proofs.Greeted.{IsMet}
 use Rattle.amqp_faultless.proofs.Speaks.{GoOn, said_all}
 use Rattle.amqp_engine.specs.Engine.{Engine, fitting_next, committed_with_bytes, commit_one, commits, commit_all, took}

@@ -5,8 +5,8 @@ use Rattle.amqp_frame.specs.declared.frame.Read.{Read}
 use Rattle.amqp_frame.specs.declared.frame.Read.TheVariants.{Whole, More, TooLarge, BadHeartbeat, Bad, NoMemory}
 use Rattle.amqp_session.specs.declared.capacity.TheConstants.{LEAST_CAPACITY}
 use Rattle.amqp_session.specs.declared.misread.Misread.TheVariants as why
-use Rattle.amqp_session.specs.declared.auth.asked.Question.{Question}
-use Rattle.amqp_session.specs.declared.auth.asked.Asked.{Asked}
+use Rattle.amqp_auth.specs.declared.asked.Question.{Question}
+use Rattle.amqp_auth.specs.declared.asked.Asked.{Asked}
 use Rattle.amqp_session.specs.Talk.{is_open}
 use Rattle.amqp_session.specs.Negotiation.{frame_limit}
 use Rattle.amqp_session.specs.Changes.{present_at}

@@ -9,7 +9,7 @@ use Rattle.amqp_promise.specs.declared.io_fault.IoFault.TheVariants.{Aborted, Re
 use Rattle.amqp_session.specs.declared.command.Answer.{Answer}
 use Rattle.amqp_session.specs.declared.event.Event.{Event}
 use Rattle.amqp_promise.specs.declared.error.ErrorKind.{ErrorKind}
-use Rattle.amqp_session.specs.declared.auth.asked.Asked.{Asked as ProviderAnswer}
+use Rattle.amqp_auth.specs.declared.asked.Asked.{Asked as ProviderAnswer}
 use Rattle.amqp_session.specs.Talk.{Talk, is_open, is_open_link, is_asked, has_ended, drops_input}
 use Rattle.amqp_session.specs.declared.configuration.Configuration.{Configuration}
 use Rattle.amqp_session.specs.Negotiation.{frame_limit, wish_or}

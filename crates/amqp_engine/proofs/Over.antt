@@ -5,7 +5,7 @@ use Rattle.amqp_session.specs.declared.state.Link.{Link}
 use Rattle.amqp_session.specs.declared.state.Link.TheVariants.{Due, Wanted, Asked, Open, Ended}
 use Rattle.amqp_promise.specs.declared.io_fault.IoFault.{IoFault}
 use Rattle.amqp_promise.specs.declared.io_fault.IoFault.TheVariants.{Aborted, Reset}
-use Rattle.amqp_session.specs.declared.auth.asked.Asked.{Asked as ProviderAnswer}
+use Rattle.amqp_auth.specs.declared.asked.Asked.{Asked as ProviderAnswer}
 use Rattle.amqp_session.specs.Talk.{Talk, is_open, is_open_link, is_asked, is_asked_link, has_ended, end_of, end_of_link}
 use Rattle.amqp_session.specs.Changes.{present_at, fail, starve}
 use Rattle.amqp_session.specs.Ticks.{tick}

@@ -1,7 +1,7 @@
 -- A script whose link takes all and is never lost is played on: each step that comes is the next given one.
 use Rattle.std.proofs.Common.{◌≡◌, inl, inr, ℕ, Bool, true, false, List, [], ◌∷◌, Option, Some, None, option_map, refl, ap, sym, ◌∙◌, subst}
 use Rattle.std.specs.List.{AllByRecursion}
-use Rattle.amqp_session.specs.declared.auth.asked.Asked.{Asked}
+use Rattle.amqp_auth.specs.declared.asked.Asked.{Asked}
 use Rattle.amqp_session.specs.Talk.{Talk}
 use Rattle.amqp_types.proofs.Small.{if_case, if-true}
 use Rattle.amqp_engine.specs.declared.given.Given.{Given}

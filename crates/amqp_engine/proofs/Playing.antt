@@ -2,10 +2,10 @@
 use Rattle.std.proofs.Common.{◌≡◌, ◌≤◌, ◌<◌, ℕ, zero, suc, not, if◌then◌else◌, Bool, true, false, MatchBool, List, [], ◌∷◌, ◌++◌, length, take, drop, append_assoc, append-nil, Option, Some, None, IfSome, IsSome, is_some, option_map, refl, ap, sym, ◌∙◌, subst, arith}
 use Rattle.std.specs.Option.{option_or}
 use Rattle.std.proofs.lemmas.List.{take_all, take_at, take-take, drop_at}
-use Rattle.amqp_session.specs.declared.auth.asked.Question.{Question}
-use Rattle.amqp_session.specs.declared.auth.asked.Asked.{Asked}
-use Rattle.amqp_session.specs.Providers.{Exchange, Allows}
-use Rattle.amqp_session.specs.Asking.{Answer}
+use Rattle.amqp_auth.specs.declared.asked.Question.{Question}
+use Rattle.amqp_auth.specs.declared.asked.Asked.{Asked}
+use Rattle.amqp_auth.specs.Providers.{Exchange, Allows}
+use Rattle.amqp_auth.specs.Asking.{Answer}
 use Rattle.amqp_session.specs.Talk.{has_ended, is_open}
 use Rattle.amqp_session.specs.Changes.{starve, present_at}
 use Rattle.amqp_engine.specs.declared.port.Step.{Step}

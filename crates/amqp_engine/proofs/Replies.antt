@@ -11,11 +11,11 @@ use Rattle.amqp_promise.specs.declared.state.ConnectionState.{ConnectionState}
 use Rattle.amqp_promise.specs.declared.state.ConnectionState.TheVariants.{Connecting}
 use Rattle.amqp_session.specs.declared.state.Phase.{Phase}
 use Rattle.amqp_session.specs.declared.state.Phase.TheVariants.{AwaitStart, AwaitTune}
-use Rattle.amqp_session.specs.declared.auth.asked.Question.{Question}
-use Rattle.amqp_session.specs.declared.auth.asked.Question.TheVariants as question
-use Rattle.amqp_session.specs.declared.auth.asked.Asked.{Asked}
-use Rattle.amqp_session.specs.declared.auth.asked.Asked.TheVariants as answer
-use Rattle.amqp_session.specs.Asking.{Answer}
+use Rattle.amqp_auth.specs.declared.asked.Question.{Question}
+use Rattle.amqp_auth.specs.declared.asked.Question.TheVariants as question
+use Rattle.amqp_auth.specs.declared.asked.Asked.{Asked}
+use Rattle.amqp_auth.specs.declared.asked.Asked.TheVariants as answer
+use Rattle.amqp_auth.specs.Asking.{Answer}
 use Rattle.amqp_session.specs.Config.{Options}
 use Rattle.amqp_session.specs.Talk.{Talk, acts}
 use Rattle.amqp_session.specs.Changes.{present_at}

@@ -2,7 +2,7 @@
 use Rattle.std.proofs.Common.{◌≡◌, ◌≤◌, ℕ, ◌+◌, false, true, List, [], ◌∷◌, ◌++◌, length, take, drop, Option, Some, None, IfSome, option_map, true≢false, refl, ap, sym, ◌∙◌, subst, arith, append_assoc, append-nil, length-append}
 use Rattle.std.proofs.lemmas.Grind.{common_steps}
 use Rattle.std.specs.Option.{option_or}
-use Rattle.amqp_session.specs.Providers.{Exchange, Allows}
+use Rattle.amqp_auth.specs.Providers.{Exchange, Allows}
 use Rattle.amqp_session.specs.Changes.{starve, present_at}
 use Rattle.amqp_session.specs.Talk.{has_ended}
 use Rattle.amqp_engine.specs.declared.port.Step.{Step}

@@ -1,7 +1,7 @@
 -- The step of a turn keeps the tie of a faultless server with the session, where it brings no link and no end, and misses no heartbeat.
 use Rattle.std.proofs.Common.{◌≡◌, ℕ, if◌then◌else◌, true, false, List, [], ◌++◌, None, refl, ap, sym, ◌∙◌, subst}
 use Rattle.amqp_frame.specs.declared.frame.Frame.{Frame}
-use Rattle.amqp_session.specs.declared.auth.asked.Asked.{Asked}
+use Rattle.amqp_auth.specs.declared.asked.Asked.{Asked}
 use Rattle.amqp_session.specs.declared.command.Cmd.{Cmd}
 use Rattle.amqp_session.specs.Config.{Options}
 use Rattle.amqp_session.specs.Sound.{IsSound}
@@ -12,7 +12,9 @@ use Rattle.amqp_session.specs.Links.{piece}
 use Rattle.amqp_session.specs.Ticks.{is_missed, tick}
 use Rattle.amqp_faultless.specs.Faultless.{Server, AreSayable}
 use Rattle.amqp_types.proofs.Small.{if_case, if-true}
-use Rattle.amqp_session.proofs.Soundness.{sound-present, sound-piece, sound-tick, sound-command}
+use Rattle.amqp_session.proofs.SoundChanges.{sound-present}
+use Rattle.amqp_session.proofs.SoundCommands.{sound-command}
+use Rattle.amqp_session.proofs.Soundness.{sound-piece, sound-tick}
 use Rattle.amqp_faultless.proofs.Greeted.{IsMet}
 use Rattle.amqp_faultless.proofs.Tells.{met-present}
 use Rattle.amqp_faultless.proofs.Modest.{Modest}

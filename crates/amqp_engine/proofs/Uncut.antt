@@ -2,7 +2,7 @@
 use Rattle.std.proofs.Common.{◌≡◌, ℕ, zero, suc, ◌+◌, if◌then◌else◌, Bool, true, false, List, [], ◌∷◌, length, drop, None, refl, ap, ◌∙◌, subst, arith}
 use Rattle.amqp_session.specs.Talk.{has_ended}
 use Rattle.amqp_types.proofs.Small.{if-true}
-use Rattle.amqp_session.specs.declared.auth.asked.Asked.{Asked}
+use Rattle.amqp_auth.specs.declared.asked.Asked.{Asked}
 use Rattle.amqp_engine.specs.Plan.{Coming}
 use Rattle.amqp_engine.specs.Log.{Log}
 use Rattle.amqp_engine.specs.Engine.{Engine}

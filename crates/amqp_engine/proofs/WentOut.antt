@@ -14,7 +14,7 @@ use Rattle.amqp_session.specs.declared.committed.Mark.{Mark}
 use Rattle.amqp_session.specs.declared.command.Cmd.{Cmd}
 use Rattle.amqp_session.specs.declared.misread.Misread.{Misread}
 use Rattle.amqp_session.specs.declared.misread.Misread.TheVariants as misreads
-use Rattle.amqp_session.specs.declared.auth.asked.Asked.{Asked as ProviderAnswer}
+use Rattle.amqp_auth.specs.declared.asked.Asked.{Asked as ProviderAnswer}
 use Rattle.amqp_session.specs.Events.{Noted, unheard}
 use Rattle.amqp_session.specs.declared.command.Cmd.TheVariants.{Listen}
 use Rattle.amqp_session.specs.Config.{Config}
@@ -28,7 +28,10 @@ use Rattle.amqp_session.specs.Commands.{command}
 use Rattle.amqp_session.specs.Sound.{IsSound}
 use Rattle.amqp_session.specs.Writing.{frames_waiting, next_out, fitting, mark_of, taken, end_overlong}
 use Rattle.amqp_types.proofs.Small.{if_case, if_by, if-true, if-false, and-false, and-left, and-right}
-use Rattle.amqp_session.proofs.Soundness.{sound-commit, sound-taken, sound-present, sound-asked, sound-link_failed, sound-piece, sound-lost, sound-misread, sound-frame, sound-tick, sound-starve, sound-lose, sound-start, sound-command}
+use Rattle.amqp_session.proofs.SoundChanges.{sound-present, sound-starve, sound-lose}
+use Rattle.amqp_session.proofs.SoundCommands.{sound-command}
+use Rattle.amqp_session.proofs.SoundFrames.{sound-frame}
+use Rattle.amqp_session.proofs.Soundness.{sound-commit, sound-taken, sound-asked, sound-link_failed, sound-piece, sound-lost, sound-misread, sound-tick, sound-start}
 use Rattle.amqp_session.proofs.Keeping.{present-keeps, kept-open, failed-link, failed-keeps, lost-off, keeps-misread, keeps-frame, keeps-tick, off-lost, starve-ends}
 use Rattle.amqp_carried_rules.proofs.Bearing.{Reading, IsAt, told-made, command_at}
 use Rattle.amqp_carried_rules.proofs.Bearers.{at-moment, at-asked, at-failed, at-piece, at-lost, at-misread, at-frame, at-tick, at-starve, at-lose}

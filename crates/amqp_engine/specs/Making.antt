@@ -3,10 +3,10 @@ use Rattle.std.specs.Prelude.{◌≡◌, ◌⊎◌, ◌≤◌, ◌<◌, ◌^◌,
 use Rattle.amqp_types.specs.declared.text.Text.{Text}
 use Rattle.amqp_frame.specs.declared.frame.Read.{Read}
 use Rattle.amqp_frame.specs.declared.frame.Read.TheVariants.{Whole}
-use Rattle.amqp_session.specs.declared.auth.asked.Question.{Question}
-use Rattle.amqp_session.specs.declared.auth.asked.Asked.{Asked}
-use Rattle.amqp_session.specs.Providers.{Exchange, Allows}
-use Rattle.amqp_session.specs.Asking.{Asks, paired}
+use Rattle.amqp_auth.specs.declared.asked.Question.{Question}
+use Rattle.amqp_auth.specs.declared.asked.Asked.{Asked}
+use Rattle.amqp_auth.specs.Providers.{Exchange, Allows}
+use Rattle.amqp_auth.specs.Asking.{Asks, paired}
 use Rattle.amqp_promise.specs.declared.error.ErrorKind.TheVariants.{AuthProviderError}
 use Rattle.amqp_session.specs.Talk.{Talk, is_open, drops_input, end_of}
 use Rattle.amqp_engine.specs.declared.port.Step.{Step}

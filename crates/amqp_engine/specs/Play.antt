@@ -1,8 +1,8 @@
 -- A script that is played: what its port answers is determined, and so are the turns.
 use Rattle.std.specs.Prelude.{◌≡◌, ℕ, zero, suc, ◌+◌, min, Bool, false, true, if◌then◌else◌, List, [], ◌∷◌, length, take, drop, Option, Some, None}
-use Rattle.amqp_session.specs.declared.auth.asked.Asked.{Asked}
-use Rattle.amqp_session.specs.Providers.{Exchange, Allows}
-use Rattle.amqp_session.specs.Asking.{Answer}
+use Rattle.amqp_auth.specs.declared.asked.Asked.{Asked}
+use Rattle.amqp_auth.specs.Providers.{Exchange, Allows}
+use Rattle.amqp_auth.specs.Asking.{Answer}
 use Rattle.amqp_session.specs.Talk.{Talk, has_ended}
 use Rattle.amqp_session.specs.Writing.{frames_waiting}
 use Rattle.amqp_engine.specs.declared.port.Step.TheVariants.{Tick}

@@ -2,7 +2,7 @@
 
 ghost use Rattle.std.specs.Prelude.{◌≡◌, ℕ, ◌+◌, [], false, true, List, Option, Some, Ok, map};
 ghost use Rattle.std.specs.List.{AllByRecursion};
-ghost use Rattle.amqp_session.specs.declared.auth.asked.Asked.{Asked};
+ghost use Rattle.amqp_auth.specs.declared.asked.Asked.{Asked};
 ghost use Rattle.amqp_session.specs.declared.command.Answer.TheVariants.{Connected};
 ghost use Rattle.amqp_session.specs.Listed.{at};
 ghost use Rattle.amqp_session.specs.Talk.{Talk, end_of, has_ended};

@@ -4,8 +4,8 @@ use Rattle.std.specs.Prelude.{ℕ, List, [], ◌∷◌, ◌++◌, map, take, dro
 use Rattle.amqp_frame.specs.declared.frame.Frame.TheVariants.{Method, Heartbeat}
 use Rattle.amqp_frame.specs.declared.method.Method.TheVariants.{Tune, OpenOk, Close, CloseOk, Blocked, Unblocked, ChannelOpenOk, ChannelClose}
 use Rattle.amqp_uri.specs.Address.{local}
-use Rattle.amqp_session.specs.declared.auth.asked.Asked.{Asked}
-use Rattle.amqp_session.specs.declared.auth.asked.Asked.TheVariants as answer
+use Rattle.amqp_auth.specs.declared.asked.Asked.{Asked}
+use Rattle.amqp_auth.specs.declared.asked.Asked.TheVariants as answer
 use Rattle.amqp_session.specs.declared.command.Cmd.TheVariants.{OpenChannel, CloseChannel, CloseConnection}
 use Rattle.amqp_session.specs.Config.{config_of, no_options}
 use Rattle.amqp_session.specs.Talk.{Talk, start as new}

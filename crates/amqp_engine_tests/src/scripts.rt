@@ -2,7 +2,7 @@
 
 ghost use Rattle.std.specs.Prelude.{◌≡◌, [], ◌∷◌, ◌++◌, List, None, Some, Ok, Err, take, codes};
 ghost use Rattle.amqp_promise.specs.declared.error.ErrorKind.TheVariants.{MissingHeartbeatError};
-ghost use Rattle.amqp_session.specs.declared.auth.asked.Asked.TheVariants as answer;
+ghost use Rattle.amqp_auth.specs.declared.asked.Asked.TheVariants as answer;
 ghost use Rattle.amqp_session.specs.Config.{no_options};
 ghost use Rattle.amqp_session.specs.Talk.{end_of};
 ghost use Rattle.amqp_faultless.specs.Faultless.{AreSayable};

@@ -19,15 +19,15 @@ use Rattle.amqp_types.specs.declared.word.Word.TheVariants as word
 use Rattle.amqp_session.specs.declared.channels.Channel.{Channel}
 use Rattle.amqp_session.specs.declared.command.Cmd.{Cmd}
 use Rattle.amqp_session.specs.declared.command.Cmd.TheVariants.{OpenChannel, CloseChannel, CloseConnection, UpdateSecret, Send, Publish, Flow, DropChannel, DropConnection, Listen}
-use Rattle.amqp_session.specs.declared.auth.asked.Asked.{Asked as ProviderAnswer}
-use Rattle.amqp_session.specs.declared.auth.asked.Asked.TheVariants as answer
+use Rattle.amqp_auth.specs.declared.asked.Asked.{Asked as ProviderAnswer}
+use Rattle.amqp_auth.specs.declared.asked.Asked.TheVariants as answer
 use Rattle.amqp_session.specs.Config.{Options}
 use Rattle.amqp_session.specs.Talk.{Talk}
 use Rattle.amqp_session.specs.Changes.{queue, lose, next_promise}
 use Rattle.amqp_session.specs.Handshake.{our_close, our_channel_close, new_secret, channel_open, channel_flow}
 use Rattle.amqp_session.specs.Numbering.{first_number, drawn}
 use Rattle.amqp_session.specs.Publishing.{method_frame, publish_frames}
-use Rattle.amqp_session.specs.Commands.{target, open_drawn, leave_channel, close_target, drop_target, flow_target, queue_secret, update_secret, too_long, unless_too_long, queue_send, send_target, body_limit, queue_publish, publish_target, leave_connection, command, command_rule}
+use Rattle.amqp_session.specs.Commands.{target, open_drawn, leave_channel, close_target, drop_target, flow_target, queue_secret, update_secret, too_long, unless_too_long, too_full, unless_full, queue_send, send_target, body_limit, queue_publish, publish_target, leave_connection, command, command_rule}
 use Rattle.amqp_session.specs.Ticks.{is_missed, is_heartbeat_due, missing_heartbeat, beat, asks_validity, has_expired, refresh_reason, refresh, validity_told, tick}
 use Rattle.amqp_faultless.specs.Faultless.{AreSayable, IsShortCommand}
 use Rattle.amqp_types.proofs.Small.{if_case}
@@ -74,6 +74,10 @@ module _ (options : Options) where
   unless None rule t h k = k refl
   unless (Some frame) rule t h k = h
 
+  room : (o : Option ℕ) (rule : Talk → Talk) (t : Talk) → M t → M (rule t) → M (unless_full o rule t)
+  room None rule t h k = k
+  room (Some octets) rule t h k = h
+
   brief-drawn : (o : Option ℕ) (first : ℕ) (t : Talk) → M t → M (open_drawn o first t)
   brief-drawn None first t h = h
   brief-drawn (Some n) first t h = says-queue options n (channel_open n) t (omega arith) h
@@ -102,15 +106,17 @@ module _ (options : Options) where
   brief-send (Err e) n m t h = h
   brief-send (Ok c) n m t h =
       let f : Frame = method_frame n m in
-      unless (too_long (f ∷ []) t) (queue_send n f) t h
-      (λ none. (h.0, h.1, h.2, fit-control t.capacity t.outbox h.3 (promised_item n f (next_promise t)) (none-long t.capacity (f ∷ []) none).0))
+      unless (too_long (f ∷ []) t) (unless_full (too_full (f ∷ []) t) (queue_send n f)) t h
+      (λ none.
+      room (too_full (f ∷ []) t) (queue_send n f) t h
+      (h.0, h.1, h.2, fit-control t.capacity t.outbox h.3 (promised_item n f (next_promise t)) (none-long t.capacity (f ∷ []) none).0))
 
   brief-publish : (r : Result Channel ErrorKind) (n : ℕ) (m : OtherMethod) (properties body : List ℕ) (t : Talk) → M t → M (publish_target r n m properties body t)
   brief-publish (Err e) n m properties body t h = h
   brief-publish (Ok c) n m properties body t h =
       let frames : List Frame = publish_frames n m properties body (body_limit t) in
-      unless (too_long frames t) (queue_publish n frames) t h
-      (λ none. (
+      unless (too_long frames t) (unless_full (too_full frames t) (queue_publish n frames)) t h
+      (λ none. room (too_full frames t) (queue_publish n frames) t h (
         h.0,
         h.1,
         h.2,

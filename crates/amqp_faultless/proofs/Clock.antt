@@ -5,7 +5,7 @@ use Rattle.amqp_promise.specs.declared.error.ErrorKind.{ErrorKind}
 use Rattle.amqp_session.specs.declared.command.Cmd.{Cmd}
 use Rattle.amqp_session.specs.declared.committed.Mark.{Mark}
 use Rattle.amqp_session.specs.declared.misread.Misread.{Misread}
-use Rattle.amqp_session.specs.declared.auth.asked.Asked.{Asked as ProviderAnswer}
+use Rattle.amqp_auth.specs.declared.asked.Asked.{Asked as ProviderAnswer}
 use Rattle.amqp_session.specs.Talk.{Talk, is_open, is_asked, has_ended}
 use Rattle.amqp_session.specs.Changes.{present_at, lose}
 use Rattle.amqp_session.specs.Commands.{command}
@@ -69,6 +69,7 @@ module _ (moment last : ℕ) where
     lost = lost;
     opened = λ n c promise t is h. h;
     closed = λ n promise t is h. h;
+    answered = λ n c t h. h;
     removed = λ n t h. h;
     flow = λ n c active t h. h;
     flowed = λ n c active promise t is h. h;

@@ -29,17 +29,17 @@ use Rattle.amqp_promise.specs.declared.error.ErrorKind.{ErrorKind}
 use Rattle.amqp_promise.specs.declared.error.ErrorKind.TheVariants.{InvalidChannel}
 use Rattle.amqp_session.specs.declared.command.Answer.{Answer}
 use Rattle.amqp_session.specs.declared.command.Answer.TheVariants.{Connected as AnswerConnected, Done}
-use Rattle.amqp_session.specs.declared.auth.asked.Question.{Question}
-use Rattle.amqp_session.specs.declared.auth.asked.Question.TheVariants as question
-use Rattle.amqp_session.specs.declared.auth.asked.Asked.{Asked as ProviderAnswer}
-use Rattle.amqp_session.specs.declared.auth.asked.Asked.TheVariants as answer
+use Rattle.amqp_auth.specs.declared.asked.Question.{Question}
+use Rattle.amqp_auth.specs.declared.asked.Question.TheVariants as question
+use Rattle.amqp_auth.specs.declared.asked.Asked.{Asked as ProviderAnswer}
+use Rattle.amqp_auth.specs.declared.asked.Asked.TheVariants as answer
 use Rattle.amqp_session.specs.Listed.{at}
 use Rattle.amqp_session.specs.Talk.{Talk, is_open, is_acting, is_closing, acts as acts_on_link, end_of}
 use Rattle.amqp_session.specs.Channels.{channel_at}
 use Rattle.amqp_session.specs.Changes.{misplaced, lose}
 use Rattle.amqp_session.specs.Handshake.{close_ok}
 use Rattle.amqp_session.specs.ConnectionMethods.{connection_rule, secret_taken, connection_closed, on_connection_close, on_blocked, on_unblocked}
-use Rattle.amqp_session.specs.ChannelMethods.{confirmed, is_select_ok, heard_on, channel_rule, channel_method_by, channel_method, raw_by, raw_frame, awaits_close_ok}
+use Rattle.amqp_session.specs.ChannelMethods.{confirmed, is_select_ok, heard_on, channel_rule, channel_method_by, channel_method, raw_by, raw_frame}
 use Rattle.amqp_session.specs.Violations.{channel_closed_with, stray_connection_method}
 use Rattle.amqp_frame.specs.Methods.{is_of_a_channel}
 use Rattle.amqp_session.specs.Frames.{method_on, frame_rule, on_frame, questions_in, frame_questions, closed_rule}
@@ -289,7 +289,7 @@ module _ (k : ℕ) (s : Server) (t : Talk) (m : IsMet s t) (is : t.state ≡ Con
       let P : Server → Type 0 = λ x. Goes x (channel_method n (ChannelClose code text class method) t) in
       subst P g.1
       (by-rule _ (ChannelClose code text class method) c.0 c.1
-      (goes-server-close n c.0 s t m.opened c.1 serving above b.0 (channel_closed_with code text) (c.0).debt refl (awaits_close_ok n t)))
+      (goes-server-close n c.0 s t m.opened c.1 serving above b.0 (channel_closed_with code text) (c.0).debt refl))
 
   heard-raw : (kind : RawKind) (bytes : List ℕ) (s' : Server) → serves_on n held (Raw n kind bytes) s ≡ Some s' → Goes s' (raw_frame n kind bytes t)
   heard-raw kind bytes s' h =

@@ -8,8 +8,8 @@ use Rattle.amqp_session.specs.declared.channels.Channel.{Channel}
 use Rattle.amqp_session.specs.declared.configuration.Configuration.{Configuration}
 use Rattle.amqp_promise.specs.declared.error.ErrorKind.{ErrorKind}
 use Rattle.amqp_promise.specs.declared.error.ErrorKind.TheVariants.{AuthProviderError}
-use Rattle.amqp_session.specs.declared.auth.asked.Asked.{Asked as ProviderAnswer}
-use Rattle.amqp_session.specs.declared.auth.asked.Asked.TheVariants as answer
+use Rattle.amqp_auth.specs.declared.asked.Asked.{Asked as ProviderAnswer}
+use Rattle.amqp_auth.specs.declared.asked.Asked.TheVariants as answer
 use Rattle.amqp_session.specs.Config.{Config, Options}
 use Rattle.amqp_session.specs.Talk.{Talk}
 use Rattle.amqp_session.specs.Changes.{queue, lose, without_all_on}
@@ -89,6 +89,7 @@ module _ (options : Options) where
     lost = says-lose;
     opened = λ n c promise t is h. h;
     closed = λ n promise t is h. h;
+    answered = λ n c t h. h;
     removed = λ n t h. h;
     flow = λ n c active t h. says-queue n (flow_ok n active) t (omega arith) h;
     flowed = λ n c active promise t is h. h;

@@ -10,12 +10,12 @@ use Rattle.amqp_session.specs.declared.server_close.ServerClose.TheVariants.{Wit
 use Rattle.amqp_session.specs.Config.{Config, Options}
 use Rattle.amqp_session.specs.Talk.{Talk, start, is_open, is_asked, has_ended}
 use Rattle.amqp_session.specs.Channels.{channel_at}
-use Rattle.amqp_session.specs.ChannelMethods.{awaits_close_ok}
-use Rattle.amqp_session.specs.Changes.{present_at, tell_owed, finish_by}
+use Rattle.amqp_session.specs.Changes.{present_at, finish_by}
 use Rattle.amqp_session.specs.Links.{linked, piece}
-use Rattle.amqp_session.specs.Writing.{paid_by, pay, follow, sent, sent_among, taken}
+use Rattle.amqp_session.specs.Writing.{pay, follow, sent, sent_among, taken}
 use Rattle.amqp_types.proofs.Small.{if_case}
 use Rattle.amqp_faultless.proofs.Modest.{Modest, says-lose}
+use Rattle.amqp_session.proofs.Walk.{pay-case}
 
 -- a session at its beginning
 pub modest-start : (config : Config) → length config.uri.vhost ≤ 255 → Modest config.options (start config)
@@ -33,11 +33,7 @@ module _ (options : Options) where
   modest-finish (Some (WithError e)) t h = says-lose options (ProtocolError e) t h
 
   modest-pay : (o : Option Channel) (n : ℕ) (t : Talk) → M t → M (pay o n t)
-  modest-pay None n t h = h
-  modest-pay (Some c) n t h = by (awaits_close_ok n t) where
-    by : (b : Bool) → M (paid_by b n c (tell_owed n t))
-    by true = h
-    by false = h
+  modest-pay o n t h = pay-case M o n t (λ is. h) (λ c is unowed. h) (λ c is owes awaits. h) (λ c is owes left. h)
 
   modest-follow : (th : Then) (t : Talk) → M t → M (follow th t)
   modest-follow Nothing t h = h

@@ -213,6 +213,7 @@ module _ (r : Result Answer ErrorKind) where
     lost = goes-lost (Some r) t;
     opened = λ n c o u is. goes-but (Some r) t u _ refl (still (to-given o r _ u.promises)) (λ x. x);
     closed = λ n o u is. goes-but (Some r) t u _ refl (still (λ x. each-given _ (replies_on n (without_awaited n ChannelClosed u.outbox)) r _ (to-given o r _ u.promises x))) (λ x. x);
+    answered = λ n c u. goes-but (Some r) t u _ refl (λ x. x) (λ x. x);
     removed = λ n u. goes-but (Some r) t u (remove_channel n u) refl (λ x. x) (λ x. x);
     flow = λ n c active u. goes-but (Some r) t u _ refl (λ x. x) (pushed (Some r) (plain_item n (Method n (ChannelFlowOk active))) u.outbox refl);
     flowed = λ n c active o u is. goes-but (Some r) t u _ refl (still (to-given o r _ u.promises)) (λ x. x);

@@ -1,10 +1,10 @@
 -- A provider that answers what it is asked and never refuses: what each question gets, and what is left for those after it.
 use Rattle.std.proofs.Common.{ℕ, true≢false, List, [], ◌∷◌, drop, Ok, Err, sym}
-use Rattle.amqp_session.specs.declared.auth.asked.Question.{Question}
-use Rattle.amqp_session.specs.declared.auth.asked.Question.TheVariants as question
-use Rattle.amqp_session.specs.declared.auth.asked.Asked.{Asked}
-use Rattle.amqp_session.specs.declared.auth.asked.Asked.TheVariants as answer
-use Rattle.amqp_session.specs.Asking.{Answer}
+use Rattle.amqp_auth.specs.declared.asked.Question.{Question}
+use Rattle.amqp_auth.specs.declared.asked.Question.TheVariants as question
+use Rattle.amqp_auth.specs.declared.asked.Asked.{Asked}
+use Rattle.amqp_auth.specs.declared.asked.Asked.TheVariants as answer
+use Rattle.amqp_auth.specs.Asking.{Answer}
 use Rattle.amqp_session.specs.Config.{Options}
 use Rattle.amqp_faultless.specs.Faultless.{AreSayable}
 use Rattle.amqp_faultless.proofs.Greeted.{AreSaid}

@@ -26,17 +26,17 @@ use Rattle.amqp_promise.specs.declared.state.ChannelState.TheVariants as channel
 use Rattle.amqp_promise.specs.declared.error.ErrorKind.{ErrorKind}
 use Rattle.amqp_session.specs.Listed.{at, put, without}
 use Rattle.amqp_session.specs.Talk.{Talk, is_open}
-use Rattle.amqp_session.specs.Channels.{channel_at, is_owed}
+use Rattle.amqp_session.specs.Channels.{channel_at, is_owed, made_answered}
 use Rattle.amqp_session.specs.Changes.{drop_replies_of, give_to}
 use Rattle.amqp_session.specs.declared.command.Answer.TheVariants.{Done}
 use Rattle.amqp_types.specs.declared.word.Word.TheVariants as word
 use Rattle.amqp_promise.specs.declared.error.ErrorKind.TheVariants.{InvalidChannelState}
-use Rattle.amqp_session.specs.ChannelMethods.{channel_opened, channel_closed, channel_flowed, channel_close_by, remove_unless_owed, on_channel_flow, confirmed, is_select_ok, pass_through}
+use Rattle.amqp_session.specs.ChannelMethods.{channel_opened, channel_closed, channel_flowed, channel_close_by, closed_by_server, crossing_close, remove_unless_owed, on_channel_flow, confirmed, is_select_ok, pass_through}
 use Rattle.amqp_session.specs.Handshake.{flow_ok, channel_close_ok}
 use Rattle.amqp_session.specs.Writing.{then_of}
 use Rattle.amqp_faultless.specs.Faultless.{Use, unused, Server, used_as, provided, one_less}
 use Rattle.amqp_faultless.specs.Faultless.ServerStage.{Serving}
-use Rattle.amqp_types.proofs.Small.{same-number, other-number, the-number}
+use Rattle.amqp_types.proofs.Small.{same-number, other-number, the-number, if_case}
 use Rattle.amqp_session.proofs.Numbered.{put-same, put-other, without-other}
 use Rattle.amqp_legal_rules.proofs.Ties.{pays, to_pay, unpaid, owing}
 use Rattle.amqp_legal_rules.proofs.Paying.{pays-none, pays-own, pays-others, goes-on}
@@ -445,8 +445,12 @@ module _ (n : ℕ) (c : Channel) (s : Server) (t : Talk) (o : is_open t ≡ true
     closed_talk promise =
         drop_replies_of n (InvalidChannelState channel.Closed word.ChannelCloseOkReceived) (give_to promise (Ok Done) (record t { outbox = queued.without_awaited n ChannelClosed t.outbox }))
 
-    goes-left : (promise : Option ℕ) → lives u ≡ true → (d : Debt) → c.debt ≡ d → Goes (used_as n unused s) (remove_unless_owed d n (closed_talk promise))
-    goes-left promise l debt.Owed is = (o, gone t.channels (λ m ne. refl) (h.due n) l)
+    goes-left : (promise : Option ℕ) → lives u ≡ true → (d : Debt) → c.debt ≡ d → Goes (used_as n unused s) (remove_unless_owed d n c (closed_talk promise))
+    goes-left promise l debt.Owed is =
+        let c' : Channel = made_answered c in
+        let same : owing (at n (put n c' t.channels)) ≡ owing (Some c) = ap owing (put-same n c' t.channels) in
+        let before : owing (at n t.channels) ≡ owing (Some c) = ap owing listed in
+        (o, gone (put n c' t.channels) (λ m ne. put-other m n c' t.channels ne) (let a = h.due n in omega (arith, a, same, before)) l)
     goes-left promise l debt.Nothing is =
         (o, gone (without n t.channels) (λ m ne. without-other m n t.channels ne) (let a = unpaid-none (ap is_owed is) in omega (arith, a)) l)
     goes-left promise l debt.Paid is =
@@ -581,20 +585,18 @@ module _ (n : ℕ) (c : Channel) (s : Server) (t : Talk) (o : is_open t ≡ true
     none-unpaid-kept : is_owed c.debt ≡ false → unpaid t.committed (filter kept_item t.outbox.control) n ≡ 0
     none-unpaid-kept free = let a = unpaid-none free in let b = fewer-paying n t.outbox.control in omega (arith, a, b)
 
-    pub goes-server-close : u.opened ≡ true → (e : ErrorKind) (d : Debt) → c.debt ≡ d → (awaits : Bool) → Goes (used_as n unused s) (channel_close_by d awaits n e c t)
-    goes-server-close opened e debt.Nothing is false =
+    pub goes-server-close : u.opened ≡ true → (e : ErrorKind) (d : Debt) → c.debt ≡ d → Goes (used_as n unused s) (channel_close_by d n e c t)
+    goes-server-close opened e debt.Nothing is =
         let l = opened-lives u opened in
         let free : is_owed c.debt ≡ false = ap is_owed is in
-        (o, plain-close-ok (used_as n unused s) _ (put n closing_channel t.channels) t.committed (dropped-serves l free) (none-unpaid-kept free) (owed-now closing_channel refl))
-    goes-server-close opened e debt.Nothing is true =
-        let l = opened-lives u opened in
-        let free : is_owed c.debt ≡ false = ap is_owed is in (
+        if_case (Goes (used_as n unused s)) c.awaits_close_ok (crossing_close n e c t) (closed_by_server n e c t) (
           o,
           plain-close-ok (used_as n unused s) t.outbox (put n (record c { debt = debt.Owed }) t.channels) t.committed (crossing-serves l free) (none-unpaid free)
               (owed-now (record c { debt = debt.Owed }) refl),
         )
-    goes-server-close opened e debt.Owed is awaits = absurd (true≢false (sym (unowed opened) ∙ ap is_unowed is))
-    goes-server-close opened e debt.Paid is awaits = absurd (true≢false (sym (unowed opened) ∙ ap is_unowed is))
+        (o, plain-close-ok (used_as n unused s) _ (put n closing_channel t.channels) t.committed (dropped-serves l free) (none-unpaid-kept free) (owed-now closing_channel refl))
+    goes-server-close opened e debt.Owed is = absurd (true≢false (sym (unowed opened) ∙ ap is_unowed is))
+    goes-server-close opened e debt.Paid is = absurd (true≢false (sym (unowed opened) ∙ ap is_unowed is))
 
 -- ---- a new secret
 

@@ -25,10 +25,9 @@ use Rattle.amqp_promise.specs.declared.state.ConnectionState.TheVariants.{Initia
 use Rattle.amqp_session.specs.Listed.{at, put, without}
 use Rattle.amqp_session.specs.Talk.{Talk, is_open}
 use Rattle.amqp_session.specs.Channels.{channel_at, is_owed}
-use Rattle.amqp_session.specs.Changes.{tell_owed, give}
+use Rattle.amqp_session.specs.Changes.{give}
 use Rattle.amqp_session.specs.Sound.{is_finish}
-use Rattle.amqp_session.specs.ChannelMethods.{awaits_close_ok}
-use Rattle.amqp_session.specs.Writing.{flows, writes, next_out, is_close_ok, then_by, then_of, mark_of, paid_by, pay, follow, sent, sent_among, taken}
+use Rattle.amqp_session.specs.Writing.{flows, writes, next_out, is_close_ok, then_by, then_of, mark_of, pay, follow, sent, sent_among, taken}
 use Rattle.amqp_faultless.specs.Faultless.{Use, ServerStage, Server, said_to}
 use Rattle.amqp_types.proofs.Small.{if_case, same-number}
 use Rattle.amqp_session.proofs.Numbered.{put-other, without-other}
@@ -38,6 +37,7 @@ use Rattle.amqp_faultless.proofs.Ordinary.{is_close, AreOthers, First, settled-g
 use Rattle.amqp_faultless.proofs.Uses.{acts, use_by, lives, is_unowed, is_free, Along, along-map, said-use}
 use Rattle.amqp_faultless.proofs.Served.{Serves, Channels, is_raw, AreRaw, secret_by, secrets_in, by-number, along-cast}
 use Rattle.amqp_faultless.proofs.Greeted.{Greets, IsSilentMark, Meets, slot_in, IsMet, meets-in, first-in, greets, greeting-plain}
+use Rattle.amqp_session.proofs.Walk.{pay-case}
 
 -- ---- what a frame tells the server
 
@@ -333,10 +333,15 @@ met-paid n k ms s t is pays_n m = by t.state refl where
   here : IsMet s (record t { committed = drop 1 t.committed })
   here = met-dropped k ms s t is m
 
+  y : Talk
+  y = record t { committed = drop 1 t.committed }
+
   -- the channels change alone
-  changed : (b : Bool) (c : Channel) → ((cs : Channels) → ((i : ℕ) → i ≢ n → at i cs ≡ at i t.channels) → Meets t.state t.phase s t.outbox cs (drop 1 t.committed))
-      → IsMet s (paid_by b n c (tell_owed n (record t { committed = drop 1 t.committed })))
-  changed true c h =
+  changed : (x : Option Channel) → ((c : Channel) → x ≡ Some c → is_owed c.debt ≡ false → IsMet s y) → (x ≡ None → IsMet s y)
+      → ((cs : Channels) → ((i : ℕ) → i ≢ n → at i cs ≡ at i t.channels) → Meets t.state t.phase s t.outbox cs (drop 1 t.committed)) → IsMet s (pay x n y)
+  changed x unowed none h =
+      pay-case (IsMet s) x n y none unowed
+      (λ c is owes awaits.
       record {
         opened = m.opened;
         acting = m.acting;
@@ -344,9 +349,9 @@ met-paid n k ms s t is pays_n m = by t.state refl where
         first = m.first;
         limit = m.limit;
         meets = h (put n (record c { debt = debt.Paid }) t.channels) (λ i ne. put-other i n (record c { debt = debt.Paid }) t.channels ne);
-      }
-  changed false c h =
-      record { opened = m.opened; acting = m.acting; blocked = m.blocked; first = m.first; limit = m.limit; meets = h (without n t.channels) (λ i ne. without-other i n t.channels ne) }
+      })
+      (λ c is owes left.
+      record { opened = m.opened; acting = m.acting; blocked = m.blocked; first = m.first; limit = m.limit; meets = h (without n t.channels) (λ i ne. without-other i n t.channels ne) })
 
   serving : t.state ≡ Connected → Serves s t.outbox t.channels (k ∷ ms)
   serving st = let P : List Mark → Type 0 = λ x. Serves s t.outbox t.channels x in subst P is (meets-in s t m Connected st)
@@ -362,20 +367,19 @@ met-paid n k ms s t is pays_n m = by t.state refl where
         let Q : List Mark → Type 0 = λ x. Serves s t.outbox cs (drop 1 x) in
         subst P (sym st) (subst Q (sym is) g)
 
-    pay-by : (x : Option Channel) → at n t.channels ≡ x → IsMet s (pay x n (record t { committed = drop 1 t.committed }))
-    pay-by None free =
-        let owed = paid-owed n k ms s t.outbox t.channels pays_n (serving st) in
-        let none = ap owing free in absurd (omega (arith, owed, none))
-    pay-by (Some c) listed =
-        changed (awaits_close_ok n (record t { committed = drop 1 t.committed })) c
+    owed : 1 ≤ owing (at n t.channels)
+    owed = paid-owed n k ms s t.outbox t.channels pays_n (serving st)
+
+    pay-by : (x : Option Channel) → at n t.channels ≡ x → IsMet s (pay x n y)
+    pay-by x listed =
+        changed x
+        (λ c is free. let none : owing (at n t.channels) ≡ 0 = ap owing (listed ∙ is) ∙ ap (λ b. if b then 1 else 0) free in absurd (omega (arith, owed, none)))
+        (λ is. let none : owing (at n t.channels) ≡ 0 = ap owing (listed ∙ is) in absurd (omega (arith, owed, none)))
         (λ cs same. back cs (serves-paid n k ms s t.outbox t.channels pays_n (serving st) cs same))
-  by Closing st = pay-by (at n t.channels) where
-    pay-by : (x : Option Channel) → IsMet s (pay x n (record t { committed = drop 1 t.committed }))
-    pay-by None = here
-    pay-by (Some c) =
-        changed (awaits_close_ok n (record t { committed = drop 1 t.committed })) c
-        (λ cs same.
-        (let P : ConnectionState → Type 0 = λ x. Meets x t.phase s t.outbox cs (drop 1 t.committed) in subst P (sym st) (meets-in s t m Closing st)))
+  by Closing st =
+      changed (at n t.channels) (λ c is free. here) (λ is. here)
+      (λ cs same.
+      (let P : ConnectionState → Type 0 = λ x. Meets x t.phase s t.outbox cs (drop 1 t.committed) in subst P (sym st) (meets-in s t m Closing st)))
   by Initial st = absurd (meets-in s t m Initial st)
   by Closed st = absurd (meets-in s t m Closed st)
   by Reconnecting st = absurd (meets-in s t m Reconnecting st)
@@ -423,13 +427,8 @@ GoOn ms = AllByRecursion (λ (k : Mark). is_finish k.then ≡ false) ms
 
 pub sent-committed : (k : Mark) (t : Talk) → is_finish k.then ≡ false → (sent k t).committed ≡ drop 1 t.committed
 sent-committed k t goes = by k.then goes where
-  paid : (b : Bool) (n : ℕ) (c : Channel) (x : Talk) → (paid_by b n c x).committed ≡ x.committed
-  paid true n c x = refl
-  paid false n c x = refl
-
   pay-same : (o : Option Channel) (n : ℕ) (x : Talk) → (pay o n x).committed ≡ x.committed
-  pay-same None n x = refl
-  pay-same (Some c) n x = paid (awaits_close_ok n x) n c (tell_owed n x)
+  pay-same o n x = pay-case (λ (z : Talk). z.committed ≡ x.committed) o n x (λ is. refl) (λ c is unowed. refl) (λ c is owes awaits. refl) (λ c is owes left. refl)
 
   by : (th : Then) → is_finish th ≡ false → (follow th (record t { committed = drop 1 t.committed })).committed ≡ drop 1 t.committed
   by Nothing goes = refl

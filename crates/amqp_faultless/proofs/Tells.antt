@@ -22,7 +22,7 @@ use Rattle.amqp_session.specs.declared.command.Cmd.{Cmd}
 use Rattle.amqp_session.specs.declared.command.Cmd.TheVariants.{OpenChannel, CloseChannel, CloseConnection, UpdateSecret as UpdateSecretCmd, Send, Publish, Flow, DropChannel, DropConnection, Listen}
 use Rattle.amqp_session.specs.declared.command.ChanRef.{ChanRef}
 use Rattle.amqp_session.specs.declared.command.Answer.TheVariants.{Connected as AnswerConnected}
-use Rattle.amqp_session.specs.declared.auth.asked.Asked.{Asked as ProviderAnswer}
+use Rattle.amqp_auth.specs.declared.asked.Asked.{Asked as ProviderAnswer}
 use Rattle.amqp_session.specs.declared.state.Link.{Link}
 use Rattle.amqp_session.specs.declared.state.Link.TheVariants.{Due, Wanted, Asked, Open, Ended}
 use Rattle.amqp_session.specs.declared.state.Phase.{Phase}
@@ -35,12 +35,12 @@ use Rattle.amqp_promise.specs.declared.error.ErrorKind.TheVariants.{MissingHeart
 use Rattle.amqp_session.specs.Listed.{at, put}
 use Rattle.amqp_session.specs.Talk.{Talk, is_open, is_open_link, is_acting, has_ended}
 use Rattle.amqp_session.specs.Links.{piece}
-use Rattle.amqp_session.specs.Channels.{channel_at, new_channel, made_closing}
+use Rattle.amqp_session.specs.Channels.{channel_at, new_channel, made_leaving}
 use Rattle.amqp_session.specs.Changes.{next_promise, lose, queue, present_at}
 use Rattle.amqp_session.specs.Handshake.{new_secret, channel_open, channel_flow, our_channel_close}
 use Rattle.amqp_session.specs.Numbering.{first_number, drawn}
 use Rattle.amqp_session.specs.Publishing.{method_frame, body_pieces, publish_frames}
-use Rattle.amqp_session.specs.Commands.{named, named_in, is_opening, target, target_by, target_in, open_drawn, close_target, drop_target, flow_target, too_long, unless_too_long, queue_secret, update_secret, queue_send, send_target, queue_publish, publish_target, body_limit, command, command_rule}
+use Rattle.amqp_session.specs.Commands.{named, named_in, is_opening, target, target_by, target_in, open_drawn, close_target, drop_target, flow_target, too_long, unless_too_long, too_full, unless_full, queue_secret, update_secret, queue_send, send_target, queue_publish, publish_target, body_limit, command, command_rule}
 use Rattle.amqp_session.specs.Ticks.{is_connected, is_missed, is_heartbeat_due, missing_heartbeat, heartbeat_due, beat, refreshed, refresh_reason, link_at, timed, tick}
 use Rattle.amqp_session.specs.Writing.{then_of}
 use Rattle.amqp_faultless.specs.Faultless.{Server}
@@ -146,15 +146,15 @@ serves-leave : (s : Server) (q : Queued) (cs : Channels) (ms : List Mark) (n cod
       control = q.control ++ plain_item n (our_channel_close n code text) ∷ [];
       awaited = expected n (record { reply = ChannelClosed; promise = promise }) q.awaited;
       publish = filter (λ group. not (is_on n group)) q.publish;
-    }) (put n (made_closing c) cs) ms
+    }) (put n (made_leaving c) cs) ms
 serves-leave s q cs ms n code text c promise listed h =
     let a : Awaited = record { reply = ChannelClosed; promise = promise } in
     let i : Item = plain_item n (our_channel_close n code text) in
-    let cs' : Channels = put n (made_closing c) cs in
+    let cs' : Channels = put n (made_leaving c) cs in
     let ws = expected n a q.awaited in
     let one = expected-count n a q.awaited ChannelClosed in
     let more = expected-more n n a q.awaited in
-    let free = put-free n c (made_closing c) cs listed refl in
+    let free = put-free n c (made_leaving c) cs listed refl in
     let g = serves-push s q cs cs' ms i ws h refl (no-secret s q cs ms h n a (our_channel_close n code text) (secret-close n code text))
     (by-number (λ m. Along (acts m q.control ++ act_on m i.frame ∷ []) (s.uses m) (at m cs') (awaited_on m ws)) n
     (act-cast s q cs ms h n a n (act_on n i.frame) Closes cs' (own-act n Closes)
@@ -168,8 +168,8 @@ serves-leave s q cs ms n code text c promise listed h =
       single = y.single;
     }))
     (acts n q.control) (s.uses n) (h.each n)))
-    (λ m ne. other-along s q cs ms h n a m (act_on m i.frame) cs' ne (other-act m n Closes ne) (put-other m n (made_closing c) cs ne)))
-    (λ m. (let x = h.due m in let y = pays-none i m tt in let z = put-owing n c (made_closing c) cs listed refl m in omega (arith, x, y, z))) in
+    (λ m ne. other-along s q cs ms h n a m (act_on m i.frame) cs' ne (other-act m n Closes ne) (put-other m n (made_leaving c) cs ne)))
+    (λ m. (let x = h.due m in let y = pays-none i m tt in let z = put-owing n c (made_leaving c) cs listed refl m in omega (arith, x, y, z))) in
     record {
       stage = g.stage;
       staying = g.staying;
@@ -260,6 +260,10 @@ module _ (s : Server) (t : Talk) (h : IsServing s t) where
   unless-serving None rule k = k
   unless-serving (Some f) rule k = h
 
+  room-serving : (o : Option ℕ) (rule : Talk → Talk) → IsServing s (rule t) → IsServing s (unless_full o rule t)
+  room-serving None rule k = k
+  room-serving (Some octets) rule k = h
+
   secret-serving : (secret reason : List ℕ) → IsServing s (update_secret secret reason t)
   secret-serving secret reason =
       unless-serving (too_long (new_secret secret reason ∷ []) t) (queue_secret (new_secret secret reason))
@@ -268,28 +272,31 @@ module _ (s : Server) (t : Talk) (h : IsServing s t) where
   send-serving : (o : Result Channel ErrorKind) (n : ℕ) (m : OtherMethod) → IsServing s (send_target o n m t)
   send-serving (Err e) n m = h
   send-serving (Ok c) n m =
-      unless-serving (too_long (method_frame n m ∷ []) t) (queue_send n (method_frame n m))
-      (serves-plain s t.outbox t.channels t.committed (promised_item n (method_frame n m) (next_promise t)) (raw-plain n RawMethod _ n (next_promise t)) h)
+      unless-serving (too_long (method_frame n m ∷ []) t) (unless_full (too_full (method_frame n m ∷ []) t) (queue_send n (method_frame n m)))
+      (room-serving (too_full (method_frame n m ∷ []) t) (queue_send n (method_frame n m)) (serves-plain s t.outbox t.channels t.committed (promised_item n (method_frame n m) (next_promise t)) (raw-plain n RawMethod _ n (next_promise t)) h))
 
   publish-serving : (o : Result Channel ErrorKind) (n : ℕ) (m : OtherMethod) (properties body : List ℕ) → NoneCloses (publish_target o n m properties body t).outbox
       → IsServing s (publish_target o n m properties body t)
   publish-serving (Err e) n m properties body ours = h
-  publish-serving (Ok c) n m properties body ours = by (too_long (publish_frames n m properties body (body_limit t)) t) ours where
-    by : (o : Option Frame) → NoneCloses (unless_too_long o (queue_publish n (publish_frames n m properties body (body_limit t))) t).outbox
-        → IsServing s (unless_too_long o (queue_publish n (publish_frames n m properties body (body_limit t))) t)
-    by (Some f) ours = h
-    by None ours =
-        record {
-          stage = h.stage;
-          staying = h.staying;
-          ours = ours;
-          secrets = h.secrets;
-          each = h.each;
-          due = h.due;
-          begun = h.begun;
-          groups = all-append AreRaw t.outbox.publish (group_of n (publish_frames n m properties body (body_limit t)) (next_promise t) ∷ []) h.groups
-              (grouped-raw n (publish_frames n m properties body (body_limit t)) (next_promise t) (published-raw n m properties body (body_limit t)), tt);
-        }
+  publish-serving (Ok c) n m properties body ours =
+      by (too_long (publish_frames n m properties body (body_limit t)) t) (too_full (publish_frames n m properties body (body_limit t)) t) ours
+    where
+      by : (o : Option Frame) (full : Option ℕ) → NoneCloses (unless_too_long o (unless_full full (queue_publish n (publish_frames n m properties body (body_limit t)))) t).outbox
+          → IsServing s (unless_too_long o (unless_full full (queue_publish n (publish_frames n m properties body (body_limit t)))) t)
+      by (Some f) full ours = h
+      by None (Some octets) ours = h
+      by None None ours =
+          record {
+            stage = h.stage;
+            staying = h.staying;
+            ours = ours;
+            secrets = h.secrets;
+            each = h.each;
+            due = h.due;
+            begun = h.begun;
+            groups = all-append AreRaw t.outbox.publish (group_of n (publish_frames n m properties body (body_limit t)) (next_promise t) ∷ []) h.groups
+                (grouped-raw n (publish_frames n m properties body (body_limit t)) (next_promise t) (published-raw n m properties body (body_limit t)), tt);
+          }
 
   -- any other command than one that closes the connection
   told-serving : (c : Cmd) → leaves c ≡ false → IsServing s (command_rule Connected c t)

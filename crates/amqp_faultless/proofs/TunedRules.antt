@@ -23,16 +23,15 @@ use Rattle.amqp_session.specs.declared.command.Cmd.{Cmd}
 use Rattle.amqp_session.specs.declared.command.Cmd.TheVariants.{DropChannel, DropConnection, Listen}
 use Rattle.amqp_session.specs.declared.state.Phase.{Phase}
 use Rattle.amqp_session.specs.declared.state.Phase.TheVariants.{AwaitStart, AwaitTune, AwaitOpenOk}
-use Rattle.amqp_session.specs.declared.auth.asked.Asked.{Asked}
+use Rattle.amqp_auth.specs.declared.asked.Asked.{Asked}
 use Rattle.amqp_session.specs.Talk.{Talk, is_asked, is_open, has_ended}
 use Rattle.amqp_session.specs.Channels.{channel_at}
-use Rattle.amqp_session.specs.ChannelMethods.{awaits_close_ok}
-use Rattle.amqp_session.specs.Changes.{queue, lose, present_at, tell_owed}
+use Rattle.amqp_session.specs.Changes.{queue, lose, present_at}
 use Rattle.amqp_session.specs.Commands.{command, command_rule}
 use Rattle.amqp_session.specs.Sound.{is_finish}
 use Rattle.amqp_session.specs.Links.{linked, piece}
 use Rattle.amqp_session.specs.Ticks.{is_connected, is_missed, is_heartbeat_due, missing_heartbeat, beat, refreshed, timed, tick}
-use Rattle.amqp_session.specs.Writing.{writes, flows, next_out, mark_of, paid_by, pay, follow, sent, sent_among, taken}
+use Rattle.amqp_session.specs.Writing.{writes, flows, next_out, mark_of, pay, follow, sent, sent_among, taken}
 use Rattle.amqp_faultless.specs.Faultless.{Server, silent, said_to}
 use Rattle.amqp_types.proofs.Small.{if_case, if_by, if-true, if-false}
 use Rattle.amqp_session.proofs.Heard.{secret-case}
@@ -41,6 +40,7 @@ use Rattle.amqp_faultless.proofs.Ordinary.{leaves, told-command, left-command}
 use Rattle.amqp_faultless.proofs.Greeted.{IsMet, Meets}
 use Rattle.amqp_faultless.proofs.Speaks.{GoOn}
 use Rattle.amqp_faultless.proofs.Tuned.{tune_in, first_tune, first-later, first-next, is_asking, as_one, asks-not, numbers_of, TunedIn, Tuned, tuned-open}
+use Rattle.amqp_session.proofs.Walk.{pay-case}
 
 -- ---- the link, a moment and a piece
 
@@ -214,13 +214,8 @@ tuned-sent fs s k t goes h = by k.then goes where
   x : Talk
   x = record t { committed = drop 1 t.committed }
 
-  paid : (b : Bool) (n : ℕ) (c : Channel) → Tuned fs s (paid_by b n c (tell_owed n x))
-  paid true n c = h
-  paid false n c = h
-
   by-channel : (o : Option Channel) (n : ℕ) → Tuned fs s (pay o n x)
-  by-channel None n = h
-  by-channel (Some c) n = paid (awaits_close_ok n x) n c
+  by-channel o n = pay-case (Tuned fs s) o n x (λ is. h) (λ c is unowed. h) (λ c is owes awaits. h) (λ c is owes left. h)
 
   by : (th : Then) → is_finish th ≡ false → Tuned fs s (follow th x)
   by Nothing goes = h

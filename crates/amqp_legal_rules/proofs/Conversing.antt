@@ -48,9 +48,9 @@ use Rattle.amqp_session.specs.declared.server_close.ServerClose.TheVariants.{Wit
 use Rattle.amqp_promise.specs.declared.error.ErrorKind.{ErrorKind}
 use Rattle.amqp_promise.specs.declared.error.ErrorKind.TheVariants.{IOError, ProtocolError, InvalidConnectionState, InvalidProtocolVersion, InvalidChannel, InvalidChannelState, MissingHeartbeatError, AuthProviderError}
 use Rattle.amqp_session.specs.Config.{Config}
-use Rattle.amqp_session.specs.declared.auth.asked.Asked.{Asked as ProviderAnswer}
+use Rattle.amqp_auth.specs.declared.asked.Asked.{Asked as ProviderAnswer}
 use Rattle.amqp_session.specs.Talk.{Talk, start, has_ended, is_open, is_open_link, is_asked, is_asked_link, end_of_link, is_closing, is_acting, acts, hears_on}
-use Rattle.amqp_session.specs.Changes.{next_promise, present_at, close, fail, lose, misplaced, finish, finish_by, starve, queue, await, give_to, tell_owed, drop_replies_of, without_all_on}
+use Rattle.amqp_session.specs.Changes.{next_promise, present_at, close, fail, lose, misplaced, finish, finish_by, starve, queue, await, give_to, drop_replies_of, without_all_on}
 use Rattle.amqp_session.specs.Violations.{misread_error, channel_closed_with, unawaited, stray_channel_frame, stray_connection_method}
 use Rattle.amqp_session.specs.Capacities.{frame_min_size}
 use Rattle.amqp_session.specs.Negotiation.{tune}
@@ -58,14 +58,14 @@ use Rattle.amqp_session.specs.Handshake.{start_ok, secure_ok, tune_ok, open_vhos
 use Rattle.amqp_session.specs.Links.{asked, asked_link, linked, refused_after, link_failed, piece, lost, misread, dropped}
 use Rattle.amqp_session.specs.Recovery.{next_delay, reconnect}
 use Rattle.amqp_session.specs.ConnectionMethods.{connection_rule, on_connection_close, started, challenged, on_tune, connected, reopen_each, on_open_ok, on_connection_close_ok, connection_closed, secret_taken}
-use Rattle.amqp_session.specs.Channels.{made_closing, channel_at, set_channel}
-use Rattle.amqp_session.specs.ChannelMethods.{heard_on, unawaited_channel_method, channel_opened, remove_channel, remove_unless_owed, channel_closed, on_channel_flow, channel_flowed, awaits_close_ok, closed_by_server, crossing_close, channel_close_by, channel_rule, channel_method_by, channel_method, raw_by, pass_through, confirmed, hand_out, is_select_ok}
+use Rattle.amqp_session.specs.Channels.{made_closing, made_answered, channel_at, set_channel}
+use Rattle.amqp_session.specs.ChannelMethods.{heard_on, unawaited_channel_method, channel_opened, remove_channel, remove_unless_owed, channel_closed, on_channel_flow, channel_flowed, closed_by_server, crossing_close, channel_close_by, channel_rule, channel_method_by, channel_method, raw_by, pass_through, confirmed, hand_out, is_select_ok}
 use Rattle.amqp_frame.specs.Methods.{is_of_a_channel}
 use Rattle.amqp_session.specs.Frames.{method_rule, frame_rule, closed_rule, on_frame}
 use Rattle.amqp_session.specs.Publishing.{method_frame, publish_frames}
-use Rattle.amqp_session.specs.Commands.{command, command_rule, open_drawn, open_as, named, named_in, is_opening, target, target_by, target_in, leave_channel, close_target, leave_connection, drop_target, flow_target, tell_flow, queue_secret, update_secret, too_long, unless_too_long, queue_send, send, send_target, body_limit, queue_publish, publish, publish_target}
+use Rattle.amqp_session.specs.Commands.{command, command_rule, open_drawn, open_as, named, named_in, is_opening, target, target_by, target_in, leave_channel, close_target, leave_connection, drop_target, flow_target, tell_flow, queue_secret, update_secret, too_long, unless_too_long, too_full, unless_full, queue_send, send, send_target, body_limit, queue_publish, publish, publish_target}
 use Rattle.amqp_session.specs.Ticks.{is_missed, is_heartbeat_due, missing_heartbeat, beat, refreshed, refresh_reason, link_at, link_due, timed, tick}
-use Rattle.amqp_session.specs.Writing.{flows, writes, next_out, then_of, mark_of, paid_by, pay, follow, sent, sent_among, taken}
+use Rattle.amqp_session.specs.Writing.{flows, writes, next_out, then_of, mark_of, pay, follow, sent, sent_among, taken}
 use Rattle.amqp_session.specs.Answers.{answer_of, take_answer, take_frames}
 use Rattle.amqp_session.specs.Listed.{put, without}
 use Rattle.amqp_session.specs.Numbering.{first_number, drawn}
@@ -88,7 +88,8 @@ use Rattle.amqp_legal_rules.proofs.Ready.{stay-ready, open-ready, others-ready, 
 use Rattle.amqp_legal_rules.proofs.Expecting.{first-by-promise}
 use Rattle.amqp_legal_rules.proofs.Paying.{left_in_lane, none-more, one-more, moved-on, sent-off, group-pays-none, pays-own, pays-others, lane-pays-none, others-unpaid, none-unpaid, lane-left}
 use Rattle.amqp_legal_rules.proofs.Losing.{Alike, lane-loses}
-use Rattle.amqp_legal_rules.proofs.OnChannels.{Listed, Replies, on-alike, on-usages, ties-of, with-content, on-open, on-close, on-send, on-same, on-await-untied, on-answered-untied, on-opened, left_listed, on-closed, Reopening, none-reopened, all-reopened, on-reopened, on-passed, reopening-due, kept-from, all-kept, above-zero, never-zero, is-used, on-server-close, is-left, on-crossing, none-due, one-due, on-paid, on-paid-gone, listed-some, used-open, all-append, drawn-free}
+use Rattle.amqp_session.proofs.Walk.{pay-case}
+use Rattle.amqp_legal_rules.proofs.OnChannels.{Listed, Replies, on-alike, on-usages, ties-of, with-content, on-open, on-close, on-send, on-same, on-await-untied, on-answered-untied, on-opened, left_listed, on-closed, Reopening, none-reopened, all-reopened, on-reopened, on-passed, reopening-due, kept-from, all-kept, above-zero, never-zero, is-used, on-server-close, is-left, on-crossing, none-due, none-owed, one-due, on-paid, on-paid-gone, listed-some, used-open, all-append, drawn-free}
 
 -- what is known of a session: while a link is open, and while one is wanted
 abbrev pub Now : Talk → List Frame → Type 0
@@ -519,12 +520,12 @@ now-opened n c (Some promise) t fs h listed first =
     (on-opened n t.channels t.outbox.awaited (due_in t) h.tied.later c a.0 listed a.1 h.tied.ties)
 
 -- our close was answered, and the channel goes where nothing is owed
-now-left : (d : Debt) (n : ℕ) (t x : Talk) (fs : List Frame) (v : Speech) → is_open x ≡ true → t.input ≡ input.Acting → x.input ≡ t.input → x.state ≡ Connected
+now-left : (d : Debt) (n : ℕ) (c : Channel) (t x : Talk) (fs : List Frame) (v : Speech) → is_open x ≡ true → t.input ≡ input.Acting → x.input ≡ t.input → x.state ≡ Connected
     → frame_min_size ≤ x.configuration.frame_max → 8 ≤ x.capacity → LeadsTo (first_out x.outbox) fs v → AllByRecursion IsOfControl x.outbox.control
-    → AllByRecursion (IsReady v) x.outbox.publish → TiesChannels (left_listed d n x.channels) x.outbox.awaited (due_in x) v → Now (remove_unless_owed d n x) fs
-now-left debt.Owed n t x fs v o hi same hs agreed room r lane ready ties = now-ties t x fs v o hi same hs agreed room r lane ready ties
-now-left debt.Nothing n t x fs v o hi same hs agreed room r lane ready ties = now-ties t (remove_channel n x) fs v o hi same hs agreed room r lane ready ties
-now-left debt.Paid n t x fs v o hi same hs agreed room r lane ready ties = now-ties t (remove_channel n x) fs v o hi same hs agreed room r lane ready ties
+    → AllByRecursion (IsReady v) x.outbox.publish → TiesChannels (left_listed d n c x.channels) x.outbox.awaited (due_in x) v → Now (remove_unless_owed d n c x) fs
+now-left debt.Owed n c t x fs v o hi same hs agreed room r lane ready ties = now-ties t (set_channel n (made_answered c) x) fs v o hi same hs agreed room r lane ready ties
+now-left debt.Nothing n c t x fs v o hi same hs agreed room r lane ready ties = now-ties t (remove_channel n x) fs v o hi same hs agreed room r lane ready ties
+now-left debt.Paid n c t x fs v o hi same hs agreed room r lane ready ties = now-ties t (remove_channel n x) fs v o hi same hs agreed room r lane ready ties
 
 now-closed : (n : ℕ) (c : Channel) (promise : Option (Option ℕ)) (t : Talk) (fs : List Frame) → Hears Connected t fs → channel_at n t ≡ Some c
     → awaited_promise n ChannelClosed t.outbox ≡ promise → Now (channel_closed n c promise t) fs
@@ -534,7 +535,7 @@ now-closed n c (Some promise) t fs h listed first =
     let v : Speech = h.tied.later in
     let closed : Talk = give_to promise (Ok Done) (record t { outbox = queued.without_awaited n ChannelClosed t.outbox }) in
     let x : Talk = drop_replies_of n (InvalidChannelState channel.Closed word.ChannelCloseOkReceived) closed in
-    now-left c.debt n t x fs v h.opened h.acting refl h.state (h.tied.agreed refl) h.tied.room h.tied.leads h.tied.lane h.tied.groups
+    now-left c.debt n c t x fs v h.opened h.acting refl h.state (h.tied.agreed refl) h.tied.room h.tied.leads h.tied.lane h.tied.groups
     (on-closed n t.channels t.outbox.awaited (due_in t) v c a.0 listed a.1 h.tied.ties)
 
 -- the server lets content be published or not, which is answered
@@ -548,7 +549,7 @@ now-flow-used n c active t fs h listed used =
     let item : Item = plain_item n (flow_ok n active) in
     let x : Talk = queue n (flow_ok n active) (set_channel n c' t) in
     let some : n ≢ 0 = listed-some n t.channels t.outbox.awaited (due_in t) v c listed ties in
-    let same : TiesChannels x.channels t.outbox.awaited (due_in t) v = on-same n t.channels t.outbox.awaited (due_in t) v c c' listed refl refl ties in
+    let same : TiesChannels x.channels t.outbox.awaited (due_in t) v = on-same n t.channels t.outbox.awaited (due_in t) v c c' listed refl refl refl ties in
     now-ties t x fs w h.opened h.acting refl h.state (h.tied.agreed refl) h.tied.room
     (pushed t.outbox item fs v w h.tied.leads (say-flow-ok n active v some ties.speaking ties.complete used))
     (all-append IsOfControl t.outbox.control (item ∷ []) h.tied.lane ((tt, refl), tt))
@@ -609,14 +610,14 @@ lane-lost n q g fs v some lane none complete leads =
 
 -- the server closes a channel that we use
 now-closed-by-server : (n : ℕ) (e : ErrorKind) (c : Channel) (t : Talk) (g : Frame) (fs : List Frame) → Hears Connected t (g ∷ fs) → channel_at n t ≡ Some c
-    → c.debt ≡ debt.Nothing → awaits_close_ok n t ≡ false → Now (closed_by_server n e c t) (g ∷ fs)
+    → c.debt ≡ debt.Nothing → c.awaits_close_ok ≡ false → Now (closed_by_server n e c t) (g ∷ fs)
 now-closed-by-server n e c t g fs h listed is none =
     let v : Speech = h.tied.later in
     let q : Queued = t.outbox in
     let ws : Replies = q.awaited in
     let ties : TiesChannels t.channels ws (due_in t) v = h.tied.ties in
     let some : n ≢ 0 = listed-some n t.channels ws (due_in t) v c listed ties in
-    let still = is-used n t.channels q (due_in t) v c listed is none ties in
+    let still = is-used n t.channels ws (due_in t) v c listed is none ties in
     let l = lane-lost n q g fs v some h.tied.lane (lane-pays-none n t.committed q.begun q.control still.none_due) ties.complete h.tied.leads in
     let w : Speech = l.later in
     let tied : TiesChannels t.channels ws (due_in t) w =
@@ -639,21 +640,21 @@ now-closed-by-server n e c t g fs h listed is none =
     (all-append IsOfControl left.control (item ∷ []) (lane-left n q.control h.tied.lane) ((tt, refl), tt))
     (others-ready n Shut w q.publish tied.speaking
     (stay-ready v w q.publish tied.speaking tied.complete (λ m used. sym (l.alike.usages m) ∙ used) h.tied.groups))
-    (on-server-close n t.channels ws (due_in t) (due_in x) w c listed one others tied)
+    (on-server-close n t.channels ws (due_in t) (due_in x) w c listed none one others tied)
   where
     used-shut : InUse ≡ Shut → ⊥
     used-shut k = cc
 
 -- it closes a channel that we closed
 now-crossing : (n : ℕ) (e : ErrorKind) (c : Channel) (t : Talk) (fs : List Frame) → Hears Connected t fs → channel_at n t ≡ Some c → c.debt ≡ debt.Nothing
-    → awaits_close_ok n t ≡ true → Now (crossing_close n e c t) fs
+    → c.awaits_close_ok ≡ true → Now (crossing_close n e c t) fs
 now-crossing n e c t fs h listed is awaits =
     let v : Speech = h.tied.later in
     let q : Queued = t.outbox in
     let ws : Replies = q.awaited in
     let ties : TiesChannels t.channels ws (due_in t) v = h.tied.ties in
     let some : n ≢ 0 = listed-some n t.channels ws (due_in t) v c listed ties in
-    let left = is-left n t.channels q (due_in t) v c listed is awaits ties in
+    let left = is-left n t.channels ws (due_in t) v c listed is awaits ties in
     let item : Item = plain_item n (channel_close_ok n) in
     let x : Talk = crossing_close n e c t in
     let one : due_in x n ≡ 1 =
@@ -673,11 +674,12 @@ now-crossing n e c t fs h listed is awaits =
     left-used : Left ≡ InUse → ⊥
     left-used k = cc
 
-now-channel-close : (d : Debt) (b : Bool) (n : ℕ) (e : ErrorKind) (c : Channel) (t : Talk) (g : Frame) (fs : List Frame) → Hears Connected t (g ∷ fs)
-    → channel_at n t ≡ Some c → c.debt ≡ d → awaits_close_ok n t ≡ b → Now (channel_close_by d b n e c t) (g ∷ fs)
-now-channel-close debt.Nothing false n e c t g fs h listed is awaits = now-closed-by-server n e c t g fs h listed is awaits
-now-channel-close debt.Nothing true n e c t g fs h listed is awaits = now-crossing n e c t (g ∷ fs) h listed is awaits
-now-channel-close _ b n e c t g fs h listed is awaits = h.now
+now-channel-close : (d : Debt) (n : ℕ) (e : ErrorKind) (c : Channel) (t : Talk) (g : Frame) (fs : List Frame) → Hears Connected t (g ∷ fs)
+    → channel_at n t ≡ Some c → c.debt ≡ d → Now (channel_close_by d n e c t) (g ∷ fs)
+now-channel-close debt.Nothing n e c t g fs h listed is =
+    if_by (λ (x : Talk). Now x (g ∷ fs)) c.awaits_close_ok (crossing_close n e c t) (closed_by_server n e c t)
+    (λ awaits. now-crossing n e c t (g ∷ fs) h listed is awaits) (λ none. now-closed-by-server n e c t g fs h listed is none)
+now-channel-close _ n e c t g fs h listed is = h.now
 
 now-misplaced : (e : ErrorKind) (t : Talk) (fs : List Frame) → Now t fs → Now (misplaced e t) fs
 now-misplaced e t fs h = if_case (λ (x : Talk). Now x fs) (is_closing t.state) t (lose e t) h (now-lose e t fs h)
@@ -689,7 +691,7 @@ now-channel Connecting n c m t g fs h ne listed = absurd (ne refl)
 now-channel Connected n c ChannelOpenOk t g fs h ne listed = now-opened n c (awaited_promise n ChannelOpened t.outbox) t (g ∷ fs) h listed refl
 now-channel Connected n c ChannelCloseOk t g fs h ne listed = now-closed n c (awaited_promise n ChannelClosed t.outbox) t (g ∷ fs) h listed refl
 now-channel Connected n c (ChannelClose code text class method) t g fs h ne listed =
-    now-channel-close c.debt (awaits_close_ok n t) n (channel_closed_with code text) c t g fs h listed refl refl
+    now-channel-close c.debt n (channel_closed_with code text) c t g fs h listed refl
 now-channel Connected n c (ChannelFlow active) t g fs h ne listed = now-flow c.state n c active t (g ∷ fs) h listed refl
 now-channel Connected n c (ChannelFlowOk active) t g fs h ne listed = now-flowed n c active (awaited_promise n FlowDone t.outbox) t (g ∷ fs) h listed
 now-channel Connected n c m t g fs h ne listed = now-unawaited n c.state m t (g ∷ fs) h.now
@@ -718,7 +720,7 @@ now-pass s n c kind bytes t fs h ne listed =
     in_state Connecting h ne = absurd (ne refl)
     in_state Connected h ne =
         now-ties t (confirmed n c t) fs h.tied.later h.opened h.acting refl h.state (h.tied.agreed refl) h.tied.room h.tied.leads h.tied.lane h.tied.groups
-        (on-same n t.channels t.outbox.awaited (due_in t) h.tied.later c (record c { confirm = true }) listed refl refl h.tied.ties)
+        (on-same n t.channels t.outbox.awaited (due_in t) h.tied.later c (record c { confirm = true }) listed refl refl refl h.tied.ties)
     -- our close of the connection was said, and what ties channels no longer counts
     in_state Closing h ne =
         let x : Talk = confirmed n c t in
@@ -979,21 +981,26 @@ now-unless : (o : Option Frame) (rule : Talk → Talk) (t : Talk) (fs : List Fra
 now-unless None rule t fs h next = next refl
 now-unless (Some frame) rule t fs h next = h
 
+-- what is told is refused where too much would wait
+now-room : (o : Option ℕ) (rule : Talk → Talk) (t : Talk) (fs : List Frame) → Now t fs → Now (rule t) fs → Now (unless_full o rule t) fs
+now-room None rule t fs h next = next
+now-room (Some octets) rule t fs h next = h
+
 now-send : (r : ChanRef) (m : OtherMethod) (c : Channel) (t : Talk) (fs : List Frame) → IsSendable (Send r m) → t.state ≡ Connected → IsTarget r t c → Now t fs → Now (send r.id m t) fs
 now-send r m c t fs told hs at h =
     let n : ℕ = r.id in
     let f = method_frame n m in
     let item : Item = promised_item n f (next_promise t) in
     let x : Talk = queue_send n f t in
-    now-unless (too_long (f ∷ []) t) (queue_send n f) t fs h
-    (λ fits. now-told t x fs hs refl h
+    now-unless (too_long (f ∷ []) t) (unless_full (too_full (f ∷ []) t) (queue_send n f)) t fs h
+    (λ fits. now-room (too_full (f ∷ []) t) (queue_send n f) t fs h (now-told t x fs hs refl h
     (λ o hi s.
     let k = on-send n t.channels t.outbox.awaited (due_in t) s.later c (spell_raw_method m) (passed-through m told.0 told.1 told.2) at.listed at.open_state s.ties in
     let v : Speech = record s.later { content = MethodSaid n (class_in (spell_raw_method m)) } in
     now-ties t x fs v o hi refl hs (s.agreed refl) s.room (pushed t.outbox item fs s.later v s.leads k.may)
     (all-append IsOfControl t.outbox.control (item ∷ []) s.lane ((tt, refl), tt))
     (stay-ready s.later v t.outbox.publish s.ties.speaking tt (λ m used. used) s.groups)
-    (now-due x (due_in t) v (none-more t.committed t.outbox item tt) k.ties)))
+    (now-due x (due_in t) v (none-more t.committed t.outbox item tt) k.ties))))
 
 now-send-target : (o : Result Channel ErrorKind) (r : ChanRef) (m : OtherMethod) (t : Talk) (fs : List Frame) → IsSendable (Send r m) → t.state ≡ Connected → target r word.Send t ≡ o
     → Now t fs → Now (send_target o r.id m t) fs
@@ -1006,8 +1013,8 @@ now-publish r m properties body c t fs told hs at h =
     let n : ℕ = r.id in
     let frames : List Frame = publish_frames n m properties body (body_limit t) in
     let x : Talk = queue_publish n frames t in
-    now-unless (too_long frames t) (queue_publish n frames) t fs h
-    (λ fits. now-told t x fs hs refl h
+    now-unless (too_long frames t) (unless_full (too_full frames t) (queue_publish n frames)) t fs h
+    (λ fits. now-room (too_full frames t) (queue_publish n frames) t fs h (now-told t x fs hs refl h
     (λ o hi s.
     let some : n ≢ 0 = listed-some n t.channels t.outbox.awaited (due_in t) s.later c at.listed s.ties in
     let used = used-open n t.channels t.outbox.awaited (due_in t) s.later c at.listed at.open_state s.ties in
@@ -1015,7 +1022,7 @@ now-publish r m properties body c t fs told hs at h =
     let ready : IsReady s.later (group_of n frames (next_promise t)) =
     publish-ready n m properties body (body_limit t) (next_promise t) s.later some s.ties.speaking s.ties.complete used (passed-through m told.0 told.1 told.2) content in
     now-ties t x fs s.later o hi refl hs (s.agreed refl) s.room s.leads s.lane
-    (all-append (IsReady s.later) t.outbox.publish (group_of n frames (next_promise t) ∷ []) s.groups (ready, tt)) s.ties))
+    (all-append (IsReady s.later) t.outbox.publish (group_of n frames (next_promise t) ∷ []) s.groups (ready, tt)) s.ties)))
 
 now-publish-target : (o : Result Channel ErrorKind) (r : ChanRef) (m : OtherMethod) (properties body : List ℕ) (t : Talk) (fs : List Frame)
     → IsSendable (Publish r m properties body) → t.state ≡ Connected → target r word.Publish t ≡ o → Now t fs → Now (publish_target o r.id m properties body t) fs
@@ -1169,27 +1176,30 @@ now-changed k cs' m ms t fs hc is o f ascend h =
       room = said.room;
     })
 
-now-paid : (b : Bool) (k : ℕ) (c : Channel) (m : Mark) (ms : List Mark) (t : Talk) (fs : List Frame) → t.committed ≡ m ∷ ms → m.then ≡ Pays k → is_open t ≡ true
-    → channel_at k t ≡ Some c → awaits_close_ok k t ≡ b → Now t fs → Now (paid_by b k c (tell_owed k (first_sent_off t))) fs
-now-paid true k c m ms t fs hc is o listed awaits h =
-    now-changed k (put k (record c { debt = debt.Paid }) t.channels) m ms t fs hc is o
-    (λ v own others ties.
-    let one = one-due k (due_in (first_sent_off t) k) t.channels t.outbox.awaited (due_in t) v c listed own ties in
-    on-paid k t.channels t.outbox (due_in t) (due_in (first_sent_off t)) v c listed one.1 awaits one.0 others ties)
-    (λ s. put-from k (record c { debt = debt.Paid }) 0 t.channels (above-zero k (never-zero k t.channels c listed s)) s) h
-now-paid false k c m ms t fs hc is o listed awaits h =
-    now-changed k (without k t.channels) m ms t fs hc is o
-    (λ v own others ties.
-    let one = one-due k (due_in (first_sent_off t) k) t.channels t.outbox.awaited (due_in t) v c listed own ties in
-    on-paid-gone k t.channels t.outbox (due_in t) (due_in (first_sent_off t)) v c listed one.1 awaits one.0 others ties)
-    (λ s. without-from k 0 t.channels s) h
-
 now-pay : (c : Option Channel) (k : ℕ) (m : Mark) (ms : List Mark) (t : Talk) (fs : List Frame) → t.committed ≡ m ∷ ms → m.then ≡ Pays k → is_open t ≡ true
     → channel_at k t ≡ c → Now t fs → Now (pay c k (first_sent_off t)) fs
-now-pay None k m ms t fs hc is o listed h =
-    now-changed k t.channels m ms t fs hc is o
-    (λ v own others ties. absurd (none-due k (due_in (first_sent_off t) k) t.channels t.outbox.awaited (due_in t) v listed own ties)) (λ s. s) h
-now-pay (Some c) k m ms t fs hc is o listed h = now-paid (awaits_close_ok k t) k c m ms t fs hc is o listed refl h
+now-pay o k m ms t fs hc is on listed h =
+    let y : Talk = first_sent_off t in
+    let ws : Replies = t.outbox.awaited in
+    pay-case (λ (x : Talk). Now x fs) o k y
+    (λ none.
+    now-changed k t.channels m ms t fs hc is on
+    (λ v own others ties. absurd (none-due k (due_in y k) t.channels ws (due_in t) v (listed ∙ none) own ties)) (λ s. s) h)
+    (λ c there free.
+    now-changed k t.channels m ms t fs hc is on
+    (λ v own others ties. absurd (none-owed k (due_in y k) t.channels ws (due_in t) v c (listed ∙ there) free own ties)) (λ s. s) h)
+    (λ c there owes awaits.
+    now-changed k (put k (record c { debt = debt.Paid }) t.channels) m ms t fs hc is on
+    (λ v own others ties.
+    let one = one-due k (due_in y k) t.channels ws (due_in t) v c (listed ∙ there) own ties in
+    on-paid k t.channels ws (due_in t) (due_in y) v c (listed ∙ there) one.1 awaits one.0 others ties)
+    (λ s. put-from k (record c { debt = debt.Paid }) 0 t.channels (above-zero k (never-zero k t.channels c (listed ∙ there) s)) s) h)
+    (λ c there owes left.
+    now-changed k (without k t.channels) m ms t fs hc is on
+    (λ v own others ties.
+    let one = one-due k (due_in y k) t.channels ws (due_in t) v c (listed ∙ there) own ties in
+    on-paid-gone k t.channels ws (due_in t) (due_in y) v c (listed ∙ there) one.1 left one.0 others ties)
+    (λ s. without-from k 0 t.channels s) h)
 
 now-follow : (th : Then) (m : Mark) (ms : List Mark) (t : Talk) (fs : List Frame) → t.committed ≡ m ∷ ms → m.then ≡ th → is_open t ≡ true → Now t fs
     → Now (follow th (first_sent_off t)) fs

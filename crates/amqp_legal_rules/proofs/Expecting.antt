@@ -125,29 +125,6 @@ first-by-promise n r q promise h = found (first_awaited n r q.awaited) h where
   found None k = absurd cc
   found (Some a) k = (a, refl)
 
--- the same, where it is known that one is awaited
-pub first-by-test : (n : ℕ) (r : Reply) (q : Queued) → is_some (awaited_promise n r q) ≡ true → (a : Awaited) × (first_awaited n r q.awaited ≡ Some a)
-first-by-test n r q h = found (first_awaited n r q.awaited) h where
-  found : (o : Option Awaited) → is_some (option_map (λ (x : Awaited). x.promise) o) ≡ true → (a : Awaited) × (o ≡ Some a)
-  found None k = absurd cc
-  found (Some a) k = (a, refl)
-
-found-first : (r : Reply) (list : List Awaited) → kinds list ≡ r ∷ [] → is_some (option_map (λ (x : Awaited). x.promise) (find (is_of r) list)) ≡ true
-found-first r [] is = absurd cc
-found-first r (x ∷ list) is = by (is_of r x) (is_tied x.reply) refl refl (found-first r list) is where
-  by : (b c : Bool) → is_of r x ≡ b → is_tied x.reply ≡ c
-      → (kinds list ≡ r ∷ [] → is_some (option_map (λ (x : Awaited). x.promise) (find (is_of r) list)) ≡ true)
-      → (if c then x.reply ∷ kinds list else kinds list) ≡ r ∷ []
-      → is_some (option_map (λ (x : Awaited). x.promise) (if b then Some x else find (is_of r) list)) ≡ true
-  by true c hb hc rest is = refl
-  by false true hb hc rest is =
-      absurd (true≢false (sym (equal-numbers (method_of x.reply) (method_of r) (ap method_of (heads is))) ∙ hb))
-  by false false hb hc rest is = rest is
-
--- where one is awaited, its promise is known
-pub one-awaited : (n : ℕ) (r : Reply) (q : Queued) → tied_on n q.awaited ≡ r ∷ [] → is_some (awaited_promise n r q) ≡ true
-one-awaited n r q is = found-first r (awaited_on n q.awaited) is
-
 -- ---- a reply came that does not tie
 
 untied-first : (r : Reply) (list : List Awaited) → is_tied r ≡ false → kinds (without_first (is_of r) list) ≡ kinds list

@@ -24,7 +24,7 @@ use Rattle.amqp_promise.specs.declared.state.ChannelState.TheVariants as channel
 use Rattle.amqp_session.specs.Handshake.{channel_open, our_channel_close}
 use Rattle.amqp_session.specs.Listed.{at, put, without, has, map_values}
 use Rattle.amqp_session.specs.Numbering.{first_number, cycle, drawn}
-use Rattle.amqp_session.specs.Channels.{new_channel, made_closing}
+use Rattle.amqp_session.specs.Channels.{new_channel, made_leaving, made_answered, is_owed}
 use Rattle.amqp_session.specs.Recovery.{is_kept_in, reconnecting, kept}
 use Rattle.amqp_legal.specs.Octets.{class_in}
 use Rattle.amqp_legal.specs.Decider.{Speech, say, say_open, say_use, say_close, now_on}
@@ -39,8 +39,8 @@ use Rattle.amqp_legal.proofs.Sayable.{IsComplete, say-on, say-raw}
 use Rattle.amqp_session.specs.Sound.{AscendFrom, Ascend}
 use Rattle.amqp_session.proofs.Ascending.{ascend-below, put-from, without-from, without-ascends, at-gone, none-below, map_values-from, filter-from}
 use Rattle.amqp_session.proofs.Numbered.{at-first, at-later, put-same, put-other, without-other}
-use Rattle.amqp_legal_rules.proofs.Ties.{is_tied, tied_on, owing, TiesClosing, TiesState, TiesOn, TiesChannels, IsKept}
-use Rattle.amqp_legal_rules.proofs.Expecting.{expected-same, expected-other, expected-ascend, answered-other, answered-ascend, none-awaited, one-answered, first-by-test, one-awaited, untied-answered, gone-same, gone-other}
+use Rattle.amqp_legal_rules.proofs.Ties.{is_tied, tied_on, owing, TiesClosing, TiesState, TiesOn, TiesChannels, IsKept, is_close_among}
+use Rattle.amqp_legal_rules.proofs.Expecting.{expected-same, expected-other, expected-ascend, answered-other, answered-ascend, none-awaited, one-answered, untied-answered, gone-same, gone-other}
 
 -- the awaited replies, by channel
 abbrev pub Replies : Type 0
@@ -151,7 +151,13 @@ pub ties-of : (n : ℕ) (cs : Listed) (ws : Replies) (due : ℕ → ℕ) (v : Sp
 ties-of n cs ws due v c s listed is h =
     let Q : Option Channel → Type 0 = λ o. TiesOn o (tied_on n ws) (v.usage n) in
     let R : ChannelState → Type 0 = λ x. TiesState x c.debt (tied_on n ws) (v.usage n) in
-    subst R is (subst Q listed (h.each n))
+    subst R is (subst Q listed (h.each n)).0
+
+-- it knows whether close-ok is awaited
+pub awaits-of : (n : ℕ) (cs : Listed) (ws : Replies) (due : ℕ → ℕ) (v : Speech) (c : Channel) → at n cs ≡ Some c → TiesChannels cs ws due v
+    → c.awaits_close_ok ≡ is_close_among (tied_on n ws)
+awaits-of n cs ws due v c listed h =
+    let Q : Option Channel → Type 0 = λ o. TiesOn o (tied_on n ws) (v.usage n) in (subst Q listed (h.each n)).1
 
 -- it is no channel 0
 pub never-zero : (n : ℕ) (cs : Listed) (c : Channel) → at n cs ≡ Some c → AscendFrom 0 (keys_of cs) → n ≢ 0
@@ -208,7 +214,7 @@ on-open n cs ws due v number some absent h =
       ties =
           on-change n cs (put n c cs) ws (expected n a ws) due due v (now_on n InUse v) h h.speaking tt
           (ties-as (Some c) (at n (put n c cs)) (ChannelOpened ∷ []) (tied_on n (expected n a ws)) InUse ((now_on n InUse v).usage n)
-          (put-same n c cs) replies (used-same n InUse v) (refl, refl, refl))
+          (put-same n c cs) replies (used-same n InUse v) ((refl, refl, refl), refl))
           (h.owes n ∙ ap owing absent ∙ ap owing (sym (put-same n c cs)))
           (record {
             sorted = put-from n c 0 cs (above-zero n some) h.sorted;
@@ -223,13 +229,13 @@ on-open n cs ws due v number some absent h =
 -- an open channel is closed
 pub record Closes (n : ℕ) (cs : Listed) (ws : Replies) (due : ℕ → ℕ) (v : Speech) (c : Channel) (code : ℕ) (text : List ℕ) (promise : Option ℕ) : Type 0 where
   pub may : say (our_channel_close n code text) v ≡ Some (now_on n Left v)
-  pub ties : TiesChannels (put n (made_closing c) cs) (expected n (record { reply = ChannelClosed; promise = promise }) ws) due (now_on n Left v)
+  pub ties : TiesChannels (put n (made_leaving c) cs) (expected n (record { reply = ChannelClosed; promise = promise }) ws) due (now_on n Left v)
 
 pub on-close : (n : ℕ) (cs : Listed) (ws : Replies) (due : ℕ → ℕ) (v : Speech) (c : Channel) (code : ℕ) (text : List ℕ) (promise : Option ℕ)
     → at n cs ≡ Some c → c.state ≡ channel.Connected → TiesChannels cs ws due v → Closes n cs ws due v c code text promise
 on-close n cs ws due v c code text promise listed is h =
     let a : Awaited = record { reply = ChannelClosed; promise = promise } in
-    let c' : Channel = made_closing c in
+    let c' : Channel = made_leaving c in
     let m : AnyMethod = ChannelClose code text 0 0 in
     let some : n ≢ 0 = listed-some n cs ws due v c listed h in
     let ties : TiesState channel.Connected c.debt (tied_on n ws) (v.usage n) = ties-of n cs ws due v c channel.Connected listed is h in
@@ -243,7 +249,7 @@ on-close n cs ws due v c code text promise listed is h =
       ties =
           on-change n cs (put n c' cs) ws (expected n a ws) due due v (now_on n Left v) h h.speaking tt
           (ties-as (Some c') (at n (put n c' cs)) (ChannelClosed ∷ []) (tied_on n (expected n a ws)) Left ((now_on n Left v).usage n)
-          (put-same n c' cs) replies (used-same n Left v) here)
+          (put-same n c' cs) replies (used-same n Left v) (here, refl))
           (owed-put n cs ws due v c c' listed (debt-owing c c' refl) h)
           (record {
             sorted = put-from n c' 0 cs (above-zero n some) h.sorted;
@@ -281,12 +287,13 @@ on-send n cs ws due v c method passed listed is h =
 
 -- a listed channel changes in what does not tie it
 pub on-same : (n : ℕ) (cs : Listed) (ws : Replies) (due : ℕ → ℕ) (v : Speech) (c c' : Channel) → at n cs ≡ Some c → c'.state ≡ c.state → c'.debt ≡ c.debt
-    → TiesChannels cs ws due v → TiesChannels (put n c' cs) ws due v
-on-same n cs ws due v c c' listed is owes h =
+    → c'.awaits_close_ok ≡ c.awaits_close_ok → TiesChannels cs ws due v → TiesChannels (put n c' cs) ws due v
+on-same n cs ws due v c c' listed is owes awaits h =
     let ties : TiesState c'.state c'.debt (tied_on n ws) (v.usage n) =
     (let Q : Debt → Type 0 = λ d. TiesState c'.state d (tied_on n ws) (v.usage n) in subst Q (sym owes) (ties-of n cs ws due v c c'.state listed (sym is) h)) in
     on-change n cs (put n c' cs) ws ws due due v v h h.speaking h.complete
-    (ties-as (Some c') (at n (put n c' cs)) (tied_on n ws) (tied_on n ws) (v.usage n) (v.usage n) (put-same n c' cs) refl refl ties)
+    (ties-as (Some c') (at n (put n c' cs)) (tied_on n ws) (tied_on n ws) (v.usage n) (v.usage n) (put-same n c' cs) refl refl
+    (ties, awaits ∙ awaits-of n cs ws due v c listed h))
     (owed-put n cs ws due v c c' listed (debt-owing c c' owes) h)
     (record {
       sorted = put-from n c' 0 cs (above-zero n (listed-some n cs ws due v c listed h)) h.sorted;
@@ -338,9 +345,11 @@ opened-closing Paid n ws u a sorted first h = opened-not-closed n ws a sorted fi
 
 -- what an awaited reply tells of a channel's state
 opened-state : (s : ChannelState) (d : Debt) (n : ℕ) (ws : Replies) (u : Usage) (a : Awaited) → Ascend (keys_of ws) → first_awaited n ChannelOpened ws ≡ Some a
-    → TiesState s d (tied_on n ws) u → (tied_on n (left_awaited n ChannelOpened ws) ≡ []) × (u ≡ InUse) × (d ≡ Nothing)
-opened-state channel.Initial d n ws u a sorted first h = ((one-answered n ChannelOpened ChannelOpened ws a refl sorted first h.0).none, h.1, h.2)
-opened-state channel.Reconnecting d n ws u a sorted first h = ((one-answered n ChannelOpened ChannelOpened ws a refl sorted first h.0).none, h.1, h.2)
+    → TiesState s d (tied_on n ws) u → (tied_on n (left_awaited n ChannelOpened ws) ≡ []) × (u ≡ InUse) × (d ≡ Nothing) × (is_close_among (tied_on n ws) ≡ false)
+opened-state channel.Initial d n ws u a sorted first h =
+    ((one-answered n ChannelOpened ChannelOpened ws a refl sorted first h.0).none, h.1, h.2, ap is_close_among h.0)
+opened-state channel.Reconnecting d n ws u a sorted first h =
+    ((one-answered n ChannelOpened ChannelOpened ws a refl sorted first h.0).none, h.1, h.2, ap is_close_among h.0)
 opened-state channel.Connected d n ws u a sorted first h = absurd (none-awaited n ChannelOpened ws a refl first h.0)
 opened-state channel.Closing d n ws u a sorted first h = absurd (opened-closing d n ws u a sorted first h)
 opened-state _ d n ws u a sorted first h = absurd h
@@ -366,7 +375,8 @@ on-opened n cs ws due v c a listed first h =
     let ws' = left_awaited n ChannelOpened ws in
     let k = opened-state c.state c.debt n ws (v.usage n) a h.awaited_sorted first (ties-of n cs ws due v c c.state listed refl h) in
     on-change n cs (put n c' cs) ws ws' due due v v h h.speaking h.complete
-    (ties-as (Some c') (at n (put n c' cs)) [] (tied_on n ws') InUse (v.usage n) (put-same n c' cs) k.0 k.1 (refl, refl, k.2))
+    (ties-as (Some c') (at n (put n c' cs)) [] (tied_on n ws') InUse (v.usage n) (put-same n c' cs) k.0 k.1
+    ((refl, refl, k.2), awaits-of n cs ws due v c listed h ∙ k.3))
     (owed-put n cs ws due v c c' listed (debt-owing c c' refl) h)
     (record {
       sorted = put-from n c' 0 cs (above-zero n (listed-some n cs ws due v c listed h)) h.sorted;
@@ -378,9 +388,9 @@ on-opened n cs ws due v c a listed first h =
     })
 
 -- the channels, once our close of one was answered
-abbrev pub left_listed : Debt → ℕ → Listed → Listed
-left_listed Owed n cs = cs
-left_listed _ n cs = without n cs
+abbrev pub left_listed : Debt → ℕ → Channel → Listed → Listed
+left_listed Owed n c cs = put n (made_answered c) cs
+left_listed _ n c cs = without n cs
 
 left-not-used : Left ≢ InUse
 left-not-used k = cc
@@ -408,7 +418,7 @@ on-gone n cs ws ws' due due' v u unused used owed others sorted replies awaited 
 
 -- close-ok came, and what else was awaited on the channel goes
 pub on-closed : (n : ℕ) (cs : Listed) (ws : Replies) (due : ℕ → ℕ) (v : Speech) (c : Channel) (a : Awaited) → at n cs ≡ Some c → first_awaited n ChannelClosed ws ≡ Some a
-    → TiesChannels cs ws due v → TiesChannels (left_listed c.debt n cs) (without n (left_awaited n ChannelClosed ws)) due v
+    → TiesChannels cs ws due v → TiesChannels (left_listed c.debt n c cs) (without n (left_awaited n ChannelClosed ws)) due v
 on-closed n cs ws due v c a listed first h =
     let ws1 : Replies = left_awaited n ChannelClosed ws in
     let ws' : Replies = without n ws1 in
@@ -422,7 +432,7 @@ on-closed n cs ws due v c a listed first h =
     by : (d : Debt) → c.debt ≡ d → c.state ≡ channel.Closing → TiesClosing d (tied_on n ws) (v.usage n) → Ascend (keys_of (without n (left_awaited n ChannelClosed ws)))
         → tied_on n (without n (left_awaited n ChannelClosed ws)) ≡ []
         → ((m : ℕ) → m ≢ n → tied_on m (without n (left_awaited n ChannelClosed ws)) ≡ tied_on m ws)
-        → TiesChannels (left_listed d n cs) (without n (left_awaited n ChannelClosed ws)) due v
+        → TiesChannels (left_listed d n c cs) (without n (left_awaited n ChannelClosed ws)) due v
     by Nothing is state ties sorted none others =
         on-gone n cs ws (without n (left_awaited n ChannelClosed ws)) due due v Left left-not-used ties.1
         (owed-of n cs ws due v c listed h ∙ owing-by c Nothing is) (λ m ne. refl) sorted none others h
@@ -435,13 +445,14 @@ on-closed n cs ws due v c a listed first h =
         (let Q : ChannelState → Type 0 = λ s. TiesState s c.debt [] Shut in
         let R : Debt → Type 0 = λ d. TiesClosing d [] Shut in
         subst Q (sym state) (subst R (sym is) (inl refl, refl))) in
-        on-change n cs cs ws ws' due due v v h h.speaking h.complete
-        (ties-as (Some c) (at n cs) [] (tied_on n ws') Shut (v.usage n) listed none ties.1 here)
-        (h.owes n)
+        let c' : Channel = made_answered c in
+        on-change n cs (put n c' cs) ws ws' due due v v h h.speaking h.complete
+        (ties-as (Some c') (at n (put n c' cs)) [] (tied_on n ws') Shut (v.usage n) (put-same n c' cs) none ties.1 (here, refl))
+        (owed-put n cs ws due v c c' listed (debt-owing c c' refl) h)
         (record {
-          sorted = h.sorted;
+          sorted = put-from n c' 0 cs (above-zero n (listed-some n cs ws due v c listed h)) h.sorted;
           awaited_sorted = sorted;
-          listed = λ m ne. refl;
+          listed = λ m ne. put-other m n c' cs ne;
           awaited = others;
           owed = λ m ne. refl;
           used = λ m ne. refl;
@@ -454,37 +465,40 @@ pub record IsUsed (n : ℕ) (due : ℕ → ℕ) (v : Speech) : Type 0 where
   pub used : v.usage n ≡ InUse
   pub none_due : due n ≡ 0
 
-not-awaited : (n : ℕ) (q : Queued) → is_some (awaited_promise n ChannelClosed q) ≡ false → tied_on n q.awaited ≡ ChannelClosed ∷ [] → ⊥
-not-awaited n q h one = true≢false (sym (one-awaited n ChannelClosed q one) ∙ h)
+-- close-ok is awaited, and is not
+both-close : (b : Bool) (rs : List Reply) → b ≡ is_close_among rs → b ≡ false → rs ≡ ChannelClosed ∷ [] → ⊥
+both-close b rs told lacks one = true≢false (sym (told ∙ ap is_close_among one) ∙ lacks)
+
+no-close : (b : Bool) (rs : List Reply) → b ≡ is_close_among rs → b ≡ true → is_close_among rs ≡ false → ⊥
+no-close b rs told holds none = true≢false (sym holds ∙ told ∙ none)
 
 -- a channel of which nothing is owed, and whose close-ok we do not await, is in use
-used-state : (s : ChannelState) (d : Debt) (n : ℕ) (q : Queued) (u : Usage) → d ≡ Nothing → is_some (awaited_promise n ChannelClosed q) ≡ false
-    → TiesState s d (tied_on n q.awaited) u → u ≡ InUse
-used-state channel.Initial d n q u is none h = h.1
-used-state channel.Connected d n q u is none h = h.1
-used-state channel.Reconnecting d n q u is none h = h.1
-used-state channel.Closing d n q u is none h =
-    let Q : Debt → Type 0 = λ x. TiesClosing x (tied_on n q.awaited) u in absurd (not-awaited n q none (subst Q is h).0)
-used-state _ d n q u is none h = absurd h
+used-state : (s : ChannelState) (d : Debt) (b : Bool) (rs : List Reply) (u : Usage) → d ≡ Nothing → b ≡ is_close_among rs → b ≡ false → TiesState s d rs u → u ≡ InUse
+used-state channel.Initial d b rs u is told none h = h.1
+used-state channel.Connected d b rs u is told none h = h.1
+used-state channel.Reconnecting d b rs u is told none h = h.1
+used-state channel.Closing d b rs u is told none h =
+    let Q : Debt → Type 0 = λ x. TiesClosing x rs u in absurd (both-close b rs told none (subst Q is h).0)
+used-state _ d b rs u is told none h = absurd h
 
-pub is-used : (n : ℕ) (cs : Listed) (q : Queued) (due : ℕ → ℕ) (v : Speech) (c : Channel) → at n cs ≡ Some c → c.debt ≡ Nothing
-    → is_some (awaited_promise n ChannelClosed q) ≡ false → TiesChannels cs q.awaited due v → IsUsed n due v
-is-used n cs q due v c listed is none h =
+pub is-used : (n : ℕ) (cs : Listed) (ws : Replies) (due : ℕ → ℕ) (v : Speech) (c : Channel) → at n cs ≡ Some c → c.debt ≡ Nothing
+    → c.awaits_close_ok ≡ false → TiesChannels cs ws due v → IsUsed n due v
+is-used n cs ws due v c listed is none h =
     record {
-      used = used-state c.state c.debt n q (v.usage n) is none (ties-of n cs q.awaited due v c c.state listed refl h);
-      none_due = owed-of n cs q.awaited due v c listed h ∙ owing-by c Nothing is;
+      used = used-state c.state c.debt c.awaits_close_ok (tied_on n ws) (v.usage n) is (awaits-of n cs ws due v c listed h) none (ties-of n cs ws due v c c.state listed refl h);
+      none_due = owed-of n cs ws due v c listed h ∙ owing-by c Nothing is;
     }
 
 -- and is closed by the server, which is answered
-pub on-server-close : (n : ℕ) (cs : Listed) (ws : Replies) (due due' : ℕ → ℕ) (v : Speech) (c : Channel) → at n cs ≡ Some c → due' n ≡ 1
-    → ((m : ℕ) → m ≢ n → due' m ≡ due m) → TiesChannels cs ws due v
+pub on-server-close : (n : ℕ) (cs : Listed) (ws : Replies) (due due' : ℕ → ℕ) (v : Speech) (c : Channel) → at n cs ≡ Some c → c.awaits_close_ok ≡ false
+    → due' n ≡ 1 → ((m : ℕ) → m ≢ n → due' m ≡ due m) → TiesChannels cs ws due v
     → TiesChannels (put n (record c { state = channel.Closing; debt = Owed }) cs) (without n ws) due' (now_on n Shut v)
-on-server-close n cs ws due due' v c listed owed others h =
+on-server-close n cs ws due due' v c listed left owed others h =
     let c' : Channel = record c { state = channel.Closing; debt = Owed } in
     let ws' : Replies = without n ws in
     on-change n cs (put n c' cs) ws ws' due due' v (now_on n Shut v) h h.speaking tt
     (ties-as (Some c') (at n (put n c' cs)) [] (tied_on n ws') Shut ((now_on n Shut v).usage n)
-    (put-same n c' cs) (gone-same n ws h.awaited_sorted) (used-same n Shut v) (inl refl, refl))
+    (put-same n c' cs) (gone-same n ws h.awaited_sorted) (used-same n Shut v) ((inl refl, refl), left))
     (owed ∙ ap owing (sym (put-same n c' cs)))
     (record {
       sorted = put-from n c' 0 cs (above-zero n (listed-some n cs ws due v c listed h)) h.sorted;
@@ -501,15 +515,24 @@ pub record IsLeft (n : ℕ) (ws : Replies) (due : ℕ → ℕ) (v : Speech) (c :
   pub one : tied_on n ws ≡ ChannelClosed ∷ []
   pub unused : v.usage n ≡ Left
   pub none_due : due n ≡ 0
+  pub awaits : c.awaits_close_ok ≡ true
 
-pub is-left : (n : ℕ) (cs : Listed) (q : Queued) (due : ℕ → ℕ) (v : Speech) (c : Channel) → at n cs ≡ Some c → c.debt ≡ Nothing
-    → is_some (awaited_promise n ChannelClosed q) ≡ true → TiesChannels cs q.awaited due v → IsLeft n q.awaited due v c
-is-left n cs q due v c listed is awaits h =
-    let a = first-by-test n ChannelClosed q awaits in
-    let k = closed-state c.state c.debt n q.awaited (v.usage n) a.0 h.awaited_sorted a.1 (ties-of n cs q.awaited due v c c.state listed refl h) in
-    let Q : Debt → Type 0 = λ d. TiesClosing d (tied_on n q.awaited) (v.usage n) in
-    let ties : TiesClosing Nothing (tied_on n q.awaited) (v.usage n) = subst Q is k.1 in
-    record { closing_state = k.0; one = ties.0; unused = ties.1; none_due = owed-of n cs q.awaited due v c listed h ∙ owing-by c Nothing is }
+left-state : (s : ChannelState) (d : Debt) (b : Bool) (rs : List Reply) (u : Usage) → d ≡ Nothing → b ≡ is_close_among rs → b ≡ true → TiesState s d rs u
+    → (s ≡ channel.Closing) × (rs ≡ ChannelClosed ∷ []) × (u ≡ Left)
+left-state channel.Initial d b rs u is told holds h = absurd (no-close b rs told holds (ap is_close_among h.0))
+left-state channel.Connected d b rs u is told holds h = absurd (no-close b rs told holds (ap is_close_among h.0))
+left-state channel.Reconnecting d b rs u is told holds h = absurd (no-close b rs told holds (ap is_close_among h.0))
+left-state channel.Closing d b rs u is told holds h =
+    let Q : Debt → Type 0 = λ x. TiesClosing x rs u in let k : TiesClosing Nothing rs u = subst Q is h in (refl, k.0, k.1)
+left-state _ d b rs u is told holds h = absurd h
+
+pub is-left : (n : ℕ) (cs : Listed) (ws : Replies) (due : ℕ → ℕ) (v : Speech) (c : Channel) → at n cs ≡ Some c → c.debt ≡ Nothing
+    → c.awaits_close_ok ≡ true → TiesChannels cs ws due v → IsLeft n ws due v c
+is-left n cs ws due v c listed is awaits h =
+    let k =
+    left-state c.state c.debt c.awaits_close_ok (tied_on n ws) (v.usage n) is (awaits-of n cs ws due v c listed h) awaits
+    (ties-of n cs ws due v c c.state listed refl h) in
+    record { closing_state = k.0; one = k.1; unused = k.2; none_due = owed-of n cs ws due v c listed h ∙ owing-by c Nothing is; awaits = awaits }
 
 -- and is closed by the server too, which is answered
 pub on-crossing : (n : ℕ) (cs : Listed) (ws : Replies) (due due' : ℕ → ℕ) (v : Speech) (c : Channel) → at n cs ≡ Some c → IsLeft n ws due v c → due' n ≡ 1
@@ -520,7 +543,7 @@ on-crossing n cs ws due due' v c listed is owed others h =
     (let Q : ChannelState → Type 0 = λ s. TiesState s Owed (ChannelClosed ∷ []) Shut in subst Q (sym is.closing_state) (inr refl, refl)) in
     on-change n cs (put n c' cs) ws ws due due' v (now_on n Shut v) h h.speaking tt
     (ties-as (Some c') (at n (put n c' cs)) (ChannelClosed ∷ []) (tied_on n ws) Shut ((now_on n Shut v).usage n)
-    (put-same n c' cs) is.one (used-same n Shut v) here)
+    (put-same n c' cs) is.one (used-same n Shut v) (here, is.awaits))
     (owed ∙ ap owing (sym (put-same n c' cs)))
     (record {
       sorted = put-from n c' 0 cs (above-zero n (listed-some n cs ws due v c listed h)) h.sorted;
@@ -542,6 +565,11 @@ pub record IsOwed (n : ℕ) (ws : Replies) (v : Speech) (c : Channel) : Type 0 w
 pub none-due : (n k : ℕ) (cs : Listed) (ws : Replies) (due : ℕ → ℕ) (v : Speech) → at n cs ≡ None → due n ≡ suc k → TiesChannels cs ws due v → ⊥
 none-due n k cs ws due v absent owed h =
     let none : due n ≡ 0 = h.owes n ∙ ap owing absent in omega (arith, none, owed)
+
+-- nor has one that owes none
+pub none-owed : (n k : ℕ) (cs : Listed) (ws : Replies) (due : ℕ → ℕ) (v : Speech) (c : Channel) → at n cs ≡ Some c → is_owed c.debt ≡ false → due n ≡ suc k → TiesChannels cs ws due v → ⊥
+none-owed n k cs ws due v c listed free owed h =
+    let none : due n ≡ 0 = owed-of n cs ws due v c listed h ∙ ap (λ b. if b then 1 else 0) free in omega (arith, none, owed)
 
 -- and a listed one has one on its way
 pub one-due : (n k : ℕ) (cs : Listed) (ws : Replies) (due : ℕ → ℕ) (v : Speech) (c : Channel) → at n cs ≡ Some c → due n ≡ suc k → TiesChannels cs ws due v
@@ -566,22 +594,20 @@ one-due n k cs ws due v c listed owed h =
     by Paid is one ties = let none : 0 ≡ suc k = sym (owing-by c Paid is) ∙ one in absurd (omega (arith, none))
 
 -- where our close is not answered, the channel stays
-pub on-paid : (n : ℕ) (cs : Listed) (q : Queued) (due due' : ℕ → ℕ) (v : Speech) (c : Channel) → at n cs ≡ Some c → IsOwed n q.awaited v c
-    → is_some (awaited_promise n ChannelClosed q) ≡ true → due' n ≡ 0 → ((m : ℕ) → m ≢ n → due' m ≡ due m) → TiesChannels cs q.awaited due v
-    → TiesChannels (put n (record c { debt = Paid }) cs) q.awaited due' v
-on-paid n cs q due due' v c listed is awaits owed others h =
-    let ws : Replies = q.awaited in
+pub on-paid : (n : ℕ) (cs : Listed) (ws : Replies) (due due' : ℕ → ℕ) (v : Speech) (c : Channel) → at n cs ≡ Some c → IsOwed n ws v c
+    → c.awaits_close_ok ≡ true → due' n ≡ 0 → ((m : ℕ) → m ≢ n → due' m ≡ due m) → TiesChannels cs ws due v
+    → TiesChannels (put n (record c { debt = Paid }) cs) ws due' v
+on-paid n cs ws due due' v c listed is awaits owed others h =
     let c' : Channel = record c { debt = Paid } in
-    let a = first-by-test n ChannelClosed q awaits in
     let one : tied_on n ws ≡ ChannelClosed ∷ [] =
     elim is.ties.0 [
-      | inl none ↦ absurd (none-awaited n ChannelClosed ws a.0 refl a.1 none)
+      | inl none ↦ absurd (no-close c.awaits_close_ok (tied_on n ws) (awaits-of n cs ws due v c listed h) awaits (ap is_close_among none))
       | inr one ↦ one
     ] in
     let here : TiesState c.state Paid (ChannelClosed ∷ []) Shut =
     (let Q : ChannelState → Type 0 = λ s. TiesState s Paid (ChannelClosed ∷ []) Shut in subst Q (sym is.closing_state) (refl, refl)) in
     on-change n cs (put n c' cs) ws ws due due' v v h h.speaking h.complete
-    (ties-as (Some c') (at n (put n c' cs)) (ChannelClosed ∷ []) (tied_on n ws) Shut (v.usage n) (put-same n c' cs) one is.ties.1 here)
+    (ties-as (Some c') (at n (put n c' cs)) (ChannelClosed ∷ []) (tied_on n ws) Shut (v.usage n) (put-same n c' cs) one is.ties.1 (here, awaits))
     (owed ∙ ap owing (sym (put-same n c' cs)))
     (record {
       sorted = put-from n c' 0 cs (above-zero n (listed-some n cs ws due v c listed h)) h.sorted;
@@ -593,16 +619,16 @@ on-paid n cs q due due' v c listed is awaits owed others h =
     })
 
 -- else it goes
-pub on-paid-gone : (n : ℕ) (cs : Listed) (q : Queued) (due due' : ℕ → ℕ) (v : Speech) (c : Channel) → at n cs ≡ Some c → IsOwed n q.awaited v c
-    → is_some (awaited_promise n ChannelClosed q) ≡ false → due' n ≡ 0 → ((m : ℕ) → m ≢ n → due' m ≡ due m) → TiesChannels cs q.awaited due v
-    → TiesChannels (without n cs) q.awaited due' v
-on-paid-gone n cs q due due' v c listed is none owed others h =
-    let replies : tied_on n q.awaited ≡ [] =
+pub on-paid-gone : (n : ℕ) (cs : Listed) (ws : Replies) (due due' : ℕ → ℕ) (v : Speech) (c : Channel) → at n cs ≡ Some c → IsOwed n ws v c
+    → c.awaits_close_ok ≡ false → due' n ≡ 0 → ((m : ℕ) → m ≢ n → due' m ≡ due m) → TiesChannels cs ws due v
+    → TiesChannels (without n cs) ws due' v
+on-paid-gone n cs ws due due' v c listed is left owed others h =
+    let replies : tied_on n ws ≡ [] =
     elim is.ties.0 [
       | inl none ↦ none
-      | inr one ↦ absurd (not-awaited n q none one)
+      | inr one ↦ absurd (both-close c.awaits_close_ok (tied_on n ws) (awaits-of n cs ws due v c listed h) left one)
     ] in
-    on-gone n cs q.awaited q.awaited due due' v Shut shut-not-used is.ties.1 owed others h.awaited_sorted replies (λ m ne. refl) h
+    on-gone n cs ws ws due due' v Shut shut-not-used is.ties.1 owed others h.awaited_sorted replies (λ m ne. refl) h
 
 -- ---- the number that is drawn
 
@@ -772,7 +798,7 @@ on-reopened n c pending cs ws due v h =
       ties =
           no-longer n c pending cs cs ws (expected n a ws) due v (now_on n InUse v) h first h.speaking tt
           (ties-as (Some c) (at n cs) (ChannelOpened ∷ []) (tied_on n (expected n a ws)) InUse ((now_on n InUse v).usage n)
-          first.listed replies (used-same n InUse v) here)
+          first.listed replies (used-same n InUse v) (here, first.kept.2))
           (h.owes n)
           (record {
             sorted = h.sorted;
@@ -827,7 +853,7 @@ pub all-kept : (n : ℕ) (cs : Listed) → IsKept (at n (kept cs))
 all-kept n [] = tt
 all-kept n (e ∷ cs) = by (is_kept_in (e.1).state) (all-kept n cs) where
   here : (b : Bool) → IsKept (at n (kept cs)) → IsKept (cond b (Some (reconnecting e.1)) (at n (kept cs)))
-  here true rest = (refl, refl)
+  here true rest = (refl, refl, refl)
   here false rest = rest
 
   by : (b : Bool) → IsKept (at n (kept cs))

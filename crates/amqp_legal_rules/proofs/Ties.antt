@@ -136,10 +136,16 @@ TiesState channel.Reconnecting d replies u = (replies ≡ ChannelOpened ∷ []) 
 TiesState channel.Closing d replies u = TiesClosing d replies u
 TiesState _ d replies u = ⊥
 
--- a number that is not listed awaits nothing, and is not used
+-- close-ok is among the replies that are awaited
+abbrev pub is_close_among : List Reply → Bool
+is_close_among [] = false
+is_close_among (ChannelClosed ∷ replies) = true
+is_close_among (reply ∷ replies) = is_close_among replies
+
+-- a number that is not listed awaits nothing, and is not used; a channel knows whether close-ok is awaited
 abbrev pub TiesOn : Option Channel → List Reply → Usage → Type 0
 TiesOn None replies u = (replies ≡ []) × (u ≢ InUse)
-TiesOn (Some c) replies u = TiesState c.state c.debt replies u
+TiesOn (Some c) replies u = TiesState c.state c.debt replies u × (c.awaits_close_ok ≡ is_close_among replies)
 
 -- while the connection is open, with how many close-oks of each channel are not wholly sent
 pub record TiesChannels (channels : List (ℕ × Channel)) (awaited : List (ℕ × List Awaited)) (due : ℕ → ℕ) (s : Speech) : Type 0 where
@@ -156,7 +162,7 @@ pub record TiesChannels (channels : List (ℕ × Channel)) (awaited : List (ℕ 
 -- a number that is not listed, or whose channel was kept over the loss of a link, and is to be opened again
 abbrev pub IsKept : Option Channel → Type 0
 IsKept None = Unit {0}
-IsKept (Some c) = (c.state ≡ channel.Reconnecting) × (c.debt ≡ Nothing)
+IsKept (Some c) = (c.state ≡ channel.Reconnecting) × (c.debt ≡ Nothing) × (c.awaits_close_ok ≡ false)
 
 -- no channel was opened on this link, nothing is awaited, and no close-ok of a channel is on its way
 pub record IsNew (channels : List (ℕ × Channel)) (awaited : List (ℕ × List Awaited)) (due : ℕ → ℕ) : Type 0 where

@@ -14,7 +14,8 @@ use Rattle.amqp_replay.specs.declared.limits.TheConstants.{TEXT_BYTES}
 use Rattle.amqp_replay.specs.Words.{first_word, after_word}
 use Rattle.amqp_replay.specs.Decimals.{number_16}
 use Rattle.amqp_replay.specs.Budgets.{affordable_publish}
-use Rattle.amqp_replay.specs.Grammar.{limited, closes_by, closes, shut_line, numbered, closes_numbered, close_line, number_in, rest_of, is_passed_class, sent_method, Published, zeros_published, publishes_data, switch_in, flow_said, flow_line, is_printable, is_ignored, setup_or_refused, step_line, content_says}
+use Rattle.amqp_replay.specs.Lines.{is_printable, is_ignored}
+use Rattle.amqp_replay.specs.Grammar.{limited, closes_by, closes, shut_line, numbered, closes_numbered, close_line, number_in, rest_of, is_passed_class, sent_method, Published, zeros_published, publishes_data, switch_in, flow_said, flow_line, setup_or_refused, step_line, content_says}
 
 -- a step without such zeros is always within the limit
 free_step : (left : ℕ) (what : GivenStep) → limited left (Step what 0) ≡ Step what 0

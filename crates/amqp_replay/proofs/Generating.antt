@@ -80,12 +80,10 @@ Keeps-taken number given before now after keeps (inr refused) =
 
 -- ---- the whole summary, written one part after another
 
-pub summary-parts : (links : List (List ℕ)) (t : Talk) (out one two whole : List ℕ) (sent answered : ℕ)
-    (end : Option (Result (Unit {0}) ErrorKind)) → sent ≡ first_len links → answered ≡ count_ok t
+pub summary-parts : (sent answered : ℕ) (t : Talk) (out one two whole : List ℕ) (end : Option (Result (Unit {0}) ErrorKind)) → answered ≡ count_ok t
     → one ≡ out ++ sent_text sent → two ≡ one ++ answered_text answered → end ≡ end_of t → whole ≡ two ++ end_line end
-    → whole ≡ out ++ summary links t
-summary-parts links t out one two whole sent answered end bytes answers first second ended last =
-    three out one two whole (sent_text (first_len links)) (answered_text (count_ok t)) (end_line (end_of t))
-    (first ∙ ap (λ (n : ℕ). out ++ sent_text n) bytes)
+    → whole ≡ out ++ summary sent t
+summary-parts sent answered t out one two whole end answers first second ended last =
+    three out one two whole (sent_text sent) (answered_text (count_ok t)) (end_line (end_of t)) first
     (second ∙ ap (λ (n : ℕ). one ++ answered_text n) answers)
     (last ∙ ap (λ (x : Option (Result (Unit {0}) ErrorKind)). two ++ end_line x) ended)

@@ -4,7 +4,7 @@ use Rattle.amqp_replay.specs.declared.grammar.Said.{Said}
 use Rattle.amqp_replay.specs.declared.grammar.Said.TheVariants.{Nothing, Refused, Setup, Step}
 use Rattle.amqp_replay.specs.declared.limits.TheConstants.{ZERO_BYTES}
 use Rattle.amqp_replay.specs.declared.setup.Setting.{Setting}
-use Rattle.amqp_replay.specs.declared.setup.Setting.TheVariants.{Uri, Locale, Name, Property, Recover, Delays, Provider, Listen}
+use Rattle.amqp_replay.specs.declared.setup.Setting.TheVariants.{Uri, Locale, Name, Property, Recover, Delays, Provider, Listen, Limit}
 use Rattle.amqp_replay.specs.Lines.{Line, lines as lines_of}
 use Rattle.amqp_replay.specs.Setup.{SetupSoFar, no_lines, may_stand}
 use Rattle.amqp_replay.specs.Grammar.{Scenario, placed, progress_after, says, limited, moment_after, zeros_in, before, scenario_of, parsed}
@@ -23,6 +23,7 @@ by_standing p (Property key text) true is h = record { none = h.none; unsaid = h
 by_standing p Recover true is h = record { none = h.none; unsaid = h.unsaid }
 by_standing p (Delays delays) true is h = record { none = h.none; unsaid = h.unsaid }
 by_standing p Listen true is h = record { none = h.none; unsaid = h.unsaid }
+by_standing p (Limit octets) true is h = record { none = h.none; unsaid = h.unsaid }
 by_standing p Provider true is h =
     let fails : may_stand Provider p ≡ false = ap (λ (x : Bool). x && not (p.has_step || p.has_provider)) h.none in
     let both : true ≡ false = sym is ∙ fails in

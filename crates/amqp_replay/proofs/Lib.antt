@@ -13,8 +13,9 @@ pub mod Steps
 pub mod Pieces
 -- A provider that was not handed is not asked for (`laws`).
 pub mod Handed
--- What follows the most that is read says nothing (`top`: `outcome`).
+-- What follows the most that is read says nothing (`answering`: `outcome`).
 pub mod MostRead
+pub mod MostParsed
 -- The lines of a report (`report`).
 pub mod Entries
 pub mod Reports
@@ -24,6 +25,6 @@ pub mod EventLines
 pub mod Generating
 -- What was read and what was written (`transfer`).
 pub mod Streams
--- A replay, from the contracts of the port and the engine; the statuses (`top`).
+-- A replay, from the contracts of the port and the engine; the statuses (`answering`).
 pub mod Replaying
 pub mod Statuses

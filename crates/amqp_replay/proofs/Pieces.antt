@@ -12,13 +12,13 @@ use Rattle.amqp_engine.specs.Plan.{IsGivenPiece, ArePieces}
 use Rattle.amqp_replay.specs.declared.grammar.Said.{Said}
 use Rattle.amqp_replay.specs.declared.grammar.Said.TheVariants.{Nothing, Refused, Setup, Step}
 use Rattle.amqp_replay.specs.declared.limits.TheConstants.{PIECE_BYTES, SECRET_BYTES, TEXT_BYTES}
-use Rattle.amqp_replay.specs.Lines.{Line}
+use Rattle.amqp_replay.specs.Lines.{Line, is_ignored, is_printable, is_within_limits}
 use Rattle.amqp_replay.specs.Words.{first_word, after_word}
 use Rattle.amqp_replay.specs.Decimals.{number_16, number_64}
 use Rattle.amqp_replay.specs.Data.{SpelledBytes, spelled}
 use Rattle.amqp_replay.specs.declared.setup.Setting.{Setting}
 use Rattle.amqp_replay.specs.Setup.{is_setup, setting_of}
-use Rattle.amqp_replay.specs.Grammar.{step_or_refused, lone, link_line, room_line, piece_said, bytes_line, closes_by, closes, shut_line, numbered, closes_numbered, close_line, number_in, rest_of, is_passed_class, sent_method, sends_data, data_in, sends, send_line, Published, zeros_published, published_in, publishes_data, publishes, publish_line, switch_in, flow_said, flow_line, first_data_in, secrets, secret_line, command_of_words, line_of_words, words_say, words_timed, is_at_sign, step_line, is_ignored, is_printable, setup_or_refused, content_says, is_within_limits, says, limited}
+use Rattle.amqp_replay.specs.Grammar.{step_or_refused, lone, link_line, room_line, piece_said, bytes_line, closes_by, closes, shut_line, numbered, closes_numbered, close_line, number_in, rest_of, is_passed_class, sent_method, sends_data, data_in, sends, send_line, Published, zeros_published, published_in, publishes_data, publishes, publish_line, switch_in, flow_said, flow_line, first_data_in, secrets, secret_line, command_of_words, line_of_words, words_say, words_timed, is_at_sign, step_line, setup_or_refused, content_says, says, limited}
 
 abbrev pub SaysPiece : Said → Type 0
 SaysPiece (Step what n) = IsGivenPiece what

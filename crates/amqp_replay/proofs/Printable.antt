@@ -5,7 +5,7 @@ use Rattle.std.specs.Str.{IsAscii}
 use Rattle.std.proofs.lemmas.Str.{IsAscii-drop}
 use Rattle.std.proofs.lemmas.Bool.Decides.{nat_tests}
 use Rattle.amqp_replay.specs.Words.{rest_after, after_byte}
-use Rattle.amqp_replay.specs.Grammar.{is_printable}
+use Rattle.amqp_replay.specs.Lines.{is_printable}
 use Rattle.amqp_types.proofs.Small.{and-right}
 
 nil_ascii : IsAscii []

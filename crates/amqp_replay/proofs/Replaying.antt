@@ -1,8 +1,8 @@
 -- A replay, from the contracts of the port and the engine.
 use Rattle.std.proofs.Common.{◌≡◌, inl, inr, ℕ, List, [], ◌∷◌, Bool, true, false, Option, Some, None, IfSome, IfOk, Result, Ok, Err, length, if◌then◌else◌, ap, sym, subst, refl, ◌∙◌}
 use Rattle.std.specs.Prelude.{IsSome, MatchBool}
-use Rattle.amqp_session.specs.Providers.{Exchange, Allows}
-use Rattle.amqp_session.specs.DefaultAnswers.{DefaultAuth}
+use Rattle.amqp_auth.specs.Providers.{Exchange, Allows}
+use Rattle.amqp_auth.specs.DefaultAnswers.{DefaultAuth}
 use Rattle.amqp_session.specs.declared.command.Cmd.TheVariants.{Listen}
 use Rattle.amqp_session.specs.Config.{Config}
 use Rattle.amqp_session.specs.Talk.{Talk}

@@ -1,8 +1,8 @@
 -- Which statuses a printout has.
 use Rattle.std.proofs.Common.{◌≡◌, ◌≢◌, ◌<◌, ◌⊎◌, sym, inl, inr, refl, ℕ, Bool, List, take, Option, Some, None, IfSome, Result, Ok, Err, ap, ◌∙◌, subst, arith}
-use Rattle.amqp_session.specs.declared.auth.asked.Asked.{Asked}
+use Rattle.amqp_auth.specs.declared.asked.Asked.{Asked}
 use Rattle.amqp_promise.specs.declared.error.ErrorKind.{ErrorKind}
-use Rattle.amqp_session.specs.Providers.{Exchange}
+use Rattle.amqp_auth.specs.Providers.{Exchange}
 use Rattle.amqp_session.specs.Talk.{Talk, end_of}
 use Rattle.amqp_engine.specs.declared.given.Given.{Given}
 use Rattle.amqp_engine.specs.Log.{Log}
@@ -14,9 +14,9 @@ use Rattle.amqp_engine.specs.Valid.{Valid}
 use Rattle.amqp_replay.specs.declared.limits.TheConstants.{MOST_READ}
 use Rattle.amqp_replay.specs.declared.status.TheConstants.{CLOSED, REFUSED, USAGE, SOURCE_FAILED, SINK_FAILED, FAILED, RUNNING, NO_MEMORY}
 use Rattle.amqp_replay.specs.Grammar.{Scenario, parsed}
-use Rattle.amqp_replay.proofs.MostRead.{parsed-most}
+use Rattle.amqp_replay.proofs.MostParsed.{parsed-most}
 use Rattle.amqp_replay.specs.Report.{Printout}
-use Rattle.amqp_replay.specs.Top.{session_of, provider_state, MayAnswer, IsValid, end_status, replayed_talk, printout, generated_printout, TellsReplay, Prints, Replays, ReplaysSome, IsSilent, IsStatus}
+use Rattle.amqp_replay.specs.Top.{session_of, provider_state, MayAnswer, IsValid, end_status, replayed_talk, printout, generated_printout, TellsReplay, Prints, Replays, ReplaysSome, IsSilent}
 use Rattle.amqp_replay.proofs.Replaying.{is-new}
 
 -- a status with which something is printed, though nothing failed
@@ -147,31 +147,3 @@ Replays-told is_handed handed (Some all) log before after status script read (in
       prints = subst Q same replays.prints;
       closed = subst C same replays.closed;
     })
-
--- a printout that was written has no status of a sink that failed
-not-failed : (read : Result Scenario ℕ) (answers : List Asked) (status : ℕ) → status ≡ (printout read answers).status
-    → (status ≡ CLOSED) ⊎ (status ≡ SINK_FAILED) → status ≡ CLOSED
-not-failed read answers status is (inl closed) = closed
-not-failed read answers status is (inr failed) = absurd ((printout-IsLoud read answers).written (sym is ∙ failed))
-
-of_prints : (is_handed : Bool) (handed : Exchange → Type 0) (script : List ℕ) (answers : List Asked) (before after : Option (List ℕ)) (status : ℕ)
-    → MayAnswer (provider_state handed) (parsed is_handed script) answers
-    → Prints (printout (parsed is_handed script) answers) before after status
-    → (IsValid (parsed is_handed script) answers → (status ≡ CLOSED) ⊎ (status ≡ SINK_FAILED))
-    → IsStatus is_handed handed script status
-of_prints is_handed handed script answers before after status may (inl whole) closed =
-    inr (inr (record {
-      answers = answers;
-      may = may;
-      is = whole.0;
-      closed = λ valid. not-failed (parsed is_handed script) answers status whole.0 (closed valid);
-    }))
-of_prints is_handed handed script answers before after status may (inr front) closed = inr (inl front.0)
-
-pub IsStatus-told : (is_handed : Bool) (handed : Exchange → Type 0) (left : Option (List ℕ)) (log : Option Log) (before after : Option (List ℕ))
-    (status : ℕ) → IfSome left (λ all. IsSilent status ⊎ Replays is_handed handed all log before after status)
-    → IfSome left (λ all. IsStatus is_handed handed all status)
-IsStatus-told is_handed handed None log before after status outcome = tt
-IsStatus-told is_handed handed (Some all) log before after status (inl silent) = inl silent
-IsStatus-told is_handed handed (Some all) log before after status (inr replays) =
-    of_prints is_handed handed all replays.answers before after status replays.may replays.prints replays.closed

@@ -12,8 +12,8 @@ use Rattle.amqp_engine.specs.declared.given.GivenStep.{GivenStep}
 use Rattle.amqp_engine.specs.declared.given.GivenStep.TheVariants.{Link, Refuse, Bytes, End, Fault, Room, WriteFail, Tick, Command}
 use Rattle.amqp_replay.specs.declared.grammar.Said.{Said}
 use Rattle.amqp_replay.specs.declared.grammar.Said.TheVariants.{Nothing, Refused, Setup, Step}
-use Rattle.amqp_replay.specs.declared.limits.TheConstants.{PIECE_BYTES, SECRET_BYTES, SCRIPT_BYTES, SCRIPT_LINES, TEXT_BYTES, ZERO_BYTES}
-use Rattle.amqp_replay.specs.Lines.{Line, lines}
+use Rattle.amqp_replay.specs.declared.limits.TheConstants.{PIECE_BYTES, SECRET_BYTES, TEXT_BYTES, ZERO_BYTES}
+use Rattle.amqp_replay.specs.Lines.{Line, lines, is_ignored, is_printable, is_within_limits}
 use Rattle.amqp_replay.specs.Words.{first_word, after_word}
 use Rattle.amqp_replay.specs.Decimals.{number_16, number_64}
 use Rattle.amqp_replay.specs.Data.{SpelledBytes, spelled}
@@ -259,15 +259,6 @@ abbrev pub moment : List ℕ → Option ℕ
 moment [] = None
 moment (b ∷ bs) = if is_at_sign b then number_64 (first_word bs) else None
 
--- an empty line, or one that begins with `#`
-abbrev pub is_ignored : List ℕ → Bool
-is_ignored [] = true
-is_ignored (b ∷ bs) = b == 35
-
--- a byte that a line may hold
-abbrev pub is_printable : ℕ → Bool
-is_printable b = nat_le 0x20 b && nat_le b 0x7e
-
 -- a setup line says its setting, where there is one
 abbrev pub setup_or_refused : Option Setting → Said
 setup_or_refused None = Refused
@@ -280,10 +271,6 @@ content_says content =
     else if is_ignored content then Nothing
     else if is_setup content then setup_or_refused (setting_of content)
     else step_line content
-
--- a line that the limits of a script leave room for
-abbrev pub is_within_limits : Line → Bool
-is_within_limits line = nat_le line.number SCRIPT_LINES && nat_le line.end SCRIPT_BYTES
 
 -- what a line says
 abbrev pub says : Line → Said

@@ -1,7 +1,5 @@
 -- What a source gives, and what a sink takes.
 pub mod Ends
--- What the words of a command line ask for.
-pub mod Asked
 -- A script: its lines, its words, numbers and bytes, and the setting or the step that a line says.
 pub mod Lines
 pub mod Words
@@ -18,7 +16,7 @@ pub mod Report
 pub mod Summary
 -- The script that a number makes.
 pub mod Generator
--- What the program promises.
+-- What a replay promises.
 pub mod Top
 -- What the contracts of its private calls say of a run.
 pub mod Runs

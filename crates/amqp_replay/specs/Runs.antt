@@ -1,7 +1,7 @@
 -- What the contracts of private calls say of a replay.
 use Rattle.std.specs.Prelude.{◌≡◌, ℕ, List, Option, Result}
-use Rattle.amqp_session.specs.declared.auth.asked.Asked.{Asked}
-use Rattle.amqp_session.specs.Providers.{Exchange}
+use Rattle.amqp_auth.specs.declared.asked.Asked.{Asked}
+use Rattle.amqp_auth.specs.Providers.{Exchange}
 use Rattle.amqp_session.specs.Talk.{Talk}
 use Rattle.amqp_engine.specs.Log.{Log}
 use Rattle.amqp_replay.specs.Grammar.{Scenario}

@@ -1,9 +1,9 @@
 -- What was read of a script.
 use Rattle.std.specs.Prelude.{ℕ, ◌-◌, ◌==◌, ◌||◌, nat_le, if◌then◌else◌, List, [], ◌∷◌, Option, Some, None, Result, Ok, Err}
 use Rattle.amqp_engine.specs.Plan.{ArePieces}
-use Rattle.amqp_replay.specs.Lines.{Line, lines}
+use Rattle.amqp_replay.specs.Lines.{Line, lines, is_ignored}
 use Rattle.amqp_replay.specs.Setup.{is_setup}
-use Rattle.amqp_replay.specs.Grammar.{Scenario, is_ignored}
+use Rattle.amqp_replay.specs.Grammar.{Scenario}
 use Rattle.amqp_replay.specs.declared.status.TheConstants.{FAILED}
 use Rattle.amqp_replay.specs.declared.script.Script.{Script}
 use Rattle.amqp_replay.specs.declared.script.Script.TheVariants.{Played, Refused}

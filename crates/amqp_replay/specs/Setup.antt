@@ -4,10 +4,10 @@ use Rattle.std.specs.List.{slice_split}
 use Rattle.std.specs.Result.{result_ok}
 use Rattle.std.specs.Str.{bytes_eq}
 use Rattle.amqp_uri.specs.Address.{local, address_of_text as address_of}
-use Rattle.amqp_session.specs.Config.{Options, Config, config_of, no_options, with_locale, with_name, with_property, with_backoff, with_recovery}
+use Rattle.amqp_session.specs.Config.{Options, Config, config_of, no_options, with_locale, with_name, with_property, with_backoff, with_recovery, with_outbox_limit}
 use Rattle.amqp_replay.specs.declared.limits.TheConstants.{TEXT_BYTES}
 use Rattle.amqp_replay.specs.declared.setup.Setting.{Setting}
-use Rattle.amqp_replay.specs.declared.setup.Setting.TheVariants.{Uri, Locale, Name, Property, Recover, Delays, Provider, Listen}
+use Rattle.amqp_replay.specs.declared.setup.Setting.TheVariants.{Uri, Locale, Name, Property, Recover, Delays, Provider, Listen, Limit}
 use Rattle.amqp_replay.specs.Decimals.{number_64}
 use Rattle.amqp_replay.specs.Words.{first_word, after_word}
 
@@ -22,7 +22,8 @@ is_setup_word word =
     || (bytes_eq word (codes "property")
     || (bytes_eq word (codes "recover")
     || (bytes_eq word (codes "delays")
-    || (bytes_eq word (codes "provider") || bytes_eq word (codes "listen")))))))
+    || (bytes_eq word (codes "provider")
+    || (bytes_eq word (codes "listen") || bytes_eq word (codes "limit"))))))))
 
 -- a line that begins with such a word
 abbrev pub is_setup : List ℕ → Bool
@@ -84,6 +85,11 @@ abbrev pub listen_in : Option (List ℕ) → Option Setting
 listen_in None = Some Listen
 listen_in (Some text) = None
 
+-- `limit N`
+abbrev pub limit_in : Option (List ℕ) → Option Setting
+limit_in None = None
+limit_in (Some text) = option_map Limit (number_64 text)
+
 -- a line that says something of the client: it begins with this word and goes on like this
 abbrev pub option_by : List ℕ → Option (List ℕ) → Option Setting
 option_by word rest =
@@ -94,6 +100,7 @@ option_by word rest =
     else if bytes_eq word (codes "delays") then delays_in rest
     else if bytes_eq word (codes "provider") then provider_in rest
     else if bytes_eq word (codes "listen") then listen_in rest
+    else if bytes_eq word (codes "limit") then limit_in rest
     else None
 
 -- a line that begins with this word and goes on like this
@@ -120,6 +127,7 @@ pub record SetupSoFar : Type 0 where
   pub has_delays : Bool
   pub has_provider : Bool
   pub has_listen : Bool
+  pub has_limit : Bool
   pub has_step : Bool
 
 -- before the first line: the broker of this machine, and nothing said of the client; a provider was handed or not
@@ -135,6 +143,7 @@ no_lines is_handed =
       has_delays = false;
       has_provider = false;
       has_listen = false;
+      has_limit = false;
       has_step = false;
     }
 
@@ -148,6 +157,7 @@ may_stand Recover p = not (p.has_step || p.has_recover)
 may_stand (Delays delays) p = not (p.has_step || p.has_delays)
 may_stand Provider p = p.is_handed && not (p.has_step || p.has_provider)
 may_stand Listen p = not (p.has_step || p.has_listen)
+may_stand (Limit octets) p = not (p.has_step || p.has_limit)
 
 -- the options are changed alone
 abbrev pub with_options : (Options → Options) → Config → Config
@@ -163,6 +173,8 @@ after_setting Recover p = record p { config = with_options with_recovery p.confi
 after_setting (Delays delays) p = record p { config = with_options (with_backoff delays) p.config; has_delays = true }
 after_setting Provider p = record p { has_provider = true }
 after_setting Listen p = record p { has_listen = true }
+after_setting (Limit octets) p =
+    record p { config = with_options (with_outbox_limit octets) p.config; has_limit = true }
 
 -- after a step
 abbrev pub after_step : SetupSoFar → SetupSoFar

@@ -30,6 +30,6 @@ sent_text sent = codes "# sent " ++ decimal sent ++ codes " bytes, "
 abbrev pub answered_text : ℕ → List ℕ
 answered_text answered = decimal answered ++ codes " answers ok, "
 
--- the bytes of the first link, the answers that are no errors, and the end
-abbrev pub summary : List (List ℕ) → Talk → List ℕ
-summary links talk = sent_text (first_len links) ++ (answered_text (count_ok talk) ++ end_line (end_of talk))
+-- how many bytes were sent, how many answers are no errors, and the end
+abbrev pub summary : ℕ → Talk → List ℕ
+summary sent talk = sent_text sent ++ (answered_text (count_ok talk) ++ end_line (end_of talk))

@@ -1,9 +1,9 @@
--- What the program promises: the status, what is printed, and what the port tells.
+-- What a replay promises: the status, what is printed, and what the port tells.
 use Rattle.std.specs.Prelude.{◌≡◌, ◌⊎◌, ◌++◌, ℕ, Bool, true, false, MatchBool, List, take, Option, Some, None, IfSome, option_map, Result, Ok, Err}
-use Rattle.amqp_session.specs.declared.auth.asked.Asked.{Asked}
+use Rattle.amqp_auth.specs.declared.asked.Asked.{Asked}
 use Rattle.amqp_promise.specs.declared.error.ErrorKind.{ErrorKind}
-use Rattle.amqp_session.specs.Providers.{Exchange, Allows}
-use Rattle.amqp_session.specs.DefaultAnswers.{DefaultAuth, default_of, default_answer, AnswersEach}
+use Rattle.amqp_auth.specs.Providers.{Exchange, Allows}
+use Rattle.amqp_auth.specs.DefaultAnswers.{DefaultAuth, default_of, default_answer, AnswersEach}
 use Rattle.amqp_session.specs.declared.command.Cmd.TheVariants.{Listen}
 use Rattle.amqp_session.specs.Config.{Config}
 use Rattle.amqp_session.specs.Talk.{Talk, start, end_of}
@@ -22,7 +22,7 @@ use Rattle.amqp_replay.specs.declared.status.TheConstants.{CLOSED, REFUSED, USAG
 use Rattle.amqp_replay.specs.Grammar.{Scenario, parsed}
 use Rattle.amqp_replay.specs.Generator.{generated}
 use Rattle.amqp_replay.specs.Report.{Printout, report, refusal}
-use Rattle.amqp_replay.specs.Summary.{summary}
+use Rattle.amqp_replay.specs.Summary.{first_len, summary}
 
 -- ---- before the first step
 
@@ -111,7 +111,7 @@ reported links t = record { status = end_status (end_of t); text = report links 
 
 -- the script that was generated, and the summary of its run
 abbrev pub summed : List ℕ → List (List ℕ) → Talk → Printout
-summed script links t = record { status = end_status (end_of t); text = script ++ summary links t }
+summed script links t = record { status = end_status (end_of t); text = script ++ summary (first_len links) t }
 
 -- ---- what is printed of a script, and with which status
 
@@ -187,16 +187,3 @@ pub record Generates (count : ℕ) (log : Option Log) (before after : Option (Li
 -- wrong words, a source that failed, and want of memory print nothing
 abbrev pub IsSilent : ℕ → Type 0
 IsSilent status = (status ≡ USAGE) ⊎ (status ≡ SOURCE_FAILED) ⊎ (status ≡ NO_MEMORY)
-
--- the status is that of the printout, with some answers that who authenticates may give; that of a valid script says
--- that its session ended Closed
-pub record IsPrinted (is_handed : Bool) (handed : Exchange → Type 0) (script : List ℕ) (status : ℕ) : Type 0 where
-  pub answers : List Asked
-  pub may : MayAnswer (provider_state handed) (parsed is_handed script) answers
-  pub is : status ≡ (printout (parsed is_handed script) answers).status
-  pub closed : IsValid (parsed is_handed script) answers → status ≡ CLOSED
-
--- unless something failed, the status is that of the printout
-abbrev pub IsStatus : Bool → (Exchange → Type 0) → List ℕ → ℕ → Type 0
-IsStatus is_handed handed script status =
-    IsSilent status ⊎ (status ≡ SINK_FAILED) ⊎ IsPrinted is_handed handed script status

@@ -1,8 +1,7 @@
-//! Where a script comes from, and where a report goes.
+//! Where a script or a capture comes from, and where what is printed goes.
 
-ghost use Rattle.std.specs.Prelude.{◌≡◌, ◌≤◌, ◌<◌, ◌++◌, [], ℕ, List, Option, IfSome, length, take, drop, option_map};
-ghost use Rattle.amqp_types.specs.Counts.{Rose};
-ghost use Rattle.amqp_replay.specs.Ends.{count_given, count_taken};
+ghost use Rattle.std.specs.Prelude.{◌≡◌, ◌≢◌, ◌≤◌, ◌<◌, ◌++◌, [], ℕ, List, Option, IfSome, length, take, drop, option_map};
+ghost use Rattle.amqp_replay.specs.Ends.{count_given, count_taken, FailedOnce};
 
 /// What a source answers.
 #[derive(Clone, Copy, Debug, PartialEq, Eq)]
@@ -25,7 +24,7 @@ pub trait Source {
     /// The bytes that are left, if the source tells.
     ghost left: { Self → Option (List ℕ) };
 
-    /// How often the source failed.
+    /// How often the source failed. The count stays at the greatest number of 64 bits.
     ghost faults: { Self → ℕ };
 
     /// Reads into a buffer.
@@ -35,8 +34,8 @@ pub trait Source {
         ensures bytes { IfSome (left self.old) (λ all.
             take (count_given result) buffer.new ≡ take (count_given result) all) }
         ensures end { 0 < length buffer.old → result ≡ Gave.Got 0 → IfSome (left self.old) (λ all. all ≡ []) }
-        ensures faults { faults self.old ≤ faults self.new }
-        ensures cause { result ≡ Gave.Failed → Rose (faults self.old) (faults self.new) };
+        ensures cause { result ≡ Gave.Failed → FailedOnce (faults self.old) (faults self.new) }
+        ensures kept { result ≢ Gave.Failed → faults self.new ≡ faults self.old };
 }
 
 /// Takes bytes, in any pieces.
@@ -44,7 +43,7 @@ pub trait Sink {
     /// The bytes that were taken, if the sink tells.
     ghost held: { Self → Option (List ℕ) };
 
-    /// How often the sink failed.
+    /// How often the sink failed. The count stays at the greatest number of 64 bits.
     ghost faults: { Self → ℕ };
 
     /// Takes bytes, some of them where there are any.
@@ -52,6 +51,6 @@ pub trait Sink {
         ensures within { count_taken result ≤ length bytes.now }
         ensures some { result ≡ Put.Took 0 → bytes.now ≡ [] }
         ensures held { held self.new ≡ option_map (λ all. all ++ take (count_taken result) bytes.now) (held self.old) }
-        ensures faults { faults self.old ≤ faults self.new }
-        ensures cause { result ≡ Put.Failed → Rose (faults self.old) (faults self.new) };
+        ensures cause { result ≡ Put.Failed → FailedOnce (faults self.old) (faults self.new) }
+        ensures kept { result ≢ Put.Failed → faults self.new ≡ faults self.old };
 }

@@ -1,12 +1,11 @@
 //! What the lines of a script say.
 
-ghost use Rattle.std.specs.Prelude.{◌≡◌, ◌<◌, ◌^◌, IsTrue, IfOk, IfSome, option_map};
-ghost use Rattle.std.specs.List.{list_all};
+ghost use Rattle.std.specs.Prelude.{◌≡◌, ◌<◌, ◌^◌, IfOk, IfSome, option_map};
 ghost use Rattle.std.specs.Option.{option_copied};
 ghost use Rattle.std.specs.Str.{IsAscii};
 ghost use Rattle.amqp_session.specs.declared.command.ChanRef.{ChanRef};
 ghost use Rattle.amqp_session.specs.declared.command.Cmd.TheVariants.{CloseConnection, CloseChannel};
-ghost use Rattle.amqp_replay.specs.Grammar.{says, content_says, step_line, moment, words_say, line_of_words, command_of_words, limited, is_ignored, setup_or_refused, is_printable, is_within_limits, lone, link_line, room_line, bytes_line, shut_line, close_line, send_line, closes_numbered, closes, closes_by, numbered, number_in, rest_of, sends_data, is_passed_class, all_spelled, published_in, publishes_data, publish_line, zeros_published, flow_line, switch_of, secret_line, secrets};
+ghost use Rattle.amqp_replay.specs.Grammar.{says, content_says, step_line, moment, words_say, line_of_words, command_of_words, limited, setup_or_refused, lone, link_line, room_line, bytes_line, shut_line, close_line, send_line, closes_numbered, closes, closes_by, numbered, number_in, rest_of, sends_data, is_passed_class, all_spelled, published_in, publishes_data, publish_line, zeros_published, flow_line, switch_of, secret_line, secrets};
 ghost use Rattle.amqp_replay.specs.Budgets.{affordable_publish};
 ghost use Rattle.amqp_replay.specs.Data.{spelled};
 ghost use Rattle.amqp_replay.specs.Setup.{setting_of};
@@ -15,8 +14,8 @@ ghost use Rattle.amqp_replay.specs.Reasons.{GivesReason};
 
 use crate::data::{Spelled, read_data};
 use crate::decimals::number;
-use crate::limits::{PIECE_BYTES, SCRIPT_BYTES, SCRIPT_LINES, SECRET_BYTES, TEXT_BYTES};
-use crate::lines::Line;
+use crate::limits::{PIECE_BYTES, SECRET_BYTES, TEXT_BYTES};
+use crate::lines::{Line, is_ignored, is_printable, is_within_limits};
 use crate::setup::{Setting, is_setup, read_setting};
 use crate::words::{cut, is};
 use amqp_engine::GivenStep;
@@ -42,7 +41,7 @@ pub enum Said {
 pub fn says(alloc: Global, line: &Line, left: u64) -> Result<Said, NoMemory>
     ensures { IfOk result (λ said. said ≡ limited left (says line.now)) }
 {
-    if line.number > SCRIPT_LINES || line.end > SCRIPT_BYTES {
+    if !is_within_limits(line) {
         return Ok(Said::Refused);
     }
     Ok(content_says(alloc, line.content, left)?)
@@ -62,21 +61,6 @@ fn content_says(alloc: Global, content: &[u8], left: u64) -> Result<Said, NoMemo
         return Ok(setup_line(alloc, content)?);
     }
     Ok(step_line(alloc, content, left)?)
-}
-
-// Whether a line holds no other bytes than it may.
-fn is_printable(content: &[u8]) -> bool
-    ensures all { result ≡ list_all is_printable content.now }
-    ensures ascii { IsTrue result → IsAscii content.now }
-{
-    content.iter().all(|b| 0x20 <= *b && *b <= 0x7e)
-}
-
-/// Whether a line is empty or a comment.
-pub fn is_ignored(content: &[u8]) -> bool
-    ensures { result ≡ is_ignored content.now }
-{
-    content.is_empty() || content[0] == b'#'
 }
 
 // What a setup line says.

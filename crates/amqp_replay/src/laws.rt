@@ -2,7 +2,7 @@
 
 ghost use Rattle.std.specs.Prelude.{◌≡◌, List, ℕ, Ok, false, map};
 ghost use Rattle.std.specs.List.{AllByRecursion};
-ghost use Rattle.amqp_session.specs.declared.auth.asked.Asked.{Asked};
+ghost use Rattle.amqp_auth.specs.declared.asked.Asked.{Asked};
 ghost use Rattle.amqp_engine.specs.Play.{AreAnswered};
 ghost use Rattle.amqp_engine.specs.Sending.{sendings, link_bytes, SendsInOrder};
 ghost use Rattle.amqp_replay.specs.Grammar.{Scenario, parsed};

@@ -1,8 +1,8 @@
 //! Sources and sinks in memory, which tell all and fail where they are to.
 
-ghost use Rattle.std.specs.Prelude.{◌≡◌, ◌≤◌, ◌++◌, Some};
+ghost use Rattle.std.specs.Prelude.{◌≡◌, ◌++◌, [], Some};
 ghost use Rattle.std.specs.Bool.{OnTrue, OnFalse};
-ghost use Rattle.amqp_types.specs.Counts.{Rose};
+ghost use Rattle.amqp_replay.specs.Ends.{FailedOnce};
 
 use crate::ends::{Gave, Put, Sink, Source};
 use std::alloc::Global;
@@ -27,9 +27,8 @@ impl<'a> Failing<'a> {
 
     // Counts a call, and a fault where the call is to fail.
     fn call(&mut self) -> bool
-        ensures fails { OnTrue result (Rose self.old.faults self.new.faults) }
+        ensures fails { OnTrue result (FailedOnce self.old.faults self.new.faults) }
         ensures serves { OnFalse result (self.new.faults ≡ self.old.faults) }
-        ensures counts { self.old.faults ≤ self.new.faults }
     {
         self.calls = self.calls.saturating_add(1);
         let fails = self.to_fail.contains(&self.calls);
@@ -41,8 +40,7 @@ impl<'a> Failing<'a> {
 
     // Counts a failure.
     fn fail(&mut self)
-        ensures rose { Rose self.old.faults self.new.faults }
-        ensures counts { self.old.faults ≤ self.new.faults }
+        ensures { FailedOnce self.old.faults self.new.faults }
     {
         self.faults = self.faults.saturating_add(1);
     }
@@ -57,7 +55,9 @@ pub struct MemorySource<'a> {
 
 impl<'a> MemorySource<'a> {
     /// A source of these bytes, whose calls with these numbers fail.
-    pub fn new(bytes: &'a [u8], to_fail: &'a [u64]) -> MemorySource<'a> {
+    pub fn new(bytes: &'a [u8], to_fail: &'a [u64]) -> MemorySource<'a>
+        ensures left { result.left.now ≡ bytes.now }
+    {
         MemorySource {
             left: bytes,
             failing: Failing::new(to_fail),
@@ -92,7 +92,9 @@ pub struct MemorySink<'a> {
 
 impl<'a> MemorySink<'a> {
     /// A sink without bytes yet, whose calls with these numbers fail.
-    pub fn new(alloc: Global, most: usize, to_fail: &'a [u64]) -> MemorySink<'a> {
+    pub fn new(alloc: Global, most: usize, to_fail: &'a [u64]) -> MemorySink<'a>
+        ensures held { result.held.items ≡ [] }
+    {
         MemorySink {
             held: Vec::new(alloc),
             most,
@@ -101,7 +103,9 @@ impl<'a> MemorySink<'a> {
     }
 
     /// What the sink took.
-    pub fn held(&self) -> &[u8] {
+    pub fn held(&self) -> &[u8]
+        ensures { result.now ≡ self.now.held.items }
+    {
         &self.held
     }
 }

@@ -6,9 +6,9 @@ ghost use Rattle.amqp_replay.specs.Grammar.{parsed};
 ghost use Rattle.amqp_replay.specs.Lines.{lines};
 ghost use Rattle.amqp_replay.specs.Scripts.{script_read, ScriptArePieces, line_of_step, ended_at};
 
-use crate::grammar::{Said, is_ignored, moment, says};
+use crate::grammar::{Said, moment, says};
 use crate::limits::ZERO_BYTES;
-use crate::lines::Lines;
+use crate::lines::{Lines, is_ignored};
 use crate::setup::{Progress, is_setup};
 use crate::status::FAILED;
 use amqp_engine::Given;

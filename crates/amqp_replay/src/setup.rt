@@ -5,8 +5,8 @@ ghost use Rattle.std.specs.List.{slice_split};
 ghost use Rattle.std.specs.Option.{option_copied};
 ghost use Rattle.std.specs.Str.{IsAscii};
 ghost use Rattle.amqp_session.specs.Config.{config_of};
-ghost use Rattle.amqp_replay.specs.declared.setup.Setting.TheVariants.{Uri, Locale, Name, Property, Recover, Delays, Provider, Listen};
-ghost use Rattle.amqp_replay.specs.Setup.{is_setup, uri_in, text_in, property_in, recover_in, is_blank, numbers_of, delays_in, provider_in, listen_in, option_by, setting_of, no_lines, may_stand, after_setting, after_step, set_by};
+ghost use Rattle.amqp_replay.specs.declared.setup.Setting.TheVariants.{Uri, Locale, Name, Property, Recover, Delays, Provider, Listen, Limit};
+ghost use Rattle.amqp_replay.specs.Setup.{is_setup, uri_in, text_in, property_in, recover_in, is_blank, numbers_of, delays_in, provider_in, listen_in, limit_in, option_by, setting_of, no_lines, may_stand, after_setting, after_step, set_by};
 
 use crate::decimals::number;
 use crate::limits::TEXT_BYTES;
@@ -36,6 +36,8 @@ pub enum Setting {
     Provider,
     /// That events are kept.
     Listen,
+    /// How many octets may wait once a send or a publish is told.
+    Limit(u64),
 }
 
 /// Delays, in milliseconds.
@@ -89,6 +91,7 @@ pub fn is_setup(content: &[u8]) -> bool
         || is(word, b"delays")
         || is(word, b"provider")
         || is(word, b"listen")
+        || is(word, b"limit")
 }
 
 /// What a line sets, where it sets anything.
@@ -142,6 +145,9 @@ fn option(alloc: Global, word: &[u8], rest: Option<&[u8]>) -> Result<Option<Sett
     }
     if is(word, b"listen") {
         return Ok(listen(rest));
+    }
+    if is(word, b"limit") {
+        return Ok(limit(rest));
     }
     Ok(None)
 }
@@ -261,6 +267,16 @@ fn listen(rest: Option<&[u8]>) -> Option<Setting>
     }
 }
 
+// `limit N`
+fn limit(rest: Option<&[u8]>) -> Option<Setting>
+    ensures { result ≡ limit_in (option_copied rest.entry) }
+{
+    match number(rest?, u64::MAX) {
+        Some(octets) => Some(Setting::Limit(octets)),
+        None => None,
+    }
+}
+
 // A property of this key and this text.
 fn keyed(alloc: Global, key: &[u8], text: ShortString) -> Result<Setting, NoMemory>
     requires { length key.now < 256 }
@@ -288,6 +304,7 @@ pub struct Progress {
     has_delays: bool,
     has_provider: bool,
     has_listen: bool,
+    has_limit: bool,
     has_step: bool,
 }
 
@@ -312,6 +329,7 @@ impl Model for Progress {
       has_delays = p.has_delays;
       has_provider = p.has_provider;
       has_listen = p.has_listen;
+      has_limit = p.has_limit;
       has_step = p.has_step;
     } };
 }
@@ -335,6 +353,7 @@ impl Progress {
                 has_delays: false,
                 has_provider: false,
                 has_listen: false,
+                has_limit: false,
                 has_step: false,
             }),
             Err(e) => {
@@ -390,6 +409,7 @@ impl Progress {
             Setting::Delays(delays) => Ok(Some(self.with_delays(delays))),
             Setting::Provider => Ok(Some(self.with_provider())),
             Setting::Listen => Ok(Some(self.with_listen())),
+            Setting::Limit(octets) => Ok(Some(self.with_limit(octets))),
         }
     }
 
@@ -407,6 +427,7 @@ impl Progress {
             Setting::Delays(_) => !(self.has_step || self.has_delays),
             Setting::Provider => self.is_handed && !(self.has_step || self.has_provider),
             Setting::Listen => !(self.has_step || self.has_listen),
+            Setting::Limit(_) => !(self.has_step || self.has_limit),
         }
     }
 
@@ -425,6 +446,7 @@ impl Progress {
             has_delays: self.has_delays,
             has_provider: self.has_provider,
             has_listen: self.has_listen,
+            has_limit: self.has_limit,
             has_step: self.has_step,
         }
     }
@@ -495,6 +517,16 @@ impl Progress {
     {
         Progress {
             has_listen: true,
+            ..self
+        }
+    }
+
+    fn with_limit(self, octets: u64) -> Progress
+        ensures { result ≡ after_setting (Limit octets) self }
+    {
+        Progress {
+            options: self.options.with_outbox_limit(octets),
+            has_limit: true,
             ..self
         }
     }

@@ -1,9 +1,9 @@
 //! A reader as a source, and a writer as a sink. They tell nothing. What a signal interrupts is made
 //! again.
 
-ghost use Rattle.std.specs.Prelude.{◌≡◌, ◌≤◌, None};
+ghost use Rattle.std.specs.Prelude.{◌≡◌, None};
 ghost use Rattle.std.specs.Io.{ReadsAtMost, WritesAtMost};
-ghost use Rattle.amqp_types.specs.Counts.{Rose};
+ghost use Rattle.amqp_replay.specs.Ends.{FailedOnce};
 
 use crate::ends::{Gave, Put, Sink, Source};
 use std::alloc::Global;

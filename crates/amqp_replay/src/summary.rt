@@ -10,16 +10,10 @@ use amqp_engine::{IoLoop, ScriptedPort};
 use amqp_session::Answer;
 use amqp_types::NoMemory;
 
-/// The summary of an engine over its port. It takes the answers to the promises.
-pub fn put_summary<P: ScriptedPort>(
-    out: &mut String,
-    engine: &mut IoLoop,
-    port: &P,
-) -> Result<(), NoMemory>
-    ensures { OnOk result (string_bytes out.new
-        ≡ string_bytes out.old ++ summary (P.links_taken port.now) engine.old.talk) }
+/// The summary of an engine that sent so many bytes. It takes the answers to the promises.
+pub fn put_summary(out: &mut String, sent: u64, engine: &mut IoLoop) -> Result<(), NoMemory>
+    ensures { OnOk result (string_bytes out.new ≡ string_bytes out.old ++ summary sent engine.old.talk) }
 {
-    let sent = first_len(port);
     let answered = count_ok(engine);
     put_sent(out, sent)?;
     put_answered(out, answered)?;
@@ -31,7 +25,7 @@ pub fn put_summary<P: ScriptedPort>(
 }
 
 // How many bytes were sent.
-fn put_sent(out: &mut String, sent: usize) -> Result<(), NoMemory>
+fn put_sent(out: &mut String, sent: u64) -> Result<(), NoMemory>
     ensures { OnOk result (string_bytes out.new ≡ string_bytes out.old ++ sent_text sent) }
 {
     write!(out, "# sent {sent} bytes, ")?;
@@ -46,15 +40,15 @@ fn put_answered(out: &mut String, answered: u64) -> Result<(), NoMemory>
     Ok(())
 }
 
-// How many bytes the first link took.
-fn first_len<P: ScriptedPort>(port: &P) -> usize
+/// How many bytes the first link took.
+pub fn first_len<P: ScriptedPort>(port: &P) -> u64
     ensures { result ≡ first_len (P.links_taken port.now) }
 {
     let count = port.links();
     if count == 0 {
         return 0;
     }
-    port.link(0).len()
+    port.link(0).len() as u64
 }
 
 // How many promises were answered, and not with an error. It takes their answers.

@@ -1,11 +1,13 @@
 //! Reading all of a source, and writing all to a sink.
 
-ghost use Rattle.std.specs.Prelude.{◌≡◌, ◌≤◌, ◌<◌, ◌+◌, ◌++◌, [], length, drop, option_map, IfOk, IfSome, OnOk, OnErr, take};
-ghost use Rattle.amqp_types.specs.Counts.{Rose};
-ghost use Rattle.amqp_replay.specs.Top.{TookAll, TookFront};
+ghost use Rattle.std.specs.Prelude.{◌≡◌, ◌≢◌, ◌⊎◌, ◌≤◌, ◌<◌, ◌+◌, ◌++◌, [], length, drop, option_map, Err, IfOk, IfSome, OnOk, OnErr, take};
+ghost use Rattle.amqp_replay.specs.Ends.{FailedOnce};
+ghost use Rattle.amqp_replay.specs.Top.{TookAll, TookFront, Prints};
 
 use crate::ends::{Gave, Put, Sink, Source};
 use crate::limits::MOST_READ;
+use crate::report::Printout;
+use crate::status::SINK_FAILED;
 use std::alloc::{AllocError, Global};
 
 // How many bytes are asked for at once.
@@ -32,8 +34,8 @@ impl From<AllocError> for ReadFault {
 /// Reads a source to its end, or as much of it as is ever read.
 pub fn read_all<S: Source>(alloc: Global, source: &mut S) -> Result<Vec<u8>, ReadFault>
     ensures text { IfOk result (λ text. IfSome (S.left source.old) (λ all. text.items ≡ take MOST_READ all)) }
-    ensures cause { result ≡ Err ReadFault.SourceFailed → Rose (S.faults source.old) (S.faults source.new) }
-    ensures faults { S.faults source.old ≤ S.faults source.new }
+    ensures cause { result ≡ Err ReadFault.SourceFailed → FailedOnce (S.faults source.old) (S.faults source.new) }
+    ensures kept { result ≢ Err ReadFault.SourceFailed → S.faults source.new ≡ S.faults source.old }
 {
     let mut block = vec![in alloc; 0; BLOCK]?;
     read_by(alloc, source, &mut block)
@@ -43,8 +45,8 @@ pub fn read_all<S: Source>(alloc: Global, source: &mut S) -> Result<Vec<u8>, Rea
 fn read_by<S: Source>(alloc: Global, source: &mut S, block: &mut [u8]) -> Result<Vec<u8>, ReadFault>
     requires { 0 < length block.old }
     ensures text { IfOk result (λ text. IfSome (S.left source.old) (λ all. text.items ≡ take MOST_READ all)) }
-    ensures cause { result ≡ Err ReadFault.SourceFailed → Rose (S.faults source.old) (S.faults source.new) }
-    ensures faults { S.faults source.old ≤ S.faults source.new }
+    ensures cause { result ≡ Err ReadFault.SourceFailed → FailedOnce (S.faults source.old) (S.faults source.new) }
+    ensures kept { result ≢ Err ReadFault.SourceFailed → S.faults source.new ≡ S.faults source.old }
 {
     let mut text = Vec::new(alloc);
     'pieces: while text.len() < MOST_READ {
@@ -70,8 +72,8 @@ fn read_piece<S: Source>(
         text.new.items ≡ text.old.items ++ take n rest)) }
     ensures len { IfOk result (λ n. length text.new.items ≡ length text.old.items + n) }
     ensures end { IfOk result (λ n. n ≡ 0 → IfSome (S.left source.old) (λ rest. rest ≡ [])) }
-    ensures cause { result ≡ Err ReadFault.SourceFailed → Rose (S.faults source.old) (S.faults source.new) }
-    ensures faults { S.faults source.old ≤ S.faults source.new }
+    ensures cause { result ≡ Err ReadFault.SourceFailed → FailedOnce (S.faults source.old) (S.faults source.new) }
+    ensures kept { result ≢ Err ReadFault.SourceFailed → S.faults source.new ≡ S.faults source.old }
 {
     match source.read(block) {
         Gave::Failed => Err(ReadFault::SourceFailed),
@@ -90,7 +92,8 @@ pub struct SinkFailed;
 pub fn write_all<K: Sink>(sink: &mut K, bytes: &[u8]) -> Result<(), SinkFailed>
     ensures ok { OnOk result (TookAll bytes.now (K.held sink.old) (K.held sink.new)) }
     ensures err { OnErr result (TookFront bytes.now (K.held sink.old) (K.held sink.new)) }
-    ensures cause { OnErr result (Rose (K.faults sink.old) (K.faults sink.new)) }
+    ensures cause { OnErr result (FailedOnce (K.faults sink.old) (K.faults sink.new)) }
+    ensures kept { OnOk result (K.faults sink.new ≡ K.faults sink.old) }
 {
     let mut at = 0;
     'writes: while at < bytes.len() {
@@ -100,4 +103,19 @@ pub fn write_all<K: Sink>(sink: &mut K, bytes: &[u8]) -> Result<(), SinkFailed>
         }
     }
     Ok(())
+}
+
+/// Writes what is printed, and gives its status, or that of a sink that failed.
+pub fn put_printout<K: Sink>(sink: &mut K, printout: Printout) -> u8
+    ensures prints { Prints printout (K.held sink.old) (K.held sink.new) result }
+    ensures cause { (result ≡ printout.status) ⊎ FailedOnce (K.faults sink.old) (K.faults sink.new) }
+    ensures kept { result ≢ SINK_FAILED → K.faults sink.new ≡ K.faults sink.old }
+{
+    let status = printout.status();
+    let written = write_all(sink, printout.as_bytes());
+    drop(printout);
+    match written {
+        Ok(()) => status,
+        Err(SinkFailed) => SINK_FAILED,
+    }
 }

@@ -1,10 +1,12 @@
 //! Replays a script of a connection over a port in memory, and prints a report; or generates a script,
-//! and prints it with a summary. A script may say `provider handed`: the client then logs in by tokens.
+//! and prints it with a summary; or checks a capture of a link, and prints the verdict. A script may say
+//! `provider handed`: the client then logs in by tokens.
 #![tactic(auto)]
 
 use amqp_engine::MemoryPort;
-use amqp_replay::status::{NO_MEMORY, REFUSED, SINK_FAILED, SOURCE_FAILED, USAGE};
-use amqp_replay::top::top;
+use amqp_program::top::top;
+use amqp_program::{Asked, asked_by, explain};
+use amqp_replay::status::{FAILED, NO_MEMORY, REFUSED, SINK_FAILED, SOURCE_FAILED, USAGE};
 use amqp_replay::{Reading, Writing, ended_at};
 use amqp_session::{DefaultTokenProvider, Refusal, TokenAuthProvider};
 use amqp_types::{LongString, NoMemory, Text};
@@ -13,7 +15,7 @@ use std::env;
 use std::io::{self, ErrorKind};
 use std::process::ExitCode;
 
-const USAGE_TEXT: &str = "usage: amqp_script replay | generate N";
+const USAGE_TEXT: &str = "usage: amqp_script replay | generate N | check";
 
 /// Which page says what a script may have, and what is printed.
 const PAGE_TEXT: &str = "docs/SCRIPTS.md says what a script may have, and what is printed";
@@ -50,9 +52,40 @@ fn new_token(alloc: Global) -> Result<LongString, Refusal> {
     }
 }
 
-// The status, and the line of the script at which the session ended with an error, where its text
-// was kept.
-fn replay(rt: &HostRuntime) -> Result<(u8, Option<u64>), NoMemory> {
+// What standard error says of an end with an error.
+#[derive(Drop)]
+enum Said {
+    Nothing,
+    /// The line of a script at which its session ended.
+    Line(u64),
+    /// What is wrong with a capture.
+    Capture(String),
+}
+
+// What is said of the text that was read, after so many steps of it, where a status was answered to what
+// was asked.
+fn explained(
+    alloc: Global,
+    asked: Option<Asked>,
+    status: u8,
+    text: &[u8],
+    told: u64,
+) -> Result<Said, NoMemory> {
+    match asked {
+        Some(Asked::Replay) => Ok(match ended_at(status, text, told) {
+            Some(line) => Said::Line(line),
+            None => Said::Nothing,
+        }),
+        Some(Asked::Check) if status == FAILED => Ok(match explain(alloc, text)? {
+            Some(lines) => Said::Capture(lines),
+            None => Said::Nothing,
+        }),
+        _ => Ok(Said::Nothing),
+    }
+}
+
+// The status, and what is said of it, where the text that was read was kept.
+fn answer(rt: &HostRuntime) -> Result<(u8, Said), NoMemory> {
     let alloc = rt.alloc();
     let words = words_given(rt)?;
     let mut port = MemoryPort::new(alloc, Vec::new(alloc))?;
@@ -65,16 +98,17 @@ fn replay(rt: &HostRuntime) -> Result<(u8, Option<u64>), NoMemory> {
     );
     let handed = Some(TokenAuthProvider::new(alloc, tokens));
     let status = top(alloc, &words, &mut source, &mut sink, &mut port, handed);
-    let line = match source.text() {
-        Some(text) => ended_at(status, text, port.told()),
-        None => None,
-    };
-    Ok((status, line))
+    let text = source.text().unwrap_or(&[]);
+    // The status tells it where no memory is left for more.
+    let said = explained(alloc, asked_by(&words), status, text, port.told()).unwrap_or(
+        Said::Nothing,
+    );
+    Ok((status, said))
 }
 
 // Says why nothing more is printed, where an error came, or which page to read.
-fn note(rt: &HostRuntime, status: u8, line: Option<u64>) -> io::Result<()> {
-    match (status, line) {
+fn note(rt: &HostRuntime, status: u8, said: Said) -> io::Result<()> {
+    match (status, said) {
         (USAGE, _) => {
             rt.eprintln(USAGE_TEXT)?;
             rt.eprintln(PAGE_TEXT)
@@ -83,14 +117,15 @@ fn note(rt: &HostRuntime, status: u8, line: Option<u64>) -> io::Result<()> {
         (SOURCE_FAILED, _) => rt.eprintln("standard input failed"),
         (SINK_FAILED, _) => rt.eprintln("standard output failed"),
         (NO_MEMORY, _) => rt.eprintln("out of memory"),
-        (_, Some(line)) => eprintln!(rt; "the session ended with an error at line {line}"),
-        (_, None) => Ok(()),
+        (_, Said::Line(line)) => { eprintln!(rt; "the session ended with an error at line {line}") }
+        (_, Said::Capture(lines)) => rt.eprintln(&lines),
+        (_, Said::Nothing) => Ok(()),
     }
 }
 
 fn main(rt: HostRuntime) -> ExitCode {
-    let (status, line) = replay(&rt).unwrap_or((NO_MEMORY, None));
+    let (status, said) = answer(&rt).unwrap_or((NO_MEMORY, Said::Nothing));
     // The status tells it where standard error does not take it.
-    let _ = note(&rt, status, line);
+    let _ = note(&rt, status, said);
     ExitCode::from(status)
 }

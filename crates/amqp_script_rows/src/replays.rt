@@ -2,7 +2,7 @@
 
 use crate::rows::Row;
 use amqp_engine::MemoryPort;
-use amqp_replay::top::top;
+use amqp_program::top::top;
 use amqp_replay::{MemorySink, MemorySource};
 use amqp_session::{DefaultTokenProvider, Refusal, TokenAuthProvider};
 use amqp_types::{LongString, NoMemory, Text};

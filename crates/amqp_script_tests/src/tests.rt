@@ -1,6 +1,7 @@
 //! What is expected stands in the standard and in scripts that were worked out by hand, never in what
 //! this program printed.
 
+mod checking;
 mod computed;
 mod ends;
 mod generating;

@@ -18,7 +18,7 @@ pub ascend-below : (m k : ℕ) (ks : List ℕ) → m ≤ k → AscendFrom k ks �
 ascend-below m k [] le h = tt
 ascend-below m k (x ∷ ks) le h = (omega (arith, le, h.0), h.1)
 
-ascend-from : (m : ℕ) (ks : List ℕ) → AscendFrom m ks → Ascend ks
+pub ascend-from : (m : ℕ) (ks : List ℕ) → AscendFrom m ks → Ascend ks
 ascend-from m [] h = tt
 ascend-from m (k ∷ ks) h = h.1
 

@@ -14,7 +14,7 @@ use Rattle.amqp_frame.specs.Frames.{encoding}
 use Rattle.amqp_frame.specs.RawMethods.{OtherMethod, spell_raw_method}
 use Rattle.amqp_session.specs.Talk.{Talk}
 use Rattle.amqp_session.specs.Publishing.{content_header, cut, body_pieces, publish_frames}
-use Rattle.amqp_session.specs.Commands.{too_long, unless_too_long, body_limit, queue_publish, publish}
+use Rattle.amqp_session.specs.Commands.{too_long, unless_too_long, too_full, unless_full, body_limit, queue_publish, publish}
 
 -- ---- pieces
 
@@ -103,17 +103,17 @@ module _ (n : ℕ) (m : OtherMethod) (properties body : List ℕ) (t : Talk) (me
   same-frames : made method header ≡ publish_frames n m properties body (body_limit t)
   same-frames = ap (λ p. made p header) is_method ∙ ap (λ h. made (spell_raw_method m) h) is_header
 
-  -- a publish none of whose frames is too long is queued
+  -- a publish none of whose frames is too long is queued, unless too many octets would wait
   pub publish-fits : 8 ≤ t.capacity → length (encoding (Raw n RawMethod method)) ≤ t.capacity → length (encoding (Raw n Header header)) ≤ t.capacity
-      → publish n m properties body t ≡ queue_publish n (made method header) t
+      → publish n m properties body t ≡ unless_full (too_full (made method header) t) (queue_publish n (made method header)) t
   publish-fits large first second =
       let room : body_limit t + 8 ≤ t.capacity = omega (arith, large) in
       let none : too_long (made method header) t ≡ None =
       none-long t.capacity (Raw n RawMethod method) (Raw n Header header ∷ map (Raw n Body) (body_pieces (body_limit t) body)) first
       (none-long t.capacity (Raw n Header header) (map (Raw n Body) (body_pieces (body_limit t) body)) second
       (bodies-fit (length body) (body_limit t) n t.capacity body room)) in
-      ap (λ frames. unless_too_long (too_long frames t) (queue_publish n frames) t) (sym same-frames)
-      ∙ ap (λ o. unless_too_long o (queue_publish n (made method header)) t) none
+      ap (λ frames. unless_too_long (too_long frames t) (unless_full (too_full frames t) (queue_publish n frames)) t) (sym same-frames)
+      ∙ ap (λ o. unless_too_long o (unless_full (too_full (made method header) t) (queue_publish n (made method header))) t) none
 
 -- ---- one of two
 

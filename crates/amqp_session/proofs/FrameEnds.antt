@@ -20,16 +20,16 @@ use Rattle.amqp_session.specs.declared.state.Phase.TheVariants.{AwaitStart, Awai
 use Rattle.amqp_session.specs.declared.misread.Misread.{Misread}
 use Rattle.amqp_promise.specs.declared.error.ErrorKind.{ErrorKind}
 use Rattle.amqp_promise.specs.declared.error.ErrorKind.TheVariants.{InvalidProtocolVersion, InvalidChannel, InvalidConnectionState, AuthProviderError}
-use Rattle.amqp_session.specs.declared.auth.asked.Question.TheVariants as question
-use Rattle.amqp_session.specs.declared.auth.asked.Asked.{Asked}
-use Rattle.amqp_session.specs.declared.auth.asked.Asked.TheVariants as answer
+use Rattle.amqp_auth.specs.declared.asked.Question.TheVariants as question
+use Rattle.amqp_auth.specs.declared.asked.Asked.{Asked}
+use Rattle.amqp_auth.specs.declared.asked.Asked.TheVariants as answer
 use Rattle.amqp_session.specs.Talk.{Talk, hears_on, is_open, is_closing, acts, end_of}
 use Rattle.amqp_session.specs.Changes.{lose, misplaced}
 use Rattle.amqp_session.specs.Links.{misread, dropped}
 use Rattle.amqp_session.specs.Violations.{channel_closed_with, misread_error, stray_channel_frame, stray_connection_method, unawaited}
 use Rattle.amqp_session.specs.ConnectionMethods.{connected, connection_rule, connection_closed, secret_taken, on_start, on_secure, on_open_ok}
 use Rattle.amqp_session.specs.Channels.{channel_at}
-use Rattle.amqp_session.specs.ChannelMethods.{heard_on, unawaited_channel_method, channel_opened, channel_closed, channel_flowed, channel_close_by, awaits_close_ok, remove_unless_owed, on_channel_flow, channel_rule, channel_method_by, channel_method, hand_out, confirmed, is_select_ok, pass_through, raw_by}
+use Rattle.amqp_session.specs.ChannelMethods.{heard_on, unawaited_channel_method, channel_opened, channel_closed, channel_flowed, channel_close_by, closed_by_server, crossing_close, remove_unless_owed, on_channel_flow, channel_rule, channel_method_by, channel_method, hand_out, confirmed, is_select_ok, pass_through, raw_by}
 use Rattle.amqp_frame.specs.Methods.{is_of_a_channel}
 use Rattle.amqp_session.specs.Frames.{method_questions, method_rule, frame_rule, closed_rule, on_frame}
 use Rattle.amqp_session.specs.Causes.{IsFrameError, is_awaited, is_due, is_secret_told, refused_in}
@@ -68,18 +68,18 @@ brings-opened P n c None t p = brings-unawaited P n c.state ChannelOpenOk t (p r
 brings-opened P n c (Some promise) t p = brings-kept P t (channel_opened n c (Some promise) t) refl refl
 
 -- a channel that goes ends nothing
-end-owed : (d : Debt) (n : ℕ) (t : Talk) → end_of (remove_unless_owed d n t) ≡ end_of t
-end-owed debt.Owed n t = refl
-end-owed _ n t = refl
+end-owed : (d : Debt) (n : ℕ) (c : Channel) (t : Talk) → end_of (remove_unless_owed d n c t) ≡ end_of t
+end-owed debt.Owed n c t = refl
+end-owed _ n c t = refl
 
-state-owed : (d : Debt) (n : ℕ) (t : Talk) → (remove_unless_owed d n t).state ≡ t.state
-state-owed debt.Owed n t = refl
-state-owed _ n t = refl
+state-owed : (d : Debt) (n : ℕ) (c : Channel) (t : Talk) → (remove_unless_owed d n c t).state ≡ t.state
+state-owed debt.Owed n c t = refl
+state-owed _ n c t = refl
 
 brings-closed : (P : ErrorKind → Type 0) (n : ℕ) (c : Channel) (a : Option (Option ℕ)) (t : Talk)
     → (is_some a ≡ false → c.state ≢ channel.Closing → P (unawaited ChannelCloseOk n)) → Brings P t (channel_closed n c a t)
 brings-closed P n c None t p = brings-unawaited P n c.state ChannelCloseOk t (p refl)
-brings-closed P n c (Some promise) t p = brings-kept P t (channel_closed n c (Some promise) t) (end-owed c.debt n _) (state-owed c.debt n _)
+brings-closed P n c (Some promise) t p = brings-kept P t (channel_closed n c (Some promise) t) (end-owed c.debt n c _) (state-owed c.debt n c _)
 
 brings-flow : (P : ErrorKind → Type 0) (s : ChannelState) (n : ℕ) (c : Channel) (active : Bool) (t : Talk) → Brings P t (on_channel_flow s n c active t)
 brings-flow P channel.Closing n c active t = brings-none P t
@@ -90,10 +90,10 @@ brings-flowed : (P : ErrorKind → Type 0) (n : ℕ) (c : Channel) (active : Boo
 brings-flowed P n c active None t p = brings-unawaited P n c.state (ChannelFlowOk active) t (p refl)
 brings-flowed P n c active (Some promise) t p = brings-kept P t (channel_flowed n c active (Some promise) t) refl refl
 
-brings-server-close : (P : ErrorKind → Type 0) (d : Debt) (awaits : Bool) (n : ℕ) (e : ErrorKind) (c : Channel) (t : Talk) → Brings P t (channel_close_by d awaits n e c t)
-brings-server-close P debt.Nothing false n e c t = brings-kept P t _ refl refl
-brings-server-close P debt.Nothing true n e c t = brings-kept P t _ refl refl
-brings-server-close P _ awaits n e c t = brings-none P t
+brings-server-close : (P : ErrorKind → Type 0) (d : Debt) (n : ℕ) (e : ErrorKind) (c : Channel) (t : Talk) → Brings P t (channel_close_by d n e c t)
+brings-server-close P debt.Nothing n e c t =
+    if_case (Brings P t) c.awaits_close_ok (crossing_close n e c t) (closed_by_server n e c t) (brings-kept P t _ refl refl) (brings-kept P t _ refl refl)
+brings-server-close P _ n e c t = brings-none P t
 
 brings-connection-closed : (P : ErrorKind → Type 0) (a : Option (Option ℕ)) (t : Talk) → Brings P t (connection_closed a t)
 brings-connection-closed P None t = brings-other P t _ (ends-ok P t _ refl) (λ h. cc)
@@ -149,7 +149,7 @@ brings-channel P Closing n c m t p = brings-none P t
 brings-channel P _ n c ChannelOpenOk t p = brings-opened P n c (awaited_promise n ChannelOpened t.outbox) t (p refl)
 brings-channel P _ n c ChannelCloseOk t p = brings-closed P n c (awaited_promise n ChannelClosed t.outbox) t (p refl)
 brings-channel P _ n c (ChannelClose code text class method) t p =
-    brings-server-close P c.debt (awaits_close_ok n t) n (channel_closed_with code text) c t
+    brings-server-close P c.debt n (channel_closed_with code text) c t
 brings-channel P _ n c (ChannelFlow active) t p = brings-flow P c.state n c active t
 brings-channel P _ n c (ChannelFlowOk active) t p = brings-flowed P n c active (awaited_promise n FlowDone t.outbox) t (p refl)
 brings-channel P _ n c m t p = brings-unawaited P n c.state m t (p refl refl)
@@ -162,11 +162,11 @@ brings-channel-by P None n m t none p = brings-misplaced P (InvalidChannel n) t 
 brings-channel-by P (Some c) n m t none p = brings-channel P t.state n c m t (p c refl)
 
 -- a frame is heard on a listed channel, and not while Connecting
-none-heard : (s : ConnectionState) (o : Option Channel) → heard_on s o ≡ None → (o ≡ None) ⊎ (s ≡ Connecting)
+pub none-heard : (s : ConnectionState) (o : Option Channel) → heard_on s o ≡ None → (o ≡ None) ⊎ (s ≡ Connecting)
 none-heard Connecting o h = inr refl
 none-heard _ o h = inl h
 
-some-heard : (s : ConnectionState) (o : Option Channel) (c : Channel) → heard_on s o ≡ Some c → (s ≢ Connecting) × (o ≡ Some c)
+pub some-heard : (s : ConnectionState) (o : Option Channel) (c : Channel) → heard_on s o ≡ Some c → (s ≢ Connecting) × (o ≡ Some c)
 some-heard Connecting o c h = cc
 some-heard _ o c h = (λ e. cc, h)
 

@@ -1,7 +1,7 @@
 -- What the provider answers to a rule, by cases.
 use Rattle.std.proofs.Common.{◌≡◌, ℕ, List, ◌∷◌, true, Result}
-use Rattle.amqp_session.specs.declared.auth.asked.Asked.{Asked}
-use Rattle.amqp_session.specs.declared.auth.asked.Asked.TheVariants as answer
+use Rattle.amqp_auth.specs.declared.asked.Asked.{Asked}
+use Rattle.amqp_auth.specs.declared.asked.Asked.TheVariants as answer
 use Rattle.amqp_session.specs.Talk.{Talk}
 use Rattle.amqp_session.specs.ConnectionMethods.{started, on_start, challenged, on_secure}
 use Rattle.amqp_session.specs.Ticks.{asks_validity, has_expired, refreshed, refresh, validity_told, secret_due}

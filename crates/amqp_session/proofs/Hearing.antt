@@ -1,16 +1,16 @@
 -- What comes of answers: the rule is done with them, or memory was refused.
-use Rattle.std.proofs.Common.{◌≡◌, ◌≤◌, ◌∙◌, sym, ap, subst, refl, true≢false, ℕ, zero, suc, length, List, [], ◌∷◌, ◌++◌, append-nil, Bool, true, false, if◌then◌else◌, Option, Some, None, Result, arith}
+use Rattle.std.proofs.Common.{◌≡◌, ◌∙◌, sym, ap, subst, refl, true≢false, ℕ, zero, suc, take, length, List, [], ◌∷◌, ◌++◌, append-nil, Bool, true, false, if◌then◌else◌, Option, Some, None, Result}
 use Rattle.amqp_frame.specs.declared.frame.Frame.TheVariants.{ProtocolHeader, Method, Raw, Heartbeat}
 use Rattle.amqp_outbox.specs.Queued.{Queued}
-use Rattle.amqp_session.specs.declared.auth.asked.Question.{Question}
-use Rattle.amqp_session.specs.declared.auth.asked.Asked.{Asked}
-use Rattle.amqp_session.specs.declared.auth.asked.Asked.TheVariants as answer
+use Rattle.amqp_auth.specs.declared.asked.Question.{Question}
+use Rattle.amqp_auth.specs.declared.asked.Asked.{Asked}
+use Rattle.amqp_auth.specs.declared.asked.Asked.TheVariants as answer
 use Rattle.amqp_promise.specs.declared.error.ErrorKind.TheVariants.{MissingHeartbeatError}
 use Rattle.amqp_frame.specs.declared.frame.Frame.{Frame}
 use Rattle.amqp_frame.specs.declared.frame.RawKind.TheVariants.{RawMethod}
 use Rattle.amqp_frame.specs.declared.method.Method.{Method as AnyMethod}
 use Rattle.amqp_frame.specs.declared.method.Method.TheVariants.{Start, Secure, Tune, OpenOk, Close, CloseOk, Blocked, Unblocked, UpdateSecretOk}
-use Rattle.amqp_session.specs.declared.auth.asked.Question.TheVariants as question
+use Rattle.amqp_auth.specs.declared.asked.Question.TheVariants as question
 use Rattle.amqp_promise.specs.declared.state.ConnectionState.{ConnectionState}
 use Rattle.amqp_promise.specs.declared.state.ConnectionState.TheVariants.{Connecting, Connected, Closing}
 use Rattle.amqp_session.specs.declared.state.Phase.{Phase}
@@ -21,17 +21,19 @@ use Rattle.amqp_session.specs.ConnectionMethods.{on_start, on_secure, connection
 use Rattle.amqp_frame.specs.Methods.{is_of_a_channel}
 use Rattle.amqp_session.specs.Frames.{method_questions, questions_in, frame_questions, frame_rule, closed_rule, on_frame}
 use Rattle.amqp_session.specs.Changes.{queue, lose, misplaced}
-use Rattle.amqp_session.specs.Providers.{Exchange, Allows}
-use Rattle.amqp_session.specs.Asking.{paired, Answer, Asks, Hears, Starves}
+use Rattle.amqp_auth.specs.Providers.{Exchange, Allows}
+use Rattle.amqp_auth.specs.Asking.{paired, Answer, Asks}
+use Rattle.amqp_session.specs.Asking.{Hears, Starves}
 use Rattle.amqp_session.specs.Ticks.{is_heartbeat_due, is_missed, missing_heartbeat, heartbeat_due, beat, asks_validity, has_expired, refreshed, refresh, refresh_questions, validity_told, secret_due, secret_questions, link_due, tick, tick_questions}
 use Rattle.amqp_types.proofs.Small.{if_case, if-true, if-false}
 use Rattle.amqp_session.proofs.Recovering.{lose-case}
 
-answers-length : (asked : List Question) (answers : List Asked) → Answer asked answers → length answers ≤ length asked
-answers-length [] [] h = omega arith
-answers-length (a ∷ qs) (b ∷ bs) h = (let k = answers-length qs bs h.1 in omega (arith, k))
-answers-length [] (b ∷ bs) h = absurd h
-answers-length (a ∷ qs) [] h = absurd h
+-- each answer answers its question, and there is no question beside
+answers-front : (asked : List Question) (answers : List Asked) → Answer asked answers → Answer (take (length answers) asked) answers
+answers-front [] [] h = tt
+answers-front (a ∷ qs) (b ∷ bs) h = (h.0, answers-front qs bs h.1)
+answers-front [] (b ∷ bs) h = absurd h
+answers-front (a ∷ qs) [] h = absurd h
 
 -- all was answered, and then memory was refused
 pub asked-all : (asked : List Asked → Talk → List Question) (answers : List Asked) (before after : Exchange → Type 0) (t : Talk) (list list' : List Asked)
@@ -40,7 +42,7 @@ asked-all asked answers before after t list list' a =
     record {
       answers = answers;
       listed = a.listed;
-      within = answers-length (asked answers t) answers a.all;
+      fits = answers-front (asked answers t) answers a.all;
       allowed = subst (Allows before) (append-nil (paired (asked answers t) answers)) (a.allowed [] tt);
     }
 
@@ -127,7 +129,7 @@ tick-starved before t list list' heard s =
     record {
       answers = s.answers;
       listed = s.listed;
-      within = subst (λ (q : List Question). length s.answers ≤ length q) (sym asked) s.within;
+      fits = subst (λ (q : List Question). Answer (take (length s.answers) q) s.answers) (sym asked) s.fits;
       allowed = subst (λ (q : List Question). Allows before (paired q s.answers)) (sym asked) s.allowed;
     }
 

@@ -30,7 +30,7 @@ use Rattle.amqp_session.specs.declared.command.Answer.TheVariants.{Done}
 use Rattle.amqp_promise.specs.declared.error.ErrorKind.{ErrorKind}
 use Rattle.amqp_promise.specs.declared.error.ErrorKind.TheVariants.{InvalidProtocolVersion, InvalidConnectionState, AuthProviderError, ProtocolError, NoMemory, IOError, MissingHeartbeatError}
 use Rattle.amqp_promise.specs.declared.io_fault.IoFault.TheVariants.{Refused}
-use Rattle.amqp_session.specs.declared.auth.asked.Asked.{Asked as ProviderAnswer}
+use Rattle.amqp_auth.specs.declared.asked.Asked.{Asked as ProviderAnswer}
 use Rattle.amqp_session.specs.Events.{Noted}
 use Rattle.amqp_session.specs.Talk.{Talk, has_ended, hears_on, is_open, is_open_link, is_asked, is_asked_link, acts, end_of_link}
 use Rattle.amqp_session.specs.Changes.{Promises, present_at, queue, give_to, tell_owed, fail, lose, misplaced, close, finish, finish_by, starve}
@@ -39,17 +39,18 @@ use Rattle.amqp_session.specs.Links.{lost, misread, refused_after, link_failed}
 use Rattle.amqp_session.specs.Violations.{stray_channel_frame}
 use Rattle.amqp_session.specs.ConnectionMethods.{connected, reopen, reopen_each, connection_rule, connection_closed, secret_taken, started, challenged}
 use Rattle.amqp_session.specs.Channels.{channel_at}
-use Rattle.amqp_session.specs.ChannelMethods.{awaits_close_ok}
 use Rattle.amqp_session.specs.Frames.{method_rule, frame_rule, closed_rule, on_frame}
 use Rattle.amqp_frame.specs.Methods.{is_of_a_channel}
 use Rattle.amqp_session.specs.Commands.{command}
 use Rattle.amqp_session.specs.Ticks.{is_connected, beats, is_missed, is_heartbeat_due, missing_heartbeat, beat, asks_validity, refreshed, link_at, link_due, timed, tick}
-use Rattle.amqp_session.specs.Writing.{left_in, paid_by, pay, follow, sent, sent_among, taken}
+use Rattle.amqp_session.specs.declared.channels.Debt.TheVariants as debt
+use Rattle.amqp_session.specs.Listed.{put, without}
+use Rattle.amqp_session.specs.Writing.{left_in, pay, follow, sent, sent_among, taken}
 use Rattle.amqp_session.specs.Negotiation.{grown_capacity}
 use Rattle.amqp_session.specs.Parts.{is_opening_frame, capacity_after}
 use Rattle.amqp_session.proofs.Heard.{start-case, secure-case, secret-case}
 use Rattle.amqp_session.proofs.Walk as walk
-use Rattle.amqp_session.proofs.Walk.{ChannelRows, PassedRows, CommandRows, misplaced-keeps, misread-keeps, channel-method-keeps, raw-keeps, command-keeps}
+use Rattle.amqp_session.proofs.Walk.{ChannelRows, PassedRows, CommandRows, misplaced-keeps, misread-keeps, channel-method-keeps, raw-keeps, command-keeps, pay-case}
 use Rattle.amqp_types.proofs.Small.{if_case, if_by, if-true, if-false, and-false, and-true}
 use Rattle.amqp_session.proofs.Recovering.{lose-by, lose-keeps, recovers-open}
 
@@ -257,6 +258,7 @@ keeps-channels octets t = record {
   lost = keeps-lost octets t;
   opened = λ n c promise u is. keeps-same-held octets t u _ refl;
   closed = λ n promise u is. keeps-same-held octets t u _ refl;
+  answered = λ n c u. keeps-same-held octets t u _ refl;
   removed = λ n u. keeps-same-held octets t u _ refl;
   flow = λ n c active u. keeps-same-held octets t u _ refl;
   flowed = λ n c active promise u is. keeps-same-held octets t u _ refl;
@@ -556,12 +558,10 @@ left_after (m ∷ ms) n = if nat_le m.left n then left_after ms (n - m.left) els
 -- what does not look at the channels, and at what is kept for those who listen, is the same once a close-ok of one was sent
 pub pay-keeps : {A : Type 0} (f : Talk → A) → ((t : Talk) (cs : List (ℕ × Channel)) (ns : Noted) → f (record t { channels = cs; noted = ns }) ≡ f t)
     → (o : Option Channel) (n : ℕ) (t : Talk) → f (pay o n t) ≡ f t
-pay-keeps f h None n t = refl
-pay-keeps f h (Some c) n t = by (awaits_close_ok n t)
-  where
-    by : (b : Bool) → f (paid_by b n c (tell_owed n t)) ≡ f t
-    by true = h t _ _
-    by false = h t _ _
+pay-keeps f h o n t =
+    pay-case (λ (x : Talk). f x ≡ f t) o n t (λ is. refl) (λ c is unowed. refl)
+    (λ c is owes awaits. h t (put n (record c { debt = debt.Paid }) t.channels) (tell_owed n t).noted)
+    (λ c is owes left. h t (without n t.channels) (tell_owed n t).noted)
 
 pub follow-keeps : {A : Type 0} (f : Talk → A) → OverlooksLosses f → (th : Then) (t : Talk) → f (follow th t) ≡ f t
 follow-keeps f h Nothing t = refl

@@ -11,7 +11,7 @@ use Rattle.amqp_session.specs.declared.misread.Misread.{Misread}
 use Rattle.amqp_session.specs.declared.command.Answer.{Answer}
 use Rattle.amqp_promise.specs.declared.error.ErrorKind.{ErrorKind}
 use Rattle.amqp_promise.specs.declared.error.ErrorKind.TheVariants.{IOError, MissingHeartbeatError}
-use Rattle.amqp_session.specs.declared.auth.asked.Asked.{Asked}
+use Rattle.amqp_auth.specs.declared.asked.Asked.{Asked}
 use Rattle.amqp_session.specs.Listed.{at}
 use Rattle.amqp_session.specs.Talk.{Talk, is_open, is_open_link, acts, end_of, end_of_link}
 use Rattle.amqp_session.specs.Recovery.{recovery_delay, rejected_slot, rejected_all}

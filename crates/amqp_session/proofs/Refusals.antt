@@ -18,7 +18,7 @@ use Rattle.amqp_session.specs.Talk.{Talk}
 use Rattle.amqp_session.specs.Changes.{Promises, rejected, refuse}
 use Rattle.amqp_session.specs.Publishing.{method_frame, publish_frames}
 use Rattle.amqp_session.specs.Handshake.{new_secret}
-use Rattle.amqp_session.specs.Commands.{takes_promise, open_drawn, open_none, close_target, flow_target, queue_secret, update_secret, too_long, unless_too_long, queue_send, send_target, body_limit, queue_publish, publish_target, command, command_rule}
+use Rattle.amqp_session.specs.Commands.{takes_promise, open_drawn, open_none, close_target, flow_target, queue_secret, update_secret, too_long, unless_too_long, too_full, unless_full, queue_send, send_target, body_limit, queue_publish, publish_target, command, command_rule}
 use Rattle.amqp_session.specs.Laws.{IsRefusal, IsAnsweredAtOnce}
 use Rattle.amqp_session.proofs.Numbered.{put-same}
 
@@ -28,7 +28,7 @@ module _ (t : Talk) (e : ErrorKind) where
   Told u = IsAnsweredAtOnce e t u → IsRefusal e t u
 
   -- the error of a refusal is the one that is told
-  same-error : (e' : ErrorKind) (ps : Promises) → ps ≡ put t.made (Some (Err e')) t.promises → at t.made ps ≡ Some (Some (Err e)) → e' ≡ e
+  pub same-error : (e' : ErrorKind) (ps : Promises) → ps ≡ put t.made (Some (Err e')) t.promises → at t.made ps ≡ Some (Some (Err e)) → e' ≡ e
   same-error e' ps is h =
       let there : at t.made ps ≡ Some (Some (Err e')) = ap (at t.made) is ∙ put-same t.made (Some (Err e')) t.promises in cc
 
@@ -62,10 +62,17 @@ told-unless : (o : Option Frame) (rule : Talk → Talk) (e : ErrorKind) (t : Tal
 told-unless None rule e t said = said
 told-unless (Some frame) rule e t said = told-refuse _ e t
 
+told-room : (o : Option ℕ) (rule : Talk → Talk) (e : ErrorKind) (t : Talk) → Told t e (rule t) → Told t e (unless_full o rule t)
+told-room None rule e t said = said
+told-room (Some octets) rule e t said = told-refuse _ e t
+
 told-send : (r : Result Channel ErrorKind) (n : ℕ) (m : OtherMethod) (e : ErrorKind) (t : Talk) → Told t e (send_target r n m t)
 told-send (Err e') n m e t = told-refuse e' e t
 told-send (Ok c) n m e t =
-    told-unless (too_long (method_frame n m ∷ []) t) (queue_send n (method_frame n m)) e t (told-waits t e _ t.promises refl)
+    let frame : Frame = method_frame n m in
+    let rule : Talk → Talk = unless_full (too_full (frame ∷ []) t) (queue_send n frame) in
+    told-unless (too_long (frame ∷ []) t) rule e t
+    (told-room (too_full (frame ∷ []) t) (queue_send n frame) e t (told-waits t e _ t.promises refl))
 
 told-secret : (secret reason : List ℕ) (e : ErrorKind) (t : Talk) → Told t e (update_secret secret reason t)
 told-secret secret reason e t =
@@ -76,8 +83,10 @@ told-publish : (r : Result Channel ErrorKind) (n : ℕ) (m : OtherMethod) (prope
     → Told t e (publish_target r n m properties body t)
 told-publish (Err e') n m properties body e t = told-refuse e' e t
 told-publish (Ok c) n m properties body e t =
-    let frames = publish_frames n m properties body (body_limit t) in
-    told-unless (too_long frames t) (queue_publish n frames) e t (told-waits t e _ t.promises refl)
+    let frames : List Frame = publish_frames n m properties body (body_limit t) in
+    let rule : Talk → Talk = unless_full (too_full frames t) (queue_publish n frames) in
+    told-unless (too_long frames t) rule e t
+    (told-room (too_full frames t) (queue_publish n frames) e t (told-waits t e _ t.promises refl))
 
 told-flow : (r : Result Channel ErrorKind) (n : ℕ) (active : Bool) (e : ErrorKind) (t : Talk) → Told t e (flow_target r n active t)
 told-flow (Err e') n active e t = told-refuse e' e t

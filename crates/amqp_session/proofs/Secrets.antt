@@ -18,10 +18,10 @@ use Rattle.amqp_session.specs.declared.command.Cmd.{Cmd}
 use Rattle.amqp_session.specs.declared.misread.Misread.{Misread}
 use Rattle.amqp_promise.specs.declared.error.ErrorKind.{ErrorKind}
 use Rattle.amqp_promise.specs.declared.error.ErrorKind.TheVariants.{InvalidConnectionState, NoMemory, MissingHeartbeatError}
-use Rattle.amqp_session.specs.declared.auth.asked.Question.{Question}
-use Rattle.amqp_session.specs.declared.auth.asked.Question.TheVariants as question
-use Rattle.amqp_session.specs.declared.auth.asked.Asked.{Asked}
-use Rattle.amqp_session.specs.declared.auth.asked.Asked.TheVariants as answer
+use Rattle.amqp_auth.specs.declared.asked.Question.{Question}
+use Rattle.amqp_auth.specs.declared.asked.Question.TheVariants as question
+use Rattle.amqp_auth.specs.declared.asked.Asked.{Asked}
+use Rattle.amqp_auth.specs.declared.asked.Asked.TheVariants as answer
 use Rattle.amqp_session.specs.declared.event.Event.{Event}
 use Rattle.amqp_session.specs.Talk.{Talk, has_ended, end_of, is_open, is_asked, acts, hears_on}
 use Rattle.amqp_session.specs.Changes.{queue, lose, misplaced, fail}
@@ -101,6 +101,7 @@ on-channels t = record {
   lost = then-lost t;
   opened = λ n c promise u is h. h;
   closed = λ n promise u is h. h;
+  answered = λ n c u h. h;
   removed = λ n u h. h;
   flow = λ n c active u h. h;
   flowed = λ n c active promise u is h. h;

@@ -1,5 +1,5 @@
 -- One walk over the rules of the session: what each rule that does something keeps, a frame, a tick and a command keep.
-use Rattle.std.proofs.Common.{◌≡◌, ℕ, zero, suc, nat_le, if◌then◌else◌, Bool, true, false, true≢false, List, [], ◌∷◌, Option, Some, None, Result, Ok, Err, refl, sym}
+use Rattle.std.proofs.Common.{◌≡◌, ℕ, zero, suc, nat_le, if◌then◌else◌, Bool, true, false, true≢false, List, [], ◌∷◌, Option, Some, None, Result, Ok, Err, refl, sym, ap}
 use Rattle.std.specs.Prelude.{codes}
 use Rattle.amqp_frame.specs.declared.frame.Frame.{Frame}
 use Rattle.amqp_frame.specs.declared.frame.Frame.TheVariants.{ProtocolHeader, Method, Raw, Heartbeat}
@@ -28,23 +28,24 @@ use Rattle.amqp_session.specs.declared.command.Cmd.TheVariants.{OpenChannel, Clo
 use Rattle.amqp_session.specs.declared.command.Answer.TheVariants.{Done}
 use Rattle.amqp_session.specs.declared.handed.Handed.{Handed}
 use Rattle.amqp_session.specs.declared.misread.Misread.{Misread}
-use Rattle.amqp_session.specs.declared.auth.asked.Asked.{Asked}
+use Rattle.amqp_auth.specs.declared.asked.Asked.{Asked}
 use Rattle.amqp_session.specs.Talk.{Talk, acts, hears_on, is_closing, is_open}
-use Rattle.amqp_session.specs.Changes.{queue, await, give_to, drop_replies_of, promise, next_promise, refuse, lose, misplaced, close}
+use Rattle.amqp_session.specs.Changes.{queue, await, give_to, drop_replies_of, promise, next_promise, refuse, lose, misplaced, close, tell_owed}
 use Rattle.amqp_session.specs.Links.{dropped, misread}
 use Rattle.amqp_session.specs.Violations.{channel_closed_with, misread_error, stray_channel_frame, stray_connection_method, unawaited}
 use Rattle.amqp_session.specs.Handshake.{channel_open, new_secret}
 use Rattle.amqp_session.specs.Publishing.{method_frame, publish_frames}
 use Rattle.amqp_session.specs.Numbering.{first_number, drawn}
-use Rattle.amqp_session.specs.Channels.{channel_at}
+use Rattle.amqp_session.specs.Channels.{channel_at, set_channel, made_answered, is_owed}
+use Rattle.amqp_session.specs.Writing.{pay, paid_by}
 use Rattle.amqp_session.specs.ConnectionMethods.{started, on_start, challenged, on_secure, on_tune, connected, reopen, reopen_each, on_blocked, on_unblocked, secret_taken, on_connection_close, connection_closed, connection_rule}
-use Rattle.amqp_session.specs.ChannelMethods.{heard_on, unawaited_channel_method, channel_opened, remove_channel, remove_unless_owed, channel_closed, on_channel_flow, channel_flowed, awaits_close_ok, closed_by_server, crossing_close, channel_close_by, channel_rule, channel_method_by, channel_method, is_select_ok, hand_out, confirmed, raw_by, raw_frame}
+use Rattle.amqp_session.specs.ChannelMethods.{heard_on, unawaited_channel_method, channel_opened, remove_channel, remove_unless_owed, channel_closed, on_channel_flow, channel_flowed, closed_by_server, crossing_close, channel_close_by, channel_rule, channel_method_by, channel_method, is_select_ok, hand_out, confirmed, raw_by, raw_frame}
 use Rattle.amqp_session.specs.Frames.{method_on, method_rule, frame_rule, closed_rule, on_frame}
 use Rattle.amqp_frame.specs.Methods.{is_of_a_channel}
-use Rattle.amqp_session.specs.Commands.{target, open_as, open_none, open_drawn, leave_channel, close_target, drop_target, too_long, unless_too_long, queue_send, send_target, body_limit, queue_publish, publish_target, tell_flow, flow_target, queue_secret, leave_connection, listen, command_rule, command}
+use Rattle.amqp_session.specs.Commands.{target, open_as, open_none, open_drawn, leave_channel, close_target, drop_target, too_long, unless_too_long, too_full, unless_full, queue_send, send_target, body_limit, queue_publish, publish_target, tell_flow, flow_target, queue_secret, leave_connection, listen, command_rule, command}
 use Rattle.amqp_session.specs.Ticks.{is_connected, is_missed, is_heartbeat_due, missing_heartbeat, beat, refreshed, link_due, timed, tick}
 use Rattle.amqp_session.proofs.Heard.{start-case, secure-case, secret-case}
-use Rattle.amqp_types.proofs.Small.{if_case}
+use Rattle.amqp_types.proofs.Small.{if_case, if_by}
 
 -- ---- the rows
 
@@ -59,6 +60,7 @@ pub record ChannelRows (P : Talk → Type 0) : Type 0 where
   pub lost : (e : ErrorKind) (t : Talk) → P t → P (lose e t)
   pub opened : (n : ℕ) (c : Channel) (promise : Option ℕ) (t : Talk) → awaited_promise n ChannelOpened t.outbox ≡ Some promise → P t → P (channel_opened n c (Some promise) t)
   pub closed : (n : ℕ) (promise : Option ℕ) (t : Talk) → awaited_promise n ChannelClosed t.outbox ≡ Some promise → P t → P (close_answered n promise t)
+  pub answered : (n : ℕ) (c : Channel) (t : Talk) → P t → P (set_channel n (made_answered c) t)
   pub removed : (n : ℕ) (t : Talk) → P t → P (remove_channel n t)
   pub flow : (n : ℕ) (c : Channel) (active : Bool) (t : Talk) → P t → P (on_channel_flow channel.Connected n c active t)
   pub flowed : (n : ℕ) (c : Channel) (active : Bool) (promise : Option ℕ) (t : Talk) → awaited_promise n FlowDone t.outbox ≡ Some promise → P t → P (channel_flowed n c active (Some promise) t)
@@ -142,13 +144,13 @@ module _ (P : Talk → Type 0) (rows : ChannelRows P) where
   opened-keeps n c None t is h = unawaited-keeps n c.state ChannelOpenOk t h
   opened-keeps n c (Some promise) t is h = rows.opened n c promise t is h
 
-  owed-keeps : (d : Debt) (n : ℕ) (t : Talk) → P t → P (remove_unless_owed d n t)
-  owed-keeps debt.Owed n t h = h
-  owed-keeps _ n t h = rows.removed n t h
+  owed-keeps : (d : Debt) (n : ℕ) (c : Channel) (t : Talk) → P t → P (remove_unless_owed d n c t)
+  owed-keeps debt.Owed n c t h = rows.answered n c t h
+  owed-keeps _ n c t h = rows.removed n t h
 
   closed-keeps : (n : ℕ) (c : Channel) (o : Option (Option ℕ)) (t : Talk) → awaited_promise n ChannelClosed t.outbox ≡ o → P t → P (channel_closed n c o t)
   closed-keeps n c None t is h = unawaited-keeps n c.state ChannelCloseOk t h
-  closed-keeps n c (Some promise) t is h = owed-keeps c.debt n (close_answered n promise t) (rows.closed n promise t is h)
+  closed-keeps n c (Some promise) t is h = owed-keeps c.debt n c (close_answered n promise t) (rows.closed n promise t is h)
 
   flow-keeps : (s : ChannelState) (n : ℕ) (c : Channel) (active : Bool) (t : Talk) → P t → P (on_channel_flow s n c active t)
   flow-keeps channel.Closing n c active t h = h
@@ -158,16 +160,16 @@ module _ (P : Talk → Type 0) (rows : ChannelRows P) where
   flowed-keeps n c active None t is h = unawaited-keeps n c.state (ChannelFlowOk active) t h
   flowed-keeps n c active (Some promise) t is h = rows.flowed n c active promise t is h
 
-  server-close-keeps : (d : Debt) (awaits : Bool) (n : ℕ) (e : ErrorKind) (c : Channel) (t : Talk) → P t → P (channel_close_by d awaits n e c t)
-  server-close-keeps debt.Nothing false n e c t h = rows.server_closed n e c t h
-  server-close-keeps debt.Nothing true n e c t h = rows.crossed n e c t h
-  server-close-keeps _ awaits n e c t h = h
+  server-close-keeps : (d : Debt) (n : ℕ) (e : ErrorKind) (c : Channel) (t : Talk) → P t → P (channel_close_by d n e c t)
+  server-close-keeps debt.Nothing n e c t h =
+      if_case P c.awaits_close_ok (crossing_close n e c t) (closed_by_server n e c t) (rows.crossed n e c t h) (rows.server_closed n e c t h)
+  server-close-keeps _ n e c t h = h
 
   channel-keeps : (s : ConnectionState) (n : ℕ) (c : Channel) (m : AnyMethod) (t : Talk) → P t → P (channel_rule s n c m t)
   channel-keeps Closing n c m t h = h
   channel-keeps _ n c ChannelOpenOk t h = opened-keeps n c (awaited_promise n ChannelOpened t.outbox) t refl h
   channel-keeps _ n c ChannelCloseOk t h = closed-keeps n c (awaited_promise n ChannelClosed t.outbox) t refl h
-  channel-keeps _ n c (ChannelClose code text class method) t h = server-close-keeps c.debt (awaits_close_ok n t) n (channel_closed_with code text) c t h
+  channel-keeps _ n c (ChannelClose code text class method) t h = server-close-keeps c.debt n (channel_closed_with code text) c t h
   channel-keeps _ n c (ChannelFlow active) t h = flow-keeps c.state n c active t h
   channel-keeps _ n c (ChannelFlowOk active) t h = flowed-keeps n c active (awaited_promise n FlowDone t.outbox) t refl h
   channel-keeps _ n c m t h = unawaited-keeps n c.state m t h
@@ -315,15 +317,23 @@ module _ (P : Talk → Type 0) (rows : CommandRows P) where
   unless-keeps None rule t h k = k
   unless-keeps (Some f) rule t h k = rows.refuses _ t h
 
+  room-keeps : (o : Option ℕ) (rule : Talk → Talk) (t : Talk) → P t → P (rule t) → P (unless_full o rule t)
+  room-keeps None rule t h k = k
+  room-keeps (Some octets) rule t h k = rows.refuses _ t h
+
   send-keeps : (o : Result Channel ErrorKind) (n : ℕ) (m : OtherMethod) (t : Talk) → P t → P (send_target o n m t)
   send-keeps (Err e) n m t h = rows.refuses e t h
-  send-keeps (Ok c) n m t h = unless-keeps (too_long (method_frame n m ∷ []) t) (queue_send n (method_frame n m)) t h (rows.sends n m t h)
+  send-keeps (Ok c) n m t h =
+      let f : Frame = method_frame n m in
+      unless-keeps (too_long (f ∷ []) t) (unless_full (too_full (f ∷ []) t) (queue_send n f)) t h
+      (room-keeps (too_full (f ∷ []) t) (queue_send n f) t h (rows.sends n m t h))
 
   publish-keeps : (o : Result Channel ErrorKind) (n : ℕ) (m : OtherMethod) (properties body : List ℕ) (t : Talk) → P t → P (publish_target o n m properties body t)
   publish-keeps (Err e) n m properties body t h = rows.refuses e t h
   publish-keeps (Ok c) n m properties body t h =
       let fs : List Frame = publish_frames n m properties body (body_limit t) in
-      unless-keeps (too_long fs t) (queue_publish n fs) t h (rows.publishes n m properties body t h)
+      unless-keeps (too_long fs t) (unless_full (too_full fs t) (queue_publish n fs)) t h
+      (room-keeps (too_full fs t) (queue_publish n fs) t h (rows.publishes n m properties body t h))
 
   -- while the connection is open, by what our close of it does
   pub told-keeps : (c : Cmd) (t : Talk) → (leaves c ≡ true → P (command_rule Connected c t)) → P t → P (command_rule Connected c t)
@@ -355,3 +365,18 @@ module _ (P : Talk → Type 0) (rows : CommandRows P) where
     by : (s : ConnectionState) → P (command_rule s c t)
     by Connected = told-keeps c t (λ is. left-keeps left c t is h) h
     by s = refused-keeps P rows.refuses rows.listens s c t refl h
+
+-- ---- our close-ok of a channel was sent
+
+-- by whether its channel is listed, owes it, and awaits close-ok
+pub pay-case : (P : Talk → Type 0) (o : Option Channel) (n : ℕ) (t : Talk) → (o ≡ None → P t) → ((c : Channel) → o ≡ Some c → is_owed c.debt ≡ false → P t)
+    → ((c : Channel) → o ≡ Some c → c.debt ≡ debt.Owed → c.awaits_close_ok ≡ true → P (set_channel n (record c { debt = debt.Paid }) (tell_owed n t)))
+    → ((c : Channel) → o ≡ Some c → c.debt ≡ debt.Owed → c.awaits_close_ok ≡ false → P (remove_channel n (tell_owed n t))) → P (pay o n t)
+pay-case P None n t none unowed stays goes = none refl
+pay-case P (Some c) n t none unowed stays goes = by c.debt refl where
+  by : (d : Debt) → c.debt ≡ d → P (paid_by d n c t)
+  by debt.Owed owes =
+      if_by P c.awaits_close_ok (set_channel n (record c { debt = debt.Paid }) (tell_owed n t)) (remove_channel n (tell_owed n t))
+      (λ awaits. stays c refl owes awaits) (λ left. goes c refl owes left)
+  by debt.Nothing owes = unowed c refl (ap is_owed owes)
+  by debt.Paid owes = unowed c refl (ap is_owed owes)

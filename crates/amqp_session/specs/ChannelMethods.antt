@@ -1,6 +1,6 @@
 -- What comes on a channel: methods of the channel class (AMQP 0-9-1, 1.5 of its reference), and frames that are passed
 -- through.
-use Rattle.std.specs.Prelude.{ℕ, if◌then◌else◌, Bool, true, false, List, [], ◌∷◌, ◌++◌, take, Option, Some, None, Ok, is_some, unwrap_or}
+use Rattle.std.specs.Prelude.{ℕ, if◌then◌else◌, Bool, true, false, List, [], ◌∷◌, ◌++◌, take, Option, Some, None, Ok, unwrap_or}
 use Rattle.amqp_types.specs.declared.word.Word.TheVariants as word
 use Rattle.std.specs.Str.{bytes_eq}
 use Rattle.amqp_frame.specs.declared.frame.RawKind.{RawKind}
@@ -22,7 +22,7 @@ use Rattle.amqp_promise.specs.declared.error.ErrorKind.{ErrorKind}
 use Rattle.amqp_promise.specs.declared.error.ErrorKind.TheVariants.{InvalidChannel, InvalidChannelState}
 use Rattle.amqp_session.specs.Listed.{at, put, without}
 use Rattle.amqp_session.specs.Talk.{Talk}
-use Rattle.amqp_session.specs.Channels.{channel_at, set_channel}
+use Rattle.amqp_session.specs.Channels.{channel_at, set_channel, made_answered}
 use Rattle.amqp_session.specs.Violations.{channel_closed_with, unawaited}
 use Rattle.amqp_session.specs.Handshake.{channel_close_ok, flow_ok}
 use Rattle.amqp_session.specs.declared.event.Event.TheVariants.{SendFlow}
@@ -59,17 +59,18 @@ on_channel_open_ok n c t = channel_opened n c (awaited_promise n ChannelOpened t
 abbrev pub remove_channel : ℕ → Talk → Talk
 remove_channel n t = record t { channels = without n t.channels }
 
--- the server closed a channel too, and our close-ok is owed: then it stays listed until that is sent
-abbrev pub remove_unless_owed : Debt → ℕ → Talk → Talk
-remove_unless_owed Owed n t = t
-remove_unless_owed _ n t = remove_channel n t
+-- our close of a channel is answered, and it goes; where the server closed it too, and our close-ok is owed, it stays
+-- listed until that is sent
+abbrev pub remove_unless_owed : Debt → ℕ → Channel → Talk → Talk
+remove_unless_owed Owed n c t = set_channel n (made_answered c) t
+remove_unless_owed _ n c t = remove_channel n t
 
 -- close-ok on a listed channel, by the promise of what awaits it
 abbrev pub channel_closed : ℕ → Channel → Option (Option ℕ) → Talk → Talk
 channel_closed n c None t = unawaited_channel_method n c.state ChannelCloseOk t
 channel_closed n c (Some promise) t =
     let closed = give_to promise (Ok Done) (record t { outbox = without_awaited n ChannelClosed t.outbox }) in
-    remove_unless_owed c.debt n
+    remove_unless_owed c.debt n c
     (drop_replies_of n (InvalidChannelState channel.Closed word.ChannelCloseOkReceived) closed)
 
 -- close-ok, where it is awaited: our close is answered, what else is awaited on the channel will not come, and the
@@ -94,10 +95,6 @@ channel_flowed n c active (Some promise) t =
 abbrev pub on_channel_flow_ok : ℕ → Channel → Bool → Talk → Talk
 on_channel_flow_ok n c active t = channel_flowed n c active (awaited_promise n FlowDone t.outbox) t
 
--- our close of a channel was said or waits, and is not answered
-abbrev pub awaits_close_ok : ℕ → Talk → Bool
-awaits_close_ok n t = is_some (awaited_promise n ChannelClosed t.outbox)
-
 -- the server closes a channel that we use: all that goes with it goes, and close-ok is owed; a group that has begun
 -- goes out first
 abbrev pub closed_by_server : ℕ → ErrorKind → Channel → Talk → Talk
@@ -110,16 +107,15 @@ closed_by_server n e c t =
 abbrev pub crossing_close : ℕ → ErrorKind → Channel → Talk → Talk
 crossing_close n e c t = owe n e (queue n (channel_close_ok n) (set_channel n (record c { debt = Owed }) t))
 
--- the server's close of a channel, by what is owed, and by whether we closed it
-abbrev pub channel_close_by : Debt → Bool → ℕ → ErrorKind → Channel → Talk → Talk
-channel_close_by Nothing false n e c t = closed_by_server n e c t
-channel_close_by Nothing true n e c t = crossing_close n e c t
-channel_close_by _ awaits n e c t = t
+-- the server's close of a channel, by what is owed: one that owes already, or paid, is not answered again
+abbrev pub channel_close_by : Debt → ℕ → ErrorKind → Channel → Talk → Talk
+channel_close_by Nothing n e c t = if c.awaits_close_ok then crossing_close n e c t else closed_by_server n e c t
+channel_close_by _ n e c t = t
 
 -- the server's close of a channel, which is answered once
 abbrev pub on_channel_close : ℕ → ℕ → List ℕ → Channel → Talk → Talk
 on_channel_close n code text c t =
-    channel_close_by c.debt (awaits_close_ok n t) n (channel_closed_with code text) c t
+    channel_close_by c.debt n (channel_closed_with code text) c t
 
 -- a method of the channel class on a listed channel: after our close of the connection it is dropped
 abbrev pub channel_rule : ConnectionState → ℕ → Channel → Method → Talk → Talk

@@ -22,11 +22,26 @@ is_owed _ = false
 -- a channel whose opening a promise waits for
 abbrev pub new_channel : ℕ → Channel
 new_channel opened =
-    record { state = channel.Initial; flow = true; confirm = false; opened = opened; debt = Nothing }
+    record {
+      state = channel.Initial;
+      flow = true;
+      confirm = false;
+      opened = opened;
+      debt = Nothing;
+      awaits_close_ok = false;
+    }
 
 -- a channel that is closing
 abbrev pub made_closing : Channel → Channel
 made_closing c = record c { state = channel.Closing }
+
+-- a channel that we close: close-ok is awaited
+abbrev pub made_leaving : Channel → Channel
+made_leaving c = record (made_closing c) { awaits_close_ok = true }
+
+-- a channel whose close was answered: close-ok is awaited no more
+abbrev pub made_answered : Channel → Channel
+made_answered c = record c { awaits_close_ok = false }
 
 -- the number of the listed channel that a promise opened
 abbrev pub opening_in : ℕ → List (ℕ × Channel) → Option ℕ

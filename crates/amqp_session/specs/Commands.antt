@@ -1,13 +1,15 @@
 -- Commands: what a session is told to do. Each takes the next promise, but for those that let a channel or the
 -- connection go, and that which listens; a refused one is answered at once.
-use Rattle.std.specs.Prelude.{ℕ, ◌-◌, ◌==◌, nat_lt, if◌then◌else◌, Bool, true, false, List, [], ◌∷◌, length, find, Option, Some, None, Result, Ok, Err, codes}
+use Rattle.std.specs.Prelude.{ℕ, ◌+◌, ◌-◌, ◌==◌, nat_lt, if◌then◌else◌, Bool, true, false, List, [], ◌∷◌, length, find, Option, Some, None, Result, Ok, Err, codes}
 use Rattle.amqp_frame.specs.declared.frame.Frame.{Frame}
 use Rattle.amqp_frame.specs.RawMethods.{OtherMethod}
 use Rattle.amqp_frame.specs.Frames.{encoding}
+use Rattle.amqp_frame.specs.Lengths.{capped}
 use Rattle.amqp_types.specs.declared.word.Word.{Word}
 use Rattle.amqp_types.specs.declared.word.Word.TheVariants as word
 use Rattle.amqp_outbox.specs.declared.reply.Reply.TheVariants.{ChannelOpened, ChannelClosed, FlowDone, SecretDone, ConnectionClosed}
 use Rattle.amqp_outbox.specs.Items.{promised_item, group_of}
+use Rattle.amqp_outbox.specs.Queued.{unsent_octets}
 use Rattle.amqp_promise.specs.declared.state.ConnectionState.{ConnectionState}
 use Rattle.amqp_promise.specs.declared.state.ConnectionState.TheVariants.{Connected, Closing}
 use Rattle.amqp_promise.specs.declared.state.ChannelState.{ChannelState}
@@ -17,15 +19,15 @@ use Rattle.amqp_session.specs.declared.command.ChanRef.{ChanRef}
 use Rattle.amqp_session.specs.declared.command.Cmd.{Cmd}
 use Rattle.amqp_session.specs.declared.command.Cmd.TheVariants.{OpenChannel, CloseChannel, CloseConnection, UpdateSecret, Send, Publish, Flow, DropChannel, DropConnection, Listen}
 use Rattle.amqp_promise.specs.declared.error.ErrorKind.{ErrorKind}
-use Rattle.amqp_promise.specs.declared.error.ErrorKind.TheVariants.{ChannelsLimitReached, InvalidChannel, InvalidChannelState, InvalidConnectionState, SerialisationError}
+use Rattle.amqp_promise.specs.declared.error.ErrorKind.TheVariants.{ChannelsLimitReached, InvalidChannel, InvalidChannelState, InvalidConnectionState, OutboxFull, SerialisationError}
 use Rattle.amqp_session.specs.Listed.{map_values}
 use Rattle.amqp_session.specs.Talk.{Talk, has_ended}
 use Rattle.amqp_session.specs.Numbering.{first_number, after, drawn}
 use Rattle.amqp_session.specs.Handshake.{our_close, new_secret, channel_open, channel_flow, our_channel_close}
 use Rattle.amqp_session.specs.Negotiation.{frame_limit}
-use Rattle.amqp_session.specs.Publishing.{method_frame, publish_frames}
+use Rattle.amqp_session.specs.Publishing.{method_frame, publish_frames, octets_of_frames}
 use Rattle.amqp_session.specs.Changes.{queue, queue_item, queue_group, await, next_promise, promise, refuse, drop_groups_of, drop_groups}
-use Rattle.amqp_session.specs.Channels.{new_channel, made_closing, channel_at, set_channel}
+use Rattle.amqp_session.specs.Channels.{new_channel, made_closing, made_leaving, channel_at, set_channel}
 
 -- what `Debug` shows of a command that carries a secret; of all others nothing is said
 abbrev pub command_debug : Cmd → Option (List ℕ)
@@ -92,9 +94,9 @@ target r word t = target_by (named r t) r.id word
 -- groups of the channel that have not begun go
 abbrev pub leave_channel : ℕ → ℕ → List ℕ → Channel → Option ℕ → Talk → Talk
 leave_channel n code text c answers t =
-    let is_closing = set_channel n (made_closing c) t in
+    let is_leaving = set_channel n (made_leaving c) t in
     drop_groups_of n (InvalidChannelState channel.Closing word.ChannelClose)
-    (await n ChannelClosed answers (queue n (our_channel_close n code text) is_closing))
+    (await n ChannelClosed answers (queue n (our_channel_close n code text) is_leaving))
 
 -- the channel is closed, and the promise of the close waits for the close-ok
 abbrev pub close_channel : ℕ → ℕ → List ℕ → Channel → Talk → Talk
@@ -116,6 +118,25 @@ abbrev pub unless_too_long : Option Frame → (Talk → Talk) → Talk → Talk
 unless_too_long (Some frame) rule t = refuse (SerialisationError (length (encoding frame))) t
 unless_too_long None rule t = rule t
 
+-- how many octets would wait with some frames more: those of both lanes and of what is left of the group that has
+-- begun, and not those that are committed; counted up to the greatest number of 64 bits
+abbrev pub waiting_with : List Frame → Talk → ℕ
+waiting_with frames t = capped (unsent_octets t.outbox + octets_of_frames frames)
+
+-- so many octets, where they are more than the limit, if one is set
+abbrev pub above_limit : Option ℕ → ℕ → Option ℕ
+above_limit None octets = None
+above_limit (Some limit) octets = if nat_lt limit octets then Some octets else None
+
+-- how many octets would wait with some frames more, where they are more than the limit that was set
+abbrev pub too_full : List Frame → Talk → Option ℕ
+too_full frames t = above_limit t.config.options.outbox_limit (waiting_with frames t)
+
+-- where too many octets would wait, the command is refused; else this is done
+abbrev pub unless_full : Option ℕ → (Talk → Talk) → Talk → Talk
+unless_full (Some octets) rule t = refuse (OutboxFull octets) t
+unless_full None rule t = rule t
+
 -- the frame is queued, and its promise waits until its last byte is sent
 abbrev pub queue_send : ℕ → Frame → Talk → Talk
 queue_send n frame t = promise (queue_item (promised_item n frame (next_promise t)) t)
@@ -124,7 +145,7 @@ queue_send n frame t = promise (queue_item (promised_item n frame (next_promise 
 abbrev pub send : ℕ → OtherMethod → Talk → Talk
 send n method t =
     let frame = method_frame n method in
-    unless_too_long (too_long (frame ∷ []) t) (queue_send n frame) t
+    unless_too_long (too_long (frame ∷ []) t) (unless_full (too_full (frame ∷ []) t) (queue_send n frame)) t
 
 -- a method is sent on the channel that was found; else the command is refused
 abbrev pub send_target : Result Channel ErrorKind → ℕ → OtherMethod → Talk → Talk
@@ -145,7 +166,7 @@ queue_publish n frames t = promise (queue_group (group_of n frames (next_promise
 abbrev pub publish : ℕ → OtherMethod → List ℕ → List ℕ → Talk → Talk
 publish n method properties body t =
     let frames = publish_frames n method properties body (body_limit t) in
-    unless_too_long (too_long frames t) (queue_publish n frames) t
+    unless_too_long (too_long frames t) (unless_full (too_full frames t) (queue_publish n frames)) t
 
 -- a method is published on the channel that was found; else the command is refused
 abbrev pub publish_target : Result Channel ErrorKind → ℕ → OtherMethod → List ℕ → List ℕ → Talk → Talk

@@ -1,5 +1,5 @@
 -- What a session is made from: the address, and what its user says of the client.
-use Rattle.std.specs.Prelude.{ℕ, if◌then◌else◌, List, [], ◌∷◌, Bool, true, false, codes, unwrap_or}
+use Rattle.std.specs.Prelude.{ℕ, if◌then◌else◌, List, [], ◌∷◌, Bool, true, false, Option, Some, None, codes, unwrap_or}
 use Rattle.amqp_types.specs.Value.{FieldValue, Pair, scalar, long_string}
 use Rattle.amqp_types.specs.Table.{put}
 use Rattle.amqp_uri.specs.declared.uri.AMQPUri.{AMQPUri}
@@ -19,6 +19,8 @@ pub record Options : Type 0 where
   pub has_delays : Bool
   -- whether the session goes on where its link is lost
   pub recover : Bool
+  -- how many octets may wait to be committed once a send or a publish is told, where that is limited
+  pub outbox_limit : Option ℕ
 
 -- what a session is made from; no rule changes it
 pub record Config : Type 0 where
@@ -37,9 +39,17 @@ config_of uri options = record { uri = uri; options = options }
 abbrev pub text_value : List ℕ → FieldValue
 text_value content = scalar (long_string content)
 
--- nothing beside what every client says: texts in English, no properties, no delays, and no recovery
+-- nothing beside what every client says: texts in English, no properties, no delays, no recovery, and no limit
 abbrev pub no_options : Options
-no_options = record { locale = codes "en_US"; properties = []; delays = []; has_delays = false; recover = false }
+no_options =
+    record {
+      locale = codes "en_US";
+      properties = [];
+      delays = [];
+      has_delays = false;
+      recover = false;
+      outbox_limit = None;
+    }
 
 -- the same with another language
 abbrev pub with_locale : List ℕ → Options → Options
@@ -72,6 +82,10 @@ recovery_delays options = if options.has_delays then options.delays else default
 -- the same, and the session goes on where its link is lost, with delays of its own where none were said
 abbrev pub with_recovery : Options → Options
 with_recovery options = record options { delays = recovery_delays options; recover = true }
+
+-- the same with a limit on the octets that wait to be committed
+abbrev pub with_outbox_limit : ℕ → Options → Options
+with_outbox_limit limit options = record options { outbox_limit = Some limit }
 
 -- ---- what the address says
 

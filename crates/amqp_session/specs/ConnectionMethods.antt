@@ -14,8 +14,8 @@ use Rattle.amqp_session.specs.declared.configuration.Configuration.{Configuratio
 use Rattle.amqp_session.specs.declared.channels.Channel.{Channel}
 use Rattle.amqp_session.specs.declared.command.Answer.TheVariants.{Connected as AnswerConnected, Done}
 use Rattle.amqp_promise.specs.declared.error.ErrorKind.TheVariants.{InvalidConnectionState, AuthProviderError}
-use Rattle.amqp_session.specs.declared.auth.asked.Asked.{Asked}
-use Rattle.amqp_session.specs.declared.auth.asked.Asked.TheVariants as answer
+use Rattle.amqp_auth.specs.declared.asked.Asked.{Asked}
+use Rattle.amqp_auth.specs.declared.asked.Asked.TheVariants as answer
 use Rattle.amqp_promise.specs.Shown.{shown}
 use Rattle.amqp_session.specs.declared.event.Event.TheVariants as event
 use Rattle.amqp_session.specs.Talk.{Talk, is_closing}

@@ -1,14 +1,16 @@
 -- What the rules keep.
-use Rattle.std.specs.Prelude.{◌≡◌, ℕ, if◌then◌else◌, Bool, true, false, IsTrue, List, Some, Err}
+use Rattle.std.specs.Prelude.{◌≡◌, ◌<◌, ℕ, if◌then◌else◌, Bool, true, false, IsTrue, List, [], ◌∷◌, Some, None, Err, IsOk}
 use Rattle.amqp_frame.specs.declared.frame.Frame.{Frame}
+use Rattle.amqp_types.specs.declared.word.Word.TheVariants as word
 use Rattle.amqp_session.specs.declared.command.Cmd.{Cmd}
+use Rattle.amqp_session.specs.declared.command.Cmd.TheVariants.{Send, Publish}
 use Rattle.amqp_promise.specs.declared.error.ErrorKind.{ErrorKind}
 use Rattle.amqp_promise.specs.declared.error.ErrorKind.TheVariants.{ChannelsLimitReached, InvalidConnectionState}
 use Rattle.amqp_promise.specs.declared.state.ConnectionState.{ConnectionState}
-use Rattle.amqp_promise.specs.declared.state.ConnectionState.TheVariants.{Closed, Error}
+use Rattle.amqp_promise.specs.declared.state.ConnectionState.TheVariants.{Connected, Closed, Error}
 use Rattle.amqp_session.specs.Listed.{at}
 use Rattle.amqp_session.specs.Talk.{Talk, has_ended}
-use Rattle.amqp_session.specs.declared.auth.asked.Asked.{Asked}
+use Rattle.amqp_auth.specs.declared.asked.Asked.{Asked}
 use Rattle.amqp_session.specs.declared.misread.Misread.{Misread}
 use Rattle.amqp_promise.specs.declared.io_fault.IoFault.{IoFault}
 use Rattle.amqp_session.specs.Changes as change
@@ -16,7 +18,9 @@ use Rattle.amqp_session.specs.Changes.{next_promise, refuse}
 use Rattle.amqp_session.specs.Links as link
 use Rattle.amqp_session.specs.Frames.{on_frame}
 use Rattle.amqp_session.specs.Ticks as ticks
+use Rattle.amqp_session.specs.Publishing.{method_frame, publish_frames}
 use Rattle.amqp_session.specs.Commands as told
+use Rattle.amqp_session.specs.Commands.{target, too_long, waiting_with, body_limit}
 use Rattle.amqp_session.specs.Writing as writing
 use Rattle.amqp_session.specs.Answers.{take_answer, take_event, take_frames}
 use Rattle.amqp_session.specs.Sound.{IsSound}
@@ -65,6 +69,30 @@ abbrev pub IsRefusal : ErrorKind → Talk → Talk → Type 0
 IsRefusal ChannelsLimitReached before after =
     after ≡ record (refuse ChannelsLimitReached before) { cursor = after.cursor }
 IsRefusal e before after = IsRefused e before after
+
+-- the frames of a command that sends or publishes; no other has any
+abbrev pub frames_of_command : Cmd → Talk → List Frame
+frames_of_command (Send r method) t = method_frame r.id method ∷ []
+frames_of_command (Publish r method properties body) t = publish_frames r.id method properties body (body_limit t)
+frames_of_command _ t = []
+
+-- a command sends or publishes on a channel that is open
+abbrev pub IsSentWhereOpen : Cmd → Talk → Type 0
+IsSentWhereOpen (Send r method) t = IsOk (target r word.Send t)
+IsSentWhereOpen (Publish r method properties body) t = IsOk (target r word.Publish t)
+IsSentWhereOpen _ t = ⊥
+
+-- a command makes too much wait, so many octets
+pub record IsOutboxFull (octets : ℕ) (c : Cmd) (t : Talk) : Type 0 where
+  -- it sends or publishes, while the connection and its channel are open
+  pub connected : t.state ≡ Connected
+  pub channel : IsSentWhereOpen c t
+  -- none of its frames is too long
+  pub fits : too_long (frames_of_command c t) t ≡ None
+  -- so many octets would wait with its frames
+  pub counted : octets ≡ waiting_with (frames_of_command c t) t
+  -- a limit was set, and they are more
+  pub above : (limit : ℕ) × (t.config.options.outbox_limit ≡ Some limit) × (limit < octets)
 
 -- each rule leads to a sound state
 pub record StaysSound (t : Talk) : Type 0 where

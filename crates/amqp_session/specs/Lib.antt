@@ -9,11 +9,7 @@ pub mod Negotiation
 pub mod Handshake
 -- What goes wrong.
 pub mod Violations
--- Who logs in a client, and what is answered to a server's questions.
-pub mod Providers
-pub mod DefaultAnswers
-pub mod Tokens
-pub mod AuthList
+-- What rules ask a provider.
 pub mod Asking
 -- The rules: what each happening does to the state.
 pub mod Numbering

@@ -25,8 +25,8 @@ use Rattle.amqp_session.specs.declared.server_close.ServerClose.TheVariants.{Wit
 use Rattle.amqp_session.specs.declared.committed.Mark.{Mark}
 use Rattle.amqp_promise.specs.declared.error.ErrorKind.{ErrorKind}
 use Rattle.amqp_promise.specs.declared.error.ErrorKind.TheVariants.{ProtocolError}
-use Rattle.amqp_session.specs.declared.auth.asked.Asked.{Asked as ProviderAnswer}
-use Rattle.amqp_session.specs.declared.auth.asked.Asked.TheVariants as answer
+use Rattle.amqp_auth.specs.declared.asked.Asked.{Asked as ProviderAnswer}
+use Rattle.amqp_auth.specs.declared.asked.Asked.TheVariants as answer
 use Rattle.amqp_session.specs.declared.session.asking.Login.{Login}
 use Rattle.amqp_session.specs.declared.session.asking.Login.TheVariants.{Started, Challenged}
 use Rattle.amqp_session.specs.declared.session.asking.Validity.{Validity}

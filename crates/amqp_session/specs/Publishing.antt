@@ -1,9 +1,10 @@
 -- What a publish says: a method, its content header and its body (AMQP 0-9-1, 2.3.5.2 and 4.2.6).
-use Rattle.std.specs.Prelude.{ℕ, zero, suc, List, [], ◌∷◌, ◌++◌, take, drop, length, map}
+use Rattle.std.specs.Prelude.{ℕ, zero, suc, List, [], ◌∷◌, ◌++◌, take, drop, length, map, sum_by}
 use Rattle.std.specs.Int.{w16, w64, to_be_bytes}
 use Rattle.amqp_frame.specs.declared.frame.Frame.{Frame}
 use Rattle.amqp_frame.specs.declared.frame.Frame.TheVariants.{Raw}
 use Rattle.amqp_frame.specs.declared.frame.RawKind.TheVariants.{RawMethod, Header, Body}
+use Rattle.amqp_frame.specs.Frames.{encoding}
 use Rattle.amqp_frame.specs.RawMethods.{OtherMethod, spell_raw_method}
 
 -- the frame of a method that is passed through
@@ -33,3 +34,7 @@ publish_frames n method properties body size =
     method_frame n method
     ∷ Raw n Header (content_header method.class (length body) properties)
     ∷ map (Raw n Body) (body_pieces size body)
+
+-- how many octets spell some frames
+abbrev pub octets_of_frames : List Frame → ℕ
+octets_of_frames frames = sum_by (λ frame. length (encoding frame)) frames

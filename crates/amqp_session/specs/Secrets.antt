@@ -7,8 +7,8 @@ use Rattle.amqp_session.specs.declared.command.Cmd.{Cmd}
 use Rattle.amqp_promise.specs.declared.io_fault.IoFault.{IoFault}
 use Rattle.amqp_session.specs.declared.misread.Misread.{Misread}
 use Rattle.amqp_promise.specs.declared.state.ConnectionState.TheVariants.{Connected}
-use Rattle.amqp_session.specs.declared.auth.asked.Asked.{Asked}
-use Rattle.amqp_session.specs.declared.auth.asked.Asked.TheVariants as answer
+use Rattle.amqp_auth.specs.declared.asked.Asked.{Asked}
+use Rattle.amqp_auth.specs.declared.asked.Asked.TheVariants as answer
 use Rattle.amqp_outbox.specs.declared.reply.Reply.TheVariants.{SecretDone}
 use Rattle.amqp_outbox.specs.Queued.{awaited_promise}
 use Rattle.amqp_session.specs.Talk.{Talk, acts}

@@ -13,9 +13,10 @@ use Rattle.amqp_session.specs.declared.committed.Then.TheVariants.{Nothing, Answ
 use Rattle.amqp_session.specs.declared.command.Answer.TheVariants.{Sent}
 use Rattle.amqp_session.specs.Talk.{Talk, is_open}
 use Rattle.amqp_session.specs.declared.channels.Channel.{Channel}
-use Rattle.amqp_session.specs.declared.channels.Debt.TheVariants.{Paid}
+use Rattle.amqp_session.specs.declared.channels.Debt.{Debt}
+use Rattle.amqp_session.specs.declared.channels.Debt.TheVariants.{Paid, Owed}
 use Rattle.amqp_session.specs.Channels.{all_flow, channel_at, set_channel}
-use Rattle.amqp_session.specs.ChannelMethods.{awaits_close_ok, remove_channel}
+use Rattle.amqp_session.specs.ChannelMethods.{remove_channel}
 use Rattle.amqp_promise.specs.declared.error.ErrorKind.TheVariants.{SerialisationError}
 use Rattle.amqp_session.specs.Changes.{give, tell_owed, lose, finish}
 
@@ -111,15 +112,19 @@ unsent t = left_in t.committed
 abbrev pub connection_close_ok_sent : Talk → Talk
 connection_close_ok_sent t = finish t
 
--- our close-ok was sent on a listed channel: where our own close of it is not answered it stays, and else it goes
-abbrev pub paid_by : Bool → ℕ → Channel → Talk → Talk
-paid_by true n c t = set_channel n (record c { debt = Paid }) t
-paid_by false n c t = remove_channel n t
+-- nothing is owed any more on a listed channel: where our own close of it is not answered it stays, and else it goes
+abbrev pub paid_off : ℕ → Channel → Talk → Talk
+paid_off n c t = if c.awaits_close_ok then set_channel n (record c { debt = Paid }) t else remove_channel n t
 
--- our close-ok was sent on a channel, where it is listed: the error of the server's close is told
+-- our close-ok was sent on a listed channel, by what is owed: the error of the server's close is told
+abbrev pub paid_by : Debt → ℕ → Channel → Talk → Talk
+paid_by Owed n c t = paid_off n c (tell_owed n t)
+paid_by _ n c t = t
+
+-- our close-ok was sent on a channel, where it is listed
 abbrev pub pay : Option Channel → ℕ → Talk → Talk
 pay None n t = t
-pay (Some c) n t = paid_by (awaits_close_ok n t) n c (tell_owed n t)
+pay (Some c) n t = paid_by c.debt n c t
 
 -- our answer to the server's close of a channel was sent
 abbrev pub channel_close_ok_sent : ℕ → Talk → Talk

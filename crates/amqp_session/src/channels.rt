@@ -4,7 +4,7 @@ ghost use Rattle.std.specs.Prelude.{◌≡◌, ◌≤◌, ◌+◌, ◌↔◌, �
 ghost use Rattle.amqp_outbox.specs.Listed.{Ascends};
 ghost use Rattle.amqp_session.specs.Listed.{at, put, without, map_values};
 ghost use Rattle.amqp_session.specs.Numbering.{drawn};
-ghost use Rattle.amqp_session.specs.Channels.{made_closing, new_channel, opening_in, all_flow, AllListed, next_free, list_next, pass_over, create_as, opened_until};
+ghost use Rattle.amqp_session.specs.Channels.{made_closing, made_leaving, made_answered, new_channel, opening_in, all_flow, AllListed, next_free, list_next, pass_over, create_as, opened_until};
 ghost use Rattle.amqp_session.specs.Stopped.{stops};
 ghost use Rattle.amqp_session.specs.Openings.{opener};
 ghost use Rattle.amqp_session.specs.Recovery.{is_kept_in, reconnecting, kept};
@@ -42,6 +42,8 @@ pub struct Channel {
     pub opened: u64,
     /// Whether our answer to the server's close of it is owed.
     pub debt: Debt,
+    /// Whether our close of it was said or waits, and is not answered.
+    pub awaits_close_ok: bool,
 }
 
 impl Channel {
@@ -55,6 +57,7 @@ impl Channel {
             confirm: false,
             opened,
             debt: Debt::Nothing,
+            awaits_close_ok: false,
         }
     }
 
@@ -64,6 +67,26 @@ impl Channel {
     {
         Channel {
             state: ChannelState::Closing,
+            ..self
+        }
+    }
+
+    /// The same channel, which we close: close-ok is awaited.
+    pub fn leaving(self) -> Channel
+        ensures { result ≡ made_leaving self }
+    {
+        Channel {
+            awaits_close_ok: true,
+            ..self.closing()
+        }
+    }
+
+    /// The same channel, whose close was answered: close-ok is awaited no more.
+    pub fn answered(self) -> Channel
+        ensures { result ≡ made_answered self }
+    {
+        Channel {
+            awaits_close_ok: false,
             ..self
         }
     }

@@ -1,6 +1,6 @@
 //! What the rules keep.
 
-ghost use Rattle.std.specs.Prelude.{◌≡◌, ◌≢◌, ◌≤◌, ◌↔◌, ℕ, ◌+◌, ◌++◌, ◌∷◌, [], List, length, Result, Some, None, Err, IsTrue, IsFalse, Contains};
+ghost use Rattle.std.specs.Prelude.{◌≡◌, ◌≢◌, ◌<◌, ◌≤◌, ◌↔◌, ℕ, ◌+◌, ◌++◌, ◌∷◌, [], List, length, Result, Some, None, Ok, Err, IsTrue, IsFalse, Contains};
 ghost use Rattle.amqp_frame.specs.declared.frame.Frame.{Frame};
 ghost use Rattle.amqp_frame.specs.Frames.{encoding};
 ghost use Rattle.amqp_outbox.specs.declared.item.Item.{Item};
@@ -8,13 +8,14 @@ ghost use Rattle.amqp_session.specs.declared.command.Cmd.{Cmd};
 ghost use Rattle.amqp_session.specs.declared.command.Cmd.TheVariants.{Listen};
 ghost use Rattle.amqp_session.specs.declared.configuration.Configuration.{Configuration};
 ghost use Rattle.amqp_promise.specs.declared.error.ErrorKind.{ErrorKind};
-ghost use Rattle.amqp_promise.specs.declared.error.ErrorKind.TheVariants.{InvalidConnectionState, IOError, MissingHeartbeatError};
+ghost use Rattle.amqp_promise.specs.declared.error.ErrorKind.TheVariants.{InvalidConnectionState, IOError, MissingHeartbeatError, OutboxFull};
 ghost use Rattle.amqp_session.specs.declared.command.Answer.{Answer};
+ghost use Rattle.amqp_session.specs.declared.command.Answer.TheVariants as answers;
 ghost use Rattle.amqp_promise.specs.declared.io_fault.IoFault.{IoFault};
 ghost use Rattle.amqp_session.specs.declared.misread.Misread.{Misread};
 ghost use Rattle.amqp_promise.specs.declared.state.ConnectionState.TheVariants.{Connected, Reconnecting};
-ghost use Rattle.amqp_session.specs.declared.auth.asked.Question.TheVariants.{Refresh};
-ghost use Rattle.amqp_session.specs.declared.auth.asked.Asked.{Asked};
+ghost use Rattle.amqp_auth.specs.declared.asked.Question.TheVariants.{Refresh};
+ghost use Rattle.amqp_auth.specs.declared.asked.Asked.{Asked};
 ghost use Rattle.amqp_session.specs.Config.{Config};
 ghost use Rattle.amqp_session.specs.Talk.{Talk, start, acts, has_ended, is_open, end_of};
 ghost use Rattle.amqp_session.specs.Negotiation.{tune};
@@ -33,7 +34,8 @@ ghost use Rattle.amqp_session.specs.declared.event.Event.TheVariants as told;
 ghost use Rattle.amqp_session.specs.Answers.{answer_of, take_answer, events_of, event_of, take_event};
 ghost use Rattle.amqp_session.specs.Causes.{IsFrameError};
 ghost use Rattle.amqp_session.specs.Sound.{IsSound};
-ghost use Rattle.amqp_session.specs.Laws.{IsEnded, IsOver, StaysSound, IsRefused, IsAnsweredAtOnce, IsRefusal};
+ghost use Rattle.amqp_session.specs.Openings.{opener};
+ghost use Rattle.amqp_session.specs.Laws.{IsEnded, IsOver, StaysSound, IsRefused, IsAnsweredAtOnce, IsRefusal, IsOutboxFull};
 
 /// Negotiation leaves a channel to open, and frames of at least 4,096 octets.
 pub fn negotiation_leaves_room()
@@ -51,6 +53,15 @@ pub fn a_refusal_changes_promises_alone()
         → IsAnsweredAtOnce e t (command cmd t) → IsRefusal e t (command cmd t) }
     ensures dropped { (cmd : Cmd) (t : Talk) → t.state ≢ Connected → IsFalse (takes_promise cmd) → cmd ≢ Listen
         → command cmd t ≡ t }
+{}
+
+/// A command is refused because too much would wait exactly where it sends or publishes while the
+/// connection and its channel are open, each of its frames fits the capacity, a limit was set, and more
+/// octets than that would wait with its frames: those of both lanes, of what is left of the group that
+/// has begun, and of its frames. The error names that number.
+pub fn an_outbox_is_full_above_its_limit()
+    ensures { (octets : ℕ) (cmd : Cmd) (t : Talk) → IsTrue (takes_promise cmd)
+        → IsAnsweredAtOnce (OutboxFull octets) t (command cmd t) ↔ IsOutboxFull octets cmd t }
 {}
 
 /// A session is in a sound state at the beginning, and each rule leads from a sound state to one; so
@@ -114,6 +125,16 @@ pub fn a_secret_is_asked_for_when_it_has_expired()
 pub fn an_answer_is_taken_once()
     ensures once { (number : ℕ) (t : Talk) → IsSound t → answer_of number (take_answer number t) ≡ None }
     ensures unmade { (number : ℕ) (t : Talk) → IsSound t → t.made ≤ number → answer_of number t ≡ None }
+{}
+
+/// An answer that a channel is open names the promise that it answers, and no two listed channels were
+/// opened by one promise, which was made. So a promise and a number name one channel.
+pub fn a_channel_names_what_opened_it()
+    ensures answer { (number id opened : ℕ) (t : Talk) → IsSound t
+        → answer_of number t ≡ Some (Ok (answers.Channel id opened)) → opened ≡ number }
+    ensures made { (n number : ℕ) (t : Talk) → IsSound t → opener n t.channels ≡ Some number → number < t.made }
+    ensures once { (m n number : ℕ) (t : Talk) → IsSound t → opener m t.channels ≡ Some number
+        → opener n t.channels ≡ Some number → m ≡ n }
 {}
 
 /// Events are told once each, and in order, and once none is left, nothing changes. While someone listens

@@ -6,7 +6,6 @@
 //! `Lib.antt` gives in reading order.
 #![tactic(auto)]
 
-mod auth;
 mod capacity;
 mod channels;
 mod command;
@@ -30,11 +29,11 @@ mod shared_errors;
 mod state;
 mod violations;
 
-pub use amqp_promise::{ChannelState, ConnectionState, Error, ErrorKind, IoFault, Result};
-pub use auth::{
+pub use amqp_auth::{
     Asked, AuthList, AuthProvider, DefaultAuthProvider, DefaultTokenProvider, Question, Refusal,
     TokenAuthProvider, TokenProvider,
 };
+pub use amqp_promise::{ChannelState, ConnectionState, Error, ErrorKind, IoFault, Result};
 pub use capacity::{LEAST_CAPACITY, initial_capacity};
 pub use channels::Channels;
 pub use command::{Answer, ChanRef, Cmd};
@@ -43,8 +42,9 @@ pub use event::Event;
 pub use handed::Handed;
 pub use id_sequence::{Id, IdSequence};
 pub use laws::{
-    a_frame_ends_with_its_errors, a_lost_link_answers_what_waits, a_refusal_changes_promises_alone,
-    a_secret_is_asked_for_when_it_has_expired, an_answer_is_taken_once, an_end_is_kept,
+    a_channel_names_what_opened_it, a_frame_ends_with_its_errors, a_lost_link_answers_what_waits,
+    a_refusal_changes_promises_alone, a_secret_is_asked_for_when_it_has_expired,
+    an_answer_is_taken_once, an_end_is_kept, an_outbox_is_full_above_its_limit,
     events_are_told_once, negotiation_leaves_room, states_stay_sound, unsent_bytes_are_counted,
 };
 pub use misread::Misread;

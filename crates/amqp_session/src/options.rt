@@ -2,7 +2,7 @@
 
 ghost use Rattle.std.specs.Prelude.{◌≡◌, ◌<◌, ◌^◌, ℕ, List, length, IfOk, IfSome, OnOk, codes, slice_get};
 ghost use Rattle.amqp_types.specs.Table.{put};
-ghost use Rattle.amqp_session.specs.Config.{no_options, with_locale, with_property, with_name, with_backoff, with_recovery, text_value};
+ghost use Rattle.amqp_session.specs.Config.{no_options, with_locale, with_property, with_name, with_backoff, with_recovery, with_outbox_limit, text_value};
 
 use amqp_types::{AMQPValue, FieldTable, LongString, NoMemory, ShortString};
 use std::alloc::Global;
@@ -142,6 +142,18 @@ impl<A: Drop> ConnectionProperties<A> {
         }
     }
 
+    /// The same with a limit, in octets, on what may wait to be written. A send or a publish by which more
+    /// would wait is refused with `OutboxFull`; nothing else is. What was committed to a link does not
+    /// wait any more. Without a limit, only memory limits what waits.
+    pub fn with_outbox_limit(self, limit: u64) -> ConnectionProperties<A>
+        ensures { result ≡ record self { plain = with_outbox_limit limit self.plain } }
+    {
+        ConnectionProperties {
+            plain: self.plain.with_outbox_limit(limit),
+            auth_provider: self.auth_provider,
+        }
+    }
+
     /// The same with a provider of authentication, which takes the place of one that was given before.
     pub fn with_auth_provider<B>(self, provider: B) -> ConnectionProperties<B>
         ensures { result ≡ record { plain = self.plain; auth_provider = provider } }
@@ -176,6 +188,7 @@ pub(crate) struct Options {
     delays: Vec<u64>,
     has_delays: bool,
     recover: bool,
+    outbox_limit: Option<u64>,
 }
 
 // The delays of a session that recovers and to which none were given, in milliseconds.
@@ -200,6 +213,7 @@ impl Model for Options {
       delays = o.delays.items;
       has_delays = o.has_delays;
       recover = o.recover;
+      outbox_limit = o.outbox_limit;
     } };
 }
 
@@ -214,6 +228,7 @@ impl Options {
             delays: Vec::new(alloc),
             has_delays: false,
             recover: false,
+            outbox_limit: None,
         })
     }
 
@@ -234,6 +249,7 @@ impl Options {
             delays: self.delays,
             has_delays: self.has_delays,
             recover: self.recover,
+            outbox_limit: self.outbox_limit,
         })
     }
 
@@ -266,6 +282,7 @@ impl Options {
             delays: Vec::new(alloc),
             has_delays: self.has_delays,
             recover: self.recover,
+            outbox_limit: self.outbox_limit,
         };
         (self.delays, rest)
     }
@@ -287,11 +304,27 @@ impl Options {
         })
     }
 
+    fn with_outbox_limit(self, limit: u64) -> Options
+        ensures { result ≡ with_outbox_limit limit self }
+    {
+        Options {
+            outbox_limit: Some(limit),
+            ..self
+        }
+    }
+
     // Whether the session goes on where its link is lost.
     pub(crate) fn recovers(&self) -> bool
         ensures { result ≡ self.now.recover }
     {
         self.recover
+    }
+
+    // How many octets may wait once a send or a publish is told, where that is limited.
+    pub(crate) fn outbox_limit(&self) -> Option<u64>
+        ensures { result ≡ self.now.outbox_limit }
+    {
+        self.outbox_limit
     }
 
     // The delay of this place, in milliseconds, where there are so many.

@@ -1,12 +1,13 @@
 //! The frames of a publish.
 
-ghost use Rattle.std.specs.Prelude.{◌≡◌, ◌≤◌, ◌∷◌, IfOk, map};
+ghost use Rattle.std.specs.Prelude.{◌≡◌, ◌≤◌, ◌∷◌, ℕ, IfOk, map};
+ghost use Rattle.amqp_frame.specs.Lengths.{capped};
 ghost use Rattle.amqp_frame.specs.declared.frame.Frame.TheVariants.{Raw};
 ghost use Rattle.amqp_frame.specs.declared.frame.RawKind.TheVariants.{Body};
-ghost use Rattle.amqp_session.specs.Publishing.{content_header, body_pieces};
+ghost use Rattle.amqp_session.specs.Publishing.{content_header, body_pieces, octets_of_frames};
 
 use crate::properties::Properties;
-use amqp_frame::{Frame, RawKind};
+use amqp_frame::{Frame, RawKind, encoded_len};
 use amqp_types::{ChannelId, NoMemory, Payload};
 use std::alloc::Global;
 
@@ -53,4 +54,18 @@ pub fn publish_frames(
         frames.push(Frame::Raw(id, RawKind::Body, piece))?;
     }
     Ok(frames)
+}
+
+/// How many octets spell the frames of a publish, counted up to the greatest number of 64 bits. The
+/// body is not cut for it: each piece has 8 octets around it in its frame.
+pub fn publish_len(method: &Frame, header: &Frame, limit: usize, body: &[u8]) -> u64
+    requires { 1 ≤ limit }
+    ensures { (id : ℕ) → result ≡
+        capped (octets_of_frames (method.now ∷ header.now ∷ map (Raw id Body) (body_pieces limit body.now))) }
+{
+    let len = body.len();
+    let around = (len.div_ceil(limit) as u64).saturating_mul(8);
+    encoded_len(method)
+        .saturating_add(encoded_len(header))
+        .saturating_add(around.saturating_add(len as u64))
 }

@@ -27,6 +27,8 @@ mod flowing;
 #[cfg(test)]
 mod handshake;
 #[cfg(test)]
+mod limits;
+#[cfg(test)]
 mod logins;
 #[cfg(test)]
 mod memory;

@@ -44,6 +44,24 @@ fn an_address_is_told_again(rt: HostRuntime) -> Outcome<()> {
     Ok(())
 }
 
+// The length of a virtual host, and whether a session recovers, without recovery and with it.
+fn lengths_and_recovery(alloc: Global) -> Outcome<(usize, bool, bool)> {
+    let plain = plain_session_to(alloc, "amqp://h/orders")?;
+    let (len, recovers) = (plain.vhost_len(), plain.recovers());
+    drop(plain);
+    let options = ConnectionProperties::new(alloc)?.enable_auto_recover(alloc)?;
+    let other = session_to(alloc, "amqp://h", options)?;
+    let goes_on = other.recovers();
+    drop(other);
+    Ok((len, recovers, goes_on))
+}
+
+#[test]
+fn a_session_tells_what_it_was_made_of(rt: HostRuntime) -> Outcome<()> {
+    assert_eq!(rt; lengths_and_recovery(rt.alloc())?, (6, false, true));
+    Ok(())
+}
+
 /// Addresses, the numbers that they wish, how many bytes can be unsent, and the longest frame that is
 /// read before anything is agreed.
 const WISHES: &[(&str, (u16, u32, u16), u64, u64)] = &[

@@ -9,7 +9,7 @@ use amqp_session::{Answer, ChannelState};
 use amqp_vectors::{
     CHANNEL_CLOSE_1, CHANNEL_CLOSE_404_1, CHANNEL_CLOSE_OK_1, CHANNEL_FLOW_OFF_1,
     CHANNEL_FLOW_OK_OFF_1, CHANNEL_OPEN_1, CHANNEL_OPEN_2, CHANNEL_OPEN_OK_1, CHANNEL_OPEN_OK_2,
-    TUNE_2,
+    CLOSE, CLOSE_OK, TUNE_2,
 };
 
 // The number is free once the last byte of our close-ok was sent.
@@ -151,6 +151,29 @@ fn closes_cross_and_ours_is_answered_first(rt: HostRuntime) -> Outcome<()> {
         Line::Take(1),
         Line::Listed(0),
         Line::IsRunning,
+    ];
+    tell(&rt, rt.alloc(), At::WithChannel, STORY)
+}
+
+// After the server's close of the connection our close of the channel is still not answered, so that the
+// channel stays until the session finishes.
+#[test]
+fn a_channel_that_we_closed_outlasts_the_servers_close(rt: HostRuntime) -> Outcome<()> {
+    const STORY: &[Line] = &[
+        Line::CloseChannel(CHANNEL_1, 2),
+        Line::Read(CHANNEL_CLOSE_404_1),
+        Line::Writes(CHANNEL_CLOSE_1),
+        Line::Writes(CHANNEL_CLOSE_OK_1),
+        Line::Take(21),
+        Line::Read(CLOSE),
+        Line::Take(12),
+        Line::Listed(1),
+        Line::ChannelIs(CHANNEL_1, ChannelState::Closing),
+        Line::IsRunning,
+        Line::Writes(CLOSE_OK),
+        Line::Take(u64::MAX),
+        Line::EndedClosed,
+        Line::Listed(0),
     ];
     tell(&rt, rt.alloc(), At::WithChannel, STORY)
 }

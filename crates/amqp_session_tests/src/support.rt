@@ -12,7 +12,7 @@ use amqp_session::{
 };
 use amqp_types::{LongString, NoMemory, Payload, ShortString, Text};
 use amqp_uri::AMQPUri;
-use amqp_vectors::{CHANNEL_OPEN_OK_1, OPEN_OK, START, TUNE};
+use amqp_vectors::{CHANNEL_OPEN_OK_1, OPEN_OK, START, TUNE, TUNE_2};
 use std::alloc::Global;
 use std::test::Fail;
 
@@ -165,6 +165,8 @@ pub enum At {
     ConnectedBy(&'static str),
     /// The same as `Connected`, with channel 1 open, which promise 1 opened.
     WithChannel,
+    /// The same as `WithChannel`, by a tune with frames of 4,096 octets, and so many octets may wait.
+    LimitedWithChannel(u64),
     /// The same as `New`, and it recovers, by a delay of 50 milliseconds, and then one of 100.
     Recovering,
     /// The same as `WithChannel`, and it recovers so.
@@ -203,10 +205,16 @@ fn recovering(alloc: Global) -> Result<ConnectionProperties, NoMemory> {
     }
 }
 
-// A new session, which recovers or not.
+// A new session, which recovers or not, and has a limit or none.
 fn session_for(alloc: Global, at: At) -> Outcome<Session> {
     match at {
         At::Recovering | At::RecoveringWithChannel => session_by(alloc, recovering(alloc)?),
+        At::LimitedWithChannel(limit) => {
+            session_by(
+                alloc,
+                ConnectionProperties::new(alloc)?.with_outbox_limit(limit),
+            )
+        }
         _ => new_session(alloc),
     }
 }
@@ -229,13 +237,8 @@ fn lead(alloc: Global, session: &mut Session, at: At) -> Outcome<()> {
         At::Linked => link(session),
         At::Connected => connect(alloc, session, TUNE),
         At::ConnectedBy(tune) => connect(alloc, session, tune),
-        At::WithChannel | At::RecoveringWithChannel => {
-            connect(alloc, session, TUNE)?;
-            open_channel(session);
-            read(alloc, session, CHANNEL_OPEN_OK_1)?;
-            send_all(session);
-            Ok(())
-        }
+        At::WithChannel | At::RecoveringWithChannel => connect_with_channel(alloc, session, TUNE),
+        At::LimitedWithChannel(_) => connect_with_channel(alloc, session, TUNE_2),
     }
 }
 
@@ -251,6 +254,15 @@ fn connect(alloc: Global, session: &mut Session, tune: &str) -> Outcome<()> {
     read(alloc, session, START)?;
     read(alloc, session, tune)?;
     read(alloc, session, OPEN_OK)?;
+    send_all(session);
+    Ok(())
+}
+
+// The same, and channel 1.
+fn connect_with_channel(alloc: Global, session: &mut Session, tune: &str) -> Outcome<()> {
+    connect(alloc, session, tune)?;
+    open_channel(session);
+    read(alloc, session, CHANNEL_OPEN_OK_1)?;
     send_all(session);
     Ok(())
 }

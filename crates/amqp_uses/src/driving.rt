@@ -5,7 +5,7 @@ ghost use Rattle.amqp_session.specs.Changes.{present_at, starve};
 ghost use Rattle.amqp_session.specs.Writing.{next_frame};
 ghost use Rattle.amqp_session.specs.ChannelMethods.{frames_of};
 ghost use Rattle.amqp_session.specs.Answers.{answer_of, take_frames};
-ghost use Rattle.amqp_session.specs.DefaultAnswers.{default_answer, AnswersEach};
+ghost use Rattle.amqp_auth.specs.DefaultAnswers.{default_answer, AnswersEach};
 ghost use Rattle.amqp_session.specs.Asking.{Hears};
 ghost use Rattle.amqp_uses.specs.Driving.{space_in, next_octets, stands_in, heard, asked_of, read_of, is_body};
 

@@ -1,8 +1,8 @@
 //! The writing of frames.
 
 ghost use Rattle.std.specs.Prelude.{◌≡◌, ◌≤◌, ◌<◌, ◌+◌, ◌*◌, List, Some, None, true, false, IfNone, IfSome, OnOk, OnErr, IsTrue, IsFalse, option_map, length, is_some};
-ghost use Rattle.amqp_session.specs.declared.auth.asked.Asked.{Asked};
-ghost use Rattle.amqp_session.specs.declared.auth.asked.Question.{Question};
+ghost use Rattle.amqp_auth.specs.declared.asked.Asked.{Asked};
+ghost use Rattle.amqp_auth.specs.declared.asked.Question.{Question};
 ghost use Rattle.amqp_session.specs.Talk.{is_open};
 ghost use Rattle.amqp_engine.specs.Log.{log_write, TookAtMost, PlansWrite};
 ghost use Rattle.amqp_session.specs.Writing.{overlong, end_overlong};

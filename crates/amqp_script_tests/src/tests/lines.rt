@@ -2,8 +2,8 @@
 
 use super::replays::handshake;
 use amqp_engine::MemoryPort;
+use amqp_program::top::top;
 use amqp_replay::status::{CLOSED, FAILED};
-use amqp_replay::top::top;
 use amqp_replay::{MemorySink, MemorySource, ended_at, line_of_step};
 use amqp_session::DefaultAuthProvider;
 use amqp_types::Text;

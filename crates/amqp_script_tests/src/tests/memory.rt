@@ -4,8 +4,8 @@ ghost use Rattle.std.specs.Prelude.{Some};
 
 use super::replays::handshake;
 use amqp_engine::{Given, MemoryPort, Port, ScriptedPort, Told, Wrote};
+use amqp_program::top::top;
 use amqp_replay::status::NO_MEMORY;
-use amqp_replay::top::top;
 use amqp_replay::{MemorySink, MemorySource};
 use amqp_session::DefaultAuthProvider;
 use amqp_types::{NoMemory, Text};

@@ -3,7 +3,7 @@
 ghost use Rattle.std.specs.Prelude.{IfSome};
 
 use amqp_engine::MemoryPort;
-use amqp_replay::top::top;
+use amqp_program::top::top;
 use amqp_replay::{MemorySink, MemorySource};
 use amqp_session::{AuthProvider, DefaultAuthProvider};
 use amqp_types::Text;

@@ -1,7 +1,8 @@
 //! What a frame and a tick ask of the provider.
 
 ghost use Rattle.std.specs.Prelude.{◌≡◌, ◌≤◌, [], Some, Ok, None, IfOk, OnErr, IsTrue, IsFalse};
-ghost use Rattle.amqp_session.specs.Asking.{Asks, Starves};
+ghost use Rattle.amqp_auth.specs.Asking.{Asks};
+ghost use Rattle.amqp_session.specs.Asking.{Starves};
 ghost use Rattle.amqp_session.specs.Causes.{refused_in};
 ghost use Rattle.amqp_types.specs.Counts.{Rose};
 ghost use Rattle.amqp_session.specs.Frames.{questions_in};
@@ -10,10 +11,10 @@ ghost use Rattle.amqp_session.specs.Talk.{has_ended};
 ghost use Rattle.amqp_session.specs.Ticks.{asks_validity, has_expired, secret_questions};
 
 use super::Session;
-use crate::auth::{
+use crate::state::Phase::{AwaitStart, AwaitTune};
+use amqp_auth::{
     AuthList, AuthProvider, ask_challenge, ask_mechanism, ask_refresh, ask_starter, ask_valid_for,
 };
-use crate::state::Phase::{AwaitStart, AwaitTune};
 use amqp_frame::{Frame, Method};
 use amqp_promise::ConnectionState::{Connected, Connecting};
 use amqp_types::{LongString, NoMemory, ShortString, Text};

@@ -118,7 +118,8 @@ impl Session {
     }
 
     fn on_channel_close_ok(&mut self, id: ChannelId, channel: Channel) -> Result<(), NoMemory>
-        requires { IsTrue (is_open self.old) }
+        requires listed { channel_at id self.old ≡ Some channel }
+        requires open { IsTrue (is_open self.old) }
         ensures ok { OnOk result (self.new ≡ on_channel_close_ok id channel self.old) }
         ensures err { OnErr result (self.new ≡ self.old) }
         ensures idle { MakesNothing self.old (on_channel_close_ok id channel self.old) → IsOk result }
@@ -128,7 +129,9 @@ impl Session {
         };
         self.give_to(promise, Answer::Done);
         drop_replies_of(&mut self.outbox, &mut self.promises, id);
-        if channel.debt != Debt::Owed {
+        if channel.debt == Debt::Owed {
+            self.channels.set(id, channel.answered());
+        } else {
             self.channels.remove(id);
         }
         Ok(())
@@ -147,9 +150,8 @@ impl Session {
         ensures err { OnErr result (self.new ≡ self.old) }
         ensures idle { MakesNothing self.old (on_channel_close id code text.now channel self.old) → IsOk result }
     {
-        // Asked only where nothing is owed, so that closes that say nothing new walk no list.
         match channel.debt {
-            Debt::Nothing if self.outbox.awaits(id, Reply::ChannelClosed) => {
+            Debt::Nothing if channel.awaits_close_ok => {
                 self.crossing_close(id, channel, code, text)
             }
             Debt::Nothing => self.close_by_server(id, channel, code, text),

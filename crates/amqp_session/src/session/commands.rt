@@ -1,13 +1,14 @@
 //! The commands.
 
-ghost use Rattle.std.specs.Prelude.{◌≡◌, ◌<◌, ◌≤◌, ◌∷◌, length, map, Some, Ok, IfOk, IfErr, IfSome, IfNone, IsTrue, OnOk, OnErr};
+ghost use Rattle.std.specs.Prelude.{◌≡◌, ◌<◌, ◌≤◌, ◌+◌, ◌∷◌, ℕ, [], length, map, Some, Ok, IfOk, IfErr, IfSome, IfNone, IsTrue, OnOk, OnErr};
 ghost use Rattle.amqp_frame.specs.Frames.{encoding};
 ghost use Rattle.amqp_frame.specs.Lengths.{capped};
+ghost use Rattle.amqp_outbox.specs.Queued.{unsent_octets};
 ghost use Rattle.amqp_types.specs.declared.word.Word.TheVariants as word;
 ghost use Rattle.amqp_session.specs.Channels.{channel_at};
 ghost use Rattle.amqp_session.specs.Changes.{refuse};
 ghost use Rattle.amqp_session.specs.Publishing.{body_pieces};
-ghost use Rattle.amqp_session.specs.Commands.{open_channel, open_as, named, target, close_channel, close_target, queue_send, send, send_target, body_limit, queue_publish, publish, publish_target, tell_flow, flow_target, queue_secret, update_secret, close_connection, drop_target, takes_promise, promise_of, command};
+ghost use Rattle.amqp_session.specs.Commands.{open_channel, open_as, named, target, close_channel, close_target, above_limit, too_full, unless_full, queue_send, send, send_target, body_limit, queue_publish, publish, publish_target, tell_flow, flow_target, queue_secret, update_secret, close_connection, drop_target, takes_promise, promise_of, command};
 
 use super::Session;
 use super::dropping::{drop_groups, drop_groups_of};
@@ -18,11 +19,21 @@ use crate::handshake::{
     channel_flow, channel_open, new_secret, ok_text, our_channel_close, our_close,
 };
 use crate::properties::Properties;
-use crate::publishing::{content_header, publish_frames};
+use crate::publishing::{content_header, publish_frames, publish_len};
 use amqp_frame::{Frame, RawKind, RawMethod, encoded_len};
 use amqp_outbox::{Awaited, Group, Item, Reply};
 use amqp_promise::{ChannelState, ConnectionState, ErrorKind};
 use amqp_types::{ChannelId, LongString, NoMemory, Payload, ReplyCode, ShortString, Word};
+
+// So many octets, where they are more than the limit, if one is set.
+fn above_limit(limit: Option<u64>, octets: u64) -> Option<u64>
+    ensures { result ≡ above_limit limit octets }
+{
+    match limit {
+        Some(limit) if octets > limit => Some(octets),
+        _ => None,
+    }
+}
 
 impl Session {
     /// Does what it is told or refuses it, and gives the number of the promise that will be answered,
@@ -124,7 +135,7 @@ impl Session {
         };
         let close = Item::plain(id, our_channel_close(id, 200, ok_text(self.alloc)?));
         ask(&mut self.outbox, &mut self.committed, close, awaited)?;
-        self.channels.set(id, channel.closing());
+        self.channels.set(id, channel.leaving());
         drop_groups_of(&mut self.outbox, &mut self.promises, id);
         Ok(())
     }
@@ -248,7 +259,7 @@ impl Session {
         let awaited = Awaited::by(Reply::ChannelClosed, self.promises.made());
         let close = Item::plain(id, our_channel_close(id, code, text));
         ask(&mut self.outbox, &mut self.committed, close, awaited)?;
-        self.channels.set(id, channel.closing());
+        self.channels.set(id, channel.leaving());
         drop_groups_of(&mut self.outbox, &mut self.promises, id);
         self.promises.promise_reserved();
         Ok(())
@@ -278,8 +289,33 @@ impl Session {
                 drop(frame);
                 self.refuse(ErrorKind::SerialisationError(size))
             }
+            None => self.send_within(id, frame),
+        }
+    }
+
+    // A frame that is not too long is sent, unless too many octets would wait.
+    fn send_within(&mut self, id: ChannelId, frame: Frame) -> Result<(), NoMemory>
+        ensures ok { OnOk result (self.new ≡
+            unless_full (too_full (frame ∷ []) self.old) (queue_send id frame) self.old) }
+        ensures err { OnErr result (self.new ≡ self.old) }
+    {
+        match self.overflow(encoded_len(&frame)) {
+            Some(octets) => {
+                drop(frame);
+                self.refuse(ErrorKind::OutboxFull(octets))
+            }
             None => self.queue_send(id, frame),
         }
+    }
+
+    // How many octets would wait with so many more, where they are more than the limit that was set. No
+    // number is greater than the greatest of its type.
+    fn overflow(&self, more: u64) -> Option<u64>
+        ensures { (octets : ℕ) → more ≡ capped octets → result ≡
+            above_limit self.now.config.options.outbox_limit (capped (unsent_octets self.now.outbox + octets)) }
+    {
+        let octets = self.outbox.unsent_len().saturating_add(more);
+        above_limit(self.options.outbox_limit(), octets)
     }
 
     // How many octets spell a frame, where it is longer than the capacity.
@@ -358,7 +394,33 @@ impl Session {
                 drop(header);
                 self.refuse(ErrorKind::SerialisationError(size))
             }
-            None => self.queue_publish(id, method, header, body.as_bytes()),
+            None => self.publish_within(id, method, header, body.as_bytes()),
+        }
+    }
+
+    // Frames that are not too long are published, unless too many octets would wait. That is known before
+    // the body is cut.
+    fn publish_within(
+        &mut self,
+        id: ChannelId,
+        method: Frame,
+        header: Frame,
+        body: &[u8],
+    ) -> Result<(), NoMemory>
+        requires { self.old.state ≡ ConnectionState.Connected }
+        ensures ok { let frames = method ∷ header
+            ∷ map (Frame.Raw id RawKind.Body) (body_pieces (body_limit self.old) body.now) in
+            OnOk result (self.new ≡ unless_full (too_full frames self.old) (queue_publish id frames) self.old) }
+        ensures err { OnErr result (self.new ≡ self.old) }
+    {
+        let more = publish_len(&method, &header, self.body_limit(), body);
+        match self.overflow(more) {
+            Some(octets) => {
+                drop(method);
+                drop(header);
+                self.refuse(ErrorKind::OutboxFull(octets))
+            }
+            None => self.queue_publish(id, method, header, body),
         }
     }
 

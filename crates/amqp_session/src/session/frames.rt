@@ -13,8 +13,8 @@ ghost use Rattle.amqp_session.specs.Parts.{login_answers};
 
 use super::Session;
 use super::asking::Login;
-use crate::auth::{AuthList, AuthProvider};
 use crate::violations::{stray_channel_frame, stray_connection_method};
+use amqp_auth::{AuthList, AuthProvider};
 use amqp_frame::{Frame, Method, RawKind};
 use amqp_promise::{ConnectionState, ErrorKind};
 use amqp_types::{ChannelId, NoMemory, Text};

@@ -1,7 +1,7 @@
 //! What a session tells of itself.
 
 ghost use Rattle.std.specs.Prelude.{IfOk, ◌≡◌, ◌<◌, ◌≤◌, ◌^◌, ℕ, List, IsTrue, length};
-ghost use Rattle.amqp_session.specs.declared.auth.asked.Asked.{Asked};
+ghost use Rattle.amqp_auth.specs.declared.asked.Asked.{Asked};
 ghost use Rattle.amqp_session.specs.Talk.{wants_link, is_asked, is_open, acts, hears_on, has_ended, end_of, drops_input};
 ghost use Rattle.amqp_session.specs.Changes.{present_at, next_promise};
 ghost use Rattle.amqp_session.specs.Frames.{on_frame};
@@ -28,6 +28,21 @@ impl Session {
         ensures { IfOk result (λ vhost. vhost ≡ self.now.config.uri.vhost) }
     {
         self.uri.vhost.try_clone(self.alloc)
+    }
+
+    /// How many octets the virtual host of the address has: at most 255.
+    pub fn vhost_len(&self) -> usize
+        ensures len { result ≡ length self.now.config.uri.vhost }
+        ensures short { result ≤ 255 }
+    {
+        self.uri.vhost.len()
+    }
+
+    /// Whether the session goes on where its link is lost (`enable_auto_recover`).
+    pub fn recovers(&self) -> bool
+        ensures { result ≡ self.now.config.options.recover }
+    {
+        self.options.recovers()
     }
 
     /// The user of the address.

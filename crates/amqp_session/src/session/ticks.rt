@@ -12,9 +12,9 @@ ghost use Rattle.amqp_session.specs.Ticks.{beats, is_missed, is_heartbeat_due, m
 use super::Session;
 use super::asking::Validity;
 use super::places::{ask, ask_after};
-use crate::auth::{AuthList, AuthProvider};
 use crate::handshake::{new_secret, refresh_reason};
 use crate::state::Link;
+use amqp_auth::{AuthList, AuthProvider};
 use amqp_frame::Frame;
 use amqp_outbox::{Awaited, Item, Reply};
 use amqp_promise::{ConnectionState, ErrorKind};

@@ -11,7 +11,6 @@ use crate::channels::{Channel, Debt};
 use crate::command::Answer;
 use crate::committed::{Mark, Then};
 use amqp_frame::Frame;
-use amqp_outbox::Reply;
 use amqp_promise::ErrorKind;
 use amqp_types::ChannelId;
 
@@ -110,8 +109,11 @@ impl Session {
         let Some(channel) = self.channels.get(id) else {
             return;
         };
+        if channel.debt != Debt::Owed {
+            return;
+        }
         self.events.pay(id);
-        if self.outbox.awaits(id, Reply::ChannelClosed) {
+        if channel.awaits_close_ok {
             let paid = Channel {
                 debt: Debt::Paid,
                 ..channel

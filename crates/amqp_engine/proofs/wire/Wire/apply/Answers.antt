@@ -1,8 +1,8 @@
 use Rattle.std.proofs.Common.{◌≡◌, ◌∙◌, List, [], length, drop, false, true, Some, None, subst, ap, sym, refl, rules, arith}
 use Rattle.std.proofs.lemmas.List.{append-nil}
-use Rattle.amqp_session.specs.declared.auth.asked.Asked.{Asked}
-use Rattle.amqp_session.specs.Providers.{Allows}
-use Rattle.amqp_session.specs.Asking.{paired}
+use Rattle.amqp_auth.specs.declared.asked.Asked.{Asked}
+use Rattle.amqp_auth.specs.Providers.{Allows}
+use Rattle.amqp_auth.specs.Asking.{paired}
 use Rattle.amqp_session.specs.Talk.{is_open, has_ended}
 use Rattle.amqp_engine.proofs.Answering.{answered-all}
 use Rattle.amqp_engine.specs.Engine.{Engine, starve_at}

@@ -1,9 +1,9 @@
 use Rattle.std.proofs.Common.{◌≡◌, ◌∙◌, ◌+◌, ℕ, List, [], ◌++◌, length, drop, true, Option, Some, append_assoc, ap, sym, refl, subst, arith, rules}
 use Rattle.std.proofs.lemmas.List.{append-nil}
-use Rattle.amqp_session.specs.declared.auth.asked.Question.{Question}
-use Rattle.amqp_session.specs.declared.auth.asked.Asked.{Asked}
-use Rattle.amqp_session.specs.AuthList.{Answers}
-use Rattle.amqp_session.specs.Providers.{Exchange}
+use Rattle.amqp_auth.specs.declared.asked.Question.{Question}
+use Rattle.amqp_auth.specs.declared.asked.Asked.{Asked}
+use Rattle.amqp_auth.specs.AuthList.{Answers}
+use Rattle.amqp_auth.specs.Providers.{Exchange}
 use Rattle.amqp_session.specs.Changes.{starve}
 use Rattle.amqp_engine.specs.Engine.{Engine, front_of, can_read, read_one, read_questions, rule_at}
 use Rattle.amqp_engine.specs.Turn.{reading}

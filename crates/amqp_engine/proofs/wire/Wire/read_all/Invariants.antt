@@ -1,7 +1,7 @@
 -- Reading goes on from here as it did from the beginning, whatever is still to join and to be answered, and each part shortens what is unread.
 use Rattle.std.proofs.Common.{◌≡◌, ◌+◌, ◌*◌, ◌≤◌, ℕ, true, List, ◌++◌, Option, length}
-use Rattle.amqp_session.specs.declared.auth.asked.Question.{Question}
-use Rattle.amqp_session.specs.declared.auth.asked.Asked.{Asked}
+use Rattle.amqp_auth.specs.declared.asked.Question.{Question}
+use Rattle.amqp_auth.specs.declared.asked.Asked.{Asked}
 use Rattle.amqp_engine.specs.Turn.{reading}
 use Rattle.amqp_engine.specs.Making.{making, keeps_unread, IsSettled, piece_joined, Reaches, Heard, Blames}
 use Rattle.amqp_engine.proofs.wire.Wire.read_all.Given as goal

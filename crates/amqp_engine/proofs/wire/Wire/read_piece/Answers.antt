@@ -1,5 +1,5 @@
 use Rattle.std.proofs.lemmas.List.{append-nil}
-use Rattle.amqp_session.specs.declared.auth.asked.Asked.{Asked}
+use Rattle.amqp_auth.specs.declared.asked.Asked.{Asked}
 use Rattle.amqp_engine.proofs.Answering.{asks-none, asks-then, allowed-then, answered-append, drop-both}
 use Rattle.std.proofs.Common.{◌≡◌, ◌∙◌, ◌+◌, ◌-◌, ◌≤◌, ◌<◌, ℕ, List, [], ◌++◌, append_assoc, length, drop, take, Bool, true, false, Some, if◌then◌else◌, ap, sym, refl, subst, arith, rules, length-drop, length-take}
 use Rattle.amqp_session.specs.Talk.{Talk, is_open}

@@ -1,6 +1,6 @@
 -- What joined was read as far as it goes, and the rest of the piece is still to join.
 use Rattle.std.proofs.Common.{◌≡◌, ◌+◌, ◌-◌, ◌*◌, ◌≤◌, if◌then◌else◌, ℕ, true, List, [], ◌++◌, Option, length, drop}
-use Rattle.amqp_session.specs.declared.auth.asked.Asked.{Asked}
+use Rattle.amqp_auth.specs.declared.asked.Asked.{Asked}
 use Rattle.amqp_engine.specs.Engine.{can_read}
 use Rattle.amqp_engine.specs.Turn.{reading}
 use Rattle.amqp_engine.specs.Making.{making, keeps_unread, IsSettled, piece_joined, Reaches, Heard, Blames}

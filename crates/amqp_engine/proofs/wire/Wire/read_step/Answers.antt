@@ -1,6 +1,6 @@
 use Rattle.std.proofs.Common.{rules, ◌≡◌, ◌∙◌, ◌&&◌, true, Bool, IsFalse, [], ◌++◌, length, drop, Some, ap, sym, subst}
 use Rattle.amqp_session.specs.Talk.{is_open}
-use Rattle.amqp_session.specs.Providers.{Allows}
+use Rattle.amqp_auth.specs.Providers.{Allows}
 use Rattle.amqp_engine.specs.Engine.{Engine, step_questions, starve_at}
 use Rattle.amqp_engine.specs.Turn.{is_piece, begun, step_part, reading}
 use Rattle.amqp_types.proofs.Small.{and-false, on-err-then}

@@ -1,12 +1,13 @@
-use Rattle.std.proofs.Common.{◌≡◌, ◌≤◌, ◌∙◌, ap, sym, ◌∷◌, length, arith}
+use Rattle.std.proofs.Common.{◌≡◌, ◌≤◌, ◌∙◌, ap, sym, ℕ, List, ◌∷◌, length, arith}
 use Rattle.std.specs.Prelude.{map}
+use Rattle.amqp_frame.specs.declared.frame.Frame.{Frame}
 use Rattle.amqp_frame.specs.declared.frame.Frame.TheVariants.{Raw}
 use Rattle.amqp_frame.specs.declared.frame.RawKind.TheVariants.{RawMethod, Header, Body}
 use Rattle.amqp_frame.specs.Frames.{encoding}
 use Rattle.amqp_outbox.proofs.Cases.{on-ok}
 use Rattle.amqp_session.specs.Talk.{Talk}
 use Rattle.amqp_session.specs.Publishing.{content_header, body_pieces}
-use Rattle.amqp_session.specs.Commands.{body_limit, queue_publish}
+use Rattle.amqp_session.specs.Commands.{too_full, unless_full, body_limit, queue_publish}
 use Rattle.amqp_session.proofs.Cutting.{publish-fits, neither, none-gives}
 use Rattle.amqp_session.proofs.session.Session.publish.Goals as goal
 
@@ -24,11 +25,12 @@ returns-in-None-clause-ok c =
     c.in_ok-head.ensures
     ∙ ap (λ n. content_header n c.len.result c.args.properties.now) c.class_id.ensures.class
     ∙ ap (λ n. content_header c.args.method.class n c.args.properties.now) c.len.ensures in
-    on-ok c.queue_publish.result
+    let made : List ℕ → List Frame =
+    λ b. Raw c.args.id RawMethod method ∷ Raw c.args.id Header header ∷ map (Raw c.args.id Body) (body_pieces (body_limit t) b) in
+    on-ok c.publish_within.result
     (λ k. k
-    ∙ ap (λ b. queue_publish c.args.id
-    (Raw c.args.id RawMethod method ∷ Raw c.args.id Header header ∷ map (Raw c.args.id Body) (body_pieces (body_limit t) b)) t)
+    ∙ ap (λ b. unless_full (too_full (made b) t) (queue_publish c.args.id (made b)) t)
     c.as_bytes.ensures
     ∙ sym (publish-fits c.args.id c.args.method c.args.properties.now c.args.body.now t method header c.into_payload.ensures.payload is_header
     (omega (arith, large, same)) first second))
-    c.queue_publish.ensures.ok
+    c.publish_within.ensures.ok

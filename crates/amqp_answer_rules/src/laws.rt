@@ -1,0 +1,32 @@
+//! What holds of promises, whatever happens.
+
+ghost use Rattle.std.specs.Prelude.{◌≡◌, ◌↔◌, ℕ, ◌+◌, IsTrue, IsSome};
+ghost use Rattle.amqp_promise.specs.declared.error.ErrorKind.{ErrorKind};
+ghost use Rattle.amqp_session.specs.declared.command.Cmd.{Cmd};
+ghost use Rattle.amqp_session.specs.Listed.{at};
+ghost use Rattle.amqp_session.specs.Talk.{Talk, has_ended};
+ghost use Rattle.amqp_session.specs.Commands.{command, takes_promise};
+ghost use Rattle.amqp_session.specs.Answers.{answer_of};
+ghost use Rattle.amqp_session.specs.Sound.{IsSound};
+ghost use Rattle.amqp_session.specs.Laws.{IsAnsweredAtOnce};
+ghost use Rattle.amqp_answer_rules.specs.Refusals.{IsRefusedWith};
+ghost use Rattle.amqp_answer_rules.specs.Answering.{KeepsPromises};
+
+/// Each rule leaves every promise as it was, or answers one that waited, with an error for the reasons of
+/// that rule alone; so an answer that was given stays until it is taken. A command makes at most one
+/// promise, and no other rule makes any. Once the session has ended, each promise that was made has an
+/// answer, until that is taken.
+pub fn every_promise_has_one_answer()
+    ensures kept { (t : Talk) → KeepsPromises t }
+    ensures made { (cmd : Cmd) (t : Talk) → IsTrue (takes_promise cmd)
+        → ((command cmd t).made ≡ t.made + 1) × IsSome (at t.made (command cmd t).promises) }
+    ensures ended { (number : ℕ) (t : Talk) → IsTrue (has_ended t) → IsSome (at number t.promises)
+        → IsSome (answer_of number t) }
+{}
+
+/// A command that takes a promise is refused at once with an error exactly for the reason of that error, in
+/// a sound state.
+pub fn a_command_is_refused_for_its_reason()
+    ensures { (error : ErrorKind) (cmd : Cmd) (t : Talk) → IsSound t → IsTrue (takes_promise cmd)
+        → IsAnsweredAtOnce error t (command cmd t) ↔ IsRefusedWith error cmd t }
+{}

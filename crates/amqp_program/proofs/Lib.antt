@@ -1,0 +1,5 @@
+-- No line spells more zeros by numbers than are left (`captured`).
+pub mod CapturedLines
+-- What follows the most that is read of a capture says nothing, and a capture that was answered (`checking`).
+pub mod MostCaptured
+pub mod Checked

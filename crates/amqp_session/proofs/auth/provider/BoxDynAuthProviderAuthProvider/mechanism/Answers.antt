@@ -1,7 +1,0 @@
-use Rattle.std.proofs.Common.{subst}
-use Rattle.amqp_session.specs.Providers.{Names}
-use Rattle.amqp_session.proofs.auth.provider.BoxDynAuthProviderAuthProvider.mechanism.Goals as goal
-
-pub returns : goal.returns
-returns g c =
-    subst (λ p. Names ((goal.AuthProvider-dyn g p).allows p.1) c.mechanism.result) c.deref_box-1.ensures.1 c.mechanism.ensures
