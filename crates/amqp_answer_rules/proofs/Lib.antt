@@ -2,6 +2,7 @@
 pub mod Slots
 pub mod OfFrames
 pub mod OfRules
--- Which number is drawn, and why a command is refused.
+-- Which number is drawn for a channel, and why a command is refused.
+pub mod Drawn
 pub mod Refused
 pub mod OneMade

@@ -38,7 +38,7 @@ use Rattle.amqp_session.specs.Ticks.{beat, is_heartbeat_due, is_missed, missing_
 use Rattle.amqp_session.specs.Channels.{channel_at}
 use Rattle.amqp_session.specs.Publishing.{method_frame, publish_frames}
 use Rattle.amqp_session.specs.Handshake.{new_secret}
-use Rattle.amqp_session.specs.Commands.{body_limit, close_target, command, command_rule, drop_target, flow_target, leave_channel, leave_connection, open_drawn, publish_target, queue_publish, queue_secret, queue_send, send_target, target, too_full, too_long, unless_full, unless_too_long, update_secret}
+use Rattle.amqp_session.specs.Commands.{body_limit, close_target, command, command_rule, drop_target, flow_target, leave_channel, leave_connection, open_drawn, publish_target, queue_publish, queue_secret, queue_send, send_target, takes_promise, target, too_full, too_long, unless_full, unless_too_long, update_secret}
 use Rattle.amqp_session.specs.Writing.{channel_close_ok_sent, end_overlong, follow, next_frame, next_within, commit, committed_as, overlong, sent, sent_among, taken}
 use Rattle.amqp_session.specs.Answers.{answer_of, end_event, take_answer, take_event, take_frames, without_event}
 use Rattle.amqp_session.proofs.Heard.{secret-case}
@@ -251,7 +251,28 @@ module _ (t : Talk) (number : ℕ) (other : number ≢ t.made) where
   rule-beside s Listen = inl refl
   rule-beside s cmd = made-beside cmd _
 
+-- ---- commands that take no promise
+
+module _ (t : Talk) where
+  unmade-drop : (cmd : Cmd) (r : Result Channel ErrorKind) (n : ℕ) → IsLeaving cmd (InvalidChannelState channel.Closing word.ChannelClose)
+      → SettlesFor (IsLeaving cmd) t (drop_target r n t)
+  unmade-drop cmd (Err e) n p = leaves-all (IsLeaving cmd) t
+  unmade-drop cmd (Ok c) n p = record { each = settle-groups (IsLeaving cmd) _ (filter (is_on n) t.outbox.publish) t.promises p; made = refl }
+
+  unmade-rule : (s : ConnectionState) (cmd : Cmd) → takes_promise cmd ≡ false → SettlesFor (IsLeaving cmd) t (command_rule s cmd t)
+  unmade-rule Connected (DropChannel r) takes = unmade-drop (DropChannel r) (target r word.ChannelClose t) r.id refl
+  unmade-rule Connected DropConnection takes = record { each = settle-groups (IsLeaving DropConnection) _ t.outbox.publish t.promises refl; made = refl }
+  unmade-rule Connected Listen takes = record { each = λ number. inl refl; made = refl }
+  unmade-rule s (DropChannel r) takes = leaves-all (IsLeaving (DropChannel r)) t
+  unmade-rule s DropConnection takes = leaves-all (IsLeaving DropConnection) t
+  unmade-rule s Listen takes = record { each = λ number. inl refl; made = refl }
+  unmade-rule s cmd takes = absurd cc
+
 -- ---- an answer that is taken
+
+answer-makes : (number : ℕ) (t : Talk) → (take_answer number t).made ≡ t.made
+answer-makes number t =
+    if_case (λ (x : Talk). x.made ≡ t.made) (is_some (answer_of number t)) (record t { promises = without number t.promises }) t refl refl
 
 answer-beside : (number other : ℕ) (t : Talk) → other ≢ number → at other (take_answer number t).promises ≡ at other t.promises
 answer-beside number other t differs =
@@ -278,5 +299,7 @@ keeps-promises t =
       next_frame = λ space. next-settles space t;
       taken = taken-settles t;
       command = λ cmd number other. rule-beside t number other t.state cmd;
+      unmade = λ cmd takes. unmade-rule t t.state cmd takes;
       answer = λ number other differs. answer-beside number other t differs;
+      answer_makes = λ number. answer-makes number t;
     }

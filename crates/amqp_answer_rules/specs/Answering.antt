@@ -1,6 +1,6 @@
 -- What each rule leaves of the promises that were made: an answer that was given stays until it is taken, a promise
 -- that waits goes on to wait or is answered, and an error answers it for the reasons that are listed here alone.
-use Rattle.std.specs.Prelude.{◌≡◌, ◌≢◌, ◌⊎◌, ℕ, suc, List, Option, Some, None, Result, Ok, Err}
+use Rattle.std.specs.Prelude.{◌≡◌, ◌≢◌, ◌⊎◌, ℕ, suc, List, Option, Some, None, Result, Ok, Err, IsFalse}
 use Rattle.amqp_types.specs.declared.word.Word.TheVariants as word
 use Rattle.amqp_types.specs.declared.error.AMQPError.{AMQPError}
 use Rattle.amqp_frame.specs.declared.frame.Frame.{Frame}
@@ -26,6 +26,7 @@ use Rattle.amqp_session.specs.Links as link
 use Rattle.amqp_session.specs.Frames.{on_frame}
 use Rattle.amqp_session.specs.Ticks as ticks
 use Rattle.amqp_session.specs.Commands as told
+use Rattle.amqp_session.specs.Commands.{takes_promise}
 use Rattle.amqp_session.specs.Writing as writing
 use Rattle.amqp_session.specs.Answers.{take_answer, take_event, take_frames}
 
@@ -105,6 +106,9 @@ pub record KeepsPromises (t : Talk) : Type 0 where
   -- beside the promise that a command takes
   pub command : (cmd : Cmd) (number : ℕ) → number ≢ t.made →
       IsSettledFor (IsLeaving cmd) (at number t.promises) (at number (told.command cmd t).promises)
+  -- a command that takes no promise makes none
+  pub unmade : (cmd : Cmd) → IsFalse (takes_promise cmd) → SettlesFor (IsLeaving cmd) t (told.command cmd t)
   -- beside the promise whose answer is taken
   pub answer : (number other : ℕ) → other ≢ number →
       at other (take_answer number t).promises ≡ at other t.promises
+  pub answer_makes : (number : ℕ) → (take_answer number t).made ≡ t.made

@@ -3,4 +3,6 @@
 
 mod laws;
 
-pub use laws::{a_command_is_refused_for_its_reason, every_promise_has_one_answer};
+pub use laws::{
+    a_command_is_refused_for_its_reason, a_drawn_number_is_free, every_promise_has_one_answer,
+};

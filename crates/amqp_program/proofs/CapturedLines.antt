@@ -1,5 +1,5 @@
--- No line of a capture spells more zeros by numbers than are left.
-use Rattle.std.proofs.Common.{◌≡◌, ◌≤◌, ◌&&◌, ℕ, nat_le, not, if◌then◌else◌, Bool, true, false, List, length, Option, Some, None, refl, arith}
+-- Lines of a capture: none spells more zeros by numbers than are left, and one that has not the octet is passed.
+use Rattle.std.proofs.Common.{◌≡◌, ◌≤◌, ◌∙◌, ◌-◌, ◌&&◌, ℕ, nat_le, nat_lt, not, if◌then◌else◌, Bool, true, false, List, [], ◌∷◌, length, slice_get, drop, Option, Some, None, refl, ap, arith}
 use Rattle.std.proofs.lemmas.Bool.Decides.{nat_tests}
 use Rattle.std.specs.List.{list_all}
 use Rattle.amqp_replay.specs.Lines.{Line, is_ignored, is_printable, is_within_limits}
@@ -8,7 +8,7 @@ use Rattle.amqp_replay.specs.Data.{SpelledBytes}
 use Rattle.amqp_program.specs.declared.captured.CaptureLine.{CaptureLine}
 use Rattle.amqp_program.specs.declared.captured.CaptureLine.TheVariants.{Nothing, Refused, Piece}
 use Rattle.amqp_program.specs.declared.captured.Side.{Side}
-use Rattle.amqp_program.specs.Captures.{side_of, piece_captured, octets_spelled, side_line, content_captured, line_captured, zeros_captured}
+use Rattle.amqp_program.specs.Captures.{side_of, piece_captured, octets_spelled, side_line, content_captured, line_captured, octets_on, zeros_captured, line_with}
 
 either : (c : Bool) (one other : CaptureLine) (left : ℕ) → zeros_captured one ≤ left → zeros_captured other ≤ left
     → zeros_captured (if c then one else other) ≤ left
@@ -37,3 +37,16 @@ of_content left content =
 
 pub zeros_within : (left : ℕ) (line : Line) → zeros_captured (line_captured left line) ≤ left
 zeros_within left line = either (is_within_limits line) (content_captured left line.content) Refused left (of_content left line.content) (omega arith)
+
+-- a first line that has not the octet is passed
+pub line-past : (side : Side) (place left : ℕ) (line : Line) (said : CaptureLine) (ls : List Line) → slice_get ls 0 ≡ Some line → line_captured left line ≡ said
+    → nat_lt place (octets_on side said) ≡ false
+    → line_with side place left ls ≡ line_with side (place - octets_on side said) (left - zeros_captured said) (drop 1 ls)
+line-past side place left line said [] first says less = absurd cc
+line-past side place left line said (l ∷ ls) first says less =
+    let same : l ≡ line = cc in
+    let told : line_captured left l ≡ said = ap (line_captured left) same ∙ says in
+    let by_line : CaptureLine → Option ℕ = λ x.
+    if nat_lt place (octets_on side x) then Some l.number else line_with side (place - octets_on side x) (left - zeros_captured x) ls in
+    ap by_line told
+    ∙ ap (λ (b : Bool). if b then Some l.number else line_with side (place - octets_on side said) (left - zeros_captured said) ls) less

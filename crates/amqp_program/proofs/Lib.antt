@@ -1,4 +1,4 @@
--- No line spells more zeros by numbers than are left (`captured`).
+-- No line spells more zeros by numbers than are left, and which line has an octet (`captured`).
 pub mod CapturedLines
 -- What follows the most that is read of a capture says nothing, and a capture that was answered (`checking`).
 pub mod MostCaptured

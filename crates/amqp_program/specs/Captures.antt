@@ -1,5 +1,5 @@
 -- A capture of a link: the octets that each line adds to what a side said, and which line is refused.
-use Rattle.std.specs.Prelude.{ℕ, ◌-◌, ◌&&◌, not, nat_le, if◌then◌else◌, List, [], ◌∷◌, ◌++◌, length, Option, Some, None, Result, Ok, Err, codes}
+use Rattle.std.specs.Prelude.{ℕ, ◌-◌, ◌&&◌, not, nat_le, nat_lt, if◌then◌else◌, List, [], ◌∷◌, ◌++◌, length, Option, Some, None, Result, Ok, Err, codes}
 use Rattle.std.specs.List.{list_all}
 use Rattle.std.specs.Str.{bytes_eq}
 use Rattle.amqp_replay.specs.declared.limits.TheConstants.{ZERO_BYTES}
@@ -96,3 +96,14 @@ octets_on side said = 0
 abbrev pub zeros_captured : CaptureLine → ℕ
 zeros_captured (Piece side bytes zeros) = zeros
 zeros_captured said = 0
+
+-- ---- which line has an octet
+
+-- the number of the line that has the octet of a side at this place, the places being counted from 0 on these lines,
+-- where so many zeros may still be spelled by numbers
+abbrev pub line_with : Side → ℕ → ℕ → List Line → Option ℕ
+line_with side place left [] = None
+line_with side place left (line ∷ lines) =
+    let said = line_captured left line in
+    if nat_lt place (octets_on side said) then Some line.number
+    else line_with side (place - octets_on side said) (left - zeros_captured said) lines

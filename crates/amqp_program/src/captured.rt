@@ -1,7 +1,9 @@
 //! Captures of a link, read from lines.
 
 ghost use Rattle.std.specs.Prelude.{◌≡◌, ◌≤◌, ◌++◌, IfOk, OnOk, Option};
-ghost use Rattle.amqp_program.specs.Captures.{with_piece, side_of as side_named, piece_captured, content_captured, line_captured, octets_spelled, len_on, octets_on, zeros_captured, captured};
+ghost use Rattle.amqp_program.specs.Captures.{with_piece, side_of as side_named, piece_captured, content_captured, line_captured, octets_spelled, len_on, octets_on, zeros_captured, captured, line_with};
+ghost use Rattle.amqp_replay.specs.Lines.{lines};
+ghost use Rattle.amqp_replay.specs.declared.limits.TheConstants.{ZERO_BYTES};
 ghost use Rattle.amqp_program.specs.CapturesRead.{capture_read};
 
 use amqp_replay::data::read_data;
@@ -187,7 +189,9 @@ pub fn line_of_octet(
     side: Side,
     place: u64,
     text: &[u8],
-) -> Result<Option<u64>, NoMemory> {
+) -> Result<Option<u64>, NoMemory>
+    ensures { IfOk result (λ number. number ≡ line_with side place ZERO_BYTES (lines text.now)) }
+{
     let mut lines = Lines::new(text);
     let mut left = ZERO_BYTES;
     // how many octets of the side are left before that one

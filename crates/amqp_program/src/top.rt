@@ -51,6 +51,7 @@ pub fn top<S: Source, K: Sink, P: ScriptedPort, A: AuthProvider>(
     ensures some_capture { asked_by_words words.now ≡ Some Asked.Check → IsSilent result
         ⊎ ChecksSomeCapture (S.left source.old) (K.held sink.old) (K.held sink.new) result }
     ensures portless { asked_by_words words.now ≡ Some Asked.Check → P.log port.new ≡ P.log port.old }
+    ensures untouched { asked_by_words words.now ≡ None → P.log port.new ≡ P.log port.old }
     ensures unread { IsFalse (reads_source (asked_by_words words.now))
         → (S.left source.new ≡ S.left source.old) × (S.faults source.new ≡ S.faults source.old) }
 {
