@@ -8,6 +8,7 @@
 mod asked;
 mod asking;
 mod auth_list;
+mod choice;
 mod default_provider;
 mod default_tokens;
 mod provider;
@@ -17,6 +18,7 @@ mod tokens;
 pub use asked::{Asked, Question, Refusal};
 pub use asking::{ask_challenge, ask_mechanism, ask_refresh, ask_starter, ask_valid_for};
 pub use auth_list::AuthList;
+pub use choice::{HandedProvider, ProviderChoice};
 pub use default_provider::DefaultAuthProvider;
 pub use default_tokens::DefaultTokenProvider;
 pub use provider::AuthProvider;

@@ -46,7 +46,7 @@ all-gone P n (e ∷ es) all = by (is_at (nat_cmp n) e.0) (all-gone P n es all.1)
   by true rest = all.1
   by false rest = (all.0, rest)
 
-all-out : {A : Type 0} (P : A → Type 0) (p : A → Bool) (xs : List A) → AllByRecursion P xs → AllByRecursion P (without_first p xs)
+pub all-out : {A : Type 0} (P : A → Type 0) (p : A → Bool) (xs : List A) → AllByRecursion P xs → AllByRecursion P (without_first p xs)
 all-out P p [] h = tt
 all-out P p (x ∷ xs) h = by (p x) (all-out P p xs h.1) where
   by : (b : Bool) → AllByRecursion P (without_first p xs) → AllByRecursion P (if b then xs else x ∷ without_first p xs)

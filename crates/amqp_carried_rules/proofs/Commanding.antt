@@ -44,7 +44,7 @@ get-front [] c i h = absurd (omega (arith, h))
 get-front (x ∷ cs) c zero h = refl
 get-front (x ∷ cs) c (suc i) h = get-front cs c i (omega (arith, h))
 
-get-last : (cs : List Cmd) (c : Cmd) → slice_get (cs ++ c ∷ []) (length cs) ≡ Some c
+pub get-last : (cs : List Cmd) (c : Cmd) → slice_get (cs ++ c ∷ []) (length cs) ≡ Some c
 get-last [] c = refl
 get-last (x ∷ cs) c = get-last cs c
 

@@ -1,6 +1,6 @@
 -- What the rules of the session do to the frames that were handed out: each leaves them as they are, but for the rule of a frame that is passed
 -- through, which hands it out.
-use Rattle.std.proofs.Common.{◌≡◌, ℕ, zero, suc, ◌==◌, cond, Bool, true, false, if◌then◌else◌, List, [], ◌∷◌, ◌++◌, map, filter, Option, Some, None, unwrap_or, refl, ap, sym, ◌∙◌, arith}
+use Rattle.std.proofs.Common.{◌≡◌, ℕ, zero, suc, ◌==◌, cond, Bool, true, false, if◌then◌else◌, List, [], ◌∷◌, ◌++◌, map, filter, Option, Some, None, unwrap_or, refl, ap, sym, subst, ◌∙◌, arith}
 use Rattle.std.specs.declared.cmp.Ordering.{Ordering}
 use Rattle.std.specs.declared.cmp.Ordering.TheVariants.{Less, Equal, Greater}
 use Rattle.std.specs.Ordering.{nat_cmp, is_eq, match_ordering}
@@ -20,7 +20,10 @@ use Rattle.amqp_promise.specs.declared.error.ErrorKind.{ErrorKind}
 use Rattle.amqp_promise.specs.declared.error.ErrorKind.TheVariants.{InvalidProtocolVersion, InvalidChannel, NoMemory, SerialisationError}
 use Rattle.amqp_promise.specs.declared.io_fault.IoFault.{IoFault}
 use Rattle.amqp_auth.specs.declared.asked.Asked.{Asked}
+use Rattle.std.specs.Map.{keys_of}
 use Rattle.amqp_session.specs.Listed.{at, put}
+use Rattle.amqp_session.specs.Sound.{Ascend}
+use Rattle.amqp_session.proofs.Ascending.{put-ascends}
 use Rattle.amqp_session.specs.Talk.{Talk, has_ended, is_open, is_asked, acts, hears_on}
 use Rattle.amqp_session.specs.Channels.{channel_at}
 use Rattle.amqp_session.specs.Changes.{present_at, lose, misplaced, fail, starve}
@@ -77,10 +80,6 @@ module _ {X : Type 0} (m n : ℕ) (x : X) (other : is_eq (nat_cmp n m) ≡ false
 
 -- ---- what is handed out
 
--- these are the frames that were handed out, each with the promise that opened its channel
-abbrev pub AreHanded : List (ℕ × Handed) → List (ℕ × List Handed) → Type 0
-AreHanded hs listed = (opened : ℕ) → handed_on opened hs ≡ unwrap_or (at opened listed) []
-
 -- a frame that was handed out, as a pair
 abbrev pub as_pair : HandedOut → ℕ × Handed
 as_pair h = (h.opened, h.frame)
@@ -88,20 +87,28 @@ as_pair h = (h.opened, h.frame)
 abbrev pub as_pairs : List HandedOut → List (ℕ × Handed)
 as_pairs hs = map as_pair hs
 
--- these are handed out too
-abbrev pub Hands : List HandedOut → Talk → Talk → Type 0
-Hands more t t' = (hs : List (ℕ × Handed)) → AreHanded hs t.handed → AreHanded (hs ++ as_pairs more) t'.handed
+-- these are handed out too, and the promises stay in order
+pub record Hands (more : List HandedOut) (t t' : Talk) : Type 0 where
+  pub frames : (opened : ℕ) → frames_of opened t' ≡ frames_of opened t ++ handed_on opened (as_pairs more)
+  pub sorted : Ascend (keys_of t.handed) → Ascend (keys_of t'.handed)
 
 -- nothing more is handed out
 abbrev pub IsSameHanded : Talk → Talk → Type 0
 IsSameHanded t t' = t'.handed ≡ t.handed
 
+-- then the same was handed out of each channel
+pub same-frames : (opened : ℕ) (t t' : Talk) → IsSameHanded t t' → frames_of opened t' ≡ frames_of opened t
+same-frames opened t t' same = ap (λ (listed : List (ℕ × List Handed)). unwrap_or (at opened listed) []) same
+
 pub hands-none : (t t' : Talk) → IsSameHanded t t' → Hands [] t t'
-hands-none t t' same hs h opened =
-    ap (handed_on opened) (append-nil hs) ∙ h opened ∙ sym (ap (λ listed. unwrap_or (at opened listed) []) same)
+hands-none t t' same =
+    record {
+      frames = λ opened. same-frames opened t t' same ∙ sym (append-nil (frames_of opened t));
+      sorted = λ s. subst (λ (hs : List (ℕ × List Handed)). Ascend (keys_of hs)) (sym same) s;
+    }
 
 -- what was handed out on a channel, of two lists
-handed_on-append : (opened : ℕ) (hs more : List (ℕ × Handed)) → handed_on opened (hs ++ more) ≡ handed_on opened hs ++ handed_on opened more
+pub handed_on-append : (opened : ℕ) (hs more : List (ℕ × Handed)) → handed_on opened (hs ++ more) ≡ handed_on opened hs ++ handed_on opened more
 handed_on-append opened hs more =
     let own : ℕ × Handed → Bool = λ h. h.0 == opened in
     let frame : ℕ × Handed → Handed = λ h. h.1 in
@@ -109,22 +116,25 @@ handed_on-append opened hs more =
 
 -- a frame is handed out
 hands-one : (o : ℕ) (h : Handed) (t x : Talk) → IsSameHanded t x → Hands (record { opened = o; frame = h } ∷ []) t (hand_out o h x)
-hands-one o h t x same hs are opened =
-    handed_on-append opened hs ((o, h) ∷ []) ∙ ap (λ fs. fs ++ handed_on opened ((o, h) ∷ [])) (are opened ∙ sym (ap (λ listed. unwrap_or (at opened listed) []) same))
-    ∙ by (o == opened) refl
+hands-one o h t x same =
+    record {
+      frames = λ opened.
+          by opened (o == opened) refl ∙ ap (λ fs. fs ++ handed_on opened ((o, h) ∷ [])) (same-frames opened t x same);
+      sorted = λ s.
+          put-ascends o (frames_of o x ++ h ∷ []) x.handed (subst (λ (hs : List (ℕ × List Handed)). Ascend (keys_of hs)) (sym same) s);
+    }
   where
-    by : (b : Bool) → (o == opened) ≡ b
-        → unwrap_or (at opened x.handed) [] ++ handed_on opened ((o, h) ∷ []) ≡ unwrap_or (at opened (put o (frames_of o x ++ h ∷ []) x.handed)) []
-    by true is =
+    by : (opened : ℕ) (b : Bool) → (o == opened) ≡ b → frames_of opened (hand_out o h x) ≡ frames_of opened x ++ handed_on opened ((o, h) ∷ [])
+    by opened true is =
         let here : o ≡ opened = grind (arith, nat_tests, is) in
         let own : handed_on opened ((o, h) ∷ []) ≡ h ∷ [] = ap (λ (c : Bool). map (λ (e : ℕ × Handed). e.1) (if c then (o, h) ∷ [] else [])) is in
         let put_in : at opened (put o (frames_of o x ++ h ∷ []) x.handed) ≡ Some (frames_of o x ++ h ∷ []) =
         ap (λ n. at n (put o (frames_of o x ++ h ∷ []) x.handed)) (sym here) ∙ at-put o (frames_of o x ++ h ∷ []) x.handed in
-        ap (λ fs. unwrap_or (at opened x.handed) [] ++ fs) own ∙ ap (λ n. frames_of n x ++ h ∷ []) (sym here) ∙ sym (ap (λ fs. unwrap_or fs []) put_in)
-    by false other =
+        ap (λ fs. unwrap_or fs []) put_in ∙ ap (λ n. frames_of n x ++ h ∷ []) here ∙ ap (λ fs. frames_of opened x ++ fs) (sym own)
+    by opened false other =
         let none : handed_on opened ((o, h) ∷ []) ≡ [] = ap (λ (c : Bool). map (λ (e : ℕ × Handed). e.1) (if c then (o, h) ∷ [] else [])) other in
-        ap (λ fs. unwrap_or (at opened x.handed) [] ++ fs) none ∙ append-nil _
-        ∙ sym (ap (λ fs. unwrap_or fs []) (at-put-other o opened (frames_of o x ++ h ∷ []) (apart o opened other) x.handed))
+        ap (λ fs. unwrap_or fs []) (at-put-other o opened (frames_of o x ++ h ∷ []) (apart o opened other) x.handed)
+        ∙ sym (append-nil (frames_of opened x)) ∙ ap (λ fs. frames_of opened x ++ fs) (sym none)
 
 -- ---- frames
 

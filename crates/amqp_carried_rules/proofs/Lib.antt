@@ -5,5 +5,9 @@ pub mod Borne
 pub mod Bearers
 pub mod Commanding
 pub mod Leaving
--- What each frame hands out.
+pub mod Taking
+-- What each frame hands out, and under which promise.
 pub mod Handing
+pub mod Entries
+pub mod Openers
+pub mod OpeningCommands

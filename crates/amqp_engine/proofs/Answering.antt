@@ -1,9 +1,9 @@
 -- Answers to what was asked, one part after another.
-use Rattle.std.proofs.Common.{◌≡◌, ◌∙◌, sym, ap, subst, refl, ℕ, ◌+◌, length, drop, List, [], ◌∷◌, ◌++◌, append_assoc, Option, Some, arith}
+use Rattle.std.proofs.Common.{◌≡◌, ◌∙◌, sym, ap, subst, refl, ℕ, ◌+◌, length, take, drop, List, [], ◌∷◌, ◌++◌, append_assoc, length-append, Option, Some, None, arith}
 use Rattle.amqp_auth.specs.declared.asked.Question.{Question}
 use Rattle.amqp_auth.specs.declared.asked.Asked.{Asked}
 use Rattle.amqp_auth.specs.Providers.{Exchange, Allows}
-use Rattle.amqp_auth.specs.Asking.{paired, Answer, Asks}
+use Rattle.amqp_auth.specs.Asking.{paired, Answer, Unanswered, Asks}
 use Rattle.amqp_frame.specs.declared.frame.Read.{Read}
 use Rattle.amqp_frame.specs.declared.frame.Read.TheVariants.{Whole, More, TooLarge, BadHeartbeat, Bad, NoMemory}
 use Rattle.amqp_session.specs.Talk.{Talk}
@@ -11,6 +11,7 @@ use Rattle.amqp_session.specs.Changes.{present_at}
 use Rattle.amqp_engine.specs.Plan.{at_most_64}
 use Rattle.amqp_engine.specs.Engine.{Engine, settle, read_row, row_questions}
 use Rattle.amqp_engine.specs.Turn.{IsAnswered}
+use Rattle.amqp_engine.specs.Tell.{MayCome}
 use Rattle.amqp_session.proofs.Hearing.{frame-more}
 use Rattle.std.proofs.lemmas.List.{append-nil}
 
@@ -21,52 +22,67 @@ answer-size (q ∷ qs) (a ∷ more) h = (let k = answer-size qs more h.1 in omeg
 answer-size [] (a ∷ more) h = absurd h
 answer-size (q ∷ qs) [] h = absurd h
 
-pub answered-all : (cut : Option ℕ) (questions : List Question) (answers : List Asked) → Answer questions answers → IsAnswered cut questions answers
-answered-all cut [] [] h = tt
-answered-all cut (q ∷ qs) (a ∷ more) h = (h.0, answered-all cut qs more h.1)
-answered-all cut [] (a ∷ more) h = absurd h
-answered-all cut (q ∷ qs) [] h = absurd h
+-- these are answered first, whatever is asked besides
+answers-first : (qs next : List Question) (xs : List Asked) → Answer qs xs → Answer (take (length xs) (qs ++ next)) xs
+answers-first [] next [] h = tt
+answers-first (q ∷ qs) next (x ∷ xs) h = (h.0, answers-first qs next xs h.1)
+answers-first [] next (x ∷ xs) h = absurd h
+answers-first (q ∷ qs) next [] h = absurd h
+
+pub answered-all : (cut : Option ℕ) (qs next : List Question) (xs : List Asked) → Answer qs xs → IsAnswered cut qs next xs
+answered-all None qs next xs h = h
+answered-all (Some j) qs next xs h = (omega (arith, answer-size qs xs h), answers-first qs next xs h)
 
 -- where memory was refused, answers may follow to what was asked last
-pub answered-none : (n : ℕ) (answers : List Asked) → IsAnswered (Some n) [] answers
-answered-none n [] = tt
-answered-none n (a ∷ more) = tt
+answers-then : (qs qs' next : List Question) (xs more : List Asked) → Answer qs xs → Answer (take (length more) (qs' ++ next)) more
+    → Answer (take (length (xs ++ more)) ((qs ++ qs') ++ next)) (xs ++ more)
+answers-then [] qs' next [] more h k = k
+answers-then (q ∷ qs) qs' next (x ∷ xs) more h k = (h.0, answers-then qs qs' next xs more h.1 k)
+answers-then [] qs' next (x ∷ xs) more h k = absurd h
+answers-then (q ∷ qs) qs' next [] more h k = absurd h
 
-pub answered-more : (n : ℕ) (questions : List Question) (answers more : List Asked) → Answer questions answers → IsAnswered (Some n) questions (answers ++ more)
-answered-more n [] [] more h = answered-none n more
-answered-more n (q ∷ qs) (a ∷ rest) more h = (h.0, answered-more n qs rest more h.1)
-answered-more n [] (a ∷ rest) more h = absurd h
-answered-more n (q ∷ qs) [] more h = absurd h
+pub answered-append : (n : ℕ) (qs qs' next : List Question) (xs more : List Asked) → Answer qs xs → IsAnswered (Some n) qs' next more
+    → IsAnswered (Some n) (qs ++ qs') next (xs ++ more)
+answered-append n qs qs' next xs more h k = (
+  omega (arith, answer-size qs xs h, length-append qs qs', length-append xs more, k.0),
+  answers-then qs qs' next xs more h k.1,
+)
 
--- the same of a number of parts that is none or another
-pub answered-at : (n m : ℕ) (questions : List Question) (answers : List Asked) → IsAnswered (Some n) questions answers → IsAnswered (Some m) questions answers
-answered-at n m [] [] h = tt
-answered-at n m (q ∷ qs) (a ∷ rest) h = (h.0, answered-at n m qs rest h.1)
-answered-at n m [] (a ∷ rest) h = tt
-answered-at n m (q ∷ qs) [] h = absurd h
+pub answered-more : (n : ℕ) (qs next : List Question) (xs more : List Asked) → Answer qs xs → Answer (take (length more) next) more
+    → IsAnswered (Some n) qs next (xs ++ more)
+answered-more n qs next xs more h k =
+    let P : List Question → Type 0 = λ q. IsAnswered (Some n) q next (xs ++ more) in
+    subst P (append-nil qs) (answered-append n qs [] next xs more h (omega arith, k))
 
-pub paired-nothing : (answers : List Asked) → paired [] answers ≡ []
-paired-nothing [] = refl
-paired-nothing (a ∷ more) = refl
+-- of questions that are not answered there is no pair
+pub paired-none : (qs : List Question) → paired qs [] ≡ []
+paired-none [] = refl
+paired-none (q ∷ qs) = refl
 
--- what is answered beyond what was asked is in no pair
-pub paired-more : (questions : List Question) (answers more : List Asked) → Answer questions answers → paired questions (answers ++ more) ≡ paired questions answers
-paired-more [] [] more h = paired-nothing more
-paired-more (q ∷ qs) (a ∷ rest) more h = ap (λ (x : Exchange). (q, a) ∷ x) (paired-more qs rest more h.1)
-paired-more [] (a ∷ rest) more h = absurd h
-paired-more (q ∷ qs) [] more h = absurd h
+paired-front : (qs next : List Question) (xs : List Asked) → Answer qs xs → paired (qs ++ next) xs ≡ paired qs xs
+paired-front [] next [] h = paired-none next
+paired-front (q ∷ qs) next (x ∷ xs) h = ap (λ (y : Exchange). (q, x) ∷ y) (paired-front qs next xs h.1)
+paired-front [] next (x ∷ xs) h = absurd h
+paired-front (q ∷ qs) next [] h = absurd h
+
+-- and where all was answered, what is asked besides changes nothing
+pub may-front : (cut : Option ℕ) (before after : Exchange → Type 0) (qs next : List Question) (xs : List Asked) → Answer qs xs
+    → MayCome cut before after (paired qs xs) → MayCome cut before after (paired (qs ++ next) xs)
+may-front cut before after qs next xs h may =
+    let P : Exchange → Type 0 = λ x. MayCome cut before after x in
+    subst P (sym (paired-front qs next xs h)) may
+
+-- nothing was asked, and memory was refused
+pub unanswered-none : (asked : List Asked → List Question) (before : Exchange → Type 0) (list list' : List Asked) → list' ≡ list
+    → Unanswered asked before list list'
+unanswered-none asked before list list' same =
+    record { answers = []; listed = same ∙ sym (append-nil list); fits = tt; allowed = subst (Allows before) (sym (paired-none (asked []))) tt }
 
 answer-append : (qs qs' : List Question) (xs xs' : List Asked) → Answer qs xs → Answer qs' xs' → Answer (qs ++ qs') (xs ++ xs')
 answer-append [] qs' [] xs' h k = k
 answer-append (q ∷ qs) qs' (x ∷ xs) xs' h k = (h.0, answer-append qs qs' xs xs' h.1 k)
 answer-append [] qs' (x ∷ xs) xs' h k = absurd h
 answer-append (q ∷ qs) qs' [] xs' h k = absurd h
-
-pub answered-append : (n : ℕ) (qs qs' : List Question) (xs xs' : List Asked) → Answer qs xs → IsAnswered (Some n) qs' xs' → IsAnswered (Some n) (qs ++ qs') (xs ++ xs')
-answered-append n [] qs' [] xs' h k = k
-answered-append n (q ∷ qs) qs' (x ∷ xs) xs' h k = (h.0, answered-append n qs qs' xs xs' h.1 k)
-answered-append n [] qs' (x ∷ xs) xs' h k = absurd h
-answered-append n (q ∷ qs) qs' [] xs' h k = absurd h
 
 paired-append : (qs qs' : List Question) (xs xs' : List Asked) → Answer qs xs → paired (qs ++ qs') (xs ++ xs') ≡ paired qs xs ++ paired qs' xs'
 paired-append [] qs' [] xs' h = refl
@@ -97,12 +113,6 @@ pub allowed-then : (qs qs' : List Question) (xs xs' : List Asked) (before betwee
 allowed-then qs qs' xs xs' before between list mid a h =
     subst (Allows before)
     (sym (paired-append qs qs' xs xs' a.all)) (a.allowed (paired qs' xs') h)
-
--- what was asked, and then memory was refused
-pub allowed-done : (qs : List Question) (xs more : List Asked) (before after : Exchange → Type 0) (list list' : List Asked)
-    → Asks qs xs before after list list' → Allows before (paired qs (xs ++ more))
-allowed-done qs xs more before after list list' a =
-    subst (Allows before) (append-nil (paired qs xs) ∙ sym (paired-more qs xs more a.all)) (a.allowed [] tt)
 
 -- what is read goes by the answers to what it asks alone
 pub row-more : (at : ℕ) (r : Read) (answers more : List Asked) (e : Engine) → Answer (row_questions at r e) answers → read_row at r (answers ++ more) e ≡ read_row at r answers e

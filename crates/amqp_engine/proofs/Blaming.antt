@@ -14,7 +14,7 @@ use Rattle.amqp_engine.specs.declared.port.Step.{Step}
 use Rattle.amqp_types.specs.Counts.{Rose}
 use Rattle.amqp_engine.specs.Log.{Log}
 use Rattle.amqp_engine.specs.Engine.{Engine, settle, rule_at, step_engine, read_row}
-use Rattle.amqp_engine.specs.Turn.{Progress, write_answers, drained}
+use Rattle.amqp_engine.specs.Turn.{Progress, answers_of_writes, drained}
 use Rattle.amqp_engine.specs.Making.{is_whole, piece_joined, Writes, Blames}
 use Rattle.amqp_engine.specs.Causes.{IsReadError}
 use Rattle.amqp_types.proofs.Small.{if_case}
@@ -62,9 +62,10 @@ blames-starve at x x' m n same =
     (blames-ends P x.talk (starve (present_at at x.talk)) m n (λ text p. cc) (starved-cause P (Some 0) at x (λ h. refl)))
 
 -- writes
-pub blames-writes : (p q : Progress) (log log' : Option Log) (count count' m n : ℕ) → Writes p q log log' count count' → Blames p.engine.talk q.engine.talk m n
-blames-writes p q log log' count count' m n w =
-    let ws = write_answers w.notes in
+pub blames-writes : (tooks : List ℕ) (failed : Bool) (p q : Progress) (log log' : Option Log) (count count' m n : ℕ) → Writes tooks failed p q log log' count count'
+    → Blames p.engine.talk q.engine.talk m n
+blames-writes tooks failed p q log log' count count' m n w =
+    let ws = answers_of_writes tooks failed in
     subst (λ (r : Progress). Blames p.engine.talk r.engine.talk m n) w.leaves
     (blames-ends (WritesError ws p) p.engine.talk (drained ws p).engine.talk m n (λ text e. e) (ends-drained ws p))
 

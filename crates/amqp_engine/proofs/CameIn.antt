@@ -1,352 +1,101 @@
--- What was handed out was read, once each and in order.
-use Rattle.std.proofs.Common.{◌≡◌, ◌≤◌, ◌+◌, ◌⊎◌, inl, inr, ℕ, zero, suc, ◌&&◌, if◌then◌else◌, Bool, true, false, true≢false, List, [], ◌∷◌, ◌++◌, length, drop, map, Option, Some, None, unwrap_or, refl, ap, sym, ◌∙◌, subst, arith, append_assoc, length-append}
-use Rattle.std.specs.List.{flat_map}
-use Rattle.std.proofs.lemmas.List.{append-nil, map-append}
-use Rattle.std.proofs.lemmas.List.Elements.{filter-append}
+-- What was handed out came, once each and in order: the frames that are read stand first in the octets of their link. What is
+-- known of them, and what a step leaves of it.
+use Rattle.std.proofs.Common.{◌≡◌, ◌≢◌, ◌⊎◌, inl, inr, ℕ, not, if◌then◌else◌, Bool, true, false, true≢false, List, [], ◌∷◌, ◌++◌, drop, map, refl, ap, sym, ◌∙◌, subst}
+use Rattle.std.specs.Map.{keys_of}
+use Rattle.std.proofs.lemmas.List.{append-nil, drop-append-le}
 use Rattle.std.proofs.lemmas.Grind.{flat_map-append}
 use Rattle.amqp_frame.specs.declared.frame.Frame.{Frame}
-use Rattle.amqp_frame.specs.declared.frame.Frame.TheVariants.{ProtocolHeader, Method, Raw, Heartbeat}
-use Rattle.amqp_frame.specs.declared.frame.RawKind.{RawKind}
-use Rattle.amqp_frame.specs.declared.frame.Read.{Read}
-use Rattle.amqp_frame.specs.declared.frame.Read.TheVariants.{Whole, More, TooLarge, BadHeartbeat, Bad, NoMemory as ReadNoMemory}
-use Rattle.amqp_outbox.specs.declared.item.Item.{Item}
-use Rattle.amqp_promise.specs.declared.io_fault.IoFault.TheVariants.{Aborted, Reset, BrokenPipe}
-use Rattle.amqp_session.specs.declared.channels.Channel.{Channel}
+use Rattle.amqp_frame.specs.declared.frame.Read.TheVariants.{Whole, More}
+use Rattle.amqp_frame.specs.FrameReading.{front}
+use Rattle.amqp_frame.proofs.Sequences.{front-stays, frame-size}
+use Rattle.amqp_promise.specs.declared.io_fault.IoFault.TheVariants.{Aborted, Reset}
+use Rattle.amqp_session.specs.declared.command.Cmd.{Cmd}
 use Rattle.amqp_session.specs.declared.handed.Handed.{Handed}
-use Rattle.amqp_session.specs.declared.misread.Misread.{Misread}
-use Rattle.amqp_session.specs.declared.misread.Misread.TheVariants as misreads
 use Rattle.amqp_auth.specs.declared.asked.Asked.{Asked}
-use Rattle.amqp_session.specs.Listed.{at}
-use Rattle.amqp_session.specs.Talk.{Talk, acts, is_open, is_asked, has_ended}
+use Rattle.amqp_session.specs.Talk.{Talk, is_open, is_asked, drops_input, is_dropped_input}
 use Rattle.amqp_session.specs.Changes.{present_at}
-use Rattle.amqp_session.specs.Channels.{channel_at}
-use Rattle.amqp_session.specs.ChannelMethods.{heard_on}
-use Rattle.amqp_session.specs.Frames.{on_frame}
-use Rattle.amqp_session.specs.Links.{asked, linked, link_failed, piece, misread, lost}
+use Rattle.amqp_session.specs.ChannelMethods.{frames_of}
+use Rattle.amqp_session.specs.Links.{asked, linked, link_failed, piece, lost}
 use Rattle.amqp_session.specs.Ticks.{tick}
 use Rattle.amqp_session.specs.Commands.{command}
-use Rattle.amqp_session.specs.Writing.{frames_waiting, taken, end_overlong}
-use Rattle.amqp_carried_rules.specs.HandingOut.{HandedOut, handed_of, hands_out}
-use Rattle.amqp_carried_rules.specs.CommandFrames.{is_raw}
+use Rattle.amqp_session.specs.Sound.{Ascend}
+use Rattle.amqp_types.proofs.Small.{if_case, if-true, if-false, and-true, and-false}
+use Rattle.amqp_session.proofs.Keeping.{present-keeps, kept-open, failed-keeps, lost-keeps, tick-keeps, stays-command}
+use Rattle.amqp_session.proofs.Walk.{CommandRows, command-keeps}
+use Rattle.amqp_carried_rules.specs.HandingOut.{handed_on}
+use Rattle.amqp_carried_rules.proofs.Handing.{IsSameHanded, same-frames, command-handed, present-handed, linked-handed, failed-handed, piece-handed, lost-handed, tick-handed}
 use Rattle.amqp_engine.specs.declared.port.Step.{Step}
 use Rattle.amqp_engine.specs.declared.port.Step.TheVariants.{Linked, LinkFailed, Piece, End, Fault, Room, Tick, Command}
-use Rattle.amqp_engine.specs.declared.port.Wrote.{Wrote}
-use Rattle.amqp_engine.specs.declared.port.Wrote.TheVariants.{Took, Failed, NoMemory}
 use Rattle.amqp_engine.specs.Log.{on_last}
-use Rattle.amqp_engine.specs.Plan.{at_most_64}
-use Rattle.amqp_engine.specs.Engine.{Engine, begin, with_talk, rule_at, settle, step_engine, step_questions, front_of, can_read, read_row, read_badly, commit_all, overlong_next, ended_overlong, refuse_overlong, took, wrote}
-use Rattle.amqp_engine.specs.Turn.{Turn, write_answers, Progress, asks, wants_ask, begun, goes, part, questioned, is_part, is_piece, step_part, reads, read_part, reading, offered, answered, offer_part, drained, is_all, read, after_writes, applied, turn, turns, starved_after, IsTurn, AreTurns}
-use Rattle.amqp_engine.specs.Sending.{Sending, offer_sending, offers_sending, step_sending, turn_sending, nothing_sent}
-use Rattle.amqp_engine.specs.Exchange.{Event, Heard, Said, heard_in, heard_by, heard_of, said_of, step_exchange, turn_exchange, exchange_from, exchange}
-use Rattle.amqp_engine.specs.Carried.{IsSubsequence, none, kept, left_out, raw_frames, concatenated, frame_of, CameIn}
-use Rattle.amqp_engine.specs.Account.{heard_frame, IsNew, account}
-use Rattle.amqp_types.proofs.Small.{if_case, if-false, and-false}
-use Rattle.amqp_carried_rules.proofs.Handing.{AreHanded, as_pairs, Hands, IsSameHanded, hands-none, frame-hands, command-handed, present-handed, linked-handed, failed-handed, piece-handed, lost-handed, tick-handed, misread-handed, taken-handed, overlong-handed, starve-handed, present-hands_out}
-use Rattle.amqp_engine.proofs.Settling.{settle-talk}
-use Rattle.amqp_engine.proofs.Commits.{commits-keep}
-use Rattle.amqp_engine.proofs.LinkKept.{leaves-step}
+use Rattle.amqp_engine.specs.Making.{keeps_unread}
+use Rattle.amqp_engine.specs.Engine.{Engine, with_talk, rule_at, settle, step_engine, step_linked, step_questions}
+use Rattle.amqp_engine.specs.Turn.{Progress, asks, wants_ask, goes, part, questioned, is_part, is_piece, step_part, read}
+use Rattle.amqp_engine.specs.Carried.{IsSubsequence, raw_frames, concatenated, frame_of, StandFirst, StandOnLinks}
+use Rattle.amqp_engine.specs.Account.{step_came}
+use Rattle.amqp_engine.proofs.Settling.{settle-talk, settle-unread}
+use Rattle.amqp_engine.proofs.LinkKept.{asked-open, asked-not-open, kept-present, leaves-step}
 use Rattle.amqp_engine.proofs.Sent.{on_last-append}
-use Rattle.amqp_engine.proofs.Sends as sends
-use Rattle.amqp_engine.proofs.Sends.{Sends, offers-same}
-use Rattle.amqp_engine.proofs.Lifting as lifting
 
--- ---- what is handed out, one after the other
+-- ---- frames at the front of octets
 
-hands-then : (first later : List HandedOut) (t u v : Talk) → Hands first t u → Hands later u v → Hands (first ++ later) t v
-hands-then first later t u v k l hs h =
-    let both : (hs ++ as_pairs first) ++ as_pairs later ≡ hs ++ as_pairs (first ++ later) =
-    append_assoc hs (as_pairs first) (as_pairs later) ∙ ap (λ x. hs ++ x) (sym (map-append _ first later)) in
-    subst (λ (x : List (ℕ × Handed)). AreHanded x v.handed) both (l (hs ++ as_pairs first) (k hs h))
+-- these frames stand first, and this is behind them
+abbrev pub StandTo : List ℕ → List Frame → List ℕ → Type 0
+StandTo octets [] rest = octets ≡ rest
+StandTo octets (f ∷ fs) rest = (limit : ℕ) × (n : ℕ) × (front octets limit ≡ Whole f n) × StandTo (drop n octets) fs rest
 
--- what leaves it as it is may come before
-hands-before : (more : List HandedOut) (s t u : Talk) → IsSameHanded s t → Hands more t u → Hands more s u
-hands-before more s t u same k hs h = k hs (λ opened. h opened ∙ sym (ap (λ listed. unwrap_or (at opened listed) []) same))
+pub stand-first : (octets : List ℕ) (fs : List Frame) (rest : List ℕ) → StandTo octets fs rest → StandFirst octets fs
+stand-first octets [] rest h = tt
+stand-first octets (f ∷ fs) rest h = (h.0, h.1, h.2, stand-first (drop h.1 octets) fs rest h.3)
 
--- and after
-hands-after : (more : List HandedOut) (s t u : Talk) → Hands more s t → IsSameHanded t u → Hands more s u
-hands-after more s t u k same hs h opened = k hs h opened ∙ sym (ap (λ listed. unwrap_or (at opened listed) []) same)
+-- a frame that is whole stays so when more octets come
+whole-stays : (octets more : List ℕ) (limit n : ℕ) (f : Frame) → front octets limit ≡ Whole f n → front (octets ++ more) limit ≡ Whole f n
+whole-stays octets more limit n f is = front-stays octets more limit (λ none_there. (let clash : Whole f n ≡ More = sym is ∙ none_there in cc)) ∙ is
 
--- what an event handed out
-abbrev handed_in : Event → List HandedOut
-handed_in (Heard f hs) = hs
-handed_in (Said item) = []
+behind : (octets more : List ℕ) (limit n : ℕ) (f : Frame) → front octets limit ≡ Whole f n → drop n (octets ++ more) ≡ drop n octets ++ more
+behind octets more limit n f is = drop-append-le n octets more (frame-size octets limit n f is).1
 
--- and several events, one after another
-abbrev handed_by : List Event → List HandedOut
-handed_by events = flat_map handed_in events
+stand-more : (octets : List ℕ) (fs : List Frame) (rest more : List ℕ) → StandTo octets fs rest → StandTo (octets ++ more) fs (rest ++ more)
+stand-more octets [] rest more h = ap (λ xs. xs ++ more) h
+stand-more octets (f ∷ fs) rest more h =
+    let P : List ℕ → Type 0 = λ xs. StandTo xs fs (rest ++ more) in
+    (h.0, h.1, whole-stays octets more h.0 h.1 f h.2, subst P (sym (behind octets more h.0 h.1 f h.2)) (stand-more (drop h.1 octets) fs rest more h.3))
 
--- the frames that were heard
-abbrev heard_frames : List Event → List Frame
-heard_frames events = flat_map heard_frame events
+first-more : (octets : List ℕ) (fs : List Frame) (more : List ℕ) → StandFirst octets fs → StandFirst (octets ++ more) fs
+first-more octets [] more h = tt
+first-more octets (f ∷ fs) more h =
+    let P : List ℕ → Type 0 = λ xs. StandFirst xs fs in
+    (h.0, h.1, whole-stays octets more h.0 h.1 f h.2, subst P (sym (behind octets more h.0 h.1 f h.2)) (first-more (drop h.1 octets) fs more h.3))
 
--- ---- what the parts of a turn hand out
-
-asks-handed : (e : Engine) → IsSameHanded e.talk (asks e).talk
-asks-handed e = if_case (λ (x : Engine). IsSameHanded e.talk x.talk) (wants_ask e) (with_talk asked e) e refl refl
-
-rule-handed : (at : ℕ) (f : Talk → Talk) (e : Engine) → IsSameHanded (present_at at e.talk) (f (present_at at e.talk)) → IsSameHanded e.talk (rule_at at f e).talk
-rule-handed at f e same = same ∙ present-handed at e.talk
-
-settled-handed : (t : Talk) (e : Engine) → IsSameHanded t e.talk → IsSameHanded t (settle e).talk
-settled-handed t e same = ap (λ (x : Talk). x.handed) (settle-talk e) ∙ same
-
--- no step hands anything out
-step-handed : (at : ℕ) (step : Step) (bytes : List ℕ) (answers : List Asked) (e : Engine) → IsSameHanded e.talk (step_engine at step bytes answers e).talk
-step-handed at Linked bytes answers e =
-    if_case (λ (x : Engine). IsSameHanded e.talk x.talk) (is_asked e.talk)
-    (record { talk = linked (present_at at e.talk); unread = []; place = 0; unsent = []; starved = e.starved }) (rule_at at (λ t. t) e)
-    (linked-handed (present_at at e.talk) ∙ present-handed at e.talk) (present-handed at e.talk)
-step-handed at LinkFailed bytes answers e =
-    settled-handed e.talk (rule_at at link_failed e) (rule-handed at link_failed e (failed-handed (present_at at e.talk)))
-step-handed at (Piece n) bytes answers e =
-    let x : Engine = record e { talk = piece (present_at at e.talk); unread = e.unread ++ bytes } in
-    if_case (λ (y : Engine). IsSameHanded e.talk y.talk) (is_open e.talk) (settle x) (rule_at at (λ t. t) e)
-    (settled-handed e.talk x (piece-handed (present_at at e.talk) ∙ present-handed at e.talk)) (present-handed at e.talk)
-step-handed at End bytes answers e =
-    settled-handed e.talk (rule_at at (lost Aborted) e) (rule-handed at (lost Aborted) e (lost-handed Aborted (present_at at e.talk)))
-step-handed at Fault bytes answers e =
-    settled-handed e.talk (rule_at at (lost Reset) e) (rule-handed at (lost Reset) e (lost-handed Reset (present_at at e.talk)))
-step-handed at Room bytes answers e = present-handed at e.talk
-step-handed at Tick bytes answers e =
-    settled-handed e.talk (rule_at at (tick answers) e) (rule-handed at (tick answers) e (tick-handed answers (present_at at e.talk)))
-step-handed at (Command c) bytes answers e = rule-handed at (command c) e (command-handed c (present_at at e.talk))
-
-step_part-handed : (step : Step) (bytes : List ℕ) (p : Progress) → IsSameHanded p.engine.talk (step_part step bytes p).engine.talk
-step_part-handed step bytes p =
-    let P : Progress → Type 0 = λ x. IsSameHanded p.engine.talk x.engine.talk in
-    let after = step_engine p.at step bytes p.answers p.engine in
-    let q = questioned (step_questions p.at step p.answers p.engine) p in
-    let same : IsSameHanded p.engine.talk after.talk = step-handed p.at step bytes p.answers p.engine in
-    if_case P (is_part step p.engine) (if goes p then part after q else p) (record p { engine = after })
-    (if_case P (goes p) (part after q) p same refl) same
-
--- ---- reading
-
-misread-hands : (at : ℕ) (why : Misread) (e : Engine) → Hands [] e.talk (read_badly at why e).talk
-misread-hands at why e =
-    hands-none e.talk (read_badly at why e).talk
-    (settled-handed e.talk (rule_at at (misread why) e) (rule-handed at (misread why) e (misread-handed why (present_at at e.talk))))
-
--- what stands at the front hands out what is heard
-row-hands : (at : ℕ) (r : Read) (answers : List Asked) (e : Engine) → Hands (handed_by (heard_in r e.talk)) e.talk (read_row at r answers e).talk
-row-hands at (Whole f n) answers e =
-    let t = present_at at e.talk in
-    let x : Engine = record e { talk = on_frame f answers t; unread = drop n e.unread; place = at_most_64 (e.place + n) } in
-    let same : hands_out f t ≡ handed_by (heard_in (Whole f n) e.talk) = present-hands_out f at e.talk ∙ sym (append-nil (hands_out f e.talk)) in
-    let first : Hands (hands_out f t) t (settle x).talk =
-    hands-after (hands_out f t) t x.talk (settle x).talk (frame-hands f answers t) (settled-handed x.talk x refl) in
-    subst (λ (hs : List HandedOut). Hands hs e.talk (settle x).talk) same
-    (hands-before (hands_out f t) e.talk t (settle x).talk (present-handed at e.talk) first)
-row-hands at More answers e = hands-none e.talk e.talk refl
-row-hands at (TooLarge n) answers e = misread-hands at (misreads.TooLarge n) e
-row-hands at (BadHeartbeat c) answers e = misread-hands at (misreads.BadHeartbeat c) e
-row-hands at Bad answers e = misread-hands at (misreads.Bad e.place) e
-row-hands at ReadNoMemory answers e = misread-hands at (misreads.Bad e.place) e
-
--- and so all that is read
-reads-hands : (n : ℕ) (p : Progress) → Hands (handed_by (heard_by n p)) p.engine.talk (reads n p).engine.talk
-reads-hands zero p = hands-none p.engine.talk p.engine.talk refl
-reads-hands (suc n) p = by (goes p && can_read p.engine) (reads-hands n (read_part p))
-  where
-    q : Progress
-    q = read_part p
-
-    first : List Event
-    first = heard_in (front_of p.engine) p.engine.talk
-
-    by : (b : Bool) → Hands (handed_by (heard_by n q)) q.engine.talk (reads n q).engine.talk
-        → Hands (handed_by (if b then first ++ heard_by n q else [])) p.engine.talk (if b then reads n q else p).engine.talk
-    by true rest =
-        subst (λ (hs : List HandedOut). Hands hs p.engine.talk (reads n q).engine.talk) (sym (flat_map-append handed_in first (heard_by n q)))
-        (hands-then (handed_by first) (handed_by (heard_by n q)) p.engine.talk q.engine.talk (reads n q).engine.talk
-        (row-hands p.at (front_of p.engine) p.answers p.engine) rest)
-    by false rest = hands-none p.engine.talk p.engine.talk refl
-
--- what a turn hears before its writes is handed out
-read-hands : (u : Turn) (e : Engine) → Hands (handed_by (heard_of u e)) e.talk (read u e).engine.talk
-read-hands u e =
-    hands-before (handed_by (heard_of u e)) e.talk p.engine.talk (read u e).engine.talk (step_part-handed u.step u.bytes (begun u.at u.notes.starved u.notes.auths e)) (by (is_piece u.step))
-  where
-    p : Progress
-    p = step_part u.step u.bytes (begun u.at u.notes.starved u.notes.auths e)
-
-    n : ℕ
-    n = length p.engine.unread
-
-    by : (b : Bool) → Hands (handed_by (if b then heard_by n p else [])) p.engine.talk (reading b p).engine.talk
-    by true = reads-hands n p
-    by false = hands-none p.engine.talk p.engine.talk refl
-
--- ---- writing
-
-commit-handed : (e : Engine) → IsSameHanded e.talk (commit_all e).talk
-commit-handed e = commits-keep (λ (y : Engine). y.talk.handed) (λ y fs ms bytes. refl) (frames_waiting e.talk) e
-
-took-handed : (at k : ℕ) (e : Engine) → IsSameHanded e.talk (took at k e).talk
-took-handed at k e =
-    let t = present_at at e.talk in
-    settled-handed e.talk (record e { talk = taken k t; unsent = drop k e.unsent }) (taken-handed k t ∙ present-handed at e.talk)
-
-wrote-handed : (at : ℕ) (w : Wrote) (e : Engine) → IsSameHanded e.talk (wrote at w e).talk
-wrote-handed at (Took k) e = took-handed at k e
-wrote-handed at Failed e =
-    settled-handed e.talk (rule_at at (lost BrokenPipe) e) (rule-handed at (lost BrokenPipe) e (lost-handed BrokenPipe (present_at at e.talk)))
-wrote-handed at NoMemory e = took-handed at 0 e
-
-answered-handed : (at : ℕ) (w : Wrote) (e : Engine) → IsSameHanded e.talk (answered at w e).talk
-answered-handed at w e = wrote-handed at w (commit_all e) ∙ commit-handed e
-
-ended-handed : (o : Option ℕ) (e : Engine) → IsSameHanded e.talk (ended_overlong o e).talk
-ended-handed None e = refl
-ended-handed (Some size) e =
-    settled-handed e.talk (with_talk (end_overlong (Some size)) (commit_all e)) (overlong-handed (Some size) (commit_all e).talk ∙ commit-handed e)
-
--- the writes hand nothing out
-drained-handed : (ws : List Wrote) (p : Progress) → IsSameHanded p.engine.talk (drained ws p).engine.talk
-drained-handed [] p =
-    if_case (λ (x : Progress). IsSameHanded p.engine.talk x.engine.talk) (goes p) (record p { engine = refuse_overlong p.engine }) p
-    (ended-handed (overlong_next p.engine) p.engine) refl
-drained-handed (w ∷ ws) p =
-    let q = offer_part w p in
-    let same : IsSameHanded p.engine.talk q.engine.talk = answered-handed p.at w p.engine in
-    if_case (λ (x : Progress). IsSameHanded p.engine.talk x.engine.talk) (is_all w (length (offered p.engine))) (drained ws q) q
-    (drained-handed ws q ∙ same) same
-
-starved-handed : (o : Option ℕ) (at : ℕ) (e : Engine) → IsSameHanded e.talk (starved_after o at e).talk
-starved-handed None at e = refl
-starved-handed (Some j) at e = starve-handed (present_at at e.talk) ∙ present-handed at e.talk
-
--- what a turn hears is handed out
-applied-hands : (u : Turn) (e : Engine) → Hands (handed_by (heard_of u e)) e.talk (applied u e).talk
-applied-hands u e =
-    let r = read u e in
-    let after = (after_writes u e).engine in
-    let hs = handed_by (heard_of u e) in
-    let done : Hands hs e.talk after.talk = hands-after hs e.talk r.engine.talk after.talk (read-hands u e) (drained-handed (write_answers u.notes) r) in
-    if_case (λ (x : Engine). Hands hs e.talk x.talk) (has_ended e.talk) after (starved_after u.notes.starved u.at after) done
-    (hands-after hs e.talk after.talk (starved_after u.notes.starved u.at after).talk done (starved-handed u.notes.starved u.at after))
-
-turn-hands : (u : Turn) (e : Engine) → Hands (handed_by (heard_of u (asks e))) e.talk (turn u e).talk
-turn-hands u e = hands-before (handed_by (heard_of u (asks e))) e.talk (asks e).talk (turn u e).talk (asks-handed e) (applied-hands u (asks e))
-
--- ---- what was handed out was read
-
--- of these events: what was handed out is within the frames that are passed through
-abbrev IsReadIn : List Event → Type 0
-IsReadIn events = IsSubsequence (map (λ h. frame_of h.1) (as_pairs (handed_by events))) (raw_frames (heard_frames events))
-
--- within two lists, one after the other
-within-append : {A : Type 0} {ws xs ys zs : List A} → IsSubsequence ws xs → IsSubsequence ys zs → IsSubsequence (ws ++ ys) (xs ++ zs)
-within-append none more = more
-within-append (kept h) more = kept (within-append h more)
-within-append (left_out h) more = left_out (within-append h more)
-
-read-append : (first later : List Event) → IsReadIn first → IsReadIn later → IsReadIn (first ++ later)
-read-append first later h k =
-    let frame : ℕ × Handed → Frame = λ h. frame_of h.1 in
-    let a = handed_by first in
-    let b = handed_by later in
-    let handed : map frame (as_pairs (handed_by (first ++ later))) ≡ map frame (as_pairs a) ++ map frame (as_pairs b) =
-    ap (λ x. map frame (as_pairs x)) (flat_map-append handed_in first later) ∙ ap (map frame) (map-append _ a b) ∙ map-append frame (as_pairs a) (as_pairs b) in
-    let frames : raw_frames (heard_frames (first ++ later)) ≡ raw_frames (heard_frames first) ++ raw_frames (heard_frames later) =
-    ap raw_frames (flat_map-append heard_frame first later) ∙ filter-append is_raw (heard_frames first) (heard_frames later) in
-    subst (λ (x : List Frame). IsSubsequence (map frame (as_pairs (handed_by (first ++ later)))) x) (sym frames)
-    (subst (λ (x : List Frame). IsSubsequence x (raw_frames (heard_frames first) ++ raw_frames (heard_frames later))) (sym handed) (within-append h k))
-
-channel-read : (o : Option Channel) (n : ℕ) (kind : RawKind) (bytes : List ℕ)
-    → IsSubsequence (map (λ h. frame_of h.1) (as_pairs (handed_of o (record { channel = n; kind = kind; bytes = bytes })))) (Raw n kind bytes ∷ [])
-channel-read None n kind bytes = left_out none
-channel-read (Some c) n kind bytes = kept none
-
--- what a frame hands out is that frame
-frame-read : (f : Frame) (t : Talk) → IsReadIn (Heard f (hands_out f t) ∷ [])
-frame-read (ProtocolHeader version) t = none
-frame-read Heartbeat t = none
-frame-read (Method n m) t = none
-frame-read (Raw zero kind bytes) t = left_out none
-frame-read (Raw (suc n) kind bytes) t = by (acts t)
-  where
-    hs : List HandedOut
-    hs = handed_of (heard_on t.state (channel_at (suc n) t)) (record { channel = suc n; kind = kind; bytes = bytes })
-
-    by : (b : Bool) → IsReadIn (Heard (Raw (suc n) kind bytes) (if b then hs else []) ∷ [])
-    by true =
-        subst (λ (x : List HandedOut). IsSubsequence (map (λ h. frame_of h.1) (as_pairs x)) (Raw (suc n) kind bytes ∷ [])) (sym (append-nil hs))
-        (channel-read (heard_on t.state (channel_at (suc n) t)) (suc n) kind bytes)
-    by false = left_out none
-
-row-read : (r : Read) (t : Talk) → IsReadIn (heard_in r t)
-row-read (Whole f n) t = frame-read f t
-row-read _ t = none
-
-heard-read : (n : ℕ) (p : Progress) → IsReadIn (heard_by n p)
-heard-read zero p = none
-heard-read (suc n) p =
-    let first = heard_in (front_of p.engine) p.engine.talk in
-    let later = heard_by n (read_part p) in
-    if_case IsReadIn (goes p && can_read p.engine) (first ++ later) []
-    (read-append first later (row-read (front_of p.engine) p.engine.talk) (heard-read n (read_part p))) none
-
--- what a turn hands out, it read
-turn-read : (u : Turn) (e : Engine) → IsReadIn (heard_of u e)
-turn-read u e =
-    let p = step_part u.step u.bytes (begun u.at u.notes.starved u.notes.auths e) in
-    if_case IsReadIn (is_piece u.step) (heard_by (length p.engine.unread) p) [] (heard-read (length p.engine.unread) p) none
-
--- what is said hands nothing out
-said-handed : (items : List Item) → handed_by (map Said items) ≡ []
-said-handed [] = refl
-said-handed (item ∷ items) = said-handed items
-
-said-read : (items : List Item) → IsReadIn (map Said items)
-said-read [] = none
-said-read (item ∷ items) = said-read items
-
--- ---- where no link is open nothing is heard
-
-closed-heard : (n : ℕ) (p : Progress) → is_open p.engine.talk ≡ false → heard_by n p ≡ []
-closed-heard zero p closed = refl
-closed-heard (suc n) p closed =
-    if-false (goes p && can_read p.engine) (heard_in (front_of p.engine) p.engine.talk ++ heard_by n (read_part p)) []
-    (and-false (goes p) (can_read p.engine) (and-closed (is_open p.engine.talk) _ closed))
-  where
-    and-closed : (a b : Bool) → a ≡ false → (a && b) ≡ false
-    and-closed true b h = cc
-    and-closed false b h = refl
-
-false-from : (b : Bool) → (b ≡ true → ⊥) → b ≡ false
-false-from true h = absurd (h refl)
-false-from false h = refl
-
-part-closed : (at n : ℕ) (cut : Option ℕ) (bytes : List ℕ) (answers : List Asked) (e : Engine) → is_open e.talk ≡ false
-    → is_open (step_part (Piece n) bytes (begun at cut answers e)).engine.talk ≡ false
-part-closed at n cut bytes answers e closed =
-    let p = begun at cut answers e in
-    let P : Progress → Type 0 = λ x. is_open x.engine.talk ≡ false in
-    let after = step_engine at (Piece n) bytes answers e in
-    let q = questioned (step_questions at (Piece n) answers e) p in
-    let still : is_open after.talk ≡ false =
-    false-from (is_open after.talk) (λ now. true≢false (sym (leaves-step at (Piece n) bytes answers e (λ same. cc) now).opened ∙ closed)) in
-    if_case P (is_part (Piece n) e) (if goes p then part after q else p) (record p { engine = after })
-    (if_case P (goes p) (part after q) p still closed) still
-
--- a turn hears nothing then
-none-heard : (u : Turn) (e : Engine) → is_open e.talk ≡ false → heard_of u e ≡ []
-none-heard u e closed = by u.step
-  where
-    by : (step : Step) → (let p = step_part step u.bytes (begun u.at u.notes.starved u.notes.auths e) in if is_piece step then heard_by (length p.engine.unread) p else []) ≡ []
-    by (Piece n) =
-        let p = step_part (Piece n) u.bytes (begun u.at u.notes.starved u.notes.auths e) in
-        closed-heard (length p.engine.unread) p (part-closed u.at n u.notes.starved u.bytes u.notes.auths e closed)
-    by Linked = refl
-    by LinkFailed = refl
-    by End = refl
-    by Fault = refl
-    by Room = refl
-    by Tick = refl
-    by (Command c) = refl
+-- one frame more
+pub stand-push : (octets : List ℕ) (fs : List Frame) (rest : List ℕ) (limit n : ℕ) (f : Frame) → StandTo octets fs rest → front rest limit ≡ Whole f n → StandTo octets (fs ++ f ∷ []) (drop n rest)
+stand-push octets [] rest limit n f h is = (limit, n, ap (λ xs. front xs limit) h ∙ is, ap (drop n) h)
+stand-push octets (g ∷ fs) rest limit n f h is = (h.0, h.1, h.2, stand-push (drop h.1 octets) fs rest limit n f h.3 is)
 
 -- ---- links
+
+pub links-push : (links : List (List ℕ)) (read : List (List Frame)) (octets : List ℕ) (fs : List Frame) → StandOnLinks links read → StandFirst octets fs
+    → StandOnLinks (links ++ octets ∷ []) (read ++ fs ∷ [])
+links-push [] [] octets fs h first = (first, tt)
+links-push (x ∷ links) (y ∷ read) octets fs h first = (h.0, links-push links read octets fs h.1 first)
+links-push [] (y ∷ read) octets fs h first = absurd h
+links-push (x ∷ links) [] octets fs h first = absurd h
+
+-- the last link, and those before it
+record IsSplit (links : List (List ℕ)) (octets : List ℕ) (read : List (List Frame)) : Type 0 where
+  earlier : List (List Frame)
+  frames : List Frame
+  all : read ≡ earlier ++ frames ∷ []
+  before : StandOnLinks links earlier
+  first : StandFirst octets frames
+
+links-split : (links : List (List ℕ)) (octets : List ℕ) (read : List (List Frame)) → StandOnLinks (links ++ octets ∷ []) read → IsSplit links octets read
+links-split [] octets [] h = absurd h
+links-split [] octets (fs ∷ []) h = record { earlier = []; frames = fs; all = refl; before = tt; first = h.0 }
+links-split [] octets (fs ∷ (gs ∷ read)) h = absurd h.1
+links-split (x ∷ links) octets [] h = absurd h
+links-split (x ∷ links) octets (fs ∷ read) h =
+    let s = links-split links octets read h.1 in
+    record { earlier = fs ∷ s.earlier; frames = s.frames; all = ap (λ xs. fs ∷ xs) s.all; before = (h.0, s.before); first = s.first }
 
 -- a list has a last element, or it is empty
 last-or : {A : Type 0} (xs : List A) → (xs ≡ []) ⊎ ((before : List A) × (x : A) × (xs ≡ before ++ x ∷ []))
@@ -357,204 +106,352 @@ last-or (x ∷ xs) =
       | inr l ↦ inr (x ∷ l.0, l.1, ap (λ ys. x ∷ ys) l.2)
     ]
 
--- there are as many after the last has changed
-on_last-length : {A : Type 0} (f : A → A) (xs : List A) → length (on_last f xs) ≡ length xs
-on_last-length f xs =
-    elim (last-or xs) [
-      | inl same ↦ ap (λ ys. length (on_last f ys)) same ∙ sym (ap length same)
+-- more octets come on the last link
+links-more : (links : List (List ℕ)) (read : List (List Frame)) (bytes : List ℕ) → StandOnLinks links read → StandOnLinks (on_last (λ octets. octets ++ bytes) links) read
+links-more links read bytes h =
+    let f : List ℕ → List ℕ = λ octets. octets ++ bytes in
+    let P : List (List ℕ) → Type 0 = λ xs. StandOnLinks xs read in
+    elim (last-or links) [
+      | inl same ↦ (let is : on_last f links ≡ links = ap (on_last f) same ∙ sym same in subst P (sym is) h)
       | inr l ↦
-          ap (λ ys. length (on_last f ys)) l.2 ∙ ap length (on_last-append f l.0 l.1) ∙ length-append l.0 (f l.1 ∷ [])
-          ∙ sym (length-append l.0 (l.1 ∷ [])) ∙ sym (ap length l.2)
+          (let s = links-split l.0 l.1 read (subst P l.2 h) in
+          let is : on_last f links ≡ l.0 ++ (l.1 ++ bytes) ∷ [] = ap (on_last f) l.2 ∙ on_last-append f l.0 l.1 in
+          let Q : List (List Frame) → Type 0 = λ fss. StandOnLinks (l.0 ++ (l.1 ++ bytes) ∷ []) fss in
+          subst P (sym is) (subst Q (sym s.all) (links-push l.0 s.earlier (l.1 ++ bytes) s.frames s.before (first-more l.1 s.frames bytes s.first))))
     ]
 
-offers-length : (ws : List Wrote) (p : Progress) (ss : List Sending) → length (offers_sending ws p ss) ≡ length ss
-offers-length [] p ss = refl
-offers-length (w ∷ ws) p ss =
-    offers-length ws (offer_part w p) (on_last (offer_sending w p.engine) ss) ∙ on_last-length (offer_sending w p.engine) ss
+-- ---- what is known
 
--- more events on the last link are more events
-joined-last : (more : List Event) (before : List (List Event)) (events : List Event)
-    → concatenated (before ++ (events ++ more) ∷ []) ≡ concatenated (before ++ events ∷ []) ++ more
-joined-last more before events =
-    let own : List Event → List Event = λ xs. xs in
-    flat_map-append own before ((events ++ more) ∷ []) ∙ ap (λ x. concatenated before ++ x) (append-nil (events ++ more))
-    ∙ sym (append_assoc (concatenated before) events more)
-    ∙ ap (λ x. x ++ more) (ap (λ x. concatenated before ++ x) (sym (append-nil events)) ∙ sym (flat_map-append own before (events ∷ [])))
+-- the open link is the last: the frames that were read stand first in its octets, and what is behind them is unread, unless input is dropped
+pub record IsLastRead (e : Engine) (came : List (List ℕ)) (read : List (List Frame)) : Type 0 where
+  pub before : List (List ℕ)
+  pub octets : List ℕ
+  pub came_is : came ≡ before ++ octets ∷ []
+  pub earlier : List (List Frame)
+  pub frames : List Frame
+  pub read_is : read ≡ earlier ++ frames ∷ []
+  pub links : StandOnLinks before earlier
+  pub rest : List ℕ
+  pub stand : StandTo octets frames rest
+  pub unread : drops_input e.talk ≡ false → rest ≡ e.unread
+  pub dropped : drops_input e.talk ≡ true → e.unread ≡ []
 
-joined-on_last : (heard said : List Event) (xs : List (List Event))
-    → (xs ≡ []) ⊎ (concatenated (on_last (λ events. events ++ heard ++ said) xs) ≡ concatenated xs ++ (heard ++ said))
-joined-on_last heard said xs =
-    elim (last-or xs) [
-      | inl same ↦ inl same
-      | inr l ↦
-          inr (ap (λ ys. concatenated (on_last (λ events. events ++ heard ++ said) ys)) l.2 ∙ ap concatenated (on_last-append (λ events. events ++ heard ++ said) l.0 l.1)
-          ∙ ap (λ x. concatenated (l.0 ++ x ∷ [])) (append_assoc l.1 heard said) ∙ joined-last (heard ++ said) l.0 l.1
-          ∙ ap (λ ys. concatenated ys ++ (heard ++ said)) (sym l.2))
-    ]
+-- what was handed out was read; of the open link this is known unless the turn was cut
+pub record Came (whole : Bool) (given : ℕ → List Handed) (e : Engine) (came : List (List ℕ)) : Type 0 where
+  pub read : List (List Frame)
+  pub handed : List (ℕ × Handed)
+  pub each : (opened : ℕ) → handed_on opened handed ≡ given opened ++ frames_of opened e.talk
+  pub order : IsSubsequence (map (λ h. frame_of h.1) handed) (raw_frames (concatenated read))
+  pub sorted : Ascend (keys_of e.talk.handed)
+  pub links : StandOnLinks came read
+  pub last : whole ≡ true → is_open e.talk ≡ true → IsLastRead e came read
 
--- a new link has no events
-step-joined : (step : Step) (e : Engine) (xs : List (List Event)) → concatenated (step_exchange step e xs) ≡ concatenated xs
-step-joined Linked e xs =
-    if_case (λ (ys : List (List Event)). concatenated ys ≡ concatenated xs) (is_asked e.talk) (xs ++ [] ∷ []) xs
-    (flat_map-append (λ x. x) xs ([] ∷ []) ∙ append-nil (concatenated xs)) refl
-step-joined LinkFailed e xs = refl
-step-joined (Piece n) e xs = refl
-step-joined End e xs = refl
-step-joined Fault e xs = refl
-step-joined Room e xs = refl
-step-joined Tick e xs = refl
-step-joined (Command c) e xs = refl
+-- a change by which nothing is read or handed out
+pub record Stays (e e' : Engine) : Type 0 where
+  pub handed : IsSameHanded e.talk e'.talk
+  pub opened : is_open e'.talk ≡ true → is_open e.talk ≡ true
+  pub input : is_open e'.talk ≡ true → e'.talk.input ≡ e.talk.input
+  pub unread : is_open e'.talk ≡ true → drops_input e'.talk ≡ false → e'.unread ≡ e.unread
+  pub dropped : is_open e'.talk ≡ true → drops_input e'.talk ≡ true → e.unread ≡ [] → e'.unread ≡ []
 
--- there are as many links as were sent on
-step-length : (step : Step) (e : Engine) (ss : List Sending) (xs : List (List Event)) → length xs ≡ length ss
-    → length (step_exchange step e xs) ≡ length (step_sending step e ss)
-step-length Linked e ss xs same = by (is_asked e.talk)
-  where
-    by : (b : Bool) → length (if b then xs ++ [] ∷ [] else xs) ≡ length (if b then ss ++ nothing_sent ∷ [] else ss)
-    by true = length-append xs ([] ∷ []) ∙ ap (λ n. n + 1) same ∙ sym (length-append ss (nothing_sent ∷ []))
-    by false = same
-step-length LinkFailed e ss xs same = same
-step-length (Piece n) e ss xs same = same
-step-length End e ss xs same = same
-step-length Fault e ss xs same = same
-step-length Room e ss xs same = same
-step-length Tick e ss xs same = same
-step-length (Command c) e ss xs same = same
+module _ (given : ℕ → List Handed) (came : List (List ℕ)) where
+  abbrev Now : Bool → Engine → Type 0
+  Now whole e = Came whole given e came
 
--- links only come
-step-more : (step : Step) (e : Engine) (xs : List (List Event)) → length xs ≤ length (step_exchange step e xs)
-step-more Linked e xs =
-    if_case (λ (ys : List (List Event)). length xs ≤ length ys) (is_asked e.talk) (xs ++ [] ∷ []) xs (omega (arith, length-append xs ([] ∷ []))) (omega arith)
-step-more LinkFailed e xs = omega arith
-step-more (Piece n) e xs = omega arith
-step-more End e xs = omega arith
-step-more Fault e xs = omega arith
-step-more Room e xs = omega arith
-step-more Tick e xs = omega arith
-step-more (Command c) e xs = omega arith
+  pub came-flag : (whole other : Bool) (e : Engine) → whole ≡ true → Now whole e → Now other e
+  came-flag whole other e is h = record { read = h.read; handed = h.handed; each = h.each; order = h.order; sorted = h.sorted; links = h.links; last = λ any o. h.last is o }
 
--- ---- turns
+  pub came-stays : (whole : Bool) (e e' : Engine) → Stays e e' → Now whole e → Now whole e'
+  came-stays whole e e' s h =
+      record {
+        read = h.read;
+        handed = h.handed;
+        each = λ opened. h.each opened ∙ ap (λ fs. given opened ++ fs) (sym (same-frames opened e.talk e'.talk s.handed));
+        order = h.order;
+        sorted = subst (λ (hs : List (ℕ × List Handed)). Ascend (keys_of hs)) (sym s.handed) h.sorted;
+        links = h.links;
+        last = λ is o.
+            (let l = h.last is (s.opened o) in
+            record {
+              before = l.before;
+              octets = l.octets;
+              came_is = l.came_is;
+              earlier = l.earlier;
+              frames = l.frames;
+              read_is = l.read_is;
+              links = l.links;
+              rest = l.rest;
+              stand = l.stand;
+              unread = λ d. l.unread (sym (ap is_dropped_input (s.input o)) ∙ d) ∙ sym (s.unread o d);
+              dropped = λ d. s.dropped o d (l.dropped (sym (ap is_dropped_input (s.input o)) ∙ d));
+            });
+      }
 
--- what is known after each turn: what was handed out is there, was read, and there are as many links as were sent on
-record Came (e : Engine) (ss : List Sending) (xs : List (List Event)) : Type 0 where
-  pub sent : Sends e ss
-  pub links : length xs ≡ length ss
-  pub handed : AreHanded (as_pairs (handed_by (concatenated xs))) e.talk.handed
-  pub read : IsReadIn (concatenated xs)
+  -- the link is closed
+  pub came-closed : (whole other : Bool) (e e' : Engine) → IsSameHanded e.talk e'.talk → is_open e'.talk ≡ false → Now whole e → Now other e'
+  came-closed whole other e e' same shut h =
+      record {
+        read = h.read;
+        handed = h.handed;
+        each = λ opened. h.each opened ∙ ap (λ fs. given opened ++ fs) (sym (same-frames opened e.talk e'.talk same));
+        order = h.order;
+        sorted = subst (λ (hs : List (ℕ × List Handed)). Ascend (keys_of hs)) (sym same) h.sorted;
+        links = h.links;
+        last = λ is o. absurd (true≢false (sym o ∙ shut));
+      }
 
--- what is known of what was sent, through a turn
-turn-sent : (u : Turn) (e : Engine) (ss : List Sending) → IsTurn u e → Sends e ss → Sends (turn u e) (turn_sending u e ss)
-turn-sent u e ss may h =
-    subst (λ (x : List Sending). Sends (turn u e) x) (offers-same (write_answers u.notes) (read u (asks e)) (step_sending u.step (asks e) ss))
-    (lifting.lift-turn (List Sending) sends.asking sends.stepping sends.offering Sends (λ b. Sends) Sends
-    (lifting.simply (List Sending) sends.asking sends.stepping sends.offering Sends sends.small) u e ss may h)
+-- ---- what changes nothing
 
--- where there is no link, none is open
-none-open : (e : Engine) (ss : List Sending) → Sends e ss → length ss ≡ 0 → is_open e.talk ≡ false
-none-open e ss h few =
-    false-from (is_open e.talk) (λ now.
-    let l = h.last now in
-    let some : length ss ≡ length l.0 + 1 = ap length l.2 ∙ length-append l.0 (l.1 ∷ []) in
-    absurd (omega (arith, some, few)))
+pub kept-unread : (x : Engine) → is_open (settle x).talk ≡ true → drops_input (settle x).talk ≡ false → (settle x).unread ≡ x.unread
+kept-unread x o d =
+    let talk = settle-talk x in
+    let keeps : keeps_unread x.talk ≡ true = and-true (is_open x.talk) (not (drops_input x.talk)) (sym (ap is_open talk) ∙ o) (ap not (sym (ap drops_input talk) ∙ d)) in
+    settle-unread x ∙ if-true (keeps_unread x.talk) x.unread [] keeps
 
--- a link has more events, or nothing was heard
-record Grown (xs : List (List Event)) (heard : List Event) (ys : List (List Event)) : Type 0 where
-  pub later : List Event
-  pub joins : concatenated ys ≡ concatenated xs ++ later
-  pub handed : handed_by later ≡ handed_by heard
-  pub read : IsReadIn later
+pub none-unread : (x : Engine) → drops_input (settle x).talk ≡ true → (settle x).unread ≡ []
+none-unread x d =
+    let keeps : keeps_unread x.talk ≡ false = and-false (is_open x.talk) (not (drops_input x.talk)) (ap not (sym (ap drops_input (settle-talk x)) ∙ d)) in
+    settle-unread x ∙ if-false (keeps_unread x.talk) x.unread [] keeps
 
-grown-by : (heard : List Event) (items : List Item) (xs xs' : List (List Event)) → concatenated xs' ≡ concatenated xs → (xs' ≡ [] → heard ≡ []) → IsReadIn heard
-    → Grown xs heard (on_last (λ events. events ++ heard ++ map Said items) xs')
-grown-by heard items xs xs' same none_heard are_read =
-    let more : List Event = heard ++ map Said items in
-    elim (joined-on_last heard (map Said items) xs') [
-      | inl no_link ↦
-          record {
-            later = [];
-            joins =
-                ap (λ ys. concatenated (on_last (λ events. events ++ heard ++ map Said items) ys)) no_link ∙ sym (ap concatenated no_link) ∙ same ∙ sym (append-nil (concatenated xs));
-            handed = sym (ap handed_by (none_heard no_link));
-            read = none;
-          }
-      | inr grows ↦
-          record {
-            later = more;
-            joins = grows ∙ ap (λ ys. ys ++ more) same;
-            handed =
-                flat_map-append handed_in heard (map Said items) ∙ ap (λ x. handed_by heard ++ x) (said-handed items)
-                ∙ append-nil (handed_by heard);
-            read = read-append heard (map Said items) are_read (said-read items);
-          }
-    ]
-
-grown : (u : Turn) (e : Engine) (ss : List Sending) (xs : List (List Event)) → Came e ss xs
-    → Grown xs (heard_of u (asks e)) (turn_exchange u e ss xs)
-grown u e ss xs h =
-    grown-by (heard_of u (asks e)) _ xs (step_exchange u.step (asks e) xs) (step-joined u.step (asks e) xs) none_there (turn-read u (asks e))
-  where
-    none_there : step_exchange u.step (asks e) xs ≡ [] → heard_of u (asks e) ≡ []
-    none_there no_link =
-        let few : length ss ≡ 0 = omega (arith, step-more u.step (asks e) xs, h.links, ap length no_link) in
-        none-heard u (asks e) (none-open (asks e) ss (sends.sends-asks e ss h.sent) few)
-
--- a turn keeps it
-turn-came : (u : Turn) (e : Engine) (ss : List Sending) (xs : List (List Event)) → IsTurn u e → Came e ss xs
-    → Came (turn u e) (turn_sending u e ss) (turn_exchange u e ss xs)
-turn-came u e ss xs may h =
-    let a = asks e in
-    let g = grown u e ss xs h in
-    let before = handed_by (concatenated xs) in
-    let later = handed_by (heard_of u a) in
-    let pairs : as_pairs (handed_by (concatenated (turn_exchange u e ss xs))) ≡ as_pairs before ++ as_pairs later =
-    ap (λ x. as_pairs (handed_by x)) g.joins ∙ ap as_pairs (flat_map-append handed_in (concatenated xs) g.later ∙ ap (λ x. before ++ x) g.handed)
-    ∙ map-append _ before later in
+pub settled-stays : (e x : Engine) → IsSameHanded e.talk x.talk → (is_open x.talk ≡ true → is_open e.talk ≡ true) → x.talk.input ≡ e.talk.input → x.unread ≡ e.unread → Stays e (settle x)
+settled-stays e x same opened input unread =
+    let talk = settle-talk x in
     record {
-      sent = turn-sent u e ss may h.sent;
-      links =
-          on_last-length (λ events. events ++ heard_of u a ++ said_of u e ss) (step_exchange u.step a xs)
-          ∙ step-length u.step a ss xs h.links ∙ sym (offers-length (write_answers u.notes) (read u a) (step_sending u.step a ss));
-      handed = subst (λ (x : List (ℕ × Handed)). AreHanded x (turn u e).talk.handed) (sym pairs) (turn-hands u e (as_pairs before) h.handed);
-      read = subst IsReadIn (sym g.joins) (read-append (concatenated xs) g.later h.read g.read);
+      handed = ap (λ (t : Talk). t.handed) talk ∙ same;
+      opened = λ o. opened (sym (ap is_open talk) ∙ o);
+      input = λ o. ap (λ (t : Talk). t.input) talk ∙ input;
+      unread = λ o d. kept-unread x o d ∙ unread;
+      dropped = λ o d z. none-unread x d;
     }
 
--- and so do turns
-turns-came : (us : List Turn) (e : Engine) (ss : List Sending) (xs : List (List Event)) → AreTurns us e → Came e ss xs
-    → (ss' : List Sending) × Came (turns us e) ss' (exchange_from us e ss xs)
-turns-came [] e ss xs may h = (ss, h)
-turns-came (u ∷ us) e ss xs may h = turns-came us (turn u e) (turn_sending u e ss) (turn_exchange u e ss xs) may.1 (turn-came u e ss xs may.0 h)
+pub plain-stays : (e : Engine) (t : Talk) → IsSameHanded e.talk t → (is_open t ≡ true → is_open e.talk ≡ true) → t.input ≡ e.talk.input → Stays e (record e { talk = t })
+plain-stays e t same opened input = record { handed = same; opened = opened; input = λ o. input; unread = λ o d. refl; dropped = λ o d z. z }
 
--- ---- the law
+pub present-input : (at : ℕ) (t : Talk) → (present_at at t).input ≡ t.input
+present-input at t = present-keeps (λ (x : Talk). x.input) at t (λ n. refl)
 
--- the frames that were heard on all links are those of all their events
-joined-map : (xs : List (List Event)) → concatenated (map (flat_map heard_frame) xs) ≡ heard_frames (concatenated xs)
-joined-map [] = refl
-joined-map (x ∷ xs) = ap (λ fs. heard_frames x ++ fs) (joined-map xs) ∙ sym (flat_map-append heard_frame x (concatenated xs))
+moment-stays : (at : ℕ) (e : Engine) → Stays e (rule_at at (λ t. t) e)
+moment-stays at e = plain-stays e (present_at at e.talk) (present-handed at e.talk) (λ o. kept-open e.talk (present_at at e.talk) (kept-present at e.talk) o) (present-input at e.talk)
 
--- a new session has no link, and handed nothing out
-new-quiet : (t : Talk) → IsNew t → (is_open t ≡ false) × (t.handed ≡ [])
-new-quiet t new = elim new.1 [
-  | inl same ↦ (ap is_open same, ap (λ (x : Talk). x.handed) same)
-  | inr same ↦ (ap is_open same, ap (λ (x : Talk). x.handed) same)
-]
+-- a command leaves the input as it is
+abbrev SameInput : Talk → Talk → Type 0
+SameInput t u = u.input ≡ t.input
 
-came-from : (t : Talk) (us : List Turn) → is_open t ≡ false → t.handed ≡ [] → AreTurns us (begin t) → CameIn (account t us)
-came-from t us quiet empty may =
-    let e = begin t in
-    let begins : Came e [] [] =
-    record {
-      sent = record { all = tt; last = λ now. absurd (true≢false (sym now ∙ quiet)) };
-      links = refl;
-      handed = λ opened. sym (ap (λ (hs : List (ℕ × List Handed)). unwrap_or (at opened hs) []) empty);
-      read = none;
-    } in
-    let c = turns-came us e [] [] may begins in
-    record {
-      handed = as_pairs (handed_by (concatenated (exchange t us)));
-      each = c.1.handed;
-      read = subst (λ (fs : List Frame). IsSubsequence (map (λ h. frame_of h.1) (as_pairs (handed_by (concatenated (exchange t us))))) (raw_frames fs)) (sym (joined-map (exchange t us))) c.1.read;
-    }
+input-rows : (t : Talk) → CommandRows (SameInput t)
+input-rows t = record {
+  refuses = λ e u h. h;
+  promises = λ u h. h;
+  opens = λ n u h. h;
+  opens_none = λ first u h. h;
+  leaves_channel = λ n code text c answers u h. h;
+  sends = λ n m u h. h;
+  publishes = λ n m properties body u h. h;
+  flows = λ n active u h. h;
+  tells_secret = λ secret reason u h. h;
+  listens = λ u h. h;
+}
 
--- what was handed out was read, once each and in order
-pub came-in : (t : Talk) (us : List Turn) → IsNew t → AreTurns us (begin t) → CameIn (account t us)
-came-in t us new may = let quiet = new-quiet t new in came-from t us quiet.0 quiet.1 may
+command-input : (c : Cmd) (t : Talk) → (command c t).input ≡ t.input
+command-input c t = command-keeps (SameInput t) (input-rows t) (λ code text answers u h. h) c t refl
+
+rule-handed : (at : ℕ) (f : Talk → Talk) (e : Engine) → IsSameHanded (present_at at e.talk) (f (present_at at e.talk)) → IsSameHanded e.talk (f (present_at at e.talk))
+rule-handed at f e same = same ∙ present-handed at e.talk
+
+pub asks-stays : (e : Engine) → Stays e (asks e)
+asks-stays e =
+    if_case (λ (x : Engine). Stays e x) (wants_ask e) (with_talk asked e) e (plain-stays e (asked e.talk) refl (λ o. sym (asked-open e.talk.link) ∙ o) refl)
+    (plain-stays e e.talk refl (λ o. o) refl)
+
+pub told-stays : (c : Cmd) (e : Engine) → Stays e (with_talk (command c) e)
+told-stays c e = plain-stays e (command c e.talk) (command-handed c e.talk) (λ o. kept-open e.talk (command c e.talk) (inl (stays-command c e.talk).link) o) (command-input c e.talk)
+
+-- a step but a piece, and a link that comes
+step-stays : (at : ℕ) (step : Step) (bytes : List ℕ) (answers : List Asked) (e : Engine) → is_piece step ≡ false → (step ≡ Linked → is_asked e.talk ≡ false)
+    → Stays e (step_engine at step bytes answers e)
+step-stays at (Piece n) bytes answers e plain unlinked = absurd (true≢false plain)
+step-stays at Linked bytes answers e plain unlinked =
+    let P : Engine → Type 0 = λ x. Stays e x in
+    subst P (sym (if-false (is_asked e.talk) _ (rule_at at (λ t. t) e) (unlinked refl))) (moment-stays at e)
+step-stays at LinkFailed bytes answers e plain unlinked =
+    let t = present_at at e.talk in
+    let x = rule_at at link_failed e in
+    settled-stays e x (rule-handed at link_failed e (failed-handed t)) (λ o. (leaves-step at LinkFailed bytes answers e unlinked (ap is_open (settle-talk x) ∙ o)).opened)
+    (failed-keeps (λ (y : Talk). y.input) (λ y s l cs ps ns. refl) (λ y n. refl) t ∙ present-input at e.talk) refl
+step-stays at End bytes answers e plain unlinked =
+    let t = present_at at e.talk in
+    let x = rule_at at (lost Aborted) e in
+    settled-stays e x (rule-handed at (lost Aborted) e (lost-handed Aborted t)) (λ o. (leaves-step at End bytes answers e unlinked (ap is_open (settle-talk x) ∙ o)).opened)
+    (lost-keeps (λ (y : Talk). y.input) (λ y s l cs ps b q ms n o ns. refl) Aborted t ∙ present-input at e.talk) refl
+step-stays at Fault bytes answers e plain unlinked =
+    let t = present_at at e.talk in
+    let x = rule_at at (lost Reset) e in
+    settled-stays e x (rule-handed at (lost Reset) e (lost-handed Reset t)) (λ o. (leaves-step at Fault bytes answers e unlinked (ap is_open (settle-talk x) ∙ o)).opened)
+    (lost-keeps (λ (y : Talk). y.input) (λ y s l cs ps b q ms n o ns. refl) Reset t ∙ present-input at e.talk) refl
+step-stays at Room bytes answers e plain unlinked = moment-stays at e
+step-stays at Tick bytes answers e plain unlinked =
+    let t = present_at at e.talk in
+    let x = rule_at at (tick answers) e in
+    settled-stays e x (rule-handed at (tick answers) e (tick-handed answers t)) (λ o. (leaves-step at Tick bytes answers e unlinked (ap is_open (settle-talk x) ∙ o)).opened)
+    (tick-keeps (λ (y : Talk). y.input) (λ y s l cs ps b q ms n o ns. refl) (λ y q n m b. refl) answers t ∙ present-input at e.talk) refl
+step-stays at (Command c) bytes answers e plain unlinked =
+    let t = present_at at e.talk in
+    plain-stays e (command c t) (rule-handed at (command c) e (command-handed c t)) (λ o. (leaves-step at (Command c) bytes answers e unlinked o).opened) (command-input c t ∙ present-input at e.talk)
+
+-- ---- the step
+
+module _ (given : ℕ → List Handed) (whole : Bool) (at : ℕ) (bytes : List ℕ) (e : Engine) (came : List (List ℕ)) (h : Came true given e came) where
+  -- the link that was asked for is there
+  came-linked : is_asked e.talk ≡ true → Came whole given (record { talk = linked (present_at at e.talk); unread = []; place = 0; unsent = []; starved = e.starved }) (came ++ [] ∷ [])
+  came-linked is =
+      let t = linked (present_at at e.talk) in
+      let same : IsSameHanded e.talk t = linked-handed (present_at at e.talk) ∙ present-handed at e.talk in
+      record {
+        read = h.read ++ [] ∷ [];
+        handed = h.handed;
+        each = λ opened. h.each opened ∙ ap (λ fs. given opened ++ fs) (sym (same-frames opened e.talk t same));
+        order = subst (λ (fs : List Frame). IsSubsequence (map (λ h. frame_of h.1) h.handed) (raw_frames fs)) (sym (flat_map-append (λ x. x) h.read ([] ∷ []) ∙ append-nil (concatenated h.read))) h.order;
+        sorted = subst (λ (hs : List (ℕ × List Handed)). Ascend (keys_of hs)) (sym same) h.sorted;
+        links = links-push came h.read [] [] h.links tt;
+        last = λ any o.
+            record { before = came; octets = []; came_is = refl; earlier = h.read; frames = []; read_is = refl; links = h.links; rest = []; stand = refl; unread = λ d. refl; dropped = λ d. refl };
+      }
+
+  -- it would be, but nothing was done
+  came-unlinked : is_asked e.talk ≡ true → Came whole given e (came ++ [] ∷ [])
+  came-unlinked is =
+      record {
+        read = h.read ++ [] ∷ [];
+        handed = h.handed;
+        each = h.each;
+        order = subst (λ (fs : List Frame). IsSubsequence (map (λ h. frame_of h.1) h.handed) (raw_frames fs)) (sym (flat_map-append (λ x. x) h.read ([] ∷ []) ∙ append-nil (concatenated h.read))) h.order;
+        sorted = h.sorted;
+        links = links-push came h.read [] [] h.links tt;
+        last = λ any o. absurd (asked-not-open e.talk.link is o);
+      }
+
+  -- a piece comes, and is not received
+  came-passed : (is_open e.talk ≡ true → whole ≡ false) → Came whole given e (on_last (λ octets. octets ++ bytes) came)
+  came-passed shut =
+      record {
+        read = h.read;
+        handed = h.handed;
+        each = h.each;
+        order = h.order;
+        sorted = h.sorted;
+        links = links-more came h.read bytes h.links;
+        last = λ is o. absurd (true≢false (sym is ∙ shut o));
+      }
+
+  -- a piece is received
+  came-piece : is_open e.talk ≡ true → Came whole given (settle (record e { talk = piece (present_at at e.talk); unread = e.unread ++ bytes })) (on_last (λ octets. octets ++ bytes) came)
+  came-piece opened =
+      let x : Engine = record e { talk = piece (present_at at e.talk); unread = e.unread ++ bytes } in
+      let f : List ℕ → List ℕ = λ octets. octets ++ bytes in
+      let l = h.last refl opened in
+      let same : IsSameHanded e.talk (settle x).talk = ap (λ (t : Talk). t.handed) (settle-talk x) ∙ piece-handed (present_at at e.talk) ∙ present-handed at e.talk in
+      let input : (settle x).talk.input ≡ e.talk.input =
+      ap (λ (t : Talk). t.input) (settle-talk x) ∙ if_case (λ (y : Talk). y.input ≡ (present_at at e.talk).input) (is_open (present_at at e.talk)) _ (present_at at e.talk) refl refl ∙ present-input at e.talk in
+      record {
+        read = h.read;
+        handed = h.handed;
+        each = λ opened. h.each opened ∙ ap (λ fs. given opened ++ fs) (sym (same-frames opened e.talk (settle x).talk same));
+        order = h.order;
+        sorted = subst (λ (hs : List (ℕ × List Handed)). Ascend (keys_of hs)) (sym same) h.sorted;
+        links = links-more came h.read bytes h.links;
+        last = λ any o.
+            record {
+              before = l.before;
+              octets = l.octets ++ bytes;
+              came_is = ap (on_last f) l.came_is ∙ on_last-append f l.before l.octets;
+              earlier = l.earlier;
+              frames = l.frames;
+              read_is = l.read_is;
+              links = l.links;
+              rest = l.rest ++ bytes;
+              stand = stand-more l.octets l.frames l.rest bytes l.stand;
+              unread = λ d. ap (λ xs. xs ++ bytes) (l.unread (sym (ap is_dropped_input input) ∙ d)) ∙ sym (kept-unread x o d);
+              dropped = λ d. none-unread x d;
+            };
+      }
+
+-- a step is taken
+came-after : (given : ℕ → List Handed) (whole : Bool) (at : ℕ) (step : Step) (bytes : List ℕ) (answers : List Asked) (e : Engine) (came : List (List ℕ)) → Came true given e came
+    → Came whole given (step_engine at step bytes answers e) (step_came step bytes e came)
+came-after given whole at Linked bytes answers e came h = by (is_asked e.talk) refl where
+  x : Engine
+  x = record { talk = linked (present_at at e.talk); unread = []; place = 0; unsent = []; starved = e.starved }
+
+  by : (b : Bool) → is_asked e.talk ≡ b → Came whole given (step_linked at e) (if b then came ++ [] ∷ [] else came)
+  by true is =
+      let P : Engine → Type 0 = λ y. Came whole given y (came ++ [] ∷ []) in
+      subst P (sym (if-true (is_asked e.talk) x (rule_at at (λ t. t) e) is)) (came-linked given whole at bytes e came h is)
+  by false is =
+      let P : Engine → Type 0 = λ y. Came whole given y came in
+      subst P (sym (if-false (is_asked e.talk) x (rule_at at (λ t. t) e) is))
+      (came-flag given came true whole (rule_at at (λ t. t) e) refl (came-stays given came true e (rule_at at (λ t. t) e) (moment-stays at e) h))
+came-after given whole at (Piece n) bytes answers e came h = by (is_open e.talk) refl where
+  now : List (List ℕ)
+  now = on_last (λ octets. octets ++ bytes) came
+
+  x : Engine
+  x = settle (record e { talk = piece (present_at at e.talk); unread = e.unread ++ bytes })
+
+  P : Engine → Type 0
+  P y = Came whole given y now
+
+  by : (b : Bool) → is_open e.talk ≡ b → P (if is_open e.talk then x else rule_at at (λ t. t) e)
+  by true is = subst P (sym (if-true (is_open e.talk) x (rule_at at (λ t. t) e) is)) (came-piece given whole at bytes e came h is)
+  by false is =
+      subst P (sym (if-false (is_open e.talk) x (rule_at at (λ t. t) e) is))
+      (came-stays given now whole e (rule_at at (λ t. t) e) (moment-stays at e) (came-passed given whole at bytes e came h (λ o. absurd (true≢false (sym o ∙ is)))))
+came-after given whole at LinkFailed bytes answers e came h =
+    let y = step_engine at LinkFailed bytes answers e in
+    came-flag given came true whole y refl (came-stays given came true e y (step-stays at LinkFailed bytes answers e refl (λ is. absurd cc)) h)
+came-after given whole at End bytes answers e came h =
+    let y = step_engine at End bytes answers e in
+    came-flag given came true whole y refl (came-stays given came true e y (step-stays at End bytes answers e refl (λ is. absurd cc)) h)
+came-after given whole at Fault bytes answers e came h =
+    let y = step_engine at Fault bytes answers e in
+    came-flag given came true whole y refl (came-stays given came true e y (step-stays at Fault bytes answers e refl (λ is. absurd cc)) h)
+came-after given whole at Room bytes answers e came h =
+    let y = step_engine at Room bytes answers e in
+    came-flag given came true whole y refl (came-stays given came true e y (step-stays at Room bytes answers e refl (λ is. absurd cc)) h)
+came-after given whole at Tick bytes answers e came h =
+    let y = step_engine at Tick bytes answers e in
+    came-flag given came true whole y refl (came-stays given came true e y (step-stays at Tick bytes answers e refl (λ is. absurd cc)) h)
+came-after given whole at (Command c) bytes answers e came h =
+    let y = step_engine at (Command c) bytes answers e in
+    came-flag given came true whole y refl (came-stays given came true e y (step-stays at (Command c) bytes answers e refl (λ is. absurd cc)) h)
+
+-- the turn is cut before its step
+came-cut : (given : ℕ → List Handed) (at : ℕ) (step : Step) (bytes : List ℕ) (e : Engine) (came : List (List ℕ)) → Came true given e came → Came false given e (step_came step bytes e came)
+came-cut given at Linked bytes e came h = by (is_asked e.talk) refl where
+  by : (b : Bool) → is_asked e.talk ≡ b → Came false given e (if b then came ++ [] ∷ [] else came)
+  by true is = came-unlinked given false at bytes e came h is
+  by false is = came-flag given came true false e refl h
+came-cut given at (Piece n) bytes e came h = came-passed given false at bytes e came h (λ o. refl)
+came-cut given at LinkFailed bytes e came h = came-flag given came true false e refl h
+came-cut given at End bytes e came h = came-flag given came true false e refl h
+came-cut given at Fault bytes e came h = came-flag given came true false e refl h
+came-cut given at Room bytes e came h = came-flag given came true false e refl h
+came-cut given at Tick bytes e came h = came-flag given came true false e refl h
+came-cut given at (Command c) bytes e came h = came-flag given came true false e refl h
+
+pub came-part : (given : ℕ → List Handed) (step : Step) (bytes : List ℕ) (p : Progress) (came : List (List ℕ)) → Came true given p.engine came
+    → Came (goes (step_part step bytes p)) given (step_part step bytes p).engine (step_came step bytes p.engine came)
+came-part given step bytes p came h = by (is_part step p.engine) (goes p) refl where
+  after : Engine
+  after = step_engine p.at step bytes p.answers p.engine
+
+  now : List (List ℕ)
+  now = step_came step bytes p.engine came
+
+  cut : (b : Bool) → b ≡ false → Came b given p.engine now
+  cut false is = came-cut given p.at step bytes p.engine came h
+  cut true is = absurd (true≢false is)
+
+  by : (b g : Bool) → goes p ≡ g
+      → (let q = if b then (if g then part after (questioned (step_questions p.at step p.answers p.engine) p) else p) else record p { engine = after } in Came (goes q) given q.engine now)
+  by true true is = came-after given _ p.at step bytes p.answers p.engine came h
+  by true false is = cut (goes p) is
+  by false g is = came-after given _ p.at step bytes p.answers p.engine came h

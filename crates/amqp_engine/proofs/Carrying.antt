@@ -1,41 +1,50 @@
--- Through runs and turns from its beginning an engine has carried what it was told.
-use Rattle.std.proofs.Common.{◌≡◌, ℕ, false, List, [], ◌∷◌, ◌++◌, Option, ap, sym, ◌∙◌, subst}
+-- Through runs, turns, and what is told and taken between them an engine has its history, which is carried.
+use Rattle.std.proofs.Common.{◌≡◌, ℕ, false, List, [], ◌∷◌, Option, sym, subst, inl, inr}
+use Rattle.amqp_session.specs.declared.command.Cmd.TheVariants.{Listen}
 use Rattle.amqp_session.specs.Talk.{Talk, has_ended}
 use Rattle.amqp_engine.specs.declared.port.Step.{Step}
 use Rattle.amqp_engine.specs.Engine.{Engine, begin}
 use Rattle.amqp_engine.specs.Log.{Log}
-use Rattle.amqp_engine.specs.Turn.{Turn, IsTold, AreTold, asks, applied, IsApplied, AreTurns, Leads}
+use Rattle.amqp_engine.specs.Turn.{Turn, Notes, IsTold, AreTold, asks, turn, turns, talk, AreTurns}
 use Rattle.amqp_engine.specs.Tell.{Applies, Runs, turn_of}
 use Rattle.amqp_engine.specs.Carried.{Carried}
-use Rattle.amqp_engine.specs.Account.{IsNew, account, HasCarried}
-use Rattle.amqp_engine.proofs.WentOut.{went-out}
-use Rattle.amqp_engine.proofs.CameIn.{came-in}
-use Rattle.amqp_engine.proofs.Running.{Leads-append, told-append}
+use Rattle.amqp_engine.specs.Account.{IsNew, History, nothing_told, add_turn, add_turns, HasHistory, new, asked, applies, told, account, history_of, CarriesOn, CarriesOnce}
+use Rattle.amqp_engine.proofs.Over.{asks-running}
+use Rattle.amqp_engine.proofs.Accounting.{history-carried}
+
+-- turns that follow
+pub turns-history : (us : List Turn) (e : Engine) (h : History) → AreTurns us e → AreTold us → HasHistory e h → HasHistory (turns us e) (add_turns us e h)
+turns-history [] e h may is_told has = has
+turns-history (u ∷ us) e h may is_told has =
+    turns-history us (turn u e) (add_turn u (asks e) h) may.1 is_told.1 (applies u (asks-running e may.0.running) may.0.applied is_told.0 (asked has))
+
+-- a session that was told nothing, but perhaps to listen
+pub new-history : (t : Talk) → IsNew t → HasHistory (begin t) nothing_told
+new-history t is =
+    let P : Talk → Type 0 = λ x. HasHistory (begin x) nothing_told in
+    elim is.1 [
+      | inl same ↦ subst P (sym same) (new is.0)
+      | inr same ↦ subst P (sym same) (told Listen tt (new is.0))
+    ]
 
 -- all turns of an engine that was new are carried
-pub all-carried : (t : Talk) (us : List Turn) → IsNew t → AreTurns us (begin t) → AreTold us → Carried (account t us)
-all-carried t us new may told = record { went_out = went-out t us new may told; came_in = came-in t us new may }
-
--- and more turns with them
-carried-on : (t : Talk) (e e' : Engine) (vs : List Turn) → IsNew t → HasCarried t e → Leads vs e e' → AreTold vs → HasCarried t e'
-carried-on t e e' vs new h leads told =
-    let both = Leads-append h.us vs (begin t) e e' h.leads leads in
-    let all = told-append h.us vs h.told told in
-    record { us = h.us ++ vs; leads = both; told = all; carried = all-carried t (h.us ++ vs) new both.may all }
+pub all-carried : (t : Talk) (us : List Turn) → IsNew t → AreTurns us (begin t) → AreTold us → Carried (account (talk t us) (history_of t us))
+all-carried t us is may is_told = history-carried (turns us (begin t)) (history_of t us) (turns-history us (begin t) nothing_told may is_told (new-history t is))
 
 -- a run
-pub run-carried : (allowed : ℕ) (e e' : Engine) (log log' : Option Log) (t : Talk) → Runs allowed e e' log log' → IsNew t → HasCarried t e → HasCarried t e'
-run-carried allowed e e' log log' t r new h = carried-on t e e' r.us new h r.leads r.told
+pub run-carried : (allowed : ℕ) (e e' : Engine) (log log' : Option Log) (h : History) → Runs allowed e e' log log' → HasHistory e h → CarriesOn allowed h e e' log log'
+run-carried allowed e e' log log' h r has =
+    let now : History = add_turns r.us e h in
+    let P : Engine → Type 0 = λ x. HasHistory x now in
+    let history : HasHistory e' now = subst P r.leads.leaves (turns-history r.us e h r.leads.may r.told has) in
+    record { runs = r; history = history; carried = history-carried e' now history }
 
--- the rest of a turn, after a link was asked for where one was wanted
-pub turn-carried : (at : ℕ) (step : Step) (bytes : List ℕ) (e a e' : Engine) (log log' : Option Log) (t : Talk) → Applies at step bytes a e' log log'
-    → IsTold step → has_ended e.talk ≡ false → a ≡ asks e → IsNew t → HasCarried t e → HasCarried t e'
-turn-carried at step bytes e a e' log log' t f may running asked new h =
-    let u = turn_of at step bytes f.notes in
-    let P : Engine → Type 0 = λ x. IsApplied u x in
-    let leads : Leads (u ∷ []) e e' =
-    record {
-      may = (record { running = running; applied = subst P asked f.may }, tt);
-      leaves = ap (applied u) (sym asked) ∙ f.leaves;
-    } in
-    carried-on t e e' (u ∷ []) new h leads (may, tt)
+-- the rest of a turn
+pub turn-carried : (at : ℕ) (step : Step) (bytes : List ℕ) (notes : Notes) (e e' : Engine) (log log' : Option Log) (h : History) → Applies at step bytes notes e e' log log'
+    → IsTold step → has_ended e.talk ≡ false → HasHistory e h → CarriesOnce (turn_of at step bytes notes) h e e'
+turn-carried at step bytes notes e e' log log' h f may running has =
+    let u = turn_of at step bytes notes in
+    let now : History = add_turn u e h in
+    let P : Engine → Type 0 = λ x. HasHistory x now in
+    let history : HasHistory e' now = subst P f.leaves (applies u running f.may may has) in
+    record { history = history; carried = history-carried e' now history }

@@ -48,8 +48,8 @@ use Rattle.amqp_auth.specs.Providers.{Exchange}
 use Rattle.amqp_faultless.specs.Faultless.{Server, ServerStage, silent, AreSayable}
 use Rattle.amqp_faultless.specs.Faultless.ServerStage.{Gone}
 use Rattle.amqp_engine.specs.Play.{played_turn_of, played_turn, played_turns, replayed, AreAnswered, IsPlayed}
-use Rattle.amqp_engine.specs.Exchange.{said_of}
-use Rattle.amqp_engine.specs.Valid.{SpelledFrame, Theirs, Ours, AreSpelled, IsShort, IsTimely, IsLinkedOnce, MomentsRise, EndsWithBytes, Valid, after_sayings, whole_in, later_than, begun_in, all_bytes, said_frame, sent_by_turns, sayings_of, last_piece, agreed_limit, agreed_frame_max, agreed_heartbeat, answered_in, RunsValid}
+use Rattle.amqp_engine.specs.SentWhole.{said_of}
+use Rattle.amqp_engine.specs.Valid.{SpelledFrame, Theirs, Ours, AreSpelled, IsShort, IsTimely, IsLinkedOnce, MomentsRise, EndsWithBytes, Valid, after_sayings, whole_in, later_than, begun_in, all_bytes, sent_by_turns, sayings_of, last_piece, agreed_limit, agreed_frame_max, agreed_heartbeat, answered_in, RunsValid}
 use Rattle.amqp_engine.proofs.Follows.{new-fresh}
 use Rattle.amqp_engine.proofs.Heeding.{flat}
 use Rattle.amqp_engine.proofs.Voicing.{IsClear}
@@ -307,13 +307,13 @@ valid-over t [] answers new answered v = absurd v.linked
 valid-over t (g ∷ gs) answers new answered v =
     let Q : List Turn → Type 0 = λ us.
     whole ≡ us → AreAnswered us e0 → AreSayable t.config.options (answered_in us)
-    → after_sayings (sayings_of (g ∷ gs) (sent_by_turns us e0 []) 0 v.spelled) (Some silent) ≡ Some end → IsOver (turns us e0).talk in
+    → after_sayings (sayings_of (g ∷ gs) (sent_by_turns us e0 []) 0 v.faultless.spelled) (Some silent) ≡ Some end → IsOver (turns us e0).talk in
     let w = played_turn answers e0 a0 in
     let us = played_turns (length gs) (drop (length w.notes.auths) answers) (turn w e0) (log_turn w e0 a0) in
     let none : List Turn = [] in
     let R : Turn → Type 0 = λ y. Q (y ∷ played_turns (length gs) (drop (length y.notes.auths) answers) (turn y e0) (log_turn y e0 a0)) in
-    subst Q (sym (if-false (has_ended t) none (w ∷ us) (running_first t new g gs answers v.vhost v.linked))) (subst R (sym (first-played answers e0 g gs)) over)
-    refl answered v.sayable v.served.said
+    subst Q (sym (if-false (has_ended t) none (w ∷ us) (running_first t new g gs answers v.faultless.vhost v.linked))) (subst R (sym (first-played answers e0 g gs)) over)
+    refl answered v.faultless.sayable v.faultless.served.said
   where
     e0 : Engine
     e0 = begin t
@@ -325,7 +325,7 @@ valid-over t (g ∷ gs) answers new answered v =
     whole = replayed t (g ∷ gs) answers
 
     end : Server
-    end = v.served.server
+    end = v.faultless.served.server
 
     u : Turn
     u = played_turn_of (coming_of g) answers e0 a0
@@ -333,38 +333,38 @@ valid-over t (g ∷ gs) answers new answered v =
     vs : List Turn
     vs = played_turns (length gs) (drop (length u.notes.auths) answers) (turn u e0) (log_turn u e0 a0)
 
-    over : whole ≡ u ∷ vs → AreAnswered (u ∷ vs) e0 → AreSayable t.config.options (answered_in (u ∷ vs)) → after_sayings (sayings_of (g ∷ gs) (sent_by_turns (u ∷ vs) e0 []) 0 v.spelled) (Some silent) ≡ Some end
+    over : whole ≡ u ∷ vs → AreAnswered (u ∷ vs) e0 → AreSayable t.config.options (answered_in (u ∷ vs)) → after_sayings (sayings_of (g ∷ gs) (sent_by_turns (u ∷ vs) e0 []) 0 v.faultless.spelled) (Some silent) ≡ Some end
         → IsOver (turns (u ∷ vs) e0).talk
     over is answered sayable said =
         let options = t.config.options in
         let agreed = agreed_limit t whole in
-        let r = link-turn t new g gs answers v.vhost v.linked in
-        let spells = v.frames.frames in
-        let part = part-none 4096 agreed v.spelled spells in
+        let r = link-turn t new g gs answers v.faultless.vhost v.linked in
+        let spells = v.faultless.frames.frames in
+        let part = part-none 4096 agreed v.faultless.spelled spells in
         let none : bytes_of g.what ≡ [] = ap bytes_of v.linked.0 in
         let sent = sent_by_turns vs (turn u e0) (turn_sending u e0 []) in
-        let ours : List Frame = flat_map said_frame (said_of u e0 []) in
-        let rest : after_sayings (map Ours ours ++ sayings_of gs sent 0 v.spelled) (Some silent) ≡ Some end =
-        sym (ap (λ bs. after_sayings (map Theirs (whole_in (0 + length bs) v.spelled) ++ map Ours ours ++ sayings_of gs sent (begun_in (0 + length bs) v.spelled) (later_than (0 + length bs) v.spelled)) (Some silent)) none
-        ∙ ap (λ fs. after_sayings (map Theirs fs ++ map Ours ours ++ sayings_of gs sent (begun_in 0 v.spelled) (later_than 0 v.spelled)) (Some silent)) part.whole
-        ∙ ap (λ k. after_sayings (map Ours ours ++ sayings_of gs sent k (later_than 0 v.spelled)) (Some silent)) part.begun
+        let ours : List Frame = said_of u e0 [] in
+        let rest : after_sayings (map Ours ours ++ sayings_of gs sent 0 v.faultless.spelled) (Some silent) ≡ Some end =
+        sym (ap (λ bs. after_sayings (map Theirs (whole_in (0 + length bs) v.faultless.spelled) ++ map Ours ours ++ sayings_of gs sent (begun_in (0 + length bs) v.faultless.spelled) (later_than (0 + length bs) v.faultless.spelled)) (Some silent)) none
+        ∙ ap (λ fs. after_sayings (map Theirs fs ++ map Ours ours ++ sayings_of gs sent (begun_in 0 v.faultless.spelled) (later_than 0 v.faultless.spelled)) (Some silent)) part.whole
+        ∙ ap (λ k. after_sayings (map Ours ours ++ sayings_of gs sent k (later_than 0 v.faultless.spelled)) (Some silent)) part.begun
         ∙ ap (λ ys. after_sayings (map Ours ours ++ sayings_of gs sent 0 ys) (Some silent)) part.later) ∙ said in
-        let tail : (gs ≡ []) ⊎ EndsWithBytes gs = ends-tail g gs v.last in
-        let I : List ℕ → Type 0 = λ bs. IsPart (length bs) v.spelled in
-        let B : List ℕ → Type 0 = λ bs. bs ++ all_bytes gs ≡ flat v.spelled in
-        let L : ServerStage → Type 0 = λ st. AreSpelled (limit_at agreed st) agreed v.spelled in
-        let W : List ℕ → Type 0 = λ bs. after_sayings (sayings_of gs sent (length bs) v.spelled) (Some r.server) ≡ Some end in
-        let S : List Sending → Type 0 = λ ss. Awaits agreed gs (sent_by_turns vs (turn u e0) ss) end r.server (turn u e0) v.spelled in
-        let awaits : Awaits agreed gs sent end r.server (turn u e0) v.spelled =
+        let tail : (gs ≡ []) ⊎ EndsWithBytes gs = ends-tail g gs v.faultless.last in
+        let I : List ℕ → Type 0 = λ bs. IsPart (length bs) v.faultless.spelled in
+        let B : List ℕ → Type 0 = λ bs. bs ++ all_bytes gs ≡ flat v.faultless.spelled in
+        let L : ServerStage → Type 0 = λ st. AreSpelled (limit_at agreed st) agreed v.faultless.spelled in
+        let W : List ℕ → Type 0 = λ bs. after_sayings (sayings_of gs sent (length bs) v.faultless.spelled) (Some r.server) ≡ Some end in
+        let S : List Sending → Type 0 = λ ss. Awaits agreed gs (sent_by_turns vs (turn u e0) ss) end r.server (turn u e0) v.faultless.spelled in
+        let awaits : Awaits agreed gs sent end r.server (turn u e0) v.faultless.spelled =
         record {
           part = subst I (sym r.unread_is) part;
-          bytes = subst B (sym r.unread_is) (ap (λ bs. bs ++ all_bytes gs) (sym none) ∙ v.frames.joined);
+          bytes = subst B (sym r.unread_is) (ap (λ bs. bs ++ all_bytes gs) (sym none) ∙ v.faultless.frames.joined);
           spells = subst L (sym r.stage) spells;
-          remains = subst W (sym r.unread_is) (sym (r.says (sayings_of gs sent 0 v.spelled)) ∙ rest);
+          remains = subst W (sym r.unread_is) (sym (r.says (sayings_of gs sent 0 v.faultless.spelled)) ∙ rest);
         } in
         let left = (turn-sayable options u (asks e0) (answered_in vs) answered.0 sayable).1 in
-        goes-on t options whole v.timely end v.served.gone gs (drop (length u.notes.auths) answers) (turn u e0) (log_turn u e0 a0) (u ∷ []) g.at r.server r.sending v.spelled
-        is r.stands (first-turn u e0 g gs v.linked (new-wants t new)) v.short.1 v.moments.1 answered.1 left tail (subst S r.sends awaits)
+        goes-on t options whole v.faultless.timely end v.faultless.served.gone gs (drop (length u.notes.auths) answers) (turn u e0) (log_turn u e0 a0) (u ∷ []) g.at r.server r.sending v.faultless.spelled
+        is r.stands (first-turn u e0 g gs v.linked (new-wants t new)) v.faultless.short.1 v.faultless.moments.1 answered.1 left tail (subst S r.sends awaits)
 
 -- the promise of the connection is kept, and the session ended Closed
 pub valid-opened : (t : Talk) (gs : List Given) (answers : List Asked) → IsNew t → AreAnswered (replayed t gs answers) (begin t) → Valid t gs answers

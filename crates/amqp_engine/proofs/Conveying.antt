@@ -1,7 +1,8 @@
 -- What is known of an engine and of what it sent on its links.
-use Rattle.std.proofs.Common.{◌≡◌, ◌≤◌, ◌<◌, ◌⊎◌, inl, inr, ◌∙◌, ap, sym, subst, refl, ℕ, suc, Bool, true, false, List, [], ◌∷◌, ◌++◌, length, map, append-nil, arith}
+use Rattle.std.proofs.Common.{◌≡◌, ◌≢◌, ◌≤◌, ◌<◌, ◌⊎◌, inl, inr, ◌∙◌, ap, sym, subst, refl, ℕ, suc, Bool, true, false, List, [], ◌∷◌, ◌++◌, length, map, Option, Some, None, is_some, Result, append-nil, arith}
 use Rattle.std.proofs.lemmas.List.{map-append}
 use Rattle.std.proofs.lemmas.List.Concat.{flat_map-append}
+use Rattle.std.specs.List.{AllByRecursion}
 use Rattle.amqp_frame.specs.declared.frame.Frame.{Frame}
 use Rattle.amqp_outbox.specs.declared.item.Item.{Item}
 use Rattle.amqp_promise.specs.declared.error.ErrorKind.{ErrorKind}
@@ -9,6 +10,8 @@ use Rattle.amqp_session.specs.declared.state.Link.{Link}
 use Rattle.amqp_session.specs.declared.state.Link.TheVariants.{Asked}
 use Rattle.amqp_session.specs.declared.committed.Mark.{Mark}
 use Rattle.amqp_session.specs.declared.command.Cmd.{Cmd}
+use Rattle.amqp_session.specs.declared.command.Answer.{Answer}
+use Rattle.amqp_session.specs.declared.handed.Handed.{Handed}
 use Rattle.amqp_session.specs.Talk.{Talk, is_open, is_open_link, is_asked, is_asked_link}
 use Rattle.amqp_session.specs.Commands.{command, takes_promise}
 use Rattle.amqp_session.specs.Links.{linked}
@@ -21,10 +24,13 @@ use Rattle.amqp_session.proofs.Keeping.{stays-command}
 use Rattle.amqp_carried_rules.proofs.Bearing.{Reading, IsAt, none, empty, besides}
 use Rattle.amqp_carried_rules.proofs.Commanding.{grows-more, one-more, at-command}
 use Rattle.amqp_carried_rules.proofs.Queueing.{same-grows}
-use Rattle.amqp_engine.specs.Carried.{raw_frames, concatenated}
+use Rattle.amqp_carried_rules.proofs.Entries.{all-then}
+use Rattle.amqp_carried_rules.proofs.Openers.{IsOpener, KnowsOpeners, KnowsTaken, knows-linked}
+use Rattle.amqp_carried_rules.proofs.OpeningCommands.{KnowsMore, knows-command}
+use Rattle.amqp_engine.specs.Carried.{raw_frames, concatenated, says_sent}
 use Rattle.amqp_engine.specs.Sending.{Sending, nothing_sent, frames, frames_sent}
 use Rattle.amqp_engine.proofs.History.{past-flow, past-grows}
-use Rattle.amqp_engine.proofs.Departing.{IsTornBelow, IsOver, AreOver, over-map, IsKnown}
+use Rattle.amqp_engine.proofs.Departing.{IsTornBelow, IsOver, AreOver, over-map, AreEver, IsKnown}
 use Rattle.amqp_engine.proofs.Passing.{AreMarks}
 
 -- what is passed through of the frames that were sent, link by link
@@ -43,50 +49,68 @@ pub record IsLastLink (left : List Item) (before : List (List Frame)) (sofar : L
   pub raw : sofar ≡ raw_frames (frames done)
   pub marks : AreMarks t.committed left
 
-pub record Carries (cs : List Cmd) (t : Talk) (ss : List Sending) : Type 0 where
+-- what is known of a session that was told these commands, of which these answers and frames were taken, and of what was sent
+pub record Carries (taken : ℕ → Option (Result Answer ErrorKind)) (given : ℕ → List Handed) (cs : List Cmd) (t : Talk) (ss : List Sending) : Type 0 where
+  -- the promises that are answered Sent now, and those that ever were
   pub answered : ℕ → Bool
+  pub ever : ℕ → Bool
+  pub both : AreEver (λ n. says_sent (taken n)) answered ever
   pub reading : Reading
   pub left : List Item
   pub before : List (List Frame)
   pub sofar : List Frame
   pub at : IsAt cs answered reading left t
-  pub known : IsKnown cs answered reading before sofar
+  pub known : IsKnown cs ever reading before sofar
+  -- by the promise of a command that opens a channel, the number of the channel
+  pub opens : ℕ → ℕ
+  pub knows : KnowsOpeners cs opens (λ n. is_some (taken n)) t
+  pub takes : KnowsTaken cs opens taken given
   pub sound : IsSound t
   pub last : is_open t ≡ true → IsLastLink left before sofar t ss
   pub links : (raws ss ≡ before ++ sofar ∷ []) ⊎ ((raws ss ≡ before) × (sofar ≡ []))
 
+-- where nothing is committed, it is as it was
+pub same-last : (left : List Item) (before : List (List Frame)) (sofar : List Frame) (t t' : Talk) (ss : List Sending) → (is_open t ≡ true) × (t'.committed ≡ t.committed)
+    → IsLastLink left before sofar t ss → IsLastLink left before sofar t' ss
+same-last left before sofar t t' ss k l =
+    let M : List Mark → Type 0 = λ ms. AreMarks ms left in
+    record { fronts = l.fronts; sending = l.sending; done = l.done; all = l.all; committed = l.committed; count = l.count; fronts_raw = l.fronts_raw; raw = l.raw; marks = subst M (sym k.1) l.marks }
+
 -- ---- rules
 
 -- a rule that commits nothing
-pub carries-rule : (cs : List Cmd) (t t' : Talk) (ss : List Sending) → ((answered : ℕ → Bool) (r : Reading) (left : List Item) → IsAt cs answered r left t → IsAt cs answered r left t')
-    → (is_open t' ≡ true → (is_open t ≡ true) × (t'.committed ≡ t.committed)) → (IsSound t → IsSound t') → Carries cs t ss → Carries cs t' ss
-carries-rule cs t t' ss at keeps sound h =
+pub carries-rule : (taken : ℕ → Option (Result Answer ErrorKind)) (given : ℕ → List Handed) (cs : List Cmd) (t t' : Talk) (ss : List Sending) → ((answered : ℕ → Bool) (r : Reading) (left : List Item) → IsAt cs answered r left t → IsAt cs answered r left t')
+    → ((opens : ℕ → ℕ) → KnowsOpeners cs opens (λ n. is_some (taken n)) t → KnowsOpeners cs opens (λ n. is_some (taken n)) t')
+    → (is_open t' ≡ true → (is_open t ≡ true) × (t'.committed ≡ t.committed)) → (IsSound t → IsSound t') → Carries taken given cs t ss → Carries taken given cs t' ss
+carries-rule taken given cs t t' ss at knows keeps sound h =
     record {
       answered = h.answered;
+      ever = h.ever;
+      both = h.both;
       reading = h.reading;
       left = h.left;
       before = h.before;
       sofar = h.sofar;
       at = at h.answered h.reading h.left h.at;
       known = h.known;
+      opens = h.opens;
+      knows = knows h.opens h.knows;
+      takes = h.takes;
       sound = sound h.sound;
-      last = λ o.
-          let k = keeps o in
-          let l = h.last k.0 in
-          let M : List Mark → Type 0 = λ ms. AreMarks ms h.left in
-          record { fronts = l.fronts; sending = l.sending; done = l.done; all = l.all; committed = l.committed; count = l.count; fronts_raw = l.fronts_raw; raw = l.raw; marks = subst M (sym k.1) l.marks };
+      last = λ o. same-last h.left h.before h.sofar t t' ss (keeps o) (h.last (keeps o).0);
       links = h.links;
     }
 
 -- a command more was told
-known-grows : (cs : List Cmd) (c : Cmd) (answered : ℕ → Bool) (r : Reading) (before : List (List Frame)) (sofar : List Frame) → ((n : ℕ) → length cs < n → answered n ≡ false)
+known-grows : (cs : List Cmd) (c : Cmd) (answered : ℕ → Bool) (r : Reading) (before : List (List Frame)) (sofar : List Frame)
     → IsKnown cs answered r before sofar → IsKnown (cs ++ c ∷ []) answered r before sofar
-known-grows cs c answered r before sofar fresh k =
+known-grows cs c answered r before sofar k =
     record {
-      kept = k.kept;
-      now = k.now;
-      over = over-map cs (cs ++ c ∷ []) answered answered r.publishes r.publishes (omega arith) (grows-more cs c) (λ n d told s below. refl) before k.kept k.over;
-      past = past-grows cs c answered r (concatenated k.kept ++ k.now) fresh k.past;
+      order = k.order;
+      last = k.last;
+      some = k.some;
+      over = over-map cs (cs ++ c ∷ []) answered answered r.publishes r.publishes (omega arith) (grows-more cs c) (λ n d told s below. refl) before (map concatenated k.order) k.over;
+      past = past-grows cs c answered r (concatenated k.order ++ k.last) k.past;
       unclosed = elim k.unclosed [
         | inl e ↦ inl e
         | inr e ↦
@@ -109,26 +133,43 @@ known-grows cs c answered r before sofar fresh k =
       split = k.split;
     }
 
+-- a promise that is made next has no answer yet
+none-taken : (o : Option (Result Answer ErrorKind)) (n m : ℕ) → ((a : Result Answer ErrorKind) → o ≡ Some a → n ≤ m) → m < n → is_some o ≡ false
+none-taken None n m made above = refl
+none-taken (Some a) n m made above = absurd (omega (arith, made a refl, above))
+
 -- a command is told
-pub carries-command : (cs : List Cmd) (c : Cmd) (t : Talk) (ss : List Sending) → Carries cs t ss → Carries (cs ++ answered_command c) (command c t) ss
-carries-command cs c t ss h =
+pub carries-command : (taken : ℕ → Option (Result Answer ErrorKind)) (given : ℕ → List Handed) (cs : List Cmd) (c : Cmd) (t : Talk) (ss : List Sending) → Carries taken given cs t ss
+    → Carries taken given (cs ++ answered_command c) (command c t) ss
+carries-command taken given cs c t ss h =
     let stays = stays-command c t in
+    let fresh : is_some (taken t.made) ≡ false = none-taken (taken t.made) t.made (length cs) (λ a is. (h.takes.answers t.made a is).made) (omega (arith, h.at.made)) in
+    let more : KnowsMore cs (cs ++ answered_command c) h.opens (λ n. is_some (taken n)) (command c t) = knows-command cs h.opens (λ n. is_some (taken n)) t h.at.made fresh h.knows c in
     record {
       answered = h.answered;
+      ever = h.ever;
+      both = h.both;
       reading = h.reading;
       left = h.left;
       before = h.before;
       sofar = h.sofar;
       at = at-command cs h.answered h.reading h.left c t h.at;
       known =
-          if_case (λ (xs : List Cmd). IsKnown (cs ++ xs) h.answered h.reading h.before h.sofar) (takes_promise c) (c ∷ []) []
-          (known-grows cs c h.answered h.reading h.before h.sofar h.at.fresh h.known)
-          (let K : List Cmd → Type 0 = λ xs. IsKnown xs h.answered h.reading h.before h.sofar in subst K (sym (append-nil cs)) h.known);
+          if_case (λ (xs : List Cmd). IsKnown (cs ++ xs) h.ever h.reading h.before h.sofar) (takes_promise c) (c ∷ []) []
+          (known-grows cs c h.ever h.reading h.before h.sofar h.known)
+          (let K : List Cmd → Type 0 = λ xs. IsKnown xs h.ever h.reading h.before h.sofar in subst K (sym (append-nil cs)) h.known);
+      opens = more.opens;
+      knows = more.knows;
+      takes = record {
+        answers = λ p a is. more.answers p (Some a) (h.takes.answers p a is);
+        frames = λ p.
+            all-then (λ (x : Handed). IsOpener cs h.opens x.channel p) (λ (x : Handed). IsOpener (cs ++ answered_command c) more.opens x.channel p)
+            (λ x o. more.openers x.channel p o) (given p) (h.takes.frames p);
+      };
       sound = sound-command c t h.sound;
       last = λ o.
-          let l = h.last (sym (ap is_open_link stays.link) ∙ o) in
-          let M : List Mark → Type 0 = λ ms. AreMarks ms h.left in
-          record { fronts = l.fronts; sending = l.sending; done = l.done; all = l.all; committed = l.committed; count = l.count; fronts_raw = l.fronts_raw; raw = l.raw; marks = subst M (sym stays.committed) l.marks };
+          (let opened : is_open t ≡ true = sym (ap is_open_link stays.link) ∙ o in
+          same-last h.left h.before h.sofar t (command c t) ss (opened, stays.committed) (h.last opened));
       links = h.links;
     }
 
@@ -146,34 +187,48 @@ pub no-front : (xs ys : List Frame) → [] ≡ xs ++ ys → xs ≡ []
 no-front [] ys h = refl
 no-front (x ∷ xs) ys h = absurd cc
 
+-- where none is empty, nothing is joined of none alone
+none-joined : (xss : List (List Frame)) → AllByRecursion (λ fs. fs ≢ []) xss → concatenated xss ≡ [] → xss ≡ []
+none-joined [] some is = refl
+none-joined ([] ∷ xss) some is = absurd (some.0 refl)
+none-joined ((x ∷ xs) ∷ xss) some is = absurd cc
+
 -- all links are over
 pub record IsRenewed (cs : List Cmd) (answered : ℕ → Bool) (links : List (List Frame)) : Type 0 where
   pub reading : Reading
   pub part : reading.part ≡ []
   pub low : (reading.sends ≤ suc (length cs)) × (reading.publishes ≤ suc (length cs))
   pub known : IsKnown cs answered reading links []
+  pub none_last : known.last ≡ []
 
 -- the last link is over, with what is open on it
 renew-over : (cs : List Cmd) (answered : ℕ → Bool) (r : Reading) (n : ℕ) (before : List (List Frame)) (sofar : List Frame) (k : IsKnown cs answered r before sofar) → r.publishes ≤ n
     → r.sends ≤ suc (length cs) → n ≤ suc (length cs) → (r.part ≡ []) ⊎ IsTornBelow cs answered n r.part → IsRenewed cs answered (before ++ sofar ∷ [])
 renew-over cs answered r n before sofar k le low low' torn =
     let r' : Reading = record { part = []; sends = r.sends; publishes = n } in
-    let flow : concatenated k.kept ++ k.now ≡ concatenated (k.kept ++ k.now ∷ []) ++ [] =
-    ap (λ fs. concatenated k.kept ++ fs) (sym (append-nil k.now)) ∙ sym (flat_map-append (λ xs. xs) k.kept (k.now ∷ [])) ∙ sym (append-nil (concatenated (k.kept ++ k.now ∷ []))) in
+    let order : List (List (List Frame)) = k.order ++ k.last ∷ [] in
+    let flow : concatenated k.order ++ k.last ≡ concatenated order ++ [] =
+    ap (λ xs. concatenated k.order ++ xs) (sym (append-nil k.last)) ∙ sym (flat_map-append (λ xs. xs) k.order (k.last ∷ [])) ∙ sym (append-nil (concatenated order)) in
+    let kept : map concatenated order ≡ map concatenated k.order ++ concatenated k.last ∷ [] = map-append concatenated k.order (k.last ∷ []) in
+    let O : List (List Frame) → Type 0 = λ xs. AreOver cs answered n (before ++ sofar ∷ []) xs in
     record {
       reading = r';
       part = refl;
       low = (low, low');
       known = record {
-        kept = k.kept ++ k.now ∷ [];
-        now = [];
+        order = order;
+        last = [];
+        some = tt;
         over =
-            over-push cs answered n before k.kept sofar k.now (over-map cs cs answered answered r.publishes n le (same-grows cs) (λ m d told s below. refl) before k.kept k.over)
-            (record { part = r.part; frames = k.split; torn = torn });
-        past = past-flow cs answered r r' (concatenated k.kept ++ k.now) _ (omega arith) le flow k.past;
+            subst O (sym kept)
+            (over-push cs answered n before (map concatenated k.order) sofar (concatenated k.last)
+            (over-map cs cs answered answered r.publishes n le (same-grows cs) (λ m d told s below. refl) before (map concatenated k.order) k.over)
+            (record { part = r.part; frames = k.split; torn = torn }));
+        past = past-flow cs answered r r' (concatenated k.order ++ k.last) _ (omega arith) le flow k.past;
         unclosed = inl refl;
         split = refl;
       };
+      none_last = refl;
     }
 
 -- so all links are over before the next comes
@@ -201,20 +256,22 @@ renew cs answered r before sofar links k low (inl is) =
 renew cs answered r before sofar links k low (inr is) =
     let Q : List (List Frame) → Type 0 = λ ls. IsRenewed cs answered ls in
     let r' : Reading = record { part = []; sends = r.sends; publishes = r.publishes } in
-    let nothing : k.now ≡ [] = no-front k.now r.part (sym is.1 ∙ k.split) in
+    let nothing : k.last ≡ [] = none-joined k.last k.some (no-front (concatenated k.last) r.part (sym is.1 ∙ k.split)) in
     subst Q (sym is.0)
     (record {
       reading = r';
       part = refl;
       low = low;
       known = record {
-        kept = k.kept;
-        now = [];
+        order = k.order;
+        last = [];
+        some = tt;
         over = k.over;
-        past = past-flow cs answered r r' (concatenated k.kept ++ k.now) (concatenated k.kept ++ []) (omega arith) (omega arith) (ap (λ fs. concatenated k.kept ++ fs) nothing) k.past;
+        past = past-flow cs answered r r' (concatenated k.order ++ k.last) (concatenated k.order ++ []) (omega arith) (omega arith) (ap (λ xs. concatenated k.order ++ xs) nothing) k.past;
         unclosed = inl refl;
         split = refl;
       };
+      none_last = refl;
     })
 
 -- nothing was sent on a new link
@@ -226,33 +283,40 @@ asked-shut Asked h = refl
 asked-shut _ h = absurd cc
 
 -- a link that was asked for would be there, but nothing was done
-pub carries-unlinked : (cs : List Cmd) (t : Talk) (ss : List Sending) → is_asked t ≡ true → Carries cs t ss → Carries cs t (ss ++ nothing_sent ∷ [])
-carries-unlinked cs t ss is h =
-    let n = renew cs h.answered h.reading h.before h.sofar (raws ss) h.known h.at.low h.links in
+pub carries-unlinked : (taken : ℕ → Option (Result Answer ErrorKind)) (given : ℕ → List Handed) (cs : List Cmd) (t : Talk) (ss : List Sending) → is_asked t ≡ true → Carries taken given cs t ss → Carries taken given cs t (ss ++ nothing_sent ∷ [])
+carries-unlinked taken given cs t ss is h =
+    let n = renew cs h.ever h.reading h.before h.sofar (raws ss) h.known h.at.low h.links in
     let shut : is_open t ≡ false = asked-shut t.link is in
     record {
       answered = h.answered;
+      ever = h.ever;
+      both = h.both;
       reading = n.reading;
       left = [];
       before = raws ss;
       sofar = [];
       at = record { made = h.at.made; agrees = h.at.agrees; fresh = h.at.fresh; sized = h.at.sized; low = n.low; bears = λ o. absurd cc };
       known = n.known;
+      opens = h.opens;
+      knows = h.knows;
+      takes = h.takes;
       sound = h.sound;
       last = λ o. absurd cc;
       links = inl (raws-push ss);
     }
 
 -- the link that was asked for is there
-pub carries-linked : (cs : List Cmd) (t : Talk) (ss : List Sending) → is_asked t ≡ true → Carries cs t ss → Carries cs (linked t) (ss ++ nothing_sent ∷ [])
-carries-linked cs t ss is h =
-    let n = renew cs h.answered h.reading h.before h.sofar (raws ss) h.known h.at.low h.links in
+pub carries-linked : (taken : ℕ → Option (Result Answer ErrorKind)) (given : ℕ → List Handed) (cs : List Cmd) (t : Talk) (ss : List Sending) → is_asked t ≡ true → Carries taken given cs t ss → Carries taken given cs (linked t) (ss ++ nothing_sent ∷ [])
+carries-linked taken given cs t ss is h =
+    let n = renew cs h.ever h.reading h.before h.sofar (raws ss) h.known h.at.low h.links in
     let same = if-true (is_asked t) _ t is in
     let A : Talk → Type 0 = λ x. IsAt cs h.answered n.reading [] x in
     let committed : (linked t).committed ≡ [] = ap (λ (x : Talk). x.committed) same in
     let M : List Mark → Type 0 = λ ms. AreMarks ms [] in
     record {
       answered = h.answered;
+      ever = h.ever;
+      both = h.both;
       reading = n.reading;
       left = [];
       before = raws ss;
@@ -268,6 +332,9 @@ carries-linked cs t ss is h =
             bears = λ o. record { last = n.reading; lines = none; ends = inl (n.part, besides refl refl empty, tt); awaited = tt };
           });
       known = n.known;
+      opens = h.opens;
+      knows = knows-linked cs h.opens (λ n. is_some (taken n)) t h.knows;
+      takes = h.takes;
       sound = sound-linked t h.sound;
       last = λ o. record { fronts = ss; sending = nothing_sent; done = []; all = refl; committed = refl; count = refl; fronts_raw = refl; raw = refl; marks = subst M (sym committed) tt };
       links = inl (raws-push ss);

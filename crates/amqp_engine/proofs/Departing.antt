@@ -1,6 +1,7 @@
 -- Frames that are sent, and what is then known of all links.
-use Rattle.std.proofs.Common.{◌≡◌, ◌≢◌, ◌≤◌, ◌<◌, ◌⊎◌, inl, inr, ◌∙◌, ap, sym, subst, refl, ℕ, suc, Bool, true, false, cond, List, [], ◌∷◌, ◌++◌, length, drop, Option, Some, None, Ok, append_assoc, append-nil, arith}
+use Rattle.std.proofs.Common.{◌≡◌, ◌≢◌, ◌≤◌, ◌<◌, ◌⊎◌, inl, inr, ◌∙◌, ap, sym, subst, refl, ℕ, suc, ◌||◌, Bool, true, false, cond, List, [], ◌∷◌, ◌++◌, length, map, drop, Option, Some, None, Ok, append_assoc, append-nil, arith}
 use Rattle.std.proofs.lemmas.Bool.{cases_eq}
+use Rattle.std.proofs.lemmas.List.Concat.{flat_map-append}
 use Rattle.std.specs.List.{AllByRecursion}
 use Rattle.amqp_frame.specs.declared.frame.Frame.{Frame}
 use Rattle.amqp_outbox.specs.declared.item.Item.{Item}
@@ -18,6 +19,7 @@ use Rattle.amqp_session.specs.Changes.{Promises, give, settled, settled_by, tell
 use Rattle.amqp_session.specs.Channels.{channel_at, set_channel}
 use Rattle.amqp_session.specs.Writing.{then_of, answers, pay, follow, sent}
 use Rattle.amqp_carried_rules.specs.CommandFrames.{AreFramesOf, is_publish, is_raw, is_sent}
+use Rattle.amqp_types.proofs.Small.{all-push, or-right}
 use Rattle.amqp_session.proofs.Numbered.{put-same}
 use Rattle.amqp_carried_rules.proofs.Bearing.{floor-own, settled-elsewhere, command_at, Reading, floor, closed, Lines, other, more, whole, IsPart, Ends, Bears, IsAt, Grows, told-made, same-command, floors-rise}
 use Rattle.amqp_carried_rules.proofs.Queueing.{content-raw, open-before, same-grows}
@@ -62,12 +64,14 @@ pub record IsOpenAt (cs : List Cmd) (answered : ℕ → Bool) (r : Reading) : Ty
 
 -- what is known of all links: of those before the last, and of what was sent so far on the last
 pub record IsKnown (cs : List Cmd) (answered : ℕ → Bool) (r : Reading) (before : List (List Frame)) (sofar : List Frame) : Type 0 where
-  pub kept : List (List Frame)
-  pub now : List Frame
-  pub over : AreOver cs answered r.publishes before kept
-  pub past : Past cs answered r (concatenated kept ++ now)
+  -- command after command, their frames: on each link before the last, and on the last
+  pub order : List (List (List Frame))
+  pub last : List (List Frame)
+  pub some : AllByRecursion (λ fs. fs ≢ []) last
+  pub over : AreOver cs answered r.publishes before (map concatenated order)
+  pub past : Past cs answered r (concatenated order ++ last)
   pub unclosed : (r.part ≡ []) ⊎ IsOpenAt cs answered r
-  pub split : sofar ≡ now ++ r.part
+  pub split : sofar ≡ concatenated last ++ r.part
 
 -- ---- what follows a frame that answers no promise
 
@@ -87,6 +91,10 @@ module _ (cs : List Cmd) (answered : ℕ → Bool) (r : Reading) (left : List It
   at-follow Finish t none_answered h = at-finish cs answered r left t.server_close t h
 
 -- ---- the first committed frame is sent
+
+not-empty : (fs : List Frame) (f : Frame) → fs ++ f ∷ [] ≢ []
+not-empty [] f is = cc
+not-empty (g ∷ fs) f is = cc
 
 all-last : {A : Type 0} (Q : A → Type 0) (xs : List A) (y : A) → AllByRecursion Q (xs ++ y ∷ []) → Q y
 all-last Q [] y h = h.0
@@ -143,21 +151,37 @@ over-map cs cs' answered answered' low low' le grows f (fs ∷ before) (ks ∷ k
 over-map cs cs' answered answered' low low' le grows f [] (ks ∷ kept) h = absurd h
 over-map cs cs' answered answered' low low' le grows f (fs ∷ before) [] h = absurd h
 
+-- promises were answered Sent where that was taken, or is there
+abbrev pub AreEver : (ℕ → Bool) → (ℕ → Bool) → (ℕ → Bool) → Type 0
+AreEver took answered ever = (n : ℕ) → ever n ≡ (took n || answered n)
+
+-- one more is
+ever-marked : (took answered ever : ℕ → Bool) (k : ℕ) → AreEver took answered ever → AreEver took (marked k answered) (marked k ever)
+ever-marked took answered ever k all n = elim (cases_eq n k) [
+  | inl e ↦
+      (let now : marked k answered n ≡ true = ap (marked k answered) e ∙ marked-here k answered in
+      ap (marked k ever) e ∙ marked-here k ever ∙ sym (or-right (took n) (marked k answered n) now))
+  | inr ne ↦ marked-other n k ever ne ∙ all n ∙ ap (λ b. took n || b) (sym (marked-other n k answered ne))
+]
+
 -- one of a session with an open link, once the frame was sent
-pub record IsSentOn (cs : List Cmd) (before : List (List Frame)) (sofar : List Frame) (i : Item) (left : List Item) (t : Talk) : Type 0 where
+pub record IsSentOn (cs : List Cmd) (took : ℕ → Bool) (before : List (List Frame)) (sofar : List Frame) (i : Item) (left : List Item) (t : Talk) : Type 0 where
   pub answered : ℕ → Bool
+  pub ever : ℕ → Bool
+  pub both : AreEver took answered ever
   pub reading : Reading
   pub at : IsAt cs answered reading left t
-  pub known : IsKnown cs answered reading before (sofar ++ raw_frames (i.frame ∷ []))
+  pub known : IsKnown cs ever reading before (sofar ++ raw_frames (i.frame ∷ []))
 
 well : (cs : List Cmd) (ps : Promises) (state : ConnectionState) (control : List Item) (publish : List (List Item)) (m : Reading) → Ends cs ps state control publish m → (m.part ≡ []) ⊎ IsPart cs ps m
 well cs ps state control publish m (inl x) = inl x.0
 well cs ps state control publish m (inr x) = inr x.3
 
 -- what is open while the link is
-open-at : (cs : List Cmd) (answered : ℕ → Bool) (ps : Promises) (r : Reading) → ((n : ℕ) → n ≤ length cs → is_sent (at n ps) ≡ answered n) → (r.part ≡ []) ⊎ IsPart cs ps r → (r.part ≡ []) ⊎ IsOpenAt cs answered r
-open-at cs answered ps r agrees (inl e) = inl e
-open-at cs answered ps r agrees (inr x) =
+open-at : (cs : List Cmd) (ever : ℕ → Bool) (ps : Promises) (r : Reading) → ((k : ℕ) (c : Cmd) → command_at cs k ≡ Some c → is_publish c ≡ true → r.publishes ≤ k → ever k ≡ false)
+    → (r.part ≡ []) ⊎ IsPart cs ps r → (r.part ≡ []) ⊎ IsOpenAt cs ever r
+open-at cs ever ps r over (inl e) = inl e
+open-at cs ever ps r over (inr x) =
     let made : x.number ≤ length cs = told-made cs x.number x.command x.told in
     inr (record {
       torn = record {
@@ -165,7 +189,7 @@ open-at cs answered ps r agrees (inr x) =
         number = x.number;
         told = x.told;
         publish = x.publish;
-        unanswered = sym (agrees x.number made) ∙ x.unanswered;
+        unanswered = over x.number x.command x.told x.publish x.above;
         below = omega (arith, made);
         rest = x.rest;
         proper = x.proper;
@@ -175,16 +199,16 @@ open-at cs answered ps r agrees (inr x) =
     })
 
 -- the first committed frame is sent: what is then known
-pub sent-on : (cs : List Cmd) (answered : ℕ → Bool) (r : Reading) (before : List (List Frame)) (sofar : List Frame) (i : Item) (left : List Item) (m : Mark) (t : Talk)
-    → m.then ≡ then_of i → is_open t ≡ true → IsAt cs answered r (i ∷ left) t → IsKnown cs answered r before sofar → IsSentOn cs before sofar i left (sent m t)
-sent-on cs answered r before sofar i left m t is opened h known = by b.lines where
+pub sent-on : (cs : List Cmd) (took answered ever : ℕ → Bool) (r : Reading) (before : List (List Frame)) (sofar : List Frame) (i : Item) (left : List Item) (m : Mark) (t : Talk)
+    → m.then ≡ then_of i → is_open t ≡ true → AreEver took answered ever → IsAt cs answered r (i ∷ left) t → IsKnown cs ever r before sofar → IsSentOn cs took before sofar i left (sent m t)
+sent-on cs took answered ever r before sofar i left m t is opened both h known = by b.lines where
   b : Bears cs r (i ∷ left) t.outbox t.promises t.state
   b = h.bears opened
 
   t0 : Talk
   t0 = record t { committed = drop 1 t.committed }
 
-  by : Lines cs t.promises r (i ∷ (left ++ t.outbox.begun)) b.last → IsSentOn cs before sofar i left (sent m t)
+  by : Lines cs t.promises r (i ∷ (left ++ t.outbox.begun)) b.last → IsSentOn cs took before sofar i left (sent m t)
   by (other x y l) =
       let h0 : IsAt cs answered r left t0 = record {
         made = h.made;
@@ -195,9 +219,11 @@ sent-on cs answered r before sofar i left m t is opened h known = by b.lines whe
         bears = λ o. record { last = b.last; lines = l; ends = b.ends; awaited = b.awaited };
       } in
       let same : sofar ≡ sofar ++ raw_frames (i.frame ∷ []) = sym (append-nil sofar) ∙ ap (λ fs. sofar ++ fs) (sym (ap (λ b. cond b (i.frame ∷ []) []) x)) in
-      let K : List Frame → Type 0 = λ fs. IsKnown cs answered r before fs in
+      let K : List Frame → Type 0 = λ fs. IsKnown cs ever r before fs in
       record {
         answered = answered;
+        ever = ever;
+        both = both;
         reading = r;
         at = at-follow cs answered r left m.then t0 (λ k e. (let promise : i.promise ≡ Some k = answer-promise i k (sym is ∙ e) in let no : None ≡ Some k = sym y ∙ promise in cc)) h0;
         known = subst K same known;
@@ -219,15 +245,18 @@ sent-on cs answered r before sofar i left m t is opened h known = by b.lines whe
       let inside : (r'.part ≡ []) ⊎ IsPart cs ps r' = open-before cs ps r' (left ++ t.outbox.begun) b.last l (well cs ps t.state t.outbox.control t.outbox.publish b.last b.ends) in
       record {
         answered = answered;
+        ever = ever;
+        both = both;
         reading = r';
         at = subst A (sym nothing) h0;
         known = record {
-          kept = known.kept;
-          now = known.now;
+          order = known.order;
+          last = known.last;
+          some = known.some;
           over = known.over;
-          past = past-flow cs answered r r' _ _ (omega arith) (omega arith) refl known.past;
-          unclosed = open-at cs answered ps r' h.agrees inside;
-          split = ap (λ fs. sofar ++ fs) raw ∙ ap (λ fs. fs ++ i.frame ∷ []) known.split ∙ append_assoc known.now r.part (i.frame ∷ []);
+          past = past-flow cs ever r r' _ _ (omega arith) (omega arith) refl known.past;
+          unclosed = open-at cs ever ps r' known.past.publishes_over inside;
+          split = ap (λ fs. sofar ++ fs) raw ∙ ap (λ fs. fs ++ i.frame ∷ []) known.split ∙ append_assoc (concatenated known.last) r.part (i.frame ∷ []);
         };
       }
   by (whole c k p w l) =
@@ -278,6 +307,7 @@ sent-on cs answered r before sofar i left m t is opened h known = by b.lines whe
       ] in
       let low = closed-low c k (length cs) r made h.low.0 h.low.1 in
       let answered' : ℕ → Bool = marked k answered in
+      let ever' : ℕ → Bool = marked k ever in
       let h0 : IsAt cs answered' r' left (give k (Ok Sent) t0) = record {
         made = h.made;
         agrees = λ n le. elim (cases_eq n k) [
@@ -296,29 +326,34 @@ sent-on cs answered r before sofar i left m t is opened h known = by b.lines whe
       } in
       let A : Then → Type 0 = λ th. IsAt cs answered' r' left (follow th t0) in
       let raw : raw_frames (f ∷ []) ≡ f ∷ [] = ap (λ b. cond b (f ∷ []) []) x in
-      let kept = concatenated known.kept in
-      let split : sofar ++ raw_frames (f ∷ []) ≡ (known.now ++ fs) ++ r'.part =
-      ap (λ gs. sofar ++ gs) raw ∙ ap (λ gs. gs ++ f ∷ []) known.split ∙ append_assoc known.now r.part (f ∷ [])
-      ∙ sym (append-nil (known.now ++ fs)) ∙ ap (λ gs. (known.now ++ fs) ++ gs) (sym (closed-part c k r fs w.frames)) in
+      let done : List (List Frame) = known.last ++ fs ∷ [] in
+      let joined : concatenated done ≡ concatenated known.last ++ fs =
+      flat_map-append (λ xs. xs) known.last (fs ∷ []) ∙ ap (λ gs. concatenated known.last ++ gs) (append-nil fs) in
+      let split : sofar ++ raw_frames (f ∷ []) ≡ concatenated done ++ r'.part =
+      ap (λ gs. sofar ++ gs) raw ∙ ap (λ gs. gs ++ f ∷ []) known.split ∙ append_assoc (concatenated known.last) r.part (f ∷ [])
+      ∙ sym joined ∙ sym (append-nil (concatenated done)) ∙ ap (λ gs. concatenated done ++ gs) (sym (closed-part c k r fs w.frames)) in
       record {
         answered = answered';
+        ever = ever';
+        both = ever-marked took answered ever k both;
         reading = r';
         at = subst A (sym answer) h0;
         known = record {
-          kept = known.kept;
-          now = known.now ++ fs;
+          order = known.order;
+          last = done;
+          some = all-push (λ gs. gs ≢ []) known.last fs known.some (not-empty r.part f);
           over =
-              over-map cs cs answered answered' r.publishes r'.publishes (closed-publishes c k r (λ s. omega (arith, floor-publish c r s, w.above))) (same-grows cs)
+              over-map cs cs ever ever' r.publishes r'.publishes (closed-publishes c k r (λ s. omega (arith, floor-publish c r s, w.above))) (same-grows cs)
               (λ n d told s below.
-              marked-other n k answered
+              marked-other n k ever
               (λ e.
               (let same : d ≡ c = same-command cs n k d c told w.told e in
               let pub_c : is_publish c ≡ true = ap is_publish (sym same) ∙ s in
               omega (arith, floor-publish c r pub_c, w.above, e, below))))
-              before known.kept known.over;
+              before (map concatenated known.order) known.over;
           past =
-              past-flow cs answered' r' r' _ _ (omega arith) (omega arith) (append_assoc kept known.now fs)
-              (past-whole cs answered r (kept ++ known.now) fs c k w.told w.frames known.past (λ s. omega (arith, floor-send c r s, w.above)) (λ s. omega (arith, floor-publish c r s, w.above)));
+              past-flow cs ever' r' r' _ _ (omega arith) (omega arith) (append_assoc (concatenated known.order) known.last (fs ∷ []))
+              (past-whole cs ever r (concatenated known.order ++ known.last) fs c k w.told w.frames known.past (λ s. omega (arith, floor-send c r s, w.above)) (λ s. omega (arith, floor-publish c r s, w.above)));
           unclosed = inl (closed-part c k r fs w.frames);
           split = split;
         };

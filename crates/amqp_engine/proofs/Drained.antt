@@ -1,7 +1,6 @@
 -- The writes of a turn over a port that takes all: what they leave, and what they send.
 use Rattle.std.proofs.Common.{◌≡◌, ◌≤◌, ℕ, zero, suc, ◌==◌, if◌then◌else◌, true, List, [], ◌∷◌, ◌++◌, length, take, drop, length-append, ◌-◌, slice_get, arith, append_assoc, Some, None, refl, ap, sym, ◌∙◌, subst, append-nil}
 use Rattle.std.specs.Prelude.{map}
-use Rattle.std.specs.List.{flat_map}
 use Rattle.std.proofs.lemmas.List.{take_all}
 use Rattle.std.proofs.Math.Seq.{drop-append_seam}
 use Rattle.amqp_outbox.specs.declared.item.Item.{Item}
@@ -14,11 +13,10 @@ use Rattle.amqp_engine.specs.declared.port.Wrote.{Wrote}
 use Rattle.amqp_engine.specs.declared.port.Wrote.TheVariants.{Took}
 use Rattle.amqp_engine.specs.Log.{Log, log_write}
 use Rattle.amqp_engine.specs.Engine.{Engine, commit_all, overlong_next, ended_overlong, refuse_overlong, can_write, took}
-use Rattle.amqp_engine.specs.Turn.{Notes, Progress, write_answers, goes, offered, offer_part, closing, is_all, drained}
+use Rattle.amqp_engine.specs.Turn.{Notes, Progress, write_answers, goes, offered, offer_part, closing, is_all, drained, no_notes}
 use Rattle.amqp_engine.specs.Sending.{Sending, items_sent, committed_before, offer_sending, offers_sending}
-use Rattle.amqp_engine.specs.Play.{no_notes, answer_noted, played_writes}
-use Rattle.amqp_engine.specs.Exchange.{Said, sending_or, last_sending}
-use Rattle.amqp_engine.specs.Valid.{said_frame}
+use Rattle.amqp_engine.specs.Play.{answer_noted, played_writes}
+use Rattle.amqp_engine.specs.SentWhole.{sending_or, last_sending}
 use Rattle.amqp_engine.proofs.Sent.{on_last-append}
 use Rattle.amqp_engine.proofs.Goes.{sound-offer}
 use Rattle.amqp_engine.proofs.Draining.{IsFree, free-write, free-answer, said_in}
@@ -121,20 +119,15 @@ last-append xs x =
 items-whole : (x : Sending) → x.sent ≡ length x.committed → items_sent x ≡ x.committed
 items-whole x all = ap (λ n. take n x.committed) all ∙ take_all (length x.committed) x.committed (omega arith)
 
-frames-said : (items : List Item) → flat_map said_frame (map Said items) ≡ map (λ (i : Item). i.frame) items
-frames-said [] = refl
-frames-said (i ∷ items) = ap (λ fs. i.frame ∷ fs) (frames-said items)
-
 -- the frames of what was committed, where all was sent before and after
 pub said-frames : (before after : List Sending) (xs : List Sending) (x y : Sending) (items : List Item) → before ≡ xs ++ x ∷ [] → after ≡ xs ++ y ∷ []
     → x.sent ≡ length x.committed → y.sent ≡ length y.committed → y.committed ≡ x.committed ++ items
-    → flat_map said_frame (map Said (drop (last_sending before).sent (items_sent (last_sending after)))) ≡ map (λ (i : Item). i.frame) items
+    → map (λ (i : Item). i.frame) (drop (last_sending before).sent (items_sent (last_sending after))) ≡ map (λ (i : Item). i.frame) items
 said-frames before after xs x y items hb ha all_x all_y more =
     let b : last_sending before ≡ x = ap last_sending hb ∙ last-append xs x in
     let a : last_sending after ≡ y = ap last_sending ha ∙ last-append xs y in
     let count : (last_sending before).sent ≡ length x.committed = ap (λ (z : Sending). z.sent) b ∙ all_x in
     let whole : items_sent (last_sending after) ≡ x.committed ++ items = ap items_sent a ∙ items-whole y all_y ∙ more in
-    ap (λ n. flat_map said_frame (map Said (drop n (items_sent (last_sending after))))) count
-    ∙ ap (λ zs. flat_map said_frame (map Said (drop (length x.committed) zs))) whole
-    ∙ ap (λ zs. flat_map said_frame (map Said zs)) (drop-append_seam x.committed items)
-    ∙ frames-said items
+    ap (λ n. map (λ (i : Item). i.frame) (drop n (items_sent (last_sending after)))) count
+    ∙ ap (λ zs. map (λ (i : Item). i.frame) (drop (length x.committed) zs)) whole
+    ∙ ap (λ zs. map (λ (i : Item). i.frame) zs) (drop-append_seam x.committed items)

@@ -25,8 +25,8 @@ use Rattle.amqp_engine.specs.declared.port.Wrote.{Wrote}
 use Rattle.amqp_engine.specs.declared.port.Wrote.TheVariants.{Took}
 use Rattle.amqp_engine.specs.Log.{Log, log_write}
 use Rattle.amqp_engine.specs.Engine.{Engine, fitting_next, committed_with_bytes, commits, commit_all, overlong_next, can_write, refuse_overlong, took}
-use Rattle.amqp_engine.specs.Turn.{Notes, Progress, write_answers, goes, offered, offer_part, closing, is_all, drained}
-use Rattle.amqp_engine.specs.Play.{no_notes, answer_noted, played_writes, offers_waiting}
+use Rattle.amqp_engine.specs.Turn.{Notes, Progress, write_answers, goes, offered, offer_part, closing, is_all, drained, no_notes}
+use Rattle.amqp_engine.specs.Play.{answer_noted, played_writes, offers_waiting}
 use Rattle.amqp_engine.proofs.Settling.{settle-talk}
 use Rattle.amqp_engine.proofs.Overlong.{closed-refuses}
 use Rattle.amqp_engine.proofs.Draining.{IsFree, free-answer}

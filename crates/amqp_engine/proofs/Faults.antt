@@ -11,6 +11,7 @@ use Rattle.amqp_engine.specs.declared.port.Step.TheVariants.{LinkFailed, End, Fa
 use Rattle.amqp_engine.specs.Counts.{HasCause, is_fault}
 use Rattle.amqp_types.specs.Counts.{Rose}
 use Rattle.amqp_engine.specs.Engine.{Engine}
+use Rattle.amqp_engine.specs.Turn.{Notes}
 use Rattle.amqp_engine.specs.Log.{Log}
 use Rattle.amqp_engine.specs.Making.{AppliesCounted}
 use Rattle.amqp_engine.specs.Causes.{fault_in, fault_at, fault_of, is_counted, is_final, brought}
@@ -33,11 +34,11 @@ fault-end (Some (Err e)) fault h = ap (λ (k : ErrorKind). Some (Err k)) (fault-
 -- ---- a turn
 
 -- a fault is brought by the step, or by a write, which was counted
-pub applied-fault : (at : ℕ) (step : Step) (bytes : List ℕ) (e e' : Engine) (log log' : Option Log) (m n : ℕ) (before after : Exchange → Type 0) (fault : IoFault)
-    → AppliesCounted at step bytes e e' log log' m n before after → has_ended e.talk ≡ false → fault_of e'.talk ≡ Some fault
+pub applied-fault : (at : ℕ) (step : Step) (bytes : List ℕ) (notes : Notes) (e e' : Engine) (log log' : Option Log) (m n : ℕ) (before after : Exchange → Type 0) (fault : IoFault)
+    → AppliesCounted at step bytes notes e e' log log' m n before after → has_ended e.talk ≡ false → fault_of e'.talk ≡ Some fault
     → (brought step e.talk ≡ Some fault) ⊎ ((fault ≡ BrokenPipe) × Rose m n)
-applied-fault at step bytes e e' log log' m n before after fault a running h =
-    elim (applied-cause at step bytes e e' log log' (IOError fault) a.applies running (fault-end (end_of e'.talk) fault h)) [ inl step_brings ↦ inl step_brings | inr failed ↦ inr (failed.0, a.counted failed.1.0) ]
+applied-fault at step bytes notes e e' log log' m n before after fault a running h =
+    elim (applied-cause at step bytes notes e e' log log' (IOError fault) a.applies running (fault-end (end_of e'.talk) fault h)) [ inl step_brings ↦ inl step_brings | inr failed ↦ inr (failed.0, a.counted failed.1.0) ]
 
 -- what a step brings that a port counts is a fault of the port
 brought-counted : (step : Step) (t : Talk) (fault : IoFault) → brought step t ≡ Some fault → is_counted fault ≡ true → is_fault step ≡ true

@@ -1,5 +1,5 @@
 -- What a run goes on with: the links are in order, and the port tells of them.
-use Rattle.std.proofs.Common.{◌≡◌, ◌∙◌, ℕ, false, List, [], Option, Some, None, IfSome, is_some, inl, refl, ap, sym, subst}
+use Rattle.std.proofs.Common.{◌≡◌, ◌∙◌, ℕ, false, List, Option, Some, None, IfSome, is_some, inl, refl, ap, sym, subst}
 use Rattle.std.specs.Prelude.{option_map}
 use Rattle.amqp_session.specs.declared.command.Cmd.{Cmd}
 use Rattle.amqp_session.specs.Talk.{Talk, has_ended}
@@ -10,10 +10,10 @@ use Rattle.amqp_session.proofs.Keeping.{stays-command}
 use Rattle.amqp_engine.specs.declared.port.Step.{Step}
 use Rattle.amqp_engine.specs.Log.{Log, log_step}
 use Rattle.amqp_engine.specs.Engine.{Engine, with_talk}
-use Rattle.amqp_engine.specs.Turn.{Turn, write_answers, read, turns, applied, AreTurns, IsApplied, IsTold}
+use Rattle.amqp_engine.specs.Turn.{Turn, Notes, write_answers, read, turns, applied, AreTurns, IsApplied, IsTold, IsFit}
 use Rattle.amqp_engine.specs.Tell.{Runs, Applies, turn_of, offers_of, log_offers, log_turns}
 use Rattle.amqp_engine.specs.Sending.{Sending, step_sending, sendings_from}
-use Rattle.amqp_engine.specs.Saying.{HasSent, new, asked, applies, told, answer_taken, event_taken, frames_taken, applied_sending, TellsLinks, GoesOn, GoesOnce, SpellLegal}
+use Rattle.amqp_engine.specs.Saying.{HasSent, new, asked, applies, told, answer_taken, event_taken, frames_taken, applied_sending, TellsLinks, GoesOn, GoesOnce}
 use Rattle.amqp_types.proofs.Small.{if_case}
 use Rattle.amqp_engine.proofs.LinkKept.{Leaves}
 use Rattle.amqp_engine.proofs.EventTaken.{event-case}
@@ -46,12 +46,12 @@ leaves-event e =
 pub sends-said : (e : Engine) (ss : List Sending) → HasSent e ss → Sends e ss
 sends-said e ss (new config) = record { all = tt; last = λ now. cc }
 sends-said e ss (asked {e = e'} h) = sends-asks e' ss (sends-said e' ss h)
-sends-said e ss (applies {e = e'} {ss = ss'} u running may told_step h) =
+sends-said e ss (applies {e = e'} {ss = ss'} u running may told_step fit h) =
     let Q : List Sending → Type 0 = λ xs. Sends (applied u e') xs in
     subst Q (sending.offers-same (write_answers u.notes) (read u e') (step_sending u.step e' ss'))
     (lifting.lift-applied (List Sending) sending.asking sending.stepping sending.offering Sends (λ b. Sends) Sends
     (lifting.simply (List Sending) sending.asking sending.stepping sending.offering Sends sending.small) u e' ss' running may (sends-said e' ss' h))
-sends-said e ss (told {e = e'} c may h) = sends-left e' (with_talk (command c) e') ss (leaves-told c e') (sends-said e' ss h)
+sends-said e ss (told {e = e'} c may can h) = sends-left e' (with_talk (command c) e') ss (leaves-told c e') (sends-said e' ss h)
 sends-said e ss (answer_taken {e = e'} number h) = sends-left e' (with_talk (take_answer number) e') ss (leaves-answer number e') (sends-said e' ss h)
 sends-said e ss (event_taken {e = e'} h) = sends-left e' (with_talk take_event e') ss (leaves-event e') (sends-said e' ss h)
 sends-said e ss (frames_taken {e = e'} opened h) =
@@ -84,7 +84,7 @@ pub runs-on : (allowed : ℕ) (e e' : Engine) (log log' : Option Log) (ss : List
 runs-on allowed e e' log log' ss r h =
     let now : List Sending = sendings_from r.us e ss in
     let Q : Engine → Type 0 = λ x. HasSent x now in
-    let sent : HasSent e' now = subst Q r.leads.leaves (turns-sent r.us e ss r.leads.may r.told h) in
+    let sent : HasSent e' now = subst Q r.leads.leaves (turns-sent r.us e ss r.leads.may r.told r.fit h) in
     record {
       us = r.us;
       leads = r.leads;
@@ -107,15 +107,15 @@ told-applied u e ss a running may sends tells =
     record { links = k.links; asked = k.synced }
 
 -- it goes on with what was sent
-pub applies-on : (at : ℕ) (step : Step) (bytes : List ℕ) (e e' : Engine) (log log' : Option Log) (ss : List Sending) → Applies at step bytes e e' log log'
-    → IsTold step → has_ended e.talk ≡ false → HasSent e ss → GoesOnce at step bytes ss e e' log log'
-applies-on at step bytes e e' log log' ss f may running h =
-    let u = turn_of at step bytes f.notes in
+pub applies-on : (at : ℕ) (step : Step) (bytes : List ℕ) (notes : Notes) (e e' : Engine) (log log' : Option Log) (ss : List Sending)
+    → Applies at step bytes notes e e' log log' → IsTold step → IsFit (turn_of at step bytes notes) → has_ended e.talk ≡ false → HasSent e ss
+    → GoesOnce (turn_of at step bytes notes) ss e e' log log'
+applies-on at step bytes notes e e' log log' ss f may fit running h =
+    let u = turn_of at step bytes notes in
     let now : List Sending = applied_sending u e ss in
     let Q : Engine → Type 0 = λ x. HasSent x now in
-    let sent : HasSent e' now = subst Q f.leaves (applies u running f.may may h) in
+    let sent : HasSent e' now = subst Q f.leaves (applies u running f.may may fit h) in
     record {
-      applies = f;
       sent = sent;
       order = (sends-said e' now sent).all;
       legal = sent_legal e' now sent;
@@ -125,13 +125,3 @@ applies-on at step bytes e e' log log' ss f may running h =
           let R : Engine → Type 0 = λ x. TellsLinks x now (log_offers (offers_of u e) (log_step at step bytes a)) in
           subst T (sym after) (subst R f.leaves (told-applied u e ss a running f.may (sends-said e ss h) before)));
     }
-
--- what is told of the links of an engine that has sent nothing, over a port that had none
-pub spell-legal : (e e' : Engine) (a b : Log) (o o' : Option Log) → HasSent e [] → TellsLinks e [] a → o ≡ Some a → o' ≡ Some b
-    → ((ss : List Sending) → HasSent e ss → GoesOn ss e e' o o') → SpellLegal b.links
-spell-legal e e' a b o o' silent before is is' goes =
-    let k : GoesOn [] e e' o o' = goes [] silent in
-    let P : Option Log → Type 0 = λ x. IfSome x (λ y. TellsLinks e [] y → IfSome o' (λ z. TellsLinks e' (sendings_from k.us e []) z)) in
-    let Q : Option Log → Type 0 = λ x. IfSome x (λ z. TellsLinks e' (sendings_from k.us e []) z) in
-    let after : TellsLinks e' (sendings_from k.us e []) b = subst Q is' (subst P is k.tells before) in
-    record { sendings = sendings_from k.us e []; bytes = after.links; order = k.order; legal = k.legal }

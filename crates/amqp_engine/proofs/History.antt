@@ -1,15 +1,14 @@
 -- What was sent so far, of the commands that were told.
-use Rattle.std.proofs.Common.{◌≡◌, ◌≢◌, ◌≤◌, ◌<◌, inl, inr, ◌∙◌, ap, sym, subst, refl, ℕ, zero, suc, ◌+◌, ◌==◌, ◌&&◌, Bool, true, false, if◌then◌else◌, List, [], ◌∷◌, ◌++◌, length, Some, slice_get, append-nil, arith}
-use Rattle.std.proofs.lemmas.Bool.{cases_lt}
-use Rattle.std.proofs.lemmas.List.Concat.{flat_map-append}
+use Rattle.std.proofs.Common.{◌≡◌, ◌≢◌, ◌≤◌, ◌<◌, inl, inr, ◌∙◌, ap, sym, subst, refl, ℕ, zero, suc, ◌+◌, ◌==◌, ◌&&◌, Bool, true, false, true≢false, if◌then◌else◌, List, [], ◌∷◌, ◌++◌, length, Option, Some, None, slice_get, arith}
+use Rattle.std.proofs.lemmas.Bool.{cases_eq, cases_lt}
 use Rattle.amqp_frame.specs.declared.frame.Frame.{Frame}
 use Rattle.amqp_session.specs.declared.command.Cmd.{Cmd}
 use Rattle.amqp_session.specs.declared.command.Cmd.TheVariants.{Send, Publish}
 use Rattle.amqp_carried_rules.specs.CommandFrames.{AreFramesOf, is_send, is_publish}
 use Rattle.amqp_types.proofs.Small.{and-false, and-true, same-number, other-number, and-left, and-right}
-use Rattle.amqp_carried_rules.proofs.Bearing.{command_at, Reading, closed, same-command}
+use Rattle.amqp_carried_rules.proofs.Bearing.{command_at, carries, Reading, closed, told-made, same-command}
 use Rattle.amqp_carried_rules.proofs.Commanding.{same-below}
-use Rattle.amqp_engine.specs.Carried.{AreSent, none, other, sent, Merges, left, right, concatenated}
+use Rattle.amqp_engine.specs.Carried.{AreSent, none, other, sent, Merges, left, right}
 
 -- a promise more that was answered Sent
 abbrev pub marked : ℕ → (ℕ → Bool) → ℕ → Bool
@@ -106,48 +105,64 @@ merges-right x (y ∷ xs) ys [] m = elim m [ ]
 merges-right x (y ∷ xs) ys (z ∷ zs) (left m) = left (merges-right x xs ys zs m)
 merges-right x xs (y ∷ ys) (z ∷ zs) (right m) = right (merges-right x xs ys zs m)
 
--- the whole frames of the sends and the publishes that were answered Sent, and no others of these numbers were
-pub record Past (cs : List Cmd) (answered : ℕ → Bool) (r : Reading) (flow : List Frame) : Type 0 where
+-- the frames of the sends and the publishes that were answered Sent, command after command, and no others of these
+-- numbers were; no other command was answered so
+pub record Past (cs : List Cmd) (answered : ℕ → Bool) (r : Reading) (order : List (List Frame)) : Type 0 where
   pub sends : List (List Frame)
   pub publishes : List (List Frame)
-  pub order : List (List Frame)
   pub are_sends : AreSent is_send answered 1 cs sends
   pub are_publishes : AreSent is_publish answered 1 cs publishes
   pub in_turns : Merges sends publishes order
-  pub whole : flow ≡ concatenated order
   pub sends_over : (k : ℕ) (c : Cmd) → command_at cs k ≡ Some c → is_send c ≡ true → r.sends ≤ k → answered k ≡ false
   pub publishes_over : (k : ℕ) (c : Cmd) → command_at cs k ≡ Some c → is_publish c ≡ true → r.publishes ≤ k → answered k ≡ false
+  pub only : (k : ℕ) → answered k ≡ true → carries (command_at cs k) ≡ true
 
 -- the same, from greater numbers on
-pub past-flow : (cs : List Cmd) (answered : ℕ → Bool) (r r' : Reading) (flow flow' : List Frame) → r.sends ≤ r'.sends → r.publishes ≤ r'.publishes → flow ≡ flow' → Past cs answered r flow → Past cs answered r' flow'
-past-flow cs answered r r' flow flow' le le' is p =
+pub past-flow : (cs : List Cmd) (answered : ℕ → Bool) (r r' : Reading) (order order' : List (List Frame)) → r.sends ≤ r'.sends → r.publishes ≤ r'.publishes → order ≡ order' → Past cs answered r order
+    → Past cs answered r' order'
+past-flow cs answered r r' order order' le le' is p =
+    let M : List (List Frame) → Type 0 = λ xs. Merges p.sends p.publishes xs in
     record {
       sends = p.sends;
       publishes = p.publishes;
-      order = p.order;
       are_sends = p.are_sends;
       are_publishes = p.are_publishes;
-      in_turns = p.in_turns;
-      whole = sym is ∙ p.whole;
+      in_turns = subst M is p.in_turns;
       sends_over = λ k c told t h. p.sends_over k c told t (omega (arith, le, h));
       publishes_over = λ k c told t h. p.publishes_over k c told t (omega (arith, le', h));
+      only = p.only;
     }
 
+-- no promise that was not made was answered Sent
+never : (cs : List Cmd) (answered : ℕ → Bool) → ((k : ℕ) → answered k ≡ true → carries (command_at cs k) ≡ true) → (n : ℕ) → length cs < n → answered n ≡ false
+never cs answered only n above = by (answered n) refl where
+  none : (o : Option Cmd) → command_at cs n ≡ o → carries o ≡ true → ⊥
+  none None here carry = true≢false (sym carry)
+  none (Some c) here carry = absurd (omega (arith, told-made cs n c here, above))
+
+  by : (b : Bool) → answered n ≡ b → b ≡ false
+  by true is = absurd (none (command_at cs n) refl (only n is))
+  by false is = refl
+
 -- a command more was told
-pub past-grows : (cs : List Cmd) (c : Cmd) (answered : ℕ → Bool) (r : Reading) (flow : List Frame) → ((n : ℕ) → length cs < n → answered n ≡ false) → Past cs answered r flow
-    → Past (cs ++ c ∷ []) answered r flow
-past-grows cs c answered r flow fresh p =
+pub past-grows : (cs : List Cmd) (c : Cmd) (answered : ℕ → Bool) (r : Reading) (order : List (List Frame)) → Past cs answered r order → Past (cs ++ c ∷ []) answered r order
+past-grows cs c answered r order p =
     record {
       sends = p.sends;
       publishes = p.publishes;
-      order = p.order;
       are_sends = grow-sent is_send answered c 1 cs p.sends (λ m e. fresh m (omega (arith, e))) p.are_sends;
       are_publishes = grow-sent is_publish answered c 1 cs p.publishes (λ m e. fresh m (omega (arith, e))) p.are_publishes;
       in_turns = p.in_turns;
-      whole = p.whole;
       sends_over = over is_send r.sends p.sends_over;
       publishes_over = over is_publish r.publishes p.publishes_over;
+      only = λ k is. elim (cases_lt (length cs) k) [
+        | inl h ↦ absurd (true≢false (sym is ∙ fresh k h))
+        | inr h ↦ ap carries (same-below cs c k h) ∙ p.only k is
+      ];
     } where
+      fresh : (n : ℕ) → length cs < n → answered n ≡ false
+      fresh = never cs answered p.only
+
       over : (is_kind : Cmd → Bool) (low : ℕ) → ((k : ℕ) (d : Cmd) → command_at cs k ≡ Some d → is_kind d ≡ true → low ≤ k → answered k ≡ false)
           → (k : ℕ) (d : Cmd) → command_at (cs ++ c ∷ []) k ≡ Some d → is_kind d ≡ true → low ≤ k → answered k ≡ false
       over is_kind low f k d told t le = elim (cases_lt (length cs) k) [
@@ -169,39 +184,45 @@ told-at cs m j d q g =
 apart : (is_kind : Cmd → Bool) (cs : List Cmd) (n k : ℕ) (d c : Cmd) → command_at cs n ≡ Some d → command_at cs k ≡ Some c → is_kind d ≡ true → (is_kind c ≡ true → ⊥) → n ≢ k
 apart is_kind cs n k d c g told t differs z = differs (ap is_kind (sym (same-command cs n k d c g told z)) ∙ t)
 
+-- only commands with frames are answered Sent, where one more of them is
+only-marked : (cs : List Cmd) (answered : ℕ → Bool) (c : Cmd) (k : ℕ) → command_at cs k ≡ Some c → carries (Some c) ≡ true → ((n : ℕ) → answered n ≡ true → carries (command_at cs n) ≡ true)
+    → (n : ℕ) → marked k answered n ≡ true → carries (command_at cs n) ≡ true
+only-marked cs answered c k told carry only n is = elim (cases_eq n k) [
+  | inl e ↦ ap (λ m. carries (command_at cs m)) e ∙ ap carries told ∙ carry
+  | inr ne ↦ only n (sym (marked-other n k answered ne) ∙ is)
+]
+
 -- a command more was answered Sent, and its frames were sent
-pub past-whole : (cs : List Cmd) (answered : ℕ → Bool) (r : Reading) (flow fs : List Frame) (c : Cmd) (k : ℕ) → command_at cs k ≡ Some c → AreFramesOf c fs → Past cs answered r flow
-    → (is_send c ≡ true → r.sends ≤ k) → (is_publish c ≡ true → r.publishes ≤ k) → Past cs (marked k answered) (closed c k r) (flow ++ fs)
-past-whole cs answered r flow fs (Send a b) k told w p low low' =
+pub past-whole : (cs : List Cmd) (answered : ℕ → Bool) (r : Reading) (order : List (List Frame)) (fs : List Frame) (c : Cmd) (k : ℕ) → command_at cs k ≡ Some c → AreFramesOf c fs → Past cs answered r order
+    → (is_send c ≡ true → r.sends ≤ k) → (is_publish c ≡ true → r.publishes ≤ k) → Past cs (marked k answered) (closed c k r) (order ++ fs ∷ [])
+past-whole cs answered r order fs (Send a b) k told w p low low' =
     let c : Cmd = Send a b in
     let at_front = kind-front cs k c told in
     record {
       sends = p.sends ++ fs ∷ [];
       publishes = p.publishes;
-      order = p.order ++ fs ∷ [];
       are_sends =
           more-sent is_send answered k c fs refl w at_front.0 1 cs p.sends at_front.2 (omega (arith, at_front.1))
           (λ j d m g t q le. p.sends_over m d (told-at cs m j d q g) t (omega (arith, low refl, le))) p.are_sends;
       are_publishes = same-sent is_publish answered (marked k answered) 1 cs p.publishes (λ j d m g t q. marked-other m k answered (apart is_publish cs m k d c (told-at cs m j d q g) told t (λ h. cc))) p.are_publishes;
-      in_turns = merges-left fs p.sends p.publishes p.order p.in_turns;
-      whole = ap (λ xs. xs ++ fs) p.whole ∙ ap (λ ys. concatenated p.order ++ ys) (sym (append-nil fs)) ∙ sym (flat_map-append (λ xs. xs) p.order (fs ∷ []));
+      in_turns = merges-left fs p.sends p.publishes order p.in_turns;
+      only = only-marked cs answered c k told refl p.only;
       sends_over = λ n d g t le. marked-other n k answered (λ z. omega (arith, z, le)) ∙ p.sends_over n d g t (omega (arith, low refl, le));
       publishes_over = λ n d g t le. marked-other n k answered (apart is_publish cs n k d c g told t (λ h. cc)) ∙ p.publishes_over n d g t le;
     }
-past-whole cs answered r flow fs (Publish a b x y) k told w p low low' =
+past-whole cs answered r order fs (Publish a b x y) k told w p low low' =
     let c : Cmd = Publish a b x y in
     let at_front = kind-front cs k c told in
     record {
       sends = p.sends;
       publishes = p.publishes ++ fs ∷ [];
-      order = p.order ++ fs ∷ [];
       are_publishes =
           more-sent is_publish answered k c fs refl w at_front.0 1 cs p.publishes at_front.2 (omega (arith, at_front.1))
           (λ j d m g t q le. p.publishes_over m d (told-at cs m j d q g) t (omega (arith, low' refl, le))) p.are_publishes;
       are_sends = same-sent is_send answered (marked k answered) 1 cs p.sends (λ j d m g t q. marked-other m k answered (apart is_send cs m k d c (told-at cs m j d q g) told t (λ h. cc))) p.are_sends;
-      in_turns = merges-right fs p.sends p.publishes p.order p.in_turns;
-      whole = ap (λ xs. xs ++ fs) p.whole ∙ ap (λ ys. concatenated p.order ++ ys) (sym (append-nil fs)) ∙ sym (flat_map-append (λ xs. xs) p.order (fs ∷ []));
+      in_turns = merges-right fs p.sends p.publishes order p.in_turns;
+      only = only-marked cs answered c k told refl p.only;
       publishes_over = λ n d g t le. marked-other n k answered (λ z. omega (arith, z, le)) ∙ p.publishes_over n d g t (omega (arith, low' refl, le));
       sends_over = λ n d g t le. marked-other n k answered (apart is_send cs n k d c g told t (λ h. cc)) ∙ p.sends_over n d g t le;
     }
-past-whole cs answered r flow fs _ k told w p low low' = absurd w
+past-whole cs answered r order fs _ k told w p low low' = absurd w

@@ -15,7 +15,7 @@ use Rattle.amqp_session.specs.Frames.{on_frame}
 use Rattle.amqp_engine.specs.Plan.{at_most_64}
 use Rattle.amqp_engine.specs.Engine.{Engine, rule_at, settle, step_piece, front_of, is_more, can_read, read_row, row_questions, read_one, read_questions, starve_at}
 use Rattle.amqp_engine.specs.Turn.{reads, reading}
-use Rattle.amqp_engine.specs.Making.{making, keeps_unread, IsSettled, piece_joined, Reaches}
+use Rattle.amqp_engine.specs.Making.{making, keeps_unread, IsSettled, BreaksAt, piece_joined, Reaches}
 use Rattle.amqp_types.proofs.Small.{if_case, if-true, if-false, and-left, and-right, and-other, from-not-true}
 use Rattle.amqp_engine.proofs.Cases.{from-not-false}
 use Rattle.amqp_engine.proofs.Settling.{settle-talk, settle-kept, settle-bytes}
@@ -128,6 +128,12 @@ read-joined at rest answers e settled can =
       questions = ap (read_questions at) all ∙ ap (λ (r : Read). row_questions at r g) front ∙ row-asks at (front_of e) rest e;
     }
 
+-- memory that is refused at the frame at the front is so too with the rest behind it
+pub breaks-joined : (at : ℕ) (rest : List ℕ) (next : List Question) (e : Engine) → IsSettled e → BreaksAt at next e → BreaksAt at next (piece_joined rest e)
+breaks-joined at rest next e settled b =
+    let alike = read-joined at rest [] e settled b.can in
+    record { can = alike.can; asks = b.asks ∙ sym alike.questions }
+
 -- reading goes on after one frame
 pub reading-more : (at : ℕ) (cut : Option ℕ) (rest : List ℕ) (answers : List Asked) (questions : List Question) (e : Engine) (parts : ℕ) → IsSettled e → can_read e ≡ true → Reaches cut (parts + 1)
     → reading true (making at cut answers questions (piece_joined rest e) parts)
@@ -147,6 +153,13 @@ reading-more at cut rest answers questions e parts settled can allows =
 reading-over : (at : ℕ) (cut : Option ℕ) (answers : List Asked) (questions : List Question) (e : Engine) (parts : ℕ) → can_read e ≡ false
     → reading true (making at cut answers questions e parts) ≡ making at cut answers questions e parts
 reading-over at cut answers questions e parts none = reads-rest (length e.unread) (making at cut answers questions e parts) none
+
+-- what is unread is less than the capacity, where no more can be said of it before more bytes come
+pub less-unread : (e : Engine) → LEAST_CAPACITY ≤ e.talk.capacity → front_of e ≡ More → length e.unread < e.talk.capacity
+less-unread e large more =
+    let limit : frame_limit e.talk ≤ e.talk.capacity = omega arith in
+    let is : is_more (front_of e) ≡ true = ap is_more more in
+    omega (arith, (says-front (frame_limit e.talk)).more e.unread is, limit, large)
 
 -- then there is room for more
 pub has-room : (e : Engine) → LEAST_CAPACITY ≤ e.talk.capacity → keeps_unread e.talk ≡ true → can_read e ≡ false → length e.unread < e.talk.capacity

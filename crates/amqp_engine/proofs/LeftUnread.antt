@@ -25,9 +25,9 @@ use Rattle.amqp_engine.specs.declared.port.Step.{Step}
 use Rattle.amqp_engine.specs.declared.port.Step.TheVariants.{Linked, LinkFailed, Piece, End, Fault, Room, Tick, Command}
 use Rattle.amqp_engine.specs.declared.port.Wrote.{Wrote}
 use Rattle.amqp_engine.specs.declared.port.Wrote.TheVariants.{Took, Failed, NoMemory as WroteNoMemory}
-use Rattle.amqp_engine.specs.Engine.{Engine, front_of, is_more, can_read, rule_at, with_talk, step_engine, step_linked, settle, took, wrote, commit_all, commits, ended_overlong, starve_at}
+use Rattle.amqp_engine.specs.Engine.{Engine, front_of, is_more, can_read, rule_at, with_talk, step_engine, step_linked, settle, took, wrote, commit_all, commits, ended_overlong, starve_at, starved_before}
 use Rattle.amqp_session.specs.Writing.{frames_waiting}
-use Rattle.amqp_engine.specs.Turn.{Turn, Progress, asks, wants_ask, is_piece, answered, applied, turn, IsApplied, IsTurn}
+use Rattle.amqp_engine.specs.Turn.{Turn, Notes, Progress, asks, wants_ask, is_piece, answered, applied, turn, IsApplied, IsTurn}
 use Rattle.amqp_engine.specs.Log.{Log}
 use Rattle.amqp_engine.specs.Tell.{Applies, TakesTurn, turn_of}
 use Rattle.amqp_engine.specs.Unread.{IsRead}
@@ -260,13 +260,18 @@ applied-read u e may h = by (has_ended e.talk) refl
     by true over = closed-read (applied u e) (ended-closed (applied u e).talk.link (applied-ended u e over may.answers))
     by false running = lifting.lift-applied (Unit {0}) asking stepping offering While Before Between small u e tt running may h
 
+-- memory that was refused before a turn leaves nothing
+pub before-read : (at : ℕ) (e : Engine) → IsRead e → IsRead (starved_before at e)
+before-read at e h = if_case IsRead (has_ended e.talk) e (starve_at at 0 e) h (starved-read at 0 e)
+
 pub turn-read : (u : Turn) (e : Engine) → IsTurn u e → IsRead e → IsRead (turn u e)
 turn-read u e may h = applied-read u (asks e) may.applied (asks-read e h)
 
 -- what is known of an application, and of a turn
-pub Applies-read : (at : ℕ) (step : Step) (bytes : List ℕ) (e e' : Engine) (log log' : Option Log) → Applies at step bytes e e' log log' → IsRead e → IsRead e'
-Applies-read at step bytes e e' log log' f h =
-    subst IsRead f.leaves (applied-read (turn_of at step bytes f.notes) e f.may h)
+pub Applies-read : (at : ℕ) (step : Step) (bytes : List ℕ) (notes : Notes) (e e' : Engine) (log log' : Option Log)
+    → Applies at step bytes notes e e' log log' → IsRead e → IsRead e'
+Applies-read at step bytes notes e e' log log' f h =
+    subst IsRead f.leaves (applied-read (turn_of at step bytes notes) e f.may h)
 
 pub TakesTurn-read : (e e' : Engine) (log log' : Option Log) → TakesTurn e e' log log' → IsRead e → IsRead e'
 TakesTurn-read e e' log log' f h = subst IsRead f.leaves (turn-read f.u e f.may h)

@@ -5,51 +5,66 @@ use Rattle.amqp_frame.specs.declared.frame.Frame.{Frame}
 use Rattle.amqp_outbox.specs.declared.item.Item.{Item}
 use Rattle.amqp_session.specs.declared.command.Cmd.{Cmd}
 use Rattle.amqp_session.specs.declared.command.Cmd.TheVariants.{OpenChannel, CloseChannel, CloseConnection, UpdateSecret, Send, Publish, Flow, DropChannel, DropConnection, Listen}
-use Rattle.amqp_session.specs.Talk.{Talk}
+use Rattle.amqp_auth.specs.declared.asked.Asked.{Asked as ProviderAnswer}
+use Rattle.amqp_session.specs.Talk.{Talk, has_ended}
 use Rattle.amqp_session.specs.Commands.{command}
 use Rattle.amqp_session.specs.Answers.{take_answer, take_event, take_frames}
-use Rattle.amqp_legal.specs.Legal.{Legal}
 use Rattle.amqp_legal.specs.Decider.{Speech, greeted, say, say_all, is_amqp_header, is_legal}
 use Rattle.amqp_types.proofs.Small.{and-true, and-left, and-right}
 use Rattle.amqp_legal_rules.proofs.Ties.{IsTied, IsSilent, IsSendable}
 use Rattle.amqp_legal.proofs.TakenIsLegal.{sound}
-use Rattle.amqp_legal_rules.proofs.Conversing.{Now, now-moment, now-asked, now-failed, now-piece, now-lost, now-misread, now-frame, now-tick, now-command, now-taken, now-answer, now-frames, committed-legal, start-silent, silent-room, tied-linked, tied-commit}
+use Rattle.amqp_legal_rules.proofs.Conversing.{Now, now-moment, now-asked, now-failed, now-piece, now-lost, now-misread, now-answer, now-frames, committed-legal}
+use Rattle.amqp_legal_rules.proofs.OnFrames.{now-frame}
+use Rattle.amqp_legal_rules.proofs.OnCommands.{now-tick, now-command}
+use Rattle.amqp_legal_rules.proofs.OnSent.{now-taken}
+use Rattle.amqp_legal_rules.proofs.OnLinks.{start-silent, silent-room, tied-linked, tied-commit}
 use Rattle.amqp_engine.specs.declared.port.Step.{Step}
 use Rattle.amqp_engine.specs.declared.port.Step.TheVariants.{Linked, LinkFailed, Piece, End, Fault, Room, Tick, Command}
-use Rattle.amqp_engine.specs.Engine.{Engine}
-use Rattle.amqp_engine.specs.Turn.{Turn, IsToldCommand, IsTold, AreTold, IsTurn, AreTurns, turn, turns}
-use Rattle.amqp_engine.specs.Sending.{Sending, sendings_from, frames, frames_sent, turn_sending}
-use Rattle.amqp_engine.specs.Saying.{HasSent, new, asked, applies, told, answer_taken, event_taken, frames_taken}
+use Rattle.amqp_engine.specs.Engine.{Engine, begin, with_talk}
+use Rattle.amqp_engine.specs.Turn.{Turn, IsToldCommand, IsTold, AreTold, IsFit, AreFit, asks, applied, IsApplied, IsTurn, AreTurns, turn, turns}
+use Rattle.amqp_engine.specs.Sending.{Sending, sendings, sendings_from, frames, frames_sent, turn_sending}
+use Rattle.amqp_engine.specs.Saying.{HasSent, new, asked, applies, told, answer_taken, event_taken, frames_taken, applied_sending, SentLegal, CommittedLegal}
 use Rattle.amqp_engine.proofs.Over.{asks-running}
 use Rattle.amqp_engine.proofs.EventTaken.{event-case}
-use Rattle.amqp_engine.proofs.Committing.{Rules, Kept, kept-applied, kept-asks, kept-rule-same, Tells, opens-command, opens-answer, opens-event}
+use Rattle.amqp_engine.proofs.Committing.{Rules, KeptOn, kept-applied, kept-asking, kept-told, kept-new, Tells, opens-command, opens-answer, opens-event}
 
 -- what the decider takes
 abbrev pub Taken : List Frame → Type 0
 Taken frames = is_legal frames ≡ true
 
-pub rules : Rules IsSendable Taken IsSilent IsTied
+pub rules : Rules
 rules =
     record {
+      Told = IsSendable;
+      Octets = λ bytes. Unit {0};
+      Heard = λ f. Unit {0};
+      Answered = λ a. Unit {0};
+      Links = Taken;
+      Waits = IsSilent;
+      Says = IsTied;
+      nothing = tt;
+      joins = λ xs ys h k. tt;
+      leaves = λ n xs h. tt;
+      hears = λ bytes limit n f h is. tt;
       none = refl;
       holds = committed-legal;
       room = silent-room;
       linked = tied-linked;
-      commit = tied-commit;
+      commit = λ t fs item is size h. tied-commit t fs item is h;
       asked = now-asked;
       moment = now-moment;
       failed = now-failed;
       piece = now-piece;
       lost = now-lost;
       misread = now-misread;
-      frame = now-frame;
+      frame = λ f answers heard given t g fs h. now-frame f answers t g fs h;
       tick = now-tick;
       command = λ c may t fs. now-command c t fs may;
       taken = now-taken;
     }
 
 abbrev pub Saying : Engine → List Sending → Type 0
-Saying e ss = Kept IsSendable Taken IsSilent IsTied rules false e.talk ss
+Saying e ss = KeptOn rules e ss
 
 sendable : (c : Cmd) → IsToldCommand c → IsSendable c
 sendable (Send channel method) h = (h.0, h.1, h.2)
@@ -63,7 +78,8 @@ sendable (DropChannel channel) h = tt
 sendable DropConnection h = tt
 sendable Listen h = tt
 
-tells : (step : Step) → IsTold step → Tells IsSendable Taken IsSilent IsTied rules step
+tells : (step : Step) → IsTold step → Tells rules step
+unfolding rules
 tells (Command c) h = sendable c h
 tells Linked h = tt
 tells LinkFailed h = tt
@@ -76,20 +92,28 @@ tells Tick h = tt
 now-event : (t : Talk) (fs : List Frame) → Now t fs → Now (take_event t) fs
 now-event t fs h = event-case (λ (x : Talk). Now x fs) t (λ noted. h) h
 
+whatever : (answers : List ProviderAnswer) → AllByRecursion (λ (a : ProviderAnswer). Unit {0}) answers
+whatever [] = tt
+whatever (a ∷ answers) = (tt, whatever answers)
+
+saying-applied : (u : Turn) (e : Engine) (ss : List Sending) → has_ended e.talk ≡ false → IsApplied u e → IsTold u.step → Saying e ss → Saying (applied u e) (applied_sending u e ss)
+unfolding rules
+saying-applied u e ss running may told_step h = kept-applied rules u e ss running may (tells u.step told_step) tt (whatever u.notes.auths) h
+
+saying-told : (c : Cmd) (e : Engine) (ss : List Sending) → IsToldCommand c → Saying e ss → Saying (with_talk (command c) e) ss
+unfolding rules
+saying-told c e ss may h = kept-told rules (command c) e ss (λ t fs. now-command c t fs (sendable c may)) (opens-command c) h
+
 -- what is known of an engine that was new
 pub saying : (e : Engine) (ss : List Sending) → HasSent e ss → Saying e ss
-saying e ss (new config) = record { all = tt; committed = []; now = ((λ o. absurd cc), (λ w. start-silent config)); last = λ o. absurd cc; some = λ o. absurd cc }
-saying e ss (asked {e = e'} h) = kept-asks IsSendable Taken IsSilent IsTied rules e' ss (saying e' ss h)
-saying e ss (applies {e = e'} {ss = ss'} u running may told_step h) =
-    kept-applied IsSendable Taken IsSilent IsTied rules u e' ss' running may (tells u.step told_step) (saying e' ss' h)
-saying e ss (told {e = e'} c may h) =
-    kept-rule-same IsSendable Taken IsSilent IsTied rules (command c) e'.talk ss (λ t fs. now-command c t fs (sendable c may)) (opens-command c) (saying e' ss h)
-saying e ss (answer_taken {e = e'} number h) =
-    kept-rule-same IsSendable Taken IsSilent IsTied rules (take_answer number) e'.talk ss (now-answer number) (opens-answer number) (saying e' ss h)
-saying e ss (event_taken {e = e'} h) =
-    kept-rule-same IsSendable Taken IsSilent IsTied rules take_event e'.talk ss now-event opens-event (saying e' ss h)
-saying e ss (frames_taken {e = e'} opened h) =
-    kept-rule-same IsSendable Taken IsSilent IsTied rules (take_frames opened) e'.talk ss (now-frames opened) (λ t o. o) (saying e' ss h)
+unfolding rules
+saying e ss (new config) = kept-new rules config (start-silent config)
+saying e ss (asked {e = e'} h) = kept-asking rules e' ss (saying e' ss h)
+saying e ss (applies {e = e'} {ss = ss'} u running may told_step fit h) = saying-applied u e' ss' running may told_step (saying e' ss' h)
+saying e ss (told {e = e'} c may fits h) = saying-told c e' ss may (saying e' ss h)
+saying e ss (answer_taken {e = e'} number h) = kept-told rules (take_answer number) e' ss (now-answer number) (opens-answer number) (saying e' ss h)
+saying e ss (event_taken {e = e'} h) = kept-told rules take_event e' ss now-event opens-event (saying e' ss h)
+saying e ss (frames_taken {e = e'} opened h) = kept-told rules (take_frames opened) e' ss (now-frames opened) (λ t o. o) (saying e' ss h)
 
 -- ---- what was sent is the front of what was committed
 
@@ -119,24 +143,47 @@ take-map f zero xs = refl
 take-map f (suc n) [] = refl
 take-map f (suc n) (x ∷ xs) = ap (λ ys. f x ∷ ys) (take-map f n xs)
 
-pub committed_legal : (e : Engine) (ss : List Sending) → HasSent e ss → AllByRecursion (λ (s : Sending). Legal (frames s.committed)) ss
-committed_legal e ss h =
-    all-map (λ (s : Sending). Taken (frames s.committed)) (λ (s : Sending). Legal (frames s.committed)) ss (λ s k. sound (frames s.committed) k) (saying e ss h).all
+-- what is known leads to what is claimed
+all_committed : (e : Engine) (ss : List Sending) → Saying e ss → AllByRecursion CommittedLegal ss
+unfolding rules
+all_committed e ss h = all-map (λ (s : Sending). Taken (frames s.committed)) CommittedLegal ss (λ s k. sound (frames s.committed) k) h.0.all
 
-pub sent_legal : (e : Engine) (ss : List Sending) → HasSent e ss → AllByRecursion (λ (s : Sending). Legal (frames_sent s)) ss
-sent_legal e ss h =
-    all-map (λ (s : Sending). Taken (frames s.committed)) (λ (s : Sending). Legal (frames_sent s)) ss
+all_sent : (e : Engine) (ss : List Sending) → Saying e ss → AllByRecursion SentLegal ss
+unfolding rules
+all_sent e ss h =
+    all-map (λ (s : Sending). Taken (frames s.committed)) SentLegal ss
     (λ s k.
     let Q : List Frame → Type 0 = λ fs. Taken fs in
     sound (frames_sent s) (subst Q (sym (take-map (λ (item : Item). item.frame) s.sent s.committed)) (fronts s.sent (frames s.committed) k)))
-    (saying e ss h).all
+    h.0.all
+
+pub committed_legal : (e : Engine) (ss : List Sending) → HasSent e ss → AllByRecursion CommittedLegal ss
+committed_legal e ss h = all_committed e ss (saying e ss h)
+
+pub sent_legal : (e : Engine) (ss : List Sending) → HasSent e ss → AllByRecursion SentLegal ss
+sent_legal e ss h = all_sent e ss (saying e ss h)
 
 -- ---- turns
 
-pub turn-sent : (u : Turn) (e : Engine) (ss : List Sending) → IsTurn u e → IsTold u.step → HasSent e ss → HasSent (turn u e) (turn_sending u e ss)
-turn-sent u e ss may told_step h = applies u (asks-running e may.running) may.applied told_step (asked h)
+pub turn-sent : (u : Turn) (e : Engine) (ss : List Sending) → IsTurn u e → IsTold u.step → IsFit u → HasSent e ss → HasSent (turn u e) (turn_sending u e ss)
+turn-sent u e ss may told_step fit h = applies u (asks-running e may.running) may.applied told_step fit (asked h)
 
-pub turns-sent : (us : List Turn) (e : Engine) (ss : List Sending) → AreTurns us e → AreTold us → HasSent e ss → HasSent (turns us e) (sendings_from us e ss)
-turns-sent [] e ss may told_steps h = h
-turns-sent (u ∷ us) e ss may told_steps h =
-    turns-sent us (turn u e) (turn_sending u e ss) may.1 told_steps.1 (turn-sent u e ss may.0 told_steps.0 h)
+pub turns-sent : (us : List Turn) (e : Engine) (ss : List Sending) → AreTurns us e → AreTold us → AreFit us → HasSent e ss → HasSent (turns us e) (sendings_from us e ss)
+turns-sent [] e ss may told_steps fit h = h
+turns-sent (u ∷ us) e ss may told_steps fit h =
+    turns-sent us (turn u e) (turn_sending u e ss) may.1 told_steps.1 fit.1 (turn-sent u e ss may.0 told_steps.0 fit.0 h)
+
+-- whatever comes with them
+saying-turn : (u : Turn) (e : Engine) (ss : List Sending) → IsTurn u e → IsTold u.step → Saying e ss → Saying (turn u e) (turn_sending u e ss)
+saying-turn u e ss may told_step h = saying-applied u (asks e) ss (asks-running e may.running) may.applied told_step (kept-asking rules e ss h)
+
+saying-turns : (us : List Turn) (e : Engine) (ss : List Sending) → AreTurns us e → AreTold us → Saying e ss → Saying (turns us e) (sendings_from us e ss)
+saying-turns [] e ss may told_steps h = h
+saying-turns (u ∷ us) e ss may told_steps h =
+    saying-turns us (turn u e) (turn_sending u e ss) may.1 told_steps.1 (saying-turn u e ss may.0 told_steps.0 h)
+
+pub turns_sent_legal : (t : Talk) (us : List Turn) → HasSent (begin t) [] → AreTurns us (begin t) → AreTold us → AllByRecursion SentLegal (sendings t us)
+turns_sent_legal t us silent may told_steps = all_sent (turns us (begin t)) (sendings t us) (saying-turns us (begin t) [] may told_steps (saying (begin t) [] silent))
+
+pub turns_committed_legal : (t : Talk) (us : List Turn) → HasSent (begin t) [] → AreTurns us (begin t) → AreTold us → AllByRecursion CommittedLegal (sendings t us)
+turns_committed_legal t us silent may told_steps = all_committed (turns us (begin t)) (sendings t us) (saying-turns us (begin t) [] may told_steps (saying (begin t) [] silent))

@@ -35,9 +35,15 @@ pub mod Agreeing
 pub mod LinkKept
 pub mod Sends
 pub mod LinkTold
--- What is said on each link is a legal conversation, by lifting what the rules of the session keep: `run: legal`, and its law.
+-- What is said on each link is a legal conversation, by lifting what the rules of the session keep: `run: legal`, and its law; it keeps the numbers
+-- that were agreed and can be written; and so it is read back.
+pub mod Received
 pub mod Committing
 pub mod LegalLinks
+pub mod Unchanged
+pub mod SpokenLinks
+pub mod WrittenLinks
+pub mod SpelledLinks
 pub mod GoingOn
 pub mod ToldScripts
 -- What brings about an end with an error: `run: cause`, `apply: cause`, and the counts of faults and of refusals.
@@ -45,15 +51,19 @@ pub mod ReadEnds
 pub mod TurnEnds
 pub mod Faults
 pub mod Blaming
--- What a client was told to send is what went out: what is known of all links once frames were sent, and so through turns.
+-- What a client was told to send is what went out: what is known of all links once frames were sent, and so through turns, with who opened each channel.
 pub mod History
 pub mod Departing
 pub mod Passing
 pub mod Conveying
 pub mod WentOut
--- What was handed out was read: the invariant through the turns.
+-- What was handed out came: the frames that are read stand in the octets of their link.
 pub mod CameIn
--- Both together, and through runs and single turns: the law that what is told is carried, `run: carried` and `apply: carried`.
+pub mod CameRead
+-- Both together, through the whole history of an engine, and so through runs, single turns, and what is told and taken between them: the law that what is told is
+-- carried, and the clauses `carried`.
+pub mod HistoryKept
+pub mod Accounting
 pub mod Carrying
 -- A script of a faultless server ends closed: what is committed is said to the server.
 pub mod SpeaksAll
@@ -88,3 +98,5 @@ pub mod Begun
 pub mod Turned
 pub mod Rounds
 pub mod Closed
+-- memory refused before a turn
+pub mod Starved

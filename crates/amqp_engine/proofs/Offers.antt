@@ -1,5 +1,5 @@
 -- Offers one by one.
-use Rattle.std.proofs.Common.{◌≡◌, ◌≤◌, ◌<◌, ℕ, ◌+◌, ◌-◌, ◌==◌, nat_le, if◌then◌else◌, not, ◌&&◌, Bool, true, false, IsTrue, IsFalse, MatchBool, IfSome, List, [], ◌∷◌, length, drop, Option, Some, None, is_some, option_map, refl, ap, sym, ◌∙◌, subst, arith, rules, length-drop}
+use Rattle.std.proofs.Common.{◌≡◌, ◌≤◌, ◌<◌, ℕ, ◌+◌, ◌-◌, ◌==◌, nat_le, if◌then◌else◌, not, ◌&&◌, Bool, true, false, IsTrue, IsFalse, MatchBool, IfSome, List, [], ◌∷◌, ◌++◌, length, drop, Option, Some, None, is_some, option_map, refl, ap, sym, ◌∙◌, subst, arith, rules, length-drop}
 use Rattle.std.proofs.lemmas.Bool.Decides.{nat_tests}
 use Rattle.amqp_promise.specs.declared.io_fault.IoFault.TheVariants.{BrokenPipe}
 use Rattle.amqp_session.specs.declared.committed.Mark.{Mark}
@@ -20,11 +20,12 @@ use Rattle.amqp_engine.specs.declared.port.Wrote.TheVariants.{Took, Failed, NoMe
 use Rattle.amqp_engine.specs.Log.{Log, log_write, TookAtMost, PlansWrite}
 use Rattle.amqp_engine.specs.Engine.{Engine, rule_at, can_write, overlong_next, refuse_overlong, commit_all, wrote, took}
 use Rattle.amqp_session.specs.Writing.{frames_waiting}
-use Rattle.amqp_engine.specs.Turn.{Notes, write_answers, Progress, goes, offer_part, closing, drained, offered, answered, is_all, AreAnswers}
+use Rattle.amqp_engine.specs.Turn.{answers_of_writes, Progress, goes, offer_part, closing, drained, offered, answered, is_all, AreAnswers}
 use Rattle.amqp_engine.specs.Making.{making, Reaches, Writes}
+use Rattle.amqp_engine.specs.Noting.{took_by, fails_by}
 use Rattle.amqp_types.specs.Counts.{Rose}
 use Rattle.amqp_engine.specs.Tell.{port_answer, offers_from, log_offers, PlaysOffers, TellsOffers}
-use Rattle.amqp_engine.specs.Play.{offers_waiting, answer_noted, no_notes}
+use Rattle.amqp_engine.specs.Play.{offers_waiting}
 use Rattle.amqp_types.proofs.Small.{if_case, if-true, if-false, and-false}
 use Rattle.amqp_engine.proofs.Cases.{is_before-Reaches, is_before-cut, some-unsent, rose-between}
 use Rattle.amqp_session.proofs.Keeping.{present-keeps, pay-keeps}
@@ -141,37 +142,30 @@ none-failed : {A : Type 0} → false ≡ true → A
 none-failed h = cc
 
 -- no write is made where none is due
-writes-nothing : (p q : Progress) (log log' : Option Log) (m n : ℕ) → closing p ≡ q → IsFalse (goes p && can_write p.engine) → log' ≡ log → Writes p q log log' m n
+writes-nothing : (p q : Progress) (log log' : Option Log) (m n : ℕ) → closing p ≡ q → IsFalse (goes p && can_write p.engine) → log' ≡ log → Writes [] false p q log log' m n
 writes-nothing p q log log' m n leaves none told =
-    record {
-      notes = record { tooks = []; failed = false; auths = []; starved = p.cut };
-      cut = refl;
-      answers = none;
-      leaves = leaves;
-      tells = tells-none log log' told;
-      counted = none-failed;
-    }
+    record { answers = none; leaves = leaves; tells = tells-none log log' told; counted = none-failed }
 
 -- nothing is to be written
 pub writes-none : (p q : Progress) (log log' : Option Log) (m n : ℕ) → goes p ≡ true → q ≡ record p { engine = refuse_overlong p.engine } → IsFalse (can_write p.engine) → log' ≡ log
-    → Writes p q log log' m n
+    → Writes [] false p q log log' m n
 writes-none p q log log' m n on is can told =
     let after : Progress = record p { engine = refuse_overlong p.engine } in
     writes-nothing p q log log' m n (if-true (goes p) after p on ∙ sym is) (and-is-false (goes p) (can_write p.engine) can) told
 
 -- a turn that was cut goes no further
-pub writes-cut : (p : Progress) (log log' : Option Log) (m n : ℕ) → goes p ≡ false → log' ≡ log → Writes p p log log' m n
+pub writes-cut : (p : Progress) (log log' : Option Log) (m n : ℕ) → goes p ≡ false → log' ≡ log → Writes [] false p p log log' m n
 writes-cut p log log' m n off told =
     writes-nothing p p log log' m n (if-false (goes p) (record p { engine = refuse_overlong p.engine }) p off) (ap (λ (b : Bool). b && can_write p.engine) off) told
 
 -- one write more, of which all was taken
 pub writes-more : (more : List Asked) (asked : List Question) → (at : ℕ) (cut : Option ℕ) (e : Engine) (n : ℕ) (w : Wrote) (e' : Engine) (last : Progress) (log mid log' : Option Log) (a b c : ℕ)
-    → e' ≡ answered at w e → mid ≡ option_map (log_write (offered e) w) log → IfSome log (PlansWrite (length (offered e)) w)
+    (ts : List ℕ) (failed : Bool) → e' ≡ answered at w e → mid ≡ option_map (log_write (offered e) w) log → IfSome log (PlansWrite (length (offered e)) w)
     → Reaches cut (n + 1) → IsTrue (can_write e) → TookAtMost (length (offered e)) w → is_all w (length (offered e)) ≡ true → a ≤ b
-    → Writes (making at cut more asked e' (n + 1)) last mid log' b c → Writes (making at cut more asked e n) last log log' a c
-writes-more more asked at cut e n (Took k) e' last log mid log' a b c he told plays allows can fits all le rest =
+    → Writes ts failed (making at cut more asked e' (n + 1)) last mid log' b c → Writes (took_by w ++ ts) failed (making at cut more asked e n) last log log' a c
+writes-more more asked at cut e n (Took k) e' last log mid log' a b c ts failed he told plays allows can fits all le rest =
     let p = making at cut more asked e n in
-    let ws = write_answers rest.notes in
+    let ws = answers_of_writes ts failed in
     let same : making at cut more asked e' (n + 1) ≡ offer_part (Took k) p = offer-making more asked at cut e n (Took k) e' he in
     let some : 0 < length (offered e) = some-unsent (is_open e.talk) (not e.talk.blocked) (not (is_some (overlong_next e))) (length (offered e)) can in
     let is : k ≡ length (offered e) = grind (arith, nat_tests) in
@@ -181,23 +175,21 @@ writes-more more asked at cut e n (Took k) e' last log mid log' a b c he told pl
     let R : Progress → Type 0 = λ x. TellsOffers (offers_from ws x) mid log' in
     let tail : MatchBool (is_all (Took k) (length (offered e))) (AreAnswers ws (offer_part (Took k) p)) (ws ≡ []) = rw all (subst P same rest.answers) in
     record {
-      notes = answer_noted (Took k) rest.notes;
-      cut = rest.cut;
       answers = (due, fits, tail);
       leaves = if-true (is_all (Took k) (length (offered e))) (drained ws (offer_part (Took k) p)) (offer_part (Took k) p) all ∙ subst Q same rest.leaves;
       tells = tells-more (Took k) (Took k) ws p log mid log' (took-some k p (omega (arith, some, is))) told plays (subst R same rest.tells);
-      counted = λ failed. rose-between a b c c le (omega arith) (rest.counted failed);
+      counted = λ is_failed. rose-between a b c c le (omega arith) (rest.counted is_failed);
     }
-writes-more more asked at cut e n Failed e' last log mid log' a b c he told plays allows can fits all le rest = cc
-writes-more more asked at cut e n NoMemory e' last log mid log' a b c he told plays allows can fits all le rest = cc
+writes-more more asked at cut e n Failed e' last log mid log' a b c ts failed he told plays allows can fits all le rest = cc
+writes-more more asked at cut e n NoMemory e' last log mid log' a b c ts failed he told plays allows can fits all le rest = cc
 
 -- one write alone, with what is noted of it
-writes-one : (more : List Asked) (asked : List Question) → (at : ℕ) (cut : Option ℕ) (e : Engine) (n : ℕ) (w v : Wrote) (notes : Notes) (e' : Engine) (log log' : Option Log) (a b : ℕ)
-    → write_answers notes ≡ w ∷ [] → notes.starved ≡ cut → port_answer w (making at cut more asked e n) ≡ v
+writes-one : (more : List Asked) (asked : List Question) → (at : ℕ) (cut : Option ℕ) (e : Engine) (n : ℕ) (w v : Wrote) (tooks : List ℕ) (failed : Bool) (e' : Engine) (log log' : Option Log) (a b : ℕ)
+    → answers_of_writes tooks failed ≡ w ∷ [] → port_answer w (making at cut more asked e n) ≡ v
     → e' ≡ answered at w e → log' ≡ option_map (log_write (offered e) v) log → IfSome log (PlansWrite (length (offered e)) v)
     → Reaches cut (n + 1) → IsTrue (can_write e) → TookAtMost (length (offered e)) w → is_all w (length (offered e)) ≡ false
-    → (notes.failed ≡ true → Rose a b) → Writes (making at cut more asked e n) (making at cut more asked e' (n + 1)) log log' a b
-writes-one more asked at cut e n w v notes e' log log' a b one same is he told plays allows can fits less counted =
+    → (failed ≡ true → Rose a b) → Writes tooks failed (making at cut more asked e n) (making at cut more asked e' (n + 1)) log log' a b
+writes-one more asked at cut e n w v tooks failed e' log log' a b one is he told plays allows can fits less counted =
     let p = making at cut more asked e n in
     let none : List Wrote = [] in
     let due : IsTrue (goes p && can_write e) = and-is-true (goes p) (can_write e) (is_before-Reaches cut n allows) can in
@@ -205,8 +197,6 @@ writes-one more asked at cut e n w v notes e' log log' a b one same is he told p
     let P : List Wrote → Type 0 = λ ws. AreAnswers ws p in
     let Q : List Wrote → Type 0 = λ ws. TellsOffers (offers_from ws p) log log' in
     record {
-      notes = notes;
-      cut = same;
       answers = subst P (sym one) (due, fits, tail);
       leaves =
           ap (λ (ws : List Wrote). drained ws p) one ∙ if-false (is_all w (length (offered e))) (drained none (offer_part w p)) (offer_part w p) less
@@ -220,24 +210,38 @@ pub writes-last : (more : List Asked) (asked : List Question) → (at : ℕ) (e 
     → e' ≡ answered at w e → log' ≡ option_map (log_write (offered e) w) log → IfSome log (PlansWrite (length (offered e)) w)
     → IsTrue (can_write e) → TookAtMost (length (offered e)) w → is_all w (length (offered e)) ≡ false
     → (w ≡ NoMemory → ⊥) → (w ≡ Failed → Rose a b)
-    → Writes (making at None more asked e n) (making at None more asked e' (n + 1)) log log' a b
+    → Writes (took_by w) (fails_by false w) (making at None more asked e n) (making at None more asked e' (n + 1)) log log' a b
 writes-last more asked at e n (Took k) e' log log' a b he told plays can fits less other cause =
-    writes-one more asked at None e n (Took k) (Took k) (answer_noted (Took k) no_notes) e' log log' a b refl refl
+    writes-one more asked at None e n (Took k) (Took k) (k ∷ []) false e' log log' a b refl
     (goes-answer (Took k) (making at None more asked e n) refl) he told plays tt can fits less none-failed
 writes-last more asked at e n Failed e' log log' a b he told plays can fits less other cause =
-    writes-one more asked at None e n Failed Failed (answer_noted Failed no_notes) e' log log' a b refl refl refl he told plays tt can fits less (λ failed. cause refl)
+    writes-one more asked at None e n Failed Failed [] true e' log log' a b refl refl he told plays tt can fits less (λ failed. cause refl)
 writes-last more asked at e n NoMemory e' log log' a b he told plays can fits less other cause = absurd (other refl)
 
 -- a last one, for which the port found no memory
 pub writes-refused : (more : List Asked) (asked : List Question) → (at : ℕ) (e : Engine) (n : ℕ) (e' : Engine) (log log' : Option Log) (a b : ℕ)
     → e' ≡ answered at NoMemory e → log' ≡ option_map (log_write (offered e) NoMemory) log → IfSome log (PlansWrite (length (offered e)) NoMemory)
-    → IsTrue (can_write e) → Writes (making at (Some (n + 1)) more asked e n) (making at (Some (n + 1)) more asked e' (n + 1)) log log' a b
+    → IsTrue (can_write e) → Writes (0 ∷ []) false (making at (Some (n + 1)) more asked e n) (making at (Some (n + 1)) more asked e' (n + 1)) log log' a b
 writes-refused more asked at e n e' log log' a b he told plays can =
     let cut : Option ℕ = Some (n + 1) in
     let some : 0 < length (offered e) = some-unsent (is_open e.talk) (not e.talk.blocked) (not (is_some (overlong_next e))) (length (offered e)) can in
     let less : (0 == length (offered e)) ≡ false = grind (arith, nat_tests) in
-    writes-one more asked at cut e n (Took 0) NoMemory (record { tooks = 0 ∷ []; failed = false; auths = []; starved = cut }) e' log log' a b refl refl
+    writes-one more asked at cut e n (Took 0) NoMemory (0 ∷ []) false e' log log' a b refl
     (refused-answer (making at cut more asked e n) (is_before-cut (n + 1))) he told plays (omega arith) can (omega arith) less none-failed
+
+-- where all was taken, the write did not fail
+pub all-clean : (w : Wrote) (n : ℕ) → is_all w n ≡ true → fails_by false w ≡ false
+all-clean (Took k) n all = refl
+all-clean Failed n all = cc
+all-clean NoMemory n all = refl
+
+-- the same writes, noted otherwise
+pub writes-same : (ts us : List ℕ) (f g : Bool) (p q : Progress) (log log' : Option Log) (m n : ℕ) → us ≡ ts → g ≡ f → Writes ts f p q log log' m n
+    → Writes us g p q log log' m n
+writes-same ts us f g p q log log' m n tooks failed w =
+    let T : List ℕ → Type 0 = λ x. Writes x f p q log log' m n in
+    let F : Bool → Type 0 = λ b. Writes us b p q log log' m n in
+    subst F (sym failed) (subst T (sym tooks) w)
 
 wrote-starved : (at : ℕ) (w : Wrote) (e : Engine) → (wrote at w e).starved ≡ e.starved
 wrote-starved at (Took k) e = settle-starved (record e { talk = taken k (present_at at e.talk); unsent = drop k e.unsent })

@@ -15,9 +15,9 @@ use Rattle.amqp_engine.specs.Plan.{Plan, Coming, plan_write, plan_failure, plan_
 use Rattle.amqp_engine.specs.Log.{Log, PlansWrite, log_ask, log_step, log_write}
 use Rattle.amqp_engine.specs.Engine.{Engine, can_write, overlong_next, commit_all}
 use Rattle.amqp_session.specs.Writing.{frames_waiting}
-use Rattle.amqp_engine.specs.Turn.{is_before, Progress, Notes, Turn, write_answers, asks, wants_ask, goes, offer_part, offered, is_all, AreAnswers, read, after_writes, turn, turns, starved_after, IsCut, IsAnswered, IsTurn, AreTurns, AreTold, exchanges, cut_of}
+use Rattle.amqp_engine.specs.Turn.{is_before, Progress, Notes, Turn, write_answers, asks, wants_ask, goes, offer_part, offered, is_all, AreAnswers, read, after_writes, turn, turns, starved_after, IsCut, IsAnswered, IsTurn, AreTurns, AreTold, AreFit, exchanges, cut_of, no_notes, cut_questions}
 use Rattle.amqp_engine.specs.Tell.{Offer, port_answer, offers_from, offers_of, turn_of, log_asks, log_stepped, log_offers, log_turn, log_turns, PlaysOffers, PlaysTurn, PlaysTurns, MayCome, RunsLent}
-use Rattle.amqp_engine.specs.Play.{offers_waiting, room_of, fails_of, played_answer, played_writes, played_step, told_turn, played_turn_of, played_turn, played_turns, no_notes, answer_noted, AreAnswered, IsPlayed}
+use Rattle.amqp_engine.specs.Play.{offers_waiting, room_of, fails_of, played_answer, played_writes, played_step, told_turn, played_turn_of, played_turn, played_turns, answer_noted, AreAnswered, IsPlayed}
 use Rattle.amqp_engine.proofs.Answering.{answer-size, answered-all}
 use Rattle.amqp_engine.proofs.FirstAnswers.{Alike, with_answers, read_with, read-first}
 use Rattle.amqp_engine.proofs.Over.{turn-is}
@@ -144,12 +144,9 @@ played-any (suc n) left p a =
     (played-any n left (offer_part w p) (log_write (offered p.engine) w a))
 
 -- where no turn was cut, one answers each question
-answer-whole : (cut : Option ℕ) (questions : List Question) (answers : List Asked) → cut ≡ None → IsAnswered cut questions answers → Answer questions answers
-answer-whole cut [] [] whole h = tt
-answer-whole cut (q ∷ qs) (x ∷ xs) whole h = (h.0, answer-whole cut qs xs whole h.1)
-answer-whole None [] (x ∷ xs) whole h = absurd h
-answer-whole (Some j) [] (x ∷ xs) whole h = cc
-answer-whole cut (q ∷ qs) [] whole h = absurd h
+answer-whole : (cut : Option ℕ) (questions next : List Question) (answers : List Asked) → cut ≡ None → IsAnswered cut questions next answers → Answer questions answers
+answer-whole None questions next answers whole h = h
+answer-whole (Some j) questions next answers whole h = cc
 
 -- these are the first answers, whatever follows them
 first-alike : (questions : List Question) (answers more : List Asked) → Answer questions answers → answers ≡ take (length questions) (answers ++ more)
@@ -166,7 +163,7 @@ turn-played u e a more may plays whole planned =
     let h : Coming = record { at = u.at; step = u.step; bytes = u.bytes } in
     let q = read (told_turn h all) (asks e) in
     let n = length p.questions in
-    let asked : Answer p.questions auths = answer-whole u.notes.starved p.questions auths whole may.applied.asked in
+    let asked : Answer p.questions auths = answer-whole u.notes.starved p.questions (cut_questions u (asks e)) auths whole may.applied.asked in
     let first : auths ≡ take n all = first-alike p.questions auths more asked in
     let alike : Alike n auths all = take_all n auths (omega (arith, answer-size p.questions auths asked)) ∙ first in
     let same : q ≡ with_answers (drop n all) p =
@@ -218,7 +215,7 @@ turns-whole (u ∷ us) e may whole =
 turns-answered : (us : List Turn) (e : Engine) → AreTurns us e → (turns us e).starved ≡ None → AreAnswered us e
 turns-answered [] e may whole = tt
 turns-answered (u ∷ us) e may whole = (
-  answer-whole u.notes.starved (read u (asks e)).questions u.notes.auths (first-whole u us e may whole) may.0.applied.asked,
+  answer-whole u.notes.starved (read u (asks e)).questions (cut_questions u (asks e)) u.notes.auths (first-whole u us e may whole) may.0.applied.asked,
   turns-answered us (turn u e) may.1 whole,
 )
 
@@ -270,6 +267,7 @@ Runs-played n e e' a log before after lent planned whole =
       told = r.tells.told ∙ ap (λ us. Some (log_turns us e a)) is;
       answered = subst A is (turns-answered r.us e r.leads.may ends);
       steps_told = subst AreTold is r.told;
+      fit = subst AreFit is r.fit;
       exchanged = subst X is (whole-allows (cut_of r.us) before after (exchanges r.us e) (turns-whole r.us e r.leads.may ends) lent.exchanged);
     }
 
@@ -403,7 +401,7 @@ played-is-turn answers e a running asked =
       running = running;
       applied = record {
         answers = (played-due answers e a).may;
-        asked = answered-all u.notes.starved (read u (asks e)).questions u.notes.auths asked;
+        asked = answered-all u.notes.starved (read u (asks e)).questions (cut_questions u (asks e)) u.notes.auths asked;
         cut = subst C (sym whole) tt;
       };
     }

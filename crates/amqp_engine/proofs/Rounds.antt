@@ -1,7 +1,6 @@
 -- A turn of a script of a faultless server keeps the tie of the server with the session, or ends the session Closed.
 use Rattle.std.proofs.Common.{◌≡◌, ◌≤◌, ◌⊎◌, inl, inr, ℕ, ◌+◌, min, false, List, [], ◌∷◌, ◌++◌, length, length-append, append_assoc, Some, None, refl, ap, sym, ◌∙◌, subst, arith}
 use Rattle.std.specs.Prelude.{map}
-use Rattle.std.specs.List.{flat_map}
 use Rattle.amqp_frame.specs.declared.frame.Frame.{Frame}
 use Rattle.amqp_auth.specs.declared.asked.Asked.{Asked}
 use Rattle.amqp_auth.specs.Asking.{Answer}
@@ -30,8 +29,8 @@ use Rattle.amqp_engine.specs.Turn.{Turn, Progress, write_answers, asks, begun, p
 use Rattle.amqp_engine.specs.Tell.{log_stepped}
 use Rattle.amqp_engine.specs.Sending.{Sending, frames, step_sending, turn_sending, sendings, offers_sending}
 use Rattle.amqp_engine.specs.Play.{offers_waiting, played_writes, played_turn_of}
-use Rattle.amqp_engine.specs.Exchange.{said_of}
-use Rattle.amqp_engine.specs.Valid.{SpelledFrame, LinkSaying, Theirs, Ours, AreSpelled, IsQuiet, IsShort, after_sayings, whole_in, later_than, begun_in, all_bytes, said_frame, sayings_of, last_piece}
+use Rattle.amqp_engine.specs.SentWhole.{said_of}
+use Rattle.amqp_engine.specs.Valid.{SpelledFrame, LinkSaying, Theirs, Ours, AreSpelled, IsQuiet, IsShort, after_sayings, whole_in, later_than, begun_in, all_bytes, sayings_of, last_piece}
 use Rattle.amqp_engine.proofs.Over.{turn-is}
 use Rattle.amqp_engine.proofs.Lifting.{stays-step}
 use Rattle.amqp_engine.proofs.Follows.{IsCalm, met-step, met-asks, piece-unread}
@@ -81,7 +80,7 @@ pub record Rounded (t : Talk) (options : Options) (before : List Turn) (u : Turn
   pub stage : server.stage ≡ s.stage
   pub sends : turn_sending u e ss ≡ sending ∷ []
   pub unread_is : (turn u e).unread ≡ unread
-  pub says : (rest : List LinkSaying) → after_sayings (map Ours (flat_map said_frame (said_of u e ss)) ++ rest) (Some s) ≡ after_sayings rest (Some server)
+  pub says : (rest : List LinkSaying) → after_sayings (map Ours (said_of u e ss) ++ rest) (Some s) ≡ after_sayings rest (Some server)
 
 module _ (t : Talk) (options : Options) (before : List Turn) (u : Turn) (e : Engine) (ss : List Sending) (x : Sending) (a : Log) where
   abbrev p : Progress
@@ -196,7 +195,7 @@ module _ (t : Talk) (options : Options) (agreed : ℕ) (before : List Turn) (mom
   auths = u.notes.auths
 
   abbrev said : List Frame
-  said = flat_map said_frame (said_of u e (x ∷ []))
+  said = said_of u e (x ∷ [])
 
   module _ (h : Stands t options before moment s x e) (on : IsOn (g ∷ gs) a.plan) (short : IsShort g.what) (rise : moment ≤ g.at)
       (heard : step_of g.what ≡ Tick → IsCalm g.at Tick e.talk) (answered : Answer (read u (asks e)).questions auths) (taken_sayable : AreSayable options auths)

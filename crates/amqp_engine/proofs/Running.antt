@@ -3,13 +3,16 @@ use Rattle.std.proofs.Common.{◌≡◌, ◌≤◌, ℕ, ◌+◌, false, true, L
 use Rattle.std.proofs.lemmas.Grind.{common_steps}
 use Rattle.std.specs.Option.{option_or}
 use Rattle.amqp_auth.specs.Providers.{Exchange, Allows}
+use Rattle.std.specs.List.{AllByRecursion}
+use Rattle.amqp_types.specs.Forms.{IsOctets}
+use Rattle.amqp_written_rules.specs.Sayable.{CanBeAnswered}
 use Rattle.amqp_session.specs.Changes.{starve, present_at}
 use Rattle.amqp_session.specs.Talk.{has_ended}
 use Rattle.amqp_engine.specs.declared.port.Step.{Step}
 use Rattle.amqp_engine.specs.Log.{Log, log_step, PlansStep}
 use Rattle.amqp_engine.specs.Engine.{Engine, starve_at}
-use Rattle.amqp_engine.specs.Turn.{Turn, asks, after_writes, starved_after, turn, turns, IsTurn, IsTold, AreTurns, AreTold, exchange_of, exchanges, cut_of, Leads}
-use Rattle.amqp_engine.specs.Tell.{Tells, turn_of, log_asks, log_offers, log_turn, log_turns, offers_of, PlaysOffers, PlaysTurn, PlaysTurns, TellsOffers, TellsTurn, TellsTurns, MayCome, AppliesLent, TakesTurnLent, Runs}
+use Rattle.amqp_engine.specs.Turn.{Turn, Notes, StepCanBeTold, IsFit, asks, after_writes, starved_after, turn, turns, IsTurn, IsTold, AreTurns, AreTold, AreFit, exchange_of, exchanges, cut_of, Leads}
+use Rattle.amqp_engine.specs.Tell.{Tells, turn_of, log_asks, log_offers, log_turn, log_turns, offers_of, PlaysOffers, PlaysTurn, PlaysTurns, TellsOffers, TellsTurn, TellsTurns, MayCome, AppliesNoted, AppliesLent, TakesTurnLent, Runs}
 use Rattle.amqp_session.proofs.Keeping.{starve-ends}
 use Rattle.amqp_engine.proofs.Over.{turn-is}
 use Rattle.amqp_engine.proofs.Telling.{tells-then, tells-as, tells-freely}
@@ -67,6 +70,11 @@ pub told-append : (us vs : List Turn) → AreTold us → AreTold vs → AreTold 
 told-append [] vs h k = k
 told-append (u ∷ us) vs h k = (h.0, told-append us vs h.1 k)
 
+-- and bring what their types can hold
+pub fit-append : (us vs : List Turn) → AreFit us → AreFit vs → AreFit (us ++ vs)
+fit-append [] vs h k = k
+fit-append (u ∷ us) vs h k = (h.0, fit-append us vs h.1 k)
+
 -- a run after one that took all its turns goes on
 pub Runs-append : (m n : ℕ) (a b c : Engine) (x y z : Option Log) → Runs m a b x y → has_ended b.talk ≡ false → Runs n b c y z → Runs (m + n) a c x z
 Runs-append m n a b c x y z r running s =
@@ -75,6 +83,7 @@ Runs-append m n a b c x y z r running s =
       leads = Leads-append r.us s.us a b c r.leads s.leads;
       tells = tells-append r.us s.us a b x y z r.leads.leaves r.tells s.tells;
       told = told-append r.us s.us r.told s.told;
+      fit = fit-append r.us s.us r.fit s.fit;
       within = omega (arith, length-append r.us s.us, r.within, s.within);
       all = λ h. omega (arith, length-append r.us s.us, r.all running, s.all h);
     }
@@ -117,24 +126,35 @@ tells-turn u e log asked stepped last ha hs plays t =
     (λ a. P a × PlaysOffers os (log_step u.at u.step u.bytes a)) log asked last (tells-freely (log_asks e) log asked ha) later in
     tells-as _ (log_turn u e) _ (PlaysTurn u e) log last (λ a. refl) (λ a p. p.1) whole
 
+-- a turn brings what its types can hold
+pub fit-of : (at : ℕ) (step : Step) (bytes : List ℕ) (notes : Notes) → StepCanBeTold step → IsOctets bytes → AllByRecursion CanBeAnswered notes.auths
+    → IsFit (turn_of at step bytes notes)
+fit-of at step bytes notes can octets answered = record { step = can; bytes = octets; auths = answered }
+
 -- a turn from its asking, its step and what is applied
-pub turns-of : (e e1 e' : Engine) (log asked stepped last : Option Log) (at : ℕ) (step : Step) (bytes bytes' : List ℕ) (before after : Exchange → Type 0)
+pub turns-of : (e e1 e' : Engine) (log asked stepped last : Option Log) (at : ℕ) (step : Step) (bytes bytes' : List ℕ) (notes : Notes) (before after : Exchange → Type 0)
     → has_ended e.talk ≡ false → e1 ≡ asks e → asked ≡ option_map (log_asks e) log → stepped ≡ option_map (log_step at step bytes) asked
-    → bytes' ≡ bytes → IfSome asked (PlansStep at step bytes) → IsTold step → AppliesLent at step bytes' e1 e' stepped last before after → TakesTurnLent e e' log last before after
-turns-of e e1 e' log asked stepped last at step bytes bytes' before after running he ha hs hb plays told applies =
-    let A : List ℕ → Type 0 = λ x. AppliesLent at step x e1 e' stepped last before after in
-    let B : Engine → Type 0 = λ x. AppliesLent at step bytes x e' stepped last before after in
+    → bytes' ≡ bytes → IfSome asked (PlansStep at step bytes) → IsTold step → AppliesNoted at step bytes' notes e1 e' stepped last before after → TakesTurnLent e e' log last before after
+turns-of e e1 e' log asked stepped last at step bytes bytes' notes before after running he ha hs hb plays told applies =
+    let A : List ℕ → Type 0 = λ x. AppliesNoted at step x notes e1 e' stepped last before after in
+    let B : Engine → Type 0 = λ x. AppliesNoted at step bytes notes x e' stepped last before after in
     let f = subst B he (subst A hb applies) in
     record {
       takes = record {
-        u = turn_of at step bytes f.applies.notes;
+        u = turn_of at step bytes notes;
         may = record { running = running; applied = f.applies.may };
         told = told;
+        fit = f.fit;
         leaves = f.applies.leaves;
-        tells = tells-turn (turn_of at step bytes f.applies.notes) e log asked stepped last ha hs plays f.applies.tells;
+        tells = tells-turn (turn_of at step bytes notes) e log asked stepped last ha hs plays f.applies.tells;
       };
       exchanged = f.exchanged;
     }
+
+-- a turn with these notes is one with some
+pub noted-lent : (at : ℕ) (step : Step) (bytes : List ℕ) (notes : Notes) (e e' : Engine) (log log' : Option Log) (before after : Exchange → Type 0)
+    → AppliesNoted at step bytes notes e e' log log' before after → AppliesLent at step bytes e e' log log' before after
+noted-lent at step bytes notes e e' log log' before after h = (notes, h)
 
 -- ---- what was asked
 

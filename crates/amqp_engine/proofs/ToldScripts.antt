@@ -4,7 +4,6 @@ use Rattle.std.specs.Prelude.{option_map}
 use Rattle.std.specs.List.{AllByRecursion}
 use Rattle.amqp_auth.specs.declared.asked.Asked.{Asked}
 use Rattle.amqp_session.specs.Talk.{Talk, has_ended}
-use Rattle.amqp_legal.specs.Legal.{Legal}
 use Rattle.amqp_types.proofs.Small.{if_case}
 use Rattle.amqp_engine.specs.declared.given.Given.{Given}
 use Rattle.amqp_engine.specs.declared.port.Wrote.{Wrote}
@@ -12,13 +11,13 @@ use Rattle.amqp_engine.specs.declared.port.Wrote.TheVariants.{Took, Failed, NoMe
 use Rattle.amqp_engine.specs.Plan.{Plan, plan_from, plan_step, plan_write, plan_failure, coming_from}
 use Rattle.amqp_engine.specs.Log.{Log, loaded, log_ask, log_write}
 use Rattle.amqp_engine.specs.Engine.{Engine, begin}
-use Rattle.amqp_engine.specs.Turn.{Turn, IsTold, AreTold, asks, wants_ask, turn, turns}
+use Rattle.amqp_engine.specs.Turn.{Turn, IsTold, AreTold, asks, wants_ask, turn}
 use Rattle.amqp_engine.specs.Tell.{Offer, offers_of, log_asks, log_stepped, log_offers, log_turn}
-use Rattle.amqp_engine.specs.Sending.{Sending, sendings, frames_sent}
+use Rattle.amqp_engine.specs.Sending.{sendings}
 use Rattle.amqp_engine.specs.Play.{played_step, played_turn, played_turns, replayed, AreAnswered}
-use Rattle.amqp_engine.specs.Saying.{HasSent, AreGivenTold}
+use Rattle.amqp_engine.specs.Saying.{HasSent, AreGivenTold, SentLegal}
 use Rattle.amqp_engine.proofs.Playing.{played-are-turns}
-use Rattle.amqp_engine.proofs.LegalLinks.{sent_legal, turns-sent}
+use Rattle.amqp_engine.proofs.LegalLinks.{turns_sent_legal}
 
 -- the commands that are left of the script are told
 abbrev PlanTold : Option Plan → Type 0
@@ -70,8 +69,6 @@ played-told (suc most) answers e a h =
 
 -- what a script says is legal, where its commands are told and what its turns ask is answered
 pub script_legal : (t : Talk) (gs : List Given) (answers : List Asked) → HasSent (begin t) [] → AreGivenTold gs → AreAnswered (replayed t gs answers) (begin t)
-    → AllByRecursion (λ (s : Sending). Legal (frames_sent s)) (sendings t (replayed t gs answers))
+    → AllByRecursion SentLegal (sendings t (replayed t gs answers))
 script_legal t gs answers silent h all =
-    let us = replayed t gs answers in
-    let may = played-are-turns (length gs) answers (begin t) (loaded gs) all in
-    sent_legal (turns us (begin t)) (sendings t us) (turns-sent us (begin t) [] may (played-told (length gs) answers (begin t) (loaded gs) h) silent)
+    turns_sent_legal t (replayed t gs answers) silent (played-are-turns (length gs) answers (begin t) (loaded gs) all) (played-told (length gs) answers (begin t) (loaded gs) h)

@@ -31,9 +31,9 @@ use Rattle.amqp_engine.specs.declared.port.Wrote.TheVariants.{Took, Failed, NoMe
 use Rattle.amqp_engine.specs.Log.{Log}
 use Rattle.amqp_engine.specs.Engine.{Engine, settle, rule_at, with_talk, step_engine, step_questions, took, wrote, commit_all, overlong_next, ended_overlong, refuse_overlong}
 use Rattle.amqp_session.specs.Writing.{frames_waiting}
-use Rattle.amqp_engine.specs.Turn.{Turn, write_answers, Progress, asks, goes, reads, part, questioned, is_piece, step_part, is_part, begun, drain, drained, offer_part, offered, is_all, answered, read, after_writes, applied, turn, turns, starved_after, AreTurns, Leads}
-use Rattle.amqp_engine.specs.Tell.{TellsTurns, Applies, Runs, turn_of}
-use Rattle.amqp_engine.specs.Causes.{is_final, FailsToWrite, IsReadError, Misreads, LosesClosed, IsCause, Brings, brought, is_tick, is_last, sends_close_ok}
+use Rattle.amqp_engine.specs.Turn.{Turn, Notes, write_answers, Progress, asks, goes, reads, part, questioned, is_piece, step_part, is_part, begun, drain, drained, offer_part, offered, is_all, answered, read, after_writes, applied, turn, turns, starved_after, AreTurns}
+use Rattle.amqp_engine.specs.Tell.{Applies, Runs, turn_of}
+use Rattle.amqp_engine.specs.Causes.{is_final, FailsToWrite, IsReadError, Misreads, LosesClosed, IsCause, IsCaused, Brings, brought, is_tick, is_last, sends_close_ok}
 use Rattle.amqp_session.specs.Sound.{is_finish}
 use Rattle.amqp_session.proofs.Heard.{secret-case}
 use Rattle.amqp_types.proofs.Small.{if_case, if_by, if-true, if-false, and-false, and-true, none-from, and-left, or-right}
@@ -515,35 +515,31 @@ turn-cause u e k running h =
     elim ((ends-applied u (asks e)).by k h) [ inl before ↦ not-before k e.talk running (sym (asks-end e) ∙ before) | inr cause ↦ cause ]
 
 -- the turn that is applied brings the error about
-pub applied-cause : (at : ℕ) (step : Step) (bytes : List ℕ) (e e' : Engine) (log log' : Option Log) (k : ErrorKind) (a : Applies at step bytes e e' log log')
-    → has_ended e.talk ≡ false → end_of e'.talk ≡ Some (Err k) → IsCause k (turn_of at step bytes a.notes) e
-applied-cause at step bytes e e' log log' k a running h =
-    elim ((ends-applied (turn_of at step bytes a.notes) e).by k (ap (λ (x : Engine). end_of x.talk) a.leaves ∙ h)) [
+pub applied-cause : (at : ℕ) (step : Step) (bytes : List ℕ) (notes : Notes) (e e' : Engine) (log log' : Option Log) (k : ErrorKind)
+    → Applies at step bytes notes e e' log log' → has_ended e.talk ≡ false → end_of e'.talk ≡ Some (Err k) → IsCause k (turn_of at step bytes notes) e
+applied-cause at step bytes notes e e' log log' k a running h =
+    elim ((ends-applied (turn_of at step bytes notes) e).by k (ap (λ (x : Engine). end_of x.talk) a.leaves ∙ h)) [
       | inl before ↦ not-before k e.talk running before
       | inr cause ↦ cause
     ]
 
 -- ---- turns
 
--- these turns have a last one, which brings about this error
-record HasLast (us : List Turn) (e : Engine) (k : ErrorKind) : Type 0 where
-  before : List Turn
-  u : Turn
-  split : us ≡ before ++ u ∷ []
-  cause : IsCause k u (asks (turns before e))
+-- turns that end the session with an error have a last one that brings it about
+pub turns-cause : (us : List Turn) (e : Engine) (k : ErrorKind) → has_ended e.talk ≡ false → AreTurns us e → end_of (turns us e).talk ≡ Some (Err k) → IsCaused k us e
+turns-cause [] e k running may h = not-before k e.talk running h
+turns-cause (u ∷ []) e k running may h = record { before = []; last = u; split = refl; cause = turn-cause u e k running h }
+turns-cause (u ∷ (v ∷ vs)) e k running may h =
+    let later = turns-cause (v ∷ vs) (turn u e) k may.1.0.running may.1 h in
+    record { before = u ∷ later.before; last = later.last; split = ap (λ ws. u ∷ ws) later.split; cause = later.cause }
 
-has-last : (us : List Turn) (e : Engine) (k : ErrorKind) → has_ended e.talk ≡ false → AreTurns us e → end_of (turns us e).talk ≡ Some (Err k) → HasLast us e k
-has-last [] e k running may h = not-before k e.talk running h
-has-last (u ∷ []) e k running may h = record { before = []; u = u; split = refl; cause = turn-cause u e k running h }
-has-last (u ∷ (v ∷ vs)) e k running may h =
-    let later = has-last (v ∷ vs) (turn u e) k may.1.0.running may.1 h in
-    record { before = u ∷ later.before; u = later.u; split = ap (λ ws. u ∷ ws) later.split; cause = later.cause }
-
--- a run that ends the session with an error has a last turn that brings it about
+-- and so does a run
 pub runs-bring : (n : ℕ) (e e' : Engine) (log log' : Option Log) (k : ErrorKind) → Runs n e e' log log' → has_ended e.talk ≡ false
     → end_of e'.talk ≡ Some (Err k) → Brings k e e' log log'
 runs-bring n e e' log log' k r running h =
-    let last = has-last r.us e k running r.leads.may (ap (λ (x : Engine). end_of x.talk) r.leads.leaves ∙ h) in
-    let P : List Turn → Type 0 = λ us. Leads us e e' in
-    let Q : List Turn → Type 0 = λ us. TellsTurns us e log log' in
-    record { us = last.before; u = last.u; leads = subst P last.split r.leads; tells = subst Q last.split r.tells; cause = last.cause }
+    record {
+      us = r.us;
+      leads = r.leads;
+      tells = r.tells;
+      caused = turns-cause r.us e k running r.leads.may (ap (λ (x : Engine). end_of x.talk) r.leads.leaves ∙ h);
+    }

@@ -1,12 +1,17 @@
--- Nothing is torn, swapped or sent twice: what a client was told to send is what went out, and what was handed out
--- came. It is said of what can be seen, and shares nothing with the rules of the session.
-use Rattle.std.specs.Prelude.{◌≡◌, ◌≢◌, ◌⊎◌, ℕ, suc, ◌&&◌, Bool, true, false, List, [], ◌∷◌, ◌++◌, map, filter, slice_get, Some, unwrap_or}
-use Rattle.std.specs.List.{flat_map}
+-- No send and no publish is torn, swapped or sent twice: what a client was told to send is what went out, and what was
+-- handed out came. It is said of what can be seen, and shares nothing with the rules of the session.
+use Rattle.std.specs.Prelude.{◌≡◌, ◌≢◌, ◌⊎◌, ℕ, suc, ◌&&◌, Bool, true, false, List, [], ◌∷◌, ◌++◌, map, filter, drop, slice_get, Option, Some, Result, Ok}
+use Rattle.std.specs.List.{flat_map, AllByRecursion}
 use Rattle.amqp_frame.specs.declared.frame.Frame.{Frame}
 use Rattle.amqp_frame.specs.declared.frame.Frame.TheVariants.{Raw}
+use Rattle.amqp_frame.specs.declared.frame.Read.TheVariants.{Whole}
+use Rattle.amqp_frame.specs.FrameReading.{front}
+use Rattle.amqp_promise.specs.declared.error.ErrorKind.{ErrorKind}
 use Rattle.amqp_session.specs.declared.command.Cmd.{Cmd}
+use Rattle.amqp_session.specs.declared.command.Cmd.TheVariants.{OpenChannel}
+use Rattle.amqp_session.specs.declared.command.Answer.{Answer}
+use Rattle.amqp_session.specs.declared.command.Answer.TheVariants as says
 use Rattle.amqp_session.specs.declared.handed.Handed.{Handed}
-use Rattle.amqp_session.specs.Listed.{at}
 use Rattle.amqp_carried_rules.specs.CommandFrames.{AreFramesOf, is_send, is_publish, is_raw}
 use Rattle.amqp_carried_rules.specs.HandingOut.{handed_on}
 
@@ -14,26 +19,35 @@ use Rattle.amqp_carried_rules.specs.HandingOut.{handed_on}
 pub record Account : Type 0 where
   -- what it was told that is answered, in order: the first has the number 1
   pub commands : List Cmd
-  -- by number, whether a command was answered Sent
-  pub answered_sent : ℕ → Bool
+  -- by number, what a command was answered, where it was
+  pub answers : ℕ → Option (Result Answer ErrorKind)
   -- the frames that were sent on each link, in order
   pub sent : List (List Frame)
-  -- the frames that were read on each link, in order
-  pub read : List (List Frame)
-  -- the frames that were handed out, by the promise that opened their channel
-  pub handed : List (ℕ × List Handed)
+  -- the octets that came on each link
+  pub came : List (List ℕ)
+  -- by the promise that opened their channel, the frames that were handed out, in order
+  pub handed : ℕ → List Handed
+
+-- an answer says Sent
+abbrev pub says_sent : Option (Result Answer ErrorKind) → Bool
+says_sent (Some (Ok says.Sent)) = true
+says_sent _ = false
+
+-- by number, whether a command was answered Sent
+abbrev pub answered_sent : Account → ℕ → Bool
+answered_sent a number = says_sent (a.answers number)
 
 -- ---- the frames of the commands that were answered Sent
 
 -- the frames of the commands of a kind that were answered Sent, in order of number, command after command; the first of
 -- the commands has this number
-pub data AreSent (is_kind : Cmd → Bool) (answered_sent : ℕ → Bool) : ℕ → List Cmd → List (List Frame) → Type 0 where
-  none : {n : ℕ} → AreSent is_kind answered_sent n [] []
-  other : {n : ℕ} {c : Cmd} {cs : List Cmd} {fss : List (List Frame)} → (is_kind c && answered_sent n) ≡ false
-      → AreSent is_kind answered_sent (suc n) cs fss → AreSent is_kind answered_sent n (c ∷ cs) fss
+pub data AreSent (is_kind : Cmd → Bool) (answered : ℕ → Bool) : ℕ → List Cmd → List (List Frame) → Type 0 where
+  none : {n : ℕ} → AreSent is_kind answered n [] []
+  other : {n : ℕ} {c : Cmd} {cs : List Cmd} {fss : List (List Frame)} → (is_kind c && answered n) ≡ false
+      → AreSent is_kind answered (suc n) cs fss → AreSent is_kind answered n (c ∷ cs) fss
   sent : {n : ℕ} {c : Cmd} {cs : List Cmd} {fs : List Frame} {fss : List (List Frame)}
-      → (is_kind c && answered_sent n) ≡ true → AreFramesOf c fs
-      → AreSent is_kind answered_sent (suc n) cs fss → AreSent is_kind answered_sent n (c ∷ cs) (fs ∷ fss)
+      → (is_kind c && answered n) ≡ true → AreFramesOf c fs
+      → AreSent is_kind answered (suc n) cs fss → AreSent is_kind answered n (c ∷ cs) (fs ∷ fss)
 
 -- ---- what is set aside
 
@@ -48,7 +62,7 @@ pub record IsTorn (a : Account) (part : List Frame) : Type 0 where
   pub command : Cmd
   pub told : slice_get a.commands before ≡ Some command
   pub publish : is_publish command ≡ true
-  pub unanswered : a.answered_sent (suc before) ≡ false
+  pub unanswered : answered_sent a (suc before) ≡ false
   pub rest : List Frame
   pub proper : rest ≢ []
   pub frames : AreFramesOf command (part ++ rest)
@@ -83,32 +97,56 @@ pub data IsSubsequence {A : Type 0} : List A → List A → Type 0 where
 abbrev pub concatenated : {A : Type 0} → List (List A) → List A
 concatenated xss = flat_map (λ xs. xs) xss
 
--- the frames of the sends that were answered Sent and those of the publishes that were answered Sent, each in order of
--- number, went out in turns, command after command, and nothing else of what is passed through went out but what is set
--- aside
+-- on each link whole commands went out, one after another, and nothing else of what is passed through but what is set
+-- aside: the frames of the sends that were answered Sent and those of the publishes that were answered Sent, each in
+-- order of number
 pub record WentOut (a : Account) : Type 0 where
-  pub kept : List (List Frame)
-  pub cut : AreCut a (map raw_frames a.sent) kept
+  -- link by link, the frames of each command that went out on it
+  pub order : List (List (List Frame))
+  pub cut : AreCut a (map raw_frames a.sent) (map concatenated order)
   pub sends : List (List Frame)
   pub publishes : List (List Frame)
-  pub are_sends : AreSent is_send a.answered_sent 1 a.commands sends
-  pub are_publishes : AreSent is_publish a.answered_sent 1 a.commands publishes
-  pub order : List (List Frame)
-  pub in_turns : Merges sends publishes order
-  pub whole : concatenated kept ≡ concatenated order
+  pub are_sends : AreSent is_send (answered_sent a) 1 a.commands sends
+  pub are_publishes : AreSent is_publish (answered_sent a) 1 a.commands publishes
+  pub in_turns : Merges sends publishes (concatenated order)
 
 -- a frame that was handed out, as it was read
 abbrev pub frame_of : Handed → Frame
 frame_of h = Raw h.channel h.kind h.bytes
 
--- what was handed out was read, once each and in order
-pub record CameIn (a : Account) : Type 0 where
-  -- all of it, in order, with the promise that opened its channel
-  pub handed : List (ℕ × Handed)
-  pub each : (opened : ℕ) → handed_on opened handed ≡ unwrap_or (at opened a.handed) []
-  pub read : IsSubsequence (map (λ h. frame_of h.1) handed) (raw_frames (concatenated a.read))
+-- a frame was handed out by the promise of a command that opens a channel; and where that was answered, but not with an
+-- error, the answer is that the channel of the frame is open, and names the promise
+pub record IsOpenedBy (a : Account) (opened : ℕ) (h : Handed) : Type 0 where
+  -- how many commands came before it
+  pub before : ℕ
+  pub number : opened ≡ suc before
+  pub command : slice_get a.commands before ≡ Some OpenChannel
+  pub answer : (answer : Answer) → a.answers opened ≡ Some (Ok answer) → answer ≡ says.Channel h.channel opened
 
--- nothing is torn, swapped or sent twice, and nothing is handed out that did not come
+-- these frames stand first in octets, one after another, each whole by some limit of a frame
+abbrev pub StandFirst : List ℕ → List Frame → Type 0
+StandFirst octets [] = Unit {0}
+StandFirst octets (f ∷ fs) =
+    (limit : ℕ) × (n : ℕ) × (front octets limit ≡ Whole f n) × StandFirst (drop n octets) fs
+
+-- so in the octets of each link
+abbrev pub StandOnLinks : List (List ℕ) → List (List Frame) → Type 0
+StandOnLinks [] [] = Unit {0}
+StandOnLinks (octets ∷ links) (fs ∷ read) = StandFirst octets fs × StandOnLinks links read
+StandOnLinks _ _ = ⊥
+
+-- what was handed out came, once each and in order
+pub record CameIn (a : Account) : Type 0 where
+  -- frames that stand in what came, link by link
+  pub read : List (List Frame)
+  pub stand : StandOnLinks a.came read
+  -- all that was handed out, in order, with the promise that opened its channel
+  pub handed : List (ℕ × Handed)
+  pub each : (opened : ℕ) → handed_on opened handed ≡ a.handed opened
+  pub order : IsSubsequence (map (λ h. frame_of h.1) handed) (raw_frames (concatenated read))
+  pub opened : (number : ℕ) → AllByRecursion (IsOpenedBy a number) (a.handed number)
+
+-- no send and no publish is torn, swapped or sent twice, and nothing is handed out that did not come
 pub record Carried (a : Account) : Type 0 where
   pub went_out : WentOut a
   pub came_in : CameIn a

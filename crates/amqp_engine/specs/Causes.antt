@@ -24,7 +24,7 @@ use Rattle.amqp_engine.specs.declared.port.Wrote.TheVariants.{Took, Failed, NoMe
 use Rattle.amqp_engine.specs.Log.{Log}
 use Rattle.amqp_engine.specs.Engine.{Engine, front_of, can_read, commit_all, overlong_next}
 use Rattle.amqp_engine.specs.Turn.{Turn, write_answers, Progress, asks, begun, drain, goes, is_piece, read, reads, step_part, turns, Leads}
-use Rattle.amqp_engine.specs.Tell.{TellsTurns, Applies, turn_of}
+use Rattle.amqp_engine.specs.Tell.{TellsTurns}
 
 -- ---- faults
 
@@ -167,17 +167,17 @@ IsCause (SerialisationError size) u e = IsOverlong size u e
 IsCause NoMemory u e = IsTrue (is_some u.notes.starved)
 IsCause k u e = Misreads k u e
 
+-- of these turns the last brings about this error
+pub record IsCaused (k : ErrorKind) (us : List Turn) (e : Engine) : Type 0 where
+  -- the turns before the last, and the last
+  pub before : List Turn
+  pub last : Turn
+  pub split : us ≡ before ++ last ∷ []
+  pub cause : IsCause k last (asks (turns before e))
+
 -- some turns lead from here to there and are told, and the last of them brings about this error
 pub record Brings (k : ErrorKind) (e e' : Engine) (log log' : Option Log) : Type 0 where
-  -- the turns before the last, and the last
   pub us : List Turn
-  pub u : Turn
-  pub leads : Leads (us ++ u ∷ []) e e'
-  pub tells : TellsTurns (us ++ u ∷ []) e log log'
-  pub cause : IsCause k u (asks (turns us e))
-
--- a turn of this step, from it on, leads from here to there and its offers are told, and it brings about this error
-pub record BringsOne (k : ErrorKind) (at : ℕ) (step : Step) (bytes : List ℕ) (e e' : Engine) (log log' : Option Log)
-    : Type 0 where
-  pub applies : Applies at step bytes e e' log log'
-  pub cause : IsCause k (turn_of at step bytes applies.notes) e
+  pub leads : Leads us e e'
+  pub tells : TellsTurns us e log log'
+  pub caused : IsCaused k us e

@@ -11,7 +11,7 @@ use Rattle.amqp_session.specs.declared.misread.Misread.{Misread}
 use Rattle.amqp_session.specs.declared.misread.Misread.TheVariants.{TooLarge, BadHeartbeat, Bad}
 use Rattle.amqp_auth.specs.declared.asked.Question.{Question}
 use Rattle.amqp_auth.specs.declared.asked.Asked.{Asked}
-use Rattle.amqp_session.specs.Talk.{Talk, is_open, is_asked, drops_input}
+use Rattle.amqp_session.specs.Talk.{Talk, is_open, is_asked, drops_input, has_ended}
 use Rattle.amqp_session.specs.Negotiation.{frame_limit}
 use Rattle.amqp_session.specs.Changes.{present_at, starve}
 use Rattle.amqp_session.specs.Links.{linked, link_failed, piece, misread, lost}
@@ -197,3 +197,7 @@ wrote at NoMemory e = took at 0 e
 abbrev pub starve_at : ℕ → ℕ → Engine → Engine
 starve_at at j e =
     record e { talk = starve (present_at at e.talk); unread = []; place = 0; unsent = []; starved = Some j }
+
+-- memory was refused before a turn, and a session that had not ended ends
+abbrev pub starved_before : ℕ → Engine → Engine
+starved_before at e = if has_ended e.talk then e else starve_at at 0 e

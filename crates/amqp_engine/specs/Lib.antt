@@ -4,12 +4,13 @@ pub mod Plan
 pub mod Log
 -- What a turn does to the engine, and what a port tells of it.
 pub mod Engine
+pub mod Shown
 pub mod Turn
 pub mod Tell
 pub mod Causes
--- What went out on each link, what was heard and said on it, and what is left unread.
+-- What went out on each link, and what is left unread.
 pub mod Sending
-pub mod Exchange
+pub mod SentWhole
 pub mod Unread
 pub mod Saying
 -- What was told is what went out, and what was handed out came.
@@ -21,3 +22,4 @@ pub mod Play
 pub mod Valid
 -- What the contracts of private calls are stated with.
 pub mod Making
+pub mod Noting

@@ -15,8 +15,8 @@ use Rattle.amqp_engine.specs.declared.port.Happening.{Happening}
 use Rattle.amqp_engine.specs.declared.given.Given.{Given}
 use Rattle.amqp_engine.specs.Plan.{step_of, bytes_of}
 use Rattle.amqp_types.specs.Counts.{Rose}
-use Rattle.amqp_engine.specs.Engine.{Engine, step_engine, step_questions, read_row, row_questions}
-use Rattle.amqp_engine.specs.Turn.{Notes, write_answers, Progress, AreAnswers, IsAnswered, drained, exchange_of}
+use Rattle.amqp_engine.specs.Engine.{Engine, step_engine, step_questions, can_read, read_row, row_questions, read_questions}
+use Rattle.amqp_engine.specs.Turn.{Notes, no_notes, Turn, answers_of_writes, Progress, AreAnswers, IsAnswered, drained, exchange_of}
 use Rattle.amqp_engine.specs.Log.{Log}
 use Rattle.amqp_engine.specs.Tell.{Applies, MayCome, TellsOffers, offers_from, turn_of}
 
@@ -48,21 +48,23 @@ pub record RowHears (at : ℕ) (r : Read) (e e' : Engine) (before after : Exchan
   pub asks : Asks (row_questions at r e) answers before after list list'
   pub engine : e' ≡ read_row at r answers e
 
--- the list grew by some answers
-abbrev pub Grew : List Asked → List Asked → Type 0
-Grew list list' = (more : List Asked) × (list' ≡ list ++ more)
+-- a turn that was cut after so many parts, with what the provider had answered
+abbrev pub cut_turn : ℕ → Step → List ℕ → List Asked → ℕ → Turn
+cut_turn at step bytes answers parts =
+    turn_of at step bytes (record no_notes { auths = answers; starved = Some parts })
 
--- memory was refused after so many parts: what was answered was put last into the list, and some of it may answer what
--- the next part asks
-pub record Broke (n : ℕ) (holds : List Asked → List Question → Engine → Type 0) (before : Exchange → Type 0)
-    (list list' : List Asked) : Type 0 where
+-- memory was refused after so many parts: what was answered was put last into the list, some of it perhaps to what the
+-- next part asks, and that led from here to there
+pub record Broke (n : ℕ) (holds : List Asked → List Question → List Question → Engine → Type 0)
+    (before : Exchange → Type 0) (list list' : List Asked) : Type 0 where
   pub questions : List Question
+  pub next : List Question
   pub answers : List Asked
   pub engine : Engine
   pub listed : list' ≡ list ++ answers
-  pub all : IsAnswered (Some n) questions answers
-  pub allowed : Allows before (paired questions answers)
-  pub leads : holds answers questions engine
+  pub all : IsAnswered (Some n) questions next answers
+  pub allowed : Allows before (paired (questions ++ next) answers)
+  pub leads : holds answers questions next engine
 
 -- where a session has ended since its provider refused, it had ended so before, or the count of refusals rose
 abbrev pub Blames : Talk → Talk → ℕ → ℕ → Type 0
@@ -102,27 +104,31 @@ keeps_unread t = is_open t && not (drops_input t)
 abbrev pub IsSettled : Engine → Type 0
 IsSettled e = keeps_unread e.talk ≡ false → e.unread ≡ []
 
+-- memory was refused at the frame that stands at the front, which asks this
+pub record BreaksAt (at : ℕ) (next : List Question) (e : Engine) : Type 0 where
+  pub can : can_read e ≡ true
+  pub asks : next ≡ read_questions at e
+
 -- the engine when the rest of a piece has joined the unread bytes, where they are kept
 abbrev pub piece_joined : List ℕ → Engine → Engine
 piece_joined rest e = if keeps_unread e.talk then record e { unread = e.unread ++ rest } else e
 
--- the writes that are due, with what is noted of them, lead from here to there and are told; and where one of them
--- failed, the port's count of faults rose
-pub record Writes (before after : Progress) (log log' : Option Log) (count count' : ℕ) : Type 0 where
-  pub notes : Notes
-  pub cut : notes.starved ≡ before.cut
-  pub answers : AreAnswers (write_answers notes) before
-  pub leaves : drained (write_answers notes) before ≡ after
-  pub tells : TellsOffers (offers_from (write_answers notes) before) log log'
-  pub counted : notes.failed ≡ true → Rose count count'
+-- the writes that are due, which took so many bytes each, and of which one more failed or none, lead from here to there
+-- and are told; and where one failed, the port's count of faults rose
+pub record Writes (tooks : List ℕ) (failed : Bool) (before after : Progress) (log log' : Option Log) (count count' : ℕ)
+    : Type 0 where
+  pub answers : AreAnswers (answers_of_writes tooks failed) before
+  pub leaves : drained (answers_of_writes tooks failed) before ≡ after
+  pub tells : TellsOffers (offers_from (answers_of_writes tooks failed) before) log log'
+  pub counted : failed ≡ true → Rose count count'
 
--- a turn is applied, and where one of its writes failed, the port's count of faults rose; what was asked in it may come
--- from the provider, and what was answered was put last into the list
-pub record AppliesCounted (at : ℕ) (step : Step) (bytes : List ℕ) (e e' : Engine) (log log' : Option Log)
-    (count count' : ℕ) (before after : Exchange → Type 0) : Type 0 where
-  pub applies : Applies at step bytes e e' log log'
-  pub exchanged : MayCome applies.notes.starved before after (exchange_of (turn_of at step bytes applies.notes) e)
-  pub counted : applies.notes.failed ≡ true → Rose count count'
+-- a turn of which this is noted is applied, and where one of its writes failed, the port's count of faults rose; what
+-- was asked in it may come from the provider
+pub record AppliesCounted (at : ℕ) (step : Step) (bytes : List ℕ) (notes : Notes) (e e' : Engine)
+    (log log' : Option Log) (count count' : ℕ) (before after : Exchange → Type 0) : Type 0 where
+  pub applies : Applies at step bytes notes e e' log log'
+  pub exchanged : MayCome notes.starved before after (exchange_of (turn_of at step bytes notes) e)
+  pub counted : notes.failed ≡ true → Rose count count'
 
 -- a given step as a port in memory keeps it, until it is told how many came before
 abbrev pub happening_of : Given → Happening

@@ -12,7 +12,7 @@ use Rattle.amqp_engine.specs.declared.given.Given.{Given}
 use Rattle.amqp_engine.specs.Plan.{Plan, Coming, next_coming, room_for}
 use Rattle.amqp_engine.specs.Log.{Log, loaded, log_write}
 use Rattle.amqp_engine.specs.Engine.{Engine, begin, can_write}
-use Rattle.amqp_engine.specs.Turn.{Turn, Notes, Progress, asks, offered, offer_part, is_all, read, turn, turns, exchanges, AreTold}
+use Rattle.amqp_engine.specs.Turn.{Turn, Notes, no_notes, Progress, asks, offered, offer_part, is_all, read, turn, turns, exchanges, AreTold, AreFit}
 use Rattle.amqp_engine.specs.Tell.{turn_of, log_asks, log_stepped, log_turn, log_turns}
 
 -- ---- the answers to the writes of a turn
@@ -34,10 +34,6 @@ played_answer e a = if fails_of a.plan then Failed else Took (room_of a.plan (le
 -- how many offers may still come: one for each frame that waits, and one for what is unsent
 abbrev pub offers_waiting : Engine → ℕ
 offers_waiting e = frames_waiting e.talk + min 1 (length e.unsent)
-
--- nothing is noted of a turn
-abbrev pub no_notes : Notes
-no_notes = record { tooks = []; failed = false; auths = []; starved = None }
 
 -- the answer to a write is noted, before what is noted of those that follow; a port that finds no memory takes nothing
 abbrev pub answer_noted : Wrote → Notes → Notes
@@ -111,4 +107,5 @@ pub record IsPlayed (allowed : ℕ) (e e' : Engine) (log : Log) (log' : Option L
   pub told : log' ≡ Some (log_turns (played_turns allowed answers e log) e log)
   pub answered : AreAnswered (played_turns allowed answers e log) e
   pub steps_told : AreTold (played_turns allowed answers e log)
+  pub fit : AreFit (played_turns allowed answers e log)
   pub exchanged : Allows before (exchanges (played_turns allowed answers e log) e)

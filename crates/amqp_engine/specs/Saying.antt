@@ -1,20 +1,24 @@
 -- What an engine has said on its links since it was new.
-use Rattle.std.specs.Prelude.{◌≡◌, ℕ, false, List, [], ◌∷◌, map, Option, Some, IfSome}
+use Rattle.std.specs.Prelude.{◌≡◌, ◌≢◌, ℕ, false, List, [], ◌∷◌, ◌++◌, length, map, Option, Some, IfSome}
 use Rattle.std.specs.List.{AllByRecursion}
+use Rattle.amqp_frame.specs.Frames.{encoding, Writable}
+use Rattle.amqp_frame.specs.Fronts.{IsWithinLimit}
+use Rattle.amqp_frame.specs.Sequences.{SequenceEnd, IsSequence}
+use Rattle.amqp_frame.specs.Sequences.SequenceEnd.{Broken}
 use Rattle.amqp_session.specs.declared.command.Cmd.{Cmd}
 use Rattle.amqp_session.specs.Config.{Config}
 use Rattle.amqp_session.specs.Talk.{start, is_asked, has_ended}
 use Rattle.amqp_session.specs.Commands.{command}
 use Rattle.amqp_session.specs.Answers.{take_answer, take_event, take_frames}
 use Rattle.amqp_legal.specs.Legal.{Legal}
+use Rattle.amqp_legal.specs.Agreed.{KeepsAgreed}
+use Rattle.amqp_written_rules.specs.Sayable.{CanBeTold}
 use Rattle.amqp_engine.specs.declared.given.Given.{Given}
-use Rattle.amqp_engine.specs.declared.port.Step.{Step}
 use Rattle.amqp_engine.specs.Plan.{step_of}
 use Rattle.amqp_engine.specs.Log.{Log, log_step}
 use Rattle.amqp_engine.specs.Engine.{Engine, begin, with_talk}
-use Rattle.amqp_engine.specs.Turn.{Turn, write_answers, IsToldCommand, IsTold, asks, read, applied, IsApplied, Leads}
-use Rattle.amqp_engine.specs.Tell.{Applies, turn_of}
-use Rattle.amqp_engine.specs.Sending.{Sending, frames_sent, link_bytes, step_sending, offers_sending, sendings_from, SendsInOrder}
+use Rattle.amqp_engine.specs.Turn.{Turn, write_answers, IsToldCommand, IsTold, IsFit, asks, read, applied, IsApplied, Leads}
+use Rattle.amqp_engine.specs.Sending.{Sending, frames, encodings, items_sent, frames_sent, link_bytes, step_sending, offers_sending, sendings_from, SendsInOrder}
 
 -- what was sent, once a turn was taken from its step on
 abbrev pub applied_sending : Turn → Engine → List Sending → List Sending
@@ -28,8 +32,8 @@ pub data HasSent : Engine → List Sending → Type 0 where
   asked : {e : Engine} {ss : List Sending} → HasSent e ss → HasSent (asks e) ss
   -- the rest of a turn
   applies : {e : Engine} {ss : List Sending} (u : Turn) → has_ended e.talk ≡ false → IsApplied u e → IsTold u.step
-      → HasSent e ss → HasSent (applied u e) (applied_sending u e ss)
-  told : {e : Engine} {ss : List Sending} (c : Cmd) → IsToldCommand c → HasSent e ss
+      → IsFit u → HasSent e ss → HasSent (applied u e) (applied_sending u e ss)
+  told : {e : Engine} {ss : List Sending} (c : Cmd) → IsToldCommand c → CanBeTold c → HasSent e ss
       → HasSent (with_talk (command c) e) ss
   answer_taken : {e : Engine} {ss : List Sending} (number : ℕ) → HasSent e ss
       → HasSent (with_talk (take_answer number) e) ss
@@ -42,14 +46,53 @@ abbrev pub AreGivenTold : List Given → Type 0
 AreGivenTold [] = Unit {0}
 AreGivenTold (g ∷ gs) = IsTold (step_of g.what) × AreGivenTold gs
 
+-- ---- what is claimed of a link
+
+-- the frames that were sent are a legal conversation
+abbrev pub SentLegal : Sending → Type 0
+SentLegal s = Legal (frames_sent s)
+
+-- with those that were committed and not yet sent they still are one
+abbrev pub CommittedLegal : Sending → Type 0
+CommittedLegal s = Legal (frames s.committed)
+
+-- they keep the numbers of their own tune-ok
+abbrev pub CommittedAgreed : Sending → Type 0
+CommittedAgreed s = KeepsAgreed (frames s.committed)
+
+-- each of them has a written spelling
+abbrev pub CommittedWritable : Sending → Type 0
+CommittedWritable s = AllByRecursion Writable (frames s.committed)
+
+-- a reader with this limit takes each of them
+abbrev pub CommittedWithin : ℕ → Sending → Type 0
+CommittedWithin limit s = AllByRecursion (λ f. IsWithinLimit limit (length (encoding f)) f) (frames s.committed)
+
+-- the octets of the link are exactly the frames that were sent, one after another, and end with the last of them or in
+-- the midst of the next
+pub record IsReadBack (limit : ℕ) (s : Sending) : Type 0 where
+  pub ending : SequenceEnd
+  pub not_broken : ending ≢ Broken
+  pub reads : IsSequence (link_bytes s) limit (frames_sent s) (length (encodings (items_sent s))) ending
+
+-- what the engine holds unsent is what is left of all that was committed on the last link
+abbrev pub HoldsRest : Engine → List Sending → Type 0
+HoldsRest e ss =
+    (before : List Sending) × (s : Sending) × (ss ≡ before ++ s ∷ [])
+    × (encodings s.committed ≡ link_bytes s ++ e.unsent)
+
 -- ---- what a run says
 
--- the bytes of links: on each those of the frames of a legal conversation, in order, and then of a part of one more
-pub record SpellLegal (links : List (List ℕ)) : Type 0 where
-  pub sendings : List Sending
+-- the bytes of links, and what was committed on each: the bytes are those of the frames that were sent, in order, and
+-- then of a part of one more; all that was committed is a legal conversation that keeps the numbers that were agreed,
+-- and can be written
+pub record SpellLegal (sendings : List Sending) (links : List (List ℕ)) : Type 0 where
   pub bytes : links ≡ map link_bytes sendings
   pub order : AllByRecursion SendsInOrder sendings
-  pub legal : AllByRecursion (λ (s : Sending). Legal (frames_sent s)) sendings
+  pub legal : AllByRecursion SentLegal sendings
+  pub committed : AllByRecursion CommittedLegal sendings
+  pub agreed : AllByRecursion CommittedAgreed sendings
+  pub writable : AllByRecursion CommittedWritable sendings
 
 -- a port tells of the links of an engine, and whether one is asked for
 pub record TellsLinks (e : Engine) (ss : List Sending) (log : Log) : Type 0 where
@@ -63,17 +106,14 @@ pub record GoesOn (ss : List Sending) (e e' : Engine) (log log' : Option Log) : 
   pub leads : Leads us e e'
   pub sent : HasSent e' (sendings_from us e ss)
   pub order : AllByRecursion SendsInOrder (sendings_from us e ss)
-  pub legal : AllByRecursion (λ (s : Sending). Legal (frames_sent s)) (sendings_from us e ss)
+  pub legal : AllByRecursion SentLegal (sendings_from us e ss)
   pub tells : IfSome log (λ a. TellsLinks e ss a → IfSome log' (λ b. TellsLinks e' (sendings_from us e ss) b))
 
--- an engine that had sent so much took the rest of a turn of this step, with what it sends besides: it is in order and
--- legal on each link; and a port that told of its links before the step, and then the step, tells of them after
-pub record GoesOnce (at : ℕ) (step : Step) (bytes : List ℕ) (ss : List Sending) (e e' : Engine) (log log' : Option Log)
-    : Type 0 where
-  pub applies : Applies at step bytes e e' log log'
-  pub sent : HasSent e' (applied_sending (turn_of at step bytes applies.notes) e ss)
-  pub order : AllByRecursion SendsInOrder (applied_sending (turn_of at step bytes applies.notes) e ss)
-  pub legal : AllByRecursion (λ (s : Sending). Legal (frames_sent s))
-      (applied_sending (turn_of at step bytes applies.notes) e ss)
-  pub tells : (a : Log) → log ≡ Some (log_step at step bytes a) → TellsLinks e ss a
-      → IfSome log' (λ b. TellsLinks e' (applied_sending (turn_of at step bytes applies.notes) e ss) b)
+-- an engine that had sent so much took this turn from its step on, with what it sends besides: it is in order and legal
+-- on each link; and a port that told of its links before the step, and then the step, tells of them after
+pub record GoesOnce (u : Turn) (ss : List Sending) (e e' : Engine) (log log' : Option Log) : Type 0 where
+  pub sent : HasSent e' (applied_sending u e ss)
+  pub order : AllByRecursion SendsInOrder (applied_sending u e ss)
+  pub legal : AllByRecursion SentLegal (applied_sending u e ss)
+  pub tells : (a : Log) → log ≡ Some (log_step u.at u.step u.bytes a) → TellsLinks e ss a
+      → IfSome log' (λ b. TellsLinks e' (applied_sending u e ss) b)

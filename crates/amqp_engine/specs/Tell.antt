@@ -7,7 +7,7 @@ use Rattle.amqp_engine.specs.declared.port.Wrote.{Wrote}
 use Rattle.amqp_engine.specs.declared.port.Wrote.TheVariants.{Took, NoMemory}
 use Rattle.amqp_engine.specs.Log.{Log, log_ask, log_step, log_write, PlansStep, PlansWrite}
 use Rattle.amqp_engine.specs.Engine.{Engine}
-use Rattle.amqp_engine.specs.Turn.{Turn, Notes, write_answers, IsTold, AreTold, asks, wants_ask, Progress, goes, offered, offer_part, read, turn, applied, IsApplied, IsTurn, exchange_of, exchanges, cut_of, Leads}
+use Rattle.amqp_engine.specs.Turn.{Turn, Notes, write_answers, IsTold, AreTold, IsFit, AreFit, asks, wants_ask, Progress, goes, offered, offer_part, read, turn, applied, IsApplied, IsTurn, exchange_of, exchanges, cut_of, Leads}
 
 -- ---- what is told
 
@@ -91,9 +91,9 @@ TellsTurns us e before after = Tells (log_turns us e) (PlaysTurns us e) before a
 abbrev pub turn_of : ℕ → Step → List ℕ → Notes → Turn
 turn_of at step bytes notes = record { at = at; step = step; bytes = bytes; notes = notes }
 
--- some turn of this step, from it on, leads from here to there, and its offers are told
-pub record Applies (at : ℕ) (step : Step) (bytes : List ℕ) (e e' : Engine) (log log' : Option Log) : Type 0 where
-  pub notes : Notes
+-- the turn of this step with these notes, from the step on, leads from here to there, and its offers are told
+pub record Applies (at : ℕ) (step : Step) (bytes : List ℕ) (notes : Notes) (e e' : Engine) (log log' : Option Log)
+    : Type 0 where
   pub may : IsApplied (turn_of at step bytes notes) e
   pub leaves : applied (turn_of at step bytes notes) e ≡ e'
   pub tells : TellsOffers (offers_of (turn_of at step bytes notes) e) log log'
@@ -104,17 +104,25 @@ abbrev pub MayCome : Option ℕ → (Exchange → Type 0) → (Exchange → Type
 MayCome None before after exchange = (rest : Exchange) → Allows after rest → Allows before (exchange ++ rest)
 MayCome (Some j) before after exchange = Allows before exchange
 
--- the same turn, and what was asked in it may come from the provider
-pub record AppliesLent (at : ℕ) (step : Step) (bytes : List ℕ) (e e' : Engine) (log log' : Option Log)
+-- the same turn, which brings what its types can hold, and what was asked in it may come from the provider
+pub record AppliesNoted (at : ℕ) (step : Step) (bytes : List ℕ) (notes : Notes) (e e' : Engine) (log log' : Option Log)
     (before after : Exchange → Type 0) : Type 0 where
-  pub applies : Applies at step bytes e e' log log'
-  pub exchanged : MayCome applies.notes.starved before after (exchange_of (turn_of at step bytes applies.notes) e)
+  pub applies : Applies at step bytes notes e e' log log'
+  pub fit : IsFit (turn_of at step bytes notes)
+  pub exchanged : MayCome notes.starved before after (exchange_of (turn_of at step bytes notes) e)
+
+-- the same of some notes
+abbrev pub AppliesLent : ℕ → Step → List ℕ → Engine → Engine → Option Log → Option Log → (Exchange → Type 0)
+    → (Exchange → Type 0) → Type 0
+AppliesLent at step bytes e e' log log' before after =
+    (notes : Notes) × AppliesNoted at step bytes notes e e' log log' before after
 
 -- some one turn leads from here to there, and is told
 pub record TakesTurn (e e' : Engine) (log log' : Option Log) : Type 0 where
   pub u : Turn
   pub may : IsTurn u e
   pub told : IsTold u.step
+  pub fit : IsFit u
   pub leaves : turn u e ≡ e'
   pub tells : TellsTurn u e log log'
 
@@ -129,6 +137,7 @@ pub record Runs (allowed : ℕ) (e e' : Engine) (log log' : Option Log) : Type 0
   pub leads : Leads us e e'
   pub tells : TellsTurns us e log log'
   pub told : AreTold us
+  pub fit : AreFit us
   pub within : length us ≤ allowed
   pub all : has_ended e'.talk ≡ false → length us ≡ allowed
 

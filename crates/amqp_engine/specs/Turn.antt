@@ -1,16 +1,19 @@
 -- A turn: one step that was taken, with all that follows it. The engine is a fold of its turns, whatever its port
 -- tells.
-use Rattle.std.specs.Prelude.{◌≡◌, ◌≢◌, ◌<◌, ◌≤◌, ℕ, zero, suc, ◌+◌, ◌^◌, not, ◌&&◌, ◌==◌, if◌then◌else◌, nat_lt, Bool, true, false, IsTrue, IsFalse, MatchBool, List, [], ◌∷◌, ◌++◌, length, drop, map, Option, Some, None}
+use Rattle.std.specs.Prelude.{◌≡◌, ◌≢◌, ◌<◌, ◌≤◌, ℕ, zero, suc, ◌+◌, ◌^◌, not, ◌&&◌, ◌==◌, if◌then◌else◌, nat_lt, Bool, true, false, IsTrue, IsFalse, MatchBool, List, [], ◌∷◌, ◌++◌, length, take, drop, map, Option, Some, None}
 use Rattle.std.specs.Option.{option_or}
+use Rattle.std.specs.List.{AllByRecursion}
+use Rattle.amqp_types.specs.Forms.{IsOctets}
 use Rattle.amqp_session.specs.Talk.{Talk, wants_link, is_asked, is_open, has_ended}
 use Rattle.amqp_session.specs.Links.{asked}
 use Rattle.amqp_auth.specs.declared.asked.Question.{Question}
 use Rattle.amqp_auth.specs.declared.asked.Asked.{Asked}
 use Rattle.amqp_auth.specs.Providers.{Exchange}
-use Rattle.amqp_auth.specs.Asking.{fits, paired}
+use Rattle.amqp_auth.specs.Asking.{Answer, paired}
 use Rattle.amqp_frame.specs.RawMethods.{OtherMethod}
 use Rattle.amqp_session.specs.declared.command.Cmd.{Cmd}
 use Rattle.amqp_session.specs.declared.command.Cmd.TheVariants.{Send, Publish}
+use Rattle.amqp_written_rules.specs.Sayable.{CanBeTold, CanBeAnswered}
 use Rattle.amqp_engine.specs.declared.port.Step.{Step}
 use Rattle.amqp_engine.specs.declared.port.Step.TheVariants.{Linked, LinkFailed, Piece, End, Fault, Room, Tick, Command}
 use Rattle.amqp_engine.specs.declared.port.Wrote.{Wrote}
@@ -27,9 +30,21 @@ pub record Notes : Type 0 where
   pub auths : List Asked
   pub starved : Option ℕ
 
--- the answers to its writes: bytes were taken by each, and then one failed, where that is noted
+-- nothing is noted
+abbrev pub no_notes : Notes
+no_notes = record { tooks = []; failed = false; auths = []; starved = None }
+
+-- a turn was cut before its first part
+abbrev pub cut_notes : Notes
+cut_notes = record no_notes { starved = Some 0 }
+
+-- the answers to writes: so many bytes were taken by each, and then one failed, where this says so
+abbrev pub answers_of_writes : List ℕ → Bool → List Wrote
+answers_of_writes tooks failed = map Took tooks ++ (if failed then Failed ∷ [] else [])
+
+-- the answers to the writes of a turn
 abbrev pub write_answers : Notes → List Wrote
-write_answers n = map Took n.tooks ++ (if n.failed then Failed ∷ [] else [])
+write_answers n = answers_of_writes n.tooks n.failed
 
 -- a step that was taken at a moment, with the bytes of its piece
 pub record Turn : Type 0 where
@@ -203,25 +218,32 @@ abbrev pub IsCut : Option ℕ → ℕ → Type 0
 IsCut None n = Unit {0}
 IsCut (Some j) n = n ≡ j
 
--- these are the answers to what was asked, one to each question, in order; where the turn was cut, answers to what the
--- next part asked may follow
-abbrev pub IsAnswered : Option ℕ → List Question → List Asked → Type 0
-IsAnswered cut (question ∷ questions) (answer ∷ answers) =
-    IsTrue (fits question answer) × IsAnswered cut questions answers
-IsAnswered cut [] [] = Unit {0}
-IsAnswered (Some j) [] (answer ∷ answers) = Unit {0}
-IsAnswered _ _ _ = ⊥
+-- what the part asks before which a turn was cut, where it asks something: its step, or the frame that stands at the
+-- front of the bytes of its piece
+abbrev pub cut_questions : Turn → Engine → List Question
+cut_questions u e =
+    let p = read u e in
+    if goes (begun u.at u.notes.starved u.notes.auths e)
+    then (if is_piece u.step && can_read p.engine then read_questions p.at p.engine else [])
+    else step_questions u.at u.step u.notes.auths e
+
+-- each question that was asked has its answer, in order; where the turn was cut, answers to the first of what the next
+-- part asks may follow
+abbrev pub IsAnswered : Option ℕ → List Question → List Question → List Asked → Type 0
+IsAnswered None questions next answers = Answer questions answers
+IsAnswered (Some j) questions next answers =
+    (length questions ≤ length answers) × Answer (take (length answers) (questions ++ next)) answers
 
 -- the writes are those that are due, the provider answered what it was asked, and where the turn was cut, so many of
 -- its parts were done
 pub record IsApplied (u : Turn) (e : Engine) : Type 0 where
   pub answers : AreAnswers (write_answers u.notes) (read u e)
-  pub asked : IsAnswered u.notes.starved (read u e).questions u.notes.auths
+  pub asked : IsAnswered u.notes.starved (read u e).questions (cut_questions u e) u.notes.auths
   pub cut : IsCut u.notes.starved (after_writes u e).done
 
--- what was asked in a turn, from its step on, with the answers
+-- what was asked in a turn, from its step on, with the answers; where it was cut, also by the part before which it was
 abbrev pub exchange_of : Turn → Engine → Exchange
-exchange_of u e = paired (read u e).questions u.notes.auths
+exchange_of u e = paired ((read u e).questions ++ cut_questions u e) u.notes.auths
 
 -- what was asked in these turns, with the answers
 abbrev pub exchanges : List Turn → Engine → Exchange
@@ -251,7 +273,7 @@ IsToldMethod method =
     × (length method.arguments < 2 ^ 63)
 
 -- what a command carries fits on the wire: a method, the flags of the properties of a content and the length of its
--- body; of a close nothing is asked, since no claim depends on whether its code and text fit
+-- body; what a close and a new secret say is asked apart (`IsFit`), since the conversation is legal whatever it is
 abbrev pub IsToldCommand : Cmd → Type 0
 IsToldCommand (Send channel method) = IsToldMethod method
 IsToldCommand (Publish channel method properties body) =
@@ -267,6 +289,22 @@ IsTold _ = Unit {0}
 abbrev pub AreTold : List Turn → Type 0
 AreTold [] = Unit {0}
 AreTold (u ∷ us) = IsTold u.step × AreTold us
+
+-- what a step says of its own can be written
+abbrev pub StepCanBeTold : Step → Type 0
+StepCanBeTold (Command c) = CanBeTold c
+StepCanBeTold _ = Unit {0}
+
+-- what a turn brings is what its types can hold: what its command says can be written, its bytes are octets, and so of
+-- what the provider answers
+pub record IsFit (u : Turn) : Type 0 where
+  pub step : StepCanBeTold u.step
+  pub bytes : IsOctets u.bytes
+  pub auths : AllByRecursion CanBeAnswered u.notes.auths
+
+-- so of each of these turns
+abbrev pub AreFit : List Turn → Type 0
+AreFit us = AllByRecursion IsFit us
 
 -- these turns lead from here to there
 pub record Leads (us : List Turn) (before after : Engine) : Type 0 where

@@ -24,7 +24,7 @@ use Rattle.amqp_engine.specs.Engine.{Engine, begin}
 use Rattle.amqp_engine.specs.Turn.{Turn, is_piece, turn}
 use Rattle.amqp_engine.specs.Sending.{Sending, frames_sent, turn_sending, sendings}
 use Rattle.amqp_engine.specs.Play.{replayed, IsPlayed}
-use Rattle.amqp_engine.specs.Exchange.{Event, Heard, Said, said_of}
+use Rattle.amqp_engine.specs.SentWhole.{said_of}
 
 -- ---- what a server may say, after what was said to it
 
@@ -93,16 +93,11 @@ abbrev pub begun_in : ℕ → List SpelledFrame → ℕ
 begun_in n [] = n
 begun_in n (s ∷ rest) = if nat_le (length s.octets) n then begun_in (n - length s.octets) rest else n
 
--- the frame of what was sent
-abbrev pub said_frame : Event → List Frame
-said_frame (Said item) = item.frame ∷ []
-said_frame (Heard f handed) = []
-
 -- the frames that each of these turns sends
 abbrev pub sent_by_turns : List Turn → Engine → List Sending → List (List Frame)
 sent_by_turns [] e ss = []
 sent_by_turns (u ∷ us) e ss =
-    flat_map said_frame (said_of u e ss) ∷ sent_by_turns us (turn u e) (turn_sending u e ss)
+    said_of u e ss ∷ sent_by_turns us (turn u e) (turn_sending u e ss)
 
 -- what is said in these steps, where so many bytes of the first frame came already and each step sends this; steps
 -- after the session's end send nothing
@@ -188,11 +183,11 @@ agreed_limit t us = min 134217728 (agreed_frame_max (flat_map frames_sent (sendi
 abbrev pub answered_in : List Turn → List Asked
 answered_in us = flat_map (λ (u : Turn). u.notes.auths) us
 
--- the steps of a script are those of a faultless server, for this session and what its provider answers
-pub record Valid (t : Talk) (gs : List Given) (answers : List Asked) : Type 0 where
+-- the steps of a script are those of a faultless server, for this session and what its provider answers, whatever links
+-- there are
+pub record IsFaultless (t : Talk) (gs : List Given) (answers : List Asked) : Type 0 where
   pub sayable : AreSayable t.config.options (answered_in (replayed t gs answers))
   pub vhost : length t.config.uri.vhost ≤ 255
-  pub linked : IsLinkedOnce gs
   pub short : AllByRecursion (λ (g : Given). IsShort g.what) gs
   pub moments : MomentsRise 0 gs
   pub timely : IsTimely t (replayed t gs answers)
@@ -200,6 +195,11 @@ pub record Valid (t : Talk) (gs : List Given) (answers : List Asked) : Type 0 wh
   pub frames : AreFrames (agreed_limit t (replayed t gs answers)) (all_bytes gs) spelled
   pub served : IsServed (sayings_of gs (sent_by_turns (replayed t gs answers) (begin t) []) 0 spelled)
   pub last : EndsWithBytes gs
+
+-- a script is a valid one: its steps are those of a faultless server, on one link that takes all
+pub record Valid (t : Talk) (gs : List Given) (answers : List Asked) : Type 0 where
+  pub linked : IsLinkedOnce gs
+  pub faultless : IsFaultless t gs answers
 
 -- a run of a new session over a port that plays these steps, of at least as many turns: where the script is a valid one
 -- for what was answered, the connection was opened, and the session ended Closed

@@ -1,34 +1,36 @@
 //! The loop of an engine over a port.
 
-ghost use Rattle.std.specs.Prelude.{◌≡◌, ◌≤◌, ◌⊎◌, ℕ, Some, None, Err, List, true, false, IfOk, IfErr, IfSome, IsOk, OnOk, OnErr, MatchResult, IsSome, IsTrue, length, option_map};
+ghost use Rattle.std.specs.Prelude.{◌≡◌, ◌≤◌, ◌<◌, ◌⊎◌, ℕ, Some, None, Err, List, true, false, IfOk, IfErr, IfSome, IsOk, OnOk, OnErr, MatchResult, IsSome, IsTrue, length, option_map};
 ghost use Rattle.amqp_ring.specs.Ring.{capacity};
 ghost use Rattle.amqp_types.specs.declared.text.Text.{Text};
 ghost use Rattle.amqp_promise.specs.declared.io_fault.IoFault.{IoFault};
 ghost use Rattle.amqp_session.specs.Config.{config_of};
-ghost use Rattle.amqp_session.specs.Talk.{Talk, start, has_ended, end_of};
+ghost use Rattle.amqp_session.specs.Talk.{Talk, start, is_open, has_ended, end_of};
 ghost use Rattle.amqp_session.specs.ChannelMethods.{frames_of};
 ghost use Rattle.amqp_session.specs.Commands.{command as command_rule, promise_of};
 ghost use Rattle.amqp_session.specs.Answers.{HandsOut, Takes, TakesEvent, take_frames};
-ghost use Rattle.amqp_engine.specs.Engine.{Engine, begin, with_talk};
-ghost use Rattle.amqp_engine.specs.Turn.{asks};
-ghost use Rattle.amqp_engine.specs.Tell.{AppliesLent, TakesTurnLent, RunsLent, log_asks};
+ghost use Rattle.amqp_engine.specs.Engine.{Engine, begin, with_talk, starved_before};
+ghost use Rattle.amqp_engine.specs.Turn.{asks, no_notes};
+ghost use Rattle.amqp_engine.specs.Tell.{AppliesNoted, TakesTurnLent, RunsLent, log_asks, turn_of};
 ghost use Rattle.amqp_engine.specs.declared.given.Given.{Given};
 ghost use Rattle.amqp_engine.specs.Log.{Log, loaded};
 ghost use Rattle.amqp_engine.specs.Unread.{IsRead};
 ghost use Rattle.amqp_engine.specs.Sending.{Sending};
-ghost use Rattle.amqp_engine.specs.Account.{IsNew, HasCarried};
+ghost use Rattle.amqp_engine.specs.Account.{IsNew, History, add_command, add_answer, add_frames, HasHistory, CarriesOn, CarriesOnce};
 ghost use Rattle.amqp_engine.specs.Saying.{HasSent, TellsLinks, GoesOn, GoesOnce};
-ghost use Rattle.amqp_engine.specs.Causes.{Brings, BringsOne, brought, fault_of, is_counted};
+ghost use Rattle.amqp_engine.specs.Causes.{Brings, IsCause, brought, fault_of, is_counted};
 ghost use Rattle.amqp_types.specs.Counts.{Rose};
 ghost use Rattle.amqp_engine.specs.Play.{IsPlayed};
 ghost use Rattle.amqp_engine.specs.Valid.{RunsValid};
 
+use crate::kept_loop::KeptLoop;
 use crate::port::{Port, Told, hold};
+use crate::record::{Noted, Record};
 use crate::wire::Wire;
 use amqp_ring::Buffer;
 use amqp_session::{
-    Answer, AuthList, AuthProvider, Cmd, ConnectionProperties, ErrorKind, Event, Handed, IoFault,
-    Result, Session,
+    Answer, AuthProvider, Cmd, ConnectionProperties, ErrorKind, Event, Handed, IoFault, Result,
+    Session,
 };
 use amqp_types::NoMemory;
 use amqp_uri::AMQPUri;
@@ -39,15 +41,16 @@ use std::marker::Model;
 /// The greatest number of bytes of a piece.
 const PIECE: usize = 4096;
 
-/// A session with the bytes of its link, which runs over a port. Its `Debug` shows nothing of what it
-/// holds: how the client logs in is among the bytes that are unsent.
+/// A session with the bytes of its link, which runs over a port. Its `Debug` shows the state, how many
+/// channels are listed, how many promises were made and how many bytes are unread and unsent, and nothing
+/// else: how the client logs in is among the bytes that are unsent.
 #[derive(Drop)]
 pub struct IoLoop {
     wire: Wire,
     // where the port puts its pieces
     scratch: Vec<u8>,
-    // what the provider answered in the last turn
-    auths: AuthList,
+    // what is noted of the last turn of a run
+    noted: Noted,
 }
 
 impl Model for IoLoop {
@@ -68,12 +71,22 @@ impl Model for IoLoop {
 }
 
 impl fmt::Debug for IoLoop {
-    ghost use Rattle.std.specs.Prelude.{Some, codes};
+    ghost use Rattle.std.specs.Prelude.{Some};
+    ghost use Rattle.amqp_engine.specs.Shown.{loop_debug};
 
-    ghost debug_output = { λ _. Some (codes "IoLoop { .. }") };
+    ghost debug_output = { λ e. Some (loop_debug e) };
 
     fn fmt<W: fmt::Write>(&self, f: &mut fmt::Formatter<W>) -> fmt::Result {
-        f.write_str("IoLoop { .. }")
+        let session = self.session();
+        write!(
+            f,
+            "IoLoop {{ state: {}, channels: {}, promises: {}, unread: {}, unsent: {}, .. }}",
+            session.state().name(),
+            session.listed(),
+            session.promises(),
+            self.received().available_data(),
+            self.unsent().available_data()
+        )
     }
 }
 
@@ -99,7 +112,7 @@ impl IoLoop {
         Ok(IoLoop {
             wire,
             scratch,
-            auths: AuthList::new(alloc),
+            noted: Noted::new(alloc),
         })
     }
 
@@ -125,12 +138,14 @@ impl IoLoop {
             → IsPlayed turns self.old self.new log (P.log port.new) (A.allows provider.old)) }
         ensures legal { (ss : List Sending) → HasSent self.old ss
             → GoesOn ss self.old self.new (P.log port.old) (P.log port.new) }
-        ensures carried { (t : Talk) → IsNew t → HasCarried t self.old → HasCarried t self.new }
+        ensures carried { (h : History) → HasHistory self.old h
+            → CarriesOn turns h self.old self.new (P.log port.old) (P.log port.new) }
         ensures valid { (t : Talk) (gs : List Given) → IsNew t → self.old ≡ begin t
             → P.log port.old ≡ Some (loaded gs) → length gs ≤ turns → self.new.starved ≡ None
             → RunsValid turns t gs self.new (P.log port.new) (A.allows provider.old) }
         ensures read { IsRead self.new }
         ensures faults { P.faults port.old ≤ P.faults port.new }
+        ensures kept { P.kept port.new ≡ P.kept port.old }
         ensures never_falls { A.refusals provider.old ≤ A.refusals provider.new }
         ensures io_error_counted { (fault : IoFault) → has_ended self.old.talk ≡ false
             → fault_of self.new.talk ≡ Some fault → IsTrue (is_counted fault)
@@ -154,6 +169,7 @@ impl IoLoop {
         ensures turns { RunsLent turns self.old self.new (P.log port.old) (P.log port.new)
             (A.allows provider.old) (A.allows provider.new) }
         ensures faults { P.faults port.old ≤ P.faults port.new }
+        ensures kept { P.kept port.new ≡ P.kept port.old }
         ensures never_falls { A.refusals provider.old ≤ A.refusals provider.new }
         ensures io_error_counted { (fault : IoFault) → has_ended self.old.talk ≡ false
             → fault_of self.new.talk ≡ Some fault → IsTrue (is_counted fault)
@@ -185,6 +201,7 @@ impl IoLoop {
             (A.allows provider.old) (A.allows provider.new) }
         ensures ended { OnErr result (IsTrue (has_ended self.new.talk)) }
         ensures faults { P.faults port.old ≤ P.faults port.new }
+        ensures kept { P.kept port.new ≡ P.kept port.old }
         ensures never_falls { A.refusals provider.old ≤ A.refusals provider.new }
         ensures io_error_counted { (fault : IoFault) → fault_of self.new.talk ≡ Some fault
             → IsTrue (is_counted fault) → Rose (P.faults port.old) (P.faults port.new) }
@@ -196,47 +213,54 @@ impl IoLoop {
         let told = port.next(&mut self.scratch);
         told.step.hold();
         let n = told.step.piece_len();
-        self.auths.clear();
+        self.noted.clear();
         self.wire
-            .apply(told, &self.scratch[..n], port, provider, &mut self.auths)
+            .apply(told, &self.scratch[..n], port, provider, &mut self.noted)
     }
 
     /// Asks for a link where one is wanted and was not yet asked for.
     pub fn ask<P: Port>(&mut self, port: &mut P)
         ensures engine { self.new ≡ asks self.old }
         ensures told { P.log port.new ≡ option_map (log_asks self.old) (P.log port.old) }
+        ensures carried { (h : History) → HasHistory self.old h → HasHistory self.new h }
         ensures faults { P.faults port.old ≤ P.faults port.new }
+        ensures kept { P.kept port.new ≡ P.kept port.old }
     {
         self.wire.ask(port);
     }
 
     /// One turn after its step was taken; the bytes are those of its piece. What the server asks of its
-    /// client is answered by the provider. Where memory is refused, the session has ended.
+    /// client is answered by the provider. What is noted of the turn is put into the record, which is
+    /// empty before. Where memory is refused, the session has ended.
     pub fn apply<P: Port, A: AuthProvider>(
         &mut self,
         told: Told,
         bytes: &[u8],
         port: &mut P,
         provider: &mut A,
+        notes: &mut Record,
     ) -> Result<()>
-        requires { A.can provider.old }
+        requires can { A.can provider.old }
+        requires blank { notes.old ≡ no_notes }
         ensures can { A.can provider.new }
-        ensures turn { AppliesLent told.at told.step bytes.now self.old self.new (P.log port.old) (P.log port.new)
-            (A.allows provider.old) (A.allows provider.new) }
+        ensures turn { AppliesNoted told.at told.step bytes.now notes.new self.old self.new (P.log port.old)
+            (P.log port.new) (A.allows provider.old) (A.allows provider.new) }
         ensures starved { MatchResult result (λ _. self.new.starved ≡ self.old.starved)
             (λ _. has_ended self.old.talk ≡ false → IsSome self.new.starved) }
         ensures ended { OnErr result (IsTrue (has_ended self.new.talk)) }
         ensures over { OnErr result (has_ended self.old.talk ≡ true → self.new ≡ self.old) }
         ensures only { IfErr result (λ e. e ≡ ErrorKind.NoMemory) }
         ensures legal { (ss : List Sending) → has_ended self.old.talk ≡ false → HasSent self.old ss
-            → GoesOnce told.at told.step bytes.now ss self.old self.new (P.log port.old) (P.log port.new) }
-        ensures carried { (t : Talk) (before : Engine) → IsNew t → HasCarried t before
-            → has_ended before.talk ≡ false → self.old ≡ asks before → HasCarried t self.new }
+            → GoesOnce (turn_of told.at told.step bytes.now notes.new) ss self.old self.new
+            (P.log port.old) (P.log port.new) }
+        ensures carried { (h : History) → has_ended self.old.talk ≡ false → HasHistory self.old h
+            → CarriesOnce (turn_of told.at told.step bytes.now notes.new) h self.old self.new }
         ensures read { IsRead self.new }
         ensures faults { P.faults port.old ≤ P.faults port.new }
+        ensures kept { P.kept port.new ≡ P.kept port.old }
         ensures never_falls { A.refusals provider.old ≤ A.refusals provider.new }
         ensures cause { (k : ErrorKind) → has_ended self.old.talk ≡ false → end_of self.new.talk ≡ Some (Err k)
-            → BringsOne k told.at told.step bytes.now self.old self.new (P.log port.old) (P.log port.new) }
+            → IsCause k (turn_of told.at told.step bytes.now notes.new) self.old }
         ensures io_error_counted { (fault : IoFault) → has_ended self.old.talk ≡ false
             → fault_of self.new.talk ≡ Some fault
             → (brought told.step self.old.talk ≡ Some fault)
@@ -246,11 +270,20 @@ impl IoLoop {
             → Rose (A.refusals provider.old) (A.refusals provider.new) }
     {
         told.step.hold();
-        self.auths.clear();
-        Ok(
-            self.wire
-                .apply(told, bytes, port, provider, &mut self.auths)?,
-        )
+        let mut noted = notes.take();
+        let applied = self.wire.apply(told, bytes, port, provider, &mut noted);
+        notes.put(noted);
+        Ok(applied?)
+    }
+
+    /// Memory was refused before a turn: the session ends for want of it. What has ended stays as it is.
+    pub fn starve(&mut self, at: u64)
+        ensures engine { self.new ≡ starved_before at self.old }
+        ensures legal { (ss : List Sending) → HasSent self.old ss → HasSent self.new ss }
+        ensures links { (ss : List Sending) (log : Log) → TellsLinks self.old ss log → TellsLinks self.new ss log }
+        ensures carried { (h : History) → HasHistory self.old h → HasHistory self.new h }
+    {
+        self.wire.starve(at);
     }
 
     /// Tells the session to do something, and gives the number of the promise that will be
@@ -262,6 +295,8 @@ impl IoLoop {
         ensures only { IfErr result (λ e. e ≡ ErrorKind.NoMemory) }
         ensures legal { (ss : List Sending) → HasSent self.old ss → HasSent self.new ss }
         ensures links { (ss : List Sending) (log : Log) → TellsLinks self.old ss log → TellsLinks self.new ss log }
+        ensures carried { (h : History) → HasHistory self.old h
+            → MatchResult result (λ _. HasHistory self.new (add_command command h)) (λ _. HasHistory self.new h) }
     {
         hold(&command);
         self.wire.command(command)
@@ -272,6 +307,8 @@ impl IoLoop {
     pub fn answer(&mut self, number: u64) -> Option<Result<Answer>>
         ensures taken { Takes number result self.old.talk self.new.talk }
         ensures rest { self.new ≡ record self.old { talk = self.new.talk } }
+        ensures carried { (h : History) → HasHistory self.old h
+            → (self.new ≡ self.old) ⊎ HasHistory self.new (add_answer number self.old h) }
     {
         self.wire.answer(number)
     }
@@ -282,6 +319,7 @@ impl IoLoop {
     pub fn event(&mut self) -> Option<Event>
         ensures taken { TakesEvent result self.old.talk self.new.talk }
         ensures rest { self.new ≡ record self.old { talk = self.new.talk } }
+        ensures carried { (h : History) → HasHistory self.old h → HasHistory self.new h }
     {
         self.wire.event()
     }
@@ -291,6 +329,7 @@ impl IoLoop {
     pub fn take_frames(&mut self, opened: u64) -> std::result::Result<Vec<Handed>, NoMemory>
         ensures frames { IfOk result (λ frames. frames.items ≡ frames_of opened self.old.talk) }
         ensures taken { self.new ≡ with_talk (take_frames opened) self.old }
+        ensures carried { (h : History) → HasHistory self.old h → HasHistory self.new (add_frames opened self.old h) }
         ensures takes_no_memory { IsOk result }
     {
         self.wire.take_frames(opened)
@@ -303,10 +342,12 @@ impl IoLoop {
         self.wire.session()
     }
 
-    /// The bytes that were received on the link and not yet read. They are read where they lie.
+    /// The bytes that were received on the link and not yet read. They are read where they lie. While a
+    /// link is open there is room for one more, so some of a piece can always be taken.
     pub fn received(&self) -> &Buffer
         ensures bytes { result.now.kept ≡ self.now.unread }
         ensures capacity { capacity result.now ≡ self.now.talk.capacity }
+        ensures free { IsTrue (is_open self.now.talk) → length result.now.kept < capacity result.now }
     {
         self.wire.received()
     }
@@ -324,5 +365,12 @@ impl IoLoop {
         ensures { result ≡ self.now.starved }
     {
         self.wire.starved()
+    }
+
+    /// The state as it stands, kept. It takes the memory of all that it keeps, and changes nothing.
+    pub fn snapshot(&self) -> std::result::Result<KeptLoop, NoMemory>
+        ensures { IfOk result (λ kept. kept ≡ self.now) }
+    {
+        self.wire.snapshot()
     }
 }

@@ -1,23 +1,25 @@
 //! What holds of all turns.
 
-ghost use Rattle.std.specs.Prelude.{◌≡◌, ℕ, ◌+◌, [], false, true, List, Option, Some, Ok, map};
+ghost use Rattle.std.specs.Prelude.{◌≡◌, ℕ, ◌+◌, [], false, true, List, Option, Some, Ok, Err, map};
 ghost use Rattle.std.specs.List.{AllByRecursion};
 ghost use Rattle.amqp_auth.specs.declared.asked.Asked.{Asked};
+ghost use Rattle.amqp_promise.specs.declared.error.ErrorKind.{ErrorKind};
 ghost use Rattle.amqp_session.specs.declared.command.Answer.TheVariants.{Connected};
 ghost use Rattle.amqp_session.specs.Listed.{at};
-ghost use Rattle.amqp_session.specs.Talk.{Talk, end_of, has_ended};
-ghost use Rattle.amqp_legal.specs.Legal.{Legal};
+ghost use Rattle.amqp_session.specs.Talk.{Talk, is_open, end_of, has_ended};
+ghost use Rattle.amqp_written_rules.specs.Sayable.{CanBeSaid};
 ghost use Rattle.amqp_engine.specs.declared.given.Given.{Given};
 ghost use Rattle.amqp_engine.specs.Log.{Log, loaded};
 ghost use Rattle.amqp_engine.specs.Engine.{Engine, begin};
-ghost use Rattle.amqp_engine.specs.Turn.{Turn, turn, talk, IsTurn, AreTurns, AreTold};
+ghost use Rattle.amqp_engine.specs.Turn.{Turn, turn, turns, talk, IsTurn, AreTurns, AreTold, AreFit};
+ghost use Rattle.amqp_engine.specs.Causes.{IsCaused};
 ghost use Rattle.amqp_engine.specs.Tell.{Runs, PlaysTurns, log_turns};
 ghost use Rattle.amqp_engine.specs.Play.{replayed, AreAnswered};
-ghost use Rattle.amqp_engine.specs.Sending.{Sending, sendings, frames, frames_sent, link_bytes, SendsInOrder};
-ghost use Rattle.amqp_engine.specs.Saying.{HasSent, TellsLinks, AreGivenTold};
+ghost use Rattle.amqp_engine.specs.Sending.{Sending, sendings, link_bytes, SendsInOrder};
+ghost use Rattle.amqp_engine.specs.Saying.{HasSent, TellsLinks, AreGivenTold, SentLegal, CommittedLegal, CommittedAgreed, CommittedWritable, CommittedWithin, IsReadBack, HoldsRest, SpellLegal};
 ghost use Rattle.amqp_engine.specs.Unread.{IsRead};
 ghost use Rattle.amqp_engine.specs.Carried.{Carried};
-ghost use Rattle.amqp_engine.specs.Account.{IsNew, account};
+ghost use Rattle.amqp_engine.specs.Account.{IsNew, History, HasHistory, account, history_of};
 ghost use Rattle.amqp_engine.specs.Valid.{Valid};
 
 /// A run that may take no turn, and one of a session that had ended, take no step and write
@@ -49,13 +51,15 @@ pub fn a_script_has_its_turns()
 
 /// What a port tells of its links, which had none before an engine that has sent nothing ran over it,
 /// are the bytes of the frames that were committed on each, as many as were taken: the spellings of the
-/// frames that were sent, in order, and then a part of the next one.
+/// frames that were sent, in order, and then a part of the next one. While a link is open, the bytes that
+/// the engine holds unsent are what is left of the spellings of all that was committed on it.
 pub fn a_link_has_the_frames_sent()
     ensures told { (t : Talk) (us : List Turn) (log : Log) → HasSent (begin t) [] → AreTurns us (begin t)
         → TellsLinks (begin t) [] log
         → (log_turns us (begin t) log).links ≡ map link_bytes (sendings t us) }
     ensures order { (t : Talk) (us : List Turn) → HasSent (begin t) [] → AreTurns us (begin t)
         → AllByRecursion SendsInOrder (sendings t us) }
+    ensures unsent { (e : Engine) (ss : List Sending) → HasSent e ss → is_open e.talk ≡ true → HoldsRest e ss }
 {}
 
 /// While a link is open, no turn leaves a whole frame unread.
@@ -69,20 +73,65 @@ pub fn nothing_whole_is_left_unread()
 /// told and what was taken of it between them.
 pub fn conversations_are_legal()
     ensures sent { (e : Engine) (ss : List Sending) → HasSent e ss
-        → AllByRecursion (λ (s : Sending). Legal (frames_sent s)) ss }
+        → AllByRecursion SentLegal ss }
     ensures committed { (e : Engine) (ss : List Sending) → HasSent e ss
-        → AllByRecursion (λ (s : Sending). Legal (frames s.committed)) ss }
+        → AllByRecursion CommittedLegal ss }
     ensures turns { (t : Talk) (us : List Turn) → HasSent (begin t) [] → AreTurns us (begin t) → AreTold us
-        → AllByRecursion (λ (s : Sending). Legal (frames_sent s)) (sendings t us) }
+        → AllByRecursion SentLegal (sendings t us) }
     ensures script { (t : Talk) (gs : List Given) (answers : List Asked) → HasSent (begin t) []
         → AreGivenTold gs → AreAnswered (replayed t gs answers) (begin t)
-        → AllByRecursion (λ (s : Sending). Legal (frames_sent s)) (sendings t (replayed t gs answers)) }
+        → AllByRecursion SentLegal (sendings t (replayed t gs answers)) }
 {}
 
-/// Nothing is torn, swapped or sent twice, and nothing is handed out that did not come: so through all
-/// turns of an engine that was new.
+/// What is committed on each link keeps the numbers of its own tune-ok: no frame is on a channel above
+/// channel-max, and no body frame is longer than frame-max.
+pub fn agreed_numbers_are_kept()
+    ensures committed { (e : Engine) (ss : List Sending) → HasSent e ss → AllByRecursion CommittedAgreed ss }
+    ensures turns { (t : Talk) (us : List Turn) → IsNew t → AreTurns us (begin t)
+        → AllByRecursion CommittedAgreed (sendings t us) }
+{}
+
+/// What is committed on each link can be written, where what the session is made from can be said.
+pub fn what_is_said_can_be_written()
+    ensures committed { (e : Engine) (ss : List Sending) → HasSent e ss → CanBeSaid e.talk.config
+        → AllByRecursion CommittedWritable ss }
+    ensures turns { (t : Talk) (us : List Turn) → IsNew t → CanBeSaid t.config → AreTurns us (begin t)
+        → AreTold us → AreFit us → AllByRecursion CommittedWritable (sendings t us) }
+{}
+
+/// Whoever reads a link, one frame after another, gets exactly the frames that were sent, where what was
+/// committed can be written and is within the reader's limit, or the limit is the greatest. So it is of
+/// all links of an engine.
+pub fn what_is_said_is_read_back()
+    ensures link { (limit : ℕ) (s : Sending) → SendsInOrder s → CommittedWritable s → CommittedWithin limit s
+        → IsReadBack limit s }
+    ensures any { (s : Sending) → SendsInOrder s → CommittedWritable s → IsReadBack 4294967295 s }
+    ensures committed { (limit : ℕ) (e : Engine) (ss : List Sending) → HasSent e ss → CanBeSaid e.talk.config
+        → AllByRecursion (CommittedWithin limit) ss → AllByRecursion (IsReadBack limit) ss }
+{}
+
+/// What a port tells of the links of an engine that was new spells what the engine said on them, through
+/// its turns: legal conversations that keep the agreed numbers and can be written.
+pub fn the_links_spell_what_is_said()
+    ensures { (t : Talk) (us : List Turn) (log : Log) → IsNew t → HasSent (begin t) [] → TellsLinks (begin t) [] log
+        → CanBeSaid t.config → AreTurns us (begin t) → AreTold us → AreFit us
+        → SpellLegal (sendings t us) (log_turns us (begin t) log).links }
+{}
+
+/// No send and no publish is torn, swapped or sent twice, and nothing is handed out that did not come:
+/// so through the turns of an engine that was new, what it was told and what was taken of it between
+/// them.
 pub fn what_is_told_is_carried()
-    ensures { (t : Talk) (us : List Turn) → IsNew t → AreTurns us (begin t) → AreTold us → Carried (account t us) }
+    ensures history { (e : Engine) (h : History) → HasHistory e h → Carried (account e.talk h) }
+    ensures turns { (t : Talk) (us : List Turn) → IsNew t → AreTurns us (begin t) → AreTold us
+        → Carried (account (talk t us) (history_of t us)) }
+{}
+
+/// An end with an error has its cause in the last turn, also where the answer of a run does not tell of
+/// it, as at the end of a script.
+pub fn an_end_has_its_cause()
+    ensures { (us : List Turn) (e : Engine) (k : ErrorKind) → has_ended e.talk ≡ false → AreTurns us e
+        → end_of (turns us e).talk ≡ Some (Err k) → IsCaused k us e }
 {}
 
 /// A script of a faultless server opens the connection and leaves the session Closed.

@@ -9,18 +9,24 @@
 
 mod given;
 mod io_loop;
+mod kept_loop;
 mod laws;
 mod memory_port;
 mod port;
+mod record;
 mod taken_bytes;
 mod wire;
 
 pub use given::{Given, GivenStep};
 pub use io_loop::IoLoop;
+pub use kept_loop::KeptLoop;
 pub use laws::{
     a_link_has_the_frames_sent, a_run_goes_on, a_run_without_turns_touches_nothing,
-    a_script_has_its_turns, a_valid_script_ends_closed, conversations_are_legal,
-    nothing_whole_is_left_unread, what_is_told_is_carried,
+    a_script_has_its_turns, a_valid_script_ends_closed, agreed_numbers_are_kept,
+    an_end_has_its_cause, conversations_are_legal, nothing_whole_is_left_unread,
+    the_links_spell_what_is_said, what_is_said_can_be_written, what_is_said_is_read_back,
+    what_is_told_is_carried,
 };
 pub use memory_port::MemoryPort;
 pub use port::{Happening, Port, ScriptedPort, Step, Told, Write, Wrote};
+pub use record::Record;

@@ -29,7 +29,9 @@ pub struct MemoryPort {
     // whether the next write fails
     fails: bool,
     moment: u64,
+    // whether a link is asked for, and how many steps had been told when it was last
     asked: bool,
+    asked_at: Option<u64>,
     links: Vec<TakenBytes>,
     writes: Vec<Write>,
     // how often it failed
@@ -40,9 +42,9 @@ impl Model for MemoryPort {
     ghost use Rattle.std.specs.Prelude.{◌≡◌, ◌≤◌, ◌+◌, Some, length, map, vec_capacity, vec_len};
     ghost use Rattle.amqp_engine.specs.Plan.{ArePieces};
     ghost use Rattle.amqp_engine.specs.Making.{happening_of};
-    ghost use Rattle.amqp_engine.specs.Log.{Kept};
+    ghost use Rattle.amqp_engine.specs.Log.{KeptInMemory};
 
-    ghost Value = { Kept };
+    ghost Value = { KeptInMemory };
 
     ghost view = { λ p. record {
       log = record {
@@ -52,6 +54,7 @@ impl Model for MemoryPort {
         writes = p.writes.items;
         links = p.links.items;
         asked = p.asked;
+        asked_at = p.asked_at;
         plan = Some (record { rest = p.rest.items; room = p.room; fails = p.fails; moment = p.moment });
       };
       faults = p.faults;
@@ -81,6 +84,7 @@ impl MemoryPort {
             fails: false,
             moment: 0,
             asked: false,
+            asked_at: None,
             links: Vec::new(alloc),
             writes: Vec::new(alloc),
             faults: 0,
@@ -102,7 +106,12 @@ impl Port for MemoryPort {
 
     ghost faults = { λ p. p.faults };
 
+    ghost kept = { λ _. tt };
+
     fn connect(&mut self) {
+        if !self.asked {
+            self.asked_at = Some(self.told);
+        }
         self.asked = true;
     }
 
@@ -191,6 +200,7 @@ impl ScriptedPort for MemoryPort {
         self.fails = false;
         self.moment = 0;
         self.asked = false;
+        self.asked_at = None;
         self.writes.clear();
         Ok(())
     }

@@ -4,6 +4,7 @@ ghost use Rattle.std.specs.Prelude.{◌≡◌, ◌≤◌, ◌<◌, ◌++◌, ℕ
 ghost use Rattle.amqp_engine.specs.Counts.{HasCause};
 ghost use Rattle.amqp_types.specs.Counts.{Rose};
 ghost use Rattle.amqp_engine.specs.Plan.{ArePieces};
+ghost use Rattle.amqp_written_rules.specs.Sayable.{CanBeTold};
 ghost use Rattle.amqp_engine.specs.Turn.{IsToldMethod, IsToldCommand};
 ghost use Rattle.amqp_engine.specs.Log.{Log, loaded, log_ask, log_step, log_write, piece_len, piece_bytes, IsPiece, TookAtMost, PlansStep, PlansWrite};
 
@@ -36,7 +37,7 @@ pub enum Step {
 
 impl Step {
     ghost use Rattle.amqp_engine.specs.Counts.{is_fault};
-    ghost use Rattle.amqp_engine.specs.Turn.{is_piece, IsTold};
+    ghost use Rattle.amqp_engine.specs.Turn.{is_piece, IsTold, StepCanBeTold};
 
     /// An equal step.
     pub fn try_clone(&self, alloc: Global) -> Result<Step, NoMemory>
@@ -69,7 +70,8 @@ impl Step {
 
     // What a command carries is what its types can hold. It is called for this clause alone.
     pub(crate) fn hold(&self)
-        ensures { IsTold self.now }
+        ensures told { IsTold self.now }
+        ensures can { StepCanBeTold self.now }
     {
         if let Step::Command(command) = self {
             hold(command);
@@ -88,7 +90,8 @@ impl Step {
 
 // The same of a command, as a step or between turns.
 pub(crate) fn hold(command: &Cmd)
-    ensures { IsToldCommand command.now }
+    ensures told { IsToldCommand command.now }
+    ensures can { CanBeTold command.now }
 {
     match command {
         Cmd::Send(_, method) => hold_method(method),
@@ -96,8 +99,13 @@ pub(crate) fn hold(command: &Cmd)
             hold_method(method);
             let _held = (properties.as_bytes().len(), body.len());
         }
-        Cmd::OpenChannel | Cmd::CloseChannel(..) | Cmd::CloseConnection(..) => {}
-        Cmd::UpdateSecret(..) | Cmd::Flow(..) => {}
+        Cmd::CloseChannel(_, code, text) | Cmd::CloseConnection(code, text) => {
+            let _held = (*code, text.len());
+        }
+        Cmd::UpdateSecret(_, reason) => {
+            let _held = reason.len();
+        }
+        Cmd::OpenChannel | Cmd::Flow(..) => {}
         Cmd::DropChannel(_) | Cmd::DropConnection | Cmd::Listen => {}
     }
 }
@@ -167,7 +175,9 @@ pub struct Write {
     pub answer: Wrote,
 }
 
-/// The outside of an engine: it gives steps one by one, and takes bytes.
+/// The outside of an engine: it gives steps one by one, and takes bytes. A connection holds still while
+/// it asks for a link or writes: `connect` and `write` wait for nobody, and no call of a port calls
+/// anything of its connection.
 pub trait Port {
     /// What the port tells of itself, if it does.
     ghost log: { Self → Option Log };
@@ -175,10 +185,17 @@ pub trait Port {
     /// How often the port has failed, a count that never falls.
     ghost faults: { Self → ℕ };
 
+    /// What no call of the port changes.
+    ghost Kept: { Type 0 } = { Unit {0} };
+
+    /// That part of the port.
+    ghost kept: { Self → Kept };
+
     /// Asks for a link.
     fn connect(&mut self)
         ensures told { log self.new ≡ option_map log_ask (log self.old) }
-        ensures faults { faults self.old ≤ faults self.new };
+        ensures faults { faults self.old ≤ faults self.new }
+        ensures kept { kept self.new ≡ kept self.old };
 
     /// Gives one step. The bytes of a piece stand at the front of the space.
     fn next(&mut self, space: &mut [u8]) -> Told
@@ -188,7 +205,8 @@ pub trait Port {
             ≡ option_map (log_step result.at result.step (piece_bytes result.step space.new)) (log self.old) }
         ensures plays { IfSome (log self.old) (PlansStep result.at result.step (piece_bytes result.step space.new)) }
         ensures cause { HasCause result.step (faults self.old) (faults self.new) }
-        ensures faults { faults self.old ≤ faults self.new };
+        ensures faults { faults self.old ≤ faults self.new }
+        ensures kept { kept self.new ≡ kept self.old };
 
     /// Takes the first of the bytes of both slices together onto the last link.
     fn write(&mut self, first: &[u8], second: &[u8]) -> Wrote
@@ -196,7 +214,8 @@ pub trait Port {
         ensures told { log self.new ≡ option_map (log_write (first.now ++ second.now) result) (log self.old) }
         ensures plays { IfSome (log self.old) (PlansWrite (length (first.now ++ second.now)) result) }
         ensures cause { result ≡ Wrote.Failed → Rose (faults self.old) (faults self.new) }
-        ensures faults { faults self.old ≤ faults self.new };
+        ensures faults { faults self.old ≤ faults self.new }
+        ensures kept { kept self.new ≡ kept self.old };
 }
 
 /// A port that plays a script, and keeps what it took.
@@ -209,7 +228,8 @@ pub trait ScriptedPort: Port {
         requires { ArePieces steps.items }
         ensures told { OnOk result (Self.log self.new ≡ Some (loaded steps.items)) }
         ensures err { OnErr result (self.new ≡ self.old) }
-        ensures faults { Self.faults self.new ≡ Self.faults self.old };
+        ensures faults { Self.faults self.new ≡ Self.faults self.old }
+        ensures kept { Self.kept self.new ≡ Self.kept self.old };
 
     /// How many links there were.
     fn links(&self) -> usize

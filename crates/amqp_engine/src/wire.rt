@@ -7,22 +7,30 @@
 mod reading;
 mod writing;
 
-ghost use Rattle.std.specs.Prelude.{◌≡◌, ◌≤◌, not, ◌<◌, [], Option, Some, true, false, IfOk, IfErr, IsOk, OnOk, OnErr, MatchResult, IsSome, IsTrue, option_map, length};
+ghost use Rattle.std.specs.Prelude.{◌≡◌, ◌≤◌, not, ◌<◌, Option, Some, true, false, IfOk, IfErr, IsOk, OnOk, OnErr, MatchResult, IsSome, IsTrue, option_map, length};
+ghost use Rattle.std.specs.List.{AllByRecursion};
+ghost use Rattle.amqp_types.specs.Forms.{IsOctets};
+ghost use Rattle.amqp_written_rules.specs.Sayable.{CanBeAnswered};
 ghost use Rattle.amqp_ring.specs.Ring.{capacity};
+ghost use Rattle.amqp_session.specs.declared.capacity.TheConstants.{LEAST_CAPACITY};
 ghost use Rattle.amqp_session.specs.Config.{config_of};
 ghost use Rattle.amqp_session.specs.Talk.{start, is_open, has_ended};
 ghost use Rattle.amqp_session.specs.Commands.{command as command_rule, promise_of};
 ghost use Rattle.amqp_session.specs.ChannelMethods.{frames_of};
 ghost use Rattle.amqp_session.specs.Answers.{Takes, TakesEvent, take_frames};
-ghost use Rattle.amqp_engine.specs.Engine.{Engine, begin, with_talk, starve_at};
-ghost use Rattle.amqp_engine.specs.Turn.{asks};
+ghost use Rattle.amqp_engine.specs.Engine.{Engine, begin, with_talk, starve_at, starved_before};
+ghost use Rattle.amqp_engine.specs.Turn.{asks, no_notes};
 ghost use Rattle.amqp_engine.specs.Tell.{log_asks};
 ghost use Rattle.amqp_engine.specs.Making.{AppliesCounted, Blames};
+ghost use Rattle.amqp_engine.specs.Noting.{notes_in};
 
+use crate::kept_loop::KeptLoop;
 use crate::port::{Port, Told};
+use crate::record::Noted;
+use amqp_auth::Asked;
 use amqp_ring::Buffer;
 use amqp_session::{
-    Answer, AuthList, AuthProvider, Cmd, ConnectionProperties, ErrorKind, Event, Handed, Session,
+    Answer, AuthProvider, Cmd, ConnectionProperties, ErrorKind, Event, Handed, Session,
     initial_capacity,
 };
 use amqp_types::NoMemory;
@@ -107,6 +115,7 @@ impl Wire {
     pub fn received(&self) -> &Buffer
         ensures bytes { result.now.kept ≡ self.now.unread }
         ensures capacity { capacity result.now ≡ self.now.talk.capacity }
+        ensures least { LEAST_CAPACITY ≤ self.now.talk.capacity }
     {
         &self.unread
     }
@@ -124,6 +133,21 @@ impl Wire {
         ensures { result ≡ self.now.starved }
     {
         self.starved
+    }
+
+    /// The state as it stands, kept.
+    pub fn snapshot(&self) -> Result<KeptLoop, NoMemory>
+        ensures { IfOk result (λ kept. kept ≡ self.now) }
+    {
+        let session = self.session.snapshot()?;
+        KeptLoop::of(
+            self.alloc,
+            session,
+            &self.unread,
+            self.place,
+            &self.unsent,
+            self.starved,
+        )
     }
 
     /// Tells the session to do something, and gives the number of the promise that will be answered.
@@ -166,6 +190,7 @@ impl Wire {
         ensures engine { self.new ≡ asks self.old }
         ensures told { P.log port.new ≡ option_map (log_asks self.old) (P.log port.old) }
         ensures faults { P.faults port.old ≤ P.faults port.new }
+        ensures kept { P.kept port.new ≡ P.kept port.old }
     {
         if self.session.wants_link() && !self.session.is_asked() {
             port.connect();
@@ -173,44 +198,106 @@ impl Wire {
         }
     }
 
-    /// A turn from its step on. What the provider answers is put last into the list.
+    /// A turn from its step on, which is noted.
     pub fn apply<P: Port, A: AuthProvider>(
         &mut self,
         told: Told,
         bytes: &[u8],
         port: &mut P,
         provider: &mut A,
-        auths: &mut AuthList,
+        noted: &mut Noted,
     ) -> Result<(), NoMemory>
-        requires list { auths.old.list ≡ [] }
+        requires blank { notes_in noted.old ≡ no_notes }
         requires can { A.can provider.old }
         ensures can { A.can provider.new }
-        ensures turn { AppliesCounted told.at told.step bytes.now self.old self.new (P.log port.old) (P.log port.new)
-            (P.faults port.old) (P.faults port.new) (A.allows provider.old) (A.allows provider.new) }
+        ensures turn { AppliesCounted told.at told.step bytes.now (notes_in noted.new) self.old self.new
+            (P.log port.old) (P.log port.new) (P.faults port.old) (P.faults port.new)
+            (A.allows provider.old) (A.allows provider.new) }
+        ensures octets { IsOctets bytes.now }
+        ensures answered { AllByRecursion CanBeAnswered (notes_in noted.new).auths }
         ensures starved { MatchResult result (λ _. self.new.starved ≡ self.old.starved)
             (λ _. has_ended self.old.talk ≡ false → IsSome self.new.starved) }
         ensures ended { OnErr result (IsTrue (has_ended self.new.talk)) }
         ensures over { OnErr result (has_ended self.old.talk ≡ true → self.new ≡ self.old) }
         ensures faults { P.faults port.old ≤ P.faults port.new }
+        ensures kept { P.kept port.new ≡ P.kept port.old }
+        ensures never_falls { A.refusals provider.old ≤ A.refusals provider.new }
+        ensures blames { Blames self.old.talk self.new.talk (A.refusals provider.old) (A.refusals provider.new) }
+    {
+        let taken = self.take_turn(told, bytes, port, provider, noted);
+        // What came is what its types can hold.
+        hold_octets(bytes);
+        hold_answers(noted.auths.as_slice());
+        taken
+    }
+
+    // A turn from its step on, which is noted.
+    fn take_turn<P: Port, A: AuthProvider>(
+        &mut self,
+        told: Told,
+        bytes: &[u8],
+        port: &mut P,
+        provider: &mut A,
+        noted: &mut Noted,
+    ) -> Result<(), NoMemory>
+        requires blank { notes_in noted.old ≡ no_notes }
+        requires can { A.can provider.old }
+        ensures can { A.can provider.new }
+        ensures turn { AppliesCounted told.at told.step bytes.now (notes_in noted.new) self.old self.new
+            (P.log port.old) (P.log port.new) (P.faults port.old) (P.faults port.new)
+            (A.allows provider.old) (A.allows provider.new) }
+        ensures starved { MatchResult result (λ _. self.new.starved ≡ self.old.starved)
+            (λ _. has_ended self.old.talk ≡ false → IsSome self.new.starved) }
+        ensures ended { OnErr result (IsTrue (has_ended self.new.talk)) }
+        ensures over { OnErr result (has_ended self.old.talk ≡ true → self.new ≡ self.old) }
+        ensures faults { P.faults port.old ≤ P.faults port.new }
+        ensures kept { P.kept port.new ≡ P.kept port.old }
         ensures never_falls { A.refusals provider.old ≤ A.refusals provider.new }
         ensures blames { Blames self.old.talk self.new.talk (A.refusals provider.old) (A.refusals provider.new) }
     {
         let Told { at, step } = told;
         if self.session.has_ended() {
             // What has ended reads and writes nothing, and is not starved.
-            self.take_step(at, step, provider, auths)?;
+            if let Err(refused) = self.take_step(at, step, provider, &mut noted.auths) {
+                noted.starved = Some(0);
+                return Err(refused);
+            }
             return Ok(());
         }
         let mut parts = 0;
-        if let Err(refused) = self.read_step(at, step, bytes, provider, auths, &mut parts) {
+        if let Err(refused) = self.read_step(
+            at,
+            step,
+            bytes,
+            provider,
+            &mut noted.auths,
+            &mut parts,
+        ) {
             self.cut(at, parts);
+            noted.starved = Some(parts);
             return Err(refused);
         }
-        if let Err(refused) = self.write_all(at, port, &mut parts) {
+        if let Err(refused) = self.write_all(
+            at,
+            port,
+            &mut parts,
+            &mut noted.tooks,
+            &mut noted.failed,
+        ) {
             self.cut(at, parts);
+            noted.starved = Some(parts);
             return Err(refused);
         }
         Ok(())
+    }
+
+    /// Memory was refused before a turn, and the session ends. Where it had ended, nothing changes.
+    pub fn starve(&mut self, at: u64)
+        ensures { self.new ≡ starved_before at self.old }
+    {
+        if !self.session.has_ended() {
+            self.cut(at, 0);
+        }
     }
 
     // Memory was refused after so many parts of a turn, and the session ends.
@@ -222,5 +309,29 @@ impl Wire {
         self.place = 0;
         self.unsent.reset();
         self.starved = Some(parts);
+    }
+}
+
+// The bytes of a piece are octets. It is called for this clause alone, as those below.
+fn hold_octets(bytes: &[u8])
+    ensures { IsOctets bytes.now }
+{
+    let _held = bytes.len();
+}
+
+// What a provider answered can be written.
+fn hold_answers(answers: &[Asked])
+    ensures { AllByRecursion CanBeAnswered answers.now }
+{
+    'answers: for answer in answers {
+        hold_answer(answer);
+    }
+}
+
+fn hold_answer(answer: &Asked)
+    ensures { CanBeAnswered answer.now }
+{
+    if let Asked::Mechanism(name) = answer {
+        let _held = name.len();
     }
 }

@@ -5,3 +5,5 @@ pub mod NotServed
 -- The octets of frames, and which scripts are those of a faultless server.
 pub mod Octets
 pub mod ValidScripts
+-- What the octets of a link may be.
+pub mod Spelling

@@ -1,16 +1,16 @@
 -- The octets of frames spell these frames, and a part of a frame spells none.
-use Rattle.std.proofs.Common.{◌≡◌, ◌<◌, ◌^◌, ℕ, List, [], ◌∷◌, ◌++◌, if◌then◌else◌, length, length-append, append_assoc, take, refl, ap, sym, ◌∙◌, subst, arith}
+use Rattle.std.proofs.Common.{◌≡◌, ◌<◌, ◌^◌, ℕ, List, [], ◌∷◌, ◌++◌, if◌then◌else◌, length, length-append, append_assoc, take, drop, refl, ap, sym, ◌∙◌, subst, arith}
 use Rattle.std.proofs.lemmas.List.{append_cancel_left}
 use Rattle.std.specs.List.{flat_map}
 use Rattle.amqp_frame.specs.declared.frame.Frame.{Frame}
 use Rattle.amqp_frame.specs.declared.frame.Frame.TheVariants.{Heartbeat}
-use Rattle.amqp_frame.specs.Frames.{encoding, FrameOf}
+use Rattle.amqp_frame.specs.Frames.{encoding, FrameOf, IsOtherMethod}
 use Rattle.amqp_frame.specs.Rules.{KeepsRules}
 use Rattle.amqp_frame.proofs.Written.{frame_written}
 use Rattle.amqp_frame.proofs.FrontLaws.{one_frame}
 use Rattle.amqp_faultless.specs.Faultless.{opens_connection}
 use Rattle.amqp_engine.specs.Valid.{SpelledFrame, AreSpelled, AreFrames}
-use Rattle.amqp_engine_tests.specs.Scripts.{started, tuned, opened, blocked, unblocked, answered, closed, channel_opened, channel_closed, heartbeat}
+use Rattle.amqp_engine_tests.specs.Scripts.{started, tuned, opened, blocked, unblocked, answered, closed, channel_opened, channel_closed, channel_answered, secret_taken, deliver, delivering, header_comes, body_comes, heartbeat}
 
 -- the octets are the written ones
 spells : (s : SpelledFrame) → KeepsRules s.frame → length (encoding s.frame) < 2 ^ 32 → encoding s.frame ≡ s.octets → FrameOf s.frame s.octets
@@ -57,6 +57,37 @@ channel-opened-spells = spells channel_opened (omega arith, tt) (omega arith) re
 pub channel-closed-spells : FrameOf channel_closed.frame channel_closed.octets
 channel-closed-spells =
     spells channel_closed (omega arith, (omega arith, omega arith, omega arith, omega arith)) (omega arith) refl
+
+pub channel-answered-spells : FrameOf channel_answered.frame channel_answered.octets
+channel-answered-spells = spells channel_answered (omega arith, tt) (omega arith) refl
+
+pub secret-taken-spells : FrameOf secret_taken.frame secret_taken.octets
+secret-taken-spells = spells secret_taken (omega arith, tt) (omega arith) refl
+
+-- its payload is one of a class that is passed through
+deliver-passes : IsOtherMethod deliver
+deliver-passes = (
+  60,
+  60,
+  λ h. omega (arith, h),
+  λ h. omega (arith, h),
+  (
+    0 ∷ 60 ∷ [],
+    drop 2 deliver,
+    refl,
+    (omega arith, refl),
+    (0 ∷ 60 ∷ [], drop 4 deliver, refl, (omega arith, refl), tt),
+  ),
+)
+
+pub delivering-spells : FrameOf delivering.frame delivering.octets
+delivering-spells = spells delivering (omega arith, deliver-passes) (omega arith) refl
+
+pub header-comes-spells : FrameOf header_comes.frame header_comes.octets
+header-comes-spells = spells header_comes (omega arith, omega arith) (omega arith) refl
+
+pub body-comes-spells : FrameOf body_comes.frame body_comes.octets
+body-comes-spells = spells body_comes (omega arith, tt) (omega arith) refl
 
 pub heartbeat-spells : FrameOf heartbeat.frame heartbeat.octets
 heartbeat-spells = refl

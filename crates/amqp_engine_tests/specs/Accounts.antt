@@ -1,13 +1,16 @@
 -- What can be seen of some clients, as it may be and as it may not.
-use Rattle.std.specs.Prelude.{ℕ, ◌==◌, ◌||◌, Bool, false, List, [], ◌∷◌, ◌++◌, map, None}
+use Rattle.std.specs.Prelude.{ℕ, ◌==◌, ◌||◌, if◌then◌else◌, Bool, false, List, [], ◌∷◌, ◌++◌, map, Option, Some, None, Result, Ok}
 use Rattle.amqp_frame.specs.declared.frame.Frame.{Frame}
 use Rattle.amqp_frame.specs.declared.frame.Frame.TheVariants.{Heartbeat, Method, Raw}
 use Rattle.amqp_frame.specs.declared.frame.RawKind.TheVariants.{RawMethod, Header, Body}
 use Rattle.amqp_frame.specs.declared.method.Method.TheVariants.{ChannelOpen}
 use Rattle.amqp_frame.specs.RawMethods.{OtherMethod, spell_raw_method}
+use Rattle.amqp_promise.specs.declared.error.ErrorKind.{ErrorKind}
 use Rattle.amqp_session.specs.declared.command.ChanRef.{ChanRef}
 use Rattle.amqp_session.specs.declared.command.Cmd.{Cmd}
 use Rattle.amqp_session.specs.declared.command.Cmd.TheVariants.{OpenChannel, Send, Publish}
+use Rattle.amqp_session.specs.declared.command.Answer.{Answer}
+use Rattle.amqp_session.specs.declared.command.Answer.TheVariants as says
 use Rattle.amqp_session.specs.declared.handed.Handed.{Handed}
 use Rattle.amqp_session.specs.Publishing.{content_header}
 use Rattle.amqp_engine.specs.Carried.{Account}
@@ -50,6 +53,25 @@ header = Raw 1 Header (content_header 60 3 no_properties)
 abbrev pub content : List (List ℕ) → List Frame
 content pieces = said basic_publish ∷ header ∷ map (Raw 1 Body) pieces
 
+-- ---- octets
+
+-- those of a heartbeat
+abbrev pub heartbeat_octets : List ℕ
+heartbeat_octets = 8 ∷ 0 ∷ 0 ∷ 0 ∷ 0 ∷ 0 ∷ 0 ∷ 206 ∷ []
+
+-- those of basic.qos on channel 1
+abbrev pub qos_octets : List ℕ
+qos_octets =
+    1 ∷ 0 ∷ 1 ∷ 0 ∷ 0 ∷ 0 ∷ 11 ∷ 0 ∷ 60 ∷ 0 ∷ 10 ∷ 0 ∷ 0 ∷ 0 ∷ 0 ∷ 0 ∷ 1 ∷ 0 ∷ 206 ∷ []
+
+-- those of the body of the content on channel 1, in one piece
+abbrev pub body_octets : List ℕ
+body_octets = 3 ∷ 0 ∷ 1 ∷ 0 ∷ 0 ∷ 0 ∷ 3 ∷ 1 ∷ 2 ∷ 3 ∷ 206 ∷ []
+
+-- the first of the last
+abbrev pub body_begun : List ℕ
+body_begun = 3 ∷ 0 ∷ 1 ∷ 0 ∷ 0 ∷ 0 ∷ 3 ∷ 1 ∷ 2 ∷ []
+
 -- ---- commands
 
 -- the publish
@@ -60,25 +82,40 @@ publish = Publish one basic_publish no_properties body
 abbrev pub no_number : ℕ → Bool
 no_number n = false
 
+-- these were answered Sent
+abbrev pub sent_where : Bool → Option (Result Answer ErrorKind)
+sent_where sent = if sent then Some (Ok says.Sent) else None
+
 -- a client that was told these things, which were answered Sent where so, and that sent this
 abbrev pub sent_by : List Cmd → (ℕ → Bool) → List (List Frame) → Account
 sent_by commands answered links =
-    record { commands = commands; answered_sent = answered; sent = links; read = []; handed = [] }
+    record {
+      commands = commands;
+      answers = λ n. sent_where (answered n);
+      sent = links;
+      came = [];
+      handed = λ opened. [];
+    }
 
 -- a frame that came
 abbrev pub delivery : Handed
 delivery = record { channel = 1; kind = Body; bytes = body }
+
+-- it was handed out by the promise of this number
+abbrev pub by_promise : ℕ → ℕ → List Handed
+by_promise number opened = if opened == number then delivery ∷ [] else []
 
 -- two sends with a publish between them, all answered Sent, and a frame that came and was handed out
 abbrev pub all_sent : Account
 all_sent =
     record {
       commands = OpenChannel ∷ Send one qos ∷ publish ∷ Send one get ∷ [];
-      answered_sent = λ n. n == 2 || (n == 3 || n == 4);
+      answers = λ n.
+          if n == 1 then Some (Ok (says.Channel 1 1)) else sent_where (n == 2 || (n == 3 || n == 4));
       sent =
           (Method 1 ChannelOpen ∷ said qos ∷ content ((1 ∷ 2 ∷ []) ∷ (3 ∷ []) ∷ []) ++ Heartbeat ∷ said get ∷ []) ∷ [];
-      read = (Heartbeat ∷ said qos ∷ Raw 1 Body body ∷ []) ∷ [];
-      handed = (1, delivery ∷ []) ∷ [];
+      came = (heartbeat_octets ++ qos_octets ++ body_octets ++ body_begun) ∷ [];
+      handed = by_promise 1;
     }
 
 -- the link is lost while a publish goes out, which is not answered Sent; on the next link a send follows
@@ -102,10 +139,43 @@ twice = sent_by (Send one qos ∷ []) (λ n. n == 1) ((said qos ∷ said qos ∷
 abbrev pub on_two_links : Account
 on_two_links = sent_by (Send one qos ∷ []) (λ n. n == 1) ((said qos ∷ []) ∷ (said qos ∷ []) ∷ [])
 
+-- a publish whose first frames went out on one link, and whose body on the next
+abbrev pub torn_over_links : Account
+torn_over_links =
+    sent_by (publish ∷ []) (λ n. n == 1) ((said basic_publish ∷ header ∷ []) ∷ (Raw 1 Body body ∷ []) ∷ [])
+
 -- a publish with another body
 abbrev pub other_body : Account
 other_body = sent_by (publish ∷ []) (λ n. n == 1) (content ((9 ∷ 9 ∷ 9 ∷ []) ∷ []) ∷ [])
 
 -- a frame is handed out that did not come
 abbrev pub made_up : Account
-made_up = record (sent_by [] no_number []) { handed = (1, delivery ∷ []) ∷ [] }
+made_up = record (sent_by [] no_number []) { handed = by_promise 1 }
+
+-- a frame is handed out of which only the first octets came
+abbrev pub not_whole : Account
+not_whole =
+    record {
+      commands = OpenChannel ∷ [];
+      answers = λ n. if n == 1 then Some (Ok (says.Channel 1 1)) else None;
+      sent = (Method 1 ChannelOpen ∷ []) ∷ [];
+      came = body_begun ∷ [];
+      handed = by_promise 1;
+    }
+
+-- a frame came, and was handed out by a promise that opened nothing
+abbrev pub opened_by_none : Account
+opened_by_none =
+    record (sent_by [] no_number []) { came = body_octets ∷ []; handed = by_promise 1 }
+
+-- a frame came on channel 1, and was handed out by the promise that opened channel 2
+abbrev pub by_another : Account
+by_another =
+    record {
+      commands = OpenChannel ∷ OpenChannel ∷ [];
+      answers = λ n.
+          if n == 1 then Some (Ok (says.Channel 1 1)) else if n == 2 then Some (Ok (says.Channel 2 2)) else None;
+      sent = (Method 1 ChannelOpen ∷ Method 2 ChannelOpen ∷ []) ∷ [];
+      came = body_octets ∷ [];
+      handed = by_promise 2;
+    }

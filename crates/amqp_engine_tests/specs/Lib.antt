@@ -3,3 +3,5 @@ pub mod Accounts
 -- What servers said, and the scripts of some.
 pub mod Sayings
 pub mod Scripts
+-- The octets of some links.
+pub mod Links

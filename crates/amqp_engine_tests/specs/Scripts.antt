@@ -1,19 +1,20 @@
 -- Scripts of servers that are faultless, and of some that are not: frames, octet by octet, and the steps in which they
 -- come.
-use Rattle.std.specs.Prelude.{ℕ, List, [], ◌∷◌, ◌++◌, map, take, drop, None, Ok, codes}
-use Rattle.amqp_frame.specs.declared.frame.Frame.TheVariants.{Method, Heartbeat}
-use Rattle.amqp_frame.specs.declared.method.Method.TheVariants.{Tune, OpenOk, Close, CloseOk, Blocked, Unblocked, ChannelOpenOk, ChannelClose}
+use Rattle.std.specs.Prelude.{ℕ, List, [], ◌∷◌, ◌++◌, map, take, drop, Some, None, Ok, codes}
+use Rattle.amqp_frame.specs.declared.frame.Frame.TheVariants.{Method, Raw, Heartbeat}
+use Rattle.amqp_frame.specs.declared.frame.RawKind.TheVariants.{RawMethod, Header, Body}
+use Rattle.amqp_frame.specs.declared.method.Method.TheVariants.{Tune, OpenOk, Close, CloseOk, Blocked, Unblocked, UpdateSecretOk, ChannelOpenOk, ChannelClose, ChannelCloseOk}
 use Rattle.amqp_uri.specs.Address.{local}
 use Rattle.amqp_auth.specs.declared.asked.Asked.{Asked}
 use Rattle.amqp_auth.specs.declared.asked.Asked.TheVariants as answer
-use Rattle.amqp_session.specs.declared.command.Cmd.TheVariants.{OpenChannel, CloseChannel, CloseConnection}
+use Rattle.amqp_session.specs.declared.command.Cmd.TheVariants.{OpenChannel, CloseChannel, CloseConnection, Publish}
 use Rattle.amqp_session.specs.Config.{config_of, no_options}
 use Rattle.amqp_session.specs.Talk.{Talk, start as new}
 use Rattle.amqp_engine.specs.declared.given.Given.{Given}
 use Rattle.amqp_engine.specs.declared.given.GivenStep.{GivenStep}
 use Rattle.amqp_engine.specs.declared.given.GivenStep.TheVariants.{Link, Bytes, Tick, Command}
 use Rattle.amqp_engine.specs.Valid.{SpelledFrame}
-use Rattle.amqp_engine_tests.specs.Accounts.{one}
+use Rattle.amqp_engine_tests.specs.Accounts.{one, basic_publish, no_properties, body}
 use Rattle.amqp_engine_tests.specs.Sayings.{start}
 
 -- a client of the address that says nothing
@@ -23,6 +24,20 @@ client = new (config_of local no_options)
 -- who logs in as guest
 abbrev pub guest : List Asked
 guest = answer.Mechanism (codes "PLAIN") ∷ answer.Starter (Ok (0 ∷ codes "guest" ++ 0 ∷ codes "guest")) ∷ []
+
+-- a token that is valid for a minute, and a new one
+abbrev pub token : List ℕ
+token = codes "my new valid token"
+
+-- who logs in with the token, and tells it anew at the second of two ticks
+abbrev pub renewed : List Asked
+renewed =
+    answer.Mechanism (codes "PLAIN")
+    ∷ answer.Starter (Ok (0 ∷ 0 ∷ token))
+    ∷ answer.ValidFor (Some 60000)
+    ∷ answer.ValidFor (Some 60000)
+    ∷ answer.Refreshed (Ok token)
+    ∷ []
 
 -- ---- frames of a server, with their octets (AMQP 0-9-1, 4.2; blocked and unblocked are RabbitMQ's)
 
@@ -108,6 +123,54 @@ channel_closed =
       frame = Method 1 (ChannelClose 404 (codes "NOT_FOUND") 0 0);
     }
 
+-- channel.close-ok of channel 1
+abbrev pub channel_answered : SpelledFrame
+channel_answered =
+    record {
+      octets = 1 ∷ 0 ∷ 1 ∷ 0 ∷ 0 ∷ 0 ∷ 4 ∷ 0 ∷ 20 ∷ 0 ∷ 41 ∷ 206 ∷ [];
+      frame = Method 1 ChannelCloseOk;
+    }
+
+-- update-secret-ok
+abbrev pub secret_taken : SpelledFrame
+secret_taken =
+    record {
+      octets = 1 ∷ 0 ∷ 0 ∷ 0 ∷ 0 ∷ 0 ∷ 4 ∷ 0 ∷ 10 ∷ 0 ∷ 71 ∷ 206 ∷ [];
+      frame = Method 0 UpdateSecretOk;
+    }
+
+-- basic.deliver: to the consumer c, its first delivery, from the exchange without a name, with the routing key q
+abbrev pub deliver : List ℕ
+deliver = 0 ∷ 60 ∷ 0 ∷ 60 ∷ 1 ∷ 99 ∷ 0 ∷ 0 ∷ 0 ∷ 0 ∷ 0 ∷ 0 ∷ 0 ∷ 1 ∷ 0 ∷ 0 ∷ 1 ∷ 113 ∷ []
+
+-- it comes on channel 1
+abbrev pub delivering : SpelledFrame
+delivering =
+    record {
+      octets = 1 ∷ 0 ∷ 1 ∷ 0 ∷ 0 ∷ 0 ∷ 18 ∷ deliver ++ 206 ∷ [];
+      frame = Raw 1 RawMethod deliver;
+    }
+
+-- the header of a content of two octets
+abbrev pub two_octets : List ℕ
+two_octets = 0 ∷ 60 ∷ 0 ∷ 0 ∷ 0 ∷ 0 ∷ 0 ∷ 0 ∷ 0 ∷ 0 ∷ 0 ∷ 2 ∷ 0 ∷ 0 ∷ []
+
+-- it comes on channel 1
+abbrev pub header_comes : SpelledFrame
+header_comes =
+    record {
+      octets = 2 ∷ 0 ∷ 1 ∷ 0 ∷ 0 ∷ 0 ∷ 14 ∷ two_octets ++ 206 ∷ [];
+      frame = Raw 1 Header two_octets;
+    }
+
+-- and its body
+abbrev pub body_comes : SpelledFrame
+body_comes =
+    record {
+      octets = 3 ∷ 0 ∷ 1 ∷ 0 ∷ 0 ∷ 0 ∷ 2 ∷ 104 ∷ 105 ∷ 206 ∷ [];
+      frame = Raw 1 Body (104 ∷ 105 ∷ []);
+    }
+
 -- heartbeat
 abbrev pub heartbeat : SpelledFrame
 heartbeat = record { octets = 8 ∷ 0 ∷ 0 ∷ 0 ∷ 0 ∷ 0 ∷ 0 ∷ 206 ∷ []; frame = Heartbeat }
@@ -159,6 +222,28 @@ abbrev pub heard_in_time : List Given
 heard_in_time =
     steps_at 0 (Link None ∷ comes (started ∷ tuned ∷ opened ∷ []))
     ++ steps_at 120000 (Tick ∷ shut ∷ comes (answered ∷ []))
+
+-- a channel is opened, a message is published on it and one is delivered, and the channel is closed
+abbrev pub messages_pass : List Given
+messages_pass =
+    steps_at 0 (
+    Link None
+    ∷ comes (started ∷ tuned ∷ opened ∷ [])
+    ++ Command OpenChannel
+    ∷ comes (channel_opened ∷ [])
+    ++ Command (Publish one basic_publish no_properties body)
+    ∷ comes (delivering ∷ header_comes ∷ body_comes ∷ [])
+    ++ Command (CloseChannel one 200 (codes "OK"))
+    ∷ comes (channel_answered ∷ [])
+    ++ shut
+    ∷ comes (answered ∷ []))
+
+-- the token is told anew once its minute is over, and not before
+abbrev pub token_renewed : List Given
+token_renewed =
+    steps_at 0 (Link None ∷ comes (started ∷ tuned ∷ opened ∷ []))
+    ++ steps_at 59999 (Tick ∷ [])
+    ++ steps_at 60000 (Tick ∷ comes (secret_taken ∷ []) ++ shut ∷ comes (answered ∷ []))
 
 -- the server tunes in one piece with its start, before we logged in
 abbrev pub tunes_at_once : List Given

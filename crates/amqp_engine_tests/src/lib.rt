@@ -11,6 +11,10 @@ mod copies;
 #[cfg(test)]
 mod ends;
 #[cfg(test)]
+mod keeping;
+#[cfg(test)]
+mod links;
+#[cfg(test)]
 mod listening;
 #[cfg(test)]
 mod parts;

@@ -4,7 +4,7 @@ ghost use Rattle.std.specs.Prelude.{None};
 
 use crate::story::{Driven, new_engine};
 use crate::support::{Happens, Outcome, port};
-use amqp_engine::{MemoryPort, Port, Told, Wrote};
+use amqp_engine::{MemoryPort, Port, Record, Told, Wrote};
 use amqp_session::ErrorKind;
 use amqp_vectors::START;
 use std::alloc::Global;
@@ -21,6 +21,8 @@ impl Port for Refusing {
     ghost log = { λ p. None };
 
     ghost faults = { λ p. p.script.faults };
+
+    ghost kept = { λ _. tt };
 
     fn connect(&mut self) {
         self.script.connect();
@@ -141,4 +143,13 @@ fn are_counted<A: Abort>(rt: &A, alloc: Global, rows: &[Row]) -> Outcome<()> {
 #[test]
 fn parts_are_counted(rt: HostRuntime) -> Outcome<()> {
     are_counted(&rt, rt.alloc(), ROWS)
+}
+
+#[test]
+fn a_turn_is_cut_before_its_first_part(rt: HostRuntime) -> Outcome<()> {
+    let notes = Record::cut(rt.alloc());
+    let starved = notes.starved();
+    drop(notes);
+    assert!(rt; starved == Some(0));
+    Ok(())
 }

@@ -132,6 +132,9 @@ fn what_is_cut_off_is_kept(rt: HostRuntime) -> Outcome<()> {
         Line::Run(2, GOES_ON),
         Line::Keeps(131_072, 104, 1),
         Line::IsNotStarved,
+        Line::Starve(0),
+        Line::IsStarvedAfter(0),
+        Line::Run(1, "memory was refused"),
     ];
     let script = [Happens::Link(Some(7)), Happens::Bytes(START_CUT)];
     tell(&rt, rt.alloc(), &script, STORY)

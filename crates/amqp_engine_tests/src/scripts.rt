@@ -10,16 +10,19 @@ ghost use Rattle.amqp_engine.specs.declared.given.GivenStep.TheVariants as given
 ghost use Rattle.amqp_engine.specs.Turn.{talk};
 ghost use Rattle.amqp_engine.specs.Play.{replayed};
 ghost use Rattle.amqp_engine.specs.Valid.{SpelledFrame, AreSpelled, AreFrames, IsLinkedOnce, MomentsRise, EndsWithBytes, IsTimely, Valid};
-ghost use Rattle.amqp_engine_tests.specs.Scripts.{client, guest, opened, channel_opened, heartbeat, steps_at, comes, shut, closed_by_us, in_pieces, closed_by_them, blocked_a_while, heard_in_time, tunes_at_once, closes_cross, missed};
+ghost use Rattle.amqp_engine_tests.specs.Scripts.{client, guest, renewed, opened, channel_opened, heartbeat, steps_at, comes, shut, closed_by_us, in_pieces, closed_by_them, blocked_a_while, heard_in_time, messages_pass, token_renewed, tunes_at_once, closes_cross, missed};
 
 // Whole scripts: closed by the client, cut into other pieces, closed by the server, one in which the close
-// waits while the server blocks, and one in which it is silent for as long as it may be.
+// waits while the server blocks, one in which it is silent for as long as it may be, one with a channel, a
+// publish and a delivery, and one in which a token is told anew.
 fn are_valid()
     ensures closed_by_us { Valid client closed_by_us guest }
     ensures in_pieces { Valid client in_pieces guest }
     ensures closed_by_them { Valid client closed_by_them guest }
     ensures blocked_a_while { Valid client blocked_a_while guest }
     ensures heard_in_time { Valid client heard_in_time guest }
+    ensures messages_pass { Valid client messages_pass guest }
+    ensures token_renewed { Valid client token_renewed renewed }
 {}
 
 // A script in which the server is silent for too long, one in which it tunes before we logged in, and one
@@ -39,6 +42,8 @@ fn sessions_end_so()
     ensures closed_by_them { end_of (talk client (replayed client closed_by_them guest)) ≡ Some (Ok tt) }
     ensures blocked_a_while { end_of (talk client (replayed client blocked_a_while guest)) ≡ Some (Ok tt) }
     ensures heard_in_time { end_of (talk client (replayed client heard_in_time guest)) ≡ Some (Ok tt) }
+    ensures messages_pass { end_of (talk client (replayed client messages_pass guest)) ≡ Some (Ok tt) }
+    ensures token_renewed { end_of (talk client (replayed client token_renewed renewed)) ≡ Some (Ok tt) }
     ensures tunes_at_once { end_of (talk client (replayed client tunes_at_once guest)) ≡ Some (Ok tt) }
     ensures closes_cross { end_of (talk client (replayed client closes_cross guest)) ≡ Some (Ok tt) }
     ensures missed { end_of (talk client (replayed client missed guest)) ≡ Some (Err MissingHeartbeatError) }

@@ -1,7 +1,8 @@
 //! Stories of an engine and a port that plays a script, line by line.
 
+use crate::keeping::is_kept;
 use crate::support::{Happens, Outcome, our_close, port, shows, took, took_on};
-use amqp_engine::{IoLoop, MemoryPort, Port, ScriptedPort};
+use amqp_engine::{IoLoop, MemoryPort, Port, Record, ScriptedPort};
 use amqp_ring::Buffer;
 use amqp_session::{Answer, Cmd, ConnectionProperties, DefaultAuthProvider, Event};
 use amqp_types::NoMemory;
@@ -22,8 +23,11 @@ pub enum Line {
     Run(u64, &'static str),
     /// Asks for a link, where one is wanted.
     Ask,
-    /// Takes the port's next step, and applies it.
-    ApplyNext,
+    /// Takes the port's next step, and applies it; how many bytes each write of the turn took. No more is
+    /// noted of it.
+    ApplyNext(&'static [u64]),
+    /// Refuses memory before a turn of this moment.
+    Starve(u64),
     /// Closes the connection; the promise.
     Close(u64),
     /// Keeps events from then on. It makes no promise.
@@ -58,6 +62,10 @@ pub enum Line {
     Keeps(usize, usize, usize),
     /// No memory was refused.
     IsNotStarved,
+    /// What the engine is kept as, and a copy of that, stand as it does.
+    IsKept,
+    /// It was refused when so many parts of a turn were done.
+    IsStarvedAfter(u64),
 }
 
 /// Tells a story of a new engine over a port that plays a script. Where it fails, it prints the number
@@ -178,7 +186,8 @@ fn holds(alloc: Global, port: &mut MemoryPort, driven: &mut Driven, line: Line) 
     match line {
         Line::Run(turns, end) => return runs(alloc, port, driven, turns, end),
         Line::Ask => driven.engine.ask(port),
-        Line::ApplyNext => apply_next(port, driven)?,
+        Line::ApplyNext(tooks) => return applies_next(alloc, port, driven, tooks),
+        Line::Starve(at) => driven.engine.starve(at),
         Line::Close(promise) => return closes(alloc, &mut driven.engine, promise),
         Line::Listen => return listens(&mut driven.engine),
         _ => return gives(alloc, port, &mut driven.engine, line),
@@ -206,6 +215,8 @@ fn gives(alloc: Global, port: &MemoryPort, engine: &mut IoLoop, line: Line) -> O
                 && has_kept(engine.unsent(), capacity, unsent),
         ),
         Line::IsNotStarved => Ok(engine.starved().is_none()),
+        Line::IsKept => Ok(is_kept(engine)),
+        Line::IsStarvedAfter(parts) => Ok(engine.starved() == Some(parts)),
         _ => Ok(false),
     }
 }
@@ -229,10 +240,40 @@ fn runs(
     }
 }
 
-fn apply_next(port: &mut MemoryPort, driven: &mut Driven) -> Outcome<()> {
+// Whether the writes of a turn by the port's next step took so many bytes.
+fn applies_next(
+    alloc: Global,
+    port: &mut MemoryPort,
+    driven: &mut Driven,
+    tooks: &[u64],
+) -> Outcome<bool> {
     let mut space = [0; 4096];
     let told = port.next(&mut space);
-    Ok(driven.engine.apply(told, &[], port, &mut driven.provider)?)
+    let mut notes = Record::new(alloc);
+    let applied = driven
+        .engine
+        .apply(told, &[], port, &mut driven.provider, &mut notes);
+    let noted = match applied {
+        Ok(()) => is_noted_alone(alloc, &notes, tooks),
+        Err(error) => Err(error.into()),
+    };
+    drop(notes);
+    noted
+}
+
+// Whether a record, and a copy of it, have noted that so many bytes were taken, and no more.
+fn is_noted_alone(alloc: Global, notes: &Record, tooks: &[u64]) -> Outcome<bool> {
+    let copy = notes.try_clone(alloc)?;
+    let same = notes.tooks() == tooks && has_noted_alone(&copy, tooks);
+    drop(copy);
+    Ok(same)
+}
+
+fn has_noted_alone(notes: &Record, tooks: &[u64]) -> bool {
+    notes.tooks() == tooks
+        && !notes.failed()
+        && notes.auths().is_empty()
+        && notes.starved().is_none()
 }
 
 // Whether our close makes this promise.

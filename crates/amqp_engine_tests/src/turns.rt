@@ -11,7 +11,7 @@ fn turns_by_hand(rt: HostRuntime) -> Outcome<()> {
     const STORY: &[Line] = &[
         Line::Ask,
         Line::IsAsked,
-        Line::ApplyNext,
+        Line::ApplyNext(&[8]),
         Line::Took(&[HEADER]),
         Line::Close(1),
         Line::Refuses(1, "invalid connection state: Connecting"),

@@ -30,7 +30,8 @@ use Rattle.amqp_faultless.specs.Faultless.{ServerStage, Server, answers_to, is_f
 use Rattle.amqp_faultless.specs.Faultless.ServerStage.{BeforeStart, BeforeTune, BeforeOpenOk, Serving}
 use Rattle.amqp_session.proofs.Numbered.{put-same}
 use Rattle.amqp_faultless.proofs.Served.{Channels, given-by}
-use Rattle.amqp_faultless.proofs.Greeted.{Meets, IsMet, IsLimited, limit-in, Heard, meets-in, first-in, frame-acts, questions-act, connection-in, AreSaid, greets-push, greets-answered, greets-opened, heard-connected, heard-closing}
+use Rattle.amqp_faultless.proofs.Greeted.{Meets, IsMet, IsLimited, limit-in, Heard, meets-in, first-in, frame-acts, questions-act, connection-in, AreSaid, greets-push, greets-answered, greets-opened}
+use Rattle.amqp_faultless.proofs.WhileOpen.{heard-connected, heard-closing}
 use Rattle.amqp_types.proofs.Small.{some_is}
 
 -- the first promise is answered

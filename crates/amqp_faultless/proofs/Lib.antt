@@ -3,7 +3,9 @@
 pub mod Ordinary
 pub mod Uses
 pub mod Served
+pub mod ServedChannels
 pub mod Greeted
+pub mod WhileOpen
 -- The rules keep this tie: each frame that the server may say, commands and ticks, and what is committed and sent.
 pub mod Hears
 pub mod Tells

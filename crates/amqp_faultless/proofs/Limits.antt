@@ -15,7 +15,8 @@ use Rattle.amqp_session.specs.declared.committed.Mark.{Mark}
 use Rattle.amqp_faultless.specs.Faultless.{ServerStage, Server, opens_connection, is_frame_max, answers_to, serves, heard_from}
 use Rattle.amqp_faultless.specs.Faultless.ServerStage.{BeforeStart, BeforeTune, BeforeOpenOk, Serving, Gone}
 use Rattle.amqp_faultless.proofs.Served.{given-by, less-by, Channels}
-use Rattle.amqp_faultless.proofs.Greeted.{IsMet, IsLimited, serves-on-keeps, Meets}
+use Rattle.amqp_faultless.proofs.Greeted.{IsMet, IsLimited, Meets}
+use Rattle.amqp_faultless.proofs.WhileOpen.{serves-on-keeps}
 use Rattle.amqp_types.proofs.Small.{some_is}
 
 -- ---- how long a frame may be

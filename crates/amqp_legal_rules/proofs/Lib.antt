@@ -4,6 +4,15 @@ pub mod Ready
 pub mod Expecting
 pub mod Paying
 pub mod Losing
--- Each rule keeps it: those of channels, and all others.
+-- What is said and heard on channels keeps what ties them to the conversation.
 pub mod OnChannels
+pub mod OnCloses
+pub mod KeptChannels
+-- Each rule keeps the tie: where links end, frames, commands and ticks, what was sent, and links that come with what is
+-- committed on them.
 pub mod Conversing
+pub mod OnConnection
+pub mod OnFrames
+pub mod OnCommands
+pub mod OnSent
+pub mod OnLinks

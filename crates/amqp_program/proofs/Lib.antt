@@ -3,3 +3,5 @@ pub mod CapturedLines
 -- What follows the most that is read of a capture says nothing, and a capture that was answered (`checking`).
 pub mod MostCaptured
 pub mod Checked
+-- The script of a number is taken (`top`: `generated`).
+pub mod Numbers

@@ -22,44 +22,53 @@ fn side_name(side: Side) -> &'static str {
     }
 }
 
-// A place, with its line in the capture.
-fn put_place(
-    out: &mut String,
-    alloc: Global,
+// A place of one side of a link, and the octets of that side from there on.
+#[derive(Clone, Copy)]
+struct Place<'a> {
     side: Side,
     place: u64,
-    text: &[u8],
-) -> Result<(), NoMemory> {
-    if let Some(line) = line_of_octet(alloc, side, place, text)? {
-        write!(out, "line {line}, ")?;
-    }
-    let name = side_name(side);
-    write!(out, "{name} byte {place}: ")?;
-    Ok(())
+    rest: &'a [u8],
 }
 
-// The first octets at a place.
-fn put_octets(out: &mut String, octets: &[u8]) -> Result<(), NoMemory> {
+impl<'a> Place<'a> {
+    fn new(side: Side, octets: &'a [u8], place: u64) -> Place<'a> {
+        let rest = octets.get(place as usize..).unwrap_or(&[]);
+        Place { side, place, rest }
+    }
+}
+
+// The first two lines: a place, with its line in the capture, what is wrong there, and the first octets
+// at it.
+fn begin(alloc: Global, text: &[u8], at: Place<'_>, wrong: &str) -> Result<String, NoMemory> {
+    let mut out = String::new(alloc);
+    if let Some(line) = line_of_octet(alloc, at.side, at.place, text)? {
+        write!(out, "line {line}, ")?;
+    }
+    let name = side_name(at.side);
+    let place = at.place;
+    write!(out, "{name} byte {place}: {wrong}")?;
     out.push_str("\noctets:")?;
-    for octet in octets.iter().take(SHOWN) {
+    for octet in at.rest.iter().take(SHOWN) {
         write!(out, " {octet:02x}")?;
     }
     out.push_str("\n")?;
-    Ok(())
+    Ok(out)
 }
 
 // Why no frame stands at the front of these octets.
 fn put_cause(out: &mut String, alloc: Global, octets: &[u8]) -> Result<(), NoMemory> {
     match read_frame(alloc, &octets, u32::MAX) {
+        Read::NoMemory => return Err(NoMemory),
         Read::TooLarge(size) => write!(out, "no frame has as many octets as {size}")?,
         Read::BadHeartbeat(channel) => {
             write!(out, "a heartbeat stands on channel 0, and not on {channel}")?
         }
-        Read::NoMemory => return Err(NoMemory),
-        Read::Whole(frame, _) => drop(frame),
-        Read::More | Read::Bad => out.push_str(
-            "a frame has its type, its channel, its size, so many octets as its type may have, and ce",
-        )?,
+        other => {
+            drop(other);
+            out.push_str(
+                "a frame has its type, its channel, its size, so many octets as its type may have, and ce",
+            )?
+        }
     }
     Ok(())
 }
@@ -74,37 +83,17 @@ fn whole_len(octets: &[u8]) -> Option<u64> {
 }
 
 // What a capture has at a place where no frame stands.
-fn explain_bad(
-    alloc: Global,
-    text: &[u8],
-    side: Side,
-    octets: &[u8],
-    place: u64,
-) -> Result<String, NoMemory> {
-    let mut out = String::new(alloc);
-    let rest = octets.get(place as usize..).unwrap_or(&[]);
-    put_place(&mut out, alloc, side, place, text)?;
-    out.push_str("no frame stands here")?;
-    put_octets(&mut out, rest)?;
-    put_cause(&mut out, alloc, rest)?;
+fn explain_bad(alloc: Global, text: &[u8], at: Place<'_>) -> Result<String, NoMemory> {
+    let mut out = begin(alloc, text, at, "no frame stands here")?;
+    put_cause(&mut out, alloc, at.rest)?;
     Ok(out)
 }
 
 // What a capture has at a place where a frame is cut.
-fn explain_cut(
-    alloc: Global,
-    text: &[u8],
-    side: Side,
-    octets: &[u8],
-    place: u64,
-) -> Result<String, NoMemory> {
-    let mut out = String::new(alloc);
-    let rest = octets.get(place as usize..).unwrap_or(&[]);
-    let there = rest.len();
-    put_place(&mut out, alloc, side, place, text)?;
-    out.push_str("a frame begins here, and is not all there")?;
-    put_octets(&mut out, rest)?;
-    match whole_len(rest) {
+fn explain_cut(alloc: Global, text: &[u8], at: Place<'_>) -> Result<String, NoMemory> {
+    let mut out = begin(alloc, text, at, "a frame begins here, and is not all there")?;
+    let there = at.rest.len();
+    match whole_len(at.rest) {
         Some(whole) => write!(out, "{there} of its {whole} octets are there")?,
         None => write!(
             out,
@@ -132,10 +121,26 @@ fn explain_sides(alloc: Global, text: &[u8], sides: &Captured) -> Result<Option<
     let (client, server) = (&sides.client, &sides.server);
     Ok(match check(alloc, client, server)? {
         Verdict::Legal(..) => None,
-        Verdict::BadClient(at) => Some(explain_bad(alloc, text, Side::Client, client, at)?),
-        Verdict::CutClient(at) => Some(explain_cut(alloc, text, Side::Client, client, at)?),
-        Verdict::BadServer(at) => Some(explain_bad(alloc, text, Side::Server, server, at)?),
-        Verdict::CutServer(at) => Some(explain_cut(alloc, text, Side::Server, server, at)?),
+        Verdict::BadClient(at) => Some(explain_bad(
+            alloc,
+            text,
+            Place::new(Side::Client, client, at),
+        )?),
+        Verdict::CutClient(at) => Some(explain_cut(
+            alloc,
+            text,
+            Place::new(Side::Client, client, at),
+        )?),
+        Verdict::BadServer(at) => Some(explain_bad(
+            alloc,
+            text,
+            Place::new(Side::Server, server, at),
+        )?),
+        Verdict::CutServer(at) => Some(explain_cut(
+            alloc,
+            text,
+            Place::new(Side::Server, server, at),
+        )?),
         Verdict::Illegal(_) => Some(explain_illegal(alloc, text, client)?),
     })
 }

@@ -2,6 +2,8 @@
 
 ghost use Rattle.std.specs.Prelude.{◌≡◌, ◌≢◌, ◌⊎◌, ◌↔◌, ℕ, is_some, Some, None, IfSome, IsFalse};
 ghost use Rattle.amqp_replay.specs.Ends.{FailedOnce};
+ghost use Rattle.amqp_replay.specs.Generator.{generated};
+ghost use Rattle.amqp_replay.specs.GeneratedScenario.{generated_scenario};
 ghost use Rattle.amqp_replay.specs.Top.{handed_state, Replays, ReplaysSome, Generates, IsSilent};
 ghost use Rattle.amqp_program.specs.Asked.{asked_by_words, reads_source};
 ghost use Rattle.amqp_program.specs.Checks.{ChecksCapture, ChecksSomeCapture};
@@ -44,7 +46,8 @@ pub fn top<S: Source, K: Sink, P: ScriptedPort, A: AuthProvider>(
         ⊎ ReplaysSome (is_some handed) (handed_state A.allows handed) (S.left source.old) (P.log port.new)
         (K.held sink.old) (K.held sink.new) result }
     ensures generated { (count : ℕ) → asked_by_words words.now ≡ Some (Asked.Generate count) → (result ≡ NO_MEMORY)
-        ⊎ Generates count (P.log port.new) (K.held sink.old) (K.held sink.new) result }
+        ⊎ Generates (generated count) (generated_scenario count) (P.log port.new)
+        (K.held sink.old) (K.held sink.new) result }
     ensures checked { asked_by_words words.now ≡ Some Asked.Check
         → IfSome (S.left source.old) (λ text. IsSilent result
         ⊎ ChecksCapture text (K.held sink.old) (K.held sink.new) result) }

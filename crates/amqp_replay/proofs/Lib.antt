@@ -10,7 +10,9 @@ pub mod DelayLemmas
 pub mod FreeLines
 pub mod Printable
 pub mod Steps
+pub mod Settings
 pub mod Pieces
+pub mod Sayables
 -- A provider that was not handed is not asked for (`laws`).
 pub mod Handed
 -- What follows the most that is read says nothing (`answering`: `outcome`).
@@ -23,6 +25,12 @@ pub mod FrameLines
 pub mod EventLines
 -- A generated script, and its summary (`generator`, `summary`).
 pub mod Generating
+-- A generated script is taken (`laws`): lines that say steps, what each says, and those of the script.
+pub mod TakenLines
+pub mod SpelledLines
+pub mod GeneratedLines
+-- A count of failures (`memory_ends`, `stream_ends`).
+pub mod Faults
 -- What was read and what was written (`transfer`).
 pub mod Streams
 -- A replay, from the contracts of the port and the engine; the statuses (`answering`).

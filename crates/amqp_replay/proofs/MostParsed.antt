@@ -2,7 +2,6 @@
 -- nothing.
 use Rattle.std.proofs.Common.{◌≡◌, ◌<◌, ◌-◌, ◌&&◌, nat_le, if◌then◌else◌, ℕ, Bool, true, false, List, ◌∷◌, take, Result, Err, refl, ap, arith}
 use Rattle.std.proofs.lemmas.Bool.Decides.{nat_tests}
-use Rattle.std.proofs.lemmas.Grind.{common_steps}
 use Rattle.amqp_replay.specs.declared.grammar.Said.{Said}
 use Rattle.amqp_replay.specs.declared.grammar.Said.TheVariants.{Refused}
 use Rattle.amqp_replay.specs.declared.limits.TheConstants.{MOST_READ, SCRIPT_BYTES, SCRIPT_LINES, ZERO_BYTES}

@@ -18,10 +18,13 @@ use Rattle.amqp_replay.specs.Decimals.{number_16, number_64}
 use Rattle.amqp_replay.specs.Data.{SpelledBytes, spelled}
 use Rattle.amqp_replay.specs.declared.setup.Setting.{Setting}
 use Rattle.amqp_replay.specs.Setup.{is_setup, setting_of}
+use Rattle.amqp_replay.proofs.Settings.{IsSayable, MaySet, set-line}
 use Rattle.amqp_replay.specs.Grammar.{step_or_refused, lone, link_line, room_line, piece_said, bytes_line, closes_by, closes, shut_line, numbered, closes_numbered, close_line, number_in, rest_of, is_passed_class, sent_method, sends_data, data_in, sends, send_line, Published, zeros_published, published_in, publishes_data, publishes, publish_line, switch_in, flow_said, flow_line, first_data_in, secrets, secret_line, command_of_words, line_of_words, words_say, words_timed, is_at_sign, step_line, setup_or_refused, content_says, says, limited}
 
+-- a piece has a length that a port can give, and what a line sets can be said
 abbrev pub SaysPiece : Said → Type 0
 SaysPiece (Step what n) = IsGivenPiece what
+SaysPiece (Setup setting) = IsSayable setting
 SaysPiece _ = Unit {0}
 
 if_case : (b : Bool) (x y : Said) → SaysPiece x → SaysPiece y → SaysPiece (if b then x else y)
@@ -166,20 +169,20 @@ of_step_line (b ∷ bs) =
     if_case (is_at_sign b) (words_timed (number_64 (first_word bs)) (after_word bs)) (words_say (b ∷ bs))
     (of_timed (number_64 (first_word bs)) (after_word bs)) (of_words_say (b ∷ bs))
 
-of_setup : (o : Option Setting) → SaysPiece (setup_or_refused o)
-of_setup None = tt
-of_setup (Some setting) = tt
+of_setup : (o : Option Setting) → MaySet o → SaysPiece (setup_or_refused o)
+of_setup None p = tt
+of_setup (Some setting) p = p
 
 of_content : (content : List ℕ) → SaysPiece (content_says content)
 of_content content =
     if_case (not (list_all is_printable content)) Refused _ tt
     (if_case (is_ignored content) Nothing _ tt
-    (if_case (is_setup content) (setup_or_refused (setting_of content)) (step_line content) (of_setup (setting_of content)) (of_step_line content)))
+    (if_case (is_setup content) (setup_or_refused (setting_of content)) (step_line content) (of_setup (setting_of content) (set-line content)) (of_step_line content)))
 
 of_limited : (left : ℕ) (said : Said) → SaysPiece said → SaysPiece (limited left said)
 of_limited left Nothing p = tt
 of_limited left Refused p = tt
-of_limited left (Setup setting) p = tt
+of_limited left (Setup setting) p = p
 of_limited left (Step what n) p = if_case (nat_le n left) (Step what n) Refused p tt
 
 pub says_piece : (left : ℕ) (line : Line) → SaysPiece (limited left (says line))

@@ -5,29 +5,43 @@ use Rattle.amqp_auth.specs.Providers.{Exchange, Allows}
 use Rattle.amqp_auth.specs.DefaultAnswers.{DefaultAuth}
 use Rattle.amqp_session.specs.declared.command.Cmd.TheVariants.{Listen}
 use Rattle.amqp_session.specs.Config.{Config}
-use Rattle.amqp_session.specs.Talk.{Talk}
+use Rattle.amqp_session.specs.Talk.{Talk, has_ended}
 use Rattle.amqp_engine.specs.declared.given.Given.{Given}
 use Rattle.amqp_engine.specs.Log.{Log, loaded}
 use Rattle.amqp_engine.specs.Engine.{Engine, begin}
+use Rattle.amqp_engine.specs.Turn.{AreTurns}
 use Rattle.amqp_engine.specs.Play.{IsPlayed}
-use Rattle.amqp_engine.specs.Saying.{HasSent, new, told, TellsLinks, SpellLegal}
+use Rattle.amqp_written_rules.specs.Sayable.{CanBeSaid}
+use Rattle.amqp_engine.specs.Saying.{HasSent, new, told, TellsLinks}
 use Rattle.amqp_engine.specs.Account.{IsNew}
 use Rattle.amqp_engine.proofs.Carrying.{all-carried}
 use Rattle.amqp_engine.proofs.Playing.{played-are-turns}
+use Rattle.amqp_engine.proofs.SpelledLinks.{turns-spell}
+use Rattle.amqp_engine.proofs.TurnEnds.{turns-cause}
 use Rattle.amqp_replay.specs.Grammar.{Scenario}
-use Rattle.amqp_replay.specs.Top.{set_up, session_of, engine_of, replayed_turns, replayed_log, replayed_links, replayed_exchange, handed_state, AreProvidersAnswers, reported, summed, printout, generated_printout}
-use Rattle.amqp_replay.specs.Runs.{IsReplayed, IsMade}
+use Rattle.amqp_replay.specs.Top.{set_up, session_of, engine_of, replayed_turns, replayed_log, replayed_links, replayed_exchange, handed_state, AreProvidersAnswers, reported, summed, printout}
+use Rattle.amqp_replay.specs.Runs.{IsReplayed, IsMade, made_of_generated}
 use Rattle.amqp_replay.specs.Report.{Printout}
 
 -- an engine has sent nothing before its first step
 pub silent : (listens : Bool) (config : Config) → HasSent (begin (set_up listens config)) []
-silent true config = told Listen tt (new config)
+silent true config = told Listen tt tt (new config)
 silent false config = new config
 
 -- its session was told nothing, but perhaps to listen
 pub is-new : (listens : Bool) (config : Config) → IsNew (set_up listens config)
 is-new true config = (config, inr refl)
 is-new false config = (config, inl refl)
+
+-- listening does not change what it is made from
+set-up-said : (listens : Bool) (config : Config) → CanBeSaid config → CanBeSaid (set_up listens config).config
+set-up-said true config can = can
+set-up-said false config can = can
+
+-- and has not ended
+has-begun : (listens : Bool) (config : Config) → has_ended (set_up listens config) ≡ false
+has-begun true config = refl
+has-begun false config = refl
 
 -- and a port that was loaded tells so
 pub tells-nothing : (listens : Bool) (config : Config) (gs : List Given) → TellsLinks (begin (set_up listens config)) [] (loaded gs)
@@ -46,24 +60,26 @@ ties_at log a links h ties =
 -- it leads to the state and the links of the replay, and the port tells of it
 pub IsReplayed-run : (s : Scenario) (n : ℕ) (e e' : Engine) (before after : Option Log) (links : List (List ℕ)) (state : Exchange → Type 0)
     → n ≡ length s.steps → e ≡ engine_of s → before ≡ Some (loaded s.steps) → Plays n e e' before after state → e'.starved ≡ None
-    → IfSome after (λ a. a.links ≡ links) → ((a : Log) → after ≡ Some a → SpellLegal a.links) → IsReplayed state s e'.talk links after
-IsReplayed-run s n e e' before after links state count fresh loads plays whole ties legal =
+    → IfSome after (λ a. a.links ≡ links) → IsReplayed state s e'.talk links after
+IsReplayed-run s n e e' before after links state count fresh loads plays whole ties =
     let A : ℕ → Type 0 = λ x. Plays x e e' before after state in
     let B : Engine → Type 0 = λ x. Plays (length s.steps) x e' before after state in
     let C : Option Log → Type 0 = λ x. Plays (length s.steps) (engine_of s) e' x after state in
     let played : IsPlayed (length s.steps) (engine_of s) e' (loaded s.steps) after state =
     subst C loads (subst B fresh (subst A count plays)) refl whole in
     let answers = played.answers in
+    let may : AreTurns (replayed_turns s answers) (engine_of s) = played-are-turns (length s.steps) answers (engine_of s) (loaded s.steps) played.answered in
     record {
       answers = answers;
       may = record { answered = played.answered; allowed = played.exchanged };
       talk_is = sym (ap (λ (x : Engine). x.talk) played.engine);
       links_are = sym (ties_at after (replayed_log s answers) links played.told ties);
-      told = record {
+      told = λ can. record {
         told = played.told;
-        legal = legal (replayed_log s answers) played.told;
-        carried = all-carried (session_of s) (replayed_turns s answers) (is-new s.listens s.config)
-            (played-are-turns (length s.steps) answers (engine_of s) (loaded s.steps) played.answered) played.steps_told;
+        legal = turns-spell (session_of s) (replayed_turns s answers) (loaded s.steps) (is-new s.listens s.config) (silent s.listens s.config)
+            (tells-nothing s.listens s.config s.steps) (set-up-said s.listens s.config can) may played.steps_told played.fit;
+        carried = all-carried (session_of s) (replayed_turns s answers) (is-new s.listens s.config) may played.steps_told;
+        cause = λ k h. turns-cause (replayed_turns s answers) (engine_of s) k (has-begun s.listens s.config) may h;
       };
     }
 
@@ -130,7 +146,7 @@ IsMade-reported state s t links log p made is =
     }
 
 pub IsMade-summed : (state : Scenario → Exchange → Type 0) (script : List ℕ) (s : Scenario) (t : Talk) (links : List (List ℕ)) (log : Option Log)
-    (p : Printout) → p ≡ summed script links t → IsReplayed (state s) s t links log → IsMade state (Ok s) (generated_printout script) log p
+    (p : Printout) → p ≡ summed script links t → IsReplayed (state s) s t links log → IsMade state (Ok s) (made_of_generated script) log p
 IsMade-summed state script s t links log p made is =
     record {
       answers = is.answers;

@@ -1,5 +1,5 @@
 -- Which statuses a printout has.
-use Rattle.std.proofs.Common.{◌≡◌, ◌≢◌, ◌<◌, ◌⊎◌, sym, inl, inr, refl, ℕ, Bool, List, take, Option, Some, None, IfSome, Result, Ok, Err, ap, ◌∙◌, subst, arith}
+use Rattle.std.proofs.Common.{◌≡◌, ◌≢◌, ◌<◌, ◌⊎◌, sym, inl, inr, refl, ℕ, Bool, List, take, Option, Some, None, IfSome, Result, Ok, Err, MatchResult, ap, ◌∙◌, subst, arith}
 use Rattle.amqp_auth.specs.declared.asked.Asked.{Asked}
 use Rattle.amqp_promise.specs.declared.error.ErrorKind.{ErrorKind}
 use Rattle.amqp_auth.specs.Providers.{Exchange}
@@ -16,7 +16,8 @@ use Rattle.amqp_replay.specs.declared.status.TheConstants.{CLOSED, REFUSED, USAG
 use Rattle.amqp_replay.specs.Grammar.{Scenario, parsed}
 use Rattle.amqp_replay.proofs.MostParsed.{parsed-most}
 use Rattle.amqp_replay.specs.Report.{Printout}
-use Rattle.amqp_replay.specs.Top.{session_of, provider_state, MayAnswer, IsValid, end_status, replayed_talk, printout, generated_printout, TellsReplay, Prints, Replays, ReplaysSome, IsSilent}
+use Rattle.amqp_replay.specs.Top.{session_of, own_state, provider_state, MayAnswer, IsValid, end_status, replayed_talk, refused_printout, printout, generated_printout, TellsReplay, Prints, Replays, ReplaysSome, Generates, IsSilent}
+use Rattle.amqp_replay.specs.Runs.{made_of_generated}
 use Rattle.amqp_replay.proofs.Replaying.{is-new}
 
 -- a status with which something is printed, though nothing failed
@@ -45,10 +46,10 @@ pub printout-IsLoud : (script : Result Scenario ℕ) (answers : List Asked) → 
 printout-IsLoud (Err number) answers = loud_status REFUSED (inl (omega arith))
 printout-IsLoud (Ok s) answers = loud_end (end_of (replayed_talk s answers))
 
-pub generated_printout-IsLoud : (script : List ℕ) (read : Result Scenario ℕ) (answers : List Asked)
-    → IsLoud (generated_printout script read answers).status
-generated_printout-IsLoud script (Err number) answers = loud_status REFUSED (inl (omega arith))
-generated_printout-IsLoud script (Ok s) answers = loud_end (end_of (replayed_talk s answers))
+pub made_of_generated-IsLoud : (script : List ℕ) (read : Result Scenario ℕ) (answers : List Asked)
+    → IsLoud (made_of_generated script read answers).status
+made_of_generated-IsLoud script (Err number) answers = loud_status REFUSED (inl (omega arith))
+made_of_generated-IsLoud script (Ok s) answers = loud_end (end_of (replayed_talk s answers))
 
 -- ---- a printout that was written
 
@@ -104,17 +105,46 @@ valid-closed end state (Err number) answers may valid = absurd valid
 valid-closed end state (Ok s) answers may valid =
     ap end_status (end (session_of s) s.steps answers (is-new s.listens s.config) may.answered valid)
 
-pub generated-closed : EndClosed → (script : List ℕ) (state : Scenario → Exchange → Type 0) (read : Result Scenario ℕ) (answers : List Asked)
-    → MayAnswer state read answers → IsValid read answers → (generated_printout script read answers).status ≡ CLOSED
-generated-closed end script state (Err number) answers may valid = absurd valid
-generated-closed end script state (Ok s) answers may valid =
-    ap end_status (end (session_of s) s.steps answers (is-new s.listens s.config) may.answered valid)
-
 -- and so is the status that is answered, unless the sink failed
-pub closed-printed : (p : Printout) (before after : Option (List ℕ)) (status : ℕ) → Prints p before after status → p.status ≡ CLOSED
+closed-printed : (p : Printout) (before after : Option (List ℕ)) (status : ℕ) → Prints p before after status → p.status ≡ CLOSED
     → (status ≡ CLOSED) ⊎ (status ≡ SINK_FAILED)
 closed-printed p before after status (inl whole) closed = inl (whole.0 ∙ closed)
 closed-printed p before after status (inr front) closed = inr front.0
+
+-- what is answered where q was handed to a sink, which is p, and p says Closed of a valid script
+pub record Answered (p : Printout) (before after : Option (List ℕ)) (R valid : Type 0) (status : ℕ) : Type 0 where
+  pub written : Written before after R status
+  pub prints : Prints p before after status
+  pub closed : valid → (status ≡ CLOSED) ⊎ (status ≡ SINK_FAILED)
+
+pub answered : (R valid : Type 0) (p q : Printout) (before after : Option (List ℕ)) (status : ℕ) → q ≡ p → IsLoud p.status → (valid → p.status ≡ CLOSED)
+    → (status ≡ q.status) ⊎ R → Prints q before after status → Answered p before after R valid status
+answered R valid p q before after status is loud ends cause prints =
+    let L : Printout → Type 0 = λ x. IsLoud x.status in
+    let P : Printout → Type 0 = λ x. Prints x before after status in
+    let printed : Prints p before after status = subst P is prints in
+    record {
+      written = written R q before after status (subst L (sym is) loud) cause prints;
+      prints = printed;
+      closed = λ holds. closed-printed p before after status printed (ends holds);
+    }
+
+-- ---- a generated script that was answered
+
+pub Generates-made : EndClosed → (script : List ℕ) (read : Result Scenario ℕ) (answers : List Asked) (log : Option Log)
+    (before after : Option (List ℕ)) (status : ℕ)
+    → MayAnswer own_state read answers → TellsReplay read answers log → Prints (made_of_generated script read answers) before after status
+    → MatchResult read (λ s. Generates script s log before after status) (λ number. Prints (refused_printout number) before after status)
+Generates-made end script (Err number) answers log before after status may told prints = prints
+Generates-made end script (Ok s) answers log before after status may told prints =
+    record {
+      answers = answers;
+      may = may;
+      told = told;
+      prints = prints;
+      closed = λ valid. closed-printed (generated_printout script s answers) before after status prints
+          (ap end_status (end (session_of s) s.steps answers (is-new s.listens s.config) may.answered valid));
+    }
 
 -- ---- a script that was read and answered
 

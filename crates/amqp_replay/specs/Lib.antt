@@ -14,8 +14,9 @@ pub mod Reasons
 -- What is printed.
 pub mod Report
 pub mod Summary
--- The script that a number makes.
+-- The script that a number makes, and what it says.
 pub mod Generator
+pub mod GeneratedScenario
 -- What a replay promises.
 pub mod Top
 -- What the contracts of its private calls say of a run.

@@ -12,15 +12,16 @@ use Rattle.amqp_engine.specs.Log.{Log, loaded}
 use Rattle.amqp_engine.specs.Engine.{Engine, begin}
 use Rattle.amqp_engine.specs.Turn.{Turn, talk, exchanges}
 use Rattle.amqp_engine.specs.Tell.{log_turns}
+use Rattle.amqp_engine.specs.Sending.{Sending, sendings}
+use Rattle.amqp_engine.specs.Causes.{IsCaused}
 use Rattle.amqp_engine.specs.Play.{replayed, AreAnswered}
 use Rattle.amqp_engine.specs.Saying.{SpellLegal}
 use Rattle.amqp_engine.specs.Carried.{Carried}
-use Rattle.amqp_engine.specs.Account.{account}
+use Rattle.amqp_engine.specs.Account.{account, history_of}
 use Rattle.amqp_engine.specs.Valid.{Valid}
 use Rattle.amqp_replay.specs.declared.limits.TheConstants.{MOST_READ}
 use Rattle.amqp_replay.specs.declared.status.TheConstants.{CLOSED, REFUSED, USAGE, SOURCE_FAILED, SINK_FAILED, FAILED, RUNNING, NO_MEMORY}
 use Rattle.amqp_replay.specs.Grammar.{Scenario, parsed}
-use Rattle.amqp_replay.specs.Generator.{generated}
 use Rattle.amqp_replay.specs.Report.{Printout, report, refusal}
 use Rattle.amqp_replay.specs.Summary.{first_len, summary}
 
@@ -52,6 +53,10 @@ replayed_log s answers = log_turns (replayed_turns s answers) (engine_of s) (loa
 -- the bytes of each link
 abbrev pub replayed_links : Scenario → List Asked → List (List ℕ)
 replayed_links s answers = (replayed_log s answers).links
+
+-- what was committed on each link, and how far it was sent
+abbrev pub replayed_sendings : Scenario → List Asked → List Sending
+replayed_sendings s answers = sendings (session_of s) (replayed_turns s answers)
 
 -- the state of the session that it leads to
 abbrev pub replayed_talk : Scenario → List Asked → Talk
@@ -115,23 +120,31 @@ summed script links t = record { status = end_status (end_of t); text = script +
 
 -- ---- what is printed of a script, and with which status
 
+-- what is printed of a script with a refused line
+abbrev pub refused_printout : ℕ → Printout
+refused_printout number = record { status = REFUSED; text = refusal number }
+
 -- what is printed of what a script says
 abbrev pub printout : Result Scenario ℕ → List Asked → Printout
-printout (Err number) answers = record { status = REFUSED; text = refusal number }
+printout (Err number) answers = refused_printout number
 printout (Ok s) answers = reported (replayed_links s answers) (replayed_talk s answers)
 
--- what is printed of a generated script, by what it says
-abbrev pub generated_printout : List ℕ → Result Scenario ℕ → List Asked → Printout
-generated_printout script (Err number) answers = record { status = REFUSED; text = refusal number }
-generated_printout script (Ok s) answers = summed script (replayed_links s answers) (replayed_talk s answers)
+-- what is printed of a generated script that says this
+abbrev pub generated_printout : List ℕ → Scenario → List Asked → Printout
+generated_printout script s answers = summed script (replayed_links s answers) (replayed_talk s answers)
 
 -- the port tells of the run: its steps, the writes to it with their answers, and the bytes of the links, which are
--- printed; on each link they spell the frames of a legal conversation, in order, and then a part of one more; and
--- nothing is torn, swapped or sent twice, nor handed out that did not come
+-- printed; on each link they spell the frames that the run sent, in order, and then a part of one more, and all that it
+-- committed there is a legal conversation, keeps the agreed numbers and can be written; no send and no publish is torn,
+-- swapped or sent twice, and nothing is handed out that did not come
 pub record TellsRun (s : Scenario) (answers : List Asked) (log : Option Log) : Type 0 where
   pub told : log ≡ Some (replayed_log s answers)
-  pub legal : SpellLegal (replayed_links s answers)
-  pub carried : Carried (account (session_of s) (replayed_turns s answers))
+  pub legal : SpellLegal (replayed_sendings s answers) (replayed_links s answers)
+  pub carried :
+      Carried (account (replayed_talk s answers) (history_of (session_of s) (replayed_turns s answers)))
+  -- where the session ended with an error, the last of its turns brought that about
+  pub cause : (k : ErrorKind) → end_of (replayed_talk s answers) ≡ Some (Err k) →
+      IsCaused k (replayed_turns s answers) (engine_of s)
 
 -- the port tells of the run of a script of which no line is refused
 abbrev pub TellsReplay : Result Scenario ℕ → List Asked → Option Log → Type 0
@@ -173,16 +186,16 @@ pub record ReplaysSome (is_handed : Bool) (handed : Exchange → Type 0) (left :
   pub read : IfSome left (λ all. script ≡ take MOST_READ all)
   pub replays : Replays is_handed handed script log before after status
 
--- a number was answered: with the answers of the provider of the address, the sink took the script that the number
--- makes, with the summary of its run, and the port tells of that run; where the script is valid, the status says that
--- its session ended Closed, or that the sink failed
-pub record Generates (count : ℕ) (log : Option Log) (before after : Option (List ℕ)) (status : ℕ) : Type 0 where
+-- a generated script that says this was answered: with the answers of the provider of the address, the sink took it,
+-- with the summary of its run, and the port tells of that run; where it is valid, the status says that its session
+-- ended Closed, or that the sink failed
+pub record Generates (script : List ℕ) (s : Scenario) (log : Option Log) (before after : Option (List ℕ)) (status : ℕ)
+    : Type 0 where
   pub answers : List Asked
-  pub may : MayAnswer own_state (parsed false (generated count)) answers
-  pub told : TellsReplay (parsed false (generated count)) answers log
-  pub prints :
-      Prints (generated_printout (generated count) (parsed false (generated count)) answers) before after status
-  pub closed : IsValid (parsed false (generated count)) answers → (status ≡ CLOSED) ⊎ (status ≡ SINK_FAILED)
+  pub may : AreRunAnswers (own_state s) s answers
+  pub told : TellsRun s answers log
+  pub prints : Prints (generated_printout script s answers) before after status
+  pub closed : Valid (session_of s) s.steps answers → (status ≡ CLOSED) ⊎ (status ≡ SINK_FAILED)
 
 -- wrong words, a source that failed, and want of memory print nothing
 abbrev pub IsSilent : ℕ → Type 0

@@ -1,6 +1,6 @@
 //! A script that is replayed, or made of a number, and the status that goes with it.
 
-ghost use Rattle.std.specs.Prelude.{◌≡◌, ◌≢◌, ◌⊎◌, ◌↔◌, ℕ, length, is_some, false, Some, None, Ok, IfOk, IfSome, OnOk, if◌then◌else◌};
+ghost use Rattle.std.specs.Prelude.{◌≡◌, ◌≢◌, ◌⊎◌, ◌↔◌, ℕ, length, is_some, false, Some, None, Ok, IfOk, IfSome, OnOk, MatchResult, if◌then◌else◌};
 ghost use Rattle.std.specs.String.{string_bytes};
 ghost use Rattle.amqp_session.specs.Config.{config_of};
 ghost use Rattle.amqp_session.specs.Talk.{end_of};
@@ -12,8 +12,8 @@ ghost use Rattle.amqp_replay.specs.Grammar.{Scenario, parsed};
 ghost use Rattle.amqp_replay.specs.Generator.{generated};
 ghost use Rattle.amqp_replay.specs.Scripts.{script_read, ScriptArePieces};
 ghost use Rattle.amqp_replay.specs.Ends.{FailedOnce};
-ghost use Rattle.amqp_replay.specs.Top.{set_up, engine_of, handed_state, own_state, provider_state, end_status, reported, summed, printout, generated_printout, Replays, ReplaysSome, Generates, IsSilent};
-ghost use Rattle.amqp_replay.specs.Runs.{IsReplayed, IsMade};
+ghost use Rattle.amqp_replay.specs.Top.{set_up, engine_of, handed_state, own_state, provider_state, end_status, reported, summed, printout, refused_printout, Prints, Replays, ReplaysSome, Generates, IsSilent};
+ghost use Rattle.amqp_replay.specs.Runs.{IsReplayed, IsMade, made_of_generated};
 
 use crate::ends::{Sink, Source};
 use crate::generator::generated;
@@ -98,8 +98,9 @@ pub fn generate<K: Sink, P: ScriptedPort>(
     ensures sink_failed { result ≡ SINK_FAILED → FailedOnce (K.faults sink.old) (K.faults sink.new) }
     ensures sink_kept { result ≢ SINK_FAILED → K.faults sink.new ≡ K.faults sink.old }
     ensures silent { IsSilent result → K.held sink.new ≡ K.held sink.old }
-    ensures outcome { (result ≡ NO_MEMORY)
-        ⊎ Generates count (P.log port.new) (K.held sink.old) (K.held sink.new) result }
+    ensures outcome { (result ≡ NO_MEMORY) ⊎ MatchResult (parsed false (generated count))
+        (λ s. Generates (generated count) s (P.log port.new) (K.held sink.old) (K.held sink.new) result)
+        (λ number. Prints (refused_printout number) (K.held sink.old) (K.held sink.new) result) }
 {
     // What is printed of a script of a faultless server says that its session ended Closed.
     a_valid_script_ends_closed();
@@ -132,7 +133,7 @@ fn print_number<P: ScriptedPort>(
     count: u16,
     port: &mut P,
 ) -> Result<Printout, NoMemory>
-    ensures { IfOk result (IsMade own_state (parsed false (generated count)) (generated_printout (generated count))
+    ensures { IfOk result (IsMade own_state (parsed false (generated count)) (made_of_generated (generated count))
         (P.log port.new)) }
 {
     let script = generated(alloc, count)?;
@@ -148,7 +149,7 @@ fn print_generated<P: ScriptedPort>(
     port: &mut P,
 ) -> Result<Printout, NoMemory>
     requires { ScriptArePieces read }
-    ensures { IfOk result (IsMade own_state (script_read read) (generated_printout (string_bytes script))
+    ensures { IfOk result (IsMade own_state (script_read read) (made_of_generated (string_bytes script))
         (P.log port.new)) }
 {
     match read {
@@ -186,7 +187,7 @@ fn print_generated_scenario<P: ScriptedPort>(
     port: &mut P,
 ) -> Result<Printout, NoMemory>
     requires { ArePieces scenario.steps }
-    ensures { IfOk result (IsMade own_state (Ok scenario) (generated_printout (string_bytes script))
+    ensures { IfOk result (IsMade own_state (Ok scenario) (made_of_generated (string_bytes script))
         (P.log port.new)) }
 {
     let mut engine = play_alone(alloc, scenario, port)?;
@@ -296,7 +297,7 @@ fn play_by<P: ScriptedPort, A: AuthProvider>(
     alloc: Global,
     scenario: Scenario,
     port: &mut P,
-    provider: A,
+    mut provider: A,
 ) -> Result<IoLoop, NoMemory>
     requires pieces { ArePieces scenario.steps }
     requires can { A.can provider }
@@ -311,7 +312,6 @@ fn play_by<P: ScriptedPort, A: AuthProvider>(
         steps,
     } = scenario;
     let turns = steps.len() as u64;
-    let (options, mut provider) = options.with_auth_provider(provider).into_parts();
     if let Err(e) = port.load(steps) {
         drop(uri);
         drop(options);

@@ -27,7 +27,10 @@ pub mod words;
 
 pub use answering::{generate, replay};
 pub use ends::{Gave, Put, Sink, Source};
-pub use laws::{a_report_has_the_frames_sent, no_script_names_a_provider_that_was_not_handed};
+pub use laws::{
+    a_generated_script_is_taken, a_report_has_the_frames_sent,
+    no_script_names_a_provider_that_was_not_handed,
+};
 pub use memory_ends::{MemorySink, MemorySource};
 pub use report::Printout;
 pub use script::{ended_at, line_of_step};

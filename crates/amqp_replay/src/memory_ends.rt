@@ -39,6 +39,7 @@ impl<'a> Failing<'a> {
     }
 
     // Counts a failure.
+    #[tactic(auto, using(crate::proofs::Faults::counted))]
     fn fail(&mut self)
         ensures { FailedOnce self.old.faults self.new.faults }
     {

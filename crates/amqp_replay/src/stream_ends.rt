@@ -54,6 +54,7 @@ impl<R: Read> Source for Reading<R> {
 
     ghost faults = { λ s. s.faults };
 
+    #[tactic(auto, using(crate::proofs::Faults::counted))]
     fn read(&mut self, buffer: &mut [u8]) -> Gave {
         match read_again(&mut self.reader, buffer) {
             Ok(n) => {
@@ -100,6 +101,7 @@ impl<W: Write> Sink for Writing<W> {
 
     ghost faults = { λ s. s.faults };
 
+    #[tactic(auto, using(crate::proofs::Faults::counted))]
     fn write(&mut self, bytes: &[u8]) -> Put {
         match write_again(&mut self.writer, bytes) {
             Ok(n) if n > 0 || bytes.is_empty() => Put::Took(n),

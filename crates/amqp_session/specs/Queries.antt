@@ -1,5 +1,7 @@
--- What is told of a channel.
-use Rattle.std.specs.Prelude.{ℕ, Bool, false, Option, Some, None, option_map, unwrap_or}
+-- What is told of a channel, and what `Debug` prints of a session.
+use Rattle.std.specs.Prelude.{ℕ, Bool, false, List, ◌++◌, length, codes, Option, Some, None, option_map, unwrap_or}
+use Rattle.std.specs.Fmt.{decimal}
+use Rattle.amqp_promise.specs.Errors.{state_name}
 use Rattle.amqp_promise.specs.declared.state.ConnectionState.{ConnectionState}
 use Rattle.amqp_promise.specs.declared.state.ConnectionState.TheVariants.{Error}
 use Rattle.amqp_promise.specs.declared.state.ChannelState.{ChannelState}
@@ -31,3 +33,14 @@ confirm r t = unwrap_or (option_map (λ (c : Channel). c.confirm) (named r t)) f
 -- the number of the listed channel that a promise opened
 abbrev pub opening : ℕ → Talk → Option ℕ
 opening opened t = opening_in opened t.channels
+
+-- a session as it is shown: its state, how many channels are listed, and how many promises were made
+abbrev pub session_debug : Talk → List ℕ
+session_debug t =
+    codes "Session { state: "
+    ++ state_name t.state
+    ++ codes ", channels: "
+    ++ decimal (length t.channels)
+    ++ codes ", promises: "
+    ++ decimal t.made
+    ++ codes ", .. }"

@@ -36,6 +36,15 @@ impl Capacity {
         }
     }
 
+    /// The same capacity.
+    pub fn copied(&self) -> Capacity
+        ensures { result.octets ≡ self.now.octets }
+    {
+        Capacity {
+            octets: self.octets,
+        }
+    }
+
     /// The capacity for frames of at most so many octets, and never less than it was.
     pub fn grown(&self, frame_max: FrameSize) -> Capacity
         ensures { result.octets ≡ max self.now.octets (capacity_for frame_max) }

@@ -10,6 +10,7 @@ ghost use Rattle.amqp_session.specs.Openings.{opener};
 ghost use Rattle.amqp_session.specs.Recovery.{is_kept_in, reconnecting, kept};
 ghost use Rattle.amqp_session.specs.Reopening.{listed_after, agreed, numbers_after};
 
+use crate::copies::{Copied, by_channel, by_number};
 use crate::id_sequence::IdSequence;
 use crate::numbers::Numbers;
 use amqp_promise::{ChannelState, ErrorKind};
@@ -119,6 +120,12 @@ impl Channel {
     }
 }
 
+impl Copied for Channel {
+    fn copied(&self, _alloc: Global) -> Result<Channel, NoMemory> {
+        Ok(*self)
+    }
+}
+
 /// The listed channels, by their numbers, and the cursor from which the next number is drawn.
 #[derive(Debug, Drop)]
 pub struct Channels {
@@ -167,6 +174,23 @@ impl Channels {
             stopped: 0,
             sequence: IdSequence::new(false),
         }
+    }
+
+    /// The same channels, and the same cursor.
+    pub fn try_clone(&self, alloc: Global) -> Result<Channels, NoMemory>
+        ensures { IfOk result (λ c. c ≡ self.now) }
+    {
+        let listed = by_channel(alloc, &self.listed)?;
+        let openings = by_number(alloc, &self.openings)?;
+        let numbers = self.numbers.try_clone(alloc)?;
+        Ok(Channels {
+            listed,
+            openings,
+            numbers,
+            full: self.full,
+            stopped: self.stopped,
+            sequence: self.sequence.copied(),
+        })
     }
 
     /// Lists a new channel and gives its number: in the cycle from 1 to `max`, the first from the cursor on that is not

@@ -1,11 +1,12 @@
 //! The committed frames that are not wholly sent.
 
-ghost use Rattle.std.specs.Prelude.{◌≡◌, ◌+◌, ◌<◌, ◌≤◌, ◌^◌, ◌++◌, ◌∷◌, [], length, OnOk, IfSome, IfNone};
+ghost use Rattle.std.specs.Prelude.{◌≡◌, ◌+◌, ◌<◌, ◌≤◌, ◌^◌, ◌++◌, ◌∷◌, [], length, OnOk, IfOk, IfSome, IfNone};
 ghost use Rattle.std.specs.VecDeque.{deque_capacity};
 ghost use Rattle.amqp_outbox.specs.Items.{size_of};
 ghost use Rattle.amqp_session.specs.Writing.{left_in, is_close_ok, answers, then_of, mark_of};
 ghost use Rattle.amqp_session.specs.Parts.{first_among, after_first};
 
+use crate::copies::{Copied, queue};
 use amqp_frame::{Frame, Method};
 use amqp_outbox::Item;
 use amqp_types::{ChannelId, NoMemory};
@@ -45,6 +46,12 @@ impl Mark {
         }
         let then = then_of(item);
         Some(Mark { left, then })
+    }
+}
+
+impl Copied for Mark {
+    fn copied(&self, _alloc: Global) -> Result<Mark, NoMemory> {
+        Ok(*self)
     }
 }
 
@@ -95,6 +102,19 @@ impl Committed {
             marks: VecDeque::new(alloc),
             unsent: 0,
         }
+    }
+
+    /// The same frames, with places for so many more.
+    pub fn try_clone(&self, alloc: Global, frames: usize) -> Result<Committed, NoMemory>
+        ensures marks { IfOk result (λ c. c.marks.items ≡ self.now.marks.items) }
+        ensures places { IfOk result (λ c. length c.marks.items + frames ≤ deque_capacity c.marks) }
+    {
+        let mut marks = queue(alloc, &self.marks)?;
+        marks.reserve(frames)?;
+        Ok(Committed {
+            marks,
+            unsent: self.unsent,
+        })
     }
 
     /// Makes places for so many frames more.

@@ -1,7 +1,11 @@
 //! What is told to those who listen.
 
+ghost use Rattle.std.specs.Prelude.{◌≡◌, IfOk};
+
+use crate::copies::Copied;
 use amqp_promise::Error;
-use amqp_types::Text;
+use amqp_types::{NoMemory, Text};
+use std::alloc::Global;
 
 /// An event of a session.
 #[derive(Debug, PartialEq, Eq, Drop)]
@@ -16,4 +20,25 @@ pub enum Event {
     SendFlow(bool),
     /// The session ended by this error, or the server closed a channel with it.
     Error(Error),
+}
+
+impl Event {
+    /// An equal event, which shares the text where it has one.
+    pub fn try_clone(&self, alloc: Global) -> Result<Event, NoMemory>
+        ensures { IfOk result (λ event. event ≡ self.now) }
+    {
+        match self {
+            Event::Connected => Ok(Event::Connected),
+            Event::ConnectionBlocked(reason) => Ok(Event::ConnectionBlocked(reason.try_clone()?)),
+            Event::ConnectionUnblocked => Ok(Event::ConnectionUnblocked),
+            Event::SendFlow(active) => Ok(Event::SendFlow(*active)),
+            Event::Error(error) => Ok(Event::Error(error.try_clone(alloc)?)),
+        }
+    }
+}
+
+impl Copied for Event {
+    fn copied(&self, alloc: Global) -> Result<Event, NoMemory> {
+        self.try_clone(alloc)
+    }
 }

@@ -1,9 +1,10 @@
 //! What is kept for those who listen.
 
-ghost use Rattle.std.specs.Prelude.{◌≡◌, ◌+◌, ◌≤◌, ◌∷◌, [], length, true, false, Some, IfSome, IfNone, IsOk, OnOk, OnErr};
+ghost use Rattle.std.specs.Prelude.{◌≡◌, ◌+◌, ◌≤◌, ◌∷◌, [], length, true, false, Some, IfOk, IfSome, IfNone, IsOk, OnOk, OnErr};
 ghost use Rattle.amqp_session.specs.Events.{unheard, event_noted, owe_event, paid, forgotten, failed};
 ghost use Rattle.std.specs.VecDeque.{deque_capacity};
 
+use crate::copies::{by_channel, queue};
 use crate::event::Event;
 use amqp_promise::ErrorKind;
 use amqp_types::{AMQPError, ChannelId, NoMemory};
@@ -36,6 +37,21 @@ impl Events {
             tells_end: false,
             owed: BTreeMap::new(alloc),
         }
+    }
+
+    /// Equal events, and equal errors that are owed.
+    pub fn try_clone(&self, alloc: Global) -> Result<Events, NoMemory>
+        ensures { IfOk result (λ e. noted_in e ≡ noted_in self.now) }
+    {
+        let mut events = queue(alloc, &self.events)?;
+        let owed = by_channel(alloc, &self.owed)?;
+        events.reserve(owed.len())?;
+        Ok(Events {
+            listens: self.listens,
+            events,
+            tells_end: self.tells_end,
+            owed,
+        })
     }
 
     /// Whether events are kept.

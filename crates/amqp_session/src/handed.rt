@@ -3,6 +3,7 @@
 ghost use Rattle.std.specs.Prelude.{◌≡◌, ◌++◌, ◌∷◌, [], IfOk, OnOk, OnErr, unwrap_or};
 ghost use Rattle.amqp_session.specs.Listed.{at, put, without};
 
+use crate::copies::{Copied, by_number};
 use amqp_frame::RawKind;
 use amqp_types::{ChannelId, NoMemory, Payload};
 use std::alloc::Global;
@@ -16,6 +17,19 @@ pub struct Handed {
     pub kind: RawKind,
     /// The whole payload of the frame.
     pub bytes: Payload,
+}
+
+impl Handed {
+    /// An equal frame.
+    pub fn try_clone(&self, alloc: Global) -> Result<Handed, NoMemory>
+        ensures { IfOk result (λ h. h ≡ self.now) }
+    {
+        Ok(Handed {
+            channel: self.channel,
+            kind: self.kind,
+            bytes: self.bytes.try_clone(alloc)?,
+        })
+    }
 }
 
 /// Frames of one opening, in order.
@@ -43,6 +57,17 @@ impl Frames {
         Ok(Frames { items })
     }
 
+    // Equal frames in the same order.
+    fn try_clone(&self, alloc: Global) -> Result<Frames, NoMemory>
+        ensures { IfOk result (λ f. f ≡ self.now) }
+    {
+        let mut items = Vec::with_capacity(alloc, self.items.len())?;
+        for frame in &self.items {
+            items.push(frame.try_clone(alloc)?)?;
+        }
+        Ok(Frames { items })
+    }
+
     fn push(&mut self, frame: Handed) -> Result<(), NoMemory>
         ensures ok { OnOk result (self.new ≡ self.old ++ frame ∷ []) }
         ensures err { OnErr result (self.new ≡ self.old) }
@@ -55,6 +80,12 @@ impl Frames {
         ensures { result.items ≡ self }
     {
         self.items
+    }
+}
+
+impl Copied for Frames {
+    fn copied(&self, alloc: Global) -> Result<Frames, NoMemory> {
+        self.try_clone(alloc)
     }
 }
 
@@ -83,6 +114,16 @@ impl Backlog {
             alloc,
             frames: BTreeMap::new(alloc),
         }
+    }
+
+    /// Equal frames by the same promises.
+    pub fn try_clone(&self, alloc: Global) -> Result<Backlog, NoMemory>
+        ensures { IfOk result (λ b. b ≡ self.now) }
+    {
+        Ok(Backlog {
+            alloc,
+            frames: by_number(alloc, &self.frames)?,
+        })
     }
 
     /// A frame goes last among those of an opening.

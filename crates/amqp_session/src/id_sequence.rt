@@ -120,6 +120,17 @@ impl<T: Id> IdSequence<T> {
         }
     }
 
+    /// The same sequence.
+    pub(crate) fn copied(&self) -> IdSequence<T>
+        ensures { result ≡ self.now }
+    {
+        IdSequence {
+            allow_zero: self.allow_zero,
+            maximum: self.maximum,
+            cursor: self.cursor,
+        }
+    }
+
     /// The number before the cursor, which is the one that was given last. Where the cursor is 0, as in a new sequence
     /// and at the end of a cycle, it is the maximum, if there is one.
     pub fn current(&self) -> Option<T>

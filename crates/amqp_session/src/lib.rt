@@ -11,11 +11,13 @@ mod channels;
 mod command;
 mod committed;
 mod configuration;
+mod copies;
 mod event;
 mod events;
 mod handed;
 mod handshake;
 mod id_sequence;
+mod kept;
 mod laws;
 mod misread;
 mod numbers;
@@ -30,8 +32,8 @@ mod state;
 mod violations;
 
 pub use amqp_auth::{
-    Asked, AuthList, AuthProvider, DefaultAuthProvider, DefaultTokenProvider, Question, Refusal,
-    TokenAuthProvider, TokenProvider,
+    Asked, AuthList, AuthProvider, DefaultAuthProvider, DefaultTokenProvider, HandedProvider,
+    ProviderChoice, Question, Refusal, TokenAuthProvider, TokenProvider,
 };
 pub use amqp_promise::{ChannelState, ConnectionState, Error, ErrorKind, IoFault, Result};
 pub use capacity::{LEAST_CAPACITY, initial_capacity};
@@ -41,6 +43,7 @@ pub use configuration::{Configuration, tune};
 pub use event::Event;
 pub use handed::Handed;
 pub use id_sequence::{Id, IdSequence};
+pub use kept::Kept;
 pub use laws::{
     a_channel_names_what_opened_it, a_frame_ends_with_its_errors, a_lost_link_answers_what_waits,
     a_refusal_changes_promises_alone, a_secret_is_asked_for_when_it_has_expired,

@@ -1,6 +1,6 @@
 //! Sets of the numbers of channels.
 
-ghost use Rattle.std.specs.Prelude.{◌≡◌, ◌≢◌, ℕ, ◌+◌, ◌-◌, ◌/◌, ◌<◌, ◌≤◌, ◌^◌, not, true, false, [], length, find, IfSome, OnOk, OnErr};
+ghost use Rattle.std.specs.Prelude.{◌≡◌, ◌≢◌, ℕ, ◌+◌, ◌-◌, ◌/◌, ◌<◌, ◌≤◌, ◌^◌, not, true, false, [], length, find, IfOk, IfSome, OnOk, OnErr};
 ghost use Rattle.std.specs.List.{range_with_len};
 ghost use Rattle.std.specs.Int.{bit_at};
 ghost use Rattle.amqp_session.specs.NumberSet.{is_member};
@@ -31,6 +31,15 @@ impl Numbers {
         Numbers {
             words: Vec::new(alloc),
         }
+    }
+
+    /// The same set.
+    pub fn try_clone(&self, alloc: Global) -> Result<Numbers, NoMemory>
+        ensures { IfOk result (λ n. n ≡ self.now) }
+    {
+        Ok(Numbers {
+            words: Vec::from_slice(alloc, &self.words)?,
+        })
     }
 
     /// Makes the place of a number.

@@ -4,18 +4,20 @@ ghost use Rattle.std.specs.Prelude.{◌≡◌, ◌<◌, ◌^◌, ℕ, List, leng
 ghost use Rattle.amqp_types.specs.Table.{put};
 ghost use Rattle.amqp_session.specs.Config.{no_options, with_locale, with_property, with_name, with_backoff, with_recovery, with_outbox_limit, text_value};
 
+use amqp_auth::HandedProvider;
 use amqp_types::{AMQPValue, FieldTable, LongString, NoMemory, ShortString};
 use std::alloc::Global;
 use std::marker::Model;
 
 /// What the client says of itself to the server, beside what every client of this library says: its
 /// name, what it can do, and where it runs; and who answers what the server asks of its client, where
-/// that is not who the address names. A session is made of the former alone, and the provider is lent
-/// to its calls. A setting that finds no memory gives the rest up.
+/// that is not who the address names: a `ProviderChoice`, which is `()` for the address, or a
+/// `HandedProvider`. A session is made of the former alone, and the provider is lent to its calls. A
+/// setting that finds no memory gives the rest up.
 #[derive(Debug, Drop)]
-pub struct ConnectionProperties<A = ()> {
+pub struct ConnectionProperties<C = ()> {
     plain: Options,
-    auth_provider: A,
+    choice: C,
 }
 
 impl ConnectionProperties {
@@ -24,10 +26,7 @@ impl ConnectionProperties {
         ensures { IfOk result (λ options. options.plain ≡ no_options) }
     {
         let plain = Options::new(alloc)?;
-        Ok(ConnectionProperties {
-            plain,
-            auth_provider: (),
-        })
+        Ok(ConnectionProperties { plain, choice: () })
     }
 
     // What is said of the client.
@@ -38,14 +37,14 @@ impl ConnectionProperties {
     }
 }
 
-impl<A: Drop> ConnectionProperties<A> {
+impl<C: Drop> ConnectionProperties<C> {
     /// The same with another locale: the language in which texts of the server are wanted.
-    pub fn with_locale(self, locale: ShortString) -> ConnectionProperties<A>
+    pub fn with_locale(self, locale: ShortString) -> ConnectionProperties<C>
         ensures { result ≡ record self { plain = with_locale locale self.plain } }
     {
         ConnectionProperties {
             plain: self.plain.with_locale(locale),
-            auth_provider: self.auth_provider,
+            choice: self.choice,
         }
     }
 
@@ -56,16 +55,16 @@ impl<A: Drop> ConnectionProperties<A> {
         self,
         key: ShortString,
         value: LongString,
-    ) -> Result<ConnectionProperties<A>, NoMemory>
+    ) -> Result<ConnectionProperties<C>, NoMemory>
         ensures { IfOk result (λ options. options ≡ record self { plain = with_property key value self.plain }) }
     {
         match self.plain.with_property(key, value) {
             Ok(plain) => Ok(ConnectionProperties {
                 plain,
-                auth_provider: self.auth_provider,
+                choice: self.choice,
             }),
             Err(e) => {
-                drop(self.auth_provider);
+                drop(self.choice);
                 Err(e)
             }
         }
@@ -77,16 +76,16 @@ impl<A: Drop> ConnectionProperties<A> {
         self,
         alloc: Global,
         connection_name: LongString,
-    ) -> Result<ConnectionProperties<A>, NoMemory>
+    ) -> Result<ConnectionProperties<C>, NoMemory>
         ensures { IfOk result (λ options. options ≡ record self { plain = with_name connection_name self.plain }) }
     {
         match self.plain.with_name(alloc, connection_name) {
             Ok(plain) => Ok(ConnectionProperties {
                 plain,
-                auth_provider: self.auth_provider,
+                choice: self.choice,
             }),
             Err(e) => {
-                drop(self.auth_provider);
+                drop(self.choice);
                 Err(e)
             }
         }
@@ -96,12 +95,12 @@ impl<A: Drop> ConnectionProperties<A> {
     /// asked for is refused, the next one is taken, and a link is wanted again when it is over; where none
     /// is left, the session ends. So it is where a link is lost, if `enable_auto_recover` was called. Once
     /// the connection is open, all are left again.
-    pub fn with_backoff(self, delays: Vec<u64>) -> ConnectionProperties<A>
+    pub fn with_backoff(self, delays: Vec<u64>) -> ConnectionProperties<C>
         ensures { result ≡ record self { plain = with_backoff delays.items self.plain } }
     {
         ConnectionProperties {
             plain: self.plain.with_backoff(delays),
-            auth_provider: self.auth_provider,
+            choice: self.choice,
         }
     }
 
@@ -109,7 +108,7 @@ impl<A: Drop> ConnectionProperties<A> {
     pub fn configure_backoff<F: Fn(Vec<u64>) -> Vec<u64> + Drop>(
         self,
         conf: F,
-    ) -> ConnectionProperties<A>
+    ) -> ConnectionProperties<C>
         requires { F.IsAlwaysCallable conf }
         ensures { (before : _) × (after : _) × (before.items ≡ self.plain.delays) × F.post conf before after
             × (result ≡ record self { plain = with_backoff after.items self.plain }) }
@@ -119,7 +118,7 @@ impl<A: Drop> ConnectionProperties<A> {
         drop(conf);
         ConnectionProperties {
             plain: plain.with_backoff(delays),
-            auth_provider: self.auth_provider,
+            choice: self.choice,
         }
     }
 
@@ -127,16 +126,16 @@ impl<A: Drop> ConnectionProperties<A> {
     /// it takes the next delay as where a link is refused, and opens the channels that were open again, with
     /// flow and without confirm mode. Where no delays were given it has 16: 1, 2, 4, 8, 16 and 32 seconds, and
     /// ten times a minute.
-    pub fn enable_auto_recover(self, alloc: Global) -> Result<ConnectionProperties<A>, NoMemory>
+    pub fn enable_auto_recover(self, alloc: Global) -> Result<ConnectionProperties<C>, NoMemory>
         ensures { IfOk result (λ options. options ≡ record self { plain = with_recovery self.plain }) }
     {
         match self.plain.with_recovery(alloc) {
             Ok(plain) => Ok(ConnectionProperties {
                 plain,
-                auth_provider: self.auth_provider,
+                choice: self.choice,
             }),
             Err(e) => {
-                drop(self.auth_provider);
+                drop(self.choice);
                 Err(e)
             }
         }
@@ -145,37 +144,39 @@ impl<A: Drop> ConnectionProperties<A> {
     /// The same with a limit, in octets, on what may wait to be written. A send or a publish by which more
     /// would wait is refused with `OutboxFull`; nothing else is. What was committed to a link does not
     /// wait any more. Without a limit, only memory limits what waits.
-    pub fn with_outbox_limit(self, limit: u64) -> ConnectionProperties<A>
+    pub fn with_outbox_limit(self, limit: u64) -> ConnectionProperties<C>
         ensures { result ≡ record self { plain = with_outbox_limit limit self.plain } }
     {
         ConnectionProperties {
             plain: self.plain.with_outbox_limit(limit),
-            auth_provider: self.auth_provider,
+            choice: self.choice,
         }
     }
 
     /// The same with a provider of authentication, which takes the place of one that was given before.
-    pub fn with_auth_provider<B>(self, provider: B) -> ConnectionProperties<B>
-        ensures { result ≡ record { plain = self.plain; auth_provider = provider } }
+    pub fn with_auth_provider<A>(self, provider: A) -> ConnectionProperties<HandedProvider<A>>
+        ensures plain { result.plain ≡ self.plain }
+        ensures provider { result.choice.provider ≡ provider }
     {
-        drop(self.auth_provider);
+        drop(self.choice);
         ConnectionProperties {
             plain: self.plain,
-            auth_provider: provider,
+            choice: HandedProvider::new(provider),
         }
     }
 
-    /// What a session is made of, and the provider that is lent to its calls.
-    pub fn into_parts(self) -> (ConnectionProperties, A)
+    /// What a session is made of, and the choice of who answers: by an address it gives the provider that
+    /// is lent to the session's calls.
+    pub fn into_parts(self) -> (ConnectionProperties, C)
         ensures plain { result.0.plain ≡ self.plain }
-        ensures provider { result.1 ≡ self.auth_provider }
+        ensures choice { result.1 ≡ self.choice }
     {
         (
             ConnectionProperties {
                 plain: self.plain,
-                auth_provider: (),
+                choice: (),
             },
-            self.auth_provider,
+            self.choice,
         )
     }
 }
@@ -229,6 +230,22 @@ impl Options {
             has_delays: false,
             recover: false,
             outbox_limit: None,
+        })
+    }
+
+    // Equal options.
+    pub(crate) fn try_clone(&self, alloc: Global) -> Result<Options, NoMemory>
+        ensures { IfOk result (λ options. options ≡ self.now) }
+    {
+        let locale = self.locale.try_clone(alloc)?;
+        let client_properties = self.client_properties.try_clone(alloc)?;
+        Ok(Options {
+            locale,
+            client_properties,
+            delays: Vec::from_slice(alloc, &self.delays)?,
+            has_delays: self.has_delays,
+            recover: self.recover,
+            outbox_limit: self.outbox_limit,
         })
     }
 

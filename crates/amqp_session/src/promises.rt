@@ -6,6 +6,7 @@ ghost use Rattle.amqp_session.specs.Listed.{at, put, without};
 ghost use Rattle.amqp_session.specs.Sharing.{shared_at, holders_at, holds, holds_any, is_error_awaited, waits, any_waits, new_slot, AreCounted, KeepsHeld, FreesUnheld, AwaitsLoss, AllSuit};
 
 use crate::command::Answer;
+use crate::copies::{Copied, by_number};
 use crate::shared_errors::SharedErrors;
 use amqp_promise::ErrorKind;
 use amqp_types::NoMemory;
@@ -65,6 +66,21 @@ impl Promises {
             errors: SharedErrors::new(alloc),
             loss: None,
         }
+    }
+
+    /// The same promises, with equal answers. An error that several share is shared by their copies.
+    pub fn try_clone(&self, alloc: Global) -> Result<Promises, NoMemory>
+        ensures made { IfOk result (λ p. p.made ≡ self.now.made) }
+        ensures slots { IfOk result (λ p. promised p ≡ promised self.now) }
+    {
+        let slots = by_number(alloc, &self.slots)?;
+        let errors = self.errors.try_clone(alloc)?;
+        Ok(Promises {
+            made: self.made,
+            slots,
+            errors,
+            loss: self.loss,
+        })
     }
 
     /// How many were made.
@@ -325,6 +341,19 @@ impl Slot {
     ghost use Rattle.amqp_session.specs.Answers.{IsRejected};
     ghost use Rattle.amqp_session.specs.Parts.{slot_seen, slot_settled, slot_shared};
 
+    // An equal one.
+    fn try_clone(&self, alloc: Global) -> Result<Slot, NoMemory>
+        ensures { IfOk result (λ slot. slot ≡ self.now) }
+    {
+        match self {
+            Slot::Place => Ok(Slot::Place),
+            Slot::Waiting => Ok(Slot::Waiting),
+            Slot::Answered(Ok(answer)) => Ok(Slot::Answered(Ok(*answer))),
+            Slot::Answered(Err(error)) => Ok(Slot::Answered(Err(error.try_clone(alloc)?))),
+            Slot::Shared(number) => Ok(Slot::Shared(*number)),
+        }
+    }
+
     // It becomes this one; what it was.
     fn replace(&mut self, slot: Slot) -> Slot
         ensures was { result ≡ self.old }
@@ -395,5 +424,11 @@ impl Slot {
             let old = self.replace(Slot::Shared(number));
             let_go_of(errors, Some(old));
         }
+    }
+}
+
+impl Copied for Slot {
+    fn copied(&self, alloc: Global) -> Result<Slot, NoMemory> {
+        self.try_clone(alloc)
     }
 }

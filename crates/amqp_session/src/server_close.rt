@@ -1,6 +1,9 @@
 //! How a server closed the connection.
 
-use amqp_types::AMQPError;
+ghost use Rattle.std.specs.Prelude.{◌≡◌, IfOk};
+
+use amqp_types::{AMQPError, NoMemory};
+use std::alloc::Global;
 
 /// A close of the connection by the server, by its code.
 #[derive(Debug, PartialEq, Eq, Drop)]
@@ -8,4 +11,16 @@ pub enum ServerClose {
     /// The code is none of an error, as 200.
     WithoutError,
     WithError(AMQPError),
+}
+
+impl ServerClose {
+    /// An equal close.
+    pub fn try_clone(&self, alloc: Global) -> Result<ServerClose, NoMemory>
+        ensures { IfOk result (λ close. close ≡ self.now) }
+    {
+        match self {
+            ServerClose::WithoutError => Ok(ServerClose::WithoutError),
+            ServerClose::WithError(error) => Ok(ServerClose::WithError(error.try_clone(alloc)?)),
+        }
+    }
 }

@@ -15,6 +15,7 @@ mod asking;
 mod channel_methods;
 mod commands;
 mod connection_methods;
+mod copies;
 mod dropping;
 mod events;
 mod frames;
@@ -44,8 +45,8 @@ use std::alloc::Global;
 use std::fmt;
 use std::marker::Model;
 
-/// The client's side of a connection. Its `Debug` shows nothing of what it holds: how the client logs
-/// in is among the frames that wait.
+/// The client's side of a connection. Its `Debug` shows the state, how many channels are listed and how
+/// many promises were made, and nothing else: how the client logs in is among the frames that wait.
 #[derive(Drop)]
 pub struct Session {
     alloc: Global,
@@ -135,12 +136,19 @@ impl Model for Session {
 }
 
 impl fmt::Debug for Session {
-    ghost use Rattle.std.specs.Prelude.{Some, codes};
+    ghost use Rattle.std.specs.Prelude.{Some};
+    ghost use Rattle.amqp_session.specs.Queries.{session_debug};
 
-    ghost debug_output = { λ _. Some (codes "Session { .. }") };
+    ghost debug_output = { λ s. Some (session_debug s) };
 
     fn fmt<W: fmt::Write>(&self, f: &mut fmt::Formatter<W>) -> fmt::Result {
-        f.write_str("Session { .. }")
+        write!(
+            f,
+            "Session {{ state: {}, channels: {}, promises: {}, .. }}",
+            self.state.name(),
+            self.channels.len(),
+            self.promises.made()
+        )
     }
 }
 

@@ -4,6 +4,7 @@ ghost use Rattle.std.specs.Prelude.{◌≡◌, ℕ, ◌+◌, ◌-◌, ◌<◌, �
 ghost use Rattle.amqp_session.specs.Listed.{at};
 ghost use Rattle.amqp_session.specs.Sharing.{shared_at, error_at, is_error_awaited, unheld, holders_at};
 
+use crate::copies::{Copied, by_number};
 use amqp_promise::Error;
 use amqp_types::NoMemory;
 use std::alloc::Global;
@@ -17,6 +18,23 @@ pub struct SharedError {
 }
 
 impl SharedError {
+    // An equal error, and as many hold it.
+    fn try_clone(&self, alloc: Global) -> Result<SharedError, NoMemory>
+        ensures { IfOk result (λ shared. shared ≡ self.now) }
+    {
+        let holders = self.holders;
+        match &self.error {
+            Some(error) => Ok(SharedError {
+                error: Some(error.try_clone(alloc)?),
+                holders,
+            }),
+            None => Ok(SharedError {
+                error: None,
+                holders,
+            }),
+        }
+    }
+
     fn hold(&mut self)
         requires { self.old.holders + 1 < 2 ^ 64 }
         ensures { self.new ≡ record self.old { holders = self.old.holders + 1 } }
@@ -37,6 +55,12 @@ impl SharedError {
     }
 }
 
+impl Copied for SharedError {
+    fn copied(&self, alloc: Global) -> Result<SharedError, NoMemory> {
+        self.try_clone(alloc)
+    }
+}
+
 /// Errors by number, of which some are awaited.
 #[derive(Debug, Drop)]
 pub struct SharedErrors {
@@ -51,6 +75,15 @@ impl SharedErrors {
         SharedErrors {
             errors: BTreeMap::new(alloc),
         }
+    }
+
+    /// Equal errors by the same numbers.
+    pub fn try_clone(&self, alloc: Global) -> Result<SharedErrors, NoMemory>
+        ensures { IfOk result (λ copy. copy.errors.entries ≡ self.now.errors.entries) }
+    {
+        Ok(SharedErrors {
+            errors: by_number(alloc, &self.errors)?,
+        })
     }
 
     /// Keeps an error, or awaits one, which nothing holds yet, and answers its number, which no other

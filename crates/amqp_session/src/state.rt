@@ -1,10 +1,12 @@
 //! Where a connection stands with its handshake and its link, and how it ended.
 
-ghost use Rattle.std.specs.Prelude.{◌≡◌};
+ghost use Rattle.std.specs.Prelude.{◌≡◌, IfOk};
 ghost use Rattle.amqp_session.specs.Links.{dropped};
 ghost use Rattle.amqp_session.specs.Recovery.{is_uncrossed};
 
 use amqp_promise::Error;
+use amqp_types::NoMemory;
+use std::alloc::Global;
 
 /// What the handshake awaits.
 #[derive(Clone, Copy, Debug, PartialEq, Eq)]
@@ -65,4 +67,32 @@ pub enum End {
     /// By the error with which the server closed the connection.
     ByServer,
     Failed(Error),
+}
+
+impl End {
+    // An equal end.
+    fn try_clone(&self, alloc: Global) -> Result<End, NoMemory>
+        ensures { IfOk result (λ end. end ≡ self.now) }
+    {
+        match self {
+            End::ByServer => Ok(End::ByServer),
+            End::Failed(error) => Ok(End::Failed(error.try_clone(alloc)?)),
+        }
+    }
+}
+
+impl Link<End> {
+    /// An equal one.
+    pub fn try_clone(&self, alloc: Global) -> Result<Link<End>, NoMemory>
+        ensures { IfOk result (λ link. link ≡ self.now) }
+    {
+        match self {
+            Link::Due(moment) => Ok(Link::Due(*moment)),
+            Link::Wanted => Ok(Link::Wanted),
+            Link::Asked => Ok(Link::Asked),
+            Link::Open => Ok(Link::Open),
+            Link::Ended(Ok(())) => Ok(Link::Ended(Ok(()))),
+            Link::Ended(Err(end)) => Ok(Link::Ended(Err(end.try_clone(alloc)?))),
+        }
+    }
 }

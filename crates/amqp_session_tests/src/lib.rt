@@ -15,6 +15,8 @@ mod channels;
 #[cfg(test)]
 mod closing;
 #[cfg(test)]
+mod copies;
+#[cfg(test)]
 mod creating;
 #[cfg(test)]
 mod dropping;

@@ -52,6 +52,8 @@ pub enum Line {
     Take(u64),
     /// All was committed and taken.
     SendAll,
+    /// A copy of the session takes its place.
+    Copied,
 
     /// Opens a channel; the promise.
     OpenChannel(u64),
@@ -241,6 +243,7 @@ fn is_so(alloc: Global, session: &mut Session, line: Line) -> Outcome<bool> {
         Line::Advance(at) => session.advance(at),
         Line::Take(n) => take(session, n),
         Line::SendAll => send_all(session),
+        Line::Copied => copy(session)?,
         _ => return promises_nothing(alloc, session, line),
     }
     Ok(true)

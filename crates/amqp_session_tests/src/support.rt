@@ -14,6 +14,7 @@ use amqp_types::{LongString, NoMemory, Payload, ShortString, Text};
 use amqp_uri::AMQPUri;
 use amqp_vectors::{CHANNEL_OPEN_OK_1, OPEN_OK, START, TUNE, TUNE_2};
 use std::alloc::Global;
+use std::mem;
 use std::test::Fail;
 
 /// What a test answers, and what it is made of.
@@ -480,6 +481,13 @@ pub fn send_all(session: &mut Session) {
         let _ = commits_within(session, u64::MAX);
     }
     take(session, u64::MAX);
+}
+
+/// A copy of a session takes its place.
+pub fn copy(session: &mut Session) -> Outcome<()> {
+    let copy = session.snapshot()?;
+    drop(mem::replace(session, copy));
+    Ok(())
 }
 
 // ---- what is seen

@@ -1,13 +1,15 @@
 //! A port of one's own, and a session that runs over it.
 
-ghost use Rattle.std.specs.Prelude.{◌≡◌, ◌≢◌, ◌≤◌, [], None, Err, false, IsTrue, length};
+ghost use Rattle.std.specs.Prelude.{◌≡◌, ◌≢◌, ◌≤◌, ℕ, List, [], None, Err, false, IsTrue, length};
 ghost use Rattle.amqp_promise.specs.declared.io_fault.IoFault.{IoFault};
 ghost use Rattle.amqp_engine.specs.Log.{IsPiece};
 ghost use Rattle.amqp_engine.specs.Counts.{is_fault};
 ghost use Rattle.amqp_engine.specs.Causes.{is_counted};
 
 use amqp_engine::{IoLoop, Port, Step, Told, Wrote};
-use amqp_session::{AuthProvider, ConnectionProperties, ErrorKind, IoFault, Result};
+use amqp_session::{
+    AuthProvider, ConnectionProperties, ErrorKind, IoFault, ProviderChoice, Result,
+};
 use amqp_uri::AMQPUri;
 use std::alloc::Global;
 
@@ -50,6 +52,7 @@ impl Held {
         requires { 4096 ≤ length space.old }
         ensures piece { IsPiece result }
         ensures faultless { is_fault result ≡ false }
+        ensures kept { self.new.said_by_server.items ≡ self.old.said_by_server.items }
     {
         let rest = &self.said_by_server[self.given..];
         let n = rest.len().min(PIECE);
@@ -66,6 +69,10 @@ impl Port for Held {
     ghost log = { λ p. None };
 
     ghost faults = { λ p. 0 };
+
+    ghost Kept = { List ℕ };
+
+    ghost kept = { λ p. p.said_by_server.items };
 
     fn connect(&mut self) {
         self.asked = true;
@@ -94,18 +101,40 @@ impl Port for Held {
 
 /// Runs a new session of these properties with a server at this address over such a port, and says how
 /// it ended, or that all turns were taken. What the server asks is answered by the provider of the
-/// properties. It does not end by a fault that a port counts, since this one has none.
-pub fn converse<A: AuthProvider>(
+/// properties, or where they have none by that of the address. It does not end by a fault that a port
+/// counts, since this one has none.
+pub fn converse<C: ProviderChoice>(
     alloc: Global,
     uri: &AMQPUri,
-    options: ConnectionProperties<A>,
+    options: ConnectionProperties<C>,
     port: &mut Held,
     turns: u64,
 ) -> Result<()>
-    requires { A.can options.auth_provider }
+    requires { C.can options.choice }
     ensures { (fault : IoFault) → IsTrue (is_counted fault) → result ≢ Err (ErrorKind.IOError fault) }
 {
-    let (options, mut provider) = options.into_parts();
+    let (options, choice) = options.into_parts();
+    match choice.provider(alloc, uri) {
+        Ok(provider) => converse_by(alloc, uri, options, provider, port, turns),
+        Err(refused) => {
+            drop(options);
+            Err(refused.into())
+        }
+    }
+}
+
+// The same, where this provider answers.
+fn converse_by<A: AuthProvider>(
+    alloc: Global,
+    uri: &AMQPUri,
+    options: ConnectionProperties,
+    mut provider: A,
+    port: &mut Held,
+    turns: u64,
+) -> Result<()>
+    requires { A.can provider }
+    ensures { (fault : IoFault) → IsTrue (is_counted fault) → result ≢ Err (ErrorKind.IOError fault) }
+{
     match IoLoop::new(alloc, uri, options) {
         Ok(mut engine) => {
             let end = engine.run(port, &mut provider, turns);

@@ -5,7 +5,9 @@ ghost use Rattle.amqp_engine.specs.Plan.{IsGivenPiece, ArePieces};
 use super::*;
 use amqp_engine::{Given, GivenStep, MemoryPort};
 use amqp_frame::{FixedRoom, Frame, RawKind, RawMethod, Room, encoded_len};
-use amqp_session::{Answer, ConnectionProperties, DefaultAuthProvider, Handed, Session};
+use amqp_session::{
+    Answer, ConnectionProperties, DefaultAuthProvider, Handed, HandedProvider, Session,
+};
 use amqp_types::{NoMemory, Payload, ShortString};
 use amqp_uri::AMQPUri;
 use amqp_vectors::octets;
@@ -103,11 +105,11 @@ fn joined(alloc: Global) -> std::result::Result<Vec<u8>, Fail> {
     Ok(bytes)
 }
 
-// Properties with the provider of an address.
+// Properties with the provider of an address, handed over.
 fn properties_of(
     alloc: Global,
     uri: &AMQPUri,
-) -> std::result::Result<ConnectionProperties<DefaultAuthProvider>, NoMemory> {
+) -> std::result::Result<ConnectionProperties<HandedProvider<DefaultAuthProvider>>, NoMemory> {
     let options = ConnectionProperties::new(alloc)?;
     match DefaultAuthProvider::new(alloc, uri) {
         Ok(provider) => Ok(options.with_auth_provider(provider)),
@@ -118,7 +120,7 @@ fn properties_of(
     }
 }
 
-// How a run over such a port ends, as a text.
+// How a run over such a port ends, as a text, where the provider of the address was handed over.
 fn end_of(alloc: Global, port: &mut Held) -> std::result::Result<String, Fail> {
     let uri = AMQPUri::local(alloc)?;
     let end = match properties_of(alloc, &uri) {
@@ -126,6 +128,22 @@ fn end_of(alloc: Global, port: &mut Held) -> std::result::Result<String, Fail> {
         Err(e) => Err(e.into()),
     };
     drop(uri);
+    text_of(alloc, end)
+}
+
+// The same, where none was.
+fn plain_end_of(alloc: Global, port: &mut Held) -> std::result::Result<String, Fail> {
+    let uri = AMQPUri::local(alloc)?;
+    let end = match ConnectionProperties::new(alloc) {
+        Ok(options) => converse(alloc, &uri, options, port, 9),
+        Err(e) => Err(e.into()),
+    };
+    drop(uri);
+    text_of(alloc, end)
+}
+
+// How a run ended, as a text.
+fn text_of(alloc: Global, end: amqp_session::Result<()>) -> std::result::Result<String, Fail> {
     match end {
         Ok(()) => Ok(String::from_str(alloc, "closed")?),
         Err(error) => {
@@ -142,6 +160,17 @@ fn converses(rt: HostRuntime) -> Outcome {
     let said = joined(alloc)?;
     let mut port = Held::new(alloc, said);
     let end = end_of(alloc, &mut port)?;
+    assert!(rt; end.as_str() == "the given turns were all taken");
+    assert!(rt; port.taken().len() == 8 + 315 + 36);
+    Ok(())
+}
+
+#[test]
+fn converses_by_the_address(rt: HostRuntime) -> Outcome {
+    let alloc = rt.alloc();
+    let said = joined(alloc)?;
+    let mut port = Held::new(alloc, said);
+    let end = plain_end_of(alloc, &mut port)?;
     assert!(rt; end.as_str() == "the given turns were all taken");
     assert!(rt; port.taken().len() == 8 + 315 + 36);
     Ok(())

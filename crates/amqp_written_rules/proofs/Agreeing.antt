@@ -28,7 +28,7 @@ IsWithinBounds n f = IsAgreed (bounds n) f × (agreed_after f (bounds n) ≡ bou
 abbrev IsLarge : Configuration → Type 0
 IsLarge n = n.frame_max ≢ 0 → 4096 ≤ n.frame_max
 
-kept-large : (n : ℕ) → kept_frame_max n ≢ 0 → 4096 ≤ kept_frame_max n
+pub kept-large : (n : ℕ) → kept_frame_max n ≢ 0 → 4096 ≤ kept_frame_max n
 kept-large n some = by (nat_lt 0 n) (nat_lt n 4096) refl refl some where
   by : (a b : Bool) → nat_lt 0 n ≡ a → nat_lt n 4096 ≡ b → (if a && b then 4096 else n) ≢ 0 → 4096 ≤ (if a && b then 4096 else n)
   by true true is below some = omega arith
@@ -36,7 +36,7 @@ kept-large n some = by (nat_lt 0 n) (nat_lt n 4096) refl refl some where
   by false b is below some = (let none : n ≡ 0 = grind (arith, nat_tests, is) in absurd (some none))
 
 -- the pieces of a body are short enough
-pieces-within : (n : Configuration) (m pieces size : ℕ) (octets : List ℕ) → m ≤ n.channel_max → (n.frame_max ≢ 0 → size + 8 ≤ n.frame_max)
+pub pieces-within : (n : Configuration) (m pieces size : ℕ) (octets : List ℕ) → m ≤ n.channel_max → (n.frame_max ≢ 0 → size + 8 ≤ n.frame_max)
     → AllByRecursion (IsWithinBounds n) (map (Raw m Body) (cut pieces size octets))
 pieces-within n m zero size octets le small = tt
 pieces-within n m (suc pieces) size [] le small = tt
@@ -46,18 +46,19 @@ pieces-within n m (suc pieces) size (o ∷ octets) le small = (
 )
 
 -- each frame that a rule queues keeps the numbers of the connection
-pub within-bounds : Sayings
+unfoldable pub within-bounds : Sayings
 within-bounds =
     record {
       Numbers = IsLarge;
       Makes = λ c. Unit {0};
       Heard = λ f. Unit {0};
+      Answered = λ a. Unit {0};
       Told = λ c. Unit {0};
       Says = IsWithinBounds;
       own = λ c made. kept-large (unwrap_or c.uri.query.frame_max 0);
       tunes = λ own a b d large heard some. omega arith;
       header = λ n. (tt, refl);
-      starts = λ n c mechanism response made. ((λ some. omega arith), refl);
+      starts = λ n c mechanism response made named. ((λ some. omega arith), refl);
       secures = λ n response. ((λ some. omega arith), refl);
       agrees = λ n large. ((λ some. omega arith), refl);
       opens_vhost = λ n c made. ((λ some. omega arith), refl);

@@ -8,3 +8,5 @@ pub mod OnCommands
 -- What is asked holds: the agreed numbers, and the rules of frames.
 pub mod Agreeing
 pub mod Writable
+-- What a client says of itself.
+pub mod Introducing

@@ -1,5 +1,5 @@
 -- Each command, and time that goes by, leave a session that says nothing else.
-use Rattle.std.proofs.Common.{◌≡◌, ◌≤◌, ℕ, zero, suc, ◌+◌, ◌-◌, ◌==◌, ◌||◌, not, nat_le, nat_lt, Bool, true, false, true≢false, if◌then◌else◌, List, [], ◌∷◌, ◌++◌, Option, Some, None, Result, Ok, Err, refl, ap, sym, ◌∙◌, subst, cond, arith}
+use Rattle.std.proofs.Common.{◌≡◌, ◌≤◌, ℕ, zero, suc, ◌+◌, ◌-◌, ◌==◌, ◌||◌, not, nat_le, nat_lt, Bool, true, false, if◌then◌else◌, List, [], ◌∷◌, ◌++◌, Option, Some, None, Result, Ok, Err, refl, ap, sym, ◌∙◌, subst, cond, arith}
 use Rattle.std.specs.Prelude.{codes, find}
 use Rattle.std.proofs.lemmas.Bool.Decides.{nat_tests}
 use Rattle.std.specs.List.{AllByRecursion, range_with_len}
@@ -29,14 +29,14 @@ use Rattle.amqp_session.specs.Talk.{Talk, is_open, is_open_link}
 use Rattle.amqp_session.specs.Changes.{queue, queue_item, next_promise, without_groups_of}
 use Rattle.amqp_session.specs.Handshake.{our_close, our_channel_close, new_secret, channel_open, channel_flow}
 use Rattle.amqp_session.specs.Numbering.{first_number, drawn, cycle}
-use Rattle.amqp_session.specs.Channels.{channel_at, set_channel, new_channel, made_closing, made_leaving}
+use Rattle.amqp_session.specs.Channels.{channel_at, set_channel, new_channel, made_leaving}
 use Rattle.amqp_session.specs.Publishing.{method_frame, publish_frames}
 use Rattle.amqp_session.specs.Commands.{is_opening, named_in, target_in, target_by, target, open_drawn, leave_channel, close_target, drop_target, flow_target, queue_secret, too_long, unless_too_long, too_full, unless_full, queue_send, send_target, body_limit, queue_publish, publish_target, leave_connection, command, command_rule}
 use Rattle.amqp_session.specs.Ticks.{refresh_reason, link_at, link_due, tick}
 use Rattle.amqp_session.proofs.Keeping.{lacks_link}
 use Rattle.amqp_session.proofs.Walk.{refused-keeps, tick-keeps}
 use Rattle.amqp_types.proofs.Small.{if_case, all-push}
-use Rattle.amqp_written_rules.proofs.Spoken.{Sayings, Spoken, requeued, OfItem, OfItems, hears_channels, is_early}
+use Rattle.amqp_written_rules.proofs.Spoken.{Sayings, Spoken, requeued, spoken-closing, OfItem, OfItems, hears_channels, is_early}
 use Rattle.amqp_written_rules.proofs.OnLinks.{Stays, stays-lose, at-within, put-within}
 use Rattle.amqp_written_rules.proofs.OnChannels.{all-left, spoken-queue, spoken-agreed, spoken-channels}
 
@@ -198,21 +198,15 @@ module _ (k : Sayings) (fs : List Frame) (t : Talk) (h : Stays k fs t) (open_sta
   -- our close of the connection
   stays-left : (code : ℕ) (text : List ℕ) (promise : Option ℕ) → ((n : Configuration) → k.Says n (our_close code text))
       → Stays k fs (leave_connection code text promise t)
-  stays-left code text promise says = (
-    (λ o.
-        (let said = h.0 o in
-        record {
-          made = said.made;
-          numbers = said.numbers;
-          room = said.room;
-          listed = λ hears. absurd (true≢false (sym hears));
-          sized = said.sized;
-          said = λ n may.
-              (let all = said.said n (λ early. may refl) in
-              record { committed = all.committed; lane = all-push (OfItem k n) t.outbox.control (plain_item 0 (our_close code text)) all.lane (says n); rest = all.rest; groups = tt });
-        })),
-    h.1,
-  )
+  stays-left code text promise says =
+      let u : Talk = leave_connection code text promise t in (
+        (λ o.
+            spoken-closing k fs t u.channels u.outbox
+            (λ n all.
+            record { committed = all.committed; lane = all-push (OfItem k n) t.outbox.control (plain_item 0 (our_close code text)) all.lane (says n); rest = all.rest; groups = tt })
+            (h.0 o)),
+        h.1,
+      )
 
   stays-told : (c : Cmd) → k.Told c → Stays k fs (command_rule Connected c t)
   stays-told OpenChannel told =

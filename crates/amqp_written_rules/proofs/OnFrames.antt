@@ -1,6 +1,7 @@
 -- Each frame that is read leaves a session that says nothing else.
 use Rattle.std.proofs.Common.{◌≡◌, ◌≤◌, ◌<◌, ℕ, zero, suc, nat_le, true, false, true≢false, if◌then◌else◌, List, [], ◌∷◌, ◌++◌, Option, Some, None, Result, Ok, Err, refl, ap, sym, ◌∙◌, subst, append_assoc, append-nil, cond, arith}
 use Rattle.std.proofs.lemmas.Bool.Decides.{nat_tests}
+use Rattle.std.specs.List.{AllByRecursion}
 use Rattle.amqp_frame.specs.declared.frame.Frame.{Frame}
 use Rattle.amqp_frame.specs.declared.frame.Frame.TheVariants.{ProtocolHeader, Method, Raw, Heartbeat}
 use Rattle.amqp_frame.specs.declared.frame.RawKind.TheVariants.{RawMethod}
@@ -9,7 +10,7 @@ use Rattle.amqp_frame.specs.declared.method.Method.TheVariants.{Start, Secure, T
 use Rattle.amqp_frame.specs.Methods.{is_of_a_channel}
 use Rattle.amqp_outbox.specs.declared.reply.Reply.TheVariants.{SecretDone, ConnectionClosed, ChannelOpened}
 use Rattle.amqp_outbox.specs.Items.{plain_item}
-use Rattle.amqp_outbox.specs.Queued.{awaited_promise}
+use Rattle.amqp_outbox.specs.Queued.{only, awaited_promise}
 use Rattle.amqp_promise.specs.declared.error.ErrorKind.TheVariants.{InvalidProtocolVersion, InvalidConnectionState, AuthProviderError}
 use Rattle.amqp_promise.specs.declared.state.ConnectionState.{ConnectionState}
 use Rattle.amqp_promise.specs.declared.state.ConnectionState.TheVariants.{Connecting, Connected, Closing}
@@ -18,21 +19,21 @@ use Rattle.amqp_session.specs.declared.configuration.Configuration.{Configuratio
 use Rattle.amqp_session.specs.declared.state.Phase.{Phase}
 use Rattle.amqp_session.specs.declared.state.Phase.TheVariants.{AwaitStart, AwaitTune, AwaitOpenOk}
 use Rattle.amqp_auth.specs.declared.asked.Asked.{Asked}
+use Rattle.amqp_auth.specs.declared.asked.Asked.TheVariants as answer
 use Rattle.amqp_session.specs.Listed.{without}
 use Rattle.amqp_session.proofs.Keeping.{lacks_link}
 use Rattle.amqp_session.specs.Talk.{Talk, acts, hears_on, is_open}
 use Rattle.amqp_session.specs.Changes.{queue, await, misplaced, close}
-use Rattle.amqp_session.specs.Capacities.{greatest_capacity}
 use Rattle.amqp_session.specs.Negotiation.{tune, grown_capacity}
-use Rattle.amqp_session.specs.Handshake.{start_ok, secure_ok, tune_ok, open_vhost, channel_open}
+use Rattle.amqp_session.specs.Handshake.{start_ok, secure_ok, tune_ok, open_vhost, close_ok, channel_open}
 use Rattle.amqp_session.specs.Violations.{stray_channel_frame}
-use Rattle.amqp_session.specs.ConnectionMethods.{started, challenged, on_tune, connected, reopen_each, on_open_ok, secret_taken, on_connection_close, connection_closed, connection_rule}
+use Rattle.amqp_session.specs.ConnectionMethods.{started, on_start, challenged, on_tune, connected, reopen_each, on_open_ok, secret_taken, on_connection_close, connection_closed, connection_rule}
 use Rattle.amqp_session.specs.ChannelMethods.{remove_channel}
 use Rattle.amqp_session.specs.Frames.{method_rule, frame_rule, closed_rule, on_frame}
-use Rattle.amqp_session.proofs.Heard.{start-case, secure-case}
+use Rattle.amqp_session.proofs.Heard.{secure-case}
 use Rattle.amqp_session.proofs.Numbered.{is_itself, is_other}
 use Rattle.amqp_types.proofs.Small.{if_case, if_by, all-push, at-most}
-use Rattle.amqp_written_rules.proofs.Spoken.{Sayings, SaysAll, Spoken, Quiet, relisted, OfItem, IsWithin, hears_channels, is_early}
+use Rattle.amqp_written_rules.proofs.Spoken.{Sayings, HasRoom, SaysAll, Spoken, Quiet, relisted, spoken-closing, OfItem, IsWithin, hears_channels, is_early}
 use Rattle.amqp_written_rules.proofs.OnLinks.{Stays, stays-ended, stays-lose}
 use Rattle.amqp_written_rules.proofs.OnChannels.{spoken-queue, spoken-agreed, stays-misplaced, stays-method-on, stays-raw}
 
@@ -85,7 +86,7 @@ early-open : (s : ConnectionState) → is_early s AwaitOpenOk ≡ false
 early-open Connecting = refl
 early-open _ = refl
 
-module _ (k : Sayings) (fs : List Frame) (answers : List Asked) (t : Talk) (h : Stays k fs t) where
+module _ (k : Sayings) (fs : List Frame) (answers : List Asked) (given : AllByRecursion k.Answered answers) (t : Talk) (h : Stays k fs t) where
   -- ---- the handshake
 
   -- what was said before the numbers are agreed may be said with any
@@ -93,8 +94,9 @@ module _ (k : Sayings) (fs : List Frame) (answers : List Asked) (t : Talk) (h : 
       → SaysAll k n fs t.outbox.control t.outbox.begun t.outbox.publish
   spoken-early n early said = said.said n (λ agreed. absurd (true≢false (sym early ∙ agreed)))
 
-  stays-started : is_early t.state t.phase ≡ true → (mechanism : List ℕ) (said : Result (List ℕ) (List ℕ)) → Stays k fs (started mechanism said t)
-  stays-started early mechanism (Ok response) = (
+  stays-started : is_early t.state t.phase ≡ true → (mechanism : List ℕ) (said : Result (List ℕ) (List ℕ)) → k.Answered (answer.Mechanism mechanism)
+      → Stays k fs (started mechanism said t)
+  stays-started early mechanism (Ok response) named = (
     (λ o.
         (let said = h.0 o in
         record {
@@ -108,14 +110,19 @@ module _ (k : Sayings) (fs : List Frame) (answers : List Asked) (t : Talk) (h : 
               record {
                 committed = all.committed;
                 lane = all-push (OfItem k n) t.outbox.control (plain_item 0 (start_ok t.config.options mechanism response)) all.lane
-                    (k.starts n t.config mechanism response said.made);
+                    (k.starts n t.config mechanism response said.made named);
                 rest = all.rest;
                 groups = all.groups;
               });
         })),
     h.1,
   )
-  stays-started early mechanism (Err text) = stays-lose k fs (AuthProviderError text) t h
+  stays-started early mechanism (Err text) named = stays-lose k fs (AuthProviderError text) t h
+
+  -- nothing is done by other answers than those that were asked for
+  stays-start : is_early t.state t.phase ≡ true → (said : List Asked) → AllByRecursion k.Answered said → Stays k fs (on_start said t)
+  stays-start early (answer.Mechanism mechanism ∷ answer.Starter said ∷ later) named = stays-started early mechanism said named.0
+  stays-start early _ named = h
 
   stays-challenged : (said : Result (List ℕ) (List ℕ)) → Stays k fs (challenged said t)
   stays-challenged (Ok response) = ((λ o. spoken-queue k fs 0 (secure_ok response) t (λ n. k.secures n response) (h.0 o)), h.1)
@@ -151,7 +158,8 @@ module _ (k : Sayings) (fs : List Frame) (answers : List Asked) (t : Talk) (h : 
 
   stays-open-ok : Stays k fs (on_open_ok t)
   stays-open-ok =
-      let grown : t.capacity ≤ greatest_capacity → grown_capacity t ≤ greatest_capacity = λ room. omega (arith, room) in
+      let grown : HasRoom t.capacity → HasRoom (grown_capacity t) =
+      λ room. (let least = room.0 in let most = room.1 in (omega (arith, least), omega (arith, most))) in
       spoken-reopened k fs t.channels [] (connected t) refl
       (record {
         within = tt;
@@ -183,15 +191,8 @@ module _ (k : Sayings) (fs : List Frame) (answers : List Asked) (t : Talk) (h : 
   stays-server-close : (code : ℕ) (text : List ℕ) → Stays k fs (on_connection_close code text t)
   stays-server-close code text = (
     (λ o.
-        (let said = h.0 o in
-        record {
-          made = said.made;
-          numbers = said.numbers;
-          room = said.room;
-          listed = λ hears. absurd (true≢false (sym hears));
-          sized = said.sized;
-          said = λ n may. record { committed = (said.said n (λ early. may refl)).committed; lane = (k.answers_close n, tt); rest = tt; groups = tt };
-        })),
+        spoken-closing k fs t t.channels (only (plain_item 0 close_ok))
+        (λ n all. record { committed = all.committed; lane = (k.answers_close n, tt); rest = tt; groups = tt }) (h.0 o)),
     h.1,
   )
 
@@ -206,7 +207,7 @@ module _ (k : Sayings) (fs : List Frame) (answers : List Asked) (t : Talk) (h : 
   stays-connection Closing p CloseOk is phase heard = stays-closed (awaited_promise 0 ConnectionClosed t.outbox)
   stays-connection Closing p m is phase heard = h
   stays-connection Connecting AwaitStart (Start a b c d e) is phase heard =
-      start-case (Stays k fs) answers t h (stays-started (in-early Connecting AwaitStart is phase))
+      stays-start (in-early Connecting AwaitStart is phase) answers given
   stays-connection Connecting AwaitTune (Secure challenge) is phase heard = secure-case (Stays k fs) answers t h (λ said. stays-challenged said)
   stays-connection Connecting AwaitTune (Tune a b d) is phase heard = stays-tune a b d heard (in-early Connecting AwaitTune is phase) (ap hears_channels is)
   stays-connection Connecting AwaitOpenOk OpenOk is phase heard = stays-open-ok

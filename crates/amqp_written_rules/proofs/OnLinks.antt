@@ -215,7 +215,7 @@ module _ (k : Sayings) (fs : List Frame) where
 
 module _ (k : Sayings) where
   pub start-quiet : (c : Config) → k.Makes c → Quiet k (start c)
-  start-quiet c made = record { made = made; numbers = k.own c made; room = omega arith }
+  start-quiet c made = record { made = made; numbers = k.own c made; room = (omega arith, omega arith) }
 
   on_new_link : Talk → Talk
   on_new_link t =
@@ -277,7 +277,7 @@ module _ (k : Sayings) where
   pub commit-spoken : (t : Talk) (fs : List Frame) (item : Item) → next_out t ≡ Some item → size_of item ≤ t.capacity → Spoken k fs t
       → Spoken k (fs ++ item.frame ∷ []) (record t { outbox = after_next (flows t) t.outbox; committed = t.committed ++ mark_of item ∷ [] })
   commit-spoken t fs item is size h =
-      let room = h.room in
+      let room = h.room.1 in
       record {
         made = h.made;
         numbers = h.numbers;

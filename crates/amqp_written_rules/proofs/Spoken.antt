@@ -1,6 +1,6 @@
 -- What is asked of each frame that a rule queues, by the numbers of the connection, and a session all of whose frames
 -- have it.
-use Rattle.std.proofs.Common.{◌≡◌, ◌≤◌, ℕ, ◌-◌, min, Bool, true, false, List, length, refl}
+use Rattle.std.proofs.Common.{◌≡◌, ◌≤◌, ℕ, ◌-◌, min, Bool, true, false, true≢false, List, length, refl, sym}
 use Rattle.std.specs.Prelude.{codes}
 use Rattle.std.specs.List.{AllByRecursion}
 use Rattle.amqp_frame.specs.declared.frame.Frame.{Frame}
@@ -8,6 +8,8 @@ use Rattle.amqp_frame.specs.declared.frame.Frame.TheVariants.{Method, Heartbeat}
 use Rattle.amqp_frame.specs.declared.method.Method.TheVariants.{Tune}
 use Rattle.amqp_frame.specs.RawMethods.{OtherMethod}
 use Rattle.amqp_frame.specs.Frames.{encoding}
+use Rattle.amqp_auth.specs.declared.asked.Asked.{Asked}
+use Rattle.amqp_auth.specs.declared.asked.Asked.TheVariants as answer
 use Rattle.amqp_outbox.specs.declared.item.Item.{Item}
 use Rattle.amqp_outbox.specs.Queued.{Queued}
 use Rattle.amqp_promise.specs.declared.state.ConnectionState.{ConnectionState}
@@ -31,18 +33,20 @@ use Rattle.amqp_session.proofs.Keeping.{lacks_link}
 -- ---- what is asked
 
 -- a frame may be said while the connection has these numbers: each that a rule queues may, by what is known of what the
--- session is made from, of what it hears, and of what it is told
+-- session is made from, of what it hears, of what a provider answers, and of what it is told
 pub record Sayings : Type 1 where
   pub Numbers : Configuration → Type 0
   pub Makes : Config → Type 0
   pub Heard : Frame → Type 0
+  pub Answered : Asked → Type 0
   pub Told : Cmd → Type 0
   pub Says : Configuration → Frame → Type 0
   pub own : (c : Config) → Makes c → Numbers (own_numbers c.uri.query)
   pub tunes : (own : Configuration) (a b d : ℕ) → Numbers own → Heard (Method 0 (Tune a b d))
       → Numbers (tune own (record { channel_max = a; frame_max = b; heartbeat = d }))
   pub header : (n : Configuration) → Says n protocol_header
-  pub starts : (n : Configuration) (c : Config) (mechanism response : List ℕ) → Makes c → Says n (start_ok c.options mechanism response)
+  pub starts : (n : Configuration) (c : Config) (mechanism response : List ℕ) → Makes c → Answered (answer.Mechanism mechanism)
+      → Says n (start_ok c.options mechanism response)
   pub secures : (n : Configuration) (response : List ℕ) → Says n (secure_ok response)
   pub agrees : (n : Configuration) → Numbers n → Says n (tune_ok n)
   pub opens_vhost : (n : Configuration) (c : Config) → Makes c → Says n (open_vhost c.uri.vhost)
@@ -88,6 +92,10 @@ IsWithin most channels = AllByRecursion (λ (e : ℕ × Channel). e.0 ≤ most) 
 abbrev pub IsSized : Frame → Type 0
 IsSized f = length (encoding f) ≤ greatest_capacity
 
+-- the header will fit, and no frame that fits is longer than the greatest capacity
+abbrev pub HasRoom : ℕ → Type 0
+HasRoom capacity = (8 ≤ capacity) × (capacity ≤ greatest_capacity)
+
 module _ (k : Sayings) where
   abbrev pub OfItem : Configuration → Item → Type 0
   OfItem n item = k.Says n item.frame
@@ -107,7 +115,7 @@ module _ (k : Sayings) where
       (channels : List (ℕ × Channel)) (control begun : List Item) (publish : List (List Item)) : Type 0 where
     pub made : k.Makes config
     pub numbers : k.Numbers agreed
-    pub room : capacity ≤ greatest_capacity
+    pub room : HasRoom capacity
     pub listed : hears_channels state ≡ true → IsWithin agreed.channel_max channels
     pub sized : AllByRecursion IsSized fs
     pub said : (n : Configuration) → (is_early state phase ≡ false → n ≡ agreed) → SaysAll n fs control begun publish
@@ -128,11 +136,25 @@ module _ (k : Sayings) where
   requeued fs t q says h =
       record { made = h.made; numbers = h.numbers; room = h.room; listed = h.listed; sized = h.sized; said = λ n may. says n may (h.said n may) }
 
+  -- it is closing, and no channel is heard any more
+  pub spoken-closing : (fs : List Frame) (t : Talk) (cs : List (ℕ × Channel)) (q : Queued)
+      → ((n : Configuration) → SaysAll n fs t.outbox.control t.outbox.begun t.outbox.publish → SaysAll n fs q.control q.begun q.publish)
+      → Spoken fs t → Spoken fs (record t { state = Closing; channels = cs; outbox = q })
+  spoken-closing fs t cs q says h =
+      record {
+        made = h.made;
+        numbers = h.numbers;
+        room = h.room;
+        listed = λ hears. absurd (true≢false (sym hears));
+        sized = h.sized;
+        said = λ n may. says n (h.said n (λ early. may refl));
+      }
+
   -- what is known while no link is open
   pub record QuietIn (config : Config) (agreed : Configuration) (capacity : ℕ) : Type 0 where
     pub made : k.Makes config
     pub numbers : k.Numbers agreed
-    pub room : capacity ≤ greatest_capacity
+    pub room : HasRoom capacity
 
   abbrev pub Quiet : Talk → Type 0
   Quiet t = QuietIn t.config t.configuration t.capacity

@@ -6,17 +6,17 @@ use Rattle.amqp_frame.specs.declared.frame.Frame.{Frame}
 use Rattle.amqp_frame.specs.declared.frame.Frame.TheVariants.{Method, Raw}
 use Rattle.amqp_frame.specs.declared.frame.RawKind.TheVariants.{Body}
 use Rattle.amqp_frame.specs.declared.method.Method.TheVariants.{Tune}
-use Rattle.amqp_frame.specs.Frames.{Writable, IsOtherMethod}
+use Rattle.amqp_frame.specs.Frames.{FrameOf, Writable, IsOtherMethod}
 use Rattle.amqp_frame.specs.RawMethods.{OtherMethod, spell_raw_method}
 use Rattle.amqp_frame.specs.Rules.{KeepsRules}
 use Rattle.amqp_frame.proofs.Written.{frame_written}
 use Rattle.amqp_session.specs.declared.command.Cmd.{Cmd}
-use Rattle.amqp_session.specs.declared.command.Cmd.TheVariants.{CloseChannel, CloseConnection, UpdateSecret, Send, Publish}
+use Rattle.amqp_session.specs.declared.command.Cmd.TheVariants.{Send, Publish}
 use Rattle.amqp_session.specs.declared.configuration.Configuration.{Configuration}
 use Rattle.amqp_session.specs.Negotiation.{tune, lesser_wish, wish_or}
 use Rattle.amqp_session.specs.Publishing.{cut, content_header}
 use Rattle.amqp_types.proofs.Small.{if_case}
-use Rattle.amqp_written_rules.specs.Sayable.{AreInRange, CanBeSaid, IsNamed}
+use Rattle.amqp_written_rules.specs.Sayable.{AreInRange, CanBeSaid, CanBeTold, CanBeAnswered}
 use Rattle.amqp_written_rules.proofs.Spoken.{Sayings, IsSized, IsSpoken}
 
 -- ---- what comes, and what is told
@@ -32,12 +32,9 @@ IsPassed method = (method.class ≢ 10) × (method.class ≢ 20) × (method.clas
 
 -- what a command carries fits on the wire
 abbrev pub Fits : Cmd → Type 0
-Fits (CloseChannel r code text) = (code < 2 ^ 16) × (length text < 2 ^ 8)
-Fits (CloseConnection code text) = (code < 2 ^ 16) × (length text < 2 ^ 8)
-Fits (UpdateSecret secret reason) = length reason < 2 ^ 8
 Fits (Send r method) = IsPassed method
 Fits (Publish r method properties body) = IsPassed method × (2 ≤ length properties)
-Fits c = Unit {0}
+Fits c = CanBeTold c
 
 -- ---- numbers
 
@@ -49,7 +46,7 @@ lesser-below most own server h k =
 wish-below : (most greatest wish : ℕ) → greatest < most → wish < most → wish_or greatest wish < most
 wish-below most greatest wish h k = if_case (λ (x : ℕ). x < most) (wish == 0) greatest wish h k
 
-tuned-range : (own : Configuration) (a b d : ℕ) → AreInRange own → IsHeard (Method 0 (Tune a b d))
+pub tuned-range : (own : Configuration) (a b d : ℕ) → AreInRange own → IsHeard (Method 0 (Tune a b d))
     → AreInRange (tune own (record { channel_max = a; frame_max = b; heartbeat = d }))
 tuned-range own a b d h k =
     let frame = wish-below (2 ^ 32) 4294967295 (lesser_wish own.frame_max b) (omega arith) (lesser-below (2 ^ 32) own.frame_max b h.1 k.1) in (
@@ -59,12 +56,12 @@ tuned-range own a b d h k =
     )
 
 -- a number of a channel that is at most the greatest
-ranged : (n : Configuration) (m : ℕ) → AreInRange n → m ≤ n.channel_max → m < 2 ^ 16
+pub ranged : (n : Configuration) (m : ℕ) → AreInRange n → m ≤ n.channel_max → m < 2 ^ 16
 ranged n m h le = (let most = h.0 in omega (arith, le, most))
 
 -- ---- payloads
 
-passed-payload : (method : OtherMethod) → IsPassed method → IsOtherMethod (spell_raw_method method)
+pub passed-payload : (method : OtherMethod) → IsPassed method → IsOtherMethod (spell_raw_method method)
 passed-payload method h = (
   method.class,
   method.method,
@@ -79,61 +76,65 @@ passed-payload method h = (
   ),
 )
 
-header-payload : (class size : ℕ) (properties : List ℕ) → 2 ≤ length properties → 14 ≤ length (content_header class size properties)
+pub header-payload : (class size : ℕ) (properties : List ℕ) → 2 ≤ length properties → 14 ≤ length (content_header class size properties)
 header-payload class size properties h = omega (arith, h)
 
--- a frame keeps the rules, where the mechanism that it names is a short string
-abbrev pub Keeps : Frame → Type 0
-Keeps f = IsNamed f → KeepsRules f
-
-bodies-keep : (m pieces size : ℕ) (octets : List ℕ) → m < 2 ^ 16 → AllByRecursion Keeps (map (Raw m Body) (cut pieces size octets))
+pub bodies-keep : (m pieces size : ℕ) (octets : List ℕ) → m < 2 ^ 16 → AllByRecursion KeepsRules (map (Raw m Body) (cut pieces size octets))
 bodies-keep m zero size octets le = tt
 bodies-keep m (suc pieces) size [] le = tt
-bodies-keep m (suc pieces) size (o ∷ octets) le = ((λ named. (le, tt)), bodies-keep m pieces size (drop size (o ∷ octets)) le)
+bodies-keep m (suc pieces) size (o ∷ octets) le = ((le, tt), bodies-keep m pieces size (drop size (o ∷ octets)) le)
 
 -- ---- all that is said
 
 -- each frame that a rule queues keeps the rules of frames
-pub by-rules : Sayings
+unfoldable pub by-rules : Sayings
 by-rules =
     record {
       Numbers = AreInRange;
       Makes = CanBeSaid;
       Heard = IsHeard;
+      Answered = CanBeAnswered;
       Told = Fits;
-      Says = λ n f. Keeps f;
+      Says = λ n f. KeepsRules f;
       own = λ c made. made.numbers;
       tunes = tuned-range;
-      header = λ n named. (omega arith, omega arith, omega arith);
+      header = λ n. (omega arith, omega arith, omega arith);
       starts = λ n c mechanism response made named. (omega arith, (made.properties, named, made.locale));
-      secures = λ n response named. (omega arith, tt);
-      agrees = λ n range named. (omega arith, range);
-      opens_vhost = λ n c made named. (omega arith, made.vhost);
-      answers_close = λ n named. (omega arith, tt);
-      beats = λ n named. tt;
-      refreshes = λ n secret named. (omega arith, omega arith);
-      tells_secret = λ n secret reason told named. (omega arith, told);
-      closes = λ n code text told named. (omega arith, (told.0, told.1, omega arith, omega arith));
-      drops = λ n named. (omega arith, (omega arith, omega arith, omega arith, omega arith));
-      opens = λ n m range le named. (ranged n m range le, tt);
-      answers_flow = λ n m active range le named. (ranged n m range le, tt);
-      flows = λ n m active range le named. (ranged n m range le, tt);
-      answers_channel_close = λ n m range le named. (ranged n m range le, tt);
-      closes_channel = λ n m code text r range le told named. (ranged n m range le, (told.0, told.1, omega arith, omega arith));
-      drops_channel = λ n m range le named. (ranged n m range le, (omega arith, omega arith, omega arith, omega arith));
-      sends = λ n m r method range le told named. (ranged n m range le, passed-payload method told);
+      secures = λ n response. (omega arith, tt);
+      agrees = λ n range. (omega arith, range);
+      opens_vhost = λ n c made. (omega arith, made.vhost);
+      answers_close = λ n. (omega arith, tt);
+      beats = λ n. tt;
+      refreshes = λ n secret. (omega arith, omega arith);
+      tells_secret = λ n secret reason told. (omega arith, told);
+      closes = λ n code text told. (omega arith, (told.0, told.1, omega arith, omega arith));
+      drops = λ n. (omega arith, (omega arith, omega arith, omega arith, omega arith));
+      opens = λ n m range le. (ranged n m range le, tt);
+      answers_flow = λ n m active range le. (ranged n m range le, tt);
+      flows = λ n m active range le. (ranged n m range le, tt);
+      answers_channel_close = λ n m range le. (ranged n m range le, tt);
+      closes_channel = λ n m code text r range le told. (ranged n m range le, (told.0, told.1, omega arith, omega arith));
+      drops_channel = λ n m range le. (ranged n m range le, (omega arith, omega arith, omega arith, omega arith));
+      sends = λ n m r method range le told. (ranged n m range le, passed-payload method told);
       publishes = λ n m capacity r method properties body range le told.
           (let low = ranged n m range le in
-          ((λ named. (low, passed-payload method told.0)), ((λ named. (low, header-payload method.class (length body) properties told.1)), bodies-keep m (length body) (min capacity (wish_or capacity n.frame_max) - 8) body low)));
+          ((low, passed-payload method told.0), ((low, header-payload method.class (length body) properties told.1), bodies-keep m (length body) (min capacity (wish_or capacity n.frame_max) - 8) body low)));
     }
 
 -- what was said on a link can be written
-written-each : (fs : List Frame) → AllByRecursion Keeps fs → AllByRecursion IsSized fs → AllByRecursion (λ (f : Frame). IsNamed f → Writable f) fs
+written-each : (fs : List Frame) → AllByRecursion KeepsRules fs → AllByRecursion IsSized fs → AllByRecursion Writable fs
 written-each [] h sized = tt
 written-each (f ∷ fs) h sized =
     let size = sized.0 in
-    ((λ named. (frame_written f (h.0 named) (omega (arith, size)), omega (arith, size))), written-each fs h.1 sized.1)
+    ((frame_written f h.0 (omega (arith, size)), omega (arith, size)), written-each fs h.1 sized.1)
 
-pub spoken-writable : (fs : List Frame) → IsSpoken by-rules fs → AllByRecursion (λ (f : Frame). IsNamed f → Writable f) fs
+pub spoken-writable : (fs : List Frame) → IsSpoken by-rules fs → AllByRecursion Writable fs
 unfolding by-rules
 spoken-writable fs h = written-each fs h.says h.sized
+
+-- ---- what is read
+
+-- what octets spell has its numbers in the range of their types
+pub spelled-heard : (f : Frame) (text : List ℕ) → FrameOf f text → IsHeard f
+spelled-heard (Method n (Tune a b d)) text h = (let numbers = h.1.4.4 in (numbers.3.0, numbers.4.3.0, numbers.4.4.0))
+spelled-heard f text h = tt

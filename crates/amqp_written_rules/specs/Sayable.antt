@@ -1,10 +1,11 @@
--- What is asked of what a session is made from, so that all that it says can be written: that numbers are in the range
--- of their types, and that short strings are short.
+-- What is asked of what a session is made from, of what it is told and of what is answered to it, so that all that it
+-- says can be written: that numbers are in the range of their types, and that short strings are short.
 use Rattle.std.specs.Prelude.{◌<◌, ◌^◌, length}
-use Rattle.amqp_frame.specs.declared.frame.Frame.{Frame}
-use Rattle.amqp_frame.specs.declared.frame.Frame.TheVariants.{Method}
-use Rattle.amqp_frame.specs.declared.method.Method.TheVariants.{StartOk}
 use Rattle.amqp_frame.specs.Rules.{KeepsTable}
+use Rattle.amqp_auth.specs.declared.asked.Asked.{Asked}
+use Rattle.amqp_auth.specs.declared.asked.Asked.TheVariants as answer
+use Rattle.amqp_session.specs.declared.command.Cmd.{Cmd}
+use Rattle.amqp_session.specs.declared.command.Cmd.TheVariants.{CloseChannel, CloseConnection, UpdateSecret}
 use Rattle.amqp_session.specs.declared.configuration.Configuration.{Configuration}
 use Rattle.amqp_session.specs.Config.{Config, own_numbers}
 use Rattle.amqp_session.specs.Handshake.{client_properties}
@@ -20,7 +21,14 @@ pub record CanBeSaid (c : Config) : Type 0 where
   pub locale : length c.options.locale < 2 ^ 8
   pub properties : KeepsTable (client_properties c.options.properties)
 
--- where a frame names a mechanism, its name is a short string
-abbrev pub IsNamed : Frame → Type 0
-IsNamed (Method n (StartOk properties mechanism response locale)) = length mechanism < 2 ^ 8
-IsNamed f = Unit {0}
+-- what a command says of its own can be written: the code and the text of a close, and the reason for a new secret
+abbrev pub CanBeTold : Cmd → Type 0
+CanBeTold (CloseChannel channel code text) = (code < 2 ^ 16) × (length text < 2 ^ 8)
+CanBeTold (CloseConnection code text) = (code < 2 ^ 16) × (length text < 2 ^ 8)
+CanBeTold (UpdateSecret secret reason) = length reason < 2 ^ 8
+CanBeTold _ = Unit {0}
+
+-- what a provider answers can be written: a mechanism has a short string for a name
+abbrev pub CanBeAnswered : Asked → Type 0
+CanBeAnswered (answer.Mechanism name) = length name < 2 ^ 8
+CanBeAnswered _ = Unit {0}

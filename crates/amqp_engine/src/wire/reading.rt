@@ -8,11 +8,12 @@ ghost use Rattle.amqp_session.specs.Frames.{on_frame};
 ghost use Rattle.amqp_session.specs.Links.{link_failed, lost};
 ghost use Rattle.amqp_session.specs.Commands.{command as command_rule};
 ghost use Rattle.amqp_engine.specs.Plan.{at_most_64};
-ghost use Rattle.amqp_engine.specs.Engine.{Engine, rule_at, step_linked, step_piece, step_engine, front_of, can_read, settle, read_badly, read_row, is_more, starve_at};
+ghost use Rattle.amqp_engine.specs.Engine.{Engine, rule_at, step_linked, step_piece, step_engine, step_questions, front_of, can_read, settle, read_badly, read_row, row_questions, read_questions, is_more, starve_at};
 ghost use Rattle.amqp_auth.specs.declared.asked.Asked.{Asked};
 ghost use Rattle.amqp_auth.specs.declared.asked.Question.{Question};
-ghost use Rattle.amqp_engine.specs.Turn.{begun, is_part, is_piece, step_part, reading};
-ghost use Rattle.amqp_engine.specs.Making.{making, parts_of, is_event, is_whole, keeps_unread, IsSettled, piece_joined, FewParts, Reaches, Heard, Broke, StepHears, RowHears, Grew, Blames};
+ghost use Rattle.amqp_auth.specs.Asking.{Unanswered};
+ghost use Rattle.amqp_engine.specs.Turn.{begun, is_part, is_piece, step_part, reading, cut_questions};
+ghost use Rattle.amqp_engine.specs.Making.{making, parts_of, is_event, is_whole, keeps_unread, IsSettled, piece_joined, FewParts, Reaches, Heard, Broke, BreaksAt, cut_turn, StepHears, RowHears, Blames};
 ghost use Rattle.amqp_frame.specs.declared.frame.Read.TheVariants as reads;
 
 use super::Wire;
@@ -56,8 +57,9 @@ impl Wire {
             → reading (is_piece step) (step_part step bytes.now (begun at cut (answers ++ more) self.old))
             ≡ making at cut more questions self.new parts.new)
             (A.allows provider.old) (A.allows provider.new) auths.old.list auths.new.list) }
-        ensures err { OnErr result (Broke parts.new (λ answers questions e.
+        ensures err { OnErr result (Broke parts.new (λ answers questions next e.
             (starve_at at parts.new self.new ≡ starve_at at parts.new e)
+            × (next ≡ cut_questions (cut_turn at step bytes.now answers parts.new) self.old)
             × (reading (is_piece step) (step_part step bytes.now (begun at (Some parts.new) answers self.old))
             ≡ making at (Some parts.new) (drop (length questions) answers) questions e parts.new))
             (A.allows provider.old) auths.old.list auths.new.list) }
@@ -91,7 +93,8 @@ impl Wire {
             (A.allows provider.old) (A.allows provider.new) auths.old.list auths.new.list) }
         ensures parts { IfOk result (λ n. n ≡ parts_of (is_part step self.old)) }
         ensures err { OnErr result (self.new ≡ rule_at at starve self.old) }
-        ensures listed { OnErr result (Grew auths.old.list auths.new.list) }
+        ensures unanswered { OnErr result (Unanswered (λ answers. step_questions at step answers self.old)
+            (A.allows provider.old) auths.old.list auths.new.list) }
         ensures refused { OnErr result (is_part step self.old ≡ true) }
         ensures never_falls { A.refusals provider.old ≤ A.refusals provider.new }
     {
@@ -183,7 +186,8 @@ impl Wire {
             (A.allows provider.old) (A.allows provider.new) auths.old.list auths.new.list) }
         ensures parts { IfOk result (λ n. n ≡ 1) }
         ensures err { OnErr result (self.new ≡ rule_at at starve self.old) }
-        ensures listed { OnErr result (Grew auths.old.list auths.new.list) }
+        ensures unanswered { OnErr result (Unanswered (λ answers. step_questions at Step.Tick answers self.old)
+            (A.allows provider.old) auths.old.list auths.new.list) }
         ensures never_falls { A.refusals provider.old ≤ A.refusals provider.new }
     {
         if let Err(refused) = self.session.tick(at, provider, auths) {
@@ -226,8 +230,8 @@ impl Wire {
             → reading true (making at cut (answers ++ more) [] (step_piece at piece.now self.old) 1)
             ≡ making at cut more questions self.new parts.new)
             (A.allows provider.old) (A.allows provider.new) auths.old.list auths.new.list) }
-        ensures err { OnErr result (Broke parts.new (λ answers questions e.
-            (starve_at at parts.new self.new ≡ starve_at at parts.new e)
+        ensures err { OnErr result (Broke parts.new (λ answers questions next e.
+            (starve_at at parts.new self.new ≡ starve_at at parts.new e) × BreaksAt at next e
             × (reading true (making at (Some parts.new) answers [] (step_piece at piece.now self.old) 1)
             ≡ making at (Some parts.new) (drop (length questions) answers) questions e parts.new))
             (A.allows provider.old) auths.old.list auths.new.list) }
@@ -290,8 +294,8 @@ impl Wire {
             (A.allows provider.old) (A.allows provider.new) auths.old.list auths.new.list) }
         ensures done { OnOk result (can_read self.new ≡ false) }
         ensures settled { OnOk result (IsSettled self.new) }
-        ensures err { OnErr result (Broke parts.new (λ answers questions e. (self.new ≡ rule_at at starve e)
-            × ((rest : List ℕ) (before : List Question)
+        ensures err { OnErr result (Broke parts.new (λ answers questions next e. (self.new ≡ rule_at at starve e)
+            × IsSettled e × BreaksAt at next e × ((rest : List ℕ) (before : List Question)
             → reading true (making at (Some parts.new) answers before (piece_joined rest self.old) parts.old)
             ≡ making at (Some parts.new) (drop (length questions) answers) (before ++ questions) (piece_joined rest e)
             parts.new))
@@ -325,7 +329,9 @@ impl Wire {
         ensures none { IfOk result (λ b. b ≡ false → (self.new ≡ self.old) × (auths.new ≡ auths.old)
             × (provider.new ≡ provider.old)) }
         ensures err { OnErr result (self.new ≡ rule_at at starve self.old) }
-        ensures listed { OnErr result (Grew auths.old.list auths.new.list) }
+        ensures unanswered { OnErr result (Unanswered (λ _. read_questions at self.old)
+            (A.allows provider.old) auths.old.list auths.new.list) }
+        ensures refused { OnErr result (can_read self.old ≡ true) }
         ensures never_falls { A.refusals provider.old ≤ A.refusals provider.new }
         ensures blames { Blames self.old.talk self.new.talk (A.refusals provider.old) (A.refusals provider.new) }
     {
@@ -360,7 +366,8 @@ impl Wire {
         ensures ok { OnOk result (RowHears at (reads.Whole frame n) self.old self.new
             (A.allows provider.old) (A.allows provider.new) auths.old.list auths.new.list) }
         ensures err { OnErr result (self.new ≡ rule_at at starve self.old) }
-        ensures listed { OnErr result (Grew auths.old.list auths.new.list) }
+        ensures unanswered { OnErr result (Unanswered (λ _. row_questions at (reads.Whole frame n) self.old)
+            (A.allows provider.old) auths.old.list auths.new.list) }
         ensures never_falls { A.refusals provider.old ≤ A.refusals provider.new }
         ensures blames { Blames self.old.talk self.new.talk (A.refusals provider.old) (A.refusals provider.new) }
     {
@@ -398,7 +405,8 @@ impl Wire {
         ensures ok { OnOk result (RowHears at (reads.Whole frame n) self.old self.new
             (A.allows provider.old) (A.allows provider.new) auths.old.list auths.new.list) }
         ensures err { OnErr result (self.new ≡ rule_at at starve self.old) }
-        ensures listed { OnErr result (Grew auths.old.list auths.new.list) }
+        ensures unanswered { OnErr result (Unanswered (λ _. row_questions at (reads.Whole frame n) self.old)
+            (A.allows provider.old) auths.old.list auths.new.list) }
         ensures never_falls { A.refusals provider.old ≤ A.refusals provider.new }
         ensures blames { Blames self.old.talk self.new.talk (A.refusals provider.old) (A.refusals provider.new) }
     {
@@ -451,6 +459,7 @@ impl Wire {
         ensures ok { IfOk result (λ b. (answers : List Asked)
             → self.new ≡ (if b then read_row at read.now answers self.old else self.old)) }
         ensures err { OnErr result (self.new ≡ rule_at at starve self.old) }
+        ensures some_read { OnErr result (is_more read.now ≡ false) }
         ensures held { OnOk result (read.now ≢ reads.NoMemory) }
     {
         match read {

@@ -1,6 +1,6 @@
 //! The writing of frames.
 
-ghost use Rattle.std.specs.Prelude.{◌≡◌, ◌≤◌, ◌<◌, ◌+◌, ◌*◌, List, Some, None, true, false, IfNone, IfSome, OnOk, OnErr, IsTrue, IsFalse, option_map, length, is_some};
+ghost use Rattle.std.specs.Prelude.{◌≡◌, ◌≤◌, ◌<◌, ◌+◌, ◌*◌, List, [], ◌++◌, Some, None, true, false, IfNone, IfSome, OnOk, OnErr, IsTrue, IsFalse, option_map, length, is_some};
 ghost use Rattle.amqp_auth.specs.declared.asked.Asked.{Asked};
 ghost use Rattle.amqp_auth.specs.declared.asked.Question.{Question};
 ghost use Rattle.amqp_session.specs.Talk.{is_open};
@@ -9,13 +9,14 @@ ghost use Rattle.amqp_session.specs.Writing.{overlong, end_overlong};
 ghost use Rattle.amqp_engine.specs.Engine.{taken_by, with_talk, wrote, fitting_next, commit_one, commit_all, overlong_next, refuse_overlong, can_write};
 ghost use Rattle.amqp_engine.specs.Turn.{offered, answered, is_all};
 ghost use Rattle.amqp_engine.specs.Making.{making, FewParts, Writes};
+ghost use Rattle.amqp_engine.specs.Noting.{took_by, fails_by};
 ghost use Rattle.amqp_types.specs.Counts.{Rose};
 
 use super::Wire;
 use crate::port::{Port, Wrote};
 use amqp_frame::write_frame;
 use amqp_session::IoFault;
-use amqp_types::NoMemory;
+use amqp_types::{NoMemory, Payload64};
 
 /// What came of an offer.
 #[derive(Clone, Copy)]
@@ -25,36 +26,58 @@ struct Offered {
     all: bool,
 }
 
+// Notes the answer to a write, for which a place was made.
+fn note(answer: Wrote, tooks: &mut Payload64, failed: &mut bool)
+    requires { 1 ≤ tooks.old.spare }
+    ensures tooks { tooks.new.numbers ≡ tooks.old.numbers ++ took_by answer }
+    ensures failed { failed.new ≡ fails_by failed.old answer }
+{
+    match answer {
+        Wrote::Took(n) => tooks.push(n as u64),
+        Wrote::NoMemory => tooks.push(0),
+        Wrote::Failed => *failed = true,
+    }
+}
+
 impl Wire {
-    // Writes while all that is offered is taken, and counts the offers as parts.
+    // Writes while all that is offered is taken, counts the offers as parts, and notes the answers. A
+    // place for an answer is made before its offer.
     pub(super) fn write_all<P: Port>(
         &mut self,
         at: u64,
         port: &mut P,
         parts: &mut u64,
+        tooks: &mut Payload64,
+        failed: &mut bool,
     ) -> Result<(), NoMemory>
-        requires { FewParts parts.old }
-        ensures ok { OnOk result ((more : List Asked) (asked : List Question) → Writes
+        requires few { FewParts parts.old }
+        requires tooks { tooks.old.numbers ≡ [] }
+        requires failed { failed.old ≡ false }
+        ensures ok { OnOk result ((more : List Asked) (asked : List Question) → Writes tooks.new.numbers failed.new
             (making at None more asked self.old parts.old) (making at None more asked self.new parts.new)
             (P.log port.old) (P.log port.new) (P.faults port.old) (P.faults port.new)) }
-        ensures err { OnErr result ((more : List Asked) (asked : List Question) → Writes
+        ensures err { OnErr result ((more : List Asked) (asked : List Question) → Writes tooks.new.numbers failed.new
             (making at (Some parts.new) more asked self.old parts.old)
             (making at (Some parts.new) more asked self.new parts.new)
             (P.log port.old) (P.log port.new) (P.faults port.old) (P.faults port.new)) }
         ensures grows { parts.old ≤ parts.new }
         ensures starved { self.new.starved ≡ self.old.starved }
         ensures faults { P.faults port.old ≤ P.faults port.new }
+        ensures kept { P.kept port.new ≡ P.kept port.old }
     {
         // So few frames wait that the offers can be counted.
         let _waiting = self.session.waiting();
+        tooks.reserve()?;
         'writes: while let Some(offered) = self.offer(at, port) {
             *parts += 1;
+            note(offered.answer, tooks, failed);
             if let Wrote::NoMemory = offered.answer {
                 return Err(NoMemory);
             }
             if !offered.all {
                 return Ok(());
             }
+            tooks.reserve()?;
         }
         Ok(())
     }
@@ -74,6 +97,7 @@ impl Wire {
         ensures cause { IfSome result
             (λ r. r.answer ≡ Wrote.Failed → Rose (P.faults port.old) (P.faults port.new)) }
         ensures faults { P.faults port.old ≤ P.faults port.new }
+        ensures kept { P.kept port.new ≡ P.kept port.old }
     {
         if !self.session.is_open() || self.session.blocked() {
             return None;

@@ -24,6 +24,8 @@ impl Port for Refusing {
 
     ghost faults = { λ p. p.script.faults };
 
+    ghost kept = { λ _. tt };
+
     fn connect(&mut self) {
         self.script.connect();
     }

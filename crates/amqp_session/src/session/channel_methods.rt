@@ -154,7 +154,7 @@ impl Session {
             Debt::Nothing if channel.awaits_close_ok => {
                 self.crossing_close(id, channel, code, text)
             }
-            Debt::Nothing => self.close_by_server(id, channel, code, text),
+            Debt::Nothing => self.closed_by_server(id, channel, code, text),
             _ => Ok(()),
         }
     }
@@ -194,7 +194,7 @@ impl Session {
     }
 
     // The server closes a channel that we use.
-    fn close_by_server(
+    fn closed_by_server(
         &mut self,
         id: ChannelId,
         channel: Channel,

@@ -26,7 +26,7 @@ use amqp_promise::ErrorKind;
 use amqp_types::{ChannelId, LongString, NoMemory, ReplyCode, ShortString, Text};
 
 impl Session {
-    pub(super) fn connection_method(
+    pub(super) fn connection_rule(
         &mut self,
         method: Method,
         login: Option<Login>,

@@ -80,7 +80,7 @@ impl Session {
         ensures never_falls { A.refusals provider.old ≤ A.refusals provider.new }
     {
         match self.ask(&frame, provider, auths) {
-            Ok(login) => self.react(frame, login),
+            Ok(login) => self.frame_rule(frame, login),
             Err(refused) => {
                 drop(frame);
                 Err(refused)
@@ -97,7 +97,7 @@ impl Session {
             → IsOk result }
     {
         let done = if self.hears_on() {
-            self.react_closed(&frame)
+            self.closed_rule(&frame)
         } else {
             Ok(())
         };
@@ -105,7 +105,7 @@ impl Session {
         done
     }
 
-    fn react_closed(&mut self, frame: &Frame) -> Result<(), NoMemory>
+    fn closed_rule(&mut self, frame: &Frame) -> Result<(), NoMemory>
         ensures ok { OnOk result (self.new ≡ closed_rule frame.now self.old) }
         ensures err { OnErr result (self.new ≡ self.old) }
         ensures idle { MakesNothing self.old (closed_rule frame.now self.old) → IsOk result }
@@ -117,7 +117,7 @@ impl Session {
         }
     }
 
-    fn react(&mut self, frame: Frame, login: Option<Login>) -> Result<(), NoMemory>
+    fn frame_rule(&mut self, frame: Frame, login: Option<Login>) -> Result<(), NoMemory>
         requires { IsTrue (acts self.old) }
         ensures ok { OnOk result (self.new ≡ frame_rule frame (login_answers login) self.old) }
         ensures err { OnErr result (self.new ≡ self.old) }
@@ -151,7 +151,7 @@ impl Session {
                 drop(method);
                 self.stray_channel_frame(RawKind::RawMethod)
             }
-            (0, false) => self.connection_method(method, login),
+            (0, false) => self.connection_rule(method, login),
             (_, true) => {
                 let done = self.channel_method(id, &method);
                 drop(method);

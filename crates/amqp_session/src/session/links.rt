@@ -73,13 +73,13 @@ impl Session {
             return;
         }
         match self.options.delay(self.tried) {
-            Some(delay) => self.wait(delay),
+            Some(delay) => self.delayed(delay),
             None => self.fail(ErrorKind::IOError(IoFault::Refused)),
         }
     }
 
     // No link is wanted until a delay is over.
-    fn wait(&mut self, delay: u64)
+    fn delayed(&mut self, delay: u64)
         requires asked { IsTrue (is_asked self.old) }
         requires small { self.old.tried < 2 ^ 63 }
         ensures { self.new ≡ delayed delay self.old }

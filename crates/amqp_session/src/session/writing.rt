@@ -97,13 +97,13 @@ impl Session {
         match then {
             Then::Nothing => {}
             Then::Answer(number) => self.give(number, Answer::Sent),
-            Then::Pays(id) => self.pay(id),
+            Then::Pays(id) => self.channel_close_ok_sent(id),
             Then::Finish => self.finish(),
         }
     }
 
     // Our close-ok was sent on a channel.
-    fn pay(&mut self, id: ChannelId)
+    fn channel_close_ok_sent(&mut self, id: ChannelId)
         ensures { self.new ≡ channel_close_ok_sent id self.old }
     {
         let Some(channel) = self.channels.get(id) else {

@@ -1,3 +1,4 @@
+use Rattle.amqp_engine.proofs.SpelledLinks.{holds-rest}
 use Rattle.std.proofs.Common.{[]}
 use Rattle.amqp_engine.specs.Engine.{begin}
 use Rattle.amqp_engine.proofs.Sends.{order}
@@ -9,3 +10,6 @@ returns-clause-told c t us log silent may tells = (told-on us (begin t) [] log m
 
 pub returns-clause-order : goal.returns-clause-order
 returns-clause-order c t us silent may = order us (begin t) [] may (sends-said (begin t) [] silent)
+
+pub returns-clause-unsent : goal.returns-clause-unsent
+returns-clause-unsent c = holds-rest

@@ -5,7 +5,7 @@ pub returns : goal.returns
 returns c =
     record {
       silent = missed-not-timely;
-      missed = λ valid. missed-not-timely valid.timely;
+      missed = λ valid. missed-not-timely valid.faultless.timely;
       tunes_at_once = at-once-not-valid;
       closes_cross = crossing-not-valid;
     }

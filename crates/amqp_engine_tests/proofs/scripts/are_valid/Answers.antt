@@ -1,4 +1,4 @@
-use Rattle.amqp_engine_tests.proofs.ValidScripts.{closed_by_us-valid, in_pieces-valid, closed_by_them-valid, blocked_a_while-valid, heard_in_time-valid}
+use Rattle.amqp_engine_tests.proofs.ValidScripts.{closed_by_us-valid, in_pieces-valid, closed_by_them-valid, blocked_a_while-valid, heard_in_time-valid, messages_pass-valid, token_renewed-valid}
 use Rattle.amqp_engine_tests.proofs.scripts.are_valid.Goals as goal
 
 pub returns : goal.returns
@@ -9,4 +9,6 @@ returns c =
       closed_by_them = closed_by_them-valid;
       blocked_a_while = blocked_a_while-valid;
       heard_in_time = heard_in_time-valid;
+      messages_pass = messages_pass-valid;
+      token_renewed = token_renewed-valid;
     }

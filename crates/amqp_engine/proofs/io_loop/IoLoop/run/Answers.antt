@@ -39,7 +39,7 @@ returns-clause-only_out_of_turns g c running is =
     let t = c.session.result.now in
     let here : t ≡ c.take_turns.new.self.talk = c.session.ensures ∙ ap (λ (x : Engine). x.talk) c.self.view_is in
     let never : end_of t ≡ Some (Err OutOfTurns) → ⊥ =
-    λ h. not-turns _ _ _ (runs-bring _ _ _ _ _ OutOfTurns c.take_turns.ensures.turns.runs running (ap end_of (sym here) ∙ h)).cause.error_read in
+    λ h. not-turns _ _ _ (runs-bring _ _ _ _ _ OutOfTurns c.take_turns.ensures.turns.runs running (ap end_of (sym here) ∙ h)).caused.cause.error_read in
     elim c.match-end.branch [
       | in-Some w ↦ absurd (otherwise (end_of t) c.end.result c.match-end.result c.end.ensures (w.in-Some.is ∙ ap Some (sym w.result-is)) never is)
       | in-None w ↦
@@ -51,7 +51,7 @@ pub returns-clause-legal : goal.returns-clause-legal
 returns-clause-legal g c ss h = runs-on _ _ _ _ _ ss c.take_turns.ensures.turns.runs h
 
 pub returns-clause-carried : goal.returns-clause-carried
-returns-clause-carried g c t new h = run-carried _ _ _ _ _ t c.take_turns.ensures.turns.runs new h
+returns-clause-carried g c h has = run-carried _ _ _ _ _ h c.take_turns.ensures.turns.runs has
 
 pub returns-clause-valid : goal.returns-clause-valid
 returns-clause-valid g c t gs new from plays all fed =

@@ -3,7 +3,7 @@ use Rattle.amqp_session.specs.Talk.{has_ended}
 use Rattle.amqp_engine.specs.Engine.{Engine}
 use Rattle.amqp_engine.specs.Turn.{asks, turns, exchange_of}
 use Rattle.amqp_engine.specs.Tell.{MayCome}
-use Rattle.amqp_engine.proofs.Running.{Leads-push, tells-push, told-append, uncut, exchanged-push}
+use Rattle.amqp_engine.proofs.Running.{Leads-push, tells-push, told-append, fit-append, uncut, exchanged-push}
 use Rattle.amqp_engine.proofs.io_loop.IoLoop.take_turns.Goals as goal
 
 pub turns-preserved : goal.turns-preserved
@@ -27,10 +27,12 @@ turns-preserved g c =
         Leads-push us f.u _ _ _ leads f.may f.leaves,
         tells-push us f.u _ _ _ _ _ leads.leaves i.turns.4 f.tells,
         exchanged-push us f.u start before between after (uncut us start leads.may running) i.turns.5 (subst E (sym leads.leaves) lent.exchanged),
+        fit-append us (f.u ∷ []) i.turns.6 (f.fit, tt),
       );
       can = c.turn.ensures.can;
       never_falls = omega (arith, c.turn.ensures.never_falls, i.never_falls);
       faults = omega (arith, c.turn.ensures.faults, i.faults);
+      kept = c.turn.ensures.kept ∙ i.kept;
       io_error_counted = λ fault running h counted. omega (arith, c.turn.ensures.io_error_counted fault h counted, i.faults);
       refusal_counted = λ text running h. omega (arith, c.turn.ensures.refusal_counted text h, i.never_falls);
     }
@@ -39,7 +41,7 @@ pub returns-after-turns-clause-turns : goal.returns-after-turns-clause-turns
 returns-after-turns-clause-turns g c =
     let t = c.turns.invariant.turns in
     record {
-      runs = record { us = t.0; leads = t.3; tells = t.4; told = t.2; within = omega (arith, t.1, c.turns.auto); all = λ on. omega (arith, t.1, c.turns.auto) };
+      runs = record { us = t.0; leads = t.3; tells = t.4; told = t.2; fit = t.6; within = omega (arith, t.1, c.turns.auto); all = λ on. omega (arith, t.1, c.turns.auto) };
       exchanged = t.5;
     }
 
@@ -48,6 +50,6 @@ returns-then-has_ended-clause-turns g c =
     let t = c.turns.invariant.turns in
     let over : has_ended c.turns.self.talk ≡ true = ap (λ (x : Engine). has_ended x.talk) (sym c.self.view_is) ∙ sym (ap has_ended c.session.ensures) ∙ sym c.if-has_ended.ensures in
     record {
-      runs = record { us = t.0; leads = t.3; tells = t.4; told = t.2; within = omega (arith, t.1, c.turns.auto); all = λ on. absurd (true≢false (sym over ∙ on)) };
+      runs = record { us = t.0; leads = t.3; tells = t.4; told = t.2; fit = t.6; within = omega (arith, t.1, c.turns.auto); all = λ on. absurd (true≢false (sym over ∙ on)) };
       exchanged = t.5;
     }

@@ -6,7 +6,7 @@ use Rattle.amqp_promise.specs.declared.error.ErrorKind.TheVariants.{AuthProvider
 use Rattle.amqp_session.specs.Talk.{has_ended, end_of}
 use Rattle.amqp_types.specs.Counts.{Rose}
 use Rattle.amqp_engine.specs.Causes.{fault_of, is_counted}
-use Rattle.amqp_engine.specs.Turn.{Turn, AreTold, exchanges, cut_of, Leads}
+use Rattle.amqp_engine.specs.Turn.{Turn, AreTold, AreFit, exchanges, cut_of, Leads}
 use Rattle.amqp_engine.specs.Tell.{TellsTurns, MayCome}
 use Rattle.amqp_engine.proofs.io_loop.IoLoop.take_turns.Given as goal
 
@@ -14,10 +14,12 @@ abbrev pub invariant-turns : goal.invariant-turns
 invariant-turns g l = record {
   turns : (us : List Turn) × (length us ≡ l.counter)
       × AreTold us × Leads us l.fn.self l.self × TellsTurns us l.fn.self (g.P.Port.log l.fn.port) (g.P.Port.log l.port)
-      × MayCome (cut_of us) (g.A.AuthProvider.allows l.fn.provider) (g.A.AuthProvider.allows l.provider) (exchanges us l.fn.self);
+      × MayCome (cut_of us) (g.A.AuthProvider.allows l.fn.provider) (g.A.AuthProvider.allows l.provider) (exchanges us l.fn.self)
+      × AreFit us;
   can : g.A.AuthProvider.can l.provider;
   never_falls : g.A.AuthProvider.refusals l.fn.provider ≤ g.A.AuthProvider.refusals l.provider;
   faults : g.P.Port.faults l.fn.port ≤ g.P.Port.faults l.port;
+  kept : g.P.Port.kept l.port ≡ g.P.Port.kept l.fn.port;
   io_error_counted : (fault : IoFault) → has_ended l.fn.self.talk ≡ false → fault_of l.self.talk ≡ Some fault
       → IsTrue (is_counted fault) → Rose (g.P.Port.faults l.fn.port) (g.P.Port.faults l.port);
   refusal_counted : (text : Text) → has_ended l.fn.self.talk ≡ false → end_of l.self.talk ≡ Some (Err (AuthProviderError text))

@@ -7,9 +7,9 @@ use Rattle.amqp_auth.specs.Providers.{Exchange}
 use Rattle.amqp_session.specs.Changes.{starve}
 use Rattle.amqp_engine.specs.Engine.{Engine, front_of, can_read, read_one, read_questions, rule_at}
 use Rattle.amqp_engine.specs.Turn.{reading}
-use Rattle.amqp_engine.specs.Making.{making, IsSettled, piece_joined, Reaches, Heard, Broke}
+use Rattle.amqp_engine.specs.Making.{making, IsSettled, BreaksAt, piece_joined, Reaches, Heard, Broke}
 use Rattle.amqp_engine.proofs.Cases.{is_before-cut, Reaches-less}
-use Rattle.amqp_engine.proofs.Answering.{asks-none, asks-then, allowed-done, answered-more, row-more}
+use Rattle.amqp_engine.proofs.Answering.{asks-none, asks-then, allowed-then, answered-more, row-more}
 use Rattle.amqp_engine.proofs.Applying.{left-answers}
 use Rattle.amqp_engine.proofs.Reading.{read_one-shortens, read_one-starved, reading-cut}
 use Rattle.amqp_engine.proofs.Joining.{reading-more, read-kept}
@@ -107,24 +107,29 @@ returns-in_err-read_next-clause-err g c =
     let parts = c.frames.parts in
     let h = c.frames.invariant.heard in
     let f = c.in_err-read_next.ensures in
-    let more = f.listed.0 in
+    let un = f.unanswered in
+    let more = un.answers in
+    let next = read_questions at e in
     let start = c.args.self.now in
     let before = g.A.AuthProvider.allows c.args.provider.now in
     let after = g.A.AuthProvider.allows c.frames.provider in
     let left : drop (length h.questions) (h.answers ++ more) ≡ more = left-answers h.questions h.answers more h.asks.all in
-    let fact : Broke parts (λ answers questions x. (c.read_next.new.self ≡ rule_at at starve x)
-    × ((rest : List ℕ) (first : List Question)
+    let fact : Broke parts (λ answers questions later x. (c.read_next.new.self ≡ rule_at at starve x)
+    × IsSettled x × BreaksAt at later x × ((rest : List ℕ) (first : List Question)
     → reading true (making at (Some parts) answers first (piece_joined rest start) c.args.parts.now)
     ≡ making at (Some parts) (drop (length questions) answers) (first ++ questions) (piece_joined rest x) parts)) before c.args.auths.now.list c.read_next.new.auths.list =
     record {
       questions = h.questions;
+      next = next;
       answers = h.answers ++ more;
       engine = e;
-      listed = f.listed.1 ∙ ap (λ (l : List Asked). l ++ more) h.asks.listed ∙ append_assoc c.args.auths.now.list h.answers more;
-      all = answered-more parts h.questions h.answers more h.asks.all;
-      allowed = allowed-done h.questions h.answers more before after c.args.auths.now.list c.frames.auths.list h.asks;
+      listed = un.listed ∙ ap (λ (l : List Asked). l ++ more) h.asks.listed ∙ append_assoc c.args.auths.now.list h.answers more;
+      all = answered-more parts h.questions next h.answers more h.asks.all un.fits;
+      allowed = allowed-then h.questions next h.answers more before after c.args.auths.now.list c.frames.auths.list h.asks un.allowed;
       leads = (
         f.err,
+        c.frames.invariant.settled,
+        record { can = f.refused; asks = refl },
         λ rest first.
             h.leads rest (Some parts) more first (omega arith)
             ∙ reading-cut true (making at (Some parts) more (first ++ h.questions) (piece_joined rest e) parts) (is_before-cut parts)

@@ -1,11 +1,13 @@
-use Rattle.std.proofs.Common.{◌≡◌, ◌∙◌, ◌+◌, ℕ, List, true, drop, length, ap, sym, subst, arith}
+use Rattle.std.proofs.Common.{◌≡◌, ◌∙◌, ◌+◌, ℕ, List, true, drop, length, ap, refl, sym, subst, arith}
 use Rattle.amqp_session.specs.Talk.{Talk, is_open}
 use Rattle.amqp_session.specs.Changes.{present_at}
 use Rattle.amqp_session.specs.Frames.{on_frame}
 use Rattle.amqp_session.specs.Writing.{left_in}
 use Rattle.amqp_session.proofs.Keeping.{frame-committed}
 use Rattle.amqp_frame.specs.declared.frame.Read.TheVariants.{Whole}
-use Rattle.amqp_engine.specs.Engine.{Engine, settle}
+use Rattle.amqp_auth.specs.Asking.{Unanswered}
+use Rattle.amqp_engine.proofs.Answering.{unanswered-none}
+use Rattle.amqp_engine.specs.Engine.{Engine, settle, row_questions}
 use Rattle.amqp_engine.specs.Plan.{at_most_64}
 use Rattle.amqp_engine.specs.Making.{RowHears}
 use Rattle.amqp_engine.proofs.wire.Wire.read_growing.Goals as goal
@@ -52,3 +54,12 @@ returns-clause-ok g c =
           c.step_over.ensures ∙ ap (λ (b : List ℕ). row b c.in-Ok.both.1.kept c.frame.new.self) first
           ∙ ap (λ (b : List ℕ). row inside.unread.kept b c.frame.new.self) second ∙ ap (row inside.unread.kept inside.unsent.kept) h.talk;
     })
+
+pub returns-in-Err-clause-unanswered : goal.returns-in-Err-clause-unanswered
+returns-in-Err-clause-unanswered g c =
+    unanswered-none (λ answers. row_questions c.args.at (Whole c.args.frame c.args.n) c.args.self.now) (g.A.AuthProvider.allows c.args.provider.now) c.args.auths.now.list c.args.auths.now.list refl
+
+pub returns-in-Err-frame-clause-unanswered : goal.returns-in-Err-frame-clause-unanswered
+returns-in-Err-frame-clause-unanswered g c =
+    let P : Engine → Type 0 = λ y. Unanswered (λ answers. row_questions c.args.at (Whole c.args.frame c.args.n) y) (g.A.AuthProvider.allows c.args.provider.now) c.args.auths.now.list c.frame.new.auths.list in
+    subst P c.self.view_is c.in-Err-frame.ensures.unanswered

@@ -8,11 +8,11 @@ use Rattle.amqp_auth.specs.declared.asked.Asked.{Asked}
 use Rattle.amqp_auth.specs.Providers.{Exchange}
 use Rattle.amqp_auth.specs.Asking.{Asks}
 use Rattle.amqp_session.specs.Talk.{is_open}
-use Rattle.amqp_engine.specs.Engine.{Engine, front_of, is_more, can_read, read_row, row_questions}
+use Rattle.amqp_engine.specs.Engine.{Engine, front_of, is_more, can_read, read_row, read_questions, row_questions}
 use Rattle.amqp_engine.specs.Making.{is_whole, RowHears}
 use Rattle.std.proofs.lemmas.List.{append-nil}
-use Rattle.amqp_types.proofs.Small.{on-err}
-use Rattle.amqp_engine.proofs.Answering.{asks-none}
+use Rattle.amqp_types.proofs.Small.{on-err, on-err-then}
+use Rattle.amqp_engine.proofs.Answering.{asks-none, unanswered-none}
 use Rattle.amqp_engine.proofs.Blaming.{blames-other}
 use Rattle.amqp_engine.proofs.wire.Wire.read_next.Goals as goal
 
@@ -64,6 +64,20 @@ not-whole (BadHeartbeat channel) h = refl
 not-whole Bad h = refl
 not-whole NoMemory h = refl
 
+-- where memory is refused for what stands at the front, something stands there
+yields-some : (read front : Read) → is_more read ≡ false → Yields read front → is_more front ≡ false
+yields-some More front some h = cc
+yields-some (Whole f n) front some h = ap is_more h
+yields-some (TooLarge size) front some h = ap is_more h
+yields-some (BadHeartbeat channel) front some h = ap is_more h
+yields-some Bad front some h = ap is_more h
+yields-some NoMemory (Whole f n) some h = refl
+yields-some NoMemory Bad some h = refl
+yields-some NoMemory More some h = absurd h
+yields-some NoMemory (TooLarge size) some h = absurd h
+yields-some NoMemory (BadHeartbeat channel) some h = absurd h
+yields-some NoMemory NoMemory some h = absurd h
+
 pub returns-in_default : goal.returns-in_default
 returns-in_default g c =
     let e = c.args.self.now in
@@ -83,7 +97,10 @@ returns-in_default g c =
       ok = r.ok;
       none = r.none;
       err = c.read_other-found.ensures.err;
-      listed = on-err c.read_other-found.result ([], sym (append-nil list));
+      unanswered = on-err c.read_other-found.result (unanswered-none (λ answers. read_questions c.args.at e) (g.A.AuthProvider.allows c.args.provider.now) list list refl);
+      refused = on-err-then c.read_other-found.result
+          (λ some. ap (λ (b : Bool). b && not (is_more (front_of e))) opened ∙ ap not (yields-some read (front_of e) some exact))
+          c.read_other-found.ensures.some_read;
       never_falls = omega arith;
       blames = blames-other c.args.at c.read_other-found.result e c.read_other-found.new.self read _ _ c.read_other-found.ensures.ok
           c.read_other-found.ensures.held c.read_other-found.ensures.err (not-whole read c.in_default.not-Whole);

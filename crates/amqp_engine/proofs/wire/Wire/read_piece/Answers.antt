@@ -1,5 +1,8 @@
 use Rattle.std.proofs.lemmas.List.{append-nil}
+use Rattle.amqp_auth.specs.declared.asked.Question.{Question}
 use Rattle.amqp_auth.specs.declared.asked.Asked.{Asked}
+use Rattle.amqp_auth.specs.Providers.{Allows}
+use Rattle.amqp_auth.specs.Asking.{paired}
 use Rattle.amqp_engine.proofs.Answering.{asks-none, asks-then, allowed-then, answered-append, drop-both}
 use Rattle.std.proofs.Common.{◌≡◌, ◌∙◌, ◌+◌, ◌-◌, ◌≤◌, ◌<◌, ℕ, List, [], ◌++◌, append_assoc, length, drop, take, Bool, true, false, Some, if◌then◌else◌, ap, sym, refl, subst, arith, rules, length-drop, length-take}
 use Rattle.amqp_session.specs.Talk.{Talk, is_open}
@@ -7,11 +10,11 @@ use Rattle.amqp_session.specs.Changes.{present_at}
 use Rattle.amqp_session.specs.Links.{piece}
 use Rattle.amqp_engine.specs.Engine.{Engine, step_piece, settle, rule_at, can_read, starve_at}
 use Rattle.amqp_engine.specs.Turn.{reading}
-use Rattle.amqp_engine.specs.Making.{making, keeps_unread, IsSettled, piece_joined, Broke, Blames}
+use Rattle.amqp_engine.specs.Making.{making, keeps_unread, IsSettled, piece_joined, Broke, BreaksAt, Blames}
 use Rattle.amqp_engine.proofs.Settling.{settle-settled}
 use Rattle.amqp_engine.proofs.Cases.{Reaches-less, true-from}
 use Rattle.amqp_engine.proofs.Applying.{starve_at-twice}
-use Rattle.amqp_engine.proofs.Joining.{joined-keeps, joined-size, piece-joined, slice-left, part-joined, all-read, starved-joined}
+use Rattle.amqp_engine.proofs.Joining.{joined-keeps, joined-size, piece-joined, slice-left, part-joined, all-read, starved-joined, breaks-joined}
 use Rattle.amqp_engine.proofs.Blaming.{blames-then, blames-piece, blames-joined}
 use Rattle.amqp_engine.proofs.wire.Wire.read_piece.Goals as goal
 
@@ -130,22 +133,26 @@ returns-in_err-read_all-clause-err g c =
     let between = g.A.AuthProvider.allows c.parts.provider in
     let qs = h.questions ++ f.questions in
     let xs = h.answers ++ f.answers in
-    let fact : Broke k (λ answers questions e. (starve_at at k c.read_all.new.self ≡ starve_at at k e)
+    let fact : Broke k (λ answers questions next e. (starve_at at k c.read_all.new.self ≡ starve_at at k e) × BreaksAt at next e
     × (reading true (making at (Some k) answers [] (step_piece at piece c.args.self.now) 1) ≡ making at (Some k) (drop (length questions) answers) questions e k))
     before c.args.auths.now.list c.read_all.new.auths.list =
     record {
       questions = qs;
+      next = f.next;
       answers = xs;
       engine = x;
       listed = f.listed ∙ ap (λ (l : List Asked). l ++ f.answers) h.asks.listed ∙ append_assoc c.args.auths.now.list h.answers f.answers;
-      all = answered-append k h.questions f.questions h.answers f.answers h.asks.all f.all;
-      allowed = allowed-then h.questions f.questions h.answers f.answers before between c.args.auths.now.list c.parts.auths.list h.asks f.allowed;
+      all = answered-append k h.questions f.questions f.next h.answers f.answers h.asks.all f.all;
+      allowed =
+          subst (λ (q : List Question). Allows before (paired q xs)) (sym (append_assoc h.questions f.questions f.next))
+          (allowed-then h.questions (f.questions ++ f.next) h.answers f.answers before between c.args.auths.now.list c.parts.auths.list h.asks f.allowed);
       leads = (
         ap (starve_at at k) f.leads.0 ∙ starve_at-twice at k f.engine ∙ sym (starved-joined at k (drop (j + n) piece) f.engine),
+        breaks-joined at (drop (j + n) piece) f.next f.engine f.leads.1 f.leads.2,
         ap (λ (x : Engine). reading true (making at (Some k) xs [] x 1)) begin
             ∙ h.leads (Some k) f.answers (Reaches-less (Some k) c.parts.parts k c.read_all.ensures.grows (omega arith))
             ∙ ap (λ (x : Engine). reading true (making at (Some k) f.answers h.questions x c.parts.parts)) (part-joined n j piece c.parts.self c.join-joined.new.self c.join-joined.ensures.engine)
-            ∙ f.leads.1 (drop (j + n) piece) h.questions
+            ∙ f.leads.3 (drop (j + n) piece) h.questions
             ∙ ap (λ (l : List Asked). making at (Some k) l qs x k) (sym (drop-both h.questions f.questions h.answers f.answers h.asks.all)),
       );
     } in

@@ -1,14 +1,12 @@
-use Rattle.std.proofs.Common.{rules, ◌≡◌, ◌∙◌, ◌&&◌, true, Bool, IsFalse, [], ◌++◌, length, drop, Some, ap, sym, subst}
+use Rattle.std.proofs.Common.{rules, ◌≡◌, ◌∙◌, ◌&&◌, true, Bool, IsFalse, [], ◌++◌, length, drop, Some, ap, refl, sym, arith}
 use Rattle.amqp_session.specs.Talk.{is_open}
-use Rattle.amqp_auth.specs.Providers.{Allows}
 use Rattle.amqp_engine.specs.Engine.{Engine, step_questions, starve_at}
-use Rattle.amqp_engine.specs.Turn.{is_piece, begun, step_part, reading}
+use Rattle.amqp_engine.specs.Turn.{is_piece, begun, step_part, reading, cut_questions}
 use Rattle.amqp_types.proofs.Small.{and-false, on-err-then}
 use Rattle.amqp_outbox.proofs.Cases.{on-ok}
-use Rattle.amqp_engine.specs.Making.{making, Broke}
+use Rattle.amqp_engine.specs.Making.{making, cut_turn, Broke}
 use Rattle.amqp_engine.proofs.Cases.{Reaches-less}
-use Rattle.amqp_engine.proofs.Applying.{starve_at-twice, step-read, step-refused, step-starved, piece-read}
-use Rattle.amqp_engine.proofs.Answering.{answered-none, paired-nothing}
+use Rattle.amqp_engine.proofs.Applying.{starve_at-twice, step-read, step-refused, step-starved, piece-read, broke-piece}
 use Rattle.amqp_engine.proofs.Blaming.{blames-step, blames-starve}
 use Rattle.amqp_engine.proofs.wire.Wire.read_step.Goals as goal
 use Rattle.amqp_engine.proofs.wire.Wire.read_step.Goals.{else-is_piece-via-then-is_piece+else-is_open, else-is_piece-via-else-is_piece}
@@ -60,17 +58,9 @@ returns-then-is_open-clause-err g c =
     let is : is_piece c.args.step ≡ true = sym c.is_piece.ensures ∙ c.if-is_piece.true in
     let opened : is_open e.talk ≡ true = ap (λ (x : Engine). is_open x.talk) (sym c.self.view_is) ∙ sym c.is_open.ensures ∙ c.if-is_open.true in
     let f = c.read_piece.ensures in
-    let n = c.read_piece.new.parts in
     on-err-then c.read_piece.result
-    (λ h. record {
-      questions = h.questions;
-      answers = h.answers;
-      engine = h.engine;
-      listed = h.listed;
-      all = h.all;
-      allowed = h.allowed;
-      leads = (h.leads.0, piece-read c.args.at (Some n) c.args.step c.args.bytes.now h.answers e is opened f.some ∙ h.leads.1);
-    })
+    (broke-piece c.args.at c.args.step c.args.bytes.now e c.read_piece.new.self c.read_piece.new.parts (g.A.AuthProvider.allows c.args.provider.now)
+    c.args.auths.now.list c.read_piece.new.auths.list is opened f.some)
     f.err
 
 pub returns-in_err-parts-clause-err : goal.returns-in_err-parts-clause-err
@@ -78,19 +68,22 @@ returns-in_err-parts-clause-err g c =
     let e = c.args.self.now in
     let f = c.in_err-parts.ensures in
     let before = g.A.AuthProvider.allows c.args.provider.now in
-    let more = f.listed.0 in
-    let fact : Broke 0 (λ answers questions x.
+    let un = f.unanswered in
+    let more = un.answers in
+    let fact : Broke 0 (λ answers questions next x.
     (starve_at c.args.at 0 c.take_step.new.self ≡ starve_at c.args.at 0 x)
+    × (next ≡ cut_questions (cut_turn c.args.at c.args.step c.args.bytes.now answers 0) e)
     × (reading (is_piece c.args.step) (step_part c.args.step c.args.bytes.now (begun c.args.at (Some 0) answers e))
     ≡ making c.args.at (Some 0) (drop (length questions) answers) questions x 0)) before c.args.auths.now.list c.take_step.new.auths.list =
     record {
       questions = [];
+      next = step_questions c.args.at c.args.step more e;
       answers = more;
       engine = e;
-      listed = f.listed.1;
-      all = answered-none 0 more;
-      allowed = subst (Allows before) (sym (paired-nothing more)) tt;
-      leads = (ap (starve_at c.args.at 0) f.err ∙ starve_at-twice c.args.at 0 e, step-refused c.args.at c.args.step c.args.bytes.now more e f.refused);
+      listed = un.listed;
+      all = (omega arith, un.fits);
+      allowed = un.allowed;
+      leads = (ap (starve_at c.args.at 0) f.err ∙ starve_at-twice c.args.at 0 e, refl, step-refused c.args.at c.args.step c.args.bytes.now more e f.refused);
     } in
     search (rules, fact, c.requires.parts)
 

@@ -1,8 +1,10 @@
-use Rattle.std.proofs.Common.{◌≡◌, ◌∙◌, true, ap, sym, arith}
+use Rattle.std.proofs.Common.{◌≡◌, ◌∙◌, true, ap, sym, subst, arith}
 use Rattle.amqp_session.specs.Talk.{Talk, is_open}
 use Rattle.amqp_session.specs.Writing.{left_in}
 use Rattle.amqp_session.proofs.Keeping.{frame-committed}
-use Rattle.amqp_engine.specs.Engine.{Engine}
+use Rattle.amqp_auth.specs.Asking.{Unanswered}
+use Rattle.amqp_frame.specs.declared.frame.Read.TheVariants.{Whole}
+use Rattle.amqp_engine.specs.Engine.{Engine, row_questions}
 use Rattle.amqp_engine.proofs.wire.Wire.read_whole.Goals as goal
 
 pub invariant_of-self-2 : goal.invariant_of-self-2
@@ -20,3 +22,8 @@ invariant_of-self-2 g c =
       omega (arith, same, c.self.invariant.2),
       omega (arith, same, c.self.invariant.3),
     )
+
+pub returns-in-Err-clause-unanswered : goal.returns-in-Err-clause-unanswered
+returns-in-Err-clause-unanswered g c =
+    let P : Engine → Type 0 = λ y. Unanswered (λ answers. row_questions c.args.at (Whole c.args.frame c.args.n) y) (g.A.AuthProvider.allows c.args.provider.now) c.args.auths.now.list c.frame.new.auths.list in
+    subst P c.self.view_is c.in-Err.ensures.unanswered

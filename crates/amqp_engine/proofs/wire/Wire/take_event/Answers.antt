@@ -1,7 +1,6 @@
 use Rattle.std.proofs.Common.{◌≡◌, ℕ, List, Result, Ok, Err, OnOk, IfOk, sym, subst}
 use Rattle.amqp_types.specs.declared.memory.NoMemory.{NoMemory}
 use Rattle.amqp_auth.specs.declared.asked.Asked.{Asked}
-use Rattle.amqp_session.specs.Talk.{is_asked}
 use Rattle.amqp_engine.specs.declared.port.Step.{Step}
 use Rattle.amqp_engine.specs.declared.port.Step.TheVariants.{Linked}
 use Rattle.amqp_engine.specs.Engine.{Engine, step_engine, step_linked}

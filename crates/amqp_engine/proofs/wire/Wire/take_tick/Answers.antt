@@ -5,7 +5,8 @@ use Rattle.amqp_session.specs.Ticks.{tick}
 use Rattle.amqp_session.specs.Writing.{left_in}
 use Rattle.amqp_session.proofs.Keeping.{present-keeps, keeps-tick}
 use Rattle.amqp_engine.specs.declared.port.Step.TheVariants.{Tick}
-use Rattle.amqp_engine.specs.Engine.{Engine, settle}
+use Rattle.amqp_auth.specs.Asking.{Unanswered}
+use Rattle.amqp_engine.specs.Engine.{Engine, settle, step_questions}
 use Rattle.amqp_engine.specs.Making.{StepHears}
 use Rattle.amqp_engine.proofs.Committing.{opens-tick}
 use Rattle.amqp_engine.proofs.wire.Wire.take_tick.Goals as goal
@@ -38,3 +39,8 @@ returns-clause-ok g c =
     let P : Engine → Type 0 = λ y. StepHears c.args.at Tick y c.settle.new.self before after c.args.auths.now.list c.tick.new.auths.list in
     subst P c.self.view_is
     (record { answers = h.answers; asks = h.asks; engine = λ bytes. c.settle.ensures ∙ ap (λ (t : Talk). settle (record x { talk = t })) h.talk })
+
+pub returns-in-Err-clause-unanswered : goal.returns-in-Err-clause-unanswered
+returns-in-Err-clause-unanswered g c =
+    let P : Engine → Type 0 = λ y. Unanswered (λ answers. step_questions c.args.at Tick answers y) (g.A.AuthProvider.allows c.args.provider.now) c.args.auths.now.list c.tick.new.auths.list in
+    subst P c.self.view_is c.in-Err.ensures.unanswered

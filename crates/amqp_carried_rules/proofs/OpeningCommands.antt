@@ -1,0 +1,328 @@
+-- The promise that opened a channel is that of a command which opens one, and it opens no other: so through every command.
+use Rattle.std.proofs.Common.{◌≡◌, ◌≤◌, inl, inr, ◌∙◌, ap, sym, subst, refl, ℕ, suc, ◌==◌, if◌then◌else◌, Bool, true, false, List, [], ◌∷◌, ◌++◌, length, append-nil, Option, Some, None, Result, Ok, Err, arith}
+use Rattle.std.specs.Prelude.{filter, codes}
+use Rattle.std.specs.List.{AllByRecursion}
+use Rattle.amqp_types.specs.declared.word.Word.{Word}
+use Rattle.amqp_types.specs.declared.word.Word.TheVariants as word
+use Rattle.amqp_frame.specs.declared.frame.Frame.{Frame}
+use Rattle.amqp_frame.specs.RawMethods.{OtherMethod}
+use Rattle.amqp_outbox.specs.declared.reply.Reply.{Reply}
+use Rattle.amqp_outbox.specs.declared.reply.Reply.TheVariants.{ChannelOpened, ChannelClosed, FlowDone, SecretDone, ConnectionClosed}
+use Rattle.amqp_outbox.specs.Items.{promised_item, group_of}
+use Rattle.amqp_outbox.specs.Queued.{is_on}
+use Rattle.amqp_promise.specs.declared.state.ConnectionState.{ConnectionState}
+use Rattle.amqp_promise.specs.declared.state.ConnectionState.TheVariants.{Connected, Closing}
+use Rattle.amqp_promise.specs.declared.state.ChannelState.{ChannelState}
+use Rattle.amqp_promise.specs.declared.state.ChannelState.TheVariants as channel
+use Rattle.amqp_promise.specs.declared.error.ErrorKind.{ErrorKind}
+use Rattle.amqp_promise.specs.declared.error.ErrorKind.TheVariants.{InvalidChannelState, InvalidConnectionState}
+use Rattle.amqp_session.specs.declared.channels.Channel.{Channel}
+use Rattle.amqp_session.specs.declared.command.ChanRef.{ChanRef}
+use Rattle.amqp_session.specs.declared.command.Cmd.{Cmd}
+use Rattle.amqp_session.specs.declared.command.Cmd.TheVariants.{OpenChannel, CloseChannel, CloseConnection, UpdateSecret, Send, Publish, Flow, DropChannel, DropConnection, Listen}
+use Rattle.amqp_session.specs.declared.command.Answer.{Answer as AnyAnswer}
+use Rattle.amqp_session.specs.declared.command.Answer.TheVariants as says
+use Rattle.amqp_session.specs.declared.handed.Handed.{Handed}
+use Rattle.amqp_session.specs.Listed.{put}
+use Rattle.amqp_session.specs.Config.{Config}
+use Rattle.amqp_session.specs.Talk.{Talk, start}
+use Rattle.amqp_session.specs.Changes.{Promises, await, queue, queue_item, queue_group, next_promise, promise, refuse}
+use Rattle.amqp_session.specs.Channels.{channel_at, new_channel, made_closing, made_leaving}
+use Rattle.amqp_session.specs.Handshake.{channel_flow, new_secret}
+use Rattle.amqp_session.specs.Numbering.{first_number, drawn}
+use Rattle.amqp_session.specs.Publishing.{method_frame, publish_frames}
+use Rattle.amqp_session.specs.Commands.{is_opening, named_in, named, target_in, target_by, target, open_drawn, leave_channel, close_target, drop_target, too_long, unless_too_long, too_full, unless_full, queue_send, send_target, body_limit, queue_publish, publish_target, flow_target, queue_secret, update_secret, leave_connection, listen, command_rule, command}
+use Rattle.amqp_types.proofs.Small.{some_is, same-number, other-number}
+use Rattle.amqp_carried_rules.specs.CommandFrames.{answered_command}
+use Rattle.amqp_carried_rules.proofs.Bearing.{command_at, told-made}
+use Rattle.amqp_carried_rules.proofs.Commanding.{get-last, same-below, grows-more, one-more}
+use Rattle.amqp_carried_rules.proofs.Entries.{Each, each-put, each-at, each-map, each-then, all-then}
+use Rattle.amqp_carried_rules.proofs.Openers.{IsOpener, AnswersOpening, HoldsOpening, AwaitsAs, AwaitsOpening, KnowsOpeners, held-rejected, waiting-more}
+
+-- ---- a command is told of a listed channel
+
+named-there : (opened : Option ℕ) (o : Option Channel) (c : Channel) → named_in opened o ≡ Some c → o ≡ Some c
+named-there opened None c h = absurd cc
+named-there opened (Some d) c h = by (is_opening opened d.opened) h where
+  by : (b : Bool) → (if b then Some d else None) ≡ Some c → Some d ≡ Some c
+  by true h = h
+  by false h = absurd cc
+
+target-is : (s : ChannelState) (w : Word) (d c : Channel) → target_in s w d ≡ Ok c → d ≡ c
+target-is channel.Connected w d c h = cc
+target-is _ w d c h = absurd cc
+
+target-found : (o : Option Channel) (n : ℕ) (w : Word) (c : Channel) → target_by o n w ≡ Ok c → o ≡ Some c
+target-found None n w c h = absurd cc
+target-found (Some d) n w c h = ap (λ (x : Channel). Some x) (target-is d.state w d c h)
+
+target-there : (r : ChanRef) (w : Word) (t : Talk) (c : Channel) → target r w t ≡ Ok c → channel_at r.id t ≡ Some c
+target-there r w t c h = named-there r.opened (channel_at r.id t) c (target-found (named r t) r.id w c h)
+
+-- ---- a channel or the connection is left
+
+module _ (cs : List Cmd) (opens : ℕ → ℕ) (gone : ℕ → Bool) where
+  -- a reply is awaited, and will answer this promise
+  leaves-channel : (n code : ℕ) (text : List ℕ) (c : Channel) (answers : Option ℕ) (t : Talk) → channel_at n t ≡ Some c → AwaitsAs cs ChannelClosed answers → KnowsOpeners cs opens gone t
+      → KnowsOpeners cs opens gone (leave_channel n code text c answers t)
+  leaves-channel n code text c answers t there fits h =
+      let Listed : ℕ → Channel → Type 0 = λ m d. IsOpener cs opens m d.opened in
+      record {
+        listed = each-put Listed n (made_leaving c) t.channels (each-at Listed n t.channels c h.listed there) h.listed;
+        held = held-rejected cs opens gone (InvalidChannelState channel.Closing word.ChannelClose) (filter (is_on n) t.outbox.publish) t.promises h.held;
+        awaited = waiting-more cs opens gone n (record { reply = ChannelClosed; promise = answers }) t.outbox.awaited fits h.awaited;
+        handed = h.handed;
+      }
+
+  leaves-connection : (code : ℕ) (text : List ℕ) (answers : Option ℕ) (t : Talk) → AwaitsAs cs ConnectionClosed answers → KnowsOpeners cs opens gone t
+      → KnowsOpeners cs opens gone (leave_connection code text answers t)
+  leaves-connection code text answers t fits h =
+      let Listed : ℕ → Channel → Type 0 = λ m d. IsOpener cs opens m d.opened in
+      record {
+        listed = each-map Listed (λ m d. made_closing d) (λ m d o. o) t.channels h.listed;
+        held = held-rejected cs opens gone (InvalidConnectionState Closing) t.outbox.publish t.promises h.held;
+        awaited = waiting-more cs opens gone 0 (record { reply = ConnectionClosed; promise = answers }) t.outbox.awaited fits h.awaited;
+        handed = h.handed;
+      }
+
+  keeps-events : (t : Talk) → KnowsOpeners cs opens gone t → KnowsOpeners cs opens gone (listen t)
+  keeps-events t h = record { listed = h.listed; held = h.held; awaited = h.awaited; handed = h.handed }
+
+-- ---- a command more
+
+module _ (cs : List Cmd) (c : Cmd) (opens opens' : ℕ → ℕ) (gone : ℕ → Bool) (same : (p : ℕ) → p ≤ length cs → opens' p ≡ opens p) where
+  abbrev More : List Cmd
+  More = cs ++ c ∷ []
+
+  opener-grows : (n p : ℕ) → IsOpener cs opens n p → IsOpener More opens' n p
+  opener-grows n p h =
+      record { command = grows-more cs c p OpenChannel h.command; number = same p (told-made cs p OpenChannel h.command) ∙ h.number }
+
+  answers-grow : (p : ℕ) (slot : Option (Result AnyAnswer ErrorKind)) → AnswersOpening cs opens p slot → AnswersOpening More opens' p slot
+  answers-grow p slot h =
+      record {
+        made = omega (arith, h.made, one-more cs c);
+        answer = λ x told is. elim (h.answer x (sym (same-below cs c p h.made) ∙ told) is) [
+          | inl e ↦ inl (e ∙ ap (λ n. says.Channel n p) (sym (same p h.made)))
+          | inr e ↦ inr e
+        ];
+      }
+
+  held-grows : (p : ℕ) (slot : Option (Result AnyAnswer ErrorKind)) → HoldsOpening cs opens gone p slot → HoldsOpening More opens' gone p slot
+  held-grows p slot h =
+      let a : AnswersOpening More opens' p slot = answers-grow p slot (record { made = h.made; answer = h.answer }) in
+      record { untaken = h.untaken; made = a.made; answer = a.answer }
+
+  awaits-grows : (reply : Reply) (o : Option ℕ) → AwaitsAs cs reply o → AwaitsAs More reply o
+  awaits-grows reply None h = tt
+  awaits-grows reply (Some p) h = (omega (arith, h.0, one-more cs c), λ told. h.1 (sym (same-below cs c p h.0) ∙ told))
+
+  all-grows : (t : Talk) → KnowsOpeners cs opens gone t → KnowsOpeners More opens' gone t
+  all-grows t h =
+      record {
+        listed = each-then (λ n (d : Channel). IsOpener cs opens n d.opened) (λ n (d : Channel). IsOpener More opens' n d.opened) (λ n d o. opener-grows n d.opened o) t.channels h.listed;
+        held = each-then (HoldsOpening cs opens gone) (HoldsOpening More opens' gone) held-grows t.promises h.held;
+        awaited =
+            each-then (λ n list. AllByRecursion (AwaitsOpening cs) list) (λ n list. AllByRecursion (AwaitsOpening More) list)
+            (λ n list all. all-then (AwaitsOpening cs) (AwaitsOpening More) (λ a o. awaits-grows a.reply a.promise o) list all) t.outbox.awaited h.awaited;
+        handed =
+            each-then (λ p hs. AllByRecursion (λ (x : Handed). IsOpener cs opens x.channel p) hs) (λ p hs. AllByRecursion (λ (x : Handed). IsOpener More opens' x.channel p) hs)
+            (λ p hs all. all-then (λ (x : Handed). IsOpener cs opens x.channel p) (λ (x : Handed). IsOpener More opens' x.channel p) (λ x o. opener-grows x.channel p o) hs all) t.handed h.handed;
+      }
+
+  module _ (m : ℕ) (is : m ≡ suc (length cs)) (fresh : gone m ≡ false) where
+    -- the command has the number of the promise that is made next
+    newest : command_at More m ≡ Some c
+    newest = ap (command_at More) is ∙ get-last cs c
+
+    -- a reply that is awaited answers it
+    awaits-new : (reply : Reply) → (c ≡ OpenChannel → reply ≡ ChannelOpened) → AwaitsAs More reply (Some m)
+    awaits-new reply f = (omega (arith, is, one-more cs c), λ told. f (some_is c OpenChannel (sym newest ∙ told)))
+
+    -- and it waits, or is answered with an error
+    held-new : (slot : Option (Result AnyAnswer ErrorKind)) (ps : Promises) → ((x : AnyAnswer) → slot ≡ Some (Ok x) → ⊥) → Each (HoldsOpening More opens' gone) ps
+        → Each (HoldsOpening More opens' gone) (put m slot ps)
+    held-new slot ps none h =
+        each-put (HoldsOpening More opens' gone) m slot ps (record { untaken = fresh; made = omega (arith, is, one-more cs c); answer = λ x told e. absurd (none x e) }) h
+
+    promised : (t : Talk) → t.made ≡ m → KnowsOpeners More opens' gone t → KnowsOpeners More opens' gone (promise t)
+    promised t made h =
+        let P : ℕ → Type 0 = λ k. Each (HoldsOpening More opens' gone) (put k None t.promises) in
+        record { listed = h.listed; held = subst P (sym made) (held-new None t.promises (λ x e. cc) h.held); awaited = h.awaited; handed = h.handed }
+
+    refused : (e : ErrorKind) (t : Talk) → t.made ≡ m → KnowsOpeners More opens' gone t → KnowsOpeners More opens' gone (refuse e t)
+    refused e t made h =
+        let P : ℕ → Type 0 = λ k. Each (HoldsOpening More opens' gone) (put k (Some (Err e)) t.promises) in
+        record { listed = h.listed; held = subst P (sym made) (held-new (Some (Err e)) t.promises (λ x is. cc) h.held); awaited = h.awaited; handed = h.handed }
+
+-- ---- the table
+
+-- once more commands were told: what was known of others is still
+pub record KnowsMore (cs cs' : List Cmd) (before : ℕ → ℕ) (gone : ℕ → Bool) (t : Talk) : Type 0 where
+  pub opens : ℕ → ℕ
+  pub knows : KnowsOpeners cs' opens gone t
+  pub openers : (n p : ℕ) → IsOpener cs before n p → IsOpener cs' opens n p
+  pub answers : (p : ℕ) (slot : Option (Result AnyAnswer ErrorKind)) → AnswersOpening cs before p slot → AnswersOpening cs' opens p slot
+
+module _ (cs : List Cmd) (opens : ℕ → ℕ) (gone : ℕ → Bool) (t : Talk) (is : t.made ≡ suc (length cs)) (fresh : gone t.made ≡ false) (h : KnowsOpeners cs opens gone t) where
+  abbrev After : Cmd → Talk → Type 0
+  After c u = KnowsMore cs (cs ++ answered_command c) opens gone u
+
+  as-before : (u : Talk) → KnowsOpeners cs opens gone u → KnowsMore cs (cs ++ []) opens gone u
+  as-before u k =
+      let Q : List Cmd → Type 0 = λ xs. KnowsMore cs xs opens gone u in
+      subst Q (sym (append-nil cs)) (record { opens = opens; knows = k; openers = λ n p o. o; answers = λ p slot a. a })
+
+  module _ (c : Cmd) where
+    told : KnowsOpeners (cs ++ c ∷ []) opens gone t
+    told = all-grows cs c opens opens gone (λ p le. refl) t h
+
+    more : (u : Talk) → KnowsOpeners (cs ++ c ∷ []) opens gone u → KnowsMore cs (cs ++ c ∷ []) opens gone u
+    more u k =
+        record {
+          opens = opens;
+          knows = k;
+          openers = opener-grows cs c opens opens gone (λ p le. refl);
+          answers = answers-grow cs c opens opens gone (λ p le. refl);
+        }
+
+    as-refused : (e : ErrorKind) → KnowsMore cs (cs ++ c ∷ []) opens gone (refuse e t)
+    as-refused e = more (refuse e t) (refused cs c opens opens gone (λ p le. refl) t.made is fresh e t refl told)
+
+    as-promised : (u : Talk) → u.made ≡ t.made → KnowsOpeners (cs ++ c ∷ []) opens gone u → KnowsMore cs (cs ++ c ∷ []) opens gone (promise u)
+    as-promised u made k = more (promise u) (promised cs c opens opens gone (λ p le. refl) t.made is fresh u made k)
+
+    as-awaits : (reply : Reply) → (c ≡ OpenChannel → ⊥) → AwaitsAs (cs ++ c ∷ []) reply (Some t.made)
+    as-awaits reply other = awaits-new cs c opens opens gone (λ p le. refl) t.made is fresh reply (λ e. absurd (other e))
+
+    -- a frame that is too long, or by which too much would wait, is refused
+    unless-long : (o : Option Frame) (rule : Talk → Talk) → KnowsMore cs (cs ++ c ∷ []) opens gone (rule t) → KnowsMore cs (cs ++ c ∷ []) opens gone (unless_too_long o rule t)
+    unless-long (Some frame) rule k = as-refused _
+    unless-long None rule k = k
+
+    unless-room : (o : Option ℕ) (rule : Talk → Talk) → KnowsMore cs (cs ++ c ∷ []) opens gone (rule t) → KnowsMore cs (cs ++ c ∷ []) opens gone (unless_full o rule t)
+    unless-room (Some octets) rule k = as-refused _
+    unless-room None rule k = k
+
+  -- a channel is opened, by the promise of this command
+  opens-drawn : (o : Option ℕ) (first : ℕ) → After OpenChannel (open_drawn o first t)
+  opens-drawn None first =
+      let r = as-refused OpenChannel _ in
+      let k = r.knows in
+      record { opens = r.opens; knows = record { listed = k.listed; held = k.held; awaited = k.awaited; handed = k.handed }; openers = r.openers; answers = r.answers }
+  opens-drawn (Some n) first =
+      let m : ℕ = t.made in
+      let opens' : ℕ → ℕ = λ p. if p == m then n else opens p in
+      let apart : (p : ℕ) → p ≤ length cs → opens' p ≡ opens p = λ p le. ap (λ b. if b then n else opens p) (other-number p m (λ e. omega (arith, e, is, le))) in
+      let here : opens' m ≡ n = ap (λ b. if b then n else opens m) (same-number m) in
+      let k : KnowsOpeners (cs ++ OpenChannel ∷ []) opens' gone t = all-grows cs OpenChannel opens opens' gone apart t h in
+      let Listed : ℕ → Channel → Type 0 = λ i d. IsOpener (cs ++ OpenChannel ∷ []) opens' i d.opened in
+      record {
+        opens = opens';
+        knows = record {
+          listed = each-put Listed n (new_channel m) t.channels (record { command = newest cs OpenChannel opens opens' gone apart m is fresh; number = here }) k.listed;
+          held = held-new cs OpenChannel opens opens' gone apart m is fresh None t.promises (λ x e. cc) k.held;
+          awaited =
+              waiting-more (cs ++ OpenChannel ∷ []) opens' gone n (record { reply = ChannelOpened; promise = Some m }) t.outbox.awaited
+              (awaits-new cs OpenChannel opens opens' gone apart m is fresh ChannelOpened (λ e. refl)) k.awaited;
+          handed = k.handed;
+        };
+        openers = opener-grows cs OpenChannel opens opens' gone apart;
+        answers = answers-grow cs OpenChannel opens opens' gone apart;
+      }
+
+  closes-target : (x : Result Channel ErrorKind) (r : ChanRef) (n code : ℕ) (text : List ℕ) → ((d : Channel) → x ≡ Ok d → channel_at n t ≡ Some d) → After (CloseChannel r code text) (close_target x n code text t)
+  closes-target (Err e) r n code text there = as-refused (CloseChannel r code text) e
+  closes-target (Ok d) r n code text there =
+      let c : Cmd = CloseChannel r code text in
+      as-promised c (leave_channel n code text d (Some (next_promise t)) t) refl
+      (leaves-channel (cs ++ c ∷ []) opens gone n code text d (Some (next_promise t)) t (there d refl) (as-awaits c ChannelClosed (λ e. cc)) (told c))
+
+  drops-target : (x : Result Channel ErrorKind) (n : ℕ) → ((d : Channel) → x ≡ Ok d → channel_at n t ≡ Some d) → KnowsOpeners cs opens gone (drop_target x n t)
+  drops-target (Err e) n there = h
+  drops-target (Ok d) n there = leaves-channel cs opens gone n 200 (codes "OK") d None t (there d refl) tt h
+
+  flows-target : (x : Result Channel ErrorKind) (r : ChanRef) (n : ℕ) (active : Bool) → After (Flow r active) (flow_target x n active t)
+  flows-target (Err e) r n active = as-refused (Flow r active) e
+  flows-target (Ok d) r n active =
+      let c : Cmd = Flow r active in
+      let k : KnowsOpeners (cs ++ c ∷ []) opens gone t = told c in
+      as-promised c (await n FlowDone (Some (next_promise t)) (queue n (channel_flow n active) t)) refl
+      (record {
+        listed = k.listed;
+        held = k.held;
+        awaited = waiting-more (cs ++ c ∷ []) opens gone n (record { reply = FlowDone; promise = Some t.made }) t.outbox.awaited (as-awaits c FlowDone (λ e. cc)) k.awaited;
+        handed = k.handed;
+      })
+
+  tells-secret : (secret reason : List ℕ) → After (UpdateSecret secret reason) (update_secret secret reason t)
+  tells-secret secret reason =
+      let c : Cmd = UpdateSecret secret reason in
+      let k : KnowsOpeners (cs ++ c ∷ []) opens gone t = told c in
+      let frame = new_secret secret reason in
+      unless-long c (too_long (frame ∷ []) t) (queue_secret frame)
+      (as-promised c (await 0 SecretDone (Some (next_promise t)) (queue 0 frame t)) refl
+      (record {
+        listed = k.listed;
+        held = k.held;
+        awaited = waiting-more (cs ++ c ∷ []) opens gone 0 (record { reply = SecretDone; promise = Some t.made }) t.outbox.awaited (as-awaits c SecretDone (λ e. cc)) k.awaited;
+        handed = k.handed;
+      }))
+
+  sends-target : (x : Result Channel ErrorKind) (r : ChanRef) (method : OtherMethod) → After (Send r method) (send_target x r.id method t)
+  sends-target (Err e) r method = as-refused (Send r method) e
+  sends-target (Ok d) r method =
+      let c : Cmd = Send r method in
+      let k : KnowsOpeners (cs ++ c ∷ []) opens gone t = told c in
+      let frame = method_frame r.id method in
+      unless-long c (too_long (frame ∷ []) t) (unless_full (too_full (frame ∷ []) t) (queue_send r.id frame))
+      (unless-room c (too_full (frame ∷ []) t) (queue_send r.id frame)
+      (as-promised c (queue_item (promised_item r.id frame (next_promise t)) t) refl (record { listed = k.listed; held = k.held; awaited = k.awaited; handed = k.handed })))
+
+  publishes-target : (x : Result Channel ErrorKind) (r : ChanRef) (method : OtherMethod) (properties body : List ℕ) → After (Publish r method properties body) (publish_target x r.id method properties body t)
+  publishes-target (Err e) r method properties body = as-refused (Publish r method properties body) e
+  publishes-target (Ok d) r method properties body =
+      let c : Cmd = Publish r method properties body in
+      let k : KnowsOpeners (cs ++ c ∷ []) opens gone t = told c in
+      let frames = publish_frames r.id method properties body (body_limit t) in
+      unless-long c (too_long frames t) (unless_full (too_full frames t) (queue_publish r.id frames))
+      (unless-room c (too_full frames t) (queue_publish r.id frames)
+      (as-promised c (queue_group (group_of r.id frames (next_promise t)) t) refl (record { listed = k.listed; held = k.held; awaited = k.awaited; handed = k.handed })))
+
+  closes-connection : (code : ℕ) (text : List ℕ) → After (CloseConnection code text) (promise (leave_connection code text (Some (next_promise t)) t))
+  closes-connection code text =
+      let c : Cmd = CloseConnection code text in
+      as-promised c (leave_connection code text (Some (next_promise t)) t) refl (leaves-connection (cs ++ c ∷ []) opens gone code text (Some (next_promise t)) t (as-awaits c ConnectionClosed (λ e. cc)) (told c))
+
+  -- the rule for a command
+  knows-rule : (s : ConnectionState) (c : Cmd) → After c (command_rule s c t)
+  knows-rule Connected OpenChannel =
+      let first = first_number t.configuration.channel_max t.cursor in
+      opens-drawn (drawn t.configuration.channel_max first t.channels) first
+  knows-rule Connected (CloseChannel r code text) = closes-target (target r word.ChannelClose t) r r.id code text (λ d e. target-there r word.ChannelClose t d e)
+  knows-rule Connected (CloseConnection code text) = closes-connection code text
+  knows-rule Connected (UpdateSecret secret reason) = tells-secret secret reason
+  knows-rule Connected (Send r method) = sends-target (target r word.Send t) r method
+  knows-rule Connected (Publish r method properties body) = publishes-target (target r word.Publish t) r method properties body
+  knows-rule Connected (Flow r active) = flows-target (target r word.ChannelFlow t) r r.id active
+  knows-rule Connected (DropChannel r) = as-before _ (drops-target (target r word.ChannelClose t) r.id (λ d e. target-there r word.ChannelClose t d e))
+  knows-rule Connected DropConnection = as-before _ (leaves-connection cs opens gone 200 (codes "OK") None t tt h)
+  knows-rule Connected Listen = as-before _ (keeps-events cs opens gone t h)
+  knows-rule _ (DropChannel r) = as-before _ h
+  knows-rule _ DropConnection = as-before _ h
+  knows-rule _ Listen = as-before _ (keeps-events cs opens gone t h)
+  knows-rule _ OpenChannel = as-refused OpenChannel _
+  knows-rule _ (CloseChannel r code text) = as-refused (CloseChannel r code text) _
+  knows-rule _ (CloseConnection code text) = as-refused (CloseConnection code text) _
+  knows-rule _ (UpdateSecret secret reason) = as-refused (UpdateSecret secret reason) _
+  knows-rule _ (Send r method) = as-refused (Send r method) _
+  knows-rule _ (Publish r method properties body) = as-refused (Publish r method properties body) _
+  knows-rule _ (Flow r active) = as-refused (Flow r active) _
+
+  -- a command
+  pub knows-command : (c : Cmd) → After c (command c t)
+  knows-command c = knows-rule t.state c
+
+-- a session that was told nothing
+pub knows-start : (config : Config) → KnowsOpeners [] (λ p. 0) (λ p. false) (start config)
+knows-start config = record { listed = tt; held = (record { untaken = refl; made = omega arith; answer = λ x told is. absurd cc }, tt); awaited = tt; handed = tt }

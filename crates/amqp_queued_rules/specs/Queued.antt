@@ -1,0 +1,128 @@
+-- The frames of each rule: the reply to a frame that is read, what a command says, and what time says.
+use Rattle.std.specs.Prelude.{◌≡◌, ◌⊎◌, ℕ, zero, suc, nat_le, if◌then◌else◌, List, [], ◌∷◌, codes, Option, Some, None, Ok}
+use Rattle.std.specs.List.{AllByRecursion}
+use Rattle.amqp_frame.specs.declared.frame.Frame.{Frame}
+use Rattle.amqp_frame.specs.declared.frame.Frame.TheVariants.{Method, Heartbeat}
+use Rattle.amqp_frame.specs.declared.method.Method.TheVariants.{Start, Secure, Tune, OpenOk, Close, ChannelFlow, ChannelClose}
+use Rattle.amqp_outbox.specs.declared.item.Item.{Item}
+use Rattle.amqp_outbox.specs.Items.{plain_item, promised_item, group_of}
+use Rattle.amqp_auth.specs.declared.asked.Asked.{Asked}
+use Rattle.amqp_auth.specs.declared.asked.Asked.TheVariants as answer
+use Rattle.amqp_promise.specs.declared.io_fault.IoFault.{IoFault}
+use Rattle.amqp_session.specs.declared.channels.Channel.{Channel}
+use Rattle.amqp_session.specs.declared.command.Cmd.{Cmd}
+use Rattle.amqp_session.specs.declared.command.Cmd.TheVariants.{OpenChannel, CloseChannel, CloseConnection, UpdateSecret, Send, Publish, Flow, DropChannel, DropConnection, Listen}
+use Rattle.amqp_session.specs.declared.configuration.Configuration.{Configuration}
+use Rattle.amqp_session.specs.declared.misread.Misread.{Misread}
+use Rattle.amqp_session.specs.Config.{Options}
+use Rattle.amqp_session.specs.Talk.{Talk}
+use Rattle.amqp_session.specs.Negotiation.{tune}
+use Rattle.amqp_session.specs.Handshake.{protocol_header, start_ok, secure_ok, tune_ok, open_vhost, our_close, close_ok, new_secret, channel_open, channel_flow, flow_ok, channel_close_ok, our_channel_close}
+use Rattle.amqp_session.specs.Numbering.{first_number, drawn}
+use Rattle.amqp_session.specs.Publishing.{method_frame, publish_frames}
+use Rattle.amqp_session.specs.Changes as change
+use Rattle.amqp_session.specs.Changes.{next_promise}
+use Rattle.amqp_session.specs.Links as link
+use Rattle.amqp_session.specs.Frames.{on_frame}
+use Rattle.amqp_session.specs.Commands as told
+use Rattle.amqp_session.specs.Commands.{body_limit}
+use Rattle.amqp_session.specs.Ticks as ticks
+use Rattle.amqp_session.specs.Ticks.{refresh_reason}
+use Rattle.amqp_session.specs.Writing as writing
+use Rattle.amqp_queued_rules.specs.Queues.{Queues, QueuesNothing, MayQueue}
+
+-- ---- frames that are read
+
+-- the reply to start, where the provider names a mechanism and says something by it
+abbrev pub start_reply : List Asked → Options → List Item
+start_reply (answer.Mechanism mechanism ∷ answer.Starter (Ok response) ∷ later) options =
+    plain_item 0 (start_ok options mechanism response) ∷ []
+start_reply _ options = []
+
+-- the reply to a challenge, where the provider answers it
+abbrev pub secure_reply : List Asked → List Item
+secure_reply (answer.Challenge (Ok response) ∷ later) = plain_item 0 (secure_ok response) ∷ []
+secure_reply _ = []
+
+-- the reply to tune: the agreed numbers, and the virtual host is opened
+abbrev pub tune_reply : Configuration → Talk → List Item
+tune_reply server t =
+    plain_item 0 (tune_ok (tune t.configuration server)) ∷ plain_item 0 (open_vhost t.config.uri.vhost) ∷ []
+
+-- the reply to open-ok: the channels that were kept are opened again, up to the greatest number that is agreed
+abbrev pub reopenings : ℕ → List (ℕ × Channel) → List Item
+reopenings most [] = []
+reopenings most (c ∷ cs) =
+    if nat_le c.0 most then plain_item c.0 (channel_open c.0) ∷ reopenings most cs else reopenings most cs
+
+-- the reply to a frame, with what the provider answers
+abbrev pub reply_to : Frame → List Asked → Talk → List Item
+reply_to (Method zero (Start major minor properties mechanisms locales)) answers t =
+    start_reply answers t.config.options
+reply_to (Method zero (Secure challenge)) answers t = secure_reply answers
+reply_to (Method zero (Tune channel_max frame_max heartbeat)) answers t =
+    tune_reply (record { channel_max = channel_max; frame_max = frame_max; heartbeat = heartbeat }) t
+reply_to (Method zero OpenOk) answers t = reopenings t.configuration.channel_max t.channels
+reply_to (Method zero (Close code text class method)) answers t = plain_item 0 close_ok ∷ []
+reply_to (Method (suc n) (ChannelFlow active)) answers t = plain_item (suc n) (flow_ok (suc n) active) ∷ []
+reply_to (Method (suc n) (ChannelClose code text class method)) answers t =
+    plain_item (suc n) (channel_close_ok (suc n)) ∷ []
+reply_to f answers t = []
+
+-- ---- commands
+
+-- the opening of the channel whose number was drawn, where one was
+abbrev pub opening_of : Option ℕ → List Item
+opening_of None = []
+opening_of (Some n) = plain_item n (channel_open n) ∷ []
+
+-- what a command says in the control lane
+abbrev pub told_by : Cmd → Talk → List Item
+told_by OpenChannel t =
+    opening_of (drawn t.configuration.channel_max (first_number t.configuration.channel_max t.cursor) t.channels)
+told_by (CloseChannel r code text) t = plain_item r.id (our_channel_close r.id code text) ∷ []
+told_by (CloseConnection code text) t = plain_item 0 (our_close code text) ∷ []
+told_by (UpdateSecret secret reason) t = plain_item 0 (new_secret secret reason) ∷ []
+told_by (Send r method) t = promised_item r.id (method_frame r.id method) (next_promise t) ∷ []
+told_by (Publish r method properties body) t = []
+told_by (Flow r active) t = plain_item r.id (channel_flow r.id active) ∷ []
+told_by (DropChannel r) t = plain_item r.id (our_channel_close r.id 200 (codes "OK")) ∷ []
+told_by DropConnection t = plain_item 0 (our_close 200 (codes "OK")) ∷ []
+told_by Listen t = []
+
+-- the group that a command puts into the publish lane
+abbrev pub published_by : Cmd → Talk → List (List Item)
+published_by (Publish r method properties body) t =
+    group_of r.id (publish_frames r.id method properties body (body_limit t)) (next_promise t) ∷ []
+published_by c t = []
+
+-- ---- time
+
+-- a heartbeat, or a new secret in the place of one that has expired
+abbrev pub IsOfTime : Item → Type 0
+IsOfTime item =
+    (item ≡ plain_item 0 Heartbeat)
+    ⊎ ((secret : List ℕ) × (item ≡ plain_item 0 (new_secret secret refresh_reason)))
+
+-- time queues such frames alone
+abbrev pub QueuesInTime : Talk → Talk → Type 0
+QueuesInTime t t' = (frames : List Item) × AllByRecursion IsOfTime frames × Queues frames [] t.outbox t'.outbox
+
+-- ---- each rule
+
+-- each rule queues its own frames, all of them, or nothing; a new link has the protocol header alone
+pub record QueuesItsOwn (t : Talk) : Type 0 where
+  pub linked : MayQueue (plain_item 0 protocol_header ∷ []) t.outbox (link.linked t).outbox
+  pub frame : (f : Frame) (answers : List Asked) →
+      MayQueue (reply_to f answers t) t.outbox (on_frame f answers t).outbox
+  pub command : (c : Cmd) → QueuesNothing t.outbox (told.command c t).outbox
+      ⊎ Queues (told_by c t) (published_by c t) t.outbox (told.command c t).outbox
+  pub tick : (answers : List Asked) → QueuesInTime t (ticks.tick answers t)
+  pub moment : (at : ℕ) → QueuesNothing t.outbox (change.present_at at t).outbox
+  pub starve : QueuesNothing t.outbox (change.starve t).outbox
+  pub asked : QueuesNothing t.outbox (link.asked t).outbox
+  pub link_failed : QueuesNothing t.outbox (link.link_failed t).outbox
+  pub piece : QueuesNothing t.outbox (link.piece t).outbox
+  pub misread : (why : Misread) → QueuesNothing t.outbox (link.misread why t).outbox
+  pub lost : (fault : IoFault) → QueuesNothing t.outbox (link.lost fault t).outbox
+  pub taken : (n : ℕ) → QueuesNothing t.outbox (writing.taken n t).outbox
