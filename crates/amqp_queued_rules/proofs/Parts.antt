@@ -50,7 +50,7 @@ all-of-part P (x ∷ xs) [] h all = absurd h
 all-of-part P (x ∷ xs) (y ∷ ys) (inl h) all = (subst P (sym h.0) all.0, all-of-part P xs ys h.1 all.1)
 all-of-part P (x ∷ xs) (y ∷ ys) (inr h) all = all-of-part P (x ∷ xs) ys h all.1
 
-all-joined : {X : Type 0} (P : X → Type 0) (xs ys : List X) → AllByRecursion P xs → AllByRecursion P ys → AllByRecursion P (xs ++ ys)
+pub all-joined : {X : Type 0} (P : X → Type 0) (xs ys : List X) → AllByRecursion P xs → AllByRecursion P ys → AllByRecursion P (xs ++ ys)
 all-joined P [] ys h k = k
 all-joined P (x ∷ xs) ys h k = (h.0, all-joined P xs ys h.1 k)
 

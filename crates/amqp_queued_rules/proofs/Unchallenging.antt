@@ -1,8 +1,8 @@
 -- A secure-ok waits only after a challenge was read.
-use Rattle.std.proofs.Common.{◌≡◌, ◌⊎◌, inl, inr, ℕ, zero, suc, nat_le, ◌-◌, Bool, true, false, true≢false, List, [], ◌∷◌, map, drop, length, Option, Some, None, Ok, sym, subst}
+use Rattle.std.proofs.Common.{◌≡◌, ◌⊎◌, inl, inr, ℕ, zero, suc, nat_le, ◌-◌, Bool, true, false, true≢false, List, [], ◌∷◌, ◌++◌, map, drop, length, Option, Some, None, Ok, sym, subst}
 use Rattle.std.specs.List.{AllByRecursion}
 use Rattle.amqp_frame.specs.declared.frame.Frame.{Frame}
-use Rattle.amqp_frame.specs.declared.frame.Frame.TheVariants.{Method, Raw}
+use Rattle.amqp_frame.specs.declared.frame.Frame.TheVariants.{Method, Raw, Heartbeat}
 use Rattle.amqp_frame.specs.declared.frame.RawKind.TheVariants.{Body}
 use Rattle.amqp_frame.specs.declared.method.Method.{Method as AnyMethod}
 use Rattle.amqp_frame.specs.declared.method.Method.TheVariants.{Start, Secure, Tune, OpenOk, Close, ChannelFlow, ChannelClose}
@@ -25,9 +25,9 @@ use Rattle.amqp_session.specs.Commands.{body_limit, command}
 use Rattle.amqp_session.specs.Writing.{next_within, flows, committed_as, commit, overlong, end_overlong}
 use Rattle.amqp_types.proofs.Small.{if_case}
 use Rattle.amqp_queued_rules.specs.Queues.{Queues, QueuesNothing, Waits}
-use Rattle.amqp_queued_rules.specs.Queued.{start_reply, reopenings, reply_to, opening_of, told_by, published_by, IsOfTime, QueuesItsOwn}
+use Rattle.amqp_queued_rules.specs.Queued.{start_reply, reopenings, reply_to, opening_of, told_by, published_by, renewal, QueuesInTime, QueuesItsOwn}
 use Rattle.amqp_queued_rules.specs.Challenges.{is_challenge, IsNoSecureOk, Unchallenged, StaysUnchallenged}
-use Rattle.amqp_queued_rules.proofs.Parts.{waits-queued, waits-same, waits-either}
+use Rattle.amqp_queued_rules.proofs.Parts.{all-joined, waits-queued, waits-same, waits-either}
 use Rattle.amqp_queued_rules.proofs.Replying.{silent-lose}
 use Rattle.amqp_queued_rules.proofs.Telling.{queues-its-own}
 
@@ -97,12 +97,19 @@ other-published (Publish r method properties body) t =
     (other-group r.id fs (next_promise t) (tt, (tt, other-pieces r.id (length body) (body_limit t) body)), tt)
 other-published c t = tt
 
-other-timed : (items : List Item) → AllByRecursion IsOfTime items → AllByRecursion Other items
-other-timed [] h = tt
-other-timed (item ∷ items) h = (by h.0, other-timed items h.1) where
-  by : IsOfTime item → Other item
-  by (inl beat) = subst Other (sym beat) tt
-  by (inr new) = subst Other (sym new.1) tt
+other-renewal : (answers : List Asked) → AllByRecursion Other (renewal answers)
+other-renewal (answer.ValidFor time ∷ answer.Refreshed (Ok secret) ∷ later) = (tt, tt)
+other-renewal answers = tt
+
+other-timed : (answers : List Asked) (t x : Talk) (h : QueuesInTime answers t x) → AllByRecursion Other (h.beats ++ h.secrets)
+other-timed answers t x h = all-joined Other h.beats h.secrets (by-beat h.one_beat) (by-secret h.one_secret) where
+  by-beat : (h.beats ≡ []) ⊎ (h.beats ≡ plain_item 0 Heartbeat ∷ []) → AllByRecursion Other h.beats
+  by-beat (inl none) = subst (AllByRecursion Other) (sym none) tt
+  by-beat (inr one) = subst (AllByRecursion Other) (sym one) (tt, tt)
+
+  by-secret : (h.secrets ≡ []) ⊎ (h.secrets ≡ renewal answers) → AllByRecursion Other h.secrets
+  by-secret (inl none) = subst (AllByRecursion Other) (sym none) tt
+  by-secret (inr new) = subst (AllByRecursion Other) (sym new) (other-renewal answers)
 
 -- ---- what is committed
 
@@ -140,12 +147,13 @@ stays-unchallenged t h =
       linked = waits-either Other _ t.outbox _ own.linked h (tt, tt);
       frame = λ f answers is. waits-either Other (reply_to f answers t) t.outbox _ (own.frame f answers) h (other-reply f answers t is);
       command = λ c. told c (own.command c);
-      tick = λ answers. waits-queued Other (own.tick answers).0 [] t.outbox _ (own.tick answers).2 h (other-timed (own.tick answers).0 (own.tick answers).1) tt;
-      moment = λ at. waits-same Other t.outbox _ (own.moment at) h;
+      tick = λ answers.
+          waits-queued Other ((own.tick answers).beats ++ (own.tick answers).secrets) [] t.outbox _ (own.tick answers).queues h (other-timed answers t _ (own.tick answers)) tt;
+      moment = λ at. subst (λ (q : Queued). Waits Other q) (sym (own.moment at)) h;
       starve = waits-same Other t.outbox _ own.starve h;
       asked = h;
       link_failed = waits-same Other t.outbox _ own.link_failed h;
-      piece = waits-same Other t.outbox _ own.piece h;
+      piece = subst (λ (q : Queued). Waits Other q) (sym own.piece) h;
       misread = λ why. waits-same Other t.outbox _ (own.misread why) h;
       lost = λ fault. waits-same Other t.outbox _ (own.lost fault) h;
       next = λ space. other-ended (overlong t) (commit space t) (other-committed (next_within space t) t h);

@@ -1,6 +1,5 @@
 -- The frames of each rule: the reply to a frame that is read, what a command says, and what time says.
-use Rattle.std.specs.Prelude.{◌≡◌, ◌⊎◌, ℕ, zero, suc, nat_le, if◌then◌else◌, List, [], ◌∷◌, codes, Option, Some, None, Ok}
-use Rattle.std.specs.List.{AllByRecursion}
+use Rattle.std.specs.Prelude.{◌≡◌, ◌⊎◌, ℕ, zero, suc, nat_le, if◌then◌else◌, List, [], ◌∷◌, ◌++◌, codes, Option, Some, None, Ok}
 use Rattle.amqp_frame.specs.declared.frame.Frame.{Frame}
 use Rattle.amqp_frame.specs.declared.frame.Frame.TheVariants.{Method, Heartbeat}
 use Rattle.amqp_frame.specs.declared.method.Method.TheVariants.{Start, Secure, Tune, OpenOk, Close, ChannelFlow, ChannelClose}
@@ -98,15 +97,19 @@ published_by c t = []
 
 -- ---- time
 
--- a heartbeat, or a new secret in the place of one that has expired
-abbrev pub IsOfTime : Item → Type 0
-IsOfTime item =
-    (item ≡ plain_item 0 Heartbeat)
-    ⊎ ((secret : List ℕ) × (item ≡ plain_item 0 (new_secret secret refresh_reason)))
+-- the new secret that the provider has for one that has expired
+abbrev pub renewal : List Asked → List Item
+renewal (answer.ValidFor time ∷ answer.Refreshed (Ok secret) ∷ later) =
+    plain_item 0 (new_secret secret refresh_reason) ∷ []
+renewal _ = []
 
--- time queues such frames alone
-abbrev pub QueuesInTime : Talk → Talk → Type 0
-QueuesInTime t t' = (frames : List Item) × AllByRecursion IsOfTime frames × Queues frames [] t.outbox t'.outbox
+-- time queues a heartbeat, or none, and behind it the new secret of the provider, or none
+pub record QueuesInTime (answers : List Asked) (t t' : Talk) : Type 0 where
+  pub beats : List Item
+  pub secrets : List Item
+  pub one_beat : (beats ≡ []) ⊎ (beats ≡ plain_item 0 Heartbeat ∷ [])
+  pub one_secret : (secrets ≡ []) ⊎ (secrets ≡ renewal answers)
+  pub queues : Queues (beats ++ secrets) [] t.outbox t'.outbox
 
 -- ---- each rule
 
@@ -117,12 +120,14 @@ pub record QueuesItsOwn (t : Talk) : Type 0 where
       MayQueue (reply_to f answers t) t.outbox (on_frame f answers t).outbox
   pub command : (c : Cmd) → QueuesNothing t.outbox (told.command c t).outbox
       ⊎ Queues (told_by c t) (published_by c t) t.outbox (told.command c t).outbox
-  pub tick : (answers : List Asked) → QueuesInTime t (ticks.tick answers t)
-  pub moment : (at : ℕ) → QueuesNothing t.outbox (change.present_at at t).outbox
+  pub tick : (answers : List Asked) → QueuesInTime answers t (ticks.tick answers t)
+  -- these leave what waits as it is
+  pub moment : (at : ℕ) → (change.present_at at t).outbox ≡ t.outbox
+  pub asked : (link.asked t).outbox ≡ t.outbox
+  pub piece : (link.piece t).outbox ≡ t.outbox
+  -- these queue nothing
   pub starve : QueuesNothing t.outbox (change.starve t).outbox
-  pub asked : QueuesNothing t.outbox (link.asked t).outbox
   pub link_failed : QueuesNothing t.outbox (link.link_failed t).outbox
-  pub piece : QueuesNothing t.outbox (link.piece t).outbox
   pub misread : (why : Misread) → QueuesNothing t.outbox (link.misread why t).outbox
   pub lost : (fault : IoFault) → QueuesNothing t.outbox (link.lost fault t).outbox
   pub taken : (n : ℕ) → QueuesNothing t.outbox (writing.taken n t).outbox
