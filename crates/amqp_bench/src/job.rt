@@ -17,6 +17,8 @@ pub enum Job {
     Read { size: u32, count: u64 },
     /// Sends methods over a session.
     Sends { count: u64 },
+    /// Sends methods over a hub, whose journal begins anew now and then.
+    Settles { count: u64 },
     /// Publishes over a session, and how it goes on once all is queued.
     Publishes(Load, Ending),
 }
@@ -79,6 +81,9 @@ pub fn job_of(
         "read" => Some(Job::Read {
             size: size_of(first)?,
             count: count_of(second)?,
+        }),
+        "settles" if second.is_none() => Some(Job::Settles {
+            count: count_of(first)?,
         }),
         "sends" if second.is_none() => Some(Job::Sends {
             count: count_of(first)?,

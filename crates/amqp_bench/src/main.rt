@@ -1,5 +1,5 @@
 //! Does one kind of work so many times, for whoever times it: writes or reads body frames in memory,
-//! or sends or publishes over a session that is driven call by call.
+//! or sends or publishes over a session that is driven call by call, or sends over a hub.
 //!
 //! It says what it did, and no time: `bench/run` times it.
 #![tactic(auto)]
@@ -8,6 +8,7 @@ mod driven;
 mod job;
 mod publishes;
 mod sends;
+mod settled;
 mod wire;
 
 use job::{Job, job_of};
@@ -15,7 +16,8 @@ use std::io::ErrorKind;
 use std::process::ExitCode;
 use std::{env, io};
 
-const USAGE: &str = "usage: amqp_bench write SIZE COUNT | read SIZE COUNT | sends COUNT \
+const USAGE: &str =
+    "usage: amqp_bench write SIZE COUNT | read SIZE COUNT | sends COUNT | settles COUNT \
     | publishes CHANNELS SIZE COUNT | closes CHANNELS SIZE COUNT | server-closes CHANNELS SIZE COUNT";
 
 // The job that the words after the program's name tell.
@@ -34,6 +36,7 @@ fn done_of(rt: &HostRuntime, job: Job) -> Option<u64> {
         Job::Write { size, count } => wire::write(rt.alloc(), size, count),
         Job::Read { size, count } => wire::read(rt.alloc(), size, count),
         Job::Sends { count } => sends::sends(rt.alloc(), count),
+        Job::Settles { count } => settled::settles(rt.alloc(), count),
         Job::Publishes(load, ending) => publishes::publishes(rt.alloc(), load, ending),
     }
 }
@@ -53,7 +56,9 @@ fn run(rt: &HostRuntime) -> io::Result<ExitCode> {
         Job::Read { size, count } => {
             println!(rt; "read {count} frames of {size} octets: {done} octets in all")?
         }
-        Job::Sends { count } => println!(rt; "sent {count} methods: {done} answers taken")?,
+        Job::Sends { count } | Job::Settles { count } => {
+            println!(rt; "sent {count} methods: {done} answers taken")?
+        }
         Job::Publishes(load, _) => {
             let count = load.count;
             println!(rt; "published {count} bodies: {done} of them sent")?

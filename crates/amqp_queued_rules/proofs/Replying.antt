@@ -149,7 +149,7 @@ replied-tune server t =
     (append_assoc t.outbox.control (first ∷ []) (second ∷ [])) (part-all t.outbox.publish) (part-all t.outbox.begun))
 
 -- channels that are opened again
-reopened-control : (cs : List (ℕ × Channel)) (t : Talk) → (reopen_each cs t).outbox.control ≡ t.outbox.control ++ reopenings t.configuration.channel_max cs
+pub reopened-control : (cs : List (ℕ × Channel)) (t : Talk) → (reopen_each cs t).outbox.control ≡ t.outbox.control ++ reopenings t.configuration.channel_max cs
 reopened-control [] t = sym (append-nil t.outbox.control)
 reopened-control (c ∷ cs) t =
     by (nat_le c.0 t.configuration.channel_max) (reopened-control cs (await c.0 ChannelOpened None (queue c.0 (channel_open c.0) t)))
@@ -164,14 +164,14 @@ reopened-control (c ∷ cs) t =
     by true opened removed = opened ∙ append_assoc t.outbox.control (plain_item c.0 (channel_open c.0) ∷ []) (reopenings t.configuration.channel_max cs)
     by false opened removed = removed
 
-reopened-publish : (cs : List (ℕ × Channel)) (t : Talk) → (reopen_each cs t).outbox.publish ≡ t.outbox.publish
+pub reopened-publish : (cs : List (ℕ × Channel)) (t : Talk) → (reopen_each cs t).outbox.publish ≡ t.outbox.publish
 reopened-publish [] t = refl
 reopened-publish (c ∷ cs) t =
     reopened-publish cs (reopen c.0 t)
     ∙ if_case (λ (x : Talk). x.outbox.publish ≡ t.outbox.publish) (nat_le c.0 t.configuration.channel_max)
     (await c.0 ChannelOpened None (queue c.0 (channel_open c.0) t)) (remove_channel c.0 t) refl refl
 
-reopened-begun : (cs : List (ℕ × Channel)) (t : Talk) → (reopen_each cs t).outbox.begun ≡ t.outbox.begun
+pub reopened-begun : (cs : List (ℕ × Channel)) (t : Talk) → (reopen_each cs t).outbox.begun ≡ t.outbox.begun
 reopened-begun [] t = refl
 reopened-begun (c ∷ cs) t =
     reopened-begun cs (reopen c.0 t)

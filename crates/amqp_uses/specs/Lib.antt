@@ -1,3 +1,4 @@
 pub mod Driving
 pub mod Opening
 pub mod Messages
+pub mod Pooling

@@ -3,8 +3,10 @@
 #![tactic(auto)]
 
 mod driving;
+mod journal;
 mod messages;
 mod opening;
+mod pooling;
 mod port;
 mod table;
 mod wire;
@@ -12,8 +14,10 @@ mod wire;
 pub use driving::{
     Came, Client, bodies_received, hear_next, new_client, open_and_send, opened, say_next,
 };
-pub use messages::{Delivery, next_delivery, publish_text};
+pub use journal::{new_hub, open_and_settle};
+pub use messages::{Delivery, next_delivery, publication_of, publish_text};
 pub use opening::{Connection, open_over};
+pub use pooling::{Begun, Finished, Sending, begin_message, finish_message};
 pub use port::{Held, converse};
 pub use table::{table_with, text_in};
 pub use wire::{frame_in, octets_of};

@@ -25,10 +25,22 @@ pub fn publish_text(
         (engine.new ≡ with_talk (command_rule (publication channel queue.now text.now)) engine.old) }
     ensures err { OnErr result (engine.new ≡ engine.old) }
 {
+    engine.command(publication_of(alloc, channel, queue, text)?)
+}
+
+/// The command by which a text is published so.
+pub fn publication_of(
+    alloc: Global,
+    channel: ChanRef,
+    queue: &ShortString,
+    text: &[u8],
+) -> std::result::Result<Cmd, NoMemory>
+    ensures { IfOk result (λ c. c ≡ publication channel queue.now text.now) }
+{
     let method = publish_method(alloc, queue)?;
     let properties = no_properties(alloc)?;
     let body = Payload::new(alloc, text)?;
-    engine.command(Cmd::Publish(channel, method, properties, body))
+    Ok(Cmd::Publish(channel, method, properties, body))
 }
 
 // The property flags that name no property.

@@ -2,9 +2,12 @@
 
 ghost use Rattle.amqp_engine.specs.Plan.{IsGivenPiece, ArePieces};
 
+mod pooling;
+
 use super::*;
 use amqp_engine::{Given, GivenStep, MemoryPort};
 use amqp_frame::{FixedRoom, Frame, RawKind, RawMethod, Room, encoded_len};
+use amqp_hub::Hub;
 use amqp_session::{
     Answer, ConnectionProperties, DefaultAuthProvider, Handed, HandedProvider, Session,
 };
@@ -274,6 +277,33 @@ fn opens_and_publishes(rt: HostRuntime) -> Outcome {
     drop(port);
     drop(uri);
     assert!(rt; sent?);
+    Ok(())
+}
+
+// The indices of the entries of two commands of a hub.
+fn two_entries(hub: &mut Hub) -> amqp_session::Result<(u64, u64)> {
+    let mut passes = hub.passes(1)?;
+    match passes.get_mut(0) {
+        Some(pass) => {
+            let first = open_and_settle(hub, pass)?;
+            let second = open_and_settle(hub, pass)?;
+            Ok((first, second))
+        }
+        None => Ok((0, 0)),
+    }
+}
+
+#[test]
+fn entries_that_were_let_go_are_counted(rt: HostRuntime) -> Outcome {
+    let alloc = rt.alloc();
+    let uri = AMQPUri::local(alloc)?;
+    let mut port = server_of_one_channel(alloc)?;
+    let mut hub = new_hub(alloc, &uri, &mut port)?;
+    let entries = two_entries(&mut hub);
+    drop(hub);
+    drop(port);
+    drop(uri);
+    assert!(rt; entries? == (0, 1));
     Ok(())
 }
 

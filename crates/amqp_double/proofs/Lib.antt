@@ -1,0 +1,4 @@
+pub mod Saying
+pub mod Taking
+pub mod Ends
+pub mod Deciding

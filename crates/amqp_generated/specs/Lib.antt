@@ -1,0 +1,2 @@
+-- Who logs in where a script is generated.
+pub mod Login

@@ -1,0 +1,6 @@
+-- The places of passes in a journal, and their counts.
+pub mod Placing
+-- What each call leaves is kept.
+pub mod Keeping
+-- A command stands once, and none is missing.
+pub mod Once

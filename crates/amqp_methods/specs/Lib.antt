@@ -1,0 +1,4 @@
+-- What a client says.
+pub mod Said
+-- What a server says of messages, and how it is read.
+pub mod Heard

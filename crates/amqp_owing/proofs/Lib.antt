@@ -1,0 +1,5 @@
+pub mod Changes
+pub mod Stages
+pub mod Sayings
+pub mod Owing
+pub mod Behind

@@ -1,0 +1,2 @@
+-- What a double owes its client.
+pub mod Owed

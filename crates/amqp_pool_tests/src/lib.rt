@@ -1,0 +1,7 @@
+//! Tests of pools, with hubs that are applied by hand over ports that play a script.
+#![tactic(auto)]
+
+#[cfg(test)]
+mod leases;
+#[cfg(test)]
+mod support;
