@@ -1,6 +1,6 @@
 //! Methods that a client says.
 
-ghost use Rattle.std.specs.Prelude.{◌≡◌, ◌≤◌, ◌<◌, ◌*◌, ◌+◌, ◌↔◌, if◌then◌else◌, length, IfOk, IfErr, Err};
+ghost use Rattle.std.specs.Prelude.{◌≡◌, ◌⊎◌, ◌≤◌, ◌<◌, ◌*◌, ◌+◌, ◌↔◌, if◌then◌else◌, length, IfOk, IfErr, Err};
 ghost use Rattle.amqp_types.specs.Spelling.{spell_table};
 ghost use Rattle.amqp_types.specs.declared.strings.TypeFault.TheVariants.{TooLong};
 ghost use Rattle.amqp_frame.specs.Lengths.{capped};
@@ -54,6 +54,8 @@ pub fn basic_consume(
     ensures ok { IfOk result (λ method. method ≡ consume_method queue.now consumer_tag.now options arguments.now) }
     ensures too_long { (result ≡ Err (TooLong (capped (length (spell_table arguments.now)))))
         ↔ (4294967295 < length (spell_table arguments.now)) }
+    ensures only { IfErr result (λ e. (e ≡ TypeFault.NoMemory)
+        ⊎ (e ≡ TooLong (capped (length (spell_table arguments.now))))) }
 {
     let size = size_of(arguments)?;
     let acks = flag(options.exclusive, flag(options.nowait, 0));
@@ -107,6 +109,8 @@ pub fn queue_declare(
     ensures ok { IfOk result (λ method. method ≡ declare_method queue.now options arguments.now) }
     ensures too_long { (result ≡ Err (TooLong (capped (length (spell_table arguments.now)))))
         ↔ (4294967295 < length (spell_table arguments.now)) }
+    ensures only { IfErr result (λ e. (e ≡ TypeFault.NoMemory)
+        ⊎ (e ≡ TooLong (capped (length (spell_table arguments.now))))) }
 {
     let size = size_of(arguments)?;
     let last = flag(
