@@ -1,6 +1,8 @@
 //! The words of the program.
 
+use crate::growth::{Case, case_named};
 use crate::publishes::{Ending, Load};
+use crate::through::{Messages, Way};
 
 /// The longest payload of a frame of 131072 octets.
 const LONGEST: u32 = 131_064;
@@ -21,6 +23,10 @@ pub enum Job {
     Settles { count: u64 },
     /// Publishes over a session, and how it goes on once all is queued.
     Publishes(Load, Ending),
+    /// Passes messages through an engine.
+    Pass(Messages),
+    /// Does again and again what a server or a caller may do.
+    Grow(Case, u64),
 }
 
 // A number of times.
@@ -62,6 +68,33 @@ fn publishes_of(words: [Option<String>; 3], ending: Ending) -> Option<Job> {
     Some(Job::Publishes(load_of(words)?, ending))
 }
 
+// Messages that are published through an engine, so many before each turn.
+fn messages_out_of(words: [Option<String>; 3]) -> Option<Job> {
+    let [size, count, each] = words;
+    Some(Job::Pass(Messages {
+        way: Way::Out {
+            each: count_of(each)?.max(1),
+        },
+        size: size_of(size)?,
+        count: count_of(count)?,
+    }))
+}
+
+// Messages that are delivered through an engine.
+fn messages_in_of(size: Option<String>, count: Option<String>) -> Option<Job> {
+    Some(Job::Pass(Messages {
+        way: Way::In,
+        size: size_of(size)?,
+        count: count_of(count)?,
+    }))
+}
+
+// A case of growth, and how often.
+fn growth_of(name: Option<String>, count: Option<String>) -> Option<Job> {
+    let case = case_named(name?.as_str())?;
+    Some(Job::Grow(case, count_of(count)?))
+}
+
 /// The job that words tell.
 pub fn job_of(
     kind: Option<String>,
@@ -73,7 +106,10 @@ pub fn job_of(
         "publishes" => publishes_of([first, second, third], Ending::Sent),
         "closes" => publishes_of([first, second, third], Ending::Closed),
         "server-closes" => publishes_of([first, second, third], Ending::ClosedByServer),
+        "messages-out" => messages_out_of([first, second, third]),
         _ if third.is_some() => None,
+        "messages-in" => messages_in_of(first, second),
+        "growth" => growth_of(first, second),
         "write" => Some(Job::Write {
             size: size_of(first)?,
             count: count_of(second)?,

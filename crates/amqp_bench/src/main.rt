@@ -1,14 +1,19 @@
 //! Does one kind of work so many times, for whoever times it: writes or reads body frames in memory,
-//! or sends or publishes over a session that is driven call by call, or sends over a hub.
+//! or sends or publishes over a session that is driven call by call, or sends over a hub, or passes
+//! messages through an engine, or does to an engine what a server or a caller may do again and again.
 //!
 //! It says what it did, and no time: `bench/run` times it.
 #![tactic(auto)]
 
+mod client;
 mod driven;
+mod feed;
+mod growth;
 mod job;
 mod publishes;
 mod sends;
 mod settled;
+mod through;
 mod wire;
 
 use job::{Job, job_of};
@@ -18,7 +23,8 @@ use std::{env, io};
 
 const USAGE: &str =
     "usage: amqp_bench write SIZE COUNT | read SIZE COUNT | sends COUNT | settles COUNT \
-    | publishes CHANNELS SIZE COUNT | closes CHANNELS SIZE COUNT | server-closes CHANNELS SIZE COUNT";
+    | publishes CHANNELS SIZE COUNT | closes CHANNELS SIZE COUNT | server-closes CHANNELS SIZE COUNT \
+    | messages-out SIZE COUNT EACH | messages-in SIZE COUNT | growth CASE COUNT";
 
 // The job that the words after the program's name tell.
 fn job_given(rt: &HostRuntime) -> io::Result<Option<Job>> {
@@ -38,6 +44,8 @@ fn done_of(rt: &HostRuntime, job: Job) -> Option<u64> {
         Job::Sends { count } => sends::sends(rt.alloc(), count),
         Job::Settles { count } => settled::settles(rt.alloc(), count),
         Job::Publishes(load, ending) => publishes::publishes(rt.alloc(), load, ending),
+        Job::Pass(messages) => through::pass(rt.alloc(), messages),
+        Job::Grow(case, count) => growth::grow(rt.alloc(), case, count),
     }
 }
 
@@ -62,6 +70,13 @@ fn run(rt: &HostRuntime) -> io::Result<ExitCode> {
         Job::Publishes(load, _) => {
             let count = load.count;
             println!(rt; "published {count} bodies: {done} of them sent")?
+        }
+        Job::Pass(messages) => {
+            let count = messages.count;
+            println!(rt; "{count} messages: {done} of them passed")?
+        }
+        Job::Grow(_, count) => {
+            println!(rt; "{count} rounds: {done} octets written on all links")?
         }
     }
     Ok(ExitCode::SUCCESS)

@@ -80,7 +80,7 @@ each-list {Y} Q n es all = by (at n es) refl where
 -- ---- an entry that goes, where the numbers ascend
 
 -- each number that a map has is there
-keys-there : {X : Type 0} (es : List (ℕ × X)) → Each (λ m (x : X). at m es ≡ None → ⊥) es
+pub keys-there : {X : Type 0} (es : List (ℕ × X)) → Each (λ m (x : X). at m es ≡ None → ⊥) es
 keys-there [] = tt
 keys-there {X} (e ∷ es) =
     (here, each-then (λ m (x : X). at m es ≡ None → ⊥) (λ m (x : X). at m (e ∷ es) ≡ None → ⊥) (λ m x there. later (is_at (nat_cmp m) e.0) m there) es (keys-there es))

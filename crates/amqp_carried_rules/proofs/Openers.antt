@@ -75,6 +75,12 @@ use Rattle.amqp_carried_rules.proofs.Entries.{Each, each-put, each-without, each
 pub record IsOpener (cs : List Cmd) (opens : ℕ → ℕ) (n p : ℕ) : Type 0 where
   pub command : command_at cs p ≡ Some OpenChannel
   pub number : opens p ≡ n
+  pub some : 1 ≤ n
+
+-- it does, and is the last that does
+pub record IsLatest (cs : List Cmd) (opens : ℕ → ℕ) (n p : ℕ) : Type 0 where
+  pub opener : IsOpener cs opens n p
+  pub last : (q : ℕ) → command_at cs q ≡ Some OpenChannel → opens q ≡ n → q ≤ p
 
 -- a promise was made; and where it is that of a command that opens a channel, and is answered, but not with an error nor
 -- Sent, the answer is that the channel is open
@@ -98,7 +104,7 @@ AwaitsOpening cs a = AwaitsAs cs a.reply a.promise
 
 -- so it is with a session that was told these commands, and of which these answers were taken
 pub record KnowsOpeners (cs : List Cmd) (opens : ℕ → ℕ) (gone : ℕ → Bool) (t : Talk) : Type 0 where
-  pub listed : Each (λ n (c : Channel). IsOpener cs opens n c.opened) t.channels
+  pub listed : Each (λ n (c : Channel). IsLatest cs opens n c.opened) t.channels
   pub held : Each (HoldsOpening cs opens gone) t.promises
   pub awaited : Each (λ n list. AllByRecursion (AwaitsOpening cs) list) t.outbox.awaited
   pub handed : Each (λ p hs. AllByRecursion (λ (h : Handed). IsOpener cs opens h.channel p) hs) t.handed
@@ -135,7 +141,7 @@ next-awaited flow q = begun-awaited flow q.begun q
 
 module _ (cs : List Cmd) (opens : ℕ → ℕ) (gone : ℕ → Bool) where
   abbrev Listed : ℕ → Channel → Type 0
-  Listed n c = IsOpener cs opens n c.opened
+  Listed n c = IsLatest cs opens n c.opened
 
   abbrev Waiting : ℕ → List Awaited → Type 0
   Waiting n list = AllByRecursion (AwaitsOpening cs) list
@@ -270,8 +276,8 @@ module _ (cs : List Cmd) (opens : ℕ → ℕ) (gone : ℕ → Bool) where
   -- a listed channel changes, and what opened it stays
   changed : (n : ℕ) (c c' : Channel) (t : Talk) → channel_at n t ≡ Some c → c'.opened ≡ c.opened → Knows t → Each Listed (put n c' t.channels)
   changed n c c' t there same h =
-      let own : IsOpener cs opens n c.opened = each-at Listed n t.channels c h.listed there in
-      each-put Listed n c' t.channels (subst (λ p. IsOpener cs opens n p) (sym same) own) h.listed
+      let own : IsLatest cs opens n c.opened = each-at Listed n t.channels c h.listed there in
+      each-put Listed n c' t.channels (subst (λ p. IsLatest cs opens n p) (sym same) own) h.listed
 
   knows-removed : (n : ℕ) (t : Talk) → Knows t → Knows (remove_channel n t)
   knows-removed n t h = record { listed = each-without Listed n t.channels h.listed; held = h.held; awaited = h.awaited; handed = h.handed }
@@ -292,7 +298,7 @@ module _ (cs : List Cmd) (opens : ℕ → ℕ) (gone : ℕ → Bool) where
       }
     where
       own : IsOpener cs opens n c.opened
-      own = each-at Listed n t.channels c h.listed there
+      own = (each-at Listed n t.channels c h.listed there).opener
 
       may : (p : ℕ) → promise ≡ Some p → MayGet p (Ok (says.Channel n c.opened))
       may p named y told e =
@@ -390,7 +396,7 @@ module _ (cs : List Cmd) (opens : ℕ → ℕ) (gone : ℕ → Bool) where
   knows-raw (Some c) n kind bytes t heard h =
       let there : channel_at n t ≡ Some c = heard-there t.state (channel_at n t) c heard in
       knows-hand c.opened (record { channel = n; kind = kind; bytes = bytes }) (if is_select_ok kind bytes then confirmed n c t else t)
-      (each-at Listed n t.channels c h.listed there) (if_case Knows (is_select_ok kind bytes) (confirmed n c t) t (knows-confirmed n c t there h) h)
+      (each-at Listed n t.channels c h.listed there).opener (if_case Knows (is_select_ok kind bytes) (confirmed n c t) t (knows-confirmed n c t there h) h)
 
   -- ---- the connection
 

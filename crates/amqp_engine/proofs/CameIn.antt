@@ -31,7 +31,11 @@ use Rattle.amqp_engine.specs.Making.{keeps_unread}
 use Rattle.amqp_engine.specs.Engine.{Engine, with_talk, rule_at, settle, step_engine, step_linked, step_questions}
 use Rattle.amqp_engine.specs.Turn.{Progress, asks, wants_ask, goes, part, questioned, is_part, is_piece, step_part, read}
 use Rattle.amqp_engine.specs.Carried.{IsSubsequence, raw_frames, concatenated, frame_of, StandFirst, StandOnLinks}
-use Rattle.amqp_engine.specs.Account.{step_came}
+use Rattle.amqp_carried_rules.specs.CommandFrames.{answered_command}
+use Rattle.amqp_engine.specs.Account.{step_came, command_of}
+use Rattle.amqp_engine.proofs.Knowing.{KeepsKnown, known-moment, known-link, known-refusal, known-received, known-loss, known-time}
+use Rattle.amqp_engine.proofs.Parting.{Kept, told_more, Openings, openings-kept, openings-told}
+use Rattle.amqp_engine.proofs.Cases.{no-command}
 use Rattle.amqp_engine.proofs.Settling.{settle-talk, settle-unread}
 use Rattle.amqp_engine.proofs.LinkKept.{asked-open, asked-not-open, kept-present, leaves-step}
 use Rattle.amqp_engine.proofs.Sent.{on_last-append}
@@ -137,14 +141,15 @@ pub record IsLastRead (e : Engine) (came : List (List ℕ)) (read : List (List F
   pub dropped : drops_input e.talk ≡ true → e.unread ≡ []
 
 -- what was handed out was read; of the open link this is known unless the turn was cut
-pub record Came (whole : Bool) (given : ℕ → List Handed) (e : Engine) (came : List (List ℕ)) : Type 0 where
+pub record Came (whole : Bool) (given : Kept) (e : Engine) (came : List (List ℕ)) : Type 0 where
   pub read : List (List Frame)
   pub handed : List (ℕ × Handed)
-  pub each : (opened : ℕ) → handed_on opened handed ≡ given opened ++ frames_of opened e.talk
+  pub each : (opened : ℕ) → handed_on opened handed ≡ given.given opened ++ frames_of opened e.talk
   pub order : IsSubsequence (map (λ h. frame_of h.1) handed) (raw_frames (concatenated read))
   pub sorted : Ascend (keys_of e.talk.handed)
   pub links : StandOnLinks came read
   pub last : whole ≡ true → is_open e.talk ≡ true → IsLastRead e came read
+  pub openings : Openings given e.talk handed
 
 -- a change by which nothing is read or handed out
 pub record Stays (e e' : Engine) : Type 0 where
@@ -154,19 +159,23 @@ pub record Stays (e e' : Engine) : Type 0 where
   pub unread : is_open e'.talk ≡ true → drops_input e'.talk ≡ false → e'.unread ≡ e.unread
   pub dropped : is_open e'.talk ≡ true → drops_input e'.talk ≡ true → e.unread ≡ [] → e'.unread ≡ []
 
-module _ (given : ℕ → List Handed) (came : List (List ℕ)) where
+module _ (given : Kept) (came : List (List ℕ)) where
   abbrev Now : Bool → Engine → Type 0
   Now whole e = Came whole given e came
 
   pub came-flag : (whole other : Bool) (e : Engine) → whole ≡ true → Now whole e → Now other e
-  came-flag whole other e is h = record { read = h.read; handed = h.handed; each = h.each; order = h.order; sorted = h.sorted; links = h.links; last = λ any o. h.last is o }
+  came-flag whole other e is h = record { read = h.read; handed = h.handed; each = h.each; order = h.order; sorted = h.sorted; links = h.links; last = λ any o. h.last is o; openings = h.openings }
 
-  pub came-stays : (whole : Bool) (e e' : Engine) → Stays e e' → Now whole e → Now whole e'
-  came-stays whole e e' s h =
+  -- where what is known of the commands that were told changes with it
+  pub came-with : (more : Kept) (whole : Bool) (e e' : Engine) → more.given ≡ given.given → Stays e e' → (h : Now whole e) → Openings more e'.talk h.handed
+      → Came whole more e' came
+  came-with more whole e e' same s h openings =
       record {
         read = h.read;
         handed = h.handed;
-        each = λ opened. h.each opened ∙ ap (λ fs. given opened ++ fs) (sym (same-frames opened e.talk e'.talk s.handed));
+        each = λ opened.
+            h.each opened ∙ ap (λ fs. given.given opened ++ fs) (sym (same-frames opened e.talk e'.talk s.handed))
+            ∙ ap (λ (f : ℕ → List Handed). f opened ++ frames_of opened e'.talk) (sym same);
         order = h.order;
         sorted = subst (λ (hs : List (ℕ × List Handed)). Ascend (keys_of hs)) (sym s.handed) h.sorted;
         links = h.links;
@@ -185,19 +194,24 @@ module _ (given : ℕ → List Handed) (came : List (List ℕ)) where
               unread = λ d. l.unread (sym (ap is_dropped_input (s.input o)) ∙ d) ∙ sym (s.unread o d);
               dropped = λ d. s.dropped o d (l.dropped (sym (ap is_dropped_input (s.input o)) ∙ d));
             });
+        openings = openings;
       }
 
+  pub came-stays : (whole : Bool) (e e' : Engine) → Stays e e' → KeepsKnown e.talk e'.talk → Now whole e → Now whole e'
+  came-stays whole e e' s n h = came-with given whole e e' refl s h (openings-kept given e.talk e'.talk h.handed n h.openings)
+
   -- the link is closed
-  pub came-closed : (whole other : Bool) (e e' : Engine) → IsSameHanded e.talk e'.talk → is_open e'.talk ≡ false → Now whole e → Now other e'
-  came-closed whole other e e' same shut h =
+  pub came-closed : (whole other : Bool) (e e' : Engine) → IsSameHanded e.talk e'.talk → is_open e'.talk ≡ false → KeepsKnown e.talk e'.talk → Now whole e → Now other e'
+  came-closed whole other e e' same shut n h =
       record {
         read = h.read;
         handed = h.handed;
-        each = λ opened. h.each opened ∙ ap (λ fs. given opened ++ fs) (sym (same-frames opened e.talk e'.talk same));
+        each = λ opened. h.each opened ∙ ap (λ fs. given.given opened ++ fs) (sym (same-frames opened e.talk e'.talk same));
         order = h.order;
         sorted = subst (λ (hs : List (ℕ × List Handed)). Ascend (keys_of hs)) (sym same) h.sorted;
         links = h.links;
         last = λ is o. absurd (true≢false (sym o ∙ shut));
+        openings = openings-kept given e.talk e'.talk h.handed n h.openings;
       }
 
 -- ---- what changes nothing
@@ -299,7 +313,7 @@ step-stays at (Command c) bytes answers e plain unlinked =
 
 -- ---- the step
 
-module _ (given : ℕ → List Handed) (whole : Bool) (at : ℕ) (bytes : List ℕ) (e : Engine) (came : List (List ℕ)) (h : Came true given e came) where
+module _ (given : Kept) (whole : Bool) (at : ℕ) (bytes : List ℕ) (e : Engine) (came : List (List ℕ)) (h : Came true given e came) where
   -- the link that was asked for is there
   came-linked : is_asked e.talk ≡ true → Came whole given (record { talk = linked (present_at at e.talk); unread = []; place = 0; unsent = []; starved = e.starved }) (came ++ [] ∷ [])
   came-linked is =
@@ -308,12 +322,13 @@ module _ (given : ℕ → List Handed) (whole : Bool) (at : ℕ) (bytes : List �
       record {
         read = h.read ++ [] ∷ [];
         handed = h.handed;
-        each = λ opened. h.each opened ∙ ap (λ fs. given opened ++ fs) (sym (same-frames opened e.talk t same));
+        each = λ opened. h.each opened ∙ ap (λ fs. given.given opened ++ fs) (sym (same-frames opened e.talk t same));
         order = subst (λ (fs : List Frame). IsSubsequence (map (λ h. frame_of h.1) h.handed) (raw_frames fs)) (sym (flat_map-append (λ x. x) h.read ([] ∷ []) ∙ append-nil (concatenated h.read))) h.order;
         sorted = subst (λ (hs : List (ℕ × List Handed)). Ascend (keys_of hs)) (sym same) h.sorted;
         links = links-push came h.read [] [] h.links tt;
         last = λ any o.
             record { before = came; octets = []; came_is = refl; earlier = h.read; frames = []; read_is = refl; links = h.links; rest = []; stand = refl; unread = λ d. refl; dropped = λ d. refl };
+        openings = openings-kept given e.talk t h.handed (known-link at e) h.openings;
       }
 
   -- it would be, but nothing was done
@@ -327,11 +342,12 @@ module _ (given : ℕ → List Handed) (whole : Bool) (at : ℕ) (bytes : List �
         sorted = h.sorted;
         links = links-push came h.read [] [] h.links tt;
         last = λ any o. absurd (asked-not-open e.talk.link is o);
+        openings = h.openings;
       }
 
-  -- a piece comes, and is not received
-  came-passed : (is_open e.talk ≡ true → whole ≡ false) → Came whole given e (on_last (λ octets. octets ++ bytes) came)
-  came-passed shut =
+  -- a piece comes on the open link, and is not received
+  came-passed : whole ≡ false → Came whole given e (on_last (λ octets. octets ++ bytes) came)
+  came-passed off =
       record {
         read = h.read;
         handed = h.handed;
@@ -339,7 +355,8 @@ module _ (given : ℕ → List Handed) (whole : Bool) (at : ℕ) (bytes : List �
         order = h.order;
         sorted = h.sorted;
         links = links-more came h.read bytes h.links;
-        last = λ is o. absurd (true≢false (sym is ∙ shut o));
+        last = λ is o. absurd (true≢false (sym is ∙ off));
+        openings = h.openings;
       }
 
   -- a piece is received
@@ -354,7 +371,7 @@ module _ (given : ℕ → List Handed) (whole : Bool) (at : ℕ) (bytes : List �
       record {
         read = h.read;
         handed = h.handed;
-        each = λ opened. h.each opened ∙ ap (λ fs. given opened ++ fs) (sym (same-frames opened e.talk (settle x).talk same));
+        each = λ opened. h.each opened ∙ ap (λ fs. given.given opened ++ fs) (sym (same-frames opened e.talk (settle x).talk same));
         order = h.order;
         sorted = subst (λ (hs : List (ℕ × List Handed)). Ascend (keys_of hs)) (sym same) h.sorted;
         links = links-more came h.read bytes h.links;
@@ -372,12 +389,36 @@ module _ (given : ℕ → List Handed) (whole : Bool) (at : ℕ) (bytes : List �
               unread = λ d. ap (λ xs. xs ++ bytes) (l.unread (sym (ap is_dropped_input input) ∙ d)) ∙ sym (kept-unread x o d);
               dropped = λ d. none-unread x d;
             };
+        openings = openings-kept given e.talk (settle x).talk h.handed (known-received at (e.unread ++ bytes) e) h.openings;
       }
 
--- a step is taken
-came-after : (given : ℕ → List Handed) (whole : Bool) (at : ℕ) (step : Step) (bytes : List ℕ) (answers : List Asked) (e : Engine) (came : List (List ℕ)) → Came true given e came
-    → Came whole given (step_engine at step bytes answers e) (step_came step bytes e came)
-came-after given whole at Linked bytes answers e came h = by (is_asked e.talk) refl where
+-- no command is told
+came-none : (given : Kept) (whole : Bool) (e : Engine) (before came : List (List ℕ)) → Came whole given e came → Came whole (told_more [] before given) e came
+came-none given whole e before came h =
+    let P : List Cmd → Type 0 = λ cs. Came whole (record given { commands = cs }) e came in
+    subst P (sym (append-nil given.commands)) h
+
+-- a command is told, when what was handed out so far had come
+pub came-told : (given : Kept) (c : Cmd) (e : Engine) (came : List (List ℕ)) → Came true given e came → Came true (told_more (answered_command c) came given) (with_talk (command c) e) came
+came-told given c e came h =
+    came-with given came (told_more (answered_command c) came given) true e (with_talk (command c) e) refl (told-stays c e) h
+    (openings-told given c e.talk h.handed came (record { read = h.read; stand = h.links; order = h.order }) h.openings)
+
+-- a step is taken that tells nothing
+came-plain : (given : Kept) (whole : Bool) (at : ℕ) (step : Step) (bytes : List ℕ) (answers : List Asked) (e : Engine) (came : List (List ℕ)) → is_piece step ≡ false → (step ≡ Linked → is_asked e.talk ≡ false)
+    → KeepsKnown e.talk (step_engine at step bytes answers e).talk → Came true given e came → Came whole given (step_engine at step bytes answers e) came
+came-plain given whole at step bytes answers e came plain unlinked n h =
+    let y = step_engine at step bytes answers e in
+    came-flag given came true whole y refl (came-stays given came true e y (step-stays at step bytes answers e plain unlinked) n h)
+
+-- the moment comes
+came-moment : (given : Kept) (whole : Bool) (at : ℕ) (e : Engine) (came : List (List ℕ)) → Came true given e came → Came whole given (rule_at at (λ t. t) e) came
+came-moment given whole at e came h =
+    let y = rule_at at (λ t. t) e in
+    came-flag given came true whole y refl (came-stays given came true e y (moment-stays at e) (known-moment at e.talk) h)
+
+came-link : (given : Kept) (whole : Bool) (at : ℕ) (bytes : List ℕ) (e : Engine) (came : List (List ℕ)) → Came true given e came → Came whole given (step_linked at e) (if is_asked e.talk then came ++ [] ∷ [] else came)
+came-link given whole at bytes e came h = by (is_asked e.talk) refl where
   x : Engine
   x = record { talk = linked (present_at at e.talk); unread = []; place = 0; unsent = []; starved = e.starved }
 
@@ -387,49 +428,57 @@ came-after given whole at Linked bytes answers e came h = by (is_asked e.talk) r
       subst P (sym (if-true (is_asked e.talk) x (rule_at at (λ t. t) e) is)) (came-linked given whole at bytes e came h is)
   by false is =
       let P : Engine → Type 0 = λ y. Came whole given y came in
-      subst P (sym (if-false (is_asked e.talk) x (rule_at at (λ t. t) e) is))
-      (came-flag given came true whole (rule_at at (λ t. t) e) refl (came-stays given came true e (rule_at at (λ t. t) e) (moment-stays at e) h))
-came-after given whole at (Piece n) bytes answers e came h = by (is_open e.talk) refl where
+      subst P (sym (if-false (is_asked e.talk) x (rule_at at (λ t. t) e) is)) (came-moment given whole at e came h)
+
+came-bytes : (given : Kept) (whole : Bool) (at n : ℕ) (bytes : List ℕ) (answers : List Asked) (e : Engine) (came : List (List ℕ)) → Came true given e came
+    → Came whole given (step_engine at (Piece n) bytes answers e) (step_came (Piece n) bytes e came)
+came-bytes given whole at n bytes answers e came h = by (is_open e.talk) refl where
   now : List (List ℕ)
   now = on_last (λ octets. octets ++ bytes) came
 
   x : Engine
   x = settle (record e { talk = piece (present_at at e.talk); unread = e.unread ++ bytes })
 
-  P : Engine → Type 0
-  P y = Came whole given y now
+  y : Engine
+  y = rule_at at (λ t. t) e
 
-  by : (b : Bool) → is_open e.talk ≡ b → P (if is_open e.talk then x else rule_at at (λ t. t) e)
-  by true is = subst P (sym (if-true (is_open e.talk) x (rule_at at (λ t. t) e) is)) (came-piece given whole at bytes e came h is)
+  by : (b : Bool) → is_open e.talk ≡ b → Came whole given (if is_open e.talk then x else y) (if b then now else came)
+  by true is =
+      let P : Engine → Type 0 = λ z. Came whole given z now in
+      subst P (sym (if-true (is_open e.talk) x y is)) (came-piece given whole at bytes e came h is)
   by false is =
-      subst P (sym (if-false (is_open e.talk) x (rule_at at (λ t. t) e) is))
-      (came-stays given now whole e (rule_at at (λ t. t) e) (moment-stays at e) (came-passed given whole at bytes e came h (λ o. absurd (true≢false (sym o ∙ is)))))
+      let P : Engine → Type 0 = λ z. Came whole given z came in
+      subst P (sym (if-false (is_open e.talk) x y is)) (came-moment given whole at e came h)
+
+-- a step is taken
+came-after : (given : Kept) (whole : Bool) (at : ℕ) (step : Step) (bytes : List ℕ) (answers : List Asked) (e : Engine) (came : List (List ℕ)) → Came true given e came
+    → Came whole (told_more (command_of step) came given) (step_engine at step bytes answers e) (step_came step bytes e came)
+came-after given whole at Linked bytes answers e came h = came-none given whole _ came _ (came-link given whole at bytes e came h)
+came-after given whole at (Piece n) bytes answers e came h = came-none given whole _ came _ (came-bytes given whole at n bytes answers e came h)
 came-after given whole at LinkFailed bytes answers e came h =
-    let y = step_engine at LinkFailed bytes answers e in
-    came-flag given came true whole y refl (came-stays given came true e y (step-stays at LinkFailed bytes answers e refl (λ is. absurd cc)) h)
+    came-none given whole _ came came (came-plain given whole at LinkFailed bytes answers e came refl (λ is. absurd cc) (known-refusal at e) h)
 came-after given whole at End bytes answers e came h =
-    let y = step_engine at End bytes answers e in
-    came-flag given came true whole y refl (came-stays given came true e y (step-stays at End bytes answers e refl (λ is. absurd cc)) h)
+    came-none given whole _ came came (came-plain given whole at End bytes answers e came refl (λ is. absurd cc) (known-loss at Aborted e) h)
 came-after given whole at Fault bytes answers e came h =
-    let y = step_engine at Fault bytes answers e in
-    came-flag given came true whole y refl (came-stays given came true e y (step-stays at Fault bytes answers e refl (λ is. absurd cc)) h)
-came-after given whole at Room bytes answers e came h =
-    let y = step_engine at Room bytes answers e in
-    came-flag given came true whole y refl (came-stays given came true e y (step-stays at Room bytes answers e refl (λ is. absurd cc)) h)
+    came-none given whole _ came came (came-plain given whole at Fault bytes answers e came refl (λ is. absurd cc) (known-loss at Reset e) h)
+came-after given whole at Room bytes answers e came h = came-none given whole _ came came (came-moment given whole at e came h)
 came-after given whole at Tick bytes answers e came h =
-    let y = step_engine at Tick bytes answers e in
-    came-flag given came true whole y refl (came-stays given came true e y (step-stays at Tick bytes answers e refl (λ is. absurd cc)) h)
+    came-none given whole _ came came (came-plain given whole at Tick bytes answers e came refl (λ is. absurd cc) (known-time at answers e) h)
 came-after given whole at (Command c) bytes answers e came h =
-    let y = step_engine at (Command c) bytes answers e in
-    came-flag given came true whole y refl (came-stays given came true e y (step-stays at (Command c) bytes answers e refl (λ is. absurd cc)) h)
+    let y = rule_at at (λ t. t) e in
+    let z = step_engine at (Command c) bytes answers e in
+    let more : Kept = told_more (answered_command c) came given in
+    came-flag more came true whole z refl (came-told given c y came (came-moment given true at e came h))
 
 -- the turn is cut before its step
-came-cut : (given : ℕ → List Handed) (at : ℕ) (step : Step) (bytes : List ℕ) (e : Engine) (came : List (List ℕ)) → Came true given e came → Came false given e (step_came step bytes e came)
+came-cut : (given : Kept) (at : ℕ) (step : Step) (bytes : List ℕ) (e : Engine) (came : List (List ℕ)) → Came true given e came → Came false given e (step_came step bytes e came)
 came-cut given at Linked bytes e came h = by (is_asked e.talk) refl where
   by : (b : Bool) → is_asked e.talk ≡ b → Came false given e (if b then came ++ [] ∷ [] else came)
   by true is = came-unlinked given false at bytes e came h is
   by false is = came-flag given came true false e refl h
-came-cut given at (Piece n) bytes e came h = came-passed given false at bytes e came h (λ o. refl)
+came-cut given at (Piece n) bytes e came h =
+    if_case (λ (links : List (List ℕ)). Came false given e links) (is_open e.talk) (on_last (λ octets. octets ++ bytes) came) came
+    (came-passed given false at bytes e came h refl) (came-flag given came true false e refl h)
 came-cut given at LinkFailed bytes e came h = came-flag given came true false e refl h
 came-cut given at End bytes e came h = came-flag given came true false e refl h
 came-cut given at Fault bytes e came h = came-flag given came true false e refl h
@@ -437,21 +486,26 @@ came-cut given at Room bytes e came h = came-flag given came true false e refl h
 came-cut given at Tick bytes e came h = came-flag given came true false e refl h
 came-cut given at (Command c) bytes e came h = came-flag given came true false e refl h
 
-pub came-part : (given : ℕ → List Handed) (step : Step) (bytes : List ℕ) (p : Progress) (came : List (List ℕ)) → Came true given p.engine came
-    → Came (goes (step_part step bytes p)) given (step_part step bytes p).engine (step_came step bytes p.engine came)
-came-part given step bytes p came h = by (is_part step p.engine) (goes p) refl where
+pub came-part : (given : Kept) (step : Step) (bytes : List ℕ) (p : Progress) (came : List (List ℕ)) → Came true given p.engine came
+    → Came (goes (step_part step bytes p)) (told_more (if goes p then command_of step else []) came given) (step_part step bytes p).engine (step_came step bytes p.engine came)
+came-part given step bytes p came h = by (is_part step p.engine) (goes p) refl refl where
   after : Engine
   after = step_engine p.at step bytes p.answers p.engine
 
   now : List (List ℕ)
   now = step_came step bytes p.engine came
 
-  cut : (b : Bool) → b ≡ false → Came b given p.engine now
-  cut false is = came-cut given p.at step bytes p.engine came h
+  q : Bool → Bool → Progress
+  q b g = if b then (if g then part after (questioned (step_questions p.at step p.answers p.engine) p) else p) else record p { engine = after }
+
+  cut : (b : Bool) → b ≡ false → Came b (told_more [] came given) p.engine now
+  cut false is = came-none given false p.engine came now (came-cut given p.at step bytes p.engine came h)
   cut true is = absurd (true≢false is)
 
-  by : (b g : Bool) → goes p ≡ g
-      → (let q = if b then (if g then part after (questioned (step_questions p.at step p.answers p.engine) p) else p) else record p { engine = after } in Came (goes q) given q.engine now)
-  by true true is = came-after given _ p.at step bytes p.answers p.engine came h
-  by true false is = cut (goes p) is
-  by false g is = came-after given _ p.at step bytes p.answers p.engine came h
+  by : (b g : Bool) → is_part step p.engine ≡ b → goes p ≡ g → Came (goes (q b g)) (told_more (if g then command_of step else []) came given) (q b g).engine now
+  by true true is on = came-after given _ p.at step bytes p.answers p.engine came h
+  by true false is off = cut (goes p) off
+  by false true is on = came-after given _ p.at step bytes p.answers p.engine came h
+  by false false is off =
+      let P : List Cmd → Type 0 = λ cs. Came (goes (q false false)) (told_more cs came given) after now in
+      subst P (no-command step p.engine is) (came-after given _ p.at step bytes p.answers p.engine came h)

@@ -38,12 +38,20 @@ use Rattle.amqp_engine.specs.Plan.{at_most_64}
 use Rattle.amqp_engine.specs.Engine.{Engine, with_talk, rule_at, settle, front_of, can_read, read_one, read_row, read_badly, commit_all, overlong_next, ended_overlong, refuse_overlong, can_write, took}
 use Rattle.amqp_engine.specs.Turn.{Turn, write_answers, Progress, begun, goes, is_before, is_piece, step_part, reads, read_part, reading, offered, answered, offer_part, drained, is_all, AreAnswers, read, after_writes, applied, starved_after, IsApplied}
 use Rattle.amqp_engine.specs.Carried.{IsSubsequence, none, kept, left_out, raw_frames, concatenated, frame_of, StandOnLinks}
-use Rattle.amqp_engine.specs.Account.{step_came}
+use Rattle.amqp_engine.specs.Account.{step_came, commands_in}
 use Rattle.amqp_engine.proofs.Settling.{settle-talk}
 use Rattle.amqp_engine.proofs.Commits.{commits-keep}
 use Rattle.amqp_engine.proofs.LinkKept.{kept-answered}
 use Rattle.amqp_engine.proofs.Lifting.{all-rest, stays-drained, read-cut}
 use Rattle.amqp_engine.proofs.Over.{ended-closed}
+use Rattle.amqp_session.specs.declared.command.Cmd.{Cmd}
+use Rattle.amqp_promise.specs.declared.state.ConnectionState.{ConnectionState}
+use Rattle.amqp_promise.specs.declared.state.ConnectionState.TheVariants.{Connecting}
+use Rattle.std.specs.List.{AllByRecursion}
+use Rattle.amqp_carried_rules.proofs.Entries.{each-at}
+use Rattle.amqp_carried_rules.proofs.Openers.{IsLatest, KnowsOpeners}
+use Rattle.amqp_engine.proofs.Knowing.{untaken, known-moment, known-heard, known-no-frame, known-settled, known-ended, known-answered, known-starved}
+use Rattle.amqp_engine.proofs.Parting.{Kept, told_more, IsByLatest, Openings, openings-kept, openings-more}
 use Rattle.amqp_engine.proofs.CameIn.{StandTo, stand-first, stand-push, links-push, IsLastRead, Came, Stays, came-flag, came-stays, came-closed, kept-unread, none-unread, settled-stays, present-input, came-part}
 
 -- ---- reading
@@ -74,6 +82,30 @@ frame-read (Raw (suc n) kind bytes) t = by (acts t)
     by true = channel-read (heard_on t.state (channel_at (suc n) t)) (suc n) kind bytes
     by false = left_out none
 
+-- a frame is heard on a listed channel
+heard-there : (s : ConnectionState) (o : Option Channel) (c : Channel) → heard_on s o ≡ Some c → o ≡ Some c
+heard-there Connecting o c h = absurd cc
+heard-there _ o c h = h
+
+-- what a frame hands out is by the promise that opened its channel last
+by-latest : (f : Frame) (t : Talk) (cs : List Cmd) (opens : ℕ → ℕ) → KnowsOpeners cs opens untaken t → AllByRecursion (IsByLatest cs opens) (as_pairs (hands_out f t))
+by-latest (ProtocolHeader version) t cs opens k = tt
+by-latest Heartbeat t cs opens k = tt
+by-latest (Method n m) t cs opens k = tt
+by-latest (Raw zero kind bytes) t cs opens k = tt
+by-latest (Raw (suc n) kind bytes) t cs opens k = by (acts t) where
+  h : Handed
+  h = record { channel = suc n; kind = kind; bytes = bytes }
+
+  one : (o : Option Channel) → heard_on t.state (channel_at (suc n) t) ≡ o → AllByRecursion (IsByLatest cs opens) (as_pairs (handed_of o h))
+  one None heard = tt
+  one (Some c) heard =
+      (each-at (λ i (d : Channel). IsLatest cs opens i d.opened) (suc n) t.channels c k.listed (heard-there t.state (channel_at (suc n) t) c heard), tt)
+
+  by : (b : Bool) → AllByRecursion (IsByLatest cs opens) (as_pairs (if b then handed_of (heard_on t.state (channel_at (suc n) t)) h else []))
+  by true = one (heard_on t.state (channel_at (suc n) t)) refl
+  by false = tt
+
 -- one frame more is read on the last link
 joined-frame : (f : Frame) (earlier : List (List Frame)) (fs : List Frame) → concatenated (earlier ++ (fs ++ f ∷ []) ∷ []) ≡ concatenated (earlier ++ fs ∷ []) ++ f ∷ []
 joined-frame f earlier fs =
@@ -82,7 +114,7 @@ joined-frame f earlier fs =
     ∙ sym (append_assoc (concatenated earlier) fs (f ∷ []))
     ∙ ap (λ x. x ++ f ∷ []) (ap (λ x. concatenated earlier ++ x) (sym (append-nil fs)) ∙ sym (flat_map-append own earlier (fs ∷ [])))
 
-module _ (given : ℕ → List Handed) (came : List (List ℕ)) (at : ℕ) (answers : List Asked) (e : Engine) (h : Came true given e came) (can : can_read e ≡ true) where
+module _ (given : Kept) (came : List (List ℕ)) (at : ℕ) (answers : List Asked) (e : Engine) (h : Came true given e came) (can : can_read e ≡ true) where
   opened : is_open e.talk ≡ true
   opened = and-left (is_open e.talk) _ can
 
@@ -115,12 +147,16 @@ module _ (given : ℕ → List Handed) (came : List (List ℕ)) (at : ℕ) (answ
       let stand : StandTo l.octets (l.frames ++ f ∷ []) (drop n l.rest) =
       stand-push l.octets l.frames l.rest (frame_limit e.talk) n f l.stand (ap (λ xs. front xs (frame_limit e.talk)) (l.unread d) ∙ is) in
       let L : List (List ℕ) → Type 0 = λ links. StandOnLinks links read in
+      let T : Talk → Type 0 = λ u. Openings given u (h.handed ++ as_pairs hs) in
+      let heard : Openings given (on_frame f answers t) (h.handed ++ as_pairs hs) =
+      openings-more given e.talk (on_frame f answers t) h.handed (as_pairs hs) (known-heard at f answers e)
+      (λ opens k. by-latest f t given.commands opens ((known-moment at e.talk).knows given.commands opens h.openings.sound k)) h.openings in
       record {
         read = read;
         handed = h.handed ++ as_pairs hs;
         each = λ opened.
             handed_on-append opened h.handed (as_pairs hs) ∙ ap (λ fs. fs ++ handed_on opened (as_pairs hs)) (h.each opened)
-            ∙ append_assoc (given opened) (frames_of opened e.talk) (handed_on opened (as_pairs hs)) ∙ ap (λ fs. given opened ++ fs) (sym (more opened));
+            ∙ append_assoc (given.given opened) (frames_of opened e.talk) (handed_on opened (as_pairs hs)) ∙ ap (λ fs. given.given opened ++ fs) (sym (more opened));
         order =
             subst (λ (fs : List Frame). IsSubsequence (map frame (h.handed ++ as_pairs hs)) fs) (sym raw)
             (subst (λ (fs : List Frame). IsSubsequence fs (raw_frames (concatenated h.read) ++ raw_frames (f ∷ []))) (sym (map-append frame h.handed (as_pairs hs))) (within-append h.order (frame-read f t)));
@@ -142,6 +178,7 @@ module _ (given : ℕ → List Handed) (came : List (List ℕ)) (at : ℕ) (answ
               unread = λ dd. ap (drop n) (l.unread d) ∙ sym (kept-unread x o dd);
               dropped = λ dd. none-unread x dd;
             };
+        openings = subst T (sym (settle-talk x)) heard;
       }
 
   -- what is no frame is read
@@ -153,7 +190,7 @@ module _ (given : ℕ → List Handed) (came : List (List ℕ)) (at : ℕ) (answ
       record {
         read = h.read;
         handed = h.handed;
-        each = λ opened. h.each opened ∙ ap (λ fs. given opened ++ fs) (sym (same-frames opened e.talk (settle x).talk same));
+        each = λ opened. h.each opened ∙ ap (λ fs. given.given opened ++ fs) (sym (same-frames opened e.talk (settle x).talk same));
         order = h.order;
         sorted = subst (λ (hs : List (ℕ × List Handed)). Ascend (keys_of hs)) (sym same) h.sorted;
         links = h.links;
@@ -171,6 +208,7 @@ module _ (given : ℕ → List Handed) (came : List (List ℕ)) (at : ℕ) (answ
               unread = λ dd. l.unread d ∙ sym (kept-unread x o dd);
               dropped = λ dd. none-unread x dd;
             };
+        openings = openings-kept given e.talk (settle x).talk h.handed (known-no-frame at why e) h.openings;
       }
 
   -- what stands at the front is read
@@ -186,7 +224,7 @@ module _ (given : ℕ → List Handed) (came : List (List ℕ)) (at : ℕ) (answ
   came-read whole = came-row whole (front_of e) refl
 
 -- and so all that is read
-came-reads : (given : ℕ → List Handed) (came : List (List ℕ)) (n : ℕ) (p : Progress) → Came (goes p) given p.engine came → Came (goes (reads n p)) given (reads n p).engine came
+came-reads : (given : Kept) (came : List (List ℕ)) (n : ℕ) (p : Progress) → Came (goes p) given p.engine came → Came (goes (reads n p)) given (reads n p).engine came
 came-reads given came zero p h = h
 came-reads given came (suc n) p h = by (goes p && can_read p.engine) refl (came-reads given came n (read_part p)) where
   by : (b : Bool) → (goes p && can_read p.engine) ≡ b
@@ -198,7 +236,7 @@ came-reads given came (suc n) p h = by (goes p && can_read p.engine) refl (came-
       rest (came-read given came p.at p.answers p.engine (came-flag given came (goes p) true p.engine going h) can (goes (read_part p)))
   by false off rest = h
 
-came-reading : (given : ℕ → List Handed) (came : List (List ℕ)) (b : Bool) (p : Progress) → Came (goes p) given p.engine came → Came (goes (reading b p)) given (reading b p).engine came
+came-reading : (given : Kept) (came : List (List ℕ)) (b : Bool) (p : Progress) → Came (goes p) given p.engine came → Came (goes (reading b p)) given (reading b p).engine came
 came-reading given came true p h = came-reads given came (length p.engine.unread) p h
 came-reading given came false p h = h
 
@@ -233,7 +271,7 @@ answered-stays at Failed e =
     (λ o. kept-open e.talk (answered at Failed e).talk (kept-answered at Failed e) (ap is_open (settle-talk y) ∙ o))
     (lost-keeps (λ (z : Talk). z.input) (λ z s l cs ps b q ms n o ns. refl) BrokenPipe t ∙ present-input at x.talk ∙ commit-input e) (commit-unread e)
 
-module _ (given : ℕ → List Handed) (came : List (List ℕ)) where
+module _ (given : Kept) (came : List (List ℕ)) where
   -- a frame that is too long ends the session
   came-ended : (whole : Bool) (o : Option ℕ) (e : Engine) → Came whole given e came → Came whole given (ended_overlong o e) came
   came-ended whole None e h = h
@@ -241,7 +279,7 @@ module _ (given : ℕ → List Handed) (came : List (List ℕ)) where
       let x = commit_all e in
       let y = with_talk (end_overlong (Some size)) x in
       came-closed given came whole whole e (settle y) (ap (λ (t : Talk). t.handed) (settle-talk y) ∙ overlong-handed (Some size) x.talk ∙ commit-handed e)
-      (ap is_open (settle-talk y) ∙ (off-lost (SerialisationError size) x.talk).opened) h
+      (ap is_open (settle-talk y) ∙ (off-lost (SerialisationError size) x.talk).opened) (known-settled e.talk y (known-ended size e)) h
 
   came-drain : (ws : List Wrote) (p : Progress) → AreAnswers ws p → Came (goes p) given p.engine came → Came (goes (drained ws p)) given (drained ws p).engine came
   came-drain [] p may h = by (goes p) refl where
@@ -252,7 +290,7 @@ module _ (given : ℕ → List Handed) (came : List (List ℕ)) where
       let going : goes p ≡ true = and-left (goes p) (can_write p.engine) may.0 in
       let q = offer_part w p in
       let next : Came (goes q) given q.engine came =
-      came-flag given came true (goes q) q.engine refl (came-stays given came true p.engine q.engine (answered-stays p.at w p.engine) (came-flag given came (goes p) true p.engine going h)) in
+      came-flag given came true (goes q) q.engine refl (came-stays given came true p.engine q.engine (answered-stays p.at w p.engine) (known-answered p.at w p.engine) (came-flag given came (goes p) true p.engine going h)) in
       let all : Bool = is_all w (length (offered p.engine)) in
       let R : Progress → Type 0 = λ z. Came (goes z) given z.engine came in
       elim (all-rest all ws q may.2) [
@@ -265,20 +303,21 @@ module _ (given : ℕ → List Handed) (came : List (List ℕ)) where
   came-starved None at q is h = came-flag given came (goes q) true q.engine (ap (λ (c : Option ℕ). is_before c q.done) is) h
   came-starved (Some j) at q is h =
       let t = present_at at q.engine.talk in
-      came-closed given came (goes q) true q.engine (starved_after (Some j) at q.engine) (starve-handed t ∙ present-handed at q.engine.talk) (ended-closed (starve t).link (starve-ends t)) h
+      came-closed given came (goes q) true q.engine (starved_after (Some j) at q.engine) (starve-handed t ∙ present-handed at q.engine.talk) (ended-closed (starve t).link (starve-ends t)) (known-starved at q.engine) h
 
 -- ---- a turn
 
-pub came-applied : (given : ℕ → List Handed) (came : List (List ℕ)) (u : Turn) (e : Engine) → has_ended e.talk ≡ false → IsApplied u e → Came true given e came
-    → Came true given (applied u e) (step_came u.step u.bytes e came)
+pub came-applied : (given : Kept) (came : List (List ℕ)) (u : Turn) (e : Engine) → has_ended e.talk ≡ false → IsApplied u e → Came true given e came
+    → Came true (told_more (commands_in u) came given) (applied u e) (step_came u.step u.bytes e came)
 came-applied given came u e running may h =
     let p : Progress = begun u.at u.notes.starved u.notes.auths e in
     let now : List (List ℕ) = step_came u.step u.bytes e came in
+    let told : Kept = told_more (commands_in u) came given in
     let s : Progress = step_part u.step u.bytes p in
     let q : Progress = after_writes u e in
-    let stepped : Came (goes s) given s.engine now = came-part given u.step u.bytes p came h in
-    let heard : Came (goes (read u e)) given (read u e).engine now = came-reading given now (is_piece u.step) s stepped in
-    let wrote_all : Came (goes q) given q.engine now = came-drain given now (write_answers u.notes) (read u e) may.answers heard in
+    let stepped : Came (goes s) told s.engine now = came-part given u.step u.bytes p came h in
+    let heard : Came (goes (read u e)) told (read u e).engine now = came-reading told now (is_piece u.step) s stepped in
+    let wrote_all : Came (goes q) told q.engine now = came-drain told now (write_answers u.notes) (read u e) may.answers heard in
     let is : q.cut ≡ u.notes.starved = stays-drained (λ (x : Progress). x.cut) (λ f n left qs x. refl) (write_answers u.notes) (read u e) ∙ read-cut u e in
-    let P : Engine → Type 0 = λ x. Came true given x now in
-    subst P (sym (if-false (has_ended e.talk) q.engine (starved_after u.notes.starved u.at q.engine) running)) (came-starved given now u.notes.starved u.at q is wrote_all)
+    let P : Engine → Type 0 = λ x. Came true told x now in
+    subst P (sym (if-false (has_ended e.talk) q.engine (starved_after u.notes.starved u.at q.engine) running)) (came-starved told now u.notes.starved u.at q is wrote_all)

@@ -1,8 +1,12 @@
 -- Small facts by cases.
-use Rattle.std.proofs.Common.{◌≡◌, ◌≤◌, ◌<◌, ℕ, ◌+◌, Bool, true, false, not, ◌&&◌, ◌||◌, IsTrue, IsFalse, nat_lt, Option, Some, None, refl, arith, rules}
+use Rattle.std.proofs.Common.{◌≡◌, ◌≤◌, ◌<◌, ℕ, ◌+◌, Bool, true, false, not, ◌&&◌, ◌||◌, IsTrue, IsFalse, nat_lt, [], Option, Some, None, refl, arith, rules}
 use Rattle.std.proofs.lemmas.Bool.Decides.{nat_tests}
 use Rattle.amqp_types.specs.Counts.{Rose}
-use Rattle.amqp_engine.specs.Turn.{is_before}
+use Rattle.amqp_engine.specs.declared.port.Step.{Step}
+use Rattle.amqp_engine.specs.declared.port.Step.TheVariants.{Linked, LinkFailed, Piece, End, Fault, Room, Tick, Command}
+use Rattle.amqp_engine.specs.Engine.{Engine}
+use Rattle.amqp_engine.specs.Turn.{is_before, is_part}
+use Rattle.amqp_engine.specs.Account.{command_of}
 use Rattle.amqp_engine.specs.Making.{Reaches}
 
 pub or-true : (a : Bool) → (a || true) ≡ true
@@ -45,3 +49,14 @@ true-from false h = absurd (h refl)
 pub from-not-false : (b : Bool) → not b ≡ false → b ≡ true
 from-not-false true h = refl
 from-not-false false h = cc
+
+-- a step that is no part tells nothing
+pub no-command : (step : Step) (e : Engine) → is_part step e ≡ false → command_of step ≡ []
+no-command (Command c) e h = absurd cc
+no-command Linked e h = refl
+no-command LinkFailed e h = refl
+no-command (Piece n) e h = refl
+no-command End e h = refl
+no-command Fault e h = refl
+no-command Room e h = refl
+no-command Tick e h = refl

@@ -1,4 +1,4 @@
--- What a run goes on with: the links are in order, and the port tells of them.
+-- The links are in order, and the port tells of them.
 use Rattle.std.proofs.Common.{◌≡◌, ◌∙◌, ℕ, false, List, Option, Some, None, IfSome, is_some, inl, refl, ap, sym, subst}
 use Rattle.std.specs.Prelude.{option_map}
 use Rattle.amqp_session.specs.declared.command.Cmd.{Cmd}
@@ -7,13 +7,13 @@ use Rattle.amqp_session.specs.Commands.{command}
 use Rattle.amqp_session.specs.Answers.{answer_of, take_answer, take_event, take_frames}
 use Rattle.amqp_session.specs.Listed.{without}
 use Rattle.amqp_session.proofs.Keeping.{stays-command}
-use Rattle.amqp_engine.specs.declared.port.Step.{Step}
 use Rattle.amqp_engine.specs.Log.{Log, log_step}
 use Rattle.amqp_engine.specs.Engine.{Engine, with_talk}
-use Rattle.amqp_engine.specs.Turn.{Turn, Notes, write_answers, read, turns, applied, AreTurns, IsApplied, IsTold, IsFit}
-use Rattle.amqp_engine.specs.Tell.{Runs, Applies, turn_of, offers_of, log_offers, log_turns}
+use Rattle.amqp_engine.specs.Turn.{Turn, write_answers, read, turns, applied, AreTurns, IsApplied}
+use Rattle.amqp_engine.specs.Tell.{offers_of, log_offers, log_turns}
 use Rattle.amqp_engine.specs.Sending.{Sending, step_sending, sendings_from}
-use Rattle.amqp_engine.specs.Saying.{HasSent, new, asked, applies, told, answer_taken, event_taken, frames_taken, applied_sending, TellsLinks, GoesOn, GoesOnce}
+use Rattle.amqp_engine.specs.Saying.{applied_sending, TellsLinks}
+use Rattle.amqp_engine.specs.Account.{History, HasHistory, new, asked, applies, told, answer_taken, event_taken, frames_taken}
 use Rattle.amqp_types.proofs.Small.{if_case}
 use Rattle.amqp_engine.proofs.LinkKept.{Leaves}
 use Rattle.amqp_engine.proofs.EventTaken.{event-case}
@@ -23,7 +23,6 @@ use Rattle.amqp_engine.proofs.Sends.{Sends, sends-left, sends-asks}
 use Rattle.amqp_engine.proofs.LinkTold as telling
 use Rattle.amqp_engine.proofs.LinkTold.{Told, Both}
 use Rattle.amqp_engine.proofs.Lifting as lifting
-use Rattle.amqp_engine.proofs.LegalLinks.{turns-sent, sent_legal}
 
 -- ---- in order
 
@@ -43,19 +42,19 @@ leaves-event e =
     (λ now. record { opened = now; committed = refl; unsent = refl })
 
 -- what is known of what was sent
-pub sends-said : (e : Engine) (ss : List Sending) → HasSent e ss → Sends e ss
-sends-said e ss (new config) = record { all = tt; last = λ now. cc }
-sends-said e ss (asked {e = e'} h) = sends-asks e' ss (sends-said e' ss h)
-sends-said e ss (applies {e = e'} {ss = ss'} u running may told_step fit h) =
+pub sends-said : (e : Engine) (h : History) → HasHistory e h → Sends e h.sent
+sends-said e h (new config) = record { all = tt; last = λ now. cc }
+sends-said e h (asked {e = e'} {h = h'} k) = sends-asks e' h'.sent (sends-said e' h' k)
+sends-said e h (applies {e = e'} {h = h'} u running may told_step fit k) =
     let Q : List Sending → Type 0 = λ xs. Sends (applied u e') xs in
-    subst Q (sending.offers-same (write_answers u.notes) (read u e') (step_sending u.step e' ss'))
+    subst Q (sending.offers-same (write_answers u.notes) (read u e') (step_sending u.step e' h'.sent))
     (lifting.lift-applied (List Sending) sending.asking sending.stepping sending.offering Sends (λ b. Sends) Sends
-    (lifting.simply (List Sending) sending.asking sending.stepping sending.offering Sends sending.small) u e' ss' running may (sends-said e' ss' h))
-sends-said e ss (told {e = e'} c may can h) = sends-left e' (with_talk (command c) e') ss (leaves-told c e') (sends-said e' ss h)
-sends-said e ss (answer_taken {e = e'} number h) = sends-left e' (with_talk (take_answer number) e') ss (leaves-answer number e') (sends-said e' ss h)
-sends-said e ss (event_taken {e = e'} h) = sends-left e' (with_talk take_event e') ss (leaves-event e') (sends-said e' ss h)
-sends-said e ss (frames_taken {e = e'} opened h) =
-    sends-left e' (with_talk (take_frames opened) e') ss (λ now. record { opened = now; committed = refl; unsent = refl }) (sends-said e' ss h)
+    (lifting.simply (List Sending) sending.asking sending.stepping sending.offering Sends sending.small) u e' h'.sent running may (sends-said e' h' k))
+sends-said e h (told {e = e'} {h = h'} c may can k) = sends-left e' (with_talk (command c) e') h'.sent (leaves-told c e') (sends-said e' h' k)
+sends-said e h (answer_taken {e = e'} {h = h'} number k) = sends-left e' (with_talk (take_answer number) e') h'.sent (leaves-answer number e') (sends-said e' h' k)
+sends-said e h (event_taken {e = e'} {h = h'} k) = sends-left e' (with_talk take_event e') h'.sent (leaves-event e') (sends-said e' h' k)
+sends-said e h (frames_taken {e = e'} {h = h'} opened k) =
+    sends-left e' (with_talk (take_frames opened) e') h'.sent (λ now. record { opened = now; committed = refl; unsent = refl }) (sends-said e' h' k)
 
 -- ---- told
 
@@ -71,28 +70,13 @@ told-on us e ss a may sends tells =
     record { links = k.links; asked = k.synced }
 
 -- of a port that may tell
-tells-on : (log log' : Option Log) (us : List Turn) (e e' : Engine) (ss : List Sending) → log' ≡ option_map (log_turns us e) log → AreTurns us e → turns us e ≡ e'
+pub tells-on : (log log' : Option Log) (us : List Turn) (e e' : Engine) (ss : List Sending) → log' ≡ option_map (log_turns us e) log → AreTurns us e → turns us e ≡ e'
     → Sends e ss → IfSome log (λ a. TellsLinks e ss a → IfSome log' (λ b. TellsLinks e' (sendings_from us e ss) b))
 tells-on None log' us e e' ss is may leaves sends = tt
 tells-on (Some a) log' us e e' ss is may leaves sends = λ tells.
     (let Q : Option Log → Type 0 = λ o. IfSome o (λ b. TellsLinks e' (sendings_from us e ss) b) in
     let R : Engine → Type 0 = λ x. TellsLinks x (sendings_from us e ss) (log_turns us e a) in
     subst Q (sym is) (subst R leaves (told-on us e ss a may sends tells)))
-
--- a run goes on with what was sent
-pub runs-on : (allowed : ℕ) (e e' : Engine) (log log' : Option Log) (ss : List Sending) → Runs allowed e e' log log' → HasSent e ss → GoesOn ss e e' log log'
-runs-on allowed e e' log log' ss r h =
-    let now : List Sending = sendings_from r.us e ss in
-    let Q : Engine → Type 0 = λ x. HasSent x now in
-    let sent : HasSent e' now = subst Q r.leads.leaves (turns-sent r.us e ss r.leads.may r.told r.fit h) in
-    record {
-      us = r.us;
-      leads = r.leads;
-      sent = sent;
-      order = (sends-said e' now sent).all;
-      legal = sent_legal e' now sent;
-      tells = tells-on log log' r.us e e' ss r.tells.told r.leads.may r.leads.leaves (sends-said e ss h);
-    }
 
 -- ---- the rest of a turn
 
@@ -106,22 +90,14 @@ told-applied u e ss a running may sends tells =
     (record { sends = sends; synced = tells.asked; links = tells.links })) in
     record { links = k.links; asked = k.synced }
 
--- it goes on with what was sent
-pub applies-on : (at : ℕ) (step : Step) (bytes : List ℕ) (notes : Notes) (e e' : Engine) (log log' : Option Log) (ss : List Sending)
-    → Applies at step bytes notes e e' log log' → IsTold step → IsFit (turn_of at step bytes notes) → has_ended e.talk ≡ false → HasSent e ss
-    → GoesOnce (turn_of at step bytes notes) ss e e' log log'
-applies-on at step bytes notes e e' log log' ss f may fit running h =
-    let u = turn_of at step bytes notes in
+-- of a port that may tell
+pub tells-once : (u : Turn) (e e' : Engine) (log log' : Option Log) (ss : List Sending) → log' ≡ option_map (log_offers (offers_of u e)) log → IsApplied u e → applied u e ≡ e'
+    → has_ended e.talk ≡ false → Sends e ss
+    → (a : Log) → log ≡ Some (log_step u.at u.step u.bytes a) → TellsLinks e ss a → IfSome log' (λ b. TellsLinks e' (applied_sending u e ss) b)
+tells-once u e e' log log' ss tells may leaves running sends a is before =
     let now : List Sending = applied_sending u e ss in
-    let Q : Engine → Type 0 = λ x. HasSent x now in
-    let sent : HasSent e' now = subst Q f.leaves (applies u running f.may may fit h) in
-    record {
-      sent = sent;
-      order = (sends-said e' now sent).all;
-      legal = sent_legal e' now sent;
-      tells = λ a is before.
-          (let after : log' ≡ Some (log_offers (offers_of u e) (log_step at step bytes a)) = f.tells.told ∙ ap (option_map (log_offers (offers_of u e))) is in
-          let T : Option Log → Type 0 = λ o. IfSome o (λ b. TellsLinks e' now b) in
-          let R : Engine → Type 0 = λ x. TellsLinks x now (log_offers (offers_of u e) (log_step at step bytes a)) in
-          subst T (sym after) (subst R f.leaves (told-applied u e ss a running f.may (sends-said e ss h) before)));
-    }
+    let stepped : Log = log_step u.at u.step u.bytes a in
+    let after : log' ≡ Some (log_offers (offers_of u e) stepped) = tells ∙ ap (option_map (log_offers (offers_of u e))) is in
+    let T : Option Log → Type 0 = λ o. IfSome o (λ b. TellsLinks e' now b) in
+    let R : Engine → Type 0 = λ x. TellsLinks x now (log_offers (offers_of u e) stepped) in
+    subst T (sym after) (subst R leaves (told-applied u e ss a running may sends before))

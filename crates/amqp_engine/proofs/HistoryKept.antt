@@ -4,6 +4,7 @@ use Rattle.std.proofs.lemmas.Bool.{cases_eq, cases_lt}
 use Rattle.std.specs.Option.{option_or}
 use Rattle.std.specs.List.{AllByRecursion}
 use Rattle.amqp_promise.specs.declared.error.ErrorKind.{ErrorKind}
+use Rattle.amqp_promise.specs.declared.error.ErrorKind.TheVariants.{ChannelsLimitReached}
 use Rattle.amqp_session.specs.declared.command.Cmd.{Cmd}
 use Rattle.amqp_session.specs.declared.command.Answer.{Answer}
 use Rattle.amqp_session.specs.declared.command.Answer.TheVariants as says
@@ -12,10 +13,10 @@ use Rattle.amqp_session.specs.declared.handed.Handed.{Handed}
 use Rattle.amqp_session.specs.Config.{Config}
 use Rattle.amqp_session.specs.Events.{Noted}
 use Rattle.amqp_session.specs.Listed.{at, without}
-use Rattle.amqp_session.specs.Talk.{Talk, start, end_of}
+use Rattle.amqp_session.specs.Talk.{Talk, start, end_of, end_of_link}
+use Rattle.amqp_session.proofs.Keeping.{stays-command}
 use Rattle.amqp_session.specs.ChannelMethods.{frames_of}
-use Rattle.amqp_session.specs.Commands.{command}
-use Rattle.amqp_session.specs.Answers.{answer_in, answer_of, take_answer, take_event, take_frames}
+use Rattle.amqp_session.specs.Answers.{answer_of, take_answer, take_event, take_frames}
 use Rattle.amqp_session.specs.Sound.{IsSound}
 use Rattle.amqp_types.proofs.Small.{if_case, if-true, none-from, equal-numbers, other-number}
 use Rattle.amqp_session.proofs.Ascending.{at-gone, none-above, without-ascends}
@@ -33,38 +34,19 @@ use Rattle.amqp_engine.specs.Sending.{Sending}
 use Rattle.amqp_engine.specs.Engine.{Engine, begin, with_talk}
 use Rattle.amqp_engine.specs.Turn.{asks}
 use Rattle.amqp_engine.specs.Carried.{says_sent, AreSent, Merges, IsSubsequence}
-use Rattle.amqp_engine.specs.Account.{History, HasHistory, new, asked, applies, told, answer_taken, event_taken, frames_taken}
+use Rattle.amqp_engine.specs.Account.{History, nothing_told, HasHistory, new, asked, applies, told, answer_taken, event_taken, frames_taken}
+use Rattle.amqp_engine.proofs.Answered.{says-as, answer-held, there}
 use Rattle.amqp_engine.proofs.EventTaken.{event-case}
 use Rattle.amqp_engine.proofs.Conveying.{Carries, same-last, carries-command}
 use Rattle.amqp_engine.proofs.WentOut.{carries-asks, carries-applied}
-use Rattle.amqp_engine.proofs.CameIn.{Came, Stays, plain-stays, came-stays, asks-stays, told-stays}
+use Rattle.amqp_engine.proofs.Knowing.{known-asks}
+use Rattle.amqp_engine.proofs.Parting.{Kept, kept_of, Openings, openings-start, openings-answer, openings-noted, openings-frames}
+use Rattle.amqp_engine.proofs.CameIn.{Came, Stays, plain-stays, came-stays, came-with, came-told, asks-stays}
 use Rattle.amqp_engine.proofs.CameRead.{came-applied}
+use Rattle.amqp_engine.proofs.Over.{asks-end}
+use Rattle.amqp_engine.proofs.TurnEnds.{never-limit}
 
 -- ---- answers
-
--- a promise is answered Sent where that is held of it
-pub says-as : (ended : Option (Result (Unit {0}) ErrorKind)) (o : Option (Option (Result Answer ErrorKind))) → says_sent (answer_in ended o) ≡ is_sent o
-says-as ended None = refl
-says-as None (Some None) = refl
-says-as (Some (Ok closed)) (Some None) = refl
-says-as (Some (Err e)) (Some None) = refl
-says-as ended (Some (Some (Ok says.Sent))) = refl
-says-as ended (Some (Some (Ok x))) = refl
-says-as ended (Some (Some (Err e))) = refl
-
--- what is answered, but not with an error, is held
-pub answer-held : (ended : Option (Result (Unit {0}) ErrorKind)) (o : Option (Option (Result Answer ErrorKind))) (x : Answer) → answer_in ended o ≡ Some (Ok x) → o ≡ Some (Some (Ok x))
-answer-held ended None x is = absurd cc
-answer-held None (Some None) x is = absurd cc
-answer-held (Some (Ok closed)) (Some None) x is = absurd cc
-answer-held (Some (Err e)) (Some None) x is = absurd cc
-answer-held ended (Some (Some answer)) x is = ap (λ (y : Option (Result Answer ErrorKind)). Some y) is
-
--- where there is an answer, a promise was made that was not taken
-there : (ended : Option (Result (Unit {0}) ErrorKind)) (o : Option (Option (Result Answer ErrorKind))) (a : Result Answer ErrorKind) → answer_in ended o ≡ Some a
-    → (slot : Option (Result Answer ErrorKind)) × (o ≡ Some slot)
-there ended None a is = absurd cc
-there ended (Some slot) a is = (slot, refl)
 
 or-none : (o : Option (Result Answer ErrorKind)) → option_or o None ≡ o
 or-none None = refl
@@ -286,16 +268,26 @@ carries-start config =
 pub carries-history : (e : Engine) (h : History) → HasHistory e h → Carries h.taken h.given h.commands e.talk h.sent
 carries-history e h (new config) = carries-start config
 carries-history e h (asked {e = e'} {h = h'} k) = carries-asks h'.taken h'.given e' h'.commands h'.sent (carries-history e' h' k)
-carries-history e h (applies {e = e'} {h = h'} u running may is_told k) = carries-applied h'.taken h'.given u e' h'.commands h'.sent may (carries-history e' h' k)
-carries-history e h (told {e = e'} {h = h'} c may k) = carries-command h'.taken h'.given h'.commands c e'.talk h'.sent (carries-history e' h' k)
+carries-history e h (applies {e = e'} {h = h'} u running may is_told fit k) = carries-applied h'.taken h'.given u e' h'.commands h'.sent may (carries-history e' h' k)
+carries-history e h (told {e = e'} {h = h'} c may can k) = carries-command h'.taken h'.given h'.commands c e'.talk h'.sent (carries-history e' h' k)
 carries-history e h (answer_taken {e = e'} {h = h'} number k) = carries-answer h'.taken h'.given h'.commands h'.sent number e'.talk (carries-history e' h' k)
 carries-history e h (event_taken {e = e'} {h = h'} k) = carries-event h'.taken h'.given h'.commands h'.sent e'.talk (carries-history e' h' k)
 carries-history e h (frames_taken {e = e'} {h = h'} opened k) = carries-frames h'.taken h'.given h'.commands h'.sent e'.talk (carries-history e' h' k) opened
 
 -- ---- what came
 
-came-start : (config : Config) → Came true (λ opened. []) (begin (start config)) []
-came-start config = record { read = []; handed = []; each = λ opened. refl; order = IsSubsequence.none; sorted = tt; links = tt; last = λ is o. absurd cc }
+came-start : (config : Config) → Came true (kept_of nothing_told) (begin (start config)) []
+came-start config =
+    record {
+      read = [];
+      handed = [];
+      each = λ opened. refl;
+      order = IsSubsequence.none;
+      sorted = tt;
+      links = tt;
+      last = λ is o. absurd cc;
+      openings = openings-start config;
+    }
 
 answer-stays : (number : ℕ) (e : Engine) → Stays e (with_talk (take_answer number) e)
 answer-stays number e =
@@ -306,9 +298,21 @@ event-stays : (e : Engine) → Stays e (with_talk take_event e)
 event-stays e =
     event-case (λ (t : Talk). Stays e (record e { talk = t })) e.talk (λ ns. plain-stays e (record e.talk { noted = ns }) refl (λ o. o) refl) (plain-stays e e.talk refl (λ o. o) refl)
 
+-- an answer is taken
+came-answer : (given : Kept) (came : List (List ℕ)) (number : ℕ) (e : Engine) → (end_of e.talk ≡ Some (Err ChannelsLimitReached) → ⊥) → Came true given e came
+    → Came true (record given { taken = λ n. if n == number then option_or (given.taken n) (answer_of number e.talk) else given.taken n }) (with_talk (take_answer number) e) came
+came-answer given came number e ended h =
+    came-with given came (record given { taken = λ n. if n == number then option_or (given.taken n) (answer_of number e.talk) else given.taken n }) true e (with_talk (take_answer number) e) refl (answer-stays number e) h (openings-answer given number e.talk h.handed ended h.openings)
+
+-- an event is taken
+came-event : (given : Kept) (came : List (List ℕ)) (e : Engine) → Came true given e came → Came true given (with_talk take_event e) came
+came-event given came e h =
+    came-with given came given true e (with_talk take_event e) refl (event-stays e) h
+    (event-case (λ (t : Talk). Openings given t h.handed) e.talk (λ ns. openings-noted given e.talk ns h.handed h.openings) h.openings)
+
 -- frames are taken
-came-frames : (given : ℕ → List Handed) (came : List (List ℕ)) (opened : ℕ) (e : Engine) → Came true given e came
-    → Came true (λ n. if n == opened then given n ++ frames_of opened e.talk else given n) (with_talk (take_frames opened) e) came
+came-frames : (given : Kept) (came : List (List ℕ)) (opened : ℕ) (e : Engine) → Came true given e came
+    → Came true (record given { given = λ n. if n == opened then given.given n ++ frames_of opened e.talk else given.given n }) (with_talk (take_frames opened) e) came
 came-frames given came opened e h =
     record {
       read = h.read;
@@ -332,32 +336,48 @@ came-frames given came opened e h =
             unread = l.unread;
             dropped = l.dropped;
           });
+      openings = openings-frames given more opened e.talk h.handed h.openings;
     }
   where
     t : Talk
     t = take_frames opened e.talk
 
     more : ℕ → List Handed
-    more n = if n == opened then given n ++ frames_of opened e.talk else given n
+    more n = if n == opened then given.given n ++ frames_of opened e.talk else given.given n
 
     each : (n : ℕ) → handed_on n h.handed ≡ more n ++ frames_of n t
     each n = elim (cases_eq n opened) [
       | inl k ↦
           (let none_left : frames_of n t ≡ [] =
           ap (λ m. frames_of m t) k ∙ ap (λ (o : Option (List Handed)). unwrap_or o []) (at-gone opened e.talk.handed h.sorted) in
-          let now : more n ≡ given n ++ frames_of opened e.talk = ap (λ b. if b then given n ++ frames_of opened e.talk else given n) (equal-numbers n opened k) in
-          h.each n ∙ ap (λ m. given n ++ frames_of m e.talk) k ∙ sym now ∙ sym (append-nil (more n)) ∙ ap (λ fs. more n ++ fs) (sym none_left))
+          let now : more n ≡ given.given n ++ frames_of opened e.talk = ap (λ b. if b then given.given n ++ frames_of opened e.talk else given.given n) (equal-numbers n opened k) in
+          h.each n ∙ ap (λ m. given.given n ++ frames_of m e.talk) k ∙ sym now ∙ sym (append-nil (more n)) ∙ ap (λ fs. more n ++ fs) (sym none_left))
       | inr ne ↦
-          (let now : more n ≡ given n = ap (λ b. if b then given n ++ frames_of opened e.talk else given n) (other-number n opened ne) in
+          (let now : more n ≡ given.given n = ap (λ b. if b then given.given n ++ frames_of opened e.talk else given.given n) (other-number n opened ne) in
           let same : frames_of n t ≡ frames_of n e.talk = ap (λ (o : Option (List Handed)). unwrap_or o []) (without-other n opened e.talk.handed ne) in
           h.each n ∙ ap (λ fs. fs ++ frames_of n e.talk) (sym now) ∙ ap (λ fs. more n ++ fs) (sym same))
     ]
 
-pub came-history : (e : Engine) (h : History) → HasHistory e h → Came true h.given e h.came
+-- no session ends since no number was free
+pub never-ends : (e : Engine) (h : History) → HasHistory e h → end_of e.talk ≡ Some (Err ChannelsLimitReached) → ⊥
+never-ends e h (new config) is = absurd cc
+never-ends e h (asked {e = e'} {h = h'} k) is = never-ends e' h' k (sym (asks-end e') ∙ is)
+never-ends e h (applies {e = e'} {h = h'} u running may is_told fit k) is = never-limit u e' running is
+never-ends e h (told {e = e'} {h = h'} c may can k) is = never-ends e' h' k (sym (ap end_of_link (stays-command c e'.talk).link) ∙ is)
+never-ends e h (answer_taken {e = e'} {h = h'} number k) is =
+    let same : end_of (take_answer number e'.talk) ≡ end_of e'.talk =
+    if_case (λ (t : Talk). end_of t ≡ end_of e'.talk) (is_some (answer_of number e'.talk)) (record e'.talk { promises = without number e'.talk.promises }) e'.talk refl refl in
+    never-ends e' h' k (sym same ∙ is)
+never-ends e h (event_taken {e = e'} {h = h'} k) is =
+    let same : end_of (take_event e'.talk) ≡ end_of e'.talk = event-case (λ (t : Talk). end_of t ≡ end_of e'.talk) e'.talk (λ ns. refl) refl in
+    never-ends e' h' k (sym same ∙ is)
+never-ends e h (frames_taken {e = e'} {h = h'} opened k) is = never-ends e' h' k is
+
+pub came-history : (e : Engine) (h : History) → HasHistory e h → Came true (kept_of h) e h.came
 came-history e h (new config) = came-start config
-came-history e h (asked {e = e'} {h = h'} k) = came-stays h'.given h'.came true e' (asks e') (asks-stays e') (came-history e' h' k)
-came-history e h (applies {e = e'} {h = h'} u running may is_told k) = came-applied h'.given h'.came u e' running may (came-history e' h' k)
-came-history e h (told {e = e'} {h = h'} c may k) = came-stays h'.given h'.came true e' (with_talk (command c) e') (told-stays c e') (came-history e' h' k)
-came-history e h (answer_taken {e = e'} {h = h'} number k) = came-stays h'.given h'.came true e' (with_talk (take_answer number) e') (answer-stays number e') (came-history e' h' k)
-came-history e h (event_taken {e = e'} {h = h'} k) = came-stays h'.given h'.came true e' (with_talk take_event e') (event-stays e') (came-history e' h' k)
-came-history e h (frames_taken {e = e'} {h = h'} opened k) = came-frames h'.given h'.came opened e' (came-history e' h' k)
+came-history e h (asked {e = e'} {h = h'} k) = came-stays (kept_of h') h'.came true e' (asks e') (asks-stays e') (known-asks e') (came-history e' h' k)
+came-history e h (applies {e = e'} {h = h'} u running may is_told fit k) = came-applied (kept_of h') h'.came u e' running may (came-history e' h' k)
+came-history e h (told {e = e'} {h = h'} c may can k) = came-told (kept_of h') c e' h'.came (came-history e' h' k)
+came-history e h (answer_taken {e = e'} {h = h'} number k) = came-answer (kept_of h') h'.came number e' (never-ends e' h' k) (came-history e' h' k)
+came-history e h (event_taken {e = e'} {h = h'} k) = came-event (kept_of h') h'.came e' (came-history e' h' k)
+came-history e h (frames_taken {e = e'} {h = h'} opened k) = came-frames (kept_of h') h'.came opened e' (came-history e' h' k)

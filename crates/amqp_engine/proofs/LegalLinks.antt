@@ -20,10 +20,11 @@ use Rattle.amqp_legal_rules.proofs.OnSent.{now-taken}
 use Rattle.amqp_legal_rules.proofs.OnLinks.{start-silent, silent-room, tied-linked, tied-commit}
 use Rattle.amqp_engine.specs.declared.port.Step.{Step}
 use Rattle.amqp_engine.specs.declared.port.Step.TheVariants.{Linked, LinkFailed, Piece, End, Fault, Room, Tick, Command}
-use Rattle.amqp_engine.specs.Engine.{Engine, begin, with_talk}
-use Rattle.amqp_engine.specs.Turn.{Turn, IsToldCommand, IsTold, AreTold, IsFit, AreFit, asks, applied, IsApplied, IsTurn, AreTurns, turn, turns}
-use Rattle.amqp_engine.specs.Sending.{Sending, sendings, sendings_from, frames, frames_sent, turn_sending}
-use Rattle.amqp_engine.specs.Saying.{HasSent, new, asked, applies, told, answer_taken, event_taken, frames_taken, applied_sending, SentLegal, CommittedLegal}
+use Rattle.amqp_engine.specs.Engine.{Engine, with_talk}
+use Rattle.amqp_engine.specs.Turn.{Turn, IsToldCommand, IsTold, AreTold, asks, applied, IsApplied, IsTurn, AreTurns, turn, turns}
+use Rattle.amqp_engine.specs.Sending.{Sending, sendings_from, frames, frames_sent, turn_sending}
+use Rattle.amqp_engine.specs.Saying.{applied_sending, SentLegal, CommittedLegal}
+use Rattle.amqp_engine.specs.Account.{History, HasHistory, new, asked, applies, told, answer_taken, event_taken, frames_taken}
 use Rattle.amqp_engine.proofs.Over.{asks-running}
 use Rattle.amqp_engine.proofs.EventTaken.{event-case}
 use Rattle.amqp_engine.proofs.Committing.{Rules, KeptOn, kept-applied, kept-asking, kept-told, kept-new, Tells, opens-command, opens-answer, opens-event}
@@ -105,15 +106,15 @@ unfolding rules
 saying-told c e ss may h = kept-told rules (command c) e ss (λ t fs. now-command c t fs (sendable c may)) (opens-command c) h
 
 -- what is known of an engine that was new
-pub saying : (e : Engine) (ss : List Sending) → HasSent e ss → Saying e ss
+pub saying : (e : Engine) (h : History) → HasHistory e h → Saying e h.sent
 unfolding rules
-saying e ss (new config) = kept-new rules config (start-silent config)
-saying e ss (asked {e = e'} h) = kept-asking rules e' ss (saying e' ss h)
-saying e ss (applies {e = e'} {ss = ss'} u running may told_step fit h) = saying-applied u e' ss' running may told_step (saying e' ss' h)
-saying e ss (told {e = e'} c may fits h) = saying-told c e' ss may (saying e' ss h)
-saying e ss (answer_taken {e = e'} number h) = kept-told rules (take_answer number) e' ss (now-answer number) (opens-answer number) (saying e' ss h)
-saying e ss (event_taken {e = e'} h) = kept-told rules take_event e' ss now-event opens-event (saying e' ss h)
-saying e ss (frames_taken {e = e'} opened h) = kept-told rules (take_frames opened) e' ss (now-frames opened) (λ t o. o) (saying e' ss h)
+saying e h (new config) = kept-new rules config (start-silent config)
+saying e h (asked {e = e'} {h = h'} k) = kept-asking rules e' h'.sent (saying e' h' k)
+saying e h (applies {e = e'} {h = h'} u running may told_step fit k) = saying-applied u e' h'.sent running may told_step (saying e' h' k)
+saying e h (told {e = e'} {h = h'} c may fits k) = saying-told c e' h'.sent may (saying e' h' k)
+saying e h (answer_taken {e = e'} {h = h'} number k) = kept-told rules (take_answer number) e' h'.sent (now-answer number) (opens-answer number) (saying e' h' k)
+saying e h (event_taken {e = e'} {h = h'} k) = kept-told rules take_event e' h'.sent now-event opens-event (saying e' h' k)
+saying e h (frames_taken {e = e'} {h = h'} opened k) = kept-told rules (take_frames opened) e' h'.sent (now-frames opened) (λ t o. o) (saying e' h' k)
 
 -- ---- what was sent is the front of what was committed
 
@@ -157,21 +158,13 @@ all_sent e ss h =
     sound (frames_sent s) (subst Q (sym (take-map (λ (item : Item). item.frame) s.sent s.committed)) (fronts s.sent (frames s.committed) k)))
     h.0.all
 
-pub committed_legal : (e : Engine) (ss : List Sending) → HasSent e ss → AllByRecursion CommittedLegal ss
-committed_legal e ss h = all_committed e ss (saying e ss h)
+pub committed_legal : (e : Engine) (h : History) → HasHistory e h → AllByRecursion CommittedLegal h.sent
+committed_legal e h k = all_committed e h.sent (saying e h k)
 
-pub sent_legal : (e : Engine) (ss : List Sending) → HasSent e ss → AllByRecursion SentLegal ss
-sent_legal e ss h = all_sent e ss (saying e ss h)
+pub sent_legal : (e : Engine) (h : History) → HasHistory e h → AllByRecursion SentLegal h.sent
+sent_legal e h k = all_sent e h.sent (saying e h k)
 
 -- ---- turns
-
-pub turn-sent : (u : Turn) (e : Engine) (ss : List Sending) → IsTurn u e → IsTold u.step → IsFit u → HasSent e ss → HasSent (turn u e) (turn_sending u e ss)
-turn-sent u e ss may told_step fit h = applies u (asks-running e may.running) may.applied told_step fit (asked h)
-
-pub turns-sent : (us : List Turn) (e : Engine) (ss : List Sending) → AreTurns us e → AreTold us → AreFit us → HasSent e ss → HasSent (turns us e) (sendings_from us e ss)
-turns-sent [] e ss may told_steps fit h = h
-turns-sent (u ∷ us) e ss may told_steps fit h =
-    turns-sent us (turn u e) (turn_sending u e ss) may.1 told_steps.1 fit.1 (turn-sent u e ss may.0 told_steps.0 fit.0 h)
 
 -- whatever comes with them
 saying-turn : (u : Turn) (e : Engine) (ss : List Sending) → IsTurn u e → IsTold u.step → Saying e ss → Saying (turn u e) (turn_sending u e ss)
@@ -182,8 +175,8 @@ saying-turns [] e ss may told_steps h = h
 saying-turns (u ∷ us) e ss may told_steps h =
     saying-turns us (turn u e) (turn_sending u e ss) may.1 told_steps.1 (saying-turn u e ss may.0 told_steps.0 h)
 
-pub turns_sent_legal : (t : Talk) (us : List Turn) → HasSent (begin t) [] → AreTurns us (begin t) → AreTold us → AllByRecursion SentLegal (sendings t us)
-turns_sent_legal t us silent may told_steps = all_sent (turns us (begin t)) (sendings t us) (saying-turns us (begin t) [] may told_steps (saying (begin t) [] silent))
+pub turns_sent_legal : (e : Engine) (h : History) (us : List Turn) → HasHistory e h → AreTurns us e → AreTold us → AllByRecursion SentLegal (sendings_from us e h.sent)
+turns_sent_legal e h us k may told_steps = all_sent (turns us e) (sendings_from us e h.sent) (saying-turns us e h.sent may told_steps (saying e h k))
 
-pub turns_committed_legal : (t : Talk) (us : List Turn) → HasSent (begin t) [] → AreTurns us (begin t) → AreTold us → AllByRecursion CommittedLegal (sendings t us)
-turns_committed_legal t us silent may told_steps = all_committed (turns us (begin t)) (sendings t us) (saying-turns us (begin t) [] may told_steps (saying (begin t) [] silent))
+pub turns_committed_legal : (e : Engine) (h : History) (us : List Turn) → HasHistory e h → AreTurns us e → AreTold us → AllByRecursion CommittedLegal (sendings_from us e h.sent)
+turns_committed_legal e h us k may told_steps = all_committed (turns us e) (sendings_from us e h.sent) (saying-turns us e h.sent may told_steps (saying e h k))

@@ -35,8 +35,9 @@ pub mod Agreeing
 pub mod LinkKept
 pub mod Sends
 pub mod LinkTold
--- What is said on each link is a legal conversation, by lifting what the rules of the session keep: `run: legal`, and its law; it keeps the numbers
+-- The history of an engine that is new, and of turns. What is said on each link is a legal conversation, by lifting what the rules of the session keep; it keeps the numbers
 -- that were agreed and can be written; and so it is read back.
+pub mod HistoryBegun
 pub mod Received
 pub mod Committing
 pub mod LegalLinks
@@ -46,7 +47,7 @@ pub mod WrittenLinks
 pub mod SpelledLinks
 pub mod GoingOn
 pub mod ToldScripts
--- What brings about an end with an error: `run: cause`, `apply: cause`, and the counts of faults and of refusals.
+-- What brings about an end with an error: `run: turns`, `apply: cause`, and the counts of faults and of refusals.
 pub mod ReadEnds
 pub mod TurnEnds
 pub mod Faults
@@ -57,7 +58,11 @@ pub mod Departing
 pub mod Passing
 pub mod Conveying
 pub mod WentOut
--- What was handed out came: the frames that are read stand in the octets of their link.
+-- What was handed out came: the frames that are read stand in the octets of their link, and each was handed out by the promise that opened its channel
+-- last.
+pub mod Answered
+pub mod Knowing
+pub mod Parting
 pub mod CameIn
 pub mod CameRead
 -- Both together, through the whole history of an engine, and so through runs, single turns, and what is told and taken between them: the law that what is told is
@@ -98,5 +103,7 @@ pub mod Begun
 pub mod Turned
 pub mod Rounds
 pub mod Closed
+-- What an engine is made from can be said.
+pub mod BuiltSaid
 -- memory refused before a turn
 pub mod Starved

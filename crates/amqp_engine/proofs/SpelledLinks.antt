@@ -21,13 +21,14 @@ use Rattle.amqp_engine.specs.Engine.{Engine, begin}
 use Rattle.amqp_engine.specs.Turn.{Turn, AreTold, AreFit, AreTurns}
 use Rattle.amqp_engine.specs.Tell.{log_turns}
 use Rattle.amqp_engine.specs.Sending.{Sending, frames, encodings, items_sent, frames_sent, link_bytes, sendings, IsBegun, SendsInOrder}
-use Rattle.amqp_engine.specs.Saying.{HasSent, TellsLinks, CommittedWritable, CommittedWithin, IsReadBack, HoldsRest, SpellLegal}
-use Rattle.amqp_engine.specs.Account.{IsNew}
+use Rattle.amqp_engine.specs.Saying.{TellsLinks, CommittedWritable, CommittedWithin, IsReadBack, HoldsRest, SpellLegal}
+use Rattle.amqp_engine.specs.Account.{IsNew, History, nothing_told, HasHistory}
 use Rattle.amqp_engine.proofs.Agreeing.{agrees-all, agrees-bytes}
 use Rattle.amqp_engine.proofs.Sends.{Sends, order}
 use Rattle.amqp_engine.proofs.LegalLinks.{turns_sent_legal, turns_committed_legal}
 use Rattle.amqp_engine.proofs.WrittenLinks.{sent_writable, turns_agreed, turns_writable}
 use Rattle.amqp_engine.proofs.GoingOn.{sends-said, told-on}
+use Rattle.amqp_engine.proofs.HistoryBegun.{new-history}
 
 -- ---- frame after frame
 
@@ -160,9 +161,17 @@ each-read-back : (limit : ℕ) (ss : List Sending) → AllByRecursion SendsInOrd
 each-read-back limit [] inorder writable within = tt
 each-read-back limit (s ∷ ss) inorder writable within = (read-back limit s inorder.0 writable.0 within.0, each-read-back limit ss inorder.1 writable.1 within.1)
 
-pub all-read-back : (limit : ℕ) (e : Engine) (ss : List Sending) → HasSent e ss → CanBeSaid e.talk.config → AllByRecursion (CommittedWithin limit) ss
-    → AllByRecursion (IsReadBack limit) ss
-all-read-back limit e ss h can within = each-read-back limit ss (sends-said e ss h).all (sent_writable e ss h can) within
+pub all-read-back : (limit : ℕ) (e : Engine) (h : History) → HasHistory e h → CanBeSaid e.talk.config → AllByRecursion (CommittedWithin limit) h.sent
+    → AllByRecursion (IsReadBack limit) h.sent
+all-read-back limit e h k can within = each-read-back limit h.sent (sends-said e h k).all (sent_writable e h k can) within
+
+-- the greatest limit needs no more than that
+each-read-any : (ss : List Sending) → AllByRecursion SendsInOrder ss → AllByRecursion CommittedWritable ss → AllByRecursion (IsReadBack 4294967295) ss
+each-read-any [] inorder writable = tt
+each-read-any (s ∷ ss) inorder writable = (read-any s inorder.0 writable.0, each-read-any ss inorder.1 writable.1)
+
+pub all-read-any : (e : Engine) (h : History) → HasHistory e h → CanBeSaid e.talk.config → AllByRecursion (IsReadBack 4294967295) h.sent
+all-read-any e h k can = each-read-any h.sent (sends-said e h k).all (sent_writable e h k can)
 
 -- ---- what is unsent
 
@@ -176,21 +185,22 @@ sends-hold e ss h opened =
       agrees-all e.talk.committed e.unsent l.1 a ∙ ap (λ xs. xs ++ e.unsent) (sym (agrees-bytes e.talk.committed e.unsent l.1 a)),
     )
 
-pub holds-rest : (e : Engine) (ss : List Sending) → HasSent e ss → is_open e.talk ≡ true → HoldsRest e ss
-holds-rest e ss h opened = sends-hold e ss (sends-said e ss h) opened
+pub holds-rest : (e : Engine) (h : History) → HasHistory e h → is_open e.talk ≡ true → HoldsRest e h.sent
+holds-rest e h k opened = sends-hold e h.sent (sends-said e h k) opened
 
 -- ---- turns
 
 -- what is claimed of the links of an engine that was new, through its turns
-pub turns-spell : (t : Talk) (us : List Turn) (log : Log) → IsNew t → HasSent (begin t) [] → TellsLinks (begin t) [] log → CanBeSaid t.config → AreTurns us (begin t) → AreTold us
+pub turns-spell : (t : Talk) (us : List Turn) (log : Log) → IsNew t → TellsLinks (begin t) [] log → CanBeSaid t.config → AreTurns us (begin t) → AreTold us
     → AreFit us → SpellLegal (sendings t us) (log_turns us (begin t) log).links
-turns-spell t us log new silent tells can may told fit =
-    let sends = sends-said (begin t) [] silent in
+turns-spell t us log new tells can may told fit =
+    let silent : HasHistory (begin t) nothing_told = new-history t new in
+    let sends : Sends (begin t) [] = sends-said (begin t) nothing_told silent in
     record {
       bytes = (told-on us (begin t) [] log may sends tells).links;
       order = order us (begin t) [] may sends;
-      legal = turns_sent_legal t us silent may told;
-      committed = turns_committed_legal t us silent may told;
+      legal = turns_sent_legal (begin t) nothing_told us silent may told;
+      committed = turns_committed_legal (begin t) nothing_told us silent may told;
       agreed = turns_agreed t us new may;
       writable = turns_writable t us new can may told fit;
     }

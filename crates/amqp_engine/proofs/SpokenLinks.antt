@@ -20,8 +20,8 @@ use Rattle.amqp_engine.specs.declared.port.Step.TheVariants.{Linked, LinkFailed,
 use Rattle.amqp_engine.specs.Engine.{Engine, begin, with_talk}
 use Rattle.amqp_engine.specs.Turn.{Turn, IsToldCommand, IsTold, IsFit, asks, applied, IsApplied, AreTurns, turn, turns}
 use Rattle.amqp_engine.specs.Sending.{Sending, sendings_from, frames, turn_sending}
-use Rattle.amqp_engine.specs.Saying.{HasSent, new, asked, applies, told, answer_taken, event_taken, frames_taken, applied_sending}
-use Rattle.amqp_engine.specs.Account.{IsNew}
+use Rattle.amqp_engine.specs.Saying.{applied_sending}
+use Rattle.amqp_engine.specs.Account.{IsNew, History, HasHistory, new, asked, applies, told, answer_taken, event_taken, frames_taken}
 use Rattle.amqp_engine.proofs.Over.{asks-running}
 use Rattle.amqp_engine.proofs.EventTaken.{event-case}
 use Rattle.amqp_engine.proofs.Committing.{Rules, KeptOn, kept-applied, kept-asking, kept-told, kept-new, Tells, opens-command, opens-answer, opens-event}
@@ -150,32 +150,32 @@ module _ (k : Sayings) (f : Fitting k) (Links : List Frame → Type 0) (none : L
   unfolding rules
   frames-keep opened e ss h = kept-told rules (take_frames opened) e ss (λ t fs now. stays-frames k fs opened t now) (λ t o. o) h
 
-  made-of : (e : Engine) (ss : List Sending) → HasSent e ss → Made e ss
-  made-of e ss (new config) = record { config = config; same = refl; keeps = λ made. starts-keep config made }
-  made-of e ss (asked {e = e'} h) =
-      let m = made-of e' ss h in
-      record { config = m.config; same = on-asks m.config e' m.same; keeps = λ made. kept-asking rules e' ss (m.keeps made) }
-  made-of e ss (applies {e = e'} {ss = ss'} u running may told_step fit h) =
-      let m = made-of e' ss' h in
+  made-of : (e : Engine) (h : History) → HasHistory e h → Made e h.sent
+  made-of e h (new config) = record { config = config; same = refl; keeps = λ made. starts-keep config made }
+  made-of e h (asked {e = e'} {h = h'} x) =
+      let m = made-of e' h' x in
+      record { config = m.config; same = on-asks m.config e' m.same; keeps = λ made. kept-asking rules e' h'.sent (m.keeps made) }
+  made-of e h (applies {e = e'} {h = h'} u running may told_step fit x) =
+      let m = made-of e' h' x in
       record {
         config = m.config;
         same = on-applied m.config u e' running may m.same;
-        keeps = λ made. applied-keeps u e' ss' running may (f.fits u told_step fit) (m.keeps made);
+        keeps = λ made. applied-keeps u e' h'.sent running may (f.fits u told_step fit) (m.keeps made);
       }
-  made-of e ss (told {e = e'} c may can h) =
-      let m = made-of e' ss h in
-      record { config = m.config; same = on-command m.config c e' m.same; keeps = λ made. told-keeps c e' ss (f.may c may can) (m.keeps made) }
-  made-of e ss (answer_taken {e = e'} number h) =
-      let m = made-of e' ss h in
-      record { config = m.config; same = on-answer m.config number e' m.same; keeps = λ made. answer-keeps number e' ss (m.keeps made) }
-  made-of e ss (event_taken {e = e'} h) =
-      let m = made-of e' ss h in
-      record { config = m.config; same = on-event m.config e' m.same; keeps = λ made. event-keeps e' ss (m.keeps made) }
-  made-of e ss (frames_taken {e = e'} opened h) =
-      let m = made-of e' ss h in
-      record { config = m.config; same = m.same; keeps = λ made. frames-keep opened e' ss (m.keeps made) }
+  made-of e h (told {e = e'} {h = h'} c may can x) =
+      let m = made-of e' h' x in
+      record { config = m.config; same = on-command m.config c e' m.same; keeps = λ made. told-keeps c e' h'.sent (f.may c may can) (m.keeps made) }
+  made-of e h (answer_taken {e = e'} {h = h'} number x) =
+      let m = made-of e' h' x in
+      record { config = m.config; same = on-answer m.config number e' m.same; keeps = λ made. answer-keeps number e' h'.sent (m.keeps made) }
+  made-of e h (event_taken {e = e'} {h = h'} x) =
+      let m = made-of e' h' x in
+      record { config = m.config; same = on-event m.config e' m.same; keeps = λ made. event-keeps e' h'.sent (m.keeps made) }
+  made-of e h (frames_taken {e = e'} {h = h'} opened x) =
+      let m = made-of e' h' x in
+      record { config = m.config; same = m.same; keeps = λ made. frames-keep opened e' h'.sent (m.keeps made) }
 
-  pub sent-keeps : (e : Engine) (ss : List Sending) → HasSent e ss → k.Makes e.talk.config → Keeps e ss
-  sent-keeps e ss h made =
-      let m = made-of e ss h in
+  pub sent-keeps : (e : Engine) (h : History) → HasHistory e h → k.Makes e.talk.config → Keeps e h.sent
+  sent-keeps e h x made =
+      let m = made-of e h x in
       m.keeps (subst k.Makes m.same made)

@@ -10,8 +10,8 @@ use Rattle.amqp_engine.specs.Engine.{Engine, starve_at, starved_before}
 use Rattle.amqp_engine.specs.Turn.{Turn, IsApplied, applied, cut_notes}
 use Rattle.amqp_engine.specs.Tell.{turn_of}
 use Rattle.amqp_engine.specs.Sending.{Sending}
-use Rattle.amqp_engine.specs.Saying.{HasSent, applies, TellsLinks}
-use Rattle.amqp_engine.specs.Account.{History, add_turn, HasHistory, applies as turn_taken}
+use Rattle.amqp_engine.specs.Saying.{TellsLinks}
+use Rattle.amqp_engine.specs.Account.{History, add_turn, HasHistory, applies}
 use Rattle.amqp_engine.proofs.Running.{fit-of}
 use Rattle.amqp_types.proofs.Small.{if-false}
 
@@ -21,16 +21,6 @@ cut_tick at = turn_of at Tick [] cut_notes
 
 is-cut : (at : ℕ) (e : Engine) → IsApplied (cut_tick at) e
 is-cut at e = record { answers = refl; asked = (omega arith, tt); cut = refl }
-
--- nothing is sent
-pub starved-said : (at : ℕ) (e : Engine) (ss : List Sending) → HasSent e ss → HasSent (starved_before at e) ss
-starved-said at e ss h = by (has_ended e.talk) refl
-  where
-    by : (b : Bool) → has_ended e.talk ≡ b → HasSent (if b then e else starve_at at 0 e) ss
-    by true over = h
-    by false running =
-        let Q : Engine → Type 0 = λ x. HasSent x ss in
-        subst Q (if-false (has_ended e.talk) e (starve_at at 0 e) running) (applies (cut_tick at) running (is-cut at e) tt (fit-of at Tick [] cut_notes tt (λ i. omega arith) tt) h)
 
 -- the history is the same
 pub starved-history : (at : ℕ) (e : Engine) (h : History) → HasHistory e h → HasHistory (starved_before at e) h
@@ -44,7 +34,7 @@ starved-history at e h has = by (has_ended e.talk) refl
     by false running =
         let Q : Engine → Type 0 = λ x. HasHistory x h in
         let R : History → Type 0 = λ x. HasHistory (applied (cut_tick at) e) x in
-        subst Q (if-false (has_ended e.talk) e (starve_at at 0 e) running) (subst R same (turn_taken (cut_tick at) running (is-cut at e) tt has))
+        subst Q (if-false (has_ended e.talk) e (starve_at at 0 e) running) (subst R same (applies (cut_tick at) running (is-cut at e) tt (fit-of at Tick [] cut_notes tt (λ i. omega arith) tt) has))
 
 -- and nothing is told
 pub starved-told : (at : ℕ) (e : Engine) (ss : List Sending) (log : Log) → TellsLinks e ss log → TellsLinks (starved_before at e) ss log

@@ -13,9 +13,10 @@ use Rattle.amqp_engine.specs.Log.{Log, loaded, log_ask, log_write}
 use Rattle.amqp_engine.specs.Engine.{Engine, begin}
 use Rattle.amqp_engine.specs.Turn.{Turn, IsTold, AreTold, asks, wants_ask, turn}
 use Rattle.amqp_engine.specs.Tell.{Offer, offers_of, log_asks, log_stepped, log_offers, log_turn}
-use Rattle.amqp_engine.specs.Sending.{sendings}
+use Rattle.amqp_engine.specs.Sending.{sendings_from}
 use Rattle.amqp_engine.specs.Play.{played_step, played_turn, played_turns, replayed, AreAnswered}
-use Rattle.amqp_engine.specs.Saying.{HasSent, AreGivenTold, SentLegal}
+use Rattle.amqp_engine.specs.Saying.{AreGivenTold, SentLegal}
+use Rattle.amqp_engine.specs.Account.{History, HasHistory}
 use Rattle.amqp_engine.proofs.Playing.{played-are-turns}
 use Rattle.amqp_engine.proofs.LegalLinks.{turns_sent_legal}
 
@@ -68,7 +69,7 @@ played-told (suc most) answers e a h =
     (step-told (log_asks e a).plan (asks-told e a h), played-told most left (turn u e) (log_turn u e a) (turn-told u e a h))
 
 -- what a script says is legal, where its commands are told and what its turns ask is answered
-pub script_legal : (t : Talk) (gs : List Given) (answers : List Asked) → HasSent (begin t) [] → AreGivenTold gs → AreAnswered (replayed t gs answers) (begin t)
-    → AllByRecursion SentLegal (sendings t (replayed t gs answers))
-script_legal t gs answers silent h all =
-    turns_sent_legal t (replayed t gs answers) silent (played-are-turns (length gs) answers (begin t) (loaded gs) all) (played-told (length gs) answers (begin t) (loaded gs) h)
+pub script_legal : (t : Talk) (h : History) (gs : List Given) (answers : List Asked) → HasHistory (begin t) h → AreGivenTold gs → AreAnswered (replayed t gs answers) (begin t)
+    → AllByRecursion SentLegal (sendings_from (replayed t gs answers) (begin t) h.sent)
+script_legal t h gs answers k told all =
+    turns_sent_legal (begin t) h (replayed t gs answers) k (played-are-turns (length gs) answers (begin t) (loaded gs) all) (played-told (length gs) answers (begin t) (loaded gs) told)

@@ -13,7 +13,7 @@ use Rattle.amqp_promise.specs.declared.io_fault.IoFault.TheVariants.{Aborted, Re
 use Rattle.amqp_session.specs.declared.server_close.ServerClose.{ServerClose}
 use Rattle.amqp_session.specs.declared.server_close.ServerClose.TheVariants.{WithoutError, WithError}
 use Rattle.amqp_promise.specs.declared.error.ErrorKind.{ErrorKind}
-use Rattle.amqp_promise.specs.declared.error.ErrorKind.TheVariants.{IOError, ProtocolError, SerialisationError, MissingHeartbeatError, NoMemory, OutOfTurns}
+use Rattle.amqp_promise.specs.declared.error.ErrorKind.TheVariants.{IOError, ProtocolError, SerialisationError, MissingHeartbeatError, NoMemory, OutOfTurns, ChannelsLimitReached}
 use Rattle.amqp_auth.specs.declared.asked.Asked.{Asked}
 use Rattle.amqp_session.specs.Talk.{Talk, has_ended, is_open, is_acting, acts, is_asked, end_of, end_of_link}
 use Rattle.amqp_session.specs.Channels.{channel_at}
@@ -33,7 +33,7 @@ use Rattle.amqp_engine.specs.Engine.{Engine, settle, rule_at, with_talk, step_en
 use Rattle.amqp_session.specs.Writing.{frames_waiting}
 use Rattle.amqp_engine.specs.Turn.{Turn, Notes, write_answers, Progress, asks, goes, reads, part, questioned, is_piece, step_part, is_part, begun, drain, drained, offer_part, offered, is_all, answered, read, after_writes, applied, turn, turns, starved_after, AreTurns}
 use Rattle.amqp_engine.specs.Tell.{Applies, Runs, turn_of}
-use Rattle.amqp_engine.specs.Causes.{is_final, FailsToWrite, IsReadError, Misreads, LosesClosed, IsCause, IsCaused, Brings, brought, is_tick, is_last, sends_close_ok}
+use Rattle.amqp_engine.specs.Causes.{is_final, FailsToWrite, IsReadError, Misreads, LosesClosed, IsCause, IsCaused, brought, is_tick, is_last, sends_close_ok}
 use Rattle.amqp_session.specs.Sound.{is_finish}
 use Rattle.amqp_session.proofs.Heard.{secret-case}
 use Rattle.amqp_types.proofs.Small.{if_case, if_by, if-true, if-false, and-false, and-true, none-from, and-left, or-right}
@@ -514,6 +514,20 @@ turn-cause : (u : Turn) (e : Engine) (k : ErrorKind) → has_ended e.talk ≡ fa
 turn-cause u e k running h =
     elim ((ends-applied u (asks e)).by k h) [ inl before ↦ not-before k e.talk running (sym (asks-end e) ∙ before) | inr cause ↦ cause ]
 
+pub applied-ends : (u : Turn) (e : Engine) (k : ErrorKind) → has_ended e.talk ≡ false → end_of (applied u e).talk ≡ Some (Err k) → IsCause k u e
+applied-ends u e k running h = elim ((ends-applied u e).by k h) [ inl before ↦ not-before k e.talk running before | inr cause ↦ cause ]
+
+-- no session ends since no number was free
+limit-not : (r : Read) (answers : List Asked) (x : Engine) → IsReadError ChannelsLimitReached r answers x → ⊥
+limit-not (reading.Whole f n) answers x h = h.1.1
+limit-not (reading.TooLarge size) answers x h = cc
+limit-not (reading.BadHeartbeat channel) answers x h = cc
+limit-not reading.Bad answers x h = cc
+limit-not _ answers x h = h
+
+pub never-limit : (u : Turn) (e : Engine) → has_ended e.talk ≡ false → end_of (applied u e).talk ≡ Some (Err ChannelsLimitReached) → ⊥
+never-limit u e running h = limit-not _ _ _ (applied-ends u e ChannelsLimitReached running h).error_read
+
 -- the turn that is applied brings the error about
 pub applied-cause : (at : ℕ) (step : Step) (bytes : List ℕ) (notes : Notes) (e e' : Engine) (log log' : Option Log) (k : ErrorKind)
     → Applies at step bytes notes e e' log log' → has_ended e.talk ≡ false → end_of e'.talk ≡ Some (Err k) → IsCause k (turn_of at step bytes notes) e
@@ -534,12 +548,6 @@ turns-cause (u ∷ (v ∷ vs)) e k running may h =
     record { before = u ∷ later.before; last = later.last; split = ap (λ ws. u ∷ ws) later.split; cause = later.cause }
 
 -- and so does a run
-pub runs-bring : (n : ℕ) (e e' : Engine) (log log' : Option Log) (k : ErrorKind) → Runs n e e' log log' → has_ended e.talk ≡ false
-    → end_of e'.talk ≡ Some (Err k) → Brings k e e' log log'
-runs-bring n e e' log log' k r running h =
-    record {
-      us = r.us;
-      leads = r.leads;
-      tells = r.tells;
-      caused = turns-cause r.us e k running r.leads.may (ap (λ (x : Engine). end_of x.talk) r.leads.leaves ∙ h);
-    }
+pub runs-cause : (n : ℕ) (e e' : Engine) (log log' : Option Log) (k : ErrorKind) → (r : Runs n e e' log log') → has_ended e.talk ≡ false
+    → end_of e'.talk ≡ Some (Err k) → IsCaused k r.us e
+runs-cause n e e' log log' k r running h = turns-cause r.us e k running r.leads.may (ap (λ (x : Engine). end_of x.talk) r.leads.leaves ∙ h)

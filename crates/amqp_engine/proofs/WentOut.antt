@@ -46,6 +46,7 @@ use Rattle.amqp_engine.specs.Turn.{Turn, write_answers, Progress, asks, wants_as
 use Rattle.amqp_engine.specs.Engine.{step_questions}
 use Rattle.amqp_engine.specs.Sending.{Sending, nothing_sent, frames, frames_sent, items_sent, committed_in, committed_before, sent_in, offer_sending, offers_sending, step_sending}
 use Rattle.amqp_engine.specs.Saying.{applied_sending}
+use Rattle.amqp_engine.proofs.Cases.{no-command}
 use Rattle.amqp_engine.proofs.Settling.{settle-talk}
 use Rattle.amqp_engine.proofs.Commits.{with_frame, commit_one-is, encoding-some, commits-keep}
 use Rattle.amqp_engine.proofs.Lifting.{all-rest}
@@ -198,17 +199,6 @@ module _ (answers_taken : ℕ → Option (Result Answer ErrorKind)) (given : ℕ
   carries-cut Room e cs ss h = h
   carries-cut Tick e cs ss h = h
   carries-cut (Command c) e cs ss h = h
-
-  -- a step that is no part tells nothing
-  no-command : (step : Step) (e : Engine) → is_part step e ≡ false → command_of step ≡ []
-  no-command (Command c) e h = absurd cc
-  no-command Linked e h = refl
-  no-command LinkFailed e h = refl
-  no-command (Piece n) e h = refl
-  no-command End e h = refl
-  no-command Fault e h = refl
-  no-command Room e h = refl
-  no-command Tick e h = refl
 
   -- a step is taken, or the turn is cut before
   carries-part : (step : Step) (bytes : List ℕ) (p : Progress) (cs : List Cmd) (ss : List Sending) → Holds cs p.engine.talk ss

@@ -21,9 +21,9 @@ use Rattle.amqp_written_rules.proofs.Writable.{Fits, IsHeard, by-rules, spoken-w
 use Rattle.amqp_engine.specs.declared.port.Step.TheVariants.{Command}
 use Rattle.amqp_engine.specs.Engine.{Engine, begin}
 use Rattle.amqp_engine.specs.Turn.{Turn, IsToldCommand, IsTold, AreTold, StepCanBeTold, IsFit, AreFit, AreTurns, turns}
-use Rattle.amqp_engine.specs.Sending.{Sending, sendings}
-use Rattle.amqp_engine.specs.Saying.{HasSent, CommittedAgreed, CommittedWritable}
-use Rattle.amqp_engine.specs.Account.{IsNew}
+use Rattle.amqp_engine.specs.Sending.{sendings}
+use Rattle.amqp_engine.specs.Saying.{CommittedAgreed, CommittedWritable}
+use Rattle.amqp_engine.specs.Account.{IsNew, History, HasHistory}
 use Rattle.amqp_engine.proofs.SpokenLinks.{Fitting, kept-links, turns-keep, new-keeps, sent-keeps}
 
 -- ---- the numbers that were agreed
@@ -54,10 +54,10 @@ any-fitting =
       may = λ c told can. tt;
     }
 
-pub sent_agreed : (e : Engine) (ss : List Sending) → HasSent e ss → AllByRecursion CommittedAgreed ss
+pub sent_agreed : (e : Engine) (h : History) → HasHistory e h → AllByRecursion CommittedAgreed h.sent
 unfolding within-bounds
-sent_agreed e ss h =
-    kept-links within-bounds any-fitting KeepsAgreed tt spoken-agreed e ss (sent-keeps within-bounds any-fitting KeepsAgreed tt spoken-agreed e ss h tt)
+sent_agreed e h k =
+    kept-links within-bounds any-fitting KeepsAgreed tt spoken-agreed e h.sent (sent-keeps within-bounds any-fitting KeepsAgreed tt spoken-agreed e h k tt)
 
 pub turns_agreed : (t : Talk) (us : List Turn) → IsNew t → AreTurns us (begin t) → AllByRecursion CommittedAgreed (sendings t us)
 unfolding within-bounds any-fitting
@@ -126,10 +126,10 @@ both (u ∷ us) told fit = ((told.0, fit.0), both us told.1 fit.1)
 abbrev AreWritable : List Frame → Type 0
 AreWritable fs = AllByRecursion Writable fs
 
-pub sent_writable : (e : Engine) (ss : List Sending) → HasSent e ss → CanBeSaid e.talk.config → AllByRecursion CommittedWritable ss
+pub sent_writable : (e : Engine) (h : History) → HasHistory e h → CanBeSaid e.talk.config → AllByRecursion CommittedWritable h.sent
 unfolding by-rules
-sent_writable e ss h can =
-    kept-links by-rules all-fitting AreWritable tt spoken-writable e ss (sent-keeps by-rules all-fitting AreWritable tt spoken-writable e ss h can)
+sent_writable e h k can =
+    kept-links by-rules all-fitting AreWritable tt spoken-writable e h.sent (sent-keeps by-rules all-fitting AreWritable tt spoken-writable e h k can)
 
 pub turns_writable : (t : Talk) (us : List Turn) → IsNew t → CanBeSaid t.config → AreTurns us (begin t) → AreTold us → AreFit us
     → AllByRecursion CommittedWritable (sendings t us)

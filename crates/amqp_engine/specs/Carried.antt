@@ -1,12 +1,13 @@
 -- No send and no publish is torn, swapped or sent twice: what a client was told to send is what went out, and what was
 -- handed out came. It is said of what can be seen, and shares nothing with the rules of the session.
-use Rattle.std.specs.Prelude.{◌≡◌, ◌≢◌, ◌⊎◌, ℕ, suc, ◌&&◌, Bool, true, false, List, [], ◌∷◌, ◌++◌, map, filter, drop, slice_get, Option, Some, Result, Ok}
+use Rattle.std.specs.Prelude.{◌≡◌, ◌≢◌, ◌⊎◌, ◌<◌, ◌≤◌, ℕ, suc, ◌&&◌, Bool, true, false, List, [], ◌∷◌, ◌++◌, map, filter, drop, slice_get, Option, Some, Result, Ok, Err}
 use Rattle.std.specs.List.{flat_map, AllByRecursion}
 use Rattle.amqp_frame.specs.declared.frame.Frame.{Frame}
 use Rattle.amqp_frame.specs.declared.frame.Frame.TheVariants.{Raw}
 use Rattle.amqp_frame.specs.declared.frame.Read.TheVariants.{Whole}
 use Rattle.amqp_frame.specs.FrameReading.{front}
 use Rattle.amqp_promise.specs.declared.error.ErrorKind.{ErrorKind}
+use Rattle.amqp_promise.specs.declared.error.ErrorKind.TheVariants.{ChannelsLimitReached}
 use Rattle.amqp_session.specs.declared.command.Cmd.{Cmd}
 use Rattle.amqp_session.specs.declared.command.Cmd.TheVariants.{OpenChannel}
 use Rattle.amqp_session.specs.declared.command.Answer.{Answer}
@@ -19,8 +20,9 @@ use Rattle.amqp_carried_rules.specs.HandingOut.{handed_on}
 pub record Account : Type 0 where
   -- what it was told that is answered, in order: the first has the number 1
   pub commands : List Cmd
-  -- by number, what a command was answered, where it was
+  -- by number, what a command was answered, where it was, and the octets that had come on each link when it was told
   pub answers : ℕ → Option (Result Answer ErrorKind)
+  pub came_before : ℕ → List (List ℕ)
   -- the frames that were sent on each link, in order
   pub sent : List (List Frame)
   -- the octets that came on each link
@@ -115,13 +117,14 @@ abbrev pub frame_of : Handed → Frame
 frame_of h = Raw h.channel h.kind h.bytes
 
 -- a frame was handed out by the promise of a command that opens a channel; and where that was answered, but not with an
--- error, the answer is that the channel of the frame is open, and names the promise
+-- error, the answer is that the channel of the frame is open, and names the promise. It is not that no number was free
 pub record IsOpenedBy (a : Account) (opened : ℕ) (h : Handed) : Type 0 where
   -- how many commands came before it
   pub before : ℕ
   pub number : opened ≡ suc before
   pub command : slice_get a.commands before ≡ Some OpenChannel
   pub answer : (answer : Answer) → a.answers opened ≡ Some (Ok answer) → answer ≡ says.Channel h.channel opened
+  pub listed : a.answers opened ≢ Some (Err ChannelsLimitReached)
 
 -- these frames stand first in octets, one after another, each whole by some limit of a frame
 abbrev pub StandFirst : List ℕ → List Frame → Type 0
@@ -135,16 +138,36 @@ StandOnLinks [] [] = Unit {0}
 StandOnLinks (octets ∷ links) (fs ∷ read) = StandFirst octets fs × StandOnLinks links read
 StandOnLinks _ _ = ⊥
 
--- what was handed out came, once each and in order
-pub record CameIn (a : Account) : Type 0 where
-  -- frames that stand in what came, link by link
+-- frames that were handed out, with the promises that opened their channels, are some of those that stand in octets
+-- that came link by link, in order
+pub record AreSome (came : List (List ℕ)) (handed : List (ℕ × Handed)) : Type 0 where
   pub read : List (List Frame)
-  pub stand : StandOnLinks a.came read
+  pub stand : StandOnLinks came read
+  pub order : IsSubsequence (map (λ h. frame_of h.1) handed) (raw_frames (concatenated read))
+
+-- once a channel is opened, an earlier opening of its number is over: what was handed out before had come when that was
+-- told, and is by earlier promises; and of what is handed out after, nothing of this channel is by an earlier one
+pub record IsParted (came : List (List ℕ)) (channel opened : ℕ) (handed : List (ℕ × Handed)) : Type 0 where
+  pub before : List (ℕ × Handed)
+  pub after : List (ℕ × Handed)
+  pub all : handed ≡ before ++ after
+  pub had_come : AreSome came before
+  pub earlier : AllByRecursion (λ (h : ℕ × Handed). h.0 < opened) before
+  pub later : AllByRecursion (λ (h : ℕ × Handed). (h.1).channel ≡ channel → opened ≤ h.0) after
+
+-- what was handed out came, once each and in order, by the promise that opened its channel last
+pub record CameIn (a : Account) : Type 0 where
   -- all that was handed out, in order, with the promise that opened its channel
   pub handed : List (ℕ × Handed)
   pub each : (opened : ℕ) → handed_on opened handed ≡ a.handed opened
-  pub order : IsSubsequence (map (λ h. frame_of h.1) handed) (raw_frames (concatenated read))
+  pub came : AreSome a.came handed
   pub opened : (number : ℕ) → AllByRecursion (IsOpenedBy a number) (a.handed number)
+  -- a promise opens one channel
+  pub one : (number : ℕ) → (channel : ℕ) × AllByRecursion (λ (h : Handed). h.channel ≡ channel) (a.handed number)
+  -- an opening parts it, where its answer says which channel is open: so many commands came before it
+  pub parted : (before channel : ℕ) → slice_get a.commands before ≡ Some OpenChannel →
+      a.answers (suc before) ≡ Some (Ok (says.Channel channel (suc before))) →
+      IsParted (a.came_before (suc before)) channel (suc before) handed
 
 -- no send and no publish is torn, swapped or sent twice, and nothing is handed out that did not come
 pub record Carried (a : Account) : Type 0 where

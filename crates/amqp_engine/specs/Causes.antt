@@ -21,10 +21,8 @@ use Rattle.amqp_engine.specs.declared.port.Step.{Step}
 use Rattle.amqp_engine.specs.declared.port.Step.TheVariants.{LinkFailed, End, Fault, Tick}
 use Rattle.amqp_engine.specs.declared.port.Wrote.{Wrote}
 use Rattle.amqp_engine.specs.declared.port.Wrote.TheVariants.{Took, Failed, NoMemory as WroteNoMemory}
-use Rattle.amqp_engine.specs.Log.{Log}
 use Rattle.amqp_engine.specs.Engine.{Engine, front_of, can_read, commit_all, overlong_next}
-use Rattle.amqp_engine.specs.Turn.{Turn, write_answers, Progress, asks, begun, drain, goes, is_piece, read, reads, step_part, turns, Leads}
-use Rattle.amqp_engine.specs.Tell.{TellsTurns}
+use Rattle.amqp_engine.specs.Turn.{Turn, write_answers, Progress, asks, begun, drain, goes, is_piece, read, reads, step_part, turns}
 
 -- ---- faults
 
@@ -174,10 +172,3 @@ pub record IsCaused (k : ErrorKind) (us : List Turn) (e : Engine) : Type 0 where
   pub last : Turn
   pub split : us ≡ before ++ last ∷ []
   pub cause : IsCause k last (asks (turns before e))
-
--- some turns lead from here to there and are told, and the last of them brings about this error
-pub record Brings (k : ErrorKind) (e e' : Engine) (log log' : Option Log) : Type 0 where
-  pub us : List Turn
-  pub leads : Leads us e e'
-  pub tells : TellsTurns us e log log'
-  pub caused : IsCaused k us e

@@ -16,6 +16,8 @@ pub mod Saying
 -- What was told is what went out, and what was handed out came.
 pub mod Carried
 pub mod Account
+-- What an engine is made from can be said.
+pub mod Built
 -- The turns of a script that is played.
 pub mod Play
 -- Scripts of a faultless server.

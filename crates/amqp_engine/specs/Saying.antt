@@ -1,45 +1,23 @@
--- What an engine has said on its links since it was new.
-use Rattle.std.specs.Prelude.{◌≡◌, ◌≢◌, ℕ, false, List, [], ◌∷◌, ◌++◌, length, map, Option, Some, IfSome}
+-- What is claimed of what was said on a link.
+use Rattle.std.specs.Prelude.{◌≡◌, ◌≢◌, ℕ, false, List, [], ◌∷◌, ◌++◌, length, map}
 use Rattle.std.specs.List.{AllByRecursion}
 use Rattle.amqp_frame.specs.Frames.{encoding, Writable}
 use Rattle.amqp_frame.specs.Fronts.{IsWithinLimit}
 use Rattle.amqp_frame.specs.Sequences.{SequenceEnd, IsSequence}
 use Rattle.amqp_frame.specs.Sequences.SequenceEnd.{Broken}
-use Rattle.amqp_session.specs.declared.command.Cmd.{Cmd}
-use Rattle.amqp_session.specs.Config.{Config}
-use Rattle.amqp_session.specs.Talk.{start, is_asked, has_ended}
-use Rattle.amqp_session.specs.Commands.{command}
-use Rattle.amqp_session.specs.Answers.{take_answer, take_event, take_frames}
+use Rattle.amqp_session.specs.Talk.{is_asked, has_ended}
 use Rattle.amqp_legal.specs.Legal.{Legal}
 use Rattle.amqp_legal.specs.Agreed.{KeepsAgreed}
-use Rattle.amqp_written_rules.specs.Sayable.{CanBeTold}
 use Rattle.amqp_engine.specs.declared.given.Given.{Given}
 use Rattle.amqp_engine.specs.Plan.{step_of}
-use Rattle.amqp_engine.specs.Log.{Log, log_step}
-use Rattle.amqp_engine.specs.Engine.{Engine, begin, with_talk}
-use Rattle.amqp_engine.specs.Turn.{Turn, write_answers, IsToldCommand, IsTold, IsFit, asks, read, applied, IsApplied, Leads}
-use Rattle.amqp_engine.specs.Sending.{Sending, frames, encodings, items_sent, frames_sent, link_bytes, step_sending, offers_sending, sendings_from, SendsInOrder}
+use Rattle.amqp_engine.specs.Log.{Log}
+use Rattle.amqp_engine.specs.Engine.{Engine}
+use Rattle.amqp_engine.specs.Turn.{Turn, write_answers, IsTold, read}
+use Rattle.amqp_engine.specs.Sending.{Sending, frames, encodings, items_sent, frames_sent, link_bytes, step_sending, offers_sending, SendsInOrder}
 
 -- what was sent, once a turn was taken from its step on
 abbrev pub applied_sending : Turn → Engine → List Sending → List Sending
 applied_sending u e ss = offers_sending (write_answers u.notes) (read u e) (step_sending u.step e ss)
-
--- an engine that was new has sent this on its links, one after another: through its turns, and through what it was told
--- and what was taken of it between them
-pub data HasSent : Engine → List Sending → Type 0 where
-  new : (config : Config) → HasSent (begin (start config)) []
-  -- a link was asked for where one was wanted, as a turn begins
-  asked : {e : Engine} {ss : List Sending} → HasSent e ss → HasSent (asks e) ss
-  -- the rest of a turn
-  applies : {e : Engine} {ss : List Sending} (u : Turn) → has_ended e.talk ≡ false → IsApplied u e → IsTold u.step
-      → IsFit u → HasSent e ss → HasSent (applied u e) (applied_sending u e ss)
-  told : {e : Engine} {ss : List Sending} (c : Cmd) → IsToldCommand c → CanBeTold c → HasSent e ss
-      → HasSent (with_talk (command c) e) ss
-  answer_taken : {e : Engine} {ss : List Sending} (number : ℕ) → HasSent e ss
-      → HasSent (with_talk (take_answer number) e) ss
-  event_taken : {e : Engine} {ss : List Sending} → HasSent e ss → HasSent (with_talk take_event e) ss
-  frames_taken : {e : Engine} {ss : List Sending} (opened : ℕ) → HasSent e ss
-      → HasSent (with_talk (take_frames opened) e) ss
 
 -- what is told in a script may be told
 abbrev pub AreGivenTold : List Given → Type 0
@@ -98,22 +76,3 @@ pub record SpellLegal (sendings : List Sending) (links : List (List ℕ)) : Type
 pub record TellsLinks (e : Engine) (ss : List Sending) (log : Log) : Type 0 where
   pub links : log.links ≡ map link_bytes ss
   pub asked : has_ended e.talk ≡ false → log.asked ≡ is_asked e.talk
-
--- an engine that had sent so much went on by some turns, with what they send besides: it is in order and legal on each
--- link; and a port that told of its links before tells of them after
-pub record GoesOn (ss : List Sending) (e e' : Engine) (log log' : Option Log) : Type 0 where
-  pub us : List Turn
-  pub leads : Leads us e e'
-  pub sent : HasSent e' (sendings_from us e ss)
-  pub order : AllByRecursion SendsInOrder (sendings_from us e ss)
-  pub legal : AllByRecursion SentLegal (sendings_from us e ss)
-  pub tells : IfSome log (λ a. TellsLinks e ss a → IfSome log' (λ b. TellsLinks e' (sendings_from us e ss) b))
-
--- an engine that had sent so much took this turn from its step on, with what it sends besides: it is in order and legal
--- on each link; and a port that told of its links before the step, and then the step, tells of them after
-pub record GoesOnce (u : Turn) (ss : List Sending) (e e' : Engine) (log log' : Option Log) : Type 0 where
-  pub sent : HasSent e' (applied_sending u e ss)
-  pub order : AllByRecursion SendsInOrder (applied_sending u e ss)
-  pub legal : AllByRecursion SentLegal (applied_sending u e ss)
-  pub tells : (a : Log) → log ≡ Some (log_step u.at u.step u.bytes a) → TellsLinks e ss a
-      → IfSome log' (λ b. TellsLinks e' (applied_sending u e ss) b)

@@ -9,16 +9,17 @@ ghost use Rattle.amqp_session.specs.Talk.{Talk, start, is_open, has_ended, end_o
 ghost use Rattle.amqp_session.specs.ChannelMethods.{frames_of};
 ghost use Rattle.amqp_session.specs.Commands.{command as command_rule, promise_of};
 ghost use Rattle.amqp_session.specs.Answers.{HandsOut, Takes, TakesEvent, take_frames};
+ghost use Rattle.amqp_engine.specs.Built.{IsSayableAddress};
 ghost use Rattle.amqp_engine.specs.Engine.{Engine, begin, with_talk, starved_before};
-ghost use Rattle.amqp_engine.specs.Turn.{asks, no_notes};
+ghost use Rattle.amqp_engine.specs.Turn.{asks};
 ghost use Rattle.amqp_engine.specs.Tell.{AppliesNoted, TakesTurnLent, RunsLent, log_asks, turn_of};
 ghost use Rattle.amqp_engine.specs.declared.given.Given.{Given};
 ghost use Rattle.amqp_engine.specs.Log.{Log, loaded};
 ghost use Rattle.amqp_engine.specs.Unread.{IsRead};
 ghost use Rattle.amqp_engine.specs.Sending.{Sending};
-ghost use Rattle.amqp_engine.specs.Account.{IsNew, History, add_command, add_answer, add_frames, HasHistory, CarriesOn, CarriesOnce};
-ghost use Rattle.amqp_engine.specs.Saying.{HasSent, TellsLinks, GoesOn, GoesOnce};
-ghost use Rattle.amqp_engine.specs.Causes.{Brings, IsCause, brought, fault_of, is_counted};
+ghost use Rattle.amqp_engine.specs.Account.{IsNew, History, add_command, add_answer, add_frames, HasHistory, CarriesOnce, Ran};
+ghost use Rattle.amqp_engine.specs.Saying.{TellsLinks};
+ghost use Rattle.amqp_engine.specs.Causes.{IsCause, brought, fault_of, is_counted};
 ghost use Rattle.amqp_types.specs.Counts.{Rose};
 ghost use Rattle.amqp_engine.specs.Play.{IsPlayed};
 ghost use Rattle.amqp_engine.specs.Valid.{RunsValid};
@@ -37,6 +38,19 @@ use amqp_uri::AMQPUri;
 use std::alloc::Global;
 use std::fmt;
 use std::marker::Model;
+
+// What an address says is what its types can hold. It is called for this clause alone.
+fn hold_address(uri: &AMQPUri)
+    ensures { IsSayableAddress uri.now }
+{
+    let query = &uri.query;
+    let _held = (
+        uri.vhost.len(),
+        query.channel_max.unwrap_or(0),
+        query.frame_max.unwrap_or(0),
+        query.heartbeat.unwrap_or(0),
+    );
+}
 
 /// The greatest number of bytes of a piece.
 const PIECE: usize = 4096;
@@ -95,8 +109,10 @@ impl IoLoop {
     /// memory of both buffers and of the scratch.
     pub fn new(alloc: Global, uri: &AMQPUri, options: ConnectionProperties) -> Result<IoLoop>
         ensures ok { IfOk result (λ l. l ≡ begin (start (config_of uri.now options.plain))) }
+        ensures address { IsSayableAddress uri.now }
         ensures err { IfErr result (λ e. e ≡ ErrorKind.NoMemory) }
     {
+        hold_address(uri);
         Ok(IoLoop::make(alloc, uri, options)?)
     }
 
@@ -128,7 +144,7 @@ impl IoLoop {
     ) -> Result<()>
         requires { A.can provider.old }
         ensures can { A.can provider.new }
-        ensures turns { RunsLent turns self.old self.new (P.log port.old) (P.log port.new)
+        ensures turns { Ran turns self.old self.new (P.log port.old) (P.log port.new)
             (A.allows provider.old) (A.allows provider.new) }
         ensures ended { IfSome (end_of self.new.talk) (λ end. HandsOut (Some end) (Some result)) }
         ensures out_of_turns { has_ended self.new.talk ≡ false → result ≡ Err ErrorKind.OutOfTurns }
@@ -136,10 +152,6 @@ impl IoLoop {
             → has_ended self.new.talk ≡ false }
         ensures played { IfSome (P.log port.old) (λ log. IsSome log.plan → self.new.starved ≡ None
             → IsPlayed turns self.old self.new log (P.log port.new) (A.allows provider.old)) }
-        ensures legal { (ss : List Sending) → HasSent self.old ss
-            → GoesOn ss self.old self.new (P.log port.old) (P.log port.new) }
-        ensures carried { (h : History) → HasHistory self.old h
-            → CarriesOn turns h self.old self.new (P.log port.old) (P.log port.new) }
         ensures valid { (t : Talk) (gs : List Given) → IsNew t → self.old ≡ begin t
             → P.log port.old ≡ Some (loaded gs) → length gs ≤ turns → self.new.starved ≡ None
             → RunsValid turns t gs self.new (P.log port.new) (A.allows provider.old) }
@@ -153,8 +165,6 @@ impl IoLoop {
         ensures refusal_counted { (text : Text) → has_ended self.old.talk ≡ false
             → end_of self.new.talk ≡ Some (Err (ErrorKind.AuthProviderError text))
             → Rose (A.refusals provider.old) (A.refusals provider.new) }
-        ensures cause { (k : ErrorKind) → has_ended self.old.talk ≡ false → end_of self.new.talk ≡ Some (Err k)
-            → Brings k self.old self.new (P.log port.old) (P.log port.new) }
     {
         self.take_turns(port, provider, turns);
         match self.wire.session().end() {
@@ -230,8 +240,8 @@ impl IoLoop {
     }
 
     /// One turn after its step was taken; the bytes are those of its piece. What the server asks of its
-    /// client is answered by the provider. What is noted of the turn is put into the record, which is
-    /// empty before. Where memory is refused, the session has ended.
+    /// client is answered by the provider. What is noted of the turn is put into the record, in place of
+    /// what that had. Where memory is refused, the session has ended.
     pub fn apply<P: Port, A: AuthProvider>(
         &mut self,
         told: Told,
@@ -241,7 +251,6 @@ impl IoLoop {
         notes: &mut Record,
     ) -> Result<()>
         requires can { A.can provider.old }
-        requires blank { notes.old ≡ no_notes }
         ensures can { A.can provider.new }
         ensures turn { AppliesNoted told.at told.step bytes.now notes.new self.old self.new (P.log port.old)
             (P.log port.new) (A.allows provider.old) (A.allows provider.new) }
@@ -250,11 +259,9 @@ impl IoLoop {
         ensures ended { OnErr result (IsTrue (has_ended self.new.talk)) }
         ensures over { OnErr result (has_ended self.old.talk ≡ true → self.new ≡ self.old) }
         ensures only { IfErr result (λ e. e ≡ ErrorKind.NoMemory) }
-        ensures legal { (ss : List Sending) → has_ended self.old.talk ≡ false → HasSent self.old ss
-            → GoesOnce (turn_of told.at told.step bytes.now notes.new) ss self.old self.new
-            (P.log port.old) (P.log port.new) }
         ensures carried { (h : History) → has_ended self.old.talk ≡ false → HasHistory self.old h
-            → CarriesOnce (turn_of told.at told.step bytes.now notes.new) h self.old self.new }
+            → CarriesOnce (turn_of told.at told.step bytes.now notes.new) h self.old self.new
+            (P.log port.old) (P.log port.new) }
         ensures read { IsRead self.new }
         ensures faults { P.faults port.old ≤ P.faults port.new }
         ensures kept { P.kept port.new ≡ P.kept port.old }
@@ -271,6 +278,7 @@ impl IoLoop {
     {
         told.step.hold();
         let mut noted = notes.take();
+        noted.clear();
         let applied = self.wire.apply(told, bytes, port, provider, &mut noted);
         notes.put(noted);
         Ok(applied?)
@@ -279,7 +287,6 @@ impl IoLoop {
     /// Memory was refused before a turn: the session ends for want of it. What has ended stays as it is.
     pub fn starve(&mut self, at: u64)
         ensures engine { self.new ≡ starved_before at self.old }
-        ensures legal { (ss : List Sending) → HasSent self.old ss → HasSent self.new ss }
         ensures links { (ss : List Sending) (log : Log) → TellsLinks self.old ss log → TellsLinks self.new ss log }
         ensures carried { (h : History) → HasHistory self.old h → HasHistory self.new h }
     {
@@ -293,7 +300,6 @@ impl IoLoop {
         ensures number { IfOk result (λ number. number ≡ promise_of command self.old.talk) }
         ensures err { OnErr result (self.new ≡ self.old) }
         ensures only { IfErr result (λ e. e ≡ ErrorKind.NoMemory) }
-        ensures legal { (ss : List Sending) → HasSent self.old ss → HasSent self.new ss }
         ensures links { (ss : List Sending) (log : Log) → TellsLinks self.old ss log → TellsLinks self.new ss log }
         ensures carried { (h : History) → HasHistory self.old h
             → MatchResult result (λ _. HasHistory self.new (add_command command h)) (λ _. HasHistory self.new h) }

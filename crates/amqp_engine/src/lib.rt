@@ -24,8 +24,8 @@ pub use laws::{
     a_link_has_the_frames_sent, a_run_goes_on, a_run_without_turns_touches_nothing,
     a_script_has_its_turns, a_valid_script_ends_closed, agreed_numbers_are_kept,
     an_end_has_its_cause, conversations_are_legal, nothing_whole_is_left_unread,
-    the_links_spell_what_is_said, what_is_said_can_be_written, what_is_said_is_read_back,
-    what_is_told_is_carried,
+    the_links_spell_what_is_said, what_is_built_can_be_said, what_is_said_can_be_written,
+    what_is_said_is_read_back, what_is_told_is_carried,
 };
 pub use memory_port::MemoryPort;
 pub use port::{Happening, Port, ScriptedPort, Step, Told, Write, Wrote};

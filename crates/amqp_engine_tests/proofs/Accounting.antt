@@ -1,5 +1,6 @@
 -- Which accounts are carried.
-use Rattle.std.proofs.Common.{◌≡◌, inl, inr, ℕ, zero, suc, ◌==◌, Bool, true, false, List, [], ◌∷◌, ◌++◌, map, Some, Ok, refl, ap, sym, subst, if◌then◌else◌, ◌∙◌, arith, append-nil, true≢false, drop, slice_get, ◌&&◌, nat_lt}
+use Rattle.std.specs.Prelude.{filter}
+use Rattle.std.proofs.Common.{◌≡◌, ◌≤◌, inl, inr, ℕ, zero, suc, ◌==◌, Bool, true, false, List, [], ◌∷◌, ◌++◌, map, Some, Ok, refl, ap, sym, subst, if◌then◌else◌, ◌∙◌, arith, append-nil, true≢false, drop, slice_get, ◌&&◌, nat_lt}
 use Rattle.std.specs.List.{flat_map, AllByRecursion}
 use Rattle.std.proofs.lemmas.List.Concat.{flat_map-append}
 use Rattle.amqp_frame.specs.declared.frame.Frame.{Frame}
@@ -8,16 +9,16 @@ use Rattle.amqp_frame.specs.declared.frame.RawKind.TheVariants.{Body}
 use Rattle.amqp_frame.specs.declared.frame.Read.TheVariants.{Whole, More, TooLarge}
 use Rattle.amqp_frame.specs.FrameReading.{front, framed, sized, ended, content as content_in, method_payload}
 use Rattle.amqp_session.specs.declared.command.Cmd.{Cmd}
-use Rattle.amqp_session.specs.declared.command.Cmd.TheVariants.{Send}
+use Rattle.amqp_session.specs.declared.command.Cmd.TheVariants.{OpenChannel, Send}
 use Rattle.amqp_session.specs.declared.command.Answer.{Answer}
 use Rattle.amqp_session.specs.declared.command.Answer.TheVariants as says
 use Rattle.amqp_session.specs.declared.handed.Handed.{Handed}
 use Rattle.amqp_carried_rules.specs.CommandFrames.{AreFramesOf, AreContentFrames, is_publish}
 use Rattle.amqp_carried_rules.specs.HandingOut.{handed_on}
 use Rattle.std.proofs.lemmas.Bool.{cases_eq}
-use Rattle.amqp_types.proofs.Small.{other-number}
-use Rattle.amqp_engine.specs.Carried.{Account, answered_sent, Carried, WentOut, IsOpenedBy, IsTorn, AreCut, AreSent, Merges, IsSubsequence, concatenated, raw_frames, frame_of, StandFirst, StandOnLinks}
-use Rattle.amqp_engine_tests.specs.Accounts.{one, no_properties, publish, sent_by, qos, get, basic_publish, body, said, header, content, delivery, by_promise, all_sent, cut_off, torn_and_sent, swapped, twice, on_two_links, torn_over_links, other_body, made_up, not_whole, opened_by_none, by_another, heartbeat_octets, qos_octets, body_octets, body_begun}
+use Rattle.amqp_types.proofs.Small.{if_case, other-number, the-number}
+use Rattle.amqp_engine.specs.Carried.{Account, answered_sent, Carried, WentOut, IsOpenedBy, IsParted, IsTorn, AreCut, AreSent, Merges, IsSubsequence, concatenated, raw_frames, frame_of, StandFirst, StandOnLinks}
+use Rattle.amqp_engine_tests.specs.Accounts.{one, no_properties, publish, sent_by, qos, get, basic_publish, body, said, header, content, delivery, by_promise, all_sent, cut_off, torn_and_sent, swapped, twice, on_two_links, torn_over_links, other_body, made_up, not_whole, opened_by_none, by_another, by_an_earlier, by_a_refused, of_two_channels, heartbeat_octets, qos_octets, body_octets, body_begun}
 
 -- what was handed out by a promise, and by no other
 by-none : (opened number : ℕ) → ((opened ≡ number) → ⊥) → by_promise number opened ≡ []
@@ -38,7 +39,7 @@ opened-one number =
     let P : ℕ → Type 0 = λ n. AllByRecursion (IsOpenedBy all_sent n) (all_sent.handed n) in
     let Q : List Handed → Type 0 = λ hs. AllByRecursion (IsOpenedBy all_sent number) hs in
     elim (cases_eq number 1) [
-      | inl same ↦ subst P (sym same) (record { before = 0; number = refl; command = refl; answer = its_answer }, tt)
+      | inl same ↦ subst P (sym same) (record { before = 0; number = refl; command = refl; answer = its_answer; listed = λ is. cc }, tt)
       | inr other ↦ subst Q (sym (by-none number 1 other)) tt
     ]
   where
@@ -49,6 +50,23 @@ opened-one number =
 all-stand : StandFirst (heartbeat_octets ++ qos_octets ++ body_octets ++ body_begun) (Heartbeat ∷ said qos ∷ Raw 1 Body body ∷ [])
 unfolding front framed sized ended content_in method_payload
 all-stand = (4096, 8, refl, (4096, 19, refl, (4096, 11, refl, tt)))
+
+-- only the first command opens a channel, and nothing had come before it
+all-parted : (before channel : ℕ) → slice_get all_sent.commands before ≡ Some OpenChannel → all_sent.answers (suc before) ≡ Some (Ok (says.Channel channel (suc before)))
+    → IsParted [] channel (suc before) ((1, delivery) ∷ [])
+all-parted zero channel told is =
+    record {
+      before = [];
+      after = (1, delivery) ∷ [];
+      all = refl;
+      had_come = record { read = []; stand = tt; order = IsSubsequence.none };
+      earlier = tt;
+      later = (λ same. omega arith, tt);
+    }
+all-parted (suc zero) channel told is = absurd cc
+all-parted (suc (suc zero)) channel told is = absurd cc
+all-parted (suc (suc (suc zero))) channel told is = absurd cc
+all-parted (suc (suc (suc (suc n)))) channel told is = absurd cc
 
 pub all-sent-carried : Carried all_sent
 all-sent-carried =
@@ -68,12 +86,17 @@ all-sent-carried =
           };
       came_in =
           record {
-            read = (Heartbeat ∷ said qos ∷ Raw 1 Body body ∷ []) ∷ [];
-            stand = (all-stand, tt);
             handed = (1, delivery) ∷ [];
             each = each-one;
-            order = IsSubsequence.left_out (IsSubsequence.kept IsSubsequence.none);
+            came =
+                record {
+                  read = (Heartbeat ∷ said qos ∷ Raw 1 Body body ∷ []) ∷ [];
+                  stand = (all-stand, tt);
+                  order = IsSubsequence.left_out (IsSubsequence.kept IsSubsequence.none);
+                };
             opened = opened-one;
+            one = λ number. (1, if_case (λ (hs : List Handed). AllByRecursion (λ (h : Handed). h.channel ≡ 1) hs) (number == 1) (delivery ∷ []) [] (refl, tt) tt);
+            parted = all-parted;
           };
     }
 
@@ -273,7 +296,7 @@ none-handed (h ∷ hs) is order = elim order [ ]
 pub made-up-not-carried : Carried made_up → ⊥
 made-up-not-carried c =
     let came = c.came_in in
-    nothing-came came.read came.stand came.order
+    nothing-came came.came.read came.came.stand came.came.order
   where
     nothing-came : (read : List (List Frame)) → StandOnLinks [] read → IsSubsequence (map (λ h. frame_of h.1) c.came_in.handed) (raw_frames (concatenated read)) → ⊥
     nothing-came [] stand order = none-handed c.came_in.handed (c.came_in.each 1) order
@@ -290,7 +313,7 @@ begun-only limit n f is = by (nat_lt limit 11) is where
 pub not-whole-not-carried : Carried not_whole → ⊥
 not-whole-not-carried c =
     let came = c.came_in in
-    none-read came.read came.stand came.order
+    none-read came.came.read came.came.stand came.came.order
   where
     none-read : (read : List (List Frame)) → StandOnLinks (body_begun ∷ []) read → IsSubsequence (map (λ h. frame_of h.1) c.came_in.handed) (raw_frames (concatenated read)) → ⊥
     none-read [] stand order = absurd stand
@@ -307,6 +330,41 @@ by-another-not-carried c =
     let by = (c.came_in.opened 2).0 in
     let same : says.Channel 2 2 ≡ says.Channel 1 2 = by.answer (says.Channel 2 2) refl in
     cc
+
+-- where nothing of channel 1 is by an earlier promise than 2, the first hands out nothing of it
+none-earlier : (hs : List (ℕ × Handed)) → AllByRecursion (λ (h : ℕ × Handed). (h.1).channel ≡ 1 → 2 ≤ h.0) hs → handed_on 1 hs ≡ delivery ∷ [] → ⊥
+none-earlier [] all is = cc
+none-earlier (h ∷ hs) all is = by (h.0 == 1) refl is (none-earlier hs all.1) where
+  by : (b : Bool) → (h.0 == 1) ≡ b → map (λ (x : ℕ × Handed). x.1) (if b then h ∷ filter (λ (x : ℕ × Handed). x.0 == 1) hs else filter (λ (x : ℕ × Handed). x.0 == 1) hs) ≡ delivery ∷ []
+      → (handed_on 1 hs ≡ delivery ∷ [] → ⊥) → ⊥
+  by true one same rest =
+      let first : h.1 ≡ delivery = cc in
+      let number : h.0 ≡ 1 = the-number h.0 1 one in
+      let later : 2 ≤ h.0 = all.0 (ap (λ (x : Handed). x.channel) first) in
+      absurd (omega (arith, number, later))
+  by false other same rest = rest same
+
+pub by-an-earlier-not-carried : Carried by_an_earlier → ⊥
+by-an-earlier-not-carried c =
+    let d = c.came_in.parted 1 1 refl refl in
+    let none_before : d.before ≡ [] = nothing d.before d.had_come.read d.had_come.stand d.had_come.order in
+    let after : c.came_in.handed ≡ d.after = d.all ∙ ap (λ (hs : List (ℕ × Handed)). hs ++ d.after) none_before in
+    none-earlier d.after d.later (ap (handed_on 1) (sym after) ∙ c.came_in.each 1)
+  where
+    nothing : (hs : List (ℕ × Handed)) (read : List (List Frame)) → StandOnLinks [] read → IsSubsequence (map (λ h. frame_of h.1) hs) (raw_frames (concatenated read)) → hs ≡ []
+    nothing [] read stand order = refl
+    nothing (h ∷ hs) [] stand order = elim order [ ]
+    nothing (h ∷ hs) (fs ∷ read) stand order = absurd stand
+
+pub by-a-refused-not-carried : Carried by_a_refused → ⊥
+by-a-refused-not-carried c = absurd ((c.came_in.opened 1).0.listed refl)
+
+pub of-two-channels-not-carried : Carried of_two_channels → ⊥
+of-two-channels-not-carried c =
+    let one = c.came_in.one 1 in
+    let first : 1 ≡ one.0 = one.1.0 in
+    let second : 2 ≡ one.0 = one.1.1.0 in
+    absurd (omega (arith, first, second))
 
 -- a publish that is cut off with its link
 pub cut-off-carried : Carried cut_off
@@ -339,5 +397,19 @@ cut-off-carried =
             are_publishes = AreSent.other refl (AreSent.other refl AreSent.none);
             in_turns = Merges.left Merges.none;
           };
-      came_in = record { read = []; stand = tt; handed = []; each = λ opened. refl; order = IsSubsequence.none; opened = λ number. tt };
+      came_in =
+          record {
+            handed = [];
+            each = λ opened. refl;
+            came = record { read = []; stand = tt; order = IsSubsequence.none };
+            opened = λ number. tt;
+            one = λ number. (1, tt);
+            parted = none-opened;
+          };
     }
+  where
+    none-opened : (before channel : ℕ) → slice_get cut_off.commands before ≡ Some OpenChannel → cut_off.answers (suc before) ≡ Some (Ok (says.Channel channel (suc before)))
+        → IsParted [] channel (suc before) []
+    none-opened zero channel told is = absurd cc
+    none-opened (suc zero) channel told is = absurd cc
+    none-opened (suc (suc n)) channel told is = absurd cc

@@ -1,11 +1,12 @@
 -- What can be seen of some clients, as it may be and as it may not.
-use Rattle.std.specs.Prelude.{ℕ, ◌==◌, ◌||◌, if◌then◌else◌, Bool, false, List, [], ◌∷◌, ◌++◌, map, Option, Some, None, Result, Ok}
+use Rattle.std.specs.Prelude.{ℕ, ◌==◌, ◌||◌, if◌then◌else◌, Bool, false, List, [], ◌∷◌, ◌++◌, map, Option, Some, None, Result, Ok, Err}
 use Rattle.amqp_frame.specs.declared.frame.Frame.{Frame}
 use Rattle.amqp_frame.specs.declared.frame.Frame.TheVariants.{Heartbeat, Method, Raw}
 use Rattle.amqp_frame.specs.declared.frame.RawKind.TheVariants.{RawMethod, Header, Body}
 use Rattle.amqp_frame.specs.declared.method.Method.TheVariants.{ChannelOpen}
 use Rattle.amqp_frame.specs.RawMethods.{OtherMethod, spell_raw_method}
 use Rattle.amqp_promise.specs.declared.error.ErrorKind.{ErrorKind}
+use Rattle.amqp_promise.specs.declared.error.ErrorKind.TheVariants.{ChannelsLimitReached}
 use Rattle.amqp_session.specs.declared.command.ChanRef.{ChanRef}
 use Rattle.amqp_session.specs.declared.command.Cmd.{Cmd}
 use Rattle.amqp_session.specs.declared.command.Cmd.TheVariants.{OpenChannel, Send, Publish}
@@ -68,7 +69,11 @@ qos_octets =
 abbrev pub body_octets : List ℕ
 body_octets = 3 ∷ 0 ∷ 1 ∷ 0 ∷ 0 ∷ 0 ∷ 3 ∷ 1 ∷ 2 ∷ 3 ∷ 206 ∷ []
 
--- the first of the last
+-- those of the same body on channel 2
+abbrev pub body_octets_2 : List ℕ
+body_octets_2 = 3 ∷ 0 ∷ 2 ∷ 0 ∷ 0 ∷ 0 ∷ 3 ∷ 1 ∷ 2 ∷ 3 ∷ 206 ∷ []
+
+-- the first of those on channel 1
 abbrev pub body_begun : List ℕ
 body_begun = 3 ∷ 0 ∷ 1 ∷ 0 ∷ 0 ∷ 0 ∷ 3 ∷ 1 ∷ 2 ∷ []
 
@@ -92,6 +97,7 @@ sent_by commands answered links =
     record {
       commands = commands;
       answers = λ n. sent_where (answered n);
+      came_before = λ n. [];
       sent = links;
       came = [];
       handed = λ opened. [];
@@ -101,7 +107,11 @@ sent_by commands answered links =
 abbrev pub delivery : Handed
 delivery = record { channel = 1; kind = Body; bytes = body }
 
--- it was handed out by the promise of this number
+-- the same on channel 2
+abbrev pub delivery_2 : Handed
+delivery_2 = record { channel = 2; kind = Body; bytes = body }
+
+-- the first was handed out by the promise of this number
 abbrev pub by_promise : ℕ → ℕ → List Handed
 by_promise number opened = if opened == number then delivery ∷ [] else []
 
@@ -112,6 +122,7 @@ all_sent =
       commands = OpenChannel ∷ Send one qos ∷ publish ∷ Send one get ∷ [];
       answers = λ n.
           if n == 1 then Some (Ok (says.Channel 1 1)) else sent_where (n == 2 || (n == 3 || n == 4));
+      came_before = λ n. [];
       sent =
           (Method 1 ChannelOpen ∷ said qos ∷ content ((1 ∷ 2 ∷ []) ∷ (3 ∷ []) ∷ []) ++ Heartbeat ∷ said get ∷ []) ∷ [];
       came = (heartbeat_octets ++ qos_octets ++ body_octets ++ body_begun) ∷ [];
@@ -158,6 +169,7 @@ not_whole =
     record {
       commands = OpenChannel ∷ [];
       answers = λ n. if n == 1 then Some (Ok (says.Channel 1 1)) else None;
+      came_before = λ n. [];
       sent = (Method 1 ChannelOpen ∷ []) ∷ [];
       came = body_begun ∷ [];
       handed = by_promise 1;
@@ -175,7 +187,45 @@ by_another =
       commands = OpenChannel ∷ OpenChannel ∷ [];
       answers = λ n.
           if n == 1 then Some (Ok (says.Channel 1 1)) else if n == 2 then Some (Ok (says.Channel 2 2)) else None;
+      came_before = λ n. [];
       sent = (Method 1 ChannelOpen ∷ Method 2 ChannelOpen ∷ []) ∷ [];
       came = body_octets ∷ [];
       handed = by_promise 2;
+    }
+
+-- channel 1 was opened twice, and after that a frame came, and was handed out by the promise that opened it first
+abbrev pub by_an_earlier : Account
+by_an_earlier =
+    record {
+      commands = OpenChannel ∷ OpenChannel ∷ [];
+      answers = λ n.
+          if n == 1 then Some (Ok (says.Channel 1 1)) else if n == 2 then Some (Ok (says.Channel 1 2)) else None;
+      came_before = λ n. [];
+      sent = (Method 1 ChannelOpen ∷ Method 1 ChannelOpen ∷ []) ∷ [];
+      came = body_octets ∷ [];
+      handed = by_promise 1;
+    }
+
+-- no number was free for the channel that a promise was to open, and yet it handed out a frame that came
+abbrev pub by_a_refused : Account
+by_a_refused =
+    record {
+      commands = OpenChannel ∷ [];
+      answers = λ n. if n == 1 then Some (Err ChannelsLimitReached) else None;
+      came_before = λ n. [];
+      sent = [];
+      came = body_octets ∷ [];
+      handed = by_promise 1;
+    }
+
+-- a promise hands out frames of two channels, and is not answered
+abbrev pub of_two_channels : Account
+of_two_channels =
+    record {
+      commands = OpenChannel ∷ [];
+      answers = λ n. None;
+      came_before = λ n. [];
+      sent = [];
+      came = (body_octets ++ body_octets_2) ∷ [];
+      handed = λ opened. if opened == 1 then delivery ∷ delivery_2 ∷ [] else [];
     }

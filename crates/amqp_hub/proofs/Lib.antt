@@ -4,3 +4,7 @@ pub mod Placing
 pub mod Keeping
 -- A command stands once, and none is missing.
 pub mod Once
+-- What is done about a mark that was found.
+pub mod Owning
+-- Where the places of handles stand.
+pub mod Standing

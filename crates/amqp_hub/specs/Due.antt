@@ -51,7 +51,8 @@ channel_due (Some id) opened t =
     let r : ChanRef = record { id = id; opened = Some opened } in
     listed_due t.state (channel_state r t) r
 
--- what is done about what this owned
+-- what is done about what this owned; an answer needs no command
 abbrev pub due_of : Talk → Owner → Due
 due_of t owner.Connection = connection_due t.state (length t.channels == 0)
 due_of t (owner.Channel opened) = channel_due (opening opened t) opened t
+due_of t (owner.Answer number) = Never

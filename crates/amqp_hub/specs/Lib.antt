@@ -6,3 +6,7 @@ pub mod Guarded
 pub mod Entering
 -- what is done about what was let go
 pub mod Due
+-- where the marks of dropped handles are found
+pub mod Marks
+-- and what is then done
+pub mod Owning

@@ -9,6 +9,8 @@ pub enum Owner {
     Connection,
     /// The channel that this promise opened.
     Channel(u64),
+    /// The answer to this promise.
+    Answer(u64),
 }
 
 /// What is done about that.

@@ -20,6 +20,7 @@ ghost use Rattle.amqp_hub.specs.Entering.{with_engine, called, next_entry, Takes
 
 mod entering;
 mod looking;
+mod owning;
 mod passes;
 
 use crate::base::Base;

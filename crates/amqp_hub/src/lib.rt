@@ -10,9 +10,11 @@ mod base;
 mod due;
 mod hub;
 mod laws;
+mod marks;
 
 pub use amqp_journal::{Entry, Turn};
 pub use base::Base;
 pub use due::{Due, Owner};
 pub use hub::{Ended, Hub, Pass, Receipt, Tally};
 pub use laws::a_command_stands_once;
+pub use marks::{DropMark, Found, Made, Places};

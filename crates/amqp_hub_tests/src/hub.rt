@@ -26,15 +26,15 @@ fn opened(alloc: Global) -> Outcome<Over> {
     }
 }
 
-// Whether a receipt holds these numbers: of the pass, of the place, of the entry. It takes the receipt.
-fn names(receipt: Receipt, wanted: (u32, u64, u64)) -> bool {
+/// Whether a receipt holds these numbers: of the pass, of the place, of the entry. It takes the receipt.
+pub fn names(receipt: Receipt, wanted: (u32, u64, u64)) -> bool {
     let held = (receipt.pass(), receipt.nth(), receipt.entry());
     drop(receipt);
     held == wanted
 }
 
-// Whether a channel that is opened with this pass makes this promise, with a receipt of these numbers.
-fn opens(hub: &mut Hub, pass: &mut Pass, promise: u64, wanted: (u32, u64, u64)) -> bool {
+/// Whether a channel that is opened with this pass makes this promise, with a receipt of these numbers.
+pub fn opens(hub: &mut Hub, pass: &mut Pass, promise: u64, wanted: (u32, u64, u64)) -> bool {
     match hub.command(pass, Cmd::OpenChannel) {
         Ok((number, receipt)) => names(receipt, wanted) && number == Some(promise),
         Err(error) => {

@@ -4,4 +4,6 @@
 #[cfg(test)]
 mod hub;
 #[cfg(test)]
+mod memory;
+#[cfg(test)]
 mod support;

@@ -1,9 +1,10 @@
 //! What a session says of the channels of a pool.
 
-ghost use Rattle.std.specs.Prelude.{◌≡◌, ◌<◌, ◌^◌, None, IfSome, IfNone, find, filter, length, vec_capacity};
+ghost use Rattle.std.specs.Prelude.{◌≡◌, ◌<◌, ◌^◌, None, IfSome, IfNone, nat_lt, find, filter, length, vec_capacity};
+ghost use Rattle.std.specs.List.{list_all};
 ghost use Rattle.amqp_outbox.specs.Lists.{IsFirstAt};
 ghost use Rattle.amqp_pool.specs.Lost.{is_lost, is_lost_state, is_ready_state};
-ghost use Rattle.amqp_pool.specs.Pooled.{is_same_channel};
+ghost use Rattle.amqp_pool.specs.Pooled.{is_same_channel, opened_by};
 ghost use Rattle.amqp_pool.specs.Looking.{Sees, is_taken, stays_idle};
 
 use amqp_promise::ChannelState;
@@ -108,4 +109,25 @@ pub fn place_of(channels: &[ChanRef], wanted: ChanRef) -> Option<usize>
         }
     }
     None
+}
+
+/// Whether each of these channels was opened by a promise below a bound.
+pub fn are_opened_below(channels: &[ChanRef], bound: u64) -> bool
+    ensures { result ≡ list_all (λ r. nat_lt (opened_by r) bound) channels.now }
+{
+    channels.iter().all(|channel| opened_by(*channel) < bound)
+}
+
+/// Whether each of these promises is below a bound.
+pub fn are_below(promises: &[u64], bound: u64) -> bool
+    ensures { result ≡ list_all (λ n. nat_lt n bound) promises.now }
+{
+    promises.iter().all(|promise| *promise < bound)
+}
+
+// The promise that opened a channel.
+fn opened_by(channel: ChanRef) -> u64
+    ensures { result ≡ opened_by channel }
+{
+    channel.opened.unwrap_or(0)
 }

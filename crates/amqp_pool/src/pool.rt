@@ -1,9 +1,9 @@
 //! Pools of channels.
 
-ghost use Rattle.std.specs.Prelude.{◌≡◌, ◌≤◌, ◌<◌, ◌+◌, ◌^◌, ℕ, IfOk, IfErr, OnOk, OnErr, length, vec_len, vec_capacity};
+ghost use Rattle.std.specs.Prelude.{◌≡◌, ◌≤◌, ◌<◌, ◌+◌, ◌^◌, ℕ, IsTrue, IsFalse, IfOk, IfErr, OnOk, OnErr, length, vec_len, vec_capacity};
 ghost use Rattle.amqp_session.specs.Answers.{answer_of};
 ghost use Rattle.amqp_hub.specs.Entering.{with_engine};
-ghost use Rattle.amqp_pool.specs.Pooled.{empty_pool, AreMade, times};
+ghost use Rattle.amqp_pool.specs.Pooled.{empty_pool, AreMade, above, opening_promises, times};
 ghost use Rattle.amqp_pool.specs.Leasing.{AsksForOne, IsLeased, IsLeaseRefused, after_lease, hub_after_lease, made_after_lease, IsBack, after_back};
 ghost use Rattle.amqp_pool.specs.Collecting.{collected, collected_count, TakesEach};
 
@@ -155,6 +155,23 @@ impl Pool {
                 Back::Kept
             }
         }
+    }
+
+    /// Whether this hub made as many promises as the channels of the pool name: the condition of each call
+    /// with a hub. It is for a hub that is lent, of which nothing else is known, and looks at each channel
+    /// once.
+    pub fn fits(&self, hub: &Hub) -> bool
+        ensures yes { IsTrue result → AreMade self.now hub.now.engine.talk }
+        ensures no { IsFalse result → hub.now.engine.talk.made < above (opening_promises self.now) }
+    {
+        let made = hub.session().promises();
+        if !looking::are_opened_below(&self.idle, made) {
+            return false;
+        }
+        if !looking::are_opened_below(&self.leased, made) {
+            return false;
+        }
+        looking::are_below(&self.opening, made)
     }
 
     /// How many channels are idle, are leased, and are opening.

@@ -3,7 +3,6 @@ use Rattle.std.proofs.Common.{◌≡◌, inl, inr, ℕ, List, [], ◌∷◌, Boo
 use Rattle.std.specs.Prelude.{IsSome, MatchBool}
 use Rattle.amqp_auth.specs.Providers.{Exchange, Allows}
 use Rattle.amqp_auth.specs.DefaultAnswers.{DefaultAuth}
-use Rattle.amqp_session.specs.declared.command.Cmd.TheVariants.{Listen}
 use Rattle.amqp_session.specs.Config.{Config}
 use Rattle.amqp_session.specs.Talk.{Talk, has_ended}
 use Rattle.amqp_engine.specs.declared.given.Given.{Given}
@@ -12,8 +11,9 @@ use Rattle.amqp_engine.specs.Engine.{Engine, begin}
 use Rattle.amqp_engine.specs.Turn.{AreTurns}
 use Rattle.amqp_engine.specs.Play.{IsPlayed}
 use Rattle.amqp_written_rules.specs.Sayable.{CanBeSaid}
-use Rattle.amqp_engine.specs.Saying.{HasSent, new, told, TellsLinks}
-use Rattle.amqp_engine.specs.Account.{IsNew}
+use Rattle.amqp_engine.specs.Saying.{TellsLinks}
+use Rattle.amqp_engine.specs.Account.{IsNew, nothing_told, HasHistory}
+use Rattle.amqp_engine.proofs.HistoryBegun.{new-history}
 use Rattle.amqp_engine.proofs.Carrying.{all-carried}
 use Rattle.amqp_engine.proofs.Playing.{played-are-turns}
 use Rattle.amqp_engine.proofs.SpelledLinks.{turns-spell}
@@ -23,15 +23,14 @@ use Rattle.amqp_replay.specs.Top.{set_up, session_of, engine_of, replayed_turns,
 use Rattle.amqp_replay.specs.Runs.{IsReplayed, IsMade, made_of_generated}
 use Rattle.amqp_replay.specs.Report.{Printout}
 
--- an engine has sent nothing before its first step
-pub silent : (listens : Bool) (config : Config) → HasSent (begin (set_up listens config)) []
-silent true config = told Listen tt tt (new config)
-silent false config = new config
-
 -- its session was told nothing, but perhaps to listen
 pub is-new : (listens : Bool) (config : Config) → IsNew (set_up listens config)
 is-new true config = (config, inr refl)
 is-new false config = (config, inl refl)
+
+-- its engine has no history before its first step
+pub silent : (listens : Bool) (config : Config) → HasHistory (begin (set_up listens config)) nothing_told
+silent listens config = new-history (set_up listens config) (is-new listens config)
 
 -- listening does not change what it is made from
 set-up-said : (listens : Bool) (config : Config) → CanBeSaid config → CanBeSaid (set_up listens config).config
@@ -76,7 +75,7 @@ IsReplayed-run s n e e' before after links state count fresh loads plays whole t
       links_are = sym (ties_at after (replayed_log s answers) links played.told ties);
       told = λ can. record {
         told = played.told;
-        legal = turns-spell (session_of s) (replayed_turns s answers) (loaded s.steps) (is-new s.listens s.config) (silent s.listens s.config)
+        legal = turns-spell (session_of s) (replayed_turns s answers) (loaded s.steps) (is-new s.listens s.config)
             (tells-nothing s.listens s.config s.steps) (set-up-said s.listens s.config can) may played.steps_told played.fit;
         carried = all-carried (session_of s) (replayed_turns s answers) (is-new s.listens s.config) may played.steps_told;
         cause = λ k h. turns-cause (replayed_turns s answers) (engine_of s) k (has-begun s.listens s.config) may h;

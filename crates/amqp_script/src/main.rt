@@ -1,21 +1,24 @@
 //! Replays a script of a connection over a port in memory, and prints a report; or generates a script,
-//! and prints it with a summary; or checks a capture of a link, and prints the verdict. A script may say
-//! `provider handed`: the client then logs in by tokens.
+//! and prints it with a summary; or checks a capture of a link, and prints the verdict; or opens and closes
+//! a connection over a socket, line by line. A script may say `provider handed`: the client then logs in
+//! by tokens.
 #![tactic(auto)]
 
 use amqp_engine::MemoryPort;
+use amqp_live::top_live;
 use amqp_program::top::top;
 use amqp_program::{Asked, asked_by, explain};
 use amqp_replay::status::{FAILED, NO_MEMORY, REFUSED, SINK_FAILED, SOURCE_FAILED, USAGE};
 use amqp_replay::{Reading, Writing, ended_at};
 use amqp_session::{DefaultTokenProvider, Refusal, TokenAuthProvider};
 use amqp_types::{LongString, NoMemory, Text};
+use lapin_connection::MioSpawner;
 use std::alloc::Global;
 use std::env;
 use std::io::{self, ErrorKind};
 use std::process::ExitCode;
 
-const USAGE_TEXT: &str = "usage: amqp_script replay | generate N | check";
+const USAGE_TEXT: &str = "usage: amqp_script replay | generate N | check | live URI";
 
 /// Which page says what a script may have, and what is printed.
 const PAGE_TEXT: &str = "docs/SCRIPTS.md says what a script may have, and what is printed";
@@ -84,10 +87,17 @@ fn explained(
     }
 }
 
+// Whether a connection over a socket is asked for.
+fn is_live(words: &[Text]) -> bool {
+    match words.first() {
+        Some(word) => word.as_str() == "live",
+        None => false,
+    }
+}
+
 // The status, and what is said of it, where the text that was read was kept.
-fn answer(rt: &HostRuntime) -> Result<(u8, Said), NoMemory> {
+fn answer(rt: &HostRuntime, words: &[Text]) -> Result<(u8, Said), NoMemory> {
     let alloc = rt.alloc();
-    let words = words_given(rt)?;
     let mut port = MemoryPort::new(alloc, Vec::new(alloc))?;
     let mut source = Reading::new(alloc, rt.stdin());
     let mut sink = Writing::new(rt.stdout());
@@ -97,10 +107,10 @@ fn answer(rt: &HostRuntime) -> Result<(u8, Said), NoMemory> {
         move || new_token(alloc),
     );
     let handed = Some(TokenAuthProvider::new(alloc, tokens));
-    let status = top(alloc, &words, &mut source, &mut sink, &mut port, handed);
+    let status = top(alloc, words, &mut source, &mut sink, &mut port, handed);
     let text = source.text().unwrap_or(&[]);
     // The status tells it where no memory is left for more.
-    let said = explained(alloc, asked_by(&words), status, text, port.told()).unwrap_or(
+    let said = explained(alloc, asked_by(words), status, text, port.told()).unwrap_or(
         Said::Nothing,
     );
     Ok((status, said))
@@ -116,7 +126,7 @@ fn note(rt: &HostRuntime, status: u8, said: Said) -> io::Result<()> {
         (REFUSED, _) => rt.eprintln(REFUSED_TEXT),
         (SOURCE_FAILED, _) => rt.eprintln("standard input failed"),
         (SINK_FAILED, _) => rt.eprintln("standard output failed"),
-        (NO_MEMORY, _) => rt.eprintln("out of memory"),
+        (NO_MEMORY, _) => rt.eprintln("memory was refused"),
         (_, Said::Line(line)) => { eprintln!(rt; "the session ended with an error at line {line}") }
         (_, Said::Capture(lines)) => rt.eprintln(&lines),
         (_, Said::Nothing) => Ok(()),
@@ -124,7 +134,18 @@ fn note(rt: &HostRuntime, status: u8, said: Said) -> io::Result<()> {
 }
 
 fn main(rt: HostRuntime) -> ExitCode {
-    let (status, said) = answer(&rt).unwrap_or((NO_MEMORY, Said::Nothing));
+    let alloc = rt.alloc();
+    let answered = match words_given(&rt) {
+        Ok(words) if is_live(&words) => {
+            let mut sink = Writing::new(rt.stdout());
+            let mut runtime = MioSpawner::new(rt, alloc);
+            let status = top_live(rt, alloc, &words, &mut sink, &mut runtime);
+            Ok((status, Said::Nothing))
+        }
+        Ok(words) => answer(&rt, &words),
+        Err(refused) => Err(refused),
+    };
+    let (status, said) = answered.unwrap_or((NO_MEMORY, Said::Nothing));
     // The status tells it where standard error does not take it.
     let _ = note(&rt, status, said);
     ExitCode::from(status)

@@ -8,3 +8,5 @@ pub mod Unasked
 pub mod Legally
 -- how far the frames of a message reach
 pub mod Deliveries
+-- what can be seen of it stays carried
+pub mod Carried

@@ -1,6 +1,6 @@
 //! What is read of a hub, and what it does for what was let go.
 
-ghost use Rattle.std.specs.Prelude.{◌≡◌, IfOk, IfErr, OnOk, All, Some, map, option_map};
+ghost use Rattle.std.specs.Prelude.{◌≡◌, IfOk, IfErr, OnOk, All, Some, map, option_map, length};
 ghost use Rattle.amqp_session.specs.Talk.{end_of};
 ghost use Rattle.amqp_session.specs.Answers.{HandsOut};
 ghost use Rattle.amqp_session.specs.Queries.{opening};
@@ -32,6 +32,13 @@ impl Hub {
             Some(end) => Some(Ended { end }),
             None => None,
         }
+    }
+
+    /// How many entries there are since the base.
+    pub fn entries(&self) -> usize
+        ensures { result ≡ length self.now.journal }
+    {
+        self.journal.len()
     }
 
     /// A copy of the entries since the base.
@@ -84,6 +91,7 @@ impl Hub {
         match owner {
             Owner::Connection => connection(session.state(), session.listed() == 0),
             Owner::Channel(opened) => channel(session, opened),
+            Owner::Answer(_) => Due::Never,
         }
     }
 }

@@ -138,7 +138,7 @@ fn lines_of_captures(rt: HostRuntime) -> Result<(), Fail> {
     Ok(())
 }
 
-const SECOND_WRITE_FAILS: Ends = Ends {
+const SECOND_WRITE_FAILS: Ends<'static> = Ends {
     source_fails: &[],
     sink_fails: &[2],
     most: 6,

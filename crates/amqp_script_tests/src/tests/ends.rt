@@ -8,7 +8,7 @@ use std::test::Fail;
 /// How the handshake is answered where calls of its source or its sink fail.
 struct Row {
     name: &'static str,
-    ends: Ends,
+    ends: Ends<'static>,
     status: u8,
     // how many bytes are printed of the report
     printed: usize,
@@ -107,6 +107,41 @@ fn first_broken(alloc: Global) -> Result<Option<&'static str>, Fail> {
 #[test]
 fn sources_and_sinks_that_fail(rt: HostRuntime) -> Result<(), Fail> {
     assert_eq!(rt; first_broken(rt.alloc())?, None);
+    Ok(())
+}
+
+/// How many writes the report of the handshake takes, of ten bytes at most.
+const WRITES: u64 = 82;
+
+// Whether a sink that fails at one write, of ten bytes at most, has what was printed before it.
+fn fails_at(alloc: Global, script: &[u8], report: &[u8], write: u64) -> Result<bool, Fail> {
+    let failing = [write];
+    let ends = Ends {
+        source_fails: &[],
+        sink_fails: &failing,
+        most: 10,
+    };
+    let before = (write as usize).saturating_sub(1).saturating_mul(10);
+    let printed = &report[..before.min(report.len())];
+    let status = if write <= WRITES { SINK_FAILED } else { CLOSED };
+    answers(alloc, &["replay"], script, &ends, status, printed)
+}
+
+// The first write, up to one more than there are, at which that is not so.
+fn first_write_broken(alloc: Global) -> Result<Option<u64>, Fail> {
+    let script = handshake(alloc)?;
+    let report = handshake_report(alloc)?;
+    for write in 1..=WRITES + 1 {
+        if !fails_at(alloc, &script, &report, write)? {
+            return Ok(Some(write));
+        }
+    }
+    Ok(None)
+}
+
+#[test]
+fn a_sink_that_fails_at_any_write(rt: HostRuntime) -> Result<(), Fail> {
+    assert_eq!(rt; first_write_broken(rt.alloc())?, None);
     Ok(())
 }
 

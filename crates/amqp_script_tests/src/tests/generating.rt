@@ -55,7 +55,7 @@ fn printed(alloc: Global, row: &Row) -> Result<Vec<u8>, Fail> {
 }
 
 /// The first read of the source would fail.
-const UNREAD: Ends = Ends {
+const UNREAD: Ends<'static> = Ends {
     source_fails: &[1],
     sink_fails: &[],
     most: usize::MAX,
@@ -83,7 +83,7 @@ fn numbers_make_scripts(rt: HostRuntime) -> Result<(), Fail> {
 }
 
 /// The third write fails.
-const CUT: Ends = Ends {
+const CUT: Ends<'static> = Ends {
     source_fails: &[],
     sink_fails: &[3],
     most: 100,

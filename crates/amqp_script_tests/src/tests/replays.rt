@@ -12,16 +12,17 @@ use std::alloc::Global;
 use std::test::Fail;
 
 /// The ends that a script meets.
-pub struct Ends {
+#[derive(Drop)]
+pub struct Ends<'a> {
     /// The numbers of the calls of the source, and of the sink, that fail.
-    pub source_fails: &'static [u64],
-    pub sink_fails: &'static [u64],
+    pub source_fails: &'a [u64],
+    pub sink_fails: &'a [u64],
     /// The most bytes that the sink takes at once.
     pub most: usize,
 }
 
 /// Nothing fails.
-pub const WELL: Ends = Ends {
+pub const WELL: Ends<'static> = Ends {
     source_fails: &[],
     sink_fails: &[],
     most: usize::MAX,
@@ -81,7 +82,7 @@ pub fn answers(
     alloc: Global,
     words: &[&str],
     script: &[u8],
-    ends: &Ends,
+    ends: &Ends<'_>,
     status: u8,
     printed: &[u8],
 ) -> Result<bool, Fail> {
@@ -94,7 +95,7 @@ pub fn answers_by<A: AuthProvider>(
     alloc: Global,
     words: &[&str],
     script: &[u8],
-    ends: &Ends,
+    ends: &Ends<'_>,
     handed: Option<A>,
     status: u8,
     printed: &[u8],

@@ -1,4 +1,4 @@
-use Rattle.amqp_engine.proofs.SpelledLinks.{read-back, read-any, all-read-back}
+use Rattle.amqp_engine.proofs.SpelledLinks.{read-back, read-any, all-read-back, all-read-any}
 use Rattle.amqp_engine.proofs.laws.what_is_said_is_read_back.Goals as goal
 
 pub returns-clause-link : goal.returns-clause-link
@@ -9,3 +9,6 @@ returns-clause-committed c = all-read-back
 
 pub returns-clause-any : goal.returns-clause-any
 returns-clause-any c = read-any
+
+pub returns-clause-greatest : goal.returns-clause-greatest
+returns-clause-greatest c = all-read-any

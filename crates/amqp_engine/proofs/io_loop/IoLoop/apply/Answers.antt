@@ -5,7 +5,6 @@ use Rattle.amqp_engine.specs.Engine.{Engine}
 use Rattle.amqp_engine.specs.Turn.{Notes}
 use Rattle.amqp_engine.specs.Noting.{notes_in}
 use Rattle.amqp_engine.specs.Tell.{AppliesNoted, turn_of}
-use Rattle.amqp_engine.specs.Saying.{HasSent, GoesOnce}
 use Rattle.amqp_engine.specs.Account.{HasHistory, CarriesOnce}
 use Rattle.amqp_engine.specs.Causes.{IsCause, brought}
 use Rattle.amqp_types.specs.Counts.{Rose}
@@ -13,7 +12,6 @@ use Rattle.amqp_engine.proofs.LeftUnread.{Applies-read}
 use Rattle.amqp_engine.proofs.TurnEnds.{applied-cause}
 use Rattle.amqp_engine.proofs.Faults.{applied-fault}
 use Rattle.amqp_engine.proofs.Running.{fit-of}
-use Rattle.amqp_engine.proofs.GoingOn.{applies-on}
 use Rattle.amqp_engine.proofs.Carrying.{turn-carried}
 use Rattle.amqp_engine.proofs.Blaming.{blamed}
 use Rattle.amqp_engine.proofs.io_loop.IoLoop.apply.Goals as goal
@@ -70,20 +68,6 @@ returns-in_err-applied-clause-io_error_counted g c fault running h =
     ⊎ ((fault ≡ BrokenPipe) × Rose (g.P.Port.faults c.args.port.now) (g.P.Port.faults c.apply-applied.new.port)) in
     subst P c.self.view_is (applied-fault _ _ _ _ _ _ _ _ _ _ _ _ fault c.apply-applied.ensures.turn (ap (λ (x : Engine). has_ended x.talk) c.self.view_is ∙ running) h)
 
-pub returns-clause-legal : goal.returns-clause-legal
-returns-clause-legal g c ss running h =
-    let P : Engine → Type 0 = λ x. has_ended x.talk ≡ false → HasSent x ss → GoesOnce (turn_of c.args.told.at c.args.told.step c.args.bytes.now (notes_in c.apply-applied.new.noted)) ss x c.apply-applied.new.self (g.P.Port.log c.args.port.now) (g.P.Port.log c.apply-applied.new.port) in
-    let Q : Notes → Type 0 = λ n. GoesOnce (turn_of c.args.told.at c.args.told.step c.args.bytes.now n) ss c.args.self.now c.apply-applied.new.self (g.P.Port.log c.args.port.now) (g.P.Port.log c.apply-applied.new.port) in
-    let fit = fit-of _ _ _ _ c.hold.ensures.can c.apply-applied.ensures.octets c.apply-applied.ensures.answered in
-    subst Q (sym c.put.ensures) (subst P c.self.view_is (applies-on _ _ _ _ _ _ _ _ ss c.apply-applied.ensures.turn.applies c.hold.ensures.told fit) running h)
-
-pub returns-in_err-applied-clause-legal : goal.returns-in_err-applied-clause-legal
-returns-in_err-applied-clause-legal g c ss running h =
-    let P : Engine → Type 0 = λ x. has_ended x.talk ≡ false → HasSent x ss → GoesOnce (turn_of c.args.told.at c.args.told.step c.args.bytes.now (notes_in c.apply-applied.new.noted)) ss x c.apply-applied.new.self (g.P.Port.log c.args.port.now) (g.P.Port.log c.apply-applied.new.port) in
-    let Q : Notes → Type 0 = λ n. GoesOnce (turn_of c.args.told.at c.args.told.step c.args.bytes.now n) ss c.args.self.now c.apply-applied.new.self (g.P.Port.log c.args.port.now) (g.P.Port.log c.apply-applied.new.port) in
-    let fit = fit-of _ _ _ _ c.hold.ensures.can c.apply-applied.ensures.octets c.apply-applied.ensures.answered in
-    subst Q (sym c.put.ensures) (subst P c.self.view_is (applies-on _ _ _ _ _ _ _ _ ss c.apply-applied.ensures.turn.applies c.hold.ensures.told fit) running h)
-
 pub returns-clause-refusal_counted : goal.returns-clause-refusal_counted
 returns-clause-refusal_counted g c text running h =
     blamed c.self.inside.wire.talk c.apply-applied.new.self.talk _ _ text c.apply-applied.ensures.blames (ap (λ (x : Engine). has_ended x.talk) c.self.view_is ∙ running) h
@@ -94,12 +78,14 @@ returns-in_err-applied-clause-refusal_counted g c text running h =
 
 pub returns-clause-carried : goal.returns-clause-carried
 returns-clause-carried g c h running has =
-    let P : Engine → Type 0 = λ x. has_ended x.talk ≡ false → HasHistory x h → CarriesOnce (turn_of c.args.told.at c.args.told.step c.args.bytes.now (notes_in c.apply-applied.new.noted)) h x c.apply-applied.new.self in
-    let Q : Notes → Type 0 = λ n. CarriesOnce (turn_of c.args.told.at c.args.told.step c.args.bytes.now n) h c.args.self.now c.apply-applied.new.self in
-    subst Q (sym c.put.ensures) (subst P c.self.view_is (turn-carried _ _ _ _ _ _ _ _ h c.apply-applied.ensures.turn.applies c.hold.ensures.told) running has)
+    let P : Engine → Type 0 = λ x. has_ended x.talk ≡ false → HasHistory x h → CarriesOnce (turn_of c.args.told.at c.args.told.step c.args.bytes.now (notes_in c.apply-applied.new.noted)) h x c.apply-applied.new.self (g.P.Port.log c.args.port.now) (g.P.Port.log c.apply-applied.new.port) in
+    let Q : Notes → Type 0 = λ n. CarriesOnce (turn_of c.args.told.at c.args.told.step c.args.bytes.now n) h c.args.self.now c.apply-applied.new.self (g.P.Port.log c.args.port.now) (g.P.Port.log c.apply-applied.new.port) in
+    let fit = fit-of _ _ _ _ c.hold.ensures.can c.apply-applied.ensures.octets c.apply-applied.ensures.answered in
+    subst Q (sym c.put.ensures) (subst P c.self.view_is (turn-carried _ _ _ _ _ _ _ _ h c.apply-applied.ensures.turn.applies c.hold.ensures.told fit) running has)
 
 pub returns-in_err-applied-clause-carried : goal.returns-in_err-applied-clause-carried
 returns-in_err-applied-clause-carried g c h running has =
-    let P : Engine → Type 0 = λ x. has_ended x.talk ≡ false → HasHistory x h → CarriesOnce (turn_of c.args.told.at c.args.told.step c.args.bytes.now (notes_in c.apply-applied.new.noted)) h x c.apply-applied.new.self in
-    let Q : Notes → Type 0 = λ n. CarriesOnce (turn_of c.args.told.at c.args.told.step c.args.bytes.now n) h c.args.self.now c.apply-applied.new.self in
-    subst Q (sym c.put.ensures) (subst P c.self.view_is (turn-carried _ _ _ _ _ _ _ _ h c.apply-applied.ensures.turn.applies c.hold.ensures.told) running has)
+    let P : Engine → Type 0 = λ x. has_ended x.talk ≡ false → HasHistory x h → CarriesOnce (turn_of c.args.told.at c.args.told.step c.args.bytes.now (notes_in c.apply-applied.new.noted)) h x c.apply-applied.new.self (g.P.Port.log c.args.port.now) (g.P.Port.log c.apply-applied.new.port) in
+    let Q : Notes → Type 0 = λ n. CarriesOnce (turn_of c.args.told.at c.args.told.step c.args.bytes.now n) h c.args.self.now c.apply-applied.new.self (g.P.Port.log c.args.port.now) (g.P.Port.log c.apply-applied.new.port) in
+    let fit = fit-of _ _ _ _ c.hold.ensures.can c.apply-applied.ensures.octets c.apply-applied.ensures.answered in
+    subst Q (sym c.put.ensures) (subst P c.self.view_is (turn-carried _ _ _ _ _ _ _ _ h c.apply-applied.ensures.turn.applies c.hold.ensures.told fit) running has)

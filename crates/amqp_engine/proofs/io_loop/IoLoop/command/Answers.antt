@@ -10,8 +10,8 @@ use Rattle.amqp_engine.specs.Log.{Log}
 use Rattle.amqp_engine.specs.Engine.{Engine, with_talk}
 use Rattle.amqp_engine.specs.Turn.{IsToldCommand}
 use Rattle.amqp_engine.specs.Sending.{Sending}
-use Rattle.amqp_engine.specs.Saying.{HasSent, TellsLinks, told}
-use Rattle.amqp_engine.specs.Account.{History, add_command, HasHistory, told as command_told}
+use Rattle.amqp_engine.specs.Saying.{TellsLinks}
+use Rattle.amqp_engine.specs.Account.{History, add_command, HasHistory, told}
 use Rattle.amqp_engine.proofs.Obeying.{obeyed-read}
 use Rattle.amqp_engine.proofs.io_loop.IoLoop.command.Goals as goal
 
@@ -20,22 +20,6 @@ invariant_of-self c = (
   c.self.invariant.0,
   obeyed-read c.command.result c.args.command c.self.inside.wire c.command.new.self c.command.ensures.ok c.command.ensures.err c.self.invariant.1,
 )
-
--- it was told, or nothing changed
-told-or-not : {A E : Type 0} (r : Result A E) (c : Cmd) (e e' : Engine) (ss : List Sending) → IsToldCommand c → CanBeTold c → OnOk r (e' ≡ with_talk (command c) e) → OnErr r (e' ≡ e)
-    → HasSent e ss → HasSent e' ss
-told-or-not (Ok x) c e e' ss may can ok err h =
-    let Q : Engine → Type 0 = λ x. HasSent x ss in
-    subst Q (sym ok) (told c may can h)
-told-or-not (Err x) c e e' ss may can ok err h =
-    let Q : Engine → Type 0 = λ x. HasSent x ss in
-    subst Q (sym err) h
-
-pub returns-clause-legal : goal.returns-clause-legal
-returns-clause-legal c ss h =
-    let Q : Engine → Type 0 = λ x. HasSent x ss in
-    told-or-not c.command.result c.args.command c.self.inside.wire c.command.new.self ss c.hold.ensures.told c.hold.ensures.can c.command.ensures.ok c.command.ensures.err
-    (subst Q (sym c.self.view_is) h)
 
 -- a command leaves the link as it is
 links-told : (c : Cmd) (e : Engine) (ss : List Sending) (log : Log) → TellsLinks e ss log → TellsLinks (with_talk (command c) e) ss log
@@ -64,17 +48,17 @@ returns-clause-links c ss log h =
     (subst Q (sym c.self.view_is) h)
 
 -- it was told, and its history has it, or nothing changed
-history-or-not : {A E : Type 0} (r : Result A E) (c : Cmd) (e e' : Engine) (h : History) → IsToldCommand c → OnOk r (e' ≡ with_talk (command c) e) → OnErr r (e' ≡ e)
+history-or-not : {A E : Type 0} (r : Result A E) (c : Cmd) (e e' : Engine) (h : History) → IsToldCommand c → CanBeTold c → OnOk r (e' ≡ with_talk (command c) e) → OnErr r (e' ≡ e)
     → HasHistory e h → MatchResult r (λ x. HasHistory e' (add_command c h)) (λ x. HasHistory e' h)
-history-or-not (Ok x) c e e' h may ok err has =
+history-or-not (Ok x) c e e' h may can ok err has =
     let Q : Engine → Type 0 = λ x. HasHistory x (add_command c h) in
-    subst Q (sym ok) (command_told c may has)
-history-or-not (Err x) c e e' h may ok err has =
+    subst Q (sym ok) (told c may can has)
+history-or-not (Err x) c e e' h may can ok err has =
     let Q : Engine → Type 0 = λ x. HasHistory x h in
     subst Q (sym err) has
 
 pub returns-clause-carried : goal.returns-clause-carried
 returns-clause-carried c h has =
     let Q : Engine → Type 0 = λ x. HasHistory x h in
-    history-or-not c.command.result c.args.command c.self.inside.wire c.command.new.self h c.hold.ensures.told c.command.ensures.ok c.command.ensures.err
+    history-or-not c.command.result c.args.command c.self.inside.wire c.command.new.self h c.hold.ensures.told c.hold.ensures.can c.command.ensures.ok c.command.ensures.err
     (subst Q (sym c.self.view_is) has)

@@ -5,9 +5,8 @@ use Rattle.amqp_session.specs.Talk.{end_of, has_ended}
 use Rattle.amqp_engine.specs.Engine.{Engine}
 use Rattle.amqp_session.specs.Answers.{HandsOut}
 use Rattle.amqp_engine.proofs.Playing.{runs-played}
-use Rattle.amqp_engine.proofs.TurnEnds.{runs-bring, not-turns}
-use Rattle.amqp_engine.proofs.GoingOn.{runs-on}
-use Rattle.amqp_engine.proofs.Carrying.{run-carried}
+use Rattle.amqp_engine.proofs.TurnEnds.{runs-cause, not-turns}
+use Rattle.amqp_engine.proofs.Carrying.{run-ran}
 use Rattle.amqp_engine.proofs.Closed.{run-valid}
 use Rattle.amqp_engine.proofs.io_loop.IoLoop.run.Goals as goal
 use Rattle.amqp_engine.proofs.io_loop.IoLoop.run.Goals.{in-Some, in-None}
@@ -15,8 +14,8 @@ use Rattle.amqp_engine.proofs.io_loop.IoLoop.run.Goals.{in-Some, in-None}
 pub returns-clause-played : goal.returns-clause-played
 returns-clause-played g c = runs-played _ _ _ _ _ _ _ c.take_turns.ensures.turns
 
-pub returns-clause-cause : goal.returns-clause-cause
-returns-clause-cause g c k running h = runs-bring _ _ _ _ _ k c.take_turns.ensures.turns.runs running h
+pub returns-clause-turns : goal.returns-clause-turns
+returns-clause-turns g c = run-ran _ _ _ _ _ _ _ c.take_turns.ensures.turns
 
 -- where there is an end, no other error is answered
 otherwise : (o given : Option (Result (Unit {0}) ErrorKind)) (r : Result (Unit {0}) ErrorKind) → HandsOut o given → given ≡ Some r
@@ -39,19 +38,13 @@ returns-clause-only_out_of_turns g c running is =
     let t = c.session.result.now in
     let here : t ≡ c.take_turns.new.self.talk = c.session.ensures ∙ ap (λ (x : Engine). x.talk) c.self.view_is in
     let never : end_of t ≡ Some (Err OutOfTurns) → ⊥ =
-    λ h. not-turns _ _ _ (runs-bring _ _ _ _ _ OutOfTurns c.take_turns.ensures.turns.runs running (ap end_of (sym here) ∙ h)).caused.cause.error_read in
+    λ h. not-turns _ _ _ (runs-cause _ _ _ _ _ OutOfTurns c.take_turns.ensures.turns.runs running (ap end_of (sym here) ∙ h)).cause.error_read in
     elim c.match-end.branch [
       | in-Some w ↦ absurd (otherwise (end_of t) c.end.result c.match-end.result c.end.ensures (w.in-Some.is ∙ ap Some (sym w.result-is)) never is)
       | in-None w ↦
           let P : Option (Result (Unit {0}) ErrorKind) → Type 0 = λ o. HandsOut (end_of t) o in
           ap has_ended (sym here) ∙ none-given (end_of t) (subst P w.in-None.is c.end.ensures)
     ]
-
-pub returns-clause-legal : goal.returns-clause-legal
-returns-clause-legal g c ss h = runs-on _ _ _ _ _ ss c.take_turns.ensures.turns.runs h
-
-pub returns-clause-carried : goal.returns-clause-carried
-returns-clause-carried g c h has = run-carried _ _ _ _ _ h c.take_turns.ensures.turns.runs has
 
 pub returns-clause-valid : goal.returns-clause-valid
 returns-clause-valid g c t gs new from plays all fed =

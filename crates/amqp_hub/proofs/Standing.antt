@@ -1,0 +1,23 @@
+-- Where the places of handles stand, and what is found there.
+use Rattle.std.proofs.Common.{◌≡◌, ◌<◌, ◌-◌, inl, ℕ, zero, suc, List, map, set, slice_get, Option, Some, None, refl, sym, subst, arith}
+use Rattle.std.proofs.lemmas.List.{map-set}
+use Rattle.amqp_hub.specs.declared.due.Owner.{Owner}
+use Rattle.amqp_hub.specs.declared.marks.Place.{Place}
+use Rattle.amqp_hub.specs.declared.marks.Slot.{Slot}
+use Rattle.amqp_hub.specs.declared.marks.Slot.TheVariants.{Kept, Free}
+use Rattle.amqp_hub.specs.Marks.{kept_in, StandsAt, IsFound}
+
+-- a place that was free is a handle's
+pub stands-again : (n : ℕ) (place : Place) (slots : List Slot) → 0 < n → slice_get (map kept_in slots) (n - 1) ≡ Some None
+    → StandsAt n place.owner (map kept_in slots) (map kept_in (set slots (n - 1) (Kept place)))
+stands-again zero place slots positive free = absurd (omega (arith, positive))
+stands-again (suc i) place slots positive free =
+    let is : suc i - 1 ≡ i = omega arith in
+    let P : ℕ → Type 0 = λ k. slice_get (map kept_in slots) k ≡ Some None in
+    let Q : ℕ → Type 0 = λ k. map kept_in (set slots k (Kept place)) ≡ set (map kept_in slots) i (Some place.owner) in
+    inl (subst P is free, subst Q (sym is) (map-set kept_in slots i (Kept place)))
+
+-- a place whose handle was dropped is free
+pub is_found : (i next : ℕ) (o : Owner) (slots : List Slot) → slice_get (map kept_in slots) i ≡ Some (Some o)
+    → IsFound o (map kept_in slots) (map kept_in (set slots i (Free next)))
+is_found i next o slots there = (i, there, map-set kept_in slots i (Free next))

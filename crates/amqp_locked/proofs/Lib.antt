@@ -1,0 +1,4 @@
+-- marks that are found and looked at, one more at a time
+pub mod Looking
+-- a turn after them
+pub mod Turns

@@ -1,0 +1,10 @@
+-- what lies under a lock
+pub mod UnderLock
+-- how the marks of dropped handles are found, and what is then done
+pub mod Looking
+-- what a turn does under the lock
+pub mod Turning
+-- what nobody will take is let go
+pub mod LettingGo
+-- what is taken by a poll
+pub mod Taking

@@ -1,0 +1,17 @@
+-- What a poll takes, or leaves a waker for.
+use Rattle.std.specs.Prelude.{◌≡◌, List, [], Option, Some, None, option_map, Result, Ok, Err}
+use Rattle.futures.specs.declared.task.Poll.{Poll}
+use Rattle.futures.specs.declared.task.Poll.TheVariants.{Ready, Pending}
+use Rattle.amqp_promise.specs.declared.error.ErrorKind.{ErrorKind}
+use Rattle.amqp_session.specs.declared.command.Answer.{Answer}
+use Rattle.amqp_locked.specs.declared.polled.Polled.{Polled}
+
+-- the answer that was taken
+abbrev pub answer_given : Option Polled → Option (Result Answer ErrorKind)
+answer_given polled = option_map (λ (p : Polled). p.answer) polled
+
+-- what a poll gave, where it gave something
+abbrev pub polled_of : {A E : Type 0} → Poll (Result A E) → Option A
+polled_of (Ready (Ok x)) = Some x
+polled_of (Ready (Err e)) = None
+polled_of Pending = None

@@ -1,0 +1,449 @@
+//! What lies under the lock: a hub, the places of its handles, and who waits to be woken.
+
+ghost use Rattle.std.specs.Prelude.{◌≡◌, ◌≤◌, ◌<◌, ◌⊎◌, ◌+◌, ◌++◌, ℕ, [], true, map, replicate, ◌∷◌, IfOk, IfErr, IfNone, IfSome, OnOk, OnErr, None, Some, Ok, length, IsSome, IsOk};
+ghost use Rattle.std.specs.Fn.{FnOnceReturnsAtMut};
+ghost use Rattle.futures.specs.Task.{Covers, Hears, IsArmed, Keeps};
+ghost use Rattle.futures.specs.Poll.{OnPending, IfReady};
+ghost use Rattle.amqp_session.specs.Talk.{has_ended};
+ghost use Rattle.amqp_session.specs.Answers.{Takes, TakesEvent, take_frames};
+ghost use Rattle.amqp_session.specs.ChannelMethods.{frames_of};
+ghost use Rattle.amqp_session.specs.Commands.{promise_of, takes_promise};
+ghost use Rattle.amqp_session.specs.Queries.{opening};
+ghost use Rattle.amqp_journal.specs.Journal.{WasTaken};
+ghost use Rattle.amqp_hub.specs.Passes.{new_passes, AreNew, foreign, IsForeign};
+ghost use Rattle.amqp_hub.specs.Entering.{called, next_entry, begun_anew, let_go};
+ghost use Rattle.amqp_hub.specs.Marks.{kept_in, StandsAt};
+ghost use Rattle.amqp_locked.specs.UnderLock.{contents, with_hub, with_session, newly_locked};
+ghost use Rattle.amqp_locked.specs.Turning.{TurnsAfterMarks, StarvesAfterMarks};
+ghost use Rattle.amqp_locked.specs.Taking.{answer_given, polled_of};
+
+use crate::heard::Heard;
+use crate::polled::Polled;
+use amqp_engine::Port;
+use amqp_hub::{DropMark, Found, Hub, Owner, Pass, Places, Receipt};
+use amqp_promise::Wakers;
+use amqp_session::{Answer, AuthProvider, Cmd, ErrorKind, Event, Handed, Result};
+use amqp_types::NoMemory;
+use futures::task::{Context, Poll, Source};
+use std::alloc::Global;
+use std::collections::VecDeque;
+
+mod letting_go;
+mod looking;
+mod reading;
+
+/// What lies under the lock of a connection.
+#[derive(Drop)]
+pub struct Locked {
+    alloc: Global,
+    hub: Hub,
+    places: Places,
+    // the marks that were found and are not done with
+    found: Vec<Found>,
+    // what nobody will take, and how much of it came since it was last let go
+    unasked: VecDeque<Owner>,
+    fresh: usize,
+    wakers: Wakers,
+}
+
+impl Locked {
+    /// A hub with one handle, the connection, and its mark.
+    pub fn new(alloc: Global, hub: Hub) -> Result<(Locked, DropMark)>
+        ensures locked { IfOk result (λ r. contents r.0 ≡ newly_locked hub) }
+        ensures only { IfErr result (λ e. e ≡ ErrorKind.NoMemory) }
+    {
+        match first_place(alloc) {
+            Ok((places, mark)) => Ok((
+                Locked {
+                    alloc,
+                    hub,
+                    places,
+                    found: Vec::new(alloc),
+                    unasked: VecDeque::new(alloc),
+                    fresh: 0,
+                    wakers: Wakers::new(alloc),
+                },
+                mark,
+            )),
+            Err(refused) => {
+                drop(hub);
+                Err(refused.into())
+            }
+        }
+    }
+
+    // ---- commands
+
+    /// Enters a command that makes no promise, as to listen for events.
+    pub fn command(&mut self, pass: &mut Pass, cmd: Cmd) -> Result<(Option<u64>, Receipt)>
+        ensures foreign { IsForeign (foreign pass.old self.old.hub.counts) result }
+        ensures unchanged { OnErr result (contents self.new ≡ contents self.old) }
+        ensures same { OnErr result (pass.new ≡ pass.old) }
+        ensures entry { OnOk result (contents self.new
+            ≡ with_hub (called pass.old.number (pass.old.made + 1) cmd self.old.hub) (contents self.old)) }
+        ensures made { OnOk result (pass.new.made ≡ pass.old.made + 1) }
+        ensures number { pass.new.number ≡ pass.old.number }
+        ensures promise { IfOk result (λ r. r.0 ≡ promise_of cmd self.old.hub.engine.talk) }
+        ensures receipt { IfOk result (λ r. (r.1.pass ≡ pass.old.number) × (r.1.nth ≡ pass.old.made + 1)
+            × (r.1.entry ≡ next_entry self.old.hub)) }
+        ensures shown { IfOk result (λ r. (r.1.cmd.value ≡ cmd) × (r.1.promise.value ≡ r.0)) }
+        ensures hold { IfOk result (λ r. (r.1.base.value ≡ self.new.hub.base)
+            × (r.1.journal.value.items ≡ self.new.hub.journal)) }
+        ensures promises { self.old.hub.engine.talk.made ≤ self.new.hub.engine.talk.made }
+    {
+        self.hub.command(pass, cmd)
+    }
+
+    /// Enters a command that makes a promise: its number, the receipt, and the mark of who waits for the
+    /// answer. Where it is dropped unspent, the answer is one that nobody will take.
+    pub fn ask(&mut self, pass: &mut Pass, cmd: Cmd) -> Result<(u64, Receipt, DropMark)>
+        requires { takes_promise cmd ≡ true }
+        ensures foreign { IsForeign (foreign pass.old self.old.hub.counts) result }
+        ensures unchanged { OnErr result (contents self.new ≡ contents self.old) }
+        ensures same { OnErr result (pass.new ≡ pass.old) }
+        ensures entry { OnOk result (self.new.hub
+            ≡ called pass.old.number (pass.old.made + 1) cmd self.old.hub) }
+        ensures place { IfOk result (λ r. StandsAt r.2.number (Owner.Answer r.0) (contents self.old).places
+            (contents self.new).places) }
+        ensures rest { (self.new.found ≡ self.old.found) × (self.new.unasked ≡ self.old.unasked) }
+        ensures made { OnOk result (pass.new.made ≡ pass.old.made + 1) }
+        ensures number { pass.new.number ≡ pass.old.number }
+        ensures promise { IfOk result (λ r. Some r.0 ≡ promise_of cmd self.old.hub.engine.talk) }
+        ensures receipt { IfOk result (λ r. (r.1.pass ≡ pass.old.number) × (r.1.nth ≡ pass.old.made + 1)
+            × (r.1.entry ≡ next_entry self.old.hub)) }
+        ensures shown { IfOk result (λ r. (r.1.cmd.value ≡ cmd) × (r.1.promise.value ≡ Some r.0)) }
+        ensures hold { IfOk result (λ r. (r.1.base.value ≡ self.new.hub.base)
+            × (r.1.journal.value.items ≡ self.new.hub.journal)) }
+        ensures promises { self.old.hub.engine.talk.made ≤ self.new.hub.engine.talk.made }
+    {
+        if let Err(foreign) = self.hub.admits(pass) {
+            drop(cmd);
+            return Err(foreign);
+        }
+        let made = match self.places.make(self.alloc) {
+            Ok(made) => made,
+            Err(refused) => {
+                drop(cmd);
+                return Err(refused.into());
+            }
+        };
+        match promised(&mut self.hub, pass, cmd) {
+            Ok((number, receipt)) => {
+                let mark = self.places.keep(made, Owner::Answer(number));
+                Ok((number, receipt, mark))
+            }
+            Err(refused) => {
+                drop(made);
+                Err(refused)
+            }
+        }
+    }
+
+    /// Enters the command that opens a channel: the number of its promise, the receipt, and the mark of the
+    /// channel.
+    pub fn open(&mut self, pass: &mut Pass) -> Result<(u64, Receipt, DropMark)>
+        ensures foreign { IsForeign (foreign pass.old self.old.hub.counts) result }
+        ensures unchanged { OnErr result (contents self.new ≡ contents self.old) }
+        ensures same { OnErr result (pass.new ≡ pass.old) }
+        ensures entry { OnOk result (self.new.hub
+            ≡ called pass.old.number (pass.old.made + 1) Cmd.OpenChannel self.old.hub) }
+        ensures place { IfOk result (λ r. StandsAt r.2.number (Owner.Channel r.0) (contents self.old).places
+            (contents self.new).places) }
+        ensures rest { (self.new.found ≡ self.old.found) × (self.new.unasked ≡ self.old.unasked) }
+        ensures made { OnOk result (pass.new.made ≡ pass.old.made + 1) }
+        ensures number { pass.new.number ≡ pass.old.number }
+        ensures promise { IfOk result (λ r. Some r.0 ≡ promise_of Cmd.OpenChannel self.old.hub.engine.talk) }
+        ensures receipt { IfOk result (λ r. (r.1.pass ≡ pass.old.number) × (r.1.nth ≡ pass.old.made + 1)
+            × (r.1.entry ≡ next_entry self.old.hub)) }
+        ensures shown { IfOk result (λ r. (r.1.cmd.value ≡ Cmd.OpenChannel) × (r.1.promise.value ≡ Some r.0)) }
+        ensures hold { IfOk result (λ r. (r.1.base.value ≡ self.new.hub.base)
+            × (r.1.journal.value.items ≡ self.new.hub.journal)) }
+        ensures promises { self.old.hub.engine.talk.made ≤ self.new.hub.engine.talk.made }
+    {
+        if let Err(foreign) = self.hub.admits(pass) {
+            return Err(foreign);
+        }
+        let made = match self.places.make(self.alloc) {
+            Ok(made) => made,
+            Err(refused) => return Err(refused.into()),
+        };
+        match promised(&mut self.hub, pass, Cmd::OpenChannel) {
+            Ok((number, receipt)) => {
+                let mark = self.places.keep(made, Owner::Channel(number));
+                Ok((number, receipt, mark))
+            }
+            Err(refused) => {
+                drop(made);
+                Err(refused)
+            }
+        }
+    }
+
+    /// New passes, numbered on.
+    pub fn passes(&mut self, count: u32) -> Result<Vec<Pass>>
+        ensures passes { IfOk result (λ passes. AreNew (length self.old.hub.counts) passes.items) }
+        ensures many { IfOk result (λ passes. length passes.items
+            ≡ new_passes count (length self.old.hub.counts)) }
+        ensures counts { OnOk result (self.new.hub.counts ≡ self.old.hub.counts
+            ++ replicate (new_passes count (length self.old.hub.counts)) 0) }
+        ensures engine { self.new.hub.engine ≡ self.old.hub.engine }
+        ensures journal { (self.new.hub.base ≡ self.old.hub.base) × (self.new.hub.journal ≡ self.old.hub.journal) }
+        ensures rest { contents self.new ≡ with_hub self.new.hub (contents self.old) }
+        ensures err { OnErr result (contents self.new ≡ contents self.old) }
+        ensures only { IfErr result (λ e. e ≡ ErrorKind.NoMemory) }
+    {
+        self.hub.passes(count)
+    }
+
+    // ---- what is taken
+
+    /// Takes the answer to a promise, where there is one that was not taken. It adds no entry. Once the
+    /// session has ended it gives none only of a promise whose answer was taken before. An answer that a
+    /// channel is open names the promise itself.
+    pub fn poll(&mut self, number: u64) -> Option<Polled>
+        ensures taken { Takes number (answer_given result) self.old.hub.engine.talk self.new.hub.engine.talk }
+        ensures rest { contents self.new ≡ with_session self.new.hub.engine.talk (contents self.old) }
+        ensures number { IfSome result (λ p. p.number ≡ number) }
+        ensures none_pending { IfNone result (has_ended self.old.hub.engine.talk ≡ true
+            → number < self.old.hub.engine.talk.made
+            → WasTaken number self.old.hub.base.engine self.old.hub.journal self.old.hub.engine) }
+        ensures channel { (id opened : ℕ) → answer_given result ≡ Some (Ok (Answer.Channel id opened))
+            → opened ≡ number }
+    {
+        match self.hub.poll(number) {
+            Some(answer) => Some(Polled::of(number, answer)),
+            None => None,
+        }
+    }
+
+    /// Takes the answer to a promise; where there is none, the polled task waits at this source, or memory
+    /// for its place is refused.
+    pub fn poll_or_register(
+        &mut self,
+        number: u64,
+        source: &Source,
+        cx: &mut Context<'_>,
+    ) -> Poll<std::result::Result<Polled, NoMemory>>
+        ensures taken { Takes number (answer_given (polled_of result)) self.old.hub.engine.talk
+            self.new.hub.engine.talk }
+        ensures rest { contents self.new ≡ with_session self.new.hub.engine.talk (contents self.old) }
+        ensures number { IfSome (polled_of result) (λ p. p.number ≡ number) }
+        ensures channel { (id opened : ℕ) → answer_given (polled_of result)
+            ≡ Some (Ok (Answer.Channel id opened)) → opened ≡ number }
+        ensures registered { OnPending result (Covers cx.new (λ s. s ≡ source.now.id)) }
+        ensures kept { Keeps cx.old cx.new }
+    {
+        match self.poll(number) {
+            Some(polled) => Poll::Ready(Ok(polled)),
+            None => match self.wakers.register(source, cx) {
+                Ok(()) => Poll::Pending,
+                Err(refused) => Poll::Ready(Err(refused)),
+            },
+        }
+    }
+
+    /// Takes the first event that was not taken, where there is one. It adds no entry.
+    pub fn event(&mut self) -> Option<Event>
+        ensures taken { TakesEvent result self.old.hub.engine.talk self.new.hub.engine.talk }
+        ensures rest { contents self.new ≡ with_session self.new.hub.engine.talk (contents self.old) }
+    {
+        self.hub.event()
+    }
+
+    /// Takes the first event that was not taken; where there is none, the polled task waits at this source,
+    /// or memory for its place is refused.
+    pub fn event_or_register(
+        &mut self,
+        source: &Source,
+        cx: &mut Context<'_>,
+    ) -> Poll<std::result::Result<Event, NoMemory>>
+        ensures taken { TakesEvent (polled_of result) self.old.hub.engine.talk self.new.hub.engine.talk }
+        ensures rest { contents self.new ≡ with_session self.new.hub.engine.talk (contents self.old) }
+        ensures registered { OnPending result (Covers cx.new (λ s. s ≡ source.now.id)) }
+        ensures kept { Keeps cx.old cx.new }
+    {
+        match self.hub.event() {
+            Some(event) => Poll::Ready(Ok(event)),
+            None => match self.wakers.register(source, cx) {
+                Ok(()) => Poll::Pending,
+                Err(refused) => Poll::Ready(Err(refused)),
+            },
+        }
+    }
+
+    /// Takes the frames handed out of the channel that a promise opened, in order, as many as were not yet
+    /// taken. It adds no entry.
+    pub fn take_frames(&mut self, opened: u64) -> Result<Vec<Handed>>
+        ensures frames { IfOk result (λ frames. frames.items ≡ frames_of opened self.old.hub.engine.talk) }
+        ensures taken { contents self.new
+            ≡ with_session (take_frames opened self.old.hub.engine.talk) (contents self.old) }
+        ensures takes_no_memory { IsOk result }
+    {
+        self.hub.take_frames(opened)
+    }
+
+    /// The same, but nothing where there are none and the channel is listed, so that some may come.
+    pub fn frames(&mut self, opened: u64) -> Option<Result<Vec<Handed>>>
+        ensures frames { IfSome result (λ r. IfOk r (λ frames. frames.items
+            ≡ frames_of opened self.old.hub.engine.talk)) }
+        ensures taken { contents self.new
+            ≡ with_session (take_frames opened self.old.hub.engine.talk) (contents self.old) }
+        ensures takes_no_memory { IfSome result IsOk }
+        ensures none { IfNone result ((frames_of opened self.old.hub.engine.talk ≡ [])
+            × IsSome (opening opened self.old.hub.engine.talk)) }
+        ensures gone { IfSome result (λ r. IfOk r (λ frames. frames.items ≡ []
+            → opening opened self.old.hub.engine.talk ≡ None)) }
+    {
+        let frames = match self.hub.take_frames(opened) {
+            Ok(frames) => frames,
+            Err(refused) => return Some(Err(refused)),
+        };
+        if frames.is_empty() && self.hub.session().opening(opened).is_some() {
+            return None;
+        }
+        Some(Ok(frames))
+    }
+
+    /// The same; where there is nothing, the polled task waits at this source, or memory for its place is
+    /// refused.
+    pub fn frames_or_register(
+        &mut self,
+        opened: u64,
+        source: &Source,
+        cx: &mut Context<'_>,
+    ) -> Poll<Result<Vec<Handed>>>
+        ensures frames { IfSome (polled_of result) (λ frames. frames.items
+            ≡ frames_of opened self.old.hub.engine.talk) }
+        ensures taken { contents self.new
+            ≡ with_session (take_frames opened self.old.hub.engine.talk) (contents self.old) }
+        ensures none { IfNone (polled_of result) ((frames_of opened self.old.hub.engine.talk ≡ [])
+            × IsSome (opening opened self.old.hub.engine.talk)) }
+        ensures only { IfReady result (λ r. IfErr r (λ e. e ≡ ErrorKind.NoMemory)) }
+        ensures registered { OnPending result (Covers cx.new (λ s. s ≡ source.now.id)) }
+        ensures kept { Keeps cx.old cx.new }
+    {
+        match self.frames(opened) {
+            Some(frames) => Poll::Ready(frames),
+            None => match self.wakers.register(source, cx) {
+                Ok(()) => Poll::Pending,
+                Err(refused) => Poll::Ready(Err(refused.into())),
+            },
+        }
+    }
+
+    // ---- turns
+
+    /// The marks of handles that were dropped are found, and what is due about each is done; then one turn is
+    /// taken. Where memory is refused, what is still undone of that stays so, the turn is cut, and the
+    /// session has ended.
+    pub fn apply<P: Port, A: AuthProvider>(
+        &mut self,
+        heard: Heard<'_>,
+        port: &mut P,
+        provider: &mut A,
+    ) -> Result<()>
+        requires { A.can provider.old }
+        ensures can { A.can provider.new }
+        ensures ok { OnOk result (TurnsAfterMarks heard.entry.told.at heard.entry.told.step heard.entry.bytes.now
+            (contents self.old) (contents self.new) (P.log port.old) (P.log port.new)
+            (A.allows provider.old) (A.allows provider.new) (P.faults port.old) (P.faults port.new)
+            (A.refusals provider.old) (A.refusals provider.new)) }
+        ensures err { OnErr result (TurnsAfterMarks heard.entry.told.at heard.entry.told.step heard.entry.bytes.now
+            (contents self.old) (contents self.new) (P.log port.old) (P.log port.new)
+            (A.allows provider.old) (A.allows provider.new) (P.faults port.old) (P.faults port.new)
+            (A.refusals provider.old) (A.refusals provider.new)
+            ⊎ (StarvesAfterMarks heard.entry.told.at heard.entry.told.step (contents self.old) (contents self.new)
+            × (port.new ≡ port.old) × (provider.new ≡ provider.old))) }
+        ensures ended { OnErr result (has_ended self.new.hub.engine.talk ≡ true) }
+        ensures only { IfErr result (λ e. e ≡ ErrorKind.NoMemory) }
+        ensures promises { self.old.hub.engine.talk.made ≤ self.new.hub.engine.talk.made }
+        ensures faults { P.faults port.old ≤ P.faults port.new }
+        ensures kept { P.kept port.new ≡ P.kept port.old }
+        ensures never_falls { A.refusals provider.old ≤ A.refusals provider.new }
+    {
+        let Heard { told, bytes } = heard;
+        if let Err(refused) = self.look() {
+            self.hub.starve(told);
+            return Err(refused.into());
+        }
+        self.hub.apply(told, bytes, port, provider)
+    }
+
+    /// Lets the journal begin anew where the engine stands, and gives how many entries were let go.
+    pub fn settle(&mut self) -> Result<u64>
+        ensures settled { OnOk result (contents self.new
+            ≡ with_hub (begun_anew self.old.hub) (contents self.old)) }
+        ensures let_go { IfOk result (λ n. n ≡ let_go self.old.hub) }
+        ensures err { OnErr result (contents self.new ≡ contents self.old) }
+        ensures only { IfErr result (λ e. e ≡ ErrorKind.NoMemory) }
+    {
+        self.hub.settle()
+    }
+
+    // ---- tasks that wait, and the hub
+
+    /// The polled task waits at this source, or memory for its place is refused.
+    pub fn register(
+        &mut self,
+        source: &Source,
+        cx: &mut Context<'_>,
+    ) -> std::result::Result<(), NoMemory>
+        ensures rest { contents self.new ≡ contents self.old }
+        ensures armed { OnOk result (IsArmed cx.new) }
+        ensures heard { OnOk result (Hears cx.new source.now.id) }
+        ensures kept { Keeps cx.old cx.new }
+    {
+        self.wakers.register(source, cx)
+    }
+
+    /// Lends the hub for one hold. Who uses it applies no turn, and puts no other hub in its place.
+    pub fn lend<T, F: FnOnce(&mut Hub) -> T>(&mut self, use_hub: F) -> T
+        requires { F.IsAlwaysCallable use_hub }
+        ensures given { FnOnceReturnsAtMut F.FnOnce use_hub self.old.hub result self.new.hub }
+        ensures rest { contents self.new ≡ with_hub self.new.hub (contents self.old) }
+    {
+        use_hub(&mut self.hub)
+    }
+
+    /// Wakes each task that waits.
+    pub fn wake(&mut self)
+        ensures woken { self.new.wakers ≡ [] }
+        ensures rest { contents self.new ≡ contents self.old }
+    {
+        self.wakers.wake();
+    }
+}
+
+// The places of handles, of which one is the connection's, and its mark.
+fn first_place(alloc: Global) -> std::result::Result<(Places, DropMark), NoMemory>
+    ensures { IfOk result (λ r. map kept_in r.0.slots.items ≡ Some Owner.Connection ∷ []) }
+{
+    let mut places = Places::new(alloc)?;
+    let made = places.make(alloc)?;
+    let mark = places.keep(made, Owner::Connection);
+    Ok((places, mark))
+}
+
+// Enters a command that makes a promise.
+fn promised(hub: &mut Hub, pass: &mut Pass, cmd: Cmd) -> Result<(u64, Receipt)>
+    requires { takes_promise cmd ≡ true }
+    ensures foreign { IsForeign (foreign pass.old hub.old.counts) result }
+    ensures unchanged { OnErr result (hub.new ≡ hub.old) }
+    ensures same { OnErr result (pass.new ≡ pass.old) }
+    ensures entry { OnOk result (hub.new ≡ called pass.old.number (pass.old.made + 1) cmd hub.old) }
+    ensures made { OnOk result (pass.new.made ≡ pass.old.made + 1) }
+    ensures number { pass.new.number ≡ pass.old.number }
+    ensures promise { IfOk result (λ r. Some r.0 ≡ promise_of cmd hub.old.engine.talk) }
+    ensures receipt { IfOk result (λ r. (r.1.pass ≡ pass.old.number) × (r.1.nth ≡ pass.old.made + 1)
+        × (r.1.entry ≡ next_entry hub.old)) }
+    ensures shown { IfOk result (λ r. (r.1.cmd.value ≡ cmd) × (r.1.promise.value ≡ Some r.0)) }
+    ensures hold { IfOk result (λ r. (r.1.base.value ≡ hub.new.base)
+        × (r.1.journal.value.items ≡ hub.new.journal)) }
+    ensures promises { hub.old.engine.talk.made ≤ hub.new.engine.talk.made }
+{
+    match hub.command(pass, cmd) {
+        Ok((Some(number), receipt)) => Ok((number, receipt)),
+        Ok((None, _)) => unreachable!(),
+        Err(refused) => Err(refused),
+    }
+}

@@ -1,0 +1,451 @@
+//! A socket as a port.
+
+ghost use Rattle.std.specs.Prelude.{◌≡◌, ◌⊎◌, ◌≤◌, ◌<◌, ◌-◌, true, false, None, Some, IfSome, IfNone, IfOk, length};
+ghost use Rattle.std.specs.Io.{ReadsAtMost};
+ghost use Rattle.amqp_types.specs.Counts.{Rose};
+ghost use Rattle.amqp_engine.specs.Counts.{HasCause};
+ghost use Rattle.amqp_engine.specs.Log.{IsPiece};
+
+use amqp_engine::{Port, Step, Told, Wrote};
+use mio::net::TcpStream;
+use mio::{Events, Interest, Poll, Token, Waker};
+use std::alloc::Global;
+use std::io;
+use std::io::{IoSlice, Read};
+use std::net::{Net, SocketAddr};
+use std::time::{Clock, Duration};
+
+const SOCKET: Token = Token(0);
+
+const NUDGE: Token = Token(1);
+
+/// How much time passes at most before it is told that it has, in milliseconds. Half of the shortest
+/// interval of heartbeats that a server can ask for.
+const TICK: u64 = 500;
+
+/// For how long the system may connect, in milliseconds.
+const CONNECT: u64 = 10_000;
+
+/// How many octets a piece has at most.
+const PIECE: usize = 4096;
+
+/// How the link stands.
+#[derive(Clone, Copy, Debug, PartialEq, Eq)]
+enum Stage {
+    /// There is none.
+    Idle,
+    /// One was asked for, and the system did not begin to connect.
+    Refused,
+    /// The system connects.
+    Connecting,
+    /// There is one.
+    Linked,
+}
+
+// Reads what there is: how many octets, none at the end.
+fn read(stream: &mut TcpStream, space: &mut [u8]) -> io::Result<usize>
+    ensures { ReadsAtMost result space.new }
+{
+    stream.read(space)
+}
+
+// Reads a piece.
+fn read_piece(stream: &mut TcpStream, space: &mut [u8]) -> io::Result<usize>
+    requires { 4096 ≤ length space.old }
+    ensures { IfOk result (λ n. n ≤ 4096) }
+{
+    let n = read(stream, &mut space[..PIECE])?;
+    Ok(n)
+}
+
+/// A socket of the system. It keeps the handles by which it connects and reads the time.
+#[derive(Drop)]
+pub struct MioPort<R> {
+    rt: R,
+    poll: Poll,
+    events: Events,
+    address: Option<SocketAddr>,
+    stream: Option<TcpStream>,
+    stage: Stage,
+    // whether the system told something of a socket that connects
+    answered: bool,
+    // whether a read may find something
+    readable: bool,
+    // whether the last write took less than it was offered, and whether there may be room again
+    full: bool,
+    room: bool,
+    nudged: bool,
+    // the present, when the last tick was told, and when the link was asked for
+    moment: u64,
+    ticked: u64,
+    asked: u64,
+    // whether a step was told since it is time for the next tick
+    late: bool,
+    faults: u64,
+}
+
+impl<R: Net + Clock + Drop> MioPort<R> {
+    /// A port without a link, over which links to this address are asked for, and what ends its wait.
+    /// Each link to no address fails. Where memory is refused, the error is of the kind `OutOfMemory`;
+    /// else the system refuses to watch for events.
+    pub fn new(
+        rt: R,
+        alloc: Global,
+        address: Option<SocketAddr>,
+    ) -> io::Result<(MioPort<R>, Waker)> {
+        let poll = Poll::new(&rt)?;
+        let events = Events::with_capacity(alloc, 4)?;
+        let waker = Waker::new(poll.registry(), NUDGE)?;
+        let port = MioPort {
+            rt,
+            poll,
+            events,
+            address,
+            stream: None,
+            stage: Stage::Idle,
+            answered: false,
+            readable: false,
+            full: false,
+            room: false,
+            nudged: false,
+            moment: 0,
+            ticked: 0,
+            asked: 0,
+            late: false,
+            faults: 0,
+        };
+        Ok((port, waker))
+    }
+
+    // The present in milliseconds. Where the clock can't be read, no time has passed.
+    fn now(&mut self) -> u64
+        ensures present { result ≡ self.new.moment }
+        ensures never_falls { self.old.moment ≤ self.new.moment }
+        ensures faults { self.new.faults ≡ self.old.faults }
+        ensures ticked { self.new.ticked ≡ self.old.ticked }
+    {
+        if let Ok(since) = self.rt.monotonic() {
+            let millis = u64::try_from(since.as_millis()).unwrap_or(u64::MAX);
+            self.moment = self.moment.max(millis);
+        }
+        self.moment
+    }
+
+    // There is no link any more.
+    fn hang_up(&mut self)
+        ensures faults { self.new.faults ≡ self.old.faults }
+        ensures ticked { self.new.ticked ≡ self.old.ticked }
+    {
+        self.stream = None;
+        self.stage = Stage::Idle;
+        self.answered = false;
+        self.readable = false;
+        self.full = false;
+        self.room = false;
+    }
+
+    // The same, since something failed.
+    fn fail(&mut self)
+        ensures counted { Rose self.old.faults self.new.faults }
+        ensures faults { self.old.faults ≤ self.new.faults }
+    {
+        self.hang_up();
+        self.faults = self.faults.saturating_add(1);
+    }
+
+    // The system begins to connect.
+    fn begin(&mut self) -> io::Result<()>
+        ensures { self.new.faults ≡ self.old.faults }
+    {
+        let Some(address) = self.address else {
+            return Err(io::Error::from(io::ErrorKind::NotFound));
+        };
+        let mut stream = TcpStream::connect(&self.rt, address)?;
+        self.poll.registry().register(
+            &mut stream,
+            SOCKET,
+            Interest::READABLE | Interest::WRITABLE,
+        )?;
+        self.stream = Some(stream);
+        Ok(())
+    }
+
+    // What can be told without waiting. Once it is time for a tick, at most one other step goes before it, so
+    // a server that always talks does not hold it up.
+    fn ready(&mut self, at: u64, space: &mut [u8]) -> Option<Step>
+        requires { 4096 ≤ length space.old }
+        ensures tick { 500 ≤ at - self.old.ticked → self.old.late ≡ true → result ≡ Some Step.Tick }
+        ensures late { 500 ≤ at - self.old.ticked → (result ≡ Some Step.Tick) ⊎ (self.new.late ≡ true) }
+        ensures due { 500 ≤ at - self.old.ticked → IfNone result ⊥ }
+        ensures piece { IfSome result IsPiece }
+        ensures cause { IfSome result (λ step. HasCause step self.old.faults self.new.faults) }
+        ensures faults { self.old.faults ≤ self.new.faults }
+        ensures none { IfNone result (self.new.faults ≡ self.old.faults) }
+    {
+        if at.saturating_sub(self.ticked) >= TICK {
+            return Some(self.due(at, space));
+        }
+        if self.nudged {
+            return Some(self.tick(at));
+        }
+        self.happened(at, space)
+    }
+
+    // Time has passed.
+    fn tick(&mut self, at: u64) -> Step
+        ensures tick { result ≡ Step.Tick }
+        ensures faults { self.new.faults ≡ self.old.faults }
+    {
+        self.nudged = false;
+        self.late = false;
+        self.ticked = at;
+        Step::Tick
+    }
+
+    // It is time for a tick. What was received first goes before it, once: where this process stood still, the
+    // time that passed would else be taken for the server's silence.
+    fn due(&mut self, at: u64, space: &mut [u8]) -> Step
+        requires { 4096 ≤ length space.old }
+        ensures tick { self.old.late ≡ true → result ≡ Step.Tick }
+        ensures late { (result ≡ Step.Tick) ⊎ (self.new.late ≡ true) }
+        ensures piece { IsPiece result }
+        ensures cause { HasCause result self.old.faults self.new.faults }
+        ensures faults { self.old.faults ≤ self.new.faults }
+    {
+        if self.late || self.stage != Stage::Linked {
+            return self.tick(at);
+        }
+        self.readable = true;
+        match self.linked(space) {
+            Some(step) => {
+                self.late = true;
+                step
+            }
+            None => self.tick(at),
+        }
+    }
+
+    // What happened to the link.
+    fn happened(&mut self, at: u64, space: &mut [u8]) -> Option<Step>
+        requires { 4096 ≤ length space.old }
+        ensures piece { IfSome result IsPiece }
+        ensures cause { IfSome result (λ step. HasCause step self.old.faults self.new.faults) }
+        ensures faults { self.old.faults ≤ self.new.faults }
+        ensures none { IfNone result (self.new.faults ≡ self.old.faults) }
+    {
+        match self.stage {
+            Stage::Idle => None,
+            Stage::Refused => {
+                self.fail();
+                Some(Step::LinkFailed)
+            }
+            Stage::Connecting => self.connecting(at),
+            Stage::Linked => self.linked(space),
+        }
+    }
+
+    // The system has connected, or not; or it was given its time.
+    fn connecting(&mut self, at: u64) -> Option<Step>
+        ensures late { 10000 ≤ at - self.old.asked → IfNone result ⊥ }
+        ensures piece { IfSome result IsPiece }
+        ensures cause { IfSome result (λ step. HasCause step self.old.faults self.new.faults) }
+        ensures faults { self.old.faults ≤ self.new.faults }
+        ensures none { IfNone result (self.new.faults ≡ self.old.faults) }
+    {
+        if self.answered {
+            self.answered = false;
+            match self.is_connected() {
+                Ok(true) => {
+                    self.stage = Stage::Linked;
+                    self.readable = true;
+                    return Some(Step::Linked);
+                }
+                Ok(false) => {}
+                Err(_) => {
+                    self.fail();
+                    return Some(Step::LinkFailed);
+                }
+            }
+        }
+        if at.saturating_sub(self.asked) < CONNECT {
+            return None;
+        }
+        self.fail();
+        Some(Step::LinkFailed)
+    }
+
+    // Whether the system has connected, or why it could not.
+    fn is_connected(&self) -> io::Result<bool> {
+        let Some(stream) = &self.stream else {
+            return Ok(false);
+        };
+        if let Some(why) = stream.take_error()? {
+            return Err(why);
+        }
+        if stream.peer_addr().is_err() {
+            return Ok(false);
+        }
+        // Small methods go out at once. Where the system can't do that, they only go later.
+        drop(stream.set_nodelay(true));
+        Ok(true)
+    }
+
+    // What is told of a link.
+    fn linked(&mut self, space: &mut [u8]) -> Option<Step>
+        requires { 4096 ≤ length space.old }
+        ensures piece { IfSome result IsPiece }
+        ensures cause { IfSome result (λ step. HasCause step self.old.faults self.new.faults) }
+        ensures faults { self.old.faults ≤ self.new.faults }
+        ensures none { IfNone result (self.new.faults ≡ self.old.faults) }
+    {
+        if self.room {
+            self.room = false;
+            return Some(Step::Room);
+        }
+        if !self.readable {
+            return None;
+        }
+        let stream = self.stream.as_mut()?;
+        match read_piece(stream, space) {
+            Ok(0) => {
+                self.hang_up();
+                Some(Step::End)
+            }
+            Ok(n) => Some(Step::Piece(n)),
+            Err(why) => self.unread(why.kind()),
+        }
+    }
+
+    // What is told where a read gave nothing. One that was interrupted is made again.
+    fn unread(&mut self, why: io::ErrorKind) -> Option<Step>
+        ensures piece { IfSome result IsPiece }
+        ensures cause { IfSome result (λ step. HasCause step self.old.faults self.new.faults) }
+        ensures faults { self.old.faults ≤ self.new.faults }
+        ensures none { IfNone result (self.new.faults ≡ self.old.faults) }
+    {
+        match why {
+            io::ErrorKind::Interrupted => None,
+            io::ErrorKind::WouldBlock => {
+                self.readable = false;
+                None
+            }
+            _ => {
+                self.fail();
+                Some(Step::Fault)
+            }
+        }
+    }
+
+    // Waits for something to happen, until the next tick at most. What the system can't watch any more is
+    // given up.
+    fn wait(&mut self, at: u64)
+        ensures { self.new.faults ≡ self.old.faults }
+    {
+        if self.stage == Stage::Linked && self.readable {
+            return;
+        }
+        let rest = TICK.saturating_sub(at.saturating_sub(self.ticked));
+        let rest = Duration::from_millis(rest);
+        match self.poll.poll(&mut self.events, Some(rest)) {
+            Ok(()) => self.look(),
+            Err(why) if why.kind() == io::ErrorKind::Interrupted => {}
+            Err(_) => {
+                self.blind();
+                self.rt.sleep(rest);
+            }
+        }
+    }
+
+    // What has happened.
+    fn look(&mut self)
+        ensures { self.new.faults ≡ self.old.faults }
+    {
+        'events: for event in self.events.iter() {
+            if event.token() == NUDGE {
+                self.nudged = true;
+                continue;
+            }
+            self.answered = true;
+            self.readable = self.readable || event.is_readable() || event.is_read_closed();
+            if self.full && event.is_writable() {
+                self.full = false;
+                self.room = true;
+            }
+        }
+    }
+
+    // The system took so many of the octets that were offered. Where that is less, it says later that there
+    // is room again.
+    fn note_taken(&mut self, taken: usize, offered: usize)
+        ensures less { taken < offered → self.new.full ≡ true }
+        ensures all { offered ≤ taken → self.new.full ≡ false }
+        ensures faults { self.new.faults ≡ self.old.faults }
+    {
+        self.full = taken < offered;
+    }
+
+    // Nothing is heard of the socket any more: a read or the time of connecting tells what became of it.
+    fn blind(&mut self)
+        ensures { self.new.faults ≡ self.old.faults }
+    {
+        self.answered = true;
+        self.readable = true;
+    }
+}
+
+impl<R: Net + Clock + Drop> Port for MioPort<R> {
+    ghost log = { λ p. None };
+
+    ghost faults = { λ p. p.faults };
+
+    ghost kept = { λ p. tt };
+
+    fn connect(&mut self) {
+        self.hang_up();
+        self.asked = self.now();
+        self.stage = match self.begin() {
+            Ok(()) => Stage::Connecting,
+            Err(_) => Stage::Refused,
+        };
+    }
+
+    fn next(&mut self, space: &mut [u8]) -> Told {
+        'waits: for _ in 0..u64::MAX {
+            let at = self.now();
+            if let Some(step) = self.ready(at, space) {
+                return Told { at, step };
+            }
+            self.wait(at);
+        }
+        Told {
+            at: self.moment,
+            step: Step::Tick,
+        }
+    }
+
+    fn write(&mut self, first: &[u8], second: &[u8]) -> Wrote {
+        let Some(stream) = &self.stream else {
+            return Wrote::Took(0);
+        };
+        'tries: for _ in 0..u64::MAX {
+            match stream.write_vectored(&[IoSlice::new(first), IoSlice::new(second)]) {
+                Ok(n) => {
+                    self.note_taken(n, first.len() + second.len());
+                    return Wrote::Took(n);
+                }
+                Err(why) => match why.kind() {
+                    io::ErrorKind::Interrupted => {}
+                    io::ErrorKind::WouldBlock => {
+                        self.note_taken(0, first.len() + second.len());
+                        return Wrote::Took(0);
+                    }
+                    _ => {
+                        self.fail();
+                        return Wrote::Failed;
+                    }
+                },
+            }
+        }
+        Wrote::Took(0)
+    }
+}

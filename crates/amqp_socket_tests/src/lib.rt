@@ -1,0 +1,9 @@
+//! Tests of `amqp_socket`, against listeners of the same process.
+#![tactic(auto)]
+
+#[cfg(test)]
+mod addresses;
+#[cfg(test)]
+mod links;
+#[cfg(test)]
+mod times;

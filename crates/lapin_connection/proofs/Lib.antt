@@ -1,0 +1,3 @@
+pub mod Sendable
+pub mod Sharing
+pub mod Refusing

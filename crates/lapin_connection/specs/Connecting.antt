@@ -1,0 +1,31 @@
+-- How connecting is answered.
+use Rattle.std.specs.Prelude.{◌≡◌, ◌⊎◌, ℕ, List, Result, Ok, Err}
+use Rattle.amqp_types.specs.Counts.{Rose}
+use Rattle.amqp_types.specs.declared.word.Word.TheVariants.{NoLoop}
+use Rattle.amqp_promise.specs.declared.error.ErrorKind.{ErrorKind}
+use Rattle.amqp_promise.specs.declared.error.ErrorKind.TheVariants.{IOError, NoMemory}
+use Rattle.amqp_promise.specs.declared.io_fault.IoFault.TheVariants.{Other}
+use Rattle.amqp_uri.specs.Address.{address_of_text}
+use Rattle.amqp_uri.specs.declared.fault.UriFault.{UriFault}
+use Rattle.amqp_uri.specs.declared.uri.AMQPUri.{AMQPUri}
+use Rattle.lapin_connection.specs.Refusals.{error_of_address}
+
+-- no loop was started, and the spawner counts one refusal more
+abbrev pub IsNoLoop : ℕ → ℕ → ErrorKind → Type 0
+IsNoLoop before after e = (e ≡ IOError (Other NoLoop)) × Rose before after
+
+-- connecting to an address is refused by want of memory, or by the spawner
+abbrev pub Connects : {A : Type 0} → ℕ → ℕ → Result A ErrorKind → Type 0
+Connects before after (Ok c) = Unit {0}
+Connects before after (Err e) = (e ≡ NoMemory) ⊎ IsNoLoop before after e
+
+-- connecting to a text: it is an address, and to connect to that is answered; or it is none, and the error is its
+-- fault, or want of memory
+abbrev pub ConnectsBy : {A : Type 0} → Result AMQPUri UriFault → ℕ → ℕ → Result A ErrorKind → Type 0
+ConnectsBy (Ok uri) before after answer = Connects before after answer
+ConnectsBy (Err fault) before after (Ok c) = ⊥
+ConnectsBy (Err fault) before after (Err e) = (e ≡ NoMemory) ⊎ (e ≡ error_of_address fault)
+
+-- the same of a text
+abbrev pub ConnectsToText : {A : Type 0} → List ℕ → ℕ → ℕ → Result A ErrorKind → Type 0
+ConnectsToText text before after answer = ConnectsBy (address_of_text text) before after answer

@@ -1,0 +1,14 @@
+-- which errors connecting has, and when a spawner's count rises
+pub mod Refusals
+-- the handles on a connection
+pub mod Handles
+-- what the answer to a command shows, and why one is refused
+pub mod Commands
+-- what is made of the answer to a promise
+pub mod Giving
+-- whether a channel goes on after an error
+pub mod Recovering
+-- how connecting is answered
+pub mod Connecting
+-- how a builder's connecting is answered
+pub mod Building

@@ -1,0 +1,193 @@
+//! Connecting.
+
+ghost use Rattle.std.specs.Prelude.{◌≡◌, ◌≤◌, ◌⊎◌, IfErr, IfOk, Ok, Err, Result as Outcome};
+ghost use Rattle.amqp_uri.specs.Address.{address_of_text};
+ghost use Rattle.amqp_uri.specs.declared.fault.UriFault.{UriFault as Fault};
+ghost use Rattle.amqp_uri.specs.declared.fault.UriFault.TheVariants as fault;
+ghost use Rattle.amqp_uri.specs.declared.uri.AMQPUri.{AMQPUri as Uri};
+ghost use Rattle.lapin_connection.specs.Connecting.{Connects, ConnectsBy};
+
+use crate::connection::Connection;
+use crate::errors::{error_of_address, error_of_start};
+use crate::live::{LoopJob, start_thread};
+use crate::nudge::Nudge;
+use crate::spawner::Spawner;
+use amqp_engine::{IoLoop, Port};
+use amqp_hub::Hub;
+use amqp_session::{AuthProvider, ConnectionProperties, ErrorKind, ProviderChoice, Result};
+use amqp_uri::{AMQPUri, UriFault};
+use std::alloc::Global;
+use std::sync::Wait;
+use std::thread::Threads;
+
+// A connection over this port, whose loop is to be started.
+fn over<P: Port>(
+    alloc: Global,
+    uri: &AMQPUri,
+    options: ConnectionProperties,
+    port: &mut P,
+    nudge: Nudge,
+) -> Result<Connection>
+    ensures only { IfErr result (λ e. e ≡ ErrorKind.NoMemory) }
+    ensures faults { P.faults port.old ≤ P.faults port.new }
+{
+    let engine = IoLoop::new(alloc, uri, options)?;
+    let hub = Hub::new(alloc, engine, port)?;
+    Connection::over(alloc, hub, nudge)
+}
+
+// Connects, with a provider that answers the server.
+fn start<S: Spawner, A: AuthProvider + 'static, R: Threads + Wait + Copy + Send + 'static>(
+    rt: R,
+    alloc: Global,
+    uri: &AMQPUri,
+    options: ConnectionProperties,
+    provider: A,
+    settles_after: Option<u64>,
+    spawner: &mut S,
+) -> Result<Connection>
+    requires { A.can provider }
+    ensures count { S.refusals spawner.old ≤ S.refusals spawner.new }
+    ensures refused { Connects (S.refusals spawner.old) (S.refusals spawner.new) result }
+{
+    let (mut port, nudge) = match spawner.port(uri) {
+        Ok(both) => both,
+        Err(fault) => return Err(error_of_start(fault).into()),
+    };
+    let connection = over(alloc, uri, options, &mut port, nudge)?;
+    let shared = connection.share()?;
+    let job = LoopJob::new(alloc, port, provider, shared, settles_after)?;
+    match spawner.spawn(
+        move ||
+            requires { A.can job.provider }
+        { start_thread(rt, job) },
+    ) {
+        Ok(started) => {
+            drop(started);
+            Ok(connection)
+        }
+        Err(fault) => Err(error_of_start(fault).into()),
+    }
+}
+
+// Connects to an address, and settles by itself after so many entries, if that is said.
+pub(crate) fn connect_to<C, S: Spawner, R: Threads + Wait + Copy + Send + 'static>(
+    rt: R,
+    alloc: Global,
+    uri: &AMQPUri,
+    options: ConnectionProperties<C>,
+    settles_after: Option<u64>,
+    runtime: &mut S,
+) -> Result<Connection>
+where
+    C: ProviderChoice,
+    C::Provider: 'static,
+    requires { C.can options.choice }
+    ensures count { S.refusals runtime.old ≤ S.refusals runtime.new }
+    ensures refused { Connects (S.refusals runtime.old) (S.refusals runtime.new) result }
+{
+    let (options, choice) = options.into_parts();
+    match choice.provider(alloc, uri) {
+        Ok(provider) => start(rt, alloc, uri, options, provider, settles_after, runtime),
+        Err(refused) => {
+            drop(options);
+            Err(refused.into())
+        }
+    }
+}
+
+impl Connection {
+    /// Connects to a server by this runtime: to the address that a text is, or to an address. The connection
+    /// opens by and by: wait for `opened` before the first command.
+    pub fn connect_with_runtime<
+        U: Connect,
+        C,
+        S: Spawner,
+        R: Threads + Wait + Copy + Send + 'static,
+    >(
+        rt: R,
+        alloc: Global,
+        uri: U,
+        options: ConnectionProperties<C>,
+        runtime: &mut S,
+    ) -> Result<Connection>
+    where
+        C: ProviderChoice,
+        C::Provider: 'static,
+        requires { C.can options.choice }
+        ensures count { S.refusals runtime.old ≤ S.refusals runtime.new }
+        ensures refused { ConnectsBy (U.known uri) (S.refusals runtime.old) (S.refusals runtime.new) result }
+        ensures untouched { (f : Fault) → U.known uri ≡ Err f → runtime.new ≡ runtime.old }
+    {
+        match uri.address(alloc) {
+            Ok(uri) => connect_to(rt, alloc, &uri, options, None, runtime),
+            Err(fault) => {
+                drop(options);
+                Err(error_of_address(fault).into())
+            }
+        }
+    }
+
+    /// Connects to an address, by this runtime.
+    pub fn connect_uri_with_runtime<C, S: Spawner, R: Threads + Wait + Copy + Send + 'static>(
+        rt: R,
+        alloc: Global,
+        uri: AMQPUri,
+        options: ConnectionProperties<C>,
+        runtime: &mut S,
+    ) -> Result<Connection>
+    where
+        C: ProviderChoice,
+        C::Provider: 'static,
+        requires { C.can options.choice }
+        ensures count { S.refusals runtime.old ≤ S.refusals runtime.new }
+        ensures refused { Connects (S.refusals runtime.old) (S.refusals runtime.new) result }
+    {
+        connect_to(rt, alloc, &uri, options, None, runtime)
+    }
+
+    /// The same, with its arguments in another order.
+    pub fn connector<C, S: Spawner, R: Threads + Wait + Copy + Send + 'static>(
+        rt: R,
+        alloc: Global,
+        uri: AMQPUri,
+        runtime: &mut S,
+        options: ConnectionProperties<C>,
+    ) -> Result<Connection>
+    where
+        C: ProviderChoice,
+        C::Provider: 'static,
+        requires { C.can options.choice }
+        ensures count { S.refusals runtime.old ≤ S.refusals runtime.new }
+        ensures refused { Connects (S.refusals runtime.old) (S.refusals runtime.new) result }
+    {
+        connect_to(rt, alloc, &uri, options, None, runtime)
+    }
+}
+
+/// What names a server to connect to: an address, or the text of one.
+pub trait Connect {
+    /// The address that it is, or why it is none.
+    ghost known: { Self → Outcome Uri Fault };
+
+    /// The address, or why there is none.
+    fn address(self, alloc: Global) -> std::result::Result<AMQPUri, UriFault>
+        ensures ok { IfOk result (λ uri. known self ≡ Ok uri) }
+        ensures fault { IfErr result (λ e. (e ≡ fault.NoMemory) ⊎ (known self ≡ Err e)) };
+}
+
+impl Connect for AMQPUri {
+    ghost known = { λ uri. Ok uri };
+
+    fn address(self, _alloc: Global) -> std::result::Result<AMQPUri, UriFault> {
+        Ok(self)
+    }
+}
+
+impl Connect for &str {
+    ghost known = { λ text. address_of_text text.now };
+
+    fn address(self, alloc: Global) -> std::result::Result<AMQPUri, UriFault> {
+        AMQPUri::parse(alloc, self)
+    }
+}

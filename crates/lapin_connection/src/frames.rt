@@ -1,0 +1,63 @@
+//! Frames that are handed out, for those who wait for them.
+
+ghost use Rattle.std.specs.Prelude.{◌≡◌, IfErr, IsOk};
+ghost use Rattle.futures.specs.Task.{Covers, Keeps};
+ghost use Rattle.futures.specs.Poll.{OnPending, IfReady};
+ghost use Rattle.lapin_connection.specs.Handles.{channel_source};
+
+use crate::channel::Channel;
+use amqp_session::{ErrorKind, Handed, Result};
+use futures::Future;
+use futures::task::{Context, Poll};
+use std::sync::Wait;
+
+impl Channel {
+    /// Sleeps until frames were handed out, and takes them; none once the channel is gone for good.
+    pub fn wait_frames<R: Wait>(&self, rt: &R) -> Result<Vec<Handed>>
+        ensures takes_no_memory { IsOk result }
+    {
+        let mut guard = self.shared.locked.lock(rt);
+        for _ in rt.forever() {
+            if let Some(frames) = guard.frames(self.opened) {
+                return frames;
+            }
+            guard = self.shared.changed.wait(rt, guard);
+        }
+        unreachable!()
+    }
+
+    /// Takes the frames that were handed out, and none once the channel is gone for good; else the polled
+    /// task waits for some.
+    pub fn poll_frames<R: Wait>(&self, rt: &R, cx: &mut Context<'_>) -> Poll<Result<Vec<Handed>>>
+        ensures only { IfReady result (λ r. IfErr r (λ e. e ≡ ErrorKind.NoMemory)) }
+        ensures registered { OnPending result (Covers cx.new (λ s. s ≡ channel_source self.now)) }
+        ensures kept { Keeps cx.old cx.new }
+    {
+        self.shared
+            .locked
+            .lock(rt)
+            .frames_or_register(self.opened, &self.shared.source, cx)
+    }
+
+    /// The same as a future, for an executor.
+    pub fn next_frames<'a, R: Wait>(&'a self, rt: &'a R) -> NextFrames<'a, R> {
+        NextFrames { channel: self, rt }
+    }
+}
+
+/// The next frames of a channel as a future.
+#[derive(Drop)]
+pub struct NextFrames<'a, R> {
+    channel: &'a Channel,
+    rt: &'a R,
+}
+
+impl<R: Wait> Future for NextFrames<'_, R> {
+    type Output = Result<Vec<Handed>>;
+
+    ghost needs = { λ next s. s ≡ channel_source next.channel.now };
+
+    fn poll(&mut self, cx: &mut Context<'_>) -> Poll<Result<Vec<Handed>>> {
+        self.channel.poll_frames(self.rt, cx)
+    }
+}

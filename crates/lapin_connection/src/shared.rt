@@ -1,0 +1,189 @@
+//! What the handles of a connection share.
+
+ghost use Rattle.std.specs.Prelude.{◌≡◌, ◌≤◌, ◌+◌, Some, None, true, false, IfOk, OnOk, OnErr};
+ghost use Rattle.std.specs.Fn.{FnOnceReturnsAtMut};
+ghost use Rattle.amqp_session.specs.Commands.{takes_promise};
+ghost use Rattle.amqp_session.specs.declared.command.Cmd.TheVariants.{OpenChannel};
+ghost use Rattle.amqp_hub.specs.Guarded.{Guarded};
+ghost use Rattle.lapin_connection.specs.Commands.{Shows, Refuses};
+
+use crate::nudge::Nudge;
+use amqp_engine::Port;
+use amqp_hub::{DropMark, Ended, Hub, Pass, Receipt};
+use amqp_locked::{Heard, Locked};
+use amqp_session::{AuthProvider, Cmd, Result};
+use amqp_types::NoMemory;
+use futures::task::Source;
+use std::alloc::Global;
+use std::sync::{Arc, Condvar, Mutex, Wait};
+
+/// What the handles of a connection share: what lies under the lock, and beside it what wakes those who
+/// wait for it.
+#[derive(Drop)]
+pub struct Shared {
+    pub(crate) alloc: Global,
+    pub(crate) source: Source,
+    pub(crate) locked: Mutex<Locked>,
+    pub(crate) changed: Condvar,
+    pub(crate) over: Condvar,
+    pub(crate) nudge: Nudge,
+}
+
+// Whether a command may answer what others wait for.
+fn answers_others(cmd: &Cmd) -> bool {
+    matches!(cmd, Cmd::CloseChannel(..) | Cmd::CloseConnection(..))
+}
+
+impl Shared {
+    /// What is shared, over what lies under the lock.
+    pub fn new(
+        alloc: Global,
+        locked: Locked,
+        nudge: Nudge,
+    ) -> std::result::Result<Arc<Shared>, NoMemory> {
+        let shared = Shared {
+            alloc,
+            source: Source::new(),
+            locked: Mutex::new(locked),
+            changed: Condvar::new(),
+            over: Condvar::new(),
+            nudge,
+        };
+        Ok(Arc::new(alloc, shared)?)
+    }
+
+    /// Enters a command that makes no promise.
+    pub fn command<R: Wait>(
+        &self,
+        rt: &R,
+        pass: &mut Pass,
+        cmd: Cmd,
+    ) -> Result<(Option<u64>, Receipt)>
+        requires { takes_promise cmd ≡ false }
+        ensures made { OnOk result (pass.new.made ≡ pass.old.made + 1) }
+        ensures number { pass.new.number ≡ pass.old.number }
+        ensures same { OnErr result (pass.new ≡ pass.old) }
+        ensures refused { Refuses pass.old result }
+        ensures receipt { IfOk result (λ r. Shows pass.new cmd None r.1) }
+    {
+        let told = self.locked.lock(rt).command(pass, cmd);
+        self.nudge.wake();
+        told
+    }
+
+    /// Enters the command that opens a channel.
+    pub fn open<R: Wait>(&self, rt: &R, pass: &mut Pass) -> Result<(u64, Receipt, DropMark)>
+        ensures made { OnOk result (pass.new.made ≡ pass.old.made + 1) }
+        ensures number { pass.new.number ≡ pass.old.number }
+        ensures same { OnErr result (pass.new ≡ pass.old) }
+        ensures refused { Refuses pass.old result }
+        ensures receipt { IfOk result (λ r. Shows pass.new OpenChannel (Some r.0) r.1) }
+    {
+        let told = self.locked.lock(rt).open(pass);
+        self.nudge.wake();
+        told
+    }
+
+    /// Enters a command that makes a promise. A close answers at once what others wait for, so these are
+    /// woken.
+    pub fn ask<R: Wait>(
+        &self,
+        rt: &R,
+        pass: &mut Pass,
+        cmd: Cmd,
+    ) -> Result<(u64, Receipt, DropMark)>
+        requires { takes_promise cmd ≡ true }
+        ensures made { OnOk result (pass.new.made ≡ pass.old.made + 1) }
+        ensures number { pass.new.number ≡ pass.old.number }
+        ensures same { OnErr result (pass.new ≡ pass.old) }
+        ensures refused { Refuses pass.old result }
+        ensures receipt { IfOk result (λ r. Shows pass.new cmd (Some r.0) r.1) }
+    {
+        let answers = answers_others(&cmd);
+        let mut guard = self.locked.lock(rt);
+        let told = guard.ask(pass, cmd);
+        if answers {
+            guard.wake();
+        }
+        drop(guard);
+        if answers {
+            self.changed.notify_all();
+        }
+        self.nudge.wake();
+        told
+    }
+
+    /// One turn: one hold of the lock. Then all who wait are woken. It says how the session ended, where it
+    /// has.
+    pub fn turn<P: Port, A: AuthProvider, R: Wait>(
+        &self,
+        rt: &R,
+        heard: Heard<'_>,
+        port: &mut P,
+        provider: &mut A,
+    ) -> Option<Ended>
+        requires { A.can provider.old }
+        ensures can { A.can provider.new }
+        ensures faults { P.faults port.old ≤ P.faults port.new }
+        ensures kept { P.kept port.new ≡ P.kept port.old }
+        ensures never_falls { A.refusals provider.old ≤ A.refusals provider.new }
+    {
+        let mut guard = self.locked.lock(rt);
+        // Where memory is refused, the session has ended.
+        let _ = guard.apply(heard, port, provider);
+        guard.wake();
+        let ended = guard.ended();
+        drop(guard);
+        self.changed.notify_all();
+        if ended.is_some() {
+            self.over.notify_all();
+        }
+        ended
+    }
+
+    /// Takes and lets go, in a hold of its own, what nobody will take.
+    pub fn let_go<R: Wait>(&self, rt: &R) {
+        let mut guard = self.locked.lock(rt);
+        if guard.has_unasked() {
+            guard.let_go();
+        }
+    }
+
+    /// Lets the journal begin anew, in a hold of its own, where it has as many entries as that. Where memory
+    /// is refused, it goes on as it was.
+    pub fn settle<R: Wait>(&self, rt: &R, settles_after: Option<u64>) {
+        let Some(entries) = settles_after else {
+            return;
+        };
+        let mut guard = self.locked.lock(rt);
+        if guard.entries() as u64 >= entries {
+            let _ = guard.settle();
+        }
+    }
+
+    /// Lends the hub for one hold. Then all who wait are woken, and the loop.
+    pub fn lend<R: Wait, T, F: FnOnce(&mut Hub) -> T>(&self, rt: &R, use_hub: F) -> T
+        requires { F.IsAlwaysCallable use_hub }
+        ensures { (before after : Guarded) × FnOnceReturnsAtMut F.FnOnce use_hub before result after }
+    {
+        let mut guard = self.locked.lock(rt);
+        let given = guard.lend(use_hub);
+        guard.wake();
+        drop(guard);
+        self.changed.notify_all();
+        self.nudge.wake();
+        given
+    }
+
+    /// Waits until the session has ended, and says how.
+    pub fn wait_for_the_end<R: Wait>(&self, rt: &R) -> Ended {
+        let mut guard = self.locked.lock(rt);
+        for _ in rt.forever() {
+            if let Some(ended) = guard.ended() {
+                return ended;
+            }
+            guard = self.over.wait(rt, guard);
+        }
+        unreachable!()
+    }
+}
