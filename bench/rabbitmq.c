@@ -4,16 +4,18 @@
  *     apt-get install librabbitmq-dev
  *     gcc -O2 -o rabbitmq rabbitmq.c -lrabbitmq
  *     ./rabbitmq write SIZE COUNT | read SIZE COUNT | messages-out SIZE COUNT | messages-in SIZE COUNT
- *         | publish SIZE COUNT PORT
+ *         | publish SIZE COUNT PORT | ready SIZE COUNT PORT
  *
  * It writes by amqp_send_frame, whose `send` is the one below, and reads by amqp_handle_input. It publishes
  * by amqp_basic_publish, over the same `send`; and takes what is delivered frame by frame, by
  * amqp_simple_wait_frame, whose `recv` is the one below. With a port it publishes to the server that listens
- * there on this machine, as sink.c does, over a socket of the system. */
+ * there on this machine, as sink.c does, over a socket of the system; or writes frames that were made before, in
+ * large writes, which is as fast as any client can be. */
 
 #include <amqp.h>
 #include <amqp_framing.h>
 #include <amqp_tcp_socket.h>
+#include <fcntl.h>
 #include <stdio.h>
 #include <stdlib.h>
 #include <string.h>
@@ -141,25 +143,42 @@ static void say(unsigned char type, const void *payload, size_t size) {
   said_length += size + 8;
 }
 
-/* As many messages one after another as LIMIT octets take, and one at least: basic.deliver to the
- * consumer c of the queue q, a content header without properties, and a body. */
-static void say_messages(size_t size) {
-  static const unsigned char deliver[] = "\0\x3c\0\x3c\1c\0\0\0\0\0\0\0\1\0\0\1q";
+/* As many messages one after another as so many octets take, and one at least: a method, a content header
+ * without properties, and a body. Says how many there are. */
+static uint64_t say_messages(const void *method, size_t length, size_t size, size_t most) {
   unsigned char header[14] = {0, 60, 0, 0, 0, 0, 0, 0, size >> 24, size >> 16, size >> 8, size};
-  size_t one = sizeof deliver - 1 + sizeof header + size + 24;
+  size_t one = length + sizeof header + size + 24;
+  uint64_t messages = 0;
   unsigned char *body = malloc(size);
   memset(body, 'x', size);
-  said = malloc(LIMIT + one);
+  said = malloc(most + one);
   do {
-    say(1, deliver, sizeof deliver - 1);
+    say(1, method, length);
     say(2, header, sizeof header);
     say(3, body, size);
-  } while (said_length + one <= LIMIT);
+    messages++;
+  } while (said_length + one <= most);
+  return messages;
 }
 
+/* Writes messages of basic.publish to the queue q, a MiB of them at a time, and so some more at the end. */
+static void write_ready(int socket, size_t size, uint64_t count) {
+  static const unsigned char method[] = "\0\x3c\0\x28\0\0\0\1q\0";
+  uint64_t each = say_messages(method, sizeof method - 1, size, 1 << 20);
+  fcntl(socket, F_SETFL, 0); /* It waits until there is room. */
+  for (uint64_t i = 0; i < count; i += each)
+    for (size_t at = 0; at < said_length;) {
+      ssize_t n = sendto(socket, said + at, said_length - at, MSG_NOSIGNAL, NULL, 0);
+      if (n < 0) stop("not written");
+      at += (size_t)n;
+    }
+}
+
+/* basic.deliver to the consumer c of the queue q. */
 static void deliver(size_t size, uint64_t count) {
+  static const unsigned char method[] = "\0\x3c\0\x3c\1c\0\0\0\0\0\0\0\1\0\0\1q";
   amqp_connection_state_t state = connection();
-  say_messages(size);
+  say_messages(method, sizeof method - 1, size, LIMIT);
   for (uint64_t i = 0; i < count;) {
     amqp_frame_t frame;
     if (amqp_simple_wait_frame(state, &frame) != AMQP_STATUS_OK) stop("not delivered");
@@ -172,13 +191,15 @@ static void deliver(size_t size, uint64_t count) {
 
 int main(int argc, char **argv) {
   if (argc != 4 && argc != 5)
-    stop("usage: rabbitmq write|read|messages-out|messages-in SIZE COUNT | publish SIZE COUNT PORT");
+    stop("usage: rabbitmq write|read|messages-out|messages-in SIZE COUNT | publish|ready SIZE COUNT PORT");
   size_t size = strtoul(argv[2], 0, 10);
   uint64_t count = strtoull(argv[3], 0, 10);
   if (!strcmp(argv[1], "write")) write_frames(size, count);
   else if (!strcmp(argv[1], "read")) read_frames(size, count);
   else if (!strcmp(argv[1], "messages-out")) publish(connection(), size, count);
   else if (!strcmp(argv[1], "publish") && argc == 5) publish(connected(atoi(argv[4])), size, count);
+  else if (!strcmp(argv[1], "ready") && argc == 5)
+    write_ready(amqp_get_sockfd(connected(atoi(argv[4]))), size, count);
   else if (!strcmp(argv[1], "messages-in")) deliver(size, count);
   else stop("what is to be done?");
   printf("%s: %llu of %zu octets: %llu octets in all\n", argv[1], (unsigned long long)count,

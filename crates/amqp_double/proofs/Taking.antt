@@ -1,5 +1,5 @@
 -- Frames that came are taken, one after another.
-use Rattle.std.proofs.Common.{subst, ◌≡◌, ◌≤◌, ◌<◌, ◌∙◌, ap, sym, refl, ℕ, ◌+◌, false, List, [], ◌∷◌, ◌++◌, length, get_or, take, drop, Option, Some, None, IsTrue, is_some, Err, arith, length-append, length-drop}
+use Rattle.std.proofs.Common.{subst, ◌≡◌, ◌≤◌, ◌<◌, ◌∙◌, ap, sym, refl, ℕ, ◌+◌, false, List, [], ◌∷◌, ◌++◌, length, get_or, take, drop, Option, Some, None, IsTrue, is_some, Err, arith, append-nil, append_assoc, length-append, length-drop}
 use Rattle.std.specs.Prelude.{vec_capacity}
 use Rattle.std.proofs.lemmas.List.{drop_more, take-append-le}
 use Rattle.std.proofs.lemmas.List.Sums.{sum_by-cons, sum_by_push}
@@ -19,7 +19,7 @@ use Rattle.amqp_session.specs.declared.configuration.Configuration.{Configuratio
 use Rattle.amqp_double.specs.Arrivals.{IsThere, IsArrival, Arrive, AreArrivals, Adds, IsBehind, reply_length, replies_length}
 use Rattle.amqp_double.specs.declared.refusal.DoubleFault.TheVariants as faults
 use Rattle.amqp_double.specs.Faults.{result_of}
-use Rattle.amqp_double.specs.Doubles.{greatest_limit, DoubleState, with_client, HasAnswered, StopsBehind, AnswersClient}
+use Rattle.amqp_double.specs.Doubles.{greatest_limit, DoubleState, with_client, HasAnswered, StopsBehind, AnswersClient, SaysMore}
 use Rattle.amqp_double.specs.Replies.{reply_octets, all_replies, closes_connection}
 use Rattle.amqp_double.specs.Hearing.{double_of, HasRead, HeardAll, HasTaken, Unchanged, Kept}
 use Rattle.amqp_double.specs.declared.arrivals.Arrival.{Arrival as Came}
@@ -140,12 +140,19 @@ all_read bytes numbers start place a so behind = record { end = place; arrive = 
 
 -- ---- frames that are taken
 
+-- of so many octets all were said but so many
+pub record Said (all left : ℕ) (old now : List ℕ) : Type 0 where
+  pub more : List ℕ
+  pub behind : now ≡ old ++ more
+  pub counted : length more + left ≡ all
+
 -- from the first up to one of them
 pub record TakenSoFar (old now : Heard) (list : List Came) (i : ℕ) : Type 0 where
   pub going : now.refusal ≡ None
   pub room : length now.said.items + replies_length (drop i list) ≤ vec_capacity now.said
   pub arrive : (end : ℕ) → Arrive old.client.items old.numbers old.read list end → Arrive now.client.items now.numbers now.read (drop i list) end
   pub read : (frames : List Frame) → HasRead frames old → (more : List Frame) × HasRead more now
+  pub said : Said (replies_length list) (replies_length (drop i list)) old.said.items now.said.items
   pub same : Kept old now
 
 pub none_taken : (old : Heard) (list : List Came) → old.refusal ≡ None → length old.said.items + replies_length list ≤ vec_capacity old.said → TakenSoFar old old list 0
@@ -154,6 +161,7 @@ none_taken old list going room = record {
   room = room;
   arrive = λ end arrive. arrive;
   read = λ frames read. (frames, read);
+  said = record { more = []; behind = sym (append-nil old.said.items); counted = omega arith };
   same = record { numbers = refl; client = refl; sent = refl };
 }
 
@@ -170,6 +178,22 @@ pub next-room : (old now : Heard) (list : List Came) (i : ℕ) (a : Came) → i 
 next-room old now list i a less is so =
     let next : drop i list ≡ a ∷ drop (i + 1) list = drop_more list i a less ∙ ap (λ (x : Came). x ∷ drop (i + 1) list) (sym is) in
     omega (arith, so.room, ap replies_length next, sum_by-cons reply_length a (drop (i + 1) list))
+
+next-length : (old now : Heard) (list : List Came) (i : ℕ) (a : Came) → i < length list → a ≡ get_or list i a
+    → replies_length (drop i list) ≡ reply_length a + replies_length (drop (i + 1) list)
+next-length old now list i a less is =
+    let next : drop i list ≡ a ∷ drop (i + 1) list = drop_more list i a less ∙ ap (λ (x : Came). x ∷ drop (i + 1) list) (sym is) in
+    ap replies_length next ∙ sum_by-cons reply_length a (drop (i + 1) list)
+
+said-on : (old now new : Heard) (list : List Came) (i : ℕ) (a : Came) → i < length list → a ≡ get_or list i a → TakenSoFar old now list i
+    → new.said.items ≡ now.said.items ++ a.reply.items → Said (replies_length list) (replies_length (drop (i + 1) list)) old.said.items new.said.items
+said-on old now new list i a less is so said =
+    let k = so.said in
+    record {
+      more = k.more ++ a.reply.items;
+      behind = said ∙ ap (λ (xs : List ℕ). xs ++ a.reply.items) k.behind ∙ append_assoc old.said.items k.more a.reply.items;
+      counted = omega (arith, k.counted, length-append k.more a.reply.items, next-length old now list i a less is);
+    }
 
 pub kept-on : (a b c : Heard) → Kept a b → Kept b c → Kept a c
 kept-on a b c one two = record {
@@ -192,6 +216,7 @@ taken_more old now new list i a less is so going read said room same more = reco
       (subst (λ (numbers : Configuration). P new.client.items numbers (now.read + a.size)) (sym same.numbers)
       (subst (λ (bytes : List ℕ). P bytes now.numbers (now.read + a.size)) (sym same.client) behind));
   read = λ frames h. let k = so.read frames h in (k.0 ++ a.frame ∷ [], more k.0 k.1);
+  said = said-on old now new list i a less is so said;
   same = kept-on old now new so.same same;
 }
 
@@ -214,6 +239,10 @@ all_taken old now list so frames h =
     drop-all : (xs : List Came) → drop (length xs) xs ≡ []
     drop-all [] = refl
     drop-all (x ∷ xs) = drop-all xs
+
+-- what was said then
+pub said_then : (old now : Heard) (list : List Came) (i : ℕ) → TakenSoFar old now list i → SaysMore (replies_length list) old.said.items now.said.items
+said_then old now list i so = record { more = so.said.more; behind = so.said.behind; within = omega (arith, so.said.counted) }
 
 -- one is refused
 pub one_refused : (old now new : Heard) (list : List Came) (i end : ℕ) (a : Came) → i < length list → a ≡ get_or list i a → TakenSoFar old now list i

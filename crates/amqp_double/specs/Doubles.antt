@@ -1,5 +1,5 @@
 -- What a server double reads of its client's octets, and what it answers to them.
-use Rattle.std.specs.Prelude.{◌≡◌, ◌≤◌, ℕ, Bool, false, List, [], ◌∷◌, ◌++◌, length, Option, Some, None}
+use Rattle.std.specs.Prelude.{◌≡◌, ◌≤◌, ℕ, Bool, false, List, [], ◌∷◌, ◌++◌, length, drop, Option, Some, None}
 use Rattle.amqp_frame.specs.declared.frame.Frame.{Frame}
 use Rattle.amqp_frame.specs.declared.frame.Read.TheVariants.{Whole, More}
 use Rattle.amqp_frame.specs.Sequences.{front_at, Stand, IsNoFrame}
@@ -75,3 +75,18 @@ StopsBehind client place frames (Some (Unexpected i)) = (i ≡ length frames) ×
 -- it answered all frames up to the first that is not whole, is none, or may not be said
 abbrev pub AnswersClient : DoubleState → Type 0
 AnswersClient d = (frames : List Frame) × HasAnswered frames d × StopsBehind d.client d.read frames d.refusal
+
+-- more was said, behind what had been said, and at most so many octets
+pub record SaysMore (most : ℕ) (old new : List ℕ) : Type 0 where
+  pub more : List ℕ
+  pub behind : new ≡ old ++ more
+  pub within : length more ≤ most
+
+-- some more was said, or nothing
+pub record SaysOn (old new : List ℕ) : Type 0 where
+  pub more : List ℕ
+  pub behind : new ≡ old ++ more
+
+-- the octets that were not sent
+abbrev pub unsent_of : DoubleState → List ℕ
+unsent_of d = drop d.sent d.said

@@ -1,10 +1,10 @@
 //! The double.
 
-ghost use Rattle.std.specs.Prelude.{◌≡◌, ◌≢◌, ◌≤◌, ◌⊎◌, ◌+◌, ◌-◌, ◌++◌, length, drop, IfOk, IfErr, IsTrue, is_some, Err, None};
-ghost use Rattle.amqp_double.specs.Doubles.{fresh, AnswersClient};
+ghost use Rattle.std.specs.Prelude.{◌≡◌, ◌≢◌, ◌≤◌, ◌⊎◌, ◌+◌, ◌-◌, ◌++◌, length, drop, vec_capacity, IfOk, IfErr, IsTrue, is_some, Err, None};
+ghost use Rattle.amqp_double.specs.Doubles.{fresh, AnswersClient, SaysOn};
 ghost use Rattle.amqp_double.specs.Faults.{result_of};
 
-use crate::heard::Heard;
+use crate::heard::{Heard, reserve_all};
 use crate::refusal::{DoubleFault, Refusal};
 use amqp_session::Configuration;
 use amqp_types::NoMemory;
@@ -67,6 +67,45 @@ impl Double {
         told(self.heard.refusal)
     }
 
+    /// The same, once a list has places for as many items more as octets were then answered and not sent,
+    /// and for so many beside. Where there is no memory for these either, the double is as before.
+    #[tactic(auto, using(crate::proofs::Taking::heard_answers))]
+    pub fn feed_with<T>(
+        &mut self,
+        bytes: &[u8],
+        list: &mut Vec<T>,
+        beside: usize,
+    ) -> Result<(), DoubleFault>
+        ensures answers { AnswersClient self.new }
+        ensures result { result ≢ Err DoubleFault.NoMemory → result ≡ result_of self.new.refusal }
+        ensures client { self.old.refusal ≡ None → result ≢ Err DoubleFault.NoMemory
+            → self.new.client ≡ self.old.client ++ bytes.now }
+        ensures same { (self.new.numbers ≡ self.old.numbers) × (self.new.sent ≡ self.old.sent) }
+        ensures said { SaysOn self.old.said self.new.said }
+        ensures refused { IsTrue (is_some self.old.refusal) → self.new ≡ self.old }
+        ensures unchanged { result ≡ Err DoubleFault.NoMemory → self.new ≡ self.old }
+        ensures items { list.new.items ≡ list.old.items }
+        ensures capacity { vec_capacity list.old ≤ vec_capacity list.new }
+        ensures places { result ≢ Err DoubleFault.NoMemory → length list.new.items
+            + (length self.new.said - self.new.sent) + beside ≤ vec_capacity list.new }
+    {
+        if self.heard.refusal.is_some() {
+            let unsent = self.heard.said.len() - self.heard.sent;
+            return match reserve_all(list, unsent, beside, 0) {
+                Ok(()) => told(self.heard.refusal),
+                Err(NoMemory) => Err(DoubleFault::NoMemory),
+            };
+        }
+        if self
+            .heard
+            .hear_with(self.alloc, bytes, list, beside)
+            .is_err()
+        {
+            return Err(DoubleFault::NoMemory);
+        }
+        told(self.heard.refusal)
+    }
+
     /// What it answered and was not sent yet.
     #[tactic(auto, using(crate::proofs::Taking::heard_answers))]
     pub fn output(&self) -> &[u8]
@@ -74,6 +113,13 @@ impl Double {
         ensures answers { AnswersClient self.now }
     {
         &self.heard.said[self.heard.sent..]
+    }
+
+    /// How many octets of its answers were sent.
+    pub fn sent_len(&self) -> usize
+        ensures { result ≡ self.now.sent }
+    {
+        self.heard.sent
     }
 
     /// The first octets of its output were sent, so many of them.

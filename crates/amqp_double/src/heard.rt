@@ -1,6 +1,6 @@
 //! What a double heard of its client, and what it answers.
 
-ghost use Rattle.std.specs.Prelude.{◌≡◌, ◌≤◌, ◌+◌, ◌++◌, ◌∷◌, [], ℕ, List, length, drop, vec_capacity, Some, None};
+ghost use Rattle.std.specs.Prelude.{◌≡◌, ◌≤◌, ◌+◌, ◌-◌, ◌++◌, ◌∷◌, [], ℕ, List, length, drop, vec_capacity, Some, None};
 ghost use Rattle.std.specs.Prelude.{IfOk, OnOk, OnErr, IsTrue, IsFalse};
 ghost use Rattle.amqp_double.specs.Replies.{closes_connection};
 ghost use Rattle.amqp_frame.specs.declared.frame.Frame.{Frame};
@@ -48,7 +48,7 @@ impl Heard {
     ghost use Rattle.amqp_legal.specs.Speeches.{HasSaid};
     ghost use Rattle.amqp_double.specs.declared.refusal.Refusal.TheVariants as refusals;
     ghost use Rattle.amqp_double.specs.Arrivals.{IsArrival, Arrive, AreArrivals, replies_length};
-    ghost use Rattle.amqp_double.specs.Doubles.{fresh};
+    ghost use Rattle.amqp_double.specs.Doubles.{fresh, SaysMore, SaysOn};
     ghost use Rattle.amqp_double.specs.Hearing.{double_of, HasRead, HeardAll, HasTaken, Unchanged, Kept};
 
     /// Nothing was heard.
@@ -94,6 +94,70 @@ impl Heard {
         }
     }
 
+    /// The same, once a list has places for as many items more as octets are then said and not sent, and
+    /// for so many beside. Where there is no memory for that, nothing was heard.
+    #[tactic(auto, using(crate::proofs::Taking::taken_off))]
+    pub fn hear_with<T>(
+        &mut self,
+        alloc: Global,
+        bytes: &[u8],
+        list: &mut Vec<T>,
+        beside: usize,
+    ) -> Result<(), NoMemory>
+        requires { self.old.refusal ≡ None }
+        ensures heard { OnOk result (HeardAll self.old → HeardAll self.new) }
+        ensures client { OnOk result (self.new.client.items ≡ self.old.client.items ++ bytes.now) }
+        ensures same { (self.new.numbers ≡ self.old.numbers) × (self.new.sent ≡ self.old.sent) }
+        ensures said { OnOk result (SaysOn self.old.said.items self.new.said.items) }
+        ensures items { list.new.items ≡ list.old.items }
+        ensures capacity { vec_capacity list.old ≤ vec_capacity list.new }
+        ensures places { OnOk result (length list.new.items
+            + (length self.new.said.items - self.new.sent) + beside ≤ vec_capacity list.new) }
+        ensures unchanged { OnErr result (Unchanged self.old self.new) }
+    {
+        let before = self.client.len();
+        self.client.extend_from_slice(bytes)?;
+        match self.arrivals_with(alloc, list, beside) {
+            Ok(arrivals) => {
+                self.take_all(&arrivals);
+                drop(arrivals);
+                Ok(())
+            }
+            Err(NoMemory) => {
+                self.client.truncate(before);
+                Err(NoMemory)
+            }
+        }
+    }
+
+    // All frames that are whole and were not read yet; memory for the replies to them; and places for as
+    // many items as octets are not sent once these are said, and for so many beside.
+    fn arrivals_with<T>(
+        &mut self,
+        alloc: Global,
+        list: &mut Vec<T>,
+        beside: usize,
+    ) -> Result<Arrivals, NoMemory>
+        ensures unchanged { Unchanged self.old self.new }
+        ensures arrivals { IfOk result (λ arrivals.
+            AreArrivals self.new.client.items self.new.numbers self.new.read arrivals) }
+        ensures room { IfOk result (λ arrivals.
+            length self.new.said.items + replies_length arrivals.list.items ≤ vec_capacity self.new.said) }
+        ensures items { list.new.items ≡ list.old.items }
+        ensures capacity { vec_capacity list.old ≤ vec_capacity list.new }
+        ensures places { IfOk result (λ arrivals. length list.new.items
+            + (length self.new.said.items - self.new.sent) + replies_length arrivals.list.items + beside
+            ≤ vec_capacity list.new) }
+    {
+        let arrivals = self.arrivals(alloc)?;
+        let unsent = self.said.len() - self.sent;
+        if reserve_all(list, unsent, arrivals.replies, beside).is_err() {
+            drop(arrivals);
+            return Err(NoMemory);
+        }
+        Ok(arrivals)
+    }
+
     // All frames that are whole and were not read yet; and memory for the replies to them.
     fn arrivals(&mut self, alloc: Global) -> Result<Arrivals, NoMemory>
         ensures unchanged { Unchanged self.old self.new }
@@ -120,6 +184,7 @@ impl Heard {
             ≤ vec_capacity self.old.said }
         requires arrived { AreArrivals self.old.client.items self.old.numbers self.old.read arrivals.now }
         ensures heard { (frames : List Frame) → HasRead frames self.old → HeardAll self.new }
+        ensures said { SaysMore (replies_length arrivals.now.list.items) self.old.said.items self.new.said.items }
         ensures same { Kept self.old self.new }
     {
         self.take_list(&arrivals.list);
@@ -136,6 +201,7 @@ impl Heard {
         requires room { length self.old.said.items + replies_length list.now ≤ vec_capacity self.old.said }
         requires arrived { (end : ℕ) × Arrive self.old.client.items self.old.numbers self.old.read list.now end }
         ensures heard { (frames : List Frame) → HasRead frames self.old → HasTaken self.old list.now self.new }
+        ensures said { SaysMore (replies_length list.now) self.old.said.items self.new.said.items }
         ensures same { Kept self.old self.new }
     {
         for next in list {
@@ -161,6 +227,7 @@ impl Heard {
             → HasRead frames self.new × (Legal (frames ++ next.now.frame ∷ []) → ⊥) }
         ensures refusal { IsFalse result → self.new.refusal ≡ Some (refusals.Unexpected self.old.frames) }
         ensures here { IsFalse result → self.new.read ≡ self.old.read }
+        ensures unsaid { IsFalse result → self.new.said.items ≡ self.old.said.items }
         ensures same { Kept self.old self.new }
     {
         if !self.say(&next.frame) {
@@ -190,6 +257,27 @@ impl Heard {
             self.speech.say(frame)
         }
     }
+}
+
+/// Places in a list for three numbers of items together.
+pub fn reserve_all<T>(
+    list: &mut Vec<T>,
+    first: usize,
+    second: usize,
+    third: usize,
+) -> Result<(), NoMemory>
+    ensures items { list.new.items ≡ list.old.items }
+    ensures capacity { vec_capacity list.old ≤ vec_capacity list.new }
+    ensures places { OnOk result (length list.new.items + (first + second + third) ≤ vec_capacity list.new) }
+{
+    let Some(both) = first.checked_add(second) else {
+        return Err(NoMemory);
+    };
+    let Some(all) = both.checked_add(third) else {
+        return Err(NoMemory);
+    };
+    list.reserve(all)?;
+    Ok(())
 }
 
 // Whether a frame is a close of the connection, or its close-ok.

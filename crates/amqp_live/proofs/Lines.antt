@@ -104,6 +104,13 @@ says-no_more e before now later status is said (inr (inl tells)) =
     subst P (sym tells.1) said
 says-no_more e before now later status is said (inr (inr tells)) = absurd (omega (arith, is, tells.0))
 
+-- or still nothing
+pub still-nothing : (e : ErrorKind) (before now later : Option (List ℕ)) (status : ℕ) → status ≡ NO_MEMORY
+    → now ≡ before → TellsError e now later status → later ≡ before
+still-nothing e before now later status is same (inl tells) = absurd (omega (arith, is, tells.0))
+still-nothing e before now later status is same (inr (inl tells)) = tells.1 ∙ same
+still-nothing e before now later status is same (inr (inr tells)) = absurd (omega (arith, is, tells.0))
+
 pub front-error : (e : ErrorKind) (before now later : Option (List ℕ)) (status : ℕ) → status ≡ SINK_FAILED
     → SaysSome before now → TellsError e now later status → SaysFront before later
 front-error e before now later status is said (inl tells) = absurd (omega (arith, is, tells.0))
@@ -114,11 +121,26 @@ front-error e before now later status is (text, some, first) (inr (inr tells)) =
   front-then text (error_line e) before now later first tells.1,
 )
 
+-- the same, of a sink that had taken nothing before
+pub front-first : (e : ErrorKind) (before now later : Option (List ℕ)) (status : ℕ) → status ≡ SINK_FAILED
+    → now ≡ before → TellsError e now later status → TookFront (error_line e) before later
+front-first e before now later status is same (inl tells) = absurd (omega (arith, is, tells.0))
+front-first e before now later status is same (inr (inl tells)) = absurd (omega (arith, is, tells.0))
+front-first e before now later status is same (inr (inr tells)) =
+    let P : Option (List ℕ) → Type 0 = λ x. TookFront (error_line e) x later in
+    subst P same tells.1
+
 -- ---- how connecting and a visit went, where it is known why they went no further
 
 pub goes-failed : (known : Result AMQPUri UriFault) (n m : ℕ) (before now : Option (List ℕ)) (stop : Stop) (e : ErrorKind)
     → stop ≡ Failed e → Goes known n m before now (Err stop) → IsAddress known × SaysSome before now
 goes-failed known n m before now stop e is goes =
+    let P : Stop → Type 0 = λ x. Goes known n m before now (Err x) in
+    subst P is goes
+
+pub goes-unsaid : (known : Result AMQPUri UriFault) (n m : ℕ) (before now : Option (List ℕ)) (stop : Stop)
+    → stop ≡ Unsaid → Goes known n m before now (Err stop) → IsAddress known × SaysFront before now
+goes-unsaid known n m before now stop is goes =
     let P : Stop → Type 0 = λ x. Goes known n m before now (Err x) in
     subst P is goes
 

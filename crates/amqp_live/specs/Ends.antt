@@ -38,6 +38,16 @@ TellsError e before after status =
     ⊎ ((status ≡ NO_MEMORY) × (after ≡ before))
     ⊎ ((status ≡ SINK_FAILED) × TookFront (error_line e) before after)
 
+-- some of the lines were said, which are those of an address, or nothing
+abbrev pub SaysAsFar : Result AMQPUri UriFault → Option (List ℕ) → Option (List ℕ) → Type 0
+SaysAsFar known before after = (after ≡ before) ⊎ (IsAddress known × SaysSome before after)
+
+-- the sink took a front: of the lines of an address, or of some of them and an error; or of the error of connecting
+abbrev pub FailsToSay : Result AMQPUri UriFault → ℕ → ℕ → Option (List ℕ) → Option (List ℕ) → Type 0
+FailsToSay known refusals refusals' before after =
+    (IsAddress known × SaysFront before after)
+    ⊎ ((e : ErrorKind) × RefusesToConnect known refusals refusals' e × TookFront (error_line e) before after)
+
 -- an error was said: that of connecting, which is the fault of the text, the spawner's refusal, or want of memory; or,
 -- of a text that is an address, that of a call on the connection, after some of the lines
 abbrev pub SaysWhy : Result AMQPUri UriFault → ℕ → ℕ → Option (List ℕ) → Option (List ℕ) → Type 0

@@ -7,8 +7,8 @@ ghost use Rattle.amqp_uri.specs.Address.{address_of_text};
 ghost use Rattle.amqp_replay.specs.Ends.{FailedOnce};
 ghost use Rattle.amqp_replay.specs.Top.{TookAll, TookFront};
 ghost use Rattle.lapin_connection.specs.Connecting.{ConnectsToText};
-ghost use Rattle.amqp_live.specs.Said.{live_address, IsChannelLine, SaysAll, SaysSome, SaysFront};
-ghost use Rattle.amqp_live.specs.Ends.{Visits, Goes, SaysWhy, TellsError, IsStatus};
+ghost use Rattle.amqp_live.specs.Said.{live_address, IsChannelLine, SaysAll};
+ghost use Rattle.amqp_live.specs.Ends.{IsAddress, Visits, Goes, SaysWhy, SaysAsFar, FailsToSay, TellsError, IsStatus};
 
 use crate::said::{channel_line, error_line};
 use amqp_replay::Sink;
@@ -62,11 +62,15 @@ pub fn top_live<K: Sink, S: Spawner, R: Threads + Wait + Copy + Send + 'static>(
 ) -> u8
     ensures usage { (result ≡ USAGE) ↔ (live_address words.now ≡ None) }
     ensures silent { result ≡ USAGE → K.held sink.new ≡ K.held sink.old }
-    ensures closed { result ≡ CLOSED → SaysAll (K.held sink.old) (K.held sink.new) }
+    ensures closed { result ≡ CLOSED → IfSome (live_address words.now)
+        (λ uri. IsAddress (address_of_text uri) × SaysAll (K.held sink.old) (K.held sink.new)) }
     ensures failed { result ≡ FAILED → IfSome (live_address words.now) (λ uri. SaysWhy (address_of_text uri)
         (S.refusals runtime.old) (S.refusals runtime.new) (K.held sink.old) (K.held sink.new)) }
-    ensures no_memory { result ≡ NO_MEMORY → SaysSome (K.held sink.old) (K.held sink.new) }
-    ensures sink_failed { result ≡ SINK_FAILED → SaysFront (K.held sink.old) (K.held sink.new) }
+    ensures no_memory { result ≡ NO_MEMORY → IfSome (live_address words.now)
+        (λ uri. SaysAsFar (address_of_text uri) (K.held sink.old) (K.held sink.new)) }
+    ensures sink_failed { result ≡ SINK_FAILED → IfSome (live_address words.now) (λ uri. FailsToSay
+        (address_of_text uri) (S.refusals runtime.old) (S.refusals runtime.new)
+        (K.held sink.old) (K.held sink.new)) }
     ensures sink_cause { result ≡ SINK_FAILED → FailedOnce (K.faults sink.old) (K.faults sink.new) }
     ensures sink_kept { result ≢ SINK_FAILED → K.faults sink.new ≡ K.faults sink.old }
     ensures statuses { IsStatus result }

@@ -1,5 +1,5 @@
 -- What each rule leaves of what waited: all that waits, but where it is said.
-use Rattle.std.proofs.Common.{◌≡◌, ◌⊎◌, inl, inr, ℕ, zero, suc, ◌==◌, ◌&&◌, ◌-◌, nat_le, not, Bool, true, false, if◌then◌else◌, List, [], ◌∷◌, ◌++◌, drop, Option, Some, None, Result, Ok, Err, refl, ◌∙◌, ap, sym, subst, append_assoc, append-nil}
+use Rattle.std.proofs.Common.{◌≡◌, ◌≢◌, ◌⊎◌, inl, inr, ℕ, zero, suc, ◌==◌, ◌&&◌, ◌-◌, nat_le, not, Bool, true, false, true≢false, if◌then◌else◌, List, [], ◌∷◌, ◌++◌, drop, length, Option, Some, None, Result, Ok, Err, refl, ◌∙◌, ap, sym, subst, append_assoc, append-nil}
 use Rattle.std.specs.Prelude.{codes}
 use Rattle.amqp_types.specs.declared.word.Word.TheVariants as word
 use Rattle.amqp_frame.specs.declared.frame.Frame.{Frame}
@@ -8,6 +8,7 @@ use Rattle.amqp_frame.specs.declared.frame.RawKind.{RawKind}
 use Rattle.amqp_frame.specs.declared.frame.RawKind.TheVariants.{RawMethod}
 use Rattle.amqp_frame.specs.declared.method.Method.{Method as AnyMethod}
 use Rattle.amqp_frame.specs.declared.method.Method.TheVariants.{Start, Secure, Tune, OpenOk, Close, CloseOk, Blocked, Unblocked, UpdateSecretOk, ChannelOpenOk, ChannelClose, ChannelCloseOk, ChannelFlow, ChannelFlowOk}
+use Rattle.amqp_frame.specs.Frames.{encoding}
 use Rattle.amqp_frame.specs.Methods.{is_of_a_channel}
 use Rattle.amqp_frame.specs.RawMethods.{OtherMethod}
 use Rattle.amqp_outbox.specs.declared.item.Item.{Item}
@@ -16,7 +17,7 @@ use Rattle.amqp_outbox.specs.Items.{plain_item, promised_item, group_of, size_of
 use Rattle.amqp_outbox.specs.Queued.{Queued, nothing_queued, awaited_promise, only, next_item}
 use Rattle.amqp_outbox.proofs.Waiting.{next-waits}
 use Rattle.amqp_promise.specs.declared.error.ErrorKind.{ErrorKind}
-use Rattle.amqp_promise.specs.declared.error.ErrorKind.TheVariants.{AuthProviderError, InvalidChannel, InvalidConnectionState, InvalidProtocolVersion, IOError, MissingHeartbeatError, ProtocolError, SerialisationError}
+use Rattle.amqp_promise.specs.declared.error.ErrorKind.TheVariants.{AuthProviderError, ChannelsLimitReached, InvalidChannel, InvalidConnectionState, InvalidProtocolVersion, IOError, MissingHeartbeatError, OutboxFull, ProtocolError, SerialisationError}
 use Rattle.amqp_promise.specs.declared.io_fault.IoFault.{IoFault}
 use Rattle.amqp_promise.specs.declared.state.ConnectionState.{ConnectionState}
 use Rattle.amqp_promise.specs.declared.state.ConnectionState.TheVariants.{Connecting, Connected, Closing}
@@ -27,6 +28,7 @@ use Rattle.amqp_auth.specs.declared.asked.Asked.TheVariants as answer
 use Rattle.amqp_session.specs.declared.channels.Channel.{Channel}
 use Rattle.amqp_session.specs.declared.channels.Debt.{Debt}
 use Rattle.amqp_session.specs.declared.channels.Debt.TheVariants as debt
+use Rattle.amqp_session.specs.declared.command.ChanRef.{ChanRef}
 use Rattle.amqp_session.specs.declared.command.Cmd.{Cmd}
 use Rattle.amqp_session.specs.declared.command.Cmd.TheVariants.{OpenChannel, CloseChannel, CloseConnection, UpdateSecret, Send, Publish, Flow, DropChannel, DropConnection, Listen}
 use Rattle.amqp_session.specs.declared.committed.Mark.{Mark}
@@ -42,7 +44,7 @@ use Rattle.amqp_session.specs.Talk.{Talk, acts, hears_on, is_open, is_asked, is_
 use Rattle.amqp_session.specs.Negotiation.{tune}
 use Rattle.amqp_session.specs.Handshake.{protocol_header, start_ok, secure_ok, tune_ok, open_vhost, our_close, close_ok, new_secret, channel_open, channel_flow, flow_ok, channel_close_ok, our_channel_close}
 use Rattle.amqp_session.specs.Violations.{channel_closed_with, misread_error, stray_channel_frame, stray_connection_method, unawaited}
-use Rattle.amqp_session.specs.Changes.{queue, next_promise, lose, misplaced, close, finish, finish_by, starve, without_all_on, without_groups_of, without_groups}
+use Rattle.amqp_session.specs.Changes.{queue, next_promise, refuse, lose, misplaced, close, finish, finish_by, starve, without_all_on, without_groups_of, without_groups}
 use Rattle.amqp_session.specs.Recovery.{next_delay}
 use Rattle.amqp_session.specs.Numbering.{first_number, drawn}
 use Rattle.amqp_session.specs.Channels.{channel_at}
@@ -53,12 +55,14 @@ use Rattle.amqp_session.specs.Links.{linked, refused_after, link_failed, misread
 use Rattle.amqp_session.specs.Frames.{method_on, method_rule, frame_rule, closed_rule, on_frame}
 use Rattle.amqp_session.specs.Commands.{target, open_as, open_drawn, leave_channel, close_target, drop_target, too_long, unless_too_long, too_full, unless_full, queue_send, send_target, body_limit, queue_publish, publish_target, tell_flow, flow_target, queue_secret, leave_connection, command_rule, command}
 use Rattle.amqp_session.specs.Ticks.{asks_validity, has_expired, heartbeat_due, is_heartbeat_due, is_missed, link_due, missing_heartbeat, refresh, refresh_reason, refreshed, secret_due, tick, validity_told}
+use Rattle.amqp_session.specs.Laws.{IsAnsweredAtOnce}
 use Rattle.amqp_session.specs.Writing.{writes, flows, next_out, fitting, next_within, committed_as, commit, overlong, end_overlong, next_frame, pay, follow, sent, sent_among, taken}
+use Rattle.amqp_session.proofs.Numbered.{put-same}
 use Rattle.amqp_session.proofs.Recovering.{lose-case}
-use Rattle.amqp_session.proofs.Walk.{close_answered, refused-keeps, pay-case}
-use Rattle.amqp_types.proofs.Small.{if_case}
-use Rattle.amqp_queued_rules.specs.Queued.{start_reply, secure_reply, tune_reply, reopenings, reply_to, opening_of, told_by, published_by, renewal}
-use Rattle.amqp_queued_rules.specs.Left.{GainsBehind, Stays, DropsAll, StaysOrDrops, is_left, left_by_frame, left_by_command, AddsInTime, GoesOut, LeavesWhatWaits}
+use Rattle.amqp_session.proofs.Walk.{close_answered, pay-case}
+use Rattle.amqp_types.proofs.Small.{if_case, if_by}
+use Rattle.amqp_queued_rules.specs.Queued.{start_reply, secure_reply, tune_reply, reopenings, reply_to, opening_of, told_by, published_by, heartbeat_of, new_one, renewal, renewal_of, told_in_time}
+use Rattle.amqp_queued_rules.specs.Left.{GainsBehind, Stays, DropsAll, StaysOrDrops, is_left, left_by_frame, left_by_command, AddsWhere, answers_flow, answers_close, says_start, says_secure, is_replied_on_0, is_replied_on, is_replied, IsUntold, GoesOut, LeavesWhatWaits}
 use Rattle.amqp_queued_rules.proofs.Replying.{reopened-control, reopened-publish, reopened-begun}
 
 -- ---- what waits
@@ -98,10 +102,6 @@ adds-then frames item left r s control publish begun h =
 abbrev Still : Talk → Talk → Type 0
 Still t x = Stays t.outbox x.outbox
 
--- these frames are added to what is left, or all stays, or the link is lost
-abbrev Replied : List Item → Queued → Talk → Talk → Type 0
-Replied frames left t x = StaysOrDrops t x ⊎ GainsBehind frames [] left x.outbox
-
 still : (t : Talk) → StaysOrDrops t t
 still t = inl (same t.outbox)
 
@@ -116,6 +116,30 @@ kept-misplaced e t = if_case (StaysOrDrops t) (is_closing t.state) t (lose e t) 
 heard-there : (s : ConnectionState) (o : Option Channel) (c : Channel) → heard_on s o ≡ Some c → o ≡ Some c
 heard-there Connecting o c h = absurd cc
 heard-there _ o c h = h
+
+-- what is not heard on a channel is not replied to
+unheard-silent : (s : ConnectionState) (o : Option Channel) (m : AnyMethod) → heard_on s o ≡ None → is_replied_on s o m ≡ false
+unheard-silent Connecting o m h = refl
+unheard-silent _ None m h = refl
+unheard-silent _ (Some c) m h = absurd cc
+
+-- nor is a method of the connection class there
+stray-silent : (s : ConnectionState) (o : Option Channel) (m : AnyMethod) → is_of_a_channel m ≡ false → is_replied_on s o m ≡ false
+stray-silent Connecting o m h = refl
+stray-silent Closing o m h = refl
+stray-silent _ None m h = refl
+stray-silent _ (Some c) (ChannelFlow active) h = absurd cc
+stray-silent _ (Some c) (ChannelClose code text class method) h = absurd cc
+stray-silent _ (Some c) m h = refl
+
+-- nor one of the channel class on channel 0
+stray-on-0 : (s : ConnectionState) (p : Phase) (m : AnyMethod) (answers : List Asked) → is_of_a_channel m ≡ true → is_replied_on_0 s p m answers ≡ false
+stray-on-0 s p (Close code text class method) answers h = absurd cc
+stray-on-0 Connecting AwaitStart (Start a b c d e) answers h = absurd cc
+stray-on-0 Connecting AwaitTune (Secure challenge) answers h = absurd cc
+stray-on-0 Connecting AwaitTune (Tune a b d) answers h = absurd cc
+stray-on-0 Connecting AwaitOpenOk OpenOk answers h = absurd cc
+stray-on-0 s p m answers h = refl
 
 kept-unawaited : (n : ℕ) (s : ChannelState) (m : AnyMethod) (t : Talk) → StaysOrDrops t (unawaited_channel_method n s m t)
 kept-unawaited n channel.Closing m t = still t
@@ -138,49 +162,60 @@ kept-flowed : (n : ℕ) (c : Channel) (active : Bool) (o : Option (Option ℕ)) 
 kept-flowed n c active None t = kept-unawaited n c.state (ChannelFlowOk active) t
 kept-flowed n c active (Some promise) t = inl (stays t.outbox (channel_flowed n c active (Some promise) t).outbox refl refl refl)
 
-added-flow : (s : ChannelState) (n : ℕ) (c : Channel) (active : Bool) (t : Talk) → Replied (plain_item n (flow_ok n active) ∷ []) t.outbox t (on_channel_flow s n c active t)
-added-flow channel.Closing n c active t = inl (still t)
-added-flow _ n c active t =
-    inr (one-more t.outbox (on_channel_flow channel.Connected n c active t).outbox (plain_item n (flow_ok n active)) refl refl refl)
+added-flow : (s : ChannelState) (n : ℕ) (c : Channel) (active : Bool) (t : Talk)
+    → AddsWhere (answers_flow s) (plain_item n (flow_ok n active) ∷ []) t.outbox t (on_channel_flow s n c active t)
+added-flow channel.Closing n c active t = still t
+added-flow _ n c active t = one-more t.outbox (on_channel_flow channel.Connected n c active t).outbox (plain_item n (flow_ok n active)) refl refl refl
 
 -- the server's close of a channel leaves nothing that goes with it, where we did not close it too
 added-close : (d : Debt) (n : ℕ) (e : ErrorKind) (c : Channel) (t : Talk) → channel_at n t ≡ Some c
-    → Replied (plain_item n (channel_close_ok n) ∷ []) (if is_left (channel_at n t) then t.outbox else without_all_on n t.outbox) t (channel_close_by d n e c t)
+    → AddsWhere (answers_close d) (plain_item n (channel_close_ok n) ∷ []) (if is_left (channel_at n t) then t.outbox else without_all_on n t.outbox) t
+    (channel_close_by d n e c t)
 added-close debt.Nothing n e c t there =
     let y : Talk = channel_close_by debt.Nothing n e c t in
-    let L : Bool → Type 0 = λ b. Replied (plain_item n (channel_close_ok n) ∷ []) (if b then t.outbox else without_all_on n t.outbox) t y in
+    let L : Bool → Type 0 = λ b. GainsBehind (plain_item n (channel_close_ok n) ∷ []) [] (if b then t.outbox else without_all_on n t.outbox) y.outbox in
     subst L (sym (ap is_left there)) (by c.awaits_close_ok)
   where
     item : Item
     item = plain_item n (channel_close_ok n)
 
-    by : (b : Bool)
-        → Replied (item ∷ []) (if b then t.outbox else without_all_on n t.outbox) t (if b then crossing_close n e c t else closed_by_server n e c t)
-    by true = inr (one-more t.outbox (crossing_close n e c t).outbox item refl refl refl)
-    by false = inr (one-more (without_all_on n t.outbox) (closed_by_server n e c t).outbox item refl refl refl)
-added-close _ n e c t there = inl (still t)
+    by : (b : Bool) → GainsBehind (item ∷ []) [] (if b then t.outbox else without_all_on n t.outbox) (if b then crossing_close n e c t else closed_by_server n e c t).outbox
+    by true = one-more t.outbox (crossing_close n e c t).outbox item refl refl refl
+    by false = one-more (without_all_on n t.outbox) (closed_by_server n e c t).outbox item refl refl refl
+added-close _ n e c t there = still t
 
 module _ (n : ℕ) (answers : List Asked) where
-  abbrev Answered : AnyMethod → Talk → Talk → Type 0
-  Answered m t x = Replied (reply_to (Method (suc n) m) answers t) (left_by_frame (Method (suc n) m) t) t x
+  -- a method is replied to, where it is due
+  abbrev Answered : Bool → AnyMethod → Talk → Talk → Type 0
+  Answered due m t x = AddsWhere due (reply_to (Method (suc n) m) answers t) (left_by_frame (Method (suc n) m) t) t x
 
-  added-on-channel : (s : ConnectionState) (c : Channel) (m : AnyMethod) (t : Talk) → channel_at (suc n) t ≡ Some c → Answered m t (channel_rule s (suc n) c m t)
-  added-on-channel Closing c m t there = inl (still t)
-  added-on-channel _ c ChannelOpenOk t there = inl (kept-opened (suc n) c (awaited_promise (suc n) ChannelOpened t.outbox) t)
-  added-on-channel _ c ChannelCloseOk t there = inl (kept-closed (suc n) c (awaited_promise (suc n) ChannelClosed t.outbox) t)
-  added-on-channel _ c (ChannelClose code text class method) t there = added-close c.debt (suc n) (channel_closed_with code text) c t there
-  added-on-channel _ c (ChannelFlow active) t there = added-flow c.state (suc n) c active t
-  added-on-channel _ c (ChannelFlowOk active) t there = inl (kept-flowed (suc n) c active (awaited_promise (suc n) FlowDone t.outbox) t)
-  added-on-channel _ c m t there = inl (kept-unawaited (suc n) c.state m t)
+  added-on-channel : (s : ConnectionState) (c : Channel) (m : AnyMethod) (t : Talk) → heard_on s (channel_at (suc n) t) ≡ Some c
+      → Answered (is_replied_on s (Some c) m) m t (channel_rule s (suc n) c m t)
+  added-on-channel Connecting c m t heard = absurd cc
+  added-on-channel Closing c m t heard = still t
+  added-on-channel _ c ChannelOpenOk t heard = kept-opened (suc n) c (awaited_promise (suc n) ChannelOpened t.outbox) t
+  added-on-channel _ c ChannelCloseOk t heard = kept-closed (suc n) c (awaited_promise (suc n) ChannelClosed t.outbox) t
+  added-on-channel _ c (ChannelClose code text class method) t heard = added-close c.debt (suc n) (channel_closed_with code text) c t heard
+  added-on-channel _ c (ChannelFlow active) t heard = added-flow c.state (suc n) c active t
+  added-on-channel _ c (ChannelFlowOk active) t heard = kept-flowed (suc n) c active (awaited_promise (suc n) FlowDone t.outbox) t
+  added-on-channel _ c m t heard = kept-unawaited (suc n) c.state m t
 
-  added-by-channel : (o : Option Channel) (m : AnyMethod) (t : Talk) → heard_on t.state (channel_at (suc n) t) ≡ o → Answered m t (channel_method_by o (suc n) m t)
-  added-by-channel None m t heard = inl (kept-misplaced (InvalidChannel (suc n)) t)
-  added-by-channel (Some c) m t heard = added-on-channel t.state c m t (heard-there t.state (channel_at (suc n) t) c heard)
+  added-by-channel : (o : Option Channel) (m : AnyMethod) (t : Talk) → heard_on t.state (channel_at (suc n) t) ≡ o
+      → Answered (is_replied_on t.state (channel_at (suc n) t) m) m t (channel_method_by o (suc n) m t)
+  added-by-channel None m t heard =
+      subst (λ (b : Bool). Answered b m t (channel_method_by None (suc n) m t)) (sym (unheard-silent t.state (channel_at (suc n) t) m heard))
+      (kept-misplaced (InvalidChannel (suc n)) t)
+  added-by-channel (Some c) m t heard =
+      subst (λ (o : Option Channel). Answered (is_replied_on t.state o m) m t (channel_method_by (Some c) (suc n) m t))
+      (sym (heard-there t.state (channel_at (suc n) t) c heard)) (added-on-channel t.state c m t heard)
 
-  added-method-on : (m : AnyMethod) (t : Talk) → Answered m t (method_on (suc n) m t)
+  added-method-on : (m : AnyMethod) (t : Talk) → Answered (is_replied_on t.state (channel_at (suc n) t) m) m t (method_on (suc n) m t)
   added-method-on m t =
-      if_case (Answered m t) (is_of_a_channel m) (channel_method (suc n) m t) (misplaced (stray_connection_method (suc n)) t)
-      (added-by-channel (heard_on t.state (channel_at (suc n) t)) m t refl) (inl (kept-misplaced (stray_connection_method (suc n)) t))
+      let o : Option Channel = channel_at (suc n) t in
+      if_by (Answered (is_replied_on t.state o m) m t) (is_of_a_channel m) (channel_method (suc n) m t) (misplaced (stray_connection_method (suc n)) t)
+      (λ h. added-by-channel (heard_on t.state o) m t refl)
+      (λ h. subst (λ (b : Bool). Answered b m t (misplaced (stray_connection_method (suc n)) t)) (sym (stray-silent t.state o m h))
+      (kept-misplaced (stray_connection_method (suc n)) t))
 
 kept-raw : (o : Option Channel) (n : ℕ) (kind : RawKind) (bytes : List ℕ) (t : Talk) → StaysOrDrops t (raw_by o n kind bytes t)
 kept-raw None n kind bytes t = kept-misplaced (InvalidChannel n) t
@@ -190,23 +225,23 @@ kept-raw (Some c) n kind bytes t =
 
 -- ---- the connection
 
-added-start : (answers : List Asked) (t : Talk) → Replied (start_reply answers t.config.options) t.outbox t (on_start answers t)
+added-start : (answers : List Asked) (t : Talk) → AddsWhere (says_start answers) (start_reply answers t.config.options) t.outbox t (on_start answers t)
 added-start (answer.Mechanism mechanism ∷ answer.Starter (Ok response) ∷ later) t =
-    inr (one-more t.outbox (started mechanism (Ok response) t).outbox (plain_item 0 (start_ok t.config.options mechanism response)) refl refl refl)
-added-start (answer.Mechanism mechanism ∷ answer.Starter (Err text) ∷ later) t = inl (kept-lose (AuthProviderError text) t)
-added-start _ t = inl (still t)
+    one-more t.outbox (started mechanism (Ok response) t).outbox (plain_item 0 (start_ok t.config.options mechanism response)) refl refl refl
+added-start (answer.Mechanism mechanism ∷ answer.Starter (Err text) ∷ later) t = kept-lose (AuthProviderError text) t
+added-start _ t = still t
 
-added-secure : (answers : List Asked) (t : Talk) → Replied (secure_reply answers) t.outbox t (on_secure answers t)
+added-secure : (answers : List Asked) (t : Talk) → AddsWhere (says_secure answers) (secure_reply answers) t.outbox t (on_secure answers t)
 added-secure (answer.Challenge (Ok response) ∷ later) t =
-    inr (one-more t.outbox (challenged (Ok response) t).outbox (plain_item 0 (secure_ok response)) refl refl refl)
-added-secure (answer.Challenge (Err text) ∷ later) t = inl (kept-lose (AuthProviderError text) t)
-added-secure _ t = inl (still t)
+    one-more t.outbox (challenged (Ok response) t).outbox (plain_item 0 (secure_ok response)) refl refl refl
+added-secure (answer.Challenge (Err text) ∷ later) t = kept-lose (AuthProviderError text) t
+added-secure _ t = still t
 
-added-tune : (server : Configuration) (t : Talk) → Replied (tune_reply server t) t.outbox t (on_tune server t)
+added-tune : (server : Configuration) (t : Talk) → GainsBehind (tune_reply server t) [] t.outbox (on_tune server t).outbox
 added-tune server t =
     let first : Item = plain_item 0 (tune_ok (tune t.configuration server)) in
     let second : Item = plain_item 0 (open_vhost t.config.uri.vhost) in
-    inr (record { control = append_assoc t.outbox.control (first ∷ []) (second ∷ []); publish = sym (append-nil t.outbox.publish); begun = refl })
+    record { control = append_assoc t.outbox.control (first ∷ []) (second ∷ []); publish = sym (append-nil t.outbox.publish); begun = refl }
 
 added-reopenings : (t : Talk) → GainsBehind (reopenings t.configuration.channel_max t.channels) [] t.outbox (on_open_ok t).outbox
 added-reopenings t =
@@ -230,54 +265,73 @@ added-close-ok : GainsBehind (plain_item 0 close_ok ∷ []) [] nothing_queued (o
 added-close-ok = record { control = refl; publish = refl; begun = refl }
 
 module _ (answers : List Asked) where
-  abbrev Answers : Frame → Talk → Talk → Type 0
-  Answers f t x = Replied (reply_to f answers t) (left_by_frame f t) t x
+  -- a frame is replied to, where it is due
+  abbrev Answers : Bool → Frame → Talk → Talk → Type 0
+  Answers due f t x = AddsWhere due (reply_to f answers t) (left_by_frame f t) t x
 
-  added-connection : (s : ConnectionState) (p : Phase) (m : AnyMethod) (t : Talk) → Answers (Method 0 m) t (connection_rule s p m answers t)
-  added-connection s p (Close code text class method) t = inr added-close-ok
-  added-connection s p (Blocked reason) t = inl (inl (same t.outbox))
-  added-connection s p Unblocked t = inl (inl (same t.outbox))
-  added-connection Closing p CloseOk t = inl (kept-answered (awaited_promise 0 ConnectionClosed t.outbox) t)
-  added-connection Closing p m t = inl (still t)
+  added-connection : (s : ConnectionState) (p : Phase) (m : AnyMethod) (t : Talk)
+      → Answers (is_replied_on_0 s p m answers) (Method 0 m) t (connection_rule s p m answers t)
+  added-connection s p (Close code text class method) t = added-close-ok
+  added-connection s p (Blocked reason) t = inl (same t.outbox)
+  added-connection s p Unblocked t = inl (same t.outbox)
+  added-connection Closing p CloseOk t = kept-answered (awaited_promise 0 ConnectionClosed t.outbox) t
+  added-connection Closing p m t = still t
   added-connection Connecting AwaitStart (Start a b c d e) t = added-start answers t
   added-connection Connecting AwaitTune (Secure challenge) t = added-secure answers t
   added-connection Connecting AwaitTune (Tune a b d) t = added-tune (record { channel_max = a; frame_max = b; heartbeat = d }) t
-  added-connection Connecting AwaitOpenOk OpenOk t = inr (added-reopenings t)
-  added-connection Connected p UpdateSecretOk t = inl (kept-secret (awaited_promise 0 SecretDone t.outbox) t)
-  added-connection held p m t = inl (kept-lose (InvalidConnectionState held) t)
+  added-connection Connecting AwaitOpenOk OpenOk t = added-reopenings t
+  added-connection Connected p UpdateSecretOk t = kept-secret (awaited_promise 0 SecretDone t.outbox) t
+  added-connection held p m t = kept-lose (InvalidConnectionState held) t
 
-  added-method : (n : ℕ) (m : AnyMethod) (t : Talk) → Answers (Method n m) t (method_rule n m answers t)
+  added-method : (n : ℕ) (m : AnyMethod) (t : Talk) → Answers (is_replied (Method n m) answers t) (Method n m) t (method_rule n m answers t)
   added-method zero m t =
-      if_case (Answers (Method 0 m) t) (is_of_a_channel m) (misplaced (stray_channel_frame RawMethod) t)
-      (connection_rule t.state t.phase m answers t) (inl (kept-misplaced (stray_channel_frame RawMethod) t)) (added-connection t.state t.phase m t)
+      if_by (Answers (is_replied_on_0 t.state t.phase m answers) (Method 0 m) t) (is_of_a_channel m) (misplaced (stray_channel_frame RawMethod) t)
+      (connection_rule t.state t.phase m answers t)
+      (λ h. subst (λ (b : Bool). Answers b (Method 0 m) t (misplaced (stray_channel_frame RawMethod) t)) (sym (stray-on-0 t.state t.phase m answers h))
+      (kept-misplaced (stray_channel_frame RawMethod) t)) (λ h. added-connection t.state t.phase m t)
   added-method (suc n) m t = added-method-on n answers m t
 
-  added-rule : (f : Frame) (t : Talk) → Answers f t (frame_rule f answers t)
-  added-rule (ProtocolHeader version) t = inl (kept-lose (InvalidProtocolVersion version) t)
-  added-rule Heartbeat t = inl (still t)
+  added-rule : (f : Frame) (t : Talk) → Answers (is_replied f answers t) f t (frame_rule f answers t)
+  added-rule (ProtocolHeader version) t = kept-lose (InvalidProtocolVersion version) t
+  added-rule Heartbeat t = still t
   added-rule (Method n m) t = added-method n m t
-  added-rule (Raw zero kind bytes) t = inl (kept-misplaced (stray_channel_frame kind) t)
-  added-rule (Raw (suc n) kind bytes) t = inl (kept-raw (heard_on t.state (channel_at (suc n) t)) (suc n) kind bytes t)
+  added-rule (Raw zero kind bytes) t = kept-misplaced (stray_channel_frame kind) t
+  added-rule (Raw (suc n) kind bytes) t = kept-raw (heard_on t.state (channel_at (suc n) t)) (suc n) kind bytes t
 
 kept-after-close : (f : Frame) (t : Talk) → StaysOrDrops t (closed_rule f t)
 kept-after-close (Method zero (Blocked reason)) t = inl (same t.outbox)
 kept-after-close (Method zero Unblocked) t = inl (same t.outbox)
 kept-after-close f t = still t
 
--- a frame adds its reply to what it leaves, or all stays, or the link is lost
-frame-added : (f : Frame) (answers : List Asked) (t : Talk) → Replied (reply_to f answers t) (left_by_frame f t) t (on_frame f answers t)
-frame-added f answers t =
-    if_case (Replied (reply_to f answers t) (left_by_frame f t) t) (acts t) (frame_rule f answers t) (if hears_on t then closed_rule f t else t) (added-rule answers f t)
-    (if_case (Replied (reply_to f answers t) (left_by_frame f t) t) (hears_on t) (closed_rule f t) t (inl (kept-after-close f t)) (inl (still t)))
+-- a frame adds its reply to what it leaves, where one is due; else all stays, or the link is lost
+frame-added : (f : Frame) (answers : List Asked) (t : Talk)
+    → AddsWhere (acts t && is_replied f answers t) (reply_to f answers t) (left_by_frame f t) t (on_frame f answers t)
+frame-added f answers t = by (acts t) where
+  by : (b : Bool)
+      → AddsWhere (b && is_replied f answers t) (reply_to f answers t) (left_by_frame f t) t (if b then frame_rule f answers t else if hears_on t then closed_rule f t else t)
+  by true = added-rule answers f t
+  by false = if_case (StaysOrDrops t) (hears_on t) (closed_rule f t) t (kept-after-close f t) (still t)
 
 -- ---- commands
 
--- a command adds these to what it leaves, or all stays
+-- a command adds these to what it leaves, or all stays for this reason
+abbrev Obeyed : Type 0 → List Item → List (List Item) → Queued → Talk → Talk → Type 0
+Obeyed untold frames groups left t x = (Still t x × untold) ⊎ GainsBehind frames groups left x.outbox
+
+-- its promise is answered at once with an error
+abbrev IsRefusal : Talk → Talk → Type 0
+IsRefusal t x = (e : ErrorKind) × IsAnsweredAtOnce e t x
+
+-- so is what a command does that takes a promise
 abbrev Told : List Item → List (List Item) → Queued → Talk → Talk → Type 0
-Told frames groups left t x = Still t x ⊎ GainsBehind frames groups left x.outbox
+Told frames groups left t x = Obeyed (IsRefusal t x) frames groups left t x
+
+-- one error more, and all stays
+refused : (e : ErrorKind) (t : Talk) → Still t (refuse e t) × IsRefusal t (refuse e t)
+refused e t = (same t.outbox, (e, put-same t.made (Some (Err e)) t.promises))
 
 told-opened : (o : Option ℕ) (first : ℕ) (t : Talk) → Told (opening_of o) [] t.outbox t (open_drawn o first t)
-told-opened None first t = inl (same t.outbox)
+told-opened None first t = inl (same t.outbox, (ChannelsLimitReached, put-same t.made (Some (Err ChannelsLimitReached)) t.promises))
 told-opened (Some n) first t = inr (one-more t.outbox (open_as n t).outbox (plain_item n (channel_open n)) refl refl refl)
 
 adds-leave : (n code : ℕ) (text : List ℕ) (c : Channel) (answers : Option ℕ) (t : Talk)
@@ -291,31 +345,32 @@ adds-left code text answers t = one-more (without_groups t.outbox) (leave_connec
 
 told-closed : (o : Result Channel ErrorKind) (n code : ℕ) (text : List ℕ) (t : Talk)
     → Told (plain_item n (our_channel_close n code text) ∷ []) [] (without_groups_of n t.outbox) t (close_target o n code text t)
-told-closed (Err e) n code text t = inl (same t.outbox)
+told-closed (Err e) n code text t = inl (refused e t)
 told-closed (Ok c) n code text t = inr (adds-leave n code text c (Some (next_promise t)) t)
 
-told-dropped : (o : Result Channel ErrorKind) (n : ℕ) (t : Talk)
-    → Told (plain_item n (our_channel_close n 200 (codes "OK")) ∷ []) [] (without_groups_of n t.outbox) t (drop_target o n t)
-told-dropped (Err e) n t = inl (same t.outbox)
-told-dropped (Ok c) n t = inr (adds-leave n 200 (codes "OK") c None t)
+told-dropped : (r : ChanRef) (o : Result Channel ErrorKind) (t : Talk) → target r word.ChannelClose t ≡ o
+    → Obeyed (IsUntold (DropChannel r) t (drop_target o r.id t)) (plain_item r.id (our_channel_close r.id 200 (codes "OK")) ∷ []) [] (without_groups_of r.id t.outbox) t
+    (drop_target o r.id t)
+told-dropped r (Err e) t is = inl (same t.outbox, inr (e, is))
+told-dropped r (Ok c) t is = inr (adds-leave r.id 200 (codes "OK") c None t)
 
 told-flow : (o : Result Channel ErrorKind) (n : ℕ) (active : Bool) (t : Talk) → Told (plain_item n (channel_flow n active) ∷ []) [] t.outbox t (flow_target o n active t)
-told-flow (Err e) n active t = inl (same t.outbox)
+told-flow (Err e) n active t = inl (refused e t)
 told-flow (Ok c) n active t = inr (one-more t.outbox (tell_flow n active t).outbox (plain_item n (channel_flow n active)) refl refl refl)
 
 told-unless : (frames : List Item) (groups : List (List Item)) (o : Option Frame) (rule : Talk → Talk) (t : Talk) → Told frames groups t.outbox t (rule t)
     → Told frames groups t.outbox t (unless_too_long o rule t)
 told-unless frames groups None rule t h = h
-told-unless frames groups (Some f) rule t h = inl (same t.outbox)
+told-unless frames groups (Some f) rule t h = inl (refused (SerialisationError (length (encoding f))) t)
 
 told-room : (frames : List Item) (groups : List (List Item)) (o : Option ℕ) (rule : Talk → Talk) (t : Talk) → Told frames groups t.outbox t (rule t)
     → Told frames groups t.outbox t (unless_full o rule t)
 told-room frames groups None rule t h = h
-told-room frames groups (Some octets) rule t h = inl (same t.outbox)
+told-room frames groups (Some octets) rule t h = inl (refused (OutboxFull octets) t)
 
 told-send : (o : Result Channel ErrorKind) (n : ℕ) (m : OtherMethod) (t : Talk)
     → Told (promised_item n (method_frame n m) (next_promise t) ∷ []) [] t.outbox t (send_target o n m t)
-told-send (Err e) n m t = inl (same t.outbox)
+told-send (Err e) n m t = inl (refused e t)
 told-send (Ok c) n m t =
     let f : Frame = method_frame n m in
     let item : Item = promised_item n f (next_promise t) in
@@ -324,7 +379,7 @@ told-send (Ok c) n m t =
 
 told-publish : (o : Result Channel ErrorKind) (n : ℕ) (m : OtherMethod) (properties body : List ℕ) (t : Talk)
     → Told [] (group_of n (publish_frames n m properties body (body_limit t)) (next_promise t) ∷ []) t.outbox t (publish_target o n m properties body t)
-told-publish (Err e) n m properties body t = inl (same t.outbox)
+told-publish (Err e) n m properties body t = inl (refused e t)
 told-publish (Ok c) n m properties body t =
     let fs : List Frame = publish_frames n m properties body (body_limit t) in
     let group : List Item = group_of n fs (next_promise t) in
@@ -338,7 +393,11 @@ told-secret secret reason t =
     told-unless (plain_item 0 f ∷ []) [] (too_long (f ∷ []) t) (queue_secret f) t
     (inr (one-more t.outbox (queue_secret f t).outbox (plain_item 0 f) refl refl refl))
 
-told-connected : (c : Cmd) (t : Talk) → Told (told_by c t) (published_by c t) (left_by_command c t.outbox) t (command_rule Connected c t)
+-- what a command does, in this state after it
+abbrev Does : Cmd → Talk → Talk → Type 0
+Does c t x = Obeyed (IsUntold c t x) (told_by c t) (published_by c t) (left_by_command c t.outbox) t x
+
+told-connected : (c : Cmd) (t : Talk) → Does c t (command_rule Connected c t)
 told-connected OpenChannel t =
     let first : ℕ = first_number t.configuration.channel_max t.cursor in told-opened (drawn t.configuration.channel_max first t.channels) first t
 told-connected (CloseChannel r code text) t = told-closed (target r word.ChannelClose t) r.id code text t
@@ -347,15 +406,29 @@ told-connected (UpdateSecret secret reason) t = told-secret secret reason t
 told-connected (Send r method) t = told-send (target r word.Send t) r.id method t
 told-connected (Publish r method properties body) t = told-publish (target r word.Publish t) r.id method properties body t
 told-connected (Flow r active) t = told-flow (target r word.ChannelFlow t) r.id active t
-told-connected (DropChannel r) t = told-dropped (target r word.ChannelClose t) r.id t
+told-connected (DropChannel r) t = told-dropped r (target r word.ChannelClose t) t refl
 told-connected DropConnection t = inr (adds-left 200 (codes "OK") None t)
-told-connected Listen t = inl (same t.outbox)
+told-connected Listen t = inl (same t.outbox, tt)
 
-command-added : (c : Cmd) (t : Talk) → Told (told_by c t) (published_by c t) (left_by_command c t.outbox) t (command c t)
-command-added c t = by t.state where
-  by : (s : ConnectionState) → Told (told_by c t) (published_by c t) (left_by_command c t.outbox) t (command_rule s c t)
-  by Connected = told-connected c t
-  by s = inl (refused-keeps (Still t) (λ e x h. h) (λ x h. h) s c t refl (same t.outbox))
+-- while the connection is not open, no command is obeyed
+told-shut : (s : ConnectionState) (c : Cmd) (t : Talk) → s ≢ Connected → t.state ≢ Connected → Does c t (command_rule s c t)
+told-shut Connected c t shut out = absurd (shut refl)
+told-shut s (DropChannel r) t shut out = inl (same t.outbox, inl out)
+told-shut s DropConnection t shut out = inl (same t.outbox, out)
+told-shut s Listen t shut out = inl (same t.outbox, tt)
+told-shut s OpenChannel t shut out = inl (refused (InvalidConnectionState s) t)
+told-shut s (CloseChannel r code text) t shut out = inl (refused (InvalidConnectionState s) t)
+told-shut s (CloseConnection code text) t shut out = inl (refused (InvalidConnectionState s) t)
+told-shut s (UpdateSecret secret reason) t shut out = inl (refused (InvalidConnectionState s) t)
+told-shut s (Send r method) t shut out = inl (refused (InvalidConnectionState s) t)
+told-shut s (Publish r method properties body) t shut out = inl (refused (InvalidConnectionState s) t)
+told-shut s (Flow r active) t shut out = inl (refused (InvalidConnectionState s) t)
+
+command-added : (c : Cmd) (t : Talk) → Does c t (command c t)
+command-added c t = by t.state refl where
+  by : (s : ConnectionState) → t.state ≡ s → Does c t (command_rule s c t)
+  by Connected is = told-connected c t
+  by s is = told-shut s c t (λ h. cc) (λ h. let clash : s ≡ Connected = sym is ∙ h in cc)
 
 -- ---- time
 
@@ -363,72 +436,70 @@ command-added c t = by t.state where
 abbrev rest : List Asked → Talk → Talk
 rest answers x = link_due (secret_due answers (heartbeat_due x))
 
--- a heartbeat was added, or none
-record Beaten (t x : Talk) : Type 0 where
-  beats : List Item
-  one_beat : (beats ≡ []) ⊎ (beats ≡ plain_item 0 Heartbeat ∷ [])
-  adds : GainsBehind beats [] t.outbox x.outbox
+-- a secret, in a state that differs in what waits
+module _ (t x : Talk) (asks : asks_validity x ≡ asks_validity t) (expires : (time : Option ℕ) → has_expired time x ≡ has_expired time t)
+    (beats : List Item) (h : GainsBehind beats [] t.outbox x.outbox) where
+  none : GainsBehind (beats ++ []) [] t.outbox x.outbox
+  none = subst (λ (frames : List Item). GainsBehind frames [] t.outbox x.outbox) (sym (append-nil beats)) h
 
-beaten : (t : Talk) → Beaten t (heartbeat_due t)
-beaten t =
-    if_case (Beaten t) (is_heartbeat_due t) (record (queue 0 Heartbeat t) { last_write = t.present }) t
-    (record { beats = plain_item 0 Heartbeat ∷ []; one_beat = inr refl; adds = one-more t.outbox (queue 0 Heartbeat t).outbox (plain_item 0 Heartbeat) refl refl refl })
-    (record { beats = []; one_beat = inl refl; adds = same t.outbox })
+  renewed : (later : List Asked) → GainsBehind (beats ++ new_one later) [] t.outbox (refresh later x).outbox
+  renewed (answer.Refreshed (Ok secret) ∷ later) =
+      adds-then beats (plain_item 0 (new_secret secret refresh_reason)) t.outbox x.outbox (refreshed (Ok secret) x).outbox refl refl refl h
+  renewed (answer.Refreshed (Err text) ∷ later) = none
+  renewed later = none
 
--- no secret is told
-untold : (answers : List Asked) (t x y : Talk) → y.outbox ≡ x.outbox → Beaten t x → AddsInTime answers t y
-untold answers t x y is h =
-    let F : List Item → Type 0 = λ frames. GainsBehind frames [] t.outbox x.outbox in
-    let Q : Queued → Type 0 = λ q. GainsBehind (h.beats ++ []) [] t.outbox q in
-    record {
-      beats = h.beats;
-      secrets = [];
-      one_beat = h.one_beat;
-      one_secret = inl refl;
-      adds = subst Q (sym is) (subst F (sym (append-nil h.beats)) h.adds);
-    }
+  valid-told : (answers : List Asked) → GainsBehind (beats ++ renewal answers t) [] t.outbox (validity_told answers x).outbox
+  valid-told (answer.ValidFor time ∷ later) =
+      let E : Bool → Type 0 = λ b. GainsBehind (beats ++ (if b then new_one later else [])) [] t.outbox (if has_expired time x then refresh later x else x).outbox in
+      subst E (expires time) (by (has_expired time x))
+    where
+      by : (b : Bool) → GainsBehind (beats ++ (if b then new_one later else [])) [] t.outbox (if b then refresh later x else x).outbox
+      by true = renewed later
+      by false = none
+  valid-told answers = none
 
-renewed-timed : (time : Option ℕ) (later : List Asked) (t x : Talk) → Beaten t x → AddsInTime (answer.ValidFor time ∷ later) t (refresh later x)
-renewed-timed time (answer.Refreshed (Ok secret) ∷ later) t x h =
-    let item : Item = plain_item 0 (new_secret secret refresh_reason) in
-    record {
-      beats = h.beats;
-      secrets = item ∷ [];
-      one_beat = h.one_beat;
-      one_secret = inr refl;
-      adds = adds-then h.beats item t.outbox x.outbox (refreshed (Ok secret) x).outbox refl refl refl h.adds;
-    }
-renewed-timed time (answer.Refreshed (Err text) ∷ later) t x h = untold (answer.ValidFor time ∷ answer.Refreshed (Err text) ∷ later) t x _ refl h
-renewed-timed time later t x h = untold (answer.ValidFor time ∷ later) t x x refl h
-
-valid-timed : (answers : List Asked) (t x : Talk) → Beaten t x → AddsInTime answers t (validity_told answers x)
-valid-timed (answer.ValidFor time ∷ later) t x h =
-    if_case (AddsInTime (answer.ValidFor time ∷ later) t) (has_expired time x) (refresh later x) x (renewed-timed time later t x h)
-    (untold (answer.ValidFor time ∷ later) t x x refl h)
-valid-timed answers t x h = untold answers t x x refl h
+  secret-told : (answers : List Asked) → GainsBehind (beats ++ renewal_of answers t) [] t.outbox (secret_due answers x).outbox
+  secret-told answers =
+      let E : Bool → Type 0 = λ b. GainsBehind (beats ++ (if b then renewal answers t else [])) [] t.outbox (if asks_validity x then validity_told answers x else x).outbox in
+      subst E asks (by (asks_validity x))
+    where
+      by : (b : Bool) → GainsBehind (beats ++ (if b then renewal answers t else [])) [] t.outbox (if b then validity_told answers x else x).outbox
+      by true = valid-told answers
+      by false = none
 
 -- the server was not silent
-heard-timed : (answers : List Asked) (t : Talk) → AddsInTime answers t (rest answers t)
-heard-timed answers t =
-    let x : Talk = heartbeat_due t in
-    let told : AddsInTime answers t (secret_due answers x) =
-    if_case (AddsInTime answers t) (asks_validity x) (validity_told answers x) x (valid-timed answers t x (beaten t)) (untold answers t x x refl (beaten t)) in
-    record { beats = told.beats; secrets = told.secrets; one_beat = told.one_beat; one_secret = told.one_secret; adds = told.adds }
+heard-timed : (answers : List Asked) (t : Talk) → GainsBehind (heartbeat_of t ++ renewal_of answers t) [] t.outbox (rest answers t).outbox
+heard-timed answers t = by (is_heartbeat_due t) where
+  beaten : Talk
+  beaten = record (queue 0 Heartbeat t) { last_write = t.present }
 
-tick-added : (answers : List Asked) (t : Talk) → AddsInTime answers t (tick answers t) ⊎ DropsAll (tick answers t)
-tick-added answers t =
-    let P : Talk → Type 0 = λ x. AddsInTime answers t (rest answers x) ⊎ DropsAll (rest answers x) in
-    if_case P (is_missed t) (lose MissingHeartbeatError t) t
-    (lose-case P MissingHeartbeatError t (λ delay. inr (record { state = refl; nothing = refl }))
-    (inl (record { beats = []; secrets = []; one_beat = inl refl; one_secret = inl refl; adds = same t.outbox })))
-    (inl (heard-timed answers t))
+  expires : (time : Option ℕ) → has_expired time beaten ≡ has_expired time t
+  expires None = refl
+  expires (Some time) = refl
+
+  by : (b : Bool) → GainsBehind ((if b then plain_item 0 Heartbeat ∷ [] else []) ++ renewal_of answers t) [] t.outbox (secret_due answers (if b then beaten else t)).outbox
+  by true =
+      secret-told t beaten refl expires (plain_item 0 Heartbeat ∷ []) (one-more t.outbox (queue 0 Heartbeat t).outbox (plain_item 0 Heartbeat) refl refl refl) answers
+  by false = secret-told t t refl (λ time. refl) [] (same t.outbox) answers
+
+pub tick-added : (answers : List Asked) (t : Talk) → AddsWhere (not (is_missed t)) (told_in_time answers t) t.outbox t (tick answers t)
+tick-added answers t = by (is_missed t) where
+  by : (b : Bool)
+      → AddsWhere (not b) (if b then [] else heartbeat_of t ++ renewal_of answers t) t.outbox t (rest answers (if b then lose MissingHeartbeatError t else t))
+  by true =
+      lose-case (λ (x : Talk). StaysOrDrops t (rest answers x)) MissingHeartbeatError t (λ delay. inr (record { state = refl; nothing = refl }))
+      (inl (same t.outbox))
+  by false = heard-timed answers t
 
 -- ---- links
 
-linked-added : (t : Talk) → Still t (linked t) ⊎ GainsBehind (plain_item 0 protocol_header ∷ []) [] nothing_queued (linked t).outbox
-linked-added t =
-    if_case (λ (x : Talk). Still t x ⊎ GainsBehind (plain_item 0 protocol_header ∷ []) [] nothing_queued x.outbox) (is_asked t) _ t
-    (inr (record { control = refl; publish = refl; begun = refl })) (inl (same t.outbox))
+linked-added : (t : Talk) → is_asked t ≡ true → GainsBehind (plain_item 0 protocol_header ∷ []) [] nothing_queued (linked t).outbox
+linked-added t asks =
+    if_by (λ (x : Talk). GainsBehind (plain_item 0 protocol_header ∷ []) [] nothing_queued x.outbox) (is_asked t) _ t
+    (λ h. record { control = refl; publish = refl; begun = refl }) (λ h. absurd (true≢false (sym asks ∙ h)))
+
+linked-still : (t : Talk) → is_asked t ≡ false → Still t (linked t)
+linked-still t asks = if_by (Still t) (is_asked t) _ t (λ h. absurd (true≢false (sym h ∙ asks))) (λ h. same t.outbox)
 
 stays-failed : (t : Talk) → Still t (link_failed t)
 stays-failed t = if_case (Still t) (is_asked t) (refused_after (next_delay t) t) t (by (next_delay t)) (same t.outbox) where
@@ -537,6 +608,7 @@ pub leaves-what-waits : (t : Talk) → LeavesWhatWaits t
 leaves-what-waits t =
     record {
       linked = linked-added t;
+      unasked = linked-still t;
       frame = λ f answers. frame-added f answers t;
       command = λ c. command-added c t;
       tick = λ answers. tick-added answers t;

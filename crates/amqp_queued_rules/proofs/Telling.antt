@@ -1,9 +1,8 @@
 -- What commands, time and links queue.
-use Rattle.std.proofs.Common.{◌≡◌, ◌⊎◌, inl, inr, ℕ, max, ◌==◌, ◌&&◌, ◌-◌, nat_le, not, Bool, if◌then◌else◌, List, [], ◌∷◌, ◌++◌, drop, Option, Some, None, Result, Ok, Err, refl, ◌∙◌, ap, sym, subst, append_assoc, append-nil}
+use Rattle.std.proofs.Common.{◌≡◌, ◌⊎◌, inl, inr, ℕ, max, ◌==◌, ◌&&◌, ◌-◌, nat_le, not, Bool, true, false, if◌then◌else◌, List, [], ◌∷◌, ◌++◌, drop, Option, Some, None, Result, Ok, Err, refl, ◌∙◌, ap, sym, subst, append_assoc, append-nil}
 use Rattle.std.specs.Prelude.{codes}
 use Rattle.amqp_types.specs.declared.word.Word.TheVariants as word
 use Rattle.amqp_frame.specs.declared.frame.Frame.{Frame}
-use Rattle.amqp_frame.specs.declared.frame.Frame.TheVariants.{Heartbeat}
 use Rattle.amqp_frame.specs.RawMethods.{OtherMethod}
 use Rattle.amqp_outbox.specs.declared.item.Item.{Item}
 use Rattle.amqp_outbox.specs.Items.{plain_item, promised_item, group_of}
@@ -14,7 +13,6 @@ use Rattle.amqp_promise.specs.declared.io_fault.IoFault.{IoFault}
 use Rattle.amqp_promise.specs.declared.state.ConnectionState.{ConnectionState}
 use Rattle.amqp_promise.specs.declared.state.ConnectionState.TheVariants.{Connected}
 use Rattle.amqp_auth.specs.declared.asked.Asked.{Asked}
-use Rattle.amqp_auth.specs.declared.asked.Asked.TheVariants as answer
 use Rattle.amqp_session.specs.declared.channels.Channel.{Channel}
 use Rattle.amqp_session.specs.declared.command.Cmd.{Cmd}
 use Rattle.amqp_session.specs.declared.command.Cmd.TheVariants.{OpenChannel, CloseChannel, CloseConnection, UpdateSecret, Send, Publish, Flow, DropChannel, DropConnection, Listen}
@@ -34,14 +32,16 @@ use Rattle.amqp_session.specs.Numbering.{first_number, drawn}
 use Rattle.amqp_session.specs.Channels.{channel_at}
 use Rattle.amqp_session.specs.Publishing.{method_frame, publish_frames}
 use Rattle.amqp_session.specs.Commands.{target, open_as, open_drawn, leave_channel, close_target, drop_target, too_long, unless_too_long, too_full, unless_full, queue_send, send_target, body_limit, queue_publish, publish_target, tell_flow, flow_target, queue_secret, leave_connection, command_rule, command}
-use Rattle.amqp_session.specs.Ticks.{asks_validity, beat, has_expired, is_heartbeat_due, is_missed, missing_heartbeat, refresh, refresh_reason, refreshed, tick, timed, validity_told}
+use Rattle.amqp_session.specs.Ticks.{is_missed, tick}
 use Rattle.amqp_session.specs.Writing.{pay, follow, sent, sent_among, taken}
 use Rattle.amqp_session.proofs.Recovering.{lose-case}
 use Rattle.amqp_session.proofs.Walk.{refused-keeps, pay-case}
 use Rattle.amqp_types.proofs.Small.{if_case}
 use Rattle.amqp_queued_rules.specs.Queues.{IsPart, EndsWith, Queues, QueuesNothing, MayQueue}
-use Rattle.amqp_queued_rules.specs.Queued.{opening_of, told_by, published_by, QueuesInTime, QueuesItsOwn}
-use Rattle.amqp_queued_rules.proofs.Parts.{part-all, part-tested, part-of-part, part-left, queues-part, queues-frames, queues-last}
+use Rattle.amqp_queued_rules.specs.Queued.{opening_of, told_by, published_by, heartbeat_of, renewal_of, told_in_time, QueuesItsOwn}
+use Rattle.amqp_queued_rules.specs.Left.{GainsBehind, AddsWhere}
+use Rattle.amqp_queued_rules.proofs.Lefts.{tick-added}
+use Rattle.amqp_queued_rules.proofs.Parts.{part-all, part-same, part-tested, part-of-part, part-left, queues-part, queues-frames, queues-last}
 use Rattle.amqp_queued_rules.proofs.Replying.{Silent, silent, silent-lose, frame-replied}
 
 -- ---- commands
@@ -145,78 +145,22 @@ command-told c t = by t.state where
 
 -- ---- time
 
--- what is queued by a tick before it looks at the secret: a heartbeat, or nothing
-record Beaten (t x : Talk) : Type 0 where
-  beats : List Item
-  one_beat : (beats ≡ []) ⊎ (beats ≡ plain_item 0 Heartbeat ∷ [])
-  queues : Queues beats [] t.outbox x.outbox
-
--- one frame more, behind those that were queued
-queues-then : (frames : List Item) (item : Item) (q r s : Queued) → s.control ≡ r.control ++ item ∷ [] → s.publish ≡ r.publish → s.begun ≡ r.begun
-    → Queues frames [] q r → Queues (frames ++ item ∷ []) [] q s
-queues-then frames item q r s control publish begun h =
-    let said : EndsWith frames q.control r.control = h.control in
+-- what is added last is queued, and all else stays
+queues-added : (frames : List Item) (q q' : Queued) → GainsBehind frames [] q q' → Queues frames [] q q'
+queues-added frames q q' h =
     record {
-      control = (said.0, said.1, control ∙ ap (λ (items : List Item). items ++ item ∷ []) said.2 ∙ append_assoc said.0 frames (item ∷ []));
-      publish = subst (λ (groups : List (List Item)). EndsWith [] q.publish groups) (sym publish) h.publish;
-      begun = subst (λ (items : List Item). IsPart items q.begun) (sym begun) h.begun;
+      control = (q.control, part-all q.control, h.control);
+      publish = (q.publish, part-all q.publish, h.publish);
+      begun = part-same q.begun q'.begun h.begun;
     }
 
-beaten : (t : Talk) → Beaten t (beat t)
-beaten t =
-    let x : Talk = missing_heartbeat t in
-    let missed : Silent t x = if_case (Silent t) (is_missed t) (lose MissingHeartbeatError t) t (silent-lose MissingHeartbeatError t) (silent t) in
-    if_case (Beaten t) (is_heartbeat_due x) (record (queue 0 Heartbeat x) { last_write = x.present }) x
-    (record {
-      beats = plain_item 0 Heartbeat ∷ [];
-      one_beat = inr refl;
-      queues = queues-then [] (plain_item 0 Heartbeat) t.outbox x.outbox (queue 0 Heartbeat x).outbox refl refl refl missed;
-    }) (record { beats = []; one_beat = inl refl; queues = missed })
-
--- no secret is told
-untold : (answers : List Asked) (t x y : Talk) → y.outbox ≡ x.outbox → Beaten t x → QueuesInTime answers t y
-untold answers t x y same h =
-    let F : List Item → Type 0 = λ frames. Queues frames [] t.outbox x.outbox in
-    let Q : Queued → Type 0 = λ q. Queues (h.beats ++ []) [] t.outbox q in
-    record {
-      beats = h.beats;
-      secrets = [];
-      one_beat = h.one_beat;
-      one_secret = inl refl;
-      queues = subst Q (sym same) (subst F (sym (append-nil h.beats)) h.queues);
-    }
-
-renewed-timed : (time : Option ℕ) (later : List Asked) (t x : Talk) → Beaten t x → QueuesInTime (answer.ValidFor time ∷ later) t (refresh later x)
-renewed-timed time (answer.Refreshed (Ok secret) ∷ later) t x h =
-    let item : Item = plain_item 0 (new_secret secret refresh_reason) in
-    record {
-      beats = h.beats;
-      secrets = item ∷ [];
-      one_beat = h.one_beat;
-      one_secret = inr refl;
-      queues = queues-then h.beats item t.outbox x.outbox (refreshed (Ok secret) x).outbox refl refl refl h.queues;
-    }
-renewed-timed time (answer.Refreshed (Err text) ∷ later) t x h = untold (answer.ValidFor time ∷ answer.Refreshed (Err text) ∷ later) t x _ refl h
-renewed-timed time later t x h = untold (answer.ValidFor time ∷ later) t x x refl h
-
-valid-timed : (answers : List Asked) (t x : Talk) → Beaten t x → QueuesInTime answers t (validity_told answers x)
-valid-timed (answer.ValidFor time ∷ later) t x h =
-    if_case (QueuesInTime (answer.ValidFor time ∷ later) t) (has_expired time x) (refresh later x) x (renewed-timed time later t x h)
-    (untold (answer.ValidFor time ∷ later) t x x refl h)
-valid-timed answers t x h = untold answers t x x refl h
-
-pub tick-timed : (answers : List Asked) (t : Talk) → QueuesInTime answers t (tick answers t)
-tick-timed answers t =
-    let x : Talk = beat t in
-    let told : QueuesInTime answers t (timed answers t) =
-    if_case (QueuesInTime answers t) (asks_validity x) (validity_told answers x) x (valid-timed answers t x (beaten t)) (untold answers t x x refl (beaten t)) in
-    record {
-      beats = told.beats;
-      secrets = told.secrets;
-      one_beat = told.one_beat;
-      one_secret = told.one_secret;
-      queues = told.queues;
-    }
+pub tick-timed : (answers : List Asked) (t : Talk) → Queues (told_in_time answers t) [] t.outbox (tick answers t).outbox
+tick-timed answers t = by (is_missed t) (tick-added answers t) where
+  by : (b : Bool) → AddsWhere (not b) (if b then [] else heartbeat_of t ++ renewal_of answers t) t.outbox t (tick answers t)
+      → Queues (if b then [] else heartbeat_of t ++ renewal_of answers t) [] t.outbox (tick answers t).outbox
+  by true (inl h) = queues-added [] t.outbox (tick answers t).outbox h
+  by true (inr h) = subst (λ (q : Queued). Queues [] [] t.outbox q) (sym h.nothing) (queues-part t.outbox nothing_queued tt tt tt)
+  by false h = queues-added (heartbeat_of t ++ renewal_of answers t) t.outbox (tick answers t).outbox h
 
 -- ---- links
 

@@ -22,10 +22,11 @@ use Rattle.amqp_session.specs.Handshake.{channel_open}
 use Rattle.amqp_session.specs.Numbering.{first_number, drawn}
 use Rattle.amqp_session.specs.Publishing.{cut, publish_frames}
 use Rattle.amqp_session.specs.Commands.{body_limit, command}
+use Rattle.amqp_session.specs.Ticks.{asks_validity, has_expired, is_heartbeat_due, is_missed}
 use Rattle.amqp_session.specs.Writing.{next_within, flows, committed_as, commit, overlong, end_overlong}
 use Rattle.amqp_types.proofs.Small.{if_case}
 use Rattle.amqp_queued_rules.specs.Queues.{Queues, QueuesNothing, Waits}
-use Rattle.amqp_queued_rules.specs.Queued.{start_reply, reopenings, reply_to, opening_of, told_by, published_by, renewal, QueuesInTime, QueuesItsOwn}
+use Rattle.amqp_queued_rules.specs.Queued.{start_reply, reopenings, reply_to, opening_of, told_by, published_by, heartbeat_of, new_one, renewal, renewal_of, told_in_time, QueuesItsOwn}
 use Rattle.amqp_queued_rules.specs.Challenges.{is_challenge, IsNoSecureOk, Unchallenged, StaysUnchallenged}
 use Rattle.amqp_queued_rules.proofs.Parts.{all-joined, waits-queued, waits-same, waits-either}
 use Rattle.amqp_queued_rules.proofs.Replying.{silent-lose}
@@ -97,19 +98,19 @@ other-published (Publish r method properties body) t =
     (other-group r.id fs (next_promise t) (tt, (tt, other-pieces r.id (length body) (body_limit t) body)), tt)
 other-published c t = tt
 
-other-renewal : (answers : List Asked) → AllByRecursion Other (renewal answers)
-other-renewal (answer.ValidFor time ∷ answer.Refreshed (Ok secret) ∷ later) = (tt, tt)
-other-renewal answers = tt
+other-new : (answers : List Asked) → AllByRecursion Other (new_one answers)
+other-new (answer.Refreshed (Ok secret) ∷ later) = (tt, tt)
+other-new _ = tt
 
-other-timed : (answers : List Asked) (t x : Talk) (h : QueuesInTime answers t x) → AllByRecursion Other (h.beats ++ h.secrets)
-other-timed answers t x h = all-joined Other h.beats h.secrets (by-beat h.one_beat) (by-secret h.one_secret) where
-  by-beat : (h.beats ≡ []) ⊎ (h.beats ≡ plain_item 0 Heartbeat ∷ []) → AllByRecursion Other h.beats
-  by-beat (inl none) = subst (AllByRecursion Other) (sym none) tt
-  by-beat (inr one) = subst (AllByRecursion Other) (sym one) (tt, tt)
+other-renewal : (answers : List Asked) (t : Talk) → AllByRecursion Other (renewal answers t)
+other-renewal (answer.ValidFor time ∷ later) t = if_case (AllByRecursion Other) (has_expired time t) (new_one later) [] (other-new later) tt
+other-renewal _ t = tt
 
-  by-secret : (h.secrets ≡ []) ⊎ (h.secrets ≡ renewal answers) → AllByRecursion Other h.secrets
-  by-secret (inl none) = subst (AllByRecursion Other) (sym none) tt
-  by-secret (inr new) = subst (AllByRecursion Other) (sym new) (other-renewal answers)
+other-timed : (answers : List Asked) (t : Talk) → AllByRecursion Other (told_in_time answers t)
+other-timed answers t =
+    if_case (AllByRecursion Other) (is_missed t) [] (heartbeat_of t ++ renewal_of answers t) tt
+    (all-joined Other (heartbeat_of t) (renewal_of answers t) (if_case (AllByRecursion Other) (is_heartbeat_due t) (plain_item 0 Heartbeat ∷ []) [] (tt, tt) tt)
+    (if_case (AllByRecursion Other) (asks_validity t) (renewal answers t) [] (other-renewal answers t) tt))
 
 -- ---- what is committed
 
@@ -147,8 +148,7 @@ stays-unchallenged t h =
       linked = waits-either Other _ t.outbox _ own.linked h (tt, tt);
       frame = λ f answers is. waits-either Other (reply_to f answers t) t.outbox _ (own.frame f answers) h (other-reply f answers t is);
       command = λ c. told c (own.command c);
-      tick = λ answers.
-          waits-queued Other ((own.tick answers).beats ++ (own.tick answers).secrets) [] t.outbox _ (own.tick answers).queues h (other-timed answers t _ (own.tick answers)) tt;
+      tick = λ answers. waits-queued Other (told_in_time answers t) [] t.outbox _ (own.tick answers) h (other-timed answers t) tt;
       moment = λ at. subst (λ (q : Queued). Waits Other q) (sym (own.moment at)) h;
       starve = waits-same Other t.outbox _ own.starve h;
       asked = h;

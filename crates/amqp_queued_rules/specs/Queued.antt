@@ -26,7 +26,7 @@ use Rattle.amqp_session.specs.Frames.{on_frame}
 use Rattle.amqp_session.specs.Commands as told
 use Rattle.amqp_session.specs.Commands.{body_limit}
 use Rattle.amqp_session.specs.Ticks as ticks
-use Rattle.amqp_session.specs.Ticks.{refresh_reason}
+use Rattle.amqp_session.specs.Ticks.{asks_validity, has_expired, is_heartbeat_due, is_missed, refresh_reason}
 use Rattle.amqp_session.specs.Writing as writing
 use Rattle.amqp_queued_rules.specs.Queues.{Queues, QueuesNothing, MayQueue}
 
@@ -97,30 +97,39 @@ published_by c t = []
 
 -- ---- time
 
--- the new secret that the provider has for one that has expired
-abbrev pub renewal : List Asked → List Item
-renewal (answer.ValidFor time ∷ answer.Refreshed (Ok secret) ∷ later) =
-    plain_item 0 (new_secret secret refresh_reason) ∷ []
-renewal _ = []
+-- a heartbeat, where we wrote nothing for more than half an interval (AMQP 0-9-1, 4.2.7)
+abbrev pub heartbeat_of : Talk → List Item
+heartbeat_of t = if is_heartbeat_due t then plain_item 0 Heartbeat ∷ [] else []
 
--- time queues a heartbeat, or none, and behind it the new secret of the provider, or none
-pub record QueuesInTime (answers : List Asked) (t t' : Talk) : Type 0 where
-  pub beats : List Item
-  pub secrets : List Item
-  pub one_beat : (beats ≡ []) ⊎ (beats ≡ plain_item 0 Heartbeat ∷ [])
-  pub one_secret : (secrets ≡ []) ⊎ (secrets ≡ renewal answers)
-  pub queues : Queues (beats ++ secrets) [] t.outbox t'.outbox
+-- the new secret, where the provider has one
+abbrev pub new_one : List Asked → List Item
+new_one (answer.Refreshed (Ok secret) ∷ later) = plain_item 0 (new_secret secret refresh_reason) ∷ []
+new_one _ = []
+
+-- the new secret, where the provider says how long the old one is valid, and that time is over
+abbrev pub renewal : List Asked → Talk → List Item
+renewal (answer.ValidFor time ∷ later) t = if has_expired time t then new_one later else []
+renewal _ t = []
+
+-- that, while the connection is open, and no new secret is told that the server did not answer yet
+abbrev pub renewal_of : List Asked → Talk → List Item
+renewal_of answers t = if asks_validity t then renewal answers t else []
+
+-- what time says: nothing, where the server was silent for too long; else these
+abbrev pub told_in_time : List Asked → Talk → List Item
+told_in_time answers t = if is_missed t then [] else heartbeat_of t ++ renewal_of answers t
 
 -- ---- each rule
 
--- each rule queues its own frames, all of them, or nothing; a new link has the protocol header alone
+-- each rule queues its own frames, all of them, or nothing; a tick queues what time says then; a new link has the
+-- protocol header alone
 pub record QueuesItsOwn (t : Talk) : Type 0 where
   pub linked : MayQueue (plain_item 0 protocol_header ∷ []) t.outbox (link.linked t).outbox
   pub frame : (f : Frame) (answers : List Asked) →
       MayQueue (reply_to f answers t) t.outbox (on_frame f answers t).outbox
   pub command : (c : Cmd) → QueuesNothing t.outbox (told.command c t).outbox
       ⊎ Queues (told_by c t) (published_by c t) t.outbox (told.command c t).outbox
-  pub tick : (answers : List Asked) → QueuesInTime answers t (ticks.tick answers t)
+  pub tick : (answers : List Asked) → Queues (told_in_time answers t) [] t.outbox (ticks.tick answers t).outbox
   -- these leave what waits as it is
   pub moment : (at : ℕ) → (change.present_at at t).outbox ≡ t.outbox
   pub asked : (link.asked t).outbox ≡ t.outbox

@@ -1,12 +1,12 @@
 //! Replays a script of a connection over a port in memory, and prints a report; or generates a script,
-//! and prints it with a summary; or checks a capture of a link, and prints the verdict; or opens and closes
-//! a connection over a socket, line by line. A script may say `provider handed`: the client then logs in
-//! by tokens.
+//! and prints it with a summary; or joins a client and a server double, and prints how much was sent; or
+//! checks a capture of a link, and prints the verdict; or opens and closes a connection over a socket, line by
+//! line. A script may say `provider handed`: the client then logs in by tokens.
 #![tactic(auto)]
 
+use amqp_doubled::top_doubled;
 use amqp_engine::MemoryPort;
 use amqp_live::top_live;
-use amqp_program::top::top;
 use amqp_program::{Asked, asked_by, explain};
 use amqp_replay::status::{FAILED, NO_MEMORY, REFUSED, SINK_FAILED, SOURCE_FAILED, USAGE};
 use amqp_replay::{Reading, Writing, ended_at};
@@ -18,7 +18,7 @@ use std::env;
 use std::io::{self, ErrorKind};
 use std::process::ExitCode;
 
-const USAGE_TEXT: &str = "usage: amqp_script replay | generate N | check | live URI";
+const USAGE_TEXT: &str = "usage: amqp_script replay | generate N | double N | check | live URI";
 
 /// Which page says what a script may have, and what is printed.
 const PAGE_TEXT: &str = "docs/SCRIPTS.md says what a script may have, and what is printed";
@@ -107,7 +107,7 @@ fn answer(rt: &HostRuntime, words: &[Text]) -> Result<(u8, Said), NoMemory> {
         move || new_token(alloc),
     );
     let handed = Some(TokenAuthProvider::new(alloc, tokens));
-    let status = top(alloc, words, &mut source, &mut sink, &mut port, handed);
+    let status = top_doubled(alloc, words, &mut source, &mut sink, &mut port, handed);
     let text = source.text().unwrap_or(&[]);
     // The status tells it where no memory is left for more.
     let said = explained(alloc, asked_by(words), status, text, port.told()).unwrap_or(

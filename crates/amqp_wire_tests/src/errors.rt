@@ -1,8 +1,9 @@
 //! The errors of codes, the version, and the fixed texts.
 
 use crate::support::short;
-use amqp_types::{AMQPError, AMQPErrorKind, ProtocolVersion, ReplyCode, TypeFault, Word};
+use amqp_types::{AMQPError, AMQPErrorKind, NoMemory, ProtocolVersion, ReplyCode, TypeFault, Word};
 use std::alloc::Global;
+use std::test::Fail;
 
 // What the error of a code closes; none for a code without error.
 fn kind_of(alloc: Global, code: ReplyCode) -> Result<Option<AMQPErrorKind>, TypeFault> {
@@ -149,5 +150,25 @@ fn words_have_their_texts(rt: HostRuntime) -> Result<(), TypeFault> {
     for (word, text) in WORDS {
         assert!(rt; word.text() == text, "{text}");
     }
+    Ok(())
+}
+
+/// Why a string could not be made, and what is said of it.
+const FAULTS: [(TypeFault, &str); 2] = [
+    (
+        TypeFault::TooLong(256),
+        "256 octets are more than the string can hold",
+    ),
+    (TypeFault::NoMemory, "memory was refused"),
+];
+
+#[test]
+fn faults_have_their_texts(rt: HostRuntime) -> Result<(), Fail> {
+    for (fault, text) in FAULTS {
+        let shown = format!(in rt.alloc(); "{fault}")?;
+        assert!(rt; shown.as_str() == text, "{text}");
+    }
+    let shown = format!(in rt.alloc(); "{}", NoMemory)?;
+    assert!(rt; shown.as_str() == "memory was refused");
     Ok(())
 }

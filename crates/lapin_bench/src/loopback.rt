@@ -1,9 +1,9 @@
 //! Publishes over a socket of the system, to a server on this machine.
 
 use amqp_frame::RawMethod;
-use amqp_session::{ConnectionProperties, ErrorKind, Properties, Result};
+use amqp_session::{ErrorKind, Properties, Result};
 use amqp_types::Payload;
-use lapin_connection::{Channel, Connection, Pass, Pending, Spawner};
+use lapin_connection::{Channel, Connection, ConnectionBuilder, Pass, Pending, Spawner};
 use std::alloc::Global;
 use std::sync::Wait;
 use std::thread::Threads;
@@ -11,12 +11,13 @@ use std::thread::Threads;
 /// So many octets may be under way before the caller waits.
 const UNDER_WAY: u64 = 4 << 20;
 
-/// So many messages of a size, and so many of them in one batch: while a batch is told, the one before it
-/// is on its way.
+/// So many messages of a size, in batches: while a batch is told, the one before it is on its way. After so
+/// many entries the journal begins anew; 0 where it never does.
 #[derive(Clone, Copy, Debug, PartialEq, Eq)]
 pub struct Batches {
     pub size: u32,
     pub count: u64,
+    pub settles_after: u64,
 }
 
 impl Batches {
@@ -88,16 +89,32 @@ fn open_publisher<R: Wait>(rt: &R, connection: &Connection) -> Result<Publisher>
     Ok(Publisher { channel, pass })
 }
 
-fn loopback_by<S: Spawner, R: Threads + Wait + Copy + Send + 'static>(
+// Connects by a runtime, which it uses up.
+fn connected<S: Spawner + Drop, R: Threads + Wait + Copy + Send + 'static>(
+    rt: R,
+    alloc: Global,
+    address: String,
+    runtime: S,
+    settles_after: u64,
+) -> Result<Connection> {
+    let mut builder = ConnectionBuilder::new_with_runtime(runtime).with_uri_str(address);
+    if settles_after > 0 {
+        builder = builder.settling_after(settles_after);
+    }
+    let connection = builder.connect(rt, alloc);
+    drop(builder);
+    connection
+}
+
+fn loopback_by<S: Spawner + Drop, R: Threads + Wait + Copy + Send + 'static>(
     rt: R,
     alloc: Global,
     batches: Batches,
-    address: &str,
-    runtime: &mut S,
+    address: String,
+    runtime: S,
     body: &[u8],
 ) -> Result<u64> {
-    let options = ConnectionProperties::new(alloc)?;
-    let connection = Connection::connect_with_runtime(rt, alloc, address, options, runtime)?;
+    let connection = connected(rt, alloc, address, runtime, batches.settles_after)?;
     let mut to = open_publisher(&rt, &connection)?;
     let written = publish_all(&rt, alloc, &mut to, body, batches);
     drop(to);
@@ -107,12 +124,12 @@ fn loopback_by<S: Spawner, R: Threads + Wait + Copy + Send + 'static>(
 
 /// Publishes messages of a size to the server of an address, as many as whole batches have. How many were
 /// written; nothing where memory was refused or the connection ended.
-pub fn loopback<S: Spawner, R: Threads + Wait + Copy + Send + 'static>(
+pub fn loopback<S: Spawner + Drop, R: Threads + Wait + Copy + Send + 'static>(
     rt: R,
     alloc: Global,
     batches: Batches,
-    address: &str,
-    runtime: &mut S,
+    address: String,
+    runtime: S,
 ) -> Option<u64> {
     let Ok(body) = vec![in alloc; b'x'; batches.size as usize] else {
         return None;

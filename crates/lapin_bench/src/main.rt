@@ -18,7 +18,7 @@ use std::process::ExitCode;
 use std::{env, io};
 
 const USAGE: &str =
-    "usage: lapin_bench publishes COUNT | turns COMMANDS COUNT | loopback SIZE COUNT ADDRESS";
+    "usage: lapin_bench publishes COUNT | turns COMMANDS COUNT | loopback SIZE COUNT SETTLES_AFTER ADDRESS";
 
 /// What is to be done, and how often.
 #[derive(Clone, Copy, Debug, PartialEq, Eq)]
@@ -51,7 +51,12 @@ fn size_of(word: Option<String>) -> Option<u32> {
 }
 
 // The job that words tell.
-fn job_of(kind: Option<String>, first: Option<String>, second: Option<String>) -> Option<Job> {
+fn job_of(
+    kind: Option<String>,
+    first: Option<String>,
+    second: Option<String>,
+    third: Option<String>,
+) -> Option<Job> {
     match kind?.as_str() {
         "publishes" if second.is_none() => Some(Job::Publishes {
             count: count_of(first)?,
@@ -63,6 +68,7 @@ fn job_of(kind: Option<String>, first: Option<String>, second: Option<String>) -
         "loopback" => Some(Job::Loopback(Batches {
             size: size_of(first)?,
             count: count_of(second)?,
+            settles_after: count_of(third)?,
         })),
         _ => None,
     }
@@ -74,8 +80,9 @@ fn job_given(rt: &HostRuntime) -> io::Result<(Option<Job>, Option<String>)> {
     let kind = words.next();
     let first = words.next();
     let second = words.next();
+    let third = words.next();
     let address = words.next();
-    Ok((job_of(kind, first, second), address))
+    Ok((job_of(kind, first, second, third), address))
 }
 
 // Says what was done, or that nothing was.
@@ -110,13 +117,18 @@ fn main(rt: HostRuntime) -> ExitCode {
         Err(_) => return ExitCode::FAILURE,
     };
     let done = match job {
-        Job::Publishes { count } => publishes::publishes(rt, rt.alloc(), count),
-        Job::Turns { commands, count } => alive::turns(rt, rt.alloc(), commands, count),
+        Job::Publishes { count } => {
+            drop(address);
+            publishes::publishes(rt, rt.alloc(), count)
+        }
+        Job::Turns { commands, count } => {
+            drop(address);
+            alive::turns(rt, rt.alloc(), commands, count)
+        }
         Job::Loopback(batches) => {
-            let mut runtime = MioSpawner::new(rt, rt.alloc());
-            loopback::loopback(rt, rt.alloc(), batches, address.as_str(), &mut runtime)
+            let runtime = MioSpawner::new(rt, rt.alloc());
+            loopback::loopback(rt, rt.alloc(), batches, address, runtime)
         }
     };
-    drop(address);
     say(&rt, job, done).unwrap_or(ExitCode::FAILURE)
 }

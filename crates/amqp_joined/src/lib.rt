@@ -1,0 +1,13 @@
+//! Both ends of a link joined: an engine's port whose other end is a server double. How the double's
+//! octets are cut, how much room the link has each time, and what the session is told to do, is a plan.
+#![tactic(auto)]
+
+mod inside;
+mod joined_port;
+mod laws;
+mod marks;
+mod plan;
+
+pub use joined_port::JoinedPort;
+pub use laws::{a_quiet_session_is_connected, short_writes_keep_the_tie};
+pub use plan::Plan;

@@ -1,0 +1,8 @@
+//! What stories of connections are told with: frames by their names, and the server that says them.
+#![tactic(auto)]
+
+mod names;
+mod server;
+
+pub use names::{ends_with, octets_of, push_names};
+pub use server::Server;

@@ -1,0 +1,41 @@
+-- What the words behind a program's name ask for.
+use Rattle.std.specs.Prelude.{◌≡◌, ◌<◌, ◌^◌, ◌||◌, ℕ, Bool, true, false, List, [], ◌∷◌, Option, Some, None, codes, if◌then◌else◌}
+use Rattle.std.specs.Str.{bytes_eq}
+use Rattle.std.specs.Str.Parse.{IsNumeral, digits_value}
+
+-- `--help`, `-h`
+abbrev pub wants_help : List (List ℕ) → Bool
+wants_help (word ∷ []) = bytes_eq word (codes "--help") || bytes_eq word (codes "-h")
+wants_help _ = false
+
+-- an address, an exchange and a routing key; and whether who publishes goes on over a lost link
+abbrev pub publishing_words : Bool → List (List ℕ) → Option (List ℕ × (List ℕ × (List ℕ × Bool)))
+publishing_words recovers (uri ∷ exchange ∷ key ∷ []) = Some (uri, (exchange, (key, recovers)))
+publishing_words recovers _ = None
+
+-- the same, behind `--recover` or without it
+abbrev pub publishing_by : List (List ℕ) → Option (List ℕ × (List ℕ × (List ℕ × Bool)))
+publishing_by [] = None
+publishing_by (first ∷ rest) =
+    if bytes_eq first (codes "--recover") then publishing_words true rest else publishing_words false (first ∷ rest)
+
+-- an address, a queue, and how many messages where that is said
+abbrev pub consuming_words : Bool → List (List ℕ) → Option (List ℕ × (List ℕ × (Option (List ℕ) × Bool)))
+consuming_words recovers (uri ∷ queue ∷ []) = Some (uri, (queue, (None, recovers)))
+consuming_words recovers (uri ∷ queue ∷ count ∷ []) = Some (uri, (queue, (Some count, recovers)))
+consuming_words recovers _ = None
+
+-- the same, behind `--recover` or without it
+abbrev pub consuming_by : List (List ℕ) → Option (List ℕ × (List ℕ × (Option (List ℕ) × Bool)))
+consuming_by [] = None
+consuming_by (first ∷ rest) =
+    if bytes_eq first (codes "--recover") then consuming_words true rest else consuming_words false (first ∷ rest)
+
+-- a word is decimal digits of a number of 64 bits
+abbrev pub IsNumber : List ℕ → Type 0
+IsNumber word = IsNumeral 10 word × (digits_value 10 word < 2 ^ 64)
+
+-- the number that a word is, where it is one
+abbrev pub IsCount : List ℕ → Option ℕ → Type 0
+IsCount word (Some count) = IsNumber word × (count ≡ digits_value 10 word)
+IsCount word None = IsNumber word → ⊥

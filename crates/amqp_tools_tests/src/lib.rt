@@ -1,0 +1,9 @@
+//! Tests of `amqp_tools`. Payloads were spelled by rabbitmq-c 0.11 (`amqp_encode_method`).
+#![tactic(auto)]
+
+#[cfg(test)]
+mod arriving;
+#[cfg(test)]
+mod confirms;
+#[cfg(test)]
+mod wanted;
