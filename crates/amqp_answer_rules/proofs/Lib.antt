@@ -1,8 +1,8 @@
--- What rules leave of promises: of one, of all, by a frame, by every other rule.
+-- What rules leave of promises: of one, of all, by a frame, that a frame answers all that it should, by every other rule.
 pub mod Slots
 pub mod OfFrames
+pub mod FrameAnswers
 pub mod OfRules
--- Which number is drawn for a channel, and why a command is refused.
-pub mod Drawn
+-- Why a command is refused, and that it makes one promise.
 pub mod Refused
 pub mod OneMade

@@ -22,11 +22,11 @@ use Rattle.amqp_session.specs.Talk.{Talk, is_open, is_open_link}
 use Rattle.amqp_session.specs.Changes.{Promises, next_promise, rejected, promise}
 use Rattle.amqp_session.specs.Handshake.{our_close, new_secret, channel_open, channel_flow, our_channel_close}
 use Rattle.amqp_session.specs.Numbering.{first_number, drawn}
-use Rattle.amqp_session.specs.Publishing.{method_frame, publish_frames}
+use Rattle.amqp_session.specs.Publishing.{content_header, method_frame, publish_frames}
 use Rattle.amqp_session.specs.Commands.{target, open_drawn, leave_connection, close_target, drop_target, flow_target, queue_secret, update_secret, too_long, unless_too_long, too_full, unless_full, queue_send, send_target, body_limit, queue_publish, publish_target, command, command_rule}
 use Rattle.std.proofs.lemmas.List.{take-append-drop}
 use Rattle.amqp_session.specs.Sound.{is_agreed}
-use Rattle.amqp_legal_rules.proofs.Ready.{pieces-fit}
+use Rattle.amqp_legal_rules.proofs.Ready.{pieces-fit, pieces-some}
 use Rattle.amqp_session.specs.Commands.{listen}
 use Rattle.amqp_session.specs.Publishing.{body_pieces, cut}
 use Rattle.amqp_carried_rules.specs.CommandFrames.{AreFramesOf, AreContentFrames, is_send, is_publish, is_sent, answered_command}
@@ -36,7 +36,7 @@ use Rattle.amqp_carried_rules.proofs.Queueing.{lane-send, groups-push}
 use Rattle.amqp_carried_rules.proofs.Borne.{AreOthers, bears-push, bears-expected, bears-groups-of, bears-groups}
 use Rattle.amqp_carried_rules.proofs.Bearers.{moved}
 use Rattle.amqp_outbox.specs.declared.reply.Awaited.{Awaited}
-use Rattle.std.specs.List.{AllByRecursion, flat_map}
+use Rattle.std.specs.List.{flat_map}
 use Rattle.std.proofs.lemmas.Bool.{cases_eq}
 
 get-front : (cs : List Cmd) (c : Cmd) (i : ℕ) → i < length cs → slice_get (cs ++ c ∷ []) i ≡ slice_get cs i
@@ -81,13 +81,6 @@ publishes-bound cs ps r (i ∷ is) r' (whole c k p w l) h = publishes-bound cs p
   by (Publish a b x y) le = omega (arith, le)
   by _ le = h
 
--- the pieces of a body: none is empty, and they are the whole
-pieces-some : (pieces size : ℕ) (octets : List ℕ) → 1 ≤ size → AllByRecursion (λ piece. 1 ≤ length piece) (cut pieces size octets)
-pieces-some zero size octets some = tt
-pieces-some (suc pieces) size [] some = tt
-pieces-some (suc pieces) zero (octet ∷ octets) some = absurd (omega (arith, some))
-pieces-some (suc pieces) (suc size) (octet ∷ octets) some = (omega arith, pieces-some pieces (suc size) (drop size octets) some)
-
 pieces-joined : (pieces size : ℕ) (octets : List ℕ) → 1 ≤ size → length octets ≤ pieces → flat_map (λ piece. piece) (cut pieces size octets) ≡ octets
 pieces-joined zero size [] some fit = refl
 pieces-joined zero size (octet ∷ octets) some fit = absurd (omega (arith, fit))
@@ -100,7 +93,7 @@ pieces-joined (suc pieces) size (octet ∷ octets) some fit =
 -- the frames of a publish are its content
 publish-content : (n : ℕ) (m : OtherMethod) (properties body : List ℕ) (size : ℕ) → 1 ≤ size → AreContentFrames n m properties body (publish_frames n m properties body size)
 publish-content n m properties body size some =
-    record { pieces = body_pieces size body; not_empty = pieces-some (length body) size body some; joined = pieces-joined (length body) size body some (omega arith); frames = refl }
+    record { head = content_header m.class (length body) properties; class = refl; weight = refl; size = refl; behind = refl; pieces = body_pieces size body; not_empty = pieces-some (length body) size body some; joined = pieces-joined (length body) size body some (omega arith); frames = refl }
 
 module _ (cs : List Cmd) (c : Cmd) (m : ℕ) (is : m ≡ suc (length cs)) where
   abbrev cs' : List Cmd

@@ -35,8 +35,9 @@ use Rattle.amqp_session.specs.Commands.{command}
 use Rattle.amqp_session.specs.Ticks.{tick}
 use Rattle.amqp_session.specs.Writing.{end_overlong, taken}
 use Rattle.amqp_carried_rules.specs.HandingOut.{handed_on, HandedOut, handed_of, hands_out}
-use Rattle.amqp_session.proofs.Walk.{ChannelRows, ConnectionRows, CommandRows, misplaced-keeps, misread-keeps, start-keeps, secure-keeps, method-keeps, acting-keeps, command-keeps}
-use Rattle.amqp_session.proofs.Keeping.{present-keeps, loss-keeps, lost-keeps, failed-keeps, taken-keeps, tick-keeps}
+use Rattle.amqp_session.proofs.Walk.{ChannelRows, ConnectionRows, misplaced-keeps, misread-keeps, start-keeps, secure-keeps, method-keeps, acting-keeps}
+use Rattle.amqp_session.proofs.Keeping.{present-keeps, loss-keeps, lost-keeps, failed-keeps, tick-keeps, stays-command}
+use Rattle.amqp_session.proofs.Sending.{taken-keeps}
 use Rattle.amqp_types.proofs.Small.{if_case, nat_cmp_self}
 
 -- ---- maps
@@ -218,23 +219,9 @@ frame-hands (Raw (suc n) kind bytes) answers t = by (acts t)
 
 -- ---- commands
 
-told : (t : Talk) → CommandRows (IsSameHanded t)
-told t = record {
-  refuses = λ e u h. h;
-  promises = λ u h. h;
-  opens = λ n u h. h;
-  opens_none = λ first u h. h;
-  leaves_channel = λ n code text c answers u h. h;
-  sends = λ n m u h. h;
-  publishes = λ n m properties body u h. h;
-  flows = λ n active u h. h;
-  tells_secret = λ secret reason u h. h;
-  listens = λ u h. h;
-}
-
 -- a command hands nothing out
 pub command-handed : (c : Cmd) (t : Talk) → IsSameHanded t (command c t)
-command-handed c t = command-keeps (IsSameHanded t) (told t) (λ code text answers u h. h) c t refl
+command-handed c t = (stays-command c t).handed
 
 -- ---- what else happens
 

@@ -20,7 +20,7 @@ use Rattle.amqp_outbox.specs.declared.reply.Reply.TheVariants.{ChannelOpened, Ch
 use Rattle.amqp_outbox.specs.Items.{promise_of_group}
 use Rattle.amqp_outbox.specs.Lists.{without_first}
 use Rattle.amqp_outbox.specs.Replies.{method_of, is_of, awaited_on, left_on, expected, first_awaited, left_awaited}
-use Rattle.amqp_outbox.specs.Queued.{Queued, begin_group, after_control, after_begun, after_next, awaited_promise, without_awaited}
+use Rattle.amqp_outbox.specs.Queued.{Queued, after_next, awaited_promise, without_awaited}
 use Rattle.amqp_promise.specs.declared.io_fault.IoFault.{IoFault}
 use Rattle.amqp_promise.specs.declared.io_fault.IoFault.TheVariants.{Refused}
 use Rattle.amqp_promise.specs.declared.state.ConnectionState.{ConnectionState}
@@ -68,6 +68,8 @@ use Rattle.amqp_session.proofs.Walk.{TickRows, close_answered, misplaced-keeps, 
 use Rattle.amqp_carried_rules.proofs.Bearing.{command_at}
 use Rattle.amqp_carried_rules.proofs.Borne.{all-out}
 use Rattle.amqp_carried_rules.proofs.Entries.{Each, each-put, each-without, each-at, each-map, each-filter, each-list, each-gone, each-both}
+use Rattle.amqp_session.proofs.SoundFrames.{heard-listed}
+use Rattle.amqp_session.proofs.Soundness.{next-awaits}
 
 -- ---- what is known
 
@@ -117,27 +119,8 @@ slot-kept e zero slot x is = is
 slot-kept e (suc n) None x is = absurd cc
 slot-kept e (suc n) (Some answer) x is = is
 
--- a frame is heard on a listed channel
-heard-there : (s : ConnectionState) (o : Option Channel) (c : Channel) → heard_on s o ≡ Some c → o ≡ Some c
-heard-there Connecting o c h = absurd cc
-heard-there _ o c h = h
-
--- what goes out changes nothing that is awaited
-begin-awaited : (groups : List (List Item)) (q : Queued) → (begin_group groups q).awaited ≡ q.awaited
-begin-awaited [] q = refl
-begin-awaited (g ∷ groups) q = refl
-
-control-awaited : (flow : Bool) (control : List Item) (q : Queued) → (after_control flow control q).awaited ≡ q.awaited
-control-awaited flow (i ∷ control) q = refl
-control-awaited true [] q = begin-awaited q.publish q
-control-awaited false [] q = refl
-
-begun-awaited : (flow : Bool) (begun : List Item) (q : Queued) → (after_begun flow begun q).awaited ≡ q.awaited
-begun-awaited flow (i ∷ begun) q = refl
-begun-awaited flow [] q = control-awaited flow q.control q
-
 pub next-awaited : (flow : Bool) (q : Queued) → (after_next flow q).awaited ≡ q.awaited
-next-awaited flow q = begun-awaited flow q.begun q
+next-awaited flow q = next-awaits flow q.begun q
 
 module _ (cs : List Cmd) (opens : ℕ → ℕ) (gone : ℕ → Bool) where
   abbrev Listed : ℕ → Channel → Type 0
@@ -366,7 +349,7 @@ module _ (cs : List Cmd) (opens : ℕ → ℕ) (gone : ℕ → Bool) where
 
   knows-channel-by : (o : Option Channel) (n : ℕ) (m : AnyMethod) (t : Talk) → heard_on t.state (channel_at n t) ≡ o → IsSound t → Knows t → Knows (channel_method_by o n m t)
   knows-channel-by None n m t heard s h = misplaced-keeps Knows knows-lose (InvalidChannel n) t h
-  knows-channel-by (Some c) n m t heard s h = knows-channel t.state n c m t (heard-there t.state (channel_at n t) c heard) s h
+  knows-channel-by (Some c) n m t heard s h = knows-channel t.state n c m t (heard-listed t.state (channel_at n t) c heard) s h
 
   -- a method on another channel than 0
   knows-method-on : (n : ℕ) (m : AnyMethod) (t : Talk) → IsSound t → Knows t → Knows (method_on n m t)
@@ -394,7 +377,7 @@ module _ (cs : List Cmd) (opens : ℕ → ℕ) (gone : ℕ → Bool) where
   knows-raw : (o : Option Channel) (n : ℕ) (kind : RawKind) (bytes : List ℕ) (t : Talk) → heard_on t.state (channel_at n t) ≡ o → Knows t → Knows (raw_by o n kind bytes t)
   knows-raw None n kind bytes t heard h = misplaced-keeps Knows knows-lose (InvalidChannel n) t h
   knows-raw (Some c) n kind bytes t heard h =
-      let there : channel_at n t ≡ Some c = heard-there t.state (channel_at n t) c heard in
+      let there : channel_at n t ≡ Some c = heard-listed t.state (channel_at n t) c heard in
       knows-hand c.opened (record { channel = n; kind = kind; bytes = bytes }) (if is_select_ok kind bytes then confirmed n c t else t)
       (each-at Listed n t.channels c h.listed there).opener (if_case Knows (is_select_ok kind bytes) (confirmed n c t) t (knows-confirmed n c t there h) h)
 

@@ -1,9 +1,8 @@
 -- The promise that opened a channel is that of a command which opens one, and it opens no other: so through every command.
 use Rattle.std.proofs.lemmas.Bool.{cases_lt}
-use Rattle.std.proofs.Common.{◌≡◌, ◌≤◌, ◌<◌, inl, inr, ◌∙◌, ap, sym, subst, refl, ℕ, suc, ◌==◌, if◌then◌else◌, Bool, true, false, List, [], ◌∷◌, ◌++◌, length, append-nil, Option, Some, None, Result, Ok, Err, arith}
+use Rattle.std.proofs.Common.{◌≡◌, ◌≤◌, ◌<◌, inl, inr, ◌∙◌, ap, sym, subst, refl, ℕ, suc, ◌==◌, if◌then◌else◌, Bool, false, List, [], ◌∷◌, ◌++◌, length, append-nil, Option, Some, None, Result, Ok, Err, arith}
 use Rattle.std.specs.Prelude.{filter, codes}
 use Rattle.std.specs.List.{AllByRecursion}
-use Rattle.amqp_types.specs.declared.word.Word.{Word}
 use Rattle.amqp_types.specs.declared.word.Word.TheVariants as word
 use Rattle.amqp_frame.specs.declared.frame.Frame.{Frame}
 use Rattle.amqp_frame.specs.RawMethods.{OtherMethod}
@@ -13,7 +12,6 @@ use Rattle.amqp_outbox.specs.Items.{promised_item, group_of}
 use Rattle.amqp_outbox.specs.Queued.{is_on}
 use Rattle.amqp_promise.specs.declared.state.ConnectionState.{ConnectionState}
 use Rattle.amqp_promise.specs.declared.state.ConnectionState.TheVariants.{Connected, Closing}
-use Rattle.amqp_promise.specs.declared.state.ChannelState.{ChannelState}
 use Rattle.amqp_promise.specs.declared.state.ChannelState.TheVariants as channel
 use Rattle.amqp_promise.specs.declared.error.ErrorKind.{ErrorKind}
 use Rattle.amqp_promise.specs.declared.error.ErrorKind.TheVariants.{InvalidChannelState, InvalidConnectionState}
@@ -32,35 +30,16 @@ use Rattle.amqp_session.specs.Channels.{channel_at, new_channel, made_closing, m
 use Rattle.amqp_session.specs.Handshake.{channel_flow, new_secret}
 use Rattle.amqp_session.specs.Numbering.{first_number, drawn}
 use Rattle.amqp_session.specs.Publishing.{method_frame, publish_frames}
-use Rattle.amqp_session.specs.Commands.{is_opening, named_in, named, target_in, target_by, target, open_drawn, leave_channel, close_target, drop_target, too_long, unless_too_long, too_full, unless_full, queue_send, send_target, body_limit, queue_publish, publish_target, flow_target, queue_secret, update_secret, leave_connection, listen, command_rule, command}
+use Rattle.amqp_session.specs.Commands.{target, open_drawn, leave_channel, close_target, drop_target, too_long, unless_too_long, too_full, unless_full, queue_send, send_target, body_limit, queue_publish, publish_target, flow_target, queue_secret, update_secret, leave_connection, listen, command_rule, command}
 use Rattle.amqp_types.proofs.Small.{some_is, same-number, other-number}
 use Rattle.amqp_carried_rules.specs.CommandFrames.{answered_command}
 use Rattle.amqp_carried_rules.proofs.Bearing.{command_at, told-made}
 use Rattle.amqp_carried_rules.proofs.Commanding.{get-last, same-below, grows-more, one-more}
 use Rattle.amqp_carried_rules.proofs.Handing.{at-put}
 use Rattle.amqp_carried_rules.proofs.Entries.{Each, each-put, each-at, each-map, each-then, all-then, each-both, keys-there}
-use Rattle.amqp_answer_rules.proofs.Drawn.{drawn-free}
 use Rattle.amqp_carried_rules.proofs.Openers.{IsOpener, IsLatest, AnswersOpening, HoldsOpening, AwaitsAs, AwaitsOpening, KnowsOpeners, held-rejected, waiting-more}
-
--- ---- a command is told of a listed channel
-
-named-there : (opened : Option ℕ) (o : Option Channel) (c : Channel) → named_in opened o ≡ Some c → o ≡ Some c
-named-there opened None c h = absurd cc
-named-there opened (Some d) c h = by (is_opening opened d.opened) h where
-  by : (b : Bool) → (if b then Some d else None) ≡ Some c → Some d ≡ Some c
-  by true h = h
-  by false h = absurd cc
-
-target-is : (s : ChannelState) (w : Word) (d c : Channel) → target_in s w d ≡ Ok c → d ≡ c
-target-is channel.Connected w d c h = cc
-target-is _ w d c h = absurd cc
-
-target-found : (o : Option Channel) (n : ℕ) (w : Word) (c : Channel) → target_by o n w ≡ Ok c → o ≡ Some c
-target-found None n w c h = absurd cc
-target-found (Some d) n w c h = ap (λ (x : Channel). Some x) (target-is d.state w d c h)
-
-target-there : (r : ChanRef) (w : Word) (t : Talk) (c : Channel) → target r w t ≡ Ok c → channel_at r.id t ≡ Some c
-target-there r w t c h = named-there r.opened (channel_at r.id t) c (target-found (named r t) r.id w c h)
+use Rattle.amqp_session.proofs.SoundCommands.{target-listed}
+use Rattle.amqp_session.proofs.Drawn.{drawn-free}
 
 -- ---- a channel or the connection is left
 
@@ -376,13 +355,13 @@ module _ (cs : List Cmd) (opens : ℕ → ℕ) (gone : ℕ → Bool) (t : Talk) 
   knows-rule Connected OpenChannel =
       let first = first_number t.configuration.channel_max t.cursor in
       opens-drawn (drawn t.configuration.channel_max first t.channels) first (λ n h. free n (drawn-free t.configuration.channel_max t.cursor n t.channels h))
-  knows-rule Connected (CloseChannel r code text) = closes-target (target r word.ChannelClose t) r r.id code text (λ d e. target-there r word.ChannelClose t d e)
+  knows-rule Connected (CloseChannel r code text) = closes-target (target r word.ChannelClose t) r r.id code text (λ d e. target-listed r word.ChannelClose t d e)
   knows-rule Connected (CloseConnection code text) = closes-connection code text
   knows-rule Connected (UpdateSecret secret reason) = tells-secret secret reason
   knows-rule Connected (Send r method) = sends-target (target r word.Send t) r method
   knows-rule Connected (Publish r method properties body) = publishes-target (target r word.Publish t) r method properties body
   knows-rule Connected (Flow r active) = flows-target (target r word.ChannelFlow t) r r.id active
-  knows-rule Connected (DropChannel r) = as-before _ (drops-target (target r word.ChannelClose t) r.id (λ d e. target-there r word.ChannelClose t d e))
+  knows-rule Connected (DropChannel r) = as-before _ (drops-target (target r word.ChannelClose t) r.id (λ d e. target-listed r word.ChannelClose t d e))
   knows-rule Connected DropConnection = as-before _ (leaves-connection cs opens gone 200 (codes "OK") None t tt h)
   knows-rule Connected Listen = as-before _ (keeps-events cs opens gone t h)
   knows-rule _ (DropChannel r) = as-before _ h

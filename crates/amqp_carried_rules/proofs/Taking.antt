@@ -1,20 +1,18 @@
 -- What a session still has to say stays where an answer, an event or frames are taken.
-use Rattle.std.proofs.Common.{◌≡◌, ◌<◌, ◌≤◌, inl, inr, ◌∙◌, ap, sym, subst, refl, ℕ, suc, Bool, true, false, if◌then◌else◌, List, length, ◌++◌, Option, Some, None, is_some, Result, Ok, Err, arith}
+use Rattle.std.proofs.Common.{◌≡◌, inl, inr, ◌∙◌, ap, sym, refl, ℕ, Bool, true, false, List, ◌++◌, Option, Some, None, Result, arith}
 use Rattle.std.proofs.lemmas.Bool.{cases_eq}
 use Rattle.std.specs.Map.{keys_of}
 use Rattle.amqp_outbox.specs.declared.item.Item.{Item}
 use Rattle.amqp_outbox.specs.Queued.{Queued}
 use Rattle.amqp_promise.specs.declared.error.ErrorKind.{ErrorKind}
 use Rattle.amqp_promise.specs.declared.state.ConnectionState.{ConnectionState}
-use Rattle.amqp_session.specs.declared.state.Link.{Link}
-use Rattle.amqp_session.specs.declared.state.Link.TheVariants.{Ended}
 use Rattle.amqp_session.specs.declared.command.Answer.{Answer as AnyAnswer}
 use Rattle.amqp_session.specs.declared.command.Cmd.{Cmd}
 use Rattle.amqp_session.specs.Listed.{at, without}
 use Rattle.amqp_session.specs.Events.{Noted}
-use Rattle.amqp_session.specs.Talk.{Talk, is_open, is_open_link, end_of, end_of_link}
+use Rattle.amqp_session.specs.Talk.{Talk, is_open}
 use Rattle.amqp_session.specs.Changes.{Promises}
-use Rattle.amqp_session.specs.Answers.{rejection, answer_in, answer_of, take_frames}
+use Rattle.amqp_session.specs.Answers.{answer_in, answer_of, take_frames}
 use Rattle.amqp_session.specs.Sound.{IsSound, Ascend}
 use Rattle.amqp_session.proofs.Ascending.{at-gone, none-above}
 use Rattle.amqp_session.proofs.Numbered.{without-other}
@@ -22,6 +20,7 @@ use Rattle.amqp_carried_rules.specs.CommandFrames.{is_sent}
 use Rattle.amqp_carried_rules.proofs.Bearing.{Reading, IsPart, Ends, Bears, IsAt, lines-map, lane-map, groups-map}
 use Rattle.amqp_carried_rules.proofs.Queueing.{same-grows}
 use Rattle.amqp_carried_rules.proofs.Bearers.{moved}
+use Rattle.amqp_session.proofs.LostLinks.{open-goes_on}
 
 -- ---- an answer that is taken
 
@@ -83,11 +82,6 @@ module _ (number : ℕ) (ps : Promises) (sorted : Ascend (keys_of ps)) where
               },
             )
 
--- while a link is open, an answer that can be taken was given
-open-going : (l : Link ErrorKind) → is_open_link l ≡ true → end_of_link l ≡ None
-open-going (Ended r) o = absurd cc
-open-going _ o = refl
-
 given-held : (o : Option (Option (Result AnyAnswer ErrorKind))) (a : Result AnyAnswer ErrorKind) → answer_in None o ≡ Some a → o ≡ Some (Some a)
 given-held None a is = absurd cc
 given-held (Some None) a is = absurd cc
@@ -107,7 +101,7 @@ at-answer cs answered r items number a t s is h =
     }
   where
     held : is_open t ≡ true → at number t.promises ≡ Some (Some a)
-    held o = given-held (at number t.promises) a (ap (λ e. answer_in e (at number t.promises)) (sym (open-going t.link o)) ∙ is)
+    held o = given-held (at number t.promises) a (ap (λ e. answer_in e (at number t.promises)) (sym (open-goes_on t.link o)) ∙ is)
 
 -- ---- an event, and frames that are taken
 

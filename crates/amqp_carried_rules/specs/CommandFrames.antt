@@ -1,6 +1,7 @@
 -- The frames of a command; and which commands are answered, and which answer says Sent.
-use Rattle.std.specs.Prelude.{◌≡◌, ◌≤◌, ℕ, Bool, true, false, List, [], ◌∷◌, length, map, Some, if◌then◌else◌, Option, Result, Ok}
+use Rattle.std.specs.Prelude.{◌≡◌, ◌≤◌, ℕ, Bool, true, false, List, [], ◌∷◌, length, map, take, drop, Some, if◌then◌else◌, Option, Result, Ok}
 use Rattle.std.specs.List.{flat_map, AllByRecursion}
+use Rattle.std.specs.Int.{w16, w64, to_be_bytes}
 use Rattle.amqp_frame.specs.declared.frame.Frame.{Frame}
 use Rattle.amqp_frame.specs.declared.frame.Frame.TheVariants.{Raw}
 use Rattle.amqp_frame.specs.declared.frame.RawKind.TheVariants.{RawMethod, Header, Body}
@@ -8,21 +9,22 @@ use Rattle.amqp_frame.specs.RawMethods.{OtherMethod, spell_raw_method}
 use Rattle.amqp_promise.specs.declared.error.ErrorKind.{ErrorKind}
 use Rattle.amqp_session.specs.declared.command.Cmd.{Cmd}
 use Rattle.amqp_session.specs.declared.command.Cmd.TheVariants.{Send, Publish}
-use Rattle.amqp_session.specs.Publishing.{content_header}
 use Rattle.amqp_session.specs.declared.command.Answer.{Answer}
 use Rattle.amqp_session.specs.declared.command.Answer.TheVariants.{Sent}
 use Rattle.amqp_session.specs.Commands.{takes_promise}
 
--- a method, one header with that method's class, the length of the body and the properties, and the body in frames,
--- none of which is empty
+-- a method, one content header, and the body in frames, none of which is empty. The header has the class of the method,
+-- weight 0, how long the body is, and the properties (AMQP 0-9-1, 2.3.5.2 and 4.2.6.1)
 pub record AreContentFrames (n : ℕ) (method : OtherMethod) (properties body : List ℕ) (fs : List Frame) : Type 0 where
+  pub head : List ℕ
+  pub class : take 2 head ≡ to_be_bytes w16 method.class
+  pub weight : take 2 (drop 2 head) ≡ to_be_bytes w16 0
+  pub size : take 8 (drop 4 head) ≡ to_be_bytes w64 (length body)
+  pub behind : drop 12 head ≡ properties
   pub pieces : List (List ℕ)
   pub not_empty : AllByRecursion (λ piece. 1 ≤ length piece) pieces
   pub joined : flat_map (λ piece. piece) pieces ≡ body
-  pub frames : fs
-      ≡ Raw n RawMethod (spell_raw_method method)
-      ∷ Raw n Header (content_header method.class (length body) properties)
-      ∷ map (Raw n Body) pieces
+  pub frames : fs ≡ Raw n RawMethod (spell_raw_method method) ∷ Raw n Header head ∷ map (Raw n Body) pieces
 
 -- the frames of a send, and of a publish; other commands have none
 abbrev pub AreFramesOf : Cmd → List Frame → Type 0

@@ -31,7 +31,7 @@ use Rattle.amqp_engine.proofs.Parting.{kept_of, IsBy, Openings}
 use Rattle.amqp_engine.proofs.CameIn.{Came, came-stays, asks-stays}
 use Rattle.amqp_engine.proofs.CameRead.{came-applied}
 use Rattle.amqp_engine.proofs.Answered.{says-as, answer-held, answer-not}
-use Rattle.amqp_engine.proofs.HistoryKept.{carries-history, came-history, never-ends}
+use Rattle.amqp_engine.proofs.HistoryKept.{carries-history, came-history, never-ends, or-false}
 use Rattle.amqp_engine.proofs.Over.{asks-end}
 use Rattle.amqp_engine.proofs.TurnEnds.{never-limit}
 use Rattle.amqp_types.proofs.Small.{the-number}
@@ -74,10 +74,6 @@ cut-from a answered low f (fs ∷ links) (ks ∷ kept) h = (
 )
 cut-from a answered low f [] (ks ∷ kept) h = absurd h
 cut-from a answered low f (fs ∷ links) [] h = absurd h
-
-or-false : (b c : Bool) → c ≡ false → (b || c) ≡ b
-or-false true c is = refl
-or-false false c is = is
 
 -- a command that opens a channel has no frames
 opens-none : (o : Option Cmd) → o ≡ Some OpenChannel → carries o ≡ true → ⊥

@@ -16,7 +16,7 @@ use Rattle.amqp_engine.specs.Engine.{Engine, commits, commit_one, commit_all, fi
 use Rattle.amqp_session.specs.Writing.{frames_waiting}
 use Rattle.amqp_engine.specs.Turn.{offered}
 use Rattle.amqp_engine.specs.Sending.{Sending, encodings, link_bytes, items_sent, sent_in, committed_in, committed_before, offer_sending, nothing_sent, IsBegun, SendsInOrder}
-use Rattle.amqp_session.proofs.Keeping.{left_after}
+use Rattle.amqp_session.proofs.Sending.{left_after}
 use Rattle.amqp_engine.proofs.Commits.{with_frame, commit_one-is}
 use Rattle.amqp_engine.proofs.Sent.{lefts, lefts_of, lefts_after, lefts-left_after, count_in, count_in-lefts, begun-none, Advances, advance, advance-none}
 

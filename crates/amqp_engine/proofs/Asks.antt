@@ -16,7 +16,7 @@ use Rattle.amqp_auth.specs.Asking.{Answer}
 use Rattle.amqp_session.specs.Config.{Options}
 use Rattle.amqp_session.specs.Talk.{Talk, acts}
 use Rattle.amqp_session.specs.Frames.{method_questions, questions_in, frame_questions}
-use Rattle.amqp_faultless.specs.Faultless.{Server, AreSayable, heard_from, said_to}
+use Rattle.amqp_faultless.specs.Faultless.{Server, AreSayable, said_to}
 use Rattle.amqp_faultless.specs.Faultless.ServerStage.{Gone}
 use Rattle.amqp_faultless.proofs.Greeted.{AreSaid}
 use Rattle.amqp_faultless.proofs.Speaks.{said-keeps}
@@ -27,6 +27,7 @@ use Rattle.amqp_engine.specs.Engine.{can_read, read_questions}
 use Rattle.amqp_engine.specs.Turn.{Progress, goes, read_part}
 use Rattle.amqp_engine.specs.Valid.{SpelledFrame, LinkSaying, Theirs, Ours, after_sayings, whole_in, later_than, begun_in, all_bytes, sayings_of}
 use Rattle.amqp_engine.proofs.Heeding.{flat}
+use Rattle.amqp_faultless.proofs.Limits.{gone-none}
 
 -- ---- none comes once the server is gone
 
@@ -39,12 +40,6 @@ gone-ours (f ∷ fs) rest s end gone h = gone-ours fs rest (said_to f s) end ((s
 sayings-none : (rest : List LinkSaying) → after_sayings rest None ≡ None
 sayings-none [] = refl
 sayings-none (x ∷ rest) = refl
-
--- it says nothing more
-gone-none : (f : Frame) (s : Server) → s.stage ≡ Gone → heard_from s.stage f s ≡ None
-gone-none f s is = ap (λ x. heard_from x f s) is ∙ none f where
-  none : (f : Frame) → heard_from Gone f s ≡ None
-  none f = refl
 
 gone-silent : (f : Frame) (rest : List LinkSaying) (s end : Server) → s.stage ≡ Gone → (after_sayings (Theirs f ∷ rest) (Some s) ≡ Some end) → None ≡ Some end
 gone-silent f rest s end gone h = sym (ap (after_sayings rest) (gone-none f s gone) ∙ sayings-none rest) ∙ h

@@ -54,7 +54,7 @@ blames-step at step bytes answers x x' m n same =
     subst (λ (y : Engine). Blames x.talk y.talk m n) (sym same)
     (blames-ends (StepError at step x) x.talk (step_engine at step bytes answers x).talk m n (λ text p. p) (ends-step at step bytes answers x))
 
--- want of memory
+-- memory was refused
 pub blames-starve : (at : ℕ) (x x' : Engine) (m n : ℕ) → x'.talk ≡ starve (present_at at x.talk) → Blames x.talk x'.talk m n
 blames-starve at x x' m n same =
     let P : ErrorKind → Type 0 = λ k. k ≡ NoMemory in
@@ -97,9 +97,9 @@ blames-whole at reading.NoMemory answers x x' m n whole same rose text h = cc
 -- what is no whole frame asks nothing
 never-refused : (text : Text) (r : Read) (answers : List Asked) (x : Engine) → is_whole r ≡ false → IsReadError (AuthProviderError text) r answers x → ⊥
 never-refused text (reading.Whole f n) answers x other h = cc
-never-refused text (reading.TooLarge size) answers x other h = cc
-never-refused text (reading.BadHeartbeat channel) answers x other h = cc
-never-refused text reading.Bad answers x other h = cc
+never-refused text (reading.TooLarge size) answers x other h = let clash = h.1 in cc
+never-refused text (reading.BadHeartbeat channel) answers x other h = let clash = h.1 in cc
+never-refused text reading.Bad answers x other h = let clash = h.1 in cc
 never-refused text reading.More answers x other h = h
 never-refused text reading.NoMemory answers x other h = h
 

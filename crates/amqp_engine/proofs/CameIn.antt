@@ -1,13 +1,12 @@
 -- What was handed out came, once each and in order: the frames that are read stand first in the octets of their link. What is
 -- known of them, and what a step leaves of it.
-use Rattle.std.proofs.Common.{◌≡◌, ◌≢◌, ◌⊎◌, inl, inr, ℕ, not, if◌then◌else◌, Bool, true, false, true≢false, List, [], ◌∷◌, ◌++◌, drop, map, refl, ap, sym, ◌∙◌, subst}
+use Rattle.std.proofs.Common.{◌≡◌, ◌⊎◌, ◌≤◌, inl, inr, ℕ, not, if◌then◌else◌, Bool, true, false, true≢false, List, [], ◌∷◌, ◌++◌, length, length-append, drop, map, refl, ap, sym, ◌∙◌, subst, arith}
 use Rattle.std.specs.Map.{keys_of}
 use Rattle.std.proofs.lemmas.List.{append-nil, drop-append-le}
 use Rattle.std.proofs.lemmas.Grind.{flat_map-append}
 use Rattle.amqp_frame.specs.declared.frame.Frame.{Frame}
-use Rattle.amqp_frame.specs.declared.frame.Read.TheVariants.{Whole, More}
-use Rattle.amqp_frame.specs.FrameReading.{front}
-use Rattle.amqp_frame.proofs.Sequences.{front-stays, frame-size}
+use Rattle.amqp_frame.specs.Sequences.{Stand}
+use Rattle.amqp_frame.proofs.Sequences.{stand-stays}
 use Rattle.amqp_promise.specs.declared.io_fault.IoFault.TheVariants.{Aborted, Reset}
 use Rattle.amqp_session.specs.declared.command.Cmd.{Cmd}
 use Rattle.amqp_session.specs.declared.handed.Handed.{Handed}
@@ -21,7 +20,6 @@ use Rattle.amqp_session.specs.Commands.{command}
 use Rattle.amqp_session.specs.Sound.{Ascend}
 use Rattle.amqp_types.proofs.Small.{if_case, if-true, if-false, and-true, and-false}
 use Rattle.amqp_session.proofs.Keeping.{present-keeps, kept-open, failed-keeps, lost-keeps, tick-keeps, stays-command}
-use Rattle.amqp_session.proofs.Walk.{CommandRows, command-keeps}
 use Rattle.amqp_carried_rules.specs.HandingOut.{handed_on}
 use Rattle.amqp_carried_rules.proofs.Handing.{IsSameHanded, same-frames, command-handed, present-handed, linked-handed, failed-handed, piece-handed, lost-handed, tick-handed}
 use Rattle.amqp_engine.specs.declared.port.Step.{Step}
@@ -30,76 +28,43 @@ use Rattle.amqp_engine.specs.Log.{on_last}
 use Rattle.amqp_engine.specs.Making.{keeps_unread}
 use Rattle.amqp_engine.specs.Engine.{Engine, with_talk, rule_at, settle, step_engine, step_linked, step_questions}
 use Rattle.amqp_engine.specs.Turn.{Progress, asks, wants_ask, goes, part, questioned, is_part, is_piece, step_part, read}
-use Rattle.amqp_engine.specs.Carried.{IsSubsequence, raw_frames, concatenated, frame_of, StandFirst, StandOnLinks}
+use Rattle.amqp_engine.specs.Carried.{IsSubsequence, raw_frames, concatenated, frame_of, longest_frame, StandOnLinks}
 use Rattle.amqp_carried_rules.specs.CommandFrames.{answered_command}
 use Rattle.amqp_engine.specs.Account.{step_came, command_of}
-use Rattle.amqp_engine.proofs.Knowing.{KeepsKnown, known-moment, known-link, known-refusal, known-received, known-loss, known-time}
+use Rattle.amqp_engine.proofs.Knowing.{IsBounded, room-kept, KeepsKnown, known-moment, known-link, known-refusal, known-received, known-loss, known-time}
 use Rattle.amqp_engine.proofs.Parting.{Kept, told_more, Openings, openings-kept, openings-told}
 use Rattle.amqp_engine.proofs.Cases.{no-command}
 use Rattle.amqp_engine.proofs.Settling.{settle-talk, settle-unread}
-use Rattle.amqp_engine.proofs.LinkKept.{asked-open, asked-not-open, kept-present, leaves-step}
+use Rattle.amqp_session.proofs.Lacking.{asked-open}
+use Rattle.amqp_engine.proofs.LinkKept.{asked-not-open, kept-present, leaves-step}
 use Rattle.amqp_engine.proofs.Sent.{on_last-append}
-
--- ---- frames at the front of octets
-
--- these frames stand first, and this is behind them
-abbrev pub StandTo : List ℕ → List Frame → List ℕ → Type 0
-StandTo octets [] rest = octets ≡ rest
-StandTo octets (f ∷ fs) rest = (limit : ℕ) × (n : ℕ) × (front octets limit ≡ Whole f n) × StandTo (drop n octets) fs rest
-
-pub stand-first : (octets : List ℕ) (fs : List Frame) (rest : List ℕ) → StandTo octets fs rest → StandFirst octets fs
-stand-first octets [] rest h = tt
-stand-first octets (f ∷ fs) rest h = (h.0, h.1, h.2, stand-first (drop h.1 octets) fs rest h.3)
-
--- a frame that is whole stays so when more octets come
-whole-stays : (octets more : List ℕ) (limit n : ℕ) (f : Frame) → front octets limit ≡ Whole f n → front (octets ++ more) limit ≡ Whole f n
-whole-stays octets more limit n f is = front-stays octets more limit (λ none_there. (let clash : Whole f n ≡ More = sym is ∙ none_there in cc)) ∙ is
-
-behind : (octets more : List ℕ) (limit n : ℕ) (f : Frame) → front octets limit ≡ Whole f n → drop n (octets ++ more) ≡ drop n octets ++ more
-behind octets more limit n f is = drop-append-le n octets more (frame-size octets limit n f is).1
-
-stand-more : (octets : List ℕ) (fs : List Frame) (rest more : List ℕ) → StandTo octets fs rest → StandTo (octets ++ more) fs (rest ++ more)
-stand-more octets [] rest more h = ap (λ xs. xs ++ more) h
-stand-more octets (f ∷ fs) rest more h =
-    let P : List ℕ → Type 0 = λ xs. StandTo xs fs (rest ++ more) in
-    (h.0, h.1, whole-stays octets more h.0 h.1 f h.2, subst P (sym (behind octets more h.0 h.1 f h.2)) (stand-more (drop h.1 octets) fs rest more h.3))
-
-first-more : (octets : List ℕ) (fs : List Frame) (more : List ℕ) → StandFirst octets fs → StandFirst (octets ++ more) fs
-first-more octets [] more h = tt
-first-more octets (f ∷ fs) more h =
-    let P : List ℕ → Type 0 = λ xs. StandFirst xs fs in
-    (h.0, h.1, whole-stays octets more h.0 h.1 f h.2, subst P (sym (behind octets more h.0 h.1 f h.2)) (first-more (drop h.1 octets) fs more h.3))
-
--- one frame more
-pub stand-push : (octets : List ℕ) (fs : List Frame) (rest : List ℕ) (limit n : ℕ) (f : Frame) → StandTo octets fs rest → front rest limit ≡ Whole f n → StandTo octets (fs ++ f ∷ []) (drop n rest)
-stand-push octets [] rest limit n f h is = (limit, n, ap (λ xs. front xs limit) h ∙ is, ap (drop n) h)
-stand-push octets (g ∷ fs) rest limit n f h is = (h.0, h.1, h.2, stand-push (drop h.1 octets) fs rest limit n f h.3 is)
 
 -- ---- links
 
-pub links-push : (links : List (List ℕ)) (read : List (List Frame)) (octets : List ℕ) (fs : List Frame) → StandOnLinks links read → StandFirst octets fs
-    → StandOnLinks (links ++ octets ∷ []) (read ++ fs ∷ [])
-links-push [] [] octets fs h first = (first, tt)
-links-push (x ∷ links) (y ∷ read) octets fs h first = (h.0, links-push links read octets fs h.1 first)
-links-push [] (y ∷ read) octets fs h first = absurd h
-links-push (x ∷ links) [] octets fs h first = absurd h
+pub links-push : (links : List (List ℕ)) (read : List (List Frame)) (octets : List ℕ) (fs : List Frame) (place : ℕ) → StandOnLinks links read
+    → Stand octets longest_frame 0 fs place → StandOnLinks (links ++ octets ∷ []) (read ++ fs ∷ [])
+links-push [] [] octets fs place h first = (place, first, tt)
+links-push (x ∷ links) (y ∷ read) octets fs place h first = (h.0, h.1, links-push links read octets fs place h.2 first)
+links-push [] (y ∷ read) octets fs place h first = absurd h
+links-push (x ∷ links) [] octets fs place h first = absurd h
 
 -- the last link, and those before it
 record IsSplit (links : List (List ℕ)) (octets : List ℕ) (read : List (List Frame)) : Type 0 where
   earlier : List (List Frame)
   frames : List Frame
+  place : ℕ
   all : read ≡ earlier ++ frames ∷ []
   before : StandOnLinks links earlier
-  first : StandFirst octets frames
+  first : Stand octets longest_frame 0 frames place
 
 links-split : (links : List (List ℕ)) (octets : List ℕ) (read : List (List Frame)) → StandOnLinks (links ++ octets ∷ []) read → IsSplit links octets read
 links-split [] octets [] h = absurd h
-links-split [] octets (fs ∷ []) h = record { earlier = []; frames = fs; all = refl; before = tt; first = h.0 }
-links-split [] octets (fs ∷ (gs ∷ read)) h = absurd h.1
+links-split [] octets (fs ∷ []) h = record { earlier = []; frames = fs; place = h.0; all = refl; before = tt; first = h.1 }
+links-split [] octets (fs ∷ (gs ∷ read)) h = absurd h.2
 links-split (x ∷ links) octets [] h = absurd h
 links-split (x ∷ links) octets (fs ∷ read) h =
-    let s = links-split links octets read h.1 in
-    record { earlier = fs ∷ s.earlier; frames = s.frames; all = ap (λ xs. fs ∷ xs) s.all; before = (h.0, s.before); first = s.first }
+    let s = links-split links octets read h.2 in
+    record { earlier = fs ∷ s.earlier; frames = s.frames; place = s.place; all = ap (λ xs. fs ∷ xs) s.all; before = (h.0, h.1, s.before); first = s.first }
 
 -- a list has a last element, or it is empty
 last-or : {A : Type 0} (xs : List A) → (xs ≡ []) ⊎ ((before : List A) × (x : A) × (xs ≡ before ++ x ∷ []))
@@ -121,7 +86,7 @@ links-more links read bytes h =
           (let s = links-split l.0 l.1 read (subst P l.2 h) in
           let is : on_last f links ≡ l.0 ++ (l.1 ++ bytes) ∷ [] = ap (on_last f) l.2 ∙ on_last-append f l.0 l.1 in
           let Q : List (List Frame) → Type 0 = λ fss. StandOnLinks (l.0 ++ (l.1 ++ bytes) ∷ []) fss in
-          subst P (sym is) (subst Q (sym s.all) (links-push l.0 s.earlier (l.1 ++ bytes) s.frames s.before (first-more l.1 s.frames bytes s.first))))
+          subst P (sym is) (subst Q (sym s.all) (links-push l.0 s.earlier (l.1 ++ bytes) s.frames s.place s.before (stand-stays l.1 bytes longest_frame 0 s.place s.frames s.first))))
     ]
 
 -- ---- what is known
@@ -135,13 +100,34 @@ pub record IsLastRead (e : Engine) (came : List (List ℕ)) (read : List (List F
   pub frames : List Frame
   pub read_is : read ≡ earlier ++ frames ∷ []
   pub links : StandOnLinks before earlier
-  pub rest : List ℕ
-  pub stand : StandTo octets frames rest
-  pub unread : drops_input e.talk ≡ false → rest ≡ e.unread
+  pub place : ℕ
+  pub within : place ≤ length octets
+  pub stand : Stand octets longest_frame 0 frames place
+  pub unread : drops_input e.talk ≡ false → drop place octets ≡ e.unread
   pub dropped : drops_input e.talk ≡ true → e.unread ≡ []
+
+-- where no more is read
+pub last-kept : (e e' : Engine) (came : List (List ℕ)) (read : List (List Frame)) (l : IsLastRead e came read)
+    → (drops_input e'.talk ≡ false → drop l.place l.octets ≡ e'.unread) → (drops_input e'.talk ≡ true → e'.unread ≡ []) → IsLastRead e' came read
+last-kept e e' came read l unread dropped =
+    record {
+      before = l.before;
+      octets = l.octets;
+      came_is = l.came_is;
+      earlier = l.earlier;
+      frames = l.frames;
+      read_is = l.read_is;
+      links = l.links;
+      place = l.place;
+      within = l.within;
+      stand = l.stand;
+      unread = unread;
+      dropped = dropped;
+    }
 
 -- what was handed out was read; of the open link this is known unless the turn was cut
 pub record Came (whole : Bool) (given : Kept) (e : Engine) (came : List (List ℕ)) : Type 0 where
+  pub room : IsBounded e.talk
   pub read : List (List Frame)
   pub handed : List (ℕ × Handed)
   pub each : (opened : ℕ) → handed_on opened handed ≡ given.given opened ++ frames_of opened e.talk
@@ -164,13 +150,14 @@ module _ (given : Kept) (came : List (List ℕ)) where
   Now whole e = Came whole given e came
 
   pub came-flag : (whole other : Bool) (e : Engine) → whole ≡ true → Now whole e → Now other e
-  came-flag whole other e is h = record { read = h.read; handed = h.handed; each = h.each; order = h.order; sorted = h.sorted; links = h.links; last = λ any o. h.last is o; openings = h.openings }
+  came-flag whole other e is h = record { room = h.room; read = h.read; handed = h.handed; each = h.each; order = h.order; sorted = h.sorted; links = h.links; last = λ any o. h.last is o; openings = h.openings }
 
   -- where what is known of the commands that were told changes with it
-  pub came-with : (more : Kept) (whole : Bool) (e e' : Engine) → more.given ≡ given.given → Stays e e' → (h : Now whole e) → Openings more e'.talk h.handed
-      → Came whole more e' came
-  came-with more whole e e' same s h openings =
+  pub came-with : (more : Kept) (whole : Bool) (e e' : Engine) → more.given ≡ given.given → Stays e e' → IsBounded e'.talk → (h : Now whole e)
+      → Openings more e'.talk h.handed → Came whole more e' came
+  came-with more whole e e' same s room h openings =
       record {
+        room = room;
         read = h.read;
         handed = h.handed;
         each = λ opened.
@@ -181,29 +168,19 @@ module _ (given : Kept) (came : List (List ℕ)) where
         links = h.links;
         last = λ is o.
             (let l = h.last is (s.opened o) in
-            record {
-              before = l.before;
-              octets = l.octets;
-              came_is = l.came_is;
-              earlier = l.earlier;
-              frames = l.frames;
-              read_is = l.read_is;
-              links = l.links;
-              rest = l.rest;
-              stand = l.stand;
-              unread = λ d. l.unread (sym (ap is_dropped_input (s.input o)) ∙ d) ∙ sym (s.unread o d);
-              dropped = λ d. s.dropped o d (l.dropped (sym (ap is_dropped_input (s.input o)) ∙ d));
-            });
+            last-kept e e' came h.read l (λ d. l.unread (sym (ap is_dropped_input (s.input o)) ∙ d) ∙ sym (s.unread o d))
+            (λ d. s.dropped o d (l.dropped (sym (ap is_dropped_input (s.input o)) ∙ d))));
         openings = openings;
       }
 
   pub came-stays : (whole : Bool) (e e' : Engine) → Stays e e' → KeepsKnown e.talk e'.talk → Now whole e → Now whole e'
-  came-stays whole e e' s n h = came-with given whole e e' refl s h (openings-kept given e.talk e'.talk h.handed n h.openings)
+  came-stays whole e e' s n h = came-with given whole e e' refl s (n.room h.room) h (openings-kept given e.talk e'.talk h.handed n h.openings)
 
   -- the link is closed
   pub came-closed : (whole other : Bool) (e e' : Engine) → IsSameHanded e.talk e'.talk → is_open e'.talk ≡ false → KeepsKnown e.talk e'.talk → Now whole e → Now other e'
   came-closed whole other e e' same shut n h =
       record {
+        room = n.room h.room;
         read = h.read;
         handed = h.handed;
         each = λ opened. h.each opened ∙ ap (λ fs. given.given opened ++ fs) (sym (same-frames opened e.talk e'.talk same));
@@ -247,27 +224,6 @@ present-input at t = present-keeps (λ (x : Talk). x.input) at t (λ n. refl)
 moment-stays : (at : ℕ) (e : Engine) → Stays e (rule_at at (λ t. t) e)
 moment-stays at e = plain-stays e (present_at at e.talk) (present-handed at e.talk) (λ o. kept-open e.talk (present_at at e.talk) (kept-present at e.talk) o) (present-input at e.talk)
 
--- a command leaves the input as it is
-abbrev SameInput : Talk → Talk → Type 0
-SameInput t u = u.input ≡ t.input
-
-input-rows : (t : Talk) → CommandRows (SameInput t)
-input-rows t = record {
-  refuses = λ e u h. h;
-  promises = λ u h. h;
-  opens = λ n u h. h;
-  opens_none = λ first u h. h;
-  leaves_channel = λ n code text c answers u h. h;
-  sends = λ n m u h. h;
-  publishes = λ n m properties body u h. h;
-  flows = λ n active u h. h;
-  tells_secret = λ secret reason u h. h;
-  listens = λ u h. h;
-}
-
-command-input : (c : Cmd) (t : Talk) → (command c t).input ≡ t.input
-command-input c t = command-keeps (SameInput t) (input-rows t) (λ code text answers u h. h) c t refl
-
 rule-handed : (at : ℕ) (f : Talk → Talk) (e : Engine) → IsSameHanded (present_at at e.talk) (f (present_at at e.talk)) → IsSameHanded e.talk (f (present_at at e.talk))
 rule-handed at f e same = same ∙ present-handed at e.talk
 
@@ -277,7 +233,7 @@ asks-stays e =
     (plain-stays e e.talk refl (λ o. o) refl)
 
 pub told-stays : (c : Cmd) (e : Engine) → Stays e (with_talk (command c) e)
-told-stays c e = plain-stays e (command c e.talk) (command-handed c e.talk) (λ o. kept-open e.talk (command c e.talk) (inl (stays-command c e.talk).link) o) (command-input c e.talk)
+told-stays c e = plain-stays e (command c e.talk) (command-handed c e.talk) (λ o. kept-open e.talk (command c e.talk) (inl (stays-command c e.talk).link) o) (stays-command c e.talk).input
 
 -- a step but a piece, and a link that comes
 step-stays : (at : ℕ) (step : Step) (bytes : List ℕ) (answers : List Asked) (e : Engine) → is_piece step ≡ false → (step ≡ Linked → is_asked e.talk ≡ false)
@@ -309,7 +265,7 @@ step-stays at Tick bytes answers e plain unlinked =
     (tick-keeps (λ (y : Talk). y.input) (λ y s l cs ps b q ms n o ns. refl) (λ y q n m b. refl) answers t ∙ present-input at e.talk) refl
 step-stays at (Command c) bytes answers e plain unlinked =
     let t = present_at at e.talk in
-    plain-stays e (command c t) (rule-handed at (command c) e (command-handed c t)) (λ o. (leaves-step at (Command c) bytes answers e unlinked o).opened) (command-input c t ∙ present-input at e.talk)
+    plain-stays e (command c t) (rule-handed at (command c) e (command-handed c t)) (λ o. (leaves-step at (Command c) bytes answers e unlinked o).opened) ((stays-command c t).input ∙ present-input at e.talk)
 
 -- ---- the step
 
@@ -320,14 +276,15 @@ module _ (given : Kept) (whole : Bool) (at : ℕ) (bytes : List ℕ) (e : Engine
       let t = linked (present_at at e.talk) in
       let same : IsSameHanded e.talk t = linked-handed (present_at at e.talk) ∙ present-handed at e.talk in
       record {
+        room = (known-link at e).room h.room;
         read = h.read ++ [] ∷ [];
         handed = h.handed;
         each = λ opened. h.each opened ∙ ap (λ fs. given.given opened ++ fs) (sym (same-frames opened e.talk t same));
         order = subst (λ (fs : List Frame). IsSubsequence (map (λ h. frame_of h.1) h.handed) (raw_frames fs)) (sym (flat_map-append (λ x. x) h.read ([] ∷ []) ∙ append-nil (concatenated h.read))) h.order;
         sorted = subst (λ (hs : List (ℕ × List Handed)). Ascend (keys_of hs)) (sym same) h.sorted;
-        links = links-push came h.read [] [] h.links tt;
+        links = links-push came h.read [] [] 0 h.links refl;
         last = λ any o.
-            record { before = came; octets = []; came_is = refl; earlier = h.read; frames = []; read_is = refl; links = h.links; rest = []; stand = refl; unread = λ d. refl; dropped = λ d. refl };
+            record { before = came; octets = []; came_is = refl; earlier = h.read; frames = []; read_is = refl; links = h.links; place = 0; within = omega arith; stand = refl; unread = λ d. refl; dropped = λ d. refl };
         openings = openings-kept given e.talk t h.handed (known-link at e) h.openings;
       }
 
@@ -335,12 +292,13 @@ module _ (given : Kept) (whole : Bool) (at : ℕ) (bytes : List ℕ) (e : Engine
   came-unlinked : is_asked e.talk ≡ true → Came whole given e (came ++ [] ∷ [])
   came-unlinked is =
       record {
+        room = h.room;
         read = h.read ++ [] ∷ [];
         handed = h.handed;
         each = h.each;
         order = subst (λ (fs : List Frame). IsSubsequence (map (λ h. frame_of h.1) h.handed) (raw_frames fs)) (sym (flat_map-append (λ x. x) h.read ([] ∷ []) ∙ append-nil (concatenated h.read))) h.order;
         sorted = h.sorted;
-        links = links-push came h.read [] [] h.links tt;
+        links = links-push came h.read [] [] 0 h.links refl;
         last = λ any o. absurd (asked-not-open e.talk.link is o);
         openings = h.openings;
       }
@@ -349,6 +307,7 @@ module _ (given : Kept) (whole : Bool) (at : ℕ) (bytes : List ℕ) (e : Engine
   came-passed : whole ≡ false → Came whole given e (on_last (λ octets. octets ++ bytes) came)
   came-passed off =
       record {
+        room = h.room;
         read = h.read;
         handed = h.handed;
         each = h.each;
@@ -369,6 +328,7 @@ module _ (given : Kept) (whole : Bool) (at : ℕ) (bytes : List ℕ) (e : Engine
       let input : (settle x).talk.input ≡ e.talk.input =
       ap (λ (t : Talk). t.input) (settle-talk x) ∙ if_case (λ (y : Talk). y.input ≡ (present_at at e.talk).input) (is_open (present_at at e.talk)) _ (present_at at e.talk) refl refl ∙ present-input at e.talk in
       record {
+        room = (known-received at (e.unread ++ bytes) e).room h.room;
         read = h.read;
         handed = h.handed;
         each = λ opened. h.each opened ∙ ap (λ fs. given.given opened ++ fs) (sym (same-frames opened e.talk (settle x).talk same));
@@ -384,9 +344,10 @@ module _ (given : Kept) (whole : Bool) (at : ℕ) (bytes : List ℕ) (e : Engine
               frames = l.frames;
               read_is = l.read_is;
               links = l.links;
-              rest = l.rest ++ bytes;
-              stand = stand-more l.octets l.frames l.rest bytes l.stand;
-              unread = λ d. ap (λ xs. xs ++ bytes) (l.unread (sym (ap is_dropped_input input) ∙ d)) ∙ sym (kept-unread x o d);
+              place = l.place;
+              within = omega (arith, l.within, length-append l.octets bytes);
+              stand = stand-stays l.octets bytes longest_frame 0 l.place l.frames l.stand;
+              unread = λ d. drop-append-le l.place l.octets bytes l.within ∙ ap (λ xs. xs ++ bytes) (l.unread (sym (ap is_dropped_input input) ∙ d)) ∙ sym (kept-unread x o d);
               dropped = λ d. none-unread x d;
             };
         openings = openings-kept given e.talk (settle x).talk h.handed (known-received at (e.unread ++ bytes) e) h.openings;
@@ -401,7 +362,7 @@ came-none given whole e before came h =
 -- a command is told, when what was handed out so far had come
 pub came-told : (given : Kept) (c : Cmd) (e : Engine) (came : List (List ℕ)) → Came true given e came → Came true (told_more (answered_command c) came given) (with_talk (command c) e) came
 came-told given c e came h =
-    came-with given came (told_more (answered_command c) came given) true e (with_talk (command c) e) refl (told-stays c e) h
+    came-with given came (told_more (answered_command c) came given) true e (with_talk (command c) e) refl (told-stays c e) (room-kept e.talk (command c e.talk) (stays-command c e.talk).capacity h.room) h
     (openings-told given c e.talk h.handed came (record { read = h.read; stand = h.links; order = h.order }) h.openings)
 
 -- a step is taken that tells nothing

@@ -1,7 +1,7 @@
 -- What was handed out came: reading, writing, and a whole turn.
-use Rattle.std.proofs.Common.{◌≡◌, inl, inr, ℕ, zero, suc, ◌+◌, ◌&&◌, if◌then◌else◌, Bool, true, false, List, [], ◌∷◌, ◌++◌, length, drop, map, Option, Some, None, refl, ap, sym, ◌∙◌, subst, append_assoc}
+use Rattle.std.proofs.Common.{◌≡◌, ◌≤◌, inl, inr, ℕ, zero, suc, ◌+◌, ◌&&◌, if◌then◌else◌, Bool, true, false, List, [], ◌∷◌, ◌++◌, length, drop, map, Option, Some, None, refl, ap, sym, ◌∙◌, subst, append_assoc, arith, length-drop}
 use Rattle.std.specs.Map.{keys_of}
-use Rattle.std.proofs.lemmas.List.{append-nil, map-append}
+use Rattle.std.proofs.lemmas.List.{append-nil, drop-drop, map-append}
 use Rattle.std.proofs.lemmas.List.Elements.{filter-append}
 use Rattle.std.proofs.lemmas.Grind.{flat_map-append}
 use Rattle.amqp_frame.specs.declared.frame.Frame.{Frame}
@@ -10,7 +10,9 @@ use Rattle.amqp_frame.specs.declared.frame.RawKind.{RawKind}
 use Rattle.amqp_frame.specs.declared.frame.Read.{Read}
 use Rattle.amqp_frame.specs.declared.frame.Read.TheVariants.{Whole, More, TooLarge, BadHeartbeat, Bad, NoMemory as ReadNoMemory}
 use Rattle.amqp_frame.specs.FrameReading.{front}
+use Rattle.amqp_frame.specs.Sequences.{Stand}
 use Rattle.amqp_frame.proofs.FrontStays.{front-none}
+use Rattle.amqp_frame.proofs.Sequences.{frame-size, stand-push}
 use Rattle.amqp_promise.specs.declared.error.ErrorKind.TheVariants.{SerialisationError}
 use Rattle.amqp_promise.specs.declared.io_fault.IoFault.TheVariants.{BrokenPipe}
 use Rattle.amqp_session.specs.declared.channels.Channel.{Channel}
@@ -19,6 +21,7 @@ use Rattle.amqp_session.specs.declared.misread.Misread.{Misread}
 use Rattle.amqp_session.specs.declared.misread.Misread.TheVariants as misreads
 use Rattle.amqp_auth.specs.declared.asked.Asked.{Asked}
 use Rattle.amqp_session.specs.Talk.{Talk, acts, is_open, has_ended, drops_input}
+use Rattle.amqp_session.specs.Capacities.{greatest_capacity}
 use Rattle.amqp_session.specs.Negotiation.{frame_limit}
 use Rattle.amqp_session.specs.Changes.{present_at, starve}
 use Rattle.amqp_session.specs.Channels.{channel_at}
@@ -28,7 +31,8 @@ use Rattle.amqp_session.specs.Links.{misread, lost}
 use Rattle.amqp_session.specs.Sound.{Ascend}
 use Rattle.amqp_session.specs.Writing.{frames_waiting, taken, end_overlong}
 use Rattle.amqp_types.proofs.Small.{if-true, if-false, and-left, and-right}
-use Rattle.amqp_session.proofs.Keeping.{kept-open, lost-keeps, taken-keeps, off-lost, starve-ends}
+use Rattle.amqp_session.proofs.Keeping.{kept-open, lost-keeps, off-lost, starve-ends}
+use Rattle.amqp_session.proofs.Sending.{taken-keeps}
 use Rattle.amqp_carried_rules.specs.HandingOut.{HandedOut, handed_of, hands_out, handed_on}
 use Rattle.amqp_carried_rules.specs.CommandFrames.{is_raw}
 use Rattle.amqp_carried_rules.proofs.Handing.{as_pairs, Hands, IsSameHanded, same-frames, handed_on-append, frame-hands, present-handed, lost-handed, misread-handed, taken-handed, overlong-handed, starve-handed}
@@ -37,22 +41,22 @@ use Rattle.amqp_engine.specs.declared.port.Wrote.TheVariants.{Took, Failed, NoMe
 use Rattle.amqp_engine.specs.Plan.{at_most_64}
 use Rattle.amqp_engine.specs.Engine.{Engine, with_talk, rule_at, settle, front_of, can_read, read_one, read_row, read_badly, commit_all, overlong_next, ended_overlong, refuse_overlong, can_write, took}
 use Rattle.amqp_engine.specs.Turn.{Turn, write_answers, Progress, begun, goes, is_before, is_piece, step_part, reads, read_part, reading, offered, answered, offer_part, drained, is_all, AreAnswers, read, after_writes, applied, starved_after, IsApplied}
-use Rattle.amqp_engine.specs.Carried.{IsSubsequence, none, kept, left_out, raw_frames, concatenated, frame_of, StandOnLinks}
+use Rattle.amqp_engine.specs.Carried.{IsSubsequence, none, kept, left_out, raw_frames, concatenated, frame_of, longest_frame, StandOnLinks}
 use Rattle.amqp_engine.specs.Account.{step_came, commands_in}
 use Rattle.amqp_engine.proofs.Settling.{settle-talk}
+use Rattle.amqp_engine.proofs.FrontWider.{front-wider}
 use Rattle.amqp_engine.proofs.Commits.{commits-keep}
 use Rattle.amqp_engine.proofs.LinkKept.{kept-answered}
 use Rattle.amqp_engine.proofs.Lifting.{all-rest, stays-drained, read-cut}
 use Rattle.amqp_engine.proofs.Over.{ended-closed}
 use Rattle.amqp_session.specs.declared.command.Cmd.{Cmd}
-use Rattle.amqp_promise.specs.declared.state.ConnectionState.{ConnectionState}
-use Rattle.amqp_promise.specs.declared.state.ConnectionState.TheVariants.{Connecting}
 use Rattle.std.specs.List.{AllByRecursion}
 use Rattle.amqp_carried_rules.proofs.Entries.{each-at}
 use Rattle.amqp_carried_rules.proofs.Openers.{IsLatest, KnowsOpeners}
-use Rattle.amqp_engine.proofs.Knowing.{untaken, known-moment, known-heard, known-no-frame, known-settled, known-ended, known-answered, known-starved}
+use Rattle.amqp_engine.proofs.Knowing.{untaken, IsBounded, known-moment, known-heard, known-no-frame, known-settled, known-ended, known-answered, known-starved}
 use Rattle.amqp_engine.proofs.Parting.{Kept, told_more, IsByLatest, Openings, openings-kept, openings-more}
-use Rattle.amqp_engine.proofs.CameIn.{StandTo, stand-first, stand-push, links-push, IsLastRead, Came, Stays, came-flag, came-stays, came-closed, kept-unread, none-unread, settled-stays, present-input, came-part}
+use Rattle.amqp_engine.proofs.CameIn.{links-push, IsLastRead, last-kept, Came, Stays, came-flag, came-stays, came-closed, kept-unread, none-unread, settled-stays, present-input, came-part}
+use Rattle.amqp_session.proofs.SoundFrames.{heard-listed}
 
 -- ---- reading
 
@@ -82,11 +86,6 @@ frame-read (Raw (suc n) kind bytes) t = by (acts t)
     by true = channel-read (heard_on t.state (channel_at (suc n) t)) (suc n) kind bytes
     by false = left_out none
 
--- a frame is heard on a listed channel
-heard-there : (s : ConnectionState) (o : Option Channel) (c : Channel) → heard_on s o ≡ Some c → o ≡ Some c
-heard-there Connecting o c h = absurd cc
-heard-there _ o c h = h
-
 -- what a frame hands out is by the promise that opened its channel last
 by-latest : (f : Frame) (t : Talk) (cs : List Cmd) (opens : ℕ → ℕ) → KnowsOpeners cs opens untaken t → AllByRecursion (IsByLatest cs opens) (as_pairs (hands_out f t))
 by-latest (ProtocolHeader version) t cs opens k = tt
@@ -100,7 +99,7 @@ by-latest (Raw (suc n) kind bytes) t cs opens k = by (acts t) where
   one : (o : Option Channel) → heard_on t.state (channel_at (suc n) t) ≡ o → AllByRecursion (IsByLatest cs opens) (as_pairs (handed_of o h))
   one None heard = tt
   one (Some c) heard =
-      (each-at (λ i (d : Channel). IsLatest cs opens i d.opened) (suc n) t.channels c k.listed (heard-there t.state (channel_at (suc n) t) c heard), tt)
+      (each-at (λ i (d : Channel). IsLatest cs opens i d.opened) (suc n) t.channels c k.listed (heard-listed t.state (channel_at (suc n) t) c heard), tt)
 
   by : (b : Bool) → AllByRecursion (IsByLatest cs opens) (as_pairs (if b then handed_of (heard_on t.state (channel_at (suc n) t)) h else []))
   by true = one (heard_on t.state (channel_at (suc n) t)) refl
@@ -144,14 +143,19 @@ module _ (given : Kept) (came : List (List ℕ)) (at : ℕ) (answers : List Aske
       let read : List (List Frame) = l.earlier ++ (l.frames ++ f ∷ []) ∷ [] in
       let all : concatenated read ≡ concatenated h.read ++ f ∷ [] = joined-frame f l.earlier l.frames ∙ ap (λ fss. concatenated fss ++ f ∷ []) (sym l.read_is) in
       let raw : raw_frames (concatenated read) ≡ raw_frames (concatenated h.read) ++ raw_frames (f ∷ []) = ap raw_frames all ∙ filter-append is_raw (concatenated h.read) (f ∷ []) in
-      let stand : StandTo l.octets (l.frames ++ f ∷ []) (drop n l.rest) =
-      stand-push l.octets l.frames l.rest (frame_limit e.talk) n f l.stand (ap (λ xs. front xs (frame_limit e.talk)) (l.unread d) ∙ is) in
+      let limit : ℕ = frame_limit e.talk in
+      let here : front (drop l.place l.octets) limit ≡ Whole f n = ap (λ xs. front xs limit) (l.unread d) ∙ is in
+      let short : limit ≤ e.talk.capacity = omega arith in
+      let room : e.talk.capacity ≤ greatest_capacity = h.room in
+      let stand : Stand l.octets longest_frame 0 (l.frames ++ f ∷ []) (l.place + n) =
+      stand-push l.octets longest_frame 0 l.place n l.frames f l.stand (front-wider (drop l.place l.octets) limit longest_frame n f (omega (arith, short, room)) here) in
       let L : List (List ℕ) → Type 0 = λ links. StandOnLinks links read in
       let T : Talk → Type 0 = λ u. Openings given u (h.handed ++ as_pairs hs) in
       let heard : Openings given (on_frame f answers t) (h.handed ++ as_pairs hs) =
       openings-more given e.talk (on_frame f answers t) h.handed (as_pairs hs) (known-heard at f answers e)
       (λ opens k. by-latest f t given.commands opens ((known-moment at e.talk).knows given.commands opens h.openings.sound k)) h.openings in
       record {
+        room = subst (λ (u : Talk). IsBounded u) (sym (settle-talk x)) ((known-heard at f answers e).room h.room);
         read = read;
         handed = h.handed ++ as_pairs hs;
         each = λ opened.
@@ -163,7 +167,7 @@ module _ (given : Kept) (came : List (List ℕ)) (at : ℕ) (answers : List Aske
         sorted =
             subst (λ (u : Talk). Ascend (keys_of u.handed)) (sym (settle-talk x))
             (k.sorted (subst (λ (hs : List (ℕ × List Handed)). Ascend (keys_of hs)) (sym (present-handed at e.talk)) h.sorted));
-        links = subst L (sym l.came_is) (links-push l.before l.earlier l.octets (l.frames ++ f ∷ []) l.links (stand-first l.octets (l.frames ++ f ∷ []) (drop n l.rest) stand));
+        links = subst L (sym l.came_is) (links-push l.before l.earlier l.octets (l.frames ++ f ∷ []) (l.place + n) l.links stand);
         last = λ any o.
             record {
               before = l.before;
@@ -173,9 +177,10 @@ module _ (given : Kept) (came : List (List ℕ)) (at : ℕ) (answers : List Aske
               frames = l.frames ++ f ∷ [];
               read_is = refl;
               links = l.links;
-              rest = drop n l.rest;
+              place = l.place + n;
+              within = omega (arith, (frame-size (drop l.place l.octets) limit n f here).1, length-drop l.place l.octets, l.within);
               stand = stand;
-              unread = λ dd. ap (drop n) (l.unread d) ∙ sym (kept-unread x o dd);
+              unread = λ dd. sym (drop-drop n l.place l.octets) ∙ ap (drop n) (l.unread d) ∙ sym (kept-unread x o dd);
               dropped = λ dd. none-unread x dd;
             };
         openings = subst T (sym (settle-talk x)) heard;
@@ -188,26 +193,14 @@ module _ (given : Kept) (came : List (List ℕ)) (at : ℕ) (answers : List Aske
       let x : Engine = rule_at at (misread why) e in
       let same : IsSameHanded e.talk (settle x).talk = ap (λ (u : Talk). u.handed) (settle-talk x) ∙ misread-handed why t ∙ present-handed at e.talk in
       record {
+        room = (known-no-frame at why e).room h.room;
         read = h.read;
         handed = h.handed;
         each = λ opened. h.each opened ∙ ap (λ fs. given.given opened ++ fs) (sym (same-frames opened e.talk (settle x).talk same));
         order = h.order;
         sorted = subst (λ (hs : List (ℕ × List Handed)). Ascend (keys_of hs)) (sym same) h.sorted;
         links = h.links;
-        last = λ any o.
-            record {
-              before = l.before;
-              octets = l.octets;
-              came_is = l.came_is;
-              earlier = l.earlier;
-              frames = l.frames;
-              read_is = l.read_is;
-              links = l.links;
-              rest = l.rest;
-              stand = l.stand;
-              unread = λ dd. l.unread d ∙ sym (kept-unread x o dd);
-              dropped = λ dd. none-unread x dd;
-            };
+        last = λ any o. last-kept e (settle x) came h.read l (λ dd. l.unread d ∙ sym (kept-unread x o dd)) (λ dd. none-unread x dd);
         openings = openings-kept given e.talk (settle x).talk h.handed (known-no-frame at why e) h.openings;
       }
 
@@ -248,7 +241,7 @@ commit-handed e = commits-keep (λ (y : Engine). y.talk.handed) (λ y fs ms byte
 commit-input : (e : Engine) → (commit_all e).talk.input ≡ e.talk.input
 commit-input e = commits-keep (λ (y : Engine). y.talk.input) (λ y fs ms bytes. refl) (frames_waiting e.talk) e
 
-commit-unread : (e : Engine) → (commit_all e).unread ≡ e.unread
+pub commit-unread : (e : Engine) → (commit_all e).unread ≡ e.unread
 commit-unread e = commits-keep (λ (y : Engine). y.unread) (λ y fs ms bytes. refl) (frames_waiting e.talk) e
 
 took-stays : (at k : ℕ) (e : Engine) → (is_open (took at k (commit_all e)).talk ≡ true → is_open e.talk ≡ true) → Stays e (took at k (commit_all e))

@@ -23,7 +23,7 @@ use Rattle.amqp_session.specs.declared.misread.Misread.{Misread}
 use Rattle.amqp_session.specs.declared.misread.Misread.TheVariants as misreads
 use Rattle.amqp_auth.specs.declared.asked.Asked.{Asked as ProviderAnswer}
 use Rattle.amqp_session.specs.Config.{Config}
-use Rattle.amqp_session.specs.Talk.{Talk, start, has_ended, is_open, is_open_link, is_asked, is_asked_link, end_of_link}
+use Rattle.amqp_session.specs.Talk.{Talk, start, has_ended, is_open, is_asked, end_of_link}
 use Rattle.amqp_session.specs.Changes.{present_at}
 use Rattle.amqp_session.specs.Negotiation.{frame_limit}
 use Rattle.amqp_session.specs.Handshake.{protocol_header}
@@ -46,11 +46,12 @@ use Rattle.amqp_engine.specs.Saying.{applied_sending}
 use Rattle.amqp_types.proofs.Small.{if_case, if-true, if-false, and-true, and-left, at-most, all-push}
 use Rattle.amqp_engine.proofs.EventTaken.{event-case}
 use Rattle.amqp_engine.proofs.Settling.{settle-talk}
-use Rattle.amqp_session.proofs.Keeping.{LinkKept, lacks_link, kept-open, failed-link, present-keeps, starve-ends, keeps-frame, keeps-misread, keeps-tick, lost-link, taken-link, stays-command}
+use Rattle.amqp_session.proofs.Keeping.{LinkKept, kept-open, failed-link, present-keeps, starve-ends, keeps-frame, keeps-misread, keeps-tick, lost-link, stays-command}
+use Rattle.amqp_session.proofs.Sending.{taken-link}
+use Rattle.amqp_session.proofs.Lacking.{lacks_link, open-lacks, asked-open, asked-lacking}
 use Rattle.amqp_engine.proofs.Commits.{commit_one-is, with_frame, commits-keep}
 use Rattle.amqp_engine.proofs.Sent.{on_last-append}
 use Rattle.amqp_engine.proofs.Over.{ended-closed}
-use Rattle.amqp_engine.proofs.LinkKept.{asked-open}
 use Rattle.amqp_engine.proofs.Sends.{all-front}
 use Rattle.amqp_engine.proofs.Received.{octets-asks, octets-step, octets-row, octets-answered, octets-overlong}
 use Rattle.amqp_engine.proofs.Lifting.{Answering, applied_on, offers_on, answer-applied}
@@ -103,20 +104,6 @@ pub record Rules : Type 1 where
 
 -- ---- links
 
-open-lacks : (l : Link ErrorKind) → is_open_link l ≡ true → lacks_link l ≡ true → ⊥
-open-lacks (Due moment) h k = cc
-open-lacks Open h k = cc
-open-lacks Wanted h k = cc
-open-lacks Asked h k = cc
-open-lacks (Ended r) h k = cc
-
-asked-lacks : (l : Link ErrorKind) → is_asked_link l ≡ true → lacks_link l ≡ true
-asked-lacks (Due moment) h = refl
-asked-lacks Open h = cc
-asked-lacks Wanted h = refl
-asked-lacks Asked h = refl
-asked-lacks (Ended r) h = cc
-
 -- a rule opens no link
 abbrev pub Opens : (Talk → Talk) → Type 0
 Opens f = (t : Talk) → is_open (f t) ≡ true → is_open t ≡ true
@@ -165,7 +152,7 @@ all-drop Q zero xs h = h
 all-drop Q (suc n) [] h = h
 all-drop Q (suc n) (x ∷ xs) h = all-drop Q n xs h.1
 
-all-last : {A : Type 0} (Q : A → Type 0) (xs : List A) (y : A) → AllByRecursion Q (xs ++ y ∷ []) → Q y
+pub all-last : {A : Type 0} (Q : A → Type 0) (xs : List A) (y : A) → AllByRecursion Q (xs ++ y ∷ []) → Q y
 all-last Q [] y h = h.0
 all-last Q (x ∷ xs) y h = all-last Q xs y h.1
 
@@ -293,7 +280,7 @@ module _ (k : Rules) where
       let opened : is_open y ≡ true = ap is_open (if-true (is_asked t) _ t asked_t) in
       let outbox : y.outbox ≡ only (plain_item 0 protocol_header) = ap (λ (z : Talk). z.outbox) (if-true (is_asked t) _ t asked_t) in
       let writable : y.blocked ≡ false = ap (λ (z : Talk). z.blocked) (if-true (is_asked t) _ t asked_t) in
-      let waits : k.Waits t = (kept-moment false at e.talk ss kept).now.1 (asked-lacks t.link asked_t) in
+      let waits : k.Waits t = (kept-moment false at e.talk ss kept).now.1 (asked-lacking t.link asked_t) in
       let said : k.Says y [] = k.linked t asked_t waits in
       let capacity : y.capacity ≡ t.capacity = ap (λ (z : Talk). z.capacity) (if-true (is_asked t) _ t asked_t) in
       let room : 8 ≤ y.capacity = (let N : ℕ → Type 0 = λ n. 8 ≤ n in subst N (sym capacity) (k.room t waits)) in

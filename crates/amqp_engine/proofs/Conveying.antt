@@ -78,11 +78,13 @@ same-last left before sofar t t' ss k l =
 
 -- ---- rules
 
--- a rule that commits nothing
-pub carries-rule : (taken : ℕ → Option (Result Answer ErrorKind)) (given : ℕ → List Handed) (cs : List Cmd) (t t' : Talk) (ss : List Sending) → ((answered : ℕ → Bool) (r : Reading) (left : List Item) → IsAt cs answered r left t → IsAt cs answered r left t')
+-- a change that commits nothing, and perhaps frames were taken
+pub carries-given : (taken : ℕ → Option (Result Answer ErrorKind)) (given given' : ℕ → List Handed) (cs : List Cmd) (t t' : Talk) (ss : List Sending)
+    → ((answered : ℕ → Bool) (r : Reading) (left : List Item) → IsAt cs answered r left t → IsAt cs answered r left t')
     → ((opens : ℕ → ℕ) → KnowsOpeners cs opens (λ n. is_some (taken n)) t → KnowsOpeners cs opens (λ n. is_some (taken n)) t')
-    → (is_open t' ≡ true → (is_open t ≡ true) × (t'.committed ≡ t.committed)) → (IsSound t → IsSound t') → Carries taken given cs t ss → Carries taken given cs t' ss
-carries-rule taken given cs t t' ss at knows keeps sound h =
+    → (is_open t' ≡ true → (is_open t ≡ true) × (t'.committed ≡ t.committed)) → (IsSound t → IsSound t') → (h : Carries taken given cs t ss)
+    → ((p : ℕ) → AllByRecursion (λ (x : Handed). IsOpener cs h.opens x.channel p) (given' p)) → Carries taken given' cs t' ss
+carries-given taken given given' cs t t' ss at knows keeps sound h frames =
     record {
       answered = h.answered;
       ever = h.ever;
@@ -95,11 +97,17 @@ carries-rule taken given cs t t' ss at knows keeps sound h =
       known = h.known;
       opens = h.opens;
       knows = knows h.opens h.knows;
-      takes = h.takes;
+      takes = record { answers = h.takes.answers; frames = frames };
       sound = sound h.sound;
       last = λ o. same-last h.left h.before h.sofar t t' ss (keeps o) (h.last (keeps o).0);
       links = h.links;
     }
+
+-- a rule that commits nothing
+pub carries-rule : (taken : ℕ → Option (Result Answer ErrorKind)) (given : ℕ → List Handed) (cs : List Cmd) (t t' : Talk) (ss : List Sending) → ((answered : ℕ → Bool) (r : Reading) (left : List Item) → IsAt cs answered r left t → IsAt cs answered r left t')
+    → ((opens : ℕ → ℕ) → KnowsOpeners cs opens (λ n. is_some (taken n)) t → KnowsOpeners cs opens (λ n. is_some (taken n)) t')
+    → (is_open t' ≡ true → (is_open t ≡ true) × (t'.committed ≡ t.committed)) → (IsSound t → IsSound t') → Carries taken given cs t ss → Carries taken given cs t' ss
+carries-rule taken given cs t t' ss at knows keeps sound h = carries-given taken given given cs t t' ss at knows keeps sound h h.takes.frames
 
 -- a command more was told
 known-grows : (cs : List Cmd) (c : Cmd) (answered : ℕ → Bool) (r : Reading) (before : List (List Frame)) (sofar : List Frame)

@@ -31,6 +31,7 @@ use Rattle.amqp_engine.proofs.History.{marked, marked-here, marked-other, Past, 
 use Rattle.amqp_session.proofs.Walk.{pay-case}
 use Rattle.amqp_session.specs.ChannelMethods.{remove_channel}
 use Rattle.amqp_session.specs.declared.channels.Debt.TheVariants as debt
+use Rattle.amqp_engine.proofs.Committing.{all-last}
 
 -- ---- links
 
@@ -95,10 +96,6 @@ module _ (cs : List Cmd) (answered : ℕ → Bool) (r : Reading) (left : List It
 not-empty : (fs : List Frame) (f : Frame) → fs ++ f ∷ [] ≢ []
 not-empty [] f is = cc
 not-empty (g ∷ fs) f is = cc
-
-all-last : {A : Type 0} (Q : A → Type 0) (xs : List A) (y : A) → AllByRecursion Q (xs ++ y ∷ []) → Q y
-all-last Q [] y h = h.0
-all-last Q (x ∷ xs) y h = all-last Q xs y h.1
 
 -- all frames of a command are passed through
 frames-raw : (c : Cmd) (fs : List Frame) → AreFramesOf c fs → AllByRecursion (λ f. is_raw f ≡ true) fs

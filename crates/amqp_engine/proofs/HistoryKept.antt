@@ -1,5 +1,5 @@
 -- What is known of a client through its whole history: what it was told, its turns, and what was taken of it.
-use Rattle.std.proofs.Common.{◌≡◌, ◌≢◌, ◌≤◌, ◌⊎◌, inl, inr, ◌∙◌, ap, sym, subst, refl, ℕ, zero, suc, ◌==◌, ◌||◌, if◌then◌else◌, Bool, true, false, true≢false, List, [], ◌∷◌, ◌++◌, length, append-nil, unwrap_or, Option, Some, None, is_some, Result, Ok, Err, arith}
+use Rattle.std.proofs.Common.{◌≡◌, ◌≢◌, ◌≤◌, ◌⊎◌, inl, inr, ◌∙◌, ap, sym, subst, refl, ℕ, zero, suc, ◌==◌, ◌||◌, if◌then◌else◌, Bool, true, false, true≢false, List, [], ◌++◌, length, append-nil, unwrap_or, Option, Some, None, is_some, Result, Ok, Err, arith}
 use Rattle.std.proofs.lemmas.Bool.{cases_eq, cases_lt}
 use Rattle.std.specs.Option.{option_or}
 use Rattle.std.specs.List.{AllByRecursion}
@@ -37,11 +37,12 @@ use Rattle.amqp_engine.specs.Carried.{says_sent, AreSent, Merges, IsSubsequence}
 use Rattle.amqp_engine.specs.Account.{History, nothing_told, HasHistory, new, asked, applies, told, answer_taken, event_taken, frames_taken}
 use Rattle.amqp_engine.proofs.Answered.{says-as, answer-held, there}
 use Rattle.amqp_engine.proofs.EventTaken.{event-case}
-use Rattle.amqp_engine.proofs.Conveying.{Carries, same-last, carries-command}
+use Rattle.amqp_session.proofs.Walking.{all-append}
+use Rattle.amqp_engine.proofs.Conveying.{Carries, same-last, carries-given, carries-rule, carries-command}
 use Rattle.amqp_engine.proofs.WentOut.{carries-asks, carries-applied}
-use Rattle.amqp_engine.proofs.Knowing.{known-asks}
+use Rattle.amqp_engine.proofs.Knowing.{IsBounded, known-asks}
 use Rattle.amqp_engine.proofs.Parting.{Kept, kept_of, Openings, openings-start, openings-answer, openings-noted, openings-frames}
-use Rattle.amqp_engine.proofs.CameIn.{Came, Stays, plain-stays, came-stays, came-with, came-told, asks-stays}
+use Rattle.amqp_engine.proofs.CameIn.{Came, Stays, last-kept, plain-stays, came-stays, came-with, came-told, asks-stays}
 use Rattle.amqp_engine.proofs.CameRead.{came-applied}
 use Rattle.amqp_engine.proofs.Over.{asks-end}
 use Rattle.amqp_engine.proofs.TurnEnds.{never-limit}
@@ -52,7 +53,7 @@ or-none : (o : Option (Result Answer ErrorKind)) → option_or o None ≡ o
 or-none None = refl
 or-none (Some a) = refl
 
-or-false : (b c : Bool) → c ≡ false → (b || c) ≡ b
+pub or-false : (b c : Bool) → c ≡ false → (b || c) ≡ b
 or-false true c is = refl
 or-false false c is = is
 
@@ -163,50 +164,16 @@ module _ (taken : ℕ → Option (Result Answer ErrorKind)) (given : ℕ → Lis
   carries-event = event-case (λ (x : Talk). Carries taken given cs x ss) t noted h where
     noted : (ns : Noted) → Carries taken given cs (record t { noted = ns }) ss
     noted ns =
-        let k = h.knows in
-        record {
-          answered = h.answered;
-          ever = h.ever;
-          both = h.both;
-          reading = h.reading;
-          left = h.left;
-          before = h.before;
-          sofar = h.sofar;
-          at = at-noted cs h.answered h.reading h.left ns t h.at;
-          known = h.known;
-          opens = h.opens;
-          knows = record { listed = k.listed; held = k.held; awaited = k.awaited; handed = k.handed };
-          takes = h.takes;
-          sound = sound-noted ns t h.sound;
-          last = λ o. same-last h.left h.before h.sofar t (record t { noted = ns }) ss (o, refl) (h.last o);
-          links = h.links;
-        }
+        carries-rule taken given cs t (record t { noted = ns }) ss (λ answered r left a. at-noted cs answered r left ns t a)
+        (λ opens k. record { listed = k.listed; held = k.held; awaited = k.awaited; handed = k.handed }) (λ o. (o, refl)) (sound-noted ns t) h
 
   -- frames are taken
   pub carries-frames : (opened : ℕ) → Carries taken (λ n. if n == opened then given n ++ frames_of opened t else given n) cs (take_frames opened t) ss
   carries-frames opened =
-      record {
-        answered = h.answered;
-        ever = h.ever;
-        both = h.both;
-        reading = h.reading;
-        left = h.left;
-        before = h.before;
-        sofar = h.sofar;
-        at = at-frames cs h.answered h.reading h.left opened t h.at;
-        known = h.known;
-        opens = h.opens;
-        knows = knows-frames cs h.opens (λ n. is_some (taken n)) opened t h.knows;
-        takes = record { answers = h.takes.answers; frames = frames };
-        sound = sound-frames opened t h.sound;
-        last = λ o. same-last h.left h.before h.sofar t (take_frames opened t) ss (o, refl) (h.last o);
-        links = h.links;
-      }
+      carries-given taken given (λ n. if n == opened then given n ++ frames_of opened t else given n) cs t (take_frames opened t) ss
+      (λ answered r left a. at-frames cs answered r left opened t a) (λ opens k. knows-frames cs opens (λ n. is_some (taken n)) opened t k)
+      (λ o. (o, refl)) (sound-frames opened t) h frames
     where
-      joined : {A : Type 0} (P : A → Type 0) (xs ys : List A) → AllByRecursion P xs → AllByRecursion P ys → AllByRecursion P (xs ++ ys)
-      joined P [] ys all more = more
-      joined P (x ∷ xs) ys all more = (all.0, joined P xs ys all.1 more)
-
       frames : (p : ℕ) → AllByRecursion (λ (x : Handed). IsOpener cs h.opens x.channel p) (if p == opened then given p ++ frames_of opened t else given p)
       frames p = elim (cases_eq p opened) [
         | inl e ↦
@@ -214,7 +181,7 @@ module _ (taken : ℕ → Option (Result Answer ErrorKind)) (given : ℕ → Lis
             let Q : ℕ → Type 0 = λ m. AllByRecursion (λ (x : Handed). IsOpener cs h.opens x.channel p) (frames_of m t) in
             let now : AllByRecursion (λ (x : Handed). IsOpener cs h.opens x.channel p) (frames_of p t) = each-list (λ m (x : Handed). IsOpener cs h.opens x.channel m) p t.handed h.knows.handed in
             subst P (sym (ap (λ b. if b then given p ++ frames_of opened t else given p) (equal-numbers p opened e)))
-            (joined (λ (x : Handed). IsOpener cs h.opens x.channel p) (given p) (frames_of opened t) (h.takes.frames p) (subst Q e now)))
+            (all-append (λ (x : Handed). IsOpener cs h.opens x.channel p) (given p) (frames_of opened t) (h.takes.frames p) (subst Q e now)))
         | inr ne ↦
             (let P : List Handed → Type 0 = λ xs. AllByRecursion (λ (x : Handed). IsOpener cs h.opens x.channel p) xs in
             subst P (sym (ap (λ b. if b then given p ++ frames_of opened t else given p) (other-number p opened ne))) (h.takes.frames p))
@@ -279,6 +246,7 @@ carries-history e h (frames_taken {e = e'} {h = h'} opened k) = carries-frames h
 came-start : (config : Config) → Came true (kept_of nothing_told) (begin (start config)) []
 came-start config =
     record {
+      room = omega arith;
       read = [];
       handed = [];
       each = λ opened. refl;
@@ -302,12 +270,13 @@ event-stays e =
 came-answer : (given : Kept) (came : List (List ℕ)) (number : ℕ) (e : Engine) → (end_of e.talk ≡ Some (Err ChannelsLimitReached) → ⊥) → Came true given e came
     → Came true (record given { taken = λ n. if n == number then option_or (given.taken n) (answer_of number e.talk) else given.taken n }) (with_talk (take_answer number) e) came
 came-answer given came number e ended h =
-    came-with given came (record given { taken = λ n. if n == number then option_or (given.taken n) (answer_of number e.talk) else given.taken n }) true e (with_talk (take_answer number) e) refl (answer-stays number e) h (openings-answer given number e.talk h.handed ended h.openings)
+    came-with given came (record given { taken = λ n. if n == number then option_or (given.taken n) (answer_of number e.talk) else given.taken n }) true e (with_talk (take_answer number) e) refl (answer-stays number e)
+    (if_case IsBounded (is_some (answer_of number e.talk)) (record e.talk { promises = without number e.talk.promises }) e.talk h.room h.room) h (openings-answer given number e.talk h.handed ended h.openings)
 
 -- an event is taken
 came-event : (given : Kept) (came : List (List ℕ)) (e : Engine) → Came true given e came → Came true given (with_talk take_event e) came
 came-event given came e h =
-    came-with given came given true e (with_talk take_event e) refl (event-stays e) h
+    came-with given came given true e (with_talk take_event e) refl (event-stays e) (event-case IsBounded e.talk (λ ns. h.room) h.room) h
     (event-case (λ (t : Talk). Openings given t h.handed) e.talk (λ ns. openings-noted given e.talk ns h.handed h.openings) h.openings)
 
 -- frames are taken
@@ -315,27 +284,14 @@ came-frames : (given : Kept) (came : List (List ℕ)) (opened : ℕ) (e : Engine
     → Came true (record given { given = λ n. if n == opened then given.given n ++ frames_of opened e.talk else given.given n }) (with_talk (take_frames opened) e) came
 came-frames given came opened e h =
     record {
+      room = h.room;
       read = h.read;
       handed = h.handed;
       each = each;
       order = h.order;
       sorted = without-ascends opened e.talk.handed h.sorted;
       links = h.links;
-      last = λ is o.
-          (let l = h.last is o in
-          record {
-            before = l.before;
-            octets = l.octets;
-            came_is = l.came_is;
-            earlier = l.earlier;
-            frames = l.frames;
-            read_is = l.read_is;
-            links = l.links;
-            rest = l.rest;
-            stand = l.stand;
-            unread = l.unread;
-            dropped = l.dropped;
-          });
+      last = λ is o. (let l = h.last is o in last-kept e (with_talk (take_frames opened) e) came h.read l l.unread l.dropped);
       openings = openings-frames given more opened e.talk h.handed h.openings;
     }
   where

@@ -3,8 +3,6 @@ use Rattle.std.proofs.Common.{◌≡◌, ℕ, ◌&&◌, not, if◌then◌else◌
 use Rattle.amqp_frame.specs.declared.frame.Read.{Read}
 use Rattle.amqp_frame.specs.declared.frame.Read.TheVariants.{Whole, More, TooLarge, BadHeartbeat, Bad, NoMemory}
 use Rattle.amqp_frame.specs.FrameReading.{front}
-use Rattle.amqp_session.specs.declared.state.Link.{Link}
-use Rattle.amqp_session.specs.declared.state.Link.TheVariants.{Due, Wanted, Asked, Open, Ended}
 use Rattle.amqp_promise.specs.declared.io_fault.IoFault.TheVariants.{Aborted, Reset, BrokenPipe}
 use Rattle.amqp_session.specs.declared.command.Answer.{Answer}
 use Rattle.amqp_session.specs.declared.event.Event.{Event}
@@ -15,10 +13,10 @@ use Rattle.amqp_session.specs.declared.configuration.Configuration.{Configuratio
 use Rattle.amqp_session.specs.Negotiation.{frame_limit, wish_or}
 use Rattle.amqp_session.specs.Changes.{present_at, starve}
 use Rattle.amqp_session.specs.Recovery.{next_delay}
-use Rattle.amqp_session.specs.Links.{asked, asked_link, linked, refused_after, link_failed, lost}
+use Rattle.amqp_session.specs.Links.{asked, linked, refused_after, link_failed, lost}
 use Rattle.amqp_session.specs.Commands.{command}
 use Rattle.amqp_session.specs.Ticks.{tick}
-use Rattle.amqp_session.specs.Writing.{end_overlong, taken}
+use Rattle.amqp_session.specs.Writing.{end_overlong, taken, frames_waiting}
 use Rattle.amqp_session.specs.Answers.{take_answer, take_frames, Takes, TakesEvent}
 use Rattle.amqp_session.specs.declared.command.Cmd.{Cmd}
 use Rattle.amqp_engine.specs.declared.port.Step.{Step}
@@ -26,13 +24,14 @@ use Rattle.amqp_engine.specs.declared.port.Step.TheVariants.{Linked, LinkFailed,
 use Rattle.amqp_engine.specs.declared.port.Wrote.{Wrote}
 use Rattle.amqp_engine.specs.declared.port.Wrote.TheVariants.{Took, Failed, NoMemory as WroteNoMemory}
 use Rattle.amqp_engine.specs.Engine.{Engine, front_of, is_more, can_read, rule_at, with_talk, step_engine, step_linked, settle, took, wrote, commit_all, commits, ended_overlong, starve_at, starved_before}
-use Rattle.amqp_session.specs.Writing.{frames_waiting}
 use Rattle.amqp_engine.specs.Turn.{Turn, Notes, Progress, asks, wants_ask, is_piece, answered, applied, turn, IsApplied, IsTurn}
 use Rattle.amqp_engine.specs.Log.{Log}
 use Rattle.amqp_engine.specs.Tell.{Applies, TakesTurn, turn_of}
 use Rattle.amqp_engine.specs.Unread.{IsRead}
 use Rattle.amqp_types.proofs.Small.{if_case, if_by}
-use Rattle.amqp_session.proofs.Keeping.{present-keeps, stays-command, keeps-tick, tick-keeps, taken-keeps, taken-link, IsOff, lost-off, starve-ends}
+use Rattle.amqp_session.proofs.Keeping.{present-keeps, stays-command, keeps-tick, tick-keeps, IsOff, lost-off, starve-ends}
+use Rattle.amqp_session.proofs.Sending.{taken-keeps, taken-link}
+use Rattle.amqp_session.proofs.Lacking.{asked-open}
 use Rattle.amqp_engine.proofs.EventTaken.{taken-case}
 use Rattle.amqp_engine.proofs.Commits.{commits-keep}
 use Rattle.amqp_frame.proofs.FrontStays.{front-none}
@@ -68,13 +67,6 @@ closed-read : (e : Engine) → is_open e.talk ≡ false → IsRead e
 closed-read e h opened =
     let P : Bool → Type 0 = λ b. IsTrue b in
     absurd (let no : IsTrue false = subst P h opened in search rules)
-
-asked-open : (l : Link ErrorKind) → is_open_link (asked_link l) ≡ is_open_link l
-asked-open (Due moment) = refl
-asked-open Wanted = refl
-asked-open Asked = refl
-asked-open Open = refl
-asked-open (Ended r) = refl
 
 pub asks-read : (e : Engine) → IsRead e → IsRead (asks e)
 asks-read e h =

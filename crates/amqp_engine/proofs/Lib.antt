@@ -60,6 +60,7 @@ pub mod Conveying
 pub mod WentOut
 -- What was handed out came: the frames that are read stand in the octets of their link, and each was handed out by the promise that opened its channel
 -- last.
+pub mod FrontWider
 pub mod Answered
 pub mod Knowing
 pub mod Parting

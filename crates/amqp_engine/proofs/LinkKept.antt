@@ -13,22 +13,22 @@ use Rattle.amqp_session.specs.declared.command.Cmd.{Cmd}
 use Rattle.amqp_auth.specs.declared.asked.Asked.{Asked as ProviderAnswer}
 use Rattle.amqp_session.specs.Talk.{Talk, is_open, is_open_link, is_asked, is_asked_link}
 use Rattle.amqp_session.specs.Changes.{present_at}
-use Rattle.amqp_session.specs.Links.{asked_link, linked, link_failed, piece, misread, lost}
+use Rattle.amqp_session.specs.Links.{linked, link_failed, piece, misread, lost}
 use Rattle.amqp_session.specs.Frames.{on_frame}
 use Rattle.amqp_session.specs.Ticks.{tick}
 use Rattle.amqp_session.specs.Commands.{command}
-use Rattle.amqp_session.specs.Writing.{taken}
+use Rattle.amqp_session.specs.Writing.{taken, frames_waiting}
 use Rattle.amqp_engine.specs.declared.port.Step.{Step}
 use Rattle.amqp_engine.specs.declared.port.Step.TheVariants.{Linked, LinkFailed, Piece, End, Fault, Room, Tick, Command}
 use Rattle.amqp_engine.specs.declared.port.Wrote.{Wrote}
 use Rattle.amqp_engine.specs.declared.port.Wrote.TheVariants.{Took, Failed, NoMemory}
 use Rattle.amqp_engine.specs.Plan.{at_most_64}
 use Rattle.amqp_engine.specs.Engine.{Engine, rule_at, settle, step_engine, step_piece, read_one, read_row, read_badly, front_of, took, wrote, taken_by, commit_all}
-use Rattle.amqp_session.specs.Writing.{frames_waiting}
 use Rattle.amqp_engine.specs.Turn.{answered}
 use Rattle.amqp_types.proofs.Small.{if_case, if-false}
 use Rattle.amqp_engine.proofs.Settling.{settle-talk, settle-unsent}
-use Rattle.amqp_session.proofs.Keeping.{LinkKept, link-then, kept-open, present-keeps, failed-keeps, failed-link, keeps-frame, keeps-misread, keeps-tick, stays-command, lost-off, lost-link, left_after, committed-taken, taken-link}
+use Rattle.amqp_session.proofs.Keeping.{LinkKept, link-then, kept-open, present-keeps, failed-keeps, failed-link, keeps-frame, keeps-misread, keeps-tick, stays-command, lost-off, lost-link}
+use Rattle.amqp_session.proofs.Sending.{left_after, committed-taken, taken-link}
 use Rattle.amqp_engine.proofs.Commits.{commits-keep}
 
 -- ---- links
@@ -39,13 +39,6 @@ asked-not-open (Due moment) h k = cc
 asked-not-open Wanted h k = cc
 asked-not-open Asked h k = cc
 asked-not-open (Ended r) h k = cc
-
-pub asked-open : (l : Link ErrorKind) → is_open_link (asked_link l) ≡ is_open_link l
-asked-open (Due moment) = refl
-asked-open Wanted = refl
-asked-open Asked = refl
-asked-open Open = refl
-asked-open (Ended r) = refl
 
 pub kept-present : (at : ℕ) (t : Talk) → LinkKept t (present_at at t)
 kept-present at t = inl (present-keeps (λ y. y.link) at t (λ n. refl))

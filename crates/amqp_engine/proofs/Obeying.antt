@@ -17,14 +17,14 @@ obeyed-stays (Ok x) c t t' ok err =
     subst P (sym ok) (stays-command c t)
 obeyed-stays (Err e) c t t' ok err =
     let P : Talk → Type 0 = λ y. Stays t y in
-    subst P (sym err) (record { link = refl; committed = refl; configuration = refl; capacity = refl; input = refl; server_close = refl })
+    subst P (sym err) (record { config = refl; link = refl; committed = refl; configuration = refl; capacity = refl; input = refl; server_close = refl; handed = refl; secret_at = refl })
 
 -- an event is no part of the link
 pub event-stays : (given : Option Event) (t t' : Talk) → TakesEvent given t t' → Stays t t'
 event-stays given t t' takes =
     taken-case (Stays t) given t t' takes
-    (λ noted. record { link = refl; committed = refl; configuration = refl; capacity = refl; input = refl; server_close = refl })
-    (record { link = refl; committed = refl; configuration = refl; capacity = refl; input = refl; server_close = refl })
+    (λ noted. record { config = refl; link = refl; committed = refl; configuration = refl; capacity = refl; input = refl; server_close = refl; handed = refl; secret_at = refl })
+    (record { config = refl; link = refl; committed = refl; configuration = refl; capacity = refl; input = refl; server_close = refl; handed = refl; secret_at = refl })
 
 pub obeyed-read : {A E : Type 0} (r : Result A E) (c : Cmd) (e e' : Engine) → OnOk r (e' ≡ with_talk (command c) e) → OnErr r (e' ≡ e)
     → IsRead e → IsRead e'

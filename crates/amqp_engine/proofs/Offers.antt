@@ -28,7 +28,8 @@ use Rattle.amqp_engine.specs.Tell.{port_answer, offers_from, log_offers, PlaysOf
 use Rattle.amqp_engine.specs.Play.{offers_waiting}
 use Rattle.amqp_types.proofs.Small.{if_case, if-true, if-false, and-false}
 use Rattle.amqp_engine.proofs.Cases.{is_before-Reaches, is_before-cut, some-unsent, rose-between}
-use Rattle.amqp_session.proofs.Keeping.{present-keeps, pay-keeps}
+use Rattle.amqp_session.proofs.Keeping.{present-keeps}
+use Rattle.amqp_session.proofs.Sending.{pay-keeps}
 use Rattle.amqp_session.proofs.Recovering.{lose-case}
 use Rattle.amqp_engine.proofs.Settling.{settle-talk, settle-less, settle-starved}
 use Rattle.amqp_engine.proofs.Telling.{tells-then, tells-none}

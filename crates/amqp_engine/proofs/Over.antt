@@ -58,7 +58,7 @@ ended-unasked Asked h = cc
 ended-unasked Open h = cc
 ended-unasked (Ended r) h = refl
 
--- a moment, and want of memory, leave it as it is
+-- a moment, and memory that was refused, leave it as it is
 pub present-over : (at : ℕ) (t : Talk) → has_ended t ≡ true → present_at at t ≡ t
 present-over at t h = if-true (has_ended t) t (record t { present = _ }) h
 

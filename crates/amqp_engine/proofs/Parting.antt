@@ -19,7 +19,7 @@ use Rattle.amqp_session.specs.Commands.{command, takes_promise}
 use Rattle.amqp_session.specs.Answers.{answer_of, take_answer, take_frames}
 use Rattle.amqp_session.specs.Sound.{IsSound}
 use Rattle.amqp_session.proofs.Ascending.{at-gone}
-use Rattle.amqp_answer_rules.specs.Answering.{IsLeaving}
+use Rattle.amqp_answer_rules.specs.Answering.{IsLetGo}
 use Rattle.amqp_session.proofs.SoundChanges.{sound-noted}
 use Rattle.amqp_session.proofs.SoundCommands.{sound-command}
 use Rattle.amqp_session.proofs.Soundness.{sound-answer, sound-frames, sound-start}
@@ -36,6 +36,7 @@ use Rattle.amqp_engine.specs.Carried.{AreSome, IsParted}
 use Rattle.amqp_engine.specs.Account.{History, nothing_told, noted_before}
 use Rattle.amqp_engine.proofs.Answered.{there, answer-held, answer-not}
 use Rattle.amqp_engine.proofs.Knowing.{untaken, IsUnrefused, not-settled, leaving-not, KeepsKnown}
+use Rattle.amqp_session.proofs.Walking.{all-append}
 
 -- what was told to a client, and taken of it
 pub record Kept : Type 0 where
@@ -64,10 +65,6 @@ IsByLatest cs opens h = IsLatest cs opens (h.1).channel h.0
 pub record Shown (cs : List Cmd) (opens : ℕ → ℕ) (noted : ℕ → List (List ℕ)) (handed : List (ℕ × Handed)) : Type 0 where
   pub openers : AllByRecursion (IsBy cs opens) handed
   pub parts : (p : ℕ) → command_at cs p ≡ Some OpenChannel → IsParted (noted p) (opens p) p handed
-
-all-append : {A : Type 0} (P : A → Type 0) (xs ys : List A) → AllByRecursion P xs → AllByRecursion P ys → AllByRecursion P (xs ++ ys)
-all-append P [] ys all more = more
-all-append P (x ∷ xs) ys all more = (all.0, all-append P xs ys all.1 more)
 
 none-told : (p : ℕ) → command_at [] p ≡ Some OpenChannel → ⊥
 none-told zero told = absurd cc
@@ -249,7 +246,7 @@ openings-told given c t handed came some h =
           absurd cc)
       | inr le ↦
           (let before : IsUnrefused p t = h.unrefused p (sym (below p le) ∙ told) (omega (arith, some, same p le)) in
-          not-settled (IsLeaving c) (leaving-not c) (at p t.promises) (at p (command c t).promises)
+          not-settled (IsLetGo c t p) (leaving-not c t p) (at p t.promises) (at p (command c t).promises)
           ((keeps-promises t).command c p (λ e. omega (arith, e, le, h.made))) before is)
     ]
 

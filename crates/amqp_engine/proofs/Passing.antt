@@ -16,7 +16,7 @@ use Rattle.amqp_session.specs.Sound.{IsSound, Finishes, NoneFinishes, LastFinish
 use Rattle.amqp_session.specs.Writing.{then_of, follow, sent, sent_among, taken}
 use Rattle.amqp_carried_rules.specs.CommandFrames.{is_raw}
 use Rattle.amqp_types.proofs.Small.{if-true, if-false}
-use Rattle.amqp_session.proofs.Keeping.{pay-keeps}
+use Rattle.amqp_session.proofs.Sending.{pay-keeps}
 use Rattle.amqp_session.proofs.Finishing.{sent-committed}
 use Rattle.amqp_carried_rules.proofs.Bearing.{Reading, IsAt}
 use Rattle.amqp_carried_rules.proofs.Bearers.{moved}

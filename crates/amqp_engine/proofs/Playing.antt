@@ -197,7 +197,7 @@ abbrev pub auths_in : List Turn → List Asked
 auths_in [] = []
 auths_in (u ∷ us) = u.notes.auths ++ auths_in us
 
--- where the first of these turns is not the last of a session for want of memory, it was not cut
+-- where the first of these turns is not the last of a session to which memory was refused, it was not cut
 first-whole : (u : Turn) (us : List Turn) (e : Engine) → AreTurns (u ∷ us) e → (turns (u ∷ us) e).starved ≡ None → u.notes.starved ≡ None
 first-whole u us e may whole =
     let is_turn = turn-is u e may.0.running in

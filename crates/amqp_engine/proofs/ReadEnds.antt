@@ -5,7 +5,7 @@ use Rattle.amqp_frame.specs.declared.frame.Frame.TheVariants.{ProtocolHeader, Me
 use Rattle.amqp_frame.specs.declared.frame.Read.{Read}
 use Rattle.amqp_frame.specs.declared.frame.Read.TheVariants as reading
 use Rattle.amqp_frame.specs.declared.method.Method.{Method as AnyMethod}
-use Rattle.amqp_frame.specs.declared.method.Method.TheVariants.{Blocked, Unblocked, ChannelOpenOk, ChannelClose, ChannelCloseOk, ChannelFlow, ChannelFlowOk}
+use Rattle.amqp_frame.specs.declared.method.Method.TheVariants.{ChannelOpenOk, ChannelClose, ChannelCloseOk, ChannelFlow, ChannelFlowOk}
 use Rattle.amqp_session.specs.declared.misread.Misread.{Misread}
 use Rattle.amqp_session.specs.declared.misread.Misread.TheVariants as why
 use Rattle.amqp_promise.specs.declared.error.ErrorKind.{ErrorKind}
@@ -30,16 +30,12 @@ use Rattle.amqp_session.proofs.Keeping.{present-keeps}
 use Rattle.amqp_frame.proofs.FrontStays.{is_memory, says-front}
 use Rattle.amqp_engine.proofs.Settling.{settle-talk}
 use Rattle.amqp_session.proofs.FrameErrors.{frame-errors}
+use Rattle.amqp_session.proofs.FrameEnds.{end-closed}
 
 -- ---- the errors of a frame
 
 abbrev FrameCause : Frame → List Asked → Talk → ErrorKind → Type 0
 FrameCause f answers t k = (IsTrue (is_acting t.input) × IsFrameError k f answers t) × IsTrue (is_final k t)
-
-closed-end : (f : Frame) (t : Talk) → end_of (closed_rule f t) ≡ end_of t
-closed-end (Method zero (Blocked reason)) t = refl
-closed-end (Method zero Unblocked) t = refl
-closed-end f t = refl
 
 final-from : (k : ErrorKind) (t : Talk) → recovery_delay k t ≡ None → is_final k t ≡ true
 final-from k t none = ap (λ (o : Option ℕ). is_none o) none
@@ -51,7 +47,7 @@ ends-acting f answers t = record { by = λ k h. by (acts t) refl k h }
     by false idle k h =
         let otherwise : Talk = if hears_on t then closed_rule f t else t in
         let kept : end_of otherwise ≡ end_of t =
-        if_case (λ (x : Talk). end_of x ≡ end_of t) (hears_on t) (closed_rule f t) t (closed-end f t) refl in
+        if_case (λ (x : Talk). end_of x ≡ end_of t) (hears_on t) (closed_rule f t) t (end-closed f t) refl in
         inl (sym (ap end_of (if-false (acts t) (frame_rule f answers t) otherwise idle) ∙ kept) ∙ h)
     by true acting k h =
         let cause = (frame-errors k f answers t acting).0 h in
@@ -115,19 +111,22 @@ ends-settled P t x e = ends-to P t x.talk (settle x).talk (settle-talk x) e
 
 -- ---- reading
 
-ends-misread : (P : ErrorKind → Type 0) (w : Misread) (t : Talk) → (recovery_delay (misread_error w) t ≡ None → P (misread_error w)) → Ends P t (misread w t)
+ends-misread : (P : ErrorKind → Type 0) (w : Misread) (t : Talk)
+    → (IsTrue (is_acting t.input) → recovery_delay (misread_error w) t ≡ None → P (misread_error w)) → Ends P t (misread w t)
 ends-misread P w t p =
-    if_case (Ends P t) (acts t) (lose (misread_error w) t) (if is_open t then record t { input = dropped t.input } else t)
-    (ends-unrecovered P (misread_error w) t t p)
-    (if_case (Ends P t) (is_open t) (record t { input = dropped t.input }) t (ends-kept P t _ refl) (ends-kept P t t refl))
+    if_by (Ends P t) (acts t) (lose (misread_error w) t) (if is_open t then record t { input = dropped t.input } else t)
+    (λ acting. ends-unrecovered P (misread_error w) t t (p (and-right (is_open t) (is_acting t.input) acting)))
+    (λ idle. if_case (Ends P t) (is_open t) (record t { input = dropped t.input }) t (ends-kept P t _ refl) (ends-kept P t t refl))
 
-ends-badly : (at : ℕ) (r : Read) (w : Misread) (answers : List Asked) (x : Engine) → IsReadError (misread_error w) r answers x → Ends (ReadEnd r answers x) x.talk (read_badly at w x).talk
+ends-badly : (at : ℕ) (r : Read) (w : Misread) (answers : List Asked) (x : Engine) → (IsTrue (is_acting x.talk.input) → IsReadError (misread_error w) r answers x)
+    → Ends (ReadEnd r answers x) x.talk (read_badly at w x).talk
 ends-badly at r w answers x p =
     let P : ErrorKind → Type 0 = ReadEnd r answers x in
     let t = present_at at x.talk in
+    let input : is_acting t.input ≡ is_acting x.talk.input = present-keeps (λ (u : Talk). is_acting u.input) at x.talk (λ n. refl) in
     ends-settled P x.talk (rule_at at (misread w) x)
     (ends-present P at x.talk (misread w t)
-    (ends-misread P w t (λ none. (p, sym (final-present at (misread_error w) x.talk) ∙ final-from (misread_error w) t none))))
+    (ends-misread P w t (λ acting none. (p (sym input ∙ acting), sym (final-present at (misread_error w) x.talk) ∙ final-from (misread_error w) t none))))
 
 pub ends-read-row : (at : ℕ) (r : Read) (answers : List Asked) (x : Engine) → is_memory r ≡ false → Ends (ReadEnd r answers x) x.talk (read_row at r answers x).talk
 ends-read-row at (reading.Whole f n) answers x none =
@@ -136,10 +135,10 @@ ends-read-row at (reading.Whole f n) answers x none =
     let after : Engine = record x { talk = on_frame f answers (present_at at x.talk); unread = drop n x.unread; place = at_most_64 (x.place + n) } in
     ends-settled P x.talk after
     (ends-present P at x.talk after.talk (ends-as (FrameCause f answers now.talk) P now.talk after.talk (present-end at (reading.Whole f n) answers x) (ends-acting f answers now.talk)))
-ends-read-row at (reading.TooLarge size) answers x none = ends-badly at (reading.TooLarge size) (why.TooLarge size) answers x refl
-ends-read-row at (reading.BadHeartbeat channel) answers x none = ends-badly at (reading.BadHeartbeat channel) (why.BadHeartbeat channel) answers x refl
+ends-read-row at (reading.TooLarge size) answers x none = ends-badly at (reading.TooLarge size) (why.TooLarge size) answers x (λ acting. (acting, refl))
+ends-read-row at (reading.BadHeartbeat channel) answers x none = ends-badly at (reading.BadHeartbeat channel) (why.BadHeartbeat channel) answers x (λ acting. (acting, refl))
 ends-read-row at reading.More answers x none = ends-kept _ x.talk x.talk refl
-ends-read-row at reading.Bad answers x none = ends-badly at reading.Bad (why.Bad x.place) answers x refl
+ends-read-row at reading.Bad answers x none = ends-badly at reading.Bad (why.Bad x.place) answers x (λ acting. (acting, refl))
 ends-read-row at reading.NoMemory answers x none = cc
 
 pub ends-read-one : (at : ℕ) (answers : List Asked) (x : Engine) → Ends (ReadEnd (front_of x) answers x) x.talk (read_one at answers x).talk

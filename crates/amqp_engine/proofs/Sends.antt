@@ -16,12 +16,14 @@ use Rattle.amqp_engine.specs.Turn.{Turn, write_answers, Progress, asks, wants_as
 use Rattle.amqp_engine.specs.Sending.{Sending, nothing_sent, offer_sending, offers_sending, step_sending, sendings_from, SendsInOrder}
 use Rattle.amqp_types.proofs.Small.{if_case, if_by, if-true, and-left, all-push}
 use Rattle.amqp_engine.proofs.Settling.{settle-talk}
-use Rattle.amqp_session.proofs.Keeping.{present-keeps, starve-ends, left_after}
+use Rattle.amqp_session.proofs.Keeping.{present-keeps, starve-ends}
+use Rattle.amqp_session.proofs.Sending.{left_after}
+use Rattle.amqp_session.proofs.Lacking.{asked-open}
 use Rattle.amqp_engine.proofs.Commits.{commits-keep}
 use Rattle.amqp_engine.proofs.Over.{ended-closed}
 use Rattle.amqp_engine.proofs.Sent.{on_last-append}
 use Rattle.amqp_engine.proofs.Agreeing.{Agrees, AgreesOn, agrees-none, agrees-order, agrees-offer}
-use Rattle.amqp_engine.proofs.LinkKept.{Leaves, asked-open, leaves-step, leaves-read, written}
+use Rattle.amqp_engine.proofs.LinkKept.{Leaves, leaves-step, leaves-read, written}
 use Rattle.amqp_engine.proofs.Lifting as lifting
 
 -- ---- lists

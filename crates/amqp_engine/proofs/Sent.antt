@@ -11,7 +11,7 @@ use Rattle.amqp_session.specs.declared.committed.Mark.{Mark}
 use Rattle.amqp_engine.specs.Log.{last_set, on_last}
 use Rattle.amqp_engine.specs.Sending.{encodings, sent_in, IsBegun}
 use Rattle.amqp_types.proofs.Small.{if-true, if-false, if-both}
-use Rattle.amqp_session.proofs.Keeping.{left_after}
+use Rattle.amqp_session.proofs.Sending.{left_after}
 use Rattle.amqp_engine.proofs.Commits.{encoding-some}
 
 -- ---- the last of a list

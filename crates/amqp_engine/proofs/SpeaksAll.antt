@@ -1,25 +1,17 @@
 -- All that waits and fits is committed, and said to the server.
-use Rattle.std.proofs.Common.{◌≡◌, ℕ, zero, suc, ◌-◌, nat_le, if◌then◌else◌, Bool, true, false, length, Option, Some, None, refl, sym, subst}
+use Rattle.std.proofs.Common.{◌≡◌, ℕ, zero, suc, ◌-◌, length, Option, Some, None, refl, sym, subst}
 use Rattle.std.specs.Prelude.{option_to_list}
 use Rattle.amqp_outbox.specs.declared.item.Item.{Item}
-use Rattle.amqp_session.specs.Writing.{next_out, fitting, frames_waiting}
+use Rattle.amqp_session.specs.Writing.{next_out, frames_waiting}
 use Rattle.amqp_session.specs.Writing.{committed_as as committed_in_session}
 use Rattle.amqp_faultless.specs.Faultless.{Server, said_to}
-use Rattle.amqp_outbox.specs.Items.{size_of}
 use Rattle.amqp_faultless.proofs.Greeted.{IsMet}
 use Rattle.amqp_faultless.proofs.Speaks.{met-commit, said_all, said_all-append}
 use Rattle.amqp_engine.specs.Engine.{Engine, fitting_next, committed_with_bytes, commit_one, commits, commit_all}
 use Rattle.amqp_engine.specs.Sending.{committed_in, committed_before}
+use Rattle.amqp_session.proofs.Finishing.{fitting-some}
 
 -- ---- all that fits is committed
-
--- what is committed fits
-pub fitting-next : (space : ℕ) (x : Option Item) (i : Item) → fitting space x ≡ Some i → x ≡ Some i
-fitting-next space None i h = absurd cc
-fitting-next space (Some j) i h = by (nat_le (size_of j) space) h where
-  by : (b : Bool) → (if b then Some j else None) ≡ Some i → Some j ≡ Some i
-  by true h = h
-  by false h = absurd cc
 
 met-commit-one : (e : Engine) (s : Server) → IsMet s e.talk → IsMet (said_all (option_to_list (fitting_next e)) s) (commit_one e).talk
 met-commit-one e s m = by (fitting_next e) refl where
@@ -27,7 +19,7 @@ met-commit-one e s m = by (fitting_next e) refl where
   by None is = m
   by (Some i) is =
       let P : Option Item → Type 0 = λ x. IsMet (said_to i.frame s) (committed_in_session x e.talk) in
-      subst P (sym is) (met-commit s e.talk i (fitting-next (e.talk.capacity - length e.unsent) (next_out e.talk) i is) m)
+      subst P (sym is) (met-commit s e.talk i (fitting-some (e.talk.capacity - length e.unsent) (next_out e.talk) i is) m)
 
 pub met-commits : (n : ℕ) (e : Engine) (s : Server) → IsMet s e.talk → IsMet (said_all (committed_in n e) s) (commits n e).talk
 met-commits zero e s m = m

@@ -21,8 +21,9 @@ use Rattle.amqp_engine.specs.Engine.{Engine, fitting_next, committed_with_bytes,
 use Rattle.amqp_engine.specs.Sending.{frames, committed_in, committed_before}
 use Rattle.amqp_engine.specs.Valid.{agreed_heartbeat, agreed_frame_max}
 use Rattle.amqp_engine.proofs.Settling.{settle-talk}
-use Rattle.amqp_engine.proofs.SpeaksAll.{met-commits, met-commit-all, fitting-next}
+use Rattle.amqp_engine.proofs.SpeaksAll.{met-commits, met-commit-all}
 use Rattle.amqp_engine.proofs.Goes.{sound-goes, sound-commit-all}
+use Rattle.amqp_session.proofs.Finishing.{fitting-some}
 
 -- ---- the numbers that are agreed
 
@@ -49,7 +50,7 @@ tuned-commit-one fs s e m h = by (fitting_next e) refl where
   by None is = let P : List Frame → Type 0 = λ x. Tuned x s e.talk in subst P (sym (append-nil fs)) h
   by (Some i) is =
       let P : Option Item → Type 0 = λ x. Tuned (fs ++ i.frame ∷ []) (said_to i.frame s) (committed_in_session x e.talk) in
-      subst P (sym is) (tuned-commit fs s e.talk i (fitting-next (e.talk.capacity - length e.unsent) (next_out e.talk) i is) m h)
+      subst P (sym is) (tuned-commit fs s e.talk i (fitting-some (e.talk.capacity - length e.unsent) (next_out e.talk) i is) m h)
 
 met-one : (s : Server) (e : Engine) → IsMet s e.talk → IsMet (said_all (option_to_list (fitting_next e)) s) (commit_one e).talk
 met-one s e m =

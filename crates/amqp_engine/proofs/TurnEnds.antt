@@ -37,7 +37,8 @@ use Rattle.amqp_engine.specs.Causes.{is_final, FailsToWrite, IsReadError, Misrea
 use Rattle.amqp_session.specs.Sound.{is_finish}
 use Rattle.amqp_session.proofs.Heard.{secret-case}
 use Rattle.amqp_types.proofs.Small.{if_case, if_by, if-true, if-false, and-false, and-true, none-from, and-left, or-right}
-use Rattle.amqp_session.proofs.Keeping.{present-keeps, kept-open, pay-keeps, off-finish, follow-link, stays-command}
+use Rattle.amqp_session.proofs.Keeping.{present-keeps, kept-open, off-finish, stays-command}
+use Rattle.amqp_session.proofs.Sending.{pay-keeps, follow-link}
 use Rattle.amqp_session.proofs.Recovering.{lose-case}
 use Rattle.amqp_engine.proofs.Commits.{commits-keep}
 use Rattle.amqp_session.proofs.Ends.{Ends, ends-kept, ends-fail, ends-unrecovered, ends-close, ends-as, ends-then, ends-present, ends-moment}
@@ -314,7 +315,7 @@ ends-took P at n x f =
     ends-settled P x.talk after
     (ends-present P at x.talk (taken n t) (ends-as (SentError (sends_close_ok n t.committed) t) P t (taken n t) f (ends-taken n t)))
 
-taken-none : (t : Talk) → taken 0 t ≡ t
+pub taken-none : (t : Talk) → taken 0 t ≡ t
 taken-none t = if-false (is_open t && not (0 == 0)) (sent_among t.committed 0 (record t { last_write = t.present })) t (and-false (is_open t) (not (0 == 0)) refl)
 
 ends-wrote : (at : ℕ) (w : Wrote) (x : Engine) → Ends (WroteError w x) x.talk (wrote at w x).talk
@@ -415,40 +416,40 @@ ends-drained (w ∷ ws) p =
 
 -- ---- a turn
 
--- what is read brings no fault, no want of memory and no want of turns
+-- what is read brings no fault, refuses no memory and takes no turn more
 pub not-a-fault : (fault : IoFault) (r : Read) (answers : List Asked) (x : Engine) → IsReadError (IOError fault) r answers x → ⊥
 not-a-fault fault (reading.Whole f n) answers x h = h.1.1
-not-a-fault fault (reading.TooLarge size) answers x h = cc
-not-a-fault fault (reading.BadHeartbeat channel) answers x h = cc
-not-a-fault fault reading.Bad answers x h = cc
+not-a-fault fault (reading.TooLarge size) answers x h = let clash = h.1 in cc
+not-a-fault fault (reading.BadHeartbeat channel) answers x h = let clash = h.1 in cc
+not-a-fault fault reading.Bad answers x h = let clash = h.1 in cc
 not-a-fault fault _ answers x h = h
 
 not-memory : (r : Read) (answers : List Asked) (x : Engine) → IsReadError NoMemory r answers x → ⊥
 not-memory (reading.Whole f n) answers x h = h.1.1
-not-memory (reading.TooLarge size) answers x h = cc
-not-memory (reading.BadHeartbeat channel) answers x h = cc
-not-memory reading.Bad answers x h = cc
+not-memory (reading.TooLarge size) answers x h = let clash = h.1 in cc
+not-memory (reading.BadHeartbeat channel) answers x h = let clash = h.1 in cc
+not-memory reading.Bad answers x h = let clash = h.1 in cc
 not-memory _ answers x h = h
 
 not-silence : (r : Read) (answers : List Asked) (x : Engine) → IsReadError MissingHeartbeatError r answers x → ⊥
 not-silence (reading.Whole f n) answers x h = h.1.1
-not-silence (reading.TooLarge size) answers x h = cc
-not-silence (reading.BadHeartbeat channel) answers x h = cc
-not-silence reading.Bad answers x h = cc
+not-silence (reading.TooLarge size) answers x h = let clash = h.1 in cc
+not-silence (reading.BadHeartbeat channel) answers x h = let clash = h.1 in cc
+not-silence reading.Bad answers x h = let clash = h.1 in cc
 not-silence _ answers x h = h
 
 not-overlong : (size : ℕ) (r : Read) (answers : List Asked) (x : Engine) → IsReadError (SerialisationError size) r answers x → ⊥
 not-overlong size (reading.Whole f n) answers x h = h.1.1
-not-overlong size (reading.TooLarge n) answers x h = cc
-not-overlong size (reading.BadHeartbeat channel) answers x h = cc
-not-overlong size reading.Bad answers x h = cc
+not-overlong size (reading.TooLarge n) answers x h = let clash = h.1 in cc
+not-overlong size (reading.BadHeartbeat channel) answers x h = let clash = h.1 in cc
+not-overlong size reading.Bad answers x h = let clash = h.1 in cc
 not-overlong size _ answers x h = h
 
 pub not-turns : (r : Read) (answers : List Asked) (x : Engine) → IsReadError OutOfTurns r answers x → ⊥
 not-turns (reading.Whole f n) answers x h = h.1.1
-not-turns (reading.TooLarge size) answers x h = cc
-not-turns (reading.BadHeartbeat channel) answers x h = cc
-not-turns reading.Bad answers x h = cc
+not-turns (reading.TooLarge size) answers x h = let clash = h.1 in cc
+not-turns (reading.BadHeartbeat channel) answers x h = let clash = h.1 in cc
+not-turns reading.Bad answers x h = let clash = h.1 in cc
 not-turns _ answers x h = h
 
 early-cause : (u : Turn) (x : Engine) (k : ErrorKind) → EarlyError u x k → IsCause k u x
@@ -520,9 +521,9 @@ applied-ends u e k running h = elim ((ends-applied u e).by k h) [ inl before ↦
 -- no session ends since no number was free
 limit-not : (r : Read) (answers : List Asked) (x : Engine) → IsReadError ChannelsLimitReached r answers x → ⊥
 limit-not (reading.Whole f n) answers x h = h.1.1
-limit-not (reading.TooLarge size) answers x h = cc
-limit-not (reading.BadHeartbeat channel) answers x h = cc
-limit-not reading.Bad answers x h = cc
+limit-not (reading.TooLarge size) answers x h = let clash = h.1 in cc
+limit-not (reading.BadHeartbeat channel) answers x h = let clash = h.1 in cc
+limit-not reading.Bad answers x h = let clash = h.1 in cc
 limit-not _ answers x h = h
 
 pub never-limit : (u : Turn) (e : Engine) → has_ended e.talk ≡ false → end_of (applied u e).talk ≡ Some (Err ChannelsLimitReached) → ⊥

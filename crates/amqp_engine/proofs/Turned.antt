@@ -8,7 +8,7 @@ use Rattle.amqp_session.specs.Config.{Options}
 use Rattle.amqp_session.specs.Sound.{IsSound}
 use Rattle.amqp_session.specs.Talk.{Talk}
 use Rattle.amqp_session.specs.Changes.{present_at}
-use Rattle.amqp_session.specs.Writing.{frames_waiting, taken}
+use Rattle.amqp_session.specs.Writing.{taken}
 use Rattle.amqp_faultless.specs.Faultless.{Server, said_to}
 use Rattle.amqp_faultless.proofs.Greeted.{IsMet}
 use Rattle.amqp_faultless.proofs.Speaks.{said-keeps, said_all}
@@ -24,7 +24,6 @@ use Rattle.amqp_engine.specs.Turn.{Progress, write_answers, asks, read, drained}
 use Rattle.amqp_engine.specs.Tell.{log_stepped}
 use Rattle.amqp_engine.specs.Sending.{Sending, committed_before, frames, offer_sending}
 use Rattle.amqp_engine.specs.Play.{offers_waiting, played_writes, told_turn, played_turn_of}
-use Rattle.amqp_engine.proofs.Commits.{commits-keep}
 use Rattle.amqp_engine.proofs.FirstAnswers.{with_answers, read_with, read-first}
 use Rattle.amqp_engine.proofs.Playing.{played-any, whole-played}
 use Rattle.amqp_engine.proofs.Settling.{settle-talk}
@@ -36,6 +35,7 @@ use Rattle.amqp_engine.proofs.Voicing.{IsClear}
 use Rattle.amqp_engine.proofs.Drained.{Drained, drained-all}
 use Rattle.amqp_engine.proofs.Clocks.{clock-offer}
 use Rattle.amqp_engine.proofs.TunedWrites.{tuned-offer}
+use Rattle.amqp_engine.proofs.CameRead.{commit-unread}
 
 -- ---- the notes of a turn that is played
 
@@ -77,15 +77,12 @@ module _ (options : Options) (moment last : ℕ) (unread : List ℕ) where
   pub writes-fit : (s : Server) (x : Sending) (e : Engine) → Writes s x e → overlong_next e ≡ None
   writes-fit s x e h = modest-fits options e h.0
 
-  commits-unread : (e : Engine) → (commit_all e).unread ≡ e.unread
-  commits-unread e = commits-keep (λ (x : Engine). x.unread) (λ e q ms bytes. refl) (frames_waiting e.talk) e
-
   took-unread : (at k : ℕ) (s : Server) (e : Engine) → IsMet s (took at k (commit_all e)).talk → (took at k (commit_all e)).unread ≡ e.unread
   took-unread at k s e m =
       let x : Engine = commit_all e in
       let z : Engine = record x { talk = taken k (present_at at x.talk); unsent = drop k x.unsent } in
       let M : Talk → Type 0 = IsMet s in
-      met-unread s z (subst M (settle-talk z) m) ∙ commits-unread e
+      met-unread s z (subst M (settle-talk z) m) ∙ commit-unread e
 
   pub writes-kept : (at k : ℕ) (s : Server) (x : Sending) (e : Engine) → at ≤ moment → IsSound e.talk → IsMet s e.talk → Writes s x e
       → Writes (said_all (committed_before e) s) (offer_sending (Took k) e x) (took at k (commit_all e))

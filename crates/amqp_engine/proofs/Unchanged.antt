@@ -21,8 +21,9 @@ use Rattle.amqp_session.specs.Frames.{on_frame}
 use Rattle.amqp_session.specs.Ticks.{tick}
 use Rattle.amqp_session.specs.Commands.{command}
 use Rattle.amqp_session.specs.Writing.{frames_waiting, taken, end_overlong}
-use Rattle.amqp_session.proofs.Keeping.{OverlooksLosses, Overlooks, overlooks-ends, present-keeps, loss-keeps, lost-keeps, failed-keeps, taken-keeps, tick-keeps}
-use Rattle.amqp_session.proofs.Walk.{ChannelRows, PassedRows, ConnectionRows, CommandRows, misread-keeps, start-keeps, secure-keeps, frame-keeps, command-keeps}
+use Rattle.amqp_session.proofs.Keeping.{OverlooksLosses, Overlooks, overlooks-ends, present-keeps, loss-keeps, lost-keeps, failed-keeps, tick-keeps, stays-command}
+use Rattle.amqp_session.proofs.Sending.{taken-keeps}
+use Rattle.amqp_session.proofs.Walk.{ChannelRows, PassedRows, ConnectionRows, misread-keeps, start-keeps, secure-keeps, frame-keeps}
 use Rattle.amqp_engine.specs.declared.port.Step.{Step}
 use Rattle.amqp_engine.specs.declared.port.Step.TheVariants.{Linked, LinkFailed, Piece, End, Fault, Room, Tick, Command}
 use Rattle.amqp_engine.specs.declared.port.Wrote.{Wrote}
@@ -92,26 +93,11 @@ module _ (c : Config) where
         answers_close = λ promise t h. h;
       }
 
-  commands : CommandRows Same
-  commands =
-      record {
-        refuses = λ e t h. h;
-        promises = λ t h. h;
-        opens = λ n t h. h;
-        opens_none = λ first t h. h;
-        leaves_channel = λ n code text d answers t h. h;
-        sends = λ n m t h. h;
-        publishes = λ n m properties body t h. h;
-        flows = λ n active t h. h;
-        tells_secret = λ secret reason t h. h;
-        listens = λ t h. h;
-      }
-
   same-frame : (f : Frame) (answers : List ProviderAnswer) (t : Talk) → Same t → Same (on_frame f answers t)
   same-frame f answers t h = frame-keeps Same answers channels (connection answers) passed f t h
 
   same-command : (d : Cmd) (t : Talk) → Same t → Same (command d t)
-  same-command d t h = command-keeps Same commands (λ code text answers t h. h) d t h
+  same-command d t h = (stays-command d t).config ∙ h
 
   same-misread : (why : Misread) (t : Talk) → Same t → Same (misread why t)
   same-misread why t h = misread-keeps Same same-lose (λ t h. h) why t h

@@ -6,7 +6,6 @@ use Rattle.amqp_frame.specs.declared.frame.Frame.{Frame}
 use Rattle.amqp_frame.specs.declared.frame.Read.{Read}
 use Rattle.amqp_frame.specs.declared.frame.Read.TheVariants.{Whole, More, TooLarge, BadHeartbeat, Bad, NoMemory as ReadNoMemory}
 use Rattle.amqp_outbox.specs.declared.item.Item.{Item}
-use Rattle.amqp_outbox.specs.Items.{size_of}
 use Rattle.amqp_promise.specs.declared.io_fault.IoFault.{IoFault}
 use Rattle.amqp_promise.specs.declared.io_fault.IoFault.TheVariants.{Aborted, Reset, BrokenPipe}
 use Rattle.amqp_promise.specs.declared.error.ErrorKind.{ErrorKind}
@@ -24,12 +23,13 @@ use Rattle.amqp_session.specs.Links.{asked, linked, link_failed, piece, lost, mi
 use Rattle.amqp_session.specs.Frames.{on_frame}
 use Rattle.amqp_session.specs.Ticks.{tick}
 use Rattle.amqp_session.specs.Sound.{IsSound}
-use Rattle.amqp_session.specs.Writing.{frames_waiting, next_out, fitting, mark_of, taken, end_overlong}
-use Rattle.amqp_types.proofs.Small.{if_case, if_by, if-true, if-false, and-false, and-left, and-right}
+use Rattle.amqp_session.specs.Writing.{frames_waiting, next_out, mark_of, taken, end_overlong}
+use Rattle.amqp_types.proofs.Small.{if_case, if_by, if-true, if-false, and-left, and-right}
 use Rattle.amqp_session.proofs.SoundChanges.{sound-present, sound-starve, sound-lose}
 use Rattle.amqp_session.proofs.SoundFrames.{sound-frame}
 use Rattle.amqp_session.proofs.Soundness.{sound-commit, sound-taken, sound-asked, sound-link_failed, sound-piece, sound-lost, sound-misread, sound-tick}
 use Rattle.amqp_session.proofs.Keeping.{present-keeps, kept-open, failed-link, failed-keeps, lost-off, keeps-misread, keeps-frame, keeps-tick, off-lost, starve-ends}
+use Rattle.amqp_session.proofs.Lacking.{asked-open}
 use Rattle.amqp_carried_rules.proofs.Bearing.{Reading, IsAt}
 use Rattle.amqp_carried_rules.proofs.Bearers.{at-moment, at-asked, at-failed, at-piece, at-lost, at-misread, at-frame, at-tick, at-starve, at-lose}
 use Rattle.amqp_carried_rules.proofs.Leaving.{at-commit}
@@ -54,10 +54,11 @@ use Rattle.amqp_engine.proofs.Over.{ended-closed}
 use Rattle.amqp_engine.proofs.Overlong.{closed-overlong}
 use Rattle.amqp_session.specs.Talk.{has_ended}
 use Rattle.amqp_carried_rules.specs.CommandFrames.{is_raw}
-use Rattle.amqp_engine.proofs.LinkKept.{asked-open}
 use Rattle.amqp_engine.proofs.Sent.{on_last-append}
 use Rattle.amqp_engine.proofs.Passing.{AreMarks, sound-last, AreSentOn, taken-on}
 use Rattle.amqp_engine.proofs.Conveying.{raws, Carries, carries-rule, carries-command, carries-linked, carries-unlinked}
+use Rattle.amqp_session.proofs.Finishing.{fitting-some}
+use Rattle.amqp_engine.proofs.TurnEnds.{taken-none}
 
 module _ (answers_taken : ℕ → Option (Result Answer ErrorKind)) (given : ℕ → List Handed) where
   abbrev Holds : List Cmd → Talk → List Sending → Type 0
@@ -225,14 +226,6 @@ module _ (answers_taken : ℕ → Option (Result Answer ErrorKind)) (given : ℕ
   marks-snoc [] (i ∷ is) item h = absurd h
   marks-snoc (m ∷ ms) [] item h = absurd h
 
-  fit : (b : Bool) (i item : Item) → (if b then Some i else None) ≡ Some item → Some i ≡ Some item
-  fit true i item h = h
-  fit false i item h = absurd cc
-
-  fitting-some : (space : ℕ) (o : Option Item) (item : Item) → fitting space o ≡ Some item → o ≡ Some item
-  fitting-some space None item h = absurd cc
-  fitting-some space (Some i) item h = fit (nat_le (size_of i) space) i item h
-
   -- frames were committed
   record AreCommitted (cs : List Cmd) (answered_sent : ℕ → Bool) (r : Reading) (left : List Item) (t : Talk) : Type 0 where
     at : IsAt cs answered_sent r left t
@@ -351,9 +344,6 @@ module _ (answers_taken : ℕ → Option (Result Answer ErrorKind)) (given : ℕ
             record { fronts = l.fronts; sending = s'; done = done; all = all; committed = committed; count = number; fronts_raw = l.fronts_raw; raw = raw; marks = a.marks o };
         links = inl links;
       }
-
-  taken-none : (t : Talk) → taken 0 t ≡ t
-  taken-none t = if-false (is_open t && false) _ t (and-false (is_open t) false refl)
 
   -- an offer is answered
   carries-answered : (at : ℕ) (w : Wrote) (e : Engine) (cs : List Cmd) (ss : List Sending) → is_open e.talk ≡ true → Holds cs e.talk ss → Holds cs (answered at w e).talk (on_last (offer_sending w e) ss)

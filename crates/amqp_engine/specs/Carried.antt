@@ -1,11 +1,10 @@
 -- No send and no publish is torn, swapped or sent twice: what a client was told to send is what went out, and what was
 -- handed out came. It is said of what can be seen, and shares nothing with the rules of the session.
-use Rattle.std.specs.Prelude.{◌≡◌, ◌≢◌, ◌⊎◌, ◌<◌, ◌≤◌, ℕ, suc, ◌&&◌, Bool, true, false, List, [], ◌∷◌, ◌++◌, map, filter, drop, slice_get, Option, Some, Result, Ok, Err}
+use Rattle.std.specs.Prelude.{◌≡◌, ◌≢◌, ◌⊎◌, ◌<◌, ◌≤◌, ℕ, suc, ◌&&◌, Bool, true, false, List, [], ◌∷◌, ◌++◌, map, filter, slice_get, Option, Some, Result, Ok, Err}
 use Rattle.std.specs.List.{flat_map, AllByRecursion}
 use Rattle.amqp_frame.specs.declared.frame.Frame.{Frame}
 use Rattle.amqp_frame.specs.declared.frame.Frame.TheVariants.{Raw}
-use Rattle.amqp_frame.specs.declared.frame.Read.TheVariants.{Whole}
-use Rattle.amqp_frame.specs.FrameReading.{front}
+use Rattle.amqp_frame.specs.Sequences.{Stand}
 use Rattle.amqp_promise.specs.declared.error.ErrorKind.{ErrorKind}
 use Rattle.amqp_promise.specs.declared.error.ErrorKind.TheVariants.{ChannelsLimitReached}
 use Rattle.amqp_session.specs.declared.command.Cmd.{Cmd}
@@ -126,16 +125,15 @@ pub record IsOpenedBy (a : Account) (opened : ℕ) (h : Handed) : Type 0 where
   pub answer : (answer : Answer) → a.answers opened ≡ Some (Ok answer) → answer ≡ says.Channel h.channel opened
   pub listed : a.answers opened ≢ Some (Err ChannelsLimitReached)
 
--- these frames stand first in octets, one after another, each whole by some limit of a frame
-abbrev pub StandFirst : List ℕ → List Frame → Type 0
-StandFirst octets [] = Unit {0}
-StandFirst octets (f ∷ fs) =
-    (limit : ℕ) × (n : ℕ) × (front octets limit ≡ Whole f n) × StandFirst (drop n octets) fs
+-- the greatest limit that a reader of frames can be given
+abbrev pub longest_frame : ℕ
+longest_frame = 4294967295
 
--- so in the octets of each link
+-- in the octets of each link these frames stand first, one after another
 abbrev pub StandOnLinks : List (List ℕ) → List (List Frame) → Type 0
 StandOnLinks [] [] = Unit {0}
-StandOnLinks (octets ∷ links) (fs ∷ read) = StandFirst octets fs × StandOnLinks links read
+StandOnLinks (octets ∷ links) (fs ∷ read) =
+    (place : ℕ) × Stand octets longest_frame 0 fs place × StandOnLinks links read
 StandOnLinks _ _ = ⊥
 
 -- frames that were handed out, with the promises that opened their channels, are some of those that stand in octets

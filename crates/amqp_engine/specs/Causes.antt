@@ -69,14 +69,14 @@ IsFaultOf fault u e = (brought u.step e.talk ≡ Some fault) ⊎ ((fault ≡ Bro
 
 -- ---- what is read
 
--- the link is lost by this error, by what stands at the front of the unread bytes, with what the provider answers to
--- what it asks: a frame, which acts only before the server's close; 501 for one that is too large, and for a heartbeat
--- on another channel than 0
+-- the link is lost by this error, by what stands at the front of the unread bytes, which acts only before the server's
+-- close, with what the provider answers to what it asks: a frame; 501 for one that is too large, and for a heartbeat on
+-- another channel than 0
 abbrev pub IsReadError : ErrorKind → Read → List Asked → Engine → Type 0
 IsReadError k (reading.Whole f n) answers x = IsTrue (is_acting x.talk.input) × IsFrameError k f answers x.talk
-IsReadError k (reading.TooLarge size) answers x = k ≡ frame_too_large size
-IsReadError k (reading.BadHeartbeat channel) answers x = k ≡ stray_heartbeat channel
-IsReadError k reading.Bad answers x = k ≡ ParsingError x.place
+IsReadError k (reading.TooLarge size) answers x = IsTrue (is_acting x.talk.input) × (k ≡ frame_too_large size)
+IsReadError k (reading.BadHeartbeat channel) answers x = IsTrue (is_acting x.talk.input) × (k ≡ stray_heartbeat channel)
+IsReadError k reading.Bad answers x = IsTrue (is_acting x.talk.input) × (k ≡ ParsingError x.place)
 IsReadError k _ answers x = ⊥
 
 -- a turn when so many frames of its piece were read

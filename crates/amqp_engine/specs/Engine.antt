@@ -191,7 +191,7 @@ wrote at Failed e = settle (rule_at at (lost BrokenPipe) e)
 wrote at (Took k) e = took at k e
 wrote at NoMemory e = took at 0 e
 
--- ---- want of memory
+-- ---- where memory was refused
 
 -- memory was refused when so many parts of the turn were done, and the session ends
 abbrev pub starve_at : ℕ → ℕ → Engine → Engine

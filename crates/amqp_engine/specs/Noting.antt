@@ -9,7 +9,8 @@ use Rattle.amqp_engine.specs.Turn.{Notes}
 abbrev pub notes_in : Noted → Notes
 notes_in n = record { tooks = n.tooks.numbers; failed = n.failed; auths = n.auths.list; starved = n.starved }
 
--- what the answer to a write adds to the numbers of bytes that were taken: a port that finds no memory takes nothing
+-- what the answer to a write adds to the numbers of bytes that were taken: a port to which memory was refused takes
+-- nothing
 abbrev pub took_by : Wrote → List ℕ
 took_by (Took k) = k ∷ []
 took_by Failed = []

@@ -35,7 +35,8 @@ played_answer e a = if fails_of a.plan then Failed else Took (room_of a.plan (le
 abbrev pub offers_waiting : Engine → ℕ
 offers_waiting e = frames_waiting e.talk + min 1 (length e.unsent)
 
--- the answer to a write is noted, before what is noted of those that follow; a port that finds no memory takes nothing
+-- the answer to a write is noted, before what is noted of those that follow; a port to which memory was refused takes
+-- nothing
 abbrev pub answer_noted : Wrote → Notes → Notes
 answer_noted (Took k) n = record n { tooks = k ∷ n.tooks }
 answer_noted Failed n = record n { failed = true }

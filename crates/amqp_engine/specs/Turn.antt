@@ -192,7 +192,7 @@ abbrev pub starved_after : Option ℕ → ℕ → Engine → Engine
 starved_after None at e = e
 starved_after (Some j) at e = starve_at at j e
 
--- a turn from its step on; where it was cut, a session that had not ended before ends for want of memory
+-- a turn from its step on; where it was cut, a session that had not ended before ends, since memory was refused
 abbrev pub applied : Turn → Engine → Engine
 applied u e =
     let after = (after_writes u e).engine in

@@ -1,6 +1,6 @@
 //! The loop of an engine over a port.
 
-ghost use Rattle.std.specs.Prelude.{◌≡◌, ◌≤◌, ◌<◌, ◌⊎◌, ℕ, Some, None, Err, List, true, false, IfOk, IfErr, IfSome, IsOk, OnOk, OnErr, MatchResult, IsSome, IsTrue, length, option_map};
+ghost use Rattle.std.specs.Prelude.{◌≡◌, ◌≤◌, ◌<◌, ◌⊎◌, ℕ, Some, None, Err, List, true, false, IfOk, IfErr, IfSome, IsOk, OnOk, OnErr, MatchResult, IsSome, IsTrue, is_some, is_err, length, option_map};
 ghost use Rattle.amqp_ring.specs.Ring.{capacity};
 ghost use Rattle.amqp_types.specs.declared.text.Text.{Text};
 ghost use Rattle.amqp_promise.specs.declared.io_fault.IoFault.{IoFault};
@@ -256,6 +256,7 @@ impl IoLoop {
             (P.log port.new) (A.allows provider.old) (A.allows provider.new) }
         ensures starved { MatchResult result (λ _. self.new.starved ≡ self.old.starved)
             (λ _. has_ended self.old.talk ≡ false → IsSome self.new.starved) }
+        ensures noted { is_some notes.new.starved ≡ is_err result }
         ensures ended { OnErr result (IsTrue (has_ended self.new.talk)) }
         ensures over { OnErr result (has_ended self.old.talk ≡ true → self.new ≡ self.old) }
         ensures only { IfErr result (λ e. e ≡ ErrorKind.NoMemory) }

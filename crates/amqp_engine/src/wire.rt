@@ -7,7 +7,7 @@
 mod reading;
 mod writing;
 
-ghost use Rattle.std.specs.Prelude.{◌≡◌, ◌≤◌, not, ◌<◌, Option, Some, true, false, IfOk, IfErr, IsOk, OnOk, OnErr, MatchResult, IsSome, IsTrue, option_map, length};
+ghost use Rattle.std.specs.Prelude.{◌≡◌, ◌≤◌, not, ◌<◌, Option, Some, true, false, IfOk, IfErr, IsOk, OnOk, OnErr, MatchResult, IsSome, IsTrue, is_some, is_err, option_map, length};
 ghost use Rattle.std.specs.List.{AllByRecursion};
 ghost use Rattle.amqp_types.specs.Forms.{IsOctets};
 ghost use Rattle.amqp_written_rules.specs.Sayable.{CanBeAnswered};
@@ -217,6 +217,7 @@ impl Wire {
         ensures answered { AllByRecursion CanBeAnswered (notes_in noted.new).auths }
         ensures starved { MatchResult result (λ _. self.new.starved ≡ self.old.starved)
             (λ _. has_ended self.old.talk ≡ false → IsSome self.new.starved) }
+        ensures noted { is_some (notes_in noted.new).starved ≡ is_err result }
         ensures ended { OnErr result (IsTrue (has_ended self.new.talk)) }
         ensures over { OnErr result (has_ended self.old.talk ≡ true → self.new ≡ self.old) }
         ensures faults { P.faults port.old ≤ P.faults port.new }
@@ -248,6 +249,7 @@ impl Wire {
             (A.allows provider.old) (A.allows provider.new) }
         ensures starved { MatchResult result (λ _. self.new.starved ≡ self.old.starved)
             (λ _. has_ended self.old.talk ≡ false → IsSome self.new.starved) }
+        ensures noted { is_some (notes_in noted.new).starved ≡ is_err result }
         ensures ended { OnErr result (IsTrue (has_ended self.new.talk)) }
         ensures over { OnErr result (has_ended self.old.talk ≡ true → self.new ≡ self.old) }
         ensures faults { P.faults port.old ≤ P.faults port.new }

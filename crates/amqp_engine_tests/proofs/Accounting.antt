@@ -7,6 +7,7 @@ use Rattle.amqp_frame.specs.declared.frame.Frame.{Frame}
 use Rattle.amqp_frame.specs.declared.frame.Frame.TheVariants.{Heartbeat, Raw}
 use Rattle.amqp_frame.specs.declared.frame.RawKind.TheVariants.{Body}
 use Rattle.amqp_frame.specs.declared.frame.Read.TheVariants.{Whole, More, TooLarge}
+use Rattle.amqp_frame.specs.Sequences.{Stand}
 use Rattle.amqp_frame.specs.FrameReading.{front, framed, sized, ended, content as content_in, method_payload}
 use Rattle.amqp_session.specs.declared.command.Cmd.{Cmd}
 use Rattle.amqp_session.specs.declared.command.Cmd.TheVariants.{OpenChannel, Send}
@@ -17,8 +18,8 @@ use Rattle.amqp_carried_rules.specs.CommandFrames.{AreFramesOf, AreContentFrames
 use Rattle.amqp_carried_rules.specs.HandingOut.{handed_on}
 use Rattle.std.proofs.lemmas.Bool.{cases_eq}
 use Rattle.amqp_types.proofs.Small.{if_case, other-number, the-number}
-use Rattle.amqp_engine.specs.Carried.{Account, answered_sent, Carried, WentOut, IsOpenedBy, IsParted, IsTorn, AreCut, AreSent, Merges, IsSubsequence, concatenated, raw_frames, frame_of, StandFirst, StandOnLinks}
-use Rattle.amqp_engine_tests.specs.Accounts.{one, no_properties, publish, sent_by, qos, get, basic_publish, body, said, header, content, delivery, by_promise, all_sent, cut_off, torn_and_sent, swapped, twice, on_two_links, torn_over_links, other_body, made_up, not_whole, opened_by_none, by_another, by_an_earlier, by_a_refused, of_two_channels, heartbeat_octets, qos_octets, body_octets, body_begun}
+use Rattle.amqp_engine.specs.Carried.{Account, answered_sent, Carried, WentOut, IsOpenedBy, IsParted, IsTorn, AreCut, AreSent, Merges, IsSubsequence, concatenated, raw_frames, frame_of, longest_frame, StandOnLinks}
+use Rattle.amqp_engine_tests.specs.Accounts.{one, no_properties, publish, sent_by, qos, get, basic_publish, body, said, head, header, content, delivery, by_promise, all_sent, cut_off, torn_and_sent, swapped, twice, on_two_links, torn_over_links, other_body, made_up, not_whole, opened_by_none, by_another, by_an_earlier, by_a_refused, of_two_channels, heartbeat_octets, qos_octets, body_octets, body_begun}
 
 -- what was handed out by a promise, and by no other
 by-none : (opened number : ℕ) → ((opened ≡ number) → ⊥) → by_promise number opened ≡ []
@@ -47,9 +48,9 @@ opened-one number =
     its_answer x is = (let same : says.Channel 1 1 ≡ x = cc in sym same)
 
 -- the frames of what came, and the octets of a frame that is not whole
-all-stand : StandFirst (heartbeat_octets ++ qos_octets ++ body_octets ++ body_begun) (Heartbeat ∷ said qos ∷ Raw 1 Body body ∷ [])
+all-stand : Stand (heartbeat_octets ++ qos_octets ++ body_octets ++ body_begun) longest_frame 0 (Heartbeat ∷ said qos ∷ Raw 1 Body body ∷ []) 38
 unfolding front framed sized ended content_in method_payload
-all-stand = (4096, 8, refl, (4096, 19, refl, (4096, 11, refl, tt)))
+all-stand = (8, refl, (19, refl, (11, refl, refl)))
 
 -- only the first command opens a channel, and nothing had come before it
 all-parted : (before channel : ℕ) → slice_get all_sent.commands before ≡ Some OpenChannel → all_sent.answers (suc before) ≡ Some (Ok (says.Channel channel (suc before)))
@@ -80,7 +81,7 @@ all-sent-carried =
             are_sends = AreSent.other refl (AreSent.sent refl refl (AreSent.other refl (AreSent.sent refl refl AreSent.none)));
             are_publishes =
                 AreSent.other refl (AreSent.other refl (AreSent.sent refl
-                (record { pieces = (1 ∷ 2 ∷ []) ∷ (3 ∷ []) ∷ []; not_empty = (omega arith, (omega arith, tt)); joined = refl; frames = refl })
+                (record { head = head; class = refl; weight = refl; size = refl; behind = refl; pieces = (1 ∷ 2 ∷ []) ∷ (3 ∷ []) ∷ []; not_empty = (omega arith, (omega arith, tt)); joined = refl; frames = refl })
                 (AreSent.other refl AreSent.none)));
             in_turns = Merges.left (Merges.right (Merges.left Merges.none));
           };
@@ -91,7 +92,7 @@ all-sent-carried =
             came =
                 record {
                   read = (Heartbeat ∷ said qos ∷ Raw 1 Body body ∷ []) ∷ [];
-                  stand = (all-stand, tt);
+                  stand = (38, all-stand, tt);
                   order = IsSubsequence.left_out (IsSubsequence.kept IsSubsequence.none);
                 };
             opened = opened-one;
@@ -318,8 +319,8 @@ not-whole-not-carried c =
     none-read : (read : List (List Frame)) → StandOnLinks (body_begun ∷ []) read → IsSubsequence (map (λ h. frame_of h.1) c.came_in.handed) (raw_frames (concatenated read)) → ⊥
     none-read [] stand order = absurd stand
     none-read ([] ∷ []) stand order = none-handed c.came_in.handed (c.came_in.each 1) order
-    none-read ((f ∷ fs) ∷ []) stand order = begun-only stand.0.0 stand.0.1 f stand.0.2
-    none-read (fs ∷ gs ∷ read) stand order = absurd stand.1
+    none-read ((f ∷ fs) ∷ []) stand order = begun-only longest_frame stand.1.0 f stand.1.1
+    none-read (fs ∷ gs ∷ read) stand order = absurd stand.2
 
 -- a frame is handed out by the promise that opened its channel
 pub by-none-not-carried : Carried opened_by_none → ⊥
@@ -386,7 +387,7 @@ cut-off-carried =
                       unanswered = refl;
                       rest = Raw 1 Body body ∷ [];
                       proper = λ none. cc;
-                      frames = record { pieces = body ∷ []; not_empty = (omega arith, tt); joined = refl; frames = refl };
+                      frames = record { head = head; class = refl; weight = refl; size = refl; behind = refl; pieces = body ∷ []; not_empty = (omega arith, tt); joined = refl; frames = refl };
                     });
               },
               (record { part = []; frames = refl; torn = inl refl }, tt),

@@ -1,5 +1,5 @@
 -- Which scripts are those of a faultless server.
-use Rattle.std.proofs.Common.{◌≡◌, ◌≢◌, ◌≤◌, ℕ, zero, suc, ◌-◌, ◌*◌, ◌==◌, ◌&&◌, ◌||◌, not, nat_le, Bool, true, false, true≢false, List, [], ◌∷◌, ◌++◌, append_assoc, append-nil, take, Option, Some, None, refl, ap, sym, ◌∙◌, subst, arith}
+use Rattle.std.proofs.Common.{◌≡◌, ◌≢◌, ◌≤◌, ℕ, zero, suc, ◌-◌, ◌*◌, ◌==◌, ◌&&◌, ◌||◌, not, nat_le, Bool, true, false, true≢false, List, [], ◌∷◌, ◌++◌, append_assoc, append-nil, length, take, Option, Some, None, refl, ap, sym, ◌∙◌, subst, arith}
 use Rattle.std.proofs.lemmas.Bool.Decides.{nat_tests}
 use Rattle.std.specs.List.{flat_map, AllByRecursion}
 use Rattle.amqp_types.specs.Reading.{short_string_at, long_string_at, scalar_at, row_at, pair_with, table_with, value_at, table_at}
@@ -17,7 +17,7 @@ use Rattle.amqp_engine.specs.Turn.{Turn}
 use Rattle.amqp_engine.specs.Sending.{frames_sent, sendings}
 use Rattle.amqp_engine.specs.Play.{replayed}
 use Rattle.amqp_engine.specs.Valid.{SpelledFrame, AreFrames, AreSpelled, all_bytes, sent_by_turns, sayings_of, after_sayings, IsServed, IsLinkedOnce, MomentsRise, IsShort, EndsWithBytes, IsTimely, agreed_heartbeat, last_piece, agreed_limit, Valid}
-use Rattle.amqp_engine_tests.specs.Scripts.{client, guest, renewed, started, tuned, opened, blocked, unblocked, answered, closed, channel_opened, channel_closed, channel_answered, secret_taken, delivering, header_comes, body_comes, heartbeat, steps_at, comes, shut, closed_by_us, in_pieces, closed_by_them, blocked_a_while, heard_in_time, messages_pass, token_renewed, tunes_at_once, closes_cross, missed}
+use Rattle.amqp_engine_tests.specs.Scripts.{client, listening, guest, renewed, started, tuned, opened, blocked, unblocked, answered, closed, channel_opened, channel_closed, channel_answered, secret_taken, delivering, header_comes, body_comes, heartbeat, steps_at, comes, shut, closed_by_us, in_pieces, closed_by_them, blocked_a_while, heard_in_time, messages_pass, token_renewed, tunes_at_once, closes_cross, missed}
 use Rattle.amqp_engine_tests.proofs.Octets.{started-spells, tuned-spells, opened-spells, blocked-spells, unblocked-spells, answered-spells, closed-spells, channel-opened-spells, channel-closed-spells, channel-answered-spells, secret-taken-spells, delivering-spells, header-comes-spells, body-comes-spells, heartbeat-spells, one-reading}
 use Rattle.amqp_engine_tests.proofs.NotServed.{not-served}
 use Rattle.amqp_types.proofs.Small.{and-left, and-right, and-true}
@@ -107,15 +107,15 @@ each-timely t all is seen (u ∷ us) whole =
 
 -- what is computed of a script whose bytes spell these frames: what its provider answers, which greatest frame is
 -- agreed, that its server says what it may and is gone, and that it is timely
-record Computes (gs : List Given) (told : List Asked) (spelled : List SpelledFrame) : Type 0 where
-  answers : flat_map (λ (u : Turn). u.notes.auths) (replayed client gs told) ≡ told
-  limit : agreed_limit client (replayed client gs told) ≡ 131072
-  served : IsServed (sayings_of gs (sent_by_turns (replayed client gs told) (begin client) []) 0 spelled)
-  timely : are_timely client [] (replayed client gs told) ≡ true
+record Computes (t : Talk) (gs : List Given) (told : List Asked) (spelled : List SpelledFrame) : Type 0 where
+  answers : flat_map (λ (u : Turn). u.notes.auths) (replayed t gs told) ≡ told
+  limit : agreed_limit t (replayed t gs told) ≡ 131072
+  served : IsServed (sayings_of gs (sent_by_turns (replayed t gs told) (begin t) []) 0 spelled)
+  timely : are_timely t [] (replayed t gs told) ≡ true
 
 -- what is answered can be said, where it is what can be said
-told-sayable : (told answers : List Asked) → AreSayable client.config.options told → answers ≡ told → AreSayable client.config.options answers
-told-sayable told answers can is = subst (AreSayable client.config.options) (sym is) can
+told-sayable : (t : Talk) (told answers : List Asked) → AreSayable t.config.options told → answers ≡ told → AreSayable t.config.options answers
+told-sayable t told answers can is = subst (AreSayable t.config.options) (sym is) can
 
 -- who logs in as guest can say so
 guest-sayable : AreSayable client.config.options guest
@@ -126,19 +126,19 @@ renewed-sayable : AreSayable client.config.options renewed
 renewed-sayable = (omega arith, (omega arith, tt))
 
 -- such a script is valid, where its steps are as they are to be
-all-valid : (gs : List Given) (told : List Asked) (spelled : List SpelledFrame) → AreSayable client.config.options told → Computes gs told spelled
-    → IsLinkedOnce gs → AllByRecursion (λ (g : Given). IsShort g.what) gs
-    → MomentsRise 0 gs → AreFrames 131072 (all_bytes gs) spelled → EndsWithBytes gs → Valid client gs told
-all-valid gs told spelled can computes linked short moments are last =
+all-valid : (t : Talk) (gs : List Given) (told : List Asked) (spelled : List SpelledFrame) → length t.config.uri.vhost ≤ 255 → AreSayable t.config.options told
+    → Computes t gs told spelled → IsLinkedOnce gs → AllByRecursion (λ (g : Given). IsShort g.what) gs
+    → MomentsRise 0 gs → AreFrames 131072 (all_bytes gs) spelled → EndsWithBytes gs → Valid t gs told
+all-valid t gs told spelled vhost can computes linked short moments are last =
     let F : ℕ → Type 0 = λ limit. AreFrames limit (all_bytes gs) spelled in
     record {
       linked = linked;
       faultless = record {
-        sayable = told-sayable told (flat_map (λ (u : Turn). u.notes.auths) (replayed client gs told)) can computes.answers;
-        vhost = omega arith;
+        sayable = told-sayable t told (flat_map (λ (u : Turn). u.notes.auths) (replayed t gs told)) can computes.answers;
+        vhost = vhost;
         short = short;
         moments = moments;
-        timely = timely client (replayed client gs told) computes.timely;
+        timely = timely t (replayed t gs told) computes.timely;
         spelled = spelled;
         frames = subst F (sym computes.limit) are;
         served = computes.served;
@@ -155,13 +155,27 @@ opening-spelled : (rest : List SpelledFrame) → AreSpelled 131072 131072 rest �
 opening-spelled rest are = (started-spells, omega arith, (tuned-spells, omega arith, (opened-spells, omega arith, are)))
 
 -- closed by us
-closed_by_us-computes : Computes closed_by_us guest (opening (answered ∷ []))
+closed_by_us-computes : Computes client closed_by_us guest (opening (answered ∷ []))
 unfolding front framed sized ended content method_payload connection_arguments_at channel_arguments_at start_at tune_at short_string_at long_string_at scalar_at row_at pair_with table_with value_at table_at
 closed_by_us-computes = record { answers = refl; limit = refl; served = record { server = _; said = refl; gone = refl }; timely = refl }
 
 pub closed_by_us-valid : Valid client closed_by_us guest
 closed_by_us-valid =
-    all-valid closed_by_us guest (opening (answered ∷ [])) guest-sayable closed_by_us-computes
+    all-valid client closed_by_us guest (opening (answered ∷ [])) (omega arith) guest-sayable closed_by_us-computes
+    (refl, (tt, (tt, (tt, (tt, (tt, tt))))))
+    (tt, (tt, (tt, (tt, (omega arith, (tt, tt))))))
+    (omega arith, (omega arith, (omega arith, (omega arith, (omega arith, (omega arith, tt))))))
+    (record { joined = refl; frames = opening-spelled (answered ∷ []) (answered-spells, omega arith, tt) })
+    (take 5 closed_by_us, _, refl, λ none. cc)
+
+-- the same, by a client that keeps its events
+listening-computes : Computes listening closed_by_us guest (opening (answered ∷ []))
+unfolding front framed sized ended content method_payload connection_arguments_at channel_arguments_at start_at tune_at short_string_at long_string_at scalar_at row_at pair_with table_with value_at table_at
+listening-computes = record { answers = refl; limit = refl; served = record { server = _; said = refl; gone = refl }; timely = refl }
+
+pub listening-valid : Valid listening closed_by_us guest
+listening-valid =
+    all-valid listening closed_by_us guest (opening (answered ∷ [])) (omega arith) (omega arith, tt) listening-computes
     (refl, (tt, (tt, (tt, (tt, (tt, tt))))))
     (tt, (tt, (tt, (tt, (omega arith, (tt, tt))))))
     (omega arith, (omega arith, (omega arith, (omega arith, (omega arith, (omega arith, tt))))))
@@ -169,13 +183,13 @@ closed_by_us-valid =
     (take 5 closed_by_us, _, refl, λ none. cc)
 
 -- the same in other pieces
-in_pieces-computes : Computes in_pieces guest (opening (answered ∷ []))
+in_pieces-computes : Computes client in_pieces guest (opening (answered ∷ []))
 unfolding front framed sized ended content method_payload connection_arguments_at channel_arguments_at start_at tune_at short_string_at long_string_at scalar_at row_at pair_with table_with value_at table_at
 in_pieces-computes = record { answers = refl; limit = refl; served = record { server = _; said = refl; gone = refl }; timely = refl }
 
 pub in_pieces-valid : Valid client in_pieces guest
 in_pieces-valid =
-    all-valid in_pieces guest (opening (answered ∷ [])) guest-sayable in_pieces-computes
+    all-valid client in_pieces guest (opening (answered ∷ [])) (omega arith) guest-sayable in_pieces-computes
     (refl, (tt, (tt, (tt, (tt, (tt, (tt, tt)))))))
     (tt, (tt, (tt, (tt, (tt, (omega arith, (tt, tt)))))))
     (omega arith, (omega arith, (omega arith, (omega arith, (omega arith, (omega arith, (omega arith, tt)))))))
@@ -183,13 +197,13 @@ in_pieces-valid =
     (take 6 in_pieces, _, refl, λ none. cc)
 
 -- closed by the server
-closed_by_them-computes : Computes closed_by_them guest (opening (heartbeat ∷ closed ∷ []))
+closed_by_them-computes : Computes client closed_by_them guest (opening (heartbeat ∷ closed ∷ []))
 unfolding front framed sized ended content method_payload connection_arguments_at channel_arguments_at start_at tune_at close_at short_string_at long_string_at scalar_at row_at pair_with table_with value_at table_at
 closed_by_them-computes = record { answers = refl; limit = refl; served = record { server = _; said = refl; gone = refl }; timely = refl }
 
 pub closed_by_them-valid : Valid client closed_by_them guest
 closed_by_them-valid =
-    all-valid closed_by_them guest (opening (heartbeat ∷ closed ∷ [])) guest-sayable closed_by_them-computes
+    all-valid client closed_by_them guest (opening (heartbeat ∷ closed ∷ [])) (omega arith) guest-sayable closed_by_them-computes
     (refl, (tt, (tt, (tt, (tt, tt)))))
     (tt, (tt, (tt, (tt, (tt, tt)))))
     (omega arith, (omega arith, (omega arith, (omega arith, (omega arith, tt)))))
@@ -197,13 +211,13 @@ closed_by_them-valid =
     (take 4 closed_by_them, _, refl, λ none. cc)
 
 -- blocked for a while
-blocked_a_while-computes : Computes blocked_a_while guest (opening (blocked ∷ unblocked ∷ answered ∷ []))
+blocked_a_while-computes : Computes client blocked_a_while guest (opening (blocked ∷ unblocked ∷ answered ∷ []))
 unfolding front framed sized ended content method_payload connection_arguments_at channel_arguments_at start_at tune_at short_string_at long_string_at scalar_at row_at pair_with table_with value_at table_at
 blocked_a_while-computes = record { answers = refl; limit = refl; served = record { server = _; said = refl; gone = refl }; timely = refl }
 
 pub blocked_a_while-valid : Valid client blocked_a_while guest
 blocked_a_while-valid =
-    all-valid blocked_a_while guest (opening (blocked ∷ unblocked ∷ answered ∷ [])) guest-sayable blocked_a_while-computes
+    all-valid client blocked_a_while guest (opening (blocked ∷ unblocked ∷ answered ∷ [])) (omega arith) guest-sayable blocked_a_while-computes
     (refl, (tt, (tt, (tt, (tt, (tt, (tt, (tt, (tt, tt)))))))))
     (tt, (tt, (tt, (tt, (tt, (omega arith, (tt, (tt, (tt, tt)))))))))
     (omega arith, (omega arith, (omega arith, (omega arith, (omega arith, (omega arith, (omega arith, (omega arith, (omega arith, tt)))))))))
@@ -211,13 +225,13 @@ blocked_a_while-valid =
     (take 8 blocked_a_while, _, refl, λ none. cc)
 
 -- silent for as long as it may be
-heard_in_time-computes : Computes heard_in_time guest (opening (answered ∷ []))
+heard_in_time-computes : Computes client heard_in_time guest (opening (answered ∷ []))
 unfolding front framed sized ended content method_payload connection_arguments_at channel_arguments_at start_at tune_at short_string_at long_string_at scalar_at row_at pair_with table_with value_at table_at
 heard_in_time-computes = record { answers = refl; limit = refl; served = record { server = _; said = refl; gone = refl }; timely = refl }
 
 pub heard_in_time-valid : Valid client heard_in_time guest
 heard_in_time-valid =
-    all-valid heard_in_time guest (opening (answered ∷ [])) guest-sayable heard_in_time-computes
+    all-valid client heard_in_time guest (opening (answered ∷ [])) (omega arith) guest-sayable heard_in_time-computes
     (refl, (tt, (tt, (tt, (tt, (tt, (tt, tt)))))))
     (tt, (tt, (tt, (tt, (tt, (omega arith, (tt, tt)))))))
     (omega arith, (omega arith, (omega arith, (omega arith, (omega arith, (omega arith, (omega arith, tt)))))))
@@ -225,13 +239,13 @@ heard_in_time-valid =
     (take 6 heard_in_time, _, refl, λ none. cc)
 
 -- messages go both ways on a channel
-messages_pass-computes : Computes messages_pass guest (opening (channel_opened ∷ delivering ∷ header_comes ∷ body_comes ∷ channel_answered ∷ answered ∷ []))
+messages_pass-computes : Computes client messages_pass guest (opening (channel_opened ∷ delivering ∷ header_comes ∷ body_comes ∷ channel_answered ∷ answered ∷ []))
 unfolding front framed sized ended content method_payload connection_arguments_at channel_arguments_at start_at tune_at short_string_at long_string_at scalar_at row_at pair_with table_with value_at table_at
 messages_pass-computes = record { answers = refl; limit = refl; served = record { server = _; said = refl; gone = refl }; timely = refl }
 
 pub messages_pass-valid : Valid client messages_pass guest
 messages_pass-valid =
-    all-valid messages_pass guest (opening (channel_opened ∷ delivering ∷ header_comes ∷ body_comes ∷ channel_answered ∷ answered ∷ [])) guest-sayable messages_pass-computes
+    all-valid client messages_pass guest (opening (channel_opened ∷ delivering ∷ header_comes ∷ body_comes ∷ channel_answered ∷ answered ∷ [])) (omega arith) guest-sayable messages_pass-computes
     (refl, (tt, (tt, (tt, (tt, (tt, (tt, (tt, (tt, (tt, (tt, (tt, (tt, (tt, tt))))))))))))))
     (tt, (tt, (tt, (tt, (tt, (tt, (tt, (tt, (tt, (tt, (omega arith, (tt, (omega arith, (tt, tt))))))))))))))
     (omega arith, (omega arith, (omega arith, (omega arith, (omega arith, (omega arith, (omega arith, (omega arith, (omega arith, (omega arith, (omega arith, (omega arith, (omega arith, (omega arith, tt))))))))))))))
@@ -239,13 +253,13 @@ messages_pass-valid =
     (take 13 messages_pass, _, refl, λ none. cc)
 
 -- the token is told anew
-token_renewed-computes : Computes token_renewed renewed (opening (secret_taken ∷ answered ∷ []))
+token_renewed-computes : Computes client token_renewed renewed (opening (secret_taken ∷ answered ∷ []))
 unfolding front framed sized ended content method_payload connection_arguments_at channel_arguments_at start_at tune_at short_string_at long_string_at scalar_at row_at pair_with table_with value_at table_at
 token_renewed-computes = record { answers = refl; limit = refl; served = record { server = _; said = refl; gone = refl }; timely = refl }
 
 pub token_renewed-valid : Valid client token_renewed renewed
 token_renewed-valid =
-    all-valid token_renewed renewed (opening (secret_taken ∷ answered ∷ [])) renewed-sayable token_renewed-computes
+    all-valid client token_renewed renewed (opening (secret_taken ∷ answered ∷ [])) (omega arith) renewed-sayable token_renewed-computes
     (refl, (tt, (tt, (tt, (tt, (tt, (tt, (tt, (tt, tt)))))))))
     (tt, (tt, (tt, (tt, (tt, (tt, (tt, (omega arith, (tt, tt)))))))))
     (omega arith, (omega arith, (omega arith, (omega arith, (omega arith, (omega arith, (omega arith, (omega arith, (omega arith, tt)))))))))

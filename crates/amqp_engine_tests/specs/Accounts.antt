@@ -13,7 +13,6 @@ use Rattle.amqp_session.specs.declared.command.Cmd.TheVariants.{OpenChannel, Sen
 use Rattle.amqp_session.specs.declared.command.Answer.{Answer}
 use Rattle.amqp_session.specs.declared.command.Answer.TheVariants as says
 use Rattle.amqp_session.specs.declared.handed.Handed.{Handed}
-use Rattle.amqp_session.specs.Publishing.{content_header}
 use Rattle.amqp_engine.specs.Carried.{Account}
 
 -- channel 1
@@ -46,9 +45,13 @@ no_properties = 0 ∷ 0 ∷ []
 abbrev pub said : OtherMethod → Frame
 said method = Raw 1 RawMethod (spell_raw_method method)
 
+-- the octets of its header: class 60, weight 0, a body of three octets, and no properties
+abbrev pub head : List ℕ
+head = 0 ∷ 60 ∷ 0 ∷ 0 ∷ 0 ∷ 0 ∷ 0 ∷ 0 ∷ 0 ∷ 0 ∷ 0 ∷ 3 ∷ no_properties
+
 -- the header of the content
 abbrev pub header : Frame
-header = Raw 1 Header (content_header 60 3 no_properties)
+header = Raw 1 Header head
 
 -- what is published, its body in these pieces
 abbrev pub content : List (List ℕ) → List Frame

@@ -42,7 +42,7 @@ impl Port for Refusing {
     }
 }
 
-// After how many parts the turn was cut, where a run ends for want of memory.
+// After how many parts the turn was cut, where a run ends since memory was refused.
 fn starved_in(port: &mut Refusing, driven: &mut Driven) -> Option<u64> {
     match driven.engine.run(port, &mut driven.provider, 10) {
         Ok(()) => None,

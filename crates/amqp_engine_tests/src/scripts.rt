@@ -10,13 +10,14 @@ ghost use Rattle.amqp_engine.specs.declared.given.GivenStep.TheVariants as given
 ghost use Rattle.amqp_engine.specs.Turn.{talk};
 ghost use Rattle.amqp_engine.specs.Play.{replayed};
 ghost use Rattle.amqp_engine.specs.Valid.{SpelledFrame, AreSpelled, AreFrames, IsLinkedOnce, MomentsRise, EndsWithBytes, IsTimely, Valid};
-ghost use Rattle.amqp_engine_tests.specs.Scripts.{client, guest, renewed, opened, channel_opened, heartbeat, steps_at, comes, shut, closed_by_us, in_pieces, closed_by_them, blocked_a_while, heard_in_time, messages_pass, token_renewed, tunes_at_once, closes_cross, missed};
+ghost use Rattle.amqp_engine_tests.specs.Scripts.{client, listening, guest, renewed, opened, channel_opened, heartbeat, steps_at, comes, shut, closed_by_us, in_pieces, closed_by_them, blocked_a_while, heard_in_time, messages_pass, token_renewed, tunes_at_once, closes_cross, missed};
 
-// Whole scripts: closed by the client, cut into other pieces, closed by the server, one in which the close
-// waits while the server blocks, one in which it is silent for as long as it may be, one with a channel, a
-// publish and a delivery, and one in which a token is told anew.
+// Whole scripts: closed by the client, also by one that keeps its events, cut into other pieces, closed by
+// the server, one in which the close waits while the server blocks, one in which it is silent for as long
+// as it may be, one with a channel, a publish and a delivery, and one in which a token is told anew.
 fn are_valid()
     ensures closed_by_us { Valid client closed_by_us guest }
+    ensures listens { Valid listening closed_by_us guest }
     ensures in_pieces { Valid client in_pieces guest }
     ensures closed_by_them { Valid client closed_by_them guest }
     ensures blocked_a_while { Valid client blocked_a_while guest }
@@ -38,6 +39,7 @@ fn are_not_valid()
 // heartbeat ends with that error.
 fn sessions_end_so()
     ensures closed_by_us { end_of (talk client (replayed client closed_by_us guest)) ≡ Some (Ok tt) }
+    ensures listens { end_of (talk listening (replayed listening closed_by_us guest)) ≡ Some (Ok tt) }
     ensures in_pieces { end_of (talk client (replayed client in_pieces guest)) ≡ Some (Ok tt) }
     ensures closed_by_them { end_of (talk client (replayed client closed_by_them guest)) ≡ Some (Ok tt) }
     ensures blocked_a_while { end_of (talk client (replayed client blocked_a_while guest)) ≡ Some (Ok tt) }

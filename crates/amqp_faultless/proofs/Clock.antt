@@ -15,7 +15,7 @@ use Rattle.amqp_session.specs.Ticks.{tick, is_missed}
 use Rattle.amqp_session.specs.Writing.{follow, sent, sent_among, taken}
 use Rattle.amqp_types.proofs.Small.{if_case, if-true, if-false}
 use Rattle.amqp_session.proofs.Recovering.{lose-case}
-use Rattle.amqp_session.proofs.Keeping.{follow-keeps}
+use Rattle.amqp_session.proofs.Sending.{follow-keeps}
 use Rattle.amqp_session.proofs.Walk.{ChannelRows, PassedRows, ConnectionRows, CommandRows, misread-keeps, start-keeps, secure-keeps, frame-keeps, tick-keeps, command-keeps}
 
 -- the session was told no later moment than this one, and of no earlier piece than the last; a link counts as read when it comes

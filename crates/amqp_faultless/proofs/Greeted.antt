@@ -39,9 +39,10 @@ use Rattle.amqp_faultless.specs.Faultless.ServerStage.{BeforeStart, BeforeTune, 
 use Rattle.amqp_types.proofs.Small.{if-true, and-true}
 use Rattle.amqp_legal_rules.proofs.Ties.{pays, paying, to_pay}
 use Rattle.amqp_legal_rules.proofs.Paying.{IsNoPayment, pays-none}
-use Rattle.amqp_faultless.proofs.Ordinary.{is_close, AreOthers, all-append, First, Ordinary, same}
+use Rattle.amqp_faultless.proofs.Ordinary.{is_close, AreOthers, First, Ordinary, same}
 use Rattle.amqp_faultless.proofs.Uses.{Idle, act_on, acts, is_opens, lives, NoneOpens, along-dead}
 use Rattle.amqp_faultless.proofs.Served.{Serves, Channels, AreRaw, secret_by, secrets_in, IsPlain}
+use Rattle.amqp_session.proofs.Walking.{all-append}
 
 -- ---- before the connection is open
 

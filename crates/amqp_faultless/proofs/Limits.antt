@@ -88,7 +88,7 @@ serves-stage (Raw (suc k) kind bytes) s s' is h = inl ((serves-on-keeps (suc k) 
 serves-stage f s s' is h = absurd cc
 
 -- what is said after it is gone
-gone-none : (f : Frame) (s : Server) → s.stage ≡ Gone → heard_from s.stage f s ≡ None
+pub gone-none : (f : Frame) (s : Server) → s.stage ≡ Gone → heard_from s.stage f s ≡ None
 gone-none f s is = ap (λ x. heard_from x f s) is ∙ none f where
   none : (f : Frame) → heard_from Gone f s ≡ None
   none f = refl

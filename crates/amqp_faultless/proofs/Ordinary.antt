@@ -1,5 +1,5 @@
 -- What rules keep that neither open nor close a connection, nor block it: by each frame and command.
-use Rattle.std.proofs.Common.{ap, ◌≡◌, ◌≤◌, ℕ, zero, suc, ◌==◌, ◌&&◌, not, if◌then◌else◌, Bool, true, false, true≢false, List, [], ◌∷◌, ◌++◌, Option, Some, None, Result, Err, refl, sym, ◌∙◌, arith}
+use Rattle.std.proofs.Common.{ap, ◌≡◌, ◌≤◌, ℕ, zero, suc, ◌==◌, ◌&&◌, not, Bool, true, false, true≢false, List, [], ◌∷◌, ◌++◌, Option, Some, None, Result, Err, refl, sym, ◌∙◌, arith}
 use Rattle.std.specs.Prelude.{filter, map, codes}
 use Rattle.std.specs.List.{AllByRecursion}
 use Rattle.amqp_frame.specs.declared.frame.Frame.{Frame}
@@ -38,6 +38,7 @@ use Rattle.amqp_session.specs.Ticks.{is_connected}
 use Rattle.amqp_session.proofs.Numbered.{put-other}
 use Rattle.amqp_session.proofs.Keeping.{off-lost}
 use Rattle.amqp_session.proofs.Walk.{ChannelRows, PassedRows, CommandRows, channel-method-keeps, raw-keeps, refused-keeps, told-keeps}
+use Rattle.amqp_session.proofs.Walking.{all-append, all-filtered}
 pub use Rattle.amqp_session.proofs.Walk.{leaves}
 
 -- ---- our close
@@ -68,17 +69,6 @@ pub record NoneClosesIn (lane rest : List Item) (groups : List (List Item)) : Ty
 
 abbrev pub NoneCloses : Queued → Type 0
 NoneCloses q = NoneClosesIn q.control q.begun q.publish
-
-pub all-append : {X : Type 0} (P : X → Type 0) (xs ys : List X) → AllByRecursion P xs → AllByRecursion P ys → AllByRecursion P (xs ++ ys)
-all-append P [] ys h k = k
-all-append P (x ∷ xs) ys h k = (h.0, all-append P xs ys h.1 k)
-
-pub all-filter : {X : Type 0} (P : X → Type 0) (p : X → Bool) (xs : List X) → AllByRecursion P xs → AllByRecursion P (filter p xs)
-all-filter P p [] h = tt
-all-filter P p (x ∷ xs) h = by (p x) (all-filter P p xs h.1) where
-  by : (b : Bool) → AllByRecursion P (filter p xs) → AllByRecursion P (if b then x ∷ filter p xs else filter p xs)
-  by true rest = (h.0, rest)
-  by false rest = rest
 
 -- ---- promises
 
@@ -219,8 +209,8 @@ module _ (r : Result Answer ErrorKind) where
     flowed = λ n c active o u is. goes-but (Some r) t u _ refl (still (to-given o r _ u.promises)) (λ x. x);
     server_closed = λ n e c u. goes-but (Some r) t u _ refl (still (each-given e (promises_on n u.outbox) r u.promises)) (λ x. record {
       begun = x.begun;
-      control = all-append IsOther _ _ (all-filter IsOther (λ item. not (goes_with n item)) u.outbox.control x.control) (refl, tt);
-      publish = all-filter AreOthers (λ group. not (is_on n group)) u.outbox.publish x.publish;
+      control = all-append IsOther _ _ (all-filtered IsOther (λ item. not (goes_with n item)) u.outbox.control x.control) (refl, tt);
+      publish = all-filtered AreOthers (λ group. not (is_on n group)) u.outbox.publish x.publish;
     });
     crossed = λ n e c u. goes-but (Some r) t u _ refl (λ x. x) (pushed (Some r) (plain_item n (Method n ChannelCloseOk)) u.outbox refl);
   }
@@ -285,7 +275,7 @@ module _ (r : Result Answer ErrorKind) where
         (λ x. record {
           begun = x.begun;
           control = all-append IsOther u.outbox.control (plain_item n (our_channel_close n code text) ∷ []) x.control (refl, tt);
-          publish = all-filter AreOthers (λ group. not (is_on n group)) u.outbox.publish x.publish;
+          publish = all-filtered AreOthers (λ group. not (is_on n group)) u.outbox.publish x.publish;
         });
     sends = λ n m u. stays-but t u _ refl (promises (Some r) u).first (pushed (Some r) (promised_item n (method_frame n m) (next_promise u)) u.outbox refl);
     publishes = λ n m properties body u. stays-but t u _ refl (promises (Some r) u).first (λ x. record {

@@ -24,8 +24,9 @@ use Rattle.amqp_faultless.specs.Faultless.ServerStage.{Serving}
 use Rattle.amqp_types.proofs.Small.{same-number, other-number, the-number}
 use Rattle.amqp_session.proofs.Numbered.{put-same, put-other}
 use Rattle.amqp_legal_rules.proofs.Ties.{pays, to_pay, unpaid, owing}
-use Rattle.amqp_faultless.proofs.Ordinary.{is_close, IsOther, NoneCloses, all-append}
+use Rattle.amqp_faultless.proofs.Ordinary.{is_close, IsOther, NoneCloses}
 use Rattle.amqp_faultless.proofs.Uses.{waiting_for, waiting-without, waiting-others, left-more, left-other, Act, Idle, act_on, acts, lives, is_unowed, is_free, Stands, Along, along-map, along-push, stands-more}
+use Rattle.amqp_session.proofs.Walking.{all-append}
 
 -- ---- what waits
 

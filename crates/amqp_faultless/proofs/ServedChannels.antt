@@ -34,9 +34,10 @@ use Rattle.amqp_types.proofs.Small.{the-number, if_case}
 use Rattle.amqp_session.proofs.Numbered.{put-same, put-other, without-other}
 use Rattle.amqp_legal_rules.proofs.Ties.{pays, to_pay, unpaid, owing}
 use Rattle.amqp_legal_rules.proofs.Paying.{pays-none, pays-own, pays-others, goes-on}
-use Rattle.amqp_faultless.proofs.Ordinary.{IsOther, AreOthers, all-filter}
+use Rattle.amqp_faultless.proofs.Ordinary.{IsOther, AreOthers}
 use Rattle.amqp_faultless.proofs.Uses.{waiting_for, waiting-found, waiting-without, waiting-others, left-more, left-other, Act, Opens, Flows, Closes, Idle, act_on, acts, is_opens, use_by, lives, is_unowed, is_free, Holds, Stands, NoneOpens, Along, along-now, along-none, along-related, along-dead, less-same, none-filter, along-filter}
 use Rattle.amqp_faultless.proofs.Served.{AreRaw, secret_by, secrets_in, Channels, Serves, IsServing, Goes, opened-lives, asked-lives, along-cast, differ, by-number, each-by, put-owing, put-free, serves-put, serves-push, IsPlain, idle-push, serves-plain}
+use Rattle.amqp_session.proofs.Walking.{all-filtered}
 
 module _ (n : ℕ) (c : Channel) (s : Server) (t : Talk) (o : is_open t ≡ true) (listed : channel_at n t ≡ Some c) (h : IsServing s t) where
   abbrev u : Use
@@ -330,8 +331,8 @@ module _ (n : ℕ) (c : Channel) (s : Server) (t : Talk) (o : is_open t ≡ true
           staying = h.staying;
           ours = record {
             begun = h.ours.begun;
-            control = all-filter IsOther kept_item t.outbox.control h.ours.control;
-            publish = all-filter AreOthers (λ group. not (is_on n group)) t.outbox.publish h.ours.publish;
+            control = all-filtered IsOther kept_item t.outbox.control h.ours.control;
+            publish = all-filtered AreOthers (λ group. not (is_on n group)) t.outbox.publish h.ours.publish;
           };
           secrets =
               (let a = h.secrets in let b = fewer-secrets t.outbox.control in
@@ -347,7 +348,7 @@ module _ (n : ℕ) (c : Channel) (s : Server) (t : Talk) (o : is_open t ≡ true
               (let a = unpaid-none free in let b = fewer-paying n t.outbox.control in omega (arith, a, b))
               (λ m ne. (let a = h.due m in let b = fewer-paying m t.outbox.control in let e = ap owing (put-other m n closing_channel t.channels ne) in omega (arith, a, b, e)));
           begun = h.begun;
-          groups = all-filter AreRaw (λ group. not (is_on n group)) t.outbox.publish h.groups;
+          groups = all-filtered AreRaw (λ group. not (is_on n group)) t.outbox.publish h.groups;
         }
 
     plain-close-ok : (s' : Server) (q : Queued) (cs : Channels) (ms : List Mark) → Serves s' q cs ms → unpaid ms q.control n ≡ 0 → owing (at n cs) ≡ 1

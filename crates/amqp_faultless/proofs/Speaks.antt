@@ -33,11 +33,12 @@ use Rattle.amqp_types.proofs.Small.{if_case, same-number}
 use Rattle.amqp_session.proofs.Numbered.{put-other, without-other}
 use Rattle.amqp_legal_rules.proofs.Ties.{pays, to_pay, unpaid, owing}
 use Rattle.amqp_legal_rules.proofs.Paying.{IsNoPayment, pays-none, moved-on, sent-off}
-use Rattle.amqp_faultless.proofs.Ordinary.{is_close, AreOthers, First, settled-given, all-append}
+use Rattle.amqp_faultless.proofs.Ordinary.{is_close, AreOthers, First, settled-given}
 use Rattle.amqp_faultless.proofs.Uses.{acts, use_by, lives, is_unowed, is_free, Along, along-map, said-use}
 use Rattle.amqp_faultless.proofs.Served.{Serves, Channels, is_raw, AreRaw, secret_by, secrets_in, by-number, along-cast}
 use Rattle.amqp_faultless.proofs.Greeted.{Greets, IsSilentMark, Meets, slot_in, IsMet, meets-in, first-in, greets, greeting-plain}
 use Rattle.amqp_session.proofs.Walk.{pay-case}
+use Rattle.amqp_session.proofs.Walking.{all-append}
 
 -- ---- what a frame tells the server
 

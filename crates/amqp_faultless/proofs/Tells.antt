@@ -26,7 +26,6 @@ use Rattle.amqp_auth.specs.declared.asked.Asked.{Asked as ProviderAnswer}
 use Rattle.amqp_session.specs.declared.state.Link.{Link}
 use Rattle.amqp_session.specs.declared.state.Link.TheVariants.{Due, Wanted, Asked, Open, Ended}
 use Rattle.amqp_session.specs.declared.state.Phase.{Phase}
-use Rattle.amqp_promise.specs.declared.state.ChannelState.{ChannelState}
 use Rattle.amqp_promise.specs.declared.state.ChannelState.TheVariants as channel
 use Rattle.amqp_promise.specs.declared.state.ConnectionState.{ConnectionState}
 use Rattle.amqp_promise.specs.declared.state.ConnectionState.TheVariants.{Initial, Connecting, Connected, Closing, Closed, Reconnecting, Error}
@@ -40,7 +39,7 @@ use Rattle.amqp_session.specs.Changes.{next_promise, lose, queue, present_at}
 use Rattle.amqp_session.specs.Handshake.{new_secret, channel_open, channel_flow, our_channel_close}
 use Rattle.amqp_session.specs.Numbering.{first_number, drawn}
 use Rattle.amqp_session.specs.Publishing.{method_frame, body_pieces, publish_frames}
-use Rattle.amqp_session.specs.Commands.{named, named_in, is_opening, target, target_by, target_in, open_drawn, close_target, drop_target, flow_target, too_long, unless_too_long, too_full, unless_full, queue_secret, update_secret, queue_send, send_target, queue_publish, publish_target, body_limit, command, command_rule}
+use Rattle.amqp_session.specs.Commands.{named, named_in, is_opening, target, target_by, open_drawn, close_target, drop_target, flow_target, too_long, unless_too_long, too_full, unless_full, queue_secret, update_secret, queue_send, send_target, queue_publish, publish_target, body_limit, command, command_rule}
 use Rattle.amqp_session.specs.Ticks.{is_connected, is_missed, is_heartbeat_due, missing_heartbeat, heartbeat_due, beat, refreshed, refresh_reason, link_at, timed, tick}
 use Rattle.amqp_session.specs.Writing.{then_of}
 use Rattle.amqp_faultless.specs.Faultless.{Server}
@@ -48,13 +47,15 @@ use Rattle.amqp_types.proofs.Small.{if_case, if_by, if-false, same-number, other
 use Rattle.amqp_session.proofs.Heard.{secret-case}
 use Rattle.amqp_session.proofs.Keeping.{beats-connected, asks-connected, stays-command}
 use Rattle.amqp_session.proofs.Numbered.{put-same, put-other}
-use Rattle.amqp_legal_rules.proofs.OnChannels.{drawn-free}
+use Rattle.amqp_session.proofs.Drawn.{drawn-free}
 use Rattle.amqp_legal_rules.proofs.Ties.{pays, unpaid, owing}
 use Rattle.amqp_legal_rules.proofs.Paying.{pays-none}
-use Rattle.amqp_faultless.proofs.Ordinary.{NoneCloses, AreOthers, all-append, all-filter, First, Ordinary, leaves, refused-command, told-command, left-command}
+use Rattle.amqp_faultless.proofs.Ordinary.{NoneCloses, AreOthers, First, Ordinary, leaves, refused-command, told-command, left-command}
 use Rattle.amqp_faultless.proofs.Uses.{waiting_for, expected-other, expected-count, expected-more, Act, Opens, Flows, Closes, Idle, act_on, acts, is_free, Along, along-map, along-push, along-open, stands-more}
 use Rattle.amqp_faultless.proofs.Served.{Serves, IsServing, Channels, is_raw, AreRaw, secret_by, IsPlain, by-number, along-cast, idle-push, serves-push, serves-plain, put-owing, put-free}
 use Rattle.amqp_faultless.proofs.Greeted.{Meets, slot_in, IsMet, IsLimited, limit-grow, limit-in, meets-in, first-in}
+use Rattle.amqp_session.proofs.SoundCommands.{target-in}
+use Rattle.amqp_session.proofs.Walking.{all-append, all-filtered}
 
 -- ---- one frame more, and one reply more is awaited
 
@@ -173,12 +174,12 @@ serves-leave s q cs ms n code text c promise listed h =
     record {
       stage = g.stage;
       staying = g.staying;
-      ours = record { begun = g.ours.begun; control = g.ours.control; publish = all-filter AreOthers (λ group. not (is_on n group)) q.publish h.ours.publish };
+      ours = record { begun = g.ours.begun; control = g.ours.control; publish = all-filtered AreOthers (λ group. not (is_on n group)) q.publish h.ours.publish };
       secrets = g.secrets;
       each = g.each;
       due = g.due;
       begun = g.begun;
-      groups = all-filter AreRaw (λ group. not (is_on n group)) q.publish h.groups;
+      groups = all-filtered AreRaw (λ group. not (is_on n group)) q.publish h.groups;
     }
 
 -- a new secret is told
@@ -223,16 +224,10 @@ named-listed o (Some x) c h = by (is_opening o x.opened) h where
   by true h = h
   by false h = absurd cc
 
-target-state : (state : ChannelState) (w : Word) (x c : Channel) → target_in state w x ≡ Ok c → x ≡ c
-target-state channel.Connected w x c h = cc
-target-state channel.Initial w x c h = absurd cc
-target-state channel.Closing w x c h = absurd cc
-target-state _ w x c h = absurd cc
-
 target-listed : (r : ChanRef) (w : Word) (t : Talk) (x : Option Channel) (c : Channel) → named r t ≡ x → target_by x r.id w ≡ Ok c → channel_at r.id t ≡ Some c
 target-listed r w t None c is h = absurd cc
 target-listed r w t (Some x) c is h =
-    named-listed r.opened (channel_at r.id t) x is ∙ ap (λ y. Some y) (target-state x.state w x c h)
+    named-listed r.opened (channel_at r.id t) x is ∙ ap (λ y. Some y) (target-in x.state w x c h)
 
 module _ (s : Server) (t : Talk) (h : IsServing s t) where
   drawn-serving : (o : Option ℕ) (first : ℕ) → drawn t.configuration.channel_max first t.channels ≡ o → first ≡ first_number t.configuration.channel_max t.cursor
@@ -240,7 +235,7 @@ module _ (s : Server) (t : Talk) (h : IsServing s t) where
   drawn-serving None first is same = h
   drawn-serving (Some n) first is same =
       serves-open s t.outbox t.channels t.committed n (next_promise t)
-      (drawn-free t.configuration.channel_max t.cursor t.channels n (ap (λ k. drawn t.configuration.channel_max k t.channels) (sym same) ∙ is)).0 h
+      (drawn-free t.configuration.channel_max t.cursor n t.channels (ap (λ k. drawn t.configuration.channel_max k t.channels) (sym same) ∙ is)).2 h
 
   close-serving : (o : Result Channel ErrorKind) (r : ChanRef) (code : ℕ) (text : List ℕ) → target r word.ChannelClose t ≡ o → IsServing s (close_target o r.id code text t)
   close-serving (Err e) r code text is = h

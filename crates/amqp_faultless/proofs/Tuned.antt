@@ -30,12 +30,13 @@ use Rattle.amqp_session.specs.Frames.{method_questions, frame_rule, on_frame, qu
 use Rattle.amqp_session.specs.Ticks.{is_connected}
 use Rattle.amqp_faultless.specs.Faultless.{ServerStage, Server, answers_to, is_frame_max, serves, heard_from}
 use Rattle.amqp_faultless.specs.Faultless.ServerStage.{BeforeStart, BeforeTune, BeforeOpenOk, Serving, Gone}
-use Rattle.amqp_faultless.proofs.Ordinary.{all-append, method-goes, raw-goes, secret-goes, goes-lose}
+use Rattle.amqp_faultless.proofs.Ordinary.{method-goes, raw-goes, secret-goes, goes-lose}
 use Rattle.amqp_faultless.proofs.Served.{Channels, given-by}
 use Rattle.amqp_faultless.proofs.Greeted.{IsMet, meets-in, frame-acts, questions-act, connection-in, AreSaid}
 use Rattle.amqp_types.proofs.Small.{some_is}
 use Rattle.amqp_faultless.proofs.Hears.{meets-at}
 use Rattle.amqp_faultless.proofs.Limits.{serves-stage, met-open, met-gone}
+use Rattle.amqp_session.proofs.Walking.{all-append}
 
 -- ---- the first tune-ok
 

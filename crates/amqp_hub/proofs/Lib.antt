@@ -8,3 +8,5 @@ pub mod Once
 pub mod Owning
 -- Where the places of handles stand.
 pub mod Standing
+-- A step whose turn was cut exactly where it was refused.
+pub mod Taking

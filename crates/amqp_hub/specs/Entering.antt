@@ -1,5 +1,5 @@
 -- What each call makes of what stands behind the lock.
-use Rattle.std.specs.Prelude.{◌≡◌, ◌+◌, ◌^◌, ℕ, nat_lt, if◌then◌else◌, Bool, false, List, [], ◌∷◌, ◌++◌, length, Option, Some, Err, option_map}
+use Rattle.std.specs.Prelude.{◌≡◌, ◌+◌, ◌^◌, ℕ, nat_lt, if◌then◌else◌, Bool, false, List, [], ◌∷◌, ◌++◌, length, Option, Some, is_some, Err, option_map}
 use Rattle.amqp_promise.specs.declared.error.ErrorKind.{ErrorKind}
 use Rattle.amqp_auth.specs.Providers.{Exchange}
 use Rattle.amqp_session.specs.declared.command.Cmd.{Cmd}
@@ -35,11 +35,12 @@ next_entry h = h.base.entries + length h.journal
 
 -- ---- turns
 
--- a turn is applied, a link that is then wanted is asked for, and the turn's entry, with what was noted of it, goes
--- last; where the session ends with an error, the turn brought that about
-pub record TakesStep (at : ℕ) (step : Step) (bytes : List ℕ) (e e' : Engine) (entries entries' : List Entry)
-    (log log' : Option Log) (before after : Exchange → Type 0) : Type 0 where
+-- a turn is applied, which was cut or was not, a link that is then wanted is asked for, and the turn's entry, with what
+-- was noted of it, goes last; where the session ends with an error, the turn brought that about
+pub record TakesStep (is_cut : Bool) (at : ℕ) (step : Step) (bytes : List ℕ) (e e' : Engine)
+    (entries entries' : List Entry) (log log' : Option Log) (before after : Exchange → Type 0) : Type 0 where
   pub notes : Notes
+  pub cut : is_some notes.starved ≡ is_cut
   pub engine : Engine
   pub told : Option Log
   pub applies : AppliesNoted at step bytes notes e engine log told before after

@@ -283,10 +283,10 @@ impl Hub {
     ) -> Result<()>
         requires { A.can provider.old }
         ensures can { A.can provider.new }
-        ensures ok { OnOk result (TakesStep told.at told.step bytes.now self.old.engine self.new.engine
+        ensures ok { OnOk result (TakesStep false told.at told.step bytes.now self.old.engine self.new.engine
             self.old.journal self.new.journal (P.log port.old) (P.log port.new)
             (A.allows provider.old) (A.allows provider.new)) }
-        ensures err { OnErr result (TakesStep told.at told.step bytes.now self.old.engine self.new.engine
+        ensures err { OnErr result (TakesStep true told.at told.step bytes.now self.old.engine self.new.engine
             self.old.journal self.new.journal (P.log port.old) (P.log port.new)
             (A.allows provider.old) (A.allows provider.new)
             ⊎ ((self.new ≡ starved_at told.at told.step self.old)

@@ -11,8 +11,6 @@ use Rattle.amqp_promise.specs.declared.state.ConnectionState.{ConnectionState}
 use Rattle.amqp_promise.specs.declared.state.ConnectionState.TheVariants.{Connecting, Connected, Closing}
 use Rattle.amqp_session.specs.declared.state.Phase.{Phase}
 use Rattle.amqp_session.specs.declared.state.Phase.TheVariants.{AwaitStart, AwaitTune, AwaitOpenOk}
-use Rattle.amqp_session.specs.declared.state.Link.{Link}
-use Rattle.amqp_session.specs.declared.state.Link.TheVariants.{Due, Wanted, Asked, Open, Ended}
 use Rattle.amqp_session.specs.declared.state.Input.{Input}
 use Rattle.amqp_session.specs.declared.state.Input.TheVariants as input
 use Rattle.amqp_promise.specs.declared.io_fault.IoFault.{IoFault}
@@ -22,12 +20,12 @@ use Rattle.amqp_session.specs.declared.server_close.ServerClose.{ServerClose}
 use Rattle.amqp_session.specs.declared.server_close.ServerClose.TheVariants.{WithoutError, WithError}
 use Rattle.amqp_promise.specs.declared.error.ErrorKind.{ErrorKind}
 use Rattle.amqp_promise.specs.declared.error.ErrorKind.TheVariants.{IOError, ProtocolError}
-use Rattle.amqp_session.specs.Talk.{Talk, has_ended, is_open, is_open_link, is_asked, is_asked_link, end_of_link, is_acting, acts}
+use Rattle.amqp_session.specs.Talk.{Talk, has_ended, is_open, is_asked, is_acting, acts}
 use Rattle.amqp_session.specs.Changes.{present_at, close, fail, lose, finish, finish_by, starve}
 use Rattle.amqp_session.specs.Violations.{misread_error}
 use Rattle.amqp_session.specs.Capacities.{frame_min_size}
 use Rattle.amqp_session.specs.Handshake.{close_ok}
-use Rattle.amqp_session.specs.Links.{asked, asked_link, refused_after, link_failed, piece, lost, misread, dropped}
+use Rattle.amqp_session.specs.Links.{asked, refused_after, link_failed, piece, lost, misread, dropped}
 use Rattle.amqp_session.specs.Recovery.{next_delay, reconnect}
 use Rattle.amqp_session.specs.Answers.{answer_of, take_answer, take_frames}
 use Rattle.amqp_session.specs.Listed.{without}
@@ -37,7 +35,8 @@ use Rattle.amqp_legal.specs.declared.progress.Stage.TheVariants.{CloseOkSaid}
 use Rattle.amqp_legal.specs.declared.progress.Usage.TheVariants.{Shut, InUse}
 use Rattle.amqp_types.proofs.Small.{if_case, if_by, and-true, and-other}
 use Rattle.amqp_session.proofs.Recovering.{lose-by, recovers-open}
-use Rattle.amqp_session.proofs.Keeping.{starve-ends, lacks_link}
+use Rattle.amqp_session.proofs.Keeping.{starve-ends}
+use Rattle.amqp_session.proofs.Lacking.{lacks_link, closed-link, open-lacks, asked-open, asked-lacks, asked-lacking}
 use Rattle.amqp_legal.proofs.Sayable.{say-append, front-said, over-stays, close-said}
 use Rattle.amqp_legal_rules.proofs.Ties.{frames_in, LeadsTo, first_out, IsReady, IsOfControl, unpaid, TiesChannels, IsNew, TiesPhase, Ties, Speaks, IsTied, IsSilent}
 use Rattle.amqp_legal_rules.proofs.OnChannels.{Listed, Replies, on-alike}
@@ -117,13 +116,6 @@ committed-legal t (g ∷ fs) h =
 
 -- ---- ends, of which nothing is claimed
 
-closed-link : (l : Link ErrorKind) → is_some (end_of_link l) ≡ true → (is_open_link l ≡ true → ⊥) × (lacks_link l ≡ true → ⊥)
-closed-link Open h = absurd cc
-closed-link (Due moment) h = absurd cc
-closed-link Wanted h = absurd cc
-closed-link Asked h = absurd cc
-closed-link (Ended r) h = ((λ k. cc), (λ k. cc))
-
 pub now-ended : (t : Talk) (fs : List Frame) → has_ended t ≡ true → Now t fs
 now-ended t fs h =
     let c = closed-link t.link h in ((λ k. absurd (c.0 k)), (λ k. absurd (c.1 k)))
@@ -151,33 +143,14 @@ now-finish (Some (WithError e)) t fs h = now-lose (ProtocolError e) t fs h
 pub now-moment : (at : ℕ) (t : Talk) (fs : List Frame) → Now t fs → Now (present_at at t) fs
 now-moment at t fs h = if_case (λ (x : Talk). Now x fs) (has_ended t) t (record t { present = max t.present at }) h h
 
-asked-open : (l : Link ErrorKind) → is_open_link (asked_link l) ≡ is_open_link l
-asked-open (Due moment) = refl
-asked-open Wanted = refl
-asked-open Asked = refl
-asked-open Open = refl
-asked-open (Ended r) = refl
-
-asked-lacks : (l : Link ErrorKind) → lacks_link (asked_link l) ≡ lacks_link l
-asked-lacks (Due moment) = refl
-asked-lacks Wanted = refl
-asked-lacks Asked = refl
-asked-lacks Open = refl
-asked-lacks (Ended r) = refl
-
 pub now-asked : (t : Talk) (fs : List Frame) → Now t fs → Now (asked t) fs
 now-asked t fs h = ((λ o. h.0 (sym (asked-open t.link) ∙ o)), (λ w. h.1 (sym (asked-lacks t.link) ∙ w)))
 
 pub now-failed : (t : Talk) (fs : List Frame) → Now t fs → Now (link_failed t) fs
 now-failed t fs h = if_by (λ (x : Talk). Now x fs) (is_asked t) (refused_after (next_delay t) t) t (λ asked. by (next_delay t) asked) (λ other. h)
   where
-    -- a link was lacking before
-    lacking : (l : Link ErrorKind) → is_asked_link l ≡ true → lacks_link l ≡ true
-    lacking Asked asked = refl
-    lacking _ asked = cc
-
     by : (delay : Option ℕ) → is_asked t ≡ true → Now (refused_after delay t) fs
-    by (Some delay) asked = ((λ o. absurd (true≢false (sym o))), (λ w. h.1 (lacking t.link asked)))
+    by (Some delay) asked = ((λ o. absurd (true≢false (sym o))), (λ w. h.1 (asked-lacking t.link asked)))
     by None asked = now-ended (fail (IOError Refused) t) fs refl
 
 pub now-piece : (t : Talk) (fs : List Frame) → Now t fs → Now (piece t) fs
@@ -199,13 +172,6 @@ ties-dropped : (i : Input) (s : ConnectionState) (p : Phase) (cs : Listed) (ws :
 ties-dropped input.Acting s p cs ws due v h k = absurd cc
 ties-dropped (input.Closed crossed) s p cs ws due v h k = k
 ties-dropped (input.Dropped crossed) s p cs ws due v h k = k
-
-open-lacks : (l : Link ErrorKind) → is_open_link l ≡ true → lacks_link l ≡ true → ⊥
-open-lacks (Due moment) h k = cc
-open-lacks Open h k = cc
-open-lacks Wanted h k = cc
-open-lacks Asked h k = cc
-open-lacks (Ended r) h k = cc
 
 pub now-open : (t : Talk) (fs : List Frame) → is_open t ≡ true → IsTied t fs → Now t fs
 now-open t fs o h = ((λ k. h), (λ w. absurd (open-lacks t.link o w)))

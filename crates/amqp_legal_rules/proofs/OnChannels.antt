@@ -1,10 +1,7 @@
 -- What is said on channels keeps what ties them to the conversation.
-use Rattle.std.proofs.Common.{◌≡◌, ◌≢◌, ◌<◌, ◌≤◌, ℕ, zero, suc, ◌+◌, ◌-◌, ◌==◌, ◌||◌, nat_lt, not, if◌then◌else◌, Bool, true, false, List, [], ◌∷◌, ◌++◌, Option, Some, None, is_some, inl, inr, refl, ap, sym, ◌∙◌, subst, arith, append-nil}
+use Rattle.std.proofs.Common.{◌≡◌, ◌≢◌, ◌<◌, ℕ, zero, suc, if◌then◌else◌, false, List, [], ◌∷◌, ◌++◌, Option, Some, None, inl, inr, refl, ap, sym, ◌∙◌, subst, arith, append-nil}
 use Rattle.std.proofs.lemmas.Bool.{cases_eq}
-use Rattle.std.proofs.lemmas.Bool.Decides.{nat_tests}
 use Rattle.std.specs.Map.{keys_of}
-use Rattle.std.specs.Prelude.{find}
-use Rattle.std.specs.List.{AllByRecursion, range_with_len}
 use Rattle.amqp_frame.specs.declared.frame.Frame.TheVariants.{Method, Raw}
 use Rattle.amqp_frame.specs.declared.frame.RawKind.TheVariants.{RawMethod}
 use Rattle.amqp_frame.specs.declared.method.Method.{Method as AnyMethod}
@@ -18,8 +15,7 @@ use Rattle.amqp_session.specs.declared.channels.Debt.{Debt}
 use Rattle.amqp_promise.specs.declared.state.ChannelState.{ChannelState}
 use Rattle.amqp_promise.specs.declared.state.ChannelState.TheVariants as channel
 use Rattle.amqp_session.specs.Handshake.{channel_open, our_channel_close}
-use Rattle.amqp_session.specs.Listed.{at, put, has}
-use Rattle.amqp_session.specs.Numbering.{first_number, cycle, drawn}
+use Rattle.amqp_session.specs.Listed.{at, put}
 use Rattle.amqp_session.specs.Channels.{new_channel, made_leaving}
 use Rattle.amqp_legal.specs.Octets.{class_in}
 use Rattle.amqp_legal.specs.Decider.{Speech, say, say_open, say_use, say_close, now_on}
@@ -320,45 +316,3 @@ pub on-answered-untied : (n : ℕ) (reply : Reply) (cs : Listed) (ws : Replies) 
 on-answered-untied n reply cs ws due v untied h =
     on-alike cs ws (left_awaited n reply ws) due due v (answered-ascend n reply ws h.awaited_sorted)
     (λ m. untied-answered m n reply ws untied h.awaited_sorted) (λ m. refl) h
-
--- ---- the number that is drawn
-
-find-some : (p : ℕ → Bool) (Q : ℕ → Type 0) (xs : List ℕ) (n : ℕ) → AllByRecursion Q xs → find p xs ≡ Some n → (p n ≡ true) × Q n
-find-some p Q [] n all h = absurd (empty h) where
-  empty : find p [] ≡ Some n → ⊥
-  empty k = cc
-find-some p Q (x ∷ xs) n all h = by (p x) (find-some p Q xs n all.1) refl h where
-  by : (b : Bool) → (find p xs ≡ Some n → (p n ≡ true) × Q n) → p x ≡ b → (if b then Some x else find p xs) ≡ Some n → (p n ≡ true) × Q n
-  by true rest hb is = (let same : x ≡ n = cc in (ap p (sym same) ∙ hb, subst Q same all.0))
-  by false rest hb is = rest is
-
-pub all-append : {A : Type 0} (Q : A → Type 0) (xs ys : List A) → AllByRecursion Q xs → AllByRecursion Q ys → AllByRecursion Q (xs ++ ys)
-all-append Q [] ys h k = k
-all-append Q (x ∷ xs) ys h k = (h.0, all-append Q xs ys h.1 k)
-
-range-from : (n a : ℕ) → 1 ≤ a → AllByRecursion (λ m. 1 ≤ m) (range_with_len a n)
-range-from zero a h = tt
-range-from (suc n) a h = (h, range-from n (a + 1) (omega (arith, h)))
-
-first-some : (channel_max cursor : ℕ) → 1 ≤ first_number channel_max cursor
-first-some channel_max cursor = by (cursor == 0) refl where
-  by : (b : Bool) → (cursor == 0) ≡ b → 1 ≤ (if b || nat_lt channel_max cursor then 1 else cursor)
-  by true h = omega arith
-  by false h = or_one (nat_lt channel_max cursor) (grind (arith, nat_tests)) where
-    or_one : (b : Bool) → 1 ≤ cursor → 1 ≤ (if b then 1 else cursor)
-    or_one true k = omega arith
-    or_one false k = k
-
--- a number that is drawn is not listed, and is not 0
-pub drawn-free : (channel_max cursor : ℕ) (cs : Listed) (n : ℕ) → drawn channel_max (first_number channel_max cursor) cs ≡ Some n → (at n cs ≡ None) × (n ≢ 0)
-drawn-free channel_max cursor cs n h =
-    let first = first_number channel_max cursor in
-    let all : AllByRecursion (λ m. 1 ≤ m) (cycle channel_max first) =
-    all-append (λ m. 1 ≤ m) (range_with_len first (channel_max + 1 - first)) (range_with_len 1 (first - 1))
-    (range-from (channel_max + 1 - first) first (first-some channel_max cursor)) (range-from (first - 1) 1 (omega arith)) in
-    let k = find-some (λ m. not (has m cs)) (λ m. 1 ≤ m) (cycle channel_max first) n all h in
-    (absent (at n cs) k.0, λ is. absurd (omega (arith, k.1, is)))
-  where
-    absent : (o : Option Channel) → not (is_some o) ≡ true → o ≡ None
-    absent None h = refl
-    absent (Some c) h = cc

@@ -1,5 +1,5 @@
 -- Each command and each tick keeps a session tied to what was said.
-use Rattle.std.proofs.Common.{◌≡◌, ◌≢◌, ◌<◌, ◌≤◌, ◌^◌, ℕ, nat_le, if◌then◌else◌, Bool, true, false, List, [], ◌∷◌, length, Option, Some, None, Result, Ok, Err, refl, ap, sym, ◌∙◌, subst, true≢false, arith}
+use Rattle.std.proofs.Common.{◌≡◌, ◌≢◌, ◌<◌, ◌≤◌, ◌^◌, ℕ, nat_le, Bool, true, false, List, [], ◌∷◌, length, Option, Some, None, Result, Ok, Err, refl, ap, sym, ◌∙◌, subst, true≢false, arith}
 use Rattle.std.specs.Prelude.{codes}
 use Rattle.std.proofs.lemmas.Nat.{from_be_bytes-to_be_bytes_2}
 use Rattle.amqp_types.specs.declared.word.Word.{Word}
@@ -31,7 +31,7 @@ use Rattle.amqp_session.specs.Changes.{next_promise, lose, queue}
 use Rattle.amqp_session.specs.Handshake.{our_close, new_secret, channel_open, channel_flow, our_channel_close}
 use Rattle.amqp_session.specs.Channels.{made_closing, channel_at}
 use Rattle.amqp_session.specs.Publishing.{method_frame, publish_frames}
-use Rattle.amqp_session.specs.Commands.{command, command_rule, open_drawn, open_as, named, named_in, is_opening, target, target_by, target_in, leave_channel, close_target, leave_connection, drop_target, flow_target, tell_flow, queue_secret, update_secret, too_long, unless_too_long, too_full, unless_full, queue_send, send, send_target, body_limit, queue_publish, publish, publish_target}
+use Rattle.amqp_session.specs.Commands.{command, command_rule, open_drawn, open_as, named, target, target_by, target_in, leave_channel, close_target, leave_connection, drop_target, flow_target, tell_flow, queue_secret, update_secret, too_long, unless_too_long, too_full, unless_full, queue_send, send, send_target, body_limit, queue_publish, publish, publish_target}
 use Rattle.amqp_session.specs.Ticks.{is_missed, is_heartbeat_due, missing_heartbeat, beat, refreshed, refresh_reason, link_at, link_due, timed, tick}
 use Rattle.amqp_session.specs.Numbering.{first_number, drawn}
 use Rattle.amqp_legal.specs.Octets.{class_in}
@@ -42,14 +42,18 @@ use Rattle.amqp_legal.specs.declared.progress.Usage.TheVariants.{InUse, Left}
 use Rattle.amqp_legal.specs.declared.progress.Content.TheVariants.{NoContent, MethodSaid}
 use Rattle.amqp_session.proofs.Heard.{secret-case}
 use Rattle.amqp_types.proofs.Small.{if_case, if_by}
-use Rattle.amqp_session.proofs.Keeping.{asks-connected, beats-connected, lacks_link}
+use Rattle.amqp_session.proofs.Keeping.{asks-connected, beats-connected}
+use Rattle.amqp_session.proofs.Lacking.{lacks_link}
 use Rattle.amqp_session.proofs.Ascending.{map_values-from}
 use Rattle.amqp_legal.proofs.Sayable.{say-heartbeat, say-secret, say-our-close, say-flow}
 use Rattle.amqp_legal_rules.proofs.Ties.{IsReady, IsOfControl, TiesChannels, Ties, Speaks, IsTied, Rests, IsSendable}
 use Rattle.amqp_legal_rules.proofs.Ready.{stay-ready, open-ready, others-ready, publish-content, publish-ready, pieces-fit}
 use Rattle.amqp_legal_rules.proofs.Paying.{none-more}
-use Rattle.amqp_legal_rules.proofs.OnChannels.{Listed, Replies, on-alike, with-content, on-open, on-close, on-send, on-await-untied, listed-some, used-open, all-append, drawn-free}
+use Rattle.amqp_legal_rules.proofs.OnChannels.{Listed, Replies, on-alike, with-content, on-open, on-close, on-send, on-await-untied, listed-some, used-open}
 use Rattle.amqp_legal_rules.proofs.Conversing.{Now, pushed, now-lose, now-open, speaks-as, tied-as, In, due_in, now-ties}
+use Rattle.amqp_session.proofs.SoundCommands.{named-listed}
+use Rattle.amqp_session.proofs.Walking.{all-append}
+use Rattle.amqp_session.proofs.Drawn.{drawn-free}
 
 -- once the connection is open, frames act
 talking : (i : Input) (p : Phase) (cs : Listed) (ws : Replies) (due : ℕ → ℕ) (v : Speech) → Ties i Connected p cs ws due v → (i ≡ input.Acting) × TiesChannels cs ws due v
@@ -80,12 +84,14 @@ now-drawn : (o : Option ℕ) (t : Talk) (fs : List Frame) → t.state ≡ Connec
     → Now t fs → Now (open_drawn o (first_number t.configuration.channel_max t.cursor) t) fs
 now-drawn None t fs hs is h = h
 now-drawn (Some n) t fs hs is h =
-    let free = drawn-free t.configuration.channel_max t.cursor t.channels n is in
+    let free = drawn-free t.configuration.channel_max t.cursor n t.channels is in
+    let low : 1 ≤ n = free.0 in
+    let some : n ≢ 0 = λ none. absurd (omega (arith, none, low)) in
     let item : Item = plain_item n (channel_open n) in
     now-told t (open_as n t) fs hs refl h
     (λ o hi s.
     let x : Talk = open_as n t in
-    let k = on-open n t.channels t.outbox.awaited (due_in t) s.later (next_promise t) free.1 free.0 s.ties in
+    let k = on-open n t.channels t.outbox.awaited (due_in t) s.later (next_promise t) some free.2 s.ties in
     now-ties t x fs (now_on n InUse s.later) o hi refl hs (s.agreed refl) s.room
     (pushed t.outbox item fs s.later (now_on n InUse s.later) s.leads k.may)
     (all-append IsOfControl t.outbox.control (item ∷ []) s.lane ((tt, refl), tt))
@@ -149,13 +155,6 @@ now-timed answers t fs h =
 
 pub now-tick : (answers : List ProviderAnswer) (t : Talk) (fs : List Frame) → Now t fs → Now (tick answers t) fs
 now-tick answers t fs h = now-due-link (timed answers t) fs (now-timed answers t fs h)
-
-named-listed : (r : ChanRef) (o : Option Channel) (c : Channel) → named_in r.opened o ≡ Some c → o ≡ Some c
-named-listed r None c h = cc
-named-listed r (Some x) c h = by (is_opening r.opened x.opened) h where
-  by : (b : Bool) → (if b then Some x else None) ≡ Some c → Some x ≡ Some c
-  by true is = is
-  by false is = cc
 
 -- the channel of which something may be told
 pub record IsTarget (r : ChanRef) (t : Talk) (c : Channel) : Type 0 where

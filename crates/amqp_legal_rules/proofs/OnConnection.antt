@@ -33,9 +33,10 @@ use Rattle.amqp_legal.proofs.Sayable.{IsComplete}
 use Rattle.amqp_legal_rules.proofs.Ties.{LeadsTo, first_out, IsReady, IsOfControl, unpaid, TiesPhase, TiesActing}
 use Rattle.amqp_legal_rules.proofs.Ready.{open-ready, never-ready}
 use Rattle.amqp_legal_rules.proofs.Paying.{none-more}
-use Rattle.amqp_legal_rules.proofs.OnChannels.{Listed, Replies, on-answered-untied, all-append}
+use Rattle.amqp_legal_rules.proofs.OnChannels.{Listed, Replies, on-answered-untied}
 use Rattle.amqp_legal_rules.proofs.KeptChannels.{Reopening, none-reopened, all-reopened, on-reopened, on-passed, reopening-due}
 use Rattle.amqp_legal_rules.proofs.Conversing.{Now, pushed, closed-over, now-ended, now-lose, now-open, tied-as, In, still-new, due_in, now-ties, ties-phase}
+use Rattle.amqp_session.proofs.Walking.{all-append}
 
 not-over-phase : (p : Phase) (v : Speech) → TiesPhase p v → v.stage ≢ CloseOkSaid
 not-over-phase AwaitStart v h over = none (sym (ap (λ (x : Speech). x.stage) h) ∙ over) where

@@ -50,10 +50,12 @@ use Rattle.amqp_legal_rules.proofs.Ready.{stay-ready, others-ready, unused-ready
 use Rattle.amqp_legal_rules.proofs.Expecting.{first-by-promise}
 use Rattle.amqp_legal_rules.proofs.Paying.{left_in_lane, none-more, one-more, pays-own, pays-others, lane-pays-none, others-unpaid, none-unpaid, lane-left}
 use Rattle.amqp_legal_rules.proofs.Losing.{Alike, lane-loses}
-use Rattle.amqp_legal_rules.proofs.OnChannels.{Replies, on-alike, on-usages, ties-of, with-content, on-same, on-answered-untied, above-zero, never-zero, listed-some, all-append}
+use Rattle.amqp_legal_rules.proofs.OnChannels.{Replies, on-alike, on-usages, ties-of, with-content, on-same, on-answered-untied, above-zero, never-zero, listed-some}
 use Rattle.amqp_legal_rules.proofs.OnCloses.{on-opened, left_listed, on-closed, is-used, on-server-close, is-left, on-crossing}
 use Rattle.amqp_legal_rules.proofs.Conversing.{Now, pushed, committed-said, now-lose, now-open, speaks-as, tied-as, due_in, now-ties}
 use Rattle.amqp_legal_rules.proofs.OnConnection.{Hears, now-connection}
+use Rattle.amqp_session.proofs.FrameEnds.{some-heard}
+use Rattle.amqp_session.proofs.Walking.{all-append}
 
 -- ---- frames of channels
 
@@ -248,18 +250,11 @@ now-channel Connected n c (ChannelFlowOk active) t g fs h ne listed = now-flowed
 now-channel Connected n c m t g fs h ne listed = now-unawaited n c.state m t (g ∷ fs) h.now
 now-channel _ n c m t g fs h ne listed = absurd h.tied.ties
 
--- a frame is heard on a listed channel only once the connection was open
-heard-listed : (s : ConnectionState) (o : Option Channel) (c : Channel) → heard_on s o ≡ Some c → (s ≢ Connecting) × (o ≡ Some c)
-heard-listed Connecting o c h = absurd cc
-heard-listed Connected o c h = ((λ k. absurd cc), h)
-heard-listed Closing o c h = ((λ k. absurd cc), h)
-heard-listed _ o c h = ((λ k. absurd cc), h)
-
 now-channel-method : (o : Option Channel) (n : ℕ) (m : AnyMethod) (t : Talk) (g : Frame) (fs : List Frame) → Hears t.state t (g ∷ fs)
     → heard_on t.state (channel_at n t) ≡ o → Now (channel_method_by o n m t) (g ∷ fs)
 now-channel-method None n m t g fs h heard = now-misplaced (InvalidChannel n) t (g ∷ fs) h.now
 now-channel-method (Some c) n m t g fs h heard =
-    let k = heard-listed t.state (channel_at n t) c heard in now-channel t.state n c m t g fs h k.0 k.1
+    let k = some-heard t.state (channel_at n t) c heard in now-channel t.state n c m t g fs h k.0 k.1
 
 now-pass : (s : ConnectionState) (n : ℕ) (c : Channel) (kind : RawKind) (bytes : List ℕ) (t : Talk) (fs : List Frame) → Hears s t fs → s ≢ Connecting → channel_at n t ≡ Some c
     → Now (pass_through n c kind bytes t) fs
@@ -293,7 +288,7 @@ now-raw : (o : Option Channel) (n : ℕ) (kind : RawKind) (bytes : List ℕ) (t 
     → Now (raw_by o n kind bytes t) fs
 now-raw None n kind bytes t fs h heard = now-misplaced (InvalidChannel n) t fs h.now
 now-raw (Some c) n kind bytes t fs h heard =
-    let k = heard-listed t.state (channel_at n t) c heard in now-pass t.state n c kind bytes t fs h k.0 k.1
+    let k = some-heard t.state (channel_at n t) c heard in now-pass t.state n c kind bytes t fs h k.0 k.1
 
 -- ---- frames
 

@@ -2,28 +2,24 @@
 use Rattle.std.proofs.Common.{◌≡◌, ◌≤◌, ℕ, ◌+◌, if◌then◌else◌, Bool, true, false, List, [], ◌∷◌, ◌++◌, Option, Some, None, refl, ap, sym, ◌∙◌, subst, append_assoc, true≢false, arith, append-nil}
 use Rattle.amqp_frame.specs.declared.frame.Frame.{Frame}
 use Rattle.amqp_outbox.specs.declared.item.Item.{Item}
-use Rattle.amqp_outbox.specs.Items.{plain_item}
 use Rattle.amqp_outbox.specs.Queued as queued
-use Rattle.amqp_outbox.specs.Queued.{Queued, only, after_next}
+use Rattle.amqp_outbox.specs.Queued.{Queued, after_next}
 use Rattle.amqp_session.specs.declared.committed.Mark.{Mark}
 use Rattle.amqp_promise.specs.declared.state.ConnectionState.{ConnectionState}
 use Rattle.amqp_promise.specs.declared.state.ConnectionState.TheVariants.{Connecting, Connected, Closing}
 use Rattle.amqp_session.specs.declared.state.Phase.{Phase}
-use Rattle.amqp_session.specs.declared.state.Phase.TheVariants.{AwaitStart}
-use Rattle.amqp_session.specs.declared.state.Link.TheVariants.{Open}
 use Rattle.amqp_session.specs.declared.state.Input.{Input}
 use Rattle.amqp_session.specs.declared.state.Input.TheVariants as input
 use Rattle.amqp_session.specs.Config.{Config}
 use Rattle.amqp_session.specs.Talk.{Talk, start, is_asked}
-use Rattle.amqp_session.specs.Handshake.{protocol_header}
 use Rattle.amqp_session.specs.Links.{linked}
 use Rattle.amqp_session.specs.Commands.{publish}
 use Rattle.amqp_session.specs.Writing.{flows, writes, next_out, mark_of}
+use Rattle.amqp_session.proofs.Lacking.{is-linked}
 use Rattle.amqp_legal.specs.Legal.{amqp_header}
 use Rattle.amqp_legal.specs.Decider.{Speech, greeted, say_all}
 use Rattle.amqp_legal.specs.declared.progress.Usage.TheVariants.{InUse}
 use Rattle.amqp_legal.specs.declared.progress.Content.TheVariants.{BodyMissing}
-use Rattle.amqp_types.proofs.Small.{if-true}
 use Rattle.amqp_legal.proofs.Sayable.{say-append, say-group, filling}
 use Rattle.amqp_legal_rules.proofs.Ties.{frames_in, paying, to_pay, unpaid, Ties, Speaks, IsTied, IsSilent}
 use Rattle.amqp_legal_rules.proofs.Ready.{stay-ready}
@@ -34,25 +30,6 @@ use Rattle.amqp_legal_rules.proofs.Conversing.{went, ties-phase, ties-due}
 -- a new session is silent
 pub start-silent : (config : Config) → IsSilent (start config)
 start-silent config = record { rests = tt; listed = tt; kept = λ n. tt; room = omega arith }
-
--- a session whose link has come
-abbrev on_new_link : Talk → Talk
-on_new_link t =
-    record t {
-      state = Connecting;
-      phase = AwaitStart;
-      link = Open;
-      input = input.Acting;
-      blocked = false;
-      outbox = only (plain_item 0 protocol_header);
-      committed = [];
-      last_read = t.present;
-      last_write = t.present;
-      refreshing = false;
-    }
-
-is-linked : (t : Talk) → is_asked t ≡ true → linked t ≡ on_new_link t
-is-linked t asked_t = if-true (is_asked t) (on_new_link t) t asked_t
 
 -- on a new link nothing was committed, and the header waits
 pub tied-linked : (t : Talk) → is_asked t ≡ true → IsSilent t → IsTied (linked t) []

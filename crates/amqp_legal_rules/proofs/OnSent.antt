@@ -20,7 +20,7 @@ use Rattle.amqp_session.specs.Listed.{put, without}
 use Rattle.amqp_session.specs.Sound.{AscendFrom}
 use Rattle.amqp_legal.specs.Decider.{Speech}
 use Rattle.amqp_types.proofs.Small.{if_case, if_by, same-number, other-number}
-use Rattle.amqp_session.proofs.Keeping.{follow-open}
+use Rattle.amqp_session.proofs.Sending.{follow-open}
 use Rattle.amqp_session.proofs.Ascending.{put-from, without-from}
 use Rattle.amqp_legal_rules.proofs.Ties.{first_out, pays, unpaid, TiesChannels, Ties}
 use Rattle.amqp_legal_rules.proofs.Paying.{sent-off}

@@ -93,7 +93,7 @@ never-ready v w (group ∷ groups) closed h = absurd (closed h.0.speaking)
 -- ---- the pieces of a body
 
 -- none of them is empty
-pieces-some : (pieces size : ℕ) (octets : List ℕ) → 1 ≤ size → AllByRecursion (λ body. 1 ≤ length body) (cut pieces size octets)
+pub pieces-some : (pieces size : ℕ) (octets : List ℕ) → 1 ≤ size → AllByRecursion (λ body. 1 ≤ length body) (cut pieces size octets)
 pieces-some zero size octets some = tt
 pieces-some (suc pieces) size [] some = tt
 pieces-some (suc pieces) zero (octet ∷ octets) some = absurd (omega (arith, some))

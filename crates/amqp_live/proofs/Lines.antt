@@ -7,7 +7,7 @@ use Rattle.amqp_replay.specs.declared.status.TheConstants.{SINK_FAILED, FAILED, 
 use Rattle.amqp_live.specs.Said.{connected_line, channel_line, closed_line, error_line, two_lines, all_lines, AreFrontLines, AreLines, IsChannelLine, SaysAll, SaysSome, SaysError, SaysFront}
 use Rattle.amqp_uri.specs.declared.fault.UriFault.{UriFault}
 use Rattle.amqp_uri.specs.declared.uri.AMQPUri.{AMQPUri}
-use Rattle.amqp_live.specs.Ends.{IsAddress, RefusesToConnect, Visits, Goes, TellsError}
+use Rattle.amqp_live.specs.Ends.{IsReached, RefusesToConnect, Visits, Goes, TellsError}
 use Rattle.amqp_live.specs.declared.live.Stop.{Stop}
 use Rattle.amqp_live.specs.declared.live.Stop.TheVariants.{Unsaid, Unconnected, Failed}
 
@@ -132,20 +132,20 @@ front-first e before now later status is same (inr (inr tells)) =
 
 -- ---- how connecting and a visit went, where it is known why they went no further
 
-pub goes-failed : (known : Result AMQPUri UriFault) (n m : ℕ) (before now : Option (List ℕ)) (stop : Stop) (e : ErrorKind)
-    → stop ≡ Failed e → Goes known n m before now (Err stop) → IsAddress known × SaysSome before now
-goes-failed known n m before now stop e is goes =
-    let P : Stop → Type 0 = λ x. Goes known n m before now (Err x) in
+pub goes-failed : (known : Result AMQPUri UriFault) (n m k l : ℕ) (before now : Option (List ℕ)) (stop : Stop) (e : ErrorKind)
+    → stop ≡ Failed e → Goes known n m k l before now (Err stop) → IsReached known k l × SaysSome before now
+goes-failed known n m k l before now stop e is goes =
+    let P : Stop → Type 0 = λ x. Goes known n m k l before now (Err x) in
     subst P is goes
 
-pub goes-unsaid : (known : Result AMQPUri UriFault) (n m : ℕ) (before now : Option (List ℕ)) (stop : Stop)
-    → stop ≡ Unsaid → Goes known n m before now (Err stop) → IsAddress known × SaysFront before now
-goes-unsaid known n m before now stop is goes =
-    let P : Stop → Type 0 = λ x. Goes known n m before now (Err x) in
+pub goes-unsaid : (known : Result AMQPUri UriFault) (n m k l : ℕ) (before now : Option (List ℕ)) (stop : Stop)
+    → stop ≡ Unsaid → Goes known n m k l before now (Err stop) → IsReached known k l × SaysFront before now
+goes-unsaid known n m k l before now stop is goes =
+    let P : Stop → Type 0 = λ x. Goes known n m k l before now (Err x) in
     subst P is goes
 
-pub goes-unconnected : (known : Result AMQPUri UriFault) (n m : ℕ) (before now : Option (List ℕ)) (stop : Stop) (e : ErrorKind)
-    → stop ≡ Unconnected e → Goes known n m before now (Err stop) → RefusesToConnect known n m e × (now ≡ before)
-goes-unconnected known n m before now stop e is goes =
-    let P : Stop → Type 0 = λ x. Goes known n m before now (Err x) in
+pub goes-unconnected : (known : Result AMQPUri UriFault) (n m k l : ℕ) (before now : Option (List ℕ)) (stop : Stop) (e : ErrorKind)
+    → stop ≡ Unconnected e → Goes known n m k l before now (Err stop) → RefusesToConnect known n m e × (now ≡ before)
+goes-unconnected known n m k l before now stop e is goes =
+    let P : Stop → Type 0 = λ x. Goes known n m k l before now (Err x) in
     subst P is goes

@@ -3,12 +3,13 @@
 ghost use Rattle.std.specs.Prelude.{◌≡◌, ◌≢◌, ◌↔◌, ◌≤◌, None, Some, IfSome, IfOk, IfErr, OnOk, OnErr, Err};
 ghost use Rattle.std.specs.Option.{option_copied};
 ghost use Rattle.std.specs.String.{string_bytes};
+ghost use Rattle.amqp_types.specs.Counts.{Rose};
 ghost use Rattle.amqp_uri.specs.Address.{address_of_text};
 ghost use Rattle.amqp_replay.specs.Ends.{FailedOnce};
 ghost use Rattle.amqp_replay.specs.Top.{TookAll, TookFront};
 ghost use Rattle.lapin_connection.specs.Connecting.{ConnectsToText};
 ghost use Rattle.amqp_live.specs.Said.{live_address, IsChannelLine, SaysAll};
-ghost use Rattle.amqp_live.specs.Ends.{IsAddress, Visits, Goes, SaysWhy, SaysAsFar, FailsToSay, TellsError, IsStatus};
+ghost use Rattle.amqp_live.specs.Ends.{IsReached, Visits, Goes, SaysWhy, SaysAsFar, FailsToSay, TellsError, IsStatus};
 
 use crate::said::{channel_line, error_line};
 use amqp_replay::Sink;
@@ -63,14 +64,17 @@ pub fn top_live<K: Sink, S: Spawner, R: Threads + Wait + Copy + Send + 'static>(
     ensures usage { (result ≡ USAGE) ↔ (live_address words.now ≡ None) }
     ensures silent { result ≡ USAGE → K.held sink.new ≡ K.held sink.old }
     ensures closed { result ≡ CLOSED → IfSome (live_address words.now)
-        (λ uri. IsAddress (address_of_text uri) × SaysAll (K.held sink.old) (K.held sink.new)) }
+        (λ uri. IsReached (address_of_text uri) (S.loops runtime.old) (S.loops runtime.new)
+        × SaysAll (K.held sink.old) (K.held sink.new)) }
     ensures failed { result ≡ FAILED → IfSome (live_address words.now) (λ uri. SaysWhy (address_of_text uri)
-        (S.refusals runtime.old) (S.refusals runtime.new) (K.held sink.old) (K.held sink.new)) }
+        (S.refusals runtime.old) (S.refusals runtime.new) (S.loops runtime.old) (S.loops runtime.new)
+        (K.held sink.old) (K.held sink.new)) }
     ensures no_memory { result ≡ NO_MEMORY → IfSome (live_address words.now)
-        (λ uri. SaysAsFar (address_of_text uri) (K.held sink.old) (K.held sink.new)) }
+        (λ uri. SaysAsFar (address_of_text uri) (S.loops runtime.old) (S.loops runtime.new)
+        (K.held sink.old) (K.held sink.new)) }
     ensures sink_failed { result ≡ SINK_FAILED → IfSome (live_address words.now) (λ uri. FailsToSay
         (address_of_text uri) (S.refusals runtime.old) (S.refusals runtime.new)
-        (K.held sink.old) (K.held sink.new)) }
+        (S.loops runtime.old) (S.loops runtime.new) (K.held sink.old) (K.held sink.new)) }
     ensures sink_cause { result ≡ SINK_FAILED → FailedOnce (K.faults sink.old) (K.faults sink.new) }
     ensures sink_kept { result ≢ SINK_FAILED → K.faults sink.new ≡ K.faults sink.old }
     ensures statuses { IsStatus result }
@@ -141,7 +145,7 @@ fn converse<K: Sink, S: Spawner, R: Threads + Wait + Copy + Send + 'static>(
     runtime: &mut S,
 ) -> std::result::Result<(), Stop>
     ensures goes { Goes (address_of_text uri.now) (S.refusals runtime.old) (S.refusals runtime.new)
-        (K.held sink.old) (K.held sink.new) result }
+        (S.loops runtime.old) (S.loops runtime.new) (K.held sink.old) (K.held sink.new) result }
     ensures cause { result ≡ Err Stop.Unsaid → FailedOnce (K.faults sink.old) (K.faults sink.new) }
     ensures kept { result ≢ Err Stop.Unsaid → K.faults sink.new ≡ K.faults sink.old }
     ensures refusals { S.refusals runtime.old ≤ S.refusals runtime.new }
@@ -161,6 +165,7 @@ fn connect<S: Spawner, R: Threads + Wait + Copy + Send + 'static>(
 ) -> Result<Connection>
     ensures count { S.refusals runtime.old ≤ S.refusals runtime.new }
     ensures refused { ConnectsToText uri.now (S.refusals runtime.old) (S.refusals runtime.new) result }
+    ensures started { OnOk result (Rose (S.loops runtime.old) (S.loops runtime.new)) }
 {
     let options = ConnectionProperties::new(alloc)?;
     Connection::connect_with_runtime(rt, alloc, uri, options, runtime)

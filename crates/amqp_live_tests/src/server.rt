@@ -1,7 +1,8 @@
 //! A port before a server that says each piece once it has heard all that it waits for, and the spawner
 //! that gives it.
 
-ghost use Rattle.std.specs.Prelude.{◌≡◌, ◌≤◌, ◌<◌, None, IfSome, length};
+ghost use Rattle.std.specs.Prelude.{◌≡◌, ◌≤◌, ◌<◌, None, IfSome, OnOk, length};
+ghost use Rattle.amqp_types.specs.Counts.{Rose};
 ghost use Rattle.amqp_engine.specs.Counts.{HasCause};
 ghost use Rattle.amqp_engine.specs.Log.{IsPiece};
 ghost use Rattle.lapin_connection.specs.Refusals.{RoseIfRefused};
@@ -192,6 +193,7 @@ pub struct ServerSpawner<R> {
     script: Option<Script>,
     refuses: Refuses,
     refused: u64,
+    loops: u64,
 }
 
 impl<R> ServerSpawner<R> {
@@ -202,6 +204,7 @@ impl<R> ServerSpawner<R> {
             script: Some(script),
             refuses,
             refused: 0,
+            loops: 0,
         }
     }
 
@@ -215,6 +218,8 @@ impl<R: Clock + Copy + Send + Drop + 'static> Spawner for ServerSpawner<R> {
     type P = ServerPort<R>;
 
     ghost refusals = { λ s. s.refused };
+
+    ghost loops = { λ s. s.loops };
 
     fn port(&mut self, _uri: &AMQPUri) -> Result<(ServerPort<R>, Nudge), SpawnFault> {
         if self.refuses == Refuses::Port {
@@ -245,6 +250,7 @@ impl<R: Clock + Copy + Send + Drop + 'static> Spawner for ServerSpawner<R> {
         requires { F.pre start }
         ensures count { self.old.refused ≤ self.new.refused }
         ensures rose { RoseIfRefused result self.old.refused self.new.refused }
+        ensures started { OnOk result (Rose self.old.loops self.new.loops) }
     {
         if self.refuses == Refuses::Thread {
             self.refuses = Refuses::Nowhere;
@@ -253,7 +259,10 @@ impl<R: Clock + Copy + Send + Drop + 'static> Spawner for ServerSpawner<R> {
             return Err(SpawnFault::Refused);
         }
         match start() {
-            Ok(started) => Ok(started),
+            Ok(started) => {
+                self.loops = self.loops.saturating_add(1);
+                Ok(started)
+            }
             Err(NoMemory) => Err(SpawnFault::NoMemory),
         }
     }

@@ -2,3 +2,5 @@
 pub mod Looking
 -- a turn after them
 pub mod Turns
+-- what is done where no turn comes any more
+pub mod Tidying

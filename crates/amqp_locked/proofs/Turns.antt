@@ -71,14 +71,14 @@ acted-counts (o ∷ os) h = done-counts (due_of (acted os h).engine.talk o) (act
 
 -- ---- turns
 
-module _ (at : ℕ) (step : Step) (bytes : List ℕ) (log log' : Option Log) (before after : Exchange → Type 0) (faults faults' refusals refusals' : ℕ) where
+module _ (is_cut : Bool) (at : ℕ) (step : Step) (bytes : List ℕ) (log log' : Option Log) (before after : Exchange → Type 0) (faults faults' refusals refusals' : ℕ) where
   -- a step after the marks that were found
   pub turns-after : (xs : List (ℕ × Bool)) (l m l' : UnderLock) → m ≡ looked xs l
-      → TakesStep at step bytes m.hub.engine l'.hub.engine m.hub.journal l'.hub.journal log log' before after
+      → TakesStep is_cut at step bytes m.hub.engine l'.hub.engine m.hub.journal l'.hub.journal log log' before after
       → Counted step m.hub.engine l'.hub.engine faults faults' refusals refusals' → l'.hub.base ≡ m.hub.base → l'.hub.counts ≡ m.hub.counts
-      → l' ≡ with_hub l'.hub m → TurnsAfterMarks at step bytes l l' log log' before after faults faults' refusals refusals'
+      → l' ≡ with_hub l'.hub m → TurnsAfterMarks is_cut at step bytes l l' log log' before after faults faults' refusals refusals'
   turns-after xs l m l' is takes counted base counts rest =
-      let P : UnderLock → Type 0 = λ x. TakesStep at step bytes x.hub.engine l'.hub.engine x.hub.journal l'.hub.journal log log' before after in
+      let P : UnderLock → Type 0 = λ x. TakesStep is_cut at step bytes x.hub.engine l'.hub.engine x.hub.journal l'.hub.journal log log' before after in
       let Q : UnderLock → Type 0 = λ x. Counted step x.hub.engine l'.hub.engine faults faults' refusals refusals' in
       let x : UnderLock = finds xs l in
       record {
@@ -91,19 +91,19 @@ module _ (at : ℕ) (step : Step) (bytes : List ℕ) (log log' : Option Log) (be
       }
 
   pub turns_ok : {A E : Type 0} (r : Result A E) (xs : List (ℕ × Bool)) (l m l' : UnderLock) → m ≡ looked xs l
-      → OnOk r (TakesStep at step bytes m.hub.engine l'.hub.engine m.hub.journal l'.hub.journal log log' before after)
+      → OnOk r (TakesStep is_cut at step bytes m.hub.engine l'.hub.engine m.hub.journal l'.hub.journal log log' before after)
       → Counted step m.hub.engine l'.hub.engine faults faults' refusals refusals' → l'.hub.base ≡ m.hub.base → l'.hub.counts ≡ m.hub.counts
-      → l' ≡ with_hub l'.hub m → OnOk r (TurnsAfterMarks at step bytes l l' log log' before after faults faults' refusals refusals')
+      → l' ≡ with_hub l'.hub m → OnOk r (TurnsAfterMarks is_cut at step bytes l l' log log' before after faults faults' refusals refusals')
   turns_ok (Ok x) xs l m l' is takes counted base counts rest = turns-after xs l m l' is takes counted base counts rest
   turns_ok (Err x) xs l m l' is takes counted base counts rest = tt
 
   -- or one that starves after them
   pub turns_err : {A E : Type 0} (r : Result A E) (Port Provider : Type 0) (xs : List (ℕ × Bool)) (l m l' : UnderLock) → m ≡ looked xs l
-      → OnErr r (TakesStep at step bytes m.hub.engine l'.hub.engine m.hub.journal l'.hub.journal log log' before after
+      → OnErr r (TakesStep is_cut at step bytes m.hub.engine l'.hub.engine m.hub.journal l'.hub.journal log log' before after
       ⊎ ((l'.hub ≡ starved_at at step m.hub) × Port × Provider))
       → Counted step m.hub.engine l'.hub.engine faults faults' refusals refusals' → l'.hub.base ≡ m.hub.base → l'.hub.counts ≡ m.hub.counts
       → l' ≡ with_hub l'.hub m
-      → OnErr r (TurnsAfterMarks at step bytes l l' log log' before after faults faults' refusals refusals' ⊎ (StarvesAfterMarks at step l l' × Port × Provider))
+      → OnErr r (TurnsAfterMarks is_cut at step bytes l l' log log' before after faults faults' refusals refusals' ⊎ (StarvesAfterMarks at step l l' × Port × Provider))
   turns_err (Ok x) Port Provider xs l m l' is takes counted base counts rest = tt
   turns_err (Err x) Port Provider xs l m l' is takes counted base counts rest =
       elim takes [

@@ -1,22 +1,29 @@
 -- What nobody will take is taken and let go.
-use Rattle.std.specs.Prelude.{◌≡◌, ℕ, zero, suc, if◌then◌else◌, Bool, true, false, List, [], ◌∷◌, ◌++◌, Option, Some, None, is_some, Result}
+use Rattle.std.specs.Prelude.{◌≡◌, ◌||◌, not, ℕ, zero, suc, if◌then◌else◌, Bool, true, false, List, [], ◌∷◌, ◌++◌, Option, Some, None, is_some, Result}
 use Rattle.amqp_promise.specs.declared.error.ErrorKind.{ErrorKind}
 use Rattle.amqp_session.specs.declared.command.Answer.{Answer}
-use Rattle.amqp_session.specs.Talk.{Talk}
+use Rattle.amqp_session.specs.Talk.{Talk, has_ended}
 use Rattle.amqp_session.specs.Answers.{Takes, take_frames}
 use Rattle.amqp_session.specs.Queries.{opening}
 use Rattle.amqp_hub.specs.declared.due.Owner.{Owner}
 use Rattle.amqp_hub.specs.declared.due.Owner.TheVariants as owner
+use Rattle.amqp_locked.specs.Taking.{is_refused}
 
--- what this owned is taken, as far as it is there, and whether more may come: the answer, where it was not there; and
--- frames of an opening, while its channel is listed
+-- an answer may still come, or still be there: none was there and the session goes on, or memory for the copy of an
+-- error may have been refused
+abbrev pub may_come : Option (Result Answer ErrorKind) → Bool → Bool
+may_come None ended = not ended
+may_come (Some answer) ended = is_refused answer
+
+-- what this owned is taken, as far as it is there, and whether more may come: an answer; and of an opening, whose own
+-- answer is taken, frames while its channel is listed
 abbrev pub LetsGo : Owner → Talk → Talk → Bool → Type 0
 LetsGo owner.Connection t t' more = (t' ≡ t) × (more ≡ false)
 LetsGo (owner.Answer n) t t' more =
-    (given : Option (Result Answer ErrorKind)) × Takes n given t t' × (is_some given ≡ (if more then false else true))
+    (given : Option (Result Answer ErrorKind)) × Takes n given t t' × (more ≡ may_come given (has_ended t))
 LetsGo (owner.Channel n) t t' more =
     (given : Option (Result Answer ErrorKind)) × (between : Talk) × Takes n given t between
-    × (t' ≡ take_frames n between) × (more ≡ is_some (opening n t'))
+    × (t' ≡ take_frames n between) × (more ≡ (is_some (opening n t') || may_come given true))
 
 -- the first of these is let go, and goes last where more may come
 abbrev pub LetsFirstGo : List Owner → Talk → List Owner → Talk → Type 0

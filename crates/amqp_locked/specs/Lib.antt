@@ -4,7 +4,11 @@ pub mod UnderLock
 pub mod Looking
 -- what a turn does under the lock
 pub mod Turning
--- what nobody will take is let go
-pub mod LettingGo
 -- what is taken by a poll
 pub mod Taking
+-- what nobody will take is let go
+pub mod LettingGo
+-- what is done where no turn comes any more
+pub mod Tidying
+-- whether a channel goes on after an error
+pub mod Recovering

@@ -27,11 +27,12 @@ pub record Counted (step : Step) (e e' : Engine) (faults faults' refusals refusa
   pub of_provider : (text : Text) → has_ended e.talk ≡ false → end_of e'.talk ≡ Some (Err (AuthProviderError text))
       → Rose refusals refusals'
 
--- marks are found, what is due about each that is not done with is done, and then a step is taken
-pub record TurnsAfterMarks (at : ℕ) (step : Step) (bytes : List ℕ) (l l' : UnderLock) (log log' : Option Log)
-    (before after : Exchange → Type 0) (faults faults' refusals refusals' : ℕ) : Type 0 where
+-- marks are found, what is due about each that is not done with is done, and then a step is taken, whose turn was cut
+-- or was not
+pub record TurnsAfterMarks (is_cut : Bool) (at : ℕ) (step : Step) (bytes : List ℕ) (l l' : UnderLock)
+    (log log' : Option Log) (before after : Exchange → Type 0) (faults faults' refusals refusals' : ℕ) : Type 0 where
   pub found : List (ℕ × Bool)
-  pub takes : TakesStep at step bytes (looked found l).hub.engine l'.hub.engine (looked found l).hub.journal
+  pub takes : TakesStep is_cut at step bytes (looked found l).hub.engine l'.hub.engine (looked found l).hub.journal
       l'.hub.journal log log' before after
   pub counted : Counted step (looked found l).hub.engine l'.hub.engine faults faults' refusals refusals'
   pub base : l'.hub.base ≡ l.hub.base

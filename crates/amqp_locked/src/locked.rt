@@ -1,9 +1,9 @@
 //! What lies under the lock: a hub, the places of its handles, and who waits to be woken.
 
-ghost use Rattle.std.specs.Prelude.{◌≡◌, ◌≤◌, ◌<◌, ◌⊎◌, ◌+◌, ◌++◌, ℕ, [], true, map, replicate, ◌∷◌, IfOk, IfErr, IfNone, IfSome, OnOk, OnErr, None, Some, Ok, length, IsSome, IsOk};
+ghost use Rattle.std.specs.Prelude.{◌≡◌, ◌≤◌, ◌<◌, ◌⊎◌, ◌+◌, ◌++◌, ℕ, [], true, map, replicate, ◌∷◌, IfOk, IfErr, IfNone, IfSome, OnOk, OnErr, None, Some, Ok, length, IsSome, false};
 ghost use Rattle.std.specs.Fn.{FnOnceReturnsAtMut};
-ghost use Rattle.futures.specs.Task.{Covers, Hears, IsArmed, Keeps};
-ghost use Rattle.futures.specs.Poll.{OnPending, IfReady};
+ghost use Rattle.futures.specs.Task.{Covers, Keeps};
+ghost use Rattle.futures.specs.Poll.{OnPending};
 ghost use Rattle.amqp_session.specs.Talk.{has_ended};
 ghost use Rattle.amqp_session.specs.Answers.{Takes, TakesEvent, take_frames};
 ghost use Rattle.amqp_session.specs.ChannelMethods.{frames_of};
@@ -16,13 +16,14 @@ ghost use Rattle.amqp_hub.specs.Marks.{kept_in, StandsAt};
 ghost use Rattle.amqp_locked.specs.UnderLock.{contents, with_hub, with_session, newly_locked};
 ghost use Rattle.amqp_locked.specs.Turning.{TurnsAfterMarks, StarvesAfterMarks};
 ghost use Rattle.amqp_locked.specs.Taking.{answer_given, polled_of};
+ghost use Rattle.amqp_locked.specs.Recovering.{FoundOf};
 
-use crate::heard::Heard;
-use crate::polled::Polled;
+use crate::heard::{Heard, Line};
+use crate::polled::{Polled, Taken};
 use amqp_engine::Port;
 use amqp_hub::{DropMark, Found, Hub, Owner, Pass, Places, Receipt};
-use amqp_promise::Wakers;
-use amqp_session::{Answer, AuthProvider, Cmd, ErrorKind, Event, Handed, Result};
+use amqp_promise::{ChannelState, Wakers};
+use amqp_session::{Answer, AuthProvider, ChanRef, Cmd, Error, ErrorKind, Event, Result};
 use amqp_types::NoMemory;
 use futures::task::{Context, Poll, Source};
 use std::alloc::Global;
@@ -273,35 +274,37 @@ impl Locked {
 
     /// Takes the frames handed out of the channel that a promise opened, in order, as many as were not yet
     /// taken. It adds no entry.
-    pub fn take_frames(&mut self, opened: u64) -> Result<Vec<Handed>>
-        ensures frames { IfOk result (λ frames. frames.items ≡ frames_of opened self.old.hub.engine.talk) }
+    pub fn take_frames(&mut self, opened: u64) -> Taken
+        ensures opened { result.opened ≡ opened }
+        ensures frames { result.frames.items ≡ frames_of opened self.old.hub.engine.talk }
         ensures taken { contents self.new
             ≡ with_session (take_frames opened self.old.hub.engine.talk) (contents self.old) }
-        ensures takes_no_memory { IsOk result }
     {
-        self.hub.take_frames(opened)
+        match self.hub.take_frames(opened) {
+            Ok(frames) => Taken::of(opened, frames),
+            Err(_) => unreachable!(),
+        }
     }
 
     /// The same, but nothing where there are none and the channel is listed, so that some may come.
-    pub fn frames(&mut self, opened: u64) -> Option<Result<Vec<Handed>>>
-        ensures frames { IfSome result (λ r. IfOk r (λ frames. frames.items
-            ≡ frames_of opened self.old.hub.engine.talk)) }
+    pub fn frames(&mut self, opened: u64) -> Option<Taken>
+        ensures opened { IfSome result (λ t. t.opened ≡ opened) }
+        ensures frames { IfSome result (λ t. t.frames.items ≡ frames_of opened self.old.hub.engine.talk) }
         ensures taken { contents self.new
             ≡ with_session (take_frames opened self.old.hub.engine.talk) (contents self.old) }
-        ensures takes_no_memory { IfSome result IsOk }
         ensures none { IfNone result ((frames_of opened self.old.hub.engine.talk ≡ [])
             × IsSome (opening opened self.old.hub.engine.talk)) }
-        ensures gone { IfSome result (λ r. IfOk r (λ frames. frames.items ≡ []
-            → opening opened self.old.hub.engine.talk ≡ None)) }
+        ensures gone { IfSome result (λ t. t.frames.items ≡ []
+            → opening opened self.old.hub.engine.talk ≡ None) }
     {
         let frames = match self.hub.take_frames(opened) {
             Ok(frames) => frames,
-            Err(refused) => return Some(Err(refused)),
+            Err(_) => unreachable!(),
         };
         if frames.is_empty() && self.hub.session().opening(opened).is_some() {
             return None;
         }
-        Some(Ok(frames))
+        Some(Taken::of(opened, frames))
     }
 
     /// The same; where there is nothing, the polled task waits at this source, or memory for its place is
@@ -311,23 +314,61 @@ impl Locked {
         opened: u64,
         source: &Source,
         cx: &mut Context<'_>,
-    ) -> Poll<Result<Vec<Handed>>>
-        ensures frames { IfSome (polled_of result) (λ frames. frames.items
+    ) -> Poll<std::result::Result<Taken, NoMemory>>
+        ensures opened { IfSome (polled_of result) (λ t. t.opened ≡ opened) }
+        ensures frames { IfSome (polled_of result) (λ t. t.frames.items
             ≡ frames_of opened self.old.hub.engine.talk) }
         ensures taken { contents self.new
             ≡ with_session (take_frames opened self.old.hub.engine.talk) (contents self.old) }
         ensures none { IfNone (polled_of result) ((frames_of opened self.old.hub.engine.talk ≡ [])
             × IsSome (opening opened self.old.hub.engine.talk)) }
-        ensures only { IfReady result (λ r. IfErr r (λ e. e ≡ ErrorKind.NoMemory)) }
+        ensures gone { IfSome (polled_of result) (λ t. t.frames.items ≡ []
+            → opening opened self.old.hub.engine.talk ≡ None) }
         ensures registered { OnPending result (Covers cx.new (λ s. s ≡ source.now.id)) }
         ensures kept { Keeps cx.old cx.new }
     {
         match self.frames(opened) {
-            Some(frames) => Poll::Ready(frames),
+            Some(frames) => Poll::Ready(Ok(frames)),
             None => match self.wakers.register(source, cx) {
                 Ok(()) => Poll::Pending,
-                Err(refused) => Poll::Ready(Err(refused.into())),
+                Err(refused) => Poll::Ready(Err(refused)),
             },
+        }
+    }
+
+    /// What is known of a channel after an error: Ok where it is open; nothing where it waits for another link,
+    /// and the session and the error allow that; else the error, or want of memory for its copy.
+    pub fn found(&self, channel: ChanRef, error: &Error) -> Option<Result<()>>
+        ensures { FoundOf self.now.hub.engine.talk channel error.now result }
+    {
+        match self.hub.session().channel_state(channel) {
+            ChannelState::Connected => Some(Ok(())),
+            ChannelState::Reconnecting
+                if self.hub.session().recovers() && error.can_be_recovered() => { None }
+            _ => Some(Err(copied(self.alloc, error))),
+        }
+    }
+
+    /// The same; where nothing is known, the polled task waits at this source, or memory for its place is
+    /// refused.
+    pub fn found_or_register(
+        &mut self,
+        channel: ChanRef,
+        error: &Error,
+        source: &Source,
+        cx: &mut Context<'_>,
+    ) -> Poll<std::result::Result<Result<()>, NoMemory>>
+        ensures found { FoundOf self.old.hub.engine.talk channel error.now (polled_of result) }
+        ensures rest { contents self.new ≡ contents self.old }
+        ensures registered { OnPending result (Covers cx.new (λ s. s ≡ source.now.id)) }
+        ensures kept { Keeps cx.old cx.new }
+    {
+        if let Some(found) = self.found(channel, error) {
+            return Poll::Ready(Ok(found));
+        }
+        match self.wakers.register(source, cx) {
+            Ok(()) => Poll::Pending,
+            Err(refused) => Poll::Ready(Err(refused)),
         }
     }
 
@@ -339,26 +380,26 @@ impl Locked {
     pub fn apply<P: Port, A: AuthProvider>(
         &mut self,
         heard: Heard<'_>,
-        port: &mut P,
+        line: &mut Line<P>,
         provider: &mut A,
     ) -> Result<()>
         requires { A.can provider.old }
         ensures can { A.can provider.new }
-        ensures ok { OnOk result (TurnsAfterMarks heard.entry.told.at heard.entry.told.step heard.entry.bytes.now
-            (contents self.old) (contents self.new) (P.log port.old) (P.log port.new)
-            (A.allows provider.old) (A.allows provider.new) (P.faults port.old) (P.faults port.new)
+        ensures ok { OnOk result (TurnsAfterMarks false heard.entry.told.at heard.entry.told.step heard.entry.bytes.now
+            (contents self.old) (contents self.new) (P.log line.old.port) (P.log line.new.port)
+            (A.allows provider.old) (A.allows provider.new) (P.faults line.old.port) (P.faults line.new.port)
             (A.refusals provider.old) (A.refusals provider.new)) }
-        ensures err { OnErr result (TurnsAfterMarks heard.entry.told.at heard.entry.told.step heard.entry.bytes.now
-            (contents self.old) (contents self.new) (P.log port.old) (P.log port.new)
-            (A.allows provider.old) (A.allows provider.new) (P.faults port.old) (P.faults port.new)
+        ensures err { OnErr result (TurnsAfterMarks true heard.entry.told.at heard.entry.told.step heard.entry.bytes.now
+            (contents self.old) (contents self.new) (P.log line.old.port) (P.log line.new.port)
+            (A.allows provider.old) (A.allows provider.new) (P.faults line.old.port) (P.faults line.new.port)
             (A.refusals provider.old) (A.refusals provider.new)
             ⊎ (StarvesAfterMarks heard.entry.told.at heard.entry.told.step (contents self.old) (contents self.new)
-            × (port.new ≡ port.old) × (provider.new ≡ provider.old))) }
+            × (line.new.port ≡ line.old.port) × (provider.new ≡ provider.old))) }
         ensures ended { OnErr result (has_ended self.new.hub.engine.talk ≡ true) }
         ensures only { IfErr result (λ e. e ≡ ErrorKind.NoMemory) }
         ensures promises { self.old.hub.engine.talk.made ≤ self.new.hub.engine.talk.made }
-        ensures faults { P.faults port.old ≤ P.faults port.new }
-        ensures kept { P.kept port.new ≡ P.kept port.old }
+        ensures faults { P.faults line.old.port ≤ P.faults line.new.port }
+        ensures kept { P.kept line.new.port ≡ P.kept line.old.port }
         ensures never_falls { A.refusals provider.old ≤ A.refusals provider.new }
     {
         let Heard { told, bytes } = heard;
@@ -366,7 +407,7 @@ impl Locked {
             self.hub.starve(told);
             return Err(refused.into());
         }
-        self.hub.apply(told, bytes, port, provider)
+        self.hub.apply(told, bytes, &mut line.port, provider)
     }
 
     /// Lets the journal begin anew where the engine stands, and gives how many entries were let go.
@@ -380,21 +421,7 @@ impl Locked {
         self.hub.settle()
     }
 
-    // ---- tasks that wait, and the hub
-
-    /// The polled task waits at this source, or memory for its place is refused.
-    pub fn register(
-        &mut self,
-        source: &Source,
-        cx: &mut Context<'_>,
-    ) -> std::result::Result<(), NoMemory>
-        ensures rest { contents self.new ≡ contents self.old }
-        ensures armed { OnOk result (IsArmed cx.new) }
-        ensures heard { OnOk result (Hears cx.new source.now.id) }
-        ensures kept { Keeps cx.old cx.new }
-    {
-        self.wakers.register(source, cx)
-    }
+    // ---- the hub, and tasks that wait
 
     /// Lends the hub for one hold. Who uses it applies no turn, and puts no other hub in its place.
     pub fn lend<T, F: FnOnce(&mut Hub) -> T>(&mut self, use_hub: F) -> T
@@ -411,6 +438,16 @@ impl Locked {
         ensures rest { contents self.new ≡ contents self.old }
     {
         self.wakers.wake();
+    }
+}
+
+// A copy of an error, or want of memory in its place.
+fn copied(alloc: Global, error: &Error) -> Error
+    ensures { (result ≡ error.now) ⊎ (result ≡ ErrorKind.NoMemory) }
+{
+    match error.try_clone(alloc) {
+        Ok(error) => error,
+        Err(refused) => refused.into(),
     }
 }
 

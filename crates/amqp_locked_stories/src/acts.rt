@@ -21,14 +21,14 @@ fn see(told: &mut String, word: &str) -> Done {
 
 // ---- turns
 
-// Takes one step of the port, and lets go what nobody will take. Whether memory was found.
+// Takes one step of the line, and lets go what nobody will take. Whether memory was found.
 fn turn(story: &mut Story, space: &mut [u8]) -> bool
     requires { 4096 ≤ length space.old }
 {
-    let heard = hear(&mut story.port, space);
+    let heard = hear(&mut story.line, space);
     let applied = story
         .locked
-        .apply(heard, &mut story.port, &mut story.provider);
+        .apply(heard, &mut story.line, &mut story.provider);
     story.locked.let_go();
     succeeds(applied)
 }
@@ -118,7 +118,7 @@ fn spend(story: &mut Story, number: usize) -> Done {
 // What an answer says. It takes it.
 fn said_by(alloc: Global, polled: Polled) -> std::result::Result<String, AllocError> {
     let number = polled.number();
-    text_of(alloc, number, polled.answer())
+    text_of(alloc, number, polled.answer(None))
 }
 
 fn text_of(
@@ -189,7 +189,7 @@ fn journal(story: &mut Story, told: &mut String) -> Done {
 // The frames since the last look.
 fn wrote(story: &mut Story, told: &mut String) -> Done {
     see(told, "wrote")?;
-    let heard = story.port.server.heard();
+    let heard = story.line.port().server.heard();
     let from = story.octets.min(heard.len());
     push_names(told, &heard[from..])?;
     story.octets = heard.len();

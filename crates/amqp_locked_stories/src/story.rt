@@ -7,19 +7,19 @@ use crate::acts;
 use crate::played::Played;
 use amqp_engine::IoLoop;
 use amqp_hub::{DropMark, Hub, Pass};
-use amqp_locked::Locked;
+use amqp_locked::{Line, Locked};
 use amqp_session::{ConnectionProperties, DefaultAuthProvider, Result};
 use amqp_stories::Server;
 use amqp_uri::AMQPUri;
 use std::alloc::{AllocError, Global};
 
-/// What lies under a lock, its port and who answers the server; the passes of its callers, and the marks of
+/// What lies under a lock, its line and who answers the server; the passes of its callers, and the marks of
 /// its handles; and how many octets and entries were looked at.
 #[derive(Drop)]
 pub struct Story {
     pub alloc: Global,
     pub locked: Locked,
-    pub port: Played,
+    pub line: Line<Played>,
     pub provider: DefaultAuthProvider,
     pub passes: Vec<Pass>,
     pub connection: Option<DropMark>,
@@ -54,7 +54,7 @@ fn begun(alloc: Global, mut port: Played) -> Result<Story> {
     Ok(Story {
         alloc,
         locked,
-        port,
+        line: Line::new(port),
         provider,
         passes: Vec::new(alloc),
         connection: Some(mark),

@@ -54,15 +54,16 @@ asked-within (word ∷ digits ∷ more ∷ words) count h = absurd cc
 -- ---- so its script is taken
 
 -- what was answered of a number
-abbrev Answered : ℕ → Option Log → Option (List ℕ) → Option (List ℕ) → ℕ → Result Scenario ℕ → Type 0
-Answered count log before after status read =
-    MatchResult read (λ s. Generates (generated count) s log before after status) (λ number. Prints (refused_printout number) before after status)
+abbrev Answered : ℕ → Option Log → Option Log → Option (List ℕ) → Option (List ℕ) → ℕ → Result Scenario ℕ → Type 0
+Answered count log log' before after status read =
+    MatchResult read (λ s. Generates (generated count) s log' before after status)
+    (λ number. Prints (refused_printout number) before after status × (log' ≡ log))
 
-pub number-taken : (n count : ℕ) (log : Option Log) (before after : Option (List ℕ)) (status : ℕ) → n ≡ count → count ≤ MOST_GENERATED
-    → (status ≡ NO_MEMORY) ⊎ Answered n log before after status (parsed false (generated n))
-    → (status ≡ NO_MEMORY) ⊎ Generates (generated count) (generated_scenario count) log before after status
-number-taken n count log before after status same within (inl none) = inl none
-number-taken n count log before after status same within (inr answered) =
-    let N : ℕ → Type 0 = λ k. Answered k log before after status (parsed false (generated k)) in
-    let R : Result Scenario ℕ → Type 0 = λ r. Answered count log before after status r in
+pub number-taken : (n count : ℕ) (log log' : Option Log) (before after : Option (List ℕ)) (status : ℕ) → n ≡ count → count ≤ MOST_GENERATED
+    → (status ≡ NO_MEMORY) ⊎ Answered n log log' before after status (parsed false (generated n))
+    → (status ≡ NO_MEMORY) ⊎ Generates (generated count) (generated_scenario count) log' before after status
+number-taken n count log log' before after status same within (inl none) = inl none
+number-taken n count log log' before after status same within (inr answered) =
+    let N : ℕ → Type 0 = λ k. Answered k log log' before after status (parsed false (generated k)) in
+    let R : Result Scenario ℕ → Type 0 = λ r. Answered count log log' before after status r in
     inr (subst R (generated-taken count within) (subst N same answered))

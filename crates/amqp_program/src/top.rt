@@ -40,11 +40,11 @@ pub fn top<S: Source, K: Sink, P: ScriptedPort, A: AuthProvider>(
     ensures silent { IsSilent result → K.held sink.new ≡ K.held sink.old }
     ensures outcome { asked_by_words words.now ≡ Some Asked.Replay
         → IfSome (S.left source.old) (λ script. IsSilent result
-        ⊎ Replays (is_some handed) (handed_state A.allows handed) script (P.log port.new)
+        ⊎ Replays (is_some handed) (handed_state A.allows handed) script (P.log port.old) (P.log port.new)
         (K.held sink.old) (K.held sink.new) result) }
     ensures some_script { asked_by_words words.now ≡ Some Asked.Replay → IsSilent result
-        ⊎ ReplaysSome (is_some handed) (handed_state A.allows handed) (S.left source.old) (P.log port.new)
-        (K.held sink.old) (K.held sink.new) result }
+        ⊎ ReplaysSome (is_some handed) (handed_state A.allows handed) (S.left source.old)
+        (P.log port.old) (P.log port.new) (K.held sink.old) (K.held sink.new) result }
     ensures generated { (count : ℕ) → asked_by_words words.now ≡ Some (Asked.Generate count) → (result ≡ NO_MEMORY)
         ⊎ Generates (generated count) (generated_scenario count) (P.log port.new)
         (K.held sink.old) (K.held sink.new) result }

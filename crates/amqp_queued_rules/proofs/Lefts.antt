@@ -13,14 +13,14 @@ use Rattle.amqp_frame.specs.Methods.{is_of_a_channel}
 use Rattle.amqp_frame.specs.RawMethods.{OtherMethod}
 use Rattle.amqp_outbox.specs.declared.item.Item.{Item}
 use Rattle.amqp_outbox.specs.declared.reply.Reply.TheVariants.{ChannelOpened, ChannelClosed, FlowDone, SecretDone, ConnectionClosed}
-use Rattle.amqp_outbox.specs.Items.{plain_item, promised_item, group_of, size_of}
+use Rattle.amqp_outbox.specs.Items.{plain_item, promised_item, group_of}
 use Rattle.amqp_outbox.specs.Queued.{Queued, nothing_queued, awaited_promise, only, next_item}
 use Rattle.amqp_outbox.proofs.Waiting.{next-waits}
 use Rattle.amqp_promise.specs.declared.error.ErrorKind.{ErrorKind}
 use Rattle.amqp_promise.specs.declared.error.ErrorKind.TheVariants.{AuthProviderError, ChannelsLimitReached, InvalidChannel, InvalidConnectionState, InvalidProtocolVersion, IOError, MissingHeartbeatError, OutboxFull, ProtocolError, SerialisationError}
 use Rattle.amqp_promise.specs.declared.io_fault.IoFault.{IoFault}
 use Rattle.amqp_promise.specs.declared.state.ConnectionState.{ConnectionState}
-use Rattle.amqp_promise.specs.declared.state.ConnectionState.TheVariants.{Connecting, Connected, Closing}
+use Rattle.amqp_promise.specs.declared.state.ConnectionState.TheVariants.{Connecting, Connected, Closing, Reconnecting}
 use Rattle.amqp_promise.specs.declared.state.ChannelState.{ChannelState}
 use Rattle.amqp_promise.specs.declared.state.ChannelState.TheVariants as channel
 use Rattle.amqp_auth.specs.declared.asked.Asked.{Asked}
@@ -44,6 +44,8 @@ use Rattle.amqp_session.specs.Talk.{Talk, acts, hears_on, is_open, is_asked, is_
 use Rattle.amqp_session.specs.Negotiation.{tune}
 use Rattle.amqp_session.specs.Handshake.{protocol_header, start_ok, secure_ok, tune_ok, open_vhost, our_close, close_ok, new_secret, channel_open, channel_flow, flow_ok, channel_close_ok, our_channel_close}
 use Rattle.amqp_session.specs.Violations.{channel_closed_with, misread_error, stray_channel_frame, stray_connection_method, unawaited}
+use Rattle.amqp_session.specs.Listed.{at}
+use Rattle.amqp_session.specs.Changes as change
 use Rattle.amqp_session.specs.Changes.{queue, next_promise, refuse, lose, misplaced, close, finish, finish_by, starve, without_all_on, without_groups_of, without_groups}
 use Rattle.amqp_session.specs.Recovery.{next_delay}
 use Rattle.amqp_session.specs.Numbering.{first_number, drawn}
@@ -54,12 +56,15 @@ use Rattle.amqp_session.specs.ConnectionMethods.{started, on_start, challenged, 
 use Rattle.amqp_session.specs.Links.{linked, refused_after, link_failed, misread, dropped, lost}
 use Rattle.amqp_session.specs.Frames.{method_on, method_rule, frame_rule, closed_rule, on_frame}
 use Rattle.amqp_session.specs.Commands.{target, open_as, open_drawn, leave_channel, close_target, drop_target, too_long, unless_too_long, too_full, unless_full, queue_send, send_target, body_limit, queue_publish, publish_target, tell_flow, flow_target, queue_secret, leave_connection, command_rule, command}
-use Rattle.amqp_session.specs.Ticks.{asks_validity, has_expired, heartbeat_due, is_heartbeat_due, is_missed, link_due, missing_heartbeat, refresh, refresh_reason, refreshed, secret_due, tick, validity_told}
+use Rattle.amqp_session.specs.Ticks.{asks_validity, has_expired, heartbeat_due, is_heartbeat_due, is_missed, link_due, refresh, refresh_reason, refreshed, secret_due, tick, validity_told}
 use Rattle.amqp_session.specs.Laws.{IsAnsweredAtOnce}
-use Rattle.amqp_session.specs.Writing.{writes, flows, next_out, fitting, next_within, committed_as, commit, overlong, end_overlong, next_frame, pay, follow, sent, sent_among, taken}
+use Rattle.amqp_session.specs.Writing.{writes, flows, next_out, next_within, committed_as, commit, overlong, end_overlong, next_frame, pay, follow, sent, sent_among, taken}
 use Rattle.amqp_session.proofs.Numbered.{put-same}
 use Rattle.amqp_session.proofs.Recovering.{lose-case}
 use Rattle.amqp_session.proofs.Walk.{close_answered, pay-case}
+use Rattle.amqp_session.proofs.Finishing.{fitting-some}
+use Rattle.amqp_session.proofs.SoundFrames.{heard-listed}
+use Rattle.amqp_session.proofs.Sending.{sent_among-closed}
 use Rattle.amqp_types.proofs.Small.{if_case, if_by}
 use Rattle.amqp_queued_rules.specs.Queued.{start_reply, secure_reply, tune_reply, reopenings, reply_to, opening_of, told_by, published_by, heartbeat_of, new_one, renewal, renewal_of, told_in_time}
 use Rattle.amqp_queued_rules.specs.Left.{GainsBehind, Stays, DropsAll, StaysOrDrops, is_left, left_by_frame, left_by_command, AddsWhere, answers_flow, answers_close, says_start, says_secure, is_replied_on_0, is_replied_on, is_replied, IsUntold, GoesOut, LeavesWhatWaits}
@@ -103,19 +108,19 @@ abbrev Still : Talk → Talk → Type 0
 Still t x = Stays t.outbox x.outbox
 
 still : (t : Talk) → StaysOrDrops t t
-still t = inl (same t.outbox)
+still t = inl (same t.outbox, λ h. h)
+
+-- all stays, in a session that goes on as it did
+as-before : (t x : Talk) → x.state ≡ t.state → Still t x → StaysOrDrops t x
+as-before t x held h = inl (h, λ waits. sym held ∙ waits)
 
 kept-lose : (e : ErrorKind) (t : Talk) → StaysOrDrops t (lose e t)
-kept-lose e t = lose-case (StaysOrDrops t) e t (λ delay. inr (record { state = refl; nothing = refl })) (inl (same t.outbox))
+kept-lose e t = lose-case (StaysOrDrops t) e t (λ delay. inr (record { state = refl; nothing = refl })) (inl (same t.outbox, λ waits. absurd cc))
 
 kept-misplaced : (e : ErrorKind) (t : Talk) → StaysOrDrops t (misplaced e t)
 kept-misplaced e t = if_case (StaysOrDrops t) (is_closing t.state) t (lose e t) (still t) (kept-lose e t)
 
 -- ---- channels
-
-heard-there : (s : ConnectionState) (o : Option Channel) (c : Channel) → heard_on s o ≡ Some c → o ≡ Some c
-heard-there Connecting o c h = absurd cc
-heard-there _ o c h = h
 
 -- what is not heard on a channel is not replied to
 unheard-silent : (s : ConnectionState) (o : Option Channel) (m : AnyMethod) → heard_on s o ≡ None → is_replied_on s o m ≡ false
@@ -147,20 +152,22 @@ kept-unawaited n _ m t = kept-lose (unawaited m n) t
 
 kept-opened : (n : ℕ) (c : Channel) (o : Option (Option ℕ)) (t : Talk) → StaysOrDrops t (channel_opened n c o t)
 kept-opened n c None t = kept-unawaited n c.state ChannelOpenOk t
-kept-opened n c (Some promise) t = inl (stays t.outbox (channel_opened n c (Some promise) t).outbox refl refl refl)
+kept-opened n c (Some promise) t =
+    let x : Talk = channel_opened n c (Some promise) t in as-before t x refl (stays t.outbox x.outbox refl refl refl)
 
-kept-owed : (d : Debt) (n : ℕ) (c : Channel) (t x : Talk) → Still t x → StaysOrDrops t (remove_unless_owed d n c x)
-kept-owed debt.Owed n c t x h = inl h
-kept-owed _ n c t x h = inl h
+kept-owed : (d : Debt) (n : ℕ) (c : Channel) (t x : Talk) → x.state ≡ t.state → Still t x → StaysOrDrops t (remove_unless_owed d n c x)
+kept-owed debt.Owed n c t x held h = as-before t (remove_unless_owed debt.Owed n c x) held h
+kept-owed d n c t x held h = as-before t (remove_unless_owed d n c x) held h
 
 kept-closed : (n : ℕ) (c : Channel) (o : Option (Option ℕ)) (t : Talk) → StaysOrDrops t (channel_closed n c o t)
 kept-closed n c None t = kept-unawaited n c.state ChannelCloseOk t
 kept-closed n c (Some promise) t =
-    let x : Talk = close_answered n promise t in kept-owed c.debt n c t x (stays t.outbox x.outbox refl refl refl)
+    let x : Talk = close_answered n promise t in kept-owed c.debt n c t x refl (stays t.outbox x.outbox refl refl refl)
 
 kept-flowed : (n : ℕ) (c : Channel) (active : Bool) (o : Option (Option ℕ)) (t : Talk) → StaysOrDrops t (channel_flowed n c active o t)
 kept-flowed n c active None t = kept-unawaited n c.state (ChannelFlowOk active) t
-kept-flowed n c active (Some promise) t = inl (stays t.outbox (channel_flowed n c active (Some promise) t).outbox refl refl refl)
+kept-flowed n c active (Some promise) t =
+    let x : Talk = channel_flowed n c active (Some promise) t in as-before t x refl (stays t.outbox x.outbox refl refl refl)
 
 added-flow : (s : ChannelState) (n : ℕ) (c : Channel) (active : Bool) (t : Talk)
     → AddsWhere (answers_flow s) (plain_item n (flow_ok n active) ∷ []) t.outbox t (on_channel_flow s n c active t)
@@ -207,7 +214,7 @@ module _ (n : ℕ) (answers : List Asked) where
       (kept-misplaced (InvalidChannel (suc n)) t)
   added-by-channel (Some c) m t heard =
       subst (λ (o : Option Channel). Answered (is_replied_on t.state o m) m t (channel_method_by (Some c) (suc n) m t))
-      (sym (heard-there t.state (channel_at (suc n) t) c heard)) (added-on-channel t.state c m t heard)
+      (sym (heard-listed t.state (channel_at (suc n) t) c heard)) (added-on-channel t.state c m t heard)
 
   added-method-on : (m : AnyMethod) (t : Talk) → Answered (is_replied_on t.state (channel_at (suc n) t) m) m t (method_on (suc n) m t)
   added-method-on m t =
@@ -221,7 +228,7 @@ kept-raw : (o : Option Channel) (n : ℕ) (kind : RawKind) (bytes : List ℕ) (t
 kept-raw None n kind bytes t = kept-misplaced (InvalidChannel n) t
 kept-raw (Some c) n kind bytes t =
     if_case (λ (x : Talk). StaysOrDrops t (hand_out c.opened (record { channel = n; kind = kind; bytes = bytes }) x)) (is_select_ok kind bytes) (confirmed n c t) t
-    (inl (same t.outbox)) (inl (same t.outbox))
+    (inl (same t.outbox, λ h. h)) (inl (same t.outbox, λ h. h))
 
 -- ---- the connection
 
@@ -253,12 +260,13 @@ added-reopenings t =
 
 kept-secret : (o : Option (Option ℕ)) (t : Talk) → StaysOrDrops t (secret_taken o t)
 kept-secret None t = kept-lose (InvalidConnectionState Connected) t
-kept-secret (Some None) t = inl (stays t.outbox (secret_taken (Some None) t).outbox refl refl refl)
-kept-secret (Some (Some number)) t = inl (stays t.outbox (secret_taken (Some (Some number)) t).outbox refl refl refl)
+kept-secret (Some None) t = let x : Talk = secret_taken (Some None) t in as-before t x refl (stays t.outbox x.outbox refl refl refl)
+kept-secret (Some (Some number)) t =
+    let x : Talk = secret_taken (Some (Some number)) t in as-before t x refl (stays t.outbox x.outbox refl refl refl)
 
 kept-answered : (o : Option (Option ℕ)) (t : Talk) → StaysOrDrops t (connection_closed o t)
-kept-answered None t = inl (same t.outbox)
-kept-answered (Some promise) t = inl (stays t.outbox (connection_closed (Some promise) t).outbox refl refl refl)
+kept-answered None t = inl (same t.outbox, λ waits. absurd cc)
+kept-answered (Some promise) t = inl (stays t.outbox (connection_closed (Some promise) t).outbox refl refl refl, λ waits. absurd cc)
 
 -- the server's close leaves nothing but its answer
 added-close-ok : GainsBehind (plain_item 0 close_ok ∷ []) [] nothing_queued (only (plain_item 0 close_ok))
@@ -272,8 +280,8 @@ module _ (answers : List Asked) where
   added-connection : (s : ConnectionState) (p : Phase) (m : AnyMethod) (t : Talk)
       → Answers (is_replied_on_0 s p m answers) (Method 0 m) t (connection_rule s p m answers t)
   added-connection s p (Close code text class method) t = added-close-ok
-  added-connection s p (Blocked reason) t = inl (same t.outbox)
-  added-connection s p Unblocked t = inl (same t.outbox)
+  added-connection s p (Blocked reason) t = inl (same t.outbox, λ h. h)
+  added-connection s p Unblocked t = inl (same t.outbox, λ h. h)
   added-connection Closing p CloseOk t = kept-answered (awaited_promise 0 ConnectionClosed t.outbox) t
   added-connection Closing p m t = still t
   added-connection Connecting AwaitStart (Start a b c d e) t = added-start answers t
@@ -299,8 +307,8 @@ module _ (answers : List Asked) where
   added-rule (Raw (suc n) kind bytes) t = kept-raw (heard_on t.state (channel_at (suc n) t)) (suc n) kind bytes t
 
 kept-after-close : (f : Frame) (t : Talk) → StaysOrDrops t (closed_rule f t)
-kept-after-close (Method zero (Blocked reason)) t = inl (same t.outbox)
-kept-after-close (Method zero Unblocked) t = inl (same t.outbox)
+kept-after-close (Method zero (Blocked reason)) t = inl (same t.outbox, λ h. h)
+kept-after-close (Method zero Unblocked) t = inl (same t.outbox, λ h. h)
 kept-after-close f t = still t
 
 -- a frame adds its reply to what it leaves, where one is due; else all stays, or the link is lost
@@ -314,9 +322,9 @@ frame-added f answers t = by (acts t) where
 
 -- ---- commands
 
--- a command adds these to what it leaves, or all stays for this reason
+-- a command adds these to what it leaves, or all stays, exactly for this reason
 abbrev Obeyed : Type 0 → List Item → List (List Item) → Queued → Talk → Talk → Type 0
-Obeyed untold frames groups left t x = (Still t x × untold) ⊎ GainsBehind frames groups left x.outbox
+Obeyed untold frames groups left t x = (Still t x × untold) ⊎ (GainsBehind frames groups left x.outbox × (untold → ⊥))
 
 -- its promise is answered at once with an error
 abbrev IsRefusal : Talk → Talk → Type 0
@@ -326,13 +334,18 @@ IsRefusal t x = (e : ErrorKind) × IsAnsweredAtOnce e t x
 abbrev Told : List Item → List (List Item) → Queued → Talk → Talk → Type 0
 Told frames groups left t x = Obeyed (IsRefusal t x) frames groups left t x
 
+-- a promise that waits is not answered
+waits-on : (t u : Talk) → at t.made u.promises ≡ Some None → IsRefusal t u → ⊥
+waits-on t u waits (e, h) = let clash : Some None ≡ Some (Some (Err e)) = sym waits ∙ h in absurd cc
+
 -- one error more, and all stays
 refused : (e : ErrorKind) (t : Talk) → Still t (refuse e t) × IsRefusal t (refuse e t)
 refused e t = (same t.outbox, (e, put-same t.made (Some (Err e)) t.promises))
 
 told-opened : (o : Option ℕ) (first : ℕ) (t : Talk) → Told (opening_of o) [] t.outbox t (open_drawn o first t)
 told-opened None first t = inl (same t.outbox, (ChannelsLimitReached, put-same t.made (Some (Err ChannelsLimitReached)) t.promises))
-told-opened (Some n) first t = inr (one-more t.outbox (open_as n t).outbox (plain_item n (channel_open n)) refl refl refl)
+told-opened (Some n) first t =
+    inr (one-more t.outbox (open_as n t).outbox (plain_item n (channel_open n)) refl refl refl, waits-on t (open_as n t) (put-same t.made None t.promises))
 
 adds-leave : (n code : ℕ) (text : List ℕ) (c : Channel) (answers : Option ℕ) (t : Talk)
     → GainsBehind (plain_item n (our_channel_close n code text) ∷ []) [] (without_groups_of n t.outbox) (leave_channel n code text c answers t).outbox
@@ -346,17 +359,24 @@ adds-left code text answers t = one-more (without_groups t.outbox) (leave_connec
 told-closed : (o : Result Channel ErrorKind) (n code : ℕ) (text : List ℕ) (t : Talk)
     → Told (plain_item n (our_channel_close n code text) ∷ []) [] (without_groups_of n t.outbox) t (close_target o n code text t)
 told-closed (Err e) n code text t = inl (refused e t)
-told-closed (Ok c) n code text t = inr (adds-leave n code text c (Some (next_promise t)) t)
+told-closed (Ok c) n code text t =
+    let u : Talk = leave_channel n code text c (Some (next_promise t)) t in
+    inr (adds-leave n code text c (Some (next_promise t)) t, waits-on t (change.promise u) (put-same t.made None u.promises))
 
-told-dropped : (r : ChanRef) (o : Result Channel ErrorKind) (t : Talk) → target r word.ChannelClose t ≡ o
+told-dropped : (r : ChanRef) (o : Result Channel ErrorKind) (t : Talk) → t.state ≡ Connected → target r word.ChannelClose t ≡ o
     → Obeyed (IsUntold (DropChannel r) t (drop_target o r.id t)) (plain_item r.id (our_channel_close r.id 200 (codes "OK")) ∷ []) [] (without_groups_of r.id t.outbox) t
     (drop_target o r.id t)
-told-dropped r (Err e) t is = inl (same t.outbox, inr (e, is))
-told-dropped r (Ok c) t is = inr (adds-leave r.id 200 (codes "OK") c None t)
+told-dropped r (Err e) t held is = inl (same t.outbox, inr (e, is))
+told-dropped r (Ok c) t held is = inr (adds-leave r.id 200 (codes "OK") c None t, found) where
+  found : (t.state ≢ Connected) ⊎ ((e : ErrorKind) × (target r word.ChannelClose t ≡ Err e)) → ⊥
+  found (inl shut) = shut held
+  found (inr (e, lacks)) = let clash : Ok c ≡ Err e = sym is ∙ lacks in absurd cc
 
 told-flow : (o : Result Channel ErrorKind) (n : ℕ) (active : Bool) (t : Talk) → Told (plain_item n (channel_flow n active) ∷ []) [] t.outbox t (flow_target o n active t)
 told-flow (Err e) n active t = inl (refused e t)
-told-flow (Ok c) n active t = inr (one-more t.outbox (tell_flow n active t).outbox (plain_item n (channel_flow n active)) refl refl refl)
+told-flow (Ok c) n active t =
+    let u : Talk = tell_flow n active t in
+    inr (one-more t.outbox u.outbox (plain_item n (channel_flow n active)) refl refl refl, waits-on t u (put-same t.made None t.promises))
 
 told-unless : (frames : List Item) (groups : List (List Item)) (o : Option Frame) (rule : Talk → Talk) (t : Talk) → Told frames groups t.outbox t (rule t)
     → Told frames groups t.outbox t (unless_too_long o rule t)
@@ -375,7 +395,8 @@ told-send (Ok c) n m t =
     let f : Frame = method_frame n m in
     let item : Item = promised_item n f (next_promise t) in
     told-unless (item ∷ []) [] (too_long (f ∷ []) t) (unless_full (too_full (f ∷ []) t) (queue_send n f)) t
-    (told-room (item ∷ []) [] (too_full (f ∷ []) t) (queue_send n f) t (inr (one-more t.outbox (queue_send n f t).outbox item refl refl refl)))
+    (told-room (item ∷ []) [] (too_full (f ∷ []) t) (queue_send n f) t
+    (inr (one-more t.outbox (queue_send n f t).outbox item refl refl refl, waits-on t (queue_send n f t) (put-same t.made None t.promises))))
 
 told-publish : (o : Result Channel ErrorKind) (n : ℕ) (m : OtherMethod) (properties body : List ℕ) (t : Talk)
     → Told [] (group_of n (publish_frames n m properties body (body_limit t)) (next_promise t) ∷ []) t.outbox t (publish_target o n m properties body t)
@@ -385,30 +406,32 @@ told-publish (Ok c) n m properties body t =
     let group : List Item = group_of n fs (next_promise t) in
     told-unless [] (group ∷ []) (too_long fs t) (unless_full (too_full fs t) (queue_publish n fs)) t
     (told-room [] (group ∷ []) (too_full fs t) (queue_publish n fs) t
-    (inr (record { control = sym (append-nil t.outbox.control); publish = refl; begun = refl })))
+    (inr (record { control = sym (append-nil t.outbox.control); publish = refl; begun = refl }, waits-on t (queue_publish n fs t) (put-same t.made None t.promises))))
 
 told-secret : (secret reason : List ℕ) (t : Talk) → Told (plain_item 0 (new_secret secret reason) ∷ []) [] t.outbox t (command_rule Connected (UpdateSecret secret reason) t)
 told-secret secret reason t =
     let f : Frame = new_secret secret reason in
     told-unless (plain_item 0 f ∷ []) [] (too_long (f ∷ []) t) (queue_secret f) t
-    (inr (one-more t.outbox (queue_secret f t).outbox (plain_item 0 f) refl refl refl))
+    (inr (one-more t.outbox (queue_secret f t).outbox (plain_item 0 f) refl refl refl, waits-on t (queue_secret f t) (put-same t.made None t.promises)))
 
 -- what a command does, in this state after it
 abbrev Does : Cmd → Talk → Talk → Type 0
 Does c t x = Obeyed (IsUntold c t x) (told_by c t) (published_by c t) (left_by_command c t.outbox) t x
 
-told-connected : (c : Cmd) (t : Talk) → Does c t (command_rule Connected c t)
-told-connected OpenChannel t =
+told-connected : (c : Cmd) (t : Talk) → t.state ≡ Connected → Does c t (command_rule Connected c t)
+told-connected OpenChannel t held =
     let first : ℕ = first_number t.configuration.channel_max t.cursor in told-opened (drawn t.configuration.channel_max first t.channels) first t
-told-connected (CloseChannel r code text) t = told-closed (target r word.ChannelClose t) r.id code text t
-told-connected (CloseConnection code text) t = inr (adds-left code text (Some (next_promise t)) t)
-told-connected (UpdateSecret secret reason) t = told-secret secret reason t
-told-connected (Send r method) t = told-send (target r word.Send t) r.id method t
-told-connected (Publish r method properties body) t = told-publish (target r word.Publish t) r.id method properties body t
-told-connected (Flow r active) t = told-flow (target r word.ChannelFlow t) r.id active t
-told-connected (DropChannel r) t = told-dropped r (target r word.ChannelClose t) t refl
-told-connected DropConnection t = inr (adds-left 200 (codes "OK") None t)
-told-connected Listen t = inl (same t.outbox, tt)
+told-connected (CloseChannel r code text) t held = told-closed (target r word.ChannelClose t) r.id code text t
+told-connected (CloseConnection code text) t held =
+    let u : Talk = leave_connection code text (Some (next_promise t)) t in
+    inr (adds-left code text (Some (next_promise t)) t, waits-on t (change.promise u) (put-same t.made None u.promises))
+told-connected (UpdateSecret secret reason) t held = told-secret secret reason t
+told-connected (Send r method) t held = told-send (target r word.Send t) r.id method t
+told-connected (Publish r method properties body) t held = told-publish (target r word.Publish t) r.id method properties body t
+told-connected (Flow r active) t held = told-flow (target r word.ChannelFlow t) r.id active t
+told-connected (DropChannel r) t held = told-dropped r (target r word.ChannelClose t) t held refl
+told-connected DropConnection t held = inr (adds-left 200 (codes "OK") None t, λ shut. shut held)
+told-connected Listen t held = inl (same t.outbox, tt)
 
 -- while the connection is not open, no command is obeyed
 told-shut : (s : ConnectionState) (c : Cmd) (t : Talk) → s ≢ Connected → t.state ≢ Connected → Does c t (command_rule s c t)
@@ -427,7 +450,7 @@ told-shut s (Flow r active) t shut out = inl (refused (InvalidConnectionState s)
 command-added : (c : Cmd) (t : Talk) → Does c t (command c t)
 command-added c t = by t.state refl where
   by : (s : ConnectionState) → t.state ≡ s → Does c t (command_rule s c t)
-  by Connected is = told-connected c t
+  by Connected is = told-connected c t is
   by s is = told-shut s c t (λ h. cc) (λ h. let clash : s ≡ Connected = sym is ∙ h in cc)
 
 -- ---- time
@@ -488,7 +511,7 @@ tick-added answers t = by (is_missed t) where
       → AddsWhere (not b) (if b then [] else heartbeat_of t ++ renewal_of answers t) t.outbox t (rest answers (if b then lose MissingHeartbeatError t else t))
   by true =
       lose-case (λ (x : Talk). StaysOrDrops t (rest answers x)) MissingHeartbeatError t (λ delay. inr (record { state = refl; nothing = refl }))
-      (inl (same t.outbox))
+      (inl (same t.outbox, λ waits. absurd cc))
   by false = heard-timed answers t
 
 -- ---- links
@@ -510,11 +533,11 @@ stays-failed t = if_case (Still t) (is_asked t) (refused_after (next_delay t) t)
 kept-misread : (why : Misread) (t : Talk) → StaysOrDrops t (misread why t)
 kept-misread why t =
     if_case (StaysOrDrops t) (acts t) (lose (misread_error why) t) (if is_open t then record t { input = dropped t.input } else t) (kept-lose (misread_error why) t)
-    (if_case (StaysOrDrops t) (is_open t) (record t { input = dropped t.input }) t (inl (same t.outbox)) (still t))
+    (if_case (StaysOrDrops t) (is_open t) (record t { input = dropped t.input }) t (inl (same t.outbox, λ h. h)) (still t))
 
 kept-finish : (o : Option ServerClose) (t : Talk) → StaysOrDrops t (finish_by o t)
-kept-finish None t = inl (same t.outbox)
-kept-finish (Some WithoutError) t = inl (same t.outbox)
+kept-finish None t = inl (same t.outbox, λ waits. absurd cc)
+kept-finish (Some WithoutError) t = inl (same t.outbox, λ waits. absurd cc)
 kept-finish (Some (WithError e)) t = kept-lose (ProtocolError e) t
 
 kept-lost : (fault : IoFault) (t : Talk) → StaysOrDrops t (lost fault t)
@@ -527,13 +550,6 @@ stays-starve t = if_case (Still t) (has_ended t) t _ (same t.outbox) (same t.out
 
 -- ---- frames that go out
 
-fitting-is : (space : ℕ) (o : Option Item) (item : Item) → fitting space o ≡ Some item → o ≡ Some item
-fitting-is space None item h = absurd cc
-fitting-is space (Some i) item h = by (nat_le (size_of i) space) h where
-  by : (b : Bool) → (if b then Some i else None) ≡ Some item → Some i ≡ Some item
-  by true is = is
-  by false is = absurd cc
-
 out-is : (t : Talk) (item : Item) → next_out t ≡ Some item → next_item (flows t) t.outbox ≡ Some item
 out-is t item h = by (writes t) h where
   by : (b : Bool) → (if b then next_item (flows t) t.outbox else None) ≡ Some item → next_item (flows t) t.outbox ≡ Some item
@@ -542,49 +558,44 @@ out-is t item h = by (writes t) h where
 
 takes-committed : (o : Option Item) (space : ℕ) (t : Talk) → next_within space t ≡ o → GoesOut o t.outbox (committed_as o t).outbox
 takes-committed None space t is = same t.outbox
-takes-committed (Some item) space t is = next-waits (flows t) t.outbox item (out-is t item (fitting-is space (next_out t) item is))
+takes-committed (Some item) space t is = next-waits (flows t) t.outbox item (out-is t item (fitting-some space (next_out t) item is))
 
-takes-ended : (o : Option Item) (q : Queued) (size : Option ℕ) (x : Talk) → GoesOut o q x.outbox → GoesOut o q (end_overlong size x).outbox ⊎ DropsAll (end_overlong size x)
-takes-ended o q None x h = inl h
-takes-ended o q (Some size) x h =
-    lose-case (λ (y : Talk). GoesOut o q y.outbox ⊎ DropsAll y) (SerialisationError size) x (λ delay. inr (record { state = refl; nothing = refl })) (inl h)
+-- a frame that is too long ends the session, and leaves what waits
+takes-ended : (o : Option Item) (q : Queued) (size : Option ℕ) (x : Talk) → GoesOut o q x.outbox → GoesOut o q (end_overlong size x).outbox
+takes-ended o q None x h = h
+takes-ended o q (Some size) x h = h
 
-next-taken : (space : ℕ) (t : Talk) → GoesOut (next_within space t) t.outbox (next_frame space t).outbox ⊎ DropsAll (next_frame space t)
+next-taken : (space : ℕ) (t : Talk) → GoesOut (next_within space t) t.outbox (next_frame space t).outbox
 next-taken space t = takes-ended (next_within space t) t.outbox (overlong t) (commit space t) (takes-committed (next_within space t) space t refl)
 
 -- ---- bytes that were taken
 
--- all stays, or the link is lost, and no more is sent on it
+-- all stays, in a session that goes on as it did or ends; or the link is lost, and no more is sent on it
 abbrev Followed : Talk → Talk → Type 0
-Followed t x = Still t x ⊎ (DropsAll x × (is_open x ≡ false))
+Followed t x = (Still t x × (x.state ≡ Reconnecting → t.state ≡ Reconnecting)) ⊎ (DropsAll x × (is_open x ≡ false))
 
 followed-finish : (o : Option ServerClose) (t : Talk) → Followed t (finish_by o t)
-followed-finish None t = inl (same t.outbox)
-followed-finish (Some WithoutError) t = inl (same t.outbox)
-followed-finish (Some (WithError e)) t = lose-case (Followed t) (ProtocolError e) t (λ delay. inr (record { state = refl; nothing = refl }, refl)) (inl (same t.outbox))
+followed-finish None t = inl (same t.outbox, λ waits. absurd cc)
+followed-finish (Some WithoutError) t = inl (same t.outbox, λ waits. absurd cc)
+followed-finish (Some (WithError e)) t =
+    lose-case (Followed t) (ProtocolError e) t (λ delay. inr (record { state = refl; nothing = refl }, refl)) (inl (same t.outbox, λ waits. absurd cc))
 
-stays-pay : (o : Option Channel) (n : ℕ) (t : Talk) → Still t (pay o n t)
-stays-pay o n t =
-    pay-case (Still t) o n t (λ none. same t.outbox) (λ c found unowed. same t.outbox) (λ c found owes awaits. same t.outbox) (λ c found owes left. same t.outbox)
+followed-pay : (o : Option Channel) (n : ℕ) (t : Talk) → Followed t (pay o n t)
+followed-pay o n t =
+    let before : Followed t t = inl (same t.outbox, λ h. h) in
+    pay-case (Followed t) o n t (λ none. before) (λ c found unowed. before) (λ c found owes awaits. inl (same t.outbox, λ h. h))
+    (λ c found owes left. inl (same t.outbox, λ h. h))
 
 followed : (what : Then) (t : Talk) → Followed t (follow what t)
-followed Nothing t = inl (same t.outbox)
-followed (Answer number) t = inl (same t.outbox)
-followed (Pays n) t = inl (stays-pay (channel_at n t) n t)
+followed Nothing t = inl (same t.outbox, λ h. h)
+followed (Answer number) t = inl (same t.outbox, λ h. h)
+followed (Pays n) t = followed-pay (channel_at n t) n t
 followed Finish t = followed-finish t.server_close t
 
-closed-among : (ms : List Mark) (n : ℕ) (t : Talk) → is_open t ≡ false → sent_among ms n t ≡ t
-closed-among [] n t shut = refl
-closed-among (m ∷ ms) n t shut = by (is_open t) shut where
-  by : (b : Bool) → b ≡ false
-      → (if b then (if nat_le m.left n then sent_among ms (n - m.left) (sent m t) else record t { committed = record m { left = m.left - n } ∷ ms }) else t) ≡ t
-  by false is = refl
-  by true is = absurd cc
-
 goes-on : (ms : List Mark) (n : ℕ) (t x : Talk) → Followed t x → StaysOrDrops x (sent_among ms n x) → StaysOrDrops t (sent_among ms n x)
-goes-on ms n t x (inl h) (inl k) = inl (stays-then t.outbox x.outbox (sent_among ms n x).outbox h k)
+goes-on ms n t x (inl h) (inl k) = inl (stays-then t.outbox x.outbox (sent_among ms n x).outbox h.0 k.0, λ waits. h.1 (k.1 waits))
 goes-on ms n t x (inl h) (inr k) = inr k
-goes-on ms n t x (inr h) k = inr (subst DropsAll (sym (closed-among ms n x h.1)) h.0)
+goes-on ms n t x (inr h) k = inr (subst DropsAll (sym (sent_among-closed ms n x h.1)) h.0)
 
 kept-sent : (ms : List Mark) (n : ℕ) (t : Talk) → StaysOrDrops t (sent_among ms n t)
 kept-sent [] n t = still t
@@ -594,7 +605,7 @@ kept-sent (m ∷ ms) n t =
     if_case (StaysOrDrops t) (is_open t) (if nat_le m.left n then some else part) t
     (if_case (StaysOrDrops t) (nat_le m.left n) some part
     (goes-on ms (n - m.left) t (sent m t) (followed m.then (record t { committed = drop 1 t.committed })) (kept-sent ms (n - m.left) (sent m t)))
-    (inl (same t.outbox)))
+    (inl (same t.outbox, λ h. h)))
     (still t)
 
 kept-taken : (n : ℕ) (t : Talk) → StaysOrDrops t (taken n t)

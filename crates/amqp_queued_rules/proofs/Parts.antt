@@ -6,6 +6,7 @@ use Rattle.amqp_outbox.specs.declared.item.Item.{Item}
 use Rattle.amqp_outbox.specs.Items.{items_of_groups}
 use Rattle.amqp_outbox.specs.Queued.{Queued, waiting_items}
 use Rattle.amqp_queued_rules.specs.Queues.{IsPart, EndsWith, Queues, QueuesNothing, MayQueue, Waits}
+use Rattle.amqp_session.proofs.Walking.{all-append}
 
 -- ---- parts
 
@@ -50,10 +51,6 @@ all-of-part P (x ∷ xs) [] h all = absurd h
 all-of-part P (x ∷ xs) (y ∷ ys) (inl h) all = (subst P (sym h.0) all.0, all-of-part P xs ys h.1 all.1)
 all-of-part P (x ∷ xs) (y ∷ ys) (inr h) all = all-of-part P (x ∷ xs) ys h all.1
 
-pub all-joined : {X : Type 0} (P : X → Type 0) (xs ys : List X) → AllByRecursion P xs → AllByRecursion P ys → AllByRecursion P (xs ++ ys)
-all-joined P [] ys h k = k
-all-joined P (x ∷ xs) ys h k = (h.0, all-joined P xs ys h.1 k)
-
 -- ---- what ends with these
 
 ends-with-nothing : {X : Type 0} (before after : List X) → IsPart after before → EndsWith [] before after
@@ -66,7 +63,7 @@ part-left {X} before after h = subst (λ (xs : List X). IsPart xs before) (sym (
 all-ends : {X : Type 0} (P : X → Type 0) (these before after : List X) → EndsWith these before after → AllByRecursion P before → AllByRecursion P these
     → AllByRecursion P after
 all-ends P these before after h all more =
-    subst (AllByRecursion P) (sym h.2) (all-joined P h.0 these (all-of-part P h.0 before h.1 all) more)
+    subst (AllByRecursion P) (sym h.2) (all-append P h.0 these (all-of-part P h.0 before h.1 all) more)
 
 -- where nothing was there, these are all
 ends-alone : {X : Type 0} (these after : List X) → EndsWith these [] after → after ≡ these

@@ -29,7 +29,7 @@ use Rattle.amqp_session.specs.Talk.{Talk, acts, hears_on, is_closing}
 use Rattle.amqp_session.specs.Negotiation.{tune}
 use Rattle.amqp_session.specs.Handshake.{start_ok, secure_ok, tune_ok, open_vhost, close_ok, channel_open, flow_ok, channel_close_ok}
 use Rattle.amqp_session.specs.Violations.{channel_closed_with, unawaited, stray_channel_frame, stray_connection_method}
-use Rattle.amqp_session.specs.Changes.{queue, await, lose, misplaced, close}
+use Rattle.amqp_session.specs.Changes.{queue, await, lose, misplaced}
 use Rattle.amqp_session.specs.Channels.{channel_at}
 use Rattle.amqp_session.specs.ChannelMethods.{heard_on, unawaited_channel_method, channel_opened, remove_channel, remove_unless_owed, channel_closed, on_channel_flow, channel_flowed, closed_by_server, crossing_close, channel_close_by, channel_rule, channel_method_by, channel_method, is_select_ok, hand_out, confirmed, raw_by}
 use Rattle.amqp_session.specs.ConnectionMethods.{started, on_start, challenged, on_secure, on_tune, connected, reopen, reopen_each, on_open_ok, secret_taken, connection_closed, connection_rule}

@@ -1,5 +1,5 @@
 -- What commands, time and links queue.
-use Rattle.std.proofs.Common.{◌≡◌, ◌⊎◌, inl, inr, ℕ, max, ◌==◌, ◌&&◌, ◌-◌, nat_le, not, Bool, true, false, if◌then◌else◌, List, [], ◌∷◌, ◌++◌, drop, Option, Some, None, Result, Ok, Err, refl, ◌∙◌, ap, sym, subst, append_assoc, append-nil}
+use Rattle.std.proofs.Common.{◌≡◌, ◌⊎◌, inl, inr, ℕ, max, ◌==◌, ◌&&◌, ◌-◌, nat_le, not, Bool, true, false, if◌then◌else◌, List, [], ◌∷◌, ◌++◌, drop, Option, Some, None, Result, Ok, Err, refl, sym, subst}
 use Rattle.std.specs.Prelude.{codes}
 use Rattle.amqp_types.specs.declared.word.Word.TheVariants as word
 use Rattle.amqp_frame.specs.declared.frame.Frame.{Frame}
@@ -8,7 +8,7 @@ use Rattle.amqp_outbox.specs.declared.item.Item.{Item}
 use Rattle.amqp_outbox.specs.Items.{plain_item, promised_item, group_of}
 use Rattle.amqp_outbox.specs.Queued.{Queued, nothing_queued, only, is_on}
 use Rattle.amqp_promise.specs.declared.error.ErrorKind.{ErrorKind}
-use Rattle.amqp_promise.specs.declared.error.ErrorKind.TheVariants.{IOError, MissingHeartbeatError, ProtocolError}
+use Rattle.amqp_promise.specs.declared.error.ErrorKind.TheVariants.{IOError, ProtocolError}
 use Rattle.amqp_promise.specs.declared.io_fault.IoFault.{IoFault}
 use Rattle.amqp_promise.specs.declared.state.ConnectionState.{ConnectionState}
 use Rattle.amqp_promise.specs.declared.state.ConnectionState.TheVariants.{Connected}
@@ -23,7 +23,7 @@ use Rattle.amqp_session.specs.declared.misread.Misread.{Misread}
 use Rattle.amqp_session.specs.declared.server_close.ServerClose.{ServerClose}
 use Rattle.amqp_session.specs.declared.server_close.ServerClose.TheVariants.{WithoutError, WithError}
 use Rattle.amqp_session.specs.Talk.{Talk, acts, is_open, is_asked, has_ended}
-use Rattle.amqp_session.specs.Changes.{present_at, starve, queue, next_promise, lose, finish, finish_by, close}
+use Rattle.amqp_session.specs.Changes.{present_at, starve, next_promise, lose, finish, finish_by}
 use Rattle.amqp_session.specs.Handshake.{protocol_header, our_close, new_secret, channel_open, channel_flow, our_channel_close}
 use Rattle.amqp_session.specs.Links.{linked, refused_after, link_failed, piece, misread, dropped, lost}
 use Rattle.amqp_session.specs.Violations.{misread_error}
@@ -34,10 +34,9 @@ use Rattle.amqp_session.specs.Publishing.{method_frame, publish_frames}
 use Rattle.amqp_session.specs.Commands.{target, open_as, open_drawn, leave_channel, close_target, drop_target, too_long, unless_too_long, too_full, unless_full, queue_send, send_target, body_limit, queue_publish, publish_target, tell_flow, flow_target, queue_secret, leave_connection, command_rule, command}
 use Rattle.amqp_session.specs.Ticks.{is_missed, tick}
 use Rattle.amqp_session.specs.Writing.{pay, follow, sent, sent_among, taken}
-use Rattle.amqp_session.proofs.Recovering.{lose-case}
 use Rattle.amqp_session.proofs.Walk.{refused-keeps, pay-case}
 use Rattle.amqp_types.proofs.Small.{if_case}
-use Rattle.amqp_queued_rules.specs.Queues.{IsPart, EndsWith, Queues, QueuesNothing, MayQueue}
+use Rattle.amqp_queued_rules.specs.Queues.{Queues, QueuesNothing, MayQueue}
 use Rattle.amqp_queued_rules.specs.Queued.{opening_of, told_by, published_by, heartbeat_of, renewal_of, told_in_time, QueuesItsOwn}
 use Rattle.amqp_queued_rules.specs.Left.{GainsBehind, AddsWhere}
 use Rattle.amqp_queued_rules.proofs.Lefts.{tick-added}
@@ -158,7 +157,7 @@ pub tick-timed : (answers : List Asked) (t : Talk) → Queues (told_in_time answ
 tick-timed answers t = by (is_missed t) (tick-added answers t) where
   by : (b : Bool) → AddsWhere (not b) (if b then [] else heartbeat_of t ++ renewal_of answers t) t.outbox t (tick answers t)
       → Queues (if b then [] else heartbeat_of t ++ renewal_of answers t) [] t.outbox (tick answers t).outbox
-  by true (inl h) = queues-added [] t.outbox (tick answers t).outbox h
+  by true (inl h) = queues-added [] t.outbox (tick answers t).outbox h.0
   by true (inr h) = subst (λ (q : Queued). Queues [] [] t.outbox q) (sym h.nothing) (queues-part t.outbox nothing_queued tt tt tt)
   by false h = queues-added (heartbeat_of t ++ renewal_of answers t) t.outbox (tick answers t).outbox h
 

@@ -1,5 +1,5 @@
 -- A secure-ok waits only after a challenge was read.
-use Rattle.std.proofs.Common.{◌≡◌, ◌⊎◌, inl, inr, ℕ, zero, suc, nat_le, ◌-◌, Bool, true, false, true≢false, List, [], ◌∷◌, ◌++◌, map, drop, length, Option, Some, None, Ok, sym, subst}
+use Rattle.std.proofs.Common.{◌≡◌, ◌⊎◌, inl, inr, ℕ, zero, suc, nat_le, Bool, true, false, true≢false, List, [], ◌∷◌, ◌++◌, map, drop, length, Option, Some, None, Ok, sym, subst}
 use Rattle.std.specs.List.{AllByRecursion}
 use Rattle.amqp_frame.specs.declared.frame.Frame.{Frame}
 use Rattle.amqp_frame.specs.declared.frame.Frame.TheVariants.{Method, Raw, Heartbeat}
@@ -28,9 +28,10 @@ use Rattle.amqp_types.proofs.Small.{if_case}
 use Rattle.amqp_queued_rules.specs.Queues.{Queues, QueuesNothing, Waits}
 use Rattle.amqp_queued_rules.specs.Queued.{start_reply, reopenings, reply_to, opening_of, told_by, published_by, heartbeat_of, new_one, renewal, renewal_of, told_in_time, QueuesItsOwn}
 use Rattle.amqp_queued_rules.specs.Challenges.{is_challenge, IsNoSecureOk, Unchallenged, StaysUnchallenged}
-use Rattle.amqp_queued_rules.proofs.Parts.{all-joined, waits-queued, waits-same, waits-either}
+use Rattle.amqp_queued_rules.proofs.Parts.{waits-queued, waits-same, waits-either}
 use Rattle.amqp_queued_rules.proofs.Replying.{silent-lose}
 use Rattle.amqp_queued_rules.proofs.Telling.{queues-its-own}
+use Rattle.amqp_session.proofs.Walking.{all-append}
 
 -- a frame that waits and is no secure-ok
 abbrev Other : Item → Type 0
@@ -109,7 +110,7 @@ other-renewal _ t = tt
 other-timed : (answers : List Asked) (t : Talk) → AllByRecursion Other (told_in_time answers t)
 other-timed answers t =
     if_case (AllByRecursion Other) (is_missed t) [] (heartbeat_of t ++ renewal_of answers t) tt
-    (all-joined Other (heartbeat_of t) (renewal_of answers t) (if_case (AllByRecursion Other) (is_heartbeat_due t) (plain_item 0 Heartbeat ∷ []) [] (tt, tt) tt)
+    (all-append Other (heartbeat_of t) (renewal_of answers t) (if_case (AllByRecursion Other) (is_heartbeat_due t) (plain_item 0 Heartbeat ∷ []) [] (tt, tt) tt)
     (if_case (AllByRecursion Other) (asks_validity t) (renewal answers t) [] (other-renewal answers t) tt))
 
 -- ---- what is committed

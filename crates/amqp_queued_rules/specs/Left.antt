@@ -57,9 +57,10 @@ pub record DropsAll (t' : Talk) : Type 0 where
   pub state : t'.state ≡ Reconnecting
   pub nothing : t'.outbox ≡ nothing_queued
 
--- all stays, or the link is lost
+-- all stays, and the session does not come to wait for another link; or the link is lost
 abbrev pub StaysOrDrops : Talk → Talk → Type 0
-StaysOrDrops t t' = Stays t.outbox t'.outbox ⊎ DropsAll t'
+StaysOrDrops t t' =
+    (Stays t.outbox t'.outbox × (t'.state ≡ Reconnecting → t.state ≡ Reconnecting)) ⊎ DropsAll t'
 
 -- ---- what is left where a rule adds its frames
 
@@ -162,12 +163,13 @@ pub record LeavesWhatWaits (t : Talk) : Type 0 where
   pub unasked : IsFalse (is_asked t) → Stays t.outbox (link.linked t).outbox
   pub frame : (f : Frame) (answers : List Asked) →
       AddsWhere (acts t && is_replied f answers t) (reply_to f answers t) (left_by_frame f t) t (on_frame f answers t)
+  -- what a command says waits exactly where it is obeyed
   pub command : (c : Cmd) → (Stays t.outbox (told.command c t).outbox × IsUntold c t (told.command c t))
-      ⊎ GainsBehind (told_by c t) (published_by c t) (left_by_command c t.outbox) (told.command c t).outbox
+      ⊎ (GainsBehind (told_by c t) (published_by c t) (left_by_command c t.outbox) (told.command c t).outbox
+      × (IsUntold c t (told.command c t) → ⊥))
   pub tick : (answers : List Asked) →
       AddsWhere (not (is_missed t)) (told_in_time answers t) t.outbox t (ticks.tick answers t)
   pub next : (space : ℕ) → GoesOut (next_within space t) t.outbox (writing.next_frame space t).outbox
-      ⊎ DropsAll (writing.next_frame space t)
   pub starve : Stays t.outbox (change.starve t).outbox
   pub link_failed : Stays t.outbox (link.link_failed t).outbox
   pub misread : (why : Misread) → StaysOrDrops t (link.misread why t)

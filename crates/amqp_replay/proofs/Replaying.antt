@@ -134,9 +134,9 @@ by-address ran own made s links log is h =
 
 -- ---- what is printed of it
 
-pub IsMade-reported : (state : Scenario → Exchange → Type 0) (s : Scenario) (t : Talk) (links : List (List ℕ)) (log : Option Log) (p : Printout)
-    → p ≡ reported links t → IsReplayed (state s) s t links log → IsMade state (Ok s) printout log p
-IsMade-reported state s t links log p made is =
+pub IsMade-reported : (state : Scenario → Exchange → Type 0) (s : Scenario) (t : Talk) (links : List (List ℕ)) (log log' : Option Log) (p : Printout)
+    → p ≡ reported links t → IsReplayed (state s) s t links log' → IsMade state (Ok s) printout log log' p
+IsMade-reported state s t links log log' p made is =
     record {
       answers = is.answers;
       may = is.may;
@@ -144,9 +144,9 @@ IsMade-reported state s t links log p made is =
       is = made ∙ ap (λ (x : List (List ℕ)). reported x t) is.links_are ∙ ap (reported (replayed_links s is.answers)) is.talk_is;
     }
 
-pub IsMade-summed : (state : Scenario → Exchange → Type 0) (script : List ℕ) (s : Scenario) (t : Talk) (links : List (List ℕ)) (log : Option Log)
-    (p : Printout) → p ≡ summed script links t → IsReplayed (state s) s t links log → IsMade state (Ok s) (made_of_generated script) log p
-IsMade-summed state script s t links log p made is =
+pub IsMade-summed : (state : Scenario → Exchange → Type 0) (script : List ℕ) (s : Scenario) (t : Talk) (links : List (List ℕ)) (log log' : Option Log)
+    (p : Printout) → p ≡ summed script links t → IsReplayed (state s) s t links log' → IsMade state (Ok s) (made_of_generated script) log log' p
+IsMade-summed state script s t links log log' p made is =
     record {
       answers = is.answers;
       may = is.may;

@@ -131,12 +131,13 @@ answered R valid p q before after status is loud ends cause prints =
 
 -- ---- a generated script that was answered
 
-pub Generates-made : EndClosed → (script : List ℕ) (read : Result Scenario ℕ) (answers : List Asked) (log : Option Log)
+pub Generates-made : EndClosed → (script : List ℕ) (read : Result Scenario ℕ) (answers : List Asked) (log log' : Option Log)
     (before after : Option (List ℕ)) (status : ℕ)
-    → MayAnswer own_state read answers → TellsReplay read answers log → Prints (made_of_generated script read answers) before after status
-    → MatchResult read (λ s. Generates script s log before after status) (λ number. Prints (refused_printout number) before after status)
-Generates-made end script (Err number) answers log before after status may told prints = prints
-Generates-made end script (Ok s) answers log before after status may told prints =
+    → MayAnswer own_state read answers → TellsReplay read answers log log' → Prints (made_of_generated script read answers) before after status
+    → MatchResult read (λ s. Generates script s log' before after status)
+    (λ number. Prints (refused_printout number) before after status × (log' ≡ log))
+Generates-made end script (Err number) answers log log' before after status may told prints = (prints, told)
+Generates-made end script (Ok s) answers log log' before after status may told prints =
     record {
       answers = answers;
       may = may;
@@ -148,26 +149,26 @@ Generates-made end script (Ok s) answers log before after status may told prints
 
 -- ---- a script that was read and answered
 
-pub ReplaysSome-read : (is_handed : Bool) (handed : Exchange → Type 0) (left : Option (List ℕ)) (log : Option Log) (before after : Option (List ℕ))
+pub ReplaysSome-read : (is_handed : Bool) (handed : Exchange → Type 0) (left : Option (List ℕ)) (log log' : Option Log) (before after : Option (List ℕ))
     (status : ℕ) (script : List ℕ)
-    → IfSome left (λ all. script ≡ take MOST_READ all) → IsSilent status ⊎ Replays is_handed handed script log before after status
-    → IsSilent status ⊎ ReplaysSome is_handed handed left log before after status
-ReplaysSome-read is_handed handed left log before after status script read (inl silent) = inl silent
-ReplaysSome-read is_handed handed left log before after status script read (inr replays) =
+    → IfSome left (λ all. script ≡ take MOST_READ all) → IsSilent status ⊎ Replays is_handed handed script log log' before after status
+    → IsSilent status ⊎ ReplaysSome is_handed handed left log log' before after status
+ReplaysSome-read is_handed handed left log log' before after status script read (inl silent) = inl silent
+ReplaysSome-read is_handed handed left log log' before after status script read (inr replays) =
     inr (record { script = script; read = read; replays = replays })
 
 -- where the source told all that it had, all of it was answered
-pub Replays-told : (is_handed : Bool) (handed : Exchange → Type 0) (left : Option (List ℕ)) (log : Option Log) (before after : Option (List ℕ))
+pub Replays-told : (is_handed : Bool) (handed : Exchange → Type 0) (left : Option (List ℕ)) (log log' : Option Log) (before after : Option (List ℕ))
     (status : ℕ) (script : List ℕ)
-    → IfSome left (λ all. script ≡ take MOST_READ all) → IsSilent status ⊎ Replays is_handed handed script log before after status
-    → IfSome left (λ all. IsSilent status ⊎ Replays is_handed handed all log before after status)
-Replays-told is_handed handed None log before after status script read outcome = tt
-Replays-told is_handed handed (Some all) log before after status script read (inl silent) = inl silent
-Replays-told is_handed handed (Some all) log before after status script read (inr replays) =
+    → IfSome left (λ all. script ≡ take MOST_READ all) → IsSilent status ⊎ Replays is_handed handed script log log' before after status
+    → IfSome left (λ all. IsSilent status ⊎ Replays is_handed handed all log log' before after status)
+Replays-told is_handed handed None log log' before after status script read outcome = tt
+Replays-told is_handed handed (Some all) log log' before after status script read (inl silent) = inl silent
+Replays-told is_handed handed (Some all) log log' before after status script read (inr replays) =
     let answers = replays.answers in
     let same : parsed is_handed script ≡ parsed is_handed all = ap (parsed is_handed) read ∙ parsed-most is_handed all in
     let M : Result Scenario ℕ → Type 0 = λ r. MayAnswer (provider_state handed) r answers in
-    let P : Result Scenario ℕ → Type 0 = λ r. TellsReplay r answers log in
+    let P : Result Scenario ℕ → Type 0 = λ r. TellsReplay r answers log log' in
     let Q : Result Scenario ℕ → Type 0 = λ r. Prints (printout r answers) before after status in
     let C : Result Scenario ℕ → Type 0 = λ r. IsValid r answers → (status ≡ CLOSED) ⊎ (status ≡ SINK_FAILED) in
     inr (record {

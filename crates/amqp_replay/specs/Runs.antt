@@ -29,10 +29,11 @@ abbrev pub made_of_generated : List ℕ → Result Scenario ℕ → List Asked �
 made_of_generated script (Err number) answers = refused_printout number
 made_of_generated script (Ok s) answers = generated_printout script s answers
 
--- what is printed is what is to be printed, and the port tells of the run, with some answers that may be given
+-- what is printed is what is to be printed, and the port tells of the run, or of a refused line nothing, with some
+-- answers that may be given
 pub record IsMade (state : Scenario → Exchange → Type 0) (read : Result Scenario ℕ)
-    (made : Result Scenario ℕ → List Asked → Printout) (log : Option Log) (p : Printout) : Type 0 where
+    (made : Result Scenario ℕ → List Asked → Printout) (log log' : Option Log) (p : Printout) : Type 0 where
   pub answers : List Asked
   pub may : MayAnswer state read answers
-  pub told : IsSayableScript read → TellsReplay read answers log
+  pub told : IsSayableScript read → TellsReplay read answers log log'
   pub is : p ≡ made read answers

@@ -136,7 +136,7 @@ generated_printout script s answers = summed script (replayed_links s answers) (
 -- the port tells of the run: its steps, the writes to it with their answers, and the bytes of the links, which are
 -- printed; on each link they spell the frames that the run sent, in order, and then a part of one more, and all that it
 -- committed there is a legal conversation, keeps the agreed numbers and can be written; no send and no publish is torn,
--- swapped or sent twice, and nothing is handed out that did not come
+-- sent twice, or swapped among its kind, and nothing is handed out that did not come
 pub record TellsRun (s : Scenario) (answers : List Asked) (log : Option Log) : Type 0 where
   pub told : log ≡ Some (replayed_log s answers)
   pub legal : SpellLegal (replayed_sendings s answers) (replayed_links s answers)
@@ -146,10 +146,10 @@ pub record TellsRun (s : Scenario) (answers : List Asked) (log : Option Log) : T
   pub cause : (k : ErrorKind) → end_of (replayed_talk s answers) ≡ Some (Err k) →
       IsCaused k (replayed_turns s answers) (engine_of s)
 
--- the port tells of the run of a script of which no line is refused
-abbrev pub TellsReplay : Result Scenario ℕ → List Asked → Option Log → Type 0
-TellsReplay (Err number) answers log = Unit {0}
-TellsReplay (Ok s) answers log = TellsRun s answers log
+-- the port tells of the run of a script of which no line is refused, and of one with a refused line nothing
+abbrev pub TellsReplay : Result Scenario ℕ → List Asked → Option Log → Option Log → Type 0
+TellsReplay (Err number) answers log log' = log' ≡ log
+TellsReplay (Ok s) answers log log' = TellsRun s answers log'
 
 -- ---- what happened to a sink
 
@@ -171,20 +171,20 @@ Prints p before after status =
 -- a script was answered, a provider being handed in this state or none: with some answers that who authenticates may
 -- give, the sink took what is printed of it, and the port tells of its run; the status of a valid script says that its
 -- session ended Closed, or that the sink failed
-pub record Replays (is_handed : Bool) (handed : Exchange → Type 0) (script : List ℕ) (log : Option Log)
+pub record Replays (is_handed : Bool) (handed : Exchange → Type 0) (script : List ℕ) (log log' : Option Log)
     (before after : Option (List ℕ)) (status : ℕ) : Type 0 where
   pub answers : List Asked
   pub may : MayAnswer (provider_state handed) (parsed is_handed script) answers
-  pub told : TellsReplay (parsed is_handed script) answers log
+  pub told : TellsReplay (parsed is_handed script) answers log log'
   pub prints : Prints (printout (parsed is_handed script) answers) before after status
   pub closed : IsValid (parsed is_handed script) answers → (status ≡ CLOSED) ⊎ (status ≡ SINK_FAILED)
 
 -- some script was answered, which is all that the source had, or as much of it as is ever read
-pub record ReplaysSome (is_handed : Bool) (handed : Exchange → Type 0) (left : Option (List ℕ)) (log : Option Log)
+pub record ReplaysSome (is_handed : Bool) (handed : Exchange → Type 0) (left : Option (List ℕ)) (log log' : Option Log)
     (before after : Option (List ℕ)) (status : ℕ) : Type 0 where
   pub script : List ℕ
   pub read : IfSome left (λ all. script ≡ take MOST_READ all)
-  pub replays : Replays is_handed handed script log before after status
+  pub replays : Replays is_handed handed script log log' before after status
 
 -- a generated script that says this was answered: with the answers of the provider of the address, the sink took it,
 -- with the summary of its run, and the port tells of that run; where it is valid, the status says that its session
@@ -197,6 +197,6 @@ pub record Generates (script : List ℕ) (s : Scenario) (log : Option Log) (befo
   pub prints : Prints (generated_printout script s answers) before after status
   pub closed : Valid (session_of s) s.steps answers → (status ≡ CLOSED) ⊎ (status ≡ SINK_FAILED)
 
--- wrong words, a source that failed, and want of memory print nothing
+-- of wrong words, of a source that failed, and where memory was refused nothing is printed
 abbrev pub IsSilent : ℕ → Type 0
 IsSilent status = (status ≡ USAGE) ⊎ (status ≡ SOURCE_FAILED) ⊎ (status ≡ NO_MEMORY)

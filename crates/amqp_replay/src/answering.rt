@@ -48,11 +48,11 @@ pub fn replay<S: Source, K: Sink, P: ScriptedPort, A: AuthProvider>(
     ensures sink_kept { result ≢ SINK_FAILED → K.faults sink.new ≡ K.faults sink.old }
     ensures silent { IsSilent result → K.held sink.new ≡ K.held sink.old }
     ensures outcome { IfSome (S.left source.old) (λ script. IsSilent result
-        ⊎ Replays (is_some handed) (handed_state A.allows handed) script (P.log port.new)
+        ⊎ Replays (is_some handed) (handed_state A.allows handed) script (P.log port.old) (P.log port.new)
         (K.held sink.old) (K.held sink.new) result) }
     ensures some_script { IsSilent result
-        ⊎ ReplaysSome (is_some handed) (handed_state A.allows handed) (S.left source.old) (P.log port.new)
-        (K.held sink.old) (K.held sink.new) result }
+        ⊎ ReplaysSome (is_some handed) (handed_state A.allows handed) (S.left source.old)
+        (P.log port.old) (P.log port.new) (K.held sink.old) (K.held sink.new) result }
 {
     match read_all(alloc, source) {
         Ok(script) => answer(alloc, &script, sink, port, handed),
@@ -75,7 +75,7 @@ fn answer<K: Sink, P: ScriptedPort, A: AuthProvider>(
     ensures sink_kept { result ≢ SINK_FAILED → K.faults sink.new ≡ K.faults sink.old }
     ensures silent { IsSilent result → K.held sink.new ≡ K.held sink.old }
     ensures outcome { IsSilent result
-        ⊎ Replays (is_some handed) (handed_state A.allows handed) script.now (P.log port.new)
+        ⊎ Replays (is_some handed) (handed_state A.allows handed) script.now (P.log port.old) (P.log port.new)
         (K.held sink.old) (K.held sink.new) result }
 {
     // What is printed of a script of a faultless server says that its session ended Closed.
@@ -100,7 +100,8 @@ pub fn generate<K: Sink, P: ScriptedPort>(
     ensures silent { IsSilent result → K.held sink.new ≡ K.held sink.old }
     ensures outcome { (result ≡ NO_MEMORY) ⊎ MatchResult (parsed false (generated count))
         (λ s. Generates (generated count) s (P.log port.new) (K.held sink.old) (K.held sink.new) result)
-        (λ number. Prints (refused_printout number) (K.held sink.old) (K.held sink.new) result) }
+        (λ number. Prints (refused_printout number) (K.held sink.old) (K.held sink.new) result
+        × (P.log port.new ≡ P.log port.old)) }
 {
     // What is printed of a script of a faultless server says that its session ended Closed.
     a_valid_script_ends_closed();
@@ -119,7 +120,7 @@ fn print<P: ScriptedPort, A: AuthProvider>(
 ) -> Result<Printout, NoMemory>
     requires { IfSome handed A.can }
     ensures { IfOk result (IsMade (provider_state (handed_state A.allows handed))
-        (parsed (is_some handed) script.now) printout (P.log port.new)) }
+        (parsed (is_some handed) script.now) printout (P.log port.old) (P.log port.new)) }
 {
     match parse(alloc, handed.is_some(), script)? {
         Script::Refused(number) => Ok(Printout::new(REFUSED, refusal(alloc, number)?)),
@@ -134,7 +135,7 @@ fn print_number<P: ScriptedPort>(
     port: &mut P,
 ) -> Result<Printout, NoMemory>
     ensures { IfOk result (IsMade own_state (parsed false (generated count)) (made_of_generated (generated count))
-        (P.log port.new)) }
+        (P.log port.old) (P.log port.new)) }
 {
     let script = generated(alloc, count)?;
     let read = parse(alloc, false, script.as_bytes())?;
@@ -150,7 +151,7 @@ fn print_generated<P: ScriptedPort>(
 ) -> Result<Printout, NoMemory>
     requires { ScriptArePieces read }
     ensures { IfOk result (IsMade own_state (script_read read) (made_of_generated (string_bytes script))
-        (P.log port.new)) }
+        (P.log port.old) (P.log port.new)) }
 {
     match read {
         Script::Refused(number) => {
@@ -171,7 +172,7 @@ fn print_scenario<P: ScriptedPort, A: AuthProvider>(
     requires pieces { ArePieces scenario.steps }
     requires can { IfSome handed A.can }
     ensures { IfOk result (IsMade (provider_state (handed_state A.allows handed)) (Ok scenario) printout
-        (P.log port.new)) }
+        (P.log port.old) (P.log port.new)) }
 {
     let mut engine = play(alloc, scenario, port, handed)?;
     let printout = print_report(alloc, &mut engine, port);
@@ -188,7 +189,7 @@ fn print_generated_scenario<P: ScriptedPort>(
 ) -> Result<Printout, NoMemory>
     requires { ArePieces scenario.steps }
     ensures { IfOk result (IsMade own_state (Ok scenario) (made_of_generated (string_bytes script))
-        (P.log port.new)) }
+        (P.log port.old) (P.log port.new)) }
 {
     let mut engine = play_alone(alloc, scenario, port)?;
     let printout = print_summary(script, &mut engine, port);

@@ -10,7 +10,7 @@ use Rattle.amqp_session.specs.Talk.{Talk, is_open}
 use Rattle.amqp_session.specs.Writing.{left_in, sent_among, taken, unsent, writes, flows, fitting, next_within, mark_of, committed_as, commit}
 use Rattle.amqp_session.specs.Parts.{after_first}
 use Rattle.amqp_types.proofs.Small.{if_case, if-true, if-false}
-use Rattle.amqp_session.proofs.Keeping.{left_in-cons, left_in-left_after, sent_among-committed}
+use Rattle.amqp_session.proofs.Sending.{left_in-cons, left_in-left_after, sent_among-committed}
 
 pub other-false : (b c : Bool) → b ≡ true → (b && not c) ≡ false → c ≡ true
 other-false true true g h = refl

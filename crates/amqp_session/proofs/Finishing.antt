@@ -29,7 +29,8 @@ use Rattle.amqp_session.specs.Writing.{left_in, unsent, taken, sent_among, sent,
 use Rattle.amqp_session.specs.Sound.{is_finish, following, NoneFinishes, LastFinishes, Finishes}
 use Rattle.amqp_types.proofs.Small.{if-true, if-false}
 use Rattle.amqp_session.proofs.Counting.{other-false}
-use Rattle.amqp_session.proofs.Keeping.{OverlooksEnds, left_after, left_in-left_after, follow-open, pay-keeps}
+use Rattle.amqp_session.proofs.Keeping.{OverlooksEnds}
+use Rattle.amqp_session.proofs.Sending.{left_after, left_in-left_after, follow-open, pay-keeps}
 use Rattle.amqp_session.proofs.Recovering.{lose-case}
 
 -- ---- nothing finishes, or the last does
@@ -208,7 +209,7 @@ if-some : (b : Bool) (o : Option Item) (item : Item) → (if b then o else None)
 if-some true o item h = h
 if-some false o item h = absurd cc
 
-fitting-some : (space : ℕ) (o : Option Item) (item : Item) → fitting space o ≡ Some item → o ≡ Some item
+pub fitting-some : (space : ℕ) (o : Option Item) (item : Item) → fitting space o ≡ Some item → o ≡ Some item
 fitting-some space None item h = absurd cc
 fitting-some space (Some i) item h = if-some _ (Some i) item h
 

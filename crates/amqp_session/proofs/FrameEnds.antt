@@ -212,7 +212,7 @@ brings-rule (Raw (suc n) kind bytes) answers t =
     brings-raw (FrameError (Raw (suc n) kind bytes) answers t) (heard_on t.state o) (suc n) kind bytes t
     (λ h going. (ap not going, (refl, none-heard t.state o h)))
 
-end-closed : (f : Frame) (t : Talk) → end_of (closed_rule f t) ≡ end_of t
+pub end-closed : (f : Frame) (t : Talk) → end_of (closed_rule f t) ≡ end_of t
 end-closed (Method zero (Blocked reason)) t = refl
 end-closed (Method zero Unblocked) t = refl
 end-closed f t = refl

@@ -1,7 +1,5 @@
 -- What the rules leave as it is.
-use Rattle.std.proofs.Common.{◌≡◌, ◌⊎◌, inl, inr, ℕ, zero, suc, ◌+◌, ◌-◌, ◌==◌, ◌&&◌, not, nat_le, max, Bool, true, false, if◌then◌else◌, List, [], ◌∷◌, length, drop, length-drop, Option, Some, None, Result, Ok, Err, is_some, true≢false, refl, ap, sym, ◌∙◌, arith}
-use Rattle.std.proofs.lemmas.List.Sums.{sum_by-cons}
-use Rattle.std.proofs.lemmas.Bool.Decides.{nat_tests}
+use Rattle.std.proofs.Common.{◌≡◌, ◌⊎◌, inl, inr, ℕ, zero, suc, ◌+◌, ◌&&◌, not, nat_le, max, Bool, true, false, if◌then◌else◌, List, [], ◌∷◌, Option, Some, None, Result, Ok, Err, is_some, true≢false, refl, ap, sym, ◌∙◌, arith}
 use Rattle.amqp_frame.specs.declared.frame.Frame.{Frame}
 use Rattle.amqp_frame.specs.declared.frame.Frame.TheVariants.{ProtocolHeader, Method, Raw, Heartbeat}
 use Rattle.amqp_frame.specs.declared.frame.RawKind.TheVariants.{RawMethod}
@@ -11,8 +9,6 @@ use Rattle.amqp_outbox.specs.declared.reply.Reply.TheVariants.{SecretDone, Conne
 use Rattle.amqp_outbox.specs.Queued.{Queued, awaited_promise, without_awaited}
 use Rattle.amqp_session.specs.declared.channels.Channel.{Channel}
 use Rattle.amqp_session.specs.declared.committed.Mark.{Mark}
-use Rattle.amqp_session.specs.declared.committed.Then.{Then}
-use Rattle.amqp_session.specs.declared.committed.Then.TheVariants.{Nothing, Answer, Pays, Finish}
 use Rattle.amqp_promise.specs.declared.state.ConnectionState.{ConnectionState}
 use Rattle.amqp_promise.specs.declared.state.ConnectionState.TheVariants.{Connecting, Connected, Closing}
 use Rattle.amqp_session.specs.declared.state.Phase.{Phase}
@@ -32,26 +28,24 @@ use Rattle.amqp_promise.specs.declared.error.ErrorKind.TheVariants.{InvalidProto
 use Rattle.amqp_promise.specs.declared.io_fault.IoFault.TheVariants.{Refused}
 use Rattle.amqp_auth.specs.declared.asked.Asked.{Asked as ProviderAnswer}
 use Rattle.amqp_session.specs.Events.{Noted}
+use Rattle.amqp_session.specs.declared.handed.Handed.{Handed}
+use Rattle.amqp_session.specs.Config.{Config}
 use Rattle.amqp_session.specs.Talk.{Talk, has_ended, hears_on, is_open, is_open_link, is_asked, is_asked_link, acts, end_of_link}
-use Rattle.amqp_session.specs.Changes.{Promises, present_at, queue, give_to, tell_owed, fail, lose, misplaced, close, finish, finish_by, starve}
+use Rattle.amqp_session.specs.Changes.{Promises, present_at, queue, give_to, fail, lose, misplaced, close, finish, finish_by, starve}
 use Rattle.amqp_session.specs.Recovery.{next_delay, recovery_delay, reconnect}
 use Rattle.amqp_session.specs.Links.{lost, misread, refused_after, link_failed}
 use Rattle.amqp_session.specs.Violations.{stray_channel_frame}
 use Rattle.amqp_session.specs.ConnectionMethods.{connected, reopen, reopen_each, connection_rule, connection_closed, secret_taken, started, challenged}
-use Rattle.amqp_session.specs.Channels.{channel_at}
 use Rattle.amqp_session.specs.Frames.{method_rule, frame_rule, closed_rule, on_frame}
 use Rattle.amqp_frame.specs.Methods.{is_of_a_channel}
 use Rattle.amqp_session.specs.Commands.{command}
 use Rattle.amqp_session.specs.Ticks.{is_connected, beats, is_missed, is_heartbeat_due, missing_heartbeat, beat, asks_validity, refreshed, link_at, link_due, timed, tick}
-use Rattle.amqp_session.specs.declared.channels.Debt.TheVariants as debt
-use Rattle.amqp_session.specs.Listed.{put, without}
-use Rattle.amqp_session.specs.Writing.{left_in, pay, follow, sent, sent_among, taken}
 use Rattle.amqp_session.specs.Negotiation.{grown_capacity}
 use Rattle.amqp_session.specs.Parts.{is_opening_frame, capacity_after}
 use Rattle.amqp_session.proofs.Heard.{start-case, secure-case, secret-case}
 use Rattle.amqp_session.proofs.Walk as walk
-use Rattle.amqp_session.proofs.Walk.{ChannelRows, PassedRows, CommandRows, misplaced-keeps, misread-keeps, channel-method-keeps, raw-keeps, command-keeps, pay-case}
-use Rattle.amqp_types.proofs.Small.{if_case, if_by, if-true, if-false, and-false, and-true}
+use Rattle.amqp_session.proofs.Walk.{ChannelRows, PassedRows, CommandRows, misplaced-keeps, misread-keeps, channel-method-keeps, raw-keeps, command-keeps}
+use Rattle.amqp_types.proofs.Small.{if_case, if_by, if-true, if-false}
 use Rattle.amqp_session.proofs.Recovering.{lose-by, lose-keeps, recovers-open}
 
 -- ---- the present
@@ -391,21 +385,24 @@ misread-committed why at t now = (keeps-misread why (present_at at t)).committed
 
 -- ---- commands
 
--- the link and what is agreed stay, and what is committed
+-- what the session is made from stays, the link and what is agreed, what is committed and what was handed out
 pub record Stays (t t' : Talk) : Type 0 where
+  pub config : t'.config ≡ t.config
   pub link : t'.link ≡ t.link
   pub committed : t'.committed ≡ t.committed
   pub configuration : t'.configuration ≡ t.configuration
   pub capacity : t'.capacity ≡ t.capacity
   pub input : t'.input ≡ t.input
   pub server_close : t'.server_close ≡ t.server_close
+  pub handed : t'.handed ≡ t.handed
+  pub secret_at : t'.secret_at ≡ t.secret_at
 
 -- what a command leaves as it is
 abbrev Staying : Type 0
-Staying = Link ErrorKind × List Mark × Configuration × ℕ × Input × Option ServerClose
+Staying = Link ErrorKind × List Mark × Configuration × ℕ × Input × Option ServerClose × List (ℕ × List Handed) × ℕ × Config
 
 abbrev staying : Talk → Staying
-staying t = (t.link, t.committed, t.configuration, t.capacity, t.input, t.server_close)
+staying t = (t.link, t.committed, t.configuration, t.capacity, t.input, t.server_close, t.handed, t.secret_at, t.config)
 
 told : (s : Staying) → CommandRows (λ (u : Talk). staying u ≡ s)
 told s = record {
@@ -431,6 +428,9 @@ stays-command c t =
       capacity = ap (λ (s : Staying). s.3) same;
       input = ap (λ (s : Staying). s.4) same;
       server_close = ap (λ (s : Staying). s.5) same;
+      handed = ap (λ (s : Staying). s.6) same;
+      secret_at = ap (λ (s : Staying). s.7) same;
+      config = ap (λ (s : Staying). s.8) same;
     }
 
 -- ---- ends
@@ -491,7 +491,7 @@ tick-keeps f h k answers t =
     ∙ if_case (λ (y : Talk). f y ≡ f x) (is_heartbeat_due x) (record (queue 0 Heartbeat x) { last_write = x.present }) x (k x _ _ x.secret_at x.refreshing) refl
     ∙ if_case (λ (y : Talk). f y ≡ f t) (is_missed t) (lose MissingHeartbeatError t) t (loss-keeps f h MissingHeartbeatError t) refl
 
-finish-keeps : {A : Type 0} (f : Talk → A) → OverlooksLosses f → (o : Option ServerClose) (t : Talk) → f (finish_by o t) ≡ f t
+pub finish-keeps : {A : Type 0} (f : Talk → A) → OverlooksLosses f → (o : Option ServerClose) (t : Talk) → f (finish_by o t) ≡ f t
 finish-keeps f h None t = overlooks-ends f h t _ _ _ _ _
 finish-keeps f h (Some WithoutError) t = overlooks-ends f h t _ _ _ _ _
 finish-keeps f h (Some (WithError e)) t = loss-keeps f h (ProtocolError e) t
@@ -540,160 +540,3 @@ failed-keeps f h k t =
     by : (delay : Option ℕ) → f (refused_after delay t) ≡ f t
     by (Some delay) = k (record t { link = _ }) (t.tried + 1) ∙ h t t.state _ t.channels t.promises t.noted
     by None = h t _ _ _ t.promises _
-
--- no link is open, and the session goes on
-abbrev pub lacks_link : Link ErrorKind → Bool
-lacks_link (Due moment) = true
-lacks_link Wanted = true
-lacks_link Asked = true
-lacks_link _ = false
-
--- ---- writing
-
--- what is left of the committed frames where so many of their bytes are taken
-abbrev pub left_after : List Mark → ℕ → List Mark
-left_after [] n = []
-left_after (m ∷ ms) n = if nat_le m.left n then left_after ms (n - m.left) else record m { left = m.left - n } ∷ ms
-
--- what does not look at the channels, and at what is kept for those who listen, is the same once a close-ok of one was sent
-pub pay-keeps : {A : Type 0} (f : Talk → A) → ((t : Talk) (cs : List (ℕ × Channel)) (ns : Noted) → f (record t { channels = cs; noted = ns }) ≡ f t)
-    → (o : Option Channel) (n : ℕ) (t : Talk) → f (pay o n t) ≡ f t
-pay-keeps f h o n t =
-    pay-case (λ (x : Talk). f x ≡ f t) o n t (λ is. refl) (λ c is unowed. refl)
-    (λ c is owes awaits. h t (put n (record c { debt = debt.Paid }) t.channels) (tell_owed n t).noted)
-    (λ c is owes left. h t (without n t.channels) (tell_owed n t).noted)
-
-pub follow-keeps : {A : Type 0} (f : Talk → A) → OverlooksLosses f → (th : Then) (t : Talk) → f (follow th t) ≡ f t
-follow-keeps f h Nothing t = refl
-follow-keeps f h (Answer n) t = overlooks-ends f h t t.state t.link t.channels _ t.noted
-follow-keeps f h (Pays n) t = pay-keeps f (λ u cs ns. overlooks-ends f h u u.state u.link cs u.promises ns) (channel_at n t) n t
-follow-keeps f h Finish t = finish-keeps f h t.server_close t
-
--- what does not look at what an end changes is as it was, or the link is off
-pub follow-open : {A : Type 0} (f : Talk → A) → OverlooksEnds f → (th : Then) (t : Talk) → (f (follow th t) ≡ f t) ⊎ (is_open (follow th t) ≡ false)
-follow-open f h Nothing t = inl refl
-follow-open f h (Answer n) t = inl (h t t.state t.link t.channels _ t.noted)
-follow-open f h (Pays n) t = inl (pay-keeps f (λ u cs ns. h u u.state u.link cs u.promises ns) (channel_at n t) n t)
-follow-open f h Finish t = inr (off-finish t.server_close t).opened
-
-pub follow-link : (th : Then) (t : Talk) → LinkKept t (follow th t)
-follow-link Nothing t = inl refl
-follow-link (Answer n) t = inl refl
-follow-link (Pays n) t = inl (pay-keeps (λ (x : Talk). x.link) (λ u cs ns. refl) (channel_at n t) n t)
-follow-link Finish t = inr (off-finish t.server_close t)
-
-sent_among-keeps : {A : Type 0} (f : Talk → A) → Overlooks f → (ms : List Mark) (n : ℕ) (t : Talk) → f (sent_among ms n t) ≡ f t
-sent_among-keeps f h [] n t = refl
-sent_among-keeps f h (m ∷ ms) n t =
-    let rest : Talk = record t { committed = record m { left = m.left - n } ∷ ms } in
-    let on : Talk = sent_among ms (n - m.left) (sent m t) in
-    if_case (λ (x : Talk). f x ≡ f t) (is_open t) (if nat_le m.left n then on else rest) t
-    (if_case (λ (x : Talk). f x ≡ f t) (nat_le m.left n) on rest
-    (sent_among-keeps f h ms (n - m.left) (sent m t) ∙ follow-keeps f h.ends m.then (record t { committed = drop 1 t.committed })
-    ∙ h.writes t t.last_write (drop 1 t.committed))
-    (h.writes t t.last_write (record m { left = m.left - n } ∷ ms)))
-    refl
-
-sent_among-link : (ms : List Mark) (n : ℕ) (t : Talk) → LinkKept t (sent_among ms n t)
-sent_among-link [] n t = inl refl
-sent_among-link (m ∷ ms) n t =
-    let rest : Talk = record t { committed = record m { left = m.left - n } ∷ ms } in
-    let on : Talk = sent_among ms (n - m.left) (sent m t) in
-    if_case (LinkKept t) (is_open t) (if nat_le m.left n then on else rest) t
-    (if_case (LinkKept t) (nat_le m.left n) on rest
-    (link-then t (sent m t) on (follow-link m.then (record t { committed = drop 1 t.committed })) (sent_among-link ms (n - m.left) (sent m t)))
-    (inl refl))
-    (inl refl)
-
-pub sent_among-closed : (ms : List Mark) (n : ℕ) (t : Talk) → is_open t ≡ false → sent_among ms n t ≡ t
-sent_among-closed [] n t h = refl
-sent_among-closed (m ∷ ms) n t h = if-false (is_open t) _ t h
-
-module _ (m : Mark) (ms : List Mark) (n : ℕ) (t : Talk)
-    (later : is_open (sent_among ms (n - m.left) (sent m t)) ≡ true → (sent_among ms (n - m.left) (sent m t)).committed ≡ left_after ms (n - m.left)) where
-  abbrev left_here : Talk
-  left_here = record t { committed = record m { left = m.left - n } ∷ ms }
-
-  abbrev gone_on : Talk
-  gone_on = sent_among ms (n - m.left) (sent m t)
-
-  inner : (b : Bool) → is_open (if b then gone_on else left_here) ≡ true
-      → (if b then gone_on else left_here).committed ≡ (if b then left_after ms (n - m.left) else record m { left = m.left - n } ∷ ms)
-  inner true k = later k
-  inner false k = refl
-
-  outer : (b : Bool) → is_open t ≡ b → is_open (sent_among (m ∷ ms) n t) ≡ true → (sent_among (m ∷ ms) n t).committed ≡ left_after (m ∷ ms) n
-  outer true k opened =
-      let same : sent_among (m ∷ ms) n t ≡ (if nat_le m.left n then gone_on else left_here) =
-      if-true (is_open t) (if nat_le m.left n then gone_on else left_here) t k in
-      ap (λ (x : Talk). x.committed) same ∙ inner (nat_le m.left n) (ap is_open (sym same) ∙ opened)
-  outer false k opened =
-      let shut : is_open (sent_among (m ∷ ms) n t) ≡ false = ap is_open (sent_among-closed (m ∷ ms) n t k) ∙ k in absurd cc
-
--- once the first frame was sent, where the link is still open
-sent-on : (m : Mark) (ms : List Mark) (n : ℕ) (t : Talk) → t.committed ≡ m ∷ ms
-    → ((sent m t).committed ≡ ms → is_open (sent_among ms n (sent m t)) ≡ true → (sent_among ms n (sent m t)).committed ≡ left_after ms n)
-    → is_open (sent_among ms n (sent m t)) ≡ true → (sent_among ms n (sent m t)).committed ≡ left_after ms n
-sent-on m ms n t h on now =
-    elim (follow-open (λ (x : Talk). x.committed) (λ t s l cs ps ns. refl) m.then (record t { committed = drop 1 t.committed })) [
-      | inl same ↦ on (same ∙ ap (drop 1) h) now
-      | inr shut ↦ absurd (true≢false (sym now ∙ ap is_open (sent_among-closed ms n (sent m t) shut) ∙ shut))
-    ]
-
--- while the link is open, the frames whose last byte was taken are no longer committed
-pub sent_among-committed : (ms : List Mark) (n : ℕ) (t : Talk) → t.committed ≡ ms → is_open (sent_among ms n t) ≡ true
-    → (sent_among ms n t).committed ≡ left_after ms n
-sent_among-committed [] n t h opened = h
-sent_among-committed (m ∷ ms) n t h opened =
-    outer m ms n t (sent-on m ms (n - m.left) t h (sent_among-committed ms (n - m.left) (sent m t))) (is_open t) refl opened
-
-pub taken-keeps : {A : Type 0} (f : Talk → A) → Overlooks f → (n : ℕ) (t : Talk) → f (taken n t) ≡ f t
-taken-keeps f h n t =
-    let u : Talk = record t { last_write = t.present } in
-    if_case (λ (x : Talk). f x ≡ f t) (is_open t && not (n == 0)) (sent_among t.committed n u) t
-    (sent_among-keeps f h t.committed n u ∙ h.writes t t.present t.committed) refl
-
-pub taken-link : (n : ℕ) (t : Talk) → LinkKept t (taken n t)
-taken-link n t =
-    let u : Talk = record t { last_write = t.present } in
-    if_case (LinkKept t) (is_open t && not (n == 0)) (sent_among t.committed n u) t (sent_among-link t.committed n u) (inl refl)
-
-pub left_in-cons : (m : Mark) (ms : List Mark) → left_in (m ∷ ms) ≡ m.left + left_in ms
-left_in-cons m ms = sum_by-cons (λ (m : Mark). m.left) m ms
-
--- the bytes that were taken are no longer unsent
-pub left_in-left_after : (ms : List Mark) (n : ℕ) → left_in (left_after ms n) ≡ left_in ms - n
-left_in-left_after [] n = omega arith
-left_in-left_after (m ∷ ms) n =
-    grind (arith, nat_tests, left_in-cons m ms, left_in-cons (record m { left = m.left - n }) ms, left_in-left_after ms (n - m.left))
-
--- where the link is still open, what is committed is what is left
-pub committed-taken : (b : Bool) (at n : ℕ) (t : Talk) → is_open t ≡ true → is_open (taken n (present_at at t)) ≡ true → (n == 0) ≡ b
-    → (taken n (present_at at t)).committed ≡ (if b then t.committed else left_after t.committed n)
-committed-taken true at n t opened still zero_is =
-    let x = present_at at t in
-    ap (λ (y : Talk). y.committed) (if-false (is_open x && not (n == 0)) (sent_among x.committed n (record x { last_write = x.present })) x
-    (and-false (is_open x) (not (n == 0)) (ap not zero_is)))
-    ∙ present-keeps (λ y. y.committed) at t (λ k. refl)
-committed-taken false at n t opened still zero_is =
-    let x = present_at at t in
-    let u : Talk = record x { last_write = x.present } in
-    let same : taken n x ≡ sent_among x.committed n u =
-    if-true (is_open x && not (n == 0)) (sent_among x.committed n u) x
-    (and-true (is_open x) (not (n == 0)) (present-keeps is_open at t (λ k. refl) ∙ opened) (ap not zero_is)) in
-    ap (λ (y : Talk). y.committed) same
-    ∙ sent_among-committed x.committed n u refl (ap is_open (sym same) ∙ still)
-    ∙ ap (λ ms. left_after ms n) (present-keeps (λ y. y.committed) at t (λ k. refl))
-
-left_in-taken : (b : Bool) (at n : ℕ) (t : Talk) → is_open t ≡ true → is_open (taken n (present_at at t)) ≡ true → (n == 0) ≡ b
-    → left_in (taken n (present_at at t)).committed ≡ left_in t.committed - n
-left_in-taken true at n t opened still h =
-    let none : n ≡ 0 = grind (arith, nat_tests) in
-    omega (arith, ap left_in (committed-taken true at n t opened still h), none)
-left_in-taken false at n t opened still h = ap left_in (committed-taken false at n t opened still h) ∙ left_in-left_after t.committed n
-
--- the unsent bytes are counted after some were taken, where the link is still open
-pub counted-taken : (at n : ℕ) (t : Talk) (bytes : List ℕ) → is_open t ≡ true → is_open (taken n (present_at at t)) ≡ true
-    → length bytes ≡ left_in t.committed → length (drop n bytes) ≡ left_in (taken n (present_at at t)).committed
-counted-taken at n t bytes opened still h =
-    omega (arith, h, length-drop n bytes, left_in-taken (n == 0) at n t opened still refl)

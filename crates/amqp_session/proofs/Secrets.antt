@@ -37,8 +37,9 @@ use Rattle.amqp_session.specs.Answers.{answer_of, end_event, without_event}
 use Rattle.amqp_session.specs.Parts.{awaits_open_ok}
 use Rattle.amqp_session.specs.Secrets.{HasExpired, is_refresh, renews, refuses, IsSameSecret, IsSameOrNew, KeepsSecret}
 use Rattle.amqp_session.proofs.Heard.{start-case, secure-case}
-use Rattle.amqp_session.proofs.Walk.{ChannelRows, CommandRows, misplaced-keeps, misread-keeps, channel-method-keeps, raw-keeps, command-keeps}
-use Rattle.amqp_session.proofs.Keeping.{present-keeps, loss-keeps, lost-keeps, failed-keeps, taken-keeps}
+use Rattle.amqp_session.proofs.Walk.{ChannelRows, misplaced-keeps, misread-keeps, channel-method-keeps, raw-keeps}
+use Rattle.amqp_session.proofs.Keeping.{present-keeps, loss-keeps, lost-keeps, failed-keeps, stays-command}
+use Rattle.amqp_session.proofs.Sending.{taken-keeps}
 use Rattle.amqp_types.proofs.Small.{if_case, if_by, if-false}
 use Rattle.amqp_session.proofs.Recovering.{lose-case, reopened-keeps}
 
@@ -181,22 +182,8 @@ tick-secret answers t =
 
 -- ---- commands
 
-told : (t : Talk) → CommandRows (IsSameSecret t)
-told t = record {
-  refuses = λ e u h. h;
-  promises = λ u h. h;
-  opens = λ n u h. h;
-  opens_none = λ first u h. h;
-  leaves_channel = λ n code text c answers u h. h;
-  sends = λ n m u h. h;
-  publishes = λ n m properties body u h. h;
-  flows = λ n active u h. h;
-  tells_secret = λ secret reason u h. h;
-  listens = λ u h. h;
-}
-
 command-secret : (c : Cmd) (t : Talk) → IsSameSecret t (command c t)
-command-secret c t = command-keeps (IsSameSecret t) (told t) (λ code text answers u h. h) c t refl
+command-secret c t = (stays-command c t).secret_at
 
 -- ---- what else happens
 

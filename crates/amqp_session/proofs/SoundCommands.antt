@@ -1,10 +1,6 @@
 -- A command leads from a sound state to a sound one.
-use Rattle.std.proofs.Common.{◌≡◌, ◌∙◌, ap, sym, subst, refl, ℕ, zero, suc, ◌<◌, ◌≤◌, ◌+◌, ◌-◌, ◌&&◌, not, if◌then◌else◌, Bool, true, false, List, [], ◌∷◌, Option, Some, None, Result, Ok, Err, cond, arith, true≢false}
-use Rattle.std.proofs.lemmas.Bool.Decides.{nat_tests}
-use Rattle.std.proofs.lemmas.List.Folds.{find-append}
-use Rattle.std.specs.Prelude.{find, filter, codes}
-use Rattle.std.specs.Option.{option_or}
-use Rattle.std.specs.List.{range_with_len}
+use Rattle.std.proofs.Common.{◌≡◌, ◌∙◌, ap, subst, refl, ℕ, ◌<◌, ◌≤◌, ◌&&◌, not, if◌then◌else◌, Bool, true, false, List, [], ◌∷◌, Option, Some, None, Result, Ok, Err, arith}
+use Rattle.std.specs.Prelude.{filter, codes}
 use Rattle.amqp_types.specs.declared.word.Word.{Word}
 use Rattle.amqp_types.specs.declared.word.Word.TheVariants as word
 use Rattle.amqp_frame.specs.declared.frame.Frame.{Frame}
@@ -25,7 +21,6 @@ use Rattle.amqp_session.specs.declared.command.Cmd.TheVariants.{OpenChannel, Clo
 use Rattle.amqp_session.specs.declared.command.ChanRef.{ChanRef}
 use Rattle.amqp_promise.specs.declared.error.ErrorKind.TheVariants.{ChannelsLimitReached, InvalidChannelState, InvalidConnectionState}
 use Rattle.amqp_promise.specs.declared.error.ErrorKind.{ErrorKind}
-use Rattle.amqp_session.specs.Listed.{at, has}
 use Rattle.amqp_session.specs.Talk.{Talk, acts, is_acting, is_open_link}
 use Rattle.amqp_session.specs.Changes.{next_promise, refuse, finish, promise}
 use Rattle.amqp_session.specs.Handshake.{our_close, new_secret, channel_open, channel_flow, our_channel_close}
@@ -33,53 +28,18 @@ use Rattle.amqp_session.specs.Numbering.{first_number, drawn}
 use Rattle.amqp_session.specs.Channels.{channel_at, made_closing}
 use Rattle.amqp_session.specs.Publishing.{method_frame, publish_frames}
 use Rattle.amqp_session.specs.Commands.{is_opening, named_in, named, target_in, target_by, target, open_drawn, leave_channel, leave_connection, close_target, drop_target, flow_target, queue_secret, update_secret, too_long, unless_too_long, too_full, unless_full, queue_send, send_target, body_limit, queue_publish, publish_target, command, command_rule}
-use Rattle.amqp_session.specs.Sound.{IsSound, fits_link, goes_on}
+use Rattle.amqp_session.specs.Sound.{IsSound, fits_link, goes_on, is_unopened}
 use Rattle.amqp_session.proofs.Ascending.{put-from, map_values-from}
 use Rattle.amqp_session.proofs.Finishing.{acting-finishes, close-goes_on, control-goes_on, flow-goes_on, group-goes_on, left-goes_on, open-goes_on, publish-goes_on, queue-finishes, ungrouped-goes_on}
 use Rattle.amqp_outbox.specs.Replies.{expected}
 use Rattle.amqp_session.specs.Listed.{map_values}
-use Rattle.amqp_session.specs.Sound.{is_unopened}
-use Rattle.amqp_session.proofs.Maps.{at-absent}
+use Rattle.amqp_session.proofs.Drawn.{drawn-free}
 use Rattle.amqp_session.proofs.OpenedBy.{names-none, names-rejected, fits-made}
 use Rattle.amqp_session.proofs.Opening.{fits-awaited, fits-left, fits-listed, fits-closing}
 use Rattle.amqp_session.proofs.SoundChanges.{one-more, rejected-kept, sound-promise, sound-refuse, sound-noted, listed-some}
 use Rattle.amqp_session.proofs.SoundFrames.{closing-fits}
 
 -- ---- commands
-
-first-some : (channel_max cursor : ℕ) → 1 ≤ first_number channel_max cursor
-first-some channel_max cursor = grind (arith, nat_tests)
-
--- a number that is at least 1, and is not listed
-abbrev IsDrawn : (ℕ → Bool) → ℕ → Type 0
-IsDrawn p n = (0 < n) × (p n ≡ true)
-
-found-head : (p : ℕ → Bool) (first n : ℕ) (rest : Option ℕ) (b : Bool) → p first ≡ b → 1 ≤ first → (rest ≡ Some n → IsDrawn p n) → cond b (Some first) rest ≡ Some n → IsDrawn p n
-found-head p first n rest true is le f h = let same : first ≡ n = cc in (omega (arith, le, same), ap p (sym same) ∙ is)
-found-head p first n rest false is le f h = f h
-
-found-some : (p : ℕ → Bool) (len first n : ℕ) → 1 ≤ first → find p (range_with_len first len) ≡ Some n → IsDrawn p n
-found-some p zero first n le h = absurd cc
-found-some p (suc len) first n le h =
-    found-head p first n (find p (range_with_len (first + 1) len)) (p first) refl le (found-some p len (first + 1) n (omega arith)) h
-
-or-some : (p : ℕ → Bool) (a b : Option ℕ) (n : ℕ) → (a ≡ Some n → IsDrawn p n) → (b ≡ Some n → IsDrawn p n) → option_or a b ≡ Some n → IsDrawn p n
-or-some p None b n f g h = g h
-or-some p (Some x) b n f g h = f h
-
-not-true : (b : Bool) → not b ≡ true → b ≡ false
-not-true true h = absurd (true≢false (sym h))
-not-true false h = refl
-
--- a number that is drawn is at least 1, and free
-drawn-some : (channel_max first : ℕ) (channels : List (ℕ × Channel)) (n : ℕ) → 1 ≤ first → drawn channel_max first channels ≡ Some n → (0 < n) × (at n channels ≡ None)
-drawn-some channel_max first channels n le h =
-    let p : ℕ → Bool = λ n. not (has n channels) in
-    let is : IsDrawn p n =
-    or-some p (find p (range_with_len first (channel_max + 1 - first))) (find p (range_with_len 1 (first - 1))) n
-    (found-some p (channel_max + 1 - first) first n le) (found-some p (first - 1) 1 n (omega arith))
-    (sym (find-append p (range_with_len first (channel_max + 1 - first)) (range_with_len 1 (first - 1))) ∙ h) in
-    (is.0, at-absent n channels (not-true (has n channels) is.1))
 
 connected-open : (l : Link ErrorKind) → fits_link Connected l ≡ true → is_open_link l ≡ true
 connected-open Open h = refl
@@ -223,7 +183,7 @@ sound-publish (Ok c) n m properties body t acting s =
       channels = fits-made t.state (acts t) t.channels t.outbox.awaited t.made s.channels;
     }))
 
-named-listed : (r : ChanRef) (o : Option Channel) (c : Channel) → named_in r.opened o ≡ Some c → o ≡ Some c
+pub named-listed : (r : ChanRef) (o : Option Channel) (c : Channel) → named_in r.opened o ≡ Some c → o ≡ Some c
 named-listed r None c h = absurd cc
 named-listed r (Some d) c h = by (is_opening r.opened d.opened) h
   where
@@ -231,16 +191,16 @@ named-listed r (Some d) c h = by (is_opening r.opened d.opened) h
     by true h = h
     by false h = absurd cc
 
-target-in : (held : ChannelState) (word : Word) (d c : Channel) → target_in held word d ≡ Ok c → d ≡ c
+pub target-in : (held : ChannelState) (word : Word) (d c : Channel) → target_in held word d ≡ Ok c → d ≡ c
 target-in channel.Connected word d c h = cc
 target-in _ word d c h = absurd cc
 
-target-named : (o : Option Channel) (n : ℕ) (word : Word) (c : Channel) → target_by o n word ≡ Ok c → o ≡ Some c
+pub target-named : (o : Option Channel) (n : ℕ) (word : Word) (c : Channel) → target_by o n word ≡ Ok c → o ≡ Some c
 target-named None n word c h = absurd cc
 target-named (Some d) n word c h = ap (λ (x : Channel). Some x) (target-in d.state word d c h)
 
 -- a target is listed
-target-listed : (r : ChanRef) (word : Word) (t : Talk) (c : Channel) → target r word t ≡ Ok c → channel_at r.id t ≡ Some c
+pub target-listed : (r : ChanRef) (word : Word) (t : Talk) (c : Channel) → target r word t ≡ Ok c → channel_at r.id t ≡ Some c
 target-listed r word t c h = named-listed r (channel_at r.id t) c (target-named (named r t) r.id word c h)
 
 -- where the connection goes on, frames act
@@ -272,7 +232,9 @@ sound-command-rule : (state : ConnectionState) (c : Cmd) (t : Talk) → t.state 
 sound-command-rule Connected OpenChannel t hs s =
     let first = first_number t.configuration.channel_max t.cursor in
     sound-drawn (drawn t.configuration.channel_max first t.channels) first t
-    (λ n h. drawn-some t.configuration.channel_max first t.channels n (first-some t.configuration.channel_max t.cursor) h)
+    (λ n h.
+    let free = drawn-free t.configuration.channel_max t.cursor n t.channels h in
+    let low : 1 ≤ n = free.0 in (omega (arith, low), free.2))
     hs (acts-on Connected t hs refl s) s
 sound-command-rule Connected (CloseChannel r code text) t hs s =
     sound-close-target (target r word.ChannelClose t) r.id code text t (λ c h. target-listed r word.ChannelClose t c h) hs

@@ -199,7 +199,7 @@ sound-channel _ n c (ChannelFlow active) t listed opened acting s = sound-flow c
 sound-channel _ n c (ChannelFlowOk active) t listed opened acting s = sound-flowed n c active (awaited_promise n FlowDone t.outbox) t s
 sound-channel _ n c m t listed opened acting s = sound-unawaited n c.state m t s
 
-heard-listed : (state : ConnectionState) (o : Option Channel) (c : Channel) → heard_on state o ≡ Some c → o ≡ Some c
+pub heard-listed : (state : ConnectionState) (o : Option Channel) (c : Channel) → heard_on state o ≡ Some c → o ≡ Some c
 heard-listed Connecting o c h = absurd cc
 heard-listed _ o c h = h
 

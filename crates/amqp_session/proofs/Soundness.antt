@@ -39,16 +39,15 @@ use Rattle.amqp_session.specs.Ticks.{is_missed, is_heartbeat_due, missing_heartb
 use Rattle.amqp_session.specs.declared.event.Event.{Event}
 use Rattle.amqp_session.specs.Answers.{answer_of, take_answer, end_event, without_event, take_event, take_frames}
 use Rattle.amqp_session.specs.Laws.{IsEnded, StaysSound, is_end}
-use Rattle.amqp_session.specs.Sound.{IsSound, FitsChannels, fits_link, Finishes, following, goes_on}
+use Rattle.amqp_session.specs.Sound.{IsSound, FitsChannels, fits_link, Finishes, following, goes_on, is_unopened}
 use Rattle.amqp_types.proofs.Small.{if_case, if_by}
 use Rattle.amqp_session.proofs.Heard.{secret-case}
-use Rattle.amqp_session.proofs.Keeping.{sent_among-closed, beats-connected, asks-connected}
-use Rattle.amqp_session.proofs.Ascending.{put-from, without-ascends, without-from, without-below}
+use Rattle.amqp_session.proofs.Keeping.{beats-connected, asks-connected}
+use Rattle.amqp_session.proofs.Sending.{sent_among-closed}
+use Rattle.amqp_session.proofs.Ascending.{put-from, without-ascends, without-from, without-below, ascend-from}
 use Rattle.amqp_session.proofs.Finishing.{committed-follows, dropped-acts, dropped-finishes, first-goes, queue-finishes, sent-committed}
 use Rattle.amqp_session.specs.declared.state.Input.{Input}
 use Rattle.amqp_session.specs.declared.state.Input.TheVariants as input
-use Rattle.amqp_session.specs.Sound.{is_unopened}
-use Rattle.amqp_session.proofs.Ascending.{ascend-from}
 use Rattle.amqp_session.proofs.OpenedBy.{names-new, names-none, names-taken, fits-later, fits-linked}
 use Rattle.amqp_session.proofs.Opening.{fits-awaited, fits-owing, fits-paid-gone, fits-new}
 use Rattle.amqp_session.proofs.SoundChanges.{sound-give, sound-fail, sound-lose, sound-finish, sound-starve, sound-present, sound-noted, listed-some}
@@ -170,16 +169,16 @@ sound-lost fault t s =
 -- ---- writing
 
 -- a frame that goes out leaves what is awaited
-group-awaits : (groups : List (List Item)) (q : Queued) → (begin_group groups q).awaited ≡ q.awaited
+pub group-awaits : (groups : List (List Item)) (q : Queued) → (begin_group groups q).awaited ≡ q.awaited
 group-awaits [] q = refl
 group-awaits (group ∷ groups) q = refl
 
-control-awaits : (flow : Bool) (control : List Item) (q : Queued) → (after_control flow control q).awaited ≡ q.awaited
+pub control-awaits : (flow : Bool) (control : List Item) (q : Queued) → (after_control flow control q).awaited ≡ q.awaited
 control-awaits flow (item ∷ items) q = refl
 control-awaits true [] q = group-awaits q.publish q
 control-awaits false [] q = refl
 
-next-awaits : (flow : Bool) (begun : List Item) (q : Queued) → (after_begun flow begun q).awaited ≡ q.awaited
+pub next-awaits : (flow : Bool) (begun : List Item) (q : Queued) → (after_begun flow begun q).awaited ≡ q.awaited
 next-awaits flow (item ∷ items) q = refl
 next-awaits flow [] q = control-awaits flow q.control q
 

@@ -13,7 +13,7 @@ use Rattle.amqp_session.specs.Writing.{follow, sent, sent_among}
 use Rattle.amqp_session.specs.Parts.{first_among, after_first, first_sent, after_sent}
 use Rattle.amqp_types.proofs.Small.{if-true}
 use Rattle.amqp_session.proofs.Recovering.{lose-case}
-use Rattle.amqp_session.proofs.Keeping.{pay-keeps, follow-open, sent_among-closed}
+use Rattle.amqp_session.proofs.Sending.{pay-keeps, follow-open, sent_among-closed}
 
 -- what is left of the committed frames is to be taken once a frame was followed, where the link is still open
 follow-left : (m : Mark) (t : Talk) (ms : List Mark) (k : ℕ)

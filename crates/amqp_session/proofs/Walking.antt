@@ -250,7 +250,12 @@ agreed-all top (e ∷ es) none = by (nat_lt top e.0) refl none (agreed-all top e
   by false h k rest =
       ap (λ b. cond b (e ∷ agreed top es) (agreed top es)) (is-at-most e.0 top (from-not-below top e.0 h)) ∙ ap (λ xs. e ∷ xs) (rest k)
 
-all-filtered : {X : Type 0} (P : X → Type 0) (p : X → Bool) (xs : List X) → AllByRecursion P xs → AllByRecursion P (filter p xs)
+-- what holds of the elements of two lists holds of those of both
+pub all-append : {X : Type 0} (P : X → Type 0) (xs ys : List X) → AllByRecursion P xs → AllByRecursion P ys → AllByRecursion P (xs ++ ys)
+all-append P [] ys all more = more
+all-append P (x ∷ xs) ys all more = (all.0, all-append P xs ys all.1 more)
+
+pub all-filtered : {X : Type 0} (P : X → Type 0) (p : X → Bool) (xs : List X) → AllByRecursion P xs → AllByRecursion P (filter p xs)
 all-filtered P p [] all = tt
 all-filtered P p (x ∷ xs) all = by (p x) (all-filtered P p xs all.1) where
   by : (b : Bool) → AllByRecursion P (filter p xs) → AllByRecursion P (cond b (x ∷ filter p xs) (filter p xs))

@@ -36,6 +36,7 @@ pub mod Secrets
 -- What the contracts of private calls are stated with.
 pub mod Sharing
 pub mod Parts
+pub mod Places
 pub mod NumberSet
 pub mod Openings
 pub mod Stopped

@@ -19,7 +19,7 @@ const FRAMES: u64 = 32;
 
 /// How many bytes can be unsent. It is the length of a buffer, and 32 bits can say it, as they say the
 /// length of a frame; the least frame that every peer takes fits.
-#[derive(Debug, Drop)]
+#[derive(Drop)]
 pub struct Capacity {
     octets: u64,
     ghost small: { octets < 2 ^ 32 },

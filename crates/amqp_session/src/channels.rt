@@ -32,7 +32,7 @@ pub enum Debt {
 }
 
 /// A listed channel.
-#[derive(Clone, Copy, Debug, PartialEq, Eq)]
+#[derive(Clone, Copy, Debug)]
 pub struct Channel {
     pub state: ChannelState,
     /// Whether the server lets content be published on it.

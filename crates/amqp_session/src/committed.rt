@@ -14,7 +14,7 @@ use std::alloc::Global;
 use std::collections::VecDeque;
 
 /// What follows once a frame was sent whole.
-#[derive(Clone, Copy, Debug, PartialEq, Eq)]
+#[derive(Clone, Copy)]
 pub enum Then {
     Nothing,
     /// This promise is answered.
@@ -26,7 +26,7 @@ pub enum Then {
 }
 
 /// A committed frame.
-#[derive(Clone, Copy, Debug, PartialEq, Eq)]
+#[derive(Clone, Copy)]
 pub struct Mark {
     /// How many of its bytes are unsent.
     pub left: u64,
@@ -86,7 +86,7 @@ fn is_close_ok(frame: &Frame) -> bool
 }
 
 /// The committed frames, in order, and how many of their bytes are unsent.
-#[derive(Debug, Drop)]
+#[derive(Drop)]
 pub struct Committed {
     marks: VecDeque<Mark>,
     unsent: u64,

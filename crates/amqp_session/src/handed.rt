@@ -33,7 +33,7 @@ impl Handed {
 }
 
 /// Frames of one opening, in order.
-#[derive(Debug, Drop)]
+#[derive(Drop)]
 pub struct Frames {
     items: Vec<Handed>,
 }
@@ -90,7 +90,7 @@ impl Copied for Frames {
 }
 
 /// The frames handed out and not yet taken, by the promise that opened their channel.
-#[derive(Debug, Drop)]
+#[derive(Drop)]
 pub struct Backlog {
     alloc: Global,
     frames: BTreeMap<u64, Frames>,

@@ -15,7 +15,7 @@ use std::collections::BTreeMap;
 use std::mem;
 
 /// What has become of a promise whose answer was not taken.
-#[derive(Debug, Drop)]
+#[derive(Drop)]
 pub enum Slot {
     /// It is not made yet, but has its place.
     Place,
@@ -27,13 +27,13 @@ pub enum Slot {
 }
 
 /// Why promises are rejected: an error that is kept for them.
-#[derive(Debug, Drop)]
+#[derive(Drop)]
 pub struct Why {
     number: u64,
 }
 
 /// How many promises were made, and those whose answer was not taken.
-#[derive(Debug, Drop)]
+#[derive(Drop)]
 pub struct Promises {
     made: u64,
     slots: BTreeMap<u64, Slot>,

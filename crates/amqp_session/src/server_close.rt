@@ -6,7 +6,7 @@ use amqp_types::{AMQPError, NoMemory};
 use std::alloc::Global;
 
 /// A close of the connection by the server, by its code.
-#[derive(Debug, PartialEq, Eq, Drop)]
+#[derive(Drop)]
 pub enum ServerClose {
     /// The code is none of an error, as 200.
     WithoutError,

@@ -11,7 +11,7 @@ use std::alloc::Global;
 use std::collections::BTreeMap;
 
 /// An error, where it is known already, and how many promises hold it.
-#[derive(Debug, Drop)]
+#[derive(Drop)]
 pub struct SharedError {
     error: Option<Error>,
     holders: u64,
@@ -62,7 +62,7 @@ impl Copied for SharedError {
 }
 
 /// Errors by number, of which some are awaited.
-#[derive(Debug, Drop)]
+#[derive(Drop)]
 pub struct SharedErrors {
     errors: BTreeMap<u64, SharedError>,
 }

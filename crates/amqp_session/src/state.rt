@@ -9,7 +9,7 @@ use amqp_types::NoMemory;
 use std::alloc::Global;
 
 /// What the handshake awaits.
-#[derive(Clone, Copy, Debug, PartialEq, Eq)]
+#[derive(Clone, Copy, PartialEq, Eq)]
 pub enum Phase {
     AwaitStart,
     AwaitTune,
@@ -17,7 +17,7 @@ pub enum Phase {
 }
 
 /// What is done with the frames that come on a link.
-#[derive(Clone, Copy, Debug, PartialEq, Eq)]
+#[derive(Clone, Copy)]
 pub enum Input {
     /// They act.
     Acting,
@@ -51,7 +51,7 @@ impl Input {
 }
 
 /// Where a session stands with its link. At its end it has none.
-#[derive(Debug, Drop)]
+#[derive(Drop)]
 pub enum Link<E> {
     /// Until this moment, in milliseconds, none is wanted.
     Due(u64),
@@ -62,7 +62,7 @@ pub enum Link<E> {
 }
 
 /// How a session ended with an error, which is kept once.
-#[derive(Debug, Drop)]
+#[derive(Drop)]
 pub enum End {
     /// By the error with which the server closed the connection.
     ByServer,

@@ -1,0 +1,2 @@
+-- when a tick that is due is told
+pub mod Ticks

@@ -1,10 +1,11 @@
 //! A socket as a port.
 
-ghost use Rattle.std.specs.Prelude.{◌≡◌, ◌⊎◌, ◌≤◌, ◌<◌, ◌-◌, true, false, None, Some, IfSome, IfNone, IfOk, length};
+ghost use Rattle.std.specs.Prelude.{◌≡◌, ◌⊎◌, ◌≤◌, ◌<◌, ◌-◌, ◌+◌, true, false, None, Some, IfSome, IfNone, IfOk, length};
 ghost use Rattle.std.specs.Io.{ReadsAtMost};
 ghost use Rattle.amqp_types.specs.Counts.{Rose};
 ghost use Rattle.amqp_engine.specs.Counts.{HasCause};
 ghost use Rattle.amqp_engine.specs.Log.{IsPiece};
+ghost use Rattle.amqp_socket.specs.Ticks.{IsTickNext};
 
 use amqp_engine::{Port, Step, Told, Wrote};
 use mio::net::TcpStream;
@@ -22,6 +23,9 @@ const NUDGE: Token = Token(1);
 /// How much time passes at most before it is told that it has, in milliseconds. Half of the shortest
 /// interval of heartbeats that a server can ask for.
 const TICK: u64 = 500;
+
+/// How many steps go before a tick that is due, at most.
+const FIRST: u64 = 4;
 
 /// For how long the system may connect, in milliseconds.
 const CONNECT: u64 = 10_000;
@@ -79,8 +83,9 @@ pub struct MioPort<R> {
     moment: u64,
     ticked: u64,
     asked: u64,
-    // whether a step was told since it is time for the next tick
-    late: bool,
+    // how many steps were told since it is time for the next tick, and when the last of them was
+    first: u64,
+    first_at: u64,
     faults: u64,
 }
 
@@ -111,7 +116,8 @@ impl<R: Net + Clock + Drop> MioPort<R> {
             moment: 0,
             ticked: 0,
             asked: 0,
-            late: false,
+            first: 0,
+            first_at: 0,
             faults: 0,
         };
         Ok((port, waker))
@@ -135,6 +141,7 @@ impl<R: Net + Clock + Drop> MioPort<R> {
     fn hang_up(&mut self)
         ensures faults { self.new.faults ≡ self.old.faults }
         ensures ticked { self.new.ticked ≡ self.old.ticked }
+        ensures first { self.new.first ≡ self.old.first }
     {
         self.stream = None;
         self.stage = Stage::Idle;
@@ -148,6 +155,7 @@ impl<R: Net + Clock + Drop> MioPort<R> {
     fn fail(&mut self)
         ensures counted { Rose self.old.faults self.new.faults }
         ensures faults { self.old.faults ≤ self.new.faults }
+        ensures first { self.new.first ≡ self.old.first }
     {
         self.hang_up();
         self.faults = self.faults.saturating_add(1);
@@ -170,12 +178,14 @@ impl<R: Net + Clock + Drop> MioPort<R> {
         Ok(())
     }
 
-    // What can be told without waiting. Once it is time for a tick, at most one other step goes before it, so
-    // a server that always talks does not hold it up.
+    // What can be told without waiting. Once it is time for a tick, few other steps go before it, so a server
+    // that always talks does not hold it up.
     fn ready(&mut self, at: u64, space: &mut [u8]) -> Option<Step>
         requires { 4096 ≤ length space.old }
-        ensures tick { 500 ≤ at - self.old.ticked → self.old.late ≡ true → result ≡ Some Step.Tick }
-        ensures late { 500 ≤ at - self.old.ticked → (result ≡ Some Step.Tick) ⊎ (self.new.late ≡ true) }
+        ensures tick { 500 ≤ at - self.old.ticked → IsTickNext self.old.first self.old.first_at at
+            → result ≡ Some Step.Tick }
+        ensures first { 500 ≤ at - self.old.ticked → (result ≡ Some Step.Tick)
+            ⊎ ((self.new.first ≡ self.old.first + 1) × (self.new.first_at ≡ at)) }
         ensures due { 500 ≤ at - self.old.ticked → IfNone result ⊥ }
         ensures piece { IfSome result IsPiece }
         ensures cause { IfSome result (λ step. HasCause step self.old.faults self.new.faults) }
@@ -197,32 +207,60 @@ impl<R: Net + Clock + Drop> MioPort<R> {
         ensures faults { self.new.faults ≡ self.old.faults }
     {
         self.nudged = false;
-        self.late = false;
+        self.first = 0;
         self.ticked = at;
         Step::Tick
     }
 
-    // It is time for a tick. What was received first goes before it, once: where this process stood still, the
-    // time that passed would else be taken for the server's silence.
+    // It is time for a tick. What was received goes before it, once, and again where the turn of that took as
+    // long as a tick: the time in which this process stood still would else be taken for the server's silence.
     fn due(&mut self, at: u64, space: &mut [u8]) -> Step
         requires { 4096 ≤ length space.old }
-        ensures tick { self.old.late ≡ true → result ≡ Step.Tick }
-        ensures late { (result ≡ Step.Tick) ⊎ (self.new.late ≡ true) }
+        ensures tick { IsTickNext self.old.first self.old.first_at at → result ≡ Step.Tick }
+        ensures first { (result ≡ Step.Tick)
+            ⊎ ((self.new.first ≡ self.old.first + 1) × (self.new.first_at ≡ at)) }
         ensures piece { IsPiece result }
         ensures cause { HasCause result self.old.faults self.new.faults }
         ensures faults { self.old.faults ≤ self.new.faults }
     {
-        if self.late || self.stage != Stage::Linked {
+        if self.is_tick_next(at) {
             return self.tick(at);
         }
-        self.readable = true;
-        match self.linked(space) {
+        match self.heard(at, space) {
             Some(step) => {
-                self.late = true;
+                self.first += 1;
+                self.first_at = at;
                 step
             }
             None => self.tick(at),
         }
+    }
+
+    // Whether a tick that is due is told next.
+    fn is_tick_next(&self, at: u64) -> bool
+        ensures next { IsTickNext self.now.first self.now.first_at at → result ≡ true }
+        ensures few { result ≡ false → self.now.first < 4 }
+    {
+        let soon = at.saturating_sub(self.first_at) < TICK;
+        self.first >= FIRST || (self.first > 0 && soon)
+    }
+
+    // What was received, and else what happened to the link.
+    fn heard(&mut self, at: u64, space: &mut [u8]) -> Option<Step>
+        requires { 4096 ≤ length space.old }
+        ensures first { self.new.first ≡ self.old.first }
+        ensures piece { IfSome result IsPiece }
+        ensures cause { IfSome result (λ step. HasCause step self.old.faults self.new.faults) }
+        ensures faults { self.old.faults ≤ self.new.faults }
+        ensures none { IfNone result (self.new.faults ≡ self.old.faults) }
+    {
+        if self.stage == Stage::Linked {
+            self.readable = true;
+            if let Some(step) = self.received(space) {
+                return Some(step);
+            }
+        }
+        self.happened(at, space)
     }
 
     // What happened to the link.
@@ -232,6 +270,7 @@ impl<R: Net + Clock + Drop> MioPort<R> {
         ensures cause { IfSome result (λ step. HasCause step self.old.faults self.new.faults) }
         ensures faults { self.old.faults ≤ self.new.faults }
         ensures none { IfNone result (self.new.faults ≡ self.old.faults) }
+        ensures first { self.new.first ≡ self.old.first }
     {
         match self.stage {
             Stage::Idle => None,
@@ -247,6 +286,8 @@ impl<R: Net + Clock + Drop> MioPort<R> {
     // The system has connected, or not; or it was given its time.
     fn connecting(&mut self, at: u64) -> Option<Step>
         ensures late { 10000 ≤ at - self.old.asked → IfNone result ⊥ }
+        ensures told { IfSome result (λ step. (step ≡ Step.Linked) ⊎ (step ≡ Step.LinkFailed)) }
+        ensures first { self.new.first ≡ self.old.first }
         ensures piece { IfSome result IsPiece }
         ensures cause { IfSome result (λ step. HasCause step self.old.faults self.new.faults) }
         ensures faults { self.old.faults ≤ self.new.faults }
@@ -297,11 +338,24 @@ impl<R: Net + Clock + Drop> MioPort<R> {
         ensures cause { IfSome result (λ step. HasCause step self.old.faults self.new.faults) }
         ensures faults { self.old.faults ≤ self.new.faults }
         ensures none { IfNone result (self.new.faults ≡ self.old.faults) }
+        ensures first { self.new.first ≡ self.old.first }
     {
         if self.room {
             self.room = false;
             return Some(Step::Room);
         }
+        self.received(space)
+    }
+
+    // What is read, where a read may find something.
+    fn received(&mut self, space: &mut [u8]) -> Option<Step>
+        requires { 4096 ≤ length space.old }
+        ensures piece { IfSome result IsPiece }
+        ensures cause { IfSome result (λ step. HasCause step self.old.faults self.new.faults) }
+        ensures faults { self.old.faults ≤ self.new.faults }
+        ensures none { IfNone result (self.new.faults ≡ self.old.faults) }
+        ensures first { self.new.first ≡ self.old.first }
+    {
         if !self.readable {
             return None;
         }
@@ -322,6 +376,7 @@ impl<R: Net + Clock + Drop> MioPort<R> {
         ensures cause { IfSome result (λ step. HasCause step self.old.faults self.new.faults) }
         ensures faults { self.old.faults ≤ self.new.faults }
         ensures none { IfNone result (self.new.faults ≡ self.old.faults) }
+        ensures first { self.new.first ≡ self.old.first }
     {
         match why {
             io::ErrorKind::Interrupted => None,

@@ -6,4 +6,8 @@ mod addresses;
 #[cfg(test)]
 mod links;
 #[cfg(test)]
+mod nudges;
+#[cfg(test)]
+mod quiet;
+#[cfg(test)]
 mod times;

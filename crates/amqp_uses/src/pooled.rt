@@ -37,6 +37,10 @@ fn begin_within(
         return Err(ErrorKind::InvalidChannel(0).into());
     }
     pool.collect(hub);
+    let (idle, _, opening) = pool.counts();
+    if idle == 0 && opening > 0 {
+        return Ok(None);
+    }
     match begin_message(alloc, pool, hub, pass, queue, text)? {
         Begun::Sending(sending) => Ok(Some(sending)),
         Begun::Later => Ok(None),

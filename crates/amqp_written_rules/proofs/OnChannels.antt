@@ -1,7 +1,5 @@
 -- What comes on a channel leaves a session that says nothing else.
-use Rattle.std.proofs.Common.{◌≡◌, ◌≤◌, ℕ, not, Bool, true, false, true≢false, List, [], ◌∷◌, Option, Some, None, refl, ap, sym, ◌∙◌, subst}
-use Rattle.std.specs.Prelude.{filter, cond}
-use Rattle.std.specs.List.{AllByRecursion}
+use Rattle.std.proofs.Common.{◌≡◌, ◌≤◌, ℕ, not, Bool, true, false, true≢false, List, Option, Some, None, refl, ap, sym, ◌∙◌, subst}
 use Rattle.amqp_frame.specs.declared.frame.Frame.{Frame}
 use Rattle.amqp_frame.specs.declared.frame.RawKind.{RawKind}
 use Rattle.amqp_frame.specs.declared.method.Method.{Method as AnyMethod}
@@ -34,13 +32,7 @@ use Rattle.amqp_session.proofs.Walk.{close_answered, misplaced-keeps}
 use Rattle.amqp_types.proofs.Small.{if_case, all-push}
 use Rattle.amqp_written_rules.proofs.Spoken.{Sayings, Spoken, relisted, requeued, OfItem, OfItems, IsWithin, hears_channels, is_early}
 use Rattle.amqp_written_rules.proofs.OnLinks.{Stays, stays-lose, at-within, put-within, without-within}
-
-pub all-left : {X : Type 0} (P : X → Type 0) (test : X → Bool) (xs : List X) → AllByRecursion P xs → AllByRecursion P (filter test xs)
-all-left P test [] h = tt
-all-left P test (x ∷ xs) h = by (test x) (all-left P test xs h.1) where
-  by : (b : Bool) → AllByRecursion P (filter test xs) → AllByRecursion P (cond b (x ∷ filter test xs) (filter test xs))
-  by true rest = (h.0, rest)
-  by false rest = rest
+use Rattle.amqp_session.proofs.Walking.{all-filtered}
 
 module _ (k : Sayings) (fs : List Frame) where
   -- a frame goes last into the control lane that may be said
@@ -124,9 +116,9 @@ module _ (k : Sayings) (fs : List Frame) where
           (λ m may all.
           record {
             committed = all.committed;
-            lane = all-left (OfItem k m) (λ item. not (goes_with n item)) x.outbox.control all.lane;
+            lane = all-filtered (OfItem k m) (λ item. not (goes_with n item)) x.outbox.control all.lane;
             rest = all.rest;
-            groups = all-left (OfItems k m) (λ group. not (is_on n group)) x.outbox.publish all.groups;
+            groups = all-filtered (OfItems k m) (λ group. not (is_on n group)) x.outbox.publish all.groups;
           }) said
 
       stays-closed-by-server : (e : ErrorKind) → Stays k fs (closed_by_server n e c t)

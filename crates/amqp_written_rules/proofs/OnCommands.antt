@@ -1,8 +1,7 @@
 -- Each command, and time that goes by, leave a session that says nothing else.
-use Rattle.std.proofs.Common.{◌≡◌, ◌≤◌, ℕ, zero, suc, ◌+◌, ◌-◌, ◌==◌, ◌||◌, not, nat_le, nat_lt, Bool, true, false, if◌then◌else◌, List, [], ◌∷◌, ◌++◌, Option, Some, None, Result, Ok, Err, refl, ap, sym, ◌∙◌, subst, cond, arith}
-use Rattle.std.specs.Prelude.{codes, find}
-use Rattle.std.proofs.lemmas.Bool.Decides.{nat_tests}
-use Rattle.std.specs.List.{AllByRecursion, range_with_len}
+use Rattle.std.proofs.Common.{◌≡◌, ◌≤◌, ℕ, not, nat_le, Bool, true, false, List, [], ◌∷◌, Option, Some, None, Result, Ok, Err, refl, ap, sym, ◌∙◌, subst}
+use Rattle.std.specs.Prelude.{codes}
+use Rattle.std.specs.List.{AllByRecursion}
 use Rattle.amqp_frame.specs.declared.frame.Frame.{Frame}
 use Rattle.amqp_frame.specs.declared.frame.Frame.TheVariants.{Heartbeat}
 use Rattle.amqp_frame.specs.RawMethods.{OtherMethod}
@@ -12,9 +11,6 @@ use Rattle.amqp_outbox.specs.Queued.{pushed_group, is_on}
 use Rattle.amqp_promise.specs.declared.error.ErrorKind.{ErrorKind}
 use Rattle.amqp_promise.specs.declared.state.ConnectionState.{ConnectionState}
 use Rattle.amqp_promise.specs.declared.state.ConnectionState.TheVariants.{Connected}
-use Rattle.amqp_promise.specs.declared.state.ChannelState.{ChannelState}
-use Rattle.amqp_promise.specs.declared.state.ChannelState.TheVariants as channel
-use Rattle.amqp_types.specs.declared.word.Word.{Word}
 use Rattle.amqp_types.specs.declared.word.Word.TheVariants as word
 use Rattle.amqp_session.specs.declared.channels.Channel.{Channel}
 use Rattle.amqp_session.specs.declared.command.ChanRef.{ChanRef}
@@ -22,59 +18,26 @@ use Rattle.amqp_session.specs.declared.command.Cmd.{Cmd}
 use Rattle.amqp_session.specs.declared.command.Cmd.TheVariants.{OpenChannel, CloseChannel, CloseConnection, UpdateSecret, Send, Publish, Flow, DropChannel, DropConnection, Listen}
 use Rattle.amqp_session.specs.declared.configuration.Configuration.{Configuration}
 use Rattle.amqp_auth.specs.declared.asked.Asked.{Asked}
-use Rattle.amqp_session.specs.Listed.{put, has}
+use Rattle.amqp_session.specs.Listed.{put}
 use Rattle.amqp_session.specs.declared.state.Link.{Link}
 use Rattle.amqp_session.specs.declared.state.Link.TheVariants.{Due, Wanted}
 use Rattle.amqp_session.specs.Talk.{Talk, is_open, is_open_link}
 use Rattle.amqp_session.specs.Changes.{queue, queue_item, next_promise, without_groups_of}
 use Rattle.amqp_session.specs.Handshake.{our_close, our_channel_close, new_secret, channel_open, channel_flow}
-use Rattle.amqp_session.specs.Numbering.{first_number, drawn, cycle}
+use Rattle.amqp_session.specs.Numbering.{first_number, drawn}
 use Rattle.amqp_session.specs.Channels.{channel_at, set_channel, new_channel, made_leaving}
 use Rattle.amqp_session.specs.Publishing.{method_frame, publish_frames}
-use Rattle.amqp_session.specs.Commands.{is_opening, named_in, target_in, target_by, target, open_drawn, leave_channel, close_target, drop_target, flow_target, queue_secret, too_long, unless_too_long, too_full, unless_full, queue_send, send_target, body_limit, queue_publish, publish_target, leave_connection, command, command_rule}
+use Rattle.amqp_session.specs.Commands.{target, open_drawn, leave_channel, close_target, drop_target, flow_target, queue_secret, too_long, unless_too_long, too_full, unless_full, queue_send, send_target, body_limit, queue_publish, publish_target, leave_connection, command, command_rule}
 use Rattle.amqp_session.specs.Ticks.{refresh_reason, link_at, link_due, tick}
-use Rattle.amqp_session.proofs.Keeping.{lacks_link}
+use Rattle.amqp_session.proofs.Lacking.{lacks_link}
 use Rattle.amqp_session.proofs.Walk.{refused-keeps, tick-keeps}
+use Rattle.amqp_session.proofs.Drawn.{drawn-free}
 use Rattle.amqp_types.proofs.Small.{if_case, all-push}
 use Rattle.amqp_written_rules.proofs.Spoken.{Sayings, Spoken, requeued, spoken-closing, OfItem, OfItems, hears_channels, is_early}
 use Rattle.amqp_written_rules.proofs.OnLinks.{Stays, stays-lose, at-within, put-within}
-use Rattle.amqp_written_rules.proofs.OnChannels.{all-left, spoken-queue, spoken-agreed, spoken-channels}
-
--- ---- the number that is drawn
-
-abbrev UpTo : ℕ → List ℕ → Type 0
-UpTo most ns = AllByRecursion (λ (n : ℕ). n ≤ most) ns
-
-range-up : (most first count : ℕ) → first + count ≤ most + 1 → UpTo most (range_with_len first count)
-range-up most first zero le = tt
-range-up most first (suc count) le = (omega (arith, le), range-up most (first + 1) count (omega (arith, le)))
-
-joined-up : (most : ℕ) (ns ms : List ℕ) → UpTo most ns → UpTo most ms → UpTo most (ns ++ ms)
-joined-up most [] ms h g = g
-joined-up most (n ∷ ns) ms h g = (h.0, joined-up most ns ms h.1 g)
-
-found-up : (most n : ℕ) (test : ℕ → Bool) (ns : List ℕ) → UpTo most ns → find test ns ≡ Some n → n ≤ most
-found-up most n test [] h is = absurd cc
-found-up most n test (m ∷ ns) h is = by (test m) is (found-up most n test ns h.1) where
-  by : (b : Bool) → cond b (Some m) (find test ns) ≡ Some n → (find test ns ≡ Some n → n ≤ most) → n ≤ most
-  by true found rest = (let same : m ≡ n = cc in let le = h.0 in omega (arith, same, le))
-  by false found rest = rest found
-
--- a number that is drawn is at most the greatest
-drawn-within : (most cursor n : ℕ) (cs : List (ℕ × Channel)) → drawn most (first_number most cursor) cs ≡ Some n → n ≤ most
-drawn-within most cursor n cs is =
-    let first : ℕ = first_number most cursor in
-    let low : first ≤ most + 1 = from most cursor in
-    found-up most n (λ m. not (has m cs)) (cycle most first)
-    (joined-up most (range_with_len first (most + 1 - first)) (range_with_len 1 (first - 1)) (range-up most first (most + 1 - first) (omega (arith, low)))
-    (range-up most 1 (first - 1) (omega (arith, low)))) is
-  where
-    from : (most cursor : ℕ) → first_number most cursor ≤ most + 1
-    from most cursor = by (cursor == 0) (nat_lt most cursor) refl where
-      by : (a b : Bool) → nat_lt most cursor ≡ b → (if a || b then 1 else cursor) ≤ most + 1
-      by true b is = omega arith
-      by false true is = omega arith
-      by false false is = grind (arith, nat_tests, is)
+use Rattle.amqp_written_rules.proofs.OnChannels.{spoken-queue, spoken-agreed, spoken-channels}
+use Rattle.amqp_session.proofs.SoundCommands.{target-listed}
+use Rattle.amqp_session.proofs.Walking.{all-filtered}
 
 -- ---- the frames of a publish
 
@@ -84,21 +47,6 @@ grouped k n m (f ∷ []) promise h = (h.0, tt)
 grouped k n m (f ∷ g ∷ fs) promise h = (h.0, grouped k n m (g ∷ fs) promise h.1)
 
 -- ---- commands
-
--- the channel that is told of is listed
-targeted : (r : ChanRef) (w : Word) (t : Talk) (c : Channel) → target r w t ≡ Ok c → channel_at r.id t ≡ Some c
-targeted r w t c is = by (channel_at r.id t) is where
-  in-state : (s : ChannelState) (d : Channel) → target_in s w d ≡ Ok c → d ≡ c
-  in-state channel.Connected d h = cc
-  in-state _ d h = cc
-
-  opened : (b : Bool) (d : Channel) → target_by (if b then Some d else None) r.id w ≡ Ok c → d ≡ c
-  opened true d h = in-state d.state d h
-  opened false d h = absurd cc
-
-  by : (o : Option Channel) → target_by (named_in r.opened o) r.id w ≡ Ok c → o ≡ Some c
-  by None h = absurd cc
-  by (Some d) h = ap Some (opened (is_opening r.opened d.opened) d h)
 
 module _ (k : Sayings) (fs : List Frame) (t : Talk) (h : Stays k fs t) (open_state : t.state ≡ Connected) where
   agreed : is_early t.state t.phase ≡ false
@@ -119,7 +67,7 @@ module _ (k : Sayings) (fs : List Frame) (t : Talk) (h : Stays k fs t) (open_sta
           let y : Talk = queue n (our_channel_close n code text) x in
           requeued k fs y (without_groups_of n y.outbox)
           (λ m may all.
-          record { committed = all.committed; lane = all.lane; rest = all.rest; groups = all-left (OfItems k m) (λ group. not (is_on n group)) t.outbox.publish all.groups }) said)),
+          record { committed = all.committed; lane = all.lane; rest = all.rest; groups = all-filtered (OfItems k m) (λ group. not (is_on n group)) t.outbox.publish all.groups }) said)),
       h.1,
     )
 
@@ -147,17 +95,17 @@ module _ (k : Sayings) (fs : List Frame) (t : Talk) (h : Stays k fs t) (open_sta
       → target r word.ChannelClose t ≡ o → Stays k fs (close_target o r.id code text t)
   stays-close-target r code text told (Err e) is = h
   stays-close-target r code text told (Ok c) is =
-      stays-leave r.id c (targeted r word.ChannelClose t c is) code text (Some (next_promise t)) (λ n numbers le. k.closes_channel n r.id code text r numbers le told)
+      stays-leave r.id c (target-listed r word.ChannelClose t c is) code text (Some (next_promise t)) (λ n numbers le. k.closes_channel n r.id code text r numbers le told)
 
   stays-drop-target : (r : ChanRef) (o : Result Channel ErrorKind) → target r word.ChannelClose t ≡ o → Stays k fs (drop_target o r.id t)
   stays-drop-target r (Err e) is = h
   stays-drop-target r (Ok c) is =
-      stays-leave r.id c (targeted r word.ChannelClose t c is) 200 (codes "OK") None (λ n numbers le. k.drops_channel n r.id numbers le)
+      stays-leave r.id c (target-listed r word.ChannelClose t c is) 200 (codes "OK") None (λ n numbers le. k.drops_channel n r.id numbers le)
 
   stays-flow-target : (r : ChanRef) (active : Bool) (o : Result Channel ErrorKind) → target r word.ChannelFlow t ≡ o → Stays k fs (flow_target o r.id active t)
   stays-flow-target r active (Err e) is = h
   stays-flow-target r active (Ok c) is =
-      stays-said r.id c (targeted r word.ChannelFlow t c is) (plain_item r.id (channel_flow r.id active)) (λ n numbers le. k.flows n r.id active numbers le)
+      stays-said r.id c (target-listed r word.ChannelFlow t c is) (plain_item r.id (channel_flow r.id active)) (λ n numbers le. k.flows n r.id active numbers le)
 
   -- where too much would wait, a command is refused
   stays-room : (o : Option ℕ) (rule : Talk → Talk) → Stays k fs (rule t) → Stays k fs (unless_full o rule t)
@@ -170,14 +118,14 @@ module _ (k : Sayings) (fs : List Frame) (t : Talk) (h : Stays k fs t) (open_sta
   stays-send-target r method told (Ok c) is =
       let f : Frame = method_frame r.id method in
       stays-unless (too_long (f ∷ []) t) (unless_full (too_full (f ∷ []) t) (queue_send r.id f))
-      (stays-room (too_full (f ∷ []) t) (queue_send r.id f) (stays-said r.id c (targeted r word.Send t c is) (promised_item r.id f (next_promise t)) (λ n numbers le. k.sends n r.id r method numbers le told)))
+      (stays-room (too_full (f ∷ []) t) (queue_send r.id f) (stays-said r.id c (target-listed r word.Send t c is) (promised_item r.id f (next_promise t)) (λ n numbers le. k.sends n r.id r method numbers le told)))
 
   stays-publish-target : (r : ChanRef) (method : OtherMethod) (properties body : List ℕ) → k.Told (Publish r method properties body)
       → (o : Result Channel ErrorKind) → target r word.Publish t ≡ o → Stays k fs (publish_target o r.id method properties body t)
   stays-publish-target r method properties body told (Err e) is = h
   stays-publish-target r method properties body told (Ok c) is =
       let frames : List Frame = publish_frames r.id method properties body (body_limit t) in
-      let le = within r.id c (targeted r word.Publish t c is) in
+      let le = within r.id c (target-listed r word.Publish t c is) in
       stays-unless (too_long frames t) (unless_full (too_full frames t) (queue_publish r.id frames)) (stays-room (too_full frames t) (queue_publish r.id frames) (
         (λ o.
             (let said = h.0 o in
@@ -211,7 +159,7 @@ module _ (k : Sayings) (fs : List Frame) (t : Talk) (h : Stays k fs t) (open_sta
   stays-told : (c : Cmd) → k.Told c → Stays k fs (command_rule Connected c t)
   stays-told OpenChannel told =
       let first = first_number t.configuration.channel_max t.cursor in
-      stays-opened (drawn t.configuration.channel_max first t.channels) first (λ n is. drawn-within t.configuration.channel_max t.cursor n t.channels is)
+      stays-opened (drawn t.configuration.channel_max first t.channels) first (λ n is. (drawn-free t.configuration.channel_max t.cursor n t.channels is).1)
   stays-told (CloseChannel r code text) told = stays-close-target r code text told (target r word.ChannelClose t) refl
   stays-told (CloseConnection code text) told = stays-left code text (Some (next_promise t)) (λ n. k.closes n code text told)
   stays-told (UpdateSecret secret reason) told =

@@ -21,7 +21,7 @@ use Rattle.amqp_session.specs.declared.state.Phase.TheVariants.{AwaitStart, Awai
 use Rattle.amqp_auth.specs.declared.asked.Asked.{Asked}
 use Rattle.amqp_auth.specs.declared.asked.Asked.TheVariants as answer
 use Rattle.amqp_session.specs.Listed.{without}
-use Rattle.amqp_session.proofs.Keeping.{lacks_link}
+use Rattle.amqp_session.proofs.Lacking.{lacks_link}
 use Rattle.amqp_session.specs.Talk.{Talk, acts, hears_on, is_open}
 use Rattle.amqp_session.specs.Changes.{queue, await, misplaced, close}
 use Rattle.amqp_session.specs.Negotiation.{tune, grown_capacity}

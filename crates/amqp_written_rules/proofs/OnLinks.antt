@@ -8,9 +8,9 @@ use Rattle.std.specs.Cmp.{ranks}
 use Rattle.std.specs.BTreeMap.{is_at}
 use Rattle.amqp_frame.specs.declared.frame.Frame.{Frame}
 use Rattle.amqp_outbox.specs.declared.item.Item.{Item}
-use Rattle.amqp_outbox.specs.Items.{size_of, plain_item}
+use Rattle.amqp_outbox.specs.Items.{size_of}
 use Rattle.amqp_outbox.specs.Queued as queued
-use Rattle.amqp_outbox.specs.Queued.{Queued, after_next, only}
+use Rattle.amqp_outbox.specs.Queued.{Queued, after_next}
 use Rattle.amqp_promise.specs.declared.error.ErrorKind.{ErrorKind}
 use Rattle.amqp_promise.specs.declared.error.ErrorKind.TheVariants.{IOError, ProtocolError}
 use Rattle.amqp_promise.specs.declared.io_fault.IoFault.{IoFault}
@@ -24,26 +24,20 @@ use Rattle.amqp_session.specs.declared.configuration.Configuration.{Configuratio
 use Rattle.amqp_session.specs.declared.misread.Misread.{Misread}
 use Rattle.amqp_session.specs.declared.server_close.ServerClose.{ServerClose}
 use Rattle.amqp_session.specs.declared.server_close.ServerClose.TheVariants.{WithoutError, WithError}
-use Rattle.amqp_session.specs.declared.state.Link.{Link}
-use Rattle.amqp_session.specs.declared.state.Link.TheVariants.{Due, Wanted, Asked, Open, Ended}
-use Rattle.amqp_session.specs.declared.state.Input.TheVariants as input
-use Rattle.amqp_promise.specs.declared.state.ConnectionState.TheVariants.{Connecting}
-use Rattle.amqp_session.specs.declared.state.Phase.TheVariants.{AwaitStart}
 use Rattle.amqp_session.specs.Listed.{at, put, without}
 use Rattle.amqp_session.specs.Config.{Config}
-use Rattle.amqp_session.specs.Talk.{Talk, start, acts, is_open, is_open_link, is_asked, is_asked_link, has_ended, end_of_link}
+use Rattle.amqp_session.specs.Talk.{Talk, start, acts, is_open, is_asked, has_ended}
 use Rattle.amqp_session.specs.Changes.{present_at, tell_owed, fail, lose, close, finish, finish_by}
 use Rattle.amqp_session.specs.Recovery.{next_delay}
-use Rattle.amqp_session.specs.Links.{asked, asked_link, linked, refused_after, link_failed, piece, misread, lost}
+use Rattle.amqp_session.specs.Links.{asked, linked, refused_after, link_failed, piece, misread, lost}
 use Rattle.amqp_session.specs.Channels.{channel_at, set_channel}
 use Rattle.amqp_session.specs.ChannelMethods.{remove_channel}
 use Rattle.amqp_session.specs.Answers.{answer_of, take_answer, take_frames}
-use Rattle.amqp_session.specs.Handshake.{protocol_header}
 use Rattle.amqp_session.specs.Writing.{flows, next_out, writes, mark_of, pay, follow, sent, sent_among, taken}
-use Rattle.amqp_session.proofs.Keeping.{lacks_link}
 use Rattle.amqp_session.proofs.Recovering.{lose-by, recovers-open}
 use Rattle.amqp_session.proofs.Walk.{misread-keeps, pay-case}
-use Rattle.amqp_types.proofs.Small.{if_case, if_by, if-true, all-push}
+use Rattle.amqp_session.proofs.Lacking.{closed-link, open-lacks, asked-open, asked-lacks, asked-lacking, is-linked}
+use Rattle.amqp_types.proofs.Small.{if_case, if_by, all-push}
 use Rattle.amqp_written_rules.proofs.Spoken.{Sayings, SaysAll, Spoken, Quiet, Now, relisted, IsWithin, IsSized}
 
 -- ---- channels up to a number
@@ -73,39 +67,6 @@ without-within most n (e ∷ es) h = by (is_at (nat_cmp n) e.0) (without-within 
   by false rest = (h.0, rest)
 
 -- ---- ends and losses
-
-closed-link : (l : Link ErrorKind) → is_some (end_of_link l) ≡ true → (is_open_link l ≡ true → ⊥) × (lacks_link l ≡ true → ⊥)
-closed-link Open h = absurd cc
-closed-link (Due moment) h = absurd cc
-closed-link Wanted h = absurd cc
-closed-link Asked h = absurd cc
-closed-link (Ended r) h = ((λ k. cc), (λ k. cc))
-
-open-lacks : (l : Link ErrorKind) → is_open_link l ≡ true → lacks_link l ≡ true → ⊥
-open-lacks (Due moment) h k = cc
-open-lacks Open h k = cc
-open-lacks Wanted h k = cc
-open-lacks Asked h k = cc
-open-lacks (Ended r) h k = cc
-
-asked-open : (l : Link ErrorKind) → is_open_link (asked_link l) ≡ is_open_link l
-asked-open (Due moment) = refl
-asked-open Wanted = refl
-asked-open Asked = refl
-asked-open Open = refl
-asked-open (Ended r) = refl
-
-asked-lacks : (l : Link ErrorKind) → lacks_link (asked_link l) ≡ lacks_link l
-asked-lacks (Due moment) = refl
-asked-lacks Wanted = refl
-asked-lacks Asked = refl
-asked-lacks Open = refl
-asked-lacks (Ended r) = refl
-
--- one that was asked for is lacking
-pub asked-lacking : (l : Link ErrorKind) → is_asked_link l ≡ true → lacks_link l ≡ true
-asked-lacking Asked asks = refl
-asked-lacking _ asks = cc
 
 module _ (k : Sayings) (fs : List Frame) where
   abbrev pub Stays : Talk → Type 0
@@ -217,27 +178,11 @@ module _ (k : Sayings) where
   pub start-quiet : (c : Config) → k.Makes c → Quiet k (start c)
   start-quiet c made = record { made = made; numbers = k.own c made; room = (omega arith, omega arith) }
 
-  on_new_link : Talk → Talk
-  on_new_link t =
-      record t {
-        state = Connecting;
-        phase = AwaitStart;
-        link = Open;
-        input = input.Acting;
-        blocked = false;
-        outbox = only (plain_item 0 protocol_header);
-        committed = [];
-        last_read = t.present;
-        last_write = t.present;
-        refreshing = false;
-      }
-
   -- nothing but the header is said on a new link
   pub linked-spoken : (t : Talk) → is_asked t ≡ true → Quiet k t → Spoken k [] (linked t)
-  unfolding on_new_link
   linked-spoken t asks h =
       let Q : Talk → Type 0 = λ x. Spoken k [] x in
-      subst Q (sym (if-true (is_asked t) (on_new_link t) t asks))
+      subst Q (sym (is-linked t asks))
       (record {
         made = h.made;
         numbers = h.numbers;

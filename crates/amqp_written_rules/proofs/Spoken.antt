@@ -28,7 +28,7 @@ use Rattle.amqp_session.specs.Negotiation.{tune, wish_or}
 use Rattle.amqp_session.specs.Handshake.{protocol_header, start_ok, secure_ok, tune_ok, open_vhost, our_close, close_ok, new_secret, channel_open, channel_flow, flow_ok, channel_close_ok, our_channel_close}
 use Rattle.amqp_session.specs.Publishing.{method_frame, publish_frames}
 use Rattle.amqp_session.specs.Ticks.{refresh_reason}
-use Rattle.amqp_session.proofs.Keeping.{lacks_link}
+use Rattle.amqp_session.proofs.Lacking.{lacks_link}
 
 -- ---- what is asked
 

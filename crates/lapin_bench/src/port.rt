@@ -1,6 +1,7 @@
 //! A port that takes all octets and counts them, and the spawner that gives it.
 
-ghost use Rattle.std.specs.Prelude.{◌≡◌, ◌≤◌, None, false, length};
+ghost use Rattle.std.specs.Prelude.{◌≡◌, ◌≤◌, None, false, OnOk, length};
+ghost use Rattle.amqp_types.specs.Counts.{Rose};
 ghost use Rattle.amqp_engine.specs.Log.{IsPiece};
 ghost use Rattle.amqp_engine.specs.Counts.{is_fault};
 ghost use Rattle.lapin_connection.specs.Refusals.{RoseIfRefused};
@@ -137,6 +138,7 @@ pub struct TakingSpawner<R> {
     rt: R,
     counts: Option<Arc<Counts>>,
     pauses: bool,
+    loops: u64,
 }
 
 impl<R> TakingSpawner<R> {
@@ -146,6 +148,7 @@ impl<R> TakingSpawner<R> {
             rt,
             counts: Some(counts),
             pauses,
+            loops: 0,
         }
     }
 }
@@ -154,6 +157,8 @@ impl<R: Clock + Copy + Send + Drop + 'static> Spawner for TakingSpawner<R> {
     type P = Taking<R>;
 
     ghost refusals = { λ s. 0 };
+
+    ghost loops = { λ s. s.loops };
 
     fn port(&mut self, _uri: &AMQPUri) -> Result<(Taking<R>, Nudge), SpawnFault> {
         match self.counts.take() {
@@ -177,9 +182,13 @@ impl<R: Clock + Copy + Send + Drop + 'static> Spawner for TakingSpawner<R> {
         requires { F.pre start }
         ensures count { 0 ≤ 0 }
         ensures rose { RoseIfRefused result 0 0 }
+        ensures started { OnOk result (Rose self.old.loops self.new.loops) }
     {
         match start() {
-            Ok(started) => Ok(started),
+            Ok(started) => {
+                self.loops = self.loops.saturating_add(1);
+                Ok(started)
+            }
             Err(NoMemory) => Err(SpawnFault::NoMemory),
         }
     }

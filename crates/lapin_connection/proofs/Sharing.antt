@@ -2,6 +2,7 @@
 use denote.Param.Send.{IsSend, IsSync, sendable}
 use Rattle.std.proofs.Crossing.{crosses}
 use Rattle.std.proofs.alloc.Global.TheSendSync.{the_field_send as global_field, the_field_sync as global_sync}
+use Rattle.std.proofs.option.Option.TheSendSync.{the_field_send as option_field, the_field_sync as option_sync}
 use Rattle.std.proofs.sync.Condvar.TheSendSync.{the_field_send as condvar_field, the_field_sync as condvar_sync}
 use Rattle.futures.proofs.task.source.Source.TheSendSync.{the_send as source_field, the_sync as source_sync}
 use Rattle.amqp_promise.proofs.wakers.Wakers.TheSendSync.{the_send as wakers}
@@ -19,8 +20,8 @@ locked = search (sendable, global_field, hub, places_field, found, owner, wakers
 
 -- what is shared, from one thread to another
 pub shared_send : IsSend shared_row
-shared_send = search (sendable, global_field, source_field, locked, condvar_field, nudge_field, crosses) depth 20
+shared_send = search (sendable, global_field, source_field, locked, condvar_field, nudge_field, option_field, crosses) depth 20
 
 -- and in several at once
 pub shared_sync : IsSync shared_row
-shared_sync = search (sendable, global_sync, source_sync, locked, condvar_sync, nudge_sync, crosses) depth 20
+shared_sync = search (sendable, global_sync, source_sync, locked, condvar_sync, nudge_sync, option_sync, crosses) depth 20

@@ -8,9 +8,17 @@ use Rattle.amqp_promise.specs.declared.io_fault.IoFault.TheVariants.{Other}
 use Rattle.amqp_uri.specs.Address.{address_of_text}
 use Rattle.amqp_uri.specs.declared.fault.UriFault.{UriFault}
 use Rattle.amqp_uri.specs.declared.uri.AMQPUri.{AMQPUri}
+use Rattle.amqp_session.specs.Config.{Options, config_of}
+use Rattle.amqp_session.specs.Talk.{start}
+use Rattle.amqp_engine.specs.Engine.{Engine, begin}
+use Rattle.amqp_engine.specs.Turn.{asks}
 use Rattle.lapin_connection.specs.Refusals.{error_of_address}
 
--- no loop was started, and the spawner counts one refusal more
+-- an engine that asks for its first link, to this address with these options
+abbrev pub asking : AMQPUri → Options → Engine
+asking uri options = asks (begin (start (config_of uri options)))
+
+-- no loop was started, and the spawner counts a refusal
 abbrev pub IsNoLoop : ℕ → ℕ → ErrorKind → Type 0
 IsNoLoop before after e = (e ≡ IOError (Other NoLoop)) × Rose before after
 

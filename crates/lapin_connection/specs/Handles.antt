@@ -1,6 +1,6 @@
 -- The handles on a connection. No two new sources are known to have one name, so an equation of the names of their
 -- sources says that two handles are on one connection.
-use Rattle.std.specs.Prelude.{ℕ, Some}
+use Rattle.std.specs.Prelude.{ℕ, Option, Some}
 use Rattle.std.specs.Arc.{arc_value}
 use Rattle.amqp_session.specs.declared.command.ChanRef.{ChanRef}
 use Rattle.lapin_connection.specs.declared.channel.Channel.{Channel}
@@ -33,3 +33,7 @@ module _ {T : Type 0} where
 -- a channel as commands name it: by its number, and by the promise that opened it
 abbrev pub reference_of : Channel → ChanRef
 reference_of c = record { id = c.id; opened = Some c.opened }
+
+-- after how many entries the journal of a connection begins anew, if it does by itself
+abbrev pub settling_of : Connection → Option ℕ
+settling_of c = (arc_value c.shared).settles_after

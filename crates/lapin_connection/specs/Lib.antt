@@ -6,8 +6,8 @@ pub mod Handles
 pub mod Commands
 -- what is made of the answer to a promise
 pub mod Giving
--- whether a channel goes on after an error
-pub mod Recovering
+-- what a channel tells of its state
+pub mod Telling
 -- how connecting is answered
 pub mod Connecting
 -- how a builder's connecting is answered

@@ -1,8 +1,10 @@
 //! Connections that are put together first.
 
-ghost use Rattle.std.specs.Prelude.{◌≡◌, ◌≤◌, Some, None, IfSome};
+ghost use Rattle.std.specs.Prelude.{◌≡◌, ◌≤◌, Some, None, IfSome, IfOk, OnOk};
+ghost use Rattle.amqp_types.specs.Counts.{Rose};
 ghost use Rattle.lapin_connection.specs.Connecting.{Connects};
 ghost use Rattle.lapin_connection.specs.Building.{Builds, ReadsAs};
+ghost use Rattle.lapin_connection.specs.Handles.{settling_of};
 
 use crate::connect::connect_to;
 use crate::connection::Connection;
@@ -131,8 +133,10 @@ where
         alloc: Global,
     ) -> Result<Connection>
         requires { IfSome self.old.properties (λ p. C.can p.choice) }
+        ensures settles { IfOk result (λ c. settling_of c ≡ self.old.settles_after) }
         ensures count { S.refusals self.old.runtime ≤ S.refusals self.new.runtime }
         ensures refused { Builds self.old.uri (S.refusals self.old.runtime) (S.refusals self.new.runtime) result }
+        ensures started { OnOk result (Rose (S.loops self.old.runtime) (S.loops self.new.runtime)) }
         ensures untouched { (self.old.uri ≡ Address.Unset) → self.new.runtime ≡ self.old.runtime }
         ensures used { (self.new.uri ≡ Address.Unset) × (self.new.properties ≡ None) }
         ensures settles_after { self.new.settles_after ≡ self.old.settles_after }
@@ -158,8 +162,10 @@ where
         properties: Option<ConnectionProperties<C>>,
     ) -> Result<Connection>
         requires { IfSome properties (λ p. C.can p.choice) }
+        ensures settles { IfOk result (λ c. settling_of c ≡ self.old.settles_after) }
         ensures count { S.refusals self.old.runtime ≤ S.refusals self.new.runtime }
         ensures refused { Connects (S.refusals self.old.runtime) (S.refusals self.new.runtime) result }
+        ensures started { OnOk result (Rose (S.loops self.old.runtime) (S.loops self.new.runtime)) }
         ensures rest { self.new ≡ record self.old { runtime = self.new.runtime } }
     {
         let settles_after = self.settles_after;

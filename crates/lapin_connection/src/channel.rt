@@ -12,6 +12,7 @@ use crate::shared::Shared;
 use crate::status::ChannelStatus;
 use amqp_frame::RawMethod;
 use amqp_hub::{DropMark, Pass};
+use amqp_locked::Taken;
 use amqp_session::{ChanRef, Cmd, Error, ErrorKind, Handed, Properties, Result};
 use amqp_types::{ChannelId, NoMemory, Payload, ReplyCode, ShortString};
 use std::sync::{Arc, Wait};
@@ -58,7 +59,8 @@ impl PartialEq for Channel {
 impl Channel {
     // A channel that is to be opened, by this promise.
     pub(crate) fn to_open(shared: Arc<Shared>, mark: DropMark, opened: u64) -> Channel
-        ensures { result.opened ≡ opened }
+        ensures opened { result.opened ≡ opened }
+        ensures shared { result.shared ≡ shared }
     {
         Channel {
             shared,
@@ -212,7 +214,16 @@ impl Channel {
     pub fn take_frames<R: Wait>(&self, rt: &R) -> Result<Vec<Handed>>
         ensures takes_no_memory { IsOk result }
     {
-        self.shared.locked.lock(rt).take_frames(self.opened)
+        let taken = self.shared.locked.lock(rt).take_frames(self.opened);
+        Ok(self.handed(taken))
+    }
+
+    // The frames that were taken, which are its own.
+    pub(crate) fn handed(&self, taken: Taken) -> Vec<Handed>
+        requires { taken.opened ≡ self.now.opened }
+        ensures { result ≡ taken.frames }
+    {
+        taken.frames()
     }
 
     /// Whether the channel may go on after this error.

@@ -1,11 +1,13 @@
 //! Connecting.
 
-ghost use Rattle.std.specs.Prelude.{◌≡◌, ◌≤◌, ◌⊎◌, IfErr, IfOk, Ok, Err, Result as Outcome};
+ghost use Rattle.std.specs.Prelude.{◌≡◌, ◌≤◌, ◌⊎◌, IfErr, IfOk, OnOk, None, Ok, Err, Result as Outcome};
+ghost use Rattle.amqp_types.specs.Counts.{Rose};
 ghost use Rattle.amqp_uri.specs.Address.{address_of_text};
 ghost use Rattle.amqp_uri.specs.declared.fault.UriFault.{UriFault as Fault};
 ghost use Rattle.amqp_uri.specs.declared.fault.UriFault.TheVariants as fault;
 ghost use Rattle.amqp_uri.specs.declared.uri.AMQPUri.{AMQPUri as Uri};
-ghost use Rattle.lapin_connection.specs.Connecting.{Connects, ConnectsBy};
+ghost use Rattle.lapin_connection.specs.Connecting.{Connects, ConnectsBy, asking};
+ghost use Rattle.lapin_connection.specs.Handles.{settling_of};
 
 use crate::connection::Connection;
 use crate::errors::{error_of_address, error_of_start};
@@ -20,6 +22,21 @@ use std::alloc::Global;
 use std::sync::Wait;
 use std::thread::Threads;
 
+// The hub of a new engine, which has asked this port for its first link.
+fn hub_over<P: Port>(
+    alloc: Global,
+    uri: &AMQPUri,
+    options: ConnectionProperties,
+    port: &mut P,
+) -> Result<Hub>
+    ensures engine { IfOk result (λ h. h.engine ≡ asking uri.now options.plain) }
+    ensures only { IfErr result (λ e. e ≡ ErrorKind.NoMemory) }
+    ensures faults { P.faults port.old ≤ P.faults port.new }
+{
+    let engine = IoLoop::new(alloc, uri, options)?;
+    Hub::new(alloc, engine, port)
+}
+
 // A connection over this port, whose loop is to be started.
 fn over<P: Port>(
     alloc: Global,
@@ -27,13 +44,14 @@ fn over<P: Port>(
     options: ConnectionProperties,
     port: &mut P,
     nudge: Nudge,
+    settles_after: Option<u64>,
 ) -> Result<Connection>
+    ensures settles { IfOk result (λ c. settling_of c ≡ settles_after) }
     ensures only { IfErr result (λ e. e ≡ ErrorKind.NoMemory) }
     ensures faults { P.faults port.old ≤ P.faults port.new }
 {
-    let engine = IoLoop::new(alloc, uri, options)?;
-    let hub = Hub::new(alloc, engine, port)?;
-    Connection::over(alloc, hub, nudge)
+    let hub = hub_over(alloc, uri, options, port)?;
+    Connection::over(alloc, hub, nudge, settles_after)
 }
 
 // Connects, with a provider that answers the server.
@@ -47,16 +65,18 @@ fn start<S: Spawner, A: AuthProvider + 'static, R: Threads + Wait + Copy + Send 
     spawner: &mut S,
 ) -> Result<Connection>
     requires { A.can provider }
+    ensures settles { IfOk result (λ c. settling_of c ≡ settles_after) }
     ensures count { S.refusals spawner.old ≤ S.refusals spawner.new }
     ensures refused { Connects (S.refusals spawner.old) (S.refusals spawner.new) result }
+    ensures started { OnOk result (Rose (S.loops spawner.old) (S.loops spawner.new)) }
 {
     let (mut port, nudge) = match spawner.port(uri) {
         Ok(both) => both,
         Err(fault) => return Err(error_of_start(fault).into()),
     };
-    let connection = over(alloc, uri, options, &mut port, nudge)?;
+    let connection = over(alloc, uri, options, &mut port, nudge, settles_after)?;
     let shared = connection.share()?;
-    let job = LoopJob::new(alloc, port, provider, shared, settles_after)?;
+    let job = LoopJob::new(alloc, port, provider, shared)?;
     match spawner.spawn(
         move ||
             requires { A.can job.provider }
@@ -83,8 +103,10 @@ where
     C: ProviderChoice,
     C::Provider: 'static,
     requires { C.can options.choice }
+    ensures settles { IfOk result (λ c. settling_of c ≡ settles_after) }
     ensures count { S.refusals runtime.old ≤ S.refusals runtime.new }
     ensures refused { Connects (S.refusals runtime.old) (S.refusals runtime.new) result }
+    ensures started { OnOk result (Rose (S.loops runtime.old) (S.loops runtime.new)) }
 {
     let (options, choice) = options.into_parts();
     match choice.provider(alloc, uri) {
@@ -115,8 +137,10 @@ impl Connection {
         C: ProviderChoice,
         C::Provider: 'static,
         requires { C.can options.choice }
+        ensures settles { IfOk result (λ c. settling_of c ≡ None) }
         ensures count { S.refusals runtime.old ≤ S.refusals runtime.new }
         ensures refused { ConnectsBy (U.known uri) (S.refusals runtime.old) (S.refusals runtime.new) result }
+        ensures started { OnOk result (Rose (S.loops runtime.old) (S.loops runtime.new)) }
         ensures untouched { (f : Fault) → U.known uri ≡ Err f → runtime.new ≡ runtime.old }
     {
         match uri.address(alloc) {
@@ -140,8 +164,10 @@ impl Connection {
         C: ProviderChoice,
         C::Provider: 'static,
         requires { C.can options.choice }
+        ensures settles { IfOk result (λ c. settling_of c ≡ None) }
         ensures count { S.refusals runtime.old ≤ S.refusals runtime.new }
         ensures refused { Connects (S.refusals runtime.old) (S.refusals runtime.new) result }
+        ensures started { OnOk result (Rose (S.loops runtime.old) (S.loops runtime.new)) }
     {
         connect_to(rt, alloc, &uri, options, None, runtime)
     }
@@ -158,8 +184,10 @@ impl Connection {
         C: ProviderChoice,
         C::Provider: 'static,
         requires { C.can options.choice }
+        ensures settles { IfOk result (λ c. settling_of c ≡ None) }
         ensures count { S.refusals runtime.old ≤ S.refusals runtime.new }
         ensures refused { Connects (S.refusals runtime.old) (S.refusals runtime.new) result }
+        ensures started { OnOk result (Rose (S.loops runtime.old) (S.loops runtime.new)) }
     {
         connect_to(rt, alloc, &uri, options, None, runtime)
     }

@@ -8,7 +8,7 @@ ghost use Rattle.amqp_session.specs.declared.command.Cmd.TheVariants.{OpenChanne
 ghost use Rattle.amqp_hub.specs.Guarded.{Guarded};
 ghost use Rattle.amqp_hub.specs.Passes.{made_of, places, gapless};
 ghost use Rattle.lapin_connection.specs.Commands.{Shows, HasReceipt, Refuses, RefusesOneOf, AreNumberedOn};
-ghost use Rattle.lapin_connection.specs.Handles.{connection_source, pending_source, listener_source};
+ghost use Rattle.lapin_connection.specs.Handles.{connection_source, pending_source, listener_source, settling_of};
 
 use crate::channel::Channel;
 use crate::listener::EventsListener;
@@ -80,11 +80,17 @@ pub fn tell<T: Gives, R: Wait>(
 
 impl Connection {
     // A connection of this hub, whose loop is to be started.
-    pub(crate) fn over(alloc: Global, hub: Hub, nudge: Nudge) -> Result<Connection>
-        ensures { IfErr result (λ e. e ≡ ErrorKind.NoMemory) }
+    pub(crate) fn over(
+        alloc: Global,
+        hub: Hub,
+        nudge: Nudge,
+        settles_after: Option<u64>,
+    ) -> Result<Connection>
+        ensures settles { IfOk result (λ c. settling_of c ≡ settles_after) }
+        ensures only { IfErr result (λ e. e ≡ ErrorKind.NoMemory) }
     {
         let (locked, mark) = Locked::new(alloc, hub)?;
-        let shared = Shared::new(alloc, locked, nudge)?;
+        let shared = Shared::new(alloc, locked, nudge, settles_after)?;
         Ok(Connection { shared, mark })
     }
 
@@ -246,7 +252,8 @@ impl Connection {
     }
 
     /// Lends the hub for one hold of the lock, and gives what it was used for. That applies no turn, puts no
-    /// other hub in its place, and calls nothing of this connection.
+    /// other hub in its place, and calls nothing of this connection. A channel that is opened by the hub has no
+    /// handle: nothing closes it but a command, and while it is listed no drop closes the connection.
     pub fn with_hub<R: Wait, T, F: FnOnce(&mut Hub) -> T>(&self, rt: &R, use_hub: F) -> T
         requires { F.IsAlwaysCallable use_hub }
         ensures { (before after : Guarded) × FnOnceReturnsAtMut F.FnOnce use_hub before result after }

@@ -18,8 +18,8 @@ impl Channel {
     {
         let mut guard = self.shared.locked.lock(rt);
         for _ in rt.forever() {
-            if let Some(frames) = guard.frames(self.opened) {
-                return frames;
+            if let Some(taken) = guard.frames(self.opened) {
+                return Ok(self.handed(taken));
             }
             guard = self.shared.changed.wait(rt, guard);
         }
@@ -33,10 +33,14 @@ impl Channel {
         ensures registered { OnPending result (Covers cx.new (λ s. s ≡ channel_source self.now)) }
         ensures kept { Keeps cx.old cx.new }
     {
-        self.shared
-            .locked
-            .lock(rt)
-            .frames_or_register(self.opened, &self.shared.source, cx)
+        let mut guard = self.shared.locked.lock(rt);
+        let polled = guard.frames_or_register(self.opened, &self.shared.source, cx);
+        drop(guard);
+        match polled {
+            Poll::Ready(Ok(taken)) => Poll::Ready(Ok(self.handed(taken))),
+            Poll::Ready(Err(refused)) => Poll::Ready(Err(refused.into())),
+            Poll::Pending => Poll::Pending,
+        }
     }
 
     /// The same as a future, for an executor.

@@ -6,7 +6,7 @@ use crate::shared::Shared;
 use crate::spawner::Started;
 use amqp_engine::Port;
 use amqp_hub::Ended;
-use amqp_locked::hear;
+use amqp_locked::{Line, hear};
 use amqp_session::{AuthProvider, Result};
 use amqp_types::NoMemory;
 use std::alloc::Global;
@@ -21,13 +21,11 @@ const PIECE: usize = 4096;
 /// each turn.
 #[derive(Drop)]
 pub struct LoopJob<P: Port, A: AuthProvider> {
-    port: P,
+    line: Line<P>,
     provider: A,
     shared: Arc<Shared>,
     // where the port puts its pieces
     space: Vec<u8>,
-    // after how many entries the journal begins anew, if it does by itself
-    settles_after: Option<u64>,
     ghost wide: { 4096 ≤ length space.items },
 }
 
@@ -38,17 +36,15 @@ impl<P: Port + Drop, A: AuthProvider> LoopJob<P, A> {
         port: P,
         provider: A,
         shared: Arc<Shared>,
-        settles_after: Option<u64>,
     ) -> std::result::Result<LoopJob<P, A>, NoMemory>
         ensures { IfOk result (λ job. job.provider ≡ provider) }
     {
         let space = vec![in alloc; 0; PIECE]?;
         Ok(LoopJob {
-            port,
+            line: Line::new(port),
             provider,
             shared,
             space,
-            settles_after,
         })
     }
 
@@ -58,19 +54,17 @@ impl<P: Port + Drop, A: AuthProvider> LoopJob<P, A> {
         requires { A.can self.provider }
     {
         let LoopJob {
-            mut port,
+            mut line,
             mut provider,
             shared,
             mut space,
-            settles_after,
         } = self;
         for _ in rt.forever() {
-            let heard = hear(&mut port, &mut space);
-            if let Some(ended) = shared.turn(rt, heard, &mut port, &mut provider) {
+            let heard = hear(&mut line, &mut space);
+            if let Some(ended) = shared.turn(rt, heard, &mut line, &mut provider) {
                 return ended;
             }
-            shared.let_go(rt);
-            shared.settle(rt, settles_after);
+            shared.rest(rt);
         }
         unreachable!()
     }

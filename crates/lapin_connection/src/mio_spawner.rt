@@ -1,6 +1,6 @@
 //! Sockets and threads of the system.
 
-ghost use Rattle.std.specs.Prelude.{◌≡◌, ◌≤◌};
+ghost use Rattle.std.specs.Prelude.{◌≡◌, ◌≤◌, OnOk};
 ghost use Rattle.amqp_types.specs.Counts.{Rose};
 ghost use Rattle.lapin_connection.specs.declared.spawner.SpawnFault.TheVariants as fault;
 ghost use Rattle.lapin_connection.specs.Refusals.{RoseIfRefused};
@@ -22,17 +22,19 @@ pub struct MioSpawner<R> {
     rt: R,
     alloc: Global,
     refusals: u64,
+    loops: u64,
 }
 
 impl<R: Net + Clock + Copy + Drop> MioSpawner<R> {
-    /// A spawner that has refused nothing.
+    /// A spawner that has refused nothing and started nothing.
     pub fn new(rt: R, alloc: Global) -> MioSpawner<R>
-        ensures { result.refusals ≡ 0 }
+        ensures { (result.refusals ≡ 0) × (result.loops ≡ 0) }
     {
         MioSpawner {
             rt,
             alloc,
             refusals: 0,
+            loops: 0,
         }
     }
 
@@ -40,6 +42,7 @@ impl<R: Net + Clock + Copy + Drop> MioSpawner<R> {
     fn refuse(&mut self, why: io::ErrorKind) -> SpawnFault
         ensures counted { result ≡ SpawnFault.Refused → Rose self.old.refusals self.new.refusals }
         ensures count { self.old.refusals ≤ self.new.refusals }
+        ensures loops { self.new.loops ≡ self.old.loops }
     {
         if why == io::ErrorKind::OutOfMemory {
             return SpawnFault::NoMemory;
@@ -62,9 +65,12 @@ impl<R: Net + Clock + Copy + Drop + Send + 'static> Spawner for MioSpawner<R> {
 
     ghost refusals = { λ s. s.refusals };
 
+    ghost loops = { λ s. s.loops };
+
     fn port(&mut self, uri: &AMQPUri) -> Result<(MioPort<R>, Nudge), SpawnFault>
         ensures count { self.old.refusals ≤ self.new.refusals }
         ensures rose { RoseIfRefused result self.old.refusals self.new.refusals }
+        ensures loops { self.new.loops ≡ self.old.loops }
     {
         match self.made(uri) {
             Ok(both) => Ok(both),
@@ -79,9 +85,13 @@ impl<R: Net + Clock + Copy + Drop + Send + 'static> Spawner for MioSpawner<R> {
         requires { F.pre start }
         ensures count { self.old.refusals ≤ self.new.refusals }
         ensures rose { RoseIfRefused result self.old.refusals self.new.refusals }
+        ensures started { OnOk result (Rose self.old.loops self.new.loops) }
     {
         match start() {
-            Ok(started) => Ok(started),
+            Ok(started) => {
+                self.loops = self.loops.saturating_add(1);
+                Ok(started)
+            }
             Err(NoMemory) => Err(SpawnFault::NoMemory),
         }
     }

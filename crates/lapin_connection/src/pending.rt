@@ -140,11 +140,8 @@ impl<T: Gives> Pending<T> {
         requires { NamesPromise self.now.number polled.answer }
         ensures { IsGivenBy T.made self.now.number result }
     {
-        if let Some(mark) = &self.mark {
-            mark.spend();
-        }
         let channel = self.channel.lock(rt).take();
-        match polled.answer() {
+        match polled.answer(self.mark.as_ref()) {
             Ok(answer) => T::give(answer, channel),
             Err(error) => {
                 drop(channel);

@@ -1,15 +1,15 @@
 //! Channels that may go on after an error.
 
-ghost use Rattle.std.specs.Prelude.{◌≡◌, ◌⊎◌, ◌&&◌, if◌then◌else◌, true, Some, None, Ok, IfErr, IfSome, IfNone, IfOk};
+ghost use Rattle.std.specs.Prelude.{◌≡◌, Some, IfSome, IfOk};
 ghost use Rattle.futures.specs.Task.{Covers, Keeps};
 ghost use Rattle.futures.specs.Poll.{OnPending, IfReady};
-ghost use Rattle.amqp_locked.specs.UnderLock.{contents};
-ghost use Rattle.lapin_connection.specs.Recovering.{FoundOf, IsToldBy};
+ghost use Rattle.amqp_session.specs.Talk.{Talk};
+ghost use Rattle.amqp_locked.specs.Taking.{polled_of};
+ghost use Rattle.amqp_locked.specs.Recovering.{FoundOf, IsToldBy};
 ghost use Rattle.lapin_connection.specs.Handles.{recovery_source};
 
 use crate::shared::Shared;
-use amqp_locked::Locked;
-use amqp_session::{ChanRef, ChannelState, Error, ErrorKind, Result};
+use amqp_session::{ChanRef, Error, Result};
 use amqp_types::NoMemory;
 use futures::Future;
 use futures::task::{Context, Poll};
@@ -37,35 +37,14 @@ impl Recovery {
         }
     }
 
-    // What is known at this hold: whether the channel is open, or why it does not go on.
-    fn found(&self, locked: &Locked) -> Option<Result<()>>
-        ensures { FoundOf (contents locked.now).hub.engine.talk self.now.channel self.now.error result }
-    {
-        match locked.session().channel_state(self.channel) {
-            ChannelState::Connected => Some(Ok(())),
-            ChannelState::Reconnecting
-                if locked.session().recovers() && self.error.can_be_recovered() => { None }
-            _ => Some(Err(self.copied())),
-        }
-    }
-
-    // A copy of the error, or want of memory in its place.
-    fn copied(&self) -> Error
-        ensures { (result ≡ self.now.error) ⊎ (result ≡ ErrorKind.NoMemory) }
-    {
-        match self.error.try_clone(self.shared.alloc) {
-            Ok(error) => error,
-            Err(refused) => refused.into(),
-        }
-    }
-
     /// Ok where the channel is open; nothing where it waits for another link, and the error allows that;
     /// else the error. Where memory for its copy is refused, that is told in its place.
     pub fn try_wait<R: Wait>(&self, rt: &R) -> Option<Result<()>>
+        ensures found { (t : Talk) × FoundOf t self.now.channel self.now.error result }
         ensures error { IfSome result (IsToldBy self.now.error) }
     {
         let guard = self.shared.locked.lock(rt);
-        self.found(&guard)
+        guard.found(self.channel, &self.error)
     }
 
     /// The same; else the polled task waits.
@@ -74,27 +53,23 @@ impl Recovery {
         rt: &R,
         cx: &mut Context<'_>,
     ) -> Poll<std::result::Result<Result<()>, NoMemory>>
+        ensures found { (t : Talk) × FoundOf t self.now.channel self.now.error (polled_of result) }
         ensures error { IfReady result (λ r. IfOk r (IsToldBy self.now.error)) }
         ensures registered { OnPending result (Covers cx.new (λ s. s ≡ recovery_source self.now)) }
         ensures kept { Keeps cx.old cx.new }
     {
         let mut guard = self.shared.locked.lock(rt);
-        if let Some(found) = self.found(&guard) {
-            return Poll::Ready(Ok(found));
-        }
-        match guard.register(&self.shared.source, cx) {
-            Ok(()) => Poll::Pending,
-            Err(refused) => Poll::Ready(Err(refused)),
-        }
+        guard.found_or_register(self.channel, &self.error, &self.shared.source, cx)
     }
 
     /// Sleeps until that is known.
     pub fn wait<R: Wait>(self, rt: &R) -> Result<()>
+        ensures found { (t : Talk) × FoundOf t self.channel self.error (Some result) }
         ensures error { IsToldBy self.error result }
     {
         let mut guard = self.shared.locked.lock(rt);
         for _ in rt.forever() {
-            if let Some(found) = self.found(&guard) {
+            if let Some(found) = guard.found(self.channel, &self.error) {
                 return found;
             }
             guard = self.shared.changed.wait(rt, guard);

@@ -1,6 +1,7 @@
 //! What the handles of a connection share.
 
 ghost use Rattle.std.specs.Prelude.{◌≡◌, ◌≤◌, ◌+◌, Some, None, true, false, IfOk, OnOk, OnErr};
+ghost use Rattle.std.specs.Arc.{arc_value};
 ghost use Rattle.std.specs.Fn.{FnOnceReturnsAtMut};
 ghost use Rattle.amqp_session.specs.Commands.{takes_promise};
 ghost use Rattle.amqp_session.specs.declared.command.Cmd.TheVariants.{OpenChannel};
@@ -10,12 +11,12 @@ ghost use Rattle.lapin_connection.specs.Commands.{Shows, Refuses};
 use crate::nudge::Nudge;
 use amqp_engine::Port;
 use amqp_hub::{DropMark, Ended, Hub, Pass, Receipt};
-use amqp_locked::{Heard, Locked};
+use amqp_locked::{Heard, Line, Locked};
 use amqp_session::{AuthProvider, Cmd, Result};
 use amqp_types::NoMemory;
 use futures::task::Source;
 use std::alloc::Global;
-use std::sync::{Arc, Condvar, Mutex, Wait};
+use std::sync::{Arc, Condvar, Mutex, MutexGuard, Wait};
 
 /// What the handles of a connection share: what lies under the lock, and beside it what wakes those who
 /// wait for it.
@@ -27,6 +28,8 @@ pub struct Shared {
     pub(crate) changed: Condvar,
     pub(crate) over: Condvar,
     pub(crate) nudge: Nudge,
+    // after how many entries the journal begins anew, if it does by itself
+    pub(crate) settles_after: Option<u64>,
 }
 
 // Whether a command may answer what others wait for.
@@ -40,7 +43,10 @@ impl Shared {
         alloc: Global,
         locked: Locked,
         nudge: Nudge,
-    ) -> std::result::Result<Arc<Shared>, NoMemory> {
+        settles_after: Option<u64>,
+    ) -> std::result::Result<Arc<Shared>, NoMemory>
+        ensures { IfOk result (λ s. (arc_value s).settles_after ≡ settles_after) }
+    {
         let shared = Shared {
             alloc,
             source: Source::new(),
@@ -48,6 +54,7 @@ impl Shared {
             changed: Condvar::new(),
             over: Condvar::new(),
             nudge,
+            settles_after,
         };
         Ok(Arc::new(alloc, shared)?)
     }
@@ -66,7 +73,10 @@ impl Shared {
         ensures refused { Refuses pass.old result }
         ensures receipt { IfOk result (λ r. Shows pass.new cmd None r.1) }
     {
-        let told = self.locked.lock(rt).command(pass, cmd);
+        let mut guard = self.locked.lock(rt);
+        let told = guard.command(pass, cmd);
+        self.keep_up(&mut guard);
+        drop(guard);
         self.nudge.wake();
         told
     }
@@ -79,7 +89,10 @@ impl Shared {
         ensures refused { Refuses pass.old result }
         ensures receipt { IfOk result (λ r. Shows pass.new OpenChannel (Some r.0) r.1) }
     {
-        let told = self.locked.lock(rt).open(pass);
+        let mut guard = self.locked.lock(rt);
+        let told = guard.open(pass);
+        self.keep_up(&mut guard);
+        drop(guard);
         self.nudge.wake();
         told
     }
@@ -102,15 +115,41 @@ impl Shared {
         let answers = answers_others(&cmd);
         let mut guard = self.locked.lock(rt);
         let told = guard.ask(pass, cmd);
+        self.keep_up(&mut guard);
         if answers {
-            guard.wake();
-        }
-        drop(guard);
-        if answers {
-            self.changed.notify_all();
+            self.wake_all(guard);
+        } else {
+            drop(guard);
         }
         self.nudge.wake();
         told
+    }
+
+    // Wakes all who wait, tasks in the hold of this guard and threads once it has ended.
+    fn wake_all(&self, mut guard: MutexGuard<'_, Locked>) {
+        guard.wake();
+        drop(guard);
+        self.changed.notify_all();
+    }
+
+    // Once the session has ended no turn comes any more. So whoever commands then does what is done between
+    // turns: what nobody will take is let go, and the journal begins anew.
+    fn keep_up(&self, locked: &mut Locked) {
+        if locked.session().has_ended() {
+            locked.tidy();
+            self.settle_in(locked);
+        }
+    }
+
+    // Lets the journal begin anew where it has as many entries as that. Where memory is refused, it goes on
+    // as it was.
+    fn settle_in(&self, locked: &mut Locked) {
+        let Some(entries) = self.settles_after else {
+            return;
+        };
+        if locked.entries() as u64 >= entries {
+            let _ = locked.settle();
+        }
     }
 
     /// One turn: one hold of the lock. Then all who wait are woken. It says how the session ended, where it
@@ -119,45 +158,37 @@ impl Shared {
         &self,
         rt: &R,
         heard: Heard<'_>,
-        port: &mut P,
+        line: &mut Line<P>,
         provider: &mut A,
     ) -> Option<Ended>
         requires { A.can provider.old }
         ensures can { A.can provider.new }
-        ensures faults { P.faults port.old ≤ P.faults port.new }
-        ensures kept { P.kept port.new ≡ P.kept port.old }
+        ensures faults { P.faults line.old.port ≤ P.faults line.new.port }
+        ensures kept { P.kept line.new.port ≡ P.kept line.old.port }
         ensures never_falls { A.refusals provider.old ≤ A.refusals provider.new }
     {
         let mut guard = self.locked.lock(rt);
         // Where memory is refused, the session has ended.
-        let _ = guard.apply(heard, port, provider);
-        guard.wake();
+        let _ = guard.apply(heard, line, provider);
         let ended = guard.ended();
-        drop(guard);
-        self.changed.notify_all();
+        self.wake_all(guard);
         if ended.is_some() {
             self.over.notify_all();
         }
         ended
     }
 
-    /// Takes and lets go, in a hold of its own, what nobody will take.
-    pub fn let_go<R: Wait>(&self, rt: &R) {
+    /// What a loop does between two turns, each in a hold of its own: what nobody will take is let go, and the
+    /// journal begins anew.
+    pub fn rest<R: Wait>(&self, rt: &R) {
         let mut guard = self.locked.lock(rt);
         if guard.has_unasked() {
             guard.let_go();
         }
-    }
-
-    /// Lets the journal begin anew, in a hold of its own, where it has as many entries as that. Where memory
-    /// is refused, it goes on as it was.
-    pub fn settle<R: Wait>(&self, rt: &R, settles_after: Option<u64>) {
-        let Some(entries) = settles_after else {
-            return;
-        };
-        let mut guard = self.locked.lock(rt);
-        if guard.entries() as u64 >= entries {
-            let _ = guard.settle();
+        drop(guard);
+        if self.settles_after.is_some() {
+            let mut guard = self.locked.lock(rt);
+            self.settle_in(&mut guard);
         }
     }
 
@@ -168,9 +199,8 @@ impl Shared {
     {
         let mut guard = self.locked.lock(rt);
         let given = guard.lend(use_hub);
-        guard.wake();
-        drop(guard);
-        self.changed.notify_all();
+        self.keep_up(&mut guard);
+        self.wake_all(guard);
         self.nudge.wake();
         given
     }

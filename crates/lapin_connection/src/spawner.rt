@@ -1,6 +1,7 @@
 //! Who gives ports and threads.
 
-ghost use Rattle.std.specs.Prelude.{◌≡◌, ◌≤◌, ℕ};
+ghost use Rattle.std.specs.Prelude.{◌≡◌, ◌≤◌, ℕ, OnOk};
+ghost use Rattle.amqp_types.specs.Counts.{Rose};
 ghost use Rattle.lapin_connection.specs.Refusals.{RoseIfRefused};
 
 use crate::nudge::Nudge;
@@ -10,7 +11,7 @@ use amqp_uri::AMQPUri;
 use std::thread::JoinHandle;
 
 /// A loop that was started. What starts loops alone makes one, so a spawner has one only where it
-/// started the loop that it was given.
+/// started the loop that it was given, or keeps that of an earlier one.
 pub struct Started {
     thread: JoinHandle<()>,
 }
@@ -46,11 +47,15 @@ pub trait Spawner {
     /// How often it refused, a count that never falls.
     ghost refusals: { Self → ℕ };
 
+    /// How many loops it started: it rises with each.
+    ghost loops: { Self → ℕ };
+
     /// A port for a connection to this address, which has no link yet, and what wakes it once a command
     /// has come. A port that nothing wakes has to give a step at least each half second.
     fn port(&mut self, uri: &AMQPUri) -> Result<(Self::P, Nudge), SpawnFault>
         ensures count { refusals self.old ≤ refusals self.new }
-        ensures rose { RoseIfRefused result (refusals self.old) (refusals self.new) };
+        ensures rose { RoseIfRefused result (refusals self.old) (refusals self.new) }
+        ensures loops { loops self.new ≡ loops self.old };
 
     /// Calls `start`, which starts a loop on a thread of its own, or refuses. Where it refuses, the loop
     /// and all that it owns are let go.
@@ -60,5 +65,6 @@ pub trait Spawner {
     ) -> Result<Started, SpawnFault>
         requires { F.pre start }
         ensures count { refusals self.old ≤ refusals self.new }
-        ensures rose { RoseIfRefused result (refusals self.old) (refusals self.new) };
+        ensures rose { RoseIfRefused result (refusals self.old) (refusals self.new) }
+        ensures started { OnOk result (Rose (loops self.old) (loops self.new)) };
 }

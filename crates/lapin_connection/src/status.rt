@@ -1,6 +1,7 @@
 //! What a connection and its channels tell of themselves, each at one hold.
 
 ghost use Rattle.std.specs.Prelude.{◌≡◌};
+ghost use Rattle.lapin_connection.specs.Telling.{reads_as_initializing, reads_as_closing};
 
 use crate::shared::Shared;
 use amqp_session::{ChanRef, ChannelState, ConnectionState};
@@ -96,18 +97,12 @@ impl ChannelStatus {
 
     /// Whether it is being opened, for the first time or again.
     pub fn initializing<R: Wait>(&self, rt: &R) -> bool {
-        matches!(
-            self.state(rt),
-            ChannelState::Initial | ChannelState::Reconnecting
-        )
+        reads_as_initializing(self.state(rt))
     }
 
     /// Whether it is being closed, or its link was lost.
     pub fn closing<R: Wait>(&self, rt: &R) -> bool {
-        matches!(
-            self.state(rt),
-            ChannelState::Closing | ChannelState::Reconnecting
-        )
+        reads_as_closing(self.state(rt))
     }
 
     /// Whether it is open.
@@ -124,4 +119,18 @@ impl ChannelStatus {
     pub fn confirm<R: Wait>(&self, rt: &R) -> bool {
         self.shared.locked.lock(rt).session().confirm(self.channel)
     }
+}
+
+// Whether a channel in this state is being opened, for the first time or again.
+fn reads_as_initializing(state: ChannelState) -> bool
+    ensures { result ≡ reads_as_initializing state }
+{
+    matches!(state, ChannelState::Initial | ChannelState::Reconnecting)
+}
+
+// Whether a channel in this state is being closed, or its link was lost.
+fn reads_as_closing(state: ChannelState) -> bool
+    ensures { result ≡ reads_as_closing state }
+{
+    matches!(state, ChannelState::Closing | ChannelState::Reconnecting)
 }

@@ -1,6 +1,6 @@
 //! What goes into a journal.
 
-ghost use Rattle.std.specs.Prelude.{◌≡◌, ◌≤◌, ◌<◌, ◌+◌, ◌^◌, ◌⊎◌, ◌++◌, ◌∷◌, [], false, true, IfOk, IfErr, OnOk, OnErr, Some, Err, length, vec_len, vec_capacity};
+ghost use Rattle.std.specs.Prelude.{◌≡◌, ◌≤◌, ◌<◌, ◌+◌, ◌^◌, ◌⊎◌, ◌++◌, ◌∷◌, [], false, true, IfOk, IfErr, OnOk, OnErr, is_err, Some, Err, length, vec_len, vec_capacity};
 ghost use Rattle.amqp_types.specs.declared.text.Text.{Text};
 ghost use Rattle.amqp_types.specs.Counts.{Rose};
 ghost use Rattle.amqp_promise.specs.declared.io_fault.IoFault.{IoFault};
@@ -199,7 +199,7 @@ pub fn take_turn<P: Port, A: AuthProvider>(
     requires copy { turn ≡ turned told.at told.step bytes.now no_notes }
     requires room { vec_len journal.old + 2 ≤ vec_capacity journal.old }
     ensures can { A.can provider.new }
-    ensures turn { TakesStep told.at told.step bytes.now engine.old engine.new journal.old.items
+    ensures turn { TakesStep (is_err result) told.at told.step bytes.now engine.old engine.new journal.old.items
         journal.new.items (P.log port.old) (P.log port.new) (A.allows provider.old) (A.allows provider.new) }
     ensures ended { OnErr result (has_ended engine.new.talk ≡ true) }
     ensures only { IfErr result (λ e. e ≡ ErrorKind.NoMemory) }

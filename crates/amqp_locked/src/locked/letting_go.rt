@@ -3,10 +3,13 @@
 ghost use Rattle.std.specs.Prelude.{◌≡◌, ◌≤◌, ℕ, min, nat_lt, length};
 ghost use Rattle.amqp_hub.specs.Entering.{with_engine};
 ghost use Rattle.amqp_locked.specs.UnderLock.{contents, with_session};
-ghost use Rattle.amqp_locked.specs.LettingGo.{LetsGo, LetsManyGo};
+ghost use Rattle.amqp_locked.specs.LettingGo.{LetsGo, LetsManyGo, may_come};
+ghost use Rattle.amqp_locked.specs.Tidying.{Tidies};
 
 use super::Locked;
+use crate::polled::is_refused;
 use amqp_hub::{Hub, Owner};
+use amqp_session::{Answer, Result};
 
 // How much of what nobody will take is asked for in one hold, beside what came since the last.
 const ASKED: usize = 64;
@@ -34,6 +37,17 @@ impl Locked {
         }
     }
 
+    /// Marks of handles that were dropped are found, what is due about each is done, and what nobody will take
+    /// is let go, as before and after a turn: for a session that has ended, which takes no turn. Where memory
+    /// is refused, what is still undone about the marks stays so.
+    pub fn tidy(&mut self)
+        ensures { Tidies (contents self.old) (contents self.new) }
+    {
+        let looked = self.look();
+        self.let_go();
+        let _ = looked;
+    }
+
     /// Whether there is something that nobody will take.
     pub fn has_unasked(&self) -> bool
         ensures { result ≡ nat_lt 0 (length self.now.unasked.items) }
@@ -49,17 +63,28 @@ fn takes_what_is_there(hub: &mut Hub, owner: Owner) -> bool
 {
     match owner {
         Owner::Connection => false,
-        Owner::Answer(number) => match hub.poll(number) {
-            Some(answer) => {
-                drop(answer);
-                false
-            }
-            None => true,
-        },
+        Owner::Answer(number) => {
+            let ended = hub.session().has_ended();
+            may_come(hub.poll(number), ended)
+        }
         Owner::Channel(opened) => {
-            drop(hub.poll(opened));
+            let still_there = may_come(hub.poll(opened), true);
             drop(hub.take_frames(opened));
-            hub.session().opening(opened).is_some()
+            hub.session().opening(opened).is_some() || still_there
+        }
+    }
+}
+
+// Whether an answer may still come, or still be there. It takes what was given.
+fn may_come(given: Option<Result<Answer>>, ended: bool) -> bool
+    ensures { result ≡ may_come given ended }
+{
+    match given {
+        None => !ended,
+        Some(answer) => {
+            let refused = is_refused(&answer);
+            drop(answer);
+            refused
         }
     }
 }

@@ -1,6 +1,6 @@
 //! The commands.
 
-ghost use Rattle.std.specs.Prelude.{◌≡◌, ◌<◌, ◌≤◌, ◌+◌, ◌∷◌, ℕ, [], length, map, Some, Ok, IfOk, IfErr, IfSome, IfNone, IsTrue, OnOk, OnErr};
+ghost use Rattle.std.specs.Prelude.{◌≡◌, ◌≢◌, ◌<◌, ◌≤◌, ◌+◌, ◌∷◌, ℕ, [], length, map, Some, Ok, IfOk, IfErr, IfSome, IfNone, OnOk, OnErr};
 ghost use Rattle.amqp_frame.specs.Frames.{encoding};
 ghost use Rattle.amqp_frame.specs.Lengths.{capped};
 ghost use Rattle.amqp_outbox.specs.Queued.{unsent_octets};
@@ -8,7 +8,7 @@ ghost use Rattle.amqp_types.specs.declared.word.Word.TheVariants as word;
 ghost use Rattle.amqp_session.specs.Channels.{channel_at};
 ghost use Rattle.amqp_session.specs.Changes.{refuse};
 ghost use Rattle.amqp_session.specs.Publishing.{body_pieces};
-ghost use Rattle.amqp_session.specs.Commands.{open_channel, open_as, named, target, close_channel, close_target, above_limit, too_full, unless_full, queue_send, send, send_target, body_limit, queue_publish, publish, publish_target, tell_flow, flow_target, queue_secret, update_secret, close_connection, drop_target, takes_promise, promise_of, command};
+ghost use Rattle.amqp_session.specs.Commands.{open_channel, open_as, named, target, close_channel, close_target, above_limit, too_full, unless_full, queue_send, send, send_target, body_limit, queue_publish, publish, publish_target, tell_flow, flow_target, queue_secret, update_secret, close_connection, drop_target, promise_of, command};
 
 use super::Session;
 use super::dropping::{drop_groups, drop_groups_of};
@@ -44,37 +44,30 @@ impl Session {
         ensures err { OnErr result (self.new ≡ self.old) }
         ensures only { IfErr result (λ e. e ≡ ErrorKind.NoMemory) }
     {
+        let number = self.promise_of(&cmd);
+        if self.state == ConnectionState::Connected {
+            self.command_connected(cmd)?;
+        } else {
+            self.command_unconnected(cmd)?;
+        }
+        Ok(number)
+    }
+
+    // The number of the promise that a command takes.
+    fn promise_of(&self, cmd: &Cmd) -> Option<u64>
+        ensures { result ≡ promise_of cmd.now self.now }
+    {
         match cmd {
-            Cmd::DropChannel(channel) => {
-                self.drop_named(channel)?;
-                Ok(None)
-            }
-            Cmd::DropConnection => {
-                self.drop_connection()?;
-                Ok(None)
-            }
-            Cmd::Listen => {
-                self.listen();
-                Ok(None)
-            }
-            cmd => {
-                let number = self.promises();
-                self.obey(cmd)?;
-                Ok(Some(number))
-            }
+            Cmd::DropChannel(_) | Cmd::DropConnection | Cmd::Listen => None,
+            _ => Some(self.promises()),
         }
     }
 
-    // A command that takes a promise.
-    fn obey(&mut self, cmd: Cmd) -> Result<(), NoMemory>
-        requires { IsTrue (takes_promise cmd) }
+    fn command_connected(&mut self, cmd: Cmd) -> Result<(), NoMemory>
+        requires { self.old.state ≡ ConnectionState.Connected }
         ensures ok { OnOk result (self.new ≡ command cmd self.old) }
         ensures err { OnErr result (self.new ≡ self.old) }
     {
-        if self.state != ConnectionState::Connected {
-            drop(cmd);
-            return self.refuse(ErrorKind::InvalidConnectionState(self.state));
-        }
         match cmd {
             Cmd::OpenChannel => self.open_channel(),
             Cmd::CloseChannel(channel, code, text) => self.close_named(channel, code, text),
@@ -85,18 +78,40 @@ impl Session {
                 self.publish_named(channel, method, properties, body)
             }
             Cmd::Flow(channel, active) => self.flow_named(channel, active),
-            Cmd::DropChannel(_) | Cmd::DropConnection | Cmd::Listen => unreachable!(),
+            Cmd::DropChannel(channel) => self.drop_named(channel),
+            Cmd::DropConnection => self.drop_connection(),
+            Cmd::Listen => {
+                self.listen();
+                Ok(())
+            }
+        }
+    }
+
+    // Nothing is left to be let go, and what takes a promise is refused.
+    fn command_unconnected(&mut self, cmd: Cmd) -> Result<(), NoMemory>
+        requires { self.old.state ≢ ConnectionState.Connected }
+        ensures ok { OnOk result (self.new ≡ command cmd self.old) }
+        ensures err { OnErr result (self.new ≡ self.old) }
+    {
+        match cmd {
+            Cmd::DropChannel(_) | Cmd::DropConnection => Ok(()),
+            Cmd::Listen => {
+                self.listen();
+                Ok(())
+            }
+            cmd => {
+                drop(cmd);
+                self.refuse(ErrorKind::InvalidConnectionState(self.state))
+            }
         }
     }
 
     // A channel is let go: where it is open, it is closed.
     fn drop_named(&mut self, channel: ChanRef) -> Result<(), NoMemory>
+        requires { self.old.state ≡ ConnectionState.Connected }
         ensures ok { OnOk result (self.new ≡ command (Cmd.DropChannel channel) self.old) }
         ensures err { OnErr result (self.new ≡ self.old) }
     {
-        if self.state != ConnectionState::Connected {
-            return Ok(());
-        }
         match self.target(channel, Word::ChannelClose) {
             Ok(listed) => self.drop_channel(channel.id, listed),
             Err(_) => Ok(()),
@@ -105,12 +120,10 @@ impl Session {
 
     // The connection is let go: where it is open, it is closed.
     fn drop_connection(&mut self) -> Result<(), NoMemory>
+        requires { self.old.state ≡ ConnectionState.Connected }
         ensures ok { OnOk result (self.new ≡ command Cmd.DropConnection self.old) }
         ensures err { OnErr result (self.new ≡ self.old) }
     {
-        if self.state != ConnectionState::Connected {
-            return Ok(());
-        }
         let awaited = Awaited {
             reply: Reply::ConnectionClosed,
             promise: None,

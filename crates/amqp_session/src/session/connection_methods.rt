@@ -95,11 +95,11 @@ impl Session {
     {
         match login {
             Some(Login::Started(mechanism, said)) => self.started(mechanism, said),
-            Some(Login::Challenged(said)) => {
-                drop(said);
+            // Made for another frame: never.
+            other => {
+                drop(other);
                 Ok(())
             }
-            None => Ok(()),
         }
     }
 
@@ -142,12 +142,11 @@ impl Session {
     {
         match login {
             Some(Login::Challenged(said)) => self.challenged(said),
-            Some(Login::Started(mechanism, said)) => {
-                drop(mechanism);
-                drop(said);
+            // Made for another frame: never.
+            other => {
+                drop(other);
                 Ok(())
             }
-            None => Ok(()),
         }
     }
 

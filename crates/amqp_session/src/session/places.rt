@@ -5,9 +5,10 @@ ghost use Rattle.std.specs.VecDeque.{deque_capacity};
 ghost use Rattle.amqp_outbox.specs.declared.reply.Reply.{Reply};
 ghost use Rattle.amqp_outbox.specs.Items.{dropped_with, size_of};
 ghost use Rattle.amqp_outbox.specs.Parts.{queued, HasControlPlaces, HasGroupPlace, HasReplyPlace};
-ghost use Rattle.amqp_outbox.specs.Queued.{waiting_items, pushed_control, with_awaited};
+ghost use Rattle.amqp_outbox.specs.Queued.{pushed_control, with_awaited};
 ghost use Rattle.amqp_session.specs.Events.{owe_event};
 ghost use Rattle.amqp_session.specs.Parts.{promised, noted_in, HasPlace};
+ghost use Rattle.amqp_session.specs.Places.{HasMarkPlaces};
 
 use crate::committed::Committed;
 use crate::events::Events;
@@ -28,9 +29,7 @@ pub fn reserve_frames(
     ensures kept { deque_capacity committed.old.marks ≤ deque_capacity committed.new.marks }
     ensures lane { OnOk result (HasControlPlaces dropped_with frames octets outbox.new) }
     ensures reply { (c : ℕ) (r : Reply) → HasReplyPlace c r outbox.old → HasReplyPlace c r outbox.new }
-    ensures places { OnOk result
-        (length committed.old.marks.items + (length (waiting_items (queued outbox.old)) + frames)
-        ≤ deque_capacity committed.new.marks) }
+    ensures places { OnOk result (HasMarkPlaces frames (queued outbox.old) committed.new) }
 {
     outbox.reserve_control(dropped_with, frames, octets)?;
     committed.reserve(outbox.len() as usize + frames)
@@ -48,9 +47,7 @@ pub fn reserve_both(
     ensures kept { deque_capacity committed.old.marks ≤ deque_capacity committed.new.marks }
     ensures lane { OnOk result
         (HasControlPlaces (dropped_with first.now) 2 (size_of first.now + size_of second.now) outbox.new) }
-    ensures places { OnOk result
-        (length committed.old.marks.items + (length (waiting_items (queued outbox.old)) + 2)
-        ≤ deque_capacity committed.new.marks) }
+    ensures places { OnOk result (HasMarkPlaces 2 (queued outbox.old) committed.new) }
 {
     let octets = octets_of_both(first, second)?;
     reserve_frames(outbox, committed, first.dropped_with(), 2, octets)
@@ -66,9 +63,7 @@ pub fn reserve_item(
     ensures marks { committed.new.marks.items ≡ committed.old.marks.items }
     ensures kept { deque_capacity committed.old.marks ≤ deque_capacity committed.new.marks }
     ensures lane { OnOk result (HasControlPlaces (dropped_with item.now) 1 (size_of item.now) outbox.new) }
-    ensures places { OnOk result
-        (length committed.old.marks.items + (length (waiting_items (queued outbox.old)) + 1)
-        ≤ deque_capacity committed.new.marks) }
+    ensures places { OnOk result (HasMarkPlaces 1 (queued outbox.old) committed.new) }
 {
     let octets = item.octets()?;
     reserve_frames(outbox, committed, item.dropped_with(), 1, octets)
@@ -87,9 +82,7 @@ pub fn reserve_owing(
     ensures marks { committed.new.marks.items ≡ committed.old.marks.items }
     ensures kept { deque_capacity committed.old.marks ≤ deque_capacity committed.new.marks }
     ensures lane { OnOk result (HasControlPlaces (dropped_with item.now) 1 (size_of item.now) outbox.new) }
-    ensures places { OnOk result
-        (length committed.old.marks.items + (length (waiting_items (queued outbox.old)) + 1)
-        ≤ deque_capacity committed.new.marks) }
+    ensures places { OnOk result (HasMarkPlaces 1 (queued outbox.old) committed.new) }
     ensures owed { OnOk result (noted_in events.new ≡ owe_event item.now.channel error (noted_in events.old)) }
     ensures events { OnErr result (noted_in events.new ≡ noted_in events.old) }
 {
@@ -111,9 +104,7 @@ pub fn reserve_promised(
     ensures marks { committed.new.marks.items ≡ committed.old.marks.items }
     ensures kept { deque_capacity committed.old.marks ≤ deque_capacity committed.new.marks }
     ensures lane { OnOk result (HasControlPlaces (dropped_with item.now) 1 (size_of item.now) outbox.new) }
-    ensures places { OnOk result
-        (length committed.old.marks.items + (length (waiting_items (queued outbox.old)) + 1)
-        ≤ deque_capacity committed.new.marks) }
+    ensures places { OnOk result (HasMarkPlaces 1 (queued outbox.old) committed.new) }
     ensures made { promises.new.made ≡ promises.old.made }
     ensures slots { promised promises.new ≡ promised promises.old }
     ensures place { OnOk result (HasPlace promises.new) }
@@ -135,9 +126,7 @@ pub fn reserve_reply(
     ensures kept { deque_capacity committed.old.marks ≤ deque_capacity committed.new.marks }
     ensures lane { OnOk result (HasControlPlaces (dropped_with item.now) 1 (size_of item.now) outbox.new) }
     ensures reply { OnOk result (HasReplyPlace item.now.channel reply outbox.new) }
-    ensures places { OnOk result
-        (length committed.old.marks.items + (length (waiting_items (queued outbox.old)) + 1)
-        ≤ deque_capacity committed.new.marks) }
+    ensures places { OnOk result (HasMarkPlaces 1 (queued outbox.old) committed.new) }
 {
     reserve_item(outbox, committed, item)?;
     outbox.reserve_reply(item.channel(), reply)
@@ -155,9 +144,7 @@ pub fn ask(
     ensures same { OnErr result (queued outbox.new ≡ queued outbox.old) }
     ensures marks { committed.new.marks.items ≡ committed.old.marks.items }
     ensures kept { deque_capacity committed.old.marks ≤ deque_capacity committed.new.marks }
-    ensures places { OnOk result
-        (length committed.old.marks.items + (length (waiting_items (queued outbox.old)) + 1)
-        ≤ deque_capacity committed.new.marks) }
+    ensures places { OnOk result (HasMarkPlaces 1 (queued outbox.old) committed.new) }
 {
     if let Err(refused) = reserve_reply(outbox, committed, &item, awaited.reply) {
         drop(item);
@@ -183,9 +170,7 @@ pub fn ask_after(
     ensures same { OnErr result (queued outbox.new ≡ queued outbox.old) }
     ensures marks { committed.new.marks.items ≡ committed.old.marks.items }
     ensures kept { deque_capacity committed.old.marks ≤ deque_capacity committed.new.marks }
-    ensures places { OnOk result
-        (length committed.old.marks.items + (length (waiting_items (queued outbox.old)) + 2)
-        ≤ deque_capacity committed.new.marks) }
+    ensures places { OnOk result (HasMarkPlaces 2 (queued outbox.old) committed.new) }
 {
     if let Err(refused) = reserve_pair(outbox, committed, &first, &item, awaited.reply) {
         drop(first);
@@ -213,9 +198,7 @@ fn reserve_pair(
     ensures lane { OnOk result
         (HasControlPlaces (dropped_with first.now) 2 (size_of first.now + size_of second.now) outbox.new) }
     ensures reply { OnOk result (HasReplyPlace second.now.channel reply outbox.new) }
-    ensures places { OnOk result
-        (length committed.old.marks.items + (length (waiting_items (queued outbox.old)) + 2)
-        ≤ deque_capacity committed.new.marks) }
+    ensures places { OnOk result (HasMarkPlaces 2 (queued outbox.old) committed.new) }
 {
     reserve_both(outbox, committed, first, second)?;
     outbox.reserve_reply(second.channel(), reply)
@@ -232,9 +215,7 @@ pub fn reserve_group(
     ensures marks { committed.new.marks.items ≡ committed.old.marks.items }
     ensures kept { deque_capacity committed.old.marks ≤ deque_capacity committed.new.marks }
     ensures lane { OnOk result (HasGroupPlace group.now outbox.new) }
-    ensures places { OnOk result
-        (length committed.old.marks.items + (length (waiting_items (queued outbox.old)) + length group.now)
-        ≤ deque_capacity committed.new.marks) }
+    ensures places { OnOk result (HasMarkPlaces (length group.now) (queued outbox.old) committed.new) }
     ensures made { promises.new.made ≡ promises.old.made }
     ensures slots { promised promises.new ≡ promised promises.old }
     ensures place { OnOk result (HasPlace promises.new) }

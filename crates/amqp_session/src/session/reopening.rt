@@ -1,10 +1,10 @@
 //! The channels that are opened again on another link.
 
-ghost use Rattle.std.specs.Prelude.{◌≡◌, ◌+◌, ◌<◌, ◌≤◌, [], None, IfOk, IsOk, OnOk, length};
+ghost use Rattle.std.specs.Prelude.{◌≡◌, ◌<◌, ◌≤◌, [], None, IfOk, IsOk, OnOk, length};
 ghost use Rattle.std.specs.VecDeque.{deque_capacity};
 ghost use Rattle.amqp_outbox.specs.Listed.{Ascends};
 ghost use Rattle.amqp_outbox.specs.Parts.{queued};
-ghost use Rattle.amqp_outbox.specs.Queued.{waiting_items};
+ghost use Rattle.amqp_session.specs.Places.{HasMarkPlaces};
 ghost use Rattle.amqp_session.specs.Reopening.{numbers_after, reopened_each, HasOpenPlaces, HasOpenedPlaces};
 
 use super::places::reserve_frames;
@@ -30,10 +30,8 @@ pub fn reserve_reopening(
     ensures kept { deque_capacity committed.old.marks ≤ deque_capacity committed.new.marks }
     ensures frames { OnOk result (HasOpenPlaces (numbers_after None channel_max channels.now.listed) outbox.new) }
     ensures replies { OnOk result (HasOpenedPlaces (numbers_after None channel_max channels.now.listed) outbox.new) }
-    ensures places { OnOk result (0 < length (numbers_after None channel_max channels.now.listed)
-        → length committed.old.marks.items
-        + (length (waiting_items (queued outbox.old)) + length (numbers_after None channel_max channels.now.listed))
-        ≤ deque_capacity committed.new.marks) }
+    ensures places { let numbers = numbers_after None channel_max channels.now.listed in
+        OnOk result (0 < length numbers → HasMarkPlaces (length numbers) (queued outbox.old) committed.new) }
     ensures idle { numbers_after None channel_max channels.now.listed ≡ [] → IsOk result }
     ensures ordered { Ascends channels.now.listed }
 {

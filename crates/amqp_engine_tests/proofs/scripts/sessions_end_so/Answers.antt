@@ -8,6 +8,7 @@ unfolding front framed sized ended content method_payload connection_arguments_a
 returns c =
     record {
       closed_by_us = refl;
+      listens = refl;
       in_pieces = refl;
       closed_by_them = refl;
       blocked_a_while = refl;

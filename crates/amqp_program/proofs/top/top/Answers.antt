@@ -33,5 +33,5 @@ returns-in-Generate-clause-generated g c count asked =
     let both : Some (Generate c.in-Generate.count) ≡ Some (Generate count) =
     ap (λ (x : Asked). Some x) (sym c.in-Generate.is) ∙ sym c.in-Some.is ∙ c.asked_by.ensures ∙ asked in
     let same : c.in-Generate.count ≡ count = cc in
-    number-taken c.in-Generate.count count (g.P.Port.log c.generate.new.port) (g.K.Sink.held c.args.sink.now) (g.K.Sink.held c.generate.new.sink)
+    number-taken c.in-Generate.count count (g.P.Port.log c.args.port.now) (g.P.Port.log c.generate.new.port) (g.K.Sink.held c.args.sink.now) (g.K.Sink.held c.generate.new.sink)
     c.generate.result same (asked-within c.args.words.now count asked) c.generate.ensures.outcome

@@ -12,7 +12,8 @@ pub returns-in-Ok : goal.returns-in-Ok
 returns-in-Ok g c =
     let before = g.K.Sink.held c.args.sink.now in
     let after = g.K.Sink.held c.put_printout.new.sink in
-    let log = g.P.Port.log c.print_number.new.port in
+    let log = g.P.Port.log c.args.port.now in
+    let log' = g.P.Port.log c.print_number.new.port in
     let made = c.in-Ok.ensures in
     let L : Printout → Type 0 = λ p. IsLoud p.status in
     let Q : Printout → Type 0 = λ p. Prints p before after c.put_printout.result in
@@ -26,6 +27,6 @@ returns-in-Ok g c =
       sink_failed = done.failed;
       sink_kept = c.put_printout.ensures.kept;
       silent = done.silent;
-      outcome = inr (Generates-made c.a_valid_script_ends_closed.ensures.closed script read made.answers log before after c.put_printout.result
+      outcome = inr (Generates-made c.a_valid_script_ends_closed.ensures.closed script read made.answers log log' before after c.put_printout.result
           made.may (made.told (script-said false script)) prints);
     }

@@ -7,13 +7,13 @@ use Rattle.amqp_replay.proofs.answering.replay.Goals as goal
 pub returns-in-Ok-clause-some_script : goal.returns-in-Ok-clause-some_script
 returns-in-Ok-clause-some_script g c =
     let P : List ℕ → Type 0 = λ x. IfSome (g.S.Source.left c.args.source.now) (λ all. x ≡ take MOST_READ all) in
-    ReplaysSome-read (is_some c.args.handed) (handed_state g.A.AuthProvider.allows c.args.handed) (g.S.Source.left c.args.source.now) (g.P.Port.log c.answer.new.port) (g.K.Sink.held c.args.sink.now)
+    ReplaysSome-read (is_some c.args.handed) (handed_state g.A.AuthProvider.allows c.args.handed) (g.S.Source.left c.args.source.now) (g.P.Port.log c.args.port.now) (g.P.Port.log c.answer.new.port) (g.K.Sink.held c.args.sink.now)
     (g.K.Sink.held c.answer.new.sink) c.answer.result c.deref.result.now
     (subst P (sym c.deref.ensures.value) c.in-Ok.ensures.text) c.answer.ensures.outcome
 
 pub returns-in-Ok-clause-outcome : goal.returns-in-Ok-clause-outcome
 returns-in-Ok-clause-outcome g c =
     let P : List ℕ → Type 0 = λ x. IfSome (g.S.Source.left c.args.source.now) (λ all. x ≡ take MOST_READ all) in
-    Replays-told (is_some c.args.handed) (handed_state g.A.AuthProvider.allows c.args.handed) (g.S.Source.left c.args.source.now) (g.P.Port.log c.answer.new.port) (g.K.Sink.held c.args.sink.now)
+    Replays-told (is_some c.args.handed) (handed_state g.A.AuthProvider.allows c.args.handed) (g.S.Source.left c.args.source.now) (g.P.Port.log c.args.port.now) (g.P.Port.log c.answer.new.port) (g.K.Sink.held c.args.sink.now)
     (g.K.Sink.held c.answer.new.sink) c.answer.result c.deref.result.now
     (subst P (sym c.deref.ensures.value) c.in-Ok.ensures.text) c.answer.ensures.outcome

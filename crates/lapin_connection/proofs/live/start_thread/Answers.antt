@@ -11,15 +11,20 @@ use Rattle.std.specs.Prelude.{codes}
 use Rattle.std.proofs.Crossing.{Arc-send, Vec-send}
 use Rattle.amqp_engine.specs.declared.port.Port as Port
 use Rattle.amqp_auth.specs.declared.provider.AuthProvider as AuthProvider
+use Rattle.amqp_locked.specs.contracts.heard.Line as Line
 use Rattle.lapin_connection.specs.contracts.shared.Shared.{the_row as shared_row}
 use Rattle.lapin_connection.specs.contracts.live.LoopJob as Job
 use Rattle.lapin_connection.proofs.Sharing.{shared_send, shared_sync}
 use Rattle.lapin_connection.proofs.live.start_thread.Goals as goal
 use Rattle.lapin_connection.proofs.live.start_thread.Lts as Lts
 
+-- a line may go to another thread where its port may
+line : (T : RattleType) → IsSend T → IsSend (Line.the_row T)
+line T t = recorded_send (Line.the_field T).row (Line.the_type T).D (Line.the_type T).to (Line.the_type T).to_one (search (sendable, t))
+
 -- a loop may go to another thread where its port and who answers may
 job_field : (T T' : RattleType) (p : Port.Ghosts T.Denot) (a : AuthProvider.Ghosts T'.Denot) → IsSend T → IsSend T' → IsSend (Job.the_field T T' p a).row
-job_field T T' p a t t' = search (sendable, t, t', Arc-send shared_row shared_send shared_sync, Vec-send (UInt w8) (search sendable)) depth 20
+job_field T T' p a t t' = search (sendable, line T t, t', Arc-send shared_row shared_send shared_sync, Vec-send (UInt w8) (search sendable)) depth 20
 
 job : (T T' : RattleType) (p : Port.Ghosts T.Denot) (a : AuthProvider.Ghosts T'.Denot) → IsSend T → IsSend T' → IsSend (Job.the_row T T' p a)
 job T T' p a t t' = recorded_send (Job.the_field T T' p a).row (Job.the_type T T' p a).D (Job.the_type T T' p a).to (Job.the_type T T' p a).to_one (job_field T T' p a t t')

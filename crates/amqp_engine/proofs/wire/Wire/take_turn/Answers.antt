@@ -1,4 +1,4 @@
-use Rattle.std.proofs.Common.{◌≡◌, ◌∙◌, List, [], ◌++◌, length, drop, false, true, Some, None, subst, ap, sym, refl, rules, arith}
+use Rattle.std.proofs.Common.{◌≡◌, ◌∙◌, List, [], ◌++◌, length, drop, false, true, Some, None, is_some, subst, ap, sym, refl, rules, arith}
 use Rattle.std.proofs.lemmas.List.{append-nil}
 use Rattle.amqp_auth.specs.declared.asked.Question.{Question}
 use Rattle.amqp_auth.specs.declared.asked.Asked.{Asked}
@@ -69,6 +69,9 @@ returns-then-has_ended-clause-starved g c =
     let h = c.in_default.ensures.ok in
     ap (λ (x : Engine). x.starved) (h.engine c.args.bytes.now) ∙ step-starved c.args.told.at c.args.told.step c.args.bytes.now h.answers c.args.self.now
 
+pub returns-then-has_ended-clause-noted : goal.returns-then-has_ended-clause-noted
+returns-then-has_ended-clause-noted g c = ap (λ (n : Notes). is_some n.starved) c.requires.blank
+
 pub returns-in-Err-read_step-clause-turn : goal.returns-in-Err-read_step-clause-turn
 returns-in-Err-read_step-clause-turn g c =
     let e = c.args.self.now in
@@ -133,6 +136,9 @@ returns-clause-turn g c =
     (f.ok [] h.questions) tt (if_case (λ (x : Engine). x ≡ p'.engine) (has_ended e.talk) p'.engine p'.engine refl refl)
     h.asks.all
     (may-front None (g.A.AuthProvider.allows c.args.provider.now) (g.A.AuthProvider.allows c.read_step.new.provider) h.questions next h.answers h.asks.all h.asks.allowed))
+
+pub returns-clause-noted : goal.returns-clause-noted
+returns-clause-noted g c = ap (λ (n : Notes). is_some n.starved) c.requires.blank
 
 pub returns-then-has_ended-clause-blames : goal.returns-then-has_ended-clause-blames
 returns-then-has_ended-clause-blames g c =

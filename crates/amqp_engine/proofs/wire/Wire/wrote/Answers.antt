@@ -5,7 +5,8 @@ use Rattle.amqp_session.specs.Talk.{Talk, is_open}
 use Rattle.amqp_session.specs.Changes.{present_at}
 use Rattle.amqp_session.specs.Writing.{left_in, taken}
 use Rattle.amqp_engine.specs.Engine.{Engine}
-use Rattle.amqp_session.proofs.Keeping.{present-keeps, taken-keeps, counted-taken}
+use Rattle.amqp_session.proofs.Keeping.{present-keeps}
+use Rattle.amqp_session.proofs.Sending.{taken-keeps, counted-taken}
 use Rattle.amqp_engine.proofs.wire.Wire.wrote.Goals as goal
 
 pub invariant_of-self-in-Took : goal.invariant_of-self-in-Took

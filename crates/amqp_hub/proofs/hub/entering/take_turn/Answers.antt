@@ -11,6 +11,7 @@ returns-clause-turn g c =
     let x : Engine = c.apply-applied.new.self in
     record {
       notes = c.apply-applied.new.notes;
+      cut = c.apply-applied.ensures.noted;
       engine = x;
       told = g.P.Port.log c.apply-applied.new.port;
       applies = c.apply-applied.ensures.turn;

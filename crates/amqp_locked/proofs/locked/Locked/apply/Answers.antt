@@ -10,13 +10,13 @@ returns-in-Err-clause-promises g c =
 pub returns-clause-ok : goal.returns-clause-ok
 returns-clause-ok g c =
     let h = c.in_default.ensures.ok in
-    turns_ok _ _ _ _ _ _ _ _ _ _ _ c.apply.result h.0 (contents c.args.self.now) (contents c.look.new.self) (with_hub c.apply.new.self (contents c.look.new.self)) h.1 c.apply.ensures.ok
+    turns_ok _ _ _ _ _ _ _ _ _ _ _ _ c.apply.result h.0 (contents c.args.self.now) (contents c.look.new.self) (with_hub c.apply.new.self (contents c.look.new.self)) h.1 c.apply.ensures.ok
     (record { of_port = c.apply.ensures.io_error_counted; of_provider = c.apply.ensures.refusal_counted }) c.apply.ensures.base c.apply.ensures.counts refl
 
 pub returns-clause-err : goal.returns-clause-err
 returns-clause-err g c =
     let h = c.in_default.ensures.ok in
-    turns_err _ _ _ _ _ _ _ _ _ _ _ c.apply.result (c.apply.new.port ≡ c.args.port.now) (c.apply.new.provider ≡ c.args.provider.now) h.0
+    turns_err _ _ _ _ _ _ _ _ _ _ _ _ c.apply.result (c.apply.new.port ≡ c.args.line.now.port) (c.apply.new.provider ≡ c.args.provider.now) h.0
     (contents c.args.self.now) (contents c.look.new.self) (with_hub c.apply.new.self (contents c.look.new.self)) h.1 c.apply.ensures.err
     (record { of_port = c.apply.ensures.io_error_counted; of_provider = c.apply.ensures.refusal_counted }) c.apply.ensures.base c.apply.ensures.counts refl
 

@@ -1,0 +1,2 @@
+-- What is believed of both ends joined.
+pub mod TwoEnds
