@@ -1,5 +1,6 @@
 -- What the promise of a command stands for.
 pub mod Promising
+pub mod StandingFor
 pub mod Awaiting
 pub mod Forgetting
 -- That what waits is answered where the link is lost.

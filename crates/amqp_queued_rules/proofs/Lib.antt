@@ -4,6 +4,7 @@ pub mod Parts
 pub mod Replying
 pub mod Telling
 -- What each rule leaves of what waited.
+pub mod LeftByFrames
 pub mod Lefts
 -- That a secure-ok waits only after a challenge was read.
 pub mod Unchallenging
