@@ -22,16 +22,16 @@ finds-more [] x l = refl
 finds-more (y ∷ ys) x l = finds-more ys x (found_at y.0 y.1 (slice_get l.places y.0) l)
 
 -- a mark that is found, and goes where it belongs
-pub found-sorted : (spent : Bool) (o : Owner) (l m n : UnderLock) → IsFound o l.places m.places → m ≡ under_lock l.hub m.places l.found l.unasked
+pub found-sorted : (spent : Bool) (o : Owner) (l m n : UnderLock) → IsFound o l.places m.places → m ≡ under_lock l.hub m.places l.found l.unasked l.nudged
     → n ≡ sorted spent o m → (i : ℕ) × (n ≡ found_at i spent (slice_get l.places i) l)
 found-sorted spent o l m n at rest goes = (
   at.0,
-  goes ∙ ap (sorted spent o) (rest ∙ ap (λ (ps : List (Option Owner)). under_lock l.hub ps l.found l.unasked) at.2) ∙ sym (ap (λ (x : Option (Option Owner)). found_at at.0 spent x l) at.1),
+  goes ∙ ap (sorted spent o) (rest ∙ ap (λ (ps : List (Option Owner)). under_lock l.hub ps l.found l.unasked l.nudged) at.2) ∙ sym (ap (λ (x : Option (Option Owner)). found_at at.0 spent x l) at.1),
 )
 
 -- so the marks that were found are one more
 pub finds_next : (spent : Bool) (o : Owner) (first l m n : UnderLock) → ((xs : List (ℕ × Bool)) × (l ≡ finds xs first)) → IsFound o l.places m.places
-    → m ≡ under_lock l.hub m.places l.found l.unasked → n ≡ sorted spent o m → (xs : List (ℕ × Bool)) × (n ≡ finds xs first)
+    → m ≡ under_lock l.hub m.places l.found l.unasked l.nudged → n ≡ sorted spent o m → (xs : List (ℕ × Bool)) × (n ≡ finds xs first)
 finds_next spent o first l m n before at rest goes =
     let one = found-sorted spent o l m n at rest goes in
     let x : ℕ × Bool = (one.0, spent) in (
@@ -43,7 +43,7 @@ finds_next spent o first l m n before at rest goes =
 
 -- what lies under the lock while marks are looked at: those before, and those that were looked at already
 abbrev parted : List Owner → List Owner → UnderLock → UnderLock
-parted before rest l = under_lock (acted rest l.hub) l.places (before ++ staying rest l.hub) (l.unasked ++ leaving rest l.hub)
+parted before rest l = under_lock (acted rest l.hub) l.places (before ++ staying rest l.hub) (l.unasked ++ leaving rest l.hub) l.nudged
 
 slice_get-mid : (xs ys : List Owner) (x : Owner) → slice_get ((xs ++ x ∷ []) ++ ys) (length xs) ≡ Some x
 slice_get-mid [] ys x = refl
@@ -59,18 +59,18 @@ parted-stays before rest o l again =
     let found : before ++ staying (o ∷ rest) l.hub ≡ (before ++ o ∷ []) ++ staying rest l.hub =
     ap (λ (xs : List Owner). before ++ xs) (if-true (stays o rest l.hub) (o ∷ staying rest l.hub) (staying rest l.hub) again) ∙ sym (append_assoc before (o ∷ []) (staying rest l.hub)) in
     let left : leaving (o ∷ rest) l.hub ≡ leaving rest l.hub = if-true (stays o rest l.hub) (leaving rest l.hub) (leaving rest l.hub ++ o ∷ []) again in
-    ap (λ (xs : List Owner). under_lock (acted (o ∷ rest) l.hub) l.places xs (l.unasked ++ leaving (o ∷ rest) l.hub)) found
-    ∙ ap (λ (xs : List Owner). under_lock (acted (o ∷ rest) l.hub) l.places ((before ++ o ∷ []) ++ staying rest l.hub) (l.unasked ++ xs)) left
+    ap (λ (xs : List Owner). under_lock (acted (o ∷ rest) l.hub) l.places xs (l.unasked ++ leaving (o ∷ rest) l.hub) l.nudged) found
+    ∙ ap (λ (xs : List Owner). under_lock (acted (o ∷ rest) l.hub) l.places ((before ++ o ∷ []) ++ staying rest l.hub) (l.unasked ++ xs) l.nudged) left
 
 parted-leaves : (before rest : List Owner) (o : Owner) (l : UnderLock) → stays o rest l.hub ≡ false
-    → parted before (o ∷ rest) l ≡ under_lock (owned o (acted rest l.hub)) l.places (before ++ staying rest l.hub) ((l.unasked ++ leaving rest l.hub) ++ o ∷ [])
+    → parted before (o ∷ rest) l ≡ under_lock (owned o (acted rest l.hub)) l.places (before ++ staying rest l.hub) ((l.unasked ++ leaving rest l.hub) ++ o ∷ []) l.nudged
 parted-leaves before rest o l gone =
     let found : staying (o ∷ rest) l.hub ≡ staying rest l.hub = if-false (stays o rest l.hub) (o ∷ staying rest l.hub) (staying rest l.hub) gone in
     let left : l.unasked ++ leaving (o ∷ rest) l.hub ≡ (l.unasked ++ leaving rest l.hub) ++ o ∷ [] =
     ap (λ (xs : List Owner). l.unasked ++ xs) (if-false (stays o rest l.hub) (leaving rest l.hub) (leaving rest l.hub ++ o ∷ []) gone)
     ∙ sym (append_assoc l.unasked (leaving rest l.hub) (o ∷ [])) in
-    ap (λ (xs : List Owner). under_lock (acted (o ∷ rest) l.hub) l.places (before ++ xs) (l.unasked ++ leaving (o ∷ rest) l.hub)) found
-    ∙ ap (λ (xs : List Owner). under_lock (acted (o ∷ rest) l.hub) l.places (before ++ staying rest l.hub) xs) left
+    ap (λ (xs : List Owner). under_lock (acted (o ∷ rest) l.hub) l.places (before ++ xs) (l.unasked ++ leaving (o ∷ rest) l.hub) l.nudged) found
+    ∙ ap (λ (xs : List Owner). under_lock (acted (o ∷ rest) l.hub) l.places (before ++ staying rest l.hub) xs l.nudged) left
 
 -- what is due about the last of those before is done
 parted-acted : (before rest : List Owner) (o : Owner) (l : UnderLock) → acted_at (length before) (parted (before ++ o ∷ []) rest l) ≡ parted before (o ∷ rest) l
@@ -84,7 +84,7 @@ parted-acted before rest o l =
         if-true (stays o rest l.hub) _ _ again ∙ sym (parted-stays before rest o l again)
     by false gone =
         if-false (stays o rest l.hub) _ _ gone
-        ∙ ap (λ (xs : List Owner). under_lock (owned o (acted rest l.hub)) l.places xs ((l.unasked ++ leaving rest l.hub) ++ o ∷ [])) (remove-mid before (staying rest l.hub) o)
+        ∙ ap (λ (xs : List Owner). under_lock (owned o (acted rest l.hub)) l.places xs ((l.unasked ++ leaving rest l.hub) ++ o ∷ []) l.nudged) (remove-mid before (staying rest l.hub) o)
         ∙ sym (parted-leaves before rest o l gone)
 
 -- so all from one place on were looked at, where all behind it were, and then that one
@@ -109,8 +109,8 @@ nothing_looked n l past =
     let all : take n l.found ≡ l.found = take_all n l.found past in
     ap (λ (xs : List Owner). parted (take n l.found) xs l) rest
     ∙ ap (λ (xs : List Owner). parted xs [] l) all
-    ∙ ap (λ (xs : List Owner). under_lock l.hub l.places xs (l.unasked ++ [])) (append-nil l.found)
-    ∙ ap (λ (xs : List Owner). under_lock l.hub l.places l.found xs) (append-nil l.unasked)
+    ∙ ap (λ (xs : List Owner). under_lock l.hub l.places xs (l.unasked ++ []) l.nudged) (append-nil l.found)
+    ∙ ap (λ (xs : List Owner). under_lock l.hub l.places l.found xs l.nudged) (append-nil l.unasked)
 
 -- where memory is refused while marks are looked at, all were found
 pub look_err : {A E : Type 0} (r : Result A E) (xs : List (ℕ × Bool)) (l m n : UnderLock) → m ≡ finds xs l → OnErr r ((left : ℕ) × (n ≡ looked_from left m))
@@ -121,12 +121,12 @@ look_err (Err x) xs l m n is h = (xs, h.0, h.1 ∙ ap (looked_from h.0) is)
 -- ---- one mark
 
 -- what lies under the lock, by its parts
-pub same_contents : (h h' : Guarded) (places : List (Option Owner)) (found found' unasked unasked' : List Owner) → h ≡ h' → found ≡ found' → unasked ≡ unasked'
-    → under_lock h places found unasked ≡ under_lock h' places found' unasked'
-same_contents h h' places found found' unasked unasked' hh hf hu =
-    ap (λ (x : Guarded). under_lock x places found unasked) hh
-    ∙ ap (λ (xs : List Owner). under_lock h' places xs unasked) hf
-    ∙ ap (λ (xs : List Owner). under_lock h' places found' xs) hu
+pub same_contents : (h h' : Guarded) (places : List (Option Owner)) (found found' unasked unasked' : List Owner) (nudged : Bool) → h ≡ h' → found ≡ found'
+    → unasked ≡ unasked' → under_lock h places found unasked nudged ≡ under_lock h' places found' unasked' nudged
+same_contents h h' places found found' unasked unasked' nudged hh hf hu =
+    ap (λ (x : Guarded). under_lock x places found unasked nudged) hh
+    ∙ ap (λ (xs : List Owner). under_lock h' places xs unasked nudged) hf
+    ∙ ap (λ (xs : List Owner). under_lock h' places found' xs nudged) hu
 
 -- whose the mark at a place is
 pub owner_at : (xs : List Found) (i : ℕ) (x : Found) → slice_get xs i ≡ Some x → slice_get (map (λ (f : Found). f.owner) xs) i ≡ Some x.owner
@@ -134,13 +134,13 @@ owner_at xs i x there = slice_get-map (λ (f : Found). f.owner) xs i ∙ ap (opt
 
 -- one that is to be looked at again
 pub acts_again : (n : ℕ) (o : Owner) (l y : UnderLock) → slice_get l.found n ≡ Some o → is_later (due_of l.hub.engine.talk o) ≡ true
-    → y ≡ under_lock (owned o l.hub) l.places l.found l.unasked → y ≡ acted_at n l
+    → y ≡ under_lock (owned o l.hub) l.places l.found l.unasked l.nudged → y ≡ acted_at n l
 acts_again n o l y there again done =
     done ∙ sym (if-true (is_later (due_of l.hub.engine.talk o)) _ _ again) ∙ sym (ap (λ (found : Option Owner). acted_on n found l) there)
 
 -- one that is done with
 pub acts_last : (n : ℕ) (o : Owner) (l y : UnderLock) → slice_get l.found n ≡ Some o → is_later (due_of l.hub.engine.talk o) ≡ false
-    → y ≡ under_lock (owned o l.hub) l.places (remove l.found n) (l.unasked ++ o ∷ []) → y ≡ acted_at n l
+    → y ≡ under_lock (owned o l.hub) l.places (remove l.found n) (l.unasked ++ o ∷ []) l.nudged → y ≡ acted_at n l
 acts_last n o l y there gone done =
     done ∙ sym (if-false (is_later (due_of l.hub.engine.talk o)) _ _ gone) ∙ sym (ap (λ (found : Option Owner). acted_on n found l) there)
 

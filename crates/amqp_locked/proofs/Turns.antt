@@ -36,6 +36,27 @@ finds-hub : (xs : List (ℕ × Bool)) (l : UnderLock) → (finds xs l).hub ≡ l
 finds-hub [] l = refl
 finds-hub (x ∷ xs) l = finds-hub xs (found_at x.0 x.1 (slice_get l.places x.0) l) ∙ found-hub x.0 x.1 (slice_get l.places x.0) l
 
+sorted-nudged : (spent : Bool) (o : Owner) (l : UnderLock) → (sorted spent o l).nudged ≡ l.nudged
+sorted-nudged true (owner.Answer n) l = refl
+sorted-nudged false (owner.Answer n) l = refl
+sorted-nudged true owner.Connection l = refl
+sorted-nudged false owner.Connection l = refl
+sorted-nudged true (owner.Channel n) l = refl
+sorted-nudged false (owner.Channel n) l = refl
+
+found-nudged : (i : ℕ) (spent : Bool) (place : Option (Option Owner)) (l : UnderLock) → (found_at i spent place l).nudged ≡ l.nudged
+found-nudged i spent (Some (Some o)) l = sorted-nudged spent o (freed i l)
+found-nudged i spent (Some None) l = refl
+found-nudged i spent None l = refl
+
+finds-nudged : (xs : List (ℕ × Bool)) (l : UnderLock) → (finds xs l).nudged ≡ l.nudged
+finds-nudged [] l = refl
+finds-nudged (x ∷ xs) l = finds-nudged xs (found_at x.0 x.1 (slice_get l.places x.0) l) ∙ found-nudged x.0 x.1 (slice_get l.places x.0) l
+
+-- the loop was nudged since its last turn where it was before
+pub looked-nudged : (n : ℕ) (xs : List (ℕ × Bool)) (l m : UnderLock) → m ≡ looked_from n (finds xs l) → m.nudged ≡ l.nudged
+looked-nudged n xs l m is = ap (λ (y : UnderLock). y.nudged) is ∙ finds-nudged xs l
+
 done-grown : (d : Due) (h : Guarded) → h.engine.talk.made ≤ (done d h).engine.talk.made
 done-grown (Now c) h = told-grown c h.engine
 done-grown Later h = omega arith

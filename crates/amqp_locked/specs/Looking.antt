@@ -14,13 +14,13 @@ use Rattle.amqp_locked.specs.UnderLock.{UnderLock, under_lock}
 -- other to those that are not done with
 abbrev pub sorted : Bool → Owner → UnderLock → UnderLock
 sorted true (owner.Answer n) l = l
-sorted false (owner.Answer n) l = under_lock l.hub l.places l.found (l.unasked ++ owner.Answer n ∷ [])
-sorted spent owner.Connection l = under_lock l.hub l.places (l.found ++ owner.Connection ∷ []) l.unasked
-sorted spent (owner.Channel n) l = under_lock l.hub l.places (l.found ++ owner.Channel n ∷ []) l.unasked
+sorted false (owner.Answer n) l = under_lock l.hub l.places l.found (l.unasked ++ owner.Answer n ∷ []) l.nudged
+sorted spent owner.Connection l = under_lock l.hub l.places (l.found ++ owner.Connection ∷ []) l.unasked l.nudged
+sorted spent (owner.Channel n) l = under_lock l.hub l.places (l.found ++ owner.Channel n ∷ []) l.unasked l.nudged
 
 -- the place is free
 abbrev pub freed : ℕ → UnderLock → UnderLock
-freed i l = under_lock l.hub (set l.places i None) l.found l.unasked
+freed i l = under_lock l.hub (set l.places i None) l.found l.unasked l.nudged
 
 -- the mark at a place was found there, where it is a handle's
 abbrev pub found_at : ℕ → Bool → Option (Option Owner) → UnderLock → UnderLock
@@ -57,8 +57,8 @@ leaving (o ∷ os) h = if stays o os h then leaving os h else leaving os h ++ o 
 abbrev pub acted_on : ℕ → Option Owner → UnderLock → UnderLock
 acted_on n (Some o) l =
     let h : Guarded = owned o l.hub in
-    if is_later (due_of l.hub.engine.talk o) then under_lock h l.places l.found l.unasked
-    else under_lock h l.places (remove l.found n) (l.unasked ++ o ∷ [])
+    if is_later (due_of l.hub.engine.talk o) then under_lock h l.places l.found l.unasked l.nudged
+    else under_lock h l.places (remove l.found n) (l.unasked ++ o ∷ []) l.nudged
 acted_on n None l = l
 
 -- the same of the one at a place
@@ -70,3 +70,4 @@ abbrev pub looked_from : ℕ → UnderLock → UnderLock
 looked_from n l =
     let rest : List Owner = drop n l.found in
     under_lock (acted rest l.hub) l.places (take n l.found ++ staying rest l.hub) (l.unasked ++ leaving rest l.hub)
+    l.nudged

@@ -15,3 +15,4 @@ pub record Tidies (l l' : UnderLock) : Type 0 where
       LetsManyGo many between.unasked between.hub.engine.talk l'.unasked l'.hub.engine.talk
   pub rest : let between : UnderLock = looked_from left (finds found l) in
       l' ≡ under_lock (with_session l'.hub.engine.talk between).hub between.places between.found l'.unasked
+      between.nudged

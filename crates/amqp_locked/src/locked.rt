@@ -1,6 +1,6 @@
 //! What lies under the lock: a hub, the places of its handles, and who waits to be woken.
 
-ghost use Rattle.std.specs.Prelude.{◌≡◌, ◌≤◌, ◌<◌, ◌⊎◌, ◌+◌, ◌++◌, ℕ, [], true, map, replicate, ◌∷◌, IfOk, IfErr, IfNone, IfSome, OnOk, OnErr, None, Some, Ok, length, IsSome, false};
+ghost use Rattle.std.specs.Prelude.{◌≡◌, ◌≤◌, ◌<◌, ◌⊎◌, ◌+◌, ◌++◌, ℕ, [], true, map, replicate, ◌∷◌, IfOk, IfErr, IfNone, IfSome, OnOk, OnErr, None, Some, Ok, length, IsSome, false, not};
 ghost use Rattle.std.specs.Fn.{FnOnceReturnsAtMut};
 ghost use Rattle.futures.specs.Task.{Covers, Keeps};
 ghost use Rattle.futures.specs.Poll.{OnPending};
@@ -13,7 +13,7 @@ ghost use Rattle.amqp_journal.specs.Journal.{WasTaken};
 ghost use Rattle.amqp_hub.specs.Passes.{new_passes, AreNew, foreign, IsForeign};
 ghost use Rattle.amqp_hub.specs.Entering.{called, next_entry, begun_anew, let_go};
 ghost use Rattle.amqp_hub.specs.Marks.{kept_in, StandsAt};
-ghost use Rattle.amqp_locked.specs.UnderLock.{contents, with_hub, with_session, newly_locked};
+ghost use Rattle.amqp_locked.specs.UnderLock.{contents, with_hub, with_nudge, with_session, newly_locked};
 ghost use Rattle.amqp_locked.specs.Turning.{TurnsAfterMarks, StarvesAfterMarks};
 ghost use Rattle.amqp_locked.specs.Taking.{answer_given, polled_of};
 ghost use Rattle.amqp_locked.specs.Recovering.{FoundOf};
@@ -44,6 +44,8 @@ pub struct Locked {
     // what nobody will take, and how much of it came since it was last let go
     unasked: VecDeque<Owner>,
     fresh: usize,
+    // whether the loop was nudged since its last turn
+    nudged: bool,
     wakers: Wakers,
 }
 
@@ -62,6 +64,7 @@ impl Locked {
                     found: Vec::new(alloc),
                     unasked: VecDeque::new(alloc),
                     fresh: 0,
+                    nudged: false,
                     wakers: Wakers::new(alloc),
                 },
                 mark,
@@ -106,7 +109,8 @@ impl Locked {
             ≡ called pass.old.number (pass.old.made + 1) cmd self.old.hub) }
         ensures place { IfOk result (λ r. StandsAt r.2.number (Owner.Answer r.0) (contents self.old).places
             (contents self.new).places) }
-        ensures rest { (self.new.found ≡ self.old.found) × (self.new.unasked ≡ self.old.unasked) }
+        ensures rest { (self.new.found ≡ self.old.found) × (self.new.unasked ≡ self.old.unasked)
+            × (self.new.nudged ≡ self.old.nudged) }
         ensures made { OnOk result (pass.new.made ≡ pass.old.made + 1) }
         ensures number { pass.new.number ≡ pass.old.number }
         ensures promise { IfOk result (λ r. Some r.0 ≡ promise_of cmd self.old.hub.engine.talk) }
@@ -150,7 +154,8 @@ impl Locked {
             ≡ called pass.old.number (pass.old.made + 1) Cmd.OpenChannel self.old.hub) }
         ensures place { IfOk result (λ r. StandsAt r.2.number (Owner.Channel r.0) (contents self.old).places
             (contents self.new).places) }
-        ensures rest { (self.new.found ≡ self.old.found) × (self.new.unasked ≡ self.old.unasked) }
+        ensures rest { (self.new.found ≡ self.old.found) × (self.new.unasked ≡ self.old.unasked)
+            × (self.new.nudged ≡ self.old.nudged) }
         ensures made { OnOk result (pass.new.made ≡ pass.old.made + 1) }
         ensures number { pass.new.number ≡ pass.old.number }
         ensures promise { IfOk result (λ r. Some r.0 ≡ promise_of Cmd.OpenChannel self.old.hub.engine.talk) }
@@ -386,15 +391,17 @@ impl Locked {
         requires { A.can provider.old }
         ensures can { A.can provider.new }
         ensures ok { OnOk result (TurnsAfterMarks false heard.entry.told.at heard.entry.told.step heard.entry.bytes.now
-            (contents self.old) (contents self.new) (P.log line.old.port) (P.log line.new.port)
+            (with_nudge false (contents self.old)) (contents self.new) (P.log line.old.port) (P.log line.new.port)
             (A.allows provider.old) (A.allows provider.new) (P.faults line.old.port) (P.faults line.new.port)
             (A.refusals provider.old) (A.refusals provider.new)) }
         ensures err { OnErr result (TurnsAfterMarks true heard.entry.told.at heard.entry.told.step heard.entry.bytes.now
-            (contents self.old) (contents self.new) (P.log line.old.port) (P.log line.new.port)
+            (with_nudge false (contents self.old)) (contents self.new) (P.log line.old.port) (P.log line.new.port)
             (A.allows provider.old) (A.allows provider.new) (P.faults line.old.port) (P.faults line.new.port)
             (A.refusals provider.old) (A.refusals provider.new)
-            ⊎ (StarvesAfterMarks heard.entry.told.at heard.entry.told.step (contents self.old) (contents self.new)
+            ⊎ (StarvesAfterMarks heard.entry.told.at heard.entry.told.step (with_nudge false (contents self.old))
+            (contents self.new)
             × (line.new.port ≡ line.old.port) × (provider.new ≡ provider.old))) }
+        ensures nudged { self.new.nudged ≡ false }
         ensures ended { OnErr result (has_ended self.new.hub.engine.talk ≡ true) }
         ensures only { IfErr result (λ e. e ≡ ErrorKind.NoMemory) }
         ensures promises { self.old.hub.engine.talk.made ≤ self.new.hub.engine.talk.made }
@@ -403,6 +410,7 @@ impl Locked {
         ensures never_falls { A.refusals provider.old ≤ A.refusals provider.new }
     {
         let Heard { told, bytes } = heard;
+        self.nudged = false;
         if let Err(refused) = self.look() {
             self.hub.starve(told);
             return Err(refused.into());
@@ -419,6 +427,18 @@ impl Locked {
         ensures only { IfErr result (λ e. e ≡ ErrorKind.NoMemory) }
     {
         self.hub.settle()
+    }
+
+    // ---- nudges
+
+    /// The loop is nudged, and whether that is still to be done: it is where nobody did since its last turn.
+    pub fn nudge(&mut self) -> bool
+        ensures first { result ≡ not self.old.nudged }
+        ensures nudged { contents self.new ≡ with_nudge true (contents self.old) }
+    {
+        let first = !self.nudged;
+        self.nudged = true;
+        first
     }
 
     // ---- the hub, and tasks that wait

@@ -1,6 +1,6 @@
-//! Each command, and each connection or channel that is dropped, ends the wait of the port.
+//! The first command after a turn, and each connection or channel that is dropped, ends the wait of the port.
 
-use crate::quiet::QuietSpawner;
+use crate::quiet::{ENDS, GOES_ON, QuietSpawner, STANDS, STOPS};
 use amqp_session::ConnectionProperties;
 use amqp_types::ShortString;
 use lapin_connection::{Connection, Pass};
@@ -10,6 +10,7 @@ use std::net::Net;
 use std::sync::atomic::{AtomicU64, Ordering};
 use std::sync::{Arc, Wait};
 use std::test::Fail;
+use std::thread;
 use std::thread::Threads;
 use std::time::{Clock, Duration};
 
@@ -35,14 +36,14 @@ impl Ear {
     }
 }
 
-// A connection over a quiet port, what hears its nudges, and what ends the input of the port. What nudges is
-// held too, since a nudge is lost with the last one who holds it.
+// A connection over a quiet port, what hears its nudges, and what orders the port. What nudges is held too,
+// since a nudge is lost with the last one who holds it.
 #[derive(Drop)]
 struct Live {
     connection: Connection,
     pass: Pass,
     ear: Ear,
-    over: Arc<AtomicU64>,
+    orders: Arc<AtomicU64>,
     waker: Arc<Waker>,
 }
 
@@ -55,9 +56,9 @@ fn begun<R: Net + Threads + Wait + Clock + Copy + Send + Drop + 'static>(
         events: Events::with_capacity(alloc, 4)?,
     };
     let waker = Arc::new(alloc, Waker::new(ear.poll.registry(), Token(0))?)?;
-    let over = Arc::new(alloc, AtomicU64::new(0))?;
+    let orders = Arc::new(alloc, AtomicU64::new(GOES_ON))?;
     let nudging = Arc::try_clone(&waker)?;
-    let theirs = Arc::try_clone(&over)?;
+    let theirs = Arc::try_clone(&orders)?;
     let mut runtime = QuietSpawner::new(rt, nudging, theirs);
     let options = ConnectionProperties::new(alloc)?;
     let connection = Connection::connect_with_runtime(
@@ -72,23 +73,35 @@ fn begun<R: Net + Threads + Wait + Clock + Copy + Send + Drop + 'static>(
         connection,
         pass,
         ear,
-        over,
+        orders,
         waker,
     })
 }
 
-// Whether each of these calls nudges.
-fn calls<R: Wait>(rt: &R, alloc: Global, live: &mut Live) -> Outcome<bool> {
+// The loop has taken a turn since this was called. Each turn is an entry.
+fn turned<R: Wait + Clock>(rt: &R, live: &Live) -> Outcome<bool> {
+    let before = live.connection.journal(rt)?.len();
+    for _ in 0..10_000u32 {
+        if live.connection.journal(rt)?.len() > before {
+            return Ok(true);
+        }
+        thread::sleep(rt, Duration::from_millis(1));
+    }
+    Ok(false)
+}
+
+// Whether each of these calls nudges, where a turn was taken since the one before.
+fn calls<R: Wait + Clock>(rt: &R, alloc: Global, live: &mut Live) -> Outcome<bool> {
     let quiet = !live.ear.hears()?;
     let opening = live.connection.create_channel(rt, &mut live.pass)?;
     let opens = live.ear.hears()?;
     drop(opening);
-    let drops = live.ear.hears()?;
+    let drops = live.ear.hears()? && turned(rt, live)?;
     let listener = live.connection.events_listener(rt, &mut live.pass)?;
     drop(listener);
-    let listens = live.ear.hears()?;
+    let listens = live.ear.hears()? && turned(rt, live)?;
     let entries = live.connection.with_hub(rt, |hub| hub.entries());
-    let lends = live.ear.hears()? && entries >= 2;
+    let lends = live.ear.hears()? && entries >= 2 && turned(rt, live)?;
     let text = ShortString::new(alloc, b"")?;
     let closing = live.connection.close(rt, &mut live.pass, 200, text)?;
     drop(closing);
@@ -106,19 +119,66 @@ fn each_nudges<R: Net + Threads + Wait + Clock + Copy + Send + Drop + 'static>(
         connection,
         pass,
         mut ear,
-        over,
+        orders,
         waker,
     } = live;
     drop(pass);
     drop(connection);
     let drops = ear.hears()?;
-    over.store(1, Ordering::SeqCst);
+    orders.store(ENDS, Ordering::SeqCst);
     drop(waker);
     Ok(calls && drops)
 }
 
+// The port stands still, so that no turn is taken.
+fn stopped<R: Clock>(rt: &R, live: &Live) -> bool {
+    live.orders.store(STOPS, Ordering::SeqCst);
+    for _ in 0..10_000u32 {
+        if live.orders.load(Ordering::SeqCst) == STANDS {
+            return true;
+        }
+        thread::sleep(rt, Duration::from_millis(1));
+    }
+    false
+}
+
+// Whether of the calls between two turns the first alone nudges, beside each drop.
+fn between_turns<R: Wait>(rt: &R, live: &mut Live) -> Outcome<bool> {
+    let quiet = !live.ear.hears()?;
+    let opening = live.connection.create_channel(rt, &mut live.pass)?;
+    let first = live.ear.hears()?;
+    let listener = live.connection.events_listener(rt, &mut live.pass)?;
+    drop(listener);
+    let second = live.connection.create_channel(rt, &mut live.pass)?;
+    let entries = live.connection.with_hub(rt, |hub| hub.entries());
+    let others = !live.ear.hears()? && entries >= 3;
+    drop(opening);
+    let drops = live.ear.hears()?;
+    drop(second);
+    Ok(quiet && first && others && drops && live.ear.hears()?)
+}
+
+fn nudges_by_turns<R: Net + Threads + Wait + Clock + Copy + Send + Drop + 'static>(
+    rt: R,
+    alloc: Global,
+) -> Outcome<bool> {
+    let mut live = begun(rt, alloc)?;
+    let once = stopped(&rt, &live) && between_turns(&rt, &mut live)?;
+    live.orders.store(GOES_ON, Ordering::SeqCst);
+    let again = turned(&rt, &live)? && stopped(&rt, &live) && between_turns(&rt, &mut live)?;
+    live.orders.store(ENDS, Ordering::SeqCst);
+    drop(live);
+    Ok(once && again)
+}
+
 #[test]
-fn each_command_and_each_drop_nudges(rt: HostRuntime) -> Result<(), Fail> {
+fn calls_between_two_turns_nudge_once(rt: HostRuntime) -> Result<(), Fail> {
+    assert!(rt; nudges_by_turns(rt, rt.alloc())?);
+    Ok(())
+}
+
+#[test]
+fn a_command_after_a_turn_and_each_drop_nudges(rt: HostRuntime) -> Result<(), Fail> {
     assert!(rt; each_nudges(rt, rt.alloc())?);
     Ok(())
 }
@@ -131,11 +191,11 @@ fn run_nudges<R: Net + Threads + Wait + Clock + Copy + Send + Drop + 'static>(
         connection,
         pass,
         mut ear,
-        over,
+        orders,
         waker,
     } = begun(rt, alloc)?;
     drop(pass);
-    over.store(1, Ordering::SeqCst);
+    orders.store(ENDS, Ordering::SeqCst);
     drop(connection.run(&rt));
     let heard = ear.hears();
     drop(waker);

@@ -14,12 +14,39 @@ use std::sync::atomic::{AtomicU64, Ordering};
 use std::thread;
 use std::time::{Clock, Duration};
 
-/// A port that has a link, and looks each 5 milliseconds whether its input is to end: once that says 1.
+/// The port goes on.
+pub const GOES_ON: u64 = 0;
+
+/// Its input is to end.
+pub const ENDS: u64 = 1;
+
+/// It is to stand still.
+pub const STOPS: u64 = 2;
+
+/// It stands still.
+pub const STANDS: u64 = 3;
+
+/// A port that has a link, and looks each 5 milliseconds what it is to do.
 #[derive(Drop)]
 pub struct Quiet<R> {
     rt: R,
-    over: Arc<AtomicU64>,
+    orders: Arc<AtomicU64>,
     linked: bool,
+}
+
+impl<R: Clock> Quiet<R> {
+    // Stands still for as long as it is to.
+    fn stand(&self) {
+        for _ in 0..u64::MAX {
+            let order = self.orders.load(Ordering::SeqCst);
+            if order == STOPS {
+                self.orders.store(STANDS, Ordering::SeqCst);
+            } else if order != STANDS {
+                return;
+            }
+            thread::sleep(&self.rt, Duration::from_millis(1));
+        }
+    }
 }
 
 impl<R: Clock + Drop> Port for Quiet<R> {
@@ -39,7 +66,8 @@ impl<R: Clock + Drop> Port for Quiet<R> {
                 step: Step::Linked,
             };
         }
-        if self.over.load(Ordering::SeqCst) == 1 {
+        self.stand();
+        if self.orders.load(Ordering::SeqCst) == ENDS {
             return Told {
                 at: 0,
                 step: Step::End,
@@ -66,11 +94,11 @@ pub struct QuietSpawner<R> {
 }
 
 impl<R> QuietSpawner<R> {
-    /// It gives a port with this waker, whose input ends once that says 1.
-    pub fn new(rt: R, waker: Arc<Waker>, over: Arc<AtomicU64>) -> QuietSpawner<R> {
+    /// It gives a port with this waker, which does what that says.
+    pub fn new(rt: R, waker: Arc<Waker>, orders: Arc<AtomicU64>) -> QuietSpawner<R> {
         QuietSpawner {
             rt,
-            given: Some((waker, over)),
+            given: Some((waker, orders)),
             loops: 0,
         }
     }
@@ -85,10 +113,10 @@ impl<R: Clock + Copy + Send + Drop + 'static> Spawner for QuietSpawner<R> {
 
     fn port(&mut self, _uri: &AMQPUri) -> Result<(Quiet<R>, Nudge), SpawnFault> {
         match self.given.take() {
-            Some((waker, over)) => {
+            Some((waker, orders)) => {
                 let port = Quiet {
                     rt: self.rt,
-                    over,
+                    orders,
                     linked: false,
                 };
                 Ok((port, Nudge::Mio(waker)))

@@ -76,8 +76,9 @@ impl Shared {
         let mut guard = self.locked.lock(rt);
         let told = guard.command(pass, cmd);
         self.keep_up(&mut guard);
+        let first = guard.nudge();
         drop(guard);
-        self.nudge.wake();
+        self.nudge_if(first);
         told
     }
 
@@ -92,8 +93,9 @@ impl Shared {
         let mut guard = self.locked.lock(rt);
         let told = guard.open(pass);
         self.keep_up(&mut guard);
+        let first = guard.nudge();
         drop(guard);
-        self.nudge.wake();
+        self.nudge_if(first);
         told
     }
 
@@ -116,13 +118,22 @@ impl Shared {
         let mut guard = self.locked.lock(rt);
         let told = guard.ask(pass, cmd);
         self.keep_up(&mut guard);
+        let first = guard.nudge();
         if answers {
             self.wake_all(guard);
         } else {
             drop(guard);
         }
-        self.nudge.wake();
+        self.nudge_if(first);
         told
+    }
+
+    // Nudges the loop, where that is still to be done once a hold has ended: within it the loop would find the
+    // lock taken.
+    fn nudge_if(&self, first: bool) {
+        if first {
+            self.nudge.wake();
+        }
     }
 
     // Wakes all who wait, tasks in the hold of this guard and threads once it has ended.
@@ -200,8 +211,9 @@ impl Shared {
         let mut guard = self.locked.lock(rt);
         let given = guard.lend(use_hub);
         self.keep_up(&mut guard);
+        let first = guard.nudge();
         self.wake_all(guard);
-        self.nudge.wake();
+        self.nudge_if(first);
         given
     }
 

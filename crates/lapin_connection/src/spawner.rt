@@ -51,7 +51,8 @@ pub trait Spawner {
     ghost loops: { Self → ℕ };
 
     /// A port for a connection to this address, which has no link yet, and what wakes it once a command
-    /// has come. A port that nothing wakes has to give a step at least each half second.
+    /// has come. Of the commands between two turns the first alone wakes it, so a port that was woken has to
+    /// give a step. One that nothing wakes has to give a step at least each half second.
     fn port(&mut self, uri: &AMQPUri) -> Result<(Self::P, Nudge), SpawnFault>
         ensures count { refusals self.old ≤ refusals self.new }
         ensures rose { RoseIfRefused result (refusals self.old) (refusals self.new) }

@@ -24,7 +24,8 @@ impl Locked {
             × LetsManyGo n self.old.unasked.items self.old.hub.engine.talk self.new.unasked.items
             self.new.hub.engine.talk }
         ensures rest { (self.new.hub ≡ (with_session self.new.hub.engine.talk (contents self.old)).hub)
-            × (self.new.places ≡ self.old.places) × (self.new.found ≡ self.old.found) }
+            × (self.new.places ≡ self.old.places) × (self.new.found ≡ self.old.found)
+            × (self.new.nudged ≡ self.old.nudged) }
     {
         let count = self.unasked.len().min(self.fresh.saturating_add(ASKED));
         self.fresh = 0;

@@ -11,4 +11,5 @@ invariant-let_go l =
       hub : l.self.hub ≡ (with_session l.self.hub.engine.talk (contents l.fn.self)).hub;
       places : l.self.places ≡ l.fn.self.places;
       found : l.self.found ≡ l.fn.self.found;
+      nudged : l.self.nudged ≡ l.fn.self.nudged;
     }

@@ -13,4 +13,4 @@ returns c =
     let found : (contents c.let_go.new.self).found ≡ (contents c.look-looked.new.self).found =
     ap (λ (v : _). map (λ (f : Found). f.owner) v.items) c.let_go.ensures.rest.2 in
     tidies c.look-looked.result (contents c.args.self.now) (contents c.look-looked.new.self) (contents c.let_go.new.self) c.let_go.ensures.some.0
-    c.look-looked.ensures.ok c.look-looked.ensures.err c.let_go.ensures.some.1 c.let_go.ensures.some.2 c.let_go.ensures.rest.0 places found
+    c.look-looked.ensures.ok c.look-looked.ensures.err c.let_go.ensures.some.1 c.let_go.ensures.some.2 c.let_go.ensures.rest.0 places found c.let_go.ensures.rest.3
