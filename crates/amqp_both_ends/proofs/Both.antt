@@ -16,8 +16,8 @@ use Rattle.amqp_engine.specs.Valid.{answered_in}
 use Rattle.amqp_double.specs.Replies.{replies}
 use Rattle.amqp_double.specs.Doubles.{fresh}
 use Rattle.amqp_owing.specs.Owed.{all_said}
-use Rattle.amqp_joined.specs.Plans.{JoinPlan, IsPlan, command_turns, turns_of}
-use Rattle.amqp_joined.specs.Joining.{Join, join, JoinsTurns, AreFed, asked_now, asked_then}
+use Rattle.amqp_joining.specs.Plans.{JoinPlan, IsPlan, command_turns, turns_of}
+use Rattle.amqp_joining.specs.Joining.{Join, join, JoinsTurns, AreFed, asked_now, asked_then}
 use Rattle.amqp_both_ends.specs.TwoEnds.{TwoEnds, unasked}
 use Rattle.amqp_both_ends.proofs.Counting.{turns_for}
 use Rattle.amqp_both_ends.proofs.Ending.{answered-closed}
@@ -36,7 +36,7 @@ fewer : (n : ℕ) (plan : JoinPlan) → n < 131543 + turns_for plan.commands →
 fewer n plan less within = let same = sums-for plan.commands in omega (arith, less, within, same)
 
 -- a new session has not ended
-new-runs : (t : Talk) → IsNew t → has_ended t ≡ false
+pub new-runs : (t : Talk) → IsNew t → has_ended t ≡ false
 new-runs t is_new = by is_new where
   by : IsNew t → has_ended t ≡ false
   by (config, inl is) = ap has_ended is

@@ -28,7 +28,7 @@ use Rattle.amqp_queued_rules.specs.Queues.{Queues, QueuesNothing}
 use Rattle.amqp_queued_rules.specs.Queued.{start_reply, reopenings, reply_to, opening_of, told_by, published_by}
 use Rattle.amqp_queued_rules.proofs.Parts.{alone-waiting}
 use Rattle.amqp_queued_rules.proofs.Telling.{queues-its-own}
-use Rattle.amqp_joined.specs.Plans.{command_turns}
+use Rattle.amqp_joining.specs.Plans.{command_turns}
 use Rattle.amqp_both_ends.proofs.Commanding.{IsQuiet}
 use Rattle.amqp_both_ends.proofs.Replying.{ReopensNone}
 use Rattle.amqp_both_ends.proofs.Weights.{weigh, brings, outlay, start-ok-earns, tune-weighs, close-weighs, channel-close-weighs, channel-open-weighs, channel-flow-weighs, secret-weighs, raw-weighs, pieces-weigh}

@@ -7,9 +7,9 @@ use Rattle.amqp_session.specs.declared.configuration.Configuration.{Configuratio
 use Rattle.amqp_engine.specs.Engine.{Engine}
 use Rattle.amqp_engine.specs.Sending.{Sending, frames_sent}
 use Rattle.amqp_double.specs.Replies.{replies, all_replies}
-use Rattle.amqp_joined.specs.Plans.{IsPlan, command_turns}
-use Rattle.amqp_joined.specs.Joining.{Join, output, place_after, next_cut, roomier, sent_on, commanded}
-use Rattle.amqp_joined.proofs.Marking.{all-at}
+use Rattle.amqp_joining.specs.Plans.{IsPlan, command_turns}
+use Rattle.amqp_joining.specs.Joining.{Join, output, place_after, next_cut, roomier, sent_on, commanded}
+use Rattle.amqp_joining.proofs.Lists.{all-at}
 use Rattle.amqp_both_ends.proofs.Writes.{pending}
 use Rattle.amqp_both_ends.proofs.Weights.{weigh, weigh-joined, weigh-both, size, brings, earns, outlay, replies-weigh}
 

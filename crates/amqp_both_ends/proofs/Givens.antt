@@ -21,7 +21,7 @@ use Rattle.amqp_engine.specs.SentWhole.{said_of}
 use Rattle.amqp_engine.specs.Valid.{SpelledFrame, LinkSaying, Theirs, Ours, after_sayings, whole_in, later_than, begun_in, all_bytes, sent_by_turns, sayings_of}
 use Rattle.amqp_engine.proofs.Begun.{IsPart}
 use Rattle.amqp_engine.proofs.Heeding.{flat}
-use Rattle.amqp_joined.specs.Joining.{place_after}
+use Rattle.amqp_joining.specs.Joining.{place_after}
 use Rattle.amqp_owing.specs.Owed.{all_said}
 use Rattle.amqp_both_ends.proofs.Spelling.{Spells}
 

@@ -7,7 +7,7 @@ use Rattle.amqp_engine.specs.declared.port.Step.TheVariants.{Linked, LinkFailed,
 use Rattle.amqp_engine.specs.Plan.{Coming}
 use Rattle.amqp_engine.specs.Engine.{Engine}
 use Rattle.amqp_engine.specs.Turn.{Turn}
-use Rattle.amqp_joined.specs.Joining.{Join, JoinsTurn, output, comes, next_cut, next_command, roomier, sent_on, commanded, asked_now}
+use Rattle.amqp_joining.specs.Joining.{Join, JoinsTurn, output, comes, next_cut, next_command, roomier, sent_on, commanded, asked_now}
 
 -- ---- the step after the link
 

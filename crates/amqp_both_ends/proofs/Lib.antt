@@ -48,3 +48,7 @@ pub mod Replaying
 pub mod Served
 -- Both ends close.
 pub mod Both
+-- What is asked of the provider, and that what it answers can be said.
+pub mod Logins
+-- The same of the provider of an address.
+pub mod DefaultLogins

@@ -47,8 +47,8 @@ use Rattle.amqp_engine.proofs.Stepping.{part-engine}
 use Rattle.amqp_double.specs.Replies.{replies}
 use Rattle.amqp_double.specs.Doubles.{DoubleState, fresh, HasAnswered}
 use Rattle.amqp_owing.specs.Owed.{all_said}
-use Rattle.amqp_joined.specs.Plans.{JoinPlan, IsPlan}
-use Rattle.amqp_joined.specs.Joining.{Join, join, JoinsOffers, JoinsTurn, comes, roomier, after_join_step, asked_now}
+use Rattle.amqp_joining.specs.Plans.{JoinPlan, IsPlan}
+use Rattle.amqp_joining.specs.Joining.{Join, join, JoinsOffers, JoinsTurn, comes, roomier, after_join_step, asked_now}
 use Rattle.amqp_both_ends.specs.TwoEnds.{unasked}
 use Rattle.amqp_both_ends.proofs.Apart.{start-serves}
 use Rattle.amqp_both_ends.proofs.Later.{later_step, after_later}

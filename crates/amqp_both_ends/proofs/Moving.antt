@@ -40,7 +40,7 @@ use Rattle.amqp_engine.proofs.Stepping.{sound-step, tuned-step}
 use Rattle.amqp_engine.proofs.Follows.{met-step, piece-unread}
 use Rattle.amqp_double.specs.Doubles.{DoubleState, HasAnswered}
 use Rattle.amqp_owing.specs.Owed.{all_said}
-use Rattle.amqp_joined.specs.Joining.{Join, output, next_cut, sent_on}
+use Rattle.amqp_joining.specs.Joining.{Join, output, next_cut, sent_on}
 use Rattle.amqp_both_ends.proofs.Deals.{Spoken, Deals}
 use Rattle.amqp_both_ends.proofs.Outgoing.{waiting}
 use Rattle.amqp_both_ends.proofs.Tied.{sendable, told-now}

@@ -72,7 +72,7 @@ use Rattle.amqp_engine.specs.Valid.{agreed_frame_max}
 use Rattle.amqp_engine.proofs.TunedWrites.{first-frame_max}
 use Rattle.amqp_engine.proofs.Asks.{told-frame, asked_in}
 use Rattle.amqp_owing.specs.Owed.{IsReply, all_said}
-use Rattle.amqp_joined.specs.Joining.{Join, output}
+use Rattle.amqp_joining.specs.Joining.{Join, output}
 use Rattle.amqp_both_ends.proofs.Apart.{some-none, none-joined, none-behind, start-serves, tune-serves, open-serves, start-opens, tune-opens}
 use Rattle.amqp_both_ends.proofs.Deals.{Spoken, Deals, HeardOne, deals-heard, HasClosed, closed-gone}
 use Rattle.amqp_both_ends.proofs.Outgoing.{waiting}

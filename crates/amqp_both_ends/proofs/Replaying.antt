@@ -27,8 +27,8 @@ use Rattle.amqp_engine.proofs.Offers.{answered-starved}
 use Rattle.amqp_engine.proofs.Over.{turn-is}
 use Rattle.amqp_engine.proofs.Overlong.{refuses-starved}
 use Rattle.amqp_engine.proofs.Playing.{auths_in}
-use Rattle.amqp_joined.specs.Plans.{JoinPlan}
-use Rattle.amqp_joined.specs.Joining.{Join, JoinWrites, JoinsOffers, JoinsTurns, AreFed, output, comes, next_cut, next_command, roomier, sent_on, commanded, after_join_step, asked_now, asked_then}
+use Rattle.amqp_joining.specs.Plans.{JoinPlan}
+use Rattle.amqp_joining.specs.Joining.{Join, JoinWrites, JoinsOffers, JoinsTurns, AreFed, output, comes, next_cut, next_command, roomier, sent_on, commanded, after_join_step, asked_now, asked_then}
 use Rattle.amqp_both_ends.proofs.Later.{later_step, after_later, later-linked, later-told}
 use Rattle.amqp_both_ends.proofs.Givens.{given_step, room_after_step, given_of, givens}
 use Rattle.amqp_both_ends.proofs.Turning.{offers-keep}

@@ -31,7 +31,7 @@ use Rattle.amqp_engine.proofs.Replies.{turn-sayable}
 use Rattle.amqp_double.specs.Replies.{replies}
 use Rattle.amqp_double.specs.Doubles.{HasAnswered}
 use Rattle.amqp_owing.specs.Owed.{all_said}
-use Rattle.amqp_joined.specs.Joining.{Join, output, comes, next_cut, next_command, JoinsTurn, JoinsTurns, AreFed, asked_now, asked_then}
+use Rattle.amqp_joining.specs.Joining.{Join, output, comes, next_cut, next_command, JoinsTurn, JoinsTurns, AreFed, asked_now, asked_then}
 use Rattle.amqp_both_ends.proofs.Deals.{Deals}
 use Rattle.amqp_both_ends.proofs.Apart.{only-one}
 use Rattle.amqp_both_ends.proofs.Spelling.{Spells}
@@ -145,7 +145,7 @@ module _ (options : Options) (numbers : Configuration) (most : is_frame_max numb
     pub speaks : (rooms : List ℕ) (at : ℕ) → Speaks rooms at us e (x ∷ []) s
 
   -- no turn comes after the end
-  none-after : (us : List Turn) (e : Engine) → IsOver e.talk → AreTurns us e → us ≡ []
+  pub none-after : (us : List Turn) (e : Engine) → IsOver e.talk → AreTurns us e → us ≡ []
   none-after [] e over may = refl
   none-after (u ∷ us) e over may = absurd (true≢false (sym (ap is_some over.over) ∙ may.0.running))
 

@@ -26,8 +26,8 @@ use Rattle.amqp_engine.proofs.PlayedOn.{new-wants}
 use Rattle.amqp_engine.proofs.Playing.{auths_in, turns-played}
 use Rattle.amqp_double.specs.Doubles.{fresh}
 use Rattle.amqp_owing.specs.Owed.{all_said}
-use Rattle.amqp_joined.specs.Plans.{JoinPlan}
-use Rattle.amqp_joined.specs.Joining.{Join, join, JoinsTurns, AreFed, comes, roomier, asked_now, asked_then}
+use Rattle.amqp_joining.specs.Plans.{JoinPlan}
+use Rattle.amqp_joining.specs.Joining.{Join, join, JoinsTurns, AreFed, comes, roomier, asked_now, asked_then}
 use Rattle.amqp_both_ends.specs.TwoEnds.{AreServed, IsLinkedInRoom, unasked}
 use Rattle.amqp_both_ends.proofs.Givens.{given_step, room_after_step, given_of, givens, Speaks, speaks-none}
 use Rattle.amqp_both_ends.proofs.Turning.{offers-keep}

@@ -33,8 +33,8 @@ use Rattle.amqp_engine.specs.Account.{History, HasHistory}
 use Rattle.amqp_engine.proofs.Agreeing.{AgreesOn}
 use Rattle.amqp_engine.proofs.Serving.{front-whole}
 use Rattle.amqp_owing.specs.Owed.{all_said}
-use Rattle.amqp_joined.specs.Joining.{Join, output}
-use Rattle.amqp_joined.proofs.Quiet.{quiet-connected}
+use Rattle.amqp_joining.specs.Joining.{Join, output}
+use Rattle.amqp_joining.proofs.Quiet.{quiet-connected}
 use Rattle.amqp_both_ends.proofs.Deals.{Spoken, Deals, deals-heard, HasClosed}
 use Rattle.amqp_both_ends.proofs.Outgoing.{waiting, IsIdle}
 use Rattle.amqp_both_ends.proofs.Spelling.{Spells}

@@ -15,7 +15,7 @@ use Rattle.amqp_engine.specs.Engine.{Engine}
 use Rattle.amqp_engine.specs.Turn.{Turn, asks, turn, StepCanBeTold, IsFit, AreFit}
 use Rattle.amqp_engine.specs.Tell.{offers_of}
 use Rattle.amqp_engine.specs.Valid.{IsQuiet, IsShort, MomentsRise, EndsWithBytes}
-use Rattle.amqp_joined.specs.Joining.{Join, output, comes, next_cut, next_command, roomier, after_join_step, JoinsOffers, JoinsTurn, JoinsTurns, asked_now, asked_then}
+use Rattle.amqp_joining.specs.Joining.{Join, output, comes, next_cut, next_command, roomier, after_join_step, JoinsOffers, JoinsTurn, JoinsTurns, asked_now, asked_then}
 use Rattle.amqp_both_ends.proofs.Later.{later_step, after_later, later-linked, later-told}
 use Rattle.amqp_both_ends.proofs.Givens.{given_step, room_after_step, given_of, givens}
 use Rattle.amqp_both_ends.proofs.Turning.{offers-keep}

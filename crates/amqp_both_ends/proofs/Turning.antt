@@ -30,9 +30,9 @@ use Rattle.amqp_engine.proofs.Lifting.{read-cut}
 use Rattle.amqp_double.specs.Doubles.{DoubleState}
 use Rattle.amqp_double.specs.Replies.{replies}
 use Rattle.amqp_owing.specs.Owed.{all_said}
-use Rattle.amqp_joined.specs.Plans.{JoinPlan, IsPlan}
-use Rattle.amqp_joined.specs.Joining.{Join, JoinWrites, JoinsOffers}
-use Rattle.amqp_joined.specs.Writes.{committed_through}
+use Rattle.amqp_joining.specs.Plans.{JoinPlan, IsPlan}
+use Rattle.amqp_joining.specs.Joining.{Join, JoinWrites, JoinsOffers}
+use Rattle.amqp_joining.specs.Writes.{committed_through}
 use Rattle.amqp_both_ends.proofs.Deals.{HasClosed}
 use Rattle.amqp_both_ends.proofs.Outgoing.{IsIdle}
 use Rattle.amqp_both_ends.proofs.Writes.{pending, Mid, AreNoted, first_taken, written, same-said}

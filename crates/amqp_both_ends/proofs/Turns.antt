@@ -55,8 +55,8 @@ use Rattle.amqp_engine.proofs.Stepping.{part-engine, part-piece}
 use Rattle.amqp_double.specs.Replies.{replies}
 use Rattle.amqp_double.specs.Doubles.{DoubleState, HasAnswered}
 use Rattle.amqp_owing.specs.Owed.{all_said}
-use Rattle.amqp_joined.specs.Plans.{command_turns}
-use Rattle.amqp_joined.specs.Joining.{Join, JoinWrites, JoinsOffers, JoinsTurn, output, comes, next_cut, next_command, roomier, sent_on, commanded, after_join_step, asked_now}
+use Rattle.amqp_joining.specs.Plans.{command_turns}
+use Rattle.amqp_joining.specs.Joining.{Join, JoinWrites, JoinsOffers, JoinsTurn, output, comes, next_cut, next_command, roomier, sent_on, commanded, after_join_step, asked_now}
 use Rattle.amqp_both_ends.proofs.Later.{later_step, after_later, IsLater, is-later, later-linked, later-full, later-told}
 use Rattle.amqp_both_ends.proofs.Apart.{tails-same, open-closed}
 use Rattle.amqp_both_ends.proofs.Deals.{Deals, HasClosed}

@@ -44,8 +44,8 @@ use Rattle.amqp_engine.proofs.SpelledLinks.{read-any}
 use Rattle.amqp_double.specs.Replies.{replies, reply_octets, all_replies}
 use Rattle.amqp_double.specs.Doubles.{HasAnswered}
 use Rattle.amqp_owing.specs.Owed.{all_said}
-use Rattle.amqp_joined.specs.Joining.{Join, output, HasFed, JoinWrites, JoinsOffers}
-use Rattle.amqp_joined.specs.Writes.{committed_through}
+use Rattle.amqp_joining.specs.Joining.{Join, output, HasFed, JoinWrites, JoinsOffers}
+use Rattle.amqp_joining.specs.Writes.{committed_through}
 use Rattle.amqp_both_ends.proofs.Deals.{Deals, deals-all}
 use Rattle.amqp_both_ends.proofs.Apart.{only-one}
 use Rattle.amqp_both_ends.proofs.ReadSent.{ReadAll, read-sent}

@@ -1,2 +1,3 @@
 -- What is believed of both ends joined.
 pub mod TwoEnds
+pub mod Logins

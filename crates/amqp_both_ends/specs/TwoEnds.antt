@@ -10,8 +10,8 @@ use Rattle.amqp_engine.specs.Play.{replayed}
 use Rattle.amqp_engine.specs.Plan.{coming_of}
 use Rattle.amqp_engine.specs.Valid.{IsQuiet, IsFaultless, answered_in}
 use Rattle.amqp_double.specs.Doubles.{HasAnswered}
-use Rattle.amqp_joined.specs.Plans.{JoinPlan, turns_of}
-use Rattle.amqp_joined.specs.Joining.{Join, output}
+use Rattle.amqp_joining.specs.Plans.{JoinPlan, turns_of}
+use Rattle.amqp_joining.specs.Joining.{Join, output}
 
 -- first comes a link with some room, and no other, and nothing fails
 abbrev pub IsLinkedInRoom : List Given → Type 0

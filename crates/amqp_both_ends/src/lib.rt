@@ -3,4 +3,4 @@
 
 mod laws;
 
-pub use laws::both_ends_close;
+pub use laws::{a_default_login_is_said, both_ends_close};

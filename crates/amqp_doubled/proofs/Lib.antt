@@ -4,3 +4,6 @@ pub mod OtherWords
 pub mod Statuses
 -- The line of a session that ended Closed.
 pub mod Summaries
+-- Both ends of the plan close.
+pub mod Says
+pub mod Endings

@@ -1,11 +1,10 @@
 -- Words that ask to double ask for nothing else; and the number is at most 2,000.
-use Rattle.std.proofs.Common.{◌≡◌, ◌∙◌, ap, sym, refl, subst, ◌&&◌, ◌==◌, if◌then◌else◌, ℕ, Bool, true, false, true≢false, List, [], ◌∷◌, Option, Some, None, option_map, codes, arith}
+use Rattle.std.proofs.Common.{◌≡◌, ap, sym, refl, ◌==◌, if◌then◌else◌, ℕ, Bool, true, false, true≢false, List, [], ◌∷◌, Some, None, option_map, codes, arith}
 use Rattle.std.proofs.lemmas.Bool.Decides.{nat_tests}
 use Rattle.std.specs.Str.{bytes_eq}
 use Rattle.amqp_types.proofs.Small.{and-left, if-false}
 use Rattle.amqp_replay.specs.declared.limits.TheConstants.{MOST_GENERATED}
 use Rattle.amqp_replay.specs.Decimals.{decimal_number}
-use Rattle.amqp_program.specs.declared.asked.Asked.{Asked}
 use Rattle.amqp_program.specs.declared.asked.Asked.TheVariants.{Generate}
 use Rattle.amqp_program.specs.Asked.{asked_by_words}
 use Rattle.amqp_doubled.specs.Numbers.{doubled_number}

@@ -1,12 +1,12 @@
 -- Which statuses a printout has.
-use Rattle.std.proofs.Common.{◌≡◌, ◌<◌, ◌⊎◌, ap, sym, inl, inr, refl, subst, ℕ, Option, Some, None, Result, Ok, Err, length, arith}
+use Rattle.std.proofs.Common.{◌≡◌, ◌<◌, ◌⊎◌, sym, inl, inr, refl, subst, ℕ, Option, Some, None, Result, Ok, Err, arith}
 use Rattle.amqp_promise.specs.declared.error.ErrorKind.{ErrorKind}
 use Rattle.amqp_session.specs.Talk.{end_of}
 use Rattle.amqp_replay.specs.declared.status.TheConstants.{CLOSED, FAILED, RUNNING}
 use Rattle.amqp_replay.specs.Report.{Printout}
 use Rattle.amqp_replay.specs.Top.{end_status}
 use Rattle.amqp_replay.proofs.Statuses.{IsLoud}
-use Rattle.amqp_doubled.specs.Doubling.{doubled_printout, IsDoubled}
+use Rattle.amqp_doubled.specs.Doubling.{IsDoubled}
 
 loud_status : (n : ℕ) → (n < 2) ⊎ (n ≡ 5) ⊎ (n ≡ 6) → IsLoud n
 loud_status n which =

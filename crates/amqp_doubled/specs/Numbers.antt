@@ -8,7 +8,7 @@ use Rattle.amqp_session.specs.declared.configuration.Configuration.{Configuratio
 use Rattle.amqp_replay.specs.declared.limits.TheConstants.{MOST_GENERATED}
 use Rattle.amqp_replay.specs.Decimals.{decimal_number}
 use Rattle.amqp_replay.specs.Grammar.{numbered, sent_method}
-use Rattle.amqp_joined.specs.Plans.{JoinPlan}
+use Rattle.amqp_joining.specs.Plans.{JoinPlan}
 
 -- `double N`, N being decimal digits of a number from 0 to 2,000
 abbrev pub double_in : List ℕ → List ℕ → Option ℕ

@@ -1,14 +1,14 @@
 //! Both ends joined by the plan of a number, and what is printed of that.
 
-ghost use Rattle.std.specs.Prelude.{◌≡◌, ◌≢◌, ◌≤◌, ◌⊎◌, ◌↔◌, Some, None, Ok, Err, IfOk, IsTrue, length};
+ghost use Rattle.std.specs.Prelude.{◌≡◌, ◌≢◌, ◌≤◌, ◌⊎◌, ◌↔◌, ℕ, Some, None, Ok, Err, IfOk, IsTrue};
 ghost use Rattle.amqp_promise.specs.declared.error.ErrorKind.{ErrorKind};
 ghost use Rattle.amqp_uri.specs.Address.{local};
 ghost use Rattle.amqp_session.specs.Talk.{Talk, end_of};
-ghost use Rattle.amqp_engine.specs.Engine.{Engine};
 ghost use Rattle.amqp_replay.specs.Ends.{FailedOnce};
 ghost use Rattle.amqp_replay.specs.Top.{end_status, IsSilent};
-ghost use Rattle.amqp_joined.specs.Ports.{JoinedState};
-ghost use Rattle.amqp_doubled.specs.Doubling.{doubled_printout, doubled_port, doubled_engine, HasRun, Doubles, IsDoubled};
+ghost use Rattle.amqp_session.specs.Config.{no_options};
+ghost use Rattle.amqp_both_ends.specs.Logins.{SaysLogins};
+ghost use Rattle.amqp_doubled.specs.Doubling.{doubled_printout, doubled_port, doubled_engine, Doubles, IsDoubled};
 
 use crate::commands::plan_of;
 use crate::summary::closed_summary;
@@ -37,6 +37,7 @@ const NUMBERS: Configuration = Configuration {
 pub fn double<K: Sink>(alloc: Global, count: u16, sink: &mut K) -> u8
     requires { count ≤ 2000 }
     ensures known { (result ≢ USAGE) × (result ≢ SOURCE_FAILED) }
+    ensures closed { (result ≡ CLOSED) ⊎ (result ≡ SINK_FAILED) ⊎ (result ≡ NO_MEMORY) }
     ensures sink_failed { result ≡ SINK_FAILED → FailedOnce (K.faults sink.old) (K.faults sink.new) }
     ensures sink_kept { result ≢ SINK_FAILED → K.faults sink.new ≡ K.faults sink.old }
     ensures silent { IsSilent result → K.held sink.new ≡ K.held sink.old }
@@ -76,8 +77,7 @@ fn port_of(alloc: Global, count: u16) -> Result<JoinedPort, NoMemory>
 
 // What is printed of a run of a new engine over the port.
 fn print_over(alloc: Global, port: &mut JoinedPort) -> Result<Printout, NoMemory>
-    ensures { IfOk result (λ p. (e : Engine) × HasRun port.old doubled_engine port.new e
-        × (p ≡ doubled_printout (length port.new.join.taken) e.talk)) }
+    ensures { IfOk result (λ p. (count : ℕ) → count ≤ 2000 → port.old ≡ doubled_port count → IsDoubled count p) }
 {
     let uri = AMQPUri::local(alloc)?;
     match DefaultAuthProvider::new(alloc, &uri) {
@@ -103,8 +103,8 @@ fn print_by<A: AuthProvider>(
 ) -> Result<Printout, NoMemory>
     requires can { A.can provider.old }
     requires local { uri.now ≡ local }
-    ensures { IfOk result (λ p. (e : Engine) × HasRun port.old doubled_engine port.new e
-        × (p ≡ doubled_printout (length port.new.join.taken) e.talk)) }
+    ensures { IfOk result (λ p. (count : ℕ) → count ≤ 2000 → port.old ≡ doubled_port count
+        → SaysLogins no_options (A.allows provider.old) → IsDoubled count p) }
 {
     let mut engine = new_engine(alloc, uri)?;
     let printout = print_run(alloc, &mut engine, provider, port);
@@ -124,7 +124,7 @@ fn new_engine(alloc: Global, uri: &AMQPUri) -> Result<IoLoop, NoMemory>
     }
 }
 
-// What is printed of a run of this engine.
+// What is printed of a run of this engine, unless memory was refused in it.
 fn print_run<A: AuthProvider>(
     alloc: Global,
     engine: &mut IoLoop,
@@ -132,12 +132,15 @@ fn print_run<A: AuthProvider>(
     port: &mut JoinedPort,
 ) -> Result<Printout, NoMemory>
     requires { A.can provider.old }
-    ensures { IfOk result (λ p. (e : Engine) × HasRun port.old engine.old port.new e
-        × (p ≡ doubled_printout (length port.new.join.taken) e.talk)) }
+    ensures { IfOk result (λ p. (count : ℕ) → count ≤ 2000 → port.old ≡ doubled_port count
+        → engine.old ≡ doubled_engine → SaysLogins no_options (A.allows provider.old) → IsDoubled count p) }
 {
     let turns = port.plan().turns();
     // What is printed tells how the session ended.
     drop(port.run(engine, provider, turns));
+    if engine.starved().is_some() {
+        return Err(NoMemory);
+    }
     print_end(alloc, port.taken(), engine)
 }
 

@@ -15,7 +15,7 @@ use crate::doubling::double;
 use crate::words::doubled_number;
 use amqp_engine::ScriptedPort;
 use amqp_program::top::top;
-use amqp_replay::status::{NO_MEMORY, SINK_FAILED, SOURCE_FAILED, USAGE};
+use amqp_replay::status::{CLOSED, NO_MEMORY, SINK_FAILED, SOURCE_FAILED, USAGE};
 use amqp_replay::{Sink, Source};
 use amqp_session::AuthProvider;
 use amqp_types::Text;
@@ -59,6 +59,8 @@ pub fn top_doubled<S: Source, K: Sink, P: ScriptedPort, A: AuthProvider>(
     ensures untouched { asked_by_words words.now ≡ None → P.log port.new ≡ P.log port.old }
     ensures doubled { (count : ℕ) → doubled_number words.now ≡ Some count → (result ≡ NO_MEMORY)
         ⊎ Doubles count (K.held sink.old) (K.held sink.new) result }
+    ensures doubled_ends { (count : ℕ) → doubled_number words.now ≡ Some count
+        → (result ≡ CLOSED) ⊎ (result ≡ SINK_FAILED) ⊎ (result ≡ NO_MEMORY) }
     ensures unread { IsFalse (reads_source (asked_by_words words.now))
         → (S.left source.new ≡ S.left source.old) × (S.faults source.new ≡ S.faults source.old) }
 {

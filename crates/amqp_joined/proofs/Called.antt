@@ -1,12 +1,12 @@
 -- The same, as the calls have it: a count, a place and a state of the double by their own names.
-use Rattle.std.proofs.Common.{◌≡◌, ◌≤◌, ◌∙◌, ap, sym, refl, subst, ℕ, ◌+◌, ◌-◌, ◌&&◌, ◌==◌, not, min, Bool, true, false, List, [], ◌∷◌, ◌++◌, length, take, Option, Some, None}
-use Rattle.std.specs.Prelude.{slice_index, nat_lt, vec_capacity}
+use Rattle.std.proofs.Common.{◌≡◌, ◌∙◌, ap, sym, subst, ℕ, ◌+◌, ◌==◌, true, false, List, [], ◌∷◌, ◌++◌, length, take}
+use Rattle.std.specs.Prelude.{slice_index, vec_capacity}
 use Rattle.amqp_engine.specs.declared.port.Step.TheVariants.{Linked, Piece}
 use Rattle.amqp_engine.specs.Plan.{at_most_64}
 use Rattle.amqp_double.specs.Doubles.{DoubleState}
 use Rattle.amqp_joined.specs.declared.inside.Inside.{Inside}
 use Rattle.amqp_joined.specs.declared.marks.Marked.TheVariants as marked
-use Rattle.amqp_joined.specs.Joining.{next_cut, place_after}
+use Rattle.amqp_joining.specs.Joining.{next_cut, place_after}
 use Rattle.amqp_joined.specs.Insides.{join_of, output_of, Holds, TellsByRule}
 use Rattle.amqp_joined.proofs.Steps.{wants, tells_linked, tells_piece}
 

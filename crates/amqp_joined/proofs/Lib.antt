@@ -2,6 +2,12 @@
 pub mod Marking
 pub mod Steps
 pub mod Called
--- The writes of a turn keep the tie of both ends, and the quiet lemma.
-pub mod Draws
-pub mod Quiet
+pub mod Stories
+-- What was told says what happened: back over it, a turn at a time.
+pub mod Reaching
+pub mod Backwards
+pub mod Joins
+-- What is taken is on the one link.
+pub mod OneLink
+-- Turns of a run, and what they come to.
+pub mod Taking

@@ -1,14 +1,14 @@
 -- Marks of what was told: they are told alike, whatever is said behind it.
-use Rattle.std.proofs.Common.{◌≡◌, ◌≤◌, ◌<◌, ◌∙◌, ap, sym, refl, subst, ℕ, ◌+◌, ◌-◌, Bool, true, false, if◌then◌else◌, List, [], ◌∷◌, ◌++◌, length, map, take, drop, Option, Some, None, arith, length-append, length-drop}
-use Rattle.std.specs.Prelude.{slice_index, slice_index_or}
+use Rattle.std.proofs.Common.{◌≡◌, ◌≤◌, ◌∙◌, ap, refl, ℕ, ◌+◌, Bool, true, false, List, [], ◌∷◌, ◌++◌, length, map, take, drop, Option, arith, length-drop}
+use Rattle.std.specs.Prelude.{slice_index_or}
 use Rattle.std.specs.List.{AllByRecursion}
 use Rattle.std.proofs.lemmas.List.{map-append, take-append-le, drop-append-le}
-use Rattle.std.proofs.lemmas.List.Elements.{All-from_recursion}
 use Rattle.amqp_session.specs.declared.command.Cmd.{Cmd}
 use Rattle.amqp_engine.specs.declared.port.Happening.{Happening}
 use Rattle.amqp_engine.specs.declared.port.Write.{Write}
 use Rattle.amqp_engine.specs.Plan.{Plan}
 use Rattle.amqp_engine.specs.Log.{Log}
+use Rattle.amqp_joining.proofs.Lists.{all-weaker}
 use Rattle.amqp_joined.specs.declared.marks.Mark.{Mark}
 use Rattle.amqp_joined.specs.declared.marks.Marked.{Marked}
 use Rattle.amqp_joined.specs.declared.marks.Marked.TheVariants as marked
@@ -16,17 +16,6 @@ use Rattle.amqp_joined.specs.Ports.{marked_octets, marked_step, marked_happening
 use Rattle.amqp_joined.specs.Insides.{IsToldMark, place_where}
 
 -- ---- lists
-
-pub all-push : {A : Type 0} (P : A → Type 0) (xs : List A) (x : A) → AllByRecursion P xs → P x → AllByRecursion P (xs ++ x ∷ [])
-all-push P [] x all h = (h, tt)
-all-push P (y ∷ xs) x all h = (all.0, all-push P xs x all.1 h)
-
-pub all-weaker : {A : Type 0} (P Q : A → Type 0) → ((x : A) → P x → Q x) → (xs : List A) → AllByRecursion P xs → AllByRecursion Q xs
-all-weaker P Q h [] all = tt
-all-weaker P Q h (x ∷ xs) all = (h x all.0, all-weaker P Q h xs all.1)
-
-pub all-at : (P : ℕ → Type 0) (xs : List ℕ) (i : ℕ) → AllByRecursion P xs → i < length xs → P (slice_index xs i)
-all-at P xs i all within = All-from_recursion P xs all i 0 within
 
 pub behind-front : {A : Type 0} (xs rest : List A) (x d : A) → slice_index_or (xs ++ x ∷ rest) (length xs) d ≡ x
 behind-front [] rest x d = refl

@@ -1,6 +1,6 @@
 -- Each step is told by its rule, and each write is answered by its own.
-use Rattle.std.proofs.Common.{◌≡◌, ◌≤◌, ◌<◌, ◌∙◌, ap, sym, refl, subst, ℕ, zero, suc, ◌+◌, ◌-◌, ◌%◌, ◌&&◌, ◌==◌, not, min, Bool, true, false, true≢false, if◌then◌else◌, List, [], ◌∷◌, ◌++◌, length, map, take, drop, Option, Some, None, is_some, arith, append_assoc, append-nil, length-append, length-drop}
-use Rattle.std.specs.Prelude.{slice_index, slice_index_or, nat_lt, vec_capacity}
+use Rattle.std.proofs.Common.{◌≡◌, ◌≤◌, ◌<◌, ◌∙◌, ap, sym, refl, subst, ℕ, zero, suc, ◌+◌, ◌-◌, ◌&&◌, ◌==◌, not, min, Bool, true, false, true≢false, if◌then◌else◌, List, [], ◌∷◌, ◌++◌, length, map, take, drop, Option, Some, None, is_some, arith, append_assoc, length-append, length-drop}
+use Rattle.std.specs.Prelude.{slice_index, nat_lt, vec_capacity}
 use Rattle.std.specs.List.{AllByRecursion}
 use Rattle.std.proofs.Math.Nat.{mod-lt}
 use Rattle.std.proofs.lemmas.List.{drop-append-le}
@@ -16,16 +16,17 @@ use Rattle.amqp_engine.specs.declared.port.Wrote.TheVariants.{Took, Failed, NoMe
 use Rattle.amqp_engine.specs.declared.port.Happening.{Happening}
 use Rattle.amqp_engine.specs.declared.port.Write.{Write}
 use Rattle.amqp_engine.specs.Plan.{Coming, at_most_64}
-use Rattle.amqp_engine.specs.Log.{Log, log_step, log_write, on_last, links_after}
+use Rattle.amqp_engine.specs.Log.{on_last}
 use Rattle.amqp_double.specs.Doubles.{DoubleState, greatest_limit, fresh, AnswersClient}
 use Rattle.amqp_joined.specs.declared.inside.Inside.{Inside}
 use Rattle.amqp_joined.specs.declared.marks.Mark.{Mark}
 use Rattle.amqp_joined.specs.declared.marks.Marked.TheVariants as marked
-use Rattle.amqp_joined.specs.Plans.{IsPlan, join_plan_of}
-use Rattle.amqp_joined.specs.Joining.{Join, comes, next_cut, next_command, next_step, after_join_step, place_after, output, roomier, sent_on, commanded, JoinWrites}
-use Rattle.amqp_joined.specs.Ports.{KeptPlan, last_close, command_at, marked_happening, kept_plan, TellsStep}
-use Rattle.amqp_joined.specs.Insides.{join_of, log_of, joined_state_of, output_of, IsToldMark, place_where, places_wanted, AreLast, IsLastClose, Holds, TellsByRule, WritesByRule, Feeds, OnlyRoomier}
-use Rattle.amqp_joined.proofs.Marking.{all-push, all-at, behind-front, behind-all, place-most, marks-stay, still-marked, told-more, same-log}
+use Rattle.amqp_joining.specs.Plans.{IsPlan, join_plan_of}
+use Rattle.amqp_joining.specs.Joining.{Join, comes, next_cut, next_command, next_step, after_join_step, place_after, output, roomier, sent_on, commanded, JoinWrites}
+use Rattle.amqp_joined.specs.Ports.{KeptPlan, last_close, command_at, marked_happening, kept_plan}
+use Rattle.amqp_joined.specs.Insides.{join_of, joined_state_of, output_of, IsToldMark, place_where, AreLast, IsLastClose, Holds, TellsByRule, WritesByRule, Feeds, OnlyRoomier}
+use Rattle.amqp_joining.proofs.Lists.{all-push, all-at}
+use Rattle.amqp_joined.proofs.Marking.{behind-front, behind-all, place-most, marks-stay, still-marked, told-more, same-log}
 
 -- ---- there are places
 

@@ -1,5 +1,5 @@
 -- What is inside a joined port, and what its private calls do.
-use Rattle.std.specs.Prelude.{◌≡◌, ◌≤◌, ◌<◌, ℕ, ◌+◌, ◌-◌, not, Bool, true, false, List, [], ◌++◌, length, drop, Option, Some, None, is_some, vec_capacity}
+use Rattle.std.specs.Prelude.{◌≡◌, ◌≤◌, ◌<◌, ℕ, ◌+◌, ◌-◌, not, Bool, true, false, List, ◌++◌, length, drop, Option, Some, None, is_some, vec_capacity}
 use Rattle.std.specs.List.{AllByRecursion}
 use Rattle.amqp_session.specs.declared.command.Cmd.{Cmd}
 use Rattle.amqp_engine.specs.declared.port.Step.{Step}
@@ -11,9 +11,10 @@ use Rattle.amqp_joined.specs.declared.marks.Mark.{Mark}
 use Rattle.amqp_joined.specs.declared.marks.Marked.{Marked}
 use Rattle.amqp_joined.specs.declared.marks.Marked.TheVariants as marked
 use Rattle.amqp_joined.specs.declared.inside.Inside.{Inside}
-use Rattle.amqp_joined.specs.Plans.{IsPlan, join_plan_of}
-use Rattle.amqp_joined.specs.Joining.{Join, HasFed, JoinWrites}
+use Rattle.amqp_joining.specs.Plans.{IsPlan, join_plan_of}
+use Rattle.amqp_joining.specs.Joining.{Join, HasFed, JoinWrites}
 use Rattle.amqp_joined.specs.Ports.{JoinedState, last_close, joined_log, TellsStep}
+use Rattle.amqp_joined.specs.Reached.{HasCome}
 
 -- how far the plan and the double are
 abbrev pub join_of : Inside → Join
@@ -83,6 +84,11 @@ pub record Holds (p : Inside) : Type 0 where
   pub answers : AnswersClient p.double
   pub begins : p.link_at ≤ length p.taken.items
   pub places : length p.marks.items + places_wanted p ≤ vec_capacity p.marks
+
+-- this holds of it, and what it tells says how it came to be as it is
+pub record HoldsAll (p : Inside) : Type 0 where
+  pub holds : Holds p
+  pub reached : HasCome (joined_state_of p)
 
 -- ---- what its calls do
 

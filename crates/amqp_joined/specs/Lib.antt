@@ -1,8 +1,6 @@
--- What is believed: a plan, and what a port tells by it.
-pub mod Plans
-pub mod Joining
+-- What is believed: what a joined port tells of itself, how it came to that, and what a run over it comes to.
 pub mod Ports
+pub mod Reached
+pub mod JoinedRuns
 -- What the contracts of private calls are stated with.
 pub mod Insides
--- What the lemmas on the writes of a turn are stated with.
-pub mod Writes

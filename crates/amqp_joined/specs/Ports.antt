@@ -12,8 +12,8 @@ use Rattle.amqp_joined.specs.declared.marks.Mark.{Mark}
 use Rattle.amqp_joined.specs.declared.marks.Marked.{Marked}
 use Rattle.amqp_joined.specs.declared.marks.Marked.TheVariants as marked
 use Rattle.amqp_double.specs.Doubles.{DoubleState}
-use Rattle.amqp_joined.specs.Plans.{JoinPlan}
-use Rattle.amqp_joined.specs.Joining.{Join, join, next_step, after_join_step}
+use Rattle.amqp_joining.specs.Plans.{JoinPlan}
+use Rattle.amqp_joining.specs.Joining.{Join, join, next_step, after_join_step}
 
 -- a joined port: how far it is, and what it tells of that
 pub record JoinedState : Type 0 where

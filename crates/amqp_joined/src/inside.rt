@@ -1,15 +1,15 @@
 //! What is inside a joined port.
 
-ghost use Rattle.std.specs.Prelude.{◌≡◌, ◌≢◌, ◌≤◌, ◌<◌, ◌+◌, ◌-◌, ◌++◌, ◌∷◌, ◌==◌, ◌%◌, ◌&&◌, [], ℕ, List, length, drop, take, min, not, true, false, nat_lt, slice_index, vec_capacity};
+ghost use Rattle.std.specs.Prelude.{◌≡◌, ◌≢◌, ◌≤◌, ◌<◌, ◌+◌, ◌-◌, ◌++◌, ◌∷◌, ◌==◌, ◌%◌, ◌&&◌, [], ℕ, List, length, drop, take, min, not, true, false, nat_lt, slice_index, vec_capacity, if◌then◌else◌};
 ghost use Rattle.std.specs.Prelude.{Some, None, Err, IfOk, OnOk, OnErr};
 ghost use Rattle.amqp_engine.specs.Counts.{is_fault};
 ghost use Rattle.amqp_engine.specs.Log.{piece_bytes, IsPiece};
 ghost use Rattle.amqp_engine.specs.Plan.{at_most_64};
 
 use crate::marks::{Mark, Marked};
-use crate::plan::Plan;
 use amqp_double::{Double, DoubleFault};
 use amqp_engine::{Step, Write, Wrote};
+use amqp_joining::Plan;
 use amqp_session::Cmd;
 use amqp_types::NoMemory;
 use std::alloc::Global;
@@ -52,9 +52,22 @@ pub struct Inside {
 }
 
 impl Inside {
-    ghost use Rattle.amqp_joined.specs.Joining.{place_after};
+    ghost use Rattle.amqp_joining.specs.Joining.{place_after};
     ghost use Rattle.amqp_joined.specs.Ports.{last_close};
     ghost use Rattle.amqp_joined.specs.Insides.{join_of, output_of, Holds, TellsByRule, WritesByRule, Feeds, OnlyRoomier};
+
+    /// A link is asked for.
+    pub fn ask(&mut self)
+        ensures { self.new ≡ record self.old {
+          asked = true;
+          asked_at = if self.old.asked then self.old.asked_at else Some self.old.told;
+        } }
+    {
+        if !self.asked {
+            self.asked_at = Some(self.told);
+        }
+        self.asked = true;
+    }
 
     /// The next step. The octets of a piece stand at the front of the space.
     pub fn next(&mut self, space: &mut [u8]) -> Step

@@ -1,25 +1,30 @@
 //! A port whose other end is a double.
 
-ghost use Rattle.std.specs.Prelude.{◌≡◌, ◌≢◌, ◌≤◌, ◌<◌, ◌+◌, ◌++◌, [], ℕ, vec_capacity, false, Some, Err, IfOk, IfSome, IsSome, length, option_map};
+ghost use Rattle.std.specs.Prelude.{◌≡◌, ◌≢◌, ◌≤◌, ◌<◌, ◌⊎◌, ◌+◌, ◌-◌, ◌^◌, ◌++◌, [], ℕ, vec_capacity, true, false, Some, None, Ok, Err, IfOk, IfSome, IsSome, length, option_map};
 ghost use Rattle.amqp_types.specs.Counts.{Rose};
 ghost use Rattle.amqp_engine.specs.Counts.{HasCause};
-ghost use Rattle.amqp_promise.specs.declared.error.ErrorKind.TheVariants.{OutOfTurns};
-ghost use Rattle.amqp_session.specs.Talk.{has_ended, end_of};
+ghost use Rattle.amqp_promise.specs.declared.error.ErrorKind.{ErrorKind};
+ghost use Rattle.amqp_session.specs.declared.configuration.Configuration.{Configuration};
+ghost use Rattle.amqp_session.specs.Talk.{Talk, has_ended, end_of};
 ghost use Rattle.amqp_session.specs.Answers.{HandsOut};
 ghost use Rattle.amqp_engine.specs.Account.{Ran};
 ghost use Rattle.amqp_engine.specs.Log.{log_ask, log_step, log_write, piece_bytes, IsPiece, TookAtMost, PlansStep, PlansWrite};
+ghost use Rattle.amqp_engine.specs.Turn.{wants_ask};
 ghost use Rattle.amqp_double.specs.Doubles.{fresh};
-ghost use Rattle.amqp_joined.specs.Plans.{IsPlan, join_plan_of};
-ghost use Rattle.amqp_joined.specs.Joining.{JoinWrites};
+ghost use Rattle.amqp_joining.specs.Plans.{JoinPlan, IsPlan, join_plan_of};
+ghost use Rattle.amqp_joining.specs.Joining.{JoinWrites};
 ghost use Rattle.amqp_joined.specs.Ports.{last_close, joined_new};
 ghost use Rattle.amqp_joined.specs.Insides.{joined_state_of, Holds};
+ghost use Rattle.amqp_joined.specs.Reached.{HasCome};
+ghost use Rattle.amqp_joined.specs.JoinedRuns.{RunsJoined, TakesJoined, AreNewEnds, AreEnough, RunsClosed};
+ghost use Rattle.amqp_both_ends.specs.Logins.{SaysLogins};
 
 use crate::inside::Inside;
 use crate::marks::Mark;
-use crate::plan::Plan;
 use amqp_double::Double;
 use amqp_engine::{IoLoop, Port, Told, Wrote};
-use amqp_session::{AuthProvider, Cmd, Result};
+use amqp_joining::Plan;
+use amqp_session::{AuthProvider, Cmd, ErrorKind, Result};
 use amqp_types::{NoMemory, ShortString};
 use std::alloc::Global;
 use std::collections::VecDeque;
@@ -34,13 +39,13 @@ pub struct JoinedPort {
 
 impl Model for JoinedPort {
     ghost use Rattle.amqp_joined.specs.Ports.{JoinedState};
-    ghost use Rattle.amqp_joined.specs.Insides.{joined_state_of, Holds};
+    ghost use Rattle.amqp_joined.specs.Insides.{joined_state_of, HoldsAll};
 
     ghost Value = { JoinedState };
 
     ghost view = { λ p. joined_state_of p.inside };
 
-    ghost invariant = { λ p. Holds p.inside };
+    ghost invariant = { λ p. HoldsAll p.inside };
 }
 
 // The last command.
@@ -174,8 +179,9 @@ impl JoinedPort {
         self.inside.taken.len() as u64
     }
 
-    /// Runs an engine over this port, with answers of this provider. It is `IoLoop::run`, and answers as that
-    /// does.
+    /// Runs an engine over this port, with answers of this provider, turn by turn, and answers as
+    /// `IoLoop::run` does; but where memory was refused, an error is told as `NoMemory`. Of a new engine over
+    /// a new port, with as many turns as the plan takes, both ends close then, unless memory was refused.
     pub fn run<A: AuthProvider>(
         &mut self,
         engine: &mut IoLoop,
@@ -186,18 +192,79 @@ impl JoinedPort {
         ensures can { A.can provider.new }
         ensures turns { Ran turns engine.old engine.new (Some self.old.log) (Some self.new.log)
             (A.allows provider.old) (A.allows provider.new) }
+        ensures joined { (numbers : Configuration) (plan : JoinPlan) → self.old ≡ joined_new (fresh numbers) plan
+            → wants_ask engine.old ≡ true → turns < 2 ^ 64 - 1
+            → RunsJoined turns engine.old engine.new self.old self.new }
+        ensures both_ends { (t : Talk) (numbers : Configuration) (plan : JoinPlan)
+            → AreNewEnds t numbers plan engine.old self.old → AreEnough turns plan
+            → SaysLogins t.config.options (A.allows provider.old)
+            → (result ≡ Ok tt) ⊎ (result ≡ Err ErrorKind.NoMemory) }
+        ensures both_ends_close { (t : Talk) (numbers : Configuration) (plan : JoinPlan)
+            → AreNewEnds t numbers plan engine.old self.old → AreEnough turns plan
+            → SaysLogins t.config.options (A.allows provider.old) → engine.new.starved ≡ None
+            → (result ≡ Ok tt) × RunsClosed turns t engine.new self.old self.new }
         ensures ended { IfSome (end_of engine.new.talk) (λ end. HandsOut (Some end) (Some result)) }
-        ensures out_of_turns { has_ended engine.new.talk ≡ false → result ≡ Err OutOfTurns }
-        ensures only_out_of_turns { has_ended engine.old.talk ≡ false → result ≡ Err OutOfTurns
+        ensures out_of_turns { has_ended engine.new.talk ≡ false → result ≡ Err ErrorKind.OutOfTurns }
+        ensures only_out_of_turns { has_ended engine.old.talk ≡ false → result ≡ Err ErrorKind.OutOfTurns
             → has_ended engine.new.talk ≡ false }
         ensures kept { kept_plan self.new ≡ kept_plan self.old }
     {
-        engine.run(self, provider, turns)
+        self.take_turns(engine, provider, turns);
+        end_of_run(engine)
+    }
+
+    // Takes so many turns, or fewer where the session ends. The port's story is told turn by turn, since
+    // what `IoLoop::run` says of a port is what it tells in the end.
+    fn take_turns<A: AuthProvider>(&mut self, engine: &mut IoLoop, provider: &mut A, turns: u64)
+        requires { A.can provider.old }
+        ensures can { A.can provider.new }
+        ensures turns { TakesJoined turns engine.old engine.new self.old self.new
+            (A.allows provider.old) (A.allows provider.new) }
+        ensures kept { kept_plan self.new ≡ kept_plan self.old }
+    {
+        self.hold();
+        'turns: for _ in 0..turns {
+            if engine.session().has_ended() {
+                break;
+            }
+            // How the session stands is told in the end.
+            drop(engine.run(self, provider, 1));
+            self.hold();
+        }
+    }
+
+    // What the port tells says how it came to be as it is. It is called for this clause alone.
+    fn hold(&self)
+        ensures { HasCome self.now }
+    {
+        let _held = self.inside.told;
+    }
+}
+
+// How a session ended, or that it did not.
+fn end_of_run(engine: &IoLoop) -> Result<()>
+    ensures ended { IfSome (end_of engine.now.talk) (λ end. HandsOut (Some end) (Some result)) }
+    ensures out_of_turns { has_ended engine.now.talk ≡ false → result ≡ Err ErrorKind.OutOfTurns }
+    ensures only_out_of_turns { result ≡ Err ErrorKind.OutOfTurns
+        → (has_ended engine.now.talk ≡ false) ⊎ (end_of engine.now.talk ≡ Some (Err ErrorKind.OutOfTurns)) }
+    ensures refused { engine.now.starved ≢ None → has_ended engine.now.talk ≡ true
+        → (result ≡ Ok tt) ⊎ (result ≡ Err ErrorKind.NoMemory) }
+{
+    match engine.session().end() {
+        None => Err(ErrorKind::OutOfTurns.into()),
+        Some(Ok(())) => Ok(()),
+        Some(Err(error)) => {
+            if engine.starved().is_some() {
+                drop(error);
+                return Err(ErrorKind::NoMemory.into());
+            }
+            Err(error)
+        }
     }
 }
 
 impl Port for JoinedPort {
-    ghost use Rattle.amqp_joined.specs.Joining.{JoinWrites};
+    ghost use Rattle.amqp_joining.specs.Joining.{JoinWrites};
     ghost use Rattle.amqp_joined.specs.Ports.{KeptPlan, kept_plan, TellsStep};
 
     ghost log = { λ p. Some p.log };
@@ -214,10 +281,7 @@ impl Port for JoinedPort {
         ensures kept { kept_plan self.new ≡ kept_plan self.old }
         ensures join { self.new.join ≡ self.old.join }
     {
-        if !self.inside.asked {
-            self.inside.asked_at = Some(self.inside.told);
-        }
-        self.inside.asked = true;
+        self.inside.ask();
     }
 
     #[tactic(auto, using(crate::proofs::Steps::step_keeps))]

@@ -4,10 +4,7 @@
 
 mod inside;
 mod joined_port;
-mod laws;
 mod marks;
-mod plan;
 
+pub use amqp_joining::Plan;
 pub use joined_port::JoinedPort;
-pub use laws::{a_quiet_session_is_connected, short_writes_keep_the_tie};
-pub use plan::Plan;

@@ -3,7 +3,7 @@
 
 ghost use Rattle.std.specs.Prelude.{◌≢◌, ◌≤◌, ℕ, IfOk, []};
 ghost use Rattle.std.specs.List.{AllByRecursion};
-ghost use Rattle.amqp_joined.specs.Plans.{IsPlan, join_plan_of};
+ghost use Rattle.amqp_joining.specs.Plans.{IsPlan, join_plan_of};
 
 use amqp_double::Double;
 use amqp_engine::IoLoop;

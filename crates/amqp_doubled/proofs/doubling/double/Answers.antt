@@ -2,6 +2,7 @@ use Rattle.std.proofs.Common.{inr}
 use Rattle.amqp_replay.specs.Ends.{FailedOnce}
 use Rattle.amqp_replay.proofs.Statuses.{written}
 use Rattle.amqp_doubled.proofs.Statuses.{doubled-loud}
+use Rattle.amqp_doubled.proofs.Endings.{closed-ends}
 use Rattle.amqp_doubled.proofs.doubling.double.Goals as goal
 
 pub returns-in-Ok : goal.returns-in-Ok
@@ -13,6 +14,7 @@ returns-in-Ok g c =
     c.put_printout.ensures.cause c.put_printout.ensures.prints in
     record {
       known = done.known;
+      closed = closed-ends c.args.count c.put_printout.result c.in-Ok.printout before after c.in-Ok.ensures c.put_printout.ensures.prints;
       sink_failed = done.failed;
       sink_kept = c.put_printout.ensures.kept;
       silent = done.silent;

@@ -1,4 +1,4 @@
-use Rattle.std.proofs.Common.{◌≡◌, ◌∙◌, ℕ, ap}
+use Rattle.std.proofs.Common.{◌∙◌, ℕ, ap}
 use Rattle.amqp_doubled.specs.Doubling.{summary_line}
 use Rattle.amqp_doubled.proofs.Summaries.{line-is}
 use Rattle.amqp_doubled.proofs.summary.closed_summary.Goals as goal

@@ -1,5 +1,4 @@
-use Rattle.std.proofs.Common.{◌≡◌, ◌∙◌, Option, Some, None, sym}
-use Rattle.amqp_program.specs.declared.asked.Asked.{Asked}
+use Rattle.std.proofs.Common.{◌≡◌, ◌∙◌, Some, None, sym}
 use Rattle.amqp_program.specs.declared.asked.Asked.TheVariants.{Replay, Generate, Check}
 use Rattle.amqp_doubled.proofs.OtherWords.{no_other}
 use Rattle.amqp_doubled.proofs.top.top_doubled.Goals as goal

@@ -1,4 +1,4 @@
-use Rattle.std.proofs.Common.{◌∙◌, ◌≡◌, ◌+◌, ◌-◌, ◌++◌, [], ◌∷◌, ℕ, List, min, take, length, ap, sym, subst, rules, length-append}
+use Rattle.std.proofs.Common.{◌∙◌, ◌≡◌, ◌+◌, ◌-◌, ◌++◌, [], ◌∷◌, ℕ, List, min, length, ap, sym, subst, rules, length-append}
 use Rattle.std.specs.Prelude.{nat_lt}
 use Rattle.amqp_engine.specs.declared.port.Wrote.TheVariants.{Took}
 use Rattle.amqp_joined.specs.Insides.{Feeds, OnlyRoomier}

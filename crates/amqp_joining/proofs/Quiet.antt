@@ -1,5 +1,5 @@
 -- Where nothing waits and nothing is owed, the connection is open.
-use Rattle.std.proofs.Common.{◌≡◌, ℕ, Bool, true, false, true≢false, List, [], ◌∷◌, ◌++◌, append-nil, Option, Some, None, refl, ap, sym, ◌∙◌, subst}
+use Rattle.std.proofs.Common.{◌≡◌, ℕ, true, true≢false, List, [], ◌∷◌, ◌++◌, append-nil, Some, refl, ap, sym, ◌∙◌, subst}
 use Rattle.amqp_frame.specs.declared.frame.Frame.{Frame}
 use Rattle.amqp_outbox.specs.declared.item.Item.{Item}
 use Rattle.amqp_promise.specs.declared.state.ConnectionState.{ConnectionState}
@@ -17,7 +17,7 @@ use Rattle.amqp_legal.specs.declared.progress.Stage.TheVariants.{HeaderSaid, Sta
 use Rattle.amqp_legal.specs.Decider.{Speech, greeted, say_all}
 use Rattle.amqp_faultless.proofs.Greeted.{IsMet, Meets}
 use Rattle.amqp_legal_rules.proofs.Ties.{IsTied, LeadsTo, first_out, frames_in, Ties, TiesActing, unpaid}
-use Rattle.amqp_owing.specs.Owed.{AllAnswered, IsAllAnswered, Owes, stage_after}
+use Rattle.amqp_owing.specs.Owed.{IsAllAnswered, Owes, stage_after}
 
 -- it leads where it led before
 leads-same : (items : List Item) (said : List Frame) (p later : Speech) → items ≡ [] → say_all (Some greeted) said ≡ Some p → (l : LeadsTo items (amqp_header ∷ said) later)

@@ -1,5 +1,5 @@
 -- What a joined port tells by a plan, and how much it takes.
-use Rattle.std.specs.Prelude.{◌≡◌, ℕ, ◌+◌, ◌-◌, ◌&&◌, ◌==◌, ◌%◌, ◌^◌, not, min, nat_lt, if◌then◌else◌, Bool, true, false, List, [], ◌∷◌, ◌++◌, length, take, drop, slice_index, None, IsTrue, is_some}
+use Rattle.std.specs.Prelude.{◌≡◌, ℕ, ◌+◌, ◌-◌, ◌&&◌, ◌==◌, ◌%◌, not, min, nat_lt, if◌then◌else◌, Bool, true, false, List, [], ◌∷◌, ◌++◌, length, take, drop, slice_index, None, IsTrue, is_some}
 use Rattle.std.specs.List.{AllByRecursion}
 use Rattle.amqp_session.specs.declared.command.Cmd.{Cmd}
 use Rattle.amqp_session.specs.declared.command.Cmd.TheVariants.{CloseConnection}
@@ -12,7 +12,7 @@ use Rattle.amqp_engine.specs.Engine.{Engine}
 use Rattle.amqp_engine.specs.Turn.{Turn, asks, wants_ask, turn}
 use Rattle.amqp_engine.specs.Tell.{Offer, offers_of}
 use Rattle.amqp_double.specs.Doubles.{DoubleState, AnswersClient}
-use Rattle.amqp_joined.specs.Plans.{JoinPlan}
+use Rattle.amqp_joining.specs.Plans.{JoinPlan}
 
 -- ---- a joined port
 

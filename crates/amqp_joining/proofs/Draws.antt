@@ -1,9 +1,8 @@
 -- The writes of a turn keep the tie of both ends, however little of each is taken.
-use Rattle.std.proofs.Common.{◌≡◌, ℕ, if◌then◌else◌, Bool, true, false, List, [], ◌∷◌, ◌++◌, length, append-nil, Option, Some, None, refl, ap, sym, ◌∙◌, subst}
+use Rattle.std.proofs.Common.{◌≡◌, if◌then◌else◌, Bool, true, false, List, [], ◌∷◌, ◌++◌, length, append-nil, refl, ap, sym, subst}
 use Rattle.amqp_outbox.specs.declared.item.Item.{Item}
 use Rattle.amqp_session.specs.Config.{Options}
 use Rattle.amqp_session.specs.Sound.{IsSound}
-use Rattle.amqp_session.specs.Talk.{Talk}
 use Rattle.amqp_faultless.specs.Faultless.{Server}
 use Rattle.amqp_types.proofs.Small.{if_case}
 use Rattle.amqp_faultless.proofs.Greeted.{IsMet}
@@ -14,7 +13,7 @@ use Rattle.amqp_engine.specs.declared.port.Wrote.TheVariants.{Took, Failed, NoMe
 use Rattle.amqp_engine.specs.Engine.{Engine, ended_overlong, refuse_overlong}
 use Rattle.amqp_engine.specs.Turn.{Progress, goes, offered, offer_part, closing, is_all, drained}
 use Rattle.amqp_engine.specs.Sending.{committed_before}
-use Rattle.amqp_joined.specs.Writes.{AreTooks, committed_through}
+use Rattle.amqp_joining.specs.Writes.{AreTooks, committed_through}
 use Rattle.amqp_engine.proofs.Goes.{sound-offer}
 use Rattle.amqp_engine.proofs.Offering.{modest-fits, modest-kept}
 

@@ -1,7 +1,7 @@
 //! A plan for both ends of a link.
 
 ghost use Rattle.std.specs.Prelude.{◌≡◌, ◌-◌, ◌^◌, min};
-ghost use Rattle.amqp_joined.specs.Plans.{join_plan_of, text_octets, command_turns, turns_for_all, turns_of};
+ghost use Rattle.amqp_joining.specs.Plans.{join_plan_of, text_octets, command_turns, turns_for_all, turns_of};
 
 use amqp_session::Cmd;
 use amqp_types::{NoMemory, Payload64};

@@ -3,7 +3,7 @@ use Rattle.std.specs.Prelude.{◌≢◌, ◌≤◌, ℕ, ◌+◌, ◌-◌, ◌*�
 use Rattle.std.specs.List.{AllByRecursion}
 use Rattle.amqp_session.specs.declared.command.Cmd.{Cmd}
 use Rattle.amqp_session.specs.declared.command.Cmd.TheVariants.{CloseChannel, CloseConnection, UpdateSecret, Send, Publish}
-use Rattle.amqp_joined.specs.declared.plan.Plan.{Plan}
+use Rattle.amqp_joining.specs.declared.plan.Plan.{Plan}
 
 -- how the double's octets are cut, how much room the link has each time, and what the session is told to do
 pub record JoinPlan : Type 0 where

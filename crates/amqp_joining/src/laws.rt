@@ -16,7 +16,7 @@ ghost use Rattle.amqp_faultless.proofs.Speaks.{said_all};
 ghost use Rattle.amqp_engine.specs.declared.port.Wrote.{Wrote};
 ghost use Rattle.amqp_engine.specs.Turn.{Progress, drained};
 ghost use Rattle.amqp_owing.specs.Owed.{Owes};
-ghost use Rattle.amqp_joined.specs.Writes.{AreTooks, committed_through};
+ghost use Rattle.amqp_joining.specs.Writes.{AreTooks, committed_through};
 
 /// Where nothing waits and nothing is owed, the connection is open: so the last close is told then, and
 /// after it nothing is left to tell but that the session ends.
