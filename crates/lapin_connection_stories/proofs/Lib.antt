@@ -1,0 +1,2 @@
+-- what of a story may cross threads
+pub mod Crossing
