@@ -1,5 +1,7 @@
 -- Both ends of the plan of a number close, and the status is that of a session that ended Closed.
-use Rattle.std.proofs.Common.{◌≡◌, ◌≤◌, ◌⊎◌, inl, inr, ◌∙◌, ap, sym, refl, subst, ℕ, List, length, Option, Result, Ok, Err, IfOk, arith}
+use Rattle.std.proofs.Common.{◌≡◌, ◌≢◌, ◌≤◌, ◌⊎◌, inl, inr, ◌∙◌, ap, sym, refl, subst, ℕ, List, length, Option, None, Result, Ok, Err, IfOk, arith}
+use Rattle.amqp_promise.specs.declared.error.ErrorKind.{ErrorKind}
+use Rattle.amqp_promise.specs.declared.error.ErrorKind.TheVariants.{NoMemory}
 use Rattle.amqp_uri.specs.Address.{local}
 use Rattle.amqp_session.specs.Config.{config_of, no_options}
 use Rattle.amqp_session.specs.Talk.{end_of}
@@ -27,6 +29,11 @@ new-ends count e s engine port =
       joined = port;
     }
 
+-- where no memory was refused, it is answered Ok
+pub answered-ok : (result : Result (Unit {0}) ErrorKind) (starved : Option ℕ) → starved ≡ None → (result ≡ Ok tt) ⊎ ((result ≡ Err NoMemory) × (starved ≢ None)) → result ≡ Ok tt
+answered-ok result starved fed (inl ok) = ok
+answered-ok result starved fed (inr refused) = absurd (refused.1 fed)
+
 -- with turns enough
 pub enough-turns : (count turns : ℕ) (s : JoinedState) → count ≤ 2000 → s ≡ doubled_port count → turns ≡ turns_of s.join.plan → AreEnough turns (doubled_plan count)
 enough-turns count turns s few port is =
@@ -52,8 +59,7 @@ is-doubled count turns sent e s0 s p port is closed kept taken printed =
 -- its status
 pub closed-status : (count : ℕ) (p : Printout) → IsDoubled count p → p.status ≡ CLOSED
 closed-status count p is =
-    ap (λ (x : Printout). x.status) is.printed ∙ ap (λ (x : Engine). end_status (end_of x.talk)) (sym is.closed.joined.runs.leads.leaves)
-    ∙ ap end_status is.closed.closes.over
+    ap (λ (x : Printout). x.status) is.printed ∙ ap end_status is.closed.over
 
 -- and that of the program
 pub closed-ends : (count status : ℕ) (p : Printout) (before after : Option (List ℕ)) → IsDoubled count p → Prints p before after status → (status ≡ CLOSED) ⊎ (status ≡ SINK_FAILED) ⊎ (status ≡ NO_MEMORY)

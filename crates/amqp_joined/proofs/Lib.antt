@@ -9,5 +9,7 @@ pub mod Backwards
 pub mod Joins
 -- What is taken is on the one link.
 pub mod OneLink
+-- A turn that was cut no sooner than it had ended its session is as one that was not.
+pub mod Uncut
 -- Turns of a run, and what they come to.
 pub mod Taking

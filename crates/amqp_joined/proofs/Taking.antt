@@ -1,9 +1,9 @@
 -- Turns are taken over a joined port, one after another; and what a run comes to.
-use Rattle.std.proofs.Common.{◌≡◌, ◌≢◌, ◌≤◌, ◌<◌, ◌⊎◌, inl, ◌∙◌, ap, sym, refl, subst, ℕ, ◌+◌, ◌==◌, Bool, true, false, true≢false, List, [], ◌∷◌, ◌++◌, length, length-append, append-nil, Option, Some, None, IfSome, is_some, Result, Ok, Err, arith}
+use Rattle.std.proofs.Common.{◌≡◌, ◌≢◌, ◌≤◌, ◌<◌, ◌⊎◌, inl, inr, ◌∙◌, ap, sym, refl, subst, ℕ, ◌+◌, ◌==◌, Bool, true, false, true≢false, List, [], ◌∷◌, ◌++◌, length, length-append, append-nil, Option, Some, None, IfSome, is_some, Result, Ok, Err, arith}
 use Rattle.std.specs.Option.{option_or}
 use Rattle.amqp_types.proofs.Small.{if_case, if-true, some_is, equal-numbers}
 use Rattle.amqp_promise.specs.declared.error.ErrorKind.{ErrorKind}
-use Rattle.amqp_promise.specs.declared.error.ErrorKind.TheVariants.{NoMemory}
+use Rattle.amqp_promise.specs.declared.error.ErrorKind.TheVariants.{NoMemory, OutOfTurns}
 use Rattle.amqp_auth.specs.Providers.{Exchange}
 use Rattle.amqp_session.specs.declared.configuration.Configuration.{Configuration}
 use Rattle.amqp_session.specs.Talk.{Talk, has_ended, end_of}
@@ -21,7 +21,7 @@ use Rattle.amqp_engine.specs.Tell.{Offer, offers_of, log_offers, log_asks, log_s
 use Rattle.amqp_engine.specs.Account.{Ran}
 use Rattle.amqp_engine.proofs.Over.{turn-is}
 use Rattle.amqp_engine.proofs.PlayedOn.{new-wants}
-use Rattle.amqp_engine.proofs.Running.{Leads-push, tells-push, told-append, fit-append, uncut, exchanged-push}
+use Rattle.amqp_engine.proofs.Running.{Leads-push, tells-push, told-append, fit-append, uncut as none-cut, exchanged-push}
 use Rattle.amqp_double.specs.Doubles.{fresh}
 use Rattle.amqp_joining.specs.Plans.{JoinPlan}
 use Rattle.amqp_joining.specs.Joining.{join, JoinsTurns, AreFed}
@@ -32,11 +32,12 @@ use Rattle.amqp_both_ends.proofs.Logins.{both-logins, says-logins}
 use Rattle.amqp_both_ends.proofs.Replaying.{turns-keep}
 use Rattle.amqp_joined.specs.Ports.{JoinedState, KeptPlan, kept_plan, joined_new}
 use Rattle.amqp_joined.specs.Reached.{Reached, HasCome}
-use Rattle.amqp_joined.specs.JoinedRuns.{RunsJoined, AreNewEnds, AreEnough, RunsClosed, TakesJoined}
+use Rattle.amqp_joined.specs.JoinedRuns.{RunsJoined, AreNewEnds, AreEnough, RunsClosed, TakesJoined, uncut}
 use Rattle.amqp_joined.proofs.Reaching.{plain}
 use Rattle.amqp_joined.proofs.Backwards.{SameTold}
 use Rattle.amqp_joined.proofs.Joins.{turn-moment, Follows, follows-none, follows-more}
 use Rattle.amqp_joined.proofs.OneLink.{one-link, linked-turns}
+use Rattle.amqp_joined.proofs.Uncut.{TurnsWhole, turns-whole, uncut-told, uncut-fit, uncut-fed, Nothing, uncut-comes}
 
 -- ---- a tick brings nothing
 
@@ -175,7 +176,7 @@ taken-more n e0 e e' s0 s s' before now after t running ran kept reached =
       told = told-append t.us (v ∷ []) t.told (o.told, tt);
       leads = Leads-push t.us v e0 e e' t.leads may leaves;
       tells = tells-push t.us v e0 e (Some s0.log) (Some s.log) (Some s'.log) t.leads.leaves t.tells (record { told = ap Some log; plays = plays });
-      exchanged = exchanged-push t.us v e0 before now after (uncut t.us e0 t.leads.may still) t.exchanged (subst E (sym t.leads.leaves) come);
+      exchanged = exchanged-push t.us v e0 before now after (none-cut t.us e0 t.leads.may still) t.exchanged (subst E (sym t.leads.leaves) come);
       fit = fit-append t.us (v ∷ []) t.fit (bare-fit o.u.at o.u.step o.u.bytes o.u.notes o.fit, tt);
       follows = follows;
       kept = kept ∙ t.kept;
@@ -331,19 +332,34 @@ module _ (allowed : ℕ) (e0 e : Engine) (s0 s : JoinedState) (before now : Exch
         let many = t.lent.runs.all on in
         absurd (omega (arith, few, many, enough.enough))
 
-  closed-ends : e.starved ≡ None → SaysLogins x.config.options before → (end_of e.talk ≡ Some (Ok tt)) × RunsClosed allowed x e s0 s
-  closed-ends fed says =
-      let c = closed (fed-so us (begin x) t.lent.runs.leads.may (ap (λ (y : Engine). y.starved) leaves ∙ fed)) says in
-      (ap (λ (y : Engine). end_of y.talk) (sym leaves) ∙ c.over, record { joined = joined; closes = c; link = joined.links ∙ if-true s.join.linked (s.join.taken ∷ []) [] (on us refl c.over) })
+  -- it ended without an error
+  ends-fed : e.starved ≡ None → SaysLogins x.config.options before → end_of e.talk ≡ Some (Ok tt)
+  ends-fed fed says =
+      ap (λ (y : Engine). end_of y.talk) (sym leaves) ∙ (closed (fed-so us (begin x) t.lent.runs.leads.may (ap (λ (y : Engine). y.starved) leaves ∙ fed)) says).over
+
+  -- and where it did, both ends are closed, whether memory was refused then or not
+  closed-ends : end_of e.talk ≡ Some (Ok tt) → SaysLogins x.config.options before → RunsClosed allowed x e s0 s
+  closed-ends over says =
+      record { joined = joined; over = over; closes = two.closes w.over; sent = w.sends []; link = joined.links ∙ if-true s.join.linked (s.join.taken ∷ []) [] (on us refl) }
     where
+      joins : JoinsTurns us (begin x) unasked (join (fresh numbers) plan) s.join
+      joins = subst (λ (y : JoinedState). JoinsTurns us (begin x) unasked y.join s.join) new.joined (t.joins numbers plan new.joined (new-wants x new.session) enough.counted)
+
+      w : TurnsWhole us (begin x)
+      w = turns-whole us (begin x) t.lent.runs.leads.may (ap (λ (y : Engine). end_of y.talk) leaves ∙ over)
+
+      two : TwoEnds x plan (uncut us) s.join
+      two =
+          both-logins x numbers plan (uncut us) s.join new.session new.address new.is_plan new.range new.frame_max w.may (uncut-told us t.lent.runs.told) (uncut-fit us t.lent.runs.fit) (uncut-fed us)
+          (w.joins unasked (join (fresh numbers) plan) s.join joins)
+          (says-logins x.config.options before Nothing (uncut us) (begin x) says w.may (uncut-fed us) (uncut-comes us (begin x) before now w.exchanged t.lent.exchanged))
+
       -- there was a turn, which was that of the link
-      on : (vs : List Turn) → us ≡ vs → end_of (talk x us) ≡ Some (Ok tt) → s.join.linked ≡ true
-      on [] none over =
-          absurd (true≢false (sym (ap is_some over) ∙ ap (λ (vs : List Turn). has_ended (talk x vs)) none ∙ new-runs x new.session))
-      on (u ∷ vs) some over =
-          (linked-turns numbers plan u vs (begin x) s.join (new-wants x new.session)
-          (subst (λ (ws : List Turn). JoinsTurns ws (begin x) unasked (join (fresh numbers) plan) s.join) some
-          (subst (λ (y : JoinedState). JoinsTurns us (begin x) unasked y.join s.join) new.joined (t.joins numbers plan new.joined (new-wants x new.session) enough.counted)))).1
+      on : (vs : List Turn) → us ≡ vs → s.join.linked ≡ true
+      on [] none =
+          absurd (true≢false (sym (ap is_some (ap (λ (y : Engine). end_of y.talk) leaves ∙ over)) ∙ ap (λ (vs : List Turn). has_ended (talk x vs)) none ∙ new-runs x new.session))
+      on (u ∷ vs) some =
+          (linked-turns numbers plan u vs (begin x) s.join (new-wants x new.session) (subst (λ (ws : List Turn). JoinsTurns ws (begin x) unasked (join (fresh numbers) plan) s.join) some joins)).1
 
   -- where it was refused in one of them, the session has ended
   refused-ends : e.starved ≢ None → has_ended e.talk ≡ true
@@ -351,7 +367,7 @@ module _ (allowed : ℕ) (e0 e : Engine) (s0 s : JoinedState) (before now : Exch
     by : (b : Bool) → has_ended e.talk ≡ b → b ≡ true
     by true is = refl
     by false on =
-        let none = uncut us (begin x) t.lent.runs.leads.may (ap (λ (y : Engine). has_ended y.talk) leaves ∙ on) in
+        let none = none-cut us (begin x) t.lent.runs.leads.may (ap (λ (y : Engine). has_ended y.talk) leaves ∙ on) in
         absurd (refused (ap (λ (y : Engine). y.starved) (sym leaves) ∙ turns-keep us (begin x) t.lent.runs.leads.may (fed-uncut us none)))
 
 module _ (allowed : ℕ) (e0 e : Engine) (s0 s : JoinedState) (before now : Exchange → Type 0) (t : TakesJoined allowed e0 e s0 s before now) (x : Talk) (numbers : Configuration) (plan : JoinPlan)
@@ -359,10 +375,13 @@ module _ (allowed : ℕ) (e0 e : Engine) (s0 s : JoinedState) (before now : Exch
   at-begin : TakesJoined allowed (begin x) e s0 s before now
   at-begin = subst (λ (y : Engine). TakesJoined allowed y e s0 s before now) new.engine t
 
-  pub ends-closed : e.starved ≡ None → SaysLogins x.config.options before → (end_of e.talk ≡ Some (Ok tt)) × RunsClosed allowed x e s0 s
-  ends-closed = closed-ends allowed e0 e s0 s before now x numbers plan new enough at-begin
+  ended-fed : e.starved ≡ None → SaysLogins x.config.options before → end_of e.talk ≡ Some (Ok tt)
+  ended-fed = ends-fed allowed e0 e s0 s before now x numbers plan new enough at-begin
 
-  pub ended-refused : e.starved ≢ None → has_ended e.talk ≡ true
+  ended-closed : end_of e.talk ≡ Some (Ok tt) → SaysLogins x.config.options before → RunsClosed allowed x e s0 s
+  ended-closed = closed-ends allowed e0 e s0 s before now x numbers plan new enough at-begin
+
+  ended-refused : e.starved ≢ None → has_ended e.talk ≡ true
   ended-refused = refused-ends allowed e0 e s0 s before now x numbers plan new enough at-begin
 
   -- what is answered then
@@ -370,13 +389,22 @@ module _ (allowed : ℕ) (e0 e : Engine) (s0 s : JoinedState) (before now : Exch
     handed : (o : Option (Result (Unit {0}) ErrorKind)) → o ≡ Some (Ok tt) → IfSome o (λ end. HandsOut (Some end) (Some result)) → result ≡ Ok tt
     handed o is h = some_is result (Ok tt) (subst (λ (y : Option (Result (Unit {0}) ErrorKind)). IfSome y (λ end. HandsOut (Some end) (Some result))) is h)
 
-    pub answers-closed : e.starved ≡ None → (result ≡ Ok tt) × RunsClosed allowed x e s0 s
-    answers-closed fed = let k = ends-closed fed says in (handed (end_of e.talk) k.0 ended, k.1)
+    pub answers-closed : (has_ended e.talk ≡ false → result ≡ Err OutOfTurns) → result ≡ Ok tt → RunsClosed allowed x e s0 s
+    answers-closed runs_on ok = ended-closed (by (end_of e.talk) refl ended) says where
+      by : (o : Option (Result (Unit {0}) ErrorKind)) → end_of e.talk ≡ o → IfSome o (λ end. HandsOut (Some end) (Some result)) → end_of e.talk ≡ Some (Ok tt)
+      by None is h = absurd (let bad : Ok tt ≡ Err OutOfTurns = sym ok ∙ runs_on (ap is_some is) in cc)
+      by (Some (Ok y)) is h = is
+      by (Some (Err k)) is (inl h) = absurd (let bad : Ok tt ≡ Err k = sym ok ∙ some_is result (Err k) h in cc)
+      by (Some (Err k)) is (inr h) = absurd (let bad : Ok tt ≡ Err NoMemory = sym ok ∙ some_is result (Err NoMemory) h in cc)
 
-    pub answers-ends : (e.starved ≢ None → has_ended e.talk ≡ true → (result ≡ Ok tt) ⊎ (result ≡ Err NoMemory)) → (result ≡ Ok tt) ⊎ (result ≡ Err NoMemory)
+    pub answers-ends : (e.starved ≢ None → has_ended e.talk ≡ true → (result ≡ Ok tt) ⊎ (result ≡ Err NoMemory)) → (result ≡ Ok tt) ⊎ ((result ≡ Err NoMemory) × (e.starved ≢ None))
     answers-ends refused = by e.starved refl where
-      by : (o : Option ℕ) → e.starved ≡ o → (result ≡ Ok tt) ⊎ (result ≡ Err NoMemory)
-      by None fed = inl (answers-closed fed).0
-      by (Some j) is =
-          let cut : e.starved ≢ None = λ none. (let bad : Some j ≡ None = sym is ∙ none in cc) in
-          refused cut (ended-refused cut)
+      by : (o : Option ℕ) → e.starved ≡ o → (result ≡ Ok tt) ⊎ ((result ≡ Err NoMemory) × (e.starved ≢ None))
+      by None fed = inl (handed (end_of e.talk) (ended-fed fed says) ended)
+      by (Some j) is = answer (refused cut (ended-refused cut)) where
+        cut : e.starved ≢ None
+        cut none = let bad : Some j ≡ None = sym is ∙ none in cc
+
+        answer : (result ≡ Ok tt) ⊎ (result ≡ Err NoMemory) → (result ≡ Ok tt) ⊎ ((result ≡ Err NoMemory) × (e.starved ≢ None))
+        answer (inl ok) = inl ok
+        answer (inr err) = inr (err, cut)

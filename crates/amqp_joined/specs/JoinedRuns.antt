@@ -1,13 +1,14 @@
 -- What a run over a joined port comes to.
-use Rattle.std.specs.Prelude.{◌≡◌, ◌≤◌, ◌<◌, ℕ, ◌-◌, ◌^◌, if◌then◌else◌, true, [], ◌∷◌, Some}
+use Rattle.std.specs.Prelude.{◌≡◌, ◌≤◌, ◌<◌, ℕ, ◌-◌, ◌^◌, if◌then◌else◌, true, List, [], ◌∷◌, map, Some, None, Ok}
 use Rattle.amqp_auth.specs.Providers.{Exchange}
 use Rattle.amqp_session.specs.declared.configuration.Configuration.{Configuration}
-use Rattle.amqp_session.specs.Talk.{Talk}
+use Rattle.amqp_session.specs.Talk.{Talk, end_of}
 use Rattle.amqp_faultless.specs.Faultless.{is_frame_max}
 use Rattle.amqp_written_rules.specs.Sayable.{AreInRange, CanBeSaid}
 use Rattle.amqp_engine.specs.Account.{IsNew}
 use Rattle.amqp_engine.specs.Engine.{Engine, begin}
-use Rattle.amqp_engine.specs.Turn.{wants_ask}
+use Rattle.amqp_engine.specs.Turn.{Turn, wants_ask}
+use Rattle.amqp_engine.specs.Sending.{sendings}
 use Rattle.amqp_engine.specs.Tell.{Runs, RunsLent}
 use Rattle.amqp_double.specs.Doubles.{fresh}
 use Rattle.amqp_joining.specs.Plans.{JoinPlan, IsPlan, turns_of}
@@ -46,8 +47,16 @@ pub record AreEnough (allowed : ℕ) (plan : JoinPlan) : Type 0 where
   pub enough : turns_of plan ≤ allowed
   pub counted : allowed < 2 ^ 64 - 1
 
--- such a run, of a new session, after which both ends are closed; what the port took is on its one link
+-- these turns, with no note that one was cut
+abbrev pub uncut : List Turn → List Turn
+uncut us = map (λ (u : Turn). record u { notes = record u.notes { starved = None } }) us
+
+-- such a run, of a new session, which ended without an error, and after which both ends are closed. Where memory was
+-- refused, that was in its last turn, once the session had ended there: but for that note its turns, which sent the
+-- same, are those of ends that close. What the port took is on its one link
 pub record RunsClosed (allowed : ℕ) (t : Talk) (e : Engine) (old new : JoinedState) : Type 0 where
   pub joined : RunsJoined allowed (begin t) e old new
-  pub closes : Closes t joined.runs.us new.join
+  pub over : end_of e.talk ≡ Some (Ok tt)
+  pub closes : Closes t (uncut joined.runs.us) new.join
+  pub sent : sendings t (uncut joined.runs.us) ≡ sendings t joined.runs.us
   pub link : new.log.links ≡ new.join.taken ∷ []

@@ -181,7 +181,8 @@ impl JoinedPort {
 
     /// Runs an engine over this port, with answers of this provider, turn by turn, and answers as
     /// `IoLoop::run` does; but where memory was refused, an error is told as `NoMemory`. Of a new engine over
-    /// a new port, with as many turns as the plan takes, both ends close then, unless memory was refused.
+    /// a new port, with as many turns as the plan takes, it answers Ok, and both ends are closed then, unless
+    /// memory was refused.
     pub fn run<A: AuthProvider>(
         &mut self,
         engine: &mut IoLoop,
@@ -198,11 +199,11 @@ impl JoinedPort {
         ensures both_ends { (t : Talk) (numbers : Configuration) (plan : JoinPlan)
             → AreNewEnds t numbers plan engine.old self.old → AreEnough turns plan
             → SaysLogins t.config.options (A.allows provider.old)
-            → (result ≡ Ok tt) ⊎ (result ≡ Err ErrorKind.NoMemory) }
+            → (result ≡ Ok tt) ⊎ ((result ≡ Err ErrorKind.NoMemory) × (engine.new.starved ≢ None)) }
         ensures both_ends_close { (t : Talk) (numbers : Configuration) (plan : JoinPlan)
             → AreNewEnds t numbers plan engine.old self.old → AreEnough turns plan
-            → SaysLogins t.config.options (A.allows provider.old) → engine.new.starved ≡ None
-            → (result ≡ Ok tt) × RunsClosed turns t engine.new self.old self.new }
+            → SaysLogins t.config.options (A.allows provider.old) → result ≡ Ok tt
+            → RunsClosed turns t engine.new self.old self.new }
         ensures ended { IfSome (end_of engine.new.talk) (λ end. HandsOut (Some end) (Some result)) }
         ensures out_of_turns { has_ended engine.new.talk ≡ false → result ≡ Err ErrorKind.OutOfTurns }
         ensures only_out_of_turns { has_ended engine.old.talk ≡ false → result ≡ Err ErrorKind.OutOfTurns

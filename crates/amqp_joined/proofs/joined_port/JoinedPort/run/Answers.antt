@@ -17,8 +17,8 @@ returns-clause-both_ends g c t numbers plan new enough says =
     answers-ends _ _ _ _ _ _ _ c.take_turns.ensures.turns t numbers plan new enough c.end_of_run.result c.end_of_run.ensures.ended says c.end_of_run.ensures.refused
 
 pub returns-clause-both_ends_close : goal.returns-clause-both_ends_close
-returns-clause-both_ends_close g c t numbers plan new enough says fed =
-    answers-closed _ _ _ _ _ _ _ c.take_turns.ensures.turns t numbers plan new enough c.end_of_run.result c.end_of_run.ensures.ended says fed
+returns-clause-both_ends_close g c t numbers plan new enough says ok =
+    answers-closed _ _ _ _ _ _ _ c.take_turns.ensures.turns t numbers plan new enough c.end_of_run.result c.end_of_run.ensures.ended says c.end_of_run.ensures.out_of_turns ok
 
 pub returns-clause-only_out_of_turns : goal.returns-clause-only_out_of_turns
 returns-clause-only_out_of_turns g c running is = by (c.end_of_run.ensures.only_out_of_turns is) where
