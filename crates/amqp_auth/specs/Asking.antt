@@ -62,7 +62,7 @@ pub record Asks (asked : List Question) (answers : List Asked) (before after : E
   -- the provider may give them
   pub allowed : (rest : Exchange) → Allows after rest → Allows before (paired asked answers ++ rest)
 
--- want of memory, apart from what was said
+-- that memory was refused, apart from what was said
 abbrev pub IsSaid : Result LongString Refusal → Result (Result LongString Text) WantOfMemory → Type 0
 IsSaid (Ok octets) result = result ≡ Ok (Ok octets)
 IsSaid (Err (Said text)) result = result ≡ Ok (Err text)

@@ -103,7 +103,7 @@ offers-placed j last os offers h =
       room = subst (λ (n : ℕ). n < length last.plan.rooms) (sym room) (subst (λ (y : JoinPlan). j.room_at < length y.rooms) (sym plan) h.room);
     }
 
--- answers that are noted are no want of memory
+-- answers that are noted are none of NoMemory
 pub tooks-noted : (ns : List ℕ) (failed : Bool) → AreNoted (answers_of_writes ns failed)
 tooks-noted [] true = ((λ is. cc), tt)
 tooks-noted [] false = tt

@@ -346,7 +346,7 @@ taken_off old mid kept new more state speech same client rest spoken =
 pub heard_answers : (h : Heard) → HeardAll h → AnswersClient (double_of h)
 heard_answers h is = (is.0, is.1.answered, is.2)
 
--- want of memory is no refusal
+-- NoMemory is no refusal
 pub never-memory : (o : Option Refusal) → result_of o ≡ Err faults.NoMemory → ⊥
 never-memory None is = cc
 never-memory (Some (refusals.BadBytes place)) is = cc

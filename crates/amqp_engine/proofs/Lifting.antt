@@ -59,6 +59,13 @@ pub all-rest : (b : Bool) (ws : List Wrote) (p : Progress) → MatchBool b (AreA
 all-rest true ws p h = inr (refl, h)
 all-rest false ws p h = inl (refl, h)
 
+-- nothing is written where the turn is cut before
+pub stops-none : (ws : List Wrote) (p : Progress) → goes p ≡ false → AreAnswers ws p → ws ≡ []
+stops-none [] p off may = refl
+stops-none (w ∷ ws) p off may =
+    let on : goes p ≡ true = and-left (goes p) (can_write p.engine) may.0 in
+    absurd cc
+
 -- ---- what is folded beside the engine: by the asking, the step and each offer
 
 module _ (X : Type 0) (ask : Engine → X → X) (stepped : ℕ → Step → List ℕ → Engine → X → X) (offering : Wrote → Progress → X → X) where
@@ -195,13 +202,6 @@ module _ (X : Type 0) (ask : Engine → X → X) (stepped : ℕ → Step → Lis
         absurd cc
     answer-starved (Some j) at q y is (inl h) = k.starve true at j q.engine y (k.less true q.engine y h)
     answer-starved (Some j) at q y is (inr h) = k.starve false at j q.engine y h.0
-
-    -- nothing is written where the turn is cut before
-    stops-none : (ws : List Wrote) (p : Progress) → goes p ≡ false → AreAnswers ws p → ws ≡ []
-    stops-none [] p off may = refl
-    stops-none (w ∷ ws) p off may =
-        let on : goes p ≡ true = and-left (goes p) (can_write p.engine) may.0 in
-        absurd cc
 
     answer-cut : (s : Option ℕ) (at n : ℕ) (e : Engine) (y : X) → n ≡ 0 → is_before s n ≡ false → IsCut s n → P (starve_at at 0 e) y → P (starved_after s at e) y
     answer-cut None at n e y none off cut h = absurd cc

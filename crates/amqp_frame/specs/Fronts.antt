@@ -75,7 +75,7 @@ IsFront bytes limit (BadHeartbeat channel) = IsBadHeartbeat bytes limit channel
 IsFront bytes limit Bad = IsBad bytes limit
 IsFront bytes limit NoMemory = ⊥
 
--- ---- want of memory
+-- ---- where memory was refused
 
 -- a payload for which memory may be asked: a class, a method and what follows; a content header; a content body
 abbrev pub IsCopied : ℕ → List ℕ → Type 0

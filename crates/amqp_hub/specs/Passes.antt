@@ -51,7 +51,7 @@ abbrev pub first_foreign : List Pass → List ℕ → Option ErrorKind
 first_foreign [] counts = None
 first_foreign (p ∷ ps) counts = option_or (foreign p counts) (first_foreign ps counts)
 
--- the answer is ForeignPass exactly for that reason, and no other error but want of memory
+-- the answer is ForeignPass exactly for that reason, and no other error but NoMemory
 abbrev pub IsForeign : {A : Type 0} → Option ErrorKind → Result A ErrorKind → Type 0
 IsForeign why (Ok x) = why ≡ None
 IsForeign why (Err NoMemory) = why ≡ None

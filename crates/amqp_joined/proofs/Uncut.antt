@@ -1,7 +1,7 @@
 -- A turn that was cut no sooner than it had ended its session is as one that was not cut.
 use Rattle.std.proofs.Common.{◌≡◌, ◌<◌, ◌∙◌, ap, sym, refl, subst, ℕ, zero, suc, ◌==◌, ◌&&◌, not, if◌then◌else◌, Bool, true, false, true≢false, MatchBool, List, [], ◌∷◌, ◌++◌, length, take, take_all, append-nil, Option, Some, None, is_some, Ok, Err, inl, inr, arith}
 use Rattle.std.proofs.lemmas.Bool.Decides.{nat_tests}
-use Rattle.amqp_types.proofs.Small.{if-true, if-false, and-left, and-right, and-true, and-false, and-other, the-number}
+use Rattle.amqp_types.proofs.Small.{if-true, if-false, and-right, and-true, and-false, and-other, the-number}
 use Rattle.amqp_promise.specs.declared.error.ErrorKind.TheVariants.{NoMemory as RefusedMemory}
 use Rattle.amqp_auth.specs.declared.asked.Question.{Question}
 use Rattle.amqp_auth.specs.declared.asked.Asked.{Asked}
@@ -24,7 +24,7 @@ use Rattle.amqp_engine.proofs.Cases.{some-unsent}
 use Rattle.amqp_engine.proofs.Commits.{commits-keep}
 use Rattle.amqp_engine.proofs.Settling.{settle-talk}
 use Rattle.amqp_engine.proofs.Reading.{reads-rest, reads-done, reading-cut}
-use Rattle.amqp_engine.proofs.Lifting.{all-rest}
+use Rattle.amqp_engine.proofs.Lifting.{all-rest, stops-none}
 use Rattle.amqp_engine.proofs.Over.{asks-running, turn-is, ended-closed, over-writes, over-refuses}
 use Rattle.amqp_joining.specs.Joining.{Join, JoinsOffers, JoinsTurns, AreFed, after_join_step, asked_now, asked_then}
 use Rattle.amqp_joined.specs.JoinedRuns.{uncut}
@@ -38,8 +38,8 @@ abbrev uncut_turn : Turn → Turn
 uncut_turn u = record u { notes = record u.notes { starved = None } }
 
 -- what has ended is not read on
-over-reads : (e : Engine) → has_ended e.talk ≡ true → can_read e ≡ false
-over-reads e h = ap (λ (b : Bool). b && not (is_more (front_of e))) (ended-closed e.talk.link h)
+ended-unread : (e : Engine) → has_ended e.talk ≡ true → can_read e ≡ false
+ended-unread e h = ap (λ (b : Bool). b && not (is_more (front_of e))) (ended-closed e.talk.link h)
 
 -- ---- what is read
 
@@ -233,11 +233,6 @@ answered-whole (Some j) questions next answers none h =
     subst (λ (qs : List Question). Answer qs answers)
     (ap (λ (qs : List Question). take (length answers) (questions ++ qs)) none ∙ ap (take (length answers)) (append-nil questions) ∙ take_all (length answers) questions h.0) h.1
 
--- nothing is written where the turn is cut before
-stops-none : (ws : List Wrote) (p : Progress) → goes p ≡ false → AreAnswers ws p → ws ≡ []
-stops-none [] p off may = refl
-stops-none (w ∷ ws) p off may = absurd (true≢false (sym (and-left (goes p) (can_write p.engine) may.0) ∙ off))
-
 -- where the session ended in a turn, it is one that was not cut
 record TurnWhole (u : Turn) (e : Engine) : Type 0 where
   may : IsTurn (uncut_turn u) e
@@ -304,7 +299,7 @@ turn-whole u e may over =
     all-read : is_piece u.step ≡ true → can_read r.engine ≡ false
     all-read is = by (goes r) refl where
       by : (b : Bool) → goes r ≡ b → can_read r.engine ≡ false
-      by false off = over-reads r.engine (cut-ended off)
+      by false off = ended-unread r.engine (cut-ended off)
       by true on = and-other (goes r) (can_read r.engine) on (subst (λ (b : Bool). (goes (reading b p1) && can_read (reading b p1).engine) ≡ false) (sym is) (reads-done (length p1.engine.unread) p1 (omega arith)))
 
     same : read (uncut_turn u) x ≡ whole r

@@ -181,8 +181,8 @@ impl JoinedPort {
 
     /// Runs an engine over this port, with answers of this provider, turn by turn, and answers as
     /// `IoLoop::run` does; but where memory was refused, an error is told as `NoMemory`. Of a new engine over
-    /// a new port, with as many turns as the plan takes, it answers Ok, and both ends are closed then, unless
-    /// memory was refused.
+    /// a new port, with as many turns as the plan takes, it answers Ok, and both ends are closed then; or
+    /// memory was refused, and it answers `NoMemory`.
     pub fn run<A: AuthProvider>(
         &mut self,
         engine: &mut IoLoop,

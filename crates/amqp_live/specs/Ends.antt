@@ -38,7 +38,7 @@ Goes known refusals refusals' loops loops' before after (Err (Unconnected e)) =
 Goes known refusals refusals' loops loops' before after answer =
     IsReached known loops loops' × Visits before after answer
 
--- an error was said; or it is want of memory, or there was none to say it; or the sink failed
+-- an error was said; or it is NoMemory, or there was none to say it; or the sink failed
 abbrev pub TellsError : ErrorKind → Option (List ℕ) → Option (List ℕ) → ℕ → Type 0
 TellsError e before after status =
     ((status ≡ FAILED) × TookAll (error_line e) before after)
@@ -57,7 +57,7 @@ FailsToSay known refusals refusals' loops loops' before after =
     (IsReached known loops loops' × SaysFront before after)
     ⊎ ((e : ErrorKind) × RefusesToConnect known refusals refusals' e × TookFront (error_line e) before after)
 
--- an error was said: that of connecting, which is the fault of the text, the spawner's refusal, or want of memory; or,
+-- an error was said: that of connecting, which is the fault of the text, the spawner's refusal, or NoMemory; or,
 -- of an address for which a loop was started, that of a call on the connection, after some of the lines
 abbrev pub SaysWhy : Result AMQPUri UriFault → ℕ → ℕ → ℕ → ℕ → Option (List ℕ) → Option (List ℕ) → Type 0
 SaysWhy known refusals refusals' loops loops' before after =

@@ -52,7 +52,7 @@ impl From<Error> for Stop {
 /// Connects to an address by a runtime, opens a channel, closes it and then the connection, and says each
 /// on a sink, a line as it comes: `connected`, `channel N`, `closed`; or last `error` and why. The words
 /// are `live` and the address. It gives the exit status: 0 once all three lines are said, 2 for other words,
-/// 4 for a sink that failed, 5 for an error, and 7 for want of memory. It waits for the server as long as
+/// 4 for a sink that failed, 5 for an error, and 7 where memory was refused. It waits for the server as long as
 /// that takes.
 pub fn top_live<K: Sink, S: Spawner, R: Threads + Wait + Copy + Send + 'static>(
     rt: R,

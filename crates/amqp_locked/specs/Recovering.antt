@@ -9,12 +9,12 @@ use Rattle.amqp_session.specs.declared.command.ChanRef.{ChanRef}
 use Rattle.amqp_session.specs.Queries.{channel_state}
 use Rattle.amqp_session.specs.Talk.{Talk}
 
--- it goes on, or this error is told, or want of memory for its copy
+-- it goes on, or this error is told, or NoMemory where memory for its copy was refused
 abbrev pub IsToldBy : ErrorKind → Result (Unit {0}) ErrorKind → Type 0
 IsToldBy error (Ok done) = Unit {0}
 IsToldBy error (Err e) = (e ≡ error) ⊎ (e ≡ NoMemory)
 
--- the error is told, or want of memory for its copy
+-- the error is told, or NoMemory where memory for its copy was refused
 abbrev pub IsError : ErrorKind → Option (Result (Unit {0}) ErrorKind) → Type 0
 IsError error None = ⊥
 IsError error (Some (Ok done)) = ⊥

@@ -342,7 +342,8 @@ impl Locked {
     }
 
     /// What is known of a channel after an error: Ok where it is open; nothing where it waits for another link,
-    /// and the session and the error allow that; else the error, or want of memory for its copy.
+    /// and the session and the error allow that; else the error, or `NoMemory` where memory for its copy was
+    /// refused.
     pub fn found(&self, channel: ChanRef, error: &Error) -> Option<Result<()>>
         ensures { FoundOf self.now.hub.engine.talk channel error.now result }
     {
@@ -461,7 +462,7 @@ impl Locked {
     }
 }
 
-// A copy of an error, or want of memory in its place.
+// A copy of an error, or `NoMemory` where memory for it was refused.
 fn copied(alloc: Global, error: &Error) -> Error
     ensures { (result ≡ error.now) ⊎ (result ≡ ErrorKind.NoMemory) }
 {

@@ -58,7 +58,7 @@ pub record IsPool (p : Pooled) : Type 0 where
   -- there are no more of them than the limit
   pub few : length (opening_promises p) ≤ p.limit
 
--- idle and leased have places for all channels of the pool, so that none moves between the lists in want of memory
+-- idle and leased have places for all channels of the pool, so that a move between the lists takes no memory
 abbrev pub HavePlaces : Pooled → ℕ → ℕ → Type 0
 HavePlaces p idle_places leased_places =
     (length (opening_promises p) ≤ idle_places) × (length (opening_promises p) ≤ leased_places)

@@ -3,7 +3,7 @@ use Rattle.std.specs.Prelude.{◌≡◌, ◌⊎◌, Option, Some, None, Result, 
 use Rattle.amqp_promise.specs.declared.error.ErrorKind.{ErrorKind}
 use Rattle.amqp_promise.specs.declared.error.ErrorKind.TheVariants.{NoMemory}
 
--- Ok where no error was set, and else the last one that was set, or want of memory for its copy
+-- Ok where no error was set, and else the last one that was set, or NoMemory where memory for its copy was refused
 abbrev pub Checks : Option ErrorKind → Result (Unit {0}) ErrorKind → Type 0
 Checks None (Ok told) = Unit {0}
 Checks None (Err error) = ⊥

@@ -37,8 +37,8 @@ impl ErrorHolder {
         self.error = Some(error);
     }
 
-    /// A copy of the last error that was set, as an error; want of memory in its place, where memory
-    /// for the copy is refused.
+    /// A copy of the last error that was set, as an error; `NoMemory` in its place, where memory
+    /// for the copy was refused.
     pub fn check(&self, alloc: Global) -> Result<()>
         ensures { Checks self.now result }
     {

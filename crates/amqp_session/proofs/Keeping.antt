@@ -67,7 +67,7 @@ present-again false at t h =
 pub present-twice : (at : ℕ) (t : Talk) → present_at at (present_at at t) ≡ present_at at t
 present-twice at t = present-again (has_ended t) at t refl
 
--- ---- want of memory
+-- ---- where memory was refused
 
 starve-over : (b : Bool) (t : Talk) → has_ended t ≡ b → has_ended (starve t) ≡ true
 starve-over true t h = ap has_ended (if-true (has_ended t) t (fail NoMemory t) h) ∙ h

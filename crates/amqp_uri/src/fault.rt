@@ -28,7 +28,7 @@ pub enum UriFault {
 
 impl UriFault {
     /// The word by which a connection that was given such a text says so in its error; it leaves out the
-    /// key of a bad number. None for want of memory, which is an error of its own.
+    /// key of a bad number. None where memory was refused, which is an error of its own.
     pub fn word(self) -> Option<Word>
         ensures word { result ≡ word_of self }
         ensures none { (result ≡ None) ↔ (self ≡ fault.NoMemory) }

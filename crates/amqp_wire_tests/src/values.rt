@@ -309,7 +309,7 @@ fn nested_values_are_compared(rt: HostRuntime) -> Result<(), TypeFault> {
     Ok(())
 }
 
-// ---- want of memory
+// ---- where memory was refused
 
 // Whether a number was inserted under a name of one octet, or memory was refused.
 fn inserts(alloc: Global, table: &mut FieldTable, octet: u8) -> bool {

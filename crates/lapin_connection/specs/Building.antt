@@ -14,7 +14,7 @@ use Rattle.lapin_connection.specs.declared.builder.Address.{Address}
 use Rattle.lapin_connection.specs.declared.builder.Address.TheVariants as address
 use Rattle.lapin_connection.specs.Connecting.{Connects, ConnectsToText}
 
--- the address that is read, or why there is none: by what it was read as, or want of memory
+-- the address that is read, or why there is none: by what it was read as, or NoMemory
 abbrev pub ReadsBy : Result AMQPUri UriFault → Result AMQPUri ErrorKind → Type 0
 ReadsBy known (Ok uri) = known ≡ Ok uri
 ReadsBy (Ok uri) (Err e) = e ≡ NoMemory

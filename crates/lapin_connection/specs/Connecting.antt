@@ -22,13 +22,13 @@ asking uri options = asks (begin (start (config_of uri options)))
 abbrev pub IsNoLoop : ℕ → ℕ → ErrorKind → Type 0
 IsNoLoop before after e = (e ≡ IOError (Other NoLoop)) × Rose before after
 
--- connecting to an address is refused by want of memory, or by the spawner
+-- connecting to an address is refused with NoMemory, or by the spawner
 abbrev pub Connects : {A : Type 0} → ℕ → ℕ → Result A ErrorKind → Type 0
 Connects before after (Ok c) = Unit {0}
 Connects before after (Err e) = (e ≡ NoMemory) ⊎ IsNoLoop before after e
 
 -- connecting to a text: it is an address, and to connect to that is answered; or it is none, and the error is its
--- fault, or want of memory
+-- fault, or NoMemory
 abbrev pub ConnectsBy : {A : Type 0} → Result AMQPUri UriFault → ℕ → ℕ → Result A ErrorKind → Type 0
 ConnectsBy (Ok uri) before after answer = Connects before after answer
 ConnectsBy (Err fault) before after (Ok c) = ⊥

@@ -11,7 +11,7 @@ use Rattle.amqp_uri.specs.Faults.{word_of}
 use Rattle.lapin_connection.specs.declared.spawner.SpawnFault.{SpawnFault}
 use Rattle.lapin_connection.specs.declared.spawner.SpawnFault.TheVariants as start
 
--- an error of input and output by its word; without one it is want of memory
+-- an error of input and output by its word; without one it is NoMemory
 abbrev pub error_by : Option Word → ErrorKind
 error_by None = NoMemory
 error_by (Some word) = IOError (Other word)

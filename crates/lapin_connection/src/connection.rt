@@ -119,7 +119,7 @@ impl Connection {
         self.shared.locked.lock(rt).passes(count)
     }
 
-    /// One new pass. Once no number is left, the answer is want of memory.
+    /// One new pass. Once no number is left, the answer is `NoMemory`.
     pub fn pass<R: Wait>(&self, rt: &R) -> Result<Pass>
         ensures pass { IfOk result (λ p. (1 ≤ p.number) × (p.made ≡ 0)) }
         ensures only { IfErr result (λ e. e ≡ ErrorKind.NoMemory) }

@@ -21,7 +21,7 @@ use std::marker::PhantomData;
 use std::sync::{Arc, Mutex, Wait};
 
 /// What an answer is made into. An answer of another kind than its command's never comes; it would be
-/// given as want of memory.
+/// given as `NoMemory`.
 pub trait Gives: Drop {
     /// What is made of an answer, with the channel that was made for it, if one was.
     ghost made: { Told → Option Opened → Outcome Self Kind };
