@@ -14,21 +14,22 @@ use Rattle.amqp_promise.specs.declared.state.ChannelState.TheVariants as channel
 use Rattle.amqp_promise.specs.declared.error.ErrorKind.{ErrorKind}
 use Rattle.amqp_promise.specs.declared.error.ErrorKind.TheVariants.{InvalidChannelState}
 use Rattle.amqp_auth.specs.declared.asked.Asked.{Asked}
-use Rattle.amqp_session.specs.declared.channels.Channel.{Channel}
-use Rattle.amqp_session.specs.declared.channels.Debt.{Debt}
-use Rattle.amqp_session.specs.declared.channels.Debt.TheVariants as debt
-use Rattle.amqp_session.specs.declared.state.Phase.{Phase}
-use Rattle.amqp_session.specs.declared.command.Answer.{Answer}
-use Rattle.amqp_session.specs.declared.command.Answer.TheVariants.{Channel as AnswerChannel, Connected as AnswerConnected, Done, Flow}
-use Rattle.amqp_session.specs.Talk.{Talk, acts, hears_on}
-use Rattle.amqp_session.specs.Changes.{misplaced, promises_on, replies_on, settled_to}
-use Rattle.amqp_session.specs.Violations.{channel_closed_with, stray_connection_method}
-use Rattle.amqp_session.specs.Channels.{channel_at}
-use Rattle.amqp_session.specs.ConnectionMethods.{connected, on_open_ok, connection_closed, secret_taken, connection_rule}
-use Rattle.amqp_session.specs.ChannelMethods.{heard_on, channel_opened, remove_unless_owed, channel_closed, channel_flowed, channel_close_by, closed_by_server, crossing_close, channel_rule, channel_method, channel_method_by}
-use Rattle.amqp_session.specs.Frames.{frame_rule, closed_rule, method_on, method_rule, on_frame}
-use Rattle.amqp_session.proofs.Walk.{close_answered}
-use Rattle.amqp_session.proofs.Recovering.{reopened-keeps}
+use Rattle.amqp_channels.specs.declared.channels.Channel.{Channel}
+use Rattle.amqp_channels.specs.declared.channels.Debt.{Debt}
+use Rattle.amqp_channels.specs.declared.channels.Debt.TheVariants as debt
+use Rattle.amqp_rules.specs.declared.state.Phase.{Phase}
+use Rattle.amqp_answers.specs.declared.answer.Answer.{Answer}
+use Rattle.amqp_answers.specs.declared.answer.Answer.TheVariants.{Channel as AnswerChannel, Connected as AnswerConnected, Done, Flow}
+use Rattle.amqp_rules.specs.Talk.{Talk, acts, hears_on}
+use Rattle.amqp_rules.specs.Changes.{misplaced, promises_on, replies_on}
+use Rattle.amqp_answers.specs.Settled.{settled_to}
+use Rattle.amqp_violations.specs.Violations.{channel_closed_with, stray_connection_method}
+use Rattle.amqp_rules.specs.Channels.{channel_at}
+use Rattle.amqp_rules.specs.ConnectionMethods.{connected, on_open_ok, connection_closed, secret_taken, connection_rule}
+use Rattle.amqp_rules.specs.ChannelMethods.{heard_on, channel_opened, remove_unless_owed, channel_closed, channel_flowed, channel_close_by, closed_by_server, crossing_close, channel_rule, channel_method, channel_method_by}
+use Rattle.amqp_rules.specs.Frames.{frame_rule, closed_rule, method_on, method_rule, on_frame}
+use Rattle.amqp_rules.proofs.Walk.{close_answered}
+use Rattle.amqp_rules.proofs.Recovering.{reopened-keeps}
 use Rattle.amqp_types.proofs.Small.{if-true}
 use Rattle.amqp_answer_rules.specs.Answering.{HasAnswer, IsChannelAnswer, IsConnectionAnswer, IsReplied, IsWaiting}
 use Rattle.amqp_answer_rules.proofs.Slots.{Has, each-has, each-still, named-has, settled-has, told-kept}

@@ -19,23 +19,24 @@ use Rattle.amqp_promise.specs.declared.error.ErrorKind.TheVariants.{InvalidProto
 use Rattle.amqp_auth.specs.declared.asked.Question.TheVariants as question
 use Rattle.amqp_auth.specs.declared.asked.Asked.{Asked}
 use Rattle.amqp_auth.specs.declared.asked.Asked.TheVariants as answer
-use Rattle.amqp_session.specs.declared.channels.Channel.{Channel}
-use Rattle.amqp_session.specs.declared.channels.Debt.{Debt}
-use Rattle.amqp_session.specs.declared.channels.Debt.TheVariants as debt
-use Rattle.amqp_session.specs.declared.state.Phase.{Phase}
-use Rattle.amqp_session.specs.declared.state.Phase.TheVariants.{AwaitStart, AwaitTune, AwaitOpenOk}
-use Rattle.amqp_session.specs.declared.command.Answer.{Answer}
-use Rattle.amqp_session.specs.declared.command.Answer.TheVariants.{Channel as AnswerChannel, Connected as AnswerConnected, Done, Flow}
-use Rattle.amqp_session.specs.Talk.{Talk, acts, hears_on, is_closing}
-use Rattle.amqp_session.specs.Changes.{give_to, lose, misplaced, promises_on, replies_on, settled_to}
-use Rattle.amqp_session.specs.Violations.{channel_closed_with, stray_channel_frame, stray_connection_method, unawaited}
-use Rattle.amqp_session.specs.Causes.{is_due, is_awaited, is_secret_told, refused_in}
-use Rattle.amqp_session.specs.Channels.{channel_at}
-use Rattle.amqp_session.specs.ConnectionMethods.{on_start, on_secure, connected, on_open_ok, connection_closed, secret_taken, connection_rule}
-use Rattle.amqp_session.specs.ChannelMethods.{heard_on, unawaited_channel_method, channel_opened, remove_unless_owed, channel_closed, on_channel_flow, channel_flowed, channel_close_by, closed_by_server, crossing_close, channel_rule, channel_method, channel_method_by, confirmed, hand_out, is_select_ok, pass_through, raw_by}
-use Rattle.amqp_session.specs.Frames.{frame_rule, closed_rule, method_questions, method_rule, on_frame}
-use Rattle.amqp_session.proofs.FrameEnds.{none-heard, some-heard}
-use Rattle.amqp_session.proofs.Recovering.{reopened-keeps}
+use Rattle.amqp_channels.specs.declared.channels.Channel.{Channel}
+use Rattle.amqp_channels.specs.declared.channels.Debt.{Debt}
+use Rattle.amqp_channels.specs.declared.channels.Debt.TheVariants as debt
+use Rattle.amqp_rules.specs.declared.state.Phase.{Phase}
+use Rattle.amqp_rules.specs.declared.state.Phase.TheVariants.{AwaitStart, AwaitTune, AwaitOpenOk}
+use Rattle.amqp_answers.specs.declared.answer.Answer.{Answer}
+use Rattle.amqp_answers.specs.declared.answer.Answer.TheVariants.{Channel as AnswerChannel, Connected as AnswerConnected, Done, Flow}
+use Rattle.amqp_rules.specs.Talk.{Talk, acts, hears_on, is_closing}
+use Rattle.amqp_rules.specs.Changes.{give_to, lose, misplaced, promises_on, replies_on}
+use Rattle.amqp_answers.specs.Settled.{settled_to}
+use Rattle.amqp_violations.specs.Violations.{channel_closed_with, stray_channel_frame, stray_connection_method, unawaited}
+use Rattle.amqp_rules.specs.Causes.{is_due, is_awaited, is_secret_told, refused_in}
+use Rattle.amqp_rules.specs.Channels.{channel_at}
+use Rattle.amqp_rules.specs.ConnectionMethods.{on_start, on_secure, connected, on_open_ok, connection_closed, secret_taken, connection_rule}
+use Rattle.amqp_rules.specs.ChannelMethods.{heard_on, unawaited_channel_method, channel_opened, remove_unless_owed, channel_closed, on_channel_flow, channel_flowed, channel_close_by, closed_by_server, crossing_close, channel_rule, channel_method, channel_method_by, confirmed, hand_out, is_select_ok, pass_through, raw_by}
+use Rattle.amqp_rules.specs.Frames.{frame_rule, closed_rule, method_questions, method_rule, on_frame}
+use Rattle.amqp_rules.proofs.FrameEnds.{none-heard, some-heard}
+use Rattle.amqp_rules.proofs.Recovering.{reopened-keeps}
 use Rattle.amqp_types.proofs.Small.{if_case, if_by}
 use Rattle.amqp_answer_rules.specs.Answering.{IsChannelAnswer, IsConnectionAnswer, IsFrameAnswer, IsNamed, SettlesFor}
 use Rattle.amqp_answer_rules.proofs.Slots.{Loses, Settle, settle-one, settle-to, settle-each, settle-then, leaves-all, settles-lost}

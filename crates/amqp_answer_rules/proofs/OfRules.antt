@@ -17,36 +17,37 @@ use Rattle.amqp_promise.specs.declared.state.ChannelState.TheVariants as channel
 use Rattle.amqp_promise.specs.declared.error.ErrorKind.{ErrorKind}
 use Rattle.amqp_promise.specs.declared.error.ErrorKind.TheVariants.{IOError, InvalidChannelState, InvalidConnectionState, MissingHeartbeatError, NoMemory, ProtocolError, SerialisationError}
 use Rattle.amqp_auth.specs.declared.asked.Asked.{Asked}
-use Rattle.amqp_session.specs.declared.channels.Channel.{Channel}
-use Rattle.amqp_session.specs.declared.command.Answer.{Answer}
-use Rattle.amqp_session.specs.declared.command.Answer.TheVariants.{Sent}
-use Rattle.amqp_session.specs.declared.command.ChanRef.{ChanRef}
-use Rattle.amqp_session.specs.declared.command.Cmd.{Cmd}
-use Rattle.amqp_session.specs.declared.command.Cmd.TheVariants.{OpenChannel, CloseChannel, CloseConnection, UpdateSecret, Send, Publish, Flow, DropChannel, DropConnection, Listen}
-use Rattle.amqp_session.specs.declared.committed.Mark.{Mark}
-use Rattle.amqp_session.specs.declared.committed.Then.{Then}
-use Rattle.amqp_session.specs.declared.committed.Then.TheVariants.{Nothing, Answer as Answers, Pays, Finish}
-use Rattle.amqp_session.specs.declared.event.Event.{Event}
-use Rattle.amqp_session.specs.declared.misread.Misread.{Misread}
-use Rattle.amqp_session.specs.declared.server_close.ServerClose.{ServerClose}
-use Rattle.amqp_session.specs.declared.server_close.ServerClose.TheVariants.{WithoutError, WithError}
-use Rattle.amqp_session.specs.Listed.{at, put, without}
-use Rattle.amqp_session.specs.Talk.{Talk, acts, has_ended, is_asked, is_open, end_of}
-use Rattle.amqp_session.specs.Recovery.{delayed, next_delay}
-use Rattle.amqp_session.specs.Changes.{Promises, fail, finish, finish_by, give, lose, present_at, promise, queue, rejected, settled, starve}
-use Rattle.amqp_session.specs.Links.{asked, dropped, link_failed, linked, lost, misread, piece, refused_after}
-use Rattle.amqp_session.specs.Violations.{misread_error}
-use Rattle.amqp_session.specs.Ticks.{beat, is_heartbeat_due, is_missed, missing_heartbeat, refreshed, timed, tick}
-use Rattle.amqp_session.specs.Channels.{channel_at}
-use Rattle.amqp_session.specs.Publishing.{method_frame, publish_frames}
-use Rattle.amqp_session.specs.Handshake.{new_secret}
-use Rattle.amqp_session.specs.Commands.{body_limit, close_target, command, command_rule, drop_target, flow_target, leave_channel, leave_connection, open_drawn, publish_target, queue_publish, queue_secret, queue_send, send_target, takes_promise, target, too_full, too_long, unless_full, unless_too_long, update_secret}
-use Rattle.amqp_session.specs.Writing.{channel_close_ok_sent, end_overlong, follow, next_frame, next_within, commit, committed_as, overlong, sent, sent_among, taken}
-use Rattle.amqp_session.specs.Answers.{answer_of, end_event, take_answer, take_event, take_frames, without_event}
-use Rattle.amqp_session.proofs.Heard.{secret-case}
-use Rattle.amqp_session.proofs.Keeping.{off-finish}
-use Rattle.amqp_session.proofs.Sending.{pay-keeps, sent_among-closed}
-use Rattle.amqp_session.proofs.Numbered.{put-other, without-other}
+use Rattle.amqp_channels.specs.declared.channels.Channel.{Channel}
+use Rattle.amqp_answers.specs.declared.answer.Answer.{Answer}
+use Rattle.amqp_answers.specs.declared.answer.Answer.TheVariants.{Sent}
+use Rattle.amqp_commands.specs.declared.command.ChanRef.{ChanRef}
+use Rattle.amqp_commands.specs.declared.command.Cmd.{Cmd}
+use Rattle.amqp_commands.specs.declared.command.Cmd.TheVariants.{OpenChannel, CloseChannel, CloseConnection, UpdateSecret, Send, Publish, Flow, DropChannel, DropConnection, Listen}
+use Rattle.amqp_outgoing.specs.declared.committed.Mark.{Mark}
+use Rattle.amqp_outgoing.specs.declared.committed.Then.{Then}
+use Rattle.amqp_outgoing.specs.declared.committed.Then.TheVariants.{Nothing, Answer as Answers, Pays, Finish}
+use Rattle.amqp_answers.specs.declared.event.Event.{Event}
+use Rattle.amqp_violations.specs.declared.misread.Misread.{Misread}
+use Rattle.amqp_violations.specs.declared.server_close.ServerClose.{ServerClose}
+use Rattle.amqp_violations.specs.declared.server_close.ServerClose.TheVariants.{WithoutError, WithError}
+use Rattle.amqp_maps.specs.Listed.{at, put, without}
+use Rattle.amqp_rules.specs.Talk.{Talk, acts, has_ended, is_asked, is_open, end_of}
+use Rattle.amqp_rules.specs.Recovery.{delayed, next_delay}
+use Rattle.amqp_answers.specs.Settled.{Promises, settled}
+use Rattle.amqp_rules.specs.Changes.{fail, finish, finish_by, give, lose, present_at, promise, queue, rejected, starve}
+use Rattle.amqp_rules.specs.Links.{asked, dropped, link_failed, linked, lost, misread, piece, refused_after}
+use Rattle.amqp_violations.specs.Violations.{misread_error}
+use Rattle.amqp_rules.specs.Ticks.{beat, is_heartbeat_due, is_missed, missing_heartbeat, refreshed, timed, tick}
+use Rattle.amqp_rules.specs.Channels.{channel_at}
+use Rattle.amqp_commands.specs.Publishing.{method_frame, publish_frames}
+use Rattle.amqp_settings.specs.Handshake.{new_secret}
+use Rattle.amqp_rules.specs.Commands.{body_limit, close_target, command, command_rule, drop_target, flow_target, leave_channel, leave_connection, open_drawn, publish_target, queue_publish, queue_secret, queue_send, send_target, takes_promise, target, too_full, too_long, unless_full, unless_too_long, update_secret}
+use Rattle.amqp_rules.specs.Writing.{channel_close_ok_sent, end_overlong, follow, next_frame, next_within, commit, committed_as, overlong, sent, sent_among, taken}
+use Rattle.amqp_rules.specs.Answers.{answer_of, end_event, take_answer, take_event, take_frames, without_event}
+use Rattle.amqp_rules.proofs.Heard.{secret-case}
+use Rattle.amqp_rules.proofs.Keeping.{off-finish}
+use Rattle.amqp_rules.proofs.Sending.{pay-keeps, sent_among-closed}
+use Rattle.amqp_maps.proofs.Numbered.{put-other, without-other}
 use Rattle.amqp_types.proofs.Small.{and-other, at-most, if_by, if_case, if-false, is-at-most, the-number}
 use Rattle.amqp_answer_rules.specs.Answering.{HasAnswer, IsLetGo, IsLost, IsNamed, IsSent, IsServerClose, IsSettledFor, IsTakenAnswer, KeepsPromises, LeavesPromises, SettlesFor, IsWaiting}
 use Rattle.amqp_answer_rules.proofs.Slots.{Has, IsKept, Loses, Settle, groups-has, has-still, kept-settled, leaves-all, settled-has, settled-kept, settle-one, settle-groups, settled-told, settles-lost, settles-then}

@@ -7,18 +7,18 @@ use Rattle.amqp_frame.specs.RawMethods.{OtherMethod}
 use Rattle.amqp_promise.specs.declared.state.ConnectionState.{ConnectionState}
 use Rattle.amqp_promise.specs.declared.state.ConnectionState.TheVariants.{Connected}
 use Rattle.amqp_promise.specs.declared.error.ErrorKind.{ErrorKind}
-use Rattle.amqp_session.specs.declared.channels.Channel.{Channel}
-use Rattle.amqp_session.specs.declared.command.Answer.{Answer}
-use Rattle.amqp_session.specs.declared.command.Cmd.{Cmd}
-use Rattle.amqp_session.specs.declared.command.Cmd.TheVariants.{OpenChannel, CloseChannel, CloseConnection, UpdateSecret, Send, Publish, Flow, DropChannel, DropConnection, Listen}
-use Rattle.amqp_session.specs.Listed.{at, put}
-use Rattle.amqp_session.specs.Talk.{Talk, end_of, has_ended}
-use Rattle.amqp_session.specs.Changes.{Promises}
-use Rattle.amqp_session.specs.Handshake.{new_secret}
-use Rattle.amqp_session.specs.Publishing.{method_frame, publish_frames}
-use Rattle.amqp_session.specs.Commands.{body_limit, close_target, command, command_rule, flow_target, open_drawn, publish_target, queue_publish, queue_secret, queue_send, send_target, takes_promise, target, too_full, too_long, unless_full, unless_too_long}
-use Rattle.amqp_session.specs.Answers.{answer_in, answer_of, rejection}
-use Rattle.amqp_session.proofs.Numbered.{put-same}
+use Rattle.amqp_channels.specs.declared.channels.Channel.{Channel}
+use Rattle.amqp_answers.specs.declared.answer.Answer.{Answer}
+use Rattle.amqp_commands.specs.declared.command.Cmd.{Cmd}
+use Rattle.amqp_commands.specs.declared.command.Cmd.TheVariants.{OpenChannel, CloseChannel, CloseConnection, UpdateSecret, Send, Publish, Flow, DropChannel, DropConnection, Listen}
+use Rattle.amqp_maps.specs.Listed.{at, put}
+use Rattle.amqp_rules.specs.Talk.{Talk, end_of, has_ended}
+use Rattle.amqp_answers.specs.Settled.{Promises}
+use Rattle.amqp_settings.specs.Handshake.{new_secret}
+use Rattle.amqp_commands.specs.Publishing.{method_frame, publish_frames}
+use Rattle.amqp_rules.specs.Commands.{body_limit, close_target, command, command_rule, flow_target, open_drawn, publish_target, queue_publish, queue_secret, queue_send, send_target, takes_promise, target, too_full, too_long, unless_full, unless_too_long}
+use Rattle.amqp_rules.specs.Answers.{answer_in, answer_of, rejection}
+use Rattle.amqp_maps.proofs.Numbered.{put-same}
 
 module _ (t : Talk) where
   -- the next promise is made, and no other

@@ -12,23 +12,24 @@ use Rattle.amqp_promise.specs.declared.state.ChannelState.{ChannelState}
 use Rattle.amqp_promise.specs.declared.state.ChannelState.TheVariants as channel
 use Rattle.amqp_promise.specs.declared.error.ErrorKind.{ErrorKind}
 use Rattle.amqp_promise.specs.declared.error.ErrorKind.TheVariants.{ChannelsLimitReached, InvalidChannel, InvalidChannelState, InvalidConnectionState, OutboxFull, SerialisationError}
-use Rattle.amqp_session.specs.declared.channels.Channel.{Channel}
-use Rattle.amqp_session.specs.declared.command.ChanRef.{ChanRef}
-use Rattle.amqp_session.specs.declared.command.Cmd.{Cmd}
-use Rattle.amqp_session.specs.declared.command.Cmd.TheVariants.{OpenChannel, CloseChannel, CloseConnection, UpdateSecret, Send, Publish, Flow, DropChannel, DropConnection, Listen}
-use Rattle.amqp_session.specs.Listed.{at, put}
-use Rattle.amqp_session.specs.Talk.{Talk}
-use Rattle.amqp_session.specs.Numbering.{drawn, first_number}
-use Rattle.amqp_session.specs.Channels.{AllListed}
-use Rattle.amqp_session.specs.Changes.{Promises, refuse}
-use Rattle.amqp_session.specs.Handshake.{new_secret}
-use Rattle.amqp_session.specs.Publishing.{method_frame, publish_frames}
-use Rattle.amqp_session.specs.Commands.{body_limit, close_channel, close_target, command, command_rule, flow_target, named, open_as, open_drawn, open_none, publish_target, queue_publish, queue_secret, queue_send, send_target, takes_promise, target, target_by, target_in, tell_flow, too_full, too_long, unless_full, unless_too_long}
-use Rattle.amqp_session.specs.Laws.{IsAnsweredAtOnce, IsOutboxFull}
-use Rattle.amqp_session.proofs.Numbered.{put-same}
-use Rattle.amqp_session.proofs.Refusals.{refused-out}
-use Rattle.amqp_session.proofs.FullOutbox.{full-only, full-there}
-use Rattle.amqp_session.proofs.Drawing.{all-listed, none-drawn}
+use Rattle.amqp_channels.specs.declared.channels.Channel.{Channel}
+use Rattle.amqp_commands.specs.declared.command.ChanRef.{ChanRef}
+use Rattle.amqp_commands.specs.declared.command.Cmd.{Cmd}
+use Rattle.amqp_commands.specs.declared.command.Cmd.TheVariants.{OpenChannel, CloseChannel, CloseConnection, UpdateSecret, Send, Publish, Flow, DropChannel, DropConnection, Listen}
+use Rattle.amqp_maps.specs.Listed.{at, put}
+use Rattle.amqp_rules.specs.Talk.{Talk}
+use Rattle.amqp_channels.specs.Numbering.{drawn, first_number}
+use Rattle.amqp_channels.specs.Channels.{AllListed}
+use Rattle.amqp_answers.specs.Settled.{Promises}
+use Rattle.amqp_rules.specs.Changes.{refuse}
+use Rattle.amqp_settings.specs.Handshake.{new_secret}
+use Rattle.amqp_commands.specs.Publishing.{method_frame, publish_frames}
+use Rattle.amqp_rules.specs.Commands.{body_limit, close_channel, close_target, command, command_rule, flow_target, named, open_as, open_drawn, open_none, publish_target, queue_publish, queue_secret, queue_send, send_target, takes_promise, target, target_by, target_in, tell_flow, too_full, too_long, unless_full, unless_too_long}
+use Rattle.amqp_rules.specs.Laws.{IsAnsweredAtOnce, IsOutboxFull}
+use Rattle.amqp_maps.proofs.Numbered.{put-same}
+use Rattle.amqp_rules.proofs.Refusals.{refused-out}
+use Rattle.amqp_rules.proofs.FullOutbox.{full-only, full-there}
+use Rattle.amqp_channels.proofs.Drawing.{all-listed, none-drawn}
 use Rattle.amqp_types.proofs.Small.{if_by, some_is}
 use Rattle.amqp_answer_rules.specs.Refusals.{channel_told, frames_told, IsTargetOpen, IsRefusedOpen, IsRefusedWith}
 

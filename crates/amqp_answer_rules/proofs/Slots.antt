@@ -7,14 +7,15 @@ use Rattle.std.proofs.lemmas.Bool.Decides.{nat_tests}
 use Rattle.amqp_outbox.specs.declared.item.Item.{Item}
 use Rattle.amqp_outbox.specs.Items.{promise_of_group}
 use Rattle.amqp_promise.specs.declared.error.ErrorKind.{ErrorKind}
-use Rattle.amqp_session.specs.declared.command.Answer.{Answer}
-use Rattle.amqp_session.specs.Listed.{at, put}
-use Rattle.amqp_session.specs.Talk.{Talk}
-use Rattle.amqp_session.specs.Recovery.{rejected_slot, rejected_all, recovery_delay}
-use Rattle.amqp_session.specs.Changes.{Promises, settled, settled_by, settled_to, rejected, rejected_each, lose}
-use Rattle.amqp_session.proofs.Ascending.{ranked}
-use Rattle.amqp_session.proofs.Numbered.{put-same, put-other}
-use Rattle.amqp_session.proofs.Recovering.{lose-case}
+use Rattle.amqp_answers.specs.declared.answer.Answer.{Answer}
+use Rattle.amqp_maps.specs.Listed.{at, put}
+use Rattle.amqp_rules.specs.Talk.{Talk}
+use Rattle.amqp_answers.specs.Settled.{rejected_slot, rejected_all, Promises, settled, settled_by, settled_to}
+use Rattle.amqp_rules.specs.Recovery.{recovery_delay}
+use Rattle.amqp_rules.specs.Changes.{rejected, rejected_each, lose}
+use Rattle.amqp_rules.proofs.Ascending.{ranked}
+use Rattle.amqp_maps.proofs.Numbered.{put-same, put-other}
+use Rattle.amqp_rules.proofs.Recovering.{lose-case}
 use Rattle.amqp_answer_rules.specs.Answering.{Held, IsNamed, IsSettledFor, SettlesFor}
 
 -- two numbers are the same or not

@@ -17,32 +17,32 @@ use Rattle.amqp_promise.specs.declared.state.ChannelState.TheVariants as channel
 use Rattle.amqp_promise.specs.declared.error.ErrorKind.{ErrorKind}
 use Rattle.amqp_promise.specs.declared.error.ErrorKind.TheVariants.{IOError, InvalidChannelState, InvalidConnectionState, MissingHeartbeatError, ProtocolError, SerialisationError}
 use Rattle.amqp_auth.specs.declared.asked.Asked.{Asked}
-use Rattle.amqp_session.specs.declared.channels.Channel.{Channel}
-use Rattle.amqp_session.specs.declared.channels.Debt.TheVariants.{Nothing}
-use Rattle.amqp_session.specs.declared.command.Answer.{Answer}
-use Rattle.amqp_session.specs.declared.command.Answer.TheVariants.{Connected, Channel as Opened, Done, Flow, Sent}
-use Rattle.amqp_session.specs.declared.command.ChanRef.{ChanRef}
-use Rattle.amqp_session.specs.declared.command.Cmd.{Cmd}
-use Rattle.amqp_session.specs.declared.command.Cmd.TheVariants.{CloseChannel, CloseConnection, DropChannel, DropConnection}
-use Rattle.amqp_session.specs.declared.committed.Mark.{Mark}
-use Rattle.amqp_session.specs.declared.committed.Then.TheVariants.{Answer as Answers}
-use Rattle.amqp_session.specs.declared.misread.Misread.{Misread}
-use Rattle.amqp_session.specs.declared.server_close.ServerClose.TheVariants.{WithError}
-use Rattle.amqp_session.specs.declared.state.Phase.TheVariants.{AwaitOpenOk}
-use Rattle.amqp_session.specs.Listed.{at}
-use Rattle.amqp_session.specs.Talk.{Talk, acts, is_open}
-use Rattle.amqp_session.specs.Channels.{channel_at}
-use Rattle.amqp_session.specs.Violations.{channel_closed_with, misread_error}
-use Rattle.amqp_session.specs.Causes.{IsFrameError}
-use Rattle.amqp_session.specs.Changes as change
-use Rattle.amqp_session.specs.Changes.{promises_on, replies_on}
-use Rattle.amqp_session.specs.Links as link
-use Rattle.amqp_session.specs.Frames.{on_frame}
-use Rattle.amqp_session.specs.Ticks as ticks
-use Rattle.amqp_session.specs.Commands as told
-use Rattle.amqp_session.specs.Commands.{takes_promise, target}
-use Rattle.amqp_session.specs.Writing as writing
-use Rattle.amqp_session.specs.Answers.{answer_of, take_answer, take_event, take_frames}
+use Rattle.amqp_channels.specs.declared.channels.Channel.{Channel}
+use Rattle.amqp_channels.specs.declared.channels.Debt.TheVariants.{Nothing}
+use Rattle.amqp_answers.specs.declared.answer.Answer.{Answer}
+use Rattle.amqp_answers.specs.declared.answer.Answer.TheVariants.{Connected, Channel as Opened, Done, Flow, Sent}
+use Rattle.amqp_commands.specs.declared.command.ChanRef.{ChanRef}
+use Rattle.amqp_commands.specs.declared.command.Cmd.{Cmd}
+use Rattle.amqp_commands.specs.declared.command.Cmd.TheVariants.{CloseChannel, CloseConnection, DropChannel, DropConnection}
+use Rattle.amqp_outgoing.specs.declared.committed.Mark.{Mark}
+use Rattle.amqp_outgoing.specs.declared.committed.Then.TheVariants.{Answer as Answers}
+use Rattle.amqp_violations.specs.declared.misread.Misread.{Misread}
+use Rattle.amqp_violations.specs.declared.server_close.ServerClose.TheVariants.{WithError}
+use Rattle.amqp_rules.specs.declared.state.Phase.TheVariants.{AwaitOpenOk}
+use Rattle.amqp_maps.specs.Listed.{at}
+use Rattle.amqp_rules.specs.Talk.{Talk, acts, is_open}
+use Rattle.amqp_rules.specs.Channels.{channel_at}
+use Rattle.amqp_violations.specs.Violations.{channel_closed_with, misread_error}
+use Rattle.amqp_rules.specs.Causes.{IsFrameError}
+use Rattle.amqp_rules.specs.Changes as change
+use Rattle.amqp_rules.specs.Changes.{promises_on, replies_on}
+use Rattle.amqp_rules.specs.Links as link
+use Rattle.amqp_rules.specs.Frames.{on_frame}
+use Rattle.amqp_rules.specs.Ticks as ticks
+use Rattle.amqp_rules.specs.Commands as told
+use Rattle.amqp_rules.specs.Commands.{takes_promise, target}
+use Rattle.amqp_rules.specs.Writing as writing
+use Rattle.amqp_rules.specs.Answers.{answer_of, take_answer, take_event, take_frames}
 
 -- what a state holds of a promise: nothing, where it was not made or its answer was taken; that it waits; or its answer
 abbrev pub Held : Type 0

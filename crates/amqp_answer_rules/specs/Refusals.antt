@@ -8,15 +8,15 @@ use Rattle.amqp_promise.specs.declared.state.ConnectionState.TheVariants.{Connec
 use Rattle.amqp_promise.specs.declared.state.ChannelState.TheVariants as channel
 use Rattle.amqp_promise.specs.declared.error.ErrorKind.{ErrorKind}
 use Rattle.amqp_promise.specs.declared.error.ErrorKind.TheVariants.{ChannelsLimitReached, InvalidChannel, InvalidChannelState, InvalidConnectionState, OutboxFull, SerialisationError}
-use Rattle.amqp_session.specs.declared.channels.Channel.{Channel}
-use Rattle.amqp_session.specs.declared.command.ChanRef.{ChanRef}
-use Rattle.amqp_session.specs.declared.command.Cmd.{Cmd}
-use Rattle.amqp_session.specs.declared.command.Cmd.TheVariants.{OpenChannel, CloseChannel, UpdateSecret, Send, Publish, Flow}
-use Rattle.amqp_session.specs.Talk.{Talk}
-use Rattle.amqp_session.specs.Channels.{AllListed}
-use Rattle.amqp_session.specs.Handshake.{new_secret}
-use Rattle.amqp_session.specs.Commands.{named, too_long}
-use Rattle.amqp_session.specs.Laws.{IsOutboxFull, frames_of_command}
+use Rattle.amqp_channels.specs.declared.channels.Channel.{Channel}
+use Rattle.amqp_commands.specs.declared.command.ChanRef.{ChanRef}
+use Rattle.amqp_commands.specs.declared.command.Cmd.{Cmd}
+use Rattle.amqp_commands.specs.declared.command.Cmd.TheVariants.{OpenChannel, CloseChannel, UpdateSecret, Send, Publish, Flow}
+use Rattle.amqp_rules.specs.Talk.{Talk}
+use Rattle.amqp_channels.specs.Channels.{AllListed}
+use Rattle.amqp_settings.specs.Handshake.{new_secret}
+use Rattle.amqp_rules.specs.Commands.{named, too_long}
+use Rattle.amqp_rules.specs.Laws.{IsOutboxFull, frames_of_command}
 
 -- the channel that a command is told of, with the word by which it is refused where that is not open
 abbrev pub channel_told : Cmd → Option (ChanRef × Word)

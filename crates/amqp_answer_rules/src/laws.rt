@@ -2,15 +2,15 @@
 
 ghost use Rattle.std.specs.Prelude.{◌≡◌, ◌≤◌, ◌↔◌, ℕ, ◌+◌, List, Some, None, IsTrue, IsSome};
 ghost use Rattle.amqp_promise.specs.declared.error.ErrorKind.{ErrorKind};
-ghost use Rattle.amqp_session.specs.declared.channels.Channel.{Channel};
-ghost use Rattle.amqp_session.specs.declared.command.Cmd.{Cmd};
-ghost use Rattle.amqp_session.specs.Listed.{at};
-ghost use Rattle.amqp_session.specs.Numbering.{first_number, drawn};
-ghost use Rattle.amqp_session.specs.Talk.{Talk, has_ended};
-ghost use Rattle.amqp_session.specs.Commands.{command, takes_promise};
-ghost use Rattle.amqp_session.specs.Answers.{answer_of};
-ghost use Rattle.amqp_session.specs.Sound.{IsSound};
-ghost use Rattle.amqp_session.specs.Laws.{IsAnsweredAtOnce};
+ghost use Rattle.amqp_channels.specs.declared.channels.Channel.{Channel};
+ghost use Rattle.amqp_commands.specs.declared.command.Cmd.{Cmd};
+ghost use Rattle.amqp_maps.specs.Listed.{at};
+ghost use Rattle.amqp_channels.specs.Numbering.{first_number, drawn};
+ghost use Rattle.amqp_rules.specs.Talk.{Talk, has_ended};
+ghost use Rattle.amqp_rules.specs.Commands.{command, takes_promise};
+ghost use Rattle.amqp_rules.specs.Answers.{answer_of};
+ghost use Rattle.amqp_rules.specs.Sound.{IsSound};
+ghost use Rattle.amqp_rules.specs.Laws.{IsAnsweredAtOnce};
 ghost use Rattle.amqp_answer_rules.specs.Refusals.{IsRefusedWith};
 ghost use Rattle.amqp_answer_rules.specs.Answering.{KeepsPromises};
 

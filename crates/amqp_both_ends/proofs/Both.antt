@@ -2,9 +2,9 @@
 use Rattle.std.proofs.Common.{◌≡◌, ◌<◌, ◌⊎◌, inl, inr, ◌∙◌, ap, sym, refl, ℕ, ◌+◌, ◌-◌, ◌^◌, true, false, true≢false, List, [], ◌∷◌, length, is_some, sum_by, arith}
 use Rattle.std.specs.List.{flat_map}
 use Rattle.std.proofs.lemmas.List.Sums.{sum_by-cons}
-use Rattle.amqp_session.specs.declared.command.Cmd.{Cmd}
-use Rattle.amqp_session.specs.declared.configuration.Configuration.{Configuration}
-use Rattle.amqp_session.specs.Talk.{Talk, has_ended}
+use Rattle.amqp_commands.specs.declared.command.Cmd.{Cmd}
+use Rattle.amqp_settings.specs.declared.configuration.Configuration.{Configuration}
+use Rattle.amqp_rules.specs.Talk.{Talk, has_ended}
 use Rattle.amqp_faultless.specs.Faultless.{silent, AreSayable, is_frame_max}
 use Rattle.amqp_faultless.proofs.Open.{open-runs}
 use Rattle.amqp_written_rules.specs.Sayable.{AreInRange, CanBeSaid}

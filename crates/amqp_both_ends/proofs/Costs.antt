@@ -11,16 +11,16 @@ use Rattle.amqp_outbox.specs.Items.{group_of, items_of_groups}
 use Rattle.amqp_outbox.specs.Queued.{waiting_items}
 use Rattle.amqp_auth.specs.declared.asked.Asked.{Asked}
 use Rattle.amqp_auth.specs.declared.asked.Asked.TheVariants as answer
-use Rattle.amqp_session.specs.declared.configuration.Configuration.{Configuration}
-use Rattle.amqp_session.specs.declared.command.Cmd.{Cmd}
-use Rattle.amqp_session.specs.declared.command.Cmd.TheVariants.{OpenChannel, CloseChannel, CloseConnection, UpdateSecret as UpdateSecretCommand, Send, Publish, Flow, DropChannel, DropConnection, Listen}
-use Rattle.amqp_session.specs.Config.{Options}
-use Rattle.amqp_session.specs.Talk.{Talk}
-use Rattle.amqp_session.specs.Commands.{command, body_limit}
-use Rattle.amqp_session.specs.Frames.{on_frame}
-use Rattle.amqp_session.specs.Negotiation.{tune}
-use Rattle.amqp_session.specs.Numbering.{first_number, drawn}
-use Rattle.amqp_session.specs.Publishing.{content_header, publish_frames}
+use Rattle.amqp_settings.specs.declared.configuration.Configuration.{Configuration}
+use Rattle.amqp_commands.specs.declared.command.Cmd.{Cmd}
+use Rattle.amqp_commands.specs.declared.command.Cmd.TheVariants.{OpenChannel, CloseChannel, CloseConnection, UpdateSecret as UpdateSecretCommand, Send, Publish, Flow, DropChannel, DropConnection, Listen}
+use Rattle.amqp_settings.specs.Config.{Options}
+use Rattle.amqp_rules.specs.Talk.{Talk}
+use Rattle.amqp_rules.specs.Commands.{command, body_limit}
+use Rattle.amqp_rules.specs.Frames.{on_frame}
+use Rattle.amqp_settings.specs.Negotiation.{tune}
+use Rattle.amqp_channels.specs.Numbering.{first_number, drawn}
+use Rattle.amqp_commands.specs.Publishing.{content_header, publish_frames}
 use Rattle.amqp_legal_rules.proofs.Ties.{frames_in}
 use Rattle.amqp_faultless.specs.Faultless.{AreSayable}
 use Rattle.amqp_owing.specs.Owed.{IsReply}

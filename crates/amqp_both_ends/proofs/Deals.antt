@@ -4,7 +4,7 @@ use Rattle.std.specs.List.{flat_map}
 use Rattle.amqp_frame.specs.declared.frame.Frame.{Frame}
 use Rattle.amqp_frame.specs.declared.frame.Frame.TheVariants.{ProtocolHeader, Method, Raw}
 use Rattle.amqp_frame.specs.declared.method.Method.TheVariants.{StartOk, Open, Close, UpdateSecret, ChannelOpen, ChannelFlow, ChannelClose}
-use Rattle.amqp_session.specs.declared.configuration.Configuration.{Configuration}
+use Rattle.amqp_settings.specs.declared.configuration.Configuration.{Configuration}
 use Rattle.amqp_faultless.specs.Faultless.{Use, Server, silent, said_to, heard_from, is_frame_max}
 use Rattle.amqp_faultless.specs.Faultless.ServerStage.{Gone}
 use Rattle.amqp_legal.specs.Legal.{amqp_header}

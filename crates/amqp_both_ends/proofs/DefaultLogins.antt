@@ -9,8 +9,8 @@ use Rattle.amqp_auth.specs.declared.asked.Question.TheVariants as question
 use Rattle.amqp_auth.specs.declared.asked.Asked.{Asked}
 use Rattle.amqp_auth.specs.Providers.{Exchange, Allows}
 use Rattle.amqp_auth.specs.DefaultAnswers.{default_answer, AnswersEach}
-use Rattle.amqp_session.specs.Config.{Options}
-use Rattle.amqp_session.specs.Handshake.{start_ok}
+use Rattle.amqp_settings.specs.Config.{Options}
+use Rattle.amqp_settings.specs.Handshake.{start_ok}
 use Rattle.amqp_faultless.specs.Faultless.{AreSayable}
 use Rattle.amqp_both_ends.specs.Logins.{AskLogins, questions_of, answers_of, SaysLogins}
 

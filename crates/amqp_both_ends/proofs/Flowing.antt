@@ -20,25 +20,26 @@ use Rattle.amqp_promise.specs.declared.state.ConnectionState.{ConnectionState}
 use Rattle.amqp_promise.specs.declared.state.ConnectionState.TheVariants.{Connecting, Connected, Closing}
 use Rattle.amqp_promise.specs.declared.state.ChannelState.{ChannelState}
 use Rattle.amqp_promise.specs.declared.state.ChannelState.TheVariants as channel
-use Rattle.amqp_session.specs.declared.channels.Channel.{Channel}
-use Rattle.amqp_session.specs.declared.channels.Debt.{Debt}
-use Rattle.amqp_session.specs.declared.channels.Debt.TheVariants as debt
-use Rattle.amqp_session.specs.declared.command.ChanRef.{ChanRef}
-use Rattle.amqp_session.specs.declared.command.Cmd.{Cmd}
-use Rattle.amqp_session.specs.declared.command.Cmd.TheVariants.{OpenChannel, CloseChannel, CloseConnection, UpdateSecret, Send, Publish, Flow, DropChannel, DropConnection, Listen}
-use Rattle.amqp_session.specs.Listed.{at, put, without, map_values}
-use Rattle.amqp_session.specs.Talk.{Talk, is_open, is_closing}
-use Rattle.amqp_session.specs.Channels.{new_channel, made_closing, made_leaving, made_answered, all_flow, channel_at}
-use Rattle.amqp_session.specs.Changes.{lose, misplaced, next_promise}
-use Rattle.amqp_session.specs.ChannelMethods.{heard_on, unawaited_channel_method, channel_opened, channel_closed, channel_flowed, remove_unless_owed, channel_rule, channel_method_by, channel_method}
-use Rattle.amqp_session.specs.Commands.{target, target_by, target_in, named, named_in, is_opening, open_drawn, close_target, drop_target, too_long, unless_too_long, too_full, unless_full, queue_send, send_target, queue_publish, publish_target, flow_target, queue_secret, command_rule, command, body_limit}
-use Rattle.amqp_session.specs.Numbering.{first_number, drawn}
-use Rattle.amqp_session.specs.Publishing.{method_frame, publish_frames}
-use Rattle.amqp_session.specs.Handshake.{new_secret}
-use Rattle.amqp_session.specs.Writing.{flows}
-use Rattle.amqp_session.specs.Violations.{unawaited}
-use Rattle.amqp_session.proofs.Recovering.{lose-case}
-use Rattle.amqp_session.proofs.Walk.{refused-keeps}
+use Rattle.amqp_channels.specs.declared.channels.Channel.{Channel}
+use Rattle.amqp_channels.specs.declared.channels.Debt.{Debt}
+use Rattle.amqp_channels.specs.declared.channels.Debt.TheVariants as debt
+use Rattle.amqp_commands.specs.declared.command.ChanRef.{ChanRef}
+use Rattle.amqp_commands.specs.declared.command.Cmd.{Cmd}
+use Rattle.amqp_commands.specs.declared.command.Cmd.TheVariants.{OpenChannel, CloseChannel, CloseConnection, UpdateSecret, Send, Publish, Flow, DropChannel, DropConnection, Listen}
+use Rattle.amqp_maps.specs.Listed.{at, put, without, map_values}
+use Rattle.amqp_rules.specs.Talk.{Talk, is_open, is_closing}
+use Rattle.amqp_channels.specs.Channels.{new_channel, made_closing, made_leaving, made_answered, all_flow}
+use Rattle.amqp_rules.specs.Channels.{channel_at}
+use Rattle.amqp_rules.specs.Changes.{lose, misplaced, next_promise}
+use Rattle.amqp_rules.specs.ChannelMethods.{heard_on, unawaited_channel_method, channel_opened, channel_closed, channel_flowed, remove_unless_owed, channel_rule, channel_method_by, channel_method}
+use Rattle.amqp_rules.specs.Commands.{target, target_by, target_in, named, named_in, is_opening, open_drawn, close_target, drop_target, too_long, unless_too_long, too_full, unless_full, queue_send, send_target, queue_publish, publish_target, flow_target, queue_secret, command_rule, command, body_limit}
+use Rattle.amqp_channels.specs.Numbering.{first_number, drawn}
+use Rattle.amqp_commands.specs.Publishing.{method_frame, publish_frames}
+use Rattle.amqp_settings.specs.Handshake.{new_secret}
+use Rattle.amqp_rules.specs.Writing.{flows}
+use Rattle.amqp_violations.specs.Violations.{unawaited}
+use Rattle.amqp_rules.proofs.Recovering.{lose-case}
+use Rattle.amqp_rules.proofs.Walk.{refused-keeps}
 
 abbrev pub Flows : Talk → Type 0
 Flows t = flows t ≡ true

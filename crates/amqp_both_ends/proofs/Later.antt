@@ -1,7 +1,7 @@
 -- What a joined port tells once its link was told: room, a piece, a command, or a tick.
 use Rattle.std.proofs.Common.{◌≡◌, ◌∙◌, ap, sym, refl, ◌==◌, ◌&&◌, not, if◌then◌else◌, Bool, true, false, List, [], ◌∷◌, length, take}
 use Rattle.amqp_types.proofs.Small.{if_case, if-false, and-false}
-use Rattle.amqp_session.specs.declared.command.Cmd.{Cmd}
+use Rattle.amqp_commands.specs.declared.command.Cmd.{Cmd}
 use Rattle.amqp_engine.specs.declared.port.Step.{Step}
 use Rattle.amqp_engine.specs.declared.port.Step.TheVariants.{Linked, LinkFailed, Piece, Room}
 use Rattle.amqp_engine.specs.Plan.{Coming}

@@ -6,20 +6,20 @@ use Rattle.amqp_frame.specs.declared.frame.Frame.{Frame}
 use Rattle.amqp_outbox.specs.declared.item.Item.{Item}
 use Rattle.amqp_promise.specs.declared.error.ErrorKind.{ErrorKind}
 use Rattle.amqp_auth.specs.declared.asked.Asked.{Asked}
-use Rattle.amqp_session.specs.declared.command.Cmd.TheVariants.{Listen}
-use Rattle.amqp_session.specs.declared.configuration.Configuration.{Configuration}
-use Rattle.amqp_session.specs.declared.state.Link.{Link}
-use Rattle.amqp_session.specs.declared.state.Link.TheVariants.{Due, Wanted, Asked as AskedLink, Open, Ended}
-use Rattle.amqp_session.specs.Commands.{command}
-use Rattle.amqp_session.specs.Config.{Config, Options}
-use Rattle.amqp_session.specs.Changes.{present_at}
-use Rattle.amqp_session.specs.Links.{asked, asked_link, linked}
-use Rattle.amqp_session.specs.Sound.{IsSound}
-use Rattle.amqp_session.specs.Talk.{Talk, start, has_ended, is_open, is_asked, is_asked_link, is_wanted_link}
-use Rattle.amqp_session.proofs.Keeping.{present-keeps}
-use Rattle.amqp_session.proofs.SoundChanges.{sound-present}
-use Rattle.amqp_session.proofs.SoundCommands.{sound-command}
-use Rattle.amqp_session.proofs.Soundness.{sound-start, sound-asked, sound-linked}
+use Rattle.amqp_commands.specs.declared.command.Cmd.TheVariants.{Listen}
+use Rattle.amqp_settings.specs.declared.configuration.Configuration.{Configuration}
+use Rattle.amqp_rules.specs.declared.state.Link.{Link}
+use Rattle.amqp_rules.specs.declared.state.Link.TheVariants.{Due, Wanted, Asked as AskedLink, Open, Ended}
+use Rattle.amqp_rules.specs.Commands.{command}
+use Rattle.amqp_settings.specs.Config.{Config, Options}
+use Rattle.amqp_rules.specs.Changes.{present_at}
+use Rattle.amqp_rules.specs.Links.{asked, asked_link, linked}
+use Rattle.amqp_rules.specs.Sound.{IsSound}
+use Rattle.amqp_rules.specs.Talk.{Talk, start, has_ended, is_open, is_asked, is_asked_link, is_wanted_link}
+use Rattle.amqp_rules.proofs.Keeping.{present-keeps}
+use Rattle.amqp_rules.proofs.SoundChanges.{sound-present}
+use Rattle.amqp_rules.proofs.SoundCommands.{sound-command}
+use Rattle.amqp_rules.proofs.Soundness.{sound-start, sound-asked, sound-linked}
 use Rattle.amqp_legal.specs.Legal.{amqp_header}
 use Rattle.amqp_legal.proofs.TakenIsLegal.{sound}
 use Rattle.amqp_faultless.specs.Faultless.{silent, is_frame_max}

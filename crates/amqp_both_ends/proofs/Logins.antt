@@ -18,15 +18,15 @@ use Rattle.amqp_auth.specs.declared.asked.Asked.{Asked}
 use Rattle.amqp_auth.specs.declared.asked.Asked.TheVariants as answer
 use Rattle.amqp_auth.specs.Asking.{Answer, paired}
 use Rattle.amqp_auth.specs.Providers.{Exchange, Allows}
-use Rattle.amqp_session.specs.declared.command.Cmd.{Cmd}
-use Rattle.amqp_session.specs.declared.configuration.Configuration.{Configuration}
-use Rattle.amqp_session.specs.declared.state.Phase.{Phase}
-use Rattle.amqp_session.specs.declared.state.Phase.TheVariants.{AwaitStart, AwaitTune}
-use Rattle.amqp_session.specs.Config.{Options}
-use Rattle.amqp_session.specs.Negotiation.{frame_limit}
-use Rattle.amqp_session.specs.Talk.{Talk, acts, is_open, drops_input}
-use Rattle.amqp_session.specs.Changes.{present_at}
-use Rattle.amqp_session.specs.Frames.{on_frame, method_questions, questions_in, frame_questions}
+use Rattle.amqp_commands.specs.declared.command.Cmd.{Cmd}
+use Rattle.amqp_settings.specs.declared.configuration.Configuration.{Configuration}
+use Rattle.amqp_rules.specs.declared.state.Phase.{Phase}
+use Rattle.amqp_rules.specs.declared.state.Phase.TheVariants.{AwaitStart, AwaitTune}
+use Rattle.amqp_settings.specs.Config.{Options}
+use Rattle.amqp_rules.specs.Negotiation.{frame_limit}
+use Rattle.amqp_rules.specs.Talk.{Talk, acts, is_open, drops_input}
+use Rattle.amqp_rules.specs.Changes.{present_at}
+use Rattle.amqp_rules.specs.Frames.{on_frame, method_questions, questions_in, frame_questions}
 use Rattle.amqp_faultless.specs.Faultless.{Server, AreSayable, is_frame_max, silent}
 use Rattle.amqp_faultless.proofs.Limits.{met-least}
 use Rattle.amqp_written_rules.specs.Sayable.{AreInRange, CanBeSaid}

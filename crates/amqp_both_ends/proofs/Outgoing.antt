@@ -11,19 +11,19 @@ use Rattle.amqp_outbox.specs.Lists.{head}
 use Rattle.amqp_outbox.specs.Queued as queued
 use Rattle.amqp_outbox.specs.Queued.{Queued, first_group, next_publish, waiting_items}
 use Rattle.amqp_promise.specs.declared.state.ConnectionState.TheVariants.{Reconnecting}
-use Rattle.amqp_session.specs.declared.channels.Debt.TheVariants as debt
-use Rattle.amqp_session.specs.declared.committed.Mark.{Mark}
-use Rattle.amqp_session.specs.declared.committed.Then.{Then}
-use Rattle.amqp_session.specs.declared.committed.Then.TheVariants.{Nothing, Answer, Pays, Finish}
-use Rattle.amqp_session.specs.Config.{Options}
-use Rattle.amqp_session.specs.Talk.{Talk, is_open}
-use Rattle.amqp_session.specs.Sound.{is_finish}
-use Rattle.amqp_session.specs.Channels.{channel_at}
-use Rattle.amqp_session.specs.Changes.{present_at}
-use Rattle.amqp_session.specs.Writing.{flows, writes, next_out, fitting, longer_than, overlong, frames_waiting, taken, sent, sent_among, follow}
-use Rattle.amqp_session.proofs.Finishing.{next-first}
-use Rattle.amqp_session.proofs.Keeping.{present-keeps}
-use Rattle.amqp_session.proofs.Walk.{pay-case}
+use Rattle.amqp_channels.specs.declared.channels.Debt.TheVariants as debt
+use Rattle.amqp_outgoing.specs.declared.committed.Mark.{Mark}
+use Rattle.amqp_outgoing.specs.declared.committed.Then.{Then}
+use Rattle.amqp_outgoing.specs.declared.committed.Then.TheVariants.{Nothing, Answer, Pays, Finish}
+use Rattle.amqp_settings.specs.Config.{Options}
+use Rattle.amqp_rules.specs.Talk.{Talk, is_open}
+use Rattle.amqp_rules.specs.Sound.{is_finish}
+use Rattle.amqp_rules.specs.Channels.{channel_at}
+use Rattle.amqp_rules.specs.Changes.{present_at}
+use Rattle.amqp_rules.specs.Writing.{flows, writes, next_out, fitting, longer_than, overlong, frames_waiting, taken, sent, sent_among, follow}
+use Rattle.amqp_rules.proofs.Finishing.{next-first}
+use Rattle.amqp_rules.proofs.Keeping.{present-keeps}
+use Rattle.amqp_rules.proofs.Walk.{pay-case}
 use Rattle.amqp_faultless.specs.Faultless.{Server}
 use Rattle.amqp_faultless.proofs.Greeted.{IsMet, meets-in}
 use Rattle.amqp_faultless.proofs.Modest.{Modest}

@@ -19,22 +19,22 @@ use Rattle.amqp_promise.specs.declared.state.ConnectionState.TheVariants.{Connec
 use Rattle.amqp_auth.specs.declared.asked.Asked.{Asked}
 use Rattle.amqp_auth.specs.declared.asked.Question.{Question}
 use Rattle.amqp_auth.specs.Asking.{Answer}
-use Rattle.amqp_session.specs.declared.state.Phase.{Phase}
-use Rattle.amqp_session.specs.declared.state.Phase.TheVariants.{AwaitStart, AwaitTune, AwaitOpenOk}
-use Rattle.amqp_session.specs.declared.configuration.Configuration.{Configuration}
-use Rattle.amqp_session.specs.Config.{Options}
-use Rattle.amqp_session.specs.Sound.{IsSound}
-use Rattle.amqp_session.specs.Talk.{Talk, is_open, end_of}
-use Rattle.amqp_session.specs.Channels.{all_flow}
-use Rattle.amqp_session.specs.Changes.{present_at}
-use Rattle.amqp_session.specs.ConnectionMethods.{connection_rule, connected, reopen_each, secret_taken}
-use Rattle.amqp_session.specs.Handshake.{close_ok}
-use Rattle.amqp_session.specs.Frames.{on_frame, frame_questions}
-use Rattle.amqp_session.specs.Negotiation.{frame_limit}
-use Rattle.amqp_session.specs.Writing.{flows}
-use Rattle.amqp_session.proofs.Keeping.{present-keeps}
-use Rattle.amqp_session.proofs.SoundChanges.{sound-present}
-use Rattle.amqp_session.proofs.SoundFrames.{sound-frame}
+use Rattle.amqp_rules.specs.declared.state.Phase.{Phase}
+use Rattle.amqp_rules.specs.declared.state.Phase.TheVariants.{AwaitStart, AwaitTune, AwaitOpenOk}
+use Rattle.amqp_settings.specs.declared.configuration.Configuration.{Configuration}
+use Rattle.amqp_settings.specs.Config.{Options}
+use Rattle.amqp_rules.specs.Sound.{IsSound}
+use Rattle.amqp_rules.specs.Talk.{Talk, is_open, end_of}
+use Rattle.amqp_channels.specs.Channels.{all_flow}
+use Rattle.amqp_rules.specs.Changes.{present_at}
+use Rattle.amqp_rules.specs.ConnectionMethods.{connection_rule, connected, reopen_each, secret_taken}
+use Rattle.amqp_settings.specs.Handshake.{close_ok}
+use Rattle.amqp_rules.specs.Frames.{on_frame, frame_questions}
+use Rattle.amqp_rules.specs.Negotiation.{frame_limit}
+use Rattle.amqp_rules.specs.Writing.{flows}
+use Rattle.amqp_rules.proofs.Keeping.{present-keeps}
+use Rattle.amqp_rules.proofs.SoundChanges.{sound-present}
+use Rattle.amqp_rules.proofs.SoundFrames.{sound-frame}
 use Rattle.amqp_outbox.specs.Queued.{awaited_promise}
 use Rattle.amqp_outbox.specs.declared.reply.Reply.TheVariants.{SecretDone}
 use Rattle.amqp_legal.specs.Legal.{amqp_header}

@@ -7,11 +7,11 @@ use Rattle.amqp_outbox.specs.declared.item.Item.{Item}
 use Rattle.amqp_outbox.specs.Queued.{waiting_items}
 use Rattle.amqp_auth.specs.declared.asked.Asked.{Asked}
 use Rattle.amqp_auth.specs.declared.asked.Asked.TheVariants as answer
-use Rattle.amqp_session.specs.declared.configuration.Configuration.{Configuration}
-use Rattle.amqp_session.specs.Config.{Options}
-use Rattle.amqp_session.specs.Talk.{Talk}
-use Rattle.amqp_session.specs.Handshake.{start_ok}
-use Rattle.amqp_session.specs.Frames.{on_frame}
+use Rattle.amqp_settings.specs.declared.configuration.Configuration.{Configuration}
+use Rattle.amqp_settings.specs.Config.{Options}
+use Rattle.amqp_rules.specs.Talk.{Talk}
+use Rattle.amqp_settings.specs.Handshake.{start_ok}
+use Rattle.amqp_rules.specs.Frames.{on_frame}
 use Rattle.amqp_legal.specs.Legal.{amqp_header}
 use Rattle.amqp_legal.specs.Decider.{Speech, greeted, say_all}
 use Rattle.amqp_legal_rules.proofs.Ties.{frames_in, first_out, IsTied}

@@ -11,10 +11,10 @@ use Rattle.amqp_frame.specs.declared.method.Method.TheVariants.{CloseOk}
 use Rattle.amqp_frame.specs.Frames.{encoding}
 use Rattle.amqp_frame.proofs.Written.{frame_written}
 use Rattle.amqp_outbox.specs.declared.item.Item.{Item}
-use Rattle.amqp_session.specs.declared.command.Cmd.{Cmd}
-use Rattle.amqp_session.specs.declared.configuration.Configuration.{Configuration}
-use Rattle.amqp_session.specs.Config.{Options}
-use Rattle.amqp_session.specs.Talk.{is_open}
+use Rattle.amqp_commands.specs.declared.command.Cmd.{Cmd}
+use Rattle.amqp_settings.specs.declared.configuration.Configuration.{Configuration}
+use Rattle.amqp_settings.specs.Config.{Options}
+use Rattle.amqp_rules.specs.Talk.{is_open}
 use Rattle.amqp_faultless.specs.Faultless.{Server, AreSayable, is_frame_max}
 use Rattle.amqp_faultless.proofs.Greeted.{IsOver}
 use Rattle.amqp_written_rules.specs.Sayable.{AreInRange}
@@ -66,9 +66,6 @@ unlinked step e ss l = refl
 
 later-step : (u : Turn) (e : Engine) (flag : Bool) (j last : Join) → j.linked ≡ true → JoinsTurn u e flag j last → IsLater u.step
 later-step u e flag j last linked joins = subst (λ (c : Coming). IsLater c.step) (later-told u e flag j last linked joins) (is-later j)
-
-get-one : (x : Sending) → last_sending (x ∷ []) ≡ x
-get-one x = refl
 
 frames-long : (n : ℕ) (items : List Item) → n ≤ length items → length (frames (take n items)) ≡ n
 frames-long zero items within = refl

@@ -5,8 +5,8 @@ use Rattle.std.specs.List.{flat_map, AllByRecursion}
 use Rattle.amqp_types.proofs.Small.{if_case}
 use Rattle.amqp_frame.specs.Frames.{FrameOf}
 use Rattle.amqp_auth.specs.declared.asked.Asked.{Asked}
-use Rattle.amqp_session.specs.declared.configuration.Configuration.{Configuration}
-use Rattle.amqp_session.specs.Talk.{Talk}
+use Rattle.amqp_settings.specs.declared.configuration.Configuration.{Configuration}
+use Rattle.amqp_rules.specs.Talk.{Talk}
 use Rattle.amqp_faultless.specs.Faultless.{silent, AreSayable, opens_connection, is_frame_max}
 use Rattle.amqp_written_rules.specs.Sayable.{AreInRange, CanBeSaid}
 use Rattle.amqp_engine.specs.declared.given.Given.{Given}

@@ -9,7 +9,7 @@ use Rattle.amqp_frame.specs.declared.method.Method.TheVariants.{StartOk, Open, O
 use Rattle.amqp_frame.specs.Frames.{FrameOf, encoding, Writable}
 use Rattle.amqp_frame.specs.Rules.{KeepsRules, KeepsTable}
 use Rattle.amqp_frame.proofs.Written.{frame_written}
-use Rattle.amqp_session.specs.declared.configuration.Configuration.{Configuration}
+use Rattle.amqp_settings.specs.declared.configuration.Configuration.{Configuration}
 use Rattle.amqp_written_rules.specs.Sayable.{AreInRange}
 use Rattle.amqp_double.specs.Replies.{properties, start_frame, tune_frame, replies}
 

@@ -11,12 +11,12 @@ use Rattle.amqp_outbox.specs.Items.{items_of_groups}
 use Rattle.amqp_outbox.specs.Queued.{first_group}
 use Rattle.amqp_promise.specs.declared.state.ConnectionState.{ConnectionState}
 use Rattle.amqp_promise.specs.declared.state.ConnectionState.TheVariants.{Connected}
-use Rattle.amqp_session.specs.declared.state.Phase.{Phase}
-use Rattle.amqp_session.specs.declared.state.Input.{Input}
-use Rattle.amqp_session.specs.declared.state.Input.TheVariants.{Acting}
-use Rattle.amqp_session.specs.declared.configuration.Configuration.{Configuration}
-use Rattle.amqp_session.specs.Config.{Options}
-use Rattle.amqp_session.specs.Talk.{Talk, is_open, is_acting}
+use Rattle.amqp_rules.specs.declared.state.Phase.{Phase}
+use Rattle.amqp_rules.specs.declared.state.Input.{Input}
+use Rattle.amqp_rules.specs.declared.state.Input.TheVariants.{Acting}
+use Rattle.amqp_settings.specs.declared.configuration.Configuration.{Configuration}
+use Rattle.amqp_settings.specs.Config.{Options}
+use Rattle.amqp_rules.specs.Talk.{Talk, is_open, is_acting}
 use Rattle.amqp_legal.specs.Legal.{amqp_header}
 use Rattle.amqp_legal.specs.declared.progress.Stage.TheVariants.{OpenSaid}
 use Rattle.amqp_legal.specs.Decider.{Speech, greeted, say_all}

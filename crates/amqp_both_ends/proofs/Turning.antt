@@ -6,8 +6,8 @@ use Rattle.amqp_types.proofs.Small.{if-true, if-false}
 use Rattle.amqp_frame.specs.declared.frame.Frame.{Frame}
 use Rattle.amqp_frame.specs.Frames.{Writable}
 use Rattle.amqp_outbox.specs.declared.item.Item.{Item}
-use Rattle.amqp_session.specs.declared.configuration.Configuration.{Configuration}
-use Rattle.amqp_session.specs.Config.{Options}
+use Rattle.amqp_settings.specs.declared.configuration.Configuration.{Configuration}
+use Rattle.amqp_settings.specs.Config.{Options}
 use Rattle.amqp_legal.specs.Legal.{Legal}
 use Rattle.amqp_faultless.specs.Faultless.{Server, is_frame_max}
 use Rattle.amqp_written_rules.specs.Sayable.{AreInRange, CanBeSaid}

@@ -13,17 +13,17 @@ use Rattle.amqp_outbox.specs.Items.{items_of_groups}
 use Rattle.amqp_promise.specs.declared.state.ConnectionState.{ConnectionState}
 use Rattle.amqp_promise.specs.declared.state.ConnectionState.TheVariants.{Connected, Closing}
 use Rattle.amqp_auth.specs.Asking.{Answer}
-use Rattle.amqp_session.specs.declared.command.Cmd.{Cmd}
-use Rattle.amqp_session.specs.declared.command.Cmd.TheVariants.{CloseConnection}
-use Rattle.amqp_session.specs.declared.configuration.Configuration.{Configuration}
-use Rattle.amqp_session.specs.declared.state.Input.{Input}
-use Rattle.amqp_session.specs.declared.state.Input.TheVariants.{Acting}
-use Rattle.amqp_session.specs.declared.state.Phase.{Phase}
-use Rattle.amqp_session.specs.Config.{Options}
-use Rattle.amqp_session.specs.Talk.{Talk, is_acting, is_open, has_ended}
-use Rattle.amqp_session.specs.Changes.{present_at}
-use Rattle.amqp_session.specs.Commands.{command, command_rule, body_limit}
-use Rattle.amqp_session.proofs.Keeping.{present-keeps}
+use Rattle.amqp_commands.specs.declared.command.Cmd.{Cmd}
+use Rattle.amqp_commands.specs.declared.command.Cmd.TheVariants.{CloseConnection}
+use Rattle.amqp_settings.specs.declared.configuration.Configuration.{Configuration}
+use Rattle.amqp_rules.specs.declared.state.Input.{Input}
+use Rattle.amqp_rules.specs.declared.state.Input.TheVariants.{Acting}
+use Rattle.amqp_rules.specs.declared.state.Phase.{Phase}
+use Rattle.amqp_settings.specs.Config.{Options}
+use Rattle.amqp_rules.specs.Talk.{Talk, is_acting, is_open, has_ended}
+use Rattle.amqp_rules.specs.Changes.{present_at}
+use Rattle.amqp_rules.specs.Commands.{command, command_rule, body_limit}
+use Rattle.amqp_rules.proofs.Keeping.{present-keeps}
 use Rattle.amqp_legal.specs.Legal.{amqp_header}
 use Rattle.amqp_legal.specs.declared.progress.Stage.TheVariants.{CloseSaid}
 use Rattle.amqp_legal.specs.Decider.{Speech, greeted, say_all}

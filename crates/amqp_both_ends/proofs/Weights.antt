@@ -10,8 +10,8 @@ use Rattle.amqp_frame.specs.declared.frame.RawKind.TheVariants.{Body}
 use Rattle.amqp_frame.specs.declared.method.Method.TheVariants.{Start, StartOk, Tune, TuneOk, Open, Close, UpdateSecret, ChannelOpen, ChannelFlow, ChannelClose}
 use Rattle.amqp_frame.specs.Frames.{encoding}
 use Rattle.amqp_legal.specs.Legal.{amqp_header}
-use Rattle.amqp_session.specs.declared.configuration.Configuration.{Configuration}
-use Rattle.amqp_session.specs.Publishing.{cut}
+use Rattle.amqp_settings.specs.declared.configuration.Configuration.{Configuration}
+use Rattle.amqp_commands.specs.Publishing.{cut}
 use Rattle.amqp_double.specs.Replies.{replies, reply_octets, all_replies}
 
 -- what frames weigh, one after another

@@ -9,12 +9,12 @@ use Rattle.amqp_types.proofs.Small.{if_case, if-true, if-false, and-false, and-l
 use Rattle.amqp_frame.specs.declared.frame.Frame.{Frame}
 use Rattle.amqp_frame.specs.Frames.{encoding, Writable}
 use Rattle.amqp_outbox.specs.declared.item.Item.{Item}
-use Rattle.amqp_session.specs.declared.configuration.Configuration.{Configuration}
-use Rattle.amqp_session.specs.Config.{Options}
-use Rattle.amqp_session.specs.Sound.{IsSound}
-use Rattle.amqp_session.specs.Talk.{Talk, is_open, drops_input}
-use Rattle.amqp_session.specs.Changes.{present_at}
-use Rattle.amqp_session.specs.Writing.{flows, frames_waiting, taken}
+use Rattle.amqp_settings.specs.declared.configuration.Configuration.{Configuration}
+use Rattle.amqp_settings.specs.Config.{Options}
+use Rattle.amqp_rules.specs.Sound.{IsSound}
+use Rattle.amqp_rules.specs.Talk.{Talk, is_open, drops_input}
+use Rattle.amqp_rules.specs.Changes.{present_at}
+use Rattle.amqp_rules.specs.Writing.{flows, frames_waiting, taken}
 use Rattle.amqp_legal.specs.Legal.{Legal}
 use Rattle.amqp_legal.proofs.Saying.{front-legal}
 use Rattle.amqp_faultless.specs.Faultless.{Server, said_to, is_frame_max}

@@ -4,7 +4,7 @@ use Rattle.amqp_auth.specs.declared.asked.Question.{Question}
 use Rattle.amqp_auth.specs.declared.asked.Question.TheVariants as question
 use Rattle.amqp_auth.specs.declared.asked.Asked.{Asked}
 use Rattle.amqp_auth.specs.Providers.{Exchange, Allows}
-use Rattle.amqp_session.specs.Config.{Options}
+use Rattle.amqp_settings.specs.Config.{Options}
 use Rattle.amqp_faultless.specs.Faultless.{AreSayable}
 
 -- nothing is asked but by which mechanism a client starts and what it says first, one after the other

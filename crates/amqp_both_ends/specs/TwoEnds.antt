@@ -1,7 +1,7 @@
 -- Both ends joined: they close, the conversation is legal, and what was told is what a faultless server tells.
 use Rattle.std.specs.Prelude.{◌≡◌, ◌<◌, ℕ, Bool, true, false, List, [], ◌∷◌, ◌-◌, ◌^◌, length, map, Some, Ok}
 use Rattle.std.specs.List.{AllByRecursion}
-use Rattle.amqp_session.specs.Talk.{Talk, end_of, has_ended}
+use Rattle.amqp_rules.specs.Talk.{Talk, end_of, has_ended}
 use Rattle.amqp_engine.specs.declared.given.Given.{Given}
 use Rattle.amqp_engine.specs.declared.given.GivenStep.TheVariants as given
 use Rattle.amqp_engine.specs.Turn.{Turn, talk}

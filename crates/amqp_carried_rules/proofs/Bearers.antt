@@ -7,42 +7,43 @@ use Rattle.amqp_outbox.specs.declared.reply.Reply.{Reply}
 use Rattle.amqp_outbox.specs.declared.reply.Reply.TheVariants.{ChannelOpened, ChannelClosed, FlowDone, SecretDone}
 use Rattle.amqp_outbox.specs.Items.{plain_item}
 use Rattle.amqp_outbox.specs.Queued.{Queued, pushed_control, awaited_promise, without_awaited}
-use Rattle.amqp_session.specs.declared.channels.Channel.{Channel}
+use Rattle.amqp_channels.specs.declared.channels.Channel.{Channel}
 use Rattle.amqp_promise.specs.declared.state.ConnectionState.{ConnectionState}
 use Rattle.amqp_promise.specs.declared.state.ConnectionState.TheVariants.{Connecting, Connected, Closing}
-use Rattle.amqp_session.specs.declared.state.Phase.TheVariants.{AwaitTune, AwaitOpenOk}
-use Rattle.amqp_session.specs.declared.state.Link.{Link}
-use Rattle.amqp_session.specs.declared.state.Link.TheVariants.{Due, Wanted, Asked, Open, Ended}
+use Rattle.amqp_rules.specs.declared.state.Phase.TheVariants.{AwaitTune, AwaitOpenOk}
+use Rattle.amqp_rules.specs.declared.state.Link.{Link}
+use Rattle.amqp_rules.specs.declared.state.Link.TheVariants.{Due, Wanted, Asked, Open, Ended}
 use Rattle.amqp_promise.specs.declared.io_fault.IoFault.{IoFault}
 use Rattle.amqp_promise.specs.declared.io_fault.IoFault.TheVariants.{Refused}
-use Rattle.amqp_session.specs.declared.configuration.Configuration.{Configuration}
-use Rattle.amqp_session.specs.declared.server_close.ServerClose.{ServerClose}
-use Rattle.amqp_session.specs.declared.server_close.ServerClose.TheVariants.{WithoutError, WithError}
-use Rattle.amqp_session.specs.declared.command.Cmd.{Cmd}
-use Rattle.amqp_session.specs.declared.command.Answer.{Answer}
-use Rattle.amqp_session.specs.declared.command.Answer.TheVariants.{Connected as AnswerConnected, Channel as AnswerChannel, Done, Flow}
-use Rattle.amqp_session.specs.declared.misread.Misread.{Misread}
+use Rattle.amqp_settings.specs.declared.configuration.Configuration.{Configuration}
+use Rattle.amqp_violations.specs.declared.server_close.ServerClose.{ServerClose}
+use Rattle.amqp_violations.specs.declared.server_close.ServerClose.TheVariants.{WithoutError, WithError}
+use Rattle.amqp_commands.specs.declared.command.Cmd.{Cmd}
+use Rattle.amqp_answers.specs.declared.answer.Answer.{Answer}
+use Rattle.amqp_answers.specs.declared.answer.Answer.TheVariants.{Connected as AnswerConnected, Channel as AnswerChannel, Done, Flow}
+use Rattle.amqp_violations.specs.declared.misread.Misread.{Misread}
 use Rattle.amqp_promise.specs.declared.error.ErrorKind.TheVariants.{NoMemory, IOError, ProtocolError, SerialisationError}
 use Rattle.amqp_promise.specs.declared.error.ErrorKind.{ErrorKind}
-use Rattle.amqp_session.specs.Listed.{at}
+use Rattle.amqp_maps.specs.Listed.{at}
 use Rattle.amqp_auth.specs.declared.asked.Asked.{Asked as ProviderAnswer}
-use Rattle.amqp_session.specs.Talk.{Talk, acts, has_ended, is_asked, is_open, is_open_link}
-use Rattle.amqp_session.specs.Changes.{Promises, present_at, queue, await, starve, give_to, promises_on, replies_on, without_all_on, drop_replies_of, fail, lose, close, finish, finish_by, promise}
-use Rattle.amqp_session.specs.Links.{asked, asked_link, refused_after, link_failed, piece, dropped, misread, lost}
-use Rattle.amqp_session.specs.Recovery.{next_delay, reconnect}
-use Rattle.amqp_session.specs.Handshake.{close_ok, start_ok, secure_ok, tune_ok, open_vhost, new_secret, channel_open, flow_ok, channel_close_ok}
-use Rattle.amqp_session.specs.Negotiation.{tune}
-use Rattle.amqp_session.specs.ConnectionMethods.{on_start, on_tune, connected}
-use Rattle.amqp_session.specs.ChannelMethods.{closed_by_server, channel_opened, remove_channel, hand_out, confirmed}
-use Rattle.amqp_session.specs.Frames.{on_frame}
-use Rattle.amqp_session.specs.Writing.{end_overlong}
-use Rattle.amqp_session.specs.Ticks.{refresh_reason, link_at, link_due, tick}
+use Rattle.amqp_rules.specs.Talk.{Talk, acts, has_ended, is_asked, is_open, is_open_link}
+use Rattle.amqp_answers.specs.Settled.{Promises}
+use Rattle.amqp_rules.specs.Changes.{present_at, queue, await, starve, give_to, promises_on, replies_on, without_all_on, drop_replies_of, fail, lose, close, finish, finish_by, promise}
+use Rattle.amqp_rules.specs.Links.{asked, asked_link, refused_after, link_failed, piece, dropped, misread, lost}
+use Rattle.amqp_rules.specs.Recovery.{next_delay, reconnect}
+use Rattle.amqp_settings.specs.Handshake.{close_ok, start_ok, secure_ok, tune_ok, open_vhost, new_secret, channel_open, flow_ok, channel_close_ok, refresh_reason}
+use Rattle.amqp_settings.specs.Negotiation.{tune}
+use Rattle.amqp_rules.specs.ConnectionMethods.{on_start, on_tune, connected}
+use Rattle.amqp_rules.specs.ChannelMethods.{closed_by_server, channel_opened, remove_channel, hand_out, confirmed}
+use Rattle.amqp_rules.specs.Frames.{on_frame}
+use Rattle.amqp_rules.specs.Writing.{end_overlong}
+use Rattle.amqp_rules.specs.Ticks.{link_at, link_due, tick}
 use Rattle.amqp_types.proofs.Small.{if_case}
-use Rattle.amqp_session.proofs.Walk.{ChannelRows, PassedRows, ConnectionRows, TickRows, misread-keeps, start-keeps, secure-keeps, frame-keeps, tick-keeps}
-use Rattle.amqp_session.proofs.Recovering.{lose-case}
+use Rattle.amqp_rules.proofs.Walk.{ChannelRows, PassedRows, ConnectionRows, TickRows, misread-keeps, start-keeps, secure-keeps, frame-keeps, tick-keeps}
+use Rattle.amqp_rules.proofs.Recovering.{lose-case}
 use Rattle.amqp_carried_rules.proofs.Bearing.{NotSent, settled-sent, to-sent, each-sent, all-sent, Reading, Bears, IsAt, Sized}
 use Rattle.amqp_carried_rules.proofs.Borne.{awaited-other, bears-push, bears-expected, bears-answered, bears-give, bears-replies, bears-channel, bears-over}
-use Rattle.amqp_session.specs.Sound.{is_agreed}
+use Rattle.amqp_rules.specs.Sound.{is_agreed}
 use Rattle.amqp_carried_rules.specs.CommandFrames.{is_raw, is_sent}
 
 closing-not : (s : ConnectionState) → s ≡ Connecting → s ≡ Closing → ⊥

@@ -12,17 +12,17 @@ use Rattle.amqp_outbox.specs.Queued.{Queued}
 use Rattle.amqp_promise.specs.declared.error.ErrorKind.{ErrorKind}
 use Rattle.amqp_promise.specs.declared.state.ConnectionState.{ConnectionState}
 use Rattle.amqp_promise.specs.declared.state.ConnectionState.TheVariants.{Closing}
-use Rattle.amqp_session.specs.declared.command.Answer.{Answer}
-use Rattle.amqp_session.specs.declared.command.Cmd.{Cmd}
-use Rattle.amqp_session.specs.declared.command.Cmd.TheVariants.{Send, Publish}
-use Rattle.amqp_session.specs.Listed.{at}
-use Rattle.amqp_session.specs.Talk.{Talk, is_open}
-use Rattle.amqp_session.specs.Changes.{Promises, settled_by, settled, settled_to, rejected, rejected_each}
-use Rattle.amqp_session.specs.Recovery.{rejected_slot, rejected_all}
-use Rattle.amqp_session.specs.Capacities.{frame_min_size}
-use Rattle.amqp_session.specs.Sound.{is_agreed}
+use Rattle.amqp_answers.specs.declared.answer.Answer.{Answer}
+use Rattle.amqp_commands.specs.declared.command.Cmd.{Cmd}
+use Rattle.amqp_commands.specs.declared.command.Cmd.TheVariants.{Send, Publish}
+use Rattle.amqp_maps.specs.Listed.{at}
+use Rattle.amqp_rules.specs.Talk.{Talk, is_open}
+use Rattle.amqp_answers.specs.Settled.{Promises, settled_by, settled, settled_to, rejected_slot, rejected_all}
+use Rattle.amqp_rules.specs.Changes.{rejected, rejected_each}
+use Rattle.amqp_settings.specs.Capacities.{frame_min_size}
+use Rattle.amqp_rules.specs.Sound.{is_agreed}
 use Rattle.amqp_carried_rules.specs.CommandFrames.{AreFramesOf, is_send, is_publish, is_raw, is_sent}
-use Rattle.amqp_session.proofs.Numbered.{put-same, put-other}
+use Rattle.amqp_maps.proofs.Numbered.{put-same, put-other}
 
 -- ---- commands by number
 

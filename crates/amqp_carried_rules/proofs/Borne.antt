@@ -18,11 +18,12 @@ use Rattle.amqp_outbox.specs.Queued.{Queued, only, pushed_control, with_awaited,
 use Rattle.amqp_promise.specs.declared.error.ErrorKind.{ErrorKind}
 use Rattle.amqp_promise.specs.declared.state.ConnectionState.{ConnectionState}
 use Rattle.amqp_promise.specs.declared.state.ConnectionState.TheVariants.{Closing}
-use Rattle.amqp_session.specs.declared.command.Answer.{Answer}
-use Rattle.amqp_session.specs.declared.command.Cmd.{Cmd}
-use Rattle.amqp_session.specs.declared.command.Cmd.TheVariants.{Send, Publish}
-use Rattle.amqp_session.specs.Listed.{at, put, without}
-use Rattle.amqp_session.specs.Changes.{Promises, settled_to, rejected, rejected_each, without_groups_of, without_groups, without_all_on, without_replies_on, promises_on, replies_on}
+use Rattle.amqp_answers.specs.declared.answer.Answer.{Answer}
+use Rattle.amqp_commands.specs.declared.command.Cmd.{Cmd}
+use Rattle.amqp_commands.specs.declared.command.Cmd.TheVariants.{Send, Publish}
+use Rattle.amqp_maps.specs.Listed.{at, put, without}
+use Rattle.amqp_answers.specs.Settled.{Promises, settled_to}
+use Rattle.amqp_rules.specs.Changes.{rejected, rejected_each, without_groups_of, without_groups, without_all_on, without_replies_on, promises_on, replies_on}
 use Rattle.amqp_carried_rules.specs.CommandFrames.{is_send, is_publish, is_raw, is_sent}
 use Rattle.amqp_carried_rules.proofs.Bearing.{command_at, carries, IsOther, NotIn, NotSent, to-sent, to-elsewhere, each-sent, each-elsewhere, rejected-is, Reading, floor, Lines, empty, besides, IsPart, IsPlain, Ends, AwaitsOthers, Bears, same-command, lines-map, lane-map, groups-map, part-map}
 use Rattle.amqp_carried_rules.proofs.Queueing.{kinds-differ, lines-split, open-before, lane-plain, groups-differ, lane-differ, plain-differ, same-grows, groups-left, lane-left, plain-left}

@@ -7,30 +7,29 @@ use Rattle.amqp_frame.specs.RawMethods.{OtherMethod}
 use Rattle.amqp_outbox.specs.declared.item.Item.{Item}
 use Rattle.amqp_outbox.specs.Items.{plain_item, promised_item, group_of, promise_of_group}
 use Rattle.amqp_outbox.specs.Queued.{Queued, pushed_control, pushed_group, is_on}
-use Rattle.amqp_session.specs.declared.channels.Channel.{Channel}
+use Rattle.amqp_channels.specs.declared.channels.Channel.{Channel}
 use Rattle.amqp_promise.specs.declared.state.ConnectionState.{ConnectionState}
 use Rattle.amqp_promise.specs.declared.state.ConnectionState.TheVariants.{Connected, Closing}
 use Rattle.amqp_promise.specs.declared.state.ChannelState.TheVariants as channel
-use Rattle.amqp_session.specs.declared.command.Cmd.{Cmd}
-use Rattle.amqp_session.specs.declared.command.Cmd.TheVariants.{OpenChannel, CloseChannel, CloseConnection, UpdateSecret, Send, Publish, Flow, DropChannel, DropConnection, Listen}
-use Rattle.amqp_session.specs.declared.command.Answer.{Answer as AnyAnswer}
-use Rattle.amqp_session.specs.declared.command.ChanRef.{ChanRef}
+use Rattle.amqp_commands.specs.declared.command.Cmd.{Cmd}
+use Rattle.amqp_commands.specs.declared.command.Cmd.TheVariants.{OpenChannel, CloseChannel, CloseConnection, UpdateSecret, Send, Publish, Flow, DropChannel, DropConnection, Listen}
+use Rattle.amqp_answers.specs.declared.answer.Answer.{Answer as AnyAnswer}
+use Rattle.amqp_commands.specs.declared.command.ChanRef.{ChanRef}
 use Rattle.amqp_promise.specs.declared.error.ErrorKind.TheVariants.{ChannelsLimitReached, InvalidChannelState, InvalidConnectionState}
 use Rattle.amqp_promise.specs.declared.error.ErrorKind.{ErrorKind}
-use Rattle.amqp_session.specs.Listed.{at, put}
-use Rattle.amqp_session.specs.Talk.{Talk, is_open, is_open_link}
-use Rattle.amqp_session.specs.Changes.{Promises, next_promise, rejected, promise}
-use Rattle.amqp_session.specs.Handshake.{our_close, new_secret, channel_open, channel_flow, our_channel_close}
-use Rattle.amqp_session.specs.Numbering.{first_number, drawn}
-use Rattle.amqp_session.specs.Publishing.{content_header, method_frame, publish_frames}
-use Rattle.amqp_session.specs.Commands.{target, open_drawn, leave_connection, close_target, drop_target, flow_target, queue_secret, update_secret, too_long, unless_too_long, too_full, unless_full, queue_send, send_target, body_limit, queue_publish, publish_target, command, command_rule}
+use Rattle.amqp_maps.specs.Listed.{at, put}
+use Rattle.amqp_rules.specs.Talk.{Talk, is_open, is_open_link}
+use Rattle.amqp_answers.specs.Settled.{Promises}
+use Rattle.amqp_rules.specs.Changes.{next_promise, rejected, promise}
+use Rattle.amqp_settings.specs.Handshake.{our_close, new_secret, channel_open, channel_flow, our_channel_close}
+use Rattle.amqp_channels.specs.Numbering.{first_number, drawn}
+use Rattle.amqp_commands.specs.Publishing.{content_header, method_frame, publish_frames, body_pieces, cut}
+use Rattle.amqp_rules.specs.Commands.{target, open_drawn, leave_connection, close_target, drop_target, flow_target, queue_secret, update_secret, too_long, unless_too_long, too_full, unless_full, queue_send, send_target, body_limit, queue_publish, publish_target, command, command_rule, listen}
 use Rattle.std.proofs.lemmas.List.{take-append-drop}
-use Rattle.amqp_session.specs.Sound.{is_agreed}
+use Rattle.amqp_rules.specs.Sound.{is_agreed}
 use Rattle.amqp_legal_rules.proofs.Ready.{pieces-fit, pieces-some}
-use Rattle.amqp_session.specs.Commands.{listen}
-use Rattle.amqp_session.specs.Publishing.{body_pieces, cut}
 use Rattle.amqp_carried_rules.specs.CommandFrames.{AreFramesOf, AreContentFrames, is_send, is_publish, is_sent, answered_command}
-use Rattle.amqp_session.proofs.Numbered.{put-same, put-other}
+use Rattle.amqp_maps.proofs.Numbered.{put-same, put-other}
 use Rattle.amqp_carried_rules.proofs.Bearing.{command_at, carries, IsOther, each-sent, rejected-is, Reading, closed, Lines, none, other, more, whole, Bears, IsAt, Sized, Ends, AwaitsOthers, Grows, told-made, lines-map, lane-map, groups-map, part-map}
 use Rattle.amqp_carried_rules.proofs.Queueing.{lane-send, groups-push}
 use Rattle.amqp_carried_rules.proofs.Borne.{AreOthers, bears-push, bears-expected, bears-groups-of, bears-groups}

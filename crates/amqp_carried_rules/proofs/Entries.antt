@@ -8,10 +8,10 @@ use Rattle.std.specs.Ordering.{nat_cmp, is_eq, match_ordering}
 use Rattle.std.specs.BTreeMap.{is_at}
 use Rattle.std.specs.Map.{keys_of}
 use Rattle.amqp_outbox.proofs.Cases.{equal-from}
-use Rattle.amqp_session.specs.Listed.{at, put, without}
-use Rattle.amqp_session.specs.Sound.{Ascend}
-use Rattle.amqp_session.proofs.Ascending.{at-gone}
-use Rattle.amqp_session.proofs.Numbered.{at-first}
+use Rattle.amqp_maps.specs.Listed.{at, put, without}
+use Rattle.amqp_rules.specs.Sound.{Ascend}
+use Rattle.amqp_rules.proofs.Ascending.{at-gone}
+use Rattle.amqp_maps.proofs.Numbered.{at-first}
 
 -- this holds of each entry
 abbrev pub Each : {X : Type 0} → (ℕ → X → Type 0) → List (ℕ × X) → Type 0

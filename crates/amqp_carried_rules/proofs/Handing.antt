@@ -12,32 +12,32 @@ use Rattle.amqp_frame.specs.declared.frame.Frame.{Frame}
 use Rattle.amqp_frame.specs.declared.frame.Frame.TheVariants.{ProtocolHeader, Method, Raw, Heartbeat}
 use Rattle.amqp_frame.specs.declared.frame.RawKind.{RawKind}
 use Rattle.amqp_frame.specs.declared.method.Method.{Method as AnyMethod}
-use Rattle.amqp_session.specs.declared.channels.Channel.{Channel}
-use Rattle.amqp_session.specs.declared.handed.Handed.{Handed}
-use Rattle.amqp_session.specs.declared.command.Cmd.{Cmd}
-use Rattle.amqp_session.specs.declared.misread.Misread.{Misread}
+use Rattle.amqp_channels.specs.declared.channels.Channel.{Channel}
+use Rattle.amqp_answers.specs.declared.handed.Handed.{Handed}
+use Rattle.amqp_commands.specs.declared.command.Cmd.{Cmd}
+use Rattle.amqp_violations.specs.declared.misread.Misread.{Misread}
 use Rattle.amqp_promise.specs.declared.error.ErrorKind.{ErrorKind}
 use Rattle.amqp_promise.specs.declared.error.ErrorKind.TheVariants.{InvalidProtocolVersion, InvalidChannel, NoMemory, SerialisationError}
 use Rattle.amqp_promise.specs.declared.io_fault.IoFault.{IoFault}
 use Rattle.amqp_auth.specs.declared.asked.Asked.{Asked}
 use Rattle.std.specs.Map.{keys_of}
-use Rattle.amqp_session.specs.Listed.{at, put}
-use Rattle.amqp_session.specs.Sound.{Ascend}
-use Rattle.amqp_session.proofs.Ascending.{put-ascends}
-use Rattle.amqp_session.specs.Talk.{Talk, has_ended, is_open, is_asked, acts, hears_on}
-use Rattle.amqp_session.specs.Channels.{channel_at}
-use Rattle.amqp_session.specs.Changes.{present_at, lose, misplaced, fail, starve}
-use Rattle.amqp_session.specs.Links.{linked, link_failed, piece, misread, lost}
-use Rattle.amqp_session.specs.Violations.{stray_channel_frame}
-use Rattle.amqp_session.specs.ChannelMethods.{heard_on, confirmed, is_select_ok, frames_of, hand_out, raw_by}
-use Rattle.amqp_session.specs.Frames.{method_rule, frame_rule, closed_rule, on_frame}
-use Rattle.amqp_session.specs.Commands.{command}
-use Rattle.amqp_session.specs.Ticks.{tick}
-use Rattle.amqp_session.specs.Writing.{end_overlong, taken}
+use Rattle.amqp_maps.specs.Listed.{at, put}
+use Rattle.amqp_rules.specs.Sound.{Ascend}
+use Rattle.amqp_rules.proofs.Ascending.{put-ascends}
+use Rattle.amqp_rules.specs.Talk.{Talk, has_ended, is_open, is_asked, acts, hears_on}
+use Rattle.amqp_rules.specs.Channels.{channel_at}
+use Rattle.amqp_rules.specs.Changes.{present_at, lose, misplaced, fail, starve}
+use Rattle.amqp_rules.specs.Links.{linked, link_failed, piece, misread, lost}
+use Rattle.amqp_violations.specs.Violations.{stray_channel_frame}
+use Rattle.amqp_rules.specs.ChannelMethods.{heard_on, confirmed, is_select_ok, frames_of, hand_out, raw_by}
+use Rattle.amqp_rules.specs.Frames.{method_rule, frame_rule, closed_rule, on_frame}
+use Rattle.amqp_rules.specs.Commands.{command}
+use Rattle.amqp_rules.specs.Ticks.{tick}
+use Rattle.amqp_rules.specs.Writing.{end_overlong, taken}
 use Rattle.amqp_carried_rules.specs.HandingOut.{handed_on, HandedOut, handed_of, hands_out}
-use Rattle.amqp_session.proofs.Walk.{ChannelRows, ConnectionRows, misplaced-keeps, misread-keeps, start-keeps, secure-keeps, method-keeps, acting-keeps}
-use Rattle.amqp_session.proofs.Keeping.{present-keeps, loss-keeps, lost-keeps, failed-keeps, tick-keeps, stays-command}
-use Rattle.amqp_session.proofs.Sending.{taken-keeps}
+use Rattle.amqp_rules.proofs.Walk.{ChannelRows, ConnectionRows, misplaced-keeps, misread-keeps, start-keeps, secure-keeps, method-keeps, acting-keeps}
+use Rattle.amqp_rules.proofs.Keeping.{present-keeps, loss-keeps, lost-keeps, failed-keeps, tick-keeps, stays-command}
+use Rattle.amqp_rules.proofs.Sending.{taken-keeps}
 use Rattle.amqp_types.proofs.Small.{if_case, nat_cmp_self}
 
 -- ---- maps
@@ -255,8 +255,3 @@ overlong-handed (Some size) t = lose-handed (SerialisationError size) t
 
 pub starve-handed : (t : Talk) → IsSameHanded t (starve t)
 starve-handed t = if_case (IsSameHanded t) (has_ended t) t (fail NoMemory t) refl refl
-
--- what a frame hands out is the same at another moment
-pub present-hands_out : (f : Frame) (at : ℕ) (t : Talk) → hands_out f (present_at at t) ≡ hands_out f t
-present-hands_out (Raw (suc n) kind bytes) at t = present-keeps (hands_out (Raw (suc n) kind bytes)) at t (λ m. refl)
-present-hands_out _ at t = refl

@@ -8,13 +8,14 @@ use Rattle.amqp_outbox.specs.declared.reply.Awaited.{Awaited}
 use Rattle.amqp_outbox.specs.Queued as queued
 use Rattle.amqp_outbox.specs.Queued.{after_next}
 use Rattle.amqp_promise.specs.declared.state.ConnectionState.{ConnectionState}
-use Rattle.amqp_session.specs.declared.committed.Then.TheVariants.{Answer, Finish}
-use Rattle.amqp_session.specs.declared.command.Cmd.{Cmd}
-use Rattle.amqp_session.specs.declared.command.Cmd.TheVariants.{Send, Publish}
-use Rattle.amqp_session.specs.Listed.{at}
-use Rattle.amqp_session.specs.Talk.{Talk}
-use Rattle.amqp_session.specs.Changes.{Promises}
-use Rattle.amqp_session.specs.Writing.{flows, writes, next_out, then_of, then_by, answers, is_close_ok, mark_of}
+use Rattle.amqp_outgoing.specs.declared.committed.Then.TheVariants.{Answer, Finish}
+use Rattle.amqp_commands.specs.declared.command.Cmd.{Cmd}
+use Rattle.amqp_commands.specs.declared.command.Cmd.TheVariants.{Send, Publish}
+use Rattle.amqp_maps.specs.Listed.{at}
+use Rattle.amqp_rules.specs.Talk.{Talk}
+use Rattle.amqp_answers.specs.Settled.{Promises}
+use Rattle.amqp_rules.specs.Writing.{flows, writes, next_out}
+use Rattle.amqp_outgoing.specs.Marks.{then_of, then_by, answers, is_close_ok, mark_of}
 use Rattle.amqp_carried_rules.specs.CommandFrames.{is_send, is_publish, is_raw}
 use Rattle.amqp_carried_rules.proofs.Bearing.{command_at, carries, frames-carry, Reading, floor, closed, waits-map, Lines, none, other, more, whole, Lane, empty, besides, sends, Groups, Ends, Bears, IsAt}
 use Rattle.amqp_carried_rules.proofs.Queueing.{lines-append, group-goes, send-goes, same-grows}

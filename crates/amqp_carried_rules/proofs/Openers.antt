@@ -30,46 +30,49 @@ use Rattle.amqp_promise.specs.declared.state.ChannelState.TheVariants as channel
 use Rattle.amqp_promise.specs.declared.error.ErrorKind.{ErrorKind}
 use Rattle.amqp_promise.specs.declared.error.ErrorKind.TheVariants.{InvalidProtocolVersion, InvalidChannel, InvalidChannelState, InvalidConnectionState, IOError, NoMemory, ProtocolError, SerialisationError}
 use Rattle.amqp_auth.specs.declared.asked.Asked.{Asked as ProviderAnswer}
-use Rattle.amqp_session.specs.declared.channels.Channel.{Channel}
-use Rattle.amqp_session.specs.declared.channels.Debt.{Debt}
-use Rattle.amqp_session.specs.declared.channels.Debt.TheVariants as debt
-use Rattle.amqp_session.specs.declared.state.Phase.{Phase}
-use Rattle.amqp_session.specs.declared.state.Phase.TheVariants.{AwaitStart, AwaitTune, AwaitOpenOk}
-use Rattle.amqp_session.specs.declared.committed.Mark.{Mark}
-use Rattle.amqp_session.specs.declared.committed.Then.{Then}
-use Rattle.amqp_session.specs.declared.committed.Then.TheVariants.{Nothing, Answer, Pays, Finish}
-use Rattle.amqp_session.specs.declared.server_close.ServerClose.{ServerClose}
-use Rattle.amqp_session.specs.declared.server_close.ServerClose.TheVariants.{WithoutError, WithError}
-use Rattle.amqp_session.specs.declared.command.Cmd.{Cmd}
-use Rattle.amqp_session.specs.declared.command.Cmd.TheVariants.{OpenChannel}
-use Rattle.amqp_session.specs.declared.command.Answer.{Answer as AnyAnswer}
-use Rattle.amqp_session.specs.declared.command.Answer.TheVariants as says
-use Rattle.amqp_session.specs.declared.handed.Handed.{Handed}
-use Rattle.amqp_session.specs.declared.misread.Misread.{Misread}
-use Rattle.amqp_session.specs.Listed.{at, put, without}
-use Rattle.amqp_session.specs.Talk.{Talk, acts, hears_on, has_ended, is_asked, is_open}
-use Rattle.amqp_session.specs.Changes.{Promises, settled, settled_by, settled_to, rejected, rejected_each, promises_on, replies_on, present_at, queue, await, fail, lose, misplaced, close, finish, finish_by, starve}
-use Rattle.amqp_session.specs.Channels.{channel_at, made_answered}
-use Rattle.amqp_session.specs.Handshake.{channel_open}
-use Rattle.amqp_session.specs.Links.{asked, linked, refused_after, link_failed, piece, misread, lost}
-use Rattle.amqp_session.specs.Recovery.{next_delay, is_kept_in, reconnecting, reconnect, rejected_slot, rejected_all}
-use Rattle.amqp_session.specs.Violations.{channel_closed_with, stray_channel_frame, stray_connection_method, unawaited}
-use Rattle.amqp_session.specs.ConnectionMethods.{connected, reopen, reopen_each, secret_taken, connection_closed, connection_rule, on_start, on_secure}
-use Rattle.amqp_session.specs.ChannelMethods.{heard_on, unawaited_channel_method, channel_opened, remove_channel, remove_unless_owed, channel_closed, on_channel_flow, channel_flowed, closed_by_server, crossing_close, channel_close_by, channel_rule, channel_method_by, channel_method, is_select_ok, frames_of, hand_out, confirmed, raw_by}
-use Rattle.amqp_session.specs.Frames.{method_on, method_rule, frame_rule, closed_rule, on_frame}
-use Rattle.amqp_session.specs.Ticks.{tick}
-use Rattle.amqp_session.specs.Writing.{next_within, committed_as, commit, pay, follow, sent, sent_among, taken, end_overlong}
-use Rattle.amqp_session.specs.Answers.{take_frames}
-use Rattle.amqp_session.specs.Sound.{IsSound, Ascend}
+use Rattle.amqp_channels.specs.declared.channels.Channel.{Channel}
+use Rattle.amqp_channels.specs.declared.channels.Debt.{Debt}
+use Rattle.amqp_channels.specs.declared.channels.Debt.TheVariants as debt
+use Rattle.amqp_rules.specs.declared.state.Phase.{Phase}
+use Rattle.amqp_rules.specs.declared.state.Phase.TheVariants.{AwaitStart, AwaitTune, AwaitOpenOk}
+use Rattle.amqp_outgoing.specs.declared.committed.Mark.{Mark}
+use Rattle.amqp_outgoing.specs.declared.committed.Then.{Then}
+use Rattle.amqp_outgoing.specs.declared.committed.Then.TheVariants.{Nothing, Answer, Pays, Finish}
+use Rattle.amqp_violations.specs.declared.server_close.ServerClose.{ServerClose}
+use Rattle.amqp_violations.specs.declared.server_close.ServerClose.TheVariants.{WithoutError, WithError}
+use Rattle.amqp_commands.specs.declared.command.Cmd.{Cmd}
+use Rattle.amqp_commands.specs.declared.command.Cmd.TheVariants.{OpenChannel}
+use Rattle.amqp_answers.specs.declared.answer.Answer.{Answer as AnyAnswer}
+use Rattle.amqp_answers.specs.declared.answer.Answer.TheVariants as says
+use Rattle.amqp_answers.specs.declared.handed.Handed.{Handed}
+use Rattle.amqp_violations.specs.declared.misread.Misread.{Misread}
+use Rattle.amqp_maps.specs.Listed.{at, put, without}
+use Rattle.amqp_rules.specs.Talk.{Talk, acts, hears_on, has_ended, is_asked, is_open}
+use Rattle.amqp_answers.specs.Settled.{Promises, settled, settled_by, settled_to, rejected_slot, rejected_all}
+use Rattle.amqp_rules.specs.Changes.{rejected, rejected_each, promises_on, replies_on, present_at, queue, await, fail, lose, misplaced, close, finish, finish_by, starve}
+use Rattle.amqp_rules.specs.Channels.{channel_at}
+use Rattle.amqp_channels.specs.Channels.{made_answered}
+use Rattle.amqp_settings.specs.Handshake.{channel_open}
+use Rattle.amqp_rules.specs.Links.{asked, linked, refused_after, link_failed, piece, misread, lost}
+use Rattle.amqp_rules.specs.Recovery.{next_delay, reconnect}
+use Rattle.amqp_channels.specs.Kept.{is_kept_in, reconnecting}
+use Rattle.amqp_violations.specs.Violations.{channel_closed_with, stray_channel_frame, stray_connection_method, unawaited}
+use Rattle.amqp_rules.specs.ConnectionMethods.{connected, reopen, reopen_each, secret_taken, connection_closed, connection_rule, on_start, on_secure}
+use Rattle.amqp_rules.specs.ChannelMethods.{heard_on, unawaited_channel_method, channel_opened, remove_channel, remove_unless_owed, channel_closed, on_channel_flow, channel_flowed, closed_by_server, crossing_close, channel_close_by, channel_rule, channel_method_by, channel_method, is_select_ok, frames_of, hand_out, confirmed, raw_by}
+use Rattle.amqp_rules.specs.Frames.{method_on, method_rule, frame_rule, closed_rule, on_frame}
+use Rattle.amqp_rules.specs.Ticks.{tick}
+use Rattle.amqp_rules.specs.Writing.{next_within, committed_as, commit, pay, follow, sent, sent_among, taken, end_overlong}
+use Rattle.amqp_rules.specs.Answers.{take_frames}
+use Rattle.amqp_rules.specs.Sound.{IsSound, Ascend}
 use Rattle.amqp_types.proofs.Small.{if_case, some_is, all-push}
-use Rattle.amqp_session.proofs.AwaitedOn.{first-opening}
-use Rattle.amqp_session.proofs.Recovering.{lose-case}
-use Rattle.amqp_session.proofs.Walk.{TickRows, close_answered, misplaced-keeps, misread-keeps, start-keeps, secure-keeps, tick-keeps, pay-case}
+use Rattle.amqp_rules.proofs.AwaitedOn.{first-opening}
+use Rattle.amqp_rules.proofs.Recovering.{lose-case}
+use Rattle.amqp_rules.proofs.Walk.{TickRows, close_answered, misplaced-keeps, misread-keeps, start-keeps, secure-keeps, tick-keeps, pay-case}
 use Rattle.amqp_carried_rules.proofs.Bearing.{command_at}
 use Rattle.amqp_carried_rules.proofs.Borne.{all-out}
 use Rattle.amqp_carried_rules.proofs.Entries.{Each, each-put, each-without, each-at, each-map, each-filter, each-list, each-gone, each-both}
-use Rattle.amqp_session.proofs.SoundFrames.{heard-listed}
-use Rattle.amqp_session.proofs.Soundness.{next-awaits}
+use Rattle.amqp_rules.proofs.SoundFrames.{heard-listed}
+use Rattle.amqp_rules.proofs.Soundness.{next-awaits}
 
 -- ---- what is known
 

@@ -15,22 +15,24 @@ use Rattle.amqp_promise.specs.declared.state.ConnectionState.TheVariants.{Connec
 use Rattle.amqp_promise.specs.declared.state.ChannelState.TheVariants as channel
 use Rattle.amqp_promise.specs.declared.error.ErrorKind.{ErrorKind}
 use Rattle.amqp_promise.specs.declared.error.ErrorKind.TheVariants.{InvalidChannelState, InvalidConnectionState}
-use Rattle.amqp_session.specs.declared.channels.Channel.{Channel}
-use Rattle.amqp_session.specs.declared.command.ChanRef.{ChanRef}
-use Rattle.amqp_session.specs.declared.command.Cmd.{Cmd}
-use Rattle.amqp_session.specs.declared.command.Cmd.TheVariants.{OpenChannel, CloseChannel, CloseConnection, UpdateSecret, Send, Publish, Flow, DropChannel, DropConnection, Listen}
-use Rattle.amqp_session.specs.declared.command.Answer.{Answer as AnyAnswer}
-use Rattle.amqp_session.specs.declared.command.Answer.TheVariants as says
-use Rattle.amqp_session.specs.declared.handed.Handed.{Handed}
-use Rattle.amqp_session.specs.Listed.{at, put}
-use Rattle.amqp_session.specs.Config.{Config}
-use Rattle.amqp_session.specs.Talk.{Talk, start}
-use Rattle.amqp_session.specs.Changes.{Promises, await, queue, queue_item, queue_group, next_promise, promise, refuse}
-use Rattle.amqp_session.specs.Channels.{channel_at, new_channel, made_closing, made_leaving}
-use Rattle.amqp_session.specs.Handshake.{channel_flow, new_secret}
-use Rattle.amqp_session.specs.Numbering.{first_number, drawn}
-use Rattle.amqp_session.specs.Publishing.{method_frame, publish_frames}
-use Rattle.amqp_session.specs.Commands.{target, open_drawn, leave_channel, close_target, drop_target, too_long, unless_too_long, too_full, unless_full, queue_send, send_target, body_limit, queue_publish, publish_target, flow_target, queue_secret, update_secret, leave_connection, listen, command_rule, command}
+use Rattle.amqp_channels.specs.declared.channels.Channel.{Channel}
+use Rattle.amqp_commands.specs.declared.command.ChanRef.{ChanRef}
+use Rattle.amqp_commands.specs.declared.command.Cmd.{Cmd}
+use Rattle.amqp_commands.specs.declared.command.Cmd.TheVariants.{OpenChannel, CloseChannel, CloseConnection, UpdateSecret, Send, Publish, Flow, DropChannel, DropConnection, Listen}
+use Rattle.amqp_answers.specs.declared.answer.Answer.{Answer as AnyAnswer}
+use Rattle.amqp_answers.specs.declared.answer.Answer.TheVariants as says
+use Rattle.amqp_answers.specs.declared.handed.Handed.{Handed}
+use Rattle.amqp_maps.specs.Listed.{at, put}
+use Rattle.amqp_settings.specs.Config.{Config}
+use Rattle.amqp_rules.specs.Talk.{Talk, start}
+use Rattle.amqp_answers.specs.Settled.{Promises}
+use Rattle.amqp_rules.specs.Changes.{await, queue, queue_item, queue_group, next_promise, promise, refuse}
+use Rattle.amqp_rules.specs.Channels.{channel_at}
+use Rattle.amqp_channels.specs.Channels.{new_channel, made_closing, made_leaving}
+use Rattle.amqp_settings.specs.Handshake.{channel_flow, new_secret}
+use Rattle.amqp_channels.specs.Numbering.{first_number, drawn}
+use Rattle.amqp_commands.specs.Publishing.{method_frame, publish_frames}
+use Rattle.amqp_rules.specs.Commands.{target, open_drawn, leave_channel, close_target, drop_target, too_long, unless_too_long, too_full, unless_full, queue_send, send_target, body_limit, queue_publish, publish_target, flow_target, queue_secret, update_secret, leave_connection, listen, command_rule, command}
 use Rattle.amqp_types.proofs.Small.{some_is, same-number, other-number}
 use Rattle.amqp_carried_rules.specs.CommandFrames.{answered_command}
 use Rattle.amqp_carried_rules.proofs.Bearing.{command_at, told-made}
@@ -38,8 +40,8 @@ use Rattle.amqp_carried_rules.proofs.Commanding.{get-last, same-below, grows-mor
 use Rattle.amqp_carried_rules.proofs.Handing.{at-put}
 use Rattle.amqp_carried_rules.proofs.Entries.{Each, each-put, each-at, each-map, each-then, all-then, each-both, keys-there}
 use Rattle.amqp_carried_rules.proofs.Openers.{IsOpener, IsLatest, AnswersOpening, HoldsOpening, AwaitsAs, AwaitsOpening, KnowsOpeners, held-rejected, waiting-more}
-use Rattle.amqp_session.proofs.SoundCommands.{target-listed}
-use Rattle.amqp_session.proofs.Drawn.{drawn-free}
+use Rattle.amqp_rules.proofs.SoundCommands.{target-listed}
+use Rattle.amqp_channels.proofs.Drawn.{drawn-free}
 
 -- ---- a channel or the connection is left
 

@@ -8,10 +8,10 @@ use Rattle.amqp_frame.specs.declared.frame.RawKind.TheVariants.{Body}
 use Rattle.amqp_frame.specs.RawMethods.{OtherMethod}
 use Rattle.amqp_outbox.specs.declared.item.Item.{Item}
 use Rattle.amqp_outbox.specs.Items.{group_of, promise_of_group}
-use Rattle.amqp_session.specs.declared.command.Cmd.{Cmd}
-use Rattle.amqp_session.specs.declared.command.Cmd.TheVariants.{Send, Publish}
-use Rattle.amqp_session.specs.Listed.{at}
-use Rattle.amqp_session.specs.Changes.{Promises}
+use Rattle.amqp_commands.specs.declared.command.Cmd.{Cmd}
+use Rattle.amqp_commands.specs.declared.command.Cmd.TheVariants.{Send, Publish}
+use Rattle.amqp_maps.specs.Listed.{at}
+use Rattle.amqp_answers.specs.Settled.{Promises}
 use Rattle.amqp_carried_rules.specs.CommandFrames.{AreContentFrames, AreFramesOf, is_send, is_publish, is_raw, is_sent}
 use Rattle.amqp_carried_rules.proofs.Bearing.{command_at, carries, NotIn, Reading, floor, closed, Waits, waits-map, Grows, Lines, none, other, more, whole, Lane, empty, besides, sends, IsGroup, Groups, IsPart, told-made, frames-carry}
 

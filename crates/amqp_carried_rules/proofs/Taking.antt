@@ -6,21 +6,21 @@ use Rattle.amqp_outbox.specs.declared.item.Item.{Item}
 use Rattle.amqp_outbox.specs.Queued.{Queued}
 use Rattle.amqp_promise.specs.declared.error.ErrorKind.{ErrorKind}
 use Rattle.amqp_promise.specs.declared.state.ConnectionState.{ConnectionState}
-use Rattle.amqp_session.specs.declared.command.Answer.{Answer as AnyAnswer}
-use Rattle.amqp_session.specs.declared.command.Cmd.{Cmd}
-use Rattle.amqp_session.specs.Listed.{at, without}
-use Rattle.amqp_session.specs.Events.{Noted}
-use Rattle.amqp_session.specs.Talk.{Talk, is_open}
-use Rattle.amqp_session.specs.Changes.{Promises}
-use Rattle.amqp_session.specs.Answers.{answer_in, answer_of, take_frames}
-use Rattle.amqp_session.specs.Sound.{IsSound, Ascend}
-use Rattle.amqp_session.proofs.Ascending.{at-gone, none-above}
-use Rattle.amqp_session.proofs.Numbered.{without-other}
+use Rattle.amqp_answers.specs.declared.answer.Answer.{Answer as AnyAnswer}
+use Rattle.amqp_commands.specs.declared.command.Cmd.{Cmd}
+use Rattle.amqp_maps.specs.Listed.{at, without}
+use Rattle.amqp_answers.specs.Events.{Noted}
+use Rattle.amqp_rules.specs.Talk.{Talk, is_open}
+use Rattle.amqp_answers.specs.Settled.{Promises}
+use Rattle.amqp_rules.specs.Answers.{answer_in, answer_of, take_frames}
+use Rattle.amqp_rules.specs.Sound.{IsSound, Ascend}
+use Rattle.amqp_rules.proofs.Ascending.{at-gone, none-above}
+use Rattle.amqp_maps.proofs.Numbered.{without-other}
 use Rattle.amqp_carried_rules.specs.CommandFrames.{is_sent}
 use Rattle.amqp_carried_rules.proofs.Bearing.{Reading, IsPart, Ends, Bears, IsAt, lines-map, lane-map, groups-map}
 use Rattle.amqp_carried_rules.proofs.Queueing.{same-grows}
 use Rattle.amqp_carried_rules.proofs.Bearers.{moved}
-use Rattle.amqp_session.proofs.LostLinks.{open-goes_on}
+use Rattle.amqp_rules.proofs.LostLinks.{open-goes_on}
 
 -- ---- an answer that is taken
 

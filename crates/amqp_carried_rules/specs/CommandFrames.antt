@@ -7,11 +7,11 @@ use Rattle.amqp_frame.specs.declared.frame.Frame.TheVariants.{Raw}
 use Rattle.amqp_frame.specs.declared.frame.RawKind.TheVariants.{RawMethod, Header, Body}
 use Rattle.amqp_frame.specs.RawMethods.{OtherMethod, spell_raw_method}
 use Rattle.amqp_promise.specs.declared.error.ErrorKind.{ErrorKind}
-use Rattle.amqp_session.specs.declared.command.Cmd.{Cmd}
-use Rattle.amqp_session.specs.declared.command.Cmd.TheVariants.{Send, Publish}
-use Rattle.amqp_session.specs.declared.command.Answer.{Answer}
-use Rattle.amqp_session.specs.declared.command.Answer.TheVariants.{Sent}
-use Rattle.amqp_session.specs.Commands.{takes_promise}
+use Rattle.amqp_commands.specs.declared.command.Cmd.{Cmd}
+use Rattle.amqp_commands.specs.declared.command.Cmd.TheVariants.{Send, Publish}
+use Rattle.amqp_answers.specs.declared.answer.Answer.{Answer}
+use Rattle.amqp_answers.specs.declared.answer.Answer.TheVariants.{Sent}
+use Rattle.amqp_rules.specs.Commands.{takes_promise}
 
 -- a method, one content header, and the body in frames, none of which is empty. The header has the class of the method,
 -- weight 0, how long the body is, and the properties (AMQP 0-9-1, 2.3.5.2 and 4.2.6.1)

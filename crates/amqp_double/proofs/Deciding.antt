@@ -11,7 +11,7 @@ use Rattle.amqp_frame.proofs.FrontStays.{front-none}
 use Rattle.amqp_frame.proofs.Sequences.{front-stays, stand-stays, stand-begins}
 use Rattle.amqp_legal.specs.Legal.{Legal}
 use Rattle.amqp_legal.proofs.Saying.{front-legal}
-use Rattle.amqp_session.specs.declared.configuration.Configuration.{Configuration}
+use Rattle.amqp_settings.specs.declared.configuration.Configuration.{Configuration}
 use Rattle.amqp_double.specs.Replies.{all_replies, ends_closed}
 use Rattle.amqp_double.specs.Doubles.{greatest_limit, DoubleState, IsUnexpected, StopsBehind, AnswersClient, with_client}
 use Rattle.amqp_double.specs.declared.refusal.Refusal.{Refusal}

@@ -6,7 +6,7 @@ use Rattle.amqp_legal.specs.Legal.{Legal}
 use Rattle.amqp_legal.specs.Speeches.{speech_of, HasSaid}
 use Rattle.amqp_legal.specs.declared.speech.Speech.{Speech as Spoken}
 use Rattle.amqp_legal.proofs.Saying.{all-said, one-more, gone-on}
-use Rattle.amqp_session.specs.declared.configuration.Configuration.{Configuration}
+use Rattle.amqp_settings.specs.declared.configuration.Configuration.{Configuration}
 use Rattle.amqp_double.specs.Replies.{reply_octets, all_replies, closes_connection, ends_closed}
 use Rattle.amqp_double.specs.Hearing.{HasRead}
 use Rattle.amqp_double.specs.declared.heard.Heard.{Heard}

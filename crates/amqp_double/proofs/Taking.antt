@@ -15,7 +15,7 @@ use Rattle.amqp_legal.specs.Legal.{Legal}
 use Rattle.amqp_legal.specs.Speeches.{speech_of, HasSaid}
 use Rattle.amqp_legal.proofs.TakenIsLegal.{sound}
 use Rattle.amqp_legal.proofs.Saying.{begun}
-use Rattle.amqp_session.specs.declared.configuration.Configuration.{Configuration}
+use Rattle.amqp_settings.specs.declared.configuration.Configuration.{Configuration}
 use Rattle.amqp_double.specs.Arrivals.{IsThere, IsArrival, Arrive, AreArrivals, Adds, IsBehind, reply_length, replies_length}
 use Rattle.amqp_double.specs.declared.refusal.DoubleFault.TheVariants as faults
 use Rattle.amqp_double.specs.Faults.{result_of}

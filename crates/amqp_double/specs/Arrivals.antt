@@ -4,7 +4,7 @@ use Rattle.amqp_frame.specs.declared.frame.Frame.{Frame}
 use Rattle.amqp_frame.specs.declared.frame.Read.{Read}
 use Rattle.amqp_frame.specs.declared.frame.Read.TheVariants.{Whole, More}
 use Rattle.amqp_frame.specs.Sequences.{front_at, IsNoFrame}
-use Rattle.amqp_session.specs.declared.configuration.Configuration.{Configuration}
+use Rattle.amqp_settings.specs.declared.configuration.Configuration.{Configuration}
 use Rattle.amqp_double.specs.declared.arrivals.Arrival.{Arrival as Came}
 use Rattle.amqp_double.specs.declared.arrivals.Arrivals.{Arrivals}
 use Rattle.amqp_double.specs.declared.arrivals.Behind.{Behind}

@@ -4,7 +4,7 @@ use Rattle.amqp_frame.specs.declared.frame.Frame.{Frame}
 use Rattle.amqp_frame.specs.declared.frame.Read.TheVariants.{Whole, More}
 use Rattle.amqp_frame.specs.Sequences.{front_at, Stand, IsNoFrame}
 use Rattle.amqp_legal.specs.Legal.{Legal}
-use Rattle.amqp_session.specs.declared.configuration.Configuration.{Configuration}
+use Rattle.amqp_settings.specs.declared.configuration.Configuration.{Configuration}
 use Rattle.amqp_double.specs.declared.refusal.Refusal.{Refusal}
 use Rattle.amqp_double.specs.declared.refusal.Refusal.TheVariants.{BadBytes, Unexpected}
 use Rattle.amqp_double.specs.Replies.{all_replies, ends_closed}

@@ -9,7 +9,7 @@ use Rattle.amqp_frame.specs.declared.method.Method.TheVariants.{Start, StartOk, 
 use Rattle.amqp_frame.specs.declared.method.Method.TheVariants.{UpdateSecret, UpdateSecretOk, ChannelOpen, ChannelOpenOk}
 use Rattle.amqp_frame.specs.declared.method.Method.TheVariants.{ChannelFlow, ChannelFlowOk, ChannelClose, ChannelCloseOk}
 use Rattle.amqp_frame.specs.Frames.{encoding}
-use Rattle.amqp_session.specs.declared.configuration.Configuration.{Configuration}
+use Rattle.amqp_settings.specs.declared.configuration.Configuration.{Configuration}
 
 -- what the server can do
 abbrev pub abilities : List Pair

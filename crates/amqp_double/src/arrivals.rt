@@ -8,7 +8,7 @@ ghost use Rattle.amqp_double.specs.Arrivals.{IsThere, AreArrivals, Adds};
 
 use crate::replies::reply_to;
 use amqp_frame::{Frame, Read, read_frame};
-use amqp_session::Configuration;
+use amqp_settings::Configuration;
 use amqp_types::NoMemory;
 use std::alloc::Global;
 

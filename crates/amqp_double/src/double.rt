@@ -6,7 +6,7 @@ ghost use Rattle.amqp_double.specs.Faults.{result_of};
 
 use crate::heard::{Heard, reserve_all};
 use crate::refusal::{DoubleFault, Refusal};
-use amqp_session::Configuration;
+use amqp_settings::Configuration;
 use amqp_types::NoMemory;
 use std::alloc::Global;
 use std::marker::Model;

@@ -9,7 +9,7 @@ use crate::arrivals::{Arrival, Arrivals, Behind, read_arrivals};
 use crate::refusal::Refusal;
 use amqp_frame::{Frame, Method};
 use amqp_legal::{Speech, is_amqp_header};
-use amqp_session::Configuration;
+use amqp_settings::Configuration;
 use amqp_types::NoMemory;
 use std::alloc::Global;
 

@@ -6,7 +6,7 @@ ghost use Rattle.amqp_frame.specs.Frames.{encoding};
 ghost use Rattle.amqp_double.specs.Replies.{abilities, properties, start_frame, replies, reply_octets};
 
 use amqp_frame::{FixedRoom, Frame, Method, encoded_len, write_frame};
-use amqp_session::Configuration;
+use amqp_settings::Configuration;
 use amqp_types::{AMQPValue, ChannelId, FieldTable, LongString, NoMemory, ShortString};
 use std::alloc::Global;
 

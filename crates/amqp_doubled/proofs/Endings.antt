@@ -3,8 +3,8 @@ use Rattle.std.proofs.Common.{◌≡◌, ◌≢◌, ◌≤◌, ◌⊎◌, inl, i
 use Rattle.amqp_promise.specs.declared.error.ErrorKind.{ErrorKind}
 use Rattle.amqp_promise.specs.declared.error.ErrorKind.TheVariants.{NoMemory}
 use Rattle.amqp_uri.specs.Address.{local}
-use Rattle.amqp_session.specs.Config.{config_of, no_options}
-use Rattle.amqp_session.specs.Talk.{end_of}
+use Rattle.amqp_settings.specs.Config.{config_of, no_options}
+use Rattle.amqp_rules.specs.Talk.{end_of}
 use Rattle.amqp_engine.specs.Engine.{Engine}
 use Rattle.amqp_replay.specs.declared.status.TheConstants.{CLOSED, SINK_FAILED, NO_MEMORY}
 use Rattle.amqp_replay.specs.Report.{Printout}

@@ -7,8 +7,8 @@ use Rattle.std.proofs.lemmas.List.{length-replicate}
 use Rattle.std.proofs.lemmas.List.Sums.{sum_by-cons, sum_by-append}
 use Rattle.amqp_uri.specs.Address.{local}
 use Rattle.amqp_auth.specs.DefaultAnswers.{DefaultAuth, default_of, default_answer, AnswersEach}
-use Rattle.amqp_session.specs.declared.command.Cmd.TheVariants.{OpenChannel}
-use Rattle.amqp_session.specs.Config.{config_of, no_options}
+use Rattle.amqp_commands.specs.declared.command.Cmd.TheVariants.{OpenChannel}
+use Rattle.amqp_settings.specs.Config.{config_of, no_options}
 use Rattle.amqp_written_rules.specs.Sayable.{CanBeSaid}
 use Rattle.amqp_written_rules.proofs.Introducing.{properties-said}
 use Rattle.amqp_joining.specs.Plans.{IsPlan, command_turns, turns_of}

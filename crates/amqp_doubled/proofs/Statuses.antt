@@ -1,7 +1,7 @@
 -- Which statuses a printout has.
 use Rattle.std.proofs.Common.{◌≡◌, ◌<◌, ◌⊎◌, sym, inl, inr, refl, subst, ℕ, Option, Some, None, Result, Ok, Err, arith}
 use Rattle.amqp_promise.specs.declared.error.ErrorKind.{ErrorKind}
-use Rattle.amqp_session.specs.Talk.{end_of}
+use Rattle.amqp_rules.specs.Talk.{end_of}
 use Rattle.amqp_replay.specs.declared.status.TheConstants.{CLOSED, FAILED, RUNNING}
 use Rattle.amqp_replay.specs.Report.{Printout}
 use Rattle.amqp_replay.specs.Top.{end_status}

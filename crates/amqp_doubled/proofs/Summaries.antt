@@ -2,7 +2,7 @@
 use Rattle.std.proofs.Common.{◌≡◌, ◌∙◌, ap, sym, refl, ℕ, List, ◌++◌, append_assoc, Option, Some, Result, Ok}
 use Rattle.std.specs.Prelude.{codes}
 use Rattle.amqp_promise.specs.declared.error.ErrorKind.{ErrorKind}
-use Rattle.amqp_session.specs.Talk.{Talk, end_of}
+use Rattle.amqp_rules.specs.Talk.{Talk, end_of}
 use Rattle.amqp_replay.specs.Report.{end_line}
 use Rattle.amqp_replay.specs.Summary.{count_ok, sent_text, answered_text, summary}
 use Rattle.amqp_doubled.specs.Doubling.{summary_line}

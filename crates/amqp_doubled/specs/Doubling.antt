@@ -2,8 +2,8 @@
 use Rattle.std.specs.Prelude.{◌≡◌, ℕ, List, [], ◌∷◌, ◌++◌, length, Option, Some, Result, Ok, codes}
 use Rattle.amqp_promise.specs.declared.error.ErrorKind.{ErrorKind}
 use Rattle.amqp_uri.specs.Address.{local}
-use Rattle.amqp_session.specs.Config.{config_of, no_options}
-use Rattle.amqp_session.specs.Talk.{Talk, start, end_of}
+use Rattle.amqp_settings.specs.Config.{config_of, no_options}
+use Rattle.amqp_rules.specs.Talk.{Talk, start, end_of}
 use Rattle.amqp_engine.specs.Engine.{Engine, begin}
 use Rattle.amqp_replay.specs.Report.{Printout}
 use Rattle.amqp_replay.specs.Summary.{sent_text, answered_text, summary}

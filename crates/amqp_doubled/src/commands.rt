@@ -2,7 +2,7 @@
 
 ghost use Rattle.std.specs.Prelude.{◌≡◌, ◌≤◌, ◌++◌, OnOk, IfOk, map, replicate};
 ghost use Rattle.std.specs.List.{range_with_len};
-ghost use Rattle.amqp_session.specs.declared.command.Cmd.{Cmd};
+ghost use Rattle.amqp_commands.specs.declared.command.Cmd.{Cmd};
 ghost use Rattle.amqp_joining.specs.Plans.{IsPlan, join_plan_of};
 ghost use Rattle.amqp_doubled.specs.Numbers.{hello_command, doubled_commands, doubled_plan};
 

@@ -3,10 +3,10 @@
 ghost use Rattle.std.specs.Prelude.{◌≡◌, ◌≢◌, ◌≤◌, ◌⊎◌, ◌↔◌, ℕ, Some, None, Ok, Err, IfOk, IsTrue};
 ghost use Rattle.amqp_promise.specs.declared.error.ErrorKind.{ErrorKind};
 ghost use Rattle.amqp_uri.specs.Address.{local};
-ghost use Rattle.amqp_session.specs.Talk.{Talk, end_of};
+ghost use Rattle.amqp_rules.specs.Talk.{Talk, end_of};
 ghost use Rattle.amqp_replay.specs.Ends.{FailedOnce};
 ghost use Rattle.amqp_replay.specs.Top.{end_status, IsSilent};
-ghost use Rattle.amqp_session.specs.Config.{no_options};
+ghost use Rattle.amqp_settings.specs.Config.{no_options};
 ghost use Rattle.amqp_both_ends.specs.Logins.{SaysLogins};
 ghost use Rattle.amqp_doubled.specs.Doubling.{doubled_printout, doubled_port, doubled_engine, Doubles, IsDoubled};
 

@@ -5,14 +5,14 @@ use Rattle.std.specs.List.{AllByRecursion}
 use Rattle.amqp_frame.specs.declared.frame.Frame.{Frame}
 use Rattle.amqp_promise.specs.declared.error.ErrorKind.{ErrorKind}
 use Rattle.amqp_promise.specs.declared.error.ErrorKind.TheVariants.{ChannelsLimitReached}
-use Rattle.amqp_session.specs.declared.command.Cmd.{Cmd}
-use Rattle.amqp_session.specs.declared.command.Cmd.TheVariants.{OpenChannel}
-use Rattle.amqp_session.specs.declared.command.Answer.{Answer}
-use Rattle.amqp_session.specs.declared.command.Answer.TheVariants as says
-use Rattle.amqp_session.specs.declared.handed.Handed.{Handed}
-use Rattle.amqp_session.specs.Listed.{at}
-use Rattle.amqp_session.specs.Talk.{Talk, end_of, has_ended}
-use Rattle.amqp_session.specs.Answers.{answer_of}
+use Rattle.amqp_commands.specs.declared.command.Cmd.{Cmd}
+use Rattle.amqp_commands.specs.declared.command.Cmd.TheVariants.{OpenChannel}
+use Rattle.amqp_answers.specs.declared.answer.Answer.{Answer}
+use Rattle.amqp_answers.specs.declared.answer.Answer.TheVariants as says
+use Rattle.amqp_answers.specs.declared.handed.Handed.{Handed}
+use Rattle.amqp_maps.specs.Listed.{at}
+use Rattle.amqp_rules.specs.Talk.{Talk, end_of, has_ended}
+use Rattle.amqp_rules.specs.Answers.{answer_of}
 use Rattle.amqp_carried_rules.specs.CommandFrames.{is_send, is_publish, is_sent}
 use Rattle.amqp_carried_rules.proofs.Bearing.{carries, told-made, command_at}
 use Rattle.amqp_carried_rules.specs.HandingOut.{handed_on}

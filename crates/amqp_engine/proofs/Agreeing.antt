@@ -7,16 +7,16 @@ use Rattle.std.proofs.Math.Seq.{take-append_seam, take-append-add, drop-append_s
 use Rattle.amqp_frame.specs.Frames.{encoding}
 use Rattle.amqp_outbox.specs.declared.item.Item.{Item}
 use Rattle.amqp_outbox.specs.Items.{size_of}
-use Rattle.amqp_session.specs.declared.committed.Mark.{Mark}
-use Rattle.amqp_session.specs.Writing.{mark_of}
+use Rattle.amqp_outgoing.specs.declared.committed.Mark.{Mark}
+use Rattle.amqp_outgoing.specs.Marks.{mark_of}
 use Rattle.amqp_engine.specs.declared.port.Wrote.{Wrote}
 use Rattle.amqp_engine.specs.declared.port.Wrote.TheVariants.{Took, Failed, NoMemory}
 use Rattle.amqp_engine.specs.Log.{TookAtMost}
 use Rattle.amqp_engine.specs.Engine.{Engine, commits, commit_one, commit_all, fitting_next, taken_by}
-use Rattle.amqp_session.specs.Writing.{frames_waiting}
+use Rattle.amqp_rules.specs.Writing.{frames_waiting}
 use Rattle.amqp_engine.specs.Turn.{offered}
 use Rattle.amqp_engine.specs.Sending.{Sending, encodings, link_bytes, items_sent, sent_in, committed_in, committed_before, offer_sending, nothing_sent, IsBegun, SendsInOrder}
-use Rattle.amqp_session.proofs.Sending.{left_after}
+use Rattle.amqp_rules.proofs.Sending.{left_after}
 use Rattle.amqp_engine.proofs.Commits.{with_frame, commit_one-is}
 use Rattle.amqp_engine.proofs.Sent.{lefts, lefts_of, lefts_after, lefts-left_after, count_in, count_in-lefts, begun-none, Advances, advance, advance-none}
 

@@ -2,9 +2,9 @@
 use Rattle.std.proofs.Common.{◌≡◌, ap, refl, Option, Some, None, Result, Ok, Err}
 use Rattle.amqp_promise.specs.declared.error.ErrorKind.{ErrorKind}
 use Rattle.amqp_promise.specs.declared.error.ErrorKind.TheVariants.{ChannelsLimitReached}
-use Rattle.amqp_session.specs.declared.command.Answer.{Answer}
-use Rattle.amqp_session.specs.declared.command.Answer.TheVariants as says
-use Rattle.amqp_session.specs.Answers.{answer_in}
+use Rattle.amqp_answers.specs.declared.answer.Answer.{Answer}
+use Rattle.amqp_answers.specs.declared.answer.Answer.TheVariants as says
+use Rattle.amqp_rules.specs.Answers.{answer_in}
 use Rattle.amqp_carried_rules.specs.CommandFrames.{is_sent}
 use Rattle.amqp_engine.specs.Carried.{says_sent}
 

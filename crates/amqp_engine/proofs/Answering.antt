@@ -6,13 +6,13 @@ use Rattle.amqp_auth.specs.Providers.{Exchange, Allows}
 use Rattle.amqp_auth.specs.Asking.{paired, Answer, Unanswered, Asks}
 use Rattle.amqp_frame.specs.declared.frame.Read.{Read}
 use Rattle.amqp_frame.specs.declared.frame.Read.TheVariants.{Whole, More, TooLarge, BadHeartbeat, Bad, NoMemory}
-use Rattle.amqp_session.specs.Talk.{Talk}
-use Rattle.amqp_session.specs.Changes.{present_at}
+use Rattle.amqp_rules.specs.Talk.{Talk}
+use Rattle.amqp_rules.specs.Changes.{present_at}
 use Rattle.amqp_engine.specs.Plan.{at_most_64}
 use Rattle.amqp_engine.specs.Engine.{Engine, settle, read_row, row_questions}
 use Rattle.amqp_engine.specs.Turn.{IsAnswered}
 use Rattle.amqp_engine.specs.Tell.{MayCome}
-use Rattle.amqp_session.proofs.Hearing.{frame-more}
+use Rattle.amqp_rules.proofs.Hearing.{frame-more}
 use Rattle.std.proofs.lemmas.List.{append-nil}
 
 -- there are as many answers as questions

@@ -4,11 +4,11 @@ use Rattle.amqp_auth.specs.declared.asked.Question.{Question}
 use Rattle.amqp_auth.specs.declared.asked.Asked.{Asked}
 use Rattle.amqp_auth.specs.Providers.{Exchange}
 use Rattle.amqp_auth.specs.Asking.{Answer, Unanswered, paired}
-use Rattle.amqp_session.specs.Talk.{Talk, is_asked, is_open, has_ended}
+use Rattle.amqp_rules.specs.Talk.{Talk, is_asked, is_open, has_ended}
 use Rattle.amqp_promise.specs.declared.io_fault.IoFault.TheVariants.{Aborted, Reset}
-use Rattle.amqp_session.specs.Changes.{present_at, starve}
-use Rattle.amqp_session.specs.Links.{linked, link_failed, piece, lost}
-use Rattle.amqp_session.specs.Ticks.{tick}
+use Rattle.amqp_rules.specs.Changes.{present_at, starve}
+use Rattle.amqp_rules.specs.Links.{linked, link_failed, piece, lost}
+use Rattle.amqp_rules.specs.Ticks.{tick}
 use Rattle.amqp_engine.specs.declared.port.Step.{Step}
 use Rattle.amqp_engine.specs.declared.port.Step.TheVariants.{Linked, LinkFailed, Piece, End, Fault, Room, Tick, Command}
 use Rattle.amqp_engine.specs.Log.{Log}
@@ -18,12 +18,12 @@ use Rattle.amqp_engine.specs.Making.{making, cut_turn, parts_of, Reaches, Broke,
 use Rattle.amqp_engine.specs.Tell.{MayCome, TellsOffers, offers_from, turn_of}
 use Rattle.std.proofs.lemmas.List.{append-nil}
 use Rattle.std.proofs.Math.Seq.{drop-append_seam}
-use Rattle.amqp_session.proofs.Hearing.{tick-more}
+use Rattle.amqp_rules.proofs.Hearing.{tick-more}
 use Rattle.amqp_engine.proofs.Answering.{answer-size, may-front}
 use Rattle.amqp_types.proofs.Small.{if_case, if-true, if-false, and-true}
 use Rattle.amqp_engine.proofs.Cases.{is_before-Reaches}
 use Rattle.amqp_engine.proofs.Settling.{settle-starved}
-use Rattle.amqp_session.proofs.Keeping.{present-keeps, starve-twice}
+use Rattle.amqp_rules.proofs.Keeping.{present-keeps, starve-twice}
 use Rattle.amqp_engine.proofs.Reading.{reads-rest, reading-cut}
 use Rattle.amqp_engine.proofs.Offers.{writes-none, writes-cut}
 use Rattle.amqp_engine.proofs.Over.{step-ended, over-reads, over-writes, over-refuses}
@@ -32,10 +32,6 @@ use Rattle.amqp_engine.proofs.Over.{step-ended, over-reads, over-writes, over-re
 pub starve_at-twice : (at j : ℕ) (e : Engine) → starve_at at j (rule_at at starve e) ≡ starve_at at j e
 starve_at-twice at j e =
     ap (λ (t : Talk). record e { talk = t; unread = []; place = 0; unsent = []; starved = Some j }) (starve-twice at e.talk)
-
--- what a step asks, where it is a part that is done
-abbrev pub done_questions : ℕ → Step → List Asked → Engine → List Question
-done_questions at step answers e = if is_part step e then step_questions at step answers e else []
 
 -- the step's part is done, where it is one
 pub step-done : (at : ℕ) (cut : Option ℕ) (step : Step) (bytes : List ℕ) (answers : List Asked) (e : Engine) (b : Bool)

@@ -8,14 +8,14 @@ use Rattle.amqp_frame.specs.declared.method.Method.{Method as AnyMethod}
 use Rattle.amqp_frame.specs.declared.method.Method.TheVariants.{Start, Secure}
 use Rattle.amqp_promise.specs.declared.state.ConnectionState.{ConnectionState}
 use Rattle.amqp_promise.specs.declared.state.ConnectionState.TheVariants.{Connecting}
-use Rattle.amqp_session.specs.declared.state.Phase.{Phase}
-use Rattle.amqp_session.specs.declared.state.Phase.TheVariants.{AwaitStart, AwaitTune}
+use Rattle.amqp_rules.specs.declared.state.Phase.{Phase}
+use Rattle.amqp_rules.specs.declared.state.Phase.TheVariants.{AwaitStart, AwaitTune}
 use Rattle.amqp_auth.specs.declared.asked.Question.{Question}
 use Rattle.amqp_auth.specs.declared.asked.Asked.{Asked}
 use Rattle.amqp_auth.specs.Asking.{Answer}
-use Rattle.amqp_session.specs.Config.{Options}
-use Rattle.amqp_session.specs.Talk.{Talk, acts}
-use Rattle.amqp_session.specs.Frames.{method_questions, questions_in, frame_questions}
+use Rattle.amqp_settings.specs.Config.{Options}
+use Rattle.amqp_rules.specs.Talk.{Talk, acts}
+use Rattle.amqp_rules.specs.Frames.{method_questions, questions_in, frame_questions}
 use Rattle.amqp_faultless.specs.Faultless.{Server, AreSayable, said_to}
 use Rattle.amqp_faultless.specs.Faultless.ServerStage.{Gone}
 use Rattle.amqp_faultless.proofs.Greeted.{AreSaid}

@@ -7,9 +7,9 @@ use Rattle.amqp_frame.specs.declared.frame.Read.TheVariants as reading
 use Rattle.amqp_promise.specs.declared.error.ErrorKind.{ErrorKind}
 use Rattle.amqp_promise.specs.declared.error.ErrorKind.TheVariants.{AuthProviderError, NoMemory}
 use Rattle.amqp_auth.specs.declared.asked.Asked.{Asked}
-use Rattle.amqp_session.specs.Talk.{Talk, is_open, is_acting, has_ended, end_of}
-use Rattle.amqp_session.specs.Changes.{present_at, starve}
-use Rattle.amqp_session.specs.Links.{piece}
+use Rattle.amqp_rules.specs.Talk.{Talk, is_open, is_acting, has_ended, end_of}
+use Rattle.amqp_rules.specs.Changes.{present_at, starve}
+use Rattle.amqp_rules.specs.Links.{piece}
 use Rattle.amqp_engine.specs.declared.port.Step.{Step}
 use Rattle.amqp_types.specs.Counts.{Rose}
 use Rattle.amqp_engine.specs.Log.{Log}
@@ -18,8 +18,8 @@ use Rattle.amqp_engine.specs.Turn.{Progress, answers_of_writes, drained}
 use Rattle.amqp_engine.specs.Making.{is_whole, piece_joined, Writes, Blames}
 use Rattle.amqp_engine.specs.Causes.{IsReadError}
 use Rattle.amqp_types.proofs.Small.{if_case}
-use Rattle.amqp_session.proofs.Ends.{Ends}
-use Rattle.amqp_session.proofs.Keeping.{present-keeps}
+use Rattle.amqp_rules.proofs.Ends.{Ends}
+use Rattle.amqp_rules.proofs.Keeping.{present-keeps}
 use Rattle.amqp_engine.proofs.Cases.{rose-between}
 use Rattle.amqp_frame.proofs.FrontStays.{is_memory}
 use Rattle.amqp_engine.proofs.Settling.{settle-talk}
@@ -79,20 +79,6 @@ blames-piece at t x x' m n settled told =
 pub blames-joined : (bytes : List ℕ) (x x' : Engine) (m n : ℕ) → x' ≡ piece_joined bytes x → Blames x.talk x'.talk m n
 blames-joined bytes x x' m n same =
     blames-kept x.talk x'.talk m n (ap (λ (y : Engine). end_of y.talk) same ∙ joined-keeps (λ (y : Engine). end_of y.talk) (λ y more. refl) bytes x)
-
--- a whole frame, where the session says that it counted
-pub blames-whole : (at : ℕ) (r : Read) (answers : List Asked) (x x' : Engine) (m n : ℕ) → is_whole r ≡ true → x' ≡ read_row at r answers x
-    → ((text : Text) → IsTrue (is_acting x.talk.input) → end_of x'.talk ≡ Some (Err (AuthProviderError text)) → Rose m n) → Blames x.talk x'.talk m n
-blames-whole at (reading.Whole f size) answers x x' m n whole same rose text h =
-    elim ((ends-read-row at (reading.Whole f size) answers x refl).by (AuthProviderError text) (ap (λ (y : Engine). end_of y.talk) (sym same) ∙ h)) [
-      | inl before ↦ inl before
-      | inr cause ↦ inr (rose text cause.0.0 h)
-    ]
-blames-whole at reading.More answers x x' m n whole same rose text h = cc
-blames-whole at (reading.TooLarge size) answers x x' m n whole same rose text h = cc
-blames-whole at (reading.BadHeartbeat channel) answers x x' m n whole same rose text h = cc
-blames-whole at reading.Bad answers x x' m n whole same rose text h = cc
-blames-whole at reading.NoMemory answers x x' m n whole same rose text h = cc
 
 -- what is no whole frame asks nothing
 never-refused : (text : Text) (r : Read) (answers : List Asked) (x : Engine) → is_whole r ≡ false → IsReadError (AuthProviderError text) r answers x → ⊥

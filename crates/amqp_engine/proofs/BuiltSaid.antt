@@ -2,7 +2,7 @@
 use Rattle.std.proofs.Common.{◌<◌, ◌^◌, length, arith}
 use Rattle.std.specs.Prelude.{codes}
 use Rattle.amqp_uri.specs.declared.uri.AMQPUri.{AMQPUri}
-use Rattle.amqp_session.specs.Config.{Options, config_of}
+use Rattle.amqp_settings.specs.Config.{Options, config_of}
 use Rattle.amqp_written_rules.specs.Sayable.{CanBeSaid}
 use Rattle.amqp_written_rules.proofs.Introducing.{AreProperties, put-text, properties-said}
 use Rattle.amqp_engine.specs.Built.{IsSayableAddress, AreBuilt}

@@ -8,18 +8,18 @@ use Rattle.amqp_frame.specs.declared.frame.Frame.{Frame}
 use Rattle.amqp_frame.specs.Sequences.{Stand}
 use Rattle.amqp_frame.proofs.Sequences.{stand-stays}
 use Rattle.amqp_promise.specs.declared.io_fault.IoFault.TheVariants.{Aborted, Reset}
-use Rattle.amqp_session.specs.declared.command.Cmd.{Cmd}
-use Rattle.amqp_session.specs.declared.handed.Handed.{Handed}
+use Rattle.amqp_commands.specs.declared.command.Cmd.{Cmd}
+use Rattle.amqp_answers.specs.declared.handed.Handed.{Handed}
 use Rattle.amqp_auth.specs.declared.asked.Asked.{Asked}
-use Rattle.amqp_session.specs.Talk.{Talk, is_open, is_asked, drops_input, is_dropped_input}
-use Rattle.amqp_session.specs.Changes.{present_at}
-use Rattle.amqp_session.specs.ChannelMethods.{frames_of}
-use Rattle.amqp_session.specs.Links.{asked, linked, link_failed, piece, lost}
-use Rattle.amqp_session.specs.Ticks.{tick}
-use Rattle.amqp_session.specs.Commands.{command}
-use Rattle.amqp_session.specs.Sound.{Ascend}
+use Rattle.amqp_rules.specs.Talk.{Talk, is_open, is_asked, drops_input, is_dropped_input}
+use Rattle.amqp_rules.specs.Changes.{present_at}
+use Rattle.amqp_rules.specs.ChannelMethods.{frames_of}
+use Rattle.amqp_rules.specs.Links.{asked, linked, link_failed, piece, lost}
+use Rattle.amqp_rules.specs.Ticks.{tick}
+use Rattle.amqp_rules.specs.Commands.{command}
+use Rattle.amqp_rules.specs.Sound.{Ascend}
 use Rattle.amqp_types.proofs.Small.{if_case, if-true, if-false, and-true, and-false}
-use Rattle.amqp_session.proofs.Keeping.{present-keeps, kept-open, failed-keeps, lost-keeps, tick-keeps, stays-command}
+use Rattle.amqp_rules.proofs.Keeping.{present-keeps, kept-open, failed-keeps, lost-keeps, tick-keeps, stays-command}
 use Rattle.amqp_carried_rules.specs.HandingOut.{handed_on}
 use Rattle.amqp_carried_rules.proofs.Handing.{IsSameHanded, same-frames, command-handed, present-handed, linked-handed, failed-handed, piece-handed, lost-handed, tick-handed}
 use Rattle.amqp_engine.specs.declared.port.Step.{Step}
@@ -35,7 +35,7 @@ use Rattle.amqp_engine.proofs.Knowing.{IsBounded, room-kept, KeepsKnown, known-m
 use Rattle.amqp_engine.proofs.Parting.{Kept, told_more, Openings, openings-kept, openings-told}
 use Rattle.amqp_engine.proofs.Cases.{no-command}
 use Rattle.amqp_engine.proofs.Settling.{settle-talk, settle-unread}
-use Rattle.amqp_session.proofs.Lacking.{asked-open}
+use Rattle.amqp_rules.proofs.Lacking.{asked-open}
 use Rattle.amqp_engine.proofs.LinkKept.{asked-not-open, kept-present, leaves-step}
 use Rattle.amqp_engine.proofs.Sent.{on_last-append}
 

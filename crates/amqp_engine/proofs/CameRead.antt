@@ -15,24 +15,24 @@ use Rattle.amqp_frame.proofs.FrontStays.{front-none}
 use Rattle.amqp_frame.proofs.Sequences.{frame-size, stand-push}
 use Rattle.amqp_promise.specs.declared.error.ErrorKind.TheVariants.{SerialisationError}
 use Rattle.amqp_promise.specs.declared.io_fault.IoFault.TheVariants.{BrokenPipe}
-use Rattle.amqp_session.specs.declared.channels.Channel.{Channel}
-use Rattle.amqp_session.specs.declared.handed.Handed.{Handed}
-use Rattle.amqp_session.specs.declared.misread.Misread.{Misread}
-use Rattle.amqp_session.specs.declared.misread.Misread.TheVariants as misreads
+use Rattle.amqp_channels.specs.declared.channels.Channel.{Channel}
+use Rattle.amqp_answers.specs.declared.handed.Handed.{Handed}
+use Rattle.amqp_violations.specs.declared.misread.Misread.{Misread}
+use Rattle.amqp_violations.specs.declared.misread.Misread.TheVariants as misreads
 use Rattle.amqp_auth.specs.declared.asked.Asked.{Asked}
-use Rattle.amqp_session.specs.Talk.{Talk, acts, is_open, has_ended, drops_input}
-use Rattle.amqp_session.specs.Capacities.{greatest_capacity}
-use Rattle.amqp_session.specs.Negotiation.{frame_limit}
-use Rattle.amqp_session.specs.Changes.{present_at, starve}
-use Rattle.amqp_session.specs.Channels.{channel_at}
-use Rattle.amqp_session.specs.ChannelMethods.{heard_on, frames_of}
-use Rattle.amqp_session.specs.Frames.{on_frame}
-use Rattle.amqp_session.specs.Links.{misread, lost}
-use Rattle.amqp_session.specs.Sound.{Ascend}
-use Rattle.amqp_session.specs.Writing.{frames_waiting, taken, end_overlong}
+use Rattle.amqp_rules.specs.Talk.{Talk, acts, is_open, has_ended, drops_input}
+use Rattle.amqp_settings.specs.Capacities.{greatest_capacity}
+use Rattle.amqp_rules.specs.Negotiation.{frame_limit}
+use Rattle.amqp_rules.specs.Changes.{present_at, starve}
+use Rattle.amqp_rules.specs.Channels.{channel_at}
+use Rattle.amqp_rules.specs.ChannelMethods.{heard_on, frames_of}
+use Rattle.amqp_rules.specs.Frames.{on_frame}
+use Rattle.amqp_rules.specs.Links.{misread, lost}
+use Rattle.amqp_rules.specs.Sound.{Ascend}
+use Rattle.amqp_rules.specs.Writing.{frames_waiting, taken, end_overlong}
 use Rattle.amqp_types.proofs.Small.{if-true, if-false, and-left, and-right}
-use Rattle.amqp_session.proofs.Keeping.{kept-open, lost-keeps, off-lost, starve-ends}
-use Rattle.amqp_session.proofs.Sending.{taken-keeps}
+use Rattle.amqp_rules.proofs.Keeping.{kept-open, lost-keeps, off-lost, starve-ends}
+use Rattle.amqp_rules.proofs.Sending.{taken-keeps}
 use Rattle.amqp_carried_rules.specs.HandingOut.{HandedOut, handed_of, hands_out, handed_on}
 use Rattle.amqp_carried_rules.specs.CommandFrames.{is_raw}
 use Rattle.amqp_carried_rules.proofs.Handing.{as_pairs, Hands, IsSameHanded, same-frames, handed_on-append, frame-hands, present-handed, lost-handed, misread-handed, taken-handed, overlong-handed, starve-handed}
@@ -49,14 +49,14 @@ use Rattle.amqp_engine.proofs.Commits.{commits-keep}
 use Rattle.amqp_engine.proofs.LinkKept.{kept-answered}
 use Rattle.amqp_engine.proofs.Lifting.{all-rest, stays-drained, read-cut}
 use Rattle.amqp_engine.proofs.Over.{ended-closed}
-use Rattle.amqp_session.specs.declared.command.Cmd.{Cmd}
+use Rattle.amqp_commands.specs.declared.command.Cmd.{Cmd}
 use Rattle.std.specs.List.{AllByRecursion}
 use Rattle.amqp_carried_rules.proofs.Entries.{each-at}
 use Rattle.amqp_carried_rules.proofs.Openers.{IsLatest, KnowsOpeners}
 use Rattle.amqp_engine.proofs.Knowing.{untaken, IsBounded, known-moment, known-heard, known-no-frame, known-settled, known-ended, known-answered, known-starved}
 use Rattle.amqp_engine.proofs.Parting.{Kept, told_more, IsByLatest, Openings, openings-kept, openings-more}
 use Rattle.amqp_engine.proofs.CameIn.{links-push, IsLastRead, last-kept, Came, Stays, came-flag, came-stays, came-closed, kept-unread, none-unread, settled-stays, present-input, came-part}
-use Rattle.amqp_session.proofs.SoundFrames.{heard-listed}
+use Rattle.amqp_rules.proofs.SoundFrames.{heard-listed}
 
 -- ---- reading
 

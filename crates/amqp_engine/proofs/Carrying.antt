@@ -1,7 +1,7 @@
 -- Through runs, turns, and what is told and taken between them an engine has its history, which is carried.
 use Rattle.std.proofs.Common.{◌≡◌, ℕ, false, List, [], ◌∷◌, Option, IfSome, sym, subst}
 use Rattle.amqp_auth.specs.Providers.{Exchange}
-use Rattle.amqp_session.specs.Talk.{Talk, has_ended}
+use Rattle.amqp_rules.specs.Talk.{Talk, has_ended}
 use Rattle.amqp_engine.specs.declared.port.Step.{Step}
 use Rattle.amqp_engine.specs.Engine.{Engine, begin}
 use Rattle.amqp_engine.specs.Log.{Log}

@@ -2,18 +2,18 @@
 use Rattle.std.proofs.Common.{◌≡◌, ◌≤◌, ℕ, ◌+◌, if◌then◌else◌, true, List, [], ◌++◌, drop, refl, sym, ◌∙◌, subst}
 use Rattle.amqp_frame.specs.declared.frame.Read.{Read}
 use Rattle.amqp_frame.specs.declared.frame.Read.TheVariants.{Whole, More, TooLarge, BadHeartbeat}
-use Rattle.amqp_session.specs.declared.misread.Misread.{Misread}
-use Rattle.amqp_session.specs.declared.misread.Misread.TheVariants as why
+use Rattle.amqp_violations.specs.declared.misread.Misread.{Misread}
+use Rattle.amqp_violations.specs.declared.misread.Misread.TheVariants as why
 use Rattle.amqp_auth.specs.declared.asked.Asked.{Asked as ProviderAnswer}
-use Rattle.amqp_session.specs.Talk.{Talk, is_open, is_asked}
-use Rattle.amqp_session.specs.Changes.{present_at}
-use Rattle.amqp_session.specs.Frames.{on_frame}
-use Rattle.amqp_session.specs.Links.{linked, misread, piece}
-use Rattle.amqp_session.specs.Ticks.{tick}
-use Rattle.amqp_session.specs.Writing.{frames_waiting, taken}
+use Rattle.amqp_rules.specs.Talk.{Talk, is_open, is_asked}
+use Rattle.amqp_rules.specs.Changes.{present_at}
+use Rattle.amqp_rules.specs.Frames.{on_frame}
+use Rattle.amqp_rules.specs.Links.{linked, misread, piece}
+use Rattle.amqp_rules.specs.Ticks.{tick}
+use Rattle.amqp_rules.specs.Writing.{frames_waiting, taken}
 use Rattle.amqp_faultless.specs.Faultless.{Server}
 use Rattle.amqp_types.proofs.Small.{if-true}
-use Rattle.amqp_session.proofs.Keeping.{present-keeps}
+use Rattle.amqp_rules.proofs.Keeping.{present-keeps}
 use Rattle.amqp_faultless.proofs.Greeted.{IsMet}
 use Rattle.amqp_faultless.proofs.Clock.{IsClock, clock-present, clock-piece, clock-linked, clock-tick, clock-early, clock-same, clock-misread, clock-frame, clock-taken, clock-command}
 use Rattle.amqp_faultless.proofs.Open.{open-runs}

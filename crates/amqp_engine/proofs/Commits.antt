@@ -5,10 +5,11 @@ use Rattle.amqp_frame.specs.declared.frame.Frame.TheVariants.{ProtocolHeader, Me
 use Rattle.amqp_frame.specs.Frames.{encoding}
 use Rattle.amqp_outbox.specs.declared.item.Item.{Item}
 use Rattle.amqp_outbox.specs.Queued.{Queued, waiting_items, after_next}
-use Rattle.amqp_session.specs.declared.committed.Mark.{Mark}
-use Rattle.amqp_session.specs.Writing as writing
-use Rattle.amqp_session.specs.Writing.{flows, frames_waiting, mark_of}
-use Rattle.amqp_session.proofs.Finishing.{next-first}
+use Rattle.amqp_outgoing.specs.declared.committed.Mark.{Mark}
+use Rattle.amqp_rules.specs.Writing as writing
+use Rattle.amqp_rules.specs.Writing.{flows, frames_waiting}
+use Rattle.amqp_outgoing.specs.Marks.{mark_of}
+use Rattle.amqp_rules.proofs.Finishing.{next-first}
 use Rattle.amqp_engine.specs.Engine.{Engine, commit_one, committed_with_bytes, commits, fitting_next}
 use Rattle.amqp_engine.specs.Play.{offers_waiting}
 

@@ -13,27 +13,28 @@ use Rattle.amqp_outbox.specs.declared.item.Item.{Item}
 use Rattle.amqp_outbox.specs.Items.{size_of, plain_item}
 use Rattle.amqp_outbox.specs.Queued as queued
 use Rattle.amqp_outbox.specs.Queued.{Queued, waiting_items, after_next, only}
-use Rattle.amqp_session.specs.declared.state.Link.{Link}
-use Rattle.amqp_session.specs.declared.state.Link.TheVariants.{Due, Wanted, Asked, Open, Ended}
-use Rattle.amqp_session.specs.declared.command.Cmd.{Cmd}
+use Rattle.amqp_rules.specs.declared.state.Link.{Link}
+use Rattle.amqp_rules.specs.declared.state.Link.TheVariants.{Due, Wanted, Asked, Open, Ended}
+use Rattle.amqp_commands.specs.declared.command.Cmd.{Cmd}
 use Rattle.amqp_promise.specs.declared.io_fault.IoFault.{IoFault}
 use Rattle.amqp_promise.specs.declared.io_fault.IoFault.TheVariants.{Aborted, Reset, BrokenPipe}
 use Rattle.amqp_promise.specs.declared.error.ErrorKind.{ErrorKind}
-use Rattle.amqp_session.specs.declared.misread.Misread.{Misread}
-use Rattle.amqp_session.specs.declared.misread.Misread.TheVariants as misreads
+use Rattle.amqp_violations.specs.declared.misread.Misread.{Misread}
+use Rattle.amqp_violations.specs.declared.misread.Misread.TheVariants as misreads
 use Rattle.amqp_auth.specs.declared.asked.Asked.{Asked as ProviderAnswer}
-use Rattle.amqp_session.specs.Config.{Config}
-use Rattle.amqp_session.specs.Talk.{Talk, start, has_ended, is_open, is_asked, end_of_link}
-use Rattle.amqp_session.specs.Changes.{present_at}
-use Rattle.amqp_session.specs.Negotiation.{frame_limit}
-use Rattle.amqp_session.specs.Handshake.{protocol_header}
-use Rattle.amqp_session.specs.Links.{asked, linked, link_failed, piece, misread, lost}
-use Rattle.amqp_session.specs.Frames.{on_frame}
-use Rattle.amqp_session.specs.Ticks.{tick}
-use Rattle.amqp_session.specs.Commands.{command}
-use Rattle.amqp_session.specs.Answers.{answer_of, take_answer, take_event}
-use Rattle.amqp_session.specs.Listed.{without}
-use Rattle.amqp_session.specs.Writing.{frames_waiting, taken, flows, next_out, mark_of, fitting, end_overlong}
+use Rattle.amqp_settings.specs.Config.{Config}
+use Rattle.amqp_rules.specs.Talk.{Talk, start, has_ended, is_open, is_asked, end_of_link}
+use Rattle.amqp_rules.specs.Changes.{present_at}
+use Rattle.amqp_rules.specs.Negotiation.{frame_limit}
+use Rattle.amqp_settings.specs.Handshake.{protocol_header}
+use Rattle.amqp_rules.specs.Links.{asked, linked, link_failed, piece, misread, lost}
+use Rattle.amqp_rules.specs.Frames.{on_frame}
+use Rattle.amqp_rules.specs.Ticks.{tick}
+use Rattle.amqp_rules.specs.Commands.{command}
+use Rattle.amqp_rules.specs.Answers.{answer_of, take_answer, take_event}
+use Rattle.amqp_maps.specs.Listed.{without}
+use Rattle.amqp_rules.specs.Writing.{frames_waiting, taken, flows, next_out, fitting, end_overlong}
+use Rattle.amqp_outgoing.specs.Marks.{mark_of}
 use Rattle.amqp_engine.specs.declared.port.Step.{Step}
 use Rattle.amqp_engine.specs.declared.port.Step.TheVariants.{Linked, LinkFailed, Piece, End, Fault, Room, Tick, Command}
 use Rattle.amqp_engine.specs.declared.port.Wrote.{Wrote}
@@ -46,9 +47,9 @@ use Rattle.amqp_engine.specs.Saying.{applied_sending}
 use Rattle.amqp_types.proofs.Small.{if_case, if-true, if-false, and-true, and-left, at-most, all-push}
 use Rattle.amqp_engine.proofs.EventTaken.{event-case}
 use Rattle.amqp_engine.proofs.Settling.{settle-talk}
-use Rattle.amqp_session.proofs.Keeping.{LinkKept, kept-open, failed-link, present-keeps, starve-ends, keeps-frame, keeps-misread, keeps-tick, lost-link, stays-command}
-use Rattle.amqp_session.proofs.Sending.{taken-link}
-use Rattle.amqp_session.proofs.Lacking.{lacks_link, open-lacks, asked-open, asked-lacking}
+use Rattle.amqp_rules.proofs.Keeping.{LinkKept, kept-open, failed-link, present-keeps, starve-ends, keeps-frame, keeps-misread, keeps-tick, lost-link, stays-command}
+use Rattle.amqp_rules.proofs.Sending.{taken-link}
+use Rattle.amqp_rules.proofs.Lacking.{lacks_link, open-lacks, asked-open, asked-lacking}
 use Rattle.amqp_engine.proofs.Commits.{commit_one-is, with_frame, commits-keep}
 use Rattle.amqp_engine.proofs.Sent.{on_last-append}
 use Rattle.amqp_engine.proofs.Over.{ended-closed}

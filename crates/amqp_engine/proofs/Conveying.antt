@@ -6,21 +6,21 @@ use Rattle.std.specs.List.{AllByRecursion}
 use Rattle.amqp_frame.specs.declared.frame.Frame.{Frame}
 use Rattle.amqp_outbox.specs.declared.item.Item.{Item}
 use Rattle.amqp_promise.specs.declared.error.ErrorKind.{ErrorKind}
-use Rattle.amqp_session.specs.declared.state.Link.{Link}
-use Rattle.amqp_session.specs.declared.state.Link.TheVariants.{Asked}
-use Rattle.amqp_session.specs.declared.committed.Mark.{Mark}
-use Rattle.amqp_session.specs.declared.command.Cmd.{Cmd}
-use Rattle.amqp_session.specs.declared.command.Answer.{Answer}
-use Rattle.amqp_session.specs.declared.handed.Handed.{Handed}
-use Rattle.amqp_session.specs.Talk.{Talk, is_open, is_open_link, is_asked, is_asked_link}
-use Rattle.amqp_session.specs.Commands.{command, takes_promise}
-use Rattle.amqp_session.specs.Links.{linked}
-use Rattle.amqp_session.specs.Sound.{IsSound}
+use Rattle.amqp_rules.specs.declared.state.Link.{Link}
+use Rattle.amqp_rules.specs.declared.state.Link.TheVariants.{Asked}
+use Rattle.amqp_outgoing.specs.declared.committed.Mark.{Mark}
+use Rattle.amqp_commands.specs.declared.command.Cmd.{Cmd}
+use Rattle.amqp_answers.specs.declared.answer.Answer.{Answer}
+use Rattle.amqp_answers.specs.declared.handed.Handed.{Handed}
+use Rattle.amqp_rules.specs.Talk.{Talk, is_open, is_open_link, is_asked, is_asked_link}
+use Rattle.amqp_rules.specs.Commands.{command, takes_promise}
+use Rattle.amqp_rules.specs.Links.{linked}
+use Rattle.amqp_rules.specs.Sound.{IsSound}
 use Rattle.amqp_carried_rules.specs.CommandFrames.{answered_command}
 use Rattle.amqp_types.proofs.Small.{if_case, if-true}
-use Rattle.amqp_session.proofs.SoundCommands.{sound-command}
-use Rattle.amqp_session.proofs.Soundness.{sound-linked}
-use Rattle.amqp_session.proofs.Keeping.{stays-command}
+use Rattle.amqp_rules.proofs.SoundCommands.{sound-command}
+use Rattle.amqp_rules.proofs.Soundness.{sound-linked}
+use Rattle.amqp_rules.proofs.Keeping.{stays-command}
 use Rattle.amqp_carried_rules.proofs.Bearing.{Reading, IsAt, none, empty, besides}
 use Rattle.amqp_carried_rules.proofs.Commanding.{grows-more, one-more, at-command}
 use Rattle.amqp_carried_rules.proofs.Queueing.{same-grows}

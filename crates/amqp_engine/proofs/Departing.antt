@@ -6,21 +6,23 @@ use Rattle.std.specs.List.{AllByRecursion}
 use Rattle.amqp_frame.specs.declared.frame.Frame.{Frame}
 use Rattle.amqp_outbox.specs.declared.item.Item.{Item}
 use Rattle.amqp_promise.specs.declared.state.ConnectionState.{ConnectionState}
-use Rattle.amqp_session.specs.declared.channels.Channel.{Channel}
-use Rattle.amqp_session.specs.declared.committed.Mark.{Mark}
-use Rattle.amqp_session.specs.declared.committed.Then.{Then}
-use Rattle.amqp_session.specs.declared.committed.Then.TheVariants.{Nothing, Answer, Pays, Finish}
-use Rattle.amqp_session.specs.declared.command.Answer.TheVariants.{Sent}
-use Rattle.amqp_session.specs.declared.command.Cmd.{Cmd}
-use Rattle.amqp_session.specs.declared.command.Cmd.TheVariants.{Send, Publish}
-use Rattle.amqp_session.specs.Listed.{at, put}
-use Rattle.amqp_session.specs.Talk.{Talk, is_open}
-use Rattle.amqp_session.specs.Changes.{Promises, give, settled, settled_by, tell_owed}
-use Rattle.amqp_session.specs.Channels.{channel_at, set_channel}
-use Rattle.amqp_session.specs.Writing.{then_of, answers, pay, follow, sent}
+use Rattle.amqp_channels.specs.declared.channels.Channel.{Channel}
+use Rattle.amqp_outgoing.specs.declared.committed.Mark.{Mark}
+use Rattle.amqp_outgoing.specs.declared.committed.Then.{Then}
+use Rattle.amqp_outgoing.specs.declared.committed.Then.TheVariants.{Nothing, Answer, Pays, Finish}
+use Rattle.amqp_answers.specs.declared.answer.Answer.TheVariants.{Sent}
+use Rattle.amqp_commands.specs.declared.command.Cmd.{Cmd}
+use Rattle.amqp_commands.specs.declared.command.Cmd.TheVariants.{Send, Publish}
+use Rattle.amqp_maps.specs.Listed.{at, put}
+use Rattle.amqp_rules.specs.Talk.{Talk, is_open}
+use Rattle.amqp_answers.specs.Settled.{Promises, settled, settled_by}
+use Rattle.amqp_rules.specs.Changes.{give, tell_owed}
+use Rattle.amqp_rules.specs.Channels.{channel_at, set_channel}
+use Rattle.amqp_outgoing.specs.Marks.{then_of, answers}
+use Rattle.amqp_rules.specs.Writing.{pay, follow, sent}
 use Rattle.amqp_carried_rules.specs.CommandFrames.{AreFramesOf, is_publish, is_raw, is_sent}
 use Rattle.amqp_types.proofs.Small.{all-push, or-right}
-use Rattle.amqp_session.proofs.Numbered.{put-same}
+use Rattle.amqp_maps.proofs.Numbered.{put-same}
 use Rattle.amqp_carried_rules.proofs.Bearing.{floor-own, settled-elsewhere, command_at, Reading, floor, closed, Lines, other, more, whole, IsPart, Ends, Bears, IsAt, Grows, told-made, same-command, floors-rise}
 use Rattle.amqp_carried_rules.proofs.Queueing.{content-raw, open-before, same-grows}
 use Rattle.amqp_carried_rules.proofs.Borne.{floor-send, floor-publish}
@@ -28,9 +30,9 @@ use Rattle.amqp_carried_rules.proofs.Bearers.{moved, at-finish}
 use Rattle.amqp_carried_rules.proofs.Leaving.{answer-promise, raw-then, lines-from, lane-from, groups-from}
 use Rattle.amqp_engine.specs.Carried.{raw_frames, concatenated}
 use Rattle.amqp_engine.proofs.History.{marked, marked-here, marked-other, Past, past-flow, past-whole}
-use Rattle.amqp_session.proofs.Walk.{pay-case}
-use Rattle.amqp_session.specs.ChannelMethods.{remove_channel}
-use Rattle.amqp_session.specs.declared.channels.Debt.TheVariants as debt
+use Rattle.amqp_rules.proofs.Walk.{pay-case}
+use Rattle.amqp_rules.specs.ChannelMethods.{remove_channel}
+use Rattle.amqp_channels.specs.declared.channels.Debt.TheVariants as debt
 use Rattle.amqp_engine.proofs.Committing.{all-last}
 
 -- ---- links

@@ -1,9 +1,9 @@
 -- What holds still, once an event is taken.
 use Rattle.std.proofs.Common.{List, [], ◌∷◌, Option, inl, inr, sym, subst}
-use Rattle.amqp_session.specs.declared.event.Event.{Event}
-use Rattle.amqp_session.specs.Events.{Noted}
-use Rattle.amqp_session.specs.Talk.{Talk, end_of}
-use Rattle.amqp_session.specs.Answers.{end_event, without_event, take_event, TakesEvent}
+use Rattle.amqp_answers.specs.declared.event.Event.{Event}
+use Rattle.amqp_answers.specs.Events.{Noted}
+use Rattle.amqp_rules.specs.Talk.{Talk, end_of}
+use Rattle.amqp_rules.specs.Answers.{end_event, without_event, take_event, TakesEvent}
 
 by_events : (P : Talk → Type 0) (events at_end : List Event) (t : Talk) → ((noted : Noted) → P (record t { noted = noted })) → P t
     → P (without_event events at_end t)

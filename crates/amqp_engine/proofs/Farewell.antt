@@ -6,18 +6,19 @@ use Rattle.amqp_outbox.specs.declared.item.Item.{Item}
 use Rattle.amqp_outbox.specs.Items.{plain_item, size_of}
 use Rattle.amqp_outbox.specs.Queued.{Queued}
 use Rattle.amqp_promise.specs.declared.error.ErrorKind.{ErrorKind}
-use Rattle.amqp_session.specs.declared.committed.Then.TheVariants.{Finish}
-use Rattle.amqp_session.specs.declared.server_close.ServerClose.TheVariants.{WithoutError}
-use Rattle.amqp_session.specs.declared.state.Link.{Link}
-use Rattle.amqp_session.specs.declared.state.Link.TheVariants.{Due, Wanted, Asked as AskedLink, Open, Ended}
-use Rattle.amqp_session.specs.Config.{Options}
-use Rattle.amqp_session.specs.Talk.{Talk, is_open, is_open_link, end_of_link, has_ended}
-use Rattle.amqp_session.specs.Changes.{present_at}
-use Rattle.amqp_session.specs.Handshake.{close_ok}
-use Rattle.amqp_session.specs.Writing.{frames_waiting, fitting, mark_of, taken}
-use Rattle.amqp_session.specs.Writing as writing
+use Rattle.amqp_outgoing.specs.declared.committed.Then.TheVariants.{Finish}
+use Rattle.amqp_violations.specs.declared.server_close.ServerClose.TheVariants.{WithoutError}
+use Rattle.amqp_rules.specs.declared.state.Link.{Link}
+use Rattle.amqp_rules.specs.declared.state.Link.TheVariants.{Due, Wanted, Asked as AskedLink, Open, Ended}
+use Rattle.amqp_settings.specs.Config.{Options}
+use Rattle.amqp_rules.specs.Talk.{Talk, is_open, is_open_link, end_of_link, has_ended}
+use Rattle.amqp_rules.specs.Changes.{present_at}
+use Rattle.amqp_settings.specs.Handshake.{close_ok}
+use Rattle.amqp_rules.specs.Writing.{frames_waiting, fitting, taken}
+use Rattle.amqp_outgoing.specs.Marks.{mark_of}
+use Rattle.amqp_rules.specs.Writing as writing
 use Rattle.amqp_types.proofs.Small.{if_case, if-true, if-false, and-true, same-number, other-number, is-at-most}
-use Rattle.amqp_session.proofs.Keeping.{present-keeps}
+use Rattle.amqp_rules.proofs.Keeping.{present-keeps}
 use Rattle.amqp_faultless.proofs.Ordinary.{First}
 use Rattle.amqp_faultless.proofs.Greeted.{IsOver, Leaves, Ready}
 use Rattle.amqp_faultless.proofs.FirstAndLast.{leaves-next, finish-sent}

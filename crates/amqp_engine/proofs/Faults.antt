@@ -5,7 +5,7 @@ use Rattle.amqp_promise.specs.declared.io_fault.IoFault.TheVariants.{Aborted, Br
 use Rattle.amqp_promise.specs.declared.error.ErrorKind.{ErrorKind}
 use Rattle.amqp_promise.specs.declared.error.ErrorKind.TheVariants.{IOError}
 use Rattle.amqp_auth.specs.Providers.{Exchange}
-use Rattle.amqp_session.specs.Talk.{Talk, has_ended, is_open, end_of}
+use Rattle.amqp_rules.specs.Talk.{Talk, has_ended, is_open, end_of}
 use Rattle.amqp_engine.specs.declared.port.Step.{Step}
 use Rattle.amqp_engine.specs.declared.port.Step.TheVariants.{LinkFailed, End, Fault}
 use Rattle.amqp_engine.specs.Counts.{HasCause, is_fault}

@@ -15,15 +15,15 @@ use Rattle.amqp_auth.specs.declared.asked.Asked.{Asked}
 use Rattle.amqp_auth.specs.declared.asked.Asked.TheVariants as answer
 use Rattle.amqp_promise.specs.declared.state.ConnectionState.{ConnectionState}
 use Rattle.amqp_promise.specs.declared.state.ConnectionState.TheVariants.{Connecting, Connected, Closing}
-use Rattle.amqp_session.specs.declared.state.Phase.{Phase}
-use Rattle.amqp_session.specs.declared.state.Phase.TheVariants.{AwaitStart, AwaitTune, AwaitOpenOk}
-use Rattle.amqp_session.specs.Talk.{Talk, acts, hears_on}
-use Rattle.amqp_session.specs.Violations.{stray_channel_frame}
-use Rattle.amqp_session.specs.Changes.{misplaced, present_at}
-use Rattle.amqp_session.specs.ConnectionMethods.{on_start, on_secure, connection_rule}
+use Rattle.amqp_rules.specs.declared.state.Phase.{Phase}
+use Rattle.amqp_rules.specs.declared.state.Phase.TheVariants.{AwaitStart, AwaitTune, AwaitOpenOk}
+use Rattle.amqp_rules.specs.Talk.{Talk, acts, hears_on}
+use Rattle.amqp_violations.specs.Violations.{stray_channel_frame}
+use Rattle.amqp_rules.specs.Changes.{misplaced, present_at}
+use Rattle.amqp_rules.specs.ConnectionMethods.{on_start, on_secure, connection_rule}
 use Rattle.amqp_frame.specs.Methods.{is_of_a_channel}
-use Rattle.amqp_session.specs.Frames.{method_questions, questions_in, frame_questions, frame_rule, closed_rule, on_frame}
-use Rattle.amqp_session.specs.Ticks.{beat, asks_validity, has_expired, refresh, refresh_questions, validity_told, link_due, tick, tick_questions}
+use Rattle.amqp_rules.specs.Frames.{method_questions, questions_in, frame_questions, frame_rule, closed_rule, on_frame}
+use Rattle.amqp_rules.specs.Ticks.{beat, asks_validity, has_expired, refresh, refresh_questions, validity_told, link_due, tick, tick_questions}
 use Rattle.amqp_engine.specs.declared.port.Step.{Step}
 use Rattle.amqp_engine.specs.declared.port.Step.TheVariants.{Tick}
 use Rattle.amqp_engine.specs.Plan.{at_most_64}

@@ -9,22 +9,22 @@ use Rattle.amqp_frame.specs.Frames.{FrameOf}
 use Rattle.amqp_frame.specs.Fronts.{IsWithinLimit}
 use Rattle.amqp_frame.proofs.FrontLaws.{front_again}
 use Rattle.amqp_auth.specs.declared.asked.Asked.{Asked}
-use Rattle.amqp_session.specs.declared.state.Input.{Input}
-use Rattle.amqp_session.specs.declared.state.Input.TheVariants.{Acting, Closed, Dropped}
-use Rattle.amqp_session.specs.declared.state.Link.{Link}
-use Rattle.amqp_session.specs.declared.state.Link.TheVariants.{Due, Wanted, Asked as AskedLink, Open, Ended}
-use Rattle.amqp_session.specs.declared.committed.Mark.{Mark}
-use Rattle.amqp_session.proofs.Keeping.{present-keeps}
+use Rattle.amqp_rules.specs.declared.state.Input.{Input}
+use Rattle.amqp_rules.specs.declared.state.Input.TheVariants.{Acting, Closed, Dropped}
+use Rattle.amqp_rules.specs.declared.state.Link.{Link}
+use Rattle.amqp_rules.specs.declared.state.Link.TheVariants.{Due, Wanted, Asked as AskedLink, Open, Ended}
+use Rattle.amqp_outgoing.specs.declared.committed.Mark.{Mark}
+use Rattle.amqp_rules.proofs.Keeping.{present-keeps}
 use Rattle.amqp_engine.specs.Plan.{at_most_64}
 use Rattle.amqp_engine.specs.Sending.{committed_before}
 use Rattle.amqp_promise.specs.declared.error.ErrorKind.{ErrorKind}
-use Rattle.amqp_session.specs.Listed.{at}
-use Rattle.amqp_session.specs.Talk.{Talk, is_open, is_asked, is_acting, is_dropped_input, drops_input, is_open_link, is_wanted_link}
-use Rattle.amqp_session.specs.Changes.{present_at}
-use Rattle.amqp_session.specs.Links.{asked, piece}
-use Rattle.amqp_session.specs.Frames.{on_frame, frame_questions}
-use Rattle.amqp_session.specs.Ticks.{is_missed, tick}
-use Rattle.amqp_session.specs.Writing.{taken}
+use Rattle.amqp_maps.specs.Listed.{at}
+use Rattle.amqp_rules.specs.Talk.{Talk, is_open, is_asked, is_acting, is_dropped_input, drops_input, is_open_link, is_wanted_link}
+use Rattle.amqp_rules.specs.Changes.{present_at}
+use Rattle.amqp_rules.specs.Links.{asked, piece}
+use Rattle.amqp_rules.specs.Frames.{on_frame, frame_questions}
+use Rattle.amqp_rules.specs.Ticks.{is_missed, tick}
+use Rattle.amqp_rules.specs.Writing.{taken}
 use Rattle.amqp_faultless.specs.Faultless.{Server, heard_from}
 use Rattle.amqp_types.proofs.Small.{if_case, if-true, if-false}
 use Rattle.amqp_faultless.proofs.Greeted.{IsMet, Heard, AreSaid}

@@ -2,15 +2,15 @@
 use Rattle.std.proofs.Common.{◌≡◌, ℕ, zero, suc, true, true≢false, List, [], ◌∷◌, Option, Some, None, refl, sym, subst}
 use Rattle.amqp_outbox.specs.declared.item.Item.{Item}
 use Rattle.amqp_outbox.specs.Queued.{waiting_items}
-use Rattle.amqp_session.specs.declared.committed.Mark.{Mark}
-use Rattle.amqp_session.specs.declared.state.Input.{Input}
-use Rattle.amqp_session.specs.declared.state.Input.TheVariants.{Acting, Closed, Dropped}
-use Rattle.amqp_session.specs.Sound.{IsSound, following, Finishes, NoneFinishes}
-use Rattle.amqp_session.specs.Talk.{Talk, is_acting}
-use Rattle.amqp_session.specs.Writing.{frames_waiting}
+use Rattle.amqp_outgoing.specs.declared.committed.Mark.{Mark}
+use Rattle.amqp_rules.specs.declared.state.Input.{Input}
+use Rattle.amqp_rules.specs.declared.state.Input.TheVariants.{Acting, Closed, Dropped}
+use Rattle.amqp_rules.specs.Sound.{IsSound, following, Finishes, NoneFinishes}
+use Rattle.amqp_rules.specs.Talk.{Talk, is_acting}
+use Rattle.amqp_rules.specs.Writing.{frames_waiting}
 use Rattle.amqp_faultless.specs.Faultless.{Server}
-use Rattle.amqp_session.proofs.SoundChanges.{sound-present}
-use Rattle.amqp_session.proofs.Soundness.{sound-commit, sound-taken}
+use Rattle.amqp_rules.proofs.SoundChanges.{sound-present}
+use Rattle.amqp_rules.proofs.Soundness.{sound-commit, sound-taken}
 use Rattle.amqp_faultless.proofs.Greeted.{IsMet}
 use Rattle.amqp_faultless.proofs.Speaks.{GoOn, said_all}
 use Rattle.amqp_engine.specs.Engine.{Engine, fitting_next, committed_with_bytes, commit_one, commits, commit_all, took}

@@ -1,12 +1,12 @@
 -- The links are in order, and the port tells of them.
 use Rattle.std.proofs.Common.{◌≡◌, ◌∙◌, ℕ, false, List, Option, Some, None, IfSome, is_some, inl, refl, ap, sym, subst}
 use Rattle.std.specs.Prelude.{option_map}
-use Rattle.amqp_session.specs.declared.command.Cmd.{Cmd}
-use Rattle.amqp_session.specs.Talk.{Talk, has_ended}
-use Rattle.amqp_session.specs.Commands.{command}
-use Rattle.amqp_session.specs.Answers.{answer_of, take_answer, take_event, take_frames}
-use Rattle.amqp_session.specs.Listed.{without}
-use Rattle.amqp_session.proofs.Keeping.{stays-command}
+use Rattle.amqp_commands.specs.declared.command.Cmd.{Cmd}
+use Rattle.amqp_rules.specs.Talk.{Talk, has_ended}
+use Rattle.amqp_rules.specs.Commands.{command}
+use Rattle.amqp_rules.specs.Answers.{answer_of, take_answer, take_event, take_frames}
+use Rattle.amqp_maps.specs.Listed.{without}
+use Rattle.amqp_rules.proofs.Keeping.{stays-command}
 use Rattle.amqp_engine.specs.Log.{Log, log_step}
 use Rattle.amqp_engine.specs.Engine.{Engine, with_talk}
 use Rattle.amqp_engine.specs.Turn.{Turn, write_answers, read, turns, applied, AreTurns, IsApplied}
@@ -17,7 +17,7 @@ use Rattle.amqp_engine.specs.Account.{History, HasHistory, new, asked, applies, 
 use Rattle.amqp_types.proofs.Small.{if_case}
 use Rattle.amqp_engine.proofs.LinkKept.{Leaves}
 use Rattle.amqp_engine.proofs.EventTaken.{event-case}
-use Rattle.amqp_session.proofs.Keeping.{kept-open}
+use Rattle.amqp_rules.proofs.Keeping.{kept-open}
 use Rattle.amqp_engine.proofs.Sends as sending
 use Rattle.amqp_engine.proofs.Sends.{Sends, sends-left, sends-asks}
 use Rattle.amqp_engine.proofs.LinkTold as telling

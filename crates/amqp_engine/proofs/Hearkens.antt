@@ -5,7 +5,7 @@ use Rattle.amqp_frame.specs.declared.frame.Frame.{Frame}
 use Rattle.amqp_auth.specs.declared.asked.Asked.{Asked}
 use Rattle.amqp_auth.specs.declared.asked.Question.{Question}
 use Rattle.amqp_auth.specs.Asking.{Answer}
-use Rattle.amqp_session.specs.Config.{Options}
+use Rattle.amqp_settings.specs.Config.{Options}
 use Rattle.amqp_faultless.specs.Faultless.{Server}
 use Rattle.amqp_faultless.proofs.Greeted.{IsMet}
 use Rattle.amqp_faultless.proofs.Limits.{limit_at}

@@ -6,10 +6,10 @@ use Rattle.std.proofs.lemmas.Bool.Decides.{nat_tests}
 use Rattle.amqp_frame.specs.declared.frame.Frame.{Frame}
 use Rattle.amqp_frame.specs.declared.frame.Read.TheVariants.{Whole}
 use Rattle.amqp_frame.specs.Frames.{FrameOf}
-use Rattle.amqp_session.specs.Talk.{is_open}
-use Rattle.amqp_session.specs.Changes.{present_at}
-use Rattle.amqp_session.specs.Frames.{frame_questions}
-use Rattle.amqp_session.specs.Negotiation.{frame_limit}
+use Rattle.amqp_rules.specs.Talk.{is_open}
+use Rattle.amqp_rules.specs.Changes.{present_at}
+use Rattle.amqp_rules.specs.Frames.{frame_questions}
+use Rattle.amqp_rules.specs.Negotiation.{frame_limit}
 use Rattle.amqp_faultless.specs.Faultless.{Server, heard_from}
 use Rattle.amqp_faultless.specs.Faultless.ServerStage.{Gone}
 use Rattle.amqp_types.proofs.Small.{if_case, if-true, if-false, and-true, at-most}

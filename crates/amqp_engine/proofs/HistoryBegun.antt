@@ -1,7 +1,7 @@
 -- The history of an engine that is new, and of turns.
 use Rattle.std.proofs.Common.{◌≡◌, inl, inr, List, [], ◌∷◌, refl, sym, subst}
-use Rattle.amqp_session.specs.declared.command.Cmd.TheVariants.{Listen}
-use Rattle.amqp_session.specs.Talk.{Talk}
+use Rattle.amqp_commands.specs.declared.command.Cmd.TheVariants.{Listen}
+use Rattle.amqp_rules.specs.Talk.{Talk}
 use Rattle.amqp_engine.specs.Engine.{Engine, begin}
 use Rattle.amqp_engine.specs.Turn.{Turn, AreTold, AreFit, asks, turn, turns, AreTurns}
 use Rattle.amqp_engine.specs.Sending.{sendings_from}

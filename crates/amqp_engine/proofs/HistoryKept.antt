@@ -5,24 +5,24 @@ use Rattle.std.specs.Option.{option_or}
 use Rattle.std.specs.List.{AllByRecursion}
 use Rattle.amqp_promise.specs.declared.error.ErrorKind.{ErrorKind}
 use Rattle.amqp_promise.specs.declared.error.ErrorKind.TheVariants.{ChannelsLimitReached}
-use Rattle.amqp_session.specs.declared.command.Cmd.{Cmd}
-use Rattle.amqp_session.specs.declared.command.Answer.{Answer}
-use Rattle.amqp_session.specs.declared.command.Answer.TheVariants as says
-use Rattle.amqp_session.specs.declared.command.Cmd.TheVariants.{OpenChannel}
-use Rattle.amqp_session.specs.declared.handed.Handed.{Handed}
-use Rattle.amqp_session.specs.Config.{Config}
-use Rattle.amqp_session.specs.Events.{Noted}
-use Rattle.amqp_session.specs.Listed.{at, without}
-use Rattle.amqp_session.specs.Talk.{Talk, start, end_of, end_of_link}
-use Rattle.amqp_session.proofs.Keeping.{stays-command}
-use Rattle.amqp_session.specs.ChannelMethods.{frames_of}
-use Rattle.amqp_session.specs.Answers.{answer_of, take_answer, take_event, take_frames}
-use Rattle.amqp_session.specs.Sound.{IsSound}
+use Rattle.amqp_commands.specs.declared.command.Cmd.{Cmd}
+use Rattle.amqp_answers.specs.declared.answer.Answer.{Answer}
+use Rattle.amqp_answers.specs.declared.answer.Answer.TheVariants as says
+use Rattle.amqp_commands.specs.declared.command.Cmd.TheVariants.{OpenChannel}
+use Rattle.amqp_answers.specs.declared.handed.Handed.{Handed}
+use Rattle.amqp_settings.specs.Config.{Config}
+use Rattle.amqp_answers.specs.Events.{Noted}
+use Rattle.amqp_maps.specs.Listed.{at, without}
+use Rattle.amqp_rules.specs.Talk.{Talk, start, end_of, end_of_link}
+use Rattle.amqp_rules.proofs.Keeping.{stays-command}
+use Rattle.amqp_rules.specs.ChannelMethods.{frames_of}
+use Rattle.amqp_rules.specs.Answers.{answer_of, take_answer, take_event, take_frames}
+use Rattle.amqp_rules.specs.Sound.{IsSound}
 use Rattle.amqp_types.proofs.Small.{if_case, if-true, none-from, equal-numbers, other-number}
-use Rattle.amqp_session.proofs.Ascending.{at-gone, none-above, without-ascends}
-use Rattle.amqp_session.proofs.Numbered.{without-other}
-use Rattle.amqp_session.proofs.SoundChanges.{sound-noted}
-use Rattle.amqp_session.proofs.Soundness.{sound-answer, sound-frames, sound-start}
+use Rattle.amqp_rules.proofs.Ascending.{at-gone, none-above, without-ascends}
+use Rattle.amqp_maps.proofs.Numbered.{without-other}
+use Rattle.amqp_rules.proofs.SoundChanges.{sound-noted}
+use Rattle.amqp_rules.proofs.Soundness.{sound-answer, sound-frames, sound-start}
 use Rattle.amqp_carried_rules.specs.CommandFrames.{is_sent}
 use Rattle.amqp_carried_rules.specs.HandingOut.{handed_on}
 use Rattle.amqp_carried_rules.proofs.Bearing.{command_at}
@@ -37,7 +37,7 @@ use Rattle.amqp_engine.specs.Carried.{says_sent, AreSent, Merges, IsSubsequence}
 use Rattle.amqp_engine.specs.Account.{History, nothing_told, HasHistory, new, asked, applies, told, answer_taken, event_taken, frames_taken}
 use Rattle.amqp_engine.proofs.Answered.{says-as, answer-held, there}
 use Rattle.amqp_engine.proofs.EventTaken.{event-case}
-use Rattle.amqp_session.proofs.Walking.{all-append}
+use Rattle.amqp_channels.proofs.Walking.{all-append}
 use Rattle.amqp_engine.proofs.Conveying.{Carries, same-last, carries-given, carries-rule, carries-command}
 use Rattle.amqp_engine.proofs.WentOut.{carries-asks, carries-applied}
 use Rattle.amqp_engine.proofs.Knowing.{IsBounded, known-asks}

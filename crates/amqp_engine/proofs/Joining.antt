@@ -3,15 +3,15 @@ use Rattle.std.proofs.Common.{◌≡◌, ◌≤◌, ◌<◌, ℕ, suc, ◌+◌, 
 use Rattle.std.proofs.lemmas.List.{append-nil, take-append-drop, drop-append-le, drop-drop, nil_from_length, take_all}
 use Rattle.amqp_frame.specs.declared.frame.Read.{Read}
 use Rattle.amqp_frame.specs.declared.frame.Read.TheVariants.{Whole, More, TooLarge, BadHeartbeat, Bad, NoMemory}
-use Rattle.amqp_session.specs.declared.capacity.TheConstants.{LEAST_CAPACITY}
-use Rattle.amqp_session.specs.declared.misread.Misread.TheVariants as why
+use Rattle.amqp_settings.specs.declared.capacity.TheConstants.{LEAST_CAPACITY}
+use Rattle.amqp_violations.specs.declared.misread.Misread.TheVariants as why
 use Rattle.amqp_auth.specs.declared.asked.Question.{Question}
 use Rattle.amqp_auth.specs.declared.asked.Asked.{Asked}
-use Rattle.amqp_session.specs.Talk.{is_open}
-use Rattle.amqp_session.specs.Negotiation.{frame_limit}
-use Rattle.amqp_session.specs.Changes.{present_at}
-use Rattle.amqp_session.specs.Links.{piece, misread}
-use Rattle.amqp_session.specs.Frames.{on_frame}
+use Rattle.amqp_rules.specs.Talk.{is_open}
+use Rattle.amqp_rules.specs.Negotiation.{frame_limit}
+use Rattle.amqp_rules.specs.Changes.{present_at}
+use Rattle.amqp_rules.specs.Links.{piece, misread}
+use Rattle.amqp_rules.specs.Frames.{on_frame}
 use Rattle.amqp_engine.specs.Plan.{at_most_64}
 use Rattle.amqp_engine.specs.Engine.{Engine, rule_at, settle, step_piece, front_of, is_more, can_read, read_row, row_questions, read_one, read_questions, starve_at}
 use Rattle.amqp_engine.specs.Turn.{reads, reading}

@@ -13,31 +13,31 @@ use Rattle.amqp_promise.specs.declared.io_fault.IoFault.TheVariants.{BrokenPipe}
 use Rattle.amqp_promise.specs.declared.error.ErrorKind.{ErrorKind}
 use Rattle.amqp_promise.specs.declared.error.ErrorKind.TheVariants.{ChannelsLimitReached, InvalidChannelState, InvalidConnectionState, IOError, MissingHeartbeatError, ProtocolError, SerialisationError, NoMemory as NoMemoryKind}
 use Rattle.amqp_auth.specs.declared.asked.Asked.{Asked as ProviderAnswer}
-use Rattle.amqp_session.specs.declared.command.Cmd.{Cmd}
-use Rattle.amqp_session.specs.declared.command.Cmd.TheVariants.{CloseChannel, CloseConnection, DropChannel, DropConnection}
-use Rattle.amqp_session.specs.declared.command.Answer.{Answer}
-use Rattle.amqp_session.specs.declared.command.Answer.TheVariants.{Sent}
-use Rattle.amqp_session.specs.declared.committed.Mark.{Mark}
-use Rattle.amqp_session.specs.Listed.{at}
-use Rattle.amqp_session.specs.Violations.{protocol_error, channel_closed_with, misread_error}
+use Rattle.amqp_commands.specs.declared.command.Cmd.{Cmd}
+use Rattle.amqp_commands.specs.declared.command.Cmd.TheVariants.{CloseChannel, CloseConnection, DropChannel, DropConnection}
+use Rattle.amqp_answers.specs.declared.answer.Answer.{Answer}
+use Rattle.amqp_answers.specs.declared.answer.Answer.TheVariants.{Sent}
+use Rattle.amqp_outgoing.specs.declared.committed.Mark.{Mark}
+use Rattle.amqp_maps.specs.Listed.{at}
+use Rattle.amqp_violations.specs.Violations.{protocol_error, channel_closed_with, misread_error}
 use Rattle.amqp_types.specs.Codes.{kind_of}
-use Rattle.amqp_session.specs.declared.misread.Misread.{Misread}
-use Rattle.amqp_session.specs.declared.misread.Misread.TheVariants.{TooLarge, BadHeartbeat, Bad}
-use Rattle.amqp_session.specs.Talk.{Talk, acts, has_ended, is_asked, is_open}
-use Rattle.amqp_session.specs.Capacities.{greatest_capacity}
-use Rattle.amqp_session.specs.Negotiation.{grown_capacity}
-use Rattle.amqp_session.specs.Parts.{capacity_after, is_opening_frame}
-use Rattle.amqp_session.specs.Changes.{present_at, fail, starve, lose}
-use Rattle.amqp_session.specs.Links.{asked, linked, link_failed, piece, lost, misread}
-use Rattle.amqp_session.specs.Frames.{on_frame}
-use Rattle.amqp_session.specs.Ticks.{tick}
-use Rattle.amqp_session.specs.Sound.{IsSound}
-use Rattle.amqp_session.specs.Writing.{frames_waiting, next_within, commit, committed_as, taken, end_overlong}
-use Rattle.amqp_session.proofs.Keeping.{present-keeps, failed-keeps, lost-keeps, loss-keeps, keeps-misread, keeps-frame, keeps-tick}
-use Rattle.amqp_session.proofs.Sending.{taken-keeps}
-use Rattle.amqp_session.proofs.SoundChanges.{sound-present, sound-starve, sound-lose}
-use Rattle.amqp_session.proofs.SoundFrames.{sound-frame}
-use Rattle.amqp_session.proofs.Soundness.{sound-commit, sound-taken, sound-asked, sound-linked, sound-link_failed, sound-piece, sound-lost, sound-misread, sound-tick}
+use Rattle.amqp_violations.specs.declared.misread.Misread.{Misread}
+use Rattle.amqp_violations.specs.declared.misread.Misread.TheVariants.{TooLarge, BadHeartbeat, Bad}
+use Rattle.amqp_rules.specs.Talk.{Talk, acts, has_ended, is_asked, is_open}
+use Rattle.amqp_settings.specs.Capacities.{greatest_capacity}
+use Rattle.amqp_rules.specs.Negotiation.{grown_capacity}
+use Rattle.amqp_rules.specs.Parts.{capacity_after, is_opening_frame}
+use Rattle.amqp_rules.specs.Changes.{present_at, fail, starve, lose}
+use Rattle.amqp_rules.specs.Links.{asked, linked, link_failed, piece, lost, misread}
+use Rattle.amqp_rules.specs.Frames.{on_frame}
+use Rattle.amqp_rules.specs.Ticks.{tick}
+use Rattle.amqp_rules.specs.Sound.{IsSound}
+use Rattle.amqp_rules.specs.Writing.{frames_waiting, next_within, commit, committed_as, taken, end_overlong}
+use Rattle.amqp_rules.proofs.Keeping.{present-keeps, failed-keeps, lost-keeps, loss-keeps, keeps-misread, keeps-frame, keeps-tick}
+use Rattle.amqp_rules.proofs.Sending.{taken-keeps}
+use Rattle.amqp_rules.proofs.SoundChanges.{sound-present, sound-starve, sound-lose}
+use Rattle.amqp_rules.proofs.SoundFrames.{sound-frame}
+use Rattle.amqp_rules.proofs.Soundness.{sound-commit, sound-taken, sound-asked, sound-linked, sound-link_failed, sound-piece, sound-lost, sound-misread, sound-tick}
 use Rattle.amqp_answer_rules.specs.Answering.{Held, IsSettledFor, SettlesFor, LeavesPromises, IsConnectionAnswer, IsReplied, IsLost, IsFrameAnswer, IsSent, IsTakenAnswer, IsServerClose, IsLetGo}
 use Rattle.amqp_answer_rules.proofs.OfRules.{keeps-promises}
 use Rattle.amqp_answer_rules.proofs.Slots.{settles-lost}

@@ -4,21 +4,22 @@ use Rattle.amqp_frame.specs.declared.frame.Read.{Read}
 use Rattle.amqp_frame.specs.declared.frame.Read.TheVariants.{Whole, More, TooLarge, BadHeartbeat, Bad, NoMemory}
 use Rattle.amqp_frame.specs.FrameReading.{front}
 use Rattle.amqp_promise.specs.declared.io_fault.IoFault.TheVariants.{Aborted, Reset, BrokenPipe}
-use Rattle.amqp_session.specs.declared.command.Answer.{Answer}
-use Rattle.amqp_session.specs.declared.event.Event.{Event}
+use Rattle.amqp_answers.specs.declared.answer.Answer.{Answer}
+use Rattle.amqp_answers.specs.declared.event.Event.{Event}
 use Rattle.amqp_promise.specs.declared.error.ErrorKind.{ErrorKind}
 use Rattle.amqp_auth.specs.declared.asked.Asked.{Asked as ProviderAnswer}
-use Rattle.amqp_session.specs.Talk.{Talk, is_open, is_open_link, is_asked, has_ended, drops_input}
-use Rattle.amqp_session.specs.declared.configuration.Configuration.{Configuration}
-use Rattle.amqp_session.specs.Negotiation.{frame_limit, wish_or}
-use Rattle.amqp_session.specs.Changes.{present_at, starve}
-use Rattle.amqp_session.specs.Recovery.{next_delay}
-use Rattle.amqp_session.specs.Links.{asked, linked, refused_after, link_failed, lost}
-use Rattle.amqp_session.specs.Commands.{command}
-use Rattle.amqp_session.specs.Ticks.{tick}
-use Rattle.amqp_session.specs.Writing.{end_overlong, taken, frames_waiting}
-use Rattle.amqp_session.specs.Answers.{take_answer, take_frames, Takes, TakesEvent}
-use Rattle.amqp_session.specs.declared.command.Cmd.{Cmd}
+use Rattle.amqp_rules.specs.Talk.{Talk, is_open, is_open_link, is_asked, has_ended, drops_input}
+use Rattle.amqp_settings.specs.declared.configuration.Configuration.{Configuration}
+use Rattle.amqp_rules.specs.Negotiation.{frame_limit}
+use Rattle.amqp_settings.specs.Negotiation.{wish_or}
+use Rattle.amqp_rules.specs.Changes.{present_at, starve}
+use Rattle.amqp_rules.specs.Recovery.{next_delay}
+use Rattle.amqp_rules.specs.Links.{asked, linked, refused_after, link_failed, lost}
+use Rattle.amqp_rules.specs.Commands.{command}
+use Rattle.amqp_rules.specs.Ticks.{tick}
+use Rattle.amqp_rules.specs.Writing.{end_overlong, taken, frames_waiting}
+use Rattle.amqp_rules.specs.Answers.{take_answer, take_frames, Takes, TakesEvent}
+use Rattle.amqp_commands.specs.declared.command.Cmd.{Cmd}
 use Rattle.amqp_engine.specs.declared.port.Step.{Step}
 use Rattle.amqp_engine.specs.declared.port.Step.TheVariants.{Linked, LinkFailed, Piece, End, Fault, Room, Tick, Command}
 use Rattle.amqp_engine.specs.declared.port.Wrote.{Wrote}
@@ -29,9 +30,9 @@ use Rattle.amqp_engine.specs.Log.{Log}
 use Rattle.amqp_engine.specs.Tell.{Applies, TakesTurn, turn_of}
 use Rattle.amqp_engine.specs.Unread.{IsRead}
 use Rattle.amqp_types.proofs.Small.{if_case, if_by}
-use Rattle.amqp_session.proofs.Keeping.{present-keeps, stays-command, keeps-tick, tick-keeps, IsOff, lost-off, starve-ends}
-use Rattle.amqp_session.proofs.Sending.{taken-keeps, taken-link}
-use Rattle.amqp_session.proofs.Lacking.{asked-open}
+use Rattle.amqp_rules.proofs.Keeping.{present-keeps, stays-command, keeps-tick, tick-keeps, IsOff, lost-off, starve-ends}
+use Rattle.amqp_rules.proofs.Sending.{taken-keeps, taken-link}
+use Rattle.amqp_rules.proofs.Lacking.{asked-open}
 use Rattle.amqp_engine.proofs.EventTaken.{taken-case}
 use Rattle.amqp_engine.proofs.Commits.{commits-keep}
 use Rattle.amqp_frame.proofs.FrontStays.{front-none}
@@ -96,26 +97,11 @@ answer-read number e h =
     (if_case (λ (x : Talk). is_open x ≡ is_open t) _ (record t { promises = _ }) t refl refl) refl
     (if_case (λ (x : Talk). frame_limit x ≡ frame_limit t) _ (record t { promises = _ }) t refl refl) h
 
--- the same of an answer whose copy may be refused
-pub taken-read : (number : ℕ) (given : Option (Result Answer ErrorKind)) (e e' : Engine) → Takes number given e.talk e'.talk
-    → e' ≡ record e { talk = e'.talk } → IsRead e → IsRead e'
-taken-read number given e e' takes rest h =
-    let P : Talk → Type 0 = λ t. IsRead (record e { talk = t }) in
-    subst IsRead (sym rest)
-    (elim takes [
-      | inl took ↦ subst P (sym took.1) (answer-read number e h)
-      | inr refused ↦ subst P (sym refused.2) h
-    ])
-
 -- an event that is taken too, or whose copy was refused
 pub event-read : (given : Option Event) (e e' : Engine) → TakesEvent given e.talk e'.talk → e' ≡ record e { talk = e'.talk } → IsRead e → IsRead e'
 event-read given e e' takes rest h =
     let P : Talk → Type 0 = λ t. IsRead (record e { talk = t }) in
     subst IsRead (sym rest) (taken-case P given e.talk e'.talk takes (λ noted. same-read e (record e { talk = record e.talk { noted = noted } }) refl refl refl h) h)
-
--- and of frames that are taken
-pub frames-read : (opened : ℕ) (e : Engine) → IsRead e → IsRead (with_talk (take_frames opened) e)
-frames-read opened e h = same-read e (with_talk (take_frames opened) e) refl refl refl h
 
 -- where the unread bytes go, nothing is left of them
 settle-read : (x : Engine) → IsRead x → IsRead (settle x)
@@ -264,6 +250,3 @@ pub Applies-read : (at : ℕ) (step : Step) (bytes : List ℕ) (notes : Notes) (
     → Applies at step bytes notes e e' log log' → IsRead e → IsRead e'
 Applies-read at step bytes notes e e' log log' f h =
     subst IsRead f.leaves (applied-read (turn_of at step bytes notes) e f.may h)
-
-pub TakesTurn-read : (e e' : Engine) (log log' : Option Log) → TakesTurn e e' log log' → IsRead e → IsRead e'
-TakesTurn-read e e' log log' f h = subst IsRead f.leaves (turn-read f.u e f.may h)

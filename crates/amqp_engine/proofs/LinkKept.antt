@@ -3,21 +3,21 @@ use Rattle.std.proofs.Common.{◌≡◌, inl, inr, ℕ, ◌+◌, ◌==◌, if◌
 use Rattle.amqp_frame.specs.declared.frame.Read.{Read}
 use Rattle.amqp_frame.specs.declared.frame.Read.TheVariants.{Whole, More, TooLarge, BadHeartbeat, Bad, NoMemory as ReadNoMemory}
 use Rattle.amqp_promise.specs.declared.error.ErrorKind.{ErrorKind}
-use Rattle.amqp_session.specs.declared.state.Link.{Link}
-use Rattle.amqp_session.specs.declared.state.Link.TheVariants.{Due, Wanted, Asked, Open, Ended}
+use Rattle.amqp_rules.specs.declared.state.Link.{Link}
+use Rattle.amqp_rules.specs.declared.state.Link.TheVariants.{Due, Wanted, Asked, Open, Ended}
 use Rattle.amqp_promise.specs.declared.io_fault.IoFault.{IoFault}
 use Rattle.amqp_promise.specs.declared.io_fault.IoFault.TheVariants.{Aborted, Reset, BrokenPipe}
-use Rattle.amqp_session.specs.declared.misread.Misread.{Misread}
-use Rattle.amqp_session.specs.declared.misread.Misread.TheVariants as misreads
-use Rattle.amqp_session.specs.declared.command.Cmd.{Cmd}
+use Rattle.amqp_violations.specs.declared.misread.Misread.{Misread}
+use Rattle.amqp_violations.specs.declared.misread.Misread.TheVariants as misreads
+use Rattle.amqp_commands.specs.declared.command.Cmd.{Cmd}
 use Rattle.amqp_auth.specs.declared.asked.Asked.{Asked as ProviderAnswer}
-use Rattle.amqp_session.specs.Talk.{Talk, is_open, is_open_link, is_asked, is_asked_link}
-use Rattle.amqp_session.specs.Changes.{present_at}
-use Rattle.amqp_session.specs.Links.{linked, link_failed, piece, misread, lost}
-use Rattle.amqp_session.specs.Frames.{on_frame}
-use Rattle.amqp_session.specs.Ticks.{tick}
-use Rattle.amqp_session.specs.Commands.{command}
-use Rattle.amqp_session.specs.Writing.{taken, frames_waiting}
+use Rattle.amqp_rules.specs.Talk.{Talk, is_open, is_open_link, is_asked, is_asked_link}
+use Rattle.amqp_rules.specs.Changes.{present_at}
+use Rattle.amqp_rules.specs.Links.{linked, link_failed, piece, misread, lost}
+use Rattle.amqp_rules.specs.Frames.{on_frame}
+use Rattle.amqp_rules.specs.Ticks.{tick}
+use Rattle.amqp_rules.specs.Commands.{command}
+use Rattle.amqp_rules.specs.Writing.{taken, frames_waiting}
 use Rattle.amqp_engine.specs.declared.port.Step.{Step}
 use Rattle.amqp_engine.specs.declared.port.Step.TheVariants.{Linked, LinkFailed, Piece, End, Fault, Room, Tick, Command}
 use Rattle.amqp_engine.specs.declared.port.Wrote.{Wrote}
@@ -27,8 +27,8 @@ use Rattle.amqp_engine.specs.Engine.{Engine, rule_at, settle, step_engine, step_
 use Rattle.amqp_engine.specs.Turn.{answered}
 use Rattle.amqp_types.proofs.Small.{if_case, if-false}
 use Rattle.amqp_engine.proofs.Settling.{settle-talk, settle-unsent}
-use Rattle.amqp_session.proofs.Keeping.{LinkKept, link-then, kept-open, present-keeps, failed-keeps, failed-link, keeps-frame, keeps-misread, keeps-tick, stays-command, lost-off, lost-link}
-use Rattle.amqp_session.proofs.Sending.{left_after, committed-taken, taken-link}
+use Rattle.amqp_rules.proofs.Keeping.{LinkKept, link-then, kept-open, present-keeps, failed-keeps, failed-link, keeps-frame, keeps-misread, keeps-tick, stays-command, lost-off, lost-link}
+use Rattle.amqp_rules.proofs.Sending.{left_after, committed-taken, taken-link}
 use Rattle.amqp_engine.proofs.Commits.{commits-keep}
 
 -- ---- links

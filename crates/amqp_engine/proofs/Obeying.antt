@@ -1,11 +1,11 @@
 -- What is left where a command was obeyed, or was not and changed nothing, and where an event was taken.
 use Rattle.std.proofs.Common.{◌≡◌, Option, Result, Ok, Err, OnOk, OnErr, refl, sym, subst}
-use Rattle.amqp_session.specs.declared.command.Cmd.{Cmd}
-use Rattle.amqp_session.specs.declared.event.Event.{Event}
-use Rattle.amqp_session.specs.Talk.{Talk}
-use Rattle.amqp_session.specs.Commands.{command}
-use Rattle.amqp_session.specs.Answers.{TakesEvent}
-use Rattle.amqp_session.proofs.Keeping.{Stays, stays-command}
+use Rattle.amqp_commands.specs.declared.command.Cmd.{Cmd}
+use Rattle.amqp_answers.specs.declared.event.Event.{Event}
+use Rattle.amqp_rules.specs.Talk.{Talk}
+use Rattle.amqp_rules.specs.Commands.{command}
+use Rattle.amqp_rules.specs.Answers.{TakesEvent}
+use Rattle.amqp_rules.proofs.Keeping.{Stays, stays-command}
 use Rattle.amqp_engine.specs.Engine.{Engine, with_talk}
 use Rattle.amqp_engine.specs.Unread.{IsRead}
 use Rattle.amqp_engine.proofs.EventTaken.{taken-case}

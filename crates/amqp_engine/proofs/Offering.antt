@@ -1,11 +1,11 @@
 -- What is committed and sent leaves no frame that waits longer than the capacity, and so does each step.
 use Rattle.std.proofs.Common.{◌≡◌, ℕ, zero, suc, List, drop, Option, Some, None, refl, sym, subst}
 use Rattle.amqp_outbox.specs.declared.item.Item.{Item}
-use Rattle.amqp_session.specs.Config.{Options}
-use Rattle.amqp_session.specs.Talk.{Talk}
-use Rattle.amqp_session.specs.Changes.{present_at}
-use Rattle.amqp_session.specs.Writing.{frames_waiting, taken}
-use Rattle.amqp_session.proofs.Finishing.{next-first}
+use Rattle.amqp_settings.specs.Config.{Options}
+use Rattle.amqp_rules.specs.Talk.{Talk}
+use Rattle.amqp_rules.specs.Changes.{present_at}
+use Rattle.amqp_rules.specs.Writing.{frames_waiting, taken}
+use Rattle.amqp_rules.proofs.Finishing.{next-first}
 use Rattle.amqp_faultless.proofs.Fitting.{Fit}
 use Rattle.amqp_faultless.proofs.Modest.{Modest}
 use Rattle.amqp_faultless.proofs.Modesty.{modest-taken, modest-present}

@@ -2,24 +2,24 @@
 use Rattle.std.proofs.Common.{◌≡◌, ◌≤◌, ◌<◌, ℕ, ◌+◌, ◌-◌, ◌==◌, nat_le, if◌then◌else◌, not, ◌&&◌, Bool, true, false, IsTrue, IsFalse, MatchBool, IfSome, List, [], ◌∷◌, ◌++◌, length, drop, Option, Some, None, is_some, option_map, refl, ap, sym, ◌∙◌, subst, arith, rules, length-drop}
 use Rattle.std.proofs.lemmas.Bool.Decides.{nat_tests}
 use Rattle.amqp_promise.specs.declared.io_fault.IoFault.TheVariants.{BrokenPipe}
-use Rattle.amqp_session.specs.declared.committed.Mark.{Mark}
-use Rattle.amqp_session.specs.declared.committed.Then.{Then}
-use Rattle.amqp_session.specs.declared.committed.Then.TheVariants.{Nothing, Answer, Pays, Finish}
-use Rattle.amqp_session.specs.declared.server_close.ServerClose.{ServerClose}
-use Rattle.amqp_session.specs.declared.server_close.ServerClose.TheVariants.{WithoutError, WithError}
+use Rattle.amqp_outgoing.specs.declared.committed.Mark.{Mark}
+use Rattle.amqp_outgoing.specs.declared.committed.Then.{Then}
+use Rattle.amqp_outgoing.specs.declared.committed.Then.TheVariants.{Nothing, Answer, Pays, Finish}
+use Rattle.amqp_violations.specs.declared.server_close.ServerClose.{ServerClose}
+use Rattle.amqp_violations.specs.declared.server_close.ServerClose.TheVariants.{WithoutError, WithError}
 use Rattle.amqp_promise.specs.declared.error.ErrorKind.TheVariants.{ProtocolError}
 use Rattle.amqp_auth.specs.declared.asked.Question.{Question}
 use Rattle.amqp_auth.specs.declared.asked.Asked.{Asked}
-use Rattle.amqp_session.specs.Talk.{Talk, is_open}
-use Rattle.amqp_session.specs.Channels.{channel_at}
-use Rattle.amqp_session.specs.Changes.{present_at, finish_by}
-use Rattle.amqp_session.specs.Links.{lost}
-use Rattle.amqp_session.specs.Writing.{follow, sent, sent_among, taken}
+use Rattle.amqp_rules.specs.Talk.{Talk, is_open}
+use Rattle.amqp_rules.specs.Channels.{channel_at}
+use Rattle.amqp_rules.specs.Changes.{present_at, finish_by}
+use Rattle.amqp_rules.specs.Links.{lost}
+use Rattle.amqp_rules.specs.Writing.{follow, sent, sent_among, taken}
 use Rattle.amqp_engine.specs.declared.port.Wrote.{Wrote}
 use Rattle.amqp_engine.specs.declared.port.Wrote.TheVariants.{Took, Failed, NoMemory}
 use Rattle.amqp_engine.specs.Log.{Log, log_write, TookAtMost, PlansWrite}
 use Rattle.amqp_engine.specs.Engine.{Engine, rule_at, can_write, overlong_next, refuse_overlong, commit_all, wrote, took}
-use Rattle.amqp_session.specs.Writing.{frames_waiting}
+use Rattle.amqp_rules.specs.Writing.{frames_waiting}
 use Rattle.amqp_engine.specs.Turn.{answers_of_writes, Progress, goes, offer_part, closing, drained, offered, answered, is_all, AreAnswers}
 use Rattle.amqp_engine.specs.Making.{making, Reaches, Writes}
 use Rattle.amqp_engine.specs.Noting.{took_by, fails_by}
@@ -28,9 +28,9 @@ use Rattle.amqp_engine.specs.Tell.{port_answer, offers_from, log_offers, PlaysOf
 use Rattle.amqp_engine.specs.Play.{offers_waiting}
 use Rattle.amqp_types.proofs.Small.{if_case, if-true, if-false, and-false}
 use Rattle.amqp_engine.proofs.Cases.{is_before-Reaches, is_before-cut, some-unsent, rose-between}
-use Rattle.amqp_session.proofs.Keeping.{present-keeps}
-use Rattle.amqp_session.proofs.Sending.{pay-keeps}
-use Rattle.amqp_session.proofs.Recovering.{lose-case}
+use Rattle.amqp_rules.proofs.Keeping.{present-keeps}
+use Rattle.amqp_rules.proofs.Sending.{pay-keeps}
+use Rattle.amqp_rules.proofs.Recovering.{lose-case}
 use Rattle.amqp_engine.proofs.Settling.{settle-talk, settle-less, settle-starved}
 use Rattle.amqp_engine.proofs.Telling.{tells-then, tells-none}
 use Rattle.amqp_engine.proofs.Commits.{commits-keep, waiting-commits}
@@ -89,10 +89,6 @@ waiting-wrote at (Took k) e some all =
     omega (arith, waits, unsent, length-drop k (offered e), waiting-commits (frames_waiting e.talk) e)
 waiting-wrote at Failed e some all = cc
 waiting-wrote at NoMemory e some all = cc
-
-is-false : (b : Bool) → b ≡ false → IsFalse b
-is-false true h = cc
-is-false false h = search rules
 
 and-is-false : (a b : Bool) → IsFalse b → IsFalse (a && b)
 and-is-false true b h = h

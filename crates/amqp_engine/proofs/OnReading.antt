@@ -6,17 +6,17 @@ use Rattle.amqp_frame.specs.declared.frame.Read.{Read}
 use Rattle.amqp_frame.specs.declared.frame.Read.TheVariants.{Whole}
 use Rattle.amqp_auth.specs.declared.asked.Question.{Question}
 use Rattle.amqp_auth.specs.Asking.{Answer}
-use Rattle.amqp_session.specs.Config.{Options}
-use Rattle.amqp_session.specs.Sound.{IsSound}
-use Rattle.amqp_session.specs.Talk.{Talk, is_open, has_ended}
-use Rattle.amqp_session.specs.Changes.{present_at}
-use Rattle.amqp_session.specs.Frames.{on_frame, frame_questions}
-use Rattle.amqp_session.specs.Negotiation.{frame_limit}
+use Rattle.amqp_settings.specs.Config.{Options}
+use Rattle.amqp_rules.specs.Sound.{IsSound}
+use Rattle.amqp_rules.specs.Talk.{Talk, is_open, has_ended}
+use Rattle.amqp_rules.specs.Changes.{present_at}
+use Rattle.amqp_rules.specs.Frames.{on_frame, frame_questions}
+use Rattle.amqp_rules.specs.Negotiation.{frame_limit}
 use Rattle.amqp_faultless.specs.Faultless.{Server, ServerStage, AreSayable, heard_from}
 use Rattle.amqp_faultless.specs.Faultless.ServerStage.{BeforeStart, BeforeTune, BeforeOpenOk, Serving, Gone}
 use Rattle.amqp_types.proofs.Small.{if_case, if-true, and-true}
-use Rattle.amqp_session.proofs.SoundChanges.{sound-present}
-use Rattle.amqp_session.proofs.SoundFrames.{sound-frame}
+use Rattle.amqp_rules.proofs.SoundChanges.{sound-present}
+use Rattle.amqp_rules.proofs.SoundFrames.{sound-frame}
 use Rattle.amqp_faultless.proofs.Greeted.{IsMet, AreSaid}
 use Rattle.amqp_faultless.proofs.Limits.{limit_at, met-least, met-agreed, met-open, met-gone}
 use Rattle.amqp_faultless.proofs.Tells.{met-present}

@@ -5,8 +5,8 @@ use Rattle.amqp_frame.specs.declared.frame.Frame.{Frame}
 use Rattle.amqp_outbox.specs.declared.item.Item.{Item}
 use Rattle.amqp_outbox.specs.Items.{size_of}
 use Rattle.amqp_outbox.specs.Queued as queued
-use Rattle.amqp_session.specs.Talk.{Talk, is_open}
-use Rattle.amqp_session.specs.Writing.{frames_waiting, writes, flows, fitting, next_out, next_within, longer_than, overlong, end_overlong, commit, next_frame}
+use Rattle.amqp_rules.specs.Talk.{Talk, is_open}
+use Rattle.amqp_rules.specs.Writing.{frames_waiting, writes, flows, fitting, next_out, next_within, longer_than, overlong, end_overlong, commit, next_frame}
 use Rattle.amqp_engine.specs.Engine.{Engine, with_talk, settle, commit_all, fitting_next, overlong_next, ended_overlong, refuse_overlong, can_write}
 use Rattle.amqp_engine.proofs.Cases.{none-unsent}
 use Rattle.amqp_types.proofs.Small.{and-left}

@@ -6,23 +6,23 @@ use Rattle.std.proofs.lemmas.Bool.Decides.{nat_tests}
 use Rattle.std.specs.List.{AllByRecursion}
 use Rattle.amqp_promise.specs.declared.error.ErrorKind.{ErrorKind}
 use Rattle.amqp_promise.specs.declared.error.ErrorKind.TheVariants.{ChannelsLimitReached}
-use Rattle.amqp_session.specs.declared.command.Cmd.{Cmd}
-use Rattle.amqp_session.specs.declared.command.Cmd.TheVariants.{OpenChannel}
-use Rattle.amqp_session.specs.declared.command.Answer.{Answer}
-use Rattle.amqp_session.specs.declared.command.Answer.TheVariants as says
-use Rattle.amqp_session.specs.declared.handed.Handed.{Handed}
-use Rattle.amqp_session.specs.Config.{Config}
-use Rattle.amqp_session.specs.Events.{Noted}
-use Rattle.amqp_session.specs.Listed.{at, without}
-use Rattle.amqp_session.specs.Talk.{Talk, start, end_of}
-use Rattle.amqp_session.specs.Commands.{command, takes_promise}
-use Rattle.amqp_session.specs.Answers.{answer_of, take_answer, take_frames}
-use Rattle.amqp_session.specs.Sound.{IsSound}
-use Rattle.amqp_session.proofs.Ascending.{at-gone}
+use Rattle.amqp_commands.specs.declared.command.Cmd.{Cmd}
+use Rattle.amqp_commands.specs.declared.command.Cmd.TheVariants.{OpenChannel}
+use Rattle.amqp_answers.specs.declared.answer.Answer.{Answer}
+use Rattle.amqp_answers.specs.declared.answer.Answer.TheVariants as says
+use Rattle.amqp_answers.specs.declared.handed.Handed.{Handed}
+use Rattle.amqp_settings.specs.Config.{Config}
+use Rattle.amqp_answers.specs.Events.{Noted}
+use Rattle.amqp_maps.specs.Listed.{at, without}
+use Rattle.amqp_rules.specs.Talk.{Talk, start, end_of}
+use Rattle.amqp_rules.specs.Commands.{command, takes_promise}
+use Rattle.amqp_rules.specs.Answers.{answer_of, take_answer, take_frames}
+use Rattle.amqp_rules.specs.Sound.{IsSound}
+use Rattle.amqp_rules.proofs.Ascending.{at-gone}
 use Rattle.amqp_answer_rules.specs.Answering.{IsLetGo}
-use Rattle.amqp_session.proofs.SoundChanges.{sound-noted}
-use Rattle.amqp_session.proofs.SoundCommands.{sound-command}
-use Rattle.amqp_session.proofs.Soundness.{sound-answer, sound-frames, sound-start}
+use Rattle.amqp_rules.proofs.SoundChanges.{sound-noted}
+use Rattle.amqp_rules.proofs.SoundCommands.{sound-command}
+use Rattle.amqp_rules.proofs.Soundness.{sound-answer, sound-frames, sound-start}
 use Rattle.amqp_answer_rules.proofs.OneMade.{makes-one}
 use Rattle.amqp_answer_rules.proofs.OfRules.{keeps-promises}
 use Rattle.amqp_types.proofs.Small.{if_case, equal-numbers, other-number, not-below}
@@ -36,7 +36,7 @@ use Rattle.amqp_engine.specs.Carried.{AreSome, IsParted}
 use Rattle.amqp_engine.specs.Account.{History, nothing_told, noted_before}
 use Rattle.amqp_engine.proofs.Answered.{there, answer-held, answer-not}
 use Rattle.amqp_engine.proofs.Knowing.{untaken, IsUnrefused, not-settled, leaving-not, KeepsKnown}
-use Rattle.amqp_session.proofs.Walking.{all-append}
+use Rattle.amqp_channels.proofs.Walking.{all-append}
 
 -- what was told to a client, and taken of it
 pub record Kept : Type 0 where
@@ -199,12 +199,6 @@ openings-more given t t' handed more n latest h =
       unrefused = λ p told some. n.unrefused p (h.unrefused p told some);
       untold = h.untold;
     }
-
--- no command is told
-pub openings-none : (given : Kept) (t : Talk) (handed : List (ℕ × Handed)) (came : List (List ℕ)) → Openings given t handed → Openings (told_more [] came given) t handed
-openings-none given t handed came h =
-    let P : List Cmd → Type 0 = λ cs. Openings (record given { commands = cs }) t handed in
-    subst P (sym (append-nil given.commands)) h
 
 -- a command is told
 pub openings-told : (given : Kept) (c : Cmd) (t : Talk) (handed : List (ℕ × Handed)) (came : List (List ℕ)) → AreSome came handed → Openings given t handed

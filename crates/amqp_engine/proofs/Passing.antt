@@ -4,20 +4,21 @@ use Rattle.std.proofs.lemmas.Bool.Decides.{nat_tests}
 use Rattle.amqp_frame.specs.declared.frame.Frame.{Frame}
 use Rattle.amqp_outbox.specs.declared.item.Item.{Item}
 use Rattle.amqp_outbox.specs.Queued.{waiting_items}
-use Rattle.amqp_session.specs.declared.committed.Mark.{Mark}
-use Rattle.amqp_session.specs.declared.committed.Then.{Then}
-use Rattle.amqp_session.specs.declared.committed.Then.TheVariants.{Nothing, Answer, Pays, Finish}
-use Rattle.amqp_session.specs.declared.command.Cmd.{Cmd}
-use Rattle.amqp_session.specs.declared.state.Input.{Input}
-use Rattle.amqp_session.specs.declared.state.Input.TheVariants.{Acting, Closed, Dropped}
-use Rattle.amqp_session.specs.Talk.{Talk, is_open}
-use Rattle.amqp_session.specs.Channels.{channel_at}
-use Rattle.amqp_session.specs.Sound.{IsSound, Finishes, NoneFinishes, LastFinishes, following, is_finish}
-use Rattle.amqp_session.specs.Writing.{then_of, follow, sent, sent_among, taken}
+use Rattle.amqp_outgoing.specs.declared.committed.Mark.{Mark}
+use Rattle.amqp_outgoing.specs.declared.committed.Then.{Then}
+use Rattle.amqp_outgoing.specs.declared.committed.Then.TheVariants.{Nothing, Answer, Pays, Finish}
+use Rattle.amqp_commands.specs.declared.command.Cmd.{Cmd}
+use Rattle.amqp_rules.specs.declared.state.Input.{Input}
+use Rattle.amqp_rules.specs.declared.state.Input.TheVariants.{Acting, Closed, Dropped}
+use Rattle.amqp_rules.specs.Talk.{Talk, is_open}
+use Rattle.amqp_rules.specs.Channels.{channel_at}
+use Rattle.amqp_rules.specs.Sound.{IsSound, Finishes, NoneFinishes, LastFinishes, following, is_finish}
+use Rattle.amqp_outgoing.specs.Marks.{then_of}
+use Rattle.amqp_rules.specs.Writing.{follow, sent, sent_among, taken}
 use Rattle.amqp_carried_rules.specs.CommandFrames.{is_raw}
 use Rattle.amqp_types.proofs.Small.{if-true, if-false}
-use Rattle.amqp_session.proofs.Sending.{pay-keeps}
-use Rattle.amqp_session.proofs.Finishing.{sent-committed}
+use Rattle.amqp_rules.proofs.Sending.{pay-keeps}
+use Rattle.amqp_rules.proofs.Finishing.{sent-committed}
 use Rattle.amqp_carried_rules.proofs.Bearing.{Reading, IsAt}
 use Rattle.amqp_carried_rules.proofs.Bearers.{moved}
 use Rattle.amqp_engine.specs.Carried.{raw_frames}

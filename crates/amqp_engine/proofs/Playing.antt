@@ -6,15 +6,15 @@ use Rattle.amqp_auth.specs.declared.asked.Question.{Question}
 use Rattle.amqp_auth.specs.declared.asked.Asked.{Asked}
 use Rattle.amqp_auth.specs.Providers.{Exchange, Allows}
 use Rattle.amqp_auth.specs.Asking.{Answer}
-use Rattle.amqp_session.specs.Talk.{has_ended, is_open}
-use Rattle.amqp_session.specs.Changes.{starve, present_at}
+use Rattle.amqp_rules.specs.Talk.{has_ended, is_open}
+use Rattle.amqp_rules.specs.Changes.{starve, present_at}
 use Rattle.amqp_engine.specs.declared.port.Step.{Step}
 use Rattle.amqp_engine.specs.declared.port.Wrote.{Wrote}
 use Rattle.amqp_engine.specs.declared.port.Wrote.TheVariants.{Took, Failed, NoMemory}
 use Rattle.amqp_engine.specs.Plan.{Plan, Coming, plan_write, plan_failure, plan_step, PlanAnswers, room_for, next_coming}
 use Rattle.amqp_engine.specs.Log.{Log, PlansWrite, log_ask, log_step, log_write}
 use Rattle.amqp_engine.specs.Engine.{Engine, can_write, overlong_next, commit_all}
-use Rattle.amqp_session.specs.Writing.{frames_waiting}
+use Rattle.amqp_rules.specs.Writing.{frames_waiting}
 use Rattle.amqp_engine.specs.Turn.{is_before, Progress, Notes, Turn, write_answers, asks, wants_ask, goes, offer_part, offered, is_all, AreAnswers, read, after_writes, turn, turns, starved_after, IsCut, IsAnswered, IsTurn, AreTurns, AreTold, AreFit, exchanges, cut_of, no_notes, cut_questions}
 use Rattle.amqp_engine.specs.Tell.{Offer, port_answer, offers_from, offers_of, turn_of, log_asks, log_stepped, log_offers, log_turn, log_turns, PlaysOffers, PlaysTurn, PlaysTurns, MayCome, RunsLent}
 use Rattle.amqp_engine.specs.Play.{offers_waiting, room_of, fails_of, played_answer, played_writes, played_step, told_turn, played_turn_of, played_turn, played_turns, answer_noted, AreAnswered, IsPlayed}
@@ -24,7 +24,7 @@ use Rattle.amqp_engine.proofs.Over.{turn-is}
 use Rattle.amqp_engine.proofs.Lifting.{read-cut}
 use Rattle.amqp_types.proofs.Small.{if_case, if_by, if-true, if-false, and-false, and-true, and-right, and-other}
 use Rattle.amqp_engine.proofs.Cases.{some-unsent}
-use Rattle.amqp_session.proofs.Keeping.{starve-ends}
+use Rattle.amqp_rules.proofs.Keeping.{starve-ends}
 use Rattle.amqp_engine.proofs.Commits.{waiting-commits}
 use Rattle.amqp_engine.proofs.Offers.{waiting-wrote, goes-answer}
 

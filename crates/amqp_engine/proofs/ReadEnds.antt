@@ -6,31 +6,31 @@ use Rattle.amqp_frame.specs.declared.frame.Read.{Read}
 use Rattle.amqp_frame.specs.declared.frame.Read.TheVariants as reading
 use Rattle.amqp_frame.specs.declared.method.Method.{Method as AnyMethod}
 use Rattle.amqp_frame.specs.declared.method.Method.TheVariants.{ChannelOpenOk, ChannelClose, ChannelCloseOk, ChannelFlow, ChannelFlowOk}
-use Rattle.amqp_session.specs.declared.misread.Misread.{Misread}
-use Rattle.amqp_session.specs.declared.misread.Misread.TheVariants as why
+use Rattle.amqp_violations.specs.declared.misread.Misread.{Misread}
+use Rattle.amqp_violations.specs.declared.misread.Misread.TheVariants as why
 use Rattle.amqp_promise.specs.declared.error.ErrorKind.{ErrorKind}
 use Rattle.amqp_promise.specs.declared.error.ErrorKind.TheVariants.{InvalidProtocolVersion, InvalidChannel, InvalidConnectionState, ProtocolError, AuthProviderError}
 use Rattle.amqp_auth.specs.declared.asked.Question.{Question}
 use Rattle.amqp_auth.specs.declared.asked.Asked.{Asked}
-use Rattle.amqp_session.specs.Talk.{Talk, is_acting, acts, hears_on, is_open, has_ended, end_of}
-use Rattle.amqp_session.specs.Negotiation.{frame_limit}
-use Rattle.amqp_session.specs.Recovery.{recovery_delay}
-use Rattle.amqp_session.specs.Changes.{present_at, lose}
-use Rattle.amqp_session.specs.Links.{dropped, misread}
-use Rattle.amqp_session.specs.Violations.{misread_error}
-use Rattle.amqp_session.specs.Frames.{questions_in, frame_rule, closed_rule, on_frame}
+use Rattle.amqp_rules.specs.Talk.{Talk, is_acting, acts, hears_on, is_open, has_ended, end_of}
+use Rattle.amqp_rules.specs.Negotiation.{frame_limit}
+use Rattle.amqp_rules.specs.Recovery.{recovery_delay}
+use Rattle.amqp_rules.specs.Changes.{present_at, lose}
+use Rattle.amqp_rules.specs.Links.{dropped, misread}
+use Rattle.amqp_violations.specs.Violations.{misread_error}
+use Rattle.amqp_rules.specs.Frames.{questions_in, frame_rule, closed_rule, on_frame}
 use Rattle.amqp_engine.specs.Plan.{at_most_64}
 use Rattle.amqp_engine.specs.Engine.{Engine, settle, front_of, can_read, read_row, read_badly, read_one, rule_at}
 use Rattle.amqp_engine.specs.Turn.{Progress, goes, reads, read_part}
-use Rattle.amqp_session.specs.Causes.{IsFrameError, IsJudgedError, IsUnawaited, IsUndue, is_awaited, refused_in}
+use Rattle.amqp_rules.specs.Causes.{IsFrameError, IsJudgedError, IsUnawaited, IsUndue, is_awaited, refused_in}
 use Rattle.amqp_engine.specs.Causes.{is_final, IsReadError}
 use Rattle.amqp_types.proofs.Small.{if_case, if_by, if-true, if-false, and-left, and-right}
-use Rattle.amqp_session.proofs.Ends.{Ends, ends-kept, ends-unrecovered, ends-to, ends-as, ends-then, ends-present}
-use Rattle.amqp_session.proofs.Keeping.{present-keeps}
+use Rattle.amqp_rules.proofs.Ends.{Ends, ends-kept, ends-unrecovered, ends-to, ends-as, ends-then, ends-present}
+use Rattle.amqp_rules.proofs.Keeping.{present-keeps}
 use Rattle.amqp_frame.proofs.FrontStays.{is_memory, says-front}
 use Rattle.amqp_engine.proofs.Settling.{settle-talk}
-use Rattle.amqp_session.proofs.FrameErrors.{frame-errors}
-use Rattle.amqp_session.proofs.FrameEnds.{end-closed}
+use Rattle.amqp_rules.proofs.FrameErrors.{frame-errors}
+use Rattle.amqp_rules.proofs.FrameEnds.{end-closed}
 
 -- ---- the errors of a frame
 

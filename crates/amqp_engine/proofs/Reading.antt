@@ -3,18 +3,18 @@ use Rattle.std.proofs.Common.{◌≡◌, ◌≤◌, ◌<◌, ℕ, zero, suc, ◌
 use Rattle.amqp_frame.specs.declared.frame.Read.{Read}
 use Rattle.amqp_frame.specs.declared.frame.Read.TheVariants.{Whole, More, TooLarge, BadHeartbeat, Bad, NoMemory}
 use Rattle.amqp_frame.specs.FrameReading.{front}
-use Rattle.amqp_session.specs.declared.state.Input.{Input}
-use Rattle.amqp_session.specs.declared.state.Input.TheVariants.{Acting, Closed, Dropped}
-use Rattle.amqp_session.specs.declared.misread.Misread.{Misread}
-use Rattle.amqp_session.specs.declared.misread.Misread.TheVariants as why
+use Rattle.amqp_rules.specs.declared.state.Input.{Input}
+use Rattle.amqp_rules.specs.declared.state.Input.TheVariants.{Acting, Closed, Dropped}
+use Rattle.amqp_violations.specs.declared.misread.Misread.{Misread}
+use Rattle.amqp_violations.specs.declared.misread.Misread.TheVariants as why
 use Rattle.amqp_auth.specs.declared.asked.Question.{Question}
 use Rattle.amqp_auth.specs.declared.asked.Asked.{Asked}
-use Rattle.amqp_session.specs.Talk.{Talk, is_open, is_acting, acts, is_dropped_input}
-use Rattle.amqp_session.specs.Changes.{present_at, lose}
-use Rattle.amqp_session.specs.Links.{misread, dropped}
-use Rattle.amqp_session.specs.Violations.{misread_error}
-use Rattle.amqp_session.specs.Frames.{on_frame}
-use Rattle.amqp_session.specs.Negotiation.{frame_limit}
+use Rattle.amqp_rules.specs.Talk.{Talk, is_open, is_acting, acts, is_dropped_input}
+use Rattle.amqp_rules.specs.Changes.{present_at, lose}
+use Rattle.amqp_rules.specs.Links.{misread, dropped}
+use Rattle.amqp_violations.specs.Violations.{misread_error}
+use Rattle.amqp_rules.specs.Frames.{on_frame}
+use Rattle.amqp_rules.specs.Negotiation.{frame_limit}
 use Rattle.amqp_engine.specs.Plan.{at_most_64}
 use Rattle.amqp_engine.specs.Engine.{Engine, front_of, can_read, is_more, read_one, read_questions, read_row, read_badly, settle, rule_at}
 use Rattle.amqp_engine.specs.Turn.{Progress, reads, reading, goes, read_part, is_before}
@@ -23,8 +23,8 @@ use Rattle.amqp_types.proofs.Small.{if_by, if-true, if-false, and-false, and-tru
 use Rattle.amqp_engine.proofs.Cases.{is_before-Reaches}
 use Rattle.amqp_frame.proofs.FrontStays.{says-front, front-none}
 use Rattle.amqp_engine.proofs.Settling.{settle-talk, settle-unread, settle-settled, settle-starved}
-use Rattle.amqp_session.proofs.Keeping.{present-keeps}
-use Rattle.amqp_session.proofs.Recovering.{lose-case}
+use Rattle.amqp_rules.proofs.Keeping.{present-keeps}
+use Rattle.amqp_rules.proofs.Recovering.{lose-case}
 
 -- where nothing can be read, reading is over
 pub reads-rest : (n : ℕ) (p : Progress) → can_read p.engine ≡ false → reads n p ≡ p

@@ -4,9 +4,9 @@ use Rattle.std.specs.Prelude.{map}
 use Rattle.amqp_frame.specs.declared.frame.Frame.{Frame}
 use Rattle.amqp_auth.specs.declared.asked.Asked.{Asked}
 use Rattle.amqp_auth.specs.Asking.{Answer}
-use Rattle.amqp_session.specs.Config.{Options}
-use Rattle.amqp_session.specs.Sound.{IsSound}
-use Rattle.amqp_session.specs.Talk.{Talk, has_ended}
+use Rattle.amqp_settings.specs.Config.{Options}
+use Rattle.amqp_rules.specs.Sound.{IsSound}
+use Rattle.amqp_rules.specs.Talk.{Talk, has_ended}
 use Rattle.amqp_faultless.specs.Faultless.{Server, ServerStage, AreSayable}
 use Rattle.amqp_faultless.specs.Faultless.ServerStage.{Gone}
 use Rattle.amqp_types.proofs.Small.{if-true, if-false}

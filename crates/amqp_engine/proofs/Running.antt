@@ -6,14 +6,14 @@ use Rattle.amqp_auth.specs.Providers.{Exchange, Allows}
 use Rattle.std.specs.List.{AllByRecursion}
 use Rattle.amqp_types.specs.Forms.{IsOctets}
 use Rattle.amqp_written_rules.specs.Sayable.{CanBeAnswered}
-use Rattle.amqp_session.specs.Changes.{starve, present_at}
-use Rattle.amqp_session.specs.Talk.{has_ended}
+use Rattle.amqp_rules.specs.Changes.{starve, present_at}
+use Rattle.amqp_rules.specs.Talk.{has_ended}
 use Rattle.amqp_engine.specs.declared.port.Step.{Step}
 use Rattle.amqp_engine.specs.Log.{Log, log_step, PlansStep}
 use Rattle.amqp_engine.specs.Engine.{Engine, starve_at}
 use Rattle.amqp_engine.specs.Turn.{Turn, Notes, StepCanBeTold, IsFit, asks, after_writes, starved_after, turn, turns, IsTurn, IsTold, AreTurns, AreTold, AreFit, exchange_of, exchanges, cut_of, Leads}
 use Rattle.amqp_engine.specs.Tell.{Tells, turn_of, log_asks, log_offers, log_turn, log_turns, offers_of, PlaysOffers, PlaysTurn, PlaysTurns, TellsOffers, TellsTurn, TellsTurns, MayCome, AppliesNoted, AppliesLent, TakesTurnLent, Runs}
-use Rattle.amqp_session.proofs.Keeping.{starve-ends}
+use Rattle.amqp_rules.proofs.Keeping.{starve-ends}
 use Rattle.amqp_engine.proofs.Over.{turn-is}
 use Rattle.amqp_engine.proofs.Telling.{tells-then, tells-as, tells-freely}
 
@@ -150,11 +150,6 @@ turns-of e e1 e' log asked stepped last at step bytes bytes' notes before after 
       };
       exchanged = f.exchanged;
     }
-
--- a turn with these notes is one with some
-pub noted-lent : (at : ℕ) (step : Step) (bytes : List ℕ) (notes : Notes) (e e' : Engine) (log log' : Option Log) (before after : Exchange → Type 0)
-    → AppliesNoted at step bytes notes e e' log log' before after → AppliesLent at step bytes e e' log log' before after
-noted-lent at step bytes notes e e' log log' before after h = (notes, h)
 
 -- ---- what was asked
 

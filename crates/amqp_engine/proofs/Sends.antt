@@ -1,24 +1,24 @@
 -- What was sent on each link, turn by turn.
 use Rattle.std.proofs.Common.{◌≡◌, ℕ, ◌==◌, if◌then◌else◌, true, false, List, [], ◌∷◌, ◌++◌, length, drop, Some, refl, ap, sym, ◌∙◌, subst}
 use Rattle.std.specs.List.{AllByRecursion}
-use Rattle.amqp_session.specs.declared.committed.Mark.{Mark}
+use Rattle.amqp_outgoing.specs.declared.committed.Mark.{Mark}
 use Rattle.amqp_auth.specs.declared.asked.Asked.{Asked}
-use Rattle.amqp_session.specs.Talk.{Talk, is_open, is_asked}
-use Rattle.amqp_session.specs.Changes.{present_at}
-use Rattle.amqp_session.specs.Links.{asked, linked}
+use Rattle.amqp_rules.specs.Talk.{Talk, is_open, is_asked}
+use Rattle.amqp_rules.specs.Changes.{present_at}
+use Rattle.amqp_rules.specs.Links.{asked, linked}
 use Rattle.amqp_engine.specs.declared.port.Step.{Step}
 use Rattle.amqp_engine.specs.declared.port.Step.TheVariants.{Linked, LinkFailed, Piece, End, Fault, Room, Tick, Command}
 use Rattle.amqp_engine.specs.declared.port.Wrote.{Wrote}
 use Rattle.amqp_engine.specs.Log.{on_last, TookAtMost}
 use Rattle.amqp_engine.specs.Engine.{Engine, with_talk, rule_at, step_engine, step_linked, read_one, settle, commit_all, ended_overlong, can_write, taken_by, starve_at}
-use Rattle.amqp_session.specs.Writing.{frames_waiting, end_overlong}
+use Rattle.amqp_rules.specs.Writing.{frames_waiting, end_overlong}
 use Rattle.amqp_engine.specs.Turn.{Turn, write_answers, Progress, asks, wants_ask, offer_part, offered, answered, read, turn, AreTurns}
 use Rattle.amqp_engine.specs.Sending.{Sending, nothing_sent, offer_sending, offers_sending, step_sending, sendings_from, SendsInOrder}
 use Rattle.amqp_types.proofs.Small.{if_case, if_by, if-true, and-left, all-push}
 use Rattle.amqp_engine.proofs.Settling.{settle-talk}
-use Rattle.amqp_session.proofs.Keeping.{present-keeps, starve-ends}
-use Rattle.amqp_session.proofs.Sending.{left_after}
-use Rattle.amqp_session.proofs.Lacking.{asked-open}
+use Rattle.amqp_rules.proofs.Keeping.{present-keeps, starve-ends}
+use Rattle.amqp_rules.proofs.Sending.{left_after}
+use Rattle.amqp_rules.proofs.Lacking.{asked-open}
 use Rattle.amqp_engine.proofs.Commits.{commits-keep}
 use Rattle.amqp_engine.proofs.Over.{ended-closed}
 use Rattle.amqp_engine.proofs.Sent.{on_last-append}

@@ -7,11 +7,11 @@ use Rattle.std.proofs.Math.Seq.{drop-append_seam, drop-append-add, set-append_se
 use Rattle.amqp_frame.specs.Frames.{encoding}
 use Rattle.amqp_outbox.specs.declared.item.Item.{Item}
 use Rattle.amqp_outbox.specs.Items.{size_of}
-use Rattle.amqp_session.specs.declared.committed.Mark.{Mark}
+use Rattle.amqp_outgoing.specs.declared.committed.Mark.{Mark}
 use Rattle.amqp_engine.specs.Log.{last_set, on_last}
 use Rattle.amqp_engine.specs.Sending.{encodings, sent_in, IsBegun}
 use Rattle.amqp_types.proofs.Small.{if-true, if-false, if-both}
-use Rattle.amqp_session.proofs.Sending.{left_after}
+use Rattle.amqp_rules.proofs.Sending.{left_after}
 use Rattle.amqp_engine.proofs.Commits.{encoding-some}
 
 -- ---- the last of a list
@@ -85,10 +85,6 @@ pub record Advances (last : List ℕ) (fs : List Item) (bytes : List ℕ) (n : �
   pub left : encodings rest ≡ part ++ drop n bytes
   pub count : length last + n ≡ length (encodings sent ++ part)
   pub number : count_in n (lefts_of last fs) ≡ length sent
-
-no-list : (xs : List ℕ) → length xs ≤ 0 → xs ≡ []
-no-list [] h = refl
-no-list (x ∷ xs) h = absurd (omega arith)
 
 length-some : (xs : List ℕ) → xs ≢ [] → 0 < length xs
 length-some [] h = absurd (h refl)

@@ -5,8 +5,8 @@ use Rattle.amqp_frame.specs.declared.frame.Read.TheVariants.{Whole}
 use Rattle.amqp_frame.specs.FrameReading.{front}
 use Rattle.amqp_frame.specs.Frames.{FrameOf}
 use Rattle.amqp_frame.proofs.FrontLaws.{front_again, within_all}
-use Rattle.amqp_session.specs.Talk.{is_open}
-use Rattle.amqp_session.specs.Negotiation.{frame_limit}
+use Rattle.amqp_rules.specs.Talk.{is_open}
+use Rattle.amqp_rules.specs.Negotiation.{frame_limit}
 use Rattle.amqp_faultless.specs.Faultless.{Server}
 use Rattle.amqp_engine.specs.Engine.{Engine, front_of, is_more, can_read}
 use Rattle.amqp_engine.proofs.Follows.{front-begun}

@@ -1,6 +1,6 @@
 -- What settling leaves as it is.
 use Rattle.std.proofs.Common.{◌≡◌, ◌≤◌, ◌&&◌, not, if◌then◌else◌, Bool, true, false, [], ℕ, List, length, refl, ap, sym, ◌∙◌, arith}
-use Rattle.amqp_session.specs.Talk.{is_open, drops_input}
+use Rattle.amqp_rules.specs.Talk.{is_open, drops_input}
 use Rattle.amqp_engine.specs.Engine.{Engine, settle}
 use Rattle.amqp_engine.specs.Making.{keeps_unread, IsSettled}
 use Rattle.amqp_types.proofs.Small.{if_case, if-true, if-false}

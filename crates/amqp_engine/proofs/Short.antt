@@ -1,8 +1,8 @@
 -- An engine none of whose frames that wait is longer than the capacity.
 use Rattle.std.proofs.Common.{◌≡◌, ℕ, zero, suc, List, Option, Some, None, refl, sym, subst}
 use Rattle.amqp_outbox.specs.declared.item.Item.{Item}
-use Rattle.amqp_session.specs.Writing.{frames_waiting}
-use Rattle.amqp_session.proofs.Finishing.{next-first}
+use Rattle.amqp_rules.specs.Writing.{frames_waiting}
+use Rattle.amqp_rules.proofs.Finishing.{next-first}
 use Rattle.amqp_faultless.proofs.Fitting.{Fit, IsFit, fit-next}
 use Rattle.amqp_engine.specs.Engine.{Engine, fitting_next, commit_one, commits, commit_all, overlong_next}
 use Rattle.amqp_engine.proofs.Commits.{with_frame, commit_one-is}

@@ -2,14 +2,14 @@
 use Rattle.std.proofs.Common.{◌≡◌, ℕ, zero, suc, ◌-◌, length, Option, Some, None, refl, sym, subst}
 use Rattle.std.specs.Prelude.{option_to_list}
 use Rattle.amqp_outbox.specs.declared.item.Item.{Item}
-use Rattle.amqp_session.specs.Writing.{next_out, frames_waiting}
-use Rattle.amqp_session.specs.Writing.{committed_as as committed_in_session}
+use Rattle.amqp_rules.specs.Writing.{next_out, frames_waiting}
+use Rattle.amqp_rules.specs.Writing.{committed_as as committed_in_session}
 use Rattle.amqp_faultless.specs.Faultless.{Server, said_to}
 use Rattle.amqp_faultless.proofs.Greeted.{IsMet}
 use Rattle.amqp_faultless.proofs.Speaks.{met-commit, said_all, said_all-append}
 use Rattle.amqp_engine.specs.Engine.{Engine, fitting_next, committed_with_bytes, commit_one, commits, commit_all}
 use Rattle.amqp_engine.specs.Sending.{committed_in, committed_before}
-use Rattle.amqp_session.proofs.Finishing.{fitting-some}
+use Rattle.amqp_rules.proofs.Finishing.{fitting-some}
 
 -- ---- all that fits is committed
 

@@ -14,7 +14,7 @@ use Rattle.amqp_frame.specs.Sequences.SequenceEnd.{Complete, Cut}
 use Rattle.amqp_frame.proofs.FrontLaws.{front_again}
 use Rattle.amqp_frame.proofs.Sequences.{front-stays, frame-size}
 use Rattle.amqp_outbox.specs.declared.item.Item.{Item}
-use Rattle.amqp_session.specs.Talk.{Talk, is_open}
+use Rattle.amqp_rules.specs.Talk.{Talk, is_open}
 use Rattle.amqp_written_rules.specs.Sayable.{CanBeSaid}
 use Rattle.amqp_engine.specs.Log.{Log}
 use Rattle.amqp_engine.specs.Engine.{Engine, begin}

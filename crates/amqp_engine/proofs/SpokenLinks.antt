@@ -4,12 +4,12 @@ use Rattle.std.specs.List.{AllByRecursion}
 use Rattle.amqp_frame.specs.declared.frame.Frame.{Frame}
 use Rattle.amqp_frame.specs.declared.frame.Read.TheVariants.{Whole}
 use Rattle.amqp_frame.specs.FrameReading.{front}
-use Rattle.amqp_session.specs.declared.command.Cmd.{Cmd}
-use Rattle.amqp_session.specs.declared.command.Cmd.TheVariants.{Listen}
-use Rattle.amqp_session.specs.Config.{Config}
-use Rattle.amqp_session.specs.Talk.{Talk, start, has_ended}
-use Rattle.amqp_session.specs.Commands.{command}
-use Rattle.amqp_session.specs.Answers.{take_answer, take_event, take_frames}
+use Rattle.amqp_commands.specs.declared.command.Cmd.{Cmd}
+use Rattle.amqp_commands.specs.declared.command.Cmd.TheVariants.{Listen}
+use Rattle.amqp_settings.specs.Config.{Config}
+use Rattle.amqp_rules.specs.Talk.{Talk, start, has_ended}
+use Rattle.amqp_rules.specs.Commands.{command}
+use Rattle.amqp_rules.specs.Answers.{take_answer, take_event, take_frames}
 use Rattle.amqp_written_rules.specs.Sayable.{CanBeTold}
 use Rattle.amqp_written_rules.proofs.Spoken.{Sayings, Spoken, Quiet, Now, IsSpoken, spoken-is}
 use Rattle.amqp_written_rules.proofs.OnLinks.{stays-moment, stays-asked, stays-failed, stays-piece, stays-lost, stays-misread, stays-taken, stays-answer, stays-frames, start-quiet, linked-spoken, commit-spoken}

@@ -1,9 +1,9 @@
 -- Memory that was refused before a turn.
 use Rattle.std.proofs.Common.{◌≡◌, ℕ, if◌then◌else◌, Bool, true, false, List, [], true≢false, refl, ap, sym, ◌∙◌, subst, append-nil, arith}
-use Rattle.amqp_session.specs.declared.command.Cmd.{Cmd}
-use Rattle.amqp_session.specs.Talk.{has_ended}
-use Rattle.amqp_session.specs.Changes.{present_at}
-use Rattle.amqp_session.proofs.Keeping.{starve-ends}
+use Rattle.amqp_commands.specs.declared.command.Cmd.{Cmd}
+use Rattle.amqp_rules.specs.Talk.{has_ended}
+use Rattle.amqp_rules.specs.Changes.{present_at}
+use Rattle.amqp_rules.proofs.Keeping.{starve-ends}
 use Rattle.amqp_engine.specs.declared.port.Step.TheVariants.{Tick}
 use Rattle.amqp_engine.specs.Log.{Log}
 use Rattle.amqp_engine.specs.Engine.{Engine, starve_at, starved_before}

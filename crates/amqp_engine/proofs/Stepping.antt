@@ -2,19 +2,19 @@
 use Rattle.std.proofs.Common.{◌≡◌, ℕ, if◌then◌else◌, true, false, List, [], ◌++◌, None, refl, ap, sym, ◌∙◌, subst}
 use Rattle.amqp_frame.specs.declared.frame.Frame.{Frame}
 use Rattle.amqp_auth.specs.declared.asked.Asked.{Asked}
-use Rattle.amqp_session.specs.declared.command.Cmd.{Cmd}
-use Rattle.amqp_session.specs.Config.{Options}
-use Rattle.amqp_session.specs.Sound.{IsSound}
-use Rattle.amqp_session.specs.Talk.{Talk, is_open}
-use Rattle.amqp_session.specs.Changes.{present_at}
-use Rattle.amqp_session.specs.Commands.{command}
-use Rattle.amqp_session.specs.Links.{piece}
-use Rattle.amqp_session.specs.Ticks.{is_missed, tick}
+use Rattle.amqp_commands.specs.declared.command.Cmd.{Cmd}
+use Rattle.amqp_settings.specs.Config.{Options}
+use Rattle.amqp_rules.specs.Sound.{IsSound}
+use Rattle.amqp_rules.specs.Talk.{Talk, is_open}
+use Rattle.amqp_rules.specs.Changes.{present_at}
+use Rattle.amqp_rules.specs.Commands.{command}
+use Rattle.amqp_rules.specs.Links.{piece}
+use Rattle.amqp_rules.specs.Ticks.{is_missed, tick}
 use Rattle.amqp_faultless.specs.Faultless.{Server, AreSayable}
 use Rattle.amqp_types.proofs.Small.{if_case, if-true}
-use Rattle.amqp_session.proofs.SoundChanges.{sound-present}
-use Rattle.amqp_session.proofs.SoundCommands.{sound-command}
-use Rattle.amqp_session.proofs.Soundness.{sound-piece, sound-tick}
+use Rattle.amqp_rules.proofs.SoundChanges.{sound-present}
+use Rattle.amqp_rules.proofs.SoundCommands.{sound-command}
+use Rattle.amqp_rules.proofs.Soundness.{sound-piece, sound-tick}
 use Rattle.amqp_faultless.proofs.Greeted.{IsMet}
 use Rattle.amqp_faultless.proofs.Tells.{met-present}
 use Rattle.amqp_faultless.proofs.Modest.{Modest}

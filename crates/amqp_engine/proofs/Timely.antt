@@ -2,9 +2,9 @@
 use Rattle.std.proofs.Common.{◌≡◌, ◌≢◌, ◌≤◌, inl, inr, ℕ, zero, suc, ◌*◌, ◌-◌, ◌==◌, ◌&&◌, not, nat_lt, max, if◌then◌else◌, Bool, true, false, List, [], ◌∷◌, ◌++◌, Some, refl, ap, sym, ◌∙◌, subst, arith}
 use Rattle.std.proofs.lemmas.Bool.Decides.{nat_tests}
 use Rattle.std.specs.List.{flat_map}
-use Rattle.amqp_session.specs.Talk.{Talk, has_ended}
-use Rattle.amqp_session.specs.Changes.{present_at}
-use Rattle.amqp_session.specs.Ticks.{is_connected, is_missed, tick}
+use Rattle.amqp_rules.specs.Talk.{Talk, has_ended}
+use Rattle.amqp_rules.specs.Changes.{present_at}
+use Rattle.amqp_rules.specs.Ticks.{is_connected, is_missed, tick}
 use Rattle.amqp_types.proofs.Small.{if-false}
 use Rattle.amqp_faultless.proofs.Clock.{IsClock}
 use Rattle.amqp_engine.specs.declared.port.Step.TheVariants.{Tick}

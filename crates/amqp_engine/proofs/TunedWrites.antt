@@ -6,13 +6,13 @@ use Rattle.amqp_frame.specs.declared.frame.Frame.{Frame}
 use Rattle.amqp_frame.specs.declared.frame.Frame.TheVariants.{Method}
 use Rattle.amqp_frame.specs.declared.method.Method.TheVariants.{TuneOk}
 use Rattle.amqp_outbox.specs.declared.item.Item.{Item}
-use Rattle.amqp_session.specs.declared.committed.Mark.{Mark}
-use Rattle.amqp_session.specs.Talk.{Talk}
-use Rattle.amqp_session.specs.Changes.{present_at}
-use Rattle.amqp_session.specs.Sound.{IsSound}
-use Rattle.amqp_session.specs.Writing.{next_out, frames_waiting, taken, committed_as as committed_in_session}
+use Rattle.amqp_outgoing.specs.declared.committed.Mark.{Mark}
+use Rattle.amqp_rules.specs.Talk.{Talk}
+use Rattle.amqp_rules.specs.Changes.{present_at}
+use Rattle.amqp_rules.specs.Sound.{IsSound}
+use Rattle.amqp_rules.specs.Writing.{next_out, frames_waiting, taken, committed_as as committed_in_session}
 use Rattle.amqp_faultless.specs.Faultless.{Server, said_to}
-use Rattle.amqp_session.proofs.Keeping.{present-keeps}
+use Rattle.amqp_rules.proofs.Keeping.{present-keeps}
 use Rattle.amqp_faultless.proofs.Greeted.{IsMet}
 use Rattle.amqp_faultless.proofs.Speaks.{GoOn, said_all, said_all-append}
 use Rattle.amqp_faultless.proofs.Tuned.{first_tune, Tuned}
@@ -23,7 +23,7 @@ use Rattle.amqp_engine.specs.Valid.{agreed_heartbeat, agreed_frame_max}
 use Rattle.amqp_engine.proofs.Settling.{settle-talk}
 use Rattle.amqp_engine.proofs.SpeaksAll.{met-commits, met-commit-all}
 use Rattle.amqp_engine.proofs.Goes.{sound-goes, sound-commit-all}
-use Rattle.amqp_session.proofs.Finishing.{fitting-some}
+use Rattle.amqp_rules.proofs.Finishing.{fitting-some}
 
 -- ---- the numbers that are agreed
 

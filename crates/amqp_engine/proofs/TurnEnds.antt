@@ -1,47 +1,47 @@
 -- How a turn, and a run of turns, may end a session.
 use Rattle.std.proofs.Common.{◌≡◌, ◌⊎◌, inl, inr, ℕ, ◌-◌, ◌==◌, ◌&&◌, ◌||◌, not, nat_le, Bool, true, false, if◌then◌else◌, IsTrue, List, [], ◌∷◌, ◌++◌, length, drop, map, Option, Some, None, Err, is_some, is_none, true≢false, refl, ap, sym, ◌∙◌, subst, Result, Ok}
 use Rattle.amqp_types.specs.declared.error.AMQPError.{AMQPError}
-use Rattle.amqp_session.specs.declared.committed.Mark.{Mark}
-use Rattle.amqp_session.specs.declared.committed.Then.{Then}
-use Rattle.amqp_session.specs.declared.committed.Then.TheVariants.{Nothing, Answer, Pays, Finish}
+use Rattle.amqp_outgoing.specs.declared.committed.Mark.{Mark}
+use Rattle.amqp_outgoing.specs.declared.committed.Then.{Then}
+use Rattle.amqp_outgoing.specs.declared.committed.Then.TheVariants.{Nothing, Answer, Pays, Finish}
 use Rattle.amqp_frame.specs.declared.frame.Read.{Read}
 use Rattle.amqp_frame.specs.declared.frame.Read.TheVariants as reading
-use Rattle.amqp_session.specs.declared.state.Link.{Link}
-use Rattle.amqp_session.specs.declared.state.Link.TheVariants.{Due, Wanted, Open}
+use Rattle.amqp_rules.specs.declared.state.Link.{Link}
+use Rattle.amqp_rules.specs.declared.state.Link.TheVariants.{Due, Wanted, Open}
 use Rattle.amqp_promise.specs.declared.io_fault.IoFault.{IoFault}
 use Rattle.amqp_promise.specs.declared.io_fault.IoFault.TheVariants.{Aborted, Refused, Reset, BrokenPipe}
-use Rattle.amqp_session.specs.declared.server_close.ServerClose.{ServerClose}
-use Rattle.amqp_session.specs.declared.server_close.ServerClose.TheVariants.{WithoutError, WithError}
+use Rattle.amqp_violations.specs.declared.server_close.ServerClose.{ServerClose}
+use Rattle.amqp_violations.specs.declared.server_close.ServerClose.TheVariants.{WithoutError, WithError}
 use Rattle.amqp_promise.specs.declared.error.ErrorKind.{ErrorKind}
 use Rattle.amqp_promise.specs.declared.error.ErrorKind.TheVariants.{IOError, ProtocolError, SerialisationError, MissingHeartbeatError, NoMemory, OutOfTurns, ChannelsLimitReached}
 use Rattle.amqp_auth.specs.declared.asked.Asked.{Asked}
-use Rattle.amqp_session.specs.Talk.{Talk, has_ended, is_open, is_acting, acts, is_asked, end_of, end_of_link}
-use Rattle.amqp_session.specs.Channels.{channel_at}
-use Rattle.amqp_session.specs.Changes.{present_at, queue, fail, lose, finish, finish_by, starve}
-use Rattle.amqp_session.specs.Recovery.{next_delay}
-use Rattle.amqp_session.specs.Links.{linked, refused_after, link_failed, piece, lost}
+use Rattle.amqp_rules.specs.Talk.{Talk, has_ended, is_open, is_acting, acts, is_asked, end_of, end_of_link}
+use Rattle.amqp_rules.specs.Channels.{channel_at}
+use Rattle.amqp_rules.specs.Changes.{present_at, queue, fail, lose, finish, finish_by, starve}
+use Rattle.amqp_rules.specs.Recovery.{next_delay}
+use Rattle.amqp_rules.specs.Links.{linked, refused_after, link_failed, piece, lost}
 use Rattle.amqp_frame.specs.declared.frame.Frame.TheVariants.{Heartbeat}
-use Rattle.amqp_session.specs.Ticks.{is_missed, is_heartbeat_due, missing_heartbeat, beat, refreshed, link_at, timed, tick}
-use Rattle.amqp_session.specs.Commands.{command}
-use Rattle.amqp_session.specs.Writing.{follow, sent, sent_among, taken, end_overlong}
+use Rattle.amqp_rules.specs.Ticks.{is_missed, is_heartbeat_due, missing_heartbeat, beat, refreshed, link_at, timed, tick}
+use Rattle.amqp_rules.specs.Commands.{command}
+use Rattle.amqp_rules.specs.Writing.{follow, sent, sent_among, taken, end_overlong}
 use Rattle.amqp_engine.specs.declared.port.Step.{Step}
 use Rattle.amqp_engine.specs.declared.port.Step.TheVariants.{Linked, LinkFailed, Piece, End, Fault, Room, Tick, Command}
 use Rattle.amqp_engine.specs.declared.port.Wrote.{Wrote}
 use Rattle.amqp_engine.specs.declared.port.Wrote.TheVariants.{Took, Failed, NoMemory as WroteNoMemory}
 use Rattle.amqp_engine.specs.Log.{Log}
 use Rattle.amqp_engine.specs.Engine.{Engine, settle, rule_at, with_talk, step_engine, step_questions, took, wrote, commit_all, overlong_next, ended_overlong, refuse_overlong}
-use Rattle.amqp_session.specs.Writing.{frames_waiting}
+use Rattle.amqp_rules.specs.Writing.{frames_waiting}
 use Rattle.amqp_engine.specs.Turn.{Turn, Notes, write_answers, Progress, asks, goes, reads, part, questioned, is_piece, step_part, is_part, begun, drain, drained, offer_part, offered, is_all, answered, read, after_writes, applied, turn, turns, starved_after, AreTurns}
 use Rattle.amqp_engine.specs.Tell.{Applies, Runs, turn_of}
 use Rattle.amqp_engine.specs.Causes.{is_final, FailsToWrite, IsReadError, Misreads, LosesClosed, IsCause, IsCaused, brought, is_tick, is_last, sends_close_ok}
-use Rattle.amqp_session.specs.Sound.{is_finish}
-use Rattle.amqp_session.proofs.Heard.{secret-case}
+use Rattle.amqp_rules.specs.Sound.{is_finish}
+use Rattle.amqp_rules.proofs.Heard.{secret-case}
 use Rattle.amqp_types.proofs.Small.{if_case, if_by, if-true, if-false, and-false, and-true, none-from, and-left, or-right}
-use Rattle.amqp_session.proofs.Keeping.{present-keeps, kept-open, off-finish, stays-command}
-use Rattle.amqp_session.proofs.Sending.{pay-keeps, follow-link}
-use Rattle.amqp_session.proofs.Recovering.{lose-case}
+use Rattle.amqp_rules.proofs.Keeping.{present-keeps, kept-open, off-finish, stays-command}
+use Rattle.amqp_rules.proofs.Sending.{pay-keeps, follow-link}
+use Rattle.amqp_rules.proofs.Recovering.{lose-case}
 use Rattle.amqp_engine.proofs.Commits.{commits-keep}
-use Rattle.amqp_session.proofs.Ends.{Ends, ends-kept, ends-fail, ends-unrecovered, ends-close, ends-as, ends-then, ends-present, ends-moment}
+use Rattle.amqp_rules.proofs.Ends.{Ends, ends-kept, ends-fail, ends-unrecovered, ends-close, ends-as, ends-then, ends-present, ends-moment}
 use Rattle.amqp_engine.proofs.ReadEnds.{final-present, ends-settled}
 use Rattle.amqp_engine.proofs.Over.{asks-end}
 use Rattle.amqp_engine.proofs.ReadEnds.{Comes, ends-reads}

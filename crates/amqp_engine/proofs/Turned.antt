@@ -4,11 +4,11 @@ use Rattle.std.proofs.lemmas.List.{map-append, take-take}
 use Rattle.amqp_frame.specs.declared.frame.Frame.{Frame}
 use Rattle.amqp_outbox.specs.declared.item.Item.{Item}
 use Rattle.amqp_auth.specs.declared.asked.Asked.{Asked}
-use Rattle.amqp_session.specs.Config.{Options}
-use Rattle.amqp_session.specs.Sound.{IsSound}
-use Rattle.amqp_session.specs.Talk.{Talk}
-use Rattle.amqp_session.specs.Changes.{present_at}
-use Rattle.amqp_session.specs.Writing.{taken}
+use Rattle.amqp_settings.specs.Config.{Options}
+use Rattle.amqp_rules.specs.Sound.{IsSound}
+use Rattle.amqp_rules.specs.Talk.{Talk}
+use Rattle.amqp_rules.specs.Changes.{present_at}
+use Rattle.amqp_rules.specs.Writing.{taken}
 use Rattle.amqp_faultless.specs.Faultless.{Server, said_to}
 use Rattle.amqp_faultless.proofs.Greeted.{IsMet}
 use Rattle.amqp_faultless.proofs.Speaks.{said-keeps, said_all}

@@ -7,23 +7,23 @@ use Rattle.amqp_promise.specs.declared.error.ErrorKind.{ErrorKind}
 use Rattle.amqp_promise.specs.declared.error.ErrorKind.TheVariants.{SerialisationError, NoMemory as MemoryError}
 use Rattle.amqp_promise.specs.declared.io_fault.IoFault.{IoFault}
 use Rattle.amqp_promise.specs.declared.io_fault.IoFault.TheVariants.{Aborted, Reset, BrokenPipe}
-use Rattle.amqp_session.specs.declared.command.Cmd.{Cmd}
-use Rattle.amqp_session.specs.declared.misread.Misread.{Misread}
-use Rattle.amqp_session.specs.declared.misread.Misread.TheVariants as misreads
+use Rattle.amqp_commands.specs.declared.command.Cmd.{Cmd}
+use Rattle.amqp_violations.specs.declared.misread.Misread.{Misread}
+use Rattle.amqp_violations.specs.declared.misread.Misread.TheVariants as misreads
 use Rattle.amqp_auth.specs.declared.asked.Asked.{Asked as ProviderAnswer}
-use Rattle.amqp_session.specs.Config.{Config}
-use Rattle.amqp_session.specs.Talk.{Talk, has_ended, is_open, is_asked}
-use Rattle.amqp_session.specs.Answers.{answer_of, take_answer, take_event}
-use Rattle.amqp_session.specs.Changes.{present_at, lose, fail}
-use Rattle.amqp_session.specs.Links.{asked, linked, link_failed, piece, misread, lost}
-use Rattle.amqp_session.specs.Listed.{without}
-use Rattle.amqp_session.specs.Frames.{on_frame}
-use Rattle.amqp_session.specs.Ticks.{tick}
-use Rattle.amqp_session.specs.Commands.{command}
-use Rattle.amqp_session.specs.Writing.{frames_waiting, taken, end_overlong}
-use Rattle.amqp_session.proofs.Keeping.{OverlooksLosses, Overlooks, overlooks-ends, present-keeps, loss-keeps, lost-keeps, failed-keeps, tick-keeps, stays-command}
-use Rattle.amqp_session.proofs.Sending.{taken-keeps}
-use Rattle.amqp_session.proofs.Walk.{ChannelRows, PassedRows, ConnectionRows, misread-keeps, start-keeps, secure-keeps, frame-keeps}
+use Rattle.amqp_settings.specs.Config.{Config}
+use Rattle.amqp_rules.specs.Talk.{Talk, has_ended, is_open, is_asked}
+use Rattle.amqp_rules.specs.Answers.{answer_of, take_answer, take_event}
+use Rattle.amqp_rules.specs.Changes.{present_at, lose, fail}
+use Rattle.amqp_rules.specs.Links.{asked, linked, link_failed, piece, misread, lost}
+use Rattle.amqp_maps.specs.Listed.{without}
+use Rattle.amqp_rules.specs.Frames.{on_frame}
+use Rattle.amqp_rules.specs.Ticks.{tick}
+use Rattle.amqp_rules.specs.Commands.{command}
+use Rattle.amqp_rules.specs.Writing.{frames_waiting, taken, end_overlong}
+use Rattle.amqp_rules.proofs.Keeping.{OverlooksLosses, Overlooks, overlooks-ends, present-keeps, loss-keeps, lost-keeps, failed-keeps, tick-keeps, stays-command}
+use Rattle.amqp_rules.proofs.Sending.{taken-keeps}
+use Rattle.amqp_rules.proofs.Walk.{ChannelRows, PassedRows, ConnectionRows, misread-keeps, start-keeps, secure-keeps, frame-keeps}
 use Rattle.amqp_engine.specs.declared.port.Step.{Step}
 use Rattle.amqp_engine.specs.declared.port.Step.TheVariants.{Linked, LinkFailed, Piece, End, Fault, Room, Tick, Command}
 use Rattle.amqp_engine.specs.declared.port.Wrote.{Wrote}

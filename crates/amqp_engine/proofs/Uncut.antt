@@ -1,6 +1,6 @@
 -- No turn that is played is cut, and once the session has ended no more are played.
 use Rattle.std.proofs.Common.{◌≡◌, ℕ, zero, suc, ◌+◌, if◌then◌else◌, Bool, true, false, List, [], ◌∷◌, length, drop, None, refl, ap, ◌∙◌, subst, arith}
-use Rattle.amqp_session.specs.Talk.{has_ended}
+use Rattle.amqp_rules.specs.Talk.{has_ended}
 use Rattle.amqp_types.proofs.Small.{if-true}
 use Rattle.amqp_auth.specs.declared.asked.Asked.{Asked}
 use Rattle.amqp_engine.specs.Plan.{Coming}

@@ -5,19 +5,20 @@ use Rattle.std.proofs.lemmas.List.{map-append}
 use Rattle.amqp_frame.specs.Frames.{encoding}
 use Rattle.amqp_outbox.specs.declared.item.Item.{Item}
 use Rattle.amqp_outbox.specs.Items.{size_of}
-use Rattle.amqp_session.specs.declared.committed.Mark.{Mark}
-use Rattle.amqp_session.specs.Talk.{Talk, is_open}
-use Rattle.amqp_session.specs.Writing.{mark_of, sent, sent_among, frames_waiting}
-use Rattle.amqp_session.specs.Writing as writing
+use Rattle.amqp_outgoing.specs.declared.committed.Mark.{Mark}
+use Rattle.amqp_rules.specs.Talk.{Talk, is_open}
+use Rattle.amqp_outgoing.specs.Marks.{mark_of}
+use Rattle.amqp_rules.specs.Writing.{sent, sent_among, frames_waiting}
+use Rattle.amqp_rules.specs.Writing as writing
 use Rattle.amqp_types.proofs.Small.{if-true, is-at-most, other-number, if_by}
 use Rattle.amqp_engine.specs.Engine.{Engine, fitting_next, committed_with_bytes, commit_one, commits, commit_all}
 use Rattle.amqp_engine.specs.Sending.{committed_in, committed_before, encodings, sent_in}
 use Rattle.amqp_engine.specs.Valid.{LinkSaying, Ours, after_sayings}
-use Rattle.amqp_session.specs.Sound.{IsSound}
-use Rattle.amqp_session.specs.Changes.{present_at}
-use Rattle.amqp_session.specs.Writing.{taken}
+use Rattle.amqp_rules.specs.Sound.{IsSound}
+use Rattle.amqp_rules.specs.Changes.{present_at}
+use Rattle.amqp_rules.specs.Writing.{taken}
 use Rattle.amqp_faultless.specs.Faultless.{Server, said_to}
-use Rattle.amqp_session.proofs.Keeping.{present-keeps}
+use Rattle.amqp_rules.proofs.Keeping.{present-keeps}
 use Rattle.amqp_faultless.proofs.Greeted.{IsMet}
 use Rattle.amqp_faultless.proofs.Tells.{met-present}
 use Rattle.amqp_faultless.proofs.Speaks.{said_all, GoOn, met-sent, sent-committed, met-taken}

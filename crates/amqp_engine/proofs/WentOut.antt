@@ -10,26 +10,27 @@ use Rattle.amqp_promise.specs.declared.io_fault.IoFault.{IoFault}
 use Rattle.amqp_promise.specs.declared.io_fault.IoFault.TheVariants.{Aborted, Reset, BrokenPipe}
 use Rattle.amqp_promise.specs.declared.error.ErrorKind.{ErrorKind}
 use Rattle.amqp_promise.specs.declared.error.ErrorKind.TheVariants.{SerialisationError}
-use Rattle.amqp_session.specs.declared.committed.Mark.{Mark}
-use Rattle.amqp_session.specs.declared.command.Cmd.{Cmd}
-use Rattle.amqp_session.specs.declared.command.Answer.{Answer}
-use Rattle.amqp_session.specs.declared.handed.Handed.{Handed}
-use Rattle.amqp_session.specs.declared.misread.Misread.{Misread}
-use Rattle.amqp_session.specs.declared.misread.Misread.TheVariants as misreads
+use Rattle.amqp_outgoing.specs.declared.committed.Mark.{Mark}
+use Rattle.amqp_commands.specs.declared.command.Cmd.{Cmd}
+use Rattle.amqp_answers.specs.declared.answer.Answer.{Answer}
+use Rattle.amqp_answers.specs.declared.handed.Handed.{Handed}
+use Rattle.amqp_violations.specs.declared.misread.Misread.{Misread}
+use Rattle.amqp_violations.specs.declared.misread.Misread.TheVariants as misreads
 use Rattle.amqp_auth.specs.declared.asked.Asked.{Asked as ProviderAnswer}
-use Rattle.amqp_session.specs.Talk.{Talk, is_open, is_asked}
-use Rattle.amqp_session.specs.Changes.{present_at, starve}
-use Rattle.amqp_session.specs.Links.{asked, linked, link_failed, piece, lost, misread}
-use Rattle.amqp_session.specs.Frames.{on_frame}
-use Rattle.amqp_session.specs.Ticks.{tick}
-use Rattle.amqp_session.specs.Sound.{IsSound}
-use Rattle.amqp_session.specs.Writing.{frames_waiting, next_out, mark_of, taken, end_overlong}
+use Rattle.amqp_rules.specs.Talk.{Talk, is_open, is_asked}
+use Rattle.amqp_rules.specs.Changes.{present_at, starve}
+use Rattle.amqp_rules.specs.Links.{asked, linked, link_failed, piece, lost, misread}
+use Rattle.amqp_rules.specs.Frames.{on_frame}
+use Rattle.amqp_rules.specs.Ticks.{tick}
+use Rattle.amqp_rules.specs.Sound.{IsSound}
+use Rattle.amqp_rules.specs.Writing.{frames_waiting, next_out, taken, end_overlong}
+use Rattle.amqp_outgoing.specs.Marks.{mark_of}
 use Rattle.amqp_types.proofs.Small.{if_case, if_by, if-true, if-false, and-left, and-right}
-use Rattle.amqp_session.proofs.SoundChanges.{sound-present, sound-starve, sound-lose}
-use Rattle.amqp_session.proofs.SoundFrames.{sound-frame}
-use Rattle.amqp_session.proofs.Soundness.{sound-commit, sound-taken, sound-asked, sound-link_failed, sound-piece, sound-lost, sound-misread, sound-tick}
-use Rattle.amqp_session.proofs.Keeping.{present-keeps, kept-open, failed-link, failed-keeps, lost-off, keeps-misread, keeps-frame, keeps-tick, off-lost, starve-ends}
-use Rattle.amqp_session.proofs.Lacking.{asked-open}
+use Rattle.amqp_rules.proofs.SoundChanges.{sound-present, sound-starve, sound-lose}
+use Rattle.amqp_rules.proofs.SoundFrames.{sound-frame}
+use Rattle.amqp_rules.proofs.Soundness.{sound-commit, sound-taken, sound-asked, sound-link_failed, sound-piece, sound-lost, sound-misread, sound-tick}
+use Rattle.amqp_rules.proofs.Keeping.{present-keeps, kept-open, failed-link, failed-keeps, lost-off, keeps-misread, keeps-frame, keeps-tick, off-lost, starve-ends}
+use Rattle.amqp_rules.proofs.Lacking.{asked-open}
 use Rattle.amqp_carried_rules.proofs.Bearing.{Reading, IsAt}
 use Rattle.amqp_carried_rules.proofs.Bearers.{at-moment, at-asked, at-failed, at-piece, at-lost, at-misread, at-frame, at-tick, at-starve, at-lose}
 use Rattle.amqp_carried_rules.proofs.Leaving.{at-commit}
@@ -52,12 +53,12 @@ use Rattle.amqp_engine.proofs.Commits.{with_frame, commit_one-is, encoding-some,
 use Rattle.amqp_engine.proofs.Lifting.{all-rest}
 use Rattle.amqp_engine.proofs.Over.{ended-closed}
 use Rattle.amqp_engine.proofs.Overlong.{closed-overlong}
-use Rattle.amqp_session.specs.Talk.{has_ended}
+use Rattle.amqp_rules.specs.Talk.{has_ended}
 use Rattle.amqp_carried_rules.specs.CommandFrames.{is_raw}
 use Rattle.amqp_engine.proofs.Sent.{on_last-append}
 use Rattle.amqp_engine.proofs.Passing.{AreMarks, sound-last, AreSentOn, taken-on}
 use Rattle.amqp_engine.proofs.Conveying.{raws, Carries, carries-rule, carries-command, carries-linked, carries-unlinked}
-use Rattle.amqp_session.proofs.Finishing.{fitting-some}
+use Rattle.amqp_rules.proofs.Finishing.{fitting-some}
 use Rattle.amqp_engine.proofs.TurnEnds.{taken-none}
 
 module _ (answers_taken : ℕ → Option (Result Answer ErrorKind)) (given : ℕ → List Handed) where

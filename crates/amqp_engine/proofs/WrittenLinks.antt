@@ -11,9 +11,9 @@ use Rattle.amqp_frame.specs.Fronts.{IsFront}
 use Rattle.amqp_frame.specs.Frames.{Writable}
 use Rattle.amqp_frame.proofs.FrontOnly.{front_holds}
 use Rattle.amqp_auth.specs.declared.asked.Asked.{Asked}
-use Rattle.amqp_session.specs.declared.command.Cmd.{Cmd}
-use Rattle.amqp_session.specs.declared.command.Cmd.TheVariants.{OpenChannel, CloseChannel, CloseConnection, UpdateSecret, Send, Publish, Flow, DropChannel, DropConnection, Listen}
-use Rattle.amqp_session.specs.Talk.{Talk}
+use Rattle.amqp_commands.specs.declared.command.Cmd.{Cmd}
+use Rattle.amqp_commands.specs.declared.command.Cmd.TheVariants.{OpenChannel, CloseChannel, CloseConnection, UpdateSecret, Send, Publish, Flow, DropChannel, DropConnection, Listen}
+use Rattle.amqp_rules.specs.Talk.{Talk}
 use Rattle.amqp_legal.specs.Agreed.{KeepsAgreed}
 use Rattle.amqp_written_rules.specs.Sayable.{CanBeSaid, CanBeTold}
 use Rattle.amqp_written_rules.proofs.Agreeing.{within-bounds, spoken-agreed}

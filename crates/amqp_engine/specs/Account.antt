@@ -3,16 +3,16 @@ use Rattle.std.specs.Prelude.{◌≡◌, ◌⊎◌, ℕ, ◌==◌, nat_lt, if◌
 use Rattle.std.specs.List.{AllByRecursion}
 use Rattle.std.specs.Option.{option_or}
 use Rattle.amqp_promise.specs.declared.error.ErrorKind.{ErrorKind}
-use Rattle.amqp_session.specs.declared.command.Cmd.{Cmd}
-use Rattle.amqp_session.specs.declared.command.Cmd.TheVariants.{Listen}
-use Rattle.amqp_session.specs.declared.command.Answer.{Answer}
-use Rattle.amqp_session.specs.declared.handed.Handed.{Handed}
-use Rattle.amqp_session.specs.Config.{Config}
+use Rattle.amqp_commands.specs.declared.command.Cmd.{Cmd}
+use Rattle.amqp_commands.specs.declared.command.Cmd.TheVariants.{Listen}
+use Rattle.amqp_answers.specs.declared.answer.Answer.{Answer}
+use Rattle.amqp_answers.specs.declared.handed.Handed.{Handed}
+use Rattle.amqp_settings.specs.Config.{Config}
 use Rattle.amqp_auth.specs.Providers.{Exchange}
-use Rattle.amqp_session.specs.Talk.{Talk, start, has_ended, is_asked, is_open, end_of}
-use Rattle.amqp_session.specs.ChannelMethods.{frames_of}
-use Rattle.amqp_session.specs.Commands.{command}
-use Rattle.amqp_session.specs.Answers.{answer_of, take_answer, take_event, take_frames}
+use Rattle.amqp_rules.specs.Talk.{Talk, start, has_ended, is_asked, is_open, end_of}
+use Rattle.amqp_rules.specs.ChannelMethods.{frames_of}
+use Rattle.amqp_rules.specs.Commands.{command}
+use Rattle.amqp_rules.specs.Answers.{answer_of, take_answer, take_event, take_frames}
 use Rattle.amqp_written_rules.specs.Sayable.{CanBeTold}
 use Rattle.amqp_carried_rules.specs.CommandFrames.{answered_command}
 use Rattle.amqp_engine.specs.declared.port.Step.{Step}

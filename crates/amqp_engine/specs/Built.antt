@@ -2,7 +2,7 @@
 -- says of the client.
 use Rattle.std.specs.Prelude.{ℕ, ◌<◌, ◌^◌, List, length}
 use Rattle.amqp_uri.specs.declared.uri.AMQPUri.{AMQPUri}
-use Rattle.amqp_session.specs.Config.{Options, no_options, with_locale, with_property, with_name, with_backoff, with_recovery, with_outbox_limit, own_numbers}
+use Rattle.amqp_settings.specs.Config.{Options, no_options, with_locale, with_property, with_name, with_backoff, with_recovery, with_outbox_limit, own_numbers}
 use Rattle.amqp_written_rules.specs.Sayable.{AreInRange}
 
 -- the numbers of an address are in the range of their types, and its virtual host is a short string

@@ -3,20 +3,20 @@ use Rattle.std.specs.Prelude.{◌≡◌, ◌⊎◌, ℕ, ◌-◌, nat_le, if◌t
 use Rattle.amqp_types.specs.declared.error.AMQPError.{AMQPError}
 use Rattle.amqp_frame.specs.declared.frame.Read.{Read}
 use Rattle.amqp_frame.specs.declared.frame.Read.TheVariants as reading
-use Rattle.amqp_session.specs.declared.committed.Mark.{Mark}
+use Rattle.amqp_outgoing.specs.declared.committed.Mark.{Mark}
 use Rattle.amqp_promise.specs.declared.io_fault.IoFault.{IoFault}
 use Rattle.amqp_promise.specs.declared.io_fault.IoFault.TheVariants.{Aborted, Refused, Reset, BrokenPipe}
-use Rattle.amqp_session.specs.declared.server_close.ServerClose.TheVariants.{WithError}
+use Rattle.amqp_violations.specs.declared.server_close.ServerClose.TheVariants.{WithError}
 use Rattle.amqp_promise.specs.declared.error.ErrorKind.{ErrorKind}
 use Rattle.amqp_promise.specs.declared.error.ErrorKind.TheVariants.{IOError, MissingHeartbeatError, NoMemory, ParsingError, ProtocolError, SerialisationError}
 use Rattle.amqp_auth.specs.declared.asked.Asked.{Asked}
-use Rattle.amqp_session.specs.Talk.{Talk, is_acting, is_asked, is_open, end_of}
-use Rattle.amqp_session.specs.Changes.{present_at}
-use Rattle.amqp_session.specs.Recovery.{next_delay, recovery_delay}
-use Rattle.amqp_session.specs.Causes.{IsFrameError}
-use Rattle.amqp_session.specs.Sound.{is_finish}
-use Rattle.amqp_session.specs.Ticks.{is_missed}
-use Rattle.amqp_session.specs.Violations.{frame_too_large, stray_heartbeat}
+use Rattle.amqp_rules.specs.Talk.{Talk, is_acting, is_asked, is_open, end_of}
+use Rattle.amqp_rules.specs.Changes.{present_at}
+use Rattle.amqp_rules.specs.Recovery.{next_delay, recovery_delay}
+use Rattle.amqp_rules.specs.Causes.{IsFrameError}
+use Rattle.amqp_rules.specs.Sound.{is_finish}
+use Rattle.amqp_rules.specs.Ticks.{is_missed}
+use Rattle.amqp_violations.specs.Violations.{frame_too_large, stray_heartbeat}
 use Rattle.amqp_engine.specs.declared.port.Step.{Step}
 use Rattle.amqp_engine.specs.declared.port.Step.TheVariants.{LinkFailed, End, Fault, Tick}
 use Rattle.amqp_engine.specs.declared.port.Wrote.{Wrote}

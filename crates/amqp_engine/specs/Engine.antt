@@ -7,18 +7,18 @@ pub use Rattle.amqp_frame.specs.Sequences.{is_more}
 use Rattle.amqp_frame.specs.Frames.{encoding}
 use Rattle.amqp_outbox.specs.declared.item.Item.{Item}
 use Rattle.amqp_promise.specs.declared.io_fault.IoFault.TheVariants.{Aborted, Reset, BrokenPipe}
-use Rattle.amqp_session.specs.declared.misread.Misread.{Misread}
-use Rattle.amqp_session.specs.declared.misread.Misread.TheVariants.{TooLarge, BadHeartbeat, Bad}
+use Rattle.amqp_violations.specs.declared.misread.Misread.{Misread}
+use Rattle.amqp_violations.specs.declared.misread.Misread.TheVariants.{TooLarge, BadHeartbeat, Bad}
 use Rattle.amqp_auth.specs.declared.asked.Question.{Question}
 use Rattle.amqp_auth.specs.declared.asked.Asked.{Asked}
-use Rattle.amqp_session.specs.Talk.{Talk, is_open, is_asked, drops_input, has_ended}
-use Rattle.amqp_session.specs.Negotiation.{frame_limit}
-use Rattle.amqp_session.specs.Changes.{present_at, starve}
-use Rattle.amqp_session.specs.Links.{linked, link_failed, piece, misread, lost}
-use Rattle.amqp_session.specs.Frames.{on_frame, frame_questions}
-use Rattle.amqp_session.specs.Ticks.{tick, tick_questions}
-use Rattle.amqp_session.specs.Commands.{command}
-use Rattle.amqp_session.specs.Writing.{frames_waiting, next_within, commit, overlong, end_overlong, taken}
+use Rattle.amqp_rules.specs.Talk.{Talk, is_open, is_asked, drops_input, has_ended}
+use Rattle.amqp_rules.specs.Negotiation.{frame_limit}
+use Rattle.amqp_rules.specs.Changes.{present_at, starve}
+use Rattle.amqp_rules.specs.Links.{linked, link_failed, piece, misread, lost}
+use Rattle.amqp_rules.specs.Frames.{on_frame, frame_questions}
+use Rattle.amqp_rules.specs.Ticks.{tick, tick_questions}
+use Rattle.amqp_rules.specs.Commands.{command}
+use Rattle.amqp_rules.specs.Writing.{frames_waiting, next_within, commit, overlong, end_overlong, taken}
 use Rattle.amqp_engine.specs.declared.port.Step.{Step}
 use Rattle.amqp_engine.specs.declared.port.Step.TheVariants.{Linked, LinkFailed, Piece, End, Fault, Room, Tick, Command}
 use Rattle.amqp_engine.specs.declared.port.Wrote.{Wrote}

@@ -8,7 +8,7 @@ use Rattle.amqp_auth.specs.declared.asked.Asked.{Asked}
 use Rattle.amqp_auth.specs.Providers.{Exchange, Allows}
 use Rattle.amqp_auth.specs.Asking.{Asks, paired}
 use Rattle.amqp_promise.specs.declared.error.ErrorKind.TheVariants.{AuthProviderError}
-use Rattle.amqp_session.specs.Talk.{Talk, is_open, drops_input, end_of}
+use Rattle.amqp_rules.specs.Talk.{Talk, is_open, drops_input, end_of}
 use Rattle.amqp_engine.specs.declared.port.Step.{Step}
 use Rattle.amqp_engine.specs.declared.port.Step.TheVariants.{Tick, Command}
 use Rattle.amqp_engine.specs.declared.port.Happening.{Happening}

@@ -5,7 +5,7 @@ use Rattle.amqp_frame.specs.Frames.{encoding, Writable}
 use Rattle.amqp_frame.specs.Fronts.{IsWithinLimit}
 use Rattle.amqp_frame.specs.Sequences.{SequenceEnd, IsSequence}
 use Rattle.amqp_frame.specs.Sequences.SequenceEnd.{Broken}
-use Rattle.amqp_session.specs.Talk.{is_asked, has_ended}
+use Rattle.amqp_rules.specs.Talk.{is_asked, has_ended}
 use Rattle.amqp_legal.specs.Legal.{Legal}
 use Rattle.amqp_legal.specs.Agreed.{KeepsAgreed}
 use Rattle.amqp_engine.specs.declared.given.Given.{Given}

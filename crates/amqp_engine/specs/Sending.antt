@@ -4,9 +4,9 @@ use Rattle.std.specs.List.{flat_map}
 use Rattle.amqp_frame.specs.declared.frame.Frame.{Frame}
 use Rattle.amqp_frame.specs.Frames.{encoding}
 use Rattle.amqp_outbox.specs.declared.item.Item.{Item}
-use Rattle.amqp_session.specs.declared.committed.Mark.{Mark}
-use Rattle.amqp_session.specs.Talk.{Talk, is_asked}
-use Rattle.amqp_session.specs.Writing.{frames_waiting}
+use Rattle.amqp_outgoing.specs.declared.committed.Mark.{Mark}
+use Rattle.amqp_rules.specs.Talk.{Talk, is_asked}
+use Rattle.amqp_rules.specs.Writing.{frames_waiting}
 use Rattle.amqp_engine.specs.declared.port.Step.{Step}
 use Rattle.amqp_engine.specs.declared.port.Step.TheVariants.{Linked}
 use Rattle.amqp_engine.specs.declared.port.Wrote.{Wrote}

@@ -4,15 +4,15 @@ use Rattle.std.specs.Prelude.{◌≡◌, ◌≢◌, ◌<◌, ◌≤◌, ℕ, zer
 use Rattle.std.specs.Option.{option_or}
 use Rattle.std.specs.List.{AllByRecursion}
 use Rattle.amqp_types.specs.Forms.{IsOctets}
-use Rattle.amqp_session.specs.Talk.{Talk, wants_link, is_asked, is_open, has_ended}
-use Rattle.amqp_session.specs.Links.{asked}
+use Rattle.amqp_rules.specs.Talk.{Talk, wants_link, is_asked, is_open, has_ended}
+use Rattle.amqp_rules.specs.Links.{asked}
 use Rattle.amqp_auth.specs.declared.asked.Question.{Question}
 use Rattle.amqp_auth.specs.declared.asked.Asked.{Asked}
 use Rattle.amqp_auth.specs.Providers.{Exchange}
 use Rattle.amqp_auth.specs.Asking.{Answer, paired}
 use Rattle.amqp_frame.specs.RawMethods.{OtherMethod}
-use Rattle.amqp_session.specs.declared.command.Cmd.{Cmd}
-use Rattle.amqp_session.specs.declared.command.Cmd.TheVariants.{Send, Publish}
+use Rattle.amqp_commands.specs.declared.command.Cmd.{Cmd}
+use Rattle.amqp_commands.specs.declared.command.Cmd.TheVariants.{Send, Publish}
 use Rattle.amqp_written_rules.specs.Sayable.{CanBeTold, CanBeAnswered}
 use Rattle.amqp_engine.specs.declared.port.Step.{Step}
 use Rattle.amqp_engine.specs.declared.port.Step.TheVariants.{Linked, LinkFailed, Piece, End, Fault, Room, Tick, Command}

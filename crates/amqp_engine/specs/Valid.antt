@@ -8,9 +8,9 @@ use Rattle.amqp_frame.specs.declared.frame.Frame.TheVariants.{Method}
 use Rattle.amqp_frame.specs.declared.method.Method.TheVariants.{TuneOk}
 use Rattle.amqp_frame.specs.Frames.{FrameOf}
 use Rattle.amqp_auth.specs.declared.asked.Asked.{Asked}
-use Rattle.amqp_session.specs.declared.command.Answer.TheVariants.{Connected}
-use Rattle.amqp_session.specs.Listed.{at}
-use Rattle.amqp_session.specs.Talk.{Talk, end_of}
+use Rattle.amqp_answers.specs.declared.answer.Answer.TheVariants.{Connected}
+use Rattle.amqp_maps.specs.Listed.{at}
+use Rattle.amqp_rules.specs.Talk.{Talk, end_of}
 use Rattle.amqp_auth.specs.Providers.{Exchange}
 use Rattle.amqp_faultless.specs.Faultless.{Server, silent, said_to, heard_from, opens_connection, AreSayable, IsShortCommand}
 use Rattle.amqp_faultless.specs.Faultless.ServerStage.{Gone}

@@ -4,11 +4,11 @@ ghost use Rattle.std.specs.Prelude.{◌≡◌, ◌≤◌, ◌<◌, ◌⊎◌, �
 ghost use Rattle.amqp_ring.specs.Ring.{capacity};
 ghost use Rattle.amqp_types.specs.declared.text.Text.{Text};
 ghost use Rattle.amqp_promise.specs.declared.io_fault.IoFault.{IoFault};
-ghost use Rattle.amqp_session.specs.Config.{config_of};
-ghost use Rattle.amqp_session.specs.Talk.{Talk, start, is_open, has_ended, end_of};
-ghost use Rattle.amqp_session.specs.ChannelMethods.{frames_of};
-ghost use Rattle.amqp_session.specs.Commands.{command as command_rule, promise_of};
-ghost use Rattle.amqp_session.specs.Answers.{HandsOut, Takes, TakesEvent, take_frames};
+ghost use Rattle.amqp_settings.specs.Config.{config_of};
+ghost use Rattle.amqp_rules.specs.Talk.{Talk, start, is_open, has_ended, end_of};
+ghost use Rattle.amqp_rules.specs.ChannelMethods.{frames_of};
+ghost use Rattle.amqp_rules.specs.Commands.{command as command_rule, promise_of};
+ghost use Rattle.amqp_rules.specs.Answers.{HandsOut, Takes, TakesEvent, take_frames};
 ghost use Rattle.amqp_engine.specs.Built.{IsSayableAddress};
 ghost use Rattle.amqp_engine.specs.Engine.{Engine, begin, with_talk, starved_before};
 ghost use Rattle.amqp_engine.specs.Turn.{asks};

@@ -4,11 +4,11 @@ ghost use Rattle.std.specs.Prelude.{◌≡◌, ℕ, ◌+◌, [], false, true, Li
 ghost use Rattle.std.specs.List.{AllByRecursion};
 ghost use Rattle.amqp_auth.specs.declared.asked.Asked.{Asked};
 ghost use Rattle.amqp_promise.specs.declared.error.ErrorKind.{ErrorKind};
-ghost use Rattle.amqp_session.specs.declared.command.Answer.TheVariants.{Connected};
-ghost use Rattle.amqp_session.specs.Listed.{at};
-ghost use Rattle.amqp_session.specs.Talk.{Talk, is_open, end_of, has_ended};
+ghost use Rattle.amqp_answers.specs.declared.answer.Answer.TheVariants.{Connected};
+ghost use Rattle.amqp_maps.specs.Listed.{at};
+ghost use Rattle.amqp_rules.specs.Talk.{Talk, is_open, end_of, has_ended};
 ghost use Rattle.amqp_uri.specs.declared.uri.AMQPUri.{AMQPUri};
-ghost use Rattle.amqp_session.specs.Config.{Options, config_of};
+ghost use Rattle.amqp_settings.specs.Config.{Options, config_of};
 ghost use Rattle.amqp_written_rules.specs.Sayable.{CanBeSaid};
 ghost use Rattle.amqp_engine.specs.Built.{IsSayableAddress, AreBuilt};
 ghost use Rattle.amqp_engine.specs.declared.given.Given.{Given};

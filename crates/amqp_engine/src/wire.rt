@@ -12,12 +12,12 @@ ghost use Rattle.std.specs.List.{AllByRecursion};
 ghost use Rattle.amqp_types.specs.Forms.{IsOctets};
 ghost use Rattle.amqp_written_rules.specs.Sayable.{CanBeAnswered};
 ghost use Rattle.amqp_ring.specs.Ring.{capacity};
-ghost use Rattle.amqp_session.specs.declared.capacity.TheConstants.{LEAST_CAPACITY};
-ghost use Rattle.amqp_session.specs.Config.{config_of};
-ghost use Rattle.amqp_session.specs.Talk.{start, is_open, has_ended};
-ghost use Rattle.amqp_session.specs.Commands.{command as command_rule, promise_of};
-ghost use Rattle.amqp_session.specs.ChannelMethods.{frames_of};
-ghost use Rattle.amqp_session.specs.Answers.{Takes, TakesEvent, take_frames};
+ghost use Rattle.amqp_settings.specs.declared.capacity.TheConstants.{LEAST_CAPACITY};
+ghost use Rattle.amqp_settings.specs.Config.{config_of};
+ghost use Rattle.amqp_rules.specs.Talk.{start, is_open, has_ended};
+ghost use Rattle.amqp_rules.specs.Commands.{command as command_rule, promise_of};
+ghost use Rattle.amqp_rules.specs.ChannelMethods.{frames_of};
+ghost use Rattle.amqp_rules.specs.Answers.{Takes, TakesEvent, take_frames};
 ghost use Rattle.amqp_engine.specs.Engine.{Engine, begin, with_talk, starve_at, starved_before};
 ghost use Rattle.amqp_engine.specs.Turn.{asks, no_notes};
 ghost use Rattle.amqp_engine.specs.Tell.{log_asks};
@@ -51,9 +51,9 @@ pub struct Wire {
 
 impl Model for Wire {
     ghost use Rattle.std.specs.Prelude.{◌≡◌, ◌≤◌, IsTrue, length};
-    ghost use Rattle.amqp_session.specs.Talk.{is_open};
-    ghost use Rattle.amqp_session.specs.Writing.{left_in};
-    ghost use Rattle.amqp_session.specs.declared.capacity.TheConstants.{LEAST_CAPACITY};
+    ghost use Rattle.amqp_rules.specs.Talk.{is_open};
+    ghost use Rattle.amqp_outgoing.specs.Marks.{left_in};
+    ghost use Rattle.amqp_settings.specs.declared.capacity.TheConstants.{LEAST_CAPACITY};
     ghost use Rattle.amqp_ring.specs.Ring.{capacity};
     ghost use Rattle.amqp_engine.specs.Engine.{Engine};
 

@@ -9,11 +9,11 @@ use Rattle.amqp_frame.specs.declared.frame.RawKind.TheVariants.{Body}
 use Rattle.amqp_frame.specs.declared.frame.Read.TheVariants.{Whole, More, TooLarge}
 use Rattle.amqp_frame.specs.Sequences.{Stand}
 use Rattle.amqp_frame.specs.FrameReading.{front, framed, sized, ended, content as content_in, method_payload}
-use Rattle.amqp_session.specs.declared.command.Cmd.{Cmd}
-use Rattle.amqp_session.specs.declared.command.Cmd.TheVariants.{OpenChannel, Send}
-use Rattle.amqp_session.specs.declared.command.Answer.{Answer}
-use Rattle.amqp_session.specs.declared.command.Answer.TheVariants as says
-use Rattle.amqp_session.specs.declared.handed.Handed.{Handed}
+use Rattle.amqp_commands.specs.declared.command.Cmd.{Cmd}
+use Rattle.amqp_commands.specs.declared.command.Cmd.TheVariants.{OpenChannel, Send}
+use Rattle.amqp_answers.specs.declared.answer.Answer.{Answer}
+use Rattle.amqp_answers.specs.declared.answer.Answer.TheVariants as says
+use Rattle.amqp_answers.specs.declared.handed.Handed.{Handed}
 use Rattle.amqp_carried_rules.specs.CommandFrames.{AreFramesOf, AreContentFrames, is_publish}
 use Rattle.amqp_carried_rules.specs.HandingOut.{handed_on}
 use Rattle.std.proofs.lemmas.Bool.{cases_eq}

@@ -7,10 +7,10 @@ use Rattle.amqp_frame.specs.declared.method.Method.TheVariants.{Tune, OpenOk, Cl
 use Rattle.amqp_uri.specs.Address.{local}
 use Rattle.amqp_auth.specs.declared.asked.Asked.{Asked}
 use Rattle.amqp_auth.specs.declared.asked.Asked.TheVariants as answer
-use Rattle.amqp_session.specs.declared.command.Cmd.TheVariants.{OpenChannel, CloseChannel, CloseConnection, Publish, Listen}
-use Rattle.amqp_session.specs.Config.{config_of, no_options}
-use Rattle.amqp_session.specs.Talk.{Talk, start as new}
-use Rattle.amqp_session.specs.Commands.{command}
+use Rattle.amqp_commands.specs.declared.command.Cmd.TheVariants.{OpenChannel, CloseChannel, CloseConnection, Publish, Listen}
+use Rattle.amqp_settings.specs.Config.{config_of, no_options}
+use Rattle.amqp_rules.specs.Talk.{Talk, start as new}
+use Rattle.amqp_rules.specs.Commands.{command}
 use Rattle.amqp_engine.specs.declared.given.Given.{Given}
 use Rattle.amqp_engine.specs.declared.given.GivenStep.{GivenStep}
 use Rattle.amqp_engine.specs.declared.given.GivenStep.TheVariants.{Link, Bytes, Tick, Command}

@@ -3,8 +3,8 @@
 ghost use Rattle.std.specs.Prelude.{◌≡◌, [], ◌∷◌, ◌++◌, List, None, Some, Ok, Err, take, codes};
 ghost use Rattle.amqp_promise.specs.declared.error.ErrorKind.TheVariants.{MissingHeartbeatError};
 ghost use Rattle.amqp_auth.specs.declared.asked.Asked.TheVariants as answer;
-ghost use Rattle.amqp_session.specs.Config.{no_options};
-ghost use Rattle.amqp_session.specs.Talk.{end_of};
+ghost use Rattle.amqp_settings.specs.Config.{no_options};
+ghost use Rattle.amqp_rules.specs.Talk.{end_of};
 ghost use Rattle.amqp_faultless.specs.Faultless.{AreSayable};
 ghost use Rattle.amqp_engine.specs.declared.given.GivenStep.TheVariants as given;
 ghost use Rattle.amqp_engine.specs.Turn.{talk};

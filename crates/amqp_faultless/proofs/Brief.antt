@@ -16,19 +16,19 @@ use Rattle.amqp_promise.specs.declared.state.ConnectionState.TheVariants.{Connec
 use Rattle.amqp_promise.specs.declared.error.ErrorKind.{ErrorKind}
 use Rattle.amqp_promise.specs.declared.error.ErrorKind.TheVariants.{MissingHeartbeatError}
 use Rattle.amqp_types.specs.declared.word.Word.TheVariants as word
-use Rattle.amqp_session.specs.declared.channels.Channel.{Channel}
-use Rattle.amqp_session.specs.declared.command.Cmd.{Cmd}
-use Rattle.amqp_session.specs.declared.command.Cmd.TheVariants.{OpenChannel, CloseChannel, CloseConnection, UpdateSecret, Send, Publish, Flow, DropChannel, DropConnection, Listen}
+use Rattle.amqp_channels.specs.declared.channels.Channel.{Channel}
+use Rattle.amqp_commands.specs.declared.command.Cmd.{Cmd}
+use Rattle.amqp_commands.specs.declared.command.Cmd.TheVariants.{OpenChannel, CloseChannel, CloseConnection, UpdateSecret, Send, Publish, Flow, DropChannel, DropConnection, Listen}
 use Rattle.amqp_auth.specs.declared.asked.Asked.{Asked as ProviderAnswer}
 use Rattle.amqp_auth.specs.declared.asked.Asked.TheVariants as answer
-use Rattle.amqp_session.specs.Config.{Options}
-use Rattle.amqp_session.specs.Talk.{Talk}
-use Rattle.amqp_session.specs.Changes.{queue, lose, next_promise}
-use Rattle.amqp_session.specs.Handshake.{our_close, our_channel_close, new_secret, channel_open, channel_flow}
-use Rattle.amqp_session.specs.Numbering.{first_number, drawn}
-use Rattle.amqp_session.specs.Publishing.{method_frame, publish_frames}
-use Rattle.amqp_session.specs.Commands.{target, open_drawn, leave_channel, close_target, drop_target, flow_target, queue_secret, update_secret, too_long, unless_too_long, too_full, unless_full, queue_send, send_target, body_limit, queue_publish, publish_target, leave_connection, command, command_rule}
-use Rattle.amqp_session.specs.Ticks.{is_missed, is_heartbeat_due, missing_heartbeat, beat, asks_validity, has_expired, refresh_reason, refresh, validity_told, tick}
+use Rattle.amqp_settings.specs.Config.{Options}
+use Rattle.amqp_rules.specs.Talk.{Talk}
+use Rattle.amqp_rules.specs.Changes.{queue, lose, next_promise}
+use Rattle.amqp_settings.specs.Handshake.{our_close, our_channel_close, new_secret, channel_open, channel_flow, refresh_reason}
+use Rattle.amqp_channels.specs.Numbering.{first_number, drawn}
+use Rattle.amqp_commands.specs.Publishing.{method_frame, publish_frames}
+use Rattle.amqp_rules.specs.Commands.{target, open_drawn, leave_channel, close_target, drop_target, flow_target, queue_secret, update_secret, too_long, unless_too_long, too_full, unless_full, queue_send, send_target, body_limit, queue_publish, publish_target, leave_connection, command, command_rule}
+use Rattle.amqp_rules.specs.Ticks.{is_missed, is_heartbeat_due, missing_heartbeat, beat, asks_validity, has_expired, refresh, validity_told, tick}
 use Rattle.amqp_faultless.specs.Faultless.{AreSayable, IsShortCommand}
 use Rattle.amqp_types.proofs.Small.{if_case}
 use Rattle.amqp_faultless.proofs.Fitting.{Fit, fit-control, fit-group, fit-left, fit-ungrouped}

@@ -2,21 +2,21 @@
 use Rattle.std.proofs.Common.{◌≡◌, ◌≤◌, ℕ, ◌-◌, ◌==◌, ◌&&◌, not, nat_le, max, if◌then◌else◌, true, false, List, [], ◌∷◌, drop, refl, sym, subst, arith}
 use Rattle.amqp_frame.specs.declared.frame.Frame.{Frame}
 use Rattle.amqp_promise.specs.declared.error.ErrorKind.{ErrorKind}
-use Rattle.amqp_session.specs.declared.command.Cmd.{Cmd}
-use Rattle.amqp_session.specs.declared.committed.Mark.{Mark}
-use Rattle.amqp_session.specs.declared.misread.Misread.{Misread}
+use Rattle.amqp_commands.specs.declared.command.Cmd.{Cmd}
+use Rattle.amqp_outgoing.specs.declared.committed.Mark.{Mark}
+use Rattle.amqp_violations.specs.declared.misread.Misread.{Misread}
 use Rattle.amqp_auth.specs.declared.asked.Asked.{Asked as ProviderAnswer}
-use Rattle.amqp_session.specs.Talk.{Talk, is_open, is_asked, has_ended}
-use Rattle.amqp_session.specs.Changes.{present_at, lose}
-use Rattle.amqp_session.specs.Commands.{command}
-use Rattle.amqp_session.specs.Frames.{on_frame}
-use Rattle.amqp_session.specs.Links.{linked, misread, piece, asked}
-use Rattle.amqp_session.specs.Ticks.{tick, is_missed}
-use Rattle.amqp_session.specs.Writing.{follow, sent, sent_among, taken}
+use Rattle.amqp_rules.specs.Talk.{Talk, is_open, is_asked, has_ended}
+use Rattle.amqp_rules.specs.Changes.{present_at, lose}
+use Rattle.amqp_rules.specs.Commands.{command}
+use Rattle.amqp_rules.specs.Frames.{on_frame}
+use Rattle.amqp_rules.specs.Links.{linked, misread, piece, asked}
+use Rattle.amqp_rules.specs.Ticks.{tick, is_missed}
+use Rattle.amqp_rules.specs.Writing.{follow, sent, sent_among, taken}
 use Rattle.amqp_types.proofs.Small.{if_case, if-true, if-false}
-use Rattle.amqp_session.proofs.Recovering.{lose-case}
-use Rattle.amqp_session.proofs.Sending.{follow-keeps}
-use Rattle.amqp_session.proofs.Walk.{ChannelRows, PassedRows, ConnectionRows, CommandRows, misread-keeps, start-keeps, secure-keeps, frame-keeps, tick-keeps, command-keeps}
+use Rattle.amqp_rules.proofs.Recovering.{lose-case}
+use Rattle.amqp_rules.proofs.Sending.{follow-keeps}
+use Rattle.amqp_rules.proofs.Walk.{ChannelRows, PassedRows, ConnectionRows, CommandRows, misread-keeps, start-keeps, secure-keeps, frame-keeps, tick-keeps, command-keeps}
 
 -- the session was told no later moment than this one, and of no earlier piece than the last; a link counts as read when it comes
 abbrev pub IsClock : ℕ → ℕ → Talk → Type 0

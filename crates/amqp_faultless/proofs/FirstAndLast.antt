@@ -4,18 +4,18 @@ use Rattle.std.specs.Prelude.{nat_lt}
 use Rattle.std.proofs.lemmas.Bool.Decides.{nat_tests}
 use Rattle.amqp_uri.specs.Query.{kept_frame_max}
 use Rattle.amqp_outbox.specs.Items.{plain_item}
-use Rattle.amqp_session.specs.declared.command.Answer.TheVariants.{Connected as AnswerConnected}
-use Rattle.amqp_session.specs.declared.committed.Mark.{Mark}
-use Rattle.amqp_session.specs.declared.committed.Then.TheVariants.{Finish}
+use Rattle.amqp_answers.specs.declared.answer.Answer.TheVariants.{Connected as AnswerConnected}
+use Rattle.amqp_outgoing.specs.declared.committed.Mark.{Mark}
+use Rattle.amqp_outgoing.specs.declared.committed.Then.TheVariants.{Finish}
 use Rattle.amqp_types.proofs.Small.{is-at-most, and-true, if-true}
 use Rattle.amqp_outbox.specs.Queued as queued
-use Rattle.amqp_session.specs.declared.server_close.ServerClose.{ServerClose}
-use Rattle.amqp_session.specs.declared.server_close.ServerClose.TheVariants.{WithoutError}
-use Rattle.amqp_session.specs.Talk.{Talk, is_open, is_asked, is_wanted_link}
-use Rattle.amqp_session.specs.Changes.{finish, finish_by, close}
-use Rattle.amqp_session.specs.Links.{linked}
-use Rattle.amqp_session.specs.Handshake.{close_ok}
-use Rattle.amqp_session.specs.Writing.{taken, writes, flows, next_out, sent_among}
+use Rattle.amqp_violations.specs.declared.server_close.ServerClose.{ServerClose}
+use Rattle.amqp_violations.specs.declared.server_close.ServerClose.TheVariants.{WithoutError}
+use Rattle.amqp_rules.specs.Talk.{Talk, is_open, is_asked, is_wanted_link}
+use Rattle.amqp_rules.specs.Changes.{finish, finish_by, close}
+use Rattle.amqp_rules.specs.Links.{linked}
+use Rattle.amqp_settings.specs.Handshake.{close_ok}
+use Rattle.amqp_rules.specs.Writing.{taken, writes, flows, next_out, sent_among}
 use Rattle.amqp_faultless.specs.Faultless.{silent}
 use Rattle.amqp_faultless.proofs.Ordinary.{First}
 use Rattle.amqp_faultless.proofs.Greeted.{IsMet, IsOver, Leaves}

@@ -6,11 +6,11 @@ use Rattle.std.proofs.lemmas.Bool.Decides.{nat_tests}
 use Rattle.amqp_outbox.specs.declared.item.Item.{Item}
 use Rattle.amqp_outbox.specs.Items.{size_of, items_of_groups}
 use Rattle.amqp_outbox.specs.Queued.{Queued, waiting_items, pushed_control, pushed_group, is_on, goes_with}
-use Rattle.amqp_session.specs.Talk.{Talk}
-use Rattle.amqp_session.specs.Changes.{without_all_on}
-use Rattle.amqp_session.specs.Writing.{fitting, next_out, next_within, longer_than, overlong}
+use Rattle.amqp_rules.specs.Talk.{Talk}
+use Rattle.amqp_rules.specs.Changes.{without_all_on}
+use Rattle.amqp_rules.specs.Writing.{fitting, next_out, next_within, longer_than, overlong}
 use Rattle.amqp_types.proofs.Small.{if-true, if-false, is-at-most}
-use Rattle.amqp_session.proofs.Finishing.{next-first}
+use Rattle.amqp_rules.proofs.Finishing.{next-first}
 
 -- ---- items of at most so many octets
 

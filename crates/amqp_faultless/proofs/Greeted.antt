@@ -1,6 +1,6 @@
 -- Where the server and the session stand, from the first frame on, and what waits before the connection is open.
 use Rattle.std.proofs.Common.{◌≡◌, ◌≤◌, ◌⊎◌, inl, inr, ℕ, zero, ◌+◌, if◌then◌else◌, Bool, true, false, true≢false, List, [], ◌∷◌, ◌++◌, Option, Some, None, Result, Ok, refl, ap, sym, ◌∙◌, subst, arith}
-use Rattle.amqp_session.specs.declared.configuration.Configuration.{Configuration}
+use Rattle.amqp_settings.specs.declared.configuration.Configuration.{Configuration}
 use Rattle.std.specs.Prelude.{min}
 use Rattle.std.specs.List.{AllByRecursion}
 use Rattle.std.proofs.lemmas.List.Sums.{sum_by-cons}
@@ -12,28 +12,28 @@ use Rattle.amqp_outbox.specs.declared.item.Item.{Item}
 use Rattle.amqp_outbox.specs.Items.{plain_item}
 use Rattle.amqp_outbox.specs.Replies.{awaited_on}
 use Rattle.amqp_outbox.specs.Queued.{Queued, only}
-use Rattle.amqp_session.specs.declared.committed.Mark.{Mark}
-use Rattle.amqp_session.specs.declared.committed.Then.TheVariants.{Nothing}
-use Rattle.amqp_session.specs.declared.state.Phase.{Phase}
-use Rattle.amqp_session.specs.declared.state.Phase.TheVariants.{AwaitStart, AwaitTune, AwaitOpenOk}
-use Rattle.amqp_session.specs.declared.state.Input.TheVariants.{Closed as ClosedInput}
-use Rattle.amqp_session.specs.declared.server_close.ServerClose.TheVariants.{WithoutError}
+use Rattle.amqp_outgoing.specs.declared.committed.Mark.{Mark}
+use Rattle.amqp_outgoing.specs.declared.committed.Then.TheVariants.{Nothing}
+use Rattle.amqp_rules.specs.declared.state.Phase.{Phase}
+use Rattle.amqp_rules.specs.declared.state.Phase.TheVariants.{AwaitStart, AwaitTune, AwaitOpenOk}
+use Rattle.amqp_rules.specs.declared.state.Input.TheVariants.{Closed as ClosedInput}
+use Rattle.amqp_violations.specs.declared.server_close.ServerClose.TheVariants.{WithoutError}
 use Rattle.amqp_promise.specs.declared.state.ConnectionState.{ConnectionState}
 use Rattle.amqp_promise.specs.declared.state.ConnectionState.TheVariants.{Initial, Connecting, Connected, Closing, Closed, Reconnecting, Error}
 use Rattle.amqp_promise.specs.declared.error.ErrorKind.{ErrorKind}
-use Rattle.amqp_session.specs.declared.command.Answer.{Answer}
-use Rattle.amqp_session.specs.declared.command.Answer.TheVariants.{Connected as AnswerConnected}
+use Rattle.amqp_answers.specs.declared.answer.Answer.{Answer}
+use Rattle.amqp_answers.specs.declared.answer.Answer.TheVariants.{Connected as AnswerConnected}
 use Rattle.amqp_auth.specs.declared.asked.Question.{Question}
 use Rattle.amqp_auth.specs.declared.asked.Question.TheVariants as question
 use Rattle.amqp_auth.specs.declared.asked.Asked.{Asked as ProviderAnswer}
 use Rattle.amqp_auth.specs.declared.asked.Asked.TheVariants as answer
-use Rattle.amqp_session.specs.Listed.{at}
-use Rattle.amqp_session.specs.Talk.{Talk, is_open, is_acting, acts as acts_on_link, end_of}
-use Rattle.amqp_session.specs.Handshake.{close_ok}
-use Rattle.amqp_session.specs.ConnectionMethods.{connection_rule}
-use Rattle.amqp_session.specs.Frames.{frame_rule, on_frame, questions_in, frame_questions, closed_rule}
-use Rattle.amqp_session.specs.Talk.{hears_on}
-use Rattle.amqp_session.specs.Writing.{then_of}
+use Rattle.amqp_maps.specs.Listed.{at}
+use Rattle.amqp_rules.specs.Talk.{Talk, is_open, is_acting, acts as acts_on_link, end_of}
+use Rattle.amqp_settings.specs.Handshake.{close_ok}
+use Rattle.amqp_rules.specs.ConnectionMethods.{connection_rule}
+use Rattle.amqp_rules.specs.Frames.{frame_rule, on_frame, questions_in, frame_questions, closed_rule}
+use Rattle.amqp_rules.specs.Talk.{hears_on}
+use Rattle.amqp_outgoing.specs.Marks.{then_of}
 use Rattle.amqp_faultless.specs.Faultless.{ServerStage, Server}
 use Rattle.amqp_faultless.specs.Faultless.ServerStage.{BeforeStart, BeforeTune, BeforeOpenOk, Serving, Gone}
 use Rattle.amqp_types.proofs.Small.{if-true, and-true}
@@ -42,7 +42,7 @@ use Rattle.amqp_legal_rules.proofs.Paying.{IsNoPayment, pays-none}
 use Rattle.amqp_faultless.proofs.Ordinary.{is_close, AreOthers, First, Ordinary, same}
 use Rattle.amqp_faultless.proofs.Uses.{Idle, act_on, acts, is_opens, lives, NoneOpens, along-dead}
 use Rattle.amqp_faultless.proofs.Served.{Serves, Channels, AreRaw, secret_by, secrets_in, IsPlain}
-use Rattle.amqp_session.proofs.Walking.{all-append}
+use Rattle.amqp_channels.proofs.Walking.{all-append}
 
 -- ---- before the connection is open
 

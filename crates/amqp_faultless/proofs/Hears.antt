@@ -7,28 +7,28 @@ use Rattle.amqp_frame.specs.declared.method.Method.TheVariants.{Start, Secure, T
 use Rattle.amqp_outbox.specs.declared.item.Item.{Item}
 use Rattle.amqp_outbox.specs.Items.{plain_item}
 use Rattle.amqp_outbox.specs.Queued.{Queued}
-use Rattle.amqp_session.specs.declared.configuration.Configuration.{Configuration}
-use Rattle.amqp_session.specs.declared.state.Phase.{Phase}
-use Rattle.amqp_session.specs.declared.state.Phase.TheVariants.{AwaitStart, AwaitTune, AwaitOpenOk}
+use Rattle.amqp_settings.specs.declared.configuration.Configuration.{Configuration}
+use Rattle.amqp_rules.specs.declared.state.Phase.{Phase}
+use Rattle.amqp_rules.specs.declared.state.Phase.TheVariants.{AwaitStart, AwaitTune, AwaitOpenOk}
 use Rattle.amqp_promise.specs.declared.state.ConnectionState.{ConnectionState}
 use Rattle.amqp_promise.specs.declared.state.ConnectionState.TheVariants.{Initial, Connecting, Connected, Closing, Closed, Reconnecting, Error}
 use Rattle.amqp_promise.specs.declared.error.ErrorKind.{ErrorKind}
-use Rattle.amqp_session.specs.declared.command.Answer.{Answer}
-use Rattle.amqp_session.specs.declared.command.Answer.TheVariants.{Connected as AnswerConnected}
+use Rattle.amqp_answers.specs.declared.answer.Answer.{Answer}
+use Rattle.amqp_answers.specs.declared.answer.Answer.TheVariants.{Connected as AnswerConnected}
 use Rattle.amqp_auth.specs.declared.asked.Question.{Question}
 use Rattle.amqp_auth.specs.declared.asked.Question.TheVariants as question
 use Rattle.amqp_auth.specs.declared.asked.Asked.{Asked as ProviderAnswer}
 use Rattle.amqp_auth.specs.declared.asked.Asked.TheVariants as answer
-use Rattle.amqp_session.specs.Listed.{at}
-use Rattle.amqp_session.specs.Talk.{Talk}
-use Rattle.amqp_session.specs.Changes.{Promises, settled, settled_by}
-use Rattle.amqp_session.specs.Negotiation.{tune}
-use Rattle.amqp_session.specs.Handshake.{start_ok, secure_ok, tune_ok, open_vhost}
-use Rattle.amqp_session.specs.ConnectionMethods.{connection_rule, on_start, on_secure, on_tune, connected, reopen_each, on_open_ok}
-use Rattle.amqp_session.specs.Frames.{method_questions, frame_rule, on_frame, questions_in, frame_questions}
+use Rattle.amqp_maps.specs.Listed.{at}
+use Rattle.amqp_rules.specs.Talk.{Talk}
+use Rattle.amqp_answers.specs.Settled.{Promises, settled, settled_by}
+use Rattle.amqp_settings.specs.Negotiation.{tune}
+use Rattle.amqp_settings.specs.Handshake.{start_ok, secure_ok, tune_ok, open_vhost}
+use Rattle.amqp_rules.specs.ConnectionMethods.{connection_rule, on_start, on_secure, on_tune, connected, reopen_each, on_open_ok}
+use Rattle.amqp_rules.specs.Frames.{method_questions, frame_rule, on_frame, questions_in, frame_questions}
 use Rattle.amqp_faultless.specs.Faultless.{ServerStage, Server, answers_to, is_frame_max, heard_from}
 use Rattle.amqp_faultless.specs.Faultless.ServerStage.{BeforeStart, BeforeTune, BeforeOpenOk, Serving}
-use Rattle.amqp_session.proofs.Numbered.{put-same}
+use Rattle.amqp_maps.proofs.Numbered.{put-same}
 use Rattle.amqp_faultless.proofs.Served.{Channels, given-by}
 use Rattle.amqp_faultless.proofs.Greeted.{Meets, IsMet, IsLimited, limit-in, Heard, meets-in, first-in, frame-acts, questions-act, connection-in, AreSaid, greets-push, greets-answered, greets-opened}
 use Rattle.amqp_faultless.proofs.WhileOpen.{heard-connected, heard-closing}

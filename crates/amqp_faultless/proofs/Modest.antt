@@ -4,23 +4,24 @@ use Rattle.amqp_frame.specs.declared.frame.Frame.{Frame}
 use Rattle.amqp_frame.specs.Frames.{encoding}
 use Rattle.amqp_outbox.specs.Items.{plain_item}
 use Rattle.amqp_outbox.specs.Queued.{Queued, waiting_items}
-use Rattle.amqp_session.specs.declared.channels.Channel.{Channel}
-use Rattle.amqp_session.specs.declared.configuration.Configuration.{Configuration}
+use Rattle.amqp_channels.specs.declared.channels.Channel.{Channel}
+use Rattle.amqp_settings.specs.declared.configuration.Configuration.{Configuration}
 use Rattle.amqp_promise.specs.declared.error.ErrorKind.{ErrorKind}
 use Rattle.amqp_promise.specs.declared.error.ErrorKind.TheVariants.{AuthProviderError}
 use Rattle.amqp_auth.specs.declared.asked.Asked.{Asked as ProviderAnswer}
 use Rattle.amqp_auth.specs.declared.asked.Asked.TheVariants as answer
-use Rattle.amqp_session.specs.Config.{Config, Options}
-use Rattle.amqp_session.specs.Talk.{Talk}
-use Rattle.amqp_session.specs.Changes.{queue, lose, without_all_on}
-use Rattle.amqp_session.specs.Handshake.{start_ok, secure_ok, tune_ok, open_vhost, channel_open, flow_ok, channel_close_ok}
-use Rattle.amqp_session.specs.ConnectionMethods.{connected, on_start, on_secure, on_tune}
-use Rattle.amqp_session.specs.ChannelMethods.{closed_by_server}
-use Rattle.amqp_session.specs.Frames.{on_frame}
-use Rattle.amqp_session.specs.Negotiation.{tune, grown_capacity}
+use Rattle.amqp_settings.specs.Config.{Config, Options}
+use Rattle.amqp_rules.specs.Talk.{Talk}
+use Rattle.amqp_rules.specs.Changes.{queue, lose, without_all_on}
+use Rattle.amqp_settings.specs.Handshake.{start_ok, secure_ok, tune_ok, open_vhost, channel_open, flow_ok, channel_close_ok}
+use Rattle.amqp_rules.specs.ConnectionMethods.{connected, on_start, on_secure, on_tune}
+use Rattle.amqp_rules.specs.ChannelMethods.{closed_by_server}
+use Rattle.amqp_rules.specs.Frames.{on_frame}
+use Rattle.amqp_settings.specs.Negotiation.{tune}
+use Rattle.amqp_rules.specs.Negotiation.{grown_capacity}
 use Rattle.amqp_faultless.specs.Faultless.{AreSayable}
-use Rattle.amqp_session.proofs.Recovering.{lose-case}
-use Rattle.amqp_session.proofs.Walk.{ChannelRows, ConnectionRows, frame-keeps}
+use Rattle.amqp_rules.proofs.Recovering.{lose-case}
+use Rattle.amqp_rules.proofs.Walk.{ChannelRows, ConnectionRows, frame-keeps}
 use Rattle.amqp_faultless.proofs.Fitting.{Fit, fit-more, fit-control, fit-channel}
 
 -- ---- how long what is said of itself is

@@ -1,21 +1,21 @@
 -- What a session says is no longer than the capacity: at its beginning, once bytes were taken, and where a link or a piece comes.
 use Rattle.std.proofs.Common.{◌≤◌, ℕ, ◌-◌, ◌==◌, ◌&&◌, not, nat_le, max, if◌then◌else◌, Bool, true, false, List, [], ◌∷◌, length, drop, Option, Some, None, refl, arith}
 use Rattle.amqp_promise.specs.declared.error.ErrorKind.TheVariants.{ProtocolError}
-use Rattle.amqp_session.specs.declared.channels.Channel.{Channel}
-use Rattle.amqp_session.specs.declared.committed.Mark.{Mark}
-use Rattle.amqp_session.specs.declared.committed.Then.{Then}
-use Rattle.amqp_session.specs.declared.committed.Then.TheVariants.{Nothing, Answer, Pays, Finish}
-use Rattle.amqp_session.specs.declared.server_close.ServerClose.{ServerClose}
-use Rattle.amqp_session.specs.declared.server_close.ServerClose.TheVariants.{WithError, WithoutError}
-use Rattle.amqp_session.specs.Config.{Config, Options}
-use Rattle.amqp_session.specs.Talk.{Talk, start, is_open, is_asked, has_ended}
-use Rattle.amqp_session.specs.Channels.{channel_at}
-use Rattle.amqp_session.specs.Changes.{present_at, finish_by}
-use Rattle.amqp_session.specs.Links.{linked, piece}
-use Rattle.amqp_session.specs.Writing.{pay, follow, sent, sent_among, taken}
+use Rattle.amqp_channels.specs.declared.channels.Channel.{Channel}
+use Rattle.amqp_outgoing.specs.declared.committed.Mark.{Mark}
+use Rattle.amqp_outgoing.specs.declared.committed.Then.{Then}
+use Rattle.amqp_outgoing.specs.declared.committed.Then.TheVariants.{Nothing, Answer, Pays, Finish}
+use Rattle.amqp_violations.specs.declared.server_close.ServerClose.{ServerClose}
+use Rattle.amqp_violations.specs.declared.server_close.ServerClose.TheVariants.{WithError, WithoutError}
+use Rattle.amqp_settings.specs.Config.{Config, Options}
+use Rattle.amqp_rules.specs.Talk.{Talk, start, is_open, is_asked, has_ended}
+use Rattle.amqp_rules.specs.Channels.{channel_at}
+use Rattle.amqp_rules.specs.Changes.{present_at, finish_by}
+use Rattle.amqp_rules.specs.Links.{linked, piece}
+use Rattle.amqp_rules.specs.Writing.{pay, follow, sent, sent_among, taken}
 use Rattle.amqp_types.proofs.Small.{if_case}
 use Rattle.amqp_faultless.proofs.Modest.{Modest, says-lose}
-use Rattle.amqp_session.proofs.Walk.{pay-case}
+use Rattle.amqp_rules.proofs.Walk.{pay-case}
 
 -- a session at its beginning
 pub modest-start : (config : Config) → length config.uri.vhost ≤ 255 → Modest config.options (start config)

@@ -16,30 +16,31 @@ use Rattle.amqp_outbox.specs.Queued.{Queued, without_awaited, is_on, goes_with}
 use Rattle.amqp_promise.specs.declared.state.ConnectionState.{ConnectionState}
 use Rattle.amqp_promise.specs.declared.state.ConnectionState.TheVariants.{Connected, Closing}
 use Rattle.amqp_promise.specs.declared.state.ChannelState.TheVariants as channel
-use Rattle.amqp_session.specs.declared.state.Link.{Link}
-use Rattle.amqp_session.specs.declared.state.Input.{Input}
-use Rattle.amqp_session.specs.declared.configuration.Configuration.{Configuration}
-use Rattle.amqp_session.specs.declared.command.Cmd.{Cmd}
-use Rattle.amqp_session.specs.declared.command.Cmd.TheVariants.{CloseConnection, DropConnection}
-use Rattle.amqp_session.specs.declared.command.Answer.{Answer}
+use Rattle.amqp_rules.specs.declared.state.Link.{Link}
+use Rattle.amqp_rules.specs.declared.state.Input.{Input}
+use Rattle.amqp_settings.specs.declared.configuration.Configuration.{Configuration}
+use Rattle.amqp_commands.specs.declared.command.Cmd.{Cmd}
+use Rattle.amqp_commands.specs.declared.command.Cmd.TheVariants.{CloseConnection, DropConnection}
+use Rattle.amqp_answers.specs.declared.answer.Answer.{Answer}
 use Rattle.amqp_types.specs.declared.word.Word.TheVariants as word
 use Rattle.amqp_promise.specs.declared.error.ErrorKind.{ErrorKind}
 use Rattle.amqp_promise.specs.declared.error.ErrorKind.TheVariants.{ChannelsLimitReached, InvalidChannelState, InvalidConnectionState}
-use Rattle.amqp_session.specs.Listed.{at, put}
-use Rattle.amqp_session.specs.Talk.{Talk, is_open, is_open_link}
-use Rattle.amqp_session.specs.Changes.{Promises, next_promise, replies_on, promises_on, settled_by, settled, settled_to, rejected_each, rejected, promise, refuse, lose}
-use Rattle.amqp_session.specs.ConnectionMethods.{secret_taken}
-use Rattle.amqp_session.specs.ChannelMethods.{remove_channel, hand_out, confirmed, raw_frame}
-use Rattle.amqp_session.specs.Frames.{method_on}
-use Rattle.amqp_session.specs.Publishing.{method_frame, body_pieces, publish_frames}
-use Rattle.amqp_session.specs.Commands.{leave_connection, body_limit, command_rule, listen}
-use Rattle.amqp_session.specs.Handshake.{new_secret, channel_open, channel_flow, our_channel_close}
-use Rattle.amqp_session.specs.Ticks.{is_connected}
-use Rattle.amqp_session.proofs.Numbered.{put-other}
-use Rattle.amqp_session.proofs.Keeping.{off-lost}
-use Rattle.amqp_session.proofs.Walk.{ChannelRows, PassedRows, CommandRows, channel-method-keeps, raw-keeps, refused-keeps, told-keeps}
-use Rattle.amqp_session.proofs.Walking.{all-append, all-filtered}
-pub use Rattle.amqp_session.proofs.Walk.{leaves}
+use Rattle.amqp_maps.specs.Listed.{at, put}
+use Rattle.amqp_rules.specs.Talk.{Talk, is_open, is_open_link}
+use Rattle.amqp_answers.specs.Settled.{Promises, settled_by, settled, settled_to}
+use Rattle.amqp_rules.specs.Changes.{next_promise, replies_on, promises_on, rejected_each, rejected, promise, refuse, lose}
+use Rattle.amqp_rules.specs.ConnectionMethods.{secret_taken}
+use Rattle.amqp_rules.specs.ChannelMethods.{remove_channel, hand_out, confirmed, raw_frame}
+use Rattle.amqp_rules.specs.Frames.{method_on}
+use Rattle.amqp_commands.specs.Publishing.{method_frame, body_pieces, publish_frames}
+use Rattle.amqp_rules.specs.Commands.{leave_connection, body_limit, command_rule, listen}
+use Rattle.amqp_settings.specs.Handshake.{new_secret, channel_open, channel_flow, our_channel_close}
+use Rattle.amqp_rules.specs.Ticks.{is_connected}
+use Rattle.amqp_maps.proofs.Numbered.{put-other}
+use Rattle.amqp_rules.proofs.Keeping.{off-lost}
+use Rattle.amqp_rules.proofs.Walk.{ChannelRows, PassedRows, CommandRows, channel-method-keeps, raw-keeps, refused-keeps, told-keeps}
+use Rattle.amqp_channels.proofs.Walking.{all-append, all-filtered}
+pub use Rattle.amqp_rules.proofs.Walk.{leaves}
 
 -- ---- our close
 

@@ -5,7 +5,7 @@ use Rattle.amqp_auth.specs.declared.asked.Question.TheVariants as question
 use Rattle.amqp_auth.specs.declared.asked.Asked.{Asked}
 use Rattle.amqp_auth.specs.declared.asked.Asked.TheVariants as answer
 use Rattle.amqp_auth.specs.Asking.{Answer}
-use Rattle.amqp_session.specs.Config.{Options}
+use Rattle.amqp_settings.specs.Config.{Options}
 use Rattle.amqp_faultless.specs.Faultless.{AreSayable}
 use Rattle.amqp_faultless.proofs.Greeted.{AreSaid}
 

@@ -13,20 +13,20 @@ use Rattle.amqp_outbox.specs.declared.reply.Reply.TheVariants.{ChannelOpened, Ch
 use Rattle.amqp_outbox.specs.Lists.{without_first}
 use Rattle.amqp_outbox.specs.Replies.{is_of, awaited_on, left_awaited}
 use Rattle.amqp_outbox.specs.Queued.{Queued}
-use Rattle.amqp_session.specs.declared.channels.Channel.{Channel}
-use Rattle.amqp_session.specs.declared.channels.Debt.{Debt}
-use Rattle.amqp_session.specs.declared.committed.Mark.{Mark}
-use Rattle.amqp_session.specs.Listed.{at, put}
-use Rattle.amqp_session.specs.Talk.{Talk, is_open}
-use Rattle.amqp_session.specs.Writing.{then_of}
+use Rattle.amqp_channels.specs.declared.channels.Channel.{Channel}
+use Rattle.amqp_channels.specs.declared.channels.Debt.{Debt}
+use Rattle.amqp_outgoing.specs.declared.committed.Mark.{Mark}
+use Rattle.amqp_maps.specs.Listed.{at, put}
+use Rattle.amqp_rules.specs.Talk.{Talk, is_open}
+use Rattle.amqp_outgoing.specs.Marks.{then_of}
 use Rattle.amqp_faultless.specs.Faultless.{Use, Server, used_as, provided, one_less}
 use Rattle.amqp_faultless.specs.Faultless.ServerStage.{Serving}
 use Rattle.amqp_types.proofs.Small.{same-number, other-number, the-number}
-use Rattle.amqp_session.proofs.Numbered.{put-same, put-other}
+use Rattle.amqp_maps.proofs.Numbered.{put-same, put-other}
 use Rattle.amqp_legal_rules.proofs.Ties.{pays, to_pay, unpaid, owing}
 use Rattle.amqp_faultless.proofs.Ordinary.{is_close, IsOther, NoneCloses}
 use Rattle.amqp_faultless.proofs.Uses.{waiting_for, waiting-without, waiting-others, left-more, left-other, Act, Idle, act_on, acts, lives, is_unowed, is_free, Stands, Along, along-map, along-push, stands-more}
-use Rattle.amqp_session.proofs.Walking.{all-append}
+use Rattle.amqp_channels.proofs.Walking.{all-append}
 
 -- ---- what waits
 

@@ -12,32 +12,33 @@ use Rattle.amqp_outbox.specs.Lists.{without_first}
 use Rattle.amqp_outbox.specs.Replies.{method_of, is_of, awaited_on, left_awaited}
 use Rattle.amqp_outbox.specs.Queued.{Queued, awaited_promise, is_on, goes_with}
 use Rattle.amqp_outbox.specs.Queued as queued
-use Rattle.amqp_session.specs.declared.channels.Channel.{Channel}
-use Rattle.amqp_session.specs.declared.channels.Debt.{Debt}
-use Rattle.amqp_session.specs.declared.channels.Debt.TheVariants as debt
-use Rattle.amqp_session.specs.declared.committed.Mark.{Mark}
+use Rattle.amqp_channels.specs.declared.channels.Channel.{Channel}
+use Rattle.amqp_channels.specs.declared.channels.Debt.{Debt}
+use Rattle.amqp_channels.specs.declared.channels.Debt.TheVariants as debt
+use Rattle.amqp_outgoing.specs.declared.committed.Mark.{Mark}
 use Rattle.amqp_promise.specs.declared.state.ChannelState.{ChannelState}
 use Rattle.amqp_promise.specs.declared.state.ChannelState.TheVariants as channel
 use Rattle.amqp_promise.specs.declared.error.ErrorKind.{ErrorKind}
-use Rattle.amqp_session.specs.Listed.{at, put, without}
-use Rattle.amqp_session.specs.Talk.{Talk, is_open}
-use Rattle.amqp_session.specs.Channels.{channel_at, is_owed, made_answered}
-use Rattle.amqp_session.specs.Changes.{drop_replies_of, give_to}
-use Rattle.amqp_session.specs.declared.command.Answer.TheVariants.{Done}
+use Rattle.amqp_maps.specs.Listed.{at, put, without}
+use Rattle.amqp_rules.specs.Talk.{Talk, is_open}
+use Rattle.amqp_rules.specs.Channels.{channel_at}
+use Rattle.amqp_channels.specs.Channels.{is_owed, made_answered}
+use Rattle.amqp_rules.specs.Changes.{drop_replies_of, give_to}
+use Rattle.amqp_answers.specs.declared.answer.Answer.TheVariants.{Done}
 use Rattle.amqp_types.specs.declared.word.Word.TheVariants as word
 use Rattle.amqp_promise.specs.declared.error.ErrorKind.TheVariants.{InvalidChannelState}
-use Rattle.amqp_session.specs.ChannelMethods.{channel_opened, channel_closed, channel_flowed, channel_close_by, closed_by_server, crossing_close, remove_unless_owed, on_channel_flow, confirmed, is_select_ok, pass_through}
-use Rattle.amqp_session.specs.Handshake.{flow_ok, channel_close_ok}
-use Rattle.amqp_session.specs.Writing.{then_of}
+use Rattle.amqp_rules.specs.ChannelMethods.{channel_opened, channel_closed, channel_flowed, channel_close_by, closed_by_server, crossing_close, remove_unless_owed, on_channel_flow, confirmed, is_select_ok, pass_through}
+use Rattle.amqp_settings.specs.Handshake.{flow_ok, channel_close_ok}
+use Rattle.amqp_outgoing.specs.Marks.{then_of}
 use Rattle.amqp_faultless.specs.Faultless.{Use, unused, Server, used_as}
 use Rattle.amqp_types.proofs.Small.{the-number, if_case}
-use Rattle.amqp_session.proofs.Numbered.{put-same, put-other, without-other}
+use Rattle.amqp_maps.proofs.Numbered.{put-same, put-other, without-other}
 use Rattle.amqp_legal_rules.proofs.Ties.{pays, to_pay, unpaid, owing}
 use Rattle.amqp_legal_rules.proofs.Paying.{pays-none, pays-own, pays-others, goes-on}
 use Rattle.amqp_faultless.proofs.Ordinary.{IsOther, AreOthers}
 use Rattle.amqp_faultless.proofs.Uses.{waiting_for, waiting-found, waiting-without, waiting-others, left-more, left-other, Act, Opens, Flows, Closes, Idle, act_on, acts, is_opens, use_by, lives, is_unowed, is_free, Holds, Stands, NoneOpens, Along, along-now, along-none, along-related, along-dead, less-same, none-filter, along-filter}
 use Rattle.amqp_faultless.proofs.Served.{AreRaw, secret_by, secrets_in, Channels, Serves, IsServing, Goes, opened-lives, asked-lives, along-cast, differ, by-number, each-by, put-owing, put-free, serves-put, serves-push, IsPlain, idle-push, serves-plain}
-use Rattle.amqp_session.proofs.Walking.{all-filtered}
+use Rattle.amqp_channels.proofs.Walking.{all-filtered}
 
 module _ (n : ℕ) (c : Channel) (s : Server) (t : Talk) (o : is_open t ≡ true) (listed : channel_at n t ≡ Some c) (h : IsServing s t) where
   abbrev u : Use

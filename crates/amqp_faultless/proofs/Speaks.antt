@@ -11,34 +11,36 @@ use Rattle.amqp_outbox.specs.Lists.{head}
 use Rattle.amqp_outbox.specs.Replies.{awaited_on}
 use Rattle.amqp_outbox.specs.Queued.{Queued, after_next}
 use Rattle.amqp_outbox.specs.Queued as queued
-use Rattle.amqp_session.specs.declared.channels.Channel.{Channel}
-use Rattle.amqp_session.specs.declared.channels.Debt.{Debt}
-use Rattle.amqp_session.specs.declared.channels.Debt.TheVariants as debt
-use Rattle.amqp_session.specs.declared.committed.Mark.{Mark}
-use Rattle.amqp_session.specs.declared.committed.Then.{Then}
-use Rattle.amqp_session.specs.declared.committed.Then.TheVariants.{Nothing, Answer as AnswerThen, Pays, Finish}
-use Rattle.amqp_session.specs.declared.command.Answer.TheVariants.{Connected as AnswerConnected, Sent}
-use Rattle.amqp_session.specs.declared.state.Phase.{Phase}
-use Rattle.amqp_session.specs.declared.state.Phase.TheVariants.{AwaitStart, AwaitTune, AwaitOpenOk}
+use Rattle.amqp_channels.specs.declared.channels.Channel.{Channel}
+use Rattle.amqp_channels.specs.declared.channels.Debt.{Debt}
+use Rattle.amqp_channels.specs.declared.channels.Debt.TheVariants as debt
+use Rattle.amqp_outgoing.specs.declared.committed.Mark.{Mark}
+use Rattle.amqp_outgoing.specs.declared.committed.Then.{Then}
+use Rattle.amqp_outgoing.specs.declared.committed.Then.TheVariants.{Nothing, Answer as AnswerThen, Pays, Finish}
+use Rattle.amqp_answers.specs.declared.answer.Answer.TheVariants.{Connected as AnswerConnected, Sent}
+use Rattle.amqp_rules.specs.declared.state.Phase.{Phase}
+use Rattle.amqp_rules.specs.declared.state.Phase.TheVariants.{AwaitStart, AwaitTune, AwaitOpenOk}
 use Rattle.amqp_promise.specs.declared.state.ConnectionState.{ConnectionState}
 use Rattle.amqp_promise.specs.declared.state.ConnectionState.TheVariants.{Initial, Connecting, Connected, Closing, Closed, Reconnecting, Error}
-use Rattle.amqp_session.specs.Listed.{at, put, without}
-use Rattle.amqp_session.specs.Talk.{Talk, is_open}
-use Rattle.amqp_session.specs.Channels.{channel_at, is_owed}
-use Rattle.amqp_session.specs.Changes.{give}
-use Rattle.amqp_session.specs.Sound.{is_finish}
-use Rattle.amqp_session.specs.Writing.{flows, writes, next_out, is_close_ok, then_by, then_of, mark_of, pay, follow, sent, sent_among, taken}
+use Rattle.amqp_maps.specs.Listed.{at, put, without}
+use Rattle.amqp_rules.specs.Talk.{Talk, is_open}
+use Rattle.amqp_rules.specs.Channels.{channel_at}
+use Rattle.amqp_channels.specs.Channels.{is_owed}
+use Rattle.amqp_rules.specs.Changes.{give}
+use Rattle.amqp_rules.specs.Sound.{is_finish}
+use Rattle.amqp_rules.specs.Writing.{flows, writes, next_out, pay, follow, sent, sent_among, taken}
+use Rattle.amqp_outgoing.specs.Marks.{is_close_ok, then_by, then_of, mark_of}
 use Rattle.amqp_faultless.specs.Faultless.{Use, ServerStage, Server, said_to}
 use Rattle.amqp_types.proofs.Small.{if_case, same-number}
-use Rattle.amqp_session.proofs.Numbered.{put-other, without-other}
+use Rattle.amqp_maps.proofs.Numbered.{put-other, without-other}
 use Rattle.amqp_legal_rules.proofs.Ties.{pays, to_pay, unpaid, owing}
 use Rattle.amqp_legal_rules.proofs.Paying.{IsNoPayment, pays-none, moved-on, sent-off}
 use Rattle.amqp_faultless.proofs.Ordinary.{is_close, AreOthers, First, settled-given}
 use Rattle.amqp_faultless.proofs.Uses.{acts, use_by, lives, is_unowed, is_free, Along, along-map, said-use}
 use Rattle.amqp_faultless.proofs.Served.{Serves, Channels, is_raw, AreRaw, secret_by, secrets_in, by-number, along-cast}
 use Rattle.amqp_faultless.proofs.Greeted.{Greets, IsSilentMark, Meets, slot_in, IsMet, meets-in, first-in, greets, greeting-plain}
-use Rattle.amqp_session.proofs.Walk.{pay-case}
-use Rattle.amqp_session.proofs.Walking.{all-append}
+use Rattle.amqp_rules.proofs.Walk.{pay-case}
+use Rattle.amqp_channels.proofs.Walking.{all-append}
 
 -- ---- what a frame tells the server
 

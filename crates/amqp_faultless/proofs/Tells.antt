@@ -15,47 +15,48 @@ use Rattle.amqp_outbox.specs.declared.reply.Reply.TheVariants.{ChannelOpened, Ch
 use Rattle.amqp_outbox.specs.Items.{plain_item, promised_item, group_of}
 use Rattle.amqp_outbox.specs.Replies.{awaited_on, expected}
 use Rattle.amqp_outbox.specs.Queued.{Queued, is_on}
-use Rattle.amqp_session.specs.declared.channels.Channel.{Channel}
-use Rattle.amqp_session.specs.declared.configuration.Configuration.{Configuration}
-use Rattle.amqp_session.specs.declared.committed.Mark.{Mark}
-use Rattle.amqp_session.specs.declared.command.Cmd.{Cmd}
-use Rattle.amqp_session.specs.declared.command.Cmd.TheVariants.{OpenChannel, CloseChannel, CloseConnection, UpdateSecret as UpdateSecretCmd, Send, Publish, Flow, DropChannel, DropConnection, Listen}
-use Rattle.amqp_session.specs.declared.command.ChanRef.{ChanRef}
-use Rattle.amqp_session.specs.declared.command.Answer.TheVariants.{Connected as AnswerConnected}
+use Rattle.amqp_channels.specs.declared.channels.Channel.{Channel}
+use Rattle.amqp_settings.specs.declared.configuration.Configuration.{Configuration}
+use Rattle.amqp_outgoing.specs.declared.committed.Mark.{Mark}
+use Rattle.amqp_commands.specs.declared.command.Cmd.{Cmd}
+use Rattle.amqp_commands.specs.declared.command.Cmd.TheVariants.{OpenChannel, CloseChannel, CloseConnection, UpdateSecret as UpdateSecretCmd, Send, Publish, Flow, DropChannel, DropConnection, Listen}
+use Rattle.amqp_commands.specs.declared.command.ChanRef.{ChanRef}
+use Rattle.amqp_answers.specs.declared.answer.Answer.TheVariants.{Connected as AnswerConnected}
 use Rattle.amqp_auth.specs.declared.asked.Asked.{Asked as ProviderAnswer}
-use Rattle.amqp_session.specs.declared.state.Link.{Link}
-use Rattle.amqp_session.specs.declared.state.Link.TheVariants.{Due, Wanted, Asked, Open, Ended}
-use Rattle.amqp_session.specs.declared.state.Phase.{Phase}
+use Rattle.amqp_rules.specs.declared.state.Link.{Link}
+use Rattle.amqp_rules.specs.declared.state.Link.TheVariants.{Due, Wanted, Asked, Open, Ended}
+use Rattle.amqp_rules.specs.declared.state.Phase.{Phase}
 use Rattle.amqp_promise.specs.declared.state.ChannelState.TheVariants as channel
 use Rattle.amqp_promise.specs.declared.state.ConnectionState.{ConnectionState}
 use Rattle.amqp_promise.specs.declared.state.ConnectionState.TheVariants.{Initial, Connecting, Connected, Closing, Closed, Reconnecting, Error}
 use Rattle.amqp_promise.specs.declared.error.ErrorKind.{ErrorKind}
 use Rattle.amqp_promise.specs.declared.error.ErrorKind.TheVariants.{MissingHeartbeatError}
-use Rattle.amqp_session.specs.Listed.{at, put}
-use Rattle.amqp_session.specs.Talk.{Talk, is_open, is_open_link, is_acting, has_ended}
-use Rattle.amqp_session.specs.Links.{piece}
-use Rattle.amqp_session.specs.Channels.{channel_at, new_channel, made_leaving}
-use Rattle.amqp_session.specs.Changes.{next_promise, lose, queue, present_at}
-use Rattle.amqp_session.specs.Handshake.{new_secret, channel_open, channel_flow, our_channel_close}
-use Rattle.amqp_session.specs.Numbering.{first_number, drawn}
-use Rattle.amqp_session.specs.Publishing.{method_frame, body_pieces, publish_frames}
-use Rattle.amqp_session.specs.Commands.{named, named_in, is_opening, target, target_by, open_drawn, close_target, drop_target, flow_target, too_long, unless_too_long, too_full, unless_full, queue_secret, update_secret, queue_send, send_target, queue_publish, publish_target, body_limit, command, command_rule}
-use Rattle.amqp_session.specs.Ticks.{is_connected, is_missed, is_heartbeat_due, missing_heartbeat, heartbeat_due, beat, refreshed, refresh_reason, link_at, timed, tick}
-use Rattle.amqp_session.specs.Writing.{then_of}
+use Rattle.amqp_maps.specs.Listed.{at, put}
+use Rattle.amqp_rules.specs.Talk.{Talk, is_open, is_open_link, is_acting, has_ended}
+use Rattle.amqp_rules.specs.Links.{piece}
+use Rattle.amqp_rules.specs.Channels.{channel_at}
+use Rattle.amqp_channels.specs.Channels.{new_channel, made_leaving}
+use Rattle.amqp_rules.specs.Changes.{next_promise, lose, queue, present_at}
+use Rattle.amqp_settings.specs.Handshake.{new_secret, channel_open, channel_flow, our_channel_close, refresh_reason}
+use Rattle.amqp_channels.specs.Numbering.{first_number, drawn}
+use Rattle.amqp_commands.specs.Publishing.{method_frame, body_pieces, publish_frames}
+use Rattle.amqp_rules.specs.Commands.{named, named_in, is_opening, target, target_by, open_drawn, close_target, drop_target, flow_target, too_long, unless_too_long, too_full, unless_full, queue_secret, update_secret, queue_send, send_target, queue_publish, publish_target, body_limit, command, command_rule}
+use Rattle.amqp_rules.specs.Ticks.{is_connected, is_missed, is_heartbeat_due, missing_heartbeat, heartbeat_due, beat, refreshed, link_at, timed, tick}
+use Rattle.amqp_outgoing.specs.Marks.{then_of}
 use Rattle.amqp_faultless.specs.Faultless.{Server}
 use Rattle.amqp_types.proofs.Small.{if_case, if_by, if-false, same-number, other-number}
-use Rattle.amqp_session.proofs.Heard.{secret-case}
-use Rattle.amqp_session.proofs.Keeping.{beats-connected, asks-connected, stays-command}
-use Rattle.amqp_session.proofs.Numbered.{put-same, put-other}
-use Rattle.amqp_session.proofs.Drawn.{drawn-free}
+use Rattle.amqp_rules.proofs.Heard.{secret-case}
+use Rattle.amqp_rules.proofs.Keeping.{beats-connected, asks-connected, stays-command}
+use Rattle.amqp_maps.proofs.Numbered.{put-same, put-other}
+use Rattle.amqp_channels.proofs.Drawn.{drawn-free}
 use Rattle.amqp_legal_rules.proofs.Ties.{pays, unpaid, owing}
 use Rattle.amqp_legal_rules.proofs.Paying.{pays-none}
 use Rattle.amqp_faultless.proofs.Ordinary.{NoneCloses, AreOthers, First, Ordinary, leaves, refused-command, told-command, left-command}
 use Rattle.amqp_faultless.proofs.Uses.{waiting_for, expected-other, expected-count, expected-more, Act, Opens, Flows, Closes, Idle, act_on, acts, is_free, Along, along-map, along-push, along-open, stands-more}
 use Rattle.amqp_faultless.proofs.Served.{Serves, IsServing, Channels, is_raw, AreRaw, secret_by, IsPlain, by-number, along-cast, idle-push, serves-push, serves-plain, put-owing, put-free}
 use Rattle.amqp_faultless.proofs.Greeted.{Meets, slot_in, IsMet, IsLimited, limit-grow, limit-in, meets-in, first-in}
-use Rattle.amqp_session.proofs.SoundCommands.{target-in}
-use Rattle.amqp_session.proofs.Walking.{all-append, all-filtered}
+use Rattle.amqp_rules.proofs.SoundCommands.{target-in}
+use Rattle.amqp_channels.proofs.Walking.{all-append, all-filtered}
 
 -- ---- one frame more, and one reply more is awaited
 

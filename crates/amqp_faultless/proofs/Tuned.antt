@@ -14,20 +14,20 @@ use Rattle.amqp_outbox.specs.Queued.{awaited_promise}
 use Rattle.amqp_promise.specs.declared.state.ConnectionState.{ConnectionState}
 use Rattle.amqp_promise.specs.declared.state.ConnectionState.TheVariants.{Initial, Connecting, Connected, Closing, Closed, Reconnecting, Error}
 use Rattle.amqp_promise.specs.declared.error.ErrorKind.TheVariants.{InvalidConnectionState}
-use Rattle.amqp_session.specs.declared.configuration.Configuration.{Configuration}
-use Rattle.amqp_session.specs.declared.state.Phase.{Phase}
-use Rattle.amqp_session.specs.declared.state.Phase.TheVariants.{AwaitStart, AwaitTune, AwaitOpenOk}
-use Rattle.amqp_session.specs.declared.command.Answer.TheVariants.{Connected as AnswerConnected}
+use Rattle.amqp_settings.specs.declared.configuration.Configuration.{Configuration}
+use Rattle.amqp_rules.specs.declared.state.Phase.{Phase}
+use Rattle.amqp_rules.specs.declared.state.Phase.TheVariants.{AwaitStart, AwaitTune, AwaitOpenOk}
+use Rattle.amqp_answers.specs.declared.answer.Answer.TheVariants.{Connected as AnswerConnected}
 use Rattle.amqp_auth.specs.declared.asked.Question.{Question}
 use Rattle.amqp_auth.specs.declared.asked.Question.TheVariants as question
 use Rattle.amqp_auth.specs.declared.asked.Asked.{Asked}
 use Rattle.amqp_auth.specs.declared.asked.Asked.TheVariants as answer
-use Rattle.amqp_session.specs.Talk.{Talk}
-use Rattle.amqp_session.specs.Negotiation.{tune}
-use Rattle.amqp_session.specs.Handshake.{start_ok, secure_ok, tune_ok, open_vhost}
-use Rattle.amqp_session.specs.ConnectionMethods.{connection_rule, on_start, on_secure, on_tune, connected, reopen_each, on_open_ok}
-use Rattle.amqp_session.specs.Frames.{method_questions, frame_rule, on_frame, questions_in, frame_questions}
-use Rattle.amqp_session.specs.Ticks.{is_connected}
+use Rattle.amqp_rules.specs.Talk.{Talk}
+use Rattle.amqp_settings.specs.Negotiation.{tune}
+use Rattle.amqp_settings.specs.Handshake.{start_ok, secure_ok, tune_ok, open_vhost}
+use Rattle.amqp_rules.specs.ConnectionMethods.{connection_rule, on_start, on_secure, on_tune, connected, reopen_each, on_open_ok}
+use Rattle.amqp_rules.specs.Frames.{method_questions, frame_rule, on_frame, questions_in, frame_questions}
+use Rattle.amqp_rules.specs.Ticks.{is_connected}
 use Rattle.amqp_faultless.specs.Faultless.{ServerStage, Server, answers_to, is_frame_max, serves, heard_from}
 use Rattle.amqp_faultless.specs.Faultless.ServerStage.{BeforeStart, BeforeTune, BeforeOpenOk, Serving, Gone}
 use Rattle.amqp_faultless.proofs.Ordinary.{method-goes, raw-goes, secret-goes, goes-lose}
@@ -36,7 +36,7 @@ use Rattle.amqp_faultless.proofs.Greeted.{IsMet, meets-in, frame-acts, questions
 use Rattle.amqp_types.proofs.Small.{some_is}
 use Rattle.amqp_faultless.proofs.Hears.{meets-at}
 use Rattle.amqp_faultless.proofs.Limits.{serves-stage, met-open, met-gone}
-use Rattle.amqp_session.proofs.Walking.{all-append}
+use Rattle.amqp_channels.proofs.Walking.{all-append}
 
 -- ---- the first tune-ok
 

@@ -13,34 +13,35 @@ use Rattle.amqp_outbox.specs.Queued as queued
 use Rattle.amqp_promise.specs.declared.state.ConnectionState.{ConnectionState}
 use Rattle.amqp_promise.specs.declared.state.ConnectionState.TheVariants.{Initial, Connecting, Connected, Closing, Closed, Reconnecting, Error}
 use Rattle.amqp_promise.specs.declared.error.ErrorKind.TheVariants.{MissingHeartbeatError}
-use Rattle.amqp_session.specs.declared.channels.Channel.{Channel}
-use Rattle.amqp_session.specs.declared.configuration.Configuration.{Configuration}
-use Rattle.amqp_session.specs.declared.committed.Mark.{Mark}
-use Rattle.amqp_session.specs.declared.committed.Then.{Then}
-use Rattle.amqp_session.specs.declared.committed.Then.TheVariants.{Nothing, Answer as AnswerThen, Pays, Finish}
-use Rattle.amqp_session.specs.declared.command.Answer.TheVariants.{Connected as AnswerConnected}
-use Rattle.amqp_session.specs.declared.command.Cmd.{Cmd}
-use Rattle.amqp_session.specs.declared.command.Cmd.TheVariants.{DropChannel, DropConnection, Listen}
-use Rattle.amqp_session.specs.declared.state.Phase.{Phase}
-use Rattle.amqp_session.specs.declared.state.Phase.TheVariants.{AwaitStart, AwaitTune, AwaitOpenOk}
+use Rattle.amqp_channels.specs.declared.channels.Channel.{Channel}
+use Rattle.amqp_settings.specs.declared.configuration.Configuration.{Configuration}
+use Rattle.amqp_outgoing.specs.declared.committed.Mark.{Mark}
+use Rattle.amqp_outgoing.specs.declared.committed.Then.{Then}
+use Rattle.amqp_outgoing.specs.declared.committed.Then.TheVariants.{Nothing, Answer as AnswerThen, Pays, Finish}
+use Rattle.amqp_answers.specs.declared.answer.Answer.TheVariants.{Connected as AnswerConnected}
+use Rattle.amqp_commands.specs.declared.command.Cmd.{Cmd}
+use Rattle.amqp_commands.specs.declared.command.Cmd.TheVariants.{DropChannel, DropConnection, Listen}
+use Rattle.amqp_rules.specs.declared.state.Phase.{Phase}
+use Rattle.amqp_rules.specs.declared.state.Phase.TheVariants.{AwaitStart, AwaitTune, AwaitOpenOk}
 use Rattle.amqp_auth.specs.declared.asked.Asked.{Asked}
-use Rattle.amqp_session.specs.Talk.{Talk, is_asked, is_open, has_ended}
-use Rattle.amqp_session.specs.Channels.{channel_at}
-use Rattle.amqp_session.specs.Changes.{queue, lose, present_at}
-use Rattle.amqp_session.specs.Commands.{command, command_rule}
-use Rattle.amqp_session.specs.Sound.{is_finish}
-use Rattle.amqp_session.specs.Links.{linked, piece}
-use Rattle.amqp_session.specs.Ticks.{is_connected, is_missed, is_heartbeat_due, missing_heartbeat, beat, refreshed, timed, tick}
-use Rattle.amqp_session.specs.Writing.{writes, flows, next_out, mark_of, pay, follow, sent, sent_among, taken}
+use Rattle.amqp_rules.specs.Talk.{Talk, is_asked, is_open, has_ended}
+use Rattle.amqp_rules.specs.Channels.{channel_at}
+use Rattle.amqp_rules.specs.Changes.{queue, lose, present_at}
+use Rattle.amqp_rules.specs.Commands.{command, command_rule}
+use Rattle.amqp_rules.specs.Sound.{is_finish}
+use Rattle.amqp_rules.specs.Links.{linked, piece}
+use Rattle.amqp_rules.specs.Ticks.{is_connected, is_missed, is_heartbeat_due, missing_heartbeat, beat, refreshed, timed, tick}
+use Rattle.amqp_rules.specs.Writing.{writes, flows, next_out, pay, follow, sent, sent_among, taken}
+use Rattle.amqp_outgoing.specs.Marks.{mark_of}
 use Rattle.amqp_faultless.specs.Faultless.{Server, silent, said_to}
 use Rattle.amqp_types.proofs.Small.{if_case, if_by, if-true, if-false}
-use Rattle.amqp_session.proofs.Heard.{secret-case}
-use Rattle.amqp_session.proofs.Keeping.{beats-connected, asks-connected, stays-command}
+use Rattle.amqp_rules.proofs.Heard.{secret-case}
+use Rattle.amqp_rules.proofs.Keeping.{beats-connected, asks-connected, stays-command}
 use Rattle.amqp_faultless.proofs.Ordinary.{leaves, told-command, left-command}
 use Rattle.amqp_faultless.proofs.Greeted.{IsMet, Meets}
 use Rattle.amqp_faultless.proofs.Speaks.{GoOn}
 use Rattle.amqp_faultless.proofs.Tuned.{tune_in, first_tune, first-later, first-next, is_asking, as_one, asks-not, numbers_of, TunedIn, Tuned, tuned-open}
-use Rattle.amqp_session.proofs.Walk.{pay-case}
+use Rattle.amqp_rules.proofs.Walk.{pay-case}
 
 -- ---- the link, a moment and a piece
 

@@ -12,12 +12,12 @@ use Rattle.amqp_outbox.specs.declared.reply.Reply.TheVariants.{ChannelOpened, Ch
 use Rattle.amqp_outbox.specs.Items.{outlives}
 use Rattle.amqp_outbox.specs.Lists.{without_first}
 use Rattle.amqp_outbox.specs.Replies.{method_of, is_of, awaited_on, left_on, expected}
-use Rattle.amqp_session.specs.declared.channels.Channel.{Channel}
-use Rattle.amqp_session.specs.declared.channels.Debt.{Debt}
-use Rattle.amqp_session.specs.declared.channels.Debt.TheVariants as debt
+use Rattle.amqp_channels.specs.declared.channels.Channel.{Channel}
+use Rattle.amqp_channels.specs.declared.channels.Debt.{Debt}
+use Rattle.amqp_channels.specs.declared.channels.Debt.TheVariants as debt
 use Rattle.amqp_faultless.specs.Faultless.{Use, unused, Server, said_to, used_as}
 use Rattle.amqp_types.proofs.Small.{same-number, the-number}
-use Rattle.amqp_session.proofs.Numbered.{put-same, put-other, without-other}
+use Rattle.amqp_maps.proofs.Numbered.{put-same, put-other, without-other}
 
 -- ---- what is awaited
 

@@ -12,26 +12,26 @@ use Rattle.amqp_outbox.specs.declared.reply.Awaited.{Awaited}
 use Rattle.amqp_outbox.specs.declared.reply.Reply.TheVariants.{SecretDone, ConnectionClosed}
 use Rattle.amqp_outbox.specs.Replies.{is_of, awaited_on, left_awaited}
 use Rattle.amqp_outbox.specs.Queued.{Queued, awaited_promise}
-use Rattle.amqp_session.specs.declared.channels.Channel.{Channel}
-use Rattle.amqp_session.specs.declared.committed.Mark.{Mark}
-use Rattle.amqp_session.specs.declared.state.Phase.{Phase}
-use Rattle.amqp_session.specs.declared.state.Phase.TheVariants.{AwaitStart, AwaitTune, AwaitOpenOk}
-use Rattle.amqp_session.specs.declared.server_close.ServerClose.TheVariants.{WithoutError}
+use Rattle.amqp_channels.specs.declared.channels.Channel.{Channel}
+use Rattle.amqp_outgoing.specs.declared.committed.Mark.{Mark}
+use Rattle.amqp_rules.specs.declared.state.Phase.{Phase}
+use Rattle.amqp_rules.specs.declared.state.Phase.TheVariants.{AwaitStart, AwaitTune, AwaitOpenOk}
+use Rattle.amqp_violations.specs.declared.server_close.ServerClose.TheVariants.{WithoutError}
 use Rattle.amqp_promise.specs.declared.state.ConnectionState.{ConnectionState}
 use Rattle.amqp_promise.specs.declared.state.ConnectionState.TheVariants.{Initial, Connecting, Connected, Closing, Closed, Reconnecting, Error}
 use Rattle.amqp_promise.specs.declared.error.ErrorKind.{ErrorKind}
 use Rattle.amqp_promise.specs.declared.error.ErrorKind.TheVariants.{InvalidChannel}
-use Rattle.amqp_session.specs.declared.command.Answer.TheVariants.{Connected as AnswerConnected, Done}
+use Rattle.amqp_answers.specs.declared.answer.Answer.TheVariants.{Connected as AnswerConnected, Done}
 use Rattle.amqp_auth.specs.declared.asked.Asked.{Asked as ProviderAnswer}
-use Rattle.amqp_session.specs.Listed.{at}
-use Rattle.amqp_session.specs.Talk.{Talk, is_open, is_closing}
-use Rattle.amqp_session.specs.Channels.{channel_at}
-use Rattle.amqp_session.specs.Changes.{misplaced, lose}
-use Rattle.amqp_session.specs.ConnectionMethods.{connection_rule, secret_taken, connection_closed, on_connection_close, on_blocked, on_unblocked}
-use Rattle.amqp_session.specs.ChannelMethods.{confirmed, is_select_ok, heard_on, channel_rule, channel_method_by, channel_method, raw_by, raw_frame}
-use Rattle.amqp_session.specs.Violations.{channel_closed_with, stray_connection_method}
+use Rattle.amqp_maps.specs.Listed.{at}
+use Rattle.amqp_rules.specs.Talk.{Talk, is_open, is_closing}
+use Rattle.amqp_rules.specs.Channels.{channel_at}
+use Rattle.amqp_rules.specs.Changes.{misplaced, lose}
+use Rattle.amqp_rules.specs.ConnectionMethods.{connection_rule, secret_taken, connection_closed, on_connection_close, on_blocked, on_unblocked}
+use Rattle.amqp_rules.specs.ChannelMethods.{confirmed, is_select_ok, heard_on, channel_rule, channel_method_by, channel_method, raw_by, raw_frame}
+use Rattle.amqp_violations.specs.Violations.{channel_closed_with, stray_connection_method}
 use Rattle.amqp_frame.specs.Methods.{is_of_a_channel}
-use Rattle.amqp_session.specs.Frames.{method_on, frame_rule}
+use Rattle.amqp_rules.specs.Frames.{method_on, frame_rule}
 use Rattle.amqp_faultless.specs.Faultless.{Use, unused, Server, used_as, provided, one_less, serves_on, serves}
 use Rattle.amqp_faultless.specs.Faultless.ServerStage.{Serving, Gone}
 use Rattle.amqp_types.proofs.Small.{if_case, if-true, if-false, from-not-true, some_is}

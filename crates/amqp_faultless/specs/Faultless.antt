@@ -8,11 +8,10 @@ use Rattle.amqp_frame.specs.declared.method.Method.TheVariants.{Start, StartOk, 
 use Rattle.amqp_frame.specs.Frames.{encoding}
 use Rattle.amqp_auth.specs.declared.asked.Asked.{Asked}
 use Rattle.amqp_auth.specs.declared.asked.Asked.TheVariants as answer
-use Rattle.amqp_session.specs.declared.command.Cmd.{Cmd}
-use Rattle.amqp_session.specs.declared.command.Cmd.TheVariants.{CloseChannel, CloseConnection}
-use Rattle.amqp_session.specs.Config.{Options}
-use Rattle.amqp_session.specs.Handshake.{start_ok, secure_ok, new_secret}
-use Rattle.amqp_session.specs.Ticks.{refresh_reason}
+use Rattle.amqp_commands.specs.declared.command.Cmd.{Cmd}
+use Rattle.amqp_commands.specs.declared.command.Cmd.TheVariants.{CloseChannel, CloseConnection}
+use Rattle.amqp_settings.specs.Config.{Options}
+use Rattle.amqp_settings.specs.Handshake.{start_ok, secure_ok, new_secret, refresh_reason}
 
 -- ---- what a server knows
 

@@ -3,7 +3,7 @@ use Rattle.std.proofs.Common.{◌≡◌, ◌≤◌, ℕ, ◌-◌, min, List, [],
 use Rattle.std.specs.List.{flat_map, AllByRecursion}
 use Rattle.std.proofs.lemmas.List.{take_all}
 use Rattle.amqp_auth.specs.declared.asked.Asked.{Asked}
-use Rattle.amqp_session.specs.Talk.{Talk}
+use Rattle.amqp_rules.specs.Talk.{Talk}
 use Rattle.amqp_faultless.specs.Faultless.{AreSayable}
 use Rattle.amqp_engine.specs.Engine.{begin}
 use Rattle.amqp_engine.specs.Turn.{Turn, exchanges}

@@ -13,7 +13,7 @@ use Rattle.amqp_auth.specs.declared.asked.Asked.TheVariants as answer
 use Rattle.amqp_auth.specs.Providers.{Exchange, Allows}
 use Rattle.amqp_auth.specs.DefaultAnswers.{default_of, default_answer, AnswersEach}
 use Rattle.amqp_auth.specs.Asking.{Answer, fits, paired}
-use Rattle.amqp_session.specs.Talk.{is_open}
+use Rattle.amqp_rules.specs.Talk.{is_open}
 use Rattle.amqp_engine.specs.declared.given.Given.{Given}
 use Rattle.amqp_engine.specs.declared.given.GivenStep.TheVariants.{Bytes}
 use Rattle.amqp_engine.specs.declared.port.Step.TheVariants.{Piece}

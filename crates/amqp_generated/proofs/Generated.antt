@@ -3,7 +3,7 @@ use Rattle.std.proofs.Common.{◌≡◌, ◌≤◌, ◌⊎◌, inl, false, ℕ, 
 use Rattle.amqp_uri.specs.Address.{local}
 use Rattle.amqp_auth.specs.declared.asked.Asked.{Asked}
 use Rattle.amqp_auth.specs.Providers.{Allows}
-use Rattle.amqp_session.specs.Config.{config_of, no_options}
+use Rattle.amqp_settings.specs.Config.{config_of, no_options}
 use Rattle.amqp_engine.specs.declared.given.Given.{Given}
 use Rattle.amqp_engine.specs.Account.{IsNew}
 use Rattle.amqp_engine.specs.Log.{Log}

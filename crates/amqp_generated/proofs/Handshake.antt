@@ -14,12 +14,12 @@ use Rattle.amqp_auth.specs.declared.asked.Question.TheVariants as question
 use Rattle.amqp_auth.specs.declared.asked.Asked.{Asked}
 use Rattle.amqp_auth.specs.declared.asked.Asked.TheVariants as answer
 use Rattle.amqp_auth.specs.Providers.{Exchange}
-use Rattle.amqp_session.specs.declared.configuration.Configuration.{Configuration}
-use Rattle.amqp_session.specs.declared.command.Answer.TheVariants.{Connected as AnswerConnected}
-use Rattle.amqp_session.specs.Config.{config_of, no_options}
-use Rattle.amqp_session.specs.Handshake.{protocol_header, start_ok, tune_ok, open_vhost}
-use Rattle.amqp_session.specs.Talk.{Talk, start, has_ended}
-use Rattle.amqp_session.specs.Changes.{Promises}
+use Rattle.amqp_settings.specs.declared.configuration.Configuration.{Configuration}
+use Rattle.amqp_answers.specs.declared.answer.Answer.TheVariants.{Connected as AnswerConnected}
+use Rattle.amqp_settings.specs.Config.{config_of, no_options}
+use Rattle.amqp_settings.specs.Handshake.{protocol_header, start_ok, tune_ok, open_vhost}
+use Rattle.amqp_rules.specs.Talk.{Talk, start, has_ended}
+use Rattle.amqp_answers.specs.Settled.{Promises}
 use Rattle.amqp_faultless.specs.Faultless.{Server, silent, heard_from}
 use Rattle.amqp_faultless.specs.Faultless.ServerStage.{Serving, Gone}
 use Rattle.amqp_engine.specs.declared.given.Given.{Given}

@@ -19,26 +19,28 @@ use Rattle.amqp_promise.specs.declared.state.ConnectionState.{ConnectionState}
 use Rattle.amqp_promise.specs.declared.state.ConnectionState.TheVariants.{Connected, Closing}
 use Rattle.amqp_promise.specs.declared.state.ChannelState.TheVariants as channel
 use Rattle.amqp_uri.specs.Address.{local}
-use Rattle.amqp_session.specs.declared.state.Phase.TheVariants.{AwaitOpenOk}
-use Rattle.amqp_session.specs.declared.state.Link.TheVariants.{Open}
-use Rattle.amqp_session.specs.declared.state.Input.TheVariants.{Acting}
-use Rattle.amqp_session.specs.declared.channels.Channel.{Channel}
-use Rattle.amqp_session.specs.declared.committed.Mark.{Mark}
-use Rattle.amqp_session.specs.declared.command.Answer.TheVariants.{Channel as AnswerChannel}
-use Rattle.amqp_session.specs.declared.command.Cmd.TheVariants.{OpenChannel, CloseConnection}
-use Rattle.amqp_session.specs.Config.{config_of, no_options}
-use Rattle.amqp_session.specs.Events.{unheard}
-use Rattle.amqp_session.specs.Listed.{at, put, without, map_values}
-use Rattle.amqp_session.specs.Talk.{Talk, is_open}
-use Rattle.amqp_session.specs.Numbering.{first_number, after, drawn}
-use Rattle.amqp_session.specs.Channels.{new_channel, made_closing, all_flow, set_channel}
-use Rattle.amqp_session.specs.Changes.{Promises, settled, give_to}
-use Rattle.amqp_session.specs.Handshake.{channel_open, our_close}
-use Rattle.amqp_session.specs.Commands.{open_drawn, command}
-use Rattle.amqp_session.specs.ChannelMethods.{channel_method_by, channel_opened}
-use Rattle.amqp_session.specs.Frames.{on_frame}
-use Rattle.amqp_session.specs.Writing.{longer_than}
-use Rattle.amqp_session.proofs.Numbered.{put-same}
+use Rattle.amqp_rules.specs.declared.state.Phase.TheVariants.{AwaitOpenOk}
+use Rattle.amqp_rules.specs.declared.state.Link.TheVariants.{Open}
+use Rattle.amqp_rules.specs.declared.state.Input.TheVariants.{Acting}
+use Rattle.amqp_channels.specs.declared.channels.Channel.{Channel}
+use Rattle.amqp_outgoing.specs.declared.committed.Mark.{Mark}
+use Rattle.amqp_answers.specs.declared.answer.Answer.TheVariants.{Channel as AnswerChannel}
+use Rattle.amqp_commands.specs.declared.command.Cmd.TheVariants.{OpenChannel, CloseConnection}
+use Rattle.amqp_settings.specs.Config.{config_of, no_options}
+use Rattle.amqp_answers.specs.Events.{unheard}
+use Rattle.amqp_maps.specs.Listed.{at, put, without, map_values}
+use Rattle.amqp_rules.specs.Talk.{Talk, is_open}
+use Rattle.amqp_channels.specs.Numbering.{first_number, after, drawn}
+use Rattle.amqp_channels.specs.Channels.{new_channel, made_closing, all_flow}
+use Rattle.amqp_rules.specs.Channels.{set_channel}
+use Rattle.amqp_answers.specs.Settled.{Promises, settled}
+use Rattle.amqp_rules.specs.Changes.{give_to}
+use Rattle.amqp_settings.specs.Handshake.{channel_open, our_close}
+use Rattle.amqp_rules.specs.Commands.{open_drawn, command}
+use Rattle.amqp_rules.specs.ChannelMethods.{channel_method_by, channel_opened}
+use Rattle.amqp_rules.specs.Frames.{on_frame}
+use Rattle.amqp_rules.specs.Writing.{longer_than}
+use Rattle.amqp_maps.proofs.Numbered.{put-same}
 use Rattle.amqp_faultless.specs.Faultless.{silent}
 use Rattle.amqp_engine.specs.declared.given.Given.{Given}
 use Rattle.amqp_engine.specs.declared.given.GivenStep.{GivenStep}

@@ -18,19 +18,20 @@ use Rattle.amqp_outbox.specs.Items.{plain_item, group_of, size_of}
 use Rattle.amqp_outbox.specs.Queued.{nothing_queued, next_item, after_next}
 use Rattle.amqp_promise.specs.declared.state.ConnectionState.TheVariants.{Connected}
 use Rattle.amqp_promise.specs.declared.state.ChannelState.TheVariants as channel
-use Rattle.amqp_session.specs.declared.channels.Channel.{Channel}
-use Rattle.amqp_session.specs.declared.committed.Mark.{Mark}
-use Rattle.amqp_session.specs.declared.committed.Then.{Then}
-use Rattle.amqp_session.specs.declared.committed.Then.TheVariants.{Nothing, Answer}
-use Rattle.amqp_session.specs.declared.command.Answer.TheVariants.{Sent}
-use Rattle.amqp_session.specs.declared.command.Cmd.TheVariants.{Publish}
-use Rattle.amqp_session.specs.Listed.{at, put}
-use Rattle.amqp_session.specs.Talk.{Talk}
-use Rattle.amqp_session.specs.Channels.{all_flow}
-use Rattle.amqp_session.specs.Changes.{Promises, settled}
-use Rattle.amqp_session.specs.Publishing.{content_header, cut, body_pieces, publish_frames}
-use Rattle.amqp_session.specs.Commands.{named_in, target_in, target_by, too_long, unless_too_long, too_full, unless_full, publish_target, queue_publish}
-use Rattle.amqp_session.specs.Writing.{fitting, mark_of, committed_as, then_of, answers, overlong, follow, sent, sent_among, frames_waiting}
+use Rattle.amqp_channels.specs.declared.channels.Channel.{Channel}
+use Rattle.amqp_outgoing.specs.declared.committed.Mark.{Mark}
+use Rattle.amqp_outgoing.specs.declared.committed.Then.{Then}
+use Rattle.amqp_outgoing.specs.declared.committed.Then.TheVariants.{Nothing, Answer}
+use Rattle.amqp_answers.specs.declared.answer.Answer.TheVariants.{Sent}
+use Rattle.amqp_commands.specs.declared.command.Cmd.TheVariants.{Publish}
+use Rattle.amqp_maps.specs.Listed.{at, put}
+use Rattle.amqp_rules.specs.Talk.{Talk}
+use Rattle.amqp_channels.specs.Channels.{all_flow}
+use Rattle.amqp_answers.specs.Settled.{Promises, settled}
+use Rattle.amqp_commands.specs.Publishing.{content_header, cut, body_pieces, publish_frames}
+use Rattle.amqp_rules.specs.Commands.{named_in, target_in, target_by, too_long, unless_too_long, too_full, unless_full, publish_target, queue_publish}
+use Rattle.amqp_rules.specs.Writing.{fitting, committed_as, overlong, follow, sent, sent_among, frames_waiting}
+use Rattle.amqp_outgoing.specs.Marks.{mark_of, then_of, answers}
 use Rattle.amqp_engine.specs.declared.given.GivenStep.TheVariants.{Command}
 use Rattle.amqp_engine.specs.Plan.{coming_of}
 use Rattle.amqp_engine.specs.Engine.{Engine, fitting_next, committed_with_bytes, commit_one, commits, commit_all, overlong_next, can_write, settle, took}

@@ -8,11 +8,11 @@ use Rattle.std.specs.declared.cmp.Ordering.TheVariants.{Less, Equal, Greater}
 use Rattle.std.proofs.lemmas.Bool.Decides.{nat_tests}
 use Rattle.amqp_types.proofs.Small.{and-left, and-right, and-true, if-true, other-number, not-below}
 use Rattle.amqp_promise.specs.declared.state.ChannelState.TheVariants as channel
-use Rattle.amqp_session.specs.declared.channels.Channel.{Channel}
-use Rattle.amqp_session.specs.Listed.{at, put, has}
-use Rattle.amqp_session.specs.Numbering.{first_number, after, drawn}
-use Rattle.amqp_session.specs.Channels.{new_channel, all_flow}
-use Rattle.amqp_session.proofs.Numbered.{put-same, put-other}
+use Rattle.amqp_channels.specs.declared.channels.Channel.{Channel}
+use Rattle.amqp_maps.specs.Listed.{at, put, has}
+use Rattle.amqp_channels.specs.Numbering.{first_number, after, drawn}
+use Rattle.amqp_channels.specs.Channels.{new_channel, all_flow}
+use Rattle.amqp_maps.proofs.Numbered.{put-same, put-other}
 
 -- an open channel is listed by this number
 pub record IsOpened (n : ℕ) (channels : List (ℕ × Channel)) : Type 0 where

@@ -11,15 +11,15 @@ use Rattle.amqp_frame.specs.Frames.{encoding}
 use Rattle.amqp_outbox.specs.declared.item.Item.{Item}
 use Rattle.amqp_outbox.specs.Items.{plain_item}
 use Rattle.amqp_promise.specs.declared.state.ConnectionState.TheVariants.{Connected}
-use Rattle.amqp_session.specs.declared.channels.Channel.{Channel}
-use Rattle.amqp_session.specs.declared.command.Answer.TheVariants.{Channel as AnswerChannel}
-use Rattle.amqp_session.specs.declared.command.Cmd.TheVariants.{OpenChannel, CloseConnection}
-use Rattle.amqp_session.specs.Changes.{Promises, settled}
-use Rattle.amqp_session.specs.Channels.{new_channel, made_closing}
-use Rattle.amqp_session.specs.Handshake.{channel_open, our_close}
-use Rattle.amqp_session.specs.Listed.{put, map_values}
-use Rattle.amqp_session.specs.Numbering.{after}
-use Rattle.amqp_session.proofs.Numbered.{put-same}
+use Rattle.amqp_channels.specs.declared.channels.Channel.{Channel}
+use Rattle.amqp_answers.specs.declared.answer.Answer.TheVariants.{Channel as AnswerChannel}
+use Rattle.amqp_commands.specs.declared.command.Cmd.TheVariants.{OpenChannel, CloseConnection}
+use Rattle.amqp_answers.specs.Settled.{Promises, settled}
+use Rattle.amqp_channels.specs.Channels.{new_channel, made_closing}
+use Rattle.amqp_settings.specs.Handshake.{channel_open, our_close}
+use Rattle.amqp_maps.specs.Listed.{put, map_values}
+use Rattle.amqp_channels.specs.Numbering.{after}
+use Rattle.amqp_maps.proofs.Numbered.{put-same}
 use Rattle.amqp_faultless.specs.Faultless.{Use, unused, Server, used_as, said_to, provided, heard_from}
 use Rattle.amqp_faultless.specs.Faultless.ServerStage.{Serving, Gone}
 use Rattle.amqp_engine.specs.declared.given.Given.{Given}

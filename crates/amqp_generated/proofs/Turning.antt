@@ -9,8 +9,8 @@ use Rattle.amqp_frame.proofs.FrontStays.{front-none}
 use Rattle.amqp_outbox.specs.declared.item.Item.{Item}
 use Rattle.amqp_auth.specs.declared.asked.Question.{Question}
 use Rattle.amqp_auth.specs.declared.asked.Asked.{Asked}
-use Rattle.amqp_session.specs.Talk.{is_open, has_ended}
-use Rattle.amqp_session.specs.Negotiation.{frame_limit}
+use Rattle.amqp_rules.specs.Talk.{is_open, has_ended}
+use Rattle.amqp_rules.specs.Negotiation.{frame_limit}
 use Rattle.amqp_engine.specs.declared.port.Wrote.{Wrote}
 use Rattle.amqp_engine.specs.declared.port.Wrote.TheVariants.{Took}
 use Rattle.amqp_engine.specs.Plan.{Coming}

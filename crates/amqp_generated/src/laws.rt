@@ -2,7 +2,7 @@
 
 ghost use Rattle.std.specs.Prelude.{◌≡◌, ◌≤◌, ◌⊎◌, ℕ, false, List, Option, Some, Ok};
 ghost use Rattle.amqp_auth.specs.declared.asked.Asked.{Asked};
-ghost use Rattle.amqp_session.specs.Talk.{end_of};
+ghost use Rattle.amqp_rules.specs.Talk.{end_of};
 ghost use Rattle.amqp_engine.specs.Log.{Log};
 ghost use Rattle.amqp_replay.specs.declared.limits.TheConstants.{MOST_GENERATED};
 ghost use Rattle.amqp_replay.specs.declared.status.TheConstants.{CLOSED, SINK_FAILED};

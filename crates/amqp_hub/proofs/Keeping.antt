@@ -3,19 +3,19 @@ use Rattle.std.proofs.Common.{◌≡◌, ◌⊎◌, inl, inr, ◌≤◌, ◌<◌
 use Rattle.std.proofs.lemmas.Bool.Decides.{nat_tests}
 use Rattle.amqp_types.proofs.Small.{if_case, if-true, if-false}
 use Rattle.amqp_promise.specs.declared.error.ErrorKind.{ErrorKind}
-use Rattle.amqp_session.specs.declared.command.Answer.{Answer}
-use Rattle.amqp_session.specs.declared.command.Answer.TheVariants.{Channel}
-use Rattle.amqp_session.specs.Listed.{at}
-use Rattle.amqp_session.specs.declared.command.Cmd.{Cmd}
-use Rattle.amqp_session.specs.declared.event.Event.{Event}
-use Rattle.amqp_session.specs.Config.{Config}
-use Rattle.amqp_session.specs.Talk.{Talk, start, has_ended}
-use Rattle.amqp_session.specs.Changes.{present_at, starve}
-use Rattle.amqp_session.specs.Commands.{command}
-use Rattle.amqp_session.specs.Answers.{Takes, TakesEvent, answer_in, answer_of, take_answer, take_event, take_frames, without_event, end_event}
-use Rattle.amqp_session.specs.Talk.{end_of, end_of_link}
-use Rattle.amqp_session.proofs.Soundness.{sound-start}
-use Rattle.amqp_session.proofs.Keeping.{starve-ends}
+use Rattle.amqp_answers.specs.declared.answer.Answer.{Answer}
+use Rattle.amqp_answers.specs.declared.answer.Answer.TheVariants.{Channel}
+use Rattle.amqp_maps.specs.Listed.{at}
+use Rattle.amqp_commands.specs.declared.command.Cmd.{Cmd}
+use Rattle.amqp_answers.specs.declared.event.Event.{Event}
+use Rattle.amqp_settings.specs.Config.{Config}
+use Rattle.amqp_rules.specs.Talk.{Talk, start, has_ended}
+use Rattle.amqp_rules.specs.Changes.{present_at, starve}
+use Rattle.amqp_rules.specs.Commands.{command}
+use Rattle.amqp_rules.specs.Answers.{Takes, TakesEvent, answer_in, answer_of, take_answer, take_event, take_frames, without_event, end_event}
+use Rattle.amqp_rules.specs.Talk.{end_of, end_of_link}
+use Rattle.amqp_rules.proofs.Soundness.{sound-start}
+use Rattle.amqp_rules.proofs.Keeping.{starve-ends}
 use Rattle.amqp_engine.specs.declared.port.Step.{Step}
 use Rattle.amqp_engine.specs.Engine.{Engine, begin, with_talk, starve_at, starved_before}
 use Rattle.amqp_engine.specs.Turn.{asks, IsApplied, applied}
@@ -31,10 +31,6 @@ use Rattle.amqp_hub.specs.Guarded.{Beginning, Guarded, guarded, IsKept}
 use Rattle.amqp_hub.proofs.Placing.{none-after, places-quiet, made-zeros, made-none, placed-called, counted-called}
 
 -- ---- the beginning
-
--- a new engine is one of its own address and options
-pub is-begun : (c : Config) (e : Engine) → e ≡ begin (start c) → e ≡ begin (start e.talk.config)
-is-begun c e h = h ∙ ap (λ (x : Config). begin (start x)) (sym (ap (λ (y : Engine). y.talk.config) h))
 
 pub kept-new : (c : Config) (e e' : Engine) (base : Beginning) (j : List Entry) (counts : List ℕ) → e ≡ begin (start c) → e' ≡ asks e
     → base ≡ record { engine = e; entries = 0; made = [] } → j ≡ [] → counts ≡ [] → IsKept (guarded e' base j counts)
@@ -208,15 +204,6 @@ without-made [] [] t = refl
 pub made-event : (given : Option Event) (t t' : Talk) → TakesEvent given t t' → t'.made ≡ t.made
 made-event given t t' (inl h) = ap (λ (x : Talk). x.made) h.1 ∙ without-made t.noted.events (end_event t.noted.tells_end (end_of t)) t
 made-event given t t' (inr h) = ap (λ (x : Talk). x.made) h.2
-
--- and where memory is refused
-pub made-starved : (at : ℕ) (e : Engine) → (starved_before at e).talk.made ≡ e.talk.made
-made-starved at e = if_case (λ (x : Engine). x.talk.made ≡ e.talk.made) (has_ended e.talk) e (starve_at at 0 e) refl (starved (present_at at e.talk) ∙ moved) where
-  moved : (present_at at e.talk).made ≡ e.talk.made
-  moved = if_case (λ (x : Talk). x.made ≡ e.talk.made) (has_ended e.talk) e.talk _ refl refl
-
-  starved : (t : Talk) → (starve t).made ≡ t.made
-  starved t = if_case (λ (x : Talk). x.made ≡ t.made) (has_ended t) t _ refl refl
 
 -- a turn makes no fewer
 pub made-turned : (u : Taken) (e x e' : Engine) → applied (turn_in u) e ≡ x → e' ≡ asks x → e.talk.made ≤ e'.talk.made

@@ -2,8 +2,8 @@
 use Rattle.std.proofs.Common.{◌≡◌, ◌≤◌, ◌<◌, ℕ, zero, suc, ◌+◌, ◌==◌, nat_lt, Bool, true, false, if◌then◌else◌, List, [], ◌∷◌, ◌++◌, length, Option, Some, None, slice_get, refl, ap, sym, ◌∙◌, subst, arith}
 use Rattle.std.proofs.lemmas.Bool.Decides.{nat_tests}
 use Rattle.amqp_types.proofs.Small.{if_by, if-true}
-use Rattle.amqp_session.specs.Sound.{AscendFrom, AllBelow}
-use Rattle.amqp_session.specs.declared.command.Cmd.{Cmd}
+use Rattle.amqp_rules.specs.Sound.{AscendFrom, AllBelow}
+use Rattle.amqp_commands.specs.declared.command.Cmd.{Cmd}
 use Rattle.amqp_journal.specs.declared.entry.Entry.{Entry}
 use Rattle.amqp_journal.specs.declared.entry.Entry.TheVariants.{Turn, Called, Own}
 use Rattle.amqp_hub.specs.Passes.{own_place, places, gapless}

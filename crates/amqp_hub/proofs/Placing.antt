@@ -9,7 +9,7 @@ use Rattle.amqp_types.proofs.Small.{if-true, if-false}
 use Rattle.std.specs.Option.{option_or}
 use Rattle.amqp_promise.specs.declared.error.ErrorKind.{ErrorKind}
 use Rattle.amqp_promise.specs.declared.error.ErrorKind.TheVariants.{ForeignPass}
-use Rattle.amqp_session.specs.declared.command.Cmd.{Cmd}
+use Rattle.amqp_commands.specs.declared.command.Cmd.{Cmd}
 use Rattle.amqp_journal.specs.declared.entry.Entry.{Entry}
 use Rattle.amqp_journal.specs.declared.entry.Entry.TheVariants.{Turn, Called, Own}
 use Rattle.amqp_hub.specs.declared.hub.Pass.{Pass}

@@ -4,10 +4,10 @@ use Rattle.amqp_promise.specs.declared.state.ConnectionState.{ConnectionState}
 use Rattle.amqp_promise.specs.declared.state.ConnectionState.TheVariants.{Initial, Connecting, Connected, Closing, Reconnecting}
 use Rattle.amqp_promise.specs.declared.state.ChannelState.{ChannelState}
 use Rattle.amqp_promise.specs.declared.state.ChannelState.TheVariants as channel
-use Rattle.amqp_session.specs.declared.command.ChanRef.{ChanRef}
-use Rattle.amqp_session.specs.declared.command.Cmd.TheVariants.{DropChannel, DropConnection}
-use Rattle.amqp_session.specs.Talk.{Talk}
-use Rattle.amqp_session.specs.Queries.{opening, channel_state}
+use Rattle.amqp_commands.specs.declared.command.ChanRef.{ChanRef}
+use Rattle.amqp_commands.specs.declared.command.Cmd.TheVariants.{DropChannel, DropConnection}
+use Rattle.amqp_rules.specs.Talk.{Talk}
+use Rattle.amqp_rules.specs.Queries.{opening, channel_state}
 use Rattle.amqp_hub.specs.declared.due.Owner.{Owner}
 use Rattle.amqp_hub.specs.declared.due.Owner.TheVariants as owner
 use Rattle.amqp_hub.specs.declared.due.Due.{Due}

@@ -1,7 +1,7 @@
 -- What stands behind the lock, and what is kept of it.
 use Rattle.std.specs.Prelude.{◌≡◌, ◌≤◌, ◌^◌, ℕ, suc, false, List}
-use Rattle.amqp_session.specs.Talk.{has_ended}
-use Rattle.amqp_session.specs.Sound.{IsSound}
+use Rattle.amqp_rules.specs.Talk.{has_ended}
+use Rattle.amqp_rules.specs.Sound.{IsSound}
 use Rattle.amqp_engine.specs.Engine.{Engine}
 use Rattle.amqp_journal.specs.declared.entry.Entry.{Entry}
 use Rattle.amqp_journal.specs.Journal.{AllMay, StandsSince}

@@ -1,6 +1,6 @@
 -- What is done about marks that were found.
 use Rattle.std.specs.Prelude.{Bool, true, false, [], ◌∷◌, ◌++◌}
-use Rattle.amqp_session.specs.Commands.{command}
+use Rattle.amqp_rules.specs.Commands.{command}
 use Rattle.amqp_engine.specs.Engine.{with_talk}
 use Rattle.amqp_journal.specs.declared.entry.Entry.TheVariants.{Own}
 use Rattle.amqp_hub.specs.declared.due.Owner.{Owner}

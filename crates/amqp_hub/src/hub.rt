@@ -4,10 +4,10 @@ ghost use Rattle.std.specs.Prelude.{◌≡◌, ◌≤◌, ◌<◌, ◌⊎◌, �
 ghost use Rattle.amqp_types.specs.declared.text.Text.{Text};
 ghost use Rattle.amqp_types.specs.Counts.{Rose};
 ghost use Rattle.amqp_promise.specs.declared.io_fault.IoFault.{IoFault};
-ghost use Rattle.amqp_session.specs.Talk.{start, has_ended, end_of};
-ghost use Rattle.amqp_session.specs.Answers.{Takes, TakesEvent, take_frames};
-ghost use Rattle.amqp_session.specs.ChannelMethods.{frames_of};
-ghost use Rattle.amqp_session.specs.Commands.{promise_of};
+ghost use Rattle.amqp_rules.specs.Talk.{start, has_ended, end_of};
+ghost use Rattle.amqp_rules.specs.Answers.{Takes, TakesEvent, take_frames};
+ghost use Rattle.amqp_rules.specs.ChannelMethods.{frames_of};
+ghost use Rattle.amqp_rules.specs.Commands.{promise_of};
 ghost use Rattle.amqp_engine.specs.Engine.{begin, with_talk};
 ghost use Rattle.amqp_engine.specs.Turn.{asks};
 ghost use Rattle.amqp_engine.specs.Tell.{log_asks};

@@ -1,7 +1,7 @@
 //! What a journal says of the commands of a pass, as a law.
 
 ghost use Rattle.std.specs.Prelude.{◌≡◌, ◌≤◌, ◌+◌, ℕ, List, length, Option, Some, slice_get};
-ghost use Rattle.amqp_session.specs.declared.command.Cmd.{Cmd};
+ghost use Rattle.amqp_commands.specs.declared.command.Cmd.{Cmd};
 ghost use Rattle.amqp_journal.specs.declared.entry.Entry.{Entry};
 ghost use Rattle.amqp_journal.specs.declared.entry.Entry.TheVariants.{Called};
 ghost use Rattle.amqp_hub.specs.Passes.{places, gapless};

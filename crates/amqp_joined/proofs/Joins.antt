@@ -1,7 +1,7 @@
 -- A turn that a joined port tells is one by its plan.
 use Rattle.std.proofs.Common.{◌≡◌, ◌<◌, ◌⊎◌, inl, inr, ◌∙◌, ap, sym, refl, subst, ℕ, ◌+◌, ◌&&◌, ◌||◌, not, min, if◌then◌else◌, Bool, true, false, true≢false, List, [], ◌∷◌, ◌++◌, length, length-append, append_assoc, Option, Some, None, arith}
 use Rattle.amqp_types.proofs.Small.{if_case, if-true, if-false, and-false, and-right, from-not-true}
-use Rattle.amqp_session.specs.declared.configuration.Configuration.{Configuration}
+use Rattle.amqp_settings.specs.declared.configuration.Configuration.{Configuration}
 use Rattle.amqp_engine.specs.declared.port.Step.{Step}
 use Rattle.amqp_engine.specs.declared.port.Step.TheVariants.{Linked, Tick}
 use Rattle.amqp_engine.specs.declared.port.Wrote.{Wrote}

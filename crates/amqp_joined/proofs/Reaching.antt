@@ -2,7 +2,7 @@
 use Rattle.std.proofs.Common.{◌≡◌, ◌≤◌, ◌<◌, ◌⊎◌, inl, inr, ◌∙◌, ap, sym, refl, subst, ℕ, ◌+◌, ◌&&◌, ◌||◌, not, if◌then◌else◌, Bool, true, false, List, [], ◌∷◌, ◌++◌, length, take, Option, Some, None, option_map, arith}
 use Rattle.std.specs.List.{AllByRecursion}
 use Rattle.amqp_types.proofs.Small.{if_case, if-true, if-false, and-left, and-right, from-not-true}
-use Rattle.amqp_session.specs.declared.configuration.Configuration.{Configuration}
+use Rattle.amqp_settings.specs.declared.configuration.Configuration.{Configuration}
 use Rattle.amqp_engine.specs.declared.port.Step.{Step}
 use Rattle.amqp_engine.specs.declared.port.Step.TheVariants.{Linked, LinkFailed, Piece, Room, Tick, Command}
 use Rattle.amqp_engine.specs.declared.port.Wrote.TheVariants.{Took, Failed, NoMemory}
@@ -56,16 +56,6 @@ tells-so step octets flag j after rule = by (wants flag j) refl where
 
 pub no-link : (s : Step) → s ≡ Linked → IsLater s → ⊥
 no-link s is l = subst IsLater is l
-
--- whichever flag, the same step leaves the same
-pub same-step : (step : Step) (octets octets' : List ℕ) (flag other : Bool) (j after later : Join) → TellsStep 0 step octets flag j after → TellsStep 0 step octets' other j later → after ≡ later
-same-step step octets octets' flag other j after later rule again = by (tells-so step octets flag j after rule) (tells-so step octets' other j later again) where
-  by : TellsLink step octets (wants flag j) j after ⊎ TellsLater step octets (wants flag j) j after
-      → TellsLink step octets' (wants other j) j later ⊎ TellsLater step octets' (wants other j) j later → after ≡ later
-  by (inl h) (inl k) = h.then_so ∙ sym k.then_so
-  by (inr h) (inr k) = h.then_so ∙ sym k.then_so
-  by (inl h) (inr k) = absurd (no-link step h.step_is k.later)
-  by (inr h) (inl k) = absurd (no-link step k.step_is h.later)
 
 -- ---- what each of these logs has
 

@@ -7,8 +7,8 @@ use Rattle.std.proofs.lemmas.List.{drop-append-le}
 use Rattle.amqp_types.proofs.Small.{and-left, and-right, from-not-true, if-true, if-false, if_case}
 use Rattle.amqp_frame.proofs.FrontStays.{front-none}
 use Rattle.amqp_legal.proofs.TakenIsLegal.{sound}
-use Rattle.amqp_session.specs.declared.command.Cmd.{Cmd}
-use Rattle.amqp_session.specs.declared.configuration.Configuration.{Configuration}
+use Rattle.amqp_commands.specs.declared.command.Cmd.{Cmd}
+use Rattle.amqp_settings.specs.declared.configuration.Configuration.{Configuration}
 use Rattle.amqp_engine.specs.declared.port.Step.{Step}
 use Rattle.amqp_engine.specs.declared.port.Step.TheVariants.{Linked, Piece, Room, Tick, Command}
 use Rattle.amqp_engine.specs.declared.port.Wrote.{Wrote}
@@ -345,9 +345,6 @@ tells_command old new c rest h unasked long none is same left items capacity = s
 
     bring : Cmd → List Happening
     bring x = map (marked_happening old.plan.commands.items old.double.said) old.marks.items ++ record { before = old.told; at = 0; step = Command x; bytes = [] } ∷ []
-
-last-number : (left all : List Cmd) → left ≡ [] → AreLast left all → command_at all (length all) ≡ last_close
-last-number left all none last = behind-all all last_close
 
 pub tells_close : (old new : Inside) (c : Cmd) → Holds old → wants old ≡ false → old.short ≡ false → (length (output_of old) == 0) ≡ true → old.commands.items ≡ [] → old.close ≡ Some c
     → new ≡ record old { close = None; marks = new.marks; told = at_most_64 (old.told + 1) }

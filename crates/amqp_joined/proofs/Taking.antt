@@ -5,11 +5,11 @@ use Rattle.amqp_types.proofs.Small.{if_case, if-true, some_is, equal-numbers}
 use Rattle.amqp_promise.specs.declared.error.ErrorKind.{ErrorKind}
 use Rattle.amqp_promise.specs.declared.error.ErrorKind.TheVariants.{NoMemory, OutOfTurns}
 use Rattle.amqp_auth.specs.Providers.{Exchange}
-use Rattle.amqp_session.specs.declared.configuration.Configuration.{Configuration}
-use Rattle.amqp_session.specs.Talk.{Talk, has_ended, end_of}
-use Rattle.amqp_session.specs.Answers.{HandsOut}
-use Rattle.amqp_session.specs.Changes.{present_at}
-use Rattle.amqp_session.proofs.Keeping.{starve-ends}
+use Rattle.amqp_settings.specs.declared.configuration.Configuration.{Configuration}
+use Rattle.amqp_rules.specs.Talk.{Talk, has_ended, end_of}
+use Rattle.amqp_rules.specs.Answers.{HandsOut}
+use Rattle.amqp_rules.specs.Changes.{present_at}
+use Rattle.amqp_rules.proofs.Keeping.{starve-ends}
 use Rattle.amqp_engine.specs.declared.port.Step.{Step}
 use Rattle.amqp_engine.specs.declared.port.Step.TheVariants.{Tick}
 use Rattle.amqp_engine.specs.declared.port.Happening.{Happening}

@@ -7,10 +7,10 @@ use Rattle.amqp_auth.specs.declared.asked.Question.{Question}
 use Rattle.amqp_auth.specs.declared.asked.Asked.{Asked}
 use Rattle.amqp_auth.specs.Providers.{Exchange, Allows}
 use Rattle.amqp_auth.specs.Asking.{Answer, paired}
-use Rattle.amqp_session.specs.Talk.{Talk, has_ended, end_of, is_open}
-use Rattle.amqp_session.specs.Changes.{present_at, fail, starve}
-use Rattle.amqp_session.specs.Writing.{frames_waiting, sent_among, taken}
-use Rattle.amqp_session.proofs.Keeping.{present-keeps, starve-ends}
+use Rattle.amqp_rules.specs.Talk.{Talk, has_ended, end_of, is_open}
+use Rattle.amqp_rules.specs.Changes.{present_at, fail, starve}
+use Rattle.amqp_rules.specs.Writing.{frames_waiting, sent_among, taken}
+use Rattle.amqp_rules.proofs.Keeping.{present-keeps, starve-ends}
 use Rattle.amqp_engine.specs.declared.port.Step.{Step}
 use Rattle.amqp_engine.specs.declared.port.Step.TheVariants.{Linked, LinkFailed, Piece, End, Fault, Room, Tick, Command}
 use Rattle.amqp_engine.specs.declared.port.Wrote.{Wrote}

@@ -1,8 +1,8 @@
 -- What a run over a joined port comes to.
 use Rattle.std.specs.Prelude.{◌≡◌, ◌≤◌, ◌<◌, ℕ, ◌-◌, ◌^◌, if◌then◌else◌, true, List, [], ◌∷◌, map, Some, None, Ok}
 use Rattle.amqp_auth.specs.Providers.{Exchange}
-use Rattle.amqp_session.specs.declared.configuration.Configuration.{Configuration}
-use Rattle.amqp_session.specs.Talk.{Talk, end_of}
+use Rattle.amqp_settings.specs.declared.configuration.Configuration.{Configuration}
+use Rattle.amqp_rules.specs.Talk.{Talk, end_of}
 use Rattle.amqp_faultless.specs.Faultless.{is_frame_max}
 use Rattle.amqp_written_rules.specs.Sayable.{AreInRange, CanBeSaid}
 use Rattle.amqp_engine.specs.Account.{IsNew}

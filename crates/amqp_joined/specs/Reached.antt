@@ -1,6 +1,6 @@
 -- How a joined port came to be as it is: by what happened to it since it was new.
 use Rattle.std.specs.Prelude.{ℕ, false, List, [], None}
-use Rattle.amqp_session.specs.declared.configuration.Configuration.{Configuration}
+use Rattle.amqp_settings.specs.declared.configuration.Configuration.{Configuration}
 use Rattle.amqp_engine.specs.declared.port.Step.{Step}
 use Rattle.amqp_engine.specs.declared.port.Wrote.{Wrote}
 use Rattle.amqp_engine.specs.Log.{Log, log_ask, log_step, log_write}

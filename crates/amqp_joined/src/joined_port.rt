@@ -4,9 +4,9 @@ ghost use Rattle.std.specs.Prelude.{◌≡◌, ◌≢◌, ◌≤◌, ◌<◌, �
 ghost use Rattle.amqp_types.specs.Counts.{Rose};
 ghost use Rattle.amqp_engine.specs.Counts.{HasCause};
 ghost use Rattle.amqp_promise.specs.declared.error.ErrorKind.{ErrorKind};
-ghost use Rattle.amqp_session.specs.declared.configuration.Configuration.{Configuration};
-ghost use Rattle.amqp_session.specs.Talk.{Talk, has_ended, end_of};
-ghost use Rattle.amqp_session.specs.Answers.{HandsOut};
+ghost use Rattle.amqp_settings.specs.declared.configuration.Configuration.{Configuration};
+ghost use Rattle.amqp_rules.specs.Talk.{Talk, has_ended, end_of};
+ghost use Rattle.amqp_rules.specs.Answers.{HandsOut};
 ghost use Rattle.amqp_engine.specs.Account.{Ran};
 ghost use Rattle.amqp_engine.specs.Log.{log_ask, log_step, log_write, piece_bytes, IsPiece, TookAtMost, PlansStep, PlansWrite};
 ghost use Rattle.amqp_engine.specs.Turn.{wants_ask};

@@ -1,8 +1,8 @@
 -- The writes of a turn keep the tie of both ends, however little of each is taken.
 use Rattle.std.proofs.Common.{◌≡◌, if◌then◌else◌, Bool, true, false, List, [], ◌∷◌, ◌++◌, length, append-nil, refl, ap, sym, subst}
 use Rattle.amqp_outbox.specs.declared.item.Item.{Item}
-use Rattle.amqp_session.specs.Config.{Options}
-use Rattle.amqp_session.specs.Sound.{IsSound}
+use Rattle.amqp_settings.specs.Config.{Options}
+use Rattle.amqp_rules.specs.Sound.{IsSound}
 use Rattle.amqp_faultless.specs.Faultless.{Server}
 use Rattle.amqp_types.proofs.Small.{if_case}
 use Rattle.amqp_faultless.proofs.Greeted.{IsMet}

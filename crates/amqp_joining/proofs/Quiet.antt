@@ -4,11 +4,11 @@ use Rattle.amqp_frame.specs.declared.frame.Frame.{Frame}
 use Rattle.amqp_outbox.specs.declared.item.Item.{Item}
 use Rattle.amqp_promise.specs.declared.state.ConnectionState.{ConnectionState}
 use Rattle.amqp_promise.specs.declared.state.ConnectionState.TheVariants.{Initial, Connecting, Connected, Closing, Closed, Reconnecting, Error}
-use Rattle.amqp_session.specs.declared.state.Phase.{Phase}
-use Rattle.amqp_session.specs.declared.state.Phase.TheVariants.{AwaitStart, AwaitTune, AwaitOpenOk}
-use Rattle.amqp_session.specs.declared.state.Input.{Input}
-use Rattle.amqp_session.specs.declared.state.Input.TheVariants.{Acting}
-use Rattle.amqp_session.specs.Talk.{Talk, is_acting}
+use Rattle.amqp_rules.specs.declared.state.Phase.{Phase}
+use Rattle.amqp_rules.specs.declared.state.Phase.TheVariants.{AwaitStart, AwaitTune, AwaitOpenOk}
+use Rattle.amqp_rules.specs.declared.state.Input.{Input}
+use Rattle.amqp_rules.specs.declared.state.Input.TheVariants.{Acting}
+use Rattle.amqp_rules.specs.Talk.{Talk, is_acting}
 use Rattle.amqp_faultless.specs.Faultless.{Server, ServerStage}
 use Rattle.amqp_faultless.specs.Faultless.ServerStage.{BeforeStart, BeforeTune, BeforeOpenOk, Serving, Gone}
 use Rattle.amqp_legal.specs.Legal.{amqp_header}

@@ -1,8 +1,8 @@
 -- A plan for both ends of a link, and how many turns it takes.
 use Rattle.std.specs.Prelude.{◌≢◌, ◌≤◌, ℕ, ◌+◌, ◌-◌, ◌*◌, ◌^◌, min, List, [], length, sum_by}
 use Rattle.std.specs.List.{AllByRecursion}
-use Rattle.amqp_session.specs.declared.command.Cmd.{Cmd}
-use Rattle.amqp_session.specs.declared.command.Cmd.TheVariants.{CloseChannel, CloseConnection, UpdateSecret, Send, Publish}
+use Rattle.amqp_commands.specs.declared.command.Cmd.{Cmd}
+use Rattle.amqp_commands.specs.declared.command.Cmd.TheVariants.{CloseChannel, CloseConnection, UpdateSecret, Send, Publish}
 use Rattle.amqp_joining.specs.declared.plan.Plan.{Plan}
 
 -- how the double's octets are cut, how much room the link has each time, and what the session is told to do

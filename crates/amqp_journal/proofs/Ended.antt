@@ -8,23 +8,23 @@ use Rattle.amqp_promise.specs.declared.io_fault.IoFault.{IoFault}
 use Rattle.amqp_promise.specs.declared.io_fault.IoFault.TheVariants.{Aborted, Reset, BrokenPipe}
 use Rattle.amqp_promise.specs.declared.state.ConnectionState.{ConnectionState}
 use Rattle.amqp_promise.specs.declared.state.ConnectionState.TheVariants.{Connected}
-use Rattle.amqp_session.specs.declared.state.Link.{Link}
-use Rattle.amqp_session.specs.declared.state.Link.TheVariants as at_link
-use Rattle.amqp_session.specs.declared.command.Cmd.{Cmd}
-use Rattle.amqp_session.specs.declared.command.Cmd.TheVariants.{DropChannel, DropConnection, Listen}
-use Rattle.amqp_session.specs.declared.command.Answer.{Answer}
+use Rattle.amqp_rules.specs.declared.state.Link.{Link}
+use Rattle.amqp_rules.specs.declared.state.Link.TheVariants as at_link
+use Rattle.amqp_commands.specs.declared.command.Cmd.{Cmd}
+use Rattle.amqp_commands.specs.declared.command.Cmd.TheVariants.{DropChannel, DropConnection, Listen}
+use Rattle.amqp_answers.specs.declared.answer.Answer.{Answer}
 use Rattle.amqp_auth.specs.declared.asked.Asked.{Asked}
-use Rattle.amqp_session.specs.Listed.{at, put}
-use Rattle.amqp_session.specs.Talk.{Talk, has_ended, end_of, end_of_link, is_open, is_open_link, is_asked, is_asked_link, is_wanted_link, acts}
-use Rattle.amqp_session.specs.Changes.{present_at, refuse, finish, lose}
-use Rattle.amqp_session.specs.Links.{asked, linked, link_failed, lost}
-use Rattle.amqp_session.specs.Commands.{command, command_rule, takes_promise}
-use Rattle.amqp_session.specs.Ticks.{is_connected, beats, is_missed, is_heartbeat_due, missing_heartbeat, heartbeat_due, beat, asks_validity, validity_told, secret_due, timed, link_at, link_due, tick}
-use Rattle.amqp_session.specs.Answers.{answer_in, answer_of}
-use Rattle.amqp_session.specs.Writing.{flows, fitting, writes, frames_waiting, next_out, longer_than, overlong, taken}
+use Rattle.amqp_maps.specs.Listed.{at, put}
+use Rattle.amqp_rules.specs.Talk.{Talk, has_ended, end_of, end_of_link, is_open, is_open_link, is_asked, is_asked_link, is_wanted_link, acts}
+use Rattle.amqp_rules.specs.Changes.{present_at, refuse, finish, lose}
+use Rattle.amqp_rules.specs.Links.{asked, linked, link_failed, lost}
+use Rattle.amqp_rules.specs.Commands.{command, command_rule, takes_promise}
+use Rattle.amqp_rules.specs.Ticks.{is_connected, beats, is_missed, is_heartbeat_due, missing_heartbeat, heartbeat_due, beat, asks_validity, validity_told, secret_due, timed, link_at, link_due, tick}
+use Rattle.amqp_rules.specs.Answers.{answer_in, answer_of}
+use Rattle.amqp_rules.specs.Writing.{flows, fitting, writes, frames_waiting, next_out, longer_than, overlong, taken}
 use Rattle.amqp_types.proofs.Small.{if_case, if-true, if-false}
-use Rattle.amqp_session.proofs.Numbered.{put-same, put-other}
-use Rattle.amqp_session.proofs.Ascending.{put-ascends}
+use Rattle.amqp_maps.proofs.Numbered.{put-same, put-other}
+use Rattle.amqp_rules.proofs.Ascending.{put-ascends}
 use Rattle.amqp_engine.specs.declared.port.Step.{Step}
 use Rattle.amqp_engine.specs.declared.port.Step.TheVariants.{Linked, LinkFailed, Piece, End, Fault, Room, Tick, Command}
 use Rattle.amqp_engine.specs.declared.port.Wrote.{Wrote}
@@ -263,9 +263,6 @@ drained-over (w ∷ ws) p over =
     (drained-over ws (offer_part w p) (subst Over (sym same) over) ∙ same) same
 
 -- ---- a turn
-
-pub over_turn : Turn → Talk → Talk
-over_turn v t = over_step v.step (is_before v.notes.starved 0) t
 
 pub applied-over : (v : Turn) (e : Engine) → Over e.talk → (applied v e).talk ≡ over_step v.step (is_before v.notes.starved 0) e.talk
 applied-over v e over =

@@ -1,11 +1,11 @@
 -- An end with an error was brought by a turn of the journal: no command ends a session, and what has ended stays so.
 use Rattle.std.proofs.Common.{◌≡◌, Bool, true, false, List, [], ◌∷◌, ◌++◌, Option, Some, None, Result, Ok, Err, is_some, true≢false, refl, ap, sym, ◌∙◌, subst}
 use Rattle.amqp_promise.specs.declared.error.ErrorKind.{ErrorKind}
-use Rattle.amqp_session.specs.declared.command.Cmd.{Cmd}
-use Rattle.amqp_session.specs.declared.state.Link.{Link}
-use Rattle.amqp_session.specs.Talk.{Talk, has_ended, end_of, end_of_link}
-use Rattle.amqp_session.specs.Commands.{command}
-use Rattle.amqp_session.specs.Sound.{IsSound}
+use Rattle.amqp_commands.specs.declared.command.Cmd.{Cmd}
+use Rattle.amqp_rules.specs.declared.state.Link.{Link}
+use Rattle.amqp_rules.specs.Talk.{Talk, has_ended, end_of, end_of_link}
+use Rattle.amqp_rules.specs.Commands.{command}
+use Rattle.amqp_rules.specs.Sound.{IsSound}
 use Rattle.amqp_engine.specs.declared.port.Step.{Step}
 use Rattle.amqp_engine.specs.declared.port.Step.TheVariants.{Linked, LinkFailed, Piece, End, Fault, Room, Tick, Command}
 use Rattle.amqp_engine.specs.Engine.{Engine, with_talk}

@@ -1,16 +1,16 @@
 -- The engine stands where its journal leads, less what was taken: what happens to it keeps that.
 use Rattle.std.proofs.Common.{◌≡◌, ◌≢◌, ◌⊎◌, inl, inr, ℕ, ◌+◌, ◌<◌, ◌≤◌, IsSome, is_some, Bool, true, false, List, [], ◌∷◌, ◌++◌, Option, Some, None, refl, ap, sym, ◌∙◌, subst, arith}
-use Rattle.amqp_session.specs.declared.command.Cmd.{Cmd}
-use Rattle.amqp_session.specs.Talk.{Talk, has_ended}
-use Rattle.amqp_session.specs.Config.{Config}
-use Rattle.amqp_session.specs.Commands.{command}
-use Rattle.amqp_session.specs.Listed.{at}
-use Rattle.amqp_session.specs.Answers.{answer_of, take_answer, take_event, take_frames}
-use Rattle.amqp_session.specs.Sound.{IsSound}
+use Rattle.amqp_commands.specs.declared.command.Cmd.{Cmd}
+use Rattle.amqp_rules.specs.Talk.{Talk, has_ended}
+use Rattle.amqp_settings.specs.Config.{Config}
+use Rattle.amqp_rules.specs.Commands.{command}
+use Rattle.amqp_maps.specs.Listed.{at}
+use Rattle.amqp_rules.specs.Answers.{answer_of, take_answer, take_event, take_frames}
+use Rattle.amqp_rules.specs.Sound.{IsSound}
 use Rattle.amqp_types.proofs.Small.{if_case}
 use Rattle.amqp_engine.specs.Engine.{Engine, with_talk}
 use Rattle.amqp_engine.specs.Turn.{Turn, IsApplied, wants_ask, asks, applied}
-use Rattle.amqp_session.specs.Links.{asked}
+use Rattle.amqp_rules.specs.Links.{asked}
 use Rattle.amqp_journal.specs.declared.entry.Entry.{Entry}
 use Rattle.amqp_journal.specs.declared.entry.Entry.TheVariants as entry
 use Rattle.amqp_journal.specs.declared.entry.Turn.{Turn as Taken}

@@ -2,17 +2,17 @@
 use Rattle.std.proofs.Common.{◌≡◌, ◌≢◌, ◌⊎◌, inl, inr, ℕ, ◌==◌, ◌<◌, Bool, true, false, List, [], ◌∷◌, ◌++◌, Option, Some, None, Result, Ok, Err, is_some, IsSome, unwrap_or, true≢false, append_assoc, refl, ap, sym, ◌∙◌, subst}
 use Rattle.std.specs.Map.{keys_of}
 use Rattle.amqp_promise.specs.declared.error.ErrorKind.{ErrorKind}
-use Rattle.amqp_session.specs.declared.command.Answer.{Answer}
-use Rattle.amqp_session.specs.declared.handed.Handed.{Handed}
-use Rattle.amqp_session.specs.declared.event.Event.{Event}
-use Rattle.amqp_session.specs.Listed.{at, without}
-use Rattle.amqp_session.specs.Sound.{Ascend}
-use Rattle.amqp_session.specs.Talk.{Talk, has_ended, end_of}
-use Rattle.amqp_session.specs.ChannelMethods.{frames_of}
-use Rattle.amqp_session.specs.Answers.{answer_in, answer_of, take_answer, end_event, events_of, without_event, take_event, take_frames}
+use Rattle.amqp_answers.specs.declared.answer.Answer.{Answer}
+use Rattle.amqp_answers.specs.declared.handed.Handed.{Handed}
+use Rattle.amqp_answers.specs.declared.event.Event.{Event}
+use Rattle.amqp_maps.specs.Listed.{at, without}
+use Rattle.amqp_rules.specs.Sound.{Ascend}
+use Rattle.amqp_rules.specs.Talk.{Talk, has_ended, end_of}
+use Rattle.amqp_rules.specs.ChannelMethods.{frames_of}
+use Rattle.amqp_rules.specs.Answers.{answer_in, answer_of, take_answer, end_event, events_of, without_event, take_event, take_frames}
 use Rattle.amqp_types.proofs.Small.{if_by}
-use Rattle.amqp_session.proofs.Numbered.{without-other}
-use Rattle.amqp_session.proofs.Ascending.{without-ascends, at-gone}
+use Rattle.amqp_maps.proofs.Numbered.{without-other}
+use Rattle.amqp_rules.proofs.Ascending.{without-ascends, at-gone}
 use Rattle.amqp_journal.specs.Untaken.{Untaken, untaken, with_untaken, Tied, AllThere}
 use Rattle.amqp_journal.specs.Left.{AnswerLeft, IsEndOf, IsGone, PartsLeft, IsLeft}
 use Rattle.amqp_journal.proofs.Parts.{decide, Slot}

@@ -4,19 +4,18 @@ use Rattle.std.specs.Ordering.{nat_cmp, is_eq}
 use Rattle.std.specs.declared.cmp.Ordering.{Ordering}
 use Rattle.std.specs.declared.cmp.Ordering.TheVariants.{Less, Equal, Greater}
 use Rattle.std.proofs.lemmas.Bool.Decides.{nat_tests}
-use Rattle.amqp_session.proofs.Ascending.{ranked, put-ascends}
-use Rattle.amqp_session.proofs.Recovering.{rejected_all-keys}
-use Rattle.amqp_session.specs.Sound.{Ascend}
+use Rattle.amqp_rules.proofs.Ascending.{ranked, put-ascends}
+use Rattle.amqp_rules.proofs.Recovering.{rejected_all-keys}
+use Rattle.amqp_rules.specs.Sound.{Ascend}
 use Rattle.std.specs.Map.{keys_of}
 use Rattle.amqp_promise.specs.declared.error.ErrorKind.{ErrorKind}
-use Rattle.amqp_session.specs.declared.command.Answer.{Answer}
-use Rattle.amqp_session.specs.declared.handed.Handed.{Handed}
-use Rattle.amqp_session.specs.declared.event.Event.{Event}
-use Rattle.amqp_session.specs.Listed.{at, put}
-use Rattle.amqp_session.specs.Events.{events_kept}
-use Rattle.amqp_session.specs.Changes.{Promises, settled, settled_by}
-use Rattle.amqp_session.specs.Recovery.{rejected_slot, rejected_all}
-use Rattle.amqp_session.proofs.Numbered.{put-same, put-other}
+use Rattle.amqp_answers.specs.declared.answer.Answer.{Answer}
+use Rattle.amqp_answers.specs.declared.handed.Handed.{Handed}
+use Rattle.amqp_answers.specs.declared.event.Event.{Event}
+use Rattle.amqp_maps.specs.Listed.{at, put}
+use Rattle.amqp_answers.specs.Events.{events_kept}
+use Rattle.amqp_answers.specs.Settled.{Promises, settled, settled_by, rejected_slot, rejected_all}
+use Rattle.amqp_maps.proofs.Numbered.{put-same, put-other}
 use Rattle.amqp_journal.specs.Untaken.{Untaken, IsClosed, handed_over, AllThere}
 use Rattle.amqp_journal.specs.Left.{AnswerLeft, IsEndOf, frames_in, PartsLeft}
 

@@ -10,27 +10,27 @@ use Rattle.amqp_promise.specs.declared.error.ErrorKind.TheVariants.{Serialisatio
 use Rattle.amqp_promise.specs.declared.state.ConnectionState.{ConnectionState}
 use Rattle.amqp_promise.specs.declared.state.ConnectionState.TheVariants.{Closed, Error}
 use Rattle.amqp_promise.specs.declared.io_fault.IoFault.TheVariants.{Aborted, Reset, BrokenPipe}
-use Rattle.amqp_session.specs.declared.misread.Misread.{Misread}
-use Rattle.amqp_session.specs.declared.misread.Misread.TheVariants.{TooLarge, BadHeartbeat, Bad}
+use Rattle.amqp_violations.specs.declared.misread.Misread.{Misread}
+use Rattle.amqp_violations.specs.declared.misread.Misread.TheVariants.{TooLarge, BadHeartbeat, Bad}
 use Rattle.amqp_auth.specs.declared.asked.Asked.{Asked}
-use Rattle.amqp_session.specs.declared.command.Answer.{Answer}
-use Rattle.amqp_session.specs.Listed.{at}
-use Rattle.amqp_session.specs.Sound.{IsSound, NamesItself, Ascend, AllBelow}
-use Rattle.amqp_session.specs.Laws.{is_end}
-use Rattle.amqp_session.specs.Talk.{Talk, is_open, is_asked, drops_input, has_ended}
-use Rattle.amqp_session.specs.Changes.{present_at, starve}
-use Rattle.amqp_session.specs.Links.{asked, linked, link_failed, piece, misread, lost}
-use Rattle.amqp_session.specs.Frames.{on_frame}
-use Rattle.amqp_session.specs.Ticks.{tick, is_connected}
-use Rattle.amqp_session.specs.Commands.{command}
-use Rattle.amqp_session.specs.Writing.{frames_waiting, end_overlong, taken}
+use Rattle.amqp_answers.specs.declared.answer.Answer.{Answer}
+use Rattle.amqp_maps.specs.Listed.{at}
+use Rattle.amqp_rules.specs.Sound.{IsSound, NamesItself, Ascend, AllBelow}
+use Rattle.amqp_rules.specs.Laws.{is_end}
+use Rattle.amqp_rules.specs.Talk.{Talk, is_open, is_asked, drops_input, has_ended}
+use Rattle.amqp_rules.specs.Changes.{present_at, starve}
+use Rattle.amqp_rules.specs.Links.{asked, linked, link_failed, piece, misread, lost}
+use Rattle.amqp_rules.specs.Frames.{on_frame}
+use Rattle.amqp_rules.specs.Ticks.{tick, is_connected}
+use Rattle.amqp_rules.specs.Commands.{command}
+use Rattle.amqp_rules.specs.Writing.{frames_waiting, end_overlong, taken}
 use Rattle.amqp_types.proofs.Small.{if_case}
-use Rattle.amqp_session.proofs.Ascending.{at-below}
-use Rattle.amqp_session.proofs.Numbered.{at-first}
-use Rattle.amqp_session.proofs.SoundChanges.{sound-lose, sound-starve, sound-present}
-use Rattle.amqp_session.proofs.SoundFrames.{sound-frame}
-use Rattle.amqp_session.proofs.SoundCommands.{sound-command}
-use Rattle.amqp_session.proofs.Soundness.{sound-asked, sound-linked, sound-link_failed, sound-piece, sound-misread, sound-lost, sound-tick, sound-commit, sound-taken, sound-ended}
+use Rattle.amqp_rules.proofs.Ascending.{at-below}
+use Rattle.amqp_maps.proofs.Numbered.{at-first}
+use Rattle.amqp_rules.proofs.SoundChanges.{sound-lose, sound-starve, sound-present}
+use Rattle.amqp_rules.proofs.SoundFrames.{sound-frame}
+use Rattle.amqp_rules.proofs.SoundCommands.{sound-command}
+use Rattle.amqp_rules.proofs.Soundness.{sound-asked, sound-linked, sound-link_failed, sound-piece, sound-misread, sound-lost, sound-tick, sound-commit, sound-taken, sound-ended}
 use Rattle.amqp_engine.specs.declared.port.Step.{Step}
 use Rattle.amqp_engine.specs.declared.port.Step.TheVariants.{Linked, LinkFailed, Piece, End, Fault, Room, Tick, Command}
 use Rattle.amqp_engine.specs.declared.port.Wrote.{Wrote}

@@ -2,11 +2,11 @@
 use Rattle.std.proofs.Common.{◌≡◌, ◌≤◌, arith, ℕ, zero, suc, ◌&&◌, Bool, true, false, if◌then◌else◌, List, [], length, Option, Some, None, refl, ap, sym, ◌∙◌}
 use Rattle.amqp_promise.specs.declared.io_fault.IoFault.{IoFault}
 use Rattle.amqp_promise.specs.declared.io_fault.IoFault.TheVariants.{Aborted, Reset}
-use Rattle.amqp_session.specs.Talk.{Talk, has_ended, is_open, is_asked, acts}
-use Rattle.amqp_session.specs.Changes.{present_at, starve, finish}
-use Rattle.amqp_session.specs.Links.{link_failed, lost}
+use Rattle.amqp_rules.specs.Talk.{Talk, has_ended, is_open, is_asked, acts}
+use Rattle.amqp_rules.specs.Changes.{present_at, starve, finish}
+use Rattle.amqp_rules.specs.Links.{link_failed, lost}
 use Rattle.amqp_types.proofs.Small.{if-false}
-use Rattle.amqp_session.proofs.Keeping.{present-keeps, present-twice}
+use Rattle.amqp_rules.proofs.Keeping.{present-keeps, present-twice}
 use Rattle.amqp_auth.specs.declared.asked.Question.{Question}
 use Rattle.amqp_engine.specs.declared.port.Step.{Step}
 use Rattle.amqp_engine.specs.declared.port.Step.TheVariants.{Linked, LinkFailed, Piece, End, Fault, Room, Tick, Command}

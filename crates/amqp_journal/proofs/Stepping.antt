@@ -1,9 +1,9 @@
 -- An engine that is another, less what was taken, stays so through a command, a turn, and the asking for a link.
 use Rattle.std.proofs.Common.{◌≡◌, ℕ, ◌&&◌, not, Bool, true, false, refl, ap, sym, ◌∙◌, subst}
-use Rattle.amqp_session.specs.declared.command.Cmd.{Cmd}
-use Rattle.amqp_session.specs.Talk.{Talk, has_ended, is_asked_link, is_wanted_link}
-use Rattle.amqp_session.specs.Config.{Config}
-use Rattle.amqp_session.specs.Commands.{command}
+use Rattle.amqp_commands.specs.declared.command.Cmd.{Cmd}
+use Rattle.amqp_rules.specs.Talk.{Talk, has_ended, is_asked_link, is_wanted_link}
+use Rattle.amqp_settings.specs.Config.{Config}
+use Rattle.amqp_rules.specs.Commands.{command}
 use Rattle.amqp_engine.specs.Engine.{Engine, with_talk}
 use Rattle.amqp_engine.specs.Turn.{Turn, wants_ask, asks, is_before, applied}
 use Rattle.amqp_journal.specs.Untaken.{Untaken, IsClosed}

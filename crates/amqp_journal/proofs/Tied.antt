@@ -24,44 +24,46 @@ use Rattle.amqp_promise.specs.declared.error.ErrorKind.{ErrorKind}
 use Rattle.amqp_promise.specs.declared.error.ErrorKind.TheVariants.{InvalidProtocolVersion, InvalidChannel, InvalidChannelState, InvalidConnectionState, AuthProviderError, ProtocolError, NoMemory, IOError, MissingHeartbeatError, ChannelsLimitReached, SerialisationError, OutboxFull}
 use Rattle.amqp_promise.specs.Shown.{shown}
 use Rattle.amqp_types.specs.declared.word.Word.TheVariants as word
-use Rattle.amqp_session.specs.declared.channels.Channel.{Channel}
-use Rattle.amqp_session.specs.declared.channels.Debt.{Debt}
-use Rattle.amqp_session.specs.declared.channels.Debt.TheVariants as debt
-use Rattle.amqp_session.specs.declared.committed.Mark.{Mark}
-use Rattle.amqp_session.specs.declared.committed.Then.{Then}
-use Rattle.amqp_session.specs.declared.committed.Then.TheVariants.{Nothing, Answer, Pays, Finish}
-use Rattle.amqp_session.specs.declared.state.Phase.{Phase}
-use Rattle.amqp_session.specs.declared.state.Phase.TheVariants.{AwaitStart, AwaitTune, AwaitOpenOk}
-use Rattle.amqp_session.specs.declared.server_close.ServerClose.{ServerClose}
-use Rattle.amqp_session.specs.declared.server_close.ServerClose.TheVariants.{WithoutError, WithError}
-use Rattle.amqp_session.specs.declared.misread.Misread.{Misread}
-use Rattle.amqp_session.specs.declared.handed.Handed.{Handed}
-use Rattle.amqp_session.specs.declared.command.Cmd.{Cmd}
-use Rattle.amqp_session.specs.declared.command.Cmd.TheVariants.{OpenChannel, CloseChannel, CloseConnection, UpdateSecret, Send, Publish, Flow, DropChannel, DropConnection, Listen}
-use Rattle.amqp_session.specs.declared.command.Answer.{Answer as AnyAnswer}
-use Rattle.amqp_session.specs.declared.command.Answer.TheVariants.{Channel as AnswerChannel, Connected as AnswerConnected, Done, Sent, Flow as AnswerFlow}
-use Rattle.amqp_session.specs.declared.event.Event.{Event}
-use Rattle.amqp_session.specs.declared.event.Event.TheVariants as event
+use Rattle.amqp_channels.specs.declared.channels.Channel.{Channel}
+use Rattle.amqp_channels.specs.declared.channels.Debt.{Debt}
+use Rattle.amqp_channels.specs.declared.channels.Debt.TheVariants as debt
+use Rattle.amqp_outgoing.specs.declared.committed.Mark.{Mark}
+use Rattle.amqp_outgoing.specs.declared.committed.Then.{Then}
+use Rattle.amqp_outgoing.specs.declared.committed.Then.TheVariants.{Nothing, Answer, Pays, Finish}
+use Rattle.amqp_rules.specs.declared.state.Phase.{Phase}
+use Rattle.amqp_rules.specs.declared.state.Phase.TheVariants.{AwaitStart, AwaitTune, AwaitOpenOk}
+use Rattle.amqp_violations.specs.declared.server_close.ServerClose.{ServerClose}
+use Rattle.amqp_violations.specs.declared.server_close.ServerClose.TheVariants.{WithoutError, WithError}
+use Rattle.amqp_violations.specs.declared.misread.Misread.{Misread}
+use Rattle.amqp_answers.specs.declared.handed.Handed.{Handed}
+use Rattle.amqp_commands.specs.declared.command.Cmd.{Cmd}
+use Rattle.amqp_commands.specs.declared.command.Cmd.TheVariants.{OpenChannel, CloseChannel, CloseConnection, UpdateSecret, Send, Publish, Flow, DropChannel, DropConnection, Listen}
+use Rattle.amqp_answers.specs.declared.answer.Answer.{Answer as AnyAnswer}
+use Rattle.amqp_answers.specs.declared.answer.Answer.TheVariants.{Channel as AnswerChannel, Connected as AnswerConnected, Done, Sent, Flow as AnswerFlow}
+use Rattle.amqp_answers.specs.declared.event.Event.{Event}
+use Rattle.amqp_answers.specs.declared.event.Event.TheVariants as event
 use Rattle.amqp_auth.specs.declared.asked.Asked.{Asked as ProviderAnswer}
 use Rattle.amqp_auth.specs.declared.asked.Asked.TheVariants as answer
-use Rattle.amqp_session.specs.Listed.{at, put, without, map_values}
-use Rattle.amqp_session.specs.Config.{Config}
-use Rattle.amqp_session.specs.Events as events
-use Rattle.amqp_session.specs.Events.{events_kept}
-use Rattle.amqp_session.specs.Talk.{Talk, has_ended, hears_on, is_open, is_asked, is_closing, acts}
-use Rattle.amqp_session.specs.Changes.{Promises, await, settled, settled_to, rejected_each, rejected, promises_on, replies_on, without_groups_of, present_at, queue, give, give_to, promise, refuse, note, tell_owed, drop_groups_of, drop_groups, drop_channel_of, drop_replies_of, fail, lose_by, lose, misplaced, close, finish, finish_by, starve}
-use Rattle.amqp_session.specs.Recovery.{next_delay, delayed, recovery_delay, rejected_all, reconnect}
-use Rattle.amqp_session.specs.Links.{asked, linked, dropped, lost, misread, piece, refused_after, link_failed}
-use Rattle.amqp_session.specs.Violations.{channel_closed_with, misread_error, stray_channel_frame, stray_connection_method, unawaited}
-use Rattle.amqp_session.specs.Handshake.{our_close, new_secret}
-use Rattle.amqp_session.specs.ConnectionMethods.{connected, reopen, reopen_each, on_open_ok, connection_rule, connection_closed, secret_taken, on_start, on_secure, started, challenged}
-use Rattle.amqp_session.specs.Channels.{channel_at, made_closing}
-use Rattle.amqp_session.specs.ChannelMethods.{heard_on, unawaited_channel_method, channel_opened, channel_closed, channel_flowed, channel_close_by, crossing_close, closed_by_server, remove_channel, remove_unless_owed, on_channel_flow, channel_rule, channel_method_by, channel_method, frames_of, hand_out, confirmed, is_select_ok, pass_through, raw_by}
-use Rattle.amqp_session.specs.Frames.{method_rule, frame_rule, closed_rule, on_frame}
-use Rattle.amqp_session.specs.Publishing.{method_frame, publish_frames}
-use Rattle.amqp_session.specs.Commands.{open_drawn, close_target, drop_target, flow_target, queue_secret, update_secret, too_long, unless_too_long, too_full, unless_full, queue_send, send_target, body_limit, queue_publish, publish_target, leave_channel, leave_connection, command, command_rule}
-use Rattle.amqp_session.specs.Ticks.{is_missed, is_heartbeat_due, missing_heartbeat, heartbeat_due, beat, asks_validity, has_expired, refreshed, refresh, validity_told, secret_due, link_due, timed, tick}
-use Rattle.amqp_session.specs.Writing.{next_within, commit, committed_as, overlong, end_overlong, next_frame, paid_off, paid_by, pay, follow, sent, sent_among, taken}
+use Rattle.amqp_maps.specs.Listed.{at, put, without, map_values}
+use Rattle.amqp_settings.specs.Config.{Config}
+use Rattle.amqp_answers.specs.Events as events
+use Rattle.amqp_answers.specs.Events.{events_kept}
+use Rattle.amqp_rules.specs.Talk.{Talk, has_ended, hears_on, is_open, is_asked, is_closing, acts}
+use Rattle.amqp_answers.specs.Settled.{Promises, settled, settled_to, rejected_all}
+use Rattle.amqp_rules.specs.Changes.{await, rejected_each, rejected, promises_on, replies_on, without_groups_of, present_at, queue, give, give_to, promise, refuse, note, tell_owed, drop_groups_of, drop_groups, drop_channel_of, drop_replies_of, fail, lose_by, lose, misplaced, close, finish, finish_by, starve}
+use Rattle.amqp_rules.specs.Recovery.{next_delay, delayed, recovery_delay, reconnect}
+use Rattle.amqp_rules.specs.Links.{asked, linked, dropped, lost, misread, piece, refused_after, link_failed}
+use Rattle.amqp_violations.specs.Violations.{channel_closed_with, misread_error, stray_channel_frame, stray_connection_method, unawaited}
+use Rattle.amqp_settings.specs.Handshake.{our_close, new_secret}
+use Rattle.amqp_rules.specs.ConnectionMethods.{connected, reopen, reopen_each, on_open_ok, connection_rule, connection_closed, secret_taken, on_start, on_secure, started, challenged}
+use Rattle.amqp_rules.specs.Channels.{channel_at}
+use Rattle.amqp_channels.specs.Channels.{made_closing}
+use Rattle.amqp_rules.specs.ChannelMethods.{heard_on, unawaited_channel_method, channel_opened, channel_closed, channel_flowed, channel_close_by, crossing_close, closed_by_server, remove_channel, remove_unless_owed, on_channel_flow, channel_rule, channel_method_by, channel_method, frames_of, hand_out, confirmed, is_select_ok, pass_through, raw_by}
+use Rattle.amqp_rules.specs.Frames.{method_rule, frame_rule, closed_rule, on_frame}
+use Rattle.amqp_commands.specs.Publishing.{method_frame, publish_frames}
+use Rattle.amqp_rules.specs.Commands.{open_drawn, close_target, drop_target, flow_target, queue_secret, update_secret, too_long, unless_too_long, too_full, unless_full, queue_send, send_target, body_limit, queue_publish, publish_target, leave_channel, leave_connection, command, command_rule}
+use Rattle.amqp_rules.specs.Ticks.{is_missed, is_heartbeat_due, missing_heartbeat, heartbeat_due, beat, asks_validity, has_expired, refreshed, refresh, validity_told, secret_due, link_due, timed, tick}
+use Rattle.amqp_rules.specs.Writing.{next_within, commit, committed_as, overlong, end_overlong, next_frame, paid_off, paid_by, pay, follow, sent, sent_among, taken}
 use Rattle.amqp_journal.specs.Untaken.{Untaken, untaken, with_untaken, handed_over, IsClosed, Tied}
 
 module _ (R : ℕ → Config → Untaken → Untaken → Type 0) (k : IsClosed R) where

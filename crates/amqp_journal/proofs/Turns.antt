@@ -7,21 +7,21 @@ use Rattle.amqp_frame.specs.declared.frame.Read.TheVariants as reading
 use Rattle.amqp_frame.specs.Frames.{encoding}
 use Rattle.amqp_outbox.specs.declared.item.Item.{Item}
 use Rattle.amqp_promise.specs.declared.io_fault.IoFault.TheVariants.{Aborted, Reset, BrokenPipe}
-use Rattle.amqp_session.specs.declared.misread.Misread.{Misread}
-use Rattle.amqp_session.specs.declared.misread.Misread.TheVariants.{TooLarge, BadHeartbeat, Bad}
+use Rattle.amqp_violations.specs.declared.misread.Misread.{Misread}
+use Rattle.amqp_violations.specs.declared.misread.Misread.TheVariants.{TooLarge, BadHeartbeat, Bad}
 use Rattle.amqp_auth.specs.declared.asked.Question.{Question}
 use Rattle.amqp_auth.specs.declared.asked.Question.TheVariants as question
 use Rattle.amqp_auth.specs.declared.asked.Asked.{Asked}
 use Rattle.amqp_auth.specs.declared.asked.Asked.TheVariants as answer
-use Rattle.amqp_session.specs.declared.command.Cmd.{Cmd}
-use Rattle.amqp_session.specs.Config.{Config}
-use Rattle.amqp_session.specs.Talk.{Talk, is_open, is_asked, has_ended, drops_input, acts}
-use Rattle.amqp_session.specs.Changes.{present_at, starve}
-use Rattle.amqp_session.specs.Links.{asked, linked, link_failed, piece, misread, lost}
-use Rattle.amqp_session.specs.Frames.{on_frame, frame_questions, questions_in}
-use Rattle.amqp_session.specs.Ticks.{beat, tick, asks_validity, secret_questions, refresh_questions, tick_questions}
-use Rattle.amqp_session.specs.Commands.{command}
-use Rattle.amqp_session.specs.Writing.{frames_waiting, commit, overlong, end_overlong, taken}
+use Rattle.amqp_commands.specs.declared.command.Cmd.{Cmd}
+use Rattle.amqp_settings.specs.Config.{Config}
+use Rattle.amqp_rules.specs.Talk.{Talk, is_open, is_asked, has_ended, drops_input, acts}
+use Rattle.amqp_rules.specs.Changes.{present_at, starve}
+use Rattle.amqp_rules.specs.Links.{asked, linked, link_failed, piece, misread, lost}
+use Rattle.amqp_rules.specs.Frames.{on_frame, frame_questions, questions_in}
+use Rattle.amqp_rules.specs.Ticks.{beat, tick, asks_validity, secret_questions, refresh_questions, tick_questions}
+use Rattle.amqp_rules.specs.Commands.{command}
+use Rattle.amqp_rules.specs.Writing.{frames_waiting, commit, overlong, end_overlong, taken}
 use Rattle.amqp_engine.specs.declared.port.Step.{Step}
 use Rattle.amqp_engine.specs.declared.port.Step.TheVariants.{Linked, LinkFailed, Piece, End, Fault, Room, Tick, Command}
 use Rattle.amqp_engine.specs.declared.port.Wrote.{Wrote}

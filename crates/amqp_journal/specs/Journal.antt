@@ -1,11 +1,11 @@
 -- The journal of an engine: its entries, and where they lead from a base.
 use Rattle.std.specs.Prelude.{◌≡◌, ◌⊎◌, ℕ, true, false, List, [], ◌∷◌, ◌++◌, IsSome}
 use Rattle.amqp_promise.specs.declared.error.ErrorKind.{ErrorKind}
-use Rattle.amqp_session.specs.Talk.{has_ended}
-use Rattle.amqp_session.specs.Ticks.{is_connected}
-use Rattle.amqp_session.specs.Config.{Config}
-use Rattle.amqp_session.specs.Commands.{command}
-use Rattle.amqp_session.specs.Answers.{answer_of}
+use Rattle.amqp_rules.specs.Talk.{has_ended}
+use Rattle.amqp_rules.specs.Ticks.{is_connected}
+use Rattle.amqp_settings.specs.Config.{Config}
+use Rattle.amqp_rules.specs.Commands.{command}
+use Rattle.amqp_rules.specs.Answers.{answer_of}
 use Rattle.amqp_engine.specs.Engine.{Engine, with_talk}
 use Rattle.amqp_engine.specs.declared.port.Step.{Step}
 use Rattle.amqp_engine.specs.Turn.{Notes, cut_notes, asks, turn, IsApplied}

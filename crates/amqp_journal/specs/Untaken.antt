@@ -1,15 +1,14 @@
 -- What can be taken of the state of a session, and what stays known of it through the rules.
 use Rattle.std.specs.Prelude.{◌≡◌, ◌⊎◌, ℕ, ◌+◌, ◌<◌, Bool, IsSome, List, [], ◌∷◌, ◌++◌, Option, Result, unwrap_or}
 use Rattle.amqp_promise.specs.declared.error.ErrorKind.{ErrorKind}
-use Rattle.amqp_session.specs.declared.command.Answer.{Answer}
-use Rattle.amqp_session.specs.declared.handed.Handed.{Handed}
-use Rattle.amqp_session.specs.declared.event.Event.{Event}
-use Rattle.amqp_session.specs.Config.{Config}
-use Rattle.amqp_session.specs.Changes.{Promises, settled}
-use Rattle.amqp_session.specs.Recovery.{rejected_all}
-use Rattle.amqp_session.specs.Events.{events_kept}
-use Rattle.amqp_session.specs.Listed.{at, put}
-use Rattle.amqp_session.specs.Talk.{Talk}
+use Rattle.amqp_answers.specs.declared.answer.Answer.{Answer}
+use Rattle.amqp_answers.specs.declared.handed.Handed.{Handed}
+use Rattle.amqp_answers.specs.declared.event.Event.{Event}
+use Rattle.amqp_settings.specs.Config.{Config}
+use Rattle.amqp_answers.specs.Settled.{Promises, settled, rejected_all}
+use Rattle.amqp_answers.specs.Events.{events_kept}
+use Rattle.amqp_maps.specs.Listed.{at, put}
+use Rattle.amqp_rules.specs.Talk.{Talk}
 
 -- what can be taken of a state: answers, frames that were handed out, and events
 pub record Untaken : Type 0 where

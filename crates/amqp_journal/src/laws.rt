@@ -2,12 +2,12 @@
 
 ghost use Rattle.std.specs.Prelude.{◌≡◌, ◌⊎◌, ◌<◌, ◌≤◌, ℕ, Option, Some, None, Err, IsSome, List, [], ◌∷◌, ◌++◌, true, false};
 ghost use Rattle.amqp_promise.specs.declared.error.ErrorKind.{ErrorKind};
-ghost use Rattle.amqp_session.specs.declared.command.Cmd.{Cmd};
-ghost use Rattle.amqp_session.specs.Talk.{Talk, has_ended, end_of};
-ghost use Rattle.amqp_session.specs.Commands.{command};
-ghost use Rattle.amqp_session.specs.Answers.{answer_of, take_answer, take_event, take_frames};
-ghost use Rattle.amqp_session.specs.Listed.{at};
-ghost use Rattle.amqp_session.specs.Sound.{IsSound};
+ghost use Rattle.amqp_commands.specs.declared.command.Cmd.{Cmd};
+ghost use Rattle.amqp_rules.specs.Talk.{Talk, has_ended, end_of};
+ghost use Rattle.amqp_rules.specs.Commands.{command};
+ghost use Rattle.amqp_rules.specs.Answers.{answer_of, take_answer, take_event, take_frames};
+ghost use Rattle.amqp_maps.specs.Listed.{at};
+ghost use Rattle.amqp_rules.specs.Sound.{IsSound};
 ghost use Rattle.amqp_engine.specs.Engine.{Engine, with_talk, starve_at};
 ghost use Rattle.amqp_engine.specs.declared.port.Step.{Step};
 ghost use Rattle.amqp_engine.specs.Turn.{IsApplied, asks, applied};

@@ -6,37 +6,37 @@ use Rattle.std.specs.List.{AllByRecursion}
 use Rattle.amqp_frame.specs.declared.frame.Frame.{Frame}
 use Rattle.amqp_outbox.specs.declared.item.Item.{Item}
 use Rattle.amqp_outbox.specs.Queued.{Queued, pushed_control}
-use Rattle.amqp_session.specs.declared.committed.Mark.{Mark}
+use Rattle.amqp_outgoing.specs.declared.committed.Mark.{Mark}
 use Rattle.amqp_promise.specs.declared.state.ConnectionState.{ConnectionState}
 use Rattle.amqp_promise.specs.declared.state.ConnectionState.TheVariants.{Connecting, Connected, Closing}
-use Rattle.amqp_session.specs.declared.state.Phase.{Phase}
-use Rattle.amqp_session.specs.declared.state.Phase.TheVariants.{AwaitStart, AwaitTune, AwaitOpenOk}
-use Rattle.amqp_session.specs.declared.state.Input.{Input}
-use Rattle.amqp_session.specs.declared.state.Input.TheVariants as input
+use Rattle.amqp_rules.specs.declared.state.Phase.{Phase}
+use Rattle.amqp_rules.specs.declared.state.Phase.TheVariants.{AwaitStart, AwaitTune, AwaitOpenOk}
+use Rattle.amqp_rules.specs.declared.state.Input.{Input}
+use Rattle.amqp_rules.specs.declared.state.Input.TheVariants as input
 use Rattle.amqp_promise.specs.declared.io_fault.IoFault.{IoFault}
 use Rattle.amqp_promise.specs.declared.io_fault.IoFault.TheVariants.{Refused}
-use Rattle.amqp_session.specs.declared.misread.Misread.{Misread}
-use Rattle.amqp_session.specs.declared.server_close.ServerClose.{ServerClose}
-use Rattle.amqp_session.specs.declared.server_close.ServerClose.TheVariants.{WithoutError, WithError}
+use Rattle.amqp_violations.specs.declared.misread.Misread.{Misread}
+use Rattle.amqp_violations.specs.declared.server_close.ServerClose.{ServerClose}
+use Rattle.amqp_violations.specs.declared.server_close.ServerClose.TheVariants.{WithoutError, WithError}
 use Rattle.amqp_promise.specs.declared.error.ErrorKind.{ErrorKind}
 use Rattle.amqp_promise.specs.declared.error.ErrorKind.TheVariants.{IOError, ProtocolError}
-use Rattle.amqp_session.specs.Talk.{Talk, has_ended, is_open, is_asked, is_acting, acts}
-use Rattle.amqp_session.specs.Changes.{present_at, close, fail, lose, finish, finish_by, starve}
-use Rattle.amqp_session.specs.Violations.{misread_error}
-use Rattle.amqp_session.specs.Capacities.{frame_min_size}
-use Rattle.amqp_session.specs.Handshake.{close_ok}
-use Rattle.amqp_session.specs.Links.{asked, refused_after, link_failed, piece, lost, misread, dropped}
-use Rattle.amqp_session.specs.Recovery.{next_delay, reconnect}
-use Rattle.amqp_session.specs.Answers.{answer_of, take_answer, take_frames}
-use Rattle.amqp_session.specs.Listed.{without}
+use Rattle.amqp_rules.specs.Talk.{Talk, has_ended, is_open, is_asked, is_acting, acts}
+use Rattle.amqp_rules.specs.Changes.{present_at, close, fail, lose, finish, finish_by, starve}
+use Rattle.amqp_violations.specs.Violations.{misread_error}
+use Rattle.amqp_settings.specs.Capacities.{frame_min_size}
+use Rattle.amqp_settings.specs.Handshake.{close_ok}
+use Rattle.amqp_rules.specs.Links.{asked, refused_after, link_failed, piece, lost, misread, dropped}
+use Rattle.amqp_rules.specs.Recovery.{next_delay, reconnect}
+use Rattle.amqp_rules.specs.Answers.{answer_of, take_answer, take_frames}
+use Rattle.amqp_maps.specs.Listed.{without}
 use Rattle.amqp_legal.specs.Legal.{amqp_header}
 use Rattle.amqp_legal.specs.Decider.{Speech, greeted, say, say_all, is_amqp_header, is_legal}
 use Rattle.amqp_legal.specs.declared.progress.Stage.TheVariants.{CloseOkSaid}
 use Rattle.amqp_legal.specs.declared.progress.Usage.TheVariants.{Shut, InUse}
 use Rattle.amqp_types.proofs.Small.{if_case, if_by, and-true, and-other}
-use Rattle.amqp_session.proofs.Recovering.{lose-by, recovers-open}
-use Rattle.amqp_session.proofs.Keeping.{starve-ends}
-use Rattle.amqp_session.proofs.Lacking.{lacks_link, closed-link, open-lacks, asked-open, asked-lacks, asked-lacking}
+use Rattle.amqp_rules.proofs.Recovering.{lose-by, recovers-open}
+use Rattle.amqp_rules.proofs.Keeping.{starve-ends}
+use Rattle.amqp_rules.proofs.Lacking.{lacks_link, closed-link, open-lacks, asked-open, asked-lacks, asked-lacking}
 use Rattle.amqp_legal.proofs.Sayable.{say-append, front-said, over-stays, close-said}
 use Rattle.amqp_legal_rules.proofs.Ties.{frames_in, LeadsTo, first_out, IsReady, IsOfControl, unpaid, TiesChannels, IsNew, TiesPhase, Ties, Speaks, IsTied, IsSilent}
 use Rattle.amqp_legal_rules.proofs.OnChannels.{Listed, Replies, on-alike}
@@ -161,9 +161,6 @@ now-lost fault t fs h =
     let Q : Talk → Type 0 = λ x. Now x fs in
     if_case Q (acts t) (lose (IOError fault) t) (if is_open t then finish t else t) (now-lose (IOError fault) t fs h)
     (if_case Q (is_open t) (finish t) t (now-finish t.server_close t fs h) h)
-
-pub now-starve : (t : Talk) (fs : List Frame) → Now t fs → Now (starve t) fs
-now-starve t fs h = now-ended (starve t) fs (starve-ends t)
 
 -- ---- what can be no frame
 

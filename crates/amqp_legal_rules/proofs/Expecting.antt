@@ -11,11 +11,11 @@ use Rattle.amqp_outbox.specs.declared.reply.Reply.TheVariants.{ChannelOpened, Ch
 use Rattle.amqp_outbox.specs.Lists.{without_first}
 use Rattle.amqp_outbox.specs.Replies.{method_of, is_of, awaited_on, left_on, expected, first_awaited, left_awaited}
 use Rattle.amqp_outbox.specs.Queued.{Queued, awaited_promise}
-use Rattle.amqp_session.specs.Listed.{without}
-use Rattle.amqp_session.specs.Sound.{Ascend}
+use Rattle.amqp_maps.specs.Listed.{without}
+use Rattle.amqp_rules.specs.Sound.{Ascend}
 use Rattle.amqp_types.proofs.Small.{the-number, equal-numbers}
-use Rattle.amqp_session.proofs.Ascending.{put-ascends, without-ascends, at-gone}
-use Rattle.amqp_session.proofs.Numbered.{put-same, put-other, without-other}
+use Rattle.amqp_rules.proofs.Ascending.{put-ascends, without-ascends, at-gone}
+use Rattle.amqp_maps.proofs.Numbered.{put-same, put-other, without-other}
 use Rattle.amqp_legal_rules.proofs.Ties.{is_tied, tied_on}
 
 -- the kinds of some awaited replies, of those that tie

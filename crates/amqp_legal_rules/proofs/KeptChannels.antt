@@ -9,20 +9,20 @@ use Rattle.amqp_outbox.specs.declared.reply.Awaited.{Awaited}
 use Rattle.amqp_outbox.specs.declared.reply.Reply.{Reply}
 use Rattle.amqp_outbox.specs.declared.reply.Reply.TheVariants.{ChannelOpened}
 use Rattle.amqp_outbox.specs.Replies.{expected}
-use Rattle.amqp_session.specs.declared.channels.Channel.{Channel}
-use Rattle.amqp_session.specs.declared.channels.Debt.TheVariants.{Nothing}
+use Rattle.amqp_channels.specs.declared.channels.Channel.{Channel}
+use Rattle.amqp_channels.specs.declared.channels.Debt.TheVariants.{Nothing}
 use Rattle.amqp_promise.specs.declared.state.ChannelState.{ChannelState}
-use Rattle.amqp_session.specs.Handshake.{channel_open}
-use Rattle.amqp_session.specs.Listed.{at, without, map_values}
-use Rattle.amqp_session.specs.Recovery.{is_kept_in, reconnecting, kept}
+use Rattle.amqp_settings.specs.Handshake.{channel_open}
+use Rattle.amqp_maps.specs.Listed.{at, without, map_values}
+use Rattle.amqp_channels.specs.Kept.{is_kept_in, reconnecting, kept}
 use Rattle.amqp_legal.specs.Decider.{Speech, say, now_on}
 use Rattle.amqp_legal.specs.declared.progress.Stage.TheVariants.{OpenSaid}
 use Rattle.amqp_legal.specs.declared.progress.Usage.{Usage}
 use Rattle.amqp_legal.specs.declared.progress.Usage.TheVariants.{InUse}
 use Rattle.amqp_legal.proofs.Sayable.{IsComplete}
-use Rattle.amqp_session.specs.Sound.{AscendFrom, Ascend}
-use Rattle.amqp_session.proofs.Ascending.{ascend-below, without-from, at-gone, none-below, map_values-from, filter-from}
-use Rattle.amqp_session.proofs.Numbered.{at-first, at-later, without-other}
+use Rattle.amqp_rules.specs.Sound.{AscendFrom, Ascend}
+use Rattle.amqp_rules.proofs.Ascending.{ascend-below, without-from, at-gone, none-below, map_values-from, filter-from}
+use Rattle.amqp_maps.proofs.Numbered.{at-first, at-later, without-other}
 use Rattle.amqp_legal_rules.proofs.Ties.{tied_on, owing, TiesState, TiesOn, TiesChannels, IsKept}
 use Rattle.amqp_legal_rules.proofs.Expecting.{expected-same, expected-other, expected-ascend}
 use Rattle.amqp_legal_rules.proofs.OnChannels.{Replies, Listed, ascends, ties-as, Others, used-same, used-other, owing-by, say-opening}

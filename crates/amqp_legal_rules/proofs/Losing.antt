@@ -10,7 +10,7 @@ use Rattle.amqp_outbox.specs.declared.item.Item.{Item}
 use Rattle.amqp_outbox.specs.Items.{outlives}
 use Rattle.amqp_outbox.specs.Queued.{goes_with}
 use Rattle.amqp_legal.specs.Octets.{class_in}
-use Rattle.amqp_session.specs.Writing.{then_of}
+use Rattle.amqp_outgoing.specs.Marks.{then_of}
 use Rattle.amqp_legal.specs.Decider.{Speech, say, say_all, in_stage, in_content, say_block, say_open, say_use, say_close, say_close_ok, is_passed_through, now_on}
 use Rattle.amqp_legal.specs.declared.progress.Stage.{Stage}
 use Rattle.amqp_legal.specs.declared.progress.Stage.TheVariants.{HeaderSaid, StartOkSaid, TuneOkSaid, OpenSaid, CloseSaid, CloseOkSaid}

@@ -10,13 +10,13 @@ use Rattle.amqp_outbox.specs.declared.reply.Awaited.{Awaited}
 use Rattle.amqp_outbox.specs.declared.reply.Reply.{Reply}
 use Rattle.amqp_outbox.specs.declared.reply.Reply.TheVariants.{ChannelOpened, ChannelClosed}
 use Rattle.amqp_outbox.specs.Replies.{expected, left_awaited}
-use Rattle.amqp_session.specs.declared.channels.Channel.{Channel}
-use Rattle.amqp_session.specs.declared.channels.Debt.{Debt}
+use Rattle.amqp_channels.specs.declared.channels.Channel.{Channel}
+use Rattle.amqp_channels.specs.declared.channels.Debt.{Debt}
 use Rattle.amqp_promise.specs.declared.state.ChannelState.{ChannelState}
 use Rattle.amqp_promise.specs.declared.state.ChannelState.TheVariants as channel
-use Rattle.amqp_session.specs.Handshake.{channel_open, our_channel_close}
-use Rattle.amqp_session.specs.Listed.{at, put}
-use Rattle.amqp_session.specs.Channels.{new_channel, made_leaving}
+use Rattle.amqp_settings.specs.Handshake.{channel_open, our_channel_close}
+use Rattle.amqp_maps.specs.Listed.{at, put}
+use Rattle.amqp_channels.specs.Channels.{new_channel, made_leaving}
 use Rattle.amqp_legal.specs.Octets.{class_in}
 use Rattle.amqp_legal.specs.Decider.{Speech, say, say_open, say_use, say_close, now_on}
 use Rattle.amqp_legal.specs.declared.progress.Stage.TheVariants.{OpenSaid}
@@ -27,9 +27,9 @@ use Rattle.amqp_legal.specs.declared.progress.Content.TheVariants.{MethodSaid}
 use Rattle.amqp_legal.specs.Legal.{IsPassedThrough}
 use Rattle.amqp_types.proofs.Small.{same-number, other-number}
 use Rattle.amqp_legal.proofs.Sayable.{IsComplete, say-on, say-raw}
-use Rattle.amqp_session.specs.Sound.{AscendFrom, Ascend}
-use Rattle.amqp_session.proofs.Ascending.{put-from, none-below}
-use Rattle.amqp_session.proofs.Numbered.{put-same, put-other}
+use Rattle.amqp_rules.specs.Sound.{AscendFrom, Ascend}
+use Rattle.amqp_rules.proofs.Ascending.{put-from, none-below}
+use Rattle.amqp_maps.proofs.Numbered.{put-same, put-other}
 use Rattle.amqp_legal_rules.proofs.Ties.{is_tied, tied_on, owing, TiesClosing, TiesState, TiesOn, TiesChannels, is_close_among}
 use Rattle.amqp_legal_rules.proofs.Expecting.{expected-same, expected-other, expected-ascend, answered-ascend, untied-answered}
 

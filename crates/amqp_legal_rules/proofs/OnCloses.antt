@@ -6,19 +6,19 @@ use Rattle.amqp_outbox.specs.declared.reply.Awaited.{Awaited}
 use Rattle.amqp_outbox.specs.declared.reply.Reply.{Reply}
 use Rattle.amqp_outbox.specs.declared.reply.Reply.TheVariants.{ChannelOpened, ChannelClosed}
 use Rattle.amqp_outbox.specs.Replies.{method_of, first_awaited, left_awaited}
-use Rattle.amqp_session.specs.declared.channels.Channel.{Channel}
-use Rattle.amqp_session.specs.declared.channels.Debt.{Debt}
-use Rattle.amqp_session.specs.declared.channels.Debt.TheVariants.{Nothing, Owed, Paid}
+use Rattle.amqp_channels.specs.declared.channels.Channel.{Channel}
+use Rattle.amqp_channels.specs.declared.channels.Debt.{Debt}
+use Rattle.amqp_channels.specs.declared.channels.Debt.TheVariants.{Nothing, Owed, Paid}
 use Rattle.amqp_promise.specs.declared.state.ChannelState.{ChannelState}
 use Rattle.amqp_promise.specs.declared.state.ChannelState.TheVariants as channel
-use Rattle.amqp_session.specs.Listed.{at, put, without}
-use Rattle.amqp_session.specs.Channels.{made_answered, is_owed}
+use Rattle.amqp_maps.specs.Listed.{at, put, without}
+use Rattle.amqp_channels.specs.Channels.{made_answered, is_owed}
 use Rattle.amqp_legal.specs.Decider.{Speech, now_on}
 use Rattle.amqp_legal.specs.declared.progress.Usage.{Usage}
 use Rattle.amqp_legal.specs.declared.progress.Usage.TheVariants.{Shut, InUse, Left}
-use Rattle.amqp_session.specs.Sound.{Ascend}
-use Rattle.amqp_session.proofs.Ascending.{put-from, without-from, without-ascends, at-gone}
-use Rattle.amqp_session.proofs.Numbered.{put-same, put-other, without-other}
+use Rattle.amqp_rules.specs.Sound.{Ascend}
+use Rattle.amqp_rules.proofs.Ascending.{put-from, without-from, without-ascends, at-gone}
+use Rattle.amqp_maps.proofs.Numbered.{put-same, put-other, without-other}
 use Rattle.amqp_legal_rules.proofs.Ties.{tied_on, owing, TiesClosing, TiesState, TiesChannels, is_close_among}
 use Rattle.amqp_legal_rules.proofs.Expecting.{answered-other, answered-ascend, none-awaited, one-answered, gone-same, gone-other}
 use Rattle.amqp_legal_rules.proofs.OnChannels.{Replies, Listed, above-zero, ascends, ties-as, on-change, used-same, used-other, ties-of, awaits-of, listed-some, owed-of, owed-put, debt-owing, owing-by}

@@ -10,50 +10,51 @@ use Rattle.amqp_frame.specs.RawMethods.{OtherMethod, spell_raw_method}
 use Rattle.amqp_outbox.specs.declared.item.Item.{Item}
 use Rattle.amqp_outbox.specs.declared.reply.Reply.TheVariants.{FlowDone, SecretDone}
 use Rattle.amqp_outbox.specs.Items.{plain_item, promised_item, group_of}
-use Rattle.amqp_session.specs.declared.channels.Channel.{Channel}
+use Rattle.amqp_channels.specs.declared.channels.Channel.{Channel}
 use Rattle.amqp_promise.specs.declared.state.ConnectionState.{ConnectionState}
 use Rattle.amqp_promise.specs.declared.state.ConnectionState.TheVariants.{Connected, Closing}
 use Rattle.amqp_promise.specs.declared.state.ChannelState.{ChannelState}
 use Rattle.amqp_promise.specs.declared.state.ChannelState.TheVariants as channel
-use Rattle.amqp_session.specs.declared.state.Phase.{Phase}
-use Rattle.amqp_session.specs.declared.state.Link.{Link}
-use Rattle.amqp_session.specs.declared.state.Link.TheVariants.{Due, Wanted}
-use Rattle.amqp_session.specs.declared.state.Input.{Input}
-use Rattle.amqp_session.specs.declared.state.Input.TheVariants as input
-use Rattle.amqp_session.specs.declared.command.Cmd.{Cmd}
-use Rattle.amqp_session.specs.declared.command.Cmd.TheVariants.{OpenChannel, CloseChannel, CloseConnection, UpdateSecret, Send, Publish, Flow, DropChannel, DropConnection, Listen}
-use Rattle.amqp_session.specs.declared.command.ChanRef.{ChanRef}
+use Rattle.amqp_rules.specs.declared.state.Phase.{Phase}
+use Rattle.amqp_rules.specs.declared.state.Link.{Link}
+use Rattle.amqp_rules.specs.declared.state.Link.TheVariants.{Due, Wanted}
+use Rattle.amqp_rules.specs.declared.state.Input.{Input}
+use Rattle.amqp_rules.specs.declared.state.Input.TheVariants as input
+use Rattle.amqp_commands.specs.declared.command.Cmd.{Cmd}
+use Rattle.amqp_commands.specs.declared.command.Cmd.TheVariants.{OpenChannel, CloseChannel, CloseConnection, UpdateSecret, Send, Publish, Flow, DropChannel, DropConnection, Listen}
+use Rattle.amqp_commands.specs.declared.command.ChanRef.{ChanRef}
 use Rattle.amqp_promise.specs.declared.error.ErrorKind.{ErrorKind}
 use Rattle.amqp_promise.specs.declared.error.ErrorKind.TheVariants.{MissingHeartbeatError}
 use Rattle.amqp_auth.specs.declared.asked.Asked.{Asked as ProviderAnswer}
-use Rattle.amqp_session.specs.Talk.{Talk, is_open, is_open_link}
-use Rattle.amqp_session.specs.Changes.{next_promise, lose, queue}
-use Rattle.amqp_session.specs.Handshake.{our_close, new_secret, channel_open, channel_flow, our_channel_close}
-use Rattle.amqp_session.specs.Channels.{made_closing, channel_at}
-use Rattle.amqp_session.specs.Publishing.{method_frame, publish_frames}
-use Rattle.amqp_session.specs.Commands.{command, command_rule, open_drawn, open_as, named, target, target_by, target_in, leave_channel, close_target, leave_connection, drop_target, flow_target, tell_flow, queue_secret, update_secret, too_long, unless_too_long, too_full, unless_full, queue_send, send, send_target, body_limit, queue_publish, publish, publish_target}
-use Rattle.amqp_session.specs.Ticks.{is_missed, is_heartbeat_due, missing_heartbeat, beat, refreshed, refresh_reason, link_at, link_due, timed, tick}
-use Rattle.amqp_session.specs.Numbering.{first_number, drawn}
+use Rattle.amqp_rules.specs.Talk.{Talk, is_open, is_open_link}
+use Rattle.amqp_rules.specs.Changes.{next_promise, lose, queue}
+use Rattle.amqp_settings.specs.Handshake.{our_close, new_secret, channel_open, channel_flow, our_channel_close, refresh_reason}
+use Rattle.amqp_channels.specs.Channels.{made_closing}
+use Rattle.amqp_rules.specs.Channels.{channel_at}
+use Rattle.amqp_commands.specs.Publishing.{method_frame, publish_frames}
+use Rattle.amqp_rules.specs.Commands.{command, command_rule, open_drawn, open_as, named, target, target_by, target_in, leave_channel, close_target, leave_connection, drop_target, flow_target, tell_flow, queue_secret, update_secret, too_long, unless_too_long, too_full, unless_full, queue_send, send, send_target, body_limit, queue_publish, publish, publish_target}
+use Rattle.amqp_rules.specs.Ticks.{is_missed, is_heartbeat_due, missing_heartbeat, beat, refreshed, link_at, link_due, timed, tick}
+use Rattle.amqp_channels.specs.Numbering.{first_number, drawn}
 use Rattle.amqp_legal.specs.Octets.{class_in}
 use Rattle.amqp_legal.specs.Legal.{IsPassedThrough}
 use Rattle.amqp_legal.specs.Decider.{Speech, now_on}
 use Rattle.amqp_legal.specs.declared.progress.Stage.TheVariants.{CloseSaid}
 use Rattle.amqp_legal.specs.declared.progress.Usage.TheVariants.{InUse, Left}
 use Rattle.amqp_legal.specs.declared.progress.Content.TheVariants.{NoContent, MethodSaid}
-use Rattle.amqp_session.proofs.Heard.{secret-case}
+use Rattle.amqp_rules.proofs.Heard.{secret-case}
 use Rattle.amqp_types.proofs.Small.{if_case, if_by}
-use Rattle.amqp_session.proofs.Keeping.{asks-connected, beats-connected}
-use Rattle.amqp_session.proofs.Lacking.{lacks_link}
-use Rattle.amqp_session.proofs.Ascending.{map_values-from}
+use Rattle.amqp_rules.proofs.Keeping.{asks-connected, beats-connected}
+use Rattle.amqp_rules.proofs.Lacking.{lacks_link}
+use Rattle.amqp_rules.proofs.Ascending.{map_values-from}
 use Rattle.amqp_legal.proofs.Sayable.{say-heartbeat, say-secret, say-our-close, say-flow}
 use Rattle.amqp_legal_rules.proofs.Ties.{IsReady, IsOfControl, TiesChannels, Ties, Speaks, IsTied, Rests, IsSendable}
 use Rattle.amqp_legal_rules.proofs.Ready.{stay-ready, open-ready, others-ready, publish-content, publish-ready, pieces-fit}
 use Rattle.amqp_legal_rules.proofs.Paying.{none-more}
 use Rattle.amqp_legal_rules.proofs.OnChannels.{Listed, Replies, on-alike, with-content, on-open, on-close, on-send, on-await-untied, listed-some, used-open}
 use Rattle.amqp_legal_rules.proofs.Conversing.{Now, pushed, now-lose, now-open, speaks-as, tied-as, In, due_in, now-ties}
-use Rattle.amqp_session.proofs.SoundCommands.{named-listed}
-use Rattle.amqp_session.proofs.Walking.{all-append}
-use Rattle.amqp_session.proofs.Drawn.{drawn-free}
+use Rattle.amqp_rules.proofs.SoundCommands.{named-listed}
+use Rattle.amqp_channels.proofs.Walking.{all-append}
+use Rattle.amqp_channels.proofs.Drawn.{drawn-free}
 
 -- once the connection is open, frames act
 talking : (i : Input) (p : Phase) (cs : Listed) (ws : Replies) (due : ℕ → ℕ) (v : Speech) → Ties i Connected p cs ws due v → (i ≡ input.Acting) × TiesChannels cs ws due v

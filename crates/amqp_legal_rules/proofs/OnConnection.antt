@@ -8,26 +8,26 @@ use Rattle.amqp_outbox.specs.declared.item.Item.{Item}
 use Rattle.amqp_outbox.specs.declared.reply.Reply.TheVariants.{ChannelOpened, SecretDone, ConnectionClosed}
 use Rattle.amqp_outbox.specs.Items.{plain_item}
 use Rattle.amqp_outbox.specs.Queued.{Queued, pushed_control, awaited_promise}
-use Rattle.amqp_session.specs.declared.configuration.Configuration.{Configuration}
+use Rattle.amqp_settings.specs.declared.configuration.Configuration.{Configuration}
 use Rattle.amqp_promise.specs.declared.state.ConnectionState.{ConnectionState}
 use Rattle.amqp_promise.specs.declared.state.ConnectionState.TheVariants.{Connecting, Connected, Closing}
-use Rattle.amqp_session.specs.declared.state.Phase.{Phase}
-use Rattle.amqp_session.specs.declared.state.Phase.TheVariants.{AwaitStart, AwaitTune, AwaitOpenOk}
-use Rattle.amqp_session.specs.declared.state.Input.TheVariants as input
+use Rattle.amqp_rules.specs.declared.state.Phase.{Phase}
+use Rattle.amqp_rules.specs.declared.state.Phase.TheVariants.{AwaitStart, AwaitTune, AwaitOpenOk}
+use Rattle.amqp_rules.specs.declared.state.Input.TheVariants as input
 use Rattle.amqp_promise.specs.declared.error.ErrorKind.TheVariants.{InvalidConnectionState, AuthProviderError}
 use Rattle.amqp_auth.specs.declared.asked.Asked.{Asked as ProviderAnswer}
-use Rattle.amqp_session.specs.Talk.{Talk, has_ended, is_open}
-use Rattle.amqp_session.specs.Changes.{queue, await}
-use Rattle.amqp_session.specs.Capacities.{frame_min_size}
-use Rattle.amqp_session.specs.Negotiation.{tune}
-use Rattle.amqp_session.specs.Handshake.{start_ok, secure_ok, tune_ok, open_vhost, close_ok, channel_open}
-use Rattle.amqp_session.specs.ConnectionMethods.{connection_rule, on_connection_close, started, challenged, on_tune, connected, reopen_each, on_open_ok, on_connection_close_ok, connection_closed, secret_taken}
-use Rattle.amqp_session.specs.ChannelMethods.{remove_channel}
+use Rattle.amqp_rules.specs.Talk.{Talk, has_ended, is_open}
+use Rattle.amqp_rules.specs.Changes.{queue, await}
+use Rattle.amqp_settings.specs.Capacities.{frame_min_size}
+use Rattle.amqp_settings.specs.Negotiation.{tune}
+use Rattle.amqp_settings.specs.Handshake.{start_ok, secure_ok, tune_ok, open_vhost, close_ok, channel_open}
+use Rattle.amqp_rules.specs.ConnectionMethods.{connection_rule, on_connection_close, started, challenged, on_tune, connected, reopen_each, on_open_ok, on_connection_close_ok, connection_closed, secret_taken}
+use Rattle.amqp_rules.specs.ChannelMethods.{remove_channel}
 use Rattle.amqp_legal.specs.Decider.{Speech, now_on, greeted, say}
 use Rattle.amqp_legal.specs.declared.progress.Stage.{Stage}
 use Rattle.amqp_legal.specs.declared.progress.Stage.TheVariants.{HeaderSaid, StartOkSaid, TuneOkSaid, OpenSaid, CloseSaid, CloseOkSaid}
 use Rattle.amqp_legal.specs.declared.progress.Usage.TheVariants.{InUse}
-use Rattle.amqp_session.proofs.Heard.{start-case, secure-case}
+use Rattle.amqp_rules.proofs.Heard.{start-case, secure-case}
 use Rattle.amqp_types.proofs.Small.{if_case}
 use Rattle.amqp_legal.proofs.Sayable.{IsComplete}
 use Rattle.amqp_legal_rules.proofs.Ties.{LeadsTo, first_out, IsReady, IsOfControl, unpaid, TiesPhase, TiesActing}
@@ -36,7 +36,7 @@ use Rattle.amqp_legal_rules.proofs.Paying.{none-more}
 use Rattle.amqp_legal_rules.proofs.OnChannels.{Listed, Replies, on-answered-untied}
 use Rattle.amqp_legal_rules.proofs.KeptChannels.{Reopening, none-reopened, all-reopened, on-reopened, on-passed, reopening-due}
 use Rattle.amqp_legal_rules.proofs.Conversing.{Now, pushed, closed-over, now-ended, now-lose, now-open, tied-as, In, still-new, due_in, now-ties, ties-phase}
-use Rattle.amqp_session.proofs.Walking.{all-append}
+use Rattle.amqp_channels.proofs.Walking.{all-append}
 
 not-over-phase : (p : Phase) (v : Speech) → TiesPhase p v → v.stage ≢ CloseOkSaid
 not-over-phase AwaitStart v h over = none (sym (ap (λ (x : Speech). x.stage) h) ∙ over) where

@@ -14,36 +14,37 @@ use Rattle.amqp_outbox.specs.declared.reply.Reply.TheVariants.{ChannelOpened, Ch
 use Rattle.amqp_outbox.specs.Items.{plain_item}
 use Rattle.amqp_outbox.specs.Queued as queued
 use Rattle.amqp_outbox.specs.Queued.{Queued, awaited_promise}
-use Rattle.amqp_session.specs.declared.channels.Channel.{Channel}
-use Rattle.amqp_session.specs.declared.channels.Debt.{Debt}
-use Rattle.amqp_session.specs.declared.channels.Debt.TheVariants as debt
+use Rattle.amqp_channels.specs.declared.channels.Channel.{Channel}
+use Rattle.amqp_channels.specs.declared.channels.Debt.{Debt}
+use Rattle.amqp_channels.specs.declared.channels.Debt.TheVariants as debt
 use Rattle.amqp_promise.specs.declared.state.ConnectionState.{ConnectionState}
 use Rattle.amqp_promise.specs.declared.state.ConnectionState.TheVariants.{Connecting, Connected, Closing}
 use Rattle.amqp_promise.specs.declared.state.ChannelState.{ChannelState}
 use Rattle.amqp_promise.specs.declared.state.ChannelState.TheVariants as channel
-use Rattle.amqp_session.specs.declared.state.Input.{Input}
-use Rattle.amqp_session.specs.declared.state.Input.TheVariants as input
-use Rattle.amqp_session.specs.declared.command.Answer.TheVariants.{Done}
+use Rattle.amqp_rules.specs.declared.state.Input.{Input}
+use Rattle.amqp_rules.specs.declared.state.Input.TheVariants as input
+use Rattle.amqp_answers.specs.declared.answer.Answer.TheVariants.{Done}
 use Rattle.amqp_promise.specs.declared.error.ErrorKind.{ErrorKind}
 use Rattle.amqp_promise.specs.declared.error.ErrorKind.TheVariants.{InvalidProtocolVersion, InvalidChannel, InvalidChannelState}
 use Rattle.amqp_auth.specs.declared.asked.Asked.{Asked as ProviderAnswer}
-use Rattle.amqp_session.specs.Talk.{Talk, is_open, is_closing, is_acting, acts, hears_on}
-use Rattle.amqp_session.specs.Changes.{lose, misplaced, queue, give_to, drop_replies_of, without_all_on}
-use Rattle.amqp_session.specs.Violations.{channel_closed_with, unawaited, stray_channel_frame, stray_connection_method}
-use Rattle.amqp_session.specs.Capacities.{frame_min_size}
-use Rattle.amqp_session.specs.Handshake.{flow_ok, channel_close_ok}
-use Rattle.amqp_session.specs.ConnectionMethods.{connection_rule}
-use Rattle.amqp_session.specs.Channels.{made_answered, channel_at, set_channel}
-use Rattle.amqp_session.specs.ChannelMethods.{heard_on, unawaited_channel_method, channel_opened, remove_channel, remove_unless_owed, channel_closed, on_channel_flow, channel_flowed, closed_by_server, crossing_close, channel_close_by, channel_rule, channel_method_by, channel_method, raw_by, pass_through, confirmed, hand_out, is_select_ok}
+use Rattle.amqp_rules.specs.Talk.{Talk, is_open, is_closing, is_acting, acts, hears_on}
+use Rattle.amqp_rules.specs.Changes.{lose, misplaced, queue, give_to, drop_replies_of, without_all_on}
+use Rattle.amqp_violations.specs.Violations.{channel_closed_with, unawaited, stray_channel_frame, stray_connection_method}
+use Rattle.amqp_settings.specs.Capacities.{frame_min_size}
+use Rattle.amqp_settings.specs.Handshake.{flow_ok, channel_close_ok}
+use Rattle.amqp_rules.specs.ConnectionMethods.{connection_rule}
+use Rattle.amqp_channels.specs.Channels.{made_answered}
+use Rattle.amqp_rules.specs.Channels.{channel_at, set_channel}
+use Rattle.amqp_rules.specs.ChannelMethods.{heard_on, unawaited_channel_method, channel_opened, remove_channel, remove_unless_owed, channel_closed, on_channel_flow, channel_flowed, closed_by_server, crossing_close, channel_close_by, channel_rule, channel_method_by, channel_method, raw_by, pass_through, confirmed, hand_out, is_select_ok}
 use Rattle.amqp_frame.specs.Methods.{is_of_a_channel}
-use Rattle.amqp_session.specs.Frames.{method_rule, frame_rule, closed_rule, on_frame}
-use Rattle.amqp_session.specs.Writing.{then_of}
+use Rattle.amqp_rules.specs.Frames.{method_rule, frame_rule, closed_rule, on_frame}
+use Rattle.amqp_outgoing.specs.Marks.{then_of}
 use Rattle.amqp_legal.specs.Legal.{amqp_header}
 use Rattle.amqp_legal.specs.Decider.{Speech, now_on, greeted, say_all}
 use Rattle.amqp_legal.specs.declared.progress.Usage.TheVariants.{Shut, InUse, Left}
 use Rattle.amqp_legal.specs.declared.progress.Content.TheVariants.{NoContent}
 use Rattle.amqp_types.proofs.Small.{if_case, if_by}
-use Rattle.amqp_session.proofs.Ascending.{put-from}
+use Rattle.amqp_rules.proofs.Ascending.{put-from}
 use Rattle.amqp_legal.proofs.Sayable.{IsComplete, say-append, front-said, say-flow-ok, say-channel-close-ok}
 use Rattle.amqp_legal_rules.proofs.Ties.{frames_in, LeadsTo, first_out, IsReady, IsOfControl, pays, to_pay, unpaid, TiesChannels}
 use Rattle.amqp_legal_rules.proofs.Ready.{stay-ready, others-ready, unused-ready}
@@ -54,8 +55,8 @@ use Rattle.amqp_legal_rules.proofs.OnChannels.{Replies, on-alike, on-usages, tie
 use Rattle.amqp_legal_rules.proofs.OnCloses.{on-opened, left_listed, on-closed, is-used, on-server-close, is-left, on-crossing}
 use Rattle.amqp_legal_rules.proofs.Conversing.{Now, pushed, committed-said, now-lose, now-open, speaks-as, tied-as, due_in, now-ties}
 use Rattle.amqp_legal_rules.proofs.OnConnection.{Hears, now-connection}
-use Rattle.amqp_session.proofs.FrameEnds.{some-heard}
-use Rattle.amqp_session.proofs.Walking.{all-append}
+use Rattle.amqp_rules.proofs.FrameEnds.{some-heard}
+use Rattle.amqp_channels.proofs.Walking.{all-append}
 
 -- ---- frames of channels
 

@@ -4,18 +4,19 @@ use Rattle.amqp_frame.specs.declared.frame.Frame.{Frame}
 use Rattle.amqp_outbox.specs.declared.item.Item.{Item}
 use Rattle.amqp_outbox.specs.Queued as queued
 use Rattle.amqp_outbox.specs.Queued.{Queued, after_next}
-use Rattle.amqp_session.specs.declared.committed.Mark.{Mark}
+use Rattle.amqp_outgoing.specs.declared.committed.Mark.{Mark}
 use Rattle.amqp_promise.specs.declared.state.ConnectionState.{ConnectionState}
 use Rattle.amqp_promise.specs.declared.state.ConnectionState.TheVariants.{Connecting, Connected, Closing}
-use Rattle.amqp_session.specs.declared.state.Phase.{Phase}
-use Rattle.amqp_session.specs.declared.state.Input.{Input}
-use Rattle.amqp_session.specs.declared.state.Input.TheVariants as input
-use Rattle.amqp_session.specs.Config.{Config}
-use Rattle.amqp_session.specs.Talk.{Talk, start, is_asked}
-use Rattle.amqp_session.specs.Links.{linked}
-use Rattle.amqp_session.specs.Commands.{publish}
-use Rattle.amqp_session.specs.Writing.{flows, writes, next_out, mark_of}
-use Rattle.amqp_session.proofs.Lacking.{is-linked}
+use Rattle.amqp_rules.specs.declared.state.Phase.{Phase}
+use Rattle.amqp_rules.specs.declared.state.Input.{Input}
+use Rattle.amqp_rules.specs.declared.state.Input.TheVariants as input
+use Rattle.amqp_settings.specs.Config.{Config}
+use Rattle.amqp_rules.specs.Talk.{Talk, start, is_asked}
+use Rattle.amqp_rules.specs.Links.{linked}
+use Rattle.amqp_rules.specs.Commands.{publish}
+use Rattle.amqp_rules.specs.Writing.{flows, writes, next_out}
+use Rattle.amqp_outgoing.specs.Marks.{mark_of}
+use Rattle.amqp_rules.proofs.Lacking.{is-linked}
 use Rattle.amqp_legal.specs.Legal.{amqp_header}
 use Rattle.amqp_legal.specs.Decider.{Speech, greeted, say_all}
 use Rattle.amqp_legal.specs.declared.progress.Usage.TheVariants.{InUse}
@@ -46,10 +47,6 @@ tied-linked t asked_t h =
       listed = h.listed;
       room = h.room;
     })
-
--- the server of a new link has not blocked it, and the header may go out
-pub linked-writes : (t : Talk) → is_asked t ≡ true → writes (linked t) ≡ true
-linked-writes t asked_t = ap writes (is-linked t asked_t)
 
 -- a new link has room for the header
 pub silent-room : (t : Talk) → IsSilent t → 8 ≤ t.capacity

@@ -3,28 +3,28 @@ use Rattle.std.proofs.Common.{◌≡◌, ◌≢◌, ℕ, suc, ◌+◌, ◌-◌, 
 use Rattle.std.specs.Map.{keys_of}
 use Rattle.amqp_frame.specs.declared.frame.Frame.{Frame}
 use Rattle.amqp_outbox.specs.declared.item.Item.{Item}
-use Rattle.amqp_session.specs.declared.channels.Channel.{Channel}
-use Rattle.amqp_session.specs.declared.channels.Debt.TheVariants as debt
-use Rattle.amqp_session.specs.declared.committed.Mark.{Mark}
-use Rattle.amqp_session.specs.declared.committed.Then.{Then}
-use Rattle.amqp_session.specs.declared.committed.Then.TheVariants.{Nothing, Answer, Pays, Finish}
+use Rattle.amqp_channels.specs.declared.channels.Channel.{Channel}
+use Rattle.amqp_channels.specs.declared.channels.Debt.TheVariants as debt
+use Rattle.amqp_outgoing.specs.declared.committed.Mark.{Mark}
+use Rattle.amqp_outgoing.specs.declared.committed.Then.{Then}
+use Rattle.amqp_outgoing.specs.declared.committed.Then.TheVariants.{Nothing, Answer, Pays, Finish}
 use Rattle.amqp_promise.specs.declared.state.ConnectionState.{ConnectionState}
 use Rattle.amqp_promise.specs.declared.state.ConnectionState.TheVariants.{Connecting, Connected, Closing}
-use Rattle.amqp_session.specs.declared.state.Phase.{Phase}
-use Rattle.amqp_session.specs.declared.state.Input.{Input}
-use Rattle.amqp_session.specs.declared.state.Input.TheVariants as input
-use Rattle.amqp_session.specs.Talk.{Talk, is_open}
-use Rattle.amqp_session.specs.Channels.{channel_at}
-use Rattle.amqp_session.specs.Writing.{pay, follow, sent, sent_among, taken}
-use Rattle.amqp_session.specs.Listed.{put, without}
-use Rattle.amqp_session.specs.Sound.{AscendFrom}
+use Rattle.amqp_rules.specs.declared.state.Phase.{Phase}
+use Rattle.amqp_rules.specs.declared.state.Input.{Input}
+use Rattle.amqp_rules.specs.declared.state.Input.TheVariants as input
+use Rattle.amqp_rules.specs.Talk.{Talk, is_open}
+use Rattle.amqp_rules.specs.Channels.{channel_at}
+use Rattle.amqp_rules.specs.Writing.{pay, follow, sent, sent_among, taken}
+use Rattle.amqp_maps.specs.Listed.{put, without}
+use Rattle.amqp_rules.specs.Sound.{AscendFrom}
 use Rattle.amqp_legal.specs.Decider.{Speech}
 use Rattle.amqp_types.proofs.Small.{if_case, if_by, same-number, other-number}
-use Rattle.amqp_session.proofs.Sending.{follow-open}
-use Rattle.amqp_session.proofs.Ascending.{put-from, without-from}
+use Rattle.amqp_rules.proofs.Sending.{follow-open}
+use Rattle.amqp_rules.proofs.Ascending.{put-from, without-from}
 use Rattle.amqp_legal_rules.proofs.Ties.{first_out, pays, unpaid, TiesChannels, Ties}
 use Rattle.amqp_legal_rules.proofs.Paying.{sent-off}
-use Rattle.amqp_session.proofs.Walk.{pay-case}
+use Rattle.amqp_rules.proofs.Walk.{pay-case}
 use Rattle.amqp_legal_rules.proofs.OnChannels.{Listed, Replies, above-zero, never-zero}
 use Rattle.amqp_legal_rules.proofs.OnCloses.{none-due, none-owed, one-due, on-paid, on-paid-gone}
 use Rattle.amqp_legal_rules.proofs.Conversing.{Now, now-finish, now-open, due_in, ties-due}

@@ -11,12 +11,12 @@ use Rattle.amqp_outbox.specs.declared.item.Item.{Item}
 use Rattle.amqp_outbox.specs.Items.{plain_item, outlives}
 use Rattle.amqp_outbox.specs.Lists.{is_the_number}
 use Rattle.amqp_outbox.specs.Queued.{Queued, pushed_control, goes_with}
-use Rattle.amqp_session.specs.declared.committed.Mark.{Mark}
-use Rattle.amqp_session.specs.declared.committed.Then.{Then}
-use Rattle.amqp_session.specs.declared.committed.Then.TheVariants.{Finish}
-use Rattle.amqp_session.specs.Handshake.{channel_close_ok}
+use Rattle.amqp_outgoing.specs.declared.committed.Mark.{Mark}
+use Rattle.amqp_outgoing.specs.declared.committed.Then.{Then}
+use Rattle.amqp_outgoing.specs.declared.committed.Then.TheVariants.{Finish}
+use Rattle.amqp_settings.specs.Handshake.{channel_close_ok}
 use Rattle.amqp_legal.specs.Legal.{body_frames}
-use Rattle.amqp_session.specs.Writing.{answers, then_by, then_of, is_close_ok, mark_of}
+use Rattle.amqp_outgoing.specs.Marks.{answers, then_by, then_of, is_close_ok, mark_of}
 use Rattle.amqp_types.proofs.Small.{if_case, same-number, other-number, the-number}
 use Rattle.amqp_legal_rules.proofs.Ties.{frames_in, first_out, channel_in, IsOfControl, pays, paying, to_pay, unpaid}
 

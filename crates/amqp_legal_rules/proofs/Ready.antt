@@ -12,11 +12,11 @@ use Rattle.amqp_outbox.specs.declared.item.Item.{Item}
 use Rattle.amqp_outbox.specs.Lists.{is_the_number}
 use Rattle.amqp_outbox.specs.Items.{group_of}
 use Rattle.amqp_outbox.specs.Queued.{is_on}
-use Rattle.amqp_session.specs.Talk.{Talk}
-use Rattle.amqp_session.specs.Capacities.{frame_min_size}
-use Rattle.amqp_session.specs.Negotiation.{wish_or}
-use Rattle.amqp_session.specs.Publishing.{method_frame, content_header, cut, body_pieces, publish_frames}
-use Rattle.amqp_session.specs.Commands.{too_long, body_limit}
+use Rattle.amqp_rules.specs.Talk.{Talk}
+use Rattle.amqp_settings.specs.Capacities.{frame_min_size}
+use Rattle.amqp_settings.specs.Negotiation.{wish_or}
+use Rattle.amqp_commands.specs.Publishing.{method_frame, content_header, cut, body_pieces, publish_frames}
+use Rattle.amqp_rules.specs.Commands.{too_long, body_limit}
 use Rattle.amqp_legal.specs.Legal.{IsPassedThrough, IsContent}
 use Rattle.amqp_legal.specs.Decider.{Speech, now_on}
 use Rattle.amqp_legal.specs.declared.progress.Stage.TheVariants.{OpenSaid}

@@ -12,28 +12,28 @@ use Rattle.amqp_outbox.specs.declared.reply.Reply.TheVariants.{ChannelOpened, Ch
 use Rattle.amqp_outbox.specs.Items.{channel_of}
 use Rattle.amqp_outbox.specs.Replies.{awaited_on}
 use Rattle.amqp_outbox.specs.Queued.{Queued}
-use Rattle.amqp_session.specs.declared.command.Cmd.{Cmd}
-use Rattle.amqp_session.specs.declared.command.Cmd.TheVariants.{Send, Publish}
-use Rattle.amqp_session.specs.declared.channels.Channel.{Channel}
-use Rattle.amqp_session.specs.declared.channels.Debt.{Debt}
-use Rattle.amqp_session.specs.declared.channels.Debt.TheVariants.{Nothing, Owed, Paid}
-use Rattle.amqp_session.specs.declared.committed.Mark.{Mark}
-use Rattle.amqp_session.specs.declared.committed.Then.{Then}
-use Rattle.amqp_session.specs.declared.committed.Then.TheVariants.{Pays}
+use Rattle.amqp_commands.specs.declared.command.Cmd.{Cmd}
+use Rattle.amqp_commands.specs.declared.command.Cmd.TheVariants.{Send, Publish}
+use Rattle.amqp_channels.specs.declared.channels.Channel.{Channel}
+use Rattle.amqp_channels.specs.declared.channels.Debt.{Debt}
+use Rattle.amqp_channels.specs.declared.channels.Debt.TheVariants.{Nothing, Owed, Paid}
+use Rattle.amqp_outgoing.specs.declared.committed.Mark.{Mark}
+use Rattle.amqp_outgoing.specs.declared.committed.Then.{Then}
+use Rattle.amqp_outgoing.specs.declared.committed.Then.TheVariants.{Pays}
 use Rattle.amqp_promise.specs.declared.state.ChannelState.{ChannelState}
 use Rattle.amqp_promise.specs.declared.state.ChannelState.TheVariants as channel
 use Rattle.amqp_promise.specs.declared.state.ConnectionState.{ConnectionState}
 use Rattle.amqp_promise.specs.declared.state.ConnectionState.TheVariants.{Initial, Connecting, Connected, Closing, Reconnecting}
-use Rattle.amqp_session.specs.declared.state.Phase.{Phase}
-use Rattle.amqp_session.specs.declared.state.Phase.TheVariants.{AwaitStart, AwaitTune, AwaitOpenOk}
-use Rattle.amqp_session.specs.declared.state.Input.{Input}
-use Rattle.amqp_session.specs.declared.state.Input.TheVariants.{Acting}
-use Rattle.amqp_session.specs.Talk.{Talk}
-use Rattle.amqp_session.specs.Listed.{at}
-use Rattle.amqp_session.specs.Channels.{is_owed}
-use Rattle.amqp_session.specs.Writing.{then_of}
-use Rattle.amqp_session.specs.Capacities.{frame_min_size}
-use Rattle.amqp_session.specs.Sound.{AscendFrom, Ascend, is_agreed}
+use Rattle.amqp_rules.specs.declared.state.Phase.{Phase}
+use Rattle.amqp_rules.specs.declared.state.Phase.TheVariants.{AwaitStart, AwaitTune, AwaitOpenOk}
+use Rattle.amqp_rules.specs.declared.state.Input.{Input}
+use Rattle.amqp_rules.specs.declared.state.Input.TheVariants.{Acting}
+use Rattle.amqp_rules.specs.Talk.{Talk}
+use Rattle.amqp_maps.specs.Listed.{at}
+use Rattle.amqp_channels.specs.Channels.{is_owed}
+use Rattle.amqp_outgoing.specs.Marks.{then_of}
+use Rattle.amqp_settings.specs.Capacities.{frame_min_size}
+use Rattle.amqp_rules.specs.Sound.{AscendFrom, Ascend, is_agreed}
 use Rattle.amqp_legal.specs.Legal.{amqp_header, body_frames, IsPassedThrough, IsContent}
 use Rattle.amqp_legal.specs.Decider.{Speech, greeted, say_all}
 use Rattle.amqp_legal.specs.declared.progress.Stage.TheVariants.{StartOkSaid, OpenSaid, CloseSaid}

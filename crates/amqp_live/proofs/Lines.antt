@@ -32,14 +32,8 @@ took-nothing (Some held) now same = same ∙ ap Some (sym (append-nil held))
 
 -- ---- the lines of a connection
 
-pub says-nothing : (before now : Option (List ℕ)) → now ≡ before → SaysSome before now
-says-nothing before now same = ([], inl refl, took-nothing before now same)
-
 pub says-connected : (before now : Option (List ℕ)) → TookAll connected_line before now → SaysSome before now
 says-connected before now first = (connected_line, inr (inl refl), first)
-
-pub front-connected : (before now : Option (List ℕ)) → TookFront connected_line before now → SaysFront before now
-front-connected before now first = (connected_line, inr (inl (inr (inl refl))), first)
 
 -- the second line, whichever the channel's number is
 pub took-channel : (line : List ℕ) (before now later : Option (List ℕ)) → IsChannelLine line
@@ -86,15 +80,6 @@ says-error e before now later status is (text, some, first) (inl tells) =
     (text, some, took-then text (error_line e) before now later first tells.1)
 says-error e before now later status is said (inr (inl tells)) = absurd (omega (arith, is, tells.0))
 says-error e before now later status is said (inr (inr tells)) = absurd (omega (arith, is, tells.0))
-
--- the same, and nothing before
-pub says-first : (e : ErrorKind) (before now later : Option (List ℕ)) (status : ℕ) → status ≡ FAILED
-    → now ≡ before → TellsError e now later status → TookAll (error_line e) before later
-says-first e before now later status is same (inl tells) =
-    let P : Option (List ℕ) → Type 0 = λ x. TookAll (error_line e) x later in
-    subst P same tells.1
-says-first e before now later status is same (inr (inl tells)) = absurd (omega (arith, is, tells.0))
-says-first e before now later status is same (inr (inr tells)) = absurd (omega (arith, is, tells.0))
 
 pub says-no_more : (e : ErrorKind) (before now later : Option (List ℕ)) (status : ℕ) → status ≡ NO_MEMORY
     → SaysSome before now → TellsError e now later status → SaysSome before later

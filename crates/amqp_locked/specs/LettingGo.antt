@@ -1,10 +1,10 @@
 -- What nobody will take is taken and let go.
 use Rattle.std.specs.Prelude.{◌≡◌, ◌||◌, not, ℕ, zero, suc, if◌then◌else◌, Bool, true, false, List, [], ◌∷◌, ◌++◌, Option, Some, None, is_some, Result}
 use Rattle.amqp_promise.specs.declared.error.ErrorKind.{ErrorKind}
-use Rattle.amqp_session.specs.declared.command.Answer.{Answer}
-use Rattle.amqp_session.specs.Talk.{Talk, has_ended}
-use Rattle.amqp_session.specs.Answers.{Takes, take_frames}
-use Rattle.amqp_session.specs.Queries.{opening}
+use Rattle.amqp_answers.specs.declared.answer.Answer.{Answer}
+use Rattle.amqp_rules.specs.Talk.{Talk, has_ended}
+use Rattle.amqp_rules.specs.Answers.{Takes, take_frames}
+use Rattle.amqp_rules.specs.Queries.{opening}
 use Rattle.amqp_hub.specs.declared.due.Owner.{Owner}
 use Rattle.amqp_hub.specs.declared.due.Owner.TheVariants as owner
 use Rattle.amqp_locked.specs.Taking.{is_refused}

@@ -5,9 +5,9 @@ use Rattle.amqp_promise.specs.declared.error.ErrorKind.{ErrorKind}
 use Rattle.amqp_promise.specs.declared.error.ErrorKind.TheVariants.{NoMemory}
 use Rattle.amqp_promise.specs.declared.state.ChannelState.{ChannelState}
 use Rattle.amqp_promise.specs.declared.state.ChannelState.TheVariants.{Connected, Reconnecting}
-use Rattle.amqp_session.specs.declared.command.ChanRef.{ChanRef}
-use Rattle.amqp_session.specs.Queries.{channel_state}
-use Rattle.amqp_session.specs.Talk.{Talk}
+use Rattle.amqp_commands.specs.declared.command.ChanRef.{ChanRef}
+use Rattle.amqp_rules.specs.Queries.{channel_state}
+use Rattle.amqp_rules.specs.Talk.{Talk}
 
 -- it goes on, or this error is told, or NoMemory where memory for its copy was refused
 abbrev pub IsToldBy : ErrorKind → Result (Unit {0}) ErrorKind → Type 0

@@ -6,7 +6,7 @@ use Rattle.amqp_promise.specs.declared.error.ErrorKind.TheVariants.{AuthProvider
 use Rattle.amqp_promise.specs.declared.io_fault.IoFault.{IoFault}
 use Rattle.amqp_promise.specs.declared.io_fault.IoFault.TheVariants.{BrokenPipe}
 use Rattle.amqp_auth.specs.Providers.{Exchange}
-use Rattle.amqp_session.specs.Talk.{has_ended, end_of}
+use Rattle.amqp_rules.specs.Talk.{has_ended, end_of}
 use Rattle.amqp_engine.specs.declared.port.Step.{Step}
 use Rattle.amqp_engine.specs.Causes.{brought, fault_of}
 use Rattle.amqp_engine.specs.Engine.{Engine}

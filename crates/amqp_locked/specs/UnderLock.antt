@@ -1,6 +1,6 @@
 -- What lies under the lock of a connection.
 use Rattle.std.specs.Prelude.{Bool, false, List, [], ◌∷◌, Option, Some, map}
-use Rattle.amqp_session.specs.Talk.{Talk}
+use Rattle.amqp_rules.specs.Talk.{Talk}
 use Rattle.amqp_hub.specs.declared.due.Owner.{Owner}
 use Rattle.amqp_hub.specs.declared.due.Owner.TheVariants as owner
 use Rattle.amqp_hub.specs.declared.marks.Found.{Found}

@@ -4,11 +4,11 @@ ghost use Rattle.std.specs.Prelude.{◌≡◌, ◌≤◌, ◌<◌, ◌⊎◌, �
 ghost use Rattle.std.specs.Fn.{FnOnceReturnsAtMut};
 ghost use Rattle.futures.specs.Task.{Covers, Keeps};
 ghost use Rattle.futures.specs.Poll.{OnPending};
-ghost use Rattle.amqp_session.specs.Talk.{has_ended};
-ghost use Rattle.amqp_session.specs.Answers.{Takes, TakesEvent, take_frames};
-ghost use Rattle.amqp_session.specs.ChannelMethods.{frames_of};
-ghost use Rattle.amqp_session.specs.Commands.{promise_of, takes_promise};
-ghost use Rattle.amqp_session.specs.Queries.{opening};
+ghost use Rattle.amqp_rules.specs.Talk.{has_ended};
+ghost use Rattle.amqp_rules.specs.Answers.{Takes, TakesEvent, take_frames};
+ghost use Rattle.amqp_rules.specs.ChannelMethods.{frames_of};
+ghost use Rattle.amqp_rules.specs.Commands.{promise_of, takes_promise};
+ghost use Rattle.amqp_rules.specs.Queries.{opening};
 ghost use Rattle.amqp_journal.specs.Journal.{WasTaken};
 ghost use Rattle.amqp_hub.specs.Passes.{new_passes, AreNew, foreign, IsForeign};
 ghost use Rattle.amqp_hub.specs.Entering.{called, next_entry, begun_anew, let_go};

@@ -21,47 +21,50 @@ use Rattle.amqp_promise.specs.declared.state.ChannelState.TheVariants as channel
 use Rattle.amqp_promise.specs.declared.error.ErrorKind.{ErrorKind}
 use Rattle.amqp_promise.specs.declared.error.ErrorKind.TheVariants.{ChannelsLimitReached, InvalidChannelState, InvalidConnectionState, IOError, NoMemory, OutboxFull, ProtocolError, SerialisationError}
 use Rattle.amqp_auth.specs.declared.asked.Asked.{Asked}
-use Rattle.amqp_session.specs.declared.channels.Channel.{Channel}
-use Rattle.amqp_session.specs.declared.command.Answer.{Answer}
-use Rattle.amqp_session.specs.declared.command.Answer.TheVariants.{Connected as AnswerConnected, Channel as AnswerChannel, Done, Flow as AnswerFlow, Sent}
-use Rattle.amqp_session.specs.declared.command.ChanRef.{ChanRef}
-use Rattle.amqp_session.specs.declared.command.Cmd.{Cmd}
-use Rattle.amqp_session.specs.declared.command.Cmd.TheVariants.{OpenChannel, CloseChannel, CloseConnection, UpdateSecret, Send, Publish, Flow, DropChannel, DropConnection, Listen}
-use Rattle.amqp_session.specs.declared.committed.Mark.{Mark}
-use Rattle.amqp_session.specs.declared.committed.Then.{Then}
-use Rattle.amqp_session.specs.declared.committed.Then.TheVariants.{Nothing, Answer as Answers, Pays, Finish}
-use Rattle.amqp_session.specs.declared.event.Event.{Event}
-use Rattle.amqp_session.specs.declared.server_close.ServerClose.{ServerClose}
-use Rattle.amqp_session.specs.declared.server_close.ServerClose.TheVariants.{WithoutError, WithError}
-use Rattle.amqp_session.specs.declared.state.Input.{Input}
-use Rattle.amqp_session.specs.declared.state.Input.TheVariants.{Acting, Closed, Dropped}
-use Rattle.amqp_session.specs.declared.state.Link.{Link}
-use Rattle.amqp_session.specs.declared.state.Link.TheVariants.{Asked as AskedFor, Due, Ended, Open, Wanted}
-use Rattle.amqp_session.specs.Config.{Config}
-use Rattle.amqp_session.specs.Listed.{at, put, without}
-use Rattle.amqp_session.specs.Talk.{Talk, acts, end_of, has_ended, is_acting, is_asked, is_asked_link, is_open, is_open_link, start}
-use Rattle.amqp_session.specs.Recovery.{next_delay, recovery_delay, reconnect}
-use Rattle.amqp_session.specs.Changes.{Promises, fail, finish, finish_by, give, lose, lose_by, promises_on, refuse, rejected_each, settled_to, without_all_on}
-use Rattle.amqp_session.specs.Handshake.{channel_close_ok, channel_flow, channel_open, flow_ok, new_secret, open_vhost, our_channel_close, our_close, protocol_header, secure_ok, start_ok, tune_ok}
-use Rattle.amqp_session.specs.Negotiation.{tune}
-use Rattle.amqp_session.specs.Numbering.{first_number, drawn}
-use Rattle.amqp_session.specs.Publishing.{method_frame, publish_frames}
-use Rattle.amqp_session.specs.Channels.{channel_at}
-use Rattle.amqp_session.specs.Commands.{body_limit, close_target, command_rule, drop_target, flow_target, leave_channel, leave_connection, open_drawn, publish_target, queue_publish, queue_secret, queue_send, send_target, target, too_full, too_long, unless_full, unless_too_long}
-use Rattle.amqp_session.specs.Links.{asked_link, dropped, link_failed, lost, refused_after}
-use Rattle.amqp_session.specs.Sound.{IsSound, fits_link, following}
-use Rattle.amqp_session.specs.Ticks.{link_at, refresh_reason}
-use Rattle.amqp_session.specs.Writing.{answers, commit, committed_as, end_overlong, flows, follow, mark_of, next_frame, next_within, overlong, sent, sent_among, taken}
-use Rattle.amqp_session.specs.Answers.{answer_of, end_event, take_answer, without_event}
-use Rattle.amqp_session.proofs.Ascending.{at-gone}
-use Rattle.amqp_session.proofs.Finishing.{committed-follows}
-use Rattle.amqp_session.proofs.Keeping.{off-finish}
-use Rattle.amqp_session.proofs.LostLinks.{lose-answers}
-use Rattle.amqp_session.proofs.Numbered.{at-later, without-other}
-use Rattle.amqp_session.proofs.Recovering.{lose-by}
-use Rattle.amqp_session.proofs.Sending.{pay-keeps}
-use Rattle.amqp_session.proofs.Soundness.{next-awaits}
-use Rattle.amqp_session.proofs.Walk.{ChannelRows, ConnectionRows, PassedRows, TickRows, frame-keeps, misread-keeps, secure-keeps, start-keeps, tick-keeps}
+use Rattle.amqp_channels.specs.declared.channels.Channel.{Channel}
+use Rattle.amqp_answers.specs.declared.answer.Answer.{Answer}
+use Rattle.amqp_answers.specs.declared.answer.Answer.TheVariants.{Connected as AnswerConnected, Channel as AnswerChannel, Done, Flow as AnswerFlow, Sent}
+use Rattle.amqp_commands.specs.declared.command.ChanRef.{ChanRef}
+use Rattle.amqp_commands.specs.declared.command.Cmd.{Cmd}
+use Rattle.amqp_commands.specs.declared.command.Cmd.TheVariants.{OpenChannel, CloseChannel, CloseConnection, UpdateSecret, Send, Publish, Flow, DropChannel, DropConnection, Listen}
+use Rattle.amqp_outgoing.specs.declared.committed.Mark.{Mark}
+use Rattle.amqp_outgoing.specs.declared.committed.Then.{Then}
+use Rattle.amqp_outgoing.specs.declared.committed.Then.TheVariants.{Nothing, Answer as Answers, Pays, Finish}
+use Rattle.amqp_answers.specs.declared.event.Event.{Event}
+use Rattle.amqp_violations.specs.declared.server_close.ServerClose.{ServerClose}
+use Rattle.amqp_violations.specs.declared.server_close.ServerClose.TheVariants.{WithoutError, WithError}
+use Rattle.amqp_rules.specs.declared.state.Input.{Input}
+use Rattle.amqp_rules.specs.declared.state.Input.TheVariants.{Acting, Closed, Dropped}
+use Rattle.amqp_rules.specs.declared.state.Link.{Link}
+use Rattle.amqp_rules.specs.declared.state.Link.TheVariants.{Asked as AskedFor, Due, Ended, Open, Wanted}
+use Rattle.amqp_settings.specs.Config.{Config}
+use Rattle.amqp_maps.specs.Listed.{at, put, without}
+use Rattle.amqp_rules.specs.Talk.{Talk, acts, end_of, has_ended, is_acting, is_asked, is_asked_link, is_open, is_open_link, start}
+use Rattle.amqp_rules.specs.Recovery.{next_delay, recovery_delay, reconnect}
+use Rattle.amqp_answers.specs.Settled.{Promises, settled_to}
+use Rattle.amqp_rules.specs.Changes.{fail, finish, finish_by, give, lose, lose_by, promises_on, refuse, rejected_each, without_all_on}
+use Rattle.amqp_settings.specs.Handshake.{channel_close_ok, channel_flow, channel_open, flow_ok, new_secret, open_vhost, our_channel_close, our_close, protocol_header, secure_ok, start_ok, tune_ok}
+use Rattle.amqp_settings.specs.Negotiation.{tune}
+use Rattle.amqp_channels.specs.Numbering.{first_number, drawn}
+use Rattle.amqp_commands.specs.Publishing.{method_frame, publish_frames}
+use Rattle.amqp_rules.specs.Channels.{channel_at}
+use Rattle.amqp_rules.specs.Commands.{body_limit, close_target, command_rule, drop_target, flow_target, leave_channel, leave_connection, open_drawn, publish_target, queue_publish, queue_secret, queue_send, send_target, target, too_full, too_long, unless_full, unless_too_long}
+use Rattle.amqp_rules.specs.Links.{asked_link, dropped, link_failed, lost, refused_after}
+use Rattle.amqp_rules.specs.Sound.{IsSound, fits_link, following}
+use Rattle.amqp_rules.specs.Ticks.{link_at}
+use Rattle.amqp_settings.specs.Handshake.{refresh_reason}
+use Rattle.amqp_outgoing.specs.Marks.{answers, mark_of}
+use Rattle.amqp_rules.specs.Writing.{commit, committed_as, end_overlong, flows, follow, next_frame, next_within, overlong, sent, sent_among, taken}
+use Rattle.amqp_rules.specs.Answers.{answer_of, end_event, take_answer, without_event}
+use Rattle.amqp_rules.proofs.Ascending.{at-gone}
+use Rattle.amqp_rules.proofs.Finishing.{committed-follows}
+use Rattle.amqp_rules.proofs.Keeping.{off-finish}
+use Rattle.amqp_rules.proofs.LostLinks.{lose-answers}
+use Rattle.amqp_maps.proofs.Numbered.{at-later, without-other}
+use Rattle.amqp_rules.proofs.Recovering.{lose-by}
+use Rattle.amqp_rules.proofs.Sending.{pay-keeps}
+use Rattle.amqp_rules.proofs.Soundness.{next-awaits}
+use Rattle.amqp_rules.proofs.Walk.{ChannelRows, ConnectionRows, PassedRows, TickRows, frame-keeps, misread-keeps, secure-keeps, start-keeps, tick-keeps}
 use Rattle.amqp_types.proofs.Small.{and-right, if_by, if_case}
 use Rattle.amqp_answer_rules.specs.Answering.{IsNamed}
 use Rattle.amqp_answer_rules.proofs.Slots.{same-or-not, settles-lost}

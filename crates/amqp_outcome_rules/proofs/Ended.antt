@@ -17,31 +17,31 @@ use Rattle.amqp_promise.specs.declared.state.ConnectionState.TheVariants.{Closin
 use Rattle.amqp_promise.specs.declared.error.ErrorKind.{ErrorKind}
 use Rattle.amqp_promise.specs.declared.error.ErrorKind.TheVariants.{IOError, ProtocolError}
 use Rattle.amqp_auth.specs.declared.asked.Asked.{Asked}
-use Rattle.amqp_session.specs.declared.command.Answer.TheVariants.{Sent}
-use Rattle.amqp_session.specs.declared.committed.Mark.{Mark}
-use Rattle.amqp_session.specs.declared.committed.Then.{Then}
-use Rattle.amqp_session.specs.declared.committed.Then.TheVariants.{Nothing, Answer, Pays, Finish}
-use Rattle.amqp_session.specs.declared.server_close.ServerClose.{ServerClose}
-use Rattle.amqp_session.specs.declared.server_close.ServerClose.TheVariants.{WithoutError, WithError}
-use Rattle.amqp_session.specs.declared.state.Input.{Input}
-use Rattle.amqp_session.specs.declared.state.Input.TheVariants.{Acting, Closed, Dropped}
-use Rattle.amqp_session.specs.declared.state.Link.{Link}
-use Rattle.amqp_session.specs.declared.state.Link.TheVariants.{Asked as AskedFor, Due, Ended, Open, Wanted}
-use Rattle.amqp_session.specs.Config.{Config}
-use Rattle.amqp_session.specs.Talk.{Talk, acts, end_of, end_of_link, hears_on, is_acting, is_asked_link, is_closing, is_open, is_open_link, start}
-use Rattle.amqp_session.specs.Changes.{close, finish, finish_by, give, lose}
-use Rattle.amqp_session.specs.Channels.{channel_at}
-use Rattle.amqp_session.specs.ConnectionMethods.{connection_closed, connection_rule}
-use Rattle.amqp_session.specs.Frames.{closed_rule, frame_rule, on_frame}
-use Rattle.amqp_session.specs.Links.{asked_link, dropped, lost}
-use Rattle.amqp_session.specs.Sound.{IsSound, NoneFinishes, following, is_finish}
-use Rattle.amqp_session.specs.Ticks.{link_at}
-use Rattle.amqp_session.specs.Violations.{closed_with}
-use Rattle.amqp_session.specs.Writing.{channel_close_ok_sent, follow, sent, sent_among, taken}
-use Rattle.amqp_session.proofs.Finishing.{acting-none}
-use Rattle.amqp_session.proofs.Keeping.{off-finish}
-use Rattle.amqp_session.proofs.Recovering.{lose-case}
-use Rattle.amqp_session.proofs.Sending.{pay-keeps, sent_among-closed}
+use Rattle.amqp_answers.specs.declared.answer.Answer.TheVariants.{Sent}
+use Rattle.amqp_outgoing.specs.declared.committed.Mark.{Mark}
+use Rattle.amqp_outgoing.specs.declared.committed.Then.{Then}
+use Rattle.amqp_outgoing.specs.declared.committed.Then.TheVariants.{Nothing, Answer, Pays, Finish}
+use Rattle.amqp_violations.specs.declared.server_close.ServerClose.{ServerClose}
+use Rattle.amqp_violations.specs.declared.server_close.ServerClose.TheVariants.{WithoutError, WithError}
+use Rattle.amqp_rules.specs.declared.state.Input.{Input}
+use Rattle.amqp_rules.specs.declared.state.Input.TheVariants.{Acting, Closed, Dropped}
+use Rattle.amqp_rules.specs.declared.state.Link.{Link}
+use Rattle.amqp_rules.specs.declared.state.Link.TheVariants.{Asked as AskedFor, Due, Ended, Open, Wanted}
+use Rattle.amqp_settings.specs.Config.{Config}
+use Rattle.amqp_rules.specs.Talk.{Talk, acts, end_of, end_of_link, hears_on, is_acting, is_asked_link, is_closing, is_open, is_open_link, start}
+use Rattle.amqp_rules.specs.Changes.{close, finish, finish_by, give, lose}
+use Rattle.amqp_rules.specs.Channels.{channel_at}
+use Rattle.amqp_rules.specs.ConnectionMethods.{connection_closed, connection_rule}
+use Rattle.amqp_rules.specs.Frames.{closed_rule, frame_rule, on_frame}
+use Rattle.amqp_rules.specs.Links.{asked_link, dropped, lost}
+use Rattle.amqp_rules.specs.Sound.{IsSound, NoneFinishes, following, is_finish}
+use Rattle.amqp_rules.specs.Ticks.{link_at}
+use Rattle.amqp_violations.specs.Violations.{closed_with}
+use Rattle.amqp_rules.specs.Writing.{channel_close_ok_sent, follow, sent, sent_among, taken}
+use Rattle.amqp_rules.proofs.Finishing.{acting-none}
+use Rattle.amqp_rules.proofs.Keeping.{off-finish}
+use Rattle.amqp_rules.proofs.Recovering.{lose-case}
+use Rattle.amqp_rules.proofs.Sending.{pay-keeps, sent_among-closed}
 use Rattle.amqp_types.proofs.Small.{and-left, and-right, and-true, at-most, if_by, if_case, if-false, if-true, is-at-most, some_is}
 use Rattle.amqp_outcome_rules.specs.Closings.{EndsClosed, IsCloseAs, IsClosedEnd, IsFinishSent, IsWithoutError, KnowsClose, RemembersClose, StaysKnown, is_error_code}
 use Rattle.amqp_outcome_rules.proofs.Linking.{In, LinkRows, Linked, in-answer, in-asked, in-event, in-failed, in-frame, in-gone, in-linked, in-misread, in-moment, in-next, in-piece, in-starved, in-taken, in-tick, in-told}

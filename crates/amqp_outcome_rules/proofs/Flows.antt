@@ -25,50 +25,51 @@ use Rattle.amqp_promise.specs.declared.error.ErrorKind.{ErrorKind}
 use Rattle.amqp_promise.specs.declared.error.ErrorKind.TheVariants.{InvalidChannel, InvalidConnectionState, InvalidProtocolVersion, AuthProviderError, IOError, MissingHeartbeatError, ProtocolError}
 use Rattle.amqp_promise.specs.Kinds.{can_be_recovered}
 use Rattle.amqp_auth.specs.declared.asked.Asked.{Asked}
-use Rattle.amqp_session.specs.declared.channels.Channel.{Channel}
-use Rattle.amqp_session.specs.declared.channels.Debt.{Debt}
-use Rattle.amqp_session.specs.declared.channels.Debt.TheVariants as debt
-use Rattle.amqp_session.specs.declared.command.Answer.TheVariants.{Sent}
-use Rattle.amqp_session.specs.declared.command.Cmd.{Cmd}
-use Rattle.amqp_session.specs.declared.command.Cmd.TheVariants.{OpenChannel, CloseChannel, CloseConnection, UpdateSecret, Send, Publish, Flow, DropChannel, DropConnection, Listen}
-use Rattle.amqp_session.specs.declared.committed.Mark.{Mark}
-use Rattle.amqp_session.specs.declared.committed.Then.{Then}
-use Rattle.amqp_session.specs.declared.committed.Then.TheVariants.{Nothing, Answer, Pays, Finish}
-use Rattle.amqp_session.specs.declared.event.Event.{Event}
-use Rattle.amqp_session.specs.declared.misread.Misread.{Misread}
-use Rattle.amqp_session.specs.declared.server_close.ServerClose.{ServerClose}
-use Rattle.amqp_session.specs.declared.server_close.ServerClose.TheVariants.{WithoutError, WithError}
-use Rattle.amqp_session.specs.declared.state.Input.{Input}
-use Rattle.amqp_session.specs.declared.state.Phase.{Phase}
-use Rattle.amqp_session.specs.declared.state.Phase.TheVariants.{AwaitStart, AwaitTune, AwaitOpenOk}
-use Rattle.amqp_session.specs.Listed.{at, put, without, map_values}
-use Rattle.amqp_session.specs.Talk.{Talk, acts, end_of, has_ended, hears_on, is_asked, is_closing, is_open}
-use Rattle.amqp_session.specs.Recovery.{next_delay, recovery_delay, was_up}
-use Rattle.amqp_session.specs.Changes.{await, finish, finish_by, give, lose, misplaced, queue, starve}
-use Rattle.amqp_session.specs.Channels.{channel_at, made_closing}
-use Rattle.amqp_session.specs.ChannelMethods.{channel_close_by, channel_closed, channel_flowed, channel_method, channel_method_by, channel_opened, channel_rule, closed_by_server, confirmed, crossing_close, hand_out, heard_on, is_select_ok, on_channel_flow, raw_by, remove_channel, remove_unless_owed, unawaited_channel_method}
-use Rattle.amqp_session.specs.Commands.{body_limit, close_target, command_rule, drop_target, flow_target, leave_channel, open_as, open_drawn, publish_target, queue_publish, queue_secret, queue_send, send_target, target, too_full, too_long, unless_full, unless_too_long}
-use Rattle.amqp_session.specs.ConnectionMethods.{connected, connection_closed, connection_rule, reopen, reopen_each, secret_taken, started, challenged}
-use Rattle.amqp_session.specs.Frames.{closed_rule, frame_rule, method_rule, on_frame}
-use Rattle.amqp_session.specs.Handshake.{channel_open, new_secret}
-use Rattle.amqp_session.specs.Links.{dropped, link_failed, linked, lost, misread, refused_after}
-use Rattle.amqp_session.specs.Numbering.{first_number, drawn}
-use Rattle.amqp_session.specs.Publishing.{method_frame, publish_frames}
-use Rattle.amqp_session.specs.Sound.{Ascend, IsSound}
-use Rattle.amqp_session.specs.Ticks.{beat, is_heartbeat_due, is_missed, missing_heartbeat, refreshed, tick}
-use Rattle.amqp_session.specs.Violations.{channel_closed_with, misread_error, stray_channel_frame, stray_connection_method, unawaited}
-use Rattle.amqp_session.specs.Writing.{channel_close_ok_sent, commit, committed_as, end_overlong, follow, next_frame, next_within, overlong, pay, sent, sent_among, taken}
-use Rattle.amqp_session.specs.Answers.{answer_of, end_event, without_event}
-use Rattle.amqp_session.proofs.Ascending.{ascend-from, at-gone, put-ascends, without-ascends}
-use Rattle.amqp_session.proofs.Drawn.{drawn-free}
-use Rattle.amqp_session.proofs.Heard.{secret-case, secure-case, start-case}
-use Rattle.amqp_session.proofs.Keeping.{off-finish}
-use Rattle.amqp_session.proofs.Numbered.{put-other, put-same, without-other}
-use Rattle.amqp_session.proofs.Recovering.{lose-by}
-use Rattle.amqp_session.proofs.Sending.{sent_among-closed}
-use Rattle.amqp_session.proofs.SoundCommands.{target-listed}
-use Rattle.amqp_session.proofs.SoundFrames.{heard-listed}
-use Rattle.amqp_session.proofs.Walk.{close_answered, pay-case}
+use Rattle.amqp_channels.specs.declared.channels.Channel.{Channel}
+use Rattle.amqp_channels.specs.declared.channels.Debt.{Debt}
+use Rattle.amqp_channels.specs.declared.channels.Debt.TheVariants as debt
+use Rattle.amqp_answers.specs.declared.answer.Answer.TheVariants.{Sent}
+use Rattle.amqp_commands.specs.declared.command.Cmd.{Cmd}
+use Rattle.amqp_commands.specs.declared.command.Cmd.TheVariants.{OpenChannel, CloseChannel, CloseConnection, UpdateSecret, Send, Publish, Flow, DropChannel, DropConnection, Listen}
+use Rattle.amqp_outgoing.specs.declared.committed.Mark.{Mark}
+use Rattle.amqp_outgoing.specs.declared.committed.Then.{Then}
+use Rattle.amqp_outgoing.specs.declared.committed.Then.TheVariants.{Nothing, Answer, Pays, Finish}
+use Rattle.amqp_answers.specs.declared.event.Event.{Event}
+use Rattle.amqp_violations.specs.declared.misread.Misread.{Misread}
+use Rattle.amqp_violations.specs.declared.server_close.ServerClose.{ServerClose}
+use Rattle.amqp_violations.specs.declared.server_close.ServerClose.TheVariants.{WithoutError, WithError}
+use Rattle.amqp_rules.specs.declared.state.Input.{Input}
+use Rattle.amqp_rules.specs.declared.state.Phase.{Phase}
+use Rattle.amqp_rules.specs.declared.state.Phase.TheVariants.{AwaitStart, AwaitTune, AwaitOpenOk}
+use Rattle.amqp_maps.specs.Listed.{at, put, without, map_values}
+use Rattle.amqp_rules.specs.Talk.{Talk, acts, end_of, has_ended, hears_on, is_asked, is_closing, is_open}
+use Rattle.amqp_rules.specs.Recovery.{next_delay, recovery_delay, was_up}
+use Rattle.amqp_rules.specs.Changes.{await, finish, finish_by, give, lose, misplaced, queue, starve}
+use Rattle.amqp_rules.specs.Channels.{channel_at}
+use Rattle.amqp_channels.specs.Channels.{made_closing}
+use Rattle.amqp_rules.specs.ChannelMethods.{channel_close_by, channel_closed, channel_flowed, channel_method, channel_method_by, channel_opened, channel_rule, closed_by_server, confirmed, crossing_close, hand_out, heard_on, is_select_ok, on_channel_flow, raw_by, remove_channel, remove_unless_owed, unawaited_channel_method}
+use Rattle.amqp_rules.specs.Commands.{body_limit, close_target, command_rule, drop_target, flow_target, leave_channel, open_as, open_drawn, publish_target, queue_publish, queue_secret, queue_send, send_target, target, too_full, too_long, unless_full, unless_too_long}
+use Rattle.amqp_rules.specs.ConnectionMethods.{connected, connection_closed, connection_rule, reopen, reopen_each, secret_taken, started, challenged}
+use Rattle.amqp_rules.specs.Frames.{closed_rule, frame_rule, method_rule, on_frame}
+use Rattle.amqp_settings.specs.Handshake.{channel_open, new_secret}
+use Rattle.amqp_rules.specs.Links.{dropped, link_failed, linked, lost, misread, refused_after}
+use Rattle.amqp_channels.specs.Numbering.{first_number, drawn}
+use Rattle.amqp_commands.specs.Publishing.{method_frame, publish_frames}
+use Rattle.amqp_rules.specs.Sound.{Ascend, IsSound}
+use Rattle.amqp_rules.specs.Ticks.{beat, is_heartbeat_due, is_missed, missing_heartbeat, refreshed, tick}
+use Rattle.amqp_violations.specs.Violations.{channel_closed_with, misread_error, stray_channel_frame, stray_connection_method, unawaited}
+use Rattle.amqp_rules.specs.Writing.{channel_close_ok_sent, commit, committed_as, end_overlong, follow, next_frame, next_within, overlong, pay, sent, sent_among, taken}
+use Rattle.amqp_rules.specs.Answers.{answer_of, end_event, without_event}
+use Rattle.amqp_rules.proofs.Ascending.{ascend-from, at-gone, put-ascends, without-ascends}
+use Rattle.amqp_channels.proofs.Drawn.{drawn-free}
+use Rattle.amqp_rules.proofs.Heard.{secret-case, secure-case, start-case}
+use Rattle.amqp_rules.proofs.Keeping.{off-finish}
+use Rattle.amqp_maps.proofs.Numbered.{put-other, put-same, without-other}
+use Rattle.amqp_rules.proofs.Recovering.{lose-by}
+use Rattle.amqp_rules.proofs.Sending.{sent_among-closed}
+use Rattle.amqp_rules.proofs.SoundCommands.{target-listed}
+use Rattle.amqp_rules.proofs.SoundFrames.{heard-listed}
+use Rattle.amqp_rules.proofs.Walk.{close_answered, pay-case}
 use Rattle.amqp_types.proofs.Small.{if_case, same-number}
 use Rattle.amqp_answer_rules.proofs.Slots.{same-or-not}
 use Rattle.amqp_outcome_rules.specs.Heeding.{HeedsFlow, KeepsFlowOn, flow_on, is_flow_on}

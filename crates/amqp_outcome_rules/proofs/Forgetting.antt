@@ -12,19 +12,19 @@ use Rattle.amqp_outbox.specs.Replies.{awaited_on, left_awaited}
 use Rattle.amqp_promise.specs.declared.state.ConnectionState.{ConnectionState}
 use Rattle.amqp_promise.specs.declared.state.ConnectionState.TheVariants.{Connecting, Connected, Closing}
 use Rattle.amqp_auth.specs.declared.asked.Asked.{Asked}
-use Rattle.amqp_session.specs.declared.channels.Channel.{Channel}
-use Rattle.amqp_session.specs.declared.channels.Debt.{Debt}
-use Rattle.amqp_session.specs.declared.channels.Debt.TheVariants as debt
-use Rattle.amqp_session.specs.Listed.{without}
-use Rattle.amqp_session.specs.Talk.{Talk, acts, hears_on}
-use Rattle.amqp_session.specs.Channels.{channel_at}
-use Rattle.amqp_session.specs.ChannelMethods.{channel_close_by, channel_closed, channel_flowed, channel_method_by, channel_opened, channel_rule, closed_by_server, crossing_close, heard_on, remove_unless_owed}
-use Rattle.amqp_session.specs.ConnectionMethods.{connection_rule, secret_taken}
-use Rattle.amqp_session.specs.Frames.{closed_rule, frame_rule, on_frame}
-use Rattle.amqp_session.specs.Sound.{Ascend, IsSound}
-use Rattle.amqp_session.specs.Violations.{channel_closed_with}
-use Rattle.amqp_session.proofs.AwaitedOn.{answered-ascend, answered-other, answered-same, gone-other, gone-same}
-use Rattle.amqp_session.proofs.Walk.{close_answered}
+use Rattle.amqp_channels.specs.declared.channels.Channel.{Channel}
+use Rattle.amqp_channels.specs.declared.channels.Debt.{Debt}
+use Rattle.amqp_channels.specs.declared.channels.Debt.TheVariants as debt
+use Rattle.amqp_maps.specs.Listed.{without}
+use Rattle.amqp_rules.specs.Talk.{Talk, acts, hears_on}
+use Rattle.amqp_rules.specs.Channels.{channel_at}
+use Rattle.amqp_rules.specs.ChannelMethods.{channel_close_by, channel_closed, channel_flowed, channel_method_by, channel_opened, channel_rule, closed_by_server, crossing_close, heard_on, remove_unless_owed}
+use Rattle.amqp_rules.specs.ConnectionMethods.{connection_rule, secret_taken}
+use Rattle.amqp_rules.specs.Frames.{closed_rule, frame_rule, on_frame}
+use Rattle.amqp_rules.specs.Sound.{Ascend, IsSound}
+use Rattle.amqp_violations.specs.Violations.{channel_closed_with}
+use Rattle.amqp_rules.proofs.AwaitedOn.{answered-ascend, answered-other, answered-same, gone-other, gone-same}
+use Rattle.amqp_rules.proofs.Walk.{close_answered}
 use Rattle.amqp_types.proofs.Small.{if-true}
 use Rattle.amqp_outcome_rules.specs.Standing.{AwaitsNoneOn, AwaitsOneLess, ForgetsReplies, IsHeardOn}
 

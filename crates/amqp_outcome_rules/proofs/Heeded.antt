@@ -13,19 +13,19 @@ use Rattle.amqp_auth.specs.declared.asked.Question.{Question}
 use Rattle.amqp_auth.specs.declared.asked.Question.TheVariants as question
 use Rattle.amqp_auth.specs.declared.asked.Asked.{Asked}
 use Rattle.amqp_auth.specs.declared.asked.Asked.TheVariants as answer
-use Rattle.amqp_session.specs.declared.channels.Channel.{Channel}
-use Rattle.amqp_session.specs.declared.state.Phase.{Phase}
-use Rattle.amqp_session.specs.declared.state.Phase.TheVariants.{AwaitStart, AwaitTune}
-use Rattle.amqp_session.specs.Talk.{Talk, acts, hears_on}
-use Rattle.amqp_session.specs.Changes.{lose, queue}
-use Rattle.amqp_session.specs.Causes.{IsInUse}
-use Rattle.amqp_session.specs.Channels.{channel_at}
-use Rattle.amqp_session.specs.ChannelMethods.{heard_on, on_channel_flow, channel_rule, channel_method_by}
-use Rattle.amqp_session.specs.Frames.{closed_rule, frame_questions, frame_rule, method_questions, on_frame, questions_in}
-use Rattle.amqp_session.specs.Secrets.{HasExpired}
-use Rattle.amqp_session.specs.Ticks.{asks_validity, heartbeat_due, is_connected, is_heartbeat_due, is_missed, refresh_questions, secret_questions, tick_questions}
-use Rattle.amqp_session.proofs.Numbered.{put-same}
-use Rattle.amqp_session.proofs.Recovering.{lose-case}
+use Rattle.amqp_channels.specs.declared.channels.Channel.{Channel}
+use Rattle.amqp_rules.specs.declared.state.Phase.{Phase}
+use Rattle.amqp_rules.specs.declared.state.Phase.TheVariants.{AwaitStart, AwaitTune}
+use Rattle.amqp_rules.specs.Talk.{Talk, acts, hears_on}
+use Rattle.amqp_rules.specs.Changes.{lose, queue}
+use Rattle.amqp_rules.specs.Causes.{IsInUse}
+use Rattle.amqp_rules.specs.Channels.{channel_at}
+use Rattle.amqp_rules.specs.ChannelMethods.{heard_on, on_channel_flow, channel_rule, channel_method_by}
+use Rattle.amqp_rules.specs.Frames.{closed_rule, frame_questions, frame_rule, method_questions, on_frame, questions_in}
+use Rattle.amqp_rules.specs.Secrets.{HasExpired}
+use Rattle.amqp_rules.specs.Ticks.{asks_validity, heartbeat_due, is_connected, is_heartbeat_due, is_missed, refresh_questions, secret_questions, tick_questions}
+use Rattle.amqp_maps.proofs.Numbered.{put-same}
+use Rattle.amqp_rules.proofs.Recovering.{lose-case}
 use Rattle.amqp_types.proofs.Small.{at-most, if_by, if_case, if-false, if-true, is-at-most, some_is}
 use Rattle.amqp_outcome_rules.specs.Heeding.{AsksAtFrames, AsksInTime, IsAskedAt, IsTimeAsked, challenge_of, flow_on, is_start}
 

@@ -17,34 +17,34 @@ use Rattle.amqp_promise.specs.declared.state.ConnectionState.TheVariants.{Connec
 use Rattle.amqp_promise.specs.declared.error.ErrorKind.{ErrorKind}
 use Rattle.amqp_promise.specs.declared.error.ErrorKind.TheVariants.{InvalidConnectionState, InvalidProtocolVersion, IOError, NoMemory, ProtocolError, SerialisationError}
 use Rattle.amqp_auth.specs.declared.asked.Asked.{Asked}
-use Rattle.amqp_session.specs.declared.command.Cmd.{Cmd}
-use Rattle.amqp_session.specs.declared.committed.Mark.{Mark}
-use Rattle.amqp_session.specs.declared.committed.Then.{Then}
-use Rattle.amqp_session.specs.declared.committed.Then.TheVariants.{Nothing, Answer, Pays, Finish}
-use Rattle.amqp_session.specs.declared.event.Event.{Event}
-use Rattle.amqp_session.specs.declared.misread.Misread.{Misread}
-use Rattle.amqp_session.specs.declared.server_close.ServerClose.{ServerClose}
-use Rattle.amqp_session.specs.declared.server_close.ServerClose.TheVariants.{WithoutError, WithError}
-use Rattle.amqp_session.specs.declared.state.Input.{Input}
-use Rattle.amqp_session.specs.declared.state.Input.TheVariants.{Acting}
-use Rattle.amqp_session.specs.declared.state.Link.{Link}
-use Rattle.amqp_session.specs.declared.state.Link.TheVariants.{Due, Ended, Open}
-use Rattle.amqp_session.specs.declared.state.Phase.{Phase}
-use Rattle.amqp_session.specs.declared.state.Phase.TheVariants.{AwaitStart, AwaitTune, AwaitOpenOk}
-use Rattle.amqp_session.specs.Talk.{Talk, acts, end_of, has_ended, hears_on, is_asked, is_asked_link, is_open}
-use Rattle.amqp_session.specs.Recovery.{next_delay}
-use Rattle.amqp_session.specs.Changes.{close, fail, finish, finish_by, lose, misplaced, present_at, starve}
-use Rattle.amqp_session.specs.Channels.{channel_at}
-use Rattle.amqp_session.specs.Commands.{command}
-use Rattle.amqp_session.specs.ConnectionMethods.{connected, connection_closed, connection_rule, on_connection_close, on_open_ok, secret_taken}
-use Rattle.amqp_session.specs.Frames.{closed_rule, frame_rule, on_frame}
-use Rattle.amqp_session.specs.Links.{asked, asked_link, dropped, link_failed, linked, lost, misread, piece, refused_after}
-use Rattle.amqp_session.specs.Ticks.{link_at, tick}
-use Rattle.amqp_session.specs.Violations.{stray_channel_frame}
-use Rattle.amqp_session.specs.Writing.{commit, committed_as, end_overlong, follow, next_frame, next_within, overlong, sent, sent_among, taken}
-use Rattle.amqp_session.specs.Answers.{answer_of, end_event, take_answer, take_event, without_event}
-use Rattle.amqp_session.proofs.Recovering.{lose-case, reopened-keeps}
-use Rattle.amqp_session.proofs.Walk.{ChannelRows, CommandRows, PassedRows, TickRows, channel-method-keeps, command-keeps, misplaced-keeps, misread-keeps, pay-case, raw-keeps, secure-keeps, start-keeps, tick-keeps}
+use Rattle.amqp_commands.specs.declared.command.Cmd.{Cmd}
+use Rattle.amqp_outgoing.specs.declared.committed.Mark.{Mark}
+use Rattle.amqp_outgoing.specs.declared.committed.Then.{Then}
+use Rattle.amqp_outgoing.specs.declared.committed.Then.TheVariants.{Nothing, Answer, Pays, Finish}
+use Rattle.amqp_answers.specs.declared.event.Event.{Event}
+use Rattle.amqp_violations.specs.declared.misread.Misread.{Misread}
+use Rattle.amqp_violations.specs.declared.server_close.ServerClose.{ServerClose}
+use Rattle.amqp_violations.specs.declared.server_close.ServerClose.TheVariants.{WithoutError, WithError}
+use Rattle.amqp_rules.specs.declared.state.Input.{Input}
+use Rattle.amqp_rules.specs.declared.state.Input.TheVariants.{Acting}
+use Rattle.amqp_rules.specs.declared.state.Link.{Link}
+use Rattle.amqp_rules.specs.declared.state.Link.TheVariants.{Due, Ended, Open}
+use Rattle.amqp_rules.specs.declared.state.Phase.{Phase}
+use Rattle.amqp_rules.specs.declared.state.Phase.TheVariants.{AwaitStart, AwaitTune, AwaitOpenOk}
+use Rattle.amqp_rules.specs.Talk.{Talk, acts, end_of, has_ended, hears_on, is_asked, is_asked_link, is_open}
+use Rattle.amqp_rules.specs.Recovery.{next_delay}
+use Rattle.amqp_rules.specs.Changes.{close, fail, finish, finish_by, lose, misplaced, present_at, starve}
+use Rattle.amqp_rules.specs.Channels.{channel_at}
+use Rattle.amqp_rules.specs.Commands.{command}
+use Rattle.amqp_rules.specs.ConnectionMethods.{connected, connection_closed, connection_rule, on_connection_close, on_open_ok, secret_taken}
+use Rattle.amqp_rules.specs.Frames.{closed_rule, frame_rule, on_frame}
+use Rattle.amqp_rules.specs.Links.{asked, asked_link, dropped, link_failed, linked, lost, misread, piece, refused_after}
+use Rattle.amqp_rules.specs.Ticks.{link_at, tick}
+use Rattle.amqp_violations.specs.Violations.{stray_channel_frame}
+use Rattle.amqp_rules.specs.Writing.{commit, committed_as, end_overlong, follow, next_frame, next_within, overlong, sent, sent_among, taken}
+use Rattle.amqp_rules.specs.Answers.{answer_of, end_event, take_answer, take_event, without_event}
+use Rattle.amqp_rules.proofs.Recovering.{lose-case, reopened-keeps}
+use Rattle.amqp_rules.proofs.Walk.{ChannelRows, CommandRows, PassedRows, TickRows, channel-method-keeps, command-keeps, misplaced-keeps, misread-keeps, pay-case, raw-keeps, secure-keeps, start-keeps, tick-keeps}
 use Rattle.amqp_types.proofs.Small.{if_by, if_case}
 
 -- the link, what is done with its frames, and how the server closed

@@ -20,25 +20,25 @@ use Rattle.amqp_promise.specs.declared.error.ErrorKind.{ErrorKind}
 use Rattle.amqp_promise.specs.declared.error.ErrorKind.TheVariants.{MissingHeartbeatError, ChannelsLimitReached, InvalidConnectionState, OutboxFull, SerialisationError}
 use Rattle.amqp_auth.specs.declared.asked.Asked.{Asked}
 use Rattle.amqp_auth.specs.declared.asked.Asked.TheVariants.{ValidFor, Refreshed}
-use Rattle.amqp_session.specs.declared.channels.Channel.{Channel}
-use Rattle.amqp_session.specs.declared.command.ChanRef.{ChanRef}
-use Rattle.amqp_session.specs.declared.command.Cmd.{Cmd}
-use Rattle.amqp_session.specs.declared.command.Cmd.TheVariants.{OpenChannel, CloseChannel, CloseConnection, UpdateSecret, Send, Publish, Flow, DropChannel, DropConnection, Listen}
-use Rattle.amqp_session.specs.declared.committed.Mark.{Mark}
-use Rattle.amqp_session.specs.declared.committed.Then.{Then}
-use Rattle.amqp_session.specs.declared.committed.Then.TheVariants.{Answer as Answers}
-use Rattle.amqp_session.specs.Talk.{Talk}
-use Rattle.amqp_session.specs.Changes.{lose, next_promise, queue, refuse}
-use Rattle.amqp_session.specs.Handshake.{new_secret}
-use Rattle.amqp_session.specs.Numbering.{first_number, drawn}
-use Rattle.amqp_session.specs.Publishing.{method_frame, content_header, body_pieces, publish_frames}
-use Rattle.amqp_session.specs.Commands.{body_limit, close_target, command_rule, drop_target, flow_target, leave_channel, leave_connection, open_as, open_drawn, publish_target, queue_publish, queue_secret, queue_send, send_target, takes_promise, target, tell_flow, too_full, too_long, unless_full, unless_too_long}
-use Rattle.amqp_session.specs.Laws.{IsAnsweredAtOnce}
-use Rattle.amqp_session.specs.Sound.{following}
-use Rattle.amqp_session.specs.Secrets.{HasExpired}
-use Rattle.amqp_session.specs.Ticks.{asks_validity, has_expired, heartbeat_due, is_connected, is_heartbeat_due, is_missed, refresh, secret_due, tick, validity_told}
-use Rattle.amqp_session.proofs.AwaitedOn.{expected-same, expected-other}
-use Rattle.amqp_session.proofs.Numbered.{put-same}
+use Rattle.amqp_channels.specs.declared.channels.Channel.{Channel}
+use Rattle.amqp_commands.specs.declared.command.ChanRef.{ChanRef}
+use Rattle.amqp_commands.specs.declared.command.Cmd.{Cmd}
+use Rattle.amqp_commands.specs.declared.command.Cmd.TheVariants.{OpenChannel, CloseChannel, CloseConnection, UpdateSecret, Send, Publish, Flow, DropChannel, DropConnection, Listen}
+use Rattle.amqp_outgoing.specs.declared.committed.Mark.{Mark}
+use Rattle.amqp_outgoing.specs.declared.committed.Then.{Then}
+use Rattle.amqp_outgoing.specs.declared.committed.Then.TheVariants.{Answer as Answers}
+use Rattle.amqp_rules.specs.Talk.{Talk}
+use Rattle.amqp_rules.specs.Changes.{lose, next_promise, queue, refuse}
+use Rattle.amqp_settings.specs.Handshake.{new_secret}
+use Rattle.amqp_channels.specs.Numbering.{first_number, drawn}
+use Rattle.amqp_commands.specs.Publishing.{method_frame, content_header, body_pieces, publish_frames}
+use Rattle.amqp_rules.specs.Commands.{body_limit, close_target, command_rule, drop_target, flow_target, leave_channel, leave_connection, open_as, open_drawn, publish_target, queue_publish, queue_secret, queue_send, send_target, takes_promise, target, tell_flow, too_full, too_long, unless_full, unless_too_long}
+use Rattle.amqp_rules.specs.Laws.{IsAnsweredAtOnce}
+use Rattle.amqp_rules.specs.Sound.{following}
+use Rattle.amqp_rules.specs.Secrets.{HasExpired}
+use Rattle.amqp_rules.specs.Ticks.{asks_validity, has_expired, heartbeat_due, is_connected, is_heartbeat_due, is_missed, refresh, secret_due, tick, validity_told}
+use Rattle.amqp_rules.proofs.AwaitedOn.{expected-same, expected-other}
+use Rattle.amqp_maps.proofs.Numbered.{put-same}
 use Rattle.amqp_types.proofs.Small.{and-left, and-other, and-right, if-false, if-true, if_case, is-at-most}
 use Rattle.amqp_answer_rules.specs.Answering.{IsWaiting}
 use Rattle.amqp_outcome_rules.specs.Standing.{AwaitsTheSame, AwaitsOneMore, IsAmong, IsAnsweredWhenSent, StandsFor, AwaitsUnpromised, lets_go, StandsForReplies}

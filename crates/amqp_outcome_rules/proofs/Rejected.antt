@@ -12,34 +12,35 @@ use Rattle.amqp_promise.specs.declared.state.ConnectionState.TheVariants.{Reconn
 use Rattle.amqp_promise.specs.declared.error.ErrorKind.{ErrorKind}
 use Rattle.amqp_promise.specs.declared.error.ErrorKind.TheVariants.{IOError, MissingHeartbeatError, ProtocolError}
 use Rattle.amqp_auth.specs.declared.asked.Asked.{Asked}
-use Rattle.amqp_session.specs.declared.command.Answer.{Answer}
-use Rattle.amqp_session.specs.declared.command.Answer.TheVariants.{Sent}
-use Rattle.amqp_session.specs.declared.committed.Mark.{Mark}
-use Rattle.amqp_session.specs.declared.committed.Then.{Then}
-use Rattle.amqp_session.specs.declared.committed.Then.TheVariants.{Nothing, Answer as Answers, Pays, Finish}
-use Rattle.amqp_session.specs.declared.event.Event.{Event}
-use Rattle.amqp_session.specs.declared.misread.Misread.{Misread}
-use Rattle.amqp_session.specs.declared.server_close.ServerClose.{ServerClose}
-use Rattle.amqp_session.specs.declared.server_close.ServerClose.TheVariants.{WithoutError, WithError}
-use Rattle.amqp_session.specs.Listed.{at}
-use Rattle.amqp_session.specs.Talk.{Talk, acts, has_ended, hears_on, is_asked, is_open, end_of}
-use Rattle.amqp_session.specs.Recovery.{next_delay, recovery_delay}
-use Rattle.amqp_session.specs.Changes.{Promises, finish, finish_by, give, lose, lose_by, queue, settled}
-use Rattle.amqp_session.specs.Channels.{channel_at}
-use Rattle.amqp_session.specs.Violations.{misread_error}
-use Rattle.amqp_session.specs.Links.{dropped, link_failed, linked, lost, misread, refused_after}
-use Rattle.amqp_session.specs.Frames.{closed_rule, frame_rule, on_frame}
-use Rattle.amqp_session.specs.Causes.{IsFrameError}
-use Rattle.amqp_session.specs.Ticks.{beat, is_heartbeat_due, is_missed, missing_heartbeat, refreshed, tick}
-use Rattle.amqp_session.specs.Writing.{channel_close_ok_sent, commit, committed_as, end_overlong, follow, next_frame, next_within, overlong, sent, sent_among, taken}
-use Rattle.amqp_session.specs.Answers.{answer_of, end_event, without_event}
-use Rattle.amqp_session.proofs.FrameEnds.{waits-frame}
-use Rattle.amqp_session.proofs.FrameErrors.{frame-lost}
-use Rattle.amqp_session.proofs.Heard.{secret-case}
-use Rattle.amqp_session.proofs.Keeping.{off-finish}
-use Rattle.amqp_session.proofs.LostLinks.{lose-answers, lose-stays}
-use Rattle.amqp_session.proofs.Sending.{pay-keeps, sent_among-closed}
-use Rattle.amqp_session.proofs.Walk.{CommandRows, command-keeps}
+use Rattle.amqp_answers.specs.declared.answer.Answer.{Answer}
+use Rattle.amqp_answers.specs.declared.answer.Answer.TheVariants.{Sent}
+use Rattle.amqp_outgoing.specs.declared.committed.Mark.{Mark}
+use Rattle.amqp_outgoing.specs.declared.committed.Then.{Then}
+use Rattle.amqp_outgoing.specs.declared.committed.Then.TheVariants.{Nothing, Answer as Answers, Pays, Finish}
+use Rattle.amqp_answers.specs.declared.event.Event.{Event}
+use Rattle.amqp_violations.specs.declared.misread.Misread.{Misread}
+use Rattle.amqp_violations.specs.declared.server_close.ServerClose.{ServerClose}
+use Rattle.amqp_violations.specs.declared.server_close.ServerClose.TheVariants.{WithoutError, WithError}
+use Rattle.amqp_maps.specs.Listed.{at}
+use Rattle.amqp_rules.specs.Talk.{Talk, acts, has_ended, hears_on, is_asked, is_open, end_of}
+use Rattle.amqp_rules.specs.Recovery.{next_delay, recovery_delay}
+use Rattle.amqp_answers.specs.Settled.{Promises, settled}
+use Rattle.amqp_rules.specs.Changes.{finish, finish_by, give, lose, lose_by, queue}
+use Rattle.amqp_rules.specs.Channels.{channel_at}
+use Rattle.amqp_violations.specs.Violations.{misread_error}
+use Rattle.amqp_rules.specs.Links.{dropped, link_failed, linked, lost, misread, refused_after}
+use Rattle.amqp_rules.specs.Frames.{closed_rule, frame_rule, on_frame}
+use Rattle.amqp_rules.specs.Causes.{IsFrameError}
+use Rattle.amqp_rules.specs.Ticks.{beat, is_heartbeat_due, is_missed, missing_heartbeat, refreshed, tick}
+use Rattle.amqp_rules.specs.Writing.{channel_close_ok_sent, commit, committed_as, end_overlong, follow, next_frame, next_within, overlong, sent, sent_among, taken}
+use Rattle.amqp_rules.specs.Answers.{answer_of, end_event, without_event}
+use Rattle.amqp_rules.proofs.FrameEnds.{waits-frame}
+use Rattle.amqp_rules.proofs.FrameErrors.{frame-lost}
+use Rattle.amqp_rules.proofs.Heard.{secret-case}
+use Rattle.amqp_rules.proofs.Keeping.{off-finish}
+use Rattle.amqp_rules.proofs.LostLinks.{lose-answers, lose-stays}
+use Rattle.amqp_rules.proofs.Sending.{pay-keeps, sent_among-closed}
+use Rattle.amqp_rules.proofs.Walk.{CommandRows, command-keeps}
 use Rattle.amqp_types.proofs.Small.{at-most, if_by, if_case}
 use Rattle.amqp_answer_rules.specs.Answering.{IsSent, IsServerClose, IsSettledFor, IsWaiting}
 use Rattle.amqp_answer_rules.proofs.Slots.{settle-one}

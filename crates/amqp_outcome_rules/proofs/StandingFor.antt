@@ -13,19 +13,20 @@ use Rattle.amqp_outbox.specs.Lists.{without_first}
 use Rattle.amqp_outbox.specs.Queued.{Queued, awaited_promise, goes_with, is_on, pushed_control, pushed_group, waiting_items, with_awaited, without_awaited}
 use Rattle.amqp_outbox.specs.Replies.{awaited_on, expected, is_of, left_on}
 use Rattle.amqp_promise.specs.declared.error.ErrorKind.{ErrorKind}
-use Rattle.amqp_session.specs.declared.command.Answer.{Answer}
-use Rattle.amqp_session.specs.declared.committed.Mark.{Mark}
-use Rattle.amqp_session.specs.declared.committed.Then.{Then}
-use Rattle.amqp_session.specs.declared.committed.Then.TheVariants.{Answer as Answers, Finish}
-use Rattle.amqp_session.specs.declared.state.Input.{Input}
-use Rattle.amqp_session.specs.declared.state.Link.{Link}
-use Rattle.amqp_session.specs.Listed.{at, put}
-use Rattle.amqp_session.specs.Talk.{Talk, end_of_link, is_acting, is_open_link}
-use Rattle.amqp_session.specs.Changes.{Promises, promises_on, rejected, rejected_each, replies_on, settled_to, without_all_on, without_groups, without_groups_of, without_replies_on}
-use Rattle.amqp_session.specs.Sound.{following}
-use Rattle.amqp_session.specs.Writing.{answers, is_close_ok, then_by, then_of}
-use Rattle.amqp_session.proofs.AwaitedOn.{answered-other, expected-other, expected-same, gone-other}
-use Rattle.amqp_session.proofs.Numbered.{put-other, put-same}
+use Rattle.amqp_answers.specs.declared.answer.Answer.{Answer}
+use Rattle.amqp_outgoing.specs.declared.committed.Mark.{Mark}
+use Rattle.amqp_outgoing.specs.declared.committed.Then.{Then}
+use Rattle.amqp_outgoing.specs.declared.committed.Then.TheVariants.{Answer as Answers, Finish}
+use Rattle.amqp_rules.specs.declared.state.Input.{Input}
+use Rattle.amqp_rules.specs.declared.state.Link.{Link}
+use Rattle.amqp_maps.specs.Listed.{at, put}
+use Rattle.amqp_rules.specs.Talk.{Talk, end_of_link, is_acting, is_open_link}
+use Rattle.amqp_answers.specs.Settled.{Promises, settled_to}
+use Rattle.amqp_rules.specs.Changes.{promises_on, rejected, rejected_each, replies_on, without_all_on, without_groups, without_groups_of, without_replies_on}
+use Rattle.amqp_rules.specs.Sound.{following}
+use Rattle.amqp_outgoing.specs.Marks.{answers, is_close_ok, then_by, then_of}
+use Rattle.amqp_rules.proofs.AwaitedOn.{answered-other, expected-other, expected-same, gone-other}
+use Rattle.amqp_maps.proofs.Numbered.{put-other, put-same}
 use Rattle.amqp_types.proofs.Small.{all-push}
 use Rattle.amqp_answer_rules.specs.Answering.{IsNamed}
 use Rattle.amqp_answer_rules.proofs.Slots.{Has, Settle, each-has, groups-has, named-has, same-or-not, settle-each, settle-groups, settle-to}

@@ -9,21 +9,21 @@ use Rattle.amqp_frame.specs.declared.method.Method.TheVariants.{Close, CloseOk}
 use Rattle.amqp_promise.specs.declared.io_fault.IoFault.{IoFault}
 use Rattle.amqp_promise.specs.declared.state.ConnectionState.TheVariants.{Closing}
 use Rattle.amqp_auth.specs.declared.asked.Asked.{Asked}
-use Rattle.amqp_session.specs.declared.command.Cmd.{Cmd}
-use Rattle.amqp_session.specs.declared.committed.Mark.{Mark}
-use Rattle.amqp_session.specs.declared.committed.Then.TheVariants.{Finish}
-use Rattle.amqp_session.specs.declared.misread.Misread.{Misread}
-use Rattle.amqp_session.specs.declared.server_close.ServerClose.{ServerClose}
-use Rattle.amqp_session.specs.declared.server_close.ServerClose.TheVariants.{WithoutError, WithError}
-use Rattle.amqp_session.specs.Talk.{Talk, acts, end_of, has_ended, is_open}
-use Rattle.amqp_session.specs.Changes as change
-use Rattle.amqp_session.specs.Links as link
-use Rattle.amqp_session.specs.Frames.{on_frame}
-use Rattle.amqp_session.specs.Commands as told
-use Rattle.amqp_session.specs.Ticks as ticks
-use Rattle.amqp_session.specs.Writing as writing
-use Rattle.amqp_session.specs.Answers.{take_answer, take_event, take_frames}
-use Rattle.amqp_session.specs.Sound.{IsSound}
+use Rattle.amqp_commands.specs.declared.command.Cmd.{Cmd}
+use Rattle.amqp_outgoing.specs.declared.committed.Mark.{Mark}
+use Rattle.amqp_outgoing.specs.declared.committed.Then.TheVariants.{Finish}
+use Rattle.amqp_violations.specs.declared.misread.Misread.{Misread}
+use Rattle.amqp_violations.specs.declared.server_close.ServerClose.{ServerClose}
+use Rattle.amqp_violations.specs.declared.server_close.ServerClose.TheVariants.{WithoutError, WithError}
+use Rattle.amqp_rules.specs.Talk.{Talk, acts, end_of, has_ended, is_open}
+use Rattle.amqp_rules.specs.Changes as change
+use Rattle.amqp_rules.specs.Links as link
+use Rattle.amqp_rules.specs.Frames.{on_frame}
+use Rattle.amqp_rules.specs.Commands as told
+use Rattle.amqp_rules.specs.Ticks as ticks
+use Rattle.amqp_rules.specs.Writing as writing
+use Rattle.amqp_rules.specs.Answers.{take_answer, take_event, take_frames}
+use Rattle.amqp_rules.specs.Sound.{IsSound}
 
 -- ---- how the server closed
 

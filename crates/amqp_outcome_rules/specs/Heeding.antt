@@ -9,22 +9,22 @@ use Rattle.amqp_promise.specs.declared.state.ConnectionState.TheVariants.{Connec
 use Rattle.amqp_promise.specs.declared.state.ChannelState.TheVariants as channel
 use Rattle.amqp_auth.specs.declared.asked.Question.TheVariants.{Mechanism, Starter, Challenge, ValidFor, Refresh}
 use Rattle.amqp_auth.specs.declared.asked.Asked.{Asked}
-use Rattle.amqp_session.specs.declared.channels.Channel.{Channel}
-use Rattle.amqp_session.specs.declared.command.Cmd.{Cmd}
-use Rattle.amqp_session.specs.declared.misread.Misread.{Misread}
-use Rattle.amqp_session.specs.declared.state.Phase.TheVariants.{AwaitStart, AwaitTune}
-use Rattle.amqp_session.specs.Talk.{Talk, acts}
-use Rattle.amqp_session.specs.Changes as change
-use Rattle.amqp_session.specs.Links as link
-use Rattle.amqp_session.specs.Commands as told
-use Rattle.amqp_session.specs.Ticks as ticks
-use Rattle.amqp_session.specs.Writing as writing
-use Rattle.amqp_session.specs.Answers.{take_answer, take_event, take_frames}
-use Rattle.amqp_session.specs.Causes.{IsInUse}
-use Rattle.amqp_session.specs.Channels.{channel_at}
-use Rattle.amqp_session.specs.Frames.{frame_questions, on_frame}
-use Rattle.amqp_session.specs.Secrets.{HasExpired}
-use Rattle.amqp_session.specs.Ticks.{is_missed, tick_questions}
+use Rattle.amqp_channels.specs.declared.channels.Channel.{Channel}
+use Rattle.amqp_commands.specs.declared.command.Cmd.{Cmd}
+use Rattle.amqp_violations.specs.declared.misread.Misread.{Misread}
+use Rattle.amqp_rules.specs.declared.state.Phase.TheVariants.{AwaitStart, AwaitTune}
+use Rattle.amqp_rules.specs.Talk.{Talk, acts}
+use Rattle.amqp_rules.specs.Changes as change
+use Rattle.amqp_rules.specs.Links as link
+use Rattle.amqp_rules.specs.Commands as told
+use Rattle.amqp_rules.specs.Ticks as ticks
+use Rattle.amqp_rules.specs.Writing as writing
+use Rattle.amqp_rules.specs.Answers.{take_answer, take_event, take_frames}
+use Rattle.amqp_rules.specs.Causes.{IsInUse}
+use Rattle.amqp_rules.specs.Channels.{channel_at}
+use Rattle.amqp_rules.specs.Frames.{frame_questions, on_frame}
+use Rattle.amqp_rules.specs.Secrets.{HasExpired}
+use Rattle.amqp_rules.specs.Ticks.{is_missed, tick_questions}
 use Rattle.amqp_outcome_rules.specs.Rejections.{GoesToReconnect}
 
 -- whether content may be published on a listed channel

@@ -6,20 +6,20 @@ use Rattle.amqp_promise.specs.declared.state.ConnectionState.TheVariants.{Reconn
 use Rattle.amqp_promise.specs.declared.error.ErrorKind.{ErrorKind}
 use Rattle.amqp_promise.specs.declared.error.ErrorKind.TheVariants.{IOError, MissingHeartbeatError}
 use Rattle.amqp_auth.specs.declared.asked.Asked.{Asked}
-use Rattle.amqp_session.specs.declared.command.Answer.TheVariants.{Sent}
-use Rattle.amqp_session.specs.declared.command.Cmd.{Cmd}
-use Rattle.amqp_session.specs.declared.misread.Misread.{Misread}
-use Rattle.amqp_session.specs.Listed.{at}
-use Rattle.amqp_session.specs.Talk.{Talk, acts}
-use Rattle.amqp_session.specs.Violations.{misread_error}
-use Rattle.amqp_session.specs.Causes.{IsFrameError}
-use Rattle.amqp_session.specs.Changes as change
-use Rattle.amqp_session.specs.Links as link
-use Rattle.amqp_session.specs.Frames.{on_frame}
-use Rattle.amqp_session.specs.Commands as told
-use Rattle.amqp_session.specs.Ticks as ticks
-use Rattle.amqp_session.specs.Writing as writing
-use Rattle.amqp_session.specs.Answers.{take_answer, take_event, take_frames}
+use Rattle.amqp_answers.specs.declared.answer.Answer.TheVariants.{Sent}
+use Rattle.amqp_commands.specs.declared.command.Cmd.{Cmd}
+use Rattle.amqp_violations.specs.declared.misread.Misread.{Misread}
+use Rattle.amqp_maps.specs.Listed.{at}
+use Rattle.amqp_rules.specs.Talk.{Talk, acts}
+use Rattle.amqp_violations.specs.Violations.{misread_error}
+use Rattle.amqp_rules.specs.Causes.{IsFrameError}
+use Rattle.amqp_rules.specs.Changes as change
+use Rattle.amqp_rules.specs.Links as link
+use Rattle.amqp_rules.specs.Frames.{on_frame}
+use Rattle.amqp_rules.specs.Commands as told
+use Rattle.amqp_rules.specs.Ticks as ticks
+use Rattle.amqp_rules.specs.Writing as writing
+use Rattle.amqp_rules.specs.Answers.{take_answer, take_event, take_frames}
 use Rattle.amqp_answer_rules.specs.Answering.{IsSent, IsServerClose, IsWaiting}
 
 -- the session waits for another link, as it did not before

@@ -17,28 +17,28 @@ use Rattle.amqp_promise.specs.declared.io_fault.IoFault.{IoFault}
 use Rattle.amqp_auth.specs.declared.asked.Asked.{Asked}
 use Rattle.amqp_auth.specs.declared.asked.Asked.TheVariants.{Refreshed}
 use Rattle.amqp_promise.specs.declared.state.ConnectionState.TheVariants.{Connecting, Connected, Closing}
-use Rattle.amqp_session.specs.declared.channels.Channel.{Channel}
-use Rattle.amqp_session.specs.declared.channels.Debt.TheVariants.{Nothing}
-use Rattle.amqp_session.specs.Channels.{channel_at}
-use Rattle.amqp_session.specs.declared.command.Cmd.{Cmd}
-use Rattle.amqp_session.specs.declared.command.Cmd.TheVariants.{OpenChannel, CloseChannel, CloseConnection, UpdateSecret, Send, Publish, Flow, DropChannel, DropConnection}
-use Rattle.amqp_session.specs.declared.committed.Then.{Then}
-use Rattle.amqp_session.specs.declared.committed.Then.TheVariants.{Answer as Answers}
-use Rattle.amqp_session.specs.declared.misread.Misread.{Misread}
-use Rattle.amqp_session.specs.Talk.{Talk, acts, has_ended, is_open}
-use Rattle.amqp_session.specs.Numbering.{first_number, drawn}
-use Rattle.amqp_session.specs.Changes as change
-use Rattle.amqp_session.specs.Changes.{next_promise, replies_on}
-use Rattle.amqp_session.specs.Links as link
-use Rattle.amqp_session.specs.Frames.{on_frame}
-use Rattle.amqp_session.specs.Commands.{command, takes_promise, target}
-use Rattle.amqp_session.specs.Laws.{IsAnsweredAtOnce}
-use Rattle.amqp_session.specs.Sound.{following}
-use Rattle.amqp_session.specs.Ticks as ticks
-use Rattle.amqp_session.specs.Secrets.{HasExpired}
-use Rattle.amqp_session.specs.Ticks.{is_connected, is_missed}
-use Rattle.amqp_session.specs.Writing as writing
-use Rattle.amqp_session.specs.Answers.{take_answer, take_event, take_frames}
+use Rattle.amqp_channels.specs.declared.channels.Channel.{Channel}
+use Rattle.amqp_channels.specs.declared.channels.Debt.TheVariants.{Nothing}
+use Rattle.amqp_rules.specs.Channels.{channel_at}
+use Rattle.amqp_commands.specs.declared.command.Cmd.{Cmd}
+use Rattle.amqp_commands.specs.declared.command.Cmd.TheVariants.{OpenChannel, CloseChannel, CloseConnection, UpdateSecret, Send, Publish, Flow, DropChannel, DropConnection}
+use Rattle.amqp_outgoing.specs.declared.committed.Then.{Then}
+use Rattle.amqp_outgoing.specs.declared.committed.Then.TheVariants.{Answer as Answers}
+use Rattle.amqp_violations.specs.declared.misread.Misread.{Misread}
+use Rattle.amqp_rules.specs.Talk.{Talk, acts, has_ended, is_open}
+use Rattle.amqp_channels.specs.Numbering.{first_number, drawn}
+use Rattle.amqp_rules.specs.Changes as change
+use Rattle.amqp_rules.specs.Changes.{next_promise, replies_on}
+use Rattle.amqp_rules.specs.Links as link
+use Rattle.amqp_rules.specs.Frames.{on_frame}
+use Rattle.amqp_rules.specs.Commands.{command, takes_promise, target}
+use Rattle.amqp_rules.specs.Laws.{IsAnsweredAtOnce}
+use Rattle.amqp_rules.specs.Sound.{following}
+use Rattle.amqp_rules.specs.Ticks as ticks
+use Rattle.amqp_rules.specs.Secrets.{HasExpired}
+use Rattle.amqp_rules.specs.Ticks.{is_connected, is_missed}
+use Rattle.amqp_rules.specs.Writing as writing
+use Rattle.amqp_rules.specs.Answers.{take_answer, take_event, take_frames}
 use Rattle.amqp_answer_rules.specs.Answering.{IsNamed, IsWaiting}
 
 -- ---- what is awaited

@@ -2,9 +2,9 @@
 
 ghost use Rattle.std.specs.Prelude.{List};
 ghost use Rattle.amqp_auth.specs.declared.asked.Asked.{Asked};
-ghost use Rattle.amqp_session.specs.Config.{Config};
-ghost use Rattle.amqp_session.specs.Sound.{IsSound};
-ghost use Rattle.amqp_session.specs.Talk.{Talk, start};
+ghost use Rattle.amqp_settings.specs.Config.{Config};
+ghost use Rattle.amqp_rules.specs.Sound.{IsSound};
+ghost use Rattle.amqp_rules.specs.Talk.{Talk, start};
 ghost use Rattle.amqp_outcome_rules.specs.Closings.{EndsClosed, KnowsClose, RemembersClose, StaysKnown};
 ghost use Rattle.amqp_outcome_rules.specs.Heeding.{AsksAtFrames, AsksInTime, HeedsFlow};
 ghost use Rattle.amqp_outcome_rules.specs.Rejections.{RejectsAtLosses};

@@ -183,10 +183,6 @@ module _ (n k : ℕ) (G : Use → Use) (m : AnyMethod) (i : IsChannelReply m) (s
 
 -- ---- what is said, before or after a reply
 
--- what is said does not meet a reply
-abbrev pub Commutes : (Server → Server) → Frame → Server → Type 0
-Commutes F r s = (s' : Server) → heard_from s.stage r s ≡ Some s' → heard_from s.stage r (F s) ≡ Some (F s')
-
 -- a new secret
 abbrev pub more_secret : Server → Server
 more_secret s = record s { secrets = s.secrets + 1 }

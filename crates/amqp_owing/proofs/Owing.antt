@@ -6,7 +6,7 @@ use Rattle.amqp_frame.specs.declared.frame.Frame.{Frame}
 use Rattle.amqp_frame.specs.declared.frame.Frame.TheVariants.{ProtocolHeader, Method, Raw, Heartbeat}
 use Rattle.amqp_frame.specs.declared.method.Method.{Method as AnyMethod}
 use Rattle.amqp_frame.specs.declared.method.Method.TheVariants.{StartOk, SecureOk, TuneOk, Open, OpenOk, Close, CloseOk, UpdateSecret, UpdateSecretOk, ChannelOpen, ChannelOpenOk, ChannelFlow, ChannelFlowOk, ChannelClose, ChannelCloseOk}
-use Rattle.amqp_session.specs.declared.configuration.Configuration.{Configuration}
+use Rattle.amqp_settings.specs.declared.configuration.Configuration.{Configuration}
 use Rattle.amqp_faultless.specs.Faultless.{Use, unused, Server, silent, used_as, said_to, one_less, serves_on, heard_from, is_frame_max, answers_to}
 use Rattle.amqp_faultless.specs.Faultless.ServerStage.{BeforeTune, BeforeOpenOk, Serving, Gone}
 use Rattle.amqp_legal.specs.declared.progress.Stage.{Stage}

@@ -2,7 +2,7 @@
 
 ghost use Rattle.std.specs.Prelude.{◌≡◌, ◌++◌, ◌∷◌, [], List, Some, true};
 ghost use Rattle.amqp_frame.specs.declared.frame.Frame.{Frame};
-ghost use Rattle.amqp_session.specs.declared.configuration.Configuration.{Configuration};
+ghost use Rattle.amqp_settings.specs.declared.configuration.Configuration.{Configuration};
 ghost use Rattle.amqp_legal.specs.Legal.{amqp_header};
 ghost use Rattle.amqp_legal.specs.Decider.{Speech, say, greeted};
 ghost use Rattle.amqp_faultless.specs.Faultless.{Server, silent, said_to, heard_from, is_frame_max};

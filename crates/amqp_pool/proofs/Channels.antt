@@ -6,12 +6,12 @@ use Rattle.std.specs.Option.{option_eq}
 use Rattle.std.proofs.lemmas.Bool.{cases_eq, eq-eqb, ne_eqb, eqb-true}
 use Rattle.amqp_types.proofs.Small.{and-left, and-right}
 use Rattle.amqp_outbox.specs.Lists.{without_first}
-use Rattle.amqp_session.specs.declared.command.ChanRef.{ChanRef}
-use Rattle.amqp_session.specs.Talk.{Talk}
+use Rattle.amqp_commands.specs.declared.command.ChanRef.{ChanRef}
+use Rattle.amqp_rules.specs.Talk.{Talk}
 use Rattle.amqp_pool.specs.Lost.{is_lost, is_ready, is_lost_state, is_ready_state, without_lost}
 use Rattle.amqp_promise.specs.declared.state.ChannelState.{ChannelState}
 use Rattle.amqp_promise.specs.declared.state.ChannelState.TheVariants as channel
-use Rattle.amqp_session.specs.Queries.{channel_state}
+use Rattle.amqp_rules.specs.Queries.{channel_state}
 use Rattle.amqp_pool.specs.Pooled.{times, opened_by, is_same_channel, AreNamed}
 use Rattle.amqp_pool.specs.Looking.{is_taken, stays_idle}
 use Rattle.amqp_pool.proofs.Counts.{one, times-cons, times-append, one-same, one-other}

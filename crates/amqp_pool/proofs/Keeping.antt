@@ -6,11 +6,11 @@ use Rattle.std.proofs.lemmas.List.{length-map}
 use Rattle.std.proofs.lemmas.Bool.{cases_eq, ltb-true}
 use Rattle.amqp_outbox.specs.Lists.{without_first}
 use Rattle.amqp_promise.specs.declared.error.ErrorKind.{ErrorKind}
-use Rattle.amqp_session.specs.declared.command.ChanRef.{ChanRef}
-use Rattle.amqp_session.specs.declared.command.Answer.{Answer}
-use Rattle.amqp_session.specs.declared.command.Answer.TheVariants as answer
-use Rattle.amqp_session.specs.Talk.{Talk}
-use Rattle.amqp_session.specs.Answers.{answer_of}
+use Rattle.amqp_commands.specs.declared.command.ChanRef.{ChanRef}
+use Rattle.amqp_answers.specs.declared.answer.Answer.{Answer}
+use Rattle.amqp_answers.specs.declared.answer.Answer.TheVariants as answer
+use Rattle.amqp_rules.specs.Talk.{Talk}
+use Rattle.amqp_rules.specs.Answers.{answer_of}
 use Rattle.amqp_hub.specs.declared.hub.Pass.{Pass}
 use Rattle.amqp_hub.specs.Guarded.{Guarded}
 use Rattle.amqp_pool.specs.declared.lease.Leased.{Leased}

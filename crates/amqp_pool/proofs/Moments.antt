@@ -6,9 +6,9 @@ use Rattle.std.proofs.lemmas.Bool.{cases_eq}
 use Rattle.amqp_outbox.specs.Lists.{without_first}
 use Rattle.amqp_promise.specs.declared.error.ErrorKind.{ErrorKind}
 use Rattle.amqp_promise.specs.declared.state.ChannelState.TheVariants.{Connected}
-use Rattle.amqp_session.specs.declared.command.ChanRef.{ChanRef}
-use Rattle.amqp_session.specs.Queries.{channel_state}
-use Rattle.amqp_session.specs.Talk.{Talk}
+use Rattle.amqp_commands.specs.declared.command.ChanRef.{ChanRef}
+use Rattle.amqp_rules.specs.Queries.{channel_state}
+use Rattle.amqp_rules.specs.Talk.{Talk}
 use Rattle.amqp_hub.specs.declared.hub.Pass.{Pass}
 use Rattle.amqp_hub.specs.Guarded.{Guarded}
 use Rattle.amqp_pool.specs.declared.lease.Leased.{Leased}

@@ -6,18 +6,18 @@ use Rattle.amqp_types.proofs.Small.{if_case, if-false, from-not-true}
 use Rattle.amqp_promise.specs.declared.state.ConnectionState.{ConnectionState}
 use Rattle.amqp_promise.specs.declared.state.ConnectionState.TheVariants.{Initial, Connecting, Connected, Closing, Closed, Reconnecting, Error}
 use Rattle.amqp_promise.specs.declared.error.ErrorKind.TheVariants.{ChannelsLimitReached, InvalidConnectionState}
-use Rattle.amqp_session.specs.declared.channels.Channel.{Channel}
-use Rattle.amqp_session.specs.declared.command.ChanRef.{ChanRef}
-use Rattle.amqp_session.specs.declared.command.Cmd.TheVariants.{OpenChannel}
-use Rattle.amqp_session.specs.Listed.{at, put, has}
-use Rattle.amqp_session.specs.Talk.{Talk}
-use Rattle.amqp_session.specs.Numbering.{first_number, cycle, drawn}
-use Rattle.amqp_session.specs.Channels.{new_channel}
-use Rattle.amqp_session.specs.Changes.{refuse}
-use Rattle.amqp_session.specs.Commands.{command, command_rule, open_channel, open_drawn, open_as, open_none, named, named_in, is_opening}
-use Rattle.amqp_session.specs.Queries.{channel_state, state_of, gone_in}
-use Rattle.amqp_session.proofs.Maps.{at-absent}
-use Rattle.amqp_session.proofs.Numbered.{put-same, put-other}
+use Rattle.amqp_channels.specs.declared.channels.Channel.{Channel}
+use Rattle.amqp_commands.specs.declared.command.ChanRef.{ChanRef}
+use Rattle.amqp_commands.specs.declared.command.Cmd.TheVariants.{OpenChannel}
+use Rattle.amqp_maps.specs.Listed.{at, put, has}
+use Rattle.amqp_rules.specs.Talk.{Talk}
+use Rattle.amqp_channels.specs.Numbering.{first_number, cycle, drawn}
+use Rattle.amqp_channels.specs.Channels.{new_channel}
+use Rattle.amqp_rules.specs.Changes.{refuse}
+use Rattle.amqp_rules.specs.Commands.{command, command_rule, open_channel, open_drawn, open_as, open_none, named, named_in, is_opening}
+use Rattle.amqp_rules.specs.Queries.{channel_state, state_of, gone_in}
+use Rattle.amqp_maps.proofs.Maps.{at-absent}
+use Rattle.amqp_maps.proofs.Numbered.{put-same, put-other}
 use Rattle.amqp_pool.specs.Lost.{is_lost, is_lost_state, without_lost}
 use Rattle.amqp_pool.specs.Pooled.{opened_by, times, above, AreNamed}
 use Rattle.amqp_pool.proofs.Counts.{times-cons, one-same}

@@ -9,12 +9,13 @@ use Rattle.amqp_hub.specs.Entering.{with_engine}
 use Rattle.amqp_types.proofs.Small.{if_by, if-true, if-false}
 use Rattle.amqp_promise.specs.declared.error.ErrorKind.{ErrorKind}
 use Rattle.amqp_promise.specs.declared.error.ErrorKind.TheVariants.{NoMemory}
-use Rattle.amqp_session.specs.declared.command.Answer.{Answer}
-use Rattle.amqp_session.specs.Listed.{at, without}
-use Rattle.amqp_session.specs.Talk.{Talk, end_of}
-use Rattle.amqp_session.specs.Answers.{answer_in, answer_of, take_answer, IsRejected, Takes}
-use Rattle.amqp_session.proofs.Numbered.{without-other}
-use Rattle.amqp_session.specs.declared.command.ChanRef.{ChanRef}
+use Rattle.amqp_answers.specs.declared.answer.Answer.{Answer}
+use Rattle.amqp_maps.specs.Listed.{at, without}
+use Rattle.amqp_rules.specs.Talk.{Talk, end_of}
+use Rattle.amqp_rules.specs.Answers.{answer_in, answer_of, take_answer, Takes}
+use Rattle.amqp_answers.specs.Settled.{IsRejected}
+use Rattle.amqp_maps.proofs.Numbered.{without-other}
+use Rattle.amqp_commands.specs.declared.command.ChanRef.{ChanRef}
 use Rattle.amqp_pool.specs.Pooled.{times, AreDifferent}
 use Rattle.amqp_pool.specs.Collecting.{has_answer, channel_in, brought_by, TakesEach}
 use Rattle.amqp_pool.proofs.Counts.{times-cons, times-append, one-same}
@@ -41,15 +42,6 @@ made-stays n t = by (is_some (answer_of n t)) where
 pub taken-made : (n : ℕ) (given : Option (Result Answer ErrorKind)) (t t' : Talk) → Takes n given t t' → t'.made ≡ t.made
 taken-made n given t t' (inl h) = ap (λ (x : Talk). x.made) h.1 ∙ made-stays n t
 taken-made n given t t' (inr h) = ap (λ (x : Talk). x.made) h.2
-
--- what is given is an answer where there is one, and brings the same channel
-pub given-some : (n : ℕ) (given : Option (Result Answer ErrorKind)) (t t' : Talk) → Takes n given t t' → is_some given ≡ has_answer t n
-given-some n given t t' (inl h) = ap is_some h.0
-given-some n given t t' (inr h) = ap is_some h.1 ∙ sym (ap is_some h.0.1)
-
-pub given-brings : (n : ℕ) (given : Option (Result Answer ErrorKind)) (t t' : Talk) → Takes n given t t' → channel_in n given ≡ channel_in n (answer_of n t)
-given-brings n given t t' (inl h) = ap (channel_in n) h.0
-given-brings n given t t' (inr h) = ap (channel_in n) h.1 ∙ sym (ap (channel_in n) h.0.1)
 
 -- ---- some promises
 

@@ -2,10 +2,10 @@
 use Rattle.std.proofs.Common.{◌≡◌, ◌∙◌, ◌+◌, ◌≤◌, ◌<◌, ap, sym, refl, subst, ℕ, suc, Bool, true, false, not, List, [], ◌∷◌, ◌++◌, length, map, Option, Some, None, arith, length-append}
 use Rattle.std.specs.Prelude.{filter, find, IsTrue, IsFalse, is_some}
 use Rattle.amqp_outbox.specs.Lists.{without_first}
-use Rattle.amqp_session.specs.declared.command.ChanRef.{ChanRef}
-use Rattle.amqp_session.specs.declared.command.Cmd.TheVariants.{OpenChannel}
-use Rattle.amqp_session.specs.Commands.{command}
-use Rattle.amqp_session.specs.Talk.{Talk}
+use Rattle.amqp_commands.specs.declared.command.ChanRef.{ChanRef}
+use Rattle.amqp_commands.specs.declared.command.Cmd.TheVariants.{OpenChannel}
+use Rattle.amqp_rules.specs.Commands.{command}
+use Rattle.amqp_rules.specs.Talk.{Talk}
 use Rattle.amqp_pool.specs.declared.lease.Leased.TheVariants.{Now, Opening, Full}
 use Rattle.amqp_pool.specs.declared.lease.Back.TheVariants.{Kept, Lost}
 use Rattle.amqp_pool.specs.Lost.{is_lost, is_ready, without_lost}

@@ -1,7 +1,7 @@
 -- What is seen of idle channels, and which of them stay.
 use Rattle.std.specs.Prelude.{◌≡◌, ◌&&◌, ℕ, Bool, false, not, List, find, length, Option, Some, None}
-use Rattle.amqp_session.specs.declared.command.ChanRef.{ChanRef}
-use Rattle.amqp_session.specs.Talk.{Talk}
+use Rattle.amqp_commands.specs.declared.command.ChanRef.{ChanRef}
+use Rattle.amqp_rules.specs.Talk.{Talk}
 use Rattle.amqp_pool.specs.declared.looking.Seen.{Seen}
 use Rattle.amqp_pool.specs.declared.looking.Seen.TheVariants.{Ready, Waiting}
 use Rattle.amqp_pool.specs.Lost.{is_lost, is_ready, without_lost}

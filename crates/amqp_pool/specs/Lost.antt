@@ -2,9 +2,9 @@
 use Rattle.std.specs.Prelude.{Bool, true, false, not, List, filter}
 use Rattle.amqp_promise.specs.declared.state.ChannelState.{ChannelState}
 use Rattle.amqp_promise.specs.declared.state.ChannelState.TheVariants.{Reconnecting, Connected}
-use Rattle.amqp_session.specs.declared.command.ChanRef.{ChanRef}
-use Rattle.amqp_session.specs.Talk.{Talk}
-use Rattle.amqp_session.specs.Queries.{channel_state}
+use Rattle.amqp_commands.specs.declared.command.ChanRef.{ChanRef}
+use Rattle.amqp_rules.specs.Talk.{Talk}
+use Rattle.amqp_rules.specs.Queries.{channel_state}
 
 -- in this state a channel is lost: all but Connected and Reconnecting
 abbrev pub is_lost_state : ChannelState → Bool

@@ -1,8 +1,8 @@
 -- Calls of a pool and of its hub, one after another.
 use Rattle.std.specs.Prelude.{◌≡◌, ◌≤◌, ◌<◌, ℕ, List, [], ◌∷◌, filter, Result, Ok, Err, ⊤}
 use Rattle.amqp_promise.specs.declared.error.ErrorKind.{ErrorKind}
-use Rattle.amqp_session.specs.declared.command.ChanRef.{ChanRef}
-use Rattle.amqp_session.specs.Talk.{Talk}
+use Rattle.amqp_commands.specs.declared.command.ChanRef.{ChanRef}
+use Rattle.amqp_rules.specs.Talk.{Talk}
 use Rattle.amqp_hub.specs.declared.hub.Pass.{Pass}
 use Rattle.amqp_hub.specs.Guarded.{Guarded}
 use Rattle.amqp_pool.specs.declared.lease.Leased.{Leased}

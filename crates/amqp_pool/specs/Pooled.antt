@@ -2,8 +2,8 @@
 use Rattle.std.specs.Prelude.{◌≤◌, ◌==◌, ◌&&◌, ◌++◌, ℕ, suc, max, Bool, IsTrue, List, [], ◌∷◌, length, map, count_by, Option, is_some, unwrap_or, nat_eq}
 use Rattle.std.specs.List.{AllByRecursion}
 use Rattle.std.specs.Option.{option_eq}
-use Rattle.amqp_session.specs.declared.command.ChanRef.{ChanRef}
-use Rattle.amqp_session.specs.Talk.{Talk}
+use Rattle.amqp_commands.specs.declared.command.ChanRef.{ChanRef}
+use Rattle.amqp_rules.specs.Talk.{Talk}
 
 -- a pool: how many channels it has at most, those that are idle, those that are leased, and the promises of those that
 -- are opening

@@ -3,8 +3,8 @@
 ghost use Rattle.std.specs.Prelude.{◌≡◌, ◌+◌, ◌++◌, ◌≤◌, ◌<◌, [], filter, length, vec_len, vec_capacity, Option, Some, Result, Ok};
 ghost use Rattle.std.specs.List.{cons_option};
 ghost use Rattle.amqp_promise.specs.declared.error.ErrorKind.{ErrorKind};
-ghost use Rattle.amqp_session.specs.declared.command.Answer.{Answer};
-ghost use Rattle.amqp_session.specs.Answers.{answer_of, Takes};
+ghost use Rattle.amqp_answers.specs.declared.answer.Answer.{Answer};
+ghost use Rattle.amqp_rules.specs.Answers.{answer_of, Takes};
 ghost use Rattle.amqp_hub.specs.Entering.{with_engine};
 ghost use Rattle.amqp_pool.specs.Pooled.{AreDifferent};
 ghost use Rattle.amqp_pool.specs.Collecting.{has_answer, channel_in, brought_by, unanswered, TakesEach};

@@ -3,9 +3,9 @@
 ghost use Rattle.std.specs.Prelude.{◌≡◌, ◌≢◌, ◌≤◌, ◌<◌, ℕ, List, ◌∷◌, ◌++◌, length, Contains};
 ghost use Rattle.std.specs.List.{AllByRecursion};
 ghost use Rattle.amqp_promise.specs.declared.state.ChannelState.TheVariants.{Connected};
-ghost use Rattle.amqp_session.specs.declared.command.ChanRef.{ChanRef};
-ghost use Rattle.amqp_session.specs.Talk.{Talk};
-ghost use Rattle.amqp_session.specs.Queries.{channel_state};
+ghost use Rattle.amqp_commands.specs.declared.command.ChanRef.{ChanRef};
+ghost use Rattle.amqp_rules.specs.Talk.{Talk};
+ghost use Rattle.amqp_rules.specs.Queries.{channel_state};
 ghost use Rattle.amqp_hub.specs.Guarded.{Guarded};
 ghost use Rattle.amqp_pool.specs.Pooled.{Pooled, AreMade, empty_pool, opening_promises, opened_by, times, AreDifferent};
 ghost use Rattle.amqp_pool.specs.Moments.{Moment, FollowEachOther, handed_out_by, found_lost};

@@ -11,7 +11,7 @@ pub struct Lease {
 }
 
 impl Model for Lease {
-    ghost use Rattle.amqp_session.specs.declared.command.ChanRef.{ChanRef};
+    ghost use Rattle.amqp_commands.specs.declared.command.ChanRef.{ChanRef};
 
     ghost Value = { ChanRef };
 

@@ -1,7 +1,7 @@
 //! Pools of channels.
 
 ghost use Rattle.std.specs.Prelude.{◌≡◌, ◌≤◌, ◌<◌, ◌+◌, ◌^◌, ℕ, IsTrue, IsFalse, IfOk, IfErr, OnOk, OnErr, length, vec_len, vec_capacity};
-ghost use Rattle.amqp_session.specs.Answers.{answer_of};
+ghost use Rattle.amqp_rules.specs.Answers.{answer_of};
 ghost use Rattle.amqp_hub.specs.Entering.{with_engine};
 ghost use Rattle.amqp_pool.specs.Pooled.{empty_pool, AreMade, above, opening_promises, times};
 ghost use Rattle.amqp_pool.specs.Leasing.{AsksForOne, IsLeased, IsLeaseRefused, after_lease, hub_after_lease, made_after_lease, IsBack, after_back};

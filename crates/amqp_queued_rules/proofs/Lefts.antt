@@ -17,36 +17,37 @@ use Rattle.amqp_promise.specs.declared.state.ConnectionState.{ConnectionState}
 use Rattle.amqp_promise.specs.declared.state.ConnectionState.TheVariants.{Connected, Reconnecting}
 use Rattle.amqp_auth.specs.declared.asked.Asked.{Asked}
 use Rattle.amqp_auth.specs.declared.asked.Asked.TheVariants as answer
-use Rattle.amqp_session.specs.declared.channels.Channel.{Channel}
-use Rattle.amqp_session.specs.declared.command.ChanRef.{ChanRef}
-use Rattle.amqp_session.specs.declared.command.Cmd.{Cmd}
-use Rattle.amqp_session.specs.declared.command.Cmd.TheVariants.{OpenChannel, CloseChannel, CloseConnection, UpdateSecret, Send, Publish, Flow, DropChannel, DropConnection, Listen}
-use Rattle.amqp_session.specs.declared.committed.Mark.{Mark}
-use Rattle.amqp_session.specs.declared.committed.Then.{Then}
-use Rattle.amqp_session.specs.declared.committed.Then.TheVariants.{Nothing, Answer, Pays, Finish}
-use Rattle.amqp_session.specs.declared.misread.Misread.{Misread}
-use Rattle.amqp_session.specs.declared.server_close.ServerClose.{ServerClose}
-use Rattle.amqp_session.specs.declared.server_close.ServerClose.TheVariants.{WithoutError, WithError}
-use Rattle.amqp_session.specs.Talk.{Talk, acts, is_open, is_asked, has_ended}
-use Rattle.amqp_session.specs.Handshake.{protocol_header, our_close, new_secret, channel_open, channel_flow, our_channel_close}
-use Rattle.amqp_session.specs.Violations.{misread_error}
-use Rattle.amqp_session.specs.Listed.{at}
-use Rattle.amqp_session.specs.Changes as change
-use Rattle.amqp_session.specs.Changes.{queue, next_promise, refuse, lose, finish, finish_by, starve, without_groups_of, without_groups}
-use Rattle.amqp_session.specs.Recovery.{next_delay}
-use Rattle.amqp_session.specs.Numbering.{first_number, drawn}
-use Rattle.amqp_session.specs.Channels.{channel_at}
-use Rattle.amqp_session.specs.Publishing.{method_frame, publish_frames}
-use Rattle.amqp_session.specs.Links.{linked, refused_after, link_failed, misread, dropped, lost}
-use Rattle.amqp_session.specs.Commands.{target, open_as, open_drawn, leave_channel, close_target, drop_target, too_long, unless_too_long, too_full, unless_full, queue_send, send_target, body_limit, queue_publish, publish_target, tell_flow, flow_target, queue_secret, leave_connection, command_rule, command}
-use Rattle.amqp_session.specs.Ticks.{asks_validity, has_expired, heartbeat_due, is_heartbeat_due, is_missed, link_due, refresh, refresh_reason, refreshed, secret_due, tick, validity_told}
-use Rattle.amqp_session.specs.Laws.{IsAnsweredAtOnce}
-use Rattle.amqp_session.specs.Writing.{writes, flows, next_out, next_within, committed_as, commit, overlong, end_overlong, next_frame, pay, follow, sent, sent_among, taken}
-use Rattle.amqp_session.proofs.Numbered.{put-same}
-use Rattle.amqp_session.proofs.Recovering.{lose-case}
-use Rattle.amqp_session.proofs.Walk.{pay-case}
-use Rattle.amqp_session.proofs.Finishing.{fitting-some}
-use Rattle.amqp_session.proofs.Sending.{sent_among-closed}
+use Rattle.amqp_channels.specs.declared.channels.Channel.{Channel}
+use Rattle.amqp_commands.specs.declared.command.ChanRef.{ChanRef}
+use Rattle.amqp_commands.specs.declared.command.Cmd.{Cmd}
+use Rattle.amqp_commands.specs.declared.command.Cmd.TheVariants.{OpenChannel, CloseChannel, CloseConnection, UpdateSecret, Send, Publish, Flow, DropChannel, DropConnection, Listen}
+use Rattle.amqp_outgoing.specs.declared.committed.Mark.{Mark}
+use Rattle.amqp_outgoing.specs.declared.committed.Then.{Then}
+use Rattle.amqp_outgoing.specs.declared.committed.Then.TheVariants.{Nothing, Answer, Pays, Finish}
+use Rattle.amqp_violations.specs.declared.misread.Misread.{Misread}
+use Rattle.amqp_violations.specs.declared.server_close.ServerClose.{ServerClose}
+use Rattle.amqp_violations.specs.declared.server_close.ServerClose.TheVariants.{WithoutError, WithError}
+use Rattle.amqp_rules.specs.Talk.{Talk, acts, is_open, is_asked, has_ended}
+use Rattle.amqp_settings.specs.Handshake.{protocol_header, our_close, new_secret, channel_open, channel_flow, our_channel_close}
+use Rattle.amqp_violations.specs.Violations.{misread_error}
+use Rattle.amqp_maps.specs.Listed.{at}
+use Rattle.amqp_rules.specs.Changes as change
+use Rattle.amqp_rules.specs.Changes.{queue, next_promise, refuse, lose, finish, finish_by, starve, without_groups_of, without_groups}
+use Rattle.amqp_rules.specs.Recovery.{next_delay}
+use Rattle.amqp_channels.specs.Numbering.{first_number, drawn}
+use Rattle.amqp_rules.specs.Channels.{channel_at}
+use Rattle.amqp_commands.specs.Publishing.{method_frame, publish_frames}
+use Rattle.amqp_rules.specs.Links.{linked, refused_after, link_failed, misread, dropped, lost}
+use Rattle.amqp_rules.specs.Commands.{target, open_as, open_drawn, leave_channel, close_target, drop_target, too_long, unless_too_long, too_full, unless_full, queue_send, send_target, body_limit, queue_publish, publish_target, tell_flow, flow_target, queue_secret, leave_connection, command_rule, command}
+use Rattle.amqp_rules.specs.Ticks.{asks_validity, has_expired, heartbeat_due, is_heartbeat_due, is_missed, link_due, refresh, refreshed, secret_due, tick, validity_told}
+use Rattle.amqp_settings.specs.Handshake.{refresh_reason}
+use Rattle.amqp_rules.specs.Laws.{IsAnsweredAtOnce}
+use Rattle.amqp_rules.specs.Writing.{writes, flows, next_out, next_within, committed_as, commit, overlong, end_overlong, next_frame, pay, follow, sent, sent_among, taken}
+use Rattle.amqp_maps.proofs.Numbered.{put-same}
+use Rattle.amqp_rules.proofs.Recovering.{lose-case}
+use Rattle.amqp_rules.proofs.Walk.{pay-case}
+use Rattle.amqp_rules.proofs.Finishing.{fitting-some}
+use Rattle.amqp_rules.proofs.Sending.{sent_among-closed}
 use Rattle.amqp_types.proofs.Small.{if_case, if_by}
 use Rattle.amqp_queued_rules.specs.Queued.{opening_of, told_by, published_by, heartbeat_of, new_one, renewal, renewal_of, told_in_time}
 use Rattle.amqp_queued_rules.specs.Left.{GainsBehind, DropsAll, StaysOrDrops, left_by_command, AddsWhere, IsUntold, GoesOut, LeavesWhatWaits}

@@ -19,23 +19,23 @@ use Rattle.amqp_promise.specs.declared.state.ChannelState.{ChannelState}
 use Rattle.amqp_promise.specs.declared.state.ChannelState.TheVariants as channel
 use Rattle.amqp_auth.specs.declared.asked.Asked.{Asked}
 use Rattle.amqp_auth.specs.declared.asked.Asked.TheVariants as answer
-use Rattle.amqp_session.specs.declared.channels.Channel.{Channel}
-use Rattle.amqp_session.specs.declared.channels.Debt.{Debt}
-use Rattle.amqp_session.specs.declared.channels.Debt.TheVariants as debt
-use Rattle.amqp_session.specs.declared.configuration.Configuration.{Configuration}
-use Rattle.amqp_session.specs.declared.state.Phase.{Phase}
-use Rattle.amqp_session.specs.declared.state.Phase.TheVariants.{AwaitStart, AwaitTune, AwaitOpenOk}
-use Rattle.amqp_session.specs.Talk.{Talk, acts, hears_on, is_closing}
-use Rattle.amqp_session.specs.Negotiation.{tune}
-use Rattle.amqp_session.specs.Handshake.{start_ok, secure_ok, tune_ok, open_vhost, close_ok, channel_open, flow_ok, channel_close_ok}
-use Rattle.amqp_session.specs.Violations.{channel_closed_with, unawaited, stray_channel_frame, stray_connection_method}
-use Rattle.amqp_session.specs.Changes.{queue, await, lose, misplaced}
-use Rattle.amqp_session.specs.Channels.{channel_at}
-use Rattle.amqp_session.specs.ChannelMethods.{heard_on, unawaited_channel_method, channel_opened, remove_channel, remove_unless_owed, channel_closed, on_channel_flow, channel_flowed, closed_by_server, crossing_close, channel_close_by, channel_rule, channel_method_by, channel_method, is_select_ok, hand_out, confirmed, raw_by}
-use Rattle.amqp_session.specs.ConnectionMethods.{started, on_start, challenged, on_secure, on_tune, connected, reopen, reopen_each, on_open_ok, secret_taken, connection_closed, connection_rule}
-use Rattle.amqp_session.specs.Frames.{method_on, method_rule, frame_rule, closed_rule, on_frame}
-use Rattle.amqp_session.proofs.Recovering.{lose-case}
-use Rattle.amqp_session.proofs.Walk.{close_answered}
+use Rattle.amqp_channels.specs.declared.channels.Channel.{Channel}
+use Rattle.amqp_channels.specs.declared.channels.Debt.{Debt}
+use Rattle.amqp_channels.specs.declared.channels.Debt.TheVariants as debt
+use Rattle.amqp_settings.specs.declared.configuration.Configuration.{Configuration}
+use Rattle.amqp_rules.specs.declared.state.Phase.{Phase}
+use Rattle.amqp_rules.specs.declared.state.Phase.TheVariants.{AwaitStart, AwaitTune, AwaitOpenOk}
+use Rattle.amqp_rules.specs.Talk.{Talk, acts, hears_on, is_closing}
+use Rattle.amqp_settings.specs.Negotiation.{tune}
+use Rattle.amqp_settings.specs.Handshake.{start_ok, secure_ok, tune_ok, open_vhost, close_ok, channel_open, flow_ok, channel_close_ok}
+use Rattle.amqp_violations.specs.Violations.{channel_closed_with, unawaited, stray_channel_frame, stray_connection_method}
+use Rattle.amqp_rules.specs.Changes.{queue, await, lose, misplaced}
+use Rattle.amqp_rules.specs.Channels.{channel_at}
+use Rattle.amqp_rules.specs.ChannelMethods.{heard_on, unawaited_channel_method, channel_opened, remove_channel, remove_unless_owed, channel_closed, on_channel_flow, channel_flowed, closed_by_server, crossing_close, channel_close_by, channel_rule, channel_method_by, channel_method, is_select_ok, hand_out, confirmed, raw_by}
+use Rattle.amqp_rules.specs.ConnectionMethods.{started, on_start, challenged, on_secure, on_tune, connected, reopen, reopen_each, on_open_ok, secret_taken, connection_closed, connection_rule}
+use Rattle.amqp_rules.specs.Frames.{method_on, method_rule, frame_rule, closed_rule, on_frame}
+use Rattle.amqp_rules.proofs.Recovering.{lose-case}
+use Rattle.amqp_rules.proofs.Walk.{close_answered}
 use Rattle.amqp_types.proofs.Small.{if_case}
 use Rattle.amqp_queued_rules.specs.Queues.{Queues, QueuesNothing, MayQueue}
 use Rattle.amqp_queued_rules.specs.Queued.{start_reply, secure_reply, tune_reply, reopenings, reply_to}

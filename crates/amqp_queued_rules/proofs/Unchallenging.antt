@@ -12,18 +12,18 @@ use Rattle.amqp_outbox.specs.Queued.{Queued, begin_group, after_control, after_b
 use Rattle.amqp_promise.specs.declared.error.ErrorKind.TheVariants.{SerialisationError}
 use Rattle.amqp_auth.specs.declared.asked.Asked.{Asked}
 use Rattle.amqp_auth.specs.declared.asked.Asked.TheVariants as answer
-use Rattle.amqp_session.specs.declared.channels.Channel.{Channel}
-use Rattle.amqp_session.specs.declared.command.Cmd.{Cmd}
-use Rattle.amqp_session.specs.declared.command.Cmd.TheVariants.{OpenChannel, CloseChannel, CloseConnection, UpdateSecret, Send, Publish, Flow, DropChannel, DropConnection, Listen}
-use Rattle.amqp_session.specs.Config.{Config, Options}
-use Rattle.amqp_session.specs.Talk.{Talk, start}
-use Rattle.amqp_session.specs.Changes.{next_promise}
-use Rattle.amqp_session.specs.Handshake.{channel_open}
-use Rattle.amqp_session.specs.Numbering.{first_number, drawn}
-use Rattle.amqp_session.specs.Publishing.{cut, publish_frames}
-use Rattle.amqp_session.specs.Commands.{body_limit, command}
-use Rattle.amqp_session.specs.Ticks.{asks_validity, has_expired, is_heartbeat_due, is_missed}
-use Rattle.amqp_session.specs.Writing.{next_within, flows, committed_as, commit, overlong, end_overlong}
+use Rattle.amqp_channels.specs.declared.channels.Channel.{Channel}
+use Rattle.amqp_commands.specs.declared.command.Cmd.{Cmd}
+use Rattle.amqp_commands.specs.declared.command.Cmd.TheVariants.{OpenChannel, CloseChannel, CloseConnection, UpdateSecret, Send, Publish, Flow, DropChannel, DropConnection, Listen}
+use Rattle.amqp_settings.specs.Config.{Config, Options}
+use Rattle.amqp_rules.specs.Talk.{Talk, start}
+use Rattle.amqp_rules.specs.Changes.{next_promise}
+use Rattle.amqp_settings.specs.Handshake.{channel_open}
+use Rattle.amqp_channels.specs.Numbering.{first_number, drawn}
+use Rattle.amqp_commands.specs.Publishing.{cut, publish_frames}
+use Rattle.amqp_rules.specs.Commands.{body_limit, command}
+use Rattle.amqp_rules.specs.Ticks.{asks_validity, has_expired, is_heartbeat_due, is_missed}
+use Rattle.amqp_rules.specs.Writing.{next_within, flows, committed_as, commit, overlong, end_overlong}
 use Rattle.amqp_types.proofs.Small.{if_case}
 use Rattle.amqp_queued_rules.specs.Queues.{Queues, QueuesNothing, Waits}
 use Rattle.amqp_queued_rules.specs.Queued.{start_reply, reopenings, reply_to, opening_of, told_by, published_by, heartbeat_of, new_one, renewal, renewal_of, told_in_time, QueuesItsOwn}
@@ -31,7 +31,7 @@ use Rattle.amqp_queued_rules.specs.Challenges.{is_challenge, IsNoSecureOk, Uncha
 use Rattle.amqp_queued_rules.proofs.Parts.{waits-queued, waits-same, waits-either}
 use Rattle.amqp_queued_rules.proofs.Replying.{silent-lose}
 use Rattle.amqp_queued_rules.proofs.Telling.{queues-its-own}
-use Rattle.amqp_session.proofs.Walking.{all-append}
+use Rattle.amqp_channels.proofs.Walking.{all-append}
 
 -- a frame that waits and is no secure-ok
 abbrev Other : Item → Type 0

@@ -6,15 +6,15 @@ use Rattle.amqp_frame.specs.declared.method.Method.TheVariants.{Secure, SecureOk
 use Rattle.amqp_outbox.specs.declared.item.Item.{Item}
 use Rattle.amqp_auth.specs.declared.asked.Asked.{Asked}
 use Rattle.amqp_promise.specs.declared.io_fault.IoFault.{IoFault}
-use Rattle.amqp_session.specs.declared.command.Cmd.{Cmd}
-use Rattle.amqp_session.specs.declared.misread.Misread.{Misread}
-use Rattle.amqp_session.specs.Talk.{Talk}
-use Rattle.amqp_session.specs.Changes as change
-use Rattle.amqp_session.specs.Links as link
-use Rattle.amqp_session.specs.Frames.{on_frame}
-use Rattle.amqp_session.specs.Commands as told
-use Rattle.amqp_session.specs.Ticks as ticks
-use Rattle.amqp_session.specs.Writing as writing
+use Rattle.amqp_commands.specs.declared.command.Cmd.{Cmd}
+use Rattle.amqp_violations.specs.declared.misread.Misread.{Misread}
+use Rattle.amqp_rules.specs.Talk.{Talk}
+use Rattle.amqp_rules.specs.Changes as change
+use Rattle.amqp_rules.specs.Links as link
+use Rattle.amqp_rules.specs.Frames.{on_frame}
+use Rattle.amqp_rules.specs.Commands as told
+use Rattle.amqp_rules.specs.Ticks as ticks
+use Rattle.amqp_rules.specs.Writing as writing
 use Rattle.amqp_queued_rules.specs.Queues.{Waits}
 
 -- a challenge of the server

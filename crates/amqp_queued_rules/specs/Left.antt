@@ -17,28 +17,28 @@ use Rattle.amqp_promise.specs.declared.state.ChannelState.{ChannelState}
 use Rattle.amqp_promise.specs.declared.state.ChannelState.TheVariants as channel
 use Rattle.amqp_promise.specs.declared.error.ErrorKind.{ErrorKind}
 use Rattle.amqp_promise.specs.declared.io_fault.IoFault.{IoFault}
-use Rattle.amqp_session.specs.declared.channels.Channel.{Channel}
-use Rattle.amqp_session.specs.declared.channels.Debt.{Debt}
-use Rattle.amqp_session.specs.declared.channels.Debt.TheVariants as debt
-use Rattle.amqp_session.specs.declared.command.Cmd.{Cmd}
-use Rattle.amqp_session.specs.declared.command.Cmd.TheVariants.{CloseChannel, CloseConnection, DropChannel, DropConnection, Listen}
-use Rattle.amqp_session.specs.declared.misread.Misread.{Misread}
-use Rattle.amqp_session.specs.declared.state.Phase.{Phase}
-use Rattle.amqp_session.specs.declared.state.Phase.TheVariants.{AwaitStart, AwaitTune, AwaitOpenOk}
-use Rattle.amqp_session.specs.Talk.{Talk, acts, is_asked}
-use Rattle.amqp_session.specs.Handshake.{protocol_header}
-use Rattle.amqp_session.specs.Channels.{channel_at}
-use Rattle.amqp_session.specs.Changes as change
-use Rattle.amqp_session.specs.Changes.{without_groups_of, without_groups, without_all_on}
-use Rattle.amqp_session.specs.Links as link
-use Rattle.amqp_session.specs.Frames.{on_frame}
-use Rattle.amqp_session.specs.Commands as told
-use Rattle.amqp_session.specs.Commands.{target}
-use Rattle.amqp_session.specs.Laws.{IsAnsweredAtOnce}
-use Rattle.amqp_session.specs.Ticks as ticks
-use Rattle.amqp_session.specs.Ticks.{is_missed}
-use Rattle.amqp_session.specs.Writing as writing
-use Rattle.amqp_session.specs.Writing.{next_within}
+use Rattle.amqp_channels.specs.declared.channels.Channel.{Channel}
+use Rattle.amqp_channels.specs.declared.channels.Debt.{Debt}
+use Rattle.amqp_channels.specs.declared.channels.Debt.TheVariants as debt
+use Rattle.amqp_commands.specs.declared.command.Cmd.{Cmd}
+use Rattle.amqp_commands.specs.declared.command.Cmd.TheVariants.{CloseChannel, CloseConnection, DropChannel, DropConnection, Listen}
+use Rattle.amqp_violations.specs.declared.misread.Misread.{Misread}
+use Rattle.amqp_rules.specs.declared.state.Phase.{Phase}
+use Rattle.amqp_rules.specs.declared.state.Phase.TheVariants.{AwaitStart, AwaitTune, AwaitOpenOk}
+use Rattle.amqp_rules.specs.Talk.{Talk, acts, is_asked}
+use Rattle.amqp_settings.specs.Handshake.{protocol_header}
+use Rattle.amqp_rules.specs.Channels.{channel_at}
+use Rattle.amqp_rules.specs.Changes as change
+use Rattle.amqp_rules.specs.Changes.{without_groups_of, without_groups, without_all_on}
+use Rattle.amqp_rules.specs.Links as link
+use Rattle.amqp_rules.specs.Frames.{on_frame}
+use Rattle.amqp_rules.specs.Commands as told
+use Rattle.amqp_rules.specs.Commands.{target}
+use Rattle.amqp_rules.specs.Laws.{IsAnsweredAtOnce}
+use Rattle.amqp_rules.specs.Ticks as ticks
+use Rattle.amqp_rules.specs.Ticks.{is_missed}
+use Rattle.amqp_rules.specs.Writing as writing
+use Rattle.amqp_rules.specs.Writing.{next_within}
 use Rattle.amqp_queued_rules.specs.Queued.{reply_to, told_by, published_by, told_in_time}
 
 -- what was left of what waited still waits, in its order; behind it in the control lane these frames, and in the

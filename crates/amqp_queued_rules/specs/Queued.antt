@@ -8,26 +8,26 @@ use Rattle.amqp_outbox.specs.Items.{plain_item, promised_item, group_of}
 use Rattle.amqp_auth.specs.declared.asked.Asked.{Asked}
 use Rattle.amqp_auth.specs.declared.asked.Asked.TheVariants as answer
 use Rattle.amqp_promise.specs.declared.io_fault.IoFault.{IoFault}
-use Rattle.amqp_session.specs.declared.channels.Channel.{Channel}
-use Rattle.amqp_session.specs.declared.command.Cmd.{Cmd}
-use Rattle.amqp_session.specs.declared.command.Cmd.TheVariants.{OpenChannel, CloseChannel, CloseConnection, UpdateSecret, Send, Publish, Flow, DropChannel, DropConnection, Listen}
-use Rattle.amqp_session.specs.declared.configuration.Configuration.{Configuration}
-use Rattle.amqp_session.specs.declared.misread.Misread.{Misread}
-use Rattle.amqp_session.specs.Config.{Options}
-use Rattle.amqp_session.specs.Talk.{Talk}
-use Rattle.amqp_session.specs.Negotiation.{tune}
-use Rattle.amqp_session.specs.Handshake.{protocol_header, start_ok, secure_ok, tune_ok, open_vhost, our_close, close_ok, new_secret, channel_open, channel_flow, flow_ok, channel_close_ok, our_channel_close}
-use Rattle.amqp_session.specs.Numbering.{first_number, drawn}
-use Rattle.amqp_session.specs.Publishing.{method_frame, publish_frames}
-use Rattle.amqp_session.specs.Changes as change
-use Rattle.amqp_session.specs.Changes.{next_promise}
-use Rattle.amqp_session.specs.Links as link
-use Rattle.amqp_session.specs.Frames.{on_frame}
-use Rattle.amqp_session.specs.Commands as told
-use Rattle.amqp_session.specs.Commands.{body_limit}
-use Rattle.amqp_session.specs.Ticks as ticks
-use Rattle.amqp_session.specs.Ticks.{asks_validity, has_expired, is_heartbeat_due, is_missed, refresh_reason}
-use Rattle.amqp_session.specs.Writing as writing
+use Rattle.amqp_channels.specs.declared.channels.Channel.{Channel}
+use Rattle.amqp_commands.specs.declared.command.Cmd.{Cmd}
+use Rattle.amqp_commands.specs.declared.command.Cmd.TheVariants.{OpenChannel, CloseChannel, CloseConnection, UpdateSecret, Send, Publish, Flow, DropChannel, DropConnection, Listen}
+use Rattle.amqp_settings.specs.declared.configuration.Configuration.{Configuration}
+use Rattle.amqp_violations.specs.declared.misread.Misread.{Misread}
+use Rattle.amqp_settings.specs.Config.{Options}
+use Rattle.amqp_rules.specs.Talk.{Talk}
+use Rattle.amqp_settings.specs.Negotiation.{tune}
+use Rattle.amqp_settings.specs.Handshake.{protocol_header, start_ok, secure_ok, tune_ok, open_vhost, our_close, close_ok, new_secret, channel_open, channel_flow, flow_ok, channel_close_ok, our_channel_close, refresh_reason}
+use Rattle.amqp_channels.specs.Numbering.{first_number, drawn}
+use Rattle.amqp_commands.specs.Publishing.{method_frame, publish_frames}
+use Rattle.amqp_rules.specs.Changes as change
+use Rattle.amqp_rules.specs.Changes.{next_promise}
+use Rattle.amqp_rules.specs.Links as link
+use Rattle.amqp_rules.specs.Frames.{on_frame}
+use Rattle.amqp_rules.specs.Commands as told
+use Rattle.amqp_rules.specs.Commands.{body_limit}
+use Rattle.amqp_rules.specs.Ticks as ticks
+use Rattle.amqp_rules.specs.Ticks.{asks_validity, has_expired, is_heartbeat_due, is_missed}
+use Rattle.amqp_rules.specs.Writing as writing
 use Rattle.amqp_queued_rules.specs.Queues.{Queues, QueuesNothing, MayQueue}
 
 -- ---- frames that are read

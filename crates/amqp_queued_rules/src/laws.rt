@@ -1,7 +1,7 @@
 //! What waits to be said after each rule.
 
-ghost use Rattle.amqp_session.specs.Config.{Config};
-ghost use Rattle.amqp_session.specs.Talk.{Talk, start};
+ghost use Rattle.amqp_settings.specs.Config.{Config};
+ghost use Rattle.amqp_rules.specs.Talk.{Talk, start};
 ghost use Rattle.amqp_queued_rules.specs.Queued.{QueuesItsOwn};
 ghost use Rattle.amqp_queued_rules.specs.Left.{LeavesWhatWaits};
 ghost use Rattle.amqp_queued_rules.specs.Challenges.{Unchallenged, StaysUnchallenged};

@@ -30,10 +30,6 @@ pub none-before : (rest : Option (List ℕ)) → before_numbers None rest ≡ No
 none-before None = refl
 none-before (Some rest) = refl
 
-pub nothing-after : (rest : Option (List ℕ)) → after_numbers [] rest ≡ rest
-nothing-after None = refl
-nothing-after (Some rest) = refl
-
 -- one number goes from the rest to those before
 pub one-before : (ns : List ℕ) (n : ℕ) (rest : Option (List ℕ)) → after_numbers ns (before_numbers (Some n) rest) ≡ after_numbers (ns ++ n ∷ []) rest
 one-before ns n None = refl

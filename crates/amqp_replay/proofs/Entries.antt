@@ -4,7 +4,7 @@ use Rattle.std.proofs.lemmas.Bool.Decides.{nat_tests}
 use Rattle.std.specs.Ordering.{nat_cmp}
 use Rattle.std.specs.BTreeMap.{is_at}
 use Rattle.std.specs.Cmp.{unsigned_tied}
-use Rattle.amqp_session.specs.Listed.{at, without}
+use Rattle.amqp_maps.specs.Listed.{at, without}
 
 is_other : (k m : ℕ) → k ≢ m → is_at (nat_cmp k) m ≡ false
 is_other k m apart =

@@ -3,10 +3,10 @@ use Rattle.std.proofs.Common.{◌≡◌, ◌<◌, ℕ, Bool, true, false, List, 
 use Rattle.std.specs.List.{flat_map}
 use Rattle.amqp_promise.specs.declared.error.ErrorKind.{ErrorKind}
 use Rattle.amqp_promise.specs.declared.error.ErrorKind.TheVariants.{NoMemory}
-use Rattle.amqp_session.specs.declared.event.Event.{Event}
-use Rattle.amqp_session.specs.declared.event.Event.TheVariants as told
-use Rattle.amqp_session.specs.Talk.{Talk, end_of}
-use Rattle.amqp_session.specs.Answers.{end_event, events_of, event_of, without_event, take_event, TakesEvent}
+use Rattle.amqp_answers.specs.declared.event.Event.{Event}
+use Rattle.amqp_answers.specs.declared.event.Event.TheVariants as told
+use Rattle.amqp_rules.specs.Talk.{Talk, end_of}
+use Rattle.amqp_rules.specs.Answers.{end_event, events_of, event_of, without_event, take_event, TakesEvent}
 use Rattle.amqp_engine.proofs.EventTaken.{taken-case}
 use Rattle.amqp_replay.specs.Report.{event_line, event_lines}
 

@@ -1,10 +1,10 @@
 -- The lines of the frames handed out, opening by opening.
 use Rattle.std.proofs.Common.{◌≡◌, ◌≤◌, ◌<◌, ◌+◌, ℕ, List, [], ◌++◌, length, drop, get_or, unwrap_or, ap, ◌∙◌, arith}
 use Rattle.std.specs.List.{flat_map}
-use Rattle.amqp_session.specs.declared.handed.Handed.{Handed}
-use Rattle.amqp_session.specs.Talk.{Talk, end_of}
-use Rattle.amqp_session.specs.ChannelMethods.{frames_of}
-use Rattle.amqp_session.specs.Answers.{take_frames, events_of}
+use Rattle.amqp_answers.specs.declared.handed.Handed.{Handed}
+use Rattle.amqp_rules.specs.Talk.{Talk, end_of}
+use Rattle.amqp_rules.specs.ChannelMethods.{frames_of}
+use Rattle.amqp_rules.specs.Answers.{take_frames, events_of}
 use Rattle.amqp_replay.specs.Report.{frame_line}
 use Rattle.amqp_replay.proofs.Entries.{at-without}
 use Rattle.amqp_replay.proofs.Reports.{drop_from, lines_from}
@@ -14,10 +14,6 @@ use Rattle.amqp_replay.proofs.Reports.{drop_from, lines_from}
 -- the lines of the frames from one on
 abbrev pub frames_after : ℕ → List Handed → List ℕ
 frames_after k frames = flat_map frame_line (drop k frames)
-
-pub frames_after-step : (k : ℕ) (frames : List Handed) (h : Handed) → k < length frames → h ≡ get_or frames k h
-    → frames_after k frames ≡ frame_line h ++ frames_after (k + 1) frames
-frames_after-step k frames h there same = ap (flat_map frame_line) (drop_from k frames h there same)
 
 -- ---- opening by opening
 

@@ -1,8 +1,8 @@
 -- Lines without zeros that a number spells, and lines whose zeros are limited where they are read.
 use Rattle.std.proofs.Common.{◌≡◌, ◌&&◌, not, ℕ, nat_le, if◌then◌else◌, Bool, true, false, List, [], length, Option, Some, None, unwrap_or, refl, sym, ap, ◌∙◌, arith}
 use Rattle.std.proofs.lemmas.Bool.Decides.{nat_tests}
-use Rattle.amqp_session.specs.declared.command.Cmd.{Cmd}
-use Rattle.amqp_session.specs.declared.command.Cmd.TheVariants.{CloseChannel, CloseConnection, Publish, Flow}
+use Rattle.amqp_commands.specs.declared.command.Cmd.{Cmd}
+use Rattle.amqp_commands.specs.declared.command.Cmd.TheVariants.{CloseChannel, CloseConnection, Publish, Flow}
 use Rattle.amqp_engine.specs.declared.given.GivenStep.{GivenStep}
 use Rattle.amqp_engine.specs.declared.given.GivenStep.TheVariants.{Command}
 use Rattle.std.specs.List.{list_all}

@@ -3,10 +3,10 @@ use Rattle.std.proofs.Common.{◌≡◌, ◌<◌, ◌+◌, ◌-◌, ℕ, suc, Li
 use Rattle.std.specs.Prelude.{codes}
 use Rattle.std.specs.Int.{w16, to_be_bytes}
 use Rattle.std.specs.List.{fold, range_with_len}
-use Rattle.amqp_session.specs.declared.command.Answer.{Answer}
+use Rattle.amqp_answers.specs.declared.answer.Answer.{Answer}
 use Rattle.amqp_promise.specs.declared.error.ErrorKind.{ErrorKind}
-use Rattle.amqp_session.specs.Talk.{Talk, end_of}
-use Rattle.amqp_session.specs.Answers.{answer_of, Takes}
+use Rattle.amqp_rules.specs.Talk.{Talk, end_of}
+use Rattle.amqp_rules.specs.Answers.{answer_of, Takes}
 use Rattle.amqp_replay.specs.Report.{hexadecimal, end_line}
 use Rattle.amqp_replay.specs.Generator.{opening_lines}
 use Rattle.amqp_replay.specs.Summary.{first_len, is_ok, count_ok, sent_text, answered_text, summary}

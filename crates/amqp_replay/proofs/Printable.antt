@@ -26,10 +26,3 @@ IsAscii-printable (b ∷ bs) h =
 rest_ascii : (at : Option ℕ) (text : List ℕ) → IsAscii text → IsAscii (unwrap_or (rest_after at text) [])
 rest_ascii None text h = nil_ascii
 rest_ascii (Some at) text h = IsAscii-drop text (at + 1) h
-
--- what follows a byte, or nothing
-pub IsAscii-after : (byte : ℕ) (text rest : List ℕ) (o : Option (List ℕ)) → IsAscii text → o ≡ after_byte byte text → rest ≡ unwrap_or o [] → IsAscii rest
-IsAscii-after byte text rest o h after is =
-    let P : List ℕ → Type 0 = λ x. IsAscii x in
-    let Q : Option (List ℕ) → Type 0 = λ x. IsAscii (unwrap_or x []) in
-    subst P (sym is) (subst Q (sym after) (rest_ascii (position (λ b. b == byte) text) text h))

@@ -3,8 +3,8 @@ use Rattle.std.proofs.Common.{◌≡◌, inl, inr, ℕ, List, [], ◌∷◌, Boo
 use Rattle.std.specs.Prelude.{IsSome, MatchBool}
 use Rattle.amqp_auth.specs.Providers.{Exchange, Allows}
 use Rattle.amqp_auth.specs.DefaultAnswers.{DefaultAuth}
-use Rattle.amqp_session.specs.Config.{Config}
-use Rattle.amqp_session.specs.Talk.{Talk, has_ended}
+use Rattle.amqp_settings.specs.Config.{Config}
+use Rattle.amqp_rules.specs.Talk.{Talk, has_ended}
 use Rattle.amqp_engine.specs.declared.given.Given.{Given}
 use Rattle.amqp_engine.specs.Log.{Log, loaded}
 use Rattle.amqp_engine.specs.Engine.{Engine, begin}

@@ -3,12 +3,12 @@ use Rattle.std.proofs.Common.{◌≡◌, ◌≤◌, ◌<◌, ◌+◌, ◌-◌, �
 use Rattle.std.proofs.Math.Seq.{drop-cons}
 use Rattle.std.proofs.lemmas.Option.{slice_get_within, get_or_from_slice_get}
 use Rattle.std.specs.List.{flat_map, enumerate_from, range_with_len}
-use Rattle.amqp_session.specs.declared.command.Answer.{Answer}
+use Rattle.amqp_answers.specs.declared.answer.Answer.{Answer}
 use Rattle.amqp_promise.specs.declared.error.ErrorKind.{ErrorKind}
 use Rattle.amqp_promise.specs.declared.error.ErrorKind.TheVariants.{NoMemory}
-use Rattle.amqp_session.specs.Listed.{without}
-use Rattle.amqp_session.specs.Talk.{Talk, end_of}
-use Rattle.amqp_session.specs.Answers.{answer_in, answer_of, take_answer, Takes, events_of}
+use Rattle.amqp_maps.specs.Listed.{without}
+use Rattle.amqp_rules.specs.Talk.{Talk, end_of}
+use Rattle.amqp_rules.specs.Answers.{answer_in, answer_of, take_answer, Takes, events_of}
 use Rattle.amqp_replay.specs.Report.{link_report, link_lines, answer_line, answer_lines, frame_lines, event_lines, end_line, report}
 use Rattle.amqp_replay.proofs.Entries.{at-without}
 
@@ -46,9 +46,6 @@ drop_all [] zero h = refl
 drop_all [] (suc k) h = refl
 drop_all (x ∷ links) zero h = absurd (omega arith)
 drop_all (x ∷ links) (suc k) h = drop_all links k (omega arith)
-
-pub links_from-end : (k : ℕ) (links : List (List ℕ)) → length links ≤ k → links_from k links ≡ []
-links_from-end k links h = ap (λ (x : List (List ℕ)). flat_map link_report (enumerate_from (k + 1) x)) (drop_all links k h)
 
 -- ---- promises
 

@@ -1,7 +1,7 @@
 -- What a script says of its session can be said.
 use Rattle.std.proofs.Common.{◌<◌, ◌^◌, ℕ, ◌-◌, Bool, List, [], ◌∷◌, length, Result, Ok, Err, arith}
 use Rattle.std.specs.Prelude.{codes}
-use Rattle.amqp_session.specs.Config.{Config}
+use Rattle.amqp_settings.specs.Config.{Config}
 use Rattle.amqp_written_rules.specs.Sayable.{CanBeSaid}
 use Rattle.amqp_written_rules.proofs.Introducing.{AreProperties, put-text, properties-said}
 use Rattle.amqp_types.proofs.Small.{if_case}

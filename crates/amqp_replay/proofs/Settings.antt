@@ -15,7 +15,7 @@ use Rattle.amqp_uri.specs.declared.query.AMQPQuery.{AMQPQuery}
 use Rattle.amqp_uri.specs.declared.uri.AMQPUri.{AMQPUri}
 use Rattle.amqp_uri.specs.Address.{vhost_of, with_query, address_of, address_by_scheme, address_in, address_of_text, most_octets}
 use Rattle.amqp_uri.specs.Query.{QueryPair, query_pairs, number, kept_frame_max, under, pair_frame_max, pair_channel_max, pair_heartbeat, last_of, first_of, refusal_of, wishes_of, unless, query_of}
-use Rattle.amqp_session.specs.Config.{own_numbers}
+use Rattle.amqp_settings.specs.Config.{own_numbers}
 use Rattle.amqp_written_rules.specs.Sayable.{AreInRange}
 use Rattle.amqp_replay.specs.declared.limits.TheConstants.{TEXT_BYTES}
 use Rattle.amqp_replay.specs.declared.setup.Setting.{Setting}

@@ -7,8 +7,8 @@ use Rattle.amqp_frame.specs.declared.frame.Frame.TheVariants.{Method}
 use Rattle.amqp_frame.specs.declared.method.Method.TheVariants.{Start, Tune, OpenOk, CloseOk, ChannelOpenOk}
 use Rattle.amqp_frame.specs.Frames.{encoding}
 use Rattle.amqp_uri.specs.Address.{local}
-use Rattle.amqp_session.specs.Config.{config_of, no_options}
-use Rattle.amqp_session.specs.declared.command.Cmd.TheVariants.{OpenChannel, CloseConnection, Publish}
+use Rattle.amqp_settings.specs.Config.{config_of, no_options}
+use Rattle.amqp_commands.specs.declared.command.Cmd.TheVariants.{OpenChannel, CloseConnection, Publish}
 use Rattle.amqp_engine.specs.declared.given.GivenStep.{GivenStep}
 use Rattle.amqp_engine.specs.declared.given.GivenStep.TheVariants.{Link, Bytes, Command}
 use Rattle.amqp_replay.specs.Grammar.{Scenario, given, numbered, sent_method}

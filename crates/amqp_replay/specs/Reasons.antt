@@ -1,6 +1,6 @@
 -- Why something is closed, as it is read of a line.
 use Rattle.std.specs.Prelude.{◌≡◌, ℕ, List, Option, Some, None}
-use Rattle.amqp_session.specs.declared.command.Cmd.{Cmd}
+use Rattle.amqp_commands.specs.declared.command.Cmd.{Cmd}
 use Rattle.amqp_engine.specs.declared.given.GivenStep.TheVariants.{Command}
 use Rattle.amqp_replay.specs.declared.grammar.Reason.{Reason}
 use Rattle.amqp_replay.specs.declared.grammar.Said.{Said}

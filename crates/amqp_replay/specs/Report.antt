@@ -3,18 +3,18 @@ use Rattle.std.specs.Prelude.{ℕ, true, false, List, [], ◌∷◌, ◌++◌, O
 use Rattle.std.specs.List.{flat_map, enumerate_from, range_with_len}
 use Rattle.std.specs.Fmt.{decimal}
 use Rattle.hex.specs.Hex.{encode_lower}
-use Rattle.amqp_session.specs.declared.command.Answer.{Answer}
-use Rattle.amqp_session.specs.declared.command.Answer.TheVariants.{Connected, Channel, Done, Sent, Flow}
+use Rattle.amqp_answers.specs.declared.answer.Answer.{Answer}
+use Rattle.amqp_answers.specs.declared.answer.Answer.TheVariants.{Connected, Channel, Done, Sent, Flow}
 use Rattle.amqp_frame.specs.declared.frame.RawKind.{RawKind}
 use Rattle.amqp_frame.specs.declared.frame.RawKind.TheVariants.{RawMethod, Header, Body}
-use Rattle.amqp_session.specs.declared.handed.Handed.{Handed}
+use Rattle.amqp_answers.specs.declared.handed.Handed.{Handed}
 use Rattle.amqp_promise.specs.declared.error.ErrorKind.{ErrorKind}
-use Rattle.amqp_session.specs.declared.event.Event.{Event}
-use Rattle.amqp_session.specs.declared.event.Event.TheVariants as event
-use Rattle.amqp_session.specs.Talk.{Talk, end_of}
+use Rattle.amqp_answers.specs.declared.event.Event.{Event}
+use Rattle.amqp_answers.specs.declared.event.Event.TheVariants as event
+use Rattle.amqp_rules.specs.Talk.{Talk, end_of}
 use Rattle.amqp_promise.specs.Errors.{error_text}
-use Rattle.amqp_session.specs.ChannelMethods.{frames_of}
-use Rattle.amqp_session.specs.Answers.{answer_of, events_of}
+use Rattle.amqp_rules.specs.ChannelMethods.{frames_of}
+use Rattle.amqp_rules.specs.Answers.{answer_of, events_of}
 
 -- bytes as two lower-case digits each, or `-` for none
 abbrev pub hexadecimal : List ℕ → List ℕ

@@ -2,7 +2,7 @@
 use Rattle.std.specs.Prelude.{◌≡◌, ℕ, List, Option, Result, Ok, Err}
 use Rattle.amqp_auth.specs.declared.asked.Asked.{Asked}
 use Rattle.amqp_auth.specs.Providers.{Exchange}
-use Rattle.amqp_session.specs.Talk.{Talk}
+use Rattle.amqp_rules.specs.Talk.{Talk}
 use Rattle.amqp_written_rules.specs.Sayable.{CanBeSaid}
 use Rattle.amqp_engine.specs.Log.{Log}
 use Rattle.amqp_replay.specs.Grammar.{Scenario}

@@ -4,7 +4,7 @@ use Rattle.std.specs.List.{slice_split}
 use Rattle.std.specs.Result.{result_ok}
 use Rattle.std.specs.Str.{bytes_eq}
 use Rattle.amqp_uri.specs.Address.{local, address_of_text as address_of}
-use Rattle.amqp_session.specs.Config.{Options, Config, config_of, no_options, with_locale, with_name, with_property, with_backoff, with_recovery, with_outbox_limit}
+use Rattle.amqp_settings.specs.Config.{Options, Config, config_of, no_options, with_locale, with_name, with_property, with_backoff, with_recovery, with_outbox_limit}
 use Rattle.amqp_replay.specs.declared.limits.TheConstants.{TEXT_BYTES}
 use Rattle.amqp_replay.specs.declared.setup.Setting.{Setting}
 use Rattle.amqp_replay.specs.declared.setup.Setting.TheVariants.{Uri, Locale, Name, Property, Recover, Delays, Provider, Listen, Limit}

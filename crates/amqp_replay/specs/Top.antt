@@ -4,10 +4,10 @@ use Rattle.amqp_auth.specs.declared.asked.Asked.{Asked}
 use Rattle.amqp_promise.specs.declared.error.ErrorKind.{ErrorKind}
 use Rattle.amqp_auth.specs.Providers.{Exchange, Allows}
 use Rattle.amqp_auth.specs.DefaultAnswers.{DefaultAuth, default_of, default_answer, AnswersEach}
-use Rattle.amqp_session.specs.declared.command.Cmd.TheVariants.{Listen}
-use Rattle.amqp_session.specs.Config.{Config}
-use Rattle.amqp_session.specs.Talk.{Talk, start, end_of}
-use Rattle.amqp_session.specs.Commands.{command}
+use Rattle.amqp_commands.specs.declared.command.Cmd.TheVariants.{Listen}
+use Rattle.amqp_settings.specs.Config.{Config}
+use Rattle.amqp_rules.specs.Talk.{Talk, start, end_of}
+use Rattle.amqp_rules.specs.Commands.{command}
 use Rattle.amqp_engine.specs.Log.{Log, loaded}
 use Rattle.amqp_engine.specs.Engine.{Engine, begin}
 use Rattle.amqp_engine.specs.Turn.{Turn, talk, exchanges}

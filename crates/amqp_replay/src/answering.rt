@@ -2,9 +2,9 @@
 
 ghost use Rattle.std.specs.Prelude.{◌≡◌, ◌≢◌, ◌⊎◌, ◌↔◌, ℕ, length, is_some, false, Some, None, Ok, IfOk, IfSome, OnOk, MatchResult, if◌then◌else◌};
 ghost use Rattle.std.specs.String.{string_bytes};
-ghost use Rattle.amqp_session.specs.Config.{config_of};
-ghost use Rattle.amqp_session.specs.Talk.{end_of};
-ghost use Rattle.amqp_session.specs.Commands.{command};
+ghost use Rattle.amqp_settings.specs.Config.{config_of};
+ghost use Rattle.amqp_rules.specs.Talk.{end_of};
+ghost use Rattle.amqp_rules.specs.Commands.{command};
 ghost use Rattle.amqp_engine.specs.Log.{loaded};
 ghost use Rattle.amqp_engine.specs.Engine.{begin, with_talk};
 ghost use Rattle.amqp_engine.specs.Plan.{ArePieces};

@@ -3,8 +3,8 @@
 ghost use Rattle.std.specs.Prelude.{◌≡◌, ◌<◌, ◌^◌, IfOk, IfSome, option_map};
 ghost use Rattle.std.specs.Option.{option_copied};
 ghost use Rattle.std.specs.Str.{IsAscii};
-ghost use Rattle.amqp_session.specs.declared.command.ChanRef.{ChanRef};
-ghost use Rattle.amqp_session.specs.declared.command.Cmd.TheVariants.{CloseConnection, CloseChannel};
+ghost use Rattle.amqp_commands.specs.declared.command.ChanRef.{ChanRef};
+ghost use Rattle.amqp_commands.specs.declared.command.Cmd.TheVariants.{CloseConnection, CloseChannel};
 ghost use Rattle.amqp_replay.specs.Grammar.{says, content_says, step_line, moment, words_say, line_of_words, command_of_words, limited, setup_or_refused, lone, link_line, room_line, bytes_line, shut_line, close_line, send_line, closes_numbered, closes, closes_by, numbered, number_in, rest_of, sends_data, is_passed_class, all_spelled, published_in, publishes_data, publish_line, zeros_published, flow_line, switch_of, secret_line, secrets};
 ghost use Rattle.amqp_replay.specs.Budgets.{affordable_publish};
 ghost use Rattle.amqp_replay.specs.Data.{spelled};

@@ -3,8 +3,8 @@
 ghost use Rattle.std.specs.Prelude.{◌≡◌, ◌≢◌, ◌++◌, ◌+◌, ◌<◌, ◌^◌, ◌↔◌, Some, Ok, Err, OnOk, IfOk, IsTrue, slice_get, length};
 ghost use Rattle.std.specs.List.{flat_map};
 ghost use Rattle.std.specs.String.{string_bytes};
-ghost use Rattle.amqp_session.specs.Talk.{end_of};
-ghost use Rattle.amqp_session.specs.Answers.{answer_of, events_of};
+ghost use Rattle.amqp_rules.specs.Talk.{end_of};
+ghost use Rattle.amqp_rules.specs.Answers.{answer_of, events_of};
 ghost use Rattle.amqp_replay.specs.Report.{link_report, link_lines, answer_line, answer_lines, answer_text, kind_text, frame_line, frame_lines, event_text, event_line, event_lines, hexadecimal, end_line, report, refusal};
 
 use amqp_engine::{IoLoop, ScriptedPort};

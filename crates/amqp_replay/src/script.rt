@@ -34,7 +34,7 @@ pub struct Scenario {
 }
 
 impl Model for Scenario {
-    ghost use Rattle.amqp_session.specs.Config.{config_of};
+    ghost use Rattle.amqp_settings.specs.Config.{config_of};
     ghost use Rattle.amqp_replay.specs.Grammar.{Scenario};
 
     ghost Value = { Scenario };

@@ -4,7 +4,7 @@ ghost use Rattle.std.specs.Prelude.{◌≡◌, ◌<◌, ◌∷◌, [], ◌++◌,
 ghost use Rattle.std.specs.List.{slice_split};
 ghost use Rattle.std.specs.Option.{option_copied};
 ghost use Rattle.std.specs.Str.{IsAscii};
-ghost use Rattle.amqp_session.specs.Config.{config_of};
+ghost use Rattle.amqp_settings.specs.Config.{config_of};
 ghost use Rattle.amqp_replay.specs.declared.setup.Setting.TheVariants.{Uri, Locale, Name, Property, Recover, Delays, Provider, Listen, Limit};
 ghost use Rattle.amqp_replay.specs.Setup.{is_setup, uri_in, text_in, property_in, recover_in, is_blank, numbers_of, delays_in, provider_in, listen_in, limit_in, option_by, setting_of, no_lines, may_stand, after_setting, after_step, set_by};
 
@@ -309,7 +309,7 @@ pub struct Progress {
 }
 
 impl Model for Progress {
-    ghost use Rattle.amqp_session.specs.Config.{config_of};
+    ghost use Rattle.amqp_settings.specs.Config.{config_of};
     ghost use Rattle.amqp_replay.specs.Setup.{SetupSoFar};
 
     ghost Value = { SetupSoFar };

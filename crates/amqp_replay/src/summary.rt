@@ -2,7 +2,7 @@
 
 ghost use Rattle.std.specs.Prelude.{◌≡◌, ◌++◌, ◌≤◌, if◌then◌else◌, OnOk};
 ghost use Rattle.std.specs.String.{string_bytes};
-ghost use Rattle.amqp_session.specs.Talk.{end_of};
+ghost use Rattle.amqp_rules.specs.Talk.{end_of};
 ghost use Rattle.amqp_replay.specs.Summary.{first_len, is_ok, count_ok, sent_text, answered_text, summary};
 
 use crate::report::{ended, put_end};

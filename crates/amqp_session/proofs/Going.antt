@@ -11,9 +11,9 @@ use Rattle.amqp_outbox.specs.Items.{promise_of_group}
 use Rattle.amqp_outbox.specs.Replies.{awaited_on, left_on}
 use Rattle.amqp_outbox.specs.Queued.{Queued, is_on, goes_with, without_group, frame_promise, without_frame, reply_promise, without_reply, dropped_promise, without_any}
 use Rattle.amqp_outbox.proofs.Maps.{without-absent}
-use Rattle.amqp_session.specs.Listed.{without}
-use Rattle.amqp_session.specs.Changes.{replies_on, without_replies_on, promises_on, without_all_on}
-use Rattle.amqp_session.proofs.Numbered.{put-same, without-gone, without-put}
+use Rattle.amqp_maps.specs.Listed.{without}
+use Rattle.amqp_rules.specs.Changes.{replies_on, without_replies_on, promises_on, without_all_on}
+use Rattle.amqp_maps.proofs.Numbered.{put-same, without-gone, without-put}
 use Rattle.amqp_session.proofs.Rejecting.{same-fail, first-pass, none-pass, all-fail}
 
 abbrev Awaiting : Type 0

@@ -2,20 +2,21 @@
 use Rattle.std.proofs.Common.{◌≡◌, ◌∙◌, refl, ap, sym, ℕ, Bool, List, [], ◌∷◌, ◌++◌, true, false, Option, Some, unwrap_or, append-nil}
 use Rattle.std.proofs.lemmas.List.{append_cancel_left}
 use Rattle.amqp_frame.specs.declared.frame.RawKind.{RawKind}
-use Rattle.amqp_session.specs.declared.channels.Channel.{Channel}
-use Rattle.amqp_session.specs.declared.handed.Handed.{Handed}
-use Rattle.amqp_session.specs.declared.event.Event.{Event}
-use Rattle.amqp_session.specs.Events.{events_kept}
-use Rattle.amqp_session.specs.Listed.{at, put}
-use Rattle.amqp_session.specs.Talk.{Talk}
-use Rattle.amqp_session.specs.Memory.{MakesNothing, owes, owes_on}
-use Rattle.amqp_session.specs.Channels.{channel_at, is_owed}
-use Rattle.amqp_session.specs.declared.channels.Debt.TheVariants.{Nothing, Owed}
+use Rattle.amqp_channels.specs.declared.channels.Channel.{Channel}
+use Rattle.amqp_answers.specs.declared.handed.Handed.{Handed}
+use Rattle.amqp_answers.specs.declared.event.Event.{Event}
+use Rattle.amqp_answers.specs.Events.{events_kept}
+use Rattle.amqp_maps.specs.Listed.{at, put}
+use Rattle.amqp_rules.specs.Talk.{Talk}
+use Rattle.amqp_rules.specs.Memory.{MakesNothing, owes, owes_on}
+use Rattle.amqp_rules.specs.Channels.{channel_at}
+use Rattle.amqp_channels.specs.Channels.{is_owed}
+use Rattle.amqp_channels.specs.declared.channels.Debt.TheVariants.{Nothing, Owed}
 use Rattle.amqp_promise.specs.declared.state.ChannelState.TheVariants as channel
 use Rattle.amqp_promise.specs.declared.error.ErrorKind.{ErrorKind}
-use Rattle.amqp_session.specs.ChannelMethods.{closed_by_server, confirmed, hand_out, is_select_ok, pass_through}
+use Rattle.amqp_rules.specs.ChannelMethods.{closed_by_server, confirmed, hand_out, is_select_ok, pass_through}
 use Rattle.amqp_types.proofs.Small.{if_case}
-use Rattle.amqp_session.proofs.Numbered.{put-same}
+use Rattle.amqp_maps.proofs.Numbered.{put-same}
 
 -- what is added to a list that stays as it is
 pub none-added : {A : Type 0} (xs ys : List A) → xs ++ ys ≡ xs → ys ≡ []

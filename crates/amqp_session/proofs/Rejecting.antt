@@ -8,9 +8,10 @@ use Rattle.amqp_outbox.specs.Queued.{Queued, is_on, group_promise, without_group
 use Rattle.amqp_outbox.proofs.Taking.{none-left_out}
 use Rattle.amqp_promise.specs.declared.error.ErrorKind.{ErrorKind}
 use Rattle.amqp_uri.specs.Address.{local}
-use Rattle.amqp_session.specs.Config.{config_of, no_options}
-use Rattle.amqp_session.specs.Talk.{Talk, start}
-use Rattle.amqp_session.specs.Changes.{Promises, settled_to, give_to, rejected, drop_groups_of}
+use Rattle.amqp_settings.specs.Config.{config_of, no_options}
+use Rattle.amqp_rules.specs.Talk.{Talk, start}
+use Rattle.amqp_answers.specs.Settled.{Promises, settled_to}
+use Rattle.amqp_rules.specs.Changes.{give_to, rejected, drop_groups_of}
 
 -- ---- the first that passes a test
 

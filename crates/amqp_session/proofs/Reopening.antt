@@ -5,20 +5,19 @@ use Rattle.std.specs.List.{AllByRecursion}
 use Rattle.std.specs.Map.{keys_of}
 use Rattle.std.proofs.lemmas.List.{append_assoc}
 use Rattle.std.proofs.lemmas.List.Elements.{filter-append}
-use Rattle.amqp_outbox.specs.Items.{size_of}
 use Rattle.amqp_outbox.specs.Listed.{Ascends}
-use Rattle.amqp_outbox.specs.Queued.{Queued, waiting_items}
+use Rattle.amqp_outbox.specs.Queued.{Queued}
 use Rattle.amqp_outbox.proofs.Cases.{below-from}
-use Rattle.amqp_outbox.proofs.Waiting.{control-more}
-use Rattle.amqp_session.specs.declared.channels.Channel.{Channel}
-use Rattle.amqp_session.specs.Listed.{without}
-use Rattle.amqp_session.specs.Talk.{Talk}
-use Rattle.amqp_session.specs.Memory.{MakesNothing}
-use Rattle.amqp_session.specs.ConnectionMethods.{connected, reopen, reopen_each, on_open_ok}
-use Rattle.amqp_session.specs.Reopening.{listed_after, agreed, numbers_after, open_item, reopened, reopened_each, is_among}
+use Rattle.amqp_channels.specs.declared.channels.Channel.{Channel}
+use Rattle.amqp_maps.specs.Listed.{without}
+use Rattle.amqp_rules.specs.Talk.{Talk}
+use Rattle.amqp_rules.specs.Memory.{MakesNothing}
+use Rattle.amqp_rules.specs.ConnectionMethods.{connected, reopen, reopen_each, on_open_ok}
+use Rattle.amqp_channels.specs.InOrder.{listed_after, agreed, numbers_after}
+use Rattle.amqp_session.specs.Reopening.{open_item, reopened, reopened_each, is_among}
 use Rattle.amqp_session.proofs.Made.{none-added}
 use Rattle.amqp_types.proofs.Small.{same-number, the-number, other-number, or-right}
-use Rattle.amqp_session.proofs.Walking.{all-left, without-before}
+use Rattle.amqp_channels.proofs.Walking.{all-left, without-before}
 
 -- ---- numbers among others
 
@@ -72,18 +71,6 @@ no-more-numbers top (e ∷ es) = by (nat_le e.0 top) (no-more-numbers top es) wh
   by false rest = omega (arith, rest)
 
 -- ---- what waits then
-
--- channel.open is spelled in 13 bytes
-pub open-size : (n : ℕ) → size_of (open_item n) ≡ 13
-open-size n = refl
-
--- one more frame waits for each
-pub reopened-more : (ns : List ℕ) (q : Queued) → length (waiting_items (reopened_each ns q)) ≡ length (waiting_items q) + length ns
-reopened-more [] q = omega arith
-reopened-more (n ∷ ns) q =
-    let one = (control-more (open_item n) q).0 in
-    let rest = reopened-more ns (reopened n q) in
-    omega (arith, one, rest)
 
 -- these frames are said
 pub reopened-control : (ns : List ℕ) (q : Queued) → (reopened_each ns q).control ≡ q.control ++ map open_item ns

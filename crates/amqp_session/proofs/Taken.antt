@@ -1,19 +1,20 @@
 -- One committed frame that was sent whole, and then the others.
 use Rattle.std.proofs.Common.{◌≡◌, ◌<◌, ◌≤◌, inl, inr, ◌∙◌, ap, sym, refl, ℕ, ◌-◌, nat_le, if◌then◌else◌, Bool, true, false, List, [], ◌∷◌, drop, length, Option, Some, None, arith}
-use Rattle.amqp_session.specs.declared.committed.Mark.{Mark}
-use Rattle.amqp_session.specs.declared.committed.Then.{Then}
-use Rattle.amqp_session.specs.declared.committed.Then.TheVariants.{Nothing, Answer, Pays, Finish}
-use Rattle.amqp_session.specs.declared.server_close.ServerClose.{ServerClose}
-use Rattle.amqp_session.specs.declared.server_close.ServerClose.TheVariants.{WithoutError, WithError}
+use Rattle.amqp_outgoing.specs.declared.committed.Mark.{Mark}
+use Rattle.amqp_outgoing.specs.declared.committed.Then.{Then}
+use Rattle.amqp_outgoing.specs.declared.committed.Then.TheVariants.{Nothing, Answer, Pays, Finish}
+use Rattle.amqp_violations.specs.declared.server_close.ServerClose.{ServerClose}
+use Rattle.amqp_violations.specs.declared.server_close.ServerClose.TheVariants.{WithoutError, WithError}
 use Rattle.amqp_promise.specs.declared.error.ErrorKind.TheVariants.{ProtocolError}
-use Rattle.amqp_session.specs.Talk.{Talk, is_open}
-use Rattle.amqp_session.specs.Changes.{finish_by}
-use Rattle.amqp_session.specs.Channels.{channel_at}
-use Rattle.amqp_session.specs.Writing.{follow, sent, sent_among}
-use Rattle.amqp_session.specs.Parts.{first_among, after_first, first_sent, after_sent}
+use Rattle.amqp_rules.specs.Talk.{Talk, is_open}
+use Rattle.amqp_rules.specs.Changes.{finish_by}
+use Rattle.amqp_rules.specs.Channels.{channel_at}
+use Rattle.amqp_rules.specs.Writing.{follow, sent, sent_among}
+use Rattle.amqp_outgoing.specs.Marks.{first_among, after_first}
+use Rattle.amqp_rules.specs.Parts.{first_sent, after_sent}
 use Rattle.amqp_types.proofs.Small.{if-true}
-use Rattle.amqp_session.proofs.Recovering.{lose-case}
-use Rattle.amqp_session.proofs.Sending.{pay-keeps, follow-open, sent_among-closed}
+use Rattle.amqp_rules.proofs.Recovering.{lose-case}
+use Rattle.amqp_rules.proofs.Sending.{pay-keeps, follow-open, sent_among-closed}
 
 -- what is left of the committed frames is to be taken once a frame was followed, where the link is still open
 follow-left : (m : Mark) (t : Talk) (ms : List Mark) (k : ℕ)

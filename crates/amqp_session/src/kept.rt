@@ -13,7 +13,7 @@ pub struct Kept {
 }
 
 impl Model for Kept {
-    ghost use Rattle.amqp_session.specs.Talk.{Talk};
+    ghost use Rattle.amqp_rules.specs.Talk.{Talk};
 
     ghost Value = { Talk };
 

@@ -2,13 +2,14 @@
 
 ghost use Rattle.std.specs.Prelude.{◌≡◌, ◌∷◌, ◌<◌, ◌^◌, [], None, Some, Ok, IfOk, IfErr, IfSome, IsTrue};
 ghost use Rattle.amqp_types.specs.declared.error.AMQPError.{AMQPError};
-ghost use Rattle.amqp_session.specs.Config.{config_of};
+ghost use Rattle.amqp_settings.specs.Config.{config_of};
 ghost use Rattle.amqp_promise.specs.declared.error.ErrorKind.TheVariants.{ProtocolError};
-ghost use Rattle.amqp_session.specs.declared.server_close.ServerClose.TheVariants.{WithError};
-ghost use Rattle.amqp_session.specs.Talk.{start, is_open};
-ghost use Rattle.amqp_session.specs.Parts.{promised, is_with_error};
-ghost use Rattle.amqp_session.specs.Recovery.{was_up, reconnect_delay, reconnect};
-ghost use Rattle.amqp_session.specs.Changes.{present_at, starve, fail, lose, misplaced, close, finish, give, give_to};
+ghost use Rattle.amqp_violations.specs.declared.server_close.ServerClose.TheVariants.{WithError};
+ghost use Rattle.amqp_rules.specs.Talk.{start, is_open};
+ghost use Rattle.amqp_answers.specs.Seen.{made_in, promised};
+ghost use Rattle.amqp_rules.specs.Parts.{is_with_error};
+ghost use Rattle.amqp_rules.specs.Recovery.{was_up, reconnect_delay, reconnect};
+ghost use Rattle.amqp_rules.specs.Changes.{present_at, starve, fail, lose, misplaced, close, finish, give, give_to};
 
 mod answers;
 mod asking;
@@ -26,21 +27,15 @@ mod reopening;
 mod ticks;
 mod writing;
 
-use crate::capacity::Capacity;
-use crate::channels::Channels;
-use crate::command::Answer;
-use crate::committed::Committed;
-use crate::configuration::{Configuration, own_numbers};
-use crate::events::Events;
-use crate::handed::Backlog;
-use crate::options::{ConnectionProperties, Options};
-use crate::promises::Promises;
-use crate::server_close::ServerClose;
-use crate::state::{End, Input, Link, Phase};
-use amqp_outbox::Outbox;
+use amqp_answers::{Answer, Backlog, Events, Promises};
+use amqp_channels::Channels;
+use amqp_outgoing::Outgoing;
 use amqp_promise::{ConnectionState, ErrorKind};
+use amqp_rules::{End, Input, Link, Phase};
+use amqp_settings::{Capacity, Configuration, ConnectionProperties, Options, own_numbers};
 use amqp_types::NoMemory;
 use amqp_uri::AMQPUri;
+use amqp_violations::ServerClose;
 use std::alloc::Global;
 use std::fmt;
 use std::marker::Model;
@@ -60,8 +55,7 @@ pub struct Session {
     configuration: Configuration,
     capacity: Capacity,
     channels: Channels,
-    outbox: Outbox,
-    committed: Committed,
+    outgoing: Outgoing,
     backlog: Backlog,
     promises: Promises,
     server_close: Option<ServerClose>,
@@ -75,13 +69,12 @@ pub struct Session {
 }
 
 impl Model for Session {
-    ghost use Rattle.std.specs.Prelude.{◌≤◌, ◌+◌, IsTrue, length};
-    ghost use Rattle.std.specs.VecDeque.{deque_capacity};
-    ghost use Rattle.amqp_session.specs.Config.{config_of};
-    ghost use Rattle.amqp_session.specs.Talk.{Talk};
-    ghost use Rattle.amqp_outbox.specs.Parts.{queued};
-    ghost use Rattle.amqp_outbox.specs.Queued.{waiting_items};
-    ghost use Rattle.amqp_session.specs.Parts.{link_seen, promised, noted_in};
+    ghost use Rattle.std.specs.Prelude.{◌≤◌, IsTrue};
+    ghost use Rattle.amqp_settings.specs.Config.{config_of};
+    ghost use Rattle.amqp_rules.specs.Talk.{Talk};
+    ghost use Rattle.amqp_outgoing.specs.Outgoings.{queue_of, marks};
+    ghost use Rattle.amqp_rules.specs.Parts.{link_seen};
+    ghost use Rattle.amqp_answers.specs.Seen.{made_in, promised, noted_in};
 
     ghost Value = { Talk };
 
@@ -98,13 +91,13 @@ impl Model for Session {
       input = s.input;
       blocked = s.blocked;
       configuration = s.configuration;
-      capacity = s.capacity.octets;
+      capacity = s.capacity;
       channels = s.channels.listed;
       cursor = s.channels.cursor;
-      outbox = queued s.outbox;
-      committed = s.committed.marks.items;
+      outbox = queue_of s.outgoing;
+      committed = marks s.outgoing;
       handed = s.backlog;
-      made = s.promises.made;
+      made = made_in s.promises;
       promises = promised s.promises;
       server_close = s.server_close;
       noted = noted_in s.events;
@@ -116,28 +109,25 @@ impl Model for Session {
       tried = s.tried;
     } };
 
-    ghost use Rattle.amqp_session.specs.Talk.{is_acting};
-    ghost use Rattle.amqp_session.specs.Writing.{left_in};
-    ghost use Rattle.amqp_session.specs.Channels.{opened_until};
-    ghost use Rattle.amqp_session.specs.Sound.{fits_link, is_agreed, goes_on};
+    ghost use Rattle.amqp_rules.specs.Talk.{is_acting};
+    ghost use Rattle.amqp_outgoing.specs.Marks.{left_in};
+    ghost use Rattle.amqp_channels.specs.Channels.{opened_until};
+    ghost use Rattle.amqp_rules.specs.Sound.{fits_link, is_agreed, goes_on};
 
-    // Each frame that will be committed has its place already, and what is unsent fits the capacity.
-    // The state has its link; what was agreed has room for a channel, and for frames of at least
-    // 4,096 octets; and while the connection is being opened, and while it is open, frames act. The
-    // listed channels were opened by promises that were made.
-    ghost invariant = { λ s. (length s.committed.marks.items + length (waiting_items (queued s.outbox)) ≤
-        deque_capacity s.committed.marks)
-        × (left_in s.committed.marks.items ≤ s.capacity.octets)
+    // What is unsent fits the capacity. The state has its link; what was agreed has room for a channel,
+    // and for frames of at least 4,096 octets; and while the connection is being opened, and while it is
+    // open, frames act. The listed channels were opened by promises that were made.
+    ghost invariant = { λ s. (left_in (marks s.outgoing) ≤ s.capacity)
         × IsTrue (fits_link s.state (link_seen s.server_close s.link))
         × (IsTrue (is_agreed s.state s.phase) → 1 ≤ s.configuration.channel_max)
         × (IsTrue (is_agreed s.state s.phase) → 4096 ≤ s.configuration.frame_max)
         × (IsTrue (goes_on s.state) → IsTrue (is_acting s.input))
-        × (opened_until s.channels.listed ≤ s.promises.made) };
+        × (opened_until s.channels.listed ≤ made_in s.promises) };
 }
 
 impl fmt::Debug for Session {
     ghost use Rattle.std.specs.Prelude.{Some};
-    ghost use Rattle.amqp_session.specs.Queries.{session_debug};
+    ghost use Rattle.amqp_rules.specs.Queries.{session_debug};
 
     ghost debug_output = { λ s. Some (session_debug s) };
 
@@ -176,7 +166,7 @@ impl Session {
     // What takes memory: a copy of the address, and the promises with that of the connection.
     fn parts(alloc: Global, uri: &AMQPUri) -> Result<(AMQPUri, Promises), NoMemory>
         ensures uri { IfOk result (λ made. made.0 ≡ uri.now) }
-        ensures promises { IfOk result (λ made. (made.1.made ≡ 1) × (promised made.1 ≡ (0, None) ∷ [])) }
+        ensures promises { IfOk result (λ made. (made_in made.1 ≡ 1) × (promised made.1 ≡ (0, None) ∷ [])) }
     {
         let mut promises = Promises::new(alloc);
         promises.reserve()?;
@@ -186,7 +176,7 @@ impl Session {
     }
 
     fn begin(alloc: Global, uri: AMQPUri, options: Options, promises: Promises) -> Session
-        requires made { promises.made ≡ 1 }
+        requires made { made_in promises ≡ 1 }
         requires slots { promised promises ≡ (0, None) ∷ [] }
         ensures { result ≡ start (config_of uri options) }
     {
@@ -203,8 +193,7 @@ impl Session {
             configuration,
             capacity: Capacity::of(configuration.frame_max),
             channels: Channels::new(alloc),
-            outbox: Outbox::new(alloc),
-            committed: Committed::new(alloc),
+            outgoing: Outgoing::new(alloc),
             backlog: Backlog::new(alloc),
             promises,
             server_close: None,
@@ -293,8 +282,7 @@ impl Session {
         self.link = Link::Due(self.present.saturating_add(delay));
         self.tried += 1;
         self.blocked = false;
-        self.outbox.drop_all();
-        self.committed.clear();
+        self.outgoing.clear();
         self.channels.keep_open();
         self.promises.reject_all(kind);
         self.server_close = None;

@@ -1,7 +1,7 @@
 -- What can be seen of an engine stays carried.
 use Rattle.std.proofs.Common.{◌≡◌, ℕ, false, Option, Result, Ok, Err, MatchResult}
-use Rattle.amqp_session.specs.declared.command.Cmd.{Cmd}
-use Rattle.amqp_session.specs.Talk.{has_ended}
+use Rattle.amqp_commands.specs.declared.command.Cmd.{Cmd}
+use Rattle.amqp_rules.specs.Talk.{has_ended}
 use Rattle.amqp_engine.specs.Engine.{Engine}
 use Rattle.amqp_engine.specs.Log.{Log}
 use Rattle.amqp_engine.specs.Turn.{Turn}

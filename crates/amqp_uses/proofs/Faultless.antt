@@ -4,7 +4,7 @@ use Rattle.std.specs.Prelude.{IfSome}
 use Rattle.amqp_promise.specs.declared.error.ErrorKind.{ErrorKind}
 use Rattle.amqp_promise.specs.declared.error.ErrorKind.TheVariants.{IOError, OutOfTurns, NoMemory}
 use Rattle.amqp_promise.specs.declared.io_fault.IoFault.{IoFault}
-use Rattle.amqp_session.specs.Answers.{HandsOut}
+use Rattle.amqp_rules.specs.Answers.{HandsOut}
 use Rattle.amqp_engine.specs.Causes.{fault_at}
 use Rattle.amqp_types.specs.Counts.{Rose}
 

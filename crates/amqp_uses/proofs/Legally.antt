@@ -1,9 +1,9 @@
 -- What an engine has said stays legal.
 use Rattle.std.proofs.Common.{◌≡◌, ◌⊎◌, inl, inr, ℕ, Option, Result, Ok, Err, MatchResult, sym, subst}
 use Rattle.amqp_auth.specs.Providers.{Exchange}
-use Rattle.amqp_session.specs.declared.command.Cmd.{Cmd}
-use Rattle.amqp_session.specs.Config.{Config}
-use Rattle.amqp_session.specs.Talk.{start}
+use Rattle.amqp_commands.specs.declared.command.Cmd.{Cmd}
+use Rattle.amqp_settings.specs.Config.{Config}
+use Rattle.amqp_rules.specs.Talk.{start}
 use Rattle.amqp_engine.specs.Engine.{Engine, begin}
 use Rattle.amqp_engine.specs.Log.{Log}
 use Rattle.amqp_engine.specs.Account.{History, nothing_told, add_command, add_answer, add_turns, HasHistory, new, Ran}

@@ -3,11 +3,11 @@ use Rattle.std.proofs.Common.{◌≡◌, ℕ, List, [], append-nil, sym, subst}
 use Rattle.amqp_frame.specs.declared.frame.Read.{Read}
 use Rattle.amqp_auth.specs.declared.asked.Question.{Question}
 use Rattle.amqp_auth.specs.declared.asked.Asked.{Asked}
-use Rattle.amqp_session.specs.Talk.{Talk}
+use Rattle.amqp_rules.specs.Talk.{Talk}
 use Rattle.amqp_auth.specs.Providers.{Exchange}
 use Rattle.amqp_auth.specs.DefaultAnswers.{DefaultAuth, default_answer, AnswersEach}
 use Rattle.amqp_auth.specs.Asking.{Asks}
-use Rattle.amqp_session.specs.Asking.{Hears}
+use Rattle.amqp_rules.specs.Asking.{Hears}
 use Rattle.amqp_uses.specs.Driving.{heard, asked_of}
 
 abbrev May : DefaultAuth → Exchange → Type 0

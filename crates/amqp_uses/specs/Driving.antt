@@ -7,16 +7,16 @@ use Rattle.amqp_frame.specs.declared.frame.RawKind.{RawKind}
 use Rattle.amqp_frame.specs.Frames.{encoding}
 use Rattle.amqp_frame.specs.FrameReading.{front}
 use Rattle.amqp_outbox.specs.declared.item.Item.{Item}
-use Rattle.amqp_session.specs.declared.handed.Handed.{Handed}
-use Rattle.amqp_session.specs.declared.misread.Misread.TheVariants.{TooLarge, BadHeartbeat, Bad}
-use Rattle.amqp_session.specs.Talk.{Talk}
-use Rattle.amqp_session.specs.Changes.{present_at, starve}
-use Rattle.amqp_session.specs.Negotiation.{frame_limit}
-use Rattle.amqp_session.specs.Links.{misread}
-use Rattle.amqp_session.specs.Frames.{on_frame, frame_questions}
+use Rattle.amqp_answers.specs.declared.handed.Handed.{Handed}
+use Rattle.amqp_violations.specs.declared.misread.Misread.TheVariants.{TooLarge, BadHeartbeat, Bad}
+use Rattle.amqp_rules.specs.Talk.{Talk}
+use Rattle.amqp_rules.specs.Changes.{present_at, starve}
+use Rattle.amqp_rules.specs.Negotiation.{frame_limit}
+use Rattle.amqp_rules.specs.Links.{misread}
+use Rattle.amqp_rules.specs.Frames.{on_frame, frame_questions}
 use Rattle.amqp_auth.specs.declared.asked.Question.{Question}
 use Rattle.amqp_auth.specs.declared.asked.Asked.{Asked}
-use Rattle.amqp_session.specs.Writing.{unsent, next_within}
+use Rattle.amqp_rules.specs.Writing.{unsent, next_within}
 
 -- the space for the next frame, where so many octets can still be put somewhere
 abbrev pub space_in : ℕ → Talk → ℕ

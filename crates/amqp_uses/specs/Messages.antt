@@ -7,10 +7,10 @@ use Rattle.amqp_types.specs.Forms.{spell_short_string}
 use Rattle.amqp_frame.specs.RawMethods.{OtherMethod}
 use Rattle.amqp_frame.specs.declared.frame.RawKind.{RawKind}
 use Rattle.amqp_frame.specs.declared.frame.RawKind.TheVariants.{RawMethod, Header}
-use Rattle.amqp_session.specs.declared.command.ChanRef.{ChanRef}
-use Rattle.amqp_session.specs.declared.command.Cmd.{Cmd}
-use Rattle.amqp_session.specs.declared.command.Cmd.TheVariants.{Publish}
-use Rattle.amqp_session.specs.declared.handed.Handed.{Handed}
+use Rattle.amqp_commands.specs.declared.command.ChanRef.{ChanRef}
+use Rattle.amqp_commands.specs.declared.command.Cmd.{Cmd}
+use Rattle.amqp_commands.specs.declared.command.Cmd.TheVariants.{Publish}
+use Rattle.amqp_answers.specs.declared.handed.Handed.{Handed}
 use Rattle.amqp_uses.specs.Driving.{is_body}
 
 -- basic.publish to the queue of a name: through the exchange that has no name, neither mandatory nor immediate

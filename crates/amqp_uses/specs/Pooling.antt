@@ -2,10 +2,10 @@
 use Rattle.std.specs.Prelude.{◌≡◌, if◌then◌else◌, ℕ, IsTrue, IsFalse, Option, Some, None, Result, Ok, Err}
 use Rattle.amqp_promise.specs.declared.error.ErrorKind.{ErrorKind}
 use Rattle.amqp_promise.specs.declared.error.ErrorKind.TheVariants.{NoMemory}
-use Rattle.amqp_session.specs.declared.command.ChanRef.{ChanRef}
-use Rattle.amqp_session.specs.declared.command.Answer.{Answer}
-use Rattle.amqp_session.specs.Answers.{answer_of}
-use Rattle.amqp_session.specs.Talk.{Talk}
+use Rattle.amqp_commands.specs.declared.command.ChanRef.{ChanRef}
+use Rattle.amqp_answers.specs.declared.answer.Answer.{Answer}
+use Rattle.amqp_rules.specs.Answers.{answer_of}
+use Rattle.amqp_rules.specs.Talk.{Talk}
 use Rattle.amqp_pool.specs.declared.lease.Back.TheVariants.{Kept, Lost}
 use Rattle.amqp_pool.specs.Lost.{is_lost}
 use Rattle.amqp_pool.specs.Pooled.{Pooled}

@@ -1,12 +1,12 @@
 //! A session that is driven by hand. The first function is the one to read.
 
 ghost use Rattle.std.specs.Prelude.{◌≡◌, ◌++◌, ℕ, List, Some, Ok, IfErr, IfOk, IfSome, OnOk, OnErr, filter, length};
-ghost use Rattle.amqp_session.specs.Changes.{present_at, starve};
-ghost use Rattle.amqp_session.specs.Writing.{next_frame};
-ghost use Rattle.amqp_session.specs.ChannelMethods.{frames_of};
-ghost use Rattle.amqp_session.specs.Answers.{answer_of, take_frames};
+ghost use Rattle.amqp_rules.specs.Changes.{present_at, starve};
+ghost use Rattle.amqp_rules.specs.Writing.{next_frame};
+ghost use Rattle.amqp_rules.specs.ChannelMethods.{frames_of};
+ghost use Rattle.amqp_rules.specs.Answers.{answer_of, take_frames};
 ghost use Rattle.amqp_auth.specs.DefaultAnswers.{default_answer, AnswersEach};
-ghost use Rattle.amqp_session.specs.Asking.{Hears};
+ghost use Rattle.amqp_rules.specs.Asking.{Hears};
 ghost use Rattle.amqp_uses.specs.Driving.{space_in, next_octets, stands_in, heard, asked_of, read_of, is_body};
 
 use amqp_frame::{RawKind, RawMethod, Read, Room, read_frame, write_frame};

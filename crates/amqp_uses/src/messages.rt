@@ -1,7 +1,7 @@
 //! A message that is published, and one that is delivered.
 
 ghost use Rattle.std.specs.Prelude.{◌≡◌, ◌≤◌, ◌∷◌, [], ℕ, if◌then◌else◌, List, Some, None, IfOk, IfSome, IsSome, OnErr, OnOk, length, take};
-ghost use Rattle.amqp_session.specs.Commands.{command as command_rule};
+ghost use Rattle.amqp_rules.specs.Commands.{command as command_rule};
 ghost use Rattle.amqp_engine.specs.Engine.{with_talk};
 ghost use Rattle.amqp_uses.specs.Driving.{is_body as body_by};
 ghost use Rattle.amqp_uses.specs.Messages.{publish_to, publication, is_deliver as deliver_by, is_sized_header, size_in as size_by, announced as announced_by, AreBodies, IsMessage};

@@ -2,8 +2,8 @@
 
 ghost use Rattle.std.specs.Prelude.{◌≡◌, ◌≤◌, ◌+◌, Some, IfOk, OnOk, OnErr, IsTrue, Option, Result};
 ghost use Rattle.amqp_promise.specs.declared.error.ErrorKind.{ErrorKind};
-ghost use Rattle.amqp_session.specs.declared.command.Answer.{Answer};
-ghost use Rattle.amqp_session.specs.Answers.{Takes};
+ghost use Rattle.amqp_answers.specs.declared.answer.Answer.{Answer};
+ghost use Rattle.amqp_rules.specs.Answers.{Takes};
 ghost use Rattle.amqp_hub.specs.Entering.{called};
 ghost use Rattle.amqp_pool.specs.declared.lease.Leased.TheVariants.{Now};
 ghost use Rattle.amqp_pool.specs.Pooled.{AreMade};

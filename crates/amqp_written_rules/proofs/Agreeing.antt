@@ -9,9 +9,9 @@ use Rattle.amqp_frame.specs.declared.frame.Frame.TheVariants.{Method, Raw}
 use Rattle.amqp_frame.specs.declared.frame.RawKind.TheVariants.{Body}
 use Rattle.amqp_frame.specs.declared.method.Method.TheVariants.{TuneOk}
 use Rattle.amqp_uri.specs.Query.{kept_frame_max}
-use Rattle.amqp_session.specs.declared.configuration.Configuration.{Configuration}
-use Rattle.amqp_session.specs.Negotiation.{wish_or}
-use Rattle.amqp_session.specs.Publishing.{cut}
+use Rattle.amqp_settings.specs.declared.configuration.Configuration.{Configuration}
+use Rattle.amqp_settings.specs.Negotiation.{wish_or}
+use Rattle.amqp_commands.specs.Publishing.{cut}
 use Rattle.amqp_legal.specs.Agreed.{AgreedNumbers, unbounded, IsAgreed, agreed_after, KeepsNumbers, KeepsAgreed}
 use Rattle.amqp_types.proofs.Small.{if-false, other-number}
 use Rattle.amqp_written_rules.proofs.Spoken.{Sayings, IsSpoken}

@@ -10,8 +10,8 @@ use Rattle.amqp_types.specs.Table.{name_cmp, IsInOrder, put}
 use Rattle.amqp_types.proofs.Tables.{put_in_order}
 use Rattle.amqp_types.proofs.Small.{if_case}
 use Rattle.amqp_frame.specs.Rules.{KeepsValue, KeepsPairs, KeepsTable, value_depth, pairs_depth}
-use Rattle.amqp_session.specs.Config.{text_value}
-use Rattle.amqp_session.specs.Handshake.{capabilities, names_client, with_product, client_properties}
+use Rattle.amqp_settings.specs.Config.{text_value}
+use Rattle.amqp_settings.specs.Handshake.{capabilities, names_client, with_product, client_properties}
 
 -- a property has a short name, and a value that can be written and holds no table in another
 abbrev pub IsProperty : Pair → Type 0

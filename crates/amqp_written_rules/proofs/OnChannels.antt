@@ -15,24 +15,25 @@ use Rattle.amqp_promise.specs.declared.state.ConnectionState.{ConnectionState}
 use Rattle.amqp_promise.specs.declared.state.ConnectionState.TheVariants.{Connecting, Connected, Closing}
 use Rattle.amqp_promise.specs.declared.state.ChannelState.{ChannelState}
 use Rattle.amqp_promise.specs.declared.state.ChannelState.TheVariants as channel
-use Rattle.amqp_session.specs.declared.channels.Channel.{Channel}
-use Rattle.amqp_session.specs.declared.channels.Debt.{Debt}
-use Rattle.amqp_session.specs.declared.channels.Debt.TheVariants as debt
-use Rattle.amqp_session.specs.declared.configuration.Configuration.{Configuration}
-use Rattle.amqp_session.specs.declared.state.Phase.{Phase}
-use Rattle.amqp_session.specs.Listed.{put, without}
-use Rattle.amqp_session.specs.Talk.{Talk, is_open}
-use Rattle.amqp_session.specs.Changes.{queue, queue_item, misplaced, without_all_on}
-use Rattle.amqp_session.specs.Handshake.{flow_ok, channel_close_ok}
-use Rattle.amqp_session.specs.Violations.{channel_closed_with, unawaited, stray_connection_method}
-use Rattle.amqp_session.specs.Channels.{channel_at, made_answered, set_channel}
-use Rattle.amqp_session.specs.ChannelMethods.{heard_on, unawaited_channel_method, channel_opened, remove_channel, remove_unless_owed, channel_closed, on_channel_flow, channel_flowed, closed_by_server, crossing_close, channel_close_by, channel_rule, channel_method_by, channel_method, is_select_ok, confirmed, raw_by, raw_frame}
-use Rattle.amqp_session.specs.Frames.{method_on}
-use Rattle.amqp_session.proofs.Walk.{close_answered, misplaced-keeps}
+use Rattle.amqp_channels.specs.declared.channels.Channel.{Channel}
+use Rattle.amqp_channels.specs.declared.channels.Debt.{Debt}
+use Rattle.amqp_channels.specs.declared.channels.Debt.TheVariants as debt
+use Rattle.amqp_settings.specs.declared.configuration.Configuration.{Configuration}
+use Rattle.amqp_rules.specs.declared.state.Phase.{Phase}
+use Rattle.amqp_maps.specs.Listed.{put, without}
+use Rattle.amqp_rules.specs.Talk.{Talk, is_open}
+use Rattle.amqp_rules.specs.Changes.{queue, queue_item, misplaced, without_all_on}
+use Rattle.amqp_settings.specs.Handshake.{flow_ok, channel_close_ok}
+use Rattle.amqp_violations.specs.Violations.{channel_closed_with, unawaited, stray_connection_method}
+use Rattle.amqp_rules.specs.Channels.{channel_at, set_channel}
+use Rattle.amqp_channels.specs.Channels.{made_answered}
+use Rattle.amqp_rules.specs.ChannelMethods.{heard_on, unawaited_channel_method, channel_opened, remove_channel, remove_unless_owed, channel_closed, on_channel_flow, channel_flowed, closed_by_server, crossing_close, channel_close_by, channel_rule, channel_method_by, channel_method, is_select_ok, confirmed, raw_by, raw_frame}
+use Rattle.amqp_rules.specs.Frames.{method_on}
+use Rattle.amqp_rules.proofs.Walk.{close_answered, misplaced-keeps}
 use Rattle.amqp_types.proofs.Small.{if_case, all-push}
 use Rattle.amqp_written_rules.proofs.Spoken.{Sayings, Spoken, relisted, requeued, OfItem, OfItems, IsWithin, hears_channels, is_early}
 use Rattle.amqp_written_rules.proofs.OnLinks.{Stays, stays-lose, at-within, put-within, without-within}
-use Rattle.amqp_session.proofs.Walking.{all-filtered}
+use Rattle.amqp_channels.proofs.Walking.{all-filtered}
 
 module _ (k : Sayings) (fs : List Frame) where
   -- a frame goes last into the control lane that may be said

@@ -12,32 +12,33 @@ use Rattle.amqp_promise.specs.declared.error.ErrorKind.{ErrorKind}
 use Rattle.amqp_promise.specs.declared.state.ConnectionState.{ConnectionState}
 use Rattle.amqp_promise.specs.declared.state.ConnectionState.TheVariants.{Connected}
 use Rattle.amqp_types.specs.declared.word.Word.TheVariants as word
-use Rattle.amqp_session.specs.declared.channels.Channel.{Channel}
-use Rattle.amqp_session.specs.declared.command.ChanRef.{ChanRef}
-use Rattle.amqp_session.specs.declared.command.Cmd.{Cmd}
-use Rattle.amqp_session.specs.declared.command.Cmd.TheVariants.{OpenChannel, CloseChannel, CloseConnection, UpdateSecret, Send, Publish, Flow, DropChannel, DropConnection, Listen}
-use Rattle.amqp_session.specs.declared.configuration.Configuration.{Configuration}
+use Rattle.amqp_channels.specs.declared.channels.Channel.{Channel}
+use Rattle.amqp_commands.specs.declared.command.ChanRef.{ChanRef}
+use Rattle.amqp_commands.specs.declared.command.Cmd.{Cmd}
+use Rattle.amqp_commands.specs.declared.command.Cmd.TheVariants.{OpenChannel, CloseChannel, CloseConnection, UpdateSecret, Send, Publish, Flow, DropChannel, DropConnection, Listen}
+use Rattle.amqp_settings.specs.declared.configuration.Configuration.{Configuration}
 use Rattle.amqp_auth.specs.declared.asked.Asked.{Asked}
-use Rattle.amqp_session.specs.Listed.{put}
-use Rattle.amqp_session.specs.declared.state.Link.{Link}
-use Rattle.amqp_session.specs.declared.state.Link.TheVariants.{Due, Wanted}
-use Rattle.amqp_session.specs.Talk.{Talk, is_open, is_open_link}
-use Rattle.amqp_session.specs.Changes.{queue, queue_item, next_promise, without_groups_of}
-use Rattle.amqp_session.specs.Handshake.{our_close, our_channel_close, new_secret, channel_open, channel_flow}
-use Rattle.amqp_session.specs.Numbering.{first_number, drawn}
-use Rattle.amqp_session.specs.Channels.{channel_at, set_channel, new_channel, made_leaving}
-use Rattle.amqp_session.specs.Publishing.{method_frame, publish_frames}
-use Rattle.amqp_session.specs.Commands.{target, open_drawn, leave_channel, close_target, drop_target, flow_target, queue_secret, too_long, unless_too_long, too_full, unless_full, queue_send, send_target, body_limit, queue_publish, publish_target, leave_connection, command, command_rule}
-use Rattle.amqp_session.specs.Ticks.{refresh_reason, link_at, link_due, tick}
-use Rattle.amqp_session.proofs.Lacking.{lacks_link}
-use Rattle.amqp_session.proofs.Walk.{refused-keeps, tick-keeps}
-use Rattle.amqp_session.proofs.Drawn.{drawn-free}
+use Rattle.amqp_maps.specs.Listed.{put}
+use Rattle.amqp_rules.specs.declared.state.Link.{Link}
+use Rattle.amqp_rules.specs.declared.state.Link.TheVariants.{Due, Wanted}
+use Rattle.amqp_rules.specs.Talk.{Talk, is_open, is_open_link}
+use Rattle.amqp_rules.specs.Changes.{queue, queue_item, next_promise, without_groups_of}
+use Rattle.amqp_settings.specs.Handshake.{our_close, our_channel_close, new_secret, channel_open, channel_flow, refresh_reason}
+use Rattle.amqp_channels.specs.Numbering.{first_number, drawn}
+use Rattle.amqp_rules.specs.Channels.{channel_at, set_channel}
+use Rattle.amqp_channels.specs.Channels.{new_channel, made_leaving}
+use Rattle.amqp_commands.specs.Publishing.{method_frame, publish_frames}
+use Rattle.amqp_rules.specs.Commands.{target, open_drawn, leave_channel, close_target, drop_target, flow_target, queue_secret, too_long, unless_too_long, too_full, unless_full, queue_send, send_target, body_limit, queue_publish, publish_target, leave_connection, command, command_rule}
+use Rattle.amqp_rules.specs.Ticks.{link_at, link_due, tick}
+use Rattle.amqp_rules.proofs.Lacking.{lacks_link}
+use Rattle.amqp_rules.proofs.Walk.{refused-keeps, tick-keeps}
+use Rattle.amqp_channels.proofs.Drawn.{drawn-free}
 use Rattle.amqp_types.proofs.Small.{if_case, all-push}
 use Rattle.amqp_written_rules.proofs.Spoken.{Sayings, Spoken, requeued, spoken-closing, OfItem, OfItems, hears_channels, is_early}
 use Rattle.amqp_written_rules.proofs.OnLinks.{Stays, stays-lose, at-within, put-within}
 use Rattle.amqp_written_rules.proofs.OnChannels.{spoken-queue, spoken-agreed, spoken-channels}
-use Rattle.amqp_session.proofs.SoundCommands.{target-listed}
-use Rattle.amqp_session.proofs.Walking.{all-filtered}
+use Rattle.amqp_rules.proofs.SoundCommands.{target-listed}
+use Rattle.amqp_channels.proofs.Walking.{all-filtered}
 
 -- ---- the frames of a publish
 

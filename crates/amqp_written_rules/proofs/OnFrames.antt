@@ -14,24 +14,25 @@ use Rattle.amqp_outbox.specs.Queued.{only, awaited_promise}
 use Rattle.amqp_promise.specs.declared.error.ErrorKind.TheVariants.{InvalidProtocolVersion, InvalidConnectionState, AuthProviderError}
 use Rattle.amqp_promise.specs.declared.state.ConnectionState.{ConnectionState}
 use Rattle.amqp_promise.specs.declared.state.ConnectionState.TheVariants.{Connecting, Connected, Closing}
-use Rattle.amqp_session.specs.declared.channels.Channel.{Channel}
-use Rattle.amqp_session.specs.declared.configuration.Configuration.{Configuration}
-use Rattle.amqp_session.specs.declared.state.Phase.{Phase}
-use Rattle.amqp_session.specs.declared.state.Phase.TheVariants.{AwaitStart, AwaitTune, AwaitOpenOk}
+use Rattle.amqp_channels.specs.declared.channels.Channel.{Channel}
+use Rattle.amqp_settings.specs.declared.configuration.Configuration.{Configuration}
+use Rattle.amqp_rules.specs.declared.state.Phase.{Phase}
+use Rattle.amqp_rules.specs.declared.state.Phase.TheVariants.{AwaitStart, AwaitTune, AwaitOpenOk}
 use Rattle.amqp_auth.specs.declared.asked.Asked.{Asked}
 use Rattle.amqp_auth.specs.declared.asked.Asked.TheVariants as answer
-use Rattle.amqp_session.specs.Listed.{without}
-use Rattle.amqp_session.proofs.Lacking.{lacks_link}
-use Rattle.amqp_session.specs.Talk.{Talk, acts, hears_on, is_open}
-use Rattle.amqp_session.specs.Changes.{queue, await, misplaced, close}
-use Rattle.amqp_session.specs.Negotiation.{tune, grown_capacity}
-use Rattle.amqp_session.specs.Handshake.{start_ok, secure_ok, tune_ok, open_vhost, close_ok, channel_open}
-use Rattle.amqp_session.specs.Violations.{stray_channel_frame}
-use Rattle.amqp_session.specs.ConnectionMethods.{started, on_start, challenged, on_tune, connected, reopen_each, on_open_ok, secret_taken, on_connection_close, connection_closed, connection_rule}
-use Rattle.amqp_session.specs.ChannelMethods.{remove_channel}
-use Rattle.amqp_session.specs.Frames.{method_rule, frame_rule, closed_rule, on_frame}
-use Rattle.amqp_session.proofs.Heard.{secure-case}
-use Rattle.amqp_session.proofs.Numbered.{is_itself, is_other}
+use Rattle.amqp_maps.specs.Listed.{without}
+use Rattle.amqp_rules.proofs.Lacking.{lacks_link}
+use Rattle.amqp_rules.specs.Talk.{Talk, acts, hears_on, is_open}
+use Rattle.amqp_rules.specs.Changes.{queue, await, misplaced, close}
+use Rattle.amqp_settings.specs.Negotiation.{tune}
+use Rattle.amqp_rules.specs.Negotiation.{grown_capacity}
+use Rattle.amqp_settings.specs.Handshake.{start_ok, secure_ok, tune_ok, open_vhost, close_ok, channel_open}
+use Rattle.amqp_violations.specs.Violations.{stray_channel_frame}
+use Rattle.amqp_rules.specs.ConnectionMethods.{started, on_start, challenged, on_tune, connected, reopen_each, on_open_ok, secret_taken, on_connection_close, connection_closed, connection_rule}
+use Rattle.amqp_rules.specs.ChannelMethods.{remove_channel}
+use Rattle.amqp_rules.specs.Frames.{method_rule, frame_rule, closed_rule, on_frame}
+use Rattle.amqp_rules.proofs.Heard.{secure-case}
+use Rattle.amqp_maps.proofs.Numbered.{is_itself, is_other}
 use Rattle.amqp_types.proofs.Small.{if_case, if_by, all-push, at-most}
 use Rattle.amqp_written_rules.proofs.Spoken.{Sayings, HasRoom, SaysAll, Spoken, Quiet, relisted, spoken-closing, OfItem, IsWithin, hears_channels, is_early}
 use Rattle.amqp_written_rules.proofs.OnLinks.{Stays, stays-ended, stays-lose}

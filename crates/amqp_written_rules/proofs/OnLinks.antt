@@ -15,28 +15,29 @@ use Rattle.amqp_promise.specs.declared.error.ErrorKind.{ErrorKind}
 use Rattle.amqp_promise.specs.declared.error.ErrorKind.TheVariants.{IOError, ProtocolError}
 use Rattle.amqp_promise.specs.declared.io_fault.IoFault.{IoFault}
 use Rattle.amqp_promise.specs.declared.io_fault.IoFault.TheVariants.{Refused}
-use Rattle.amqp_session.specs.declared.channels.Channel.{Channel}
-use Rattle.amqp_session.specs.declared.channels.Debt.TheVariants as debt
-use Rattle.amqp_session.specs.declared.committed.Mark.{Mark}
-use Rattle.amqp_session.specs.declared.committed.Then.{Then}
-use Rattle.amqp_session.specs.declared.committed.Then.TheVariants.{Nothing, Answer, Pays, Finish}
-use Rattle.amqp_session.specs.declared.configuration.Configuration.{Configuration}
-use Rattle.amqp_session.specs.declared.misread.Misread.{Misread}
-use Rattle.amqp_session.specs.declared.server_close.ServerClose.{ServerClose}
-use Rattle.amqp_session.specs.declared.server_close.ServerClose.TheVariants.{WithoutError, WithError}
-use Rattle.amqp_session.specs.Listed.{at, put, without}
-use Rattle.amqp_session.specs.Config.{Config}
-use Rattle.amqp_session.specs.Talk.{Talk, start, acts, is_open, is_asked, has_ended}
-use Rattle.amqp_session.specs.Changes.{present_at, tell_owed, fail, lose, close, finish, finish_by}
-use Rattle.amqp_session.specs.Recovery.{next_delay}
-use Rattle.amqp_session.specs.Links.{asked, linked, refused_after, link_failed, piece, misread, lost}
-use Rattle.amqp_session.specs.Channels.{channel_at, set_channel}
-use Rattle.amqp_session.specs.ChannelMethods.{remove_channel}
-use Rattle.amqp_session.specs.Answers.{answer_of, take_answer, take_frames}
-use Rattle.amqp_session.specs.Writing.{flows, next_out, writes, mark_of, pay, follow, sent, sent_among, taken}
-use Rattle.amqp_session.proofs.Recovering.{lose-by, recovers-open}
-use Rattle.amqp_session.proofs.Walk.{misread-keeps, pay-case}
-use Rattle.amqp_session.proofs.Lacking.{closed-link, open-lacks, asked-open, asked-lacks, asked-lacking, is-linked}
+use Rattle.amqp_channels.specs.declared.channels.Channel.{Channel}
+use Rattle.amqp_channels.specs.declared.channels.Debt.TheVariants as debt
+use Rattle.amqp_outgoing.specs.declared.committed.Mark.{Mark}
+use Rattle.amqp_outgoing.specs.declared.committed.Then.{Then}
+use Rattle.amqp_outgoing.specs.declared.committed.Then.TheVariants.{Nothing, Answer, Pays, Finish}
+use Rattle.amqp_settings.specs.declared.configuration.Configuration.{Configuration}
+use Rattle.amqp_violations.specs.declared.misread.Misread.{Misread}
+use Rattle.amqp_violations.specs.declared.server_close.ServerClose.{ServerClose}
+use Rattle.amqp_violations.specs.declared.server_close.ServerClose.TheVariants.{WithoutError, WithError}
+use Rattle.amqp_maps.specs.Listed.{at, put, without}
+use Rattle.amqp_settings.specs.Config.{Config}
+use Rattle.amqp_rules.specs.Talk.{Talk, start, acts, is_open, is_asked, has_ended}
+use Rattle.amqp_rules.specs.Changes.{present_at, tell_owed, fail, lose, close, finish, finish_by}
+use Rattle.amqp_rules.specs.Recovery.{next_delay}
+use Rattle.amqp_rules.specs.Links.{asked, linked, refused_after, link_failed, piece, misread, lost}
+use Rattle.amqp_rules.specs.Channels.{channel_at, set_channel}
+use Rattle.amqp_rules.specs.ChannelMethods.{remove_channel}
+use Rattle.amqp_rules.specs.Answers.{answer_of, take_answer, take_frames}
+use Rattle.amqp_rules.specs.Writing.{flows, next_out, writes, pay, follow, sent, sent_among, taken}
+use Rattle.amqp_outgoing.specs.Marks.{mark_of}
+use Rattle.amqp_rules.proofs.Recovering.{lose-by, recovers-open}
+use Rattle.amqp_rules.proofs.Walk.{misread-keeps, pay-case}
+use Rattle.amqp_rules.proofs.Lacking.{closed-link, open-lacks, asked-open, asked-lacks, asked-lacking, is-linked}
 use Rattle.amqp_types.proofs.Small.{if_case, if_by, all-push}
 use Rattle.amqp_written_rules.proofs.Spoken.{Sayings, SaysAll, Spoken, Quiet, Now, relisted, IsWithin, IsSized}
 

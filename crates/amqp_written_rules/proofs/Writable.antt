@@ -10,11 +10,11 @@ use Rattle.amqp_frame.specs.Frames.{FrameOf, Writable, IsOtherMethod}
 use Rattle.amqp_frame.specs.RawMethods.{OtherMethod, spell_raw_method}
 use Rattle.amqp_frame.specs.Rules.{KeepsRules}
 use Rattle.amqp_frame.proofs.Written.{frame_written}
-use Rattle.amqp_session.specs.declared.command.Cmd.{Cmd}
-use Rattle.amqp_session.specs.declared.command.Cmd.TheVariants.{Send, Publish}
-use Rattle.amqp_session.specs.declared.configuration.Configuration.{Configuration}
-use Rattle.amqp_session.specs.Negotiation.{tune, lesser_wish, wish_or}
-use Rattle.amqp_session.specs.Publishing.{cut, content_header}
+use Rattle.amqp_commands.specs.declared.command.Cmd.{Cmd}
+use Rattle.amqp_commands.specs.declared.command.Cmd.TheVariants.{Send, Publish}
+use Rattle.amqp_settings.specs.declared.configuration.Configuration.{Configuration}
+use Rattle.amqp_settings.specs.Negotiation.{tune, lesser_wish, wish_or}
+use Rattle.amqp_commands.specs.Publishing.{cut, content_header}
 use Rattle.amqp_types.proofs.Small.{if_case}
 use Rattle.amqp_written_rules.specs.Sayable.{AreInRange, CanBeSaid, CanBeTold, CanBeAnswered}
 use Rattle.amqp_written_rules.proofs.Spoken.{Sayings, IsSized, IsSpoken}

@@ -4,11 +4,11 @@ use Rattle.std.specs.Prelude.{◌<◌, ◌^◌, length}
 use Rattle.amqp_frame.specs.Rules.{KeepsTable}
 use Rattle.amqp_auth.specs.declared.asked.Asked.{Asked}
 use Rattle.amqp_auth.specs.declared.asked.Asked.TheVariants as answer
-use Rattle.amqp_session.specs.declared.command.Cmd.{Cmd}
-use Rattle.amqp_session.specs.declared.command.Cmd.TheVariants.{CloseChannel, CloseConnection, UpdateSecret}
-use Rattle.amqp_session.specs.declared.configuration.Configuration.{Configuration}
-use Rattle.amqp_session.specs.Config.{Config, own_numbers}
-use Rattle.amqp_session.specs.Handshake.{client_properties}
+use Rattle.amqp_commands.specs.declared.command.Cmd.{Cmd}
+use Rattle.amqp_commands.specs.declared.command.Cmd.TheVariants.{CloseChannel, CloseConnection, UpdateSecret}
+use Rattle.amqp_settings.specs.declared.configuration.Configuration.{Configuration}
+use Rattle.amqp_settings.specs.Config.{Config, own_numbers}
+use Rattle.amqp_settings.specs.Handshake.{client_properties}
 
 -- the numbers of a connection are in the range of their types
 abbrev pub AreInRange : Configuration → Type 0

@@ -10,7 +10,6 @@ use Rattle.amqp_frame.specs.contracts.method.Method.{the_row as method_row, the_
 use Rattle.amqp_frame.specs.contracts.frame.Frame.{the_row as frame_row, the_type as frame_type}
 use Rattle.amqp_outbox.specs.contracts.item.Item.{the_row as item_row}
 use Rattle.amqp_outbox.specs.contracts.group.Group.{the_row as group_row}
-use Rattle.amqp_outbox.specs.contracts.outbox.Outbox.{the_row as outbox_row}
 use Rattle.amqp_types.specs.contracts.value.FieldTable.{the_row as table_row}
 use Rattle.amqp_types.proofs.value.FieldTable.TheLaws.TheKnot.{crosses as table_crosses}
 use Rattle.amqp_types.proofs.strings.ShortString.TheSendSync.{the_send as short}
@@ -25,22 +24,23 @@ use Rattle.amqp_outbox.proofs.awaiting.Awaiting.TheSendSync.{the_field_send as a
 use Rattle.amqp_outbox.proofs.tally.Tally.TheSendSync.{the_field_send as tally_field}
 use Rattle.amqp_uri.proofs.uri.AMQPUri.TheSendSync.{the_field_send as uri_field}
 use Rattle.amqp_promise.proofs.state.ConnectionState.TheSendSync.{the_field_send as state_field}
-use Rattle.amqp_session.proofs.state.Phase.TheSendSync.{the_field_send as phase_field}
-use Rattle.amqp_session.proofs.state.Link.TheSendSync.{the_field_send as link_field}
-use Rattle.amqp_session.proofs.state.Input.TheSendSync.{the_field_send as input_field}
-use Rattle.amqp_session.proofs.state.End.TheSendSync.{the_send as end}
-use Rattle.amqp_session.proofs.configuration.Configuration.TheSendSync.{the_field_send as configuration_field}
-use Rattle.amqp_session.proofs.capacity.Capacity.TheSendSync.{the_field_send as capacity_field}
-use Rattle.amqp_session.proofs.channels.Channels.TheSendSync.{the_send as channels}
-use Rattle.amqp_session.proofs.committed.Committed.TheSendSync.{the_field_send as committed_field}
-use Rattle.amqp_session.proofs.handed.Backlog.TheSendSync.{the_send as backlog}
-use Rattle.amqp_session.proofs.promises.Promises.TheSendSync.{the_field_send as promises_field}
-use Rattle.amqp_session.proofs.server_close.ServerClose.TheSendSync.{the_send as server_close}
-use Rattle.amqp_session.proofs.events.Events.TheSendSync.{the_field_send as events_field}
-use Rattle.amqp_session.specs.contracts.options.Options.{the_row as options_row}
+use Rattle.amqp_rules.proofs.state.Phase.TheSendSync.{the_field_send as phase_field}
+use Rattle.amqp_rules.proofs.state.Link.TheSendSync.{the_field_send as link_field}
+use Rattle.amqp_rules.proofs.state.Input.TheSendSync.{the_field_send as input_field}
+use Rattle.amqp_rules.proofs.state.End.TheSendSync.{the_send as end}
+use Rattle.amqp_settings.proofs.configuration.Configuration.TheSendSync.{the_field_send as configuration_field}
+use Rattle.amqp_settings.proofs.capacity.Capacity.TheSendSync.{the_send as capacity}
+use Rattle.amqp_channels.proofs.channels.Channels.TheSendSync.{the_send as channels}
+use Rattle.amqp_outgoing.proofs.committed.Committed.TheSendSync.{the_field_send as committed_field}
+use Rattle.amqp_answers.proofs.handed.Backlog.TheSendSync.{the_send as backlog}
+use Rattle.amqp_answers.proofs.promises.Promises.TheSendSync.{the_field_send as promises_field}
+use Rattle.amqp_violations.proofs.server_close.ServerClose.TheSendSync.{the_send as server_close}
+use Rattle.amqp_answers.proofs.events.Events.TheSendSync.{the_field_send as events_field}
+use Rattle.amqp_settings.specs.contracts.options.Options.{the_row as options_row}
 use Rattle.amqp_session.specs.contracts.session.Session.{the_row as session_row}
 use Rattle.amqp_session.specs.contracts.kept.Kept.{the_row as kept_row}
 use Rattle.amqp_outbox.specs.contracts.outbox.Outbox.{the_field as outbox_is_field}
+use Rattle.amqp_outgoing.specs.contracts.outgoing.Outgoing.{the_field as outgoing_is_field}
 use Rattle.amqp_ring.proofs.buffer.Buffer.TheSendSync.{the_send as buffer}
 use Rattle.amqp_types.proofs.payload.Payload64.TheSendSync.{the_send as numbers}
 use Rattle.amqp_engine.proofs.record.Noted.TheSendSync.{the_field_send as noted_field}
@@ -135,11 +135,11 @@ item = search (sendable, frame_field, option_field) depth 9
 pub group : IsSend group_row
 group = search (sendable, item, crosses) depth 9
 
-pub outbox : IsSend outbox_row
-outbox = search (sendable, item, group, crosses, global_field, lane_field, awaiting_field, tally_field) depth 9
-
 pub outbox_field : IsSend outbox_is_field.row
 outbox_field = search (sendable, item, group, crosses, global_field, lane_field, awaiting_field, tally_field) depth 9
+
+pub outgoing_field : IsSend outgoing_is_field.row
+outgoing_field = search (sendable, outbox_field, committed_field) depth 9
 
 pub options : IsSend options_row
 options = search (sendable, crosses, short, table, option_field) depth 20
@@ -164,23 +164,20 @@ all_of_session = (
                 (
                   configuration_field,
                   (
-                    capacity_field,
+                    capacity,
                     (
                       channels,
                       (
-                        outbox_field,
+                        outgoing_field,
                         (
-                          committed_field,
+                          backlog,
                           (
-                            backlog,
+                            promises_field,
                             (
-                              promises_field,
+                              search (sendable, option_field, server_close) depth 9,
                               (
-                                search (sendable, option_field, server_close) depth 9,
-                                (
-                                  events_field,
-                                  (search sendable, (search sendable, (search sendable, (search sendable, (search sendable, (search sendable, tt)))))),
-                                ),
+                                events_field,
+                                (search sendable, (search sendable, (search sendable, (search sendable, (search sendable, (search sendable, tt)))))),
                               ),
                             ),
                           ),

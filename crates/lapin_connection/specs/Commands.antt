@@ -3,7 +3,7 @@
 use Rattle.std.specs.Prelude.{◌≡◌, ◌≤◌, ℕ, List, Option, Some, None, All, Result, Ok, Err, length}
 use Rattle.amqp_promise.specs.declared.error.ErrorKind.{ErrorKind}
 use Rattle.amqp_promise.specs.declared.error.ErrorKind.TheVariants.{ForeignPass, NoMemory}
-use Rattle.amqp_session.specs.declared.command.Cmd.{Cmd}
+use Rattle.amqp_commands.specs.declared.command.Cmd.{Cmd}
 use Rattle.amqp_hub.specs.Passes.{new_passes, AreNew, first_foreign}
 use Rattle.amqp_hub.specs.declared.hub.Pass.{Pass}
 use Rattle.amqp_hub.specs.declared.hub.Receipt.{Receipt}

@@ -8,8 +8,8 @@ use Rattle.amqp_promise.specs.declared.io_fault.IoFault.TheVariants.{Other}
 use Rattle.amqp_uri.specs.Address.{address_of_text}
 use Rattle.amqp_uri.specs.declared.fault.UriFault.{UriFault}
 use Rattle.amqp_uri.specs.declared.uri.AMQPUri.{AMQPUri}
-use Rattle.amqp_session.specs.Config.{Options, config_of}
-use Rattle.amqp_session.specs.Talk.{start}
+use Rattle.amqp_settings.specs.Config.{Options, config_of}
+use Rattle.amqp_rules.specs.Talk.{start}
 use Rattle.amqp_engine.specs.Engine.{Engine, begin}
 use Rattle.amqp_engine.specs.Turn.{asks}
 use Rattle.lapin_connection.specs.Refusals.{error_of_address}

@@ -2,7 +2,7 @@
 -- sources says that two handles are on one connection.
 use Rattle.std.specs.Prelude.{ℕ, Option, Some}
 use Rattle.std.specs.Arc.{arc_value}
-use Rattle.amqp_session.specs.declared.command.ChanRef.{ChanRef}
+use Rattle.amqp_commands.specs.declared.command.ChanRef.{ChanRef}
 use Rattle.lapin_connection.specs.declared.channel.Channel.{Channel}
 use Rattle.lapin_connection.specs.declared.connection.Connection.{Connection}
 use Rattle.lapin_connection.specs.declared.listener.EventsListener.{EventsListener}

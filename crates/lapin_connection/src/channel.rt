@@ -1,8 +1,8 @@
 //! Channels.
 
 ghost use Rattle.std.specs.Prelude.{◌≡◌, ◌+◌, Some, true, IfOk, IfErr, IsOk, OnOk, OnErr};
-ghost use Rattle.amqp_session.specs.Commands.{takes_promise};
-ghost use Rattle.amqp_session.specs.declared.command.Cmd.TheVariants.{CloseChannel, Flow, Send, Publish};
+ghost use Rattle.amqp_rules.specs.Commands.{takes_promise};
+ghost use Rattle.amqp_commands.specs.declared.command.Cmd.TheVariants.{CloseChannel, Flow, Send, Publish};
 ghost use Rattle.lapin_connection.specs.Commands.{HasReceipt, Refuses};
 ghost use Rattle.lapin_connection.specs.Handles.{reference_of, channel_source, pending_source, recovery_source};
 

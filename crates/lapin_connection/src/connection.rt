@@ -3,8 +3,8 @@
 ghost use Rattle.std.specs.Prelude.{◌≡◌, ◌≤◌, ◌+◌, Some, None, true, IfOk, IfErr, OnOk, OnErr, All, map};
 ghost use Rattle.std.specs.Arc.{arc_value};
 ghost use Rattle.std.specs.Fn.{FnOnceReturnsAtMut};
-ghost use Rattle.amqp_session.specs.Commands.{takes_promise};
-ghost use Rattle.amqp_session.specs.declared.command.Cmd.TheVariants.{OpenChannel, CloseConnection, UpdateSecret, Listen};
+ghost use Rattle.amqp_rules.specs.Commands.{takes_promise};
+ghost use Rattle.amqp_commands.specs.declared.command.Cmd.TheVariants.{OpenChannel, CloseConnection, UpdateSecret, Listen};
 ghost use Rattle.amqp_hub.specs.Guarded.{Guarded};
 ghost use Rattle.amqp_hub.specs.Passes.{made_of, places, gapless};
 ghost use Rattle.lapin_connection.specs.Commands.{Shows, HasReceipt, Refuses, RefusesOneOf, AreNumberedOn};

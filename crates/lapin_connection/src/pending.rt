@@ -4,7 +4,7 @@ ghost use Rattle.std.specs.Prelude.{◌≡◌, ℕ, Some, Ok, IfOk, IfSome, Opti
 ghost use Rattle.futures.specs.Task.{Covers, Keeps};
 ghost use Rattle.futures.specs.Poll.{OnPending, IfReady};
 ghost use Rattle.amqp_promise.specs.declared.error.ErrorKind.{ErrorKind as Kind};
-ghost use Rattle.amqp_session.specs.declared.command.Answer.{Answer as Told};
+ghost use Rattle.amqp_answers.specs.declared.answer.Answer.{Answer as Told};
 ghost use Rattle.lapin_connection.specs.declared.channel.Channel.{Channel as Opened};
 ghost use Rattle.lapin_connection.specs.Giving.{done_by, flow_by, channel_by, NamesPromise, IsGivenBy};
 ghost use Rattle.lapin_connection.specs.Handles.{pending_source};

@@ -3,7 +3,7 @@
 ghost use Rattle.std.specs.Prelude.{◌≡◌, Some, IfSome, IfOk};
 ghost use Rattle.futures.specs.Task.{Covers, Keeps};
 ghost use Rattle.futures.specs.Poll.{OnPending, IfReady};
-ghost use Rattle.amqp_session.specs.Talk.{Talk};
+ghost use Rattle.amqp_rules.specs.Talk.{Talk};
 ghost use Rattle.amqp_locked.specs.Taking.{polled_of};
 ghost use Rattle.amqp_locked.specs.Recovering.{FoundOf, IsToldBy};
 ghost use Rattle.lapin_connection.specs.Handles.{recovery_source};

@@ -1,12 +1,12 @@
 //! The rule of a step, and the reading of frames.
 
 ghost use Rattle.std.specs.Prelude.{◌≡◌, ◌≢◌, ◌≤◌, not, ◌&&◌, ◌<◌, ◌+◌, ◌*◌, ◌^◌, ℕ, List, Option, Some, true, false, if◌then◌else◌, IfOk, OnOk, OnErr, IsTrue, IsFalse, [], ◌++◌, length, take, drop};
-ghost use Rattle.amqp_session.specs.Talk.{is_open, is_asked};
+ghost use Rattle.amqp_rules.specs.Talk.{is_open, is_asked};
 ghost use Rattle.amqp_ring.specs.Ring.{capacity as room};
-ghost use Rattle.amqp_session.specs.Changes.{present_at, starve};
-ghost use Rattle.amqp_session.specs.Frames.{on_frame};
-ghost use Rattle.amqp_session.specs.Links.{link_failed, lost};
-ghost use Rattle.amqp_session.specs.Commands.{command as command_rule};
+ghost use Rattle.amqp_rules.specs.Changes.{present_at, starve};
+ghost use Rattle.amqp_rules.specs.Frames.{on_frame};
+ghost use Rattle.amqp_rules.specs.Links.{link_failed, lost};
+ghost use Rattle.amqp_rules.specs.Commands.{command as command_rule};
 ghost use Rattle.amqp_engine.specs.Plan.{at_most_64};
 ghost use Rattle.amqp_engine.specs.Engine.{Engine, rule_at, step_linked, step_piece, step_engine, step_questions, front_of, can_read, settle, read_badly, read_row, row_questions, read_questions, is_more, starve_at};
 ghost use Rattle.amqp_auth.specs.declared.asked.Asked.{Asked};

@@ -3,9 +3,9 @@
 ghost use Rattle.std.specs.Prelude.{◌≡◌, ◌≤◌, ◌<◌, ◌+◌, ◌*◌, List, [], ◌++◌, Some, None, true, false, IfNone, IfSome, OnOk, OnErr, IsTrue, IsFalse, option_map, length, is_some};
 ghost use Rattle.amqp_auth.specs.declared.asked.Asked.{Asked};
 ghost use Rattle.amqp_auth.specs.declared.asked.Question.{Question};
-ghost use Rattle.amqp_session.specs.Talk.{is_open};
+ghost use Rattle.amqp_rules.specs.Talk.{is_open};
 ghost use Rattle.amqp_engine.specs.Log.{log_write, TookAtMost, PlansWrite};
-ghost use Rattle.amqp_session.specs.Writing.{overlong, end_overlong};
+ghost use Rattle.amqp_rules.specs.Writing.{overlong, end_overlong};
 ghost use Rattle.amqp_engine.specs.Engine.{taken_by, with_talk, wrote, fitting_next, commit_one, commit_all, overlong_next, refuse_overlong, can_write};
 ghost use Rattle.amqp_engine.specs.Turn.{offered, answered, is_all};
 ghost use Rattle.amqp_engine.specs.Making.{making, FewParts, Writes};

@@ -4,7 +4,7 @@ ghost use Rattle.std.specs.Prelude.{◌≡◌, ◌≤◌, ◌<◌, ◌+◌, ◌^
 ghost use Rattle.amqp_types.specs.declared.text.Text.{Text};
 ghost use Rattle.amqp_types.specs.Counts.{Rose};
 ghost use Rattle.amqp_promise.specs.declared.io_fault.IoFault.{IoFault};
-ghost use Rattle.amqp_session.specs.Talk.{has_ended, end_of};
+ghost use Rattle.amqp_rules.specs.Talk.{has_ended, end_of};
 ghost use Rattle.amqp_engine.specs.Turn.{no_notes};
 ghost use Rattle.amqp_engine.specs.Causes.{brought, fault_of};
 ghost use Rattle.amqp_journal.specs.declared.entry.Entry.TheVariants.{Called};

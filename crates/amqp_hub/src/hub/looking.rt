@@ -1,9 +1,9 @@
 //! What is read of a hub, and what it does for what was let go.
 
 ghost use Rattle.std.specs.Prelude.{◌≡◌, IfOk, IfErr, OnOk, All, Some, map, option_map, length};
-ghost use Rattle.amqp_session.specs.Talk.{end_of};
-ghost use Rattle.amqp_session.specs.Answers.{HandsOut};
-ghost use Rattle.amqp_session.specs.Queries.{opening};
+ghost use Rattle.amqp_rules.specs.Talk.{end_of};
+ghost use Rattle.amqp_rules.specs.Answers.{HandsOut};
+ghost use Rattle.amqp_rules.specs.Queries.{opening};
 ghost use Rattle.amqp_hub.specs.Passes.{count_of, made_of, first_foreign, IsForeign, places, gapless};
 ghost use Rattle.amqp_hub.specs.Due.{due_of, channel_due, connection_due, listed_due, unlisted_due};
 

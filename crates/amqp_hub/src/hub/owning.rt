@@ -1,7 +1,7 @@
 //! What a hub does about a mark that was found.
 
 ghost use Rattle.std.specs.Prelude.{◌≡◌, ◌≤◌, ◌+◌, ◌++◌, ◌∷◌, [], None, Some, IfOk, IfErr, OnOk, OnErr, vec_len, vec_capacity};
-ghost use Rattle.amqp_session.specs.Commands.{command};
+ghost use Rattle.amqp_rules.specs.Commands.{command};
 ghost use Rattle.amqp_engine.specs.Engine.{with_talk};
 ghost use Rattle.amqp_journal.specs.declared.entry.Entry.TheVariants.{Own};
 ghost use Rattle.amqp_hub.specs.Passes.{count_of, foreign};

@@ -1,8 +1,8 @@
 //! What is read of what lies under the lock.
 
 ghost use Rattle.std.specs.Prelude.{◌≡◌, All, Some, IfOk, IfErr, OnOk, map, option_map, length};
-ghost use Rattle.amqp_session.specs.Talk.{end_of};
-ghost use Rattle.amqp_session.specs.Answers.{HandsOut};
+ghost use Rattle.amqp_rules.specs.Talk.{end_of};
+ghost use Rattle.amqp_rules.specs.Answers.{HandsOut};
 ghost use Rattle.amqp_hub.specs.Passes.{count_of, made_of, first_foreign, IsForeign, places, gapless};
 
 use super::Locked;

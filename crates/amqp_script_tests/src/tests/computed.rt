@@ -5,8 +5,8 @@ ghost use Rattle.std.specs.Prelude.{◌≡◌, [], ◌∷◌, ◌++◌, false, t
 ghost use Rattle.amqp_frame.specs.Frames.{encoding};
 ghost use Rattle.amqp_uri.specs.Address.{local};
 ghost use Rattle.amqp_auth.specs.declared.asked.Asked.TheVariants as answer;
-ghost use Rattle.amqp_session.specs.Config.{config_of, no_options, with_locale, with_name, with_property};
-ghost use Rattle.amqp_session.specs.Handshake.{protocol_header, start_ok, tune_ok, open_vhost, our_close, close_ok, channel_open, our_channel_close};
+ghost use Rattle.amqp_settings.specs.Config.{config_of, no_options, with_locale, with_name, with_property};
+ghost use Rattle.amqp_settings.specs.Handshake.{protocol_header, start_ok, tune_ok, open_vhost, our_close, close_ok, channel_open, our_channel_close};
 ghost use Rattle.amqp_engine.specs.declared.given.GivenStep.TheVariants.{Link, Tick, End};
 ghost use Rattle.amqp_replay.specs.Grammar.{given, parsed};
 ghost use Rattle.amqp_replay.specs.Report.{hexadecimal};

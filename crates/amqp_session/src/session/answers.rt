@@ -1,18 +1,17 @@
 //! The answers to promises, the events, and the frames handed out.
 
 ghost use Rattle.std.specs.Prelude.{◌≡◌, [], IfOk, OnErr, IsOk};
-ghost use Rattle.amqp_session.specs.Talk.{end_of};
-ghost use Rattle.amqp_session.specs.ChannelMethods.{frames_of};
-ghost use Rattle.amqp_session.specs.Answers.{rejection, answer_of, take_frames, Takes, TakesEvent, IsRejected, IsFailed};
+ghost use Rattle.amqp_rules.specs.Talk.{end_of};
+ghost use Rattle.amqp_rules.specs.ChannelMethods.{frames_of};
+ghost use Rattle.amqp_rules.specs.Answers.{rejection, answer_of, take_frames, Takes, TakesEvent, IsFailed};
+ghost use Rattle.amqp_answers.specs.Settled.{IsRejected};
 
 use super::Session;
-use crate::command::Answer;
-use crate::event::Event;
-use crate::handed::Handed;
-use crate::server_close::ServerClose;
-use crate::state::{End, Link};
+use amqp_answers::{Answer, Event, Handed};
 use amqp_promise::{ConnectionState, ErrorKind};
+use amqp_rules::{End, Link};
 use amqp_types::NoMemory;
+use amqp_violations::ServerClose;
 
 impl Session {
     /// Takes the answer to a promise, where there is one that was not taken. Where it is an error and

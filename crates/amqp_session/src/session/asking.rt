@@ -2,21 +2,21 @@
 
 ghost use Rattle.std.specs.Prelude.{◌≡◌, ◌≤◌, [], Some, Ok, None, IfOk, OnErr, IsTrue, IsFalse};
 ghost use Rattle.amqp_auth.specs.Asking.{Asks};
-ghost use Rattle.amqp_session.specs.Asking.{Starves};
-ghost use Rattle.amqp_session.specs.Causes.{refused_in};
+ghost use Rattle.amqp_rules.specs.Asking.{Starves};
+ghost use Rattle.amqp_rules.specs.Causes.{refused_in};
 ghost use Rattle.amqp_types.specs.Counts.{Rose};
-ghost use Rattle.amqp_session.specs.Frames.{questions_in};
-ghost use Rattle.amqp_session.specs.Parts.{login_answers, validity_answers, IsAsked};
-ghost use Rattle.amqp_session.specs.Talk.{has_ended};
-ghost use Rattle.amqp_session.specs.Ticks.{asks_validity, has_expired, secret_questions};
+ghost use Rattle.amqp_rules.specs.Frames.{questions_in};
+ghost use Rattle.amqp_session.specs.Provided.{login_answers, validity_answers, IsAsked};
+ghost use Rattle.amqp_rules.specs.Talk.{has_ended};
+ghost use Rattle.amqp_rules.specs.Ticks.{asks_validity, has_expired, secret_questions};
 
 use super::Session;
-use crate::state::Phase::{AwaitStart, AwaitTune};
 use amqp_auth::{
     AuthList, AuthProvider, ask_challenge, ask_mechanism, ask_refresh, ask_starter, ask_valid_for,
 };
 use amqp_frame::{Frame, Method};
 use amqp_promise::ConnectionState::{Connected, Connecting};
+use amqp_rules::Phase::{AwaitStart, AwaitTune};
 use amqp_types::{LongString, NoMemory, ShortString, Text};
 
 /// What the provider answered to a frame of the handshake.

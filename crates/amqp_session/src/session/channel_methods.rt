@@ -1,25 +1,23 @@
 //! What comes on a channel.
 
 ghost use Rattle.std.specs.Prelude.{◌≡◌, Some, IfSome, IsOk, IsTrue, OnOk, OnErr};
-ghost use Rattle.amqp_session.specs.Talk.{is_open};
-ghost use Rattle.amqp_session.specs.Memory.{MakesNothing};
-ghost use Rattle.amqp_session.specs.Channels.{channel_at};
-ghost use Rattle.amqp_session.specs.Violations.{channel_closed_with};
-ghost use Rattle.amqp_session.specs.ChannelMethods.{heard_on, unawaited_channel_method, on_channel_open_ok, on_channel_close_ok, on_channel_close, closed_by_server, crossing_close, on_channel_flow, on_channel_flow_ok, channel_rule, channel_method, is_select_ok, pass_through, raw_frame};
+ghost use Rattle.amqp_rules.specs.Talk.{is_open};
+ghost use Rattle.amqp_rules.specs.Memory.{MakesNothing};
+ghost use Rattle.amqp_rules.specs.Channels.{channel_at};
+ghost use Rattle.amqp_violations.specs.Violations.{channel_closed_with};
+ghost use Rattle.amqp_rules.specs.ChannelMethods.{heard_on, unawaited_channel_method, on_channel_open_ok, on_channel_close_ok, on_channel_close, closed_by_server, crossing_close, on_channel_flow, on_channel_flow_ok, channel_rule, channel_method, is_select_ok, pass_through, raw_frame};
 
 use super::Session;
 use super::dropping::{drop_channel_of, drop_replies_of};
-use super::places::{reserve_item, reserve_owing};
-use crate::channels::{Channel, Debt};
-use crate::command::Answer;
-use crate::event::Event;
-use crate::handed::Handed;
-use crate::handshake::{channel_close_ok, flow_ok};
-use crate::violations::{channel_closed_with, channel_error, unawaited};
+use super::places::reserve_owing;
+use amqp_answers::{Answer, Event, Handed};
+use amqp_channels::{Channel, Debt};
 use amqp_frame::{Method, RawKind};
 use amqp_outbox::{Item, Reply};
 use amqp_promise::{ChannelState, ConnectionState, ErrorKind};
+use amqp_settings::handshake::{channel_close_ok, flow_ok};
 use amqp_types::{ChannelId, NoMemory, Payload, ReplyCode, ShortString};
+use amqp_violations::{channel_closed_with, channel_error, unawaited};
 
 impl Session {
     // The listed channel that a frame comes on.
@@ -104,7 +102,7 @@ impl Session {
         ensures err { OnErr result (self.new ≡ self.old) }
         ensures idle { MakesNothing self.old (on_channel_open_ok id channel self.old) → IsOk result }
     {
-        let Some(promise) = self.outbox.answer(id, Reply::ChannelOpened) else {
+        let Some(promise) = self.outgoing.answer(id, Reply::ChannelOpened) else {
             return self.unawaited_channel_method(id, channel.state, &Method::ChannelOpenOk);
         };
         let open = Channel {
@@ -124,11 +122,11 @@ impl Session {
         ensures err { OnErr result (self.new ≡ self.old) }
         ensures idle { MakesNothing self.old (on_channel_close_ok id channel self.old) → IsOk result }
     {
-        let Some(promise) = self.outbox.answer(id, Reply::ChannelClosed) else {
+        let Some(promise) = self.outgoing.answer(id, Reply::ChannelClosed) else {
             return self.unawaited_channel_method(id, channel.state, &Method::ChannelCloseOk);
         };
         self.give_to(promise, Answer::Done);
-        drop_replies_of(&mut self.outbox, &mut self.promises, id);
+        drop_replies_of(&mut self.outgoing, &mut self.promises, id);
         if channel.debt == Debt::Owed {
             self.channels.set(id, channel.answered());
         } else {
@@ -174,13 +172,7 @@ impl Session {
     {
         let error = channel_error(self.alloc, code, text)?;
         let item = Item::plain(id, channel_close_ok(id));
-        if let Err(refused) = reserve_owing(
-            &mut self.outbox,
-            &mut self.committed,
-            &mut self.events,
-            &item,
-            error,
-        ) {
+        if let Err(refused) = reserve_owing(&mut self.outgoing, &mut self.events, &item, error) {
             drop(item);
             return Err(refused);
         }
@@ -189,7 +181,7 @@ impl Session {
             ..channel
         };
         self.channels.set(id, owing);
-        self.outbox.push_control_reserved(item);
+        self.outgoing.say_reserved(item);
         Ok(())
     }
 
@@ -214,13 +206,7 @@ impl Session {
             .promises
             .why(channel_closed_with(self.alloc, code, text)?)?;
         let item = Item::plain(id, channel_close_ok(id));
-        if let Err(refused) = reserve_owing(
-            &mut self.outbox,
-            &mut self.committed,
-            &mut self.events,
-            &item,
-            error,
-        ) {
+        if let Err(refused) = reserve_owing(&mut self.outgoing, &mut self.events, &item, error) {
             drop(item);
             self.promises.let_go(why);
             return Err(refused);
@@ -230,9 +216,9 @@ impl Session {
             ..channel.closing()
         };
         self.channels.set(id, owing);
-        drop_channel_of(&mut self.outbox, &mut self.promises, id, &why);
+        drop_channel_of(&mut self.outgoing, &mut self.promises, id, &why);
         self.promises.let_go(why);
-        self.outbox.push_control_reserved(item);
+        self.outgoing.say_reserved(item);
         Ok(())
     }
 
@@ -252,11 +238,7 @@ impl Session {
         }
         self.events.reserve()?;
         let item = Item::plain(id, flow_ok(id, active));
-        if let Err(refused) = reserve_item(&mut self.outbox, &mut self.committed, &item) {
-            drop(item);
-            return Err(refused);
-        }
-        self.outbox.push_control_reserved(item);
+        self.outgoing.say(item)?;
         let flowing = Channel {
             flow: active,
             ..channel
@@ -277,7 +259,7 @@ impl Session {
         ensures err { OnErr result (self.new ≡ self.old) }
         ensures idle { MakesNothing self.old (on_channel_flow_ok id channel active self.old) → IsOk result }
     {
-        let Some(promise) = self.outbox.answer(id, Reply::FlowDone) else {
+        let Some(promise) = self.outgoing.answer(id, Reply::FlowDone) else {
             return self.unawaited_channel_method(id, channel.state, &Method::ChannelFlowOk(active));
         };
         self.give_to(promise, Answer::Flow(active));

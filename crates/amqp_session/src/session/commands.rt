@@ -5,24 +5,21 @@ ghost use Rattle.amqp_frame.specs.Frames.{encoding};
 ghost use Rattle.amqp_frame.specs.Lengths.{capped};
 ghost use Rattle.amqp_outbox.specs.Queued.{unsent_octets};
 ghost use Rattle.amqp_types.specs.declared.word.Word.TheVariants as word;
-ghost use Rattle.amqp_session.specs.Channels.{channel_at};
-ghost use Rattle.amqp_session.specs.Changes.{refuse};
-ghost use Rattle.amqp_session.specs.Publishing.{body_pieces};
-ghost use Rattle.amqp_session.specs.Commands.{open_channel, open_as, named, target, close_channel, close_target, above_limit, too_full, unless_full, queue_send, send, send_target, body_limit, queue_publish, publish, publish_target, tell_flow, flow_target, queue_secret, update_secret, close_connection, drop_target, promise_of, command};
+ghost use Rattle.amqp_rules.specs.Channels.{channel_at};
+ghost use Rattle.amqp_rules.specs.Changes.{refuse};
+ghost use Rattle.amqp_commands.specs.Publishing.{body_pieces};
+ghost use Rattle.amqp_rules.specs.Commands.{open_channel, open_as, named, target, close_channel, close_target, above_limit, too_full, unless_full, queue_send, send, send_target, body_limit, queue_publish, publish, publish_target, tell_flow, flow_target, queue_secret, update_secret, close_connection, drop_target, promise_of, command};
 
 use super::Session;
 use super::dropping::{drop_groups, drop_groups_of};
-use super::places::{ask, reserve_group, reserve_promised, reserve_reply};
-use crate::channels::Channel;
-use crate::command::{ChanRef, Cmd};
-use crate::handshake::{
-    channel_flow, channel_open, new_secret, ok_text, our_channel_close, our_close,
-};
-use crate::properties::Properties;
-use crate::publishing::{content_header, publish_frames, publish_len};
+use amqp_channels::Channel;
+use amqp_commands::{ChanRef, Cmd, Properties, content_header, publish_frames, publish_len};
 use amqp_frame::{Frame, RawKind, RawMethod, encoded_len};
 use amqp_outbox::{Awaited, Group, Item, Reply};
 use amqp_promise::{ChannelState, ConnectionState, ErrorKind};
+use amqp_settings::handshake::{
+    channel_flow, channel_open, new_secret, ok_text, our_channel_close, our_close,
+};
 use amqp_types::{ChannelId, LongString, NoMemory, Payload, ReplyCode, ShortString, Word};
 
 // So many octets, where they are more than the limit, if one is set.
@@ -129,10 +126,10 @@ impl Session {
             promise: None,
         };
         let close = Item::plain(0, our_close(200, ok_text(self.alloc)?));
-        ask(&mut self.outbox, &mut self.committed, close, awaited)?;
+        self.outgoing.ask(close, awaited)?;
         self.channels.close_all();
         self.state = ConnectionState::Closing;
-        drop_groups(&mut self.outbox, &mut self.promises);
+        drop_groups(&mut self.outgoing, &mut self.promises);
         Ok(())
     }
 
@@ -147,9 +144,9 @@ impl Session {
             promise: None,
         };
         let close = Item::plain(id, our_channel_close(id, 200, ok_text(self.alloc)?));
-        ask(&mut self.outbox, &mut self.committed, close, awaited)?;
+        self.outgoing.ask(close, awaited)?;
         self.channels.set(id, channel.leaving());
-        drop_groups_of(&mut self.outbox, &mut self.promises, id);
+        drop_groups_of(&mut self.outgoing, &mut self.promises, id);
         Ok(())
     }
 
@@ -198,24 +195,19 @@ impl Session {
             drop(item);
             return Err(refused);
         }
-        if let Err(refused) = reserve_reply(
-            &mut self.outbox,
-            &mut self.committed,
-            &item,
-            Reply::ChannelOpened,
-        ) {
+        if let Err(refused) = self.outgoing.reserve_question(&item, Reply::ChannelOpened) {
             drop(item);
             return Err(refused);
         }
         let number = self.promises.made();
-        let channel = Channel::opened_by(number);
+        let channel = Channel::opening(number);
         let channel_max = self.configuration.channel_max;
         if let Err(refused) = self.channels.list_next(channel_max, id, channel) {
             drop(item);
             return Err(refused);
         }
-        self.outbox.push_control_reserved(item);
-        self.outbox
+        self.outgoing.say_reserved(item);
+        self.outgoing
             .expect_reserved(id, Awaited::by(Reply::ChannelOpened, number));
         self.promises.promise_reserved();
         Ok(())
@@ -271,9 +263,9 @@ impl Session {
         }
         let awaited = Awaited::by(Reply::ChannelClosed, self.promises.made());
         let close = Item::plain(id, our_channel_close(id, code, text));
-        ask(&mut self.outbox, &mut self.committed, close, awaited)?;
+        self.outgoing.ask(close, awaited)?;
         self.channels.set(id, channel.leaving());
-        drop_groups_of(&mut self.outbox, &mut self.promises, id);
+        drop_groups_of(&mut self.outgoing, &mut self.promises, id);
         self.promises.promise_reserved();
         Ok(())
     }
@@ -327,7 +319,7 @@ impl Session {
         ensures { (octets : ℕ) → more ≡ capped octets → result ≡
             above_limit self.now.config.options.outbox_limit (capped (unsent_octets self.now.outbox + octets)) }
     {
-        let octets = self.outbox.unsent_len().saturating_add(more);
+        let octets = self.outgoing.waiting_len().saturating_add(more);
         above_limit(self.options.outbox_limit(), octets)
     }
 
@@ -350,17 +342,12 @@ impl Session {
         ensures ok { OnOk result (self.new ≡ queue_send id frame self.old) }
         ensures err { OnErr result (self.new ≡ self.old) }
     {
-        let item = Item::promised(id, frame, self.promises.made());
-        if let Err(refused) = reserve_promised(
-            &mut self.outbox,
-            &mut self.committed,
-            &mut self.promises,
-            &item,
-        ) {
-            drop(item);
+        if let Err(refused) = self.promises.reserve() {
+            drop(frame);
             return Err(refused);
         }
-        self.outbox.push_control_reserved(item);
+        let item = Item::promised(id, frame, self.promises.made());
+        self.outgoing.say(item)?;
         self.promises.promise_reserved();
         Ok(())
     }
@@ -401,6 +388,8 @@ impl Session {
         let head = content_header(self.alloc, method.class_id(), body.len(), properties)?;
         let method = Frame::Raw(id, RawKind::RawMethod, method.into_payload());
         let header = Frame::Raw(id, RawKind::Header, head);
+        // Its clause says that the capacity has room for the least frame.
+        let _ = self.capacity.octets();
         match self.excess(&method).or(self.excess(&header)) {
             Some(size) => {
                 drop(method);
@@ -453,16 +442,11 @@ impl Session {
         let limit = self.body_limit();
         let frames = publish_frames(self.alloc, id, method, header, limit, body)?;
         let group = Group::new(self.alloc, id, frames, self.promises.made())?;
-        if let Err(refused) = reserve_group(
-            &mut self.outbox,
-            &mut self.committed,
-            &mut self.promises,
-            &group,
-        ) {
+        if let Err(refused) = self.promises.reserve() {
             drop(group);
             return Err(refused);
         }
-        self.outbox.push_group_reserved(group);
+        self.outgoing.say_group(group)?;
         self.promises.promise_reserved();
         Ok(())
     }
@@ -495,7 +479,7 @@ impl Session {
         self.promises.reserve()?;
         let awaited = Awaited::by(Reply::FlowDone, self.promises.made());
         let flow = Item::plain(id, channel_flow(id, active));
-        ask(&mut self.outbox, &mut self.committed, flow, awaited)?;
+        self.outgoing.ask(flow, awaited)?;
         self.promises.promise_reserved();
         Ok(())
     }
@@ -526,7 +510,7 @@ impl Session {
         }
         let awaited = Awaited::by(Reply::SecretDone, self.promises.made());
         let item = Item::plain(0, frame);
-        ask(&mut self.outbox, &mut self.committed, item, awaited)?;
+        self.outgoing.ask(item, awaited)?;
         self.promises.promise_reserved();
         Ok(())
     }
@@ -542,10 +526,10 @@ impl Session {
         }
         let awaited = Awaited::by(Reply::ConnectionClosed, self.promises.made());
         let close = Item::plain(0, our_close(code, text));
-        ask(&mut self.outbox, &mut self.committed, close, awaited)?;
+        self.outgoing.ask(close, awaited)?;
         self.channels.close_all();
         self.state = ConnectionState::Closing;
-        drop_groups(&mut self.outbox, &mut self.promises);
+        drop_groups(&mut self.outgoing, &mut self.promises);
         self.promises.promise_reserved();
         Ok(())
     }

@@ -1,29 +1,27 @@
 //! The methods of the connection class.
 
 ghost use Rattle.std.specs.Prelude.{◌≡◌, Ok, IsTrue, IsOk, OnOk, OnErr};
-ghost use Rattle.amqp_session.specs.Talk.{is_open, acts};
-ghost use Rattle.amqp_session.specs.Changes.{queue};
-ghost use Rattle.amqp_session.specs.Memory.{MakesNothing};
-ghost use Rattle.amqp_session.specs.Parts.{login_answers};
-ghost use Rattle.amqp_session.specs.Sound.{is_agreed};
-ghost use Rattle.amqp_session.specs.ConnectionMethods.{started, challenged, on_start, on_secure, on_tune, connected, on_open_ok, on_connection_close, on_connection_close_ok, on_update_secret_ok, connection_rule};
+ghost use Rattle.amqp_rules.specs.Talk.{is_open, acts};
+ghost use Rattle.amqp_rules.specs.Changes.{queue};
+ghost use Rattle.amqp_rules.specs.Memory.{MakesNothing};
+ghost use Rattle.amqp_session.specs.Provided.{login_answers};
+ghost use Rattle.amqp_rules.specs.Sound.{is_agreed};
+ghost use Rattle.amqp_rules.specs.ConnectionMethods.{started, challenged, on_start, on_secure, on_tune, connected, on_open_ok, on_connection_close, on_connection_close_ok, on_update_secret_ok, connection_rule};
 
 use super::Session;
 use super::asking::Login;
-use super::places::{reserve_both, reserve_item};
 use super::reopening::{reopen, reserve_reopening};
-use crate::command::Answer;
-use crate::configuration::{Configuration, tune};
-use crate::event::Event;
-use crate::handshake::{close_ok, open_vhost, secure_ok, start_ok, tune_ok};
-use crate::state::Input;
-use crate::state::Phase::{AwaitOpenOk, AwaitStart, AwaitTune};
-use crate::violations::closed_with;
+use amqp_answers::{Answer, Event};
 use amqp_frame::{Frame, Method};
 use amqp_outbox::{Item, Reply};
 use amqp_promise::ConnectionState::{Closing, Connected, Connecting};
 use amqp_promise::ErrorKind;
+use amqp_rules::Input;
+use amqp_rules::Phase::{AwaitOpenOk, AwaitStart, AwaitTune};
+use amqp_settings::handshake::{close_ok, open_vhost, secure_ok, start_ok, tune_ok};
+use amqp_settings::{Configuration, tune};
 use amqp_types::{ChannelId, LongString, NoMemory, ReplyCode, ShortString, Text};
+use amqp_violations::closed_with;
 
 impl Session {
     pub(super) fn connection_rule(
@@ -78,13 +76,7 @@ impl Session {
         ensures ok { OnOk result (self.new ≡ queue id frame self.old) }
         ensures err { OnErr result (self.new ≡ self.old) }
     {
-        let item = Item::plain(id, frame);
-        if let Err(refused) = reserve_item(&mut self.outbox, &mut self.committed, &item) {
-            drop(item);
-            return Err(refused);
-        }
-        self.outbox.push_control_reserved(item);
-        Ok(())
+        self.outgoing.say(Item::plain(id, frame))
     }
 
     fn on_start(&mut self, login: Option<Login>) -> Result<(), NoMemory>
@@ -172,13 +164,7 @@ impl Session {
         let agreed = tune(self.configuration, server);
         let open = Item::plain(0, open_vhost(self.alloc, &self.uri.vhost)?);
         let tune_ok = Item::plain(0, tune_ok(agreed));
-        if let Err(refused) = reserve_both(&mut self.outbox, &mut self.committed, &tune_ok, &open) {
-            drop(tune_ok);
-            drop(open);
-            return Err(refused);
-        }
-        self.outbox.push_control_reserved(tune_ok);
-        self.outbox.push_control_reserved(open);
+        self.outgoing.say_both(tune_ok, open)?;
         self.configuration = agreed;
         self.phase = AwaitOpenOk;
         Ok(())
@@ -193,14 +179,9 @@ impl Session {
     {
         let channel_max = self.configuration.channel_max;
         self.events.reserve()?;
-        reserve_reopening(
-            &mut self.outbox,
-            &mut self.committed,
-            &self.channels,
-            channel_max,
-        )?;
+        reserve_reopening(&mut self.outgoing, &self.channels, channel_max)?;
         self.events.note_reserved(Event::Connected);
-        reopen(&mut self.outbox, &self.channels, channel_max);
+        reopen(&mut self.outgoing, &self.channels, channel_max);
         self.channels.remove_above(channel_max);
         self.connected();
         Ok(())
@@ -221,7 +202,7 @@ impl Session {
     fn on_update_secret_ok(&mut self)
         ensures { self.new ≡ on_update_secret_ok self.old }
     {
-        match self.outbox.answer(0, Reply::SecretDone) {
+        match self.outgoing.answer(0, Reply::SecretDone) {
             Some(Some(number)) => self.give(number, Answer::Done),
             Some(None) => {
                 self.secret_at = self.present;
@@ -236,9 +217,8 @@ impl Session {
         ensures ok { OnOk result (self.new ≡ on_connection_close code text self.old) }
         ensures err { OnErr result (self.new ≡ self.old) }
     {
-        self.committed.reserve(1)?;
         let told = closed_with(code, text)?;
-        self.outbox.restart(Item::plain(0, close_ok()))?;
+        self.outgoing.say_only(Item::plain(0, close_ok()))?;
         self.server_close = Some(told);
         let crossed = self.state == Closing;
         self.input = Input::Closed { crossed };
@@ -249,7 +229,7 @@ impl Session {
     fn on_connection_close_ok(&mut self)
         ensures { self.new ≡ on_connection_close_ok self.old }
     {
-        if let Some(promise) = self.outbox.answer(0, Reply::ConnectionClosed) {
+        if let Some(promise) = self.outgoing.answer(0, Reply::ConnectionClosed) {
             self.give_to(promise, Answer::Done);
         }
         self.close();

@@ -2,12 +2,12 @@
 
 ghost use Rattle.std.specs.Prelude.{◌≡◌, IfOk, IsOk, OnOk, OnErr};
 ghost use Rattle.amqp_promise.specs.Shown.{shown};
-ghost use Rattle.amqp_session.specs.Memory.{MakesNothing};
-ghost use Rattle.amqp_session.specs.ConnectionMethods.{on_blocked, on_unblocked};
-ghost use Rattle.amqp_session.specs.Commands.{listen};
+ghost use Rattle.amqp_rules.specs.Memory.{MakesNothing};
+ghost use Rattle.amqp_rules.specs.ConnectionMethods.{on_blocked, on_unblocked};
+ghost use Rattle.amqp_rules.specs.Commands.{listen};
 
 use super::Session;
-use crate::event::Event;
+use amqp_answers::Event;
 use amqp_promise::Shown;
 use amqp_types::{NoMemory, ShortString, Text};
 use std::alloc::Global;

@@ -1,23 +1,23 @@
 //! The frames that are read.
 
 ghost use Rattle.std.specs.Prelude.{◌≡◌, ◌≤◌, if◌then◌else◌, [], Some, Err, IsTrue, IsOk, IfErr, OnOk, OnErr};
-ghost use Rattle.amqp_session.specs.Talk.{is_open, acts, hears_on, end_of};
-ghost use Rattle.amqp_session.specs.Changes.{present_at, starve, misplaced};
-ghost use Rattle.amqp_session.specs.Memory.{MakesNothing};
-ghost use Rattle.amqp_session.specs.Violations.{stray_connection_method, stray_channel_frame};
+ghost use Rattle.amqp_rules.specs.Talk.{is_open, acts, hears_on, end_of};
+ghost use Rattle.amqp_rules.specs.Changes.{present_at, starve, misplaced};
+ghost use Rattle.amqp_rules.specs.Memory.{MakesNothing};
+ghost use Rattle.amqp_violations.specs.Violations.{stray_connection_method, stray_channel_frame};
 ghost use Rattle.amqp_frame.specs.Methods.{is_of_a_channel};
-ghost use Rattle.amqp_session.specs.Frames.{closed_rule, method_rule, frame_rule, on_frame, questions_in, frame_questions};
-ghost use Rattle.amqp_session.specs.Asking.{Hears, Starves};
+ghost use Rattle.amqp_rules.specs.Frames.{closed_rule, method_rule, frame_rule, on_frame, questions_in, frame_questions};
+ghost use Rattle.amqp_rules.specs.Asking.{Hears, Starves};
 ghost use Rattle.amqp_types.specs.Counts.{Rose};
-ghost use Rattle.amqp_session.specs.Parts.{login_answers};
+ghost use Rattle.amqp_session.specs.Provided.{login_answers};
 
 use super::Session;
 use super::asking::Login;
-use crate::violations::{stray_channel_frame, stray_connection_method};
 use amqp_auth::{AuthList, AuthProvider};
 use amqp_frame::{Frame, Method, RawKind};
 use amqp_promise::{ConnectionState, ErrorKind};
 use amqp_types::{ChannelId, NoMemory, Text};
+use amqp_violations::{stray_channel_frame, stray_connection_method};
 
 impl Session {
     /// A frame was read. What it asks is asked of the provider, whose answers are put last into the

@@ -1,21 +1,20 @@
 //! Links: that one is asked for, comes or does not come, gives bytes, and ends.
 
 ghost use Rattle.std.specs.Prelude.{◌≡◌, ◌<◌, ◌^◌, IfErr, OnOk, OnErr, IsOk, IsTrue, IsFalse};
-ghost use Rattle.amqp_session.specs.Talk.{is_asked, acts};
-ghost use Rattle.amqp_session.specs.Changes.{present_at, starve};
-ghost use Rattle.amqp_session.specs.Memory.{MakesNothing};
-ghost use Rattle.amqp_session.specs.declared.misread.Misread.{Misread};
-ghost use Rattle.amqp_session.specs.Recovery.{delayed};
-ghost use Rattle.amqp_session.specs.Links.{asked, linked, link_failed, piece, misread, lost};
+ghost use Rattle.amqp_rules.specs.Talk.{is_asked, acts};
+ghost use Rattle.amqp_rules.specs.Changes.{present_at, starve};
+ghost use Rattle.amqp_rules.specs.Memory.{MakesNothing};
+ghost use Rattle.amqp_violations.specs.declared.misread.Misread.{Misread};
+ghost use Rattle.amqp_rules.specs.Recovery.{delayed};
+ghost use Rattle.amqp_rules.specs.Links.{asked, linked, link_failed, piece, misread, lost};
 
 use super::Session;
-use crate::handshake::protocol_header;
-use crate::misread::Misread;
-use crate::state::{Input, Link, Phase};
-use crate::violations::misread_error;
 use amqp_outbox::Item;
 use amqp_promise::{ConnectionState, ErrorKind, IoFault};
+use amqp_rules::{Input, Link, Phase};
+use amqp_settings::handshake::protocol_header;
 use amqp_types::NoMemory;
+use amqp_violations::{Misread, misread_error};
 
 impl Session {
     /// The link that is wanted was asked for.
@@ -49,9 +48,7 @@ impl Session {
         ensures ok { OnOk result (self.new ≡ linked self.old) }
         ensures err { OnErr result (self.new ≡ self.old) }
     {
-        self.committed.reserve(1)?;
-        self.outbox.restart(Item::plain(0, protocol_header()))?;
-        self.committed.clear();
+        self.outgoing.restart(Item::plain(0, protocol_header()))?;
         self.state = ConnectionState::Connecting;
         self.phase = Phase::AwaitStart;
         self.link = Link::Open;

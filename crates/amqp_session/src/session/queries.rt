@@ -2,24 +2,24 @@
 
 ghost use Rattle.std.specs.Prelude.{IfOk, ◌≡◌, ◌<◌, ◌≤◌, ◌^◌, ℕ, List, IsTrue, length};
 ghost use Rattle.amqp_auth.specs.declared.asked.Asked.{Asked};
-ghost use Rattle.amqp_session.specs.Talk.{wants_link, is_asked, is_open, acts, hears_on, has_ended, end_of, drops_input};
-ghost use Rattle.amqp_session.specs.Changes.{present_at, next_promise};
-ghost use Rattle.amqp_session.specs.Frames.{on_frame};
-ghost use Rattle.amqp_session.specs.Negotiation.{frame_limit};
-ghost use Rattle.amqp_session.specs.Capacities.{frame_min_size};
-ghost use Rattle.amqp_session.specs.Writing.{frames_waiting, unsent, writes};
-ghost use Rattle.amqp_session.specs.Answers.{HandsOut};
-ghost use Rattle.amqp_session.specs.Sound.{goes_on, is_agreed};
-ghost use Rattle.amqp_session.specs.Laws.{is_end};
-ghost use Rattle.amqp_session.specs.Queries.{channel_state, confirm, opening};
-ghost use Rattle.amqp_session.specs.Parts.{is_open_ok, awaits_open_ok, capacity_after};
+ghost use Rattle.amqp_rules.specs.Talk.{wants_link, is_asked, is_open, acts, hears_on, has_ended, end_of, drops_input};
+ghost use Rattle.amqp_rules.specs.Changes.{present_at, next_promise};
+ghost use Rattle.amqp_rules.specs.Frames.{on_frame};
+ghost use Rattle.amqp_rules.specs.Negotiation.{frame_limit};
+ghost use Rattle.amqp_settings.specs.Capacities.{frame_min_size};
+ghost use Rattle.amqp_rules.specs.Writing.{frames_waiting, unsent, writes};
+ghost use Rattle.amqp_rules.specs.Answers.{HandsOut};
+ghost use Rattle.amqp_rules.specs.Sound.{goes_on, is_agreed};
+ghost use Rattle.amqp_rules.specs.Laws.{is_end};
+ghost use Rattle.amqp_rules.specs.Queries.{channel_state, confirm, opening};
+ghost use Rattle.amqp_rules.specs.Parts.{is_open_ok, awaits_open_ok, capacity_after};
 
 use super::Session;
-use crate::command::ChanRef;
-use crate::configuration::Configuration;
-use crate::state::{Input, Link, Phase};
+use amqp_commands::ChanRef;
 use amqp_frame::{Frame, Method};
 use amqp_promise::{ChannelState, ConnectionState};
+use amqp_rules::{Input, Link, Phase};
+use amqp_settings::Configuration;
 use amqp_types::{ChannelId, NoMemory, ShortString, Text};
 
 impl Session {
@@ -167,7 +167,7 @@ impl Session {
         ensures frames { result ≡ frames_waiting self.now }
         ensures small { result < 2 ^ 63 }
     {
-        self.outbox.len()
+        self.outgoing.len()
     }
 
     /// How many bytes can be unsent.
@@ -214,7 +214,7 @@ impl Session {
         ensures bytes { result ≡ unsent self.now }
         ensures within { result ≤ self.now.capacity }
     {
-        self.committed.unsent()
+        self.outgoing.unsent()
     }
 
     /// How many channels are listed.

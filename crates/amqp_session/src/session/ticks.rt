@@ -3,21 +3,20 @@
 ghost use Rattle.std.specs.Prelude.{◌≡◌, ◌≤◌, Some, None, Ok, IfErr, OnOk, OnErr, IsOk, IsTrue, IsFalse};
 ghost use Rattle.amqp_frame.specs.declared.frame.Frame.TheVariants as frames;
 ghost use Rattle.amqp_outbox.specs.Items.{dropped_with};
-ghost use Rattle.amqp_session.specs.Talk.{has_ended};
-ghost use Rattle.amqp_session.specs.Asking.{Hears, Starves};
-ghost use Rattle.amqp_session.specs.Changes.{present_at, starve, await, queue, queue_item};
-ghost use Rattle.amqp_session.specs.Parts.{validity_answers, IsAsked};
-ghost use Rattle.amqp_session.specs.Ticks.{beats, is_missed, is_heartbeat_due, missing_heartbeat, heartbeat_due, asks_validity, secret_due, secret_questions, refreshed, link_due, tick, tick_questions};
+ghost use Rattle.amqp_rules.specs.Talk.{has_ended};
+ghost use Rattle.amqp_rules.specs.Asking.{Hears, Starves};
+ghost use Rattle.amqp_rules.specs.Changes.{present_at, starve, await, queue, queue_item};
+ghost use Rattle.amqp_session.specs.Provided.{validity_answers, IsAsked};
+ghost use Rattle.amqp_rules.specs.Ticks.{beats, is_missed, is_heartbeat_due, missing_heartbeat, heartbeat_due, asks_validity, secret_due, secret_questions, refreshed, link_due, tick, tick_questions};
 
 use super::Session;
 use super::asking::Validity;
-use super::places::{ask, ask_after};
-use crate::handshake::{new_secret, refresh_reason};
-use crate::state::Link;
 use amqp_auth::{AuthList, AuthProvider};
 use amqp_frame::Frame;
 use amqp_outbox::{Awaited, Item, Reply};
 use amqp_promise::{ConnectionState, ErrorKind};
+use amqp_rules::Link;
+use amqp_settings::handshake::{new_secret, refresh_reason};
 use amqp_types::{LongString, NoMemory, Text};
 
 /// After how many milliseconds without reading a server is gone, for each second of the agreed
@@ -162,7 +161,7 @@ impl Session {
         ensures ok { OnOk result (self.new ≡ await 0 Reply.SecretDone None (queue_item told self.old)) }
         ensures err { OnErr result (self.new ≡ self.old) }
     {
-        ask(&mut self.outbox, &mut self.committed, told, awaited())
+        self.outgoing.ask(told, awaited())
     }
 
     // The same after a heartbeat.
@@ -174,7 +173,7 @@ impl Session {
         ensures err { OnErr result (self.new ≡ self.old) }
     {
         let beat = Item::plain(0, Frame::Heartbeat);
-        ask_after(&mut self.outbox, &mut self.committed, beat, told, awaited())
+        self.outgoing.ask_after(beat, told, awaited())
     }
 
     fn heartbeat_due(&mut self) -> Result<(), NoMemory>

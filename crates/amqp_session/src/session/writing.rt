@@ -2,15 +2,15 @@
 
 ghost use Rattle.std.specs.Prelude.{◌≡◌, ◌+◌, ◌≤◌, option_map};
 ghost use Rattle.amqp_outbox.specs.declared.item.Item.{Item};
-ghost use Rattle.amqp_session.specs.Changes.{present_at};
-ghost use Rattle.amqp_session.specs.Writing.{next_within, commit, overlong, next_frame, unsent, follow, channel_close_ok_sent, taken};
-ghost use Rattle.amqp_session.specs.Parts.{first_sent, after_sent};
+ghost use Rattle.amqp_rules.specs.Changes.{present_at};
+ghost use Rattle.amqp_rules.specs.Writing.{next_within, commit, overlong, next_frame, unsent, follow, channel_close_ok_sent, taken};
+ghost use Rattle.amqp_rules.specs.Parts.{first_sent, after_sent};
 
 use super::Session;
-use crate::channels::{Channel, Debt};
-use crate::command::Answer;
-use crate::committed::{Mark, Then};
+use amqp_answers::Answer;
+use amqp_channels::{Channel, Debt};
 use amqp_frame::Frame;
+use amqp_outgoing::{Mark, Then};
 use amqp_promise::ErrorKind;
 use amqp_types::ChannelId;
 
@@ -40,12 +40,10 @@ impl Session {
         if !self.writes() {
             return None;
         }
-        // The space is within a capacity, which is small.
+        // What is unsent and the space are together within the capacity, which is small.
         let _ = self.capacity.octets();
         let flow = self.channels.flows();
-        let mark = Mark::of_item(self.outbox.front(flow)?, space)?;
-        self.committed.push(mark);
-        let item = self.outbox.next(flow)?;
+        let item = self.outgoing.commit(flow, space)?;
         Some(item.into_frame())
     }
 
@@ -54,8 +52,8 @@ impl Session {
         ensures { result ≡ overlong self.now }
     {
         // What waits is counted in 64 bits.
-        let _ = self.outbox.unsent_len();
-        match self.outbox.front(self.channels.flows()) {
+        let _ = self.outgoing.waiting_len();
+        match self.outgoing.front(self.channels.flows()) {
             Some(item) if self.writes() => self.excess(item.frame()),
             _ => None,
         }
@@ -87,7 +85,7 @@ impl Session {
         if !self.is_open() {
             return None;
         }
-        self.committed.take_first(n)
+        self.outgoing.take_first(n)
     }
 
     // What follows once a frame was sent whole.

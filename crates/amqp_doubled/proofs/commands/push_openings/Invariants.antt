@@ -1,6 +1,6 @@
 -- The commands so far, before the openings that are left, are those before and all openings.
 use Rattle.std.proofs.Common.{◌≡◌, ◌+◌, ◌-◌, ◌++◌, replicate}
-use Rattle.amqp_session.specs.declared.command.Cmd.TheVariants.{OpenChannel}
+use Rattle.amqp_commands.specs.declared.command.Cmd.TheVariants.{OpenChannel}
 use Rattle.amqp_doubled.proofs.commands.push_openings.Given as goal
 
 abbrev pub invariant-channels : goal.invariant-channels

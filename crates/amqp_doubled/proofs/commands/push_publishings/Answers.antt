@@ -1,6 +1,6 @@
 use Rattle.std.proofs.Common.{◌≡◌, ◌∙◌, ◌+◌, ◌-◌, ◌++◌, [], ◌∷◌, ℕ, suc, List, ap, sym, append_assoc, append-nil, map, arith}
 use Rattle.std.specs.List.{range_with_len}
-use Rattle.amqp_session.specs.declared.command.Cmd.{Cmd}
+use Rattle.amqp_commands.specs.declared.command.Cmd.{Cmd}
 use Rattle.amqp_doubled.specs.Numbers.{hello_command}
 use Rattle.amqp_doubled.proofs.commands.push_publishings.Goals as goal
 

@@ -1,4 +1,4 @@
-use Rattle.amqp_session.specs.Negotiation.{frame_limit}
+use Rattle.amqp_rules.specs.Negotiation.{frame_limit}
 use Rattle.amqp_frame.proofs.FrontStays.{front-none}
 use Rattle.amqp_engine.proofs.LeftUnread.{turn-read}
 use Rattle.amqp_engine.proofs.laws.nothing_whole_is_left_unread.Goals as goal

@@ -1,5 +1,5 @@
 use Rattle.std.proofs.Common.{ℕ, ◌≡◌, ◌+◌, ◌∙◌, List, length, ap, sym, subst}
-use Rattle.amqp_session.specs.Sound.{AscendFrom}
+use Rattle.amqp_rules.specs.Sound.{AscendFrom}
 use Rattle.amqp_hub.proofs.Once.{once, gapless-ascends, gapless-length}
 use Rattle.amqp_hub.proofs.laws.a_command_stands_once.Goals as goal
 

@@ -1,8 +1,8 @@
 use Rattle.std.proofs.Common.{◌≡◌, ◌∙◌, ◌+◌, ◌-◌, ◌<◌, ◌≤◌, true, false, not, List, ℕ, length, take, get_or, ap, sym, subst, arith, length-append}
 use Rattle.std.specs.Prelude.{is_some, filter}
 use Rattle.std.proofs.lemmas.List.Filters.{FiltersInPlace, FiltersInPlace-more_no, FiltersInPlace-more_set}
-use Rattle.amqp_session.specs.Talk.{Talk}
-use Rattle.amqp_session.specs.Answers.{answer_of}
+use Rattle.amqp_rules.specs.Talk.{Talk}
+use Rattle.amqp_rules.specs.Answers.{answer_of}
 use Rattle.amqp_pool.specs.Collecting.{has_answer, channel_in, brought_by, TakesEach}
 use Rattle.amqp_pool.proofs.Polling.{still-there, idle-more, polled-more, rest-more, left-count, not-polled}
 use Rattle.amqp_pool.proofs.Keeping.{one-channel}

@@ -1,9 +1,9 @@
 use Rattle.std.proofs.Common.{◌≡◌, ◌∙◌, ◌+◌, ◌≤◌, ◌<◌, ◌∷◌, None, true, false, not, List, suc, length, drop, get_or, ap, sym, arith}
 use Rattle.std.specs.Prelude.{find}
 use Rattle.std.proofs.lemmas.List.{drop_more}
-use Rattle.amqp_session.specs.declared.command.ChanRef.{ChanRef}
-use Rattle.amqp_session.specs.Queries.{channel_state}
-use Rattle.amqp_session.specs.Talk.{Talk}
+use Rattle.amqp_commands.specs.declared.command.ChanRef.{ChanRef}
+use Rattle.amqp_rules.specs.Queries.{channel_state}
+use Rattle.amqp_rules.specs.Talk.{Talk}
 use Rattle.amqp_pool.specs.Lost.{is_lost, is_ready, is_lost_state, is_ready_state, without_lost}
 use Rattle.amqp_pool.proofs.Channels.{fewer-filter, see-waiting, see-lost}
 use Rattle.amqp_pool.proofs.looking.look.Goals as goal

@@ -1,6 +1,6 @@
 use Rattle.std.proofs.Common.{sym, ◌∙◌, None, add-one}
 use Rattle.amqp_outbox.proofs.FirstOfKind.{none-yet}
-use Rattle.amqp_session.specs.declared.command.ChanRef.{ChanRef}
+use Rattle.amqp_commands.specs.declared.command.ChanRef.{ChanRef}
 use Rattle.amqp_pool.specs.Pooled.{is_same_channel}
 use Rattle.amqp_pool.proofs.looking.place_of.Goals as goal
 

@@ -1,6 +1,6 @@
 use Rattle.std.proofs.Common.{◌∙◌, ◌+◌, ◌-◌, ◌++◌, ℕ, List, ap, sym, subst, append_assoc, arith}
 use Rattle.std.specs.String.{string_bytes}
-use Rattle.amqp_session.specs.Talk.{Talk}
+use Rattle.amqp_rules.specs.Talk.{Talk}
 use Rattle.amqp_replay.specs.Report.{answer_line}
 use Rattle.amqp_replay.proofs.Reports.{answers_from, lines_from-step, line_of, Keeps, Keeps-step, Takes-told}
 use Rattle.amqp_replay.proofs.report.put_answers.Goals as goal

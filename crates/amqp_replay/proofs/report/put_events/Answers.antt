@@ -1,7 +1,7 @@
 use Rattle.std.proofs.Common.{◌∙◌, ◌++◌, List, ap, sym, append-nil}
 use Rattle.std.specs.List.{flat_map}
 use Rattle.std.specs.String.{string_bytes}
-use Rattle.amqp_session.specs.declared.event.Event.{Event}
+use Rattle.amqp_answers.specs.declared.event.Event.{Event}
 use Rattle.amqp_replay.specs.Report.{event_line}
 use Rattle.amqp_replay.proofs.EventLines.{took-event, end-stays, lines-go-on, fewer-left, no-event}
 use Rattle.amqp_replay.proofs.report.put_events.Goals as goal

@@ -1,8 +1,8 @@
 -- The lines so far, before those of the events that are left, are those of all events.
 use Rattle.std.proofs.Common.{◌≡◌, ◌++◌, length}
 use Rattle.std.specs.String.{string_bytes}
-use Rattle.amqp_session.specs.Talk.{end_of}
-use Rattle.amqp_session.specs.Answers.{events_of}
+use Rattle.amqp_rules.specs.Talk.{end_of}
+use Rattle.amqp_rules.specs.Answers.{events_of}
 use Rattle.amqp_replay.specs.Report.{event_lines}
 use Rattle.amqp_replay.proofs.report.put_events.Given as goal
 

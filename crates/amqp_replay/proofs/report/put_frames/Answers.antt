@@ -1,9 +1,9 @@
 use Rattle.std.proofs.Common.{◌≡◌, ◌∙◌, ◌+◌, ◌-◌, ◌++◌, ℕ, List, ap, sym, subst, append_assoc, arith}
 use Rattle.std.specs.List.{flat_map}
 use Rattle.std.specs.String.{string_bytes}
-use Rattle.amqp_session.specs.declared.handed.Handed.{Handed}
-use Rattle.amqp_session.specs.Talk.{Talk}
-use Rattle.amqp_session.specs.ChannelMethods.{frames_of}
+use Rattle.amqp_answers.specs.declared.handed.Handed.{Handed}
+use Rattle.amqp_rules.specs.Talk.{Talk}
+use Rattle.amqp_rules.specs.ChannelMethods.{frames_of}
 use Rattle.amqp_replay.specs.Report.{frame_line}
 use Rattle.amqp_replay.proofs.FrameLines.{frames_from, lines_of_opening, KeepsFrames, KeepsFrames-step}
 use Rattle.amqp_replay.proofs.Reports.{lines_from-step}

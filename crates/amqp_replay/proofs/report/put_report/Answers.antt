@@ -1,7 +1,7 @@
 use Rattle.std.proofs.Common.{◌∙◌, List, ap}
 use Rattle.std.specs.List.{flat_map}
 use Rattle.std.specs.String.{string_bytes}
-use Rattle.amqp_session.specs.declared.event.Event.{Event}
+use Rattle.amqp_answers.specs.declared.event.Event.{Event}
 use Rattle.amqp_replay.specs.Report.{frame_lines, event_line, event_lines}
 use Rattle.amqp_replay.proofs.Reports.{report-parts}
 use Rattle.amqp_replay.proofs.report.put_report.Goals as goal

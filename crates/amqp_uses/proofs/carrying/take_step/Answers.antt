@@ -1,5 +1,5 @@
 use Rattle.std.proofs.Common.{◌≡◌, ◌∙◌, false, sym, ap}
-use Rattle.amqp_session.specs.Talk.{has_ended}
+use Rattle.amqp_rules.specs.Talk.{has_ended}
 use Rattle.amqp_uses.proofs.Carried.{after-ask, after-turn}
 use Rattle.amqp_uses.proofs.carrying.take_step.Goals as goal
 

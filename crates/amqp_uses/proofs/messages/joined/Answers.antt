@@ -1,5 +1,5 @@
 use Rattle.std.proofs.Common.{◌<◌, IsTrue, length, ap, arith, subst, sym, ◌∙◌}
-use Rattle.amqp_session.specs.declared.handed.Handed.{Handed}
+use Rattle.amqp_answers.specs.declared.handed.Handed.{Handed}
 use Rattle.amqp_uses.specs.Driving.{is_body}
 use Rattle.amqp_uses.proofs.Deliveries.{octets, more-follow, next-is-body, no-more, clash}
 use Rattle.amqp_uses.proofs.messages.joined.Goals as goal

@@ -1,5 +1,5 @@
 use Rattle.std.proofs.Common.{◌≡◌, ◌≤◌, ◌+◌, ℕ, suc, List, length, take, drop, Some, IsSome, arith, rules, subst, sym, ◌∙◌}
-use Rattle.amqp_session.specs.declared.handed.Handed.{Handed}
+use Rattle.amqp_answers.specs.declared.handed.Handed.{Handed}
 use Rattle.amqp_uses.specs.Messages.{IsMessage, AreBodies, announced}
 use Rattle.amqp_uses.proofs.Deliveries.{announced-on, without-two, within, behind-two, message}
 use Rattle.amqp_uses.proofs.messages.next_delivery.Goals as goal

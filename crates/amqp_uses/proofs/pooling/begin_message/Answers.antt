@@ -1,7 +1,7 @@
 use Rattle.std.proofs.Common.{◌≡◌, sym, subst}
 use Rattle.std.specs.Prelude.{IsTrue}
-use Rattle.amqp_session.specs.declared.command.ChanRef.{ChanRef}
-use Rattle.amqp_session.specs.Talk.{Talk}
+use Rattle.amqp_commands.specs.declared.command.ChanRef.{ChanRef}
+use Rattle.amqp_rules.specs.Talk.{Talk}
 use Rattle.amqp_pool.specs.declared.lease.Leased.{Leased}
 use Rattle.amqp_pool.specs.declared.lease.Leased.TheVariants.{Now}
 use Rattle.amqp_pool.specs.Pooled.{Pooled}

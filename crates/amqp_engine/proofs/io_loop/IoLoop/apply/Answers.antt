@@ -1,6 +1,6 @@
 use Rattle.std.proofs.Common.{◌≡◌, ◌⊎◌, ◌∙◌, false, Some, ap, subst, sym}
 use Rattle.amqp_promise.specs.declared.io_fault.IoFault.TheVariants.{BrokenPipe}
-use Rattle.amqp_session.specs.Talk.{has_ended}
+use Rattle.amqp_rules.specs.Talk.{has_ended}
 use Rattle.amqp_engine.specs.Engine.{Engine}
 use Rattle.amqp_engine.specs.Turn.{Notes}
 use Rattle.amqp_engine.specs.Noting.{notes_in}

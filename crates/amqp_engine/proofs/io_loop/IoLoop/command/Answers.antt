@@ -1,10 +1,10 @@
 use Rattle.std.proofs.Common.{◌≡◌, ◌∙◌, List, Result, Ok, Err, OnOk, OnErr, MatchResult, is_some, ap, sym, subst}
-use Rattle.amqp_session.specs.Commands.{command}
-use Rattle.amqp_session.specs.declared.command.Cmd.{Cmd}
-use Rattle.amqp_session.specs.declared.state.Link.{Link}
+use Rattle.amqp_rules.specs.Commands.{command}
+use Rattle.amqp_commands.specs.declared.command.Cmd.{Cmd}
+use Rattle.amqp_rules.specs.declared.state.Link.{Link}
 use Rattle.amqp_promise.specs.declared.error.ErrorKind.{ErrorKind}
-use Rattle.amqp_session.specs.Talk.{is_asked_link, end_of_link}
-use Rattle.amqp_session.proofs.Keeping.{stays-command}
+use Rattle.amqp_rules.specs.Talk.{is_asked_link, end_of_link}
+use Rattle.amqp_rules.proofs.Keeping.{stays-command}
 use Rattle.amqp_written_rules.specs.Sayable.{CanBeTold}
 use Rattle.amqp_engine.specs.Log.{Log}
 use Rattle.amqp_engine.specs.Engine.{Engine, with_talk}

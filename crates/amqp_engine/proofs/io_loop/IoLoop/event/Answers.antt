@@ -1,7 +1,7 @@
 use Rattle.std.proofs.Common.{◌≡◌, ◌∙◌, inl, inr, Option, ap, sym, subst}
-use Rattle.amqp_session.specs.declared.event.Event.{Event}
-use Rattle.amqp_session.specs.Talk.{Talk}
-use Rattle.amqp_session.specs.Answers.{TakesEvent}
+use Rattle.amqp_answers.specs.declared.event.Event.{Event}
+use Rattle.amqp_rules.specs.Talk.{Talk}
+use Rattle.amqp_rules.specs.Answers.{TakesEvent}
 use Rattle.amqp_engine.specs.Engine.{Engine}
 use Rattle.amqp_engine.specs.Account.{History, HasHistory, event_taken}
 use Rattle.amqp_engine.proofs.LeftUnread.{event-read}

@@ -1,5 +1,5 @@
 use Rattle.std.proofs.Common.{◌<◌, IsTrue, length, ap, sym, subst, arith}
-use Rattle.amqp_session.specs.Talk.{is_open}
+use Rattle.amqp_rules.specs.Talk.{is_open}
 use Rattle.amqp_engine.specs.Engine.{Engine}
 use Rattle.amqp_engine.proofs.Joining.{less-unread}
 use Rattle.amqp_engine.proofs.io_loop.IoLoop.received.Goals as goal

@@ -1,9 +1,9 @@
 use Rattle.std.proofs.Common.{◌≡◌, ◌∙◌, inl, inr, false, Option, Some, None, Result, Ok, Err, is_some, refl, ap, sym, subst}
 use Rattle.amqp_promise.specs.declared.error.ErrorKind.{ErrorKind}
 use Rattle.amqp_promise.specs.declared.error.ErrorKind.TheVariants.{OutOfTurns}
-use Rattle.amqp_session.specs.Talk.{end_of, has_ended}
+use Rattle.amqp_rules.specs.Talk.{end_of, has_ended}
 use Rattle.amqp_engine.specs.Engine.{Engine}
-use Rattle.amqp_session.specs.Answers.{HandsOut}
+use Rattle.amqp_rules.specs.Answers.{HandsOut}
 use Rattle.amqp_engine.proofs.Playing.{runs-played}
 use Rattle.amqp_engine.proofs.TurnEnds.{runs-cause, not-turns}
 use Rattle.amqp_engine.proofs.Carrying.{run-ran}

@@ -3,7 +3,7 @@ use Rattle.std.proofs.Common.{◌≡◌, ◌≤◌, List, length, false, IsTrue,
 use Rattle.amqp_types.specs.declared.text.Text.{Text}
 use Rattle.amqp_promise.specs.declared.io_fault.IoFault.{IoFault}
 use Rattle.amqp_promise.specs.declared.error.ErrorKind.TheVariants.{AuthProviderError}
-use Rattle.amqp_session.specs.Talk.{has_ended, end_of}
+use Rattle.amqp_rules.specs.Talk.{has_ended, end_of}
 use Rattle.amqp_types.specs.Counts.{Rose}
 use Rattle.amqp_engine.specs.Causes.{fault_of, is_counted}
 use Rattle.amqp_engine.specs.Turn.{Turn, AreTold, AreFit, exchanges, cut_of, Leads}

@@ -1,5 +1,5 @@
 use Rattle.std.proofs.Common.{◌≡◌, ◌∙◌, false, option_map, length, take, ap, sym, subst, arith}
-use Rattle.amqp_session.specs.Talk.{has_ended}
+use Rattle.amqp_rules.specs.Talk.{has_ended}
 use Rattle.amqp_engine.specs.Log.{piece_bytes, piece_len}
 use Rattle.amqp_engine.specs.Engine.{Engine}
 use Rattle.amqp_engine.specs.Turn.{asks}

@@ -1,5 +1,5 @@
 use Rattle.std.proofs.Common.{◌≡◌, ◌∙◌, None, ap, sym}
-use Rattle.amqp_session.specs.Writing.{frames_waiting, overlong, end_overlong}
+use Rattle.amqp_rules.specs.Writing.{frames_waiting, overlong, end_overlong}
 use Rattle.amqp_engine.specs.Engine.{Engine, with_talk, fitting_next, committed_with_bytes, commit_one, commit_all}
 use Rattle.amqp_types.proofs.Small.{none-from}
 use Rattle.amqp_engine.proofs.Commits.{commits-rest, commits-first, some-fits}

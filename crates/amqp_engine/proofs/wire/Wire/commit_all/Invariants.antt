@@ -1,6 +1,6 @@
 -- What is still to be committed leads where the whole does.
 use Rattle.std.proofs.Common.{◌≡◌}
-use Rattle.amqp_session.specs.Writing.{frames_waiting}
+use Rattle.amqp_rules.specs.Writing.{frames_waiting}
 use Rattle.amqp_engine.specs.Engine.{commit_all}
 use Rattle.amqp_engine.proofs.wire.Wire.commit_all.Given as goal
 

@@ -3,9 +3,10 @@ use Rattle.std.specs.Prelude.{◌↔◌, Result, Ok, Err, IsErr, OnOk}
 use Rattle.std.proofs.lemmas.List.Sums.{sum_by_push}
 use Rattle.amqp_frame.specs.Frames.{encoding}
 use Rattle.amqp_outbox.specs.Items.{size_of}
-use Rattle.amqp_session.specs.declared.committed.Mark.{Mark}
-use Rattle.amqp_session.specs.Talk.{Talk, is_open}
-use Rattle.amqp_session.specs.Writing.{left_in, mark_of, next_within, committed_as}
+use Rattle.amqp_outgoing.specs.declared.committed.Mark.{Mark}
+use Rattle.amqp_rules.specs.Talk.{Talk, is_open}
+use Rattle.amqp_outgoing.specs.Marks.{left_in, mark_of}
+use Rattle.amqp_rules.specs.Writing.{next_within, committed_as}
 use Rattle.amqp_engine.proofs.Overlong.{next-commits, given-item, given-fits, given-open}
 use Rattle.amqp_engine.proofs.wire.Wire.commit_next.Goals as goal
 

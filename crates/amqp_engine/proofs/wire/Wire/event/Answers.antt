@@ -1,6 +1,6 @@
 use Rattle.std.proofs.Common.{◌∙◌, ap, sym, arith}
-use Rattle.amqp_session.specs.Talk.{is_open_link}
-use Rattle.amqp_session.specs.Writing.{left_in}
+use Rattle.amqp_rules.specs.Talk.{is_open_link}
+use Rattle.amqp_outgoing.specs.Marks.{left_in}
 use Rattle.amqp_engine.proofs.Obeying.{event-stays}
 use Rattle.amqp_engine.proofs.wire.Wire.event.Goals as goal
 

@@ -1,5 +1,5 @@
 use Rattle.std.proofs.Common.{◌≡◌, ◌∙◌, not, true, length, ap, sym, arith}
-use Rattle.amqp_session.specs.Talk.{is_open, drops_input}
+use Rattle.amqp_rules.specs.Talk.{is_open, drops_input}
 use Rattle.amqp_engine.specs.Engine.{Engine}
 use Rattle.amqp_engine.specs.Making.{keeps_unread}
 use Rattle.amqp_types.proofs.Small.{and-true}

@@ -1,6 +1,6 @@
 use Rattle.std.proofs.Common.{◌≡◌, ◌∙◌, true, length, ap, sym, refl, arith}
-use Rattle.amqp_session.specs.Talk.{is_open}
-use Rattle.amqp_session.specs.Writing.{end_overlong}
+use Rattle.amqp_rules.specs.Talk.{is_open}
+use Rattle.amqp_rules.specs.Writing.{end_overlong}
 use Rattle.amqp_engine.specs.Engine.{Engine, with_talk, wrote, commit_all, settle}
 use Rattle.amqp_engine.proofs.Overlong.{Idle, closed-idles, blocked-idles, long-idles, none-idles, open-short, shut-long}
 use Rattle.amqp_engine.proofs.wire.Wire.offer.Goals as goal

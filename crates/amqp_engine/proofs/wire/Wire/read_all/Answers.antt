@@ -4,7 +4,7 @@ use Rattle.amqp_auth.specs.declared.asked.Question.{Question}
 use Rattle.amqp_auth.specs.declared.asked.Asked.{Asked}
 use Rattle.amqp_auth.specs.AuthList.{Answers}
 use Rattle.amqp_auth.specs.Providers.{Exchange}
-use Rattle.amqp_session.specs.Changes.{starve}
+use Rattle.amqp_rules.specs.Changes.{starve}
 use Rattle.amqp_engine.specs.Engine.{Engine, front_of, can_read, read_one, read_questions, rule_at}
 use Rattle.amqp_engine.specs.Turn.{reading}
 use Rattle.amqp_engine.specs.Making.{making, IsSettled, BreaksAt, piece_joined, Reaches, Heard, Broke}

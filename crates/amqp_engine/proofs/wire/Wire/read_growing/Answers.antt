@@ -1,9 +1,9 @@
 use Rattle.std.proofs.Common.{◌≡◌, ◌∙◌, ◌+◌, ℕ, List, true, drop, length, ap, refl, sym, subst, arith}
-use Rattle.amqp_session.specs.Talk.{Talk, is_open}
-use Rattle.amqp_session.specs.Changes.{present_at}
-use Rattle.amqp_session.specs.Frames.{on_frame}
-use Rattle.amqp_session.specs.Writing.{left_in}
-use Rattle.amqp_session.proofs.Keeping.{frame-committed}
+use Rattle.amqp_rules.specs.Talk.{Talk, is_open}
+use Rattle.amqp_rules.specs.Changes.{present_at}
+use Rattle.amqp_rules.specs.Frames.{on_frame}
+use Rattle.amqp_outgoing.specs.Marks.{left_in}
+use Rattle.amqp_rules.proofs.Keeping.{frame-committed}
 use Rattle.amqp_frame.specs.declared.frame.Read.TheVariants.{Whole}
 use Rattle.amqp_auth.specs.Asking.{Unanswered}
 use Rattle.amqp_engine.proofs.Answering.{unanswered-none}

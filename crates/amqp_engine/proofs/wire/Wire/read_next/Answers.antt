@@ -7,7 +7,7 @@ use Rattle.amqp_frame.specs.FrameReading.{Yields, front}
 use Rattle.amqp_auth.specs.declared.asked.Asked.{Asked}
 use Rattle.amqp_auth.specs.Providers.{Exchange}
 use Rattle.amqp_auth.specs.Asking.{Asks}
-use Rattle.amqp_session.specs.Talk.{is_open}
+use Rattle.amqp_rules.specs.Talk.{is_open}
 use Rattle.amqp_engine.specs.Engine.{Engine, front_of, is_more, can_read, read_row, read_questions, row_questions}
 use Rattle.amqp_engine.specs.Making.{is_whole, RowHears}
 use Rattle.std.proofs.lemmas.List.{append-nil}

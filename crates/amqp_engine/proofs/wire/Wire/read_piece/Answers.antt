@@ -5,9 +5,9 @@ use Rattle.amqp_auth.specs.Providers.{Allows}
 use Rattle.amqp_auth.specs.Asking.{paired}
 use Rattle.amqp_engine.proofs.Answering.{asks-none, asks-then, allowed-then, answered-append, drop-both}
 use Rattle.std.proofs.Common.{◌≡◌, ◌∙◌, ◌+◌, ◌-◌, ◌≤◌, ◌<◌, ℕ, List, [], ◌++◌, append_assoc, length, drop, take, Bool, true, false, Some, if◌then◌else◌, ap, sym, refl, subst, arith, rules, length-drop, length-take}
-use Rattle.amqp_session.specs.Talk.{Talk, is_open}
-use Rattle.amqp_session.specs.Changes.{present_at}
-use Rattle.amqp_session.specs.Links.{piece}
+use Rattle.amqp_rules.specs.Talk.{Talk, is_open}
+use Rattle.amqp_rules.specs.Changes.{present_at}
+use Rattle.amqp_rules.specs.Links.{piece}
 use Rattle.amqp_engine.specs.Engine.{Engine, step_piece, settle, rule_at, can_read, starve_at}
 use Rattle.amqp_engine.specs.Turn.{reading}
 use Rattle.amqp_engine.specs.Making.{making, keeps_unread, IsSettled, piece_joined, Broke, BreaksAt, Blames}

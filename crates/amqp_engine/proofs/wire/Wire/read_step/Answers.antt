@@ -1,5 +1,5 @@
 use Rattle.std.proofs.Common.{rules, ◌≡◌, ◌∙◌, ◌&&◌, true, Bool, IsFalse, [], ◌++◌, length, drop, Some, ap, refl, sym, arith}
-use Rattle.amqp_session.specs.Talk.{is_open}
+use Rattle.amqp_rules.specs.Talk.{is_open}
 use Rattle.amqp_engine.specs.Engine.{Engine, step_questions, starve_at}
 use Rattle.amqp_engine.specs.Turn.{is_piece, begun, step_part, reading, cut_questions}
 use Rattle.amqp_types.proofs.Small.{and-false, on-err-then}

@@ -1,7 +1,7 @@
 use Rattle.std.proofs.Common.{◌≡◌, ◌∙◌, true, ap, refl, sym, arith}
-use Rattle.amqp_session.specs.Talk.{Talk, is_open, is_open_link}
-use Rattle.amqp_session.specs.Writing.{left_in}
-use Rattle.amqp_session.proofs.Keeping.{present-keeps}
+use Rattle.amqp_rules.specs.Talk.{Talk, is_open, is_open_link}
+use Rattle.amqp_outgoing.specs.Marks.{left_in}
+use Rattle.amqp_rules.proofs.Keeping.{present-keeps}
 use Rattle.amqp_engine.proofs.Obeying.{obeyed-stays}
 use Rattle.amqp_engine.proofs.wire.Wire.take_command.Goals as goal
 

@@ -1,9 +1,9 @@
 use Rattle.std.proofs.Common.{◌≡◌, ◌∙◌, true, ap, refl, sym, subst, arith}
-use Rattle.amqp_session.specs.Talk.{Talk, is_open}
-use Rattle.amqp_session.specs.Changes.{present_at}
-use Rattle.amqp_session.specs.Ticks.{tick}
-use Rattle.amqp_session.specs.Writing.{left_in}
-use Rattle.amqp_session.proofs.Keeping.{present-keeps, keeps-tick}
+use Rattle.amqp_rules.specs.Talk.{Talk, is_open}
+use Rattle.amqp_rules.specs.Changes.{present_at}
+use Rattle.amqp_rules.specs.Ticks.{tick}
+use Rattle.amqp_outgoing.specs.Marks.{left_in}
+use Rattle.amqp_rules.proofs.Keeping.{present-keeps, keeps-tick}
 use Rattle.amqp_engine.specs.declared.port.Step.TheVariants.{Tick}
 use Rattle.amqp_auth.specs.Asking.{Unanswered}
 use Rattle.amqp_engine.specs.Engine.{Engine, settle, step_questions}

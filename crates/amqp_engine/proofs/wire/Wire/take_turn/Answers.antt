@@ -4,7 +4,7 @@ use Rattle.amqp_auth.specs.declared.asked.Question.{Question}
 use Rattle.amqp_auth.specs.declared.asked.Asked.{Asked}
 use Rattle.amqp_auth.specs.Providers.{Allows}
 use Rattle.amqp_auth.specs.Asking.{paired}
-use Rattle.amqp_session.specs.Talk.{is_open, has_ended}
+use Rattle.amqp_rules.specs.Talk.{is_open, has_ended}
 use Rattle.amqp_engine.proofs.Answering.{answered-all, may-front}
 use Rattle.amqp_engine.specs.Engine.{Engine, starve_at}
 use Rattle.amqp_engine.specs.Turn.{Notes, is_piece, begun, step_part, reading, IsAnswered, cut_questions, starved_after}

@@ -3,7 +3,7 @@ use Rattle.std.proofs.lemmas.List.{append-nil}
 use Rattle.amqp_engine.specs.declared.port.Wrote.{Wrote}
 use Rattle.amqp_engine.specs.declared.port.Wrote.TheVariants.{NoMemory}
 use Rattle.amqp_engine.specs.Log.{log_write, PlansWrite}
-use Rattle.amqp_session.specs.Talk.{is_open}
+use Rattle.amqp_rules.specs.Talk.{is_open}
 use Rattle.amqp_engine.specs.Engine.{Engine, commit_all, overlong_next}
 use Rattle.amqp_engine.specs.Turn.{is_all, offered, answered}
 use Rattle.amqp_engine.specs.Making.{making}

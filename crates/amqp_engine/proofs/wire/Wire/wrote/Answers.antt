@@ -1,12 +1,13 @@
 use Rattle.std.proofs.Common.{◌≡◌, ◌∙◌, true, length, ap, refl, sym, arith}
 use Rattle.amqp_ring.specs.Ring.{Ring, capacity as room}
 use Rattle.amqp_ring.proofs.Capacities.{capacity-consumed}
-use Rattle.amqp_session.specs.Talk.{Talk, is_open}
-use Rattle.amqp_session.specs.Changes.{present_at}
-use Rattle.amqp_session.specs.Writing.{left_in, taken}
+use Rattle.amqp_rules.specs.Talk.{Talk, is_open}
+use Rattle.amqp_rules.specs.Changes.{present_at}
+use Rattle.amqp_outgoing.specs.Marks.{left_in}
+use Rattle.amqp_rules.specs.Writing.{taken}
 use Rattle.amqp_engine.specs.Engine.{Engine}
-use Rattle.amqp_session.proofs.Keeping.{present-keeps}
-use Rattle.amqp_session.proofs.Sending.{taken-keeps, counted-taken}
+use Rattle.amqp_rules.proofs.Keeping.{present-keeps}
+use Rattle.amqp_rules.proofs.Sending.{taken-keeps, counted-taken}
 use Rattle.amqp_engine.proofs.wire.Wire.wrote.Goals as goal
 
 pub invariant_of-self-in-Took : goal.invariant_of-self-in-Took

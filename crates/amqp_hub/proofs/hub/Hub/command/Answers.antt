@@ -1,6 +1,6 @@
 use Rattle.std.proofs.Common.{◌≡◌, ◌∙◌, ◌+◌, ◌≤◌, List, [], ◌∷◌, ◌++◌, Some, refl, ap, sym, arith, rules}
-use Rattle.amqp_session.specs.Commands.{command}
-use Rattle.amqp_session.specs.declared.command.Cmd.{Cmd}
+use Rattle.amqp_rules.specs.Commands.{command}
+use Rattle.amqp_commands.specs.declared.command.Cmd.{Cmd}
 use Rattle.amqp_engine.specs.Engine.{Engine, with_talk}
 use Rattle.amqp_journal.specs.declared.entry.Entry.{Entry}
 use Rattle.amqp_journal.specs.declared.entry.Entry.TheVariants.{Called}

@@ -1,5 +1,5 @@
 use Rattle.std.proofs.Common.{◌≡◌, ◌<◌, true, IfNone, ap, sym, subst, ◌∙◌, arith}
-use Rattle.amqp_session.specs.Talk.{has_ended}
+use Rattle.amqp_rules.specs.Talk.{has_ended}
 use Rattle.amqp_journal.specs.Journal.{WasTaken}
 use Rattle.amqp_hub.specs.Guarded.{Guarded}
 use Rattle.amqp_hub.proofs.Keeping.{kept-answer, none-pending, names-itself, over-taken, made-taken}

@@ -1,5 +1,5 @@
 use Rattle.std.proofs.Common.{◌≡◌, ◌∙◌, List, [], ◌∷◌, ◌++◌, true, false, ap, arith}
-use Rattle.amqp_session.specs.Talk.{has_ended}
+use Rattle.amqp_rules.specs.Talk.{has_ended}
 use Rattle.amqp_engine.specs.Engine.{Engine}
 use Rattle.amqp_journal.specs.declared.entry.Entry.{Entry}
 use Rattle.amqp_journal.specs.declared.entry.Entry.TheVariants.{Turn}

@@ -1,5 +1,5 @@
 use Rattle.std.proofs.Common.{ap, sym, ◌∙◌}
-use Rattle.amqp_session.specs.Talk.{has_ended}
+use Rattle.amqp_rules.specs.Talk.{has_ended}
 use Rattle.amqp_engine.specs.Engine.{Engine}
 use Rattle.amqp_hub.proofs.Keeping.{kept-frames}
 use Rattle.amqp_hub.proofs.hub.Hub.take_frames.Goals as goal

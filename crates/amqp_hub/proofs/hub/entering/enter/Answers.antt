@@ -1,5 +1,5 @@
 use Rattle.std.proofs.Common.{◌≡◌, ◌≤◌, ◌∙◌, ◌+◌, ℕ, Option, List, [], ◌∷◌, ◌++◌, refl, ap, sym, subst, arith}
-use Rattle.amqp_session.specs.declared.command.Cmd.{Cmd}
+use Rattle.amqp_commands.specs.declared.command.Cmd.{Cmd}
 use Rattle.amqp_journal.specs.declared.entry.Entry.{Entry}
 use Rattle.amqp_journal.specs.declared.entry.Entry.TheVariants.{Called}
 use Rattle.amqp_hub.specs.Passes.{made_of, places, gapless}

@@ -1,5 +1,5 @@
 use Rattle.std.proofs.Common.{◌≡◌, ◌∙◌, [], ◌∷◌, ◌++◌, ap, sym}
-use Rattle.amqp_session.specs.Talk.{end_of}
+use Rattle.amqp_rules.specs.Talk.{end_of}
 use Rattle.amqp_engine.specs.Engine.{Engine}
 use Rattle.amqp_journal.specs.declared.entry.Entry.TheVariants.{Turn}
 use Rattle.amqp_journal.specs.declared.entry.Turn.{Turn as Taken}

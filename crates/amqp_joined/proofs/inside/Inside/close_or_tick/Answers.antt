@@ -1,5 +1,5 @@
 use Rattle.std.proofs.Common.{◌∙◌, ◌+◌, ◌++◌, [], ◌∷◌, ℕ, Option, ap, sym}
-use Rattle.amqp_session.specs.declared.command.Cmd.{Cmd}
+use Rattle.amqp_commands.specs.declared.command.Cmd.{Cmd}
 use Rattle.amqp_engine.specs.Plan.{at_most_64}
 use Rattle.amqp_joined.specs.declared.marks.Marked.TheVariants as marked
 use Rattle.amqp_joined.proofs.Steps.{tells_close}

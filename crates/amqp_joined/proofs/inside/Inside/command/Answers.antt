@@ -1,6 +1,6 @@
 use Rattle.std.proofs.Common.{◌∙◌, ◌≡◌, ◌+◌, ◌-◌, ◌++◌, [], ◌∷◌, ℕ, Option, length, ap, sym, rules}
 use Rattle.std.specs.Option.{option_to_list}
-use Rattle.amqp_session.specs.declared.command.Cmd.{Cmd}
+use Rattle.amqp_commands.specs.declared.command.Cmd.{Cmd}
 use Rattle.amqp_engine.specs.Plan.{at_most_64}
 use Rattle.amqp_joined.specs.declared.inside.Inside.{Inside}
 use Rattle.amqp_joined.specs.declared.marks.Marked.TheVariants as marked

@@ -1,6 +1,6 @@
 use Rattle.std.proofs.Common.{◌≡◌, ◌⊎◌, inl, inr, false, Some, Err}
 use Rattle.amqp_promise.specs.declared.error.ErrorKind.TheVariants.{OutOfTurns}
-use Rattle.amqp_session.specs.Talk.{end_of, has_ended}
+use Rattle.amqp_rules.specs.Talk.{end_of, has_ended}
 use Rattle.amqp_engine.proofs.Carrying.{run-ran}
 use Rattle.amqp_engine.proofs.TurnEnds.{runs-cause, not-turns}
 use Rattle.amqp_joined.proofs.Taking.{runs-joined, answers-closed, answers-ends}

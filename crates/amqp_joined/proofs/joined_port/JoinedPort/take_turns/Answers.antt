@@ -1,5 +1,5 @@
 use Rattle.std.proofs.Common.{◌≡◌, ◌∙◌, true, false, true≢false, ap, sym, arith}
-use Rattle.amqp_session.specs.Talk.{has_ended}
+use Rattle.amqp_rules.specs.Talk.{has_ended}
 use Rattle.amqp_joined.proofs.Taking.{taken-none, taken-more, runs-lent}
 use Rattle.amqp_joined.proofs.joined_port.JoinedPort.take_turns.Goals as goal
 

@@ -1,5 +1,5 @@
 use Rattle.std.proofs.Common.{◌≡◌, ◌∙◌, ◌≤◌, ap, sym, subst, arith}
-use Rattle.amqp_session.specs.Talk.{Talk}
+use Rattle.amqp_rules.specs.Talk.{Talk}
 use Rattle.amqp_pool.specs.Pooled.{Pooled, pooled, times, AreMade}
 use Rattle.amqp_pool.proofs.Steps.{Becomes, collect-step, opening-different}
 use Rattle.amqp_pool.proofs.Polling.{each-made, each-other}

@@ -1,5 +1,5 @@
 use Rattle.std.proofs.Common.{◌≡◌, ◌∙◌, ◌≤◌, ◌<◌, ap, sym, refl, subst}
-use Rattle.amqp_session.specs.Talk.{Talk}
+use Rattle.amqp_rules.specs.Talk.{Talk}
 use Rattle.amqp_pool.specs.Pooled.{Pooled, AreMade, above, opening_promises}
 use Rattle.amqp_pool.proofs.Counts.{bound-fits, idle-over, leased-over, opening-over}
 use Rattle.amqp_pool.proofs.pool.Pool.fits.Goals as goal

@@ -2,8 +2,8 @@ use Rattle.std.proofs.Common.{◌≡◌, ◌∙◌, ℕ, Bool, true, false, List
 use Rattle.std.specs.Prelude.{IsTrue, is_some, find, remove}
 use Rattle.amqp_outbox.specs.Lists.{without_first, IsFirstAt}
 use Rattle.amqp_outbox.proofs.FirstOfKind.{first-out, there-found}
-use Rattle.amqp_session.specs.declared.command.ChanRef.{ChanRef}
-use Rattle.amqp_session.specs.Talk.{Talk}
+use Rattle.amqp_commands.specs.declared.command.ChanRef.{ChanRef}
+use Rattle.amqp_rules.specs.Talk.{Talk}
 use Rattle.amqp_pool.specs.declared.lease.Back.TheVariants.{Kept, Lost}
 use Rattle.amqp_pool.specs.Lost.{is_lost}
 use Rattle.amqp_pool.specs.Pooled.{Pooled, pooled, is_same_channel, AreMade}

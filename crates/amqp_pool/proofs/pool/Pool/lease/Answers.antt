@@ -1,8 +1,8 @@
 use Rattle.std.proofs.Common.{◌≡◌, ◌∙◌, ◌+◌, ◌≤◌, ◌<◌, not, ℕ, List, [], ◌∷◌, ◌++◌, length, Some, None, ap, sym, subst, arith}
 use Rattle.std.specs.Prelude.{filter, find}
 use Rattle.amqp_outbox.specs.Lists.{without_first}
-use Rattle.amqp_session.specs.declared.command.ChanRef.{ChanRef}
-use Rattle.amqp_session.specs.Talk.{Talk}
+use Rattle.amqp_commands.specs.declared.command.ChanRef.{ChanRef}
+use Rattle.amqp_rules.specs.Talk.{Talk}
 use Rattle.amqp_pool.specs.declared.lease.Leased.TheVariants.{Now, Full}
 use Rattle.amqp_pool.specs.Lost.{is_lost, is_ready, without_lost}
 use Rattle.amqp_pool.specs.Looking.{stays_idle}

@@ -1,9 +1,9 @@
 use Rattle.std.proofs.Common.{◌≡◌, ◌∙◌, ◌+◌, ◌≤◌, ℕ, List, [], ◌∷◌, ◌++◌, length, Some, None, ap, sym, subst, arith, vec_capacity}
 use Rattle.std.specs.Prelude.{filter, IsTrue}
-use Rattle.amqp_session.specs.declared.command.ChanRef.{ChanRef}
-use Rattle.amqp_session.specs.declared.command.Cmd.TheVariants.{OpenChannel}
-use Rattle.amqp_session.specs.Commands.{command}
-use Rattle.amqp_session.specs.Talk.{Talk}
+use Rattle.amqp_commands.specs.declared.command.ChanRef.{ChanRef}
+use Rattle.amqp_commands.specs.declared.command.Cmd.TheVariants.{OpenChannel}
+use Rattle.amqp_rules.specs.Commands.{command}
+use Rattle.amqp_rules.specs.Talk.{Talk}
 use Rattle.amqp_hub.specs.Guarded.{Guarded}
 use Rattle.amqp_pool.specs.declared.lease.Leased.TheVariants.{Opening}
 use Rattle.amqp_pool.specs.Looking.{stays_idle}

@@ -1,7 +1,7 @@
 use Rattle.std.proofs.Common.{sym, subst, refl, arith}
 use Rattle.std.specs.Prelude.{IsTrue}
 use Rattle.amqp_promise.specs.declared.state.ConnectionState.{ConnectionState}
-use Rattle.amqp_session.specs.Sound.{is_agreed}
+use Rattle.amqp_rules.specs.Sound.{is_agreed}
 use Rattle.amqp_session.proofs.session.Session.body_limit.Goals as goal
 
 pub overflow_sub-result : goal.overflow_sub-result

@@ -1,7 +1,7 @@
 use Rattle.std.proofs.Common.{◌∙◌, sym, refl}
-use Rattle.amqp_session.specs.Changes.{present_at}
-use Rattle.amqp_session.specs.Parts.{capacity_after}
-use Rattle.amqp_session.proofs.Keeping.{present-keeps, keeps-frame}
+use Rattle.amqp_rules.specs.Changes.{present_at}
+use Rattle.amqp_rules.specs.Parts.{capacity_after}
+use Rattle.amqp_rules.proofs.Keeping.{present-keeps, keeps-frame}
 use Rattle.amqp_session.proofs.session.Session.capacity_after.Goals as goal
 
 pub returns-clause-bytes : goal.returns-clause-bytes

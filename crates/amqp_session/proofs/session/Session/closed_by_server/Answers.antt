@@ -1,11 +1,11 @@
 use Rattle.amqp_outbox.specs.Items.{dropped_with, size_of}
-use Rattle.amqp_session.specs.Violations.{channel_closed_with}
+use Rattle.amqp_violations.specs.Violations.{channel_closed_with}
 use Rattle.amqp_session.proofs.Made.{owed-made}
 use Rattle.amqp_session.proofs.session.Session.closed_by_server.Goals as goal
 
-pub push_control_reserved-requires : goal.push_control_reserved-requires
-push_control_reserved-requires c =
-    c.drop_channel_of.ensures.control (dropped_with c.plain-item.result) 1 (size_of c.plain-item.result) c.in_default.ensures.lane
+pub say_reserved-requires : goal.say_reserved-requires
+say_reserved-requires c =
+    c.drop_channel_of.ensures.frames (dropped_with c.plain-item.result) 1 (size_of c.plain-item.result) c.in_default.ensures.places
 
 pub returns-in_err-error-clause-idle : goal.returns-in_err-error-clause-idle
 returns-in_err-error-clause-idle c none makes =

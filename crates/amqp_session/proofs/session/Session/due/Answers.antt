@@ -1,10 +1,10 @@
 use Rattle.std.proofs.Common.{◌∙◌, sym, ap, subst}
 use Rattle.amqp_outbox.proofs.Cases.{on-ok}
 use Rattle.amqp_session.specs.declared.session.asking.Validity.{Validity}
-use Rattle.amqp_session.specs.Talk.{Talk}
-use Rattle.amqp_session.specs.Ticks.{heartbeat_due, secret_due}
-use Rattle.amqp_session.specs.Parts.{validity_answers, IsAsked}
-use Rattle.amqp_session.proofs.Hearing.{unasked-kept, valid-kept, expired-done}
+use Rattle.amqp_rules.specs.Talk.{Talk}
+use Rattle.amqp_rules.specs.Ticks.{heartbeat_due, secret_due}
+use Rattle.amqp_session.specs.Provided.{validity_answers, IsAsked}
+use Rattle.amqp_rules.proofs.Hearing.{unasked-kept, valid-kept, expired-done}
 use Rattle.amqp_session.proofs.session.Session.due.Goals as goal
 
 pub returns-in-Unasked-clause-ok : goal.returns-in-Unasked-clause-ok

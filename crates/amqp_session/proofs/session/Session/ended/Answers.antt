@@ -1,7 +1,7 @@
 use Rattle.std.proofs.Common.{rules}
 use Rattle.amqp_promise.specs.declared.error.ErrorKind.TheVariants.{ProtocolError}
-use Rattle.amqp_session.specs.Talk.{end_of}
-use Rattle.amqp_session.specs.Answers.{IsFailed}
+use Rattle.amqp_rules.specs.Talk.{end_of}
+use Rattle.amqp_rules.specs.Answers.{IsFailed}
 use Rattle.amqp_types.proofs.Small.{on-err}
 use Rattle.amqp_session.proofs.session.Session.ended.Goals as goal
 

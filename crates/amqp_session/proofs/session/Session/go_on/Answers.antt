@@ -1,7 +1,7 @@
-use Rattle.amqp_session.specs.Ticks.{secret_questions}
-use Rattle.amqp_session.specs.Parts.{validity_answers}
+use Rattle.amqp_rules.specs.Ticks.{secret_questions}
+use Rattle.amqp_session.specs.Provided.{validity_answers}
 use Rattle.amqp_types.proofs.Small.{on-err}
-use Rattle.amqp_session.proofs.Hearing.{asked-all}
+use Rattle.amqp_rules.proofs.Hearing.{asked-all}
 use Rattle.amqp_session.proofs.session.Session.go_on.Goals as goal
 
 pub returns-clause-unanswered : goal.returns-clause-unanswered

@@ -1,12 +1,12 @@
 use Rattle.std.proofs.Common.{◌∙◌, sym, ap, List}
 use Rattle.amqp_auth.specs.declared.asked.Asked.{Asked}
-use Rattle.amqp_session.specs.Talk.{end_of}
-use Rattle.amqp_session.specs.Frames.{questions_in}
-use Rattle.amqp_session.specs.Parts.{login_answers}
+use Rattle.amqp_rules.specs.Talk.{end_of}
+use Rattle.amqp_rules.specs.Frames.{questions_in}
+use Rattle.amqp_session.specs.Provided.{login_answers}
 use Rattle.amqp_outbox.proofs.Cases.{on-ok}
 use Rattle.amqp_types.proofs.Small.{on-err}
-use Rattle.amqp_session.proofs.FrameErrors.{refused-by}
-use Rattle.amqp_session.proofs.Hearing.{asked-all}
+use Rattle.amqp_rules.proofs.FrameErrors.{refused-by}
+use Rattle.amqp_rules.proofs.Hearing.{asked-all}
 use Rattle.amqp_session.proofs.session.Session.hear.Goals as goal
 
 pub returns-in-Ok-clause-unanswered : goal.returns-in-Ok-clause-unanswered

@@ -5,10 +5,10 @@ use Rattle.amqp_frame.specs.declared.frame.Frame.TheVariants.{Raw}
 use Rattle.amqp_frame.specs.declared.frame.RawKind.TheVariants.{RawMethod, Header, Body}
 use Rattle.amqp_frame.specs.Frames.{encoding}
 use Rattle.amqp_outbox.proofs.Cases.{on-ok}
-use Rattle.amqp_session.specs.Talk.{Talk}
-use Rattle.amqp_session.specs.Publishing.{content_header, body_pieces}
-use Rattle.amqp_session.specs.Commands.{too_full, unless_full, body_limit, queue_publish}
-use Rattle.amqp_session.proofs.Cutting.{publish-fits, neither, none-gives}
+use Rattle.amqp_rules.specs.Talk.{Talk}
+use Rattle.amqp_commands.specs.Publishing.{content_header, body_pieces}
+use Rattle.amqp_rules.specs.Commands.{too_full, unless_full, body_limit, queue_publish}
+use Rattle.amqp_session.proofs.TooLong.{publish-fits, neither, none-gives}
 use Rattle.amqp_session.proofs.session.Session.publish.Goals as goal
 
 pub returns-in-None-clause-ok : goal.returns-in-None-clause-ok
@@ -19,7 +19,8 @@ returns-in-None-clause-ok c =
     let header = c.in_ok-head.head in
     let first : length (encoding (Raw c.args.id RawMethod method)) ≤ t.capacity = none-gives c.excess.result none.0 c.excess.ensures.fits in
     let second : length (encoding (Raw c.args.id Header header)) ≤ t.capacity = none-gives c.excess-2.result none.1 c.excess-2.ensures.fits in
-    let large = c.self.inside.capacity.large in
+    let least = c.octets.ensures.large in
+    let held = c.octets.ensures.octets in
     let same = ap (λ (u : Talk). u.capacity) c.self.view_is in
     let is_header : header ≡ content_header c.args.method.class (length c.args.body.now) c.args.properties.now =
     c.in_ok-head.ensures
@@ -32,5 +33,5 @@ returns-in-None-clause-ok c =
     ∙ ap (λ b. unless_full (too_full (made b) t) (queue_publish c.args.id (made b)) t)
     c.as_bytes.ensures
     ∙ sym (publish-fits c.args.id c.args.method c.args.properties.now c.args.body.now t method header c.into_payload.ensures.payload is_header
-    (omega (arith, large, same)) first second))
+    (omega (arith, least, held, same)) first second))
     c.publish_within.ensures.ok

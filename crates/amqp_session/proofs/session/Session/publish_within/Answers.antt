@@ -5,8 +5,8 @@ use Rattle.amqp_frame.specs.declared.frame.Frame.TheVariants.{Raw}
 use Rattle.amqp_frame.specs.declared.frame.RawKind.TheVariants.{Body}
 use Rattle.amqp_frame.specs.Lengths.{capped}
 use Rattle.amqp_outbox.proofs.Cases.{on-ok}
-use Rattle.amqp_session.specs.Publishing.{body_pieces, octets_of_frames}
-use Rattle.amqp_session.specs.Commands.{body_limit, too_full, unless_full, queue_publish}
+use Rattle.amqp_commands.specs.Publishing.{body_pieces, octets_of_frames}
+use Rattle.amqp_rules.specs.Commands.{body_limit, too_full, unless_full, queue_publish}
 use Rattle.amqp_session.proofs.session.Session.publish_within.Goals as goal
 
 pub returns-in-Some-clause-ok : goal.returns-in-Some-clause-ok

@@ -1,8 +1,8 @@
 use Rattle.std.proofs.Common.{◌≡◌, ◌∙◌, sym, subst, Option, Some}
-use Rattle.amqp_session.specs.declared.channels.Channel.{Channel}
-use Rattle.amqp_session.specs.Channels.{channel_at}
-use Rattle.amqp_session.specs.ChannelMethods.{heard_on, raw_by}
-use Rattle.amqp_session.specs.Memory.{MakesNothing}
+use Rattle.amqp_channels.specs.declared.channels.Channel.{Channel}
+use Rattle.amqp_rules.specs.Channels.{channel_at}
+use Rattle.amqp_rules.specs.ChannelMethods.{heard_on, raw_by}
+use Rattle.amqp_rules.specs.Memory.{MakesNothing}
 use Rattle.amqp_session.proofs.Made.{handed-made}
 use Rattle.amqp_session.proofs.session.Session.raw_frame.Goals as goal
 

@@ -1,9 +1,9 @@
 use Rattle.std.proofs.Common.{◌≡◌, ◌∙◌, ap, sym, [], ◌∷◌, Some, None}
 use Rattle.amqp_frame.specs.Lengths.{capped}
 use Rattle.amqp_outbox.proofs.Cases.{on-ok}
-use Rattle.amqp_session.specs.Publishing.{octets_of_frames}
-use Rattle.amqp_session.specs.Commands.{too_full, unless_full, queue_send}
-use Rattle.amqp_session.proofs.PublishLengths.{frame-alone}
+use Rattle.amqp_commands.specs.Publishing.{octets_of_frames}
+use Rattle.amqp_rules.specs.Commands.{too_full, unless_full, queue_send}
+use Rattle.amqp_commands.proofs.PublishLengths.{frame-alone}
 use Rattle.amqp_session.proofs.session.Session.send_within.Goals as goal
 
 pub returns-in-Some-clause-ok : goal.returns-in-Some-clause-ok

@@ -1,6 +1,6 @@
 use Rattle.std.proofs.Common.{◌≡◌, ◌∙◌, ◌-◌, ap, sym, length, arith}
-use Rattle.amqp_session.specs.Talk.{Talk}
-use Rattle.amqp_session.specs.Writing.{follow, sent_among}
+use Rattle.amqp_rules.specs.Talk.{Talk}
+use Rattle.amqp_rules.specs.Writing.{follow, sent_among}
 use Rattle.amqp_session.proofs.Taken.{first-goes, sent-fewer}
 use Rattle.amqp_session.proofs.session.Session.taken.Goals as goal
 

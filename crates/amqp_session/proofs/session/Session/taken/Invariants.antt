@@ -1,6 +1,6 @@
 -- What is still to be taken leads where the whole does.
 use Rattle.std.proofs.Common.{◌≡◌, length}
-use Rattle.amqp_session.specs.Writing.{sent_among}
+use Rattle.amqp_rules.specs.Writing.{sent_among}
 use Rattle.amqp_session.proofs.session.Session.taken.Given as goal
 
 abbrev pub invariant-loop-mark : goal.invariant-loop-mark

@@ -1,11 +1,11 @@
 use Rattle.std.proofs.Common.{◌≡◌, sym, subst, List, false, true}
 use Rattle.amqp_auth.specs.declared.asked.Asked.{Asked}
-use Rattle.amqp_session.specs.Talk.{Talk}
+use Rattle.amqp_rules.specs.Talk.{Talk}
 use Rattle.amqp_promise.specs.declared.error.ErrorKind.TheVariants.{MissingHeartbeatError}
-use Rattle.amqp_session.specs.Changes.{present_at, lose}
-use Rattle.amqp_session.specs.Asking.{Hears}
-use Rattle.amqp_session.specs.Ticks.{is_missed, link_due, tick, tick_questions}
-use Rattle.amqp_session.proofs.Hearing.{tick-heard, tick-missed}
+use Rattle.amqp_rules.specs.Changes.{present_at, lose}
+use Rattle.amqp_rules.specs.Asking.{Hears}
+use Rattle.amqp_rules.specs.Ticks.{is_missed, link_due, tick, tick_questions}
+use Rattle.amqp_rules.proofs.Hearing.{tick-heard, tick-missed}
 use Rattle.amqp_session.proofs.session.Session.tick.Goals as goal
 
 pub returns-in-Ok-clause-ok : goal.returns-in-Ok-clause-ok

@@ -1,11 +1,12 @@
 use Rattle.std.proofs.Common.{◌≡◌, ◌∙◌, ap, sym, refl, subst, Option, None, Some, Result, IfOk, OnErr}
 use Rattle.std.specs.Option.{option_flatten}
-use Rattle.amqp_session.specs.declared.command.Answer.{Answer}
+use Rattle.amqp_answers.specs.declared.answer.Answer.{Answer}
 use Rattle.amqp_promise.specs.declared.error.ErrorKind.{ErrorKind}
-use Rattle.amqp_session.specs.Listed.{at}
-use Rattle.amqp_session.specs.Talk.{Talk, end_of}
-use Rattle.amqp_session.specs.Answers.{answer_in, answer_of, IsRejected}
-use Rattle.amqp_session.specs.Parts.{promised}
+use Rattle.amqp_maps.specs.Listed.{at}
+use Rattle.amqp_rules.specs.Talk.{Talk, end_of}
+use Rattle.amqp_rules.specs.Answers.{answer_in, answer_of}
+use Rattle.amqp_answers.specs.Settled.{IsRejected}
+use Rattle.amqp_answers.specs.Seen.{promised}
 use Rattle.amqp_session.proofs.session.Session.untaken.Goals as goal
 
 -- a promise that does not wait has the answer that is kept

@@ -2,7 +2,8 @@ use Rattle.std.proofs.Common.{◌≡◌, ◌∙◌, ℕ, List, ◌++◌, length,
 use Rattle.std.specs.Prelude.{codes}
 use Rattle.std.specs.Fmt.{decimal, HasWritten}
 use Rattle.amqp_promise.specs.Errors.{state_name}
-use Rattle.amqp_session.specs.Queries.{session_debug}
+use Rattle.amqp_answers.specs.Seen.{made_in}
+use Rattle.amqp_rules.specs.Queries.{session_debug}
 use Rattle.amqp_session.proofs.session.SessionDebug.fmt.Goals as goal
 
 -- what is written, piece before piece
@@ -22,7 +23,7 @@ pub returns : goal.returns
 returns g c =
     let named : List ℕ = state_name c.self.inside.state in
     let listed : ℕ = length c.self.inside.channels.listed in
-    let made : ℕ = c.self.inside.promises.made in
+    let made : ℕ = made_in c.self.inside.promises in
     let text : pieces c.name.result.now c.len.result c.made.result ≡ session_debug c.args.self.now =
     ap (λ (name : List ℕ). pieces name c.len.result c.made.result) c.name.ensures
     ∙ ap (λ (n : ℕ). pieces named n c.made.result) c.len.ensures

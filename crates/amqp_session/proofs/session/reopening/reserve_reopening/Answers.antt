@@ -6,4 +6,4 @@ pub returns-clause-replies : goal.returns-clause-replies
 returns-clause-replies c =
     on-ok c.reserve_frames.result
     (λ lane n among. c.reserve_frames.ensures.reply n ChannelOpened (c.in_ok-frames.ensures.replies n among))
-    c.reserve_frames.ensures.lane
+    c.reserve_frames.ensures.places

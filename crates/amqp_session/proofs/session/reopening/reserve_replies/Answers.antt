@@ -1,8 +1,9 @@
 use Rattle.std.proofs.Common.{◌∙◌, ap, sym, subst, ℕ, length, Some, inl, inr, arith}
 use Rattle.std.proofs.lemmas.Bool.{cases_eq}
 use Rattle.amqp_outbox.specs.declared.reply.Reply.TheVariants.{ChannelOpened}
-use Rattle.amqp_outbox.specs.Parts.{HasReplyPlace}
-use Rattle.amqp_session.specs.Reopening.{numbers_after, is_among}
+use Rattle.amqp_outgoing.specs.Outgoings.{HasAwaitedPlace}
+use Rattle.amqp_channels.specs.InOrder.{numbers_after}
+use Rattle.amqp_session.specs.Reopening.{is_among}
 use Rattle.amqp_session.proofs.Reopening.{not-among, no-more-numbers}
 use Rattle.amqp_session.proofs.session.reopening.reserve_replies.Goals as goal
 
@@ -22,12 +23,13 @@ channels-preserved c =
     let count = c.channels.invariant.count in
     let next = ap length c.in-Some.ensures.next in
     record {
-      same = c.in_ok-reserve_reply.ensures.same ∙ c.channels.invariant.same;
+      same = c.in_ok-reserve_reply.ensures.waits ∙ c.channels.invariant.same;
+      marks = c.in_ok-reserve_reply.ensures.marks ∙ c.channels.invariant.marks;
       count = omega (arith, count, next);
       replies = λ n among none.
           elim (cases_eq n id) [
             | inl e ↦
-                let P : ℕ → Type 0 = λ m. HasReplyPlace m ChannelOpened c.reserve_reply.new.self in
+                let P : ℕ → Type 0 = λ m. HasAwaitedPlace m ChannelOpened c.reserve_reply.new.self in
                 subst P (sym e) c.in_ok-reserve_reply.ensures.place
             | inr ne ↦
                 c.in_ok-reserve_reply.ensures.reply n ChannelOpened ne

@@ -1,0 +1,4 @@
+pub mod Holding
+pub mod Losses
+pub mod Reasons
+pub mod Seen

@@ -1,5 +1,0 @@
-use Rattle.amqp_session.proofs.Soundness.{sound-start, keeps-sound, sound-ended}
-use Rattle.amqp_session.proofs.laws.states_stay_sound.Goals as goal
-
-pub returns : goal.returns
-returns c = record { first = sound-start; kept = keeps-sound; ended = sound-ended }
