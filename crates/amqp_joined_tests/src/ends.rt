@@ -101,28 +101,67 @@ fn count_ok(engine: &mut IoLoop) -> u64 {
     count
 }
 
+// A new double, joined to an engine by this plan.
+fn joined(alloc: Global, plan: Plan) -> Outcome<JoinedPort>
+    requires { IsPlan (join_plan_of plan) }
+{
+    match Double::new(alloc, NUMBERS) {
+        Ok(double) => Ok(JoinedPort::new(alloc, double, plan)?),
+        Err(refused) => {
+            drop(plan);
+            Err(refused)?
+        }
+    }
+}
+
+// Runs a new engine over the port, for so many turns.
+fn seen_by(
+    alloc: Global,
+    uri: &AMQPUri,
+    provider: &mut DefaultAuthProvider,
+    port: &mut JoinedPort,
+    turns: u64,
+) -> Outcome<Seen> {
+    let options = ConnectionProperties::new(alloc)?;
+    let mut engine = IoLoop::new(alloc, uri, options)?;
+    let end = port.run(&mut engine, provider, turns);
+    let closed = end.is_ok();
+    drop(end);
+    let answers = count_ok(&mut engine);
+    drop(engine);
+    Ok(Seen {
+        sent: port.taken(),
+        answers,
+        closed,
+        double_closed: port.double().closed(),
+    })
+}
+
+// The same, with a server at this address.
+fn seen_at(alloc: Global, uri: &AMQPUri, port: &mut JoinedPort, turns: u64) -> Outcome<Seen> {
+    let mut provider = DefaultAuthProvider::new(alloc, uri)?;
+    let seen = seen_by(alloc, uri, &mut provider, port, turns);
+    drop(provider);
+    seen
+}
+
+// The same, with a local server.
+fn seen_on(alloc: Global, port: &mut JoinedPort, turns: u64) -> Outcome<Seen> {
+    let uri = AMQPUri::local(alloc)?;
+    let seen = seen_at(alloc, &uri, port, turns);
+    drop(uri);
+    seen
+}
+
 // Runs a new engine over a port by this plan, for as many turns as that takes.
 fn seen_of(alloc: Global, plan: Plan) -> Outcome<Seen>
     requires { IsPlan (join_plan_of plan) }
 {
     let turns = plan.turns();
-    let double = Double::new(alloc, NUMBERS)?;
-    let mut port = JoinedPort::new(alloc, double, plan)?;
-    let uri = AMQPUri::local(alloc)?;
-    let mut provider = DefaultAuthProvider::new(alloc, &uri)?;
-    let mut engine = IoLoop::new(alloc, &uri, ConnectionProperties::new(alloc)?)?;
-    let end = port.run(&mut engine, &mut provider, turns);
-    let seen = Seen {
-        sent: port.taken(),
-        answers: count_ok(&mut engine),
-        closed: end.is_ok(),
-        double_closed: port.double().closed(),
-    };
-    drop(end);
-    drop(engine);
-    drop(provider);
-    drop(uri);
-    Ok(seen)
+    let mut port = joined(alloc, plan)?;
+    let seen = seen_on(alloc, &mut port, turns);
+    drop(port);
+    seen
 }
 
 // Both ends are closed, and so much was said and answered.

@@ -133,25 +133,77 @@ fn our_close(alloc: Global) -> Outcome<Cmd> {
 
 // A port to a new double.
 fn new_port(alloc: Global) -> Outcome<Linked> {
-    let close = our_close(alloc)?;
-    Ok(Linked {
-        double: Double::new(alloc, NUMBERS)?,
-        taken: Vec::new(alloc),
-        asked: false,
-        close: Some(close),
-    })
+    let double = Double::new(alloc, NUMBERS)?;
+    match our_close(alloc) {
+        Ok(close) => Ok(Linked {
+            double,
+            taken: Vec::new(alloc),
+            asked: false,
+            close: Some(close),
+        }),
+        Err(e) => {
+            drop(double);
+            Err(e)
+        }
+    }
+}
+
+// What the user says: a name of the connection.
+fn options(alloc: Global) -> Outcome<ConnectionProperties> {
+    let options = ConnectionProperties::new(alloc)?;
+    match LongString::new(alloc, NAME) {
+        Ok(name) => Ok(options.with_connection_name(alloc, name)?),
+        Err(refused) => {
+            drop(options);
+            Err(refused)?
+        }
+    }
 }
 
 // Runs a new engine with a server at the address over the port, and says whether it ended closed.
-fn ends_closed(alloc: Global, uri: &AMQPUri, port: &mut Linked) -> Outcome<bool> {
-    let name = LongString::new(alloc, NAME)?;
-    let options = ConnectionProperties::new(alloc)?.with_connection_name(alloc, name)?;
-    let mut provider = DefaultAuthProvider::new(alloc, uri)?;
+fn ends_by(
+    alloc: Global,
+    uri: &AMQPUri,
+    provider: &mut DefaultAuthProvider,
+    port: &mut Linked,
+) -> Outcome<bool> {
+    let options = options(alloc)?;
     let mut engine = IoLoop::new(alloc, uri, options)?;
-    let end = engine.run(port, &mut provider, 100);
+    let end = engine.run(port, provider, 100);
     drop(engine);
+    let closed = end.is_ok();
+    drop(end);
+    Ok(closed)
+}
+
+// The same, as the user of the address.
+fn ends_closed(alloc: Global, uri: &AMQPUri, port: &mut Linked) -> Outcome<bool> {
+    let mut provider = DefaultAuthProvider::new(alloc, uri)?;
+    let closed = ends_by(alloc, uri, &mut provider, port);
     drop(provider);
-    Ok(end.is_ok())
+    closed
+}
+
+// What was said to a double, where both ends are closed.
+fn frames_where(
+    alloc: Global,
+    port: &Linked,
+    closed: Outcome<bool>,
+) -> Outcome<Option<Vec<Frame>>> {
+    if closed? && port.double.closed() {
+        Ok(frames_of(alloc, &port.taken)?)
+    } else {
+        Ok(None)
+    }
+}
+
+// What a new engine with a server at the address says to a double, where both ends are closed then.
+fn said(alloc: Global, uri: &AMQPUri) -> Outcome<Option<Vec<Frame>>> {
+    let mut port = new_port(alloc)?;
+    let closed = ends_closed(alloc, uri, &mut port);
+    let frames = frames_where(alloc, &port, closed);
+    drop(port);
+    frames
 }
 
 // Whether these are the properties of the client, with the name of the connection.
@@ -209,15 +261,14 @@ fn are_of_the_address(frames: &[Frame]) -> bool {
 #[test]
 fn an_engine_says_what_its_address_and_its_user_say(rt: HostRuntime) -> Outcome<()> {
     let uri = address(rt.alloc())?;
-    let mut port = new_port(rt.alloc())?;
-    let closed = ends_closed(rt.alloc(), &uri, &mut port)?;
+    let said = said(rt.alloc(), &uri);
     drop(uri);
-    assert!(rt; closed && port.double.closed());
-    let frames = frames_of(rt.alloc(), &port.taken)?;
-    match &frames {
-        Some(frames) => assert!(rt; are_of_the_address(frames)),
-        None => assert!(rt; port.taken.is_empty()),
-    }
+    let frames = said?;
+    let as_told = match &frames {
+        Some(frames) => are_of_the_address(frames),
+        None => false,
+    };
     drop(frames);
+    assert!(rt; as_told);
     Ok(())
 }

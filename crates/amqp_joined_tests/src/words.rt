@@ -9,7 +9,36 @@ use amqp_types::Text;
 use std::alloc::Global;
 use std::test::Fail;
 
+// These words.
+fn texts_of(alloc: Global, words: &[&str]) -> Result<Vec<Text>, Fail> {
+    let mut texts = Vec::new(alloc);
+    for word in words {
+        texts.push(Text::new(alloc, word)?)?;
+    }
+    Ok(texts)
+}
+
 // Whether these words are answered by this status, and print this, where these calls of the sink fail.
+fn answers_by(
+    alloc: Global,
+    port: &mut MemoryPort,
+    words: &[&str],
+    sink_fails: &[u64],
+    status: u8,
+    printed: &[u8],
+) -> Result<bool, Fail> {
+    let texts = texts_of(alloc, words)?;
+    let mut source = MemorySource::new(&[], &[]);
+    let mut sink = MemorySink::new(alloc, usize::MAX, sink_fails);
+    let nobody: Option<DefaultAuthProvider> = None;
+    let answered = top_doubled(alloc, &texts, &mut source, &mut sink, port, nobody);
+    drop(texts);
+    let same = answered == status && sink.held() == printed;
+    drop(sink);
+    Ok(same)
+}
+
+// The same, with a port of its own.
 fn answers(
     alloc: Global,
     words: &[&str],
@@ -17,17 +46,10 @@ fn answers(
     status: u8,
     printed: &[u8],
 ) -> Result<bool, Fail> {
-    let mut texts = Vec::new(alloc);
-    for word in words {
-        texts.push(Text::new(alloc, word)?)?;
-    }
-    let mut source = MemorySource::new(&[], &[]);
-    let mut sink = MemorySink::new(alloc, usize::MAX, sink_fails);
     let mut port = MemoryPort::new(alloc, Vec::new(alloc))?;
-    let nobody: Option<DefaultAuthProvider> = None;
-    let answered = top_doubled(alloc, &texts, &mut source, &mut sink, &mut port, nobody);
+    let same = answers_by(alloc, &mut port, words, sink_fails, status, printed);
     drop(port);
-    Ok(answered == status && sink.held() == printed)
+    same
 }
 
 #[test]

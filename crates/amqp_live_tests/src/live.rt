@@ -53,8 +53,45 @@ struct Wanted {
     refused: u64,
 }
 
-// What these words are answered over a server that makes so many answers, by a spawner that refuses there, on
-// a sink that takes so many bytes a call and fails at these.
+// These words go last.
+fn push_words(alloc: Global, texts: &mut Vec<Text>, words: &[&str]) -> Result<(), Fail> {
+    for word in words {
+        texts.push(Text::new(alloc, word)?)?;
+    }
+    Ok(())
+}
+
+// These words.
+fn texts_of(alloc: Global, words: &[&str]) -> Result<Vec<Text>, Fail> {
+    let mut texts = Vec::new(alloc);
+    match push_words(alloc, &mut texts, words) {
+        Ok(()) => Ok(texts),
+        Err(fail) => {
+            drop(texts);
+            Err(fail)
+        }
+    }
+}
+
+// Whether these words are answered so by this runtime, on a sink that takes so many bytes a call and fails at
+// these.
+fn is_answered_by<R: Threads + Wait + Clock + Copy + Send + Drop + 'static>(
+    rt: R,
+    alloc: Global,
+    texts: &[Text],
+    runtime: &mut ServerSpawner<R>,
+    sink: (usize, &[u64]),
+    wanted: Wanted,
+) -> bool {
+    let mut said = MemorySink::new(alloc, sink.0, sink.1);
+    let status = top_live(rt, alloc, texts, &mut said, runtime);
+    let text = said.held() == wanted.text.as_bytes();
+    drop(said);
+    let refused = runtime.refused() == wanted.refused;
+    text && refused && status == wanted.status
+}
+
+// The same by a spawner that refuses there, over a server that makes so many answers.
 fn is_answered<R: Threads + Wait + Clock + Copy + Send + Drop + 'static>(
     rt: R,
     alloc: Global,
@@ -63,18 +100,20 @@ fn is_answered<R: Threads + Wait + Clock + Copy + Send + Drop + 'static>(
     sink: (usize, &[u64]),
     wanted: Wanted,
 ) -> Result<bool, Fail> {
-    let mut texts = Vec::new(alloc);
-    for word in words {
-        texts.push(Text::new(alloc, word)?)?;
+    let texts = texts_of(alloc, words)?;
+    match Script::new(alloc, SERVER, server.0) {
+        Ok(script) => {
+            let mut runtime = ServerSpawner::new(rt, script, server.1);
+            let answered = is_answered_by(rt, alloc, &texts, &mut runtime, sink, wanted);
+            drop(runtime);
+            drop(texts);
+            Ok(answered)
+        }
+        Err(fail) => {
+            drop(texts);
+            Err(fail)
+        }
     }
-    let mut runtime = ServerSpawner::new(rt, Script::new(alloc, SERVER, server.0)?, server.1);
-    let mut said = MemorySink::new(alloc, sink.0, sink.1);
-    let status = top_live(rt, alloc, &texts, &mut said, &mut runtime);
-    let text = said.held() == wanted.text.as_bytes();
-    drop(said);
-    let refused = runtime.refused() == wanted.refused;
-    drop(runtime);
-    Ok(text && refused && status == wanted.status)
 }
 
 // The same, on a sink that takes all.
@@ -122,6 +161,9 @@ fn what_is_no_address_is_said(rt: HostRuntime) -> Result<(), Fail> {
     Ok(())
 }
 
+/// Where a spawner refuses that gives no loop.
+const REFUSALS: &[Refuses] = &[Refuses::Port, Refuses::Thread];
+
 #[test]
 fn a_spawner_that_refuses_gives_no_loop(rt: HostRuntime) -> Result<(), Fail> {
     let wanted = Wanted {
@@ -129,13 +171,13 @@ fn a_spawner_that_refuses_gives_no_loop(rt: HostRuntime) -> Result<(), Fail> {
         text: "error IO error: no loop\n",
         refused: 1,
     };
-    for refuses in [Refuses::Port, Refuses::Thread] {
+    for refuses in REFUSALS {
         assert!(rt;
             answers(
                 rt,
                 rt.alloc(),
                 &["live", "amqp://h"],
-                (ALL, refuses),
+                (ALL, *refuses),
                 wanted
             )?
         );

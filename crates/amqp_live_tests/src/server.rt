@@ -66,23 +66,60 @@ pub struct Script {
     pieces: Vec<Piece>,
 }
 
+// The octets of a text.
+fn octets(alloc: Global, text: &str) -> Result<Vec<u8>, Fail> {
+    let mut octets = Vec::new(alloc);
+    match push_octets(&mut octets, text) {
+        Ok(()) => Ok(octets),
+        Err(fail) => {
+            drop(octets);
+            Err(fail)
+        }
+    }
+}
+
 impl Script {
     /// The octets of these exchanges. After so many answers the server says nothing more.
     pub fn new(alloc: Global, exchanges: &[Exchange], answers: usize) -> Result<Script, Fail> {
-        let mut hears = Vec::new(alloc);
-        let mut pieces = Vec::new(alloc);
+        let mut script = Script {
+            hears: Vec::new(alloc),
+            pieces: Vec::new(alloc),
+        };
+        match script.push_all(alloc, exchanges, answers) {
+            Ok(()) => Ok(script),
+            Err(fail) => {
+                drop(script);
+                Err(fail)
+            }
+        }
+    }
+
+    // These exchanges go last, of which so many are answered.
+    fn push_all(
+        &mut self,
+        alloc: Global,
+        exchanges: &[Exchange],
+        answers: usize,
+    ) -> Result<(), Fail> {
         for exchange in exchanges {
             for text in exchange.hears {
-                push_octets(&mut hears, text)?;
+                push_octets(&mut self.hears, text)?;
             }
-            let mut says = Vec::new(alloc);
-            if pieces.len() < answers {
-                push_octets(&mut says, exchange.says)?;
+            if self.pieces.len() < answers {
+                self.push_piece(alloc, exchange.says)?;
+            } else {
+                self.push_piece(alloc, "")?;
             }
-            let heard = hears.len();
-            pieces.push(Piece { heard, says })?;
         }
-        Ok(Script { hears, pieces })
+        Ok(())
+    }
+
+    // What is said once all so far was heard goes last.
+    fn push_piece(&mut self, alloc: Global, text: &str) -> Result<(), Fail> {
+        let says = octets(alloc, text)?;
+        let heard = self.hears.len();
+        self.pieces.push(Piece { heard, says })?;
+        Ok(())
     }
 }
 

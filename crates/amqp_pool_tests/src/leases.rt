@@ -305,34 +305,51 @@ fn two_in(alloc: Global, over: &mut Over, pass: &mut Pass, foreign: &mut Pass) -
     seen
 }
 
-// What is seen of a hub with a pass of its own and the second of another one.
-fn two(alloc: Global) -> Outcome<bool> {
-    let mut over = opened(alloc, TWO)?;
-    let mut other = match opened(alloc, OPENED) {
-        Ok(other) => other,
-        Err(fail) => {
-            drop(over);
-            return Err(fail);
-        }
-    };
-    let seen = match (over.hub.passes(1), other.hub.passes(2)) {
-        (Ok(mut own), Ok(mut foreign)) => {
-            let seen = own.len() == 1
-                && foreign.len() == 2
-                && two_in(alloc, &mut over, &mut own[0], &mut foreign[1]);
-            drop(own);
+// The same with the second pass of this other hub.
+fn two_beside(alloc: Global, over: &mut Over, pass: &mut Pass, other: &mut Over) -> bool {
+    match other.hub.passes(2) {
+        Ok(mut foreign) => {
+            let seen = foreign.len() == 2 && two_in(alloc, over, pass, &mut foreign[1]);
             drop(foreign);
             seen
         }
-        (own, foreign) => {
-            drop(own);
-            drop(foreign);
+        Err(error) => {
+            drop(error);
             false
         }
-    };
-    drop(over);
-    drop(other);
-    Ok(seen)
+    }
+}
+
+// The same with a pass of its own.
+fn two_of(alloc: Global, over: &mut Over, other: &mut Over) -> bool {
+    match over.hub.passes(1) {
+        Ok(mut own) => {
+            let seen = own.len() == 1 && two_beside(alloc, over, &mut own[0], other);
+            drop(own);
+            seen
+        }
+        Err(error) => {
+            drop(error);
+            false
+        }
+    }
+}
+
+// What is seen of a hub with a pass of its own and the second of another one.
+fn two(alloc: Global) -> Outcome<bool> {
+    let mut over = opened(alloc, TWO)?;
+    match opened(alloc, OPENED) {
+        Ok(mut other) => {
+            let seen = two_of(alloc, &mut over, &mut other);
+            drop(over);
+            drop(other);
+            Ok(seen)
+        }
+        Err(fail) => {
+            drop(over);
+            Err(fail)
+        }
+    }
 }
 
 #[test]

@@ -28,9 +28,8 @@ fn digit(byte: u8) -> Option<u8> {
     }
 }
 
-// The octets of a text in hexadecimal.
-fn octets(alloc: Global, text: &str) -> Outcome<Vec<u8>> {
-    let mut bytes = Vec::new(alloc);
+// The octets of a text in hexadecimal go last.
+fn push_octets(bytes: &mut Vec<u8>, text: &str) -> Outcome<()> {
     let mut high: Option<u8> = None;
     for byte in text.as_bytes() {
         if let Some(value) = digit(*byte) {
@@ -43,7 +42,19 @@ fn octets(alloc: Global, text: &str) -> Outcome<Vec<u8>> {
             }
         }
     }
-    Ok(bytes)
+    Ok(())
+}
+
+// The octets of a text in hexadecimal.
+fn octets(alloc: Global, text: &str) -> Outcome<Vec<u8>> {
+    let mut bytes = Vec::new(alloc);
+    match push_octets(&mut bytes, text) {
+        Ok(()) => Ok(bytes),
+        Err(fail) => {
+            drop(bytes);
+            Err(fail)
+        }
+    }
 }
 
 // ---- scripts
@@ -76,6 +87,7 @@ fn push_bytes(alloc: Global, steps: &mut Vec<Given>, text: &str) -> Outcome<()>
 {
     let bytes = octets(alloc, text)?;
     if bytes.is_empty() || bytes.len() > 4096 {
+        drop(bytes);
         return Err("no piece")?;
     }
     let payload = Payload::from_vec(bytes);
@@ -128,17 +140,40 @@ fn hub_over(alloc: Global, port: &mut MemoryPort, uri: &AMQPUri) -> Outcome<Hub>
     Ok(Hub::new(alloc, engine, port)?)
 }
 
+// The same over a port that plays a script, and the port.
+fn hub_and_port(alloc: Global, script: &[Happens], uri: &AMQPUri) -> Outcome<(Hub, MemoryPort)> {
+    let mut port = port(alloc, script)?;
+    match hub_over(alloc, &mut port, uri) {
+        Ok(hub) => Ok((hub, port)),
+        Err(fail) => {
+            drop(port);
+            Err(fail)
+        }
+    }
+}
+
+// The same with who answers as the user of the address.
+fn hub_at(alloc: Global, script: &[Happens], uri: &AMQPUri) -> Outcome<Over> {
+    let provider = DefaultAuthProvider::new(alloc, uri)?;
+    match hub_and_port(alloc, script, uri) {
+        Ok((hub, port)) => Ok(Over {
+            hub,
+            port,
+            provider,
+        }),
+        Err(fail) => {
+            drop(provider);
+            Err(fail)
+        }
+    }
+}
+
 /// A new hub, over a port that plays this script.
 pub fn hub_that_plays(alloc: Global, script: &[Happens]) -> Outcome<Over> {
     let uri = AMQPUri::local(alloc)?;
-    let provider = DefaultAuthProvider::new(alloc, &uri)?;
-    let mut port = port(alloc, script)?;
-    let hub = hub_over(alloc, &mut port, &uri)?;
-    Ok(Over {
-        hub,
-        port,
-        provider,
-    })
+    let over = hub_at(alloc, script, &uri);
+    drop(uri);
+    over
 }
 
 // How many bytes a step has.

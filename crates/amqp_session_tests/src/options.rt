@@ -111,17 +111,65 @@ fn a_capacity_is_known_beforehand(rt: HostRuntime) -> Outcome<()> {
     Ok(())
 }
 
+// A provider and a locale.
+fn settled(alloc: Global) -> Result<ConnectionProperties<HandedProvider<bool>>, NoMemory> {
+    let octets = Vec::from_slice(alloc, b"de_DE")?;
+    match ConnectionProperties::new(alloc) {
+        Ok(options) => {
+            let options = options.with_auth_provider(false);
+            Ok(options.with_locale(ShortString::from_vec(octets)))
+        }
+        Err(e) => {
+            drop(octets);
+            Err(e)
+        }
+    }
+}
+
+fn pair(alloc: Global, name: &[u8], value: &[u8]) -> Result<(ShortString, LongString), NoMemory> {
+    let name = short(alloc, name)?;
+    match long(alloc, value) {
+        Ok(value) => Ok((name, value)),
+        Err(e) => {
+            drop(name);
+            Err(e)
+        }
+    }
+}
+
+// One property more.
+fn with_property(
+    alloc: Global,
+    options: ConnectionProperties<HandedProvider<bool>>,
+    name: &[u8],
+    value: &[u8],
+) -> Result<ConnectionProperties<HandedProvider<bool>>, NoMemory> {
+    match pair(alloc, name, value) {
+        Ok((name, value)) => options.with_client_property(name, value),
+        Err(e) => {
+            drop(options);
+            Err(e)
+        }
+    }
+}
+
 // Options with all settings, and a provider in the place of another.
 fn named(alloc: Global) -> Result<ConnectionProperties<HandedProvider<u64>>, NoMemory> {
-    let options = ConnectionProperties::new(alloc)?
-        .with_auth_provider(false)
-        .with_locale(ShortString::from_vec(Vec::from_slice(alloc, b"de_DE")?))
-        .with_client_property(short(alloc, b"product")?, long(alloc, b"mine")?)?
-        .with_client_property(short(alloc, b"version")?, long(alloc, b"1")?)?
-        .with_client_property(short(alloc, b"platform")?, long(alloc, b"c")?)?
-        .with_client_property(short(alloc, b"capabilities")?, long(alloc, b"none")?)?
-        .with_connection_name(alloc, long(alloc, b"orders")?)?;
-    Ok(options.with_auth_provider(7))
+    let options = settled(alloc)?;
+    let options = with_property(alloc, options, b"product", b"mine")?;
+    let options = with_property(alloc, options, b"version", b"1")?;
+    let options = with_property(alloc, options, b"platform", b"c")?;
+    let options = with_property(alloc, options, b"capabilities", b"none")?;
+    match long(alloc, b"orders") {
+        Ok(name) => {
+            let options = options.with_connection_name(alloc, name)?;
+            Ok(options.with_auth_provider(7))
+        }
+        Err(e) => {
+            drop(options);
+            Err(e)
+        }
+    }
 }
 
 fn short(alloc: Global, content: &[u8]) -> Result<ShortString, NoMemory> {

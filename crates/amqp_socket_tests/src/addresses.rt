@@ -17,16 +17,19 @@ fn literals_and_localhost_have_one(rt: HostRuntime) -> Result<(), Fail> {
     Ok(())
 }
 
+/// Hosts that are no literal of an address, nor `localhost`.
+const OTHERS: &[&str] = &[
+    "LOCALHOST",
+    "broker.example",
+    "",
+    "[::1",
+    "127.0.0",
+    "[127.0.0.1",
+];
+
 #[test]
 fn other_names_have_none(rt: HostRuntime) -> Result<(), Fail> {
-    for host in [
-        "LOCALHOST",
-        "broker.example",
-        "",
-        "[::1",
-        "127.0.0",
-        "[127.0.0.1",
-    ] {
+    for host in OTHERS {
         assert!(rt; address_of(host, 5672).is_none());
     }
     Ok(())

@@ -10,4 +10,6 @@ mod nudges;
 #[cfg(test)]
 mod quiet;
 #[cfg(test)]
+mod seen;
+#[cfg(test)]
 mod times;

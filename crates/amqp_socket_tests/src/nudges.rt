@@ -3,7 +3,7 @@
 use crate::quiet::{ENDS, GOES_ON, QuietSpawner, STANDS, STOPS};
 use amqp_session::ConnectionProperties;
 use amqp_types::ShortString;
-use lapin_connection::{Connection, Pass};
+use lapin_connection::{Channel, Connection, Pass, Pending};
 use mio::{Events, Poll, Token, Waker};
 use std::alloc::Global;
 use std::net::Net;
@@ -16,14 +16,19 @@ use std::time::{Clock, Duration};
 
 type Outcome<T> = Result<T, Fail>;
 
-// What hears nudges.
+// ---- who watches a quiet port
+
+// What hears nudges, and what orders the port. What nudges is held too, since a nudge is lost with the last
+// one who holds it.
 #[derive(Drop)]
-struct Ear {
+struct Watch {
+    waker: Arc<Waker>,
+    orders: Arc<AtomicU64>,
     poll: Poll,
     events: Events,
 }
 
-impl Ear {
+impl Watch {
     // Whether there was a nudge since this was asked last.
     fn hears(&mut self) -> Outcome<bool> {
         self.poll
@@ -36,53 +41,150 @@ impl Ear {
     }
 }
 
-// A connection over a quiet port, what hears its nudges, and what orders the port. What nudges is held too,
-// since a nudge is lost with the last one who holds it.
+// What nudges what is polled.
+fn waker_of(alloc: Global, poll: &Poll) -> Outcome<Arc<Waker>> {
+    let waker = Waker::new(poll.registry(), Token(0))?;
+    Ok(Arc::new(alloc, waker)?)
+}
+
+// The same, and what orders a port to go on.
+fn waker_and_orders(alloc: Global, poll: &Poll) -> Outcome<(Arc<Waker>, Arc<AtomicU64>)> {
+    let waker = waker_of(alloc, poll)?;
+    match Arc::new(alloc, AtomicU64::new(GOES_ON)) {
+        Ok(orders) => Ok((waker, orders)),
+        Err(refused) => {
+            drop(waker);
+            Err(refused.into())
+        }
+    }
+}
+
+// Who watches by these. It takes them.
+fn watch_by(alloc: Global, poll: Poll, events: Events) -> Outcome<Watch> {
+    match waker_and_orders(alloc, &poll) {
+        Ok((waker, orders)) => Ok(Watch {
+            waker,
+            orders,
+            poll,
+            events,
+        }),
+        Err(fail) => {
+            drop(poll);
+            drop(events);
+            Err(fail)
+        }
+    }
+}
+
+// Who watches a port that goes on.
+fn new_watch<R: Net>(rt: &R, alloc: Global) -> Outcome<Watch> {
+    let poll = Poll::new(rt)?;
+    match Events::with_capacity(alloc, 4) {
+        Ok(events) => watch_by(alloc, poll, events),
+        Err(refused) => {
+            drop(poll);
+            Err(refused.into())
+        }
+    }
+}
+
+// ---- connections over a quiet port
+
+// A connection over a quiet port, a pass of it, and who watches the port.
 #[derive(Drop)]
 struct Live {
     connection: Connection,
     pass: Pass,
-    ear: Ear,
-    orders: Arc<AtomicU64>,
-    waker: Arc<Waker>,
+    watch: Watch,
 }
 
-fn begun<R: Net + Threads + Wait + Clock + Copy + Send + Drop + 'static>(
+// Who gives a quiet port that is watched so.
+fn spawner<R: Copy>(rt: R, watch: &Watch) -> Outcome<QuietSpawner<R>> {
+    let nudging = Arc::try_clone(&watch.waker)?;
+    match Arc::try_clone(&watch.orders) {
+        Ok(theirs) => Ok(QuietSpawner::new(rt, nudging, theirs)),
+        Err(refused) => {
+            drop(nudging);
+            Err(refused.into())
+        }
+    }
+}
+
+// A connection by this runtime.
+fn connected_by<R: Threads + Wait + Clock + Copy + Send + Drop + 'static>(
     rt: R,
     alloc: Global,
-) -> Outcome<Live> {
-    let ear = Ear {
-        poll: Poll::new(&rt)?,
-        events: Events::with_capacity(alloc, 4)?,
-    };
-    let waker = Arc::new(alloc, Waker::new(ear.poll.registry(), Token(0))?)?;
-    let orders = Arc::new(alloc, AtomicU64::new(GOES_ON))?;
-    let nudging = Arc::try_clone(&waker)?;
-    let theirs = Arc::try_clone(&orders)?;
-    let mut runtime = QuietSpawner::new(rt, nudging, theirs);
+    runtime: &mut QuietSpawner<R>,
+) -> Outcome<Connection> {
     let options = ConnectionProperties::new(alloc)?;
     let connection = Connection::connect_with_runtime(
         rt,
         alloc,
         "amqp://localhost",
         options,
-        &mut runtime,
+        runtime,
     )?;
-    let pass = connection.pass(&rt)?;
-    Ok(Live {
-        connection,
-        pass,
-        ear,
-        orders,
-        waker,
-    })
+    Ok(connection)
+}
+
+// A connection over a quiet port that is watched so.
+fn connected<R: Threads + Wait + Clock + Copy + Send + Drop + 'static>(
+    rt: R,
+    alloc: Global,
+    watch: &Watch,
+) -> Outcome<Connection> {
+    let mut runtime = spawner(rt, watch)?;
+    let connection = connected_by(rt, alloc, &mut runtime);
+    drop(runtime);
+    connection
+}
+
+// The same with a pass. It takes the connection, and who watches.
+fn with_pass<R: Wait>(rt: &R, connection: Connection, watch: Watch) -> Outcome<Live> {
+    match connection.pass(rt) {
+        Ok(pass) => Ok(Live {
+            connection,
+            pass,
+            watch,
+        }),
+        Err(error) => {
+            drop(connection);
+            drop(watch);
+            Err(error.into())
+        }
+    }
+}
+
+// A connection over a quiet port that goes on, with a pass, and who watches the port.
+fn begun<R: Net + Threads + Wait + Clock + Copy + Send + Drop + 'static>(
+    rt: R,
+    alloc: Global,
+) -> Outcome<Live> {
+    let watch = new_watch(&rt, alloc)?;
+    match connected(rt, alloc, &watch) {
+        Ok(connection) => with_pass(&rt, connection, watch),
+        Err(fail) => {
+            drop(watch);
+            Err(fail)
+        }
+    }
+}
+
+// ---- turns
+
+// How many entries the journal has.
+fn journal_len<R: Wait>(rt: &R, live: &Live) -> Outcome<usize> {
+    let journal = live.connection.journal(rt)?;
+    let len = journal.len();
+    drop(journal);
+    Ok(len)
 }
 
 // The loop has taken a turn since this was called. Each turn is an entry.
 fn turned<R: Wait + Clock>(rt: &R, live: &Live) -> Outcome<bool> {
-    let before = live.connection.journal(rt)?.len();
+    let before = journal_len(rt, live)?;
     for _ in 0..10_000u32 {
-        if live.connection.journal(rt)?.len() > before {
+        if journal_len(rt, live)? > before {
             return Ok(true);
         }
         thread::sleep(rt, Duration::from_millis(1));
@@ -90,51 +192,11 @@ fn turned<R: Wait + Clock>(rt: &R, live: &Live) -> Outcome<bool> {
     Ok(false)
 }
 
-// Whether each of these calls nudges, where a turn was taken since the one before.
-fn calls<R: Wait + Clock>(rt: &R, alloc: Global, live: &mut Live) -> Outcome<bool> {
-    let quiet = !live.ear.hears()?;
-    let opening = live.connection.create_channel(rt, &mut live.pass)?;
-    let opens = live.ear.hears()?;
-    drop(opening);
-    let drops = live.ear.hears()? && turned(rt, live)?;
-    let listener = live.connection.events_listener(rt, &mut live.pass)?;
-    drop(listener);
-    let listens = live.ear.hears()? && turned(rt, live)?;
-    let entries = live.connection.with_hub(rt, |hub| hub.entries());
-    let lends = live.ear.hears()? && entries >= 2 && turned(rt, live)?;
-    let text = ShortString::new(alloc, b"")?;
-    let closing = live.connection.close(rt, &mut live.pass, 200, text)?;
-    drop(closing);
-    let closes = live.ear.hears()?;
-    Ok(quiet && opens && drops && listens && lends && closes && !live.ear.hears()?)
-}
-
-fn each_nudges<R: Net + Threads + Wait + Clock + Copy + Send + Drop + 'static>(
-    rt: R,
-    alloc: Global,
-) -> Outcome<bool> {
-    let mut live = begun(rt, alloc)?;
-    let calls = calls(&rt, alloc, &mut live)?;
-    let Live {
-        connection,
-        pass,
-        mut ear,
-        orders,
-        waker,
-    } = live;
-    drop(pass);
-    drop(connection);
-    let drops = ear.hears()?;
-    orders.store(ENDS, Ordering::SeqCst);
-    drop(waker);
-    Ok(calls && drops)
-}
-
 // The port stands still, so that no turn is taken.
 fn stopped<R: Clock>(rt: &R, live: &Live) -> bool {
-    live.orders.store(STOPS, Ordering::SeqCst);
+    live.watch.orders.store(STOPS, Ordering::SeqCst);
     for _ in 0..10_000u32 {
-        if live.orders.load(Ordering::SeqCst) == STANDS {
+        if live.watch.orders.load(Ordering::SeqCst) == STANDS {
             return true;
         }
         thread::sleep(rt, Duration::from_millis(1));
@@ -142,33 +204,152 @@ fn stopped<R: Clock>(rt: &R, live: &Live) -> bool {
     false
 }
 
-// Whether of the calls between two turns the first alone nudges, beside each drop.
-fn between_turns<R: Wait>(rt: &R, live: &mut Live) -> Outcome<bool> {
-    let quiet = !live.ear.hears()?;
+// ---- calls, each after a turn
+
+// Whether the opening of a channel nudges, and so does the drop of what waits for it.
+fn opening_nudges<R: Wait>(rt: &R, live: &mut Live) -> Outcome<bool> {
     let opening = live.connection.create_channel(rt, &mut live.pass)?;
-    let first = live.ear.hears()?;
-    let listener = live.connection.events_listener(rt, &mut live.pass)?;
-    drop(listener);
-    let second = live.connection.create_channel(rt, &mut live.pass)?;
-    let entries = live.connection.with_hub(rt, |hub| hub.entries());
-    let others = !live.ear.hears()? && entries >= 3;
+    let opens = live.watch.hears();
     drop(opening);
-    let drops = live.ear.hears()?;
-    drop(second);
-    Ok(quiet && first && others && drops && live.ear.hears()?)
+    let opens = opens?;
+    let drops = live.watch.hears()?;
+    Ok(opens && drops)
 }
 
+// A listener comes and goes.
+fn listen<R: Wait>(rt: &R, live: &mut Live) -> Outcome<()> {
+    let listener = live.connection.events_listener(rt, &mut live.pass)?;
+    drop(listener);
+    Ok(())
+}
+
+// Whether a listener that comes and goes nudges.
+fn listening_nudges<R: Wait>(rt: &R, live: &mut Live) -> Outcome<bool> {
+    listen(rt, live)?;
+    live.watch.hears()
+}
+
+// Whether the close of the connection nudges.
+fn closing_nudges<R: Wait>(rt: &R, alloc: Global, live: &mut Live) -> Outcome<bool> {
+    let text = ShortString::new(alloc, b"")?;
+    let closing = live.connection.close(rt, &mut live.pass, 200, text)?;
+    drop(closing);
+    live.watch.hears()
+}
+
+// Whether each of these calls nudges, where a turn was taken since the one before.
+fn calls<R: Wait + Clock>(rt: &R, alloc: Global, live: &mut Live) -> Outcome<bool> {
+    let quiet = !live.watch.hears()?;
+    let opens = opening_nudges(rt, live)? && turned(rt, live)?;
+    let listens = listening_nudges(rt, live)? && turned(rt, live)?;
+    let entries = live.connection.with_hub(rt, |hub| hub.entries());
+    let lends = live.watch.hears()? && entries >= 2 && turned(rt, live)?;
+    let closes = closing_nudges(rt, alloc, live)?;
+    Ok(quiet && opens && listens && lends && closes && !live.watch.hears()?)
+}
+
+// Whether the drop of a connection nudges. Then the port's input ends.
+fn dropping_nudges(live: Live) -> Outcome<bool> {
+    let Live {
+        connection,
+        pass,
+        mut watch,
+    } = live;
+    drop(pass);
+    drop(connection);
+    let drops = watch.hears();
+    watch.orders.store(ENDS, Ordering::SeqCst);
+    drop(watch);
+    drops
+}
+
+// Whether each of the calls nudges, and so does the drop of the connection.
+fn each_nudges<R: Net + Threads + Wait + Clock + Copy + Send + Drop + 'static>(
+    rt: R,
+    alloc: Global,
+) -> Outcome<bool> {
+    let mut live = begun(rt, alloc)?;
+    match calls(&rt, alloc, &mut live) {
+        Ok(calls) => {
+            let drops = dropping_nudges(live)?;
+            Ok(calls && drops)
+        }
+        Err(fail) => {
+            drop(live);
+            Err(fail)
+        }
+    }
+}
+
+// ---- calls between two turns
+
+// Whether the call before nudged. Then a listener comes and goes.
+fn nudged_and_listens<R: Wait>(rt: &R, live: &mut Live) -> Outcome<bool> {
+    let nudged = live.watch.hears()?;
+    listen(rt, live)?;
+    Ok(nudged)
+}
+
+// Whether neither the calls before nor a look at the hub nudged, and the drop of what waits for a channel
+// does. It takes that.
+fn drop_alone_nudges<R: Wait>(rt: &R, live: &mut Live, opening: Pending<Channel>) -> Outcome<bool> {
+    let entries = live.connection.with_hub(rt, |hub| hub.entries());
+    let heard = live.watch.hears();
+    drop(opening);
+    let others = !heard? && entries >= 3;
+    let drops = live.watch.hears()?;
+    Ok(others && drops)
+}
+
+// The same where a second channel is opened before, and the drop of what waits for that nudges once more.
+fn both_drops_nudge<R: Wait>(rt: &R, live: &mut Live, opening: Pending<Channel>) -> Outcome<bool> {
+    match live.connection.create_channel(rt, &mut live.pass) {
+        Ok(second) => {
+            let first = drop_alone_nudges(rt, live, opening);
+            drop(second);
+            Ok(first? && live.watch.hears()?)
+        }
+        Err(error) => {
+            drop(opening);
+            Err(error.into())
+        }
+    }
+}
+
+// Whether of the calls between two turns the first alone nudges, beside each drop.
+fn between_turns<R: Wait>(rt: &R, live: &mut Live) -> Outcome<bool> {
+    let quiet = !live.watch.hears()?;
+    let opening = live.connection.create_channel(rt, &mut live.pass)?;
+    match nudged_and_listens(rt, live) {
+        Ok(first) => {
+            let drops = both_drops_nudge(rt, live, opening)?;
+            Ok(quiet && first && drops)
+        }
+        Err(fail) => {
+            drop(opening);
+            Err(fail)
+        }
+    }
+}
+
+// The same twice, with a turn between. Then the port's input ends.
+fn between_turns_twice<R: Wait + Clock>(rt: &R, live: &mut Live) -> Outcome<bool> {
+    let once = stopped(rt, live) && between_turns(rt, live)?;
+    live.watch.orders.store(GOES_ON, Ordering::SeqCst);
+    let again = turned(rt, live)? && stopped(rt, live) && between_turns(rt, live)?;
+    live.watch.orders.store(ENDS, Ordering::SeqCst);
+    Ok(once && again)
+}
+
+// The same of a new connection.
 fn nudges_by_turns<R: Net + Threads + Wait + Clock + Copy + Send + Drop + 'static>(
     rt: R,
     alloc: Global,
 ) -> Outcome<bool> {
     let mut live = begun(rt, alloc)?;
-    let once = stopped(&rt, &live) && between_turns(&rt, &mut live)?;
-    live.orders.store(GOES_ON, Ordering::SeqCst);
-    let again = turned(&rt, &live)? && stopped(&rt, &live) && between_turns(&rt, &mut live)?;
-    live.orders.store(ENDS, Ordering::SeqCst);
+    let told = between_turns_twice(&rt, &mut live);
     drop(live);
-    Ok(once && again)
+    told
 }
 
 #[test]
@@ -183,6 +364,9 @@ fn a_command_after_a_turn_and_each_drop_nudges(rt: HostRuntime) -> Result<(), Fa
     Ok(())
 }
 
+// ---- the end
+
+// Whether a connection that is let run nudges, where the port's input ends before.
 fn run_nudges<R: Net + Threads + Wait + Clock + Copy + Send + Drop + 'static>(
     rt: R,
     alloc: Global,
@@ -190,15 +374,13 @@ fn run_nudges<R: Net + Threads + Wait + Clock + Copy + Send + Drop + 'static>(
     let Live {
         connection,
         pass,
-        mut ear,
-        orders,
-        waker,
+        mut watch,
     } = begun(rt, alloc)?;
     drop(pass);
-    orders.store(ENDS, Ordering::SeqCst);
+    watch.orders.store(ENDS, Ordering::SeqCst);
     drop(connection.run(&rt));
-    let heard = ear.hears();
-    drop(waker);
+    let heard = watch.hears();
+    drop(watch);
     heard
 }
 

@@ -1,6 +1,7 @@
 //! Ticks, room and nudges.
 
-use amqp_engine::{Port, Step, Told, Wrote};
+use crate::seen::{self, Seen};
+use amqp_engine::{Port, Wrote};
 use amqp_socket::MioPort;
 use mio::Waker;
 use std::alloc::Global;
@@ -9,36 +10,74 @@ use std::net::{Net, OpenListener, SocketAddr};
 use std::test::Fail;
 use std::time::{Clock, Duration};
 
-// A link of both ends, and what ends the wait of the port.
+// The next step.
+fn next<R: Net + Clock + Drop>(port: &mut MioPort<R>) -> Seen {
+    let mut space = [0; 4096];
+    seen::next(port, &mut space)
+}
+
+// Takes steps until there is a link.
+fn wait_for_a_link<R: Net + Clock + Drop>(port: &mut MioPort<R>) {
+    for _ in 0..100 {
+        if next(port) == Seen::Linked {
+            return;
+        }
+    }
+}
+
+// Takes steps until time has passed.
+fn wait_for_a_tick<R: Net + Clock + Drop>(port: &mut MioPort<R>) {
+    for _ in 0..100 {
+        if next(port) == Seen::Tick {
+            return;
+        }
+    }
+}
+
+// A link to a listener of both ends, and what ends the wait of the port.
+fn linked_to<R: Net + Clock + Copy + Drop>(
+    rt: R,
+    alloc: Global,
+    listener: &R::Listener,
+) -> io::Result<(R::Stream, MioPort<R>, Waker)> {
+    let address = listener.local_addr()?;
+    let (mut port, waker) = MioPort::new(rt, alloc, Some(address))?;
+    port.connect();
+    wait_for_a_link(&mut port);
+    match listener.accept() {
+        Ok((peer, _address)) => Ok((peer, port, waker)),
+        Err(why) => {
+            drop(port);
+            drop(waker);
+            Err(why)
+        }
+    }
+}
+
+// The same, with a listener that is then let go.
 fn linked<R: Net + Clock + Copy + Drop>(
     rt: R,
     alloc: Global,
 ) -> io::Result<(R::Stream, MioPort<R>, Waker)> {
     let listener = rt.bind(SocketAddr::from(([127, 0, 0, 1], 0)))?;
-    let address = listener.local_addr()?;
-    let (mut port, waker) = MioPort::new(rt, alloc, Some(address))?;
-    port.connect();
-    let mut space = [0; 4096];
-    for _ in 0..100 {
-        let Told { step, .. } = port.next(&mut space);
-        if step == Step::Linked {
-            break;
-        }
-    }
-    let (peer, _address) = listener.accept()?;
-    Ok((peer, port, waker))
+    let linked = linked_to(rt, alloc, &listener);
+    drop(listener);
+    linked
 }
 
+// ---- ticks
+
 // How many ticks come in two seconds in which the server always has something to say.
-fn ticks<R: Net + Clock + Copy + Drop>(rt: R, alloc: Global) -> io::Result<u32> {
-    let (mut peer, mut port, _waker) = linked(rt, alloc)?;
-    let mut space = [0; 4096];
+fn ticks_of<R: Net + Clock + Drop, S: Write>(
+    rt: &R,
+    port: &mut MioPort<R>,
+    peer: &mut S,
+) -> io::Result<u32> {
     let mut ticks: u32 = 0;
     let begin = rt.monotonic()?.as_millis();
     for _ in 0..10_000_000 {
         peer.write_all(b"x")?;
-        let Told { step, .. } = port.next(&mut space);
-        if step == Step::Tick {
+        if next(port) == Seen::Tick {
             ticks = ticks.saturating_add(1);
         }
         if rt.monotonic()?.as_millis() > begin.saturating_add(2000) {
@@ -48,6 +87,16 @@ fn ticks<R: Net + Clock + Copy + Drop>(rt: R, alloc: Global) -> io::Result<u32> 
     Ok(ticks)
 }
 
+// The same over a new link.
+fn ticks<R: Net + Clock + Copy + Drop>(rt: R, alloc: Global) -> io::Result<u32> {
+    let (mut peer, mut port, waker) = linked(rt, alloc)?;
+    let ticks = ticks_of(&rt, &mut port, &mut peer);
+    drop(waker);
+    drop(port);
+    drop(peer);
+    ticks
+}
+
 #[test]
 fn time_passes_while_a_server_talks(rt: HostRuntime) -> Result<(), Fail> {
     let ticks = ticks(rt, rt.alloc())?;
@@ -55,32 +104,29 @@ fn time_passes_while_a_server_talks(rt: HostRuntime) -> Result<(), Fail> {
     Ok(())
 }
 
-// The next step.
-fn next<R: Net + Clock + Drop>(port: &mut MioPort<R>) -> Step {
-    let mut space = [0; 4096];
-    let Told { step, .. } = port.next(&mut space);
-    step
-}
-
-// Takes steps until time has passed.
-fn wait_for_a_tick<R: Net + Clock + Drop>(port: &mut MioPort<R>) {
-    for _ in 0..100 {
-        if next(port) == Step::Tick {
-            return;
-        }
-    }
-}
-
 // Where nothing was asked for longer than a tick takes, what was received meanwhile goes before the tick,
 // and one step of it alone.
-fn is_heard_first<R: Net + Clock + Copy + Drop>(rt: R, alloc: Global) -> io::Result<bool> {
-    let (mut peer, mut port, _waker) = linked(rt, alloc)?;
-    wait_for_a_tick(&mut port);
+fn hears_first<R: Net + Clock + Drop, S: Write>(
+    rt: &R,
+    port: &mut MioPort<R>,
+    peer: &mut S,
+) -> io::Result<bool> {
+    wait_for_a_tick(port);
     peer.write_all(&[7; 5000])?;
     rt.sleep(Duration::from_millis(1200));
-    let heard = next(&mut port) == Step::Piece(4096);
-    let ticks = next(&mut port) == Step::Tick;
-    Ok(heard && ticks && next(&mut port) == Step::Piece(904))
+    let heard = next(port) == Seen::Piece(4096);
+    let ticks = next(port) == Seen::Tick;
+    Ok(heard && ticks && next(port) == Seen::Piece(904))
+}
+
+// The same over a new link.
+fn is_heard_first<R: Net + Clock + Copy + Drop>(rt: R, alloc: Global) -> io::Result<bool> {
+    let (mut peer, mut port, waker) = linked(rt, alloc)?;
+    let told = hears_first(&rt, &mut port, &mut peer);
+    drop(waker);
+    drop(port);
+    drop(peer);
+    told
 }
 
 #[test]
@@ -91,19 +137,32 @@ fn what_was_received_goes_before_a_late_tick(rt: HostRuntime) -> Result<(), Fail
 
 // Where the turn of each step takes longer than a tick, what was received goes before the tick again, but
 // four steps at most.
-fn is_heard_again<R: Net + Clock + Copy + Drop>(rt: R, alloc: Global) -> io::Result<bool> {
-    let (mut peer, mut port, _waker) = linked(rt, alloc)?;
-    wait_for_a_tick(&mut port);
+fn hears_again<R: Net + Clock + Drop, S: Write>(
+    rt: &R,
+    port: &mut MioPort<R>,
+    peer: &mut S,
+) -> io::Result<bool> {
+    wait_for_a_tick(port);
     peer.write_all(&[7; 20_480])?;
     for _ in 0..4 {
         rt.sleep(Duration::from_millis(600));
-        if next(&mut port) != Step::Piece(4096) {
+        if next(port) != Seen::Piece(4096) {
             return Ok(false);
         }
     }
     rt.sleep(Duration::from_millis(600));
-    let ticks = next(&mut port) == Step::Tick;
-    Ok(ticks && next(&mut port) == Step::Piece(4096))
+    let ticks = next(port) == Seen::Tick;
+    Ok(ticks && next(port) == Seen::Piece(4096))
+}
+
+// The same over a new link.
+fn is_heard_again<R: Net + Clock + Copy + Drop>(rt: R, alloc: Global) -> io::Result<bool> {
+    let (mut peer, mut port, waker) = linked(rt, alloc)?;
+    let told = hears_again(&rt, &mut port, &mut peer);
+    drop(waker);
+    drop(port);
+    drop(peer);
+    told
 }
 
 #[test]
@@ -111,6 +170,8 @@ fn what_was_received_goes_first_while_turns_are_late(rt: HostRuntime) -> Result<
     assert!(rt; is_heard_again(rt, rt.alloc())?);
     Ok(())
 }
+
+// ---- room
 
 // Writes until a part is taken: how many octets were.
 fn fill<R: Net + Clock + Drop>(port: &mut MioPort<R>) -> usize {
@@ -147,21 +208,38 @@ fn read_all<S: Read>(peer: &mut S, octets: usize) -> io::Result<()> {
     Ok(())
 }
 
-// Whether a write of which a part was taken is followed by room, once the server has read, and before the
-// next tick.
-fn has_room_again<R: Net + Clock + Copy + Drop>(rt: R, alloc: Global) -> io::Result<bool> {
-    let (mut peer, mut port, _waker) = linked(rt, alloc)?;
-    let taken = fill(&mut port);
-    read_all(&mut peer, taken)?;
+// Whether room comes next, after one tick at most.
+fn room_comes<R: Net + Clock + Drop>(port: &mut MioPort<R>) -> bool {
     let mut ticks: u32 = 0;
     for _ in 0..10 {
-        match next(&mut port) {
-            Step::Room => return Ok(ticks <= 1),
-            Step::Tick => ticks = ticks.saturating_add(1),
-            _ => return Ok(false),
+        match next(port) {
+            Seen::Room => return ticks <= 1,
+            Seen::Tick => ticks = ticks.saturating_add(1),
+            _ => return false,
         }
     }
-    Ok(false)
+    false
+}
+
+// Whether a write of which a part was taken is followed by room, once the server has read, and before the
+// next tick.
+fn room_follows<R: Net + Clock + Drop, S: Read>(
+    port: &mut MioPort<R>,
+    peer: &mut S,
+) -> io::Result<bool> {
+    let taken = fill(port);
+    read_all(peer, taken)?;
+    Ok(room_comes(port))
+}
+
+// The same over a new link.
+fn has_room_again<R: Net + Clock + Copy + Drop>(rt: R, alloc: Global) -> io::Result<bool> {
+    let (mut peer, mut port, waker) = linked(rt, alloc)?;
+    let told = room_follows(&mut port, &mut peer);
+    drop(waker);
+    drop(port);
+    drop(peer);
+    told
 }
 
 #[test]
@@ -172,20 +250,34 @@ fn there_is_room_after_a_part_was_taken(rt: HostRuntime) -> Result<(), Fail> {
 
 // Where a nudge, room and octets came together, the nudge is a tick; and where the turn of that tick takes
 // longer than a tick, what was received goes before the next, and room after it.
-fn is_heard_before_room<R: Net + Clock + Copy + Drop>(rt: R, alloc: Global) -> io::Result<bool> {
-    let (mut peer, mut port, waker) = linked(rt, alloc)?;
-    wait_for_a_tick(&mut port);
-    let taken = fill(&mut port);
-    read_all(&mut peer, taken)?;
+fn hears_before_room<R: Net + Clock + Drop, S: Read + Write>(
+    rt: &R,
+    port: &mut MioPort<R>,
+    peer: &mut S,
+    waker: &Waker,
+) -> io::Result<bool> {
+    wait_for_a_tick(port);
+    let taken = fill(port);
+    read_all(peer, taken)?;
     peer.write_all(&[7; 5000])?;
     rt.sleep(Duration::from_millis(20));
     waker.wake()?;
-    let nudged = next(&mut port) == Step::Tick;
+    let nudged = next(port) == Seen::Tick;
     rt.sleep(Duration::from_millis(1200));
-    let heard = next(&mut port) == Step::Piece(4096);
-    let ticks = next(&mut port) == Step::Tick;
-    let room = next(&mut port) == Step::Room;
-    Ok(nudged && heard && ticks && room && next(&mut port) == Step::Piece(904))
+    let heard = next(port) == Seen::Piece(4096);
+    let ticks = next(port) == Seen::Tick;
+    let room = next(port) == Seen::Room;
+    Ok(nudged && heard && ticks && room && next(port) == Seen::Piece(904))
+}
+
+// The same over a new link.
+fn is_heard_before_room<R: Net + Clock + Copy + Drop>(rt: R, alloc: Global) -> io::Result<bool> {
+    let (mut peer, mut port, waker) = linked(rt, alloc)?;
+    let told = hears_before_room(&rt, &mut port, &mut peer, &waker);
+    drop(waker);
+    drop(port);
+    drop(peer);
+    told
 }
 
 #[test]
@@ -194,14 +286,28 @@ fn what_was_received_goes_before_room_and_a_late_tick(rt: HostRuntime) -> Result
     Ok(())
 }
 
+// ---- nudges
+
 // A nudge ends a wait at once.
-fn is_nudged<R: Net + Clock + Copy + Drop>(rt: R, alloc: Global) -> io::Result<bool> {
-    let (_peer, mut port, waker) = linked(rt, alloc)?;
+fn nudge_ends_wait<R: Net + Clock + Drop>(
+    port: &mut MioPort<R>,
+    waker: &Waker,
+) -> io::Result<bool> {
     let mut space = [0; 4096];
-    let Told { at: before, .. } = port.next(&mut space);
+    let (before, _step) = seen::next_at(port, &mut space);
     waker.wake()?;
-    let Told { at, step } = port.next(&mut space);
-    Ok(step == Step::Tick && at.saturating_sub(before) < 400)
+    let (at, step) = seen::next_at(port, &mut space);
+    Ok(step == Seen::Tick && at.saturating_sub(before) < 400)
+}
+
+// The same over a new link.
+fn is_nudged<R: Net + Clock + Copy + Drop>(rt: R, alloc: Global) -> io::Result<bool> {
+    let (peer, mut port, waker) = linked(rt, alloc)?;
+    let told = nudge_ends_wait(&mut port, &waker);
+    drop(waker);
+    drop(port);
+    drop(peer);
+    told
 }
 
 #[test]
