@@ -1,4 +1,4 @@
-/* The work of amqp_publish with rabbitmq-c: publishes each line of standard input with confirms, at most 1,000 without
+/* The work of `amqp publish` with rabbitmq-c: publishes each line of standard input with confirms, at most 1,000 without
  * an answer.
  *
  *     apt-get install librabbitmq-dev

@@ -11,10 +11,6 @@ use std::random::RandomSource;
 use std::sync::Wait;
 use std::thread::Threads;
 
-/// After how many entries the journal of the connection begins anew. An entry holds the message that is
-/// published, or up to 4,096 octets that came.
-const SETTLES_AFTER: u64 = 1_000;
-
 /// A connection with one channel, who commands it, and what it tells.
 #[derive(Drop)]
 pub struct Client {
@@ -59,8 +55,7 @@ impl Client {
         let options = options(alloc, recovers)?;
         let mut builder = ConnectionBuilder::new_with_runtime(runtime)
             .with_uri(uri)
-            .with_properties(options)
-            .settling_after(SETTLES_AFTER);
+            .with_properties(options);
         let connection = builder.connect(rt, alloc)?;
         drop(builder);
         connection.opened()?.wait(&rt)?;

@@ -1,4 +1,4 @@
-//! What a program at a broker does that has one connection with one channel: it opens both, sends methods, hears
+//! What the program at a broker does that has one connection with one channel: it opens both, sends methods, hears
 //! what comes, tells how far it is, and says why it went no further.
 #![tactic(auto)]
 

@@ -9,41 +9,12 @@ ghost use Rattle.amqp_engine.specs.Plan.{IsGivenPiece, ArePieces};
 use amqp_engine::{Given, GivenStep, MemoryPort, ScriptedPort};
 use amqp_session::{Cmd, Error};
 use amqp_types::{Payload, ShortString};
-use amqp_vectors::{CLOSE_OK, OPEN_OK, START, TUNE};
+use amqp_vectors::{CLOSE_OK, OPEN_OK, START, TUNE, octets_of, push_octets};
 use std::alloc::Global;
 use std::test::Fail;
 
 /// What a test answers, and what it is made of.
 pub type Outcome<T> = Result<T, Fail>;
-
-// ---- octets
-
-// The value of a hexadecimal digit; nothing for a blank or a line feed.
-fn digit(byte: u8) -> Option<u8> {
-    match byte {
-        b'0'..=b'9' => Some(byte - b'0'),
-        b'a'..=b'f' => Some(byte - b'a' + 10),
-        _ => None,
-    }
-}
-
-// The octets of a text in hexadecimal.
-fn octets(alloc: Global, text: &str) -> Outcome<Vec<u8>> {
-    let mut bytes = Vec::new(alloc);
-    let mut high: Option<u8> = None;
-    for byte in text.as_bytes() {
-        if let Some(value) = digit(*byte) {
-            match high {
-                None => high = Some(value),
-                Some(first) => {
-                    bytes.push((first & 15) << 4 | (value & 15))?;
-                    high = None;
-                }
-            }
-        }
-    }
-    Ok(bytes)
-}
 
 // ---- scripts
 
@@ -140,7 +111,7 @@ fn push_bytes(alloc: Global, steps: &mut Vec<Given>, text: &str) -> Outcome<()>
     requires { ArePieces steps.old.items }
     ensures { ArePieces steps.new.items }
 {
-    let bytes = octets(alloc, text)?;
+    let bytes = octets_of(alloc, text)?;
     push_piece(alloc, steps, &bytes)
 }
 
@@ -148,7 +119,7 @@ fn push_each_byte(alloc: Global, steps: &mut Vec<Given>, text: &str) -> Outcome<
     requires { ArePieces steps.old.items }
     ensures { ArePieces steps.new.items }
 {
-    let bytes = octets(alloc, text)?;
+    let bytes = octets_of(alloc, text)?;
     push_each(alloc, steps, &bytes)
 }
 
@@ -214,8 +185,7 @@ pub fn took_on(
     }
     let mut expected: Vec<u8> = Vec::new(alloc);
     for frame in frames {
-        let bytes = octets(alloc, frame)?;
-        expected.extend_from_slice(&bytes)?;
+        push_octets(&mut expected, frame)?;
     }
     Ok(port.link(place) == expected.as_slice())
 }

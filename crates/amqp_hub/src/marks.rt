@@ -16,10 +16,12 @@ use std::sync::Arc;
 use std::sync::atomic::AtomicU64;
 use std::sync::atomic::Ordering::SeqCst;
 
-// What a dropped handle leaves: whether it was spent.
+// What a dropped handle leaves: whether it was spent, and how many promises had been made once the last thing
+// was sent with it, 0 where none was.
 #[derive(Clone, Copy, Debug, PartialEq, Eq)]
 struct Mark {
     spent: bool,
+    sent: u64,
 }
 
 // What a handle and its place share: the cell of the mark, and the number of the place whose handle was
@@ -36,6 +38,7 @@ pub struct DropMark {
     spot: Arc<Spot>,
     number: u64,
     spent: AtomicU64,
+    sent: AtomicU64,
     mark: Box<Mark>,
 }
 
@@ -44,6 +47,17 @@ impl DropMark {
     /// channels have nothing to spend.
     pub fn spend(&self) {
         self.spent.store(1, SeqCst);
+    }
+
+    /// Something was sent with this handle, by the command whose promise has this number. Marks of answers and
+    /// of connections have nothing to say here.
+    pub fn say_sent(&self, number: u64) {
+        self.sent.store(number.saturating_add(1), SeqCst);
+    }
+
+    /// How many promises had been made once the last thing was sent with this handle, 0 where none was.
+    pub fn sent(&self) -> u64 {
+        self.sent.load(SeqCst)
     }
 }
 
@@ -54,9 +68,11 @@ impl Drop for DropMark {
             spot,
             number,
             spent,
+            sent,
             mut mark,
         } = self;
         mark.spent = spent.into_inner() != 0;
+        mark.sent = sent.into_inner();
         let _ = spot.cell.set(mark);
         say_last(&last, &spot.before, number);
     }
@@ -106,6 +122,13 @@ impl Found {
         ensures { result ≡ self.now.mark.spent }
     {
         self.mark.spent
+    }
+
+    /// How many promises had been made once the last thing was sent with its handle, 0 where none was.
+    pub fn sent(&self) -> u64
+        ensures { result ≡ self.now.mark.sent }
+    {
+        self.mark.sent
     }
 }
 
@@ -178,7 +201,13 @@ impl Places {
         ensures room { OnOk result (vec_len self.new.slots < vec_capacity self.new.slots) }
     {
         self.slots.reserve(1)?;
-        let mark = Box::new(alloc, Mark { spent: false })?;
+        let mark = Box::new(
+            alloc,
+            Mark {
+                spent: false,
+                sent: 0,
+            },
+        )?;
         let here = Arc::new(
             alloc,
             Spot {
@@ -213,6 +242,7 @@ impl Places {
             spot: there,
             number,
             spent: AtomicU64::new(0),
+            sent: AtomicU64::new(0),
             mark,
         }
     }

@@ -3,7 +3,7 @@
 //! An owned enum is let go by `drop`, and never where a scope ends or a `?` returns: there the check
 //! goes through each of its variants, which takes seconds at each such place.
 
-ghost use Rattle.std.specs.Prelude.{IfOk};
+ghost use Rattle.std.specs.Prelude.{◌≤◌, IfOk};
 ghost use Rattle.amqp_engine.specs.Plan.{IsGivenPiece, ArePieces};
 
 use amqp_engine::{Given, GivenStep, IoLoop, MemoryPort, Port, Step};
@@ -11,40 +11,12 @@ use amqp_hub::Hub;
 use amqp_session::{ConnectionProperties, DefaultAuthProvider};
 use amqp_types::Payload;
 use amqp_uri::AMQPUri;
+use amqp_vectors::octets_of;
 use std::alloc::Global;
 use std::test::Fail;
 
 /// What a test answers, and what it is made of.
 pub type Outcome<T> = Result<T, Fail>;
-
-// ---- octets
-
-// The value of a hexadecimal digit; nothing for a blank or a line feed.
-fn digit(byte: u8) -> Option<u8> {
-    match byte {
-        b'0'..=b'9' => Some(byte - b'0'),
-        b'a'..=b'f' => Some(byte - b'a' + 10),
-        _ => None,
-    }
-}
-
-// The octets of a text in hexadecimal.
-fn octets(alloc: Global, text: &str) -> Outcome<Vec<u8>> {
-    let mut bytes = Vec::new(alloc);
-    let mut high: Option<u8> = None;
-    for byte in text.as_bytes() {
-        if let Some(value) = digit(*byte) {
-            match high {
-                None => high = Some(value),
-                Some(first) => {
-                    bytes.push((first & 15) << 4 | (value & 15))?;
-                    high = None;
-                }
-            }
-        }
-    }
-    Ok(bytes)
-}
 
 // ---- scripts
 
@@ -74,8 +46,9 @@ fn push_bytes(alloc: Global, steps: &mut Vec<Given>, text: &str) -> Outcome<()>
     requires { ArePieces steps.old.items }
     ensures { ArePieces steps.new.items }
 {
-    let bytes = octets(alloc, text)?;
+    let bytes = octets_of(alloc, text)?;
     if bytes.is_empty() || bytes.len() > 4096 {
+        drop(bytes);
         return Err("no piece")?;
     }
     let payload = Payload::from_vec(bytes);
@@ -128,17 +101,40 @@ fn hub_over(alloc: Global, port: &mut MemoryPort, uri: &AMQPUri) -> Outcome<Hub>
     Ok(Hub::new(alloc, engine, port)?)
 }
 
+// The same over a port that plays a script, and the port.
+fn hub_and_port(alloc: Global, script: &[Happens], uri: &AMQPUri) -> Outcome<(Hub, MemoryPort)> {
+    let mut port = port(alloc, script)?;
+    match hub_over(alloc, &mut port, uri) {
+        Ok(hub) => Ok((hub, port)),
+        Err(fail) => {
+            drop(port);
+            Err(fail)
+        }
+    }
+}
+
+// The same with who answers as the user of the address.
+fn hub_at(alloc: Global, script: &[Happens], uri: &AMQPUri) -> Outcome<Over> {
+    let provider = DefaultAuthProvider::new(alloc, uri)?;
+    match hub_and_port(alloc, script, uri) {
+        Ok((hub, port)) => Ok(Over {
+            hub,
+            port,
+            provider,
+        }),
+        Err(fail) => {
+            drop(provider);
+            Err(fail)
+        }
+    }
+}
+
 /// A new hub, over a port that plays this script.
 pub fn hub_that_plays(alloc: Global, script: &[Happens]) -> Outcome<Over> {
     let uri = AMQPUri::local(alloc)?;
-    let provider = DefaultAuthProvider::new(alloc, &uri)?;
-    let mut port = port(alloc, script)?;
-    let hub = hub_over(alloc, &mut port, &uri)?;
-    Ok(Over {
-        hub,
-        port,
-        provider,
-    })
+    let over = hub_at(alloc, script, &uri);
+    drop(uri);
+    over
 }
 
 // How many bytes a step has.
@@ -149,21 +145,31 @@ fn piece_len(step: &Step) -> usize {
     }
 }
 
-// Takes one step of the port.
-fn turn(over: &mut Over, space: &mut [u8; 4096]) -> Outcome<()> {
-    let told = over.port.next(space);
+/// Takes one step of the port. Whether the turn was taken.
+pub fn turn(over: &mut Over) -> bool
+    ensures { over.old.hub.engine.talk.made ≤ over.new.hub.engine.talk.made }
+{
+    let mut space = [0; 4096];
+    let told = over.port.next(&mut space);
     let n = piece_len(&told.step).min(4096);
-    Ok(
-        over.hub
-            .apply(told, &space[..n], &mut over.port, &mut over.provider)?,
-    )
+    let taken = over
+        .hub
+        .apply(told, &space[..n], &mut over.port, &mut over.provider);
+    match taken {
+        Ok(()) => true,
+        Err(error) => {
+            drop(error);
+            false
+        }
+    }
 }
 
-/// Takes so many steps of the port.
+/// Takes so many steps of the port, each a turn.
 pub fn turns(over: &mut Over, count: u64) -> Outcome<()> {
-    let mut space = [0; 4096];
     for _ in 0..count {
-        turn(over, &mut space)?;
+        if !turn(over) {
+            return Err("no turn")?;
+        }
     }
     Ok(())
 }

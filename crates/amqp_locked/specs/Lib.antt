@@ -2,6 +2,8 @@
 pub mod UnderLock
 -- how the marks of dropped handles are found, and what is then done
 pub mod Looking
+-- what is known of what was sent on a channel
+pub mod Sending
 -- what a turn does under the lock
 pub mod Turning
 -- what is taken by a poll

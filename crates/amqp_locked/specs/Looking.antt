@@ -1,36 +1,82 @@
 -- How the marks of dropped handles are found, and what is then done about each.
-use Rattle.std.specs.Prelude.{ℕ, if◌then◌else◌, Bool, true, false, List, [], ◌∷◌, ◌++◌, Option, Some, None, set, slice_get, take, drop}
+use Rattle.std.specs.Prelude.{ℕ, zero, suc, ◌-◌, ◌||◌, not, nat_lt, if◌then◌else◌, Bool, true, false, List, [], ◌∷◌, ◌++◌, length, Option, Some, None, set, slice_get, take, drop}
 use Rattle.std.specs.List.{remove}
+use Rattle.amqp_promise.specs.declared.state.ConnectionState.{ConnectionState}
+use Rattle.amqp_promise.specs.declared.state.ConnectionState.TheVariants.{Connected}
+use Rattle.amqp_rules.specs.Talk.{Talk}
 use Rattle.amqp_hub.specs.declared.due.Owner.{Owner}
 use Rattle.amqp_hub.specs.declared.due.Owner.TheVariants as owner
+use Rattle.amqp_hub.specs.declared.marks.Mark.{Mark}
 use Rattle.amqp_hub.specs.Guarded.{Guarded}
 use Rattle.amqp_hub.specs.Due.{due_of}
 use Rattle.amqp_hub.specs.Owning.{owned, is_later}
-use Rattle.amqp_locked.specs.UnderLock.{UnderLock, under_lock}
+use Rattle.amqp_locked.specs.UnderLock.{UnderLock, under_lock, PutOff, with_late}
 
--- ---- finding
+-- ---- meeting marks
 
--- where a mark that was found goes: that of an answer nowhere where it is spent, else to what nobody will take; any
--- other to those that are not done with
-abbrev pub sorted : Bool → Owner → UnderLock → UnderLock
-sorted true (owner.Answer n) l = l
-sorted false (owner.Answer n) l = under_lock l.hub l.places l.found (l.unasked ++ owner.Answer n ∷ []) l.nudged
-sorted spent owner.Connection l = under_lock l.hub l.places (l.found ++ owner.Connection ∷ []) l.unasked l.nudged
-sorted spent (owner.Channel n) l = under_lock l.hub l.places (l.found ++ owner.Channel n ∷ []) l.unasked l.nudged
+-- where a mark goes that a turn of this moment met: that of an answer nowhere where it is spent, else to what nobody
+-- will take; that of a channel to those that are put off; that of the connection to those that are not done with
+abbrev pub sorted : ℕ → Bool → ℕ → Owner → UnderLock → UnderLock
+sorted at true sent (owner.Answer n) l = l
+sorted at false sent (owner.Answer n) l = under_lock l.hub l.places l.found (l.unasked ++ owner.Answer n ∷ []) l.watch
+sorted at spent sent owner.Connection l = under_lock l.hub l.places (l.found ++ owner.Connection ∷ []) l.unasked l.watch
+sorted at spent sent (owner.Channel n) l =
+    with_late (l.watch.late ++ record { owner = owner.Channel n; sent = sent; since = at } ∷ []) l
 
 -- the place is free
 abbrev pub freed : ℕ → UnderLock → UnderLock
-freed i l = under_lock l.hub (set l.places i None) l.found l.unasked l.nudged
+freed i l = under_lock l.hub (set l.places i None) l.found l.unasked l.watch
 
--- the mark at a place was found there, where it is a handle's
-abbrev pub found_at : ℕ → Bool → Option (Option Owner) → UnderLock → UnderLock
-found_at i spent (Some (Some o)) l = sorted spent o (freed i l)
-found_at i spent place l = l
+-- the mark at a place was met there, where it is a handle's
+abbrev pub found_at : ℕ → ℕ → Mark → Option (Option Owner) → UnderLock → UnderLock
+found_at at i m (Some (Some o)) l = sorted at m.spent m.sent o (freed i l)
+found_at at i m place l = l
 
--- marks were found at these places, one after the other; beside each, whether it is spent
-abbrev pub finds : List (ℕ × Bool) → UnderLock → UnderLock
-finds [] l = l
-finds (x ∷ xs) l = finds xs (found_at x.0 x.1 (slice_get l.places x.0) l)
+-- these marks were met at these places, one after the other
+abbrev pub finds : ℕ → List (ℕ × Mark) → UnderLock → UnderLock
+finds at [] l = l
+finds at (x ∷ xs) l = finds at xs (found_at at x.0 x.1 (slice_get l.places x.0) l)
+
+-- ---- finding those that were put off
+
+-- nothing waits to go out of what was sent once so many promises had been made: the session is not open, or since then
+-- there was a moment at which nothing waited
+abbrev pub has_gone_out : ConnectionState → ℕ → ℕ → Bool
+has_gone_out Connected cleared made = not (nat_lt cleared made)
+has_gone_out _ cleared made = true
+
+-- nothing waits to go out of what was sent on the channel of this mark
+abbrev pub is_clear : ConnectionState → ℕ → PutOff → Bool
+is_clear state cleared m = has_gone_out state cleared m.sent
+
+-- then the mark is found; or once it was put off for as long as the limit is
+abbrev pub may_be_found : ℕ → ConnectionState → ℕ → ℕ → PutOff → Bool
+may_be_found at state cleared limit m = is_clear state cleared m || not (nat_lt (at - m.since) limit)
+
+-- the first of those that are put off is found where it may be; else it goes last among them
+abbrev pub released_first : ℕ → List PutOff → UnderLock → UnderLock
+released_first at [] l = l
+released_first at (m ∷ ms) l =
+    if may_be_found at l.hub.engine.talk.state l.watch.cleared l.watch.limit m
+    then under_lock l.hub l.places (l.found ++ m.owner ∷ []) l.unasked (with_late ms l).watch
+    else with_late (ms ++ m ∷ []) l
+
+-- so many of them, one after the other
+abbrev pub released_times : ℕ → ℕ → UnderLock → UnderLock
+released_times zero at l = l
+released_times (suc n) at l =
+    released_first at (released_times n at l).watch.late (released_times n at l)
+
+-- all of them
+abbrev pub released : ℕ → UnderLock → UnderLock
+released at l = released_times (length l.watch.late) at l
+
+-- ---- whether something is due
+
+-- one of these is no longer to be looked at again
+abbrev pub any_due : Talk → List Owner → Bool
+any_due t [] = false
+any_due t (o ∷ os) = not (is_later (due_of t o)) || any_due t os
 
 -- ---- doing what is due
 
@@ -57,8 +103,8 @@ leaving (o ∷ os) h = if stays o os h then leaving os h else leaving os h ++ o 
 abbrev pub acted_on : ℕ → Option Owner → UnderLock → UnderLock
 acted_on n (Some o) l =
     let h : Guarded = owned o l.hub in
-    if is_later (due_of l.hub.engine.talk o) then under_lock h l.places l.found l.unasked l.nudged
-    else under_lock h l.places (remove l.found n) (l.unasked ++ o ∷ []) l.nudged
+    if is_later (due_of l.hub.engine.talk o) then under_lock h l.places l.found l.unasked l.watch
+    else under_lock h l.places (remove l.found n) (l.unasked ++ o ∷ []) l.watch
 acted_on n None l = l
 
 -- the same of the one at a place
@@ -70,4 +116,4 @@ abbrev pub looked_from : ℕ → UnderLock → UnderLock
 looked_from n l =
     let rest : List Owner = drop n l.found in
     under_lock (acted rest l.hub) l.places (take n l.found ++ staying rest l.hub) (l.unasked ++ leaving rest l.hub)
-    l.nudged
+    l.watch

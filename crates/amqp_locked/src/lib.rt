@@ -8,8 +8,10 @@
 #![tactic(auto)]
 
 mod heard;
+mod late;
 mod locked;
 mod polled;
+mod weights;
 
 pub use heard::{Heard, Line, hear};
 pub use locked::Locked;

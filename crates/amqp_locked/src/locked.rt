@@ -11,19 +11,22 @@ ghost use Rattle.amqp_rules.specs.Commands.{promise_of, takes_promise};
 ghost use Rattle.amqp_rules.specs.Queries.{opening};
 ghost use Rattle.amqp_journal.specs.Journal.{WasTaken};
 ghost use Rattle.amqp_hub.specs.Passes.{new_passes, AreNew, foreign, IsForeign};
-ghost use Rattle.amqp_hub.specs.Entering.{called, next_entry, begun_anew, let_go};
+ghost use Rattle.amqp_hub.specs.Entering.{called, next_entry};
 ghost use Rattle.amqp_hub.specs.Marks.{kept_in, StandsAt};
-ghost use Rattle.amqp_locked.specs.UnderLock.{contents, with_hub, with_nudge, with_session, newly_locked};
+ghost use Rattle.amqp_locked.specs.UnderLock.{contents, watched, with_hub, with_nudge, with_limit, with_session, newly_locked};
 ghost use Rattle.amqp_locked.specs.Turning.{TurnsAfterMarks, StarvesAfterMarks};
 ghost use Rattle.amqp_locked.specs.Taking.{answer_given, polled_of};
 ghost use Rattle.amqp_locked.specs.Recovering.{FoundOf};
 
+use self::sending::cleared_after;
 use crate::heard::{Heard, Line};
+use crate::late::Late;
 use crate::polled::{Polled, Taken};
+use crate::weights::Weights;
 use amqp_engine::Port;
 use amqp_hub::{DropMark, Found, Hub, Owner, Pass, Places, Receipt};
 use amqp_promise::{ChannelState, Wakers};
-use amqp_session::{Answer, AuthProvider, ChanRef, Cmd, Error, ErrorKind, Event, Result};
+use amqp_session::{Answer, AuthProvider, ChanRef, Cmd, Error, ErrorKind, Event, Handed, Result};
 use amqp_types::NoMemory;
 use futures::task::{Context, Poll, Source};
 use std::alloc::Global;
@@ -32,6 +35,11 @@ use std::collections::VecDeque;
 mod letting_go;
 mod looking;
 mod reading;
+mod sending;
+mod settling;
+
+// How long the mark of a channel is put off, where nothing else is said.
+const DROP_LIMIT: u64 = 60_000;
 
 /// What lies under the lock of a connection.
 #[derive(Drop)]
@@ -44,8 +52,16 @@ pub struct Locked {
     // what nobody will take, and how much of it came since it was last let go
     unasked: VecDeque<Owner>,
     fresh: usize,
+    // the marks of channels that are put off, and how long one is
+    late: VecDeque<Late>,
+    limit: u64,
+    // how many promises had been made when nothing waited to go out for the last time
+    cleared: u64,
     // whether the loop was nudged since its last turn
     nudged: bool,
+    // what the entries weigh that were looked at, and how many these are
+    weights: Weights,
+    weighed: usize,
     wakers: Wakers,
 }
 
@@ -64,7 +80,12 @@ impl Locked {
                     found: Vec::new(alloc),
                     unasked: VecDeque::new(alloc),
                     fresh: 0,
+                    late: VecDeque::new(alloc),
+                    limit: DROP_LIMIT,
+                    cleared: 0,
                     nudged: false,
+                    weights: Weights::none(),
+                    weighed: 0,
                     wakers: Wakers::new(alloc),
                 },
                 mark,
@@ -73,6 +94,16 @@ impl Locked {
                 drop(hub);
                 Err(refused.into())
             }
+        }
+    }
+
+    /// The same, which puts off the mark of a channel for so many milliseconds.
+    pub fn with_drop_limit(self, milliseconds: u64) -> Locked
+        ensures { contents result ≡ with_limit milliseconds (contents self) }
+    {
+        Locked {
+            limit: milliseconds,
+            ..self
         }
     }
 
@@ -110,7 +141,7 @@ impl Locked {
         ensures place { IfOk result (λ r. StandsAt r.2.number (Owner.Answer r.0) (contents self.old).places
             (contents self.new).places) }
         ensures rest { (self.new.found ≡ self.old.found) × (self.new.unasked ≡ self.old.unasked)
-            × (self.new.nudged ≡ self.old.nudged) }
+            × (watched self.new ≡ watched self.old) }
         ensures made { OnOk result (pass.new.made ≡ pass.old.made + 1) }
         ensures number { pass.new.number ≡ pass.old.number }
         ensures promise { IfOk result (λ r. Some r.0 ≡ promise_of cmd self.old.hub.engine.talk) }
@@ -155,7 +186,7 @@ impl Locked {
         ensures place { IfOk result (λ r. StandsAt r.2.number (Owner.Channel r.0) (contents self.old).places
             (contents self.new).places) }
         ensures rest { (self.new.found ≡ self.old.found) × (self.new.unasked ≡ self.old.unasked)
-            × (self.new.nudged ≡ self.old.nudged) }
+            × (watched self.new ≡ watched self.old) }
         ensures made { OnOk result (pass.new.made ≡ pass.old.made + 1) }
         ensures number { pass.new.number ≡ pass.old.number }
         ensures promise { IfOk result (λ r. Some r.0 ≡ promise_of Cmd.OpenChannel self.old.hub.engine.talk) }
@@ -285,8 +316,20 @@ impl Locked {
         ensures taken { contents self.new
             ≡ with_session (take_frames opened self.old.hub.engine.talk) (contents self.old) }
     {
+        Taken::of(opened, self.taken(opened))
+    }
+
+    // Takes these frames, which then wait no more to be taken.
+    fn taken(&mut self, opened: u64) -> Vec<Handed>
+        ensures frames { result.items ≡ frames_of opened self.old.hub.engine.talk }
+        ensures taken { contents self.new
+            ≡ with_session (take_frames opened self.old.hub.engine.talk) (contents self.old) }
+    {
         match self.hub.take_frames(opened) {
-            Ok(frames) => Taken::of(opened, frames),
+            Ok(frames) => {
+                self.weights.take(&frames);
+                frames
+            }
             Err(_) => unreachable!(),
         }
     }
@@ -302,10 +345,7 @@ impl Locked {
         ensures gone { IfSome result (λ t. t.frames.items ≡ []
             → opening opened self.old.hub.engine.talk ≡ None) }
     {
-        let frames = match self.hub.take_frames(opened) {
-            Ok(frames) => frames,
-            Err(_) => unreachable!(),
-        };
+        let frames = self.taken(opened);
         if frames.is_empty() && self.hub.session().opening(opened).is_some() {
             return None;
         }
@@ -380,9 +420,9 @@ impl Locked {
 
     // ---- turns
 
-    /// The marks of handles that were dropped are found, and what is due about each is done; then one turn is
-    /// taken. Where memory is refused, what is still undone of that stays so, the turn is cut, and the
-    /// session has ended.
+    /// The marks of handles that were dropped are met, and that of a channel is put off while something that was
+    /// sent on it may wait to go out; what is due about each that was found is done; then one turn is taken. Where
+    /// memory is refused, what is still undone of that stays so, the turn is cut, and the session has ended.
     pub fn apply<P: Port, A: AuthProvider>(
         &mut self,
         heard: Heard<'_>,
@@ -412,22 +452,14 @@ impl Locked {
     {
         let Heard { told, bytes } = heard;
         self.nudged = false;
-        if let Err(refused) = self.look() {
+        if let Err(refused) = self.look(told.at) {
             self.hub.starve(told);
+            self.cleared = cleared_after(self.hub.session(), self.cleared);
             return Err(refused.into());
         }
-        self.hub.apply(told, bytes, &mut line.port, provider)
-    }
-
-    /// Lets the journal begin anew where the engine stands, and gives how many entries were let go.
-    pub fn settle(&mut self) -> Result<u64>
-        ensures settled { OnOk result (contents self.new
-            ≡ with_hub (begun_anew self.old.hub) (contents self.old)) }
-        ensures let_go { IfOk result (λ n. n ≡ let_go self.old.hub) }
-        ensures err { OnErr result (contents self.new ≡ contents self.old) }
-        ensures only { IfErr result (λ e. e ≡ ErrorKind.NoMemory) }
-    {
-        self.hub.settle()
+        let applied = self.hub.apply(told, bytes, &mut line.port, provider);
+        self.cleared = cleared_after(self.hub.session(), self.cleared);
+        applied
     }
 
     // ---- nudges
@@ -450,7 +482,9 @@ impl Locked {
         ensures given { FnOnceReturnsAtMut F.FnOnce use_hub self.old.hub result self.new.hub }
         ensures rest { contents self.new ≡ with_hub self.new.hub (contents self.old) }
     {
-        use_hub(&mut self.hub)
+        let given = use_hub(&mut self.hub);
+        self.weights.forget();
+        given
     }
 
     /// Wakes each task that waits.

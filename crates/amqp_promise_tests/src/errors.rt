@@ -228,43 +228,11 @@ fn answers(alloc: Global, plain: Plain, asks: &[Ask]) -> Outcome<bool> {
     Ok(told)
 }
 
-// The text of the first row of which something else is true.
-fn first_of_other_answers(alloc: Global) -> Outcome<Option<&'static str>> {
-    for Row(plain, text, asks) in ROWS {
-        if !answers(alloc, *plain, asks)? {
-            return Ok(Some(*text));
-        }
-    }
-    Ok(None)
-}
-
-#[test]
-fn each_kind_answers_what_is_asked_of_it(rt: HostRuntime) -> Outcome<()> {
-    assert_eq!(rt; first_of_other_answers(rt.alloc())?, None);
-    Ok(())
-}
-
 fn shows(alloc: Global, plain: Plain, text: &str) -> Outcome<bool> {
     let error = error_of(alloc, plain)?;
     let shown = error.to_string(alloc);
     drop(error);
     Ok(shown?.as_str() == text)
-}
-
-// The text of the first row that has another.
-fn first_of_another_text(alloc: Global) -> Outcome<Option<&'static str>> {
-    for Row(plain, text, _) in ROWS {
-        if !shows(alloc, *plain, text)? {
-            return Ok(Some(*text));
-        }
-    }
-    Ok(None)
-}
-
-#[test]
-fn each_kind_has_its_text(rt: HostRuntime) -> Outcome<()> {
-    assert_eq!(rt; first_of_another_text(rt.alloc())?, None);
-    Ok(())
 }
 
 // Whether the copy of an error is equal to it. It takes the error.
@@ -276,22 +244,6 @@ fn is_copied(alloc: Global, error: Error) -> bool {
             false
         }
     }
-}
-
-// The text of the first row whose copy is another.
-fn first_of_another_copy(alloc: Global) -> Outcome<Option<&'static str>> {
-    for Row(plain, text, _) in ROWS {
-        if !is_copied(alloc, error_of(alloc, *plain)?) {
-            return Ok(Some(*text));
-        }
-    }
-    Ok(None)
-}
-
-#[test]
-fn copies_are_equal(rt: HostRuntime) -> Outcome<()> {
-    assert_eq!(rt; first_of_another_copy(rt.alloc())?, None);
-    Ok(())
 }
 
 // Whether the errors of two kinds are equal.
@@ -316,19 +268,31 @@ fn is_equal_to_its_own(alloc: Global, plain: Plain, text: &str) -> Outcome<bool>
     Ok(true)
 }
 
-// The text of the first row that is equal to another, or not to itself.
-fn first_of_no_own(alloc: Global) -> Outcome<Option<&'static str>> {
-    for Row(plain, text, _) in ROWS {
-        if !is_equal_to_its_own(alloc, *plain, text)? {
-            return Ok(Some(*text));
+// Whether of an error all is true that its row says, and no more is; it has its text, an equal copy, and
+// is equal to the error of no other row.
+fn holds(alloc: Global, row: &Row) -> Outcome<bool> {
+    let Row(plain, text, asks) = row;
+    Ok(
+        answers(alloc, *plain, asks)?
+            && shows(alloc, *plain, text)?
+            && is_copied(alloc, error_of(alloc, *plain)?)
+            && is_equal_to_its_own(alloc, *plain, text)?,
+    )
+}
+
+// The text of the first row that does not hold.
+fn first_broken(alloc: Global) -> Outcome<Option<&'static str>> {
+    for row in ROWS {
+        if !holds(alloc, row)? {
+            return Ok(Some(row.1));
         }
     }
     Ok(None)
 }
 
 #[test]
-fn each_row_is_equal_to_itself_alone(rt: HostRuntime) -> Outcome<()> {
-    assert_eq!(rt; first_of_no_own(rt.alloc())?, None);
+fn each_row_holds(rt: HostRuntime) -> Outcome<()> {
+    assert_eq!(rt; first_broken(rt.alloc())?, None);
     Ok(())
 }
 

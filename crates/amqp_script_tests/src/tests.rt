@@ -6,6 +6,7 @@ mod computed;
 mod ends;
 mod generating;
 mod handed;
+mod joined;
 mod limits;
 mod lines;
 mod memory;

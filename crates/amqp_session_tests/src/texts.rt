@@ -1,6 +1,6 @@
 //! The texts of errors, and copies.
 
-use crate::support::{Outcome, shows};
+use crate::support::Outcome;
 use amqp_session::{ChannelState, Cmd, ConnectionState, Error, ErrorKind, IoFault};
 use amqp_types::{AMQPError, ShortString, Text, Word};
 use std::alloc::Global;
@@ -63,6 +63,13 @@ const TEXTS: &[(Plain, &str)] = &[
         "failure during authentication: no token",
     ),
 ];
+
+// Whether an error has this text. It takes the error.
+fn shows(alloc: Global, error: Error, text: &str) -> Outcome<bool> {
+    let shown = error.to_string(alloc);
+    drop(error);
+    Ok(shown?.as_str() == text)
+}
 
 fn have_their_texts<A: Abort>(
     rt: &A,

@@ -2,11 +2,21 @@
 use Rattle.std.specs.Prelude.{◌≡◌, ◌<◌, ◌^◌, ◌||◌, ℕ, Bool, true, false, List, [], ◌∷◌, Option, Some, None, codes, if◌then◌else◌}
 use Rattle.std.specs.Str.{bytes_eq}
 use Rattle.std.specs.Str.Parse.{IsNumeral, digits_value}
+use Rattle.amqp_tools.specs.declared.wanted.Job.{Job}
+use Rattle.amqp_tools.specs.declared.wanted.Job.TheVariants.{Publish, Consume}
 
 -- `--help`, `-h`
 abbrev pub wants_help : List (List ℕ) → Bool
 wants_help (word ∷ []) = bytes_eq word (codes "--help") || bytes_eq word (codes "-h")
 wants_help _ = false
+
+-- `publish` or `consume`, and the words behind it
+abbrev pub job_by : List (List ℕ) → Option (Job × List (List ℕ))
+job_by [] = None
+job_by (first ∷ rest) =
+    if bytes_eq first (codes "publish") then Some (Publish, rest)
+    else if bytes_eq first (codes "consume") then Some (Consume, rest)
+    else None
 
 -- an address, an exchange and a routing key; and whether who publishes goes on over a lost link
 abbrev pub publishing_words : Bool → List (List ℕ) → Option (List ℕ × (List ℕ × (List ℕ × Bool)))

@@ -1,4 +1,4 @@
-//! What two programs at a broker know beside their connection: what their words ask for, which publishes the
+//! What a program at a broker knows beside its connection: what its words ask for, which publishes the
 //! broker has not answered, what its methods tell, and the message that arrives.
 #![tactic(auto)]
 
@@ -11,4 +11,6 @@ mod wanted;
 pub use arriving::{Arriving, Stage};
 pub use confirms::{Confirms, each_is_answered_or_not};
 pub use heard::{Heard, told_by};
-pub use wanted::{Consuming, Publishing, consuming_of, count_of, publishing_of, wants_help};
+pub use wanted::{
+    Consuming, Job, Publishing, consuming_of, count_of, job_of, publishing_of, wants_help,
+};

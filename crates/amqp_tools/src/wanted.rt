@@ -2,9 +2,18 @@
 
 ghost use Rattle.std.specs.Prelude.{◌≡◌, option_map};
 ghost use Rattle.std.specs.Str.{bytes_eq};
-ghost use Rattle.amqp_tools.specs.Wanted.{wants_help, publishing_by, publishing_words, consuming_by, consuming_words, IsCount};
+ghost use Rattle.amqp_tools.specs.Wanted.{wants_help, job_by, publishing_by, publishing_words, consuming_by, consuming_words, IsCount};
 
 use amqp_types::Text;
+
+/// What the first word asks for.
+#[derive(Clone, Copy, Debug, PartialEq, Eq)]
+pub enum Job {
+    /// `publish`: what is read is published.
+    Publish,
+    /// `consume`: what is delivered is printed.
+    Consume,
+}
 
 /// What a program that publishes is told.
 #[derive(Clone, Copy)]
@@ -41,6 +50,17 @@ pub fn wants_help(words: &[Text]) -> bool
     match words {
         [word] => is(word, b"--help") || is(word, b"-h"),
         _ => false,
+    }
+}
+
+/// What the first word asks for, and the words behind it.
+pub fn job_of(words: &[Text]) -> Option<(Job, &[Text])>
+    ensures { option_map (λ p. (p.0, p.1.now)) result ≡ job_by words.now }
+{
+    match words {
+        [first, rest @ ..] if is(first, b"publish") => Some((Job::Publish, rest)),
+        [first, rest @ ..] if is(first, b"consume") => Some((Job::Consume, rest)),
+        _ => None,
     }
 }
 

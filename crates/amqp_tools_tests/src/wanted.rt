@@ -3,7 +3,6 @@
 use amqp_tools::{consuming_of, count_of, publishing_of, wants_help};
 use amqp_types::{NoMemory, Text};
 use std::alloc::Global;
-use std::test::Fail;
 
 // The texts that words are.
 fn texts(alloc: Global, words: &[&str]) -> Result<Vec<Text>, NoMemory> {
@@ -26,26 +25,71 @@ fn are_known(alloc: Global, words: &[&str]) -> Result<(bool, bool), NoMemory> {
     ))
 }
 
-#[test]
-fn words_are_known(rt: HostRuntime) -> Result<(), Fail> {
-    let alloc = rt.alloc();
-    assert!(rt; are_known(alloc, &[])? == (false, false));
-    assert!(rt; are_known(alloc, &["uri"])? == (false, false));
-    assert!(rt; are_known(alloc, &["uri", "q"])? == (false, true));
-    assert!(rt; are_known(alloc, &["uri", "q", "7"])? == (true, true));
-    assert!(rt; are_known(alloc, &["--recover", "uri", "q", "7"])? == (true, true));
-    assert!(rt; are_known(alloc, &["uri", "q", "7", "--recover"])? == (false, false));
-    Ok(())
+/// Words, and whether who publishes and who consumes knows them.
+const WORDS: &[(&[&str], bool, bool)] = &[
+    (&[], false, false),
+    (&["uri"], false, false),
+    (&["uri", "q"], false, true),
+    (&["uri", "q", "7"], true, true),
+    (&["--recover", "uri", "q", "7"], true, true),
+    (&["uri", "q", "7", "--recover"], false, false),
+];
+
+// The place of the first words of which that is not so.
+fn first_other(alloc: Global) -> Result<Option<usize>, NoMemory> {
+    for (place, (words, publishing, consuming)) in WORDS.iter().enumerate() {
+        if are_known(alloc, words)? != (*publishing, *consuming) {
+            return Ok(Some(place));
+        }
+    }
+    Ok(None)
 }
 
 #[test]
-fn help_and_counts_are_words(rt: HostRuntime) -> Result<(), Fail> {
-    assert!(rt; wants_help(&texts(rt.alloc(), &["--help"])?));
-    assert!(rt; !wants_help(&texts(rt.alloc(), &["--help", "more"])?));
-    assert!(rt; count_of("018446744073709551615") == Some(u64::MAX));
-    assert!(rt; count_of("18446744073709551616") == None);
-    assert!(rt; count_of("") == None);
-    assert!(rt; count_of("-1") == None);
-    assert!(rt; count_of("+1") == None);
+fn words_are_known(rt: HostRuntime) -> Result<(), NoMemory> {
+    assert!(rt; first_other(rt.alloc())? == None);
+    Ok(())
+}
+
+// Whether words ask for help.
+fn ask_for_help(alloc: Global, words: &[&str]) -> Result<bool, NoMemory> {
+    let words = texts(alloc, words)?;
+    Ok(wants_help(&words))
+}
+
+const HELP: &[(&[&str], bool)] = &[(&["--help"], true), (&["--help", "more"], false)];
+
+const COUNTS: &[(&str, Option<u64>)] = &[
+    ("018446744073709551615", Some(u64::MAX)),
+    ("18446744073709551616", None),
+    ("", None),
+    ("-1", None),
+    ("+1", None),
+];
+
+// Whether words ask for help where they should.
+fn is_help_known(alloc: Global) -> Result<bool, NoMemory> {
+    for (words, help) in HELP {
+        if ask_for_help(alloc, words)? != *help {
+            return Ok(false);
+        }
+    }
+    Ok(true)
+}
+
+// The first word that is another count.
+fn first_other_count() -> Option<&'static str> {
+    for (word, count) in COUNTS {
+        if count_of(word) != *count {
+            return Some(*word);
+        }
+    }
+    None
+}
+
+#[test]
+fn help_and_counts_are_words(rt: HostRuntime) -> Result<(), NoMemory> {
+    assert!(rt; is_help_known(rt.alloc())?);
+    assert!(rt; first_other_count() == None);
     Ok(())
 }

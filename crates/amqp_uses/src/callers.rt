@@ -29,7 +29,7 @@ pub fn connected<S: Spawner, R: Threads + Wait + Copy + Send + 'static>(
     Ok(connection)
 }
 
-/// The same, for a connection that is to last: its journal begins anew once it has 10,000 entries.
+/// The same, for a connection that is to last: its journal begins anew once 64 KiB were entered.
 pub fn lasting<S: Spawner + Drop, R: Threads + Wait + Copy + Send + 'static>(
     rt: R,
     alloc: Global,
@@ -38,7 +38,7 @@ pub fn lasting<S: Spawner + Drop, R: Threads + Wait + Copy + Send + 'static>(
 ) -> Result<Connection> {
     let mut builder = ConnectionBuilder::new_with_runtime(runtime)
         .with_uri_str(uri)
-        .settling_after(10_000);
+        .settling_after(65_536);
     let connection = builder.connect(rt, alloc)?;
     drop(builder);
     let opened = connection.opened()?;

@@ -30,6 +30,3 @@ pub use pooling::{Begun, Finished, Sending, begin_message, finish_message};
 pub use port::{Held, converse};
 pub use table::{table_with, text_in};
 pub use wire::{frame_in, octets_of};
-
-#[cfg(test)]
-mod tests;

@@ -2,10 +2,14 @@
 //!
 //! Each is a text in hexadecimal, field by field: the type, the channel, the size, the payload, the
 //! end. Blanks and line feeds are for reading only. A frame of a channel has the channel's number
-//! last in its name. `octets` has those that this client says as octets.
+//! last in its name. `octets` has those that this client says as octets, and `octets_of` makes octets
+//! of a text.
 #![tactic(auto)]
 
+mod decoding;
 pub mod octets;
+
+pub use decoding::{octets_of, push_octets};
 
 // ---- the header and the handshake
 

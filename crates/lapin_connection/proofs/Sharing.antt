@@ -9,6 +9,8 @@ use Rattle.amqp_promise.proofs.wakers.Wakers.TheSendSync.{the_send as wakers}
 use Rattle.amqp_hub.proofs.marks.Places.TheSendSync.{the_field_send as places_field}
 use Rattle.amqp_hub.proofs.marks.Found.TheSendSync.{the_send as found}
 use Rattle.amqp_hub.proofs.due.Owner.TheSendSync.{the_send as owner}
+use Rattle.amqp_locked.proofs.late.Late.TheSendSync.{the_send as late}
+use Rattle.amqp_locked.proofs.weights.Weights.TheSendSync.{the_field_send as weights_field}
 use Rattle.amqp_locked.specs.contracts.locked.Locked.{the_row as locked_row}
 use Rattle.lapin_connection.proofs.nudge.Nudge.TheSendSync.{the_field_send as nudge_field, the_field_sync as nudge_sync}
 use Rattle.lapin_connection.specs.contracts.shared.Shared.{the_row as shared_row}
@@ -16,7 +18,7 @@ use Rattle.lapin_connection.proofs.Sendable.{hub}
 
 -- what lies under the lock
 pub locked : IsSend locked_row
-locked = search (sendable, global_field, hub, places_field, found, owner, wakers, crosses) depth 20
+locked = search (sendable, global_field, hub, places_field, found, owner, late, weights_field, wakers, crosses) depth 20
 
 -- what is shared, from one thread to another
 pub shared_send : IsSend shared_row

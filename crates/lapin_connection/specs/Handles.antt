@@ -34,6 +34,6 @@ module _ {T : Type 0} where
 abbrev pub reference_of : Channel → ChanRef
 reference_of c = record { id = c.id; opened = Some c.opened }
 
--- after how many entries the journal of a connection begins anew, if it does by itself
+-- once how many octets were entered the journal of a connection begins anew, if it does by itself
 abbrev pub settling_of : Connection → Option ℕ
 settling_of c = (arc_value c.shared).settles_after

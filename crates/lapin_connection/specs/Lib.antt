@@ -6,6 +6,10 @@ pub mod Handles
 pub mod Commands
 -- what is made of the answer to a promise
 pub mod Giving
+-- what waiting until all is sent answers
+pub mod Sending
+-- what a port is shown of its session
+pub mod Shown
 -- what a channel tells of its state
 pub mod Telling
 -- how connecting is answered

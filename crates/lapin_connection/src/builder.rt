@@ -10,6 +10,7 @@ use crate::connect::connect_to;
 use crate::connection::Connection;
 use crate::errors::error_of_address;
 use crate::spawner::Spawner;
+use crate::upkeep::Upkeep;
 use amqp_session::{ConnectionProperties, ErrorKind, IoFault, ProviderChoice, Result};
 use amqp_types::Word;
 use amqp_uri::AMQPUri;
@@ -25,7 +26,7 @@ pub struct ConnectionBuilder<S, C = ()> {
     runtime: S,
     uri: Address,
     properties: Option<ConnectionProperties<C>>,
-    settles_after: Option<u64>,
+    upkeep: Upkeep,
 }
 
 // What was given as an address.
@@ -37,15 +38,20 @@ enum Address {
 }
 
 impl<S> ConnectionBuilder<S> {
-    /// Nothing but a runtime.
+    /// Nothing but a runtime. The connection settles by itself, each time that 1 MiB was entered at least.
     pub fn new_with_runtime(runtime: S) -> ConnectionBuilder<S>
-        ensures { result ≡ record { runtime = runtime; uri = Address.Unset; properties = None; settles_after = None } }
+        ensures { result ≡ record {
+          runtime = runtime;
+          uri = Address.Unset;
+          properties = None;
+          upkeep = record { settles_after = Some 1048576; drop_limit = 60000 };
+        } }
     {
         ConnectionBuilder {
             runtime,
             uri: Address::Unset,
             properties: None,
-            settles_after: None,
+            upkeep: Upkeep::settling(),
         }
     }
 }
@@ -75,26 +81,53 @@ impl<S: Drop, C: Drop> ConnectionBuilder<S, C> {
     pub fn with_properties<D>(self, properties: ConnectionProperties<D>) -> ConnectionBuilder<S, D>
         ensures properties { result.properties ≡ Some properties }
         ensures rest { (result.runtime ≡ self.runtime) × (result.uri ≡ self.uri)
-            × (result.settles_after ≡ self.settles_after) }
+            × (result.upkeep ≡ self.upkeep) }
     {
         drop(self.properties);
         ConnectionBuilder {
             runtime: self.runtime,
             uri: self.uri,
             properties: Some(properties),
-            settles_after: self.settles_after,
+            upkeep: self.upkeep,
         }
     }
 
-    /// The same, and the connection settles by itself: once its journal has so many entries, it begins
-    /// anew. Without that, it keeps all that happens to it.
-    pub fn settling_after(self, entries: u64) -> ConnectionBuilder<S, C>
-        ensures { result ≡ record self { settles_after = Some entries } }
+    /// The same, and the connection settles by itself: once the entries of its journal have so many octets, and
+    /// about as many as the state of its engine holds, it begins anew.
+    pub fn settling_after(self, octets: u64) -> ConnectionBuilder<S, C>
+        ensures { result ≡ record self { upkeep = record self.upkeep { settles_after = Some octets } } }
     {
-        ConnectionBuilder {
-            settles_after: Some(entries),
-            ..self
-        }
+        self.with_upkeep_settling(Some(octets))
+    }
+
+    /// The same, and the connection keeps all that happens to it.
+    pub fn keeping_the_journal(self) -> ConnectionBuilder<S, C>
+        ensures { result ≡ record self { upkeep = record self.upkeep { settles_after = None } } }
+    {
+        self.with_upkeep_settling(None)
+    }
+
+    // The same, which settles after so many octets, if it does by itself.
+    fn with_upkeep_settling(self, settles_after: Option<u64>) -> ConnectionBuilder<S, C>
+        ensures { result ≡ record self { upkeep = record self.upkeep { settles_after = settles_after } } }
+    {
+        let upkeep = Upkeep {
+            settles_after,
+            drop_limit: self.upkeep.drop_limit,
+        };
+        ConnectionBuilder { upkeep, ..self }
+    }
+
+    /// The same, and a channel that was dropped is closed after so many milliseconds at the latest, whatever was
+    /// sent on it and still waits to go out; without that, after a minute.
+    pub fn with_drop_limit(self, milliseconds: u64) -> ConnectionBuilder<S, C>
+        ensures { result ≡ record self { upkeep = record self.upkeep { drop_limit = milliseconds } } }
+    {
+        let upkeep = Upkeep {
+            settles_after: self.upkeep.settles_after,
+            drop_limit: milliseconds,
+        };
+        ConnectionBuilder { upkeep, ..self }
     }
 }
 
@@ -133,13 +166,13 @@ where
         alloc: Global,
     ) -> Result<Connection>
         requires { IfSome self.old.properties (λ p. C.can p.choice) }
-        ensures settles { IfOk result (λ c. settling_of c ≡ self.old.settles_after) }
+        ensures settles { IfOk result (λ c. settling_of c ≡ self.old.upkeep.settles_after) }
         ensures count { S.refusals self.old.runtime ≤ S.refusals self.new.runtime }
         ensures refused { Builds self.old.uri (S.refusals self.old.runtime) (S.refusals self.new.runtime) result }
         ensures started { OnOk result (Rose (S.loops self.old.runtime) (S.loops self.new.runtime)) }
         ensures untouched { (self.old.uri ≡ Address.Unset) → self.new.runtime ≡ self.old.runtime }
         ensures used { (self.new.uri ≡ Address.Unset) × (self.new.properties ≡ None) }
-        ensures settles_after { self.new.settles_after ≡ self.old.settles_after }
+        ensures upkeep { self.new.upkeep ≡ self.old.upkeep }
     {
         let address = mem::replace(&mut self.uri, Address::Unset);
         let properties = self.properties.take();
@@ -162,18 +195,18 @@ where
         properties: Option<ConnectionProperties<C>>,
     ) -> Result<Connection>
         requires { IfSome properties (λ p. C.can p.choice) }
-        ensures settles { IfOk result (λ c. settling_of c ≡ self.old.settles_after) }
+        ensures settles { IfOk result (λ c. settling_of c ≡ self.old.upkeep.settles_after) }
         ensures count { S.refusals self.old.runtime ≤ S.refusals self.new.runtime }
         ensures refused { Connects (S.refusals self.old.runtime) (S.refusals self.new.runtime) result }
         ensures started { OnOk result (Rose (S.loops self.old.runtime) (S.loops self.new.runtime)) }
         ensures rest { self.new ≡ record self.old { runtime = self.new.runtime } }
     {
-        let settles_after = self.settles_after;
+        let upkeep = self.upkeep;
         match properties {
-            Some(options) => connect_to(rt, alloc, uri, options, settles_after, &mut self.runtime),
+            Some(options) => connect_to(rt, alloc, uri, options, upkeep, &mut self.runtime),
             None => {
                 let options = ConnectionProperties::new(alloc)?;
-                connect_to(rt, alloc, uri, options, settles_after, &mut self.runtime)
+                connect_to(rt, alloc, uri, options, upkeep, &mut self.runtime)
             }
         }
     }

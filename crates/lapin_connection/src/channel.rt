@@ -17,8 +17,8 @@ use amqp_session::{ChanRef, Cmd, Error, ErrorKind, Handed, Properties, Result};
 use amqp_types::{ChannelId, NoMemory, Payload, ReplyCode, ShortString};
 use std::sync::{Arc, Wait};
 
-/// A channel. Any number of threads share it by reference. Where it is dropped, it is closed, and what it
-/// was handed is let go.
+/// A channel. Any number of threads share it by reference. Where it is dropped, it is closed once what was sent on it
+/// has gone out, and what it was handed is let go.
 pub struct Channel {
     pub(crate) shared: Arc<Shared>,
     id: ChannelId,
@@ -96,7 +96,7 @@ impl Channel {
     }
 
     // Its number, with the promise that opened it.
-    fn name(&self) -> ChanRef
+    pub(crate) fn name(&self) -> ChanRef
         ensures { result ≡ reference_of self.now }
     {
         ChanRef {
@@ -123,7 +123,25 @@ impl Channel {
         ensures receipt { IfOk result (λ p. HasReceipt pass.new cmd (Some p.number) p.receipt) }
         ensures one_connection { IfOk result (λ p. pending_source p ≡ channel_source self.now) }
     {
-        crate::connection::tell(rt, &self.shared, pass, cmd)
+        crate::connection::tell(rt, &self.shared, pass, cmd, None)
+    }
+
+    // Enters a command that sends something, whose answer is to come.
+    fn send<R: Wait>(&self, rt: &R, pass: &mut Pass, cmd: Cmd) -> Result<Pending<()>>
+        requires { takes_promise cmd ≡ true }
+        ensures made { OnOk result (pass.new.made ≡ pass.old.made + 1) }
+        ensures number { pass.new.number ≡ pass.old.number }
+        ensures same { OnErr result (pass.new ≡ pass.old) }
+        ensures refused { Refuses pass.old result }
+        ensures receipt { IfOk result (λ p. HasReceipt pass.new cmd (Some p.number) p.receipt) }
+        ensures one_connection { IfOk result (λ p. pending_source p ≡ channel_source self.now) }
+    {
+        crate::connection::tell(rt, &self.shared, pass, cmd, Some(&self.mark))
+    }
+
+    // How many promises had been made once the last thing was sent on it, 0 where none was.
+    pub(crate) fn sent_made(&self) -> u64 {
+        self.mark.sent()
     }
 
     /// Closes it, with a reply code and a text.
@@ -182,7 +200,7 @@ impl Channel {
             (Send (reference_of self.now) method) (Some p.number) p.receipt) }
         ensures one_connection { IfOk result (λ p. pending_source p ≡ channel_source self.now) }
     {
-        self.tell(rt, pass, Cmd::Send(self.name(), method))
+        self.send(rt, pass, Cmd::Send(self.name(), method))
     }
 
     /// Publishes with a method: the properties of the content header, and the body. The answer is that all
@@ -203,7 +221,7 @@ impl Channel {
             (Publish (reference_of self.now) method properties body) (Some p.number) p.receipt) }
         ensures one_connection { IfOk result (λ p. pending_source p ≡ channel_source self.now) }
     {
-        self.tell(
+        self.send(
             rt,
             pass,
             Cmd::Publish(self.name(), method, properties, body),

@@ -14,6 +14,7 @@ use crate::errors::{error_of_address, error_of_start};
 use crate::live::{LoopJob, start_thread};
 use crate::nudge::Nudge;
 use crate::spawner::Spawner;
+use crate::upkeep::Upkeep;
 use amqp_engine::{IoLoop, Port};
 use amqp_hub::Hub;
 use amqp_session::{AuthProvider, ConnectionProperties, ErrorKind, ProviderChoice, Result};
@@ -44,14 +45,14 @@ fn over<P: Port>(
     options: ConnectionProperties,
     port: &mut P,
     nudge: Nudge,
-    settles_after: Option<u64>,
+    upkeep: Upkeep,
 ) -> Result<Connection>
-    ensures settles { IfOk result (λ c. settling_of c ≡ settles_after) }
+    ensures settles { IfOk result (λ c. settling_of c ≡ upkeep.settles_after) }
     ensures only { IfErr result (λ e. e ≡ ErrorKind.NoMemory) }
     ensures faults { P.faults port.old ≤ P.faults port.new }
 {
     let hub = hub_over(alloc, uri, options, port)?;
-    Connection::over(alloc, hub, nudge, settles_after)
+    Connection::over(alloc, hub, nudge, upkeep)
 }
 
 // Connects, with a provider that answers the server.
@@ -61,11 +62,11 @@ fn start<S: Spawner, A: AuthProvider + 'static, R: Threads + Wait + Copy + Send 
     uri: &AMQPUri,
     options: ConnectionProperties,
     provider: A,
-    settles_after: Option<u64>,
+    upkeep: Upkeep,
     spawner: &mut S,
 ) -> Result<Connection>
     requires { A.can provider }
-    ensures settles { IfOk result (λ c. settling_of c ≡ settles_after) }
+    ensures settles { IfOk result (λ c. settling_of c ≡ upkeep.settles_after) }
     ensures count { S.refusals spawner.old ≤ S.refusals spawner.new }
     ensures refused { Connects (S.refusals spawner.old) (S.refusals spawner.new) result }
     ensures started { OnOk result (Rose (S.loops spawner.old) (S.loops spawner.new)) }
@@ -74,7 +75,7 @@ fn start<S: Spawner, A: AuthProvider + 'static, R: Threads + Wait + Copy + Send 
         Ok(both) => both,
         Err(fault) => return Err(error_of_start(fault).into()),
     };
-    let connection = over(alloc, uri, options, &mut port, nudge, settles_after)?;
+    let connection = over(alloc, uri, options, &mut port, nudge, upkeep)?;
     let shared = connection.share()?;
     let job = LoopJob::new(alloc, port, provider, shared)?;
     match spawner.spawn(
@@ -90,27 +91,27 @@ fn start<S: Spawner, A: AuthProvider + 'static, R: Threads + Wait + Copy + Send 
     }
 }
 
-// Connects to an address, and settles by itself after so many entries, if that is said.
+// Connects to an address, and does by itself what is said.
 pub(crate) fn connect_to<C, S: Spawner, R: Threads + Wait + Copy + Send + 'static>(
     rt: R,
     alloc: Global,
     uri: &AMQPUri,
     options: ConnectionProperties<C>,
-    settles_after: Option<u64>,
+    upkeep: Upkeep,
     runtime: &mut S,
 ) -> Result<Connection>
 where
     C: ProviderChoice,
     C::Provider: 'static,
     requires { C.can options.choice }
-    ensures settles { IfOk result (λ c. settling_of c ≡ settles_after) }
+    ensures settles { IfOk result (λ c. settling_of c ≡ upkeep.settles_after) }
     ensures count { S.refusals runtime.old ≤ S.refusals runtime.new }
     ensures refused { Connects (S.refusals runtime.old) (S.refusals runtime.new) result }
     ensures started { OnOk result (Rose (S.loops runtime.old) (S.loops runtime.new)) }
 {
     let (options, choice) = options.into_parts();
     match choice.provider(alloc, uri) {
-        Ok(provider) => start(rt, alloc, uri, options, provider, settles_after, runtime),
+        Ok(provider) => start(rt, alloc, uri, options, provider, upkeep, runtime),
         Err(refused) => {
             drop(options);
             Err(refused.into())
@@ -144,7 +145,7 @@ impl Connection {
         ensures untouched { (f : Fault) → U.known uri ≡ Err f → runtime.new ≡ runtime.old }
     {
         match uri.address(alloc) {
-            Ok(uri) => connect_to(rt, alloc, &uri, options, None, runtime),
+            Ok(uri) => connect_to(rt, alloc, &uri, options, Upkeep::keeping(), runtime),
             Err(fault) => {
                 drop(options);
                 Err(error_of_address(fault).into())
@@ -169,7 +170,7 @@ impl Connection {
         ensures refused { Connects (S.refusals runtime.old) (S.refusals runtime.new) result }
         ensures started { OnOk result (Rose (S.loops runtime.old) (S.loops runtime.new)) }
     {
-        connect_to(rt, alloc, &uri, options, None, runtime)
+        connect_to(rt, alloc, &uri, options, Upkeep::keeping(), runtime)
     }
 
     /// The same, with its arguments in another order.
@@ -189,7 +190,7 @@ impl Connection {
         ensures refused { Connects (S.refusals runtime.old) (S.refusals runtime.new) result }
         ensures started { OnOk result (Rose (S.loops runtime.old) (S.loops runtime.new)) }
     {
-        connect_to(rt, alloc, &uri, options, None, runtime)
+        connect_to(rt, alloc, &uri, options, Upkeep::keeping(), runtime)
     }
 }
 

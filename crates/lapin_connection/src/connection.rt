@@ -17,6 +17,7 @@ use crate::nudge::Nudge;
 use crate::pending::{Gives, Pending};
 use crate::shared::Shared;
 use crate::status::ConnectionStatus;
+use crate::upkeep::Upkeep;
 use amqp_hub::{Base, DropMark, Entry, Hub, Pass, Tally};
 use amqp_locked::Locked;
 use amqp_session::{Cmd, Configuration, ErrorKind, Result};
@@ -27,7 +28,7 @@ use std::sync::{Arc, Wait};
 /// A connection. Any number of threads share it by reference. Where it is dropped, it is closed once no
 /// channel is listed.
 pub struct Connection {
-    shared: Arc<Shared>,
+    pub(crate) shared: Arc<Shared>,
     mark: DropMark,
 }
 
@@ -41,12 +42,14 @@ impl Drop for Connection {
     }
 }
 
-/// Enters a command, and gives what waits for its answer.
+/// Enters a command, and gives what waits for its answer. Where it sends something, that is said by the mark of its
+/// channel.
 pub fn tell<T: Gives, R: Wait>(
     rt: &R,
     shared: &Arc<Shared>,
     pass: &mut Pass,
     cmd: Cmd,
+    sender: Option<&DropMark>,
 ) -> Result<Pending<T>>
     requires { takes_promise cmd ≡ true }
     ensures made { OnOk result (pass.new.made ≡ pass.old.made + 1) }
@@ -63,7 +66,7 @@ pub fn tell<T: Gives, R: Wait>(
             return Err(ErrorKind::NoMemory.into());
         }
     };
-    match shared.ask(rt, pass, cmd) {
+    match shared.ask(rt, pass, cmd, sender) {
         Ok((number, receipt, mark)) => Ok(Pending::of(
             theirs,
             number,
@@ -80,17 +83,13 @@ pub fn tell<T: Gives, R: Wait>(
 
 impl Connection {
     // A connection of this hub, whose loop is to be started.
-    pub(crate) fn over(
-        alloc: Global,
-        hub: Hub,
-        nudge: Nudge,
-        settles_after: Option<u64>,
-    ) -> Result<Connection>
-        ensures settles { IfOk result (λ c. settling_of c ≡ settles_after) }
+    pub(crate) fn over(alloc: Global, hub: Hub, nudge: Nudge, upkeep: Upkeep) -> Result<Connection>
+        ensures settles { IfOk result (λ c. settling_of c ≡ upkeep.settles_after) }
         ensures only { IfErr result (λ e. e ≡ ErrorKind.NoMemory) }
     {
         let (locked, mark) = Locked::new(alloc, hub)?;
-        let shared = Shared::new(alloc, locked, nudge, settles_after)?;
+        let locked = locked.with_drop_limit(upkeep.drop_limit);
+        let shared = Shared::new(alloc, locked, nudge, upkeep.settles_after)?;
         Ok(Connection { shared, mark })
     }
 
@@ -168,6 +167,7 @@ impl Connection {
             &self.shared,
             pass,
             Cmd::CloseConnection(reply_code, reply_text),
+            None,
         )
     }
 
@@ -192,6 +192,7 @@ impl Connection {
             &self.shared,
             pass,
             Cmd::UpdateSecret(new_secret, reason),
+            None,
         )
     }
 

@@ -6,10 +6,12 @@ ghost use Rattle.futures.specs.Poll.{OnPending, IfReady};
 ghost use Rattle.lapin_connection.specs.Handles.{channel_source};
 
 use crate::channel::Channel;
+use crate::patience::Patience;
 use amqp_session::{ErrorKind, Handed, Result};
 use futures::Future;
 use futures::task::{Context, Poll};
-use std::sync::Wait;
+use std::sync::{CondvarTimeouts, Wait};
+use std::time::{Clock, Duration};
 
 impl Channel {
     /// Sleeps until frames were handed out, and takes them; none once the channel is gone for good.
@@ -22,6 +24,22 @@ impl Channel {
                 return Ok(self.handed(taken));
             }
             guard = self.shared.changed.wait(rt, guard);
+        }
+        unreachable!()
+    }
+
+    /// The same, but no longer than so long: then nothing is told, and frames are waited for as before.
+    pub fn wait_frames_for<R: Wait + Clock>(&self, rt: &R, limit: Duration) -> Option<Vec<Handed>> {
+        let patience = Patience::of(rt, limit);
+        let mut guard = self.shared.locked.lock(rt);
+        for _ in rt.forever() {
+            if let Some(taken) = guard.frames(self.opened) {
+                return Some(self.handed(taken));
+            }
+            let Some(left) = patience.left(rt) else {
+                return None;
+            };
+            guard = self.shared.changed.wait_timeout(rt, guard, left).0;
         }
         unreachable!()
     }

@@ -5,6 +5,7 @@
 //! the lock. A handle that is let go says so to the loop.
 #![tactic(auto)]
 
+mod abandon;
 mod builder;
 mod channel;
 mod connect;
@@ -15,13 +16,17 @@ mod listener;
 mod live;
 mod mio_spawner;
 mod nudge;
+mod patience;
 mod pending;
 mod recovery;
+mod sending;
 mod shared;
 mod spawner;
 mod status;
+mod upkeep;
 
 pub use amqp_hub::{Base, Ended, Entry, Hub, Owner, Pass, Receipt, Tally, Turn};
+pub use amqp_socket::{Cause, Standing, Watch, resolved};
 pub use builder::ConnectionBuilder;
 pub use channel::Channel;
 pub use connect::Connect;
@@ -34,5 +39,6 @@ pub use mio_spawner::MioSpawner;
 pub use nudge::Nudge;
 pub use pending::{Answered, Gives, Pending};
 pub use recovery::{Recovered, Recovery};
+pub use sending::UntilSent;
 pub use spawner::{SpawnFault, Spawner, Started};
 pub use status::{ChannelStatus, ConnectionStatus};

@@ -5,13 +5,15 @@ ghost use Rattle.futures.specs.Task.{Covers, Keeps};
 ghost use Rattle.futures.specs.Poll.{OnPending};
 ghost use Rattle.lapin_connection.specs.Handles.{listener_source};
 
+use crate::patience::Patience;
 use crate::shared::Shared;
 use amqp_hub::Receipt;
 use amqp_session::Event;
 use amqp_types::NoMemory;
 use futures::Future;
 use futures::task::{Context, Poll};
-use std::sync::{Arc, Wait};
+use std::sync::{Arc, CondvarTimeouts, Wait};
+use std::time::{Clock, Duration};
 
 /// A handle on the events of a connection. All listeners share one queue: each event is given once.
 #[derive(Drop)]
@@ -73,6 +75,24 @@ impl EventsListener {
             }
             drop(event);
             guard = self.shared.changed.wait(rt, guard);
+        }
+        unreachable!()
+    }
+
+    /// The same, but no longer than so long: then nothing is told, and events are waited for as before.
+    pub fn wait_for<R: Wait + Clock>(&self, rt: &R, limit: Duration) -> Option<Option<Event>> {
+        let patience = Patience::of(rt, limit);
+        let mut guard = self.shared.locked.lock(rt);
+        for _ in rt.forever() {
+            let event = guard.event();
+            if event.is_some() || guard.session().has_ended() {
+                return Some(event);
+            }
+            drop(event);
+            let Some(left) = patience.left(rt) else {
+                return None;
+            };
+            guard = self.shared.changed.wait_timeout(rt, guard, left).0;
         }
         unreachable!()
     }

@@ -13,6 +13,7 @@ use std::alloc::Global;
 use std::sync::{Arc, Wait};
 use std::thread;
 use std::thread::Threads;
+use std::time::{Clock, Duration};
 
 /// The greatest number of octets of a piece.
 const PIECE: usize = 4096;
@@ -108,5 +109,13 @@ impl ThreadHandle {
     /// waited for, and nothing is done with it. On the thread of the loop it does not return.
     pub fn wait<R: Wait>(&self, rt: &R, _context: &'static str) -> Result<()> {
         self.shared.wait_for_the_end(rt).result()
+    }
+
+    /// The same, but no longer than so long: then nothing is told, and the connection goes on.
+    pub fn wait_for<R: Wait + Clock>(&self, rt: &R, limit: Duration) -> Option<Result<()>> {
+        match self.shared.wait_for_the_end_within(rt, limit) {
+            Some(ended) => Some(ended.result()),
+            None => None,
+        }
     }
 }

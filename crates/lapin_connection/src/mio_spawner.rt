@@ -1,13 +1,13 @@
 //! Sockets and threads of the system.
 
-ghost use Rattle.std.specs.Prelude.{◌≡◌, ◌≤◌, OnOk};
+ghost use Rattle.std.specs.Prelude.{◌≡◌, ◌≤◌, Some, OnOk};
 ghost use Rattle.amqp_types.specs.Counts.{Rose};
 ghost use Rattle.lapin_connection.specs.declared.spawner.SpawnFault.TheVariants as fault;
 ghost use Rattle.lapin_connection.specs.Refusals.{RoseIfRefused};
 
 use crate::nudge::Nudge;
 use crate::spawner::{SpawnFault, Spawner, Started};
-use amqp_socket::{MioPort, address_of};
+use amqp_socket::{Cause, MioPort, Watch, address_of};
 use amqp_types::NoMemory;
 use amqp_uri::AMQPUri;
 use std::alloc::Global;
@@ -21,6 +21,10 @@ use std::time::Clock;
 pub struct MioSpawner<R> {
     rt: R,
     alloc: Global,
+    // for how long a server may be silent, in milliseconds, if that is bounded
+    silence: Option<u64>,
+    // what the last port that was given shares with its session
+    watch: Option<Arc<Watch>>,
     refusals: u64,
     loops: u64,
 }
@@ -33,8 +37,30 @@ impl<R: Net + Clock + Copy + Drop> MioSpawner<R> {
         MioSpawner {
             rt,
             alloc,
+            silence: None,
+            watch: None,
             refusals: 0,
             loops: 0,
+        }
+    }
+
+    /// The same, but a link on which the server is silent for so many milliseconds fails, whatever the session
+    /// waits for. Where heartbeats are agreed, let it be more than twice their interval.
+    pub fn with_silence(self, silence: u64) -> MioSpawner<R>
+        ensures counts { (result.refusals ≡ self.refusals) × (result.loops ≡ self.loops) }
+        ensures silence { result.silence ≡ Some silence }
+    {
+        MioSpawner {
+            silence: Some(silence),
+            ..self
+        }
+    }
+
+    /// Why the last link failed of the last port that was given, as the port says.
+    pub fn cause(&self) -> Cause {
+        match &self.watch {
+            Some(watch) => watch.cause(),
+            None => Cause::Nothing,
         }
     }
 
@@ -51,12 +77,27 @@ impl<R: Net + Clock + Copy + Drop> MioSpawner<R> {
         SpawnFault::Refused
     }
 
-    // A port to this address, and what ends its wait.
-    fn made(&self, uri: &AMQPUri) -> io::Result<(MioPort<R>, Nudge)> {
+    // A port to this address, what ends its wait, and what it shares with its session.
+    fn made(&self, uri: &AMQPUri) -> io::Result<(MioPort<R>, Nudge, Arc<Watch>)> {
+        let watch = Arc::new(self.alloc, Watch::new())?;
+        let theirs = Arc::try_clone(&watch)?;
+        let ours = Arc::try_clone(&watch)?;
         let address = address_of(uri.authority.host.as_str(), uri.authority.port);
         let (port, waker) = MioPort::new(self.rt, self.alloc, address)?;
         let waker = Arc::new(self.alloc, waker)?;
-        Ok((port, Nudge::Mio(waker)))
+        Ok((
+            self.bounded(port.with_watch(theirs)),
+            Nudge::Watched(waker, watch),
+            ours,
+        ))
+    }
+
+    // The same port, with the silence that is bounded.
+    fn bounded(&self, port: MioPort<R>) -> MioPort<R> {
+        match self.silence {
+            Some(silence) => port.with_silence(silence),
+            None => port,
+        }
     }
 }
 
@@ -73,7 +114,10 @@ impl<R: Net + Clock + Copy + Drop + Send + 'static> Spawner for MioSpawner<R> {
         ensures loops { self.new.loops ≡ self.old.loops }
     {
         match self.made(uri) {
-            Ok(both) => Ok(both),
+            Ok((port, nudge, watch)) => {
+                self.watch = Some(watch);
+                Ok((port, nudge))
+            }
             Err(why) => Err(self.refuse(why.kind())),
         }
     }

@@ -10,6 +10,7 @@ ghost use Rattle.lapin_connection.specs.Giving.{done_by, flow_by, channel_by, Na
 ghost use Rattle.lapin_connection.specs.Handles.{pending_source};
 
 use crate::channel::Channel;
+use crate::patience::Patience;
 use crate::shared::Shared;
 use amqp_hub::{DropMark, Receipt};
 use amqp_locked::{Locked, Polled};
@@ -18,7 +19,8 @@ use amqp_types::NoMemory;
 use futures::Future;
 use futures::task::{Context, Poll};
 use std::marker::PhantomData;
-use std::sync::{Arc, Mutex, Wait};
+use std::sync::{Arc, CondvarTimeouts, Mutex, Wait};
+use std::time::{Clock, Duration};
 
 /// What an answer is made into. An answer of another kind than its command's never comes; it would be
 /// given as `NoMemory`.
@@ -210,6 +212,38 @@ impl<T: Gives> Pending<T> {
                 return Ok(polled);
             }
             guard = self.shared.changed.wait(rt, guard);
+        }
+        unreachable!()
+    }
+
+    /// Sleeps until the answer is there, but no longer than so long: then there is none, and it is waited for as
+    /// before.
+    pub fn wait_for<R: Wait + Clock>(&self, rt: &R, limit: Duration) -> Option<Result<T>>
+        ensures { IfSome result (IsGivenBy T.made self.now.number) }
+    {
+        match self.polled_within(rt, limit) {
+            Some(polled) => Some(self.made(rt, polled)),
+            None => None,
+        }
+    }
+
+    // The answer, where it is there before so long has passed.
+    fn polled_within<R: Wait + Clock>(&self, rt: &R, limit: Duration) -> Option<Result<Polled>>
+        ensures { IfSome result (λ r. IfOk r (λ p. NamesPromise self.now.number p.answer)) }
+    {
+        let patience = Patience::of(rt, limit);
+        let mut guard = self.shared.locked.lock(rt);
+        for _ in rt.forever() {
+            if guard.session().has_ended() {
+                return Some(at_the_end(&mut guard, self.number));
+            }
+            if let Some(polled) = guard.poll(self.number) {
+                return Some(Ok(polled));
+            }
+            let Some(left) = patience.left(rt) else {
+                return None;
+            };
+            guard = self.shared.changed.wait_timeout(rt, guard, left).0;
         }
         unreachable!()
     }

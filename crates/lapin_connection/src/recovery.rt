@@ -8,12 +8,14 @@ ghost use Rattle.amqp_locked.specs.Taking.{polled_of};
 ghost use Rattle.amqp_locked.specs.Recovering.{FoundOf, IsToldBy};
 ghost use Rattle.lapin_connection.specs.Handles.{recovery_source};
 
+use crate::patience::Patience;
 use crate::shared::Shared;
 use amqp_session::{ChanRef, Error, Result};
 use amqp_types::NoMemory;
 use futures::Future;
 use futures::task::{Context, Poll};
-use std::sync::{Arc, Wait};
+use std::sync::{Arc, CondvarTimeouts, Wait};
+use std::time::{Clock, Duration};
 
 /// An error, and the channel that may go on after it.
 #[derive(Drop)]
@@ -73,6 +75,25 @@ impl Recovery {
                 return found;
             }
             guard = self.shared.changed.wait(rt, guard);
+        }
+        unreachable!()
+    }
+
+    /// Sleeps until that is known, but no longer than so long: then nothing is told, and it may be asked again.
+    pub fn wait_for<R: Wait + Clock>(&self, rt: &R, limit: Duration) -> Option<Result<()>>
+        ensures found { IfSome result (λ r. (t : Talk) × FoundOf t self.now.channel self.now.error (Some r)) }
+        ensures error { IfSome result (IsToldBy self.now.error) }
+    {
+        let patience = Patience::of(rt, limit);
+        let mut guard = self.shared.locked.lock(rt);
+        for _ in rt.forever() {
+            if let Some(found) = guard.found(self.channel, &self.error) {
+                return Some(found);
+            }
+            let Some(left) = patience.left(rt) else {
+                return None;
+            };
+            guard = self.shared.changed.wait_timeout(rt, guard, left).0;
         }
         unreachable!()
     }

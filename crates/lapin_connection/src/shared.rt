@@ -9,6 +9,7 @@ ghost use Rattle.amqp_hub.specs.Guarded.{Guarded};
 ghost use Rattle.lapin_connection.specs.Commands.{Shows, Refuses};
 
 use crate::nudge::Nudge;
+use crate::patience::Patience;
 use amqp_engine::Port;
 use amqp_hub::{DropMark, Ended, Hub, Pass, Receipt};
 use amqp_locked::{Heard, Line, Locked};
@@ -16,7 +17,8 @@ use amqp_session::{AuthProvider, Cmd, Result};
 use amqp_types::NoMemory;
 use futures::task::Source;
 use std::alloc::Global;
-use std::sync::{Arc, Condvar, Mutex, MutexGuard, Wait};
+use std::sync::{Arc, Condvar, CondvarTimeouts, Mutex, MutexGuard, Wait};
+use std::time::{Clock, Duration};
 
 /// What the handles of a connection share: what lies under the lock, and beside it what wakes those who
 /// wait for it.
@@ -28,13 +30,20 @@ pub struct Shared {
     pub(crate) changed: Condvar,
     pub(crate) over: Condvar,
     pub(crate) nudge: Nudge,
-    // after how many entries the journal begins anew, if it does by itself
+    // once how many octets were entered the journal begins anew, if it does by itself
     pub(crate) settles_after: Option<u64>,
 }
 
 // Whether a command may answer what others wait for.
 fn answers_others(cmd: &Cmd) -> bool {
     matches!(cmd, Cmd::CloseChannel(..) | Cmd::CloseConnection(..))
+}
+
+// Says by the mark of a channel that something was sent on it, where it was: in the hold that entered it.
+fn say_sent(sender: Option<&DropMark>, told: &Result<(u64, Receipt, DropMark)>) {
+    if let (Some(mark), Ok((number, _, _))) = (sender, told) {
+        mark.say_sent(*number);
+    }
 }
 
 impl Shared {
@@ -99,13 +108,14 @@ impl Shared {
         told
     }
 
-    /// Enters a command that makes a promise. A close answers at once what others wait for, so these are
-    /// woken.
+    /// Enters a command that makes a promise; where it sends something on a channel, that is said by the channel's
+    /// mark. A close answers at once what others wait for, so these are woken.
     pub fn ask<R: Wait>(
         &self,
         rt: &R,
         pass: &mut Pass,
         cmd: Cmd,
+        sender: Option<&DropMark>,
     ) -> Result<(u64, Receipt, DropMark)>
         requires { takes_promise cmd ≡ true }
         ensures made { OnOk result (pass.new.made ≡ pass.old.made + 1) }
@@ -117,6 +127,7 @@ impl Shared {
         let answers = answers_others(&cmd);
         let mut guard = self.locked.lock(rt);
         let told = guard.ask(pass, cmd);
+        say_sent(sender, &told);
         self.keep_up(&mut guard);
         let first = guard.nudge();
         if answers {
@@ -144,27 +155,25 @@ impl Shared {
     }
 
     // Once the session has ended no turn comes any more. So whoever commands then does what is done between
-    // turns: what nobody will take is let go, and the journal begins anew.
+    // turns: what nobody will take is let go, and the journal begins anew. Before that the port is shown how the
+    // session stands, since a command may have changed it.
     fn keep_up(&self, locked: &mut Locked) {
+        self.nudge.show(locked.session().state());
         if locked.session().has_ended() {
             locked.tidy();
             self.settle_in(locked);
         }
     }
 
-    // Lets the journal begin anew where it has as many entries as that. Where memory is refused, it goes on
-    // as it was.
+    // Lets the journal begin anew where that is worth while.
     fn settle_in(&self, locked: &mut Locked) {
-        let Some(entries) = self.settles_after else {
-            return;
-        };
-        if locked.entries() as u64 >= entries {
-            let _ = locked.settle();
+        if let Some(octets) = self.settles_after {
+            locked.settle_when_due(octets);
         }
     }
 
-    /// One turn: one hold of the lock. Then all who wait are woken. It says how the session ended, where it
-    /// has.
+    /// One turn: one hold of the lock. Then all who wait are woken, and the loop, where something is due about a
+    /// mark. It says how the session ended, where it has.
     pub fn turn<P: Port, A: AuthProvider, R: Wait>(
         &self,
         rt: &R,
@@ -181,8 +190,11 @@ impl Shared {
         let mut guard = self.locked.lock(rt);
         // Where memory is refused, the session has ended.
         let _ = guard.apply(heard, line, provider);
+        self.nudge.show(guard.session().state());
         let ended = guard.ended();
+        let first = ended.is_none() && guard.has_due() && guard.nudge();
         self.wake_all(guard);
+        self.nudge_if(first);
         if ended.is_some() {
             self.over.notify_all();
         }
@@ -203,18 +215,27 @@ impl Shared {
         }
     }
 
-    /// Lends the hub for one hold. Then all who wait are woken, and the loop.
+    /// Lends the hub for one hold. Where something was entered then, all who wait are woken, and the loop.
     pub fn lend<R: Wait, T, F: FnOnce(&mut Hub) -> T>(&self, rt: &R, use_hub: F) -> T
         requires { F.IsAlwaysCallable use_hub }
         ensures { (before after : Guarded) × FnOnceReturnsAtMut F.FnOnce use_hub before result after }
     {
         let mut guard = self.locked.lock(rt);
+        let before = guard.entries();
         let given = guard.lend(use_hub);
+        self.let_go_on(guard, before);
+        given
+    }
+
+    // Where there are other entries than before, wakes all who wait, and the loop.
+    fn let_go_on(&self, mut guard: MutexGuard<'_, Locked>, before: usize) {
+        if guard.entries() == before {
+            return;
+        }
         self.keep_up(&mut guard);
         let first = guard.nudge();
         self.wake_all(guard);
         self.nudge_if(first);
-        given
     }
 
     /// Waits until the session has ended, and says how.
@@ -225,6 +246,28 @@ impl Shared {
                 return ended;
             }
             guard = self.over.wait(rt, guard);
+        }
+        unreachable!()
+    }
+
+    /// The same, but no longer than so long.
+    pub fn wait_for_the_end_within<R: Wait + Clock>(
+        &self,
+        rt: &R,
+        limit: Duration,
+    ) -> Option<Ended> {
+        let patience = Patience::of(rt, limit);
+        let mut guard = self.locked.lock(rt);
+        for _ in rt.forever() {
+            let ended = guard.ended();
+            if ended.is_some() {
+                return ended;
+            }
+            drop(ended);
+            let Some(left) = patience.left(rt) else {
+                return None;
+            };
+            guard = self.over.wait_timeout(rt, guard, left).0;
         }
         unreachable!()
     }

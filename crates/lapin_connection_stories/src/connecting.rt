@@ -1,10 +1,10 @@
 //! Connecting, where it is refused.
 
-use crate::acts::parts_of;
-use crate::gate::{Gate, GateSpawner, Refuses};
 use amqp_session::{ConnectionProperties, ErrorKind, Result};
 use amqp_uri::AMQPUri;
 use lapin_connection::{Connection, ConnectionBuilder};
+use lapin_connection_acts::acts::parts_of;
+use lapin_connection_acts::gate::{Gate, GateSpawner, Refuses};
 use std::alloc::{AllocError, Global};
 use std::sync::Wait;
 use std::thread::Threads;

@@ -2,10 +2,10 @@
 //! receipt names its entry, `tally` how many commands each pass made; `gather` gives all channels to the first,
 //! `give` the last of its channels to the last.
 
-use crate::hand::{Done, Hand};
 use crate::telling::{journal, names_its_entry};
 use amqp_session::{ErrorKind, Result};
 use lapin_connection::{Connection, Entry, Pass, Tally};
+use lapin_connection_acts::hand::{Done, Hand};
 use std::alloc::{AllocError, Global};
 use std::sync::Wait;
 

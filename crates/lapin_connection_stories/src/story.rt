@@ -3,15 +3,16 @@
 //! What a story owns is let go by one `drop` at its end: where a scope ends or a `?` returns, the check goes
 //! through each part and each variant of what is owned there.
 
-use crate::acts::{self, parts_of};
-use crate::desk::{self, Desk};
-use crate::gate::{Gate, GateSpawner, Refuses, gates};
-use crate::hand::{Done, Hand, Stage};
-use crate::{asleep, hands, telling};
+use crate::{hands, telling};
 use amqp_session::{ConnectionProperties, ErrorKind, Result};
 use amqp_types::NoMemory;
 use amqp_uri::AMQPUri;
 use lapin_connection::{Connection, ConnectionBuilder};
+use lapin_connection_acts::acts::{self, parts_of};
+use lapin_connection_acts::asleep;
+use lapin_connection_acts::desk::{self, Desk};
+use lapin_connection_acts::gate::{Gate, GateSpawner, Refuses, gates};
+use lapin_connection_acts::hand::{Done, Hand, Stage};
 use std::alloc::{AllocError, AllocGlobal, Global};
 use std::random::RandomSource;
 use std::rt::Files;
@@ -69,7 +70,7 @@ fn recovering(alloc: Global) -> std::result::Result<ConnectionProperties, NoMemo
     options.enable_auto_recover(alloc)
 }
 
-// A connection by a builder, which settles after so many entries, if that is said.
+// A connection by a builder, which settles after so many octets, if that is said.
 fn built<R: Threads + Wait + Clock + Copy + Send + Drop + 'static>(
     rt: R,
     alloc: Global,
@@ -85,7 +86,7 @@ fn built<R: Threads + Wait + Clock + Copy + Send + Drop + 'static>(
     };
     let builder = ConnectionBuilder::new_with_runtime(spawner).with_uri_str(text);
     let mut builder = match settles_after {
-        Some(entries) => builder.settling_after(entries),
+        Some(octets) => builder.settling_after(octets),
         None => builder,
     };
     let connection = builder.connect(rt, alloc);

@@ -5,11 +5,11 @@
 //! `turns` whether each step of the port has its turn; `settled` whether the journal began anew; `left N`
 //! whether the answer to that promise is there.
 
-use crate::gate::{Gate, kind_of};
-use crate::hand::{Done, Hand, Numbers, Stage, numbered};
 use amqp_session::{Cmd, Result};
 use amqp_types::NoMemory;
 use lapin_connection::{ChannelStatus, Connection, ConnectionStatus, Entry, Hub};
+use lapin_connection_acts::gate::{Gate, kind_of};
+use lapin_connection_acts::hand::{Done, Hand, Numbers, Stage, numbered};
 use std::alloc::{AllocError, Global};
 use std::sync::Wait;
 

@@ -1,6 +1,6 @@
 //! What is read of a hub, and what it does for what was let go.
 
-ghost use Rattle.std.specs.Prelude.{◌≡◌, IfOk, IfErr, OnOk, All, Some, map, option_map, length};
+ghost use Rattle.std.specs.Prelude.{◌≡◌, IfOk, IfErr, OnOk, All, Some, map, option_map, length, min, drop};
 ghost use Rattle.amqp_rules.specs.Talk.{end_of};
 ghost use Rattle.amqp_rules.specs.Answers.{HandsOut};
 ghost use Rattle.amqp_rules.specs.Queries.{opening};
@@ -39,6 +39,14 @@ impl Hub {
         ensures { result ≡ length self.now.journal }
     {
         self.journal.len()
+    }
+
+    /// The entries since the base, but so many of the first.
+    pub fn since(&self, first: usize) -> &[Entry]
+        ensures { result.now ≡ drop (min first (length self.now.journal)) self.now.journal }
+    {
+        let first = first.min(self.journal.len());
+        &self.journal[first..]
     }
 
     /// A copy of the entries since the base.

@@ -2,7 +2,7 @@
 
 ghost use Rattle.std.specs.Prelude.{◌≡◌, ◌≤◌, ℕ, min, nat_lt, length};
 ghost use Rattle.amqp_hub.specs.Entering.{with_engine};
-ghost use Rattle.amqp_locked.specs.UnderLock.{contents, with_session};
+ghost use Rattle.amqp_locked.specs.UnderLock.{contents, watched, with_session};
 ghost use Rattle.amqp_locked.specs.LettingGo.{LetsGo, LetsManyGo, may_come};
 ghost use Rattle.amqp_locked.specs.Tidying.{Tidies};
 
@@ -25,7 +25,7 @@ impl Locked {
             self.new.hub.engine.talk }
         ensures rest { (self.new.hub ≡ (with_session self.new.hub.engine.talk (contents self.old)).hub)
             × (self.new.places ≡ self.old.places) × (self.new.found ≡ self.old.found)
-            × (self.new.nudged ≡ self.old.nudged) }
+            × (watched self.new ≡ watched self.old) }
     {
         let count = self.unasked.len().min(self.fresh.saturating_add(ASKED));
         self.fresh = 0;
@@ -44,7 +44,7 @@ impl Locked {
     pub fn tidy(&mut self)
         ensures { Tidies (contents self.old) (contents self.new) }
     {
-        let looked = self.look();
+        let looked = self.look(0);
         self.let_go();
         let _ = looked;
     }

@@ -6,7 +6,7 @@ use denote.Struct.Declared.{shape}
 use denote.Struct.Tuple.{TupleAt, type_at}
 use mathlib.Core.List.{[], ◌∷◌}
 use mir.Syntax.{Sym}
-use Rattle.lapin_connection_stories.proofs.Crossing.{hand, stage}
+use Rattle.lapin_connection_acts.proofs.Crossing.{hand, stage}
 use Rattle.lapin_connection_stories.proofs.story.together.Goals as goal
 use Rattle.lapin_connection_stories.proofs.story.together.Lts as Lts
 

@@ -28,4 +28,4 @@ returns-clause-ok c =
     let unasked : c.push_back_reserved.new.self.items ≡ l.unasked ++ o ∷ [] =
     c.push_back_reserved.ensures.items ∙ ap (λ (xs : List Owner). xs ++ o ∷ []) c.reserve.ensures.items in
     acts_last c.args.at o l _ (owner_at marks c.args.at c.index.result.now there ∙ ap (λ (x : Owner). Some x) (sym whose)) gone
-    (same_contents c.own.new.self (owned o l.hub) l.places _ (remove l.found c.args.at) _ (l.unasked ++ o ∷ []) l.nudged hub found unasked)
+    (same_contents c.own.new.self (owned o l.hub) l.places _ (remove l.found c.args.at) _ (l.unasked ++ o ∷ []) l.watch hub found unasked)

@@ -1,6 +1,6 @@
 -- What was let go so far.
 use Rattle.std.proofs.Common.{◌≡◌}
-use Rattle.amqp_locked.specs.UnderLock.{contents, with_session}
+use Rattle.amqp_locked.specs.UnderLock.{contents, watched, with_session}
 use Rattle.amqp_locked.specs.LettingGo.{LetsManyGo}
 use Rattle.amqp_locked.proofs.locked.Locked.let_go.Given as goal
 
@@ -11,5 +11,5 @@ invariant-let_go l =
       hub : l.self.hub ≡ (with_session l.self.hub.engine.talk (contents l.fn.self)).hub;
       places : l.self.places ≡ l.fn.self.places;
       found : l.self.found ≡ l.fn.self.found;
-      nudged : l.self.nudged ≡ l.fn.self.nudged;
+      watch : watched l.self ≡ watched l.fn.self;
     }

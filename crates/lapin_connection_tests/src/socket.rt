@@ -1,0 +1,8 @@
+//! Tests of `amqp_socket`, against listeners of the same process.
+
+mod addresses;
+mod links;
+mod nudges;
+mod quiet;
+mod seen;
+mod times;
