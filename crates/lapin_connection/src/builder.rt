@@ -1,9 +1,10 @@
 //! Connections that are put together first.
 
-ghost use Rattle.std.specs.Prelude.{◌≡◌, ◌≤◌, Some, None, IfSome, IfOk, OnOk};
+ghost use Rattle.std.specs.Prelude.{◌≡◌, ◌≤◌, Some, None, IfSome, IfOk, OnOk, option_map, unwrap_or};
 ghost use Rattle.amqp_types.specs.Counts.{Rose};
-ghost use Rattle.lapin_connection.specs.Connecting.{Connects};
-ghost use Rattle.lapin_connection.specs.Building.{Builds, ReadsAs};
+ghost use Rattle.amqp_settings.specs.Config.{no_options};
+ghost use Rattle.lapin_connection.specs.Connecting.{Connects, HasBegun};
+ghost use Rattle.lapin_connection.specs.Building.{Builds, ReadsAs, HasBegunAs};
 ghost use Rattle.lapin_connection.specs.Handles.{settling_of};
 
 use crate::connect::connect_to;
@@ -170,6 +171,8 @@ where
         ensures count { S.refusals self.old.runtime ≤ S.refusals self.new.runtime }
         ensures refused { Builds self.old.uri (S.refusals self.old.runtime) (S.refusals self.new.runtime) result }
         ensures started { OnOk result (Rose (S.loops self.old.runtime) (S.loops self.new.runtime)) }
+        ensures begun { IfOk result (HasBegunAs (S.asked self.new.runtime) self.old.uri
+            (unwrap_or (option_map (λ p. p.plain) self.old.properties) no_options)) }
         ensures untouched { (self.old.uri ≡ Address.Unset) → self.new.runtime ≡ self.old.runtime }
         ensures used { (self.new.uri ≡ Address.Unset) × (self.new.properties ≡ None) }
         ensures upkeep { self.new.upkeep ≡ self.old.upkeep }
@@ -199,6 +202,8 @@ where
         ensures count { S.refusals self.old.runtime ≤ S.refusals self.new.runtime }
         ensures refused { Connects (S.refusals self.old.runtime) (S.refusals self.new.runtime) result }
         ensures started { OnOk result (Rose (S.loops self.old.runtime) (S.loops self.new.runtime)) }
+        ensures begun { IfOk result (HasBegun (S.asked self.new.runtime) uri.now
+            (unwrap_or (option_map (λ p. p.plain) properties) no_options)) }
         ensures rest { self.new ≡ record self.old { runtime = self.new.runtime } }
     {
         let upkeep = self.upkeep;

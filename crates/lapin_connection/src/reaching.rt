@@ -1,0 +1,156 @@
+//! Connecting to the first of several addresses that is reached.
+
+ghost use Rattle.std.specs.Prelude.{◌≤◌, ◌<◌, IfErr, IfOk, IfSome, OnOk, length, option_map};
+ghost use Rattle.amqp_types.specs.Counts.{Rose};
+ghost use Rattle.lapin_connection.specs.Connecting.{HasBegunTo, HasReached};
+
+use crate::connection::Connection;
+use crate::mio_spawner::MioSpawner;
+use crate::patience::Patience;
+use amqp_session::{ConnectionProperties, Error, ErrorKind, IoFault, Result};
+use amqp_socket::Cause;
+use amqp_uri::AMQPUri;
+use std::alloc::Global;
+use std::net::Net;
+use std::sync::Wait;
+use std::thread::Threads;
+use std::time::{Clock, Duration};
+
+/// For how long addresses are tried, all together, in milliseconds.
+const PATIENCE: u64 = 10_000;
+
+/// Why none of several addresses was reached.
+#[derive(Drop)]
+pub struct Unreached {
+    /// Which of them was tried last, counted from 0; none, where there are none.
+    pub last: Option<usize>,
+    /// Why its link failed, as its port says.
+    pub cause: Cause,
+    /// How it was answered.
+    pub error: Error,
+}
+
+impl Connection {
+    /// Connects to each of these addresses, one after the other, until a connection is open, which it gives: for 10
+    /// seconds, all together, of which each has an equal share of what is left. Else the error tells of the one that
+    /// was tried last. The options are made anew for each; with delays among them, an address that refuses is asked
+    /// again, as long as its share lasts.
+    pub fn connect_any<R, O>(
+        rt: R,
+        alloc: Global,
+        uris: &[AMQPUri],
+        options: O,
+        runtime: &mut MioSpawner<R>,
+    ) -> std::result::Result<Connection, Unreached>
+    where
+        R: Net + Clock + Threads + Wait + Copy + Drop + Send + 'static,
+        O: Fn() -> Result<ConnectionProperties> + Drop,
+        requires { O.IsAlwaysCallable options }
+        ensures reached { IfOk result (HasReached (option_map (λ uri. uri.value) runtime.new.asked) uris.now) }
+        ensures started { OnOk result (Rose runtime.old.loops runtime.new.loops) }
+        ensures last { IfErr result (λ u. IfSome u.last (λ n. n < length uris.now)) }
+        ensures count { runtime.old.refusals ≤ runtime.new.refusals }
+    {
+        let patience = Patience::of(&rt, Duration::from_millis(PATIENCE));
+        let mut last = None;
+        let mut cause = Cause::Nothing;
+        let mut error: Error = ErrorKind::IOError(IoFault::Refused).into();
+        'tried: for n in 0..uris.len() {
+            let Some(left) = patience.left(&rt) else {
+                break 'tried;
+            };
+            last = Some(n);
+            let share = share(left, uris.len() - n);
+            match reach(rt, alloc, &uris[n], options(), share, runtime) {
+                Ok(connection) => {
+                    drop(error);
+                    return Ok(connection);
+                }
+                Err(why) => error = why,
+            }
+            cause = cause_of(runtime);
+        }
+        Err(Unreached { last, cause, error })
+    }
+}
+
+// What each of so many has of this time.
+fn share(left: Duration, count: usize) -> Duration {
+    let count = u32::try_from(count).unwrap_or(u32::MAX);
+    left.checked_div(count).unwrap_or(left)
+}
+
+// Why the last link failed. One that was given up was not there, or not open, in time.
+fn cause_of<R: Net + Clock + Copy + Drop>(runtime: &MioSpawner<R>) -> Cause {
+    match runtime.cause() {
+        Cause::Abandoned => Cause::TimedOut,
+        cause => cause,
+    }
+}
+
+// Connects to an address, and gives the connection once it is open, before so long has passed.
+fn reach<R: Net + Clock + Threads + Wait + Copy + Drop + Send + 'static>(
+    rt: R,
+    alloc: Global,
+    uri: &AMQPUri,
+    options: Result<ConnectionProperties>,
+    limit: Duration,
+    runtime: &mut MioSpawner<R>,
+) -> Result<Connection>
+    ensures begun { IfOk result (HasBegunTo (option_map (λ uri. uri.value) runtime.new.asked) uri.now) }
+    ensures started { OnOk result (Rose runtime.old.loops runtime.new.loops) }
+    ensures count { runtime.old.refusals ≤ runtime.new.refusals }
+{
+    let connection = connect(rt, alloc, uri, options?, runtime)?;
+    match opened_within(&rt, &connection, limit) {
+        Some(Ok(())) => Ok(connection),
+        Some(Err(error)) => {
+            let _told = connection.abandon();
+            drop(connection);
+            Err(error)
+        }
+        None => Err(given_up(&rt, connection)),
+    }
+}
+
+// Waits for so long at most until a connection is open.
+fn opened_within<R: Wait + Clock>(
+    rt: &R,
+    connection: &Connection,
+    limit: Duration,
+) -> Option<Result<()>> {
+    match connection.opened() {
+        Ok(opened) => opened.wait_for(rt, limit),
+        Err(refused) => Some(Err(refused.into())),
+    }
+}
+
+// Gives a connection up that was not open in time, and says how it ended.
+fn given_up<R: Wait>(rt: &R, connection: Connection) -> Error {
+    let _told = connection.abandon();
+    match connection.run(rt) {
+        Ok(()) => ErrorKind::IOError(IoFault::Refused).into(),
+        Err(error) => error,
+    }
+}
+
+// Connects to an address.
+fn connect<R: Net + Clock + Threads + Wait + Copy + Drop + Send + 'static>(
+    rt: R,
+    alloc: Global,
+    uri: &AMQPUri,
+    options: ConnectionProperties,
+    runtime: &mut MioSpawner<R>,
+) -> Result<Connection>
+    ensures begun { IfOk result (HasBegunTo (option_map (λ uri. uri.value) runtime.new.asked) uri.now) }
+    ensures started { OnOk result (Rose runtime.old.loops runtime.new.loops) }
+    ensures count { runtime.old.refusals ≤ runtime.new.refusals }
+{
+    match uri.try_clone(alloc) {
+        Ok(uri) => Connection::connect_uri_with_runtime(rt, alloc, uri, options, runtime),
+        Err(refused) => {
+            drop(options);
+            Err(refused.into())
+        }
+    }
+}
