@@ -1,6 +1,9 @@
 -- The places of handles, and what is found there.
-use Rattle.std.specs.Prelude.{◌≡◌, ◌⊎◌, ℕ, zero, suc, length, List, [], ◌∷◌, ◌++◌, Option, Some, None, set, slice_get}
+use Rattle.std.specs.Prelude.{◌≡◌, ◌⊎◌, ℕ, zero, suc, length, List, [], ◌∷◌, ◌++◌, map, Option, Some, None, set, slice_get}
+use Rattle.std.specs.Arc.{arc_value}
+use Rattle.once_cell.specs.Once.{cell_name}
 use Rattle.amqp_hub.specs.declared.due.Owner.{Owner}
+use Rattle.amqp_hub.specs.declared.marks.Found.{Found}
 use Rattle.amqp_hub.specs.declared.marks.Slot.{Slot}
 use Rattle.amqp_hub.specs.declared.marks.Slot.TheVariants.{Kept, Free}
 
@@ -19,3 +22,15 @@ StandsAt (suc i) o before after =
 -- the mark of this owner was found at its place, which is free then, and all else as before
 abbrev pub IsFound : Owner → List (Option Owner) → List (Option Owner) → Type 0
 IsFound o before after = (i : ℕ) × (slice_get before i ≡ Some (Some o)) × (after ≡ set before i None)
+
+-- the name of the cell in which the handle of a place leaves its mark, where it is one that a handle has
+abbrev pub cell_in : Slot → Option ℕ
+cell_in (Kept place) = Some (cell_name (arc_value place.spot).cell)
+cell_in (Free next) = None
+
+-- a mark was read in the cell of the place at which it was found, whose handle had this owner; the place is free then
+abbrev pub IsReadThere : Found → List Slot → List Slot → Type 0
+IsReadThere found before after =
+    (i : ℕ) × (slice_get (map kept_in before) i ≡ Some (Some found.owner))
+    × (slice_get (map cell_in before) i ≡ Some (Some found.note.cell))
+    × (map kept_in after ≡ set (map kept_in before) i None)
