@@ -45,7 +45,7 @@ impl<S> ConnectionBuilder<S> {
           runtime = runtime;
           uri = Address.Unset;
           properties = None;
-          upkeep = record { settles_after = Some 1048576; drop_limit = 60000 };
+          upkeep = record { settles_after = Some 1048576; drop_limit = 60000; backlog_limit = None };
         } }
     {
         ConnectionBuilder {
@@ -114,7 +114,7 @@ impl<S: Drop, C: Drop> ConnectionBuilder<S, C> {
     {
         let upkeep = Upkeep {
             settles_after,
-            drop_limit: self.upkeep.drop_limit,
+            ..self.upkeep
         };
         ConnectionBuilder { upkeep, ..self }
     }
@@ -125,8 +125,20 @@ impl<S: Drop, C: Drop> ConnectionBuilder<S, C> {
         ensures { result ≡ record self { upkeep = record self.upkeep { drop_limit = milliseconds } } }
     {
         let upkeep = Upkeep {
-            settles_after: self.upkeep.settles_after,
             drop_limit: milliseconds,
+            ..self.upkeep
+        };
+        ConnectionBuilder { upkeep, ..self }
+    }
+
+    /// The same, where at most so many events wait to be taken, and so many frames of each channel: of more the
+    /// oldest go. Without that all wait. Of a channel that was opened by the hub all wait too.
+    pub fn with_backlog_limit(self, limit: u64) -> ConnectionBuilder<S, C>
+        ensures { result ≡ record self { upkeep = record self.upkeep { backlog_limit = Some limit } } }
+    {
+        let upkeep = Upkeep {
+            backlog_limit: Some(limit),
+            ..self.upkeep
         };
         ConnectionBuilder { upkeep, ..self }
     }

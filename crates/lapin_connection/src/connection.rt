@@ -91,7 +91,7 @@ impl Connection {
     {
         let begun = Snapshot::of(&hub);
         let (locked, mark) = Locked::new(alloc, hub)?;
-        let locked = locked.with_drop_limit(upkeep.drop_limit);
+        let locked = upkeep.of_lock(locked);
         let shared = Shared::new(alloc, locked, begun, nudge, upkeep.settles_after)?;
         Ok(Connection { shared, mark })
     }
@@ -216,6 +216,11 @@ impl Connection {
     /// The numbers of the connection.
     pub fn configuration<R: Wait>(&self, rt: &R) -> Configuration {
         self.shared.locked.lock(rt).session().configuration()
+    }
+
+    /// How many events went that nobody took, where only so many may wait.
+    pub fn events_gone<R: Wait>(&self, rt: &R) -> u64 {
+        self.shared.locked.lock(rt).events_gone()
     }
 
     /// A handle on its state.

@@ -216,14 +216,18 @@ impl Shared {
         ended
     }
 
-    /// What a loop does between two turns, each in a hold of its own: what nobody will take is let go, and the
-    /// journal begins anew.
+    /// What a loop does between two turns, each in a hold of its own: what nobody will take is let go; where only
+    /// so much may wait to be taken, the oldest goes of more; and the journal begins anew.
     pub fn rest<R: Wait>(&self, rt: &R) {
         let mut guard = self.locked.lock(rt);
         if guard.has_unasked() {
             guard.let_go();
         }
+        let bounds = guard.is_to_bound();
         drop(guard);
+        if bounds {
+            self.locked.lock(rt).bound();
+        }
         self.settle(rt);
     }
 

@@ -119,6 +119,28 @@ fn built_with<R: Threads + Wait + Clock + Copy + Send + Drop + 'static>(
     }
 }
 
+// A connection by a builder, where two events wait at most, and two frames of each channel.
+fn bounded<R: Threads + Wait + Clock + Copy + Send + Drop + 'static>(
+    rt: R,
+    alloc: Global,
+    spawner: GateSpawner<R>,
+) -> Result<Connection> {
+    match AMQPUri::local(alloc) {
+        Ok(uri) => {
+            let mut builder = ConnectionBuilder::new_with_runtime(spawner)
+                .with_uri(uri)
+                .with_backlog_limit(2);
+            let connection = builder.connect(rt, alloc);
+            drop(builder);
+            connection
+        }
+        Err(refused) => {
+            drop(spawner);
+            Err(refused.into())
+        }
+    }
+}
+
 // A connection to the local address with these options.
 fn connected<R: Threads + Wait + Clock + Copy + Send + Drop + 'static>(
     rt: R,
@@ -155,6 +177,7 @@ fn connection_by<R: Threads + Wait + Clock + Copy + Send + Drop + 'static>(
                 Err(refused.into())
             }
         },
+        "bounded" => bounded(rt, alloc, spawner),
         "elsewhere" => elsewhere::by_mechanism(rt, alloc, spawner),
         "handed" => elsewhere::by_another(rt, alloc, spawner),
         _ => match ConnectionProperties::new(alloc) {

@@ -4,7 +4,7 @@
 //! `agreed` the numbers agreed on. `drops` says which channels were let go, and whether a turn followed;
 //! `turns` whether each step of the port has its turn; `settled` whether the journal began anew; `settle` lets it
 //! begin anew, and says whether all its entries went and are counted, and the next entry goes on; `left N` whether
-//! the answer to that promise is there.
+//! the answer to that promise is there; `gone N` how many events, and frames of that channel, went that nobody took.
 
 use amqp_session::{Cmd, Result};
 use amqp_types::NoMemory;
@@ -259,6 +259,17 @@ fn say_next_entry<R: Wait>(rt: &R, connection: &Connection, hand: &mut Hand, cou
     hand.say_whether("the next goes on", first && entry == count)
 }
 
+// Says how many events went that nobody took, and how many frames of a channel.
+fn say_gone<R: Wait>(rt: &R, connection: &Connection, hand: &mut Hand, id: u16) -> Done {
+    let events = connection.events_gone(rt);
+    let frames = match numbered(&hand.channels, id) {
+        Some(channel) => channel.frames_gone(rt),
+        None => return hand.say("NO CHANNEL"),
+    };
+    let text = format!(in hand.alloc; "{events} events and {frames} frames went")?;
+    hand.say(text.as_str())
+}
+
 // Whether this promise has an answer that was not taken.
 fn has_answer(hub: &mut Hub, number: u64) -> bool {
     match hub.poll(number) {
@@ -298,6 +309,7 @@ pub fn act<R: Wait>(
         "turns" => say_turns(rt, connection, stage.gate, hand)?,
         "settled" => say_settled(rt, connection, hand)?,
         "settle" => say_settle(rt, connection, hand)?,
+        "gone" => say_gone(rt, connection, hand, (number % 65_536) as u16)?,
         "left" => say_answered(rt, connection, hand, number)?,
         _ => return Ok(false),
     }
