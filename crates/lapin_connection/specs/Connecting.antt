@@ -40,8 +40,8 @@ ConnectsBy (Err fault) before after (Err e) = (e ≡ NoMemory) ⊎ (e ≡ error_
 abbrev pub ConnectsToText : {A : Type 0} → List ℕ → ℕ → ℕ → Result A ErrorKind → Type 0
 ConnectsToText text before after answer = ConnectsBy (address_of_text text) before after answer
 
--- a connection has begun: a port to this address was asked for last, and its engine was one that asks for its first link,
--- to this address with these options
+-- a connection has begun: a port to this address was asked for last, and its engine was one that asks for its first
+-- link, to this address with these options
 abbrev pub HasBegun : Option AMQPUri → AMQPUri → Options → Connection → Type 0
 HasBegun asked uri options c = (asked ≡ Some uri) × (engine_begun c ≡ asking uri options)
 

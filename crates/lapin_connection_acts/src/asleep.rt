@@ -50,7 +50,12 @@ fn slept<R: Files + AllocGlobal>(rt: &R) -> u64 {
 // For how many nanoseconds this thread ran.
 fn ran<R: Files + AllocGlobal>(rt: &R) -> u64 {
     let text = read(rt, "/proc/thread-self/schedstat");
-    let ran = text.split_whitespace().next().unwrap_or("").parse::<u64>().unwrap_or(0);
+    let ran = text
+        .split_whitespace()
+        .next()
+        .unwrap_or("")
+        .parse::<u64>()
+        .unwrap_or(0);
     drop(text);
     ran
 }

@@ -1,5 +1,5 @@
-//! The callers of `amqp_uses` on a connection, each over a gate: `call NAME` says what it answers, and which frames were
-//! heard.
+//! The callers of `amqp_uses` on a connection, each over a gate: `call NAME` says what it answers, and which frames
+//! were heard.
 
 use crate::story::Runs;
 use amqp_pool::Pool;

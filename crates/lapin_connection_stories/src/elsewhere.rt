@@ -61,10 +61,12 @@ fn address(alloc: Global, text: &str) -> Result<AMQPUri> {
 // Properties with the provider of another user, and the address of the first.
 fn parts(
     alloc: Global,
-) -> Result<(
-    AMQPUri,
-    ConnectionProperties<HandedProvider<DefaultAuthProvider>>,
-)> {
+) -> Result<
+    (
+        AMQPUri,
+        ConnectionProperties<HandedProvider<DefaultAuthProvider>>,
+    ),
+> {
     let other = address(alloc, ALICE)?;
     let uri = address(alloc, PLAIN)?;
     let options = handed(alloc, &other);
