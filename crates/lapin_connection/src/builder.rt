@@ -173,6 +173,7 @@ where
 {
     /// Connects, by the runtime that is kept. Without properties it takes those of
     /// `ConnectionProperties::new`. Address and properties are then used up, whatever the answer.
+    #[tactic(auto, using(crate::proofs::Begun::has_begun_as))]
     pub fn connect<R: Threads + Wait + Copy + Send + 'static>(
         &mut self,
         rt: R,
