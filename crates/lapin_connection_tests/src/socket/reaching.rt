@@ -137,12 +137,10 @@ fn the_last_that_was_not_reached_is_told(rt: HostRuntime) -> Result<(), Fail> {
     Ok(())
 }
 
-// Whether a server behind one that does not listen, and one that accepts and says nothing, is reached; within so many
-// milliseconds.
+// Whether a server is reached that stands behind one that accepts and says nothing.
 fn reaches_behind<R: Net + Clock + Threads + Wait + Copy + Drop + Send + 'static>(
     rt: R,
     alloc: Global,
-    limit: u128,
 ) -> Result<bool, Fail>
 where
     R::Listener: Send + 'static,
@@ -150,15 +148,13 @@ where
     let open = server(&rt, alloc)?;
     let silent = rt.bind(SocketAddr::from(([127, 0, 0, 1], 0)))?;
     let closed = address_of(alloc, &silent)?;
-    let begin = rt.monotonic()?.as_millis();
-    let reached = unreached(rt, alloc, &[NOBODY, closed.as_str(), open.as_str()])?.is_none();
-    let took = rt.monotonic()?.as_millis().saturating_sub(begin);
+    let reached = unreached(rt, alloc, &[closed.as_str(), open.as_str()]);
     drop(silent);
-    Ok(reached && took < limit)
+    Ok(reached?.is_none())
 }
 
 #[test]
 fn one_that_is_silent_is_left_for_the_next(rt: HostRuntime) -> Result<(), Fail> {
-    assert!(rt; reaches_behind(rt, rt.alloc(), 9_000)?);
+    assert!(rt; reaches_behind(rt, rt.alloc())?);
     Ok(())
 }
