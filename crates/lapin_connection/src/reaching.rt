@@ -1,7 +1,6 @@
 //! Connecting to the first of several addresses that is reached.
 
-ghost use Rattle.std.specs.Prelude.{◌≤◌, ◌<◌, IfErr, IfOk, IfSome, OnOk, length, option_map};
-ghost use Rattle.amqp_types.specs.Counts.{Rose};
+ghost use Rattle.std.specs.Prelude.{◌≤◌, ◌<◌, IfErr, IfOk, IfSome, length, option_map};
 ghost use Rattle.lapin_connection.specs.Connecting.{HasBegunTo, HasReached};
 
 use crate::connection::Connection;
@@ -35,6 +34,7 @@ impl Connection {
     /// seconds, all together, of which each has an equal share of what is left. Else the error tells of the one that
     /// was tried last. The options are made anew for each; with delays among them, an address that refuses is asked
     /// again, as long as its share lasts.
+    #[tactic(auto, using(crate::proofs::Begun::has_reached))]
     pub fn connect_any<R, O>(
         rt: R,
         alloc: Global,
@@ -47,7 +47,6 @@ impl Connection {
         O: Fn() -> Result<ConnectionProperties> + Drop,
         requires { O.IsAlwaysCallable options }
         ensures reached { IfOk result (HasReached (option_map (λ uri. uri.value) runtime.new.asked) uris.now) }
-        ensures started { OnOk result (Rose runtime.old.loops runtime.new.loops) }
         ensures last { IfErr result (λ u. IfSome u.last (λ n. n < length uris.now)) }
         ensures count { runtime.old.refusals ≤ runtime.new.refusals }
     {
@@ -98,7 +97,6 @@ fn reach<R: Net + Clock + Threads + Wait + Copy + Drop + Send + 'static>(
     runtime: &mut MioSpawner<R>,
 ) -> Result<Connection>
     ensures begun { IfOk result (HasBegunTo (option_map (λ uri. uri.value) runtime.new.asked) uri.now) }
-    ensures started { OnOk result (Rose runtime.old.loops runtime.new.loops) }
     ensures count { runtime.old.refusals ≤ runtime.new.refusals }
 {
     let connection = connect(rt, alloc, uri, options?, runtime)?;
@@ -143,7 +141,6 @@ fn connect<R: Net + Clock + Threads + Wait + Copy + Drop + Send + 'static>(
     runtime: &mut MioSpawner<R>,
 ) -> Result<Connection>
     ensures begun { IfOk result (HasBegunTo (option_map (λ uri. uri.value) runtime.new.asked) uri.now) }
-    ensures started { OnOk result (Rose runtime.old.loops runtime.new.loops) }
     ensures count { runtime.old.refusals ≤ runtime.new.refusals }
 {
     match uri.try_clone(alloc) {

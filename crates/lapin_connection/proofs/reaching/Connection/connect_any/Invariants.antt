@@ -1,0 +1,10 @@
+-- The addresses that were tried so far.
+use Rattle.std.specs.Prelude.{◌≤◌, ◌<◌, IfSome, length}
+use Rattle.lapin_connection.proofs.reaching.Connection.connect_any.Given as goal
+
+abbrev pub invariant-tried : goal.invariant-tried
+invariant-tried g l =
+    record {
+      last : IfSome l.last (λ n. n < length l.fn.uris.now);
+      count : l.fn.runtime.refusals ≤ l.runtime.refusals;
+    }
