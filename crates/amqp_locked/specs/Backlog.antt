@@ -13,6 +13,11 @@ frames_kept opened [] = []
 frames_kept opened (lane ∷ lanes) =
     if lane.opened == opened then lane.frames.items else frames_kept opened lanes
 
+-- those at a place
+abbrev pub frames_at : Option Lane → List Handed
+frames_at (Some lane) = lane.frames.items
+frames_at None = []
+
 -- they are taken, where there are some
 abbrev pub TakesKept : List Handed → Option (List Handed) → Type 0
 TakesKept [] given = given ≡ None

@@ -1,8 +1,7 @@
 //! What waits to be taken beside the session, where only so much may wait.
 
-ghost use Rattle.std.specs.Prelude.{◌≡◌, ◌≤◌, ◌<◌, ◌-◌, ◌∷◌, [], Some, None, IfSome, IfNone, OnSome, length, drop, vec_len, vec_capacity};
-ghost use Rattle.std.specs.VecDeque.{deque_len, deque_capacity};
-ghost use Rattle.amqp_locked.specs.Backlog.{frames_kept, TakesKept};
+ghost use Rattle.std.specs.Prelude.{◌≡◌, ◌<◌, ◌-◌, ◌∷◌, [], Some, None, IfSome, IfNone, length, drop, slice_get, vec_len};
+ghost use Rattle.amqp_locked.specs.Backlog.{frames_kept, frames_at, TakesKept};
 
 use amqp_session::{Event, Handed};
 use amqp_types::NoMemory;
@@ -117,9 +116,12 @@ impl Backlog {
 
     // Where the frames stand of the channel that this promise opened, if they do.
     fn place(&self, opened: u64) -> Option<usize>
-        ensures within { OnSome result (result < vec_len self.now.lanes) }
+        ensures within { IfSome result (λ at. at < vec_len self.now.lanes) }
+        ensures there { IfSome result (λ at. frames_kept opened self.now.lanes.items
+            ≡ frames_at (slice_get self.now.lanes.items at)) }
+        ensures none { IfNone result (frames_kept opened self.now.lanes.items ≡ []) }
     {
-        for at in 0..self.lanes.len() {
+        'lanes: for at in 0..self.lanes.len() {
             if self.lanes[at].opened == opened {
                 return Some(at);
             }
