@@ -5,7 +5,6 @@ use Rattle.amqp_hub.specs.declared.due.Owner.{Owner}
 use Rattle.amqp_hub.specs.declared.marks.Place.{Place}
 use Rattle.amqp_hub.specs.declared.marks.Slot.{Slot}
 use Rattle.amqp_hub.specs.declared.marks.Slot.TheVariants.{Kept, Free}
-use Rattle.amqp_hub.specs.declared.marks.Found.{Found}
 use Rattle.amqp_hub.specs.Marks.{kept_in, cell_in, StandsAt, IsFound, IsReadThere}
 
 -- a place that was free is a handle's
@@ -24,7 +23,6 @@ pub is_found : (i next : ℕ) (o : Owner) (slots : List Slot) → slice_get (map
 is_found i next o slots there = (i, there, map-set kept_in slots i (Free next))
 
 -- the same of the mark that was read there
-pub is_read : (i next : ℕ) (found : Found) (slots : List Slot) → slice_get (map kept_in slots) i ≡ Some (Some found.owner)
-    → slice_get (map cell_in slots) i ≡ Some (Some found.note.cell)
-    → IsReadThere found slots (set slots i (Free next))
-is_read i next found slots there read = (i, there, read, map-set kept_in slots i (Free next))
+pub is_read : (i next : ℕ) (o : Owner) (cell : ℕ) (slots : List Slot) → slice_get (map kept_in slots) i ≡ Some (Some o)
+    → slice_get (map cell_in slots) i ≡ Some (Some cell) → IsReadThere o cell slots (set slots i (Free next))
+is_read i next o cell slots there read = (i, there, read, map-set kept_in slots i (Free next))

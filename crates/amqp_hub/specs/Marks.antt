@@ -3,7 +3,6 @@ use Rattle.std.specs.Prelude.{◌≡◌, ◌⊎◌, ℕ, zero, suc, length, List
 use Rattle.std.specs.Arc.{arc_value}
 use Rattle.once_cell.specs.Once.{cell_name}
 use Rattle.amqp_hub.specs.declared.due.Owner.{Owner}
-use Rattle.amqp_hub.specs.declared.marks.Found.{Found}
 use Rattle.amqp_hub.specs.declared.marks.Slot.{Slot}
 use Rattle.amqp_hub.specs.declared.marks.Slot.TheVariants.{Kept, Free}
 
@@ -28,9 +27,10 @@ abbrev pub cell_in : Slot → Option ℕ
 cell_in (Kept place) = Some (cell_name (arc_value place.spot).cell)
 cell_in (Free next) = None
 
--- a mark was read in the cell of the place at which it was found, whose handle had this owner; the place is free then
-abbrev pub IsReadThere : Found → List Slot → List Slot → Type 0
-IsReadThere found before after =
-    (i : ℕ) × (slice_get (map kept_in before) i ≡ Some (Some found.owner))
-    × (slice_get (map cell_in before) i ≡ Some (Some found.note.cell))
+-- the mark of this owner was found at a place, and read in a cell of this name, which is the place's; the place is free
+-- then
+abbrev pub IsReadThere : Owner → ℕ → List Slot → List Slot → Type 0
+IsReadThere o cell before after =
+    (i : ℕ) × (slice_get (map kept_in before) i ≡ Some (Some o))
+    × (slice_get (map cell_in before) i ≡ Some (Some cell))
     × (map kept_in after ≡ set (map kept_in before) i None)

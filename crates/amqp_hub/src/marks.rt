@@ -296,7 +296,8 @@ impl Places {
     pub fn find(&mut self) -> Option<Found>
         ensures found { IfSome result (λ found. IsFound found.owner (map kept_in self.old.slots.items)
             (map kept_in self.new.slots.items)) }
-        ensures mark { IfSome result (λ found. IsReadThere found self.old.slots.items self.new.slots.items) }
+        ensures mark { IfSome result (λ found. IsReadThere found.owner found.note.cell self.old.slots.items
+            self.new.slots.items) }
         ensures none { IfNone result (map kept_in self.new.slots.items ≡ map kept_in self.old.slots.items) }
     {
         let number = dropped_next(&self.last, self.next);
