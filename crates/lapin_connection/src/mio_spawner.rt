@@ -150,4 +150,11 @@ impl<R: Net + Clock + Copy + Drop + Send + 'static> Spawner for MioSpawner<R> {
             Err(NoMemory) => Err(SpawnFault::NoMemory),
         }
     }
+
+    fn cause(&self) -> Cause {
+        match &self.watch {
+            Some(watch) => watch.cause(),
+            None => Cause::Nothing,
+        }
+    }
 }

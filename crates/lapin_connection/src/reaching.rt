@@ -1,16 +1,15 @@
 //! Connecting to the first of several addresses that is reached.
 
-ghost use Rattle.std.specs.Prelude.{◌≤◌, ◌<◌, IfErr, IfOk, IfSome, length, option_map};
+ghost use Rattle.std.specs.Prelude.{◌≤◌, ◌<◌, IfErr, IfOk, IfSome, length};
 ghost use Rattle.lapin_connection.specs.Connecting.{HasBegunTo, HasReached};
 
 use crate::connection::Connection;
-use crate::mio_spawner::MioSpawner;
 use crate::patience::Patience;
+use crate::spawner::Spawner;
 use amqp_session::{ConnectionProperties, Error, ErrorKind, IoFault, Result};
 use amqp_socket::Cause;
 use amqp_uri::AMQPUri;
 use std::alloc::Global;
-use std::net::Net;
 use std::sync::Wait;
 use std::thread::Threads;
 use std::time::{Clock, Duration};
@@ -23,7 +22,7 @@ const PATIENCE: u64 = 10_000;
 pub struct Unreached {
     /// Which of them was tried last, counted from 0; none, where there are none.
     pub last: Option<usize>,
-    /// Why its link failed, as its port says.
+    /// Why its link failed, as its port says, where the runtime tells it.
     pub cause: Cause,
     /// How it was answered.
     pub error: Error,
@@ -35,20 +34,19 @@ impl Connection {
     /// was tried last. The options are made anew for each; with delays among them, an address that refuses is asked
     /// again, as long as its share lasts.
     #[tactic(auto, using(crate::proofs::Begun::has_reached))]
-    pub fn connect_any<R, O>(
+    pub fn connect_any<S: Spawner, R: Clock + Threads + Wait + Copy + Send + 'static, O>(
         rt: R,
         alloc: Global,
         uris: &[AMQPUri],
         options: O,
-        runtime: &mut MioSpawner<R>,
+        runtime: &mut S,
     ) -> std::result::Result<Connection, Unreached>
     where
-        R: Net + Clock + Threads + Wait + Copy + Drop + Send + 'static,
         O: Fn() -> Result<ConnectionProperties> + Drop,
         requires { O.IsAlwaysCallable options }
-        ensures reached { IfOk result (HasReached (option_map (λ uri. uri.value) runtime.new.asked) uris.now) }
+        ensures reached { IfOk result (HasReached (S.asked runtime.new) uris.now) }
         ensures last { IfErr result (λ u. IfSome u.last (λ n. n < length uris.now)) }
-        ensures count { runtime.old.refusals ≤ runtime.new.refusals }
+        ensures count { S.refusals runtime.old ≤ S.refusals runtime.new }
     {
         let patience = Patience::of(&rt, Duration::from_millis(PATIENCE));
         let mut last = None;
@@ -80,7 +78,7 @@ fn share(left: Duration, count: usize) -> Duration {
 }
 
 // Why the last link failed. One that was given up was not there, or not open, in time.
-fn cause_of<R: Net + Clock + Copy + Drop>(runtime: &MioSpawner<R>) -> Cause {
+fn cause_of<S: Spawner>(runtime: &S) -> Cause {
     match runtime.cause() {
         Cause::Abandoned => Cause::TimedOut,
         cause => cause,
@@ -88,16 +86,16 @@ fn cause_of<R: Net + Clock + Copy + Drop>(runtime: &MioSpawner<R>) -> Cause {
 }
 
 // Connects to an address, and gives the connection once it is open, before so long has passed.
-fn reach<R: Net + Clock + Threads + Wait + Copy + Drop + Send + 'static>(
+fn reach<S: Spawner, R: Clock + Threads + Wait + Copy + Send + 'static>(
     rt: R,
     alloc: Global,
     uri: &AMQPUri,
     options: Result<ConnectionProperties>,
     limit: Duration,
-    runtime: &mut MioSpawner<R>,
+    runtime: &mut S,
 ) -> Result<Connection>
-    ensures begun { IfOk result (HasBegunTo (option_map (λ uri. uri.value) runtime.new.asked) uri.now) }
-    ensures count { runtime.old.refusals ≤ runtime.new.refusals }
+    ensures begun { IfOk result (HasBegunTo (S.asked runtime.new) uri.now) }
+    ensures count { S.refusals runtime.old ≤ S.refusals runtime.new }
 {
     let connection = connect(rt, alloc, uri, options?, runtime)?;
     match opened_within(&rt, &connection, limit) {
@@ -133,15 +131,15 @@ fn given_up<R: Wait>(rt: &R, connection: Connection) -> Error {
 }
 
 // Connects to an address.
-fn connect<R: Net + Clock + Threads + Wait + Copy + Drop + Send + 'static>(
+fn connect<S: Spawner, R: Threads + Wait + Copy + Send + 'static>(
     rt: R,
     alloc: Global,
     uri: &AMQPUri,
     options: ConnectionProperties,
-    runtime: &mut MioSpawner<R>,
+    runtime: &mut S,
 ) -> Result<Connection>
-    ensures begun { IfOk result (HasBegunTo (option_map (λ uri. uri.value) runtime.new.asked) uri.now) }
-    ensures count { runtime.old.refusals ≤ runtime.new.refusals }
+    ensures begun { IfOk result (HasBegunTo (S.asked runtime.new) uri.now) }
+    ensures count { S.refusals runtime.old ≤ S.refusals runtime.new }
 {
     match uri.try_clone(alloc) {
         Ok(uri) => Connection::connect_uri_with_runtime(rt, alloc, uri, options, runtime),

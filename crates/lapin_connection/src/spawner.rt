@@ -7,6 +7,7 @@ ghost use Rattle.lapin_connection.specs.Refusals.{RoseIfRefused};
 
 use crate::nudge::Nudge;
 use amqp_engine::Port;
+use amqp_socket::Cause;
 use amqp_types::NoMemory;
 use amqp_uri::AMQPUri;
 use std::thread::JoinHandle;
@@ -74,4 +75,9 @@ pub trait Spawner {
         ensures rose { RoseIfRefused result (refusals self.old) (refusals self.new) }
         ensures started { OnOk result (Rose (loops self.old) (loops self.new)) }
         ensures asked { asked self.new ≡ asked self.old };
+
+    /// Why the last link failed of the last port that it gave, as that says; nothing where no port says so.
+    fn cause(&self) -> Cause {
+        Cause::Nothing
+    }
 }

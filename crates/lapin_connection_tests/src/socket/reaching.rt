@@ -7,11 +7,8 @@ use lapin_connection::{Cause, Connection, MioSpawner, Unreached};
 use std::alloc::Global;
 use std::io::{Read, Write};
 use std::net::{Net, OpenListener, SocketAddr};
-use std::sync::Wait;
 use std::test::Fail;
 use std::thread;
-use std::thread::Threads;
-use std::time::Clock;
 
 /// No port that is listened to, since port 0 is none.
 const NOBODY: &str = "amqp://127.0.0.1:0";
@@ -60,10 +57,7 @@ fn address_of<L: OpenListener>(alloc: Global, listener: &L) -> Result<String, Fa
 }
 
 // The address of a server that opens a connection, on a thread of its own.
-fn server<R: Net + Threads>(rt: &R, alloc: Global) -> Result<String, Fail>
-where
-    R::Listener: Send + 'static,
-{
+fn server(rt: &HostRuntime, alloc: Global) -> Result<String, Fail> {
     let said = said(alloc)?;
     let listener = rt.bind(SocketAddr::from(([127, 0, 0, 1], 0)))?;
     let address = address_of(alloc, &listener)?;
@@ -88,11 +82,7 @@ fn addresses(alloc: Global, texts: &[&str]) -> Result<Vec<AMQPUri>, Fail> {
 }
 
 // What connecting to the first of these gives.
-fn reach<R: Net + Clock + Threads + Wait + Copy + Drop + Send + 'static>(
-    rt: R,
-    alloc: Global,
-    uris: &[AMQPUri],
-) -> Result<Connection, Unreached> {
+fn reach(rt: HostRuntime, alloc: Global, uris: &[AMQPUri]) -> Result<Connection, Unreached> {
     let mut runtime = MioSpawner::new(rt, alloc);
     let reached = Connection::connect_any(
         rt,
@@ -106,8 +96,8 @@ fn reach<R: Net + Clock + Threads + Wait + Copy + Drop + Send + 'static>(
 }
 
 // Which was tried last and why it failed, where none of these is reached; nothing where one is, and is open.
-fn unreached<R: Net + Clock + Threads + Wait + Copy + Drop + Send + 'static>(
-    rt: R,
+fn unreached(
+    rt: HostRuntime,
     alloc: Global,
     texts: &[&str],
 ) -> Result<Option<(Option<usize>, Cause)>, Fail> {
@@ -138,13 +128,7 @@ fn the_last_that_was_not_reached_is_told(rt: HostRuntime) -> Result<(), Fail> {
 }
 
 // Whether a server is reached that stands behind one that accepts and says nothing.
-fn reaches_behind<R: Net + Clock + Threads + Wait + Copy + Drop + Send + 'static>(
-    rt: R,
-    alloc: Global,
-) -> Result<bool, Fail>
-where
-    R::Listener: Send + 'static,
-{
+fn reaches_behind(rt: HostRuntime, alloc: Global) -> Result<bool, Fail> {
     let open = server(&rt, alloc)?;
     let silent = rt.bind(SocketAddr::from(([127, 0, 0, 1], 0)))?;
     let closed = address_of(alloc, &silent)?;

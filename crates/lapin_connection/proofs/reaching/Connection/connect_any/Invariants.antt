@@ -6,5 +6,5 @@ abbrev pub invariant-tried : goal.invariant-tried
 invariant-tried g l =
     record {
       last : IfSome l.last (λ n. n < length l.fn.uris.now);
-      count : l.fn.runtime.refusals ≤ l.runtime.refusals;
+      count : g.S.Spawner.refusals l.fn.runtime ≤ g.S.Spawner.refusals l.runtime;
     }
