@@ -7,7 +7,7 @@
 //! numbers, `silent N` tells nothing for so many milliseconds, `shut` ends the input; `pause N` waits for so many
 //! milliseconds. `until NAME` waits until that frame was heard; that and `heard` say which frames were since the
 //! last look. `asked` says the host and the port to which a port was asked for. `prompt ACT` does that act, and
-//! says whether it took less than a second.
+//! says whether it took less than three seconds.
 
 use crate::gate::Gate;
 use crate::hand::{Done, Hand, Stage, answered, numbered, numbers_of};
@@ -341,12 +341,12 @@ fn moment<R: Clock>(rt: &R) -> u128 {
     }
 }
 
-// Does an act, and says whether it took less than a second.
+// Does an act, and says whether it took less than three seconds.
 fn promptly<R: Wait + Clock>(rt: &R, stage: &Stage<'_>, hand: &mut Hand, text: &str) -> Done {
     let begin = moment(rt);
     plain_act(rt, stage, hand, text)?;
     let took = moment(rt).saturating_sub(begin);
-    hand.say_whether("at once", took < 1000)
+    hand.say_whether("at once", took < 3000)
 }
 
 /// Does an act of a caller. Whether it is one.

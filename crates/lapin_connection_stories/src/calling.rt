@@ -21,7 +21,7 @@ type Told = std::result::Result<String, AllocError>;
 const ADDRESS: &str = "amqp://localhost";
 
 /// For so many milliseconds the server says nothing, while a caller begins to wait.
-const MEANWHILE: u64 = 500;
+const MEANWHILE: u64 = 1500;
 
 // What an answer says. It takes the answer.
 fn said<T: Drop>(alloc: Global, answer: Result<T>) -> Told {
