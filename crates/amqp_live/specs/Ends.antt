@@ -21,7 +21,8 @@ IsReached known loops loops' = IsAddress known × Rose loops loops'
 
 -- a text is an address, and a port to that was asked for last
 abbrev pub AsksFor : Result AMQPUri UriFault → Option AMQPUri → Type 0
-AsksFor known asked = (uri : AMQPUri) × (known ≡ Ok uri) × (asked ≡ Some uri)
+AsksFor (Ok uri) asked = asked ≡ Some uri
+AsksFor (Err fault) asked = ⊥
 
 -- connecting to a text is answered by this error, a spawner counting so many refusals before and after
 abbrev pub RefusesToConnect : Result AMQPUri UriFault → ℕ → ℕ → ErrorKind → Type 0

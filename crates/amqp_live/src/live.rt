@@ -196,6 +196,7 @@ fn ended_by<R: Wait>(rt: &R, connection: &Connection, error: Error) -> Error {
 }
 
 // A connection, which opens by and by.
+#[tactic(auto, using(crate::proofs::Asking::asks_for))]
 fn connect<S: Spawner, R: Threads + Wait + Copy + Send + 'static>(
     rt: R,
     alloc: Global,

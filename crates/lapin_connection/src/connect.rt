@@ -129,6 +129,7 @@ where
 }
 
 // Connects to an address, and does by itself what is said.
+#[tactic(auto, using(crate::proofs::Begun::connects_since, crate::proofs::Begun::has_begun_in))]
 pub(crate) fn connect_to<C, S: Spawner, R: Threads + Wait + Copy + Send + 'static>(
     rt: R,
     alloc: Global,
@@ -159,6 +160,7 @@ where
 impl Connection {
     /// Connects to a server by this runtime: to the address that a text is, or to an address. The connection
     /// opens by and by: wait for `opened` before the first command.
+    #[tactic(auto, using(crate::proofs::Begun::has_begun_by))]
     pub fn connect_with_runtime<
         U: Connect,
         C,

@@ -131,6 +131,7 @@ fn given_up<R: Wait>(rt: &R, connection: Connection) -> Error {
 }
 
 // Connects to an address.
+#[tactic(auto, using(crate::proofs::Begun::has_begun_to))]
 fn connect<S: Spawner, R: Threads + Wait + Copy + Send + 'static>(
     rt: R,
     alloc: Global,
