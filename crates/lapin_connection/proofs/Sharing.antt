@@ -1,6 +1,6 @@
 -- What the handles of a connection share may cross threads.
 use denote.Param.Send.{IsSend, IsSync, sendable}
-use Rattle.core.proofs.snapshot.Sent.{snapshot_send, snapshot_sync}
+use Rattle.std.proofs.snapshot.Sent.{snapshot_send, snapshot_sync}
 use Rattle.std.proofs.Crossing.{crosses}
 use Rattle.std.proofs.alloc.Global.TheSendSync.{the_field_send as global_field, the_field_sync as global_sync}
 use Rattle.std.proofs.option.Option.TheSendSync.{the_field_send as option_field, the_field_sync as option_sync}

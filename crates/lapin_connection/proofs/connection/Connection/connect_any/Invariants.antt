@@ -1,6 +1,6 @@
 -- The addresses that were tried so far.
 use Rattle.std.specs.Prelude.{◌≤◌, ◌<◌, IfSome, length}
-use Rattle.lapin_connection.proofs.reaching.Connection.connect_any.Given as goal
+use Rattle.lapin_connection.proofs.connection.Connection.connect_any.Given as goal
 
 abbrev pub invariant-tried : goal.invariant-tried
 invariant-tried g l =
