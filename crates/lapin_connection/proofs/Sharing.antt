@@ -1,6 +1,5 @@
 -- What the handles of a connection share may cross threads.
 use denote.Param.Send.{IsSend, IsSync, sendable}
-use Rattle.std.proofs.snapshot.Sent.{snapshot_send, snapshot_sync}
 use Rattle.std.proofs.Crossing.{crosses}
 use Rattle.std.proofs.alloc.Global.TheSendSync.{the_field_send as global_field, the_field_sync as global_sync}
 use Rattle.std.proofs.option.Option.TheSendSync.{the_field_send as option_field, the_field_sync as option_sync}
@@ -23,8 +22,8 @@ locked = search (sendable, global_field, hub, places_field, found, owner, late, 
 
 -- what is shared, from one thread to another
 pub shared_send : IsSend shared_row
-shared_send = search (sendable, global_field, source_field, locked, condvar_field, nudge_field, snapshot_send, option_field, crosses) depth 20
+shared_send = search (sendable, global_field, source_field, locked, condvar_field, nudge_field, option_field, crosses) depth 20
 
 -- and in several at once
 pub shared_sync : IsSync shared_row
-shared_sync = search (sendable, global_sync, source_sync, locked, condvar_sync, nudge_sync, snapshot_sync, option_sync, crosses) depth 20
+shared_sync = search (sendable, global_sync, source_sync, locked, condvar_sync, nudge_sync, option_sync, crosses) depth 20

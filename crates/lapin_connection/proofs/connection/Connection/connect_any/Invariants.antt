@@ -5,6 +5,6 @@ use Rattle.lapin_connection.proofs.connection.Connection.connect_any.Given as go
 abbrev pub invariant-tried : goal.invariant-tried
 invariant-tried g l =
     record {
-      last : IfSome l.last (λ n. n < length l.fn.uris.now);
+      last : IfSome l.last (λ n. n < length l.fn.uris);
       count : g.S.Spawner.refusals l.fn.runtime ≤ g.S.Spawner.refusals l.runtime;
     }
