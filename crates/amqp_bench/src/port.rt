@@ -1,6 +1,6 @@
 //! A port that takes all octets and counts them, and the spawner that gives it.
 
-ghost use Rattle.std.specs.Prelude.{◌≡◌, ◌≤◌, None, false, OnOk, length};
+ghost use Rattle.std.specs.Prelude.{◌≡◌, ◌≤◌, None, false, OnOk, length, option_map};
 ghost use Rattle.amqp_types.specs.Counts.{Rose};
 ghost use Rattle.amqp_engine.specs.Log.{IsPiece};
 ghost use Rattle.amqp_engine.specs.Counts.{is_fault};
@@ -10,6 +10,7 @@ use amqp_engine::{Port, Step, Told, Wrote};
 use amqp_types::NoMemory;
 use amqp_uri::AMQPUri;
 use lapin_connection::{Nudge, SpawnFault, Spawner, Started};
+use std::snapshot::Snapshot;
 use std::sync::Arc;
 use std::sync::atomic::{AtomicU64, Ordering};
 use std::thread;
@@ -139,6 +140,8 @@ pub struct TakingSpawner<R> {
     counts: Option<Arc<Counts>>,
     pauses: bool,
     loops: u64,
+    // the address for which a port was asked for last, as contracts see it
+    asked: Option<Snapshot<AMQPUri>>,
 }
 
 impl<R> TakingSpawner<R> {
@@ -149,6 +152,7 @@ impl<R> TakingSpawner<R> {
             counts: Some(counts),
             pauses,
             loops: 0,
+            asked: None,
         }
     }
 }
@@ -160,7 +164,10 @@ impl<R: Clock + Copy + Send + Drop + 'static> Spawner for TakingSpawner<R> {
 
     ghost loops = { λ s. s.loops };
 
-    fn port(&mut self, _uri: &AMQPUri) -> Result<(Taking<R>, Nudge), SpawnFault> {
+    ghost asked = { λ s. option_map (λ uri. uri.value) s.asked };
+
+    fn port(&mut self, uri: &AMQPUri) -> Result<(Taking<R>, Nudge), SpawnFault> {
+        self.asked = Some(Snapshot::of(uri));
         match self.counts.take() {
             Some(counts) => {
                 let port = Taking {
@@ -183,6 +190,7 @@ impl<R: Clock + Copy + Send + Drop + 'static> Spawner for TakingSpawner<R> {
         ensures count { 0 ≤ 0 }
         ensures rose { RoseIfRefused result 0 0 }
         ensures started { OnOk result (Rose self.old.loops self.new.loops) }
+        ensures asked { self.new.asked ≡ self.old.asked }
     {
         match start() {
             Ok(started) => {

@@ -5,7 +5,7 @@ use Rattle.amqp_hub.specs.declared.due.Owner.{Owner}
 use Rattle.amqp_hub.specs.declared.marks.Place.{Place}
 use Rattle.amqp_hub.specs.declared.marks.Slot.{Slot}
 use Rattle.amqp_hub.specs.declared.marks.Slot.TheVariants.{Kept, Free}
-use Rattle.amqp_hub.specs.Marks.{kept_in, StandsAt, IsFound}
+use Rattle.amqp_hub.specs.Marks.{kept_in, cell_in, StandsAt, IsFound, IsReadThere}
 
 -- a place that was free is a handle's
 pub stands-again : (n : ℕ) (place : Place) (slots : List Slot) → 0 < n → slice_get (map kept_in slots) (n - 1) ≡ Some None
@@ -21,3 +21,8 @@ stands-again (suc i) place slots positive free =
 pub is_found : (i next : ℕ) (o : Owner) (slots : List Slot) → slice_get (map kept_in slots) i ≡ Some (Some o)
     → IsFound o (map kept_in slots) (map kept_in (set slots i (Free next)))
 is_found i next o slots there = (i, there, map-set kept_in slots i (Free next))
+
+-- the same of the mark that was read there
+pub is_read : (i next : ℕ) (o : Owner) (cell : ℕ) (slots : List Slot) → slice_get (map kept_in slots) i ≡ Some (Some o)
+    → slice_get (map cell_in slots) i ≡ Some (Some cell) → IsReadThere o cell slots (set slots i (Free next))
+is_read i next o cell slots there read = (i, there, read, map-set kept_in slots i (Free next))

@@ -5,7 +5,9 @@
 //! before it; so what is found costs as much as what was dropped, however many handles live.
 
 ghost use Rattle.std.specs.Prelude.{◌≡◌, ◌<◌, ◌≤◌, ◌-◌, [], map, None, Some, slice_get, OnOk, OnSome, IfOk, IfNone, IfSome, length, vec_len, vec_capacity};
-ghost use Rattle.amqp_hub.specs.Marks.{kept_in, StandsAt, IsFound};
+ghost use Rattle.std.specs.Arc.{arc_value};
+ghost use Rattle.once_cell.specs.Once.{cell_name};
+ghost use Rattle.amqp_hub.specs.Marks.{kept_in, cell_in, StandsAt, IsFound, IsReadThere};
 
 use crate::due::Owner;
 use amqp_types::NoMemory;
@@ -142,7 +144,8 @@ struct Place {
 impl Place {
     // The mark, where the handle was dropped.
     fn look(&self) -> Option<Found>
-        ensures { IfSome result (λ found. found.owner ≡ self.now.owner) }
+        ensures owner { IfSome result (λ found. found.owner ≡ self.now.owner) }
+        ensures cell { IfSome result (λ found. found.note.cell ≡ cell_name (arc_value self.now.spot).cell) }
     {
         let mut note = self.spot.cell.note();
         let mark = match self.spot.cell.get_as(&mut note) {
@@ -171,6 +174,7 @@ pub struct Made {
     here: Arc<Spot>,
     there: Arc<Spot>,
     mark: Box<Mark>,
+    ghost one: { arc_value there ≡ arc_value here },
 }
 
 /// The places of handles.
@@ -228,7 +232,10 @@ impl Places {
     /// The mark of a handle with this owner, whose place is kept from now on.
     pub fn keep(&mut self, made: Made, owner: Owner) -> DropMark
         requires room { vec_len self.old.slots < vec_capacity self.old.slots }
-        ensures { StandsAt result.number owner (map kept_in self.old.slots.items) (map kept_in self.new.slots.items) }
+        ensures stands { StandsAt result.number owner (map kept_in self.old.slots.items)
+            (map kept_in self.new.slots.items) }
+        ensures cell { slice_get (map cell_in self.new.slots.items) (result.number - 1)
+            ≡ Some (Some (cell_name (arc_value result.spot).cell)) }
     {
         let Made {
             last,
@@ -250,7 +257,10 @@ impl Places {
     // The place stands where one is free, else at the end. Its number.
     fn stand(&mut self, place: Place) -> u64
         requires room { vec_len self.old.slots < vec_capacity self.old.slots }
-        ensures { StandsAt result place.owner (map kept_in self.old.slots.items) (map kept_in self.new.slots.items) }
+        ensures stands { StandsAt result place.owner (map kept_in self.old.slots.items)
+            (map kept_in self.new.slots.items) }
+        ensures cell { slice_get (map cell_in self.new.slots.items) (result - 1)
+            ≡ Some (Some (cell_name (arc_value place.spot).cell)) }
     {
         let number = self.free;
         match self.free_after(number) {
@@ -282,10 +292,12 @@ impl Places {
 
     /// The mark of a handle that was dropped, where there is one, the last dropped first. Its place is free
     /// from now on.
-    #[tactic(auto, using(crate::proofs::Standing::is_found))]
+    #[tactic(auto, using(crate::proofs::Standing::is_found, crate::proofs::Standing::is_read))]
     pub fn find(&mut self) -> Option<Found>
         ensures found { IfSome result (λ found. IsFound found.owner (map kept_in self.old.slots.items)
             (map kept_in self.new.slots.items)) }
+        ensures mark { IfSome result (λ found. IsReadThere found.owner found.note.cell self.old.slots.items
+            self.new.slots.items) }
         ensures none { IfNone result (map kept_in self.new.slots.items ≡ map kept_in self.old.slots.items) }
     {
         let number = dropped_next(&self.last, self.next);
@@ -311,7 +323,9 @@ impl Places {
     // The mark at the place of this index, and the number of the place whose handle was dropped before.
     fn look_at(&self, at: usize) -> Option<(Found, u64)>
         requires { at < vec_len self.now.slots }
-        ensures { IfSome result (λ r. slice_get (map kept_in self.now.slots.items) at ≡ Some (Some r.0.owner)) }
+        ensures owner { IfSome result (λ r. slice_get (map kept_in self.now.slots.items) at ≡ Some (Some r.0.owner)) }
+        ensures cell { IfSome result (λ r. slice_get (map cell_in self.now.slots.items) at
+            ≡ Some (Some r.0.note.cell)) }
     {
         match &self.slots[at] {
             Slot::Kept(place) => match place.look() {

@@ -1,5 +1,5 @@
 -- How a connection from end to end ends: its status, and what was said.
-use Rattle.std.specs.Prelude.{◌≡◌, ◌⊎◌, ℕ, List, Option, Result, Ok, Err}
+use Rattle.std.specs.Prelude.{◌≡◌, ◌⊎◌, ℕ, List, Option, Some, Result, Ok, Err}
 use Rattle.amqp_types.specs.Counts.{Rose}
 use Rattle.amqp_promise.specs.declared.error.ErrorKind.{ErrorKind}
 use Rattle.amqp_uri.specs.declared.fault.UriFault.{UriFault}
@@ -18,6 +18,11 @@ IsAddress known = (uri : AMQPUri) × (known ≡ Ok uri)
 -- a text is an address, and a loop was started, a spawner counting so many before and after
 abbrev pub IsReached : Result AMQPUri UriFault → ℕ → ℕ → Type 0
 IsReached known loops loops' = IsAddress known × Rose loops loops'
+
+-- a text is an address, and a port to that was asked for last
+abbrev pub AsksFor : Result AMQPUri UriFault → Option AMQPUri → Type 0
+AsksFor (Ok uri) asked = asked ≡ Some uri
+AsksFor (Err fault) asked = ⊥
 
 -- connecting to a text is answered by this error, a spawner counting so many refusals before and after
 abbrev pub RefusesToConnect : Result AMQPUri UriFault → ℕ → ℕ → ErrorKind → Type 0
@@ -58,7 +63,8 @@ FailsToSay known refusals refusals' loops loops' before after =
     ⊎ ((e : ErrorKind) × RefusesToConnect known refusals refusals' e × TookFront (error_line e) before after)
 
 -- an error was said: that of connecting, which is the fault of the text, the spawner's refusal, or NoMemory; or,
--- of an address for which a loop was started, that of a call on the connection, after some of the lines
+-- of an address for which a loop was started, that of a call on the connection or of the end of its session, after some
+-- of the lines
 abbrev pub SaysWhy : Result AMQPUri UriFault → ℕ → ℕ → ℕ → ℕ → Option (List ℕ) → Option (List ℕ) → Type 0
 SaysWhy known refusals refusals' loops loops' before after =
     ((e : ErrorKind) × RefusesToConnect known refusals refusals' e × TookAll (error_line e) before after)

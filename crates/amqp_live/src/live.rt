@@ -9,14 +9,14 @@ ghost use Rattle.amqp_replay.specs.Ends.{FailedOnce};
 ghost use Rattle.amqp_replay.specs.Top.{TookAll, TookFront};
 ghost use Rattle.lapin_connection.specs.Connecting.{ConnectsToText};
 ghost use Rattle.amqp_live.specs.Said.{live_address, IsChannelLine, SaysAll};
-ghost use Rattle.amqp_live.specs.Ends.{IsReached, Visits, Goes, SaysWhy, SaysAsFar, FailsToSay, TellsError, IsStatus};
+ghost use Rattle.amqp_live.specs.Ends.{IsReached, AsksFor, Visits, Goes, SaysWhy, SaysAsFar, FailsToSay, TellsError, IsStatus};
 
 use crate::said::{channel_line, error_line};
 use amqp_replay::Sink;
 use amqp_replay::status::{CLOSED, FAILED, NO_MEMORY, SINK_FAILED, USAGE};
 use amqp_replay::transfer::{SinkFailed, write_all};
 use amqp_replay::words::is;
-use amqp_session::{ConnectionProperties, Error, ErrorKind, Result};
+use amqp_session::{ConnectionProperties, ConnectionState, Error, ErrorKind, Result};
 use amqp_types::{ShortString, Text};
 use lapin_connection::{Channel, Connection, Pass, Spawner};
 use std::alloc::Global;
@@ -53,7 +53,7 @@ impl From<Error> for Stop {
 /// on a sink, a line as it comes: `connected`, `channel N`, `closed`; or last `error` and why. The words
 /// are `live` and the address. It gives the exit status: 0 once all three lines are said, 2 for other words,
 /// 4 for a sink that failed, 5 for an error, and 7 where memory was refused. It waits for the server as long as
-/// that takes.
+/// its port does.
 pub fn top_live<K: Sink, S: Spawner, R: Threads + Wait + Copy + Send + 'static>(
     rt: R,
     alloc: Global,
@@ -79,6 +79,8 @@ pub fn top_live<K: Sink, S: Spawner, R: Threads + Wait + Copy + Send + 'static>(
     ensures sink_kept { result ≢ SINK_FAILED → K.faults sink.new ≡ K.faults sink.old }
     ensures statuses { IsStatus result }
     ensures refusals { S.refusals runtime.old ≤ S.refusals runtime.new }
+    ensures asked { result ≡ CLOSED → IfSome (live_address words.now)
+        (λ uri. AsksFor (address_of_text uri) (S.asked runtime.new)) }
 {
     let Some(uri) = live_address(words) else {
         return USAGE;
@@ -149,14 +151,52 @@ fn converse<K: Sink, S: Spawner, R: Threads + Wait + Copy + Send + 'static>(
     ensures cause { result ≡ Err Stop.Unsaid → FailedOnce (K.faults sink.old) (K.faults sink.new) }
     ensures kept { result ≢ Err Stop.Unsaid → K.faults sink.new ≡ K.faults sink.old }
     ensures refusals { S.refusals runtime.old ≤ S.refusals runtime.new }
+    ensures asked { OnOk result (AsksFor (address_of_text uri.now) (S.asked runtime.new)) }
 {
     match connect(rt, alloc, uri, runtime) {
-        Ok(connection) => visit(&rt, alloc, &connection, sink),
+        Ok(connection) => visit_all(&rt, alloc, &connection, sink),
         Err(error) => Err(Stop::Unconnected(error)),
     }
 }
 
+// Visits a connection. An error is that by which the session ended, where a call only found that it has.
+fn visit_all<K: Sink, R: Wait>(
+    rt: &R,
+    alloc: Global,
+    connection: &Connection,
+    sink: &mut K,
+) -> std::result::Result<(), Stop>
+    ensures visits { Visits (K.held sink.old) (K.held sink.new) result }
+    ensures cause { result ≡ Err Stop.Unsaid → FailedOnce (K.faults sink.old) (K.faults sink.new) }
+    ensures kept { result ≢ Err Stop.Unsaid → K.faults sink.new ≡ K.faults sink.old }
+{
+    match visit(rt, alloc, connection, sink) {
+        Ok(()) => Ok(()),
+        Err(Stop::Unsaid) => Err(Stop::Unsaid),
+        Err(Stop::Unconnected(error)) => Err(Stop::Unconnected(error)),
+        Err(Stop::Failed(error)) => Err(Stop::Failed(ended_by(rt, connection, error))),
+    }
+}
+
+// How the session ended, where a call answered that it has; else what the call answered.
+fn ended_by<R: Wait>(rt: &R, connection: &Connection, error: Error) -> Error {
+    if *error.kind() != ErrorKind::InvalidConnectionState(ConnectionState::Error) {
+        return error;
+    }
+    let Ok(end) = connection.thread_handle() else {
+        return error;
+    };
+    match end.wait(rt, "the end of the session") {
+        Ok(()) => error,
+        Err(cause) => {
+            drop(error);
+            cause
+        }
+    }
+}
+
 // A connection, which opens by and by.
+#[tactic(auto, using(crate::proofs::Asking::asks_for))]
 fn connect<S: Spawner, R: Threads + Wait + Copy + Send + 'static>(
     rt: R,
     alloc: Global,
@@ -166,6 +206,7 @@ fn connect<S: Spawner, R: Threads + Wait + Copy + Send + 'static>(
     ensures count { S.refusals runtime.old ≤ S.refusals runtime.new }
     ensures refused { ConnectsToText uri.now (S.refusals runtime.old) (S.refusals runtime.new) result }
     ensures started { OnOk result (Rose (S.loops runtime.old) (S.loops runtime.new)) }
+    ensures asked { OnOk result (AsksFor (address_of_text uri.now) (S.asked runtime.new)) }
 {
     let options = ConnectionProperties::new(alloc)?;
     Connection::connect_with_runtime(rt, alloc, uri, options, runtime)

@@ -8,6 +8,8 @@ pub mod Sending
 pub mod Turning
 -- what is taken by a poll
 pub mod Taking
+-- what waits to be taken beside the session
+pub mod Backlog
 -- what nobody will take is let go
 pub mod LettingGo
 -- what is done where no turn comes any more

@@ -7,6 +7,7 @@
 //! these are `Polled` and `Taken` until they are given.
 #![tactic(auto)]
 
+mod backlog;
 mod heard;
 mod late;
 mod locked;

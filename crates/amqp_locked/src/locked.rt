@@ -5,7 +5,7 @@ ghost use Rattle.std.specs.Fn.{FnOnceReturnsAtMut};
 ghost use Rattle.futures.specs.Task.{Covers, Keeps};
 ghost use Rattle.futures.specs.Poll.{OnPending};
 ghost use Rattle.amqp_rules.specs.Talk.{has_ended};
-ghost use Rattle.amqp_rules.specs.Answers.{Takes, TakesEvent, take_frames};
+ghost use Rattle.amqp_rules.specs.Answers.{Takes, take_frames};
 ghost use Rattle.amqp_rules.specs.ChannelMethods.{frames_of};
 ghost use Rattle.amqp_rules.specs.Commands.{promise_of, takes_promise};
 ghost use Rattle.amqp_rules.specs.Queries.{opening};
@@ -16,9 +16,11 @@ ghost use Rattle.amqp_hub.specs.Marks.{kept_in, StandsAt};
 ghost use Rattle.amqp_locked.specs.UnderLock.{contents, watched, with_hub, with_nudge, with_limit, with_session, newly_locked};
 ghost use Rattle.amqp_locked.specs.Turning.{TurnsAfterMarks, StarvesAfterMarks};
 ghost use Rattle.amqp_locked.specs.Taking.{answer_given, polled_of};
+ghost use Rattle.amqp_locked.specs.Backlog.{frames_kept, frames_next, frames_after, TakesFirst};
 ghost use Rattle.amqp_locked.specs.Recovering.{FoundOf};
 
 use self::sending::cleared_after;
+use crate::backlog::Backlog;
 use crate::heard::{Heard, Line};
 use crate::late::Late;
 use crate::polled::{Polled, Taken};
@@ -32,6 +34,7 @@ use futures::task::{Context, Poll, Source};
 use std::alloc::Global;
 use std::collections::VecDeque;
 
+mod bounding;
 mod letting_go;
 mod looking;
 mod reading;
@@ -62,6 +65,8 @@ pub struct Locked {
     // what the entries weigh that were looked at, and how many these are
     weights: Weights,
     weighed: usize,
+    // what waits to be taken beside the session, where only so much may
+    backlog: Backlog,
     wakers: Wakers,
 }
 
@@ -86,6 +91,7 @@ impl Locked {
                     nudged: false,
                     weights: Weights::none(),
                     weighed: 0,
+                    backlog: Backlog::new(alloc),
                     wakers: Wakers::new(alloc),
                 },
                 mark,
@@ -103,6 +109,16 @@ impl Locked {
     {
         Locked {
             limit: milliseconds,
+            ..self
+        }
+    }
+
+    /// The same, where at most so many events wait to be taken, and so many frames of each channel.
+    pub fn with_backlog_limit(self, limit: usize) -> Locked
+        ensures { contents result ≡ contents self }
+    {
+        Locked {
+            backlog: self.backlog.with_limit(limit),
             ..self
         }
     }
@@ -200,12 +216,16 @@ impl Locked {
         if let Err(foreign) = self.hub.admits(pass) {
             return Err(foreign);
         }
+        if let Err(refused) = self.backlog.reserve() {
+            return Err(refused.into());
+        }
         let made = match self.places.make(self.alloc) {
             Ok(made) => made,
             Err(refused) => return Err(refused.into()),
         };
         match promised(&mut self.hub, pass, Cmd::OpenChannel) {
             Ok((number, receipt)) => {
+                self.backlog.open(number);
                 let mark = self.places.keep(made, Owner::Channel(number));
                 Ok((number, receipt, mark))
             }
@@ -281,10 +301,14 @@ impl Locked {
 
     /// Takes the first event that was not taken, where there is one. It adds no entry.
     pub fn event(&mut self) -> Option<Event>
-        ensures taken { TakesEvent result self.old.hub.engine.talk self.new.hub.engine.talk }
+        ensures taken { TakesFirst result self.old.backlog.events.items self.new.backlog.events.items
+            self.old.hub.engine.talk self.new.hub.engine.talk }
         ensures rest { contents self.new ≡ with_session self.new.hub.engine.talk (contents self.old) }
     {
-        self.hub.event()
+        match self.backlog.event() {
+            Some(event) => Some(event),
+            None => self.hub.event(),
+        }
     }
 
     /// Takes the first event that was not taken; where there is none, the polled task waits at this source,
@@ -294,12 +318,13 @@ impl Locked {
         source: &Source,
         cx: &mut Context<'_>,
     ) -> Poll<std::result::Result<Event, NoMemory>>
-        ensures taken { TakesEvent (polled_of result) self.old.hub.engine.talk self.new.hub.engine.talk }
+        ensures taken { TakesFirst (polled_of result) self.old.backlog.events.items self.new.backlog.events.items
+            self.old.hub.engine.talk self.new.hub.engine.talk }
         ensures rest { contents self.new ≡ with_session self.new.hub.engine.talk (contents self.old) }
         ensures registered { OnPending result (Covers cx.new (λ s. s ≡ source.now.id)) }
         ensures kept { Keeps cx.old cx.new }
     {
-        match self.hub.event() {
+        match self.event() {
             Some(event) => Poll::Ready(Ok(event)),
             None => match self.wakers.register(source, cx) {
                 Ok(()) => Poll::Pending,
@@ -312,15 +337,31 @@ impl Locked {
     /// taken. It adds no entry.
     pub fn take_frames(&mut self, opened: u64) -> Taken
         ensures opened { result.opened ≡ opened }
-        ensures frames { result.frames.items ≡ frames_of opened self.old.hub.engine.talk }
+        ensures frames { result.frames.items ≡ frames_next (frames_kept opened self.old.backlog.lanes.items) opened
+            self.old.hub.engine.talk }
         ensures taken { contents self.new
-            ≡ with_session (take_frames opened self.old.hub.engine.talk) (contents self.old) }
+            ≡ with_session (frames_after (frames_kept opened self.old.backlog.lanes.items) opened
+            self.old.hub.engine.talk) (contents self.old) }
     {
         Taken::of(opened, self.taken(opened))
     }
 
     // Takes these frames, which then wait no more to be taken.
     fn taken(&mut self, opened: u64) -> Vec<Handed>
+        ensures frames { result.items ≡ frames_next (frames_kept opened self.old.backlog.lanes.items) opened
+            self.old.hub.engine.talk }
+        ensures taken { contents self.new
+            ≡ with_session (frames_after (frames_kept opened self.old.backlog.lanes.items) opened
+            self.old.hub.engine.talk) (contents self.old) }
+    {
+        match self.backlog.take(opened) {
+            Some(frames) => frames,
+            None => self.handed(opened),
+        }
+    }
+
+    // Takes the frames of an opening that the session handed out.
+    fn handed(&mut self, opened: u64) -> Vec<Handed>
         ensures frames { result.items ≡ frames_of opened self.old.hub.engine.talk }
         ensures taken { contents self.new
             ≡ with_session (take_frames opened self.old.hub.engine.talk) (contents self.old) }
@@ -337,9 +378,11 @@ impl Locked {
     /// The same, but nothing where there are none and the channel is listed, so that some may come.
     pub fn frames(&mut self, opened: u64) -> Option<Taken>
         ensures opened { IfSome result (λ t. t.opened ≡ opened) }
-        ensures frames { IfSome result (λ t. t.frames.items ≡ frames_of opened self.old.hub.engine.talk) }
+        ensures frames { IfSome result (λ t. t.frames.items ≡ frames_next (frames_kept opened
+            self.old.backlog.lanes.items) opened self.old.hub.engine.talk) }
         ensures taken { contents self.new
-            ≡ with_session (take_frames opened self.old.hub.engine.talk) (contents self.old) }
+            ≡ with_session (frames_after (frames_kept opened self.old.backlog.lanes.items) opened
+            self.old.hub.engine.talk) (contents self.old) }
         ensures none { IfNone result ((frames_of opened self.old.hub.engine.talk ≡ [])
             × IsSome (opening opened self.old.hub.engine.talk)) }
         ensures gone { IfSome result (λ t. t.frames.items ≡ []
@@ -361,10 +404,11 @@ impl Locked {
         cx: &mut Context<'_>,
     ) -> Poll<std::result::Result<Taken, NoMemory>>
         ensures opened { IfSome (polled_of result) (λ t. t.opened ≡ opened) }
-        ensures frames { IfSome (polled_of result) (λ t. t.frames.items
-            ≡ frames_of opened self.old.hub.engine.talk) }
+        ensures frames { IfSome (polled_of result) (λ t. t.frames.items ≡ frames_next (frames_kept opened
+            self.old.backlog.lanes.items) opened self.old.hub.engine.talk) }
         ensures taken { contents self.new
-            ≡ with_session (take_frames opened self.old.hub.engine.talk) (contents self.old) }
+            ≡ with_session (frames_after (frames_kept opened self.old.backlog.lanes.items) opened
+            self.old.hub.engine.talk) (contents self.old) }
         ensures none { IfNone (polled_of result) ((frames_of opened self.old.hub.engine.talk ≡ [])
             × IsSome (opening opened self.old.hub.engine.talk)) }
         ensures gone { IfSome (polled_of result) (λ t. t.frames.items ≡ []

@@ -1,3 +1,4 @@
 pub mod Sendable
 pub mod Sharing
 pub mod Refusing
+pub mod Begun

@@ -1,5 +1,5 @@
 -- How a builder's connecting is answered.
-use Rattle.std.specs.Prelude.{◌≡◌, ◌⊎◌, ℕ, List, Result, Ok, Err}
+use Rattle.std.specs.Prelude.{◌≡◌, ◌⊎◌, ℕ, List, Option, Result, Ok, Err}
 use Rattle.std.specs.String.{string_bytes}
 use Rattle.amqp_types.specs.declared.word.Word.TheVariants.{NoUriGiven}
 use Rattle.amqp_promise.specs.declared.error.ErrorKind.{ErrorKind}
@@ -12,7 +12,9 @@ use Rattle.amqp_uri.specs.declared.uri.AMQPUri.{AMQPUri}
 use Rattle.lapin_connection.specs.Refusals.{error_of_address}
 use Rattle.lapin_connection.specs.declared.builder.Address.{Address}
 use Rattle.lapin_connection.specs.declared.builder.Address.TheVariants as address
-use Rattle.lapin_connection.specs.Connecting.{Connects, ConnectsToText}
+use Rattle.amqp_settings.specs.Config.{Options}
+use Rattle.lapin_connection.specs.declared.connection.Connection.{Connection}
+use Rattle.lapin_connection.specs.Connecting.{Connects, ConnectsToText, HasBegun, HasBegunBy}
 
 -- the address that is read, or why there is none: by what it was read as, or NoMemory
 abbrev pub ReadsBy : Result AMQPUri UriFault → Result AMQPUri ErrorKind → Type 0
@@ -31,3 +33,9 @@ abbrev pub Builds : {A : Type 0} → Address → ℕ → ℕ → Result A ErrorK
 Builds address.Unset before after answer = answer ≡ Err (IOError (Other NoUriGiven))
 Builds (address.Uri uri) before after answer = Connects before after answer
 Builds (address.Text text) before after answer = ConnectsToText (string_bytes text) before after answer
+
+-- a connection has begun to what was given last as an address
+abbrev pub HasBegunAs : Option AMQPUri → Address → Options → Connection → Type 0
+HasBegunAs asked address.Unset options c = ⊥
+HasBegunAs asked (address.Uri uri) options c = HasBegun asked uri options c
+HasBegunAs asked (address.Text text) options c = HasBegunBy asked (address_of_text (string_bytes text)) options c

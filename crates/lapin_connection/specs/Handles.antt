@@ -3,6 +3,7 @@
 use Rattle.std.specs.Prelude.{ℕ, Option, Some}
 use Rattle.std.specs.Arc.{arc_value}
 use Rattle.amqp_commands.specs.declared.command.ChanRef.{ChanRef}
+use Rattle.amqp_engine.specs.Engine.{Engine}
 use Rattle.lapin_connection.specs.declared.channel.Channel.{Channel}
 use Rattle.lapin_connection.specs.declared.connection.Connection.{Connection}
 use Rattle.lapin_connection.specs.declared.listener.EventsListener.{EventsListener}
@@ -37,3 +38,7 @@ reference_of c = record { id = c.id; opened = Some c.opened }
 -- once how many octets were entered the journal of a connection begins anew, if it does by itself
 abbrev pub settling_of : Connection → Option ℕ
 settling_of c = (arc_value c.shared).settles_after
+
+-- the engine of a connection as it was when the connection began
+abbrev pub engine_begun : Connection → Engine
+engine_begun c = (arc_value c.shared).begun.value.engine

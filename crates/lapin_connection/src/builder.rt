@@ -1,9 +1,10 @@
 //! Connections that are put together first.
 
-ghost use Rattle.std.specs.Prelude.{◌≡◌, ◌≤◌, Some, None, IfSome, IfOk, OnOk};
+ghost use Rattle.std.specs.Prelude.{◌≡◌, ◌≤◌, Some, None, IfSome, IfOk, OnOk, option_map, unwrap_or};
 ghost use Rattle.amqp_types.specs.Counts.{Rose};
-ghost use Rattle.lapin_connection.specs.Connecting.{Connects};
-ghost use Rattle.lapin_connection.specs.Building.{Builds, ReadsAs};
+ghost use Rattle.amqp_settings.specs.Config.{no_options};
+ghost use Rattle.lapin_connection.specs.Connecting.{Connects, HasBegun};
+ghost use Rattle.lapin_connection.specs.Building.{Builds, ReadsAs, HasBegunAs};
 ghost use Rattle.lapin_connection.specs.Handles.{settling_of};
 
 use crate::connect::connect_to;
@@ -44,7 +45,7 @@ impl<S> ConnectionBuilder<S> {
           runtime = runtime;
           uri = Address.Unset;
           properties = None;
-          upkeep = record { settles_after = Some 1048576; drop_limit = 60000 };
+          upkeep = record { settles_after = Some 1048576; drop_limit = 60000; backlog_limit = None };
         } }
     {
         ConnectionBuilder {
@@ -113,7 +114,7 @@ impl<S: Drop, C: Drop> ConnectionBuilder<S, C> {
     {
         let upkeep = Upkeep {
             settles_after,
-            drop_limit: self.upkeep.drop_limit,
+            ..self.upkeep
         };
         ConnectionBuilder { upkeep, ..self }
     }
@@ -124,8 +125,20 @@ impl<S: Drop, C: Drop> ConnectionBuilder<S, C> {
         ensures { result ≡ record self { upkeep = record self.upkeep { drop_limit = milliseconds } } }
     {
         let upkeep = Upkeep {
-            settles_after: self.upkeep.settles_after,
             drop_limit: milliseconds,
+            ..self.upkeep
+        };
+        ConnectionBuilder { upkeep, ..self }
+    }
+
+    /// The same, where at most so many events wait to be taken, and so many frames of each channel: of more the
+    /// oldest go. Without that all wait. Of a channel that was opened by the hub all wait too.
+    pub fn with_backlog_limit(self, limit: u64) -> ConnectionBuilder<S, C>
+        ensures { result ≡ record self { upkeep = record self.upkeep { backlog_limit = Some limit } } }
+    {
+        let upkeep = Upkeep {
+            backlog_limit: Some(limit),
+            ..self.upkeep
         };
         ConnectionBuilder { upkeep, ..self }
     }
@@ -160,6 +173,7 @@ where
 {
     /// Connects, by the runtime that is kept. Without properties it takes those of
     /// `ConnectionProperties::new`. Address and properties are then used up, whatever the answer.
+    #[tactic(auto, using(crate::proofs::Begun::has_begun_as))]
     pub fn connect<R: Threads + Wait + Copy + Send + 'static>(
         &mut self,
         rt: R,
@@ -170,6 +184,8 @@ where
         ensures count { S.refusals self.old.runtime ≤ S.refusals self.new.runtime }
         ensures refused { Builds self.old.uri (S.refusals self.old.runtime) (S.refusals self.new.runtime) result }
         ensures started { OnOk result (Rose (S.loops self.old.runtime) (S.loops self.new.runtime)) }
+        ensures begun { IfOk result (HasBegunAs (S.asked self.new.runtime) self.old.uri
+            (unwrap_or (option_map (λ p. p.plain) self.old.properties) no_options)) }
         ensures untouched { (self.old.uri ≡ Address.Unset) → self.new.runtime ≡ self.old.runtime }
         ensures used { (self.new.uri ≡ Address.Unset) × (self.new.properties ≡ None) }
         ensures upkeep { self.new.upkeep ≡ self.old.upkeep }
@@ -199,6 +215,8 @@ where
         ensures count { S.refusals self.old.runtime ≤ S.refusals self.new.runtime }
         ensures refused { Connects (S.refusals self.old.runtime) (S.refusals self.new.runtime) result }
         ensures started { OnOk result (Rose (S.loops self.old.runtime) (S.loops self.new.runtime)) }
+        ensures begun { IfOk result (HasBegun (S.asked self.new.runtime) uri.now
+            (unwrap_or (option_map (λ p. p.plain) properties) no_options)) }
         ensures rest { self.new ≡ record self.old { runtime = self.new.runtime } }
     {
         let upkeep = self.upkeep;

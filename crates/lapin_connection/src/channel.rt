@@ -236,6 +236,11 @@ impl Channel {
         Ok(self.handed(taken))
     }
 
+    /// How many of its frames went that nobody took, where only so many may wait.
+    pub fn frames_gone<R: Wait>(&self, rt: &R) -> u64 {
+        self.shared.locked.lock(rt).frames_gone(self.opened)
+    }
+
     // The frames that were taken, which are its own.
     pub(crate) fn handed(&self, taken: Taken) -> Vec<Handed>
         requires { taken.opened ≡ self.now.opened }

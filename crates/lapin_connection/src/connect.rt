@@ -6,8 +6,8 @@ ghost use Rattle.amqp_uri.specs.Address.{address_of_text};
 ghost use Rattle.amqp_uri.specs.declared.fault.UriFault.{UriFault as Fault};
 ghost use Rattle.amqp_uri.specs.declared.fault.UriFault.TheVariants as fault;
 ghost use Rattle.amqp_uri.specs.declared.uri.AMQPUri.{AMQPUri as Uri};
-ghost use Rattle.lapin_connection.specs.Connecting.{Connects, ConnectsBy, asking};
-ghost use Rattle.lapin_connection.specs.Handles.{settling_of};
+ghost use Rattle.lapin_connection.specs.Connecting.{Connects, ConnectsBy, asking, HasBegun, HasBegunBy};
+ghost use Rattle.lapin_connection.specs.Handles.{settling_of, engine_begun};
 
 use crate::connection::Connection;
 use crate::errors::{error_of_address, error_of_start};
@@ -48,6 +48,7 @@ fn over<P: Port>(
     upkeep: Upkeep,
 ) -> Result<Connection>
     ensures settles { IfOk result (λ c. settling_of c ≡ upkeep.settles_after) }
+    ensures begun { IfOk result (λ c. engine_begun c ≡ asking uri.now options.plain) }
     ensures only { IfErr result (λ e. e ≡ ErrorKind.NoMemory) }
     ensures faults { P.faults port.old ≤ P.faults port.new }
 {
@@ -55,29 +56,36 @@ fn over<P: Port>(
     Connection::over(alloc, hub, nudge, upkeep)
 }
 
-// Connects, with a provider that answers the server.
-fn start<S: Spawner, A: AuthProvider + 'static, R: Threads + Wait + Copy + Send + 'static>(
-    rt: R,
+// What runs a connection over a port, where the provider that was chosen for its address answers the server.
+fn job_of<C: ProviderChoice, P: Port + Drop>(
     alloc: Global,
     uri: &AMQPUri,
-    options: ConnectionProperties,
-    provider: A,
-    upkeep: Upkeep,
+    choice: C,
+    port: P,
+    connection: &Connection,
+) -> Result<LoopJob<P, C::Provider>>
+    requires { C.can choice }
+    ensures chosen { IfOk result (λ job. C.chosen choice uri.now job.provider) }
+    ensures can { IfOk result (λ job. C.Provider.can job.provider) }
+    ensures only { IfErr result (λ e. e ≡ ErrorKind.NoMemory) }
+{
+    let shared = connection.share()?;
+    let provider = choice.provider(alloc, uri)?;
+    Ok(LoopJob::new(alloc, port, provider, shared)?)
+}
+
+// Starts what runs a connection.
+fn start<S: Spawner, A: AuthProvider + 'static, R: Threads + Wait + Copy + Send + 'static>(
+    rt: R,
+    job: LoopJob<S::P, A>,
     spawner: &mut S,
-) -> Result<Connection>
-    requires { A.can provider }
-    ensures settles { IfOk result (λ c. settling_of c ≡ upkeep.settles_after) }
+) -> Result<()>
+    requires { A.can job.provider }
     ensures count { S.refusals spawner.old ≤ S.refusals spawner.new }
     ensures refused { Connects (S.refusals spawner.old) (S.refusals spawner.new) result }
     ensures started { OnOk result (Rose (S.loops spawner.old) (S.loops spawner.new)) }
+    ensures asked { S.asked spawner.new ≡ S.asked spawner.old }
 {
-    let (mut port, nudge) = match spawner.port(uri) {
-        Ok(both) => both,
-        Err(fault) => return Err(error_of_start(fault).into()),
-    };
-    let connection = over(alloc, uri, options, &mut port, nudge, upkeep)?;
-    let shared = connection.share()?;
-    let job = LoopJob::new(alloc, port, provider, shared)?;
     match spawner.spawn(
         move ||
             requires { A.can job.provider }
@@ -85,13 +93,43 @@ fn start<S: Spawner, A: AuthProvider + 'static, R: Threads + Wait + Copy + Send 
     ) {
         Ok(started) => {
             drop(started);
-            Ok(connection)
+            Ok(())
         }
         Err(fault) => Err(error_of_start(fault).into()),
     }
 }
 
+// Connects over a port to an address.
+fn connect_over<C, S: Spawner, R: Threads + Wait + Copy + Send + 'static>(
+    rt: R,
+    alloc: Global,
+    uri: &AMQPUri,
+    options: ConnectionProperties<C>,
+    upkeep: Upkeep,
+    port: (S::P, Nudge),
+    runtime: &mut S,
+) -> Result<Connection>
+where
+    C: ProviderChoice,
+    C::Provider: 'static,
+    requires { C.can options.choice }
+    ensures settles { IfOk result (λ c. settling_of c ≡ upkeep.settles_after) }
+    ensures begun { IfOk result (λ c. engine_begun c ≡ asking uri.now options.plain) }
+    ensures count { S.refusals runtime.old ≤ S.refusals runtime.new }
+    ensures refused { Connects (S.refusals runtime.old) (S.refusals runtime.new) result }
+    ensures started { OnOk result (Rose (S.loops runtime.old) (S.loops runtime.new)) }
+    ensures asked { S.asked runtime.new ≡ S.asked runtime.old }
+{
+    let (mut port, nudge) = port;
+    let (options, choice) = options.into_parts();
+    let connection = over(alloc, uri, options, &mut port, nudge, upkeep)?;
+    let job = job_of(alloc, uri, choice, port, &connection)?;
+    start(rt, job, runtime)?;
+    Ok(connection)
+}
+
 // Connects to an address, and does by itself what is said.
+#[tactic(auto, using(crate::proofs::Begun::connects_since, crate::proofs::Begun::has_begun_in))]
 pub(crate) fn connect_to<C, S: Spawner, R: Threads + Wait + Copy + Send + 'static>(
     rt: R,
     alloc: Global,
@@ -105,16 +143,16 @@ where
     C::Provider: 'static,
     requires { C.can options.choice }
     ensures settles { IfOk result (λ c. settling_of c ≡ upkeep.settles_after) }
+    ensures begun { IfOk result (HasBegun (S.asked runtime.new) uri.now options.plain) }
     ensures count { S.refusals runtime.old ≤ S.refusals runtime.new }
     ensures refused { Connects (S.refusals runtime.old) (S.refusals runtime.new) result }
     ensures started { OnOk result (Rose (S.loops runtime.old) (S.loops runtime.new)) }
 {
-    let (options, choice) = options.into_parts();
-    match choice.provider(alloc, uri) {
-        Ok(provider) => start(rt, alloc, uri, options, provider, upkeep, runtime),
-        Err(refused) => {
+    match runtime.port(uri) {
+        Ok(port) => connect_over(rt, alloc, uri, options, upkeep, port, runtime),
+        Err(fault) => {
             drop(options);
-            Err(refused.into())
+            Err(error_of_start(fault).into())
         }
     }
 }
@@ -122,6 +160,7 @@ where
 impl Connection {
     /// Connects to a server by this runtime: to the address that a text is, or to an address. The connection
     /// opens by and by: wait for `opened` before the first command.
+    #[tactic(auto, using(crate::proofs::Begun::has_begun_by))]
     pub fn connect_with_runtime<
         U: Connect,
         C,
@@ -142,6 +181,7 @@ impl Connection {
         ensures count { S.refusals runtime.old ≤ S.refusals runtime.new }
         ensures refused { ConnectsBy (U.known uri) (S.refusals runtime.old) (S.refusals runtime.new) result }
         ensures started { OnOk result (Rose (S.loops runtime.old) (S.loops runtime.new)) }
+        ensures begun { IfOk result (HasBegunBy (S.asked runtime.new) (U.known uri) options.plain) }
         ensures untouched { (f : Fault) → U.known uri ≡ Err f → runtime.new ≡ runtime.old }
     {
         match uri.address(alloc) {
@@ -169,6 +209,7 @@ impl Connection {
         ensures count { S.refusals runtime.old ≤ S.refusals runtime.new }
         ensures refused { Connects (S.refusals runtime.old) (S.refusals runtime.new) result }
         ensures started { OnOk result (Rose (S.loops runtime.old) (S.loops runtime.new)) }
+        ensures begun { IfOk result (HasBegun (S.asked runtime.new) uri options.plain) }
     {
         connect_to(rt, alloc, &uri, options, Upkeep::keeping(), runtime)
     }
@@ -189,6 +230,7 @@ impl Connection {
         ensures count { S.refusals runtime.old ≤ S.refusals runtime.new }
         ensures refused { Connects (S.refusals runtime.old) (S.refusals runtime.new) result }
         ensures started { OnOk result (Rose (S.loops runtime.old) (S.loops runtime.new)) }
+        ensures begun { IfOk result (HasBegun (S.asked runtime.new) uri options.plain) }
     {
         connect_to(rt, alloc, &uri, options, Upkeep::keeping(), runtime)
     }

@@ -8,7 +8,7 @@ ghost use Rattle.amqp_commands.specs.declared.command.Cmd.TheVariants.{OpenChann
 ghost use Rattle.amqp_hub.specs.Guarded.{Guarded};
 ghost use Rattle.amqp_hub.specs.Passes.{made_of, places, gapless};
 ghost use Rattle.lapin_connection.specs.Commands.{Shows, HasReceipt, Refuses, RefusesOneOf, AreNumberedOn};
-ghost use Rattle.lapin_connection.specs.Handles.{connection_source, pending_source, listener_source, settling_of};
+ghost use Rattle.lapin_connection.specs.Handles.{connection_source, pending_source, listener_source, settling_of, engine_begun};
 
 use crate::channel::Channel;
 use crate::listener::EventsListener;
@@ -23,6 +23,7 @@ use amqp_locked::Locked;
 use amqp_session::{Cmd, Configuration, ErrorKind, Result};
 use amqp_types::{LongString, NoMemory, ReplyCode, ShortString};
 use std::alloc::Global;
+use std::snapshot::Snapshot;
 use std::sync::{Arc, Wait};
 
 /// A connection. Any number of threads share it by reference. Where it is dropped, it is closed once no
@@ -85,11 +86,13 @@ impl Connection {
     // A connection of this hub, whose loop is to be started.
     pub(crate) fn over(alloc: Global, hub: Hub, nudge: Nudge, upkeep: Upkeep) -> Result<Connection>
         ensures settles { IfOk result (λ c. settling_of c ≡ upkeep.settles_after) }
+        ensures begun { IfOk result (λ c. engine_begun c ≡ hub.engine) }
         ensures only { IfErr result (λ e. e ≡ ErrorKind.NoMemory) }
     {
+        let begun = Snapshot::of(&hub);
         let (locked, mark) = Locked::new(alloc, hub)?;
-        let locked = locked.with_drop_limit(upkeep.drop_limit);
-        let shared = Shared::new(alloc, locked, nudge, upkeep.settles_after)?;
+        let locked = upkeep.of_lock(locked);
+        let shared = Shared::new(alloc, locked, begun, nudge, upkeep.settles_after)?;
         Ok(Connection { shared, mark })
     }
 
@@ -213,6 +216,11 @@ impl Connection {
     /// The numbers of the connection.
     pub fn configuration<R: Wait>(&self, rt: &R) -> Configuration {
         self.shared.locked.lock(rt).session().configuration()
+    }
+
+    /// How many events went that nobody took, where only so many may wait.
+    pub fn events_gone<R: Wait>(&self, rt: &R) -> u64 {
+        self.shared.locked.lock(rt).events_gone()
     }
 
     /// A handle on its state.

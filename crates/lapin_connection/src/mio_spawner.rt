@@ -1,6 +1,6 @@
 //! Sockets and threads of the system.
 
-ghost use Rattle.std.specs.Prelude.{◌≡◌, ◌≤◌, Some, OnOk};
+ghost use Rattle.std.specs.Prelude.{◌≡◌, ◌≤◌, Some, OnOk, option_map};
 ghost use Rattle.amqp_types.specs.Counts.{Rose};
 ghost use Rattle.lapin_connection.specs.declared.spawner.SpawnFault.TheVariants as fault;
 ghost use Rattle.lapin_connection.specs.Refusals.{RoseIfRefused};
@@ -13,6 +13,7 @@ use amqp_uri::AMQPUri;
 use std::alloc::Global;
 use std::io;
 use std::net::Net;
+use std::snapshot::Snapshot;
 use std::sync::Arc;
 use std::time::Clock;
 
@@ -25,6 +26,8 @@ pub struct MioSpawner<R> {
     silence: Option<u64>,
     // what the last port that was given shares with its session
     watch: Option<Arc<Watch>>,
+    // the address for which a port was asked for last, as contracts see it
+    asked: Option<Snapshot<AMQPUri>>,
     refusals: u64,
     loops: u64,
 }
@@ -39,6 +42,7 @@ impl<R: Net + Clock + Copy + Drop> MioSpawner<R> {
             alloc,
             silence: None,
             watch: None,
+            asked: None,
             refusals: 0,
             loops: 0,
         }
@@ -69,6 +73,7 @@ impl<R: Net + Clock + Copy + Drop> MioSpawner<R> {
         ensures counted { result ≡ SpawnFault.Refused → Rose self.old.refusals self.new.refusals }
         ensures count { self.old.refusals ≤ self.new.refusals }
         ensures loops { self.new.loops ≡ self.old.loops }
+        ensures asked { self.new.asked ≡ self.old.asked }
     {
         if why == io::ErrorKind::OutOfMemory {
             return SpawnFault::NoMemory;
@@ -108,11 +113,16 @@ impl<R: Net + Clock + Copy + Drop + Send + 'static> Spawner for MioSpawner<R> {
 
     ghost loops = { λ s. s.loops };
 
+    ghost asked = { λ s. option_map (λ uri. uri.value) s.asked };
+
     fn port(&mut self, uri: &AMQPUri) -> Result<(MioPort<R>, Nudge), SpawnFault>
         ensures count { self.old.refusals ≤ self.new.refusals }
         ensures rose { RoseIfRefused result self.old.refusals self.new.refusals }
         ensures loops { self.new.loops ≡ self.old.loops }
+        ensures asked { option_map (λ uri. uri.value) self.new.asked ≡ Some uri.now }
     {
+        self.watch = None;
+        self.asked = Some(Snapshot::of(uri));
         match self.made(uri) {
             Ok((port, nudge, watch)) => {
                 self.watch = Some(watch);
@@ -130,6 +140,7 @@ impl<R: Net + Clock + Copy + Drop + Send + 'static> Spawner for MioSpawner<R> {
         ensures count { self.old.refusals ≤ self.new.refusals }
         ensures rose { RoseIfRefused result self.old.refusals self.new.refusals }
         ensures started { OnOk result (Rose self.old.loops self.new.loops) }
+        ensures asked { self.new.asked ≡ self.old.asked }
     {
         match start() {
             Ok(started) => {
@@ -137,6 +148,13 @@ impl<R: Net + Clock + Copy + Drop + Send + 'static> Spawner for MioSpawner<R> {
                 Ok(started)
             }
             Err(NoMemory) => Err(SpawnFault::NoMemory),
+        }
+    }
+
+    fn cause(&self) -> Cause {
+        match &self.watch {
+            Some(watch) => watch.cause(),
+            None => Cause::Nothing,
         }
     }
 }

@@ -17,6 +17,7 @@ use amqp_session::{AuthProvider, Cmd, Result};
 use amqp_types::NoMemory;
 use futures::task::Source;
 use std::alloc::Global;
+use std::snapshot::Snapshot;
 use std::sync::{Arc, Condvar, CondvarTimeouts, Mutex, MutexGuard, Wait};
 use std::time::{Clock, Duration};
 
@@ -30,6 +31,8 @@ pub struct Shared {
     pub(crate) changed: Condvar,
     pub(crate) over: Condvar,
     pub(crate) nudge: Nudge,
+    // the hub as it was when the connection began, as contracts see it
+    pub(crate) begun: Snapshot<Hub>,
     // once how many octets were entered the journal begins anew, if it does by itself
     pub(crate) settles_after: Option<u64>,
 }
@@ -51,10 +54,12 @@ impl Shared {
     pub fn new(
         alloc: Global,
         locked: Locked,
+        begun: Snapshot<Hub>,
         nudge: Nudge,
         settles_after: Option<u64>,
     ) -> std::result::Result<Arc<Shared>, NoMemory>
-        ensures { IfOk result (λ s. (arc_value s).settles_after ≡ settles_after) }
+        ensures settles { IfOk result (λ s. (arc_value s).settles_after ≡ settles_after) }
+        ensures begun { IfOk result (λ s. (arc_value s).begun.value ≡ begun.value) }
     {
         let shared = Shared {
             alloc,
@@ -63,6 +68,7 @@ impl Shared {
             changed: Condvar::new(),
             over: Condvar::new(),
             nudge,
+            begun,
             settles_after,
         };
         Ok(Arc::new(alloc, shared)?)
@@ -84,10 +90,12 @@ impl Shared {
     {
         let mut guard = self.locked.lock(rt);
         let told = guard.command(pass, cmd);
-        self.keep_up(&mut guard);
+        self.show(&guard);
         let first = guard.nudge();
+        let ended = guard.session().has_ended();
         drop(guard);
         self.nudge_if(first);
+        self.tidy_if(rt, ended);
         told
     }
 
@@ -101,10 +109,12 @@ impl Shared {
     {
         let mut guard = self.locked.lock(rt);
         let told = guard.open(pass);
-        self.keep_up(&mut guard);
+        self.show(&guard);
         let first = guard.nudge();
+        let ended = guard.session().has_ended();
         drop(guard);
         self.nudge_if(first);
+        self.tidy_if(rt, ended);
         told
     }
 
@@ -128,14 +138,16 @@ impl Shared {
         let mut guard = self.locked.lock(rt);
         let told = guard.ask(pass, cmd);
         say_sent(sender, &told);
-        self.keep_up(&mut guard);
+        self.show(&guard);
         let first = guard.nudge();
+        let ended = guard.session().has_ended();
         if answers {
             self.wake_all(guard);
         } else {
             drop(guard);
         }
         self.nudge_if(first);
+        self.tidy_if(rt, ended);
         told
     }
 
@@ -154,21 +166,24 @@ impl Shared {
         self.changed.notify_all();
     }
 
-    // Once the session has ended no turn comes any more. So whoever commands then does what is done between
-    // turns: what nobody will take is let go, and the journal begins anew. Before that the port is shown how the
-    // session stands, since a command may have changed it.
-    fn keep_up(&self, locked: &mut Locked) {
+    // The port is shown how the session stands, where a command may have changed it.
+    fn show(&self, locked: &Locked) {
         self.nudge.show(locked.session().state());
-        if locked.session().has_ended() {
-            locked.tidy();
-            self.settle_in(locked);
+    }
+
+    // Once the session has ended no turn comes any more. So whoever commanded then does what is done between
+    // turns, in holds of its own: what nobody will take is let go, and the journal begins anew.
+    fn tidy_if<R: Wait>(&self, rt: &R, ended: bool) {
+        if ended {
+            self.locked.lock(rt).tidy();
+            self.settle(rt);
         }
     }
 
-    // Lets the journal begin anew where that is worth while.
-    fn settle_in(&self, locked: &mut Locked) {
+    // Lets the journal begin anew where that is worth while, in a hold of its own.
+    fn settle<R: Wait>(&self, rt: &R) {
         if let Some(octets) = self.settles_after {
-            locked.settle_when_due(octets);
+            self.locked.lock(rt).settle_when_due(octets);
         }
     }
 
@@ -201,18 +216,19 @@ impl Shared {
         ended
     }
 
-    /// What a loop does between two turns, each in a hold of its own: what nobody will take is let go, and the
-    /// journal begins anew.
+    /// What a loop does between two turns, each in a hold of its own: what nobody will take is let go; where only
+    /// so much may wait to be taken, the oldest goes of more; and the journal begins anew.
     pub fn rest<R: Wait>(&self, rt: &R) {
         let mut guard = self.locked.lock(rt);
         if guard.has_unasked() {
             guard.let_go();
         }
+        let bounds = guard.is_to_bound();
         drop(guard);
-        if self.settles_after.is_some() {
-            let mut guard = self.locked.lock(rt);
-            self.settle_in(&mut guard);
+        if bounds {
+            self.locked.lock(rt).bound();
         }
+        self.settle(rt);
     }
 
     /// Lends the hub for one hold. Where something was entered then, all who wait are woken, and the loop.
@@ -223,7 +239,9 @@ impl Shared {
         let mut guard = self.locked.lock(rt);
         let before = guard.entries();
         let given = guard.lend(use_hub);
+        let ended = guard.entries() != before && guard.session().has_ended();
         self.let_go_on(guard, before);
+        self.tidy_if(rt, ended);
         given
     }
 
@@ -232,7 +250,7 @@ impl Shared {
         if guard.entries() == before {
             return;
         }
-        self.keep_up(&mut guard);
+        self.show(&guard);
         let first = guard.nudge();
         self.wake_all(guard);
         self.nudge_if(first);

@@ -1,11 +1,13 @@
 //! Who gives ports and threads.
 
-ghost use Rattle.std.specs.Prelude.{◌≡◌, ◌≤◌, ℕ, OnOk};
+ghost use Rattle.std.specs.Prelude.{◌≡◌, ◌≤◌, ℕ, Option, Some, OnOk};
 ghost use Rattle.amqp_types.specs.Counts.{Rose};
+ghost use Rattle.amqp_uri.specs.declared.uri.AMQPUri.{AMQPUri as Uri};
 ghost use Rattle.lapin_connection.specs.Refusals.{RoseIfRefused};
 
 use crate::nudge::Nudge;
 use amqp_engine::Port;
+use amqp_socket::Cause;
 use amqp_types::NoMemory;
 use amqp_uri::AMQPUri;
 use std::thread::JoinHandle;
@@ -50,13 +52,17 @@ pub trait Spawner {
     /// How many loops it started: it rises with each.
     ghost loops: { Self → ℕ };
 
+    /// The address for which it was asked for a port last.
+    ghost asked: { Self → Option Uri };
+
     /// A port for a connection to this address, which has no link yet, and what wakes it once a command
     /// has come. Of the commands between two turns the first alone wakes it, so a port that was woken has to
     /// give a step. One that nothing wakes has to give a step at least each half second.
     fn port(&mut self, uri: &AMQPUri) -> Result<(Self::P, Nudge), SpawnFault>
         ensures count { refusals self.old ≤ refusals self.new }
         ensures rose { RoseIfRefused result (refusals self.old) (refusals self.new) }
-        ensures loops { loops self.new ≡ loops self.old };
+        ensures loops { loops self.new ≡ loops self.old }
+        ensures asked { asked self.new ≡ Some uri.now };
 
     /// Calls `start`, which starts a loop on a thread of its own, or refuses. Where it refuses, the loop
     /// and all that it owns are let go.
@@ -67,5 +73,11 @@ pub trait Spawner {
         requires { F.pre start }
         ensures count { refusals self.old ≤ refusals self.new }
         ensures rose { RoseIfRefused result (refusals self.old) (refusals self.new) }
-        ensures started { OnOk result (Rose (loops self.old) (loops self.new)) };
+        ensures started { OnOk result (Rose (loops self.old) (loops self.new)) }
+        ensures asked { asked self.new ≡ asked self.old };
+
+    /// Why the last link failed of the last port that it gave, as that says; nothing where no port says so.
+    fn cause(&self) -> Cause {
+        Cause::Nothing
+    }
 }

@@ -4,8 +4,10 @@
 //! of that number and wait; `send_and_go N` lets the answer go; `renew` and `close_all` command on the
 //! connection; `many` makes a thousand commands. `drop N` drops a channel. `run` runs the connection; `end`
 //! waits for its end. `ticks N` waits for so many ticks, `through N` says that so many commands have their
-//! numbers, `silent N` tells nothing for so many milliseconds, `shut` ends the input. `until NAME` waits until
-//! that frame was heard; that and `heard` say which frames were since the last look.
+//! numbers, `silent N` tells nothing for so many milliseconds, `shut` ends the input; `pause N` waits for so many
+//! milliseconds. `until NAME` waits until that frame was heard; that and `heard` say which frames were since the
+//! last look. `asked` says the host and the port to which a port was asked for. `prompt ACT` does that act, and
+//! says whether it took less than three seconds.
 
 use crate::gate::Gate;
 use crate::hand::{Done, Hand, Stage, answered, numbered, numbers_of};
@@ -16,7 +18,8 @@ use amqp_types::{LongString, NoMemory, Payload, ShortString};
 use lapin_connection::{Channel, Pending};
 use std::alloc::{AllocError, Global};
 use std::sync::Wait;
-use std::time::Clock;
+use std::thread;
+use std::time::{Clock, Duration};
 
 // ---- what commands are made of
 
@@ -260,6 +263,13 @@ fn until<R: Wait + Clock>(rt: &R, gate: &Gate, hand: &mut Hand, name: &str) -> D
     hand.said.push_str(names.as_str())
 }
 
+// Says to which host and port a port was asked for.
+fn asked<R: Wait>(rt: &R, gate: &Gate, hand: &mut Hand) -> Done {
+    let address = gate.address(rt, hand.alloc)?;
+    hand.say("asked for ")?;
+    hand.said.push_str(address.as_str())
+}
+
 // Says which frames were heard since the last look.
 fn heard<R: Wait>(rt: &R, gate: &Gate, hand: &mut Hand) -> Done {
     let names = gate.look(rt, hand.alloc)?;
@@ -279,7 +289,9 @@ fn at_gate<R: Wait + Clock>(
         "ticks" => gate.tick(rt, number),
         "through" => gate.let_through(number),
         "silent" => gate.be_silent(number),
+        "pause" => thread::sleep(rt, Duration::from_millis(number)),
         "shut" => gate.shut(rt),
+        "asked" => asked(rt, gate, hand)?,
         "heard" => heard(rt, gate, hand)?,
         "drop" => hand.leave((number % 65_536) as u16),
         _ => return Ok(false),
@@ -318,8 +330,43 @@ pub fn parts_of(act: &str) -> (&str, &str) {
     }
 }
 
+// The moment, in milliseconds; 0 where it can't be read.
+fn moment<R: Clock>(rt: &R) -> u128 {
+    match rt.monotonic() {
+        Ok(moment) => moment.as_millis(),
+        Err(error) => {
+            drop(error);
+            0
+        }
+    }
+}
+
+// Does an act, and says whether it took less than three seconds.
+fn promptly<R: Wait + Clock>(rt: &R, stage: &Stage<'_>, hand: &mut Hand, text: &str) -> Done {
+    let begin = moment(rt);
+    plain_act(rt, stage, hand, text)?;
+    let took = moment(rt).saturating_sub(begin);
+    hand.say_whether("at once", took < 3000)
+}
+
 /// Does an act of a caller. Whether it is one.
 pub fn act<R: Wait + Clock>(
+    rt: &R,
+    stage: &Stage<'_>,
+    hand: &mut Hand,
+    act: &str,
+) -> std::result::Result<bool, AllocError> {
+    match act.strip_prefix("prompt ") {
+        Some(act) => {
+            promptly(rt, stage, hand, act)?;
+            Ok(true)
+        }
+        None => plain_act(rt, stage, hand, act),
+    }
+}
+
+// Does an act that is not timed. Whether it is one.
+fn plain_act<R: Wait + Clock>(
     rt: &R,
     stage: &Stage<'_>,
     hand: &mut Hand,

@@ -1,6 +1,6 @@
 //! A port whose steps a story lets through, and the spawner that gives it.
 
-ghost use Rattle.std.specs.Prelude.{◌≡◌, ◌≤◌, None, OnOk, length};
+ghost use Rattle.std.specs.Prelude.{◌≡◌, ◌≤◌, None, OnOk, length, option_map};
 ghost use Rattle.amqp_types.specs.Counts.{Rose};
 ghost use Rattle.amqp_engine.specs.Log.{IsPiece};
 ghost use Rattle.lapin_connection.specs.Refusals.{RoseIfRefused};
@@ -12,6 +12,7 @@ use amqp_uri::AMQPUri;
 use futures::spin::lock;
 use lapin_connection::{Nudge, SpawnFault, Spawner, Started};
 use std::alloc::{AllocError, Global};
+use std::snapshot::Snapshot;
 use std::sync::atomic::{AtomicU64, Ordering};
 use std::sync::{Arc, Mutex, Wait};
 use std::thread;
@@ -30,8 +31,8 @@ pub struct Gate {
 }
 
 // The server; how many ticks were told in place of its steps; how many commands had their numbers at the last
-// step, and how many ticks were told since the last one had; each step that was told, by its kind; and how many
-// of the octets that it heard were looked at.
+// step, and how many ticks were told since the last one had; each step that was told, by its kind; how many of
+// the octets that it heard were looked at; and the host and the port that were asked for last.
 #[derive(Drop)]
 struct Within {
     server: Server,
@@ -40,6 +41,7 @@ struct Within {
     idle: u64,
     told: Vec<u64>,
     looked: usize,
+    address: String,
 }
 
 /// The kind of a step: a piece is told by its length.
@@ -105,6 +107,7 @@ impl Gate {
             idle: 0,
             told: Vec::new(alloc),
             looked: 0,
+            address: String::new(alloc),
         };
         let gate = Gate {
             within: Mutex::new(within),
@@ -187,6 +190,21 @@ impl Gate {
         Ok(told)
     }
 
+    // A port to this address is asked for.
+    fn asked_for(&self, uri: &AMQPUri) {
+        if let Some(mut within) = lock(&self.within) {
+            let host = uri.authority.host.as_str();
+            let port = uri.authority.port;
+            within.address.clear();
+            let _ = write!(within.address, "{host}:{port}");
+        }
+    }
+
+    /// The host and the port that were asked for last.
+    pub fn address<R: Wait>(&self, rt: &R, alloc: Global) -> Result<String, AllocError> {
+        String::from_str(alloc, self.within.lock(rt).address.as_str())
+    }
+
     /// Whether the steps that were told are these, by their kinds.
     pub fn told_so<R: Wait>(&self, rt: &R, kinds: &[u64]) -> bool {
         let within = self.within.lock(rt);
@@ -265,6 +283,8 @@ pub struct GateSpawner<R> {
     refuses: Refuses,
     refused: u64,
     loops: u64,
+    // the address for which a port was asked for last, as contracts see it
+    asked: Option<Snapshot<AMQPUri>>,
 }
 
 impl<R> GateSpawner<R> {
@@ -276,6 +296,7 @@ impl<R> GateSpawner<R> {
             refuses,
             refused: 0,
             loops: 0,
+            asked: None,
         }
     }
 
@@ -292,21 +313,25 @@ impl<R: Clock + Copy + Send + Drop + 'static> Spawner for GateSpawner<R> {
 
     ghost loops = { λ s. s.loops };
 
-    fn port(&mut self, _uri: &AMQPUri) -> Result<(GatePort<R>, Nudge), SpawnFault> {
+    ghost asked = { λ s. option_map (λ uri. uri.value) s.asked };
+
+    fn port(&mut self, uri: &AMQPUri) -> Result<(GatePort<R>, Nudge), SpawnFault> {
+        self.asked = Some(Snapshot::of(uri));
         if matches!(self.refuses, Refuses::Port) {
             self.refuses = Refuses::Nowhere;
             self.refused = self.refused.saturating_add(1);
             return Err(SpawnFault::Refused);
         }
         match self.gate.take() {
-            Some(gate) => Ok((
-                GatePort {
+            Some(gate) => {
+                gate.asked_for(uri);
+                let port = GatePort {
                     rt: self.rt,
                     gate,
                     faults: 0,
-                },
-                Nudge::Silent,
-            )),
+                };
+                Ok((port, Nudge::Silent))
+            }
             None => Err(SpawnFault::NoMemory),
         }
     }
@@ -319,6 +344,7 @@ impl<R: Clock + Copy + Send + Drop + 'static> Spawner for GateSpawner<R> {
         ensures count { self.old.refused ≤ self.new.refused }
         ensures rose { RoseIfRefused result self.old.refused self.new.refused }
         ensures started { OnOk result (Rose self.old.loops self.new.loops) }
+        ensures asked { self.new.asked ≡ self.old.asked }
     {
         if matches!(self.refuses, Refuses::Thread) {
             self.refuses = Refuses::Nowhere;

@@ -3,7 +3,7 @@
 //! What a story owns is let go by one `drop` at its end: where a scope ends or a `?` returns, the check goes
 //! through each part and each variant of what is owned there.
 
-use crate::{hands, telling};
+use crate::{elsewhere, foreign, hands, telling};
 use amqp_session::{ConnectionProperties, ErrorKind, Result};
 use amqp_types::NoMemory;
 use amqp_uri::AMQPUri;
@@ -62,12 +62,12 @@ struct Story {
 
 // ---- how a story begins
 
-// Options of a connection that asks for another link at once.
+// Options of a connection that asks for another link at once, and lets ten octets wait to go out.
 fn recovering(alloc: Global) -> std::result::Result<ConnectionProperties, NoMemory> {
     let mut delays = Vec::new(alloc);
     delays.push(0)?;
     let options = ConnectionProperties::new(alloc)?.with_backoff(delays);
-    options.enable_auto_recover(alloc)
+    Ok(options.enable_auto_recover(alloc)?.with_outbox_limit(10))
 }
 
 // A connection by a builder, which settles after so many octets, if that is said.
@@ -92,6 +92,53 @@ fn built<R: Threads + Wait + Clock + Copy + Send + Drop + 'static>(
     let connection = builder.connect(rt, alloc);
     drop(builder);
     connection
+}
+
+// A connection by a builder, with these options.
+fn built_with<R: Threads + Wait + Clock + Copy + Send + Drop + 'static>(
+    rt: R,
+    alloc: Global,
+    spawner: GateSpawner<R>,
+    options: ConnectionProperties,
+) -> Result<Connection> {
+    match AMQPUri::local(alloc) {
+        Ok(uri) => {
+            let mut builder = ConnectionBuilder::new_with_runtime(spawner)
+                .with_properties(options)
+                .with_uri(uri)
+                .keeping_the_journal();
+            let connection = builder.connect(rt, alloc);
+            drop(builder);
+            connection
+        }
+        Err(refused) => {
+            drop(spawner);
+            drop(options);
+            Err(refused.into())
+        }
+    }
+}
+
+// A connection by a builder, where two events wait at most, and two frames of each channel.
+fn bounded<R: Threads + Wait + Clock + Copy + Send + Drop + 'static>(
+    rt: R,
+    alloc: Global,
+    spawner: GateSpawner<R>,
+) -> Result<Connection> {
+    match AMQPUri::local(alloc) {
+        Ok(uri) => {
+            let mut builder = ConnectionBuilder::new_with_runtime(spawner)
+                .with_uri(uri)
+                .with_backlog_limit(2);
+            let connection = builder.connect(rt, alloc);
+            drop(builder);
+            connection
+        }
+        Err(refused) => {
+            drop(spawner);
+            Err(refused.into())
+        }
+    }
 }
 
 // A connection to the local address with these options.
@@ -124,12 +171,15 @@ fn connection_by<R: Threads + Wait + Clock + Copy + Send + Drop + 'static>(
         "built" => built(rt, alloc, spawner, None),
         "settling" => built(rt, alloc, spawner, Some(3)),
         "recovering" => match recovering(alloc) {
-            Ok(options) => connected(rt, alloc, spawner, options),
+            Ok(options) => built_with(rt, alloc, spawner, options),
             Err(refused) => {
                 drop(spawner);
                 Err(refused.into())
             }
         },
+        "bounded" => bounded(rt, alloc, spawner),
+        "elsewhere" => elsewhere::by_mechanism(rt, alloc, spawner),
+        "handed" => elsewhere::by_another(rt, alloc, spawner),
         _ => match ConnectionProperties::new(alloc) {
             Ok(options) => connected(rt, alloc, spawner, options),
             Err(refused) => {
@@ -246,6 +296,12 @@ fn alone<R: Runs>(rt: &R, story: &mut Story, act: &str) -> std::result::Result<b
     let Some(hand) = story.hands.first_mut() else {
         return Ok(false);
     };
+    if word == "foreign" {
+        if let Some(connection) = stage.connection {
+            foreign::passes(*rt, connection, hand)?;
+        }
+        return Ok(true);
+    }
     if word == "asleep" {
         asleep::flows(rt, &stage, hand, act)?;
         return Ok(true);

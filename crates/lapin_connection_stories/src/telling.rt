@@ -2,14 +2,15 @@
 //!
 //! `status` and `channel N` say what the connection and a channel are, `names` the user and the virtual host,
 //! `agreed` the numbers agreed on. `drops` says which channels were let go, and whether a turn followed;
-//! `turns` whether each step of the port has its turn; `settled` whether the journal began anew; `left N`
-//! whether the answer to that promise is there.
+//! `turns` whether each step of the port has its turn; `settled` whether the journal began anew; `settle` lets it
+//! begin anew, and says whether all its entries went and are counted, and the next entry goes on; `left N` whether
+//! the answer to that promise is there; `gone N` how many events, and frames of that channel, went that nobody took.
 
 use amqp_session::{Cmd, Result};
 use amqp_types::NoMemory;
 use lapin_connection::{ChannelStatus, Connection, ConnectionStatus, Entry, Hub};
 use lapin_connection_acts::gate::{Gate, kind_of};
-use lapin_connection_acts::hand::{Done, Hand, Numbers, Stage, numbered};
+use lapin_connection_acts::hand::{Done, Hand, Numbers, Stage, numbered, numbers_of};
 use std::alloc::{AllocError, Global};
 use std::sync::Wait;
 
@@ -84,10 +85,10 @@ fn names<R: Wait>(
 ) -> std::result::Result<String, AllocError> {
     match (status.vhost(rt), status.username(rt)) {
         (Ok(vhost), Ok(user)) => {
-            let host = if vhost.as_bytes() == b"/".as_slice() {
-                "/"
-            } else {
-                "ANOTHER"
+            let host = match vhost.as_bytes() {
+                b"/" => "/",
+                b"v" => "v",
+                _ => "ANOTHER",
             };
             let text = format!(in alloc; "{} at {host}", user.as_str());
             drop(vhost);
@@ -221,6 +222,54 @@ fn say_settled<R: Wait>(rt: &R, connection: &Connection, hand: &mut Hand) -> Don
     }
 }
 
+// Lets the journal begin anew, and says what went; then a listener's receipt names the next entry.
+fn say_settle<R: Wait>(rt: &R, connection: &Connection, hand: &mut Hand) -> Done {
+    let journal_before = journal(rt, connection)?;
+    let kept = journal_before.len() as u64;
+    drop(journal_before);
+    let before = settled(rt, connection)?;
+    match connection.settle(rt) {
+        Ok(gone) => {
+            let begins = settled(rt, connection)?;
+            let whole = gone == kept && begins == before.saturating_add(kept);
+            hand.say_whether("all went and is counted", whole && kept > 0)?;
+            say_next_entry(rt, connection, hand, begins)
+        }
+        Err(error) => hand.say_error(error),
+    }
+}
+
+// Says whether the entry of a command is the next after so many, and stands first in the journal.
+fn say_next_entry<R: Wait>(rt: &R, connection: &Connection, hand: &mut Hand, count: u64) -> Done {
+    let numbers = match hand.passes.first_mut() {
+        Some(pass) => match connection.events_listener(rt, pass) {
+            Ok(listener) => {
+                let numbers = numbers_of(Some(listener.receipt()));
+                drop(listener);
+                numbers
+            }
+            Err(error) => return hand.say_error(error),
+        },
+        None => return hand.say("NO PASS"),
+    };
+    let journal = journal(rt, connection)?;
+    let (pass, nth, entry) = numbers;
+    let first = names_its_entry(&journal, &(pass, nth, entry.saturating_sub(count)));
+    drop(journal);
+    hand.say_whether("the next goes on", first && entry == count)
+}
+
+// Says how many events went that nobody took, and how many frames of a channel.
+fn say_gone<R: Wait>(rt: &R, connection: &Connection, hand: &mut Hand, id: u16) -> Done {
+    let events = connection.events_gone(rt);
+    let frames = match numbered(&hand.channels, id) {
+        Some(channel) => channel.frames_gone(rt),
+        None => return hand.say("NO CHANNEL"),
+    };
+    let text = format!(in hand.alloc; "{events} events and {frames} frames went")?;
+    hand.say(text.as_str())
+}
+
 // Whether this promise has an answer that was not taken.
 fn has_answer(hub: &mut Hub, number: u64) -> bool {
     match hub.poll(number) {
@@ -259,6 +308,8 @@ pub fn act<R: Wait>(
         "drops" => say_drops(rt, connection, hand)?,
         "turns" => say_turns(rt, connection, stage.gate, hand)?,
         "settled" => say_settled(rt, connection, hand)?,
+        "settle" => say_settle(rt, connection, hand)?,
+        "gone" => say_gone(rt, connection, hand, (number % 65_536) as u16)?,
         "left" => say_answered(rt, connection, hand, number)?,
         _ => return Ok(false),
     }

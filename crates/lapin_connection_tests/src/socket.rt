@@ -4,5 +4,6 @@ mod addresses;
 mod links;
 mod nudges;
 mod quiet;
+mod reaching;
 mod seen;
 mod times;

@@ -89,7 +89,10 @@ impl Locked {
                 drop(found);
             }
             Owner::Connection => self.found.push_reserved(found),
-            Owner::Channel(_) => self.late.push_back_reserved(Late { found, since: at }),
+            Owner::Channel(opened) => {
+                self.backlog.forget(opened);
+                self.late.push_back_reserved(Late { found, since: at });
+            }
         }
     }
 

@@ -1,7 +1,7 @@
 //! A port before a server that says each piece once it has heard all that it waits for, and the spawner
 //! that gives it.
 
-ghost use Rattle.std.specs.Prelude.{◌≡◌, ◌≤◌, ◌<◌, None, IfSome, OnOk, length};
+ghost use Rattle.std.specs.Prelude.{◌≡◌, ◌≤◌, ◌<◌, None, IfSome, OnOk, length, option_map};
 ghost use Rattle.amqp_types.specs.Counts.{Rose};
 ghost use Rattle.amqp_engine.specs.Counts.{HasCause};
 ghost use Rattle.amqp_engine.specs.Log.{IsPiece};
@@ -13,6 +13,7 @@ use amqp_uri::AMQPUri;
 use amqp_vectors::{octets_of, push_octets};
 use lapin_connection::{Nudge, SpawnFault, Spawner, Started};
 use std::alloc::Global;
+use std::snapshot::Snapshot;
 use std::test::Fail;
 use std::thread;
 use std::time::{Clock, Duration};
@@ -194,6 +195,8 @@ pub struct ServerSpawner<R> {
     refuses: Refuses,
     refused: u64,
     loops: u64,
+    // the address for which a port was asked for last, as contracts see it
+    asked: Option<Snapshot<AMQPUri>>,
 }
 
 impl<R> ServerSpawner<R> {
@@ -205,6 +208,7 @@ impl<R> ServerSpawner<R> {
             refuses,
             refused: 0,
             loops: 0,
+            asked: None,
         }
     }
 
@@ -221,7 +225,10 @@ impl<R: Clock + Copy + Send + Drop + 'static> Spawner for ServerSpawner<R> {
 
     ghost loops = { λ s. s.loops };
 
-    fn port(&mut self, _uri: &AMQPUri) -> Result<(ServerPort<R>, Nudge), SpawnFault> {
+    ghost asked = { λ s. option_map (λ uri. uri.value) s.asked };
+
+    fn port(&mut self, uri: &AMQPUri) -> Result<(ServerPort<R>, Nudge), SpawnFault> {
+        self.asked = Some(Snapshot::of(uri));
         if self.refuses == Refuses::Port {
             self.refuses = Refuses::Nowhere;
             self.refused = self.refused.saturating_add(1);
@@ -251,6 +258,7 @@ impl<R: Clock + Copy + Send + Drop + 'static> Spawner for ServerSpawner<R> {
         ensures count { self.old.refused ≤ self.new.refused }
         ensures rose { RoseIfRefused result self.old.refused self.new.refused }
         ensures started { OnOk result (Rose self.old.loops self.new.loops) }
+        ensures asked { self.new.asked ≡ self.old.asked }
     {
         if self.refuses == Refuses::Thread {
             self.refuses = Refuses::Nowhere;

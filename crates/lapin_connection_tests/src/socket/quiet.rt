@@ -1,6 +1,6 @@
 //! A port that tells nothing but that time passes, and what would end its wait, which is a test's own.
 
-ghost use Rattle.std.specs.Prelude.{◌≤◌, None, OnOk};
+ghost use Rattle.std.specs.Prelude.{◌≤◌, None, OnOk, option_map};
 ghost use Rattle.amqp_types.specs.Counts.{Rose};
 ghost use Rattle.lapin_connection.specs.Refusals.{RoseIfRefused};
 
@@ -9,6 +9,7 @@ use amqp_types::NoMemory;
 use amqp_uri::AMQPUri;
 use lapin_connection::{Nudge, SpawnFault, Spawner, Started};
 use mio::Waker;
+use std::snapshot::Snapshot;
 use std::sync::Arc;
 use std::sync::atomic::{AtomicU64, Ordering};
 use std::thread;
@@ -91,6 +92,8 @@ pub struct QuietSpawner<R> {
     rt: R,
     given: Option<(Arc<Waker>, Arc<AtomicU64>)>,
     loops: u64,
+    // the address for which a port was asked for last, as contracts see it
+    asked: Option<Snapshot<AMQPUri>>,
 }
 
 impl<R> QuietSpawner<R> {
@@ -100,6 +103,7 @@ impl<R> QuietSpawner<R> {
             rt,
             given: Some((waker, orders)),
             loops: 0,
+            asked: None,
         }
     }
 }
@@ -111,7 +115,10 @@ impl<R: Clock + Copy + Send + Drop + 'static> Spawner for QuietSpawner<R> {
 
     ghost loops = { λ s. s.loops };
 
-    fn port(&mut self, _uri: &AMQPUri) -> Result<(Quiet<R>, Nudge), SpawnFault> {
+    ghost asked = { λ s. option_map (λ uri. uri.value) s.asked };
+
+    fn port(&mut self, uri: &AMQPUri) -> Result<(Quiet<R>, Nudge), SpawnFault> {
+        self.asked = Some(Snapshot::of(uri));
         match self.given.take() {
             Some((waker, orders)) => {
                 let port = Quiet {
@@ -133,6 +140,7 @@ impl<R: Clock + Copy + Send + Drop + 'static> Spawner for QuietSpawner<R> {
         ensures count { 0 ≤ 0 }
         ensures rose { RoseIfRefused result 0 0 }
         ensures started { OnOk result (Rose self.old.loops self.new.loops) }
+        ensures asked { self.new.asked ≡ self.old.asked }
     {
         match start() {
             Ok(started) => {

@@ -1,7 +1,7 @@
 use Rattle.std.proofs.Common.{◌≡◌, ℕ, List, Option, IfSome, inl, inr, subst, arith}
 use Rattle.amqp_uri.specs.Address.{address_of_text}
 use Rattle.amqp_live.specs.Said.{SaysAll}
-use Rattle.amqp_live.specs.Ends.{IsReached, SaysWhy, SaysAsFar, FailsToSay}
+use Rattle.amqp_live.specs.Ends.{IsReached, AsksFor, SaysWhy, SaysAsFar, FailsToSay}
 use Rattle.amqp_live.specs.declared.live.Stop.TheVariants.{Unsaid, Unconnected, Failed}
 use Rattle.amqp_live.proofs.Lines.{says-error, says-no_more, still-nothing, front-error, front-first, goes-unsaid, goes-failed, goes-unconnected}
 use Rattle.amqp_live.proofs.live.top_live.Goals as goal
@@ -12,6 +12,11 @@ returns-in-Ok-clause-closed g c = λ is.
     let later = g.K.Sink.held c.converse.new.sink in
     let P : Option (List ℕ) → Type 0 = λ o. IfSome o (λ uri. IsReached (address_of_text uri) (g.S.Spawner.loops c.args.runtime.now) (g.S.Spawner.loops c.converse.new.runtime) × SaysAll before later) in
     subst P c.in-Some.ensures c.in-Ok.ensures.goes
+
+pub returns-in-Ok-clause-asked : goal.returns-in-Ok-clause-asked
+returns-in-Ok-clause-asked g c = λ is.
+    let P : Option (List ℕ) → Type 0 = λ o. IfSome o (λ uri. AsksFor (address_of_text uri) (g.S.Spawner.asked c.converse.new.runtime)) in
+    subst P c.in-Some.ensures c.in-Ok.ensures.asked
 
 pub returns-in-Err-Unsaid-clause-sink_failed : goal.returns-in-Err-Unsaid-clause-sink_failed
 returns-in-Err-Unsaid-clause-sink_failed g c = λ is.
