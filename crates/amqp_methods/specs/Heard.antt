@@ -59,6 +59,10 @@ tag_and_flags_at = number_at w64 ⊗ octet_at
 abbrev pub deliver_arguments_at : Reader (List ℕ × (ℕ × (ℕ × (List ℕ × List ℕ))))
 deliver_arguments_at = short_string_at ⊗ (number_at w64 ⊗ (octet_at ⊗ (short_string_at ⊗ short_string_at)))
 
+-- the arguments of basic.return: a code, a text, the exchange and the routing key
+abbrev pub return_arguments_at : Reader (ℕ × (List ℕ × (List ℕ × List ℕ)))
+return_arguments_at = number_at w16 ⊗ (short_string_at ⊗ (short_string_at ⊗ short_string_at))
+
 -- the delivery that these arguments are
 abbrev pub delivery_of : List ℕ × (ℕ × (ℕ × (List ℕ × List ℕ))) → Deliver
 delivery_of a =

@@ -23,11 +23,12 @@ pub enum Stage {
 #[derive(Drop)]
 pub struct Arriving {
     stage: Stage,
+    redelivered: bool,
     body: Vec<u8>,
 }
 
-// How many octets the body has, by its content header.
-fn size_in(header: &[u8]) -> u64
+/// How many octets the body has, by its content header.
+pub fn size_in(header: &[u8]) -> u64
     ensures { result ≡ body_size header.now }
 {
     if header.len() < 12 {
@@ -46,6 +47,7 @@ impl Arriving {
     {
         Arriving {
             stage: Stage::Idle,
+            redelivered: false,
             body: Vec::new(alloc),
         }
     }
@@ -57,8 +59,12 @@ impl Arriving {
     {
         let delivered = read_deliver(alloc, payload)?;
         self.body.clear();
+        self.redelivered = false;
         self.stage = match &delivered {
-            Some(deliver) => Stage::Announced(deliver.delivery_tag),
+            Some(deliver) => {
+                self.redelivered = deliver.redelivered;
+                Stage::Announced(deliver.delivery_tag)
+            }
             None => Stage::Idle,
         };
         drop(delivered);
@@ -97,6 +103,13 @@ impl Arriving {
             Stage::Missing(tag, 0) => Some(tag),
             _ => None,
         }
+    }
+
+    /// Whether the broker says that it may have delivered the message before.
+    pub fn redelivered(&self) -> bool
+        ensures { result ≡ self.now.redelivered }
+    {
+        self.redelivered
     }
 
     /// What has come of the body.

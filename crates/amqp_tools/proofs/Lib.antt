@@ -1,0 +1,2 @@
+-- what is acknowledged was printed, and taken by the sink
+pub mod Acknowledging
