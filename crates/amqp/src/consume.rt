@@ -4,7 +4,9 @@
 use crate::consumer::{Consumer, Wanted};
 use crate::given::{framing, most, number};
 use amqp_client::{Links, Own, Stop, short};
-use amqp_tools::{Consuming, Given, Opt, are_of, consuming_of, count_of, has, value_of, words_of};
+use amqp_tools::{
+    Consuming, Given, Opt, Written, are_of, consuming_of, count_of, has, value_of, words_of,
+};
 use amqp_types::{NoMemory, Text};
 use std::alloc::{AllocGlobal, Global};
 use std::io::{self, BufWriter, Eprint, Print};
@@ -120,7 +122,7 @@ where
     let client = links.first(rt, alloc, &mut own, seconds)?;
     let mut consumer = Consumer::new(alloc, links, client, wanted);
     let mut out = match BufWriter::with_capacity(alloc, BLOCK, io::writer(&rt)) {
-        Ok(out) => out,
+        Ok(out) => Written::new(out),
         Err(_) => return Err(NoMemory.into()),
     };
     let ended = consumer.consume_all(&rt, &mut own, &mut out);

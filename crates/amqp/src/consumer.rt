@@ -7,11 +7,13 @@ use amqp_methods::{
     basic_qos, header_named, read_properties,
 };
 use amqp_session::{Error, ErrorKind, Handed};
-use amqp_tools::{Arriving, Coming, Framing, Heard, Once, Taking, mark_of, size_in, told_by};
+use amqp_tools::{
+    Arriving, Coming, Delivery, Framing, Heard, Sink, Taking, Untaken, size_in, told_by,
+};
 use amqp_types::{FieldTable, ShortString, Text};
 use lapin_connection::Pending;
 use std::alloc::{AllocGlobal, Global};
-use std::io::{Eprint, Write};
+use std::io::Eprint;
 use std::net::Net;
 use std::random::RandomSource;
 use std::sync::Wait;
@@ -53,7 +55,6 @@ pub struct Consumer<'a> {
     wanted: Wanted,
     taking: Taking,
     arriving: Arriving,
-    once: Once,
     // the properties of the message that arrives, where they are looked at
     properties: Vec<u8>,
     // how many may be delivered and not acknowledged, as the broker was told
@@ -75,7 +76,6 @@ impl<'a> Consumer<'a> {
             wanted,
             taking: Taking::new(alloc, count),
             arriving: Arriving::new(alloc),
-            once: Once::new(alloc),
             properties: Vec::new(alloc),
             ahead: MOST_UNACKNOWLEDGED,
             asked: None,
@@ -118,11 +118,11 @@ impl<'a> Consumer<'a> {
     }
 
     /// Asks for messages, prints and acknowledges them, until as many as are wanted are known to be acknowledged.
-    pub fn consume_all<R, W: Write>(
+    pub fn consume_all<R, S: Sink>(
         &mut self,
         rt: &R,
         own: &mut Own,
-        out: &mut W,
+        out: &mut S,
     ) -> Result<(), Stop>
     where
         R: Threads
@@ -152,7 +152,7 @@ impl<'a> Consumer<'a> {
     }
 
     // Waits for what comes next, and does it.
-    fn step<R, W: Write>(&mut self, rt: &R, own: &mut Own, out: &mut W) -> Result<(), Stop>
+    fn step<R, S: Sink>(&mut self, rt: &R, own: &mut Own, out: &mut S) -> Result<(), Stop>
     where
         R: Threads
             + Wait
@@ -234,7 +234,7 @@ impl<'a> Consumer<'a> {
     }
 
     // Prints the messages that become whole by these frames, as many as are wanted.
-    fn print<W: Write>(&mut self, frames: Vec<Handed>, out: &mut W) -> Result<(), Stop> {
+    fn print<S: Sink>(&mut self, frames: Vec<Handed>, out: &mut S) -> Result<(), Stop> {
         self.waited = 0;
         for frame in frames {
             let heard = self.hear(&frame);
@@ -282,67 +282,32 @@ impl<'a> Consumer<'a> {
         Ok(())
     }
 
-    // The value of the property by which a message is told that was printed.
-    fn value(&self) -> Option<&[u8]> {
-        let name = self.wanted.once.as_ref()?;
-        let properties = read_properties(&self.properties)?;
-        if name.as_str() == "message-id" {
-            return properties.message_id;
-        }
-        let (_tag, value) = header_named(properties.headers?, name.as_str().as_bytes())?;
-        Some(value)
-    }
-
     // Takes the message that is whole: it is printed, where it is wanted and was not printed before.
-    fn take<W: Write>(&mut self, tag: u64, out: &mut W) -> Result<(), Stop> {
-        let mark = mark_of(self.arriving.body());
-        match self.taking.come(tag, self.arriving.redelivered(), mark)? {
-            Coming::Wanted => self.print_new(out),
-            Coming::Unwanted => Ok(()),
-            Coming::Astray => Err(Stop::Astray),
-        }
-    }
-
-    // Prints the message that is whole, but for one whose value was printed.
-    fn print_new<W: Write>(&mut self, out: &mut W) -> Result<(), Stop> {
-        match self.value() {
-            None => self.print_whole(out),
-            Some(value) if self.once.has(value)? => Ok(()),
-            Some(value) => {
-                let value = match Vec::from_slice(self.alloc, value) {
-                    Ok(value) => value,
-                    Err(_) => return Err(Stop::Failed(ErrorKind::NoMemory.into())),
-                };
-                self.print_whole(out)?;
-                Ok(self.once.keep(value)?)
-            }
-        }
-    }
-
-    // Prints the message that is whole.
-    fn print_whole<W: Write>(&self, out: &mut W) -> Result<(), Stop> {
-        let body = self.arriving.body();
-        let written = match self.wanted.framing {
-            Framing::Lines => out.write_all(body).and(out.write_all(b"\n")),
-            Framing::Zeros => out.write_all(body).and(out.write_all(b"\0")),
-            Framing::Lengths => out
-                .write_all(&(body.len().min(u32::MAX as usize) as u32).to_be_bytes())
-                .and(out.write_all(body)),
+    fn take<S: Sink>(&mut self, tag: u64, out: &mut S) -> Result<(), Stop> {
+        let name = match &self.wanted.once {
+            Some(property) => value_of(property.as_str(), &self.properties),
+            None => None,
         };
-        match written {
-            Ok(()) => Ok(()),
-            Err(_) => Err(Stop::Unwritten),
+        let delivery = Delivery {
+            tag,
+            redelivered: self.arriving.redelivered(),
+            name,
+            body: self.arriving.body(),
+        };
+        match self.taking.come(out, self.wanted.framing, delivery) {
+            Ok(Coming::Astray) => Err(Stop::Astray),
+            Ok(_) => Ok(()),
+            Err(why) => Err(untaken(why)),
         }
     }
 
     // Acknowledges what was printed, once it is written. The broker is told before how few may come after it.
-    fn acknowledge<R: Wait, W: Write>(&mut self, rt: &R, out: &mut W) -> Result<(), Stop> {
+    fn acknowledge<R: Wait, S: Sink>(&mut self, rt: &R, out: &mut S) -> Result<(), Stop> {
         self.hear_answer(rt);
-        if out.flush().is_err() {
-            return Err(Stop::Unwritten);
-        }
-        let Some(tag) = self.taking.taken()? else {
-            return Ok(());
+        let tag = match self.taking.acknowledge(out) {
+            Ok(Some(tag)) => tag,
+            Ok(None) => return Ok(()),
+            Err(why) => return Err(untaken(why)),
         };
         self.bound(rt)?;
         let method = basic_ack(self.alloc, tag, BasicAckOptions { multiple: true })?;
@@ -468,5 +433,23 @@ fn tag(alloc: Global) -> Result<ShortString, Stop> {
     match ShortString::new(alloc, TAG) {
         Ok(tag) => Ok(tag),
         Err(_) => Err(Stop::Failed(ErrorKind::NoMemory.into())),
+    }
+}
+
+// The value of a property of the message whose properties these octets are: its message id, or a header.
+fn value_of<'a>(name: &str, octets: &'a [u8]) -> Option<&'a [u8]> {
+    let properties = read_properties(octets)?;
+    if name == "message-id" {
+        return properties.message_id;
+    }
+    let (_tag, value) = header_named(properties.headers?, name.as_bytes())?;
+    Some(value)
+}
+
+// Why the program goes no further, where a message could not be taken.
+fn untaken(why: Untaken) -> Stop {
+    match why {
+        Untaken::Unwritten => Stop::Unwritten,
+        Untaken::NoMemory => Stop::Failed(ErrorKind::NoMemory.into()),
     }
 }

@@ -177,8 +177,8 @@ impl<'a, F: Write + Drop> Publisher<'a, F> {
             if !self.has_room() {
                 return Ok(Ready::Room);
             }
-            let body = match bodies.next() {
-                Part::Body(body) => Payload::new(self.alloc, body)?,
+            let body = match bodies.next()? {
+                Part::Body(body) => body,
                 Part::More => return Ok(Ready::Input),
                 Part::End => return Ok(Ready::Done),
                 Part::TooLarge(most) => return Err(Stop::TooLong(most)),

@@ -1,7 +1,7 @@
 //! Which publishes of a channel in confirm mode the broker has not answered.
 
 ghost use Rattle.std.specs.Prelude.{◌≡◌, ◌+◌, ◌++◌, ◌∷◌, [], ℕ, List, Bool, None, length, IfOk, OnOk, OnErr};
-ghost use Rattle.amqp_tools.specs.Confirms.{means, left_unanswered, meant};
+ghost use Rattle.amqp_tools.specs.Confirms.{means, left_unanswered, meant, is_given_back, given_back};
 ghost use Rattle.amqp_tools.specs.declared.confirms.Open.{Open as OneOpen};
 
 use amqp_types::{NoMemory, Payload};
@@ -47,6 +47,29 @@ impl Open {
         ensures { result ≡ means tag multiple self.now.number }
     {
         means(tag, multiple, self.number)
+    }
+}
+
+// Whether a message with this body is meant where one is given back: it was not given back yet.
+fn is_given_back(open: &Open, body: &[u8]) -> bool
+    ensures { result ≡ is_given_back body.now open.now }
+{
+    match &open.body {
+        Some(kept) => open.returned.is_none() && kept.as_bytes() == body,
+        None => false,
+    }
+}
+
+// Gives the first of those back that is meant.
+fn give_back_first(opens: &mut [Open], code: u16, body: &[u8])
+    ensures { opens.new ≡ given_back code body.now opens.old }
+{
+    if let [first, rest @ ..] = opens {
+        if is_given_back(first, body) {
+            first.returned = Some(code);
+        } else {
+            give_back_first(rest, code, body);
+        }
     }
 }
 
@@ -124,16 +147,11 @@ impl Confirms {
 
     /// The broker gave a message with this body back, with a code: the first of it that has no answer and was
     /// not given back yet.
-    pub fn give_back(&mut self, code: u16, body: &[u8]) {
-        for open in self.unanswered.as_mut_slice() {
-            if let Some(kept) = &open.body
-                && open.returned.is_none()
-                && kept.as_bytes() == body
-            {
-                open.returned = Some(code);
-                return;
-            }
-        }
+    pub fn give_back(&mut self, code: u16, body: &[u8])
+        ensures unanswered { self.new.unanswered.items ≡ given_back code body.now self.old.unanswered.items }
+        ensures published { (self.new.published ≡ self.old.published) × (self.new.messages ≡ self.old.messages) }
+    {
+        give_back_first(&mut self.unanswered, code, body);
     }
 
     /// Those that have no answer, in order.

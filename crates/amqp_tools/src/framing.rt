@@ -1,7 +1,12 @@
 //! How bodies stand one after another in a stream of octets.
 
-use amqp_types::NoMemory;
+ghost use Rattle.std.specs.Prelude.{◌≡◌, ◌==◌, ◌<◌, ◌≤◌, ◌+◌, ◌++◌, true, [], false, IfOk, IfSome, OnOk, length, drop, position, if◌then◌else◌};
+ghost use Rattle.amqp_tools.specs.Bodies.{next, without_next, up_to, last_body, behind_length, body_at, is_end};
+ghost use Rattle.amqp_tools.specs.declared.framing.Part.TheVariants.{More, End, Torn};
+
+use amqp_types::{NoMemory, Payload};
 use std::alloc::Global;
+use std::marker::Model;
 
 /// How bodies stand one after another.
 #[derive(Clone, Copy, Debug, PartialEq, Eq)]
@@ -15,10 +20,10 @@ pub enum Framing {
 }
 
 /// What comes next of a stream.
-#[derive(Clone, Copy, Debug, PartialEq, Eq)]
-pub enum Part<'a> {
+#[derive(Drop)]
+pub enum Part {
     /// A body.
-    Body(&'a [u8]),
+    Body(Payload),
     /// More octets are to come first.
     More,
     /// The stream has ended.
@@ -32,32 +37,50 @@ pub enum Part<'a> {
 /// Octets that came, and the bodies that stand in them.
 #[derive(Drop)]
 pub struct Bodies {
+    alloc: Global,
     framing: Framing,
     // how many octets a body may have
     most: usize,
     held: Vec<u8>,
     // the first octet that was not given
     at: usize,
-    // behind it, the first octet that was not looked at for an end
+    // how many octets from there on were looked at, and are no end of a body
     seen: usize,
     ended: bool,
 }
 
-// Where an octet stands first at or behind a place.
-fn found(octets: &[u8], octet: u8, from: usize) -> Option<usize> {
-    if octets.len() < from {
-        return None;
-    }
-    match octets[from..].iter().position(|o| *o == octet) {
-        Some(place) => Some(from + place),
-        None => None,
-    }
+impl Model for Bodies {
+    ghost use Rattle.std.specs.Prelude.{◌≡◌, ◌+◌, ◌≤◌, drop, take, length, position, None};
+    ghost use Rattle.amqp_tools.specs.Bodies.{Stream, is_end};
+
+    ghost Value = { Stream };
+
+    ghost view = { λ b. record {
+      framing = b.framing;
+      most = b.most;
+      rest = drop b.at b.held.items;
+      ended = b.ended;
+    } };
+
+    ghost invariant = { λ b. (b.at + b.seen ≤ length b.held.items)
+        × (position (is_end b.framing) (take b.seen (drop b.at b.held.items)) ≡ None) };
+}
+
+// The place of the first such octet.
+fn place_of(octets: &[u8], octet: u8) -> Option<usize>
+    ensures at { result ≡ position (λ o. o == octet) octets.now }
+    ensures within { IfSome result (λ at. at < length octets.now) }
+{
+    octets.iter().position(|o| *o == octet)
 }
 
 impl Bodies {
-    /// None came.
-    pub fn new(alloc: Global, framing: Framing, most: usize) -> Bodies {
+    /// None came of a stream whose bodies stand so, and have at most so many octets.
+    pub fn new(alloc: Global, framing: Framing, most: usize) -> Bodies
+        ensures { result ≡ record { framing = framing; most = most; rest = []; ended = false } }
+    {
         Bodies {
+            alloc,
             framing,
             most,
             held: Vec::new(alloc),
@@ -67,23 +90,29 @@ impl Bodies {
         }
     }
 
-    /// Octets came. Those that were given are let go.
-    pub fn push(&mut self, octets: &[u8]) -> Result<(), NoMemory> {
-        let at = self.at.min(self.held.len());
+    /// Octets came.
+    pub fn push(&mut self, octets: &[u8]) -> Result<(), NoMemory>
+        ensures { OnOk result (self.new ≡ record self.old { rest = self.old.rest ++ octets.now }) }
+    {
+        let at = self.at;
         drop(self.held.drain(..at));
-        self.seen = self.seen.saturating_sub(at);
         self.at = 0;
         self.held.extend_from_slice(octets)?;
         Ok(())
     }
 
     /// No more octets come.
-    pub fn end(&mut self) {
+    pub fn end(&mut self)
+        ensures { self.new ≡ record self.old { ended = true } }
+    {
         self.ended = true;
     }
 
     /// The next body.
-    pub fn next(&mut self) -> Part<'_> {
+    pub fn next(&mut self) -> Result<Part, NoMemory>
+        ensures part { IfOk result (λ part. part ≡ (next self.old).0) }
+        ensures new { OnOk result (self.new ≡ without_next self.old) }
+    {
         match self.framing {
             Framing::Lines => self.until(b'\n'),
             Framing::Zeros => self.until(0),
@@ -92,60 +121,90 @@ impl Bodies {
     }
 
     // The next body that such an octet ends.
-    fn until(&mut self, octet: u8) -> Part<'_> {
-        let from = self.at.max(self.seen);
-        let begin = self.at.min(self.held.len());
-        match found(&self.held, octet, from) {
-            Some(end) if end.saturating_sub(begin) > self.most => Part::TooLarge(self.most),
-            Some(end) => {
-                self.at = end.saturating_add(1);
-                self.seen = self.at;
-                Part::Body(&self.held[begin.min(end)..end])
+    fn until(&mut self, octet: u8) -> Result<Part, NoMemory>
+        requires { is_end self.old.framing ≡ (λ o. o == octet) }
+        ensures part { IfOk result (λ part. part ≡ (up_to (position (is_end self.old.framing) self.old.rest) self.old).0) }
+        ensures new { OnOk result (self.new ≡ record self.old {
+          rest = drop (up_to (position (is_end self.old.framing) self.old.rest) self.old).1 self.old.rest;
+        }) }
+    {
+        let rest = &self.held[self.at..];
+        match place_of(&rest[self.seen..], octet) {
+            Some(place) => {
+                let size = self.seen + place;
+                self.give(0, size, size + 1)
             }
-            None => self.unended(begin),
+            None => {
+                self.seen = rest.len();
+                self.last()
+            }
         }
     }
 
-    // The same, where no such octet stands there.
-    fn unended(&mut self, begin: usize) -> Part<'_> {
-        let end = self.held.len();
-        self.seen = end;
-        if end.saturating_sub(begin) > self.most {
-            Part::TooLarge(self.most)
+    // The last body, where no more octets come.
+    fn last(&mut self) -> Result<Part, NoMemory>
+        ensures part { IfOk result (λ part. part ≡ (last_body self.old).0) }
+        ensures new { OnOk result (self.new ≡ record self.old { rest = drop (last_body self.old).1 self.old.rest }) }
+    {
+        let size = self.held.len() - self.at;
+        if size > self.most {
+            Ok(Part::TooLarge(self.most))
         } else if !self.ended {
-            Part::More
-        } else if begin >= end {
-            Part::End
+            Ok(Part::More)
+        } else if size == 0 {
+            Ok(Part::End)
         } else {
-            self.at = end;
-            Part::Body(&self.held[begin..])
+            self.give(0, size, size)
         }
     }
 
     // The next body behind its length.
-    fn behind_length(&mut self) -> Part<'_> {
-        let begin = self.at.min(self.held.len());
-        let left = &self.held[begin..];
-        if left.len() < 4 {
-            return match (self.ended, left.is_empty()) {
-                (false, _) => Part::More,
-                (true, true) => Part::End,
-                (true, false) => Part::Torn,
-            };
+    fn behind_length(&mut self) -> Result<Part, NoMemory>
+        ensures part { IfOk result (λ part. part ≡ (behind_length self.old).0) }
+        ensures new { OnOk result (self.new ≡ record self.old { rest = drop (behind_length self.old).1 self.old.rest }) }
+    {
+        let rest = &self.held[self.at..];
+        if rest.len() < 4 {
+            return Ok(self.cut_off(rest.is_empty()));
         }
         let mut octets = [0; 4];
-        octets.copy_from_slice(&left[..4]);
-        let length = u32::from_be_bytes(octets) as usize;
-        if length > self.most {
-            Part::TooLarge(self.most)
-        } else if left.len() - 4 >= length {
-            self.at = begin.saturating_add(length).saturating_add(4);
-            let body = &self.held[begin..];
-            Part::Body(&body[4..4 + length])
-        } else if self.ended {
-            Part::Torn
+        octets.copy_from_slice(&rest[..4]);
+        let size = u32::from_be_bytes(octets) as usize;
+        if size > self.most {
+            Ok(Part::TooLarge(self.most))
+        } else if rest.len() < size + 4 {
+            Ok(self.cut_off(false))
         } else {
-            Part::More
+            self.give(4, size, size + 4)
         }
+    }
+
+    // What comes next where no whole body is there: whether no octet is.
+    fn cut_off(&self, is_empty: bool) -> Part
+        ensures { result ≡ (if self.now.ended then (if is_empty then End else Torn) else More) }
+    {
+        match (self.ended, is_empty) {
+            (false, _) => Part::More,
+            (true, true) => Part::End,
+            (true, false) => Part::Torn,
+        }
+    }
+
+    // Gives the body of so many octets that stands behind so many others, with so many to its end.
+    fn give(&mut self, before: usize, size: usize, all: usize) -> Result<Part, NoMemory>
+        requires { before + size ≤ all }
+        requires { all ≤ length self.old.rest }
+        ensures part { IfOk result (λ part. part ≡ (body_at self.old before size all).0) }
+        ensures new { OnOk result (self.new
+            ≡ record self.old { rest = drop (body_at self.old before size all).1 self.old.rest }) }
+    {
+        if size > self.most {
+            return Ok(Part::TooLarge(self.most));
+        }
+        let rest = &self.held[self.at..];
+        let body = Payload::new(self.alloc, &rest[before..before + size])?;
+        self.at += all;
+        self.seen = 0;
+        Ok(Part::Body(body))
     }
 }

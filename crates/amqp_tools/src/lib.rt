@@ -6,8 +6,10 @@ mod arriving;
 mod confirms;
 mod framing;
 mod heard;
+mod laws;
 mod once;
 mod options;
+mod sink;
 pub mod status;
 mod tags;
 mod taking;
@@ -17,10 +19,12 @@ pub use arriving::{Arriving, Stage, size_in};
 pub use confirms::{Confirms, Open, each_is_answered_or_not};
 pub use framing::{Bodies, Framing, Part};
 pub use heard::{Heard, told_by};
+pub use laws::what_is_acknowledged_was_printed;
 pub use once::Once;
 pub use options::{Given, Opt, Words, are_of, has, value_of, words_of};
-pub use tags::{Deed, Tags, what_is_acknowledged_was_printed};
-pub use taking::{Coming, Mark, Taking, mark_of};
+pub use sink::{MemorySink, Sink, Written, print};
+pub use tags::{Deed, Tags};
+pub use taking::{Coming, Delivery, Mark, Taking, Untaken, mark_of};
 pub use wanted::{
     Consuming, Job, Publishing, consuming_of, count_of, job_of, publishing_of, wants_help,
 };

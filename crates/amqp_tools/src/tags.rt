@@ -1,8 +1,7 @@
 //! Which deliveries of a link may be acknowledged.
 
-ghost use Rattle.std.specs.Prelude.{◌≡◌, List, [], None, true};
-ghost use Rattle.amqp_tools.specs.Tags.{undelivered, may, after_deed, AckedIsPrinted, allowed};
-ghost use Rattle.amqp_tools.specs.declared.tags.Deed.{Deed as OneDeed};
+ghost use Rattle.std.specs.Prelude.{◌≡◌, None, true};
+ghost use Rattle.amqp_tools.specs.Tags.{undelivered, may, after_deed};
 ghost use Rattle.amqp_tools.specs.declared.tags.Deed.TheVariants.{Printed, PassedOver, Flushed, Lost};
 
 /// What happens to who prints the messages of a queue, over one link after another.
@@ -10,6 +9,8 @@ ghost use Rattle.amqp_tools.specs.declared.tags.Deed.TheVariants.{Printed, Passe
 pub enum Deed {
     /// The delivery with this tag was given to the sink.
     Printed(u64),
+    /// It was not, as a message of its name was.
+    Known(u64),
     /// It was not.
     PassedOver(u64),
     /// The sink took all that it was given.
@@ -27,7 +28,7 @@ pub struct Tags {
     last: u64,
     // whether one was passed over
     passed: bool,
-    // the tag of the last that was printed since the sink took all
+    // the tag of the last that was printed, or is known, since the sink took all
     printed: Option<u64>,
     // the tag of the last that the sink took and that was not acknowledged
     flushed: Option<u64>,
@@ -53,15 +54,15 @@ impl Tags {
         self.last < tag
     }
 
-    /// Whether the delivery with this tag may be printed: it may come, and none before it was passed over, since
-    /// what is acknowledged up to a tag is all that was delivered up to it.
-    pub fn may_print(&self, tag: u64) -> bool
-        ensures { result ≡ may self.now (Printed tag) }
+    /// Whether a delivery was passed over: none behind it may be printed, since what is acknowledged up to a tag is
+    /// all that was delivered up to it.
+    pub fn has_passed(&self) -> bool
+        ensures { result ≡ self.now.passed }
     {
-        !self.passed && self.last < tag
+        self.passed
     }
 
-    /// The delivery with this tag is given to the sink.
+    /// The delivery with this tag is given to the sink, or is known.
     pub fn print(&mut self, tag: u64)
         requires { may self.old (Printed tag) ≡ true }
         ensures { self.new ≡ after_deed self.old (Printed tag) }
@@ -104,9 +105,3 @@ impl Tags {
         *self = Tags::new();
     }
 }
-
-/// Whatever comes, in whatever order: at each acknowledgement each delivery of the link that it means was printed,
-/// and taken by the sink. A law, which needs no memory and does nothing.
-pub fn what_is_acknowledged_was_printed()
-    ensures { (deeds : List OneDeed) → allowed undelivered deeds ≡ true → AckedIsPrinted [] [] [] deeds }
-{}

@@ -1,27 +1,68 @@
 //! Which messages of a queue were printed, acknowledged, and are known to be acknowledged.
 
+ghost use Rattle.std.specs.Prelude.{◌≡◌, ◌≢◌, ◌∷◌, [], true, None, ◌==◌, ◌<◌, IfOk, IfSome, OnOk, length, position, option_map};
+ghost use Rattle.amqp_tools.specs.Taking.{mark_of, has_mark, without_mark, nothing_taken, left, unsent, is_done, standing};
+ghost use Rattle.amqp_tools.specs.Taking.{settled, looked, coming, come, steps_of, wants_to_ask};
+ghost use Rattle.amqp_tools.specs.Taking.{tag_to_acknowledge, acknowledged, steps_to_acknowledge, asking, answered, lose};
+ghost use Rattle.amqp_tools.specs.Acknowledged.{Does, beginning};
+ghost use Rattle.amqp_tools.specs.Acknowledged.{is_known, kept_with};
+ghost use Rattle.amqp_tools.specs.Sink.{give, take_if, framed};
+ghost use Rattle.amqp_tools.specs.declared.taking.Coming.TheVariants.{Wanted};
+ghost use Rattle.amqp_tools.specs.declared.tags.Deed.TheVariants.{Lost};
+
+use crate::framing::Framing;
+use crate::once::Once;
+use crate::sink::{Sink, print};
 use crate::tags::Tags;
 use amqp_types::NoMemory;
 use std::alloc::Global;
+use std::marker::Model;
 
 /// A message that was printed, by what tells it from others: a number made of its octets.
 pub type Mark = u64;
 
-/// What is to be done with a delivery.
+/// What was done with a delivery.
 #[derive(Clone, Copy, Debug, PartialEq, Eq)]
 pub enum Coming {
-    /// It is to be printed.
+    /// It was printed.
     Wanted,
-    /// It is not: as many as are wanted were printed.
+    /// It was not, since a message of its name was. It is acknowledged too.
+    Named,
+    /// It was not: as many as are wanted were printed.
     Unwanted,
     /// The broker broke off its numbers, which go upwards.
     Astray,
 }
 
+/// Why a message could not be taken. Nothing is known then of what was done.
+#[derive(Clone, Copy, Debug, PartialEq, Eq)]
+pub enum Untaken {
+    /// The sink failed.
+    Unwritten,
+    /// Memory was refused.
+    NoMemory,
+}
+
+impl From<NoMemory> for Untaken {
+    fn from(_refused: NoMemory) -> Untaken {
+        Untaken::NoMemory
+    }
+}
+
+/// A delivery that is whole.
+#[derive(Clone, Copy)]
+pub struct Delivery<'a> {
+    pub tag: u64,
+    /// Whether the broker says that it may have delivered the message before.
+    pub redelivered: bool,
+    /// The name by which a message is told that was printed, where it has one.
+    pub name: Option<&'a [u8]>,
+    pub body: &'a [u8],
+}
+
 /// The messages that were taken of a queue, over one link after another.
 #[derive(Drop)]
 pub struct Taking {
-    alloc: Global,
     // how many are wanted; any number where it is not said
     wanted: Option<u64>,
     // how many are known to be acknowledged
@@ -39,22 +80,58 @@ pub struct Taking {
     lost: Vec<Mark>,
     // how many came again
     again: u64,
+    // the names of those that were printed
+    once: Once,
+}
+
+impl Model for Taking {
+    ghost use Rattle.amqp_tools.specs.Taking.{Taken};
+
+    ghost Value = { Taken };
+
+    ghost view = { λ t. record {
+      wanted = t.wanted;
+      counted = t.counted;
+      tags = t.tags;
+      printed = t.printed.items;
+      sent = t.sent.items;
+      asked = t.asked;
+      unknown = t.unknown.items;
+      lost = t.lost.items;
+      again = t.again;
+      names = t.once;
+    } };
 }
 
 /// A number made of octets, which differs where they do but for chance.
-pub fn mark_of(octets: &[u8]) -> Mark {
-    let mut mark: u64 = 0xcbf2_9ce4_8422_2325;
-    for octet in octets {
-        mark = (mark ^ (*octet as u64)).wrapping_mul(0x0000_0100_0000_01b3);
+pub fn mark_of(octets: &[u8]) -> Mark
+    ensures { result ≡ mark_of octets.now }
+{
+    let mut mark: u64 = 14_695_981_039_346_656_037;
+    'octets: for octet in octets {
+        mark = mark
+            .wrapping_mul(1_099_511_628_211)
+            .wrapping_add(*octet as u64);
     }
     mark
 }
 
-// Takes one such mark out, where it is there.
-fn take_out(marks: &mut Vec<Mark>, mark: Mark) -> bool {
-    match marks.iter().position(|m| *m == mark) {
+// The place of the first such mark.
+fn place_of(marks: &[Mark], mark: Mark) -> Option<usize>
+    ensures at { result ≡ position (λ m. m == mark) marks.now }
+    ensures within { IfSome result (λ at. at < length marks.now) }
+{
+    marks.iter().position(|m| *m == mark)
+}
+
+// Takes the first such mark out, where it is there.
+fn take_out(marks: &mut Vec<Mark>, mark: Mark) -> bool
+    ensures found { result ≡ has_mark mark marks.old.items }
+    ensures left { marks.new.items ≡ without_mark mark marks.old.items }
+{
+    match place_of(marks, mark) {
         Some(place) => {
-            drop(marks.remove(place));
+            let _taken = marks.remove(place);
             true
         }
         None => false,
@@ -63,9 +140,11 @@ fn take_out(marks: &mut Vec<Mark>, mark: Mark) -> bool {
 
 impl Taking {
     /// None was taken of so many that are wanted.
-    pub fn new(alloc: Global, wanted: Option<u64>) -> Taking {
+    pub fn new(alloc: Global, wanted: Option<u64>) -> Taking
+        ensures taken { result ≡ nothing_taken wanted }
+        ensures begins { standing result ≡ beginning }
+    {
         Taking {
-            alloc,
             wanted,
             counted: 0,
             tags: Tags::new(),
@@ -75,12 +154,15 @@ impl Taking {
             unknown: Vec::new(alloc),
             lost: Vec::new(alloc),
             again: 0,
+            once: Once::new(alloc),
         }
     }
 
     /// How many more may be printed: those that are wanted without those that were printed on this link, and
     /// without those of which it is not known whether they are acknowledged. Any number where none is said.
-    pub fn left(&self) -> Option<u64> {
+    pub fn left(&self) -> Option<u64>
+        ensures { result ≡ left self.now }
+    {
         let wanted = self.wanted?;
         let taken = self
             .counted
@@ -91,13 +173,17 @@ impl Taking {
     }
 
     /// How many are wanted that are neither known to be acknowledged nor sent to be on this link.
-    pub fn unsent(&self) -> Option<u64> {
+    pub fn unsent(&self) -> Option<u64>
+        ensures { result ≡ unsent self.now }
+    {
         let wanted = self.wanted?;
         Some(wanted.saturating_sub(self.counted.saturating_add(self.sent.len() as u64)))
     }
 
     /// Whether as many as are wanted are known to be acknowledged.
-    pub fn is_done(&self) -> bool {
+    pub fn is_done(&self) -> bool
+        ensures { result ≡ is_done self.now }
+    {
         match self.wanted {
             Some(wanted) => self.counted >= wanted,
             None => false,
@@ -105,65 +191,126 @@ impl Taking {
     }
 
     /// How many are known to be acknowledged.
-    pub fn counted(&self) -> u64 {
+    pub fn counted(&self) -> u64
+        ensures { result ≡ self.now.counted }
+    {
         self.counted
     }
 
     /// How many came again.
-    pub fn again(&self) -> u64 {
+    pub fn again(&self) -> u64
+        ensures { result ≡ self.now.again }
+    {
         self.again
     }
 
     /// Of how many it is not known whether they are acknowledged.
-    pub fn unknown(&self) -> usize {
+    pub fn unknown(&self) -> usize
+        ensures { result ≡ length self.now.unknown }
+    {
         self.unknown.len()
     }
 
-    /// A delivery came with this tag, which the broker says it delivered before or not, and what is to be done
-    /// with it.
-    pub fn come(&mut self, tag: u64, redelivered: bool, mark: Mark) -> Result<Coming, NoMemory> {
-        if !self.tags.may_come(tag) {
+    /// A delivery came: it is printed where it is wanted, and no message of its name was printed.
+    pub fn come<S: Sink>(
+        &mut self,
+        sink: &mut S,
+        framing: Framing,
+        delivery: Delivery<'_>,
+    ) -> Result<Coming, Untaken>
+        ensures what { IfOk result (λ what. what ≡ coming delivery.tag delivery.redelivered (mark_of delivery.body.now)
+            (option_map (λ n. n.now) delivery.name) self.old) }
+        ensures new { OnOk result (self.new ≡ come delivery.tag delivery.redelivered (mark_of delivery.body.now)
+            (option_map (λ n. n.now) delivery.name) self.old) }
+        ensures printed { IfOk result (λ what. what ≡ Wanted
+            → S.page sink.new ≡ option_map (give (framed framing delivery.body.now)) (S.page sink.old)) }
+        ensures other { IfOk result (λ what. what ≢ Wanted → S.page sink.new ≡ S.page sink.old) }
+        ensures does { IfOk result (λ what. Does (standing self.old)
+            (steps_of what delivery.tag (option_map (λ n. n.now) delivery.name)) (standing self.new)) }
+    {
+        if !self.tags.may_come(delivery.tag) {
             return Ok(Coming::Astray);
         }
-        self.look(redelivered, mark);
-        if self.left() == Some(0) || !self.tags.may_print(tag) {
-            self.tags.pass_over(tag);
+        let mark = mark_of(delivery.body);
+        self.look(delivery.redelivered, mark);
+        if self.left() == Some(0) || self.tags.has_passed() {
+            self.tags.pass_over(delivery.tag);
             return Ok(Coming::Unwanted);
         }
         if self.printed.push(mark).is_err() {
-            return Err(NoMemory);
+            return Err(Untaken::NoMemory);
         }
-        self.tags.print(tag);
+        self.tags.print(delivery.tag);
+        if self.is_known(delivery.name) {
+            return Ok(Coming::Named);
+        }
+        if !print(sink, framing, delivery.body) {
+            return Err(Untaken::Unwritten);
+        }
+        self.keep(delivery.name)?;
         Ok(Coming::Wanted)
+    }
+
+    // Whether a message of this name was printed.
+    fn is_known(&self, name: Option<&[u8]>) -> bool
+        ensures { result ≡ is_known self.now.names (option_map (λ n. n.now) name) }
+    {
+        match name {
+            Some(name) => self.once.has(name),
+            None => false,
+        }
+    }
+
+    // A message of this name was printed.
+    fn keep(&mut self, name: Option<&[u8]>) -> Result<(), NoMemory>
+        ensures { OnOk result (self.new ≡ record self.old {
+          names = kept_with (option_map (λ n. n.now) name) self.old.names;
+        }) }
+    {
+        match name {
+            Some(name) => self.once.keep(name),
+            None => Ok(()),
+        }
     }
 
     // What a delivery tells of others. One that is none of those whose acknowledgement is not known says that they
     // are acknowledged: the broker delivers what comes again first, and in order.
-    fn look(&mut self, redelivered: bool, mark: Mark) {
+    fn look(&mut self, redelivered: bool, mark: Mark)
+        ensures { self.new ≡ looked redelivered mark self.old }
+    {
         if redelivered && take_out(&mut self.unknown, mark) {
             self.again = self.again.saturating_add(1);
             return;
         }
         self.settle();
-        if redelivered && take_out(&mut self.lost, mark) {
-            self.again = self.again.saturating_add(1);
-        }
         if !redelivered {
             self.lost.clear();
+        } else if take_out(&mut self.lost, mark) {
+            self.again = self.again.saturating_add(1);
         }
     }
 
     /// What is not known counts as acknowledged.
-    pub fn settle(&mut self) {
+    pub fn settle(&mut self)
+        ensures { self.new ≡ settled self.old }
+    {
         self.counted = self.counted.saturating_add(self.unknown.len() as u64);
         self.unknown.clear();
     }
 
-    /// The sink took all that was printed: the tag up to which it is to be acknowledged on this link, where
-    /// there is something.
-    pub fn taken(&mut self) -> Result<Option<u64>, NoMemory> {
+    /// Has the sink take all that was printed, and gives the tag up to which it is to be acknowledged on this link,
+    /// where there is something.
+    pub fn acknowledge<S: Sink>(&mut self, sink: &mut S) -> Result<Option<u64>, Untaken>
+        ensures tag { IfOk result (λ tag. tag ≡ tag_to_acknowledge self.old) }
+        ensures new { OnOk result (self.new ≡ acknowledged self.old) }
+        ensures taken { OnOk result (S.page sink.new ≡ option_map (take_if true) (S.page sink.old)) }
+        ensures does { IfOk result (λ tag. Does (standing self.old) (steps_to_acknowledge tag) (standing self.new)) }
+    {
+        if !sink.flush() {
+            return Err(Untaken::Unwritten);
+        }
         if self.sent.extend_from_slice(&self.printed).is_err() {
-            return Err(NoMemory);
+            return Err(Untaken::NoMemory);
         }
         self.printed.clear();
         self.tags.flush();
@@ -171,25 +318,34 @@ impl Taking {
     }
 
     /// Whether the broker is to be asked for what was acknowledged: it isn't asked, and there is something.
-    pub fn wants_to_ask(&self) -> bool {
+    pub fn wants_to_ask(&self) -> bool
+        ensures { result ≡ wants_to_ask self.now }
+    {
         self.asked == 0 && !self.sent.is_empty()
     }
 
     /// The broker is asked for all that was acknowledged so far on this link.
-    pub fn ask(&mut self) {
+    pub fn ask(&mut self)
+        ensures { self.new ≡ asking self.old }
+    {
         self.asked = self.sent.len();
     }
 
     /// It answered.
-    pub fn answered(&mut self) {
+    pub fn answered(&mut self)
+        ensures { self.new ≡ answered self.old }
+    {
         let asked = self.asked.min(self.sent.len());
         self.counted = self.counted.saturating_add(asked as u64);
         drop(self.sent.drain(..asked));
         self.asked = 0;
     }
 
-    /// The link is lost.
-    pub fn lose(&mut self) -> Result<(), NoMemory> {
+    /// The link is lost. Where memory is refused, nothing is known of what was done.
+    pub fn lose(&mut self) -> Result<(), NoMemory>
+        ensures new { OnOk result (self.new ≡ lose self.old) }
+        ensures does { OnOk result (Does (standing self.old) ((Lost, None) ∷ []) (standing self.new)) }
+    {
         self.unknown.extend_from_slice(&self.sent)?;
         self.lost.extend_from_slice(&self.printed)?;
         self.sent.clear();

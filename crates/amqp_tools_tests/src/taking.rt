@@ -1,7 +1,8 @@
 //! Options, bodies in a stream, and which messages were taken.
 
 use amqp_tools::{
-    Bodies, Coming, Framing, Once, Opt, Part, Taking, are_of, has, value_of, words_of,
+    Bodies, Coming, Delivery, Framing, MemorySink, Once, Opt, Part, Taking, Untaken, are_of, has,
+    value_of, words_of,
 };
 use amqp_types::{NoMemory, Text};
 use std::alloc::Global;
@@ -56,12 +57,12 @@ fn each_word_has_its_options(rt: HostRuntime) -> Result<(), Fail> {
 }
 
 // Puts what comes next into a text: a body in brackets, and what else comes by a letter.
-fn put(part: Part<'_>, out: &mut Vec<u8>) -> Result<bool, NoMemory> {
+fn put(part: Part, out: &mut Vec<u8>) -> Result<bool, NoMemory> {
     match part {
         Part::Body(body) => {
-            out.push(b'[')?;
-            out.extend_from_slice(body)?;
-            out.push(b']')?;
+            let put = put_body(body.as_bytes(), out);
+            drop(body);
+            put?;
             Ok(true)
         }
         Part::More => Ok(false),
@@ -80,6 +81,14 @@ fn put(part: Part<'_>, out: &mut Vec<u8>) -> Result<bool, NoMemory> {
     }
 }
 
+// Puts a body in brackets into a text.
+fn put_body(body: &[u8], out: &mut Vec<u8>) -> Result<(), NoMemory> {
+    out.push(b'[')?;
+    out.extend_from_slice(body)?;
+    out.push(b']')?;
+    Ok(())
+}
+
 // Whether a stream that comes in pieces of so many octets has these bodies, of at most four octets.
 fn has_bodies(
     alloc: Global,
@@ -93,14 +102,14 @@ fn has_bodies(
     for part in octets.chunks(piece) {
         bodies.push(part)?;
         for _ in 0..octets.len() + 1 {
-            if !put(bodies.next(), &mut out)? {
+            if !put(bodies.next()?, &mut out)? {
                 break;
             }
         }
     }
     bodies.end();
     for _ in 0..octets.len() + 2 {
-        if !put(bodies.next(), &mut out)? {
+        if !put(bodies.next()?, &mut out)? {
             break;
         }
     }
@@ -145,57 +154,117 @@ fn bodies_are_cut_out_of_pieces(rt: HostRuntime) -> Result<(), Fail> {
     Ok(())
 }
 
+// A delivery of an octet, with a name where it has one.
+fn come(
+    taking: &mut Taking,
+    sink: &mut MemorySink,
+    tag: u64,
+    redelivered: bool,
+    body: &[u8],
+    name: Option<&[u8]>,
+) -> Result<Coming, Untaken> {
+    let delivery = Delivery {
+        tag,
+        redelivered,
+        name,
+        body,
+    };
+    taking.come(sink, Framing::Lines, delivery)
+}
+
 // Three messages are printed over a link that is lost once the first was acknowledged and answered for, the second
 // acknowledged, and the third printed. What comes again is told, and three are counted in the end.
-fn story<A: Abort>(rt: &A, taking: &mut Taking) -> Result<(), NoMemory> {
-    assert!(rt; taking.come(1, false, 10)? == Coming::Wanted);
-    assert!(rt; taking.taken()? == Some(1) && taking.wants_to_ask());
+fn story<A: Abort>(rt: &A, taking: &mut Taking, sink: &mut MemorySink) -> Result<(), Untaken> {
+    assert!(rt; come(taking, sink, 1, false, b"a", None)? == Coming::Wanted);
+    assert!(rt; sink.taken() == b"");
+    assert!(rt; taking.acknowledge(sink)? == Some(1) && taking.wants_to_ask());
+    assert!(rt; sink.taken() == b"a\n");
     taking.ask();
     taking.answered();
     assert!(rt; taking.counted() == 1 && taking.left() == Some(2));
-    assert!(rt; taking.come(2, false, 20)? == Coming::Wanted);
-    assert!(rt; taking.taken()? == Some(2) && taking.taken()? == None);
-    assert!(rt; taking.come(3, false, 30)? == Coming::Wanted);
+    assert!(rt; come(taking, sink, 2, false, b"b", None)? == Coming::Wanted);
+    assert!(rt; taking.acknowledge(sink)? == Some(2) && taking.acknowledge(sink)? == None);
+    assert!(rt; come(taking, sink, 3, false, b"c", None)? == Coming::Wanted);
     assert!(rt; taking.left() == Some(0) && taking.unsent() == Some(1));
-    assert!(rt; taking.come(4, false, 40)? == Coming::Unwanted);
+    assert!(rt; come(taking, sink, 4, false, b"d", None)? == Coming::Unwanted);
     taking.lose()?;
     assert!(rt; taking.unknown() == 1 && taking.left() == Some(1));
     // The second was read by the broker: the third comes first, and is none of the unknown.
-    assert!(rt; taking.come(1, true, 30)? == Coming::Wanted);
+    assert!(rt; come(taking, sink, 1, true, b"c", None)? == Coming::Wanted);
     assert!(rt; taking.counted() == 2 && taking.again() == 1);
-    assert!(rt; taking.come(1, false, 50)? == Coming::Astray);
-    assert!(rt; taking.taken()? == Some(1) && taking.unsent() == Some(0));
+    assert!(rt; come(taking, sink, 1, false, b"e", None)? == Coming::Astray);
+    assert!(rt; taking.acknowledge(sink)? == Some(1) && taking.unsent() == Some(0));
     taking.ask();
     taking.answered();
-    assert!(rt; taking.is_done());
+    assert!(rt; taking.is_done() && sink.taken() == b"a\nb\nc\nc\n");
     Ok(())
+}
+
+// What is not taken is a failure of memory here.
+fn passed(told: Result<(), Untaken>) -> Result<(), Fail> {
+    match told {
+        Ok(()) => Ok(()),
+        Err(_) => Err(NoMemory)?,
+    }
 }
 
 #[test]
 fn three_are_taken_over_two_links(rt: HostRuntime) -> Result<(), Fail> {
+    let mut sink = MemorySink::new(rt.alloc());
     let mut taking = Taking::new(rt.alloc(), Some(3));
-    let told = story(&rt, &mut taking);
+    let told = story(&rt, &mut taking, &mut sink);
     drop(taking);
-    Ok(told?)
+    drop(sink);
+    passed(told)
 }
 
-#[test]
-fn what_was_not_read_comes_again(rt: HostRuntime) -> Result<(), Fail> {
-    let mut taking = Taking::new(rt.alloc(), Some(1));
-    assert!(rt; taking.come(1, false, 10)? == Coming::Wanted);
-    assert!(rt; taking.taken()? == Some(1));
+// What was acknowledged on a lost link and not read by the broker comes again.
+fn unread<A: Abort>(rt: &A, taking: &mut Taking, sink: &mut MemorySink) -> Result<(), Untaken> {
+    assert!(rt; come(taking, sink, 1, false, b"a", None)? == Coming::Wanted);
+    assert!(rt; taking.acknowledge(sink)? == Some(1));
     taking.lose()?;
     assert!(rt; taking.left() == Some(0) && !taking.is_done());
-    assert!(rt; taking.come(1, true, 10)? == Coming::Wanted);
+    assert!(rt; come(taking, sink, 1, true, b"a", None)? == Coming::Wanted);
     assert!(rt; taking.unknown() == 0 && taking.again() == 1);
     Ok(())
 }
 
 #[test]
-fn a_value_is_printed_once(rt: HostRuntime) -> Result<(), Fail> {
+fn what_was_not_read_comes_again(rt: HostRuntime) -> Result<(), Fail> {
+    let mut sink = MemorySink::new(rt.alloc());
+    let mut taking = Taking::new(rt.alloc(), Some(1));
+    let told = unread(&rt, &mut taking, &mut sink);
+    drop(taking);
+    drop(sink);
+    passed(told)
+}
+
+// What has a name that was printed is acknowledged, and not printed, over another link too.
+fn named<A: Abort>(rt: &A, taking: &mut Taking, sink: &mut MemorySink) -> Result<(), Untaken> {
+    assert!(rt; come(taking, sink, 1, false, b"a", Some(b"n"))? == Coming::Wanted);
+    assert!(rt; come(taking, sink, 2, false, b"b", Some(b"n"))? == Coming::Named);
+    assert!(rt; come(taking, sink, 3, false, b"c", Some(b"m"))? == Coming::Wanted);
+    taking.lose()?;
+    assert!(rt; come(taking, sink, 1, true, b"a", Some(b"n"))? == Coming::Named);
+    assert!(rt; taking.acknowledge(sink)? == Some(1) && sink.taken() == b"a\nc\n");
+    Ok(())
+}
+
+#[test]
+fn a_name_is_printed_once(rt: HostRuntime) -> Result<(), Fail> {
+    let mut sink = MemorySink::new(rt.alloc());
+    let mut taking = Taking::new(rt.alloc(), None);
+    let told = named(&rt, &mut taking, &mut sink);
+    drop(taking);
+    drop(sink);
+    passed(told)
+}
+
+#[test]
+fn a_name_is_kept(rt: HostRuntime) -> Result<(), Fail> {
     let mut once = Once::new(rt.alloc());
-    assert!(rt; !once.has(b"a")?);
-    once.keep(Vec::from_slice(rt.alloc(), b"a")?)?;
-    assert!(rt; once.has(b"a")? && !once.has(b"b")?);
+    assert!(rt; !once.has(b"a"));
+    once.keep(b"a")?;
+    assert!(rt; once.has(b"a") && !once.has(b"b"));
     Ok(())
 }

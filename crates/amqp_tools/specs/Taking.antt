@@ -1,0 +1,203 @@
+-- Which messages of a queue were printed and acknowledged, over one link after another, and which are known to be.
+use Rattle.std.specs.Prelude.{ℕ, ◌+◌, ◌-◌, ◌*◌, ◌%◌, ◌^◌, nat_le, nat_lt, nat_eq, min, Bool, true, false, ◌&&◌, ◌||◌, List, [], ◌∷◌, ◌++◌, length, drop, Option, Some, None, option_map, if◌then◌else◌}
+use Rattle.amqp_tools.specs.declared.tags.Deed.TheVariants.{Printed, Known, PassedOver, Flushed, Acknowledged, Lost}
+use Rattle.amqp_tools.specs.declared.tags.Tags.{Tags}
+use Rattle.amqp_tools.specs.declared.taking.Coming.{Coming}
+use Rattle.amqp_tools.specs.declared.taking.Coming.TheVariants.{Wanted, Named, Unwanted, Astray}
+use Rattle.amqp_tools.specs.Tags.{undelivered, after_deed}
+use Rattle.amqp_tools.specs.Names.{Names, no_names}
+use Rattle.amqp_tools.specs.Acknowledged.{Step, Standing, is_known, kept_with}
+
+-- a number made of octets, of 64 bits, beginning with another
+abbrev pub mark_from : ℕ → List ℕ → ℕ
+mark_from mark [] = mark
+mark_from mark (octet ∷ octets) = mark_from ((mark * 1099511628211 + octet) % 2 ^ 64) octets
+
+-- the number made of the octets of a body, by which it is told from others
+abbrev pub mark_of : List ℕ → ℕ
+mark_of octets = mark_from 14695981039346656037 octets
+
+-- what was taken of a queue
+pub record Taken : Type 0 where
+  -- how many are wanted, where that is said
+  pub wanted : Option ℕ
+  -- how many are known to be acknowledged
+  pub counted : ℕ
+  -- how far the deliveries of this link are
+  pub tags : Tags
+  -- the marks of those that were printed on this link and not acknowledged
+  pub printed : List ℕ
+  -- those whose acknowledgement was sent on this link, and of how many of them the broker is asked
+  pub sent : List ℕ
+  pub asked : ℕ
+  -- those whose acknowledgement was sent on a lost link, on which the broker did not answer for it
+  pub unknown : List ℕ
+  -- those that were printed on a lost link and not acknowledged
+  pub lost : List ℕ
+  -- how many came again
+  pub again : ℕ
+  -- the names of those that were printed
+  pub names : Names
+
+-- nothing was taken of so many
+abbrev pub nothing_taken : Option ℕ → Taken
+nothing_taken wanted =
+    record {
+      wanted = wanted;
+      counted = 0;
+      tags = undelivered;
+      printed = [];
+      sent = [];
+      asked = 0;
+      unknown = [];
+      lost = [];
+      again = 0;
+      names = no_names;
+    }
+
+-- how far it is, for who looks on
+abbrev pub standing : Taken → Standing
+standing t = record { tags = t.tags; names = t.names }
+
+-- how many more may be printed, where a number is wanted
+abbrev pub left : Taken → Option ℕ
+left t =
+    option_map (λ wanted. wanted - (t.counted + length t.sent + length t.printed + length t.unknown)) t.wanted
+
+-- how many are wanted that are neither known to be acknowledged, nor sent to be on this link
+abbrev pub unsent : Taken → Option ℕ
+unsent t = option_map (λ wanted. wanted - (t.counted + length t.sent)) t.wanted
+
+-- a count is as many as are wanted
+abbrev pub reaches : ℕ → Option ℕ → Bool
+reaches counted (Some wanted) = nat_le wanted counted
+reaches counted None = false
+
+-- as many as are wanted are known to be acknowledged
+abbrev pub is_done : Taken → Bool
+is_done t = reaches t.counted t.wanted
+
+-- a count stays at the greatest number of 64 bits
+abbrev pub counted_up : ℕ → ℕ → ℕ
+counted_up count more = min (count + more) (2 ^ 64 - 1)
+
+-- a mark is among these
+abbrev pub has_mark : ℕ → List ℕ → Bool
+has_mark mark [] = false
+has_mark mark (m ∷ ms) = nat_eq m mark || has_mark mark ms
+
+-- these marks without the first such one
+abbrev pub without_mark : ℕ → List ℕ → List ℕ
+without_mark mark [] = []
+without_mark mark (m ∷ ms) = if nat_eq m mark then ms else m ∷ without_mark mark ms
+
+-- what is not known counts as acknowledged
+abbrev pub settled : Taken → Taken
+settled t = record t { counted = counted_up t.counted (length t.unknown); unknown = [] }
+
+-- one of these came again, where its mark is among those that were lost
+abbrev pub found_again : ℕ → Taken → Taken
+found_again mark t =
+    if has_mark mark t.lost
+    then record t { lost = without_mark mark t.lost; again = counted_up t.again 1 }
+    else t
+
+-- what a delivery tells of others: the broker delivers what comes again first, and in order. So one that is none of
+-- those whose acknowledgement is not known says that they are acknowledged, and a new one that none comes again
+abbrev pub looked : Bool → ℕ → Taken → Taken
+looked redelivered mark t =
+    if redelivered && has_mark mark t.unknown
+    then record t { unknown = without_mark mark t.unknown; again = counted_up t.again 1 }
+    else if redelivered then found_again mark (settled t)
+    else record (settled t) { lost = [] }
+
+-- no more are wanted
+abbrev pub is_none_left : Option ℕ → Bool
+is_none_left (Some number) = nat_eq number 0
+is_none_left None = false
+
+-- what a delivery is, whose tag is above the last
+abbrev pub coming_at : Option (List ℕ) → Taken → Coming
+coming_at name t =
+    if is_none_left (left t) || t.tags.passed then Unwanted
+    else if is_known t.names name then Named
+    else Wanted
+
+-- what a delivery with this tag, this mark and this name is
+abbrev pub coming : ℕ → Bool → ℕ → Option (List ℕ) → Taken → Coming
+coming tag redelivered mark name t =
+    if nat_lt t.tags.last tag then coming_at name (looked redelivered mark t) else Astray
+
+-- after a delivery that is that
+abbrev pub come_as : Coming → ℕ → ℕ → Option (List ℕ) → Taken → Taken
+come_as Wanted tag mark name t =
+    record t {
+      printed = t.printed ++ mark ∷ [];
+      tags = after_deed t.tags (Printed tag);
+      names = kept_with name t.names;
+    }
+come_as Named tag mark name t =
+    record t { printed = t.printed ++ mark ∷ []; tags = after_deed t.tags (Known tag) }
+come_as Unwanted tag mark name t = record t { tags = after_deed t.tags (PassedOver tag) }
+come_as Astray tag mark name t = t
+
+-- after a delivery
+abbrev pub come : ℕ → Bool → ℕ → Option (List ℕ) → Taken → Taken
+come tag redelivered mark name t =
+    if nat_lt t.tags.last tag
+    then come_as (coming tag redelivered mark name t) tag mark name (looked redelivered mark t)
+    else t
+
+-- the steps that a delivery is
+abbrev pub steps_of : Coming → ℕ → Option (List ℕ) → List Step
+steps_of Wanted tag name = (Printed tag, name) ∷ []
+steps_of Named tag name = (Known tag, name) ∷ []
+steps_of Unwanted tag name = (PassedOver tag, name) ∷ []
+steps_of Astray tag name = []
+
+-- the tag up to which all is acknowledged, once the sink took all
+abbrev pub tag_to_acknowledge : Taken → Option ℕ
+tag_to_acknowledge t = (after_deed t.tags Flushed).flushed
+
+-- after that
+abbrev pub acknowledged : Taken → Taken
+acknowledged t =
+    record t {
+      sent = t.sent ++ t.printed;
+      printed = [];
+      tags = record (after_deed t.tags Flushed) { flushed = None };
+    }
+
+-- the steps that this is
+abbrev pub steps_to_acknowledge : Option ℕ → List Step
+steps_to_acknowledge (Some tag) = (Flushed, None) ∷ (Acknowledged tag, None) ∷ []
+steps_to_acknowledge None = (Flushed, None) ∷ []
+
+-- the broker is not asked, and something was acknowledged on this link
+abbrev pub wants_to_ask : Taken → Bool
+wants_to_ask t = nat_eq t.asked 0 && nat_lt 0 (length t.sent)
+
+-- the broker is asked for all that was acknowledged on this link
+abbrev pub asking : Taken → Taken
+asking t = record t { asked = length t.sent }
+
+-- it answered
+abbrev pub answered : Taken → Taken
+answered t =
+    record t {
+      counted = counted_up t.counted (min t.asked (length t.sent));
+      sent = drop t.asked t.sent;
+      asked = 0;
+    }
+
+-- the link is lost
+abbrev pub lose : Taken → Taken
+lose t =
+    record t {
+      unknown = t.unknown ++ t.sent;
+      lost = t.lost ++ t.printed;
+      sent = [];
+      printed = [];
+      asked = 0;
+      tags = undelivered;
+    }
