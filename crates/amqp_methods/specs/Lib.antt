@@ -4,3 +4,5 @@ pub mod Said
 pub mod Heard
 -- The properties of a message.
 pub mod Properties
+-- The headers among them.
+pub mod Headers

@@ -3,8 +3,6 @@
 ghost use Rattle.std.specs.Prelude.{◌≡◌, ◌<◌, ◌≤◌, ◌+◌, ◌*◌, ◌++◌, true, IfOk, IfSome, option_map, if◌then◌else◌};
 ghost use Rattle.std.specs.Int.{w64};
 ghost use Rattle.amqp_types.specs.Forms.{spell_short_string, spell_long_string};
-ghost use Rattle.amqp_types.specs.Spelling.{spell_pairs};
-ghost use Rattle.amqp_types.specs.Value.{pairs_from};
 ghost use Rattle.amqp_types.specs.Reading.{octet_at, number_at, short_string_at, long_string_at};
 ghost use Rattle.amqp_methods.specs.Heard.{ReadsOff};
 ghost use Rattle.amqp_methods.specs.Properties.{spell_present, spell_octet, spell_number, spell_first, spell_second, spelled_properties};
@@ -12,9 +10,7 @@ ghost use Rattle.amqp_methods.specs.Properties.{field_at, first_at, second_at, p
 ghost use Rattle.amqp_methods.specs.Properties.{no_fields, fields_of, flags_of, bit, is_short_enough, first_fit, second_fit};
 
 use crate::rest::Rest;
-use crate::said::size_of;
-use amqp_frame::{FixedRoom, put_table};
-use amqp_types::{FieldTable, NoMemory, TypeFault};
+use amqp_types::NoMemory;
 use std::alloc::Global;
 
 /// The fourteen properties of class basic. A text has at most 255 octets, and the headers less than 2 ^ 32.
@@ -336,58 +332,4 @@ pub fn read_properties(octets: &[u8]) -> Option<BasicProperties<'_>>
     } else {
         None
     }
-}
-
-/// The octets of a table, without the four of its length: the headers of a message.
-pub fn headers_of(alloc: Global, table: &FieldTable) -> Result<Vec<u8>, TypeFault>
-    ensures { IfOk result (λ v. v.items ≡ spell_pairs (pairs_from table.now)) }
-{
-    let size = size_of(table)?;
-    let mut room = FixedRoom::new(alloc, size)?;
-    put_table(table, &mut room);
-    match Vec::from_slice(alloc, &room.as_slice()[4..]) {
-        Ok(octets) => Ok(octets),
-        Err(_) => Err(TypeFault::NoMemory),
-    }
-}
-
-// How many octets a value has behind its tag; where that is said by a length, so many are behind its four.
-fn width_of(tag: u8) -> Option<usize> {
-    match tag {
-        b'V' => Some(0),
-        b't' | b'b' | b'B' => Some(1),
-        b's' | b'u' | b'U' => Some(2),
-        b'I' | b'i' | b'f' => Some(4),
-        b'D' => Some(5),
-        b'l' | b'L' | b'd' | b'T' => Some(8),
-        _ => None,
-    }
-}
-
-// The octets of a value behind its tag, without those of a length.
-fn value_behind<'a>(tag: u8, rest: &mut Rest<'a>) -> Option<&'a [u8]> {
-    match (tag, width_of(tag)) {
-        (_, Some(width)) => rest.octets(width),
-        (b'S' | b'x' | b'A' | b'F', None) => rest.long(),
-        _ => None,
-    }
-}
-
-/// The value of a name in headers: its tag, and its octets behind that, without those of a length. Of equal
-/// names the last counts; none where the octets are no table up to there.
-pub fn header_named<'a>(headers: &'a [u8], name: &[u8]) -> Option<(u8, &'a [u8])> {
-    let mut rest = Rest { bytes: headers };
-    let mut found = None;
-    'pairs: for _ in 0..headers.len() {
-        if rest.bytes.is_empty() {
-            break 'pairs;
-        }
-        let key = rest.short()?;
-        let tag = rest.octet()?;
-        let value = value_behind(tag, &mut rest)?;
-        if key == name {
-            found = Some((tag, value));
-        }
-    }
-    found
 }

@@ -192,8 +192,8 @@ impl Bodies {
 
     // Gives the body of so many octets that stands behind so many others, with so many to its end.
     fn give(&mut self, before: usize, size: usize, all: usize) -> Result<Part, NoMemory>
-        requires { before + size ≤ all }
-        requires { all ≤ length self.old.rest }
+        requires within { before + size ≤ all }
+        requires there { all ≤ length self.old.rest }
         ensures part { IfOk result (λ part. part ≡ (body_at self.old before size all).0) }
         ensures new { OnOk result (self.new
             ≡ record self.old { rest = drop (body_at self.old before size all).1 self.old.rest }) }

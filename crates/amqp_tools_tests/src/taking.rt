@@ -6,6 +6,7 @@ use amqp_tools::{
 };
 use amqp_types::{NoMemory, Text};
 use std::alloc::Global;
+use std::process::Abort;
 use std::test::Fail;
 
 // The texts that words are.
@@ -176,9 +177,9 @@ fn come(
 // acknowledged, and the third printed. What comes again is told, and three are counted in the end.
 fn story<A: Abort>(rt: &A, taking: &mut Taking, sink: &mut MemorySink) -> Result<(), Untaken> {
     assert!(rt; come(taking, sink, 1, false, b"a", None)? == Coming::Wanted);
-    assert!(rt; sink.taken() == b"");
+    assert!(rt; sink.taken() == b"".as_slice());
     assert!(rt; taking.acknowledge(sink)? == Some(1) && taking.wants_to_ask());
-    assert!(rt; sink.taken() == b"a\n");
+    assert!(rt; sink.taken() == b"a\n".as_slice());
     taking.ask();
     taking.answered();
     assert!(rt; taking.counted() == 1 && taking.left() == Some(2));
@@ -196,7 +197,7 @@ fn story<A: Abort>(rt: &A, taking: &mut Taking, sink: &mut MemorySink) -> Result
     assert!(rt; taking.acknowledge(sink)? == Some(1) && taking.unsent() == Some(0));
     taking.ask();
     taking.answered();
-    assert!(rt; taking.is_done() && sink.taken() == b"a\nb\nc\nc\n");
+    assert!(rt; taking.is_done() && sink.taken() == b"a\nb\nc\nc\n".as_slice());
     Ok(())
 }
 
@@ -246,7 +247,7 @@ fn named<A: Abort>(rt: &A, taking: &mut Taking, sink: &mut MemorySink) -> Result
     assert!(rt; come(taking, sink, 3, false, b"c", Some(b"m"))? == Coming::Wanted);
     taking.lose()?;
     assert!(rt; come(taking, sink, 1, true, b"a", Some(b"n"))? == Coming::Named);
-    assert!(rt; taking.acknowledge(sink)? == Some(1) && sink.taken() == b"a\nc\n");
+    assert!(rt; taking.acknowledge(sink)? == Some(1) && sink.taken() == b"a\nc\n".as_slice());
     Ok(())
 }
 

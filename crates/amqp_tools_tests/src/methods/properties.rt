@@ -165,8 +165,10 @@ fn a_return_is_read(rt: HostRuntime) -> Result<(), Fail> {
         return Ok(());
     };
     assert!(rt; returned.reply_code == 312);
-    assert!(rt; returned.reply_text == b"NO_ROUTE");
-    assert!(rt; returned.exchange == b"logs" && returned.routing_key == b"a.b");
+    assert!(rt; returned.reply_text == b"NO_ROUTE".as_slice());
+    assert!(rt;
+        returned.exchange == b"logs".as_slice() && returned.routing_key == b"a.b".as_slice()
+    );
     assert!(rt; read_return(&RETURNED[..9]).is_none());
     Ok(())
 }
