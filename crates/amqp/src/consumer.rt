@@ -408,7 +408,11 @@ impl<'a> Consumer<'a> {
     }
 
     /// Says how many came again, and closes the connection, however that ends: what is counted is acknowledged.
-    pub fn close<R: Wait + Eprint + RandomSource + AllocGlobal>(self, rt: &R, own: &mut Own) {
+    pub fn close<R: Wait + Clock + Eprint + RandomSource + AllocGlobal>(
+        self,
+        rt: &R,
+        own: &mut Own,
+    ) {
         let Consumer {
             alloc,
             links,

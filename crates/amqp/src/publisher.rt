@@ -430,7 +430,7 @@ impl<'a, F: Write + Drop> Publisher<'a, F> {
 
     /// Says how far it came, and closes the connection, however that ends: what was confirmed stays so. Whether
     /// the broker took each message.
-    pub fn close<R: Wait + Eprint + RandomSource + AllocGlobal>(
+    pub fn close<R: Wait + Clock + Eprint + RandomSource + AllocGlobal>(
         self,
         rt: &R,
         own: &mut Own,

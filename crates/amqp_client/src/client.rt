@@ -16,11 +16,7 @@ use std::net::Net;
 use std::random::RandomSource;
 use std::sync::Wait;
 use std::thread::Threads;
-use std::time::Clock;
-
-/// After how many entries the journal of the connection begins anew. An entry holds the message that is
-/// published, or up to 4,096 octets that came.
-const SETTLES_AFTER: u64 = 1_000;
+use std::time::{Clock, Duration};
 
 /// For how many seconds a broker may say nothing while a connection, or a channel, opens or closes.
 pub const LIMIT: u64 = 10;
@@ -139,6 +135,20 @@ fn is_errored<R: Wait>(rt: &R, connection: &Connection) -> bool {
     }
 }
 
+// Why a call failed: how the connection ended, where it did, says more than the call that found it so.
+fn cause_of<R: Wait>(rt: &R, connection: &Connection, stop: Stop) -> Stop {
+    match stop {
+        Stop::Failed(error) if is_errored(rt, connection) => match connection.run(rt) {
+            Err(cause) => {
+                drop(error);
+                Stop::Failed(cause)
+            }
+            Ok(()) => Stop::Failed(error),
+        },
+        other => other,
+    }
+}
+
 impl Client {
     /// Connects to an address, and opens a channel. Where the broker says nothing for ten seconds, or refuses,
     /// that is told.
@@ -154,8 +164,7 @@ impl Client {
         let options = ConnectionProperties::new(alloc)?;
         let mut builder = ConnectionBuilder::new_with_runtime(MioSpawner::new(rt, alloc))
             .with_uri(uri)
-            .with_properties(options)
-            .settling_after(SETTLES_AFTER);
+            .with_properties(options);
         let connected = builder.connect(rt, alloc);
         drop(builder);
         let connection = connected?;
@@ -174,14 +183,12 @@ impl Client {
                 is_gone: false,
                 gone_for: 0,
             }),
-            Err(Stop::Failed(error)) if is_errored(&rt, &connection) => {
-                // How the connection ended says more than the call that found it so.
-                match connection.run(&rt) {
-                    Err(cause) => Err(Stop::Failed(cause)),
-                    Ok(()) => Err(Stop::Failed(error)),
-                }
+            Err(stop) => {
+                let stop = cause_of(&rt, &connection, stop);
+                // The port of a connection that did not open in time is told that nobody waits for it any more.
+                let _told = connection.abandon();
+                Err(stop)
             }
-            Err(stop) => Err(stop),
         }
     }
 
@@ -311,9 +318,9 @@ impl Client {
         unreachable!()
     }
 
-    /// Closes the connection, and waits for that for ten seconds. Where the server answered, it has read what was
-    /// sent before.
-    pub fn close<R: Wait + RandomSource + AllocGlobal>(
+    /// Closes the connection, once what was sent has gone out or a second passed, and waits for that for ten seconds.
+    /// Where the server answered, it has read what was sent before.
+    pub fn close<R: Wait + Clock + RandomSource + AllocGlobal>(
         self,
         rt: &R,
         alloc: Global,
@@ -323,6 +330,9 @@ impl Client {
         let Ok(text) = ShortString::new(alloc, b"OK") else {
             return Err(Stop::Failed(ErrorKind::NoMemory.into()));
         };
+        let _is_sent = client
+            .connection
+            .wait_until_sent_for(rt, Duration::from_secs(1));
         let closing = client.connection.close(rt, &mut client.pass, 200, text);
         match closing {
             Ok(closing) => within(rt, &closing, own, LIMIT, "close the connection"),
