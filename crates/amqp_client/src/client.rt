@@ -135,20 +135,6 @@ fn is_errored<R: Wait>(rt: &R, connection: &Connection) -> bool {
     }
 }
 
-// Why a call failed: how the connection ended, where it did, says more than the call that found it so.
-fn cause_of<R: Wait>(rt: &R, connection: &Connection, stop: Stop) -> Stop {
-    match stop {
-        Stop::Failed(error) if is_errored(rt, connection) => match connection.run(rt) {
-            Err(cause) => {
-                drop(error);
-                Stop::Failed(cause)
-            }
-            Ok(()) => Stop::Failed(error),
-        },
-        other => other,
-    }
-}
-
 impl Client {
     /// Connects to an address, and opens a channel. Where the broker says nothing for ten seconds, or refuses,
     /// that is told.
@@ -183,9 +169,15 @@ impl Client {
                 is_gone: false,
                 gone_for: 0,
             }),
+            Err(Stop::Failed(error)) if is_errored(&rt, &connection) => {
+                // How the connection ended says more than the call that found it so.
+                match connection.run(&rt) {
+                    Err(cause) => Err(Stop::Failed(cause)),
+                    Ok(()) => Err(Stop::Failed(error)),
+                }
+            }
             Err(stop) => {
-                let stop = cause_of(&rt, &connection, stop);
-                // The port of a connection that did not open in time is told that nobody waits for it any more.
+                // The port is told that nobody waits for it any more.
                 let _told = connection.abandon();
                 Err(stop)
             }

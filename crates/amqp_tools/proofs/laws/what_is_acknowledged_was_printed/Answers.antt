@@ -1,6 +1,6 @@
-use Rattle.amqp_tools.specs.Tags.{undelivered}
+use Rattle.amqp_tools.specs.Acknowledged.{beginning, nothing_seen}
 use Rattle.amqp_tools.proofs.Acknowledging.{begins, kept}
-use Rattle.amqp_tools.proofs.tags.what_is_acknowledged_was_printed.Goals as goal
+use Rattle.amqp_tools.proofs.laws.what_is_acknowledged_was_printed.Goals as goal
 
 pub returns : goal.returns
-returns c = λ deeds ok. kept deeds undelivered [] [] [] begins ok
+returns c = λ steps ok. kept steps beginning nothing_seen begins ok
