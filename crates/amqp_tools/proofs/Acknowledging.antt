@@ -60,15 +60,15 @@ put_by :
     is_among n (match_ordering o (name ∷ x ∷ xs) (x ∷ xs) (x ∷ more)) ≡ true →
     (n ≡ name) ⊎ (is_among n (x ∷ xs) ≡ true)
 put_by Less n name x xs more later h =
-    elim or_cases (bytes_eq n name) (is_among n (x ∷ xs)) h [
+    elim (or_cases (bytes_eq n name) (is_among n (x ∷ xs)) h) [
       | inl is ↦ inl (same_octets n name is)
       | inr is ↦ inr is
     ]
 put_by Equal n name x xs more later h = inr h
 put_by Greater n name x xs more later h =
-    elim or_cases (bytes_eq n x) (is_among n more) h [
+    elim (or_cases (bytes_eq n x) (is_among n more) h) [
       | inl is ↦ inr (rw is refl)
-      | inr is ↦ elim later is [
+      | inr is ↦ elim (later is) [
         | inl same ↦ inl same
         | inr there ↦ inr (or_second (bytes_eq n x) (is_among n xs) there)
       ]
@@ -80,7 +80,7 @@ put_by Greater n name x xs more later h =
 
 after_put : (n name : List ℕ) (xs : List (List ℕ)) → is_among n (put name xs) ≡ true → (n ≡ name) ⊎ (is_among n xs ≡ true)
 after_put n name [] h =
-    elim or_cases (bytes_eq n name) false h [
+    elim (or_cases (bytes_eq n name) false h) [
       | inl is ↦ inl (same_octets n name is)
       | inr is ↦ inr is
     ]
@@ -101,16 +101,16 @@ kept_by :
     (cond b (record { earlier = names.later; later = put name [] }) (record names { later = put name names.later })) n ≡ true →
     (n ≡ name) ⊎ (has_name names n ≡ true)
 kept_by true n name names h =
-    elim or_cases (is_among n (put name [])) (is_among n names.later) h [
-      | inl is ↦ elim after_put n name [] is [
+    elim (or_cases (is_among n (put name [])) (is_among n names.later) h) [
+      | inl is ↦ elim (after_put n name [] is) [
         | inl same ↦ inl same
         | inr no ↦ absurd cc
       ]
       | inr is ↦ inr (or_here (is_among n names.later) (is_among n names.earlier) is)
     ]
 kept_by false n name names h =
-    elim or_cases (is_among n (put name names.later)) (is_among n names.earlier) h [
-      | inl is ↦ elim after_put n name names.later is [
+    elim (or_cases (is_among n (put name names.later)) (is_among n names.earlier) h) [
+      | inl is ↦ elim (after_put n name names.later is) [
         | inl same ↦ inl same
         | inr there ↦ inr (or_here (is_among n names.later) (is_among n names.earlier) there)
       ]
@@ -176,7 +176,7 @@ module _ (s : Standing) (seen : Seen) (h : Holds s seen) where
       (name : Option (List ℕ)) (n : List ℕ) → has_name (kept_with name s.names) n ≡ true →
       Among n seen.names_taken ⊎ Among n (with_name name seen.names_given)
   named_now (Some name) n e =
-      elim after_keep n name s.names e [
+      elim (after_keep n name s.names e) [
         | inl same ↦ inr (inl same)
         | inr before ↦ name_more (Some name) n (h.named n before)
       ]
@@ -212,7 +212,7 @@ module _ (s : Standing) (seen : Seen) (h : Holds s seen) where
   -- a message of a kept name is shown by that name
   by_name : (tag : ℕ) (name : Option (List ℕ)) → is_known s.names name ≡ true → Shown seen (tag, name)
   by_name tag (Some name) e =
-      elim h.named name e [
+      elim (h.named name e) [
         | inl taken ↦ inl (inr taken)
         | inr given ↦ inr (inr given)
       ]
