@@ -161,7 +161,6 @@ module _ (s : Standing) (seen : Seen) (h : Holds s seen) where
 
   -- what was shown is shown after a step by which nothing that was shown goes
   module _ (tag : ℕ) (name : Option (List ℕ)) where
-
     shown_more : (d : Delivery) → Shown seen d → Shown (see (Printed tag, name) seen) d
     shown_more d (inl taken) = inl taken
     shown_more d (inr (inl given)) = inr (inl (inr given))
@@ -185,7 +184,7 @@ module _ (s : Standing) (seen : Seen) (h : Holds s seen) where
   printed_holds :
       (tag : ℕ) (name : Option (List ℕ)) → s.tags.passed ≡ false → s.tags.last < tag →
       Holds (after_step s (Printed tag, name)) (see (Printed tag, name) seen)
-  printed_holds tag name open above = record {
+  printed_holds tag name none_passed above = record {
     below = λ d among. below_now d among;
     printed_below = λ t e. let is = some_is tag t e in omega (arith, is);
     flushed_below = λ t e. let le = h.flushed_below t e in omega (arith, le, above);
@@ -201,7 +200,7 @@ module _ (s : Standing) (seen : Seen) (h : Holds s seen) where
 
       all_now : (d : Delivery) → Among d ((tag, name) ∷ seen.came) → Shown (see (Printed tag, name) seen) d
       all_now d (inl is) = inr (inl (inl (ap (λ (x : Delivery). x.0) is)))
-      all_now d (inr among) = shown_more tag name d (h.all open d among)
+      all_now d (inr among) = shown_more tag name d (h.all none_passed d among)
 
       flushed_now : (last : ℕ) → s.tags.flushed ≡ Some last → (d : Delivery) → Among d ((tag, name) ∷ seen.came) → d.0 ≤ last → WasTaken seen d
       flushed_now last e d (inl is) le =
@@ -221,7 +220,7 @@ module _ (s : Standing) (seen : Seen) (h : Holds s seen) where
   known_holds :
       (tag : ℕ) (name : Option (List ℕ)) → s.tags.passed ≡ false → s.tags.last < tag → is_known s.names name ≡ true →
       Holds (after_step s (Known tag, name)) (see (Known tag, name) seen)
-  known_holds tag name open above known = record {
+  known_holds tag name none_passed above known = record {
     below = λ d among. below_now d among;
     printed_below = λ t e. let is = some_is tag t e in omega (arith, is);
     flushed_below = λ t e. let le = h.flushed_below t e in omega (arith, le, above);
@@ -237,7 +236,7 @@ module _ (s : Standing) (seen : Seen) (h : Holds s seen) where
 
       all_now : (d : Delivery) → Among d ((tag, name) ∷ seen.came) → Shown seen d
       all_now d (inl is) = subst (Shown seen) (sym is) (by_name tag name known)
-      all_now d (inr among) = h.all open d among
+      all_now d (inr among) = h.all none_passed d among
 
       flushed_now : (last : ℕ) → s.tags.flushed ≡ Some last → (d : Delivery) → Among d ((tag, name) ∷ seen.came) → d.0 ≤ last → WasTaken seen d
       flushed_now last e d (inl is) le =
@@ -347,18 +346,18 @@ kept [] s seen h ok = tt
 kept ((Printed tag, name) ∷ steps) s seen h ok =
     let now = and-left (may s.tags (Printed tag)) (allowed (after_step s (Printed tag, name)) steps) ok in
     let next = and-right (may s.tags (Printed tag)) (allowed (after_step s (Printed tag, name)) steps) ok in
-    let open = from-not-true s.tags.passed (and-left (not s.tags.passed) (nat_lt s.tags.last tag) now) in
+    let none_passed = from-not-true s.tags.passed (and-left (not s.tags.passed) (nat_lt s.tags.last tag) now) in
     let above = ltb-true s.tags.last tag (and-right (not s.tags.passed) (nat_lt s.tags.last tag) now) in
-    kept steps (after_step s (Printed tag, name)) (see (Printed tag, name) seen) (printed_holds s seen h tag name open above) next
+    kept steps (after_step s (Printed tag, name)) (see (Printed tag, name) seen) (printed_holds s seen h tag name none_passed above) next
 kept ((Known tag, name) ∷ steps) s seen h ok =
     let may_be = may s.tags (Known tag) && is_known s.names name in
     let now = and-left may_be (allowed (after_step s (Known tag, name)) steps) ok in
     let next = and-right may_be (allowed (after_step s (Known tag, name)) steps) ok in
     let first = and-left (may s.tags (Known tag)) (is_known s.names name) now in
     let known = and-right (may s.tags (Known tag)) (is_known s.names name) now in
-    let open = from-not-true s.tags.passed (and-left (not s.tags.passed) (nat_lt s.tags.last tag) first) in
+    let none_passed = from-not-true s.tags.passed (and-left (not s.tags.passed) (nat_lt s.tags.last tag) first) in
     let above = ltb-true s.tags.last tag (and-right (not s.tags.passed) (nat_lt s.tags.last tag) first) in
-    kept steps (after_step s (Known tag, name)) (see (Known tag, name) seen) (known_holds s seen h tag name open above known) next
+    kept steps (after_step s (Known tag, name)) (see (Known tag, name) seen) (known_holds s seen h tag name none_passed above known) next
 kept ((PassedOver tag, name) ∷ steps) s seen h ok =
     let now = and-left (may s.tags (PassedOver tag)) (allowed (after_step s (PassedOver tag, name)) steps) ok in
     let next = and-right (may s.tags (PassedOver tag)) (allowed (after_step s (PassedOver tag, name)) steps) ok in
