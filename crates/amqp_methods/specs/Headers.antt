@@ -26,14 +26,14 @@ sized_at (Some width) tag bytes = octets_at width bytes
 sized_at None tag bytes = measured_at tag bytes
 
 -- the octets of a value with a tag, without those of a length
-abbrev pub value_at : ℕ → Reader (List ℕ)
-value_at tag = sized_at (width_of tag) tag
+abbrev pub tag_value_at : ℕ → Reader (List ℕ)
+tag_value_at tag = sized_at (width_of tag) tag
 
 -- a tag, and the octets of a value with it
 abbrev pub tagged_at : Reader (ℕ × List ℕ)
 tagged_at bytes = do
   t ← octet_at bytes
-  v ← value_at t.0 t.1
+  v ← tag_value_at t.0 t.1
   Some ((t.0, v.0), v.1)
 
 -- a name, and the value behind it
@@ -41,13 +41,13 @@ abbrev pub pair_at : Reader (List ℕ × (ℕ × List ℕ))
 pair_at = short_string_at ⊗ tagged_at
 
 -- the value of a name in at most so many pairs, where the last before them that has the name is found
-abbrev pub named : ℕ → List ℕ → Option (ℕ × List ℕ) → List ℕ → Option (ℕ × List ℕ)
-named zero name found octets = found
-named (suc most) name found [] = found
-named (suc most) name found (o ∷ os) = do
+abbrev pub last_of_name : ℕ → List ℕ → Option (ℕ × List ℕ) → List ℕ → Option (ℕ × List ℕ)
+last_of_name zero name found octets = found
+last_of_name (suc most) name found [] = found
+last_of_name (suc most) name found (o ∷ os) = do
   p ← pair_at (o ∷ os)
-  named most name (if bytes_eq p.0.0 name then Some p.0.1 else found) p.1
+  last_of_name most name (if bytes_eq p.0.0 name then Some p.0.1 else found) p.1
 
 -- the value of a name in headers: that of the last pair that has it
 abbrev pub header_in : List ℕ → List ℕ → Option (ℕ × List ℕ)
-header_in name octets = named (length octets) name None octets
+header_in name octets = last_of_name (length octets) name None octets

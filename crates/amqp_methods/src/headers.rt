@@ -4,7 +4,7 @@ ghost use Rattle.std.specs.Prelude.{◌≡◌, IfOk, option_map};
 ghost use Rattle.amqp_types.specs.Spelling.{spell_pairs};
 ghost use Rattle.amqp_types.specs.Value.{pairs_from};
 ghost use Rattle.amqp_methods.specs.Heard.{ReadsOff};
-ghost use Rattle.amqp_methods.specs.Headers.{width_of, value_at, tagged_at, pair_at, header_in};
+ghost use Rattle.amqp_methods.specs.Headers.{width_of, tag_value_at, tagged_at, pair_at, header_in};
 
 use crate::rest::Rest;
 use crate::said::size_of;
@@ -43,7 +43,7 @@ fn width_of(tag: u8) -> Option<usize>
 impl<'a> Rest<'a> {
     // The octets of a value with this tag, without those of a length.
     fn value(&mut self, tag: u8) -> Option<&'a [u8]>
-        ensures { ReadsOff (λ v. v.now) result self.new.bytes.now (value_at tag self.old.bytes.now) }
+        ensures { ReadsOff (λ v. v.now) result self.new.bytes.now (tag_value_at tag self.old.bytes.now) }
     {
         match width_of(tag) {
             Some(width) => self.octets(width),

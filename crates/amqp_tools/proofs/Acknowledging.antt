@@ -11,8 +11,8 @@ use Rattle.amqp_tools.specs.declared.tags.Deed.{Deed}
 use Rattle.amqp_tools.specs.declared.tags.Deed.TheVariants.{Printed, Known, PassedOver, Flushed, Acknowledged, Lost}
 use Rattle.amqp_tools.specs.declared.tags.Tags.{Tags}
 use Rattle.amqp_tools.specs.Tags.{undelivered, is_tag, may, last_taken, after_deed}
-use Rattle.amqp_tools.specs.Names.{Names, window, is_among, has_name, put, keep_name}
-use Rattle.amqp_tools.specs.Acknowledged.{Step, Standing, beginning, is_known, kept_with, may_step, after_step, allowed, Delivery, Seen, nothing_seen, with_name, see, Among, IsNamed, WasTaken, AckedIsPrinted}
+use Rattle.amqp_tools.specs.Names.{PrintedNames, window, is_name_among, has_name, put_name, keep_name}
+use Rattle.amqp_tools.specs.Acknowledged.{NamedDeed, Standing, beginning, is_known, kept_with, may_named, after_named, allowed, Delivery, Seen, nothing_seen, name_before, see, Among, HasItsName, WasPrinted, AckedIsPrinted}
 
 -- ---- what is among others
 
@@ -25,15 +25,15 @@ among_second : {A : Type 0} (x : A) (xs ys : List A) → Among x ys → Among x 
 among_second x [] ys h = h
 among_second x (y ∷ xs) ys h = inr (among_second x xs ys h)
 
-named_first : (name : Option (List ℕ)) (xs ys : List (List ℕ)) → IsNamed name xs → IsNamed name (xs ++ ys)
+named_first : (name : Option (List ℕ)) (xs ys : List (List ℕ)) → HasItsName name xs → HasItsName name (xs ++ ys)
 named_first (Some name) xs ys h = among_first name xs ys h
 named_first None xs ys h = h
 
-named_second : (name : Option (List ℕ)) (xs ys : List (List ℕ)) → IsNamed name ys → IsNamed name (xs ++ ys)
+named_second : (name : Option (List ℕ)) (xs ys : List (List ℕ)) → HasItsName name ys → HasItsName name (xs ++ ys)
 named_second (Some name) xs ys h = among_second name xs ys h
 named_second None xs ys h = h
 
-named_more : (name more : Option (List ℕ)) (names : List (List ℕ)) → IsNamed name names → IsNamed name (with_name more names)
+named_more : (name more : Option (List ℕ)) (names : List (List ℕ)) → HasItsName name names → HasItsName name (name_before more names)
 named_more (Some name) (Some other) names h = inr h
 named_more (Some name) None names h = h
 named_more None more names h = absurd h
@@ -56,21 +56,21 @@ same_octets (x ∷ xs) (y ∷ ys) h =
 -- a name that is among others after one more is that one, or was among them
 put_by :
     (o : Ordering) (n name x : List ℕ) (xs more : List (List ℕ)) →
-    (is_among n more ≡ true → (n ≡ name) ⊎ (is_among n xs ≡ true)) →
-    is_among n (match_ordering o (name ∷ x ∷ xs) (x ∷ xs) (x ∷ more)) ≡ true →
-    (n ≡ name) ⊎ (is_among n (x ∷ xs) ≡ true)
+    (is_name_among n more ≡ true → (n ≡ name) ⊎ (is_name_among n xs ≡ true)) →
+    is_name_among n (match_ordering o (name ∷ x ∷ xs) (x ∷ xs) (x ∷ more)) ≡ true →
+    (n ≡ name) ⊎ (is_name_among n (x ∷ xs) ≡ true)
 put_by Less n name x xs more later h =
-    elim (or_cases (bytes_eq n name) (is_among n (x ∷ xs)) h) [
+    elim (or_cases (bytes_eq n name) (is_name_among n (x ∷ xs)) h) [
       | inl is ↦ inl (same_octets n name is)
       | inr is ↦ inr is
     ]
 put_by Equal n name x xs more later h = inr h
 put_by Greater n name x xs more later h =
-    elim (or_cases (bytes_eq n x) (is_among n more) h) [
+    elim (or_cases (bytes_eq n x) (is_name_among n more) h) [
       | inl is ↦ inr (rw is refl)
       | inr is ↦ elim (later is) [
         | inl same ↦ inl same
-        | inr there ↦ inr (or_second (bytes_eq n x) (is_among n xs) there)
+        | inr there ↦ inr (or_second (bytes_eq n x) (is_name_among n xs) there)
       ]
     ]
   where
@@ -78,14 +78,14 @@ put_by Greater n name x xs more later h =
     or_second true b g = refl
     or_second false b g = g
 
-after_put : (n name : List ℕ) (xs : List (List ℕ)) → is_among n (put name xs) ≡ true → (n ≡ name) ⊎ (is_among n xs ≡ true)
+after_put : (n name : List ℕ) (xs : List (List ℕ)) → is_name_among n (put_name name xs) ≡ true → (n ≡ name) ⊎ (is_name_among n xs ≡ true)
 after_put n name [] h =
     elim (or_cases (bytes_eq n name) false h) [
       | inl is ↦ inl (same_octets n name is)
       | inr is ↦ inr is
     ]
 after_put n name (x ∷ xs) h =
-    put_by (slice_cmp nat_cmp name x) n name x xs (put name xs) (after_put n name xs) h
+    put_by (slice_cmp nat_cmp name x) n name x xs (put_name name xs) (after_put n name xs) h
 
 or_there : (a b : Bool) → b ≡ true → (a || b) ≡ true
 or_there true b h = refl
@@ -96,36 +96,36 @@ or_here true b h = refl
 or_here false b h = absurd cc
 
 kept_by :
-    (b : Bool) (n name : List ℕ) (names : Names) →
+    (b : Bool) (n name : List ℕ) (names : PrintedNames) →
     has_name
-    (cond b (record { earlier = names.later; later = put name [] }) (record names { later = put name names.later })) n ≡ true →
+    (cond b (record { earlier = names.later; later = put_name name [] }) (record names { later = put_name name names.later })) n ≡ true →
     (n ≡ name) ⊎ (has_name names n ≡ true)
 kept_by true n name names h =
-    elim (or_cases (is_among n (put name [])) (is_among n names.later) h) [
+    elim (or_cases (is_name_among n (put_name name [])) (is_name_among n names.later) h) [
       | inl is ↦ elim (after_put n name [] is) [
         | inl same ↦ inl same
         | inr no ↦ absurd cc
       ]
-      | inr is ↦ inr (or_here (is_among n names.later) (is_among n names.earlier) is)
+      | inr is ↦ inr (or_here (is_name_among n names.later) (is_name_among n names.earlier) is)
     ]
 kept_by false n name names h =
-    elim (or_cases (is_among n (put name names.later)) (is_among n names.earlier) h) [
+    elim (or_cases (is_name_among n (put_name name names.later)) (is_name_among n names.earlier) h) [
       | inl is ↦ elim (after_put n name names.later is) [
         | inl same ↦ inl same
-        | inr there ↦ inr (or_here (is_among n names.later) (is_among n names.earlier) there)
+        | inr there ↦ inr (or_here (is_name_among n names.later) (is_name_among n names.earlier) there)
       ]
-      | inr is ↦ inr (or_there (is_among n names.later) (is_among n names.earlier) is)
+      | inr is ↦ inr (or_there (is_name_among n names.later) (is_name_among n names.earlier) is)
     ]
 
 -- a name that is kept after one more is that one, or was kept
-after_keep : (n name : List ℕ) (names : Names) → has_name (keep_name name names) n ≡ true → (n ≡ name) ⊎ (has_name names n ≡ true)
+after_keep : (n name : List ℕ) (names : PrintedNames) → has_name (keep_name name names) n ≡ true → (n ≡ name) ⊎ (has_name names n ≡ true)
 after_keep n name names h = kept_by (nat_le window (length names.later)) n name names h
 
 -- ---- how far it is, and what was seen
 
 -- a delivery was taken, or given since, by itself or by its name
 abbrev Shown : Seen → Delivery → Type 0
-Shown seen d = WasTaken seen d ⊎ (Among d.0 seen.given ⊎ IsNamed d.1 seen.names_given)
+Shown seen d = WasPrinted seen d ⊎ (Among d.0 seen.given ⊎ HasItsName d.1 seen.names_given)
 
 -- a name was taken, or given since
 abbrev NameShown : Seen → List ℕ → Type 0
@@ -141,7 +141,7 @@ record Holds (s : Standing) (seen : Seen) : Type 0 where
   -- up to the last that was printed each is shown, and up to the last that the sink took each was taken
   up_to_printed : (tag : ℕ) → s.tags.printed ≡ Some tag → (d : Delivery) → Among d seen.came → d.0 ≤ tag → Shown seen d
   up_to_flushed :
-      (tag : ℕ) → s.tags.flushed ≡ Some tag → (d : Delivery) → Among d seen.came → d.0 ≤ tag → WasTaken seen d
+      (tag : ℕ) → s.tags.flushed ≡ Some tag → (d : Delivery) → Among d seen.came → d.0 ≤ tag → WasPrinted seen d
   -- each name that is kept was shown
   named : (n : List ℕ) → has_name s.names n ≡ true → NameShown seen n
 
@@ -166,14 +166,14 @@ module _ (s : Standing) (seen : Seen) (h : Holds s seen) where
     shown_more d (inr (inl given)) = inr (inl (inr given))
     shown_more d (inr (inr named)) = inr (inr (named_more d.1 name seen.names_given named))
 
-  name_more : (name : Option (List ℕ)) (n : List ℕ) → NameShown seen n → Among n seen.names_taken ⊎ Among n (with_name name seen.names_given)
+  name_more : (name : Option (List ℕ)) (n : List ℕ) → NameShown seen n → Among n seen.names_taken ⊎ Among n (name_before name seen.names_given)
   name_more (Some name) n (inl taken) = inl taken
   name_more (Some name) n (inr given) = inr (inr given)
   name_more None n shown = shown
 
   named_now :
       (name : Option (List ℕ)) (n : List ℕ) → has_name (kept_with name s.names) n ≡ true →
-      Among n seen.names_taken ⊎ Among n (with_name name seen.names_given)
+      Among n seen.names_taken ⊎ Among n (name_before name seen.names_given)
   named_now (Some name) n e =
       elim (after_keep n name s.names e) [
         | inl same ↦ inr (inl same)
@@ -183,7 +183,7 @@ module _ (s : Standing) (seen : Seen) (h : Holds s seen) where
 
   printed_holds :
       (tag : ℕ) (name : Option (List ℕ)) → s.tags.passed ≡ false → s.tags.last < tag →
-      Holds (after_step s (Printed tag, name)) (see (Printed tag, name) seen)
+      Holds (after_named s (Printed tag, name)) (see (Printed tag, name) seen)
   printed_holds tag name none_passed above = record {
     below = λ d among. below_now d among;
     printed_below = λ t e. let is = some_is tag t e in omega (arith, is);
@@ -202,7 +202,7 @@ module _ (s : Standing) (seen : Seen) (h : Holds s seen) where
       all_now d (inl is) = inr (inl (inl (ap (λ (x : Delivery). x.0) is)))
       all_now d (inr among) = shown_more tag name d (h.all none_passed d among)
 
-      flushed_now : (last : ℕ) → s.tags.flushed ≡ Some last → (d : Delivery) → Among d ((tag, name) ∷ seen.came) → d.0 ≤ last → WasTaken seen d
+      flushed_now : (last : ℕ) → s.tags.flushed ≡ Some last → (d : Delivery) → Among d ((tag, name) ∷ seen.came) → d.0 ≤ last → WasPrinted seen d
       flushed_now last e d (inl is) le =
           let same = ap (λ (x : Delivery). x.0) is in
           let under = h.flushed_below last e in absurd (omega (arith, same, le, under, above))
@@ -219,7 +219,7 @@ module _ (s : Standing) (seen : Seen) (h : Holds s seen) where
 
   known_holds :
       (tag : ℕ) (name : Option (List ℕ)) → s.tags.passed ≡ false → s.tags.last < tag → is_known s.names name ≡ true →
-      Holds (after_step s (Known tag, name)) (see (Known tag, name) seen)
+      Holds (after_named s (Known tag, name)) (see (Known tag, name) seen)
   known_holds tag name none_passed above known = record {
     below = λ d among. below_now d among;
     printed_below = λ t e. let is = some_is tag t e in omega (arith, is);
@@ -238,7 +238,7 @@ module _ (s : Standing) (seen : Seen) (h : Holds s seen) where
       all_now d (inl is) = subst (Shown seen) (sym is) (by_name tag name known)
       all_now d (inr among) = h.all none_passed d among
 
-      flushed_now : (last : ℕ) → s.tags.flushed ≡ Some last → (d : Delivery) → Among d ((tag, name) ∷ seen.came) → d.0 ≤ last → WasTaken seen d
+      flushed_now : (last : ℕ) → s.tags.flushed ≡ Some last → (d : Delivery) → Among d ((tag, name) ∷ seen.came) → d.0 ≤ last → WasPrinted seen d
       flushed_now last e d (inl is) le =
           let same = ap (λ (x : Delivery). x.0) is in
           let under = h.flushed_below last e in absurd (omega (arith, same, le, under, above))
@@ -246,7 +246,7 @@ module _ (s : Standing) (seen : Seen) (h : Holds s seen) where
 
   passed_holds :
       (tag : ℕ) (name : Option (List ℕ)) → s.tags.last < tag →
-      Holds (after_step s (PassedOver tag, name)) (see (PassedOver tag, name) seen)
+      Holds (after_named s (PassedOver tag, name)) (see (PassedOver tag, name) seen)
   passed_holds tag name above = record {
     below = λ d among. below_now d among;
     printed_below = λ t e. let le = h.printed_below t e in omega (arith, le, above);
@@ -267,7 +267,7 @@ module _ (s : Standing) (seen : Seen) (h : Holds s seen) where
           let under = h.printed_below last e in absurd (omega (arith, same, le, under, above))
       printed_now last e d (inr among) le = h.up_to_printed last e d among le
 
-      flushed_now : (last : ℕ) → s.tags.flushed ≡ Some last → (d : Delivery) → Among d ((tag, name) ∷ seen.came) → d.0 ≤ last → WasTaken seen d
+      flushed_now : (last : ℕ) → s.tags.flushed ≡ Some last → (d : Delivery) → Among d ((tag, name) ∷ seen.came) → d.0 ≤ last → WasPrinted seen d
       flushed_now last e d (inl is) le =
           let same = ap (λ (x : Delivery). x.0) is in
           let under = h.flushed_below last e in absurd (omega (arith, same, le, under, above))
@@ -276,7 +276,7 @@ module _ (s : Standing) (seen : Seen) (h : Holds s seen) where
   -- ---- the sink takes what it was given
 
   -- what is shown is taken then
-  moved : (d : Delivery) → Shown seen d → Among d.0 (seen.given ++ seen.taken) ⊎ IsNamed d.1 (seen.names_given ++ seen.names_taken)
+  moved : (d : Delivery) → Shown seen d → Among d.0 (seen.given ++ seen.taken) ⊎ HasItsName d.1 (seen.names_given ++ seen.names_taken)
   moved d (inl (inl taken)) = inl (among_second d.0 seen.given seen.taken taken)
   moved d (inl (inr named)) = inr (named_second d.1 seen.names_given seen.names_taken named)
   moved d (inr (inl given)) = inl (among_first d.0 seen.given seen.taken given)
@@ -341,35 +341,35 @@ is_flushed (Some last) tag e = ap (λ (t : ℕ). Some t) (eqb-true last tag e)
 is_flushed None tag e = absurd cc
 
 pub kept :
-    (steps : List Step) (s : Standing) (seen : Seen) → Holds s seen → allowed s steps ≡ true → AckedIsPrinted seen steps
+    (steps : List NamedDeed) (s : Standing) (seen : Seen) → Holds s seen → allowed s steps ≡ true → AckedIsPrinted seen steps
 kept [] s seen h ok = tt
 kept ((Printed tag, name) ∷ steps) s seen h ok =
-    let now = and-left (may s.tags (Printed tag)) (allowed (after_step s (Printed tag, name)) steps) ok in
-    let next = and-right (may s.tags (Printed tag)) (allowed (after_step s (Printed tag, name)) steps) ok in
+    let now = and-left (may s.tags (Printed tag)) (allowed (after_named s (Printed tag, name)) steps) ok in
+    let next = and-right (may s.tags (Printed tag)) (allowed (after_named s (Printed tag, name)) steps) ok in
     let none_passed = from-not-true s.tags.passed (and-left (not s.tags.passed) (nat_lt s.tags.last tag) now) in
     let above = ltb-true s.tags.last tag (and-right (not s.tags.passed) (nat_lt s.tags.last tag) now) in
-    kept steps (after_step s (Printed tag, name)) (see (Printed tag, name) seen) (printed_holds s seen h tag name none_passed above) next
+    kept steps (after_named s (Printed tag, name)) (see (Printed tag, name) seen) (printed_holds s seen h tag name none_passed above) next
 kept ((Known tag, name) ∷ steps) s seen h ok =
     let may_be = may s.tags (Known tag) && is_known s.names name in
-    let now = and-left may_be (allowed (after_step s (Known tag, name)) steps) ok in
-    let next = and-right may_be (allowed (after_step s (Known tag, name)) steps) ok in
+    let now = and-left may_be (allowed (after_named s (Known tag, name)) steps) ok in
+    let next = and-right may_be (allowed (after_named s (Known tag, name)) steps) ok in
     let first = and-left (may s.tags (Known tag)) (is_known s.names name) now in
     let known = and-right (may s.tags (Known tag)) (is_known s.names name) now in
     let none_passed = from-not-true s.tags.passed (and-left (not s.tags.passed) (nat_lt s.tags.last tag) first) in
     let above = ltb-true s.tags.last tag (and-right (not s.tags.passed) (nat_lt s.tags.last tag) first) in
-    kept steps (after_step s (Known tag, name)) (see (Known tag, name) seen) (known_holds s seen h tag name none_passed above known) next
+    kept steps (after_named s (Known tag, name)) (see (Known tag, name) seen) (known_holds s seen h tag name none_passed above known) next
 kept ((PassedOver tag, name) ∷ steps) s seen h ok =
-    let now = and-left (may s.tags (PassedOver tag)) (allowed (after_step s (PassedOver tag, name)) steps) ok in
-    let next = and-right (may s.tags (PassedOver tag)) (allowed (after_step s (PassedOver tag, name)) steps) ok in
-    kept steps (after_step s (PassedOver tag, name)) (see (PassedOver tag, name) seen)
+    let now = and-left (may s.tags (PassedOver tag)) (allowed (after_named s (PassedOver tag, name)) steps) ok in
+    let next = and-right (may s.tags (PassedOver tag)) (allowed (after_named s (PassedOver tag, name)) steps) ok in
+    kept steps (after_named s (PassedOver tag, name)) (see (PassedOver tag, name) seen)
     (passed_holds s seen h tag name (ltb-true s.tags.last tag now)) next
 kept ((Flushed, name) ∷ steps) s seen h ok =
-    kept steps (after_step s (Flushed, name)) (see (Flushed, name) seen) (flushed_holds s seen h s.tags.printed refl) ok
+    kept steps (after_named s (Flushed, name)) (see (Flushed, name) seen) (flushed_holds s seen h s.tags.printed refl) ok
 kept ((Acknowledged tag, name) ∷ steps) s seen h ok =
-    let now = and-left (may s.tags (Acknowledged tag)) (allowed (after_step s (Acknowledged tag, name)) steps) ok in
-    let next = and-right (may s.tags (Acknowledged tag)) (allowed (after_step s (Acknowledged tag, name)) steps) ok in (
+    let now = and-left (may s.tags (Acknowledged tag)) (allowed (after_named s (Acknowledged tag, name)) steps) ok in
+    let next = and-right (may s.tags (Acknowledged tag)) (allowed (after_named s (Acknowledged tag, name)) steps) ok in (
       h.up_to_flushed tag (is_flushed s.tags.flushed tag now),
-      kept steps (after_step s (Acknowledged tag, name)) seen (acknowledged_holds s seen h) next,
+      kept steps (after_named s (Acknowledged tag, name)) seen (acknowledged_holds s seen h) next,
     )
 kept ((Lost, name) ∷ steps) s seen h ok =
-    kept steps (after_step s (Lost, name)) (see (Lost, name) seen) (lost_holds s seen h) ok
+    kept steps (after_named s (Lost, name)) (see (Lost, name) seen) (lost_holds s seen h) ok

@@ -15,22 +15,22 @@ pub record Stream : Type 0 where
   pub ended : Bool
 
 -- an octet ends a body
-abbrev pub is_end : Framing → ℕ → Bool
-is_end Lines octet = octet == 10
-is_end Zeros octet = octet == 0
-is_end Lengths octet = false
+abbrev pub is_delimiter : Framing → ℕ → Bool
+is_delimiter Lines octet = octet == 10
+is_delimiter Zeros octet = octet == 0
+is_delimiter Lengths octet = false
 
 -- what comes next, and how many octets it takes
-abbrev pub Next : Type 0
-Next = Part × ℕ
+abbrev pub NextPart : Type 0
+NextPart = Part × ℕ
 
 -- a body of so many octets behind so many others, with so many to its end, where it is not too large
-abbrev pub body_at : Stream → ℕ → ℕ → ℕ → Next
+abbrev pub body_at : Stream → ℕ → ℕ → ℕ → NextPart
 body_at s before size all =
     if nat_le size s.most then (Body (take size (drop before s.rest)), all) else (TooLarge s.most, 0)
 
 -- the octets that are left are the last body, where no more come
-abbrev pub last_body : Stream → Next
+abbrev pub last_body : Stream → NextPart
 last_body s =
     if nat_lt s.most (length s.rest) then (TooLarge s.most, 0)
     else if s.ended then
@@ -38,38 +38,42 @@ last_body s =
     else (More, 0)
 
 -- the body that the first such octet ends
-abbrev pub up_to : Option ℕ → Stream → Next
+abbrev pub up_to : Option ℕ → Stream → NextPart
 up_to (Some place) s = body_at s 0 place (place + 1)
 up_to None s = last_body s
 
 -- octets that are cut off
-abbrev pub cut_off : Stream → Next
+abbrev pub cut_off : Stream → NextPart
 cut_off s = if s.ended then (Torn, 0) else (More, 0)
 
 -- the body of this length behind four octets, where all of it came
-abbrev pub of_length : ℕ → Stream → Next
+abbrev pub of_length : ℕ → Stream → NextPart
 of_length size s =
     if nat_lt s.most size then (TooLarge s.most, 0)
     else if nat_le (size + 4) (length s.rest) then (Body (take size (drop 4 s.rest)), size + 4)
     else cut_off s
 
 -- the body that stands behind its length
-abbrev pub behind_length : Stream → Next
+abbrev pub behind_length : Stream → NextPart
 behind_length s =
     if nat_le 4 (length s.rest) then of_length (from_be_bytes w32 (take 4 s.rest)) s
     else if nat_lt 0 (length s.rest) then cut_off s
     else if s.ended then (End, 0)
     else (More, 0)
 
+-- the body that the first octet ends by which bodies end
+abbrev pub delimited_part : Stream → NextPart
+delimited_part s = up_to (position (is_delimiter s.framing) s.rest) s
+
 -- what comes next, by how bodies stand
-abbrev pub next_as : Framing → Stream → Next
-next_as Lengths s = behind_length s
-next_as framing s = up_to (position (is_end framing) s.rest) s
+abbrev pub next_part_as : Framing → Stream → NextPart
+next_part_as Lengths s = behind_length s
+next_part_as framing s = delimited_part s
 
 -- what comes next of a stream
-abbrev pub next : Stream → Next
-next s = next_as s.framing s
+abbrev pub next_part : Stream → NextPart
+next_part s = next_part_as s.framing s
 
 -- the stream without that
-abbrev pub without_next : Stream → Stream
-without_next s = record s { rest = drop (next s).1 s.rest }
+abbrev pub without_next_part : Stream → Stream
+without_next_part s = record s { rest = drop (next_part s).1 s.rest }

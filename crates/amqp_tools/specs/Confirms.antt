@@ -17,13 +17,13 @@ abbrev pub meant : ℕ → Bool → List Open → ℕ
 meant tag multiple waiting = length (filter (λ publish. means tag multiple publish.number) waiting)
 
 -- a kept body is this one
-abbrev pub is_body : List ℕ → Option (List ℕ) → Bool
-is_body body (Some kept) = bytes_eq kept body
-is_body body None = false
+abbrev pub is_kept_body : List ℕ → Option (List ℕ) → Bool
+is_kept_body body (Some kept) = bytes_eq kept body
+is_kept_body body None = false
 
 -- a publish is meant where a message with a body is given back: it was not given back yet
 abbrev pub is_given_back : List ℕ → Open → Bool
-is_given_back body publish = is_none publish.returned && is_body body publish.body
+is_given_back body publish = is_none publish.returned && is_kept_body body publish.body
 
 -- the first of these that is meant is given back with a code
 abbrev pub given_back : ℕ → List ℕ → List Open → List Open

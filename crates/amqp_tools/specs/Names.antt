@@ -5,7 +5,7 @@ use Rattle.std.specs.Cmp.Lexicographic.{slice_cmp}
 use Rattle.std.specs.Str.{bytes_eq}
 
 -- the names that are kept: those of a window, and all of the window before
-pub record Names : Type 0 where
+pub record PrintedNames : Type 0 where
   pub earlier : List (List ℕ)
   pub later : List (List ℕ)
 
@@ -14,25 +14,25 @@ abbrev pub window : ℕ
 window = 65536
 
 -- none is kept
-abbrev pub no_names : Names
+abbrev pub no_names : PrintedNames
 no_names = record { earlier = []; later = [] }
 
 -- a name is among these
-abbrev pub is_among : List ℕ → List (List ℕ) → Bool
-is_among name [] = false
-is_among name (n ∷ ns) = bytes_eq name n || is_among name ns
+abbrev pub is_name_among : List ℕ → List (List ℕ) → Bool
+is_name_among name [] = false
+is_name_among name (n ∷ ns) = bytes_eq name n || is_name_among name ns
 
 -- a name is kept
-abbrev pub has_name : Names → List ℕ → Bool
-has_name names name = is_among name names.later || is_among name names.earlier
+abbrev pub has_name : PrintedNames → List ℕ → Bool
+has_name names name = is_name_among name names.later || is_name_among name names.earlier
 
 -- one more of names in the order of their octets, each once
-abbrev pub put : List ℕ → List (List ℕ) → List (List ℕ)
-put name [] = name ∷ []
-put name (n ∷ ns) = match_ordering (slice_cmp nat_cmp name n) (name ∷ n ∷ ns) (n ∷ ns) (n ∷ put name ns)
+abbrev pub put_name : List ℕ → List (List ℕ) → List (List ℕ)
+put_name name [] = name ∷ []
+put_name name (n ∷ ns) = match_ordering (slice_cmp nat_cmp name n) (name ∷ n ∷ ns) (n ∷ ns) (n ∷ put_name name ns)
 
 -- one more is kept: where the window is full, another begins, and the one before it goes
-abbrev pub keep_name : List ℕ → Names → Names
+abbrev pub keep_name : List ℕ → PrintedNames → PrintedNames
 keep_name name names =
-    if nat_le window (length names.later) then record { earlier = names.later; later = put name [] }
-    else record names { later = put name names.later }
+    if nat_le window (length names.later) then record { earlier = names.later; later = put_name name [] }
+    else record names { later = put_name name names.later }

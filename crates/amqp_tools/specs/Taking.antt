@@ -5,8 +5,8 @@ use Rattle.amqp_tools.specs.declared.tags.Tags.{Tags}
 use Rattle.amqp_tools.specs.declared.taking.Coming.{Coming}
 use Rattle.amqp_tools.specs.declared.taking.Coming.TheVariants.{Wanted, Named, Unwanted, Astray}
 use Rattle.amqp_tools.specs.Tags.{undelivered, after_deed}
-use Rattle.amqp_tools.specs.Names.{Names, no_names}
-use Rattle.amqp_tools.specs.Acknowledged.{Step, Standing, is_known, kept_with}
+use Rattle.amqp_tools.specs.Names.{PrintedNames, no_names}
+use Rattle.amqp_tools.specs.Acknowledged.{NamedDeed, Standing, is_known, kept_with}
 
 -- a number made of octets, of 64 bits, beginning with another
 abbrev pub mark_from : ℕ → List ℕ → ℕ
@@ -14,8 +14,8 @@ mark_from mark [] = mark
 mark_from mark (octet ∷ octets) = mark_from ((mark * 1099511628211 + octet) % 2 ^ 64) octets
 
 -- the number made of the octets of a body, by which it is told from others
-abbrev pub mark_of : List ℕ → ℕ
-mark_of octets = mark_from 14695981039346656037 octets
+abbrev pub body_mark : List ℕ → ℕ
+body_mark octets = mark_from 14695981039346656037 octets
 
 -- what was taken of a queue
 pub record Taken : Type 0 where
@@ -37,7 +37,7 @@ pub record Taken : Type 0 where
   -- how many came again
   pub again : ℕ
   -- the names of those that were printed
-  pub names : Names
+  pub names : PrintedNames
 
 -- nothing was taken of so many
 abbrev pub nothing_taken : Option ℕ → Taken
@@ -65,8 +65,8 @@ left t =
     option_map (λ wanted. wanted - (t.counted + length t.sent + length t.printed + length t.unknown)) t.wanted
 
 -- how many are wanted that are neither known to be acknowledged, nor sent to be on this link
-abbrev pub unsent : Taken → Option ℕ
-unsent t = option_map (λ wanted. wanted - (t.counted + length t.sent)) t.wanted
+abbrev pub still_unsent : Taken → Option ℕ
+still_unsent t = option_map (λ wanted. wanted - (t.counted + length t.sent)) t.wanted
 
 -- a count is as many as are wanted
 abbrev pub reaches : ℕ → Option ℕ → Bool
@@ -92,8 +92,8 @@ without_mark mark [] = []
 without_mark mark (m ∷ ms) = if nat_eq m mark then ms else m ∷ without_mark mark ms
 
 -- what is not known counts as acknowledged
-abbrev pub settled : Taken → Taken
-settled t = record t { counted = counted_up t.counted (length t.unknown); unknown = [] }
+abbrev pub settled_unknown : Taken → Taken
+settled_unknown t = record t { counted = counted_up t.counted (length t.unknown); unknown = [] }
 
 -- one of these came again, where its mark is among those that were lost
 abbrev pub found_again : ℕ → Taken → Taken
@@ -104,12 +104,12 @@ found_again mark t =
 
 -- what a delivery tells of others: the broker delivers what comes again first, and in order. So one that is none of
 -- those whose acknowledgement is not known says that they are acknowledged, and a new one that none comes again
-abbrev pub looked : Bool → ℕ → Taken → Taken
-looked redelivered mark t =
+abbrev pub looked_at : Bool → ℕ → Taken → Taken
+looked_at redelivered mark t =
     if redelivered && has_mark mark t.unknown
     then record t { unknown = without_mark mark t.unknown; again = counted_up t.again 1 }
-    else if redelivered then found_again mark (settled t)
-    else record (settled t) { lost = [] }
+    else if redelivered then found_again mark (settled_unknown t)
+    else record (settled_unknown t) { lost = [] }
 
 -- no more are wanted
 abbrev pub is_none_left : Option ℕ → Bool
@@ -126,7 +126,7 @@ coming_at name t =
 -- what a delivery with this tag, this mark and this name is
 abbrev pub coming : ℕ → Bool → ℕ → Option (List ℕ) → Taken → Coming
 coming tag redelivered mark name t =
-    if nat_lt t.tags.last tag then coming_at name (looked redelivered mark t) else Astray
+    if nat_lt t.tags.last tag then coming_at name (looked_at redelivered mark t) else Astray
 
 -- after a delivery that is that
 abbrev pub come_as : Coming → ℕ → ℕ → Option (List ℕ) → Taken → Taken
@@ -145,11 +145,11 @@ come_as Astray tag mark name t = t
 abbrev pub come : ℕ → Bool → ℕ → Option (List ℕ) → Taken → Taken
 come tag redelivered mark name t =
     if nat_lt t.tags.last tag
-    then come_as (coming tag redelivered mark name t) tag mark name (looked redelivered mark t)
+    then come_as (coming tag redelivered mark name t) tag mark name (looked_at redelivered mark t)
     else t
 
 -- the steps that a delivery is
-abbrev pub steps_of : Coming → ℕ → Option (List ℕ) → List Step
+abbrev pub steps_of : Coming → ℕ → Option (List ℕ) → List NamedDeed
 steps_of Wanted tag name = (Printed tag, name) ∷ []
 steps_of Named tag name = (Known tag, name) ∷ []
 steps_of Unwanted tag name = (PassedOver tag, name) ∷ []
@@ -169,7 +169,7 @@ acknowledged t =
     }
 
 -- the steps that this is
-abbrev pub steps_to_acknowledge : Option ℕ → List Step
+abbrev pub steps_to_acknowledge : Option ℕ → List NamedDeed
 steps_to_acknowledge (Some tag) = (Flushed, None) ∷ (Acknowledged tag, None) ∷ []
 steps_to_acknowledge None = (Flushed, None) ∷ []
 
@@ -178,12 +178,12 @@ abbrev pub wants_to_ask : Taken → Bool
 wants_to_ask t = nat_eq t.asked 0 && nat_lt 0 (length t.sent)
 
 -- the broker is asked for all that was acknowledged on this link
-abbrev pub asking : Taken → Taken
-asking t = record t { asked = length t.sent }
+abbrev pub flow_asked : Taken → Taken
+flow_asked t = record t { asked = length t.sent }
 
 -- it answered
-abbrev pub answered : Taken → Taken
-answered t =
+abbrev pub flow_answered : Taken → Taken
+flow_answered t =
     record t {
       counted = counted_up t.counted (min t.asked (length t.sent));
       sent = drop t.asked t.sent;
@@ -191,8 +191,8 @@ answered t =
     }
 
 -- the link is lost
-abbrev pub lose : Taken → Taken
-lose t =
+abbrev pub lost_link : Taken → Taken
+lost_link t =
     record t {
       unknown = t.unknown ++ t.sent;
       lost = t.lost ++ t.printed;

@@ -1,7 +1,7 @@
 //! How bodies stand one after another in a stream of octets.
 
 ghost use Rattle.std.specs.Prelude.{◌≡◌, ◌==◌, ◌<◌, ◌≤◌, ◌+◌, ◌++◌, true, [], false, IfOk, IfSome, OnOk, length, drop, position, if◌then◌else◌};
-ghost use Rattle.amqp_tools.specs.Bodies.{next, without_next, up_to, last_body, behind_length, body_at, is_end};
+ghost use Rattle.amqp_tools.specs.Bodies.{next_part, without_next_part, delimited_part, last_body, behind_length, body_at, is_delimiter};
 ghost use Rattle.amqp_tools.specs.declared.framing.Part.TheVariants.{More, End, Torn};
 
 use amqp_types::{NoMemory, Payload};
@@ -51,7 +51,7 @@ pub struct Bodies {
 
 impl Model for Bodies {
     ghost use Rattle.std.specs.Prelude.{◌≡◌, ◌+◌, ◌≤◌, drop, take, length, position, None};
-    ghost use Rattle.amqp_tools.specs.Bodies.{Stream, is_end};
+    ghost use Rattle.amqp_tools.specs.Bodies.{Stream, is_delimiter};
 
     ghost Value = { Stream };
 
@@ -63,7 +63,7 @@ impl Model for Bodies {
     } };
 
     ghost invariant = { λ b. (b.at + b.seen ≤ length b.held.items)
-        × (position (is_end b.framing) (take b.seen (drop b.at b.held.items)) ≡ None) };
+        × (position (is_delimiter b.framing) (take b.seen (drop b.at b.held.items)) ≡ None) };
 }
 
 // The place of the first such octet.
@@ -110,8 +110,8 @@ impl Bodies {
 
     /// The next body.
     pub fn next(&mut self) -> Result<Part, NoMemory>
-        ensures part { IfOk result (λ part. part ≡ (next self.old).0) }
-        ensures new { OnOk result (self.new ≡ without_next self.old) }
+        ensures part { IfOk result (λ part. part ≡ (next_part self.old).0) }
+        ensures new { OnOk result (self.new ≡ without_next_part self.old) }
     {
         match self.framing {
             Framing::Lines => self.until(b'\n'),
@@ -122,11 +122,10 @@ impl Bodies {
 
     // The next body that such an octet ends.
     fn until(&mut self, octet: u8) -> Result<Part, NoMemory>
-        requires { is_end self.old.framing ≡ (λ o. o == octet) }
-        ensures part { IfOk result (λ part. part ≡ (up_to (position (is_end self.old.framing) self.old.rest) self.old).0) }
-        ensures new { OnOk result (self.new ≡ record self.old {
-          rest = drop (up_to (position (is_end self.old.framing) self.old.rest) self.old).1 self.old.rest;
-        }) }
+        requires { is_delimiter self.old.framing ≡ (λ o. o == octet) }
+        ensures part { IfOk result (λ part. part ≡ (delimited_part self.old).0) }
+        ensures new { OnOk result (self.new
+            ≡ record self.old { rest = drop (delimited_part self.old).1 self.old.rest }) }
     {
         let rest = &self.held[self.at..];
         match place_of(&rest[self.seen..], octet) {
@@ -161,7 +160,8 @@ impl Bodies {
     // The next body behind its length.
     fn behind_length(&mut self) -> Result<Part, NoMemory>
         ensures part { IfOk result (λ part. part ≡ (behind_length self.old).0) }
-        ensures new { OnOk result (self.new ≡ record self.old { rest = drop (behind_length self.old).1 self.old.rest }) }
+        ensures new { OnOk result (self.new
+            ≡ record self.old { rest = drop (behind_length self.old).1 self.old.rest }) }
     {
         let rest = &self.held[self.at..];
         if rest.len() < 4 {

@@ -22,9 +22,9 @@ pub struct Once {
 
 impl Model for Once {
     ghost use Rattle.std.specs.Prelude.{map};
-    ghost use Rattle.amqp_tools.specs.Names.{Names};
+    ghost use Rattle.amqp_tools.specs.Names.{PrintedNames};
 
-    ghost Value = { Names };
+    ghost Value = { PrintedNames };
 
     ghost view = { λ o. record {
       earlier = map (λ n. n.items) o.earlier.keys;

@@ -1,7 +1,7 @@
 //! Where bodies are printed.
 
 ghost use Rattle.std.specs.Prelude.{◌≡◌, Option, None, Some, [], OnTrue, option_map};
-ghost use Rattle.amqp_tools.specs.Sink.{Page, give, give_if, take_if, framed};
+ghost use Rattle.amqp_tools.specs.Sink.{Page, give_more, give_if, take_if, delimited};
 
 use crate::framing::Framing;
 use std::alloc::Global;
@@ -92,7 +92,7 @@ impl Sink for MemorySink {
 /// Prints a body as it stands among others. Whether the sink accepted all of it; four octets can't say a length of
 /// 2 ^ 32.
 pub fn print<S: Sink>(sink: &mut S, framing: Framing, body: &[u8]) -> bool
-    ensures { OnTrue result (S.page sink.new ≡ option_map (give (framed framing body.now)) (S.page sink.old)) }
+    ensures { OnTrue result (S.page sink.new ≡ option_map (give_more (delimited framing body.now)) (S.page sink.old)) }
 {
     match framing {
         Framing::Lines => sink.give(body) && sink.give(b"\n"),

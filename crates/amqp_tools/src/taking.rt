@@ -1,12 +1,12 @@
 //! Which messages of a queue were printed, acknowledged, and are known to be acknowledged.
 
 ghost use Rattle.std.specs.Prelude.{◌≡◌, ◌≢◌, ◌∷◌, [], true, None, ◌==◌, ◌<◌, IfOk, IfSome, OnOk, length, position, option_map};
-ghost use Rattle.amqp_tools.specs.Taking.{mark_of, has_mark, without_mark, nothing_taken, left, unsent, is_done, standing};
-ghost use Rattle.amqp_tools.specs.Taking.{settled, looked, coming, come, steps_of, wants_to_ask};
-ghost use Rattle.amqp_tools.specs.Taking.{tag_to_acknowledge, acknowledged, steps_to_acknowledge, asking, answered, lose};
+ghost use Rattle.amqp_tools.specs.Taking.{body_mark, has_mark, without_mark, nothing_taken, left, still_unsent, is_done, standing};
+ghost use Rattle.amqp_tools.specs.Taking.{settled_unknown, looked_at, coming, come, steps_of, wants_to_ask};
+ghost use Rattle.amqp_tools.specs.Taking.{tag_to_acknowledge, acknowledged, steps_to_acknowledge, flow_asked, flow_answered, lost_link};
 ghost use Rattle.amqp_tools.specs.Acknowledged.{Does, beginning};
 ghost use Rattle.amqp_tools.specs.Acknowledged.{is_known, kept_with};
-ghost use Rattle.amqp_tools.specs.Sink.{give, take_if, framed};
+ghost use Rattle.amqp_tools.specs.Sink.{give_more, take_if, delimited};
 ghost use Rattle.amqp_tools.specs.declared.taking.Coming.TheVariants.{Wanted};
 ghost use Rattle.amqp_tools.specs.declared.tags.Deed.TheVariants.{Lost};
 
@@ -105,7 +105,7 @@ impl Model for Taking {
 
 /// A number made of octets, which differs where they do but for chance.
 pub fn mark_of(octets: &[u8]) -> Mark
-    ensures { result ≡ mark_of octets.now }
+    ensures { result ≡ body_mark octets.now }
 {
     let mut mark: u64 = 14_695_981_039_346_656_037;
     'octets: for octet in octets {
@@ -174,7 +174,7 @@ impl Taking {
 
     /// How many are wanted that are neither known to be acknowledged nor sent to be on this link.
     pub fn unsent(&self) -> Option<u64>
-        ensures { result ≡ unsent self.now }
+        ensures { result ≡ still_unsent self.now }
     {
         let wanted = self.wanted?;
         Some(wanted.saturating_sub(self.counted.saturating_add(self.sent.len() as u64)))
@@ -218,12 +218,12 @@ impl Taking {
         framing: Framing,
         delivery: Delivery<'_>,
     ) -> Result<Coming, Untaken>
-        ensures what { IfOk result (λ what. what ≡ coming delivery.tag delivery.redelivered (mark_of delivery.body.now)
+        ensures what { IfOk result (λ what. what ≡ coming delivery.tag delivery.redelivered (body_mark delivery.body.now)
             (option_map (λ n. n.now) delivery.name) self.old) }
-        ensures new { OnOk result (self.new ≡ come delivery.tag delivery.redelivered (mark_of delivery.body.now)
+        ensures new { OnOk result (self.new ≡ come delivery.tag delivery.redelivered (body_mark delivery.body.now)
             (option_map (λ n. n.now) delivery.name) self.old) }
         ensures printed { IfOk result (λ what. what ≡ Wanted
-            → S.page sink.new ≡ option_map (give (framed framing delivery.body.now)) (S.page sink.old)) }
+            → S.page sink.new ≡ option_map (give_more (delimited framing delivery.body.now)) (S.page sink.old)) }
         ensures other { IfOk result (λ what. what ≢ Wanted → S.page sink.new ≡ S.page sink.old) }
         ensures does { IfOk result (λ what. Does (standing self.old)
             (steps_of what delivery.tag (option_map (λ n. n.now) delivery.name)) (standing self.new)) }
@@ -276,7 +276,7 @@ impl Taking {
     // What a delivery tells of others. One that is none of those whose acknowledgement is not known says that they
     // are acknowledged: the broker delivers what comes again first, and in order.
     fn look(&mut self, redelivered: bool, mark: Mark)
-        ensures { self.new ≡ looked redelivered mark self.old }
+        ensures { self.new ≡ looked_at redelivered mark self.old }
     {
         if redelivered && take_out(&mut self.unknown, mark) {
             self.again = self.again.saturating_add(1);
@@ -292,7 +292,7 @@ impl Taking {
 
     /// What is not known counts as acknowledged.
     pub fn settle(&mut self)
-        ensures { self.new ≡ settled self.old }
+        ensures { self.new ≡ settled_unknown self.old }
     {
         self.counted = self.counted.saturating_add(self.unknown.len() as u64);
         self.unknown.clear();
@@ -326,14 +326,14 @@ impl Taking {
 
     /// The broker is asked for all that was acknowledged so far on this link.
     pub fn ask(&mut self)
-        ensures { self.new ≡ asking self.old }
+        ensures { self.new ≡ flow_asked self.old }
     {
         self.asked = self.sent.len();
     }
 
     /// It answered.
     pub fn answered(&mut self)
-        ensures { self.new ≡ answered self.old }
+        ensures { self.new ≡ flow_answered self.old }
     {
         let asked = self.asked.min(self.sent.len());
         self.counted = self.counted.saturating_add(asked as u64);
@@ -343,7 +343,7 @@ impl Taking {
 
     /// The link is lost. Where memory is refused, nothing is known of what was done.
     pub fn lose(&mut self) -> Result<(), NoMemory>
-        ensures new { OnOk result (self.new ≡ lose self.old) }
+        ensures new { OnOk result (self.new ≡ lost_link self.old) }
         ensures does { OnOk result (Does (standing self.old) ((Lost, None) ∷ []) (standing self.new)) }
     {
         self.unknown.extend_from_slice(&self.sent)?;
