@@ -218,8 +218,8 @@ impl Taking {
         framing: Framing,
         delivery: Delivery<'_>,
     ) -> Result<Coming, Untaken>
-        ensures what { IfOk result (λ what. what ≡ coming delivery.tag delivery.redelivered (body_mark delivery.body.now)
-            (option_map (λ n. n.now) delivery.name) self.old) }
+        ensures what { IfOk result (λ what. what ≡ coming delivery.tag delivery.redelivered
+            (body_mark delivery.body.now) (option_map (λ n. n.now) delivery.name) self.old) }
         ensures new { OnOk result (self.new ≡ come delivery.tag delivery.redelivered (body_mark delivery.body.now)
             (option_map (λ n. n.now) delivery.name) self.old) }
         ensures printed { IfOk result (λ what. what ≡ Wanted
