@@ -186,7 +186,7 @@ abbrev pub flow_answered : Taken → Taken
 flow_answered t =
     record t {
       counted = counted_up t.counted (min t.asked (length t.sent));
-      sent = drop t.asked t.sent;
+      sent = drop (min t.asked (length t.sent)) t.sent;
       asked = 0;
     }
 

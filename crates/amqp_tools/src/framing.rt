@@ -4,6 +4,7 @@ ghost use Rattle.std.specs.Prelude.{◌≡◌, ◌==◌, ◌<◌, ◌≤◌, ◌
 ghost use Rattle.amqp_tools.specs.Bodies.{next_part, without_next_part, delimited_part, last_body, behind_length, body_at, is_delimiter};
 ghost use Rattle.amqp_tools.specs.declared.framing.Part.TheVariants.{More, End, Torn};
 
+use crate::front::let_go;
 use amqp_types::{NoMemory, Payload};
 use std::alloc::Global;
 use std::marker::Model;
@@ -94,8 +95,7 @@ impl Bodies {
     pub fn push(&mut self, octets: &[u8]) -> Result<(), NoMemory>
         ensures { OnOk result (self.new ≡ record self.old { rest = self.old.rest ++ octets.now }) }
     {
-        let at = self.at;
-        drop(self.held.drain(..at));
+        let_go(&mut self.held, self.at);
         self.at = 0;
         self.held.extend_from_slice(octets)?;
         Ok(())

@@ -5,6 +5,7 @@
 mod arriving;
 mod confirms;
 mod framing;
+mod front;
 mod heard;
 mod laws;
 mod once;

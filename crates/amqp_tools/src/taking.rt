@@ -11,6 +11,7 @@ ghost use Rattle.amqp_tools.specs.declared.taking.Coming.TheVariants.{Wanted};
 ghost use Rattle.amqp_tools.specs.declared.tags.Deed.TheVariants.{Lost};
 
 use crate::framing::Framing;
+use crate::front::let_go;
 use crate::once::Once;
 use crate::sink::{Sink, print};
 use crate::tags::Tags;
@@ -337,7 +338,7 @@ impl Taking {
     {
         let asked = self.asked.min(self.sent.len());
         self.counted = self.counted.saturating_add(asked as u64);
-        drop(self.sent.drain(..asked));
+        let_go(&mut self.sent, asked);
         self.asked = 0;
     }
 
