@@ -1,5 +1,6 @@
 -- What the properties of a message are spelled as is read as these, and what is read was spelled so.
 use Rattle.std.proofs.Common.{◌≡◌, ℕ, zero, suc, ◌+◌, ◌*◌, ◌/◌, ◌%◌, ◌^◌, ◌<◌, ◌≤◌, ◌==◌, ◌&&◌, Bool, true, false, cond, eqb, nat_le, List, [], ◌∷◌, ◌++◌, length, Option, Some, None, is_some, IfSome, refl, sym, ap, subst, ◌∙◌, arith}
+use Rattle.std.proofs.Math.Nat.{pow-suc}
 use Rattle.std.proofs.lemmas.Bool.{eqb-true, eqb-false, leb-true, le-leb}
 use Rattle.std.proofs.lemmas.List.{append-nil, nil_from_length}
 use Rattle.std.specs.Int.{w16, w32, w64, to_be_bytes}
@@ -338,8 +339,8 @@ second_taken n f text t0 =
 
 bits_small : (bs : List Bool) → bits bs < 2 ^ length bs
 bits_small [] = omega arith
-bits_small (true ∷ bs) = let less = bits_small bs in omega (arith, less)
-bits_small (false ∷ bs) = let less = bits_small bs in omega (arith, less)
+bits_small (true ∷ bs) = let less = bits_small bs in omega (arith, less, pow-suc 2 (length bs))
+bits_small (false ∷ bs) = let less = bits_small bs in omega (arith, less, pow-suc 2 (length bs))
 
 flags_small : (f : Fields) → flags_of f < 65536
 flags_small f = let less : bits (present f) < 16384 = bits_small (present f) in omega (arith, less)

@@ -147,21 +147,35 @@ impl BasicProperties<'_> {
     fn flags(&self) -> u16
         ensures { result ≡ flags_of (fields_of self.now) }
     {
-        let flags = flag(self.content_type.is_some(), 0);
-        let flags = flag(self.content_encoding.is_some(), flags);
-        let flags = flag(self.headers.is_some(), flags);
-        let flags = flag(self.delivery_mode.is_some(), flags);
-        let flags = flag(self.priority.is_some(), flags);
-        let flags = flag(self.correlation_id.is_some(), flags);
-        let flags = flag(self.reply_to.is_some(), flags);
-        let flags = flag(self.expiration.is_some(), flags);
-        let flags = flag(self.message_id.is_some(), flags);
-        let flags = flag(self.timestamp.is_some(), flags);
-        let flags = flag(self.kind.is_some(), flags);
-        let flags = flag(self.user_id.is_some(), flags);
-        let flags = flag(self.app_id.is_some(), flags);
-        let flags = flag(self.cluster_id.is_some(), flags);
-        4 * flags
+        let has_content_type = self.content_type.is_some();
+        let content_type = flag(has_content_type, 0);
+        let has_content_encoding = self.content_encoding.is_some();
+        let content_encoding = flag(has_content_encoding, content_type);
+        let has_headers = self.headers.is_some();
+        let headers = flag(has_headers, content_encoding);
+        let has_delivery_mode = self.delivery_mode.is_some();
+        let delivery_mode = flag(has_delivery_mode, headers);
+        let has_priority = self.priority.is_some();
+        let priority = flag(has_priority, delivery_mode);
+        let has_correlation_id = self.correlation_id.is_some();
+        let correlation_id = flag(has_correlation_id, priority);
+        let has_reply_to = self.reply_to.is_some();
+        let reply_to = flag(has_reply_to, correlation_id);
+        let has_expiration = self.expiration.is_some();
+        let expiration = flag(has_expiration, reply_to);
+        let has_message_id = self.message_id.is_some();
+        let message_id = flag(has_message_id, expiration);
+        let has_timestamp = self.timestamp.is_some();
+        let timestamp = flag(has_timestamp, message_id);
+        let has_kind = self.kind.is_some();
+        let kind = flag(has_kind, timestamp);
+        let has_user_id = self.user_id.is_some();
+        let user_id = flag(has_user_id, kind);
+        let has_app_id = self.app_id.is_some();
+        let app_id = flag(has_app_id, user_id);
+        let has_cluster_id = self.cluster_id.is_some();
+        let cluster_id = flag(has_cluster_id, app_id);
+        4 * cluster_id
     }
 
     // Puts the first seven behind octets. Whether each text is short enough.

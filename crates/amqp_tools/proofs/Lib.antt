@@ -1,2 +1,4 @@
 -- what is acknowledged was printed, and taken by the sink
 pub mod Acknowledging
+-- the names in an ordered set of octets
+pub mod Naming
