@@ -104,7 +104,8 @@ class Proxy:
                 octets = one.recv(self.piece)
                 if not octets:
                     break
-                time.sleep(0.002 + len(octets) / self.rate)
+                if self.piece > 1:
+                    time.sleep(0.002 + len(octets) / self.rate)
                 while self.holds:
                     time.sleep(0.05)
                 other.sendall(octets)
