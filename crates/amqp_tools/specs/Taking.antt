@@ -1,5 +1,6 @@
 -- Which messages of a queue were printed and acknowledged, over one link after another, and which are known to be.
-use Rattle.std.specs.Prelude.{ℕ, ◌+◌, ◌-◌, ◌*◌, ◌%◌, ◌^◌, nat_le, nat_lt, nat_eq, min, Bool, true, false, ◌&&◌, ◌||◌, List, [], ◌∷◌, ◌++◌, length, drop, Option, Some, None, option_map, if◌then◌else◌}
+use Rattle.std.specs.Prelude.{ℕ, ◌+◌, ◌-◌, ◌*◌, ◌%◌, ◌^◌, nat_le, nat_lt, nat_eq, min, Bool, true, false, ◌&&◌, ◌||◌, List, [], ◌∷◌, ◌++◌, length, drop, Option, Some, None, option_map, is_some, position, ◌==◌, if◌then◌else◌}
+use Rattle.std.specs.List.{remove}
 use Rattle.amqp_tools.specs.declared.tags.Deed.TheVariants.{Printed, Known, PassedOver, Flushed, Acknowledged, Lost}
 use Rattle.amqp_tools.specs.declared.tags.Tags.{Tags}
 use Rattle.amqp_tools.specs.declared.taking.Coming.{Coming}
@@ -11,7 +12,7 @@ use Rattle.amqp_tools.specs.Acknowledged.{NamedDeed, Standing, is_known, kept_wi
 -- a number made of octets, of 64 bits, beginning with another
 abbrev pub mark_from : ℕ → List ℕ → ℕ
 mark_from mark [] = mark
-mark_from mark (octet ∷ octets) = mark_from ((mark * 1099511628211 + octet) % 2 ^ 64) octets
+mark_from mark (octet ∷ octets) = mark_from ((mark * 1099511628211 % 2 ^ 64 + octet) % 2 ^ 64) octets
 
 -- the number made of the octets of a body, by which it is told from others
 abbrev pub body_mark : List ℕ → ℕ
@@ -81,15 +82,22 @@ is_done t = reaches t.counted t.wanted
 abbrev pub counted_up : ℕ → ℕ → ℕ
 counted_up count more = min (count + more) (2 ^ 64 - 1)
 
--- a mark is among these
-abbrev pub has_mark : ℕ → List ℕ → Bool
-has_mark mark [] = false
-has_mark mark (m ∷ ms) = nat_eq m mark || has_mark mark ms
+-- where a mark stands first among these
+abbrev pub place_of_mark : ℕ → List ℕ → Option ℕ
+place_of_mark mark marks = position (λ m. m == mark) marks
 
--- these marks without the first such one
+-- these without the one at a place
+abbrev pub without_place : Option ℕ → List ℕ → List ℕ
+without_place (Some place) marks = remove marks place
+without_place None marks = marks
+
+-- these without the first such mark
 abbrev pub without_mark : ℕ → List ℕ → List ℕ
-without_mark mark [] = []
-without_mark mark (m ∷ ms) = if nat_eq m mark then ms else m ∷ without_mark mark ms
+without_mark mark marks = without_place (place_of_mark mark marks) marks
+
+-- such a mark is among these
+abbrev pub has_mark : ℕ → List ℕ → Bool
+has_mark mark marks = is_some (place_of_mark mark marks)
 
 -- what is not known counts as acknowledged
 abbrev pub settled_unknown : Taken → Taken

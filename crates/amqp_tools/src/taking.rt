@@ -1,14 +1,15 @@
 //! Which messages of a queue were printed, acknowledged, and are known to be acknowledged.
 
-ghost use Rattle.std.specs.Prelude.{◌≡◌, ◌≢◌, ◌∷◌, [], true, None, ◌==◌, ◌<◌, IfOk, IfSome, OnOk, length, position, option_map};
+ghost use Rattle.std.specs.Prelude.{◌≡◌, ◌≢◌, ◌||◌, nat_lt, ◌∷◌, [], true, None, ◌==◌, ◌<◌, IfOk, IfSome, OnOk, length, position, option_map};
 ghost use Rattle.amqp_tools.specs.Taking.{body_mark, has_mark, without_mark, nothing_taken, left, still_unsent, is_done, standing};
-ghost use Rattle.amqp_tools.specs.Taking.{settled_unknown, looked_at, coming, come, steps_of, wants_to_ask};
+ghost use Rattle.amqp_tools.specs.Taking.{settled_unknown, looked_at, coming, coming_at, come, come_as, is_none_left, steps_of, wants_to_ask};
+ghost use Rattle.amqp_tools.specs.Tags.{may};
 ghost use Rattle.amqp_tools.specs.Taking.{tag_to_acknowledge, acknowledged, steps_to_acknowledge, flow_asked, flow_answered, lost_link};
 ghost use Rattle.amqp_tools.specs.Acknowledged.{Does, beginning};
 ghost use Rattle.amqp_tools.specs.Acknowledged.{is_known, kept_with};
 ghost use Rattle.amqp_tools.specs.Sink.{give_more, take_if, delimited};
-ghost use Rattle.amqp_tools.specs.declared.taking.Coming.TheVariants.{Wanted};
-ghost use Rattle.amqp_tools.specs.declared.tags.Deed.TheVariants.{Lost};
+ghost use Rattle.amqp_tools.specs.declared.taking.Coming.TheVariants.{Wanted, Named};
+ghost use Rattle.amqp_tools.specs.declared.tags.Deed.TheVariants.{Printed, Lost};
 
 use crate::framing::Framing;
 use crate::front::let_go;
@@ -109,7 +110,7 @@ pub fn mark_of(octets: &[u8]) -> Mark
     ensures { result ≡ body_mark octets.now }
 {
     let mut mark: u64 = 14_695_981_039_346_656_037;
-    'octets: for octet in octets {
+    'each: for octet in octets {
         mark = mark
             .wrapping_mul(1_099_511_628_211)
             .wrapping_add(*octet as u64);
@@ -234,22 +235,79 @@ impl Taking {
         }
         let mark = mark_of(delivery.body);
         self.look(delivery.redelivered, mark);
-        if self.left() == Some(0) || self.tags.has_passed() {
+        self.take(sink, framing, delivery, mark)
+    }
+
+    // Whether nothing more is printed on this link.
+    fn is_over(&self) -> bool
+        ensures { result ≡ (is_none_left (left self.now) || self.now.tags.passed) }
+    {
+        match self.left() {
+            Some(0) => true,
+            _ => self.tags.has_passed(),
+        }
+    }
+
+    // Takes a delivery whose tag is above the last.
+    fn take<S: Sink>(
+        &mut self,
+        sink: &mut S,
+        framing: Framing,
+        delivery: Delivery<'_>,
+        mark: Mark,
+    ) -> Result<Coming, Untaken>
+        requires { nat_lt self.old.tags.last delivery.tag ≡ true }
+        ensures what { IfOk result (λ what. what ≡ coming_at (option_map (λ n. n.now) delivery.name) self.old) }
+        ensures new { IfOk result (λ what. self.new
+            ≡ come_as what delivery.tag mark (option_map (λ n. n.now) delivery.name) self.old) }
+        ensures printed { IfOk result (λ what. what ≡ Wanted
+            → S.page sink.new ≡ option_map (give_more (delimited framing delivery.body.now)) (S.page sink.old)) }
+        ensures other { IfOk result (λ what. what ≢ Wanted → S.page sink.new ≡ S.page sink.old) }
+    {
+        if self.is_over() {
             self.tags.pass_over(delivery.tag);
             return Ok(Coming::Unwanted);
         }
-        if self.printed.push(mark).is_err() {
-            return Err(Untaken::NoMemory);
-        }
-        self.tags.print(delivery.tag);
         if self.is_known(delivery.name) {
+            self.know(delivery.tag, mark)?;
             return Ok(Coming::Named);
         }
+        self.print_new(sink, framing, delivery, mark)?;
+        Ok(Coming::Wanted)
+    }
+
+    // The delivery with this tag and this mark is not printed, as a message of its name was.
+    fn know(&mut self, tag: u64, mark: Mark) -> Result<(), NoMemory>
+        requires { may self.old.tags (Printed tag) ≡ true }
+        ensures { OnOk result (self.new ≡ come_as Named tag mark None self.old) }
+    {
+        if self.printed.push(mark).is_err() {
+            return Err(NoMemory);
+        }
+        self.tags.print(tag);
+        Ok(())
+    }
+
+    // A delivery with this mark is printed.
+    fn print_new<S: Sink>(
+        &mut self,
+        sink: &mut S,
+        framing: Framing,
+        delivery: Delivery<'_>,
+        mark: Mark,
+    ) -> Result<(), Untaken>
+        requires { may self.old.tags (Printed delivery.tag) ≡ true }
+        ensures new { OnOk result (self.new
+            ≡ come_as Wanted delivery.tag mark (option_map (λ n. n.now) delivery.name) self.old) }
+        ensures printed { OnOk result
+            (S.page sink.new ≡ option_map (give_more (delimited framing delivery.body.now)) (S.page sink.old)) }
+    {
+        self.know(delivery.tag, mark)?;
         if !print(sink, framing, delivery.body) {
             return Err(Untaken::Unwritten);
         }
         self.keep(delivery.name)?;
-        Ok(Coming::Wanted)
+        Ok(())
     }
 
     // Whether a message of this name was printed.
