@@ -2,3 +2,5 @@
 pub mod Acknowledging
 -- the names in an ordered set of octets
 pub mod Naming
+-- what a delivery is, and the deeds that it is
+pub mod Comings
