@@ -4,3 +4,5 @@ pub mod Acknowledging
 pub mod Naming
 -- what a delivery is, and the deeds that it is
 pub mod Comings
+-- the place of the first octet of a kind
+pub mod Placing
