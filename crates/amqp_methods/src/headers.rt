@@ -1,6 +1,6 @@
 //! The headers of a message: a table among its properties.
 
-ghost use Rattle.std.specs.Prelude.{◌≡◌, IfOk, option_map};
+ghost use Rattle.std.specs.Prelude.{◌≡◌, ℕ, List, Some, IfOk, option_map, if◌then◌else◌};
 ghost use Rattle.amqp_types.specs.Spelling.{spell_pairs};
 ghost use Rattle.amqp_types.specs.Value.{pairs_from};
 ghost use Rattle.amqp_methods.specs.Heard.{ReadsOff};
@@ -72,6 +72,19 @@ impl<'a> Rest<'a> {
     }
 }
 
+// A value where it has the name that is looked for, and else the one that was found before.
+fn later<'a>(
+    is_named: bool,
+    value: (u8, &'a [u8]),
+    found: Option<(u8, &'a [u8])>,
+) -> Option<(u8, &'a [u8])>
+    ensures { option_map {U = ℕ × List ℕ} (λ v. (v.0, v.1.now)) result
+        ≡ (if is_named then Some (value.entry.0, value.entry.1.now)
+        else option_map {U = ℕ × List ℕ} (λ v. (v.0, v.1.now)) found.entry) }
+{
+    if is_named { Some(value) } else { found }
+}
+
 /// The value of a name in headers: its tag, and its octets behind that, without those of a length. Of equal
 /// names the last counts; none where the octets are no table.
 pub fn header_named<'a>(headers: &'a [u8], name: &[u8]) -> Option<(u8, &'a [u8])>
@@ -84,9 +97,9 @@ pub fn header_named<'a>(headers: &'a [u8], name: &[u8]) -> Option<(u8, &'a [u8])
             return found;
         }
         let (key, value) = rest.pair()?;
-        if key == name {
-            found = Some(value);
-        }
+        let is_named = key == name;
+        let newer = later(is_named, value, found);
+        found = newer;
     }
     found
 }

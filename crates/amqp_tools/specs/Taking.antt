@@ -4,6 +4,7 @@ use Rattle.std.specs.List.{remove}
 use Rattle.amqp_tools.specs.declared.tags.Deed.TheVariants.{Printed, Known, PassedOver, Flushed, Acknowledged, Lost}
 use Rattle.amqp_tools.specs.declared.tags.Tags.{Tags}
 use Rattle.amqp_tools.specs.declared.taking.Coming.{Coming}
+use Rattle.amqp_tools.specs.declared.taking.Delivery.{Delivery as WholeDelivery}
 use Rattle.amqp_tools.specs.declared.taking.Coming.TheVariants.{Wanted, Named, Unwanted, Astray}
 use Rattle.amqp_tools.specs.Tags.{undelivered, after_deed}
 use Rattle.amqp_tools.specs.Names.{PrintedNames, no_names}
@@ -156,7 +157,19 @@ come tag redelivered mark name t =
     then come_as (coming tag redelivered mark name t) tag mark name (looked_at redelivered mark t)
     else t
 
--- the steps that a delivery is
+-- the name of a delivery, where it has one
+abbrev pub name_in : WholeDelivery → Option (List ℕ)
+name_in d = option_map (λ n. n.now) d.name
+
+-- what a delivery is
+abbrev pub coming_by : WholeDelivery → Taken → Coming
+coming_by d t = coming d.tag d.redelivered (body_mark d.body.now) (name_in d) t
+
+-- what is taken after it
+abbrev pub come_by : WholeDelivery → Taken → Taken
+come_by d t = come d.tag d.redelivered (body_mark d.body.now) (name_in d) t
+
+-- the deeds that a delivery is
 abbrev pub steps_of : Coming → ℕ → Option (List ℕ) → List NamedDeed
 steps_of Wanted tag name = (Printed tag, name) ∷ []
 steps_of Named tag name = (Known tag, name) ∷ []
@@ -176,7 +189,7 @@ acknowledged t =
       tags = record (after_deed t.tags Flushed) { flushed = None };
     }
 
--- the steps that this is
+-- the deeds that this is
 abbrev pub steps_to_acknowledge : Option ℕ → List NamedDeed
 steps_to_acknowledge (Some tag) = (Flushed, None) ∷ (Acknowledged tag, None) ∷ []
 steps_to_acknowledge None = (Flushed, None) ∷ []

@@ -51,11 +51,11 @@ impl Open {
 }
 
 // Whether a message with this body is meant where one is given back: it was not given back yet.
-fn is_given_back(open: &Open, body: &[u8]) -> bool
-    ensures { result ≡ is_given_back body.now open.now }
+fn is_given_back(publish: &Open, body: &[u8]) -> bool
+    ensures { result ≡ is_given_back body.now publish.now }
 {
-    match &open.body {
-        Some(kept) => open.returned.is_none() && kept.as_bytes() == body,
+    match &publish.body {
+        Some(kept) => publish.returned.is_none() && kept.as_bytes() == body,
         None => false,
     }
 }

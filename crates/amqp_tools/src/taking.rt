@@ -2,7 +2,7 @@
 
 ghost use Rattle.std.specs.Prelude.{◌≡◌, ◌≢◌, ◌||◌, nat_lt, ◌∷◌, [], true, None, ◌==◌, ◌<◌, IfOk, IfSome, OnOk, length, position, option_map};
 ghost use Rattle.amqp_tools.specs.Taking.{body_mark, has_mark, without_mark, nothing_taken, left, still_unsent, is_done, standing};
-ghost use Rattle.amqp_tools.specs.Taking.{settled_unknown, looked_at, coming, coming_at, come, come_as, is_none_left, steps_of, wants_to_ask};
+ghost use Rattle.amqp_tools.specs.Taking.{settled_unknown, looked_at, coming_by, coming_at, come_by, come_as, name_in, is_none_left, steps_of, wants_to_ask};
 ghost use Rattle.amqp_tools.specs.Tags.{may};
 ghost use Rattle.amqp_tools.specs.Taking.{tag_to_acknowledge, acknowledged, steps_to_acknowledge, flow_asked, flow_answered, lost_link};
 ghost use Rattle.amqp_tools.specs.Acknowledged.{Does, beginning};
@@ -220,15 +220,13 @@ impl Taking {
         framing: Framing,
         delivery: Delivery<'_>,
     ) -> Result<Coming, Untaken>
-        ensures what { IfOk result (λ what. what ≡ coming delivery.tag delivery.redelivered
-            (body_mark delivery.body.now) (option_map (λ n. n.now) delivery.name) self.old) }
-        ensures new { OnOk result (self.new ≡ come delivery.tag delivery.redelivered (body_mark delivery.body.now)
-            (option_map (λ n. n.now) delivery.name) self.old) }
+        ensures what { IfOk result (λ what. what ≡ coming_by delivery.entry self.old) }
+        ensures new { OnOk result (self.new ≡ come_by delivery.entry self.old) }
         ensures printed { IfOk result (λ what. what ≡ Wanted
-            → S.page sink.new ≡ option_map (give_more (delimited framing delivery.body.now)) (S.page sink.old)) }
+            → S.page sink.new ≡ option_map (give_more (delimited framing delivery.entry.body.now)) (S.page sink.old)) }
         ensures other { IfOk result (λ what. what ≢ Wanted → S.page sink.new ≡ S.page sink.old) }
         ensures does { IfOk result (λ what. Does (standing self.old)
-            (steps_of what delivery.tag (option_map (λ n. n.now) delivery.name)) (standing self.new)) }
+            (steps_of what delivery.entry.tag (name_in delivery.entry)) (standing self.new)) }
     {
         if !self.tags.may_come(delivery.tag) {
             return Ok(Coming::Astray);
@@ -256,12 +254,12 @@ impl Taking {
         delivery: Delivery<'_>,
         mark: Mark,
     ) -> Result<Coming, Untaken>
-        requires { nat_lt self.old.tags.last delivery.tag ≡ true }
-        ensures what { IfOk result (λ what. what ≡ coming_at (option_map (λ n. n.now) delivery.name) self.old) }
+        requires { nat_lt self.old.tags.last delivery.entry.tag ≡ true }
+        ensures what { IfOk result (λ what. what ≡ coming_at (name_in delivery.entry) self.old) }
         ensures new { IfOk result (λ what. self.new
-            ≡ come_as what delivery.tag mark (option_map (λ n. n.now) delivery.name) self.old) }
+            ≡ come_as what delivery.entry.tag mark (name_in delivery.entry) self.old) }
         ensures printed { IfOk result (λ what. what ≡ Wanted
-            → S.page sink.new ≡ option_map (give_more (delimited framing delivery.body.now)) (S.page sink.old)) }
+            → S.page sink.new ≡ option_map (give_more (delimited framing delivery.entry.body.now)) (S.page sink.old)) }
         ensures other { IfOk result (λ what. what ≢ Wanted → S.page sink.new ≡ S.page sink.old) }
     {
         if self.is_over() {
@@ -296,11 +294,11 @@ impl Taking {
         delivery: Delivery<'_>,
         mark: Mark,
     ) -> Result<(), Untaken>
-        requires { may self.old.tags (Printed delivery.tag) ≡ true }
+        requires { may self.old.tags (Printed delivery.entry.tag) ≡ true }
         ensures new { OnOk result (self.new
-            ≡ come_as Wanted delivery.tag mark (option_map (λ n. n.now) delivery.name) self.old) }
+            ≡ come_as Wanted delivery.entry.tag mark (name_in delivery.entry) self.old) }
         ensures printed { OnOk result
-            (S.page sink.new ≡ option_map (give_more (delimited framing delivery.body.now)) (S.page sink.old)) }
+            (S.page sink.new ≡ option_map (give_more (delimited framing delivery.entry.body.now)) (S.page sink.old)) }
     {
         self.know(delivery.tag, mark)?;
         if !print(sink, framing, delivery.body) {
@@ -312,7 +310,7 @@ impl Taking {
 
     // Whether a message of this name was printed.
     fn is_known(&self, name: Option<&[u8]>) -> bool
-        ensures { result ≡ is_known self.now.names (option_map (λ n. n.now) name) }
+        ensures { result ≡ is_known self.now.names (option_map (λ n. n.now) name.entry) }
     {
         match name {
             Some(name) => self.once.has(name),
@@ -323,7 +321,7 @@ impl Taking {
     // A message of this name was printed.
     fn keep(&mut self, name: Option<&[u8]>) -> Result<(), NoMemory>
         ensures { OnOk result (self.new ≡ record self.old {
-          names = kept_with (option_map (λ n. n.now) name) self.old.names;
+          names = kept_with (option_map (λ n. n.now) name.entry) self.old.names;
         }) }
     {
         match name {
