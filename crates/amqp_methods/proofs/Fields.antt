@@ -4,9 +4,9 @@ use Rattle.std.proofs.Math.Nat.{pow-suc}
 use Rattle.std.proofs.lemmas.Bool.{eqb-true, eqb-false, leb-true, le-leb}
 use Rattle.std.proofs.lemmas.List.{append-nil, nil_from_length}
 use Rattle.std.specs.Int.{w16, w32, w64, to_be_bytes}
-use Rattle.amqp_types.specs.Forms.{Form, IsOctets, ◌▸◌, OctetOf, NumberOf, OctetsOf, ShortStringOf, LongStringOf, spell_short_string, spell_long_string}
-use Rattle.amqp_types.specs.Reading.{Reader, ◌>>=◌, octet_at, number_at, short_string_at, long_string_at, ◌⊗◌, read_map}
-use Rattle.amqp_types.proofs.Readers.{IsReader, IsOctets-rest, bind_some, octet_reader, number16_reader, number64_reader, both_reader, map_again, map_takes, then_again, then_takes, short_string_reader, long_string_reader}
+use Rattle.amqp_types.specs.Forms.{Form, IsOctets, ◌▸◌, OctetOf, NumberOf, ShortStringOf, LongStringOf, spell_short_string, spell_long_string}
+use Rattle.amqp_types.specs.Reading.{Reader, number_at, ◌⊗◌}
+use Rattle.amqp_types.proofs.Readers.{IsReader, IsOctets-rest, bind_some, octet_reader, number16_reader, number64_reader, both_reader, map_again, map_takes, short_string_reader, long_string_reader}
 use Rattle.amqp_types.proofs.Small.{some_is, and-left, and-right}
 use Rattle.amqp_frame.specs.FrameReading.{exactly}
 use Rattle.amqp_methods.specs.Said.{bits}

@@ -1,6 +1,6 @@
 -- Methods by which a server delivers and confirms (AMQP 0-9-1, class reference of basic; that a server says ack and
 -- nack is an extension of RabbitMQ): how they are spelled, and how they are read.
-use Rattle.std.specs.Prelude.{◌≡◌, ℕ, ◌%◌, ◌/◌, ◌==◌, ◌&&◌, Bool, List, length, Option, Some, None, if◌then◌else◌}
+use Rattle.std.specs.Prelude.{◌≡◌, ℕ, ◌%◌, ◌/◌, ◌==◌, ◌&&◌, Bool, List, Option, Some, None, if◌then◌else◌}
 use Rattle.std.specs.Int.{w16, w64}
 use Rattle.amqp_types.specs.Forms.{Form, ◌▸◌, OctetOf, NumberOf, ShortStringOf}
 use Rattle.amqp_types.specs.Reading.{Reader, ◌>>=◌, octet_at, number_at, short_string_at, ◌⊗◌}

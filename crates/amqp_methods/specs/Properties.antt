@@ -1,6 +1,6 @@
 -- The properties of class basic (AMQP 0-9-1, 4.2.6.1 and the class reference of basic): how they are spelled, and how
 -- they are read.
-use Rattle.std.specs.Prelude.{◌≡◌, ◌≤◌, ◌<◌, ◌^◌, ◌+◌, ◌*◌, ◌/◌, ◌%◌, ◌==◌, ◌&&◌, ℕ, zero, suc, nat_le, Bool, true, List, [], ◌∷◌, ◌++◌, length, Option, Some, None, is_some, option_map, IfSome, if◌then◌else◌}
+use Rattle.std.specs.Prelude.{◌≡◌, ◌<◌, ◌^◌, ◌*◌, ◌/◌, ◌%◌, ◌==◌, ◌&&◌, ℕ, zero, suc, nat_le, Bool, true, List, [], ◌∷◌, ◌++◌, length, Option, Some, None, is_some, option_map, IfSome, if◌then◌else◌}
 use Rattle.std.specs.Int.{w16, w64, to_be_bytes}
 use Rattle.amqp_types.specs.Forms.{spell_short_string, spell_long_string}
 use Rattle.amqp_types.specs.Reading.{Reader, ◌>>=◌, octet_at, number_at, short_string_at, long_string_at, ◌⊗◌, read_map}

@@ -1,5 +1,5 @@
 -- What is acknowledged was printed, and taken by the sink.
-use Rattle.std.proofs.Common.{◌≡◌, ◌⊎◌, ◌<◌, ◌≤◌, ℕ, Bool, true, false, not, cond, ◌&&◌, ◌||◌, nat_lt, nat_le, nat_eq, List, [], ◌∷◌, ◌++◌, length, Option, Some, None, refl, sym, ap, subst, arith, inl, inr, tt}
+use Rattle.std.proofs.Common.{◌≡◌, ◌⊎◌, ◌<◌, ◌≤◌, ℕ, Bool, true, false, not, cond, ◌&&◌, ◌||◌, nat_lt, nat_le, nat_eq, List, [], ◌∷◌, ◌++◌, length, Option, Some, None, refl, sym, ap, subst, arith, inl, inr}
 use Rattle.std.proofs.lemmas.Bool.{ltb-true, eqb-true}
 use Rattle.std.specs.Str.{bytes_eq}
 use Rattle.std.specs.Ordering.{nat_cmp, match_ordering}
@@ -11,7 +11,7 @@ use Rattle.amqp_tools.specs.declared.tags.Deed.{Deed}
 use Rattle.amqp_tools.specs.declared.tags.Deed.TheVariants.{Printed, Known, PassedOver, Flushed, Acknowledged, Lost}
 use Rattle.amqp_tools.specs.declared.tags.Tags.{Tags}
 use Rattle.amqp_tools.specs.Tags.{undelivered, is_tag, may, last_taken, after_deed}
-use Rattle.amqp_tools.specs.Names.{PrintedNames, window, is_name_among, has_name, put_name, keep_name}
+use Rattle.amqp_tools.specs.Names.{PrintedNames, window, windowed, is_name_among, has_name, put_name, keep_name}
 use Rattle.amqp_tools.specs.Acknowledged.{NamedDeed, Standing, beginning, is_known, kept_with, may_named, after_named, allowed, Delivery, Seen, nothing_seen, name_before, see, Among, HasItsName, WasPrinted, AckedIsPrinted}
 
 -- ---- what is among others
@@ -95,31 +95,29 @@ or_here : (a b : Bool) → a ≡ true → (a || b) ≡ true
 or_here true b h = refl
 or_here false b h = absurd cc
 
-kept_by :
-    (b : Bool) (n name : List ℕ) (names : PrintedNames) →
-    has_name
-    (cond b (record { earlier = names.later; later = put_name name [] }) (record names { later = put_name name names.later })) n ≡ true →
-    (n ≡ name) ⊎ (has_name names n ≡ true)
-kept_by true n name names h =
-    elim (or_cases (is_name_among n (put_name name [])) (is_name_among n names.later) h) [
-      | inl is ↦ elim (after_put n name [] is) [
-        | inl same ↦ inl same
-        | inr no ↦ absurd cc
-      ]
-      | inr is ↦ inr (or_here (is_name_among n names.later) (is_name_among n names.earlier) is)
-    ]
-kept_by false n name names h =
-    elim (or_cases (is_name_among n (put_name name names.later)) (is_name_among n names.earlier) h) [
-      | inl is ↦ elim (after_put n name names.later is) [
-        | inl same ↦ inl same
-        | inr there ↦ inr (or_here (is_name_among n names.later) (is_name_among n names.earlier) there)
-      ]
-      | inr is ↦ inr (or_there (is_name_among n names.later) (is_name_among n names.earlier) is)
-    ]
+-- a name that is kept once another window may have begun was kept before
+window_by :
+    (b : Bool) (n : List ℕ) (names : PrintedNames) →
+    has_name (cond b (record { earlier = names.later; later = [] }) names) n ≡ true → has_name names n ≡ true
+window_by true n names h = or_here (is_name_among n names.later) (is_name_among n names.earlier) h
+window_by false n names h = h
+
+after_window : (n : List ℕ) (names : PrintedNames) → has_name (windowed names) n ≡ true → has_name names n ≡ true
+after_window n names h = window_by (nat_le window (length names.later)) n names h
 
 -- a name that is kept after one more is that one, or was kept
-after_keep : (n name : List ℕ) (names : PrintedNames) → has_name (keep_name name names) n ≡ true → (n ≡ name) ⊎ (has_name names n ≡ true)
-after_keep n name names h = kept_by (nat_le window (length names.later)) n name names h
+after_keep :
+    (n name : List ℕ) (names : PrintedNames) → has_name (keep_name name names) n ≡ true →
+    (n ≡ name) ⊎ (has_name names n ≡ true)
+after_keep n name names h =
+    let now = windowed names in
+    elim (or_cases (is_name_among n (put_name name now.later)) (is_name_among n now.earlier) h) [
+      | inl is ↦ elim (after_put n name now.later is) [
+        | inl same ↦ inl same
+        | inr there ↦ inr (after_window n names (or_here (is_name_among n now.later) (is_name_among n now.earlier) there))
+      ]
+      | inr is ↦ inr (after_window n names (or_there (is_name_among n now.later) (is_name_among n now.earlier) is))
+    ]
 
 -- ---- how far it is, and what was seen
 
@@ -131,7 +129,7 @@ Shown seen d = WasPrinted seen d ⊎ (Among d.0 seen.given ⊎ HasItsName d.1 se
 abbrev NameShown : Seen → List ℕ → Type 0
 NameShown seen n = Among n seen.names_taken ⊎ Among n seen.names_given
 
-record Holds (s : Standing) (seen : Seen) : Type 0 where
+pub record Holds (s : Standing) (seen : Seen) : Type 0 where
   -- nothing came above the last
   below : (d : Delivery) → Among d seen.came → d.0 ≤ s.tags.last
   printed_below : (tag : ℕ) → s.tags.printed ≡ Some tag → tag ≤ s.tags.last

@@ -3,18 +3,20 @@ use Rattle.std.proofs.Common.{◌≡◌, ℕ, zero, suc, ◌+◌, ◌<◌, ◌�
 use Rattle.std.proofs.lemmas.Bool.Decides.{nat_tests}
 use Rattle.std.specs.List.{position, position_or_len}
 
+behind_by :
+    (b : Bool) (n seen all rest : ℕ) → (n ≤ seen → all ≡ n + rest) → suc n ≤ cond b (1 + seen) 0 →
+    cond b (1 + all) 0 ≡ suc n + rest
+behind_by true n seen all rest later e = let less : n ≤ seen = omega (arith, e) in let is = later less in omega (arith, is)
+behind_by false n seen all rest later e = absurd (omega (arith, e))
+
 behind :
     (p : ℕ → Bool) (n : ℕ) (xs : List ℕ) → n ≤ position_or_len p (take n xs) →
     position_or_len p xs ≡ n + position_or_len p (drop n xs)
 behind p zero xs h = omega arith
 behind p (suc n) [] h = absurd (omega (arith, h))
-behind p (suc n) (x ∷ xs) h = by (not (p x)) h
-  where
-    by :
-        (b : Bool) → suc n ≤ cond b (1 + position_or_len p (take n xs)) 0 →
-        cond b (1 + position_or_len p xs) 0 ≡ suc n + position_or_len p (drop n xs)
-    by true e = let rest = behind p n xs (omega (arith, e)) in omega (arith, rest)
-    by false e = absurd (omega (arith, e))
+behind p (suc n) (x ∷ xs) h =
+    behind_by (not (p x)) n (position_or_len p (take n xs)) (position_or_len p xs) (position_or_len p (drop n xs))
+    (λ e. behind p n xs e) h
 
 -- how many there are, of which these are the first
 cut : (n : ℕ) (xs : List ℕ) → n ≤ length xs → (length (take n xs) ≡ n) × (length xs ≡ n + length (drop n xs))
@@ -30,8 +32,7 @@ none_of place size h = by (nat_lt place size) refl h
     by false is e = grind (arith, nat_tests, is)
 
 same_test : (n a b : ℕ) → nat_lt (n + a) (n + b) ≡ nat_lt a b
-same_test zero a b = refl
-same_test (suc n) a b = grind (arith, nat_tests)
+same_test n a b = grind (arith, nat_tests)
 
 moved : (b : Bool) (n a m : ℕ) → m ≡ n + a → cond b (Some m) None ≡ option_map (λ j. n + j) (cond b (Some a) None)
 moved true n a m e = ap (λ (x : ℕ). Some x) e

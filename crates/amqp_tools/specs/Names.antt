@@ -31,8 +31,11 @@ abbrev pub put_name : List ℕ → List (List ℕ) → List (List ℕ)
 put_name name [] = name ∷ []
 put_name name (n ∷ ns) = match_ordering (slice_cmp nat_cmp name n) (name ∷ n ∷ ns) (n ∷ ns) (n ∷ put_name name ns)
 
--- one more is kept: where the window is full, another begins, and the one before it goes
+-- where the window is full another begins, and the one before it goes
+abbrev pub windowed : PrintedNames → PrintedNames
+windowed names =
+    if nat_le window (length names.later) then record { earlier = names.later; later = [] } else names
+
+-- one more is kept
 abbrev pub keep_name : List ℕ → PrintedNames → PrintedNames
-keep_name name names =
-    if nat_le window (length names.later) then record { earlier = names.later; later = put_name name [] }
-    else record names { later = put_name name names.later }
+keep_name name names = record (windowed names) { later = put_name name (windowed names).later }

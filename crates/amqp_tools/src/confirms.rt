@@ -95,7 +95,9 @@ impl Confirms {
         ensures unanswered { OnOk result (self.new.unanswered.items ≡ self.old.unanswered.items
             ++ record { number = self.old.published + 1; message = self.old.messages + 1; returned = None; body = body }
             ∷ []) }
-        ensures same { OnErr result (self.new ≡ self.old) }
+        ensures same { OnErr result ((self.new.published ≡ self.old.published)
+            × (self.new.messages ≡ self.old.messages)
+            × (self.new.unanswered.items ≡ self.old.unanswered.items)) }
     {
         if self.published == u64::MAX || self.messages == u64::MAX {
             drop(body);
@@ -126,7 +128,9 @@ impl Confirms {
         ensures messages { OnOk result (self.new.messages ≡ self.old.messages) }
         ensures unanswered { OnOk result (self.new.unanswered.items
             ≡ self.old.unanswered.items ++ record unanswered { number = self.old.published + 1 } ∷ []) }
-        ensures same { OnErr result (self.new ≡ self.old) }
+        ensures same { OnErr result ((self.new.published ≡ self.old.published)
+            × (self.new.messages ≡ self.old.messages)
+            × (self.new.unanswered.items ≡ self.old.unanswered.items)) }
     {
         if self.published == u64::MAX {
             drop(unanswered);

@@ -1,6 +1,6 @@
 //! How bodies stand one after another in a stream of octets.
 
-ghost use Rattle.std.specs.Prelude.{◌≡◌, ◌==◌, ◌<◌, ◌≤◌, ◌+◌, ◌++◌, true, [], false, IfOk, IfSome, OnOk, length, drop, position, if◌then◌else◌};
+ghost use Rattle.std.specs.Prelude.{◌≡◌, ◌==◌, ◌<◌, ◌≤◌, ◌+◌, ◌++◌, None, true, [], false, IfOk, IfSome, OnOk, length, drop, position, if◌then◌else◌};
 ghost use Rattle.amqp_tools.specs.Bodies.{next_part, without_next_part, delimited_part, last_body, behind_length, body_at, is_delimiter};
 ghost use Rattle.amqp_tools.specs.declared.framing.Part.TheVariants.{More, End, Torn};
 
@@ -75,6 +75,14 @@ fn place_of(octets: &[u8], octet: u8) -> Option<usize>
     octets.iter().position(|o| *o == octet)
 }
 
+// What stands behind so many octets.
+fn behind(octets: &[u8], count: usize) -> &[u8]
+    requires { count ≤ length octets.now }
+    ensures { result.now ≡ drop count octets.now }
+{
+    &octets[count..]
+}
+
 impl Bodies {
     /// None came of a stream whose bodies stand so, and have at most so many octets.
     pub fn new(alloc: Global, framing: Framing, most: usize) -> Bodies
@@ -127,17 +135,35 @@ impl Bodies {
         ensures new { OnOk result (self.new
             ≡ record self.old { rest = drop (delimited_part self.old).1 self.old.rest }) }
     {
-        let rest = &self.held[self.at..];
-        match place_of(&rest[self.seen..], octet) {
-            Some(place) => {
-                let size = self.seen + place;
-                self.give(0, size, size + 1)
-            }
+        match self.found(octet) {
+            Some(size) => self.give(0, size, size + 1),
             None => {
-                self.seen = rest.len();
+                self.see_all();
                 self.last()
             }
         }
+    }
+
+    // Where the next such octet stands among those that are left.
+    fn found(&self, octet: u8) -> Option<usize>
+        requires { is_delimiter self.now.framing ≡ (λ o. o == octet) }
+        ensures at { result ≡ position (is_delimiter self.now.framing) self.now.rest }
+        ensures within { IfSome result (λ at. at < length self.now.rest) }
+    {
+        let rest = behind(&self.held, self.at);
+        let unseen = behind(rest, self.seen);
+        match place_of(unseen, octet) {
+            Some(place) => Some(self.seen + place),
+            None => None,
+        }
+    }
+
+    // All that is left was looked at, and ends no body.
+    fn see_all(&mut self)
+        requires { position (is_delimiter self.old.framing) self.old.rest ≡ None }
+        ensures { self.new ≡ self.old }
+    {
+        self.seen = self.held.len() - self.at;
     }
 
     // The last body, where no more octets come.

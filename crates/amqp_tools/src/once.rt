@@ -1,7 +1,7 @@
 //! The names of messages that were printed, of the last ones.
 
-ghost use Rattle.std.specs.Prelude.{◌≡◌, OnOk, OnErr};
-ghost use Rattle.amqp_tools.specs.Names.{no_names, has_name, keep_name};
+ghost use Rattle.std.specs.Prelude.{◌≡◌, OnOk};
+ghost use Rattle.amqp_tools.specs.Names.{no_names, has_name, keep_name, windowed, put_name};
 
 use amqp_types::NoMemory;
 use std::alloc::Global;
@@ -53,15 +53,28 @@ impl Once {
 
     /// A message with this name was printed.
     pub fn keep(&mut self, name: &[u8]) -> Result<(), NoMemory>
-        ensures ok { OnOk result (self.new ≡ keep_name name.now self.old) }
+        ensures { OnOk result (self.new ≡ keep_name name.now self.old) }
     {
         let name = Vec::from_slice(self.alloc, name)?;
-        if self.later.len() >= WINDOW {
-            self.earlier = mem::replace(&mut self.later, BTreeSet::new(self.alloc));
+        self.begin_window();
+        self.put(name)
+    }
+
+    // Where the window is full another begins.
+    fn begin_window(&mut self)
+        ensures { self.new ≡ windowed self.old }
+    {
+        if self.later.len() < WINDOW {
+            return;
         }
-        match self.later.insert(name) {
-            Ok(_is_new) => Ok(()),
-            Err(_) => Err(NoMemory),
-        }
+        self.earlier = mem::replace(&mut self.later, BTreeSet::new(self.alloc));
+    }
+
+    // One name more.
+    fn put(&mut self, name: Vec<u8>) -> Result<(), NoMemory>
+        ensures { OnOk result (self.new ≡ record self.old { later = put_name name.items self.old.later }) }
+    {
+        let _is_new = self.later.insert(name)?;
+        Ok(())
     }
 }

@@ -1,6 +1,7 @@
 //! Where bodies are printed.
 
-ghost use Rattle.std.specs.Prelude.{◌≡◌, Option, None, Some, [], OnTrue, option_map};
+ghost use Rattle.std.specs.Prelude.{◌≡◌, Option, None, Some, [], option_map};
+ghost use Rattle.std.specs.Bool.{OnTrue};
 ghost use Rattle.amqp_tools.specs.Sink.{Page, give_more, give_if, take_if, delimited};
 
 use crate::framing::Framing;

@@ -1,4 +1,4 @@
-use Rattle.std.proofs.Common.{◌≡◌, ℕ, ◌+◌, ◌*◌, Bool, cond, List, [], ◌∷◌, Option, Some, None, option_map, is_some, refl, sym, ap, ◌∙◌}
+use Rattle.std.proofs.Common.{◌≡◌, ℕ, ◌+◌, ◌*◌, Bool, cond, List, [], ◌∷◌, Option, Some, None, option_map, is_some, refl, ap, ◌∙◌}
 use Rattle.amqp_methods.specs.Said.{bits}
 use Rattle.amqp_methods.proofs.properties.BasicProperties.flags.Goals as goal
 
