@@ -50,6 +50,8 @@ class Broker:
         self.process = subprocess.Popen([server + "rabbitmq-server"], env=broker_env, stdout=subprocess.DEVNULL,
                                         stderr=subprocess.DEVNULL, start_new_session=True)
         if not within(180, lambda: listens(port)):
+            self.kill()
+            self.names.kill()
             raise TimeoutError("no broker")
 
     def signal(self, how):
