@@ -39,7 +39,7 @@ last_body s =
 
 -- the body that the first such octet ends
 abbrev pub up_to : Option ℕ → Stream → NextPart
-up_to (Some place) s = body_at s 0 place (place + 1)
+up_to (Some place) s = body_at s 0 place (0 + place + 1)
 up_to None s = last_body s
 
 -- octets that are cut off
@@ -50,7 +50,7 @@ cut_off s = if s.ended then (Torn, 0) else (More, 0)
 abbrev pub of_length : ℕ → Stream → NextPart
 of_length size s =
     if nat_lt s.most size then (TooLarge s.most, 0)
-    else if nat_le (size + 4) (length s.rest) then (Body (take size (drop 4 s.rest)), size + 4)
+    else if nat_le (size + 4) (length s.rest) then (Body (take size (drop 4 s.rest)), 4 + size + 0)
     else cut_off s
 
 -- the body that stands behind its length

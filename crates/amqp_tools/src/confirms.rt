@@ -1,6 +1,6 @@
 //! Which publishes of a channel in confirm mode the broker has not answered.
 
-ghost use Rattle.std.specs.Prelude.{◌≡◌, ◌+◌, ◌++◌, ◌∷◌, [], ℕ, List, Bool, None, length, IfOk, OnOk, OnErr};
+ghost use Rattle.std.specs.Prelude.{◌≡◌, ◌+◌, ◌++◌, ◌∷◌, [], ℕ, List, Bool, None, length, position, ◌<◌, IfSome, IfOk, OnOk, OnErr};
 ghost use Rattle.amqp_tools.specs.Confirms.{means, left_unanswered, meant, is_given_back, given_back};
 ghost use Rattle.amqp_tools.specs.declared.confirms.Open.{Open as OneOpen};
 
@@ -60,17 +60,12 @@ fn is_given_back(publish: &Open, body: &[u8]) -> bool
     }
 }
 
-// Gives the first of those back that is meant.
-fn give_back_first(opens: &mut [Open], code: u16, body: &[u8])
-    ensures { opens.new ≡ given_back code body.now opens.old }
+// Where the first of these stands that is meant.
+fn place_of(opens: &[Open], body: &[u8]) -> Option<usize>
+    ensures at { result ≡ position (is_given_back body.now) opens.now }
+    ensures within { IfSome result (λ at. at < length opens.now) }
 {
-    if let [first, rest @ ..] = opens {
-        if is_given_back(first, body) {
-            first.returned = Some(code);
-        } else {
-            give_back_first(rest, code, body);
-        }
-    }
+    opens.iter().position(|open| is_given_back(open, body))
 }
 
 impl Confirms {
@@ -155,7 +150,9 @@ impl Confirms {
         ensures unanswered { self.new.unanswered.items ≡ given_back code body.now self.old.unanswered.items }
         ensures published { (self.new.published ≡ self.old.published) × (self.new.messages ≡ self.old.messages) }
     {
-        give_back_first(&mut self.unanswered, code, body);
+        if let Some(place) = place_of(&self.unanswered, body) {
+            self.unanswered[place].returned = Some(code);
+        }
     }
 
     /// Those that have no answer, in order.

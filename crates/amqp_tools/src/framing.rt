@@ -136,7 +136,7 @@ impl Bodies {
             ≡ record self.old { rest = drop (delimited_part self.old).1 self.old.rest }) }
     {
         match self.found(octet) {
-            Some(size) => self.give(0, size, size + 1),
+            Some(size) => self.give(0, size, 1),
             None => {
                 self.see_all();
                 self.last()
@@ -179,7 +179,7 @@ impl Bodies {
         } else if size == 0 {
             Ok(Part::End)
         } else {
-            self.give(0, size, size)
+            self.give(0, size, 0)
         }
     }
 
@@ -201,7 +201,7 @@ impl Bodies {
         } else if rest.len() < size + 4 {
             Ok(self.cut_off(false))
         } else {
-            self.give(4, size, size + 4)
+            self.give(4, size, 0)
         }
     }
 
@@ -216,20 +216,19 @@ impl Bodies {
         }
     }
 
-    // Gives the body of so many octets that stands behind so many others, with so many to its end.
-    fn give(&mut self, before: usize, size: usize, all: usize) -> Result<Part, NoMemory>
-        requires within { before + size ≤ all }
-        requires there { all ≤ length self.old.rest }
-        ensures part { IfOk result (λ part. part ≡ (body_at self.old before size all).0) }
+    // Gives the body of so many octets that stands behind so many others, and before so many that end it.
+    fn give(&mut self, before: usize, size: usize, after: usize) -> Result<Part, NoMemory>
+        requires { before + size + after ≤ length self.old.rest }
+        ensures part { IfOk result (λ part. part ≡ (body_at self.old before size (before + size + after)).0) }
         ensures new { OnOk result (self.new
-            ≡ record self.old { rest = drop (body_at self.old before size all).1 self.old.rest }) }
+            ≡ record self.old { rest = drop (body_at self.old before size (before + size + after)).1 self.old.rest }) }
     {
         if size > self.most {
             return Ok(Part::TooLarge(self.most));
         }
         let rest = &self.held[self.at..];
         let body = Payload::new(self.alloc, &rest[before..before + size])?;
-        self.at += all;
+        self.at += before + size + after;
         self.seen = 0;
         Ok(Part::Body(body))
     }

@@ -254,7 +254,7 @@ impl Taking {
         delivery: Delivery<'_>,
         mark: Mark,
     ) -> Result<Coming, Untaken>
-        requires { nat_lt self.old.tags.last delivery.entry.tag ≡ true }
+        requires { nat_lt self.old.tags.last delivery.tag ≡ true }
         ensures what { IfOk result (λ what. what ≡ coming_at (name_in delivery.entry) self.old) }
         ensures new { IfOk result (λ what. self.new
             ≡ come_as what delivery.entry.tag mark (name_in delivery.entry) self.old) }
@@ -294,7 +294,7 @@ impl Taking {
         delivery: Delivery<'_>,
         mark: Mark,
     ) -> Result<(), Untaken>
-        requires { may self.old.tags (Printed delivery.entry.tag) ≡ true }
+        requires { may self.old.tags (Printed delivery.tag) ≡ true }
         ensures new { OnOk result (self.new
             ≡ come_as Wanted delivery.entry.tag mark (name_in delivery.entry) self.old) }
         ensures printed { OnOk result
