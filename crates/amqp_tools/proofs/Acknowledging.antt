@@ -7,12 +7,10 @@ use Rattle.std.specs.Cmp.Lexicographic.{slice_cmp}
 use Rattle.std.specs.declared.cmp.Ordering.{Ordering}
 use Rattle.std.specs.declared.cmp.Ordering.TheVariants.{Less, Equal, Greater}
 use Rattle.amqp_types.proofs.Small.{some_is, and-left, and-right, from-not-true}
-use Rattle.amqp_tools.specs.declared.tags.Deed.{Deed}
 use Rattle.amqp_tools.specs.declared.tags.Deed.TheVariants.{Printed, Known, PassedOver, Flushed, Acknowledged, Lost}
-use Rattle.amqp_tools.specs.declared.tags.Tags.{Tags}
-use Rattle.amqp_tools.specs.Tags.{undelivered, is_tag, may, last_taken, after_deed}
+use Rattle.amqp_tools.specs.Tags.{undelivered, is_tag, may, last_taken}
 use Rattle.amqp_tools.specs.Names.{PrintedNames, window, windowed, is_name_among, has_name, put_name, keep_name}
-use Rattle.amqp_tools.specs.Acknowledged.{NamedDeed, Standing, beginning, is_known, kept_with, may_named, after_named, allowed, Delivery, Seen, nothing_seen, name_before, see, Among, HasItsName, WasPrinted, AckedIsPrinted}
+use Rattle.amqp_tools.specs.Acknowledged.{NamedDeed, Standing, beginning, is_known, kept_with, after_named, allowed, Delivery, Seen, nothing_seen, name_before, see, Among, HasItsName, WasPrinted, AckedIsPrinted}
 
 -- ---- what is among others
 

@@ -1,10 +1,9 @@
 -- What a delivery is, and the deeds that it is.
-use Rattle.std.proofs.Common.{◌≡◌, ℕ, Bool, true, false, not, cond, ◌&&◌, ◌||◌, nat_lt, List, [], ◌∷◌, Option, Some, None, refl, sym, ap}
+use Rattle.std.proofs.Common.{◌≡◌, ℕ, Bool, true, false, cond, ◌&&◌, ◌||◌, nat_lt, List, Option, refl}
 use Rattle.amqp_tools.specs.declared.taking.Coming.{Coming}
 use Rattle.amqp_tools.specs.declared.taking.Coming.TheVariants.{Wanted, Named, Unwanted, Astray}
-use Rattle.amqp_tools.specs.Tags.{may}
-use Rattle.amqp_tools.specs.Acknowledged.{Does, Standing, is_known}
-use Rattle.amqp_tools.specs.Taking.{Taken, standing, left, is_none_left, has_mark, settled_unknown, found_again, looked_at, coming_at, come_as, steps_of}
+use Rattle.amqp_tools.specs.Acknowledged.{Does, is_known}
+use Rattle.amqp_tools.specs.Taking.{Taken, standing, left, is_none_left, has_mark, settled_unknown, looked_at, coming_at, come_as, steps_of}
 
 -- ---- what is looked at leaves the tags and the names
 

@@ -1,5 +1,5 @@
 -- How bodies stand one after another in a stream of octets.
-use Rattle.std.specs.Prelude.{ℕ, ◌+◌, ◌-◌, ◌==◌, nat_le, nat_lt, Bool, true, false, ◌&&◌, List, [], ◌∷◌, ◌++◌, length, take, drop, Option, Some, None, position, if◌then◌else◌}
+use Rattle.std.specs.Prelude.{ℕ, ◌+◌, ◌==◌, nat_le, nat_lt, Bool, false, List, length, take, drop, Option, Some, None, position, if◌then◌else◌}
 use Rattle.std.specs.Int.{w32, from_be_bytes}
 use Rattle.amqp_tools.specs.declared.framing.Framing.{Framing}
 use Rattle.amqp_tools.specs.declared.framing.Framing.TheVariants.{Lines, Zeros, Lengths}

@@ -1,7 +1,7 @@
 -- Which messages of a queue were printed and acknowledged, over one link after another, and which are known to be.
-use Rattle.std.specs.Prelude.{ℕ, ◌+◌, ◌-◌, ◌*◌, ◌%◌, ◌^◌, nat_le, nat_lt, nat_eq, min, Bool, true, false, ◌&&◌, ◌||◌, List, [], ◌∷◌, ◌++◌, length, drop, Option, Some, None, option_map, is_some, position, ◌==◌, if◌then◌else◌}
+use Rattle.std.specs.Prelude.{ℕ, ◌+◌, ◌-◌, ◌*◌, ◌%◌, ◌^◌, nat_le, nat_lt, nat_eq, min, Bool, false, ◌&&◌, ◌||◌, List, [], ◌∷◌, ◌++◌, length, drop, Option, Some, None, option_map, is_some, position, ◌==◌, if◌then◌else◌}
 use Rattle.std.specs.List.{remove}
-use Rattle.amqp_tools.specs.declared.tags.Deed.TheVariants.{Printed, Known, PassedOver, Flushed, Acknowledged, Lost}
+use Rattle.amqp_tools.specs.declared.tags.Deed.TheVariants.{Printed, Known, PassedOver, Flushed, Acknowledged}
 use Rattle.amqp_tools.specs.declared.tags.Tags.{Tags}
 use Rattle.amqp_tools.specs.declared.taking.Coming.{Coming}
 use Rattle.amqp_tools.specs.declared.taking.Delivery.{Delivery as WholeDelivery}

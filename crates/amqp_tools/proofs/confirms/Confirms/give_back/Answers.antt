@@ -1,4 +1,4 @@
-use Rattle.std.proofs.Common.{◌≡◌, ℕ, zero, suc, ◌<◌, List, [], ◌∷◌, length, position, Option, Some, slice_set, slice_index_or, refl, sym, ap, arith, ◌∙◌}
+use Rattle.std.proofs.Common.{◌≡◌, ℕ, zero, suc, ◌<◌, List, [], ◌∷◌, length, position, Option, Some, slice_set, slice_index_or, ap, arith, ◌∙◌}
 use Rattle.amqp_tools.specs.Confirms.{is_given_back, given_back_at, map_at}
 use Rattle.amqp_tools.specs.declared.confirms.Open.{Open}
 use Rattle.amqp_tools.proofs.confirms.Confirms.give_back.Goals as goal

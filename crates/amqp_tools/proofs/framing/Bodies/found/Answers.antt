@@ -1,4 +1,4 @@
-use Rattle.std.proofs.Common.{◌≡◌, ℕ, ◌+◌, ◌≤◌, ◌==◌, List, length, drop, Option, Some, None, option_map, position, refl, sym, ap, arith, ◌∙◌}
+use Rattle.std.proofs.Common.{◌≡◌, ℕ, ◌+◌, ◌≤◌, ◌==◌, List, length, drop, Option, Some, None, option_map, position, sym, ap, arith, ◌∙◌}
 use Rattle.std.proofs.lemmas.Grind.{common_steps}
 use Rattle.amqp_tools.specs.Bodies.{Stream, is_delimiter}
 use Rattle.amqp_tools.proofs.Placing.{first_behind}

@@ -1,4 +1,4 @@
-use Rattle.std.proofs.Common.{◌≡◌, ℕ, Bool, true, false, ◌||◌, List, map, refl, sym, ap, ◌∙◌}
+use Rattle.std.proofs.Common.{◌≡◌, Bool, true, false, ◌||◌, map, refl, sym, ap, ◌∙◌}
 use Rattle.amqp_tools.specs.Names.{PrintedNames, is_name_among, has_name}
 use Rattle.amqp_tools.proofs.Naming.{among_keys}
 use Rattle.amqp_tools.proofs.once.Once.has.Goals as goal
