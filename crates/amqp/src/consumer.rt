@@ -1,182 +1,459 @@
 //! Who consumes a queue.
 
-use amqp_client::{Client, Next, Stop};
-use amqp_frame::RawKind;
+use amqp_client::{Client, LIMIT, Links, Next, Own, Stop, within};
+use amqp_frame::{RawKind, RawMethod};
 use amqp_methods::{
-    BasicAckOptions, BasicConsumeOptions, BasicQosOptions, basic_ack, basic_consume, basic_qos,
+    BasicAckOptions, BasicConsumeOptions, BasicQosOptions, basic_ack, basic_cancel, basic_consume,
+    basic_qos, header_named, read_properties,
 };
-use amqp_session::{ErrorKind, Handed, Result};
-use amqp_tools::{Arriving, Heard, told_by};
-use amqp_types::{FieldTable, ShortString};
+use amqp_session::{Error, ErrorKind, Handed};
+use amqp_tools::{
+    Arriving, Coming, Delivery, Framing, Heard, Sink, Taking, Untaken, size_in, told_by,
+};
+use amqp_types::{FieldTable, ShortString, Text};
+use lapin_connection::Pending;
 use std::alloc::{AllocGlobal, Global};
-use std::io::Write;
+use std::io::Eprint;
+use std::net::Net;
 use std::random::RandomSource;
 use std::sync::Wait;
+use std::thread::Threads;
+use std::time::Clock;
 
 /// How many messages may be delivered and not acknowledged.
-const MOST_UNACKNOWLEDGED: u16 = 256;
+const MOST_UNACKNOWLEDGED: u64 = 256;
+
+/// The tag of the consumer, which is the only one of its channel.
+const TAG: &[u8] = b"amqp";
 
 /// What is wanted.
 #[derive(Drop)]
 pub struct Wanted {
     pub queue: ShortString,
-    /// How many messages are still to be printed; any number where it is not said.
-    pub left: Option<u64>,
+    /// How many messages; any number where it is not said.
+    pub count: Option<u64>,
+    /// By which property a message is told that was printed: `message-id`, or the name of a header.
+    pub once: Option<Text>,
+    /// How bodies are printed one after another.
+    pub framing: Framing,
+    /// How many octets a body may have.
+    pub most: usize,
+    /// Whether it goes on over another link, where one is lost.
+    pub recovers: bool,
+    /// For how many seconds a message is waited for; for ever where it is not said.
+    pub timeout: Option<u64>,
+    /// Whether it is not said how many came again.
+    pub is_quiet: bool,
 }
 
 /// Who consumes one queue.
 #[derive(Drop)]
-pub struct Consumer {
+pub struct Consumer<'a> {
     alloc: Global,
+    links: Links<'a>,
     client: Client,
     wanted: Wanted,
+    taking: Taking,
     arriving: Arriving,
-    // the tag of the last message that was printed and not acknowledged
-    unacknowledged: Option<u64>,
+    // the properties of the message that arrives, where they are looked at
+    properties: Vec<u8>,
+    // how many may be delivered and not acknowledged, as the broker was told
+    ahead: u64,
+    // the answer by which it is known that what was acknowledged before was read
+    asked: Option<Pending<bool>>,
+    // for how many seconds nothing was delivered
+    waited: u64,
 }
 
-impl Consumer {
+impl<'a> Consumer<'a> {
     /// Who consumes by this client.
-    pub fn new(alloc: Global, client: Client, wanted: Wanted) -> Consumer {
+    pub fn new(alloc: Global, links: Links<'a>, client: Client, wanted: Wanted) -> Consumer<'a> {
+        let count = wanted.count;
         Consumer {
             alloc,
+            links,
             client,
             wanted,
+            taking: Taking::new(alloc, count),
             arriving: Arriving::new(alloc),
-            unacknowledged: None,
+            properties: Vec::new(alloc),
+            ahead: MOST_UNACKNOWLEDGED,
+            asked: None,
+            waited: 0,
         }
     }
 
-    // Asks for messages: no more at a time than are wanted.
-    fn ask<R: Wait>(&mut self, rt: &R) -> Result<()> {
-        let most = MOST_UNACKNOWLEDGED as u64;
-        let count = self.wanted.left.unwrap_or(most).min(most) as u16;
-        let qos = basic_qos(self.alloc, count, BasicQosOptions { global: false })?;
-        self.client.send(rt, qos)?;
-        self.consume(rt)
+    // How many messages may come: those that may be printed, and those that may come again.
+    fn may_come(&self) -> u64 {
+        match self.taking.left() {
+            Some(left) => left.saturating_add(self.taking.unknown() as u64),
+            None => MOST_UNACKNOWLEDGED,
+        }
     }
 
-    // Asks for the messages of the queue.
-    fn consume<R: Wait>(&mut self, rt: &R) -> Result<()> {
+    // Asks for messages: no more at a time than may come.
+    fn ask<R: Wait>(&mut self, rt: &R) -> Result<(), Stop> {
+        self.ahead = self.may_come().clamp(1, MOST_UNACKNOWLEDGED);
+        let options = BasicQosOptions { global: false };
+        let qos = basic_qos(self.alloc, self.ahead as u16, options)?;
+        self.client.send(rt, qos)?;
+        let method = self.consuming()?;
+        self.client.send(rt, method)
+    }
+
+    // The method by which the messages of the queue are asked for.
+    fn consuming(&self) -> Result<RawMethod, Stop> {
         let options = BasicConsumeOptions {
             no_local: false,
             no_ack: false,
             exclusive: false,
             nowait: false,
         };
-        let tag = no_tag(self.alloc)?;
+        let tag = tag(self.alloc)?;
         let arguments = FieldTable::new(self.alloc);
         match basic_consume(self.alloc, &self.wanted.queue, &tag, options, &arguments) {
-            Ok(method) => self.client.send(rt, method),
-            Err(_) => Err(ErrorKind::NoMemory.into()),
+            Ok(method) => Ok(method),
+            Err(_) => Err(Stop::Failed(ErrorKind::NoMemory.into())),
         }
     }
 
-    /// Asks for messages, prints and acknowledges them, until as many as are wanted were printed.
-    pub fn consume_all<R: Wait + RandomSource + AllocGlobal, W: Write>(
+    /// Asks for messages, prints and acknowledges them, until as many as are wanted are known to be acknowledged.
+    pub fn consume_all<R, S: Sink>(
         &mut self,
         rt: &R,
-        out: &mut W,
-    ) -> std::result::Result<(), Stop> {
-        if self.wanted.left != Some(0) {
-            self.ask(rt)?;
+        own: &mut Own,
+        out: &mut S,
+    ) -> Result<(), Stop>
+    where
+        R: Threads
+            + Wait
+            + Net
+            + Clock
+            + Eprint
+            + RandomSource
+            + AllocGlobal
+            + Copy
+            + Drop
+            + Send
+            + 'static,
+    {
+        if self.taking.is_done() {
+            return Ok(());
         }
+        self.ask(rt)?;
         for _ in rt.forever() {
-            if self.wanted.left == Some(0) {
+            self.finish(rt, own)?;
+            if self.taking.is_done() {
                 return Ok(());
             }
-            match self.client.next(rt)? {
-                Next::Frames(frames) => {
-                    self.print(frames, out)?;
-                    self.acknowledge(rt, out)?;
-                }
-                Next::Linked => self.begin_again(rt)?,
-            }
+            self.step(rt, own, out)?;
         }
         unreachable!()
     }
 
-    // A link was lost, and another is there: what was not acknowledged over the old one is delivered again, on
-    // another channel.
-    fn begin_again<R: Wait>(&mut self, rt: &R) -> Result<()> {
-        if !self.client.begin_again(rt)? {
-            return Ok(());
+    // Waits for what comes next, and does it.
+    fn step<R, S: Sink>(&mut self, rt: &R, own: &mut Own, out: &mut S) -> Result<(), Stop>
+    where
+        R: Threads
+            + Wait
+            + Net
+            + Clock
+            + Eprint
+            + RandomSource
+            + AllocGlobal
+            + Copy
+            + Drop
+            + Send
+            + 'static,
+    {
+        let name = self.links.name;
+        match self.client.next(rt, own, false)? {
+            Next::Frames(frames) => {
+                self.print(frames, out)?;
+                self.acknowledge(rt, out)
+            }
+            Next::Second => self.second(rt),
+            Next::Lost(error) => self.lost(rt, own, error),
+            Next::Blocked(reason) => {
+                let why = reason.as_str();
+                let _said = eprintln!(rt; "{name}: the broker blocks: {why}");
+                drop(reason);
+                Ok(())
+            }
+            Next::Unblocked => {
+                let _said = eprintln!(rt; "{name}: the broker blocks no more");
+                Ok(())
+            }
+            Next::Told(told) => {
+                drop(told);
+                Ok(())
+            }
+        }
+    }
+
+    // A second passed.
+    fn second<R: Wait>(&mut self, rt: &R) -> Result<(), Stop> {
+        self.hear_answer(rt);
+        self.waited = self.waited.saturating_add(1);
+        // All that are wanted came but for those of which it is not known, and those don't come again.
+        if self.waited >= LIMIT && self.taking.left() == Some(0) {
+            self.taking.settle();
+        }
+        match self.wanted.timeout {
+            Some(most) if self.waited >= most => Err(Stop::Silent("deliver anything", most)),
+            _ => Ok(()),
+        }
+    }
+
+    // The link is lost. Where it recovers, what was not acknowledged over it is delivered again over another.
+    fn lost<R>(&mut self, rt: &R, own: &mut Own, error: Error) -> Result<(), Stop>
+    where
+        R: Threads
+            + Wait
+            + Net
+            + Clock
+            + Eprint
+            + RandomSource
+            + AllocGlobal
+            + Copy
+            + Drop
+            + Send
+            + 'static,
+    {
+        if !self.wanted.recovers {
+            return Err(Stop::Failed(error));
         }
         self.arriving.forget();
-        self.unacknowledged = None;
+        self.asked = None;
+        self.taking.lose()?;
+        self.client = self.links.again(*rt, self.alloc, own, error)?;
+        self.waited = 0;
+        let name = self.links.name;
+        let _said = eprintln!(rt; "{name}: connected again");
         self.ask(rt)
     }
 
     // Prints the messages that become whole by these frames, as many as are wanted.
-    fn print<W: Write>(
-        &mut self,
-        frames: Vec<Handed>,
-        out: &mut W,
-    ) -> std::result::Result<(), Stop> {
+    fn print<S: Sink>(&mut self, frames: Vec<Handed>, out: &mut S) -> Result<(), Stop> {
+        self.waited = 0;
         for frame in frames {
-            self.hear(&frame)?;
+            let heard = self.hear(&frame);
             drop(frame);
-            if let Some(tag) = self.arriving.whole()
-                && self.wanted.left != Some(0)
-            {
-                self.print_whole(tag, out)?;
+            heard?;
+            if let Some(tag) = self.arriving.whole() {
+                let printed = self.take(tag, out);
+                self.arriving.forget();
+                printed?;
             }
         }
         Ok(())
     }
 
     // Hears a frame.
-    fn hear(&mut self, frame: &Handed) -> std::result::Result<(), Stop> {
+    fn hear(&mut self, frame: &Handed) -> Result<(), Stop> {
         let payload = frame.bytes.as_bytes();
         match frame.kind {
-            RawKind::RawMethod if told_by(payload) == Heard::Cancelled => return Err(Stop::Gone),
-            RawKind::RawMethod => self.arriving.method(self.alloc, payload)?,
-            RawKind::Header => self.arriving.header(payload),
-            RawKind::Body => self.arriving.part(payload)?,
+            RawKind::RawMethod if told_by(payload) == Heard::Cancelled => Err(Stop::Gone),
+            RawKind::RawMethod => Ok(self.arriving.method(self.alloc, payload)?),
+            RawKind::Header => self.header(payload),
+            RawKind::Body => Ok(self.arriving.part(payload)?),
         }
+    }
+
+    // Hears a content header.
+    fn header(&mut self, payload: &[u8]) -> Result<(), Stop> {
+        let size = size_in(payload);
+        if size > self.wanted.most as u64 {
+            return Err(Stop::TooLarge(size, self.wanted.most));
+        }
+        if self.wanted.once.is_some() {
+            self.properties.clear();
+            let octets = if payload.len() < 12 {
+                payload
+            } else {
+                &payload[12..]
+            };
+            match self.properties.extend_from_slice(octets) {
+                Ok(()) => {}
+                Err(_) => return Err(Stop::Failed(ErrorKind::NoMemory.into())),
+            }
+        }
+        self.arriving.header(payload);
         Ok(())
     }
 
-    // Prints the message that is whole.
-    fn print_whole<W: Write>(&mut self, tag: u64, out: &mut W) -> std::result::Result<(), Stop> {
-        if out.write_all(self.arriving.body()).is_err() || out.write_all(b"\n").is_err() {
-            return Err(Stop::Unwritten);
+    // Takes the message that is whole: it is printed, where it is wanted and was not printed before.
+    fn take<S: Sink>(&mut self, tag: u64, out: &mut S) -> Result<(), Stop> {
+        let name = match &self.wanted.once {
+            Some(property) => value_of(property.as_str(), &self.properties),
+            None => None,
+        };
+        let delivery = Delivery {
+            tag,
+            redelivered: self.arriving.redelivered(),
+            name,
+            body: self.arriving.body(),
+        };
+        match self.taking.come(out, self.wanted.framing, delivery) {
+            Ok(Coming::Astray) => Err(Stop::Astray),
+            Ok(_) => Ok(()),
+            Err(why) => Err(untaken(why)),
         }
-        self.arriving.forget();
-        self.unacknowledged = Some(tag);
-        if let Some(left) = self.wanted.left {
-            self.wanted.left = Some(left.saturating_sub(1));
-        }
-        Ok(())
     }
 
-    // Acknowledges what was printed, once it is written.
-    fn acknowledge<R: Wait, W: Write>(
+    // Acknowledges what was printed, once it is written. The broker is told before how few may come after it.
+    fn acknowledge<R: Wait, S: Sink>(&mut self, rt: &R, out: &mut S) -> Result<(), Stop> {
+        self.hear_answer(rt);
+        let tag = match self.taking.acknowledge(out) {
+            Ok(Some(tag)) => tag,
+            Ok(None) => return Ok(()),
+            Err(why) => return Err(untaken(why)),
+        };
+        self.bound(rt)?;
+        let method = basic_ack(self.alloc, tag, BasicAckOptions { multiple: true })?;
+        self.client.send(rt, method)?;
+        self.ask_for_answer(rt)
+    }
+
+    // Tells the broker how few may be delivered and not acknowledged from now on, or that none is to come.
+    fn bound<R: Wait>(&mut self, rt: &R) -> Result<(), Stop> {
+        let may_come = self.may_come();
+        if may_come >= self.ahead {
+            return Ok(());
+        }
+        self.ahead = may_come;
+        let method = if may_come == 0 {
+            basic_cancel(self.alloc, &tag(self.alloc)?, false)?
+        } else {
+            basic_qos(
+                self.alloc,
+                may_come.min(MOST_UNACKNOWLEDGED) as u16,
+                BasicQosOptions { global: true },
+            )?
+        };
+        self.client.send(rt, method)
+    }
+
+    // Asks the broker for what was acknowledged: whatever it answers, it has read that before. Where no number is
+    // wanted, what was sent counts.
+    fn ask_for_answer<R: Wait>(&mut self, rt: &R) -> Result<(), Stop> {
+        if self.wanted.count.is_none() {
+            self.taking.ask();
+            self.taking.answered();
+            return Ok(());
+        }
+        if self.asked.is_some() || !self.taking.wants_to_ask() {
+            return Ok(());
+        }
+        let Client { channel, pass, .. } = &mut self.client;
+        match channel.channel_flow(rt, pass, true) {
+            Ok(asked) => {
+                self.taking.ask();
+                self.asked = Some(asked);
+                Ok(())
+            }
+            Err(error) if error.can_be_recovered() => {
+                drop(error);
+                Ok(())
+            }
+            Err(error) => Err(Stop::Failed(error)),
+        }
+    }
+
+    // Hears the answer, where it is there.
+    fn hear_answer<R: Wait>(&mut self, rt: &R) {
+        let answer = match &self.asked {
+            Some(asked) => asked.try_wait(rt),
+            None => None,
+        };
+        match answer {
+            Some(Ok(_active)) => {
+                self.asked = None;
+                self.taking.answered();
+            }
+            Some(Err(error)) => {
+                drop(error);
+                self.asked = None;
+            }
+            None => {}
+        }
+    }
+
+    // Once all that are wanted were printed and acknowledged, waits until the broker has read that.
+    fn finish<R: Wait + RandomSource + AllocGlobal>(
         &mut self,
         rt: &R,
-        out: &mut W,
-    ) -> std::result::Result<(), Stop> {
-        let Some(tag) = self.unacknowledged.take() else {
-            return Ok(());
-        };
-        if out.flush().is_err() {
-            return Err(Stop::Unwritten);
+        own: &mut Own,
+    ) -> Result<(), Stop> {
+        for _ in rt.forever() {
+            if self.taking.is_done() || self.taking.unsent() != Some(0) {
+                return Ok(());
+            }
+            self.ask_for_answer(rt)?;
+            let Some(asked) = self.asked.take() else {
+                return Ok(());
+            };
+            let answer = within(rt, &asked, own, LIMIT, "answer for what was acknowledged");
+            drop(asked);
+            match answer {
+                Ok(_active) => self.taking.answered(),
+                Err(Stop::Failed(error)) if error.can_be_recovered() => {
+                    drop(error);
+                    return Ok(());
+                }
+                Err(stop) => return Err(stop),
+            }
         }
-        let method = basic_ack(self.alloc, tag, BasicAckOptions { multiple: true })?;
-        Ok(self.client.send(rt, method)?)
+        unreachable!()
     }
 
-    /// Closes the connection. Where the broker answered that, it has read what was acknowledged.
-    pub fn close<R: Wait>(self, rt: &R) -> Result<()> {
-        let Consumer { client, .. } = self;
-        client.close(rt)
+    /// Says how many came again, and closes the connection, however that ends: what is counted is acknowledged.
+    pub fn close<R: Wait + Clock + Eprint + RandomSource + AllocGlobal>(
+        self,
+        rt: &R,
+        own: &mut Own,
+    ) {
+        let Consumer {
+            alloc,
+            links,
+            client,
+            wanted,
+            taking,
+            ..
+        } = self;
+        let name = links.name;
+        let again = taking.again();
+        if again > 0 && !wanted.is_quiet {
+            let _said = eprintln!(rt; "{name}: {again} came again");
+        }
+        drop(wanted);
+        drop(taking);
+        drop(client.close(rt, alloc, own));
     }
 }
 
-// The empty tag, by which the broker makes one.
-fn no_tag(alloc: Global) -> Result<ShortString> {
-    match ShortString::new(alloc, b"") {
+// The tag of the consumer.
+fn tag(alloc: Global) -> Result<ShortString, Stop> {
+    match ShortString::new(alloc, TAG) {
         Ok(tag) => Ok(tag),
-        Err(_) => Err(ErrorKind::NoMemory.into()),
+        Err(_) => Err(Stop::Failed(ErrorKind::NoMemory.into())),
+    }
+}
+
+// The value of a property of the message whose properties these octets are: its message id, or a header.
+fn value_of<'a>(name: &str, octets: &'a [u8]) -> Option<&'a [u8]> {
+    let properties = read_properties(octets)?;
+    if name == "message-id" {
+        return properties.message_id;
+    }
+    let (_tag, value) = header_named(properties.headers?, name.as_bytes())?;
+    Some(value)
+}
+
+// Why the program goes no further, where a message could not be taken.
+fn untaken(why: Untaken) -> Stop {
+    match why {
+        Untaken::Unwritten => Stop::Unwritten,
+        Untaken::NoMemory => Stop::Failed(ErrorKind::NoMemory.into()),
     }
 }

@@ -1,15 +1,21 @@
 //! Who publishes on a channel in confirm mode.
 
-use amqp_client::{Client, Counts, Next};
+use crate::report::Report;
+use amqp_client::{Client, Links, Next, Own, Stop, Told};
 use amqp_frame::RawKind;
-use amqp_methods::{BasicPublishOptions, ConfirmSelectOptions, basic_publish, confirm_select};
-use amqp_session::{ErrorKind, Handed, Properties, Result};
-use amqp_tools::{Confirms, Heard, told_by};
+use amqp_methods::{
+    BasicPublishOptions, ConfirmSelectOptions, basic_publish, confirm_select, read_return,
+};
+use amqp_session::{Error, ErrorKind, Handed, Properties};
+use amqp_tools::{Bodies, Confirms, Heard, Open, Part, size_in, told_by};
 use amqp_types::{Payload, ShortString};
 use std::alloc::{AllocGlobal, Global};
+use std::io::{Eprint, Write};
+use std::net::Net;
 use std::random::RandomSource;
-use std::sync::atomic::Ordering;
-use std::sync::{Arc, Wait};
+use std::sync::Wait;
+use std::thread::Threads;
+use std::time::Clock;
 
 /// How many messages may be without an answer.
 const MOST_OPEN: usize = 1_000;
@@ -17,177 +23,463 @@ const MOST_OPEN: usize = 1_000;
 /// How many octets of bodies are published before all of them have their answer.
 const MOST_OCTETS: usize = 16_777_216;
 
-/// Where messages are published.
+/// Where messages are published, and how.
 #[derive(Drop)]
 pub struct Target {
     pub exchange: ShortString,
     pub key: ShortString,
+    /// The properties of each, as they stand in its content header.
+    pub properties: Payload,
     /// Whether what has no answer is published again over another link, where one is lost.
     pub recovers: bool,
+    /// For how many seconds an answer is waited for; for ever where it is not said.
+    pub timeout: Option<u64>,
+    /// Whether it is not said how far it is.
+    pub is_quiet: bool,
+}
+
+/// How many messages were published, and what the broker said of them.
+#[derive(Clone, Copy, PartialEq, Eq)]
+pub struct Counts {
+    pub published: u64,
+    pub confirmed: u64,
+    pub refused: u64,
+    /// How many it gave back, since no queue takes them. It confirms these too.
+    pub returned: u64,
+}
+
+// Says counts on standard error, under no name: they are all that the line has.
+fn tell<R: Eprint>(rt: &R, counts: Counts) {
+    let Counts {
+        published,
+        confirmed,
+        refused,
+        returned,
+    } = counts;
+    // The status tells it where standard error does not take it.
+    let _said = if refused == 0 && returned == 0 {
+        eprintln!(rt; "{published} published, {confirmed} confirmed")
+    } else {
+        eprintln!(rt;
+            "{published} published, {confirmed} confirmed, {refused} refused, {returned} without a queue"
+        )
+    };
+}
+
+// What comes next of what is to be published.
+#[derive(Clone, Copy, PartialEq, Eq)]
+enum Ready {
+    /// Octets of standard input.
+    Input,
+    /// An answer, or another link: there is no room for one more.
+    Room,
+    /// Nothing.
+    Done,
 }
 
 /// Who publishes to one exchange with one routing key, and keeps what the broker has not answered.
 #[derive(Drop)]
-pub struct Publisher {
+pub struct Publisher<'a, F: Write + Drop> {
     alloc: Global,
+    links: Links<'a>,
     client: Client,
     target: Target,
+    report: Report<F>,
     confirms: Confirms,
     // how many octets of bodies were published since none was without an answer
     octets: usize,
-    counts: Arc<Counts>,
+    counts: Counts,
+    told: Option<Counts>,
+    // whether nothing is published until the broker was heard, since the link or the channel is gone
+    is_down: bool,
+    // the message that the broker gives back: its code, how many octets of its body are to come, and those that came
+    returning: Option<u16>,
+    missing: u64,
+    body: Vec<u8>,
+    // for how many seconds the broker said nothing while messages had no answer
+    waited: u64,
 }
 
-impl Publisher {
+impl<'a, F: Write + Drop> Publisher<'a, F> {
     /// Who publishes by this client, whose channel is put into confirm mode.
     pub fn open<R: Wait>(
         rt: &R,
         alloc: Global,
+        links: Links<'a>,
         client: Client,
         target: Target,
-        counts: Arc<Counts>,
-    ) -> Result<Publisher> {
+        report: Report<F>,
+    ) -> Result<Publisher<'a, F>, Stop> {
         let mut publisher = Publisher {
             alloc,
+            links,
             client,
             target,
+            report,
             confirms: Confirms::new(alloc),
             octets: 0,
-            counts,
+            counts: Counts {
+                published: 0,
+                confirmed: 0,
+                refused: 0,
+                returned: 0,
+            },
+            told: None,
+            is_down: false,
+            returning: None,
+            missing: 0,
+            body: Vec::new(alloc),
+            waited: 0,
         };
-        publisher.select(rt)?;
-        Ok(publisher)
+        match publisher.select(rt) {
+            Ok(()) => Ok(publisher),
+            Err(stop) => {
+                drop(publisher);
+                Err(stop)
+            }
+        }
     }
 
     // Puts the channel into confirm mode. What is published after that is confirmed.
-    fn select<R: Wait>(&mut self, rt: &R) -> Result<()> {
+    fn select<R: Wait>(&mut self, rt: &R) -> Result<(), Stop> {
         let method = confirm_select(self.alloc, ConfirmSelectOptions { nowait: false })?;
         self.client.send(rt, method)
     }
 
-    /// Publishes a line, once there is room for it among the messages that have no answer.
-    pub fn publish<R: Wait + RandomSource + AllocGlobal>(
-        &mut self,
-        rt: &R,
-        line: &[u8],
-    ) -> Result<()> {
-        if self.client.is_linked_again(rt)? {
-            self.begin_again(rt)?;
+    /// Publishes each body, and waits until all are answered.
+    pub fn publish_all<R>(&mut self, rt: &R, own: &mut Own, bodies: &mut Bodies) -> Result<(), Stop>
+    where
+        R: Threads
+            + Wait
+            + Net
+            + Clock
+            + Eprint
+            + RandomSource
+            + AllocGlobal
+            + Copy
+            + Drop
+            + Send
+            + 'static,
+    {
+        for _ in rt.forever() {
+            let ready = self.publish_ready(rt, bodies)?;
+            if ready == Ready::Done && self.confirms.unanswered() == 0 {
+                return Ok(());
+            }
+            self.step(rt, own, bodies, ready == Ready::Input)?;
         }
-        self.make_room(rt)?;
-        let body = Payload::new(self.alloc, line)?;
-        self.put(rt, body)?;
-        self.counts.published.fetch_add(1, Ordering::SeqCst);
-        let frames = self.client.channel.take_frames(rt)?;
-        self.hear(frames);
-        Ok(())
+        unreachable!()
     }
 
-    // Gives a message to the connection, and keeps its body where it may be published again.
-    fn put<R: Wait>(&mut self, rt: &R, body: Payload) -> Result<()> {
+    // Publishes the bodies that are there, while there is room for one more without an answer.
+    fn publish_ready<R: Wait>(&mut self, rt: &R, bodies: &mut Bodies) -> Result<Ready, Stop> {
+        for _ in rt.forever() {
+            if !self.has_room() {
+                return Ok(Ready::Room);
+            }
+            let body = match bodies.next()? {
+                Part::Body(body) => body,
+                Part::More => return Ok(Ready::Input),
+                Part::End => return Ok(Ready::Done),
+                Part::TooLarge(most) => return Err(Stop::TooLong(most)),
+                Part::Torn => return Err(Stop::Unread),
+            };
+            self.publish(rt, body)?;
+        }
+        unreachable!()
+    }
+
+    // Whether one more message may be without an answer.
+    fn has_room(&mut self) -> bool {
+        let open = self.confirms.unanswered();
+        if open == 0 {
+            self.octets = 0;
+        }
+        !self.is_down && open < MOST_OPEN && self.octets < MOST_OCTETS
+    }
+
+    // Publishes a body, and keeps it where it may be published again, or is looked for when it is given back.
+    fn publish<R: Wait>(&mut self, rt: &R, body: Payload) -> Result<(), Stop> {
+        let kept = if self.target.recovers || self.report.is_wanted() {
+            Some(body.try_clone(self.alloc)?)
+        } else {
+            None
+        };
+        self.confirms.publish(kept)?;
+        self.counts.published = self.counts.published.saturating_add(1);
+        self.put(rt, body)
+    }
+
+    // Gives a message to the connection.
+    fn put<R: Wait>(&mut self, rt: &R, body: Payload) -> Result<(), Stop> {
         let alloc = self.alloc;
         let options = BasicPublishOptions {
             mandatory: true,
             immediate: false,
         };
         let method = basic_publish(alloc, &self.target.exchange, &self.target.key, options)?;
-        let Some(properties) = Properties::new(Payload::new(alloc, &[0, 0])?) else {
-            return Err(ErrorKind::NoMemory.into());
-        };
-        let kept = if self.target.recovers {
-            Some(body.try_clone(alloc)?)
-        } else {
-            None
+        let Some(properties) = Properties::new(self.target.properties.try_clone(alloc)?) else {
+            return Err(Stop::Failed(ErrorKind::NoMemory.into()));
         };
         self.octets = self.octets.saturating_add(body.as_bytes().len());
-        self.confirms.publish(kept)?;
         let Client { channel, pass, .. } = &mut self.client;
-        let sent = channel.publish_raw(rt, pass, method, properties, body)?;
-        drop(sent);
-        Ok(())
-    }
-
-    // Another link is there: what has no answer is published again, on another channel.
-    fn begin_again<R: Wait>(&mut self, rt: &R) -> Result<()> {
-        let answers = self.client.channel.take_frames(rt)?;
-        self.hear(answers);
-        if !self.client.begin_again(rt)? {
-            return Ok(());
-        }
-        self.select(rt)?;
-        self.octets = 0;
-        for open in self.confirms.begin_again() {
-            if let Some(body) = open.body {
-                self.put(rt, body)?;
+        match channel.publish_raw(rt, pass, method, properties, body) {
+            Ok(sent) => {
+                drop(sent);
+                Ok(())
             }
+            Err(error) if error.can_be_recovered() => {
+                drop(error);
+                self.is_down = true;
+                Ok(())
+            }
+            Err(error) => Err(Stop::Failed(error)),
         }
-        Ok(())
     }
 
-    // Waits until one more message may be without an answer.
-    fn make_room<R: Wait + RandomSource + AllocGlobal>(&mut self, rt: &R) -> Result<()> {
-        self.wait_for_fewer(rt, MOST_OPEN)?;
-        if self.octets >= MOST_OCTETS {
-            self.wait_for_all(rt)?;
-            self.octets = 0;
-        }
-        Ok(())
-    }
-
-    /// Waits until each message has its answer.
-    pub fn wait_for_all<R: Wait + RandomSource + AllocGlobal>(&mut self, rt: &R) -> Result<()> {
-        self.wait_for_fewer(rt, 1)
-    }
-
-    // Waits until fewer messages than that are without an answer.
-    fn wait_for_fewer<R: Wait + RandomSource + AllocGlobal>(
+    // Waits for what comes next, and does it.
+    fn step<R>(
         &mut self,
         rt: &R,
-        count: usize,
-    ) -> Result<()> {
-        for _ in rt.forever() {
-            if self.confirms.unanswered() < count {
-                return Ok(());
+        own: &mut Own,
+        bodies: &mut Bodies,
+        wants_input: bool,
+    ) -> Result<(), Stop>
+    where
+        R: Threads
+            + Wait
+            + Net
+            + Clock
+            + Eprint
+            + RandomSource
+            + AllocGlobal
+            + Copy
+            + Drop
+            + Send
+            + 'static,
+    {
+        let name = self.links.name;
+        match self.client.next(rt, own, wants_input)? {
+            Next::Frames(frames) => self.hear(frames),
+            Next::Told(told) => took(bodies, told),
+            Next::Second => self.second(rt),
+            Next::Lost(error) => self.lost(rt, own, error),
+            Next::Blocked(reason) => {
+                let why = reason.as_str();
+                let _said = eprintln!(rt; "{name}: the broker blocks: {why}");
+                drop(reason);
+                Ok(())
             }
-            match self.client.next(rt)? {
-                Next::Frames(frames) => self.hear(frames),
-                Next::Linked => self.begin_again(rt)?,
+            Next::Unblocked => {
+                let _said = eprintln!(rt; "{name}: the broker blocks no more");
+                Ok(())
             }
         }
-        unreachable!()
     }
 
-    // Hears what the broker tells by methods.
-    fn hear(&mut self, frames: Vec<Handed>) {
+    // A second passed.
+    fn second<R: Eprint>(&mut self, rt: &R) -> Result<(), Stop> {
+        self.report.flush()?;
+        if !self.target.is_quiet && self.told != Some(self.counts) {
+            tell(rt, self.counts);
+            self.told = Some(self.counts);
+        }
+        if self.confirms.unanswered() == 0 {
+            self.waited = 0;
+            return Ok(());
+        }
+        self.waited = self.waited.saturating_add(1);
+        match self.target.timeout {
+            Some(most) if self.waited >= most => Err(Stop::Silent("confirm anything", most)),
+            _ => Ok(()),
+        }
+    }
+
+    // The link is lost. Where it recovers, what has no answer is published again over another.
+    fn lost<R>(&mut self, rt: &R, own: &mut Own, error: Error) -> Result<(), Stop>
+    where
+        R: Threads
+            + Wait
+            + Net
+            + Clock
+            + Eprint
+            + RandomSource
+            + AllocGlobal
+            + Copy
+            + Drop
+            + Send
+            + 'static,
+    {
+        match self.client.channel.take_frames(rt) {
+            Ok(frames) => self.hear(frames)?,
+            Err(refused) => return Err(Stop::Failed(refused)),
+        }
+        if !self.target.recovers {
+            return Err(Stop::Failed(error));
+        }
+        self.client = self.links.again(*rt, self.alloc, own, error)?;
+        self.is_down = false;
+        self.returning = None;
+        self.octets = 0;
+        self.waited = 0;
+        self.select(rt)?;
+        let open = self.confirms.begin_again();
+        let count = open.len();
+        self.put_again(rt, open)?;
+        let name = self.links.name;
+        let _said = eprintln!(rt; "{name}: connected again, {count} published again");
+        Ok(())
+    }
+
+    // Publishes again what had no answer.
+    fn put_again<R: Wait>(&mut self, rt: &R, opens: Vec<Open>) -> Result<(), Stop> {
+        for open in opens {
+            let body = match &open.body {
+                Some(body) => body.try_clone(self.alloc)?,
+                None => Payload::empty(self.alloc),
+            };
+            self.confirms.publish_again(open)?;
+            self.put(rt, body)?;
+        }
+        Ok(())
+    }
+
+    // Hears what the broker tells by frames.
+    fn hear(&mut self, frames: Vec<Handed>) -> Result<(), Stop> {
+        self.waited = 0;
         for frame in frames {
-            if frame.kind == RawKind::RawMethod {
-                self.told(told_by(frame.bytes.as_bytes()));
-            }
+            let heard = self.hear_one(&frame);
             drop(frame);
+            heard?;
+        }
+        Ok(())
+    }
+
+    // Hears a frame.
+    fn hear_one(&mut self, frame: &Handed) -> Result<(), Stop> {
+        let payload = frame.bytes.as_bytes();
+        match frame.kind {
+            RawKind::RawMethod => self.told(told_by(payload), payload),
+            RawKind::Header => {
+                self.missing = size_in(payload);
+                self.given_back();
+                Ok(())
+            }
+            RawKind::Body => self.part(payload),
+        }
+    }
+
+    // A part of a body that is given back.
+    fn part(&mut self, payload: &[u8]) -> Result<(), Stop> {
+        if self.returning.is_some() && self.report.is_wanted() {
+            match self.body.extend_from_slice(payload) {
+                Ok(()) => {}
+                Err(_) => return Err(Stop::Failed(ErrorKind::NoMemory.into())),
+            }
+        }
+        self.missing = self.missing.saturating_sub(payload.len() as u64);
+        self.given_back();
+        Ok(())
+    }
+
+    // A message is given back, once it is whole.
+    fn given_back(&mut self) {
+        if self.missing == 0
+            && let Some(code) = self.returning.take()
+        {
+            self.confirms.give_back(code, &self.body);
         }
     }
 
     // Counts what the broker told.
-    fn told(&mut self, heard: Heard) {
+    fn told(&mut self, heard: Heard, payload: &[u8]) -> Result<(), Stop> {
         match heard {
             Heard::Taken(tag, multiple) => {
+                self.report_each(tag, multiple, "confirmed")?;
                 let count = self.confirms.answered(tag, multiple) as u64;
-                self.counts.confirmed.fetch_add(count, Ordering::SeqCst);
+                self.counts.confirmed = self.counts.confirmed.saturating_add(count);
             }
             Heard::Refused(tag, multiple) => {
+                self.report_each(tag, multiple, "refused")?;
                 let count = self.confirms.answered(tag, multiple) as u64;
-                self.counts.refused.fetch_add(count, Ordering::SeqCst);
+                self.counts.refused = self.counts.refused.saturating_add(count);
             }
             Heard::Returned => {
-                self.counts.returned.fetch_add(1, Ordering::SeqCst);
+                self.counts.returned = self.counts.returned.saturating_add(1);
+                self.returning = read_return(payload).map(|returned| returned.reply_code);
+                self.missing = u64::MAX;
+                self.body.clear();
             }
             Heard::Selected | Heard::Cancelled | Heard::Other => {}
         }
+        Ok(())
     }
 
-    /// Closes the connection, however it ends: what was confirmed stays so.
-    pub fn close<R: Wait>(self, rt: &R) {
-        let Publisher { client, .. } = self;
-        drop(client.close(rt));
+    // Reports what became of those that an answer means.
+    fn report_each(&mut self, tag: u64, multiple: bool, what: &str) -> Result<(), Stop> {
+        if !self.report.is_wanted() {
+            return Ok(());
+        }
+        for open in self.confirms.open() {
+            if open.is_meant(tag, multiple) {
+                self.report.say(open.message, what, open.returned)?;
+            }
+        }
+        Ok(())
+    }
+
+    /// Says how far it came, and closes the connection, however that ends: what was confirmed stays so. Whether
+    /// the broker took each message.
+    pub fn close<R: Wait + Clock + Eprint + RandomSource + AllocGlobal>(
+        self,
+        rt: &R,
+        own: &mut Own,
+    ) -> Result<bool, Stop> {
+        let mut publisher = self;
+        let reported = publisher.report_open();
+        if !publisher.target.is_quiet && publisher.told != Some(publisher.counts) {
+            tell(rt, publisher.counts);
+        }
+        let Publisher {
+            alloc,
+            links: _,
+            client,
+            target,
+            report,
+            confirms,
+            counts,
+            ..
+        } = publisher;
+        drop(target);
+        drop(report);
+        drop(confirms);
+        drop(client.close(rt, alloc, own));
+        reported?;
+        Ok(counts.confirmed == counts.published && counts.returned == 0)
+    }
+
+    // Reports those that have no answer.
+    fn report_open(&mut self) -> Result<(), Stop> {
+        for open in self.confirms.open() {
+            self.report.say(open.message, "unknown", None)?;
+        }
+        self.report.flush()
+    }
+}
+
+// Takes what standard input tells.
+fn took(bodies: &mut Bodies, told: Told) -> Result<(), Stop> {
+    match told {
+        Told::Octets(octets) => {
+            let pushed = bodies.push(&octets);
+            drop(octets);
+            Ok(pushed?)
+        }
+        Told::End => {
+            bodies.end();
+            Ok(())
+        }
+        Told::Failed => Err(Stop::Unread),
+        Told::NoMemory => Err(Stop::Failed(ErrorKind::NoMemory.into())),
     }
 }

@@ -1,15 +1,25 @@
 //! A connection with one channel.
 
+use crate::own::{Own, Told};
+use crate::stop::Stop;
 use amqp_frame::RawMethod;
 use amqp_session::{ConnectionProperties, Error, ErrorKind, Event, Handed, Result};
+use amqp_types::{ShortString, Text};
 use amqp_uri::AMQPUri;
 use futures::executor::block_on;
 use futures::future::{Either, select};
-use lapin_connection::{Channel, Connection, ConnectionBuilder, EventsListener, Pass, Spawner};
+use lapin_connection::{
+    Channel, Connection, ConnectionBuilder, EventsListener, Gives, MioSpawner, Pass, Pending,
+};
 use std::alloc::{AllocGlobal, Global};
+use std::net::Net;
 use std::random::RandomSource;
 use std::sync::Wait;
 use std::thread::Threads;
+use std::time::{Clock, Duration};
+
+/// For how many seconds a broker may say nothing while a connection, or a channel, opens or closes.
+pub const LIMIT: u64 = 10;
 
 /// A connection with one channel, who commands it, and what it tells.
 #[derive(Drop)]
@@ -18,9 +28,9 @@ pub struct Client {
     pub pass: Pass,
     connection: Connection,
     events: EventsListener,
-    recovers: bool,
-    // the last error that the connection told
-    why: Option<Error>,
+    // whether the channel gives no more frames, and for how many seconds nothing told why
+    is_gone: bool,
+    gone_for: u64,
 }
 
 /// What comes next.
@@ -28,155 +38,297 @@ pub struct Client {
 pub enum Next {
     /// Frames of the channel.
     Frames(Vec<Handed>),
-    /// A link was lost, and another is there.
-    Linked,
+    /// The broker wants nothing to be published any more, for this reason.
+    Blocked(Text),
+    /// It lets publishing go on.
+    Unblocked,
+    /// The link is lost, and the connection ended with it.
+    Lost(Error),
+    /// Standard input tells something.
+    Told(Told),
+    /// A second passed.
+    Second,
 }
 
-// The options of a connection, which goes on over another link where one is lost, if it is to.
-fn options(alloc: Global, recovers: bool) -> Result<ConnectionProperties> {
-    let options = ConnectionProperties::new(alloc)?;
-    if recovers {
-        Ok(options.enable_auto_recover(alloc)?)
-    } else {
-        Ok(options)
+// What came first of all that is waited for.
+#[derive(Drop)]
+enum First {
+    Event(Option<Event>),
+    Frames(Vec<Handed>),
+    Told(Told),
+    Second,
+    NoMemory,
+}
+
+// What came of the connection's events.
+fn event_of(event: std::result::Result<Option<Event>, amqp_types::NoMemory>) -> First {
+    match event {
+        Ok(event) => First::Event(event),
+        Err(_) => First::NoMemory,
+    }
+}
+
+// What came of the channel's frames.
+fn frames_of(frames: Result<Vec<Handed>>) -> First {
+    match frames {
+        Ok(frames) => First::Frames(frames),
+        Err(error) => {
+            drop(error);
+            First::NoMemory
+        }
+    }
+}
+
+/// Waits for an answer for so many seconds, and says what the broker did not do in time where it does not come.
+pub fn within<T: Gives, R: Wait + RandomSource + AllocGlobal>(
+    rt: &R,
+    pending: &Pending<T>,
+    own: &mut Own,
+    seconds: u64,
+    what: &'static str,
+) -> std::result::Result<T, Stop> {
+    for _ in 0..seconds {
+        match block_on(rt, select(pending.answered(rt), own.seconds.recv())) {
+            Ok(Either::Left((Ok(answer), _second))) => return Ok(answer?),
+            Ok(Either::Right((_second, _answer))) => {}
+            Ok(Either::Left((Err(_), _))) | Err(_) => return Err(Stop::Failed(
+                ErrorKind::NoMemory.into(),
+            )),
+        }
+    }
+    Err(Stop::Silent(what, seconds))
+}
+
+// The connection, the channel, who commands, and the events.
+#[derive(Drop)]
+struct Opened {
+    channel: Channel,
+    pass: Pass,
+    events: EventsListener,
+}
+
+// Waits until a connection is open, and opens a channel.
+fn open_on<R: Wait + RandomSource + AllocGlobal>(
+    rt: &R,
+    connection: &Connection,
+    own: &mut Own,
+) -> std::result::Result<Opened, Stop> {
+    let opened = connection.opened()?;
+    within(rt, &opened, own, LIMIT, "open the connection")?;
+    drop(opened);
+    let mut pass = connection.pass(rt)?;
+    let events = connection.events_listener(rt, &mut pass)?;
+    let opening = connection.create_channel(rt, &mut pass)?;
+    let channel = within(rt, &opening, own, LIMIT, "open a channel")?;
+    Ok(Opened {
+        channel,
+        pass,
+        events,
+    })
+}
+
+// Whether a connection ended with an error.
+fn is_errored<R: Wait>(rt: &R, connection: &Connection) -> bool {
+    match connection.status() {
+        Ok(status) => status.errored(rt),
+        Err(_) => false,
     }
 }
 
 impl Client {
-    /// Connects to an address, and opens a channel. Where it recovers, it goes on over another link where
-    /// one is lost.
-    pub fn open<S: Spawner + Drop, R: Threads + Wait + Copy + Send + 'static>(
+    /// Connects to an address, and opens a channel. Where the broker says nothing for ten seconds, or refuses,
+    /// that is told.
+    pub fn open<R>(
         rt: R,
         alloc: Global,
-        runtime: S,
         uri: AMQPUri,
-        recovers: bool,
-    ) -> Result<Client> {
-        let options = options(alloc, recovers)?;
-        let mut builder = ConnectionBuilder::new_with_runtime(runtime)
+        own: &mut Own,
+    ) -> std::result::Result<Client, Stop>
+    where
+        R: Threads + Wait + Net + Clock + RandomSource + AllocGlobal + Copy + Drop + Send + 'static,
+    {
+        let options = ConnectionProperties::new(alloc)?;
+        let mut builder = ConnectionBuilder::new_with_runtime(MioSpawner::new(rt, alloc))
             .with_uri(uri)
             .with_properties(options);
-        let connection = builder.connect(rt, alloc)?;
+        let connected = builder.connect(rt, alloc);
         drop(builder);
-        connection.opened()?.wait(&rt)?;
-        let mut pass = connection.pass(&rt)?;
-        let events = connection.events_listener(&rt, &mut pass)?;
-        let channel = connection.create_channel(&rt, &mut pass)?.wait(&rt)?;
-        Ok(Client {
-            channel,
-            pass,
-            connection,
-            events,
-            recovers,
-            why: None,
-        })
+        let connection = connected?;
+        match open_on(&rt, &connection, own) {
+            Ok(
+                Opened {
+                    channel,
+                    pass,
+                    events,
+                },
+            ) => Ok(Client {
+                channel,
+                pass,
+                connection,
+                events,
+                is_gone: false,
+                gone_for: 0,
+            }),
+            Err(Stop::Failed(error)) if is_errored(&rt, &connection) => {
+                // How the connection ended says more than the call that found it so.
+                match connection.run(&rt) {
+                    Err(cause) => Err(Stop::Failed(cause)),
+                    Ok(()) => Err(Stop::Failed(error)),
+                }
+            }
+            Err(stop) => {
+                // The port is told that nobody waits for it any more.
+                let _told = connection.abandon();
+                Err(stop)
+            }
+        }
     }
 
-    /// Opens another channel, and closes this one. Whether it is open: not where the link was lost
-    /// meanwhile and another will come.
-    pub fn begin_again<R: Wait>(&mut self, rt: &R) -> Result<bool> {
-        match self.connection.create_channel(rt, &mut self.pass)?.wait(rt) {
-            Ok(channel) => {
-                self.channel = channel;
-                Ok(true)
+    /// Sends a method. That it was sent is waited for by nobody. Where the link or the channel is gone, what is
+    /// waited for next says so, and nothing is sent.
+    pub fn send<R: Wait>(&mut self, rt: &R, method: RawMethod) -> std::result::Result<(), Stop> {
+        match self.channel.send_raw(rt, &mut self.pass, method) {
+            Ok(sent) => {
+                drop(sent);
+                Ok(())
             }
             Err(error) if error.can_be_recovered() => {
                 drop(error);
-                Ok(false)
+                Ok(())
             }
-            Err(error) => Err(error),
+            Err(error) => Err(Stop::Failed(error)),
         }
     }
 
-    /// Sends a method. That it was sent is waited for by nobody.
-    pub fn send<R: Wait>(&mut self, rt: &R, method: RawMethod) -> Result<()> {
-        let sent = self.channel.send_raw(rt, &mut self.pass, method)?;
-        drop(sent);
-        Ok(())
+    // Waits for what comes first, of standard input too where that is wanted.
+    fn first<R: Wait + RandomSource + AllocGlobal>(
+        &mut self,
+        rt: &R,
+        own: &mut Own,
+        wants_input: bool,
+    ) -> First {
+        if self.is_gone {
+            return self.first_of_events(rt, own);
+        }
+        if wants_input {
+            return self.first_of_all(rt, own);
+        }
+        let link = select(self.events.next_event(rt), self.channel.next_frames(rt));
+        match block_on(rt, select(link, own.seconds.recv())) {
+            Ok(Either::Left((Either::Left((event, _)), _))) => event_of(event),
+            Ok(Either::Left((Either::Right((frames, _)), _))) => frames_of(frames),
+            Ok(Either::Right(_)) => First::Second,
+            Err(_) => First::NoMemory,
+        }
     }
 
-    /// Whether a link was lost and another is there, since that was last told. Who does not recover is told
-    /// the error of what is lost.
-    pub fn is_linked_again<R: Wait>(&mut self, rt: &R) -> Result<bool> {
-        'events: for _ in 0..u64::MAX {
-            match self.events.next(rt) {
-                Some(Event::Connected) => return Ok(true),
-                Some(Event::Error(error)) if self.recovers => self.why = Some(error),
-                Some(Event::Error(error)) => return Err(error),
-                Some(other) => drop(other),
-                None => break 'events,
+    // The same where the channel gives no more frames.
+    fn first_of_events<R: Wait + RandomSource + AllocGlobal>(
+        &mut self,
+        rt: &R,
+        own: &mut Own,
+    ) -> First {
+        match block_on(rt, select(self.events.next_event(rt), own.seconds.recv())) {
+            Ok(Either::Left((event, _))) => event_of(event),
+            Ok(Either::Right(_)) => First::Second,
+            Err(_) => First::NoMemory,
+        }
+    }
+
+    // The same with standard input.
+    fn first_of_all<R: Wait + RandomSource + AllocGlobal>(
+        &mut self,
+        rt: &R,
+        own: &mut Own,
+    ) -> First {
+        let link = select(self.events.next_event(rt), self.channel.next_frames(rt));
+        let here = select(own.seconds.recv(), own.input.recv());
+        match block_on(rt, select(link, here)) {
+            Ok(Either::Left((Either::Left((event, _)), _))) => event_of(event),
+            Ok(Either::Left((Either::Right((frames, _)), _))) => frames_of(frames),
+            Ok(Either::Right((Either::Left(_), _))) => First::Second,
+            Ok(Either::Right((Either::Right((Ok(told), _)), _))) => First::Told(told),
+            Ok(Either::Right((Either::Right((Err(_), _)), _))) => First::Told(Told::End),
+            Err(_) => First::NoMemory,
+        }
+    }
+
+    // What an event tells, where it tells something.
+    fn told_by<R: Wait>(
+        &mut self,
+        rt: &R,
+        event: Option<Event>,
+    ) -> std::result::Result<Option<Next>, Stop> {
+        match event {
+            Some(Event::Error(error)) if is_errored(rt, &self.connection) => Ok(Some(Next::Lost(
+                error,
+            ))),
+            Some(Event::Error(error)) => Err(Stop::Failed(error)),
+            Some(Event::ConnectionBlocked(reason)) => Ok(Some(Next::Blocked(reason))),
+            Some(Event::ConnectionUnblocked) => Ok(Some(Next::Unblocked)),
+            Some(other) => {
+                drop(other);
+                Ok(None)
             }
+            None => Err(self.gone()),
         }
-        Ok(false)
     }
 
-    /// Waits for frames, or, where it recovers, until a link was lost and another is there. Where the
-    /// channel is gone, the error says why.
-    pub fn next<R: Wait + RandomSource + AllocGlobal>(&mut self, rt: &R) -> Result<Next> {
-        if self.recovers {
-            return self.frames_or_link(rt);
-        }
-        let frames = self.channel.wait_frames(rt)?;
-        self.heard(rt, frames)
+    // Why a channel is gone of which nothing else is told.
+    fn gone(&self) -> Stop {
+        Stop::Failed(ErrorKind::InvalidChannel(self.channel.id()).into())
     }
 
-    // The same, of one who recovers. A link is told before the frames that came over it.
-    fn frames_or_link<R: Wait + RandomSource + AllocGlobal>(&mut self, rt: &R) -> Result<Next> {
+    /// Waits for what comes next, and for standard input too where that is wanted. Where the server closed the
+    /// channel with an error, that is told.
+    pub fn next<R: Wait + RandomSource + AllocGlobal>(
+        &mut self,
+        rt: &R,
+        own: &mut Own,
+        wants_input: bool,
+    ) -> std::result::Result<Next, Stop> {
         for _ in rt.forever() {
-            let both = select(self.events.next_event(rt), self.channel.next_frames(rt));
-            match block_on(rt, both) {
-                Ok(Either::Left((event, _frames))) => match event? {
-                    Some(Event::Connected) => return Ok(Next::Linked),
-                    Some(Event::Error(error)) => self.why = Some(error),
-                    Some(other) => drop(other),
-                    None => return Err(self.why(rt)),
-                },
-                Ok(Either::Right((frames, _event))) => {
-                    let frames = frames?;
-                    return self.heard(rt, frames);
+            match self.first(rt, own, wants_input) {
+                First::Event(event) => {
+                    if let Some(next) = self.told_by(rt, event)? {
+                        return Ok(next);
+                    }
                 }
-                Err(_) => return Err(ErrorKind::NoMemory.into()),
+                First::Frames(frames) if frames.is_empty() => self.is_gone = true,
+                First::Frames(frames) => return Ok(Next::Frames(frames)),
+                First::Told(told) => return Ok(Next::Told(told)),
+                First::Second if self.is_gone && self.gone_for >= LIMIT => return Err(self.gone()),
+                First::Second => {
+                    if self.is_gone {
+                        self.gone_for = self.gone_for.saturating_add(1);
+                    }
+                    return Ok(Next::Second);
+                }
+                First::NoMemory => return Err(Stop::Failed(ErrorKind::NoMemory.into())),
             }
         }
         unreachable!()
     }
 
-    // What is said by frames, or by none.
-    fn heard<R: Wait>(&mut self, rt: &R, frames: Vec<Handed>) -> Result<Next> {
-        if frames.is_empty() {
-            Err(self.why(rt))
-        } else {
-            Ok(Next::Frames(frames))
+    /// Closes the connection, once what was sent has gone out or a second passed, and waits for that for ten seconds.
+    /// Where the server answered, it has read what was sent before.
+    pub fn close<R: Wait + Clock + RandomSource + AllocGlobal>(
+        self,
+        rt: &R,
+        alloc: Global,
+        own: &mut Own,
+    ) -> std::result::Result<(), Stop> {
+        let mut client = self;
+        let Ok(text) = ShortString::new(alloc, b"OK") else {
+            return Err(Stop::Failed(ErrorKind::NoMemory.into()));
+        };
+        let _is_sent = client
+            .connection
+            .wait_until_sent_for(rt, Duration::from_secs(1));
+        let closing = client.connection.close(rt, &mut client.pass, 200, text);
+        match closing {
+            Ok(closing) => within(rt, &closing, own, LIMIT, "close the connection"),
+            Err(error) => Err(Stop::Failed(error)),
         }
-    }
-
-    // Why the channel is gone: the last error that the connection told.
-    fn why<R: Wait>(&mut self, rt: &R) -> Error {
-        'events: for _ in 0..u64::MAX {
-            match self.events.next(rt) {
-                Some(Event::Error(error)) => self.why = Some(error),
-                Some(other) => drop(other),
-                None => break 'events,
-            }
-        }
-        match self.why.take() {
-            Some(error) => error,
-            None => ErrorKind::InvalidChannel(self.channel.id()).into(),
-        }
-    }
-
-    /// Closes the channel and then the connection, and waits for that. Where the server answered the close,
-    /// it has read what was sent before.
-    pub fn close<R: Wait>(self, rt: &R) -> Result<()> {
-        let Client {
-            channel,
-            pass: _,
-            connection,
-            events: _,
-            recovers: _,
-            why: _,
-        } = self;
-        drop(channel);
-        connection.run(rt)
     }
 }

@@ -14,10 +14,20 @@ pub enum Stop {
     Wrong(Error),
     /// Standard input failed.
     Unread,
+    /// A body of standard input has more octets than this.
+    TooLong(usize),
     /// Standard output failed.
     Unwritten,
+    /// The report could not be written.
+    Unreported,
     /// The broker delivers nothing more, as the queue is gone.
     Gone,
+    /// The broker delivers a body of so many octets, which are more than it may have.
+    TooLarge(u64, usize),
+    /// What the broker delivers is not numbered upwards.
+    Astray,
+    /// The broker did not do this for so many seconds.
+    Silent(&'static str, u64),
     /// The connection failed.
     Failed(Error),
 }
@@ -45,8 +55,25 @@ pub fn explain<R: Eprint>(rt: &R, name: &str, help: &str, stop: Stop) -> u8 {
             SOURCE_FAILED,
             eprintln!(rt; "{name}: standard input failed"),
         ),
+        Stop::TooLong(most) => (
+            SOURCE_FAILED,
+            eprintln!(rt; "{name}: a body of standard input has more than {most} octets"),
+        ),
         Stop::Unwritten => (SINK_FAILED, eprintln!(rt; "{name}: standard output failed")),
+        Stop::Unreported => (SINK_FAILED, eprintln!(rt; "{name}: the report failed")),
         Stop::Gone => (FAILED, eprintln!(rt; "{name}: the queue is gone")),
+        Stop::TooLarge(size, most) => (
+            FAILED,
+            eprintln!(rt; "{name}: a message has {size} octets, which are more than {most}"),
+        ),
+        Stop::Astray => (
+            FAILED,
+            eprintln!(rt; "{name}: what is delivered is not numbered upwards"),
+        ),
+        Stop::Silent(what, seconds) => (
+            FAILED,
+            eprintln!(rt; "{name}: the broker did not {what} for {seconds} s"),
+        ),
         Stop::Failed(error) if *error.kind() == ErrorKind::NoMemory => {
             (NO_MEMORY, eprintln!(rt; "{name}: memory was refused"))
         }

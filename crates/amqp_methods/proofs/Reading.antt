@@ -4,7 +4,7 @@ use Rattle.std.proofs.lemmas.Bool.{eqb-true}
 use Rattle.std.proofs.lemmas.List.{append-nil, nil_from_length}
 use Rattle.std.specs.Int.{w16, w64}
 use Rattle.amqp_types.specs.Forms.{Form, IsOctets, ◌▸◌, OctetOf, NumberOf, ShortStringOf}
-use Rattle.amqp_types.specs.Reading.{Reader, ◌>>=◌, octet_at, number_at, short_string_at, ◌⊗◌}
+use Rattle.amqp_types.specs.Reading.{Reader, ◌>>=◌}
 use Rattle.amqp_types.proofs.Readers.{IsReader, bind_some, octet_reader, number16_reader, number64_reader, both_reader, short_string_reader}
 use Rattle.amqp_types.proofs.Small.{some_is, and-left, and-right}
 use Rattle.amqp_frame.specs.FrameReading.{exactly}

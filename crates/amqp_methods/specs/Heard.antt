@@ -1,6 +1,6 @@
 -- Methods by which a server delivers and confirms (AMQP 0-9-1, class reference of basic; that a server says ack and
 -- nack is an extension of RabbitMQ): how they are spelled, and how they are read.
-use Rattle.std.specs.Prelude.{◌≡◌, ℕ, ◌%◌, ◌/◌, ◌==◌, ◌&&◌, Bool, List, length, Option, Some, None, if◌then◌else◌}
+use Rattle.std.specs.Prelude.{◌≡◌, ℕ, ◌%◌, ◌/◌, ◌==◌, ◌&&◌, Bool, List, Option, Some, None, if◌then◌else◌}
 use Rattle.std.specs.Int.{w16, w64}
 use Rattle.amqp_types.specs.Forms.{Form, ◌▸◌, OctetOf, NumberOf, ShortStringOf}
 use Rattle.amqp_types.specs.Reading.{Reader, ◌>>=◌, octet_at, number_at, short_string_at, ◌⊗◌}
@@ -58,6 +58,10 @@ tag_and_flags_at = number_at w64 ⊗ octet_at
 -- the arguments of basic.deliver
 abbrev pub deliver_arguments_at : Reader (List ℕ × (ℕ × (ℕ × (List ℕ × List ℕ))))
 deliver_arguments_at = short_string_at ⊗ (number_at w64 ⊗ (octet_at ⊗ (short_string_at ⊗ short_string_at)))
+
+-- the arguments of basic.return: a code, a text, the exchange and the routing key
+abbrev pub return_arguments_at : Reader (ℕ × (List ℕ × (List ℕ × List ℕ)))
+return_arguments_at = number_at w16 ⊗ (short_string_at ⊗ (short_string_at ⊗ short_string_at))
 
 -- the delivery that these arguments are
 abbrev pub delivery_of : List ℕ × (ℕ × (ℕ × (List ℕ × List ℕ))) → Deliver

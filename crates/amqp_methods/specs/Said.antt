@@ -51,6 +51,15 @@ ack_method delivery_tag o =
       arguments = to_be_bytes w64 delivery_tag ++ (bits (o.multiple ∷ []) ∷ []);
     }
 
+-- basic.cancel: the consumer's tag, and a flag
+abbrev pub cancel_method : List ℕ → Bool → OtherMethod
+cancel_method consumer_tag nowait =
+    record {
+      class = 60;
+      method = 30;
+      arguments = spell_short_string consumer_tag ++ (bits (nowait ∷ []) ∷ []);
+    }
+
 -- basic.qos: no number of octets, the number of deliveries, and a flag
 abbrev pub qos_method : ℕ → BasicQosOptions → OtherMethod
 qos_method prefetch_count o =

@@ -1,7 +1,7 @@
 //! Methods by which a server delivers and confirms.
 
 ghost use Rattle.std.specs.Prelude.{◌≡◌, IfOk, option_map};
-ghost use Rattle.amqp_methods.specs.Heard.{basic_in, deliver_arguments_at, tag_and_flags_at, deliver_in, ack_in, nack_in};
+ghost use Rattle.amqp_methods.specs.Heard.{basic_in, deliver_arguments_at, return_arguments_at, tag_and_flags_at, deliver_in, ack_in, nack_in};
 
 use crate::rest::Rest;
 use amqp_types::{NoMemory, ShortString};
@@ -37,6 +37,17 @@ pub struct Nack {
     pub multiple: bool,
     /// Means nothing of a server.
     pub requeue: bool,
+}
+
+/// basic.return: no queue takes what was published. Its content header and its body follow.
+#[derive(Clone, Copy)]
+pub struct Returned<'a> {
+    /// Why, as 312 where no queue is bound.
+    pub reply_code: u16,
+    /// The same in words.
+    pub reply_text: &'a [u8],
+    pub exchange: &'a [u8],
+    pub routing_key: &'a [u8],
 }
 
 // The parts of basic.deliver, where they lie.
@@ -90,6 +101,31 @@ fn parts_of(payload: &[u8]) -> Option<Parts<'_>>
         consumer_tag,
         delivery_tag,
         flags,
+        exchange,
+        routing_key,
+    })
+}
+
+/// The basic.return that a payload is of a method's frame; none where it is another method, or its arguments
+/// are not those of the reference.
+pub fn read_return(payload: &[u8]) -> Option<Returned<'_>>
+    ensures { option_map
+        (λ r. (r.reply_code, (r.reply_text.now, (r.exchange.now, r.routing_key.now)))) result
+        ≡ basic_in return_arguments_at 50 payload.now }
+{
+    let mut rest = Rest { bytes: payload };
+    let class = rest.number16()?;
+    let number = rest.number16()?;
+    let reply_code = rest.number16()?;
+    let reply_text = rest.short()?;
+    let exchange = rest.short()?;
+    let routing_key = rest.short()?;
+    if !rest.bytes.is_empty() || class != 60 || number != 50 {
+        return None;
+    }
+    Some(Returned {
+        reply_code,
+        reply_text,
         exchange,
         routing_key,
     })

@@ -1,8 +1,8 @@
 //! What is left to read of octets.
 
 ghost use Rattle.std.specs.Prelude.{ℕ};
-ghost use Rattle.std.specs.Int.{w16, w64};
-ghost use Rattle.amqp_types.specs.Reading.{octet_at, octets_at, number_at, short_string_at};
+ghost use Rattle.std.specs.Int.{w16, w32, w64};
+ghost use Rattle.amqp_types.specs.Reading.{octet_at, octets_at, number_at, short_string_at, long_string_at};
 ghost use Rattle.amqp_methods.specs.Heard.{ReadsOff};
 
 /// What is left to read of octets.
@@ -60,6 +60,24 @@ impl<'a> Rest<'a> {
         ensures { ReadsOff (λ content. content.now) result self.new.bytes.now (short_string_at self.old.bytes.now) }
     {
         let length = self.octet()?;
+        self.octets(length as usize)
+    }
+
+    /// A number of 32 bits, the highest octet first.
+    pub fn number32(&mut self) -> Option<u32>
+        ensures { ReadsOff (λ n. n) result self.new.bytes.now (number_at w32 self.old.bytes.now) }
+    {
+        let mut octets = [0; 4];
+        octets.copy_from_slice(self.octets(4)?);
+        Some(u32::from_be_bytes(octets))
+    }
+
+    /// The octets of a long string: at most 2 ^ 32 - 1.
+    #[tactic(auto, unfolding(amqp_types::specs::Reading::long_string_at))]
+    pub fn long(&mut self) -> Option<&'a [u8]>
+        ensures { ReadsOff (λ content. content.now) result self.new.bytes.now (long_string_at self.old.bytes.now) }
+    {
+        let length = self.number32()?;
         self.octets(length as usize)
     }
 }

@@ -4,7 +4,7 @@ ghost use Rattle.std.specs.Prelude.{◌≡◌, ◌⊎◌, ◌≤◌, ◌<◌, �
 ghost use Rattle.amqp_types.specs.Spelling.{spell_table};
 ghost use Rattle.amqp_types.specs.declared.strings.TypeFault.TheVariants.{TooLong};
 ghost use Rattle.amqp_frame.specs.Lengths.{capped};
-ghost use Rattle.amqp_methods.specs.Said.{publish_method, consume_method, ack_method, qos_method, declare_method, select_method};
+ghost use Rattle.amqp_methods.specs.Said.{publish_method, consume_method, ack_method, cancel_method, qos_method, declare_method, select_method};
 
 use crate::options::{
     BasicAckOptions, BasicConsumeOptions, BasicPublishOptions, BasicQosOptions,
@@ -83,6 +83,20 @@ pub fn basic_ack(
     RawMethod::new(alloc, 60, 80, room.as_slice())
 }
 
+/// basic.cancel: nothing more is delivered to the consumer of this tag.
+pub fn basic_cancel(
+    alloc: Global,
+    consumer_tag: &ShortString,
+    nowait: bool,
+) -> Result<RawMethod, NoMemory>
+    ensures { IfOk result (λ method. method ≡ cancel_method consumer_tag.now nowait) }
+{
+    let mut room = FixedRoom::new(alloc, consumer_tag.len() + 2)?;
+    put_short(consumer_tag.as_bytes(), &mut room);
+    room.put(&[flag(nowait, 0)]);
+    RawMethod::new(alloc, 60, 30, room.as_slice())
+}
+
 /// basic.qos: at most so many deliveries are unacknowledged, 0 being any number; of their octets nothing
 /// is said.
 pub fn basic_qos(
@@ -134,7 +148,7 @@ pub fn confirm_select(alloc: Global, options: ConfirmSelectOptions) -> Result<Ra
 }
 
 // How many octets a table is spelled by, where four octets can say it.
-fn size_of(table: &FieldTable) -> Result<usize, TypeFault>
+pub(crate) fn size_of(table: &FieldTable) -> Result<usize, TypeFault>
     ensures ok { IfOk result (λ size. (size ≡ length (spell_table table.now)) × (size ≤ 4294967295)) }
     ensures err { IfErr result (λ e. (e ≡ TooLong (capped (length (spell_table table.now))))
         × (4294967295 < length (spell_table table.now))) }

@@ -1,6 +1,6 @@
 -- The message that arrives, frame by frame (AMQP 0-9-1, 4.2.6: a method that carries content, its content header, and
 -- its body in parts).
-use Rattle.std.specs.Prelude.{ℕ, ◌-◌, nat_le, nat_eq, List, length, ◌++◌, take, drop, Option, Some, None, if◌then◌else◌}
+use Rattle.std.specs.Prelude.{ℕ, ◌-◌, nat_le, nat_eq, Bool, false, List, length, ◌++◌, take, drop, Option, Some, None, if◌then◌else◌}
 use Rattle.std.specs.Int.{w64, from_be_bytes}
 use Rattle.amqp_methods.specs.Heard.{deliver_in}
 use Rattle.amqp_methods.specs.declared.heard.Deliver.{Deliver}
@@ -15,6 +15,11 @@ stage_by None = Idle
 -- after a method that is this payload
 abbrev pub stage_at : List ℕ → Stage
 stage_at payload = stage_by (deliver_in payload)
+
+-- whether a message that was delivered may have been before
+abbrev pub is_redelivered : Option Deliver → Bool
+is_redelivered (Some deliver) = deliver.redelivered
+is_redelivered None = false
 
 -- how many octets the body has, by its content header: octets 4 to 11, the first being octet 0
 abbrev pub body_size : List ℕ → ℕ

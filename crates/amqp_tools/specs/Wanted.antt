@@ -1,5 +1,5 @@
 -- What the words behind a program's name ask for.
-use Rattle.std.specs.Prelude.{◌≡◌, ◌<◌, ◌^◌, ◌||◌, ℕ, Bool, true, false, List, [], ◌∷◌, Option, Some, None, codes, if◌then◌else◌}
+use Rattle.std.specs.Prelude.{◌≡◌, ◌<◌, ◌^◌, ◌||◌, ℕ, Bool, false, List, [], ◌∷◌, Option, Some, None, codes, if◌then◌else◌}
 use Rattle.std.specs.Str.{bytes_eq}
 use Rattle.std.specs.Str.Parse.{IsNumeral, digits_value}
 use Rattle.amqp_tools.specs.declared.wanted.Job.{Job}
@@ -18,28 +18,16 @@ job_by (first ∷ rest) =
     else if bytes_eq first (codes "consume") then Some (Consume, rest)
     else None
 
--- an address, an exchange and a routing key; and whether who publishes goes on over a lost link
-abbrev pub publishing_words : Bool → List (List ℕ) → Option (List ℕ × (List ℕ × (List ℕ × Bool)))
-publishing_words recovers (uri ∷ exchange ∷ key ∷ []) = Some (uri, (exchange, (key, recovers)))
-publishing_words recovers _ = None
-
--- the same, behind `--recover` or without it
-abbrev pub publishing_by : List (List ℕ) → Option (List ℕ × (List ℕ × (List ℕ × Bool)))
-publishing_by [] = None
-publishing_by (first ∷ rest) =
-    if bytes_eq first (codes "--recover") then publishing_words true rest else publishing_words false (first ∷ rest)
+-- an address, an exchange and a routing key
+abbrev pub publishing_by : List (List ℕ) → Option (List ℕ × (List ℕ × List ℕ))
+publishing_by (uri ∷ exchange ∷ key ∷ []) = Some (uri, (exchange, key))
+publishing_by _ = None
 
 -- an address, a queue, and how many messages where that is said
-abbrev pub consuming_words : Bool → List (List ℕ) → Option (List ℕ × (List ℕ × (Option (List ℕ) × Bool)))
-consuming_words recovers (uri ∷ queue ∷ []) = Some (uri, (queue, (None, recovers)))
-consuming_words recovers (uri ∷ queue ∷ count ∷ []) = Some (uri, (queue, (Some count, recovers)))
-consuming_words recovers _ = None
-
--- the same, behind `--recover` or without it
-abbrev pub consuming_by : List (List ℕ) → Option (List ℕ × (List ℕ × (Option (List ℕ) × Bool)))
-consuming_by [] = None
-consuming_by (first ∷ rest) =
-    if bytes_eq first (codes "--recover") then consuming_words true rest else consuming_words false (first ∷ rest)
+abbrev pub consuming_by : List (List ℕ) → Option (List ℕ × (List ℕ × Option (List ℕ)))
+consuming_by (uri ∷ queue ∷ []) = Some (uri, (queue, None))
+consuming_by (uri ∷ queue ∷ count ∷ []) = Some (uri, (queue, Some count))
+consuming_by _ = None
 
 -- a word is decimal digits of a number of 64 bits
 abbrev pub IsNumber : List ℕ → Type 0

@@ -1,7 +1,8 @@
 //! The message that arrives, frame by frame.
 
 ghost use Rattle.std.specs.Prelude.{◌≡◌, [], IfOk, OnOk, OnErr};
-ghost use Rattle.amqp_tools.specs.Arriving.{stage_at, announced_size, body_size, after_part, joined, whole};
+ghost use Rattle.amqp_tools.specs.Arriving.{stage_at, announced_size, body_size, after_part, joined, whole, is_redelivered};
+ghost use Rattle.amqp_methods.specs.Heard.{deliver_in};
 
 use amqp_frame::RawKind;
 use amqp_methods::read_deliver;
@@ -23,11 +24,12 @@ pub enum Stage {
 #[derive(Drop)]
 pub struct Arriving {
     stage: Stage,
+    redelivered: bool,
     body: Vec<u8>,
 }
 
-// How many octets the body has, by its content header.
-fn size_in(header: &[u8]) -> u64
+/// How many octets the body has, by its content header.
+pub fn size_in(header: &[u8]) -> u64
     ensures { result ≡ body_size header.now }
 {
     if header.len() < 12 {
@@ -46,6 +48,7 @@ impl Arriving {
     {
         Arriving {
             stage: Stage::Idle,
+            redelivered: false,
             body: Vec::new(alloc),
         }
     }
@@ -54,11 +57,16 @@ impl Arriving {
     pub fn method(&mut self, alloc: Global, payload: &[u8]) -> Result<(), NoMemory>
         ensures stage { OnOk result (self.new.stage ≡ stage_at payload.now) }
         ensures body { OnOk result (self.new.body.items ≡ []) }
+        ensures redelivered { OnOk result (self.new.redelivered ≡ is_redelivered (deliver_in payload.now)) }
     {
         let delivered = read_deliver(alloc, payload)?;
         self.body.clear();
+        self.redelivered = false;
         self.stage = match &delivered {
-            Some(deliver) => Stage::Announced(deliver.delivery_tag),
+            Some(deliver) => {
+                self.redelivered = deliver.redelivered;
+                Stage::Announced(deliver.delivery_tag)
+            }
             None => Stage::Idle,
         };
         drop(delivered);
@@ -69,6 +77,7 @@ impl Arriving {
     pub fn header(&mut self, payload: &[u8])
         ensures stage { self.new.stage ≡ announced_size (body_size payload.now) self.old.stage }
         ensures body { self.new.body.items ≡ self.old.body.items }
+        ensures redelivered { self.new.redelivered ≡ self.old.redelivered }
     {
         if let Stage::Announced(tag) = self.stage {
             self.stage = Stage::Missing(tag, size_in(payload));
@@ -79,6 +88,7 @@ impl Arriving {
     pub fn part(&mut self, payload: &[u8]) -> Result<(), NoMemory>
         ensures stage { OnOk result (self.new.stage ≡ after_part payload.now self.old.stage) }
         ensures body { OnOk result (self.new.body.items ≡ joined payload.now self.old.stage self.old.body.items) }
+        ensures redelivered { self.new.redelivered ≡ self.old.redelivered }
     {
         if let Stage::Missing(tag, missing) = self.stage
             && payload.len() as u64 <= missing
@@ -97,6 +107,13 @@ impl Arriving {
             Stage::Missing(tag, 0) => Some(tag),
             _ => None,
         }
+    }
+
+    /// Whether the broker says that it may have delivered the message before.
+    pub fn redelivered(&self) -> bool
+        ensures { result ≡ self.now.redelivered }
+    {
+        self.redelivered
     }
 
     /// What has come of the body.

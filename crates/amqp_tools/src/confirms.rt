@@ -1,7 +1,7 @@
 //! Which publishes of a channel in confirm mode the broker has not answered.
 
-ghost use Rattle.std.specs.Prelude.{◌≡◌, ◌+◌, ◌++◌, ◌∷◌, [], ℕ, List, Bool, length, IfOk, OnOk, OnErr};
-ghost use Rattle.amqp_tools.specs.Confirms.{means, left_unanswered, meant};
+ghost use Rattle.std.specs.Prelude.{◌≡◌, ◌+◌, ◌++◌, ◌∷◌, [], ℕ, List, Bool, None, length, position, ◌<◌, IfSome, IfOk, OnOk, OnErr};
+ghost use Rattle.amqp_tools.specs.Confirms.{means, left_unanswered, meant, is_given_back, given_back};
 ghost use Rattle.amqp_tools.specs.declared.confirms.Open.{Open as OneOpen};
 
 use amqp_types::{NoMemory, Payload};
@@ -12,6 +12,10 @@ use std::mem;
 #[derive(Drop)]
 pub struct Open {
     number: u64,
+    /// Which message it is, counted from 1 over all channels.
+    pub message: u64,
+    /// The code with which the broker gave it back, where it did.
+    pub returned: Option<u16>,
     /// Its body, where it is kept to be published again.
     pub body: Option<Payload>,
 }
@@ -21,6 +25,7 @@ pub struct Open {
 #[derive(Drop)]
 pub struct Confirms {
     alloc: Global,
+    messages: u64,
     published: u64,
     unanswered: Vec<Open>,
 }
@@ -36,14 +41,42 @@ fn means(tag: u64, multiple: bool, publish: u64) -> bool
     }
 }
 
+impl Open {
+    /// Whether an answer with this tag means it.
+    pub fn is_meant(&self, tag: u64, multiple: bool) -> bool
+        ensures { result ≡ means tag multiple self.now.number }
+    {
+        means(tag, multiple, self.number)
+    }
+}
+
+// Whether a message with this body is meant where one is given back: it was not given back yet.
+fn is_given_back(publish: &Open, body: &[u8]) -> bool
+    ensures { result ≡ is_given_back body.now publish.now }
+{
+    match &publish.body {
+        Some(kept) => publish.returned.is_none() && kept.as_bytes() == body,
+        None => false,
+    }
+}
+
+// Where the first of these stands that is meant.
+fn place_of(opens: &[Open], body: &[u8]) -> Option<usize>
+    ensures at { result ≡ position (is_given_back body.now) opens.now }
+    ensures within { IfSome result (λ at. at < length opens.now) }
+{
+    opens.iter().position(|open| is_given_back(open, body))
+}
+
 impl Confirms {
     /// Nothing was published.
     pub fn new(alloc: Global) -> Confirms
-        ensures published { result.published ≡ 0 }
+        ensures published { (result.published ≡ 0) × (result.messages ≡ 0) }
         ensures unanswered { result.unanswered.items ≡ [] }
     {
         Confirms {
             alloc,
+            messages: 0,
             published: 0,
             unanswered: Vec::new(alloc),
         }
@@ -53,17 +86,56 @@ impl Confirms {
     /// refused, or no number is left, nothing has changed.
     pub fn publish(&mut self, body: Option<Payload>) -> Result<(), NoMemory>
         ensures published { OnOk result (self.new.published ≡ self.old.published + 1) }
-        ensures unanswered { OnOk result (self.new.unanswered.items
-            ≡ self.old.unanswered.items ++ record { number = self.old.published + 1; body = body } ∷ []) }
+        ensures messages { OnOk result (self.new.messages ≡ self.old.messages + 1) }
+        ensures unanswered { OnOk result (self.new.unanswered.items ≡ self.old.unanswered.items
+            ++ record { number = self.old.published + 1; message = self.old.messages + 1; returned = None; body = body }
+            ∷ []) }
         ensures same { OnErr result ((self.new.published ≡ self.old.published)
+            × (self.new.messages ≡ self.old.messages)
             × (self.new.unanswered.items ≡ self.old.unanswered.items)) }
     {
-        if self.published == u64::MAX {
+        if self.published == u64::MAX || self.messages == u64::MAX {
             drop(body);
             return Err(NoMemory);
         }
         let number = self.published + 1;
-        match self.unanswered.push(Open { number, body }) {
+        let message = self.messages + 1;
+        let open = Open {
+            number,
+            message,
+            returned: None,
+            body,
+        };
+        match self.unanswered.push(open) {
+            Ok(()) => {
+                self.published = number;
+                self.messages = message;
+                Ok(())
+            }
+            Err(_) => Err(NoMemory),
+        }
+    }
+
+    /// A message that had no answer on a channel before is published again, under another number. Where memory
+    /// is refused, or no number is left, nothing has changed but that it is let go.
+    pub fn publish_again(&mut self, unanswered: Open) -> Result<(), NoMemory>
+        ensures published { OnOk result (self.new.published ≡ self.old.published + 1) }
+        ensures messages { OnOk result (self.new.messages ≡ self.old.messages) }
+        ensures unanswered { OnOk result (self.new.unanswered.items
+            ≡ self.old.unanswered.items ++ record unanswered { number = self.old.published + 1 } ∷ []) }
+        ensures same { OnErr result ((self.new.published ≡ self.old.published)
+            × (self.new.messages ≡ self.old.messages)
+            × (self.new.unanswered.items ≡ self.old.unanswered.items)) }
+    {
+        if self.published == u64::MAX {
+            drop(unanswered);
+            return Err(NoMemory);
+        }
+        let number = self.published + 1;
+        match self.unanswered.push(Open {
+            number,
+            ..unanswered
+        }) {
             Ok(()) => {
                 self.published = number;
                 Ok(())
@@ -72,12 +144,30 @@ impl Confirms {
         }
     }
 
+    /// The broker gave a message with this body back, with a code: the first of it that has no answer and was
+    /// not given back yet.
+    pub fn give_back(&mut self, code: u16, body: &[u8])
+        ensures unanswered { self.new.unanswered.items ≡ given_back code body.now self.old.unanswered.items }
+        ensures published { (self.new.published ≡ self.old.published) × (self.new.messages ≡ self.old.messages) }
+    {
+        if let Some(place) = place_of(&self.unanswered, body) {
+            self.unanswered[place].returned = Some(code);
+        }
+    }
+
+    /// Those that have no answer, in order.
+    pub fn open(&self) -> &[Open]
+        ensures { result.now ≡ self.now.unanswered.items }
+    {
+        self.unanswered.as_slice()
+    }
+
     /// The broker answered with this tag: one publish, or with `multiple` all up to it. How many that had
     /// no answer it means.
     pub fn answered(&mut self, tag: u64, multiple: bool) -> usize
         ensures meant { result ≡ meant tag multiple self.old.unanswered.items }
         ensures unanswered { self.new.unanswered.items ≡ left_unanswered tag multiple self.old.unanswered.items }
-        ensures published { self.new.published ≡ self.old.published }
+        ensures published { (self.new.published ≡ self.old.published) × (self.new.messages ≡ self.old.messages) }
     {
         let before = self.unanswered.len();
         self.unanswered
@@ -89,7 +179,7 @@ impl Confirms {
     /// published on the new one.
     pub fn begin_again(&mut self) -> Vec<Open>
         ensures given { result.items ≡ self.old.unanswered.items }
-        ensures published { self.new.published ≡ 0 }
+        ensures published { (self.new.published ≡ 0) × (self.new.messages ≡ self.old.messages) }
         ensures unanswered { self.new.unanswered.items ≡ [] }
     {
         self.published = 0;

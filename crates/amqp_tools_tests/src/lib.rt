@@ -9,4 +9,6 @@ mod confirms;
 #[cfg(test)]
 mod methods;
 #[cfg(test)]
+mod taking;
+#[cfg(test)]
 mod wanted;

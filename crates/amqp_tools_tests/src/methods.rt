@@ -2,4 +2,5 @@
 //! (`amqp_encode_method`) of the same arguments.
 
 mod heard;
+mod properties;
 mod said;

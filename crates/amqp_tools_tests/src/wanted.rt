@@ -1,6 +1,6 @@
 //! Words of a command line.
 
-use amqp_tools::{consuming_of, count_of, publishing_of, wants_help};
+use amqp_tools::{Job, consuming_of, count_of, job_of, publishing_of, wants_help, words_of};
 use amqp_types::{NoMemory, Text};
 use std::alloc::Global;
 
@@ -16,12 +16,13 @@ fn texts(alloc: Global, words: &[&str]) -> Result<Vec<Text>, NoMemory> {
     Ok(texts)
 }
 
-// Whether words are known to who publishes, and to who consumes.
+// Whether words, behind options, are known to who publishes, and to who consumes.
 fn are_known(alloc: Global, words: &[&str]) -> Result<(bool, bool), NoMemory> {
-    let words = texts(alloc, words)?;
+    let texts = texts(alloc, words)?;
+    let words = words_of(alloc, &texts)?;
     Ok((
-        publishing_of(&words).is_some(),
-        consuming_of(&words).is_some(),
+        publishing_of(words.rest).is_some(),
+        consuming_of(words.rest).is_some(),
     ))
 }
 
@@ -48,6 +49,25 @@ fn first_other(alloc: Global) -> Result<Option<usize>, NoMemory> {
 #[test]
 fn words_are_known(rt: HostRuntime) -> Result<(), NoMemory> {
     assert!(rt; first_other(rt.alloc())? == None);
+    Ok(())
+}
+
+// Which job the first of these words asks for, and how many stand behind it.
+fn job(alloc: Global, words: &[&str]) -> Result<Option<(Job, usize)>, NoMemory> {
+    let words = texts(alloc, words)?;
+    Ok(match job_of(&words) {
+        Some((job, rest)) => Some((job, rest.len())),
+        None => None,
+    })
+}
+
+#[test]
+fn the_first_word_is_a_job(rt: HostRuntime) -> Result<(), NoMemory> {
+    let alloc = rt.alloc();
+    assert!(rt; job(alloc, &["publish", "uri"])? == Some((Job::Publish, 1)));
+    assert!(rt; job(alloc, &["consume"])? == Some((Job::Consume, 0)));
+    assert!(rt; job(alloc, &["--recover", "publish"])? == None);
+    assert!(rt; job(alloc, &[])? == None);
     Ok(())
 }
 
