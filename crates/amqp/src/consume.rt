@@ -11,6 +11,7 @@ use std::io::{self, BufWriter, Print};
 use std::random::RandomSource;
 use std::sync::Wait;
 use std::thread::Threads;
+use std::time::Clock;
 
 /// What is printed where the words are not known, or help is asked for.
 pub const HELP_TEXT: &str = "usage: amqp consume [--recover] URI QUEUE [COUNT]
@@ -46,7 +47,7 @@ fn count(told: Consuming<'_>) -> Result<Option<u64>, Stop> {
 pub fn run<S, R>(rt: R, alloc: Global, runtime: S, words: &[Text]) -> Result<(), Stop>
 where
     S: Spawner + Drop,
-    R: Threads + Wait + Print + RandomSource + AllocGlobal + Copy + Drop + Send + 'static,
+    R: Threads + Wait + Clock + Print + RandomSource + AllocGlobal + Copy + Drop + Send + 'static,
 {
     let Some(told) = consuming_of(words) else {
         return Err(Stop::Unknown);

@@ -36,6 +36,7 @@ use std::process::ExitCode;
 use std::random::RandomSource;
 use std::sync::Wait;
 use std::thread::Threads;
+use std::time::Clock;
 
 const HELP_TEXT: &str = "usage: amqp publish [--recover] URI EXCHANGE KEY
        amqp consume [--recover] URI QUEUE [COUNT]
@@ -59,6 +60,7 @@ where
     S: Spawner + Drop,
     R: Threads
         + Wait
+        + Clock
         + Input
         + Print
         + Eprint
@@ -83,7 +85,7 @@ where
 fn consumed<S, R>(rt: R, alloc: Global, runtime: S, words: &[Text]) -> u8
 where
     S: Spawner + Drop,
-    R: Threads + Wait + Print + Eprint + RandomSource + AllocGlobal + Copy + Drop + Send + 'static,
+    R: Threads + Wait + Clock + Print + Eprint + RandomSource + AllocGlobal + Copy + Drop + Send + 'static,
 {
     if wants_help(words) {
         return help(&rt, consume::HELP_TEXT);

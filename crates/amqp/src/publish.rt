@@ -13,6 +13,7 @@ use std::io::{self, BufRead, BufReader, Eprint, Input};
 use std::random::RandomSource;
 use std::sync::{Arc, Wait};
 use std::thread::Threads;
+use std::time::Clock;
 
 /// What is printed where the words are not known, or help is asked for.
 pub const HELP_TEXT: &str = "usage: amqp publish [--recover] URI EXCHANGE KEY
@@ -91,7 +92,7 @@ fn publish_all<R: Threads + Wait + Input + Eprint + RandomSource + AllocGlobal>(
 pub fn run<S, R>(rt: R, alloc: Global, runtime: S, words: &[Text]) -> Result<bool, Stop>
 where
     S: Spawner + Drop,
-    R: Threads + Wait + Input + Eprint + RandomSource + AllocGlobal + Copy + Drop + Send + 'static,
+    R: Threads + Wait + Clock + Input + Eprint + RandomSource + AllocGlobal + Copy + Drop + Send + 'static,
 {
     let Some(told) = publishing_of(words) else {
         return Err(Stop::Unknown);

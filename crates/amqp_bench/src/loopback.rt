@@ -7,6 +7,7 @@ use lapin_connection::{Channel, Connection, ConnectionBuilder, Pass, Pending, Sp
 use std::alloc::Global;
 use std::sync::Wait;
 use std::thread::Threads;
+use std::time::Clock;
 
 /// So many octets may be under way before the caller waits.
 const UNDER_WAY: u64 = 4 << 20;
@@ -90,7 +91,7 @@ fn open_publisher<R: Wait>(rt: &R, connection: &Connection) -> Result<Publisher>
 }
 
 // Connects by a runtime, which it uses up.
-fn connected<S: Spawner + Drop, R: Threads + Wait + Copy + Send + 'static>(
+fn connected<S: Spawner + Drop, R: Threads + Wait + Clock + Copy + Send + 'static>(
     rt: R,
     alloc: Global,
     address: String,
@@ -107,7 +108,7 @@ fn connected<S: Spawner + Drop, R: Threads + Wait + Copy + Send + 'static>(
     connection
 }
 
-fn loopback_by<S: Spawner + Drop, R: Threads + Wait + Copy + Send + 'static>(
+fn loopback_by<S: Spawner + Drop, R: Threads + Wait + Clock + Copy + Send + 'static>(
     rt: R,
     alloc: Global,
     batches: Batches,
@@ -125,7 +126,7 @@ fn loopback_by<S: Spawner + Drop, R: Threads + Wait + Copy + Send + 'static>(
 
 /// Publishes messages of a size to the server of an address, as many as whole batches have. How many were
 /// written; nothing where memory was refused or the connection ended.
-pub fn loopback<S: Spawner + Drop, R: Threads + Wait + Copy + Send + 'static>(
+pub fn loopback<S: Spawner + Drop, R: Threads + Wait + Clock + Copy + Send + 'static>(
     rt: R,
     alloc: Global,
     batches: Batches,

@@ -10,6 +10,7 @@ use std::alloc::{AllocGlobal, Global};
 use std::random::RandomSource;
 use std::sync::Wait;
 use std::thread::Threads;
+use std::time::Clock;
 
 /// A connection with one channel, who commands it, and what it tells.
 #[derive(Drop)]
@@ -45,7 +46,7 @@ fn options(alloc: Global, recovers: bool) -> Result<ConnectionProperties> {
 impl Client {
     /// Connects to an address, and opens a channel. Where it recovers, it goes on over another link where
     /// one is lost.
-    pub fn open<S: Spawner + Drop, R: Threads + Wait + Copy + Send + 'static>(
+    pub fn open<S: Spawner + Drop, R: Threads + Wait + Clock + Copy + Send + 'static>(
         rt: R,
         alloc: Global,
         runtime: S,

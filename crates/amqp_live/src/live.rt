@@ -22,6 +22,7 @@ use lapin_connection::{Channel, Connection, Pass, Spawner};
 use std::alloc::Global;
 use std::sync::Wait;
 use std::thread::Threads;
+use std::time::Clock;
 
 /// The reply code of a close without an error.
 const SUCCESS: u16 = 200;
@@ -54,7 +55,7 @@ impl From<Error> for Stop {
 /// are `live` and the address. It gives the exit status: 0 once all three lines are said, 2 for other words,
 /// 4 for a sink that failed, 5 for an error, and 7 where memory was refused. It waits for the server as long as
 /// that takes.
-pub fn top_live<K: Sink, S: Spawner, R: Threads + Wait + Copy + Send + 'static>(
+pub fn top_live<K: Sink, S: Spawner, R: Threads + Wait + Clock + Copy + Send + 'static>(
     rt: R,
     alloc: Global,
     words: &[Text],
@@ -137,7 +138,7 @@ fn say<K: Sink>(sink: &mut K, line: &[u8]) -> std::result::Result<(), Stop>
 }
 
 // All of it: connects, and then says what is done.
-fn converse<K: Sink, S: Spawner, R: Threads + Wait + Copy + Send + 'static>(
+fn converse<K: Sink, S: Spawner, R: Threads + Wait + Clock + Copy + Send + 'static>(
     rt: R,
     alloc: Global,
     uri: &str,
@@ -157,7 +158,7 @@ fn converse<K: Sink, S: Spawner, R: Threads + Wait + Copy + Send + 'static>(
 }
 
 // A connection, which opens by and by.
-fn connect<S: Spawner, R: Threads + Wait + Copy + Send + 'static>(
+fn connect<S: Spawner, R: Threads + Wait + Clock + Copy + Send + 'static>(
     rt: R,
     alloc: Global,
     uri: &str,

@@ -14,3 +14,5 @@ pub mod LettingGo
 pub mod Tidying
 -- whether a channel goes on after an error
 pub mod Recovering
+-- for whom there is something after a turn
+pub mod Waking

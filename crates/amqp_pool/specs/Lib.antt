@@ -10,3 +10,5 @@ pub mod Looking
 pub mod Collecting
 -- calls of a pool and of its hub, one after another
 pub mod Moments
+-- how the channels of a pool are closed
+pub mod Closing

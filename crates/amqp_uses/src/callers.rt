@@ -12,9 +12,10 @@ use std::io;
 use std::random::RandomSource;
 use std::sync::Wait;
 use std::thread::Threads;
+use std::time::Clock;
 
 /// A connection to the address that a text is, once it is open.
-pub fn connected<S: Spawner, R: Threads + Wait + Copy + Send + 'static>(
+pub fn connected<S: Spawner, R: Threads + Wait + Clock + Copy + Send + 'static>(
     rt: R,
     alloc: Global,
     uri: &str,
@@ -30,7 +31,7 @@ pub fn connected<S: Spawner, R: Threads + Wait + Copy + Send + 'static>(
 }
 
 /// The same, for a connection that is to last: its journal begins anew once 64 KiB were entered.
-pub fn lasting<S: Spawner + Drop, R: Threads + Wait + Copy + Send + 'static>(
+pub fn lasting<S: Spawner + Drop, R: Threads + Wait + Clock + Copy + Send + 'static>(
     rt: R,
     alloc: Global,
     uri: String,
@@ -75,7 +76,7 @@ pub fn publish<R: Wait>(
 
 /// Publishes one text and closes all, with whatever the connection ended. A channel that is dropped is
 /// closed, and then the connection that is run.
-pub fn publish_once<S: Spawner, R: Threads + Wait + Copy + Send + 'static>(
+pub fn publish_once<S: Spawner, R: Threads + Wait + Clock + Copy + Send + 'static>(
     rt: R,
     alloc: Global,
     uri: &str,

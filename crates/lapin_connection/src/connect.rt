@@ -22,6 +22,7 @@ use amqp_uri::{AMQPUri, UriFault};
 use std::alloc::Global;
 use std::sync::Wait;
 use std::thread::Threads;
+use std::time::Clock;
 
 // The hub of a new engine, which has asked this port for its first link.
 fn hub_over<P: Port>(
@@ -56,7 +57,7 @@ fn over<P: Port>(
 }
 
 // Connects, with a provider that answers the server.
-fn start<S: Spawner, A: AuthProvider + 'static, R: Threads + Wait + Copy + Send + 'static>(
+fn start<S: Spawner, A: AuthProvider + 'static, R: Threads + Wait + Clock + Copy + Send + 'static>(
     rt: R,
     alloc: Global,
     uri: &AMQPUri,
@@ -92,7 +93,7 @@ fn start<S: Spawner, A: AuthProvider + 'static, R: Threads + Wait + Copy + Send 
 }
 
 // Connects to an address, and does by itself what is said.
-pub(crate) fn connect_to<C, S: Spawner, R: Threads + Wait + Copy + Send + 'static>(
+pub(crate) fn connect_to<C, S: Spawner, R: Threads + Wait + Clock + Copy + Send + 'static>(
     rt: R,
     alloc: Global,
     uri: &AMQPUri,
@@ -126,7 +127,7 @@ impl Connection {
         U: Connect,
         C,
         S: Spawner,
-        R: Threads + Wait + Copy + Send + 'static,
+        R: Threads + Wait + Clock + Copy + Send + 'static,
     >(
         rt: R,
         alloc: Global,
@@ -154,7 +155,7 @@ impl Connection {
     }
 
     /// Connects to an address, by this runtime.
-    pub fn connect_uri_with_runtime<C, S: Spawner, R: Threads + Wait + Copy + Send + 'static>(
+    pub fn connect_uri_with_runtime<C, S: Spawner, R: Threads + Wait + Clock + Copy + Send + 'static>(
         rt: R,
         alloc: Global,
         uri: AMQPUri,
@@ -174,7 +175,7 @@ impl Connection {
     }
 
     /// The same, with its arguments in another order.
-    pub fn connector<C, S: Spawner, R: Threads + Wait + Copy + Send + 'static>(
+    pub fn connector<C, S: Spawner, R: Threads + Wait + Clock + Copy + Send + 'static>(
         rt: R,
         alloc: Global,
         uri: AMQPUri,

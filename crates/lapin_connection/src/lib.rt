@@ -7,6 +7,7 @@
 
 mod abandon;
 mod builder;
+mod changes;
 mod channel;
 mod connect;
 mod connection;

@@ -53,7 +53,7 @@ impl Locked {
         if let Some(sent) = self.sent_on(channel, made) {
             return Poll::Ready(Ok(sent));
         }
-        match self.wakers.register(source, cx) {
+        match self.tasks.room.register(source, cx) {
             Ok(()) => Poll::Pending,
             Err(refused) => Poll::Ready(Err(refused)),
         }
