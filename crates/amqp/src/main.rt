@@ -85,7 +85,17 @@ where
 fn consumed<S, R>(rt: R, alloc: Global, runtime: S, words: &[Text]) -> u8
 where
     S: Spawner + Drop,
-    R: Threads + Wait + Clock + Print + Eprint + RandomSource + AllocGlobal + Copy + Drop + Send + 'static,
+    R: Threads
+        + Wait
+        + Clock
+        + Print
+        + Eprint
+        + RandomSource
+        + AllocGlobal
+        + Copy
+        + Drop
+        + Send
+        + 'static,
 {
     if wants_help(words) {
         return help(&rt, consume::HELP_TEXT);

@@ -92,7 +92,17 @@ fn publish_all<R: Threads + Wait + Input + Eprint + RandomSource + AllocGlobal>(
 pub fn run<S, R>(rt: R, alloc: Global, runtime: S, words: &[Text]) -> Result<bool, Stop>
 where
     S: Spawner + Drop,
-    R: Threads + Wait + Clock + Input + Eprint + RandomSource + AllocGlobal + Copy + Drop + Send + 'static,
+    R: Threads
+        + Wait
+        + Clock
+        + Input
+        + Eprint
+        + RandomSource
+        + AllocGlobal
+        + Copy
+        + Drop
+        + Send
+        + 'static,
 {
     let Some(told) = publishing_of(words) else {
         return Err(Stop::Unknown);

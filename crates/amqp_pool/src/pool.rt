@@ -8,10 +8,9 @@ ghost use Rattle.amqp_pool.specs.Leasing.{AsksForOne, IsLeased, IsLeaseRefused, 
 ghost use Rattle.amqp_pool.specs.Collecting.{collected, collected_count, TakesEach};
 ghost use Rattle.amqp_pool.specs.Closing.{ClosesFrom, IsCloseRefused};
 
-use crate::closing;
-use crate::collecting;
 use crate::lease::{Back, Lease, Leased};
 use crate::looking::{self, Seen};
+use crate::{closing, collecting};
 use amqp_hub::{Hub, Pass};
 use amqp_session::{ChanRef, Cmd, Result};
 use amqp_types::NoMemory;

@@ -155,7 +155,11 @@ impl Connection {
     }
 
     /// Connects to an address, by this runtime.
-    pub fn connect_uri_with_runtime<C, S: Spawner, R: Threads + Wait + Clock + Copy + Send + 'static>(
+    pub fn connect_uri_with_runtime<
+        C,
+        S: Spawner,
+        R: Threads + Wait + Clock + Copy + Send + 'static,
+    >(
         rt: R,
         alloc: Global,
         uri: AMQPUri,

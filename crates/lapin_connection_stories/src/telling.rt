@@ -209,14 +209,14 @@ fn settled<R: Wait>(rt: &R, connection: &Connection) -> std::result::Result<u64,
     }
 }
 
-// Says whether the journal began anew again and again, after three entries each, or never.
+// Says whether the journal began anew again and again, so that few entries are left of many, or never.
 fn say_settled<R: Wait>(rt: &R, connection: &Connection, hand: &mut Hand) -> Done {
     let journal = journal(rt, connection)?;
     let kept = journal.len();
     drop(journal);
     match settled(rt, connection)? {
         0 if kept > 20 => hand.say("keeps all"),
-        before if kept <= 3 && before >= 20 && before % 3 == 0 => hand.say("begins anew"),
+        before if kept <= 3 && before >= 20 => hand.say("begins anew"),
         _ => hand.say("NEITHER"),
     }
 }
