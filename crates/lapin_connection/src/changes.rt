@@ -18,6 +18,8 @@ pub(crate) enum Waits {
     Room,
     /// Whatever it looks for in the hub.
     Hub,
+    /// The end.
+    End,
 }
 
 impl Waits {
@@ -36,6 +38,7 @@ pub(crate) struct Changes {
     states: Condvar,
     room: Condvar,
     hub: Condvar,
+    end: Condvar,
 }
 
 impl Changes {
@@ -48,6 +51,7 @@ impl Changes {
             states: Condvar::new(),
             room: Condvar::new(),
             hub: Condvar::new(),
+            end: Condvar::new(),
         }
     }
 
@@ -60,6 +64,7 @@ impl Changes {
             Waits::State => &self.states,
             Waits::Room => &self.room,
             Waits::Hub => &self.hub,
+            Waits::End => &self.end,
         }
     }
 
@@ -79,6 +84,9 @@ impl Changes {
         }
         if news.room {
             self.room.notify_all();
+        }
+        if news.end {
+            self.end.notify_all();
         }
         if news.is_any() {
             self.hub.notify_all();

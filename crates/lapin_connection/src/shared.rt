@@ -32,7 +32,6 @@ pub struct Shared {
     pub(crate) source: Source,
     pub(crate) locked: Mutex<Locked>,
     changed: Changes,
-    over: Condvar,
     // where the loop sleeps while it lets callers gather
     gathered: Condvar,
     pub(crate) nudge: Nudge,
@@ -67,7 +66,6 @@ impl Shared {
             source: Source::new(),
             locked: Mutex::new(locked),
             changed: Changes::new(),
-            over: Condvar::new(),
             gathered: Condvar::new(),
             nudge,
             settles_after,
@@ -205,9 +203,6 @@ impl Shared {
         let first = ended.is_none() && guard.has_due() && guard.nudge();
         self.wake(guard, news);
         self.nudge_if(first);
-        if ended.is_some() {
-            self.over.notify_all();
-        }
         ended
     }
 
@@ -332,7 +327,7 @@ impl Shared {
             if let Some(ended) = guard.ended() {
                 return ended;
             }
-            guard = self.over.wait(rt, guard);
+            guard = self.sleep(rt, guard, Waits::End);
         }
         unreachable!()
     }
@@ -354,7 +349,7 @@ impl Shared {
             let Some(left) = patience.left(rt) else {
                 return None;
             };
-            guard = self.over.wait_timeout(rt, guard, left).0;
+            guard = self.sleep_for(rt, guard, Waits::End, left);
         }
         unreachable!()
     }

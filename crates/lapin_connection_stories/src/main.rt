@@ -11,7 +11,8 @@
 //! and how many hands it has, which are callers with a pass each; then its phases, with semicolons between. A phase is
 //! what one hand does, acts with commas between; or what all hands do at once, on a thread each, with bars between.
 //! Its answer is what they see, phase by phase. The modules list the acts: those of a thread (`acts` of
-//! `lapin_connection_acts`), and those of one hand alone (`desk` there; `hands` and `telling`).
+//! `lapin_connection_acts`), and those of one hand alone (`desk` and `outgoing` there; `hands` and
+//! `telling`).
 #![tactic(auto)]
 
 mod connecting;

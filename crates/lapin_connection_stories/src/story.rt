@@ -9,10 +9,10 @@ use amqp_types::NoMemory;
 use amqp_uri::AMQPUri;
 use lapin_connection::{Connection, ConnectionBuilder};
 use lapin_connection_acts::acts::{self, parts_of};
-use lapin_connection_acts::asleep;
 use lapin_connection_acts::desk::{self, Desk};
 use lapin_connection_acts::gate::{Gate, GateSpawner, Refuses, gates};
 use lapin_connection_acts::hand::{Done, Hand, Stage};
+use lapin_connection_acts::{asleep, outgoing};
 use std::alloc::{AllocError, AllocGlobal, Global};
 use std::random::RandomSource;
 use std::rt::Files;
@@ -251,6 +251,9 @@ fn alone<R: Runs>(rt: &R, story: &mut Story, act: &str) -> std::result::Result<b
         return Ok(true);
     }
     if telling::act(rt, &stage, hand, word, number)? {
+        return Ok(true);
+    }
+    if outgoing::act(rt, &stage, hand, word, (number % 65_536) as u16)? {
         return Ok(true);
     }
     if desk::act(rt, &stage, hand, &mut story.desk, word, number)? {

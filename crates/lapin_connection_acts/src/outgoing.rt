@@ -1,0 +1,101 @@
+//! What one caller does that waits for what goes out, or looks in the hub.
+//!
+//! `wait_sent N` and `await_sent N` wait until nothing of the channel of that number waits to go out, and poll for it;
+//! `wait_all` waits until nothing of the connection does. `look N` lends the hub until a send that is entered there, on
+//! the channel of that number, has its answer.
+
+use crate::hand::{Done, Hand, Stage, numbered};
+use crate::many::{enters_send, is_told};
+use amqp_types::NoMemory;
+use futures::executor::block_on;
+use lapin_connection::{Connection, Hub, Pass};
+use std::alloc::{AllocError, AllocGlobal, Global};
+use std::random::RandomSource;
+use std::sync::Wait;
+
+fn waits<R: Wait>(rt: &R, hand: &mut Hand, id: u16) -> Done {
+    let sent = match numbered(&hand.channels, id) {
+        Some(channel) => channel.wait_until_sent(rt),
+        None => return hand.say("NO CHANNEL"),
+    };
+    hand.say_answer(sent)
+}
+
+fn polls<R: Wait + RandomSource + AllocGlobal>(rt: &R, hand: &mut Hand, id: u16) -> Done {
+    let sent = match numbered(&hand.channels, id) {
+        Some(channel) => block_on(rt, channel.until_sent(rt)),
+        None => return hand.say("NO CHANNEL"),
+    };
+    match sent {
+        Ok(Ok(sent)) => hand.say_answer(sent),
+        Ok(Err(NoMemory)) => Err(AllocError),
+        Err(error) => {
+            drop(error);
+            Err(AllocError)
+        }
+    }
+}
+
+fn waits_for_all<R: Wait>(rt: &R, stage: &Stage<'_>, hand: &mut Hand) -> Done {
+    let Some(connection) = stage.connection else {
+        return hand.say("NO CONNECTION");
+    };
+    connection.wait_until_sent(rt);
+    hand.say("all is sent")
+}
+
+// Within one hold: enters a send, where none was, and else whether it has an answer that it was sent.
+fn has_sent(
+    hub: &mut Hub,
+    alloc: Global,
+    pass: &mut Pass,
+    promise: &mut Option<u64>,
+    id: u16,
+) -> Option<bool> {
+    match *promise {
+        Some(number) => is_told(hub.poll(number)),
+        None => {
+            *promise = enters_send(hub, alloc, pass, id);
+            if promise.is_some() { None } else { Some(false) }
+        }
+    }
+}
+
+// Whether a send that is entered in the hub is answered as sent.
+fn sends<R: Wait>(
+    rt: &R,
+    connection: &Connection,
+    alloc: Global,
+    pass: &mut Pass,
+    id: u16,
+) -> bool {
+    let mut promise = None;
+    connection.wait_with_hub(rt, |hub| has_sent(hub, alloc, pass, &mut promise, id))
+}
+
+fn looks<R: Wait>(rt: &R, stage: &Stage<'_>, hand: &mut Hand, id: u16) -> Done {
+    let alloc = hand.alloc;
+    let sent = match (stage.connection, hand.passes.first_mut()) {
+        (Some(connection), Some(pass)) => sends(rt, connection, alloc, pass, id),
+        _ => false,
+    };
+    hand.say_whether("found", sent)
+}
+
+/// Does an act of one who waits for what goes out, or looks in the hub. Whether it is one.
+pub fn act<R: Wait + RandomSource + AllocGlobal>(
+    rt: &R,
+    stage: &Stage<'_>,
+    hand: &mut Hand,
+    word: &str,
+    id: u16,
+) -> Result<bool, AllocError> {
+    match word {
+        "wait_sent" => waits(rt, hand, id)?,
+        "await_sent" => polls(rt, hand, id)?,
+        "wait_all" => waits_for_all(rt, stage, hand)?,
+        "look" => looks(rt, stage, hand, id)?,
+        _ => return Ok(false),
+    }
+    Ok(true)
+}
