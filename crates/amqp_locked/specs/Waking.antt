@@ -50,11 +50,11 @@ news_after before after = record {
 
 -- no task waits any more that waits for what there is something of
 pub record AreWoken (news : News) (tasks : Tasks) : Type 0 where
-  pub answers : news.answers ≡ true → tasks.answers ≡ []
-  pub frames : news.frames ≡ true → tasks.frames ≡ []
-  pub events : news.events ≡ true → tasks.events ≡ []
-  pub states : news.states ≡ true → tasks.states ≡ []
-  pub room : news.room ≡ true → tasks.room ≡ []
+  pub answers : news.answers ≡ true → tasks.answers.wakers ≡ []
+  pub frames : news.frames ≡ true → tasks.frames.wakers ≡ []
+  pub events : news.events ≡ true → tasks.events.wakers ≡ []
+  pub states : news.states ≡ true → tasks.states.wakers ≡ []
+  pub room : news.room ≡ true → tasks.room.wakers ≡ []
 
 -- what is counted under a lock
 abbrev pub counts_of : Locked → Counts
