@@ -40,6 +40,7 @@ use std::collections::VecDeque;
 mod letting_go;
 mod looking;
 mod reading;
+mod room;
 mod sending;
 mod settling;
 mod turning;

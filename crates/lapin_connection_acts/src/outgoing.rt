@@ -1,7 +1,8 @@
 //! What one caller does that waits for what goes out, or looks in the hub.
 //!
 //! `wait_sent N` and `await_sent N` wait until nothing of the channel of that number waits to go out, and poll for it;
-//! `wait_all` waits until nothing of the connection does. `look N` lends the hub until a send that is entered there, on
+//! `wait_all` waits until nothing of the connection does. `room N` waits for a moment for room for a send on that
+//! channel, `wait_room N` until there is, and `await_room N` polls for it. `look N` lends the hub until a send that is entered there, on
 //! the channel of that number, has its answer.
 
 use crate::hand::{Done, Hand, Stage, numbered};
@@ -12,6 +13,10 @@ use lapin_connection::{Connection, Hub, Pass};
 use std::alloc::{AllocError, AllocGlobal, Global};
 use std::random::RandomSource;
 use std::sync::Wait;
+use std::time::{Clock, Duration};
+
+/// How many octets a send of a story has.
+const SEND: u64 = 12;
 
 fn waits<R: Wait>(rt: &R, hand: &mut Hand, id: u16) -> Done {
     let sent = match numbered(&hand.channels, id) {
@@ -42,6 +47,37 @@ fn waits_for_all<R: Wait>(rt: &R, stage: &Stage<'_>, hand: &mut Hand) -> Done {
     };
     connection.wait_until_sent(rt);
     hand.say("all is sent")
+}
+
+fn waits_for_room<R: Wait>(rt: &R, hand: &mut Hand, id: u16) -> Done {
+    let room = match numbered(&hand.channels, id) {
+        Some(channel) => channel.wait_for_room(rt, SEND),
+        None => return hand.say("NO CHANNEL"),
+    };
+    hand.say_answer(room)
+}
+
+fn waits_a_moment<R: Wait + Clock>(rt: &R, hand: &mut Hand, id: u16) -> Done {
+    let room = match numbered(&hand.channels, id) {
+        Some(channel) => channel.wait_for_room_for(rt, SEND, Duration::from_millis(10)),
+        None => return hand.say("NO CHANNEL"),
+    };
+    hand.say_found(room)
+}
+
+fn polls_for_room<R: Wait + RandomSource + AllocGlobal>(rt: &R, hand: &mut Hand, id: u16) -> Done {
+    let room = match numbered(&hand.channels, id) {
+        Some(channel) => block_on(rt, channel.until_room(rt, SEND)),
+        None => return hand.say("NO CHANNEL"),
+    };
+    match room {
+        Ok(Ok(room)) => hand.say_answer(room),
+        Ok(Err(NoMemory)) => Err(AllocError),
+        Err(error) => {
+            drop(error);
+            Err(AllocError)
+        }
+    }
 }
 
 // Within one hold: enters a send, where none was, and else whether it has an answer that it was sent.
@@ -83,7 +119,7 @@ fn looks<R: Wait>(rt: &R, stage: &Stage<'_>, hand: &mut Hand, id: u16) -> Done {
 }
 
 /// Does an act of one who waits for what goes out, or looks in the hub. Whether it is one.
-pub fn act<R: Wait + RandomSource + AllocGlobal>(
+pub fn act<R: Wait + Clock + RandomSource + AllocGlobal>(
     rt: &R,
     stage: &Stage<'_>,
     hand: &mut Hand,
@@ -94,6 +130,9 @@ pub fn act<R: Wait + RandomSource + AllocGlobal>(
         "wait_sent" => waits(rt, hand, id)?,
         "await_sent" => polls(rt, hand, id)?,
         "wait_all" => waits_for_all(rt, stage, hand)?,
+        "room" => waits_a_moment(rt, hand, id)?,
+        "wait_room" => waits_for_room(rt, hand, id)?,
+        "await_room" => polls_for_room(rt, hand, id)?,
         "look" => looks(rt, stage, hand, id)?,
         _ => return Ok(false),
     }

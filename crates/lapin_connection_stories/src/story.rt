@@ -70,6 +70,11 @@ fn recovering(alloc: Global) -> std::result::Result<ConnectionProperties, NoMemo
     options.enable_auto_recover(alloc)
 }
 
+// Options of a connection where no more than one send may wait.
+fn limited(alloc: Global) -> std::result::Result<ConnectionProperties, NoMemory> {
+    Ok(ConnectionProperties::new(alloc)?.with_outbox_limit(20))
+}
+
 // A connection by a builder, which settles after so many octets, if that is said.
 fn built<R: Threads + Wait + Clock + Copy + Send + Drop + 'static>(
     rt: R,
@@ -112,6 +117,22 @@ fn connected<R: Threads + Wait + Clock + Copy + Send + Drop + 'static>(
     connection
 }
 
+// The same, where there is memory for the options.
+fn connected_by<R: Threads + Wait + Clock + Copy + Send + Drop + 'static>(
+    rt: R,
+    alloc: Global,
+    spawner: GateSpawner<R>,
+    options: std::result::Result<ConnectionProperties, NoMemory>,
+) -> Result<Connection> {
+    match options {
+        Ok(options) => connected(rt, alloc, spawner, options),
+        Err(refused) => {
+            drop(spawner);
+            Err(refused.into())
+        }
+    }
+}
+
 // A connection over a gate, by this word.
 fn connection_by<R: Threads + Wait + Clock + Copy + Send + Drop + 'static>(
     rt: R,
@@ -123,20 +144,9 @@ fn connection_by<R: Threads + Wait + Clock + Copy + Send + Drop + 'static>(
     match word {
         "built" => built(rt, alloc, spawner, None),
         "settling" => built(rt, alloc, spawner, Some(3)),
-        "recovering" => match recovering(alloc) {
-            Ok(options) => connected(rt, alloc, spawner, options),
-            Err(refused) => {
-                drop(spawner);
-                Err(refused.into())
-            }
-        },
-        _ => match ConnectionProperties::new(alloc) {
-            Ok(options) => connected(rt, alloc, spawner, options),
-            Err(refused) => {
-                drop(spawner);
-                Err(refused.into())
-            }
-        },
+        "recovering" => connected_by(rt, alloc, spawner, recovering(alloc)),
+        "limited" => connected_by(rt, alloc, spawner, limited(alloc)),
+        _ => connected_by(rt, alloc, spawner, ConnectionProperties::new(alloc)),
     }
 }
 

@@ -72,8 +72,8 @@ pub(super) fn cleared_after(session: &Session, before: u64) -> u64
     }
 }
 
-// What is told of a channel in this state once nothing waits that was sent on it.
-fn told_in(state: ChannelState) -> Result<()>
+/// What is told of a channel in this state once nobody waits for what goes out.
+pub(super) fn told_in(state: ChannelState) -> Result<()>
     ensures { result ≡ told_in state }
 {
     match state {

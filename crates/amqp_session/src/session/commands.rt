@@ -313,9 +313,9 @@ impl Session {
         }
     }
 
-    // How many octets would wait with so many more, where they are more than the limit that was set. No
-    // number is greater than the greatest of its type.
-    fn overflow(&self, more: u64) -> Option<u64>
+    /// How many octets would wait with so many more, where they are more than the limit that was set. No
+    /// number is greater than the greatest of its type.
+    pub fn overflow(&self, more: u64) -> Option<u64>
         ensures { (octets : ℕ) → more ≡ capped octets → result ≡
             above_limit self.now.config.options.outbox_limit (capped (unsent_octets self.now.outbox + octets)) }
     {
