@@ -13,8 +13,8 @@ use Rattle.amqp_rules.specs.Writing.{frames_waiting}
 use Rattle.amqp_locked.specs.Sending.{told_in}
 
 -- there is room for so many octets: with them no more would wait than may, or nothing waits
-abbrev pub has_room : ℕ → Talk → Bool
-has_room octets t =
+abbrev pub finds_room : ℕ → Talk → Bool
+finds_room octets t =
     not (is_some (above_limit t.config.options.outbox_limit (capped (unsent_octets t.outbox + octets))))
     || (frames_waiting t == 0)
 
@@ -26,4 +26,4 @@ ends_waiting _ room = true
 -- nothing is known while there is no room for so many octets; then what is told of the channel's state
 abbrev pub told_of_room : Talk → ChanRef → ℕ → Option (Result (Unit {0}) ErrorKind)
 told_of_room t channel octets =
-    if ends_waiting t.state (has_room octets t) then Some (told_in (channel_state channel t)) else None
+    if ends_waiting t.state (finds_room octets t) then Some (told_in (channel_state channel t)) else None

@@ -1,50 +1,47 @@
 -- For whom there is something after a turn.
-use Rattle.std.specs.Prelude.{◌≡◌, ◌==◌, ◌||◌, ◌&&◌, not, nat_lt, Bool, true, false, [], length}
-use Rattle.amqp_promise.specs.declared.state.ConnectionState.{ConnectionState}
-use Rattle.amqp_promise.specs.declared.state.ConnectionState.TheVariants.{Connected}
+use Rattle.std.specs.Prelude.{◌≡◌, ◌==◌, ◌||◌, ◌&&◌, not, nat_lt, Bool, true, [], length}
+use Rattle.amqp_rules.specs.Ticks.{is_connected}
 use Rattle.amqp_rules.specs.Writing.{frames_waiting}
 use Rattle.amqp_locked.specs.declared.locked.Locked.{Locked}
 use Rattle.amqp_locked.specs.declared.waking.Counts.{Counts}
 use Rattle.amqp_locked.specs.declared.waking.News.{News}
 use Rattle.amqp_locked.specs.declared.tasks.Tasks.{Tasks}
 
--- a connection in this state is open
-abbrev pub is_open : ConnectionState → Bool
-is_open Connected = true
-is_open _ = false
-
 -- anything may be another than before: the connection is not open or was not, the number of its channels is another
 -- one, or a step came, or a mark was acted on, by which anything may change
 abbrev pub moved : Counts → Counts → Bool
 moved before after =
-    not (is_open before.state) || (not (is_open after.state)
+    not (is_connected before.state) || (not (is_connected after.state)
     || (not (after.listed == before.listed) || not (after.seen.others == before.seen.others)))
 
--- frames came whole; some of them on channels; the port took octets; it did while replies to frames that came on
--- channels might wait; and less waits to go out
+-- frames came whole
 abbrev pub came : Counts → Counts → Bool
 came before after = not (after.seen.frames == before.seen.frames)
 
-abbrev pub handed : Counts → Counts → Bool
-handed before after = not (after.seen.handed == before.seen.handed)
+-- frames came whole on channels
+abbrev pub came_on_channels : Counts → Counts → Bool
+came_on_channels before after = not (after.seen.handed == before.seen.handed)
 
-abbrev pub took : Counts → Counts → Bool
-took before after = not (after.seen.taken == before.seen.taken)
+-- the port took octets
+abbrev pub port_took : Counts → Counts → Bool
+port_took before after = not (after.seen.taken == before.seen.taken)
 
-abbrev pub replies : Counts → Counts → Bool
-replies before after = took before after && not (before.seen.handed == before.seen.replied)
+-- it did while replies to frames that came on channels might wait
+abbrev pub has_replied : Counts → Counts → Bool
+has_replied before after = port_took before after && not (before.seen.handed == before.seen.replied)
 
+-- less waits to go out
 abbrev pub eased : Counts → Counts → Bool
 eased before after = nat_lt after.waiting before.waiting || not (after.cleared == before.cleared)
 
 -- for whom there is something: each kind of wait with what may make true what it waits for
 abbrev pub news_after : Counts → Counts → News
 news_after before after = record {
-  answers = moved before after || (came before after || took before after);
-  frames = moved before after || handed before after;
-  events = moved before after || (came before after || replies before after);
+  answers = moved before after || (came before after || port_took before after);
+  frames = moved before after || came_on_channels before after;
+  events = moved before after || (came before after || has_replied before after);
   states = moved before after || came before after;
-  room = moved before after || (eased before after || took before after);
+  room = moved before after || (eased before after || port_took before after);
   end = moved before after;
 }
 

@@ -1,7 +1,8 @@
 //! For whom there is something after a turn: by counts before and after it.
 
 ghost use Rattle.std.specs.Prelude.{◌≡◌};
-ghost use Rattle.amqp_locked.specs.Waking.{is_open, moved, news_after};
+ghost use Rattle.amqp_rules.specs.Ticks.{is_connected};
+ghost use Rattle.amqp_locked.specs.Waking.{moved, news_after};
 
 use crate::reading::Reading;
 use amqp_engine::Step;
@@ -97,15 +98,15 @@ pub(crate) fn news_after(before: Counts, after: Counts) -> News
 fn moved(before: Counts, after: Counts) -> bool
     ensures { result ≡ moved before after }
 {
-    !is_open(before.state)
-        || !is_open(after.state)
+    !is_connected(before.state)
+        || !is_connected(after.state)
         || after.listed != before.listed
         || after.seen.others != before.seen.others
 }
 
 // Whether a connection in this state is open.
-fn is_open(state: ConnectionState) -> bool
-    ensures { result ≡ is_open state }
+fn is_connected(state: ConnectionState) -> bool
+    ensures { result ≡ is_connected state }
 {
     matches!(state, ConnectionState::Connected)
 }

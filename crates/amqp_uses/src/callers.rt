@@ -74,6 +74,20 @@ pub fn publish<R: Wait>(
     channel.publish_raw(rt, pass, method, properties, body)
 }
 
+/// The same, once there is room for it: the octets of its frames are those of the text and some 70 more.
+pub fn publish_with_room<R: Wait>(
+    rt: &R,
+    alloc: Global,
+    channel: &Channel,
+    pass: &mut Pass,
+    text: &str,
+) -> Result<Pending<()>>
+    ensures made { OnOk result (pass.new.made ≡ pass.old.made + 1) }
+{
+    channel.wait_for_room(rt, (text.len() as u64).saturating_add(100))?;
+    publish(rt, alloc, channel, pass, text)
+}
+
 /// Publishes one text and closes all, with whatever the connection ended. A channel that is dropped is
 /// closed, and then the connection that is run.
 pub fn publish_once<S: Spawner, R: Threads + Wait + Clock + Copy + Send + 'static>(

@@ -11,7 +11,7 @@ use Rattle.amqp_locked.specs.Room.{told_of_room}
 abbrev pub IsToldOpen : Result (Unit {0}) ErrorKind → Type 0
 IsToldOpen told = (state : ChannelState) × (told ≡ told_in state)
 
--- it is told of room for so many octets in some state of the session: where it is Ok, there was room, or the session was
--- not open, and the channel was
+-- it is told of room for so many octets in some state of the session: where it is Ok, there was room, or the session
+-- was not open, and the channel was
 abbrev pub IsToldOfRoom : ChanRef → ℕ → Result (Unit {0}) ErrorKind → Type 0
 IsToldOfRoom channel octets told = (t : Talk) × (told_of_room t channel octets ≡ Some told)

@@ -2,8 +2,8 @@
 //!
 //! `wait_sent N` and `await_sent N` wait until nothing of the channel of that number waits to go out, and poll for it;
 //! `wait_all` waits until nothing of the connection does. `room N` waits for a moment for room for a send on that
-//! channel, `wait_room N` until there is, and `await_room N` polls for it. `look N` lends the hub until a send that is entered there, on
-//! the channel of that number, has its answer.
+//! channel, `wait_room N` until there is, and `await_room N` polls for it. `look N` lends the hub until a send that is
+//! entered there, on the channel of that number, has its answer.
 
 use crate::hand::{Done, Hand, Stage, numbered};
 use crate::many::{enters_send, is_told};

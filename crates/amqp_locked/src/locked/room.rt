@@ -4,7 +4,7 @@ ghost use Rattle.std.specs.Prelude.{◌≡◌};
 ghost use Rattle.futures.specs.Task.{Covers, Keeps};
 ghost use Rattle.futures.specs.Poll.{OnPending};
 ghost use Rattle.amqp_locked.specs.UnderLock.{contents};
-ghost use Rattle.amqp_locked.specs.Room.{has_room, ends_waiting, told_of_room};
+ghost use Rattle.amqp_locked.specs.Room.{finds_room, ends_waiting, told_of_room};
 ghost use Rattle.amqp_locked.specs.Taking.{polled_of};
 
 use super::Locked;
@@ -21,7 +21,7 @@ impl Locked {
         ensures { result ≡ told_of_room self.now.hub.engine.talk channel octets }
     {
         let session = self.hub.session();
-        if ends_waiting(session.state(), has_room(session, octets)) {
+        if ends_waiting(session.state(), finds_room(session, octets)) {
             return Some(told_in(session.channel_state(channel)));
         }
         None
@@ -52,8 +52,8 @@ impl Locked {
 }
 
 // Whether there is room for so many octets: with them no more would wait than may, or nothing waits.
-fn has_room(session: &Session, octets: u64) -> bool
-    ensures { result ≡ has_room octets session.now }
+fn finds_room(session: &Session, octets: u64) -> bool
+    ensures { result ≡ finds_room octets session.now }
 {
     session.overflow(octets).is_none() || session.waiting() == 0
 }
