@@ -154,10 +154,11 @@ impl Seen {
                 }
             }
             Step::Room | Step::Tick => seen,
-            _ => {
+            Step::Linked => {
                 reading.begin();
                 seen.with_other()
             }
+            _ => seen.with_other(),
         }
     }
 
