@@ -21,6 +21,6 @@ pub record ClosesFrom (left : ℕ) (idle idle' : List ChanRef) (h h' : Guarded) 
   pub made : pass'.made ≡ pass.made + length (drop left idle)
   pub number : pass'.number ≡ pass.number
 
--- why a close is refused: the pass is not of the hub, or memory is wanting
+-- why a close is refused, of hub and pass as they are left: the pass is not of the hub, or memory is wanting
 abbrev pub IsCloseRefused : Guarded → Pass → ErrorKind → Type 0
 IsCloseRefused h pass e = (foreign pass h.counts ≡ Some e) ⊎ (e ≡ NoMemory)

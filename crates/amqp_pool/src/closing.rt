@@ -1,8 +1,7 @@
 //! The channels of a pool are closed.
 
-ghost use Rattle.std.specs.Prelude.{◌≡◌, ◌+◌, ◌≤◌, ℕ, take, drop, length, IfErr, OnOk, OnErr, vec_capacity};
+ghost use Rattle.std.specs.Prelude.{◌≡◌, ◌+◌, ◌≤◌, ℕ, length, IfErr, OnOk, OnErr, vec_capacity};
 ghost use Rattle.amqp_commands.specs.declared.command.Cmd.TheVariants.{DropChannel};
-ghost use Rattle.amqp_hub.specs.Passes.{foreign};
 ghost use Rattle.amqp_hub.specs.Entering.{called};
 ghost use Rattle.amqp_pool.specs.Closing.{ClosesFrom, IsCloseRefused};
 
@@ -14,7 +13,7 @@ pub fn close_each(idle: &mut Vec<ChanRef>, hub: &mut Hub, pass: &mut Pass) -> Re
     ensures closed { (left : ℕ)
         × ClosesFrom left idle.old.items idle.new.items hub.old hub.new pass.old pass.new }
     ensures none { OnOk result (length idle.new.items ≡ 0) }
-    ensures refused { IfErr result (λ e. IsCloseRefused hub.old pass.old e) }
+    ensures refused { IfErr result (λ e. IsCloseRefused hub.new pass.new e) }
     ensures places { vec_capacity idle.new ≡ vec_capacity idle.old }
     ensures promises { hub.old.engine.talk.made ≤ hub.new.engine.talk.made }
 {
@@ -34,7 +33,7 @@ fn close_one(channel: ChanRef, hub: &mut Hub, pass: &mut Pass) -> Result<()>
     ensures made { OnOk result (pass.new.made ≡ pass.old.made + 1) }
     ensures number { pass.new.number ≡ pass.old.number }
     ensures err { OnErr result ((hub.new ≡ hub.old) × (pass.new ≡ pass.old)) }
-    ensures refused { IfErr result (λ e. IsCloseRefused hub.old pass.old e) }
+    ensures refused { IfErr result (λ e. IsCloseRefused hub.new pass.new e) }
     ensures promises { hub.old.engine.talk.made ≤ hub.new.engine.talk.made }
 {
     let (_, receipt) = hub.command(pass, Cmd::DropChannel(channel))?;

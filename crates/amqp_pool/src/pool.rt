@@ -169,7 +169,7 @@ impl Pool {
         ensures none { OnOk result (length self.new.idle ≡ 0) }
         ensures rest { (self.new.limit ≡ self.old.limit) × (self.new.leased ≡ self.old.leased)
             × (self.new.opening ≡ self.old.opening) }
-        ensures refused { IfErr result (λ e. IsCloseRefused hub.old pass.old e) }
+        ensures refused { IfErr result (λ e. IsCloseRefused hub.new pass.new e) }
         ensures still_made { AreMade self.new hub.new.engine.talk }
         ensures promises { hub.old.engine.talk.made ≤ hub.new.engine.talk.made }
     {
