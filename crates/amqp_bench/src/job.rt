@@ -11,6 +11,9 @@ const LONGEST: u32 = 131_064;
 /// The greatest channel that the server has.
 const CHANNELS: u16 = 2_047;
 
+/// After so many octets a journal begins anew, where nothing else is said.
+const SETTLES_AFTER: u64 = 1 << 20;
+
 /// What is to be done, and how often.
 #[derive(Clone, Copy)]
 pub enum Job {
@@ -132,14 +135,17 @@ fn with_three(kind: &str, first: &str, second: &str, third: &str) -> Option<Job>
 }
 
 // What a word and three numbers before an address ask for.
-fn with_address(kind: &str, size: &str, count: &str, settles_after: &str) -> Option<Job> {
-    if kind != "loopback" {
-        return None;
-    }
+fn with_address(kind: &str, size: &str, count: &str, third: &str) -> Option<Job> {
+    let (settles_after, under_way) = match kind {
+        "loopback" => (count_of(third)?, 0),
+        "window" => (SETTLES_AFTER, count_of(third)?.max(1)),
+        _ => return None,
+    };
     Some(Job::Loopback(Batches {
         size: size_of(size)?,
         count: count_of(count)?,
-        settles_after: count_of(settles_after)?,
+        settles_after,
+        under_way,
     }))
 }
 

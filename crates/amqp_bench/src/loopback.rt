@@ -5,19 +5,22 @@ use amqp_session::{ErrorKind, Properties, Result};
 use amqp_types::Payload;
 use lapin_connection::{Channel, Connection, ConnectionBuilder, Pass, Pending, Spawner};
 use std::alloc::Global;
+use std::collections::VecDeque;
 use std::sync::Wait;
 use std::thread::Threads;
+use std::time::Clock;
 
 /// So many octets may be under way before the caller waits.
 const UNDER_WAY: u64 = 4 << 20;
 
-/// So many messages of a size, in batches: while a batch is told, the one before it is on its way. After so
-/// many octets the journal begins anew; 0 where it never does.
+/// So many messages of a size, in batches: while a batch is told, the one before it is on its way; or, where that is
+/// not 0, with so many under way. After so many octets the journal begins anew; 0 where it never does.
 #[derive(Clone, Copy)]
 pub struct Batches {
     pub size: u32,
     pub count: u64,
     pub settles_after: u64,
+    pub under_way: u64,
 }
 
 impl Batches {
@@ -81,6 +84,56 @@ fn publish_all<R: Wait>(
     Ok(written.saturating_add(each))
 }
 
+// Publishes one by one, with so many under way: how many messages were written.
+fn publish_each<R: Wait>(
+    rt: &R,
+    alloc: Global,
+    to: &mut Publisher,
+    body: &[u8],
+    batches: Batches,
+) -> Result<u64> {
+    let mut written = 0u64;
+    let mut window = VecDeque::new(alloc);
+    for _ in 0..batches.count {
+        if window.len() as u64 >= batches.under_way {
+            written = written.saturating_add(wait_for_first(rt, &mut window)?);
+        }
+        let last = publish(rt, alloc, to, body)?;
+        if window.push_back(last).is_err() {
+            return Err(ErrorKind::NoMemory.into());
+        }
+    }
+    for _ in 0..window.len() {
+        written = written.saturating_add(wait_for_first(rt, &mut window)?);
+    }
+    Ok(written)
+}
+
+// Waits for the first of these.
+fn wait_for_first<R: Wait>(rt: &R, window: &mut VecDeque<Pending<()>>) -> Result<u64> {
+    match window.pop_front() {
+        Some(first) => {
+            first.wait(rt)?;
+            Ok(1)
+        }
+        None => Ok(0),
+    }
+}
+
+// Publishes as it is told.
+fn publish_so<R: Wait>(
+    rt: &R,
+    alloc: Global,
+    to: &mut Publisher,
+    body: &[u8],
+    batches: Batches,
+) -> Result<u64> {
+    if batches.under_way > 0 {
+        return publish_each(rt, alloc, to, body, batches);
+    }
+    publish_all(rt, alloc, to, body, batches)
+}
+
 // Opens a channel on a connection.
 fn open_publisher<R: Wait>(rt: &R, connection: &Connection) -> Result<Publisher> {
     connection.opened()?.wait(rt)?;
@@ -90,7 +143,7 @@ fn open_publisher<R: Wait>(rt: &R, connection: &Connection) -> Result<Publisher>
 }
 
 // Connects by a runtime, which it uses up.
-fn connected<S: Spawner + Drop, R: Threads + Wait + Copy + Send + 'static>(
+fn connected<S: Spawner + Drop, R: Threads + Wait + Clock + Copy + Send + 'static>(
     rt: R,
     alloc: Global,
     address: String,
@@ -107,7 +160,7 @@ fn connected<S: Spawner + Drop, R: Threads + Wait + Copy + Send + 'static>(
     connection
 }
 
-fn loopback_by<S: Spawner + Drop, R: Threads + Wait + Copy + Send + 'static>(
+fn loopback_by<S: Spawner + Drop, R: Threads + Wait + Clock + Copy + Send + 'static>(
     rt: R,
     alloc: Global,
     batches: Batches,
@@ -117,7 +170,7 @@ fn loopback_by<S: Spawner + Drop, R: Threads + Wait + Copy + Send + 'static>(
 ) -> Result<u64> {
     let connection = connected(rt, alloc, address, runtime, batches.settles_after)?;
     let mut to = open_publisher(&rt, &connection)?;
-    let written = publish_all(&rt, alloc, &mut to, body, batches);
+    let written = publish_so(&rt, alloc, &mut to, body, batches);
     drop(to);
     drop(connection);
     written
@@ -125,7 +178,7 @@ fn loopback_by<S: Spawner + Drop, R: Threads + Wait + Copy + Send + 'static>(
 
 /// Publishes messages of a size to the server of an address, as many as whole batches have. How many were
 /// written; nothing where memory was refused or the connection ended.
-pub fn loopback<S: Spawner + Drop, R: Threads + Wait + Copy + Send + 'static>(
+pub fn loopback<S: Spawner + Drop, R: Threads + Wait + Clock + Copy + Send + 'static>(
     rt: R,
     alloc: Global,
     batches: Batches,

@@ -31,7 +31,8 @@ const USAGE: &str =
     "usage: amqp_bench write SIZE COUNT | read SIZE COUNT | sends COUNT | settles COUNT \
     | publishes CHANNELS SIZE COUNT | closes CHANNELS SIZE COUNT | server-closes CHANNELS SIZE COUNT \
     | messages-out SIZE COUNT EACH | messages-in SIZE COUNT | growth CASE COUNT \
-    | publishes COUNT | turns COMMANDS COUNT | loopback SIZE COUNT SETTLES_AFTER ADDRESS";
+    | publishes COUNT | turns COMMANDS COUNT | loopback SIZE COUNT SETTLES_AFTER ADDRESS \
+    | window SIZE COUNT UNDER_WAY ADDRESS";
 
 // What is needed of the runtime.
 trait Runs: Threads + Wait + Clock + Net + Copy + Send + Drop + 'static {}

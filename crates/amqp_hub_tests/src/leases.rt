@@ -5,7 +5,7 @@ ghost use Rattle.amqp_pool.specs.Pooled.{AreMade};
 use crate::support::{Happens, Outcome, Over, hub_that_plays, turn};
 use amqp_hub::{Hub, Pass};
 use amqp_pool::{Back, Lease, Leased, Pool};
-use amqp_session::ErrorKind;
+use amqp_session::{ChanRef, ChannelState, ErrorKind};
 use amqp_vectors::{
     CHANNEL_CLOSE_404_1, CHANNEL_OPEN_OK_1, CHANNEL_OPEN_OK_2, OPEN_OK, START, TUNE_2,
 };
@@ -202,9 +202,39 @@ fn is_foreign(alloc: Global, over: &mut Over, pool: &mut Pool, pass: &mut Pass) 
     }
 }
 
+// ---- the first row goes on: the channel is closed
+
+// Whether this is Ok. It takes it.
+fn succeeds(answer: amqp_session::Result<()>) -> bool {
+    match answer {
+        Ok(()) => true,
+        Err(error) => {
+            drop(error);
+            false
+        }
+    }
+}
+
+// The idle channel is closed by one command, and forgotten; then there is none to close.
+fn closes(over: &mut Over, pool: &mut Pool, pass: &mut Pass) -> bool
+    requires made { AreMade pool.old over.old.hub.engine.talk }
+    ensures made { AreMade pool.new over.new.hub.engine.talk }
+{
+    let made = pass.made();
+    let closed = succeeds(pool.close(&mut over.hub, pass))
+        && succeeds(pool.close(&mut over.hub, pass));
+    let channel = ChanRef {
+        id: 1,
+        opened: Some(1),
+    };
+    let closing = over.hub.session().channel_state(channel) == ChannelState::Closing;
+    closed && closing && pool.counts() == (0, 0, 0) && pass.made() == made.saturating_add(1)
+}
+
 fn rows_in(alloc: Global, over: &mut Over, pass: &mut Pass, goes_on: bool) -> bool {
     let mut pool = Pool::new(alloc, 1);
-    let first = opens_and_lends(over, &mut pool, pass);
+    let first = opens_and_lends(over, &mut pool, pass)
+        && (goes_on || closes(over, &mut pool, pass));
     let second = !goes_on
         || (loses_it(over, &mut pool, pass) == Came::Lost
             && answers(&mut pool, &mut over.hub, pass, Told::Opening(2))

@@ -22,6 +22,7 @@ use lapin_connection::{Channel, Connection, Pass, Spawner};
 use std::alloc::Global;
 use std::sync::Wait;
 use std::thread::Threads;
+use std::time::Clock;
 
 /// The reply code of a close without an error.
 const SUCCESS: u16 = 200;
@@ -54,7 +55,7 @@ impl From<Error> for Stop {
 /// are `live` and the address. It gives the exit status: 0 once all three lines are said, 2 for other words,
 /// 4 for a sink that failed, 5 for an error, and 7 where memory was refused. It waits for the server as long as
 /// its port does.
-pub fn top_live<K: Sink, S: Spawner, R: Threads + Wait + Copy + Send + 'static>(
+pub fn top_live<K: Sink, S: Spawner, R: Threads + Wait + Clock + Copy + Send + 'static>(
     rt: R,
     alloc: Global,
     words: &[Text],
@@ -139,7 +140,7 @@ fn say<K: Sink>(sink: &mut K, line: &[u8]) -> std::result::Result<(), Stop>
 }
 
 // All of it: connects, and then says what is done.
-fn converse<K: Sink, S: Spawner, R: Threads + Wait + Copy + Send + 'static>(
+fn converse<K: Sink, S: Spawner, R: Threads + Wait + Clock + Copy + Send + 'static>(
     rt: R,
     alloc: Global,
     uri: &str,
@@ -197,7 +198,7 @@ fn ended_by<R: Wait>(rt: &R, connection: &Connection, error: Error) -> Error {
 
 // A connection, which opens by and by.
 #[tactic(auto, using(crate::proofs::Asking::asks_for))]
-fn connect<S: Spawner, R: Threads + Wait + Copy + Send + 'static>(
+fn connect<S: Spawner, R: Threads + Wait + Clock + Copy + Send + 'static>(
     rt: R,
     alloc: Global,
     uri: &str,

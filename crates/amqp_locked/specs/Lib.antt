@@ -4,6 +4,8 @@ pub mod UnderLock
 pub mod Looking
 -- what is known of what was sent on a channel
 pub mod Sending
+-- whether there is room for what is to be sent
+pub mod Room
 -- what a turn does under the lock
 pub mod Turning
 -- what is taken by a poll
@@ -16,3 +18,5 @@ pub mod LettingGo
 pub mod Tidying
 -- whether a channel goes on after an error
 pub mod Recovering
+-- for whom there is something after a turn
+pub mod Waking

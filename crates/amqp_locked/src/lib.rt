@@ -11,9 +11,14 @@ mod backlog;
 mod heard;
 mod late;
 mod locked;
+mod pace;
 mod polled;
+mod reading;
+mod tasks;
+mod waking;
 mod weights;
 
 pub use heard::{Heard, Line, hear};
 pub use locked::Locked;
 pub use polled::{Polled, Taken};
+pub use waking::{Counts, News};

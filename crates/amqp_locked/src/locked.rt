@@ -1,7 +1,7 @@
 //! What lies under the lock: a hub, the places of its handles, and who waits to be woken.
 
 ghost use Rattle.std.specs.Prelude.{◌≡◌, ◌≤◌, ◌<◌, ◌⊎◌, ◌+◌, ◌++◌, ℕ, [], true, map, replicate, ◌∷◌, IfOk, IfErr, IfNone, IfSome, OnOk, OnErr, None, Some, Ok, length, IsSome, false, not};
-ghost use Rattle.std.specs.Fn.{FnOnceReturnsAtMut};
+ghost use Rattle.std.specs.Fn.{FnOnceReturnsAtMut, CalledAtMut};
 ghost use Rattle.futures.specs.Task.{Covers, Keeps};
 ghost use Rattle.futures.specs.Poll.{OnPending};
 ghost use Rattle.amqp_rules.specs.Talk.{has_ended};
@@ -18,16 +18,21 @@ ghost use Rattle.amqp_locked.specs.Turning.{TurnsAfterMarks, StarvesAfterMarks};
 ghost use Rattle.amqp_locked.specs.Taking.{answer_given, polled_of};
 ghost use Rattle.amqp_locked.specs.Backlog.{frames_kept, frames_next, frames_after, TakesFirst};
 ghost use Rattle.amqp_locked.specs.Recovering.{FoundOf};
+ghost use Rattle.amqp_locked.specs.Waking.{AreWoken};
 
 use self::sending::cleared_after;
 use crate::backlog::Backlog;
 use crate::heard::{Heard, Line};
 use crate::late::Late;
+use crate::pace::Pace;
 use crate::polled::{Polled, Taken};
+use crate::reading::Reading;
+use crate::tasks::Tasks;
+use crate::waking::{News, Seen};
 use crate::weights::Weights;
 use amqp_engine::Port;
 use amqp_hub::{DropMark, Found, Hub, Owner, Pass, Places, Receipt};
-use amqp_promise::{ChannelState, Wakers};
+use amqp_promise::ChannelState;
 use amqp_session::{Answer, AuthProvider, ChanRef, Cmd, Error, ErrorKind, Event, Handed, Result};
 use amqp_types::NoMemory;
 use futures::task::{Context, Poll, Source};
@@ -38,8 +43,10 @@ mod bounding;
 mod letting_go;
 mod looking;
 mod reading;
+mod room;
 mod sending;
 mod settling;
+mod turning;
 
 // How long the mark of a channel is put off, where nothing else is said.
 const DROP_LIMIT: u64 = 60_000;
@@ -67,7 +74,11 @@ pub struct Locked {
     weighed: usize,
     // what waits to be taken beside the session, where only so much may
     backlog: Backlog,
-    wakers: Wakers,
+    // what was seen of the turns, how far the frames of the link came, and how the callers go on
+    seen: Seen,
+    reading: Reading,
+    pace: Pace,
+    tasks: Tasks,
 }
 
 impl Locked {
@@ -92,7 +103,10 @@ impl Locked {
                     weights: Weights::none(),
                     weighed: 0,
                     backlog: Backlog::new(alloc),
-                    wakers: Wakers::new(alloc),
+                    seen: Seen::nothing(),
+                    reading: Reading::new(),
+                    pace: Pace::new(),
+                    tasks: Tasks::new(alloc),
                 },
                 mark,
             )),
@@ -292,7 +306,7 @@ impl Locked {
     {
         match self.poll(number) {
             Some(polled) => Poll::Ready(Ok(polled)),
-            None => match self.wakers.register(source, cx) {
+            None => match self.tasks.answers.register(source, cx) {
                 Ok(()) => Poll::Pending,
                 Err(refused) => Poll::Ready(Err(refused)),
             },
@@ -326,7 +340,7 @@ impl Locked {
     {
         match self.event() {
             Some(event) => Poll::Ready(Ok(event)),
-            None => match self.wakers.register(source, cx) {
+            None => match self.tasks.events.register(source, cx) {
                 Ok(()) => Poll::Pending,
                 Err(refused) => Poll::Ready(Err(refused)),
             },
@@ -418,7 +432,7 @@ impl Locked {
     {
         match self.frames(opened) {
             Some(frames) => Poll::Ready(Ok(frames)),
-            None => match self.wakers.register(source, cx) {
+            None => match self.tasks.frames.register(source, cx) {
                 Ok(()) => Poll::Pending,
                 Err(refused) => Poll::Ready(Err(refused)),
             },
@@ -456,7 +470,7 @@ impl Locked {
         if let Some(found) = self.found(channel, error) {
             return Poll::Ready(Ok(found));
         }
-        match self.wakers.register(source, cx) {
+        match self.tasks.states.register(source, cx) {
             Ok(()) => Poll::Pending,
             Err(refused) => Poll::Ready(Err(refused)),
         }
@@ -531,12 +545,24 @@ impl Locked {
         given
     }
 
-    /// Wakes each task that waits.
-    pub fn wake(&mut self)
-        ensures woken { self.new.wakers ≡ [] }
+    /// The same, as often as it is asked.
+    pub fn look_in<T, F: FnMut(&mut Hub) -> Option<T>>(&mut self, look: &mut F) -> Option<T>
+        requires { F.IsAlwaysCallable look.old }
+        ensures callable { F.IsAlwaysCallable look.new }
+        ensures found { CalledAtMut F.FnMut look.old self.old.hub result look.new self.new.hub }
+        ensures rest { contents self.new ≡ with_hub self.new.hub (contents self.old) }
+    {
+        let found = look(&mut self.hub);
+        self.weights.forget();
+        found
+    }
+
+    /// Wakes each task that waits for what there is something of.
+    pub fn wake(&mut self, news: News)
+        ensures woken { AreWoken news self.new.tasks }
         ensures rest { contents self.new ≡ contents self.old }
     {
-        self.wakers.wake();
+        self.tasks.wake(news);
     }
 }
 

@@ -5,3 +5,4 @@ pub mod Keeping
 pub mod Steps
 pub mod Polling
 pub mod Moments
+pub mod Closes

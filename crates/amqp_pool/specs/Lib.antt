@@ -8,5 +8,7 @@ pub mod Leasing
 pub mod Looking
 -- what the answers to openings bring
 pub mod Collecting
+-- how the channels of a pool are closed
+pub mod Closing
 -- calls of a pool and of its hub, one after another
 pub mod Moments

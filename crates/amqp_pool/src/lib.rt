@@ -6,6 +6,7 @@
 //! again.
 #![tactic(auto)]
 
+mod closing;
 mod collecting;
 mod laws;
 mod lease;

@@ -6,10 +6,11 @@ ghost use Rattle.amqp_hub.specs.Entering.{with_engine};
 ghost use Rattle.amqp_pool.specs.Pooled.{empty_pool, AreMade, above, opening_promises, times};
 ghost use Rattle.amqp_pool.specs.Leasing.{AsksForOne, IsLeased, IsLeaseRefused, after_lease, hub_after_lease, made_after_lease, IsBack, after_back};
 ghost use Rattle.amqp_pool.specs.Collecting.{collected, collected_count, TakesEach};
+ghost use Rattle.amqp_pool.specs.Closing.{ClosesFrom, IsCloseRefused};
 
-use crate::collecting;
 use crate::lease::{Back, Lease, Leased};
 use crate::looking::{self, Seen};
+use crate::{closing, collecting};
 use amqp_hub::{Hub, Pass};
 use amqp_session::{ChanRef, Cmd, Result};
 use amqp_types::NoMemory;
@@ -155,6 +156,24 @@ impl Pool {
                 Back::Kept
             }
         }
+    }
+
+    /// Closes the idle channels, the last first, and forgets them: with Ok none is left. Those that are leased stay
+    /// so, and what is opening: once they are given back or collected, another call closes them. A channel that is
+    /// not open is forgotten and not closed.
+    ///
+    /// Errors: `ForeignPass` where the pass is of another hub, and `NoMemory`; what was not closed then stays idle.
+    pub fn close(&mut self, hub: &mut Hub, pass: &mut Pass) -> Result<()>
+        requires made { AreMade self.old hub.old.engine.talk }
+        ensures closed { (left : ℕ) × ClosesFrom left self.old.idle self.new.idle hub.old hub.new pass.old pass.new }
+        ensures none { OnOk result (length self.new.idle ≡ 0) }
+        ensures rest { (self.new.limit ≡ self.old.limit) × (self.new.leased ≡ self.old.leased)
+            × (self.new.opening ≡ self.old.opening) }
+        ensures refused { IfErr result (λ e. IsCloseRefused hub.new pass.new e) }
+        ensures still_made { AreMade self.new hub.new.engine.talk }
+        ensures promises { hub.old.engine.talk.made ≤ hub.new.engine.talk.made }
+    {
+        closing::close_each(&mut self.idle, hub, pass)
     }
 
     /// Whether this hub made as many promises as the channels of the pool name: the condition of each call

@@ -12,9 +12,10 @@ use std::io;
 use std::random::RandomSource;
 use std::sync::Wait;
 use std::thread::Threads;
+use std::time::Clock;
 
 /// A connection to the address that a text is, once it is open.
-pub fn connected<S: Spawner, R: Threads + Wait + Copy + Send + 'static>(
+pub fn connected<S: Spawner, R: Threads + Wait + Clock + Copy + Send + 'static>(
     rt: R,
     alloc: Global,
     uri: &str,
@@ -30,7 +31,7 @@ pub fn connected<S: Spawner, R: Threads + Wait + Copy + Send + 'static>(
 }
 
 /// The same, for a connection that is to last: its journal begins anew once 64 KiB were entered.
-pub fn lasting<S: Spawner + Drop, R: Threads + Wait + Copy + Send + 'static>(
+pub fn lasting<S: Spawner + Drop, R: Threads + Wait + Clock + Copy + Send + 'static>(
     rt: R,
     alloc: Global,
     uri: String,
@@ -73,9 +74,23 @@ pub fn publish<R: Wait>(
     channel.publish_raw(rt, pass, method, properties, body)
 }
 
+/// The same, once there is room for it: the octets of its frames are those of the text and some 70 more.
+pub fn publish_with_room<R: Wait>(
+    rt: &R,
+    alloc: Global,
+    channel: &Channel,
+    pass: &mut Pass,
+    text: &str,
+) -> Result<Pending<()>>
+    ensures made { OnOk result (pass.new.made ≡ pass.old.made + 1) }
+{
+    channel.wait_for_room(rt, (text.len() as u64).saturating_add(100))?;
+    publish(rt, alloc, channel, pass, text)
+}
+
 /// Publishes one text and closes all, with whatever the connection ended. A channel that is dropped is
 /// closed, and then the connection that is run.
-pub fn publish_once<S: Spawner, R: Threads + Wait + Copy + Send + 'static>(
+pub fn publish_once<S: Spawner, R: Threads + Wait + Clock + Copy + Send + 'static>(
     rt: R,
     alloc: Global,
     uri: &str,

@@ -16,7 +16,7 @@ mod wire;
 
 pub use callers::{
     channel, connected, count_blocking, frames_in_a_task, lasting, publish, publish_again,
-    publish_as, publish_once,
+    publish_as, publish_once, publish_with_room,
 };
 pub use carrying::tell_and_take;
 pub use driving::{

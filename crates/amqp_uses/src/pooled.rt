@@ -12,9 +12,8 @@ use amqp_session::{ErrorKind, Result};
 use amqp_types::ShortString;
 use lapin_connection::Connection;
 use std::alloc::Global;
+use std::mem;
 use std::sync::Wait;
-use std::time::{Clock, Duration};
-use std::{mem, thread};
 
 // Within one hold: takes what was opened for the pool, and begins a message, where a channel is free. Of a
 // hub that is lent nothing is known, so the pool is asked first whether it fits; else the answer is that there
@@ -44,6 +43,22 @@ fn begin_within(
     match begin_message(alloc, pool, hub, pass, queue, text)? {
         Begun::Sending(sending) => Ok(Some(sending)),
         Begun::Later => Ok(None),
+    }
+}
+
+// The same, or nothing where no channel is free.
+fn begun_within(
+    alloc: Global,
+    pool: &mut Pool,
+    hub: &mut Hub,
+    pass: &mut Pass,
+    queue: &ShortString,
+    text: &[u8],
+) -> Option<Result<Sending>> {
+    match begin_within(alloc, pool, hub, pass, queue, text) {
+        Ok(None) => None,
+        Ok(Some(sending)) => Some(Ok(sending)),
+        Err(error) => Some(Err(error)),
     }
 }
 
@@ -87,8 +102,8 @@ fn give_up(sending: Option<Sending>) {
 }
 
 /// Publishes a text to the queue of a name, on a channel of a pool of this connection, and waits until the
-/// link took all of it. Where no channel is free it asks again each millisecond.
-pub fn publish_from_pool<R: Wait + Clock>(
+/// link took all of it. Where no channel is free it waits for one.
+pub fn publish_from_pool<R: Wait>(
     rt: &R,
     alloc: Global,
     connection: &Connection,
@@ -97,33 +112,12 @@ pub fn publish_from_pool<R: Wait + Clock>(
     queue: &ShortString,
     text: &[u8],
 ) -> Result<()> {
-    for _ in rt.forever() {
-        let begun = connection.with_hub(rt, |hub| {
-            begin_within(alloc, pool, hub, pass, queue, text)
-        })?;
-        if let Some(sending) = begun {
-            return wait_until_sent(rt, connection, pool, sending);
-        }
-        thread::sleep(rt, Duration::from_millis(1));
-    }
-    unreachable!()
-}
-
-// Waits until the link took all of a message, and gives its channel back.
-fn wait_until_sent<R: Wait + Clock>(
-    rt: &R,
-    connection: &Connection,
-    pool: &mut Pool,
-    sending: Sending,
-) -> Result<()> {
-    let mut on_its_way = Some(sending);
-    for _ in rt.forever() {
-        let sent = connection.with_hub(rt, |hub| finish_within(pool, hub, &mut on_its_way));
-        if let Some(sent) = sent {
-            give_up(on_its_way);
-            return sent;
-        }
-        thread::sleep(rt, Duration::from_millis(1));
-    }
-    unreachable!()
+    let begun = connection.wait_with_hub(
+        rt,
+        |hub| begun_within(alloc, pool, hub, pass, queue, text),
+    );
+    let mut on_its_way = Some(begun?);
+    let sent = connection.wait_with_hub(rt, |hub| finish_within(pool, hub, &mut on_its_way));
+    give_up(on_its_way);
+    sent
 }

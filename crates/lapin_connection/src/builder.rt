@@ -19,6 +19,7 @@ use std::alloc::Global;
 use std::mem;
 use std::sync::Wait;
 use std::thread::Threads;
+use std::time::Clock;
 
 /// A connection that is put together: the runtime that it keeps, an address, the last that was given, and
 /// properties.
@@ -174,7 +175,7 @@ where
     /// Connects, by the runtime that is kept. Without properties it takes those of
     /// `ConnectionProperties::new`. Address and properties are then used up, whatever the answer.
     #[tactic(auto, using(crate::proofs::Begun::has_begun_as))]
-    pub fn connect<R: Threads + Wait + Copy + Send + 'static>(
+    pub fn connect<R: Threads + Wait + Clock + Copy + Send + 'static>(
         &mut self,
         rt: R,
         alloc: Global,
@@ -203,7 +204,7 @@ where
     }
 
     // Connects with these properties, or with those of nothing said.
-    fn connect_with<R: Threads + Wait + Copy + Send + 'static>(
+    fn connect_with<R: Threads + Wait + Clock + Copy + Send + 'static>(
         &mut self,
         rt: R,
         alloc: Global,

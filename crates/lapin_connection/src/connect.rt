@@ -22,6 +22,7 @@ use amqp_uri::{AMQPUri, UriFault};
 use std::alloc::Global;
 use std::sync::Wait;
 use std::thread::Threads;
+use std::time::Clock;
 
 // The hub of a new engine, which has asked this port for its first link.
 fn hub_over<P: Port>(
@@ -130,7 +131,7 @@ where
 
 // Connects to an address, and does by itself what is said.
 #[tactic(auto, using(crate::proofs::Begun::connects_since, crate::proofs::Begun::has_begun_in))]
-pub(crate) fn connect_to<C, S: Spawner, R: Threads + Wait + Copy + Send + 'static>(
+pub(crate) fn connect_to<C, S: Spawner, R: Threads + Wait + Clock + Copy + Send + 'static>(
     rt: R,
     alloc: Global,
     uri: &AMQPUri,
@@ -165,7 +166,7 @@ impl Connection {
         U: Connect,
         C,
         S: Spawner,
-        R: Threads + Wait + Copy + Send + 'static,
+        R: Threads + Wait + Clock + Copy + Send + 'static,
     >(
         rt: R,
         alloc: Global,
@@ -194,7 +195,11 @@ impl Connection {
     }
 
     /// Connects to an address, by this runtime.
-    pub fn connect_uri_with_runtime<C, S: Spawner, R: Threads + Wait + Copy + Send + 'static>(
+    pub fn connect_uri_with_runtime<
+        C,
+        S: Spawner,
+        R: Threads + Wait + Clock + Copy + Send + 'static,
+    >(
         rt: R,
         alloc: Global,
         uri: AMQPUri,
@@ -215,7 +220,7 @@ impl Connection {
     }
 
     /// The same, with its arguments in another order.
-    pub fn connector<C, S: Spawner, R: Threads + Wait + Copy + Send + 'static>(
+    pub fn connector<C, S: Spawner, R: Threads + Wait + Clock + Copy + Send + 'static>(
         rt: R,
         alloc: Global,
         uri: AMQPUri,

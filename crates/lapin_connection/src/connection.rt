@@ -2,7 +2,7 @@
 
 ghost use Rattle.std.specs.Prelude.{◌≡◌, ◌≤◌, ◌+◌, Some, None, true, IfOk, IfErr, OnOk, OnErr, All, map};
 ghost use Rattle.std.specs.Arc.{arc_value};
-ghost use Rattle.std.specs.Fn.{FnOnceReturnsAtMut};
+ghost use Rattle.std.specs.Fn.{FnOnceReturnsAtMut, CalledAtMut};
 ghost use Rattle.amqp_rules.specs.Commands.{takes_promise};
 ghost use Rattle.amqp_commands.specs.declared.command.Cmd.TheVariants.{OpenChannel, CloseConnection, UpdateSecret, Listen};
 ghost use Rattle.amqp_hub.specs.Guarded.{Guarded};
@@ -268,6 +268,18 @@ impl Connection {
         ensures { (before after : Guarded) × FnOnceReturnsAtMut F.FnOnce use_hub before result after }
     {
         self.shared.lend(rt, use_hub)
+    }
+
+    /// Lends the hub for one hold of the lock after another, as `with_hub` does, until something was found there, and
+    /// gives that. Between two holds it sleeps until there may be something new: an answer, frames, an event, the
+    /// state of a channel or of the connection, room, or what another hold of `with_hub` entered. Where a hold
+    /// entered something and found nothing, the next one follows at once.
+    pub fn wait_with_hub<R: Wait, T, F: FnMut(&mut Hub) -> Option<T>>(&self, rt: &R, look: F) -> T
+        requires { F.IsAlwaysCallable look }
+        ensures { (before after : Guarded) × (looks looked : F)
+            × CalledAtMut F.FnMut looks before (Some result) looked after }
+    {
+        self.shared.look(rt, look)
     }
 
     /// What waits for the end of the connection.

@@ -5,12 +5,13 @@ ghost use Rattle.futures.specs.Task.{Covers, Keeps};
 ghost use Rattle.futures.specs.Poll.{OnPending, IfReady};
 ghost use Rattle.lapin_connection.specs.Handles.{channel_source};
 
+use crate::changes::Waits;
 use crate::channel::Channel;
 use crate::patience::Patience;
 use amqp_session::{ErrorKind, Handed, Result};
 use futures::Future;
 use futures::task::{Context, Poll};
-use std::sync::{CondvarTimeouts, Wait};
+use std::sync::Wait;
 use std::time::{Clock, Duration};
 
 impl Channel {
@@ -23,7 +24,7 @@ impl Channel {
             if let Some(taken) = guard.frames(self.opened) {
                 return Ok(self.handed(taken));
             }
-            guard = self.shared.changed.wait(rt, guard);
+            guard = self.shared.sleep(rt, guard, Waits::Frames);
         }
         unreachable!()
     }
@@ -39,7 +40,7 @@ impl Channel {
             let Some(left) = patience.left(rt) else {
                 return None;
             };
-            guard = self.shared.changed.wait_timeout(rt, guard, left).0;
+            guard = self.shared.sleep_for(rt, guard, Waits::Frames, left);
         }
         unreachable!()
     }

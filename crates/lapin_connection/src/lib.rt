@@ -7,6 +7,7 @@
 
 mod abandon;
 mod builder;
+mod changes;
 mod channel;
 mod connect;
 mod connection;
@@ -20,6 +21,7 @@ mod patience;
 mod pending;
 mod reaching;
 mod recovery;
+mod room;
 mod sending;
 mod shared;
 mod spawner;
@@ -41,6 +43,7 @@ pub use nudge::Nudge;
 pub use pending::{Answered, Gives, Pending};
 pub use reaching::Unreached;
 pub use recovery::{Recovered, Recovery};
+pub use room::UntilRoom;
 pub use sending::UntilSent;
 pub use spawner::{SpawnFault, Spawner, Started};
 pub use status::{ChannelStatus, ConnectionStatus};

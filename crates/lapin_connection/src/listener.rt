@@ -5,6 +5,7 @@ ghost use Rattle.futures.specs.Task.{Covers, Keeps};
 ghost use Rattle.futures.specs.Poll.{OnPending};
 ghost use Rattle.lapin_connection.specs.Handles.{listener_source};
 
+use crate::changes::Waits;
 use crate::patience::Patience;
 use crate::shared::Shared;
 use amqp_hub::Receipt;
@@ -12,7 +13,7 @@ use amqp_session::Event;
 use amqp_types::NoMemory;
 use futures::Future;
 use futures::task::{Context, Poll};
-use std::sync::{Arc, CondvarTimeouts, Wait};
+use std::sync::{Arc, Wait};
 use std::time::{Clock, Duration};
 
 /// A handle on the events of a connection. All listeners share one queue: each event is given once.
@@ -74,7 +75,7 @@ impl EventsListener {
                 return event;
             }
             drop(event);
-            guard = self.shared.changed.wait(rt, guard);
+            guard = self.shared.sleep(rt, guard, Waits::Event);
         }
         unreachable!()
     }
@@ -92,7 +93,7 @@ impl EventsListener {
             let Some(left) = patience.left(rt) else {
                 return None;
             };
-            guard = self.shared.changed.wait_timeout(rt, guard, left).0;
+            guard = self.shared.sleep_for(rt, guard, Waits::Event, left);
         }
         unreachable!()
     }

@@ -50,8 +50,9 @@ impl<P: Port + Drop, A: AuthProvider> LoopJob<P, A> {
     }
 
     /// One turn after another, until the session has ended, and how it ended. The lock is let go between
-    /// two turns, and while the port waits for its next step.
-    pub fn run<R: Wait>(self, rt: &R) -> Ended
+    /// two turns, and while the port waits for its next step. Where callers are ahead of the loop, they have a moment
+    /// before it hears the next one.
+    pub fn run<R: Wait + Clock>(self, rt: &R) -> Ended
         requires { A.can self.provider }
     {
         let LoopJob {
@@ -66,6 +67,7 @@ impl<P: Port + Drop, A: AuthProvider> LoopJob<P, A> {
                 return ended;
             }
             shared.rest(rt);
+            shared.gather(rt);
         }
         unreachable!()
     }
@@ -75,7 +77,7 @@ impl<P: Port + Drop, A: AuthProvider> LoopJob<P, A> {
 pub(crate) fn start_thread<
     P: Port + Send + Drop + 'static,
     A: AuthProvider + 'static,
-    R: Threads + Wait + Copy + Send + 'static,
+    R: Threads + Wait + Clock + Copy + Send + 'static,
 >(rt: R, job: LoopJob<P, A>) -> std::result::Result<Started, NoMemory>
     requires { A.can job.provider }
 {

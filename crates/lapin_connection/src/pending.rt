@@ -9,6 +9,7 @@ ghost use Rattle.lapin_connection.specs.declared.channel.Channel.{Channel as Ope
 ghost use Rattle.lapin_connection.specs.Giving.{done_by, flow_by, channel_by, NamesPromise, IsGivenBy};
 ghost use Rattle.lapin_connection.specs.Handles.{pending_source};
 
+use crate::changes::Waits;
 use crate::channel::Channel;
 use crate::patience::Patience;
 use crate::shared::Shared;
@@ -19,7 +20,7 @@ use amqp_types::NoMemory;
 use futures::Future;
 use futures::task::{Context, Poll};
 use std::marker::PhantomData;
-use std::sync::{Arc, CondvarTimeouts, Mutex, Wait};
+use std::sync::{Arc, Mutex, Wait};
 use std::time::{Clock, Duration};
 
 /// What an answer is made into. An answer of another kind than its command's never comes; it would be
@@ -211,7 +212,7 @@ impl<T: Gives> Pending<T> {
             if let Some(polled) = guard.poll(self.number) {
                 return Ok(polled);
             }
-            guard = self.shared.changed.wait(rt, guard);
+            guard = self.shared.sleep(rt, guard, Waits::Answer);
         }
         unreachable!()
     }
@@ -243,7 +244,7 @@ impl<T: Gives> Pending<T> {
             let Some(left) = patience.left(rt) else {
                 return None;
             };
-            guard = self.shared.changed.wait_timeout(rt, guard, left).0;
+            guard = self.shared.sleep_for(rt, guard, Waits::Answer, left);
         }
         unreachable!()
     }

@@ -8,13 +8,14 @@ ghost use Rattle.amqp_locked.specs.Taking.{polled_of};
 ghost use Rattle.amqp_locked.specs.Recovering.{FoundOf, IsToldBy};
 ghost use Rattle.lapin_connection.specs.Handles.{recovery_source};
 
+use crate::changes::Waits;
 use crate::patience::Patience;
 use crate::shared::Shared;
 use amqp_session::{ChanRef, Error, Result};
 use amqp_types::NoMemory;
 use futures::Future;
 use futures::task::{Context, Poll};
-use std::sync::{Arc, CondvarTimeouts, Wait};
+use std::sync::{Arc, Wait};
 use std::time::{Clock, Duration};
 
 /// An error, and the channel that may go on after it.
@@ -74,7 +75,7 @@ impl Recovery {
             if let Some(found) = guard.found(self.channel, &self.error) {
                 return found;
             }
-            guard = self.shared.changed.wait(rt, guard);
+            guard = self.shared.sleep(rt, guard, Waits::State);
         }
         unreachable!()
     }
@@ -93,7 +94,7 @@ impl Recovery {
             let Some(left) = patience.left(rt) else {
                 return None;
             };
-            guard = self.shared.changed.wait_timeout(rt, guard, left).0;
+            guard = self.shared.sleep_for(rt, guard, Waits::State, left);
         }
         unreachable!()
     }

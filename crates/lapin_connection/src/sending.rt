@@ -8,6 +8,7 @@ ghost use Rattle.lapin_connection.specs.Commands.{HasReceipt, Refuses};
 ghost use Rattle.lapin_connection.specs.Handles.{reference_of, channel_source, connection_source, pending_source};
 ghost use Rattle.lapin_connection.specs.Sending.{IsToldOpen};
 
+use crate::changes::Waits;
 use crate::channel::Channel;
 use crate::connection::Connection;
 use crate::patience::Patience;
@@ -17,7 +18,7 @@ use amqp_session::Result;
 use amqp_types::{NoMemory, ReplyCode, ShortString};
 use futures::Future;
 use futures::task::{Context, Poll};
-use std::sync::{CondvarTimeouts, Wait};
+use std::sync::Wait;
 use std::time::{Clock, Duration};
 
 impl Channel {
@@ -32,7 +33,7 @@ impl Channel {
             if let Some(sent) = guard.sent_on(self.name(), self.sent_made()) {
                 return sent;
             }
-            guard = self.shared.changed.wait(rt, guard);
+            guard = self.shared.sleep(rt, guard, Waits::Room);
         }
         unreachable!()
     }
@@ -56,7 +57,7 @@ impl Channel {
             let Some(left) = patience.left(rt) else {
                 return None;
             };
-            guard = self.shared.changed.wait_timeout(rt, guard, left).0;
+            guard = self.shared.sleep_for(rt, guard, Waits::Room, left);
         }
         unreachable!()
     }
@@ -112,7 +113,7 @@ impl Connection {
             if guard.is_sent(made) {
                 return;
             }
-            guard = self.shared.changed.wait(rt, guard);
+            guard = self.shared.sleep(rt, guard, Waits::Room);
         }
         unreachable!()
     }
@@ -129,7 +130,7 @@ impl Connection {
             let Some(left) = patience.left(rt) else {
                 return false;
             };
-            guard = self.shared.changed.wait_timeout(rt, guard, left).0;
+            guard = self.shared.sleep_for(rt, guard, Waits::Room, left);
         }
         unreachable!()
     }

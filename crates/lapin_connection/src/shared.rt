@@ -2,17 +2,18 @@
 
 ghost use Rattle.std.specs.Prelude.{◌≡◌, ◌≤◌, ◌+◌, Some, None, true, false, IfOk, OnOk, OnErr};
 ghost use Rattle.std.specs.Arc.{arc_value};
-ghost use Rattle.std.specs.Fn.{FnOnceReturnsAtMut};
+ghost use Rattle.std.specs.Fn.{FnOnceReturnsAtMut, CalledAtMut};
 ghost use Rattle.amqp_rules.specs.Commands.{takes_promise};
 ghost use Rattle.amqp_commands.specs.declared.command.Cmd.TheVariants.{OpenChannel};
 ghost use Rattle.amqp_hub.specs.Guarded.{Guarded};
 ghost use Rattle.lapin_connection.specs.Commands.{Shows, Refuses};
 
+use crate::changes::{Changes, Waits};
 use crate::nudge::Nudge;
 use crate::patience::Patience;
 use amqp_engine::Port;
 use amqp_hub::{DropMark, Ended, Hub, Pass, Receipt};
-use amqp_locked::{Heard, Line, Locked};
+use amqp_locked::{Heard, Line, Locked, News};
 use amqp_session::{AuthProvider, Cmd, Result};
 use amqp_types::NoMemory;
 use futures::task::Source;
@@ -21,6 +22,9 @@ use std::snapshot::Snapshot;
 use std::sync::{Arc, Condvar, CondvarTimeouts, Mutex, MutexGuard, Wait};
 use std::time::{Clock, Duration};
 
+// For so many microseconds callers gather before a turn.
+const GATHERS: u64 = 50;
+
 /// What the handles of a connection share: what lies under the lock, and beside it what wakes those who
 /// wait for it.
 #[derive(Drop)]
@@ -28,8 +32,9 @@ pub struct Shared {
     pub(crate) alloc: Global,
     pub(crate) source: Source,
     pub(crate) locked: Mutex<Locked>,
-    pub(crate) changed: Condvar,
-    pub(crate) over: Condvar,
+    changed: Changes,
+    // where the loop sleeps while it lets callers gather
+    gathered: Condvar,
     pub(crate) nudge: Nudge,
     // the hub as it was when the connection began, as contracts see it
     pub(crate) begun: Snapshot<Hub>,
@@ -65,8 +70,8 @@ impl Shared {
             alloc,
             source: Source::new(),
             locked: Mutex::new(locked),
-            changed: Condvar::new(),
-            over: Condvar::new(),
+            changed: Changes::new(),
+            gathered: Condvar::new(),
             nudge,
             begun,
             settles_after,
@@ -142,7 +147,7 @@ impl Shared {
         let first = guard.nudge();
         let ended = guard.session().has_ended();
         if answers {
-            self.wake_all(guard);
+            self.wake(guard, News::for_all());
         } else {
             drop(guard);
         }
@@ -159,11 +164,12 @@ impl Shared {
         }
     }
 
-    // Wakes all who wait, tasks in the hold of this guard and threads once it has ended.
-    fn wake_all(&self, mut guard: MutexGuard<'_, Locked>) {
-        guard.wake();
+    // Wakes those who wait for what there is something of, tasks in the hold of this guard and threads once it has
+    // ended.
+    fn wake(&self, mut guard: MutexGuard<'_, Locked>, news: News) {
+        guard.wake(news);
         drop(guard);
-        self.changed.notify_all();
+        self.changed.wake(news);
     }
 
     // The port is shown how the session stands, where a command may have changed it.
@@ -187,8 +193,8 @@ impl Shared {
         }
     }
 
-    /// One turn: one hold of the lock. Then all who wait are woken, and the loop, where something is due about a
-    /// mark. It says how the session ended, where it has.
+    /// One turn: one hold of the lock. Then those who wait are woken for whom there is something, and the loop, where
+    /// something is due about a mark. It says how the session ended, where it has.
     pub fn turn<P: Port, A: AuthProvider, R: Wait>(
         &self,
         rt: &R,
@@ -203,17 +209,69 @@ impl Shared {
         ensures never_falls { A.refusals provider.old ≤ A.refusals provider.new }
     {
         let mut guard = self.locked.lock(rt);
+        let before = guard.counts();
         // Where memory is refused, the session has ended.
         let _ = guard.apply(heard, line, provider);
+        let news = guard.news_since(before);
         self.nudge.show(guard.session().state());
         let ended = guard.ended();
         let first = ended.is_none() && guard.has_due() && guard.nudge();
-        self.wake_all(guard);
+        self.wake(guard, news);
         self.nudge_if(first);
-        if ended.is_some() {
-            self.over.notify_all();
-        }
         ended
+    }
+
+    /// Lets callers go on for a moment where they are ahead of the loop and none of them waits, so that its next turn
+    /// writes more at once. Whoever begins to wait ends that.
+    pub fn gather<R: Wait + Clock>(&self, rt: &R) {
+        let mut guard = self.locked.lock(rt);
+        if guard.begin_gathering() {
+            let limit = Duration::from_micros(GATHERS);
+            let mut guard = self.gathered.wait_timeout(rt, guard, limit).0;
+            let _ = guard.end_gathering();
+        }
+    }
+
+    // The loop goes on, where it lets callers gather.
+    fn go_on(&self, guard: &mut Locked) {
+        if guard.end_gathering() {
+            self.gathered.notify_one();
+        }
+    }
+
+    /// Sleeps until there may be something for those who wait for this.
+    pub(crate) fn sleep<'a, R: Wait>(
+        &'a self,
+        rt: &R,
+        mut guard: MutexGuard<'a, Locked>,
+        waits: Waits,
+    ) -> MutexGuard<'a, Locked> {
+        self.go_on(&mut guard);
+        if !waits.is_short() {
+            return self.changed.of(waits).wait(rt, guard);
+        }
+        guard.begin_sleep();
+        let mut guard = self.changed.of(waits).wait(rt, guard);
+        guard.end_sleep();
+        guard
+    }
+
+    /// The same, but no longer than so long.
+    pub(crate) fn sleep_for<'a, R: Wait + Clock>(
+        &'a self,
+        rt: &R,
+        mut guard: MutexGuard<'a, Locked>,
+        waits: Waits,
+        limit: Duration,
+    ) -> MutexGuard<'a, Locked> {
+        self.go_on(&mut guard);
+        if !waits.is_short() {
+            return self.changed.of(waits).wait_timeout(rt, guard, limit).0;
+        }
+        guard.begin_sleep();
+        let mut guard = self.changed.of(waits).wait_timeout(rt, guard, limit).0;
+        guard.end_sleep();
+        guard
     }
 
     /// What a loop does between two turns, each in a hold of its own: what nobody will take is let go; where only
@@ -245,6 +303,30 @@ impl Shared {
         given
     }
 
+    /// Lends the hub for one hold after another until something was found there.
+    pub fn look<R: Wait, T, F: FnMut(&mut Hub) -> Option<T>>(&self, rt: &R, mut look: F) -> T
+        requires { F.IsAlwaysCallable look }
+        ensures { (before after : Guarded) × (looks looked : F)
+            × CalledAtMut F.FnMut looks before (Some result) looked after }
+    {
+        let mut guard = self.locked.lock(rt);
+        for _ in rt.forever() {
+            let before = guard.entries();
+            let found = guard.look_in(&mut look);
+            if let Some(found) = found {
+                self.let_go_on(guard, before);
+                return found;
+            }
+            if guard.entries() == before {
+                guard = self.sleep(rt, guard, Waits::Hub);
+            } else {
+                self.let_go_on(guard, before);
+                guard = self.locked.lock(rt);
+            }
+        }
+        unreachable!()
+    }
+
     // Where there are other entries than before, wakes all who wait, and the loop.
     fn let_go_on(&self, mut guard: MutexGuard<'_, Locked>, before: usize) {
         if guard.entries() == before {
@@ -252,7 +334,7 @@ impl Shared {
         }
         self.show(&guard);
         let first = guard.nudge();
-        self.wake_all(guard);
+        self.wake(guard, News::for_all());
         self.nudge_if(first);
     }
 
@@ -263,7 +345,7 @@ impl Shared {
             if let Some(ended) = guard.ended() {
                 return ended;
             }
-            guard = self.over.wait(rt, guard);
+            guard = self.sleep(rt, guard, Waits::End);
         }
         unreachable!()
     }
@@ -285,7 +367,7 @@ impl Shared {
             let Some(left) = patience.left(rt) else {
                 return None;
             };
-            guard = self.over.wait_timeout(rt, guard, left).0;
+            guard = self.sleep_for(rt, guard, Waits::End, left);
         }
         unreachable!()
     }

@@ -7,3 +7,4 @@ pub mod desk;
 pub mod gate;
 pub mod hand;
 mod many;
+pub mod outgoing;

@@ -11,8 +11,8 @@ use std::sync::Wait;
 /// How many commands it makes.
 const COMMANDS: u64 = 1_000;
 
-// Enters a send on the channel of this number, and gives its promise.
-fn enters_send(hub: &mut Hub, alloc: Global, pass: &mut Pass, id: u16) -> Option<u64> {
+/// Enters a send on the channel of this number, and gives its promise.
+pub(crate) fn enters_send(hub: &mut Hub, alloc: Global, pass: &mut Pass, id: u16) -> Option<u64> {
     let Ok(method) = RawMethod::new(alloc, 60, 40, &[]) else {
         return None;
     };
@@ -26,6 +26,21 @@ fn enters_send(hub: &mut Hub, alloc: Global, pass: &mut Pass, id: u16) -> Option
             drop(error);
             None
         }
+    }
+}
+
+/// Whether an answer is Ok, where there is one. It takes it.
+pub(crate) fn is_told(answer: Option<Result<Answer>>) -> Option<bool> {
+    match answer {
+        Some(Ok(answer)) => {
+            drop(answer);
+            Some(true)
+        }
+        Some(Err(error)) => {
+            drop(error);
+            Some(false)
+        }
+        None => None,
     }
 }
 

@@ -9,10 +9,10 @@ use amqp_types::NoMemory;
 use amqp_uri::AMQPUri;
 use lapin_connection::{Connection, ConnectionBuilder};
 use lapin_connection_acts::acts::{self, parts_of};
-use lapin_connection_acts::asleep;
 use lapin_connection_acts::desk::{self, Desk};
 use lapin_connection_acts::gate::{Gate, GateSpawner, Refuses, gates};
 use lapin_connection_acts::hand::{Done, Hand, Stage};
+use lapin_connection_acts::{asleep, outgoing};
 use std::alloc::{AllocError, AllocGlobal, Global};
 use std::random::RandomSource;
 use std::rt::Files;
@@ -68,6 +68,11 @@ fn recovering(alloc: Global) -> std::result::Result<ConnectionProperties, NoMemo
     delays.push(0)?;
     let options = ConnectionProperties::new(alloc)?.with_backoff(delays);
     Ok(options.enable_auto_recover(alloc)?.with_outbox_limit(10))
+}
+
+// Options of a connection where no more than one send may wait.
+fn limited(alloc: Global) -> std::result::Result<ConnectionProperties, NoMemory> {
+    Ok(ConnectionProperties::new(alloc)?.with_outbox_limit(20))
 }
 
 // A connection by a builder, which settles after so many octets, if that is said.
@@ -159,6 +164,22 @@ fn connected<R: Threads + Wait + Clock + Copy + Send + Drop + 'static>(
     connection
 }
 
+// The same, where there is memory for the options.
+fn connected_by<R: Threads + Wait + Clock + Copy + Send + Drop + 'static>(
+    rt: R,
+    alloc: Global,
+    spawner: GateSpawner<R>,
+    options: std::result::Result<ConnectionProperties, NoMemory>,
+) -> Result<Connection> {
+    match options {
+        Ok(options) => connected(rt, alloc, spawner, options),
+        Err(refused) => {
+            drop(spawner);
+            Err(refused.into())
+        }
+    }
+}
+
 // A connection over a gate, by this word.
 fn connection_by<R: Threads + Wait + Clock + Copy + Send + Drop + 'static>(
     rt: R,
@@ -170,23 +191,12 @@ fn connection_by<R: Threads + Wait + Clock + Copy + Send + Drop + 'static>(
     match word {
         "built" => built(rt, alloc, spawner, None),
         "settling" => built(rt, alloc, spawner, Some(3)),
-        "recovering" => match recovering(alloc) {
-            Ok(options) => built_with(rt, alloc, spawner, options),
-            Err(refused) => {
-                drop(spawner);
-                Err(refused.into())
-            }
-        },
+        "recovering" => connected_by(rt, alloc, spawner, recovering(alloc)),
+        "limited" => connected_by(rt, alloc, spawner, limited(alloc)),
         "bounded" => bounded(rt, alloc, spawner),
         "elsewhere" => elsewhere::by_mechanism(rt, alloc, spawner),
         "handed" => elsewhere::by_another(rt, alloc, spawner),
-        _ => match ConnectionProperties::new(alloc) {
-            Ok(options) => connected(rt, alloc, spawner, options),
-            Err(refused) => {
-                drop(spawner);
-                Err(refused.into())
-            }
-        },
+        _ => connected_by(rt, alloc, spawner, ConnectionProperties::new(alloc)),
     }
 }
 
@@ -307,6 +317,9 @@ fn alone<R: Runs>(rt: &R, story: &mut Story, act: &str) -> std::result::Result<b
         return Ok(true);
     }
     if telling::act(rt, &stage, hand, word, number)? {
+        return Ok(true);
+    }
+    if outgoing::act(rt, &stage, hand, word, (number % 65_536) as u16)? {
         return Ok(true);
     }
     if desk::act(rt, &stage, hand, &mut story.desk, word, number)? {

@@ -53,7 +53,7 @@ impl Locked {
         if let Some(sent) = self.sent_on(channel, made) {
             return Poll::Ready(Ok(sent));
         }
-        match self.wakers.register(source, cx) {
+        match self.tasks.room.register(source, cx) {
             Ok(()) => Poll::Pending,
             Err(refused) => Poll::Ready(Err(refused)),
         }
@@ -72,8 +72,8 @@ pub(super) fn cleared_after(session: &Session, before: u64) -> u64
     }
 }
 
-// What is told of a channel in this state once nothing waits that was sent on it.
-fn told_in(state: ChannelState) -> Result<()>
+/// What is told of a channel in this state once nobody waits for what goes out.
+pub(super) fn told_in(state: ChannelState) -> Result<()>
     ensures { result ≡ told_in state }
 {
     match state {
