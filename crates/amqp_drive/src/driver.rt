@@ -1,14 +1,12 @@
 //! Who does what lines ask for, with one connection at a time.
 
 use crate::limit::Limit;
+use crate::line::{Line, connection_of, event_text, talk_of};
 use crate::options::Options;
 use crate::order::{Awaited, Closed, Messages, Order};
 use crate::stop::{Stop, text};
 use crate::talk::{Talk, Until, short};
-use amqp_session::Event;
-use lapin_connection::{
-    Connection, ConnectionBuilder, EventsListener, Pass, Pending, Spawner, ThreadHandle,
-};
+use lapin_connection::{ConnectionBuilder, Pending, Spawner};
 use std::alloc::Global;
 use std::sync::Wait;
 use std::thread;
@@ -21,16 +19,6 @@ const SUCCESS: u16 = 200;
 /// What is said of a wait that is over before what it waited for was there.
 const NOTHING_YET: &str = "nothing yet";
 
-/// A connection, with the channels of it that are held.
-#[derive(Drop)]
-struct Line {
-    connection: Option<Connection>,
-    end: ThreadHandle,
-    pass: Pass,
-    talks: Vec<Talk>,
-    events: Option<EventsListener>,
-}
-
 /// Who does what lines ask for.
 #[derive(Drop)]
 pub struct Driver<S> {
@@ -39,34 +27,6 @@ pub struct Driver<S> {
     line: Option<Line>,
     // the number of the last message that was published
     last: u64,
-}
-
-// The channel that was opened last and is held, and who commands it.
-fn talk_of(line: &mut Option<Line>) -> Result<(&mut Talk, &mut Pass), Stop> {
-    let Some(line) = line else {
-        return Err(Stop::Missing("connection"));
-    };
-    let Line { talks, pass, .. } = line;
-    match talks.last_mut() {
-        Some(talk) => Ok((talk, pass)),
-        None => Err(Stop::Missing("channel")),
-    }
-}
-
-// The connection, and who commands it.
-fn connection_of(line: &mut Option<Line>) -> Result<(&Connection, &mut Pass), Stop> {
-    let Some(line) = line else {
-        return Err(Stop::Missing("connection"));
-    };
-    let Line {
-        connection,
-        pass,
-        ..
-    } = line;
-    match connection {
-        Some(connection) => Ok((connection, pass)),
-        None => Err(Stop::Missing("connection")),
-    }
 }
 
 // What is said once something is done, or not in time.
@@ -314,6 +274,14 @@ impl<S: Spawner + Drop> Driver<S> {
         text(self.alloc, "dropped")
     }
 
+    fn forget(&mut self) -> Result<String, Stop> {
+        match self.line.take() {
+            Some(line) => drop(line),
+            None => return Err(Stop::Missing("connection")),
+        }
+        text(self.alloc, "forgotten")
+    }
+
     fn abandon(&mut self) -> Result<String, Stop> {
         let (connection, _) = connection_of(&mut self.line)?;
         let told = connection.abandon();
@@ -379,6 +347,7 @@ impl<S: Spawner + Drop> Driver<S> {
             Order::Close(closed, limit) => self.close(&rt, closed, limit),
             Order::DropChannel => self.drop_channel(),
             Order::DropConnection => self.drop_connection(),
+            Order::Forget => self.forget(),
             Order::Abandon => self.abandon(),
             Order::Listen => self.listen(&rt),
             Order::Events => self.events(&rt),
@@ -387,25 +356,6 @@ impl<S: Spawner + Drop> Driver<S> {
                 thread::sleep(&rt, Duration::from_millis(milliseconds));
                 text(self.alloc, "slept")
             }
-        }
-    }
-}
-
-// What is said of an event.
-fn event_text(alloc: Global, event: Event) -> Result<String, Stop> {
-    match event {
-        Event::ConnectionBlocked(reason) => {
-            let said = format!(in alloc; "blocked {}", reason.as_str());
-            drop(reason);
-            Ok(said?)
-        }
-        Event::ConnectionUnblocked => text(alloc, "unblocked"),
-        Event::Connected => text(alloc, "connected"),
-        Event::SendFlow(active) => text(alloc, if active { "flow" } else { "no flow" }),
-        Event::Error(error) => {
-            let said = format!(in alloc; "error {error}");
-            drop(error);
-            Ok(said?)
         }
     }
 }

@@ -16,7 +16,8 @@
 //! | `sent`, `all_sent` | waits until nothing waits to go out of the channel, or of the connection |
 //! | `close_channel`, `close` | closes, and waits for that |
 //! | `close_channel_when_sent`, `close_when_sent` | the same, once nothing waits to go out |
-//! | `drop_channel`, `drop_connection`, `abandon` | drops the one or the other, or gives up |
+//! | `drop_channel`, `drop_connection`, `forget` | drops the one or the other, or all that is held |
+//! | `abandon` | gives the connection up |
 //! | `end` | waits for the end of the connection |
 //! | `listen`, `events`, `status`, `sleep MS` | events, how the connection stands, a pause |
 //!
@@ -27,6 +28,7 @@
 mod driver;
 mod fates;
 mod limit;
+mod line;
 mod options;
 mod order;
 mod stop;
@@ -39,6 +41,9 @@ use crate::stop::{Stop, said_of};
 use lapin_connection::{MioSpawner, Spawner};
 use std::io::{BufRead, BufReader, ErrorKind};
 use std::process::ExitCode;
+use std::sync::Wait;
+use std::thread::Threads;
+use std::time::Clock;
 use std::{env, io};
 
 /// What the words of the command line say.
@@ -73,46 +78,50 @@ fn words_given(rt: &HostRuntime) -> io::Result<Option<Words>> {
 }
 
 // Does what a line asks for, and says it. Whether the line is known.
-fn drive<S: Spawner + Drop>(
-    rt: &HostRuntime,
+fn drive<S: Spawner + Drop, R: Threads + Wait + Clock + Copy + Send + 'static>(
+    rt: R,
+    out: &HostRuntime,
     driver: &mut Driver<S>,
     line: &str,
-    span: Span,
-    has_times: bool,
+    at: Option<u128>,
 ) -> io::Result<bool> {
-    let took = Span::begin(rt);
-    let at = span.milliseconds(rt);
+    let span = Span::begin(&rt);
     let performed = match order_in(line) {
-        Some(order) => driver.perform(*rt, order),
+        Some(order) => driver.perform(rt, order),
         None => Err(Stop::Unknown),
     };
     let is_known = !matches!(&performed, Err(Stop::Unknown));
     let said = match performed {
         Ok(said) => said,
-        Err(stop) => said_of(rt.alloc(), stop)?,
+        Err(stop) => said_of(out.alloc(), stop)?,
     };
-    let took = took.milliseconds(rt);
-    if has_times {
-        println!(rt; "{at} {took} {line}: {said}")?;
-    } else {
-        println!(rt; "{line}: {said}")?;
+    let took = span.milliseconds(&rt);
+    match at {
+        Some(at) => println!(out; "{at} {took} {line}: {said}")?,
+        None => println!(out; "{line}: {said}")?,
     }
     Ok(is_known)
 }
 
 // Does what each line asks for. Whether all are known.
-fn drive_all<S: Spawner + Drop>(
-    rt: &HostRuntime,
+fn drive_all<S: Spawner + Drop, R: Threads + Wait + Clock + Copy + Send + 'static>(
+    rt: R,
+    out: &HostRuntime,
     driver: &mut Driver<S>,
     words: Words,
 ) -> io::Result<bool> {
-    let span = Span::begin(rt);
+    let span = Span::begin(&rt);
     let mut are_known = true;
-    for line in BufReader::new(rt.alloc(), rt.reader())?.lines(rt.alloc()) {
+    for line in BufReader::new(out.alloc(), out.reader())?.lines(out.alloc()) {
         let line = line?;
         let asked = line.trim();
         if !asked.is_empty() && !asked.starts_with('#') {
-            are_known &= drive(rt, driver, asked, span, words.has_times)?;
+            let at = if words.has_times {
+                Some(span.milliseconds(&rt))
+            } else {
+                None
+            };
+            are_known &= drive(rt, out, driver, asked, at)?;
         }
     }
     Ok(are_known)
@@ -131,7 +140,7 @@ fn main(rt: HostRuntime) -> ExitCode {
         None => MioSpawner::new(rt, alloc),
     };
     let mut driver = Driver::new(alloc, runtime);
-    match drive_all(&rt, &mut driver, words) {
+    match drive_all(rt, &rt, &mut driver, words) {
         Ok(true) => ExitCode::SUCCESS,
         Ok(false) => ExitCode::from(2),
         Err(_) => ExitCode::FAILURE,

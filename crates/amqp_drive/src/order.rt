@@ -61,6 +61,8 @@ pub enum Order<'a> {
     Close(Closed, u64),
     DropChannel,
     DropConnection,
+    /// Lets all go that is held of the connection.
+    Forget,
     Abandon,
     Listen,
     /// The events that came.
@@ -141,6 +143,7 @@ pub fn order_in(line: &str) -> Option<Order<'_>> {
         "received" => received_in(rest),
         "drop_channel" => Some(Order::DropChannel),
         "drop_connection" => Some(Order::DropConnection),
+        "forget" => Some(Order::Forget),
         "abandon" => Some(Order::Abandon),
         "listen" => Some(Order::Listen),
         "events" => Some(Order::Events),

@@ -17,6 +17,9 @@ use std::alloc::{AllocError, Global};
 use std::sync::Wait;
 use std::time::Clock;
 
+/// The properties of a message that outlasts the broker where its queue does: the delivery mode 2.
+const PERSISTENT: &[u8] = &[0x10, 0, 2];
+
 /// A channel.
 #[derive(Drop)]
 pub struct Talk {
@@ -106,7 +109,7 @@ impl Talk {
             immediate: false,
         };
         let method = basic_publish(alloc, &target.exchange, &target.queue, options)?;
-        let Some(properties) = Properties::new(Payload::new(alloc, &[0, 0])?) else {
+        let Some(properties) = Properties::new(Payload::new(alloc, PERSISTENT)?) else {
             return Err(ErrorKind::NoMemory.into());
         };
         let Ok(body) = body(alloc, number, target.octets) else {
