@@ -406,7 +406,7 @@ class Drive:
         status = dict(line.split(":", 1) for line in open(at + "/status"))
         return len(os.listdir(at + "/task")), len(os.listdir(at + "/fd")), int(status["VmRSS"].split()[0])
 
-    def is_as_before(self, seconds=1.5):
+    def is_as_before(self, seconds=float(os.environ.get("HELD", "1"))):
         """Whether it comes to hold no more threads and descriptors than at its start, in time."""
         until = time.monotonic() + seconds
         while self.holds()[:2] != self.before[:2]:
