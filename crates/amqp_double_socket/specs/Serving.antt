@@ -1,5 +1,5 @@
 -- What serving a client by a double does to what is written to the client, and to what is read of it.
-use Rattle.std.specs.Prelude.{◌≡◌, ℕ, ◌-◌, ◌≤◌, List, ◌++◌, ⊤, length, take, drop, Option, None}
+use Rattle.std.specs.Prelude.{◌≡◌, ℕ, ◌+◌, ◌-◌, ◌≤◌, List, ◌++◌, length, take, drop, Option, None}
 use Rattle.std.specs.Io.KnownBytes.{Appends, Consumes}
 use Rattle.amqp_double.specs.Doubles.{DoubleState}
 use Rattle.amqp_double_socket.specs.declared.serving.Ended.{Ended}
@@ -9,29 +9,33 @@ use Rattle.amqp_double_socket.specs.declared.serving.Ended.TheVariants.{Closed, 
 abbrev pub SaysAll : DoubleState → Type 0
 SaysAll d = d.sent ≡ length d.said
 
--- what it said from one place on, up to another
-abbrev pub said_between : DoubleState → ℕ → ℕ → List ℕ
-said_between d from to = take (to - from) (drop from d.said)
+-- it said more, behind what had all been sent; the first octets of that were written, in order, and are those that are
+-- counted as sent
+pub record HasWritten (old new : DoubleState) (before after : Option (List ℕ)) : Type 0 where
+  pub more : List ℕ
+  pub count : ℕ
+  pub said : new.said ≡ old.said ++ more
+  pub sent : new.sent ≡ old.sent + count
+  pub within : count ≤ length more
+  pub written : Appends before after (take count more)
 
--- what was written are the octets that it said, in order, from those that had been sent to those that are
-abbrev pub HasWritten : DoubleState → DoubleState → Option (List ℕ) → Option (List ℕ) → Type 0
-HasWritten old new before after = (old.sent ≤ new.sent) × Appends before after (said_between new old.sent new.sent)
+-- the octets that were read were heard, in order
+abbrev pub HasHeard : DoubleState → DoubleState → Option (List ℕ) → Option (List ℕ) → Type 0
+HasHeard old new before after = (octets : List ℕ) × (new.client ≡ old.client ++ octets) × Consumes before after octets
 
--- it was fed the octets that were read, in order, but for the last of them where memory was refused
-pub record HearsSome (old new : DoubleState) (before after : Option (List ℕ)) : Type 0 where
-  pub octets : List ℕ
-  pub lost : List ℕ
-  pub fed : new.client ≡ old.client ++ octets
-  pub read : Consumes before after (octets ++ lost)
+-- the same, where nothing had been refused
+abbrev pub HearsOn : DoubleState → DoubleState → Option (List ℕ) → Option (List ℕ) → Type 0
+HearsOn old new before after = old.refusal ≡ None → HasHeard old new before after
 
--- the same, where it had refused nothing
-abbrev pub HearsMore : DoubleState → DoubleState → Option (List ℕ) → Option (List ℕ) → Type 0
-HearsMore old new before after = old.refusal ≡ None → HearsSome old new before after
+-- of what was not sent, the first octets were written, and are counted as sent
+abbrev pub Sends : DoubleState → DoubleState → Option (List ℕ) → Option (List ℕ) → Type 0
+Sends old new before after =
+    (old.sent ≤ new.sent) × Appends before after (take (new.sent - old.sent) (drop old.sent old.said))
 
 -- an end before which all that was said was written
 abbrev pub IsWhole : Ended → Type 0
-IsWhole Closed = ⊤
-IsWhole Left = ⊤
-IsWhole (Refused fault) = ⊤
+IsWhole Closed = Unit {0}
+IsWhole Left = Unit {0}
+IsWhole (Refused fault) = Unit {0}
 IsWhole Failed = ⊥
 IsWhole NoMemory = ⊥

@@ -1,10 +1,9 @@
 //! One client that is served: what it says is fed to a double, and what the double answers is written to it.
 
-ghost use Rattle.std.specs.Prelude.{◌≡◌, ◌≢◌, true, length, None, IsTrue, Err};
-ghost use Rattle.std.specs.Io.KnownBytes.{Consumes};
+ghost use Rattle.std.specs.Prelude.{◌≡◌, ◌≢◌, true, None, Some, IfSome, IfNone, Err};
 ghost use Rattle.amqp_double.specs.Doubles.{AnswersClient};
 ghost use Rattle.amqp_double.specs.Faults.{result_of};
-ghost use Rattle.amqp_double_socket.specs.Serving.{HasWritten, HearsMore, SaysAll, IsWhole};
+ghost use Rattle.amqp_double_socket.specs.Serving.{SaysAll, HasWritten, HearsOn, Sends, IsWhole};
 
 use amqp_double::{Double, DoubleFault};
 use std::alloc::Global;
@@ -41,7 +40,8 @@ pub fn serve<R: Read, W: Write>(
     ensures answers { AnswersClient double.new }
     ensures written { HasWritten double.old double.new (W.contents writer.old) (W.contents writer.new) }
     ensures whole { IsWhole result → SaysAll double.new }
-    ensures heard { HearsMore double.old double.new (R.remaining reader.old) (R.remaining reader.new) }
+    ensures heard { result ≢ Ended.NoMemory
+        → HearsOn double.old double.new (R.remaining reader.old) (R.remaining reader.new) }
     ensures closed { result ≡ Ended.Closed → double.new.closed ≡ true }
     ensures refused { (fault : DoubleFault) → result ≡ Ended.Refused fault → Err fault ≡ result_of double.new.refusal }
 {
@@ -63,7 +63,18 @@ fn serve_piece<R: Read, W: Write>(
     reader: &mut R,
     writer: &mut W,
     space: &mut [u8],
-) -> Option<Ended> {
+) -> Option<Ended>
+    requires sent { SaysAll double.old }
+    ensures answers { AnswersClient double.new }
+    ensures written { HasWritten double.old double.new (W.contents writer.old) (W.contents writer.new) }
+    ensures whole { IfSome result IsWhole → SaysAll double.new }
+    ensures heard { result ≢ Some Ended.NoMemory
+        → HearsOn double.old double.new (R.remaining reader.old) (R.remaining reader.new) }
+    ensures unrefused { IfNone result (double.old.refusal ≡ None → double.new.refusal ≡ None) }
+    ensures closed { result ≡ Some Ended.Closed → double.new.closed ≡ true }
+    ensures refused { (fault : DoubleFault) → result ≡ Some (Ended.Refused fault)
+        → Err fault ≡ result_of double.new.refusal }
+{
     let count = match reader.read(space) {
         Ok(0) => return Some(Ended::Left),
         Ok(count) => count,
@@ -88,7 +99,12 @@ fn serve_piece<R: Read, W: Write>(
 }
 
 // Writes all that the double answered and that was not sent. Whether all was taken.
-fn say<W: Write>(double: &mut Double, writer: &mut W) -> bool {
+fn say<W: Write>(double: &mut Double, writer: &mut W) -> bool
+    ensures same { double.new ≡ record double.old { sent = double.new.sent } }
+    ensures answers { AnswersClient double.new }
+    ensures sends { Sends double.old double.new (W.contents writer.old) (W.contents writer.new) }
+    ensures all { result ≡ true → SaysAll double.new }
+{
     'octets: for _ in 0..u64::MAX {
         if double.output().is_empty() {
             return true;
