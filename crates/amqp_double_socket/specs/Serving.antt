@@ -6,8 +6,8 @@ use Rattle.amqp_double_socket.specs.declared.serving.Ended.{Ended}
 use Rattle.amqp_double_socket.specs.declared.serving.Ended.TheVariants.{Closed, Left, Refused, Failed, NoMemory}
 
 -- all that it said was sent
-abbrev pub SaysAll : DoubleState → Type 0
-SaysAll d = d.sent ≡ length d.said
+abbrev pub HasSentAll : DoubleState → Type 0
+HasSentAll d = d.sent ≡ length d.said
 
 -- it said more, behind what had all been sent; the first octets of that were written, in order, and are those that are
 -- counted as sent
@@ -20,12 +20,12 @@ pub record HasWritten (old new : DoubleState) (before after : Option (List ℕ))
   pub written : Appends before after (take count more)
 
 -- the octets that were read were heard, in order
-abbrev pub HasHeard : DoubleState → DoubleState → Option (List ℕ) → Option (List ℕ) → Type 0
-HasHeard old new before after = (octets : List ℕ) × (new.client ≡ old.client ++ octets) × Consumes before after octets
+abbrev pub WasFed : DoubleState → DoubleState → Option (List ℕ) → Option (List ℕ) → Type 0
+WasFed old new before after = (octets : List ℕ) × (new.client ≡ old.client ++ octets) × Consumes before after octets
 
 -- the same, where nothing had been refused
-abbrev pub HearsOn : DoubleState → DoubleState → Option (List ℕ) → Option (List ℕ) → Type 0
-HearsOn old new before after = old.refusal ≡ None → HasHeard old new before after
+abbrev pub FeedsOn : DoubleState → DoubleState → Option (List ℕ) → Option (List ℕ) → Type 0
+FeedsOn old new before after = old.refusal ≡ None → WasFed old new before after
 
 -- of what was not sent, the first octets were written, and are counted as sent
 abbrev pub Sends : DoubleState → DoubleState → Option (List ℕ) → Option (List ℕ) → Type 0
@@ -33,9 +33,9 @@ Sends old new before after =
     (old.sent ≤ new.sent) × Appends before after (take (new.sent - old.sent) (drop old.sent old.said))
 
 -- an end before which all that was said was written
-abbrev pub IsWhole : Ended → Type 0
-IsWhole Closed = Unit {0}
-IsWhole Left = Unit {0}
-IsWhole (Refused fault) = Unit {0}
-IsWhole Failed = ⊥
-IsWhole NoMemory = ⊥
+abbrev pub EndsWhole : Ended → Type 0
+EndsWhole Closed = Unit {0}
+EndsWhole Left = Unit {0}
+EndsWhole (Refused fault) = Unit {0}
+EndsWhole Failed = ⊥
+EndsWhole NoMemory = ⊥

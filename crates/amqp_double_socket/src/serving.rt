@@ -3,7 +3,7 @@
 ghost use Rattle.std.specs.Prelude.{◌≡◌, ◌≢◌, true, None, Some, IfSome, IfNone, Err};
 ghost use Rattle.amqp_double.specs.Doubles.{AnswersClient};
 ghost use Rattle.amqp_double.specs.Faults.{result_of};
-ghost use Rattle.amqp_double_socket.specs.Serving.{SaysAll, HasWritten, HearsOn, Sends, IsWhole};
+ghost use Rattle.amqp_double_socket.specs.Serving.{HasSentAll, HasWritten, FeedsOn, Sends, EndsWhole};
 
 use amqp_double::{Double, DoubleFault};
 use std::alloc::Global;
@@ -36,12 +36,12 @@ pub fn serve<R: Read, W: Write>(
     reader: &mut R,
     writer: &mut W,
 ) -> Ended
-    requires sent { SaysAll double.old }
+    requires sent { HasSentAll double.old }
     ensures answers { AnswersClient double.new }
     ensures written { HasWritten double.old double.new (W.contents writer.old) (W.contents writer.new) }
-    ensures whole { IsWhole result → SaysAll double.new }
+    ensures whole { EndsWhole result → HasSentAll double.new }
     ensures heard { result ≢ Ended.NoMemory
-        → HearsOn double.old double.new (R.remaining reader.old) (R.remaining reader.new) }
+        → FeedsOn double.old double.new (R.remaining reader.old) (R.remaining reader.new) }
     ensures closed { result ≡ Ended.Closed → double.new.closed ≡ true }
     ensures refused { (fault : DoubleFault) → result ≡ Ended.Refused fault → Err fault ≡ result_of double.new.refusal }
 {
@@ -64,12 +64,12 @@ fn serve_piece<R: Read, W: Write>(
     writer: &mut W,
     space: &mut [u8],
 ) -> Option<Ended>
-    requires sent { SaysAll double.old }
+    requires sent { HasSentAll double.old }
     ensures answers { AnswersClient double.new }
     ensures written { HasWritten double.old double.new (W.contents writer.old) (W.contents writer.new) }
-    ensures whole { IfSome result IsWhole → SaysAll double.new }
+    ensures whole { IfSome result EndsWhole → HasSentAll double.new }
     ensures heard { result ≢ Some Ended.NoMemory
-        → HearsOn double.old double.new (R.remaining reader.old) (R.remaining reader.new) }
+        → FeedsOn double.old double.new (R.remaining reader.old) (R.remaining reader.new) }
     ensures unrefused { IfNone result (double.old.refusal ≡ None → double.new.refusal ≡ None) }
     ensures closed { result ≡ Some Ended.Closed → double.new.closed ≡ true }
     ensures refused { (fault : DoubleFault) → result ≡ Some (Ended.Refused fault)
@@ -103,7 +103,7 @@ fn say<W: Write>(double: &mut Double, writer: &mut W) -> bool
     ensures same { double.new ≡ record double.old { sent = double.new.sent } }
     ensures answers { AnswersClient double.new }
     ensures sends { Sends double.old double.new (W.contents writer.old) (W.contents writer.new) }
-    ensures all { result ≡ true → SaysAll double.new }
+    ensures all { result ≡ true → HasSentAll double.new }
 {
     'octets: for _ in 0..u64::MAX {
         if double.output().is_empty() {
