@@ -45,6 +45,8 @@ pub fn serve<R: Read, W: Write>(
     ensures closed { result ≡ Ended.Closed → double.new.closed ≡ true }
     ensures refused { (fault : DoubleFault) → result ≡ Ended.Refused fault → Err fault ≡ result_of double.new.refusal }
 {
+    // What the double answered so far is what it has to say.
+    let _ = double.closed();
     let Ok(mut space) = vec![in alloc; 0; PIECE] else {
         return Ended::NoMemory;
     };
@@ -64,6 +66,7 @@ fn serve_piece<R: Read, W: Write>(
     writer: &mut W,
     space: &mut [u8],
 ) -> Option<Ended>
+    requires answers { AnswersClient double.old }
     requires sent { HasSentAll double.old }
     ensures answers { AnswersClient double.new }
     ensures written { HasWritten double.old double.new (W.contents writer.old) (W.contents writer.new) }
@@ -100,7 +103,7 @@ fn serve_piece<R: Read, W: Write>(
 
 // Writes all that the double answered and that was not sent. Whether all was taken.
 fn say<W: Write>(double: &mut Double, writer: &mut W) -> bool
-    ensures same { double.new ≡ record double.old { sent = double.new.sent } }
+    requires answers { AnswersClient double.old }
     ensures answers { AnswersClient double.new }
     ensures sends { Sends double.old double.new (W.contents writer.old) (W.contents writer.new) }
     ensures all { result ≡ true → HasSentAll double.new }
