@@ -1,8 +1,7 @@
 //! What callers do, on one thread or on several.
 //!
 //! `open` opens a channel and waits for it; `send N`, `publish N`, `flow N` and `close N` command on the channel
-//! of that number and wait; `send_and_go N` lets the answer go, and `post N` those of so many messages `hello` to the
-//! queue `q` on the first channel, which are no commands that a gate counts; `renew` and `close_all` command on the
+//! of that number and wait; `send_and_go N` lets the answer go; `renew` and `close_all` command on the
 //! connection; `many` makes a thousand commands. `drop N` drops a channel. `run` runs the connection; `end`
 //! waits for its end. `ticks N` waits for so many ticks, `through N` says that so many commands have their
 //! numbers, `silent N` tells nothing for so many milliseconds, `shut` ends the input. `until NAME` waits until
@@ -161,42 +160,6 @@ fn publishes_on<R: Wait>(
             Err(ErrorKind::OutOfTurns.into())
         }
     }
-}
-
-// A message `hello` to the queue `q`.
-fn hello(alloc: Global) -> std::result::Result<(RawMethod, Properties, Payload), AllocError> {
-    let octets = match Payload::new(alloc, b"hello") {
-        Ok(octets) => octets,
-        Err(NoMemory) => return Err(AllocError),
-    };
-    let Ok(method) = RawMethod::new(alloc, 60, 40, b"\0\0\0\x01q\0") else {
-        drop(octets);
-        return Err(AllocError);
-    };
-    match no_properties(alloc) {
-        Ok(properties) => Ok((method, properties, octets)),
-        Err(AllocError) => {
-            drop(method);
-            drop(octets);
-            Err(AllocError)
-        }
-    }
-}
-
-// Publishes so many messages on the first channel, and lets their answers go.
-fn posts<R: Wait>(rt: &R, hand: &mut Hand, count: u64) -> Done {
-    let id = match hand.channels.first() {
-        Some(channel) => channel.id(),
-        None => return hand.say("NO CHANNEL"),
-    };
-    for _ in 0..count {
-        let message = hello(hand.alloc)?;
-        match publishes_on(rt, hand, id, message) {
-            Ok(pending) => drop(pending),
-            Err(error) => return hand.say_error(error),
-        }
-    }
-    Ok(())
 }
 
 // Asks the server to send content, and waits for what it does.
@@ -368,7 +331,6 @@ pub fn act<R: Wait + Clock>(
         "run" => run(rt, hand)?,
         "end" => waits_for_the_end(rt, stage, hand)?,
         "until" => until(rt, stage.gate, hand, rest)?,
-        "post" => posts(rt, hand, number)?,
         _ => {
             let done = at_gate(rt, stage.gate, hand, word, number)?;
             return Ok(done || command(rt, stage, hand, word, (number % 65_536) as u16)?);

@@ -1,9 +1,7 @@
-//! Tests of what stands on threads and sockets: sockets as ports, a connection from end to end, also
-//! with a server double, and the small callers to copy.
+//! Tests of what stands on threads and sockets: sockets as ports, a connection from end to end, and
+//! the small callers to copy.
 #![tactic(auto)]
 
-#[cfg(test)]
-mod doubled;
 #[cfg(test)]
 mod live;
 #[cfg(test)]
