@@ -36,7 +36,8 @@ class Broker:
         (self.state / "plugins").write_text("[].\n")
         (self.state / "environment").write_text("")
         self.environment = dict(
-            os.environ, HOME=str(self.state), ERL_EPMD_PORT=str(self.names_port), ERL_EPMD_ADDRESS="127.0.0.1",
+            os.environ, HOME=str(self.state), ERL_CRASH_DUMP=str(self.state / "crash"),
+            ERL_EPMD_PORT=str(self.names_port), ERL_EPMD_ADDRESS="127.0.0.1",
             RABBITMQ_NODENAME=f"{name}@localhost", RABBITMQ_NODE_IP_ADDRESS="127.0.0.1",
             RABBITMQ_NODE_PORT=str(self.port), RABBITMQ_DIST_PORT=str(node_port),
             RABBITMQ_MNESIA_BASE=str(self.state / "data"), RABBITMQ_LOG_BASE=str(self.state / "log"),
