@@ -10,3 +10,5 @@ pub mod Owning
 pub mod Standing
 -- A step whose turn was cut exactly where it was refused.
 pub mod Taking
+-- What may be done with a hub that is lent.
+pub mod Lending

@@ -10,3 +10,5 @@ pub mod Due
 pub mod Marks
 -- and what is then done
 pub mod Owning
+-- what may be done with a hub that is lent
+pub mod Lending

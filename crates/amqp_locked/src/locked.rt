@@ -12,6 +12,8 @@ ghost use Rattle.amqp_rules.specs.Queries.{opening};
 ghost use Rattle.amqp_journal.specs.Journal.{WasTaken};
 ghost use Rattle.amqp_hub.specs.Passes.{new_passes, AreNew, foreign, IsForeign};
 ghost use Rattle.amqp_hub.specs.Entering.{called, next_entry};
+ghost use Rattle.amqp_hub.specs.Guarded.{Guarded};
+ghost use Rattle.amqp_hub.specs.Lending.{GoesOn};
 ghost use Rattle.amqp_hub.specs.Marks.{kept_in, StandsAt};
 ghost use Rattle.amqp_locked.specs.UnderLock.{contents, watched, with_hub, with_nudge, with_limit, with_session, newly_locked};
 ghost use Rattle.amqp_locked.specs.Turning.{TurnsAfterMarks, StarvesAfterMarks};
@@ -536,8 +538,11 @@ impl Locked {
 
     /// Lends the hub for one hold. Who uses it applies no turn, and puts no other hub in its place.
     pub fn lend<T, F: FnOnce(&mut Hub) -> T>(&mut self, use_hub: F) -> T
-        requires { F.IsAlwaysCallable use_hub }
+        requires callable { F.IsAlwaysCallable use_hub }
+        requires goes_on { (before after : Guarded) (given : T) → FnOnceReturnsAtMut F.FnOnce use_hub before given after
+            → GoesOn before after }
         ensures given { FnOnceReturnsAtMut F.FnOnce use_hub self.old.hub result self.new.hub }
+        ensures goes_on { GoesOn self.old.hub self.new.hub }
         ensures rest { contents self.new ≡ with_hub self.new.hub (contents self.old) }
     {
         let given = use_hub(&mut self.hub);

@@ -3,6 +3,7 @@
 ghost use Rattle.std.specs.Prelude.{◌≡◌, ◌+◌, IfOk, IfSome};
 ghost use Rattle.amqp_hub.specs.Guarded.{Guarded};
 ghost use Rattle.amqp_hub.specs.Entering.{called};
+ghost use Rattle.amqp_hub.specs.Lending.{GoesOn};
 ghost use Rattle.amqp_uses.specs.Messages.{publication};
 
 use crate::pooling::{Begun, Finished, Sending, begin_message, finish_message};
@@ -28,6 +29,7 @@ fn begin_within(
 ) -> Result<Option<Sending>>
     ensures published { IfOk result (λ begun. IfSome begun (λ s. (before : Guarded) × (hub.new
         ≡ called pass.old.number (pass.old.made + 1) (publication s.lease queue.now text.now) before))) }
+    ensures goes_on { GoesOn hub.old hub.new }
 {
     if hub.session().has_ended() {
         return Err(ErrorKind::InvalidConnectionState(hub.session().state()).into());
@@ -69,7 +71,9 @@ fn finish_within(
     pool: &mut Pool,
     hub: &mut Hub,
     on_its_way: &mut Option<Sending>,
-) -> Option<Result<()>> {
+) -> Option<Result<()>>
+    ensures { GoesOn hub.old hub.new }
+{
     let Some(sending) = on_its_way.take() else {
         return Some(Ok(()));
     };

@@ -5,6 +5,7 @@ ghost use Rattle.amqp_promise.specs.declared.error.ErrorKind.{ErrorKind};
 ghost use Rattle.amqp_answers.specs.declared.answer.Answer.{Answer};
 ghost use Rattle.amqp_rules.specs.Answers.{Takes};
 ghost use Rattle.amqp_hub.specs.Entering.{called};
+ghost use Rattle.amqp_hub.specs.Lending.{GoesOn};
 ghost use Rattle.amqp_pool.specs.declared.lease.Leased.TheVariants.{Now};
 ghost use Rattle.amqp_pool.specs.Pooled.{AreMade};
 ghost use Rattle.amqp_pool.specs.Leasing.{first_ready, after_lease, is_leased};
@@ -62,6 +63,7 @@ pub fn begin_message(
     ensures published { IfSending result (λ s. hub.new
         ≡ called pass.old.number (pass.old.made + 1) (publication s.lease queue.now text.now) hub.old) }
     ensures promise { IfSending result (λ s. s.promise ≡ hub.old.engine.talk.made) }
+    ensures goes_on { GoesOn hub.old hub.new }
     ensures still_made { AreMade pool.new hub.new.engine.talk }
 {
     match pool.lease(hub, pass)? {
@@ -123,6 +125,7 @@ pub fn finish_message(pool: &mut Pool, hub: &mut Hub, sending: Sending) -> Finis
     ensures finished { (answer : Option (Result Answer ErrorKind))
         × Takes sending.promise answer hub.old.engine.talk hub.new.engine.talk
         × IsFinished answer hub.new.engine.talk sending pool.old result pool.new }
+    ensures goes_on { GoesOn hub.old hub.new }
     ensures still_made { AreMade pool.new hub.new.engine.talk }
 {
     let Some(answer) = hub.poll(sending.promise) else {

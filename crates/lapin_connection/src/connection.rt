@@ -6,6 +6,7 @@ ghost use Rattle.std.specs.Fn.{FnOnceReturnsAtMut, CalledAtMut};
 ghost use Rattle.amqp_rules.specs.Commands.{takes_promise};
 ghost use Rattle.amqp_commands.specs.declared.command.Cmd.TheVariants.{OpenChannel, CloseConnection, UpdateSecret, Listen};
 ghost use Rattle.amqp_hub.specs.Guarded.{Guarded};
+ghost use Rattle.amqp_hub.specs.Lending.{GoesOn};
 ghost use Rattle.amqp_hub.specs.Passes.{made_of, places, gapless};
 ghost use Rattle.lapin_connection.specs.Commands.{Shows, HasReceipt, Refuses, RefusesOneOf, AreNumberedOn};
 ghost use Rattle.lapin_connection.specs.Handles.{connection_source, pending_source, listener_source, settling_of, engine_begun};
@@ -260,12 +261,16 @@ impl Connection {
         self.shared.locked.lock(rt).tally(passes)
     }
 
-    /// Lends the hub for one hold of the lock, and gives what it was used for. That applies no turn, puts no
-    /// other hub in its place, and calls nothing of this connection. A channel that is opened by the hub has no
+    /// Lends the hub for one hold of the lock, and gives what it was used for. That goes on with it, as its calls for
+    /// commands and for what is taken do, and `settle`: it applies no turn, and puts no other hub in its place. It
+    /// calls nothing of this connection. A channel that is opened by the hub has no
     /// handle: nothing closes it but a command, and while it is listed no drop closes the connection.
     pub fn with_hub<R: Wait, T, F: FnOnce(&mut Hub) -> T>(&self, rt: &R, use_hub: F) -> T
-        requires { F.IsAlwaysCallable use_hub }
-        ensures { (before after : Guarded) × FnOnceReturnsAtMut F.FnOnce use_hub before result after }
+        requires callable { F.IsAlwaysCallable use_hub }
+        requires goes_on { (before after : Guarded) (given : T) → FnOnceReturnsAtMut F.FnOnce use_hub before given after
+            → GoesOn before after }
+        ensures { (before after : Guarded) × FnOnceReturnsAtMut F.FnOnce use_hub before result after
+            × GoesOn before after }
     {
         self.shared.lend(rt, use_hub)
     }

@@ -6,6 +6,7 @@ ghost use Rattle.std.specs.Fn.{FnOnceReturnsAtMut, CalledAtMut};
 ghost use Rattle.amqp_rules.specs.Commands.{takes_promise};
 ghost use Rattle.amqp_commands.specs.declared.command.Cmd.TheVariants.{OpenChannel};
 ghost use Rattle.amqp_hub.specs.Guarded.{Guarded};
+ghost use Rattle.amqp_hub.specs.Lending.{GoesOn};
 ghost use Rattle.lapin_connection.specs.Commands.{Shows, Refuses};
 
 use crate::changes::{Changes, Waits};
@@ -291,8 +292,11 @@ impl Shared {
 
     /// Lends the hub for one hold. Where something was entered then, all who wait are woken, and the loop.
     pub fn lend<R: Wait, T, F: FnOnce(&mut Hub) -> T>(&self, rt: &R, use_hub: F) -> T
-        requires { F.IsAlwaysCallable use_hub }
-        ensures { (before after : Guarded) × FnOnceReturnsAtMut F.FnOnce use_hub before result after }
+        requires callable { F.IsAlwaysCallable use_hub }
+        requires goes_on { (before after : Guarded) (given : T) → FnOnceReturnsAtMut F.FnOnce use_hub before given after
+            → GoesOn before after }
+        ensures { (before after : Guarded) × FnOnceReturnsAtMut F.FnOnce use_hub before result after
+            × GoesOn before after }
     {
         let mut guard = self.locked.lock(rt);
         let before = guard.entries();

@@ -1,5 +1,7 @@
 //! A caller that makes a thousand commands.
 
+ghost use Rattle.amqp_hub.specs.Lending.{GoesOn};
+
 use crate::acts::{publishes, sends};
 use crate::hand::{Done, Hand, Stage, answered};
 use amqp_frame::RawMethod;
@@ -12,7 +14,10 @@ use std::sync::Wait;
 const COMMANDS: u64 = 1_000;
 
 /// Enters a send on the channel of this number, and gives its promise.
-pub(crate) fn enters_send(hub: &mut Hub, alloc: Global, pass: &mut Pass, id: u16) -> Option<u64> {
+#[tactic(auto, using(amqp_hub::proofs::Lending::goes_still, amqp_hub::proofs::Lending::goes_called))]
+pub(crate) fn enters_send(hub: &mut Hub, alloc: Global, pass: &mut Pass, id: u16) -> Option<u64>
+    ensures { GoesOn hub.old hub.new }
+{
     let Ok(method) = RawMethod::new(alloc, 60, 40, &[]) else {
         return None;
     };
@@ -56,6 +61,14 @@ fn is_no_channel(answer: Option<Result<Answer>>, id: u16) -> bool {
     }
 }
 
+// The answer to a promise, where there is one.
+#[tactic(auto, using(amqp_hub::proofs::Lending::goes_taken))]
+fn polled(hub: &mut Hub, number: u64) -> Option<Result<Answer>>
+    ensures { GoesOn hub.old hub.new }
+{
+    hub.poll(number)
+}
+
 // Whether a send on a channel that is not open is refused for its number.
 fn is_refused<R: Wait>(
     rt: &R,
@@ -65,7 +78,7 @@ fn is_refused<R: Wait>(
     id: u16,
 ) -> bool {
     match connection.with_hub(rt, |hub| enters_send(hub, alloc, pass, id)) {
-        Some(number) => is_no_channel(connection.with_hub(rt, |hub| hub.poll(number)), id),
+        Some(number) => is_no_channel(connection.with_hub(rt, |hub| polled(hub, number)), id),
         None => false,
     }
 }

@@ -6,6 +6,8 @@
 //! begin anew, and says whether all its entries went and are counted, and the next entry goes on; `left N` whether
 //! the answer to that promise is there; `gone N` how many events, and frames of that channel, went that nobody took.
 
+ghost use Rattle.amqp_hub.specs.Lending.{GoesOn};
+
 use amqp_session::{Cmd, Result};
 use amqp_types::NoMemory;
 use lapin_connection::{ChannelStatus, Connection, ConnectionStatus, Entry, Hub};
@@ -271,7 +273,10 @@ fn say_gone<R: Wait>(rt: &R, connection: &Connection, hand: &mut Hand, id: u16) 
 }
 
 // Whether this promise has an answer that was not taken.
-fn has_answer(hub: &mut Hub, number: u64) -> bool {
+#[tactic(auto, using(amqp_hub::proofs::Lending::goes_taken))]
+fn has_answer(hub: &mut Hub, number: u64) -> bool
+    ensures { GoesOn hub.old hub.new }
+{
     match hub.poll(number) {
         Some(answer) => {
             drop(answer);

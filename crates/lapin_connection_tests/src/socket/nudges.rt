@@ -1,5 +1,7 @@
 //! The first command after a turn, and each connection or channel that is dropped, ends the wait of the port.
 
+ghost use Rattle.amqp_hub.specs.Lending.{GoesOn};
+
 use crate::socket::quiet::{ENDS, GOES_ON, QuietSpawner, STANDS, STOPS};
 use amqp_hub::Hub;
 use amqp_session::{Cmd, ConnectionProperties};
@@ -238,8 +240,19 @@ fn closing_nudges<R: Wait>(rt: &R, alloc: Global, live: &mut Live) -> Outcome<bo
     live.watch.hears()
 }
 
+// How many entries a hub has.
+#[tactic(auto, using(amqp_hub::proofs::Lending::goes_still))]
+fn entries_of(hub: &mut Hub) -> usize
+    ensures { GoesOn hub.old hub.new }
+{
+    hub.entries()
+}
+
 // Whether a channel is asked for by the hub.
-fn opens_by(hub: &mut Hub, pass: &mut Pass) -> bool {
+#[tactic(auto, using(amqp_hub::proofs::Lending::goes_still, amqp_hub::proofs::Lending::goes_called))]
+fn opens_by(hub: &mut Hub, pass: &mut Pass) -> bool
+    ensures { GoesOn hub.old hub.new }
+{
     let told = hub.command(pass, Cmd::OpenChannel);
     let opens = told.is_ok();
     drop(told);
@@ -248,7 +261,7 @@ fn opens_by(hub: &mut Hub, pass: &mut Pass) -> bool {
 
 // Whether a look at the hub, which enters nothing, does not nudge, and a command that is given to it does.
 fn lending_nudges<R: Wait>(rt: &R, live: &mut Live) -> Outcome<bool> {
-    let entries = live.connection.with_hub(rt, |hub| hub.entries());
+    let entries = live.connection.with_hub(rt, |hub| entries_of(hub));
     let looks = entries >= 2 && !live.watch.hears()?;
     let pass = &mut live.pass;
     let opens = live.connection.with_hub(rt, |hub| opens_by(hub, pass));
@@ -310,7 +323,7 @@ fn nudged_and_listens<R: Wait>(rt: &R, live: &mut Live) -> Outcome<bool> {
 // Whether neither the calls before nor a look at the hub nudged, and the drop of what waits for a channel
 // does. It takes that.
 fn drop_alone_nudges<R: Wait>(rt: &R, live: &mut Live, opening: Pending<Channel>) -> Outcome<bool> {
-    let entries = live.connection.with_hub(rt, |hub| hub.entries());
+    let entries = live.connection.with_hub(rt, |hub| entries_of(hub));
     let heard = live.watch.hears();
     drop(opening);
     let others = !heard? && entries >= 3;
