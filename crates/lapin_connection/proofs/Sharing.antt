@@ -8,6 +8,7 @@ use Rattle.futures.proofs.task.source.Source.TheSendSync.{the_send as source_fie
 use Rattle.amqp_hub.proofs.marks.Places.TheSendSync.{the_field_send as places_field}
 use Rattle.amqp_hub.proofs.marks.Found.TheSendSync.{the_send as found}
 use Rattle.amqp_hub.proofs.due.Owner.TheSendSync.{the_send as owner}
+use Rattle.amqp_locked.proofs.backlog.Backlog.TheSendSync.{the_field_send as backlog_field}
 use Rattle.amqp_locked.proofs.late.Late.TheSendSync.{the_send as late}
 use Rattle.amqp_locked.proofs.weights.Weights.TheSendSync.{the_field_send as weights_field}
 use Rattle.amqp_locked.proofs.waking.Seen.TheSendSync.{the_field_send as seen_field}
@@ -22,7 +23,7 @@ use Rattle.lapin_connection.proofs.Sendable.{hub}
 
 -- what lies under the lock
 pub locked : IsSend locked_row
-locked = search (sendable, global_field, hub, places_field, found, owner, late, weights_field, seen_field, reading_field, pace_field, tasks, crosses) depth 20
+locked = search (sendable, global_field, hub, places_field, found, owner, late, backlog_field, weights_field, seen_field, reading_field, pace_field, tasks, crosses) depth 20
 
 -- what is shared, from one thread to another
 pub shared_send : IsSend shared_row
