@@ -59,7 +59,7 @@ impl<S: Spawner + Drop> Driver<S> {
     }
 
     // Connects to an address with options. The connection before is dropped.
-    fn open<R: Threads + Wait + Copy + Send + 'static>(
+    fn open<R: Threads + Wait + Clock + Copy + Send + 'static>(
         &mut self,
         rt: R,
         uri: &str,

@@ -76,7 +76,7 @@ fn job_of<C: ProviderChoice, P: Port + Drop>(
 }
 
 // Starts what runs a connection.
-fn start<S: Spawner, A: AuthProvider + 'static, R: Threads + Wait + Copy + Send + 'static>(
+fn start<S: Spawner, A: AuthProvider + 'static, R: Threads + Wait + Clock + Copy + Send + 'static>(
     rt: R,
     job: LoopJob<S::P, A>,
     spawner: &mut S,
@@ -101,7 +101,7 @@ fn start<S: Spawner, A: AuthProvider + 'static, R: Threads + Wait + Copy + Send 
 }
 
 // Connects over a port to an address.
-fn connect_over<C, S: Spawner, R: Threads + Wait + Copy + Send + 'static>(
+fn connect_over<C, S: Spawner, R: Threads + Wait + Clock + Copy + Send + 'static>(
     rt: R,
     alloc: Global,
     uri: &AMQPUri,

@@ -132,7 +132,7 @@ fn given_up<R: Wait>(rt: &R, connection: Connection) -> Error {
 
 // Connects to an address.
 #[tactic(auto, using(crate::proofs::Begun::has_begun_to))]
-fn connect<S: Spawner, R: Threads + Wait + Copy + Send + 'static>(
+fn connect<S: Spawner, R: Threads + Wait + Clock + Copy + Send + 'static>(
     rt: R,
     alloc: Global,
     uri: &AMQPUri,
