@@ -1,6 +1,6 @@
 //! What lies under the lock: a hub, the places of its handles, and who waits to be woken.
 
-ghost use Rattle.std.specs.Prelude.{◌≡◌, ◌≤◌, ◌<◌, ◌⊎◌, ◌+◌, ◌++◌, ℕ, [], true, map, replicate, ◌∷◌, IfOk, IfErr, IfNone, IfSome, OnOk, OnErr, None, Some, Ok, length, IsSome, false, not};
+ghost use Rattle.std.specs.Prelude.{◌≡◌, ◌≤◌, ◌<◌, ◌⊎◌, ◌+◌, ◌++◌, ℕ, [], true, map, replicate, ◌∷◌, IfOk, IfErr, IfNone, IfSome, OnOk, OnErr, None, Some, Ok, length, IsSome, false, not, Option};
 ghost use Rattle.std.specs.Fn.{FnOnceReturnsAtMut, CalledAtMut};
 ghost use Rattle.futures.specs.Task.{Covers, Keeps};
 ghost use Rattle.futures.specs.Poll.{OnPending};
@@ -552,9 +552,12 @@ impl Locked {
 
     /// The same, as often as it is asked.
     pub fn look_in<T, F: FnMut(&mut Hub) -> Option<T>>(&mut self, look: &mut F) -> Option<T>
-        requires { F.IsAlwaysCallable look.old }
+        requires callable { F.IsAlwaysCallable look.old }
+        requires goes_on { (looks looked : F) (before after : Guarded) (found : Option T)
+            → CalledAtMut F.FnMut looks before found looked after → GoesOn before after }
         ensures callable { F.IsAlwaysCallable look.new }
         ensures found { CalledAtMut F.FnMut look.old self.old.hub result look.new self.new.hub }
+        ensures goes_on { GoesOn self.old.hub self.new.hub }
         ensures rest { contents self.new ≡ with_hub self.new.hub (contents self.old) }
     {
         let found = look(&mut self.hub);

@@ -56,7 +56,9 @@ fn begun_within(
     pass: &mut Pass,
     queue: &ShortString,
     text: &[u8],
-) -> Option<Result<Sending>> {
+) -> Option<Result<Sending>>
+    ensures { GoesOn hub.old hub.new }
+{
     match begin_within(alloc, pool, hub, pass, queue, text) {
         Ok(None) => None,
         Ok(Some(sending)) => Some(Ok(sending)),

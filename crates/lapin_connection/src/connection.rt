@@ -1,6 +1,6 @@
 //! Connections.
 
-ghost use Rattle.std.specs.Prelude.{◌≡◌, ◌≤◌, ◌+◌, Some, None, true, IfOk, IfErr, OnOk, OnErr, All, map};
+ghost use Rattle.std.specs.Prelude.{◌≡◌, ◌≤◌, ◌+◌, Option, Some, None, true, IfOk, IfErr, OnOk, OnErr, All, map};
 ghost use Rattle.std.specs.Arc.{arc_value};
 ghost use Rattle.std.specs.Fn.{FnOnceReturnsAtMut, CalledAtMut};
 ghost use Rattle.amqp_rules.specs.Commands.{takes_promise};
@@ -280,9 +280,11 @@ impl Connection {
     /// state of a channel or of the connection, room, or what another hold of `with_hub` entered. Where a hold
     /// entered something and found nothing, the next one follows at once.
     pub fn wait_with_hub<R: Wait, T, F: FnMut(&mut Hub) -> Option<T>>(&self, rt: &R, look: F) -> T
-        requires { F.IsAlwaysCallable look }
+        requires callable { F.IsAlwaysCallable look }
+        requires goes_on { (looks looked : F) (before after : Guarded) (found : Option T)
+            → CalledAtMut F.FnMut looks before found looked after → GoesOn before after }
         ensures { (before after : Guarded) × (looks looked : F)
-            × CalledAtMut F.FnMut looks before (Some result) looked after }
+            × CalledAtMut F.FnMut looks before (Some result) looked after × GoesOn before after }
     {
         self.shared.look(rt, look)
     }

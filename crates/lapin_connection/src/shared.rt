@@ -1,6 +1,6 @@
 //! What the handles of a connection share.
 
-ghost use Rattle.std.specs.Prelude.{◌≡◌, ◌≤◌, ◌+◌, Some, None, true, false, IfOk, OnOk, OnErr};
+ghost use Rattle.std.specs.Prelude.{◌≡◌, ◌≤◌, ◌+◌, Option, Some, None, true, false, IfOk, OnOk, OnErr};
 ghost use Rattle.std.specs.Arc.{arc_value};
 ghost use Rattle.std.specs.Fn.{FnOnceReturnsAtMut, CalledAtMut};
 ghost use Rattle.amqp_rules.specs.Commands.{takes_promise};
@@ -309,9 +309,11 @@ impl Shared {
 
     /// Lends the hub for one hold after another until something was found there.
     pub fn look<R: Wait, T, F: FnMut(&mut Hub) -> Option<T>>(&self, rt: &R, mut look: F) -> T
-        requires { F.IsAlwaysCallable look }
+        requires callable { F.IsAlwaysCallable look }
+        requires goes_on { (looks looked : F) (before after : Guarded) (found : Option T)
+            → CalledAtMut F.FnMut looks before found looked after → GoesOn before after }
         ensures { (before after : Guarded) × (looks looked : F)
-            × CalledAtMut F.FnMut looks before (Some result) looked after }
+            × CalledAtMut F.FnMut looks before (Some result) looked after × GoesOn before after }
     {
         let mut guard = self.locked.lock(rt);
         for _ in rt.forever() {

@@ -5,6 +5,8 @@
 //! channel, `wait_room N` until there is, and `await_room N` polls for it. `look N` lends the hub until a send that is
 //! entered there, on the channel of that number, has its answer.
 
+ghost use Rattle.amqp_hub.specs.Lending.{GoesOn};
+
 use crate::hand::{Done, Hand, Stage, numbered};
 use crate::many::{enters_send, is_told};
 use amqp_types::NoMemory;
@@ -81,13 +83,16 @@ fn polls_for_room<R: Wait + RandomSource + AllocGlobal>(rt: &R, hand: &mut Hand,
 }
 
 // Within one hold: enters a send, where none was, and else whether it has an answer that it was sent.
+#[tactic(auto, using(amqp_hub::proofs::Lending::goes_taken))]
 fn has_sent(
     hub: &mut Hub,
     alloc: Global,
     pass: &mut Pass,
     promise: &mut Option<u64>,
     id: u16,
-) -> Option<bool> {
+) -> Option<bool>
+    ensures { GoesOn hub.old hub.new }
+{
     match *promise {
         Some(number) => is_told(hub.poll(number)),
         None => {

@@ -8,11 +8,11 @@
 //! What a story under a lock is, `amqp_stories` says in `locked`. Of those on threads a line `connect CALL REFUSES
 //! TEXT` calls one of the calls that connect, over a spawner that refuses to give a port or a thread; `build GIVEN`
 //! asks a builder twice; `call NAME` calls a caller of `amqp_uses`. Each other line is how a connection connects
-//! (`plain`, `built`, `settling`, `recovering`, `limited`, `bounded`, `elsewhere` or `handed`) and how many hands it has, which
-//! are callers with a pass each; then its phases, with semicolons between. A phase is what one hand does, acts with
-//! commas between; or what all hands do at once, on a thread each, with bars between. Its answer is what they see,
-//! phase by phase. The modules list the acts: those of a thread (`acts` of
-//! `lapin_connection_acts`), and those of one hand alone (`desk` and `outgoing` there; `hands` and `telling`).
+//! (`plain`, `built`, `settling`, `recovering`, `limited`, `bounded`, `elsewhere` or `handed`) and how many hands it
+//! has, which are callers with a pass each; then its phases, with semicolons between. A phase is what one hand does,
+//! acts with commas between; or what all hands do at once, on a thread each, with bars between. Its answer is what they
+//! see, phase by phase. The modules list the acts: those of a thread (`acts` of `lapin_connection_acts`), and those of
+//! one hand alone (`desk` and `outgoing` there; `hands` and `telling`).
 #![tactic(auto)]
 
 mod calling;
