@@ -7,8 +7,10 @@ use lapin_connection::{Cause, Connection, MioSpawner, Unreached};
 use std::alloc::Global;
 use std::io::{Read, Write};
 use std::net::{Net, OpenListener, SocketAddr};
+use std::sync::Wait;
 use std::test::Fail;
-use std::thread;
+use std::thread::{self, Threads};
+use std::time::Clock;
 
 /// No port that is listened to, since port 0 is none.
 const NOBODY: &str = "amqp://127.0.0.1:0";
@@ -57,7 +59,10 @@ fn address_of<L: OpenListener>(alloc: Global, listener: &L) -> Result<String, Fa
 }
 
 // The address of a server that opens a connection, on a thread of its own.
-fn server(rt: &HostRuntime, alloc: Global) -> Result<String, Fail> {
+fn server<R: Net + Threads>(rt: &R, alloc: Global) -> Result<String, Fail>
+where
+    R::Listener: Send + 'static,
+{
     let said = said(alloc)?;
     let listener = rt.bind(SocketAddr::from(([127, 0, 0, 1], 0)))?;
     let address = address_of(alloc, &listener)?;
@@ -82,7 +87,11 @@ fn addresses(alloc: Global, texts: &[&str]) -> Result<Vec<AMQPUri>, Fail> {
 }
 
 // What connecting to the first of these gives.
-fn reach(rt: HostRuntime, alloc: Global, uris: &[AMQPUri]) -> Result<Connection, Unreached> {
+fn reach<R: Net + Threads + Wait + Clock + Copy + Send + Drop + 'static>(
+    rt: R,
+    alloc: Global,
+    uris: &[AMQPUri],
+) -> Result<Connection, Unreached> {
     let mut runtime = MioSpawner::new(rt, alloc);
     let reached = Connection::connect_any(
         rt,
@@ -96,8 +105,8 @@ fn reach(rt: HostRuntime, alloc: Global, uris: &[AMQPUri]) -> Result<Connection,
 }
 
 // Which was tried last and why it failed, where none of these is reached; nothing where one is, and is open.
-fn unreached(
-    rt: HostRuntime,
+fn unreached<R: Net + Threads + Wait + Clock + Copy + Send + Drop + 'static>(
+    rt: R,
     alloc: Global,
     texts: &[&str],
 ) -> Result<Option<(Option<usize>, Cause)>, Fail> {
@@ -128,7 +137,13 @@ fn the_last_that_was_not_reached_is_told(rt: HostRuntime) -> Result<(), Fail> {
 }
 
 // Whether a server is reached that stands behind one that accepts and says nothing.
-fn reaches_behind(rt: HostRuntime, alloc: Global) -> Result<bool, Fail> {
+fn reaches_behind<R: Net + Threads + Wait + Clock + Copy + Send + Drop + 'static>(
+    rt: R,
+    alloc: Global,
+) -> Result<bool, Fail>
+where
+    R::Listener: Send + 'static,
+{
     let open = server(&rt, alloc)?;
     let silent = rt.bind(SocketAddr::from(([127, 0, 0, 1], 0)))?;
     let closed = address_of(alloc, &silent)?;
