@@ -4,3 +4,5 @@ pub mod Looking
 pub mod Turns
 -- what is done where no turn comes any more
 pub mod Tidying
+-- frames that wait beside the session
+mod Kept

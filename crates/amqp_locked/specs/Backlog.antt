@@ -18,10 +18,10 @@ abbrev pub frames_at : Option Lane → List Handed
 frames_at (Some lane) = lane.frames.items
 frames_at None = []
 
--- they are taken, where there are some
-abbrev pub TakesKept : List Handed → Option (List Handed) → Type 0
-TakesKept [] given = given ≡ None
-TakesKept (frame ∷ frames) given = given ≡ Some (frame ∷ frames)
+-- there are some, and these are all of them
+abbrev pub AreAll : List Handed → List Handed → Type 0
+AreAll [] given = ⊥
+AreAll (frame ∷ frames) given = given ≡ frame ∷ frames
 
 -- what is taken next of an opening: what waits here, else what the session has handed out
 abbrev pub frames_next : List Handed → ℕ → Talk → List Handed

@@ -1,7 +1,7 @@
 //! What waits to be taken beside the session, where only so much may wait.
 
 ghost use Rattle.std.specs.Prelude.{◌≡◌, ◌<◌, ◌-◌, ◌∷◌, [], Some, None, IfSome, IfNone, length, drop, slice_get, vec_len};
-ghost use Rattle.amqp_locked.specs.Backlog.{frames_kept, frames_at, TakesKept};
+ghost use Rattle.amqp_locked.specs.Backlog.{frames_kept, frames_at, AreAll};
 
 use amqp_session::{Event, Handed};
 use amqp_types::NoMemory;
@@ -141,7 +141,8 @@ impl Backlog {
     /// Takes the frames of this opening that wait here, where there are some.
     pub(crate) fn take(&mut self, opened: u64) -> Option<Vec<Handed>>
         ensures events { self.new.events ≡ self.old.events }
-        ensures taken { TakesKept (frames_kept opened self.old.lanes.items) result }
+        ensures some { IfSome result (λ frames. AreAll (frames_kept opened self.old.lanes.items) frames.items) }
+        ensures none { IfNone result (frames_kept opened self.old.lanes.items ≡ []) }
     {
         let at = self.place(opened)?;
         let lane = &mut self.lanes[at];
