@@ -1,5 +1,6 @@
 -- What the handles of a connection share may cross threads.
-use denote.Param.Send.{IsSend, IsSync, sendable}
+use denote.Param.Send.{IsSend, IsSync, AllSend, struct_send, recorded_send, sendable}
+use denote.Struct.Declared.{shape as shape_of}
 use Rattle.std.proofs.Crossing.{crosses}
 use Rattle.std.proofs.alloc.Global.TheSendSync.{the_field_send as global_field, the_field_sync as global_sync}
 use Rattle.std.proofs.option.Option.TheSendSync.{the_field_send as option_field, the_field_sync as option_sync}
@@ -14,16 +15,49 @@ use Rattle.amqp_locked.proofs.weights.Weights.TheSendSync.{the_field_send as wei
 use Rattle.amqp_locked.proofs.waking.Seen.TheSendSync.{the_field_send as seen_field}
 use Rattle.amqp_locked.proofs.reading.Reading.TheSendSync.{the_field_send as reading_field}
 use Rattle.amqp_locked.proofs.pace.Pace.TheSendSync.{the_field_send as pace_field}
-use Rattle.amqp_locked.proofs.tasks.Tasks.TheSendSync.{the_send as tasks}
-use Rattle.amqp_locked.specs.contracts.locked.Locked.{the_row as locked_row}
+use Rattle.amqp_locked.proofs.tasks.Tasks.TheSendSync.{the_field_send as tasks_field}
+use Rattle.amqp_locked.specs.contracts.locked.Locked.{the_row as locked_row, the_type as locked_type, the_field as locked_is_field}
 use Rattle.lapin_connection.proofs.changes.Changes.TheSendSync.{the_field_send as changes_field, the_field_sync as changes_sync}
 use Rattle.lapin_connection.proofs.nudge.Nudge.TheSendSync.{the_field_send as nudge_field, the_field_sync as nudge_sync}
 use Rattle.lapin_connection.specs.contracts.shared.Shared.{the_row as shared_row}
 use Rattle.lapin_connection.proofs.Sendable.{hub}
 
+all_of_locked : AllSend (shape_of locked_type).fields
+all_of_locked = (
+  global_field,
+  (
+    hub,
+    (
+      places_field,
+      (
+        search (sendable, found, crosses) depth 20,
+        (
+          search (sendable, owner, crosses) depth 20,
+          (
+            search sendable,
+            (
+              search (sendable, late, crosses) depth 20,
+              (
+                search sendable,
+                (
+                  search sendable,
+                  (
+                    search sendable,
+                    (weights_field, (search sendable, (backlog_field, (seen_field, (reading_field, (pace_field, (tasks_field, tt))))))),
+                  ),
+                ),
+              ),
+            ),
+          ),
+        ),
+      ),
+    ),
+  ),
+)
+
 -- what lies under the lock
 pub locked : IsSend locked_row
-locked = search (sendable, global_field, hub, places_field, found, owner, late, backlog_field, weights_field, seen_field, reading_field, pace_field, tasks, crosses) depth 20
+locked = recorded_send locked_is_field.row _ _ locked_type.to_one (struct_send (shape_of locked_type) all_of_locked)
 
 -- what is shared, from one thread to another
 pub shared_send : IsSend shared_row

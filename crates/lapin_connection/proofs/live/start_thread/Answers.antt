@@ -39,5 +39,5 @@ spawn-requires-send-F g c κs within =
     = both (codes "lapin_connection::live::fn::start_thread::spawn+Self") (Job.the_row (param 0 g.row.P) (param 1 g.row.A) g.P.Port g.A.AuthProvider) (copied 2 g.row.R)
     (job (param 0 g.row.P) (param 1 g.row.A) g.P.Port g.A.AuthProvider (search (sendable, c.type_bounds.send-P)) (search (sendable, c.type_bounds.send-A)))
     (search (sendable, c.type_bounds.send-R)) in
-    param_send 1 (Lts.arg-0-1 g.row.P g.row.A g.row.R g.P.laws g.A.laws g.R.laws g.R.copy g.P.Port g.P.Port-dict g.A.AuthProvider g.A.AuthProvider-dict g.R.Threads g.R.Threads-dict g.R.Wait g.R.Wait-dict g.R.Clone g.R.Clone-dict g.P.Destruct-dict g.A.Destruct-dict κs)
+    param_send 1 (Lts.arg-0-1 g.row.P g.row.A g.row.R g.P.laws g.A.laws g.R.laws g.R.copy g.P.Port g.P.Port-dict g.A.AuthProvider g.A.AuthProvider-dict g.R.Threads g.R.Threads-dict g.R.Wait g.R.Wait-dict g.R.Clock g.R.Clock-dict g.R.Clone g.R.Clone-dict g.P.Destruct-dict g.A.Destruct-dict κs)
     (record { owned = b.owned; leaving = search sendable depth 12 })
