@@ -1,7 +1,7 @@
 //! Which messages of a queue were printed, acknowledged, and are known to be acknowledged.
 
-ghost use Rattle.std.specs.Prelude.{◌≡◌, ◌≢◌, ◌||◌, nat_lt, ◌∷◌, [], true, None, ◌==◌, ◌<◌, IfOk, IfSome, OnOk, length, position, option_map};
-ghost use Rattle.amqp_tools.specs.Taking.{body_mark, has_mark, without_mark, nothing_taken, left, still_unsent, is_done, standing};
+ghost use Rattle.std.specs.Prelude.{◌≡◌, ◌≢◌, ◌||◌, nat_lt, ◌∷◌, [], true, None, IfOk, OnOk, length, option_map};
+ghost use Rattle.amqp_tools.specs.Taking.{nothing_taken, left, still_unsent, is_done, standing};
 ghost use Rattle.amqp_tools.specs.Taking.{settled_unknown, looked_at, coming_by, coming_at, come_by, come_as, name_in, is_none_left, steps_of, wants_to_ask};
 ghost use Rattle.amqp_tools.specs.Tags.{may};
 ghost use Rattle.amqp_tools.specs.Taking.{tag_to_acknowledge, acknowledged, steps_to_acknowledge, flow_asked, flow_answered, lost_link};
@@ -13,15 +13,13 @@ ghost use Rattle.amqp_tools.specs.declared.tags.Deed.TheVariants.{Printed, Lost}
 
 use crate::framing::Framing;
 use crate::front::let_go;
+use crate::marks::{Mark, mark_of, take_out};
 use crate::once::Once;
 use crate::sink::{Sink, print};
 use crate::tags::Tags;
 use amqp_types::NoMemory;
 use std::alloc::Global;
 use std::marker::Model;
-
-/// A message that was printed, by what tells it from others: a number made of its octets.
-pub type Mark = u64;
 
 /// What was done with a delivery.
 #[derive(Clone, Copy, Debug, PartialEq, Eq)]
@@ -103,41 +101,6 @@ impl Model for Taking {
       again = t.again;
       names = t.once;
     } };
-}
-
-/// A number made of octets, which differs where they do but for chance.
-pub fn mark_of(octets: &[u8]) -> Mark
-    ensures { result ≡ body_mark octets.now }
-{
-    let mut mark: u64 = 14_695_981_039_346_656_037;
-    'each: for octet in octets {
-        mark = mark
-            .wrapping_mul(1_099_511_628_211)
-            .wrapping_add(*octet as u64);
-    }
-    mark
-}
-
-// The place of the first such mark.
-fn place_of(marks: &[Mark], mark: Mark) -> Option<usize>
-    ensures at { result ≡ position (λ m. m == mark) marks.now }
-    ensures within { IfSome result (λ at. at < length marks.now) }
-{
-    marks.iter().position(|m| *m == mark)
-}
-
-// Takes the first such mark out, where it is there.
-fn take_out(marks: &mut Vec<Mark>, mark: Mark) -> bool
-    ensures found { result ≡ has_mark mark marks.old.items }
-    ensures left { marks.new.items ≡ without_mark mark marks.old.items }
-{
-    match place_of(marks, mark) {
-        Some(place) => {
-            let _taken = marks.remove(place);
-            true
-        }
-        None => false,
-    }
 }
 
 impl Taking {
