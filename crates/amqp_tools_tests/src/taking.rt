@@ -100,7 +100,7 @@ fn has_bodies(
 ) -> Result<bool, NoMemory> {
     let mut bodies = Bodies::new(alloc, framing, 4);
     let mut out = Vec::new(alloc);
-    for part in octets.chunks(piece) {
+    for part in octets.chunks(piece.max(1)) {
         bodies.push(part)?;
         for _ in 0..octets.len() + 1 {
             if !put(bodies.next()?, &mut out)? {
