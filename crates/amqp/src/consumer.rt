@@ -84,10 +84,13 @@ impl<'a> Consumer<'a> {
         }
     }
 
-    // How many messages may come: those that may be printed, and those that may come again.
+    // How many messages may come: those that may be printed, and those of which it is not known whether they are
+    // acknowledged; one, where it is to be seen whether one comes again that was counted.
     fn may_come(&self) -> u64 {
         match self.taking.left() {
-            Some(left) => left.saturating_add(self.taking.unknown() as u64),
+            Some(left) => left
+                .saturating_add(self.taking.unknown() as u64)
+                .max(u64::from(self.taking.may_come_again())),
             None => MOST_UNACKNOWLEDGED,
         }
     }
@@ -194,11 +197,11 @@ impl<'a> Consumer<'a> {
 
     // A second passed.
     fn second<R: Wait>(&mut self, rt: &R) -> Result<(), Stop> {
-        self.hear_answer(rt);
+        self.hear_answer(rt)?;
         self.waited = self.waited.saturating_add(1);
-        // All that are wanted came but for those of which it is not known, and those don't come again.
+        // All that are wanted came but for those that may come again, and none does.
         if self.waited >= LIMIT && self.taking.left() == Some(0) {
-            self.taking.settle();
+            self.taking.settle_all()?;
         }
         match self.wanted.timeout {
             Some(most) if self.waited >= most => Err(Stop::Silent("deliver anything", most)),

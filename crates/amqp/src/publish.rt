@@ -120,7 +120,10 @@ where
     let report = report_to(&rt, alloc, value_of(given, Opt::Report))?;
     let mut own = Own::with_input(rt, alloc)?;
     let client = links.first(rt, alloc, &mut own, seconds)?;
-    let mut publisher = Publisher::open(&rt, alloc, links, client, target, report)?;
+    let mut publisher = match Publisher::open(&rt, alloc, links, client, target, report) {
+        Ok(publisher) => publisher,
+        Err(stop) => return Err(stop),
+    };
     let published = publisher.publish_all(&rt, &mut own, &mut bodies);
     let closed = publisher.close(&rt, &mut own);
     published?;

@@ -15,7 +15,7 @@ impl Consumer<'_> {
         rt: &R,
         out: &mut S,
     ) -> Result<(), Stop> {
-        self.hear_answer(rt);
+        self.hear_answer(rt)?;
         let tag = match self.taking.acknowledge(out) {
             Ok(Some(tag)) => tag,
             Ok(None) => return Ok(()),
@@ -51,8 +51,7 @@ impl Consumer<'_> {
     fn ask_for_answer<R: Wait>(&mut self, rt: &R) -> Result<(), Stop> {
         if self.wanted.count.is_none() {
             self.taking.ask();
-            self.taking.answered();
-            return Ok(());
+            return Ok(self.taking.answered()?);
         }
         if self.asked.is_some() || !self.taking.wants_to_ask() {
             return Ok(());
@@ -73,7 +72,7 @@ impl Consumer<'_> {
     }
 
     // Hears the answer, where it is there.
-    pub(crate) fn hear_answer<R: Wait>(&mut self, rt: &R) {
+    pub(crate) fn hear_answer<R: Wait>(&mut self, rt: &R) -> Result<(), Stop> {
         let answer = match &self.asked {
             Some(asked) => asked.try_wait(rt),
             None => None,
@@ -81,13 +80,14 @@ impl Consumer<'_> {
         match answer {
             Some(Ok(_active)) => {
                 self.asked = None;
-                self.taking.answered();
+                Ok(self.taking.answered()?)
             }
             Some(Err(error)) => {
                 drop(error);
                 self.asked = None;
+                Ok(())
             }
-            None => {}
+            None => Ok(()),
         }
     }
 
@@ -108,7 +108,7 @@ impl Consumer<'_> {
             let answer = within(rt, &asked, own, LIMIT, "answer for what was acknowledged");
             drop(asked);
             match answer {
-                Ok(_active) => self.taking.answered(),
+                Ok(_active) => self.taking.answered()?,
                 Err(Stop::Failed(error)) if error.can_be_recovered() => {
                     drop(error);
                     return Ok(());
