@@ -81,9 +81,9 @@ fn frames_of(frames: Result<Vec<Handed>>) -> First {
 }
 
 /// Waits for an answer for so many seconds, and says what the broker did not do in time where it does not come.
-pub fn within<T: Gives, R: Wait + RandomSource + AllocGlobal>(
-    rt: &R,
-    pending: &Pending<T>,
+pub fn within<'x, T: Gives, R: Wait + RandomSource + AllocGlobal>(
+    rt: &'x R,
+    pending: &'x Pending<T>,
     own: &mut Own,
     seconds: u64,
     what: &'static str,

@@ -24,7 +24,11 @@ fn have_come(frames: Result<Vec<Handed>>) -> bool {
 
 /// Waits until what was sent on a channel has gone out, two seconds passed, or the channel is gone. Frames that come
 /// meanwhile are let go.
-pub fn let_out<R: Wait + RandomSource + AllocGlobal>(rt: &R, channel: &Channel, own: &mut Own) {
+pub fn let_out<'x, R: Wait + RandomSource + AllocGlobal>(
+    rt: &'x R,
+    channel: &'x Channel,
+    own: &mut Own,
+) {
     let mut left = 2;
     for _ in rt.forever() {
         let others = select(own.seconds.recv(), channel.next_frames(rt));
@@ -42,10 +46,10 @@ pub fn let_out<R: Wait + RandomSource + AllocGlobal>(rt: &R, channel: &Channel, 
 }
 
 /// Waits for ten seconds until a connection is closed. Frames that come on its channel meanwhile are let go.
-pub fn closed<R: Wait + RandomSource + AllocGlobal>(
-    rt: &R,
-    closing: &Pending<()>,
-    channel: &Channel,
+pub fn closed<'x, R: Wait + RandomSource + AllocGlobal>(
+    rt: &'x R,
+    closing: &'x Pending<()>,
+    channel: &'x Channel,
     own: &mut Own,
 ) -> std::result::Result<(), Stop> {
     let what = "close the connection";
