@@ -1,10 +1,11 @@
 //! Who consumes a queue.
 
-use amqp_client::{Client, LIMIT, Links, Next, Own, Stop, within};
+mod acknowledging;
+
+use amqp_client::{Client, LIMIT, Links, Next, Own, Stop};
 use amqp_frame::{RawKind, RawMethod};
 use amqp_methods::{
-    BasicAckOptions, BasicConsumeOptions, BasicQosOptions, basic_ack, basic_cancel, basic_consume,
-    basic_qos, header_named, read_properties,
+    BasicConsumeOptions, BasicQosOptions, basic_consume, basic_qos, header_named, read_properties,
 };
 use amqp_session::{Error, ErrorKind, Handed};
 use amqp_tools::{
@@ -83,10 +84,13 @@ impl<'a> Consumer<'a> {
         }
     }
 
-    // How many messages may come: those that may be printed, and those that may come again.
+    // How many messages may come: those that may be printed, and those of which it is not known whether they are
+    // acknowledged; one, where it is to be seen whether one comes again that was counted.
     fn may_come(&self) -> u64 {
         match self.taking.left() {
-            Some(left) => left.saturating_add(self.taking.unknown() as u64),
+            Some(left) => left
+                .saturating_add(self.taking.unknown() as u64)
+                .max(u64::from(self.taking.may_come_again())),
             None => MOST_UNACKNOWLEDGED,
         }
     }
@@ -193,11 +197,11 @@ impl<'a> Consumer<'a> {
 
     // A second passed.
     fn second<R: Wait>(&mut self, rt: &R) -> Result<(), Stop> {
-        self.hear_answer(rt);
+        self.hear_answer(rt)?;
         self.waited = self.waited.saturating_add(1);
-        // All that are wanted came but for those of which it is not known, and those don't come again.
+        // All that are wanted came but for those that may come again, and none does.
         if self.waited >= LIMIT && self.taking.left() == Some(0) {
-            self.taking.settle();
+            self.taking.settle_all()?;
         }
         match self.wanted.timeout {
             Some(most) if self.waited >= most => Err(Stop::Silent("deliver anything", most)),
@@ -301,131 +305,36 @@ impl<'a> Consumer<'a> {
         }
     }
 
-    // Acknowledges what was printed, once it is written. The broker is told before how few may come after it.
-    fn acknowledge<R: Wait, S: Sink>(&mut self, rt: &R, out: &mut S) -> Result<(), Stop> {
-        self.hear_answer(rt);
-        let tag = match self.taking.acknowledge(out) {
-            Ok(Some(tag)) => tag,
-            Ok(None) => return Ok(()),
-            Err(why) => return Err(untaken(why)),
-        };
-        self.bound(rt)?;
-        let method = basic_ack(self.alloc, tag, BasicAckOptions { multiple: true })?;
-        self.client.send(rt, method)?;
-        self.ask_for_answer(rt)
-    }
-
-    // Tells the broker how few may be delivered and not acknowledged from now on, or that none is to come.
-    fn bound<R: Wait>(&mut self, rt: &R) -> Result<(), Stop> {
-        let may_come = self.may_come();
-        if may_come >= self.ahead {
-            return Ok(());
+    // Says how many came again, and of how many wanted ones it is known that they are acknowledged, where not of all.
+    fn tell<R: Eprint>(&self, rt: &R) {
+        if self.wanted.is_quiet {
+            return;
         }
-        self.ahead = may_come;
-        let method = if may_come == 0 {
-            basic_cancel(self.alloc, &tag(self.alloc)?, false)?
-        } else {
-            basic_qos(
-                self.alloc,
-                may_come.min(MOST_UNACKNOWLEDGED) as u16,
-                BasicQosOptions { global: true },
-            )?
-        };
-        self.client.send(rt, method)
-    }
-
-    // Asks the broker for what was acknowledged: whatever it answers, it has read that before. Where no number is
-    // wanted, what was sent counts.
-    fn ask_for_answer<R: Wait>(&mut self, rt: &R) -> Result<(), Stop> {
-        if self.wanted.count.is_none() {
-            self.taking.ask();
-            self.taking.answered();
-            return Ok(());
+        let name = self.links.name;
+        let again = self.taking.again();
+        if again > 0 {
+            let _said = eprintln!(rt; "{name}: {again} came again");
         }
-        if self.asked.is_some() || !self.taking.wants_to_ask() {
-            return Ok(());
-        }
-        let Client { channel, pass, .. } = &mut self.client;
-        match channel.channel_flow(rt, pass, true) {
-            Ok(asked) => {
-                self.taking.ask();
-                self.asked = Some(asked);
-                Ok(())
-            }
-            Err(error) if error.can_be_recovered() => {
-                drop(error);
-                Ok(())
-            }
-            Err(error) => Err(Stop::Failed(error)),
+        if let Some(count) = self.wanted.count
+            && !self.taking.is_done()
+        {
+            let counted = self.taking.counted();
+            let _said = eprintln!(rt; "{name}: {counted} of {count} acknowledged");
         }
     }
 
-    // Hears the answer, where it is there.
-    fn hear_answer<R: Wait>(&mut self, rt: &R) {
-        let answer = match &self.asked {
-            Some(asked) => asked.try_wait(rt),
-            None => None,
-        };
-        match answer {
-            Some(Ok(_active)) => {
-                self.asked = None;
-                self.taking.answered();
-            }
-            Some(Err(error)) => {
-                drop(error);
-                self.asked = None;
-            }
-            None => {}
-        }
-    }
-
-    // Once all that are wanted were printed and acknowledged, waits until the broker has read that.
-    fn finish<R: Wait + RandomSource + AllocGlobal>(
-        &mut self,
-        rt: &R,
-        own: &mut Own,
-    ) -> Result<(), Stop> {
-        for _ in rt.forever() {
-            if self.taking.is_done() || self.taking.unsent() != Some(0) {
-                return Ok(());
-            }
-            self.ask_for_answer(rt)?;
-            let Some(asked) = self.asked.take() else {
-                return Ok(());
-            };
-            let answer = within(rt, &asked, own, LIMIT, "answer for what was acknowledged");
-            drop(asked);
-            match answer {
-                Ok(_active) => self.taking.answered(),
-                Err(Stop::Failed(error)) if error.can_be_recovered() => {
-                    drop(error);
-                    return Ok(());
-                }
-                Err(stop) => return Err(stop),
-            }
-        }
-        unreachable!()
-    }
-
-    /// Says how many came again, and closes the connection, however that ends: what is counted is acknowledged.
-    pub fn close<R: Wait + Clock + Eprint + RandomSource + AllocGlobal>(
-        self,
-        rt: &R,
-        own: &mut Own,
-    ) {
+    /// Says how far it came, and closes the connection, however that ends: what is counted is acknowledged.
+    pub fn close<R: Wait + Eprint + RandomSource + AllocGlobal>(self, rt: &R, own: &mut Own) {
+        let consumer = self;
+        consumer.tell(rt);
         let Consumer {
             alloc,
-            links,
+            links: _,
             client,
             wanted,
             taking,
             ..
-        } = self;
-        let name = links.name;
-        let again = taking.again();
-        if again > 0 && !wanted.is_quiet {
-            let _said = eprintln!(rt; "{name}: {again} came again");
-        }
+        } = consumer;
         drop(wanted);
         drop(taking);
         drop(client.close(rt, alloc, own));

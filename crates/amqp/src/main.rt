@@ -21,6 +21,8 @@
 
 mod consume;
 mod consumer;
+mod counts;
+mod described;
 mod given;
 mod publish;
 mod publisher;

@@ -2,14 +2,13 @@
 //! confirmed all. How many were published and confirmed is said on standard error, every second and at the end.
 //! What had no answer when a link was lost is published again, so it may be there twice.
 
+use crate::described::described_by;
 use crate::given::{framing, most, number};
 use crate::publisher::{Publisher, Target};
 use crate::report::report_to;
 use amqp_client::{Links, Own, Stop, short};
-use amqp_methods::{BasicProperties, headers_of};
-use amqp_session::ErrorKind;
 use amqp_tools::{Bodies, Given, Opt, Publishing, are_of, has, publishing_of, value_of, words_of};
-use amqp_types::{AMQPValue, FieldTable, LongString, Payload, ShortString, Text, TypeFault};
+use amqp_types::Text;
 use std::alloc::{AllocGlobal, Global};
 use std::io::{Eprint, Input};
 use std::net::Net;
@@ -36,6 +35,8 @@ A message outlasts the broker where its queue does.
   --content-type TYPE --reply-to QUEUE --correlation-id ID --message-id ID
   --priority NUMBER --expiration MILLISECONDS --header NAME=VALUE
              properties of each message; the last one as often as is wanted
+  --message-ids PREFIX    the message id of each is PREFIX and its number, which
+             stays the same where it is published again
   -0         a body ends with an octet 0, and not with a line feed
   --length   a body stands behind its length in four octets, the highest first
   --most OCTETS       a body is not larger (134217728)
@@ -57,6 +58,7 @@ const KNOWN: &[Opt] = &[
     Opt::ReplyTo,
     Opt::CorrelationId,
     Opt::MessageId,
+    Opt::MessageIds,
     Opt::Priority,
     Opt::Expiration,
     Opt::Header,
@@ -67,112 +69,16 @@ const KNOWN: &[Opt] = &[
     Opt::Quiet,
 ];
 
-// What a fault of a value on the command line is.
-fn fault(why: TypeFault) -> Stop {
-    match why {
-        TypeFault::NoMemory => Stop::Failed(ErrorKind::NoMemory.into()),
-        TypeFault::TooLong(_) => Stop::Unknown,
-    }
-}
-
-// Puts a header, which is a name and a value with a sign of equality between them, into a table.
-fn put_header(alloc: Global, word: &str, table: &mut FieldTable) -> Result<(), Stop> {
-    let octets = word.as_bytes();
-    let Some(place) = octets.iter().position(|o| *o == b'=') else {
-        return Err(Stop::Unknown);
-    };
-    let (name, sign_and_value) = octets.split_at(place);
-    let value = match sign_and_value {
-        [_sign, value @ ..] => value,
-        [] => sign_and_value,
-    };
-    let value = match LongString::new(alloc, value) {
-        Ok(value) => AMQPValue::LongString(value),
-        Err(why) => return Err(fault(why)),
-    };
-    match ShortString::new(alloc, name) {
-        Ok(name) => match table.insert(name, value) {
-            Ok(before) => {
-                drop(before);
-                Ok(())
-            }
-            Err(_) => Err(Stop::Failed(ErrorKind::NoMemory.into())),
-        },
-        Err(why) => {
-            drop(value);
-            Err(fault(why))
-        }
-    }
-}
-
-// The octets of the headers that are given, where there is one.
-fn headers(alloc: Global, given: &[Given<'_>]) -> Result<Option<Vec<u8>>, Stop> {
-    if !has(given, Opt::Header) {
-        return Ok(None);
-    }
-    let mut table = FieldTable::new(alloc);
-    for one in given {
-        if one.option == Opt::Header {
-            put_header(alloc, one.value, &mut table)?;
-        }
-    }
-    match headers_of(alloc, &table) {
-        Ok(octets) => Ok(Some(octets)),
-        Err(why) => Err(fault(why)),
-    }
-}
-
-// The octets of the text that an option says.
-fn text<'a>(given: &[Given<'a>], option: Opt) -> Option<&'a [u8]> {
-    match value_of(given, option) {
-        Some(word) => Some(word.as_bytes()),
-        None => None,
-    }
-}
-
-// The priority that is given, where one is.
-fn priority(given: &[Given<'_>]) -> Result<Option<u8>, Stop> {
-    match number(given, Opt::Priority)? {
-        None => Ok(None),
-        Some(count) if count < 256 => Ok(Some(count as u8)),
-        Some(_) => Err(Stop::Unknown),
-    }
-}
-
-// The properties of each message, as they stand in its content header.
-fn properties(alloc: Global, given: &[Given<'_>]) -> Result<Payload, Stop> {
-    let _is_number = number(given, Opt::Expiration)?;
-    let priority = priority(given)?;
-    let table = headers(alloc, given)?;
-    let headers = match &table {
-        Some(octets) => Some(octets.as_slice()),
-        None => None,
-    };
-    let properties = BasicProperties {
-        content_type: text(given, Opt::ContentType),
-        headers,
-        delivery_mode: Some(if has(given, Opt::Transient) { 1 } else { 2 }),
-        priority,
-        correlation_id: text(given, Opt::CorrelationId),
-        reply_to: text(given, Opt::ReplyTo),
-        expiration: text(given, Opt::Expiration),
-        message_id: text(given, Opt::MessageId),
-        ..BasicProperties::new()
-    };
-    match properties.spelled(alloc)? {
-        Some(octets) => Ok(Payload::from_vec(octets)),
-        None => Err(Stop::Unknown),
-    }
-}
-
 // Where is published, and how.
 fn target(alloc: Global, told: Publishing<'_>, given: &[Given<'_>]) -> Result<Target, Stop> {
     let timeout = number(given, Opt::Timeout)?;
-    let properties = properties(alloc, given)?;
+    let most = most(given)?;
+    let described = described_by(alloc, given)?;
     Ok(Target {
         exchange: short(alloc, told.exchange)?,
         key: short(alloc, told.key)?,
-        properties,
+        described,
+        most,
         recovers: has(given, Opt::Recover),
         timeout,
         is_quiet: has(given, Opt::Quiet),
@@ -209,12 +115,15 @@ where
         uri: told.uri,
     };
     let seconds = number(given, Opt::Wait)?.unwrap_or(0);
-    let mut bodies = Bodies::new(alloc, framing(given), most(given)?);
     let target = target(alloc, told, given)?;
+    let mut bodies = Bodies::new(alloc, framing(given), target.most);
     let report = report_to(&rt, alloc, value_of(given, Opt::Report))?;
     let mut own = Own::with_input(rt, alloc)?;
     let client = links.first(rt, alloc, &mut own, seconds)?;
-    let mut publisher = Publisher::open(&rt, alloc, links, client, target, report)?;
+    let mut publisher = match Publisher::open(&rt, alloc, links, client, target, report) {
+        Ok(publisher) => publisher,
+        Err(stop) => return Err(stop),
+    };
     let published = publisher.publish_all(&rt, &mut own, &mut bodies);
     let closed = publisher.close(&rt, &mut own);
     published?;

@@ -1,13 +1,14 @@
 //! Who publishes on a channel in confirm mode.
 
+mod hearing;
+
+use crate::counts::{Counts, tell};
+use crate::described::Described;
 use crate::report::Report;
 use amqp_client::{Client, Links, Next, Own, Stop, Told};
-use amqp_frame::RawKind;
-use amqp_methods::{
-    BasicPublishOptions, ConfirmSelectOptions, basic_publish, confirm_select, read_return,
-};
-use amqp_session::{Error, ErrorKind, Handed, Properties};
-use amqp_tools::{Bodies, Confirms, Heard, Open, Part, size_in, told_by};
+use amqp_methods::{BasicPublishOptions, ConfirmSelectOptions, basic_publish, confirm_select};
+use amqp_session::{Error, ErrorKind};
+use amqp_tools::{Bodies, Confirms, Open, Part};
 use amqp_types::{Payload, ShortString};
 use std::alloc::{AllocGlobal, Global};
 use std::io::{Eprint, Write};
@@ -28,42 +29,16 @@ const MOST_OCTETS: usize = 16_777_216;
 pub struct Target {
     pub exchange: ShortString,
     pub key: ShortString,
-    /// The properties of each, as they stand in its content header.
-    pub properties: Payload,
+    /// The properties of each.
+    pub described: Described,
+    /// How many octets a body may have.
+    pub most: usize,
     /// Whether what has no answer is published again over another link, where one is lost.
     pub recovers: bool,
     /// For how many seconds an answer is waited for; for ever where it is not said.
     pub timeout: Option<u64>,
     /// Whether it is not said how far it is.
     pub is_quiet: bool,
-}
-
-/// How many messages were published, and what the broker said of them.
-#[derive(Clone, Copy, PartialEq, Eq)]
-pub struct Counts {
-    pub published: u64,
-    pub confirmed: u64,
-    pub refused: u64,
-    /// How many it gave back, since no queue takes them. It confirms these too.
-    pub returned: u64,
-}
-
-// Says counts on standard error, under no name: they are all that the line has.
-fn tell<R: Eprint>(rt: &R, counts: Counts) {
-    let Counts {
-        published,
-        confirmed,
-        refused,
-        returned,
-    } = counts;
-    // The status tells it where standard error does not take it.
-    let _said = if refused == 0 && returned == 0 {
-        eprintln!(rt; "{published} published, {confirmed} confirmed")
-    } else {
-        eprintln!(rt;
-            "{published} published, {confirmed} confirmed, {refused} refused, {returned} without a queue"
-        )
-    };
 }
 
 // What comes next of what is to be published.
@@ -207,20 +182,18 @@ impl<'a, F: Write + Drop> Publisher<'a, F> {
         };
         self.confirms.publish(kept)?;
         self.counts.published = self.counts.published.saturating_add(1);
-        self.put(rt, body)
+        self.put(rt, self.counts.published, body)
     }
 
-    // Gives a message to the connection.
-    fn put<R: Wait>(&mut self, rt: &R, body: Payload) -> Result<(), Stop> {
+    // Gives the message with this number to the connection.
+    fn put<R: Wait>(&mut self, rt: &R, message: u64, body: Payload) -> Result<(), Stop> {
         let alloc = self.alloc;
         let options = BasicPublishOptions {
             mandatory: true,
             immediate: false,
         };
         let method = basic_publish(alloc, &self.target.exchange, &self.target.key, options)?;
-        let Some(properties) = Properties::new(self.target.properties.try_clone(alloc)?) else {
-            return Err(Stop::Failed(ErrorKind::NoMemory.into()));
-        };
+        let properties = self.target.described.of(alloc, message)?;
         self.octets = self.octets.saturating_add(body.as_bytes().len());
         let Client { channel, pass, .. } = &mut self.client;
         match channel.publish_raw(rt, pass, method, properties, body) {
@@ -338,99 +311,16 @@ impl<'a, F: Write + Drop> Publisher<'a, F> {
                 Some(body) => body.try_clone(self.alloc)?,
                 None => Payload::empty(self.alloc),
             };
+            let message = open.message;
             self.confirms.publish_again(open)?;
-            self.put(rt, body)?;
-        }
-        Ok(())
-    }
-
-    // Hears what the broker tells by frames.
-    fn hear(&mut self, frames: Vec<Handed>) -> Result<(), Stop> {
-        self.waited = 0;
-        for frame in frames {
-            let heard = self.hear_one(&frame);
-            drop(frame);
-            heard?;
-        }
-        Ok(())
-    }
-
-    // Hears a frame.
-    fn hear_one(&mut self, frame: &Handed) -> Result<(), Stop> {
-        let payload = frame.bytes.as_bytes();
-        match frame.kind {
-            RawKind::RawMethod => self.told(told_by(payload), payload),
-            RawKind::Header => {
-                self.missing = size_in(payload);
-                self.given_back();
-                Ok(())
-            }
-            RawKind::Body => self.part(payload),
-        }
-    }
-
-    // A part of a body that is given back.
-    fn part(&mut self, payload: &[u8]) -> Result<(), Stop> {
-        if self.returning.is_some() && self.report.is_wanted() {
-            match self.body.extend_from_slice(payload) {
-                Ok(()) => {}
-                Err(_) => return Err(Stop::Failed(ErrorKind::NoMemory.into())),
-            }
-        }
-        self.missing = self.missing.saturating_sub(payload.len() as u64);
-        self.given_back();
-        Ok(())
-    }
-
-    // A message is given back, once it is whole.
-    fn given_back(&mut self) {
-        if self.missing == 0
-            && let Some(code) = self.returning.take()
-        {
-            self.confirms.give_back(code, &self.body);
-        }
-    }
-
-    // Counts what the broker told.
-    fn told(&mut self, heard: Heard, payload: &[u8]) -> Result<(), Stop> {
-        match heard {
-            Heard::Taken(tag, multiple) => {
-                self.report_each(tag, multiple, "confirmed")?;
-                let count = self.confirms.answered(tag, multiple) as u64;
-                self.counts.confirmed = self.counts.confirmed.saturating_add(count);
-            }
-            Heard::Refused(tag, multiple) => {
-                self.report_each(tag, multiple, "refused")?;
-                let count = self.confirms.answered(tag, multiple) as u64;
-                self.counts.refused = self.counts.refused.saturating_add(count);
-            }
-            Heard::Returned => {
-                self.counts.returned = self.counts.returned.saturating_add(1);
-                self.returning = read_return(payload).map(|returned| returned.reply_code);
-                self.missing = u64::MAX;
-                self.body.clear();
-            }
-            Heard::Selected | Heard::Cancelled | Heard::Other => {}
-        }
-        Ok(())
-    }
-
-    // Reports what became of those that an answer means.
-    fn report_each(&mut self, tag: u64, multiple: bool, what: &str) -> Result<(), Stop> {
-        if !self.report.is_wanted() {
-            return Ok(());
-        }
-        for open in self.confirms.open() {
-            if open.is_meant(tag, multiple) {
-                self.report.say(open.message, what, open.returned)?;
-            }
+            self.put(rt, message, body)?;
         }
         Ok(())
     }
 
     /// Says how far it came, and closes the connection, however that ends: what was confirmed stays so. Whether
     /// the broker took each message.
-    pub fn close<R: Wait + Clock + Eprint + RandomSource + AllocGlobal>(
+    pub fn close<R: Wait + Eprint + RandomSource + AllocGlobal>(
         self,
         rt: &R,
         own: &mut Own,

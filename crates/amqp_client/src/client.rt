@@ -1,5 +1,6 @@
 //! A connection with one channel.
 
+use crate::closing::{closed, let_out};
 use crate::own::{Own, Told};
 use crate::stop::Stop;
 use amqp_frame::RawMethod;
@@ -16,7 +17,7 @@ use std::net::Net;
 use std::random::RandomSource;
 use std::sync::Wait;
 use std::thread::Threads;
-use std::time::{Clock, Duration};
+use std::time::Clock;
 
 /// For how many seconds a broker may say nothing while a connection, or a channel, opens or closes.
 pub const LIMIT: u64 = 10;
@@ -80,9 +81,9 @@ fn frames_of(frames: Result<Vec<Handed>>) -> First {
 }
 
 /// Waits for an answer for so many seconds, and says what the broker did not do in time where it does not come.
-pub fn within<T: Gives, R: Wait + RandomSource + AllocGlobal>(
-    rt: &R,
-    pending: &Pending<T>,
+pub fn within<'x, T: Gives, R: Wait + RandomSource + AllocGlobal>(
+    rt: &'x R,
+    pending: &'x Pending<T>,
     own: &mut Own,
     seconds: u64,
     what: &'static str,
@@ -310,9 +311,9 @@ impl Client {
         unreachable!()
     }
 
-    /// Closes the connection, once what was sent has gone out or a second passed, and waits for that for ten seconds.
-    /// Where the server answered, it has read what was sent before.
-    pub fn close<R: Wait + Clock + RandomSource + AllocGlobal>(
+    /// Closes the connection, once what was sent has gone out or two seconds passed, and waits for that for ten
+    /// seconds. Where the server answered, it has read what was sent before. Frames that come meanwhile are let go.
+    pub fn close<R: Wait + RandomSource + AllocGlobal>(
         self,
         rt: &R,
         alloc: Global,
@@ -322,12 +323,9 @@ impl Client {
         let Ok(text) = ShortString::new(alloc, b"OK") else {
             return Err(Stop::Failed(ErrorKind::NoMemory.into()));
         };
-        let _is_sent = client
-            .connection
-            .wait_until_sent_for(rt, Duration::from_secs(1));
-        let closing = client.connection.close(rt, &mut client.pass, 200, text);
-        match closing {
-            Ok(closing) => within(rt, &closing, own, LIMIT, "close the connection"),
+        let_out(rt, &client.channel, own);
+        match client.connection.close(rt, &mut client.pass, 200, text) {
+            Ok(closing) => closed(rt, &closing, &client.channel, own),
             Err(error) => Err(Stop::Failed(error)),
         }
     }

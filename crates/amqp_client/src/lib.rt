@@ -3,6 +3,7 @@
 #![tactic(auto)]
 
 mod client;
+mod closing;
 mod links;
 mod own;
 mod stop;

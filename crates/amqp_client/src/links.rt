@@ -81,17 +81,19 @@ impl Links<'_> {
         let mut left = seconds;
         let mut delay = 1;
         for _ in rt.forever() {
-            match self.one(rt, alloc, own) {
-                Err(stop) if left > 0 && may_serve(&stop) => {
-                    delay = left.min(delay);
-                    self.say(&rt, "no link", &stop, delay);
-                    drop(stop);
-                    own.pass(&rt, delay)?;
-                    left = left.saturating_sub(delay);
-                    delay = delay.saturating_mul(2).min(60);
-                }
-                ended => return ended,
+            let stop = match self.one(rt, alloc, own) {
+                Ok(client) => return Ok(client),
+                Err(stop) => stop,
+            };
+            if left == 0 || !may_serve(&stop) {
+                return Err(stop);
             }
+            delay = left.min(delay);
+            self.say(&rt, "no link", &stop, delay);
+            drop(stop);
+            own.pass(&rt, delay)?;
+            left = left.saturating_sub(delay);
+            delay = delay.saturating_mul(2).min(60);
         }
         unreachable!()
     }

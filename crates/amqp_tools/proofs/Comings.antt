@@ -3,7 +3,7 @@ use Rattle.std.proofs.Common.{◌≡◌, ℕ, Bool, true, false, cond, ◌&&◌,
 use Rattle.amqp_tools.specs.declared.taking.Coming.{Coming}
 use Rattle.amqp_tools.specs.declared.taking.Coming.TheVariants.{Wanted, Named, Unwanted, Astray}
 use Rattle.amqp_tools.specs.Acknowledged.{Does, is_known}
-use Rattle.amqp_tools.specs.Taking.{Taken, standing, left, is_none_left, has_mark, settled_unknown, looked_at, coming_at, come_as, steps_of}
+use Rattle.amqp_tools.specs.Taking.{Taken, standing, left, is_none_left, has_mark, settled_unknown, found_again, looked_at, coming_at, come_as, steps_of}
 
 -- ---- what is looked at leaves the tags and the names
 
@@ -11,10 +11,14 @@ picked : (b : Bool) (x y t : Taken) → standing x ≡ standing t → standing y
 picked true x y t h k = h
 picked false x y t h k = k
 
+standing_found : (mark : ℕ) (t : Taken) → standing (found_again mark t) ≡ standing t
+standing_found mark t =
+    picked (has_mark mark t.lost) _ _ t refl (picked (has_mark mark t.past) _ _ t refl refl)
+
 pub standing_looked : (redelivered : Bool) (mark : ℕ) (t : Taken) → standing (looked_at redelivered mark t) ≡ standing t
 standing_looked redelivered mark t =
     picked (redelivered && has_mark mark t.unknown) _ _ t refl
-    (picked redelivered _ _ t (picked (has_mark mark (settled_unknown t).lost) _ _ t refl refl) refl)
+    (picked redelivered _ _ t (standing_found mark (settled_unknown t)) refl)
 
 -- ---- what a delivery is
 

@@ -3,7 +3,7 @@ use Rattle.std.specs.Prelude.{◌≡◌, ◌≢◌, ◌⊎◌, ⊤, ℕ, zero, s
 use Rattle.std.specs.Str.{bytes_eq}
 use Rattle.amqp_tools.specs.declared.options.Opt.{Opt}
 use Rattle.amqp_tools.specs.declared.options.Given.{Given}
-use Rattle.amqp_tools.specs.declared.options.Opt.TheVariants.{Recover, Transient, Quiet, Zero, Length, Wait, Timeout, Most, Report, Once, ContentType, Header, ReplyTo, CorrelationId, Priority, Expiration, MessageId}
+use Rattle.amqp_tools.specs.declared.options.Opt.TheVariants.{Recover, Transient, Quiet, Zero, Length, Wait, Timeout, Most, Report, Once, ContentType, Header, ReplyTo, CorrelationId, Priority, Expiration, MessageId, MessageIds}
 
 -- an option without a value
 abbrev pub flag_by : List ℕ → Option Opt
@@ -30,6 +30,7 @@ valued_by word =
     else if bytes_eq word (codes "--priority") then Some Priority
     else if bytes_eq word (codes "--expiration") then Some Expiration
     else if bytes_eq word (codes "--message-id") then Some MessageId
+    else if bytes_eq word (codes "--message-ids") then Some MessageIds
     else None
 
 -- an option with its value, and the words behind both

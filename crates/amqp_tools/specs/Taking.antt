@@ -1,5 +1,5 @@
 -- Which messages of a queue were printed and acknowledged, over one link after another, and which are known to be.
-use Rattle.std.specs.Prelude.{ℕ, ◌+◌, ◌-◌, ◌*◌, ◌%◌, ◌^◌, nat_le, nat_lt, nat_eq, min, Bool, false, ◌&&◌, ◌||◌, List, [], ◌∷◌, ◌++◌, length, drop, Option, Some, None, option_map, is_some, position, ◌==◌, if◌then◌else◌}
+use Rattle.std.specs.Prelude.{ℕ, ◌+◌, ◌-◌, ◌*◌, ◌%◌, ◌^◌, nat_le, nat_lt, nat_eq, min, Bool, false, not, ◌&&◌, ◌||◌, List, [], ◌∷◌, ◌++◌, length, take, drop, Option, Some, None, option_map, is_some, position, ◌==◌, if◌then◌else◌}
 use Rattle.std.specs.List.{remove}
 use Rattle.amqp_tools.specs.declared.tags.Deed.TheVariants.{Printed, Known, PassedOver, Flushed, Acknowledged}
 use Rattle.amqp_tools.specs.declared.tags.Tags.{Tags}
@@ -36,6 +36,10 @@ pub record Taken : Type 0 where
   pub unknown : List ℕ
   -- those that were printed on a lost link and not acknowledged
   pub lost : List ℕ
+  -- those that are known to be acknowledged on this link, of the last ones
+  pub known : List ℕ
+  -- the same of lost links: a broker that was killed may have forgotten it, and deliver them again
+  pub past : List ℕ
   -- how many came again
   pub again : ℕ
   -- the names of those that were printed
@@ -53,6 +57,8 @@ nothing_taken wanted =
       asked = 0;
       unknown = [];
       lost = [];
+      known = [];
+      past = [];
       again = 0;
       names = no_names;
     }
@@ -75,9 +81,13 @@ abbrev pub reaches : ℕ → Option ℕ → Bool
 reaches counted (Some wanted) = nat_le wanted counted
 reaches counted None = false
 
--- as many as are wanted are known to be acknowledged
+-- some that were counted on a lost link may come again
+abbrev pub may_come_again : Taken → Bool
+may_come_again t = nat_lt 0 (length t.past)
+
+-- as many as are wanted are known to be acknowledged, and none of them may come again
 abbrev pub is_done : Taken → Bool
-is_done t = reaches t.counted t.wanted
+is_done t = reaches t.counted t.wanted && not (may_come_again t)
 
 -- a count stays at the greatest number of 64 bits
 abbrev pub counted_up : ℕ → ℕ → ℕ
@@ -102,14 +112,27 @@ has_mark mark marks = is_some (place_of_mark mark marks)
 
 -- what is not known counts as acknowledged
 abbrev pub settled_unknown : Taken → Taken
-settled_unknown t = record t { counted = counted_up t.counted (length t.unknown); unknown = [] }
+settled_unknown t =
+    record t { counted = counted_up t.counted (length t.unknown); past = t.past ++ t.unknown; unknown = [] }
 
--- one of these came again, where its mark is among those that were lost
+-- the same, and none of those that were counted comes again
+abbrev pub settled_all : Taken → Taken
+settled_all t = record (settled_unknown t) { past = [] }
+
+-- one of those that were counted came again, where its mark is among these: it is not acknowledged, so it does not
+-- count. One that is none of them says that none of them comes
+abbrev pub found_forgotten : ℕ → Taken → Taken
+found_forgotten mark t =
+    if has_mark mark t.past
+    then record t { past = without_mark mark t.past; counted = t.counted - 1; again = counted_up t.again 1 }
+    else record t { past = [] }
+
+-- one of those that were printed came again, where its mark is among those that were lost
 abbrev pub found_again : ℕ → Taken → Taken
 found_again mark t =
     if has_mark mark t.lost
     then record t { lost = without_mark mark t.lost; again = counted_up t.again 1 }
-    else t
+    else found_forgotten mark t
 
 -- what a delivery tells of others: the broker delivers what comes again first, and in order. So one that is none of
 -- those whose acknowledgement is not known says that they are acknowledged, and a new one that none comes again
@@ -118,7 +141,7 @@ looked_at redelivered mark t =
     if redelivered && has_mark mark t.unknown
     then record t { unknown = without_mark mark t.unknown; again = counted_up t.again 1 }
     else if redelivered then found_again mark (settled_unknown t)
-    else record (settled_unknown t) { lost = [] }
+    else record (settled_unknown t) { lost = []; past = [] }
 
 -- no more are wanted
 abbrev pub is_none_left : Option ℕ → Bool
@@ -202,11 +225,16 @@ wants_to_ask t = nat_eq t.asked 0 && nat_lt 0 (length t.sent)
 abbrev pub flow_asked : Taken → Taken
 flow_asked t = record t { asked = length t.sent }
 
+-- the last of these marks, 65,536 at least
+abbrev pub recent : List ℕ → List ℕ
+recent marks = if nat_le 131072 (length marks) then drop 65536 marks else marks
+
 -- it answered
 abbrev pub flow_answered : Taken → Taken
 flow_answered t =
     record t {
       counted = counted_up t.counted (min t.asked (length t.sent));
+      known = recent (t.known ++ take (min t.asked (length t.sent)) t.sent);
       sent = drop (min t.asked (length t.sent)) t.sent;
       asked = 0;
     }
@@ -217,6 +245,8 @@ lost_link t =
     record t {
       unknown = t.unknown ++ t.sent;
       lost = t.lost ++ t.printed;
+      past = t.past ++ t.known;
+      known = [];
       sent = [];
       printed = [];
       asked = 0;

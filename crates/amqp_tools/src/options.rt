@@ -44,6 +44,8 @@ pub enum Opt {
     Expiration,
     /// `--message-id ID`
     MessageId,
+    /// `--message-ids PREFIX`: each message has an id of its own.
+    MessageIds,
 }
 
 /// An option that was given, with its value; the empty one where it has none.
@@ -107,6 +109,8 @@ fn valued_of(word: &Text) -> Option<Opt>
         Some(Opt::Expiration)
     } else if is(word, b"--message-id") {
         Some(Opt::MessageId)
+    } else if is(word, b"--message-ids") {
+        Some(Opt::MessageIds)
     } else {
         None
     }

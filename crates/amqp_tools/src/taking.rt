@@ -1,27 +1,25 @@
 //! Which messages of a queue were printed, acknowledged, and are known to be acknowledged.
 
-ghost use Rattle.std.specs.Prelude.{◌≡◌, ◌≢◌, ◌||◌, nat_lt, ◌∷◌, [], true, None, ◌==◌, ◌<◌, IfOk, IfSome, OnOk, length, position, option_map};
-ghost use Rattle.amqp_tools.specs.Taking.{body_mark, has_mark, without_mark, nothing_taken, left, still_unsent, is_done, standing};
-ghost use Rattle.amqp_tools.specs.Taking.{settled_unknown, looked_at, coming_by, coming_at, come_by, come_as, name_in, is_none_left, steps_of, wants_to_ask};
+ghost use Rattle.std.specs.Prelude.{◌≡◌, ◌≢◌, ◌||◌, nat_lt, true, None, IfOk, OnOk, length, option_map};
+ghost use Rattle.amqp_tools.specs.Taking.{nothing_taken, left, still_unsent, may_come_again, is_done, standing};
+ghost use Rattle.amqp_tools.specs.Taking.{settled_unknown, settled_all, found_again, looked_at};
+ghost use Rattle.amqp_tools.specs.Taking.{coming_by, coming_at, come_by, come_as, name_in, is_none_left, steps_of};
 ghost use Rattle.amqp_tools.specs.Tags.{may};
-ghost use Rattle.amqp_tools.specs.Taking.{tag_to_acknowledge, acknowledged, steps_to_acknowledge, flow_asked, flow_answered, lost_link};
-ghost use Rattle.amqp_tools.specs.Acknowledged.{Does, beginning};
-ghost use Rattle.amqp_tools.specs.Acknowledged.{is_known, kept_with};
-ghost use Rattle.amqp_tools.specs.Sink.{give_more, take_if, delimited};
+ghost use Rattle.amqp_tools.specs.Acknowledged.{Does, beginning, is_known, kept_with};
+ghost use Rattle.amqp_tools.specs.Sink.{give_more, delimited};
 ghost use Rattle.amqp_tools.specs.declared.taking.Coming.TheVariants.{Wanted, Named};
-ghost use Rattle.amqp_tools.specs.declared.tags.Deed.TheVariants.{Printed, Lost};
+ghost use Rattle.amqp_tools.specs.declared.tags.Deed.TheVariants.{Printed};
+
+mod acknowledging;
 
 use crate::framing::Framing;
-use crate::front::let_go;
+use crate::marks::{Mark, mark_of, take_out};
 use crate::once::Once;
 use crate::sink::{Sink, print};
 use crate::tags::Tags;
 use amqp_types::NoMemory;
 use std::alloc::Global;
 use std::marker::Model;
-
-/// A message that was printed, by what tells it from others: a number made of its octets.
-pub type Mark = u64;
 
 /// What was done with a delivery.
 #[derive(Clone, Copy, Debug, PartialEq, Eq)]
@@ -80,6 +78,9 @@ pub struct Taking {
     unknown: Vec<Mark>,
     // those that were printed on a lost link, and not acknowledged
     lost: Vec<Mark>,
+    // those that are known to be acknowledged on this link, of the last ones, and the same of lost links
+    known: Vec<Mark>,
+    past: Vec<Mark>,
     // how many came again
     again: u64,
     // the names of those that were printed
@@ -100,44 +101,11 @@ impl Model for Taking {
       asked = t.asked;
       unknown = t.unknown.items;
       lost = t.lost.items;
+      known = t.known.items;
+      past = t.past.items;
       again = t.again;
       names = t.once;
     } };
-}
-
-/// A number made of octets, which differs where they do but for chance.
-pub fn mark_of(octets: &[u8]) -> Mark
-    ensures { result ≡ body_mark octets.now }
-{
-    let mut mark: u64 = 14_695_981_039_346_656_037;
-    'each: for octet in octets {
-        mark = mark
-            .wrapping_mul(1_099_511_628_211)
-            .wrapping_add(*octet as u64);
-    }
-    mark
-}
-
-// The place of the first such mark.
-fn place_of(marks: &[Mark], mark: Mark) -> Option<usize>
-    ensures at { result ≡ position (λ m. m == mark) marks.now }
-    ensures within { IfSome result (λ at. at < length marks.now) }
-{
-    marks.iter().position(|m| *m == mark)
-}
-
-// Takes the first such mark out, where it is there.
-fn take_out(marks: &mut Vec<Mark>, mark: Mark) -> bool
-    ensures found { result ≡ has_mark mark marks.old.items }
-    ensures left { marks.new.items ≡ without_mark mark marks.old.items }
-{
-    match place_of(marks, mark) {
-        Some(place) => {
-            let _taken = marks.remove(place);
-            true
-        }
-        None => false,
-    }
 }
 
 impl Taking {
@@ -155,6 +123,8 @@ impl Taking {
             asked: 0,
             unknown: Vec::new(alloc),
             lost: Vec::new(alloc),
+            known: Vec::new(alloc),
+            past: Vec::new(alloc),
             again: 0,
             once: Once::new(alloc),
         }
@@ -182,12 +152,20 @@ impl Taking {
         Some(wanted.saturating_sub(self.counted.saturating_add(self.sent.len() as u64)))
     }
 
-    /// Whether as many as are wanted are known to be acknowledged.
+    /// Whether some that were counted on a lost link may come again, since the broker may have forgotten that they
+    /// were acknowledged.
+    pub fn may_come_again(&self) -> bool
+        ensures { result ≡ may_come_again self.now }
+    {
+        !self.past.is_empty()
+    }
+
+    /// Whether as many as are wanted are known to be acknowledged, and none of them may come again.
     pub fn is_done(&self) -> bool
         ensures { result ≡ is_done self.now }
     {
         match self.wanted {
-            Some(wanted) => self.counted >= wanted,
+            Some(wanted) => self.counted >= wanted && !self.may_come_again(),
             None => false,
         }
     }
@@ -232,7 +210,7 @@ impl Taking {
             return Ok(Coming::Astray);
         }
         let mark = mark_of(delivery.body);
-        self.look(delivery.redelivered, mark);
+        self.look(delivery.redelivered, mark)?;
         self.take(sink, framing, delivery, mark)
     }
 
@@ -332,83 +310,54 @@ impl Taking {
 
     // What a delivery tells of others. One that is none of those whose acknowledgement is not known says that they
     // are acknowledged: the broker delivers what comes again first, and in order.
-    fn look(&mut self, redelivered: bool, mark: Mark)
-        ensures { self.new ≡ looked_at redelivered mark self.old }
+    fn look(&mut self, redelivered: bool, mark: Mark) -> Result<(), NoMemory>
+        ensures { OnOk result (self.new ≡ looked_at redelivered mark self.old) }
     {
         if redelivered && take_out(&mut self.unknown, mark) {
             self.again = self.again.saturating_add(1);
-            return;
+            return Ok(());
         }
-        self.settle();
-        if !redelivered {
+        self.settle()?;
+        if redelivered {
+            self.find(mark);
+        } else {
             self.lost.clear();
-        } else if take_out(&mut self.lost, mark) {
+            self.past.clear();
+        }
+        Ok(())
+    }
+
+    // A message with this mark came that may have come before. Where it was counted, its acknowledgement was forgotten.
+    fn find(&mut self, mark: Mark)
+        ensures { self.new ≡ found_again mark self.old }
+    {
+        if take_out(&mut self.lost, mark) {
             self.again = self.again.saturating_add(1);
+        } else if take_out(&mut self.past, mark) {
+            self.counted = self.counted.saturating_sub(1);
+            self.again = self.again.saturating_add(1);
+        } else {
+            self.past.clear();
         }
     }
 
-    /// What is not known counts as acknowledged.
-    pub fn settle(&mut self)
-        ensures { self.new ≡ settled_unknown self.old }
+    /// Nothing comes again: what is not known counts as acknowledged. Where memory is refused, nothing is known of what
+    /// was done.
+    pub fn settle_all(&mut self) -> Result<(), NoMemory>
+        ensures { OnOk result (self.new ≡ settled_all self.old) }
     {
+        self.settle()?;
+        self.past.clear();
+        Ok(())
+    }
+
+    // What is not known counts as acknowledged, as far as is known yet.
+    fn settle(&mut self) -> Result<(), NoMemory>
+        ensures { OnOk result (self.new ≡ settled_unknown self.old) }
+    {
+        self.past.extend_from_slice(&self.unknown)?;
         self.counted = self.counted.saturating_add(self.unknown.len() as u64);
         self.unknown.clear();
-    }
-
-    /// Has the sink take all that was printed, and gives the tag up to which it is to be acknowledged on this link,
-    /// where there is something.
-    pub fn acknowledge<S: Sink>(&mut self, sink: &mut S) -> Result<Option<u64>, Untaken>
-        ensures tag { IfOk result (λ tag. tag ≡ tag_to_acknowledge self.old) }
-        ensures new { OnOk result (self.new ≡ acknowledged self.old) }
-        ensures taken { OnOk result (S.page sink.new ≡ option_map (take_if true) (S.page sink.old)) }
-        ensures does { IfOk result (λ tag. Does (standing self.old) (steps_to_acknowledge tag) (standing self.new)) }
-    {
-        if !sink.flush() {
-            return Err(Untaken::Unwritten);
-        }
-        if self.sent.extend_from_slice(&self.printed).is_err() {
-            return Err(Untaken::NoMemory);
-        }
-        self.printed.clear();
-        self.tags.flush();
-        Ok(self.tags.acknowledge())
-    }
-
-    /// Whether the broker is to be asked for what was acknowledged: it isn't asked, and there is something.
-    pub fn wants_to_ask(&self) -> bool
-        ensures { result ≡ wants_to_ask self.now }
-    {
-        self.asked == 0 && !self.sent.is_empty()
-    }
-
-    /// The broker is asked for all that was acknowledged so far on this link.
-    pub fn ask(&mut self)
-        ensures { self.new ≡ flow_asked self.old }
-    {
-        self.asked = self.sent.len();
-    }
-
-    /// It answered.
-    pub fn answered(&mut self)
-        ensures { self.new ≡ flow_answered self.old }
-    {
-        let asked = self.asked.min(self.sent.len());
-        self.counted = self.counted.saturating_add(asked as u64);
-        let_go(&mut self.sent, asked);
-        self.asked = 0;
-    }
-
-    /// The link is lost. Where memory is refused, nothing is known of what was done.
-    pub fn lose(&mut self) -> Result<(), NoMemory>
-        ensures new { OnOk result (self.new ≡ lost_link self.old) }
-        ensures does { OnOk result (Does (standing self.old) ((Lost, None) ∷ []) (standing self.new)) }
-    {
-        self.unknown.extend_from_slice(&self.sent)?;
-        self.lost.extend_from_slice(&self.printed)?;
-        self.sent.clear();
-        self.printed.clear();
-        self.asked = 0;
-        self.tags.lose();
         Ok(())
     }
 }

@@ -100,7 +100,7 @@ fn has_bodies(
 ) -> Result<bool, NoMemory> {
     let mut bodies = Bodies::new(alloc, framing, 4);
     let mut out = Vec::new(alloc);
-    for part in octets.chunks(piece) {
+    for part in octets.chunks(piece.max(1)) {
         bodies.push(part)?;
         for _ in 0..octets.len() + 1 {
             if !put(bodies.next()?, &mut out)? {
@@ -181,7 +181,7 @@ fn story<A: Abort>(rt: &A, taking: &mut Taking, sink: &mut MemorySink) -> Result
     assert!(rt; taking.acknowledge(sink)? == Some(1) && taking.wants_to_ask());
     assert!(rt; sink.taken() == b"a\n".as_slice());
     taking.ask();
-    taking.answered();
+    taking.answered()?;
     assert!(rt; taking.counted() == 1 && taking.left() == Some(2));
     assert!(rt; come(taking, sink, 2, false, b"b", None)? == Coming::Wanted);
     assert!(rt; taking.acknowledge(sink)? == Some(2) && taking.acknowledge(sink)? == None);
@@ -196,7 +196,9 @@ fn story<A: Abort>(rt: &A, taking: &mut Taking, sink: &mut MemorySink) -> Result
     assert!(rt; come(taking, sink, 1, false, b"e", None)? == Coming::Astray);
     assert!(rt; taking.acknowledge(sink)? == Some(1) && taking.unsent() == Some(0));
     taking.ask();
-    taking.answered();
+    taking.answered()?;
+    assert!(rt; taking.counted() == 3 && taking.may_come_again() && !taking.is_done());
+    taking.settle_all()?;
     assert!(rt; taking.is_done() && sink.taken() == b"a\nb\nc\nc\n".as_slice());
     Ok(())
 }
@@ -235,6 +237,34 @@ fn what_was_not_read_comes_again(rt: HostRuntime) -> Result<(), Fail> {
     let mut sink = MemorySink::new(rt.alloc());
     let mut taking = Taking::new(rt.alloc(), Some(1));
     let told = unread(&rt, &mut taking, &mut sink);
+    drop(taking);
+    drop(sink);
+    passed(told)
+}
+
+// What was acknowledged, and answered for, comes again where the broker forgot it. It counts once.
+fn forgotten<A: Abort>(rt: &A, taking: &mut Taking, sink: &mut MemorySink) -> Result<(), Untaken> {
+    assert!(rt; come(taking, sink, 1, false, b"a", None)? == Coming::Wanted);
+    assert!(rt; taking.acknowledge(sink)? == Some(1));
+    taking.ask();
+    taking.answered()?;
+    taking.lose()?;
+    assert!(rt; taking.counted() == 1 && taking.may_come_again());
+    assert!(rt; come(taking, sink, 1, true, b"a", None)? == Coming::Wanted);
+    assert!(rt; taking.counted() == 0 && taking.again() == 1 && taking.left() == Some(1));
+    assert!(rt; come(taking, sink, 2, true, b"b", None)? == Coming::Wanted);
+    assert!(rt; taking.acknowledge(sink)? == Some(2));
+    taking.ask();
+    taking.answered()?;
+    assert!(rt; taking.is_done());
+    Ok(())
+}
+
+#[test]
+fn what_the_broker_forgot_comes_again(rt: HostRuntime) -> Result<(), Fail> {
+    let mut sink = MemorySink::new(rt.alloc());
+    let mut taking = Taking::new(rt.alloc(), Some(2));
+    let told = forgotten(&rt, &mut taking, &mut sink);
     drop(taking);
     drop(sink);
     passed(told)
