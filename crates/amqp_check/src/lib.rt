@@ -9,15 +9,23 @@
 #![tactic(auto)]
 
 mod capture;
+mod cause;
+mod closing;
 mod end;
 mod expected;
 mod finding;
 mod frames;
 mod judge;
 mod laws;
+mod names;
+mod protocol;
 mod shown;
 
 pub use capture::{Verdict, check};
+pub use cause::{Cause, CauseAt, cause_of};
+pub use closing::{Closing, closing_in, last_close};
 pub use expected::Expected;
 pub use finding::{Finding, first_illegal};
 pub use laws::{captures_have_one_verdict, what_is_found_is_the_verdict, what_may_follow};
+pub use names::method_name;
+pub use protocol::other_protocol;

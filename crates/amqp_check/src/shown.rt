@@ -3,50 +3,59 @@
 
 use crate::expected::Expected;
 use crate::finding::Finding;
-use amqp_frame::{Frame, Method, RawKind};
+use crate::names::{method_name, name_of};
+use amqp_frame::{Frame, RawKind};
 use amqp_legal::{Content, Stage, Usage};
 use amqp_types::ChannelId;
 use std::fmt;
 
-fn method_name(method: &Method) -> &'static str {
-    match method {
-        Method::Start(..) => "start",
-        Method::StartOk(..) => "start-ok",
-        Method::Secure(_) => "secure",
-        Method::SecureOk(_) => "secure-ok",
-        Method::Tune(..) => "tune",
-        Method::TuneOk(..) => "tune-ok",
-        Method::Open(_) => "open",
-        Method::OpenOk => "open-ok",
-        Method::Close(..) => "close",
-        Method::CloseOk => "close-ok",
-        Method::Blocked(_) => "blocked",
-        Method::Unblocked => "unblocked",
-        Method::UpdateSecret(..) => "update-secret",
-        Method::UpdateSecretOk => "update-secret-ok",
-        Method::ChannelOpen => "channel open",
-        Method::ChannelOpenOk => "channel open-ok",
-        Method::ChannelFlow(_) => "channel flow",
-        Method::ChannelFlowOk(_) => "channel flow-ok",
-        Method::ChannelClose(..) => "channel close",
-        Method::ChannelCloseOk => "channel close-ok",
+// A content header, by what stands in it.
+fn show_header<W: fmt::Write>(payload: &[u8], f: &mut fmt::Formatter<W>) -> fmt::Result {
+    match payload {
+        [a, b, c, d, size @ ..] => {
+            let class = u16::from_be_bytes([*a, *b]);
+            let weight = u16::from_be_bytes([*c, *d]);
+            write!(f, "a content header of class {class} and weight {weight}")?;
+            match size {
+                [a, b, c, d, e, g, h, i, ..] => {
+                    let size = u64::from_be_bytes([*a, *b, *c, *d, *e, *g, *h, *i]);
+                    write!(f, ", for a body of {size} octets,")
+                }
+                _ => Ok(()),
+            }
+        }
+        _ => f.write_str("a content header"),
     }
 }
 
-fn raw_name(kind: RawKind) -> &'static str {
-    match kind {
-        RawKind::RawMethod => "a method of another class",
-        RawKind::Header => "a content header",
-        RawKind::Body => "a body frame",
+// A method whose arguments are not read.
+fn show_raw_method<W: fmt::Write>(payload: &[u8], f: &mut fmt::Formatter<W>) -> fmt::Result {
+    match payload {
+        [a, b, c, d, ..] => {
+            let class = u16::from_be_bytes([*a, *b]);
+            let method = u16::from_be_bytes([*c, *d]);
+            let name = method_name(class, method);
+            write!(f, "{name} ({class}.{method})")
+        }
+        _ => f.write_str("a method"),
     }
 }
 
-fn frame_name(frame: &Frame) -> &'static str {
+// What a frame is.
+fn show_kind<W: fmt::Write>(frame: &Frame, f: &mut fmt::Formatter<W>) -> fmt::Result {
     match frame {
-        Frame::ProtocolHeader(_) => "a protocol header",
-        Frame::Method(_, method) => method_name(method),
-        Frame::Raw(_, kind, _) => raw_name(*kind),
-        Frame::Heartbeat => "a heartbeat",
+        Frame::ProtocolHeader(v) => {
+            let (major, minor, revision) = (v.major, v.minor, v.revision);
+            write!(f, "a protocol header of version {major}-{minor}-{revision}")
+        }
+        Frame::Method(_, method) => f.write_str(name_of(method)),
+        Frame::Raw(_, RawKind::RawMethod, payload) => show_raw_method(payload.as_bytes(), f),
+        Frame::Raw(_, RawKind::Header, payload) => show_header(payload.as_bytes(), f),
+        Frame::Raw(_, RawKind::Body, payload) => {
+            let len = payload.len();
+            write!(f, "a body frame of {len} octets")
+        }
+        Frame::Heartbeat => f.write_str("a heartbeat"),
     }
 }
 
@@ -119,15 +128,25 @@ fn show_said<W: fmt::Write>(finding: &Finding, f: &mut fmt::Formatter<W>) -> fmt
     show_content(content, f)
 }
 
+// Whether a frame is of the connection, so that its channel goes without saying.
+fn is_of_connection(frame: &Frame) -> bool {
+    match frame {
+        Frame::ProtocolHeader(_) | Frame::Heartbeat => true,
+        Frame::Method(channel, method) => *channel == 0 && name_of(method).starts_with("connection"),
+        Frame::Raw(..) => false,
+    }
+}
+
 // Where which frame stands.
 fn show_frame<W: fmt::Write>(finding: &Finding, f: &mut fmt::Formatter<W>) -> fmt::Result {
     let (place, number) = (finding.place, finding.number);
-    let name = frame_name(&finding.frame);
-    write!(f, "client byte {place}: frame {number} is {name}")?;
-    match channel_of(&finding.frame) {
-        0 => Ok(()),
-        channel => write!(f, " on channel {channel}"),
+    write!(f, "client byte {place}: frame {number} is ")?;
+    show_kind(&finding.frame, f)?;
+    if is_of_connection(&finding.frame) {
+        return Ok(());
     }
+    let channel = channel_of(&finding.frame);
+    write!(f, " on channel {channel}")
 }
 
 impl fmt::Display for Expected {
@@ -145,7 +164,7 @@ impl fmt::Display for Expected {
             Expected::ContentHeader(channel, class) => {
                 write!(
                     f,
-                    "a content header of class {class} on channel {channel} comes next, or a method"
+                    "a content header of class {class} and weight 0 on channel {channel} comes next, or a method"
                 )
             }
             Expected::Body(channel, missing) => {
