@@ -59,23 +59,24 @@ fn show_kind<W: fmt::Write>(frame: &Frame, f: &mut fmt::Formatter<W>) -> fmt::Re
     }
 }
 
-// The channel on which a content goes on; 0 where none does.
-fn channel_in(content: Content) -> ChannelId {
+/// The channel on which a content goes on; 0 where none does.
+pub fn channel_in(content: Content) -> ChannelId {
     match content {
         Content::NoContent => 0,
         Content::MethodSaid(channel, _) | Content::BodyMissing(channel, _) => channel,
     }
 }
 
-// The channel that a frame names.
-fn channel_of(frame: &Frame) -> ChannelId {
+/// The channel that a frame names; 0 where it names none.
+pub fn channel_of(frame: &Frame) -> ChannelId {
     match frame {
         Frame::Method(channel, _) | Frame::Raw(channel, _, _) => *channel,
         Frame::ProtocolHeader(_) | Frame::Heartbeat => 0,
     }
 }
 
-fn stage_name(stage: Stage) -> &'static str {
+/// What was said last of the turning points of a conversation.
+pub fn stage_name(stage: Stage) -> &'static str {
     match stage {
         Stage::HeaderSaid => "the protocol header",
         Stage::StartOkSaid => "start-ok",
@@ -86,7 +87,8 @@ fn stage_name(stage: Stage) -> &'static str {
     }
 }
 
-fn usage_name(usage: Usage) -> &'static str {
+/// How far a conversation is on a channel.
+pub fn usage_name(usage: Usage) -> &'static str {
     match usage {
         Usage::Shut => "is not open",
         Usage::InUse => "is open",
@@ -94,8 +96,8 @@ fn usage_name(usage: Usage) -> &'static str {
     }
 }
 
-// What was said of the content that may go on.
-fn show_content<W: fmt::Write>(content: Content, f: &mut fmt::Formatter<W>) -> fmt::Result {
+/// Writes what was said of the content that may go on.
+pub fn show_content<W: fmt::Write>(content: Content, f: &mut fmt::Formatter<W>) -> fmt::Result {
     match content {
         Content::NoContent => Ok(()),
         Content::MethodSaid(channel, class) => {
@@ -137,16 +139,27 @@ fn is_of_connection(frame: &Frame) -> bool {
     }
 }
 
-// Where which frame stands.
-fn show_frame<W: fmt::Write>(finding: &Finding, f: &mut fmt::Formatter<W>) -> fmt::Result {
-    let (place, number) = (finding.place, finding.number);
-    write!(f, "client byte {place}: frame {number} is ")?;
-    show_kind(&finding.frame, f)?;
-    if is_of_connection(&finding.frame) {
-        return Ok(());
+/// Where which frame of the client stands, as an engineer reads it.
+#[derive(Clone, Copy)]
+pub struct Standing<'a> {
+    /// Its number, counted from 0.
+    pub number: u64,
+    /// The place of its first octet.
+    pub place: u64,
+    pub frame: &'a Frame,
+}
+
+impl<'a> fmt::Display for Standing<'a> {
+    fn fmt<W: fmt::Write>(&self, f: &mut fmt::Formatter<W>) -> fmt::Result {
+        let (place, number) = (self.place, self.number);
+        write!(f, "client byte {place}: frame {number} is ")?;
+        show_kind(self.frame, f)?;
+        if is_of_connection(self.frame) {
+            return Ok(());
+        }
+        let channel = channel_of(self.frame);
+        write!(f, " on channel {channel}")
     }
-    let channel = channel_of(&finding.frame);
-    write!(f, " on channel {channel}")
 }
 
 impl fmt::Display for Expected {
@@ -181,8 +194,12 @@ impl fmt::Display for Expected {
 
 impl fmt::Display for Finding {
     fn fmt<W: fmt::Write>(&self, f: &mut fmt::Formatter<W>) -> fmt::Result {
-        show_frame(self, f)?;
-        f.write_str("\nsaid so far: ")?;
+        let standing = Standing {
+            number: self.number,
+            place: self.place,
+            frame: &self.frame,
+        };
+        write!(f, "{standing}\nsaid so far: ")?;
         show_said(self, f)?;
         let expected = self.expected();
         write!(f, "\n{expected}")

@@ -3,40 +3,14 @@
 
 use crate::captured::{Capture, Captured, Side, line_of_octet, read_capture};
 use crate::refused::why_refused;
-use amqp_check::{
-    CauseAt, Verdict, cause_of, check, first_illegal, last_close, other_protocol,
-};
+use amqp_check::{Broken, Verdict, check, first_illegal, last_close, other_protocol};
 use amqp_types::NoMemory;
 use std::alloc::Global;
-
-// How many octets at a place are shown.
-const SHOWN: usize = 16;
-
-// How many octets stand before the payload of a frame: its type, its channel and its size.
-const HEAD: usize = 7;
-
-// The least octets of a frame, which ends with one octet.
-const LEAST: usize = 8;
 
 fn side_name(side: Side) -> &'static str {
     match side {
         Side::Client => "client",
         Side::Server => "server",
-    }
-}
-
-// A place of one side of a link, and the octets of that side from there on.
-#[derive(Clone, Copy)]
-struct Place<'a> {
-    side: Side,
-    place: u64,
-    rest: &'a [u8],
-}
-
-impl<'a> Place<'a> {
-    fn new(side: Side, octets: &'a [u8], place: u64) -> Place<'a> {
-        let rest = octets.get(place as usize..).unwrap_or(&[]);
-        Place { side, place, rest }
     }
 }
 
@@ -54,19 +28,25 @@ fn put_line(
     Ok(())
 }
 
-// The first two lines: a place, with its line in the capture, what is wrong there, and the first octets
-// at it.
-fn begin(alloc: Global, text: &[u8], at: Place<'_>, wrong: &str) -> Result<String, NoMemory> {
+// What a capture has at a place of a side where no whole frame stands.
+fn explain_broken(
+    alloc: Global,
+    text: &[u8],
+    side: Side,
+    octets: &[u8],
+    place: u64,
+    is_cut: bool,
+) -> Result<String, NoMemory> {
     let mut out = String::new(alloc);
-    put_line(&mut out, alloc, at.side, at.place, text)?;
-    let name = side_name(at.side);
-    let place = at.place;
-    write!(out, "{name} byte {place}: {wrong}")?;
-    out.push_str("\noctets:")?;
-    for octet in at.rest.iter().take(SHOWN) {
-        write!(out, " {octet:02x}")?;
-    }
-    out.push_str("\n")?;
+    put_line(&mut out, alloc, side, place, text)?;
+    let rest = octets.get(place as usize..).unwrap_or(&[]);
+    let broken = Broken {
+        side: side_name(side),
+        place,
+        rest,
+        is_cut,
+    };
+    write!(out, "{broken}")?;
     Ok(out)
 }
 
@@ -79,43 +59,6 @@ fn put_protocol(out: &mut String, place: u64, octets: &[u8]) -> Result<(), NoMem
         }
         _ => Ok(()),
     }
-}
-
-// What a capture has at a place where no frame stands.
-fn explain_bad(alloc: Global, text: &[u8], at: Place<'_>) -> Result<String, NoMemory> {
-    let mut out = begin(alloc, text, at, "no frame stands here")?;
-    if let Some(cause) = cause_of(at.rest) {
-        let cause = CauseAt {
-            cause,
-            place: at.place,
-        };
-        write!(out, "{cause}")?;
-    }
-    put_protocol(&mut out, at.place, at.rest)?;
-    Ok(out)
-}
-
-// How many octets a frame has, as its head says, where that is there.
-fn whole_len(octets: &[u8]) -> Option<u64> {
-    let [_, _, _, a, b, c, d, ..] = octets else {
-        return None;
-    };
-    let size = u32::from_be_bytes([*a, *b, *c, *d]);
-    Some(size as u64 + LEAST as u64)
-}
-
-// What a capture has at a place where a frame is cut.
-fn explain_cut(alloc: Global, text: &[u8], at: Place<'_>) -> Result<String, NoMemory> {
-    let mut out = begin(alloc, text, at, "a frame begins here, and is not all there")?;
-    let there = at.rest.len();
-    match whole_len(at.rest) {
-        Some(whole) => write!(out, "{there} of its {whole} octets are there")?,
-        None => write!(
-            out,
-            "{there} octets are there, and its size stands before octet {HEAD}"
-        )?,
-    }
-    Ok(out)
 }
 
 // Writes the first frame of the client that it may not say, and whether there is one.
@@ -166,10 +109,10 @@ fn explain_verdict(
             put_illegal(&mut out, alloc, text, client)?;
             return Ok(out);
         }
-        Verdict::BadClient(at) => explain_bad(alloc, text, Place::new(Side::Client, client, at))?,
-        Verdict::CutClient(at) => explain_cut(alloc, text, Place::new(Side::Client, client, at))?,
-        Verdict::BadServer(at) => explain_bad(alloc, text, Place::new(Side::Server, server, at))?,
-        Verdict::CutServer(at) => explain_cut(alloc, text, Place::new(Side::Server, server, at))?,
+        Verdict::BadClient(at) => explain_broken(alloc, text, Side::Client, client, at, false)?,
+        Verdict::CutClient(at) => explain_broken(alloc, text, Side::Client, client, at, true)?,
+        Verdict::BadServer(at) => explain_broken(alloc, text, Side::Server, server, at, false)?,
+        Verdict::CutServer(at) => explain_broken(alloc, text, Side::Server, server, at, true)?,
     };
     put_rest(&mut out, alloc, text, client)?;
     Ok(out)

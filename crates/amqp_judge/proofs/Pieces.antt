@@ -1,0 +1,1 @@
+-- One piece and one frame more of a side.

@@ -1,0 +1,2 @@
+-- What is heard from a border on.
+pub mod Resuming
